@@ -1,0 +1,9 @@
+pub mod Watched
+pub mod Words
+pub mod Numbers
+pub mod Forms
+pub mod Values
+pub mod Tour
+pub mod Verdict
+pub mod Report
+pub mod Run

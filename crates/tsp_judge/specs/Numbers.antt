@@ -1,0 +1,31 @@
+-- The numbers that lines of words list, taken word by word and line by line.
+use Rattle.std.specs.Prelude.{ℕ, Bool, true, false, cond, List, [], ◌∷◌, ◌++◌, Option, None, Some, ℤ, pos, negsuc, int_le, ◌&&◌, ◌||◌, codes}
+use Rattle.tsp_judge.specs.declared.form.words.NumberKind.{NumberKind}
+use Rattle.tsp_judge.specs.declared.form.words.NumberKind.TheVariants.{Weight, TourWord}
+use Rattle.std.specs.Option.{option_map, option_and_then}
+use Rattle.std.specs.Str.{bytes_eq}
+use Rattle.tsp_judge.specs.Words.{words_of, whole_of}
+
+-- a weight has a size of at most 10^12, and a word of a tour is -1 or a node
+abbrev pub is_allowed : NumberKind → ℤ → Bool
+is_allowed Weight z = int_le (negsuc 999999999999) z && int_le z (pos 1000000000000)
+is_allowed TourWord z = (int_le (pos 1) z && int_le z (pos 100000)) || (int_le (negsuc 0) z && int_le z (negsuc 0))
+
+-- what the word stands for, where it is allowed
+abbrev pub number_in : NumberKind → List ℕ → Option ℤ
+number_in kind word = option_and_then (λ z. cond (is_allowed kind z) (Some z) None) (whole_of word)
+
+-- both lists, where both are there
+abbrev pub joined : Option (List ℤ) → Option (List ℤ) → Option (List ℤ)
+joined first second = option_and_then (λ xs. option_map (λ ys. xs ++ ys) second) first
+
+-- the numbers of all words, where each is one
+abbrev pub numbers_of : NumberKind → List (List ℕ) → Option (List ℤ)
+numbers_of kind [] = Some []
+numbers_of kind (word ∷ words) = joined (option_map (λ z. z ∷ []) (number_in kind word)) (numbers_of kind words)
+
+-- the numbers of all words before the first line EOF, where that is there and each word is a number
+abbrev pub numbers_before_eof : NumberKind → List (List ℕ) → Option (List ℤ)
+numbers_before_eof kind [] = None
+numbers_before_eof kind (line ∷ lines) = cond (bytes_eq line (codes "EOF")) (Some [])
+    (joined (numbers_of kind (words_of line)) (numbers_before_eof kind lines))

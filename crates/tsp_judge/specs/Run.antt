@@ -1,0 +1,83 @@
+-- What a check does to its readers and its writer, and what it answers.
+use Rattle.std.specs.Prelude.{◌≡◌, ℕ, ◌⊎◌, Bool, true, false, List, take, Option, Result, Ok, Err, IfSome}
+use Rattle.std.specs.Io.KnownBytes.{Keeps, Appends, Consumes}
+use Rattle.tsp_judge.specs.declared.fault.ReadFault.{ReadFault}
+use Rattle.tsp_judge.specs.declared.fault.ReadFault.TheVariants as read_faults
+use Rattle.tsp_judge.specs.declared.fault.WriteFault.{WriteFault}
+use Rattle.tsp_judge.specs.declared.fault.WriteFault.TheVariants as write_faults
+use Rattle.tsp_judge.specs.declared.fault.RunFault.{RunFault}
+use Rattle.tsp_judge.specs.declared.fault.RunFault.TheVariants.{File, Write, OutOfMemory, NotYet}
+use Rattle.tsp_judge.specs.declared.verdict.Verdict.{Verdict}
+use Rattle.tsp_judge.specs.Forms.{IsTooLong, Spells, SpellsNone, Instance, IsInstance, IsSolution}
+use Rattle.tsp_judge.specs.Verdict.{IsVerdict, is_yes}
+use Rattle.tsp_judge.specs.Report.{report_of}
+
+-- A reader's turn: the bytes that it had left before the call and after it, where they are known, the bytes that it
+-- handed out, and whether it had failed before the call and has failed after it.
+pub record Turn : Type 0 where
+  pub known : Option (List ℕ)
+  pub left : Option (List ℕ)
+  pub given : List ℕ
+  pub had_failed : Bool
+  pub failed : Bool
+
+-- the reader handed out what was given
+abbrev pub Gave : Turn → Type 0
+Gave turn = Consumes turn.known turn.left turn.given
+
+-- It gave bytes with P without a failure. Where its bytes are known, P holds of its whole rest too: it was not left early.
+abbrev pub GaveAll : Turn → (List ℕ → Type 0) → Type 0
+GaveAll turn P = Gave turn × (turn.failed ≡ false) × P turn.given × IfSome turn.known P
+
+-- the bytes of the turn spell the value by the form
+abbrev pub IsFile : {A : Type 0} → (List ℕ → A → Type 0) → Turn → A → Type 0
+IsFile form turn value = GaveAll turn (λ bytes. Spells form bytes value)
+
+-- the turn ended with a fault
+abbrev pub StopsAt : ReadFault → Turn → Type 0
+StopsAt read_faults.Device turn = Gave turn × (turn.failed ≡ true)
+StopsAt read_faults.OutOfMemory turn = Gave turn × (turn.failed ≡ false)
+StopsAt read_faults.TooLong turn = GaveAll turn IsTooLong
+
+-- the reader was not asked
+abbrev pub IsUnread : Turn → Type 0
+IsUnread turn = Keeps turn.known turn.left × (turn.failed ≡ turn.had_failed)
+
+-- What a writer holds before the call and after it, where it is known, and whether it had failed and has failed.
+pub record Sink : Type 0 where
+  pub held : Option (List ℕ)
+  pub holds : Option (List ℕ)
+  pub had_failed : Bool
+  pub failed : Bool
+
+abbrev pub IsUnwritten : Sink → Type 0
+IsUnwritten sink = Keeps sink.held sink.holds × (sink.failed ≡ sink.had_failed)
+
+-- both files are of their forms, and the verdict on them is this one
+pub record IsJudged (instance solution : Turn) (nodes : ℕ) (verdict : Verdict) : Type 0 where
+  pub value : Instance
+  pub tours : List (List ℕ)
+  pub first : IsFile IsInstance instance value
+  pub second : IsFile IsSolution solution tours
+  pub size : value.nodes ≡ nodes
+  pub judged : IsVerdict value tours verdict
+
+-- What the check answers. At Ok the whole report was written, and the answer is whether the verdict is a yes. The first
+-- file, in order, that isn't one decides, later ones aren't read, and then nothing is written. Where the writer fails a
+-- front of the report was written.
+abbrev pub IsRun : Turn → Turn → Sink → Result Bool RunFault → Type 0
+IsRun instance solution sink (Ok answer) = (nodes : ℕ) × (verdict : Verdict) × IsJudged instance solution nodes verdict
+    × (answer ≡ is_yes verdict) × (sink.failed ≡ false) × Appends sink.held sink.holds (report_of nodes verdict)
+IsRun instance solution sink (Err (File file fault)) = IsUnwritten sink
+    × (((file ≡ 1) × StopsAt fault instance × IsUnread solution)
+    ⊎ ((file ≡ 2) × ((value : Instance) × IsFile IsInstance instance value) × StopsAt fault solution))
+IsRun instance solution sink (Err NotYet) = IsUnwritten sink
+    × ((GaveAll instance (SpellsNone IsInstance) × IsUnread solution)
+    ⊎ (((value : Instance) × IsFile IsInstance instance value) × GaveAll solution (SpellsNone IsSolution)))
+IsRun instance solution sink (Err OutOfMemory) = IsUnwritten sink
+    × (nodes : ℕ) × (verdict : Verdict) × IsJudged instance solution nodes verdict
+IsRun instance solution sink (Err (Write write_faults.OutOfMemory)) = IsUnwritten sink
+    × (nodes : ℕ) × (verdict : Verdict) × IsJudged instance solution nodes verdict
+IsRun instance solution sink (Err (Write write_faults.Device)) = (sink.failed ≡ true)
+    × (nodes : ℕ) × (verdict : Verdict) × IsJudged instance solution nodes verdict
+    × (count : ℕ) × Appends sink.held sink.holds (take count (report_of nodes verdict))

@@ -1,0 +1,54 @@
+//! The check of an instance and a solution, from the bytes that come in to those that go out.
+
+ghost use Rattle.std.specs.Prelude.{List, ℕ};
+
+use crate::fault::{RunFault, WriteFault};
+use crate::judge::judge;
+use crate::reading::{read_instance, read_solution};
+use crate::report::{report_text, write_text};
+use crate::verdict::Verdict;
+use crate::watched::Watched;
+use std::alloc::Global;
+use std::io::{Read, Write};
+
+/// Judges a solution of an instance, and writes the report.
+///
+/// The answer is true where the solution is a tour of the instance, and false where the report
+/// says a no with its first reason; the whole report was written then. Each file is read whole
+/// before the next, and the first file that can't be read decides. Nothing is written before the
+/// verdict exists.
+///
+/// The instance has TYPE ATSP, EDGE_WEIGHT_FORMAT FULL_MATRIX and at most 5,000 nodes, the
+/// solution TYPE TOUR, in the plain forms that `docs/format.md` states; every other text is
+/// answered with `NotYet`.
+///
+/// Errors: `File` where a file's device fails, where it is longer than `FILE_LIMIT` with no line
+/// `EOF` up to there, or where memory is wanting for it; `NotYet`; `Write` where the report could
+/// not be written; `OutOfMemory` where memory is wanting for the judgement.
+pub fn run_check<I: Read, S: Read, W: Write>(
+    alloc: Global,
+    inst: &mut Watched<I>,
+    sol: &mut Watched<S>,
+    out: &mut Watched<W>,
+) -> Result<bool, RunFault> {
+    let instance = match read_instance(alloc, inst) {
+        Err(fault) => return Err(RunFault::File { file: 1, fault }),
+        Ok(None) => return Err(RunFault::NotYet),
+        Ok(Some(instance)) => instance,
+    };
+    let solution = match read_solution(alloc, sol) {
+        Err(fault) => return Err(RunFault::File { file: 2, fault }),
+        Ok(None) => return Err(RunFault::NotYet),
+        Ok(Some(solution)) => solution,
+    };
+    let Ok(verdict) = judge(alloc, &instance, &solution) else {
+        return Err(RunFault::OutOfMemory);
+    };
+    let Ok(report) = report_text(alloc, instance.nodes(), verdict) else {
+        return Err(RunFault::Write(WriteFault::OutOfMemory));
+    };
+    match write_text(out, &report) {
+        Err(fault) => Err(RunFault::Write(fault)),
+        Ok(()) => Ok(matches!(verdict, Verdict::Tour { .. })),
+    }
+}

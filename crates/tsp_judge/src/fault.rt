@@ -1,0 +1,45 @@
+//! The faults of a run.
+
+use thiserror::Error;
+
+/// Why a file could not be read.
+#[derive(Clone, Copy, Debug, PartialEq, Eq, Error)]
+pub enum ReadFault {
+    /// Want of memory for what the file holds.
+    #[error("out of memory")]
+    OutOfMemory,
+    /// A read failed.
+    #[error("device")]
+    Device,
+    /// More bytes than `FILE_LIMIT`, and no line `EOF` among those up to there.
+    #[error("too long")]
+    TooLong,
+}
+
+/// Why a text could not be written.
+#[derive(Clone, Copy, Debug, PartialEq, Eq, Error)]
+pub enum WriteFault {
+    /// A write failed, or took nothing.
+    #[error("device")]
+    Device,
+    /// Want of memory for the text.
+    #[error("out of memory")]
+    OutOfMemory,
+}
+
+/// Why a run gave no verdict.
+#[derive(Clone, Copy, Debug, PartialEq, Eq, Error)]
+pub enum RunFault {
+    /// A file, counted from 1, could not be read.
+    #[error("file {file}: {fault}")]
+    File { file: u32, fault: ReadFault },
+    /// The report could not be written.
+    #[error("output: {0}")]
+    Write(WriteFault),
+    /// Want of memory for the judgement.
+    #[error("out of memory")]
+    OutOfMemory,
+    /// A file is not of a form that is judged so far.
+    #[error("not yet")]
+    NotYet,
+}

@@ -1,0 +1,21 @@
+//! Judges solutions of TSPLIB 95 instances.
+#![tactic(auto)]
+
+mod check;
+mod fault;
+mod form;
+mod judge;
+mod limit;
+mod reading;
+mod report;
+mod verdict;
+mod watched;
+
+#[cfg(test)]
+mod tests;
+
+pub use check::run_check;
+pub use fault::{ReadFault, RunFault, WriteFault};
+pub use limit::FILE_LIMIT;
+pub use verdict::{Reason, Verdict};
+pub use watched::Watched;
