@@ -8,6 +8,8 @@ use Rattle.tsp_judge.specs.declared.fault.WriteFault.TheVariants as write_faults
 use Rattle.tsp_judge.specs.declared.fault.RunFault.{RunFault}
 use Rattle.tsp_judge.specs.declared.fault.RunFault.TheVariants.{File, Write, OutOfMemory, NotYet}
 use Rattle.tsp_judge.specs.declared.verdict.Verdict.{Verdict}
+use Rattle.tsp_judge.specs.declared.watched.Watched.{Watched}
+use Rattle.tsp_judge.specs.Watched.{watched, has_failed}
 use Rattle.tsp_judge.specs.Forms.{IsTooLong, Spells, SpellsNone, Instance, IsInstance, IsSolution}
 use Rattle.tsp_judge.specs.Verdict.{IsVerdict, is_yes}
 use Rattle.tsp_judge.specs.Report.{report_of}
@@ -20,6 +22,16 @@ pub record Turn : Type 0 where
   pub given : List ℕ
   pub had_failed : Bool
   pub failed : Bool
+
+-- the turn of a watched reader, by what it was before the call and is after it
+abbrev pub turn_of : {R : Type 0} → (R → Option (List ℕ)) → Watched R → Watched R → List ℕ → Turn
+turn_of remaining old new given = record {
+  known = remaining (watched old);
+  left = remaining (watched new);
+  given = given;
+  had_failed = has_failed old;
+  failed = has_failed new;
+}
 
 -- the reader handed out what was given
 abbrev pub Gave : Turn → Type 0
@@ -50,8 +62,24 @@ pub record Sink : Type 0 where
   pub had_failed : Bool
   pub failed : Bool
 
+-- the same of a watched writer
+abbrev pub sink_of : {W : Type 0} → (W → Option (List ℕ)) → Watched W → Watched W → Sink
+sink_of contents old new = record {
+  held = contents (watched old);
+  holds = contents (watched new);
+  had_failed = has_failed old;
+  failed = has_failed new;
+}
+
+-- nothing was written
 abbrev pub IsUnwritten : Sink → Type 0
 IsUnwritten sink = Keeps sink.held sink.holds × (sink.failed ≡ sink.had_failed)
+
+-- The whole text was written, or a front of it where the writer has failed. One that had failed before gets nothing.
+abbrev pub Writes : Sink → List ℕ → Result (Unit {0}) WriteFault → Type 0
+Writes sink text (Ok done) = (sink.failed ≡ false) × Appends sink.held sink.holds text
+Writes sink text (Err write_faults.Device) = (sink.failed ≡ true) × (count : ℕ) × Appends sink.held sink.holds (take count text)
+Writes sink text (Err write_faults.OutOfMemory) = IsUnwritten sink
 
 -- both files are of their forms, and the verdict on them is this one
 pub record IsJudged (instance solution : Turn) (nodes : ℕ) (verdict : Verdict) : Type 0 where
@@ -75,7 +103,7 @@ IsRun instance solution sink (Err NotYet) = IsUnwritten sink
     × ((GaveAll instance (SpellsNone IsInstance) × IsUnread solution)
     ⊎ (((value : Instance) × IsFile IsInstance instance value) × GaveAll solution (SpellsNone IsSolution)))
 IsRun instance solution sink (Err OutOfMemory) = IsUnwritten sink
-    × (nodes : ℕ) × (verdict : Verdict) × IsJudged instance solution nodes verdict
+    × ((value : Instance) × IsFile IsInstance instance value) × ((tours : List (List ℕ)) × IsFile IsSolution solution tours)
 IsRun instance solution sink (Err (Write write_faults.OutOfMemory)) = IsUnwritten sink
     × (nodes : ℕ) × (verdict : Verdict) × IsJudged instance solution nodes verdict
 IsRun instance solution sink (Err (Write write_faults.Device)) = (sink.failed ≡ true)
