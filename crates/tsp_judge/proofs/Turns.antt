@@ -6,7 +6,7 @@ use Rattle.std.proofs.lemmas.List.{append-nil, take-append-le, length-append, ta
 use Rattle.std.proofs.lemmas.Bool.{cases_lt}
 use Rattle.tsp_judge.specs.declared.limit.TheConstants.{FILE_LIMIT}
 use Rattle.tsp_judge.specs.Forms.{IsTooLong, Spells, SpellsNone, HasEofLine, counted}
-use Rattle.tsp_judge.specs.Run.{Turn, Gave, GaveAll}
+use Rattle.tsp_judge.specs.Run.{Turn, Gave, IsSound, GaveAll}
 use Rattle.std.specs.Option.{MatchOption}
 use Rattle.tsp_judge.specs.Reading.{Counts, ReadsForm}
 
@@ -51,11 +51,11 @@ rest_agrees P back None left given h ended p = tt
 rest_agrees P back (Some rest) None given h ended p = absurd h
 rest_agrees P back (Some rest) (Some left) given h ended p = back rest given (agree rest given left h ended) p
 
-pub gave_counted : (turn : Turn) (text : List ℕ) → Gave turn → turn.failed ≡ false → (length turn.given ≤ FILE_LIMIT → IsAtEnd turn.left) → Counts text turn.given
+pub gave_counted : (turn : Turn) (text : List ℕ) → Gave turn → IsSound turn → (length turn.given ≤ FILE_LIMIT → IsAtEnd turn.left) → Counts text turn.given
     → GaveAll turn (Counts text)
 gave_counted turn text gave sound ended p = (gave, sound, p, rest_agrees (Counts text) (counts_back text) turn.known turn.left turn.given gave ended p)
 
-pub gave_too_long : (turn : Turn) → Gave turn → turn.failed ≡ false → (length turn.given ≤ FILE_LIMIT → IsAtEnd turn.left) → IsTooLong turn.given
+pub gave_too_long : (turn : Turn) → Gave turn → IsSound turn → (length turn.given ≤ FILE_LIMIT → IsAtEnd turn.left) → IsTooLong turn.given
     → GaveAll turn IsTooLong
 gave_too_long turn gave sound ended p = (gave, sound, p, rest_agrees IsTooLong too_long_back turn.known turn.left turn.given gave ended p)
 

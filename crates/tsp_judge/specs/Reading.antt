@@ -6,11 +6,11 @@ use Rattle.tsp_judge.specs.declared.limit.TheConstants.{FILE_LIMIT}
 use Rattle.tsp_judge.specs.declared.fault.ReadFault.{ReadFault}
 use Rattle.tsp_judge.specs.declared.fault.ReadFault.TheVariants.{TooLong}
 use Rattle.tsp_judge.specs.Forms.{IsTooLong, SpellsNone, counted}
-use Rattle.tsp_judge.specs.Run.{Turn, Gave, GaveAll, IsFile, StopsAt}
+use Rattle.tsp_judge.specs.Run.{Turn, Gave, IsSound, GaveAll, IsFile, StopsAt}
 
 -- all bytes that the reader handed out, which are all that it has unless they are more than the limit
 abbrev pub ReadsWhole : (List ℕ → Turn) → Result (Vec ℕ) ReadFault → Type 0
-ReadsWhole turn (Ok bytes) = Gave (turn bytes.items) × ((turn bytes.items).failed ≡ false)
+ReadsWhole turn (Ok bytes) = Gave (turn bytes.items) × IsSound (turn bytes.items)
     × (length bytes.items ≤ FILE_LIMIT → IsAtEnd (turn bytes.items).left)
 ReadsWhole turn (Err fault) = (fault ≢ TooLong) × (given : List ℕ) × StopsAt fault (turn given)
 

@@ -55,4 +55,4 @@ returns g c =
         one.1 (instance_of c.in-Ok-Some.instance) two.1 c.nodes.result c.in-Ok.verdict one.3 c.nodes.ensures.value one.2 two.2 (c.in-Ok.ensures two.1 two.3) in
     let text = c.deref.ensures.value ∙ c.in-Ok-report_text.ensures in
     let wrote = rw text at c.in-Ok-write_text.ensures in
-    (one.0, two.0, (c.nodes.result, c.in-Ok.verdict, both, c.is_yes.ensures, wrote.0, wrote.1))
+    (one.0, two.0, (c.nodes.result, c.in-Ok.verdict, both, c.is_yes.ensures, wrote))
