@@ -1,0 +1,3 @@
+pub mod Command
+pub mod Source
+pub mod Status
