@@ -1,3 +1,6 @@
 pub mod Decimal
 pub mod Distances
 pub mod Rounding
+pub mod NumberWord
+pub mod Scan
+pub mod Written

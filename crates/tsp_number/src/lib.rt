@@ -10,6 +10,7 @@ mod decimal;
 mod distance;
 mod fault;
 mod root;
+mod scan;
 
 pub use decimal::{Decimal, Point};
 pub use distance::{att, ceil_2d, euc_2d, man_2d, max_2d};
