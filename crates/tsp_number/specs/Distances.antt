@@ -1,6 +1,6 @@
 -- The plane distances of TSPLIB 95 (Reinelt), each as the one whole number with its inequalities.
 -- Coordinates are counts of 10^-9. Both sides are multiplied out, so that no root and no quotient occurs.
-use Rattle.std.specs.Prelude.{◌≡◌, ℕ, ◌+◌, ◌-◌, ◌*◌, ◌<◌, ◌≤◌, ℤ, ◌-ℤ◌, unsigned_abs, max}
+use Rattle.std.specs.Prelude.{ℕ, ◌+◌, ◌-◌, ◌*◌, ◌<◌, ◌≤◌, ◌-ℤ◌, unsigned_abs, max}
 use Rattle.tsp_number.specs.declared.decimal.Point.{Point}
 use Rattle.tsp_number.specs.Decimal.{unit}
 

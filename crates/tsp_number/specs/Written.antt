@@ -1,5 +1,5 @@
 -- What the code keeps of a number word.
-use Rattle.std.specs.Prelude.{◌≡◌, ℕ, List, ◌++◌, Some}
+use Rattle.std.specs.Prelude.{◌≡◌, ℕ, List, Some}
 use Rattle.tsp_number.specs.declared.scan.Written.{Written}
 use Rattle.tsp_number.specs.NumberWord.{Numeral, digits_of}
 use Rattle.tsp_number.specs.Scan.{numeral_in, saturated, clamped}

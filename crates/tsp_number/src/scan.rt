@@ -68,7 +68,9 @@ fn split_digits(bytes: &[u8], before: u64) -> Digits<'_>
         if !byte.is_ascii_digit() {
             break;
         }
-        value = value.saturating_mul(10).saturating_add(u64::from(byte - b'0'));
+        value = value
+            .saturating_mul(10)
+            .saturating_add(u64::from(byte - b'0'));
         end += 1;
     }
     Digits {
