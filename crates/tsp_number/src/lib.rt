@@ -10,6 +10,7 @@ mod decimal;
 mod distance;
 mod fault;
 mod root;
+mod scale;
 mod scan;
 
 pub use decimal::{Decimal, Point};

@@ -23,10 +23,12 @@ pub(crate) struct Written<'a> {
 
 /// The digits that some bytes begin with.
 #[derive(Clone, Copy)]
-struct Digits<'a> {
-    digits: &'a [u8],
-    rest: &'a [u8],
-    value: u64,
+pub(crate) struct Digits<'a> {
+    pub(crate) digits: &'a [u8],
+    /// What follows the digits.
+    pub(crate) rest: &'a [u8],
+    /// The digits as a number, or `u64::MAX` where that is less.
+    pub(crate) value: u64,
 }
 
 /// Whether the bytes begin with `-`, and what follows the sign, if there is one.
@@ -55,7 +57,7 @@ fn skip_point(bytes: &[u8]) -> &[u8]
 
 /// Splits off the digits at the front. Their value goes on from that of the digits before them.
 #[inline(always)]
-fn split_digits(bytes: &[u8], before: u64) -> Digits<'_>
+pub(crate) fn split_digits(bytes: &[u8], before: u64) -> Digits<'_>
     ensures digits { result.digits.now ≡ front_digits bytes.now }
     ensures rest { result.rest.now ≡ after_digits bytes.now }
     ensures value { (n : ℕ) → before ≡ saturated n
@@ -103,6 +105,7 @@ fn exponent_of(bytes: &[u8]) -> Option<i64>
 /// The parts of a number word, or `None` where the word isn't one.
 #[inline(always)]
 pub(crate) fn split_word(word: &[u8]) -> Option<Written<'_>>
+    requires { length word.now ≤ 64 }
     ensures { MatchOption result (numeral_in word.now ≡ None) (Holds word.now) }
 {
     let (negative, unsigned) = split_sign(word);

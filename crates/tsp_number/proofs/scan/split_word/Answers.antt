@@ -16,7 +16,7 @@ returns c =
     let fits : FitsSigned w64 c.in_ok-exponent.exponent = search rules in
     let first : c.split_digits-whole.result.value ≡ saturated (digits_value 10 (whole_in c.args.word.now)) =
     c.split_digits-whole.ensures.value 0 refl ∙ ap (λ (bytes : List ℕ). saturated (digits_value 10 (front_digits bytes))) c.split_sign-negative.ensures.rest in
-    holds _ _ c.split_sign-negative.ensures.negative whole fraction
+    holds _ _ c.requires c.split_sign-negative.ensures.negative whole fraction
     (grind (arith, common_steps, whole, fraction))
     (c.split_digits-fraction.ensures.value (digits_value 10 (whole_in c.args.word.now)) first
     ∙ ap (λ (bytes : List ℕ). saturated (digits_value_after 10 (digits_value 10 (whole_in c.args.word.now)) (front_digits bytes))) past)
