@@ -1,5 +1,5 @@
 -- Shifting a number by decimal places.
-use Rattle.std.proofs.Common.{◌≡◌, ◌≢◌, ℕ, ◌+◌, ◌*◌, ◌-◌, ◌^◌, ◌/◌, ◌%◌, ◌<◌, ◌≤◌, Bool, true, false, ◌==◌, List, [], ◌∷◌, ◌++◌, length, take, drop, ◌&&◌, append_assoc, length-append, length-drop, take-append-drop, Option, Some, None, ℤ, pos, negsuc, ◌+ℤ◌, ◌-ℤ◌, ◌≤ℤ◌, ◌⊎◌, inl, inr, refl, arith, ap, sym, ◌∙◌, suc, zero, subst}
+use Rattle.std.proofs.Common.{◌≡◌, ◌≢◌, ℕ, ◌+◌, ◌*◌, ◌-◌, ◌^◌, ◌/◌, ◌%◌, ◌<◌, ◌≤◌, Bool, true, false, ◌==◌, List, [], ◌∷◌, ◌++◌, length, take, drop, ◌&&◌, append_assoc, length-append, length-drop, take-append-drop, Option, Some, None, ℤ, pos, negsuc, ◌+ℤ◌, ◌-ℤ◌, ◌≤ℤ◌, ◌⊎◌, inl, inr, refl, arith, ap, sym, ◌∙◌, suc, zero, subst, unsigned_abs}
 use Rattle.std.proofs.Math.Nat.{pow-le-pow_right, pow-suc, mul-le-mul, mul-mod_left, one-le-pow}
 use Rattle.std.proofs.lemmas.Bool.Decides.{nat_tests}
 use Rattle.std.proofs.lemmas.Bool.{cases_eq, cases_lt}
@@ -13,7 +13,9 @@ use Rattle.std.specs.Char.{digit_value, is_ascii_digit}
 use Rattle.std.specs.List.{list_all}
 use Rattle.std.specs.Str.Parse.{AllDigits, digits_value, digits_value_after}
 use Rattle.tsp_number.specs.Scan.{front_digits, saturated, clamped}
-use Rattle.tsp_number.specs.Written.{DropsZeros, ShiftsTo}
+use Rattle.tsp_number.specs.Written.{DropsZeros, ShiftsTo, Keeps}
+use Rattle.tsp_number.specs.NumberWord.{Numeral, digits_of}
+use Rattle.tsp_number.specs.declared.scan.Written.{Written}
 use Rattle.tsp_number.proofs.Scanning.{digits_value_after-append}
 
 -- ---- zeros added, and dropped within 64 bits
@@ -86,15 +88,15 @@ digits_value-nonzero : (ds : List ℕ) → AllDigits 10 ds → are_zeros ds ≡ 
 digits_value-nonzero [] digits zeros = cc
 digits_value-nonzero (d ∷ ds) digits zeros =
     elim (cases_eq d 48) [
-      inl zero_first ↦
-        let rest : are_zeros ds ≡ false = grind (arith, nat_tests) in
-        omega (arith, digits_value_after-is (0 + digit_value d) ds, digits_value-nonzero ds digits.1 rest)
-    | inr other_first ↦
-        let range = digit_from_value d digits.0 in
-        let first : 1 ≤ digit_value d = omega (arith, digit_value_digit d range) in
-        let some : 1 ≤ 10 ^ length ds = pow_above_zero (length ds) in
-        let product : 1 * 1 ≤ digit_value d * 10 ^ length ds = mul-le-mul first some in
-        omega (arith, digits_value_after-is (0 + digit_value d) ds)
+      | inl zero_first ↦
+          let rest : are_zeros ds ≡ false = grind (arith, nat_tests) in
+          omega (arith, digits_value_after-is (0 + digit_value d) ds, digits_value-nonzero ds digits.1 rest)
+      | inr other_first ↦
+          let range = digit_from_value d digits.0 in
+          let first : 1 ≤ digit_value d = omega (arith, digit_value_digit d range) in
+          let some : 1 ≤ 10 ^ length ds = pow_above_zero (length ds) in
+          let product : 1 * 1 ≤ digit_value d * 10 ^ length ds = mul-le-mul first some in
+          omega (arith, digits_value_after-is (0 + digit_value d) ds)
     ]
 
 AllDigits-append_right : (xs ys : List ℕ) → AllDigits 10 (xs ++ ys) → AllDigits 10 ys
@@ -145,24 +147,24 @@ pub near_places : (scale fraction : ℕ) (e : ℤ) → scale ≤ 9 → fraction 
     → IsNear (pos scale +ℤ clamped e -ℤ pos fraction) (pos scale +ℤ e -ℤ pos fraction)
 near_places scale fraction (pos n) low short =
     elim (cases_lt n 10000) [
-      inl below ↦ inl (omega (arith, ints))
-    | inr above ↦ inr (inl (omega (arith, ints), omega (arith, ints)))
+      | inl below ↦ inl (omega (arith, ints))
+      | inr above ↦ inr (inl (omega (arith, ints), omega (arith, ints)))
     ]
 near_places scale fraction (negsuc n) low short =
     elim (cases_lt n 9999) [
-      inl below ↦ inl (omega (arith, ints))
-    | inr above ↦ inr (inr (omega (arith, ints), omega (arith, ints)))
+      | inl below ↦ inl (omega (arith, ints))
+      | inr above ↦ inr (inr (omega (arith, ints), omega (arith, ints)))
     ]
 
 saturated-mul : (m p : ℕ) → 1 ≤ p → saturated (saturated m * p) ≡ saturated (m * p)
 saturated-mul m p some =
     elim (cases_lt m (2 ^ 64 - 1)) [
-      inl below ↦ ap (λ n. saturated (n * p)) (omega arith)
-    | inr above ↦
-        let whole : 2 ^ 64 - 1 ≤ saturated m = omega arith in
-        let left : (2 ^ 64 - 1) * 1 ≤ saturated m * p = mul-le-mul whole some in
-        let right : (2 ^ 64 - 1) * 1 ≤ m * p = mul-le-mul above some in
-        omega arith
+      | inl below ↦ ap (λ n. saturated (n * p)) (omega arith)
+      | inr above ↦
+          let whole : 2 ^ 64 - 1 ≤ saturated m = omega arith in
+          let left : (2 ^ 64 - 1) * 1 ≤ saturated m * p = mul-le-mul whole some in
+          let right : (2 ^ 64 - 1) * 1 ≤ m * p = mul-le-mul above some in
+          omega arith
     ]
 
 -- zeros added are places to the left
@@ -171,19 +173,19 @@ shifts_up m size up p z (inl same) place kept =
     let at : pos up ≡ z = sym place ∙ same in
     let P : ℤ → Type 0 = λ q. ShiftsTo m q (Some (saturated (size * 10 ^ up))) in
     subst P at (m * 10 ^ up, refl, ap (λ n. saturated (n * 10 ^ up)) kept ∙ saturated-mul m (10 ^ up) (pow_above_zero up))
-shifts_up m size up p (pos far) (inr (inl beyond)) place kept = 
+shifts_up m size up p (pos far) (inr (inl beyond)) place kept =
     let left : 20 ≤ up = omega (arith, ints) in
     let right : 20 ≤ far = omega (arith, ints) in
     elim (cases_eq m 0) [
-      inl none ↦
-        let none' : size ≡ 0 = omega arith in
-        let here : saturated (size * 10 ^ up) ≡ 0 = ap (λ n. saturated (n * 10 ^ up)) none' ∙ omega arith in
-        let there : saturated (m * 10 ^ far) ≡ 0 = ap (λ n. saturated (n * 10 ^ far)) none ∙ omega arith in
-        (m * 10 ^ far, refl, here ∙ sym there)
-    | inr some ↦
-        let here = saturated-past size up (omega arith) left in
-        let there = saturated-past m far (omega arith) right in
-        (m * 10 ^ far, refl, sym here ∙ there)
+      | inl none ↦
+          let none' : size ≡ 0 = omega arith in
+          let here : saturated (size * 10 ^ up) ≡ 0 = ap (λ n. saturated (n * 10 ^ up)) none' ∙ omega arith in
+          let there : saturated (m * 10 ^ far) ≡ 0 = ap (λ n. saturated (n * 10 ^ far)) none ∙ omega arith in
+          (m * 10 ^ far, refl, here ∙ sym there)
+      | inr some ↦
+          let here = saturated-past size up (omega arith) left in
+          let there = saturated-past m far (omega arith) right in
+          (m * 10 ^ far, refl, sym here ∙ there)
     ]
 shifts_up m size up p (negsuc far) (inr (inl beyond)) place kept = absurd (omega (arith, ints))
 shifts_up m size up p z (inr (inr beyond)) place kept = absurd (omega (arith, ints))
@@ -237,7 +239,7 @@ whole_cut_zeros whole fraction front back count kept size cut all zeros zeros' v
     let all' : AllDigits 10 (front ++ (back ++ fraction)) = rw texts at all in
     let all_zeros : are_zeros (back ++ fraction) ≡ true = rw (list_all-append (λ c. c == 48) back fraction, zeros, zeros') refl in
     zeros_at_end (whole ++ fraction) front (back ++ fraction) count size texts split.1 all_zeros
-        (value ∙ ap (λ ds. saturated (digits_value 10 ds)) (front_digits-all front (AllDigits-append_left front (back ++ fraction) all')))
+    (value ∙ ap (λ ds. saturated (digits_value 10 ds)) (front_digits-all front (AllDigits-append_left front (back ++ fraction) all')))
 
 pub whole_cut_rest : (whole fraction front back : List ℕ) (count kept : ℕ) → CutsWhole whole fraction front back count kept
     → AllDigits 10 (whole ++ fraction) → (are_zeros back && are_zeros fraction) ≡ false
@@ -273,7 +275,7 @@ fraction_cut_zeros whole fraction front back count kept size cut all zeros value
     let whole_same = front_digits-all whole (AllDigits-append_left whole front kept_digits) in
     let front_same = front_digits-all front (AllDigits-append_right whole front kept_digits) in
     let joined : digits_value_after 10 (digits_value 10 (front_digits whole)) (front_digits front) ≡ digits_value 10 (whole ++ front) =
-        rw (whole_same, front_same) (sym (digits_value_after-append 10 0 whole front)) in
+    rw (whole_same, front_same) (sym (digits_value_after-append 10 0 whole front)) in
     zeros_at_end (whole ++ fraction) (whole ++ front) back count size texts split.1 zeros (value ∙ ap saturated joined)
 
 pub fraction_cut_rest : (whole fraction front back : List ℕ) (count kept : ℕ) → CutsFraction whole fraction front back count kept
@@ -282,3 +284,18 @@ pub fraction_cut_rest : (whole fraction front back : List ℕ) (count kept : ℕ
 fraction_cut_rest whole fraction front back count kept cut all rest =
     let split = fraction_split whole fraction front back count kept cut in
     rest_at_end (whole ++ fraction) (whole ++ front) back count all split.0 split.1 rest
+
+-- ---- what is kept of a number word
+
+pub clamped-le : (e : ℤ) → unsigned_abs (clamped e) ≤ 10000
+clamped-le (pos n) = omega arith
+clamped-le (negsuc n) = omega arith
+
+pub few_in_fraction : (w : Written) (n : Numeral) → Keeps w n → length n.fraction ≤ 64
+few_in_fraction w n keeps = omega (arith, length-append n.whole n.fraction, keeps.few_digits)
+
+pub digits_of-lt : (w : Written) (n : Numeral) → Keeps w n → digits_of n < 10 ^ 64
+digits_of-lt w n keeps =
+    let power : 10 ^ length (n.whole ++ n.fraction) ≤ 10 ^ 64 = pow-le-pow_right (omega arith) keeps.few_digits in
+    let small = digits_value-lt 10 (n.whole ++ n.fraction) keeps.all_digits in
+    omega arith

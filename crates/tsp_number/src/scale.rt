@@ -1,8 +1,8 @@
-ghost use Rattle.std.specs.Prelude.{◌≡◌, ◌+◌, ◌*◌, ◌^◌, ◌<◌, ◌≤◌, ◌++◌, length, ℕ, IsTrue, ◌↔◌, ◌==◌};
+ghost use Rattle.std.specs.Prelude.{◌≡◌, ◌+◌, ◌*◌, ◌^◌, ◌<◌, ◌≤◌, ◌++◌, length, ℕ, ◌==◌, pos, ◌+ℤ◌, ◌-ℤ◌};
 ghost use Rattle.std.specs.List.{list_all};
 ghost use Rattle.std.specs.Str.Parse.{AllDigits, digits_value};
 ghost use Rattle.tsp_number.specs.NumberWord.{Numeral, digits_of, places as places_of};
-ghost use Rattle.tsp_number.specs.Scan.{saturated};
+ghost use Rattle.tsp_number.specs.Scan.{saturated, clamped};
 ghost use Rattle.tsp_number.specs.Written.{Keeps, ShiftsTo, DropsZeros};
 
 use crate::scan::{Written, split_digits};
@@ -105,6 +105,18 @@ fn drop_long_zeros(whole: &[u8], fraction: &[u8], count: u64) -> Option<u64>
     None
 }
 
+/// By how many places the mantissa is to be shifted to the left, to count in the unit 10^-scale.
+/// Its exponent is the one kept, of at most 10,000.
+#[inline(always)]
+fn places(written: &Written<'_>, scale: u32) -> i64
+    requires scale { scale ≤ 9 }
+    requires parts { (n : Numeral) × Keeps written.now n }
+    ensures { (n : Numeral) → Keeps written.now n
+        → result ≡ pos scale +ℤ clamped n.exponent -ℤ pos (length n.fraction) }
+{
+    i64::from(scale) + written.exponent - written.fraction.len() as i64
+}
+
 /// The size of a number word's number, in the unit 10^-scale, or `u64::MAX` where that is less.
 /// `None` where it isn't a whole number in that unit.
 #[inline(always)]
@@ -113,11 +125,11 @@ pub(crate) fn shifted(written: &Written<'_>, scale: u32) -> Option<u64>
     requires parts { (n : Numeral) × Keeps written.now n }
     ensures { (n : Numeral) → Keeps written.now n → ShiftsTo (digits_of n) (places_of scale n) result }
 {
-    let places = i64::from(scale) + written.exponent - written.fraction.len() as i64;
+    let places = places(written, scale);
+    let count = places.unsigned_abs();
     if places >= 0 {
-        return Some(add_zeros(written.size, places as u64));
+        return Some(add_zeros(written.size, count));
     }
-    let count = (-places) as u64;
     if written.size < u64::MAX {
         return drop_zeros(written.size, count);
     }
