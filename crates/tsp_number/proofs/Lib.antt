@@ -1,3 +1,4 @@
+pub mod Grammar
 pub mod Roots
 pub mod Scaling
 pub mod Scanning

@@ -29,7 +29,7 @@ unclamped (Some e) x h = (e, refl, cc)
 unclamped None x h = cc
 
 -- a test that holds
-if_above_zero : {A : Type 0} (n : ℕ) (x y : A) → 0 < n → (if nat_lt 0 n then x else y) ≡ x
+pub if_above_zero : {A : Type 0} (n : ℕ) (x y : A) → 0 < n → (if nat_lt 0 n then x else y) ≡ x
 if_above_zero n x y above = grind (arith, common_steps)
 
 -- a byte from `0` to `9` has a value below ten
