@@ -1,11 +1,10 @@
 -- From the size that the code computes to what the word stands for.
-use Rattle.std.proofs.Common.{◌≡◌, ◌≢◌, ℕ, ◌+◌, ◌*◌, ◌-◌, ◌^◌, ◌<◌, ◌≤◌, Bool, true, false, List, Option, Some, None, ℤ, pos, negsuc, ◌+ℤ◌, ◌-ℤ◌, ◌*ℤ◌, neg_ℤ, ◌⊎◌, inl, inr, refl, arith, ap, sym, ◌∙◌, subst, suc, zero, unsigned_abs, pow-add}
+use Rattle.std.proofs.Common.{◌≡◌, ◌≢◌, ℕ, ◌+◌, ◌*◌, ◌^◌, ◌<◌, ◌≤◌, Bool, true, false, List, Option, Some, None, ℤ, pos, negsuc, ◌+ℤ◌, ◌*ℤ◌, ◌⊎◌, inl, inr, refl, arith, ap, sym, ◌∙◌, subst, suc, zero, unsigned_abs, pow-add, FitsSigned, w64, ◌<ℤ◌}
 use Rattle.std.proofs.Math.Nat.{mul-le-mul, eq_of_mul-eq-mul_right}
-use Rattle.std.proofs.lemmas.Bool.{cases_eq, cases_lt}
 use Rattle.std.proofs.lemmas.Int.{ints}
 use Rattle.tsp_number.specs.declared.scan.Written.{Written}
-use Rattle.tsp_number.specs.Decimal.{unit}
-use Rattle.tsp_number.specs.NumberWord.{Numeral, Spells, IsNumberWord, StandsFor, IsShifted, signed, mantissa, digits_of, places}
+use Rattle.tsp_number.specs.Decimal.{unit, most_count}
+use Rattle.tsp_number.specs.NumberWord.{Numeral, IsNumberWord, StandsFor, IsShifted, signed, mantissa, digits_of, places}
 use Rattle.tsp_number.specs.Scan.{numeral_in, saturated}
 use Rattle.tsp_number.specs.Written.{Keeps, Holds, IsShiftedSize, ShiftsTo}
 use Rattle.tsp_number.proofs.Grammar.{spells_in, found}
@@ -72,9 +71,10 @@ size_by word n j is_in stands =
 
 pub too_fine : (word : List ℕ) (w : Written) → Holds word w → ((n : Numeral) → Keeps w n → ShiftsTo (digits_of n) (places 9 n) None)
     → IsNumberWord word × ((j : ℤ) → ¬ StandsFor word j)
-too_fine word w holds none =
-    ((holds.numeral, spells_in word holds.numeral holds.is_in),
-        λ j stands. let k = size_by word holds.numeral j holds.is_in stands in none holds.numeral holds.keeps k.0 k.1)
+too_fine word w holds none = (
+  (holds.numeral, spells_in word holds.numeral holds.is_in),
+  λ j stands. let k = size_by word holds.numeral j holds.is_in stands in none holds.numeral holds.keeps k.0 k.1,
+)
 
 pub stands : (word : List ℕ) (w : Written) (size : ℕ) → Holds word w → ((n : Numeral) → Keeps w n → ShiftsTo (digits_of n) (places 9 n) (Some size))
     → (k : ℕ) × StandsFor word (signed w.negative k) × (size ≡ saturated k)
@@ -135,7 +135,7 @@ whole_stands word w size holds some =
     let P : ℤ → Type 0 = λ j. StandsFor word j in
     let here = stands_by word n (k.0 * unit) holds.is_in counted in
     let sign : signed n.negative (k.0 * unit) ≡ signed w.negative k.0 *ℤ pos unit =
-        ap (λ b. signed b (k.0 * unit)) (sym holds.keeps.negative) ∙ sym (signed-mul w.negative k.0 unit) in
+    ap (λ b. signed b (k.0 * unit)) (sym holds.keeps.negative) ∙ sym (signed-mul w.negative k.0 unit) in
     (k.0, subst P sign here, k.2)
 
 pub not_whole : (word : List ℕ) (w : Written) (size : ℕ) → Holds word w → ((n : Numeral) → Keeps w n → ShiftsTo (digits_of n) (places 9 n) (Some size))
@@ -143,9 +143,58 @@ pub not_whole : (word : List ℕ) (w : Written) (size : ℕ) → Holds word w �
     → (j : ℤ) × StandsFor word j × ((i : ℤ) → j ≢ i *ℤ pos unit)
 not_whole word w size holds some none =
     let n = holds.numeral in
-    let k = some n holds.keeps in
-    (signed n.negative k.0, stands_by word n k.0 holds.is_in k.1,
-        λ i same.
-            let part = divided n.negative k.0 unit i (omega arith) (sym same) in
-            let counted : IsShiftedSize (digits_of n) (places 9 n) (part.0 * unit) = rw part.1 k.1 in
-            none n holds.keeps part.0 (unit_down (digits_of n) part.0 (places 0 n) (places 9 n) (unit_places n) counted))
+    let k = some n holds.keeps in (
+      signed n.negative k.0,
+      stands_by word n k.0 holds.is_in k.1,
+      λ i same.
+          let part = divided n.negative k.0 unit i (omega arith) (sym same) in
+          let counted : IsShiftedSize (digits_of n) (places 9 n) (part.0 * unit) = rw part.1 k.1 in
+          none n holds.keeps part.0 (unit_down (digits_of n) part.0 (places 0 n) (places 9 n) (unit_places n) counted),
+    )
+
+-- ---- sizes against the limits
+
+-- a size within the limit is exact
+pub decimal_within : (negative : Bool) (size k : ℕ) (d : ℤ) → size ≡ saturated k → d ≡ signed negative size → unsigned_abs d ≤ most_count → signed negative k ≡ d
+decimal_within negative size k d kept is within =
+    let size_is : unsigned_abs d ≡ size = ap unsigned_abs is ∙ unsigned_abs-signed negative size in
+    let exact : k ≡ size = omega arith in
+    ap (signed negative) exact ∙ sym is
+
+-- a size past the limit is of a number past it
+pub decimal_past : (negative : Bool) (size k : ℕ) (d : ℤ) → size ≡ saturated k → d ≡ signed negative size → ¬ (unsigned_abs d ≤ most_count) → most_count < unsigned_abs (signed negative k)
+decimal_past negative size k d kept is past =
+    let size_is : unsigned_abs d ≡ size = ap unsigned_abs is ∙ unsigned_abs-signed negative size in
+    rw (unsigned_abs-signed negative k) (omega arith)
+
+-- a size of 64 bits with a sign is exact
+pub whole_within : (negative : Bool) (size k : ℕ) (v : ℤ) → size ≡ saturated k → v ≡ signed negative size → FitsSigned w64 v → signed negative k ≡ v
+whole_within false size k v kept is fits =
+    let P : ℤ → Type 0 = λ z. FitsSigned w64 z in
+    let here : FitsSigned w64 (pos size) = subst P is fits in
+    let small : size < 2 ^ 63 = here.sfits in
+    let exact : k ≡ size = omega arith in
+    ap (signed false) exact ∙ sym is
+whole_within true zero k v kept is fits =
+    let exact : k ≡ 0 = omega arith in
+    ap (signed true) exact ∙ sym is
+whole_within true (suc size) k v kept is fits =
+    let P : ℤ → Type 0 = λ z. FitsSigned w64 z in
+    let here : FitsSigned w64 (negsuc size) = subst P is fits in
+    let small : size < 2 ^ 63 = here.sfits in
+    let exact : k ≡ suc size = omega arith in
+    ap (signed true) exact ∙ sym is
+
+-- a size outside a range of 64 bits is of a number outside it
+pub whole_past : (negative : Bool) (size k : ℕ) (v low high : ℤ) → size ≡ saturated k → v ≡ signed negative size → FitsSigned w64 low → FitsSigned w64 high
+    → (v <ℤ low) ⊎ (high <ℤ v) → (signed negative k <ℤ low) ⊎ (high <ℤ signed negative k)
+whole_past false size k v (pos low) high kept is fits fits' (inl below) =
+    let small : low < 2 ^ 63 = fits.sfits in
+    inl (omega (arith, ints))
+whole_past false size k v (negsuc low) high kept is fits fits' (inl below) = absurd (omega (arith, ints))
+whole_past false size k v low high kept is fits fits' (inr above) = inr (omega (arith, ints))
+whole_past true size k v low high kept is fits fits' (inl below) = inl (omega (arith, ints))
+whole_past true size k v low (pos high) kept is fits fits' (inr above) = absurd (omega (arith, ints))
+whole_past true size k v low (negsuc high) kept is fits fits' (inr above) =
+    let small : high < 2 ^ 63 = fits'.sfits in
+    inr (omega (arith, ints))

@@ -1,4 +1,4 @@
-ghost use Rattle.std.specs.Prelude.{◌≡◌};
+ghost use Rattle.std.specs.Prelude.{◌≡◌, ◌≤ℤ◌, SomeIff};
 ghost use Rattle.tsp_number.specs.NumberWord.{ReadsDecimal, ReadsWhole, signed as signed_of};
 
 use crate::decimal::Decimal;
@@ -19,6 +19,17 @@ fn signed(negative: bool, size: u64) -> i128
     } else {
         i128::from(size)
     }
+}
+
+/// The number, where it is from `low` to `high`.
+#[inline(always)]
+fn within(value: i128, low: i64, high: i64) -> Option<i64>
+    ensures { SomeIff result ((low ≤ℤ value) × (value ≤ℤ high)) value }
+{
+    if value < i128::from(low) || value > i128::from(high) {
+        return None;
+    }
+    Some(value as i64)
 }
 
 /// Reads a number word as a decimal.
@@ -79,9 +90,8 @@ pub fn parse_whole(word: &[u8], low: i64, high: i64) -> Result<i64, NumberFault>
             None => Err(NumberFault::TooFine),
         };
     };
-    let value = signed(written.negative, size);
-    if value < i128::from(low) || value > i128::from(high) {
-        return Err(NumberFault::OutOfRange);
+    match within(signed(written.negative, size), low, high) {
+        Some(whole) => Ok(whole),
+        None => Err(NumberFault::OutOfRange),
     }
-    Ok(value as i64)
 }
