@@ -3,3 +3,4 @@ pub mod Reading
 pub mod Roots
 pub mod Scaling
 pub mod Scanning
+pub mod Spellings

@@ -4,3 +4,4 @@ pub mod Rounding
 pub mod NumberWord
 pub mod Scan
 pub mod Written
+pub mod Spelling

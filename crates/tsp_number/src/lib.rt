@@ -12,9 +12,11 @@ mod fault;
 mod root;
 mod scale;
 mod scan;
+mod spelling;
 mod word;
 
 pub use decimal::{Decimal, Point};
 pub use distance::{att, ceil_2d, euc_2d, man_2d, max_2d};
 pub use fault::NumberFault;
+pub use spelling::write_decimal;
 pub use word::{parse_decimal, parse_whole};
