@@ -34,14 +34,16 @@ step_at before text rest left place (suc places) is part room items some =
     let tenth : place / 10 ≡ 10 ^ places = ap (λ n. n / 10) product ∙ mul-div_cancel (10 ^ places) (omega arith) in
     let above : 0 < place / 10 = rw tenth (pow_above_zero places) in
     let text' : List ℕ = text ++ (48 + left / (place / 10)) ∷ [] in
-    let first : decimals (suc places) left ≡ (48 + left / (place / 10)) ∷ decimals places (left % (place / 10)) = rw tenth (decimals-suc places left some) in
-    (above, record {
-      places = places;
-      place_is = tenth;
-      part = mod_below left (place / 10) above;
-      room = rw (length-append text ((48 + left / (place / 10)) ∷ [])) (omega arith);
-      items = append_assoc text ((48 + left / (place / 10)) ∷ []) (decimals places (left % (place / 10))) ∙ ap (λ ds. text ++ ds) (sym first) ∙ items;
-    })
+    let first : decimals (suc places) left ≡ (48 + left / (place / 10)) ∷ decimals places (left % (place / 10)) = rw tenth (decimals-suc places left some) in (
+      above,
+      record {
+        places = places;
+        place_is = tenth;
+        part = mod_below left (place / 10) above;
+        room = rw (length-append text ((48 + left / (place / 10)) ∷ [])) (omega arith);
+        items = append_assoc text ((48 + left / (place / 10)) ∷ []) (decimals places (left % (place / 10))) ∙ ap (λ ds. text ++ ds) (sym first) ∙ items;
+      },
+    )
 
 pub step : (before text : List ℕ) (rest left place : ℕ) → StillToWrite before text rest left place → 0 < left
     → (0 < place / 10) × StillToWrite before (text ++ (48 + left / (place / 10)) ∷ []) rest (left % (place / 10)) (place / 10)

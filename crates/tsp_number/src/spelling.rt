@@ -3,10 +3,9 @@ ghost use Rattle.arrayvec.specs.ArrayVec.{array_vec_len};
 ghost use Rattle.tsp_number.specs.Decimal.{unit};
 ghost use Rattle.tsp_number.specs.Spelling.{decimals, spelling, size_spelling};
 
+use crate::decimal::Decimal;
 use arrayvec::ArrayVec;
 use itoa::Buffer;
-
-use crate::decimal::Decimal;
 
 /// One whole, in counts of 10^-9.
 const UNIT: u64 = 1_000_000_000;
