@@ -20,3 +20,6 @@ pub use distance::{att, ceil_2d, euc_2d, man_2d, max_2d};
 pub use fault::NumberFault;
 pub use spelling::write_decimal;
 pub use word::{parse_decimal, parse_whole};
+
+#[cfg(test)]
+mod tests;
