@@ -151,17 +151,31 @@ fn measures_from_the_origin(rt: HostRuntime) -> Result<(), Fail> {
     Ok(())
 }
 
+/// All five distances.
+fn distances(a: &Point, b: &Point) -> [i64; 5] {
+    [
+        euc_2d(*a, *b),
+        ceil_2d(*a, *b),
+        man_2d(*a, *b),
+        max_2d(*a, *b),
+        att(*a, *b),
+    ]
+}
+
 #[test]
 fn measures_across_the_plane(rt: HostRuntime) -> Result<(), Fail> {
     let low = point(b"-1000000000", b"-1000000000")?;
     let high = point(b"1e9", b"1e9")?;
-    assert_eq!(rt; euc_2d(low, high), 2_828_427_125);
-    assert_eq!(rt; ceil_2d(low, high), 2_828_427_125);
-    assert_eq!(rt; man_2d(low, high), 4_000_000_000);
-    assert_eq!(rt; max_2d(low, high), 2_000_000_000);
-    assert_eq!(rt; att(low, high), 894_427_191);
-    assert_eq!(rt; euc_2d(high, low), 2_828_427_125);
-    assert_eq!(rt; euc_2d(high, high), 0);
+    let across = [
+        2_828_427_125,
+        2_828_427_125,
+        4_000_000_000,
+        2_000_000_000,
+        894_427_191,
+    ];
+    assert_eq!(rt; distances(&low, &high), across);
+    assert_eq!(rt; distances(&high, &low), across);
+    assert_eq!(rt; distances(&high, &high), [0; 5]);
     Ok(())
 }
 
