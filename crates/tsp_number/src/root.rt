@@ -68,22 +68,28 @@ fn exact_root(rounding: Rounding, square: u128) -> u32
 /// What floats make of the root, which may be wrong.
 #[inline(always)]
 fn estimate(rounding: Rounding, across: u64, along: u64) -> u32
+    requires across { across ≤ 2 * 10 ^ 18 }
+    requires along { along ≤ 2 * 10 ^ 18 }
     ensures { result ≤ 2828427125 }
 {
-    let x = num::nearest_u64_to_f64(across) / 1e9;
-    let y = num::nearest_u64_to_f64(along) / 1e9;
+    // 10^9 is 5^9 * 2^9: of a whole number nothing is lost here.
+    let x = (across >> 9) as f64;
+    let y = (along >> 9) as f64;
     let square = x * x + y * y;
     let near = match rounding {
-        Rounding::Nearest => square.sqrt() + 0.5,
-        Rounding::Up => square.sqrt().ceil(),
-        Rounding::TenthUp => (square / 10.0).sqrt().ceil(),
+        Rounding::Nearest => square.sqrt() * 5.12e-7,
+        Rounding::Up => square.sqrt() * 5.12e-7 + 0.499_999_999,
+        Rounding::TenthUp => (square * 0.1).sqrt() * 5.12e-7 + 0.499_999_999,
     };
-    num::saturating_f64_to_u32(near).min(MOST_ROOT)
+    // A sum with 2^52 has no room for a fraction, and its low bits are the whole number nearby.
+    let bits = num::f64_to_bits_with_nan(near + 4_503_599_627_370_496.0);
+    ((bits & 0xffff_ffff) as u32).min(MOST_ROOT)
 }
 
 /// The rounded root of the square of a distance, whose ways along both axes count 10^-9.
 ///
-/// An estimate in floats is taken only where whole numbers show that it is right.
+/// An estimate in floats, or the number after it, is taken only where whole numbers show that it
+/// is right.
 #[inline(always)]
 pub(crate) fn rounded_root(rounding: Rounding, across: u64, along: u64) -> u32
     requires across { across ≤ 2 * 10 ^ 18 }
@@ -95,8 +101,12 @@ pub(crate) fn rounded_root(rounding: Rounding, across: u64, along: u64) -> u32
     let (wide, high) = (u128::from(across), u128::from(along));
     let square = wide * wide + high * high;
     let near = estimate(rounding, across, along);
-    if covers(rounding, square, near) && (near == 0 || !covers(rounding, square, near - 1)) {
-        return near;
+    if covers(rounding, square, near) {
+        if near == 0 || !covers(rounding, square, near - 1) {
+            return near;
+        }
+    } else if near < MOST_ROOT && covers(rounding, square, near + 1) {
+        return near + 1;
     }
     exact_root(rounding, square)
 }

@@ -11,7 +11,7 @@ pub returns-then-places-ge0 : goal.returns-then-places-ge0
 returns-then-places-ge0 c = λ n keeps.
     let near = near_places c.args.scale (length n.fraction) n.exponent c.requires.scale (few_in_fraction c.args.written.now n keeps) in
     let at : c.places-places.result ≡ pos c.unsigned_abs-count.result = grind (arith, ints) in
-    let place : pos c.args.scale +ℤ clamped n.exponent -ℤ pos (length n.fraction) ≡ pos c.unsigned_abs-count.result = sym (c.places-places.ensures n keeps) ∙ at in
+    let place : pos c.args.scale +ℤ clamped n.exponent -ℤ pos (length n.fraction) ≡ pos c.unsigned_abs-count.result = rw (← c.places-places.ensures n keeps) at in
     let moved = shifts_up (digits_of n) c.args.written.now.size c.unsigned_abs-count.result _ _ near place keeps.size in
     (moved.0, moved.1, c.add_zeros.ensures ∙ moved.2)
 
