@@ -1,0 +1,6 @@
+pub mod Grammar
+pub mod Reading
+pub mod Roots
+pub mod Scaling
+pub mod Scanning
+pub mod Spellings

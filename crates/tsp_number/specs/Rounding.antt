@@ -1,0 +1,11 @@
+-- When a whole number is large enough to be a rounded root: what the search for it tests.
+use Rattle.std.specs.Prelude.{ℕ, ◌+◌, ◌*◌, ◌<◌, ◌≤◌}
+use Rattle.tsp_number.specs.declared.root.Rounding.{Rounding}
+use Rattle.tsp_number.specs.declared.root.Rounding.TheVariants.{Nearest, Up, TenthUp}
+use Rattle.tsp_number.specs.Decimal.{unit}
+use Rattle.tsp_number.specs.Distances.{squared}
+
+abbrev pub Covers : Rounding → ℕ → ℕ → Type 0
+Covers Nearest square k = 4 * square < squared ((2 * k + 1) * unit)
+Covers Up square k = square ≤ squared (k * unit)
+Covers TenthUp square k = square ≤ 10 * squared (k * unit)

@@ -1,0 +1,66 @@
+ghost use Rattle.std.specs.Prelude.{◌≡◌, ◌≤◌, unsigned_abs, SomeIff};
+ghost use Rattle.tsp_number.specs.Decimal.{most_count};
+
+use std::marker::Model;
+
+/// The largest size of a count: 10^9 in counts of 10^-9.
+const MOST_COUNT: i64 = 1_000_000_000_000_000_000;
+
+/// A decimal number from -10^9 to 10^9 with at most nine places after the point.
+///
+/// It is kept exactly, as a count of 10^-9.
+#[derive(Clone, Copy, Debug, PartialEq, Eq)]
+pub struct Decimal {
+    nanos: i64,
+}
+
+impl Model for Decimal {
+    ghost use Rattle.std.specs.Prelude.{ℤ, ◌≤◌, unsigned_abs};
+    ghost use Rattle.tsp_number.specs.Decimal.{most_count};
+
+    ghost Value = { ℤ };
+
+    ghost view = { λ d. d.nanos };
+
+    ghost invariant = { λ d. unsigned_abs d.nanos ≤ most_count };
+
+    ghost inverse = { λ k. record { nanos = k } };
+}
+
+impl Decimal {
+    /// The count of 10^-9: 1.5 has the count 1,500,000,000.
+    pub fn count(self) -> i128
+        ensures value { result ≡ self }
+        ensures size { unsigned_abs result ≤ most_count }
+    {
+        i128::from(self.nanos)
+    }
+
+    /// The decimal with this count of 10^-9, or `None` where the count is larger than 10^18 in size.
+    pub fn of_count(count: i128) -> Option<Decimal>
+        ensures { SomeIff result (unsigned_abs count ≤ most_count) count }
+    {
+        let most = i128::from(MOST_COUNT);
+        if count < -most || count > most {
+            return None;
+        }
+        Some(Decimal {
+            nanos: count as i64,
+        })
+    }
+
+    /// The count as a number of 64 bits.
+    pub(crate) fn nanos(self) -> i64
+        ensures value { result ≡ self }
+        ensures size { unsigned_abs result ≤ most_count }
+    {
+        self.nanos
+    }
+}
+
+/// A point in the plane.
+#[derive(Clone, Copy, Debug, PartialEq, Eq)]
+pub struct Point {
+    pub x: Decimal,
+    pub y: Decimal,
+}

@@ -1,0 +1,25 @@
+//! Number words and plane distances of TSPLIB 95, in exact decimal arithmetic.
+//!
+//! A [`Decimal`] is a number with at most nine places after the point, kept as a count of 10^-9.
+//! [`parse_decimal`] and [`parse_whole`] read number words, [`write_decimal`] spells one, and
+//! [`euc_2d`], [`ceil_2d`], [`man_2d`], [`max_2d`] and [`att`] are the distances of Reinelt's
+//! TSPLIB 95 between two [`Point`]s, exact over the decimals as written. No call takes memory.
+#![tactic(auto)]
+
+mod decimal;
+mod distance;
+mod fault;
+mod root;
+mod scale;
+mod scan;
+mod spelling;
+mod word;
+
+pub use decimal::{Decimal, Point};
+pub use distance::{att, ceil_2d, euc_2d, man_2d, max_2d};
+pub use fault::NumberFault;
+pub use spelling::write_decimal;
+pub use word::{parse_decimal, parse_whole};
+
+#[cfg(test)]
+mod tests;

@@ -1,0 +1,195 @@
+use crate::NumberFault::{BadNumber, LongWord, NotWhole, OutOfRange, TooFine};
+use crate::{
+    Decimal, NumberFault, Point, att, ceil_2d, euc_2d, man_2d, max_2d, parse_decimal, parse_whole,
+    write_decimal,
+};
+use std::test::Fail;
+
+/// The count of 10^-9 that a word is read as.
+fn count_of(word: &[u8]) -> Result<i128, NumberFault> {
+    match parse_decimal(word) {
+        Ok(decimal) => Ok(decimal.count()),
+        Err(fault) => Err(fault),
+    }
+}
+
+#[test]
+fn reads_decimals(rt: HostRuntime) {
+    let one: i128 = 1_000_000_000;
+    let words: [(&[u8], i128); 14] = [
+        (b"1.50e+01", 15 * one),
+        (b".5", one / 2),
+        (b"5.", 5 * one),
+        (b"-0.0", 0),
+        (b"0e999", 0),
+        (b"10e-10", 1),
+        (b"0.0000000010", 1),
+        (b"0e-99999999999999999999", 0),
+        (b"1000000000", one * one),
+        (b"-1000000000.000", -(one * one)),
+        (b"+7E0", 7 * one),
+        (b"1.0000000000000000000000", one),
+        (b"1000000000000000000000000e-20", 10_000 * one),
+        (b"-12300000000000000000000000000000e-25", -1_230_000 * one),
+    ];
+    for (word, count) in words {
+        assert_eq!(rt; count_of(word), Ok(count), "at {word:?}");
+    }
+}
+
+#[test]
+fn refuses_words(rt: HostRuntime) {
+    let words: [(&[u8], NumberFault); 22] = [
+        (b"1e-10", TooFine),
+        (b"1e-99999999999999999999", TooFine),
+        (b"1.00000000000000000000001", TooFine),
+        (b"1000000000000000000000000e-40", TooFine),
+        (b"12345678901234567890123456789e-20", TooFine),
+        (b"1e99999999999999999999", OutOfRange),
+        (b"1000000000.1", OutOfRange),
+        (b"-1000000000.000000001", OutOfRange),
+        (b"99999999999999999999999999999999", OutOfRange),
+        (b"1.2.3", BadNumber),
+        (b".", BadNumber),
+        (b"", BadNumber),
+        (b"+", BadNumber),
+        (b"e5", BadNumber),
+        (b"1e", BadNumber),
+        (b"1e+", BadNumber),
+        (b"0x1", BadNumber),
+        (b"1_0", BadNumber),
+        (b"--1", BadNumber),
+        (b" 1", BadNumber),
+        (&[b'x'; 65], LongWord),
+        (&[b'1'; 65], LongWord),
+    ];
+    for (word, fault) in words {
+        assert_eq!(rt; count_of(word), Err(fault), "at {word:?}");
+    }
+    assert_eq!(rt; count_of(&[b'0'; 64]), Ok(0));
+}
+
+#[test]
+fn reads_whole_numbers(rt: HostRuntime) {
+    let words: [(&[u8], Result<i64, NumberFault>); 11] = [
+        (b"12.0", Ok(12)),
+        (b"1.2e1", Ok(12)),
+        (b"12.5", Err(NotWhole)),
+        (b"200000.5", Err(NotWhole)),
+        (b"100001", Err(OutOfRange)),
+        (b"0", Err(OutOfRange)),
+        (b"-1", Err(OutOfRange)),
+        (b"100000", Ok(100_000)),
+        (b"1e-10", Err(TooFine)),
+        (b"one", Err(BadNumber)),
+        (&[b'9'; 65], Err(LongWord)),
+    ];
+    for (word, answer) in words {
+        assert_eq!(rt; parse_whole(word, 1, 100_000), answer, "at {word:?}");
+    }
+    let (low, high) = (i64::MIN, i64::MAX);
+    assert_eq!(rt; parse_whole(b"-9223372036854775808", low, high), Ok(low));
+    assert_eq!(rt;
+        parse_whole(b"9223372036854775808", low, high),
+        Err(OutOfRange)
+    );
+    assert_eq!(rt; parse_whole(b"9223372036854775807", low, high), Ok(high));
+}
+
+#[test]
+fn spells_decimals(rt: HostRuntime) -> Result<(), Fail> {
+    let spellings: [(i128, &[u8]); 8] = [
+        (0, b"0"),
+        (1, b"0.000000001"),
+        (-1, b"-0.000000001"),
+        (-1_500_000_000, b"-1.5"),
+        (15_000_000_000, b"15"),
+        (1_020_304_050, b"1.02030405"),
+        (1_000_000_000_000_000_000, b"1000000000"),
+        (-999_999_999_999_999_999, b"-999999999.999999999"),
+    ];
+    for (count, spelling) in spellings {
+        let decimal = Decimal::of_count(count).ok_or("out of range")?;
+        assert_eq!(rt; write_decimal(decimal).as_slice(), spelling);
+        assert_eq!(rt; parse_decimal(spelling), Ok(decimal));
+    }
+    Ok(())
+}
+
+#[test]
+fn limits_counts(rt: HostRuntime) {
+    let most: i128 = 1_000_000_000_000_000_000;
+    assert_eq!(rt; Decimal::of_count(most + 1), None);
+    assert_eq!(rt; Decimal::of_count(-most - 1), None);
+    assert!(rt; Decimal::of_count(-most).is_some());
+    assert!(rt; Decimal::of_count(most).is_some());
+}
+
+/// The point with these words as coordinates.
+fn point(x: &[u8], y: &[u8]) -> Result<Point, NumberFault> {
+    match (parse_decimal(x), parse_decimal(y)) {
+        (Ok(x), Ok(y)) => Ok(Point { x, y }),
+        (Err(fault), _) => Err(fault),
+        (_, Err(fault)) => Err(fault),
+    }
+}
+
+#[test]
+fn measures_from_the_origin(rt: HostRuntime) -> Result<(), Fail> {
+    let origin = point(b"0", b"0")?;
+    assert_eq!(rt; euc_2d(origin, point(b"1.5", b"0")?), 2);
+    assert_eq!(rt; euc_2d(origin, point(b"2.5", b"0")?), 3);
+    assert_eq!(rt; euc_2d(origin, point(b"0.499999999", b"0")?), 0);
+    assert_eq!(rt; euc_2d(origin, point(b"-3", b"4")?), 5);
+    assert_eq!(rt; man_2d(origin, point(b"0.25", b"0.25")?), 1);
+    assert_eq!(rt; max_2d(origin, point(b"1.5", b"0.4")?), 2);
+    assert_eq!(rt; att(origin, point(b"1", b"3")?), 1);
+    assert_eq!(rt; att(origin, point(b"2", b"3")?), 2);
+    assert_eq!(rt; att(origin, point(b"4", b"5")?), 3);
+    assert_eq!(rt; ceil_2d(origin, point(b"1.000000001", b"0")?), 2);
+    assert_eq!(rt; ceil_2d(origin, point(b"-3", b"-4")?), 5);
+    Ok(())
+}
+
+/// All five distances.
+fn distances(a: &Point, b: &Point) -> [i64; 5] {
+    [
+        euc_2d(*a, *b),
+        ceil_2d(*a, *b),
+        man_2d(*a, *b),
+        max_2d(*a, *b),
+        att(*a, *b),
+    ]
+}
+
+#[test]
+fn measures_across_the_plane(rt: HostRuntime) -> Result<(), Fail> {
+    let low = point(b"-1000000000", b"-1000000000")?;
+    let high = point(b"1e9", b"1e9")?;
+    let across = [
+        2_828_427_125,
+        2_828_427_125,
+        4_000_000_000,
+        2_000_000_000,
+        894_427_191,
+    ];
+    assert_eq!(rt; distances(&low, &high), across);
+    assert_eq!(rt; distances(&high, &low), across);
+    assert_eq!(rt; distances(&high, &high), [0; 5]);
+    Ok(())
+}
+
+#[test]
+fn names_faults(rt: HostRuntime) -> Result<(), Fail> {
+    let names = [
+        (LongWord, "LongWord"),
+        (BadNumber, "BadNumber"),
+        (TooFine, "TooFine"),
+        (OutOfRange, "OutOfRange"),
+        (NotWhole, "NotWhole"),
+    ];
+    for (fault, name) in names {
+        assert_eq!(rt; fault.to_string(rt.alloc())?.as_str(), name);
+    }
+    Ok(())
+}
