@@ -5,7 +5,11 @@ mod draft;
 mod field;
 mod kinds;
 mod limits;
+mod output;
+mod watched;
 
 pub use draft::Draft;
 pub use field::Field;
 pub use kinds::{CoordKind, DisplayKind, Kind, Layout, WeightFormat, WeightKind};
+pub use output::{WriteFault, write_text};
+pub use watched::Watched;

@@ -11,5 +11,4 @@ pub mod Turns
 pub mod Marks
 pub mod Lengths
 pub mod Verdicts
-pub mod Sinks
 pub mod Checks

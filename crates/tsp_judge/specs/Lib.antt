@@ -1,4 +1,3 @@
-pub mod Watched
 pub mod Words
 pub mod Numbers
 pub mod Forms

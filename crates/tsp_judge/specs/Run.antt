@@ -3,13 +3,13 @@ use Rattle.std.specs.Prelude.{◌≡◌, ℕ, ◌⊎◌, Bool, true, false, List
 use Rattle.std.specs.Io.KnownBytes.{Keeps, Appends, Consumes}
 use Rattle.tsp_judge.specs.declared.fault.ReadFault.{ReadFault}
 use Rattle.tsp_judge.specs.declared.fault.ReadFault.TheVariants as read_faults
-use Rattle.tsp_judge.specs.declared.fault.WriteFault.{WriteFault}
-use Rattle.tsp_judge.specs.declared.fault.WriteFault.TheVariants as write_faults
+use Rattle.tsp_file.specs.declared.output.WriteFault.TheVariants as write_faults
 use Rattle.tsp_judge.specs.declared.fault.RunFault.{RunFault}
 use Rattle.tsp_judge.specs.declared.fault.RunFault.TheVariants.{File, Write, OutOfMemory, NotYet}
 use Rattle.tsp_judge.specs.declared.verdict.Verdict.{Verdict}
-use Rattle.tsp_judge.specs.declared.watched.Watched.{Watched}
-use Rattle.tsp_judge.specs.Watched.{watched, has_failed}
+use Rattle.tsp_file.specs.declared.watched.Watched.{Watched}
+use Rattle.tsp_file.specs.Watched.{watched, has_failed}
+use Rattle.tsp_file.specs.Sink.{Sink, IsUnwritten, HasWritten, HasStopped}
 use Rattle.tsp_judge.specs.Forms.{IsTooLong, Spells, SpellsNone, Instance, IsInstance, IsSolution}
 use Rattle.tsp_judge.specs.Verdict.{IsVerdict, is_yes}
 use Rattle.tsp_judge.specs.Report.{report_of}
@@ -58,41 +58,6 @@ StopsAt read_faults.TooLong turn = GaveAll turn IsTooLong
 -- the reader was not asked
 abbrev pub IsUnread : Turn → Type 0
 IsUnread turn = Keeps turn.known turn.left × (turn.failed ≡ turn.had_failed)
-
--- What a writer holds before the call and after it, where it is known, and whether it had failed and has failed.
-pub record Sink : Type 0 where
-  pub held : Option (List ℕ)
-  pub holds : Option (List ℕ)
-  pub had_failed : Bool
-  pub failed : Bool
-
--- the same of a watched writer
-abbrev pub sink_of : {W : Type 0} → (W → Option (List ℕ)) → Watched W → Watched W → Sink
-sink_of contents old new = record {
-  held = contents (watched old);
-  holds = contents (watched new);
-  had_failed = has_failed old;
-  failed = has_failed new;
-}
-
--- nothing was written
-abbrev pub IsUnwritten : Sink → Type 0
-IsUnwritten sink = Keeps sink.held sink.holds × (sink.failed ≡ sink.had_failed)
-
--- the whole text was written to a writer that was handed in sound and has not failed
-abbrev pub HasWritten : Sink → List ℕ → Type 0
-HasWritten sink text = (sink.had_failed ≡ false) × (sink.failed ≡ false) × Appends sink.held sink.holds text
-
--- A front of the text was written, and nothing else, before the writer failed. One that was handed in as failed gets nothing.
-abbrev pub HasStopped : Sink → List ℕ → Type 0
-HasStopped sink text = (sink.failed ≡ true) × (sink.had_failed ≡ true → Keeps sink.held sink.holds)
-    × ((count : ℕ) × Appends sink.held sink.holds (take count text))
-
--- how the writing of a text ends
-abbrev pub Writes : Sink → List ℕ → Result (Unit {0}) WriteFault → Type 0
-Writes sink text (Ok done) = HasWritten sink text
-Writes sink text (Err write_faults.Device) = HasStopped sink text
-Writes sink text (Err write_faults.OutOfMemory) = IsUnwritten sink
 
 -- both files are of their forms, and the verdict on them is this one
 pub record IsJudged (instance solution : Turn) (nodes : ℕ) (verdict : Verdict) : Type 0 where

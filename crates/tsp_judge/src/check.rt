@@ -1,13 +1,14 @@
 //! The check of an instance and a solution, from the bytes that come in to those that go out.
 
 ghost use Rattle.std.specs.Prelude.{List, ℕ};
-ghost use Rattle.tsp_judge.specs.Run.{turn_of, sink_of, IsRun};
+ghost use Rattle.tsp_file.specs.Sink.{sink_of};
+ghost use Rattle.tsp_judge.specs.Run.{turn_of, IsRun};
 
-use crate::fault::{RunFault, WriteFault};
+use crate::fault::RunFault;
 use crate::judge::judge;
 use crate::reading::{read_instance, read_solution};
-use crate::report::{report_text, write_text};
-use crate::watched::Watched;
+use crate::report::report_text;
+use tsp_file::{Watched, WriteFault, write_text};
 use std::alloc::Global;
 use std::io::{Read, Write};
 

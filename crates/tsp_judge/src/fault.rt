@@ -1,6 +1,7 @@
 //! The faults of a run.
 
 use thiserror::Error;
+use tsp_file::WriteFault;
 
 /// Why a file could not be read.
 #[derive(Clone, Copy, Debug, PartialEq, Eq, Error)]
@@ -14,17 +15,6 @@ pub enum ReadFault {
     /// More bytes than `FILE_LIMIT`, and no line `EOF` among those up to there.
     #[error("too long")]
     TooLong,
-}
-
-/// Why a text could not be written.
-#[derive(Clone, Copy, Debug, PartialEq, Eq, Error)]
-pub enum WriteFault {
-    /// A write failed, or took nothing.
-    #[error("device")]
-    Device,
-    /// Want of memory for the text.
-    #[error("out of memory")]
-    OutOfMemory,
 }
 
 /// Why a run gave no verdict.

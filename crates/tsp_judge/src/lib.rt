@@ -9,13 +9,12 @@ mod limit;
 mod reading;
 mod report;
 mod verdict;
-mod watched;
 
 #[cfg(test)]
 mod tests;
 
 pub use check::run_check;
-pub use fault::{ReadFault, RunFault, WriteFault};
+pub use fault::{ReadFault, RunFault};
 pub use limit::FILE_LIMIT;
 pub use verdict::{Reason, Verdict};
-pub use watched::Watched;
+pub use tsp_file::{Watched, WriteFault};

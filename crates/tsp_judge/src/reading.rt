@@ -11,7 +11,7 @@ use crate::form::instance::Matrix;
 use crate::form::lines::first_line;
 use crate::form::solution::{Tours, parse_solution};
 use crate::limit::FILE_LIMIT;
-use crate::watched::Watched;
+use tsp_file::Watched;
 use std::alloc::Global;
 use std::io::Read;
 

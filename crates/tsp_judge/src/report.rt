@@ -1,15 +1,11 @@
-//! The text of a report, and its way to a writer.
+//! The text of a report.
 
 ghost use Rattle.std.specs.Prelude.{◌≡◌, ◌++◌, IfOk, OnOk};
 ghost use Rattle.tsp_judge.specs.Report.{report_of, reason_text};
-ghost use Rattle.tsp_judge.specs.Run.{sink_of, Writes};
 
-use crate::fault::WriteFault;
 use crate::verdict::{Reason, Verdict};
-use crate::watched::Watched;
 use itoa::{Buffer, Integer};
 use std::alloc::{AllocError, Global};
-use std::io::Write;
 
 /// The report on an instance of this many nodes, line by line.
 pub(crate) fn report_text(alloc: Global, nodes: u32, verdict: Verdict) -> Result<Vec<u8>, AllocError>
@@ -58,26 +54,4 @@ fn push_reason(text: &mut Vec<u8>, reason: Reason) -> Result<(), AllocError>
             push_number(text, place)
         }
     }
-}
-
-/// Writes a text to a writer that may take any part of it at once.
-pub(crate) fn write_text<W: Write>(out: &mut Watched<W>, text: &[u8]) -> Result<(), WriteFault>
-    ensures { Writes (sink_of W.contents out.old out.new) text.now result }
-{
-    if out.failed() {
-        return Err(WriteFault::Device);
-    }
-    let mut rest = text;
-    'parts: while !rest.is_empty() {
-        let count = match out.write(rest) {
-            Err(_) => return Err(WriteFault::Device),
-            Ok(count) => count,
-        };
-        if count == 0 {
-            return Err(WriteFault::Device);
-        }
-        let (_, left) = rest.split_at(count);
-        rest = left;
-    }
-    Ok(())
 }

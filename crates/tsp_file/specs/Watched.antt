@@ -1,6 +1,6 @@
 -- What a clause sees of a watched reader or writer.
 use Rattle.std.specs.Prelude.{ℕ, Bool, true, List, length, Result, Ok, Err, is_err, ◌&&◌, ◌==◌, nat_lt}
-use Rattle.tsp_judge.specs.declared.watched.Watched.{Watched}
+use Rattle.tsp_file.specs.declared.watched.Watched.{Watched}
 
 -- the reader or writer inside
 abbrev pub watched : {T : Type 0} → Watched T → T

@@ -3,7 +3,7 @@
 ghost use Rattle.std.specs.Prelude.{◌≡◌, false, is_err, ◌||◌};
 ghost use Rattle.std.specs.Io.{ReadsAtMost, WritesAtMost};
 ghost use Rattle.std.specs.Io.KnownBytes.{ReadConsumes, WriteAppends, Keeps};
-ghost use Rattle.tsp_judge.specs.Watched.{watched, has_failed, write_fails};
+ghost use Rattle.tsp_file.specs.Watched.{watched, has_failed, write_fails};
 
 use std::io;
 use std::io::{Read, Write};

@@ -1,0 +1,44 @@
+//! The way of a text to a writer.
+
+ghost use Rattle.std.specs.Prelude.{List, ℕ};
+ghost use Rattle.tsp_file.specs.Sink.{sink_of, Writes};
+
+use crate::watched::Watched;
+use std::io::Write;
+use thiserror::Error;
+
+/// Why a text could not be written.
+#[derive(Clone, Copy, Debug, PartialEq, Eq, Error)]
+pub enum WriteFault {
+    /// A write failed, or took nothing.
+    #[error("device")]
+    Device,
+    /// Want of memory for the text.
+    #[error("out of memory")]
+    OutOfMemory,
+}
+
+/// Writes a text to a writer that may take any part of it at once.
+///
+/// At `Device` a front of the text was written, and nothing else; a writer that was handed in as
+/// failed gets nothing. `OutOfMemory` is never answered.
+pub fn write_text<W: Write>(out: &mut Watched<W>, text: &[u8]) -> Result<(), WriteFault>
+    ensures { Writes (sink_of W.contents out.old out.new) text.now result }
+{
+    if out.failed() {
+        return Err(WriteFault::Device);
+    }
+    let mut rest = text;
+    'parts: while !rest.is_empty() {
+        let count = match out.write(rest) {
+            Err(_) => return Err(WriteFault::Device),
+            Ok(count) => count,
+        };
+        if count == 0 {
+            return Err(WriteFault::Device);
+        }
+        let (_, left) = rest.split_at(count);
+        rest = left;
+    }
+    Ok(())
+}
