@@ -1,0 +1,4 @@
+pub mod LayoutWords
+pub mod Lines
+pub mod Counts
+pub mod Pairs
