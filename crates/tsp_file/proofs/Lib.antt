@@ -1,1 +1,5 @@
 pub mod Sinks
+pub mod LayoutWords
+pub mod Lines
+pub mod Counts
+pub mod Pairs

@@ -2,3 +2,5 @@ pub mod Words
 pub mod Fields
 pub mod Watched
 pub mod Sink
+pub mod Layout
+pub mod Cells
