@@ -3,3 +3,4 @@ pub mod LayoutWords
 pub mod Lines
 pub mod Counts
 pub mod Pairs
+pub mod Carrying

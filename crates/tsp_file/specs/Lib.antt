@@ -4,3 +4,5 @@ pub mod Watched
 pub mod Sink
 pub mod Layout
 pub mod Cells
+pub mod Text
+pub mod Way

@@ -8,6 +8,7 @@ mod layout;
 mod limits;
 mod output;
 mod watched;
+mod writer;
 
 pub use draft::Draft;
 pub use field::Field;

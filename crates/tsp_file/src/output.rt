@@ -1,7 +1,8 @@
 //! The way of a text to a writer.
 
-ghost use Rattle.std.specs.Prelude.{List, ℕ};
-ghost use Rattle.tsp_file.specs.Sink.{sink_of, Writes};
+ghost use Rattle.std.specs.Prelude.{◌≡◌, List, ℕ, true, false};
+ghost use Rattle.tsp_file.specs.Watched.{has_failed};
+ghost use Rattle.tsp_file.specs.Sink.{sink_of, HasWritten, HasStopped, Writes};
 
 use crate::watched::Watched;
 use std::io::Write;
@@ -18,6 +19,30 @@ pub enum WriteFault {
     OutOfMemory,
 }
 
+/// Sends a text to a writer that may take any part of it at once, and stops where the writer fails.
+///
+/// A writer that was handed in as failed gets nothing.
+pub(crate) fn send<W: Write>(out: &mut Watched<W>, text: &[u8])
+    ensures stopped { has_failed out.new ≡ true → HasStopped (sink_of W.contents out.old out.new) text.now }
+    ensures written { has_failed out.new ≡ false → HasWritten (sink_of W.contents out.old out.new) text.now }
+{
+    if out.failed() {
+        return;
+    }
+    let mut rest = text;
+    'parts: while !rest.is_empty() {
+        let count = match out.write(rest) {
+            Err(_) => return,
+            Ok(count) => count,
+        };
+        if count == 0 {
+            return;
+        }
+        let (_, left) = rest.split_at(count);
+        rest = left;
+    }
+}
+
 /// Writes a text to a writer that may take any part of it at once.
 ///
 /// At `Device` a front of the text was written, and nothing else; a writer that was handed in as
@@ -25,20 +50,10 @@ pub enum WriteFault {
 pub fn write_text<W: Write>(out: &mut Watched<W>, text: &[u8]) -> Result<(), WriteFault>
     ensures { Writes (sink_of W.contents out.old out.new) text.now result }
 {
+    send(out, text);
     if out.failed() {
-        return Err(WriteFault::Device);
+        Err(WriteFault::Device)
+    } else {
+        Ok(())
     }
-    let mut rest = text;
-    'parts: while !rest.is_empty() {
-        let count = match out.write(rest) {
-            Err(_) => return Err(WriteFault::Device),
-            Ok(count) => count,
-        };
-        if count == 0 {
-            return Err(WriteFault::Device);
-        }
-        let (_, left) = rest.split_at(count);
-        rest = left;
-    }
-    Ok(())
 }

@@ -1,7 +1,7 @@
 use Rattle.std.proofs.Common.{◌≡◌, ◌+◌, drop, ap, ◌∙◌}
 use Rattle.std.proofs.lemmas.List.{drop-drop}
 use Rattle.tsp_file.proofs.Sinks.{front_more, still_sound}
-use Rattle.tsp_file.proofs.output.write_text.Goals as goal
+use Rattle.tsp_file.proofs.output.send.Goals as goal
 
 pub parts-preserved : goal.parts-preserved
 parts-preserved g c = (still_sound _ _ _ c.in-Ok.count c.if-count-eq0.false c.parts.invariant.0 c.in-Ok.ensures.failed, c.parts.invariant.1 + c.in-Ok.count,

@@ -1,0 +1,4 @@
+//! The canonical text of a file, and its way to a writer.
+
+mod keywords;
+mod piece;
