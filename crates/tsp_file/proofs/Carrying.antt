@@ -1,7 +1,10 @@
 -- The way of a text, one part after the other.
-use Rattle.std.proofs.Common.{◌≡◌, ℕ, ◌+◌, Bool, true, false, List, [], ◌∷◌, ◌++◌, length, take, drop, Option, None, Some, refl, sym, ap, subst, ◌∙◌, append_assoc, append-nil, arith}
+use Rattle.std.proofs.Common.{◌≡◌, ℕ, ◌+◌, Bool, true, false, List, [], ◌∷◌, ◌++◌, length, take, drop, Option, None, Some, refl, sym, ap, subst, ◌∙◌, append_assoc, append-nil, arith, ◌<◌, ◌≤◌, get_or, map, suc, zero}
 use Rattle.std.specs.Io.KnownBytes.{Appends, Keeps}
-use Rattle.std.proofs.lemmas.List.{take-append-drop}
+use Rattle.std.proofs.lemmas.List.{take-append-drop, take_all, take_more}
+use Rattle.std.proofs.lemmas.Grind.{flat_map-append}
+use Rattle.std.proofs.lemmas.List.FromFn.{length-enumerate_from, get_or-enumerate_from}
+use Rattle.std.specs.List.{flat_map, enumerate_from}
 use Rattle.tsp_file.specs.Sink.{HasWritten, HasStopped, Sink}
 use Rattle.tsp_file.specs.Way.{Way, Carries, Carried}
 use Rattle.tsp_file.proofs.Sinks.{appends_more}
@@ -79,3 +82,48 @@ carried_sent a b bytes added stopped written whole empty start text h = by_faile
           written = appends_more start a.held b.held h.front bytes h.written done.2;
           waits = λ sound. sym empty;
         }
+
+-- ---- one part for each element of a list
+
+flat_map-map : {X Y : Type 0} (f : Y → List ℕ) (g : X → Y) (xs : List X) → flat_map f (map g xs) ≡ flat_map (λ x. f (g x)) xs
+flat_map-map f g [] = refl
+flat_map-map f g (x ∷ xs) = ap (λ t. f (g x) ++ t) (flat_map-map f g xs)
+
+-- the part of the next element
+pub carried_next : {X : Type 0} (f : X → List ℕ) (xs : List X) (i : ℕ) (x : X) (a b c : Way) → i < length xs → x ≡ get_or xs i x
+    → Carried a b (flat_map f (take i xs)) → Carried b c (f x) → Carried a c (flat_map f (take (i + 1) xs))
+carried_next f xs i x a b c lt is h k =
+    let more : take (i + 1) xs ≡ take i xs ++ x ∷ [] = take_more xs i x lt ∙ ap (λ y. take i xs ++ y ∷ []) (sym is) in
+    let text : flat_map f (take (i + 1) xs) ≡ flat_map f (take i xs) ++ f x =
+    ap (flat_map f) more ∙ flat_map-append f (take i xs) (x ∷ []) ∙ ap (λ t. flat_map f (take i xs) ++ t) (append-nil (f x)) in
+    subst (λ t. Carried a c t) (sym text) (carried_then a b c (flat_map f (take i xs)) (f x) h k)
+
+-- the parts of all elements
+pub carried_all : {X : Type 0} (f : X → List ℕ) (xs : List X) (i : ℕ) (a b : Way) → length xs ≤ i → Carried a b (flat_map f (take i xs)) → Carried a b (flat_map f xs)
+carried_all f xs i a b all h = subst (λ ys. Carried a b (flat_map f ys)) (take_all i xs all) h
+
+-- the same where the elements are seen by g
+pub carried_mapped : {X Y : Type 0} (f : Y → List ℕ) (g : X → Y) (xs : List X) (i : ℕ) (a b : Way) → length xs ≤ i
+    → Carried a b (flat_map (λ x. f (g x)) (take i xs)) → Carried a b (flat_map f (map g xs))
+carried_mapped f g xs i a b all h = subst (λ t. Carried a b t) (sym (flat_map-map f g xs)) (carried_all (λ x. f (g x)) xs i a b all h)
+
+-- the part of the next node
+pub carried_node : {X : Type 0} (f : ℕ × X → List ℕ) (xs : List X) (i : ℕ) (x : X) (a b c : Way) → i < length xs → x ≡ get_or xs i x
+    → Carried a b (flat_map f (take i (enumerate_from 1 xs))) → Carried b c (f (i + 1, x)) → Carried a c (flat_map f (take (i + 1) (enumerate_from 1 xs)))
+carried_node {X} f xs i x a b c lt is h k =
+    let number : 1 + i ≡ i + 1 = omega arith in
+    let entry : (i + 1, x) ≡ get_or (enumerate_from 1 xs) i (i + 1, x) =
+    ap {B = ℕ × X} (λ y. (i + 1, y)) is ∙ ap {B = ℕ × X} (λ n. (n, get_or xs i x)) (sym number) ∙ sym (get_or-enumerate_from 1 xs i (i + 1, x) lt) in
+    carried_next f (enumerate_from 1 xs) i (i + 1, x) a b c (omega (arith, length-enumerate_from 1 xs)) entry h k
+
+pub carried_nodes : {X : Type 0} (f : ℕ × X → List ℕ) (xs : List X) (i : ℕ) (a b : Way) → length xs ≤ i
+    → Carried a b (flat_map f (take i (enumerate_from 1 xs))) → Carried a b (flat_map f (enumerate_from 1 xs))
+carried_nodes f xs i a b all h = carried_all f (enumerate_from 1 xs) i a b (omega (arith, length-enumerate_from 1 xs)) h
+
+-- ---- the end
+
+-- Where the text began at a sound writer with no piece, and no piece is left, it was written or the writer stopped.
+pub all_stopped : (a b : Way) (text : List ℕ) → a.failed ≡ false → Carried a b text → b.failed ≡ true → HasStopped (between a b) text
+all_stopped a b text sound h failed =
+    let done = h a.held [] (record { front = []; rest = []; parts = refl; written = appends_none a.held; waits = λ s. ? }) in
+    (failed, λ had. absurd (cc), length done.front, ?)

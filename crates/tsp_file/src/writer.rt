@@ -2,3 +2,4 @@
 
 mod keywords;
 mod piece;
+mod sections;

@@ -4,15 +4,67 @@ ghost use Rattle.std.specs.Prelude.{◌≡◌, ℕ, List, [], ◌∷◌, map};
 ghost use Rattle.std.specs.List.{flat_map};
 ghost use Rattle.std.specs.Fmt.{decimal, signed_decimal};
 ghost use Rattle.std.specs.Option.{option_map};
-ghost use Rattle.tsp_file.specs.Words.{field_word};
-ghost use Rattle.tsp_file.specs.Text.{value_line, keyword_line, optional};
+ghost use Rattle.tsp_file.specs.Words.{kind_word, weight_kind_word, weight_format_word, coord_kind_word, display_kind_word};
+ghost use Rattle.tsp_file.specs.Text.{value_line, keyword_line, optional, joined, keyword_texts};
+ghost use Rattle.tsp_file.specs.Fields.{fields_of};
 ghost use Rattle.tsp_file.specs.Way.{way_of, Carried};
 
 use crate::field::Field;
+use crate::draft::Draft;
+use crate::kinds::{CoordKind, DisplayKind, Kind, WeightFormat, WeightKind};
 use crate::watched::Watched;
 use crate::writer::piece::{Piece, put};
 use itoa::{Buffer, Integer};
 use std::io::Write;
+
+/// A value that has a TSPLIB word.
+trait Word: Copy {
+    ghost text: { Self → List ℕ };
+
+    /// The TSPLIB word.
+    fn text(self) -> &'static str
+        ensures { result.now ≡ text self };
+}
+
+impl Word for Kind {
+    ghost text = { kind_word };
+
+    fn text(self) -> &'static str {
+        self.word()
+    }
+}
+
+impl Word for WeightKind {
+    ghost text = { weight_kind_word };
+
+    fn text(self) -> &'static str {
+        self.word()
+    }
+}
+
+impl Word for WeightFormat {
+    ghost text = { weight_format_word };
+
+    fn text(self) -> &'static str {
+        self.word()
+    }
+}
+
+impl Word for CoordKind {
+    ghost text = { coord_kind_word };
+
+    fn text(self) -> &'static str {
+        self.word()
+    }
+}
+
+impl Word for DisplayKind {
+    ghost text = { display_kind_word };
+
+    fn text(self) -> &'static str {
+        self.word()
+    }
+}
 
 /// Adds the line of a keyword and its value.
 fn put_value<W: Write>(piece: &mut Piece, out: &mut Watched<W>, keyword: &[u8], value: &[u8])
@@ -28,12 +80,12 @@ fn put_value<W: Write>(piece: &mut Piece, out: &mut Watched<W>, keyword: &[u8], 
 }
 
 /// Adds the line of a keyword whose value is a word, where the file has one.
-fn put_word<W: Write>(piece: &mut Piece, out: &mut Watched<W>, field: Field, value: Option<&str>)
+fn put_word<W: Write, V: Word>(piece: &mut Piece, out: &mut Watched<W>, field: Field, value: Option<V>)
     ensures { Carried (way_of W.contents out.old piece.old.items) (way_of W.contents out.new piece.new.items)
-        (optional (λ word. keyword_line field word) (option_map (λ word. word.now) value)) }
+        (optional (λ value. keyword_line field (V.text value)) value) }
 {
-    if let Some(word) = value {
-        put_value(piece, out, field.word().as_bytes(), word.as_bytes());
+    if let Some(value) = value {
+        put_value(piece, out, field.word().as_bytes(), value.text().as_bytes());
     }
 }
 
@@ -61,9 +113,37 @@ fn put_comments<W: Write>(piece: &mut Piece, out: &mut Watched<W>, comments: &[V
 /// Adds the lines of the unknown keywords.
 fn put_others<W: Write>(piece: &mut Piece, out: &mut Watched<W>, others: &[(Vec<u8>, Vec<u8>)])
     ensures { Carried (way_of W.contents out.old piece.old.items) (way_of W.contents out.new piece.new.items)
-        (flat_map (λ other. value_line other.0 other.1) (map (λ p. (p.0.items, p.1.items)) others.now)) }
+        (flat_map (λ (other : List ℕ × List ℕ). value_line other.0 other.1) (map (λ p. (p.0.items, p.1.items)) others.now)) }
 {
     for (keyword, value) in others {
         put_value(piece, out, keyword, value);
     }
+}
+
+/// Adds the line of NAME, where the file has one.
+fn put_name<W: Write>(piece: &mut Piece, out: &mut Watched<W>, name: &Option<Vec<u8>>)
+    ensures { Carried (way_of W.contents out.old piece.old.items) (way_of W.contents out.new piece.new.items)
+        (optional (keyword_line Field.NameKey) (option_map (λ v. v.items) name.now)) }
+{
+    if let Some(name) = name {
+        put_value(piece, out, Field::NameKey.word().as_bytes(), name);
+    }
+}
+
+/// Adds the keyword lines in canonical order.
+pub(crate) fn put_keywords<W: Write>(piece: &mut Piece, out: &mut Watched<W>, draft: &Draft)
+    ensures { Carried (way_of W.contents out.old piece.old.items) (way_of W.contents out.new piece.new.items)
+        (joined (keyword_texts (fields_of draft.now))) }
+{
+    put_name(piece, out, &draft.name);
+    put_word(piece, out, Field::TypeKey, draft.kind);
+    put_comments(piece, out, &draft.comments);
+    put_others(piece, out, &draft.others);
+    put_whole(piece, out, Field::DimensionKey, draft.dimension);
+    put_whole(piece, out, Field::CapacityKey, draft.capacity);
+    put_whole(piece, out, Field::ScaleKey, draft.scale);
+    put_word(piece, out, Field::EdgeWeightTypeKey, draft.weight_kind);
+    put_word(piece, out, Field::EdgeWeightFormatKey, draft.weight_format);
+    put_word(piece, out, Field::NodeCoordTypeKey, draft.coord_kind);
+    put_word(piece, out, Field::DisplayDataTypeKey, draft.display_kind);
 }
