@@ -1,7 +1,8 @@
 -- The way of a text, one part after the other.
 use Rattle.std.proofs.Common.{◌≡◌, ℕ, ◌+◌, Bool, true, false, List, [], ◌∷◌, ◌++◌, length, take, drop, Option, None, Some, refl, sym, ap, subst, ◌∙◌, append_assoc, append-nil, arith, ◌<◌, ◌≤◌, get_or, map, suc, zero}
 use Rattle.std.specs.Io.KnownBytes.{Appends, Keeps}
-use Rattle.std.proofs.lemmas.List.{take-append-drop, take_all, take_more}
+use Rattle.std.proofs.lemmas.List.{take-append-drop, take_all, take_more, get_or_default}
+use Rattle.std.proofs.Math.Seq.{take-append_seam}
 use Rattle.std.proofs.lemmas.Grind.{flat_map-append}
 use Rattle.std.proofs.lemmas.List.FromFn.{length-enumerate_from, get_or-enumerate_from}
 use Rattle.std.specs.List.{flat_map, enumerate_from}
@@ -98,6 +99,11 @@ carried_next f xs i x a b c lt is h k =
     ap (flat_map f) more ∙ flat_map-append f (take i xs) (x ∷ []) ∙ ap (λ t. flat_map f (take i xs) ++ t) (append-nil (f x)) in
     subst (λ t. Carried a c t) (sym text) (carried_then a b c (flat_map f (take i xs)) (f x) h k)
 
+-- the same where the element is read with another default
+pub carried_next_or : {X : Type 0} (f : X → List ℕ) (xs : List X) (i : ℕ) (d : X) (a b c : Way) → i < length xs
+    → Carried a b (flat_map f (take i xs)) → Carried b c (f (get_or xs i d)) → Carried a c (flat_map f (take (i + 1) xs))
+carried_next_or f xs i d a b c lt h k = carried_next f xs i (get_or xs i d) a b c lt (get_or_default xs i d (get_or xs i d) lt) h k
+
 -- the parts of all elements
 pub carried_all : {X : Type 0} (f : X → List ℕ) (xs : List X) (i : ℕ) (a b : Way) → length xs ≤ i → Carried a b (flat_map f (take i xs)) → Carried a b (flat_map f xs)
 carried_all f xs i a b all h = subst (λ ys. Carried a b (flat_map f ys)) (take_all i xs all) h
@@ -120,10 +126,27 @@ pub carried_nodes : {X : Type 0} (f : ℕ × X → List ℕ) (xs : List X) (i : 
     → Carried a b (flat_map f (take i (enumerate_from 1 xs))) → Carried a b (flat_map f (enumerate_from 1 xs))
 carried_nodes f xs i a b all h = carried_all f (enumerate_from 1 xs) i a b (omega (arith, length-enumerate_from 1 xs)) h
 
+-- the same where the entry is read with another default
+pub carried_node_or : {X : Type 0} (f : ℕ × X → List ℕ) (xs : List X) (i : ℕ) (d : X) (a b c : Way) → i < length xs
+    → Carried a b (flat_map f (take i (enumerate_from 1 xs))) → Carried b c (f (i + 1, get_or xs i d)) → Carried a c (flat_map f (take (i + 1) (enumerate_from 1 xs)))
+carried_node_or f xs i d a b c lt h k = carried_node f xs i (get_or xs i d) a b c lt (get_or_default xs i d (get_or xs i d) lt) h k
+
 -- ---- the end
 
--- Where the text began at a sound writer with no piece, and no piece is left, it was written or the writer stopped.
-pub all_stopped : (a b : Way) (text : List ℕ) → a.failed ≡ false → Carried a b text → b.failed ≡ true → HasStopped (between a b) text
-all_stopped a b text sound h failed =
-    let done = h a.held [] (record { front = []; rest = []; parts = refl; written = appends_none a.held; waits = λ s. ? }) in
-    (failed, λ had. absurd (cc), length done.front, ?)
+-- the text begins
+begun : (a : Way) → a.piece ≡ [] → Carries a.held a []
+begun a empty = record { front = []; rest = []; parts = refl; written = appends_none a.held; waits = λ sound. sym empty }
+
+-- A text began with no piece, and the writer failed.
+pub text_stopped : (a b : Way) (text : List ℕ) → a.piece ≡ [] → a.failed ≡ false → Carried a b text → b.failed ≡ true → HasStopped (between a b) text
+text_stopped a b text empty sound h failed =
+    let done : Carries a.held b text = h a.held [] (begun a empty) in
+    let front : take (length done.front) text ≡ done.front = ap (λ (t : List ℕ). take (length done.front) t) (sym done.parts) ∙ take-append_seam done.front done.rest in
+    (failed, (λ had. absurd (cc)), (length done.front, subst (λ t. Appends a.held b.held t) (sym front) done.written))
+
+-- A text began with no piece, no piece is left, and the writer hasn't failed.
+pub text_written : (a b : Way) (text : List ℕ) → a.piece ≡ [] → a.failed ≡ false → Carried a b text → b.piece ≡ [] → b.failed ≡ false → HasWritten (between a b) text
+text_written a b text empty sound h left failed =
+    let done : Carries a.held b text = h a.held [] (begun a empty) in
+    let whole : done.front ≡ text = sym (append-nil done.front) ∙ ap (λ (t : List ℕ). done.front ++ t) (sym (done.waits failed ∙ left)) ∙ done.parts in
+    (sound, failed, subst (λ t. Appends a.held b.held t) whole done.written)

@@ -4,3 +4,4 @@ pub mod Lines
 pub mod Counts
 pub mod Pairs
 pub mod Carrying
+pub mod Matrices

@@ -4,16 +4,19 @@ ghost use Rattle.std.specs.Prelude.{◌≡◌, ℕ, ◌+◌, ◌<◌, ◌^◌, L
 ghost use Rattle.std.specs.List.{flat_map};
 ghost use Rattle.std.specs.Fmt.{decimal, signed_decimal};
 ghost use Rattle.std.specs.Option.{option_map};
+ghost use Rattle.tsp_number.specs.Spelling.{spelling};
 ghost use Rattle.tsp_file.specs.Words.{field_word};
 ghost use Rattle.tsp_file.specs.Text.{line_end, number_line, section, by_node, node_list, pair_list, point_numbers, whole_number, optional, joined, section_texts};
 ghost use Rattle.tsp_file.specs.Fields.{fields_of};
 ghost use Rattle.tsp_file.specs.Way.{way_of, Carried};
 
+use crate::draft::Draft;
 use crate::field::Field;
 use crate::watched::Watched;
-use crate::writer::piece::{Piece, put, put_number};
+use crate::writer::matrix::put_weight_section;
+use crate::writer::piece::{Piece, put, put_next_number, put_number};
 use std::io::Write;
-use tsp_number::{Point, write_decimal};
+use tsp_number::{Decimal, Point, write_decimal};
 
 /// Adds the line that opens a section.
 pub(crate) fn put_opening<W: Write>(piece: &mut Piece, out: &mut Watched<W>, field: Field)
@@ -29,9 +32,16 @@ fn put_number_line<W: Write>(piece: &mut Piece, out: &mut Watched<W>, node: usiz
         (number_line (decimal node) (whole_number number)) }
 {
     put_number(piece, out, node);
-    put(piece, out, b" ");
-    put_number(piece, out, number);
+    put_next_number(piece, out, number);
     put(piece, out, b"\n");
+}
+
+/// Adds a blank and a coordinate.
+fn put_coordinate<W: Write>(piece: &mut Piece, out: &mut Watched<W>, coordinate: Decimal)
+    ensures { Carried (way_of W.contents out.old piece.old.items) (way_of W.contents out.new piece.new.items) (32 ∷ spelling coordinate) }
+{
+    put(piece, out, b" ");
+    put(piece, out, write_decimal(coordinate).as_slice());
 }
 
 /// Adds the line of a node and its coordinates.
@@ -40,10 +50,8 @@ fn put_point_line<W: Write>(piece: &mut Piece, out: &mut Watched<W>, node: usize
         (number_line (decimal node) (point_numbers point)) }
 {
     put_number(piece, out, node);
-    put(piece, out, b" ");
-    put(piece, out, write_decimal(point.x).as_slice());
-    put(piece, out, b" ");
-    put(piece, out, write_decimal(point.y).as_slice());
+    put_coordinate(piece, out, point.x);
+    put_coordinate(piece, out, point.y);
     put(piece, out, b"\n");
 }
 
@@ -62,8 +70,7 @@ fn put_pair_line<W: Write>(piece: &mut Piece, out: &mut Watched<W>, first: u32, 
         (number_line (decimal first) (decimal second ∷ [])) }
 {
     put_number(piece, out, first);
-    put(piece, out, b" ");
-    put_number(piece, out, second);
+    put_next_number(piece, out, second);
     put(piece, out, b"\n");
 }
 
@@ -115,4 +122,76 @@ fn put_tours<W: Write>(piece: &mut Piece, out: &mut Watched<W>, tours: &[Vec<u32
     'tours: for tour in tours {
         put_nodes(piece, out, tour);
     }
+}
+
+/// Adds a section of one number for each node, where the file has it.
+fn put_number_section<W: Write>(piece: &mut Piece, out: &mut Watched<W>, field: Field, numbers: &Option<Vec<i64>>)
+    ensures { Carried (way_of W.contents out.old piece.old.items) (way_of W.contents out.new piece.new.items)
+        (optional (λ numbers. section field (by_node whole_number numbers)) (option_map (λ v. v.items) numbers.now)) }
+{
+    if let Some(numbers) = numbers {
+        put_opening(piece, out, field);
+        put_numbers(piece, out, numbers);
+    }
+}
+
+/// Adds a section of coordinates, where the file has it.
+fn put_point_section<W: Write>(piece: &mut Piece, out: &mut Watched<W>, field: Field, points: &Option<Vec<Point>>)
+    ensures { Carried (way_of W.contents out.old piece.old.items) (way_of W.contents out.new piece.new.items)
+        (optional (λ points. section field (by_node point_numbers points)) (option_map (λ v. v.items) points.now)) }
+{
+    if let Some(points) = points {
+        put_opening(piece, out, field);
+        put_points(piece, out, points);
+    }
+}
+
+/// Adds DEPOT_SECTION, where the file has it.
+fn put_depots<W: Write>(piece: &mut Piece, out: &mut Watched<W>, depots: &Option<Vec<u32>>)
+    ensures { Carried (way_of W.contents out.old piece.old.items) (way_of W.contents out.new piece.new.items)
+        (optional (λ depots. section Field.DepotPart (node_list depots)) (option_map (λ v. v.items) depots.now)) }
+{
+    if let Some(depots) = depots {
+        put_opening(piece, out, Field::DepotPart);
+        put_nodes(piece, out, depots);
+    }
+}
+
+/// Adds FIXED_EDGES_SECTION, where the file has it.
+fn put_fixed<W: Write>(piece: &mut Piece, out: &mut Watched<W>, pairs: &Option<Vec<(u32, u32)>>)
+    ensures { Carried (way_of W.contents out.old piece.old.items) (way_of W.contents out.new piece.new.items)
+        (optional (λ pairs. section Field.FixedEdgesPart (pair_list pairs)) (option_map (λ v. v.items) pairs.now)) }
+{
+    if let Some(pairs) = pairs {
+        put_opening(piece, out, Field::FixedEdgesPart);
+        put_pairs(piece, out, pairs);
+    }
+}
+
+/// Adds TOUR_SECTION, where the file has it.
+fn put_tour_section<W: Write>(piece: &mut Piece, out: &mut Watched<W>, tours: &Option<Vec<Vec<u32>>>)
+    ensures { Carried (way_of W.contents out.old piece.old.items) (way_of W.contents out.new piece.new.items)
+        (optional (λ tours. section Field.TourPart (flat_map node_list tours)) (option_map (λ v. map (λ t. t.items) v.items) tours.now)) }
+{
+    if let Some(tours) = tours {
+        put_opening(piece, out, Field::TourPart);
+        put_tours(piece, out, tours);
+    }
+}
+
+/// Adds the sections in canonical order.
+pub(crate) fn put_sections<W: Write>(piece: &mut Piece, out: &mut Watched<W>, draft: &Draft)
+    ensures { Carried (way_of W.contents out.old piece.old.items) (way_of W.contents out.new piece.new.items)
+        (joined (section_texts (fields_of draft.now))) }
+{
+    put_point_section(piece, out, Field::NodeCoordPart, &draft.coords);
+    put_point_section(piece, out, Field::DisplayDataPart, &draft.display);
+    put_number_section(piece, out, Field::DemandPart, &draft.demands);
+    put_depots(piece, out, &draft.depots);
+    put_fixed(piece, out, &draft.fixed);
+    put_weight_section(piece, out, draft.weight_format, draft.dimension, &draft.weights);
+    put_tour_section(piece, out, &draft.tours);
+    put_number_section(piece, out, Field::NodePotentialPart, &draft.node_potentials);
+    put_number_section(piece, out, Field::RowPotentialPart, &draft.row_potentials);
+    put_number_section(piece, out, Field::ColumnPotentialPart, &draft.column_potentials);
 }

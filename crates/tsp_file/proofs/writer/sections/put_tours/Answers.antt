@@ -1,0 +1,9 @@
+use Rattle.std.proofs.Common.{List, ℕ, arith}
+use Rattle.tsp_file.specs.Text.{node_list}
+use Rattle.tsp_file.specs.Way.{way_of}
+use Rattle.tsp_file.proofs.Carrying.{carried_mapped}
+use Rattle.tsp_file.proofs.writer.sections.put_tours.Goals as goal
+
+pub returns : goal.returns
+returns g c = carried_mapped node_list (λ t. t.items) c.args.tours.now c.tours.tour-index
+    (way_of g.W.Write.contents c.args.out.now c.args.piece.now.items) (way_of g.W.Write.contents c.tours.out c.tours.piece.items) (omega arith) c.tours.invariant
