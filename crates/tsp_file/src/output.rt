@@ -51,9 +51,8 @@ pub fn write_text<W: Write>(out: &mut Watched<W>, text: &[u8]) -> Result<(), Wri
     ensures { Writes (sink_of W.contents out.old out.new) text.now result }
 {
     send(out, text);
-    if out.failed() {
-        Err(WriteFault::Device)
-    } else {
-        Ok(())
+    if !out.failed() {
+        return Ok(());
     }
+    Err(WriteFault::Device)
 }

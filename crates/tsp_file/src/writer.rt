@@ -38,3 +38,6 @@ pub(crate) fn write_draft<W: Write>(draft: &Draft, out: &mut Watched<W>) -> Resu
         Ok(())
     }
 }
+
+#[cfg(test)]
+mod tests;

@@ -1,0 +1,291 @@
+//! What no contract says: whole texts by hand, and writers that take little, or fail.
+
+use super::write_draft;
+use crate::draft::Draft;
+use crate::kinds::{CoordKind, DisplayKind, Kind, WeightFormat, WeightKind};
+use crate::layout::Layout;
+use crate::output::WriteFault;
+use crate::watched::Watched;
+use std::alloc::{AllocError, Global};
+use std::io;
+use std::io::{ErrorKind, Write};
+use std::test::Fail;
+use tsp_number::{Decimal, Point};
+
+/// A call that never comes.
+const NEVER: usize = usize::MAX;
+
+/// A writer that takes a few bytes a call, and refuses at one call and from then on.
+#[derive(Drop)]
+struct Drip {
+    held: Vec<u8>,
+    most: usize,
+    calls: usize,
+    fails_at: usize,
+    takes_nothing: bool,
+}
+
+impl Drip {
+    /// A writer that takes so many bytes a call, and whose call `fails_at`, counted from 0, fails.
+    fn new(alloc: Global, most: usize, fails_at: usize) -> Drip {
+        Drip {
+            held: Vec::new(alloc),
+            most,
+            calls: 0,
+            fails_at,
+            takes_nothing: false,
+        }
+    }
+}
+
+impl Write for Drip {
+    fn write(&mut self, buf: &[u8]) -> io::Result<usize> {
+        let call = self.calls;
+        self.calls = call.saturating_add(1);
+        if call >= self.fails_at {
+            if self.takes_nothing {
+                return Ok(0);
+            }
+            return Err(io::Error::from(ErrorKind::Other));
+        }
+        let room = buf.len().min(self.most);
+        self.held.extend_from_slice(&buf[..room])?;
+        Ok(room)
+    }
+
+    fn flush(&mut self) -> io::Result<()> {
+        Ok(())
+    }
+}
+
+/// A draft that holds nothing.
+fn blank(alloc: Global) -> Draft {
+    Draft {
+        name: None,
+        kind: None,
+        comments: Vec::new(alloc),
+        others: Vec::new(alloc),
+        dimension: None,
+        capacity: None,
+        scale: None,
+        weight_kind: None,
+        weight_format: None,
+        coord_kind: None,
+        display_kind: None,
+        coords: None,
+        display: None,
+        demands: None,
+        depots: None,
+        fixed: None,
+        weights: None,
+        tours: None,
+        node_potentials: None,
+        row_potentials: None,
+        column_potentials: None,
+    }
+}
+
+/// The text of a draft.
+fn text(alloc: Global, draft: &Draft) -> Vec<u8> {
+    let mut out = Watched::new(Drip::new(alloc, NEVER, NEVER));
+    let _ = write_draft(draft, &mut out);
+    let Drip { held, .. } = out.into_inner();
+    held
+}
+
+/// The name `a`, an empty comment, and the tours 1, 2 and 3.
+fn two_tours(alloc: Global) -> Result<Draft, Fail> {
+    let mut draft = blank(alloc);
+    draft.name = Some(Vec::from_slice(alloc, b"a")?);
+    draft.kind = Some(Kind::Tour);
+    draft.comments.push(Vec::new(alloc))?;
+    let mut tours = Vec::new(alloc);
+    tours.push(Vec::from_slice(alloc, &[1u32, 2])?)?;
+    tours.push(Vec::from_slice(alloc, &[3u32])?)?;
+    draft.tours = Some(tours);
+    Ok(draft)
+}
+
+/// The text of `two_tours`.
+const TWO_TOURS: &[u8] = b"NAME : a\nTYPE : TOUR\nCOMMENT :\nTOUR_SECTION\n1\n2\n-1\n3\n-1\nEOF\n";
+
+/// A matrix of four nodes under a layout, with the weights from 1 on.
+fn four_nodes(alloc: Global, layout: Layout, count: u8) -> Result<Draft, AllocError> {
+    let mut draft = blank(alloc);
+    draft.dimension = Some(4);
+    draft.weight_format = Some(WeightFormat::Listed(layout));
+    let mut weights = Vec::new(alloc);
+    for weight in 0..count {
+        weights.push(i64::from(weight) + 1)?;
+    }
+    draft.weights = Some(weights);
+    Ok(draft)
+}
+
+/// A point with whole and half coordinates: counts of halves.
+fn point(x: i64, y: i64) -> Option<Point> {
+    let x = Decimal::of_count(i128::from(x) * 500_000_000)?;
+    let y = Decimal::of_count(i128::from(y) * 500_000_000)?;
+    Some(Point { x, y })
+}
+
+#[test]
+fn nothing_is_the_end_line(rt: HostRuntime) {
+    assert_eq!(rt; text(rt.alloc(), &blank(rt.alloc())).as_slice(), b"EOF\n".as_slice());
+}
+
+#[test]
+fn an_empty_value_has_no_blank(rt: HostRuntime) -> Result<(), Fail> {
+    let draft = two_tours(rt.alloc())?;
+    assert_eq!(rt; text(rt.alloc(), &draft).as_slice(), TWO_TOURS);
+    Ok(())
+}
+
+#[test]
+fn a_section_may_have_no_lines(rt: HostRuntime) {
+    let mut draft = blank(rt.alloc());
+    draft.kind = Some(Kind::Tsp);
+    draft.dimension = Some(1);
+    draft.weight_kind = Some(WeightKind::Explicit);
+    draft.weight_format = Some(WeightFormat::Listed(Layout::UpperRow));
+    draft.weights = Some(Vec::new(rt.alloc()));
+    let wanted = b"TYPE : TSP\nDIMENSION : 1\nEDGE_WEIGHT_TYPE : EXPLICIT\nEDGE_WEIGHT_FORMAT : UPPER_ROW\nEDGE_WEIGHT_SECTION\nEOF\n".as_slice();
+    assert_eq!(rt; text(rt.alloc(), &draft).as_slice(), wanted);
+}
+
+#[test]
+fn each_row_or_column_with_cells_has_a_line(rt: HostRuntime) -> Result<(), Fail> {
+    let falling = b"1 2 3\n4 5\n6\nEOF\n".as_slice();
+    let rising = b"1\n2 3\n4 5 6\nEOF\n".as_slice();
+    let falling_diag = b"1 2 3 4\n5 6 7\n8 9\n10\nEOF\n".as_slice();
+    let rising_diag = b"1\n2 3\n4 5 6\n7 8 9 10\nEOF\n".as_slice();
+    let full = b"1 2 3 4\n5 6 7 8\n9 10 11 12\n13 14 15 16\nEOF\n".as_slice();
+    let rows = [
+        (Layout::FullMatrix, 16u8, full),
+        (Layout::UpperRow, 6, falling),
+        (Layout::LowerRow, 6, rising),
+        (Layout::UpperDiagRow, 10, falling_diag),
+        (Layout::LowerDiagRow, 10, rising_diag),
+        (Layout::UpperCol, 6, rising),
+        (Layout::LowerCol, 6, falling),
+        (Layout::UpperDiagCol, 10, rising_diag),
+        (Layout::LowerDiagCol, 10, falling_diag),
+    ];
+    for (layout, count, wanted) in rows {
+        let draft = four_nodes(rt.alloc(), layout, count)?;
+        let written = text(rt.alloc(), &draft);
+        assert!(rt; written.as_slice().ends_with(wanted), "{layout:?}");
+    }
+    Ok(())
+}
+
+/// The rectangle with the corners (0, 0) and (1.5, 2), with every field set.
+fn rectangle(alloc: Global) -> Result<Draft, Fail> {
+    let mut draft = two_tours(alloc)?;
+    draft.kind = Some(Kind::Cvrp);
+    let other = (
+        Vec::from_slice(alloc, b"DISTANCE")?,
+        Vec::from_slice(alloc, b"9")?,
+    );
+    draft.others.push(other)?;
+    draft.dimension = Some(2);
+    draft.capacity = Some(10);
+    draft.scale = Some(7);
+    draft.weight_kind = Some(WeightKind::Euc2d);
+    draft.weight_format = Some(WeightFormat::Listed(Layout::FullMatrix));
+    draft.coord_kind = Some(CoordKind::TwoD);
+    draft.display_kind = Some(DisplayKind::NoDisplay);
+    let corners = [point(0, 0).ok_or("point")?, point(3, -4).ok_or("point")?];
+    draft.coords = Some(Vec::from_slice(alloc, &corners)?);
+    draft.display = Some(Vec::from_slice(alloc, &corners)?);
+    draft.demands = Some(Vec::from_slice(alloc, &[0i64, 5])?);
+    draft.depots = Some(Vec::from_slice(alloc, &[1u32])?);
+    draft.fixed = Some(Vec::from_slice(alloc, &[(1u32, 2u32)])?);
+    draft.weights = Some(Vec::from_slice(alloc, &[0i64, -1, 1_000_000_000_000, 0])?);
+    draft.node_potentials = Some(Vec::from_slice(alloc, &[3i64, -3])?);
+    draft.row_potentials = Some(Vec::from_slice(alloc, &[4i64, -4])?);
+    draft.column_potentials = Some(Vec::from_slice(alloc, &[5i64, -5])?);
+    Ok(draft)
+}
+
+/// The text of `rectangle`.
+const RECTANGLE: &[u8] = b"NAME : a\nTYPE : CVRP\nCOMMENT :\nDISTANCE : 9\nDIMENSION : 2\nCAPACITY : 10\nSCALE : 7\nEDGE_WEIGHT_TYPE : EUC_2D\nEDGE_WEIGHT_FORMAT : FULL_MATRIX\nNODE_COORD_TYPE : TWOD_COORDS\nDISPLAY_DATA_TYPE : NO_DISPLAY\nNODE_COORD_SECTION\n1 0 0\n2 1.5 -2\nDISPLAY_DATA_SECTION\n1 0 0\n2 1.5 -2\nDEMAND_SECTION\n1 0\n2 5\nDEPOT_SECTION\n1\n-1\nFIXED_EDGES_SECTION\n1 2\n-1\nEDGE_WEIGHT_SECTION\n0 -1\n1000000000000 0\nTOUR_SECTION\n1\n2\n-1\n3\n-1\nNODE_POTENTIAL_SECTION\n1 3\n2 -3\nROW_POTENTIAL_SECTION\n1 4\n2 -4\nCOLUMN_POTENTIAL_SECTION\n1 5\n2 -5\nEOF\n";
+
+#[test]
+fn every_field_stands_once_in_canonical_order(rt: HostRuntime) -> Result<(), Fail> {
+    let draft = rectangle(rt.alloc())?;
+    assert_eq!(rt; text(rt.alloc(), &draft).as_slice(), RECTANGLE);
+    Ok(())
+}
+
+#[test]
+fn weights_without_a_layout_stand_in_one_line(rt: HostRuntime) -> Result<(), Fail> {
+    let mut draft = four_nodes(rt.alloc(), Layout::UpperRow, 8)?;
+    assert!(rt; text(rt.alloc(), &draft).as_slice().ends_with(b"_SECTION\n1 2 3\n4 5\n6\n7 8\nEOF\n"));
+    draft.weight_format = Some(WeightFormat::ByFunction);
+    assert!(rt; text(rt.alloc(), &draft).as_slice().ends_with(b"_SECTION\n1 2 3 4 5 6 7 8\nEOF\n"));
+    Ok(())
+}
+
+#[test]
+fn one_byte_a_call_gets_the_whole_text(rt: HostRuntime) -> Result<(), Fail> {
+    let draft = rectangle(rt.alloc())?;
+    let mut out = Watched::new(Drip::new(rt.alloc(), 1, NEVER));
+    assert_eq!(rt; write_draft(&draft, &mut out), Ok(()));
+    assert!(rt; !out.failed());
+    assert_eq!(rt; out.into_inner().held.as_slice(), RECTANGLE);
+    Ok(())
+}
+
+#[test]
+fn a_failure_leaves_a_front(rt: HostRuntime) -> Result<(), Fail> {
+    let draft = two_tours(rt.alloc())?;
+    for takes_nothing in [false, true] {
+        for fails_at in 0..TWO_TOURS.len() {
+            let mut drip = Drip::new(rt.alloc(), 1, fails_at);
+            drip.takes_nothing = takes_nothing;
+            let mut out = Watched::new(drip);
+            assert_eq!(rt; write_draft(&draft, &mut out), Err(WriteFault::Device));
+            assert!(rt; out.failed());
+            let drip = out.into_inner();
+            assert_eq!(rt; drip.held.as_slice(), &TWO_TOURS[..fails_at]);
+            assert_eq!(rt; drip.calls, fails_at + 1, "it is not written again");
+        }
+    }
+    Ok(())
+}
+
+#[test]
+fn a_failed_writer_gets_nothing(rt: HostRuntime) -> Result<(), Fail> {
+    let draft = two_tours(rt.alloc())?;
+    let mut out = Watched::new(Drip::new(rt.alloc(), 1, 0));
+    let _ = out.write(b"x");
+    assert_eq!(rt; write_draft(&draft, &mut out), Err(WriteFault::Device));
+    assert_eq!(rt; out.into_inner().calls, 1);
+    Ok(())
+}
+
+#[test]
+fn long_texts_go_in_pieces(rt: HostRuntime) -> Result<(), Fail> {
+    let mut draft = blank(rt.alloc());
+    let mut long = Vec::new(rt.alloc());
+    for _ in 0..5_000u32 {
+        long.push(b'x')?;
+    }
+    for _ in 0..3u8 {
+        draft.comments.push(Vec::from_slice(rt.alloc(), long.as_slice())?)?;
+    }
+    let mut wanted = Vec::new(rt.alloc());
+    for _ in 0..3u8 {
+        wanted.extend_from_slice(b"COMMENT : ")?;
+        wanted.extend_from_slice(long.as_slice())?;
+        wanted.extend_from_slice(b"\n")?;
+    }
+    wanted.extend_from_slice(b"EOF\n")?;
+    let mut out = Watched::new(Drip::new(rt.alloc(), NEVER, NEVER));
+    assert_eq!(rt; write_draft(&draft, &mut out), Ok(()));
+    let drip = out.into_inner();
+    assert_eq!(rt; drip.held.as_slice(), wanted.as_slice());
+    assert_eq!(rt; drip.calls, 7);
+    Ok(())
+}
