@@ -6,6 +6,7 @@ mod field;
 mod kinds;
 mod limits;
 mod output;
+mod validity;
 mod watched;
 
 pub use draft::Draft;
