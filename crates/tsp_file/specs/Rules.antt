@@ -1,5 +1,5 @@
 -- What the fields of a file have to be together, and the first fault of a draft.
-use Rattle.std.specs.Prelude.{ℕ, Bool, true, false, cond, not, ◌&&◌, ◌||◌, ◌==◌, List, [], ◌∷◌, length, Option, None, Some, ℤ, is_some}
+use Rattle.std.specs.Prelude.{ℕ, Bool, true, false, cond, not, ◌&&◌, ◌||◌, ◌==◌, List, [], ◌∷◌, ◌++◌, length, Option, None, Some, ℤ, is_some}
 use Rattle.std.specs.Option.{option_map}
 use Rattle.tsp_file.specs.declared.kinds.Kind.{Kind}
 use Rattle.tsp_file.specs.declared.kinds.Kind.TheVariants as kinds
@@ -79,21 +79,30 @@ has_distances f = is_instance f.kind && is_some f.weight_kind && not (is_explici
 abbrev pub asked : Bool → Bool → Bool
 asked wanted there = not wanted || there
 
--- each field that may be asked for, in order, and whether it is there if it is
-abbrev pub there_in_order : Fields → List (Field × Bool)
-there_in_order f = (fields.TypeKey, is_some f.kind)
+-- The fields that may be asked for, in order, and whether each is there if it is: those that say what the file is,
+abbrev pub head_in_order : Fields → List (Field × Bool)
+head_in_order f = (fields.TypeKey, is_some f.kind)
     ∷ (fields.DimensionKey, asked (not (is_tours f.kind)) (is_some f.dimension))
     ∷ (fields.EdgeWeightTypeKey, asked (is_instance f.kind) (is_some f.weight_kind))
-    ∷ (fields.EdgeWeightFormatKey, asked (lists_weights f || is_some f.weights) (is_some f.weight_format))
-    ∷ (fields.CapacityKey, asked (is_routing f.kind) (is_some f.capacity))
+    ∷ (fields.EdgeWeightFormatKey, asked (lists_weights f || is_some f.weights) (is_some f.weight_format)) ∷ []
+
+-- those of instances and of tours,
+abbrev pub data_in_order : Fields → List (Field × Bool)
+data_in_order f = (fields.CapacityKey, asked (is_routing f.kind) (is_some f.capacity))
     ∷ (fields.NodeCoordPart, asked (has_distances f) (is_some f.coords))
     ∷ (fields.EdgeWeightPart, asked (lists_weights f) (is_some f.weights))
     ∷ (fields.DemandPart, asked (is_routing f.kind) (is_some f.demands))
     ∷ (fields.DepotPart, asked (is_routing f.kind) (is_some f.depots))
-    ∷ (fields.TourPart, asked (is_tours f.kind) (is_some f.tours))
-    ∷ (fields.NodePotentialPart, asked (is_certificate f.kind && not (is_some f.row_potentials || is_some f.column_potentials)) (is_some f.node_potentials))
+    ∷ (fields.TourPart, asked (is_tours f.kind) (is_some f.tours)) ∷ []
+
+-- and those of potentials: one for each node, or one for each row and each column
+abbrev pub potentials_in_order : Fields → List (Field × Bool)
+potentials_in_order f = (fields.NodePotentialPart, asked (is_certificate f.kind && not (is_some f.row_potentials || is_some f.column_potentials)) (is_some f.node_potentials))
     ∷ (fields.RowPotentialPart, asked (is_certificate f.kind && is_some f.column_potentials) (is_some f.row_potentials))
     ∷ (fields.ColumnPotentialPart, asked (is_certificate f.kind && is_some f.row_potentials) (is_some f.column_potentials)) ∷ []
+
+abbrev pub there_in_order : Fields → List (Field × Bool)
+there_in_order f = head_in_order f ++ data_in_order f ++ potentials_in_order f
 
 -- ---- what may not go together
 
@@ -102,19 +111,16 @@ abbrev pub has_wrong_format : Fields → Bool
 has_wrong_format f = (is_function f.weight_format && (lists_weights f || is_some f.weights))
     || (is_certificate f.kind && is_some f.node_potentials && (is_some f.row_potentials || is_some f.column_potentials))
 
--- the weights are as many as the cells of the layout
-abbrev pub has_count : Option ℕ → Option WeightFormat → List ℤ → Bool
-has_count (Some n) (Some (formats.Listed layout)) weights = length weights == length (cells layout n)
+-- The weights are as many as the cells of the layout. (Where the dimension or the layout is missing another rule fails.)
+abbrev pub has_count : Option ℕ → Option WeightFormat → Option (List ℤ) → Bool
+has_count (Some n) (Some (formats.Listed layout)) (Some weights) = length weights == length (cells layout n)
+has_count (Some n) (Some (formats.Listed layout)) None = true
 has_count (Some n) (Some formats.ByFunction) weights = true
 has_count (Some n) None weights = true
 has_count None format weights = true
 
 abbrev pub has_wrong_count : Fields → Bool
-has_wrong_count f = not (counts f.weights)
-  where
-    counts : Option (List ℤ) → Bool
-    counts None = true
-    counts (Some weights) = has_count f.dimension f.weight_format weights
+has_wrong_count f = not (has_count f.dimension f.weight_format f.weights)
 
 -- the first rule that fails
 abbrev pub end_fault_from : Option Field → Bool → Bool → Option EndFault

@@ -1,5 +1,5 @@
 -- When a field is as it has to be, each by itself.
-use Rattle.std.specs.Prelude.{ℕ, ◌+◌, ◌-◌, ◌*◌, ◌≤◌, Bool, true, false, not, ◌&&◌, ◌||◌, ◌==◌, nat_le, List, [], ◌∷◌, length, slice_index, Option, None, Some, ℤ, pos, neg_ℤ, int_le, codes, cond}
+use Rattle.std.specs.Prelude.{ℕ, ◌+◌, ◌-◌, ◌*◌, ◌≤◌, Bool, true, false, not, ◌&&◌, ◌||◌, ◌==◌, nat_le, List, [], ◌∷◌, ◌++◌, length, slice_index, Option, None, Some, ℤ, pos, neg_ℤ, int_le, codes, cond}
 use Rattle.std.specs.List.{list_all, list_any, sum_by}
 use Rattle.std.specs.Str.{bytes_eq}
 use Rattle.tsp_file.specs.declared.field.Field.{Field}
@@ -97,24 +97,33 @@ are_tours tours = list_all is_tour tours && nat_le (sum_by length tours) MOST_TO
 
 -- ---- all fields
 
--- each field in canonical order, and whether it is as it has to be
-abbrev pub fits_in_order : Fields → List (Field × Bool)
-fits_in_order f = (fields.NameKey, if_there (is_kept (field_word fields.NameKey)) f.name)
+-- The fields in canonical order, and whether each is as it has to be: the keywords with a condition of their own,
+abbrev pub keywords_fit : Fields → List (Field × Bool)
+keywords_fit f = (fields.NameKey, if_there (is_kept (field_word fields.NameKey)) f.name)
     ∷ (fields.CommentKey, nat_le (length f.comments) MOST_COMMENTS && list_all (is_kept (field_word fields.CommentKey)) f.comments)
     ∷ (fields.OtherKey, nat_le (length f.others) MOST_OTHERS && list_all is_other f.others)
     ∷ (fields.DimensionKey, if_there (is_node MOST_NODES) f.dimension)
     ∷ (fields.CapacityKey, if_there (is_from_to (pos 1) MOST_CAPACITY) f.capacity)
-    ∷ (fields.ScaleKey, if_there (is_from_to (pos 1) MOST_SCALE) f.scale)
-    ∷ (fields.NodeCoordPart, if_there (with_dimension is_by_node f.dimension) f.coords)
+    ∷ (fields.ScaleKey, if_there (is_from_to (pos 1) MOST_SCALE) f.scale) ∷ []
+
+-- the sections of instances,
+abbrev pub data_fits : Fields → List (Field × Bool)
+data_fits f = (fields.NodeCoordPart, if_there (with_dimension is_by_node f.dimension) f.coords)
     ∷ (fields.DisplayDataPart, if_there (with_dimension is_by_node f.dimension) f.display)
     ∷ (fields.DemandPart, if_there (with_dimension are_demands f.dimension) f.demands)
     ∷ (fields.DepotPart, if_there (with_dimension are_depots f.dimension) f.depots)
     ∷ (fields.FixedEdgesPart, if_there (with_dimension are_fixed f.dimension) f.fixed)
-    ∷ (fields.EdgeWeightPart, if_there (with_dimension are_weights f.dimension) f.weights)
-    ∷ (fields.TourPart, if_there are_tours f.tours)
+    ∷ (fields.EdgeWeightPart, if_there (with_dimension are_weights f.dimension) f.weights) ∷ []
+
+-- and the sections of tours and of potentials
+abbrev pub certificates_fit : Fields → List (Field × Bool)
+certificates_fit f = (fields.TourPart, if_there are_tours f.tours)
     ∷ (fields.NodePotentialPart, if_there (with_dimension are_potentials f.dimension) f.node_potentials)
     ∷ (fields.RowPotentialPart, if_there (with_dimension are_potentials f.dimension) f.row_potentials)
     ∷ (fields.ColumnPotentialPart, if_there (with_dimension are_potentials f.dimension) f.column_potentials) ∷ []
+
+abbrev pub fits_in_order : Fields → List (Field × Bool)
+fits_in_order f = keywords_fit f ++ data_fits f ++ certificates_fit f
 
 -- the first field whose test fails
 abbrev pub first_failing : List (Field × Bool) → Option Field

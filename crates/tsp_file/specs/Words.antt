@@ -4,8 +4,7 @@ use Rattle.tsp_file.specs.declared.kinds.Kind.{Kind}
 use Rattle.tsp_file.specs.declared.kinds.Kind.TheVariants as kinds
 use Rattle.tsp_file.specs.declared.kinds.WeightKind.{WeightKind}
 use Rattle.tsp_file.specs.declared.kinds.WeightKind.TheVariants as weight_kinds
-use Rattle.tsp_file.specs.declared.kinds.Layout.{Layout}
-use Rattle.tsp_file.specs.declared.kinds.Layout.TheVariants as layouts
+use Rattle.tsp_file.specs.Layout.{layout_word}
 use Rattle.tsp_file.specs.declared.kinds.WeightFormat.{WeightFormat}
 use Rattle.tsp_file.specs.declared.kinds.WeightFormat.TheVariants as formats
 use Rattle.tsp_file.specs.declared.kinds.CoordKind.{CoordKind}
@@ -29,17 +28,6 @@ weight_kind_word weight_kinds.Ceil2d = codes "CEIL_2D"
 weight_kind_word weight_kinds.Man2d = codes "MAN_2D"
 weight_kind_word weight_kinds.Max2d = codes "MAX_2D"
 weight_kind_word weight_kinds.Att = codes "ATT"
-
-abbrev pub layout_word : Layout → List ℕ
-layout_word layouts.FullMatrix = codes "FULL_MATRIX"
-layout_word layouts.UpperRow = codes "UPPER_ROW"
-layout_word layouts.LowerRow = codes "LOWER_ROW"
-layout_word layouts.UpperDiagRow = codes "UPPER_DIAG_ROW"
-layout_word layouts.LowerDiagRow = codes "LOWER_DIAG_ROW"
-layout_word layouts.UpperCol = codes "UPPER_COL"
-layout_word layouts.LowerCol = codes "LOWER_COL"
-layout_word layouts.UpperDiagCol = codes "UPPER_DIAG_COL"
-layout_word layouts.LowerDiagCol = codes "LOWER_DIAG_COL"
 
 abbrev pub weight_format_word : WeightFormat → List ℕ
 weight_format_word formats.ByFunction = codes "FUNCTION"

@@ -1,7 +1,9 @@
 //! The keywords' accepted words, as values.
 
 ghost use Rattle.std.specs.Prelude.{◌≡◌};
-ghost use Rattle.tsp_file.specs.Words.{kind_word, weight_kind_word, weight_format_word, coord_kind_word, display_kind_word, layout_word};
+ghost use Rattle.tsp_file.specs.Words.{kind_word, weight_kind_word, weight_format_word, coord_kind_word, display_kind_word};
+
+use crate::layout::Layout;
 
 /// What a file holds (TYPE).
 #[derive(Clone, Copy, Debug, PartialEq, Eq)]
@@ -62,39 +64,6 @@ impl WeightKind {
             WeightKind::Man2d => "MAN_2D",
             WeightKind::Max2d => "MAX_2D",
             WeightKind::Att => "ATT",
-        }
-    }
-}
-
-/// Which weights of a matrix are listed, and in which order.
-#[derive(Clone, Copy, Debug, PartialEq, Eq)]
-pub enum Layout {
-    FullMatrix,
-    UpperRow,
-    LowerRow,
-    UpperDiagRow,
-    LowerDiagRow,
-    UpperCol,
-    LowerCol,
-    UpperDiagCol,
-    LowerDiagCol,
-}
-
-impl Layout {
-    /// The TSPLIB word.
-    pub fn word(self) -> &'static str
-        ensures { result.now ≡ layout_word self }
-    {
-        match self {
-            Layout::FullMatrix => "FULL_MATRIX",
-            Layout::UpperRow => "UPPER_ROW",
-            Layout::LowerRow => "LOWER_ROW",
-            Layout::UpperDiagRow => "UPPER_DIAG_ROW",
-            Layout::LowerDiagRow => "LOWER_DIAG_ROW",
-            Layout::UpperCol => "UPPER_COL",
-            Layout::LowerCol => "LOWER_COL",
-            Layout::UpperDiagCol => "UPPER_DIAG_COL",
-            Layout::LowerDiagCol => "LOWER_DIAG_COL",
         }
     }
 }

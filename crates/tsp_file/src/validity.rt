@@ -5,7 +5,7 @@ ghost use Rattle.std.specs.List.{list_all, list_any, sum_by};
 ghost use Rattle.std.specs.Str.{bytes_eq};
 ghost use Rattle.tsp_file.specs.Words.{field_word};
 ghost use Rattle.tsp_file.specs.declared.limits.TheConstants.{MOST_TOUR_NODES};
-ghost use Rattle.tsp_file.specs.Validity.{first_failing, is_kept, is_blank, is_letter, is_unknown_keyword, is_from_to, is_node, is_by_node, are_demands, are_potentials, are_depots, is_pair, are_fixed, are_weights, is_tour, is_known_word, is_keyword_byte, is_other, known_fields};
+ghost use Rattle.tsp_file.specs.Validity.{is_kept, is_blank, is_letter, is_unknown_keyword, is_from_to, is_node, is_by_node, are_demands, are_potentials, are_depots, is_pair, are_fixed, are_weights, is_tour, is_known_word, is_keyword_byte, is_other, known_fields};
 
 use crate::field::Field;
 use crate::limits::{
@@ -36,18 +36,6 @@ const KNOWN_FIELDS: [Field; 20] = [
     Field::RowPotentialPart,
     Field::ColumnPotentialPart,
 ];
-
-/// The first field whose test fails.
-pub(crate) fn first_failing(tests: &[(Field, bool)]) -> Option<Field>
-    ensures { result ≡ first_failing tests.now }
-{
-    for (field, passes) in tests {
-        if !*passes {
-            return Some(*field);
-        }
-    }
-    None
-}
 
 /// Whether a byte is a blank: 9, 11, 12, 13 or 32.
 fn is_blank(byte: u8) -> bool
@@ -84,6 +72,13 @@ pub(crate) fn is_kept(keyword: &[u8], value: &[u8]) -> bool
         && !has_blank_end(value)
 }
 
+/// Whether there is one entry for each of the n nodes.
+pub(crate) fn is_by_node(n: u32, entries: usize) -> bool
+    ensures { result ≡ (entries == n) }
+{
+    entries == n as usize
+}
+
 /// Whether a number is from low to high.
 pub(crate) fn is_from_to(number: i64, low: i64, high: i64) -> bool
     ensures { result ≡ is_from_to low high number }
@@ -95,7 +90,9 @@ pub(crate) fn is_from_to(number: i64, low: i64, high: i64) -> bool
 fn are_from_to(numbers: &[i64], low: i64, high: i64) -> bool
     ensures { result ≡ list_all (is_from_to low high) numbers.now }
 {
-    numbers.iter().all(|number| low <= *number && *number <= high)
+    numbers
+        .iter()
+        .all(|number| low <= *number && *number <= high)
 }
 
 /// Whether a number is a node of 1..n.
@@ -231,7 +228,9 @@ fn are_keyword_bytes(word: &[u8]) -> bool
 fn is_field_word(word: &[u8]) -> bool
     ensures { result ≡ list_any (λ field. bytes_eq word.now (field_word field)) known_fields }
 {
-    KNOWN_FIELDS.iter().any(|field| word == field.word().as_bytes())
+    KNOWN_FIELDS
+        .iter()
+        .any(|field| word == field.word().as_bytes())
 }
 
 /// Whether a word has a meaning of its own in a file.
