@@ -121,7 +121,8 @@ pub fn cells_are_distinct()
 
 /// The cells of a layout are the pairs of nodes that pass its test, and no others.
 pub fn cells_are_the_listed_pairs()
-    ensures { (layout : Layout) (n i j : ℕ) → Contains (cells layout n) (i, j) ↔ (IsNode n i × IsNode n j × IsTrue (is_listed layout (i, j))) }
+    ensures { (layout : Layout) (n i j : ℕ) →
+        Contains (cells layout n) (i, j) ↔ (IsNode n i × IsNode n j × IsTrue (is_listed layout (i, j))) }
 {}
 
 /// The cells of a layout are those of its lines, from line 1 to line n, one line after the other.
