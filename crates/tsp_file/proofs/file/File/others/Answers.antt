@@ -1,6 +1,6 @@
-use Rattle.std.proofs.Common.{ℕ, List, map, ap}
-use Rattle.std.specs.Global.{Vec}
+use Rattle.std.proofs.Common.{ap}
+use Rattle.tsp_file.specs.Fields.{Fields}
 use Rattle.tsp_file.proofs.file.File.others.Goals as goal
 
 pub returns : goal.returns
-returns c = ap (λ (lines : List (Vec ℕ × Vec ℕ)). map (λ (line : Vec ℕ × Vec ℕ). (line.0.items, line.1.items)) lines) c.as_slice.ensures.value
+returns c = rw c.as_slice.ensures.value (ap (λ (f : Fields). f.others) c.self.view_is)
