@@ -1,3 +1,15 @@
 pub mod Pieces
 pub mod Numerals
 pub mod Joins
+pub mod Lists
+pub mod Heads
+pub mod Instances
+pub mod Runs
+pub mod Solutions
+pub mod EofLines
+pub mod Turns
+pub mod Marks
+pub mod Lengths
+pub mod Verdicts
+pub mod Sinks
+pub mod Checks

@@ -22,10 +22,13 @@ pub record ListsNumbers (lines : List (List ℕ)) (numbers : List ℤ) : Type 0 
   pub parts : lines ≡ body ++ eof ∷ after
   pub words : map whole_of (flat_map words_of body) ≡ map Some numbers
 
+-- the lines between the dimension and the weights
+abbrev pub weight_lines : List (List ℕ)
+weight_lines = codes "EDGE_WEIGHT_TYPE : EXPLICIT" ∷ codes "EDGE_WEIGHT_FORMAT : FULL_MATRIX" ∷ codes "EDGE_WEIGHT_SECTION" ∷ []
+
 -- the lines before the weights of n nodes
 abbrev pub instance_head : ℕ → List (List ℕ)
-instance_head n = codes "TYPE : ATSP" ∷ (codes "DIMENSION : " ++ decimal n) ∷ codes "EDGE_WEIGHT_TYPE : EXPLICIT"
-    ∷ codes "EDGE_WEIGHT_FORMAT : FULL_MATRIX" ∷ codes "EDGE_WEIGHT_SECTION" ∷ []
+instance_head n = codes "TYPE : ATSP" ∷ (codes "DIMENSION : " ++ decimal n) ∷ weight_lines
 
 -- The first form: the head, lines of n * n weights in all, and the line EOF.
 pub record IsInstance (text : List ℕ) (instance : Instance) : Type 0 where

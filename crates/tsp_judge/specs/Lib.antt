@@ -7,3 +7,4 @@ pub mod Tour
 pub mod Verdict
 pub mod Report
 pub mod Run
+pub mod Reading

@@ -8,6 +8,8 @@ use Rattle.tsp_judge.specs.declared.fault.WriteFault.TheVariants as write_faults
 use Rattle.tsp_judge.specs.declared.fault.RunFault.{RunFault}
 use Rattle.tsp_judge.specs.declared.fault.RunFault.TheVariants.{File, Write, OutOfMemory, NotYet}
 use Rattle.tsp_judge.specs.declared.verdict.Verdict.{Verdict}
+use Rattle.tsp_judge.specs.declared.watched.Watched.{Watched}
+use Rattle.tsp_judge.specs.Watched.{watched, has_failed}
 use Rattle.tsp_judge.specs.Forms.{IsTooLong, Spells, SpellsNone, Instance, IsInstance, IsSolution}
 use Rattle.tsp_judge.specs.Verdict.{IsVerdict, is_yes}
 use Rattle.tsp_judge.specs.Report.{report_of}
@@ -21,22 +23,36 @@ pub record Turn : Type 0 where
   pub had_failed : Bool
   pub failed : Bool
 
+-- the turn of a watched reader, by what it was before the call and is after it
+abbrev pub turn_of : {R : Type 0} → (R → Option (List ℕ)) → Watched R → Watched R → List ℕ → Turn
+turn_of remaining old new given = record {
+  known = remaining (watched old);
+  left = remaining (watched new);
+  given = given;
+  had_failed = has_failed old;
+  failed = has_failed new;
+}
+
 -- the reader handed out what was given
 abbrev pub Gave : Turn → Type 0
 Gave turn = Consumes turn.known turn.left turn.given
 
+-- it was handed in sound, and has not failed
+abbrev pub IsSound : Turn → Type 0
+IsSound turn = (turn.had_failed ≡ false) × (turn.failed ≡ false)
+
 -- It gave bytes with P without a failure. Where its bytes are known, P holds of its whole rest too: it was not left early.
 abbrev pub GaveAll : Turn → (List ℕ → Type 0) → Type 0
-GaveAll turn P = Gave turn × (turn.failed ≡ false) × P turn.given × IfSome turn.known P
+GaveAll turn P = Gave turn × IsSound turn × P turn.given × IfSome turn.known P
 
 -- the bytes of the turn spell the value by the form
 abbrev pub IsFile : {A : Type 0} → (List ℕ → A → Type 0) → Turn → A → Type 0
 IsFile form turn value = GaveAll turn (λ bytes. Spells form bytes value)
 
--- the turn ended with a fault
+-- The turn ended with a fault. A reader that was handed in as failed is not read.
 abbrev pub StopsAt : ReadFault → Turn → Type 0
-StopsAt read_faults.Device turn = Gave turn × (turn.failed ≡ true)
-StopsAt read_faults.OutOfMemory turn = Gave turn × (turn.failed ≡ false)
+StopsAt read_faults.Device turn = Gave turn × (turn.failed ≡ true) × (turn.had_failed ≡ true → Keeps turn.known turn.left)
+StopsAt read_faults.OutOfMemory turn = Gave turn × IsSound turn
 StopsAt read_faults.TooLong turn = GaveAll turn IsTooLong
 
 -- the reader was not asked
@@ -50,8 +66,33 @@ pub record Sink : Type 0 where
   pub had_failed : Bool
   pub failed : Bool
 
+-- the same of a watched writer
+abbrev pub sink_of : {W : Type 0} → (W → Option (List ℕ)) → Watched W → Watched W → Sink
+sink_of contents old new = record {
+  held = contents (watched old);
+  holds = contents (watched new);
+  had_failed = has_failed old;
+  failed = has_failed new;
+}
+
+-- nothing was written
 abbrev pub IsUnwritten : Sink → Type 0
 IsUnwritten sink = Keeps sink.held sink.holds × (sink.failed ≡ sink.had_failed)
+
+-- the whole text was written to a writer that was handed in sound and has not failed
+abbrev pub HasWritten : Sink → List ℕ → Type 0
+HasWritten sink text = (sink.had_failed ≡ false) × (sink.failed ≡ false) × Appends sink.held sink.holds text
+
+-- A front of the text was written, and nothing else, before the writer failed. One that was handed in as failed gets nothing.
+abbrev pub HasStopped : Sink → List ℕ → Type 0
+HasStopped sink text = (sink.failed ≡ true) × (sink.had_failed ≡ true → Keeps sink.held sink.holds)
+    × ((count : ℕ) × Appends sink.held sink.holds (take count text))
+
+-- how the writing of a text ends
+abbrev pub Writes : Sink → List ℕ → Result (Unit {0}) WriteFault → Type 0
+Writes sink text (Ok done) = HasWritten sink text
+Writes sink text (Err write_faults.Device) = HasStopped sink text
+Writes sink text (Err write_faults.OutOfMemory) = IsUnwritten sink
 
 -- both files are of their forms, and the verdict on them is this one
 pub record IsJudged (instance solution : Turn) (nodes : ℕ) (verdict : Verdict) : Type 0 where
@@ -67,7 +108,7 @@ pub record IsJudged (instance solution : Turn) (nodes : ℕ) (verdict : Verdict)
 -- front of the report was written.
 abbrev pub IsRun : Turn → Turn → Sink → Result Bool RunFault → Type 0
 IsRun instance solution sink (Ok answer) = (nodes : ℕ) × (verdict : Verdict) × IsJudged instance solution nodes verdict
-    × (answer ≡ is_yes verdict) × (sink.failed ≡ false) × Appends sink.held sink.holds (report_of nodes verdict)
+    × (answer ≡ is_yes verdict) × HasWritten sink (report_of nodes verdict)
 IsRun instance solution sink (Err (File file fault)) = IsUnwritten sink
     × (((file ≡ 1) × StopsAt fault instance × IsUnread solution)
     ⊎ ((file ≡ 2) × ((value : Instance) × IsFile IsInstance instance value) × StopsAt fault solution))
@@ -75,9 +116,8 @@ IsRun instance solution sink (Err NotYet) = IsUnwritten sink
     × ((GaveAll instance (SpellsNone IsInstance) × IsUnread solution)
     ⊎ (((value : Instance) × IsFile IsInstance instance value) × GaveAll solution (SpellsNone IsSolution)))
 IsRun instance solution sink (Err OutOfMemory) = IsUnwritten sink
-    × (nodes : ℕ) × (verdict : Verdict) × IsJudged instance solution nodes verdict
+    × ((value : Instance) × IsFile IsInstance instance value) × ((tours : List (List ℕ)) × IsFile IsSolution solution tours)
 IsRun instance solution sink (Err (Write write_faults.OutOfMemory)) = IsUnwritten sink
     × (nodes : ℕ) × (verdict : Verdict) × IsJudged instance solution nodes verdict
-IsRun instance solution sink (Err (Write write_faults.Device)) = (sink.failed ≡ true)
-    × (nodes : ℕ) × (verdict : Verdict) × IsJudged instance solution nodes verdict
-    × (count : ℕ) × Appends sink.held sink.holds (take count (report_of nodes verdict))
+IsRun instance solution sink (Err (Write write_faults.Device)) = (nodes : ℕ) × (verdict : Verdict)
+    × IsJudged instance solution nodes verdict × HasStopped sink (report_of nodes verdict)

@@ -9,10 +9,14 @@ node_at nodes place = slice_index nodes (place - 1)
 abbrev pub IsPlace : List ℕ → ℕ → Type 0
 IsPlace nodes place = (1 ≤ place) × (place ≤ length nodes)
 
+-- the nodes of 1..n
+abbrev pub IsNode : ℕ → ℕ → Type 0
+IsNode n node = (1 ≤ node) × (node ≤ n)
+
 -- A walk of n nodes is a list of n nodes, all in 1..n, none twice.
 pub record IsWalk (n : ℕ) (nodes : List ℕ) : Type 0 where
   pub count : length nodes ≡ n
-  pub range : (place : ℕ) → IsPlace nodes place → (1 ≤ node_at nodes place) × (node_at nodes place ≤ n)
+  pub range : (place : ℕ) → IsPlace nodes place → IsNode n (node_at nodes place)
   pub once : (earlier place : ℕ) → 1 ≤ earlier → earlier < place → place ≤ length nodes → node_at nodes earlier ≢ node_at nodes place
 
 -- row i of the matrix: the i-th run of n weights

@@ -1,12 +1,12 @@
 //! The check of an instance and a solution, from the bytes that come in to those that go out.
 
 ghost use Rattle.std.specs.Prelude.{List, ℕ};
+ghost use Rattle.tsp_judge.specs.Run.{turn_of, sink_of, IsRun};
 
 use crate::fault::{RunFault, WriteFault};
 use crate::judge::judge;
 use crate::reading::{read_instance, read_solution};
 use crate::report::{report_text, write_text};
-use crate::verdict::Verdict;
 use crate::watched::Watched;
 use std::alloc::Global;
 use std::io::{Read, Write};
@@ -30,7 +30,10 @@ pub fn run_check<I: Read, S: Read, W: Write>(
     inst: &mut Watched<I>,
     sol: &mut Watched<S>,
     out: &mut Watched<W>,
-) -> Result<bool, RunFault> {
+) -> Result<bool, RunFault>
+    ensures { (first second : List ℕ) × IsRun (turn_of I.remaining inst.old inst.new first)
+        (turn_of S.remaining sol.old sol.new second) (sink_of W.contents out.old out.new) result }
+{
     let instance = match read_instance(alloc, inst) {
         Err(fault) => return Err(RunFault::File { file: 1, fault }),
         Ok(None) => return Err(RunFault::NotYet),
@@ -49,6 +52,6 @@ pub fn run_check<I: Read, S: Read, W: Write>(
     };
     match write_text(out, &report) {
         Err(fault) => Err(RunFault::Write(fault)),
-        Ok(()) => Ok(matches!(verdict, Verdict::Tour { .. })),
+        Ok(()) => Ok(verdict.is_yes()),
     }
 }

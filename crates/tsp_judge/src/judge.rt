@@ -3,7 +3,7 @@
 ghost use Rattle.std.specs.Prelude.{◌≡◌, ◌+◌, ◌*◌, ◌^◌, ◌≤◌, ◌<◌, List, ℕ, length, IfOk, MatchOption, pos, negsuc};
 ghost use Rattle.std.specs.List.{All};
 ghost use Rattle.tsp_judge.specs.Forms.{IsWithin};
-ghost use Rattle.tsp_judge.specs.Tour.{node_at, IsPlace, tour_length, path_length, cost};
+ghost use Rattle.tsp_judge.specs.Tour.{node_at, IsPlace, IsNode, tour_length, path_length, cost};
 ghost use Rattle.tsp_judge.specs.Verdict.{IsFirstPlace, IsRepeated, IsVerdict};
 ghost use Rattle.tsp_judge.specs.Values.{instance_of, Holds};
 
@@ -82,8 +82,7 @@ fn first_repeated(alloc: Global, nodes: &[u32], n: u32) -> Result<Option<u32>, A
 /// The length of a tour: the sum of the costs from each node to the next, and back to the first.
 fn tour_length(instance: &Matrix, tour: &[u32]) -> i64
     requires size { length tour.now ≤ 1000000 }
-    requires low { All (λ node. 1 ≤ node) tour.now }
-    requires high { All (λ node. node ≤ (instance_of instance.now).nodes) tour.now }
+    requires range { (place : ℕ) → IsPlace tour.now place → IsNode (instance_of instance.now).nodes (node_at tour.now place) }
     ensures { result ≡ tour_length (instance_of instance.now) tour.now }
 {
     let Some((first, others)) = tour.split_first() else {

@@ -1,5 +1,11 @@
 //! A file's bytes, and what they spell.
 
+ghost use Rattle.std.specs.Prelude.{◌≡◌, MatchBool};
+ghost use Rattle.tsp_judge.specs.Forms.{HasEofLine, IsInstance, IsSolution};
+ghost use Rattle.tsp_judge.specs.Run.{turn_of};
+ghost use Rattle.tsp_judge.specs.Reading.{ReadsWhole, ReadsCounted, ReadsForm};
+ghost use Rattle.tsp_judge.specs.Values.{instance_of, Holds};
+
 use crate::fault::ReadFault;
 use crate::form::instance::Matrix;
 use crate::form::lines::first_line;
@@ -13,7 +19,9 @@ use std::io::Read;
 const PIECE: usize = 4_096;
 
 /// All bytes that a reader hands out, up to the piece that passes the limit of a file.
-fn read_whole<R: Read>(alloc: Global, reader: &mut Watched<R>) -> Result<Vec<u8>, ReadFault> {
+fn read_whole<R: Read>(alloc: Global, reader: &mut Watched<R>) -> Result<Vec<u8>, ReadFault>
+    ensures { ReadsWhole (turn_of R.remaining reader.old reader.new) result }
+{
     if reader.failed() {
         return Err(ReadFault::Device);
     }
@@ -25,7 +33,7 @@ fn read_whole<R: Read>(alloc: Global, reader: &mut Watched<R>) -> Result<Vec<u8>
             Ok(count) => count,
         };
         if count == 0 {
-            break;
+            return Ok(bytes);
         }
         if bytes.extend_from_slice(&piece[..count]).is_err() {
             return Err(ReadFault::OutOfMemory);
@@ -35,7 +43,9 @@ fn read_whole<R: Read>(alloc: Global, reader: &mut Watched<R>) -> Result<Vec<u8>
 }
 
 /// Whether a line `EOF` stands in the text that a byte 10 ends.
-fn has_eof_line(text: &[u8]) -> bool {
+fn has_eof_line(text: &[u8]) -> bool
+    ensures { MatchBool result (HasEofLine text.now) (HasEofLine text.now → ⊥) }
+{
     let mut rest = text;
     'lines: loop {
         let (line, after) = first_line(rest);
@@ -51,25 +61,27 @@ fn has_eof_line(text: &[u8]) -> bool {
 
 /// The bytes of a reader that count: all, or of a longer file those up to the limit, where they
 /// hold a line `EOF`.
-fn read_counted<R: Read>(alloc: Global, reader: &mut Watched<R>) -> Result<Vec<u8>, ReadFault> {
+fn read_counted<R: Read>(alloc: Global, reader: &mut Watched<R>) -> Result<Vec<u8>, ReadFault>
+    ensures { ReadsCounted (turn_of R.remaining reader.old reader.new) result }
+{
     let mut bytes = match read_whole(alloc, reader) {
         Err(fault) => return Err(fault),
         Ok(bytes) => bytes,
     };
-    if bytes.len() > FILE_LIMIT {
-        bytes.truncate(FILE_LIMIT);
-        if !has_eof_line(&bytes) {
-            return Err(ReadFault::TooLong);
-        }
+    if bytes.len() <= FILE_LIMIT {
+        return Ok(bytes);
     }
-    Ok(bytes)
+    bytes.truncate(FILE_LIMIT);
+    if has_eof_line(&bytes) { Ok(bytes) } else { Err(ReadFault::TooLong) }
 }
 
 /// The instance that a reader's bytes spell, or `None` where they are not of its form.
 pub(crate) fn read_instance<R: Read>(
     alloc: Global,
     reader: &mut Watched<R>,
-) -> Result<Option<Matrix>, ReadFault> {
+) -> Result<Option<Matrix>, ReadFault>
+    ensures { ReadsForm IsInstance (λ matrix value. instance_of matrix ≡ value) (turn_of R.remaining reader.old reader.new) result }
+{
     let bytes = match read_counted(alloc, reader) {
         Err(fault) => return Err(fault),
         Ok(bytes) => bytes,
@@ -84,7 +96,9 @@ pub(crate) fn read_instance<R: Read>(
 pub(crate) fn read_solution<R: Read>(
     alloc: Global,
     reader: &mut Watched<R>,
-) -> Result<Option<Tours>, ReadFault> {
+) -> Result<Option<Tours>, ReadFault>
+    ensures { ReadsForm IsSolution Holds (turn_of R.remaining reader.old reader.new) result }
+{
     let bytes = match read_counted(alloc, reader) {
         Err(fault) => return Err(fault),
         Ok(bytes) => bytes,

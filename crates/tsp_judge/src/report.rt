@@ -1,7 +1,8 @@
 //! The text of a report, and its way to a writer.
 
-ghost use Rattle.std.specs.Prelude.{◌≡◌, IfOk};
-ghost use Rattle.tsp_judge.specs.Report.{report_of};
+ghost use Rattle.std.specs.Prelude.{◌≡◌, ◌++◌, IfOk, OnOk};
+ghost use Rattle.tsp_judge.specs.Report.{report_of, reason_text};
+ghost use Rattle.tsp_judge.specs.Run.{sink_of, Writes};
 
 use crate::fault::WriteFault;
 use crate::verdict::{Reason, Verdict};
@@ -33,13 +34,17 @@ pub(crate) fn report_text(alloc: Global, nodes: u32, verdict: Verdict) -> Result
 }
 
 /// Appends the digits of a number.
-fn push_number<N: Integer>(text: &mut Vec<u8>, number: N) -> Result<(), AllocError> {
+fn push_number<N: Integer>(text: &mut Vec<u8>, number: N) -> Result<(), AllocError>
+    ensures { OnOk result (text.new.items ≡ text.old.items ++ N.text number) }
+{
     let mut buffer = Buffer::new();
     text.extend_from_slice(buffer.format(number).as_bytes())
 }
 
 /// Appends the name of a reason, and its number.
-fn push_reason(text: &mut Vec<u8>, reason: Reason) -> Result<(), AllocError> {
+fn push_reason(text: &mut Vec<u8>, reason: Reason) -> Result<(), AllocError>
+    ensures { OnOk result (text.new.items ≡ text.old.items ++ reason_text reason) }
+{
     match reason {
         Reason::TooFewNodes => text.extend_from_slice(b"TooFewNodes"),
         Reason::TourCount => text.extend_from_slice(b"TourCount"),
@@ -56,17 +61,23 @@ fn push_reason(text: &mut Vec<u8>, reason: Reason) -> Result<(), AllocError> {
 }
 
 /// Writes a text to a writer that may take any part of it at once.
-pub(crate) fn write_text<W: Write>(out: &mut Watched<W>, text: &[u8]) -> Result<(), WriteFault> {
+pub(crate) fn write_text<W: Write>(out: &mut Watched<W>, text: &[u8]) -> Result<(), WriteFault>
+    ensures { Writes (sink_of W.contents out.old out.new) text.now result }
+{
     if out.failed() {
         return Err(WriteFault::Device);
     }
     let mut rest = text;
     'parts: while !rest.is_empty() {
         let count = match out.write(rest) {
-            Err(_) | Ok(0) => return Err(WriteFault::Device),
+            Err(_) => return Err(WriteFault::Device),
             Ok(count) => count,
         };
-        rest = &rest[count..];
+        if count == 0 {
+            return Err(WriteFault::Device);
+        }
+        let (_, left) = rest.split_at(count);
+        rest = left;
     }
     Ok(())
 }

@@ -21,3 +21,15 @@ pub enum Verdict {
     Tour { length: i64 },
     No(Reason),
 }
+
+impl Verdict {
+    ghost use Rattle.std.specs.Prelude.{◌≡◌};
+    ghost use Rattle.tsp_judge.specs.Verdict.{is_yes};
+
+    /// Whether the solution is accepted.
+    pub(crate) fn is_yes(&self) -> bool
+        ensures { result ≡ is_yes self.now }
+    {
+        matches!(self, Verdict::Tour { .. })
+    }
+}

@@ -3,7 +3,7 @@
 ghost use Rattle.std.specs.Prelude.{◌≡◌, ◌≢◌, ◌*◌, ◌-◌, ◌≤◌, ◌<◌, List, ℕ, ◌++◌, [], pos, negsuc, codes, decimal, vec_len, MatchOption, IfOk, ℤ};
 ghost use Rattle.std.specs.List.{All};
 ghost use Rattle.tsp_judge.specs.Words.{lines_of};
-ghost use Rattle.tsp_judge.specs.Forms.{IsWithin, instance_head};
+ghost use Rattle.tsp_judge.specs.Forms.{IsWithin, instance_head, weight_lines};
 
 use crate::form::lines::{after_line, first_line};
 use crate::form::numbers::numbers_before_eof;
@@ -27,7 +27,7 @@ pub(crate) struct Matrix {
 
 impl Matrix {
     ghost use Rattle.tsp_judge.specs.Values.{instance_of};
-    ghost use Rattle.tsp_judge.specs.Tour.{cost};
+    ghost use Rattle.tsp_judge.specs.Tour.{cost, IsNode};
     ghost use Rattle.tsp_judge.specs.Forms.{IsInstance, Instance};
 
     /// The instance that a text spells by the first form, or `None` where it spells none.
@@ -59,8 +59,8 @@ impl Matrix {
 
     /// The cost from one node to another, at most 10^12 in size.
     pub(crate) fn cost(&self, from: u32, to: u32) -> i64
-        requires from { (1 ≤ from) × (from ≤ (instance_of self.now).nodes) }
-        requires to { (1 ≤ to) × (to ≤ (instance_of self.now).nodes) }
+        requires from { IsNode (instance_of self.now).nodes from }
+        requires to { IsNode (instance_of self.now).nodes to }
         ensures value { result ≡ cost (instance_of self.now) from to }
         ensures size { IsWithin (negsuc 999999999999) (pos 1000000000000) result }
     {
@@ -76,8 +76,12 @@ fn dimension_of(line: &[u8]) -> Option<u32>
         ((n : ℕ) → 1 ≤ n → n ≤ 5000 → line.now ≢ codes "DIMENSION : " ++ decimal n)
         (λ n. (1 ≤ n) × (n ≤ 5000) × (line.now ≡ codes "DIMENSION : " ++ decimal n)) }
 {
-    let digits = line.strip_prefix(b"DIMENSION : ")?;
-    let nodes = numeral(digits)?;
+    let Some(digits) = line.strip_prefix(b"DIMENSION : ") else {
+        return None;
+    };
+    let Some(nodes) = numeral(digits) else {
+        return None;
+    };
     if nodes < 1 || nodes > MOST_NODES {
         return None;
     }
@@ -91,11 +95,32 @@ fn read_head(text: &[u8]) -> Option<(u32, &[u8])>
         ((n : ℕ) (rest : List (List ℕ)) → 1 ≤ n → n ≤ 5000 → lines_of text.now ≡ instance_head n ++ rest → rest ≡ [])
         (λ found. (1 ≤ found.0) × (found.0 ≤ 5000) × (lines_of text.now ≡ instance_head found.0 ++ lines_of found.1.now)) }
 {
-    let after_type = after_line(text, b"TYPE : ATSP")?;
-    let (line, after_dimension) = first_line(after_type);
-    let nodes = dimension_of(line)?;
-    let after_kind = after_line(after_dimension?, b"EDGE_WEIGHT_TYPE : EXPLICIT")?;
-    let after_format = after_line(after_kind, b"EDGE_WEIGHT_FORMAT : FULL_MATRIX")?;
-    let body = after_line(after_format, b"EDGE_WEIGHT_SECTION")?;
-    Some((nodes, body))
+    let Some(after_type) = after_line(text, b"TYPE : ATSP") else {
+        return None;
+    };
+    let (line, Some(after_dimension)) = first_line(after_type) else {
+        return None;
+    };
+    let Some(nodes) = dimension_of(line) else {
+        return None;
+    };
+    match after_weight_lines(after_dimension) {
+        None => None,
+        Some(body) => Some((nodes, body)),
+    }
+}
+
+/// The text after the three lines that stand between the line of the dimension and the weights.
+fn after_weight_lines(text: &[u8]) -> Option<&[u8]>
+    ensures { MatchOption result
+        ((rest : List (List ℕ)) → lines_of text.now ≡ weight_lines ++ rest → rest ≡ [])
+        (λ body. lines_of text.now ≡ weight_lines ++ lines_of body.now) }
+{
+    let Some(after_kind) = after_line(text, b"EDGE_WEIGHT_TYPE : EXPLICIT") else {
+        return None;
+    };
+    let Some(after_format) = after_line(after_kind, b"EDGE_WEIGHT_FORMAT : FULL_MATRIX") else {
+        return None;
+    };
+    after_line(after_format, b"EDGE_WEIGHT_SECTION")
 }

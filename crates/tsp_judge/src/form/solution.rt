@@ -1,9 +1,9 @@
 //! The tours of a solution.
 
-ghost use Rattle.std.specs.Prelude.{◌≡◌, ◌≤◌, ◌<◌, List, ℕ, ◌++◌, ◌∷◌, [], MatchOption, IfOk};
+ghost use Rattle.std.specs.Prelude.{◌≡◌, ◌≤◌, ◌<◌, List, ℕ, ◌++◌, ◌∷◌, [], MatchOption, IfOk, map, nat_abs};
 ghost use Rattle.std.specs.List.{All};
-ghost use Rattle.tsp_judge.specs.Words.{lines_of};
-ghost use Rattle.tsp_judge.specs.Forms.{solution_head, IsSolution};
+ghost use Rattle.tsp_judge.specs.Words.{lines_of, runs_between};
+ghost use Rattle.tsp_judge.specs.Forms.{solution_head, IsSolution, IsTourWord, ends_tour};
 ghost use Rattle.tsp_judge.specs.Values.{Holds};
 
 use crate::form::lines::after_line;
@@ -46,12 +46,16 @@ fn read_head(text: &[u8]) -> Option<&[u8]>
         ((rest : List (List ℕ)) → lines_of text.now ≡ solution_head ++ rest → rest ≡ [])
         (λ body. lines_of text.now ≡ solution_head ++ lines_of body.now) }
 {
-    let after_type = after_line(text, b"TYPE : TOUR")?;
+    let Some(after_type) = after_line(text, b"TYPE : TOUR") else {
+        return None;
+    };
     after_line(after_type, b"TOUR_SECTION")
 }
 
 /// The runs of nodes between numbers -1.
 fn tours_of(alloc: Global, numbers: &[i64]) -> Result<Tours, AllocError>
+    requires { All IsTourWord numbers.now }
+    ensures { IfOk result (λ held. Holds held (map (map nat_abs) (runs_between ends_tour numbers.now))) }
 {
     let mut count = 0;
     let mut nodes = Vec::new(alloc);
@@ -59,13 +63,13 @@ fn tours_of(alloc: Global, numbers: &[i64]) -> Result<Tours, AllocError>
     'numbers: for number in numbers {
         if *number < 0 {
             is_open = false;
-        } else {
-            if !is_open {
-                count += 1;
-            }
-            is_open = true;
-            nodes.push(*number as u32)?;
+            continue;
         }
+        if !is_open {
+            count += 1;
+        }
+        is_open = true;
+        nodes.push(*number as u32)?;
     }
     Ok(Tours { count, nodes })
 }
