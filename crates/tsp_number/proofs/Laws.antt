@@ -1,6 +1,6 @@
 -- The laws of the five distances.
-use Rattle.std.proofs.Common.{◌≡◌, ℕ, ◌+◌, ◌*◌, ◌-◌, ◌<◌, ◌≤◌, Bool, true, false, ℤ, pos, negsuc, ◌-ℤ◌, unsigned_abs, neg_ℤ, ◌+ℤ◌, ◌≤ℤ◌, ◌^◌, nat_lt, nat_le, if◌then◌else◌, max, zero, suc, refl, sym, ap, ◌∙◌, subst, arith, inl, inr}
-use Rattle.std.proofs.lemmas.Bool.{cases_order, cases_lt}
+use Rattle.std.proofs.Common.{◌≡◌, ℕ, ◌+◌, ◌*◌, ◌-◌, ◌<◌, ◌≤◌, Bool, true, false, ℤ, pos, negsuc, ◌-ℤ◌, unsigned_abs, neg_ℤ, ◌+ℤ◌, ◌≤ℤ◌, ◌^◌, nat_lt, nat_le, if◌then◌else◌, max, zero, suc, refl, sym, ap, ◌∙◌, arith, inl, inr}
+use Rattle.std.proofs.lemmas.Bool.{cases_lt}
 use Rattle.std.proofs.lemmas.Bool.Decides.{nat_tests}
 use Rattle.std.proofs.lemmas.Int.{ints}
 use Rattle.std.proofs.lemmas.Nat.{mul-le}
@@ -111,12 +111,13 @@ rounded : (t k : ℕ) → k ≡ least (λ j. nat_lt (2 * t) ((2 * j + 1) * unit)
 rounded t k is =
     let test : ℕ → Bool = λ j. nat_lt (2 * t) ((2 * j + 1) * unit) in
     let holds = least-holds test t (below _ _ (omega arith)) in
-    let holds' : test k ≡ true = rw is holds in
-    (from_below _ _ holds',
-        λ some.
-            let before = least-below test t (k - 1) (omega arith) in
-            let far = not_below _ _ before in
-            omega arith)
+    let holds' : test k ≡ true = rw is holds in (
+      from_below _ _ holds',
+      λ some.
+          let before = least-below test t (k - 1) (omega arith) in
+          let far = not_below _ _ before in
+          omega arith,
+    )
 
 man_2d-defined : (a b : Point) → IsMan2d a b (man_2d_of a b)
 man_2d-defined a b =
@@ -218,29 +219,29 @@ square_apart-most a b on on' =
 euc_2d-most : (a b : Point) (k : ℕ) → square_apart a b ≤ 8 * 10 ^ 36 → IsEuc2d a b k → k ≤ 4000000000
 euc_2d-most a b k small is =
     elim (cases_lt 4000000000 k) [
-      inl long ↦
-        let low = is.from_last_half (omega arith) in
-        let sides = squared-le (8 * 10 ^ 18) ((2 * k - 1) * unit) (omega arith) in
-        absurd (omega arith)
-    | inr short ↦ short
+      | inl long ↦
+          let low = is.from_last_half (omega arith) in
+          let sides = squared-le (8 * 10 ^ 18) ((2 * k - 1) * unit) (omega arith) in
+          absurd (omega arith)
+      | inr short ↦ short
     ]
 
 ceil_2d-most : (a b : Point) (k : ℕ) → square_apart a b ≤ 8 * 10 ^ 36 → IsCeil2d a b k → k ≤ 4000000000
 ceil_2d-most a b k small is =
     elim (cases_lt 4000000000 k) [
-      inl long ↦
-        let low = is.none_smaller 4000000000 long in
-        absurd (omega arith)
-    | inr short ↦ short
+      | inl long ↦
+          let low = is.none_smaller 4000000000 long in
+          absurd (omega arith)
+      | inr short ↦ short
     ]
 
 att-most : (a b : Point) (k : ℕ) → square_apart a b ≤ 8 * 10 ^ 36 → IsAtt a b k → k ≤ 4000000000
 att-most a b k small is =
     elim (cases_lt 4000000000 k) [
-      inl long ↦
-        let low = is.none_smaller 4000000000 long in
-        absurd (omega arith)
-    | inr short ↦ short
+      | inl long ↦
+          let low = is.none_smaller 4000000000 long in
+          absurd (omega arith)
+      | inr short ↦ short
     ]
 
 man_2d-most : (a b : Point) (k : ℕ) → IsOnPlane a → IsOnPlane b → IsMan2d a b k → k ≤ 4000000000
@@ -248,10 +249,10 @@ man_2d-most a b k on on' is =
     let first = unsigned_abs-most a.x b.x on.x on'.x in
     let second = unsigned_abs-most a.y b.y on.y on'.y in
     elim (cases_lt 4000000000 k) [
-      inl long ↦
-        let low = is.from_last_half (omega arith) in
-        absurd (omega arith)
-    | inr short ↦ short
+      | inl long ↦
+          let low = is.from_last_half (omega arith) in
+          absurd (omega arith)
+      | inr short ↦ short
     ]
 
 max_2d-most : (a b : Point) (k : ℕ) → IsOnPlane a → IsOnPlane b → IsMax2d a b k → k ≤ 4000000000
@@ -259,10 +260,10 @@ max_2d-most a b k on on' is =
     let first = unsigned_abs-most a.x b.x on.x on'.x in
     let second = unsigned_abs-most a.y b.y on.y on'.y in
     elim (cases_lt 4000000000 k) [
-      inl long ↦
-        let low = is.from_last_half (omega arith) in
-        absurd (omega arith)
-    | inr short ↦ short
+      | inl long ↦
+          let low = is.from_last_half (omega arith) in
+          absurd (omega arith)
+      | inr short ↦ short
     ]
 
 -- ---- the laws

@@ -1,6 +1,6 @@
 ghost use Rattle.std.specs.Prelude.{◌≡◌, pos, ◌≤ℤ◌, ◌<◌, ◌≤◌, ◌-ℤ◌, ◌+◌, ◌-◌, ◌*◌, ◌^◌, unsigned_abs};
 ghost use Rattle.tsp_number.specs.Decimal.{unit};
-ghost use Rattle.tsp_number.specs.Distances.{IsEuc2d, IsCeil2d, IsMan2d, IsMax2d, IsAtt};
+ghost use Rattle.tsp_number.specs.Distances.{IsEuc2d, IsCeil2d, IsMan2d, IsMax2d, IsAtt, euc_2d_of, ceil_2d_of, man_2d_of, max_2d_of, att_of};
 
 use crate::decimal::{Decimal, Point};
 use crate::root::{Rounding, rounded_root};
@@ -32,6 +32,7 @@ fn nearest_whole(count: u64) -> i64
 /// EUC_2D of TSPLIB 95: the straight distance, rounded to the nearest whole number, a half upward.
 pub fn euc_2d(a: Point, b: Point) -> i64
     ensures value { IsEuc2d a b (unsigned_abs result) }
+    ensures distance { result ≡ pos (euc_2d_of a b) }
     ensures low { pos 0 ≤ℤ result }
     ensures high { result ≤ℤ pos 4000000000 }
 {
@@ -41,6 +42,7 @@ pub fn euc_2d(a: Point, b: Point) -> i64
 /// CEIL_2D of TSPLIB 95: the straight distance, rounded up.
 pub fn ceil_2d(a: Point, b: Point) -> i64
     ensures value { IsCeil2d a b (unsigned_abs result) }
+    ensures distance { result ≡ pos (ceil_2d_of a b) }
     ensures low { pos 0 ≤ℤ result }
     ensures high { result ≤ℤ pos 4000000000 }
 {
@@ -50,6 +52,7 @@ pub fn ceil_2d(a: Point, b: Point) -> i64
 /// ATT of TSPLIB 95: the root of a tenth of the straight distance's square, rounded up.
 pub fn att(a: Point, b: Point) -> i64
     ensures value { IsAtt a b (unsigned_abs result) }
+    ensures distance { result ≡ pos (att_of a b) }
     ensures low { pos 0 ≤ℤ result }
     ensures high { result ≤ℤ pos 4000000000 }
 {
@@ -59,6 +62,7 @@ pub fn att(a: Point, b: Point) -> i64
 /// MAN_2D of TSPLIB 95: the sum of the ways along both axes, rounded to the nearest whole number, a half upward.
 pub fn man_2d(a: Point, b: Point) -> i64
     ensures value { IsMan2d a b (unsigned_abs result) }
+    ensures distance { result ≡ pos (man_2d_of a b) }
     ensures low { pos 0 ≤ℤ result }
     ensures high { result ≤ℤ pos 4000000000 }
 {
@@ -68,6 +72,7 @@ pub fn man_2d(a: Point, b: Point) -> i64
 /// MAX_2D of TSPLIB 95: the longer of the ways along both axes, rounded to the nearest whole number, a half upward.
 pub fn max_2d(a: Point, b: Point) -> i64
     ensures value { IsMax2d a b (unsigned_abs result) }
+    ensures distance { result ≡ pos (max_2d_of a b) }
     ensures low { pos 0 ≤ℤ result }
     ensures high { result ≤ℤ pos 4000000000 }
 {
