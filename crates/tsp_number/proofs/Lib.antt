@@ -5,3 +5,4 @@ pub mod Roots
 pub mod Scaling
 pub mod Scanning
 pub mod Spellings
+pub mod WordLaws
