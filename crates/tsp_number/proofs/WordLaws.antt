@@ -1,6 +1,8 @@
 -- What always holds of number words and their reading.
 use Rattle.std.proofs.Common.{◌≡◌, ◌≢◌, ℕ, ◌+◌, ◌*◌, ◌/◌, ◌%◌, ◌^◌, ◌<◌, ◌≤◌, ◌==◌, ◌&&◌, Bool, true, false, List, [], ◌∷◌, ◌++◌, length, Option, Some, None, Result, Ok, Err, if◌then◌else◌, ℤ, pos, negsuc, ◌+ℤ◌, ◌-ℤ◌, ◌*ℤ◌, ◌≤ℤ◌, ◌<ℤ◌, ◌⊎◌, inl, inr, refl, arith, ap, sym, ◌∙◌, subst, suc, zero, unsigned_abs, nat_le, int_le}
-use Rattle.std.proofs.Math.Nat.{eq_of_mul-eq-mul_right}
+use Rattle.std.proofs.Math.Nat.{eq_of_mul-eq-mul_right, mul-mod_left}
+use Rattle.std.proofs.lemmas.Nat.{div-add-mod'}
+use Rattle.std.specs.Prelude.{MatchBool}
 use Rattle.std.proofs.lemmas.Bool.Decides.{nat_tests}
 use Rattle.std.proofs.lemmas.Int.{ints}
 use Rattle.std.specs.Option.{option_map}
@@ -135,6 +137,120 @@ whole_once word low high (Err NotWhole) (Err NotWhole) a b = refl
 -- ---- the computed answers are the defined ones
 
 -- what `shifted_size` computes
-pub Shifts : ℕ → ℤ → Option ℕ → Type 0
+abbrev pub Shifts : ℕ → ℤ → Option ℕ → Type 0
 Shifts m z None = (k : ℕ) → ¬ IsShiftedSize m z k
 Shifts m z (Some k) = IsShiftedSize m z k
+
+shifts_by : (m down : ℕ) (whole : Bool) → (m % 10 ^ (down + 1) == 0) ≡ whole
+    → Shifts m (negsuc down) (if whole then Some (m / 10 ^ (down + 1)) else None)
+shifts_by m down true test =
+    let none : m % 10 ^ (down + 1) ≡ 0 = grind (arith, nat_tests) in
+    omega (arith, div-add-mod' m (10 ^ (down + 1)))
+shifts_by m down false test = λ k same.
+    let none : m % 10 ^ (down + 1) ≡ 0 = ap (λ n. n % 10 ^ (down + 1)) (sym same) ∙ mul-mod_left k (10 ^ (down + 1)) in
+    absurd (grind (arith, nat_tests))
+
+shifts : (m : ℕ) (z : ℤ) → Shifts m z (shifted_size m z)
+shifts m (pos up) = refl
+shifts m (negsuc down) = shifts_by m down (m % 10 ^ (down + 1) == 0) refl
+
+-- the word stands for the number, or for none
+abbrev pub Counted : List ℕ → Option ℤ → Type 0
+Counted word None = (j : ℤ) → ¬ StandsFor word j
+Counted word (Some k) = StandsFor word k
+
+counted : (word : List ℕ) (n : Numeral) (o : Option ℕ) → numeral_in word ≡ Some n → Shifts (digits_of n) (places 9 n) o
+    → Counted word (option_map (signed n.negative) o)
+counted word n None is_in none = λ j stands.
+    let k = size_by word n j is_in stands in
+    none k.0 k.1
+counted word n (Some k) is_in some = stands_by word n k is_in some
+
+-- the word stands for the whole number, or for none that is whole
+abbrev pub WholeCounted : List ℕ → Option ℤ → Type 0
+WholeCounted word None = (j : ℤ) → StandsFor word j → (i : ℤ) → j ≢ i *ℤ pos unit
+WholeCounted word (Some n) = StandsFor word (n *ℤ pos unit)
+
+whole_counted : (word : List ℕ) (n : Numeral) (o : Option ℕ) → numeral_in word ≡ Some n → Shifts (digits_of n) (places 0 n) o
+    → WholeCounted word (option_map (signed n.negative) o)
+whole_counted word n None is_in none = λ j stands i same.
+    let k = size_by word n j is_in stands in
+    let part = divided n.negative k.0 unit i (omega arith) (sym same ∙ k.2) in
+    let counted' : IsShiftedSize (digits_of n) (places 9 n) (part.0 * unit) = rw part.1 k.1 in
+    none part.0 (unit_down (digits_of n) part.0 (places 0 n) (places 9 n) (unit_places n) counted')
+whole_counted word n (Some k) is_in some =
+    let P : ℤ → Type 0 = λ j. StandsFor word j in
+    subst P (sym (signed-mul n.negative k unit))
+        (stands_by word n (k * unit) is_in (unit_up (digits_of n) k (places 0 n) (places 9 n) (unit_places n) some))
+
+decimal_by : (word : List ℕ) (k : ℤ) (within : Bool) → IsShort word → StandsFor word k → nat_le (unsigned_abs k) most_count ≡ within
+    → ReadsDecimal word (if within then Ok k else Err OutOfRange)
+decimal_by word k true short stands test = (short, stands, grind (arith, nat_tests))
+decimal_by word k false short stands test = (short, (k, stands, grind (arith, nat_tests)))
+
+decimal_within-reads : (word : List ℕ) (o : Option ℤ) → IsShort word → IsNumberWord word → Counted word o → ReadsDecimal word (decimal_within o)
+decimal_within-reads word None short number none = (short, number, none)
+decimal_within-reads word (Some k) short number stands = decimal_by word k (nat_le (unsigned_abs k) most_count) short stands refl
+
+decimal_from-reads : (word : List ℕ) (o : Option Numeral) → IsShort word → numeral_in word ≡ o → ReadsDecimal word (decimal_from o)
+decimal_from-reads word None short is_in = (short, bad_number word is_in)
+decimal_from-reads word (Some n) short is_in =
+    decimal_within-reads word (number_in 9 n) short (n, spells_in word n is_in)
+        (counted word n (shifted_size (digits_of n) (places 9 n)) is_in (shifts (digits_of n) (places 9 n)))
+
+decimal_short : (word : List ℕ) (short : Bool) → nat_le (length word) 64 ≡ short
+    → ReadsDecimal word (if short then decimal_from (numeral_in word) else Err LongWord)
+decimal_short word true test = decimal_from-reads word (numeral_in word) (grind (arith, nat_tests)) refl
+decimal_short word false test = λ short. absurd (grind (arith, nat_tests))
+
+-- the computed answer is the defined one
+pub decimal_of-reads : (word : List ℕ) → ReadsDecimal word (decimal_of word)
+unfolding decimal_of
+decimal_of-reads word = decimal_short word (nat_le (length word) 64) refl
+
+-- tests of a range
+int_le-test : (m n : ℤ) (t : Bool) → int_le m n ≡ t → MatchBool t (m ≤ℤ n) (n <ℤ m)
+int_le-test m n true test = grind (arith, ints)
+int_le-test m n false test = grind (arith, ints)
+
+range_by : (low high n : ℤ) (first second : Bool) → int_le low n ≡ first → int_le n high ≡ second
+    → MatchBool (first && second) ((low ≤ℤ n) × (n ≤ℤ high)) ((n <ℤ low) ⊎ (high <ℤ n))
+range_by low high n true true above below = (int_le-test low n true above, int_le-test n high true below)
+range_by low high n true false above past = inr (int_le-test n high false past)
+range_by low high n false second short _ = inl (int_le-test low n false short)
+
+in_range : (low high n : ℤ) (within : Bool) → (int_le low n && int_le n high) ≡ within
+    → MatchBool within ((low ≤ℤ n) × (n ≤ℤ high)) ((n <ℤ low) ⊎ (high <ℤ n))
+in_range low high n within test =
+    let P : Bool → Type 0 = λ b. MatchBool b ((low ≤ℤ n) × (n ≤ℤ high)) ((n <ℤ low) ⊎ (high <ℤ n)) in
+    subst P test (range_by low high n (int_le low n) (int_le n high) refl refl)
+
+whole_by : (word : List ℕ) (low high n : ℤ) (within : Bool) → IsShort word → StandsFor word (n *ℤ pos unit) → (int_le low n && int_le n high) ≡ within
+    → ReadsWhole word low high (if within then Ok n else Err OutOfRange)
+whole_by word low high n true short stands test =
+    let range = in_range low high n true test in
+    (short, stands, range.0, range.1)
+whole_by word low high n false short stands test = (short, (n, stands, in_range low high n false test))
+
+whole_within-reads : (word : List ℕ) (low high : ℤ) (o w : Option ℤ) → IsShort word → IsNumberWord word → Counted word o → WholeCounted word w
+    → ReadsWhole word low high (whole_within low high o w)
+whole_within-reads word low high None w short number none whole = (short, number, none)
+whole_within-reads word low high (Some k) None short number stands none = (short, (k, stands, none k stands))
+whole_within-reads word low high (Some k) (Some n) short number stands whole = whole_by word low high n (int_le low n && int_le n high) short whole refl
+
+whole_from-reads : (word : List ℕ) (low high : ℤ) (o : Option Numeral) → IsShort word → numeral_in word ≡ o → ReadsWhole word low high (whole_from low high o)
+whole_from-reads word low high None short is_in = (short, bad_number word is_in)
+whole_from-reads word low high (Some n) short is_in =
+    whole_within-reads word low high (number_in 9 n) (number_in 0 n) short (n, spells_in word n is_in)
+        (counted word n (shifted_size (digits_of n) (places 9 n)) is_in (shifts (digits_of n) (places 9 n)))
+        (whole_counted word n (shifted_size (digits_of n) (places 0 n)) is_in (shifts (digits_of n) (places 0 n)))
+
+whole_short : (word : List ℕ) (low high : ℤ) (short : Bool) → nat_le (length word) 64 ≡ short
+    → ReadsWhole word low high (if short then whole_from low high (numeral_in word) else Err LongWord)
+whole_short word low high true test = whole_from-reads word low high (numeral_in word) (grind (arith, nat_tests)) refl
+whole_short word low high false test = λ short. absurd (grind (arith, nat_tests))
+
+-- the computed answer is the defined one
+pub whole_of-reads : (word : List ℕ) (low high : ℤ) → ReadsWhole word low high (whole_of word low high)
+unfolding whole_of
+whole_of-reads word low high = whole_short word low high (nat_le (length word) 64) refl
