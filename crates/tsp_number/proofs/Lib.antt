@@ -6,3 +6,4 @@ pub mod Scaling
 pub mod Scanning
 pub mod Spellings
 pub mod WordLaws
+pub mod Spelled
