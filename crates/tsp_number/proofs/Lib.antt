@@ -1,5 +1,5 @@
 pub mod Grammar
-pub mod Laws
+pub mod DistanceLaws
 pub mod Reading
 pub mod Roots
 pub mod Scaling

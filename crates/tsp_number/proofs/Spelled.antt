@@ -1,5 +1,5 @@
 -- A spelling stands for its number, and so reading it gives the number back.
-use Rattle.std.proofs.Common.{◌≡◌, ◌≢◌, ℕ, ◌+◌, ◌*◌, ◌/◌, ◌%◌, ◌^◌, ◌<◌, ◌≤◌, ◌==◌, Bool, true, false, List, [], ◌∷◌, ◌++◌, length, Result, Ok, if◌then◌else◌, ℤ, pos, negsuc, ◌+ℤ◌, ◌-ℤ◌, ◌⊎◌, inl, inr, refl, arith, ap, sym, ◌∙◌, subst, suc, zero, unsigned_abs, pow-add, append-nil, length-append}
+use Rattle.std.proofs.Common.{◌≡◌, ℕ, ◌+◌, ◌*◌, ◌/◌, ◌%◌, ◌^◌, ◌<◌, ◌≤◌, ◌==◌, Bool, true, false, List, [], ◌∷◌, ◌++◌, length, Result, Ok, ℤ, pos, negsuc, inl, inr, refl, arith, ap, sym, ◌∙◌, subst, suc, zero, unsigned_abs, pow-add, append-nil, length-append}
 use Rattle.std.proofs.Math.Nat.{pow-suc}
 use Rattle.std.proofs.lemmas.Bool.{cases_eq}
 use Rattle.std.proofs.lemmas.Bool.Decides.{nat_tests}
@@ -12,9 +12,8 @@ use Rattle.std.specs.Fmt.{decimal}
 use Rattle.std.specs.Str.Parse.{AllDigits, digits_value}
 use Rattle.tsp_number.specs.declared.fault.NumberFault.{NumberFault}
 use Rattle.tsp_number.specs.Decimal.{unit, most_count}
-use Rattle.tsp_number.specs.NumberWord.{minus, point, IsSign, IsFraction, IsExponent, Numeral, Spells, StandsFor, IsShifted, IsShort, signed, mantissa, digits_of, places, ReadsDecimal}
+use Rattle.tsp_number.specs.NumberWord.{minus, point, IsSign, IsFraction, Numeral, StandsFor, IsShifted, signed, mantissa, digits_of, places, ReadsDecimal}
 use Rattle.tsp_number.specs.Spelling.{decimals, fraction_spelling, size_spelling, spelling}
-use Rattle.tsp_number.specs.Written.{IsShiftedSize}
 use Rattle.tsp_number.proofs.Reading.{to_signed}
 use Rattle.tsp_number.proofs.Scaling.{digits_value_after-is, digits_value-append, pow_above_zero}
 use Rattle.tsp_number.proofs.Spellings.{decimals-suc, decimals-none}
@@ -46,21 +45,21 @@ first_decimal count rest some part more =
     let Q : List ℕ → Type 0 = λ all. AllDigits 10 all × (length all + more.left ≡ suc count) × (digits_value 10 all * 10 ^ more.left ≡ rest) in
     let digit = digit_of (rest / 10 ^ count) first in
     let value : digits_value 10 ((48 + rest / 10 ^ count) ∷ ds) ≡ rest / 10 ^ count * 10 ^ length ds + digits_value 10 ds =
-        digits_value_after-is (0 + digit_value (48 + rest / 10 ^ count)) ds
-        ∙ ap (λ n. n * 10 ^ length ds + digits_value 10 ds) (omega (arith, digit)) in
+    digits_value_after-is (0 + digit_value (48 + rest / 10 ^ count)) ds
+    ∙ ap (λ n. n * 10 ^ length ds + digits_value 10 ds) (omega (arith, digit)) in
     let high = ap (λ n. n * 10 ^ more.left) value in
     let power : 10 ^ count ≡ 10 ^ length ds * 10 ^ more.left = ap (λ n. 10 ^ n) (sym more.length_is) ∙ pow-add 10 (length ds) more.left in
     let shifted = ap (λ n. rest / 10 ^ count * n) power in
     let parts : Q (decimals (suc count) rest) = subst Q (sym (decimals-suc count rest some))
-        ((rw digit first, more.digits), omega (arith, more.length_is), omega (arith, more.worth, div-add-mod' rest (10 ^ count))) in
+    ((rw digit first, more.digits), omega (arith, more.length_is), omega (arith, more.worth, div-add-mod' rest (10 ^ count))) in
     record { digits = parts.0; left = more.left; length_is = parts.1; worth = parts.2 }
 
 decimals_of : (count rest : ℕ) → rest < 10 ^ count → DecimalsOf count rest
 decimals_of zero rest part = no_decimals zero rest (omega arith)
 decimals_of (suc count) rest part =
     elim (cases_eq rest 0) [
-      inl none ↦ no_decimals (suc count) rest none
-    | inr some ↦ first_decimal count rest (omega arith) part (decimals_of count (rest % 10 ^ count) (mod_below rest (10 ^ count) (pow_above_zero count)))
+      | inl none ↦ no_decimals (suc count) rest none
+      | inr some ↦ first_decimal count rest (omega arith) part (decimals_of count (rest % 10 ^ count) (mod_below rest (10 ^ count) (pow_above_zero count)))
     ]
 
 -- ---- a spelling
@@ -78,30 +77,30 @@ pub record FractionOf (rest : ℕ) : Type 0 where
 fraction_of : (rest : ℕ) → rest < unit → FractionOf rest
 fraction_of rest part =
     elim (cases_eq rest 0) [
-      inl none ↦
-        let empty : fraction_spelling rest ≡ [] = rw none refl in
-        record {
-          fraction = [];
-          is_fraction = inr (empty, refl);
-          digits = tt;
-          left = 9;
-          length_is = refl;
-          worth = sym none;
-          short = omega (arith, ap length empty);
-        }
-    | inr some ↦
-        let test : (rest == 0) ≡ false = grind (arith, nat_tests) in
-        let text : fraction_spelling rest ≡ point ∷ decimals 9 rest = rw test refl in
-        let ds = decimals_of 9 rest part in
-        record {
-          fraction = decimals 9 rest;
-          is_fraction = inl text;
-          digits = ds.digits;
-          left = ds.left;
-          length_is = ds.length_is;
-          worth = ds.worth;
-          short = omega (arith, ap length text, ds.length_is);
-        }
+      | inl none ↦
+          let empty : fraction_spelling rest ≡ [] = rw none refl in
+          record {
+            fraction = [];
+            is_fraction = inr (empty, refl);
+            digits = tt;
+            left = 9;
+            length_is = refl;
+            worth = sym none;
+            short = omega (arith, ap length empty);
+          }
+      | inr some ↦
+          let test : (rest == 0) ≡ false = grind (arith, nat_tests) in
+          let text : fraction_spelling rest ≡ point ∷ decimals 9 rest = rw test refl in
+          let ds = decimals_of 9 rest part in
+          record {
+            fraction = decimals 9 rest;
+            is_fraction = inl text;
+            digits = ds.digits;
+            left = ds.left;
+            length_is = ds.length_is;
+            worth = ds.worth;
+            short = omega (arith, ap length text, ds.length_is);
+          }
     ]
 
 -- the sign of a spelling
@@ -121,7 +120,7 @@ stands_spelled negative size most =
     let length_is = f.length_is in
     let place : places 9 n ≡ pos f.left = omega (arith, ints) in
     let value : digits_of n ≡ size / unit * 10 ^ length f.fraction + digits_value 10 f.fraction =
-        digits_value-append (decimal (size / unit)) f.fraction ∙ ap (λ m. m * 10 ^ length f.fraction + digits_value 10 f.fraction) whole.1 in
+    digits_value-append (decimal (size / unit)) f.fraction ∙ ap (λ m. m * 10 ^ length f.fraction + digits_value 10 f.fraction) whole.1 in
     let power : unit ≡ 10 ^ length f.fraction * 10 ^ f.left = sym (ap (λ k. 10 ^ k) length_is) ∙ pow-add 10 (length f.fraction) f.left in
     let high = ap (λ k. k * 10 ^ f.left) value in
     let shifted = ap (λ k. size / unit * k) power in

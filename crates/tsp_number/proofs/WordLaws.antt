@@ -1,5 +1,5 @@
 -- What always holds of number words and their reading.
-use Rattle.std.proofs.Common.{◌≡◌, ◌≢◌, ℕ, ◌+◌, ◌*◌, ◌/◌, ◌%◌, ◌^◌, ◌<◌, ◌≤◌, ◌==◌, ◌&&◌, Bool, true, false, List, [], ◌∷◌, ◌++◌, length, Option, Some, None, Result, Ok, Err, if◌then◌else◌, ℤ, pos, negsuc, ◌+ℤ◌, ◌-ℤ◌, ◌*ℤ◌, ◌≤ℤ◌, ◌<ℤ◌, ◌⊎◌, inl, inr, refl, arith, ap, sym, ◌∙◌, subst, suc, zero, unsigned_abs, nat_le, int_le}
+use Rattle.std.proofs.Common.{◌≡◌, ◌≢◌, ℕ, ◌+◌, ◌*◌, ◌/◌, ◌%◌, ◌^◌, ◌==◌, ◌&&◌, Bool, true, false, List, length, Option, Some, None, Result, Ok, Err, if◌then◌else◌, ℤ, pos, negsuc, ◌*ℤ◌, ◌≤ℤ◌, ◌<ℤ◌, ◌⊎◌, inl, inr, refl, arith, ap, sym, ◌∙◌, subst, unsigned_abs, nat_le, int_le}
 use Rattle.std.proofs.Math.Nat.{eq_of_mul-eq-mul_right, mul-mod_left}
 use Rattle.std.proofs.lemmas.Nat.{div-add-mod'}
 use Rattle.std.specs.Prelude.{MatchBool}
@@ -9,7 +9,7 @@ use Rattle.std.specs.Option.{option_map}
 use Rattle.tsp_number.specs.declared.fault.NumberFault.{NumberFault}
 use Rattle.tsp_number.specs.declared.fault.NumberFault.TheVariants.{LongWord, BadNumber, TooFine, OutOfRange, NotWhole}
 use Rattle.tsp_number.specs.Decimal.{unit, most_count}
-use Rattle.tsp_number.specs.NumberWord.{Numeral, Spells, IsNumberWord, StandsFor, IsShifted, IsShort, signed, mantissa, digits_of, places, ReadsDecimal, ReadsWhole}
+use Rattle.tsp_number.specs.NumberWord.{Numeral, IsNumberWord, StandsFor, IsShort, signed, digits_of, places, ReadsDecimal, ReadsWhole}
 use Rattle.tsp_number.specs.Reading.{shifted_size, number_in, decimal_within, decimal_from, decimal_of, whole_within, whole_from, whole_of}
 use Rattle.tsp_number.specs.Scan.{numeral_in}
 use Rattle.tsp_number.specs.Written.{IsShiftedSize}
@@ -44,7 +44,7 @@ decimal_once word (Ok j) (Ok k) a b = ap Ok (stands_once word j k a.1 b.1)
 decimal_once word (Ok j) (Err LongWord) a b = absurd (b a.0)
 decimal_once word (Ok j) (Err BadNumber) a b = absurd (b.1 (number_word word _ a.1))
 decimal_once word (Ok j) (Err TooFine) a b = absurd (b.2 _ a.1)
-decimal_once word (Ok j) (Err OutOfRange) a b = 
+decimal_once word (Ok j) (Err OutOfRange) a b =
     let same = stands_once word j b.1.0 a.1 b.1.1 in
     let size : unsigned_abs j ≡ unsigned_abs b.1.0 = ap unsigned_abs same in
     let within = a.2 in
@@ -69,7 +69,7 @@ decimal_once word (Err TooFine) (Err BadNumber) a b = absurd (b.1 a.1)
 decimal_once word (Err TooFine) (Err TooFine) a b = refl
 decimal_once word (Err TooFine) (Err OutOfRange) a b = absurd (a.2 _ b.1.1)
 decimal_once word (Err TooFine) (Err NotWhole) a b = absurd b
-decimal_once word (Err OutOfRange) (Ok k) a b = 
+decimal_once word (Err OutOfRange) (Ok k) a b =
     let same = stands_once word k a.1.0 b.1 a.1.1 in
     let size : unsigned_abs k ≡ unsigned_abs a.1.0 = ap unsigned_abs same in
     let within = b.2 in
@@ -97,7 +97,7 @@ whole_once word low high (Ok j) (Ok k) a b = ap Ok (times_unit j k (stands_once 
 whole_once word low high (Ok j) (Err LongWord) a b = absurd (b a.0)
 whole_once word low high (Ok j) (Err BadNumber) a b = absurd (b.1 (number_word word _ a.1))
 whole_once word low high (Ok j) (Err TooFine) a b = absurd (b.2 _ a.1)
-whole_once word low high (Ok j) (Err OutOfRange) a b = 
+whole_once word low high (Ok j) (Err OutOfRange) a b =
     let same = times_unit j b.1.0 (stands_once word (j *ℤ pos unit) (b.1.0 *ℤ pos unit) a.1 b.1.1) in
     outside_not_within low high j b.1.0 same a.2 a.3 b.1.2
 whole_once word low high (Ok j) (Err NotWhole) a b = absurd (b.1.2 (j) (stands_once word b.1.0 (j *ℤ pos unit) b.1.1 a.1))
@@ -119,7 +119,7 @@ whole_once word low high (Err TooFine) (Err BadNumber) a b = absurd (b.1 a.1)
 whole_once word low high (Err TooFine) (Err TooFine) a b = refl
 whole_once word low high (Err TooFine) (Err OutOfRange) a b = absurd (a.2 _ b.1.1)
 whole_once word low high (Err TooFine) (Err NotWhole) a b = absurd (a.2 _ b.1.1)
-whole_once word low high (Err OutOfRange) (Ok k) a b = 
+whole_once word low high (Err OutOfRange) (Ok k) a b =
     let same = times_unit k a.1.0 (stands_once word (k *ℤ pos unit) (a.1.0 *ℤ pos unit) b.1 a.1.1) in
     outside_not_within low high k a.1.0 same b.2 b.3 a.1.2
 whole_once word low high (Err OutOfRange) (Err LongWord) a b = absurd (b a.0)
@@ -181,7 +181,7 @@ whole_counted word n None is_in none = λ j stands i same.
 whole_counted word n (Some k) is_in some =
     let P : ℤ → Type 0 = λ j. StandsFor word j in
     subst P (sym (signed-mul n.negative k unit))
-        (stands_by word n (k * unit) is_in (unit_up (digits_of n) k (places 0 n) (places 9 n) (unit_places n) some))
+    (stands_by word n (k * unit) is_in (unit_up (digits_of n) k (places 0 n) (places 9 n) (unit_places n) some))
 
 decimal_by : (word : List ℕ) (k : ℤ) (within : Bool) → IsShort word → StandsFor word k → nat_le (unsigned_abs k) most_count ≡ within
     → ReadsDecimal word (if within then Ok k else Err OutOfRange)
@@ -196,7 +196,7 @@ decimal_from-reads : (word : List ℕ) (o : Option Numeral) → IsShort word →
 decimal_from-reads word None short is_in = (short, bad_number word is_in)
 decimal_from-reads word (Some n) short is_in =
     decimal_within-reads word (number_in 9 n) short (n, spells_in word n is_in)
-        (counted word n (shifted_size (digits_of n) (places 9 n)) is_in (shifts (digits_of n) (places 9 n)))
+    (counted word n (shifted_size (digits_of n) (places 9 n)) is_in (shifts (digits_of n) (places 9 n)))
 
 decimal_short : (word : List ℕ) (short : Bool) → nat_le (length word) 64 ≡ short
     → ReadsDecimal word (if short then decimal_from (numeral_in word) else Err LongWord)
@@ -242,8 +242,8 @@ whole_from-reads : (word : List ℕ) (low high : ℤ) (o : Option Numeral) → I
 whole_from-reads word low high None short is_in = (short, bad_number word is_in)
 whole_from-reads word low high (Some n) short is_in =
     whole_within-reads word low high (number_in 9 n) (number_in 0 n) short (n, spells_in word n is_in)
-        (counted word n (shifted_size (digits_of n) (places 9 n)) is_in (shifts (digits_of n) (places 9 n)))
-        (whole_counted word n (shifted_size (digits_of n) (places 0 n)) is_in (shifts (digits_of n) (places 0 n)))
+    (counted word n (shifted_size (digits_of n) (places 9 n)) is_in (shifts (digits_of n) (places 9 n)))
+    (whole_counted word n (shifted_size (digits_of n) (places 0 n)) is_in (shifts (digits_of n) (places 0 n)))
 
 whole_short : (word : List ℕ) (low high : ℤ) (short : Bool) → nat_le (length word) 64 ≡ short
     → ReadsWhole word low high (if short then whole_from low high (numeral_in word) else Err LongWord)

@@ -2,7 +2,7 @@ use Rattle.std.proofs.Common.{arith, ◌≡◌, ◌≤ℤ◌, ℕ, pos, unsigned
 use Rattle.std.proofs.lemmas.Int.{ints}
 use Rattle.tsp_number.specs.Distances.{IsAtt}
 use Rattle.tsp_number.proofs.Roots.{is_att}
-use Rattle.tsp_number.proofs.Laws.{att-is, signed_is}
+use Rattle.tsp_number.proofs.DistanceLaws.{att-is, signed_is}
 use Rattle.tsp_number.proofs.distance.att.Goals as goal
 
 pub returns-clause-value : goal.returns-clause-value

@@ -2,7 +2,7 @@ use Rattle.std.proofs.Common.{arith, ◌≡◌, ◌≤ℤ◌, ℕ, pos, unsigned
 use Rattle.std.proofs.lemmas.Int.{ints}
 use Rattle.tsp_number.specs.Distances.{IsCeil2d}
 use Rattle.tsp_number.proofs.Roots.{is_ceil_2d}
-use Rattle.tsp_number.proofs.Laws.{ceil_2d-is, signed_is}
+use Rattle.tsp_number.proofs.DistanceLaws.{ceil_2d-is, signed_is}
 use Rattle.tsp_number.proofs.distance.ceil_2d.Goals as goal
 
 pub returns-clause-value : goal.returns-clause-value

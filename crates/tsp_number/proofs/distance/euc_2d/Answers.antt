@@ -1,6 +1,6 @@
 use Rattle.std.proofs.Common.{arith, rules, ◌≤ℤ◌, pos, to_z, of_z, w64}
 use Rattle.std.proofs.lemmas.Int.{ints}
-use Rattle.tsp_number.proofs.Laws.{euc_2d-is, signed_is}
+use Rattle.tsp_number.proofs.DistanceLaws.{euc_2d-is, signed_is}
 use Rattle.tsp_number.proofs.distance.euc_2d.Goals as goal
 
 pub returns-clause-distance : goal.returns-clause-distance
