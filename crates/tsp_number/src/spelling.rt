@@ -1,6 +1,7 @@
 ghost use Rattle.std.specs.Prelude.{◌≡◌, ◌+◌, ◌<◌, ◌≤◌, ◌++◌, length};
 ghost use Rattle.arrayvec.specs.ArrayVec.{array_vec_len};
 ghost use Rattle.tsp_number.specs.Decimal.{unit};
+ghost use Rattle.tsp_number.specs.NumberWord.{StandsFor};
 ghost use Rattle.tsp_number.specs.Spelling.{decimals, spelling, size_spelling};
 
 use crate::decimal::Decimal;
@@ -33,6 +34,7 @@ fn push_decimals(text: &mut ArrayVec<u8, 64>, rest: u64)
 /// at most 21 bytes.
 pub fn write_decimal(d: Decimal) -> ArrayVec<u8, 64>
     ensures items { result.items ≡ spelling d }
+    ensures stands { StandsFor result.items d }
     ensures short { array_vec_len result ≤ 21 }
 {
     let count = d.nanos();
