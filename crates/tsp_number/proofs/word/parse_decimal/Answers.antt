@@ -30,11 +30,11 @@ returns-in-Some-of_count c =
     let k = stands c.args.word.now c.in-Some.written c.in-Some-shifted.size c.in-Some.ensures c.in-Some-shifted.ensures in
     let fits : FitsSigned w128 c.signed.result = search rules in
     let is : c.in-Some-of_count.decimal ≡ signed c.in-Some.written.negative c.in-Some-shifted.size =
-        c.in-Some-of_count.ensures.1 ∙ to_z-of_z w128 c.signed.result fits ∙ c.signed.ensures in
+    c.in-Some-of_count.ensures.1 ∙ to_z-of_z w128 c.signed.result fits ∙ c.signed.ensures in
     let within : unsigned_abs c.in-Some-of_count.decimal ≤ most_count = rw c.in-Some-of_count.ensures.1 c.in-Some-of_count.ensures.0 in
     let P : ℤ → Type 0 = λ z. StandsFor c.args.word.now z in
     let reads : ReadsDecimal c.args.word.now (Ok c.in-Some-of_count.decimal) =
-        (omega arith, subst P (decimal_within c.in-Some.written.negative c.in-Some-shifted.size k.0 c.in-Some-of_count.decimal k.2 is within) k.1, within) in
+    (omega arith, subst P (decimal_within c.in-Some.written.negative c.in-Some-shifted.size k.0 c.in-Some-of_count.decimal k.2 is within) k.1, within) in
     record { reads = reads; computed = decimal_once _ _ _ reads (decimal_of-reads c.args.word.now) }
 
 pub returns-in-None : goal.returns-in-None
@@ -42,8 +42,12 @@ returns-in-None c =
     let k = stands c.args.word.now c.in-Some.written c.in-Some-shifted.size c.in-Some.ensures c.in-Some-shifted.ensures in
     let fits : FitsSigned w128 c.signed.result = search rules in
     let past : ¬ (unsigned_abs c.signed.result ≤ most_count) = rw (to_z-of_z w128 c.signed.result fits) at c.in-None.ensures in
-    let reads : ReadsDecimal c.args.word.now (Err OutOfRange) =
-        (omega arith,
-            (signed c.in-Some.written.negative k.0, k.1,
-                decimal_past c.in-Some.written.negative c.in-Some-shifted.size k.0 c.signed.result k.2 c.signed.ensures past)) in
+    let reads : ReadsDecimal c.args.word.now (Err OutOfRange) = (
+      omega arith,
+      (
+        signed c.in-Some.written.negative k.0,
+        k.1,
+        decimal_past c.in-Some.written.negative c.in-Some-shifted.size k.0 c.signed.result k.2 c.signed.ensures past,
+      ),
+    ) in
     record { reads = reads; computed = decimal_once _ _ _ reads (decimal_of-reads c.args.word.now) }

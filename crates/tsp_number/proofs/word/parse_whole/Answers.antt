@@ -43,7 +43,7 @@ returns-in-Some-within c =
     let P : ℤ → Type 0 = λ z. StandsFor c.args.word.now (z *ℤ pos unit) in
     let reads : ReadsWhole c.args.word.now c.args.low c.args.high (Ok c.in-Some-within.whole) = (omega arith, subst P exact k.1, low, high) in
     rw (to_z-of_z w64 c.in-Some-within.whole fits')
-        (record { reads = reads; computed = whole_once _ _ _ _ _ reads (whole_of-reads c.args.word.now c.args.low c.args.high) })
+    (record { reads = reads; computed = whole_once _ _ _ _ _ reads (whole_of-reads c.args.word.now c.args.low c.args.high) })
 
 -- what is not within a range is outside it
 outside : (v low high : ℤ) → ¬ ((low ≤ℤ v) × (v ≤ℤ high)) → (v <ℤ low) ⊎ (high <ℤ v)
@@ -54,8 +54,8 @@ returns-in-None-within c =
     let k = whole_stands c.args.word.now c.in-Some.written c.in-Some-shifted.size c.in-Some.ensures c.in-Some-shifted.ensures in
     let fits : FitsSigned w128 c.signed.result = search rules in
     let not_within : ¬ ((c.args.low ≤ℤ c.signed.result) × (c.signed.result ≤ℤ c.args.high)) =
-        rw (to_z-of_z w128 c.signed.result fits, to_z-of_z w64 c.args.low c.ranges.low, to_z-of_z w64 c.args.high c.ranges.high) at c.in-None-within.ensures in
+    rw (to_z-of_z w128 c.signed.result fits, to_z-of_z w64 c.args.low c.ranges.low, to_z-of_z w64 c.args.high c.ranges.high) at c.in-None-within.ensures in
     let past = whole_past c.in-Some.written.negative c.in-Some-shifted.size k.0 c.signed.result c.args.low c.args.high k.2 c.signed.ensures c.ranges.low c.ranges.high
-        (outside c.signed.result c.args.low c.args.high not_within) in
+    (outside c.signed.result c.args.low c.args.high not_within) in
     let reads : ReadsWhole c.args.word.now c.args.low c.args.high (Err OutOfRange) = (omega arith, (signed c.in-Some.written.negative k.0, k.1, past)) in
     record { reads = reads; computed = whole_once _ _ _ _ _ reads (whole_of-reads c.args.word.now c.args.low c.args.high) }
