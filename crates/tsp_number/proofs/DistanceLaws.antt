@@ -34,7 +34,7 @@ least-below test (suc n) k below =
 
 -- ---- squares
 
-squared-le : (m n : ℕ) → m ≤ n → squared m ≤ squared n
+pub squared-le : (m n : ℕ) → m ≤ n → squared m ≤ squared n
 squared-le m n le = mul-le m m n n le le
 
 squared-unit : (n : ℕ) → n ≤ squared (n * unit)
@@ -235,11 +235,11 @@ ceil_2d-most a b k small is =
       | inr short ↦ short
     ]
 
-att-most : (a b : Point) (k : ℕ) → square_apart a b ≤ 8 * 10 ^ 36 → IsAtt a b k → k ≤ 4000000000
+pub att-most : (a b : Point) (k : ℕ) → square_apart a b ≤ 8 * 10 ^ 36 → IsAtt a b k → k ≤ 894427191
 att-most a b k small is =
-    elim (cases_lt 4000000000 k) [
+    elim (cases_lt 894427191 k) [
       | inl long ↦
-          let low = is.none_smaller 4000000000 long in
+          let low = is.none_smaller 894427191 long in
           absurd (omega arith)
       | inr short ↦ short
     ]
@@ -318,7 +318,9 @@ att_laws = record {
   none = λ a.
       let same = square_apart-self a in
       sym (att-is a a 0 (record { enough = rw same (omega arith); none_smaller = λ j below. absurd (omega arith) }));
-  most = λ a b on on'. att-most a b (att_of a b) (square_apart-most a b on on') (att-defined a b);
+  most = λ a b on on'.
+      let short = att-most a b (att_of a b) (square_apart-most a b on on') (att-defined a b) in
+      omega arith;
 }
 
 sum-comm : (a b : Point) → across a b + along a b ≡ across b a + along b a

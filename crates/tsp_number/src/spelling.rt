@@ -4,12 +4,9 @@ ghost use Rattle.tsp_number.specs.Decimal.{unit};
 ghost use Rattle.tsp_number.specs.NumberWord.{StandsFor};
 ghost use Rattle.tsp_number.specs.Spelling.{decimals, spelling, size_spelling};
 
-use crate::decimal::Decimal;
+use crate::decimal::{Decimal, UNIT};
 use arrayvec::ArrayVec;
 use itoa::Buffer;
-
-/// One whole, in counts of 10^-9.
-const UNIT: u64 = 1_000_000_000;
 
 /// Appends the decimals of a part of a whole, without zeros at their end.
 fn push_decimals(text: &mut ArrayVec<u8, 64>, rest: u64)
