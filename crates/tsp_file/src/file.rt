@@ -218,3 +218,6 @@ impl File {
             .map(|entries| entries.as_slice())
     }
 }
+
+#[cfg(test)]
+mod tests;
