@@ -1,32 +1,9 @@
--- No two layouts have one word.
-use Rattle.std.proofs.Common.{◌≡◌, ◌≢◌, ℕ, ◌<◌, ◌≤◌, Bool, cond, List, length, get_or, refl, sym, ap, ◌∙◌, arith}
-use Rattle.std.specs.Prelude.{codes}
-use Rattle.std.specs.Str.{bytes_eq}
+-- The words of the nine layouts.
+use Rattle.std.proofs.Common.{◌≢◌, ℕ, ◌<◌, ◌≤◌, List, get_or, arith}
 use Rattle.tsp_file.specs.declared.layout.Layout.{Layout}
 use Rattle.tsp_file.specs.declared.layout.Layout.TheVariants.{FullMatrix, UpperRow, LowerRow, UpperDiagRow, LowerDiagRow, UpperCol, LowerCol, UpperDiagCol, LowerDiagCol}
 use Rattle.tsp_file.specs.declared.layout.TheConstants.{LAYOUTS}
 use Rattle.tsp_file.specs.Layout.{layout_word}
-
--- a layout with this word, where there is one
-abbrev layout_at : List ℕ → Layout
-layout_at word = cond (bytes_eq word (codes "UPPER_ROW")) UpperRow (cond (bytes_eq word (codes "LOWER_ROW")) LowerRow
-    (cond (bytes_eq word (codes "UPPER_DIAG_ROW")) UpperDiagRow (cond (bytes_eq word (codes "LOWER_DIAG_ROW")) LowerDiagRow
-    (cond (bytes_eq word (codes "UPPER_COL")) UpperCol (cond (bytes_eq word (codes "LOWER_COL")) LowerCol
-    (cond (bytes_eq word (codes "UPPER_DIAG_COL")) UpperDiagCol (cond (bytes_eq word (codes "LOWER_DIAG_COL")) LowerDiagCol FullMatrix)))))))
-
-layout_at-word : (layout : Layout) → layout_at (layout_word layout) ≡ layout
-layout_at-word FullMatrix = refl
-layout_at-word UpperRow = refl
-layout_at-word LowerRow = refl
-layout_at-word UpperDiagRow = refl
-layout_at-word LowerDiagRow = refl
-layout_at-word UpperCol = refl
-layout_at-word LowerCol = refl
-layout_at-word UpperDiagCol = refl
-layout_at-word LowerDiagCol = refl
-
-pub same_from_word : (a b : Layout) → layout_word a ≡ layout_word b → a ≡ b
-same_from_word a b e = sym (layout_at-word a) ∙ ap layout_at e ∙ layout_at-word b
 
 -- A word that none of the nine places has is no layout's word.
 pub unknown_word : (word : List ℕ) (count : ℕ) → 9 ≤ count → ((k : ℕ) (d : Layout) → k < count → word ≢ layout_word (get_or LAYOUTS k d)) → (layout : Layout) → word ≢ layout_word layout

@@ -1,7 +1,9 @@
-pub mod Sinks
+pub mod Counts
 pub mod LayoutWords
 pub mod Lines
-pub mod Counts
 pub mod Pairs
+pub mod Sinks
+pub mod Tests
+pub mod Mapped
 pub mod Carrying
 pub mod Matrices

@@ -1,5 +1,5 @@
 -- Which pairs are cells, and that no cell stands twice.
-use Rattle.std.proofs.Common.{◌≡◌, ◌≢◌, ℕ, suc, zero, ◌+◌, ◌-◌, ◌<◌, ◌≤◌, Bool, true, false, cond, List, [], ◌∷◌, ◌++◌, length, get_or, map, refl, sym, ap, subst, ◌∙◌, arith, ◌⊎◌, inl, inr}
+use Rattle.std.proofs.Common.{◌≡◌, ◌≢◌, ℕ, suc, zero, ◌+◌, ◌-◌, ◌<◌, Bool, true, false, cond, List, [], ◌∷◌, ◌++◌, length, get_or, map, refl, sym, ap, subst, ◌∙◌, arith}
 use Rattle.std.specs.Prelude.{◌↔◌, IsTrue, if◌then◌else◌}
 use Rattle.std.specs.List.{filter, flat_map, range_with_len, All, AllPairs, Contains}
 use Rattle.std.proofs.lemmas.List.{length-map, get_or-map}
@@ -88,14 +88,15 @@ pair_stands false n i j hi hj =
 
 pub cell_is : (layout : Layout) (n i j : ℕ) → Contains (cells layout n) (i, j) ↔ (IsNode n i × IsNode n j × IsTrue (is_listed layout (i, j)))
 unfolding cells
-cell_is layout n i j =
-    (λ h.
+cell_is layout n i j = (
+  λ h.
       let in_range : IsPair n (i, j) = All-contains (IsPair n) (cells layout n) (i, j) (All-filter (is_listed layout) (IsPair n) (pairs (goes_by_columns layout) n) (all_pairs (goes_by_columns layout) n)) h in
       let passes : is_listed layout (i, j) ≡ true = All-contains (λ c. is_listed layout c ≡ true) (cells layout n) (i, j) (filter_passes (is_listed layout) (pairs (goes_by_columns layout) n)) h in
       (in_range.0, in_range.1, passes),
-    λ h.
+  λ h.
       let stands = pair_stands (goes_by_columns layout) n i j h.0 h.1 in
-      kept_at (is_listed layout) (pairs (goes_by_columns layout) n) (i, j) stands.0 h.2 stands.1 stands.2)
+      kept_at (is_listed layout) (pairs (goes_by_columns layout) n) (i, j) stands.0 h.2 stands.1 stands.2,
+)
 
 -- ---- none twice
 
@@ -112,8 +113,8 @@ AllPairs-append : {X : Type 0} (R : X → X → Type 0) (xs ys : List X) → All
 AllPairs-append R [] ys first second across = second
 AllPairs-append R (x ∷ xs) ys first second across =
     AllPairs-cons R x (xs ++ ys)
-      (All-append (R x) xs ys (AllPairs-head R x xs first) (All-head (λ z. All (R z) ys) x xs across))
-      (AllPairs-append R xs ys (AllPairs-tail R x xs first) second (All-tail (λ z. All (R z) ys) x xs across))
+    (All-append (R x) xs ys (AllPairs-head R x xs first) (All-head (λ z. All (R z) ys) x xs across))
+    (AllPairs-append R xs ys (AllPairs-tail R x xs first) second (All-tail (λ z. All (R z) ys) x xs across))
 
 AllPairs-nil : {X : Type 0} (R : X → X → Type 0) → AllPairs R []
 AllPairs-nil R = λ i j d lt within. absurd (omega (arith, within))
@@ -137,18 +138,19 @@ lines_differ : (f : ℕ → ℕ → ℕ × ℕ) (line place : ℕ × ℕ → ℕ
 lines_differ f line place line_is place_is c n a zero = AllPairs-nil Differ
 lines_differ f line place line_is place_is c n a (suc m) =
     AllPairs-append Differ (map (f a) (range_with_len c n)) (flat_map (λ k. map (f k) (range_with_len c n)) (range_with_len (a + 1) m))
-      (run_differs (f a) place (place_is a) c n)
-      (lines_differ f line place line_is place_is c n (a + 1) m)
-      (All-map (λ x. All (Differ x) (flat_map (λ k. map (f k) (range_with_len c n)) (range_with_len (a + 1) m))) (f a) (range_with_len c n) (λ i d lt. across (get_or (range_with_len c n) i d)))
+    (run_differs (f a) place (place_is a) c n)
+    (lines_differ f line place line_is place_is c n (a + 1) m)
+    (All-map (λ x. All (Differ x) (flat_map (λ k. map (f k) (range_with_len c n)) (range_with_len (a + 1) m))) (f a) (range_with_len c n) (λ i d lt. across (get_or (range_with_len c n) i d)))
   where
     later : All (λ k. a < k) (range_with_len (a + 1) m)
     later = λ k d lt.
         let short : k < m = omega (arith, lt, length-range_with_len (a + 1) m) in
         omega (arith, get_or-range_with_len (a + 1) m k d short)
+
     across : (i : ℕ) → All (Differ (f a i)) (flat_map (λ k. map (f k) (range_with_len c n)) (range_with_len (a + 1) m))
     across i = All-flat_map (Differ (f a i)) (λ k. a < k) (λ k. map (f k) (range_with_len c n))
         (λ k above. All-map (Differ (f a i)) (f k) (range_with_len c n) (λ at d lt same.
-          let numbers : a ≡ k = sym (line_is a i) ∙ ap line same ∙ line_is k (get_or (range_with_len c n) at d) in omega (arith, numbers, above)))
+        let numbers : a ≡ k = sym (line_is a i) ∙ ap line same ∙ line_is k (get_or (range_with_len c n) at d) in omega (arith, numbers, above)))
         (range_with_len (a + 1) m) later
 
 pairs_differ : (order : Bool) (n : ℕ) → AllPairs Differ (pairs order n)

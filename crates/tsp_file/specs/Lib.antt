@@ -1,8 +1,10 @@
-pub mod Words
-pub mod Fields
-pub mod Watched
-pub mod Sink
-pub mod Layout
 pub mod Cells
+pub mod Fields
+pub mod Layout
+pub mod Sink
+pub mod Validity
+pub mod Watched
+pub mod Words
+pub mod Rules
 pub mod Text
 pub mod Way

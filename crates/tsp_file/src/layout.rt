@@ -56,7 +56,8 @@ impl Layout {
 
     /// The layout with this word, byte by byte, or `None` where no layout has it.
     pub fn of_word(word: &str) -> Option<Layout>
-        ensures known { (layout : Layout) → (result ≡ Some layout) ↔ (word.now ≡ layout_word layout) }
+        ensures known { (layout : Layout) →
+            (result ≡ Some layout) ↔ (word.now ≡ layout_word layout) }
         ensures unknown { IsNone result ↔ ((layout : Layout) → word.now ≢ layout_word layout) }
     {
         for layout in LAYOUTS {
@@ -121,12 +122,15 @@ pub fn cells_are_distinct()
 
 /// The cells of a layout are the pairs of nodes that pass its test, and no others.
 pub fn cells_are_the_listed_pairs()
-    ensures { (layout : Layout) (n i j : ℕ) → Contains (cells layout n) (i, j) ↔ (IsNode n i × IsNode n j × IsTrue (is_listed layout (i, j))) }
+    ensures { (layout : Layout) (n i j : ℕ) →
+        Contains (cells layout n) (i, j) ↔
+        (IsNode n i × IsNode n j × IsTrue (is_listed layout (i, j))) }
 {}
 
 /// The cells of a layout are those of its lines, from line 1 to line n, one line after the other.
 pub fn cells_go_line_by_line()
-    ensures { (layout : Layout) (n : ℕ) → cells layout n ≡ flat_map (cells_of_line layout n) (nodes_to n) }
+    ensures { (layout : Layout) (n : ℕ) →
+        cells layout n ≡ flat_map (cells_of_line layout n) (nodes_to n) }
 {}
 
 #[cfg(test)]

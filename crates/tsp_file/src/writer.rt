@@ -10,12 +10,24 @@ mod piece;
 mod sections;
 
 use crate::draft::Draft;
+use crate::file::File;
 use crate::output::WriteFault;
 use crate::watched::Watched;
 use crate::writer::keywords::put_keywords;
 use crate::writer::piece::{Piece, hand_over, put};
 use crate::writer::sections::put_sections;
+use std::alloc::Global;
 use std::io::Write;
+
+/// Writes the canonical text of a file.
+///
+/// At `Device` a front of the text was written, and nothing else; a writer that was handed in as
+/// failed gets nothing. No memory is taken, and `OutOfMemory` is never answered.
+pub fn write_file<W: Write>(_alloc: Global, f: &File, out: &mut Watched<W>) -> Result<(), WriteFault>
+    ensures { Writes (sink_of W.contents out.old out.new) (text_of f.now) result }
+{
+    write_draft(f.draft(), out)
+}
 
 /// Writes the canonical text of what a draft holds, valid or not.
 ///

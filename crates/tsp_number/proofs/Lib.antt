@@ -1,6 +1,9 @@
 pub mod Grammar
+pub mod DistanceLaws
 pub mod Reading
 pub mod Roots
 pub mod Scaling
 pub mod Scanning
 pub mod Spellings
+pub mod WordLaws
+pub mod Spelled

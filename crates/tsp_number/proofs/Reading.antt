@@ -12,7 +12,7 @@ use Rattle.tsp_number.proofs.Scaling.{pow_above_zero}
 
 -- ---- signs
 
-signed-mul : (negative : Bool) (m p : ℕ) → signed negative m *ℤ pos p ≡ signed negative (m * p)
+pub signed-mul : (negative : Bool) (m p : ℕ) → signed negative m *ℤ pos p ≡ signed negative (m * p)
 signed-mul false m p = refl
 signed-mul true zero p = omega (arith, ints)
 signed-mul true (suc m) p = refl
@@ -22,12 +22,12 @@ unsigned_abs-signed false m = refl
 unsigned_abs-signed true zero = refl
 unsigned_abs-signed true (suc m) = refl
 
-to_signed : (negative : Bool) (m k : ℕ) (z : ℤ) → IsShiftedSize m z k → IsShifted (signed negative m) z (signed negative k)
+pub to_signed : (negative : Bool) (m k : ℕ) (z : ℤ) → IsShiftedSize m z k → IsShifted (signed negative m) z (signed negative k)
 to_signed negative m k (pos up) shifted = ap (signed negative) shifted ∙ sym (signed-mul negative m (10 ^ up))
 to_signed negative m k (negsuc down) shifted = signed-mul negative k (10 ^ (down + 1)) ∙ ap (signed negative) shifted
 
 -- a number whose product with one above 0 has a sign has that sign
-divided : (negative : Bool) (m p : ℕ) (j : ℤ) → 0 < p → j *ℤ pos p ≡ signed negative m → (k : ℕ) × (k * p ≡ m) × (j ≡ signed negative k)
+pub divided : (negative : Bool) (m p : ℕ) (j : ℤ) → 0 < p → j *ℤ pos p ≡ signed negative m → (k : ℕ) × (k * p ≡ m) × (j ≡ signed negative k)
 divided false m p (pos a) above same = (a, cc, refl)
 divided false m p (negsuc a) above same =
     let some : 1 ≤ suc a = omega arith in
@@ -56,14 +56,14 @@ bad_number word none spelled =
     let some = found word spelled.0 spelled.1 in
     cc
 
-stands_by : (word : List ℕ) (n : Numeral) (k : ℕ) → numeral_in word ≡ Some n → IsShiftedSize (digits_of n) (places 9 n) k → StandsFor word (signed n.negative k)
+pub stands_by : (word : List ℕ) (n : Numeral) (k : ℕ) → numeral_in word ≡ Some n → IsShiftedSize (digits_of n) (places 9 n) k → StandsFor word (signed n.negative k)
 stands_by word n k is_in shifted = record {
   numeral = n;
   spelled = spells_in word n is_in;
   shifted = to_signed n.negative (digits_of n) k (places 9 n) shifted;
 }
 
-size_by : (word : List ℕ) (n : Numeral) (j : ℤ) → numeral_in word ≡ Some n → StandsFor word j → (k : ℕ) × IsShiftedSize (digits_of n) (places 9 n) k × (j ≡ signed n.negative k)
+pub size_by : (word : List ℕ) (n : Numeral) (j : ℤ) → numeral_in word ≡ Some n → StandsFor word j → (k : ℕ) × IsShiftedSize (digits_of n) (places 9 n) k × (j ≡ signed n.negative k)
 size_by word n j is_in stands =
     let same : stands.numeral ≡ n = same_some (numeral_in word) stands.numeral n (found word stands.numeral stands.spelled) is_in in
     let P : Numeral → Type 0 = λ m. IsShifted (mantissa m) (places 9 m) j in
@@ -85,14 +85,14 @@ stands word w size holds some =
 
 -- ---- whole numbers
 
-unit_places : (n : Numeral) → places 9 n ≡ places 0 n +ℤ pos 9
+pub unit_places : (n : Numeral) → places 9 n ≡ places 0 n +ℤ pos 9
 unit_places n = omega (arith, ints)
 
 unit_parts : (up down : ℕ) → down + up ≡ 9 → unit ≡ 10 ^ down * 10 ^ up
 unit_parts up down same = sym (ap (λ n. 10 ^ n) same) ∙ pow-add 10 down up
 
 -- a number counted in ones, counted in the unit of decimals
-unit_up : (m k : ℕ) (z z' : ℤ) → z' ≡ z +ℤ pos 9 → IsShiftedSize m z k → IsShiftedSize m z' (k * unit)
+pub unit_up : (m k : ℕ) (z z' : ℤ) → z' ≡ z +ℤ pos 9 → IsShiftedSize m z k → IsShiftedSize m z' (k * unit)
 unit_up m k (pos up) (pos up') same shifted =
     let far : up' ≡ up + 9 = omega (arith, ints) in
     rw (far, pow-add 10 up 9) (omega (arith, shifted))
@@ -109,7 +109,7 @@ unit_up m k (negsuc down) (negsuc down') same shifted =
     omega arith
 
 -- and back
-unit_down : (m k : ℕ) (z z' : ℤ) → z' ≡ z +ℤ pos 9 → IsShiftedSize m z' (k * unit) → IsShiftedSize m z k
+pub unit_down : (m k : ℕ) (z z' : ℤ) → z' ≡ z +ℤ pos 9 → IsShiftedSize m z' (k * unit) → IsShiftedSize m z k
 unit_down m k (pos up) (pos up') same shifted =
     let far : up' ≡ up + 9 = omega (arith, ints) in
     let power : 10 ^ up' ≡ 10 ^ up * 10 ^ 9 = ap (λ n. 10 ^ n) far ∙ pow-add 10 up 9 in

@@ -14,13 +14,13 @@ pub record StillToWrite (before text : List ℕ) (rest left place : ℕ) : Type 
   pub room : length text + places ≤ length before + 9
   pub items : text ++ decimals places left ≡ before ++ decimals 9 rest
 
-decimals-suc : (places rest : ℕ) → 0 < rest → decimals (suc places) rest ≡ (48 + rest / 10 ^ places) ∷ decimals places (rest % 10 ^ places)
+pub decimals-suc : (places rest : ℕ) → 0 < rest → decimals (suc places) rest ≡ (48 + rest / 10 ^ places) ∷ decimals places (rest % 10 ^ places)
 unfolding decimals
 decimals-suc places rest some =
     let above : (rest == 0) ≡ false = grind (arith, nat_tests) in
     rw above refl
 
-decimals-none : (places : ℕ) → decimals places 0 ≡ []
+pub decimals-none : (places : ℕ) → decimals places 0 ≡ []
 unfolding decimals
 decimals-none zero = refl
 decimals-none (suc places) = refl

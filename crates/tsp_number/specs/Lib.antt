@@ -5,3 +5,4 @@ pub mod NumberWord
 pub mod Scan
 pub mod Written
 pub mod Spelling
+pub mod Reading

@@ -3,12 +3,15 @@ ghost use Rattle.tsp_number.specs.Decimal.{most_count};
 
 use std::marker::Model;
 
+/// One whole, in counts of 10^-9.
+pub(crate) const UNIT: u64 = 1_000_000_000;
+
 /// The largest size of a count: 10^9 in counts of 10^-9.
 const MOST_COUNT: i64 = 1_000_000_000_000_000_000;
 
 /// A decimal number from -10^9 to 10^9 with at most nine places after the point.
 ///
-/// It is kept exactly, as a count of 10^-9.
+/// It is kept exactly, as a count of 10^-9, and contracts see it as that count.
 #[derive(Clone, Copy, Debug, PartialEq, Eq)]
 pub struct Decimal {
     nanos: i64,
@@ -58,9 +61,11 @@ impl Decimal {
     }
 }
 
-/// A point in the plane.
+/// A point in the plane, by its coordinates.
 #[derive(Clone, Copy, Debug, PartialEq, Eq)]
 pub struct Point {
+    /// The first coordinate.
     pub x: Decimal,
+    /// The second coordinate.
     pub y: Decimal,
 }

@@ -1,12 +1,9 @@
 ghost use Rattle.std.specs.Prelude.{◌≡◌, pos, ◌≤ℤ◌, ◌<◌, ◌≤◌, ◌-ℤ◌, ◌+◌, ◌-◌, ◌*◌, ◌^◌, unsigned_abs};
 ghost use Rattle.tsp_number.specs.Decimal.{unit};
-ghost use Rattle.tsp_number.specs.Distances.{IsEuc2d, IsCeil2d, IsMan2d, IsMax2d, IsAtt};
+ghost use Rattle.tsp_number.specs.Distances.{IsEuc2d, IsCeil2d, IsMan2d, IsMax2d, IsAtt, euc_2d_of, ceil_2d_of, man_2d_of, max_2d_of, att_of};
 
-use crate::decimal::{Decimal, Point};
+use crate::decimal::{Decimal, Point, UNIT};
 use crate::root::{Rounding, rounded_root};
-
-/// One whole, in counts of 10^-9.
-const UNIT: u64 = 1_000_000_000;
 
 /// How far two numbers are apart, in counts of 10^-9.
 #[inline(always)]
@@ -29,47 +26,69 @@ fn nearest_whole(count: u64) -> i64
     ((count + UNIT / 2) / UNIT) as i64
 }
 
-/// EUC_2D of TSPLIB 95: the straight distance, rounded to the nearest whole number, a half upward.
+/// The distance EUC_2D: the straight distance, rounded to the nearest whole number, a half upward.
+///
+/// It is `nint(sqrt(dx^2 + dy^2))` of Reinelt's TSPLIB 95, over the exact coordinates: from 0 to
+/// 2,828,427,125.
 pub fn euc_2d(a: Point, b: Point) -> i64
     ensures value { IsEuc2d a b (unsigned_abs result) }
+    ensures distance { result ≡ pos (euc_2d_of a b) }
     ensures low { pos 0 ≤ℤ result }
-    ensures high { result ≤ℤ pos 4000000000 }
+    ensures high { result ≤ℤ pos 2828427125 }
 {
     i64::from(rounded_root(Rounding::Nearest, gap(a.x, b.x), gap(a.y, b.y)))
 }
 
-/// CEIL_2D of TSPLIB 95: the straight distance, rounded up.
+/// The distance CEIL_2D: the straight distance, rounded up.
+///
+/// It is `sqrt(dx^2 + dy^2)` of Reinelt's TSPLIB 95 rounded up to a whole number, over the exact
+/// coordinates: from 0 to 2,828,427,125.
 pub fn ceil_2d(a: Point, b: Point) -> i64
     ensures value { IsCeil2d a b (unsigned_abs result) }
+    ensures distance { result ≡ pos (ceil_2d_of a b) }
     ensures low { pos 0 ≤ℤ result }
-    ensures high { result ≤ℤ pos 4000000000 }
+    ensures high { result ≤ℤ pos 2828427125 }
 {
     i64::from(rounded_root(Rounding::Up, gap(a.x, b.x), gap(a.y, b.y)))
 }
 
-/// ATT of TSPLIB 95: the root of a tenth of the straight distance's square, rounded up.
+/// The distance ATT: the root of a tenth of the straight distance's square, rounded up.
+///
+/// Reinelt's TSPLIB 95 rounds `sqrt((dx^2 + dy^2) / 10)` to the nearest whole number and adds 1
+/// where that is less, which rounds it up. It is from 0 to 894,427,191.
 pub fn att(a: Point, b: Point) -> i64
     ensures value { IsAtt a b (unsigned_abs result) }
+    ensures distance { result ≡ pos (att_of a b) }
     ensures low { pos 0 ≤ℤ result }
-    ensures high { result ≤ℤ pos 4000000000 }
+    ensures high { result ≤ℤ pos 894427191 }
 {
     i64::from(rounded_root(Rounding::TenthUp, gap(a.x, b.x), gap(a.y, b.y)))
 }
 
-/// MAN_2D of TSPLIB 95: the sum of the ways along both axes, rounded to the nearest whole number, a half upward.
+/// The distance MAN_2D: the sum of the ways along both axes, rounded to the nearest whole number,
+/// a half upward.
+///
+/// It is `nint(|dx| + |dy|)` of Reinelt's TSPLIB 95, over the exact coordinates: from 0 to
+/// 4,000,000,000.
 pub fn man_2d(a: Point, b: Point) -> i64
     ensures value { IsMan2d a b (unsigned_abs result) }
+    ensures distance { result ≡ pos (man_2d_of a b) }
     ensures low { pos 0 ≤ℤ result }
     ensures high { result ≤ℤ pos 4000000000 }
 {
     nearest_whole(gap(a.x, b.x) + gap(a.y, b.y))
 }
 
-/// MAX_2D of TSPLIB 95: the longer of the ways along both axes, rounded to the nearest whole number, a half upward.
+/// The distance MAX_2D: the longer of the ways along both axes, rounded to the nearest whole
+/// number, a half upward.
+///
+/// It is `max(nint(|dx|), nint(|dy|))` of Reinelt's TSPLIB 95, over the exact coordinates: from 0
+/// to 2,000,000,000.
 pub fn max_2d(a: Point, b: Point) -> i64
     ensures value { IsMax2d a b (unsigned_abs result) }
+    ensures distance { result ≡ pos (max_2d_of a b) }
     ensures low { pos 0 ≤ℤ result }
-    ensures high { result ≤ℤ pos 4000000000 }
+    ensures high { result ≤ℤ pos 2000000000 }
 {
     nearest_whole(gap(a.x, b.x).max(gap(a.y, b.y)))
 }

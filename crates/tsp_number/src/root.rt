@@ -2,10 +2,8 @@ ghost use Rattle.std.specs.Prelude.{◌≡◌, ◌+◌, ◌-◌, ◌*◌, ◌<�
 ghost use Rattle.tsp_number.specs.Distances.{squared};
 ghost use Rattle.tsp_number.specs.Rounding.{Covers};
 
+use crate::decimal::UNIT;
 use std::num;
-
-/// One whole, in counts of 10^-9.
-const UNIT: u64 = 1_000_000_000;
 
 /// No rounded root is larger: the diagonal of the square of all points is 2,828,427,124.7 long.
 const MOST_ROOT: u32 = 2_828_427_125;

@@ -8,9 +8,6 @@ ghost use Rattle.tsp_number.specs.Written.{Holds};
 /// of at most 64 bytes stands for 0, or for nothing that is fine or small enough, all the same.
 const MOST_EXPONENT: u64 = 10_000;
 
-/// A number that takes one more digit with room to spare.
-const FAR_BELOW_MAX: u64 = 1_000_000_000_000_000_000;
-
 /// A number word's parts.
 #[derive(Clone, Copy)]
 pub(crate) struct Written<'a> {

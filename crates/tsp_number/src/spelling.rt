@@ -1,14 +1,12 @@
 ghost use Rattle.std.specs.Prelude.{◌≡◌, ◌+◌, ◌<◌, ◌≤◌, ◌++◌, length};
 ghost use Rattle.arrayvec.specs.ArrayVec.{array_vec_len};
 ghost use Rattle.tsp_number.specs.Decimal.{unit};
+ghost use Rattle.tsp_number.specs.NumberWord.{StandsFor};
 ghost use Rattle.tsp_number.specs.Spelling.{decimals, spelling, size_spelling};
 
-use crate::decimal::Decimal;
+use crate::decimal::{Decimal, UNIT};
 use arrayvec::ArrayVec;
 use itoa::Buffer;
-
-/// One whole, in counts of 10^-9.
-const UNIT: u64 = 1_000_000_000;
 
 /// Appends the decimals of a part of a whole, without zeros at their end.
 fn push_decimals(text: &mut ArrayVec<u8, 64>, rest: u64)
@@ -33,6 +31,7 @@ fn push_decimals(text: &mut ArrayVec<u8, 64>, rest: u64)
 /// at most 21 bytes.
 pub fn write_decimal(d: Decimal) -> ArrayVec<u8, 64>
     ensures items { result.items ≡ spelling d }
+    ensures stands { StandsFor result.items d }
     ensures short { array_vec_len result ≤ 21 }
 {
     let count = d.nanos();

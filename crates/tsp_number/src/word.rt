@@ -1,4 +1,5 @@
 ghost use Rattle.std.specs.Prelude.{◌≡◌, ◌≤ℤ◌, SomeIff};
+ghost use Rattle.tsp_number.specs.Reading.{decimal_of, whole_of};
 ghost use Rattle.tsp_number.specs.NumberWord.{ReadsDecimal, ReadsWhole, signed as signed_of};
 
 use crate::decimal::Decimal;
@@ -47,7 +48,8 @@ fn within(value: i128, low: i64, high: i64) -> Option<i64>
 /// - `TooFine`: its number isn't a whole count of 10^-9. Zeros past the ninth place do no harm.
 /// - `OutOfRange`: its number is larger than 10^9 in size.
 pub fn parse_decimal(word: &[u8]) -> Result<Decimal, NumberFault>
-    ensures { ReadsDecimal word.now result }
+    ensures reads { ReadsDecimal word.now result }
+    ensures computed { result ≡ decimal_of word.now }
 {
     if word.len() > MOST_BYTES {
         return Err(NumberFault::LongWord);
@@ -76,7 +78,8 @@ pub fn parse_decimal(word: &[u8]) -> Result<Decimal, NumberFault>
 /// - `NotWhole`: its number isn't whole.
 /// - `OutOfRange`: its number is less than `low` or more than `high`.
 pub fn parse_whole(word: &[u8], low: i64, high: i64) -> Result<i64, NumberFault>
-    ensures { ReadsWhole word.now low high result }
+    ensures reads { ReadsWhole word.now low high result }
+    ensures computed { result ≡ whole_of word.now low high }
 {
     if word.len() > MOST_BYTES {
         return Err(NumberFault::LongWord);

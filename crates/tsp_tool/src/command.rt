@@ -4,6 +4,7 @@ ghost use Rattle.std.specs.Prelude.{map};
 ghost use Rattle.tsp_tool.specs.Command.{AsksFor};
 
 /// What the program is asked to do.
+#[derive(Clone, Copy, Debug, PartialEq, Eq)]
 pub(crate) enum Command<'a> {
     /// To check the two texts that the program holds.
     Stored,

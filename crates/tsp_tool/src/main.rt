@@ -9,6 +9,8 @@ mod command;
 mod source;
 mod status;
 mod stored;
+#[cfg(test)]
+mod tests;
 
 use command::{Command, command_of};
 use source::Source;

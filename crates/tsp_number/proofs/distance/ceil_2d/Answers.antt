@@ -1,7 +1,8 @@
-use Rattle.std.proofs.Common.{arith, ◌≡◌, unsigned_abs, to_z, of_z, w64, subst, sym, ℕ}
+use Rattle.std.proofs.Common.{arith, ◌≡◌, ◌≤ℤ◌, ℕ, pos, unsigned_abs, to_z, of_z, w64, subst, sym}
 use Rattle.std.proofs.lemmas.Int.{ints}
 use Rattle.tsp_number.specs.Distances.{IsCeil2d}
 use Rattle.tsp_number.proofs.Roots.{is_ceil_2d}
+use Rattle.tsp_number.proofs.DistanceLaws.{ceil_2d-is, signed_is}
 use Rattle.tsp_number.proofs.distance.ceil_2d.Goals as goal
 
 pub returns-clause-value : goal.returns-clause-value
@@ -11,3 +12,8 @@ returns-clause-value c =
     subst P (sym same)
     (is_ceil_2d _ _ _ _ _ c.gap.ensures.value c.gap-2.ensures.value c.rounded_root.ensures.enough
     c.rounded_root.ensures.least)
+
+pub returns-clause-distance : goal.returns-clause-distance
+returns-clause-distance c =
+    let low : pos 0 ≤ℤ to_z w64 (of_z w64 c.from.result) = search (arith, ints) in
+    signed_is (to_z w64 (of_z w64 c.from.result)) _ low (ceil_2d-is c.args.a c.args.b _ (returns-clause-value c))

@@ -12,8 +12,8 @@ returns-then-places-ge0 c = λ n keeps.
     let near = near_places c.args.scale (length n.fraction) n.exponent c.requires.scale (few_in_fraction c.args.written.now n keeps) in
     let at : c.places-places.result ≡ pos c.unsigned_abs-count.result = grind (arith, ints) in
     let place : pos c.args.scale +ℤ clamped n.exponent -ℤ pos (length n.fraction) ≡ pos c.unsigned_abs-count.result = rw (← c.places-places.ensures n keeps) at in
-    let moved = shifts_up (digits_of n) c.args.written.now.size c.unsigned_abs-count.result _ _ near place keeps.size in
-    (moved.0, moved.1, c.add_zeros.ensures ∙ moved.2)
+    rw c.add_zeros.ensures
+    (shifts_up (digits_of n) c.args.written.now.size c.unsigned_abs-count.result _ _ near place keeps.size)
 
 pub returns-then-written-lt18446744073709551615 : goal.returns-then-written-lt18446744073709551615
 returns-then-written-lt18446744073709551615 c = λ n keeps.

@@ -1,4 +1,4 @@
-use Rattle.std.proofs.Common.{◌≡◌, ◌≢◌, ℕ, ◌<◌, get_or}
+use Rattle.std.proofs.Common.{◌≢◌, ℕ, ◌<◌, get_or}
 use Rattle.tsp_file.specs.declared.layout.Layout.{Layout}
 use Rattle.tsp_file.specs.Layout.{layout_word}
 use Rattle.tsp_file.proofs.layout.Layout.of_word.Given as goal

@@ -1,0 +1,39 @@
+//! What always holds of the definitions, as contracts of functions that do nothing.
+
+ghost use Rattle.std.specs.Prelude.{◌≡◌, ◌≤◌, ℕ, ℤ, List, Result, Ok, unsigned_abs};
+ghost use Rattle.tsp_number.specs.declared.fault.NumberFault.{NumberFault};
+ghost use Rattle.tsp_number.specs.Decimal.{most_count};
+ghost use Rattle.tsp_number.specs.Distances.{IsEuc2d, IsCeil2d, IsMan2d, IsMax2d, IsAtt, euc_2d_of, ceil_2d_of, man_2d_of, max_2d_of, att_of, IsDistance};
+ghost use Rattle.tsp_number.specs.NumberWord.{StandsFor, ReadsDecimal, ReadsWhole};
+ghost use Rattle.tsp_number.specs.Reading.{decimal_of, whole_of};
+ghost use Rattle.tsp_number.specs.Spelling.{spelling};
+
+/// A word stands for at most one number, and it is read in exactly one way: where a decimal is
+/// wanted, and where a whole number is.
+pub fn number_word_laws()
+    ensures one_number { (word : List ℕ) (j k : ℤ) → StandsFor word j → StandsFor word k → j ≡ k }
+    ensures one_decimal { (word : List ℕ) (r s : Result ℤ NumberFault)
+        → ReadsDecimal word r → ReadsDecimal word s → r ≡ s }
+    ensures some_decimal { (word : List ℕ) → ReadsDecimal word (decimal_of word) }
+    ensures one_whole { (word : List ℕ) (low high : ℤ) (r s : Result ℤ NumberFault)
+        → ReadsWhole word low high r → ReadsWhole word low high s → r ≡ s }
+    ensures some_whole { (word : List ℕ) (low high : ℤ)
+        → ReadsWhole word low high (whole_of word low high) }
+{}
+
+/// The spelling of a decimal stands for it, and reading it gives that decimal and nothing else.
+pub fn spelling_laws()
+    ensures stands { (k : ℤ) → unsigned_abs k ≤ most_count → StandsFor (spelling k) k }
+    ensures round_trip { (k : ℤ) (r : Result ℤ NumberFault) → unsigned_abs k ≤ most_count
+        → ReadsDecimal (spelling k) r → r ≡ Ok k }
+{}
+
+/// Each distance is defined between any two points, by one number. It is the same both ways, 0
+/// between equal points, and at most 4 * 10^9.
+pub fn distance_laws()
+    ensures euc_2d { IsDistance IsEuc2d euc_2d_of }
+    ensures ceil_2d { IsDistance IsCeil2d ceil_2d_of }
+    ensures man_2d { IsDistance IsMan2d man_2d_of }
+    ensures max_2d { IsDistance IsMax2d max_2d_of }
+    ensures att { IsDistance IsAtt att_of }
+{}
