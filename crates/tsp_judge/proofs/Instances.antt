@@ -36,7 +36,6 @@ same_decimal : (m n : ℕ) → m ≤ 5000 → n ≤ 5000 → decimal m ≡ decim
 same_decimal m n small few e =
     sym (decimal_is_IsNumeral m (omega arith)).1 ∙ ap (digits_value 10) e ∙ (decimal_is_IsNumeral n (omega arith)).1
 
-
 same_parts : (lines rest more : List (List ℕ)) (m n : ℕ) → lines ≡ instance_head m ++ rest → lines ≡ instance_head n ++ more → (decimal m ≡ decimal n) × (rest ≡ more)
 same_parts lines rest more m n e f = (cc, cc)
 

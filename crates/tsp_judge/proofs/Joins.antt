@@ -23,7 +23,7 @@ pub words_step : (kind : NumberKind) (front after : List ℤ) (z : ℤ) (word : 
     → joined (Some front) (numbers_of kind (word ∷ words)) ≡ all → joined (Some after) (numbers_of kind words) ≡ all
 words_step kind front after z word words all e pushed so_far =
     let first : joined (Some front) (joined (Some (z ∷ [])) (numbers_of kind words)) ≡ all =
-        subst (λ (o : Option ℤ). joined (Some front) (joined (option_map (λ x. x ∷ []) o) (numbers_of kind words)) ≡ all) e so_far in
+    subst (λ (o : Option ℤ). joined (Some front) (joined (option_map (λ x. x ∷ []) o) (numbers_of kind words)) ≡ all) e so_far in
     rw pushed (sym (joined_assoc (Some front) (Some (z ∷ [])) (numbers_of kind words)) ∙ first)
 
 -- one line more, which isn't the line EOF
@@ -32,9 +32,9 @@ pub lines_step : (kind : NumberKind) (front after : List ℤ) (line : List ℕ) 
     → joined (Some front) (numbers_before_eof kind (line ∷ lines)) ≡ all → joined (Some after) (numbers_before_eof kind lines) ≡ all
 lines_step kind front after line lines all other pushed so_far =
     let first : joined (Some front) (joined (numbers_of kind (words_of line)) (numbers_before_eof kind lines)) ≡ all =
-        subst (λ (b : Bool). joined (Some front) (cond b (Some []) (joined (numbers_of kind (words_of line)) (numbers_before_eof kind lines))) ≡ all) other so_far in
+    subst (λ (b : Bool). joined (Some front) (cond b (Some []) (joined (numbers_of kind (words_of line)) (numbers_before_eof kind lines))) ≡ all) other so_far in
     ap (λ (o : Option (List ℤ)). joined o (numbers_before_eof kind lines)) (sym pushed)
-        ∙ sym (joined_assoc (Some front) (numbers_of kind (words_of line)) (numbers_before_eof kind lines)) ∙ first
+    ∙ sym (joined_assoc (Some front) (numbers_of kind (words_of line)) (numbers_before_eof kind lines)) ∙ first
 
 -- a line that lists something that is no number
 pub lines_fail : (kind : NumberKind) (front : List ℤ) (line : List ℕ) (lines : List (List ℕ)) (all : Option (List ℤ)) → bytes_eq line (codes "EOF") ≡ false
@@ -42,14 +42,14 @@ pub lines_fail : (kind : NumberKind) (front : List ℤ) (line : List ℕ) (lines
     → joined (Some front) (numbers_before_eof kind (line ∷ lines)) ≡ all → all ≡ None
 lines_fail kind front line lines all other failed so_far =
     let first : joined (Some front) (joined (numbers_of kind (words_of line)) (numbers_before_eof kind lines)) ≡ all =
-        subst (λ (b : Bool). joined (Some front) (cond b (Some []) (joined (numbers_of kind (words_of line)) (numbers_before_eof kind lines))) ≡ all) other so_far in
+    subst (λ (b : Bool). joined (Some front) (cond b (Some []) (joined (numbers_of kind (words_of line)) (numbers_before_eof kind lines))) ≡ all) other so_far in
     sym first ∙ joined_assoc (Some front) (numbers_of kind (words_of line)) (numbers_before_eof kind lines)
-        ∙ ap (λ (o : Option (List ℤ)). joined o (numbers_before_eof kind lines)) failed
+    ∙ ap (λ (o : Option (List ℤ)). joined o (numbers_before_eof kind lines)) failed
 
 -- the line EOF ends the numbers
 pub lines_end : (kind : NumberKind) (front : List ℤ) (line : List ℕ) (lines : List (List ℕ)) (all : Option (List ℤ)) → bytes_eq line (codes "EOF") ≡ true
     → joined (Some front) (numbers_before_eof kind (line ∷ lines)) ≡ all → Some front ≡ all
 lines_end kind front line lines all here so_far =
     let first : joined (Some front) (Some []) ≡ all =
-        subst (λ (b : Bool). joined (Some front) (cond b (Some []) (joined (numbers_of kind (words_of line)) (numbers_before_eof kind lines))) ≡ all) here so_far in
+    subst (λ (b : Bool). joined (Some front) (cond b (Some []) (joined (numbers_of kind (words_of line)) (numbers_before_eof kind lines))) ≡ all) here so_far in
     ap (λ (xs : List ℤ). Some xs) (sym (append-nil front)) ∙ first

@@ -32,7 +32,7 @@ path_more weight so_far total from first others i lt e =
     let x = get_or others i 0 in
     let parts : drop i others ≡ x ∷ drop (suc i) others = drop-cons others i 0 lt in
     let step : so_far +ℤ (weight from x +ℤ path_length weight (x ∷ (drop (suc i) others ++ first ∷ []))) ≡ total =
-        subst (λ (xs : List ℕ). so_far +ℤ path_length weight (from ∷ (xs ++ first ∷ [])) ≡ total) parts e in
+    subst (λ (xs : List ℕ). so_far +ℤ path_length weight (from ∷ (xs ++ first ∷ [])) ≡ total) parts e in
     rw (add-one i) (+ℤ_assoc so_far (weight from x) (path_length weight (x ∷ (drop (suc i) others ++ first ∷ []))) ∙ step)
 
 -- the last step, back to the first node

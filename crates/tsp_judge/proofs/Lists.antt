@@ -120,7 +120,7 @@ by_test kind line lines zs false here others e =
       after = rest.after;
       parts = ap (λ (ls : List (List ℕ)). line ∷ ls) rest.parts;
       numbers = ap (numbers_of kind) (flat_map-cons words_of line rest.body) ∙ numbers_append kind (words_of line) (flat_map words_of rest.body)
-        ∙ joined_is (numbers_of kind (words_of line)) (numbers_of kind (flat_map words_of rest.body)) found.0 found.1 zs found.2 rest.numbers found.4;
+          ∙ joined_is (numbers_of kind (words_of line)) (numbers_of kind (flat_map words_of rest.body)) found.0 found.1 zs found.2 rest.numbers found.4;
     }
 
 parts_of : (kind : NumberKind) (lines : List (List ℕ)) (zs : List ℤ) → numbers_before_eof kind lines ≡ Some zs → Parts kind lines zs
@@ -138,7 +138,7 @@ numbers_back : (kind : NumberKind) (body after : List (List ℕ)) (zs : List ℤ
 numbers_back kind [] after zs e = e
 numbers_back kind (line ∷ body) after zs e =
     let both : joined (numbers_of kind (words_of line)) (numbers_of kind (flat_map words_of body)) ≡ Some zs =
-        sym (ap (numbers_of kind) (flat_map-cons words_of line body) ∙ numbers_append kind (words_of line) (flat_map words_of body)) ∙ e in
+    sym (ap (numbers_of kind) (flat_map-cons words_of line body) ∙ numbers_append kind (words_of line) (flat_map words_of body)) ∙ e in
     let found = joined_some (numbers_of kind (words_of line)) (numbers_of kind (flat_map words_of body)) zs both in
     let rest : numbers_before_eof kind (body ++ eof ∷ after) ≡ Some found.1 = numbers_back kind body after found.1 found.3 in
     rw (not_eof kind line found.0 found.2) (joined_is (numbers_of kind (words_of line)) (numbers_before_eof kind (body ++ eof ∷ after)) found.0 found.1 zs found.2 rest found.4)

@@ -58,9 +58,11 @@ mark_more nodes seen count fits free m = record {
     marked_at : (place : ℕ) → 1 ≤ place → (place ≡ count + 1) ⊎ (place ≤ count) → get_or (set seen (get_or nodes count 0) true) (node_at nodes place) false ≡ true
     marked_at place low (inl e) = rw (here nodes place count e) (set_marks seen (get_or nodes count 0) fits)
     marked_at place low (inr le) = set_keeps seen (get_or nodes count 0) (node_at nodes place) (m.marked place low le)
+
     only_at : (node : ℕ) → (node ≡ get_or nodes count 0) ⊎ (get_or seen node false ≡ true) → (place : ℕ) × (1 ≤ place) × (place ≤ count + 1) × (node_at nodes place ≡ node)
     only_at node (inl e) = (count + 1, omega arith, omega arith, here nodes (count + 1) count refl ∙ sym e)
     only_at node (inr h) = let found = m.only node h in (found.0, found.1, omega (arith, found.2), found.3)
+
     once_at : (place : ℕ) → 1 ≤ place → (place ≡ count + 1) ⊎ (place ≤ count) → IsRepeated nodes place → ⊥
     once_at place low (inl e) r =
         let taken : get_or seen (node_at nodes r.0) false ≡ true = m.marked r.0 r.1 (omega (arith, r.2)) in

@@ -8,9 +8,9 @@ use crate::fault::RunFault;
 use crate::judge::judge;
 use crate::reading::{read_instance, read_solution};
 use crate::report::report_text;
-use tsp_file::{Watched, WriteFault, write_text};
 use std::alloc::Global;
 use std::io::{Read, Write};
+use tsp_file::{Watched, WriteFault, write_text};
 
 /// Judges a solution of an instance, and writes the report.
 ///

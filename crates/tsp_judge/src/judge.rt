@@ -16,7 +16,11 @@ use std::alloc::{AllocError, Global};
 const FEWEST_NODES: u32 = 3;
 
 /// The verdict on a solution: the first reason that stands against it, or the length of its tour.
-pub(crate) fn judge(alloc: Global, instance: &Matrix, solution: &Tours) -> Result<Verdict, AllocError>
+pub(crate) fn judge(
+    alloc: Global,
+    instance: &Matrix,
+    solution: &Tours,
+) -> Result<Verdict, AllocError>
     requires { All (λ node. 1 ≤ node) solution.now.nodes.items }
     ensures { IfOk result (λ verdict. (tours : List (List ℕ)) → Holds solution.now tours → IsVerdict (instance_of instance.now) tours verdict) }
 {

@@ -8,13 +8,12 @@ mod judge;
 mod limit;
 mod reading;
 mod report;
-mod verdict;
-
 #[cfg(test)]
 mod tests;
+mod verdict;
 
 pub use check::run_check;
 pub use fault::{ReadFault, RunFault};
 pub use limit::FILE_LIMIT;
-pub use verdict::{Reason, Verdict};
 pub use tsp_file::{Watched, WriteFault};
+pub use verdict::{Reason, Verdict};

@@ -11,9 +11,9 @@ use crate::form::instance::Matrix;
 use crate::form::lines::first_line;
 use crate::form::solution::{Tours, parse_solution};
 use crate::limit::FILE_LIMIT;
-use tsp_file::Watched;
 use std::alloc::Global;
 use std::io::Read;
+use tsp_file::Watched;
 
 /// How many bytes a reader is asked for at once.
 const PIECE: usize = 4_096;
@@ -72,7 +72,11 @@ fn read_counted<R: Read>(alloc: Global, reader: &mut Watched<R>) -> Result<Vec<u
         return Ok(bytes);
     }
     bytes.truncate(FILE_LIMIT);
-    if has_eof_line(&bytes) { Ok(bytes) } else { Err(ReadFault::TooLong) }
+    if has_eof_line(&bytes) {
+        Ok(bytes)
+    } else {
+        Err(ReadFault::TooLong)
+    }
 }
 
 /// The instance that a reader's bytes spell, or `None` where they are not of its form.

@@ -8,7 +8,11 @@ use itoa::{Buffer, Integer};
 use std::alloc::{AllocError, Global};
 
 /// The report on an instance of this many nodes, line by line.
-pub(crate) fn report_text(alloc: Global, nodes: u32, verdict: Verdict) -> Result<Vec<u8>, AllocError>
+pub(crate) fn report_text(
+    alloc: Global,
+    nodes: u32,
+    verdict: Verdict,
+) -> Result<Vec<u8>, AllocError>
     ensures { IfOk result (λ text. text.items ≡ report_of nodes verdict) }
 {
     let mut text = Vec::from_slice(alloc, b"type ATSP\nnodes ")?;

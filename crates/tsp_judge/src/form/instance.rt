@@ -86,7 +86,11 @@ fn dimension_of(line: &[u8]) -> Option<u32>
         return None;
     }
     let mut buffer = Buffer::new();
-    if buffer.format(nodes).as_bytes() == digits { Some(nodes as u32) } else { None }
+    if buffer.format(nodes).as_bytes() == digits {
+        Some(nodes as u32)
+    } else {
+        None
+    }
 }
 
 /// The number of nodes that the head of an instance says, and the text after the head.

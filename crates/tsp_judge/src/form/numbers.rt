@@ -11,11 +11,7 @@ use std::alloc::{AllocError, Global};
 
 /// Appends the numbers of a line's words. False where a word is no number that is allowed; some
 /// numbers may stand in the vector then.
-fn push_numbers(
-    numbers: &mut Vec<i64>,
-    line: &[u8],
-    kind: NumberKind,
-) -> Result<bool, AllocError>
+fn push_numbers(numbers: &mut Vec<i64>, line: &[u8], kind: NumberKind) -> Result<bool, AllocError>
     ensures { IfOk result (λ fits. joined (Some numbers.old.items) (numbers_of kind (words_of line.now))
         ≡ cond fits (Some numbers.new.items) None) }
 {

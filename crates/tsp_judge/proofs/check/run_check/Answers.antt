@@ -34,7 +34,7 @@ returns-in_default-report_text g c =
     let one = rw c.in-Ok-Some.field-0-is at c.in-Ok-Some.ensures in
     let two = rw c.in-Ok-Some-read_solution.field-0-is at c.in-Ok-Some-read_solution.ensures in
     let both = judged (turn_of g.I.Read.remaining c.args.inst.now c.read_instance.new.reader one.0) (turn_of g.S.Read.remaining c.args.sol.now c.read_solution.new.reader two.0)
-        one.1 (instance_of c.in-Ok-Some.instance) two.1 c.nodes.result c.in-Ok.verdict one.3 c.nodes.ensures.value one.2 two.2 (c.in-Ok.ensures two.1 two.3) in
+    one.1 (instance_of c.in-Ok-Some.instance) two.1 c.nodes.result c.in-Ok.verdict one.3 c.nodes.ensures.value one.2 two.2 (c.in-Ok.ensures two.1 two.3) in
     (one.0, two.0, ((keeps_same _, refl), c.nodes.result, c.in-Ok.verdict, both))
 
 pub returns-in-Err-write_text : goal.returns-in-Err-write_text
@@ -42,18 +42,21 @@ returns-in-Err-write_text g c =
     let one = rw c.in-Ok-Some.field-0-is at c.in-Ok-Some.ensures in
     let two = rw c.in-Ok-Some-read_solution.field-0-is at c.in-Ok-Some-read_solution.ensures in
     let both = judged (turn_of g.I.Read.remaining c.args.inst.now c.read_instance.new.reader one.0) (turn_of g.S.Read.remaining c.args.sol.now c.read_solution.new.reader two.0)
-        one.1 (instance_of c.in-Ok-Some.instance) two.1 c.nodes.result c.in-Ok.verdict one.3 c.nodes.ensures.value one.2 two.2 (c.in-Ok.ensures two.1 two.3) in
-    let text = c.deref.ensures.value ∙ c.in-Ok-report_text.ensures in
-    (one.0, two.0, write_faults (turn_of g.I.Read.remaining c.args.inst.now c.read_instance.new.reader one.0) (turn_of g.S.Read.remaining c.args.sol.now c.read_solution.new.reader two.0)
-        (sink_of g.W.Write.contents c.args.out.now c.write_text.new.out) c.nodes.result c.in-Ok.verdict c.in-Err-write_text.fault both
-        (subst (λ (t : List ℕ). Writes (sink_of g.W.Write.contents c.args.out.now c.write_text.new.out) t (Err c.in-Err-write_text.fault)) text c.in-Err-write_text.ensures))
+    one.1 (instance_of c.in-Ok-Some.instance) two.1 c.nodes.result c.in-Ok.verdict one.3 c.nodes.ensures.value one.2 two.2 (c.in-Ok.ensures two.1 two.3) in
+    let text = c.deref.ensures.value ∙ c.in-Ok-report_text.ensures in (
+      one.0,
+      two.0,
+      write_faults (turn_of g.I.Read.remaining c.args.inst.now c.read_instance.new.reader one.0) (turn_of g.S.Read.remaining c.args.sol.now c.read_solution.new.reader two.0)
+          (sink_of g.W.Write.contents c.args.out.now c.write_text.new.out) c.nodes.result c.in-Ok.verdict c.in-Err-write_text.fault both
+          (subst (λ (t : List ℕ). Writes (sink_of g.W.Write.contents c.args.out.now c.write_text.new.out) t (Err c.in-Err-write_text.fault)) text c.in-Err-write_text.ensures),
+    )
 
 pub returns : goal.returns
 returns g c =
     let one = rw c.in-Ok-Some.field-0-is at c.in-Ok-Some.ensures in
     let two = rw c.in-Ok-Some-read_solution.field-0-is at c.in-Ok-Some-read_solution.ensures in
     let both = judged (turn_of g.I.Read.remaining c.args.inst.now c.read_instance.new.reader one.0) (turn_of g.S.Read.remaining c.args.sol.now c.read_solution.new.reader two.0)
-        one.1 (instance_of c.in-Ok-Some.instance) two.1 c.nodes.result c.in-Ok.verdict one.3 c.nodes.ensures.value one.2 two.2 (c.in-Ok.ensures two.1 two.3) in
+    one.1 (instance_of c.in-Ok-Some.instance) two.1 c.nodes.result c.in-Ok.verdict one.3 c.nodes.ensures.value one.2 two.2 (c.in-Ok.ensures two.1 two.3) in
     let text = c.deref.ensures.value ∙ c.in-Ok-report_text.ensures in
     let wrote = rw text at c.in-Ok-write_text.ensures in
     (one.0, two.0, (c.nodes.result, c.in-Ok.verdict, both, c.is_yes.ensures, wrote))

@@ -14,14 +14,14 @@ index_mut-requires c = in_range c.args.nodes.now c.nodes.node-index c.args.n (ve
 pub returns-then-index : goal.returns-then-index
 returns-then-index c =
     let fits : get_or c.args.nodes.now c.nodes.node-index 0 < length c.nodes.seen.items =
-        in_range c.args.nodes.now c.nodes.node-index c.args.n (length c.nodes.seen.items) c.nodes-test.true c.requires.range (sym c.nodes.seen.ok.0 ∙ c.nodes.invariant.wide) in
+    in_range c.args.nodes.now c.nodes.node-index c.args.n (length c.nodes.seen.items) c.nodes-test.true c.requires.range (sym c.nodes.seen.ok.0 ∙ c.nodes.invariant.wide) in
     let taken = mark_is c.nodes.seen.items (get_or c.args.nodes.now c.nodes.node-index 0) c.index.result.now _ fits c.index.ensures c.if-index.true in
     rw c.nodes.invariant.counted (repeated_here c.args.nodes.now c.nodes.seen.items c.nodes.node-index c.nodes-test.true taken c.nodes.invariant.marks)
 
 pub nodes-preserved : goal.nodes-preserved
 nodes-preserved c =
     let fits : get_or c.args.nodes.now c.nodes.node-index 0 < length c.nodes.seen.items =
-        in_range c.args.nodes.now c.nodes.node-index c.args.n (length c.nodes.seen.items) c.nodes-test.true c.requires.range (sym c.nodes.seen.ok.0 ∙ c.nodes.invariant.wide) in
+    in_range c.args.nodes.now c.nodes.node-index c.args.n (length c.nodes.seen.items) c.nodes-test.true c.requires.range (sym c.nodes.seen.ok.0 ∙ c.nodes.invariant.wide) in
     let free = mark_is c.nodes.seen.items (get_or c.args.nodes.now c.nodes.node-index 0) c.index.result.now _ fits c.index.ensures c.if-index.false in
     record {
       counted = omega (arith, c.nodes.invariant.counted);

@@ -15,6 +15,11 @@ returns c = λ tours held.
     let low : All (λ node. 1 ≤ node) c.as_slice-tour.result.now = rw c.as_slice-tour.ensures.value c.requires in
     let high : (place : ℕ) → IsPlace c.as_slice-tour.result.now place → node_at c.as_slice-tour.result.now place ≤ c.args.instance.now.nodes = rw (← c.nodes-nodes.ensures.value) c.in_default.ensures in
     simp to_z-of_z (is_tour (instance_of c.args.instance.now) tours c.args.solution.now.count c.as_slice-tour.result.now c.tour_length.result held.count (c.as_slice-tour.ensures.value ∙ held.nodes)
-        (record { enough = omega (arith, c.if-nodes-lt-FEWEST_NODES.false, c.nodes-nodes.ensures.value); one = c.if-solution-ne1.false; full = c.if-tour-nodes.false ∙ c.nodes-nodes.ensures.value;
-            range = in_range c.args.instance.now.nodes c.as_slice-tour.result.now low high; once = once })
-        c.tour_length.ensures)
+    (record {
+      enough = omega (arith, c.if-nodes-lt-FEWEST_NODES.false, c.nodes-nodes.ensures.value);
+      one = c.if-solution-ne1.false;
+      full = c.if-tour-nodes.false ∙ c.nodes-nodes.ensures.value;
+      range = in_range c.args.instance.now.nodes c.as_slice-tour.result.now low high;
+      once = once;
+    })
+    c.tour_length.ensures)

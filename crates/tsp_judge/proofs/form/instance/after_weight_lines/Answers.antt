@@ -17,4 +17,4 @@ pub returns : goal.returns
 returns c = head_more (lines_of c.args.text.now) (lines_of c.in-Some.after_kind.now) (codes "EDGE_WEIGHT_FORMAT : FULL_MATRIX" ∷ codes "EDGE_WEIGHT_SECTION" ∷ [])
     (codes "EDGE_WEIGHT_TYPE : EXPLICIT") c.after_line-3.result c.in-Some.ensures
     (head_more (lines_of c.in-Some.after_kind.now) (lines_of c.in-Some-after_line.after_format.now) (codes "EDGE_WEIGHT_SECTION" ∷ [])
-        (codes "EDGE_WEIGHT_FORMAT : FULL_MATRIX") c.after_line-3.result c.in-Some-after_line.ensures c.after_line-3.ensures)
+    (codes "EDGE_WEIGHT_FORMAT : FULL_MATRIX") c.after_line-3.result c.in-Some-after_line.ensures c.after_line-3.ensures)

@@ -11,4 +11,4 @@ words-preserved c =
     let fits : FitsSigned w64 c.in-Some-number_in.number = search rules in
     let pushed = simp to_z-of_z at c.in_ok-push-in-Some-number_in.ensures.items in
     words_step c.args.kind c.words.numbers.items c.push.new.self.items c.in-Some-number_in.number c.in-Some.word.now (words_of c.in-Some.after.now) _
-        (sym c.in-Some-number_in.ensures) pushed (rw c.in-Some.ensures.words at c.words.invariant)
+    (sym c.in-Some-number_in.ensures) pushed (rw c.in-Some.ensures.words at c.words.invariant)

@@ -18,7 +18,7 @@ pub returns-then-len-count : goal.returns-then-len-count
 returns-then-len-count c =
     let found = rw c.in-Some-2.is at c.in_ok-weights.ensures in
     wrong_count c.args.text.now c.in-Some.nodes (lines_of c.in-Some.body.now) c.in-Some-2.weights.items (record { nodes = (c.in-Some.ensures.0, c.in-Some.ensures.1); head = c.in-Some.ensures.2 }) (sym found)
-        (λ e. c.if-len-count.true (c.len.ensures ∙ c.in-Some-2.weights.ok.0 ∙ e))
+    (λ e. c.if-len-count.true (c.len.ensures ∙ c.in-Some-2.weights.ok.0 ∙ e))
 
 pub invariant_of-result-clause-filled : goal.invariant_of-result-clause-filled
 invariant_of-result-clause-filled c = c.in-Some.ensures.0
@@ -32,4 +32,4 @@ pub returns : goal.returns
 returns c =
     let found = rw c.in-Some-2.is at c.in_ok-weights.ensures in
     is_instance c.args.text.now c.in-Some.nodes (lines_of c.in-Some.body.now) c.in-Some-2.weights.items (record { nodes = (c.in-Some.ensures.0, c.in-Some.ensures.1); head = c.in-Some.ensures.2 }) (sym found)
-        (sym c.in-Some-2.weights.ok.0 ∙ sym c.len.ensures ∙ c.if-len-count.false)
+    (sym c.in-Some-2.weights.ok.0 ∙ sym c.len.ensures ∙ c.if-len-count.false)
