@@ -1,5 +1,5 @@
 -- Tests of a list, seen through what its elements hold.
-use Rattle.std.proofs.Common.{◌≡◌, ℕ, ◌+◌, [], ◌∷◌, ◌≤◌, Bool, true, List, length, map, refl, sym, ap, ◌∙◌, arith, leb}
+use Rattle.std.proofs.Common.{◌≡◌, ℕ, ◌+◌, [], ◌∷◌, ◌≤◌, Bool, true, List, length, map, refl, sym, ap, ◌∙◌, arith}
 use Rattle.std.specs.Prelude.{◌&&◌, nat_le}
 use Rattle.std.specs.Global.{Vec}
 use Rattle.std.specs.List.{fold, list_all, sum_by}

@@ -1,5 +1,5 @@
 -- The first failing test of two lists of tests, one after the other.
-use Rattle.std.proofs.Common.{◌≡◌, Bool, true, false, cond, List, [], ◌∷◌, ◌++◌, Option, None, Some, refl, sym, ap, ◌∙◌}
+use Rattle.std.proofs.Common.{◌≡◌, Bool, true, false, cond, List, [], ◌∷◌, ◌++◌, Option, None, Some, refl}
 use Rattle.tsp_file.specs.declared.field.Field.{Field}
 use Rattle.tsp_file.specs.Validity.{first_failing}
 

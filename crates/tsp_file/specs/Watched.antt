@@ -1,5 +1,5 @@
 -- What a clause sees of a watched reader or writer.
-use Rattle.std.specs.Prelude.{ℕ, Bool, true, List, length, Result, Ok, Err, is_err, ◌&&◌, ◌==◌, nat_lt}
+use Rattle.std.specs.Prelude.{ℕ, Bool, true, List, length, Result, Ok, Err, ◌&&◌, ◌==◌, nat_lt}
 use Rattle.tsp_file.specs.declared.watched.Watched.{Watched}
 
 -- the reader or writer inside

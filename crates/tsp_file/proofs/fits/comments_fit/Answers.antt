@@ -1,4 +1,4 @@
-use Rattle.std.proofs.Common.{ℕ, List, sym, ◌∙◌}
+use Rattle.std.proofs.Common.{ℕ, ◌∙◌}
 use Rattle.std.specs.Global.{Vec}
 use Rattle.tsp_file.specs.declared.field.Field.TheVariants.{CommentKey}
 use Rattle.tsp_file.specs.Words.{field_word}

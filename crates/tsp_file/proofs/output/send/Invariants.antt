@@ -1,4 +1,4 @@
-use Rattle.std.proofs.Common.{◌≡◌, ◌++◌, ◌-◌, ◌≤◌, ℕ, false, length, take, drop}
+use Rattle.std.proofs.Common.{◌≡◌, ℕ, false, length, take, drop}
 use Rattle.std.specs.Io.KnownBytes.{Appends}
 use Rattle.tsp_file.specs.Watched.{watched, has_failed}
 use Rattle.tsp_file.proofs.output.send.Given as goal

@@ -1,4 +1,4 @@
-use Rattle.std.proofs.Common.{◌≡◌, List, ℕ, [], ◌++◌, ◌∙◌, sym}
+use Rattle.std.proofs.Common.{[], ◌++◌, ◌∙◌, sym}
 use Rattle.std.specs.Prelude.{codes}
 use Rattle.tsp_file.specs.Fields.{fields_of}
 use Rattle.tsp_file.specs.Text.{joined, keyword_texts, section_texts, text_of}

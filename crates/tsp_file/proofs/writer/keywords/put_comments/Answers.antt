@@ -1,4 +1,4 @@
-use Rattle.std.proofs.Common.{List, ℕ, arith}
+use Rattle.std.proofs.Common.{arith}
 use Rattle.tsp_file.specs.declared.field.Field.TheVariants.{CommentKey}
 use Rattle.tsp_file.specs.Text.{keyword_line}
 use Rattle.tsp_file.specs.Way.{way_of}

@@ -1,4 +1,3 @@
-use Rattle.std.proofs.Common.{List, ℕ}
 use Rattle.tsp_file.specs.Way.{way_of}
 use Rattle.tsp_file.proofs.Carrying.{carried_then, carried_none}
 use Rattle.tsp_file.proofs.writer.keywords.put_keywords.Goals as goal

@@ -1,4 +1,4 @@
-use Rattle.std.proofs.Common.{◌≡◌, List, ℕ, ◌+◌, ◌∙◌, sym, length, map, min, arith, rules}
+use Rattle.std.proofs.Common.{◌≡◌, ◌∙◌, sym, length, map, min, arith}
 use Rattle.tsp_file.specs.Cells.{nodes_to, cells_of_line}
 use Rattle.tsp_file.specs.Text.{matrix_lines}
 use Rattle.tsp_file.specs.Way.{way_of}

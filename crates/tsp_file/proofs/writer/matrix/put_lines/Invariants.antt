@@ -1,4 +1,4 @@
-use Rattle.std.proofs.Common.{List, ◌+◌, ◌-◌, length, map}
+use Rattle.std.proofs.Common.{◌+◌, ◌-◌, length, map}
 use Rattle.tsp_file.specs.Cells.{nodes_to, cells_of_line}
 use Rattle.tsp_file.specs.Text.{matrix_lines}
 use Rattle.tsp_file.specs.Way.{way_of}

@@ -1,4 +1,4 @@
-use Rattle.std.proofs.Common.{List, ◌∷◌, take}
+use Rattle.std.proofs.Common.{◌∷◌, take}
 use Rattle.std.specs.List.{flat_map}
 use Rattle.std.specs.Fmt.{signed_decimal}
 use Rattle.tsp_file.specs.Way.{way_of, Carried}

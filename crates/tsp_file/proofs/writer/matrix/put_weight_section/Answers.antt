@@ -1,5 +1,4 @@
-use Rattle.std.proofs.Common.{List, ℕ, append_assoc}
-use Rattle.tsp_file.specs.Way.{way_of}
+use Rattle.std.proofs.Common.{append_assoc}
 use Rattle.tsp_file.proofs.writer.matrix.put_weight_section.Goals as goal
 
 pub returns-in-Some : goal.returns-in-Some

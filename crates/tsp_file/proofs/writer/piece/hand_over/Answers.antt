@@ -1,5 +1,4 @@
-use Rattle.std.proofs.Common.{◌≡◌, List, ℕ, [], ◌++◌, ◌∙◌, sym, append-nil}
-use Rattle.tsp_file.specs.Sink.{HasWritten, HasStopped}
+use Rattle.std.proofs.Common.{[], ◌∙◌, sym, append-nil}
 use Rattle.tsp_file.specs.Way.{way_of}
 use Rattle.tsp_file.proofs.Carrying.{carried_sent}
 use Rattle.tsp_file.proofs.writer.piece.hand_over.Goals as goal

@@ -1,6 +1,6 @@
 use Rattle.std.proofs.Common.{◌≡◌, List, ℕ, [], ◌++◌, ◌∙◌, sym, refl, ap, true, false, Result, Ok, Err, append-nil}
 use Rattle.std.specs.Prelude.{OnOk, OnErr, is_ok, is_err}
-use Rattle.tsp_file.specs.Way.{way_of, Way, Carried}
+use Rattle.tsp_file.specs.Way.{way_of}
 use Rattle.tsp_file.proofs.Carrying.{carried_sent, carried_waits, carried_then}
 use Rattle.tsp_file.proofs.writer.piece.put.Goals as goal
 

@@ -1,4 +1,3 @@
-use Rattle.std.proofs.Common.{List, ℕ}
 use Rattle.std.specs.Prelude.{codes}
 use Rattle.tsp_file.specs.Text.{pair_list}
 use Rattle.tsp_file.specs.Way.{way_of}

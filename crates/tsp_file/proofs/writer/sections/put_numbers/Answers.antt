@@ -1,4 +1,4 @@
-use Rattle.std.proofs.Common.{List, ℕ, arith, rules, get_or}
+use Rattle.std.proofs.Common.{ℕ, arith, rules, get_or}
 use Rattle.std.specs.Prelude.{ℤ, pos, FitsSigned}
 use Rattle.std.specs.Int.{w64}
 use Rattle.std.proofs.lemmas.Int.{to_z-of_z}

@@ -1,4 +1,4 @@
-use Rattle.std.proofs.Common.{List, ℕ, arith}
+use Rattle.std.proofs.Common.{ℕ, arith}
 use Rattle.tsp_number.specs.declared.decimal.Point.{Point}
 use Rattle.std.specs.Fmt.{decimal}
 use Rattle.tsp_file.specs.Text.{number_line, point_numbers}

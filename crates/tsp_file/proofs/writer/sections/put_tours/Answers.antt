@@ -1,4 +1,4 @@
-use Rattle.std.proofs.Common.{List, ℕ, arith}
+use Rattle.std.proofs.Common.{arith}
 use Rattle.tsp_file.specs.Text.{node_list}
 use Rattle.tsp_file.specs.Way.{way_of}
 use Rattle.tsp_file.proofs.Carrying.{carried_mapped}

@@ -1,4 +1,4 @@
-use Rattle.std.proofs.Common.{List, take}
+use Rattle.std.proofs.Common.{take}
 use Rattle.std.specs.List.{flat_map}
 use Rattle.tsp_file.specs.Text.{node_list}
 use Rattle.tsp_file.specs.Way.{way_of, Carried}
