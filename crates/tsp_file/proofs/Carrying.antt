@@ -65,20 +65,24 @@ carried_sent a b bytes added stopped written whole empty start text h = by_faile
 
     by_failed : (after before : Bool) → b.failed ≡ after → a.failed ≡ before → Carries start b (text ++ added)
     by_failed true true e d = record {
-      front = h.front; rest = h.rest ++ added; parts = parts;
+      front = h.front;
+      rest = h.rest ++ added;
+      parts = parts;
       written = appends_kept start a.held b.held h.front h.written ((stopped e).1 d);
       waits = λ sound. absurd (cc);
     }
     by_failed true false e d =
         let count = (stopped e).2.0 in record {
-          front = h.front ++ take count bytes; rest = drop count bytes;
+          front = h.front ++ take count bytes;
+          rest = drop count bytes;
           parts = append_assoc h.front (take count bytes) (drop count bytes) ∙ ap (λ t. h.front ++ t) (take-append-drop count bytes) ∙ sent d;
           written = appends_more start a.held b.held h.front (take count bytes) h.written (stopped e).2.1;
           waits = λ sound. absurd (cc);
         }
     by_failed false before e d =
         let done = written e in record {
-          front = h.front ++ bytes; rest = [];
+          front = h.front ++ bytes;
+          rest = [];
           parts = append-nil (h.front ++ bytes) ∙ sent done.0;
           written = appends_more start a.held b.held h.front bytes h.written done.2;
           waits = λ sound. sym empty;

@@ -39,7 +39,6 @@ comes_begins f n weights a =
     let all : n - 0 ≡ n = omega arith in
     record { done = []; carried = carried_none a; parts = ap (λ m. lines_from f 1 m weights) all }
 
-
 -- the first of the lines, and the others
 lines_first : (f : ℕ → ℕ) (line count : ℕ) (rest : List ℤ) → lines_from f line (suc count) rest ≡ weight_line (take (f line) rest) ++ lines_from f (line + 1) count (drop (f line) rest)
 lines_first f line count rest = refl
@@ -54,8 +53,8 @@ comes_next f n index len count rest now later whole a b c lt is fewer front back
     let left : later ≡ drop (f (index + 1)) rest = back ∙ ap (λ m. drop m rest) fewer ∙ drop_min len rest ∙ ap (λ m. drop m rest) is in
     let parts : lines_from f (index + 1) (n - index) rest ≡ weight_line now ++ lines_from f (index + 1 + 1) (n - (index + 1)) later =
     ap (λ m. lines_from f (index + 1) m rest) lines ∙ lines_first f (index + 1) (n - (index + 1)) rest
-        ∙ ap (λ (ws : List ℤ). weight_line ws ++ lines_from f (index + 1 + 1) (n - (index + 1)) (drop (f (index + 1)) rest)) (sym taken)
-        ∙ ap (λ (ws : List ℤ). weight_line now ++ lines_from f (index + 1 + 1) (n - (index + 1)) ws) (sym left) in
+    ∙ ap (λ (ws : List ℤ). weight_line ws ++ lines_from f (index + 1 + 1) (n - (index + 1)) (drop (f (index + 1)) rest)) (sym taken)
+    ∙ ap (λ (ws : List ℤ). weight_line now ++ lines_from f (index + 1 + 1) (n - (index + 1)) ws) (sym left) in
     comes_more a b c (lines_from f (index + 1) (n - index) rest) whole (weight_line now) (lines_from f (index + 1 + 1) (n - (index + 1)) later) h k parts
 
 -- no line is left

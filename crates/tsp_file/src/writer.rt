@@ -23,7 +23,11 @@ use std::io::Write;
 ///
 /// At `Device` a front of the text was written, and nothing else; a writer that was handed in as
 /// failed gets nothing. No memory is taken, and `OutOfMemory` is never answered.
-pub fn write_file<W: Write>(_alloc: Global, f: &File, out: &mut Watched<W>) -> Result<(), WriteFault>
+pub fn write_file<W: Write>(
+    _alloc: Global,
+    f: &File,
+    out: &mut Watched<W>,
+) -> Result<(), WriteFault>
     ensures { Writes (sink_of W.contents out.old out.new) (text_of f.now) result }
 {
     write_draft(f.draft(), out)

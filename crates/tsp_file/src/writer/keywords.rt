@@ -9,8 +9,8 @@ ghost use Rattle.tsp_file.specs.Text.{value_line, keyword_line, optional, joined
 ghost use Rattle.tsp_file.specs.Fields.{fields_of};
 ghost use Rattle.tsp_file.specs.Way.{way_of, Carried};
 
-use crate::field::Field;
 use crate::draft::Draft;
+use crate::field::Field;
 use crate::kinds::{CoordKind, DisplayKind, Kind, WeightFormat, WeightKind};
 use crate::watched::Watched;
 use crate::writer::piece::{Piece, put};
@@ -80,7 +80,12 @@ fn put_value<W: Write>(piece: &mut Piece, out: &mut Watched<W>, keyword: &[u8], 
 }
 
 /// Adds the line of a keyword whose value is a word, where the file has one.
-fn put_word<W: Write, V: Word>(piece: &mut Piece, out: &mut Watched<W>, field: Field, value: Option<V>)
+fn put_word<W: Write, V: Word>(
+    piece: &mut Piece,
+    out: &mut Watched<W>,
+    field: Field,
+    value: Option<V>,
+)
     ensures { Carried (way_of W.contents out.old piece.old.items) (way_of W.contents out.new piece.new.items)
         (optional (λ value. keyword_line field (V.text value)) value) }
 {
@@ -90,13 +95,23 @@ fn put_word<W: Write, V: Word>(piece: &mut Piece, out: &mut Watched<W>, field: F
 }
 
 /// Adds the line of a keyword whose value is a whole number, where the file has one.
-fn put_whole<W: Write, N: Integer>(piece: &mut Piece, out: &mut Watched<W>, field: Field, value: Option<N>)
+fn put_whole<W: Write, N: Integer>(
+    piece: &mut Piece,
+    out: &mut Watched<W>,
+    field: Field,
+    value: Option<N>,
+)
     ensures { Carried (way_of W.contents out.old piece.old.items) (way_of W.contents out.new piece.new.items)
         (optional (λ number. keyword_line field (N.text number)) value) }
 {
     if let Some(number) = value {
         let mut buffer = Buffer::new();
-        put_value(piece, out, field.word().as_bytes(), buffer.format(number).as_bytes());
+        put_value(
+            piece,
+            out,
+            field.word().as_bytes(),
+            buffer.format(number).as_bytes(),
+        );
     }
 }
 

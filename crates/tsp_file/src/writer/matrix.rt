@@ -40,7 +40,13 @@ fn put_weight_line<W: Write>(piece: &mut Piece, out: &mut Watched<W>, weights: &
 /// Adds one line for each row of the layout that has cells, for each column where it goes by columns.
 ///
 /// Weights past the last line, which a valid file doesn't have, stand in a line of their own.
-fn put_lines<W: Write>(piece: &mut Piece, out: &mut Watched<W>, layout: Layout, nodes: u32, weights: &[i64])
+fn put_lines<W: Write>(
+    piece: &mut Piece,
+    out: &mut Watched<W>,
+    layout: Layout,
+    nodes: u32,
+    weights: &[i64],
+)
     ensures { Carried (way_of W.contents out.old piece.old.items) (way_of W.contents out.new piece.new.items)
         (matrix_lines (map (λ k. length (cells_of_line layout nodes k)) (nodes_to nodes)) weights.now) }
 {

@@ -50,7 +50,11 @@ pub(crate) fn put_number<W: Write, N: Integer>(piece: &mut Piece, out: &mut Watc
 }
 
 /// Adds a blank and the digits of a whole number.
-pub(crate) fn put_next_number<W: Write, N: Integer>(piece: &mut Piece, out: &mut Watched<W>, number: N)
+pub(crate) fn put_next_number<W: Write, N: Integer>(
+    piece: &mut Piece,
+    out: &mut Watched<W>,
+    number: N,
+)
     ensures { Carried (way_of W.contents out.old piece.old.items) (way_of W.contents out.new piece.new.items) (32 ∷ N.text number) }
 {
     put(piece, out, b" ");

@@ -125,7 +125,12 @@ fn put_tours<W: Write>(piece: &mut Piece, out: &mut Watched<W>, tours: &[Vec<u32
 }
 
 /// Adds a section of one number for each node, where the file has it.
-fn put_number_section<W: Write>(piece: &mut Piece, out: &mut Watched<W>, field: Field, numbers: &Option<Vec<i64>>)
+fn put_number_section<W: Write>(
+    piece: &mut Piece,
+    out: &mut Watched<W>,
+    field: Field,
+    numbers: &Option<Vec<i64>>,
+)
     ensures { Carried (way_of W.contents out.old piece.old.items) (way_of W.contents out.new piece.new.items)
         (optional (λ numbers. section field (by_node whole_number numbers)) (option_map (λ v. v.items) numbers.now)) }
 {
@@ -136,7 +141,12 @@ fn put_number_section<W: Write>(piece: &mut Piece, out: &mut Watched<W>, field: 
 }
 
 /// Adds a section of coordinates, where the file has it.
-fn put_point_section<W: Write>(piece: &mut Piece, out: &mut Watched<W>, field: Field, points: &Option<Vec<Point>>)
+fn put_point_section<W: Write>(
+    piece: &mut Piece,
+    out: &mut Watched<W>,
+    field: Field,
+    points: &Option<Vec<Point>>,
+)
     ensures { Carried (way_of W.contents out.old piece.old.items) (way_of W.contents out.new piece.new.items)
         (optional (λ points. section field (by_node point_numbers points)) (option_map (λ v. v.items) points.now)) }
 {
@@ -169,7 +179,11 @@ fn put_fixed<W: Write>(piece: &mut Piece, out: &mut Watched<W>, pairs: &Option<V
 }
 
 /// Adds TOUR_SECTION, where the file has it.
-fn put_tour_section<W: Write>(piece: &mut Piece, out: &mut Watched<W>, tours: &Option<Vec<Vec<u32>>>)
+fn put_tour_section<W: Write>(
+    piece: &mut Piece,
+    out: &mut Watched<W>,
+    tours: &Option<Vec<Vec<u32>>>,
+)
     ensures { Carried (way_of W.contents out.old piece.old.items) (way_of W.contents out.new piece.new.items)
         (optional (λ tours. section Field.TourPart (flat_map node_list tours)) (option_map (λ v. map (λ t. t.items) v.items) tours.now)) }
 {
@@ -189,9 +203,20 @@ pub(crate) fn put_sections<W: Write>(piece: &mut Piece, out: &mut Watched<W>, dr
     put_number_section(piece, out, Field::DemandPart, &draft.demands);
     put_depots(piece, out, &draft.depots);
     put_fixed(piece, out, &draft.fixed);
-    put_weight_section(piece, out, draft.weight_format, draft.dimension, &draft.weights);
+    put_weight_section(
+        piece,
+        out,
+        draft.weight_format,
+        draft.dimension,
+        &draft.weights,
+    );
     put_tour_section(piece, out, &draft.tours);
     put_number_section(piece, out, Field::NodePotentialPart, &draft.node_potentials);
     put_number_section(piece, out, Field::RowPotentialPart, &draft.row_potentials);
-    put_number_section(piece, out, Field::ColumnPotentialPart, &draft.column_potentials);
+    put_number_section(
+        piece,
+        out,
+        Field::ColumnPotentialPart,
+        &draft.column_potentials,
+    );
 }

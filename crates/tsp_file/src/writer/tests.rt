@@ -131,7 +131,10 @@ fn point(x: i64, y: i64) -> Option<Point> {
 
 #[test]
 fn nothing_is_the_end_line(rt: HostRuntime) {
-    assert_eq!(rt; text(rt.alloc(), &blank(rt.alloc())).as_slice(), b"EOF\n".as_slice());
+    assert_eq!(rt;
+        text(rt.alloc(), &blank(rt.alloc())).as_slice(),
+        b"EOF\n".as_slice()
+    );
 }
 
 #[test]
@@ -149,7 +152,8 @@ fn a_section_may_have_no_lines(rt: HostRuntime) {
     draft.weight_kind = Some(WeightKind::Explicit);
     draft.weight_format = Some(WeightFormat::Listed(Layout::UpperRow));
     draft.weights = Some(Vec::new(rt.alloc()));
-    let wanted = b"TYPE : TSP\nDIMENSION : 1\nEDGE_WEIGHT_TYPE : EXPLICIT\nEDGE_WEIGHT_FORMAT : UPPER_ROW\nEDGE_WEIGHT_SECTION\nEOF\n".as_slice();
+    let wanted =
+        b"TYPE : TSP\nDIMENSION : 1\nEDGE_WEIGHT_TYPE : EXPLICIT\nEDGE_WEIGHT_FORMAT : UPPER_ROW\nEDGE_WEIGHT_SECTION\nEOF\n".as_slice();
     assert_eq!(rt; text(rt.alloc(), &draft).as_slice(), wanted);
 }
 
@@ -209,7 +213,8 @@ fn rectangle(alloc: Global) -> Result<Draft, Fail> {
 }
 
 /// The text of `rectangle`.
-const RECTANGLE: &[u8] = b"NAME : a\nTYPE : CVRP\nCOMMENT :\nDISTANCE : 9\nDIMENSION : 2\nCAPACITY : 10\nSCALE : 7\nEDGE_WEIGHT_TYPE : EUC_2D\nEDGE_WEIGHT_FORMAT : FULL_MATRIX\nNODE_COORD_TYPE : TWOD_COORDS\nDISPLAY_DATA_TYPE : NO_DISPLAY\nNODE_COORD_SECTION\n1 0 0\n2 1.5 -2\nDISPLAY_DATA_SECTION\n1 0 0\n2 1.5 -2\nDEMAND_SECTION\n1 0\n2 5\nDEPOT_SECTION\n1\n-1\nFIXED_EDGES_SECTION\n1 2\n-1\nEDGE_WEIGHT_SECTION\n0 -1\n1000000000000 0\nTOUR_SECTION\n1\n2\n-1\n3\n-1\nNODE_POTENTIAL_SECTION\n1 3\n2 -3\nROW_POTENTIAL_SECTION\n1 4\n2 -4\nCOLUMN_POTENTIAL_SECTION\n1 5\n2 -5\nEOF\n";
+const RECTANGLE: &[u8] =
+    b"NAME : a\nTYPE : CVRP\nCOMMENT :\nDISTANCE : 9\nDIMENSION : 2\nCAPACITY : 10\nSCALE : 7\nEDGE_WEIGHT_TYPE : EUC_2D\nEDGE_WEIGHT_FORMAT : FULL_MATRIX\nNODE_COORD_TYPE : TWOD_COORDS\nDISPLAY_DATA_TYPE : NO_DISPLAY\nNODE_COORD_SECTION\n1 0 0\n2 1.5 -2\nDISPLAY_DATA_SECTION\n1 0 0\n2 1.5 -2\nDEMAND_SECTION\n1 0\n2 5\nDEPOT_SECTION\n1\n-1\nFIXED_EDGES_SECTION\n1 2\n-1\nEDGE_WEIGHT_SECTION\n0 -1\n1000000000000 0\nTOUR_SECTION\n1\n2\n-1\n3\n-1\nNODE_POTENTIAL_SECTION\n1 3\n2 -3\nROW_POTENTIAL_SECTION\n1 4\n2 -4\nCOLUMN_POTENTIAL_SECTION\n1 5\n2 -5\nEOF\n";
 
 #[test]
 fn every_field_stands_once_in_canonical_order(rt: HostRuntime) -> Result<(), Fail> {
@@ -221,9 +226,17 @@ fn every_field_stands_once_in_canonical_order(rt: HostRuntime) -> Result<(), Fai
 #[test]
 fn weights_without_a_layout_stand_in_one_line(rt: HostRuntime) -> Result<(), Fail> {
     let mut draft = four_nodes(rt.alloc(), Layout::UpperRow, 8)?;
-    assert!(rt; text(rt.alloc(), &draft).as_slice().ends_with(b"_SECTION\n1 2 3\n4 5\n6\n7 8\nEOF\n"));
+    assert!(rt;
+        text(rt.alloc(), &draft)
+            .as_slice()
+            .ends_with(b"_SECTION\n1 2 3\n4 5\n6\n7 8\nEOF\n")
+    );
     draft.weight_format = Some(WeightFormat::ByFunction);
-    assert!(rt; text(rt.alloc(), &draft).as_slice().ends_with(b"_SECTION\n1 2 3 4 5 6 7 8\nEOF\n"));
+    assert!(rt;
+        text(rt.alloc(), &draft)
+            .as_slice()
+            .ends_with(b"_SECTION\n1 2 3 4 5 6 7 8\nEOF\n")
+    );
     Ok(())
 }
 
@@ -273,7 +286,9 @@ fn long_texts_go_in_pieces(rt: HostRuntime) -> Result<(), Fail> {
         long.push(b'x')?;
     }
     for _ in 0..3u8 {
-        draft.comments.push(Vec::from_slice(rt.alloc(), long.as_slice())?)?;
+        draft
+            .comments
+            .push(Vec::from_slice(rt.alloc(), long.as_slice())?)?;
     }
     let mut wanted = Vec::new(rt.alloc());
     for _ in 0..3u8 {

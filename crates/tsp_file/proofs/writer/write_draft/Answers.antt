@@ -14,8 +14,8 @@ returns-then-failed-2 g c =
     let fourth = way_of g.W.Write.contents c.put.new.out c.put.new.piece.items in
     let last = way_of g.W.Write.contents c.hand_over.new.out c.hand_over.new.piece.items in
     let whole = carried_then first second last (joined (keyword_texts (fields_of c.args.draft.now))) (joined (section_texts (fields_of c.args.draft.now)) ++ codes "EOF\n") c.put_keywords.ensures
-        (carried_then second third last (joined (section_texts (fields_of c.args.draft.now))) (codes "EOF\n") c.put_sections.ensures
-        (carried_then third fourth last (codes "EOF\n") [] c.put.ensures c.hand_over.ensures.carried)) in
+    (carried_then second third last (joined (section_texts (fields_of c.args.draft.now))) (codes "EOF\n") c.put_sections.ensures
+    (carried_then third fourth last (codes "EOF\n") [] c.put.ensures c.hand_over.ensures.carried)) in
     text_stopped first last (text_of (fields_of c.args.draft.now)) c.new-piece.ensures (sym c.failed.ensures ∙ c.if-failed.false) whole (sym c.failed-2.ensures ∙ c.if-failed-2.true)
 
 pub returns-else-failed-2 : goal.returns-else-failed-2
@@ -26,6 +26,6 @@ returns-else-failed-2 g c =
     let fourth = way_of g.W.Write.contents c.put.new.out c.put.new.piece.items in
     let last = way_of g.W.Write.contents c.hand_over.new.out c.hand_over.new.piece.items in
     let whole = carried_then first second last (joined (keyword_texts (fields_of c.args.draft.now))) (joined (section_texts (fields_of c.args.draft.now)) ++ codes "EOF\n") c.put_keywords.ensures
-        (carried_then second third last (joined (section_texts (fields_of c.args.draft.now))) (codes "EOF\n") c.put_sections.ensures
-        (carried_then third fourth last (codes "EOF\n") [] c.put.ensures c.hand_over.ensures.carried)) in
+    (carried_then second third last (joined (section_texts (fields_of c.args.draft.now))) (codes "EOF\n") c.put_sections.ensures
+    (carried_then third fourth last (codes "EOF\n") [] c.put.ensures c.hand_over.ensures.carried)) in
     text_written first last (text_of (fields_of c.args.draft.now)) c.new-piece.ensures (sym c.failed.ensures ∙ c.if-failed.false) whole c.hand_over.ensures.empty (sym c.failed-2.ensures ∙ c.if-failed-2.false)

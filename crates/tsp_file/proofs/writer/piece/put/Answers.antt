@@ -34,8 +34,8 @@ returns-then-is_err g c =
     let third = way_of g.W.Write.contents c.hand_over.new.out c.hand_over.new.piece.items in
     let last = way_of g.W.Write.contents c.send.new.out c.try_extend_from_slice-2.new.self.items in
     carried_then first second last [] c.args.bytes.now (carried_waits first second [] refl refl (ap {B = List ℕ} (λ v. v.items) refused ∙ sym (append-nil c.args.piece.now.items)))
-      (carried_then second third last [] c.args.bytes.now c.hand_over.ensures.carried
-        (carried_sent third last c.args.bytes.now c.args.bytes.now c.send.ensures.stopped c.send.ensures.written (ap (λ (p : List ℕ). p ++ c.args.bytes.now) c.hand_over.ensures.empty) emptied))
+    (carried_then second third last [] c.args.bytes.now c.hand_over.ensures.carried
+    (carried_sent third last c.args.bytes.now c.args.bytes.now c.send.ensures.stopped c.send.ensures.written (ap (λ (p : List ℕ). p ++ c.args.bytes.now) c.hand_over.ensures.empty) emptied))
 
 pub returns-else-is_err : goal.returns-else-is_err
 returns-else-is_err g c =
@@ -45,5 +45,5 @@ returns-else-is_err g c =
     let third = way_of g.W.Write.contents c.hand_over.new.out c.hand_over.new.piece.items in
     let last = way_of g.W.Write.contents c.hand_over.new.out c.try_extend_from_slice-2.new.self.items in
     carried_then first second last [] c.args.bytes.now (carried_waits first second [] refl refl (ap {B = List ℕ} (λ v. v.items) refused ∙ sym (append-nil c.args.piece.now.items)))
-      (carried_then second third last [] c.args.bytes.now c.hand_over.ensures.carried
-        (carried_waits third last c.args.bytes.now refl refl (when_ok c.try_extend_from_slice-2.result _ (ok_is c.try_extend_from_slice-2.result (sym c.if-is_err.false ∙ c.is_err.ensures.value)) c.try_extend_from_slice-2.ensures.ok)))
+    (carried_then second third last [] c.args.bytes.now c.hand_over.ensures.carried
+    (carried_waits third last c.args.bytes.now refl refl (when_ok c.try_extend_from_slice-2.result _ (ok_is c.try_extend_from_slice-2.result (sym c.if-is_err.false ∙ c.is_err.ensures.value)) c.try_extend_from_slice-2.ensures.ok)))
