@@ -1,7 +1,7 @@
 -- The status that the program ends with.
 use Rattle.std.specs.Prelude.{ℕ, Bool, true, false, Result, Ok, Err}
 use Rattle.tsp_judge.specs.declared.fault.ReadFault.TheVariants as read_faults
-use Rattle.tsp_judge.specs.declared.fault.WriteFault.TheVariants as write_faults
+use Rattle.tsp_judge.specs.declared.WriteFault.TheVariants as write_faults
 use Rattle.tsp_judge.specs.declared.fault.RunFault.{RunFault}
 use Rattle.tsp_judge.specs.declared.fault.RunFault.TheVariants.{File, Write, OutOfMemory, NotYet}
 
