@@ -15,6 +15,7 @@ use crate::validity::{
     are_demands, are_depots, are_fixed, are_kept, are_others, are_potentials, are_tours,
     are_weights, is_by_node, is_from_to, is_kept, is_node,
 };
+use tsp_number::Point;
 
 /// The name is one that is kept.
 fn name_fits(draft: &Draft) -> bool
@@ -87,21 +88,10 @@ fn bad_keyword(draft: &Draft) -> Option<Field>
 }
 
 /// There is a point for each node.
-fn coords_fit(draft: &Draft) -> bool
-    ensures { result ≡ if_there (with_dimension is_by_node (fields_of draft.now).dimension) (fields_of draft.now).coords }
+fn points_fit(dimension: Option<u32>, points: &Option<Vec<Point>>) -> bool
+    ensures { result ≡ if_there (with_dimension is_by_node dimension) (option_map (λ v. v.items) points.now) }
 {
-    match (&draft.coords, draft.dimension) {
-        (None, _) => true,
-        (Some(_), None) => false,
-        (Some(entries), Some(nodes)) => is_by_node(nodes, entries.len()),
-    }
-}
-
-/// There is a point of the display for each node.
-fn display_fit(draft: &Draft) -> bool
-    ensures { result ≡ if_there (with_dimension is_by_node (fields_of draft.now).dimension) (fields_of draft.now).display }
-{
-    match (&draft.display, draft.dimension) {
+    match (points, dimension) {
         (None, _) => true,
         (Some(_), None) => false,
         (Some(entries), Some(nodes)) => is_by_node(nodes, entries.len()),
@@ -156,10 +146,10 @@ fn weights_fit(draft: &Draft) -> bool
 fn bad_data(draft: &Draft) -> Option<Field>
     ensures { result ≡ first_failing (data_fits (fields_of draft.now)) }
 {
-    if !coords_fit(draft) {
+    if !points_fit(draft.dimension, &draft.coords) {
         return Some(Field::NodeCoordPart);
     }
-    if !display_fit(draft) {
+    if !points_fit(draft.dimension, &draft.display) {
         return Some(Field::DisplayDataPart);
     }
     if !demands_fit(draft) {

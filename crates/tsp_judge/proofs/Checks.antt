@@ -51,4 +51,4 @@ keeps_same (Some bytes) = refl
 pub write_faults : (first second : Turn) (sink : Sink) (nodes : ℕ) (verdict : Verdict) (fault : WriteFault) → IsJudged first second nodes verdict
     → Writes sink (report_of nodes verdict) (Err fault) → IsRun first second sink (Err (Write fault))
 write_faults first second sink nodes verdict faults.Device j w = (nodes, verdict, j, w)
-write_faults first second sink nodes verdict faults.OutOfMemory j w = (w, nodes, verdict, j)
+write_faults first second sink nodes verdict faults.OutOfMemory j w = absurd w
