@@ -1,7 +1,7 @@
 -- The cells of a layout are those of its lines.
-use Rattle.std.proofs.Common.{◌≡◌, ℕ, suc, ◌+◌, ◌-◌, ◌<◌, ◌≤◌, Bool, true, false, List, [], ◌∷◌, ◌++◌, length, refl, sym, ap, ◌∙◌, arith, length-append}
+use Rattle.std.proofs.Common.{◌≡◌, ℕ, Bool, true, false, List, [], ◌∷◌, ◌++◌, refl, ap, ◌∙◌}
 use Rattle.std.specs.Prelude.{if◌then◌else◌}
-use Rattle.std.specs.List.{filter, flat_map, range_with_len}
+use Rattle.std.specs.List.{filter, flat_map}
 use Rattle.std.proofs.lemmas.List.Elements.{filter-append}
 use Rattle.tsp_file.specs.declared.layout.Layout.{Layout}
 use Rattle.tsp_file.specs.Layout.{goes_by_columns}
@@ -18,31 +18,3 @@ by_order p false f g xs = filter-flat_map p g xs
 pub cells-lines : (layout : Layout) (n : ℕ) → cells layout n ≡ flat_map (cells_of_line layout n) (nodes_to n)
 unfolding cells cells_of_line
 cells-lines layout n = by_order (is_listed layout) (goes_by_columns layout) (column n) (row n) (nodes_to n)
-
--- ---- line after line, as a loop goes over them
-
--- the cells of the lines k to n
-unfoldable pub cells_from : Layout → ℕ → ℕ → List (ℕ × ℕ)
-cells_from layout n k = flat_map (cells_of_line layout n) (range_with_len k (n + 1 - k))
-
-pub cells_from-one : (layout : Layout) (n : ℕ) → cells_from layout n 1 ≡ cells layout n
-unfolding cells_from nodes_to
-cells_from-one layout n =
-    let all : n + 1 - 1 ≡ n = omega arith in
-    ap (λ count. flat_map (cells_of_line layout n) (range_with_len 1 count)) all ∙ sym (cells-lines layout n)
-
-pub cells_from-more : (layout : Layout) (n k : ℕ) → k ≤ n → cells_from layout n k ≡ cells_of_line layout n k ++ cells_from layout n (k + 1)
-unfolding cells_from
-cells_from-more layout n k within =
-    let left : n + 1 - k ≡ suc (n + 1 - (k + 1)) = omega arith in
-    ap (λ count. flat_map (cells_of_line layout n) (range_with_len k count)) left
-
-pub cells_from-end : (layout : Layout) (n k : ℕ) → n < k → cells_from layout n k ≡ []
-unfolding cells_from
-cells_from-end layout n k past =
-    let none : n + 1 - k ≡ 0 = omega arith in
-    ap (λ count. flat_map (cells_of_line layout n) (range_with_len k count)) none
-
--- what is left has room for line k
-pub length-cells_from : (layout : Layout) (n k : ℕ) → k ≤ n → length (cells_from layout n k) ≡ length (cells_of_line layout n k) + length (cells_from layout n (k + 1))
-length-cells_from layout n k within = ap length (cells_from-more layout n k within) ∙ length-append (cells_of_line layout n k) (cells_from layout n (k + 1))

@@ -48,10 +48,6 @@ All-flat_map P Q f each (x ∷ xs) all =
 
 -- ---- the nodes
 
-unfolding_nodes : (n : ℕ) → nodes_to n ≡ range_with_len 1 n
-unfolding nodes_to
-unfolding_nodes n = refl
-
 all_nodes : (n : ℕ) → All (IsNode n) (nodes_to n)
 unfolding nodes_to
 all_nodes n = λ k d lt.

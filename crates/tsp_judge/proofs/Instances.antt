@@ -1,6 +1,6 @@
 -- Which instance a text spells, by what the reader found in it.
-use Rattle.std.proofs.Common.{◌≡◌, ◌≢◌, ℕ, ◌+◌, ◌*◌, ◌^◌, ◌<◌, ◌≤◌, Bool, true, false, List, [], ◌∷◌, ◌++◌, length, Option, None, Some, refl, sym, ap, subst, ◌∙◌, arith}
-use Rattle.std.specs.Prelude.{ℤ, pos, negsuc, codes, decimal}
+use Rattle.std.proofs.Common.{◌≡◌, ◌≢◌, ℕ, ◌*◌, ◌≤◌, true, List, [], ◌∷◌, ◌++◌, length, Option, None, Some, sym, ap, subst, ◌∙◌, arith}
+use Rattle.std.specs.Prelude.{ℤ, pos, negsuc, decimal}
 use Rattle.std.specs.List.{All, list_all}
 use Rattle.std.specs.Str.Parse.{digits_value}
 use Rattle.std.proofs.lemmas.Fmt.{decimal_is_IsNumeral}
@@ -8,7 +8,7 @@ use Rattle.std.proofs.lemmas.List.Sums.{AllPass-from_list_all, list_all-from_All
 use Rattle.tsp_judge.specs.declared.form.words.NumberKind.TheVariants.{Weight}
 use Rattle.tsp_judge.specs.Words.{lines_of}
 use Rattle.tsp_judge.specs.Numbers.{is_allowed, numbers_before_eof}
-use Rattle.tsp_judge.specs.Forms.{eof, Instance, IsInstance, ListsNumbers, IsWithin, instance_head, weight_lines}
+use Rattle.tsp_judge.specs.Forms.{eof, Instance, IsInstance, ListsNumbers, IsWithin, instance_head}
 use Rattle.tsp_judge.proofs.Lists.{lists, lists_back, weight_within, weight_allowed}
 
 -- what lists numbers has the line EOF

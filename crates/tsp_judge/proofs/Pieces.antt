@@ -1,13 +1,13 @@
 -- The first piece of a list that is cut where a test passes, and what the rest gives.
-use Rattle.std.proofs.Common.{◌≡◌, ℕ, zero, suc, ◌+◌, ◌<◌, ◌≤◌, Bool, true, false, cond, List, [], ◌∷◌, ◌++◌, length, take, drop, Option, Some, None, get_or, ltb, refl, sym, ap, subst, ◌∙◌, arith, drop-cons}
+use Rattle.std.proofs.Common.{◌≡◌, ℕ, zero, suc, ◌+◌, ◌<◌, ◌≤◌, Bool, true, false, cond, List, [], ◌∷◌, length, take, drop, Some, None, get_or, ltb, refl, sym, ap, subst, ◌∙◌, arith, drop-cons}
 use Rattle.std.specs.Prelude.{not, unwrap_or}
-use Rattle.std.specs.List.{slice_split, onto_first, position, position_or_len, prefix_len, filter}
+use Rattle.std.specs.List.{slice_split, onto_first, position, position_or_len, filter}
 use Rattle.std.proofs.lemmas.List.Sums.{prefix_len-le-length}
 use Rattle.std.proofs.lemmas.Bool.{ltb-true, ltb-false, not-true}
 use Rattle.std.proofs.lemmas.List.{drop_all}
 use Rattle.std.proofs.lemmas.List.Quantifiers.{position-Some}
 use Rattle.std.proofs.lemmas.Option.{cond_some}
-use Rattle.tsp_judge.specs.Words.{is_filled, runs_between, is_blank, words_of}
+use Rattle.tsp_judge.specs.Words.{is_filled, runs_between}
 
 -- where no element passes, the list is the one piece
 slice_split_whole : {X : Type 0} (p : X → Bool) (xs : List X) → position_or_len p xs ≡ length xs → slice_split p xs ≡ xs ∷ []

@@ -1,5 +1,5 @@
 -- Runs, element by element: how many begin, and what they hold one after the other.
-use Rattle.std.proofs.Common.{◌≡◌, ℕ, suc, ◌+◌, ◌<◌, ◌≤◌, Bool, true, false, cond, List, [], ◌∷◌, ◌++◌, length, take, drop, get_or, map, refl, sym, ap, subst, ◌∙◌, arith, drop-cons, add-one}
+use Rattle.std.proofs.Common.{◌≡◌, ℕ, suc, ◌+◌, ◌<◌, ◌≤◌, Bool, true, false, cond, List, [], ◌∷◌, ◌++◌, length, take, drop, get_or, map, refl, sym, ap, ◌∙◌, arith, drop-cons, add-one}
 use Rattle.std.specs.Prelude.{not, pos, negsuc, ℤ, int_lt}
 use Rattle.std.specs.List.{slice_split, onto_first, filter, concat}
 use Rattle.std.proofs.lemmas.List.{drop_all, take_all, map_push}
@@ -27,11 +27,6 @@ onto_nodes : {X : Type 0} (f : X → ℕ) (x : X) (pieces : List (List X)) → c
 onto_nodes f x [] = refl
 onto_nodes f x ([] ∷ qs) = refl
 onto_nodes f x ((y ∷ ys) ∷ qs) = refl
-
--- an element that ends a run
-pub new_runs_end : {X : Type 0} (p : X → Bool) (open_run : Bool) (x : X) (xs : List X) → p x ≡ true → new_runs p open_run (x ∷ xs) ≡ new_runs p false xs
-new_runs_end p true x xs e = rw e refl
-new_runs_end p false x xs e = rw e refl
 
 -- an element of a run
 pub new_runs_go : {X : Type 0} (p : X → Bool) (x : X) (xs : List X) → p x ≡ false → new_runs p true (x ∷ xs) ≡ new_runs p true xs

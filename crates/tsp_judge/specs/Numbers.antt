@@ -1,5 +1,5 @@
 -- The numbers that lines of words list, taken word by word and line by line.
-use Rattle.std.specs.Prelude.{ℕ, Bool, true, false, cond, List, [], ◌∷◌, ◌++◌, Option, None, Some, ℤ, pos, negsuc, int_le, ◌&&◌, ◌||◌, codes}
+use Rattle.std.specs.Prelude.{ℕ, Bool, cond, List, [], ◌∷◌, ◌++◌, Option, None, Some, ℤ, pos, negsuc, int_le, ◌&&◌, ◌||◌, codes}
 use Rattle.tsp_judge.specs.declared.form.words.NumberKind.{NumberKind}
 use Rattle.tsp_judge.specs.declared.form.words.NumberKind.TheVariants.{Weight, TourWord}
 use Rattle.std.specs.Option.{option_map, option_and_then}

@@ -1,5 +1,5 @@
 -- The report of a check, line by line. Each line ends with byte 10, and one blank stands between words.
-use Rattle.std.specs.Prelude.{ℕ, List, [], ◌∷◌, ◌++◌, codes, decimal}
+use Rattle.std.specs.Prelude.{ℕ, List, ◌++◌, codes, decimal}
 use Rattle.std.specs.Fmt.{signed_decimal}
 use Rattle.tsp_judge.specs.declared.verdict.Reason.{Reason}
 use Rattle.tsp_judge.specs.declared.verdict.Reason.TheVariants.{TooFewNodes, TourCount, TourLength, NodeOutOfRange, RepeatedNode}

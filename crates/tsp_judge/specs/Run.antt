@@ -1,6 +1,6 @@
 -- What a check does to its readers and its writer, and what it answers.
-use Rattle.std.specs.Prelude.{◌≡◌, ℕ, ◌⊎◌, Bool, true, false, List, take, Option, Result, Ok, Err, IfSome}
-use Rattle.std.specs.Io.KnownBytes.{Keeps, Appends, Consumes}
+use Rattle.std.specs.Prelude.{◌≡◌, ℕ, ◌⊎◌, Bool, true, false, List, Option, Result, Ok, Err, IfSome}
+use Rattle.std.specs.Io.KnownBytes.{Keeps, Consumes}
 use Rattle.tsp_judge.specs.declared.fault.ReadFault.{ReadFault}
 use Rattle.tsp_judge.specs.declared.fault.ReadFault.TheVariants as read_faults
 use Rattle.tsp_file.specs.declared.output.WriteFault.TheVariants as write_faults

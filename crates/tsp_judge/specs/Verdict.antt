@@ -1,5 +1,5 @@
 -- The verdict on an instance and the tours of a solution: the first reason against them, or a tour and its length.
-use Rattle.std.specs.Prelude.{◌≡◌, ◌≢◌, ℕ, ◌<◌, ◌≤◌, Bool, true, false, List, [], ◌∷◌, length, pos}
+use Rattle.std.specs.Prelude.{◌≡◌, ◌≢◌, ℕ, ◌<◌, ◌≤◌, Bool, true, false, List, [], ◌∷◌, length}
 use Rattle.std.specs.List.{concat}
 use Rattle.tsp_judge.specs.declared.verdict.Reason.{Reason}
 use Rattle.tsp_judge.specs.declared.verdict.Reason.TheVariants.{TooFewNodes, TourCount, TourLength, NodeOutOfRange, RepeatedNode}

@@ -1,5 +1,5 @@
 -- A text is a list of bytes: its lines, its words, and the whole number that a word stands for.
-use Rattle.std.specs.Prelude.{ℕ, ◌≤◌, Bool, true, false, List, [], ◌∷◌, length, Option, None, Some, ℤ, pos, neg_ℤ, ◌==◌, ◌&&◌, ◌||◌, nat_le, if◌then◌else◌}
+use Rattle.std.specs.Prelude.{ℕ, Bool, true, false, List, [], ◌∷◌, length, Option, None, Some, ℤ, pos, neg_ℤ, ◌==◌, ◌&&◌, ◌||◌, nat_le, if◌then◌else◌}
 use Rattle.std.specs.Option.{option_map}
 use Rattle.std.specs.List.{slice_split, filter, list_all}
 use Rattle.std.specs.Char.{is_ascii_digit}

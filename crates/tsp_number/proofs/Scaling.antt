@@ -1,5 +1,5 @@
 -- Shifting a number by decimal places.
-use Rattle.std.proofs.Common.{◌≡◌, ◌≢◌, ℕ, ◌+◌, ◌*◌, ◌-◌, ◌^◌, ◌/◌, ◌%◌, ◌<◌, ◌≤◌, Bool, true, false, ◌==◌, List, [], ◌∷◌, ◌++◌, length, take, drop, ◌&&◌, append_assoc, length-append, length-drop, take-append-drop, Option, Some, None, ℤ, pos, negsuc, ◌+ℤ◌, ◌-ℤ◌, ◌≤ℤ◌, ◌⊎◌, inl, inr, refl, arith, ap, sym, ◌∙◌, suc, zero, subst, unsigned_abs}
+use Rattle.std.proofs.Common.{◌≡◌, ◌≢◌, ℕ, ◌+◌, ◌*◌, ◌-◌, ◌^◌, ◌/◌, ◌%◌, ◌<◌, ◌≤◌, Bool, true, false, ◌==◌, List, [], ◌∷◌, ◌++◌, length, take, drop, ◌&&◌, append_assoc, length-append, length-drop, take-append-drop, Option, Some, None, ℤ, pos, negsuc, ◌+ℤ◌, ◌-ℤ◌, ◌≤ℤ◌, ◌⊎◌, inl, inr, refl, arith, ap, sym, ◌∙◌, suc, zero, subst}
 use Rattle.std.proofs.Math.Nat.{pow-le-pow_right, pow-suc, mul-le-mul, mul-mod_left, one-le-pow}
 use Rattle.std.proofs.lemmas.Bool.Decides.{nat_tests}
 use Rattle.std.proofs.lemmas.Bool.{cases_eq, cases_lt}
@@ -286,10 +286,6 @@ fraction_cut_rest whole fraction front back count kept cut all rest =
     rest_at_end (whole ++ fraction) (whole ++ front) back count all split.0 split.1 rest
 
 -- ---- what is kept of a number word
-
-pub clamped-le : (e : ℤ) → unsigned_abs (clamped e) ≤ 10000
-clamped-le (pos n) = omega arith
-clamped-le (negsuc n) = omega arith
 
 pub few_in_fraction : (w : Written) (n : Numeral) → Keeps w n → length n.fraction ≤ 64
 few_in_fraction w n keeps = omega (arith, length-append n.whole n.fraction, keeps.few_digits)

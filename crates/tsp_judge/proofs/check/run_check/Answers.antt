@@ -1,7 +1,6 @@
-use Rattle.std.proofs.Common.{List, ℕ, Err, ◌∙◌, inl, inr, refl, subst}
+use Rattle.std.proofs.Common.{List, ℕ, Err, ◌∙◌, inr, refl, subst}
 use Rattle.tsp_judge.specs.Run.{turn_of}
 use Rattle.tsp_file.specs.Sink.{sink_of, Writes}
-use Rattle.tsp_judge.specs.Report.{report_of}
 use Rattle.tsp_judge.specs.Values.{instance_of}
 use Rattle.tsp_judge.proofs.Checks.{judged, numbered, keeps_same, write_faults}
 use Rattle.tsp_judge.proofs.check.run_check.Goals as goal

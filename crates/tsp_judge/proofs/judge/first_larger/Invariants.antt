@@ -1,4 +1,4 @@
-use Rattle.std.proofs.Common.{◌≡◌, ◌≤◌, ◌<◌, ℕ}
+use Rattle.std.proofs.Common.{◌≡◌, ◌≤◌, ℕ}
 use Rattle.tsp_judge.specs.Tour.{node_at}
 use Rattle.tsp_judge.proofs.judge.first_larger.Given as goal
 

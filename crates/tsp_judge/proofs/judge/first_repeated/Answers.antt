@@ -1,7 +1,5 @@
-use Rattle.std.proofs.Common.{◌≡◌, ◌+◌, ◌-◌, ◌<◌, ◌≤◌, ℕ, length, get_or, subst, sym, ap, ◌∙◌, arith}
+use Rattle.std.proofs.Common.{◌<◌, length, get_or, sym, ◌∙◌, arith}
 use Rattle.std.specs.Prelude.{vec_len}
-use Rattle.tsp_judge.specs.Tour.{node_at}
-use Rattle.tsp_judge.specs.Verdict.{IsFirstPlace, IsRepeated}
 use Rattle.tsp_judge.proofs.Marks.{mark_more, repeated_here, mark_is, in_range}
 use Rattle.tsp_judge.proofs.judge.first_repeated.Goals as goal
 

@@ -1,11 +1,11 @@
-use Rattle.std.proofs.Common.{◌≡◌, ◌≤◌, ℕ, List, length, sym, subst, ◌∙◌, arith, rules}
+use Rattle.std.proofs.Common.{◌≤◌, ℕ, ◌∙◌, arith, rules}
 use Rattle.std.specs.Prelude.{FitsSigned}
 use Rattle.std.specs.Int.{w64}
 use Rattle.std.specs.List.{All}
 use Rattle.std.proofs.lemmas.Int.{to_z-of_z}
 use Rattle.tsp_judge.specs.Tour.{node_at, IsPlace}
 use Rattle.tsp_judge.specs.Values.{instance_of}
-use Rattle.tsp_judge.proofs.Verdicts.{in_range, RulesOut, is_tour}
+use Rattle.tsp_judge.proofs.Verdicts.{in_range, is_tour}
 use Rattle.tsp_judge.proofs.judge.judge.Goals as goal
 
 pub returns : goal.returns

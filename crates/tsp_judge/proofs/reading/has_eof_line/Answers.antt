@@ -1,7 +1,3 @@
-use Rattle.std.proofs.Common.{◌≡◌, false, true, ◌∙◌, ap, sym}
-use Rattle.std.proofs.lemmas.Slice.Eq.{bytes_eq-Decides}
-use Rattle.std.specs.Str.{bytes_eq}
-use Rattle.tsp_judge.specs.Forms.{eof}
 use Rattle.tsp_judge.proofs.EofLines.{eof_here, eof_later, eof_in_rest, eof_not_last, first_is_eof, first_is_other}
 use Rattle.tsp_judge.proofs.reading.has_eof_line.Goals as goal
 

@@ -1,4 +1,4 @@
-use Rattle.std.proofs.Common.{◌≡◌, ◌<◌, ◌≤◌, length, sym, subst, ◌∙◌, arith}
+use Rattle.std.proofs.Common.{◌<◌, ◌≤◌, length, subst, ◌∙◌, arith}
 use Rattle.tsp_judge.specs.Forms.{HasEofLine}
 use Rattle.tsp_judge.specs.Run.{turn_of}
 use Rattle.tsp_judge.specs.declared.limit.TheConstants.{FILE_LIMIT}

@@ -1,6 +1,5 @@
 use Rattle.std.proofs.Common.{◌≡◌, ◌++◌, ℕ, List, Result, Ok, Err, ◌∙◌, append_assoc}
 use Rattle.std.specs.Prelude.{OnOk, codes, decimal}
-use Rattle.tsp_judge.specs.Report.{reason_text}
 use Rattle.tsp_judge.proofs.report.push_reason.Goals as goal
 
 regroup : {T E : Type 0} (r : Result T E) (x a b d : List ℕ) → OnOk r (x ≡ (a ++ b) ++ d) → OnOk r (x ≡ a ++ (b ++ d))

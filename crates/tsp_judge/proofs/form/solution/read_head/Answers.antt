@@ -1,4 +1,4 @@
-use Rattle.std.proofs.Common.{◌≡◌, [], ◌∷◌}
+use Rattle.std.proofs.Common.{[], ◌∷◌}
 use Rattle.std.specs.Prelude.{codes}
 use Rattle.tsp_judge.specs.Words.{lines_of}
 use Rattle.tsp_judge.proofs.Heads.{stops_at, head_more}

@@ -1,8 +1,7 @@
-use Rattle.std.proofs.Common.{◌≡◌, ◌+◌, ◌≤◌, ℕ, List, length, take, drop, map, true, false, arith, sym, ◌∙◌, rules, get_or}
-use Rattle.std.specs.Prelude.{not, nat_abs, pos, ℤ, FitsSigned}
+use Rattle.std.proofs.Common.{map, arith, sym, ◌∙◌, rules, get_or}
+use Rattle.std.specs.Prelude.{nat_abs, pos, FitsSigned}
 use Rattle.std.specs.Int.{w64}
 use Rattle.std.proofs.lemmas.Int.{to_z-of_z}
-use Rattle.std.specs.List.{filter}
 use Rattle.tsp_judge.specs.Forms.{ends_tour}
 use Rattle.tsp_judge.specs.Words.{runs_between}
 use Rattle.tsp_judge.proofs.Runs.{runs_go, nodes_go, nodes_all, count_all, length_runs, not_negative}

@@ -1,4 +1,4 @@
-use Rattle.std.proofs.Common.{◌≡◌, ◌+◌, ◌≤◌, ℕ, length, take, drop, map}
+use Rattle.std.proofs.Common.{◌≡◌, ◌+◌, ◌≤◌, length, take, drop, map}
 use Rattle.std.specs.Prelude.{not, nat_abs}
 use Rattle.std.specs.List.{filter}
 use Rattle.tsp_judge.specs.Words.{runs_between}

@@ -1,5 +1,4 @@
-use Rattle.std.proofs.Common.{◌≡◌, ◌≤◌, ◌<◌, ◌^◌, length, sym, ◌∙◌, arith}
-use Rattle.std.specs.Str.Parse.{digits_value}
+use Rattle.std.proofs.Common.{◌≤◌, sym, ◌∙◌, arith}
 use Rattle.tsp_judge.proofs.Numerals.{digits_small, digits_step}
 use Rattle.tsp_judge.proofs.form.words.numeral.Goals as goal
 

@@ -1,8 +1,7 @@
-use Rattle.std.proofs.Common.{◌≡◌, ◌*◌, ◌∷◌, List, length, Option, Some, None, sym, ap, ◌∙◌, arith}
+use Rattle.std.proofs.Common.{sym, ◌∙◌}
 use Rattle.tsp_judge.specs.Words.{lines_of}
 use Rattle.tsp_judge.specs.declared.form.words.NumberKind.TheVariants.{Weight}
-use Rattle.tsp_judge.specs.Numbers.{numbers_before_eof}
-use Rattle.tsp_judge.proofs.Instances.{ReadsHeadOf, no_head, no_numbers, wrong_count, is_instance, weights_within}
+use Rattle.tsp_judge.proofs.Instances.{no_head, no_numbers, wrong_count, is_instance, weights_within}
 use Rattle.tsp_judge.proofs.Lists.{lists}
 use Rattle.tsp_judge.proofs.form.instance.Matrix.parse.Goals as goal
 
