@@ -1,5 +1,5 @@
 -- What a file holds, as lists.
-use Rattle.std.specs.Prelude.{ℕ, List, map, Option, ℤ}
+use Rattle.std.specs.Prelude.{ℕ, List, [], map, Option, None, ℤ}
 use Rattle.std.specs.Option.{option_map}
 use Rattle.tsp_number.specs.declared.decimal.Point.{Point}
 use Rattle.tsp_file.specs.declared.draft.Draft.{Draft}
@@ -32,6 +32,32 @@ pub record Fields : Type 0 where
   pub node_potentials : Option (List ℤ)
   pub row_potentials : Option (List ℤ)
   pub column_potentials : Option (List ℤ)
+
+-- no field is set
+abbrev pub blank_fields : Fields
+blank_fields = record {
+  name = None;
+  kind = None;
+  comments = [];
+  others = [];
+  dimension = None;
+  capacity = None;
+  scale = None;
+  weight_kind = None;
+  weight_format = None;
+  coord_kind = None;
+  display_kind = None;
+  coords = None;
+  display = None;
+  demands = None;
+  depots = None;
+  fixed = None;
+  weights = None;
+  tours = None;
+  node_potentials = None;
+  row_potentials = None;
+  column_potentials = None;
+}
 
 -- what a draft holds
 abbrev pub fields_of : Draft → Fields

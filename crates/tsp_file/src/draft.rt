@@ -1,6 +1,7 @@
 //! What a file holds, before it is known to be valid.
 
 use crate::kinds::{CoordKind, DisplayKind, Kind, WeightFormat, WeightKind};
+use std::alloc::Global;
 use tsp_number::Point;
 
 /// The fields of a file, in canonical order. A list by node has one entry for each node, in order.
@@ -48,4 +49,38 @@ pub struct Draft {
     pub row_potentials: Option<Vec<i64>>,
     /// COLUMN_POTENTIAL_SECTION, by node.
     pub column_potentials: Option<Vec<i64>>,
+}
+
+impl Draft {
+    ghost use Rattle.std.specs.Prelude.{◌≡◌};
+    ghost use Rattle.tsp_file.specs.Fields.{fields_of, blank_fields};
+
+    /// A draft with no field set: each is `None` or an empty list. No memory is taken.
+    pub fn new(alloc: Global) -> Draft
+        ensures { fields_of result ≡ blank_fields }
+    {
+        Draft {
+            name: None,
+            kind: None,
+            comments: Vec::new(alloc),
+            others: Vec::new(alloc),
+            dimension: None,
+            capacity: None,
+            scale: None,
+            weight_kind: None,
+            weight_format: None,
+            coord_kind: None,
+            display_kind: None,
+            coords: None,
+            display: None,
+            demands: None,
+            depots: None,
+            fixed: None,
+            weights: None,
+            tours: None,
+            node_potentials: None,
+            row_potentials: None,
+            column_potentials: None,
+        }
+    }
 }

@@ -64,6 +64,10 @@ impl Field {
 }
 
 impl fmt::Display for Field {
+    ghost use Rattle.std.specs.Prelude.{Some};
+
+    ghost output = { λ field. Some (field_word field) };
+
     fn fmt<W: fmt::Write>(&self, f: &mut fmt::Formatter<W>) -> fmt::Result {
         f.write_str(self.word())
     }

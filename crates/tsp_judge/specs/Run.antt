@@ -11,7 +11,7 @@ use Rattle.tsp_file.specs.declared.watched.Watched.{Watched}
 use Rattle.tsp_file.specs.Watched.{watched, has_failed}
 use Rattle.tsp_file.specs.Sink.{Sink, IsUnwritten, HasWritten, HasStopped}
 use Rattle.tsp_judge.specs.Forms.{IsTooLong, Spells, SpellsNone, Instance, IsInstance, IsSolution}
-use Rattle.tsp_judge.specs.Verdict.{IsVerdict, is_yes}
+use Rattle.tsp_judge.specs.Verdict.{IsVerdict, NoneBeforeRepeats, is_yes}
 use Rattle.tsp_judge.specs.Report.{report_of}
 
 -- A reader's turn: the bytes that it had left before the call and after it, where they are known, the bytes that it
@@ -80,8 +80,8 @@ IsRun instance solution sink (Err (File file fault)) = IsUnwritten sink
 IsRun instance solution sink (Err NotYet) = IsUnwritten sink
     × ((GaveAll instance (SpellsNone IsInstance) × IsUnread solution)
     ⊎ (((value : Instance) × IsFile IsInstance instance value) × GaveAll solution (SpellsNone IsSolution)))
-IsRun instance solution sink (Err OutOfMemory) = IsUnwritten sink
-    × ((value : Instance) × IsFile IsInstance instance value) × ((tours : List (List ℕ)) × IsFile IsSolution solution tours)
+IsRun instance solution sink (Err OutOfMemory) = IsUnwritten sink × (value : Instance) × (tours : List (List ℕ))
+    × IsFile IsInstance instance value × IsFile IsSolution solution tours × NoneBeforeRepeats value tours
 IsRun instance solution sink (Err (Write write_faults.OutOfMemory)) = IsUnwritten sink
     × (nodes : ℕ) × (verdict : Verdict) × IsJudged instance solution nodes verdict
 IsRun instance solution sink (Err (Write write_faults.Device)) = (nodes : ℕ) × (verdict : Verdict)

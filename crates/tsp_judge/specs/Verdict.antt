@@ -42,6 +42,11 @@ IsVerdict instance tours (No reason) = StandsAgainst instance tours reason
 IsVerdict instance tours (Tour length) = ((reason : Reason) → StandsAgainst instance tours reason → ⊥)
     × (tour : List ℕ) × (tours ≡ tour ∷ []) × IsWalk instance.nodes tour × (length ≡ tour_length instance tour)
 
+-- no reason stands but perhaps a repeated node: all others are found without memory
+abbrev pub NoneBeforeRepeats : Instance → List (List ℕ) → Type 0
+NoneBeforeRepeats instance tours = (reason : Reason) (place : ℕ) → rank_of reason < rank_of (RepeatedNode place)
+    → StandsAgainst instance tours reason → ⊥
+
 abbrev pub is_yes : Verdict → Bool
 is_yes (Tour length) = true
 is_yes (No reason) = false

@@ -25,7 +25,8 @@ use tsp_file::{Watched, WriteFault, write_text};
 ///
 /// Errors: `File` where a file's device fails, where it is longer than `FILE_LIMIT` with no line
 /// `EOF` up to there, or where memory is wanting for it; `NotYet`; `Write` where the report could
-/// not be written; `OutOfMemory` where memory is wanting for the judgement.
+/// not be written; `OutOfMemory` where memory is wanting for the judgement, which the search for a
+/// repeated node alone takes: so no other reason stands then.
 pub fn run_check<I: Read, S: Read, W: Write>(
     alloc: Global,
     inst: &mut Watched<I>,
@@ -45,8 +46,9 @@ pub fn run_check<I: Read, S: Read, W: Write>(
         Ok(None) => return Err(RunFault::NotYet),
         Ok(Some(solution)) => solution,
     };
-    let Ok(verdict) = judge(alloc, &instance, &solution) else {
-        return Err(RunFault::OutOfMemory);
+    let verdict = match judge(alloc, &instance, &solution) {
+        Err(_) => return Err(RunFault::OutOfMemory),
+        Ok(verdict) => verdict,
     };
     let Ok(report) = report_text(alloc, instance.nodes(), verdict) else {
         return Err(RunFault::Write(WriteFault::OutOfMemory));

@@ -1,10 +1,10 @@
 //! The verdict on an instance and the tours of a solution.
 
-ghost use Rattle.std.specs.Prelude.{◌≡◌, ◌+◌, ◌*◌, ◌^◌, ◌≤◌, ◌<◌, List, ℕ, length, IfOk, MatchOption, pos, negsuc};
+ghost use Rattle.std.specs.Prelude.{◌≡◌, ◌+◌, ◌*◌, ◌^◌, ◌≤◌, ◌<◌, List, ℕ, length, IfOk, MatchOption, MatchResult, pos, negsuc};
 ghost use Rattle.std.specs.List.{All};
 ghost use Rattle.tsp_judge.specs.Forms.{IsWithin};
 ghost use Rattle.tsp_judge.specs.Tour.{node_at, IsPlace, IsNode, tour_length, path_length, cost};
-ghost use Rattle.tsp_judge.specs.Verdict.{IsFirstPlace, IsRepeated, IsVerdict};
+ghost use Rattle.tsp_judge.specs.Verdict.{IsFirstPlace, IsRepeated, IsVerdict, NoneBeforeRepeats};
 ghost use Rattle.tsp_judge.specs.Values.{instance_of, Holds};
 
 use crate::form::instance::Matrix;
@@ -16,13 +16,17 @@ use std::alloc::{AllocError, Global};
 const FEWEST_NODES: u32 = 3;
 
 /// The verdict on a solution: the first reason that stands against it, or the length of its tour.
+///
+/// The search for a repeated node alone takes memory.
 pub(crate) fn judge(
     alloc: Global,
     instance: &Matrix,
     solution: &Tours,
 ) -> Result<Verdict, AllocError>
     requires { All (λ node. 1 ≤ node) solution.now.nodes.items }
-    ensures { IfOk result (λ verdict. (tours : List (List ℕ)) → Holds solution.now tours → IsVerdict (instance_of instance.now) tours verdict) }
+    ensures { MatchResult result
+        (λ verdict. (tours : List (List ℕ)) → Holds solution.now tours → IsVerdict (instance_of instance.now) tours verdict)
+        (λ refused. (tours : List (List ℕ)) → Holds solution.now tours → NoneBeforeRepeats (instance_of instance.now) tours) }
 {
     let nodes = instance.nodes();
     let tour = solution.nodes.as_slice();

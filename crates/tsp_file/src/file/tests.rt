@@ -4,41 +4,15 @@ use super::*;
 use crate::fault::EndFault;
 use crate::field::Field;
 use crate::layout::Layout;
-use crate::limits::*;
 use std::alloc::{AllocError, Global};
 use std::test::Fail;
 use tsp_number::Decimal;
 
-/// A draft that holds nothing.
-fn blank(alloc: Global) -> Draft {
-    Draft {
-        name: None,
-        kind: None,
-        comments: Vec::new(alloc),
-        others: Vec::new(alloc),
-        dimension: None,
-        capacity: None,
-        scale: None,
-        weight_kind: None,
-        weight_format: None,
-        coord_kind: None,
-        display_kind: None,
-        coords: None,
-        display: None,
-        demands: None,
-        depots: None,
-        fixed: None,
-        weights: None,
-        tours: None,
-        node_potentials: None,
-        row_potentials: None,
-        column_potentials: None,
-    }
-}
+mod limits;
 
 /// A file of tours without any.
 fn tours(alloc: Global) -> Draft {
-    let mut draft = blank(alloc);
+    let mut draft = Draft::new(alloc);
     draft.kind = Some(Kind::Tour);
     draft.tours = Some(Vec::new(alloc));
     draft
@@ -46,7 +20,7 @@ fn tours(alloc: Global) -> Draft {
 
 /// An instance of n nodes with this many weights 0 by the upper rows.
 fn upper_row(alloc: Global, n: u32, count: usize) -> Result<Draft, AllocError> {
-    let mut draft = blank(alloc);
+    let mut draft = Draft::new(alloc);
     draft.kind = Some(Kind::Tsp);
     draft.dimension = Some(n);
     draft.weight_kind = Some(WeightKind::Explicit);
@@ -74,7 +48,7 @@ fn missing(field: Field) -> Option<DraftFault> {
 #[test]
 fn rules(rt: HostRuntime) -> Result<(), Fail> {
     let alloc = rt.alloc();
-    assert_eq!(rt; fault(blank(alloc)), missing(Field::TypeKey));
+    assert_eq!(rt; fault(Draft::new(alloc)), missing(Field::TypeKey));
     assert_eq!(rt; fault(tours(alloc)), None);
     assert_eq!(rt; fault(upper_row(alloc, 4, 6)?), None);
     assert_eq!(rt; fault(upper_row(alloc, 1, 0)?), None);
@@ -110,14 +84,14 @@ fn potentials(rt: HostRuntime) -> Result<(), Fail> {
         (true, false, false, None),
         (false, true, true, None),
     ] {
-        let mut draft = blank(rt.alloc());
+        let mut draft = Draft::new(rt.alloc());
         draft.kind = Some(Kind::Potentials);
         draft.dimension = Some(1);
         if nodes {
-            draft.node_potentials = Some(vec![in rt.alloc(); MOST_POTENTIAL; 1]?);
+            draft.node_potentials = Some(vec![in rt.alloc(); 7; 1]?);
         }
         if rows {
-            draft.row_potentials = Some(vec![in rt.alloc(); -MOST_POTENTIAL; 1]?);
+            draft.row_potentials = Some(vec![in rt.alloc(); -7; 1]?);
         }
         if columns {
             draft.column_potentials = Some(vec![in rt.alloc(); 0; 1]?);
@@ -131,16 +105,14 @@ fn potentials(rt: HostRuntime) -> Result<(), Fail> {
 fn names(rt: HostRuntime) -> Result<(), Fail> {
     let alloc = rt.alloc();
     for (name, want) in [
-        (vec![in alloc; b'x'; 3_996]?, None),
-        (vec![in alloc; b'x'; 3_997]?, bad(Field::NameKey)),
-        (b"a b".to_vec(alloc)?, None),
-        (b"".to_vec(alloc)?, None),
-        (b" a".to_vec(alloc)?, bad(Field::NameKey)),
-        (b"a\t".to_vec(alloc)?, bad(Field::NameKey)),
-        (b"a\nb".to_vec(alloc)?, bad(Field::NameKey)),
+        (b"a b".as_slice(), None),
+        (b"".as_slice(), None),
+        (b" a".as_slice(), bad(Field::NameKey)),
+        (b"a\t".as_slice(), bad(Field::NameKey)),
+        (b"a\nb".as_slice(), bad(Field::NameKey)),
     ] {
         let mut draft = tours(alloc);
-        draft.name = Some(name);
+        draft.name = Some(Vec::from_slice(alloc, name)?);
         assert_eq!(rt; fault(draft), want);
     }
     Ok(())
@@ -164,55 +136,8 @@ fn unknown_keywords(rt: HostRuntime) -> Result<(), Fail> {
     ] {
         let mut draft = tours(alloc);
         let line = (keyword.as_bytes().to_vec(alloc)?, b"1".to_vec(alloc)?);
-        let _ = draft.others.push(line).is_ok();
+        draft.others.push(line)?;
         assert_eq!(rt; fault(draft), want, "{keyword}");
-    }
-    Ok(())
-}
-
-#[test]
-fn numbers(rt: HostRuntime) -> Result<(), Fail> {
-    let alloc = rt.alloc();
-    for (dimension, want) in [
-        (1, None),
-        (MOST_NODES, None),
-        (0, bad(Field::DimensionKey)),
-        (MOST_NODES + 1, bad(Field::DimensionKey)),
-    ] {
-        let mut draft = tours(alloc);
-        draft.dimension = Some(dimension);
-        assert_eq!(rt; fault(draft), want, "{dimension}");
-    }
-    for (scale, want) in [
-        (1, None),
-        (MOST_SCALE, None),
-        (0, bad(Field::ScaleKey)),
-        (MOST_SCALE + 1, bad(Field::ScaleKey)),
-    ] {
-        let mut draft = tours(alloc);
-        draft.scale = Some(scale);
-        assert_eq!(rt; fault(draft), want, "{scale}");
-    }
-    for (demand, want) in [
-        (0, None),
-        (MOST_DEMAND, None),
-        (-1, bad(Field::DemandPart)),
-        (MOST_DEMAND + 1, bad(Field::DemandPart)),
-    ] {
-        let mut draft = tours(alloc);
-        draft.dimension = Some(2);
-        draft.demands = Some(vec![in alloc; demand; 2]?);
-        assert_eq!(rt; fault(draft), want, "{demand}");
-    }
-    for (weight, want) in [
-        (-MOST_WEIGHT, None),
-        (MOST_WEIGHT, None),
-        (-MOST_WEIGHT - 1, bad(Field::EdgeWeightPart)),
-        (MOST_WEIGHT + 1, bad(Field::EdgeWeightPart)),
-    ] {
-        let mut draft = upper_row(alloc, 2, 1)?;
-        draft.weights = Some(vec![in alloc; weight; 1]?);
-        assert_eq!(rt; fault(draft), want, "{weight}");
     }
     Ok(())
 }
@@ -230,7 +155,7 @@ fn sections(rt: HostRuntime) -> Result<(), Fail> {
         draft.dimension = dimension;
         let mut points = Vec::new(alloc);
         for _ in 0..count {
-            let _ = points.push(Point { x: zero, y: zero }).is_ok();
+            points.push(Point { x: zero, y: zero })?;
         }
         draft.coords = Some(points);
         assert_eq!(rt; fault(draft), want, "{count}");
@@ -245,39 +170,16 @@ fn sections(rt: HostRuntime) -> Result<(), Fail> {
         draft.fixed = Some(vec![in alloc; pair; 1]?);
         assert_eq!(rt; fault(draft), want);
     }
-    for (depots, want) in [
-        (vec![in alloc; 2; MOST_DEPOTS]?, None),
-        (vec![in alloc; 2; MOST_DEPOTS + 1]?, bad(Field::DepotPart)),
-        (vec![in alloc; 0; 1]?, bad(Field::DepotPart)),
-    ] {
-        let mut draft = tours(alloc);
-        draft.dimension = Some(2);
-        draft.depots = Some(depots);
-        assert_eq!(rt; fault(draft), want);
-    }
     for (kind, tour, want) in [
-        (
-            Some(Kind::Tour),
-            vec![in alloc; MOST_NODES; MOST_TOUR_NODES]?,
-            None,
-        ),
-        (
-            Some(Kind::Tour),
-            vec![in alloc; 1; MOST_TOUR_NODES + 1]?,
-            bad(Field::TourPart),
-        ),
-        (
-            Some(Kind::Tour),
-            vec![in alloc; 0; 1]?,
-            bad(Field::TourPart),
-        ),
-        (None, vec![in alloc; 0; 1]?, bad(Field::TourPart)),
-        (Some(Kind::Tour), Vec::new(alloc), bad(Field::TourPart)),
+        (Some(Kind::Tour), [1u32].as_slice(), None),
+        (Some(Kind::Tour), [0].as_slice(), bad(Field::TourPart)),
+        (None, [0].as_slice(), bad(Field::TourPart)),
+        (Some(Kind::Tour), [].as_slice(), bad(Field::TourPart)),
     ] {
         let mut draft = tours(alloc);
         draft.kind = kind;
         let mut lists = Vec::new(alloc);
-        let _ = lists.push(tour).is_ok();
+        lists.push(Vec::from_slice(alloc, tour)?)?;
         draft.tours = Some(lists);
         assert_eq!(rt; fault(draft), want);
     }

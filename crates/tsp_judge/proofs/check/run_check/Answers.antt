@@ -2,6 +2,7 @@ use Rattle.std.proofs.Common.{List, ℕ, Err, ◌∙◌, inr, refl, subst}
 use Rattle.tsp_judge.specs.Run.{turn_of}
 use Rattle.tsp_file.specs.Sink.{sink_of, Writes}
 use Rattle.tsp_judge.specs.Values.{instance_of}
+use Rattle.tsp_judge.specs.Verdict.{NoneBeforeRepeats}
 use Rattle.tsp_judge.proofs.Checks.{judged, numbered, keeps_same, write_faults}
 use Rattle.tsp_judge.proofs.check.run_check.Goals as goal
 
@@ -22,14 +23,15 @@ judge-requires g c =
     let two = rw c.in-Ok-Some-read_solution.field-0-is at c.in-Ok-Some-read_solution.ensures in
     rw two.3.nodes (numbered (turn_of g.S.Read.remaining c.args.sol.now c.read_solution.new.reader two.0) two.1 two.2)
 
-pub returns-in_default : goal.returns-in_default
-returns-in_default g c =
+pub returns-in-Err-judge : goal.returns-in-Err-judge
+returns-in-Err-judge g c =
     let one = rw c.in-Ok-Some.field-0-is at c.in-Ok-Some.ensures in
     let two = rw c.in-Ok-Some-read_solution.field-0-is at c.in-Ok-Some-read_solution.ensures in
-    (one.0, two.0, ((keeps_same _, refl), (one.1, one.2), (two.1, two.2)))
+    let none = subst (λ f. NoneBeforeRepeats f two.1) one.3 (c.in-Err-judge.ensures two.1 two.3) in
+    (one.0, two.0, ((keeps_same _, refl), one.1, two.1, one.2, two.2, none))
 
-pub returns-in_default-report_text : goal.returns-in_default-report_text
-returns-in_default-report_text g c =
+pub returns-in_default : goal.returns-in_default
+returns-in_default g c =
     let one = rw c.in-Ok-Some.field-0-is at c.in-Ok-Some.ensures in
     let two = rw c.in-Ok-Some-read_solution.field-0-is at c.in-Ok-Some-read_solution.ensures in
     let both = judged (turn_of g.I.Read.remaining c.args.inst.now c.read_instance.new.reader one.0) (turn_of g.S.Read.remaining c.args.sol.now c.read_solution.new.reader two.0)
