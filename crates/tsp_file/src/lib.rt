@@ -1,6 +1,8 @@
 //! The values of TSPLIB 95 files: what a file holds, when it is valid, and its canonical text.
 #![tactic(auto)]
 
+#[cfg(test)]
+mod devices;
 mod draft;
 mod fault;
 mod field;

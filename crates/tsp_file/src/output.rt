@@ -56,3 +56,6 @@ pub fn write_text<W: Write>(out: &mut Watched<W>, text: &[u8]) -> Result<(), Wri
     }
     Err(WriteFault::Device)
 }
+
+#[cfg(test)]
+mod tests;

@@ -91,3 +91,6 @@ impl<W: Write> Write for Watched<W> {
         outcome
     }
 }
+
+#[cfg(test)]
+mod tests;

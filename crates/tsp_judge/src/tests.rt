@@ -7,7 +7,6 @@ mod failures;
 mod forms;
 mod limits;
 mod texts;
-mod watching;
 
 use super::{RunFault, Watched, run_check};
 use std::alloc::{AllocError, Global};

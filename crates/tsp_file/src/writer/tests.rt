@@ -1,6 +1,7 @@
 //! What no contract says: whole texts by hand, and writers that take little, or fail.
 
 use super::{write_draft, write_file};
+use crate::devices::{Drip, NEVER, Refusal};
 use crate::draft::Draft;
 use crate::file::File;
 use crate::kinds::{CoordKind, DisplayKind, Kind, WeightFormat, WeightKind};
@@ -8,56 +9,9 @@ use crate::layout::Layout;
 use crate::output::WriteFault;
 use crate::watched::Watched;
 use std::alloc::{AllocError, Global};
-use std::io;
 use std::io::{ErrorKind, Write};
 use std::test::Fail;
 use tsp_number::{Decimal, Point};
-
-/// A call that never comes.
-const NEVER: usize = usize::MAX;
-
-/// A writer that takes a few bytes a call, and refuses at one call and from then on.
-#[derive(Drop)]
-struct Drip {
-    held: Vec<u8>,
-    most: usize,
-    calls: usize,
-    fails_at: usize,
-    takes_nothing: bool,
-}
-
-impl Drip {
-    /// A writer that takes so many bytes a call, and whose call `fails_at`, counted from 0, fails.
-    fn new(alloc: Global, most: usize, fails_at: usize) -> Drip {
-        Drip {
-            held: Vec::new(alloc),
-            most,
-            calls: 0,
-            fails_at,
-            takes_nothing: false,
-        }
-    }
-}
-
-impl Write for Drip {
-    fn write(&mut self, buf: &[u8]) -> io::Result<usize> {
-        let call = self.calls;
-        self.calls = call.saturating_add(1);
-        if call >= self.fails_at {
-            if self.takes_nothing {
-                return Ok(0);
-            }
-            return Err(io::Error::from(ErrorKind::Other));
-        }
-        let room = buf.len().min(self.most);
-        self.held.extend_from_slice(&buf[..room])?;
-        Ok(room)
-    }
-
-    fn flush(&mut self) -> io::Result<()> {
-        Ok(())
-    }
-}
 
 /// The file that a draft holds.
 fn file(draft: Draft) -> Result<File, Fail> {
@@ -70,20 +24,20 @@ fn file(draft: Draft) -> Result<File, Fail> {
 /// The canonical text of the file that a draft holds.
 fn text(alloc: Global, draft: Draft) -> Result<Vec<u8>, Fail> {
     let file = file(draft)?;
-    let mut out = Watched::new(Drip::new(alloc, NEVER, NEVER));
+    let mut out = Watched::new(Drip::sound(alloc));
     if write_file(alloc, &file, &mut out).is_err() {
         return Err(Fail::from("not written"));
     }
-    let Drip { held, .. } = out.into_inner();
-    Ok(held)
+    Ok(Vec::from_slice(alloc, out.into_inner().held())?)
 }
 
 /// The text of a draft, which need not be a file.
-fn draft_text(alloc: Global, draft: &Draft) -> Vec<u8> {
-    let mut out = Watched::new(Drip::new(alloc, NEVER, NEVER));
-    let _ = write_draft(draft, &mut out);
-    let Drip { held, .. } = out.into_inner();
-    held
+fn draft_text(alloc: Global, draft: &Draft) -> Result<Vec<u8>, Fail> {
+    let mut out = Watched::new(Drip::sound(alloc));
+    if write_draft(draft, &mut out).is_err() {
+        return Err(Fail::from("not written"));
+    }
+    Ok(Vec::from_slice(alloc, out.into_inner().held())?)
 }
 
 /// The name `a`, an empty comment, and the tours 1, 2 and 3.
@@ -118,11 +72,10 @@ fn four_nodes(alloc: Global, layout: Layout, count: u8) -> Result<Draft, AllocEr
 }
 
 #[test]
-fn nothing_is_the_end_line(rt: HostRuntime) {
-    assert_eq!(rt;
-        draft_text(rt.alloc(), &Draft::new(rt.alloc())).as_slice(),
-        b"EOF\n".as_slice()
-    );
+fn nothing_is_the_end_line(rt: HostRuntime) -> Result<(), Fail> {
+    let written = draft_text(rt.alloc(), &Draft::new(rt.alloc()))?;
+    assert_eq!(rt; written.as_slice(), b"EOF\n".as_slice());
+    Ok(())
 }
 
 #[test]
@@ -221,14 +174,16 @@ fn every_field_stands_once_in_canonical_order(rt: HostRuntime) -> Result<(), Fai
 #[test]
 fn weights_past_the_layout_stand_in_one_line(rt: HostRuntime) -> Result<(), Fail> {
     let mut draft = four_nodes(rt.alloc(), Layout::UpperRow, 8)?;
+    let listed = draft_text(rt.alloc(), &draft)?;
     assert!(rt;
-        draft_text(rt.alloc(), &draft)
+        listed
             .as_slice()
             .ends_with(b"_SECTION\n1 2 3\n4 5\n6\n7 8\nEOF\n")
     );
     draft.weight_format = Some(WeightFormat::ByFunction);
+    let unlisted = draft_text(rt.alloc(), &draft)?;
     assert!(rt;
-        draft_text(rt.alloc(), &draft)
+        unlisted
             .as_slice()
             .ends_with(b"_SECTION\n1 2 3 4 5 6 7 8\nEOF\n")
     );
@@ -238,27 +193,25 @@ fn weights_past_the_layout_stand_in_one_line(rt: HostRuntime) -> Result<(), Fail
 #[test]
 fn one_byte_a_call_gets_the_whole_text(rt: HostRuntime) -> Result<(), Fail> {
     let file = file(rectangle(rt.alloc())?)?;
-    let mut out = Watched::new(Drip::new(rt.alloc(), 1, NEVER));
+    let mut out = Watched::new(Drip::new(rt.alloc(), 1, NEVER, Refusal::Nothing));
     assert_eq!(rt; write_file(rt.alloc(), &file, &mut out), Ok(()));
     assert!(rt; !out.failed());
-    assert_eq!(rt; out.into_inner().held.as_slice(), RECTANGLE);
+    assert_eq!(rt; out.into_inner().held(), RECTANGLE);
     Ok(())
 }
 
 #[test]
 fn a_failure_leaves_a_front(rt: HostRuntime) -> Result<(), Fail> {
     let file = file(rectangle(rt.alloc())?)?;
-    for takes_nothing in [false, true] {
+    for refusal in [Refusal::Nothing, Refusal::Error(ErrorKind::Interrupted)] {
         for fails_at in 0..RECTANGLE.len() {
-            let mut drip = Drip::new(rt.alloc(), 1, fails_at);
-            drip.takes_nothing = takes_nothing;
-            let mut out = Watched::new(drip);
+            let mut out = Watched::new(Drip::new(rt.alloc(), 1, fails_at, refusal));
             let written = write_file(rt.alloc(), &file, &mut out);
             assert_eq!(rt; written, Err(WriteFault::Device));
             assert!(rt; out.failed());
             let drip = out.into_inner();
-            assert_eq!(rt; drip.held.as_slice(), &RECTANGLE[..fails_at]);
-            assert_eq!(rt; drip.calls, fails_at + 1, "it is not written again");
+            assert_eq!(rt; drip.held(), &RECTANGLE[..fails_at]);
+            assert_eq!(rt; drip.calls(), fails_at + 1, "it is not written again");
         }
     }
     Ok(())
@@ -267,11 +220,11 @@ fn a_failure_leaves_a_front(rt: HostRuntime) -> Result<(), Fail> {
 #[test]
 fn a_failed_writer_gets_nothing(rt: HostRuntime) -> Result<(), Fail> {
     let file = file(two_tours(rt.alloc())?)?;
-    let mut out = Watched::new(Drip::new(rt.alloc(), 1, 0));
+    let mut out = Watched::new(Drip::new(rt.alloc(), 1, 0, Refusal::Nothing));
     let _ = out.write(b"x");
     let written = write_file(rt.alloc(), &file, &mut out);
     assert_eq!(rt; written, Err(WriteFault::Device));
-    assert_eq!(rt; out.into_inner().calls, 1);
+    assert_eq!(rt; out.into_inner().calls(), 1);
     Ok(())
 }
 
@@ -288,10 +241,10 @@ fn long_texts_go_in_pieces(rt: HostRuntime) -> Result<(), Fail> {
         draft.comments.push(long)?;
     }
     wanted.extend_from_slice(b"EOF\n")?;
-    let mut out = Watched::new(Drip::new(alloc, NEVER, NEVER));
+    let mut out = Watched::new(Drip::sound(alloc));
     assert_eq!(rt; write_draft(&draft, &mut out), Ok(()));
     let drip = out.into_inner();
-    assert_eq!(rt; drip.held.as_slice(), wanted.as_slice());
-    assert_eq!(rt; drip.calls, 7);
+    assert_eq!(rt; drip.held(), wanted.as_slice());
+    assert_eq!(rt; drip.calls(), 7);
     Ok(())
 }

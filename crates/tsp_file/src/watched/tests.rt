@@ -1,7 +1,7 @@
 //! A watched reader and a watched writer by themselves.
 
-use super::devices::{Drip, NEVER, Refusal, Trickle};
-use crate::Watched;
+use super::Watched;
+use crate::devices::{Drip, NEVER, Refusal, Trickle};
 use std::io::{ErrorKind, Read, Write};
 
 #[test]
@@ -41,7 +41,7 @@ fn a_write_that_fails_or_takes_nothing_is_remembered(rt: HostRuntime) {
         Refusal::Error(ErrorKind::Other),
         Refusal::Error(ErrorKind::Interrupted),
     ] {
-        let mut writer = Watched::new(Drip::new(rt.alloc(), 2, refusal));
+        let mut writer = Watched::new(Drip::new(rt.alloc(), 1, 2, refusal));
         assert_eq!(rt; writer.write(b"").ok(), Some(0));
         assert!(rt; !writer.failed());
         assert_eq!(rt; writer.write(b"ab").ok(), Some(1));
@@ -56,10 +56,15 @@ fn a_write_that_fails_or_takes_nothing_is_remembered(rt: HostRuntime) {
 
 #[test]
 fn a_flush_that_fails_is_remembered(rt: HostRuntime) {
-    let mut sound = Watched::new(Drip::new(rt.alloc(), NEVER, Refusal::Nothing));
+    let mut sound = Watched::new(Drip::sound(rt.alloc()));
     assert!(rt; sound.flush().is_ok());
     assert!(rt; !sound.failed());
-    let mut broken = Watched::new(Drip::new(rt.alloc(), NEVER, Refusal::Error(ErrorKind::Other)));
+    let mut broken = Watched::new(Drip::new(
+        rt.alloc(),
+        1,
+        NEVER,
+        Refusal::Error(ErrorKind::Other),
+    ));
     assert!(rt; broken.flush().is_err());
     assert!(rt; broken.failed());
 }
