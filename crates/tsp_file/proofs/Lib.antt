@@ -1,4 +1,5 @@
 pub mod Counts
+pub mod Types
 pub mod LayoutWords
 pub mod Lines
 pub mod Pairs

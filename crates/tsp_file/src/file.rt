@@ -68,10 +68,13 @@ impl File {
     }
 
     /// TYPE, which every file has.
-    pub fn kind(&self) -> Option<Kind>
-        ensures { result ≡ self.now.kind }
+    pub fn kind(&self) -> Kind
+        ensures { Some result ≡ self.now.kind }
     {
-        self.draft.kind
+        match self.draft.kind {
+            Some(kind) => kind,
+            None => unreachable!(),
+        }
     }
 
     /// The COMMENT lines, in order.

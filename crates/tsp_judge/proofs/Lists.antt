@@ -10,9 +10,9 @@ use Rattle.std.proofs.lemmas.List.Concat.{flat_map-cons}
 use Rattle.tsp_judge.specs.declared.form.words.NumberKind.{NumberKind}
 use Rattle.tsp_judge.specs.declared.form.words.NumberKind.TheVariants.{Weight, TourWord}
 use Rattle.tsp_judge.specs.Words.{words_of, whole_of}
-use Rattle.tsp_judge.specs.Numbers.{joined, is_allowed, number_in, numbers_of, numbers_before_eof}
+use Rattle.tsp_judge.specs.Numbers.{both_lists, is_allowed, number_in, numbers_of, numbers_before_eof}
 use Rattle.std.proofs.lemmas.Bool.{false_from_ne_true}
-use Rattle.tsp_judge.proofs.Joins.{joined_nothing, joined_assoc}
+use Rattle.tsp_judge.proofs.Joins.{both_lists_nothing, both_lists_assoc}
 use Rattle.tsp_judge.specs.Forms.{eof, ListsNumbers, IsWithin, IsTourWord}
 
 -- ---- words
@@ -33,13 +33,13 @@ number_from : (kind : NumberKind) (word : Option ℤ) (z : ℤ) → word ≡ Som
 number_from kind word z e allowed = rw e (ap (λ (b : Bool). cond b (Some z) None) allowed)
 
 -- both parts of a list that two others join to
-joined_some : (x y : Option (List ℤ)) (zs : List ℤ) → joined x y ≡ Some zs → (a : List ℤ) × (b : List ℤ) × (x ≡ Some a) × (y ≡ Some b) × (a ++ b ≡ zs)
-joined_some None y zs e = absurd cc
-joined_some (Some a) None zs e = absurd cc
-joined_some (Some a) (Some b) zs e = (a, b, refl, refl, cc)
+both_lists_some : (x y : Option (List ℤ)) (zs : List ℤ) → both_lists x y ≡ Some zs → (a : List ℤ) × (b : List ℤ) × (x ≡ Some a) × (y ≡ Some b) × (a ++ b ≡ zs)
+both_lists_some None y zs e = absurd cc
+both_lists_some (Some a) None zs e = absurd cc
+both_lists_some (Some a) (Some b) zs e = (a, b, refl, refl, cc)
 
-joined_is : (x y : Option (List ℤ)) (a b zs : List ℤ) → x ≡ Some a → y ≡ Some b → a ++ b ≡ zs → joined x y ≡ Some zs
-joined_is x y a b zs e f g = rw (e, f) (ap (λ (xs : List ℤ). Some xs) g)
+both_lists_is : (x y : Option (List ℤ)) (a b zs : List ℤ) → x ≡ Some a → y ≡ Some b → a ++ b ≡ zs → both_lists x y ≡ Some zs
+both_lists_is x y a b zs e f g = rw (e, f) (ap (λ (xs : List ℤ). Some xs) g)
 
 single_some : (o : Option ℤ) (a : List ℤ) → option_map (λ z. z ∷ []) o ≡ Some a → (z : ℤ) × (o ≡ Some z) × (a ≡ z ∷ [])
 single_some None a e = absurd cc
@@ -59,7 +59,7 @@ same_cons a b xs ys e f = rw (e, f) refl
 pub words_stand : (kind : NumberKind) (words : List (List ℕ)) (zs : List ℤ) → numbers_of kind words ≡ Some zs → StandFor kind words zs
 words_stand kind [] zs e = let none : [] ≡ zs = cc in subst (λ xs. StandFor kind [] xs) none (record { stand = refl; allowed = refl })
 words_stand kind (word ∷ words) zs e =
-    let parts = joined_some (option_map (λ z. z ∷ []) (number_in kind word)) (numbers_of kind words) zs e in
+    let parts = both_lists_some (option_map (λ z. z ∷ []) (number_in kind word)) (numbers_of kind words) zs e in
     let single = single_some (number_in kind word) parts.0 parts.2 in
     let first = number_is kind (whole_of word) single.0 single.1 in
     let rest = words_stand kind words parts.1 parts.3 in
@@ -89,11 +89,11 @@ words_stand_back kind (word ∷ words) (z ∷ zs) h =
     let rest : numbers_of kind words ≡ Some zs = words_stand_back kind words zs (record { stand = tail; allowed = and_right _ _ h.allowed }) in
     rw (first, rest) refl
 
-numbers_append : (kind : NumberKind) (xs ys : List (List ℕ)) → numbers_of kind (xs ++ ys) ≡ joined (numbers_of kind xs) (numbers_of kind ys)
-numbers_append kind [] ys = sym (joined_nothing (numbers_of kind ys))
+numbers_append : (kind : NumberKind) (xs ys : List (List ℕ)) → numbers_of kind (xs ++ ys) ≡ both_lists (numbers_of kind xs) (numbers_of kind ys)
+numbers_append kind [] ys = sym (both_lists_nothing (numbers_of kind ys))
 numbers_append kind (word ∷ words) ys =
-    ap (joined (option_map (λ z. z ∷ []) (number_in kind word))) (numbers_append kind words ys)
-    ∙ joined_assoc (option_map (λ z. z ∷ []) (number_in kind word)) (numbers_of kind words) (numbers_of kind ys)
+    ap (both_lists (option_map (λ z. z ∷ []) (number_in kind word))) (numbers_append kind words ys)
+    ∙ both_lists_assoc (option_map (λ z. z ∷ []) (number_in kind word)) (numbers_of kind words) (numbers_of kind ys)
 
 -- ---- lines
 
@@ -106,20 +106,20 @@ record Parts (kind : NumberKind) (lines : List (List ℕ)) (zs : List ℤ) : Typ
 
 by_test : (kind : NumberKind) (line : List ℕ) (lines : List (List ℕ)) (zs : List ℤ) (is_eof : Bool) → is_eof ≡ bytes_eq line (codes "EOF")
     → ((ys : List ℤ) → numbers_before_eof kind lines ≡ Some ys → Parts kind lines ys)
-    → cond is_eof (Some []) (joined (numbers_of kind (words_of line)) (numbers_before_eof kind lines)) ≡ Some zs → Parts kind (line ∷ lines) zs
+    → cond is_eof (Some []) (both_lists (numbers_of kind (words_of line)) (numbers_before_eof kind lines)) ≡ Some zs → Parts kind (line ∷ lines) zs
 by_test kind line lines zs true here others e =
     let same : line ≡ eof = (bytes_eq-Decides line (codes "EOF")).0 (sym here) in
     let none : [] ≡ zs = cc in
     record { body = []; after = lines; parts = ap (λ (l : List ℕ). l ∷ lines) same; numbers = ap (λ (xs : List ℤ). Some xs) none }
 by_test kind line lines zs false here others e =
-    let found = joined_some (numbers_of kind (words_of line)) (numbers_before_eof kind lines) zs e in
+    let found = both_lists_some (numbers_of kind (words_of line)) (numbers_before_eof kind lines) zs e in
     let rest = others found.1 found.3 in
     record {
       body = line ∷ rest.body;
       after = rest.after;
       parts = ap (λ (ls : List (List ℕ)). line ∷ ls) rest.parts;
       numbers = ap (numbers_of kind) (flat_map-cons words_of line rest.body) ∙ numbers_append kind (words_of line) (flat_map words_of rest.body)
-          ∙ joined_is (numbers_of kind (words_of line)) (numbers_of kind (flat_map words_of rest.body)) found.0 found.1 zs found.2 rest.numbers found.4;
+          ∙ both_lists_is (numbers_of kind (words_of line)) (numbers_of kind (flat_map words_of rest.body)) found.0 found.1 zs found.2 rest.numbers found.4;
     }
 
 parts_of : (kind : NumberKind) (lines : List (List ℕ)) (zs : List ℤ) → numbers_before_eof kind lines ≡ Some zs → Parts kind lines zs
@@ -136,11 +136,11 @@ not_eof kind line a e = false_from_ne_true (bytes_eq line (codes "EOF")) (λ her
 numbers_back : (kind : NumberKind) (body after : List (List ℕ)) (zs : List ℤ) → numbers_of kind (flat_map words_of body) ≡ Some zs → numbers_before_eof kind (body ++ eof ∷ after) ≡ Some zs
 numbers_back kind [] after zs e = e
 numbers_back kind (line ∷ body) after zs e =
-    let both : joined (numbers_of kind (words_of line)) (numbers_of kind (flat_map words_of body)) ≡ Some zs =
+    let both : both_lists (numbers_of kind (words_of line)) (numbers_of kind (flat_map words_of body)) ≡ Some zs =
     sym (ap (numbers_of kind) (flat_map-cons words_of line body) ∙ numbers_append kind (words_of line) (flat_map words_of body)) ∙ e in
-    let found = joined_some (numbers_of kind (words_of line)) (numbers_of kind (flat_map words_of body)) zs both in
+    let found = both_lists_some (numbers_of kind (words_of line)) (numbers_of kind (flat_map words_of body)) zs both in
     let rest : numbers_before_eof kind (body ++ eof ∷ after) ≡ Some found.1 = numbers_back kind body after found.1 found.3 in
-    rw (not_eof kind line found.0 found.2) (joined_is (numbers_of kind (words_of line)) (numbers_before_eof kind (body ++ eof ∷ after)) found.0 found.1 zs found.2 rest found.4)
+    rw (not_eof kind line found.0 found.2) (both_lists_is (numbers_of kind (words_of line)) (numbers_before_eof kind (body ++ eof ∷ after)) found.0 found.1 zs found.2 rest found.4)
 
 pub lists : (kind : NumberKind) (lines : List (List ℕ)) (zs : List ℤ) → numbers_before_eof kind lines ≡ Some zs → ListsNumbers lines zs × (list_all (is_allowed kind) zs ≡ true)
 lists kind lines zs e =

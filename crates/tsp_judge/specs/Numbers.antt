@@ -16,16 +16,16 @@ abbrev pub number_in : NumberKind → List ℕ → Option ℤ
 number_in kind word = option_and_then (λ z. cond (is_allowed kind z) (Some z) None) (whole_of word)
 
 -- both lists, where both are there
-abbrev pub joined : Option (List ℤ) → Option (List ℤ) → Option (List ℤ)
-joined first second = option_and_then (λ xs. option_map (λ ys. xs ++ ys) second) first
+abbrev pub both_lists : Option (List ℤ) → Option (List ℤ) → Option (List ℤ)
+both_lists first second = option_and_then (λ xs. option_map (λ ys. xs ++ ys) second) first
 
 -- the numbers of all words, where each is one
 abbrev pub numbers_of : NumberKind → List (List ℕ) → Option (List ℤ)
 numbers_of kind [] = Some []
-numbers_of kind (word ∷ words) = joined (option_map (λ z. z ∷ []) (number_in kind word)) (numbers_of kind words)
+numbers_of kind (word ∷ words) = both_lists (option_map (λ z. z ∷ []) (number_in kind word)) (numbers_of kind words)
 
 -- the numbers of all words before the first line EOF, where that is there and each word is a number
 abbrev pub numbers_before_eof : NumberKind → List (List ℕ) → Option (List ℤ)
 numbers_before_eof kind [] = None
 numbers_before_eof kind (line ∷ lines) = cond (bytes_eq line (codes "EOF")) (Some [])
-    (joined (numbers_of kind (words_of line)) (numbers_before_eof kind lines))
+    (both_lists (numbers_of kind (words_of line)) (numbers_before_eof kind lines))

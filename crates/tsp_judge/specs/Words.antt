@@ -17,12 +17,12 @@ is_filled (x ∷ xs) = true
 abbrev pub runs_between : {A : Type 0} → (A → Bool) → List A → List (List A)
 runs_between ends xs = filter is_filled (slice_split ends xs)
 
-abbrev pub is_blank : ℕ → Bool
-is_blank b = (b == 32) || (b == 10)
+abbrev pub parts_words : ℕ → Bool
+parts_words b = (b == 32) || (b == 10)
 
 -- the words of a text: its runs between bytes 32 and 10
 abbrev pub words_of : List ℕ → List (List ℕ)
-words_of text = runs_between is_blank text
+words_of text = runs_between parts_words text
 
 -- 1 to 13 digits are the number that they spell in base 10
 abbrev pub numeral : List ℕ → Option ℕ

@@ -195,7 +195,7 @@ fn lends(rt: HostRuntime) -> Result<(), Fail> {
         return Err(Fail::from("no file"));
     };
     assert_eq!(rt; file.name(), Some(b"two".as_slice()));
-    assert_eq!(rt; file.kind(), Some(Kind::Tsp));
+    assert_eq!(rt; file.kind(), Kind::Tsp);
     assert_eq!(rt; file.comments().len(), 0);
     assert_eq!(rt; file.others().len(), 0);
     assert_eq!(rt; file.dimension(), Some(2));

@@ -3,7 +3,7 @@
 ghost use Rattle.std.specs.Prelude.{◌≡◌, cond, Some, None, IfOk};
 ghost use Rattle.std.specs.Option.{option_map};
 ghost use Rattle.tsp_judge.specs.Words.{lines_of, words_of};
-ghost use Rattle.tsp_judge.specs.Numbers.{joined, numbers_of, numbers_before_eof};
+ghost use Rattle.tsp_judge.specs.Numbers.{both_lists, numbers_of, numbers_before_eof};
 
 use crate::form::lines::first_line;
 use crate::form::words::{NumberKind, next_word, number_in};
@@ -12,7 +12,7 @@ use std::alloc::{AllocError, Global};
 /// Appends the numbers of a line's words. False where a word is no number that is allowed; some
 /// numbers may stand in the vector then.
 fn push_numbers(numbers: &mut Vec<i64>, line: &[u8], kind: NumberKind) -> Result<bool, AllocError>
-    ensures { IfOk result (λ fits. joined (Some numbers.old.items) (numbers_of kind (words_of line.now))
+    ensures { IfOk result (λ fits. both_lists (Some numbers.old.items) (numbers_of kind (words_of line.now))
         ≡ cond fits (Some numbers.new.items) None) }
 {
     let mut rest = line;

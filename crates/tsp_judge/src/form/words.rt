@@ -3,31 +3,31 @@
 ghost use Rattle.std.specs.Prelude.{◌≡◌, ◌<◌, ◌≤◌, not, [], ◌∷◌, length, MatchOption, pos, IfSome, codes};
 ghost use Rattle.std.specs.Option.{option_map};
 ghost use Rattle.std.specs.List.{position};
-ghost use Rattle.tsp_judge.specs.Words.{is_blank, words_of, numeral, whole_of};
+ghost use Rattle.tsp_judge.specs.Words.{parts_words, words_of, numeral, whole_of};
 ghost use Rattle.tsp_judge.specs.Numbers.{number_in};
 
 /// How many digits a number has at most.
 const MOST_DIGITS: usize = 13;
 
 /// Whether a byte parts words.
-fn is_blank(byte: u8) -> bool
-    ensures { result ≡ is_blank byte }
+fn parts_words(byte: u8) -> bool
+    ensures { result ≡ parts_words byte }
 {
     byte == b' ' || byte == b'\n'
 }
 
 /// Where the first byte stands that is no blank.
 fn word_start(text: &[u8]) -> Option<usize>
-    ensures { result ≡ position (λ b. not (is_blank b)) text.now }
+    ensures { result ≡ position (λ b. not (parts_words b)) text.now }
 {
-    text.iter().position(|byte| !is_blank(*byte))
+    text.iter().position(|byte| !parts_words(*byte))
 }
 
 /// Where the first blank stands.
 fn word_end(text: &[u8]) -> Option<usize>
-    ensures { result ≡ position is_blank text.now }
+    ensures { result ≡ position parts_words text.now }
 {
-    text.iter().position(|byte| is_blank(*byte))
+    text.iter().position(|byte| parts_words(*byte))
 }
 
 /// The first word of a text and what follows it, or `None` where only blanks are left.
