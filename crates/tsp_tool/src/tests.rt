@@ -57,3 +57,10 @@ fn a_missing_file_is_a_fault_of_a_device(rt: HostRuntime) {
     assert_eq!(rt; check(&rt, inst, Source::<File>::Missing), 5);
     assert_eq!(rt; check(&rt, sol, Source::<File>::Missing), 2);
 }
+
+#[test]
+fn an_opened_file_is_read_as_itself(rt: HostRuntime) {
+    let (inst, sol) = (INSTANCE.as_bytes(), SOLUTION.as_bytes());
+    let status = check(&rt, Source::of(Ok(inst)), Source::of(Ok(sol)));
+    assert_eq!(rt; status, 0);
+}
