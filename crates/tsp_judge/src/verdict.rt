@@ -18,7 +18,9 @@ pub enum Reason {
 /// The verdict on a solution: a yes with the tour's length, or a no with the first reason.
 #[derive(Clone, Copy, Debug, PartialEq, Eq)]
 pub enum Verdict {
+    /// A yes: the solution is a tour of this length.
     Tour { length: i64 },
+    /// A no, with the first reason that stands against the solution.
     No(Reason),
 }
 

@@ -84,26 +84,23 @@ euc_2d-defined a b =
           rw same at far;
     }
 
+-- the least k with s at most f k
+covered : (s : ℕ) (f : ℕ → ℕ) (k : ℕ) → s ≤ f s → k ≡ least (λ j. nat_le s (f j)) s → (s ≤ f k) × ((j : ℕ) → j < k → f j < s)
+covered s f k reached is =
+    let test : ℕ → Bool = λ j. nat_le s (f j) in
+    let holds : test k ≡ true = rw is (least-holds test s (at_most _ _ reached)) in
+    (from_at_most _ _ holds, λ j below. not_at_most _ _ (least-below test s j (omega (arith, is, below))))
+
 ceil_2d-defined : (a b : Point) → IsCeil2d a b (ceil_2d_of a b)
 ceil_2d-defined a b =
-    let s : ℕ = square_apart a b in
-    let test : ℕ → Bool = λ k. nat_le s (squared (k * unit)) in
-    let holds = least-holds test s (at_most _ _ (squared-unit s)) in
-    record {
-      enough = from_at_most _ _ holds;
-      none_smaller = λ j below. not_at_most _ _ (least-below test s j below);
-    }
+    let parts = covered (square_apart a b) (λ k. squared (k * unit)) (ceil_2d_of a b) (squared-unit (square_apart a b)) refl in
+    record { enough = parts.0; none_smaller = parts.1 }
 
 att-defined : (a b : Point) → IsAtt a b (att_of a b)
 att-defined a b =
-    let s : ℕ = square_apart a b in
-    let test : ℕ → Bool = λ k. nat_le s (10 * squared (k * unit)) in
-    let enough : s ≤ 10 * squared (s * unit) = omega (arith, squared-unit s) in
-    let holds = least-holds test s (at_most _ _ enough) in
-    record {
-      enough = from_at_most _ _ holds;
-      none_smaller = λ j below. not_at_most _ _ (least-below test s j below);
-    }
+    let reached : square_apart a b ≤ 10 * squared (square_apart a b * unit) = omega (arith, squared-unit (square_apart a b)) in
+    let parts = covered (square_apart a b) (λ k. 10 * squared (k * unit)) (att_of a b) reached refl in
+    record { enough = parts.0; none_smaller = parts.1 }
 
 -- the least k with t below its next half is t rounded
 rounded : (t k : ℕ) → k ≡ least (λ j. nat_lt (2 * t) ((2 * j + 1) * unit)) t
@@ -138,32 +135,34 @@ euc_2d_apart a b j k first second less =
     let high = first.below_next_half in
     omega arith
 
+covered_apart : (s : ℕ) (f : ℕ → ℕ) (j k : ℕ) → s ≤ f j → ((i : ℕ) → i < k → f i < s) → ¬ (j < k)
+covered_apart s f j k enough none less = omega (arith, enough, none j less)
+
 ceil_2d_apart : (a b : Point) (j k : ℕ) → IsCeil2d a b j → IsCeil2d a b k → ¬ (j < k)
-ceil_2d_apart a b j k first second less =
-    let low = second.none_smaller j less in
-    let high = first.enough in
-    omega arith
+ceil_2d_apart a b j k first second = covered_apart (square_apart a b) (λ i. squared (i * unit)) j k first.enough second.none_smaller
 
 att_apart : (a b : Point) (j k : ℕ) → IsAtt a b j → IsAtt a b k → ¬ (j < k)
-att_apart a b j k first second less =
-    let low = second.none_smaller j less in
-    let high = first.enough in
+att_apart a b j k first second = covered_apart (square_apart a b) (λ i. 10 * squared (i * unit)) j k first.enough second.none_smaller
+
+rounded_apart : (t j k : ℕ) → 2 * t < (2 * j + 1) * unit → (0 < k → (2 * k - 1) * unit ≤ 2 * t) → ¬ (j < k)
+rounded_apart t j k high low less =
+    let reached = low (omega arith) in
     omega arith
 
 man_2d_apart : (a b : Point) (j k : ℕ) → IsMan2d a b j → IsMan2d a b k → ¬ (j < k)
-man_2d_apart a b j k first second less =
-    let low = second.from_last_half (omega arith) in
-    let high = first.below_next_half in
-    omega arith
+man_2d_apart a b j k first second = rounded_apart (across a b + along a b) j k first.below_next_half second.from_last_half
 
 max_2d_apart : (a b : Point) (j k : ℕ) → IsMax2d a b j → IsMax2d a b k → ¬ (j < k)
-max_2d_apart a b j k first second less =
-    let low = second.from_last_half (omega arith) in
-    let high = first.below_next_half in
-    omega arith
+max_2d_apart a b j k first second = rounded_apart (max (across a b) (along a b)) j k first.below_next_half second.from_last_half
 
 same_from : (j k : ℕ) → ¬ (j < k) → ¬ (k < j) → j ≡ k
 same_from j k first second = omega arith
+
+-- what is defined, and of no two numbers, is unique
+only_one : (Is : Point → Point → ℕ → Type 0) (distance : Point → Point → ℕ) → ((a b : Point) → Is a b (distance a b))
+    → ((a b : Point) (j k : ℕ) → Is a b j → Is a b k → ¬ (j < k)) → (a b : Point) (k : ℕ) → Is a b k → k ≡ distance a b
+only_one Is distance defined apart a b k is =
+    same_from k (distance a b) (apart a b k (distance a b) is (defined a b)) (apart a b (distance a b) k (defined a b) is)
 
 -- ---- both ways, and between equal points
 
@@ -226,67 +225,53 @@ euc_2d-most a b k small is =
       | inr short ↦ short
     ]
 
-ceil_2d-most : (a b : Point) (k : ℕ) → square_apart a b ≤ 8 * 10 ^ 36 → IsCeil2d a b k → k ≤ 4000000000
-ceil_2d-most a b k small is =
-    elim (cases_lt 4000000000 k) [
-      | inl long ↦
-          let low = is.none_smaller 4000000000 long in
-          absurd (omega arith)
+covered-most : (s : ℕ) (f : ℕ → ℕ) (most k : ℕ) → s ≤ f most → ((i : ℕ) → i < k → f i < s) → k ≤ most
+covered-most s f most k enough none =
+    elim (cases_lt most k) [
+      | inl long ↦ absurd (omega (arith, enough, none most long))
       | inr short ↦ short
     ]
+
+ceil_2d-most : (a b : Point) (k : ℕ) → square_apart a b ≤ 8 * 10 ^ 36 → IsCeil2d a b k → k ≤ 4000000000
+ceil_2d-most a b k small is = covered-most (square_apart a b) (λ i. squared (i * unit)) 4000000000 k (omega arith) is.none_smaller
 
 pub att-most : (a b : Point) (k : ℕ) → square_apart a b ≤ 8 * 10 ^ 36 → IsAtt a b k → k ≤ 894427191
-att-most a b k small is =
-    elim (cases_lt 894427191 k) [
+att-most a b k small is = covered-most (square_apart a b) (λ i. 10 * squared (i * unit)) 894427191 k (omega arith) is.none_smaller
+
+rounded-most : (t k : ℕ) → t ≤ 4 * 10 ^ 18 → (0 < k → (2 * k - 1) * unit ≤ 2 * t) → k ≤ 4000000000
+rounded-most t k small low =
+    elim (cases_lt 4000000000 k) [
       | inl long ↦
-          let low = is.none_smaller 894427191 long in
+          let reached = low (omega arith) in
           absurd (omega arith)
       | inr short ↦ short
     ]
+
+ways-most : (a b : Point) → IsOnPlane a → IsOnPlane b → (across a b ≤ 2 * 10 ^ 18) × (along a b ≤ 2 * 10 ^ 18)
+ways-most a b on on' = (unsigned_abs-most a.x b.x on.x on'.x, unsigned_abs-most a.y b.y on.y on'.y)
 
 man_2d-most : (a b : Point) (k : ℕ) → IsOnPlane a → IsOnPlane b → IsMan2d a b k → k ≤ 4000000000
-man_2d-most a b k on on' is =
-    let first = unsigned_abs-most a.x b.x on.x on'.x in
-    let second = unsigned_abs-most a.y b.y on.y on'.y in
-    elim (cases_lt 4000000000 k) [
-      | inl long ↦
-          let low = is.from_last_half (omega arith) in
-          absurd (omega arith)
-      | inr short ↦ short
-    ]
+man_2d-most a b k on on' is = rounded-most (across a b + along a b) k (omega (arith, ways-most a b on on')) is.from_last_half
 
 max_2d-most : (a b : Point) (k : ℕ) → IsOnPlane a → IsOnPlane b → IsMax2d a b k → k ≤ 4000000000
-max_2d-most a b k on on' is =
-    let first = unsigned_abs-most a.x b.x on.x on'.x in
-    let second = unsigned_abs-most a.y b.y on.y on'.y in
-    elim (cases_lt 4000000000 k) [
-      | inl long ↦
-          let low = is.from_last_half (omega arith) in
-          absurd (omega arith)
-      | inr short ↦ short
-    ]
+max_2d-most a b k on on' is = rounded-most (max (across a b) (along a b)) k (omega (arith, ways-most a b on on')) is.from_last_half
 
 -- ---- the laws
 
 pub euc_2d-is : (a b : Point) (k : ℕ) → IsEuc2d a b k → k ≡ euc_2d_of a b
-euc_2d-is a b k is =
-    same_from k (euc_2d_of a b) (euc_2d_apart a b k _ is (euc_2d-defined a b)) (euc_2d_apart a b _ k (euc_2d-defined a b) is)
+euc_2d-is = only_one IsEuc2d euc_2d_of euc_2d-defined euc_2d_apart
 
 pub ceil_2d-is : (a b : Point) (k : ℕ) → IsCeil2d a b k → k ≡ ceil_2d_of a b
-ceil_2d-is a b k is =
-    same_from k (ceil_2d_of a b) (ceil_2d_apart a b k _ is (ceil_2d-defined a b)) (ceil_2d_apart a b _ k (ceil_2d-defined a b) is)
+ceil_2d-is = only_one IsCeil2d ceil_2d_of ceil_2d-defined ceil_2d_apart
 
 pub man_2d-is : (a b : Point) (k : ℕ) → IsMan2d a b k → k ≡ man_2d_of a b
-man_2d-is a b k is =
-    same_from k (man_2d_of a b) (man_2d_apart a b k _ is (man_2d-defined a b)) (man_2d_apart a b _ k (man_2d-defined a b) is)
+man_2d-is = only_one IsMan2d man_2d_of man_2d-defined man_2d_apart
 
 pub max_2d-is : (a b : Point) (k : ℕ) → IsMax2d a b k → k ≡ max_2d_of a b
-max_2d-is a b k is =
-    same_from k (max_2d_of a b) (max_2d_apart a b k _ is (max_2d-defined a b)) (max_2d_apart a b _ k (max_2d-defined a b) is)
+max_2d-is = only_one IsMax2d max_2d_of max_2d-defined max_2d_apart
 
 pub att-is : (a b : Point) (k : ℕ) → IsAtt a b k → k ≡ att_of a b
-att-is a b k is =
-    same_from k (att_of a b) (att_apart a b k _ is (att-defined a b)) (att_apart a b _ k (att-defined a b) is)
+att-is = only_one IsAtt att_of att-defined att_apart
 
 pub euc_2d_laws : IsDistance IsEuc2d euc_2d_of
 euc_2d_laws = record {

@@ -1,3 +1,5 @@
+//! Decimals with nine places, and points in the plane.
+
 ghost use Rattle.std.specs.Prelude.{◌≡◌, ◌≤◌, unsigned_abs, SomeIff};
 ghost use Rattle.tsp_number.specs.Decimal.{most_count};
 

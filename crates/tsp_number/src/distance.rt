@@ -1,3 +1,5 @@
+//! The five distances of TSPLIB 95 between points in the plane.
+
 ghost use Rattle.std.specs.Prelude.{◌≡◌, pos, ◌≤ℤ◌, ◌<◌, ◌≤◌, ◌-ℤ◌, ◌+◌, ◌-◌, ◌*◌, ◌^◌, unsigned_abs};
 ghost use Rattle.tsp_number.specs.Decimal.{unit};
 ghost use Rattle.tsp_number.specs.Distances.{IsEuc2d, IsCeil2d, IsMan2d, IsMax2d, IsAtt, euc_2d_of, ceil_2d_of, man_2d_of, max_2d_of, att_of};

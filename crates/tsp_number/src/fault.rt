@@ -1,3 +1,5 @@
+//! Why a word isn't read as a number.
+
 use thiserror::Error;
 
 /// Why a word isn't read as a number.

@@ -1,3 +1,5 @@
+//! Roots of squares, rounded to whole numbers exactly.
+
 ghost use Rattle.std.specs.Prelude.{◌≡◌, ◌+◌, ◌-◌, ◌*◌, ◌<◌, ◌≤◌, ◌^◌, ◌↔◌, IsTrue};
 ghost use Rattle.tsp_number.specs.Distances.{squared};
 ghost use Rattle.tsp_number.specs.Rounding.{Covers};

@@ -1,3 +1,5 @@
+//! The worked examples, and the edges of the ranges.
+
 use crate::NumberFault::{BadNumber, LongWord, NotWhole, OutOfRange, TooFine};
 use crate::{
     Decimal, NumberFault, Point, att, ceil_2d, euc_2d, man_2d, max_2d, parse_decimal, parse_whole,

@@ -1,3 +1,5 @@
+//! Number words, read as decimals and as whole numbers.
+
 ghost use Rattle.std.specs.Prelude.{◌≡◌, ◌≤ℤ◌, SomeIff};
 ghost use Rattle.tsp_number.specs.Reading.{decimal_of, whole_of};
 ghost use Rattle.tsp_number.specs.NumberWord.{ReadsDecimal, ReadsWhole, signed as signed_of};
