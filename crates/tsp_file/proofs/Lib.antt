@@ -1,10 +1,1 @@
-pub mod Counts
-pub mod Types
-pub mod LayoutWords
-pub mod Lines
-pub mod Pairs
-pub mod Sinks
-pub mod Tests
-pub mod Mapped
-pub mod Carrying
 pub mod Matrices

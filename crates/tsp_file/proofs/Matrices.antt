@@ -3,10 +3,10 @@ use Rattle.std.proofs.Common.{◌≡◌, ℕ, ◌+◌, ◌-◌, ◌<◌, ◌≤�
 use Rattle.std.specs.Prelude.{ℤ}
 use Rattle.std.specs.List.{range_with_len}
 use Rattle.std.proofs.lemmas.List.{take_min, drop_min}
-use Rattle.tsp_file.specs.Cells.{nodes_to}
+use Rattle.tsp_value.specs.Cells.{nodes_to}
 use Rattle.tsp_file.specs.Text.{weight_line, matrix_lines}
-use Rattle.tsp_file.specs.Way.{Way, Carried}
-use Rattle.tsp_file.proofs.Carrying.{carried_then, carried_none, carried_failed}
+use Rattle.tsp_stream.specs.Way.{Way, Carried}
+use Rattle.tsp_stream.proofs.Carrying.{carried_then, carried_none, carried_failed}
 
 -- a front of the whole was carried, and this rest is still to come
 pub record Comes (a b : Way) (rest whole : List ℕ) : Type 0 where

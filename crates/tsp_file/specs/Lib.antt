@@ -1,10 +1,1 @@
-pub mod Cells
-pub mod Fields
-pub mod Layout
-pub mod Sink
-pub mod Validity
-pub mod Watched
-pub mod Words
-pub mod Rules
 pub mod Text
-pub mod Way

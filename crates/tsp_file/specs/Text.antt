@@ -4,13 +4,13 @@ use Rattle.std.specs.List.{flat_map, enumerate_from}
 use Rattle.std.specs.Fmt.{decimal, signed_decimal}
 use Rattle.tsp_number.specs.declared.decimal.Point.{Point}
 use Rattle.tsp_number.specs.Spelling.{spelling}
-use Rattle.tsp_file.specs.declared.kinds.WeightFormat.{WeightFormat}
-use Rattle.tsp_file.specs.declared.kinds.WeightFormat.TheVariants.{Listed}
-use Rattle.tsp_file.specs.declared.field.Field.{Field}
-use Rattle.tsp_file.specs.declared.field.Field.TheVariants.{NameKey, TypeKey, CommentKey, DimensionKey, CapacityKey, ScaleKey, EdgeWeightTypeKey, EdgeWeightFormatKey, NodeCoordTypeKey, DisplayDataTypeKey, NodeCoordPart, DisplayDataPart, DemandPart, DepotPart, FixedEdgesPart, EdgeWeightPart, TourPart, NodePotentialPart, RowPotentialPart, ColumnPotentialPart}
-use Rattle.tsp_file.specs.Words.{field_word, kind_word, weight_kind_word, weight_format_word, coord_kind_word, display_kind_word}
-use Rattle.tsp_file.specs.Cells.{nodes_to, cells_of_line}
-use Rattle.tsp_file.specs.Fields.{Fields}
+use Rattle.tsp_value.specs.declared.kinds.WeightFormat.{WeightFormat}
+use Rattle.tsp_value.specs.declared.kinds.WeightFormat.TheVariants.{Listed}
+use Rattle.tsp_value.specs.declared.field.Field.{Field}
+use Rattle.tsp_value.specs.declared.field.Field.TheVariants.{NameKey, TypeKey, CommentKey, DimensionKey, CapacityKey, ScaleKey, EdgeWeightTypeKey, EdgeWeightFormatKey, NodeCoordTypeKey, DisplayDataTypeKey, NodeCoordPart, DisplayDataPart, DemandPart, DepotPart, FixedEdgesPart, EdgeWeightPart, TourPart, NodePotentialPart, RowPotentialPart, ColumnPotentialPart}
+use Rattle.tsp_value.specs.Words.{field_word, kind_word, weight_kind_word, weight_format_word, coord_kind_word, display_kind_word}
+use Rattle.tsp_value.specs.Cells.{nodes_to, cells_of_line}
+use Rattle.tsp_fields.specs.Fields.{Fields}
 
 -- ---- lines
 

@@ -1,20 +1,19 @@
 //! The canonical text of a file, and its way to a writer.
 
-ghost use Rattle.tsp_file.specs.Fields.{fields_of};
-ghost use Rattle.tsp_file.specs.Sink.{sink_of, Writes};
+ghost use Rattle.tsp_fields.specs.Fields.{fields_of};
+ghost use Rattle.tsp_stream.specs.Sink.{sink_of, Writes};
 ghost use Rattle.tsp_file.specs.Text.{text_of};
 
 mod keywords;
 mod matrix;
-mod piece;
 mod sections;
 
-use crate::draft::Draft;
-use crate::file::File;
-use crate::output::WriteFault;
-use crate::watched::Watched;
+use tsp_fields::Draft;
+use tsp_fields::File;
+use tsp_stream::WriteFault;
+use tsp_stream::Watched;
 use crate::writer::keywords::put_keywords;
-use crate::writer::piece::{Piece, hand_over, put};
+use tsp_stream::{Piece, hand_over, put};
 use crate::writer::sections::put_sections;
 use std::alloc::Global;
 use std::io::Write;
@@ -54,6 +53,3 @@ pub(crate) fn write_draft<W: Write>(draft: &Draft, out: &mut Watched<W>) -> Resu
         Ok(())
     }
 }
-
-#[cfg(test)]
-mod tests;

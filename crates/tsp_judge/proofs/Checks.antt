@@ -8,11 +8,11 @@ use Rattle.tsp_judge.specs.declared.verdict.Verdict.{Verdict}
 use Rattle.tsp_judge.specs.Forms.{Instance, IsInstance, IsSolution, IsTourWord, ends_tour, counted}
 use Rattle.tsp_judge.specs.Verdict.{IsVerdict}
 use Rattle.std.specs.Io.KnownBytes.{Keeps}
-use Rattle.tsp_file.specs.declared.output.WriteFault.{WriteFault}
-use Rattle.tsp_file.specs.declared.output.WriteFault.TheVariants as faults
+use Rattle.tsp_stream.specs.declared.output.WriteFault.{WriteFault}
+use Rattle.tsp_stream.specs.declared.output.WriteFault.TheVariants as faults
 use Rattle.tsp_judge.specs.declared.fault.RunFault.TheVariants.{Write}
 use Rattle.tsp_judge.specs.Report.{report_of}
-use Rattle.tsp_file.specs.Sink.{Sink, Writes}
+use Rattle.tsp_stream.specs.Sink.{Sink, Writes}
 use Rattle.tsp_judge.specs.Run.{Turn, IsFile, IsJudged, IsRun}
 use Rattle.tsp_judge.proofs.Runs.{nodes_of_runs}
 

@@ -3,13 +3,13 @@ use Rattle.std.specs.Prelude.{◌≡◌, ℕ, ◌⊎◌, Bool, true, false, List
 use Rattle.std.specs.Io.KnownBytes.{Keeps, Consumes}
 use Rattle.tsp_judge.specs.declared.fault.ReadFault.{ReadFault}
 use Rattle.tsp_judge.specs.declared.fault.ReadFault.TheVariants as read_faults
-use Rattle.tsp_file.specs.declared.output.WriteFault.TheVariants as write_faults
+use Rattle.tsp_stream.specs.declared.output.WriteFault.TheVariants as write_faults
 use Rattle.tsp_judge.specs.declared.fault.RunFault.{RunFault}
 use Rattle.tsp_judge.specs.declared.fault.RunFault.TheVariants.{File, Write, OutOfMemory, NotYet}
 use Rattle.tsp_judge.specs.declared.verdict.Verdict.{Verdict}
-use Rattle.tsp_file.specs.declared.watched.Watched.{Watched}
-use Rattle.tsp_file.specs.Watched.{watched, has_failed}
-use Rattle.tsp_file.specs.Sink.{Sink, IsUnwritten, HasWritten, HasStopped}
+use Rattle.tsp_stream.specs.declared.watched.Watched.{Watched}
+use Rattle.tsp_stream.specs.Watched.{watched, has_failed}
+use Rattle.tsp_stream.specs.Sink.{Sink, IsUnwritten, HasWritten, HasStopped}
 use Rattle.tsp_judge.specs.Forms.{IsTooLong, Spells, SpellsNone, Instance, IsInstance, IsSolution}
 use Rattle.tsp_judge.specs.Verdict.{IsVerdict, NoneBeforeRepeats, is_yes}
 use Rattle.tsp_judge.specs.Report.{report_of}

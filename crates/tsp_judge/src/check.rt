@@ -1,7 +1,7 @@
 //! The check of an instance and a solution, from the bytes that come in to those that go out.
 
 ghost use Rattle.std.specs.Prelude.{List, ℕ};
-ghost use Rattle.tsp_file.specs.Sink.{sink_of};
+ghost use Rattle.tsp_stream.specs.Sink.{sink_of};
 ghost use Rattle.tsp_judge.specs.Run.{turn_of, IsRun};
 
 use crate::fault::RunFault;

@@ -4,16 +4,16 @@ ghost use Rattle.std.specs.Prelude.{◌≡◌, ℕ, List, [], ◌∷◌, map};
 ghost use Rattle.std.specs.List.{flat_map};
 ghost use Rattle.std.specs.Fmt.{decimal, signed_decimal};
 ghost use Rattle.std.specs.Option.{option_map};
-ghost use Rattle.tsp_file.specs.Words.{kind_word, weight_kind_word, weight_format_word, coord_kind_word, display_kind_word};
+ghost use Rattle.tsp_value.specs.Words.{kind_word, weight_kind_word, weight_format_word, coord_kind_word, display_kind_word};
 ghost use Rattle.tsp_file.specs.Text.{value_line, keyword_line, optional, joined, keyword_texts};
-ghost use Rattle.tsp_file.specs.Fields.{fields_of};
-ghost use Rattle.tsp_file.specs.Way.{way_of, Carried};
+ghost use Rattle.tsp_fields.specs.Fields.{fields_of};
+ghost use Rattle.tsp_stream.specs.Way.{way_of, Carried};
 
-use crate::draft::Draft;
-use crate::field::Field;
-use crate::kinds::{CoordKind, DisplayKind, Kind, WeightFormat, WeightKind};
-use crate::watched::Watched;
-use crate::writer::piece::{Piece, put};
+use tsp_fields::Draft;
+use tsp_value::Field;
+use tsp_value::{CoordKind, DisplayKind, Kind, WeightFormat, WeightKind};
+use tsp_stream::Watched;
+use tsp_stream::{Piece, put};
 use itoa::{Buffer, Integer};
 use std::io::Write;
 

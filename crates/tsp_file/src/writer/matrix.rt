@@ -4,15 +4,15 @@ ghost use Rattle.std.specs.Prelude.{◌≡◌, ℕ, ◌∷◌, length, map};
 ghost use Rattle.std.specs.List.{flat_map};
 ghost use Rattle.std.specs.Fmt.{signed_decimal};
 ghost use Rattle.std.specs.Option.{option_map};
-ghost use Rattle.tsp_file.specs.Cells.{nodes_to, cells_of_line};
+ghost use Rattle.tsp_value.specs.Cells.{nodes_to, cells_of_line};
 ghost use Rattle.tsp_file.specs.Text.{weight_line, matrix_lines, line_lens, section, optional};
-ghost use Rattle.tsp_file.specs.Way.{way_of, Carried};
+ghost use Rattle.tsp_stream.specs.Way.{way_of, Carried};
 
-use crate::field::Field;
-use crate::kinds::WeightFormat;
-use crate::layout::Layout;
-use crate::watched::Watched;
-use crate::writer::piece::{Piece, put, put_next_number, put_number};
+use tsp_value::Field;
+use tsp_value::WeightFormat;
+use tsp_value::Layout;
+use tsp_stream::Watched;
+use tsp_stream::{Piece, put, put_next_number, put_number};
 use crate::writer::sections::put_opening;
 use std::io::Write;
 

@@ -5,16 +5,16 @@ ghost use Rattle.std.specs.List.{flat_map};
 ghost use Rattle.std.specs.Fmt.{decimal, signed_decimal};
 ghost use Rattle.std.specs.Option.{option_map};
 ghost use Rattle.tsp_number.specs.Spelling.{spelling};
-ghost use Rattle.tsp_file.specs.Words.{field_word};
+ghost use Rattle.tsp_value.specs.Words.{field_word};
 ghost use Rattle.tsp_file.specs.Text.{line_end, number_line, section, by_node, node_list, pair_list, point_numbers, whole_number, optional, joined, section_texts};
-ghost use Rattle.tsp_file.specs.Fields.{fields_of};
-ghost use Rattle.tsp_file.specs.Way.{way_of, Carried};
+ghost use Rattle.tsp_fields.specs.Fields.{fields_of};
+ghost use Rattle.tsp_stream.specs.Way.{way_of, Carried};
 
-use crate::draft::Draft;
-use crate::field::Field;
-use crate::watched::Watched;
+use tsp_fields::Draft;
+use tsp_value::Field;
+use tsp_stream::Watched;
 use crate::writer::matrix::put_weight_section;
-use crate::writer::piece::{Piece, put, put_next_number, put_number};
+use tsp_stream::{Piece, put, put_next_number, put_number};
 use std::io::Write;
 use tsp_number::{Decimal, Point, write_decimal};
 

@@ -1,9 +1,9 @@
 use Rattle.std.proofs.Common.{[], ◌++◌, ◌∙◌, sym}
 use Rattle.std.specs.Prelude.{codes}
-use Rattle.tsp_file.specs.Fields.{fields_of}
+use Rattle.tsp_fields.specs.Fields.{fields_of}
 use Rattle.tsp_file.specs.Text.{joined, keyword_texts, section_texts, text_of}
-use Rattle.tsp_file.specs.Way.{way_of}
-use Rattle.tsp_file.proofs.Carrying.{carried_then, text_stopped, text_written}
+use Rattle.tsp_stream.specs.Way.{way_of}
+use Rattle.tsp_stream.proofs.Carrying.{carried_then, text_stopped, text_written}
 use Rattle.tsp_file.proofs.writer.write_draft.Goals as goal
 
 pub returns-then-failed-2 : goal.returns-then-failed-2

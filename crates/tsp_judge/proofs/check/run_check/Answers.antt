@@ -1,6 +1,6 @@
 use Rattle.std.proofs.Common.{List, ℕ, Err, ◌∙◌, inr, refl, subst}
 use Rattle.tsp_judge.specs.Run.{turn_of}
-use Rattle.tsp_file.specs.Sink.{sink_of, Writes}
+use Rattle.tsp_stream.specs.Sink.{sink_of, Writes}
 use Rattle.tsp_judge.specs.Values.{instance_of}
 use Rattle.tsp_judge.specs.Verdict.{NoneBeforeRepeats}
 use Rattle.tsp_judge.proofs.Checks.{judged, numbered, keeps_same, write_faults}

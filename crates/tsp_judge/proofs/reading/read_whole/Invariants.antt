@@ -1,6 +1,6 @@
 use Rattle.std.proofs.Common.{◌≡◌, ◌+◌, ◌-◌, false, length}
 use Rattle.std.specs.Io.KnownBytes.{Consumes}
-use Rattle.tsp_file.specs.Watched.{watched, has_failed}
+use Rattle.tsp_stream.specs.Watched.{watched, has_failed}
 use Rattle.tsp_judge.specs.declared.limit.TheConstants.{FILE_LIMIT}
 use Rattle.tsp_judge.proofs.reading.read_whole.Given as goal
 

@@ -1,8 +1,8 @@
 use Rattle.std.proofs.Common.{arith}
-use Rattle.tsp_file.specs.declared.field.Field.TheVariants.{CommentKey}
+use Rattle.tsp_value.specs.declared.field.Field.TheVariants.{CommentKey}
 use Rattle.tsp_file.specs.Text.{keyword_line}
-use Rattle.tsp_file.specs.Way.{way_of}
-use Rattle.tsp_file.proofs.Carrying.{carried_mapped}
+use Rattle.tsp_stream.specs.Way.{way_of}
+use Rattle.tsp_stream.proofs.Carrying.{carried_mapped}
 use Rattle.tsp_file.proofs.writer.keywords.put_comments.Goals as goal
 
 pub returns : goal.returns

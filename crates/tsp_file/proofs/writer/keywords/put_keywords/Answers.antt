@@ -1,5 +1,5 @@
-use Rattle.tsp_file.specs.Way.{way_of}
-use Rattle.tsp_file.proofs.Carrying.{carried_then, carried_none}
+use Rattle.tsp_stream.specs.Way.{way_of}
+use Rattle.tsp_stream.proofs.Carrying.{carried_then, carried_none}
 use Rattle.tsp_file.proofs.writer.keywords.put_keywords.Goals as goal
 
 pub returns : goal.returns

@@ -1,7 +1,7 @@
 use Rattle.std.proofs.Common.{List, ℕ, arith}
 use Rattle.tsp_file.specs.Text.{value_line}
-use Rattle.tsp_file.specs.Way.{way_of}
-use Rattle.tsp_file.proofs.Carrying.{carried_mapped}
+use Rattle.tsp_stream.specs.Way.{way_of}
+use Rattle.tsp_stream.proofs.Carrying.{carried_mapped}
 use Rattle.tsp_file.proofs.writer.keywords.put_others.Goals as goal
 
 pub returns : goal.returns

@@ -1,7 +1,7 @@
 use Rattle.std.specs.Prelude.{codes}
 use Rattle.tsp_file.specs.Text.{pair_list}
-use Rattle.tsp_file.specs.Way.{way_of}
-use Rattle.tsp_file.proofs.Carrying.{carried_then}
+use Rattle.tsp_stream.specs.Way.{way_of}
+use Rattle.tsp_stream.proofs.Carrying.{carried_then}
 use Rattle.tsp_file.proofs.writer.sections.put_fixed.Goals as goal
 
 pub returns-in-Some : goal.returns-in-Some

@@ -2,8 +2,8 @@ use Rattle.std.proofs.Common.{ℕ, arith}
 use Rattle.tsp_number.specs.declared.decimal.Point.{Point}
 use Rattle.std.specs.Fmt.{decimal}
 use Rattle.tsp_file.specs.Text.{number_line, point_numbers}
-use Rattle.tsp_file.specs.Way.{way_of}
-use Rattle.tsp_file.proofs.Carrying.{carried_node, carried_nodes}
+use Rattle.tsp_stream.specs.Way.{way_of}
+use Rattle.tsp_stream.proofs.Carrying.{carried_node, carried_nodes}
 use Rattle.tsp_file.proofs.writer.sections.put_points.Goals as goal
 
 pub nodes-preserved : goal.nodes-preserved

@@ -1,7 +1,7 @@
 use Rattle.std.proofs.Common.{arith}
 use Rattle.tsp_file.specs.Text.{node_list}
-use Rattle.tsp_file.specs.Way.{way_of}
-use Rattle.tsp_file.proofs.Carrying.{carried_mapped}
+use Rattle.tsp_stream.specs.Way.{way_of}
+use Rattle.tsp_stream.proofs.Carrying.{carried_mapped}
 use Rattle.tsp_file.proofs.writer.sections.put_tours.Goals as goal
 
 pub returns : goal.returns

@@ -1,0 +1,230 @@
+//! A file: a draft that is valid.
+
+use crate::draft::Draft;
+use crate::fault::DraftFault;
+use crate::fits::bad_field;
+use tsp_value::{CoordKind, DisplayKind, Kind, WeightFormat, WeightKind};
+use crate::rules::end_fault;
+use std::marker::Model;
+use tsp_number::Point;
+
+/// What a valid file holds.
+///
+/// It is made from a draft by [`File::of`], which says what is valid. Each field has a call of its
+/// own that lends it.
+#[derive(Debug, Drop)]
+pub struct File {
+    draft: Draft,
+}
+
+impl Model for File {
+    ghost use Rattle.std.specs.Prelude.{◌≡◌, None};
+    ghost use Rattle.tsp_fields.specs.Fields.{Fields, fields_of};
+    ghost use Rattle.tsp_fields.specs.Rules.{fault_of};
+
+    ghost Value = { Fields };
+
+    ghost view = { λ f. fields_of f.draft };
+
+    ghost invariant = { λ f. fault_of (fields_of f.draft) ≡ None };
+}
+
+impl File {
+    ghost use Rattle.std.specs.Prelude.{◌≡◌, Some, None, map, MatchResult};
+    ghost use Rattle.std.specs.Option.{option_map};
+    ghost use Rattle.tsp_fields.specs.Fields.{fields_of};
+    ghost use Rattle.tsp_fields.specs.Rules.{fault_of};
+
+    /// The draft that this file was made of.
+    pub fn draft(&self) -> &Draft
+        ensures { fields_of result.now ≡ self.now }
+    {
+        &self.draft
+    }
+
+    /// The file that a draft holds, or the draft's first fault and the draft itself, unchanged.
+    ///
+    /// Errors: `BadField` with the first field, in canonical order, that isn't as it has to be by
+    /// itself; else `Rule` with the first rule over several fields that fails. No memory is taken.
+    pub fn of(d: Draft) -> Result<File, (DraftFault, Draft)>
+        ensures { MatchResult result
+            (λ file. (file ≡ fields_of d) × (fault_of (fields_of d) ≡ None))
+            (λ refused. (fault_of (fields_of d) ≡ Some refused.0) × (refused.1 ≡ d)) }
+    {
+        if let Some(field) = bad_field(&d) {
+            return Err((DraftFault::BadField(field), d));
+        }
+        if let Some(rule) = end_fault(&d) {
+            return Err((DraftFault::Rule(rule), d));
+        }
+        Ok(File { draft: d })
+    }
+
+    /// NAME, as bytes.
+    pub fn name(&self) -> Option<&[u8]>
+        ensures { option_map (λ entries. entries.now) result ≡ self.now.name }
+    {
+        self.draft.name.as_ref().map(|entries| entries.as_slice())
+    }
+
+    /// TYPE, which every file has.
+    pub fn kind(&self) -> Kind
+        ensures { Some result ≡ self.now.kind }
+    {
+        match self.draft.kind {
+            Some(kind) => kind,
+            None => unreachable!(),
+        }
+    }
+
+    /// The COMMENT lines, in order.
+    pub fn comments(&self) -> &[Vec<u8>]
+        ensures { map (λ comment. comment.items) result.now ≡ self.now.comments }
+    {
+        self.draft.comments.as_slice()
+    }
+
+    /// The lines of unknown keywords, in order: keyword and value.
+    pub fn others(&self) -> &[(Vec<u8>, Vec<u8>)]
+        ensures { map (λ line. (line.0.items, line.1.items)) result.now ≡ self.now.others }
+    {
+        self.draft.others.as_slice()
+    }
+
+    /// DIMENSION: the number of nodes, 1 to 100,000.
+    pub fn dimension(&self) -> Option<u32>
+        ensures { result ≡ self.now.dimension }
+    {
+        self.draft.dimension
+    }
+
+    /// CAPACITY of a vehicle, 1 to 10^12.
+    pub fn capacity(&self) -> Option<i64>
+        ensures { result ≡ self.now.capacity }
+    {
+        self.draft.capacity
+    }
+
+    /// SCALE of the potentials, 1 to 1,000,000; where it is missing 1 is meant.
+    pub fn scale(&self) -> Option<i64>
+        ensures { result ≡ self.now.scale }
+    {
+        self.draft.scale
+    }
+
+    /// EDGE_WEIGHT_TYPE.
+    pub fn weight_kind(&self) -> Option<WeightKind>
+        ensures { result ≡ self.now.weight_kind }
+    {
+        self.draft.weight_kind
+    }
+
+    /// EDGE_WEIGHT_FORMAT.
+    pub fn weight_format(&self) -> Option<WeightFormat>
+        ensures { result ≡ self.now.weight_format }
+    {
+        self.draft.weight_format
+    }
+
+    /// NODE_COORD_TYPE.
+    pub fn coord_kind(&self) -> Option<CoordKind>
+        ensures { result ≡ self.now.coord_kind }
+    {
+        self.draft.coord_kind
+    }
+
+    /// DISPLAY_DATA_TYPE.
+    pub fn display_kind(&self) -> Option<DisplayKind>
+        ensures { result ≡ self.now.display_kind }
+    {
+        self.draft.display_kind
+    }
+
+    /// NODE_COORD_SECTION: a point for each node.
+    pub fn coords(&self) -> Option<&[Point]>
+        ensures { option_map (λ entries. entries.now) result ≡ self.now.coords }
+    {
+        self.draft.coords.as_ref().map(|entries| entries.as_slice())
+    }
+
+    /// DISPLAY_DATA_SECTION: a point for each node.
+    pub fn display(&self) -> Option<&[Point]>
+        ensures { option_map (λ entries. entries.now) result ≡ self.now.display }
+    {
+        self.draft
+            .display
+            .as_ref()
+            .map(|entries| entries.as_slice())
+    }
+
+    /// DEMAND_SECTION: a demand for each node.
+    pub fn demands(&self) -> Option<&[i64]>
+        ensures { option_map (λ entries. entries.now) result ≡ self.now.demands }
+    {
+        self.draft
+            .demands
+            .as_ref()
+            .map(|entries| entries.as_slice())
+    }
+
+    /// DEPOT_SECTION: nodes.
+    pub fn depots(&self) -> Option<&[u32]>
+        ensures { option_map (λ entries. entries.now) result ≡ self.now.depots }
+    {
+        self.draft.depots.as_ref().map(|entries| entries.as_slice())
+    }
+
+    /// FIXED_EDGES_SECTION: pairs of different nodes.
+    pub fn fixed(&self) -> Option<&[(u32, u32)]>
+        ensures { option_map (λ entries. entries.now) result ≡ self.now.fixed }
+    {
+        self.draft.fixed.as_ref().map(|entries| entries.as_slice())
+    }
+
+    /// EDGE_WEIGHT_SECTION: the weights, in the order of the layout.
+    pub fn weights(&self) -> Option<&[i64]>
+        ensures { option_map (λ entries. entries.now) result ≡ self.now.weights }
+    {
+        self.draft
+            .weights
+            .as_ref()
+            .map(|entries| entries.as_slice())
+    }
+
+    /// TOUR_SECTION: tours, none of them empty.
+    pub fn tours(&self) -> Option<&[Vec<u32>]>
+        ensures { option_map (λ tours. map (λ tour. tour.items) tours.now) result ≡ self.now.tours }
+    {
+        self.draft.tours.as_ref().map(|tours| tours.as_slice())
+    }
+
+    /// NODE_POTENTIAL_SECTION: a potential for each node.
+    pub fn node_potentials(&self) -> Option<&[i64]>
+        ensures { option_map (λ entries. entries.now) result ≡ self.now.node_potentials }
+    {
+        self.draft
+            .node_potentials
+            .as_ref()
+            .map(|entries| entries.as_slice())
+    }
+
+    /// ROW_POTENTIAL_SECTION: a potential for each row.
+    pub fn row_potentials(&self) -> Option<&[i64]>
+        ensures { option_map (λ entries. entries.now) result ≡ self.now.row_potentials }
+    {
+        self.draft
+            .row_potentials
+            .as_ref()
+            .map(|entries| entries.as_slice())
+    }
+
+    /// COLUMN_POTENTIAL_SECTION: a potential for each column.
+    pub fn column_potentials(&self) -> Option<&[i64]>
+        ensures { option_map (λ entries. entries.now) result ≡ self.now.column_potentials }
+    {
+        self.draft
+            .column_potentials
+            .as_ref()
+            .map(|entries| entries.as_slice())
+    }
+}

@@ -1,0 +1,58 @@
+//! The way of a text to a writer.
+
+ghost use Rattle.std.specs.Prelude.{◌≡◌, List, ℕ, true, false};
+ghost use Rattle.tsp_stream.specs.Watched.{has_failed};
+ghost use Rattle.tsp_stream.specs.Sink.{sink_of, HasWritten, HasStopped, Writes};
+
+use crate::watched::Watched;
+use std::io::Write;
+use thiserror::Error;
+
+/// Why a text could not be written.
+#[derive(Clone, Copy, Debug, PartialEq, Eq, Error)]
+pub enum WriteFault {
+    /// A write failed, or took nothing.
+    #[error("device")]
+    Device,
+    /// Want of memory for the text.
+    #[error("out of memory")]
+    OutOfMemory,
+}
+
+/// Sends a text to a writer that may take any part of it at once, and stops where the writer fails.
+///
+/// A writer that was handed in as failed gets nothing.
+pub fn send<W: Write>(out: &mut Watched<W>, text: &[u8])
+    ensures stopped { has_failed out.new ≡ true → HasStopped (sink_of W.contents out.old out.new) text.now }
+    ensures written { has_failed out.new ≡ false → HasWritten (sink_of W.contents out.old out.new) text.now }
+{
+    if out.failed() {
+        return;
+    }
+    let mut rest = text;
+    'parts: while !rest.is_empty() {
+        let count = match out.write(rest) {
+            Err(_) => return,
+            Ok(count) => count,
+        };
+        if count == 0 {
+            return;
+        }
+        let (_, left) = rest.split_at(count);
+        rest = left;
+    }
+}
+
+/// Writes a text to a writer that may take any part of it at once.
+///
+/// At `Device` a front of the text was written, and nothing else; a writer that was handed in as
+/// failed gets nothing. `OutOfMemory` is never answered.
+pub fn write_text<W: Write>(out: &mut Watched<W>, text: &[u8]) -> Result<(), WriteFault>
+    ensures { Writes (sink_of W.contents out.old out.new) text.now result }
+{
+    send(out, text);
+    if !out.failed() {
+        return Ok(());
+    }
+    Err(WriteFault::Device)
+}

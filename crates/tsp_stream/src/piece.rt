@@ -1,0 +1,62 @@
+//! The piece of a text that waits to be written.
+//!
+//! A failure sticks: a writer that has failed gets nothing more, so that whoever adds to a text
+//! need not look at each outcome.
+
+ghost use Rattle.std.specs.Prelude.{◌≡◌, [], ◌∷◌};
+ghost use Rattle.tsp_stream.specs.Way.{way_of, Carried};
+
+use crate::output::send;
+use crate::watched::Watched;
+use arrayvec::ArrayVec;
+use itoa::{Buffer, Integer};
+use std::io::Write;
+
+/// The most bytes of a piece.
+pub const PIECE: usize = 4_096;
+
+/// The end of a text that hasn't been written yet.
+pub type Piece = ArrayVec<u8, PIECE>;
+
+/// Sends the piece to the writer and begins a new one.
+pub fn hand_over<W: Write>(piece: &mut Piece, out: &mut Watched<W>)
+    ensures carried { Carried (way_of W.contents out.old piece.old.items) (way_of W.contents out.new piece.new.items) [] }
+    ensures empty { piece.new.items ≡ [] }
+{
+    send(out, piece.as_slice());
+    piece.clear();
+}
+
+/// Adds bytes to the text.
+pub fn put<W: Write>(piece: &mut Piece, out: &mut Watched<W>, bytes: &[u8])
+    ensures { Carried (way_of W.contents out.old piece.old.items) (way_of W.contents out.new piece.new.items) bytes.now }
+{
+    if piece.try_extend_from_slice(bytes).is_ok() {
+        return;
+    }
+    hand_over(piece, out);
+    if piece.try_extend_from_slice(bytes).is_err() {
+        // More than a whole piece: it goes to the writer as it is.
+        send(out, bytes);
+    }
+}
+
+/// Adds the digits of a whole number.
+pub fn put_number<W: Write, N: Integer>(piece: &mut Piece, out: &mut Watched<W>, number: N)
+    ensures { Carried (way_of W.contents out.old piece.old.items) (way_of W.contents out.new piece.new.items) (N.text number) }
+{
+    let mut buffer = Buffer::new();
+    put(piece, out, buffer.format(number).as_bytes());
+}
+
+/// Adds a blank and the digits of a whole number.
+pub fn put_next_number<W: Write, N: Integer>(
+    piece: &mut Piece,
+    out: &mut Watched<W>,
+    number: N,
+)
+    ensures { Carried (way_of W.contents out.old piece.old.items) (way_of W.contents out.new piece.new.items) (32 ∷ N.text number) }
+{
+    put(piece, out, b" ");
+    put_number(piece, out, number);
+}

@@ -1,0 +1,93 @@
+//! A reader or a writer that remembers whether it has failed.
+
+ghost use Rattle.std.specs.Prelude.{◌≡◌, false, is_err, ◌||◌};
+ghost use Rattle.std.specs.Io.{ReadsAtMost, WritesAtMost};
+ghost use Rattle.std.specs.Io.KnownBytes.{ReadConsumes, WriteAppends, Keeps};
+ghost use Rattle.tsp_stream.specs.Watched.{watched, has_failed, write_fails};
+
+use std::io;
+use std::io::{Read, Write};
+
+/// A reader or a writer that remembers whether one of its reads or writes has failed.
+///
+/// It is a `Read` where `T` is one and a `Write` where `T` is one, with `T`'s bytes. It has failed
+/// from the first read or write on that answers an error, an interruption among them, or that
+/// takes no byte of a text that isn't empty. An error of `flush` counts as one of a write.
+#[derive(Debug, Drop)]
+pub struct Watched<T> {
+    inner: T,
+    failed: bool,
+}
+
+impl<T> Watched<T> {
+    /// A watched reader or writer that has not failed yet.
+    pub fn new(inner: T) -> Watched<T>
+        ensures inner { watched result ≡ inner }
+        ensures sound { has_failed result ≡ false }
+    {
+        Watched {
+            inner,
+            failed: false,
+        }
+    }
+
+    /// Whether a read or a write has failed so far.
+    pub fn failed(&self) -> bool
+        ensures { result ≡ has_failed self.now }
+    {
+        self.failed
+    }
+
+    /// The reader or writer itself.
+    pub fn into_inner(self) -> T
+        ensures { result ≡ watched self }
+    {
+        let Watched { inner, failed: _ } = self;
+        inner
+    }
+}
+
+impl<R: Read> Read for Watched<R> {
+    ghost remaining = { λ w. R.remaining (watched w) };
+
+    fn read(&mut self, buf: &mut [u8]) -> io::Result<usize>
+        ensures bound { ReadsAtMost result buf.new }
+        ensures bytes { ReadConsumes (R.remaining (watched self.old)) (R.remaining (watched self.new)) result buf.new }
+        ensures failed { has_failed self.new ≡ (has_failed self.old || is_err result) }
+    {
+        let outcome = self.inner.read(buf);
+        if outcome.is_err() {
+            self.failed = true;
+        }
+        outcome
+    }
+}
+
+impl<W: Write> Write for Watched<W> {
+    ghost contents = { λ w. W.contents (watched w) };
+
+    fn write(&mut self, buf: &[u8]) -> io::Result<usize>
+        ensures bound { WritesAtMost result buf.now }
+        ensures bytes { WriteAppends (W.contents (watched self.old)) (W.contents (watched self.new)) result buf.now }
+        ensures failed { has_failed self.new ≡ (has_failed self.old || write_fails result buf.now) }
+    {
+        let outcome = self.inner.write(buf);
+        match outcome {
+            Ok(0) => self.failed = self.failed || !buf.is_empty(),
+            Ok(_) => {}
+            Err(_) => self.failed = true,
+        }
+        outcome
+    }
+
+    fn flush(&mut self) -> io::Result<()>
+        ensures bytes { Keeps (W.contents (watched self.old)) (W.contents (watched self.new)) }
+        ensures failed { has_failed self.new ≡ (has_failed self.old || is_err result) }
+    {
+        let outcome = self.inner.flush();
+        if outcome.is_err() {
+            self.failed = true;
+        }
+        outcome
+    }
+}

@@ -1,0 +1,4 @@
+pub mod Counts
+pub mod LayoutWords
+pub mod Lines
+pub mod Pairs
