@@ -2,7 +2,7 @@
 
 use crate::draft::Draft;
 use crate::fault::DraftFault;
-use crate::fits::bad_field;
+use crate::table::bad_field;
 use tsp_value::{CoordKind, DisplayKind, Kind, WeightFormat, WeightKind};
 use crate::rules::end_fault;
 use std::marker::Model;
@@ -54,7 +54,7 @@ impl File {
         if let Some(field) = bad_field(&d) {
             return Err((DraftFault::BadField(field), d));
         }
-        if let Some(rule) = end_fault(&d) {
+        if let Some(rule) = end_fault(&d, None) {
             return Err((DraftFault::Rule(rule), d));
         }
         Ok(File { draft: d })
