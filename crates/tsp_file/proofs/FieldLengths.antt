@@ -1,6 +1,6 @@
 -- How long the text of each field of a valid file is at most, and all of it.
-use Rattle.std.proofs.Common.{◌≡◌, ℕ, ◌+◌, ◌*◌, ◌<◌, ◌≤◌, Bool, true, false, List, [], ◌∷◌, ◌++◌, length, Option, None, Some, refl, ap, sym, ◌∙◌, subst, arith, ℤ, pos, length-append}
-use Rattle.std.specs.Prelude.{not, ◌&&◌, ◌==◌, nat_le, codes}
+use Rattle.std.proofs.Common.{◌≡◌, ℕ, ◌+◌, ◌*◌, ◌<◌, ◌≤◌, Bool, true, List, [], ◌∷◌, ◌++◌, length, Option, None, Some, arith, ℤ, pos, length-append}
+use Rattle.std.specs.Prelude.{not, ◌==◌, nat_le, codes}
 use Rattle.std.specs.List.{flat_map, list_all, sum_by}
 use Rattle.std.specs.Fmt.{decimal, signed_decimal}
 use Rattle.std.proofs.lemmas.Bool.{and_parts, leb-true, eqb-true, false≢true}
@@ -10,28 +10,15 @@ use Rattle.std.proofs.Math.Nat.{mul-le-mul}
 use Rattle.tsp_number.specs.declared.decimal.Point.{Point}
 use Rattle.tsp_number.specs.Spelling.{spelling}
 use Rattle.tsp_number.proofs.Spelled.{spelling_short}
-use Rattle.tsp_value.specs.declared.kinds.Kind.{Kind}
-use Rattle.tsp_value.specs.declared.kinds.Kind.TheVariants as kinds
-use Rattle.tsp_value.specs.declared.kinds.WeightKind.{WeightKind}
-use Rattle.tsp_value.specs.declared.kinds.WeightKind.TheVariants as weight_kinds
-use Rattle.tsp_value.specs.declared.kinds.WeightFormat.{WeightFormat}
-use Rattle.tsp_value.specs.declared.kinds.WeightFormat.TheVariants as formats
-use Rattle.tsp_value.specs.declared.kinds.CoordKind.{CoordKind}
-use Rattle.tsp_value.specs.declared.kinds.CoordKind.TheVariants as coord_kinds
-use Rattle.tsp_value.specs.declared.kinds.DisplayKind.{DisplayKind}
-use Rattle.tsp_value.specs.declared.kinds.DisplayKind.TheVariants as display_kinds
-use Rattle.tsp_value.specs.declared.layout.Layout.{Layout}
-use Rattle.tsp_value.specs.declared.layout.Layout.TheVariants as layouts
 use Rattle.tsp_value.specs.declared.field.Field.{Field}
 use Rattle.tsp_value.specs.declared.field.Field.TheVariants.{NameKey, TypeKey, CommentKey, OtherKey, DimensionKey, CapacityKey, ScaleKey, EdgeWeightTypeKey, EdgeWeightFormatKey, NodeCoordTypeKey, DisplayDataTypeKey, NodeCoordPart, DisplayDataPart, DemandPart, DepotPart, FixedEdgesPart, EdgeWeightPart, TourPart, NodePotentialPart, RowPotentialPart, ColumnPotentialPart}
-use Rattle.tsp_value.specs.Limits.{most_nodes, most_matrix_nodes, most_coordinate, most_weight, most_demand, most_capacity, most_scale, most_potential, most_kept_bytes, most_comments, most_others, most_depots, most_fixed, most_tour_nodes}
+use Rattle.tsp_value.specs.Limits.{most_nodes, most_matrix_nodes, most_coordinate, most_weight, most_demand, most_capacity, most_scale, most_potential, most_comments, most_others, most_depots, most_fixed, most_tour_nodes}
 use Rattle.tsp_value.specs.Words.{field_word, kind_word, weight_kind_word, weight_format_word, coord_kind_word, display_kind_word}
-use Rattle.tsp_value.specs.Layout.{layout_word}
 use Rattle.tsp_value.specs.Values.{fields_in_order}
 use Rattle.tsp_fields.specs.Fields.{Fields}
-use Rattle.tsp_fields.specs.Validity.{if_there, with_dimension, is_kept, is_unknown_keyword, is_other, is_node, is_pair, is_from_to, is_within, is_point, is_demand, is_by_node, are_comments, are_others, are_depots, are_fixed, are_weights, is_tour, are_tours, fits}
+use Rattle.tsp_fields.specs.Validity.{if_there, with_dimension, is_kept, is_other, is_node, is_pair, is_from_to, is_within, is_point, is_demand, is_by_node, are_comments, are_others, are_depots, are_fixed, are_weights, is_tour, are_tours, fits}
 use Rattle.tsp_fields.specs.Rules.{fault_of}
-use Rattle.tsp_file.specs.Text.{line_end, after_blank, value_line, keyword_line, other_line, number_line, section, by_node, node_list, pair_list, point_numbers, whole_number, line_lens, matrix_lines, optional, text_of_field, text_of}
+use Rattle.tsp_file.specs.Text.{line_end, keyword_line, other_line, number_line, section, by_node, node_list, pair_list, point_numbers, whole_number, line_lens, matrix_lines, optional, text_of_field, text_of}
 use Rattle.tsp_file.proofs.TextLengths.{within_abs, first_two, positive_short, within_short, decimal_short, node_short, flat_short_of, by_node_short, pair_list_short, node_list_short, tours_short, matrix_lines_short}
 use Rattle.tsp_file.proofs.KeywordLengths.{kept_short, other_short, keyword_short, keyword_line_short, kind_short, weight_kind_short, weight_format_short, coord_kind_short, display_kind_short}
 use Rattle.tsp_file.proofs.AllFit.{all_fit}
@@ -71,9 +58,9 @@ by_node_section_short : {A : Type 0} (field : Field) (fits : A → Bool) (number
     → length (optional (λ xs. section field (by_node numbers xs)) value) ≤ 25 + (6 + k) * most_nodes
 by_node_section_short {A} field fits numbers k each dimension value nodes there =
     let lines : (n : ℕ) (xs : List A) → n ≤ most_nodes → is_by_node fits n xs ≡ true → length (by_node numbers xs) ≤ (6 + k) * most_nodes = λ n xs most by_nodes.
-      let parts = and_parts (length xs == n) (list_all fits xs) by_nodes in
-      let count = eqb-true (length xs) n parts.0 in
-      by_node_short fits numbers k each xs (omega (arith, count, most)) parts.1 in
+    let parts = and_parts (length xs == n) (list_all fits xs) by_nodes in
+    let count = eqb-true (length xs) n parts.0 in
+    by_node_short fits numbers k each xs (omega (arith, count, most)) parts.1 in
     section_of_short field (is_by_node fits) (by_node numbers) ((6 + k) * most_nodes) lines dimension value nodes there
 
 -- ---- entries
@@ -167,8 +154,8 @@ whole_line_short : (field : Field) (most : ℕ) → most ≤ most_capacity → (
     → length (optional (λ z. keyword_line field (signed_decimal z)) number) ≤ 50
 whole_line_short field most low number fits =
     let each : (z : ℤ) → is_from_to (pos 1) (pos most) z ≡ true → length (keyword_line field (signed_decimal z)) ≤ 50 = λ z fit.
-      let short = positive_short 13 1 most z (omega (arith, low)) (omega (arith, low)) fit in
-      keyword_line_short field (signed_decimal z) (omega (arith, short)) in
+    let short = positive_short 13 1 most z (omega (arith, low)) (omega (arith, low)) fit in
+    keyword_line_short field (signed_decimal z) (omega (arith, short)) in
     optional_short (is_from_to (pos 1) (pos most)) (λ z. keyword_line field (signed_decimal z)) 50 each number fits
 
 comments_short : (comments : List (List ℕ)) → are_comments comments ≡ true → length (flat_map (keyword_line CommentKey) comments) ≤ most_bytes CommentKey

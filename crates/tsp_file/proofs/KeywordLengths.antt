@@ -1,15 +1,8 @@
 -- How long the lines of keywords and values are at most.
-use Rattle.std.proofs.Common.{◌≡◌, ℕ, ◌+◌, ◌*◌, ◌<◌, ◌≤◌, Bool, true, false, List, [], ◌∷◌, ◌++◌, length, Option, None, Some, refl, ap, sym, ◌∙◌, subst, arith, ℤ, pos, length-append}
+use Rattle.std.proofs.Common.{◌≡◌, ℕ, ◌+◌, ◌≤◌, Bool, true, false, List, [], ◌∷◌, ◌++◌, length, refl, arith, length-append}
 use Rattle.std.specs.Prelude.{not, slice_index, ◌-◌, ◌&&◌, ◌==◌, nat_le, codes}
-use Rattle.std.specs.List.{flat_map, list_all, sum_by}
-use Rattle.std.specs.Fmt.{decimal, signed_decimal}
-use Rattle.std.proofs.lemmas.Bool.{and_parts, leb-true, eqb-true, false≢true}
-use Rattle.std.proofs.lemmas.List.Concat.{length-flat_map}
-use Rattle.std.proofs.lemmas.List.Sums.{sum_by-le-sum_by}
-use Rattle.std.proofs.Math.Nat.{mul-le-mul}
-use Rattle.tsp_number.specs.declared.decimal.Point.{Point}
-use Rattle.tsp_number.specs.Spelling.{spelling}
-use Rattle.tsp_number.proofs.Spelled.{spelling_short}
+use Rattle.std.specs.List.{list_all}
+use Rattle.std.proofs.lemmas.Bool.{and_parts, leb-true}
 use Rattle.tsp_value.specs.declared.kinds.Kind.{Kind}
 use Rattle.tsp_value.specs.declared.kinds.Kind.TheVariants as kinds
 use Rattle.tsp_value.specs.declared.kinds.WeightKind.{WeightKind}
@@ -24,15 +17,12 @@ use Rattle.tsp_value.specs.declared.layout.Layout.{Layout}
 use Rattle.tsp_value.specs.declared.layout.Layout.TheVariants as layouts
 use Rattle.tsp_value.specs.declared.field.Field.{Field}
 use Rattle.tsp_value.specs.declared.field.Field.TheVariants.{NameKey, TypeKey, CommentKey, OtherKey, DimensionKey, CapacityKey, ScaleKey, EdgeWeightTypeKey, EdgeWeightFormatKey, NodeCoordTypeKey, DisplayDataTypeKey, NodeCoordPart, DisplayDataPart, DemandPart, DepotPart, FixedEdgesPart, EdgeWeightPart, TourPart, NodePotentialPart, RowPotentialPart, ColumnPotentialPart}
-use Rattle.tsp_value.specs.Limits.{most_nodes, most_matrix_nodes, most_coordinate, most_weight, most_demand, most_capacity, most_scale, most_potential, most_kept_bytes, most_comments, most_others, most_depots, most_fixed, most_tour_nodes}
+use Rattle.tsp_value.specs.Limits.{most_kept_bytes}
 use Rattle.tsp_value.specs.Bytes.{is_blank}
 use Rattle.tsp_value.specs.Words.{field_word, kind_word, weight_kind_word, weight_format_word, coord_kind_word, display_kind_word}
 use Rattle.tsp_value.specs.Layout.{layout_word}
-use Rattle.tsp_value.specs.Values.{fields_in_order}
-use Rattle.tsp_fields.specs.Fields.{Fields}
-use Rattle.tsp_fields.specs.Validity.{if_there, with_dimension, is_kept, is_unknown_keyword, is_other, is_node, is_pair, is_within, is_point, is_demand, is_by_node, are_comments, are_others, are_depots, are_fixed, are_weights, is_tour, are_tours, fits}
-use Rattle.tsp_fields.specs.Rules.{fault_of}
-use Rattle.tsp_file.specs.Text.{line_end, after_blank, value_line, keyword_line, other_line, number_line, section, by_node, node_list, pair_list, point_numbers, whole_number, matrix_lines, optional, text_of_field, text_of}
+use Rattle.tsp_fields.specs.Validity.{is_kept, is_unknown_keyword, is_other, fits}
+use Rattle.tsp_file.specs.Text.{line_end, after_blank, value_line, keyword_line, other_line}
 
 -- ---- lines of a keyword and a value
 

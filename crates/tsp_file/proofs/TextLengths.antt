@@ -1,5 +1,5 @@
 -- How long the lines and the sections of a text are at most.
-use Rattle.std.proofs.Common.{◌≡◌, ℕ, ◌+◌, ◌*◌, ◌^◌, ◌<◌, ◌≤◌, Bool, true, false, List, [], ◌∷◌, ◌++◌, length, take, drop, map, refl, ap, sym, ◌∙◌, subst, arith, ℤ, pos, negsuc, unsigned_abs, length-append}
+use Rattle.std.proofs.Common.{◌≡◌, ℕ, ◌+◌, ◌*◌, ◌^◌, ◌<◌, ◌≤◌, Bool, true, false, List, [], ◌∷◌, ◌++◌, length, take, drop, map, refl, ap, sym, ◌∙◌, subst, arith, ℤ, pos, unsigned_abs, length-append}
 use Rattle.std.specs.Prelude.{◌&&◌, nat_le, codes}
 use Rattle.std.specs.List.{flat_map, list_all, enumerate_from, sum_by}
 use Rattle.std.specs.Fmt.{decimal, signed_decimal}
@@ -12,7 +12,7 @@ use Rattle.std.proofs.lemmas.List.Folds.{list_all-append, flat_map-map}
 use Rattle.std.proofs.lemmas.List.Sums.{sum_by-cons}
 use Rattle.tsp_value.specs.Limits.{most_nodes, most_weight}
 use Rattle.tsp_fields.specs.Validity.{is_from_to, is_within, is_node, is_tour}
-use Rattle.tsp_file.specs.Text.{line_end, value_line, number_line, by_node, ended, node_list, pair_list, weight_line, matrix_lines}
+use Rattle.tsp_file.specs.Text.{line_end, number_line, by_node, node_list, pair_list, weight_line, matrix_lines}
 
 pub first_two : (a b c : Bool) → (a && b && c) ≡ true → (a ≡ true) × (b ≡ true) × (c ≡ true)
 first_two true true true e = (refl, refl, refl)
