@@ -6,8 +6,7 @@ use Rattle.std.specs.Option.{option_map, option_or}
 use Rattle.std.specs.Str.{bytes_eq}
 use Rattle.std.proofs.lemmas.Option.{none-some, same_Some}
 use Rattle.tsp_value.specs.declared.field.Field.{Field}
-use Rattle.tsp_value.specs.Words.{field_word}
-use Rattle.tsp_value.specs.Values.{fields_in_order, field_found}
+use Rattle.tsp_value.specs.Words.{field_word, fields_in_order, field_found}
 use Rattle.tsp_fields.specs.declared.fault.DraftFault.{DraftFault}
 use Rattle.tsp_fields.specs.declared.fault.DraftFault.TheVariants.{BadField, Rule}
 use Rattle.tsp_fields.specs.Fields.{Fields}

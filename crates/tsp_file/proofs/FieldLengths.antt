@@ -13,13 +13,12 @@ use Rattle.tsp_number.proofs.Spelled.{spelling_short}
 use Rattle.tsp_value.specs.declared.field.Field.{Field}
 use Rattle.tsp_value.specs.declared.field.Field.TheVariants.{NameKey, TypeKey, CommentKey, OtherKey, DimensionKey, CapacityKey, ScaleKey, EdgeWeightTypeKey, EdgeWeightFormatKey, NodeCoordTypeKey, DisplayDataTypeKey, NodeCoordPart, DisplayDataPart, DemandPart, DepotPart, FixedEdgesPart, EdgeWeightPart, TourPart, NodePotentialPart, RowPotentialPart, ColumnPotentialPart}
 use Rattle.tsp_value.specs.Limits.{most_nodes, most_matrix_nodes, most_coordinate, most_weight, most_demand, most_capacity, most_scale, most_potential, most_comments, most_others, most_depots, most_fixed, most_tour_nodes}
-use Rattle.tsp_value.specs.Words.{field_word, kind_word, weight_kind_word, weight_format_word, coord_kind_word, display_kind_word}
-use Rattle.tsp_value.specs.Values.{fields_in_order}
+use Rattle.tsp_value.specs.Words.{field_word, kind_word, weight_kind_word, weight_format_word, coord_kind_word, display_kind_word, fields_in_order}
 use Rattle.tsp_fields.specs.Fields.{Fields}
 use Rattle.tsp_fields.specs.Validity.{if_there, with_dimension, is_kept, is_other, is_node, is_pair, is_from_to, is_within, is_point, is_demand, is_by_node, are_comments, are_others, are_depots, are_fixed, are_weights, is_tour, are_tours, fits}
 use Rattle.tsp_fields.specs.Rules.{fault_of}
 use Rattle.tsp_file.specs.Text.{line_end, keyword_line, other_line, number_line, section, by_node, node_list, pair_list, point_numbers, whole_number, line_lens, matrix_lines, optional, text_of_field, text_of}
-use Rattle.tsp_file.proofs.TextLengths.{within_abs, first_two, positive_short, within_short, decimal_short, node_short, flat_short_of, by_node_short, pair_list_short, node_list_short, tours_short, matrix_lines_short}
+use Rattle.tsp_file.proofs.TextLengths.{within_abs, three_parts, positive_short, within_short, decimal_short, node_short, flat_short_of, by_node_short, pair_list_short, node_list_short, tours_short, matrix_lines_short}
 use Rattle.tsp_file.proofs.KeywordLengths.{kept_short, other_short, keyword_short, keyword_line_short, kind_short, weight_kind_short, weight_format_short, coord_kind_short, display_kind_short}
 use Rattle.tsp_file.proofs.AllFit.{all_fit}
 
@@ -97,7 +96,7 @@ depots_short n depots most fits =
 
 is_pair_short : (n : ℕ) (pair : ℕ × ℕ) → n ≤ most_nodes → is_pair n pair ≡ true → (length (decimal pair.0) ≤ 6) × (length (decimal pair.1) ≤ 6)
 is_pair_short n pair most fits =
-    let parts = first_two (is_node n pair.0) (is_node n pair.1) (not (pair.0 == pair.1)) fits in
+    let parts = three_parts (is_node n pair.0) (is_node n pair.1) (not (pair.0 == pair.1)) fits in
     (node_short n pair.0 most parts.0, node_short n pair.1 most parts.1)
 
 fixed_short : (n : ℕ) (pairs : List (ℕ × ℕ)) → n ≤ most_nodes → are_fixed n pairs ≡ true → length (pair_list pairs) ≤ 1900000
@@ -109,7 +108,7 @@ fixed_short n pairs most fits =
 -- at most 5,000 * 5,000 weights
 weights_short : (lens : List ℕ) (n : ℕ) (weights : List ℤ) → are_weights n weights ≡ true → length (matrix_lines lens weights) ≤ 375000000
 weights_short lens n weights fits =
-    let parts = first_two (nat_le n most_matrix_nodes) (nat_le (length weights) (n * n)) (list_all (is_within most_weight) weights) fits in
+    let parts = three_parts (nat_le n most_matrix_nodes) (nat_le (length weights) (n * n)) (list_all (is_within most_weight) weights) fits in
     let few = leb-true n most_matrix_nodes parts.0 in
     let count = leb-true (length weights) (n * n) parts.1 in
     omega (arith, count, mul-le-mul few few, matrix_lines_short lens weights parts.2)

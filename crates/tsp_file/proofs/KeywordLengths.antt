@@ -35,6 +35,7 @@ value_line_short keyword value =
     let ending = length-append (after_blank value) line_end in
     omega (arith, length-append keyword (codes " :" ++ (after_blank value ++ line_end)), ending, blank_short value)
 
+-- the first of four tests that pass together
 first_of_four : (a b c d : Bool) → (a && b && c && d) ≡ true → a ≡ true
 first_of_four true b c d e = refl
 first_of_four false b c d e = e

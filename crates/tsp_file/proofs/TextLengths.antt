@@ -14,11 +14,12 @@ use Rattle.tsp_value.specs.Limits.{most_nodes, most_weight}
 use Rattle.tsp_fields.specs.Validity.{is_from_to, is_within, is_node, is_tour}
 use Rattle.tsp_file.specs.Text.{line_end, number_line, by_node, node_list, pair_list, weight_line, matrix_lines}
 
-pub first_two : (a b c : Bool) → (a && b && c) ≡ true → (a ≡ true) × (b ≡ true) × (c ≡ true)
-first_two true true true e = (refl, refl, refl)
-first_two true true false e = absurd (false≢true e)
-first_two true false c e = absurd (false≢true e)
-first_two false b c e = absurd (false≢true e)
+-- what three tests that pass together say
+pub three_parts : (a b c : Bool) → (a && b && c) ≡ true → (a ≡ true) × (b ≡ true) × (c ≡ true)
+three_parts true true true e = (refl, refl, refl)
+three_parts true true false e = absurd (false≢true e)
+three_parts true false c e = absurd (false≢true e)
+three_parts false b c e = absurd (false≢true e)
 
 -- ---- numbers
 
