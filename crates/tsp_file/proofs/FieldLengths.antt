@@ -30,15 +30,15 @@ optional_short fits text k each None there = omega arith
 optional_short fits text k each (Some x) there = each x there
 
 -- the line of a word
-word_line_short : {A : Type 0} (field : Field) (word : A → List ℕ) → ((x : A) → nat_le (length (word x)) 20 ≡ true) → (value : Option A)
+word_line_short : {A : Type 0} (field : Field) (word : A → List ℕ) → ((x : A) → length (word x) ≤ 20) → (value : Option A)
     → length (optional (λ x. keyword_line field (word x)) value) ≤ 50
 word_line_short field word each None = omega arith
-word_line_short field word each (Some x) = keyword_line_short field (word x) (leb-true (length (word x)) 20 (each x))
+word_line_short field word each (Some x) = keyword_line_short field (word x) (each x)
 
 -- the section's line has at most 25 bytes
 section_short : (field : Field) (lines : List ℕ) (k : ℕ) → length lines ≤ k → length (section field lines) ≤ 25 + k
 section_short field lines k short =
-    omega (arith, length-append (field_word field) (line_end ++ lines), leb-true (length (field_word field)) 24 (keyword_short field), short)
+    omega (arith, length-append (field_word field) (line_end ++ lines), keyword_short field, short)
 
 dimension_short : (n : ℕ) → is_node most_nodes n ≡ true → n ≤ most_nodes
 dimension_short n fits = leb-true n most_nodes (and_parts (nat_le 1 n) (nat_le n most_nodes) fits).1
