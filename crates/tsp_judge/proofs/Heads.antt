@@ -61,9 +61,6 @@ pub head_more : (lines tail head : List (List ℕ)) (line : List ℕ) (found : O
 head_more lines tail head line None e h = λ rest f. h rest (goes_on lines tail (head ++ rest) line e f)
 head_more lines tail head line (Some body) e h = e ∙ ap (λ (ls : List (List ℕ)). line ∷ ls) h
 
-pub some_is : (a b : ℕ) → Some a ≡ Some b → a ≡ b
-some_is a b e = cc
-
 -- two views of the same first line
 pub same_first : (lines after more : List (List ℕ)) (first line : List ℕ) → lines ≡ first ∷ after → lines ≡ line ∷ more → first ≡ line
 same_first lines after more first line e f = cc

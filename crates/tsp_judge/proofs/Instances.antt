@@ -4,6 +4,7 @@ use Rattle.std.specs.Prelude.{ℤ, pos, negsuc, decimal}
 use Rattle.std.specs.List.{All, list_all}
 use Rattle.std.specs.Str.Parse.{digits_value}
 use Rattle.std.proofs.lemmas.Fmt.{decimal_is_IsNumeral}
+use Rattle.std.proofs.lemmas.Option.{same_Some}
 use Rattle.std.proofs.lemmas.List.Sums.{AllPass-from_list_all, list_all-from_AllPass}
 use Rattle.tsp_judge.specs.declared.form.words.NumberKind.TheVariants.{Weight}
 use Rattle.tsp_judge.specs.Words.{lines_of}
@@ -61,12 +62,9 @@ pub wrong_count : (text : List ℕ) (n : ℕ) (body : List (List ℕ)) (weights 
     → (instance : Instance) → IsInstance text instance → ⊥
 wrong_count text n body weights read e other instance spelled =
     let one = one_instance text n body (Some weights) read e instance spelled in
-    let same : weights ≡ instance.weights = some_is weights instance.weights one.1 in
+    let same : weights ≡ instance.weights = same_Some weights instance.weights one.1 in
     let square : instance.nodes * instance.nodes ≡ n * n = ap (λ (k : ℕ). k * k) one.0 in
     other (ap length same ∙ spelled.count ∙ square)
-  where
-    some_is : (a b : List ℤ) → Some a ≡ Some b → a ≡ b
-    some_is a b f = cc
 
 pub is_instance : (text : List ℕ) (n : ℕ) (body : List (List ℕ)) (weights : List ℤ) → ReadsHeadOf text n body → numbers_before_eof Weight body ≡ Some weights → length weights ≡ n * n
     → IsInstance text (record { nodes = n; weights = weights })

@@ -1,8 +1,8 @@
 -- The two plain forms of text: which instance, and which tours, a text spells.
-use Rattle.std.specs.Prelude.{◌≡◌, ℕ, ◌*◌, ◌<◌, ◌≤◌, ◌⊎◌, Bool, true, false, List, [], ◌∷◌, ◌++◌, length, take, map, Some, ℤ, pos, negsuc, nat_abs, ◌≤ℤ◌, codes, decimal}
+use Rattle.std.specs.Prelude.{◌≡◌, ℕ, ◌+◌, ◌*◌, ◌<◌, ◌≤◌, ◌⊎◌, Bool, true, false, List, [], ◌∷◌, ◌++◌, length, take, map, Some, ℤ, pos, negsuc, nat_abs, ◌≤ℤ◌, codes, decimal}
 use Rattle.std.specs.List.{All, flat_map, concat}
 use Rattle.tsp_judge.specs.declared.limit.TheConstants.{FILE_LIMIT}
-use Rattle.tsp_judge.specs.Words.{lines_of, words_of, whole_of, runs_between}
+use Rattle.tsp_judge.specs.Words.{lines_of, words_of, signed_numeral, runs_between}
 
 -- an ATSP instance: the number of its nodes, and the weights of its matrix by rows
 pub record Instance : Type 0 where
@@ -20,7 +20,7 @@ pub record ListsNumbers (lines : List (List ℕ)) (numbers : List ℤ) : Type 0 
   pub body : List (List ℕ)
   pub after : List (List ℕ)
   pub parts : lines ≡ body ++ eof ∷ after
-  pub words : map whole_of (flat_map words_of body) ≡ map Some numbers
+  pub words : map signed_numeral (flat_map words_of body) ≡ map Some numbers
 
 -- the lines between the dimension and the weights
 abbrev pub weight_lines : List (List ℕ)
@@ -69,14 +69,18 @@ counted bytes = take FILE_LIMIT bytes
 abbrev pub HasEofLine : List ℕ → Type 0
 HasEofLine text = (before : List (List ℕ)) × (next : List ℕ) × (after : List (List ℕ)) × (lines_of text ≡ before ++ eof ∷ next ∷ after)
 
+-- how many bytes of a file are taken at most
+abbrev pub most_taken : ℕ
+most_taken = FILE_LIMIT + 4096
+
 -- more bytes than the limit, and no line EOF up to there
 abbrev pub IsTooLong : List ℕ → Type 0
 IsTooLong bytes = (FILE_LIMIT < length bytes) × (HasEofLine (counted bytes) → ⊥)
 
--- the bytes spell the value by the form
-abbrev pub Spells : {A : Type 0} → (List ℕ → A → Type 0) → List ℕ → A → Type 0
-Spells form bytes value = (IsTooLong bytes → ⊥) × form (counted bytes) value
+-- the bytes denote the value by the form
+abbrev pub Denotes : {A : Type 0} → (List ℕ → A → Type 0) → List ℕ → A → Type 0
+Denotes form bytes value = (IsTooLong bytes → ⊥) × form (counted bytes) value
 
--- the bytes are within the limit and spell no value by the form
-abbrev pub SpellsNone : {A : Type 0} → (List ℕ → A → Type 0) → List ℕ → Type 0
-SpellsNone {A} form bytes = (IsTooLong bytes → ⊥) × ((value : A) → form (counted bytes) value → ⊥)
+-- the bytes are within the limit and denote no value by the form
+abbrev pub DenotesNone : {A : Type 0} → (List ℕ → A → Type 0) → List ℕ → Type 0
+DenotesNone {A} form bytes = (IsTooLong bytes → ⊥) × ((value : A) → form (counted bytes) value → ⊥)

@@ -5,7 +5,7 @@ ghost use Rattle.std.specs.List.{All};
 ghost use Rattle.tsp_judge.specs.Forms.{IsWithin};
 ghost use Rattle.tsp_judge.specs.Tour.{node_at, IsPlace, IsNode, tour_length, path_length, cost};
 ghost use Rattle.tsp_judge.specs.Verdict.{IsFirstPlace, IsRepeated, IsVerdict, NoneBeforeRepeats};
-ghost use Rattle.tsp_judge.specs.Values.{instance_of, Holds};
+ghost use Rattle.tsp_judge.specs.Values.{instance_of, HoldsTours};
 
 use crate::form::instance::Matrix;
 use crate::form::solution::Tours;
@@ -25,8 +25,8 @@ pub(crate) fn judge(
 ) -> Result<Verdict, AllocError>
     requires { All (λ node. 1 ≤ node) solution.now.nodes.items }
     ensures { MatchResult result
-        (λ verdict. (tours : List (List ℕ)) → Holds solution.now tours → IsVerdict (instance_of instance.now) tours verdict)
-        (λ refused. (tours : List (List ℕ)) → Holds solution.now tours → NoneBeforeRepeats (instance_of instance.now) tours) }
+        (λ verdict. (tours : List (List ℕ)) → HoldsTours solution.now tours → IsVerdict (instance_of instance.now) tours verdict)
+        (λ refused. (tours : List (List ℕ)) → HoldsTours solution.now tours → NoneBeforeRepeats (instance_of instance.now) tours) }
 {
     let nodes = instance.nodes();
     let tour = solution.nodes.as_slice();

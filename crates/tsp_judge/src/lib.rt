@@ -15,5 +15,5 @@ mod verdict;
 pub use check::run_check;
 pub use fault::{ReadFault, RunFault};
 pub use limit::FILE_LIMIT;
-pub use tsp_file::{Watched, WriteFault};
+pub use tsp_stream::{Watched, WriteFault};
 pub use verdict::{Reason, Verdict};

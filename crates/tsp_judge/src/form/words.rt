@@ -3,7 +3,7 @@
 ghost use Rattle.std.specs.Prelude.{◌≡◌, ◌<◌, ◌≤◌, not, [], ◌∷◌, length, MatchOption, pos, IfSome, codes};
 ghost use Rattle.std.specs.Option.{option_map};
 ghost use Rattle.std.specs.List.{position};
-ghost use Rattle.tsp_judge.specs.Words.{parts_words, words_of, numeral, whole_of};
+ghost use Rattle.tsp_judge.specs.Words.{parts_words, words_of, numeral, signed_numeral};
 ghost use Rattle.tsp_judge.specs.Numbers.{number_in};
 
 /// How many digits a number has at most.
@@ -63,7 +63,7 @@ pub(crate) fn numeral(digits: &[u8]) -> Option<u64>
 
 /// The number that a word stands for: a numeral, or `-` and a numeral.
 fn whole(word: &[u8]) -> Option<i64>
-    ensures { result ≡ whole_of word.now }
+    ensures { result ≡ signed_numeral word.now }
 {
     match word {
         [b'-', digits @ ..] => numeral(digits).map(|value| -(value as i64)),
