@@ -1,5 +1,5 @@
 -- The check, put together from its parts.
-use Rattle.std.proofs.Common.{◌≡◌, ℕ, ◌≤◌, true, List, map, Option, None, Some, Err, refl, sym, ap, subst, ◌∙◌, inl, inr, arith}
+use Rattle.std.proofs.Common.{◌≡◌, ℕ, ◌≤◌, true, List, map, Err, sym, ap, subst, ◌∙◌, inl, inr, arith}
 use Rattle.std.specs.Prelude.{ℤ, pos, negsuc, nat_abs, not}
 use Rattle.std.specs.List.{All, concat, filter}
 use Rattle.std.proofs.lemmas.Int.{ints}

@@ -1,7 +1,7 @@
 -- The numbers before the line EOF, as the reader takes them, are those that the lines list.
 use Rattle.std.proofs.Common.{◌≡◌, ℕ, Bool, true, false, cond, List, [], ◌∷◌, ◌++◌, Option, None, Some, map, refl, sym, ap, subst, ◌∙◌, inl, inr, arith}
 use Rattle.std.proofs.lemmas.Int.{ints}
-use Rattle.std.specs.Prelude.{ℤ, pos, negsuc, codes, ◌&&◌}
+use Rattle.std.specs.Prelude.{ℤ, codes, ◌&&◌}
 use Rattle.std.specs.Option.{option_map, option_and_then}
 use Rattle.std.specs.List.{flat_map, list_all}
 use Rattle.std.specs.Str.{bytes_eq}
@@ -13,7 +13,7 @@ use Rattle.tsp_judge.specs.Words.{words_of, signed_numeral}
 use Rattle.tsp_judge.specs.Numbers.{both_lists, is_allowed, number_in, numbers_of, numbers_before_eof}
 use Rattle.std.proofs.lemmas.Bool.{false_from_ne_true}
 use Rattle.tsp_judge.proofs.Joins.{both_lists_nothing, both_lists_assoc}
-use Rattle.tsp_judge.specs.Forms.{eof, ListsNumbers, IsWithin, IsTourWord}
+use Rattle.tsp_judge.specs.Forms.{eof, ListsNumbers, IsWeight, IsTourWord}
 
 -- ---- words
 
@@ -155,10 +155,10 @@ lists_back kind lines zs listed allowed =
 
 -- ---- what is allowed
 
-pub weight_within : (z : ℤ) → is_allowed Weight z ≡ true → IsWithin (negsuc 999999999999) (pos 1000000000000) z
+pub weight_within : (z : ℤ) → is_allowed Weight z ≡ true → IsWeight z
 weight_within z e = grind (arith, ints)
 
-pub weight_allowed : (z : ℤ) → IsWithin (negsuc 999999999999) (pos 1000000000000) z → is_allowed Weight z ≡ true
+pub weight_allowed : (z : ℤ) → IsWeight z → is_allowed Weight z ≡ true
 weight_allowed z h = grind (arith, ints)
 
 pub tour_word : (z : ℤ) → is_allowed TourWord z ≡ true → IsTourWord z

@@ -5,36 +5,36 @@ use Rattle.std.specs.Io.KnownBytes.{IsAtEnd}
 use Rattle.std.proofs.lemmas.List.{take_all}
 use Rattle.tsp_stream.specs.Turn.{Turn, Gave, IsSound, GaveAll, TakesAtMost}
 use Rattle.tsp_stream.proofs.Turns.{AgreeUpTo, gave_whole, gave_all}
-use Rattle.tsp_judge.specs.declared.limit.TheConstants.{FILE_LIMIT}
-use Rattle.tsp_judge.specs.Forms.{IsTooLong, Denotes, DenotesNone, HasEofLine, counted, most_taken}
+use Rattle.tsp_value.specs.Limits.{most_file_bytes}
+use Rattle.tsp_judge.specs.Forms.{IsTooLong, Denotes, DenotesNone, HasEofLine, most_taken}
 use Rattle.tsp_judge.specs.Reading.{Counts, ReadsForm}
 
-too_long_same : (a b : List ℕ) → AgreeUpTo FILE_LIMIT a b → IsTooLong a → IsTooLong b
+too_long_same : (a b : List ℕ) → AgreeUpTo most_file_bytes a b → IsTooLong a → IsTooLong b
 too_long_same a b h (long, none) = (h.longer long, λ eof_line. none (subst HasEofLine (sym h.front) eof_line))
 
-too_long_back : (a b : List ℕ) → AgreeUpTo FILE_LIMIT a b → IsTooLong b → IsTooLong a
+too_long_back : (a b : List ℕ) → AgreeUpTo most_file_bytes a b → IsTooLong b → IsTooLong a
 too_long_back a b h (long, none) = (h.as_long long, λ eof_line. none (subst HasEofLine h.front eof_line))
 
-counts_back : (text a b : List ℕ) → AgreeUpTo FILE_LIMIT a b → Counts text b → Counts text a
+counts_back : (text a b : List ℕ) → AgreeUpTo most_file_bytes a b → Counts text b → Counts text a
 counts_back text a b h (fits, same) = (λ long. fits (too_long_same a b h long), h.front ∙ same)
 
-pub gave_counted : (turn : Turn) (text : List ℕ) → Gave turn → IsSound turn → (length turn.given ≤ FILE_LIMIT → IsAtEnd turn.left) → Counts text turn.given
+pub gave_counted : (turn : Turn) (text : List ℕ) → Gave turn → IsSound turn → (length turn.given ≤ most_file_bytes → IsAtEnd turn.left) → Counts text turn.given
     → GaveAll turn (Counts text)
-gave_counted turn text gave sound ended p = gave_whole FILE_LIMIT (Counts text) turn (counts_back text) gave sound ended p
+gave_counted turn text gave sound ended p = gave_whole most_file_bytes (Counts text) turn (counts_back text) gave sound ended p
 
-pub gave_too_long : (turn : Turn) → Gave turn → IsSound turn → (length turn.given ≤ FILE_LIMIT → IsAtEnd turn.left) → IsTooLong turn.given
+pub gave_too_long : (turn : Turn) → Gave turn → IsSound turn → (length turn.given ≤ most_file_bytes → IsAtEnd turn.left) → IsTooLong turn.given
     → GaveAll turn IsTooLong
-gave_too_long turn gave sound ended p = gave_whole FILE_LIMIT IsTooLong turn too_long_back gave sound ended p
+gave_too_long turn gave sound ended p = gave_whole most_file_bytes IsTooLong turn too_long_back gave sound ended p
 
 -- a short text counts as it is
-pub counts_short : (text : List ℕ) → length text ≤ FILE_LIMIT → Counts text text
-counts_short text short = (λ long. omega (arith, long.0), take_all FILE_LIMIT text short)
+pub counts_short : (text : List ℕ) → length text ≤ most_file_bytes → Counts text text
+counts_short text short = (λ long. omega (arith, long.0), take_all most_file_bytes text short)
 
 -- a longer one up to the limit, where a line EOF stands there
-pub counts_long : (text bytes : List ℕ) → text ≡ take FILE_LIMIT bytes → HasEofLine text → Counts text bytes
+pub counts_long : (text bytes : List ℕ) → text ≡ take most_file_bytes bytes → HasEofLine text → Counts text bytes
 counts_long text bytes e eof_line = (λ long. long.1 (subst HasEofLine e eof_line), sym e)
 
-pub is_too_long : (text bytes : List ℕ) → FILE_LIMIT < length bytes → text ≡ take FILE_LIMIT bytes → (HasEofLine text → ⊥) → IsTooLong bytes
+pub is_too_long : (text bytes : List ℕ) → most_file_bytes < length bytes → text ≡ take most_file_bytes bytes → (HasEofLine text → ⊥) → IsTooLong bytes
 is_too_long text bytes long e none = (long, λ eof_line. none (subst HasEofLine (sym e) eof_line))
 
 -- ---- what the counted bytes denote

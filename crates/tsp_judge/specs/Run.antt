@@ -1,5 +1,5 @@
 -- What a check does to its readers and its writer, and what it answers.
-use Rattle.std.specs.Prelude.{◌≡◌, ℕ, ◌⊎◌, Bool, true, false, List, Result, Ok, Err}
+use Rattle.std.specs.Prelude.{◌≡◌, ℕ, ◌⊎◌, Bool, List, Result, Ok, Err}
 use Rattle.tsp_judge.specs.declared.fault.ReadFault.{ReadFault}
 use Rattle.tsp_judge.specs.declared.fault.ReadFault.TheVariants as read_faults
 use Rattle.tsp_stream.specs.declared.output.WriteFault.TheVariants as write_faults

@@ -12,7 +12,7 @@ pub enum ReadFault {
     /// A read failed.
     #[error("device")]
     Device,
-    /// More bytes than `FILE_LIMIT`, and no line `EOF` among those up to there.
+    /// More bytes than `MOST_FILE_BYTES`, and no line `EOF` among those up to there.
     #[error("too long")]
     TooLong,
 }

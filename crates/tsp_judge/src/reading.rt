@@ -10,10 +10,10 @@ use crate::fault::ReadFault;
 use crate::form::instance::Matrix;
 use crate::form::lines::first_line;
 use crate::form::solution::{Tours, parse_solution};
-use crate::limit::FILE_LIMIT;
 use std::alloc::Global;
 use std::io::Read;
 use tsp_stream::{InputFault, Watched, read_whole};
+use tsp_value::MOST_FILE_BYTES;
 
 /// Whether a line `EOF` stands in the text that a byte 10 ends.
 fn has_eof_line(text: &[u8]) -> bool
@@ -37,15 +37,15 @@ fn has_eof_line(text: &[u8]) -> bool
 fn read_counted<R: Read>(alloc: Global, reader: &mut Watched<R>) -> Result<Vec<u8>, ReadFault>
     ensures { ReadsCounted (turn_of R.remaining reader.old reader.new) result }
 {
-    let mut bytes = match read_whole(alloc, reader, FILE_LIMIT) {
+    let mut bytes = match read_whole(alloc, reader, MOST_FILE_BYTES) {
         Err(InputFault::Device) => return Err(ReadFault::Device),
         Err(InputFault::OutOfMemory) => return Err(ReadFault::OutOfMemory),
         Ok(bytes) => bytes,
     };
-    if bytes.len() <= FILE_LIMIT {
+    if bytes.len() <= MOST_FILE_BYTES {
         return Ok(bytes);
     }
-    bytes.truncate(FILE_LIMIT);
+    bytes.truncate(MOST_FILE_BYTES);
     if has_eof_line(&bytes) {
         Ok(bytes)
     } else {

@@ -1,7 +1,7 @@
 -- A check of two files, each read from where it stands.
 use Rattle.std.specs.Prelude.{◌≡◌, ℕ, Bool, false, List, Option, Result}
-use Rattle.tsp_stream.specs.Turn.{Turn}
-use Rattle.tsp_stream.specs.Sink.{Sink}
+use Rattle.tsp_judge.specs.Turn.{Turn}
+use Rattle.tsp_judge.specs.Sink.{Sink}
 use Rattle.tsp_judge.specs.declared.fault.RunFault.{RunFault}
 use Rattle.tsp_judge.specs.Run.{IsRun}
 

@@ -10,9 +10,7 @@ use crate::form::lines::after_line;
 use crate::form::numbers::numbers_before_eof;
 use crate::form::words::NumberKind;
 use std::alloc::{AllocError, Global};
-
-/// The most nodes of all tours of a file.
-const MOST_TOUR_NODES: usize = 1_000_000;
+use tsp_value::MOST_TOUR_NODES;
 
 /// The tours of a solution: how many there are, and their nodes, one tour after the other.
 #[derive(Drop)]
