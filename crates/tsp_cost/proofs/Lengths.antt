@@ -1,5 +1,5 @@
 -- Lengths, step by step.
-use Rattle.std.proofs.Common.{◌≡◌, ℕ, suc, ◌+◌, ◌-◌, ◌*◌, ◌<◌, ◌≤◌, List, [], ◌∷◌, length, get_or, drop, sym, ap, subst, ◌∙◌, arith, drop-cons, add-one, to_z, of_z}
+use Rattle.std.proofs.Common.{◌≡◌, ℕ, zero, suc, ◌+◌, ◌-◌, ◌*◌, ◌<◌, ◌≤◌, List, [], ◌∷◌, length, get_or, drop, sym, ap, subst, ◌∙◌, arith, drop-cons, add-one, to_z, of_z}
 use Rattle.std.specs.Prelude.{ℤ, pos, neg_ℤ, ◌+ℤ◌, ◌≤ℤ◌}
 use Rattle.std.specs.Int.{w64}
 use Rattle.std.specs.List.{range_with_len}
@@ -7,7 +7,8 @@ use Rattle.std.proofs.lemmas.Int.{ints}
 use Rattle.std.proofs.lemmas.List.{drop_all}
 use Rattle.std.proofs.Math.IntN.{+ℤ_assoc, +ℤ_idr}
 use Rattle.tsp_cost.specs.Walk.{links_to}
-use Rattle.tsp_cost.specs.Length.{sum_int_by}
+use Rattle.tsp_value.specs.Cells.{nodes_to}
+use Rattle.tsp_cost.specs.Length.{sum_int_by, length_of}
 
 -- the sum of the costs from a node along others to an end
 abbrev pub length_to : (ℕ → ℕ → ℤ) → ℕ → ℕ → List ℕ → ℤ
@@ -42,3 +43,14 @@ sum_more sum cost count size low high = record { low = omega (arith, ints, size.
 pub sum_fits : (sum cost : ℤ) (count : ℕ) → count ≤ 1000000 → IsSumOf count sum → neg_ℤ (pos 1000000000000) ≤ℤ cost → cost ≤ℤ pos 1000000000000
     → to_z w64 (of_z w64 (sum +ℤ to_z w64 (of_z w64 cost))) ≡ sum +ℤ cost
 sum_fits sum cost count few size low high = omega (arith, ints, size.low, size.high)
+
+-- ---- over all nodes
+
+-- a run of numbers, its first apart
+pub run_parts : (a m : ℕ) → 0 < m → range_with_len a m ≡ a ∷ range_with_len (a + 1) (m - 1)
+run_parts a zero some = absurd (omega (arith, some))
+run_parts a (suc m) some = ap (λ k. a ∷ range_with_len (a + 1) k) (omega arith)
+
+pub canonical : (cost : ℕ → ℕ → ℤ) (n : ℕ) → 1 ≤ n → length_of cost (nodes_to n) ≡ length_to cost 1 1 (range_with_len 2 (n - 1))
+unfolding nodes_to
+canonical cost n some = ap (length_of cost) (run_parts 1 n some)
