@@ -3,5 +3,6 @@ pub mod Cells
 pub mod Keywords
 pub mod Layout
 pub mod Limits
+pub mod Place
 pub mod Values
 pub mod Words

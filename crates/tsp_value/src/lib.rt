@@ -7,6 +7,7 @@ mod keyword;
 mod kinds;
 mod layout;
 mod limits;
+mod place;
 mod word;
 
 pub use bytes::{is_blank, is_keyword_byte, is_letter};
@@ -17,4 +18,5 @@ pub use layout::{Layout, cells_are_distinct, cells_are_the_listed_pairs, cells_g
 pub use limits::{
     MOST_NODES, MOST_MATRIX_NODES, MOST_COORDINATE, MOST_WEIGHT, MOST_DEMAND, MOST_CAPACITY, MOST_SCALE, MOST_POTENTIAL, MOST_WORD_BYTES, MOST_LINE_BYTES, MOST_KEPT_BYTES, MOST_COMMENTS, MOST_OTHERS, MOST_DEPOTS, MOST_FIXED, MOST_TOUR_NODES, MOST_FILE_BYTES, limits_are_those_of_the_profile,
 };
+pub use place::only_cells_have_places;
 pub use word::{Word, value_of};
