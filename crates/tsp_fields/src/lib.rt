@@ -4,6 +4,7 @@
 mod draft;
 mod fault;
 mod file;
+mod laws;
 mod rules;
 mod table;
 mod validity;
@@ -11,5 +12,6 @@ mod validity;
 pub use draft::Draft;
 pub use fault::{DraftFault, EndFault};
 pub use file::File;
+pub use laws::{valid_fields_are_in_range, valid_files_are_complete};
 pub use rules::end_fault;
 pub use validity::is_kept;
