@@ -10,7 +10,3 @@ sum_int_by f (x ∷ xs) = f x +ℤ sum_int_by f xs
 -- the sum of the costs from each node of a list to the one that comes next, cyclically
 abbrev pub length_of : (ℕ → ℕ → ℤ) → List ℕ → ℤ
 length_of cost nodes = sum_int_by (λ link. cost link.0 link.1) (links nodes)
-
--- the most nodes of a list whose length is taken
-abbrev pub most_listed : ℕ
-most_listed = 1000000

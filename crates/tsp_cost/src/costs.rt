@@ -2,7 +2,7 @@
 
 ghost use Rattle.std.specs.Prelude.{◌≡◌, ◌≢◌, ◌≤◌, ℕ, ℤ, pos, neg_ℤ, ◌≤ℤ◌};
 ghost use Rattle.tsp_value.specs.Cells.{IsNode};
-ghost use Rattle.tsp_cost.specs.Costs.{most_cost, most_nodes};
+ghost use Rattle.tsp_value.specs.Limits.{most_nodes, most_weight};
 
 /// Costs between the nodes 1 to `count`.
 pub trait Costs {
@@ -22,8 +22,8 @@ pub trait Costs {
         requires from { IsNode (nodes self.now) i }
         requires to { IsNode (nodes self.now) j }
         ensures value { result ≡ at self.now i j }
-        ensures low { neg_ℤ (pos most_cost) ≤ℤ result }
-        ensures high { result ≤ℤ pos most_cost };
+        ensures low { neg_ℤ (pos most_weight) ≤ℤ result }
+        ensures high { result ≤ℤ pos most_weight };
 }
 
 /// Costs that are the same both ways between different nodes.

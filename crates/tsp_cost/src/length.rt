@@ -3,7 +3,8 @@
 ghost use Rattle.std.specs.Prelude.{◌≡◌, ◌≤◌, map, length, vec_len, IfOk};
 ghost use Rattle.std.specs.List.{All};
 ghost use Rattle.tsp_value.specs.Cells.{IsNode, nodes_to};
-ghost use Rattle.tsp_cost.specs.Length.{length_of, most_listed};
+ghost use Rattle.tsp_value.specs.Limits.{most_tour_nodes};
+ghost use Rattle.tsp_cost.specs.Length.{length_of};
 
 use crate::costs::Costs;
 use std::alloc::{AllocError, Global};
@@ -15,7 +16,7 @@ use std::alloc::{AllocError, Global};
 /// caller owes nodes of 1 to `count`, and at most 1,000,000 of them.
 pub fn tour_length<C: Costs>(c: &C, tour: &[u32]) -> i64
     requires range { All (IsNode (C.nodes c.now)) tour.now }
-    requires size { length tour.now ≤ most_listed }
+    requires size { length tour.now ≤ most_tour_nodes }
     ensures { result ≡ length_of (C.at c.now) tour.now }
 {
     let Some((first, others)) = tour.split_first() else {
@@ -51,7 +52,7 @@ pub fn trace_tours<C: Costs>(
     tours: &[Vec<u32>],
 ) -> Result<Vec<i64>, AllocError>
     requires range { All (λ tour. All (IsNode (C.nodes c.now)) tour.items) tours.now }
-    requires size { All (λ tour. length tour.items ≤ most_listed) tours.now }
+    requires size { All (λ tour. length tour.items ≤ most_tour_nodes) tours.now }
     ensures { IfOk result (λ lengths. lengths.items
         ≡ map (λ tour. length_of (C.at c.now) tour.items) tours.now) }
 {

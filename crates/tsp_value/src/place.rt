@@ -9,6 +9,21 @@ ghost use Rattle.tsp_value.specs.Place.{place_of, place_by_table, upper_place, l
 use crate::layout::Layout;
 
 impl Layout {
+    /// Whether the layout lists the pair (i, j): all pairs, or those with i below j, above it, at
+    /// most j or at least j.
+    #[inline]
+    pub fn lists(self, i: u32, j: u32) -> bool
+        ensures { result ≡ is_listed self (i, j) }
+    {
+        match self {
+            Layout::FullMatrix => true,
+            Layout::UpperRow | Layout::UpperCol => i < j,
+            Layout::LowerRow | Layout::LowerCol => i > j,
+            Layout::UpperDiagRow | Layout::UpperDiagCol => i <= j,
+            Layout::LowerDiagRow | Layout::LowerDiagCol => i >= j,
+        }
+    }
+
     /// The place of a cell (i, j) among the cells of a matrix over this many nodes, counted from 0.
     ///
     /// The caller owes a pair of nodes that the layout lists.
