@@ -1,6 +1,6 @@
 //! Costs that are distances of points.
 
-ghost use Rattle.std.specs.Prelude.{◌≡◌, ◌≢◌, ◌≤◌, ◌-◌, ℕ, length};
+ghost use Rattle.std.specs.Prelude.{◌≡◌, ◌≢◌, ◌≤◌, ◌-◌, ℕ, length, pos, ◌≤ℤ◌};
 ghost use Rattle.tsp_number.specs.declared.decimal.Point.{Point};
 ghost use Rattle.tsp_value.specs.declared.kinds.WeightKind.TheVariants.{Explicit};
 ghost use Rattle.tsp_value.specs.Limits.{most_nodes};
@@ -51,19 +51,33 @@ impl Costs for Points<'_> {
 
     #[inline]
     fn cost(&self, i: u32, j: u32) -> i64 {
-        let a = &self.points[i as usize - 1];
-        let b = &self.points[j as usize - 1];
-        match self.kind {
-            WeightKind::Euc2d => euc_2d(*a, *b),
-            WeightKind::Ceil2d => ceil_2d(*a, *b),
-            WeightKind::Man2d => man_2d(*a, *b),
-            WeightKind::Max2d => max_2d(*a, *b),
-            WeightKind::Att => att(*a, *b),
-            WeightKind::Explicit => unreachable!(),
-        }
+        distance(
+            self.kind,
+            &self.points[i as usize - 1],
+            &self.points[j as usize - 1],
+        )
     }
 }
 
 impl Symmetric for Points<'_> {
     ghost even = { λ points i j different. points.symmetric _ _ };
+}
+
+/// The distance of two points by a weight type that is a distance.
+#[inline]
+#[tactic(auto, unfolding(tsp_fields::specs::Cost::distance))]
+fn distance(kind: WeightKind, a: &Point, b: &Point) -> i64
+    requires { kind ≢ Explicit }
+    ensures value { result ≡ distance kind a.now b.now }
+    ensures low { pos 0 ≤ℤ result }
+    ensures high { result ≤ℤ pos 4000000000 }
+{
+    match kind {
+        WeightKind::Euc2d => euc_2d(*a, *b),
+        WeightKind::Ceil2d => ceil_2d(*a, *b),
+        WeightKind::Man2d => man_2d(*a, *b),
+        WeightKind::Max2d => max_2d(*a, *b),
+        WeightKind::Att => att(*a, *b),
+        WeightKind::Explicit => unreachable!(),
+    }
 }
