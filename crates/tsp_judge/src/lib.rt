@@ -8,8 +8,6 @@ mod judge;
 mod limit;
 mod reading;
 mod report;
-#[cfg(test)]
-mod tests;
 mod verdict;
 
 pub use check::run_check;
