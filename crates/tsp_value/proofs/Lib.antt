@@ -1,4 +1,4 @@
 pub mod Counts
-pub mod LayoutWords
+pub mod FoundWords
 pub mod Lines
 pub mod Pairs

@@ -1,3 +1,7 @@
+pub mod Bytes
 pub mod Cells
+pub mod Keywords
 pub mod Layout
+pub mod Limits
+pub mod Values
 pub mod Words

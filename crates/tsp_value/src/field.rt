@@ -2,7 +2,9 @@
 
 ghost use Rattle.std.specs.Prelude.{◌≡◌};
 ghost use Rattle.tsp_value.specs.Words.{field_word};
+ghost use Rattle.tsp_value.specs.Values.{fields_in_order, field_found};
 
+use crate::word::Word;
 use std::fmt;
 
 /// A keyword or a section of a file, in canonical order; its text is the TSPLIB word.
@@ -33,10 +35,44 @@ pub enum Field {
 }
 
 impl Field {
-    /// The TSPLIB word.
-    pub fn word(self) -> &'static str
-        ensures { result.now ≡ field_word self }
-    {
+    /// Each field, in canonical order.
+    pub const ALL: [Field; 21] = [
+        Field::NameKey,
+        Field::TypeKey,
+        Field::CommentKey,
+        Field::OtherKey,
+        Field::DimensionKey,
+        Field::CapacityKey,
+        Field::ScaleKey,
+        Field::EdgeWeightTypeKey,
+        Field::EdgeWeightFormatKey,
+        Field::NodeCoordTypeKey,
+        Field::DisplayDataTypeKey,
+        Field::NodeCoordPart,
+        Field::DisplayDataPart,
+        Field::DemandPart,
+        Field::DepotPart,
+        Field::FixedEdgesPart,
+        Field::EdgeWeightPart,
+        Field::TourPart,
+        Field::NodePotentialPart,
+        Field::RowPotentialPart,
+        Field::ColumnPotentialPart,
+    ];
+}
+
+impl Word for Field {
+    ghost text = { field_word };
+
+    ghost values = { fields_in_order };
+
+    ghost found = { field_found };
+
+    fn all() -> &'static [Field] {
+        &Field::ALL
+    }
+
+    fn word(self) -> &'static str {
         match self {
             Field::NameKey => "NAME",
             Field::TypeKey => "TYPE",

@@ -2,8 +2,10 @@
 
 ghost use Rattle.std.specs.Prelude.{◌≡◌};
 ghost use Rattle.tsp_value.specs.Words.{kind_word, weight_kind_word, weight_format_word, coord_kind_word, display_kind_word};
+ghost use Rattle.tsp_value.specs.Values.{kinds, weight_kinds, weight_formats, coord_kinds, display_kinds, kind_found, weight_kind_found, weight_format_found, coord_kind_found, display_kind_found};
 
 use crate::layout::Layout;
+use crate::word::Word;
 
 /// What a file holds (TYPE).
 #[derive(Clone, Copy, Debug, PartialEq, Eq)]
@@ -21,10 +23,28 @@ pub enum Kind {
 }
 
 impl Kind {
-    /// The TSPLIB word.
-    pub fn word(self) -> &'static str
-        ensures { result.now ≡ kind_word self }
-    {
+    /// Each value.
+    pub const ALL: [Kind; 5] = [
+        Kind::Tsp,
+        Kind::Atsp,
+        Kind::Cvrp,
+        Kind::Tour,
+        Kind::Potentials,
+    ];
+}
+
+impl Word for Kind {
+    ghost text = { kind_word };
+
+    ghost values = { kinds };
+
+    ghost found = { kind_found };
+
+    fn all() -> &'static [Kind] {
+        &Kind::ALL
+    }
+
+    fn word(self) -> &'static str {
         match self {
             Kind::Tsp => "TSP",
             Kind::Atsp => "ATSP",
@@ -53,10 +73,29 @@ pub enum WeightKind {
 }
 
 impl WeightKind {
-    /// The TSPLIB word.
-    pub fn word(self) -> &'static str
-        ensures { result.now ≡ weight_kind_word self }
-    {
+    /// Each value.
+    pub const ALL: [WeightKind; 6] = [
+        WeightKind::Explicit,
+        WeightKind::Euc2d,
+        WeightKind::Ceil2d,
+        WeightKind::Man2d,
+        WeightKind::Max2d,
+        WeightKind::Att,
+    ];
+}
+
+impl Word for WeightKind {
+    ghost text = { weight_kind_word };
+
+    ghost values = { weight_kinds };
+
+    ghost found = { weight_kind_found };
+
+    fn all() -> &'static [WeightKind] {
+        &WeightKind::ALL
+    }
+
+    fn word(self) -> &'static str {
         match self {
             WeightKind::Explicit => "EXPLICIT",
             WeightKind::Euc2d => "EUC_2D",
@@ -78,10 +117,33 @@ pub enum WeightFormat {
 }
 
 impl WeightFormat {
-    /// The TSPLIB word.
-    pub fn word(self) -> &'static str
-        ensures { result.now ≡ weight_format_word self }
-    {
+    /// Each value.
+    pub const ALL: [WeightFormat; 10] = [
+        WeightFormat::ByFunction,
+        WeightFormat::Listed(Layout::FullMatrix),
+        WeightFormat::Listed(Layout::UpperRow),
+        WeightFormat::Listed(Layout::LowerRow),
+        WeightFormat::Listed(Layout::UpperDiagRow),
+        WeightFormat::Listed(Layout::LowerDiagRow),
+        WeightFormat::Listed(Layout::UpperCol),
+        WeightFormat::Listed(Layout::LowerCol),
+        WeightFormat::Listed(Layout::UpperDiagCol),
+        WeightFormat::Listed(Layout::LowerDiagCol),
+    ];
+}
+
+impl Word for WeightFormat {
+    ghost text = { weight_format_word };
+
+    ghost values = { weight_formats };
+
+    ghost found = { weight_format_found };
+
+    fn all() -> &'static [WeightFormat] {
+        &WeightFormat::ALL
+    }
+
+    fn word(self) -> &'static str {
         match self {
             WeightFormat::ByFunction => "FUNCTION",
             WeightFormat::Listed(layout) => layout.word(),
@@ -97,10 +159,25 @@ pub enum CoordKind {
 }
 
 impl CoordKind {
-    /// The TSPLIB word.
-    pub fn word(self) -> &'static str
-        ensures { result.now ≡ coord_kind_word self }
-    {
+    /// Each value.
+    pub const ALL: [CoordKind; 2] = [
+        CoordKind::TwoD,
+        CoordKind::NoCoords,
+    ];
+}
+
+impl Word for CoordKind {
+    ghost text = { coord_kind_word };
+
+    ghost values = { coord_kinds };
+
+    ghost found = { coord_kind_found };
+
+    fn all() -> &'static [CoordKind] {
+        &CoordKind::ALL
+    }
+
+    fn word(self) -> &'static str {
         match self {
             CoordKind::TwoD => "TWOD_COORDS",
             CoordKind::NoCoords => "NO_COORDS",
@@ -117,10 +194,26 @@ pub enum DisplayKind {
 }
 
 impl DisplayKind {
-    /// The TSPLIB word.
-    pub fn word(self) -> &'static str
-        ensures { result.now ≡ display_kind_word self }
-    {
+    /// Each value.
+    pub const ALL: [DisplayKind; 3] = [
+        DisplayKind::Coord,
+        DisplayKind::TwoD,
+        DisplayKind::NoDisplay,
+    ];
+}
+
+impl Word for DisplayKind {
+    ghost text = { display_kind_word };
+
+    ghost values = { display_kinds };
+
+    ghost found = { display_kind_found };
+
+    fn all() -> &'static [DisplayKind] {
+        &DisplayKind::ALL
+    }
+
+    fn word(self) -> &'static str {
         match self {
             DisplayKind::Coord => "COORD_DISPLAY",
             DisplayKind::TwoD => "TWOD_DISPLAY",

@@ -4,7 +4,10 @@ ghost use Rattle.std.specs.Prelude.{◌≡◌, ◌≢◌, ℕ, ◌≤◌, ◌↔
 ghost use Rattle.std.specs.List.{Contains, AllPairs, flat_map};
 ghost use Rattle.tsp_value.specs.declared.layout.Layout.{Layout};
 ghost use Rattle.tsp_value.specs.Layout.{layout_word, goes_by_columns};
+ghost use Rattle.tsp_value.specs.Values.{layouts, layout_found};
 ghost use Rattle.tsp_value.specs.Cells.{nodes_to, IsNode, is_listed, cells, cells_of_line, cell_count_of, line_len_of};
+
+use crate::word::{Word, value_of};
 
 /// Which weights of a matrix a file lists, and in which order.
 ///
@@ -23,36 +26,19 @@ pub enum Layout {
     LowerDiagCol,
 }
 
-/// All layouts.
-const LAYOUTS: [Layout; 9] = [
-    Layout::FullMatrix,
-    Layout::UpperRow,
-    Layout::LowerRow,
-    Layout::UpperDiagRow,
-    Layout::LowerDiagRow,
-    Layout::UpperCol,
-    Layout::LowerCol,
-    Layout::UpperDiagCol,
-    Layout::LowerDiagCol,
-];
-
 impl Layout {
-    /// The word that TSPLIB 95 has for this layout.
-    pub fn word(self) -> &'static str
-        ensures { result.now ≡ layout_word self }
-    {
-        match self {
-            Layout::FullMatrix => "FULL_MATRIX",
-            Layout::UpperRow => "UPPER_ROW",
-            Layout::LowerRow => "LOWER_ROW",
-            Layout::UpperDiagRow => "UPPER_DIAG_ROW",
-            Layout::LowerDiagRow => "LOWER_DIAG_ROW",
-            Layout::UpperCol => "UPPER_COL",
-            Layout::LowerCol => "LOWER_COL",
-            Layout::UpperDiagCol => "UPPER_DIAG_COL",
-            Layout::LowerDiagCol => "LOWER_DIAG_COL",
-        }
-    }
+    /// Each layout.
+    pub const ALL: [Layout; 9] = [
+        Layout::FullMatrix,
+        Layout::UpperRow,
+        Layout::LowerRow,
+        Layout::UpperDiagRow,
+        Layout::LowerDiagRow,
+        Layout::UpperCol,
+        Layout::LowerCol,
+        Layout::UpperDiagCol,
+        Layout::LowerDiagCol,
+    ];
 
     /// The layout with this word, byte by byte, or `None` where no layout has it.
     pub fn of_word(word: &str) -> Option<Layout>
@@ -60,12 +46,7 @@ impl Layout {
             (result ≡ Some layout) ↔ (word.now ≡ layout_word layout) }
         ensures unknown { IsNone result ↔ ((layout : Layout) → word.now ≢ layout_word layout) }
     {
-        for layout in LAYOUTS {
-            if word == layout.word() {
-                return Some(layout);
-            }
-        }
-        None
+        value_of(word.as_bytes())
     }
 
     /// Whether the cells go by columns.
@@ -111,6 +92,32 @@ impl Layout {
             Layout::LowerRow | Layout::UpperCol => line - 1,
             Layout::UpperDiagRow | Layout::LowerDiagCol => nodes - line + 1,
             Layout::LowerDiagRow | Layout::UpperDiagCol => line,
+        }
+    }
+}
+
+impl Word for Layout {
+    ghost text = { layout_word };
+
+    ghost values = { layouts };
+
+    ghost found = { layout_found };
+
+    fn all() -> &'static [Layout] {
+        &Layout::ALL
+    }
+
+    fn word(self) -> &'static str {
+        match self {
+            Layout::FullMatrix => "FULL_MATRIX",
+            Layout::UpperRow => "UPPER_ROW",
+            Layout::LowerRow => "LOWER_ROW",
+            Layout::UpperDiagRow => "UPPER_DIAG_ROW",
+            Layout::LowerDiagRow => "LOWER_DIAG_ROW",
+            Layout::UpperCol => "UPPER_COL",
+            Layout::LowerCol => "LOWER_COL",
+            Layout::UpperDiagCol => "UPPER_DIAG_COL",
+            Layout::LowerDiagCol => "LOWER_DIAG_COL",
         }
     }
 }

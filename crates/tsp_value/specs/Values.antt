@@ -1,0 +1,123 @@
+-- The values that TSPLIB 95 has words for, each once: each is the first with its own word.
+use Rattle.std.specs.Prelude.{◌≡◌, ℕ, List, [], ◌∷◌, Some, refl}
+use Rattle.std.specs.List.{find}
+use Rattle.std.specs.Str.{bytes_eq}
+use Rattle.tsp_value.specs.declared.kinds.Kind.{Kind}
+use Rattle.tsp_value.specs.declared.kinds.Kind.TheVariants as kind
+use Rattle.tsp_value.specs.declared.kinds.WeightKind.{WeightKind}
+use Rattle.tsp_value.specs.declared.kinds.WeightKind.TheVariants as weight_kind
+use Rattle.tsp_value.specs.declared.kinds.WeightFormat.{WeightFormat}
+use Rattle.tsp_value.specs.declared.kinds.WeightFormat.TheVariants as format
+use Rattle.tsp_value.specs.declared.kinds.CoordKind.{CoordKind}
+use Rattle.tsp_value.specs.declared.kinds.CoordKind.TheVariants as coord_kind
+use Rattle.tsp_value.specs.declared.kinds.DisplayKind.{DisplayKind}
+use Rattle.tsp_value.specs.declared.kinds.DisplayKind.TheVariants as display_kind
+use Rattle.tsp_value.specs.declared.layout.Layout.{Layout}
+use Rattle.tsp_value.specs.declared.layout.Layout.TheVariants as layout
+use Rattle.tsp_value.specs.declared.field.Field.{Field}
+use Rattle.tsp_value.specs.declared.field.Field.TheVariants as field
+use Rattle.tsp_value.specs.Words.{field_word, kind_word, weight_kind_word, weight_format_word, coord_kind_word, display_kind_word}
+use Rattle.tsp_value.specs.Layout.{layout_word}
+
+-- the value is the first of the list with its word
+abbrev pub IsFound : {V : Type 0} → (V → List ℕ) → List V → V → Type 0
+IsFound text values value = find (λ other. bytes_eq (text value) (text other)) values ≡ Some value
+
+-- the values of TYPE
+abbrev pub kinds : List Kind
+kinds = kind.Tsp ∷ kind.Atsp ∷ kind.Cvrp ∷ kind.Tour ∷ kind.Potentials ∷ []
+
+pub kind_found : (value : Kind) → IsFound kind_word kinds value
+kind_found kind.Tsp = refl
+kind_found kind.Atsp = refl
+kind_found kind.Cvrp = refl
+kind_found kind.Tour = refl
+kind_found kind.Potentials = refl
+
+-- the values of EDGE_WEIGHT_TYPE
+abbrev pub weight_kinds : List WeightKind
+weight_kinds = weight_kind.Explicit ∷ weight_kind.Euc2d ∷ weight_kind.Ceil2d ∷ weight_kind.Man2d ∷ weight_kind.Max2d ∷ weight_kind.Att ∷ []
+
+pub weight_kind_found : (value : WeightKind) → IsFound weight_kind_word weight_kinds value
+weight_kind_found weight_kind.Explicit = refl
+weight_kind_found weight_kind.Euc2d = refl
+weight_kind_found weight_kind.Ceil2d = refl
+weight_kind_found weight_kind.Man2d = refl
+weight_kind_found weight_kind.Max2d = refl
+weight_kind_found weight_kind.Att = refl
+
+-- the layouts
+abbrev pub layouts : List Layout
+layouts = layout.FullMatrix ∷ layout.UpperRow ∷ layout.LowerRow ∷ layout.UpperDiagRow ∷ layout.LowerDiagRow ∷ layout.UpperCol ∷ layout.LowerCol ∷ layout.UpperDiagCol ∷ layout.LowerDiagCol ∷ []
+
+pub layout_found : (value : Layout) → IsFound layout_word layouts value
+layout_found layout.FullMatrix = refl
+layout_found layout.UpperRow = refl
+layout_found layout.LowerRow = refl
+layout_found layout.UpperDiagRow = refl
+layout_found layout.LowerDiagRow = refl
+layout_found layout.UpperCol = refl
+layout_found layout.LowerCol = refl
+layout_found layout.UpperDiagCol = refl
+layout_found layout.LowerDiagCol = refl
+
+-- the values of EDGE_WEIGHT_FORMAT
+abbrev pub weight_formats : List WeightFormat
+weight_formats = format.ByFunction ∷ (format.Listed layout.FullMatrix) ∷ (format.Listed layout.UpperRow) ∷ (format.Listed layout.LowerRow) ∷ (format.Listed layout.UpperDiagRow) ∷ (format.Listed layout.LowerDiagRow) ∷ (format.Listed layout.UpperCol) ∷ (format.Listed layout.LowerCol) ∷ (format.Listed layout.UpperDiagCol) ∷ (format.Listed layout.LowerDiagCol) ∷ []
+
+pub weight_format_found : (value : WeightFormat) → IsFound weight_format_word weight_formats value
+weight_format_found format.ByFunction = refl
+weight_format_found (format.Listed layout.FullMatrix) = refl
+weight_format_found (format.Listed layout.UpperRow) = refl
+weight_format_found (format.Listed layout.LowerRow) = refl
+weight_format_found (format.Listed layout.UpperDiagRow) = refl
+weight_format_found (format.Listed layout.LowerDiagRow) = refl
+weight_format_found (format.Listed layout.UpperCol) = refl
+weight_format_found (format.Listed layout.LowerCol) = refl
+weight_format_found (format.Listed layout.UpperDiagCol) = refl
+weight_format_found (format.Listed layout.LowerDiagCol) = refl
+
+-- the values of NODE_COORD_TYPE
+abbrev pub coord_kinds : List CoordKind
+coord_kinds = coord_kind.TwoD ∷ coord_kind.NoCoords ∷ []
+
+pub coord_kind_found : (value : CoordKind) → IsFound coord_kind_word coord_kinds value
+coord_kind_found coord_kind.TwoD = refl
+coord_kind_found coord_kind.NoCoords = refl
+
+-- the values of DISPLAY_DATA_TYPE
+abbrev pub display_kinds : List DisplayKind
+display_kinds = display_kind.Coord ∷ display_kind.TwoD ∷ display_kind.NoDisplay ∷ []
+
+pub display_kind_found : (value : DisplayKind) → IsFound display_kind_word display_kinds value
+display_kind_found display_kind.Coord = refl
+display_kind_found display_kind.TwoD = refl
+display_kind_found display_kind.NoDisplay = refl
+
+-- the fields in canonical order
+abbrev pub fields_in_order : List Field
+fields_in_order = field.NameKey ∷ field.TypeKey ∷ field.CommentKey ∷ field.OtherKey ∷ field.DimensionKey ∷ field.CapacityKey ∷ field.ScaleKey ∷ field.EdgeWeightTypeKey ∷ field.EdgeWeightFormatKey ∷ field.NodeCoordTypeKey ∷ field.DisplayDataTypeKey ∷ field.NodeCoordPart ∷ field.DisplayDataPart ∷ field.DemandPart ∷ field.DepotPart ∷ field.FixedEdgesPart ∷ field.EdgeWeightPart ∷ field.TourPart ∷ field.NodePotentialPart ∷ field.RowPotentialPart ∷ field.ColumnPotentialPart ∷ []
+
+pub field_found : (value : Field) → IsFound field_word fields_in_order value
+field_found field.NameKey = refl
+field_found field.TypeKey = refl
+field_found field.CommentKey = refl
+field_found field.OtherKey = refl
+field_found field.DimensionKey = refl
+field_found field.CapacityKey = refl
+field_found field.ScaleKey = refl
+field_found field.EdgeWeightTypeKey = refl
+field_found field.EdgeWeightFormatKey = refl
+field_found field.NodeCoordTypeKey = refl
+field_found field.DisplayDataTypeKey = refl
+field_found field.NodeCoordPart = refl
+field_found field.DisplayDataPart = refl
+field_found field.DemandPart = refl
+field_found field.DepotPart = refl
+field_found field.FixedEdgesPart = refl
+field_found field.EdgeWeightPart = refl
+field_found field.TourPart = refl
+field_found field.NodePotentialPart = refl
+field_found field.RowPotentialPart = refl
+field_found field.ColumnPotentialPart = refl
+
