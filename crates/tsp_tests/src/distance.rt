@@ -1,9 +1,7 @@
 //! The distances: examples worked by hand.
 
 use std::test::Fail;
-use tsp_number::{
-    NumberFault, Point, att, ceil_2d, euc_2d, man_2d, max_2d, parse_decimal,
-};
+use tsp_number::{NumberFault, Point, att, ceil_2d, euc_2d, man_2d, max_2d, parse_decimal};
 
 /// The point with these words as coordinates.
 fn point(x: &[u8], y: &[u8]) -> Result<Point, NumberFault> {
@@ -15,9 +13,7 @@ fn point(x: &[u8], y: &[u8]) -> Result<Point, NumberFault> {
 }
 
 #[test]
-fn distances_from_the_origin_are_rounded_as_their_kinds_say(
-    rt: HostRuntime,
-) -> Result<(), Fail> {
+fn distances_from_the_origin_are_rounded_as_their_kinds_say(rt: HostRuntime) -> Result<(), Fail> {
     let origin = point(b"0", b"0")?;
     assert_eq!(rt; euc_2d(origin, point(b"1.5", b"0")?), 2);
     assert_eq!(rt; euc_2d(origin, point(b"2.5", b"0")?), 3);

@@ -1,6 +1,6 @@
 //! The layouts of a matrix: examples worked by hand.
 
-use tsp_value::Layout;
+use tsp_value::{Layout, Word};
 
 /// The nine words of TSPLIB 95, and their layouts.
 const WORDS: [(&str, Layout); 9] = [
@@ -90,7 +90,11 @@ fn cells_are_counted(rt: HostRuntime) {
         assert_eq!(rt; Layout::FullMatrix.cell_count(nodes), all, "{nodes}");
         for (without, with) in SIDES {
             assert_eq!(rt; without.cell_count(nodes), side, "{without:?} of {nodes}");
-            assert_eq!(rt; with.cell_count(nodes), side_with_diagonal, "{with:?} of {nodes}");
+            assert_eq!(rt;
+                with.cell_count(nodes),
+                side_with_diagonal,
+                "{with:?} of {nodes}"
+            );
         }
     }
 }

@@ -14,6 +14,8 @@ mod distance;
 #[cfg(test)]
 mod files;
 #[cfg(test)]
+mod keyword;
+#[cfg(test)]
 mod layout;
 #[cfg(test)]
 mod number;

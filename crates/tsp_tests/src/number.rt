@@ -2,9 +2,7 @@
 
 use std::test::Fail;
 use tsp_number::NumberFault::{BadNumber, LongWord, NotWhole, OutOfRange, TooFine};
-use tsp_number::{
-    Decimal, NumberFault, parse_decimal, parse_whole, write_decimal,
-};
+use tsp_number::{Decimal, NumberFault, parse_decimal, parse_whole, write_decimal};
 
 /// The count of 10^-9 that a word is read as.
 fn count_of(word: &[u8]) -> Result<i128, NumberFault> {

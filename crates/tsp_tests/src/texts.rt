@@ -39,8 +39,14 @@ fn fields_print_their_words(rt: HostRuntime) -> Result<(), Fail> {
 fn faults_at_the_end_of_a_file_print_their_names_and_fields(rt: HostRuntime) -> Result<(), Fail> {
     for (fault, text) in [
         (EndFault::Missing(Field::TypeKey), "Missing TYPE"),
-        (EndFault::Missing(Field::NodeCoordPart), "Missing NODE_COORD_SECTION"),
-        (EndFault::Incomplete(Field::DemandPart), "Incomplete DEMAND_SECTION"),
+        (
+            EndFault::Missing(Field::NodeCoordPart),
+            "Missing NODE_COORD_SECTION",
+        ),
+        (
+            EndFault::Incomplete(Field::DemandPart),
+            "Incomplete DEMAND_SECTION",
+        ),
         (
             EndFault::Incomplete(Field::FixedEdgesPart),
             "Incomplete FIXED_EDGES_SECTION",
@@ -72,7 +78,11 @@ fn bad_fields_print_their_words(rt: HostRuntime) -> Result<(), Fail> {
 #[test]
 fn faults_of_reading_print_their_texts_and_their_file(rt: HostRuntime) -> Result<(), Fail> {
     for (fault, text, text_of_file) in [
-        (ReadFault::OutOfMemory, "out of memory", "file 2: out of memory"),
+        (
+            ReadFault::OutOfMemory,
+            "out of memory",
+            "file 2: out of memory",
+        ),
         (ReadFault::Device, "device", "file 2: device"),
         (ReadFault::TooLong, "too long", "file 2: too long"),
     ] {
@@ -90,7 +100,11 @@ fn faults_of_reading_print_their_texts_and_their_file(rt: HostRuntime) -> Result
 fn faults_of_writing_print_their_texts(rt: HostRuntime) -> Result<(), Fail> {
     for (fault, text, text_of_run) in [
         (WriteFault::Device, "device", "output: device"),
-        (WriteFault::OutOfMemory, "out of memory", "output: out of memory"),
+        (
+            WriteFault::OutOfMemory,
+            "out of memory",
+            "output: out of memory",
+        ),
     ] {
         assert_eq!(rt; fault.to_string(rt.alloc())?.as_str(), text);
         let of_run = RunFault::Write(fault).to_string(rt.alloc())?;

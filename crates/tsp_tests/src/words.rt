@@ -1,10 +1,12 @@
 //! The words of TSPLIB 95 and of this project's own additions, spelled out.
 
-use tsp_value::{CoordKind, DisplayKind, Field, Kind, Layout, WeightFormat, WeightKind};
+use tsp_value::{
+    CoordKind, DisplayKind, Field, Kind, Layout, WeightFormat, WeightKind, Word, value_of,
+};
 
 #[test]
-fn each_keyword_and_section_has_its_word(rt: HostRuntime) {
-    for (field, word) in [
+fn fields_stand_in_canonical_order_and_have_their_words(rt: HostRuntime) {
+    let words = [
         (Field::NameKey, "NAME"),
         (Field::TypeKey, "TYPE"),
         (Field::CommentKey, "COMMENT"),
@@ -26,8 +28,12 @@ fn each_keyword_and_section_has_its_word(rt: HostRuntime) {
         (Field::NodePotentialPart, "NODE_POTENTIAL_SECTION"),
         (Field::RowPotentialPart, "ROW_POTENTIAL_SECTION"),
         (Field::ColumnPotentialPart, "COLUMN_POTENTIAL_SECTION"),
-    ] {
-        assert_eq!(rt; field.word(), word);
+    ];
+    assert_eq!(rt; Field::all().len(), words.len());
+    for (listed, (field, word)) in Field::all().iter().zip(&words) {
+        assert_eq!(rt; *listed, *field);
+        assert_eq!(rt; field.word(), *word);
+        assert_eq!(rt; value_of(word.as_bytes()), Some(*field));
     }
 }
 
@@ -41,6 +47,7 @@ fn each_type_has_its_word(rt: HostRuntime) {
         (Kind::Potentials, "POTENTIALS"),
     ] {
         assert_eq!(rt; kind.word(), word);
+        assert_eq!(rt; value_of(word.as_bytes()), Some(kind));
     }
 }
 
@@ -55,6 +62,7 @@ fn each_weight_type_has_its_word(rt: HostRuntime) {
         (WeightKind::Att, "ATT"),
     ] {
         assert_eq!(rt; kind.word(), word);
+        assert_eq!(rt; value_of(word.as_bytes()), Some(kind));
     }
 }
 
@@ -73,14 +81,49 @@ fn each_weight_format_has_its_word(rt: HostRuntime) {
         (WeightFormat::Listed(Layout::LowerDiagCol), "LOWER_DIAG_COL"),
     ] {
         assert_eq!(rt; format.word(), word);
+        assert_eq!(rt; value_of(word.as_bytes()), Some(format));
     }
 }
 
 #[test]
 fn coordinates_and_displays_have_their_words(rt: HostRuntime) {
-    assert_eq!(rt; CoordKind::TwoD.word(), "TWOD_COORDS");
-    assert_eq!(rt; CoordKind::NoCoords.word(), "NO_COORDS");
-    assert_eq!(rt; DisplayKind::Coord.word(), "COORD_DISPLAY");
-    assert_eq!(rt; DisplayKind::TwoD.word(), "TWOD_DISPLAY");
-    assert_eq!(rt; DisplayKind::NoDisplay.word(), "NO_DISPLAY");
+    for (kind, word) in [
+        (CoordKind::TwoD, "TWOD_COORDS"),
+        (CoordKind::NoCoords, "NO_COORDS"),
+    ] {
+        assert_eq!(rt; kind.word(), word);
+        assert_eq!(rt; value_of(word.as_bytes()), Some(kind));
+    }
+    for (kind, word) in [
+        (DisplayKind::Coord, "COORD_DISPLAY"),
+        (DisplayKind::TwoD, "TWOD_DISPLAY"),
+        (DisplayKind::NoDisplay, "NO_DISPLAY"),
+    ] {
+        assert_eq!(rt; kind.word(), word);
+        assert_eq!(rt; value_of(word.as_bytes()), Some(kind));
+    }
+}
+
+#[test]
+fn other_words_have_no_value(rt: HostRuntime) {
+    for word in [
+        b"".as_slice(),
+        b"tsp".as_slice(),
+        b"TSP ".as_slice(),
+        b"TS".as_slice(),
+        b"TSPS".as_slice(),
+        b"HCP".as_slice(),
+        b"SOP".as_slice(),
+    ] {
+        assert_eq!(rt; value_of::<Kind>(word), None, "{word:?}");
+    }
+    for word in [
+        b"GEO".as_slice(),
+        b"EUC_3D".as_slice(),
+        b"SPECIAL".as_slice(),
+    ] {
+        assert_eq!(rt; value_of::<WeightKind>(word), None, "{word:?}");
+    }
+    assert_eq!(rt; value_of::<CoordKind>(b"THREED_COORDS"), None);
+    assert_eq!(rt; value_of::<Field>(b"FIXED_EDGES"), None);
 }

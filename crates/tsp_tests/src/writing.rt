@@ -26,7 +26,11 @@ fn a_text_goes_out_in_parts_until_the_writer_fails(rt: HostRuntime) {
             assert_eq!(rt; out.failed(), answer.is_err());
             let drip = out.into_inner();
             assert_eq!(rt; drip.held(), held);
-            assert_eq!(rt; drip.calls(), calls, "nothing is written after a failed write");
+            assert_eq!(rt;
+                drip.calls(),
+                calls,
+                "nothing is written after a failed write"
+            );
         }
     }
 }

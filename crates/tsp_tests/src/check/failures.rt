@@ -145,8 +145,14 @@ fn a_writer_that_had_failed_counts_in_its_turn(rt: HostRuntime) {
 #[test]
 fn a_yes_and_a_no_are_not_answered_where_the_report_fails(rt: HostRuntime) {
     for (words, front) in [
-        ("TYPE : TOUR\nTOUR_SECTION\n1 2 3 -1\nEOF\n", "type ATSP\nnodes 3\nlength 6\n"),
-        ("TYPE : TOUR\nTOUR_SECTION\n1 2 -1\nEOF\n", "type ATSP\nnodes 3\nno TourLe"),
+        (
+            "TYPE : TOUR\nTOUR_SECTION\n1 2 3 -1\nEOF\n",
+            "type ATSP\nnodes 3\nlength 6\n",
+        ),
+        (
+            "TYPE : TOUR\nTOUR_SECTION\n1 2 -1\nEOF\n",
+            "type ATSP\nnodes 3\nno TourLe",
+        ),
     ] {
         let mut inst = reader(THREE_NODES, NEVER);
         let mut sol = reader(words, NEVER);

@@ -39,11 +39,7 @@ pub(crate) fn upper_row(alloc: Global, n: u32, count: usize) -> Result<Draft, Al
 }
 
 /// An instance of four nodes under a layout, with the weights from 1 on.
-pub(crate) fn four_nodes(
-    alloc: Global,
-    layout: Layout,
-    count: u8,
-) -> Result<Draft, AllocError> {
+pub(crate) fn four_nodes(alloc: Global, layout: Layout, count: u8) -> Result<Draft, AllocError> {
     let mut draft = upper_row(alloc, 4, 0)?;
     draft.weight_format = Some(WeightFormat::Listed(layout));
     let mut weights = Vec::new(alloc);
