@@ -6,7 +6,7 @@ use Rattle.std.specs.List.{fold, list_all, sum_by}
 use Rattle.std.proofs.lemmas.Bool.{le-leb}
 use Rattle.std.proofs.lemmas.List.{length-map}
 use Rattle.std.proofs.lemmas.List.Folds.{list_all-map}
-use Rattle.tsp_value.specs.declared.limits.TheConstants.{MOST_TOUR_NODES}
+use Rattle.tsp_value.specs.Limits.{most_tour_nodes}
 use Rattle.tsp_fields.specs.Validity.{is_tour, are_tours}
 
 pub mapped_all : {X Y : Type 0} (h : Y → X) (p : X → Bool) (ys : List Y) (r : Bool) (most count : ℕ) → r ≡ list_all (λ y. p (h y)) ys → count ≤ most → count ≡ length ys
@@ -22,6 +22,6 @@ fold_mapped f h total (y ∷ ys) = fold_mapped f h (total + f (h y)) ys
 sum_by_mapped : {X Y : Type 0} (f : X → ℕ) (h : Y → X) (ys : List Y) → sum_by f (map h ys) ≡ sum_by (λ y. f (h y)) ys
 sum_by_mapped f h ys = fold_mapped f h 0 ys
 
-pub mapped_tours : (tours : List (Vec ℕ)) (r : Bool) → r ≡ (list_all (λ tour. is_tour tour.items) tours && nat_le (sum_by (λ tour. length tour.items) tours) MOST_TOUR_NODES)
+pub mapped_tours : (tours : List (Vec ℕ)) (r : Bool) → r ≡ (list_all (λ tour. is_tour tour.items) tours && nat_le (sum_by (λ tour. length tour.items) tours) most_tour_nodes)
     → r ≡ are_tours (map (λ tour. tour.items) tours)
 mapped_tours tours r e = e ∙ rw (list_all-map is_tour (λ (tour : Vec ℕ). tour.items) tours, sum_by_mapped (λ (t : List ℕ). length t) (λ (tour : Vec ℕ). tour.items) tours) refl

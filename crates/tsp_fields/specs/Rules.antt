@@ -1,6 +1,7 @@
--- What the fields of a file have to be together, and the first fault of a draft.
-use Rattle.std.specs.Prelude.{ℕ, Bool, true, false, cond, not, ◌&&◌, ◌||◌, ◌==◌, List, [], ◌∷◌, ◌++◌, length, Option, None, Some, ℤ, is_some}
-use Rattle.std.specs.Option.{option_map}
+-- What the fields of a file have to be together, judged over what stands in it, and the first fault of a draft.
+-- Which keyword and section each TYPE asks for is TSPLIB 95 (G. Reinelt) and this project's profile of it.
+use Rattle.std.specs.Prelude.{ℕ, Bool, true, false, cond, not, ◌&&◌, ◌||◌, ◌==◌, List, [], ◌∷◌, length, Option, None, Some, is_some}
+use Rattle.std.specs.Option.{option_map, option_or}
 use Rattle.tsp_value.specs.declared.kinds.Kind.{Kind}
 use Rattle.tsp_value.specs.declared.kinds.Kind.TheVariants as kinds
 use Rattle.tsp_value.specs.declared.kinds.WeightKind.{WeightKind}
@@ -8,14 +9,64 @@ use Rattle.tsp_value.specs.declared.kinds.WeightKind.TheVariants as weight_kinds
 use Rattle.tsp_value.specs.declared.kinds.WeightFormat.{WeightFormat}
 use Rattle.tsp_value.specs.declared.kinds.WeightFormat.TheVariants as formats
 use Rattle.tsp_value.specs.declared.field.Field.{Field}
-use Rattle.tsp_value.specs.declared.field.Field.TheVariants as fields
+use Rattle.tsp_value.specs.declared.field.Field.TheVariants.{NameKey, TypeKey, CommentKey, OtherKey, DimensionKey, CapacityKey, ScaleKey, EdgeWeightTypeKey, EdgeWeightFormatKey, NodeCoordTypeKey, DisplayDataTypeKey, NodeCoordPart, DisplayDataPart, DemandPart, DepotPart, FixedEdgesPart, EdgeWeightPart, TourPart, NodePotentialPart, RowPotentialPart, ColumnPotentialPart}
 use Rattle.tsp_fields.specs.declared.fault.EndFault.{EndFault}
-use Rattle.tsp_fields.specs.declared.fault.EndFault.TheVariants.{Missing, WrongFormat, WrongCount}
+use Rattle.tsp_fields.specs.declared.fault.EndFault.TheVariants.{Missing, Incomplete, WrongFormat, WrongCount}
 use Rattle.tsp_fields.specs.declared.fault.DraftFault.{DraftFault}
 use Rattle.tsp_fields.specs.declared.fault.DraftFault.TheVariants.{BadField, Rule}
 use Rattle.tsp_value.specs.Cells.{cells}
 use Rattle.tsp_fields.specs.Fields.{Fields}
-use Rattle.tsp_fields.specs.Validity.{fits_in_order, first_failing}
+use Rattle.tsp_fields.specs.Validity.{first_failing, bad_field}
+
+-- ---- what stands
+
+-- What stands in a file: which fields, what it is, how its weights are given, and how many they are.
+pub record Standing : Type 0 where
+  pub stands : Field → Bool
+  pub kind : Option Kind
+  pub weight_kind : Option WeightKind
+  pub weight_format : Option WeightFormat
+  pub dimension : Option ℕ
+  pub weight_count : ℕ
+
+-- whether a field stands; comments and unknown keywords may be none
+abbrev pub stands_in : Fields → Field → Bool
+stands_in f NameKey = is_some f.name
+stands_in f TypeKey = is_some f.kind
+stands_in f CommentKey = true
+stands_in f OtherKey = true
+stands_in f DimensionKey = is_some f.dimension
+stands_in f CapacityKey = is_some f.capacity
+stands_in f ScaleKey = is_some f.scale
+stands_in f EdgeWeightTypeKey = is_some f.weight_kind
+stands_in f EdgeWeightFormatKey = is_some f.weight_format
+stands_in f NodeCoordTypeKey = is_some f.coord_kind
+stands_in f DisplayDataTypeKey = is_some f.display_kind
+stands_in f NodeCoordPart = is_some f.coords
+stands_in f DisplayDataPart = is_some f.display
+stands_in f DemandPart = is_some f.demands
+stands_in f DepotPart = is_some f.depots
+stands_in f FixedEdgesPart = is_some f.fixed
+stands_in f EdgeWeightPart = is_some f.weights
+stands_in f TourPart = is_some f.tours
+stands_in f NodePotentialPart = is_some f.node_potentials
+stands_in f RowPotentialPart = is_some f.row_potentials
+stands_in f ColumnPotentialPart = is_some f.column_potentials
+
+abbrev pub count_of : {A : Type 0} → Option (List A) → ℕ
+count_of None = 0
+count_of (Some xs) = length xs
+
+-- what stands in these fields
+abbrev pub standing_of : Fields → Standing
+standing_of f = record {
+  stands = stands_in f;
+  kind = f.kind;
+  weight_kind = f.weight_kind;
+  weight_format = f.weight_format;
+  dimension = f.dimension;
+  weight_count = count_of f.weights;
+}
 
 -- ---- what a file is
 
@@ -66,74 +117,73 @@ is_function (Some (formats.Listed layout)) = false
 is_function None = false
 
 -- its weights are listed
-abbrev pub lists_weights : Fields → Bool
-lists_weights f = is_instance f.kind && is_explicit f.weight_kind
+abbrev pub lists_weights : Standing → Bool
+lists_weights s = is_instance s.kind && is_explicit s.weight_kind
 
 -- its weights are distances
-abbrev pub has_distances : Fields → Bool
-has_distances f = is_instance f.kind && is_some f.weight_kind && not (is_explicit f.weight_kind)
+abbrev pub has_distances : Standing → Bool
+has_distances s = is_instance s.kind && is_some s.weight_kind && not (is_explicit s.weight_kind)
+
+abbrev pub has_row_or_column : Standing → Bool
+has_row_or_column s = s.stands RowPotentialPart || s.stands ColumnPotentialPart
 
 -- ---- what may be missing
 
--- what is asked for is there
-abbrev pub asked : Bool → Bool → Bool
-asked wanted there = not wanted || there
+-- the field is asked for
+abbrev pub is_asked : Standing → Field → Bool
+is_asked s TypeKey = true
+is_asked s DimensionKey = not (is_tours s.kind)
+is_asked s CapacityKey = is_routing s.kind
+is_asked s EdgeWeightTypeKey = is_instance s.kind
+is_asked s EdgeWeightFormatKey = lists_weights s || s.stands EdgeWeightPart
+is_asked s NodeCoordPart = has_distances s
+is_asked s DemandPart = is_routing s.kind
+is_asked s DepotPart = is_routing s.kind
+is_asked s EdgeWeightPart = lists_weights s
+is_asked s TourPart = is_tours s.kind
+is_asked s NodePotentialPart = is_certificate s.kind && not (has_row_or_column s)
+is_asked s RowPotentialPart = is_certificate s.kind && s.stands ColumnPotentialPart
+is_asked s ColumnPotentialPart = is_certificate s.kind && s.stands RowPotentialPart
+is_asked s field = false
 
--- The fields that may be asked for, in order, and whether each is there if it is: those that say what the file is,
-abbrev pub head_in_order : Fields → List (Field × Bool)
-head_in_order f = (fields.TypeKey, is_some f.kind)
-    ∷ (fields.DimensionKey, asked (not (is_tours f.kind)) (is_some f.dimension))
-    ∷ (fields.EdgeWeightTypeKey, asked (is_instance f.kind) (is_some f.weight_kind))
-    ∷ (fields.EdgeWeightFormatKey, asked (lists_weights f || is_some f.weights) (is_some f.weight_format)) ∷ []
+-- the field isn't missing
+abbrev pub is_there : Standing → Field → Bool
+is_there s field = not (is_asked s field) || s.stands field
 
--- those of instances and of tours,
-abbrev pub data_in_order : Fields → List (Field × Bool)
-data_in_order f = (fields.CapacityKey, asked (is_routing f.kind) (is_some f.capacity))
-    ∷ (fields.NodeCoordPart, asked (has_distances f) (is_some f.coords))
-    ∷ (fields.EdgeWeightPart, asked (lists_weights f) (is_some f.weights))
-    ∷ (fields.DemandPart, asked (is_routing f.kind) (is_some f.demands))
-    ∷ (fields.DepotPart, asked (is_routing f.kind) (is_some f.depots))
-    ∷ (fields.TourPart, asked (is_tours f.kind) (is_some f.tours)) ∷ []
-
--- and those of potentials: one for each node, or one for each row and each column
-abbrev pub potentials_in_order : Fields → List (Field × Bool)
-potentials_in_order f = (fields.NodePotentialPart, asked (is_certificate f.kind && not (is_some f.row_potentials || is_some f.column_potentials)) (is_some f.node_potentials))
-    ∷ (fields.RowPotentialPart, asked (is_certificate f.kind && is_some f.column_potentials) (is_some f.row_potentials))
-    ∷ (fields.ColumnPotentialPart, asked (is_certificate f.kind && is_some f.row_potentials) (is_some f.column_potentials)) ∷ []
-
-abbrev pub there_in_order : Fields → List (Field × Bool)
-there_in_order f = head_in_order f ++ data_in_order f ++ potentials_in_order f
+-- the fields that some file is asked for, in the order in which they are missed
+abbrev pub asked_in_order : List Field
+asked_in_order = TypeKey ∷ DimensionKey ∷ EdgeWeightTypeKey ∷ EdgeWeightFormatKey ∷ CapacityKey ∷ NodeCoordPart ∷ EdgeWeightPart
+    ∷ DemandPart ∷ DepotPart ∷ TourPart ∷ NodePotentialPart ∷ RowPotentialPart ∷ ColumnPotentialPart ∷ []
 
 -- ---- what may not go together
 
 -- a function in the place of listed weights, or potentials of both sorts
-abbrev pub has_wrong_format : Fields → Bool
-has_wrong_format f = (is_function f.weight_format && (lists_weights f || is_some f.weights))
-    || (is_certificate f.kind && is_some f.node_potentials && (is_some f.row_potentials || is_some f.column_potentials))
+abbrev pub has_wrong_format : Standing → Bool
+has_wrong_format s = (is_function s.weight_format && (lists_weights s || s.stands EdgeWeightPart))
+    || (is_certificate s.kind && s.stands NodePotentialPart && has_row_or_column s)
 
--- The weights are as many as the cells of the layout. (Where the dimension or the layout is missing another rule fails.)
-abbrev pub has_count : Option ℕ → Option WeightFormat → Option (List ℤ) → Bool
-has_count (Some n) (Some (formats.Listed layout)) (Some weights) = length weights == length (cells layout n)
-has_count (Some n) (Some (formats.Listed layout)) None = true
-has_count (Some n) (Some formats.ByFunction) weights = true
-has_count (Some n) None weights = true
-has_count None format weights = true
+-- so many weights are as many as the cells of the layout
+abbrev pub is_count : Option ℕ → Option WeightFormat → ℕ → Bool
+is_count (Some n) (Some (formats.Listed layout)) count = count == length (cells layout n)
+is_count (Some n) (Some formats.ByFunction) count = true
+is_count (Some n) None count = true
+is_count None format count = true
 
-abbrev pub has_wrong_count : Fields → Bool
-has_wrong_count f = not (has_count f.dimension f.weight_format f.weights)
+abbrev pub has_wrong_count : Standing → Bool
+has_wrong_count s = s.stands EdgeWeightPart && not (is_count s.dimension s.weight_format s.weight_count)
 
--- the first rule that fails
-abbrev pub end_fault_from : Option Field → Bool → Bool → Option EndFault
-end_fault_from (Some field) wrong_format wrong_count = Some (Missing field)
-end_fault_from None wrong_format wrong_count = cond wrong_format (Some WrongFormat) (cond wrong_count (Some WrongCount) None)
+-- ---- the end table
 
-abbrev pub end_fault : Fields → Option EndFault
-end_fault f = end_fault_from (first_failing (there_in_order f)) (has_wrong_format f) (has_wrong_count f)
+-- the last two rows
+abbrev pub format_or_count : Standing → Option EndFault
+format_or_count s = cond (has_wrong_format s) (Some WrongFormat) (cond (has_wrong_count s) (Some WrongCount) None)
 
--- the first fault of a draft: the first field that isn't as it has to be, or the first rule that fails
-abbrev pub fault_from : Option Field → Option EndFault → Option DraftFault
-fault_from (Some field) rule = Some (BadField field)
-fault_from None rule = option_map (λ r. Rule r) rule
+-- The fault at the end of a file, by what stands in it and by the first section that is incomplete: the first row that applies.
+abbrev pub end_fault : Standing → Option Field → Option EndFault
+end_fault s incomplete = option_or (option_map (λ field. Missing field) (first_failing (is_there s) asked_in_order))
+    (option_or (option_map (λ field. Incomplete field) incomplete) (format_or_count s))
 
+-- the first fault of a draft: the first field that isn't valid on its own, or the first row of the end table, no section being incomplete
 abbrev pub fault_of : Fields → Option DraftFault
-fault_of f = fault_from (first_failing (fits_in_order f)) (end_fault f)
+fault_of f = option_or (option_map (λ field. BadField field) (bad_field f))
+    (option_map (λ fault. Rule fault) (end_fault (standing_of f) None))

@@ -2,7 +2,7 @@
 
 use crate::draft::Draft;
 use crate::fault::DraftFault;
-use crate::fits::bad_field;
+use crate::table::bad_field;
 use tsp_value::{CoordKind, DisplayKind, Kind, WeightFormat, WeightKind};
 use crate::rules::end_fault;
 use std::marker::Model;
@@ -35,9 +35,10 @@ impl File {
     ghost use Rattle.tsp_fields.specs.Fields.{fields_of};
     ghost use Rattle.tsp_fields.specs.Rules.{fault_of};
 
-    /// The draft that this file was made of.
-    pub fn draft(&self) -> &Draft
-        ensures { fields_of result.now ≡ self.now }
+    /// The fields of this file, as a draft that has no fault.
+    pub fn fields(&self) -> &Draft
+        ensures value { fields_of result.now ≡ self.now }
+        ensures valid { fault_of self.now ≡ None }
     {
         &self.draft
     }
@@ -54,7 +55,7 @@ impl File {
         if let Some(field) = bad_field(&d) {
             return Err((DraftFault::BadField(field), d));
         }
-        if let Some(rule) = end_fault(&d) {
+        if let Some(rule) = end_fault(&d, None) {
             return Err((DraftFault::Rule(rule), d));
         }
         Ok(File { draft: d })

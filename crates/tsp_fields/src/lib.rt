@@ -4,10 +4,12 @@
 mod draft;
 mod fault;
 mod file;
-mod fits;
 mod rules;
+mod table;
 mod validity;
 
 pub use draft::Draft;
 pub use fault::{DraftFault, EndFault};
 pub use file::File;
+pub use rules::end_fault;
+pub use validity::is_kept;

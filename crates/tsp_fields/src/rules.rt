@@ -1,14 +1,94 @@
-//! What the fields of a file have to be together, and the first fault of a draft.
+//! What the fields of a file have to be together, judged over what stands in it.
 
-ghost use Rattle.std.specs.Prelude.{◌≡◌};
+ghost use Rattle.std.specs.Prelude.{◌≡◌, None};
 ghost use Rattle.tsp_fields.specs.Fields.{fields_of};
 ghost use Rattle.tsp_fields.specs.Validity.{first_failing};
-ghost use Rattle.tsp_fields.specs.Rules.{is_instance, is_routing, is_tours, is_certificate, is_explicit, is_function, lists_weights, has_distances, there_in_order, head_in_order, data_in_order, potentials_in_order, has_wrong_format, has_wrong_count, end_fault};
+ghost use Rattle.tsp_fields.specs.Rules.{standing_of, is_instance, is_routing, is_tours, is_certificate, lists_weights, has_distances, has_row_or_column, is_asked, is_there, asked_in_order, has_wrong_format, has_wrong_count, end_fault};
 
 use crate::draft::Draft;
 use crate::fault::EndFault;
-use tsp_value::Field;
-use tsp_value::{Kind, WeightFormat, WeightKind};
+use crate::table::stands;
+use tsp_value::{Field, Kind, WeightFormat, WeightKind};
+
+/// The fields that some file is asked for, in the order in which they are missed.
+const ASKED: [Field; 13] = [
+    Field::TypeKey,
+    Field::DimensionKey,
+    Field::EdgeWeightTypeKey,
+    Field::EdgeWeightFormatKey,
+    Field::CapacityKey,
+    Field::NodeCoordPart,
+    Field::EdgeWeightPart,
+    Field::DemandPart,
+    Field::DepotPart,
+    Field::TourPart,
+    Field::NodePotentialPart,
+    Field::RowPotentialPart,
+    Field::ColumnPotentialPart,
+];
+
+/// The fault at the end of a file, by what stands in it and by its first incomplete section: the
+/// first row of the end table that applies, or `None`.
+///
+/// A draft's lists are never incomplete, so that `None` is passed for one. A reader passes the
+/// first section in canonical order that has fewer places than it needs; of the lists of such
+/// sections it is only looked at whether they stand.
+pub fn end_fault(draft: &Draft, incomplete: Option<Field>) -> Option<EndFault>
+    ensures { result ≡ end_fault (standing_of (fields_of draft.now)) incomplete }
+{
+    if let Some(field) = first_missing(draft, &ASKED) {
+        return Some(EndFault::Missing(field));
+    }
+    if let Some(field) = incomplete {
+        return Some(EndFault::Incomplete(field));
+    }
+    if has_wrong_format(draft) {
+        return Some(EndFault::WrongFormat);
+    }
+    if has_wrong_count(draft) {
+        return Some(EndFault::WrongCount);
+    }
+    None
+}
+
+/// The first of some fields that is asked for and missing.
+fn first_missing(draft: &Draft, fields: &[Field]) -> Option<Field>
+    ensures { result ≡ first_failing (is_there (standing_of (fields_of draft.now))) fields.now }
+{
+    for field in fields {
+        if !is_there(draft, *field) {
+            return Some(*field);
+        }
+    }
+    None
+}
+
+/// Whether a field isn't missing.
+fn is_there(draft: &Draft, field: Field) -> bool
+    ensures { result ≡ is_there (standing_of (fields_of draft.now)) field }
+{
+    !is_asked(draft, field) || stands(draft, field)
+}
+
+/// Whether a field is asked for.
+fn is_asked(draft: &Draft, field: Field) -> bool
+    ensures { result ≡ is_asked (standing_of (fields_of draft.now)) field }
+{
+    match field {
+        Field::TypeKey => true,
+        Field::DimensionKey => !is_tours(draft),
+        Field::EdgeWeightTypeKey => is_instance(draft),
+        Field::EdgeWeightFormatKey => lists_weights(draft) || draft.weights.is_some(),
+        Field::NodeCoordPart => has_distances(draft),
+        Field::EdgeWeightPart => lists_weights(draft),
+        Field::CapacityKey | Field::DemandPart | Field::DepotPart => is_routing(draft),
+        Field::TourPart => is_tours(draft),
+        Field::NodePotentialPart => is_certificate(draft) && !has_row_or_column(draft),
+        Field::RowPotentialPart => is_certificate(draft) && draft.column_potentials.is_some(),
+        Field::ColumnPotentialPart => is_certificate(draft) && draft.row_potentials.is_some(),
+        _ => false,
+    }
+}
 
 /// Whether the file is an instance.
 fn is_instance(draft: &Draft) -> bool
@@ -43,107 +123,39 @@ fn is_certificate(draft: &Draft) -> bool
 
 /// Whether an instance's weights are listed.
 fn lists_weights(draft: &Draft) -> bool
-    ensures { result ≡ lists_weights (fields_of draft.now) }
+    ensures { result ≡ lists_weights (standing_of (fields_of draft.now)) }
 {
     is_instance(draft) && matches!(draft.weight_kind, Some(WeightKind::Explicit))
 }
 
 /// Whether an instance's weights are distances.
 fn has_distances(draft: &Draft) -> bool
-    ensures { result ≡ has_distances (fields_of draft.now) }
+    ensures { result ≡ has_distances (standing_of (fields_of draft.now)) }
 {
     is_instance(draft)
         && draft.weight_kind.is_some()
         && !matches!(draft.weight_kind, Some(WeightKind::Explicit))
 }
 
-/// The first field that is missing of those that say what a file is.
-fn missing_head(draft: &Draft) -> Option<Field>
-    ensures { result ≡ first_failing (head_in_order (fields_of draft.now)) }
+/// Whether potentials of rows or of columns stand.
+fn has_row_or_column(draft: &Draft) -> bool
+    ensures { result ≡ has_row_or_column (standing_of (fields_of draft.now)) }
 {
-    if draft.kind.is_none() {
-        return Some(Field::TypeKey);
-    }
-    if !is_tours(draft) && draft.dimension.is_none() {
-        return Some(Field::DimensionKey);
-    }
-    if is_instance(draft) && draft.weight_kind.is_none() {
-        return Some(Field::EdgeWeightTypeKey);
-    }
-    let listed = lists_weights(draft) || draft.weights.is_some();
-    if listed && draft.weight_format.is_none() {
-        return Some(Field::EdgeWeightFormatKey);
-    }
-    None
-}
-
-/// The first field that is missing of those that an instance or tours ask for.
-fn missing_data(draft: &Draft) -> Option<Field>
-    ensures { result ≡ first_failing (data_in_order (fields_of draft.now)) }
-{
-    let routing = is_routing(draft);
-    if routing && draft.capacity.is_none() {
-        return Some(Field::CapacityKey);
-    }
-    if has_distances(draft) && draft.coords.is_none() {
-        return Some(Field::NodeCoordPart);
-    }
-    if lists_weights(draft) && draft.weights.is_none() {
-        return Some(Field::EdgeWeightPart);
-    }
-    if routing && draft.demands.is_none() {
-        return Some(Field::DemandPart);
-    }
-    if routing && draft.depots.is_none() {
-        return Some(Field::DepotPart);
-    }
-    if is_tours(draft) && draft.tours.is_none() {
-        return Some(Field::TourPart);
-    }
-    None
-}
-
-/// The first section of potentials that is missing.
-fn missing_potentials(draft: &Draft) -> Option<Field>
-    ensures { result ≡ first_failing (potentials_in_order (fields_of draft.now)) }
-{
-    if !is_certificate(draft) {
-        return None;
-    }
-    match (&draft.row_potentials, &draft.column_potentials) {
-        (None, None) if draft.node_potentials.is_none() => Some(Field::NodePotentialPart),
-        (None, Some(_)) => Some(Field::RowPotentialPart),
-        (Some(_), None) => Some(Field::ColumnPotentialPart),
-        _ => None,
-    }
-}
-
-/// The first field, in the order of the rules, that the kind of file asks for and that is missing.
-fn missing_field(draft: &Draft) -> Option<Field>
-    ensures { result ≡ first_failing (there_in_order (fields_of draft.now)) }
-{
-    if let Some(field) = missing_head(draft) {
-        return Some(field);
-    }
-    if let Some(field) = missing_data(draft) {
-        return Some(field);
-    }
-    missing_potentials(draft)
+    draft.row_potentials.is_some() || draft.column_potentials.is_some()
 }
 
 /// Whether a function stands in the place of listed weights, or potentials of both sorts stand.
 fn has_wrong_format(draft: &Draft) -> bool
-    ensures { result ≡ has_wrong_format (fields_of draft.now) }
+    ensures { result ≡ has_wrong_format (standing_of (fields_of draft.now)) }
 {
     let by_function = matches!(draft.weight_format, Some(WeightFormat::ByFunction));
-    let both = draft.row_potentials.is_some() || draft.column_potentials.is_some();
     (by_function && (lists_weights(draft) || draft.weights.is_some()))
-        || (is_certificate(draft) && draft.node_potentials.is_some() && both)
+        || (is_certificate(draft) && draft.node_potentials.is_some() && has_row_or_column(draft))
 }
 
 /// Whether the weights are not as many as the cells of their layout.
 fn has_wrong_count(draft: &Draft) -> bool
-    ensures { result ≡ has_wrong_count (fields_of draft.now) }
+    ensures { result ≡ has_wrong_count (standing_of (fields_of draft.now)) }
 {
     match (draft.dimension, draft.weight_format, &draft.weights) {
         (Some(nodes), Some(WeightFormat::Listed(layout)), Some(weights)) => {
@@ -151,20 +163,4 @@ fn has_wrong_count(draft: &Draft) -> bool
         }
         _ => false,
     }
-}
-
-/// The first rule over several fields that fails.
-pub(crate) fn end_fault(draft: &Draft) -> Option<EndFault>
-    ensures { result ≡ end_fault (fields_of draft.now) }
-{
-    if let Some(field) = missing_field(draft) {
-        return Some(EndFault::Missing(field));
-    }
-    if has_wrong_format(draft) {
-        return Some(EndFault::WrongFormat);
-    }
-    if has_wrong_count(draft) {
-        return Some(EndFault::WrongCount);
-    }
-    None
 }

@@ -1,48 +1,18 @@
-//! When a field is as it has to be, each by itself.
+//! When a value of a field is valid on its own.
 
-ghost use Rattle.std.specs.Prelude.{◌≡◌, ◌-◌, ◌==◌, ◌||◌, not, ◌&&◌, length, slice_index, nat_le};
-ghost use Rattle.std.specs.List.{list_all, list_any, sum_by};
-ghost use Rattle.std.specs.Str.{bytes_eq};
+ghost use Rattle.std.specs.Prelude.{◌≡◌, ◌-◌, ◌==◌, ◌||◌, not, ◌&&◌, length, slice_index, nat_le, pos, map};
+ghost use Rattle.std.specs.List.{list_all, sum_by};
 ghost use Rattle.tsp_value.specs.Words.{field_word};
-ghost use Rattle.tsp_value.specs.declared.limits.TheConstants.{MOST_TOUR_NODES};
-ghost use Rattle.tsp_fields.specs.Validity.{is_kept, is_blank, is_letter, is_unknown_keyword, is_from_to, is_node, is_by_node, are_demands, are_potentials, are_depots, is_pair, are_fixed, are_weights, is_tour, is_known_word, is_keyword_byte, is_other, known_fields};
+ghost use Rattle.tsp_value.specs.Bytes.{is_blank, is_keyword_byte};
+ghost use Rattle.tsp_value.specs.Limits.{most_coordinate, most_potential, most_tour_nodes};
+ghost use Rattle.tsp_fields.specs.Validity.{is_kept, is_unknown_keyword, is_other, is_from_to, is_within, is_node, is_point, is_demand, are_depots, is_pair, are_fixed, are_weights, is_tour};
 
-use tsp_value::Field;
+use tsp_number::{Decimal, Point};
 use tsp_value::{
-    MOST_DEMAND, MOST_DEPOTS, MOST_FIXED, MOST_KEPT_BYTES, MOST_MATRIX_NODES, MOST_NODES,
-    MOST_POTENTIAL, MOST_TOUR_NODES, MOST_WEIGHT,
+    Field, Keyword, MOST_COORDINATE, MOST_DEMAND, MOST_DEPOTS, MOST_FIXED, MOST_KEPT_BYTES,
+    MOST_MATRIX_NODES, MOST_NODES, MOST_POTENTIAL, MOST_TOUR_NODES, MOST_WEIGHT, Word, is_blank,
+    is_keyword_byte, is_letter,
 };
-
-/// The keywords and sections of a file.
-const KNOWN_FIELDS: [Field; 20] = [
-    Field::NameKey,
-    Field::TypeKey,
-    Field::CommentKey,
-    Field::DimensionKey,
-    Field::CapacityKey,
-    Field::ScaleKey,
-    Field::EdgeWeightTypeKey,
-    Field::EdgeWeightFormatKey,
-    Field::NodeCoordTypeKey,
-    Field::DisplayDataTypeKey,
-    Field::NodeCoordPart,
-    Field::DisplayDataPart,
-    Field::DemandPart,
-    Field::DepotPart,
-    Field::FixedEdgesPart,
-    Field::EdgeWeightPart,
-    Field::TourPart,
-    Field::NodePotentialPart,
-    Field::RowPotentialPart,
-    Field::ColumnPotentialPart,
-];
-
-/// Whether a byte is a blank: 9, 11, 12, 13 or 32.
-fn is_blank(byte: u8) -> bool
-    ensures { result ≡ is_blank byte }
-{
-    byte == 9 || byte == 11 || byte == 12 || byte == 13 || byte == 32
-}
 
 /// Whether no byte is a byte 10.
 fn is_one_line(text: &[u8]) -> bool
@@ -53,7 +23,8 @@ fn is_one_line(text: &[u8]) -> bool
 
 /// Whether a text begins or ends with a blank.
 fn has_blank_end(text: &[u8]) -> bool
-    ensures { result ≡ (is_blank (slice_index text.now 0) || is_blank (slice_index text.now (length text.now - 1))) }
+    ensures { result ≡ (is_blank (slice_index text.now 0)
+        || is_blank (slice_index text.now (length text.now - 1))) }
 {
     match (text.first(), text.last()) {
         (Some(first), Some(last)) => is_blank(*first) || is_blank(*last),
@@ -63,7 +34,7 @@ fn has_blank_end(text: &[u8]) -> bool
 
 /// Whether a value is one that is kept: without a byte 10, without a blank at either end, and with
 /// its keyword of at most `MOST_KEPT_BYTES` bytes.
-pub(crate) fn is_kept(keyword: &[u8], value: &[u8]) -> bool
+pub fn is_kept(keyword: &[u8], value: &[u8]) -> bool
     ensures { result ≡ is_kept keyword.now value.now }
 {
     value.len() <= MOST_KEPT_BYTES
@@ -72,11 +43,45 @@ pub(crate) fn is_kept(keyword: &[u8], value: &[u8]) -> bool
         && !has_blank_end(value)
 }
 
-/// Whether there is one entry for each of the n nodes.
-pub(crate) fn is_by_node(n: u32, entries: usize) -> bool
-    ensures { result ≡ (entries == n) }
+/// Whether every comment is a value that is kept.
+pub(crate) fn are_kept(comments: &[Vec<u8>]) -> bool
+    ensures { result ≡
+        list_all (λ comment. is_kept (field_word Field.CommentKey) comment.items) comments.now }
 {
-    entries == n as usize
+    comments
+        .iter()
+        .all(|comment| is_kept(Field::CommentKey.word().as_bytes(), comment))
+}
+
+/// Whether every byte can stand in a keyword.
+fn are_keyword_bytes(word: &[u8]) -> bool
+    ensures { result ≡ list_all is_keyword_byte word.now }
+{
+    word.iter().all(|byte| is_keyword_byte(*byte))
+}
+
+/// Whether a word can be an unknown keyword.
+fn is_unknown_keyword(word: &[u8]) -> bool
+    ensures { result ≡ is_unknown_keyword word.now }
+{
+    let Some(first) = word.first() else {
+        return false;
+    };
+    is_letter(*first) && are_keyword_bytes(word) && matches!(Keyword::of(word), Keyword::Unknown)
+}
+
+/// Whether a line is an unknown keyword with a value that is kept.
+fn is_other(keyword: &[u8], value: &[u8]) -> bool
+    ensures { result ≡ is_other (keyword.now, value.now) }
+{
+    is_unknown_keyword(keyword) && is_kept(keyword, value)
+}
+
+/// Whether every line is an unknown keyword with a value that is kept.
+pub(crate) fn are_other_lines(lines: &[(Vec<u8>, Vec<u8>)]) -> bool
+    ensures { result ≡ list_all (λ line. is_other (line.0.items, line.1.items)) lines.now }
+{
+    lines.iter().all(|line| is_other(&line.0, &line.1))
 }
 
 /// Whether a number is from low to high.
@@ -95,6 +100,37 @@ fn are_from_to(numbers: &[i64], low: i64, high: i64) -> bool
         .all(|number| low <= *number && *number <= high)
 }
 
+/// Whether every number is a demand: 0 to `MOST_DEMAND`.
+pub(crate) fn are_demands(numbers: &[i64]) -> bool
+    ensures { result ≡ list_all is_demand numbers.now }
+{
+    are_from_to(numbers, 0, MOST_DEMAND)
+}
+
+/// Whether every number is a potential: of a size of at most `MOST_POTENTIAL`.
+pub(crate) fn are_potentials(numbers: &[i64]) -> bool
+    ensures { result ≡ list_all (is_within most_potential) numbers.now }
+{
+    are_from_to(numbers, -MOST_POTENTIAL, MOST_POTENTIAL)
+}
+
+/// Whether a coordinate is of a size of at most 10^9.
+fn is_coordinate(coordinate: Decimal) -> bool
+    ensures { result ≡ is_within most_coordinate coordinate }
+{
+    let count = coordinate.count();
+    -MOST_COORDINATE <= count && count <= MOST_COORDINATE
+}
+
+/// Whether both coordinates of every point are of a size of at most 10^9.
+pub(crate) fn are_points(points: &[Point]) -> bool
+    ensures { result ≡ list_all is_point points.now }
+{
+    points
+        .iter()
+        .all(|point| is_coordinate(point.x) && is_coordinate(point.y))
+}
+
 /// Whether a number is a node of 1..n.
 pub(crate) fn is_node(n: u32, node: u32) -> bool
     ensures { result ≡ is_node n node }
@@ -107,6 +143,13 @@ fn are_nodes(n: u32, nodes: &[u32]) -> bool
     ensures { result ≡ list_all (is_node n) nodes.now }
 {
     nodes.iter().all(|node| is_node(n, *node))
+}
+
+/// Whether every depot is a node of 1..n, and there are at most `MOST_DEPOTS`.
+pub(crate) fn are_depots(n: u32, depots: &[u32]) -> bool
+    ensures { result ≡ are_depots n depots.now }
+{
+    depots.len() <= MOST_DEPOTS && are_nodes(n, depots)
 }
 
 /// Whether a pair is of two different nodes of 1..n.
@@ -123,6 +166,13 @@ fn are_pairs(n: u32, pairs: &[(u32, u32)]) -> bool
     pairs.iter().all(|pair| is_pair(n, *pair))
 }
 
+/// Whether every fixed pair is of two different nodes of 1..n, and there are at most `MOST_FIXED`.
+pub(crate) fn are_fixed(n: u32, pairs: &[(u32, u32)]) -> bool
+    ensures { result ≡ are_fixed n pairs.now }
+{
+    pairs.len() <= MOST_FIXED && are_pairs(n, pairs)
+}
+
 /// Whether every weight is of a size of at most `MOST_WEIGHT`, there are at most `n * n` of them,
 /// and `n` is at most `MOST_MATRIX_NODES`.
 pub(crate) fn are_weights(n: u32, weights: &[i64]) -> bool
@@ -133,36 +183,8 @@ pub(crate) fn are_weights(n: u32, weights: &[i64]) -> bool
         && are_from_to(weights, -MOST_WEIGHT, MOST_WEIGHT)
 }
 
-/// Whether every depot is a node of 1..n, and there are at most `MOST_DEPOTS`.
-pub(crate) fn are_depots(n: u32, depots: &[u32]) -> bool
-    ensures { result ≡ are_depots n depots.now }
-{
-    depots.len() <= MOST_DEPOTS && are_nodes(n, depots)
-}
-
-/// Whether every fixed pair is of two different nodes of 1..n, and there are at most `MOST_FIXED`.
-pub(crate) fn are_fixed(n: u32, pairs: &[(u32, u32)]) -> bool
-    ensures { result ≡ are_fixed n pairs.now }
-{
-    pairs.len() <= MOST_FIXED && are_pairs(n, pairs)
-}
-
-/// Whether there is one demand for each of the n nodes, from 0 to `MOST_DEMAND`.
-pub(crate) fn are_demands(n: u32, demands: &[i64]) -> bool
-    ensures { result ≡ are_demands n demands.now }
-{
-    demands.len() == n as usize && are_from_to(demands, 0, MOST_DEMAND)
-}
-
-/// Whether there is one potential for each of the n nodes, of a size of at most `MOST_POTENTIAL`.
-pub(crate) fn are_potentials(n: u32, potentials: &[i64]) -> bool
-    ensures { result ≡ are_potentials n potentials.now }
-{
-    potentials.len() == n as usize && are_from_to(potentials, -MOST_POTENTIAL, MOST_POTENTIAL)
-}
-
 /// Whether a tour isn't empty and has nodes that some file can have.
-pub(crate) fn is_tour(tour: &[u32]) -> bool
+fn is_tour(tour: &[u32]) -> bool
     ensures { result ≡ is_tour tour.now }
 {
     !tour.is_empty() && are_nodes(MOST_NODES, tour)
@@ -170,7 +192,7 @@ pub(crate) fn is_tour(tour: &[u32]) -> bool
 
 /// Whether the tours have together at most `MOST_TOUR_NODES` nodes.
 fn have_few_nodes(tours: &[Vec<u32>]) -> bool
-    ensures { result ≡ nat_le (sum_by (λ tour. length tour.items) tours.now) MOST_TOUR_NODES }
+    ensures { result ≡ nat_le (sum_by (λ tour. length tour.items) tours.now) most_tour_nodes }
 {
     let mut total = 0;
     'tours: for tour in tours {
@@ -191,79 +213,8 @@ fn is_each_tour(tours: &[Vec<u32>]) -> bool
 
 /// Whether every tour is one, and they have together at most `MOST_TOUR_NODES` nodes.
 pub(crate) fn are_tours(tours: &[Vec<u32>]) -> bool
-    ensures { result ≡ (list_all (λ tour. is_tour tour.items) tours.now && nat_le (sum_by (λ tour. length tour.items) tours.now) MOST_TOUR_NODES) }
+    ensures { result ≡ (list_all (λ tour. is_tour tour.items) tours.now
+        && nat_le (sum_by (λ tour. length tour.items) tours.now) most_tour_nodes) }
 {
     is_each_tour(tours) && have_few_nodes(tours)
-}
-
-/// Whether every value is one that is kept behind the keyword.
-pub(crate) fn are_kept(keyword: &[u8], values: &[Vec<u8>]) -> bool
-    ensures { result ≡ list_all (λ value. is_kept keyword.now value.items) values.now }
-{
-    values.iter().all(|value| is_kept(keyword, value))
-}
-
-/// Whether a byte is an ASCII letter.
-fn is_letter(byte: u8) -> bool
-    ensures { result ≡ is_letter byte }
-{
-    (65 <= byte && byte <= 90) || (97 <= byte && byte <= 122)
-}
-
-/// Whether a byte can stand in a keyword.
-fn is_keyword_byte(byte: u8) -> bool
-    ensures { result ≡ is_keyword_byte byte }
-{
-    !(is_blank(byte) || byte == b'\n' || byte == b':')
-}
-
-/// Whether every byte can stand in a keyword.
-fn are_keyword_bytes(word: &[u8]) -> bool
-    ensures { result ≡ list_all is_keyword_byte word.now }
-{
-    word.iter().all(|byte| is_keyword_byte(*byte))
-}
-
-/// Whether a word is that of a keyword or a section.
-fn is_field_word(word: &[u8]) -> bool
-    ensures { result ≡ list_any (λ field. bytes_eq word.now (field_word field)) known_fields }
-{
-    KNOWN_FIELDS
-        .iter()
-        .any(|field| word == field.word().as_bytes())
-}
-
-/// Whether a word has a meaning of its own in a file.
-fn is_known_word(word: &[u8]) -> bool
-    ensures { result ≡ is_known_word word.now }
-{
-    is_field_word(word)
-        || word == b"FIXED_EDGES".as_slice()
-        || word == b"EDGE_DATA_FORMAT".as_slice()
-        || word == b"EDGE_DATA_SECTION".as_slice()
-        || word == b"EOF".as_slice()
-}
-
-/// Whether a word can be an unknown keyword.
-fn is_unknown_keyword(word: &[u8]) -> bool
-    ensures { result ≡ is_unknown_keyword word.now }
-{
-    let Some(first) = word.first() else {
-        return false;
-    };
-    is_letter(*first) && are_keyword_bytes(word) && !is_known_word(word)
-}
-
-/// Whether a line is an unknown keyword with a value that is kept.
-fn is_other(keyword: &[u8], value: &[u8]) -> bool
-    ensures { result ≡ is_other (keyword.now, value.now) }
-{
-    is_unknown_keyword(keyword) && is_kept(keyword, value)
-}
-
-/// Whether every line is an unknown keyword with a value that is kept.
-pub(crate) fn are_others(lines: &[(Vec<u8>, Vec<u8>)]) -> bool
-    ensures { result ≡ list_all (λ line. is_other (line.0.items, line.1.items)) lines.now }
-{
-    lines.iter().all(|line| is_other(&line.0, &line.1))
 }

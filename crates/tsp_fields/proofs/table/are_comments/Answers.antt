@@ -2,11 +2,12 @@ use Rattle.std.proofs.Common.{ℕ, ◌∙◌}
 use Rattle.std.specs.Global.{Vec}
 use Rattle.tsp_value.specs.declared.field.Field.TheVariants.{CommentKey}
 use Rattle.tsp_value.specs.Words.{field_word}
+use Rattle.tsp_value.specs.Limits.{most_comments}
 use Rattle.tsp_fields.specs.Validity.{is_kept}
 use Rattle.tsp_fields.proofs.Mapped.{mapped_all}
-use Rattle.tsp_fields.proofs.fits.comments_fit.Goals as goal
+use Rattle.tsp_fields.proofs.table.are_comments.Goals as goal
 
 pub returns-then-len-le-MOST_COMMENTS : goal.returns-then-len-le-MOST_COMMENTS
 returns-then-len-le-MOST_COMMENTS c =
-    let kept = rw (c.deref.ensures.value, c.as_bytes.ensures.value, c.word.ensures) at c.are_kept.ensures in
-    mapped_all (λ (v : Vec ℕ). v.items) (is_kept (field_word CommentKey)) c.args.draft.now.comments.items c.are_kept.result 1000 c.len.result kept c.if-len-le-MOST_COMMENTS.true (c.len.ensures ∙ c.args.draft.now.comments.ok.0)
+    let kept = rw c.deref.ensures.value at c.are_kept.ensures in
+    mapped_all (λ (v : Vec ℕ). v.items) (is_kept (field_word CommentKey)) c.args.comments.now.items c.are_kept.result most_comments c.len.result kept c.if-len-le-MOST_COMMENTS.true (c.len.ensures ∙ c.args.comments.now.ok.0)
