@@ -20,6 +20,8 @@ mod layout;
 #[cfg(test)]
 mod number;
 #[cfg(test)]
+mod reading;
+#[cfg(test)]
 mod texts;
 #[cfg(test)]
 mod watched;

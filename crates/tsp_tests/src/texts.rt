@@ -4,7 +4,7 @@ use std::test::Fail;
 use tsp_fields::{DraftFault, EndFault};
 use tsp_judge::{ReadFault, RunFault};
 use tsp_number::NumberFault;
-use tsp_stream::WriteFault;
+use tsp_stream::{InputFault, WriteFault};
 use tsp_value::Field;
 
 #[test]
@@ -109,6 +109,17 @@ fn faults_of_writing_print_their_texts(rt: HostRuntime) -> Result<(), Fail> {
         assert_eq!(rt; fault.to_string(rt.alloc())?.as_str(), text);
         let of_run = RunFault::Write(fault).to_string(rt.alloc())?;
         assert_eq!(rt; of_run.as_str(), text_of_run);
+    }
+    Ok(())
+}
+
+#[test]
+fn faults_of_taking_a_reader_whole_print_their_texts(rt: HostRuntime) -> Result<(), Fail> {
+    for (fault, text) in [
+        (InputFault::Device, "device"),
+        (InputFault::OutOfMemory, "out of memory"),
+    ] {
+        assert_eq!(rt; fault.to_string(rt.alloc())?.as_str(), text);
     }
     Ok(())
 }

@@ -27,6 +27,17 @@ fn a_file_lends_the_keywords_that_it_has(rt: HostRuntime) -> Result<(), Fail> {
 }
 
 #[test]
+fn a_file_lends_its_fields_together(rt: HostRuntime) -> Result<(), Fail> {
+    let file = file_of(rectangle(rt.alloc())?)?;
+    let fields = file.fields();
+    assert_eq!(rt; fields.kind, Some(Kind::Cvrp));
+    assert_eq!(rt; fields.dimension, Some(4));
+    let depots = fields.depots.as_ref().map(|depots| depots.as_slice());
+    assert_eq!(rt; depots, Some([1u32].as_slice()));
+    Ok(())
+}
+
+#[test]
 fn a_file_lends_the_sections_that_it_has(rt: HostRuntime) -> Result<(), Fail> {
     let file = file_of(rectangle(rt.alloc())?)?;
     let coords = points(rt.alloc(), &[(0, 0), (6, 0), (6, 8), (0, 8)])?;

@@ -5,7 +5,7 @@ use super::drafts::{
 };
 use std::alloc::Global;
 use std::test::Fail;
-use tsp_fields::{Draft, DraftFault, EndFault, File};
+use tsp_fields::{Draft, DraftFault, EndFault, File, end_fault, is_kept};
 use tsp_value::{Field, Kind, WeightFormat, WeightKind};
 
 #[test]
@@ -205,6 +205,40 @@ fn a_bad_field_is_named_before_a_rule(rt: HostRuntime) -> Result<(), Fail> {
         draft.tours = Some(lists);
         assert_eq!(rt; fault(draft), want, "{kind:?} {tour:?}");
     }
+    Ok(())
+}
+
+#[test]
+fn an_incomplete_section_stands_between_the_missing_ones_and_the_other_rules(
+    rt: HostRuntime,
+) -> Result<(), Fail> {
+    let incomplete = Some(Field::DemandPart);
+    let draft = upper_row(rt.alloc(), 4, 6)?;
+    assert_eq!(rt; end_fault(&draft, None), None);
+    let fault = Some(EndFault::Incomplete(Field::DemandPart));
+    assert_eq!(rt; end_fault(&draft, incomplete), fault);
+    let draft = upper_row(rt.alloc(), 4, 5)?;
+    assert_eq!(rt; end_fault(&draft, None), Some(EndFault::WrongCount));
+    assert_eq!(rt; end_fault(&draft, incomplete), fault);
+    let mut draft = upper_row(rt.alloc(), 4, 6)?;
+    draft.weight_format = Some(WeightFormat::ByFunction);
+    assert_eq!(rt; end_fault(&draft, None), Some(EndFault::WrongFormat));
+    assert_eq!(rt; end_fault(&draft, incomplete), fault);
+    let draft = Draft::new(rt.alloc());
+    let fault = Some(EndFault::Missing(Field::TypeKey));
+    assert_eq!(rt; end_fault(&draft, incomplete), fault);
+    Ok(())
+}
+
+#[test]
+fn a_kept_value_is_judged_with_its_keyword(rt: HostRuntime) -> Result<(), Fail> {
+    let long = vec![in rt.alloc(); b'x'; 3_996]?;
+    assert!(rt; is_kept(b"NAME", long.as_slice()));
+    assert!(rt; !is_kept(b"NAMES", long.as_slice()));
+    assert!(rt; is_kept(b"NAME", b""));
+    assert!(rt; !is_kept(b"NAME", b"a\nb"));
+    assert!(rt; !is_kept(b"NAME", b"a "));
+    assert!(rt; !is_kept(b"NAME", b"\x0ba"));
     Ok(())
 }
 
