@@ -7,8 +7,6 @@ mod form;
 mod judge;
 mod reading;
 mod report;
-#[cfg(test)]
-mod tests;
 mod verdict;
 
 pub use check::run_check;

@@ -1,0 +1,165 @@
+//! Readers and writers that fail, or had failed before.
+
+use super::{REPORT, THREE_NODES, TOUR};
+use crate::devices::{Drip, NEVER, Refusal, Trickle, outcome};
+use std::io::{ErrorKind, Read, Write};
+use std::test::Fail;
+use tsp_judge::{ReadFault, RunFault, run_check};
+use tsp_stream::{Watched, WriteFault};
+
+/// No instance.
+const NO_INSTANCE: &str = "TYPE : TSP\n";
+
+/// A reader of a text that fails at one call.
+fn reader(text: &str, fails_at: usize) -> Watched<Trickle<'_>> {
+    Watched::new(Trickle::new(text.as_bytes(), fails_at, ErrorKind::Interrupted))
+}
+
+/// A reader of a text that has failed already, and won't fail again.
+fn failed_reader(text: &str) -> Result<Watched<Trickle<'_>>, Fail> {
+    let mut reader = reader(text, 0);
+    match outcome(reader.read(&mut [0u8; 1])) {
+        Err(ErrorKind::Interrupted) => Ok(reader),
+        _ => Err(Fail::from("no failure")),
+    }
+}
+
+#[test]
+fn each_read_of_the_instance_may_fail(rt: HostRuntime) {
+    // One call for each byte, and one for the end.
+    let calls = THREE_NODES.len() + 1;
+    for fails_at in 0..calls + 1 {
+        let mut inst = reader(THREE_NODES, fails_at);
+        let mut sol = reader(TOUR, NEVER);
+        let mut out = Watched::new(Vec::new(rt.alloc()));
+        let answer = run_check(rt.alloc(), &mut inst, &mut sol, &mut out);
+        if fails_at < calls {
+            let fault = ReadFault::Device;
+            assert_eq!(rt;
+                answer,
+                Err(RunFault::File { file: 1, fault }),
+                "at {fails_at}"
+            );
+            assert!(rt; inst.failed());
+            assert_eq!(rt; inst.into_inner().calls(), fails_at + 1);
+            assert_eq!(rt; sol.into_inner().calls(), 0);
+            assert_eq!(rt; out.into_inner().len(), 0);
+        } else {
+            assert_eq!(rt; answer, Ok(true));
+            assert!(rt; !inst.failed());
+        }
+    }
+}
+
+#[test]
+fn each_read_of_the_solution_may_fail(rt: HostRuntime) {
+    let calls = TOUR.len() + 1;
+    for fails_at in 0..calls + 1 {
+        let mut inst = reader(THREE_NODES, NEVER);
+        let mut sol = reader(TOUR, fails_at);
+        let mut out = Watched::new(Vec::new(rt.alloc()));
+        let answer = run_check(rt.alloc(), &mut inst, &mut sol, &mut out);
+        if fails_at < calls {
+            let fault = ReadFault::Device;
+            assert_eq!(rt;
+                answer,
+                Err(RunFault::File { file: 2, fault }),
+                "at {fails_at}"
+            );
+            assert!(rt; sol.failed());
+            assert_eq!(rt; sol.into_inner().calls(), fails_at + 1);
+            assert_eq!(rt; out.into_inner().len(), 0);
+        } else {
+            assert_eq!(rt; answer, Ok(true));
+            assert_eq!(rt; out.into_inner().as_slice(), REPORT.as_bytes());
+        }
+    }
+}
+
+#[test]
+fn each_write_may_fail(rt: HostRuntime) {
+    let calls = REPORT.len();
+    for refusal in [
+        Refusal::Nothing,
+        Refusal::Error(ErrorKind::Other),
+        Refusal::Error(ErrorKind::Interrupted),
+    ] {
+        for fails_at in 0..calls + 1 {
+            let mut inst = reader(THREE_NODES, NEVER);
+            let mut sol = reader(TOUR, NEVER);
+            let mut out = Watched::new(Drip::new(rt.alloc(), 1, fails_at, refusal));
+            let answer = run_check(rt.alloc(), &mut inst, &mut sol, &mut out);
+            let failed = out.failed();
+            let writer = out.into_inner();
+            let front = REPORT.as_bytes().get(..fails_at);
+            assert_eq!(rt; Some(writer.held()), front, "at {fails_at}");
+            if fails_at < calls {
+                let fault = WriteFault::Device;
+                assert_eq!(rt; answer, Err(RunFault::Write(fault)), "at {fails_at}");
+                assert!(rt; failed);
+                assert_eq!(rt; writer.calls(), fails_at + 1);
+            } else {
+                assert_eq!(rt; answer, Ok(true));
+                assert!(rt; !failed);
+            }
+        }
+    }
+}
+
+#[test]
+fn a_reader_that_had_failed_counts_in_its_turn(rt: HostRuntime) -> Result<(), Fail> {
+    let mut inst = failed_reader(NO_INSTANCE)?;
+    let mut sol = failed_reader(TOUR)?;
+    let mut out = Watched::new(Vec::new(rt.alloc()));
+    let fault = ReadFault::Device;
+    let answer = run_check(rt.alloc(), &mut inst, &mut sol, &mut out);
+    assert_eq!(rt; answer, Err(RunFault::File { file: 1, fault }));
+    assert_eq!(rt; inst.into_inner().calls(), 1, "it isn't asked again");
+    let mut inst = reader(NO_INSTANCE, NEVER);
+    let answer = run_check(rt.alloc(), &mut inst, &mut sol, &mut out);
+    assert_eq!(rt; answer, Err(RunFault::NotYet));
+    let mut inst = reader(THREE_NODES, NEVER);
+    let answer = run_check(rt.alloc(), &mut inst, &mut sol, &mut out);
+    assert_eq!(rt; answer, Err(RunFault::File { file: 2, fault }));
+    assert_eq!(rt; sol.into_inner().calls(), 1, "it isn't asked again");
+    assert_eq!(rt; out.into_inner().len(), 0);
+    Ok(())
+}
+
+#[test]
+fn a_writer_that_had_failed_counts_in_its_turn(rt: HostRuntime) {
+    let mut out = Watched::new(Drip::new(rt.alloc(), 1, 0, Refusal::Nothing));
+    assert_eq!(rt; outcome(out.write(b"x")), Ok(0));
+    let mut inst = reader(NO_INSTANCE, NEVER);
+    let mut sol = reader(TOUR, NEVER);
+    let answer = run_check(rt.alloc(), &mut inst, &mut sol, &mut out);
+    assert_eq!(rt; answer, Err(RunFault::NotYet));
+    assert_eq!(rt; sol.into_inner().calls(), 0);
+    let mut inst = reader(THREE_NODES, NEVER);
+    let mut sol = reader(TOUR, NEVER);
+    let answer = run_check(rt.alloc(), &mut inst, &mut sol, &mut out);
+    assert_eq!(rt; answer, Err(RunFault::Write(WriteFault::Device)));
+    assert_eq!(rt; out.into_inner().calls(), 1, "it isn't asked again");
+}
+
+#[test]
+fn a_yes_and_a_no_are_not_answered_where_the_report_fails(rt: HostRuntime) {
+    for (words, front) in [
+        (
+            "TYPE : TOUR\nTOUR_SECTION\n1 2 3 -1\nEOF\n",
+            "type ATSP\nnodes 3\nlength 6\n",
+        ),
+        (
+            "TYPE : TOUR\nTOUR_SECTION\n1 2 -1\nEOF\n",
+            "type ATSP\nnodes 3\nno TourLe",
+        ),
+    ] {
+        let mut inst = reader(THREE_NODES, NEVER);
+        let mut sol = reader(words, NEVER);
+        let refusal = Refusal::Error(ErrorKind::StorageFull);
+        let mut out = Watched::new(Drip::new(rt.alloc(), 1, front.len(), refusal));
+        let answer = run_check(rt.alloc(), &mut inst, &mut sol, &mut out);
+        assert_eq!(rt; answer, Err(RunFault::Write(WriteFault::Device)));
+        assert_eq!(rt; out.into_inner().held(), front.as_bytes());
+    }
+}

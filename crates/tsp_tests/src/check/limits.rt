@@ -1,0 +1,111 @@
+//! Files about as long as the limit, and files that never end. Each test reads a gigabyte or more.
+
+use super::{REPORT, THREE_NODES, TOUR};
+use crate::devices::{Flood, Repeats};
+use std::alloc::{AllocError, Global};
+use std::test::Fail;
+use tsp_judge::{ReadFault, RunFault, run_check};
+use tsp_stream::Watched;
+
+/// How many bytes of a file count.
+const LIMIT: usize = 1_073_741_824;
+
+/// The most bytes that are taken from a reader that gives all that it is asked for.
+const MOST_TAKEN: u64 = 1_073_741_824 + 4_096;
+
+/// How many bytes a unit of blanks has.
+const UNIT: usize = 4_096;
+
+#[test]
+fn an_instance_that_never_ends_is_left_at_the_limit(rt: HostRuntime) {
+    let mut inst = Watched::new(Flood::after(b""));
+    let mut sol = Watched::new(TOUR.as_bytes());
+    let mut out = Watched::new(Vec::new(rt.alloc()));
+    let answer = run_check(rt.alloc(), &mut inst, &mut sol, &mut out);
+    let fault = ReadFault::TooLong;
+    assert_eq!(rt; answer, Err(RunFault::File { file: 1, fault }));
+    assert!(rt; !inst.failed());
+    let given = inst.into_inner().given();
+    assert!(rt; given <= MOST_TAKEN, "{given}");
+    assert_eq!(rt; sol.into_inner(), TOUR.as_bytes());
+    assert_eq!(rt; out.into_inner().len(), 0);
+}
+
+#[test]
+fn a_solution_that_never_ends_is_left_at_the_limit(rt: HostRuntime) {
+    let mut inst = Watched::new(THREE_NODES.as_bytes());
+    let mut sol = Watched::new(Flood::after(b""));
+    let mut out = Watched::new(Vec::new(rt.alloc()));
+    let answer = run_check(rt.alloc(), &mut inst, &mut sol, &mut out);
+    let fault = ReadFault::TooLong;
+    assert_eq!(rt; answer, Err(RunFault::File { file: 2, fault }));
+    let given = sol.into_inner().given();
+    assert!(rt; given <= MOST_TAKEN, "{given}");
+    assert_eq!(rt; out.into_inner().len(), 0);
+}
+
+#[test]
+fn an_early_line_eof_ends_what_counts(rt: HostRuntime) {
+    let mut inst = Watched::new(THREE_NODES.as_bytes());
+    let mut sol = Watched::new(Flood::after(TOUR.as_bytes()));
+    let mut out = Watched::new(Vec::new(rt.alloc()));
+    let answer = run_check(rt.alloc(), &mut inst, &mut sol, &mut out);
+    assert_eq!(rt; answer, Ok(true));
+    let given = sol.into_inner().given();
+    assert!(rt; given <= MOST_TAKEN, "{given}");
+    assert_eq!(rt; out.into_inner().as_slice(), REPORT.as_bytes());
+}
+
+/// `THREE_NODES` without its line `EOF`, and blanks up to this length.
+fn padded(alloc: Global, length: usize) -> Result<String, AllocError> {
+    let mut text = THREE_NODES.replace(alloc, "EOF\n", "")?;
+    let blanks = " ".repeat(alloc, length.saturating_sub(text.len()))?;
+    text.push_str(blanks.as_str())?;
+    Ok(text)
+}
+
+/// The answer where `THREE_NODES` is padded to `head` bytes, all but one unit of the limit follow as
+/// blanks, and then the tail.
+fn at_the_limit(
+    alloc: Global,
+    head: usize,
+    tail: &str,
+) -> Result<Result<bool, RunFault>, AllocError> {
+    let head = padded(alloc, head)?;
+    let blanks = " ".repeat(alloc, UNIT)?;
+    let units = (LIMIT / UNIT - 1) as u64;
+    let bytes = Repeats::new(head.as_bytes(), blanks.as_bytes(), units, tail.as_bytes());
+    let mut inst = Watched::new(bytes);
+    let mut sol = Watched::new(TOUR.as_bytes());
+    let mut out = Watched::new(Vec::new(alloc));
+    Ok(run_check(alloc, &mut inst, &mut sol, &mut out))
+}
+
+#[test]
+fn the_byte_10_of_the_line_eof_is_the_last_that_counts(rt: HostRuntime) -> Result<(), Fail> {
+    let answer = at_the_limit(rt.alloc(), UNIT - 5, "\nEOF\nand more")?;
+    assert_eq!(rt; answer, Ok(true));
+    Ok(())
+}
+
+#[test]
+fn the_byte_10_of_the_line_eof_is_past_the_limit(rt: HostRuntime) -> Result<(), Fail> {
+    let answer = at_the_limit(rt.alloc(), UNIT - 4, "\nEOF\n")?;
+    let fault = ReadFault::TooLong;
+    assert_eq!(rt; answer, Err(RunFault::File { file: 1, fault }));
+    Ok(())
+}
+
+#[test]
+fn a_file_as_long_as_the_limit_is_read(rt: HostRuntime) -> Result<(), Fail> {
+    let answer = at_the_limit(rt.alloc(), UNIT - 4, "\nEOF")?;
+    assert_eq!(rt; answer, Ok(true));
+    Ok(())
+}
+
+#[test]
+fn a_file_as_long_as_the_limit_needs_its_line_eof(rt: HostRuntime) -> Result<(), Fail> {
+    let answer = at_the_limit(rt.alloc(), UNIT, "")?;
+    assert_eq!(rt; answer, Err(RunFault::NotYet));
+    Ok(())
+}

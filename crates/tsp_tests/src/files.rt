@@ -1,0 +1,6 @@
+//! Which drafts are files, and what a file lends.
+
+pub(crate) mod drafts;
+mod lends;
+mod limits;
+mod rules;

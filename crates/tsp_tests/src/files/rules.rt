@@ -1,0 +1,254 @@
+//! Which drafts are refused and with what, and what a file lends.
+
+use super::drafts::{
+    WRONG_COUNT, WRONG_FORMAT, bad, fault, file_of, missing, points, rectangle, tours, upper_row,
+};
+use std::alloc::Global;
+use std::test::Fail;
+use tsp_fields::{Draft, DraftFault, EndFault, File, end_fault, is_kept};
+use tsp_value::{Field, Kind, WeightFormat, WeightKind};
+
+#[test]
+fn a_draft_with_no_field_set_lacks_its_type(rt: HostRuntime) {
+    assert_eq!(rt; fault(Draft::new(rt.alloc())), missing(Field::TypeKey));
+}
+
+#[test]
+fn the_count_of_weights_is_that_of_the_layout(rt: HostRuntime) -> Result<(), Fail> {
+    for (nodes, count, want) in [
+        (4, 6, None),
+        (1, 0, None),
+        (4, 5, WRONG_COUNT),
+        (4, 7, WRONG_COUNT),
+        (1, 1, WRONG_COUNT),
+    ] {
+        let draft = upper_row(rt.alloc(), nodes, count)?;
+        assert_eq!(rt; fault(draft), want, "{count} of {nodes}");
+    }
+    Ok(())
+}
+
+#[test]
+fn an_instance_with_weights_needs_their_format(rt: HostRuntime) -> Result<(), Fail> {
+    let alloc = rt.alloc();
+    let mut draft = upper_row(alloc, 4, 6)?;
+    draft.weight_format = None;
+    assert_eq!(rt; fault(draft), missing(Field::EdgeWeightFormatKey));
+    let mut draft = upper_row(alloc, 4, 6)?;
+    draft.weight_format = Some(WeightFormat::ByFunction);
+    assert_eq!(rt; fault(draft), WRONG_FORMAT);
+    let mut draft = upper_row(alloc, 4, 6)?;
+    draft.weights = None;
+    assert_eq!(rt; fault(draft), missing(Field::EdgeWeightPart));
+    Ok(())
+}
+
+#[test]
+fn a_kind_needs_its_keywords_and_sections_in_their_order(rt: HostRuntime) -> Result<(), Fail> {
+    let alloc = rt.alloc();
+    let mut draft = upper_row(alloc, 4, 6)?;
+    draft.dimension = None;
+    draft.weights = None;
+    assert_eq!(rt; fault(draft), missing(Field::DimensionKey));
+    let mut draft = upper_row(alloc, 4, 6)?;
+    draft.weight_kind = None;
+    assert_eq!(rt; fault(draft), missing(Field::EdgeWeightTypeKey));
+    let mut draft = upper_row(alloc, 4, 6)?;
+    draft.weight_kind = Some(WeightKind::Att);
+    assert_eq!(rt; fault(draft), missing(Field::NodeCoordPart));
+    let mut draft = upper_row(alloc, 4, 6)?;
+    draft.kind = Some(Kind::Cvrp);
+    assert_eq!(rt; fault(draft), missing(Field::CapacityKey));
+    let mut draft = rectangle(alloc)?;
+    draft.demands = None;
+    draft.depots = None;
+    assert_eq!(rt; fault(draft), missing(Field::DemandPart));
+    let mut draft = rectangle(alloc)?;
+    draft.depots = None;
+    assert_eq!(rt; fault(draft), missing(Field::DepotPart));
+    let mut draft = tours(alloc);
+    draft.tours = None;
+    assert_eq!(rt; fault(draft), missing(Field::TourPart));
+    Ok(())
+}
+
+/// A file of potentials of one node, for nodes, rows and columns where they are asked for.
+fn potentials(alloc: Global, nodes: bool, rows: bool, columns: bool) -> Result<Draft, Fail> {
+    let mut draft = Draft::new(alloc);
+    draft.kind = Some(Kind::Potentials);
+    draft.dimension = Some(1);
+    if nodes {
+        draft.node_potentials = Some(vec![in alloc; 7; 1]?);
+    }
+    if rows {
+        draft.row_potentials = Some(vec![in alloc; -7; 1]?);
+    }
+    if columns {
+        draft.column_potentials = Some(vec![in alloc; 0; 1]?);
+    }
+    Ok(draft)
+}
+
+#[test]
+fn potentials_are_for_nodes_or_for_rows_and_columns(rt: HostRuntime) -> Result<(), Fail> {
+    for (nodes, rows, columns, want) in [
+        (true, true, true, WRONG_FORMAT),
+        (true, true, false, missing(Field::ColumnPotentialPart)),
+        (true, false, true, missing(Field::RowPotentialPart)),
+        (false, true, false, missing(Field::ColumnPotentialPart)),
+        (false, false, true, missing(Field::RowPotentialPart)),
+        (false, false, false, missing(Field::NodePotentialPart)),
+        (true, false, false, None),
+        (false, true, true, None),
+    ] {
+        let draft = potentials(rt.alloc(), nodes, rows, columns)?;
+        assert_eq!(rt; fault(draft), want, "{nodes} {rows} {columns}");
+    }
+    Ok(())
+}
+
+#[test]
+fn names_are_kept_values(rt: HostRuntime) -> Result<(), Fail> {
+    for (name, want) in [
+        (b"a b".as_slice(), None),
+        (b"".as_slice(), None),
+        (b"a\tb\0\xff".as_slice(), None),
+        (b" a".as_slice(), bad(Field::NameKey)),
+        (b"a\t".as_slice(), bad(Field::NameKey)),
+        (b"a\r".as_slice(), bad(Field::NameKey)),
+        (b"a\nb".as_slice(), bad(Field::NameKey)),
+    ] {
+        let mut draft = tours(rt.alloc());
+        draft.name = Some(Vec::from_slice(rt.alloc(), name)?);
+        assert_eq!(rt; fault(draft), want, "{name:?}");
+    }
+    Ok(())
+}
+
+#[test]
+fn unknown_keywords_are_words_that_are_not_known(rt: HostRuntime) -> Result<(), Fail> {
+    for (keyword, want) in [
+        ("DISTANCE", None),
+        ("others", None),
+        ("name", None),
+        ("NAME", bad(Field::OtherKey)),
+        ("COLUMN_POTENTIAL_SECTION", bad(Field::OtherKey)),
+        ("FIXED_EDGES", bad(Field::OtherKey)),
+        ("EDGE_DATA_FORMAT", bad(Field::OtherKey)),
+        ("EDGE_DATA_SECTION", bad(Field::OtherKey)),
+        ("EOF", bad(Field::OtherKey)),
+        ("A:B", bad(Field::OtherKey)),
+        ("A B", bad(Field::OtherKey)),
+        ("A\nB", bad(Field::OtherKey)),
+        ("_A", bad(Field::OtherKey)),
+        ("1A", bad(Field::OtherKey)),
+        ("", bad(Field::OtherKey)),
+    ] {
+        let mut draft = tours(rt.alloc());
+        let line = (
+            keyword.as_bytes().to_vec(rt.alloc())?,
+            b"1".to_vec(rt.alloc())?,
+        );
+        draft.others.push(line)?;
+        assert_eq!(rt; fault(draft), want, "{keyword}");
+    }
+    Ok(())
+}
+
+#[test]
+fn a_list_by_node_has_an_entry_for_each_node(rt: HostRuntime) -> Result<(), Fail> {
+    let alloc = rt.alloc();
+    for (dimension, want) in [
+        (Some(2), None),
+        (Some(1), bad(Field::NodeCoordPart)),
+        (Some(3), bad(Field::NodeCoordPart)),
+        (None, bad(Field::NodeCoordPart)),
+    ] {
+        let mut draft = tours(alloc);
+        draft.dimension = dimension;
+        draft.coords = Some(points(alloc, &[(0, 0), (1, 1)])?);
+        assert_eq!(rt; fault(draft), want, "{dimension:?}");
+    }
+    Ok(())
+}
+
+#[test]
+fn a_fixed_pair_is_of_two_different_nodes(rt: HostRuntime) -> Result<(), Fail> {
+    for (pair, want) in [
+        ((1, 2), None),
+        ((2, 1), None),
+        ((2, 2), bad(Field::FixedEdgesPart)),
+        ((1, 3), bad(Field::FixedEdgesPart)),
+        ((0, 1), bad(Field::FixedEdgesPart)),
+    ] {
+        let mut draft = tours(rt.alloc());
+        draft.dimension = Some(2);
+        draft.fixed = Some(vec![in rt.alloc(); pair; 1]?);
+        assert_eq!(rt; fault(draft), want, "{pair:?}");
+    }
+    Ok(())
+}
+
+#[test]
+fn a_bad_field_is_named_before_a_rule(rt: HostRuntime) -> Result<(), Fail> {
+    for (kind, tour, want) in [
+        (Some(Kind::Tour), [1u32].as_slice(), None),
+        (None, [1u32].as_slice(), missing(Field::TypeKey)),
+        (Some(Kind::Tour), [0].as_slice(), bad(Field::TourPart)),
+        (None, [0].as_slice(), bad(Field::TourPart)),
+        (Some(Kind::Tour), [].as_slice(), bad(Field::TourPart)),
+    ] {
+        let mut draft = tours(rt.alloc());
+        draft.kind = kind;
+        let mut lists = Vec::new(rt.alloc());
+        lists.push(Vec::from_slice(rt.alloc(), tour)?)?;
+        draft.tours = Some(lists);
+        assert_eq!(rt; fault(draft), want, "{kind:?} {tour:?}");
+    }
+    Ok(())
+}
+
+#[test]
+fn an_incomplete_section_stands_between_the_missing_ones_and_the_other_rules(
+    rt: HostRuntime,
+) -> Result<(), Fail> {
+    let incomplete = Some(Field::DemandPart);
+    let draft = upper_row(rt.alloc(), 4, 6)?;
+    assert_eq!(rt; end_fault(&draft, None), None);
+    let fault = Some(EndFault::Incomplete(Field::DemandPart));
+    assert_eq!(rt; end_fault(&draft, incomplete), fault);
+    let draft = upper_row(rt.alloc(), 4, 5)?;
+    assert_eq!(rt; end_fault(&draft, None), Some(EndFault::WrongCount));
+    assert_eq!(rt; end_fault(&draft, incomplete), fault);
+    let mut draft = upper_row(rt.alloc(), 4, 6)?;
+    draft.weight_format = Some(WeightFormat::ByFunction);
+    assert_eq!(rt; end_fault(&draft, None), Some(EndFault::WrongFormat));
+    assert_eq!(rt; end_fault(&draft, incomplete), fault);
+    let draft = Draft::new(rt.alloc());
+    let fault = Some(EndFault::Missing(Field::TypeKey));
+    assert_eq!(rt; end_fault(&draft, incomplete), fault);
+    Ok(())
+}
+
+#[test]
+fn a_kept_value_is_judged_with_its_keyword(rt: HostRuntime) -> Result<(), Fail> {
+    let long = vec![in rt.alloc(); b'x'; 3_996]?;
+    assert!(rt; is_kept(b"NAME", long.as_slice()));
+    assert!(rt; !is_kept(b"NAMES", long.as_slice()));
+    assert!(rt; is_kept(b"NAME", b""));
+    assert!(rt; !is_kept(b"NAME", b"a\nb"));
+    assert!(rt; !is_kept(b"NAME", b"a "));
+    assert!(rt; !is_kept(b"NAME", b"\x0ba"));
+    Ok(())
+}
+
+#[test]
+fn a_refused_draft_comes_back(rt: HostRuntime) -> Result<(), Fail> {
+    let draft = upper_row(rt.alloc(), 4, 5)?;
+    let Err((fault, draft)) = File::of(draft) else {
+        return Err(Fail::from("a file"));
+    };
+    assert_eq!(rt; fault, DraftFault::Rule(EndFault::WrongCount));
+    assert_eq!(rt; draft.weights.map(|weights| weights.len()), Some(5));
+    Ok(())
+}

@@ -1,0 +1,2 @@
+# Lines of blanks for ever.
+exec yes '  '
