@@ -142,7 +142,7 @@ whole_front bytes sign count whole negative has some few =
       within = within;
       short = omega (arith, length-take-le (sign + count) bytes within, has.sign_short);
       stands = plain_stands (take (sign + count) bytes) (take sign bytes) ds [] [] negative (whole * unit) (whole_text bytes sign count)
-      has.is_sign has.digits (inr (refl, refl)) tt (omega arith) (omega arith) size;
+          has.is_sign has.digits (inr (refl, refl)) tt (omega arith) (omega arith) size;
     }
 
 pub decimal_front : (bytes : List ℕ) (sign count whole parts part : ℕ) (negative : Bool) → HasWhole bytes sign count whole negative → count ≤ 9
@@ -168,8 +168,8 @@ decimal_front bytes sign count whole parts part negative has few before is_point
       within = within;
       short = omega (arith, length-take-le (sign + count + 1 + parts) bytes within, has.sign_short);
       stands = plain_stands (take (sign + count + 1 + parts) bytes) (take sign bytes) ds (point ∷ fs) fs negative
-      (whole * unit + part * 10 ^ (9 - parts)) (decimal_text bytes sign count parts before is_point)
-      has.is_sign has.digits (inl refl) digits' (omega arith) (omega arith) size;
+          (whole * unit + part * 10 ^ (9 - parts)) (decimal_text bytes sign count parts before is_point)
+          has.is_sign has.digits (inl refl) digits' (omega arith) (omega arith) size;
     }
 
 -- ---- words that end where their front ends
