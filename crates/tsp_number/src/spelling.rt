@@ -1,28 +1,68 @@
 //! The spelling of a decimal.
 
-ghost use Rattle.std.specs.Prelude.{◌≡◌, ◌+◌, ◌<◌, ◌≤◌, ◌++◌, length};
+ghost use Rattle.std.specs.Prelude.{◌≡◌, ◌+◌, ◌*◌, ◌<◌, ◌≤◌, ◌++◌, length, unsigned_abs};
+ghost use Rattle.std.specs.Fmt.{decimal};
 ghost use Rattle.arrayvec.specs.ArrayVec.{array_vec_len};
-ghost use Rattle.tsp_number.specs.Decimal.{unit};
+ghost use Rattle.tsp_number.specs.Decimal.{unit, most_count};
 ghost use Rattle.tsp_number.specs.NumberWord.{StandsFor};
-ghost use Rattle.tsp_number.specs.Spelling.{decimals, spelling, size_spelling};
+ghost use Rattle.tsp_number.specs.Spelling.{decimals, fraction_spelling, size_spelling, spelling};
 
 use crate::decimal::{Decimal, UNIT};
 use arrayvec::ArrayVec;
-use itoa::Buffer;
+
+/// Appends a whole number of at most ten digits, without leading zeros.
+///
+/// Each digit is found apart from the others, so that none waits for the one before it.
+#[inline(always)]
+fn push_whole<const N: usize>(text: &mut ArrayVec<u8, N>, whole: u64)
+    requires few { whole < 10 * unit }
+    requires room { array_vec_len text.old + 10 ≤ N }
+    ensures items { text.new.items ≡ text.old.items ++ decimal whole }
+    ensures room { array_vec_len text.new ≤ array_vec_len text.old + 10 }
+{
+    let mut place = 10 * UNIT;
+    while place > 1 {
+        place /= 10;
+        if whole >= place || place == 1 {
+            text.push(b'0' + (whole / place % 10) as u8);
+        }
+    }
+}
 
 /// Appends the decimals of a part of a whole, without zeros at their end.
-fn push_decimals(text: &mut ArrayVec<u8, 64>, rest: u64)
+#[inline(always)]
+fn push_decimals<const N: usize>(text: &mut ArrayVec<u8, N>, rest: u64)
     requires part { rest < unit }
-    requires room { array_vec_len text.old ≤ 55 }
+    requires room { array_vec_len text.old + 9 ≤ N }
     ensures items { text.new.items ≡ text.old.items ++ decimals 9 rest }
     ensures room { array_vec_len text.new ≤ array_vec_len text.old + 9 }
 {
-    let mut left = rest;
     let mut place = UNIT;
-    while left > 0 {
+    while rest % place > 0 {
         place /= 10;
-        text.push(b'0' + (left / place) as u8);
-        left %= place;
+        text.push(b'0' + (rest / place % 10) as u8);
+    }
+}
+
+/// Appends the spelling of a decimal, as [`write_decimal`] gives it. It has at most 21 bytes, for
+/// which there must be room.
+#[inline(always)]
+pub fn push_decimal<const N: usize>(text: &mut ArrayVec<u8, N>, d: Decimal)
+    requires { array_vec_len text.old + 21 ≤ N }
+    ensures items { text.new.items ≡ text.old.items ++ spelling d }
+    ensures stands { StandsFor (spelling d) d }
+    ensures short { array_vec_len text.new ≤ array_vec_len text.old + 21 }
+{
+    let count = d.nanos();
+    if count < 0 {
+        text.push(b'-');
+    }
+    let size = count.unsigned_abs();
+    push_whole(text, size / UNIT);
+    let rest = size % UNIT;
+    if rest > 0 {
+        text.push(b'.');
+        push_decimals(text, rest);
     }
 }
 
@@ -36,19 +76,7 @@ pub fn write_decimal(d: Decimal) -> ArrayVec<u8, 64>
     ensures stands { StandsFor result.items d }
     ensures short { array_vec_len result ≤ 21 }
 {
-    let count = d.nanos();
-    let size = count.unsigned_abs();
     let mut text = ArrayVec::new();
-    if count < 0 {
-        text.push(b'-');
-    }
-    let mut buffer = Buffer::new();
-    text.try_extend_from_slice(buffer.format(size / UNIT).as_bytes())
-        .unwrap();
-    let rest = size % UNIT;
-    if rest > 0 {
-        text.push(b'.');
-        push_decimals(&mut text, rest);
-    }
+    push_decimal(&mut text, d);
     text
 }

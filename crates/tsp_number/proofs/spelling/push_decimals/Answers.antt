@@ -1,18 +1,18 @@
-use Rattle.std.proofs.Common.{arith, refl}
-use Rattle.tsp_number.proofs.Spellings.{step, all_written}
+use Rattle.std.proofs.Common.{◌≡◌, ◌%◌, ◌*◌, ◌^◌, ◌<◌, arith, refl}
+use Rattle.std.proofs.Math.Nat.{mod-eq_of_lt}
+use Rattle.tsp_number.proofs.Spellings.{step, decimal_pushed, all_written}
 use Rattle.tsp_number.proofs.spelling.push_decimals.Goals as goal
 
-pub loop-left-init : goal.loop-left-init
-loop-left-init c = record { places = 9; place_is = refl; part = c.requires.part; room = omega arith; items = refl }
+pub loop-place-init : goal.loop-place-init
+loop-place-init g c =
+    let all : c.args.rest % 1000000000 ≡ c.args.rest = mod-eq_of_lt c.requires.part in
+    rw all (record { places = 9; place_is = refl; part = c.requires.part; room = omega arith; items = refl })
 
-pub nonzero_div-left : goal.nonzero_div-left
-nonzero_div-left c = (step _ _ _ _ _ c.loop-left.invariant (omega arith)).0
+pub nonzero_div-rest : goal.nonzero_div-rest
+nonzero_div-rest g c = (step _ _ _ _ _ c.loop-place.invariant (omega arith)).0
 
-pub nonzero_rem-left : goal.nonzero_rem-left
-nonzero_rem-left c = (step _ _ _ _ _ c.loop-left.invariant (omega arith)).0
-
-pub loop-left-preserved : goal.loop-left-preserved
-loop-left-preserved c = rw c.push.ensures.items (step _ _ _ _ _ c.loop-left.invariant (omega arith)).1
+pub loop-place-preserved : goal.loop-place-preserved
+loop-place-preserved g c = rw c.push.ensures.items (decimal_pushed _ _ _ _ c.loop-place.invariant (omega arith))
 
 pub returns-clause-items : goal.returns-clause-items
-returns-clause-items c = all_written _ _ _ _ _ c.loop-left.invariant (omega arith)
+returns-clause-items g c = all_written _ _ _ _ _ c.loop-place.invariant (omega arith)
