@@ -1,31 +1,111 @@
 //! The spelling of a decimal.
 
-ghost use Rattle.std.specs.Prelude.{◌≡◌, ◌+◌, ◌*◌, ◌<◌, ◌≤◌, ◌++◌, length, unsigned_abs};
+ghost use Rattle.std.specs.Prelude.{◌≡◌, ◌+◌, ◌*◌, ◌^◌, ◌<◌, ◌≤◌, ◌++◌, length, unsigned_abs};
 ghost use Rattle.std.specs.Fmt.{decimal};
 ghost use Rattle.arrayvec.specs.ArrayVec.{array_vec_len};
 ghost use Rattle.tsp_number.specs.Decimal.{unit, most_count};
 ghost use Rattle.tsp_number.specs.NumberWord.{StandsFor};
-ghost use Rattle.tsp_number.specs.Spelling.{decimals, fraction_spelling, size_spelling, spelling};
+ghost use Rattle.tsp_number.specs.Spelling.{decimals, three_digits, fraction_spelling, size_spelling, spelling};
 
 use crate::decimal::{Decimal, UNIT};
 use arrayvec::ArrayVec;
 
-/// Appends a whole number of at most ten digits, without leading zeros.
-///
-/// Each digit is found apart from the others, so that none waits for the one before it.
+/// Appends the three digits of a number below 1000, also those that are zeros at its front.
+#[inline(always)]
+fn push_group<const N: usize>(text: &mut ArrayVec<u8, N>, group: u64)
+    requires few { group < 1000 }
+    requires room { array_vec_len text.old + 3 ≤ N }
+    ensures items { text.new.items ≡ text.old.items ++ three_digits group }
+    ensures room { array_vec_len text.new ≡ array_vec_len text.old + 3 }
+{
+    let digits = [
+        b'0' + (group / 100) as u8,
+        b'0' + (group / 10 % 10) as u8,
+        b'0' + (group % 10) as u8,
+    ];
+    text.try_extend_from_slice(&digits).unwrap();
+}
+
+/// Appends a number below 1000, without leading zeros.
+#[inline(always)]
+fn push_hundreds<const N: usize>(text: &mut ArrayVec<u8, N>, number: u64)
+    requires few { number < 1000 }
+    requires room { array_vec_len text.old + 3 ≤ N }
+    ensures items { text.new.items ≡ text.old.items ++ decimal number }
+    ensures room { array_vec_len text.new ≤ array_vec_len text.old + 3 }
+{
+    if number >= 100 {
+        push_group(text, number);
+    } else if number >= 10 {
+        let digits = [b'0' + (number / 10) as u8, b'0' + (number % 10) as u8];
+        text.try_extend_from_slice(&digits).unwrap();
+    } else {
+        text.push(b'0' + number as u8);
+    }
+}
+
+/// Appends a number below a million, without leading zeros.
+#[inline(always)]
+fn push_thousands<const N: usize>(text: &mut ArrayVec<u8, N>, number: u64)
+    requires few { number < 10 ^ 6 }
+    requires room { array_vec_len text.old + 6 ≤ N }
+    ensures items { text.new.items ≡ text.old.items ++ decimal number }
+    ensures room { array_vec_len text.new ≤ array_vec_len text.old + 6 }
+{
+    if number < 1000 {
+        push_hundreds(text, number);
+        return;
+    }
+    push_hundreds(text, number / 1000);
+    push_group(text, number % 1000);
+}
+
+/// Appends a number below 10^9, without leading zeros.
+#[inline(always)]
+fn push_millions<const N: usize>(text: &mut ArrayVec<u8, N>, number: u64)
+    requires few { number < 10 ^ 9 }
+    requires room { array_vec_len text.old + 9 ≤ N }
+    ensures items { text.new.items ≡ text.old.items ++ decimal number }
+    ensures room { array_vec_len text.new ≤ array_vec_len text.old + 9 }
+{
+    if number < 1000 {
+        push_hundreds(text, number);
+        return;
+    }
+    push_thousands(text, number / 1000);
+    push_group(text, number % 1000);
+}
+
+/// Appends the whole part of a decimal, without leading zeros.
 #[inline(always)]
 fn push_whole<const N: usize>(text: &mut ArrayVec<u8, N>, whole: u64)
-    requires few { whole < 10 * unit }
+    requires few { whole ≤ 10 ^ 9 }
     requires room { array_vec_len text.old + 10 ≤ N }
     ensures items { text.new.items ≡ text.old.items ++ decimal whole }
     ensures room { array_vec_len text.new ≤ array_vec_len text.old + 10 }
 {
-    let mut place = 10 * UNIT;
-    while place > 1 {
-        place /= 10;
-        if whole >= place || place == 1 {
-            text.push(b'0' + (whole / place % 10) as u8);
-        }
+    if whole < UNIT {
+        push_millions(text, whole);
+        return;
+    }
+    text.try_extend_from_slice(b"1000000000").unwrap();
+}
+
+/// Appends three decimals, without zeros at their end.
+#[inline(always)]
+fn push_last<const N: usize>(text: &mut ArrayVec<u8, N>, group: u64)
+    requires few { group < 1000 }
+    requires room { array_vec_len text.old + 3 ≤ N }
+    ensures items { text.new.items ≡ text.old.items ++ decimals 3 group }
+    ensures room { array_vec_len text.new ≤ array_vec_len text.old + 3 }
+{
+    if group % 10 > 0 {
+        push_group(text, group);
+    } else if group % 100 > 0 {
+        let digits = [b'0' + (group / 100) as u8, b'0' + (group / 10 % 10) as u8];
+        text.try_extend_from_slice(&digits).unwrap();
+    } else if group > 0 {
+        text.push(b'0' + (group / 100) as u8);
     }
 }
 
@@ -37,11 +117,17 @@ fn push_decimals<const N: usize>(text: &mut ArrayVec<u8, N>, rest: u64)
     ensures items { text.new.items ≡ text.old.items ++ decimals 9 rest }
     ensures room { array_vec_len text.new ≤ array_vec_len text.old + 9 }
 {
-    let mut place = UNIT;
-    while rest % place > 0 {
-        place /= 10;
-        text.push(b'0' + (rest / place % 10) as u8);
+    if rest % 1_000_000 == 0 {
+        push_last(text, rest / 1_000_000);
+        return;
     }
+    push_group(text, rest / 1_000_000);
+    if rest % 1000 == 0 {
+        push_last(text, rest / 1000 % 1000);
+        return;
+    }
+    push_group(text, rest / 1000 % 1000);
+    push_last(text, rest % 1000);
 }
 
 /// Appends the spelling of a decimal, as [`write_decimal`] gives it. It has at most 21 bytes, for

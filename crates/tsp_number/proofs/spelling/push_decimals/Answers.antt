@@ -1,18 +1,16 @@
-use Rattle.std.proofs.Common.{◌≡◌, ◌%◌, ◌*◌, ◌^◌, ◌<◌, arith, refl}
-use Rattle.std.proofs.Math.Nat.{mod-eq_of_lt}
-use Rattle.tsp_number.proofs.Spellings.{step, decimal_pushed, all_written}
+use Rattle.std.proofs.Common.{List, ℕ, ◌++◌, arith, append_assoc}
+use Rattle.tsp_number.proofs.Spellings.{decimals-zeros, decimals-first, decimals-second, decimals-second_zeros}
 use Rattle.tsp_number.proofs.spelling.push_decimals.Goals as goal
 
-pub loop-place-init : goal.loop-place-init
-loop-place-init g c =
-    let all : c.args.rest % 1000000000 ≡ c.args.rest = mod-eq_of_lt c.requires.part in
-    rw all (record { places = 9; place_is = refl; part = c.requires.part; room = omega arith; items = refl })
+pub returns-then-rest-eq0-clause-items : goal.returns-then-rest-eq0-clause-items
+returns-then-rest-eq0-clause-items g c = rw (decimals-zeros c.args.rest c.requires.part (omega arith)) c.push_last.ensures.items
 
-pub nonzero_div-rest : goal.nonzero_div-rest
-nonzero_div-rest g c = (step _ _ _ _ _ c.loop-place.invariant (omega arith)).0
-
-pub loop-place-preserved : goal.loop-place-preserved
-loop-place-preserved g c = rw c.push.ensures.items (decimal_pushed _ _ _ _ c.loop-place.invariant (omega arith))
+pub returns-then-rest-eq0-2-clause-items : goal.returns-then-rest-eq0-2-clause-items
+returns-then-rest-eq0-2-clause-items g c =
+    rw (c.push_last-then-rest-eq0-2.ensures.items, c.push_group.ensures.items, decimals-first c.args.rest (omega arith), decimals-second_zeros c.args.rest c.if-rest-eq0-2.true)
+    (append_assoc c.args.text.now.items _ _)
 
 pub returns-clause-items : goal.returns-clause-items
-returns-clause-items g c = all_written _ _ _ _ _ c.loop-place.invariant (omega arith)
+returns-clause-items g c =
+    rw (c.push_last-2.ensures.items, c.push_group-2.ensures.items, c.push_group.ensures.items, decimals-first c.args.rest (omega arith), decimals-second c.args.rest (omega arith))
+    (simp append_assoc)
