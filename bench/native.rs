@@ -5,6 +5,7 @@ use std::time::Instant;
 
 const SIZE: u64 = 1000;
 const UNIT: u64 = 1_000_000_000;
+const SQUARE_UNIT: i128 = 1_000_000_000_000_000_000;
 const MOST_COUNT: u64 = 1_000_000_000_000_000_000;
 const SIZES: [u64; 7] = [10, 100, 1000, 10_000, 100_000, 1_000_000, 10_000_000];
 
@@ -287,7 +288,7 @@ fn write_decimal(decimal: Decimal) -> Word {
 
 // ---- distances
 
-/// Twice the whole number that the least covering one is sought near, where the estimate is wrong.
+/// The least whole number that covers, where the estimate is wrong.
 #[cold]
 #[inline(never)]
 fn exact_root(covers: impl Fn(u64) -> bool) -> i64 {
@@ -304,29 +305,29 @@ fn exact_root(covers: impl Fn(u64) -> bool) -> i64 {
 }
 
 #[inline(always)]
-fn ways(a: Point, b: Point) -> (i64, i64, u128) {
+fn ways(a: Point, b: Point) -> (f64, f64, i128) {
     let (x, y) = (a.x.nanos - b.x.nanos, a.y.nanos - b.y.nanos);
     let square = i128::from(x) * i128::from(x) + i128::from(y) * i128::from(y);
-    (x, y, square as u128)
+    (x as f64, y as f64, square)
 }
 
+/// The whole number below an estimate, which is finite and far below 2^63.
 #[inline(always)]
-fn rounded_root(square: u128, near: f64, covers: impl Fn(u64) -> bool) -> i64 {
-    let _ = square;
-    let whole = near as i64 as u64;
-    if covers(whole) && (whole == 0 || !covers(whole - 1)) {
-        return whole as i64;
-    }
-    exact_root(covers)
+fn whole_of(near: f64) -> i64 {
+    unsafe { near.to_int_unchecked() }
 }
 
 #[inline(never)]
 fn euc_2d(a: Point, b: Point) -> i64 {
     let (x, y, square) = ways(a, b);
-    let (x, y) = (x as f64, y as f64);
-    let near = (x * x + y * y).sqrt() * 1e-9 + 0.5;
-    rounded_root(square, near, |whole| {
-        let edge = u128::from((2 * whole + 1) * UNIT);
+    let whole = whole_of((x * x + y * y).sqrt() * 1e-9 + 0.5);
+    let edge = i128::from((2 * whole + 1) * UNIT as i64);
+    let past = edge * edge - 4 * square;
+    if past > 0 && (past <= i128::from(whole) * (8 * SQUARE_UNIT) || whole == 0) {
+        return whole;
+    }
+    exact_root(|whole| {
+        let edge = i128::from((2 * whole + 1) * UNIT);
         4 * square < edge * edge
     })
 }
@@ -334,10 +335,14 @@ fn euc_2d(a: Point, b: Point) -> i64 {
 #[inline(never)]
 fn ceil_2d(a: Point, b: Point) -> i64 {
     let (x, y, square) = ways(a, b);
-    let (x, y) = (x as f64, y as f64);
-    let near = (x * x + y * y).sqrt() * 1e-9 + 0.999_999_999;
-    rounded_root(square, near, |whole| {
-        let edge = u128::from(whole * UNIT);
+    let whole = whole_of((x * x + y * y).sqrt() * 1e-9 + 0.999_999_999);
+    let edge = i128::from(whole * UNIT as i64);
+    let past = edge * edge - square;
+    if past >= 0 && past < i128::from(2 * whole - 1) * SQUARE_UNIT {
+        return whole;
+    }
+    exact_root(|whole| {
+        let edge = i128::from(whole * UNIT);
         square <= edge * edge
     })
 }
@@ -345,10 +350,14 @@ fn ceil_2d(a: Point, b: Point) -> i64 {
 #[inline(never)]
 fn att(a: Point, b: Point) -> i64 {
     let (x, y, square) = ways(a, b);
-    let (x, y) = (x as f64, y as f64);
-    let near = ((x * x + y * y) * 0.1).sqrt() * 1e-9 + 0.999_999_999;
-    rounded_root(square, near, |whole| {
-        let edge = u128::from(whole * UNIT);
+    let whole = whole_of(((x * x + y * y) * 0.1).sqrt() * 1e-9 + 0.999_999_999);
+    let edge = i128::from(whole * UNIT as i64);
+    let past = 10 * (edge * edge) - square;
+    if past >= 0 && past < i128::from(20 * whole - 10) * SQUARE_UNIT {
+        return whole;
+    }
+    exact_root(|whole| {
+        let edge = i128::from(whole * UNIT);
         square <= 10 * (edge * edge)
     })
 }

@@ -1,6 +1,6 @@
 -- The decimals of a part of a whole, digit by digit.
-use Rattle.std.proofs.Common.{◌≡◌, ℕ, ◌+◌, ◌*◌, ◌/◌, ◌%◌, ◌^◌, ◌<◌, ◌≤◌, List, [], ◌∷◌, ◌++◌, length, ◌==◌, ◌≢◌, ◌⊎◌, inl, inr, if◌then◌else◌, false, zero, suc, refl, sym, ap, ◌∙◌, arith, append_assoc, append-nil, pow-add, length-append}
-use Rattle.std.proofs.Math.Nat.{pow-suc, mul-div_cancel, div-div-eq-div-mul, add-mul-mod_self_right, add-mul-div_right, mod-eq_of_lt, div-le_self, div-eq_of_lt, div-one, mul-div-mul_right, mod-le, zero-mod}
+use Rattle.std.proofs.Common.{◌≡◌, ℕ, ◌+◌, ◌*◌, ◌/◌, ◌%◌, ◌^◌, ◌<◌, ◌≤◌, [], ◌∷◌, ◌++◌, ◌==◌, ◌≢◌, inl, inr, false, zero, suc, refl, sym, ap, ◌∙◌, arith, append_assoc, pow-add}
+use Rattle.std.proofs.Math.Nat.{pow-suc, div-div-eq-div-mul, add-mul-mod_self_right, add-mul-div_right, mod-eq_of_lt, div-one, mul-div-mul_right, mod-le, zero-mod}
 use Rattle.std.proofs.lemmas.Bool.Decides.{nat_tests}
 use Rattle.std.proofs.lemmas.Nat.{mod-mul-add, mul-le, mod_below, div_below, div-add-mod'}
 use Rattle.std.proofs.lemmas.Bool.{cases_eq}
@@ -164,8 +164,19 @@ decimals-group places q rest is some =
     sym (div-div-eq-div-mul rest (q * 10) 10 ∙ refl) ∙ ap (λ n. n / 10) (sym (div-div-eq-div-mul rest q 10)) ∙ div-div-eq-div-mul (rest / q) 10 10 in
     let tens : rest / (q * 10) ≡ rest / q / 10 = sym (div-div-eq-div-mul rest q 10) in
     decimals-suc (suc (suc places)) rest all
-    ∙ rw (hundred, hundreds, decimals-suc (suc places) (rest % (q * 10 * 10)) left', ten, second.0, second.1, tens,
-        decimals-suc places (rest % (q * 10)) left, ← is, third.0, third.1) refl
+    ∙ rw (
+      hundred,
+      hundreds,
+      decimals-suc (suc places) (rest % (q * 10 * 10)) left',
+      ten,
+      second.0,
+      second.1,
+      tens,
+      decimals-suc places (rest % (q * 10)) left,
+      ← is,
+      third.0,
+      third.1,
+    ) refl
 
 pub decimals-zeros : (rest : ℕ) → rest < 1000000000 → rest % 1000000 ≡ 0 → decimals 9 rest ≡ decimals 3 (rest / 1000000)
 decimals-zeros rest part none =

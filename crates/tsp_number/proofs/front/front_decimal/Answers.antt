@@ -1,8 +1,6 @@
-use Rattle.std.proofs.Common.{◌≡◌, ◌+◌, ◌*◌, ◌<◌, ◌≤◌, ◌^◌, ◌-◌, length, take, drop, pos, ℤ, ℕ, unsigned_abs, arith, rules, sym, ap, ◌∙◌, FitsSigned, w64, to_z, of_z}
+use Rattle.std.proofs.Common.{◌+◌, ◌<◌, ◌≤◌, arith, rules, FitsSigned, w64}
 use Rattle.std.proofs.lemmas.Int.{to_z-of_z}
 use Rattle.std.proofs.lemmas.List.{take_rest}
-use Rattle.tsp_number.specs.Decimal.{unit, most_count}
-use Rattle.tsp_number.specs.NumberWord.{signed}
 use Rattle.tsp_number.proofs.FrontNumbers.{HasWhole, whole_front, decimal_front, small_decimal}
 use Rattle.tsp_number.proofs.Reading.{unsigned_abs-signed}
 use Rattle.tsp_number.proofs.front.front_decimal.Goals as goal

@@ -1,5 +1,4 @@
-use Rattle.std.proofs.Common.{◌≡◌, ◌≤◌, ◌-◌, ◌<◌, ◌^◌, length, take}
-use Rattle.std.specs.Str.Parse.{AllDigits, digits_value}
+use Rattle.std.proofs.Common.{◌≤◌, ◌-◌}
 use Rattle.tsp_number.proofs.FrontNumbers.{ReadsFront}
 use Rattle.tsp_number.proofs.front.front_digits.Given as goal
 

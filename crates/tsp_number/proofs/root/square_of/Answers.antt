@@ -1,8 +1,6 @@
-use Rattle.std.proofs.Common.{◌≡◌, ◌≤◌, ◌*ℤ◌, ◌^◌, ℤ, pos, unsigned_abs, FitsSigned, to_z, of_z, arith, rules, ap, ◌∙◌, w64}
-use Rattle.std.specs.Int.{w128}
-use Rattle.std.proofs.lemmas.Int.{ints, to_z-of_z}
-use Rattle.tsp_number.specs.Distances.{squared}
-use Rattle.tsp_number.proofs.Roots.{square_is, square-most, wide_square}
+use Rattle.std.proofs.Common.{◌≡◌, unsigned_abs, arith, ◌∙◌, w64}
+use Rattle.std.proofs.lemmas.Int.{to_z-of_z}
+use Rattle.tsp_number.proofs.Roots.{square-most, wide_square}
 use Rattle.tsp_number.proofs.root.square_of.Goals as goal
 
 pub overflow_cast-result : goal.overflow_cast-result

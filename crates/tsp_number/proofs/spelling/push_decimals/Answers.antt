@@ -1,4 +1,4 @@
-use Rattle.std.proofs.Common.{List, ℕ, ◌++◌, arith, append_assoc}
+use Rattle.std.proofs.Common.{arith, append_assoc}
 use Rattle.tsp_number.proofs.Spellings.{decimals-zeros, decimals-first, decimals-second, decimals-second_zeros}
 use Rattle.tsp_number.proofs.spelling.push_decimals.Goals as goal
 

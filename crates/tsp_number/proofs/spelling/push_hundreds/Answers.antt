@@ -1,4 +1,4 @@
-use Rattle.std.proofs.Common.{List, ℕ, ◌++◌, arith, append_assoc}
+use Rattle.std.proofs.Common.{arith}
 use Rattle.std.proofs.lemmas.Fmt.{decimal_digit}
 use Rattle.tsp_number.proofs.Spellings.{decimal-group, decimal-pair}
 use Rattle.tsp_number.proofs.spelling.push_hundreds.Goals as goal

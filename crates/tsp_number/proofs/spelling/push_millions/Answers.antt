@@ -1,4 +1,4 @@
-use Rattle.std.proofs.Common.{List, ℕ, ◌++◌, arith, append_assoc}
+use Rattle.std.proofs.Common.{arith, append_assoc}
 use Rattle.tsp_number.proofs.Spellings.{decimal-thousands}
 use Rattle.tsp_number.proofs.spelling.push_millions.Goals as goal
 

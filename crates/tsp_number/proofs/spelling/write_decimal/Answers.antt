@@ -1,5 +1,3 @@
-use Rattle.std.proofs.Common.{List, ℕ, subst, sym, rules}
-use Rattle.tsp_number.specs.NumberWord.{StandsFor}
 use Rattle.tsp_number.proofs.spelling.write_decimal.Goals as goal
 
 pub returns-clause-stands : goal.returns-clause-stands
