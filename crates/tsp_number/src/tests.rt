@@ -2,9 +2,10 @@
 
 use crate::NumberFault::{BadNumber, LongWord, NotWhole, OutOfRange, TooFine};
 use crate::{
-    Decimal, NumberFault, Point, att, ceil_2d, euc_2d, man_2d, max_2d, parse_decimal, parse_whole,
-    write_decimal,
+    Decimal, NumberFault, Point, att, ceil_2d, euc_2d, front_decimal, front_whole, man_2d, max_2d,
+    parse_decimal, parse_whole, push_decimal, write_decimal,
 };
+use arrayvec::ArrayVec;
 use std::test::Fail;
 
 /// The count of 10^-9 that a word is read as.
@@ -115,6 +116,37 @@ fn spells_decimals(rt: HostRuntime) -> Result<(), Fail> {
         assert_eq!(rt; write_decimal(decimal).as_slice(), spelling);
         assert_eq!(rt; parse_decimal(spelling), Ok(decimal));
     }
+    Ok(())
+}
+
+/// The count of 10^-9 at the front of the bytes, and how many of them write it.
+fn front_count(bytes: &[u8]) -> Option<(i128, usize)> {
+    let (decimal, end) = front_decimal(bytes)?;
+    Some((decimal.count(), end))
+}
+
+#[test]
+fn reads_numbers_before_other_words(rt: HostRuntime) {
+    assert_eq!(rt; front_whole(b"12 34"), Some((12, 2)));
+    assert_eq!(rt; front_whole(b"-7"), Some((-7, 2)));
+    assert_eq!(rt; front_whole(b"12.5"), Some((12, 2)));
+    assert_eq!(rt; front_whole(b"x1"), None);
+    assert_eq!(rt; front_whole(b""), None);
+    assert_eq!(rt; front_count(b"+1.5 2"), Some((1_500_000_000, 4)));
+    assert_eq!(rt; front_count(b"-.25\n"), Some((-250_000_000, 4)));
+    assert_eq!(rt; front_count(b"3. 4"), Some((3_000_000_000, 2)));
+    assert_eq!(rt; front_count(b"1e3"), Some((1_000_000_000, 1)));
+    assert_eq!(rt; front_count(b"-."), None);
+}
+
+#[test]
+fn appends_a_spelling(rt: HostRuntime) -> Result<(), Fail> {
+    let decimal = Decimal::of_count(-12_034_500_000_000).ok_or("out of range")?;
+    let mut text: ArrayVec<u8, 32> = ArrayVec::new();
+    text.push(b'7');
+    text.push(b' ');
+    push_decimal(&mut text, decimal);
+    assert_eq!(rt; text.as_slice(), b"7 -12034.5".as_slice());
     Ok(())
 }
 
