@@ -1,3 +1,4 @@
 pub mod Distances
+pub mod Instances
 pub mod Lengths
 pub mod Listed
