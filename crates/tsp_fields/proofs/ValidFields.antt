@@ -22,7 +22,7 @@ use Rattle.tsp_value.specs.declared.kinds.WeightFormat.TheVariants.{ByFunction, 
 use Rattle.tsp_value.specs.Cells.{IsNode, cells}
 use Rattle.tsp_value.specs.Limits.{most_nodes, most_matrix_nodes, most_coordinate, most_weight, most_demand, most_capacity, most_scale, most_potential, most_depots, most_fixed, most_tour_nodes}
 use Rattle.tsp_value.specs.Words.{field_word}
-use Rattle.tsp_value.specs.Values.{fields_in_order, field_found}
+use Rattle.tsp_value.specs.Words.{fields_in_order, field_found}
 use Rattle.tsp_fields.specs.Fields.{Fields}
 use Rattle.tsp_fields.specs.Validity.{if_there, is_from_to, is_within, is_node, with_dimension, is_by_node, is_point, is_demand, are_depots, is_pair, are_fixed, are_weights, is_tour, are_tours, fits, first_failing, bad_field}
 use Rattle.tsp_fields.specs.Rules.{Standing, standing_of, count_of, is_instance, is_routing, is_tours, is_certificate, is_explicit, is_function, lists_weights, has_distances, is_asked, is_there, asked_in_order, has_wrong_format, is_count, has_wrong_count, has_row_or_column, end_fault, format_or_count, fault_of}

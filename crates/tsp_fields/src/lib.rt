@@ -1,7 +1,6 @@
 //! What a TSPLIB 95 file holds, and when it is valid.
 #![tactic(auto)]
 
-mod draft;
 mod fault;
 mod file;
 mod laws;
@@ -9,9 +8,8 @@ mod rules;
 mod table;
 mod validity;
 
-pub use draft::Draft;
 pub use fault::{DraftFault, EndFault};
-pub use file::File;
+pub use file::{Draft, File};
 pub use laws::{valid_fields_are_in_range, valid_files_are_complete};
 pub use rules::end_fault;
 pub use validity::is_kept;

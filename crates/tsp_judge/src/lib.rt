@@ -5,7 +5,6 @@ mod check;
 mod fault;
 mod form;
 mod judge;
-mod limit;
 mod reading;
 mod report;
 #[cfg(test)]
@@ -14,6 +13,5 @@ mod verdict;
 
 pub use check::run_check;
 pub use fault::{ReadFault, RunFault};
-pub use limit::FILE_LIMIT;
-pub use tsp_file::{Watched, WriteFault};
+pub use tsp_stream::{Watched, WriteFault};
 pub use verdict::{Reason, Verdict};

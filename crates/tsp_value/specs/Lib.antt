@@ -4,5 +4,4 @@ pub mod Keywords
 pub mod Layout
 pub mod Limits
 pub mod Place
-pub mod Values
 pub mod Words
