@@ -1,6 +1,6 @@
 -- What instances hold.
-use Rattle.std.proofs.Common.{◌≡◌, ◌≢◌, ℕ, ◌≤◌, Bool, true, false, List, [], length, Option, Some, None, refl, sym, ap, subst, ◌∙◌, arith}
-use Rattle.std.specs.Prelude.{IsTrue, unwrap_or, ℤ, pos}
+use Rattle.std.proofs.Common.{◌≡◌, ◌≢◌, ℕ, false, List, [], length, Option, Some, None, refl, sym, ap, ◌∙◌, arith}
+use Rattle.std.specs.Prelude.{unwrap_or, ℤ}
 use Rattle.tsp_number.specs.declared.decimal.Point.{Point}
 use Rattle.tsp_value.specs.declared.layout.Layout.{Layout}
 use Rattle.tsp_value.specs.declared.kinds.WeightKind.{WeightKind}
@@ -10,7 +10,7 @@ use Rattle.tsp_value.specs.declared.kinds.WeightFormat.TheVariants.{ByFunction, 
 use Rattle.tsp_value.specs.Cells.{cells}
 use Rattle.tsp_fields.specs.Fields.{Fields}
 use Rattle.tsp_fields.specs.Rules.{is_explicit}
-use Rattle.tsp_fields.specs.Valid.{AreWeights, IsInRange}
+use Rattle.tsp_fields.specs.Valid.{IsInRange}
 use Rattle.tsp_fields.specs.Cost.{listed_cost, layout_of, distance, point_of, cost_by, cost}
 use Rattle.tsp_cost.specs.Listed.{IsListed}
 
