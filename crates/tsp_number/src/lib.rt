@@ -24,6 +24,3 @@ pub use front::{front_decimal, front_whole};
 pub use laws::{distance_laws, number_word_laws, spelling_laws};
 pub use spelling::{push_decimal, write_decimal};
 pub use word::{parse_decimal, parse_whole};
-
-#[cfg(test)]
-mod tests;
