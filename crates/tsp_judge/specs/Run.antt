@@ -32,7 +32,7 @@ pub record IsJudged (instance solution : Turn) (nodes : ℕ) (verdict : Verdict)
   pub judged : IsVerdict value tours verdict
 
 -- What the check answers. At Ok the whole report was written, and the answer is whether the verdict is a yes. The first
--- file, in order, that isn't one decides, later ones aren't read, and then nothing is written. At want of memory both are
+-- file, in order, that isn't one decides, later ones aren't read, and then nothing is written. Out of memory, both are
 -- files and nothing was written; writing itself takes no memory. Where the writer fails a front of the report was written.
 abbrev pub IsRun : Turn → Turn → Sink → Result Bool RunFault → Type 0
 IsRun instance solution sink (Ok answer) = (nodes : ℕ) × (verdict : Verdict)

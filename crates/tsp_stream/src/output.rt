@@ -14,7 +14,7 @@ pub enum WriteFault {
     /// A write failed, or took nothing.
     #[error("device")]
     Device,
-    /// Want of memory for the text.
+    /// Out of memory for the text.
     #[error("out of memory")]
     OutOfMemory,
 }
