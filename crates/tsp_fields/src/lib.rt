@@ -3,11 +3,13 @@
 
 mod fault;
 mod file;
+mod laws;
 mod rules;
 mod table;
 mod validity;
 
 pub use fault::{DraftFault, EndFault};
 pub use file::{Draft, File};
+pub use laws::{valid_fields_are_in_range, valid_files_are_complete};
 pub use rules::end_fault;
 pub use validity::is_kept;

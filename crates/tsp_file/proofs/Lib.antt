@@ -1,1 +1,5 @@
+pub mod AllFit
+pub mod FieldLengths
+pub mod KeywordLengths
 pub mod Matrices
+pub mod TextLengths

@@ -1,5 +1,5 @@
 -- The check, put together from its parts.
-use Rattle.std.proofs.Common.{◌≡◌, ℕ, ◌≤◌, true, List, map, Option, None, Some, Err, refl, sym, ap, subst, ◌∙◌, inl, inr, arith}
+use Rattle.std.proofs.Common.{◌≡◌, ℕ, ◌≤◌, true, List, map, Err, sym, ap, subst, ◌∙◌, inl, inr, arith}
 use Rattle.std.specs.Prelude.{ℤ, pos, negsuc, nat_abs, not}
 use Rattle.std.specs.List.{All, concat, filter}
 use Rattle.std.proofs.lemmas.Int.{ints}
@@ -7,13 +7,13 @@ use Rattle.std.proofs.lemmas.List.Elements.{All-filter, filter_passes, All-map}
 use Rattle.tsp_judge.specs.declared.verdict.Verdict.{Verdict}
 use Rattle.tsp_judge.specs.Forms.{Instance, IsInstance, IsSolution, IsTourWord, ends_tour, counted}
 use Rattle.tsp_judge.specs.Verdict.{IsVerdict}
-use Rattle.std.specs.Io.KnownBytes.{Keeps}
 use Rattle.tsp_stream.specs.declared.output.WriteFault.{WriteFault}
 use Rattle.tsp_stream.specs.declared.output.WriteFault.TheVariants as faults
 use Rattle.tsp_judge.specs.declared.fault.RunFault.TheVariants.{Write}
 use Rattle.tsp_judge.specs.Report.{report_of}
 use Rattle.tsp_stream.specs.Sink.{Sink, Writes}
-use Rattle.tsp_judge.specs.Run.{Turn, IsFile, IsJudged, IsRun}
+use Rattle.tsp_stream.specs.Turn.{Turn}
+use Rattle.tsp_judge.specs.Run.{IsFile, IsJudged, IsRun}
 use Rattle.tsp_judge.proofs.Runs.{nodes_of_runs}
 
 -- a word of a tour that ends none is a node
@@ -43,10 +43,6 @@ judged first second value found tours nodes verdict same size one two v = record
   size = ap (λ (f : Instance). f.nodes) (sym same) ∙ sym size;
   judged = subst (λ f. IsVerdict f tours verdict) same v;
 }
-
-pub keeps_same : (known : Option (List ℕ)) → Keeps known known
-keeps_same None = tt
-keeps_same (Some bytes) = refl
 
 pub write_faults : (first second : Turn) (sink : Sink) (nodes : ℕ) (verdict : Verdict) (fault : WriteFault) → IsJudged first second nodes verdict
     → Writes sink (report_of nodes verdict) (Err fault) → IsRun first second sink (Err (Write fault))

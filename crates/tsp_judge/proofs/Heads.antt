@@ -9,6 +9,7 @@ use Rattle.std.proofs.lemmas.Fmt.{decimal_is_IsNumeral, decimal_nonempty, length
 use Rattle.std.proofs.lemmas.Bool.{le-leb}
 use Rattle.std.specs.Option.{MatchOption}
 use denote.Ref.{Bor}
+use Rattle.tsp_value.specs.Limits.{most_matrix_nodes}
 use Rattle.tsp_judge.specs.Words.{lines_of, is_filled, numeral}
 
 filled : (ds : List ℕ) → 0 < length ds → is_filled ds ≡ true
@@ -25,7 +26,7 @@ all_digits (d ∷ ds) h =
     rw (ascii_digit d range.0 range.1, all_digits ds h.1) refl
 
 -- a number of few digits is read from what spells it
-numeral_decimal : (n : ℕ) → n ≤ 5000 → numeral (decimal n) ≡ Some n
+numeral_decimal : (n : ℕ) → n ≤ most_matrix_nodes → numeral (decimal n) ≡ Some n
 numeral_decimal n small =
     let wide : n < 2 ^ 64 = omega arith in
     let spelled = decimal_is_IsNumeral n wide in
@@ -36,7 +37,7 @@ numeral_decimal n small =
     rw (first, short, all, spelled.1) refl
 
 -- the digits behind the keyword are those of the number
-pub dimension_is : (line digits : List ℕ) (n : ℕ) → digits ≡ drop 12 line → n ≤ 5000 → line ≡ codes "DIMENSION : " ++ decimal n → (digits ≡ decimal n) × (numeral digits ≡ Some n)
+pub dimension_is : (line digits : List ℕ) (n : ℕ) → digits ≡ drop 12 line → n ≤ most_matrix_nodes → line ≡ codes "DIMENSION : " ++ decimal n → (digits ≡ decimal n) × (numeral digits ≡ Some n)
 dimension_is line digits n behind small e =
     let same : digits ≡ decimal n = behind ∙ ap (drop 12) e in
     (same, ap numeral same ∙ numeral_decimal n small)
@@ -60,9 +61,6 @@ ReadsHead lines head found = MatchOption found ((rest : List (List ℕ)) → lin
 pub head_more : (lines tail head : List (List ℕ)) (line : List ℕ) (found : Option (Bor (List ℕ))) → lines ≡ line ∷ tail → ReadsHead tail head found → ReadsHead lines (line ∷ head) found
 head_more lines tail head line None e h = λ rest f. h rest (goes_on lines tail (head ++ rest) line e f)
 head_more lines tail head line (Some body) e h = e ∙ ap (λ (ls : List (List ℕ)). line ∷ ls) h
-
-pub some_is : (a b : ℕ) → Some a ≡ Some b → a ≡ b
-some_is a b e = cc
 
 -- two views of the same first line
 pub same_first : (lines after more : List (List ℕ)) (first line : List ℕ) → lines ≡ first ∷ after → lines ≡ line ∷ more → first ≡ line

@@ -2,11 +2,12 @@
 use Rattle.std.proofs.Common.{◌≡◌, ℕ, suc, ◌+◌, ◌-◌, ◌<◌, ◌≤◌, List, [], ◌∷◌, ◌++◌, length, get_or, drop, sym, ap, subst, ◌∙◌, arith, drop-cons, add-one}
 use Rattle.std.proofs.Common.{◌*◌, to_z, of_z}
 use Rattle.std.specs.Int.{w64}
-use Rattle.std.specs.Prelude.{ℤ, pos, negsuc, ◌+ℤ◌, ◌≤ℤ◌}
-use Rattle.tsp_judge.specs.Forms.{IsWithin}
+use Rattle.std.specs.Prelude.{ℤ, pos, ◌+ℤ◌, ◌≤ℤ◌}
+use Rattle.tsp_judge.specs.Forms.{IsWeight}
 use Rattle.std.proofs.lemmas.Int.{ints}
 use Rattle.std.proofs.Math.IntN.{+ℤ_assoc, +ℤ_idr}
 use Rattle.std.proofs.lemmas.List.{drop_all}
+use Rattle.tsp_value.specs.Limits.{most_weight, most_tour_nodes}
 use Rattle.tsp_judge.specs.Tour.{node_at, IsPlace, IsNode, path_length}
 
 -- the nodes of a tour are in the range
@@ -43,12 +44,12 @@ path_last weight so_far total from first others i le e =
     ap (λ (z : ℤ). so_far +ℤ z) (sym (+ℤ_idr (weight from first))) ∙ last
 
 -- a sum of that size is what the code computes
-pub sum_fits : (a b : ℤ) (n : ℕ) → n ≤ 1000000 → pos 0 ≤ℤ (a +ℤ pos (1000000000000 * n)) → a ≤ℤ pos (1000000000000 * n) → IsWithin (negsuc 999999999999) (pos 1000000000000) b
+pub sum_fits : (a b : ℤ) (n : ℕ) → n ≤ most_tour_nodes → pos 0 ≤ℤ (a +ℤ pos (most_weight * n)) → a ≤ℤ pos (most_weight * n) → IsWeight b
     → to_z w64 (of_z w64 (a +ℤ to_z w64 (of_z w64 b))) ≡ a +ℤ b
 sum_fits a b n few low high size = omega (arith, ints, size.0, size.1)
 
-pub sum_low : (a b : ℤ) (n : ℕ) → pos 0 ≤ℤ (a +ℤ pos (1000000000000 * n)) → IsWithin (negsuc 999999999999) (pos 1000000000000) b → pos 0 ≤ℤ ((a +ℤ b) +ℤ pos (1000000000000 * (n + 1)))
+pub sum_low : (a b : ℤ) (n : ℕ) → pos 0 ≤ℤ (a +ℤ pos (most_weight * n)) → IsWeight b → pos 0 ≤ℤ ((a +ℤ b) +ℤ pos (most_weight * (n + 1)))
 sum_low a b n low size = omega (arith, ints, size.0, size.1)
 
-pub sum_high : (a b : ℤ) (n : ℕ) → a ≤ℤ pos (1000000000000 * n) → IsWithin (negsuc 999999999999) (pos 1000000000000) b → (a +ℤ b) ≤ℤ pos (1000000000000 * (n + 1))
+pub sum_high : (a b : ℤ) (n : ℕ) → a ≤ℤ pos (most_weight * n) → IsWeight b → (a +ℤ b) ≤ℤ pos (most_weight * (n + 1))
 sum_high a b n high size = omega (arith, ints, size.0, size.1)

@@ -1,7 +1,7 @@
 -- The numbers before the line EOF, as the reader takes them, are those that the lines list.
 use Rattle.std.proofs.Common.{◌≡◌, ℕ, Bool, true, false, cond, List, [], ◌∷◌, ◌++◌, Option, None, Some, map, refl, sym, ap, subst, ◌∙◌, inl, inr, arith}
 use Rattle.std.proofs.lemmas.Int.{ints}
-use Rattle.std.specs.Prelude.{ℤ, pos, negsuc, codes, ◌&&◌}
+use Rattle.std.specs.Prelude.{ℤ, codes, ◌&&◌}
 use Rattle.std.specs.Option.{option_map, option_and_then}
 use Rattle.std.specs.List.{flat_map, list_all}
 use Rattle.std.specs.Str.{bytes_eq}
@@ -9,11 +9,11 @@ use Rattle.std.proofs.lemmas.Slice.Eq.{bytes_eq-Decides}
 use Rattle.std.proofs.lemmas.List.Concat.{flat_map-cons}
 use Rattle.tsp_judge.specs.declared.form.words.NumberKind.{NumberKind}
 use Rattle.tsp_judge.specs.declared.form.words.NumberKind.TheVariants.{Weight, TourWord}
-use Rattle.tsp_judge.specs.Words.{words_of, whole_of}
+use Rattle.tsp_judge.specs.Words.{words_of, signed_numeral}
 use Rattle.tsp_judge.specs.Numbers.{both_lists, is_allowed, number_in, numbers_of, numbers_before_eof}
 use Rattle.std.proofs.lemmas.Bool.{false_from_ne_true}
 use Rattle.tsp_judge.proofs.Joins.{both_lists_nothing, both_lists_assoc}
-use Rattle.tsp_judge.specs.Forms.{eof, ListsNumbers, IsWithin, IsTourWord}
+use Rattle.tsp_judge.specs.Forms.{eof, ListsNumbers, IsWeight, IsTourWord}
 
 -- ---- words
 
@@ -47,7 +47,7 @@ single_some (Some z) a e = (z, refl, cc)
 
 -- what words that are numbers stand for
 pub record StandFor (kind : NumberKind) (words : List (List ℕ)) (zs : List ℤ) : Type 0 where
-  pub stand : map whole_of words ≡ map (λ (z : ℤ). Some z) zs
+  pub stand : map signed_numeral words ≡ map (λ (z : ℤ). Some z) zs
   pub allowed : list_all (is_allowed kind) zs ≡ true
 
 and_true : (a b : Bool) → a ≡ true → b ≡ true → (a && b) ≡ true
@@ -61,11 +61,11 @@ words_stand kind [] zs e = let none : [] ≡ zs = cc in subst (λ xs. StandFor k
 words_stand kind (word ∷ words) zs e =
     let parts = both_lists_some (option_map (λ z. z ∷ []) (number_in kind word)) (numbers_of kind words) zs e in
     let single = single_some (number_in kind word) parts.0 parts.2 in
-    let first = number_is kind (whole_of word) single.0 single.1 in
+    let first = number_is kind (signed_numeral word) single.0 single.1 in
     let rest = words_stand kind words parts.1 parts.3 in
     let whole : single.0 ∷ parts.1 ≡ zs = ap (λ (a : List ℤ). a ++ parts.1) (sym single.2) ∙ parts.4 in
     subst (λ xs. StandFor kind (word ∷ words) xs) whole (record {
-      stand = same_cons (whole_of word) (Some single.0) (map whole_of words) (map (λ (z : ℤ). Some z) parts.1) first.0 rest.stand;
+      stand = same_cons (signed_numeral word) (Some single.0) (map signed_numeral words) (map (λ (z : ℤ). Some z) parts.1) first.0 rest.stand;
       allowed = and_true (is_allowed kind single.0) (list_all (is_allowed kind) parts.1) first.1 rest.allowed;
     })
 
@@ -80,12 +80,12 @@ and_right false b e = absurd cc
 pub words_stand_back : (kind : NumberKind) (words : List (List ℕ)) (zs : List ℤ) → StandFor kind words zs → numbers_of kind words ≡ Some zs
 words_stand_back kind [] [] h = refl
 words_stand_back kind [] (z ∷ zs) h = let e : [] ≡ map (λ (y : ℤ). Some y) (z ∷ zs) = h.stand in absurd cc
-words_stand_back kind (word ∷ words) [] h = let e : map whole_of (word ∷ words) ≡ [] = h.stand in absurd cc
+words_stand_back kind (word ∷ words) [] h = let e : map signed_numeral (word ∷ words) ≡ [] = h.stand in absurd cc
 words_stand_back kind (word ∷ words) (z ∷ zs) h =
-    let e : whole_of word ∷ map whole_of words ≡ Some z ∷ map (λ (y : ℤ). Some y) zs = h.stand in
-    let head : whole_of word ≡ Some z = cc in
-    let tail : map whole_of words ≡ map (λ (y : ℤ). Some y) zs = cc in
-    let first : number_in kind word ≡ Some z = number_from kind (whole_of word) z head (and_left _ _ h.allowed) in
+    let e : signed_numeral word ∷ map signed_numeral words ≡ Some z ∷ map (λ (y : ℤ). Some y) zs = h.stand in
+    let head : signed_numeral word ≡ Some z = cc in
+    let tail : map signed_numeral words ≡ map (λ (y : ℤ). Some y) zs = cc in
+    let first : number_in kind word ≡ Some z = number_from kind (signed_numeral word) z head (and_left _ _ h.allowed) in
     let rest : numbers_of kind words ≡ Some zs = words_stand_back kind words zs (record { stand = tail; allowed = and_right _ _ h.allowed }) in
     rw (first, rest) refl
 
@@ -155,10 +155,10 @@ lists_back kind lines zs listed allowed =
 
 -- ---- what is allowed
 
-pub weight_within : (z : ℤ) → is_allowed Weight z ≡ true → IsWithin (negsuc 999999999999) (pos 1000000000000) z
+pub weight_within : (z : ℤ) → is_allowed Weight z ≡ true → IsWeight z
 weight_within z e = grind (arith, ints)
 
-pub weight_allowed : (z : ℤ) → IsWithin (negsuc 999999999999) (pos 1000000000000) z → is_allowed Weight z ≡ true
+pub weight_allowed : (z : ℤ) → IsWeight z → is_allowed Weight z ≡ true
 weight_allowed z h = grind (arith, ints)
 
 pub tour_word : (z : ℤ) → is_allowed TourWord z ≡ true → IsTourWord z

@@ -2,12 +2,14 @@
 use Rattle.std.proofs.Common.{◌≡◌, ℕ, ◌<◌, ◌≤◌, true, List, [], ◌++◌, length, map, Option, None, Some, sym, ap, subst, ◌∙◌, refl, arith}
 use Rattle.std.specs.Prelude.{ℤ, nat_abs}
 use Rattle.std.specs.List.{All, list_all, concat}
+use Rattle.std.proofs.lemmas.Option.{same_Some}
 use Rattle.std.proofs.lemmas.List.Sums.{AllPass-from_list_all, list_all-from_AllPass}
 use Rattle.tsp_judge.specs.declared.form.words.NumberKind.TheVariants.{TourWord}
 use Rattle.tsp_judge.specs.Words.{lines_of, runs_between}
 use Rattle.tsp_judge.specs.Numbers.{is_allowed, numbers_before_eof}
 use Rattle.tsp_judge.specs.Forms.{IsSolution, IsTourWord, ListsNumbers, solution_head, ends_tour}
 use Rattle.tsp_judge.proofs.Lists.{lists, lists_back, tour_word, tour_word_allowed}
+use Rattle.tsp_value.specs.Limits.{most_tour_nodes}
 use Rattle.tsp_judge.proofs.Instances.{lists_nothing}
 
 pub tour_words : (zs : List ℤ) → list_all (is_allowed TourWord) zs ≡ true → All IsTourWord zs
@@ -41,18 +43,15 @@ abbrev pub tours_in : List ℤ → List (List ℕ)
 tours_in numbers = map (map nat_abs) (runs_between ends_tour numbers)
 
 pub too_many_nodes : (text : List ℕ) (body : List (List ℕ)) (numbers : List ℤ) → lines_of text ≡ solution_head ++ body → numbers_before_eof TourWord body ≡ Some numbers
-    → 1000000 < length (concat (tours_in numbers)) → (tours : List (List ℕ)) → IsSolution text tours → ⊥
+    → most_tour_nodes < length (concat (tours_in numbers)) → (tours : List (List ℕ)) → IsSolution text tours → ⊥
 too_many_nodes text body numbers head e many tours spelled =
-    let same : numbers ≡ spelled.numbers = some_is numbers spelled.numbers (numbers_are text body (Some numbers) head e tours spelled) in
+    let same : numbers ≡ spelled.numbers = same_Some numbers spelled.numbers (numbers_are text body (Some numbers) head e tours spelled) in
     let runs : tours ≡ tours_in numbers = spelled.runs ∙ ap tours_in (sym same) in
-    let few : length (concat tours) ≤ 1000000 = spelled.count in
+    let few : length (concat tours) ≤ most_tour_nodes = spelled.count in
     omega (arith, many, few, ap (λ (ts : List (List ℕ)). length (concat ts)) runs)
-  where
-    some_is : (a b : List ℤ) → Some a ≡ Some b → a ≡ b
-    some_is a b f = cc
 
 pub is_solution : (text : List ℕ) (body : List (List ℕ)) (numbers : List ℤ) → lines_of text ≡ solution_head ++ body → numbers_before_eof TourWord body ≡ Some numbers
-    → length (concat (tours_in numbers)) ≤ 1000000 → IsSolution text (tours_in numbers)
+    → length (concat (tours_in numbers)) ≤ most_tour_nodes → IsSolution text (tours_in numbers)
 is_solution text body numbers head e few =
     let listed = lists TourWord body numbers e in
     record { rest = body; numbers = numbers; head = head; body = listed.0; words = tour_words numbers listed.1; runs = refl; count = few }

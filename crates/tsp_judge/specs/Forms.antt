@@ -1,8 +1,8 @@
 -- The two plain forms of text: which instance, and which tours, a text spells.
-use Rattle.std.specs.Prelude.{◌≡◌, ℕ, ◌*◌, ◌<◌, ◌≤◌, ◌⊎◌, Bool, true, false, List, [], ◌∷◌, ◌++◌, length, take, map, Some, ℤ, pos, negsuc, nat_abs, ◌≤ℤ◌, codes, decimal}
+use Rattle.std.specs.Prelude.{◌≡◌, ℕ, ◌+◌, ◌*◌, ◌<◌, ◌≤◌, ◌⊎◌, Bool, true, false, List, [], ◌∷◌, ◌++◌, length, take, map, Some, ℤ, pos, negsuc, neg_ℤ, nat_abs, ◌≤ℤ◌, codes, decimal}
 use Rattle.std.specs.List.{All, flat_map, concat}
-use Rattle.tsp_judge.specs.declared.limit.TheConstants.{FILE_LIMIT}
-use Rattle.tsp_judge.specs.Words.{lines_of, words_of, whole_of, runs_between}
+use Rattle.tsp_value.specs.Limits.{most_nodes, most_matrix_nodes, most_tour_nodes, most_weight, most_file_bytes}
+use Rattle.tsp_judge.specs.Words.{lines_of, words_of, signed_numeral, runs_between}
 
 -- an ATSP instance: the number of its nodes, and the weights of its matrix by rows
 pub record Instance : Type 0 where
@@ -12,6 +12,10 @@ pub record Instance : Type 0 where
 abbrev pub IsWithin : ℤ → ℤ → ℤ → Type 0
 IsWithin low high z = (low ≤ℤ z) × (z ≤ℤ high)
 
+-- a weight's size is limited
+abbrev pub IsWeight : ℤ → Type 0
+IsWeight z = IsWithin (neg_ℤ (pos most_weight)) (pos most_weight) z
+
 abbrev pub eof : List ℕ
 eof = codes "EOF"
 
@@ -20,7 +24,7 @@ pub record ListsNumbers (lines : List (List ℕ)) (numbers : List ℤ) : Type 0 
   pub body : List (List ℕ)
   pub after : List (List ℕ)
   pub parts : lines ≡ body ++ eof ∷ after
-  pub words : map whole_of (flat_map words_of body) ≡ map Some numbers
+  pub words : map signed_numeral (flat_map words_of body) ≡ map Some numbers
 
 -- the lines between the dimension and the weights
 abbrev pub weight_lines : List (List ℕ)
@@ -35,9 +39,9 @@ pub record IsInstance (text : List ℕ) (instance : Instance) : Type 0 where
   pub rest : List (List ℕ)
   pub head : lines_of text ≡ instance_head instance.nodes ++ rest
   pub body : ListsNumbers rest instance.weights
-  pub nodes : (1 ≤ instance.nodes) × (instance.nodes ≤ 5000)
+  pub nodes : (1 ≤ instance.nodes) × (instance.nodes ≤ most_matrix_nodes)
   pub count : length instance.weights ≡ instance.nodes * instance.nodes
-  pub sizes : All (IsWithin (negsuc 999999999999) (pos 1000000000000)) instance.weights
+  pub sizes : All IsWeight instance.weights
 
 abbrev pub solution_head : List (List ℕ)
 solution_head = codes "TYPE : TOUR" ∷ codes "TOUR_SECTION" ∷ []
@@ -49,7 +53,7 @@ ends_tour (negsuc n) = true
 
 -- -1, or a node
 abbrev pub IsTourWord : ℤ → Type 0
-IsTourWord z = (z ≡ negsuc 0) ⊎ IsWithin (pos 1) (pos 100000) z
+IsTourWord z = (z ≡ negsuc 0) ⊎ IsWithin (pos 1) (pos most_nodes) z
 
 -- The second form: the head, lines of nodes and -1, and the line EOF. The tours are the runs of nodes between -1s.
 pub record IsSolution (text : List ℕ) (tours : List (List ℕ)) : Type 0 where
@@ -59,24 +63,28 @@ pub record IsSolution (text : List ℕ) (tours : List (List ℕ)) : Type 0 where
   pub body : ListsNumbers rest numbers
   pub words : All IsTourWord numbers
   pub runs : tours ≡ map (map nat_abs) (runs_between ends_tour numbers)
-  pub count : length (concat tours) ≤ 1000000
+  pub count : length (concat tours) ≤ most_tour_nodes
 
 -- of a text that is longer than the limit the bytes up to there count alone
 abbrev pub counted : List ℕ → List ℕ
-counted bytes = take FILE_LIMIT bytes
+counted bytes = take most_file_bytes bytes
 
 -- a line EOF that a byte 10 ends, as one that another line follows
 abbrev pub HasEofLine : List ℕ → Type 0
 HasEofLine text = (before : List (List ℕ)) × (next : List ℕ) × (after : List (List ℕ)) × (lines_of text ≡ before ++ eof ∷ next ∷ after)
 
+-- how many bytes of a file are taken at most
+abbrev pub most_taken : ℕ
+most_taken = most_file_bytes + 4096
+
 -- more bytes than the limit, and no line EOF up to there
 abbrev pub IsTooLong : List ℕ → Type 0
-IsTooLong bytes = (FILE_LIMIT < length bytes) × (HasEofLine (counted bytes) → ⊥)
+IsTooLong bytes = (most_file_bytes < length bytes) × (HasEofLine (counted bytes) → ⊥)
 
--- the bytes spell the value by the form
-abbrev pub Spells : {A : Type 0} → (List ℕ → A → Type 0) → List ℕ → A → Type 0
-Spells form bytes value = (IsTooLong bytes → ⊥) × form (counted bytes) value
+-- the bytes denote the value by the form
+abbrev pub Denotes : {A : Type 0} → (List ℕ → A → Type 0) → List ℕ → A → Type 0
+Denotes form bytes value = (IsTooLong bytes → ⊥) × form (counted bytes) value
 
--- the bytes are within the limit and spell no value by the form
-abbrev pub SpellsNone : {A : Type 0} → (List ℕ → A → Type 0) → List ℕ → Type 0
-SpellsNone {A} form bytes = (IsTooLong bytes → ⊥) × ((value : A) → form (counted bytes) value → ⊥)
+-- the bytes are within the limit and denote no value by the form
+abbrev pub DenotesNone : {A : Type 0} → (List ℕ → A → Type 0) → List ℕ → Type 0
+DenotesNone {A} form bytes = (IsTooLong bytes → ⊥) × ((value : A) → form (counted bytes) value → ⊥)

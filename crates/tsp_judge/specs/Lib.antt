@@ -1,3 +1,5 @@
+pub use Rattle.tsp_stream.specs.Sink
+pub use Rattle.tsp_stream.specs.Turn
 pub mod Words
 pub mod Numbers
 pub mod Forms

@@ -10,6 +10,6 @@ abbrev pub instance_of : Matrix → Instance
 instance_of m = record { nodes = m.nodes; weights = m.weights.items }
 
 -- the tours, of which their number and their nodes one after the other are kept
-pub record Holds (held : Tours) (tours : List (List ℕ)) : Type 0 where
+pub record HoldsTours (held : Tours) (tours : List (List ℕ)) : Type 0 where
   pub count : held.count ≡ length tours
   pub nodes : held.nodes.items ≡ concat tours

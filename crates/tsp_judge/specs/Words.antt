@@ -30,7 +30,7 @@ numeral digits = if is_filled digits && nat_le (length digits) 13 && list_all is
     then Some (digits_value 10 digits) else None
 
 -- a word: a numeral, or the byte 45 (`-`) and a numeral
-abbrev pub whole_of : List ℕ → Option ℤ
-whole_of [] = None
-whole_of (b ∷ bytes) = if b == 45 then option_map (λ n. neg_ℤ (pos n)) (numeral bytes)
+abbrev pub signed_numeral : List ℕ → Option ℤ
+signed_numeral [] = None
+signed_numeral (b ∷ bytes) = if b == 45 then option_map (λ n. neg_ℤ (pos n)) (numeral bytes)
     else option_map pos (numeral (b ∷ bytes))

@@ -1,8 +1,9 @@
 //! The check of an instance and a solution, from the bytes that come in to those that go out.
 
-ghost use Rattle.std.specs.Prelude.{List, ℕ};
 ghost use Rattle.tsp_stream.specs.Sink.{sink_of};
-ghost use Rattle.tsp_judge.specs.Run.{turn_of, IsRun};
+ghost use Rattle.tsp_stream.specs.Turn.{turn_of, TakesAtMost};
+ghost use Rattle.tsp_judge.specs.Forms.{most_taken};
+ghost use Rattle.tsp_judge.specs.Run.{IsRun};
 
 use crate::fault::RunFault;
 use crate::judge::judge;
@@ -10,7 +11,7 @@ use crate::reading::{read_instance, read_solution};
 use crate::report::report_text;
 use std::alloc::Global;
 use std::io::{Read, Write};
-use tsp_file::{Watched, WriteFault, write_text};
+use tsp_stream::{Watched, write_text};
 
 /// Judges a solution of an instance, and writes the report.
 ///
@@ -23,18 +24,20 @@ use tsp_file::{Watched, WriteFault, write_text};
 /// solution TYPE TOUR, in the plain forms that `docs/format.md` states; every other text is
 /// answered with `NotYet`.
 ///
-/// Errors: `File` where a file's device fails, where it is longer than `FILE_LIMIT` with no line
-/// `EOF` up to there, or where memory is wanting for it; `NotYet`; `Write` where the report could
-/// not be written; `OutOfMemory` where memory is wanting for the judgement, which the search for a
-/// repeated node alone takes: so no other reason stands then.
+/// Errors: `File` where a file's device fails, where it is longer than `MOST_FILE_BYTES` with no line
+/// `EOF` up to there, or where memory is wanting for it; `NotYet`; `OutOfMemory` where both are
+/// files and memory is wanting for the judgement (which the search for a repeated node alone
+/// takes), or, after any verdict, for the report; `Write` where the writer fails. Of each file at
+/// most 4,096 bytes past `MOST_FILE_BYTES` are read.
 pub fn run_check<I: Read, S: Read, W: Write>(
     alloc: Global,
     inst: &mut Watched<I>,
     sol: &mut Watched<S>,
     out: &mut Watched<W>,
 ) -> Result<bool, RunFault>
-    ensures { (first second : List ℕ) × IsRun (turn_of I.remaining inst.old inst.new first)
-        (turn_of S.remaining sol.old sol.new second) (sink_of W.contents out.old out.new) result }
+    ensures { TakesAtMost most_taken (turn_of I.remaining inst.old inst.new) (λ instance.
+        TakesAtMost most_taken (turn_of S.remaining sol.old sol.new) (λ solution.
+        IsRun instance solution (sink_of W.contents out.old out.new) result)) }
 {
     let instance = match read_instance(alloc, inst) {
         Err(fault) => return Err(RunFault::File { file: 1, fault }),
@@ -51,7 +54,7 @@ pub fn run_check<I: Read, S: Read, W: Write>(
         Ok(verdict) => verdict,
     };
     let Ok(report) = report_text(alloc, instance.nodes(), verdict) else {
-        return Err(RunFault::Write(WriteFault::OutOfMemory));
+        return Err(RunFault::OutOfMemory);
     };
     match write_text(out, &report) {
         Err(fault) => Err(RunFault::Write(fault)),

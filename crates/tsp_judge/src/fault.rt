@@ -1,7 +1,7 @@
 //! The faults of a run.
 
 use thiserror::Error;
-use tsp_file::WriteFault;
+use tsp_stream::WriteFault;
 
 /// Why a file could not be read.
 #[derive(Clone, Copy, Debug, PartialEq, Eq, Error)]
@@ -12,7 +12,7 @@ pub enum ReadFault {
     /// A read failed.
     #[error("device")]
     Device,
-    /// More bytes than `FILE_LIMIT`, and no line `EOF` among those up to there.
+    /// More bytes than `MOST_FILE_BYTES`, and no line `EOF` among those up to there.
     #[error("too long")]
     TooLong,
 }
@@ -26,7 +26,7 @@ pub enum RunFault {
     /// The report could not be written.
     #[error("output: {0}")]
     Write(WriteFault),
-    /// Want of memory for the judgement.
+    /// Want of memory for the judgement, or for the report.
     #[error("out of memory")]
     OutOfMemory,
     /// A file is not of a form that is judged so far.

@@ -5,13 +5,11 @@ mod check;
 mod fault;
 mod form;
 mod judge;
-mod limit;
 mod reading;
 mod report;
 mod verdict;
 
 pub use check::run_check;
 pub use fault::{ReadFault, RunFault};
-pub use limit::FILE_LIMIT;
-pub use tsp_file::{Watched, WriteFault};
+pub use tsp_stream::{Watched, WriteFault};
 pub use verdict::{Reason, Verdict};

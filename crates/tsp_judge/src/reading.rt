@@ -2,45 +2,18 @@
 
 ghost use Rattle.std.specs.Prelude.{◌≡◌, MatchBool};
 ghost use Rattle.tsp_judge.specs.Forms.{HasEofLine, IsInstance, IsSolution};
-ghost use Rattle.tsp_judge.specs.Run.{turn_of};
-ghost use Rattle.tsp_judge.specs.Reading.{ReadsWhole, ReadsCounted, ReadsForm};
-ghost use Rattle.tsp_judge.specs.Values.{instance_of, Holds};
+ghost use Rattle.tsp_stream.specs.Turn.{turn_of};
+ghost use Rattle.tsp_judge.specs.Reading.{ReadsCounted, ReadsForm};
+ghost use Rattle.tsp_judge.specs.Values.{instance_of, HoldsTours};
 
 use crate::fault::ReadFault;
 use crate::form::instance::Matrix;
 use crate::form::lines::first_line;
 use crate::form::solution::{Tours, parse_solution};
-use crate::limit::FILE_LIMIT;
 use std::alloc::Global;
 use std::io::Read;
-use tsp_file::Watched;
-
-/// How many bytes a reader is asked for at once.
-const PIECE: usize = 4_096;
-
-/// All bytes that a reader hands out, up to the piece that passes the limit of a file.
-fn read_whole<R: Read>(alloc: Global, reader: &mut Watched<R>) -> Result<Vec<u8>, ReadFault>
-    ensures { ReadsWhole (turn_of R.remaining reader.old reader.new) result }
-{
-    if reader.failed() {
-        return Err(ReadFault::Device);
-    }
-    let mut bytes = Vec::new(alloc);
-    let mut piece = [0u8; PIECE];
-    'pieces: while bytes.len() <= FILE_LIMIT {
-        let count = match reader.read(&mut piece) {
-            Err(_) => return Err(ReadFault::Device),
-            Ok(count) => count,
-        };
-        if count == 0 {
-            return Ok(bytes);
-        }
-        if bytes.extend_from_slice(&piece[..count]).is_err() {
-            return Err(ReadFault::OutOfMemory);
-        }
-    }
-    Ok(bytes)
-}
+use tsp_stream::{InputFault, Watched, read_whole};
+use tsp_value::MOST_FILE_BYTES;
 
 /// Whether a line `EOF` stands in the text that a byte 10 ends.
 fn has_eof_line(text: &[u8]) -> bool
@@ -64,14 +37,15 @@ fn has_eof_line(text: &[u8]) -> bool
 fn read_counted<R: Read>(alloc: Global, reader: &mut Watched<R>) -> Result<Vec<u8>, ReadFault>
     ensures { ReadsCounted (turn_of R.remaining reader.old reader.new) result }
 {
-    let mut bytes = match read_whole(alloc, reader) {
-        Err(fault) => return Err(fault),
+    let mut bytes = match read_whole(alloc, reader, MOST_FILE_BYTES) {
+        Err(InputFault::Device) => return Err(ReadFault::Device),
+        Err(InputFault::OutOfMemory) => return Err(ReadFault::OutOfMemory),
         Ok(bytes) => bytes,
     };
-    if bytes.len() <= FILE_LIMIT {
+    if bytes.len() <= MOST_FILE_BYTES {
         return Ok(bytes);
     }
-    bytes.truncate(FILE_LIMIT);
+    bytes.truncate(MOST_FILE_BYTES);
     if has_eof_line(&bytes) {
         Ok(bytes)
     } else {
@@ -101,7 +75,7 @@ pub(crate) fn read_solution<R: Read>(
     alloc: Global,
     reader: &mut Watched<R>,
 ) -> Result<Option<Tours>, ReadFault>
-    ensures { ReadsForm IsSolution Holds (turn_of R.remaining reader.old reader.new) result }
+    ensures { ReadsForm IsSolution HoldsTours (turn_of R.remaining reader.old reader.new) result }
 {
     let bytes = match read_counted(alloc, reader) {
         Err(fault) => return Err(fault),

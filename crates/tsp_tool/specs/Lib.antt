@@ -1,3 +1,4 @@
+pub mod Check
 pub mod Command
+pub mod Ending
 pub mod Source
-pub mod Status

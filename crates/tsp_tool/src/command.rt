@@ -1,7 +1,7 @@
 //! The words of the command line.
 
 ghost use Rattle.std.specs.Prelude.{map};
-ghost use Rattle.tsp_tool.specs.Command.{AsksFor};
+ghost use Rattle.tsp_tool.specs.Command.{AsksFor, after_name};
 
 /// What the program is asked to do.
 #[derive(Clone, Copy, Debug, PartialEq, Eq)]
@@ -15,13 +15,14 @@ pub(crate) enum Command<'a> {
     },
 }
 
-/// What the words after the program's name ask for: no words at all, or `check F T`.
-pub(crate) fn command_of<'a>(words: &[&'a str]) -> Option<Command<'a>>
-    ensures { AsksFor (map (λ word. word.now) words.now) result }
+/// What the words of a command line ask for, the program's own name first: no words after it at
+/// all, or `check F T`.
+pub(crate) fn command_of<'a>(line: &[&'a str]) -> Option<Command<'a>>
+    ensures { AsksFor (after_name (map (λ word. word.now) line.now)) result }
 {
-    match words {
-        [] => Some(Command::Stored),
-        ["check", instance, solution] => Some(Command::Check { instance, solution }),
+    match line {
+        [] | [_] => Some(Command::Stored),
+        [_, "check", instance, solution] => Some(Command::Check { instance, solution }),
         _ => None,
     }
 }

@@ -3,4 +3,5 @@ pub mod Cells
 pub mod Keywords
 pub mod Layout
 pub mod Limits
+pub mod Place
 pub mod Words

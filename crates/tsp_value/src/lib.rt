@@ -7,6 +7,7 @@ mod keyword;
 mod kinds;
 mod layout;
 mod limits;
+mod place;
 mod word;
 
 pub use bytes::{is_blank, is_keyword_byte, is_letter};
@@ -20,4 +21,5 @@ pub use limits::{
     MOST_POTENTIAL, MOST_SCALE, MOST_TOUR_NODES, MOST_WEIGHT, MOST_WORD_BYTES,
     limits_are_those_of_the_profile,
 };
+pub use place::only_cells_have_places;
 pub use word::{Word, value_of};

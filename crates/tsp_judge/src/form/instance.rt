@@ -3,16 +3,15 @@
 ghost use Rattle.std.specs.Prelude.{◌≡◌, ◌≢◌, ◌*◌, ◌-◌, ◌≤◌, ◌<◌, List, ℕ, ◌++◌, [], pos, negsuc, codes, decimal, vec_len, MatchOption, IfOk, ℤ};
 ghost use Rattle.std.specs.List.{All};
 ghost use Rattle.tsp_judge.specs.Words.{lines_of};
-ghost use Rattle.tsp_judge.specs.Forms.{IsWithin, instance_head, weight_lines};
+ghost use Rattle.tsp_value.specs.Limits.{most_matrix_nodes};
+ghost use Rattle.tsp_judge.specs.Forms.{IsWeight, instance_head, weight_lines};
 
 use crate::form::lines::{after_line, first_line};
 use crate::form::numbers::numbers_before_eof;
 use crate::form::words::{NumberKind, numeral};
 use itoa::Buffer;
 use std::alloc::{AllocError, Global};
-
-/// The most nodes of an instance with a matrix.
-const MOST_NODES: u64 = 5_000;
+use tsp_value::MOST_MATRIX_NODES;
 
 /// An ATSP instance: the number of its nodes, and the weights of its matrix, row by row.
 #[derive(Drop)]
@@ -20,9 +19,9 @@ pub(crate) struct Matrix {
     nodes: u32,
     weights: Vec<i64>,
     ghost filled: { 1 ≤ nodes },
-    ghost small: { nodes ≤ 5000 },
+    ghost small: { nodes ≤ most_matrix_nodes },
     ghost square: { vec_len weights ≡ nodes * nodes },
-    ghost sizes: { All (IsWithin (negsuc 999999999999) (pos 1000000000000)) weights.items },
+    ghost sizes: { All IsWeight weights.items },
 }
 
 impl Matrix {
@@ -52,7 +51,7 @@ impl Matrix {
     /// How many nodes the instance has: 1 to 5,000.
     pub(crate) fn nodes(&self) -> u32
         ensures value { result ≡ (instance_of self.now).nodes }
-        ensures range { (1 ≤ result) × (result ≤ 5000) }
+        ensures range { (1 ≤ result) × (result ≤ most_matrix_nodes) }
     {
         self.nodes
     }
@@ -62,7 +61,7 @@ impl Matrix {
         requires from { IsNode (instance_of self.now).nodes from }
         requires to { IsNode (instance_of self.now).nodes to }
         ensures value { result ≡ cost (instance_of self.now) from to }
-        ensures size { IsWithin (negsuc 999999999999) (pos 1000000000000) result }
+        ensures size { IsWeight result }
     {
         let row = (from as usize - 1) * self.nodes as usize;
         self.weights[row + (to as usize - 1)]
@@ -73,8 +72,8 @@ impl Matrix {
 /// leading zeros.
 fn dimension_of(line: &[u8]) -> Option<u32>
     ensures { MatchOption result
-        ((n : ℕ) → 1 ≤ n → n ≤ 5000 → line.now ≢ codes "DIMENSION : " ++ decimal n)
-        (λ n. (1 ≤ n) × (n ≤ 5000) × (line.now ≡ codes "DIMENSION : " ++ decimal n)) }
+        ((n : ℕ) → 1 ≤ n → n ≤ most_matrix_nodes → line.now ≢ codes "DIMENSION : " ++ decimal n)
+        (λ n. (1 ≤ n) × (n ≤ most_matrix_nodes) × (line.now ≡ codes "DIMENSION : " ++ decimal n)) }
 {
     let Some(digits) = line.strip_prefix(b"DIMENSION : ") else {
         return None;
@@ -82,7 +81,8 @@ fn dimension_of(line: &[u8]) -> Option<u32>
     let Some(nodes) = numeral(digits) else {
         return None;
     };
-    if nodes < 1 || nodes > MOST_NODES {
+    let most = u64::from(MOST_MATRIX_NODES);
+    if nodes < 1 || nodes > most {
         return None;
     }
     let mut buffer = Buffer::new();
@@ -96,8 +96,8 @@ fn dimension_of(line: &[u8]) -> Option<u32>
 /// The number of nodes that the head of an instance says, and the text after the head.
 fn read_head(text: &[u8]) -> Option<(u32, &[u8])>
     ensures { MatchOption result
-        ((n : ℕ) (rest : List (List ℕ)) → 1 ≤ n → n ≤ 5000 → lines_of text.now ≡ instance_head n ++ rest → rest ≡ [])
-        (λ found. (1 ≤ found.0) × (found.0 ≤ 5000) × (lines_of text.now ≡ instance_head found.0 ++ lines_of found.1.now)) }
+        ((n : ℕ) (rest : List (List ℕ)) → 1 ≤ n → n ≤ most_matrix_nodes → lines_of text.now ≡ instance_head n ++ rest → rest ≡ [])
+        (λ found. (1 ≤ found.0) × (found.0 ≤ most_matrix_nodes) × (lines_of text.now ≡ instance_head found.0 ++ lines_of found.1.now)) }
 {
     let Some(after_type) = after_line(text, b"TYPE : ATSP") else {
         return None;

@@ -4,15 +4,13 @@ ghost use Rattle.std.specs.Prelude.{◌≡◌, ◌≤◌, ◌<◌, List, ℕ, �
 ghost use Rattle.std.specs.List.{All};
 ghost use Rattle.tsp_judge.specs.Words.{lines_of, runs_between};
 ghost use Rattle.tsp_judge.specs.Forms.{solution_head, IsSolution, IsTourWord, ends_tour};
-ghost use Rattle.tsp_judge.specs.Values.{Holds};
+ghost use Rattle.tsp_judge.specs.Values.{HoldsTours};
 
 use crate::form::lines::after_line;
 use crate::form::numbers::numbers_before_eof;
 use crate::form::words::NumberKind;
 use std::alloc::{AllocError, Global};
-
-/// The most nodes of all tours of a file.
-const MOST_TOUR_NODES: usize = 1_000_000;
+use tsp_value::MOST_TOUR_NODES;
 
 /// The tours of a solution: how many there are, and their nodes, one tour after the other.
 #[derive(Drop)]
@@ -25,7 +23,7 @@ pub(crate) struct Tours {
 pub(crate) fn parse_solution(alloc: Global, text: &[u8]) -> Result<Option<Tours>, AllocError>
     ensures { IfOk result (λ found. MatchOption found
         ((tours : List (List ℕ)) → IsSolution text.now tours → ⊥)
-        (λ held. (tours : List (List ℕ)) × IsSolution text.now tours × Holds held tours)) }
+        (λ held. (tours : List (List ℕ)) × IsSolution text.now tours × HoldsTours held tours)) }
 {
     let Some(body) = read_head(text) else {
         return Ok(None);
@@ -55,7 +53,7 @@ fn read_head(text: &[u8]) -> Option<&[u8]>
 /// The runs of nodes between numbers -1.
 fn tours_of(alloc: Global, numbers: &[i64]) -> Result<Tours, AllocError>
     requires { All IsTourWord numbers.now }
-    ensures { IfOk result (λ held. Holds held (map (map nat_abs) (runs_between ends_tour numbers.now))) }
+    ensures { IfOk result (λ held. HoldsTours held (map (map nat_abs) (runs_between ends_tour numbers.now))) }
 {
     let mut count = 0;
     let mut nodes = Vec::new(alloc);

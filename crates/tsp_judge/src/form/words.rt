@@ -3,8 +3,10 @@
 ghost use Rattle.std.specs.Prelude.{◌≡◌, ◌<◌, ◌≤◌, not, [], ◌∷◌, length, MatchOption, pos, IfSome, codes};
 ghost use Rattle.std.specs.Option.{option_map};
 ghost use Rattle.std.specs.List.{position};
-ghost use Rattle.tsp_judge.specs.Words.{parts_words, words_of, numeral, whole_of};
+ghost use Rattle.tsp_judge.specs.Words.{parts_words, words_of, numeral, signed_numeral};
 ghost use Rattle.tsp_judge.specs.Numbers.{number_in};
+
+use tsp_value::{MOST_NODES, MOST_WEIGHT};
 
 /// How many digits a number has at most.
 const MOST_DIGITS: usize = 13;
@@ -63,7 +65,7 @@ pub(crate) fn numeral(digits: &[u8]) -> Option<u64>
 
 /// The number that a word stands for: a numeral, or `-` and a numeral.
 fn whole(word: &[u8]) -> Option<i64>
-    ensures { result ≡ whole_of word.now }
+    ensures { result ≡ signed_numeral word.now }
 {
     match word {
         [b'-', digits @ ..] => numeral(digits).map(|value| -(value as i64)),
@@ -80,20 +82,14 @@ pub(crate) enum NumberKind {
     TourWord,
 }
 
-/// The largest size of a weight.
-const WEIGHT_LIMIT: i64 = 1_000_000_000_000;
-
-/// The largest node of a tour.
-const NODE_LIMIT: i64 = 100_000;
-
 /// The number that a word stands for, where that is allowed.
 pub(crate) fn number_in(word: &[u8], kind: NumberKind) -> Option<i64>
     ensures { result ≡ number_in kind word.now }
 {
     let number = whole(word)?;
     let allowed = match kind {
-        NumberKind::Weight => -WEIGHT_LIMIT <= number && number <= WEIGHT_LIMIT,
-        NumberKind::TourWord => (1 <= number && number <= NODE_LIMIT) || number == -1,
+        NumberKind::Weight => -MOST_WEIGHT <= number && number <= MOST_WEIGHT,
+        NumberKind::TourWord => (1 <= number && number <= MOST_NODES as i64) || number == -1,
     };
     if allowed { Some(number) } else { None }
 }

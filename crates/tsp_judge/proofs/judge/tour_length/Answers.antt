@@ -4,6 +4,7 @@ use Rattle.std.specs.Int.{w64}
 use Rattle.tsp_judge.specs.Tour.{cost, tour_length}
 use Rattle.tsp_judge.specs.Values.{instance_of}
 use Rattle.tsp_judge.proofs.Lengths.{first_in, other_in, path_more, path_last, sum_fits, sum_low, sum_high}
+use Rattle.tsp_value.specs.Limits.{most_tour_nodes}
 use Rattle.tsp_judge.proofs.judge.tour_length.Goals as goal
 
 pub cost-length-requires-clause-to : goal.cost-length-requires-clause-to
@@ -12,7 +13,7 @@ cost-length-requires-clause-to c = other_in _ c.args.tour.now c.in-Some.first.no
 pub nodes-preserved : goal.nodes-preserved
 nodes-preserved c =
     let so_far : ℤ = to_z w64 c.nodes.length-bits in
-    let few : c.nodes.node-index ≤ 1000000 = omega (arith, c.in-Some.ensures.cases.1, c.requires.size) in
+    let few : c.nodes.node-index ≤ most_tour_nodes = omega (arith, c.in-Some.ensures.cases.1, c.requires.size) in
     let sum = sum_fits so_far c.cost-length.result c.nodes.node-index few c.nodes.invariant.low c.nodes.invariant.high c.cost-length.ensures.size in
     record {
       from = other_in _ c.args.tour.now c.in-Some.first.now c.in-Some.others.now c.nodes.node-index c.in-Some.ensures.cases.0 c.requires.range c.nodes-test.true;
@@ -27,7 +28,7 @@ cost-requires-clause-to c = first_in _ c.args.tour.now c.in-Some.first.now c.in-
 pub returns : goal.returns
 returns c =
     let so_far : ℤ = to_z w64 c.nodes.length-bits in
-    let few : c.nodes.node-index ≤ 1000000 = omega (arith, c.in-Some.ensures.cases.1, c.requires.size) in
+    let few : c.nodes.node-index ≤ most_tour_nodes = omega (arith, c.in-Some.ensures.cases.1, c.requires.size) in
     let sum = sum_fits so_far c.cost.result c.nodes.node-index few c.nodes.invariant.low c.nodes.invariant.high c.cost.ensures.size in
     let whole = path_last (cost (instance_of c.args.instance.now)) so_far _ c.nodes.from c.in-Some.first.now c.in-Some.others.now c.nodes.node-index c.nodes-test.false c.nodes.invariant.so_far in
     let value : so_far +ℤ c.cost.result ≡ so_far +ℤ cost (instance_of c.args.instance.now) c.nodes.from c.in-Some.first.now = ap (λ (z : ℤ). so_far +ℤ z) c.cost.ensures.value in

@@ -3,7 +3,7 @@ use Rattle.std.specs.Option.{MatchOption}
 use Rattle.tsp_judge.specs.declared.form.instance.Matrix.{Matrix}
 use Rattle.tsp_judge.specs.Values.{instance_of}
 use Rattle.tsp_judge.specs.Forms.{Instance, IsInstance}
-use Rattle.tsp_judge.specs.Run.{turn_of}
+use Rattle.tsp_stream.specs.Turn.{turn_of}
 use Rattle.tsp_judge.proofs.Turns.{reads_form}
 use Rattle.tsp_judge.proofs.reading.read_instance.Goals as goal
 
@@ -14,5 +14,5 @@ with_value text None h = h
 with_value text (Some m) h = (instance_of m, h, refl)
 
 pub returns : goal.returns
-returns g c = reads_form IsInstance (λ (m : Matrix) (value : Instance). instance_of m ≡ value) (turn_of g.R.Read.remaining c.args.reader.now c.read_counted.new.reader) c.in-Ok.ensures.0 c.deref.result.now c.in-Ok-parse.found
-    (rw c.deref.ensures.value c.in-Ok.ensures.1) (with_value c.deref.result.now c.in-Ok-parse.found c.in-Ok-parse.ensures)
+returns g c = reads_form IsInstance (λ (m : Matrix) (value : Instance). instance_of m ≡ value) (turn_of g.R.Read.remaining c.args.reader.now c.read_counted.new.reader) c.deref.result.now c.in-Ok-parse.found
+    (rw c.deref.ensures.value c.in-Ok.ensures) (with_value c.deref.result.now c.in-Ok-parse.found c.in-Ok-parse.ensures)

@@ -1,0 +1,109 @@
+-- The costs of weights that are listed.
+use Rattle.std.proofs.Common.{◌≡◌, ◌≢◌, ℕ, ◌<◌, ◌≤◌, Bool, true, false, List, Option, Some, None, refl, sym, ap, subst, ◌∙◌, inl, inr, ⊎_elim, arith, to_z, of_z}
+use Rattle.std.specs.Prelude.{nat_lt, nat_le, unwrap_or, slice_index_or, ◌⊎◌, ◌↔◌, IsTrue, ℤ, pos}
+use Rattle.std.specs.Option.{option_map, option_or}
+use Rattle.std.specs.List.{Contains}
+use Rattle.std.specs.Int.{w64}
+use Rattle.std.proofs.lemmas.Int.{ints}
+use Rattle.std.proofs.lemmas.Bool.{cases_lt, le-ltb, lt-leb, false≢true}
+use Rattle.tsp_value.specs.declared.layout.Layout.{Layout}
+use Rattle.tsp_value.specs.declared.layout.Layout.TheVariants.{FullMatrix, UpperRow, LowerRow, UpperDiagRow, LowerDiagRow, UpperCol, LowerCol, UpperDiagCol, LowerDiagCol}
+use Rattle.tsp_value.specs.Cells.{IsNode, is_listed, cells}
+use Rattle.tsp_value.specs.Place.{place_of}
+use Rattle.tsp_value.specs.Limits.{most_weight}
+use Rattle.tsp_fields.specs.Valid.{IsWithin}
+use Rattle.tsp_fields.specs.Cost.{weight_at, listed_cost}
+use Rattle.tsp_cost.specs.Costs.{IsEven}
+use Rattle.tsp_cost.specs.Listed.{IsUnlisted}
+
+-- the cost of a cell is the weight at its place
+pub cost_of_cell : (layout : Layout) (n : ℕ) (weights : List ℤ) (i j place : ℕ) → place_of layout n (i, j) ≡ Some place → listed_cost layout n weights i j ≡ slice_index_or weights place (pos 0)
+unfolding listed_cost
+cost_of_cell layout n weights i j place here = ap (λ o. unwrap_or (option_or (option_map (λ at. slice_index_or weights at (pos 0)) o) (weight_at layout n weights (j, i))) (pos 0)) here
+
+-- the cost of another pair is that of the mirrored pair
+pub cost_mirrored : (layout : Layout) (n : ℕ) (weights : List ℤ) (i j place : ℕ) → place_of layout n (i, j) ≡ None → place_of layout n (j, i) ≡ Some place → listed_cost layout n weights i j ≡ slice_index_or weights place (pos 0)
+unfolding listed_cost
+cost_mirrored layout n weights i j place out there =
+    ap (λ o. unwrap_or (option_or (option_map (λ at. slice_index_or weights at (pos 0)) o) (weight_at layout n weights (j, i))) (pos 0)) out
+    ∙ ap (λ o. unwrap_or (option_map (λ at. slice_index_or weights at (pos 0)) o) (pos 0)) there
+
+pub cost_unlisted : (layout : Layout) (n : ℕ) (weights : List ℤ) (i j : ℕ) → place_of layout n (i, j) ≡ None → place_of layout n (j, i) ≡ None → listed_cost layout n weights i j ≡ pos 0
+unfolding listed_cost
+cost_unlisted layout n weights i j out too =
+    ap (λ o. unwrap_or (option_or (option_map (λ at. slice_index_or weights at (pos 0)) o) (weight_at layout n weights (j, i))) (pos 0)) out
+    ∙ ap (λ o. unwrap_or (option_map (λ at. slice_index_or weights at (pos 0)) o) (pos 0)) too
+
+-- ---- what the code reads
+
+pub weight_read : (weight : ℤ) → IsWithin most_weight weight → to_z w64 (of_z w64 weight) ≡ weight
+weight_read weight size = omega (arith, ints, size.0, size.1)
+
+-- ---- triangles
+
+-- of two pairs that mirror each other a triangle lists one at most
+not_both : (i j : ℕ) → (nat_lt i j ≡ false) ⊎ (nat_lt j i ≡ false)
+not_both i j = ⊎_elim (λ lt. inr (le-ltb j i (omega arith))) (λ le. inl (le-ltb i j le)) (cases_lt i j)
+
+not_both_of : (i j : ℕ) → i ≢ j → (nat_le i j ≡ false) ⊎ (nat_le j i ≡ false)
+not_both_of i j other = ⊎_elim (λ lt. inr (lt-leb j i lt)) (λ le. inl (lt-leb i j (omega (arith, other)))) (cases_lt i j)
+
+one_half : (layout : Layout) (i j : ℕ) → layout ≢ FullMatrix → i ≢ j → (is_listed layout (i, j) ≡ false) ⊎ (is_listed layout (j, i) ≡ false)
+one_half FullMatrix i j half other = absurd (half refl)
+one_half UpperRow i j half other = not_both i j
+one_half LowerRow i j half other = not_both j i
+one_half UpperDiagRow i j half other = not_both_of i j other
+one_half LowerDiagRow i j half other = not_both_of j i (λ same. other (sym same))
+one_half UpperCol i j half other = not_both i j
+one_half LowerCol i j half other = not_both j i
+one_half UpperDiagCol i j half other = not_both_of i j other
+one_half LowerDiagCol i j half other = not_both_of j i (λ same. other (sym same))
+
+swapped : (a b : Option ℤ) → (a ≡ None) ⊎ (b ≡ None) → unwrap_or (option_or a b) (pos 0) ≡ unwrap_or (option_or b a) (pos 0)
+swapped None None one = refl
+swapped None (Some b) one = refl
+swapped (Some a) None one = refl
+swapped (Some a) (Some b) one = ⊎_elim (λ e. absurd cc) (λ e. absurd cc) one
+
+no_weight : (layout : Layout) (n : ℕ) (weights : List ℤ) (i j : ℕ) → place_of layout n (i, j) ≡ None → weight_at layout n weights (i, j) ≡ None
+no_weight layout n weights i j out = ap (option_map (λ at. slice_index_or weights at (pos 0))) out
+
+pub triangle_even : (layout : Layout) (n : ℕ) (weights : List ℤ) → layout ≢ FullMatrix → IsUnlisted layout n → IsEven (listed_cost layout n weights)
+unfolding listed_cost
+triangle_even layout n weights half unlisted i j other = swapped (weight_at layout n weights (i, j)) (weight_at layout n weights (j, i))
+    (⊎_elim (λ out. inl (no_weight layout n weights i j (unlisted i j out))) (λ out. inr (no_weight layout n weights j i (unlisted j i out))) (one_half layout i j half other))
+
+-- ---- matrices
+
+node_or_not : (n i : ℕ) → (¬ IsNode n i) ⊎ IsNode n i
+node_or_not n i = ⊎_elim (λ lt. inl (λ h. absurd (omega (arith, h.0))))
+    (λ low. ⊎_elim (λ past. inl (λ h. absurd (omega (arith, h.1)))) (λ high. inr (low, high)) (cases_lt n i))
+    (cases_lt i 1)
+
+nodes_or_not : (n i j : ℕ) → (¬ (IsNode n i × IsNode n j)) ⊎ (IsNode n i × IsNode n j)
+nodes_or_not n i j = ⊎_elim (λ out. inl (λ h. out h.0))
+    (λ here. ⊎_elim (λ out. inl (λ h. out h.1)) (λ there. inr (here, there)) (node_or_not n j))
+    (node_or_not n i)
+
+-- the costs of a matrix are even where those of nodes are
+pub matrix_even : (n : ℕ) (weights : List ℤ) → ((i j : ℕ) → ¬ (IsNode n i × IsNode n j) → place_of FullMatrix n (i, j) ≡ None)
+    → ((i j : ℕ) → IsNode n i → IsNode n j → i < j → listed_cost FullMatrix n weights i j ≡ listed_cost FullMatrix n weights j i) → IsEven (listed_cost FullMatrix n weights)
+matrix_even n weights out inside i j other = ⊎_elim
+    (λ outside. cost_unlisted FullMatrix n weights i j (out i j outside) (out j i (λ nodes. outside (nodes.1, nodes.0))) ∙ sym (cost_unlisted FullMatrix n weights j i (out j i (λ nodes. outside (nodes.1, nodes.0))) (out i j outside)))
+    (λ nodes. ⊎_elim (λ lt. inside i j nodes.0 nodes.1 lt) (λ le. sym (inside j i nodes.1 nodes.0 (omega (arith, other)))) (cases_lt i j))
+    (nodes_or_not n i j)
+
+-- ---- pairs that are no cells
+
+-- what the layouts' laws say
+abbrev pub CellsAreListed : Type 0
+CellsAreListed = (layout : Layout) (n i j : ℕ) → Contains (cells layout n) (i, j) ↔ (IsNode n i × IsNode n j × IsTrue (is_listed layout (i, j)))
+
+abbrev pub OnlyCellsHavePlaces : Type 0
+OnlyCellsHavePlaces = (layout : Layout) (n : ℕ) (pair : ℕ × ℕ) → ¬ Contains (cells layout n) pair → place_of layout n pair ≡ None
+
+pub unlisted_has_no_place : CellsAreListed → OnlyCellsHavePlaces → (layout : Layout) (n : ℕ) → IsUnlisted layout n
+unlisted_has_no_place listed places layout n i j out = places layout n (i, j) (λ h. false≢true (sym out ∙ ((listed layout n i j).0 h).2))
+
+pub outside_has_no_place : CellsAreListed → OnlyCellsHavePlaces → (layout : Layout) (n i j : ℕ) → ¬ (IsNode n i × IsNode n j) → place_of layout n (i, j) ≡ None
+outside_has_no_place listed places layout n i j out = places layout n (i, j) (λ h. let cell = (listed layout n i j).0 h in out (cell.0, cell.1))

@@ -1,0 +1,173 @@
+//! Instances: files that have costs.
+
+ghost use Rattle.std.specs.Prelude.{unwrap_or};
+ghost use Rattle.tsp_fields.specs.Cost.{cost};
+ghost use Rattle.tsp_cost.specs.Costs.{FindsUneven};
+
+use crate::costs::Costs;
+use crate::fault::CostFault;
+use crate::matrix::Matrix;
+use crate::points::Points;
+use crate::triangle::Triangle;
+use crate::view::View;
+use std::marker::Model;
+use tsp_fields::{File, valid_fields_are_in_range, valid_files_are_complete};
+use tsp_value::{Kind, Layout, WeightFormat, WeightKind};
+
+/// A valid file of TYPE TSP, ATSP or CVRP, with the costs between its nodes.
+#[derive(Debug, Drop)]
+pub struct Instance {
+    file: File,
+}
+
+impl Model for Instance {
+    ghost use Rattle.std.specs.Prelude.{IsTrue};
+    ghost use Rattle.tsp_fields.specs.Fields.{Fields};
+    ghost use Rattle.tsp_fields.specs.Rules.{is_instance};
+
+    ghost Value = { Fields };
+
+    ghost view = { λ inst. inst.file };
+
+    ghost invariant = { λ inst. IsTrue (is_instance inst.file.kind) };
+}
+
+impl Instance {
+    ghost use Rattle.std.specs.Prelude.{◌≡◌, ◌≢◌, false, Some, IsTrue, MatchResult};
+    ghost use Rattle.tsp_fields.specs.Rules.{is_instance};
+    ghost use Rattle.tsp_value.specs.declared.kinds.WeightKind.TheVariants.{Explicit};
+    ghost use Rattle.tsp_cost.specs.declared.fault.CostFault.TheVariants.{NotInstance};
+    ghost use Rattle.tsp_cost.specs.Views.{Shows};
+
+    /// The instance that a file is, or why it is none, and the file itself, unchanged.
+    ///
+    /// Errors: `NotInstance` for a file of TYPE TOUR or POTENTIALS. No memory is taken.
+    pub fn of(f: File) -> Result<Instance, (CostFault, File)>
+        ensures { MatchResult result
+            (λ inst. (inst ≡ f) × IsTrue (is_instance f.kind))
+            (λ refused. (refused.0 ≡ NotInstance) × (refused.1 ≡ f) × (is_instance f.kind ≡ false)) }
+    {
+        match f.kind() {
+            Kind::Tsp | Kind::Atsp | Kind::Cvrp => Ok(Instance { file: f }),
+            Kind::Tour | Kind::Potentials => Err((CostFault::NotInstance, f)),
+        }
+    }
+
+    /// The file that this instance is.
+    pub fn file(&self) -> &File
+        ensures value { result.now ≡ self.now }
+        ensures instance { IsTrue (is_instance self.now.kind) }
+    {
+        &self.file
+    }
+
+    /// The file that this instance was.
+    pub fn into_file(self) -> File
+        ensures value { result ≡ self }
+        ensures instance { IsTrue (is_instance result.kind) }
+    {
+        let Instance { file } = self;
+        file
+    }
+
+    /// TYPE: TSP, ATSP or CVRP.
+    pub fn kind(&self) -> Kind
+        ensures value { Some result ≡ self.now.kind }
+        ensures instance { IsTrue (is_instance (Some result)) }
+    {
+        self.file.kind()
+    }
+
+    /// What the costs are taken from: points where the weight type is a distance, whatever the
+    /// format; else a matrix for FULL_MATRIX and a triangle for every other layout.
+    #[inline]
+    pub fn view(&self) -> View<'_>
+        ensures { Shows self.now result }
+    {
+        let Some(kind) = self.file.weight_kind() else {
+            unreachable!();
+        };
+        match kind {
+            WeightKind::Explicit => self.listed_view(),
+            _ => self.distance_view(kind),
+        }
+    }
+
+    /// The points of an instance whose weight type is a distance.
+    #[inline]
+    fn distance_view(&self, kind: WeightKind) -> View<'_>
+        requires kind { self.now.weight_kind ≡ Some kind }
+        requires distance { kind ≢ Explicit }
+        ensures { Shows self.now result }
+    {
+        let fields = self.file.fields();
+        valid_fields_are_in_range();
+        valid_files_are_complete();
+        let Some(points) = self.file.coords() else {
+            unreachable!();
+        };
+        View::Points(Points::of(kind, points))
+    }
+
+    /// The matrix or the triangle of an instance whose weights are listed.
+    #[inline]
+    fn listed_view(&self) -> View<'_>
+        requires { self.now.weight_kind ≡ Some Explicit }
+        ensures { Shows self.now result }
+    {
+        let fields = self.file.fields();
+        valid_fields_are_in_range();
+        valid_files_are_complete();
+        let Some(WeightFormat::Listed(layout)) = self.file.weight_format() else {
+            unreachable!();
+        };
+        let Some(nodes) = self.file.dimension() else {
+            unreachable!();
+        };
+        let Some(weights) = self.file.weights() else {
+            unreachable!();
+        };
+        match layout {
+            Layout::FullMatrix => View::Matrix(Matrix::of(nodes, weights)),
+            _ => View::Triangle(Triangle::of(layout, nodes, weights)),
+        }
+    }
+}
+
+impl Costs for Instance {
+    ghost use Rattle.std.specs.Prelude.{unwrap_or};
+    ghost use Rattle.tsp_fields.specs.Cost.{cost};
+
+    ghost nodes = { λ f. unwrap_or f.dimension 0 };
+
+    ghost at = { cost };
+
+    fn count(&self) -> u32 {
+        match self.view() {
+            View::Points(points) => points.count(),
+            View::Matrix(matrix) => matrix.count(),
+            View::Triangle(triangle) => triangle.count(),
+        }
+    }
+
+    #[inline]
+    fn cost(&self, i: u32, j: u32) -> i64 {
+        match self.view() {
+            View::Points(points) => points.cost(i, j),
+            View::Matrix(matrix) => matrix.cost(i, j),
+            View::Triangle(triangle) => triangle.cost(i, j),
+        }
+    }
+}
+
+/// The first pair of nodes, the smaller one first, by rows, whose two costs differ.
+///
+/// Costs from a node to itself aren't compared. No pair is looked at under a distance or a triangle.
+pub fn symmetric_fault(inst: &Instance) -> Option<(u32, u32)>
+    ensures { FindsUneven (unwrap_or inst.now.dimension 0) (cost inst.now) result }
+{
+    match inst.view() {
+        View::Matrix(matrix) => matrix.first_uneven(),
+        View::Points(_) | View::Triangle(_) => None,
+    }
+}

@@ -1,0 +1,20 @@
+//! Costs between the nodes of an instance, and the lengths of tours.
+#![tactic(auto)]
+
+mod costs;
+mod fault;
+mod instance;
+mod length;
+mod matrix;
+mod points;
+mod triangle;
+mod view;
+
+pub use costs::{Costs, Symmetric};
+pub use fault::CostFault;
+pub use instance::{Instance, symmetric_fault};
+pub use length::{canonical_length, tour_length, trace_tours};
+pub use matrix::{EvenMatrix, Matrix};
+pub use points::Points;
+pub use triangle::Triangle;
+pub use view::View;
