@@ -1,11 +1,11 @@
 -- The costs of points.
-use Rattle.std.proofs.Common.{◌≡◌, ◌≢◌, ℕ, ◌-◌, ◌<◌, List, length, get_or, refl, ap, ◌∙◌, arith}
-use Rattle.std.specs.Prelude.{pos, ◌≤ℤ◌}
+use Rattle.std.proofs.Common.{◌≡◌, refl, ap}
+use Rattle.std.specs.Prelude.{pos}
 use Rattle.tsp_number.specs.declared.decimal.Point.{Point}
 use Rattle.tsp_number.specs.Distances.{IsEuc2d, IsCeil2d, IsMan2d, IsMax2d, IsAtt, euc_2d_of, ceil_2d_of, man_2d_of, max_2d_of, att_of, IsDistance}
 use Rattle.tsp_value.specs.declared.kinds.WeightKind.{WeightKind}
 use Rattle.tsp_value.specs.declared.kinds.WeightKind.TheVariants.{Explicit, Euc2d, Ceil2d, Man2d, Max2d, Att}
-use Rattle.tsp_fields.specs.Cost.{distance, point_of}
+use Rattle.tsp_fields.specs.Cost.{distance}
 
 -- each distance is the same both ways
 pub distance_symmetric : IsDistance IsEuc2d euc_2d_of → IsDistance IsCeil2d ceil_2d_of → IsDistance IsMan2d man_2d_of → IsDistance IsMax2d max_2d_of → IsDistance IsAtt att_of

@@ -1,3 +1,6 @@
 pub mod Distances
+pub mod Instances
 pub mod Lengths
 pub mod Listed
+pub mod Sums
+pub mod Walks

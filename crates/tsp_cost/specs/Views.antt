@@ -1,6 +1,5 @@
 -- What the views of an instance say of it.
-use Rattle.std.specs.Prelude.{◌≡◌, ◌≢◌, ℕ, true, false, List, length, Some, ℤ}
-use Rattle.tsp_value.specs.declared.layout.Layout.{Layout}
+use Rattle.std.specs.Prelude.{◌≡◌, ◌≢◌, ℕ, true, false, length, Some, ℤ}
 use Rattle.tsp_value.specs.declared.layout.Layout.TheVariants.{FullMatrix}
 use Rattle.tsp_value.specs.declared.kinds.WeightFormat.TheVariants.{Listed}
 use Rattle.tsp_fields.specs.Fields.{Fields}

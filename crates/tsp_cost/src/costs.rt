@@ -7,6 +7,7 @@ ghost use Rattle.tsp_value.specs.Limits.{most_nodes, most_weight};
 /// Costs between the nodes 1 to `count`.
 pub trait Costs {
     ghost nodes: { Self → ℕ };
+
     ghost at: { Self → ℕ → ℕ → ℤ };
 
     /// How many nodes there are: 1 to 100,000.

@@ -37,6 +37,7 @@ impl Instance {
     ghost use Rattle.tsp_fields.specs.Rules.{is_instance};
     ghost use Rattle.tsp_value.specs.declared.kinds.WeightKind.TheVariants.{Explicit};
     ghost use Rattle.tsp_cost.specs.declared.fault.CostFault.TheVariants.{NotInstance};
+    ghost use Rattle.tsp_cost.specs.Listed.{IsListed};
     ghost use Rattle.tsp_cost.specs.Views.{Shows};
 
     /// The instance that a file is, or why it is none, and the file itself, unchanged.
@@ -84,6 +85,8 @@ impl Instance {
     pub fn view(&self) -> View<'_>
         ensures { Shows self.now result }
     {
+        let _valid = self.file.fields();
+        valid_files_are_complete();
         let Some(kind) = self.file.weight_kind() else {
             unreachable!();
         };
@@ -100,7 +103,7 @@ impl Instance {
         requires distance { kind ≢ Explicit }
         ensures { Shows self.now result }
     {
-        let fields = self.file.fields();
+        let _valid = self.file.fields();
         valid_fields_are_in_range();
         valid_files_are_complete();
         let Some(points) = self.file.coords() else {
@@ -115,21 +118,32 @@ impl Instance {
         requires { self.now.weight_kind ≡ Some Explicit }
         ensures { Shows self.now result }
     {
-        let fields = self.file.fields();
+        let (layout, nodes, weights) = self.listed();
+        match layout {
+            Layout::FullMatrix => View::Matrix(Matrix::of(nodes, weights)),
+            _ => View::Triangle(Triangle::of(layout, nodes, weights)),
+        }
+    }
+
+    /// The layout, the number of nodes and the weights of an instance whose weights are listed.
+    #[inline]
+    fn listed(&self) -> (Layout, u32, &[i64])
+        requires { self.now.weight_kind ≡ Some Explicit }
+        ensures { IsListed self.now result.0 result.1 result.2.now }
+    {
+        let _valid = self.file.fields();
         valid_fields_are_in_range();
         valid_files_are_complete();
-        let Some(WeightFormat::Listed(layout)) = self.file.weight_format() else {
+        let Some(weights) = self.file.weights() else {
             unreachable!();
         };
         let Some(nodes) = self.file.dimension() else {
             unreachable!();
         };
-        let Some(weights) = self.file.weights() else {
-            unreachable!();
-        };
-        match layout {
-            Layout::FullMatrix => View::Matrix(Matrix::of(nodes, weights)),
-            _ => View::Triangle(Triangle::of(layout, nodes, weights)),
+        match self.file.weight_format() {
+            Some(WeightFormat::Listed(layout)) => (layout, nodes, weights),
+            Some(WeightFormat::ByFunction) => unreachable!(),
+            None => unreachable!(),
         }
     }
 }

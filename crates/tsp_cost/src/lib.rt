@@ -4,6 +4,7 @@
 mod costs;
 mod fault;
 mod instance;
+mod laws;
 mod length;
 mod matrix;
 mod points;
@@ -13,6 +14,7 @@ mod view;
 pub use costs::{Costs, Symmetric};
 pub use fault::CostFault;
 pub use instance::{Instance, symmetric_fault};
+pub use laws::{lengths_add_up, walks_are_permutations, walks_have_no_loops};
 pub use length::{canonical_length, tour_length, trace_tours};
 pub use matrix::{EvenMatrix, Matrix};
 pub use points::Points;

@@ -54,7 +54,9 @@ impl<'a> Matrix<'a> {
     /// Every cost stays as it is, those from a node to itself too, which aren't compared.
     pub fn even(self) -> Result<EvenMatrix<'a>, (u32, u32)>
         ensures { MatchResult result
-            (λ even. (even_nodes even ≡ matrix_nodes self.entry) × ((i j : ℕ) → even_cost even i j ≡ matrix_cost self.entry i j))
+            (λ even. (even_nodes even ≡ matrix_nodes self.entry)
+            × ((i j : ℕ) → even_cost even i j ≡ matrix_cost self.entry i j)
+            × IsEven (matrix_cost self.entry))
             (λ pair. IsFirstUneven (matrix_nodes self.entry) (matrix_cost self.entry) pair) }
     {
         match self.first_uneven() {
@@ -83,8 +85,8 @@ impl<'a> Matrix<'a> {
         ensures { MatchOption result
             ((j : ℕ) → i < j → j ≤ matrix_nodes self.now → matrix_cost self.now i j ≡ matrix_cost self.now j i)
             (λ j. IsNode (matrix_nodes self.now) j × (i < j)
-                × (matrix_cost self.now i j ≢ matrix_cost self.now j i)
-                × ((b : ℕ) → i < b → b < j → matrix_cost self.now i b ≡ matrix_cost self.now b i)) }
+            × (matrix_cost self.now i j ≢ matrix_cost self.now j i)
+            × ((b : ℕ) → i < b → b < j → matrix_cost self.now i b ≡ matrix_cost self.now b i)) }
     {
         'columns: for j in i + 1..self.nodes + 1 {
             if self.cost(i, j) != self.cost(j, i) {

@@ -44,7 +44,11 @@ impl<'a> Triangle<'a> {
     {
         cells_are_the_listed_pairs();
         only_cells_have_places();
-        Triangle { layout, nodes, weights }
+        Triangle {
+            layout,
+            nodes,
+            weights,
+        }
     }
 }
 

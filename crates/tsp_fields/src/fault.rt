@@ -9,7 +9,8 @@ pub enum EndFault {
     /// A keyword or a section that the kind of file asks for is missing.
     #[error("Missing {0}")]
     Missing(Field),
-    /// A section has fewer places than it needs.
+    /// A section has fewer places than it needs. Readers find this; a draft's lists are whole, so
+    /// [`File::of`](crate::File::of) never answers it.
     #[error("Incomplete {0}")]
     Incomplete(Field),
     /// The format doesn't go with the weights, or node potentials stand beside others.
@@ -23,7 +24,7 @@ pub enum EndFault {
 /// Why a draft is no file, in the order in which it is judged.
 #[derive(Clone, Copy, Debug, PartialEq, Eq, Error)]
 pub enum DraftFault {
-    /// The first field, in canonical order, that isn't as it has to be by itself.
+    /// The first field, in canonical order, that isn't valid on its own.
     #[error("BadField {0}")]
     BadField(Field),
     /// The first rule over several fields that fails.

@@ -32,10 +32,11 @@ pub record IsJudged (instance solution : Turn) (nodes : ℕ) (verdict : Verdict)
   pub judged : IsVerdict value tours verdict
 
 -- What the check answers. At Ok the whole report was written, and the answer is whether the verdict is a yes. The first
--- file, in order, that isn't one decides, later ones aren't read, and then nothing is written. At want of memory both are
+-- file, in order, that isn't one decides, later ones aren't read, and then nothing is written. Out of memory, both are
 -- files and nothing was written; writing itself takes no memory. Where the writer fails a front of the report was written.
 abbrev pub IsRun : Turn → Turn → Sink → Result Bool RunFault → Type 0
-IsRun instance solution sink (Ok answer) = (nodes : ℕ) × (verdict : Verdict) × IsJudged instance solution nodes verdict
+IsRun instance solution sink (Ok answer) = (nodes : ℕ) × (verdict : Verdict)
+    × IsJudged instance solution nodes verdict
     × (answer ≡ is_yes verdict) × HasWritten sink (report_of nodes verdict)
 IsRun instance solution sink (Err (File file fault)) = IsUnwritten sink
     × (((file ≡ 1) × StopsAt fault instance × IsUnread solution)
@@ -44,7 +45,8 @@ IsRun instance solution sink (Err NotYet) = IsUnwritten sink
     × ((GaveAll instance (DenotesNone IsInstance) × IsUnread solution)
     ⊎ (((value : Instance) × IsFile IsInstance instance value) × GaveAll solution (DenotesNone IsSolution)))
 IsRun instance solution sink (Err OutOfMemory) = IsUnwritten sink
-    × ((value : Instance) × IsFile IsInstance instance value) × ((tours : List (List ℕ)) × IsFile IsSolution solution tours)
+    × ((value : Instance) × IsFile IsInstance instance value)
+    × ((tours : List (List ℕ)) × IsFile IsSolution solution tours)
 IsRun instance solution sink (Err (Write write_faults.OutOfMemory)) = ⊥
 IsRun instance solution sink (Err (Write write_faults.Device)) = (nodes : ℕ) × (verdict : Verdict)
     × IsJudged instance solution nodes verdict × HasStopped sink (report_of nodes verdict)

@@ -24,9 +24,9 @@ use tsp_stream::{Watched, write_text};
 /// solution TYPE TOUR, in the plain forms that `docs/format.md` states; every other text is
 /// answered with `NotYet`.
 ///
-/// Errors: `File` where a file's device fails, where it is longer than `MOST_FILE_BYTES` with no line
-/// `EOF` up to there, or where memory is wanting for it; `NotYet`; `OutOfMemory` where both are
-/// files and memory is wanting for the judgement (which the search for a repeated node alone
+/// Errors: `File` where a file's device fails, where it is longer than `MOST_FILE_BYTES` with no
+/// line `EOF` up to there, or where it runs out of memory; `NotYet`; `OutOfMemory` where both are
+/// files and the judgement runs out of memory (which the search for a repeated node alone
 /// takes), or, after any verdict, for the report; `Write` where the writer fails. Of each file at
 /// most 4,096 bytes past `MOST_FILE_BYTES` are read.
 pub fn run_check<I: Read, S: Read, W: Write>(

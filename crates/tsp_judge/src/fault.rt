@@ -6,7 +6,7 @@ use tsp_stream::WriteFault;
 /// Why a file could not be read.
 #[derive(Clone, Copy, Debug, PartialEq, Eq, Error)]
 pub enum ReadFault {
-    /// Want of memory for what the file holds.
+    /// Out of memory for what the file holds.
     #[error("out of memory")]
     OutOfMemory,
     /// A read failed.
@@ -26,7 +26,7 @@ pub enum RunFault {
     /// The report could not be written.
     #[error("output: {0}")]
     Write(WriteFault),
-    /// Want of memory for the judgement, or for the report.
+    /// Out of memory for the judgement, or for the report.
     #[error("out of memory")]
     OutOfMemory,
     /// A file is not of a form that is judged so far.

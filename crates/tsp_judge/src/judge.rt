@@ -25,8 +25,10 @@ pub(crate) fn judge(
 ) -> Result<Verdict, AllocError>
     requires { All (λ node. 1 ≤ node) solution.now.nodes.items }
     ensures { MatchResult result
-        (λ verdict. (tours : List (List ℕ)) → HoldsTours solution.now tours → IsVerdict (instance_of instance.now) tours verdict)
-        (λ refused. (tours : List (List ℕ)) → HoldsTours solution.now tours → NoneBeforeRepeats (instance_of instance.now) tours) }
+        (λ verdict. (tours : List (List ℕ)) → HoldsTours solution.now tours
+        → IsVerdict (instance_of instance.now) tours verdict)
+        (λ refused. (tours : List (List ℕ)) → HoldsTours solution.now tours
+        → NoneBeforeRepeats (instance_of instance.now) tours) }
 {
     let nodes = instance.nodes();
     let tour = solution.nodes.as_slice();
@@ -90,7 +92,8 @@ fn first_repeated(alloc: Global, nodes: &[u32], n: u32) -> Result<Option<u32>, A
 /// The length of a tour: the sum of the costs from each node to the next, and back to the first.
 fn tour_length(instance: &Matrix, tour: &[u32]) -> i64
     requires size { length tour.now ≤ most_tour_nodes }
-    requires range { (place : ℕ) → IsPlace tour.now place → IsNode (instance_of instance.now).nodes (node_at tour.now place) }
+    requires range { (place : ℕ) → IsPlace tour.now place
+        → IsNode (instance_of instance.now).nodes (node_at tour.now place) }
     ensures { result ≡ tour_length (instance_of instance.now) tour.now }
 {
     let Some((first, others)) = tour.split_first() else {

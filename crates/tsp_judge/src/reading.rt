@@ -58,7 +58,8 @@ pub(crate) fn read_instance<R: Read>(
     alloc: Global,
     reader: &mut Watched<R>,
 ) -> Result<Option<Matrix>, ReadFault>
-    ensures { ReadsForm IsInstance (λ matrix value. instance_of matrix ≡ value) (turn_of R.remaining reader.old reader.new) result }
+    ensures { ReadsForm IsInstance (λ matrix value. instance_of matrix ≡ value)
+        (turn_of R.remaining reader.old reader.new) result }
 {
     let bytes = match read_counted(alloc, reader) {
         Err(fault) => return Err(fault),

@@ -7,3 +7,4 @@ pub mod Scanning
 pub mod Spellings
 pub mod WordLaws
 pub mod Spelled
+pub mod FrontNumbers

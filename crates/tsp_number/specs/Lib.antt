@@ -6,3 +6,4 @@ pub mod Scan
 pub mod Written
 pub mod Spelling
 pub mod Reading
+pub mod Front

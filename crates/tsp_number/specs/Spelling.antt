@@ -21,3 +21,7 @@ size_spelling size = decimal (size / unit) ++ fraction_spelling (size % unit)
 abbrev pub spelling : ℤ → List ℕ
 spelling (pos size) = size_spelling size
 spelling (negsuc n) = minus ∷ size_spelling (suc n)
+
+-- the three digits of a number below 1000
+abbrev pub three_digits : ℕ → List ℕ
+three_digits group = (48 + group / 100) ∷ (48 + group / 10 % 10) ∷ (48 + group % 10) ∷ []

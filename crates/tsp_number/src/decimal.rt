@@ -54,6 +54,15 @@ impl Decimal {
         })
     }
 
+    /// The decimal with this count of 10^-9.
+    #[inline(always)]
+    pub(crate) fn of_nanos(nanos: i64) -> Decimal
+        requires { unsigned_abs nanos ≤ most_count }
+        ensures { result ≡ nanos }
+    {
+        Decimal { nanos }
+    }
+
     /// The count as a number of 64 bits.
     pub(crate) fn nanos(self) -> i64
         ensures value { result ≡ self }

@@ -7,6 +7,15 @@ ghost use Rattle.tsp_number.specs.Distances.{IsEuc2d, IsCeil2d, IsMan2d, IsMax2d
 use crate::decimal::{Decimal, Point, UNIT};
 use crate::root::{Rounding, rounded_root};
 
+/// The way from one number to another, in counts of 10^-9.
+#[inline(always)]
+fn way(a: Decimal, b: Decimal) -> i64
+    ensures value { result ≡ a -ℤ b }
+    ensures most { unsigned_abs result ≤ 2 * 10 ^ 18 }
+{
+    a.nanos() - b.nanos()
+}
+
 /// How far two numbers are apart, in counts of 10^-9.
 #[inline(always)]
 fn gap(a: Decimal, b: Decimal) -> u64
@@ -38,7 +47,7 @@ pub fn euc_2d(a: Point, b: Point) -> i64
     ensures low { pos 0 ≤ℤ result }
     ensures high { result ≤ℤ pos 2828427125 }
 {
-    i64::from(rounded_root(Rounding::Nearest, gap(a.x, b.x), gap(a.y, b.y)))
+    i64::from(rounded_root(Rounding::Nearest, way(a.x, b.x), way(a.y, b.y)))
 }
 
 /// The distance CEIL_2D: the straight distance, rounded up.
@@ -51,7 +60,7 @@ pub fn ceil_2d(a: Point, b: Point) -> i64
     ensures low { pos 0 ≤ℤ result }
     ensures high { result ≤ℤ pos 2828427125 }
 {
-    i64::from(rounded_root(Rounding::Up, gap(a.x, b.x), gap(a.y, b.y)))
+    i64::from(rounded_root(Rounding::Up, way(a.x, b.x), way(a.y, b.y)))
 }
 
 /// The distance ATT: the root of a tenth of the straight distance's square, rounded up.
@@ -64,7 +73,7 @@ pub fn att(a: Point, b: Point) -> i64
     ensures low { pos 0 ≤ℤ result }
     ensures high { result ≤ℤ pos 894427191 }
 {
-    i64::from(rounded_root(Rounding::TenthUp, gap(a.x, b.x), gap(a.y, b.y)))
+    i64::from(rounded_root(Rounding::TenthUp, way(a.x, b.x), way(a.y, b.y)))
 }
 
 /// The distance MAN_2D: the sum of the ways along both axes, rounded to the nearest whole number,

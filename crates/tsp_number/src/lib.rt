@@ -9,6 +9,7 @@
 mod decimal;
 mod distance;
 mod fault;
+mod front;
 mod laws;
 mod root;
 mod scale;
@@ -19,9 +20,7 @@ mod word;
 pub use decimal::{Decimal, Point};
 pub use distance::{att, ceil_2d, euc_2d, man_2d, max_2d};
 pub use fault::NumberFault;
+pub use front::{front_decimal, front_whole};
 pub use laws::{distance_laws, number_word_laws, spelling_laws};
-pub use spelling::write_decimal;
+pub use spelling::{push_decimal, write_decimal};
 pub use word::{parse_decimal, parse_whole};
-
-#[cfg(test)]
-mod tests;

@@ -1,14 +1,18 @@
 //! Roots of squares, rounded to whole numbers exactly.
 
-ghost use Rattle.std.specs.Prelude.{◌≡◌, ◌+◌, ◌-◌, ◌*◌, ◌<◌, ◌≤◌, ◌^◌, ◌↔◌, IsTrue};
+ghost use Rattle.std.specs.Prelude.{◌≡◌, ◌+◌, ◌-◌, ◌*◌, ◌<◌, ◌≤◌, ◌^◌, ◌↔◌, IsTrue, unsigned_abs};
+ghost use Rattle.std.specs.Bool.{OnTrue};
 ghost use Rattle.tsp_number.specs.Distances.{squared};
-ghost use Rattle.tsp_number.specs.Rounding.{Covers};
+ghost use Rattle.tsp_number.specs.Rounding.{Covers, IsLeastCover, estimate_limit};
 
 use crate::decimal::UNIT;
 use std::num;
 
 /// No rounded root is larger: the diagonal of the square of all points is 2,828,427,124.7 long.
 const MOST_ROOT: u32 = 2_828_427_125;
+
+/// The square of a whole, in counts of 10^-18.
+const SQUARE_UNIT: u128 = 1_000_000_000_000_000_000;
 
 /// How a root is rounded to a whole number.
 #[derive(Clone, Copy)]
@@ -65,48 +69,108 @@ fn exact_root(rounding: Rounding, square: u128) -> u32
     low
 }
 
+/// The square of a way.
+#[inline(always)]
+fn square_of(way: i64) -> u128
+    requires { unsigned_abs way ≤ 2 * 10 ^ 18 }
+    ensures value { result ≡ squared (unsigned_abs way) }
+    ensures most { result ≤ 4 * 10 ^ 36 }
+{
+    let wide = i128::from(way);
+    (wide * wide) as u128
+}
+
 /// What floats make of the root, which may be wrong.
 #[inline(always)]
-fn estimate(rounding: Rounding, across: u64, along: u64) -> u32
-    requires across { across ≤ 2 * 10 ^ 18 }
-    requires along { along ≤ 2 * 10 ^ 18 }
-    ensures { result ≤ 2828427125 }
+fn estimate(rounding: Rounding, across: i64, along: i64) -> u32
+    requires across { unsigned_abs across ≤ 2 * 10 ^ 18 }
+    requires along { unsigned_abs along ≤ 2 * 10 ^ 18 }
+    ensures { result < estimate_limit rounding }
 {
     // 10^9 is 5^9 * 2^9: of a whole number nothing is lost here.
     let x = (across >> 9) as f64;
     let y = (along >> 9) as f64;
     let square = x * x + y * y;
-    let near = match rounding {
-        Rounding::Nearest => square.sqrt() * 5.12e-7,
-        Rounding::Up => square.sqrt() * 5.12e-7 + 0.499_999_999,
-        Rounding::TenthUp => (square * 0.1).sqrt() * 5.12e-7 + 0.499_999_999,
+    let (near, most) = match rounding {
+        Rounding::Nearest => (square.sqrt() * 5.12e-7, 0xffff_ffff),
+        Rounding::Up => (square.sqrt() * 5.12e-7 + 0.499_999_999, 0xffff_ffff),
+        Rounding::TenthUp => ((square * 0.1).sqrt() * 5.12e-7 + 0.499_999_999, 0x3fff_ffff),
     };
     // A sum with 2^52 has no room for a fraction, and its low bits are the whole number nearby.
     let bits = num::f64_to_bits_with_nan(near + 4_503_599_627_370_496.0);
-    ((bits & 0xffff_ffff) as u32).min(MOST_ROOT)
+    (bits & most) as u32
+}
+
+/// Whether `whole` is certainly the least number that covers the square.
+///
+/// The next smaller number doesn't cover it where the square lies less far below that of `whole`
+/// than the square of the smaller one.
+#[inline(always)]
+fn is_least_cover(rounding: Rounding, square: u128, whole: u32) -> bool
+    requires most { square ≤ 8 * 10 ^ 36 }
+    requires limit { whole < estimate_limit rounding }
+    ensures { OnTrue result (IsLeastCover rounding square whole) }
+{
+    let count = u64::from(whole);
+    match rounding {
+        Rounding::Nearest => {
+            let edge = u128::from((2 * count + 1) * UNIT);
+            let (high, low) = (edge * edge, 4 * square);
+            low < high && (high - low <= u128::from(count) * (8 * SQUARE_UNIT) || count == 0)
+        }
+        Rounding::Up => {
+            let edge = u128::from(count * UNIT);
+            let high = edge * edge;
+            square <= high && high - square < u128::from((2 * count).wrapping_sub(1)) * SQUARE_UNIT
+        }
+        Rounding::TenthUp => {
+            let edge = count * UNIT;
+            let high = u128::from(edge) * u128::from(10 * edge);
+            square <= high
+                && high - square < u128::from((20 * count).wrapping_sub(10)) * SQUARE_UNIT
+        }
+    }
+}
+
+/// The least number that covers the square, next to an estimate or else by halving.
+#[cold]
+#[inline(never)]
+fn corrected_root(rounding: Rounding, across: i64, along: i64, near: u32) -> u32
+    requires across { unsigned_abs across ≤ 2 * 10 ^ 18 }
+    requires along { unsigned_abs along ≤ 2 * 10 ^ 18 }
+    ensures enough { Covers rounding (squared (unsigned_abs across) + squared (unsigned_abs along)) result }
+    ensures least { 0 < result
+        → ¬ Covers rounding (squared (unsigned_abs across) + squared (unsigned_abs along)) (result - 1) }
+    ensures most { result ≤ 2828427125 }
+{
+    let square = square_of(across) + square_of(along);
+    let low = near.min(MOST_ROOT);
+    if covers(rounding, square, low) {
+        if low == 0 || !covers(rounding, square, low - 1) {
+            return low;
+        }
+    } else if low < MOST_ROOT && covers(rounding, square, low + 1) {
+        return low + 1;
+    }
+    exact_root(rounding, square)
 }
 
 /// The rounded root of the square of a distance, whose ways along both axes count 10^-9.
 ///
-/// An estimate in floats, or the number after it, is taken only where whole numbers show that it
-/// is right.
+/// An estimate in floats is taken only where whole numbers show that it is right.
 #[inline(always)]
-pub(crate) fn rounded_root(rounding: Rounding, across: u64, along: u64) -> u32
-    requires across { across ≤ 2 * 10 ^ 18 }
-    requires along { along ≤ 2 * 10 ^ 18 }
-    ensures enough { Covers rounding (squared across + squared along) result }
-    ensures least { 0 < result → ¬ Covers rounding (squared across + squared along) (result - 1) }
+pub(crate) fn rounded_root(rounding: Rounding, across: i64, along: i64) -> u32
+    requires across { unsigned_abs across ≤ 2 * 10 ^ 18 }
+    requires along { unsigned_abs along ≤ 2 * 10 ^ 18 }
+    ensures enough { Covers rounding (squared (unsigned_abs across) + squared (unsigned_abs along)) result }
+    ensures least { 0 < result
+        → ¬ Covers rounding (squared (unsigned_abs across) + squared (unsigned_abs along)) (result - 1) }
     ensures most { result ≤ 2828427125 }
 {
-    let (wide, high) = (u128::from(across), u128::from(along));
-    let square = wide * wide + high * high;
+    let square = square_of(across) + square_of(along);
     let near = estimate(rounding, across, along);
-    if covers(rounding, square, near) {
-        if near == 0 || !covers(rounding, square, near - 1) {
-            return near;
-        }
-    } else if near < MOST_ROOT && covers(rounding, square, near + 1) {
-        return near + 1;
+    if is_least_cover(rounding, square, near) {
+        return near;
     }
-    exact_root(rounding, square)
+    corrected_root(rounding, across, along, near)
 }

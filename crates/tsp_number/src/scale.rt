@@ -11,7 +11,7 @@ use crate::scan::{Written, split_digits};
 
 /// A power of ten of 64 bits.
 #[inline(always)]
-fn power_of_ten(exponent: u64) -> u64
+pub(crate) fn power_of_ten(exponent: u64) -> u64
     requires { exponent < 20 }
     ensures { result ≡ 10 ^ exponent }
 {

@@ -1,28 +1,154 @@
 //! The spelling of a decimal.
 
-ghost use Rattle.std.specs.Prelude.{◌≡◌, ◌+◌, ◌<◌, ◌≤◌, ◌++◌, length};
+ghost use Rattle.std.specs.Prelude.{◌≡◌, ◌+◌, ◌*◌, ◌^◌, ◌<◌, ◌≤◌, ◌++◌, length, unsigned_abs};
+ghost use Rattle.std.specs.Fmt.{decimal};
 ghost use Rattle.arrayvec.specs.ArrayVec.{array_vec_len};
-ghost use Rattle.tsp_number.specs.Decimal.{unit};
+ghost use Rattle.tsp_number.specs.Decimal.{unit, most_count};
 ghost use Rattle.tsp_number.specs.NumberWord.{StandsFor};
-ghost use Rattle.tsp_number.specs.Spelling.{decimals, spelling, size_spelling};
+ghost use Rattle.tsp_number.specs.Spelling.{decimals, three_digits, fraction_spelling, size_spelling, spelling};
 
 use crate::decimal::{Decimal, UNIT};
 use arrayvec::ArrayVec;
-use itoa::Buffer;
+
+/// Appends the three digits of a number below 1000, also those that are zeros at its front.
+#[inline(always)]
+fn push_group<const N: usize>(text: &mut ArrayVec<u8, N>, group: u64)
+    requires few { group < 1000 }
+    requires room { array_vec_len text.old + 3 ≤ N }
+    ensures items { text.new.items ≡ text.old.items ++ three_digits group }
+    ensures room { array_vec_len text.new ≡ array_vec_len text.old + 3 }
+{
+    let digits = [
+        b'0' + (group / 100) as u8,
+        b'0' + (group / 10 % 10) as u8,
+        b'0' + (group % 10) as u8,
+    ];
+    text.try_extend_from_slice(&digits).unwrap();
+}
+
+/// Appends a number below 1000, without leading zeros.
+#[inline(always)]
+fn push_hundreds<const N: usize>(text: &mut ArrayVec<u8, N>, number: u64)
+    requires few { number < 1000 }
+    requires room { array_vec_len text.old + 3 ≤ N }
+    ensures items { text.new.items ≡ text.old.items ++ decimal number }
+    ensures room { array_vec_len text.new ≤ array_vec_len text.old + 3 }
+{
+    if number >= 100 {
+        push_group(text, number);
+    } else if number >= 10 {
+        let digits = [b'0' + (number / 10) as u8, b'0' + (number % 10) as u8];
+        text.try_extend_from_slice(&digits).unwrap();
+    } else {
+        text.push(b'0' + number as u8);
+    }
+}
+
+/// Appends a number below a million, without leading zeros.
+#[inline(always)]
+fn push_thousands<const N: usize>(text: &mut ArrayVec<u8, N>, number: u64)
+    requires few { number < 10 ^ 6 }
+    requires room { array_vec_len text.old + 6 ≤ N }
+    ensures items { text.new.items ≡ text.old.items ++ decimal number }
+    ensures room { array_vec_len text.new ≤ array_vec_len text.old + 6 }
+{
+    if number < 1000 {
+        push_hundreds(text, number);
+        return;
+    }
+    push_hundreds(text, number / 1000);
+    push_group(text, number % 1000);
+}
+
+/// Appends a number below 10^9, without leading zeros.
+#[inline(always)]
+fn push_millions<const N: usize>(text: &mut ArrayVec<u8, N>, number: u64)
+    requires few { number < 10 ^ 9 }
+    requires room { array_vec_len text.old + 9 ≤ N }
+    ensures items { text.new.items ≡ text.old.items ++ decimal number }
+    ensures room { array_vec_len text.new ≤ array_vec_len text.old + 9 }
+{
+    if number < 1000 {
+        push_hundreds(text, number);
+        return;
+    }
+    push_thousands(text, number / 1000);
+    push_group(text, number % 1000);
+}
+
+/// Appends the whole part of a decimal, without leading zeros.
+#[inline(always)]
+fn push_whole<const N: usize>(text: &mut ArrayVec<u8, N>, whole: u64)
+    requires few { whole ≤ 10 ^ 9 }
+    requires room { array_vec_len text.old + 10 ≤ N }
+    ensures items { text.new.items ≡ text.old.items ++ decimal whole }
+    ensures room { array_vec_len text.new ≤ array_vec_len text.old + 10 }
+{
+    if whole < UNIT {
+        push_millions(text, whole);
+        return;
+    }
+    text.try_extend_from_slice(b"1000000000").unwrap();
+}
+
+/// Appends three decimals, without zeros at their end.
+#[inline(always)]
+fn push_last<const N: usize>(text: &mut ArrayVec<u8, N>, group: u64)
+    requires few { group < 1000 }
+    requires room { array_vec_len text.old + 3 ≤ N }
+    ensures items { text.new.items ≡ text.old.items ++ decimals 3 group }
+    ensures room { array_vec_len text.new ≤ array_vec_len text.old + 3 }
+{
+    if group % 10 > 0 {
+        push_group(text, group);
+    } else if group % 100 > 0 {
+        let digits = [b'0' + (group / 100) as u8, b'0' + (group / 10 % 10) as u8];
+        text.try_extend_from_slice(&digits).unwrap();
+    } else if group > 0 {
+        text.push(b'0' + (group / 100) as u8);
+    }
+}
 
 /// Appends the decimals of a part of a whole, without zeros at their end.
-fn push_decimals(text: &mut ArrayVec<u8, 64>, rest: u64)
+#[inline(always)]
+fn push_decimals<const N: usize>(text: &mut ArrayVec<u8, N>, rest: u64)
     requires part { rest < unit }
-    requires room { array_vec_len text.old ≤ 55 }
+    requires room { array_vec_len text.old + 9 ≤ N }
     ensures items { text.new.items ≡ text.old.items ++ decimals 9 rest }
     ensures room { array_vec_len text.new ≤ array_vec_len text.old + 9 }
 {
-    let mut left = rest;
-    let mut place = UNIT;
-    while left > 0 {
-        place /= 10;
-        text.push(b'0' + (left / place) as u8);
-        left %= place;
+    if rest % 1_000_000 == 0 {
+        push_last(text, rest / 1_000_000);
+        return;
+    }
+    push_group(text, rest / 1_000_000);
+    if rest % 1000 == 0 {
+        push_last(text, rest / 1000 % 1000);
+        return;
+    }
+    push_group(text, rest / 1000 % 1000);
+    push_last(text, rest % 1000);
+}
+
+/// Appends the spelling of a decimal, as [`write_decimal`] gives it. It has at most 21 bytes, for
+/// which there must be room.
+#[inline(always)]
+pub fn push_decimal<const N: usize>(text: &mut ArrayVec<u8, N>, d: Decimal)
+    requires { array_vec_len text.old + 21 ≤ N }
+    ensures items { text.new.items ≡ text.old.items ++ spelling d }
+    ensures stands { StandsFor (spelling d) d }
+    ensures short { array_vec_len text.new ≤ array_vec_len text.old + 21 }
+{
+    let count = d.nanos();
+    if count < 0 {
+        text.push(b'-');
+    }
+    let size = count.unsigned_abs();
+    push_whole(text, size / UNIT);
+    let rest = size % UNIT;
+    if rest > 0 {
+        text.push(b'.');
+        push_decimals(text, rest);
     }
 }
 
@@ -36,19 +162,7 @@ pub fn write_decimal(d: Decimal) -> ArrayVec<u8, 64>
     ensures stands { StandsFor result.items d }
     ensures short { array_vec_len result ≤ 21 }
 {
-    let count = d.nanos();
-    let size = count.unsigned_abs();
     let mut text = ArrayVec::new();
-    if count < 0 {
-        text.push(b'-');
-    }
-    let mut buffer = Buffer::new();
-    text.try_extend_from_slice(buffer.format(size / UNIT).as_bytes())
-        .unwrap();
-    let rest = size % UNIT;
-    if rest > 0 {
-        text.push(b'.');
-        push_decimals(&mut text, rest);
-    }
+    push_decimal(&mut text, d);
     text
 }

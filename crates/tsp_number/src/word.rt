@@ -6,6 +6,7 @@ ghost use Rattle.tsp_number.specs.NumberWord.{ReadsDecimal, ReadsWhole, signed a
 
 use crate::decimal::Decimal;
 use crate::fault::NumberFault;
+use crate::front::{front_decimal, front_whole};
 use crate::scale::shifted;
 use crate::scan::split_word;
 
@@ -53,6 +54,21 @@ pub fn parse_decimal(word: &[u8]) -> Result<Decimal, NumberFault>
     ensures reads { ReadsDecimal word.now result }
     ensures computed { result ≡ decimal_of word.now }
 {
+    if let Some((decimal, end)) = front_decimal(word)
+        && end == word.len()
+    {
+        return Ok(decimal);
+    }
+    any_decimal(word)
+}
+
+/// The same as `parse_decimal`, for all words.
+#[cold]
+#[inline(never)]
+fn any_decimal(word: &[u8]) -> Result<Decimal, NumberFault>
+    ensures reads { ReadsDecimal word.now result }
+    ensures computed { result ≡ decimal_of word.now }
+{
     if word.len() > MOST_BYTES {
         return Err(NumberFault::LongWord);
     }
@@ -80,6 +96,24 @@ pub fn parse_decimal(word: &[u8]) -> Result<Decimal, NumberFault>
 /// - `NotWhole`: its number isn't whole.
 /// - `OutOfRange`: its number is less than `low` or more than `high`.
 pub fn parse_whole(word: &[u8], low: i64, high: i64) -> Result<i64, NumberFault>
+    ensures reads { ReadsWhole word.now low high result }
+    ensures computed { result ≡ whole_of word.now low high }
+{
+    if let Some((whole, end)) = front_whole(word)
+        && end == word.len()
+    {
+        if whole < low || whole > high {
+            return Err(NumberFault::OutOfRange);
+        }
+        return Ok(whole);
+    }
+    any_whole(word, low, high)
+}
+
+/// The same as `parse_whole`, for all words.
+#[cold]
+#[inline(never)]
+fn any_whole(word: &[u8], low: i64, high: i64) -> Result<i64, NumberFault>
     ensures reads { ReadsWhole word.now low high result }
     ensures computed { result ≡ whole_of word.now low high }
 {

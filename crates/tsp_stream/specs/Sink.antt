@@ -35,7 +35,7 @@ abbrev pub HasStopped : Sink → List ℕ → Type 0
 HasStopped sink text = (sink.failed ≡ true) × (sink.had_failed ≡ true → Keeps sink.held sink.holds)
     × ((count : ℕ) × Appends sink.held sink.holds (take count text))
 
--- How the writing of a text ends. It takes no memory, so that want of memory is never its end.
+-- How the writing of a text ends. It takes no memory, so that running out of it is never its end.
 abbrev pub Writes : Sink → List ℕ → Result (Unit {0}) WriteFault → Type 0
 Writes sink text (Ok done) = HasWritten sink text
 Writes sink text (Err write_faults.Device) = HasStopped sink text

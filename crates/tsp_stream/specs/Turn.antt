@@ -40,7 +40,8 @@ GaveAll turn P = Gave turn × IsSound turn × P turn.given × IfSome turn.known 
 
 -- It has failed, by what it gave or before. A reader that was handed in as failed is not read.
 abbrev pub HasBrokenOff : Turn → Type 0
-HasBrokenOff turn = Gave turn × (turn.failed ≡ true) × (turn.had_failed ≡ true → Keeps turn.known turn.left)
+HasBrokenOff turn = Gave turn × (turn.failed ≡ true)
+    × (turn.had_failed ≡ true → Keeps turn.known turn.left)
 
 -- the reader was not asked
 abbrev pub IsUnread : Turn → Type 0

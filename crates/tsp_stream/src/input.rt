@@ -13,7 +13,7 @@ pub enum InputFault {
     /// A read failed.
     #[error("device")]
     Device,
-    /// Want of memory for the bytes.
+    /// Out of memory for the bytes.
     #[error("out of memory")]
     OutOfMemory,
 }

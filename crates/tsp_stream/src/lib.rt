@@ -8,5 +8,5 @@ mod watched;
 
 pub use input::{InputFault, read_whole};
 pub use output::{WriteFault, send, write_text};
-pub use piece::{PIECE, Piece, hand_over, put, put_next_number, put_number};
+pub use piece::{PIECE, Piece, hand_over, make_room, put, put_next_number, put_number};
 pub use watched::Watched;

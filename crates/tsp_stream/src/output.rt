@@ -14,7 +14,7 @@ pub enum WriteFault {
     /// A write failed, or took nothing.
     #[error("device")]
     Device,
-    /// Want of memory for the text.
+    /// Out of memory for the text.
     #[error("out of memory")]
     OutOfMemory,
 }
@@ -23,8 +23,10 @@ pub enum WriteFault {
 ///
 /// A writer that was handed in as failed gets nothing.
 pub fn send<W: Write>(out: &mut Watched<W>, text: &[u8])
-    ensures stopped { has_failed out.new ≡ true → HasStopped (sink_of W.contents out.old out.new) text.now }
-    ensures written { has_failed out.new ≡ false → HasWritten (sink_of W.contents out.old out.new) text.now }
+    ensures stopped { has_failed out.new ≡ true →
+        HasStopped (sink_of W.contents out.old out.new) text.now }
+    ensures written { has_failed out.new ≡ false →
+        HasWritten (sink_of W.contents out.old out.new) text.now }
 {
     if out.failed() {
         return;

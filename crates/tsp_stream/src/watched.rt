@@ -51,7 +51,8 @@ impl<T> Watched<T> {
     fn hand_on<A>(&mut self, outcome: io::Result<A>, took_nothing: bool) -> io::Result<A>
         ensures outcome { result ≡ outcome }
         ensures inner { watched self.new ≡ watched self.old }
-        ensures failed { has_failed self.new ≡ (has_failed self.old || is_err outcome || took_nothing) }
+        ensures failed { has_failed self.new ≡
+            (has_failed self.old || is_err outcome || took_nothing) }
     {
         self.failed = self.failed || outcome.is_err() || took_nothing;
         outcome
@@ -63,7 +64,8 @@ impl<R: Read> Read for Watched<R> {
 
     fn read(&mut self, buf: &mut [u8]) -> io::Result<usize>
         ensures bound { ReadsAtMost result buf.new }
-        ensures bytes { ReadConsumes (R.remaining (watched self.old)) (R.remaining (watched self.new)) result buf.new }
+        ensures bytes { ReadConsumes (R.remaining (watched self.old)) (R.remaining (watched self.new))
+            result buf.new }
         ensures failed { has_failed self.new ≡ (has_failed self.old || is_err result) }
     {
         let outcome = self.inner.read(buf);
@@ -76,7 +78,8 @@ impl<W: Write> Write for Watched<W> {
 
     fn write(&mut self, buf: &[u8]) -> io::Result<usize>
         ensures bound { WritesAtMost result buf.now }
-        ensures bytes { WriteAppends (W.contents (watched self.old)) (W.contents (watched self.new)) result buf.now }
+        ensures bytes { WriteAppends (W.contents (watched self.old)) (W.contents (watched self.new))
+            result buf.now }
         ensures failed { has_failed self.new ≡ (has_failed self.old || write_fails result buf.now) }
     {
         let outcome = self.inner.write(buf);

@@ -1,8 +1,12 @@
 //! Number words and the spelling of decimals: worked examples, and the edges of the ranges.
 
+use arrayvec::ArrayVec;
 use std::test::Fail;
 use tsp_number::NumberFault::{BadNumber, LongWord, NotWhole, OutOfRange, TooFine};
-use tsp_number::{Decimal, NumberFault, parse_decimal, parse_whole, write_decimal};
+use tsp_number::{
+    Decimal, NumberFault, front_decimal, front_whole, parse_decimal, parse_whole, push_decimal,
+    write_decimal,
+};
 
 /// The count of 10^-9 that a word is read as.
 fn count_of(word: &[u8]) -> Result<i128, NumberFault> {
@@ -167,4 +171,35 @@ fn counts_are_limited(rt: HostRuntime) {
             None => assert!(rt; !*fits, "{count}"),
         }
     }
+}
+
+/// The count of 10^-9 at the front of the bytes, and how many of them write it.
+fn front_count(bytes: &[u8]) -> Option<(i128, usize)> {
+    let (decimal, end) = front_decimal(bytes)?;
+    Some((decimal.count(), end))
+}
+
+#[test]
+fn numbers_are_read_before_other_words(rt: HostRuntime) {
+    assert_eq!(rt; front_whole(b"12 34"), Some((12, 2)));
+    assert_eq!(rt; front_whole(b"-7"), Some((-7, 2)));
+    assert_eq!(rt; front_whole(b"12.5"), Some((12, 2)));
+    assert_eq!(rt; front_whole(b"x1"), None);
+    assert_eq!(rt; front_whole(b""), None);
+    assert_eq!(rt; front_count(b"+1.5 2"), Some((1_500_000_000, 4)));
+    assert_eq!(rt; front_count(b"-.25\n"), Some((-250_000_000, 4)));
+    assert_eq!(rt; front_count(b"3. 4"), Some((3_000_000_000, 2)));
+    assert_eq!(rt; front_count(b"1e3"), Some((1_000_000_000, 1)));
+    assert_eq!(rt; front_count(b"-."), None);
+}
+
+#[test]
+fn a_spelling_is_appended(rt: HostRuntime) -> Result<(), Fail> {
+    let decimal = Decimal::of_count(-12_034_500_000_000).ok_or("out of range")?;
+    let mut text: ArrayVec<u8, 32> = ArrayVec::new();
+    text.push(b'7');
+    text.push(b' ');
+    push_decimal(&mut text, decimal);
+    assert_eq!(rt; text.as_slice(), b"7 -12034.5".as_slice());
+    Ok(())
 }

@@ -9,7 +9,7 @@ use Rattle.tsp_tool.specs.declared.ending.Ending.TheVariants.{Refused, OutOfMemo
 use Rattle.tsp_tool.specs.declared.ending.Line.{Line}
 use Rattle.tsp_tool.specs.declared.ending.Line.TheVariants as lines
 
--- 0 is a yes and 1 a no. 2 is a file that can't be judged, 3 want of memory, 4 a command line that is refused, and 5 a
+-- 0 is a yes and 1 a no. 2 is a file that can't be judged, 3 out of memory, 4 a command line that is refused, and 5 a
 -- device's failure.
 abbrev pub status_of : Ending → ℕ
 status_of Refused = 4

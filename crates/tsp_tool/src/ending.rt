@@ -14,7 +14,7 @@ use tsp_judge::{ReadFault, RunFault, WriteFault};
 pub(crate) enum Ending {
     /// The command line is refused: its words ask for nothing, or one of them is no text.
     Refused,
-    /// Memory is wanting for the words of the command line.
+    /// Out of memory for the words of the command line.
     OutOfMemory,
     /// A check was run, and answered this.
     Checked(Result<bool, RunFault>),
@@ -25,7 +25,7 @@ pub(crate) enum Ending {
 pub(crate) enum Line {
     /// How the program is used.
     Usage,
-    /// That memory is wanting for the words of the command line.
+    /// Out of memory for the words of the command line.
     OutOfMemory,
     /// Why the check gave no verdict.
     Fault(RunFault),
@@ -54,7 +54,7 @@ const NO: u8 = 1;
 /// A file isn't one that can be judged.
 const NOT_JUDGED: u8 = 2;
 
-/// Memory is wanting, anywhere.
+/// Out of memory, anywhere.
 const OUT_OF_MEMORY: u8 = 3;
 
 /// The command line is refused.
@@ -63,7 +63,7 @@ const REFUSED: u8 = 4;
 /// A device failed, in or out.
 const DEVICE: u8 = 5;
 
-/// How a run ends whose words can't be had: memory is wanting, or a word is no text.
+/// How a run ends whose words can't be had: out of memory, or a word is no text.
 pub(crate) fn ending_without_words(error: &io::Error) -> Ending
     ensures memory { error_kind error.now ≡ ErrorKind.OutOfMemory → result ≡ Ending.OutOfMemory }
     ensures no_text { error_kind error.now ≢ ErrorKind.OutOfMemory → result ≡ Ending.Refused }

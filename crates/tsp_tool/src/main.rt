@@ -55,7 +55,7 @@ fn run<R: AllocGlobal + Env + Files + Print>(rt: &R) -> Ending {
     }
 }
 
-/// The words of the command line, the program's own name first. The error is want of memory, or a
+/// The words of the command line, the program's own name first. The error is out of memory, or a
 /// word that is no text.
 fn words_of_line<R: AllocGlobal + Env>(rt: &R) -> io::Result<Vec<String>> {
     let words = env::args(rt)?.collect(rt.alloc())?;

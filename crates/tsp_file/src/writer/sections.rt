@@ -10,8 +10,8 @@ ghost use Rattle.tsp_file.specs.Text.{line_end, number_line, section, by_node, n
 ghost use Rattle.tsp_stream.specs.Way.{Puts};
 
 use std::io::Write;
-use tsp_number::{Decimal, Point, write_decimal};
-use tsp_stream::{Piece, Watched, put, put_next_number, put_number};
+use tsp_number::{Decimal, Point, push_decimal};
+use tsp_stream::{Piece, Watched, make_room, put, put_next_number, put_number};
 use tsp_value::{Field, Word};
 
 /// Adds the line that opens a section.
@@ -32,12 +32,16 @@ fn put_number_line<W: Write>(piece: &mut Piece, out: &mut Watched<W>, node: usiz
     put(piece, out, b"\n");
 }
 
+/// The most bytes of a coordinate's spelling.
+const MOST_SPELLING: usize = 21;
+
 /// Adds a blank and a coordinate.
 fn put_coordinate<W: Write>(piece: &mut Piece, out: &mut Watched<W>, coordinate: Decimal)
     ensures { Puts W.contents out.old piece.old out.new piece.new (32 ∷ spelling coordinate) }
 {
     put(piece, out, b" ");
-    put(piece, out, write_decimal(coordinate).as_slice());
+    make_room(piece, out, MOST_SPELLING);
+    push_decimal(piece, coordinate);
 }
 
 /// Adds the line of a node and its coordinates.

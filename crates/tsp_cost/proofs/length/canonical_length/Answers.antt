@@ -1,10 +1,10 @@
-use Rattle.std.proofs.Common.{◌≡◌, ◌≤◌, ◌+◌, ◌-◌, ◌<◌, [], ℕ, sym, ap, ◌∙◌, arith, to_z}
+use Rattle.std.proofs.Common.{◌≡◌, ◌≤◌, ◌+◌, ◌-◌, ◌<◌, ℕ, sym, ap, ◌∙◌, arith, to_z}
 use Rattle.std.specs.Prelude.{ℤ, ◌+ℤ◌}
 use Rattle.std.specs.Int.{w64}
 use Rattle.std.specs.List.{range_with_len}
 use Rattle.tsp_value.specs.Cells.{nodes_to}
 use Rattle.tsp_cost.specs.Length.{length_of}
-use Rattle.tsp_cost.proofs.Lengths.{IsSumOf, sum_fits, sum_more, length_more, length_last, run_parts, canonical}
+use Rattle.tsp_cost.proofs.Lengths.{sum_fits, sum_more, length_more, length_last, run_parts, canonical}
 use Rattle.tsp_cost.proofs.length.canonical_length.Goals as goal
 
 pub nodes-preserved : goal.nodes-preserved

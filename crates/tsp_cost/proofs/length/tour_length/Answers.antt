@@ -1,10 +1,10 @@
-use Rattle.std.proofs.Common.{◌≡◌, ◌≤◌, ◌+◌, ◌∷◌, List, ℕ, subst, arith, to_z, drop-cons, add-one, sym, ap}
+use Rattle.std.proofs.Common.{◌≤◌, List, ℕ, subst, arith, to_z, drop-cons, add-one}
 use Rattle.std.specs.Prelude.{ℤ, slice_index_or}
 use Rattle.std.specs.Int.{w64}
 use Rattle.std.specs.List.{All}
 use Rattle.std.proofs.lemmas.List.Elements.{All-tail}
 use Rattle.tsp_value.specs.Cells.{IsNode}
-use Rattle.tsp_cost.proofs.Lengths.{IsSumOf, sum_fits, sum_more, length_more}
+use Rattle.tsp_cost.proofs.Lengths.{sum_fits, sum_more, length_more}
 use Rattle.tsp_cost.proofs.length.tour_length.Goals as goal
 
 pub cost-length-requires-clause-to : goal.cost-length-requires-clause-to

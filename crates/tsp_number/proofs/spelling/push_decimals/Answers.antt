@@ -1,18 +1,16 @@
-use Rattle.std.proofs.Common.{arith, refl}
-use Rattle.tsp_number.proofs.Spellings.{step, all_written}
+use Rattle.std.proofs.Common.{arith, append_assoc}
+use Rattle.tsp_number.proofs.Spellings.{decimals-zeros, decimals-first, decimals-second, decimals-second_zeros}
 use Rattle.tsp_number.proofs.spelling.push_decimals.Goals as goal
 
-pub loop-left-init : goal.loop-left-init
-loop-left-init c = record { places = 9; place_is = refl; part = c.requires.part; room = omega arith; items = refl }
+pub returns-then-rest-eq0-clause-items : goal.returns-then-rest-eq0-clause-items
+returns-then-rest-eq0-clause-items g c = rw (decimals-zeros c.args.rest c.requires.part (omega arith)) c.push_last.ensures.items
 
-pub nonzero_div-left : goal.nonzero_div-left
-nonzero_div-left c = (step _ _ _ _ _ c.loop-left.invariant (omega arith)).0
-
-pub nonzero_rem-left : goal.nonzero_rem-left
-nonzero_rem-left c = (step _ _ _ _ _ c.loop-left.invariant (omega arith)).0
-
-pub loop-left-preserved : goal.loop-left-preserved
-loop-left-preserved c = rw c.push.ensures.items (step _ _ _ _ _ c.loop-left.invariant (omega arith)).1
+pub returns-then-rest-eq0-2-clause-items : goal.returns-then-rest-eq0-2-clause-items
+returns-then-rest-eq0-2-clause-items g c =
+    rw (c.push_last-then-rest-eq0-2.ensures.items, c.push_group.ensures.items, decimals-first c.args.rest (omega arith), decimals-second_zeros c.args.rest c.if-rest-eq0-2.true)
+    (append_assoc c.args.text.now.items _ _)
 
 pub returns-clause-items : goal.returns-clause-items
-returns-clause-items c = all_written _ _ _ _ _ c.loop-left.invariant (omega arith)
+returns-clause-items g c =
+    rw (c.push_last-2.ensures.items, c.push_group-2.ensures.items, c.push_group.ensures.items, decimals-first c.args.rest (omega arith), decimals-second c.args.rest (omega arith))
+    (simp append_assoc)

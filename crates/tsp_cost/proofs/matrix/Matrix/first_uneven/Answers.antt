@@ -9,5 +9,5 @@ returns c =
     matrix_even m.nodes m.weights.now
     (outside_has_no_place c.cells_are_the_listed_pairs.ensures c.only_cells_have_places.ensures FullMatrix m.nodes)
     (λ i j row column upper.
-        let earlier : i < c.rows.i = omega (arith, column.1) in
-        c.rows.invariant i j row column upper earlier)
+    let earlier : i < c.rows.i = omega (arith, column.1) in
+    c.rows.invariant i j row column upper earlier)

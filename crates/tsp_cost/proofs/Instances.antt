@@ -1,0 +1,77 @@
+-- What instances hold.
+use Rattle.std.proofs.Common.{◌≡◌, ◌≢◌, ℕ, false, List, [], length, Option, Some, None, refl, sym, ap, ◌∙◌, arith}
+use Rattle.std.specs.Prelude.{unwrap_or, ℤ}
+use Rattle.tsp_number.specs.declared.decimal.Point.{Point}
+use Rattle.tsp_value.specs.declared.layout.Layout.{Layout}
+use Rattle.tsp_value.specs.declared.kinds.WeightKind.{WeightKind}
+use Rattle.tsp_value.specs.declared.kinds.WeightKind.TheVariants.{Explicit, Euc2d, Ceil2d, Man2d, Max2d, Att}
+use Rattle.tsp_value.specs.declared.kinds.WeightFormat.{WeightFormat}
+use Rattle.tsp_value.specs.declared.kinds.WeightFormat.TheVariants.{ByFunction, Listed}
+use Rattle.tsp_value.specs.Cells.{cells}
+use Rattle.tsp_fields.specs.Fields.{Fields}
+use Rattle.tsp_fields.specs.Rules.{is_explicit}
+use Rattle.tsp_fields.specs.Valid.{IsInRange}
+use Rattle.tsp_fields.specs.Cost.{listed_cost, layout_of, distance, point_of, cost_by, cost}
+use Rattle.tsp_cost.specs.Listed.{IsListed}
+
+-- what a valid file lists
+pub lists : (f : Fields) (layout : Layout) (n : ℕ) (weights : List ℤ) → IsInRange f → f.weight_format ≡ Some (Listed layout) → f.dimension ≡ Some n → f.weights ≡ Some weights → IsListed f layout n weights
+lists f layout n weights range format dimension stand =
+    let held = range.weights weights stand in
+    let same_n : held.n ≡ n = cc in
+    let same_layout : held.layout ≡ layout = cc in
+    record {
+      format = format;
+      dimension = dimension;
+      weights_are = stand;
+      some = (range.dimension n dimension).0;
+      most = omega (arith, held.few_nodes);
+      filled = held.count ∙ ap (λ l. length (cells l held.n)) same_layout ∙ ap (λ m. length (cells layout m)) same_n;
+      sizes = held.sizes;
+    }
+
+-- the cost from the weights
+pub cost_of_listed : (f : Fields) (layout : Layout) (n : ℕ) (weights : List ℤ) → f.weight_kind ≡ Some Explicit → IsListed f layout n weights → (i j : ℕ) → listed_cost layout n weights i j ≡ cost f i j
+unfolding cost
+cost_of_listed f layout n weights kind held i j = sym (
+    ap (λ k. cost_by k f i j) kind
+    ∙ ap (λ o. listed_cost (layout_of o) (unwrap_or f.dimension 0) (unwrap_or f.weights []) i j) held.format
+    ∙ ap (λ o. listed_cost layout (unwrap_or o 0) (unwrap_or f.weights []) i j) held.dimension
+    ∙ ap (λ o. listed_cost layout n (unwrap_or o []) i j) held.weights_are)
+
+-- the cost from the coordinates
+by_distance : (kind : WeightKind) (f : Fields) (i j : ℕ) → kind ≢ Explicit → cost_by (Some kind) f i j ≡ distance kind (point_of (unwrap_or f.coords []) i) (point_of (unwrap_or f.coords []) j)
+by_distance Explicit f i j other = absurd (other refl)
+by_distance Euc2d f i j other = refl
+by_distance Ceil2d f i j other = refl
+by_distance Man2d f i j other = refl
+by_distance Max2d f i j other = refl
+by_distance Att f i j other = refl
+
+pub cost_of_points : (f : Fields) (kind : WeightKind) (points : List Point) → f.weight_kind ≡ Some kind → kind ≢ Explicit → f.coords ≡ Some points → (i j : ℕ) → distance kind (point_of points i) (point_of points j) ≡ cost f i j
+unfolding cost
+cost_of_points f kind points is_kind other stand i j = sym (
+    ap (λ k. cost_by k f i j) is_kind
+    ∙ by_distance kind f i j other
+    ∙ ap (λ o. distance kind (point_of (unwrap_or o []) i) (point_of (unwrap_or o []) j)) stand)
+
+pub not_explicit : (o : Option WeightKind) (kind : WeightKind) → o ≡ Some kind → kind ≢ Explicit → is_explicit o ≡ false
+not_explicit o kind e other = ap is_explicit e ∙ by_kind kind other
+  where
+    by_kind : (kind : WeightKind) → kind ≢ Explicit → is_explicit (Some kind) ≡ false
+    by_kind Explicit other = absurd (other refl)
+    by_kind Euc2d other = refl
+    by_kind Ceil2d other = refl
+    by_kind Man2d other = refl
+    by_kind Max2d other = refl
+    by_kind Att other = refl
+
+-- a layout is no function, and nothing is no layout
+pub not_by_function : (o : Option WeightFormat) (layout : Layout) → o ≡ Some (Listed layout) → o ≡ Some ByFunction → ⊥
+not_by_function o layout listed function = cc
+
+pub not_missing : {A : Type 0} (o : Option A) (x : A) → o ≡ Some x → o ≡ None → ⊥
+not_missing o x there none = cc
+
+pub same_layout : (o : Option WeightFormat) (a b : Layout) → o ≡ Some (Listed a) → o ≡ Some (Listed b) → a ≡ b
+same_layout o a b first second = cc
