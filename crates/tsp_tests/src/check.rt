@@ -6,6 +6,7 @@ mod forms;
 mod limits;
 
 use std::alloc::{AllocError, Global};
+use std::io::{Read, Write};
 use tsp_judge::{RunFault, run_check};
 use tsp_stream::Watched;
 
@@ -31,11 +32,21 @@ fn solution(alloc: Global, words: &str) -> Result<String, AllocError> {
     format!(in alloc; "TYPE : TOUR\nTOUR_SECTION\n{words}\nEOF\n")
 }
 
+/// What a check answers. (It has no contract, which the proofs of the tests would go through.)
+fn judged<I: Read, S: Read, W: Write>(
+    alloc: Global,
+    inst: &mut Watched<I>,
+    sol: &mut Watched<S>,
+    out: &mut Watched<W>,
+) -> Result<bool, RunFault> {
+    run_check(alloc, inst, sol, out)
+}
+
 /// What a check of two texts answers, and what it writes.
 fn check_texts(alloc: Global, inst: &[u8], sol: &[u8]) -> (Result<bool, RunFault>, Vec<u8>) {
     let mut inst = Watched::new(inst);
     let mut sol = Watched::new(sol);
     let mut out = Watched::new(Vec::new(alloc));
-    let answer = run_check(alloc, &mut inst, &mut sol, &mut out);
+    let answer = judged(alloc, &mut inst, &mut sol, &mut out);
     (answer, out.into_inner())
 }

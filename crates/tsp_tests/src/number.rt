@@ -16,130 +16,160 @@ fn count_of(word: &[u8]) -> Result<i128, NumberFault> {
     }
 }
 
+/// The whole number that a word is read as.
+fn whole_of(word: &[u8], low: i64, high: i64) -> Result<i64, NumberFault> {
+    parse_whole(word, low, high)
+}
+
+/// Number words, and the counts of 10^-9 of the numbers that they stand for.
+const DECIMALS: &[(&str, i128)] = &[
+    ("1.50e+01", 15_000_000_000),
+    (".5", 500_000_000),
+    ("5.", 5_000_000_000),
+    ("-0.0", 0),
+    ("0e999", 0),
+    ("10e-10", 1),
+    ("0.0000000010", 1),
+    ("0e-99999999999999999999", 0),
+    ("1000000000", 1_000_000_000_000_000_000),
+    ("-1000000000.000", -1_000_000_000_000_000_000),
+    ("+7E0", 7_000_000_000),
+    ("1.0000000000000000000000", 1_000_000_000),
+    ("1000000000000000000000000e-20", 10_000_000_000_000),
+    (
+        "-12300000000000000000000000000000e-25",
+        -1_230_000_000_000_000,
+    ),
+];
+
 #[test]
 fn number_words_are_read_as_decimals(rt: HostRuntime) {
-    let one: i128 = 1_000_000_000;
-    let words: [(&[u8], i128); 14] = [
-        (b"1.50e+01", 15 * one),
-        (b".5", one / 2),
-        (b"5.", 5 * one),
-        (b"-0.0", 0),
-        (b"0e999", 0),
-        (b"10e-10", 1),
-        (b"0.0000000010", 1),
-        (b"0e-99999999999999999999", 0),
-        (b"1000000000", one * one),
-        (b"-1000000000.000", -(one * one)),
-        (b"+7E0", 7 * one),
-        (b"1.0000000000000000000000", one),
-        (b"1000000000000000000000000e-20", 10_000 * one),
-        (b"-12300000000000000000000000000000e-25", -1_230_000 * one),
-    ];
-    for (word, count) in words {
-        assert_eq!(rt; count_of(word), Ok(count), "at {word:?}");
+    for (word, count) in DECIMALS {
+        assert_eq!(rt; count_of(word.as_bytes()), Ok(*count), "at {word}");
     }
 }
+
+/// Words that are not read as decimals.
+const REFUSED: &[(&str, NumberFault)] = &[
+    ("1e-10", TooFine),
+    ("1e-99999999999999999999", TooFine),
+    ("1.00000000000000000000001", TooFine),
+    ("1000000000000000000000000e-40", TooFine),
+    ("12345678901234567890123456789e-20", TooFine),
+    ("1e99999999999999999999", OutOfRange),
+    ("1000000000.1", OutOfRange),
+    ("-1000000000.000000001", OutOfRange),
+    ("99999999999999999999999999999999", OutOfRange),
+    ("1.2.3", BadNumber),
+    (".", BadNumber),
+    ("", BadNumber),
+    ("+", BadNumber),
+    ("e5", BadNumber),
+    ("1e", BadNumber),
+    ("1e+", BadNumber),
+    ("0x1", BadNumber),
+    ("1_0", BadNumber),
+    ("--1", BadNumber),
+    (" 1", BadNumber),
+];
 
 #[test]
 fn other_words_have_their_first_fault(rt: HostRuntime) {
-    let words: [(&[u8], NumberFault); 22] = [
-        (b"1e-10", TooFine),
-        (b"1e-99999999999999999999", TooFine),
-        (b"1.00000000000000000000001", TooFine),
-        (b"1000000000000000000000000e-40", TooFine),
-        (b"12345678901234567890123456789e-20", TooFine),
-        (b"1e99999999999999999999", OutOfRange),
-        (b"1000000000.1", OutOfRange),
-        (b"-1000000000.000000001", OutOfRange),
-        (b"99999999999999999999999999999999", OutOfRange),
-        (b"1.2.3", BadNumber),
-        (b".", BadNumber),
-        (b"", BadNumber),
-        (b"+", BadNumber),
-        (b"e5", BadNumber),
-        (b"1e", BadNumber),
-        (b"1e+", BadNumber),
-        (b"0x1", BadNumber),
-        (b"1_0", BadNumber),
-        (b"--1", BadNumber),
-        (b" 1", BadNumber),
-        (&[b'x'; 65], LongWord),
-        (&[b'1'; 65], LongWord),
-    ];
-    for (word, fault) in words {
-        assert_eq!(rt; count_of(word), Err(fault), "at {word:?}");
+    for (word, fault) in REFUSED {
+        assert_eq!(rt; count_of(word.as_bytes()), Err(*fault), "at {word}");
     }
 }
 
 #[test]
-fn sixty_four_bytes_are_not_too_long(rt: HostRuntime) {
+fn a_word_has_at_most_sixty_four_bytes(rt: HostRuntime) {
     assert_eq!(rt; count_of(&[b'0'; 64]), Ok(0));
     assert_eq!(rt; count_of(&[b'x'; 64]), Err(BadNumber));
-    assert_eq!(rt; parse_whole(&[b'0'; 64], 0, 9), Ok(0));
+    assert_eq!(rt; count_of(&[b'x'; 65]), Err(LongWord));
+    assert_eq!(rt; count_of(&[b'1'; 65]), Err(LongWord));
+    assert_eq!(rt; whole_of(&[b'0'; 64], 1, 9), Err(OutOfRange));
+    assert_eq!(rt; whole_of(&[b'0'; 65], 1, 9), Err(LongWord));
 }
+
+/// Words, and what they are where a whole number from 1 to 100,000 is wanted.
+const WHOLE_NUMBERS: &[(&str, Result<i64, NumberFault>)] = &[
+    ("12.0", Ok(12)),
+    ("1.2e1", Ok(12)),
+    ("12.5", Err(NotWhole)),
+    ("200000.5", Err(NotWhole)),
+    ("100001", Err(OutOfRange)),
+    ("0", Err(OutOfRange)),
+    ("-1", Err(OutOfRange)),
+    ("1", Ok(1)),
+    ("100000", Ok(100_000)),
+    ("1e-10", Err(TooFine)),
+    ("one", Err(BadNumber)),
+];
 
 #[test]
 fn whole_numbers_are_read_within_a_range(rt: HostRuntime) {
-    let words: [(&[u8], Result<i64, NumberFault>); 11] = [
-        (b"12.0", Ok(12)),
-        (b"1.2e1", Ok(12)),
-        (b"12.5", Err(NotWhole)),
-        (b"200000.5", Err(NotWhole)),
-        (b"100001", Err(OutOfRange)),
-        (b"0", Err(OutOfRange)),
-        (b"-1", Err(OutOfRange)),
-        (b"100000", Ok(100_000)),
-        (b"1e-10", Err(TooFine)),
-        (b"one", Err(BadNumber)),
-        (&[b'9'; 65], Err(LongWord)),
-    ];
-    for (word, answer) in words {
-        assert_eq!(rt; parse_whole(word, 1, 100_000), answer, "at {word:?}");
+    for (word, answer) in WHOLE_NUMBERS {
+        assert_eq!(rt; whole_of(word.as_bytes(), 1, 100_000), *answer, "at {word}");
     }
 }
+
+/// Words, and what they are where any whole number of 64 bits is wanted.
+const LARGE_NUMBERS: &[(&str, Result<i64, NumberFault>)] = &[
+    ("-9223372036854775808", Ok(-9_223_372_036_854_775_808)),
+    ("-9223372036854775809", Err(OutOfRange)),
+    ("9223372036854775807", Ok(9_223_372_036_854_775_807)),
+    ("9223372036854775808", Err(OutOfRange)),
+];
 
 #[test]
 fn whole_numbers_reach_the_ends_of_their_type(rt: HostRuntime) {
-    let (low, high) = (i64::MIN, i64::MAX);
-    let words: [(&[u8], Result<i64, NumberFault>); 4] = [
-        (b"-9223372036854775808", Ok(-9_223_372_036_854_775_808)),
-        (b"-9223372036854775809", Err(OutOfRange)),
-        (b"9223372036854775807", Ok(9_223_372_036_854_775_807)),
-        (b"9223372036854775808", Err(OutOfRange)),
-    ];
-    for (word, answer) in words {
-        assert_eq!(rt; parse_whole(word, low, high), answer, "at {word:?}");
+    for (word, answer) in LARGE_NUMBERS {
+        assert_eq!(rt;
+            whole_of(word.as_bytes(), i64::MIN, i64::MAX),
+            *answer,
+            "at {word}"
+        );
     }
 }
 
+/// Counts of 10^-9, and the spellings of their decimals.
+const SPELLINGS: &[(i128, &str)] = &[
+    (0, "0"),
+    (1, "0.000000001"),
+    (-1, "-0.000000001"),
+    (-1_500_000_000, "-1.5"),
+    (15_000_000_000, "15"),
+    (1_020_304_050, "1.02030405"),
+    (1_000_000_000_000_000_000, "1000000000"),
+    (-999_999_999_999_999_999, "-999999999.999999999"),
+];
+
 #[test]
 fn decimals_are_spelled_in_one_way_and_read_back(rt: HostRuntime) -> Result<(), Fail> {
-    let spellings: [(i128, &[u8]); 8] = [
-        (0, b"0"),
-        (1, b"0.000000001"),
-        (-1, b"-0.000000001"),
-        (-1_500_000_000, b"-1.5"),
-        (15_000_000_000, b"15"),
-        (1_020_304_050, b"1.02030405"),
-        (1_000_000_000_000_000_000, b"1000000000"),
-        (-999_999_999_999_999_999, b"-999999999.999999999"),
-    ];
-    for (count, spelling) in spellings {
-        let decimal = Decimal::of_count(count).ok_or("out of range")?;
-        assert_eq!(rt; write_decimal(decimal).as_slice(), spelling);
-        assert_eq!(rt; count_of(spelling), Ok(count));
+    for (count, spelling) in SPELLINGS {
+        let decimal = Decimal::of_count(*count).ok_or("out of range")?;
+        assert_eq!(rt; write_decimal(decimal).as_slice(), spelling.as_bytes());
+        assert_eq!(rt; count_of(spelling.as_bytes()), Ok(*count));
     }
     Ok(())
 }
 
+/// Counts, and whether they are counts of decimals.
+const COUNTS: &[(i128, bool)] = &[
+    (-1_000_000_000_000_000_001, false),
+    (-1_000_000_000_000_000_000, true),
+    (-1, true),
+    (0, true),
+    (1_000_000_000_000_000_000, true),
+    (1_000_000_000_000_000_001, false),
+];
+
 #[test]
 fn counts_are_limited(rt: HostRuntime) {
-    let most: i128 = 1_000_000_000_000_000_000;
-    assert_eq!(rt; Decimal::of_count(most + 1), None);
-    assert_eq!(rt; Decimal::of_count(-most - 1), None);
-    for count in [-most, -1, 0, 1, most] {
-        let kept = Decimal::of_count(count).map(|decimal| decimal.count());
-        assert_eq!(rt; kept, Some(count));
+    for (count, fits) in COUNTS {
+        match Decimal::of_count(*count) {
+            Some(decimal) => assert_eq!(rt; (decimal.count(), true), (*count, *fits)),
+            None => assert!(rt; !*fits, "{count}"),
+        }
     }
 }
 

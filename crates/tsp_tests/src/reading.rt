@@ -37,7 +37,10 @@ fn at_most_4_096_bytes_past_the_limit_are_taken(rt: HostRuntime) -> Result<(), F
         let given = reader.into_inner().given();
         assert!(rt; bytes.len() > limit, "{limit}");
         assert_eq!(rt; bytes.len() as u64, given, "{limit}");
-        assert!(rt; given <= limit as u64 + 4_096, "{given} at {limit}");
+        assert!(rt;
+            given <= (limit as u64).saturating_add(4_096),
+            "{given} at {limit}"
+        );
         assert!(rt; bytes.as_slice().starts_with(b"ab"));
     }
     Ok(())

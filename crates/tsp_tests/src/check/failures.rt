@@ -1,10 +1,10 @@
 //! Readers and writers that fail, or had failed before.
 
-use super::{REPORT, THREE_NODES, TOUR};
+use super::{REPORT, THREE_NODES, TOUR, judged};
 use crate::devices::{Drip, NEVER, Refusal, Trickle, outcome};
 use std::io::{ErrorKind, Read, Write};
 use std::test::Fail;
-use tsp_judge::{ReadFault, RunFault, run_check};
+use tsp_judge::{ReadFault, RunFault};
 use tsp_stream::{Watched, WriteFault};
 
 /// No instance.
@@ -32,7 +32,7 @@ fn each_read_of_the_instance_may_fail(rt: HostRuntime) {
         let mut inst = reader(THREE_NODES, fails_at);
         let mut sol = reader(TOUR, NEVER);
         let mut out = Watched::new(Vec::new(rt.alloc()));
-        let answer = run_check(rt.alloc(), &mut inst, &mut sol, &mut out);
+        let answer = judged(rt.alloc(), &mut inst, &mut sol, &mut out);
         if fails_at < calls {
             let fault = ReadFault::Device;
             assert_eq!(rt;
@@ -58,7 +58,7 @@ fn each_read_of_the_solution_may_fail(rt: HostRuntime) {
         let mut inst = reader(THREE_NODES, NEVER);
         let mut sol = reader(TOUR, fails_at);
         let mut out = Watched::new(Vec::new(rt.alloc()));
-        let answer = run_check(rt.alloc(), &mut inst, &mut sol, &mut out);
+        let answer = judged(rt.alloc(), &mut inst, &mut sol, &mut out);
         if fails_at < calls {
             let fault = ReadFault::Device;
             assert_eq!(rt;
@@ -88,7 +88,7 @@ fn each_write_may_fail(rt: HostRuntime) {
             let mut inst = reader(THREE_NODES, NEVER);
             let mut sol = reader(TOUR, NEVER);
             let mut out = Watched::new(Drip::new(rt.alloc(), 1, fails_at, refusal));
-            let answer = run_check(rt.alloc(), &mut inst, &mut sol, &mut out);
+            let answer = judged(rt.alloc(), &mut inst, &mut sol, &mut out);
             let failed = out.failed();
             let writer = out.into_inner();
             let front = REPORT.as_bytes().get(..fails_at);
@@ -112,14 +112,14 @@ fn a_reader_that_had_failed_counts_in_its_turn(rt: HostRuntime) -> Result<(), Fa
     let mut sol = failed_reader(TOUR)?;
     let mut out = Watched::new(Vec::new(rt.alloc()));
     let fault = ReadFault::Device;
-    let answer = run_check(rt.alloc(), &mut inst, &mut sol, &mut out);
+    let answer = judged(rt.alloc(), &mut inst, &mut sol, &mut out);
     assert_eq!(rt; answer, Err(RunFault::File { file: 1, fault }));
     assert_eq!(rt; inst.into_inner().calls(), 1, "it isn't asked again");
     let mut inst = reader(NO_INSTANCE, NEVER);
-    let answer = run_check(rt.alloc(), &mut inst, &mut sol, &mut out);
+    let answer = judged(rt.alloc(), &mut inst, &mut sol, &mut out);
     assert_eq!(rt; answer, Err(RunFault::NotYet));
     let mut inst = reader(THREE_NODES, NEVER);
-    let answer = run_check(rt.alloc(), &mut inst, &mut sol, &mut out);
+    let answer = judged(rt.alloc(), &mut inst, &mut sol, &mut out);
     assert_eq!(rt; answer, Err(RunFault::File { file: 2, fault }));
     assert_eq!(rt; sol.into_inner().calls(), 1, "it isn't asked again");
     assert_eq!(rt; out.into_inner().len(), 0);
@@ -132,12 +132,12 @@ fn a_writer_that_had_failed_counts_in_its_turn(rt: HostRuntime) {
     assert_eq!(rt; outcome(out.write(b"x")), Ok(0));
     let mut inst = reader(NO_INSTANCE, NEVER);
     let mut sol = reader(TOUR, NEVER);
-    let answer = run_check(rt.alloc(), &mut inst, &mut sol, &mut out);
+    let answer = judged(rt.alloc(), &mut inst, &mut sol, &mut out);
     assert_eq!(rt; answer, Err(RunFault::NotYet));
     assert_eq!(rt; sol.into_inner().calls(), 0);
     let mut inst = reader(THREE_NODES, NEVER);
     let mut sol = reader(TOUR, NEVER);
-    let answer = run_check(rt.alloc(), &mut inst, &mut sol, &mut out);
+    let answer = judged(rt.alloc(), &mut inst, &mut sol, &mut out);
     assert_eq!(rt; answer, Err(RunFault::Write(WriteFault::Device)));
     assert_eq!(rt; out.into_inner().calls(), 1, "it isn't asked again");
 }
@@ -158,7 +158,7 @@ fn a_yes_and_a_no_are_not_answered_where_the_report_fails(rt: HostRuntime) {
         let mut sol = reader(words, NEVER);
         let refusal = Refusal::Error(ErrorKind::StorageFull);
         let mut out = Watched::new(Drip::new(rt.alloc(), 1, front.len(), refusal));
-        let answer = run_check(rt.alloc(), &mut inst, &mut sol, &mut out);
+        let answer = judged(rt.alloc(), &mut inst, &mut sol, &mut out);
         assert_eq!(rt; answer, Err(RunFault::Write(WriteFault::Device)));
         assert_eq!(rt; out.into_inner().held(), front.as_bytes());
     }

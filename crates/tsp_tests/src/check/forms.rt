@@ -1,10 +1,10 @@
 //! The two forms at their edges.
 
-use super::{REPORT, THREE_NODES, TOUR, check_texts};
+use super::{REPORT, THREE_NODES, TOUR, check_texts, judged};
 use crate::devices::Repeats;
 use std::alloc::{AllocError, Global};
 use std::test::Fail;
-use tsp_judge::{RunFault, run_check};
+use tsp_judge::RunFault;
 use tsp_stream::Watched;
 
 /// Where the weights of `THREE_NODES` begin.
@@ -194,7 +194,7 @@ fn a_solution_has_at_most_a_million_nodes(rt: HostRuntime) -> Result<(), Fail> {
         let mut inst = Watched::new(THREE_NODES.as_bytes());
         let mut sol = Watched::new(Repeats::new(head, b"1 2 1 3\n", 250_000, tail.as_bytes()));
         let mut out = Watched::new(Vec::new(rt.alloc()));
-        let answer = run_check(rt.alloc(), &mut inst, &mut sol, &mut out);
+        let answer = judged(rt.alloc(), &mut inst, &mut sol, &mut out);
         assert_eq!(rt; answer, want, "at {tail}");
     }
     Ok(())
@@ -211,7 +211,7 @@ fn an_instance_has_at_most_five_thousand_nodes(rt: HostRuntime) -> Result<(), Fa
         let mut inst = Watched::new(rows);
         let mut sol = Watched::new(TOUR.as_bytes());
         let mut out = Watched::new(Vec::new(rt.alloc()));
-        let answer = run_check(rt.alloc(), &mut inst, &mut sol, &mut out);
+        let answer = judged(rt.alloc(), &mut inst, &mut sol, &mut out);
         assert_eq!(rt; answer, want, "at {nodes}");
     }
     Ok(())

@@ -1,10 +1,10 @@
 //! Files about as long as the limit, and files that never end. Each test reads a gigabyte or more.
 
-use super::{REPORT, THREE_NODES, TOUR};
+use super::{REPORT, THREE_NODES, TOUR, judged};
 use crate::devices::{Flood, Repeats};
 use std::alloc::{AllocError, Global};
 use std::test::Fail;
-use tsp_judge::{ReadFault, RunFault, run_check};
+use tsp_judge::{ReadFault, RunFault};
 use tsp_stream::Watched;
 
 /// How many bytes of a file count.
@@ -21,7 +21,7 @@ fn an_instance_that_never_ends_is_left_at_the_limit(rt: HostRuntime) {
     let mut inst = Watched::new(Flood::after(b""));
     let mut sol = Watched::new(TOUR.as_bytes());
     let mut out = Watched::new(Vec::new(rt.alloc()));
-    let answer = run_check(rt.alloc(), &mut inst, &mut sol, &mut out);
+    let answer = judged(rt.alloc(), &mut inst, &mut sol, &mut out);
     let fault = ReadFault::TooLong;
     assert_eq!(rt; answer, Err(RunFault::File { file: 1, fault }));
     assert!(rt; !inst.failed());
@@ -36,7 +36,7 @@ fn a_solution_that_never_ends_is_left_at_the_limit(rt: HostRuntime) {
     let mut inst = Watched::new(THREE_NODES.as_bytes());
     let mut sol = Watched::new(Flood::after(b""));
     let mut out = Watched::new(Vec::new(rt.alloc()));
-    let answer = run_check(rt.alloc(), &mut inst, &mut sol, &mut out);
+    let answer = judged(rt.alloc(), &mut inst, &mut sol, &mut out);
     let fault = ReadFault::TooLong;
     assert_eq!(rt; answer, Err(RunFault::File { file: 2, fault }));
     let given = sol.into_inner().given();
@@ -49,7 +49,7 @@ fn an_early_line_eof_ends_what_counts(rt: HostRuntime) {
     let mut inst = Watched::new(THREE_NODES.as_bytes());
     let mut sol = Watched::new(Flood::after(TOUR.as_bytes()));
     let mut out = Watched::new(Vec::new(rt.alloc()));
-    let answer = run_check(rt.alloc(), &mut inst, &mut sol, &mut out);
+    let answer = judged(rt.alloc(), &mut inst, &mut sol, &mut out);
     assert_eq!(rt; answer, Ok(true));
     let given = sol.into_inner().given();
     assert!(rt; given <= MOST_TAKEN, "{given}");
@@ -78,7 +78,7 @@ fn at_the_limit(
     let mut inst = Watched::new(bytes);
     let mut sol = Watched::new(TOUR.as_bytes());
     let mut out = Watched::new(Vec::new(alloc));
-    Ok(run_check(alloc, &mut inst, &mut sol, &mut out))
+    Ok(judged(alloc, &mut inst, &mut sol, &mut out))
 }
 
 #[test]

@@ -9,10 +9,12 @@ fn a_file_lends_the_keywords_that_it_has(rt: HostRuntime) -> Result<(), Fail> {
     let file = file_of(rectangle(rt.alloc())?)?;
     assert_eq!(rt; file.name(), Some(b"a".as_slice()));
     assert_eq!(rt; file.kind(), Kind::Cvrp);
-    assert_eq!(rt; file.comments().len(), 1);
-    assert_eq!(rt; file.comments()[0].as_slice(), b"".as_slice());
-    assert_eq!(rt; file.others().len(), 1);
-    let (keyword, value) = &file.others()[0];
+    let comments = file.comments();
+    assert_eq!(rt; comments.len(), 1);
+    assert_eq!(rt; comments[0].as_slice(), b"".as_slice());
+    let others = file.others();
+    assert_eq!(rt; others.len(), 1);
+    let (keyword, value) = &others[0];
     assert_eq!(rt; keyword.as_slice(), b"DISTANCE".as_slice());
     assert_eq!(rt; value.as_slice(), b"9".as_slice());
     assert_eq!(rt; file.dimension(), Some(4));
