@@ -1,5 +1,6 @@
 //! The distances: examples worked by hand.
 
+use crate::asserts::same;
 use std::test::Fail;
 use tsp_number::{NumberFault, Point, att, ceil_2d, euc_2d, man_2d, max_2d, parse_decimal};
 
@@ -15,17 +16,17 @@ fn point(x: &[u8], y: &[u8]) -> Result<Point, NumberFault> {
 #[test]
 fn distances_from_the_origin_are_rounded_as_their_kinds_say(rt: HostRuntime) -> Result<(), Fail> {
     let origin = point(b"0", b"0")?;
-    assert_eq!(rt; euc_2d(origin, point(b"1.5", b"0")?), 2);
-    assert_eq!(rt; euc_2d(origin, point(b"2.5", b"0")?), 3);
-    assert_eq!(rt; euc_2d(origin, point(b"0.499999999", b"0")?), 0);
-    assert_eq!(rt; euc_2d(origin, point(b"-3", b"4")?), 5);
-    assert_eq!(rt; man_2d(origin, point(b"0.25", b"0.25")?), 1);
-    assert_eq!(rt; max_2d(origin, point(b"1.5", b"0.4")?), 2);
-    assert_eq!(rt; att(origin, point(b"1", b"3")?), 1);
-    assert_eq!(rt; att(origin, point(b"2", b"3")?), 2);
-    assert_eq!(rt; att(origin, point(b"4", b"5")?), 3);
-    assert_eq!(rt; ceil_2d(origin, point(b"1.000000001", b"0")?), 2);
-    assert_eq!(rt; ceil_2d(origin, point(b"-3", b"-4")?), 5);
+    same(&rt, euc_2d(origin, point(b"1.5", b"0")?), 2);
+    same(&rt, euc_2d(origin, point(b"2.5", b"0")?), 3);
+    same(&rt, euc_2d(origin, point(b"0.499999999", b"0")?), 0);
+    same(&rt, euc_2d(origin, point(b"-3", b"4")?), 5);
+    same(&rt, man_2d(origin, point(b"0.25", b"0.25")?), 1);
+    same(&rt, max_2d(origin, point(b"1.5", b"0.4")?), 2);
+    same(&rt, att(origin, point(b"1", b"3")?), 1);
+    same(&rt, att(origin, point(b"2", b"3")?), 2);
+    same(&rt, att(origin, point(b"4", b"5")?), 3);
+    same(&rt, ceil_2d(origin, point(b"1.000000001", b"0")?), 2);
+    same(&rt, ceil_2d(origin, point(b"-3", b"-4")?), 5);
     Ok(())
 }
 
@@ -51,8 +52,8 @@ fn distances_across_the_plane_are_the_same_both_ways(rt: HostRuntime) -> Result<
         2_000_000_000,
         894_427_191,
     ];
-    assert_eq!(rt; distances(&low, &high), across);
-    assert_eq!(rt; distances(&high, &low), across);
-    assert_eq!(rt; distances(&high, &high), [0; 5]);
+    same(&rt, distances(&low, &high), across);
+    same(&rt, distances(&high, &low), across);
+    same(&rt, distances(&high, &high), [0; 5]);
     Ok(())
 }

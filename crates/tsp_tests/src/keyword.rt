@@ -1,34 +1,35 @@
 //! What bytes and keywords of a file are.
 
+use crate::asserts::{holds_at, same_at};
 use tsp_value::{Field, Keyword, is_blank, is_keyword_byte, is_letter};
 
 #[test]
 fn five_bytes_are_blanks(rt: HostRuntime) {
     for byte in b"\t\x0b\x0c\r " {
-        assert!(rt; is_blank(*byte), "{byte}");
+        holds_at(&rt, byte, is_blank(*byte));
     }
     for byte in b"\x00\x08\n\x0e\x1f!\xa0" {
-        assert!(rt; !is_blank(*byte), "{byte}");
+        holds_at(&rt, byte, !is_blank(*byte));
     }
 }
 
 #[test]
 fn letters_are_those_of_ascii(rt: HostRuntime) {
     for byte in b"AMZamz" {
-        assert!(rt; is_letter(*byte), "{byte}");
+        holds_at(&rt, byte, is_letter(*byte));
     }
     for byte in b"@[`{_0\xc4" {
-        assert!(rt; !is_letter(*byte), "{byte}");
+        holds_at(&rt, byte, !is_letter(*byte));
     }
 }
 
 #[test]
 fn a_keyword_ends_at_a_blank_a_line_end_or_a_colon(rt: HostRuntime) {
     for byte in b"A_0-\x00\xff" {
-        assert!(rt; is_keyword_byte(*byte), "{byte}");
+        holds_at(&rt, byte, is_keyword_byte(*byte));
     }
     for byte in b"\t\n\x0b\x0c\r :" {
-        assert!(rt; !is_keyword_byte(*byte), "{byte}");
+        holds_at(&rt, byte, !is_keyword_byte(*byte));
     }
 }
 
@@ -56,6 +57,6 @@ const KEYWORDS: &[(&str, Keyword)] = &[
 #[test]
 fn keywords_are_known_byte_by_byte(rt: HostRuntime) {
     for (word, keyword) in KEYWORDS {
-        assert_eq!(rt; Keyword::of(word.as_bytes()), *keyword, "{word}");
+        same_at(&rt, word, Keyword::of(word.as_bytes()), *keyword);
     }
 }

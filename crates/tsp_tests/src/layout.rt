@@ -1,5 +1,6 @@
 //! The layouts of a matrix: examples worked by hand.
 
+use crate::asserts::{same, same_at};
 use tsp_value::{Layout, Word};
 
 /// The nine words of TSPLIB 95, and their layouts.
@@ -18,8 +19,8 @@ const WORDS: [(&str, Layout); 9] = [
 #[test]
 fn each_layout_has_its_word_both_ways(rt: HostRuntime) {
     for (word, layout) in WORDS {
-        assert_eq!(rt; layout.word(), word);
-        assert_eq!(rt; Layout::of_word(word), Some(layout), "{word}");
+        same(&rt, layout.word(), word);
+        same_at(&rt, word, Layout::of_word(word), Some(layout));
     }
 }
 
@@ -42,7 +43,7 @@ const OTHER_WORDS: [&str; 12] = [
 #[test]
 fn other_words_have_no_layout(rt: HostRuntime) {
     for word in OTHER_WORDS {
-        assert_eq!(rt; Layout::of_word(word), None, "{word}");
+        same_at(&rt, word, Layout::of_word(word), None);
     }
 }
 
@@ -62,7 +63,7 @@ const BY_COLUMNS: [(Layout, bool); 9] = [
 #[test]
 fn four_layouts_go_by_columns(rt: HostRuntime) {
     for (layout, by_columns) in BY_COLUMNS {
-        assert_eq!(rt; layout.goes_by_columns(), by_columns, "{layout:?}");
+        same_at(&rt, layout, layout.goes_by_columns(), by_columns);
     }
 }
 
@@ -93,13 +94,14 @@ const COUNTS: [(u32, u64, u64, u64); 6] = [
 #[test]
 fn cells_are_counted(rt: HostRuntime) {
     for (nodes, all, side, side_with_diagonal) in COUNTS {
-        assert_eq!(rt; Layout::FullMatrix.cell_count(nodes), all, "{nodes}");
+        same_at(&rt, nodes, Layout::FullMatrix.cell_count(nodes), all);
         for (without, with) in SIDES {
-            assert_eq!(rt; without.cell_count(nodes), side, "{without:?} of {nodes}");
-            assert_eq!(rt;
+            same_at(&rt, (without, nodes), without.cell_count(nodes), side);
+            same_at(
+                &rt,
+                (with, nodes),
                 with.cell_count(nodes),
                 side_with_diagonal,
-                "{with:?} of {nodes}"
             );
         }
     }
@@ -127,6 +129,6 @@ fn lines_of_four_nodes_have_their_lengths(rt: HostRuntime) {
             layout.line_len(4, 3),
             layout.line_len(4, 4),
         ];
-        assert_eq!(rt; found, lengths, "{layout:?}");
+        same_at(&rt, layout, found, lengths);
     }
 }

@@ -6,7 +6,11 @@
 #![tactic(auto)]
 
 #[cfg(test)]
+mod asserts;
+#[cfg(test)]
 mod check;
+#[cfg(test)]
+mod cost;
 #[cfg(test)]
 mod devices;
 #[cfg(test)]

@@ -1,5 +1,6 @@
 //! Number words and the spelling of decimals: worked examples, and the edges of the ranges.
 
+use crate::asserts::{holds_at, same, same_at};
 use arrayvec::ArrayVec;
 use std::test::Fail;
 use tsp_number::NumberFault::{BadNumber, LongWord, NotWhole, OutOfRange, TooFine};
@@ -45,7 +46,7 @@ const DECIMALS: &[(&str, i128)] = &[
 #[test]
 fn number_words_are_read_as_decimals(rt: HostRuntime) {
     for (word, count) in DECIMALS {
-        assert_eq!(rt; count_of(word.as_bytes()), Ok(*count), "at {word}");
+        same_at(&rt, word, count_of(word.as_bytes()), Ok(*count));
     }
 }
 
@@ -76,18 +77,18 @@ const REFUSED: &[(&str, NumberFault)] = &[
 #[test]
 fn other_words_have_their_first_fault(rt: HostRuntime) {
     for (word, fault) in REFUSED {
-        assert_eq!(rt; count_of(word.as_bytes()), Err(*fault), "at {word}");
+        same_at(&rt, word, count_of(word.as_bytes()), Err(*fault));
     }
 }
 
 #[test]
 fn a_word_has_at_most_sixty_four_bytes(rt: HostRuntime) {
-    assert_eq!(rt; count_of(&[b'0'; 64]), Ok(0));
-    assert_eq!(rt; count_of(&[b'x'; 64]), Err(BadNumber));
-    assert_eq!(rt; count_of(&[b'x'; 65]), Err(LongWord));
-    assert_eq!(rt; count_of(&[b'1'; 65]), Err(LongWord));
-    assert_eq!(rt; whole_of(&[b'0'; 64], 1, 9), Err(OutOfRange));
-    assert_eq!(rt; whole_of(&[b'0'; 65], 1, 9), Err(LongWord));
+    same(&rt, count_of(&[b'0'; 64]), Ok(0));
+    same(&rt, count_of(&[b'x'; 64]), Err(BadNumber));
+    same(&rt, count_of(&[b'x'; 65]), Err(LongWord));
+    same(&rt, count_of(&[b'1'; 65]), Err(LongWord));
+    same(&rt, whole_of(&[b'0'; 64], 1, 9), Err(OutOfRange));
+    same(&rt, whole_of(&[b'0'; 65], 1, 9), Err(LongWord));
 }
 
 /// Words, and what they are where a whole number from 1 to 100,000 is wanted.
@@ -108,7 +109,7 @@ const WHOLE_NUMBERS: &[(&str, Result<i64, NumberFault>)] = &[
 #[test]
 fn whole_numbers_are_read_within_a_range(rt: HostRuntime) {
     for (word, answer) in WHOLE_NUMBERS {
-        assert_eq!(rt; whole_of(word.as_bytes(), 1, 100_000), *answer, "at {word}");
+        same_at(&rt, word, whole_of(word.as_bytes(), 1, 100_000), *answer);
     }
 }
 
@@ -123,10 +124,11 @@ const LARGE_NUMBERS: &[(&str, Result<i64, NumberFault>)] = &[
 #[test]
 fn whole_numbers_reach_the_ends_of_their_type(rt: HostRuntime) {
     for (word, answer) in LARGE_NUMBERS {
-        assert_eq!(rt;
+        same_at(
+            &rt,
+            word,
             whole_of(word.as_bytes(), i64::MIN, i64::MAX),
             *answer,
-            "at {word}"
         );
     }
 }
@@ -147,8 +149,8 @@ const SPELLINGS: &[(i128, &str)] = &[
 fn decimals_are_spelled_in_one_way_and_read_back(rt: HostRuntime) -> Result<(), Fail> {
     for (count, spelling) in SPELLINGS {
         let decimal = Decimal::of_count(*count).ok_or("out of range")?;
-        assert_eq!(rt; write_decimal(decimal).as_slice(), spelling.as_bytes());
-        assert_eq!(rt; count_of(spelling.as_bytes()), Ok(*count));
+        same(&rt, write_decimal(decimal).as_slice(), spelling.as_bytes());
+        same(&rt, count_of(spelling.as_bytes()), Ok(*count));
     }
     Ok(())
 }
@@ -167,8 +169,8 @@ const COUNTS: &[(i128, bool)] = &[
 fn counts_are_limited(rt: HostRuntime) {
     for (count, fits) in COUNTS {
         match Decimal::of_count(*count) {
-            Some(decimal) => assert_eq!(rt; (decimal.count(), true), (*count, *fits)),
-            None => assert!(rt; !*fits, "{count}"),
+            Some(decimal) => same(&rt, (decimal.count(), true), (*count, *fits)),
+            None => holds_at(&rt, count, !*fits),
         }
     }
 }
@@ -181,16 +183,16 @@ fn front_count(bytes: &[u8]) -> Option<(i128, usize)> {
 
 #[test]
 fn numbers_are_read_before_other_words(rt: HostRuntime) {
-    assert_eq!(rt; front_whole(b"12 34"), Some((12, 2)));
-    assert_eq!(rt; front_whole(b"-7"), Some((-7, 2)));
-    assert_eq!(rt; front_whole(b"12.5"), Some((12, 2)));
-    assert_eq!(rt; front_whole(b"x1"), None);
-    assert_eq!(rt; front_whole(b""), None);
-    assert_eq!(rt; front_count(b"+1.5 2"), Some((1_500_000_000, 4)));
-    assert_eq!(rt; front_count(b"-.25\n"), Some((-250_000_000, 4)));
-    assert_eq!(rt; front_count(b"3. 4"), Some((3_000_000_000, 2)));
-    assert_eq!(rt; front_count(b"1e3"), Some((1_000_000_000, 1)));
-    assert_eq!(rt; front_count(b"-."), None);
+    same(&rt, front_whole(b"12 34"), Some((12, 2)));
+    same(&rt, front_whole(b"-7"), Some((-7, 2)));
+    same(&rt, front_whole(b"12.5"), Some((12, 2)));
+    same(&rt, front_whole(b"x1"), None);
+    same(&rt, front_whole(b""), None);
+    same(&rt, front_count(b"+1.5 2"), Some((1_500_000_000, 4)));
+    same(&rt, front_count(b"-.25\n"), Some((-250_000_000, 4)));
+    same(&rt, front_count(b"3. 4"), Some((3_000_000_000, 2)));
+    same(&rt, front_count(b"1e3"), Some((1_000_000_000, 1)));
+    same(&rt, front_count(b"-."), None);
 }
 
 #[test]
@@ -200,6 +202,6 @@ fn a_spelling_is_appended(rt: HostRuntime) -> Result<(), Fail> {
     text.push(b'7');
     text.push(b' ');
     push_decimal(&mut text, decimal);
-    assert_eq!(rt; text.as_slice(), b"7 -12034.5".as_slice());
+    same(&rt, text.as_slice(), b"7 -12034.5".as_slice());
     Ok(())
 }

@@ -1,5 +1,6 @@
 //! A reader's bytes, taken whole up to a limit.
 
+use crate::asserts::{holds, holds_at, same, same_at};
 use crate::devices::{Flood, NEVER, Trickle, outcome};
 use std::io::{ErrorKind, Read};
 use std::test::Fail;
@@ -10,9 +11,14 @@ fn all_bytes_are_read_where_the_limit_allows_them(rt: HostRuntime) -> Result<(),
     for limit in [3usize, 4, 4_096, 1_073_741_824] {
         let mut reader = Watched::new(Trickle::new(b"abc", NEVER, ErrorKind::Other));
         let bytes = read_whole(rt.alloc(), &mut reader, limit)?;
-        assert_eq!(rt; bytes.as_slice(), b"abc".as_slice(), "{limit}");
-        assert!(rt; !reader.failed());
-        assert_eq!(rt; reader.into_inner().calls(), 4, "three bytes and the end");
+        same_at(&rt, limit, bytes.as_slice(), b"abc".as_slice());
+        holds(&rt, !reader.failed());
+        same_at(
+            &rt,
+            "three bytes and the end",
+            reader.into_inner().calls(),
+            4,
+        );
     }
     Ok(())
 }
@@ -22,8 +28,8 @@ fn an_empty_reader_is_read_as_nothing(rt: HostRuntime) -> Result<(), Fail> {
     for limit in [0usize, 1] {
         let mut reader = Watched::new(b"".as_slice());
         let bytes = read_whole(rt.alloc(), &mut reader, limit)?;
-        assert_eq!(rt; bytes.len(), 0);
-        assert!(rt; !reader.failed());
+        same(&rt, bytes.len(), 0);
+        holds(&rt, !reader.failed());
     }
     Ok(())
 }
@@ -33,15 +39,16 @@ fn at_most_4_096_bytes_past_the_limit_are_taken(rt: HostRuntime) -> Result<(), F
     for limit in [0usize, 1, 4_095, 4_096, 4_097, 100_000] {
         let mut reader = Watched::new(Flood::after(b"ab"));
         let bytes = read_whole(rt.alloc(), &mut reader, limit)?;
-        assert!(rt; !reader.failed());
+        holds(&rt, !reader.failed());
         let given = reader.into_inner().given();
-        assert!(rt; bytes.len() > limit, "{limit}");
-        assert_eq!(rt; bytes.len() as u64, given, "{limit}");
-        assert!(rt;
+        holds_at(&rt, limit, bytes.len() > limit);
+        same_at(&rt, limit, bytes.len() as u64, given);
+        holds_at(
+            &rt,
+            (given, limit),
             given <= (limit as u64).saturating_add(4_096),
-            "{given} at {limit}"
         );
-        assert!(rt; bytes.as_slice().starts_with(b"ab"));
+        holds(&rt, bytes.as_slice().starts_with(b"ab"));
     }
     Ok(())
 }
@@ -52,12 +59,13 @@ fn a_failed_read_ends_the_reading(rt: HostRuntime) {
         for fails_at in 0..4usize {
             let mut reader = Watched::new(Trickle::new(b"abc", fails_at, kind));
             let read = read_whole(rt.alloc(), &mut reader, 100);
-            assert_eq!(rt; read.err(), Some(InputFault::Device), "at {fails_at}");
-            assert!(rt; reader.failed());
-            assert_eq!(rt;
+            same_at(&rt, fails_at, read.err(), Some(InputFault::Device));
+            holds(&rt, reader.failed());
+            same_at(
+                &rt,
+                "it isn't tried again",
                 reader.into_inner().calls(),
                 fails_at + 1,
-                "it isn't tried again"
             );
         }
     }
@@ -67,8 +75,8 @@ fn a_failed_read_ends_the_reading(rt: HostRuntime) {
 fn a_reader_that_had_failed_is_not_read(rt: HostRuntime) {
     let mut reader = Watched::new(Trickle::new(b"abc", 0, ErrorKind::Other));
     let first = outcome(reader.read(&mut [0u8; 4]));
-    assert_eq!(rt; first, Err(ErrorKind::Other));
+    same(&rt, first, Err(ErrorKind::Other));
     let read = read_whole(rt.alloc(), &mut reader, 100);
-    assert_eq!(rt; read.err(), Some(InputFault::Device));
-    assert_eq!(rt; reader.into_inner().calls(), 1);
+    same(&rt, read.err(), Some(InputFault::Device));
+    same(&rt, reader.into_inner().calls(), 1);
 }

@@ -1,5 +1,6 @@
 //! The words of TSPLIB 95 and of this project's own additions, spelled out.
 
+use crate::asserts::{same, same_at};
 use std::fmt::Debug;
 use std::process::Abort;
 use tsp_value::{
@@ -125,15 +126,15 @@ fn other_words_have_no_value(rt: HostRuntime) {
         b"HCP".as_slice(),
         b"SOP".as_slice(),
     ] {
-        assert_eq!(rt; value_of::<Kind>(word), None, "{word:?}");
+        same_at(&rt, word, value_of::<Kind>(word), None);
     }
     for word in [
         b"GEO".as_slice(),
         b"EUC_3D".as_slice(),
         b"SPECIAL".as_slice(),
     ] {
-        assert_eq!(rt; value_of::<WeightKind>(word), None, "{word:?}");
+        same_at(&rt, word, value_of::<WeightKind>(word), None);
     }
-    assert_eq!(rt; value_of::<CoordKind>(b"THREED_COORDS"), None);
-    assert_eq!(rt; value_of::<Field>(b"FIXED_EDGES"), None);
+    same(&rt, value_of::<CoordKind>(b"THREED_COORDS"), None);
+    same(&rt, value_of::<Field>(b"FIXED_EDGES"), None);
 }

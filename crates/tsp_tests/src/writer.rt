@@ -1,5 +1,6 @@
 //! The canonical text: whole texts by hand, and writers that take little, or fail.
 
+use crate::asserts::{holds, holds_at, same, same_at};
 use crate::devices::{Drip, NEVER, Refusal, outcome};
 use crate::files::drafts::{file_of, four_nodes, rectangle, two_tours};
 use std::alloc::Global;
@@ -33,14 +34,14 @@ fn a_file_of_tours_alone_is_three_lines(rt: HostRuntime) -> Result<(), Fail> {
     draft.kind = Some(Kind::Tour);
     draft.tours = Some(Vec::new(rt.alloc()));
     let wanted = b"TYPE : TOUR\nTOUR_SECTION\nEOF\n".as_slice();
-    assert_eq!(rt; text(rt.alloc(), draft)?.as_slice(), wanted);
+    same(&rt, text(rt.alloc(), draft)?.as_slice(), wanted);
     Ok(())
 }
 
 #[test]
 fn an_empty_value_has_no_blank(rt: HostRuntime) -> Result<(), Fail> {
     let draft = two_tours(rt.alloc())?;
-    assert_eq!(rt; text(rt.alloc(), draft)?.as_slice(), TWO_TOURS);
+    same(&rt, text(rt.alloc(), draft)?.as_slice(), TWO_TOURS);
     Ok(())
 }
 
@@ -50,7 +51,7 @@ fn a_section_may_have_no_lines(rt: HostRuntime) -> Result<(), Fail> {
     draft.dimension = Some(1);
     let wanted =
         b"TYPE : TSP\nDIMENSION : 1\nEDGE_WEIGHT_TYPE : EXPLICIT\nEDGE_WEIGHT_FORMAT : UPPER_ROW\nEDGE_WEIGHT_SECTION\nEOF\n".as_slice();
-    assert_eq!(rt; text(rt.alloc(), draft)?.as_slice(), wanted);
+    same(&rt, text(rt.alloc(), draft)?.as_slice(), wanted);
     Ok(())
 }
 
@@ -74,7 +75,7 @@ fn each_row_or_column_with_cells_has_a_line(rt: HostRuntime) -> Result<(), Fail>
     ] {
         let draft = four_nodes(rt.alloc(), layout, count)?;
         let written = text(rt.alloc(), draft)?;
-        assert!(rt; written.as_slice().ends_with(wanted), "{layout:?}");
+        holds_at(&rt, layout, written.as_slice().ends_with(wanted));
     }
     Ok(())
 }
@@ -82,7 +83,7 @@ fn each_row_or_column_with_cells_has_a_line(rt: HostRuntime) -> Result<(), Fail>
 #[test]
 fn every_field_stands_once_in_canonical_order(rt: HostRuntime) -> Result<(), Fail> {
     let draft = rectangle(rt.alloc())?;
-    assert_eq!(rt; text(rt.alloc(), draft)?.as_slice(), RECTANGLE);
+    same(&rt, text(rt.alloc(), draft)?.as_slice(), RECTANGLE);
     Ok(())
 }
 
@@ -90,9 +91,9 @@ fn every_field_stands_once_in_canonical_order(rt: HostRuntime) -> Result<(), Fai
 fn one_byte_a_call_gets_the_whole_text(rt: HostRuntime) -> Result<(), Fail> {
     let file = file_of(rectangle(rt.alloc())?)?;
     let mut out = Watched::new(Drip::new(rt.alloc(), 1, NEVER, Refusal::Nothing));
-    assert_eq!(rt; write_file(rt.alloc(), &file, &mut out), Ok(()));
-    assert!(rt; !out.failed());
-    assert_eq!(rt; out.into_inner().held(), RECTANGLE);
+    same(&rt, write_file(rt.alloc(), &file, &mut out), Ok(()));
+    holds(&rt, !out.failed());
+    same(&rt, out.into_inner().held(), RECTANGLE);
     Ok(())
 }
 
@@ -103,11 +104,11 @@ fn a_failure_leaves_a_front_and_ends_the_writing(rt: HostRuntime) -> Result<(), 
         for fails_at in 0..RECTANGLE.len() {
             let mut out = Watched::new(Drip::new(rt.alloc(), 1, fails_at, refusal));
             let written = write_file(rt.alloc(), &file, &mut out);
-            assert_eq!(rt; written, Err(WriteFault::Device));
-            assert!(rt; out.failed());
+            same(&rt, written, Err(WriteFault::Device));
+            holds(&rt, out.failed());
             let drip = out.into_inner();
-            assert_eq!(rt; drip.held(), &RECTANGLE[..fails_at]);
-            assert_eq!(rt; drip.calls(), fails_at + 1, "it isn't written again");
+            same(&rt, drip.held(), &RECTANGLE[..fails_at]);
+            same_at(&rt, "it isn't written again", drip.calls(), fails_at + 1);
         }
     }
     Ok(())
@@ -117,10 +118,10 @@ fn a_failure_leaves_a_front_and_ends_the_writing(rt: HostRuntime) -> Result<(), 
 fn a_writer_that_had_failed_gets_no_file(rt: HostRuntime) -> Result<(), Fail> {
     let file = file_of(two_tours(rt.alloc())?)?;
     let mut out = Watched::new(Drip::new(rt.alloc(), 1, 0, Refusal::Nothing));
-    assert_eq!(rt; outcome(out.write(b"x")), Ok(0));
+    same(&rt, outcome(out.write(b"x")), Ok(0));
     let written = write_file(rt.alloc(), &file, &mut out);
-    assert_eq!(rt; written, Err(WriteFault::Device));
-    assert_eq!(rt; out.into_inner().calls(), 1);
+    same(&rt, written, Err(WriteFault::Device));
+    same(&rt, out.into_inner().calls(), 1);
     Ok(())
 }
 
@@ -147,18 +148,18 @@ fn a_long_text_goes_out_in_few_pieces_and_stops_at_a_failure(rt: HostRuntime) ->
     wanted.extend_from_slice(b"TOUR_SECTION\n1\n2\n-1\n3\n-1\nEOF\n")?;
     let file = file_of(draft)?;
     let mut out = Watched::new(Drip::sound(rt.alloc()));
-    assert_eq!(rt; write_file(rt.alloc(), &file, &mut out), Ok(()));
+    same(&rt, write_file(rt.alloc(), &file, &mut out), Ok(()));
     let drip = out.into_inner();
-    assert_eq!(rt; drip.held(), wanted.as_slice());
-    assert!(rt; drip.calls() <= 6, "{}", drip.calls());
+    same(&rt, drip.held(), wanted.as_slice());
+    holds_at(&rt, drip.calls(), drip.calls() <= 6);
     for fails_at in 0..3usize {
         let refusal = Refusal::Error(ErrorKind::Other);
         let mut out = Watched::new(Drip::new(rt.alloc(), usize::MAX, fails_at, refusal));
         let written = write_file(rt.alloc(), &file, &mut out);
-        assert_eq!(rt; written, Err(WriteFault::Device));
+        same(&rt, written, Err(WriteFault::Device));
         let drip = out.into_inner();
-        assert!(rt; wanted.as_slice().starts_with(drip.held()));
-        assert_eq!(rt; drip.calls(), fails_at + 1, "it isn't written again");
+        holds(&rt, wanted.as_slice().starts_with(drip.held()));
+        same_at(&rt, "it isn't written again", drip.calls(), fails_at + 1);
     }
     Ok(())
 }

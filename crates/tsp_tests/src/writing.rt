@@ -1,5 +1,6 @@
 //! The way of a text to a writer, and how often the writer is asked.
 
+use crate::asserts::{holds, same, same_at};
 use crate::devices::{Drip, Refusal, outcome};
 use std::io::{ErrorKind, Write};
 use std::test::Fail;
@@ -22,14 +23,15 @@ fn a_text_goes_out_in_parts_until_the_writer_fails(rt: HostRuntime) {
             (3, b"abcde".as_slice(), 3, Ok(())),
         ] {
             let mut out = Watched::new(Drip::new(rt.alloc(), 2, fails_at, refusal));
-            assert_eq!(rt; write_text(&mut out, b"abcde"), answer, "at {fails_at}");
-            assert_eq!(rt; out.failed(), answer.is_err());
+            same_at(&rt, fails_at, write_text(&mut out, b"abcde"), answer);
+            same(&rt, out.failed(), answer.is_err());
             let drip = out.into_inner();
-            assert_eq!(rt; drip.held(), held);
-            assert_eq!(rt;
+            same(&rt, drip.held(), held);
+            same_at(
+                &rt,
+                "nothing is written after a failed write",
                 drip.calls(),
                 calls,
-                "nothing is written after a failed write"
             );
         }
     }
@@ -38,24 +40,24 @@ fn a_text_goes_out_in_parts_until_the_writer_fails(rt: HostRuntime) {
 #[test]
 fn an_empty_text_is_no_call(rt: HostRuntime) {
     let mut out = Watched::new(Drip::new(rt.alloc(), 1, 0, Refusal::Nothing));
-    assert_eq!(rt; write_text(&mut out, b""), Ok(()));
+    same(&rt, write_text(&mut out, b""), Ok(()));
     send(&mut out, b"");
-    assert!(rt; !out.failed());
-    assert_eq!(rt; out.into_inner().calls(), 0);
+    holds(&rt, !out.failed());
+    same(&rt, out.into_inner().calls(), 0);
 }
 
 #[test]
 fn a_writer_that_had_failed_gets_nothing(rt: HostRuntime) {
     for text in [b"".as_slice(), b"abc".as_slice()] {
         let mut out = Watched::new(Drip::new(rt.alloc(), 1, 0, Refusal::Nothing));
-        assert_eq!(rt; outcome(out.write(b"x")), Ok(0));
-        assert_eq!(rt; write_text(&mut out, text), Err(WriteFault::Device));
+        same(&rt, outcome(out.write(b"x")), Ok(0));
+        same(&rt, write_text(&mut out, text), Err(WriteFault::Device));
         send(&mut out, text);
         let mut piece = Piece::new();
         put(&mut piece, &mut out, text);
         hand_over(&mut piece, &mut out);
-        assert!(rt; out.failed());
-        assert_eq!(rt; out.into_inner().calls(), 1);
+        holds(&rt, out.failed());
+        same(&rt, out.into_inner().calls(), 1);
     }
 }
 
@@ -63,10 +65,10 @@ fn a_writer_that_had_failed_gets_nothing(rt: HostRuntime) {
 fn a_long_text_is_one_call_where_the_writer_takes_it(rt: HostRuntime) -> Result<(), Fail> {
     let text = vec![in rt.alloc(); b'x'; 100_000]?;
     let mut out = Watched::new(Drip::sound(rt.alloc()));
-    assert_eq!(rt; write_text(&mut out, text.as_slice()), Ok(()));
+    same(&rt, write_text(&mut out, text.as_slice()), Ok(()));
     let drip = out.into_inner();
-    assert_eq!(rt; drip.held(), text.as_slice());
-    assert_eq!(rt; drip.calls(), 1);
+    same(&rt, drip.held(), text.as_slice());
+    same(&rt, drip.calls(), 1);
     Ok(())
 }
 
@@ -78,12 +80,12 @@ fn small_texts_wait_until_they_are_handed_over(rt: HostRuntime) {
     put_number(&mut piece, &mut out, 7u32);
     put_next_number(&mut piece, &mut out, -1_000_000_000_000i64);
     put(&mut piece, &mut out, b"\n");
-    assert_eq!(rt; piece.as_slice(), b"a7 -1000000000000\n".as_slice());
+    same(&rt, piece.as_slice(), b"a7 -1000000000000\n".as_slice());
     hand_over(&mut piece, &mut out);
-    assert!(rt; piece.as_slice().is_empty());
+    holds(&rt, piece.as_slice().is_empty());
     let drip = out.into_inner();
-    assert_eq!(rt; drip.held(), b"a7 -1000000000000\n".as_slice());
-    assert_eq!(rt; drip.calls(), 1);
+    same(&rt, drip.held(), b"a7 -1000000000000\n".as_slice());
+    same(&rt, drip.calls(), 1);
 }
 
 #[test]
@@ -95,11 +97,11 @@ fn a_text_longer_than_a_piece_goes_out_as_it_is(rt: HostRuntime) -> Result<(), F
     let mut piece = Piece::new();
     put(&mut piece, &mut out, b"a");
     put(&mut piece, &mut out, long.as_slice());
-    assert!(rt; piece.as_slice().is_empty());
+    holds(&rt, piece.as_slice().is_empty());
     put(&mut piece, &mut out, b"b");
     let drip = out.into_inner();
-    assert_eq!(rt; drip.held(), wanted.as_slice());
-    assert_eq!(rt; drip.calls(), 2);
-    assert_eq!(rt; piece.as_slice(), b"b".as_slice());
+    same(&rt, drip.held(), wanted.as_slice());
+    same(&rt, drip.calls(), 2);
+    same(&rt, piece.as_slice(), b"b".as_slice());
     Ok(())
 }

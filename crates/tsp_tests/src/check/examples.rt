@@ -1,6 +1,7 @@
 //! Worked examples, whose reports were made by hand.
 
 use super::{THREE_NODES, check_texts, instance, solution};
+use crate::asserts::same_at;
 use std::test::Fail;
 
 /// Costs that are powers of two, so that each sum names its edges.
@@ -19,8 +20,8 @@ fn tours_of_three_nodes_are_judged(rt: HostRuntime) -> Result<(), Fail> {
     for (words, yes, report) in THREE_NODE_TOURS {
         let sol = solution(rt.alloc(), words)?;
         let (answer, written) = check_texts(rt.alloc(), THREE_NODES.as_bytes(), sol.as_bytes());
-        assert_eq!(rt; answer, Ok(*yes), "at {words}");
-        assert_eq!(rt; written.as_slice(), report.as_bytes(), "at {words}");
+        same_at(&rt, words, answer, Ok(*yes));
+        same_at(&rt, words, written.as_slice(), report.as_bytes());
     }
     Ok(())
 }
@@ -38,8 +39,8 @@ fn the_length_adds_the_costs_along_a_tour(rt: HostRuntime) -> Result<(), Fail> {
     for (words, report) in LENGTHS {
         let sol = solution(rt.alloc(), words)?;
         let (answer, written) = check_texts(rt.alloc(), inst.as_bytes(), sol.as_bytes());
-        assert_eq!(rt; answer, Ok(true), "at {words}");
-        assert_eq!(rt; written.as_slice(), report.as_bytes(), "at {words}");
+        same_at(&rt, words, answer, Ok(true));
+        same_at(&rt, words, written.as_slice(), report.as_bytes());
     }
     Ok(())
 }
@@ -69,8 +70,8 @@ fn a_no_names_the_first_reason(rt: HostRuntime) -> Result<(), Fail> {
         let sol = solution(rt.alloc(), words)?;
         let report = format!(in rt.alloc(); "type ATSP\nnodes {nodes}\nno {reason}\n")?;
         let (answer, written) = check_texts(rt.alloc(), inst.as_bytes(), sol.as_bytes());
-        assert_eq!(rt; answer, Ok(false), "at {words}");
-        assert_eq!(rt; written.as_slice(), report.as_bytes(), "at {words}");
+        same_at(&rt, words, answer, Ok(false));
+        same_at(&rt, words, written.as_slice(), report.as_bytes());
     }
     Ok(())
 }

@@ -1,6 +1,7 @@
 //! Readers and writers that fail, or had failed before.
 
 use super::{REPORT, THREE_NODES, TOUR, judged};
+use crate::asserts::{holds, same, same_at};
 use crate::devices::{Drip, NEVER, Refusal, Trickle, outcome};
 use std::io::{ErrorKind, Read, Write};
 use std::test::Fail;
@@ -35,18 +36,19 @@ fn each_read_of_the_instance_may_fail(rt: HostRuntime) {
         let answer = judged(rt.alloc(), &mut inst, &mut sol, &mut out);
         if fails_at < calls {
             let fault = ReadFault::Device;
-            assert_eq!(rt;
+            same_at(
+                &rt,
+                fails_at,
                 answer,
                 Err(RunFault::File { file: 1, fault }),
-                "at {fails_at}"
             );
-            assert!(rt; inst.failed());
-            assert_eq!(rt; inst.into_inner().calls(), fails_at + 1);
-            assert_eq!(rt; sol.into_inner().calls(), 0);
-            assert_eq!(rt; out.into_inner().len(), 0);
+            holds(&rt, inst.failed());
+            same(&rt, inst.into_inner().calls(), fails_at + 1);
+            same(&rt, sol.into_inner().calls(), 0);
+            same(&rt, out.into_inner().len(), 0);
         } else {
-            assert_eq!(rt; answer, Ok(true));
-            assert!(rt; !inst.failed());
+            same(&rt, answer, Ok(true));
+            holds(&rt, !inst.failed());
         }
     }
 }
@@ -61,17 +63,18 @@ fn each_read_of_the_solution_may_fail(rt: HostRuntime) {
         let answer = judged(rt.alloc(), &mut inst, &mut sol, &mut out);
         if fails_at < calls {
             let fault = ReadFault::Device;
-            assert_eq!(rt;
+            same_at(
+                &rt,
+                fails_at,
                 answer,
                 Err(RunFault::File { file: 2, fault }),
-                "at {fails_at}"
             );
-            assert!(rt; sol.failed());
-            assert_eq!(rt; sol.into_inner().calls(), fails_at + 1);
-            assert_eq!(rt; out.into_inner().len(), 0);
+            holds(&rt, sol.failed());
+            same(&rt, sol.into_inner().calls(), fails_at + 1);
+            same(&rt, out.into_inner().len(), 0);
         } else {
-            assert_eq!(rt; answer, Ok(true));
-            assert_eq!(rt; out.into_inner().as_slice(), REPORT.as_bytes());
+            same(&rt, answer, Ok(true));
+            same(&rt, out.into_inner().as_slice(), REPORT.as_bytes());
         }
     }
 }
@@ -92,15 +95,15 @@ fn each_write_may_fail(rt: HostRuntime) {
             let failed = out.failed();
             let writer = out.into_inner();
             let front = REPORT.as_bytes().get(..fails_at);
-            assert_eq!(rt; Some(writer.held()), front, "at {fails_at}");
+            same_at(&rt, fails_at, Some(writer.held()), front);
             if fails_at < calls {
                 let fault = WriteFault::Device;
-                assert_eq!(rt; answer, Err(RunFault::Write(fault)), "at {fails_at}");
-                assert!(rt; failed);
-                assert_eq!(rt; writer.calls(), fails_at + 1);
+                same_at(&rt, fails_at, answer, Err(RunFault::Write(fault)));
+                holds(&rt, failed);
+                same(&rt, writer.calls(), fails_at + 1);
             } else {
-                assert_eq!(rt; answer, Ok(true));
-                assert!(rt; !failed);
+                same(&rt, answer, Ok(true));
+                holds(&rt, !failed);
             }
         }
     }
@@ -113,33 +116,33 @@ fn a_reader_that_had_failed_counts_in_its_turn(rt: HostRuntime) -> Result<(), Fa
     let mut out = Watched::new(Vec::new(rt.alloc()));
     let fault = ReadFault::Device;
     let answer = judged(rt.alloc(), &mut inst, &mut sol, &mut out);
-    assert_eq!(rt; answer, Err(RunFault::File { file: 1, fault }));
-    assert_eq!(rt; inst.into_inner().calls(), 1, "it isn't asked again");
+    same(&rt, answer, Err(RunFault::File { file: 1, fault }));
+    same_at(&rt, "it isn't asked again", inst.into_inner().calls(), 1);
     let mut inst = reader(NO_INSTANCE, NEVER);
     let answer = judged(rt.alloc(), &mut inst, &mut sol, &mut out);
-    assert_eq!(rt; answer, Err(RunFault::NotYet));
+    same(&rt, answer, Err(RunFault::NotYet));
     let mut inst = reader(THREE_NODES, NEVER);
     let answer = judged(rt.alloc(), &mut inst, &mut sol, &mut out);
-    assert_eq!(rt; answer, Err(RunFault::File { file: 2, fault }));
-    assert_eq!(rt; sol.into_inner().calls(), 1, "it isn't asked again");
-    assert_eq!(rt; out.into_inner().len(), 0);
+    same(&rt, answer, Err(RunFault::File { file: 2, fault }));
+    same_at(&rt, "it isn't asked again", sol.into_inner().calls(), 1);
+    same(&rt, out.into_inner().len(), 0);
     Ok(())
 }
 
 #[test]
 fn a_writer_that_had_failed_counts_in_its_turn(rt: HostRuntime) {
     let mut out = Watched::new(Drip::new(rt.alloc(), 1, 0, Refusal::Nothing));
-    assert_eq!(rt; outcome(out.write(b"x")), Ok(0));
+    same(&rt, outcome(out.write(b"x")), Ok(0));
     let mut inst = reader(NO_INSTANCE, NEVER);
     let mut sol = reader(TOUR, NEVER);
     let answer = judged(rt.alloc(), &mut inst, &mut sol, &mut out);
-    assert_eq!(rt; answer, Err(RunFault::NotYet));
-    assert_eq!(rt; sol.into_inner().calls(), 0);
+    same(&rt, answer, Err(RunFault::NotYet));
+    same(&rt, sol.into_inner().calls(), 0);
     let mut inst = reader(THREE_NODES, NEVER);
     let mut sol = reader(TOUR, NEVER);
     let answer = judged(rt.alloc(), &mut inst, &mut sol, &mut out);
-    assert_eq!(rt; answer, Err(RunFault::Write(WriteFault::Device)));
-    assert_eq!(rt; out.into_inner().calls(), 1, "it isn't asked again");
+    same(&rt, answer, Err(RunFault::Write(WriteFault::Device)));
+    same_at(&rt, "it isn't asked again", out.into_inner().calls(), 1);
 }
 
 #[test]
@@ -159,7 +162,7 @@ fn a_yes_and_a_no_are_not_answered_where_the_report_fails(rt: HostRuntime) {
         let refusal = Refusal::Error(ErrorKind::StorageFull);
         let mut out = Watched::new(Drip::new(rt.alloc(), 1, front.len(), refusal));
         let answer = judged(rt.alloc(), &mut inst, &mut sol, &mut out);
-        assert_eq!(rt; answer, Err(RunFault::Write(WriteFault::Device)));
-        assert_eq!(rt; out.into_inner().held(), front.as_bytes());
+        same(&rt, answer, Err(RunFault::Write(WriteFault::Device)));
+        same(&rt, out.into_inner().held(), front.as_bytes());
     }
 }

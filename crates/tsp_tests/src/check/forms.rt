@@ -1,6 +1,7 @@
 //! The two forms at their edges.
 
 use super::{REPORT, THREE_NODES, TOUR, check_texts, judged};
+use crate::asserts::same_at;
 use crate::devices::Repeats;
 use std::alloc::{AllocError, Global};
 use std::test::Fail;
@@ -28,12 +29,12 @@ fn heads_are_read_byte_for_byte(rt: HostRuntime) -> Result<(), Fail> {
     for place in 0..INSTANCE_HEAD {
         let inst = with_other_byte(rt.alloc(), THREE_NODES, place)?;
         let (answer, _) = check_texts(rt.alloc(), inst.as_slice(), TOUR.as_bytes());
-        assert_eq!(rt; answer, Err(RunFault::NotYet), "at {place}");
+        same_at(&rt, place, answer, Err(RunFault::NotYet));
     }
     for place in 0..SOLUTION_HEAD {
         let sol = with_other_byte(rt.alloc(), TOUR, place)?;
         let (answer, _) = check_texts(rt.alloc(), THREE_NODES.as_bytes(), sol.as_slice());
-        assert_eq!(rt; answer, Err(RunFault::NotYet), "at {place}");
+        same_at(&rt, place, answer, Err(RunFault::NotYet));
     }
     Ok(())
 }
@@ -58,8 +59,8 @@ fn weights_may_be_spelled_and_laid_out_otherwise(rt: HostRuntime) -> Result<(), 
         let inst = THREE_NODES.replace(rt.alloc(), *old, new)?;
         let want = REPORT.replace(rt.alloc(), "6", length)?;
         let (answer, written) = check_texts(rt.alloc(), inst.as_bytes(), TOUR.as_bytes());
-        assert_eq!(rt; answer, Ok(true), "at {new}");
-        assert_eq!(rt; written.as_slice(), want.as_bytes(), "at {new}");
+        same_at(&rt, new, answer, Ok(true));
+        same_at(&rt, new, written.as_slice(), want.as_bytes());
     }
     Ok(())
 }
@@ -118,8 +119,8 @@ fn other_texts_are_no_instances(rt: HostRuntime) -> Result<(), Fail> {
         let inst = THREE_NODES.replace(rt.alloc(), *old, new)?;
         assert_ne!(rt; inst.as_str(), THREE_NODES, "at {new}");
         let (answer, written) = check_texts(rt.alloc(), inst.as_bytes(), TOUR.as_bytes());
-        assert_eq!(rt; answer, Err(RunFault::NotYet), "at {new}");
-        assert_eq!(rt; written.len(), 0, "at {new}");
+        same_at(&rt, new, answer, Err(RunFault::NotYet));
+        same_at(&rt, new, written.len(), 0);
     }
     Ok(())
 }
@@ -141,8 +142,8 @@ fn tours_may_be_laid_out_otherwise(rt: HostRuntime) -> Result<(), Fail> {
     for (old, new) in SAME_TOURS {
         let sol = TOUR.replace(rt.alloc(), *old, new)?;
         let (answer, written) = check_texts(rt.alloc(), THREE_NODES.as_bytes(), sol.as_bytes());
-        assert_eq!(rt; answer, Ok(true), "at {new}");
-        assert_eq!(rt; written.as_slice(), REPORT.as_bytes(), "at {new}");
+        same_at(&rt, new, answer, Ok(true));
+        same_at(&rt, new, written.as_slice(), REPORT.as_bytes());
     }
     Ok(())
 }
@@ -177,8 +178,8 @@ fn other_texts_are_no_solutions(rt: HostRuntime) -> Result<(), Fail> {
         let sol = TOUR.replace(rt.alloc(), *old, new)?;
         assert_ne!(rt; sol.as_str(), TOUR, "at {new}");
         let (answer, written) = check_texts(rt.alloc(), THREE_NODES.as_bytes(), sol.as_bytes());
-        assert_eq!(rt; answer, Err(RunFault::NotYet), "at {new}");
-        assert_eq!(rt; written.len(), 0, "at {new}");
+        same_at(&rt, new, answer, Err(RunFault::NotYet));
+        same_at(&rt, new, written.len(), 0);
     }
     Ok(())
 }
@@ -195,7 +196,7 @@ fn a_solution_has_at_most_a_million_nodes(rt: HostRuntime) -> Result<(), Fail> {
         let mut sol = Watched::new(Repeats::new(head, b"1 2 1 3\n", 250_000, tail.as_bytes()));
         let mut out = Watched::new(Vec::new(rt.alloc()));
         let answer = judged(rt.alloc(), &mut inst, &mut sol, &mut out);
-        assert_eq!(rt; answer, want, "at {tail}");
+        same_at(&rt, tail, answer, want);
     }
     Ok(())
 }
@@ -212,7 +213,7 @@ fn an_instance_has_at_most_five_thousand_nodes(rt: HostRuntime) -> Result<(), Fa
         let mut sol = Watched::new(TOUR.as_bytes());
         let mut out = Watched::new(Vec::new(rt.alloc()));
         let answer = judged(rt.alloc(), &mut inst, &mut sol, &mut out);
-        assert_eq!(rt; answer, want, "at {nodes}");
+        same_at(&rt, nodes, answer, want);
     }
     Ok(())
 }

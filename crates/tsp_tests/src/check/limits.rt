@@ -1,6 +1,7 @@
 //! Files about as long as the limit, and files that never end. Each test reads a gigabyte or more.
 
 use super::{REPORT, THREE_NODES, TOUR, judged};
+use crate::asserts::{holds, holds_at, same};
 use crate::devices::{Flood, Repeats};
 use std::alloc::{AllocError, Global};
 use std::test::Fail;
@@ -23,12 +24,12 @@ fn an_instance_that_never_ends_is_left_at_the_limit(rt: HostRuntime) {
     let mut out = Watched::new(Vec::new(rt.alloc()));
     let answer = judged(rt.alloc(), &mut inst, &mut sol, &mut out);
     let fault = ReadFault::TooLong;
-    assert_eq!(rt; answer, Err(RunFault::File { file: 1, fault }));
-    assert!(rt; !inst.failed());
+    same(&rt, answer, Err(RunFault::File { file: 1, fault }));
+    holds(&rt, !inst.failed());
     let given = inst.into_inner().given();
-    assert!(rt; given <= MOST_TAKEN, "{given}");
-    assert_eq!(rt; sol.into_inner(), TOUR.as_bytes());
-    assert_eq!(rt; out.into_inner().len(), 0);
+    holds_at(&rt, given, given <= MOST_TAKEN);
+    same(&rt, sol.into_inner(), TOUR.as_bytes());
+    same(&rt, out.into_inner().len(), 0);
 }
 
 #[test]
@@ -38,10 +39,10 @@ fn a_solution_that_never_ends_is_left_at_the_limit(rt: HostRuntime) {
     let mut out = Watched::new(Vec::new(rt.alloc()));
     let answer = judged(rt.alloc(), &mut inst, &mut sol, &mut out);
     let fault = ReadFault::TooLong;
-    assert_eq!(rt; answer, Err(RunFault::File { file: 2, fault }));
+    same(&rt, answer, Err(RunFault::File { file: 2, fault }));
     let given = sol.into_inner().given();
-    assert!(rt; given <= MOST_TAKEN, "{given}");
-    assert_eq!(rt; out.into_inner().len(), 0);
+    holds_at(&rt, given, given <= MOST_TAKEN);
+    same(&rt, out.into_inner().len(), 0);
 }
 
 #[test]
@@ -50,10 +51,10 @@ fn an_early_line_eof_ends_what_counts(rt: HostRuntime) {
     let mut sol = Watched::new(Flood::after(TOUR.as_bytes()));
     let mut out = Watched::new(Vec::new(rt.alloc()));
     let answer = judged(rt.alloc(), &mut inst, &mut sol, &mut out);
-    assert_eq!(rt; answer, Ok(true));
+    same(&rt, answer, Ok(true));
     let given = sol.into_inner().given();
-    assert!(rt; given <= MOST_TAKEN, "{given}");
-    assert_eq!(rt; out.into_inner().as_slice(), REPORT.as_bytes());
+    holds_at(&rt, given, given <= MOST_TAKEN);
+    same(&rt, out.into_inner().as_slice(), REPORT.as_bytes());
 }
 
 /// `THREE_NODES` without its line `EOF`, and blanks up to this length.
@@ -84,7 +85,7 @@ fn at_the_limit(
 #[test]
 fn the_byte_10_of_the_line_eof_is_the_last_that_counts(rt: HostRuntime) -> Result<(), Fail> {
     let answer = at_the_limit(rt.alloc(), UNIT - 5, "\nEOF\nand more")?;
-    assert_eq!(rt; answer, Ok(true));
+    same(&rt, answer, Ok(true));
     Ok(())
 }
 
@@ -92,20 +93,20 @@ fn the_byte_10_of_the_line_eof_is_the_last_that_counts(rt: HostRuntime) -> Resul
 fn the_byte_10_of_the_line_eof_is_past_the_limit(rt: HostRuntime) -> Result<(), Fail> {
     let answer = at_the_limit(rt.alloc(), UNIT - 4, "\nEOF\n")?;
     let fault = ReadFault::TooLong;
-    assert_eq!(rt; answer, Err(RunFault::File { file: 1, fault }));
+    same(&rt, answer, Err(RunFault::File { file: 1, fault }));
     Ok(())
 }
 
 #[test]
 fn a_file_as_long_as_the_limit_is_read(rt: HostRuntime) -> Result<(), Fail> {
     let answer = at_the_limit(rt.alloc(), UNIT - 4, "\nEOF")?;
-    assert_eq!(rt; answer, Ok(true));
+    same(&rt, answer, Ok(true));
     Ok(())
 }
 
 #[test]
 fn a_file_as_long_as_the_limit_needs_its_line_eof(rt: HostRuntime) -> Result<(), Fail> {
     let answer = at_the_limit(rt.alloc(), UNIT, "")?;
-    assert_eq!(rt; answer, Err(RunFault::NotYet));
+    same(&rt, answer, Err(RunFault::NotYet));
     Ok(())
 }

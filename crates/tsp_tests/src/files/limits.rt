@@ -1,6 +1,7 @@
 //! Each limit, in digits: a draft at the limit is a file, and one past it isn't.
 
 use super::drafts::{bad, fault, tours, upper_row};
+use crate::asserts::same_at;
 use std::alloc::{AllocError, Global};
 use std::test::Fail;
 use tsp_fields::{Draft, DraftFault};
@@ -16,7 +17,7 @@ fn dimensions_are_from_1_to_100_000(rt: HostRuntime) {
     ] {
         let mut draft = tours(rt.alloc());
         draft.dimension = Some(dimension);
-        assert_eq!(rt; fault(draft), want, "{dimension}");
+        same_at(&rt, dimension, fault(draft), want);
     }
 }
 
@@ -36,10 +37,10 @@ fn capacities_and_scales_are_from_1_up_to_their_limits(rt: HostRuntime) {
     ] {
         let mut draft = tours(rt.alloc());
         draft.capacity = Some(number);
-        assert_eq!(rt; fault(draft), capacity, "{number}");
+        same_at(&rt, number, fault(draft), capacity);
         let mut draft = tours(rt.alloc());
         draft.scale = Some(number);
-        assert_eq!(rt; fault(draft), scale, "{number}");
+        same_at(&rt, number, fault(draft), scale);
     }
 }
 
@@ -54,7 +55,7 @@ fn demands_are_from_0_to_a_thousand_million(rt: HostRuntime) -> Result<(), Fail>
         let mut draft = tours(rt.alloc());
         draft.dimension = Some(2);
         draft.demands = Some(vec![in rt.alloc(); demand; 2]?);
-        assert_eq!(rt; fault(draft), want, "{demand}");
+        same_at(&rt, demand, fault(draft), want);
     }
     Ok(())
 }
@@ -69,7 +70,7 @@ fn weights_have_a_size_of_at_most_a_million_million(rt: HostRuntime) -> Result<(
     ] {
         let mut draft = upper_row(rt.alloc(), 2, 1)?;
         draft.weights = Some(vec![in rt.alloc(); weight; 1]?);
-        assert_eq!(rt; fault(draft), want, "{weight}");
+        same_at(&rt, weight, fault(draft), want);
     }
     Ok(())
 }
@@ -81,12 +82,12 @@ fn weights_are_of_at_most_5_000_nodes_and_as_many_as_cells(rt: HostRuntime) -> R
         (5_001, 0, bad(Field::EdgeWeightPart)),
     ] {
         let draft = upper_row(rt.alloc(), nodes, count)?;
-        assert_eq!(rt; fault(draft), want, "{nodes}");
+        same_at(&rt, nodes, fault(draft), want);
     }
     for (count, want) in [(4, None), (5, bad(Field::EdgeWeightPart))] {
         let mut draft = upper_row(rt.alloc(), 2, count)?;
         draft.weight_format = Some(WeightFormat::Listed(Layout::FullMatrix));
-        assert_eq!(rt; fault(draft), want, "{count}");
+        same_at(&rt, count, fault(draft), want);
     }
     Ok(())
 }
@@ -112,7 +113,7 @@ fn faults_of_potentials(alloc: Global, number: i64) -> Result<[Option<DraftFault
 fn potentials_have_a_size_of_at_most_10_to_the_15(rt: HostRuntime) -> Result<(), Fail> {
     for number in [-1_000_000_000_000_000, 1_000_000_000_000_000] {
         let faults = faults_of_potentials(rt.alloc(), number)?;
-        assert_eq!(rt; faults, [None, None, None], "{number}");
+        same_at(&rt, number, faults, [None, None, None]);
     }
     let past = [
         bad(Field::NodePotentialPart),
@@ -121,7 +122,7 @@ fn potentials_have_a_size_of_at_most_10_to_the_15(rt: HostRuntime) -> Result<(),
     ];
     for number in [-1_000_000_000_000_001, 1_000_000_000_000_001] {
         let faults = faults_of_potentials(rt.alloc(), number)?;
-        assert_eq!(rt; faults, past, "{number}");
+        same_at(&rt, number, faults, past);
     }
     Ok(())
 }
@@ -132,12 +133,12 @@ fn a_kept_value_has_4_000_bytes_together_with_its_keyword(rt: HostRuntime) -> Re
     for (name, want) in [(3_996, None), (3_997, bad(Field::NameKey))] {
         let mut draft = tours(alloc);
         draft.name = Some(vec![in alloc; b'x'; name]?);
-        assert_eq!(rt; fault(draft), want, "{name}");
+        same_at(&rt, name, fault(draft), want);
     }
     for (comment, want) in [(3_993, None), (3_994, bad(Field::CommentKey))] {
         let mut draft = tours(alloc);
         draft.comments.push(vec![in alloc; b'x'; comment]?)?;
-        assert_eq!(rt; fault(draft), want, "{comment}");
+        same_at(&rt, comment, fault(draft), want);
     }
     for (keyword, value, want) in [
         (8, 3_992, None),
@@ -148,7 +149,7 @@ fn a_kept_value_has_4_000_bytes_together_with_its_keyword(rt: HostRuntime) -> Re
         let mut draft = tours(alloc);
         let line = (vec![in alloc; b'K'; keyword]?, vec![in alloc; b'x'; value]?);
         draft.others.push(line)?;
-        assert_eq!(rt; fault(draft), want, "{keyword} {value}");
+        same_at(&rt, (keyword, value), fault(draft), want);
     }
     Ok(())
 }
@@ -167,8 +168,8 @@ fn comments_and_unknown_keywords_are_at_most_1_000_each(rt: HostRuntime) -> Resu
             let line = (Vec::from_slice(alloc, b"K")?, Vec::new(alloc));
             unknown.others.push(line)?;
         }
-        assert_eq!(rt; fault(commented), comments, "{count}");
-        assert_eq!(rt; fault(unknown), others, "{count}");
+        same_at(&rt, count, fault(commented), comments);
+        same_at(&rt, count, fault(unknown), others);
     }
     Ok(())
 }
@@ -183,11 +184,11 @@ fn depots_and_fixed_pairs_are_at_most_100_000_each(rt: HostRuntime) -> Result<()
         let mut draft = tours(alloc);
         draft.dimension = Some(2);
         draft.depots = Some(vec![in alloc; 2; count]?);
-        assert_eq!(rt; fault(draft), depots, "{count}");
+        same_at(&rt, count, fault(draft), depots);
         let mut draft = tours(alloc);
         draft.dimension = Some(2);
         draft.fixed = Some(vec![in alloc; (1, 2); count]?);
-        assert_eq!(rt; fault(draft), fixed, "{count}");
+        same_at(&rt, count, fault(draft), fixed);
     }
     Ok(())
 }
@@ -203,7 +204,7 @@ fn depots_are_nodes_of_the_file(rt: HostRuntime) -> Result<(), Fail> {
         let mut draft = tours(rt.alloc());
         draft.dimension = Some(2);
         draft.depots = Some(vec![in rt.alloc(); depot; 1]?);
-        assert_eq!(rt; fault(draft), want, "{depot}");
+        same_at(&rt, depot, fault(draft), want);
     }
     Ok(())
 }
@@ -222,7 +223,7 @@ fn tours_have_nodes_up_to_100_000_and_a_million_in_all(rt: HostRuntime) -> Resul
         lists.push(vec![in alloc; node; second]?)?;
         let mut draft = tours(alloc);
         draft.tours = Some(lists);
-        assert_eq!(rt; fault(draft), want, "{node} {first} {second}");
+        same_at(&rt, (node, first, second), fault(draft), want);
     }
     Ok(())
 }

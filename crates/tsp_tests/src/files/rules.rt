@@ -3,6 +3,7 @@
 use super::drafts::{
     WRONG_COUNT, WRONG_FORMAT, bad, fault, file_of, missing, points, rectangle, tours, upper_row,
 };
+use crate::asserts::{holds, same, same_at};
 use std::alloc::Global;
 use std::test::Fail;
 use tsp_fields::{Draft, DraftFault, EndFault, File, end_fault, is_kept};
@@ -10,7 +11,7 @@ use tsp_value::{Field, Kind, WeightFormat, WeightKind};
 
 #[test]
 fn a_draft_with_no_field_set_lacks_its_type(rt: HostRuntime) {
-    assert_eq!(rt; fault(Draft::new(rt.alloc())), missing(Field::TypeKey));
+    same(&rt, fault(Draft::new(rt.alloc())), missing(Field::TypeKey));
 }
 
 #[test]
@@ -23,7 +24,7 @@ fn the_count_of_weights_is_that_of_the_layout(rt: HostRuntime) -> Result<(), Fai
         (1, 1, WRONG_COUNT),
     ] {
         let draft = upper_row(rt.alloc(), nodes, count)?;
-        assert_eq!(rt; fault(draft), want, "{count} of {nodes}");
+        same_at(&rt, (count, nodes), fault(draft), want);
     }
     Ok(())
 }
@@ -33,13 +34,13 @@ fn an_instance_with_weights_needs_their_format(rt: HostRuntime) -> Result<(), Fa
     let alloc = rt.alloc();
     let mut draft = upper_row(alloc, 4, 6)?;
     draft.weight_format = None;
-    assert_eq!(rt; fault(draft), missing(Field::EdgeWeightFormatKey));
+    same(&rt, fault(draft), missing(Field::EdgeWeightFormatKey));
     let mut draft = upper_row(alloc, 4, 6)?;
     draft.weight_format = Some(WeightFormat::ByFunction);
-    assert_eq!(rt; fault(draft), WRONG_FORMAT);
+    same(&rt, fault(draft), WRONG_FORMAT);
     let mut draft = upper_row(alloc, 4, 6)?;
     draft.weights = None;
-    assert_eq!(rt; fault(draft), missing(Field::EdgeWeightPart));
+    same(&rt, fault(draft), missing(Field::EdgeWeightPart));
     Ok(())
 }
 
@@ -49,26 +50,26 @@ fn a_kind_needs_its_keywords_and_sections_in_their_order(rt: HostRuntime) -> Res
     let mut draft = upper_row(alloc, 4, 6)?;
     draft.dimension = None;
     draft.weights = None;
-    assert_eq!(rt; fault(draft), missing(Field::DimensionKey));
+    same(&rt, fault(draft), missing(Field::DimensionKey));
     let mut draft = upper_row(alloc, 4, 6)?;
     draft.weight_kind = None;
-    assert_eq!(rt; fault(draft), missing(Field::EdgeWeightTypeKey));
+    same(&rt, fault(draft), missing(Field::EdgeWeightTypeKey));
     let mut draft = upper_row(alloc, 4, 6)?;
     draft.weight_kind = Some(WeightKind::Att);
-    assert_eq!(rt; fault(draft), missing(Field::NodeCoordPart));
+    same(&rt, fault(draft), missing(Field::NodeCoordPart));
     let mut draft = upper_row(alloc, 4, 6)?;
     draft.kind = Some(Kind::Cvrp);
-    assert_eq!(rt; fault(draft), missing(Field::CapacityKey));
+    same(&rt, fault(draft), missing(Field::CapacityKey));
     let mut draft = rectangle(alloc)?;
     draft.demands = None;
     draft.depots = None;
-    assert_eq!(rt; fault(draft), missing(Field::DemandPart));
+    same(&rt, fault(draft), missing(Field::DemandPart));
     let mut draft = rectangle(alloc)?;
     draft.depots = None;
-    assert_eq!(rt; fault(draft), missing(Field::DepotPart));
+    same(&rt, fault(draft), missing(Field::DepotPart));
     let mut draft = tours(alloc);
     draft.tours = None;
-    assert_eq!(rt; fault(draft), missing(Field::TourPart));
+    same(&rt, fault(draft), missing(Field::TourPart));
     Ok(())
 }
 
@@ -102,7 +103,7 @@ fn potentials_are_for_nodes_or_for_rows_and_columns(rt: HostRuntime) -> Result<(
         (false, true, true, None),
     ] {
         let draft = potentials(rt.alloc(), nodes, rows, columns)?;
-        assert_eq!(rt; fault(draft), want, "{nodes} {rows} {columns}");
+        same_at(&rt, (nodes, rows, columns), fault(draft), want);
     }
     Ok(())
 }
@@ -112,12 +113,12 @@ fn names_are_kept_values(rt: HostRuntime) -> Result<(), Fail> {
     for name in ["a b", "", "a\tb\0\x7f"] {
         let mut draft = tours(rt.alloc());
         draft.name = Some(name.as_bytes().to_vec(rt.alloc())?);
-        assert_eq!(rt; fault(draft), None, "{name:?}");
+        same_at(&rt, name, fault(draft), None);
     }
     for name in [" a", "a\t", "a\r", "a\nb"] {
         let mut draft = tours(rt.alloc());
         draft.name = Some(name.as_bytes().to_vec(rt.alloc())?);
-        assert_eq!(rt; fault(draft), bad(Field::NameKey), "{name:?}");
+        same_at(&rt, name, fault(draft), bad(Field::NameKey));
     }
     Ok(())
 }
@@ -151,11 +152,11 @@ fn fault_of_line(alloc: Global, keyword: &str) -> Result<Option<DraftFault>, Fai
 #[test]
 fn unknown_keywords_are_words_that_are_not_known(rt: HostRuntime) -> Result<(), Fail> {
     for keyword in UNKNOWN {
-        assert_eq!(rt; fault_of_line(rt.alloc(), keyword)?, None, "{keyword}");
+        same_at(&rt, keyword, fault_of_line(rt.alloc(), keyword)?, None);
     }
     let refused = bad(Field::OtherKey);
     for keyword in NOT_UNKNOWN {
-        assert_eq!(rt; fault_of_line(rt.alloc(), keyword)?, refused, "{keyword}");
+        same_at(&rt, keyword, fault_of_line(rt.alloc(), keyword)?, refused);
     }
     Ok(())
 }
@@ -172,7 +173,7 @@ fn a_list_by_node_has_an_entry_for_each_node(rt: HostRuntime) -> Result<(), Fail
         let mut draft = tours(alloc);
         draft.dimension = dimension;
         draft.coords = Some(points(alloc, &[(0, 0), (1, 1)])?);
-        assert_eq!(rt; fault(draft), want, "{dimension:?}");
+        same_at(&rt, dimension, fault(draft), want);
     }
     Ok(())
 }
@@ -189,7 +190,7 @@ fn a_fixed_pair_is_of_two_different_nodes(rt: HostRuntime) -> Result<(), Fail> {
         let mut draft = tours(rt.alloc());
         draft.dimension = Some(2);
         draft.fixed = Some(vec![in rt.alloc(); pair; 1]?);
-        assert_eq!(rt; fault(draft), want, "{pair:?}");
+        same_at(&rt, pair, fault(draft), want);
     }
     Ok(())
 }
@@ -208,7 +209,7 @@ fn a_bad_field_is_named_before_a_rule(rt: HostRuntime) -> Result<(), Fail> {
         let mut lists = Vec::new(rt.alloc());
         lists.push(Vec::from_slice(rt.alloc(), tour)?)?;
         draft.tours = Some(lists);
-        assert_eq!(rt; fault(draft), want, "{kind:?} {tour:?}");
+        same_at(&rt, (kind, tour), fault(draft), want);
     }
     Ok(())
 }
@@ -219,31 +220,31 @@ fn an_incomplete_section_stands_between_the_missing_ones_and_the_other_rules(
 ) -> Result<(), Fail> {
     let incomplete = Some(Field::DemandPart);
     let draft = upper_row(rt.alloc(), 4, 6)?;
-    assert_eq!(rt; end_fault(&draft, None), None);
+    same(&rt, end_fault(&draft, None), None);
     let fault = Some(EndFault::Incomplete(Field::DemandPart));
-    assert_eq!(rt; end_fault(&draft, incomplete), fault);
+    same(&rt, end_fault(&draft, incomplete), fault);
     let draft = upper_row(rt.alloc(), 4, 5)?;
-    assert_eq!(rt; end_fault(&draft, None), Some(EndFault::WrongCount));
-    assert_eq!(rt; end_fault(&draft, incomplete), fault);
+    same(&rt, end_fault(&draft, None), Some(EndFault::WrongCount));
+    same(&rt, end_fault(&draft, incomplete), fault);
     let mut draft = upper_row(rt.alloc(), 4, 6)?;
     draft.weight_format = Some(WeightFormat::ByFunction);
-    assert_eq!(rt; end_fault(&draft, None), Some(EndFault::WrongFormat));
-    assert_eq!(rt; end_fault(&draft, incomplete), fault);
+    same(&rt, end_fault(&draft, None), Some(EndFault::WrongFormat));
+    same(&rt, end_fault(&draft, incomplete), fault);
     let draft = Draft::new(rt.alloc());
     let fault = Some(EndFault::Missing(Field::TypeKey));
-    assert_eq!(rt; end_fault(&draft, incomplete), fault);
+    same(&rt, end_fault(&draft, incomplete), fault);
     Ok(())
 }
 
 #[test]
 fn a_kept_value_is_judged_with_its_keyword(rt: HostRuntime) -> Result<(), Fail> {
     let long = vec![in rt.alloc(); b'x'; 3_996]?;
-    assert!(rt; is_kept(b"NAME", long.as_slice()));
-    assert!(rt; !is_kept(b"NAMES", long.as_slice()));
-    assert!(rt; is_kept(b"NAME", b""));
-    assert!(rt; !is_kept(b"NAME", b"a\nb"));
-    assert!(rt; !is_kept(b"NAME", b"a "));
-    assert!(rt; !is_kept(b"NAME", b"\x0ba"));
+    holds(&rt, is_kept(b"NAME", long.as_slice()));
+    holds(&rt, !is_kept(b"NAMES", long.as_slice()));
+    holds(&rt, is_kept(b"NAME", b""));
+    holds(&rt, !is_kept(b"NAME", b"a\nb"));
+    holds(&rt, !is_kept(b"NAME", b"a "));
+    holds(&rt, !is_kept(b"NAME", b"\x0ba"));
     Ok(())
 }
 
@@ -253,7 +254,7 @@ fn a_refused_draft_comes_back(rt: HostRuntime) -> Result<(), Fail> {
     let Err((fault, draft)) = File::of(draft) else {
         return Err(Fail::from("a file"));
     };
-    assert_eq!(rt; fault, DraftFault::Rule(EndFault::WrongCount));
-    assert_eq!(rt; draft.weights.map(|weights| weights.len()), Some(5));
+    same(&rt, fault, DraftFault::Rule(EndFault::WrongCount));
+    same(&rt, draft.weights.map(|weights| weights.len()), Some(5));
     Ok(())
 }
