@@ -1,0 +1,15 @@
+pub mod Lines
+pub mod Items
+pub mod Earlier
+pub mod Values
+pub mod Numbers
+pub mod Places
+pub mod Groups
+pub mod Lists
+pub mod Weights
+pub mod Tours
+pub mod Sections
+pub mod Rows
+pub mod FirstFault
+pub mod Spells
+pub mod Text
