@@ -13,3 +13,4 @@ pub mod Rows
 pub mod FirstFault
 pub mod Spells
 pub mod Text
+pub mod Examples

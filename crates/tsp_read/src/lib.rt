@@ -2,5 +2,7 @@
 #![tactic(auto)]
 
 mod fault;
+mod laws;
 
 pub use fault::{LineFault, ReadFault};
+pub use laws::{faults_at_the_end, faults_of_word_lines, faults_of_words, fields_of_texts};
