@@ -6,7 +6,8 @@ use Rattle.tsp_value.specs.declared.field.Field.TheVariants as field
 use Rattle.tsp_value.specs.declared.keyword.Keyword.{Keyword}
 use Rattle.tsp_value.specs.declared.keyword.Keyword.TheVariants.{Known, EdgeDataFormat, EdgeDataSection, Eof, Unknown}
 use Rattle.tsp_value.specs.Words.{field_word}
-use Rattle.tsp_read.specs.Items.{WordLine, Item, Line, NumberWord, LineEnd}
+use Rattle.tsp_value.specs.Keywords.{is_unknown}
+use Rattle.tsp_read.specs.Items.{Item, Line, NumberWord, LineEnd}
 
 -- ---- which keyword a line has
 
@@ -73,22 +74,14 @@ value_at f (LineEnd ∷ earlier) = value_at f earlier
 -- the values of all lines with the keyword of this field, in the order of the file
 abbrev pub values_at : Field → List Item → List (List ℕ)
 values_at f [] = []
-values_at f (Line key line ∷ earlier) = values_at f earlier ++ cond (is_key f key) (line.value ∷ []) []
+values_at f (Line key line ∷ earlier) = cond (is_key f key) (values_at f earlier ++ line.value ∷ []) (values_at f earlier)
 values_at f (NumberWord word ∷ earlier) = values_at f earlier
 values_at f (LineEnd ∷ earlier) = values_at f earlier
 
--- the keyword and the value of a line whose keyword is unknown
-abbrev pub kept_line : Keyword → WordLine → List (List ℕ × List ℕ)
-kept_line (Known f) line = []
-kept_line EdgeDataFormat line = []
-kept_line EdgeDataSection line = []
-kept_line Eof line = []
-kept_line Unknown line = (line.keyword, line.value) ∷ []
-
--- those of all lines whose keyword is unknown, in the order of the file
+-- the keyword and the value of each line whose keyword is unknown, in the order of the file
 abbrev pub others_in : List Item → List (List ℕ × List ℕ)
 others_in [] = []
-others_in (Line key line ∷ earlier) = others_in earlier ++ kept_line key line
+others_in (Line key line ∷ earlier) = cond (is_unknown key) (others_in earlier ++ (line.keyword, line.value) ∷ []) (others_in earlier)
 others_in (NumberWord word ∷ earlier) = others_in earlier
 others_in (LineEnd ∷ earlier) = others_in earlier
 
@@ -109,5 +102,5 @@ is_open f (Some g) = same_field f g
 abbrev pub words_of : Field → List Item → List (List ℕ)
 words_of f [] = []
 words_of f (Line key line ∷ earlier) = words_of f earlier
-words_of f (NumberWord word ∷ earlier) = words_of f earlier ++ cond (is_open f (open_section earlier)) (word ∷ []) []
+words_of f (NumberWord word ∷ earlier) = cond (is_open f (open_section earlier)) (words_of f earlier ++ word ∷ []) (words_of f earlier)
 words_of f (LineEnd ∷ earlier) = words_of f earlier

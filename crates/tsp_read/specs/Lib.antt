@@ -14,3 +14,5 @@ pub mod FirstFault
 pub mod Spells
 pub mod Text
 pub mod Examples
+pub mod Parts
+pub mod Held

@@ -4,7 +4,6 @@ use Rattle.std.specs.List.{find}
 use Rattle.tsp_value.specs.declared.field.Field.{Field}
 use Rattle.tsp_value.specs.declared.field.Field.TheVariants.{NameKey, TypeKey, CommentKey, CapacityKey, ScaleKey, EdgeWeightTypeKey, EdgeWeightFormatKey, NodeCoordTypeKey, DisplayDataTypeKey, NodeCoordPart, DisplayDataPart, DemandPart, DepotPart, FixedEdgesPart, EdgeWeightPart, TourPart, NodePotentialPart, RowPotentialPart, ColumnPotentialPart}
 use Rattle.tsp_value.specs.Limits.{most_demand, most_potential}
-use Rattle.tsp_value.specs.Values.{fields_in_order}
 use Rattle.tsp_fields.specs.declared.fault.EndFault.{EndFault}
 use Rattle.tsp_fields.specs.Fields.{Fields}
 use Rattle.tsp_fields.specs.Rules.{standing_of, end_fault}
@@ -82,9 +81,14 @@ wants_more (TourNode count) = false
 abbrev pub is_incomplete : List Item → Field → Bool
 is_incomplete items field = has_line field items && wants_more (place_in field (nodes_of items) (words_of field items))
 
--- the first section, in canonical order, that is incomplete
+-- the sections, in canonical order
+abbrev pub sections_in_order : List Field
+sections_in_order = NodeCoordPart ∷ DisplayDataPart ∷ DemandPart ∷ DepotPart ∷ FixedEdgesPart ∷ EdgeWeightPart ∷ TourPart
+    ∷ NodePotentialPart ∷ RowPotentialPart ∷ ColumnPotentialPart ∷ []
+
+-- the first section that is incomplete
 abbrev pub first_incomplete : List Item → Option Field
-first_incomplete items = find (is_incomplete items) fields_in_order
+first_incomplete items = find (is_incomplete items) sections_in_order
 
 -- the fault at the end of these items, none of which has a fault
 abbrev pub fault_at_end : List Item → Option EndFault

@@ -75,3 +75,12 @@ pub enum ReadFault {
     #[error("too long")]
     TooLong,
 }
+
+/// Why a line or a word isn't taken.
+#[derive(Clone, Copy, Debug)]
+pub(crate) enum StepFault {
+    /// Memory was refused.
+    Memory,
+    /// It has this fault.
+    Fault(LineFault),
+}
