@@ -131,27 +131,20 @@ has_row_or_column s = s.stands RowPotentialPart || s.stands ColumnPotentialPart
 
 -- the field is asked for
 abbrev pub is_asked : Standing → Field → Bool
-is_asked s NameKey = false
 is_asked s TypeKey = true
-is_asked s CommentKey = false
-is_asked s OtherKey = false
 is_asked s DimensionKey = not (is_tours s.kind)
 is_asked s CapacityKey = is_routing s.kind
-is_asked s ScaleKey = false
 is_asked s EdgeWeightTypeKey = is_instance s.kind
 is_asked s EdgeWeightFormatKey = lists_weights s || s.stands EdgeWeightPart
-is_asked s NodeCoordTypeKey = false
-is_asked s DisplayDataTypeKey = false
 is_asked s NodeCoordPart = has_distances s
-is_asked s DisplayDataPart = false
 is_asked s DemandPart = is_routing s.kind
 is_asked s DepotPart = is_routing s.kind
-is_asked s FixedEdgesPart = false
 is_asked s EdgeWeightPart = lists_weights s
 is_asked s TourPart = is_tours s.kind
 is_asked s NodePotentialPart = is_certificate s.kind && not (has_row_or_column s)
 is_asked s RowPotentialPart = is_certificate s.kind && s.stands ColumnPotentialPart
 is_asked s ColumnPotentialPart = is_certificate s.kind && s.stands RowPotentialPart
+is_asked s field = false
 
 -- the field isn't missing
 abbrev pub is_there : Standing → Field → Bool

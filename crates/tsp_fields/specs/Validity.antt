@@ -89,19 +89,14 @@ are_tours tours = list_all is_tour tours && nat_le (sum_by length tours) most_to
 
 -- ---- all fields
 
--- the field is valid on its own
+-- the field is valid on its own; the others are of types that hold nothing else
 abbrev pub fits : Fields → Field → Bool
 fits f NameKey = if_there (is_kept (field_word NameKey)) f.name
-fits f TypeKey = true
 fits f CommentKey = are_comments f.comments
 fits f OtherKey = are_others f.others
 fits f DimensionKey = if_there (is_node most_nodes) f.dimension
 fits f CapacityKey = if_there (is_from_to (pos 1) (pos most_capacity)) f.capacity
 fits f ScaleKey = if_there (is_from_to (pos 1) (pos most_scale)) f.scale
-fits f EdgeWeightTypeKey = true
-fits f EdgeWeightFormatKey = true
-fits f NodeCoordTypeKey = true
-fits f DisplayDataTypeKey = true
 fits f NodeCoordPart = if_there (with_dimension (is_by_node is_point) f.dimension) f.coords
 fits f DisplayDataPart = if_there (with_dimension (is_by_node is_point) f.dimension) f.display
 fits f DemandPart = if_there (with_dimension (is_by_node is_demand) f.dimension) f.demands
@@ -112,6 +107,7 @@ fits f TourPart = if_there are_tours f.tours
 fits f NodePotentialPart = if_there (with_dimension (is_by_node (is_within most_potential)) f.dimension) f.node_potentials
 fits f RowPotentialPart = if_there (with_dimension (is_by_node (is_within most_potential)) f.dimension) f.row_potentials
 fits f ColumnPotentialPart = if_there (with_dimension (is_by_node (is_within most_potential)) f.dimension) f.column_potentials
+fits f field = true
 
 -- the first field of a list that fails the test
 abbrev pub first_failing : (Field → Bool) → List Field → Option Field

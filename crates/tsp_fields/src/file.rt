@@ -35,9 +35,10 @@ impl File {
     ghost use Rattle.tsp_fields.specs.Fields.{fields_of};
     ghost use Rattle.tsp_fields.specs.Rules.{fault_of};
 
-    /// The draft that this file was made of.
-    pub fn draft(&self) -> &Draft
-        ensures { fields_of result.now ≡ self.now }
+    /// The fields of this file, as a draft that has no fault.
+    pub fn fields(&self) -> &Draft
+        ensures value { fields_of result.now ≡ self.now }
+        ensures valid { fault_of self.now ≡ None }
     {
         &self.draft
     }

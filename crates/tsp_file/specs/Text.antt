@@ -7,8 +7,9 @@ use Rattle.tsp_number.specs.Spelling.{spelling}
 use Rattle.tsp_value.specs.declared.kinds.WeightFormat.{WeightFormat}
 use Rattle.tsp_value.specs.declared.kinds.WeightFormat.TheVariants.{Listed}
 use Rattle.tsp_value.specs.declared.field.Field.{Field}
-use Rattle.tsp_value.specs.declared.field.Field.TheVariants.{NameKey, TypeKey, CommentKey, DimensionKey, CapacityKey, ScaleKey, EdgeWeightTypeKey, EdgeWeightFormatKey, NodeCoordTypeKey, DisplayDataTypeKey, NodeCoordPart, DisplayDataPart, DemandPart, DepotPart, FixedEdgesPart, EdgeWeightPart, TourPart, NodePotentialPart, RowPotentialPart, ColumnPotentialPart}
+use Rattle.tsp_value.specs.declared.field.Field.TheVariants.{NameKey, TypeKey, CommentKey, OtherKey, DimensionKey, CapacityKey, ScaleKey, EdgeWeightTypeKey, EdgeWeightFormatKey, NodeCoordTypeKey, DisplayDataTypeKey, NodeCoordPart, DisplayDataPart, DemandPart, DepotPart, FixedEdgesPart, EdgeWeightPart, TourPart, NodePotentialPart, RowPotentialPart, ColumnPotentialPart}
 use Rattle.tsp_value.specs.Words.{field_word, kind_word, weight_kind_word, weight_format_word, coord_kind_word, display_kind_word}
+use Rattle.tsp_value.specs.Values.{fields_in_order}
 use Rattle.tsp_value.specs.Cells.{nodes_to, cells_of_line}
 use Rattle.tsp_fields.specs.Fields.{Fields}
 
@@ -29,6 +30,10 @@ value_line keyword value = keyword ++ (codes " :" ++ (after_blank value ++ line_
 
 abbrev pub keyword_line : Field → List ℕ → List ℕ
 keyword_line field value = value_line (field_word field) value
+
+-- the line of an unknown keyword
+abbrev pub other_line : List ℕ × List ℕ → List ℕ
+other_line other = value_line other.0 other.1
 
 -- a number, and more of them, each after a blank
 abbrev pub number_line : List ℕ → List (List ℕ) → List ℕ
@@ -86,42 +91,30 @@ abbrev pub optional : {A : Type 0} → (A → List ℕ) → Option A → List �
 optional text None = []
 optional text (Some value) = text value
 
--- texts, one after the other
-abbrev pub joined : List (List ℕ) → List ℕ
-joined [] = []
-joined (text ∷ texts) = text ++ joined texts
-
--- the keyword lines in canonical order
-abbrev pub keyword_texts : Fields → List (List ℕ)
-keyword_texts f =
-    optional (keyword_line NameKey) f.name
-    ∷ optional (λ kind. keyword_line TypeKey (kind_word kind)) f.kind
-    ∷ flat_map (keyword_line CommentKey) f.comments
-    ∷ flat_map (λ other. value_line other.0 other.1) f.others
-    ∷ optional (λ n. keyword_line DimensionKey (decimal n)) f.dimension
-    ∷ optional (λ capacity. keyword_line CapacityKey (signed_decimal capacity)) f.capacity
-    ∷ optional (λ scale. keyword_line ScaleKey (signed_decimal scale)) f.scale
-    ∷ optional (λ kind. keyword_line EdgeWeightTypeKey (weight_kind_word kind)) f.weight_kind
-    ∷ optional (λ format. keyword_line EdgeWeightFormatKey (weight_format_word format)) f.weight_format
-    ∷ optional (λ kind. keyword_line NodeCoordTypeKey (coord_kind_word kind)) f.coord_kind
-    ∷ optional (λ kind. keyword_line DisplayDataTypeKey (display_kind_word kind)) f.display_kind
-    ∷ []
-
--- the sections in canonical order
-abbrev pub section_texts : Fields → List (List ℕ)
-section_texts f =
-    optional (λ points. section NodeCoordPart (by_node point_numbers points)) f.coords
-    ∷ optional (λ points. section DisplayDataPart (by_node point_numbers points)) f.display
-    ∷ optional (λ demands. section DemandPart (by_node whole_number demands)) f.demands
-    ∷ optional (λ depots. section DepotPart (node_list depots)) f.depots
-    ∷ optional (λ pairs. section FixedEdgesPart (pair_list pairs)) f.fixed
-    ∷ optional (λ weights. section EdgeWeightPart (matrix_lines (line_lens f.weight_format f.dimension) weights)) f.weights
-    ∷ optional (λ tours. section TourPart (flat_map node_list tours)) f.tours
-    ∷ optional (λ numbers. section NodePotentialPart (by_node whole_number numbers)) f.node_potentials
-    ∷ optional (λ numbers. section RowPotentialPart (by_node whole_number numbers)) f.row_potentials
-    ∷ optional (λ numbers. section ColumnPotentialPart (by_node whole_number numbers)) f.column_potentials
-    ∷ []
+-- the text of a field
+abbrev pub text_of_field : Fields → Field → List ℕ
+text_of_field f NameKey = optional (keyword_line NameKey) f.name
+text_of_field f TypeKey = optional (λ kind. keyword_line TypeKey (kind_word kind)) f.kind
+text_of_field f CommentKey = flat_map (keyword_line CommentKey) f.comments
+text_of_field f OtherKey = flat_map other_line f.others
+text_of_field f DimensionKey = optional (λ n. keyword_line DimensionKey (decimal n)) f.dimension
+text_of_field f CapacityKey = optional (λ capacity. keyword_line CapacityKey (signed_decimal capacity)) f.capacity
+text_of_field f ScaleKey = optional (λ scale. keyword_line ScaleKey (signed_decimal scale)) f.scale
+text_of_field f EdgeWeightTypeKey = optional (λ kind. keyword_line EdgeWeightTypeKey (weight_kind_word kind)) f.weight_kind
+text_of_field f EdgeWeightFormatKey = optional (λ format. keyword_line EdgeWeightFormatKey (weight_format_word format)) f.weight_format
+text_of_field f NodeCoordTypeKey = optional (λ kind. keyword_line NodeCoordTypeKey (coord_kind_word kind)) f.coord_kind
+text_of_field f DisplayDataTypeKey = optional (λ kind. keyword_line DisplayDataTypeKey (display_kind_word kind)) f.display_kind
+text_of_field f NodeCoordPart = optional (λ points. section NodeCoordPart (by_node point_numbers points)) f.coords
+text_of_field f DisplayDataPart = optional (λ points. section DisplayDataPart (by_node point_numbers points)) f.display
+text_of_field f DemandPart = optional (λ demands. section DemandPart (by_node whole_number demands)) f.demands
+text_of_field f DepotPart = optional (λ depots. section DepotPart (node_list depots)) f.depots
+text_of_field f FixedEdgesPart = optional (λ pairs. section FixedEdgesPart (pair_list pairs)) f.fixed
+text_of_field f EdgeWeightPart = optional (λ weights. section EdgeWeightPart (matrix_lines (line_lens f.weight_format f.dimension) weights)) f.weights
+text_of_field f TourPart = optional (λ tours. section TourPart (flat_map node_list tours)) f.tours
+text_of_field f NodePotentialPart = optional (λ numbers. section NodePotentialPart (by_node whole_number numbers)) f.node_potentials
+text_of_field f RowPotentialPart = optional (λ numbers. section RowPotentialPart (by_node whole_number numbers)) f.row_potentials
+text_of_field f ColumnPotentialPart = optional (λ numbers. section ColumnPotentialPart (by_node whole_number numbers)) f.column_potentials
 
 -- the canonical text
 abbrev pub text_of : Fields → List ℕ
-text_of f = joined (keyword_texts f) ++ (joined (section_texts f) ++ (codes "EOF" ++ line_end))
+text_of f = flat_map (text_of_field f) fields_in_order ++ (codes "EOF" ++ line_end)

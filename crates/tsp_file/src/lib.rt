@@ -3,10 +3,10 @@
 
 mod writer;
 
-pub use tsp_fields::{DraftFault, Draft, EndFault, File};
+pub use tsp_fields::{Draft, DraftFault, EndFault, File, end_fault, is_kept};
 pub use tsp_stream::{Watched, WriteFault, write_text};
 pub use tsp_value::{
-    CoordKind, DisplayKind, Field, Kind, Layout, WeightFormat, WeightKind, cells_are_distinct,
-    cells_are_the_listed_pairs, cells_go_line_by_line,
+    CoordKind, DisplayKind, Field, Keyword, Kind, Layout, WeightFormat, WeightKind, Word,
+    cells_are_distinct, cells_are_the_listed_pairs, cells_go_line_by_line, value_of,
 };
 pub use writer::write_file;

@@ -1,6 +1,6 @@
 -- The way of a text, one part after the other.
-use Rattle.std.proofs.Common.{◌≡◌, ℕ, ◌+◌, Bool, true, false, List, [], ◌∷◌, ◌++◌, length, take, drop, Option, None, Some, refl, sym, ap, subst, ◌∙◌, append_assoc, append-nil, arith, ◌<◌, ◌≤◌, get_or, map}
-use Rattle.std.specs.Io.KnownBytes.{Appends, Keeps}
+use Rattle.std.proofs.Common.{◌≡◌, ℕ, ◌+◌, Bool, true, false, List, [], ◌∷◌, ◌++◌, length, take, drop, Option, refl, sym, ap, subst, ◌∙◌, append_assoc, append-nil, arith, ◌<◌, ◌≤◌, get_or, map}
+use Rattle.std.specs.Io.KnownBytes.{Appends}
 use Rattle.std.proofs.lemmas.List.{take-append-drop, take_all, take_more, get_or_default}
 use Rattle.std.proofs.Math.Seq.{take-append_seam}
 use Rattle.std.proofs.lemmas.Grind.{flat_map-append}
@@ -8,21 +8,11 @@ use Rattle.std.proofs.lemmas.List.FromFn.{length-enumerate_from, get_or-enumerat
 use Rattle.std.specs.List.{flat_map, enumerate_from}
 use Rattle.tsp_stream.specs.Sink.{HasWritten, HasStopped, Sink}
 use Rattle.tsp_stream.specs.Way.{Way, Carries, Carried}
-use Rattle.tsp_stream.proofs.Sinks.{appends_more}
+use Rattle.std.proofs.KnownBytes.{Appends-nil, Appends-trans, Appends-kept}
 
 -- the sink between two states
 abbrev pub between : Way → Way → Sink
 between old new = record { held = old.held; holds = new.held; had_failed = old.failed; failed = new.failed }
-
-appends_none : (a : Option (List ℕ)) → Appends a a []
-appends_none None = tt
-appends_none (Some a) = sym (append-nil a)
-
-appends_kept : (a b c : Option (List ℕ)) (xs : List ℕ) → Appends a b xs → Keeps b c → Appends a c xs
-appends_kept None b c xs h k = tt
-appends_kept (Some a) None c xs h k = absurd h
-appends_kept (Some a) (Some b) None xs h k = absurd k
-appends_kept (Some a) (Some b) (Some c) xs h k = k ∙ h
 
 -- nothing added
 pub carried_none : (a : Way) → Carried a a []
@@ -68,7 +58,7 @@ carried_sent a b bytes added stopped written whole empty start text h = by_faile
       front = h.front;
       rest = h.rest ++ added;
       parts = parts;
-      written = appends_kept start a.held b.held h.front h.written ((stopped e).1 d);
+      written = Appends-kept start a.held b.held h.front h.written ((stopped e).1 d);
       waits = λ sound. absurd (cc);
     }
     by_failed true false e d =
@@ -76,7 +66,7 @@ carried_sent a b bytes added stopped written whole empty start text h = by_faile
           front = h.front ++ take count bytes;
           rest = drop count bytes;
           parts = append_assoc h.front (take count bytes) (drop count bytes) ∙ ap (λ t. h.front ++ t) (take-append-drop count bytes) ∙ sent d;
-          written = appends_more start a.held b.held h.front (take count bytes) h.written (stopped e).2.1;
+          written = Appends-trans start a.held b.held h.front (take count bytes) h.written (stopped e).2.1;
           waits = λ sound. absurd (cc);
         }
     by_failed false before e d =
@@ -84,7 +74,7 @@ carried_sent a b bytes added stopped written whole empty start text h = by_faile
           front = h.front ++ bytes;
           rest = [];
           parts = append-nil (h.front ++ bytes) ∙ sent done.0;
-          written = appends_more start a.held b.held h.front bytes h.written done.2;
+          written = Appends-trans start a.held b.held h.front bytes h.written done.2;
           waits = λ sound. sym empty;
         }
 
@@ -139,7 +129,7 @@ carried_node_or f xs i d a b c lt h k = carried_node f xs i (get_or xs i d) a b 
 
 -- the text begins
 begun : (a : Way) → a.piece ≡ [] → Carries a.held a []
-begun a empty = record { front = []; rest = []; parts = refl; written = appends_none a.held; waits = λ sound. sym empty }
+begun a empty = record { front = []; rest = []; parts = refl; written = Appends-nil a.held; waits = λ sound. sym empty }
 
 -- A text began with no piece, and the writer failed.
 pub text_stopped : (a b : Way) (text : List ℕ) → a.piece ≡ [] → a.failed ≡ false → Carried a b text → b.failed ≡ true → HasStopped (between a b) text

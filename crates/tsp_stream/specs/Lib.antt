@@ -1,3 +1,4 @@
 pub mod Sink
+pub mod Turn
 pub mod Watched
 pub mod Way

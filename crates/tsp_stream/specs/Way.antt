@@ -1,6 +1,7 @@
 -- How far a text has come on its way to a writer.
 use Rattle.std.specs.Prelude.{◌≡◌, ℕ, Bool, false, List, ◌++◌, Option}
 use Rattle.std.specs.Io.KnownBytes.{Appends}
+use Rattle.arrayvec.specs.ArrayVec.{ArrayVec}
 use Rattle.tsp_stream.specs.declared.watched.Watched.{Watched}
 use Rattle.tsp_stream.specs.Watched.{watched, has_failed}
 
@@ -25,3 +26,8 @@ pub record Carries (start : Option (List ℕ)) (way : Way) (text : List ℕ) : T
 -- between the two, these bytes were added to whatever text was on its way
 abbrev pub Carried : Way → Way → List ℕ → Type 0
 Carried old new bytes = (start : Option (List ℕ)) (text : List ℕ) → Carries start old text → Carries start new (text ++ bytes)
+
+-- the call, from a writer and its piece to the same two afterwards, added these bytes to whatever text was on its way
+abbrev pub Puts : {W : Type 0} → (W → Option (List ℕ)) → Watched W → ArrayVec ℕ → Watched W → ArrayVec ℕ → List ℕ → Type 0
+Puts contents out piece new_out new_piece bytes =
+    Carried (way_of contents out piece.items) (way_of contents new_out new_piece.items) bytes

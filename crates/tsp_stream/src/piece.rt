@@ -4,7 +4,7 @@
 //! need not look at each outcome.
 
 ghost use Rattle.std.specs.Prelude.{◌≡◌, [], ◌∷◌};
-ghost use Rattle.tsp_stream.specs.Way.{way_of, Carried};
+ghost use Rattle.tsp_stream.specs.Way.{Puts};
 
 use crate::output::send;
 use crate::watched::Watched;
@@ -19,8 +19,9 @@ pub const PIECE: usize = 4_096;
 pub type Piece = ArrayVec<u8, PIECE>;
 
 /// Sends the piece to the writer and begins a new one.
+#[cold]
 pub fn hand_over<W: Write>(piece: &mut Piece, out: &mut Watched<W>)
-    ensures carried { Carried (way_of W.contents out.old piece.old.items) (way_of W.contents out.new piece.new.items) [] }
+    ensures carried { Puts W.contents out.old piece.old out.new piece.new [] }
     ensures empty { piece.new.items ≡ [] }
 {
     send(out, piece.as_slice());
@@ -28,8 +29,9 @@ pub fn hand_over<W: Write>(piece: &mut Piece, out: &mut Watched<W>)
 }
 
 /// Adds bytes to the text.
+#[inline(always)]
 pub fn put<W: Write>(piece: &mut Piece, out: &mut Watched<W>, bytes: &[u8])
-    ensures { Carried (way_of W.contents out.old piece.old.items) (way_of W.contents out.new piece.new.items) bytes.now }
+    ensures { Puts W.contents out.old piece.old out.new piece.new bytes.now }
 {
     if piece.try_extend_from_slice(bytes).is_ok() {
         return;
@@ -42,20 +44,18 @@ pub fn put<W: Write>(piece: &mut Piece, out: &mut Watched<W>, bytes: &[u8])
 }
 
 /// Adds the digits of a whole number.
+#[inline(always)]
 pub fn put_number<W: Write, N: Integer>(piece: &mut Piece, out: &mut Watched<W>, number: N)
-    ensures { Carried (way_of W.contents out.old piece.old.items) (way_of W.contents out.new piece.new.items) (N.text number) }
+    ensures { Puts W.contents out.old piece.old out.new piece.new (N.text number) }
 {
     let mut buffer = Buffer::new();
     put(piece, out, buffer.format(number).as_bytes());
 }
 
 /// Adds a blank and the digits of a whole number.
-pub fn put_next_number<W: Write, N: Integer>(
-    piece: &mut Piece,
-    out: &mut Watched<W>,
-    number: N,
-)
-    ensures { Carried (way_of W.contents out.old piece.old.items) (way_of W.contents out.new piece.new.items) (32 ∷ N.text number) }
+#[inline(always)]
+pub fn put_next_number<W: Write, N: Integer>(piece: &mut Piece, out: &mut Watched<W>, number: N)
+    ensures { Puts W.contents out.old piece.old out.new piece.new (32 ∷ N.text number) }
 {
     put(piece, out, b" ");
     put_number(piece, out, number);

@@ -45,6 +45,17 @@ impl<T> Watched<T> {
         let Watched { inner, failed: _ } = self;
         inner
     }
+
+    /// Hands on what a call of the inner value answered, as it is, and remembers a failure: an
+    /// error, or a write that took nothing of what it could have taken.
+    fn hand_on<A>(&mut self, outcome: io::Result<A>, took_nothing: bool) -> io::Result<A>
+        ensures outcome { result ≡ outcome }
+        ensures inner { watched self.new ≡ watched self.old }
+        ensures failed { has_failed self.new ≡ (has_failed self.old || is_err outcome || took_nothing) }
+    {
+        self.failed = self.failed || outcome.is_err() || took_nothing;
+        outcome
+    }
 }
 
 impl<R: Read> Read for Watched<R> {
@@ -56,10 +67,7 @@ impl<R: Read> Read for Watched<R> {
         ensures failed { has_failed self.new ≡ (has_failed self.old || is_err result) }
     {
         let outcome = self.inner.read(buf);
-        if outcome.is_err() {
-            self.failed = true;
-        }
-        outcome
+        self.hand_on(outcome, false)
     }
 }
 
@@ -72,12 +80,8 @@ impl<W: Write> Write for Watched<W> {
         ensures failed { has_failed self.new ≡ (has_failed self.old || write_fails result buf.now) }
     {
         let outcome = self.inner.write(buf);
-        match outcome {
-            Ok(0) => self.failed = self.failed || !buf.is_empty(),
-            Ok(_) => {}
-            Err(_) => self.failed = true,
-        }
-        outcome
+        let took_nothing = matches!(outcome, Ok(0)) && !buf.is_empty();
+        self.hand_on(outcome, took_nothing)
     }
 
     fn flush(&mut self) -> io::Result<()>
@@ -85,9 +89,6 @@ impl<W: Write> Write for Watched<W> {
         ensures failed { has_failed self.new ≡ (has_failed self.old || is_err result) }
     {
         let outcome = self.inner.flush();
-        if outcome.is_err() {
-            self.failed = true;
-        }
-        outcome
+        self.hand_on(outcome, false)
     }
 }

@@ -6,19 +6,16 @@ ghost use Rattle.std.specs.Fmt.{signed_decimal};
 ghost use Rattle.std.specs.Option.{option_map};
 ghost use Rattle.tsp_value.specs.Cells.{nodes_to, cells_of_line};
 ghost use Rattle.tsp_file.specs.Text.{weight_line, matrix_lines, line_lens, section, optional};
-ghost use Rattle.tsp_stream.specs.Way.{way_of, Carried};
+ghost use Rattle.tsp_stream.specs.Way.{Puts};
 
-use tsp_value::Field;
-use tsp_value::WeightFormat;
-use tsp_value::Layout;
-use tsp_stream::Watched;
-use tsp_stream::{Piece, put, put_next_number, put_number};
 use crate::writer::sections::put_opening;
 use std::io::Write;
+use tsp_stream::{Piece, Watched, put, put_next_number, put_number};
+use tsp_value::{Field, Layout, WeightFormat};
 
 /// Adds weights, each after a blank.
 fn put_more_weights<W: Write>(piece: &mut Piece, out: &mut Watched<W>, weights: &[i64])
-    ensures { Carried (way_of W.contents out.old piece.old.items) (way_of W.contents out.new piece.new.items)
+    ensures { Puts W.contents out.old piece.old out.new piece.new
         (flat_map (λ word. 32 ∷ word) (map signed_decimal weights.now)) }
 {
     'weights: for weight in weights {
@@ -28,7 +25,7 @@ fn put_more_weights<W: Write>(piece: &mut Piece, out: &mut Watched<W>, weights: 
 
 /// Adds the line of some weights, none where there are none.
 fn put_weight_line<W: Write>(piece: &mut Piece, out: &mut Watched<W>, weights: &[i64])
-    ensures { Carried (way_of W.contents out.old piece.old.items) (way_of W.contents out.new piece.new.items) (weight_line weights.now) }
+    ensures { Puts W.contents out.old piece.old out.new piece.new (weight_line weights.now) }
 {
     if let Some((first, rest)) = weights.split_first() {
         put_number(piece, out, *first);
@@ -47,7 +44,7 @@ fn put_lines<W: Write>(
     nodes: u32,
     weights: &[i64],
 )
-    ensures { Carried (way_of W.contents out.old piece.old.items) (way_of W.contents out.new piece.new.items)
+    ensures { Puts W.contents out.old piece.old out.new piece.new
         (matrix_lines (map (λ k. length (cells_of_line layout nodes k)) (nodes_to nodes)) weights.now) }
 {
     let mut rest = weights;
@@ -74,7 +71,7 @@ fn put_matrix<W: Write>(
     dimension: Option<u32>,
     weights: &[i64],
 )
-    ensures { Carried (way_of W.contents out.old piece.old.items) (way_of W.contents out.new piece.new.items)
+    ensures { Puts W.contents out.old piece.old out.new piece.new
         (matrix_lines (line_lens format dimension) weights.now) }
 {
     match format {
@@ -95,7 +92,7 @@ pub(crate) fn put_weight_section<W: Write>(
     dimension: Option<u32>,
     weights: &Option<Vec<i64>>,
 )
-    ensures { Carried (way_of W.contents out.old piece.old.items) (way_of W.contents out.new piece.new.items)
+    ensures { Puts W.contents out.old piece.old out.new piece.new
         (optional (λ weights. section Field.EdgeWeightPart (matrix_lines (line_lens format dimension) weights)) (option_map (λ v. v.items) weights.now)) }
 {
     if let Some(weights) = weights {

@@ -6,21 +6,17 @@ ghost use Rattle.std.specs.Fmt.{decimal, signed_decimal};
 ghost use Rattle.std.specs.Option.{option_map};
 ghost use Rattle.tsp_number.specs.Spelling.{spelling};
 ghost use Rattle.tsp_value.specs.Words.{field_word};
-ghost use Rattle.tsp_file.specs.Text.{line_end, number_line, section, by_node, node_list, pair_list, point_numbers, whole_number, optional, joined, section_texts};
-ghost use Rattle.tsp_fields.specs.Fields.{fields_of};
-ghost use Rattle.tsp_stream.specs.Way.{way_of, Carried};
+ghost use Rattle.tsp_file.specs.Text.{line_end, number_line, section, by_node, node_list, pair_list, point_numbers, whole_number, optional};
+ghost use Rattle.tsp_stream.specs.Way.{Puts};
 
-use tsp_fields::Draft;
-use tsp_value::Field;
-use tsp_stream::Watched;
-use crate::writer::matrix::put_weight_section;
-use tsp_stream::{Piece, put, put_next_number, put_number};
 use std::io::Write;
 use tsp_number::{Decimal, Point, write_decimal};
+use tsp_stream::{Piece, Watched, put, put_next_number, put_number};
+use tsp_value::{Field, Word};
 
 /// Adds the line that opens a section.
 pub(crate) fn put_opening<W: Write>(piece: &mut Piece, out: &mut Watched<W>, field: Field)
-    ensures { Carried (way_of W.contents out.old piece.old.items) (way_of W.contents out.new piece.new.items) (field_word field ++ line_end) }
+    ensures { Puts W.contents out.old piece.old out.new piece.new (field_word field ++ line_end) }
 {
     put(piece, out, field.word().as_bytes());
     put(piece, out, b"\n");
@@ -28,7 +24,7 @@ pub(crate) fn put_opening<W: Write>(piece: &mut Piece, out: &mut Watched<W>, fie
 
 /// Adds the line of a node and its number.
 fn put_number_line<W: Write>(piece: &mut Piece, out: &mut Watched<W>, node: usize, number: i64)
-    ensures { Carried (way_of W.contents out.old piece.old.items) (way_of W.contents out.new piece.new.items)
+    ensures { Puts W.contents out.old piece.old out.new piece.new
         (number_line (decimal node) (whole_number number)) }
 {
     put_number(piece, out, node);
@@ -38,7 +34,7 @@ fn put_number_line<W: Write>(piece: &mut Piece, out: &mut Watched<W>, node: usiz
 
 /// Adds a blank and a coordinate.
 fn put_coordinate<W: Write>(piece: &mut Piece, out: &mut Watched<W>, coordinate: Decimal)
-    ensures { Carried (way_of W.contents out.old piece.old.items) (way_of W.contents out.new piece.new.items) (32 ∷ spelling coordinate) }
+    ensures { Puts W.contents out.old piece.old out.new piece.new (32 ∷ spelling coordinate) }
 {
     put(piece, out, b" ");
     put(piece, out, write_decimal(coordinate).as_slice());
@@ -46,7 +42,7 @@ fn put_coordinate<W: Write>(piece: &mut Piece, out: &mut Watched<W>, coordinate:
 
 /// Adds the line of a node and its coordinates.
 fn put_point_line<W: Write>(piece: &mut Piece, out: &mut Watched<W>, node: usize, point: Point)
-    ensures { Carried (way_of W.contents out.old piece.old.items) (way_of W.contents out.new piece.new.items)
+    ensures { Puts W.contents out.old piece.old out.new piece.new
         (number_line (decimal node) (point_numbers point)) }
 {
     put_number(piece, out, node);
@@ -57,7 +53,7 @@ fn put_point_line<W: Write>(piece: &mut Piece, out: &mut Watched<W>, node: usize
 
 /// Adds the line of a node.
 fn put_node_line<W: Write>(piece: &mut Piece, out: &mut Watched<W>, node: u32)
-    ensures { Carried (way_of W.contents out.old piece.old.items) (way_of W.contents out.new piece.new.items)
+    ensures { Puts W.contents out.old piece.old out.new piece.new
         (number_line (decimal node) []) }
 {
     put_number(piece, out, node);
@@ -66,7 +62,7 @@ fn put_node_line<W: Write>(piece: &mut Piece, out: &mut Watched<W>, node: u32)
 
 /// Adds the line of a pair of nodes.
 fn put_pair_line<W: Write>(piece: &mut Piece, out: &mut Watched<W>, first: u32, second: u32)
-    ensures { Carried (way_of W.contents out.old piece.old.items) (way_of W.contents out.new piece.new.items)
+    ensures { Puts W.contents out.old piece.old out.new piece.new
         (number_line (decimal first) (decimal second ∷ [])) }
 {
     put_number(piece, out, first);
@@ -76,7 +72,7 @@ fn put_pair_line<W: Write>(piece: &mut Piece, out: &mut Watched<W>, first: u32, 
 
 /// Adds a line for each node, in rising order, with its number.
 fn put_numbers<W: Write>(piece: &mut Piece, out: &mut Watched<W>, numbers: &[i64])
-    ensures { Carried (way_of W.contents out.old piece.old.items) (way_of W.contents out.new piece.new.items)
+    ensures { Puts W.contents out.old piece.old out.new piece.new
         (by_node whole_number numbers.now) }
 {
     'nodes: for (index, number) in numbers.iter().enumerate() {
@@ -86,7 +82,7 @@ fn put_numbers<W: Write>(piece: &mut Piece, out: &mut Watched<W>, numbers: &[i64
 
 /// Adds a line for each node, in rising order, with its coordinates.
 fn put_points<W: Write>(piece: &mut Piece, out: &mut Watched<W>, points: &[Point])
-    ensures { Carried (way_of W.contents out.old piece.old.items) (way_of W.contents out.new piece.new.items)
+    ensures { Puts W.contents out.old piece.old out.new piece.new
         (by_node point_numbers points.now) }
 {
     'nodes: for (index, point) in points.iter().enumerate() {
@@ -96,7 +92,7 @@ fn put_points<W: Write>(piece: &mut Piece, out: &mut Watched<W>, points: &[Point
 
 /// Adds a line for each node of a list, and the line -1.
 fn put_nodes<W: Write>(piece: &mut Piece, out: &mut Watched<W>, nodes: &[u32])
-    ensures { Carried (way_of W.contents out.old piece.old.items) (way_of W.contents out.new piece.new.items) (node_list nodes.now) }
+    ensures { Puts W.contents out.old piece.old out.new piece.new (node_list nodes.now) }
 {
     'nodes: for node in nodes {
         put_node_line(piece, out, *node);
@@ -106,7 +102,7 @@ fn put_nodes<W: Write>(piece: &mut Piece, out: &mut Watched<W>, nodes: &[u32])
 
 /// Adds a line for each pair of a list, and the line -1.
 fn put_pairs<W: Write>(piece: &mut Piece, out: &mut Watched<W>, pairs: &[(u32, u32)])
-    ensures { Carried (way_of W.contents out.old piece.old.items) (way_of W.contents out.new piece.new.items) (pair_list pairs.now) }
+    ensures { Puts W.contents out.old piece.old out.new piece.new (pair_list pairs.now) }
 {
     'pairs: for (first, second) in pairs {
         put_pair_line(piece, out, *first, *second);
@@ -116,7 +112,7 @@ fn put_pairs<W: Write>(piece: &mut Piece, out: &mut Watched<W>, pairs: &[(u32, u
 
 /// Adds the nodes of each tour, and a line -1 after each.
 fn put_tours<W: Write>(piece: &mut Piece, out: &mut Watched<W>, tours: &[Vec<u32>])
-    ensures { Carried (way_of W.contents out.old piece.old.items) (way_of W.contents out.new piece.new.items)
+    ensures { Puts W.contents out.old piece.old out.new piece.new
         (flat_map node_list (map (λ t. t.items) tours.now)) }
 {
     'tours: for tour in tours {
@@ -125,13 +121,13 @@ fn put_tours<W: Write>(piece: &mut Piece, out: &mut Watched<W>, tours: &[Vec<u32
 }
 
 /// Adds a section of one number for each node, where the file has it.
-fn put_number_section<W: Write>(
+pub(crate) fn put_number_section<W: Write>(
     piece: &mut Piece,
     out: &mut Watched<W>,
     field: Field,
     numbers: &Option<Vec<i64>>,
 )
-    ensures { Carried (way_of W.contents out.old piece.old.items) (way_of W.contents out.new piece.new.items)
+    ensures { Puts W.contents out.old piece.old out.new piece.new
         (optional (λ numbers. section field (by_node whole_number numbers)) (option_map (λ v. v.items) numbers.now)) }
 {
     if let Some(numbers) = numbers {
@@ -141,13 +137,13 @@ fn put_number_section<W: Write>(
 }
 
 /// Adds a section of coordinates, where the file has it.
-fn put_point_section<W: Write>(
+pub(crate) fn put_point_section<W: Write>(
     piece: &mut Piece,
     out: &mut Watched<W>,
     field: Field,
     points: &Option<Vec<Point>>,
 )
-    ensures { Carried (way_of W.contents out.old piece.old.items) (way_of W.contents out.new piece.new.items)
+    ensures { Puts W.contents out.old piece.old out.new piece.new
         (optional (λ points. section field (by_node point_numbers points)) (option_map (λ v. v.items) points.now)) }
 {
     if let Some(points) = points {
@@ -157,8 +153,8 @@ fn put_point_section<W: Write>(
 }
 
 /// Adds DEPOT_SECTION, where the file has it.
-fn put_depots<W: Write>(piece: &mut Piece, out: &mut Watched<W>, depots: &Option<Vec<u32>>)
-    ensures { Carried (way_of W.contents out.old piece.old.items) (way_of W.contents out.new piece.new.items)
+pub(crate) fn put_depots<W: Write>(piece: &mut Piece, out: &mut Watched<W>, depots: &Option<Vec<u32>>)
+    ensures { Puts W.contents out.old piece.old out.new piece.new
         (optional (λ depots. section Field.DepotPart (node_list depots)) (option_map (λ v. v.items) depots.now)) }
 {
     if let Some(depots) = depots {
@@ -168,8 +164,8 @@ fn put_depots<W: Write>(piece: &mut Piece, out: &mut Watched<W>, depots: &Option
 }
 
 /// Adds FIXED_EDGES_SECTION, where the file has it.
-fn put_fixed<W: Write>(piece: &mut Piece, out: &mut Watched<W>, pairs: &Option<Vec<(u32, u32)>>)
-    ensures { Carried (way_of W.contents out.old piece.old.items) (way_of W.contents out.new piece.new.items)
+pub(crate) fn put_fixed<W: Write>(piece: &mut Piece, out: &mut Watched<W>, pairs: &Option<Vec<(u32, u32)>>)
+    ensures { Puts W.contents out.old piece.old out.new piece.new
         (optional (λ pairs. section Field.FixedEdgesPart (pair_list pairs)) (option_map (λ v. v.items) pairs.now)) }
 {
     if let Some(pairs) = pairs {
@@ -179,44 +175,16 @@ fn put_fixed<W: Write>(piece: &mut Piece, out: &mut Watched<W>, pairs: &Option<V
 }
 
 /// Adds TOUR_SECTION, where the file has it.
-fn put_tour_section<W: Write>(
+pub(crate) fn put_tour_section<W: Write>(
     piece: &mut Piece,
     out: &mut Watched<W>,
     tours: &Option<Vec<Vec<u32>>>,
 )
-    ensures { Carried (way_of W.contents out.old piece.old.items) (way_of W.contents out.new piece.new.items)
+    ensures { Puts W.contents out.old piece.old out.new piece.new
         (optional (λ tours. section Field.TourPart (flat_map node_list tours)) (option_map (λ v. map (λ t. t.items) v.items) tours.now)) }
 {
     if let Some(tours) = tours {
         put_opening(piece, out, Field::TourPart);
         put_tours(piece, out, tours);
     }
-}
-
-/// Adds the sections in canonical order.
-pub(crate) fn put_sections<W: Write>(piece: &mut Piece, out: &mut Watched<W>, draft: &Draft)
-    ensures { Carried (way_of W.contents out.old piece.old.items) (way_of W.contents out.new piece.new.items)
-        (joined (section_texts (fields_of draft.now))) }
-{
-    put_point_section(piece, out, Field::NodeCoordPart, &draft.coords);
-    put_point_section(piece, out, Field::DisplayDataPart, &draft.display);
-    put_number_section(piece, out, Field::DemandPart, &draft.demands);
-    put_depots(piece, out, &draft.depots);
-    put_fixed(piece, out, &draft.fixed);
-    put_weight_section(
-        piece,
-        out,
-        draft.weight_format,
-        draft.dimension,
-        &draft.weights,
-    );
-    put_tour_section(piece, out, &draft.tours);
-    put_number_section(piece, out, Field::NodePotentialPart, &draft.node_potentials);
-    put_number_section(piece, out, Field::RowPotentialPart, &draft.row_potentials);
-    put_number_section(
-        piece,
-        out,
-        Field::ColumnPotentialPart,
-        &draft.column_potentials,
-    );
 }
