@@ -11,20 +11,20 @@ use Rattle.tsp_read.specs.Parts.{NumbersHold, PointsHold, DepotsHold, PairsHold,
 
 -- its numbers are of this range
 pub record HoldsNumbers (part : NumberList) (low high : ℤ) (n : ℕ) (words : List (List ℕ)) : Type 0 where
-  pub low : part.low ≡ low
-  pub high : part.high ≡ high
-  pub words : NumbersHold part.seen.items part.entries.items part.left part.begun low high n words
+  pub from : part.low ≡ low
+  pub to : part.high ≡ high
+  pub read : NumbersHold part.seen.items part.entries.items part.left part.begun low high n words
 
 abbrev pub HoldsPoints : PointList → ℕ → List (List ℕ) → Type 0
 HoldsPoints part n words = PointsHold part.seen.items part.entries.items part.left part.begun part.x n words
 
 pub record HoldsDepots (part : DepotList) (n : ℕ) (words : List (List ℕ)) : Type 0 where
-  pub n : part.n ≡ n
-  pub words : DepotsHold part.depots.items part.ended n words
+  pub nodes : part.n ≡ n
+  pub read : DepotsHold part.depots.items part.ended n words
 
 pub record HoldsFixed (part : FixedList) (n : ℕ) (words : List (List ℕ)) : Type 0 where
-  pub n : part.n ≡ n
-  pub words : PairsHold part.pairs.items part.first part.ended n words
+  pub nodes : part.n ≡ n
+  pub read : PairsHold part.pairs.items part.first part.ended n words
 
 abbrev pub HoldsWeights : WeightList → ℕ → List (List ℕ) → Type 0
 HoldsWeights part n words = WeightsHold part.weights.items part.most n words

@@ -100,21 +100,21 @@ pub record PointsHold (seen : List Bool) (entries : List Point) (left : ℕ) (be
 
 pub record DepotsHold (depots : List ℕ) (ended : Bool) (n : ℕ) (words : List (List ℕ)) : Type 0 where
   pub list : depots ≡ depots_in n words
-  pub ended : ended ≡ list_any (is_end n) words
+  pub closed : ended ≡ list_any (is_end n) words
   pub count : ended ≡ false → length depots ≡ length words
 
 pub record PairsHold (pairs : List (ℕ × ℕ)) (first : Option ℕ) (ended : Bool) (n : ℕ) (words : List (List ℕ)) : Type 0 where
   pub list : pairs ≡ fixed_in n words
-  pub ended : ended ≡ list_any (is_end n) (firsts_in words)
+  pub closed : ended ≡ list_any (is_end n) (firsts_in words)
   pub cut : ended ≡ false → map (node_or_end n) (begun_pair words) ≡ readings first
   pub count : ended ≡ false → length pairs ≡ length (pairs_in words)
-  pub closed : ended ≡ true → first ≡ None
+  pub whole : ended ≡ true → first ≡ None
 
 -- ---- weights
 
 pub record WeightsHold (weights : List ℤ) (most : ℕ) (n : ℕ) (words : List (List ℕ)) : Type 0 where
   pub list : weights ≡ weights_in words
-  pub most : most ≡ n * n
+  pub room : most ≡ n * n
   pub few : length words ≤ n * n
 
 -- ---- tours
@@ -124,11 +124,11 @@ pub record ToursHold (done : List (List ℕ)) (run : List ℕ) (count : ℕ) (wo
   pub pieces : List (List (List ℕ))
   pub last : List (List ℕ)
   pub split : slice_split ends_tour words ≡ pieces ++ last ∷ []
-  pub done : done ≡ map (map tour_node) (filter is_filled pieces)
-  pub run : run ≡ map tour_node last
-  pub count : count ≡ length (filter (λ word. not (ends_tour word)) words)
+  pub tours : done ≡ map (map tour_node) (filter is_filled pieces)
+  pub rest : run ≡ map tour_node last
+  pub nodes : count ≡ length (filter (λ word. not (ends_tour word)) words)
 
 -- the run is among the tours, and the next has nothing yet
 pub record EndsRun (done : List (List ℕ)) (run : List ℕ) (words : List (List ℕ)) : Type 0 where
-  pub done : done ≡ tours_in words
-  pub run : run ≡ []
+  pub tours : done ≡ tours_in words
+  pub rest : run ≡ []
