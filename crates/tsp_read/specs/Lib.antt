@@ -16,3 +16,5 @@ pub mod Text
 pub mod Examples
 pub mod Parts
 pub mod Held
+pub mod Open
+pub mod Holds

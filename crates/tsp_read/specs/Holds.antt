@@ -1,0 +1,79 @@
+-- What the state of the reader holds of the items so far (nearest first).
+use Rattle.std.specs.Prelude.{◌≡◌, ℕ, Bool, true, false, not, ◌&&◌, List, [], ◌∷◌, Option, None, Some, is_some, Result, Ok, Err}
+use Rattle.tsp_value.specs.declared.field.Field.{Field}
+use Rattle.tsp_value.specs.declared.field.Field.TheVariants.{NameKey, TypeKey, DimensionKey, CapacityKey, ScaleKey, EdgeWeightTypeKey, EdgeWeightFormatKey, NodeCoordTypeKey, DisplayDataTypeKey, NodeCoordPart, DisplayDataPart, DemandPart, FixedEdgesPart, TourPart, NodePotentialPart, RowPotentialPart, ColumnPotentialPart}
+use Rattle.tsp_fields.specs.Fields.{Fields, fields_of}
+use Rattle.tsp_read.specs.declared.fault.StepFault.{StepFault}
+use Rattle.tsp_read.specs.declared.fault.StepFault.TheVariants as steps
+use Rattle.tsp_read.specs.declared.state.part.Part.{Part}
+use Rattle.tsp_read.specs.declared.state.reading.Incomplete.{Incomplete}
+use Rattle.tsp_read.specs.declared.state.reading.Reading.{Reading}
+use Rattle.tsp_read.specs.Items.{Item}
+use Rattle.tsp_read.specs.Earlier.{same_field, is_section_field, has_line, open_section, is_open, words_of}
+use Rattle.tsp_read.specs.Sections.{nodes_of}
+use Rattle.tsp_read.specs.Rows.{row_of}
+use Rattle.tsp_read.specs.FirstFault.{IsClean}
+use Rattle.tsp_read.specs.Spells.{fields_by, is_incomplete}
+use Rattle.tsp_read.specs.Open.{section_of, PartHolds}
+
+-- the section stands and no longer takes words
+abbrev pub is_closed : List Item → Field → Bool
+is_closed earlier field = not (is_open field (open_section earlier)) && has_line field earlier
+
+abbrev pub is_closed_incomplete : List Item → Field → Bool
+is_closed_incomplete earlier field = not (is_open field (open_section earlier)) && is_incomplete earlier field
+
+-- a keyword stands exactly where its field does
+pub record KeywordsStand (fields : Fields) (earlier : List Item) : Type 0 where
+  pub of_name : is_some fields.name ≡ has_line NameKey earlier
+  pub of_kind : is_some fields.kind ≡ has_line TypeKey earlier
+  pub of_dimension : is_some fields.dimension ≡ has_line DimensionKey earlier
+  pub of_capacity : is_some fields.capacity ≡ has_line CapacityKey earlier
+  pub of_scale : is_some fields.scale ≡ has_line ScaleKey earlier
+  pub of_weight_kind : is_some fields.weight_kind ≡ has_line EdgeWeightTypeKey earlier
+  pub of_weight_format : is_some fields.weight_format ≡ has_line EdgeWeightFormatKey earlier
+  pub of_coord_kind : is_some fields.coord_kind ≡ has_line NodeCoordTypeKey earlier
+  pub of_display_kind : is_some fields.display_kind ≡ has_line DisplayDataTypeKey earlier
+
+-- a section other than the tours stands only after DIMENSION
+abbrev pub AreAfterDimension : List Item → Type 0
+AreAfterDimension earlier = (field : Field) → is_section_field field ≡ true → same_field TourPart field ≡ false → has_line field earlier ≡ true → has_line DimensionKey earlier ≡ true
+
+-- the flags of the sections that can be incomplete
+pub record FlagsHold (flags : Incomplete) (test : Field → Bool) : Type 0 where
+  pub of_coords : flags.coords ≡ test NodeCoordPart
+  pub of_display : flags.display ≡ test DisplayDataPart
+  pub of_demands : flags.demands ≡ test DemandPart
+  pub of_fixed : flags.fixed ≡ test FixedEdgesPart
+  pub of_node_potentials : flags.node_potentials ≡ test NodePotentialPart
+  pub of_row_potentials : flags.row_potentials ≡ test RowPotentialPart
+  pub of_column_potentials : flags.column_potentials ≡ test ColumnPotentialPart
+
+-- the open section's part has its words
+abbrev pub OpenHolds : Option Part → List Item → Type 0
+OpenHolds None earlier = open_section earlier ≡ None
+OpenHolds (Some part) earlier = (open_section earlier ≡ Some (section_of part)) × PartHolds part (nodes_of earlier) (words_of (section_of part) earlier)
+
+-- no item has a fault, and the state has what the items spell but for the section that is open, and that section's words
+pub record Holds (reading : Reading) (earlier : List Item) : Type 0 where
+  pub clean : IsClean earlier
+  pub late : AreAfterDimension earlier
+  pub stand : KeywordsStand (fields_of reading.draft) earlier
+  pub spelled : fields_of reading.draft ≡ fields_by (is_closed earlier) earlier
+  pub flagged : FlagsHold reading.incomplete (is_closed_incomplete earlier)
+  pub part : OpenHolds reading.open_part earlier
+
+-- the same where no section is open: of the items all that they spell
+pub record Closed (reading : Reading) (earlier : List Item) : Type 0 where
+  pub clean : IsClean earlier
+  pub late : AreAfterDimension earlier
+  pub stand : KeywordsStand (fields_of reading.draft) earlier
+  pub spelled : fields_of reading.draft ≡ fields_by (λ field. has_line field earlier) earlier
+  pub flagged : FlagsHold reading.incomplete (is_incomplete earlier)
+  pub part : reading.open_part ≡ None
+
+-- What a step answers for an item: its fault, or none and the state holds that item too.
+abbrev pub Answers : List Item → Item → Reading → Result (Unit {0}) StepFault → Type 0
+Answers earlier item new (Ok done) = Holds new (item ∷ earlier)
+Answers earlier item new (Err steps.Memory) = Unit {0}
+Answers earlier item new (Err (steps.Fault fault)) = row_of earlier item ≡ Some fault

@@ -1,0 +1,4 @@
+//! What was read so far.
+
+pub(crate) mod part;
+pub(crate) mod reading;
