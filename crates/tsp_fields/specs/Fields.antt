@@ -1,8 +1,10 @@
 -- What a file holds, as lists.
-use Rattle.std.specs.Prelude.{ℕ, List, [], map, Option, None, ℤ}
+use Rattle.std.specs.Prelude.{ℕ, Bool, true, List, [], map, Option, None, ℤ, is_some}
 use Rattle.std.specs.Option.{option_map}
 use Rattle.tsp_number.specs.declared.decimal.Point.{Point}
-use Rattle.tsp_fields.specs.declared.draft.Draft.{Draft}
+use Rattle.tsp_value.specs.declared.field.Field.{Field}
+use Rattle.tsp_value.specs.declared.field.Field.TheVariants.{NameKey, TypeKey, CommentKey, OtherKey, DimensionKey, CapacityKey, ScaleKey, EdgeWeightTypeKey, EdgeWeightFormatKey, NodeCoordTypeKey, DisplayDataTypeKey, NodeCoordPart, DisplayDataPart, DemandPart, DepotPart, FixedEdgesPart, EdgeWeightPart, TourPart, NodePotentialPart, RowPotentialPart, ColumnPotentialPart}
+use Rattle.tsp_fields.specs.declared.file.Draft.{Draft}
 use Rattle.tsp_value.specs.declared.kinds.Kind.{Kind}
 use Rattle.tsp_value.specs.declared.kinds.WeightKind.{WeightKind}
 use Rattle.tsp_value.specs.declared.kinds.WeightFormat.{WeightFormat}
@@ -84,3 +86,27 @@ fields_of d = record {
   row_potentials = option_map (λ v. v.items) d.row_potentials;
   column_potentials = option_map (λ v. v.items) d.column_potentials;
 }
+
+-- whether a field stands; comments and unknown keywords may be none
+abbrev pub stands_in : Fields → Field → Bool
+stands_in f NameKey = is_some f.name
+stands_in f TypeKey = is_some f.kind
+stands_in f CommentKey = true
+stands_in f OtherKey = true
+stands_in f DimensionKey = is_some f.dimension
+stands_in f CapacityKey = is_some f.capacity
+stands_in f ScaleKey = is_some f.scale
+stands_in f EdgeWeightTypeKey = is_some f.weight_kind
+stands_in f EdgeWeightFormatKey = is_some f.weight_format
+stands_in f NodeCoordTypeKey = is_some f.coord_kind
+stands_in f DisplayDataTypeKey = is_some f.display_kind
+stands_in f NodeCoordPart = is_some f.coords
+stands_in f DisplayDataPart = is_some f.display
+stands_in f DemandPart = is_some f.demands
+stands_in f DepotPart = is_some f.depots
+stands_in f FixedEdgesPart = is_some f.fixed
+stands_in f EdgeWeightPart = is_some f.weights
+stands_in f TourPart = is_some f.tours
+stands_in f NodePotentialPart = is_some f.node_potentials
+stands_in f RowPotentialPart = is_some f.row_potentials
+stands_in f ColumnPotentialPart = is_some f.column_potentials

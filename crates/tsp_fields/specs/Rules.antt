@@ -9,13 +9,13 @@ use Rattle.tsp_value.specs.declared.kinds.WeightKind.TheVariants as weight_kinds
 use Rattle.tsp_value.specs.declared.kinds.WeightFormat.{WeightFormat}
 use Rattle.tsp_value.specs.declared.kinds.WeightFormat.TheVariants as formats
 use Rattle.tsp_value.specs.declared.field.Field.{Field}
-use Rattle.tsp_value.specs.declared.field.Field.TheVariants.{NameKey, TypeKey, CommentKey, OtherKey, DimensionKey, CapacityKey, ScaleKey, EdgeWeightTypeKey, EdgeWeightFormatKey, NodeCoordTypeKey, DisplayDataTypeKey, NodeCoordPart, DisplayDataPart, DemandPart, DepotPart, FixedEdgesPart, EdgeWeightPart, TourPart, NodePotentialPart, RowPotentialPart, ColumnPotentialPart}
+use Rattle.tsp_value.specs.declared.field.Field.TheVariants.{TypeKey, DimensionKey, CapacityKey, EdgeWeightTypeKey, EdgeWeightFormatKey, NodeCoordPart, DemandPart, DepotPart, EdgeWeightPart, TourPart, NodePotentialPart, RowPotentialPart, ColumnPotentialPart}
 use Rattle.tsp_fields.specs.declared.fault.EndFault.{EndFault}
 use Rattle.tsp_fields.specs.declared.fault.EndFault.TheVariants.{Missing, Incomplete, WrongFormat, WrongCount}
 use Rattle.tsp_fields.specs.declared.fault.DraftFault.{DraftFault}
 use Rattle.tsp_fields.specs.declared.fault.DraftFault.TheVariants.{BadField, Rule}
 use Rattle.tsp_value.specs.Cells.{cells}
-use Rattle.tsp_fields.specs.Fields.{Fields}
+use Rattle.tsp_fields.specs.Fields.{Fields, stands_in}
 use Rattle.tsp_fields.specs.Validity.{first_failing, bad_field}
 
 -- ---- what stands
@@ -28,30 +28,6 @@ pub record Standing : Type 0 where
   pub weight_format : Option WeightFormat
   pub dimension : Option ℕ
   pub weight_count : ℕ
-
--- whether a field stands; comments and unknown keywords may be none
-abbrev pub stands_in : Fields → Field → Bool
-stands_in f NameKey = is_some f.name
-stands_in f TypeKey = is_some f.kind
-stands_in f CommentKey = true
-stands_in f OtherKey = true
-stands_in f DimensionKey = is_some f.dimension
-stands_in f CapacityKey = is_some f.capacity
-stands_in f ScaleKey = is_some f.scale
-stands_in f EdgeWeightTypeKey = is_some f.weight_kind
-stands_in f EdgeWeightFormatKey = is_some f.weight_format
-stands_in f NodeCoordTypeKey = is_some f.coord_kind
-stands_in f DisplayDataTypeKey = is_some f.display_kind
-stands_in f NodeCoordPart = is_some f.coords
-stands_in f DisplayDataPart = is_some f.display
-stands_in f DemandPart = is_some f.demands
-stands_in f DepotPart = is_some f.depots
-stands_in f FixedEdgesPart = is_some f.fixed
-stands_in f EdgeWeightPart = is_some f.weights
-stands_in f TourPart = is_some f.tours
-stands_in f NodePotentialPart = is_some f.node_potentials
-stands_in f RowPotentialPart = is_some f.row_potentials
-stands_in f ColumnPotentialPart = is_some f.column_potentials
 
 abbrev pub count_of : {A : Type 0} → Option (List A) → ℕ
 count_of None = 0

@@ -3,12 +3,12 @@ use Rattle.std.specs.Prelude.{ℕ, ◌+◌, ◌-◌, ◌*◌, Bool, true, false,
 use Rattle.std.specs.List.{list_all, find, sum_by}
 use Rattle.tsp_number.specs.declared.decimal.Point.{Point}
 use Rattle.tsp_value.specs.declared.field.Field.{Field}
-use Rattle.tsp_value.specs.declared.field.Field.TheVariants.{NameKey, TypeKey, CommentKey, OtherKey, DimensionKey, CapacityKey, ScaleKey, EdgeWeightTypeKey, EdgeWeightFormatKey, NodeCoordTypeKey, DisplayDataTypeKey, NodeCoordPart, DisplayDataPart, DemandPart, DepotPart, FixedEdgesPart, EdgeWeightPart, TourPart, NodePotentialPart, RowPotentialPart, ColumnPotentialPart}
+use Rattle.tsp_value.specs.declared.field.Field.TheVariants.{NameKey, CommentKey, OtherKey, DimensionKey, CapacityKey, ScaleKey, NodeCoordPart, DisplayDataPart, DemandPart, DepotPart, FixedEdgesPart, EdgeWeightPart, TourPart, NodePotentialPart, RowPotentialPart, ColumnPotentialPart}
 use Rattle.tsp_value.specs.Limits.{most_nodes, most_matrix_nodes, most_coordinate, most_weight, most_demand, most_capacity, most_scale, most_potential, most_kept_bytes, most_comments, most_others, most_depots, most_fixed, most_tour_nodes}
 use Rattle.tsp_value.specs.Bytes.{is_blank, is_letter, is_keyword_byte}
 use Rattle.tsp_value.specs.Words.{field_word}
 use Rattle.tsp_value.specs.Keywords.{keyword_of, is_unknown}
-use Rattle.tsp_value.specs.Values.{fields_in_order}
+use Rattle.tsp_value.specs.Words.{fields_in_order}
 use Rattle.tsp_fields.specs.Fields.{Fields}
 
 -- a field that is missing is valid

@@ -1,7 +1,7 @@
 //! Why a draft is no file.
 
-use tsp_value::Field;
 use thiserror::Error;
+use tsp_value::Field;
 
 /// What is wrong with the fields of a file together, in the order in which it is judged.
 #[derive(Clone, Copy, Debug, PartialEq, Eq, Error)]

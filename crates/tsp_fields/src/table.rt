@@ -4,16 +4,13 @@ ghost use Rattle.std.specs.Prelude.{◌≡◌, ℕ, Bool, List, Some, MatchResul
 ghost use Rattle.std.specs.Option.{option_map};
 ghost use Rattle.tsp_value.specs.Limits.{most_nodes, most_potential};
 ghost use Rattle.tsp_value.specs.Words.{field_word};
-ghost use Rattle.tsp_fields.specs.Fields.{fields_of};
-ghost use Rattle.tsp_fields.specs.Rules.{stands_in};
+ghost use Rattle.tsp_fields.specs.Fields.{fields_of, stands_in};
 ghost use Rattle.tsp_fields.specs.Validity.{if_there, with_dimension, is_by_node, is_kept, is_node, is_from_to, is_within, is_point, is_demand, are_comments, are_others, are_depots, are_fixed, are_weights, are_tours, fits, first_failing, bad_field};
 
-use crate::draft::Draft;
+use crate::file::Draft;
 use crate::validity;
 use tsp_number::Point;
-use tsp_value::{
-    Field, MOST_CAPACITY, MOST_COMMENTS, MOST_NODES, MOST_OTHERS, MOST_SCALE, Word,
-};
+use tsp_value::{Field, MOST_CAPACITY, MOST_COMMENTS, MOST_NODES, MOST_OTHERS, MOST_SCALE, Word};
 
 /// Whether a field stands in a draft; comments and unknown keywords may be none.
 pub(crate) fn stands(draft: &Draft, field: Field) -> bool
@@ -138,7 +135,10 @@ fn is_from_one(number: Option<i64>, most: i64) -> bool
 
 /// The number of nodes and the entries of a section; or, where there are none to judge, whether the
 /// section is valid: it is where it is missing, and isn't without a number of nodes.
-fn section<'a, T>(dimension: Option<u32>, entries: &'a Option<Vec<T>>) -> Result<(u32, &'a [T]), bool>
+fn section<'a, T>(
+    dimension: Option<u32>,
+    entries: &'a Option<Vec<T>>,
+) -> Result<(u32, &'a [T]), bool>
     ensures { MatchResult result
         (λ found. (dimension ≡ Some found.0) × (option_map (λ v. v.items) entries.now ≡ Some found.1.now))
         (λ valid. (fits : ℕ → List T → Bool) → valid ≡ if_there (with_dimension fits dimension) (option_map (λ v. v.items) entries.now)) }

@@ -48,9 +48,7 @@ pub(crate) fn are_kept(comments: &[Vec<u8>]) -> bool
     ensures { result ≡
         list_all (λ comment. is_kept (field_word Field.CommentKey) comment.items) comments.now }
 {
-    comments
-        .iter()
-        .all(|comment| is_kept(Field::CommentKey.word().as_bytes(), comment))
+    comments.iter().all(|comment| is_kept(Field::CommentKey.word().as_bytes(), comment))
 }
 
 /// Whether every byte can stand in a keyword.

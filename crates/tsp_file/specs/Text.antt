@@ -9,7 +9,7 @@ use Rattle.tsp_value.specs.declared.kinds.WeightFormat.TheVariants.{Listed}
 use Rattle.tsp_value.specs.declared.field.Field.{Field}
 use Rattle.tsp_value.specs.declared.field.Field.TheVariants.{NameKey, TypeKey, CommentKey, OtherKey, DimensionKey, CapacityKey, ScaleKey, EdgeWeightTypeKey, EdgeWeightFormatKey, NodeCoordTypeKey, DisplayDataTypeKey, NodeCoordPart, DisplayDataPart, DemandPart, DepotPart, FixedEdgesPart, EdgeWeightPart, TourPart, NodePotentialPart, RowPotentialPart, ColumnPotentialPart}
 use Rattle.tsp_value.specs.Words.{field_word, kind_word, weight_kind_word, weight_format_word, coord_kind_word, display_kind_word}
-use Rattle.tsp_value.specs.Values.{fields_in_order}
+use Rattle.tsp_value.specs.Words.{fields_in_order}
 use Rattle.tsp_value.specs.Cells.{nodes_to, cells_of_line}
 use Rattle.tsp_fields.specs.Fields.{Fields}
 

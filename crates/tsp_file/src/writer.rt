@@ -58,12 +58,7 @@ fn write_draft<W: Write>(draft: &Draft, out: &mut Watched<W>) -> Result<(), Writ
 }
 
 /// Adds the texts of some fields, one after the other.
-fn put_fields<W: Write>(
-    piece: &mut Piece,
-    out: &mut Watched<W>,
-    draft: &Draft,
-    fields: &[Field],
-)
+fn put_fields<W: Write>(piece: &mut Piece, out: &mut Watched<W>, draft: &Draft, fields: &[Field])
     ensures { Puts W.contents out.old piece.old out.new piece.new
         (flat_map (text_of_field (fields_of draft.now)) fields.now) }
 {

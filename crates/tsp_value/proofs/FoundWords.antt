@@ -1,5 +1,5 @@
 -- The value with a word, found in the list of all values.
-use Rattle.std.proofs.Common.{◌≡◌, ◌≢◌, ℕ, Bool, true, false, cond, List, [], ◌∷◌, Option, None, Some, refl, sym, ap, subst, ◌∙◌}
+use Rattle.std.proofs.Common.{◌≡◌, ◌≢◌, ℕ, Bool, true, false, cond, List, [], ◌∷◌, Option, None, Some, refl, sym, subst, ◌∙◌}
 use Rattle.std.specs.Prelude.{◌↔◌, IsNone}
 use Rattle.std.specs.List.{find}
 use Rattle.std.specs.Str.{bytes_eq}

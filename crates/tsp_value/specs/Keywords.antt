@@ -1,5 +1,5 @@
 -- What the keyword of a line is. Source: TSPLIB 95 (G. Reinelt); which words are refused, kept or this project's own is its profile's choice.
-use Rattle.std.specs.Prelude.{ℕ, Bool, true, false, ◌&&◌, cond, List, Option, None, Some, codes}
+use Rattle.std.specs.Prelude.{ℕ, Bool, true, false, cond, List, Option, None, Some, codes}
 use Rattle.std.specs.List.{find}
 use Rattle.std.specs.Str.{bytes_eq}
 use Rattle.tsp_value.specs.declared.field.Field.{Field}
@@ -7,7 +7,7 @@ use Rattle.tsp_value.specs.declared.field.Field.TheVariants.{OtherKey, FixedEdge
 use Rattle.tsp_value.specs.declared.keyword.Keyword.{Keyword}
 use Rattle.tsp_value.specs.declared.keyword.Keyword.TheVariants.{Known, EdgeDataFormat, EdgeDataSection, Eof, Unknown}
 use Rattle.tsp_value.specs.Words.{field_word}
-use Rattle.tsp_value.specs.Values.{fields_in_order}
+use Rattle.tsp_value.specs.Words.{fields_in_order}
 
 -- the unknown keywords are the one field without a word of its own
 abbrev pub is_others : Field → Bool

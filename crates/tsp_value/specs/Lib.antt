@@ -3,5 +3,4 @@ pub mod Cells
 pub mod Keywords
 pub mod Layout
 pub mod Limits
-pub mod Values
 pub mod Words

@@ -2,7 +2,7 @@
 
 ghost use Rattle.std.specs.Prelude.{◌≡◌};
 ghost use Rattle.tsp_value.specs.Words.{field_word};
-ghost use Rattle.tsp_value.specs.Values.{fields_in_order, field_found};
+ghost use Rattle.tsp_value.specs.Words.{fields_in_order, field_found};
 
 use crate::word::Word;
 use std::fmt;

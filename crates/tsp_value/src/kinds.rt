@@ -2,7 +2,7 @@
 
 ghost use Rattle.std.specs.Prelude.{◌≡◌};
 ghost use Rattle.tsp_value.specs.Words.{kind_word, weight_kind_word, weight_format_word, coord_kind_word, display_kind_word};
-ghost use Rattle.tsp_value.specs.Values.{kinds, weight_kinds, weight_formats, coord_kinds, display_kinds, kind_found, weight_kind_found, weight_format_found, coord_kind_found, display_kind_found};
+ghost use Rattle.tsp_value.specs.Words.{kinds, weight_kinds, weight_formats, coord_kinds, display_kinds, kind_found, weight_kind_found, weight_format_found, coord_kind_found, display_kind_found};
 
 use crate::layout::Layout;
 use crate::word::Word;
@@ -160,10 +160,7 @@ pub enum CoordKind {
 
 impl CoordKind {
     /// Each value.
-    pub const ALL: [CoordKind; 2] = [
-        CoordKind::TwoD,
-        CoordKind::NoCoords,
-    ];
+    pub const ALL: [CoordKind; 2] = [CoordKind::TwoD, CoordKind::NoCoords];
 }
 
 impl Word for CoordKind {

@@ -4,7 +4,7 @@ ghost use Rattle.std.specs.Prelude.{◌≡◌, ◌≢◌, ℕ, ◌≤◌, ◌↔
 ghost use Rattle.std.specs.List.{Contains, AllPairs, flat_map};
 ghost use Rattle.tsp_value.specs.declared.layout.Layout.{Layout};
 ghost use Rattle.tsp_value.specs.Layout.{layout_word, goes_by_columns};
-ghost use Rattle.tsp_value.specs.Values.{layouts, layout_found};
+ghost use Rattle.tsp_value.specs.Words.{layouts, layout_found};
 ghost use Rattle.tsp_value.specs.Cells.{nodes_to, IsNode, is_listed, cells, cells_of_line, cell_count_of, line_len_of};
 
 use crate::word::{Word, value_of};

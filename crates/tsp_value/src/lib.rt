@@ -15,6 +15,9 @@ pub use keyword::Keyword;
 pub use kinds::{CoordKind, DisplayKind, Kind, WeightFormat, WeightKind};
 pub use layout::{Layout, cells_are_distinct, cells_are_the_listed_pairs, cells_go_line_by_line};
 pub use limits::{
-    MOST_NODES, MOST_MATRIX_NODES, MOST_COORDINATE, MOST_WEIGHT, MOST_DEMAND, MOST_CAPACITY, MOST_SCALE, MOST_POTENTIAL, MOST_WORD_BYTES, MOST_LINE_BYTES, MOST_KEPT_BYTES, MOST_COMMENTS, MOST_OTHERS, MOST_DEPOTS, MOST_FIXED, MOST_TOUR_NODES, MOST_FILE_BYTES, limits_are_those_of_the_profile,
+    MOST_CAPACITY, MOST_COMMENTS, MOST_COORDINATE, MOST_DEMAND, MOST_DEPOTS, MOST_FILE_BYTES,
+    MOST_FIXED, MOST_KEPT_BYTES, MOST_LINE_BYTES, MOST_MATRIX_NODES, MOST_NODES, MOST_OTHERS,
+    MOST_POTENTIAL, MOST_SCALE, MOST_TOUR_NODES, MOST_WEIGHT, MOST_WORD_BYTES,
+    limits_are_those_of_the_profile,
 };
 pub use word::{Word, value_of};

@@ -71,7 +71,11 @@ pub(crate) fn put_comments<W: Write>(piece: &mut Piece, out: &mut Watched<W>, co
 }
 
 /// Adds the lines of the unknown keywords.
-pub(crate) fn put_others<W: Write>(piece: &mut Piece, out: &mut Watched<W>, others: &[(Vec<u8>, Vec<u8>)])
+pub(crate) fn put_others<W: Write>(
+    piece: &mut Piece,
+    out: &mut Watched<W>,
+    others: &[(Vec<u8>, Vec<u8>)],
+)
     ensures { Puts W.contents out.old piece.old out.new piece.new
         (flat_map other_line (map (λ p. (p.0.items, p.1.items)) others.now)) }
 {

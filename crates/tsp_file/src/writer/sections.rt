@@ -153,7 +153,11 @@ pub(crate) fn put_point_section<W: Write>(
 }
 
 /// Adds DEPOT_SECTION, where the file has it.
-pub(crate) fn put_depots<W: Write>(piece: &mut Piece, out: &mut Watched<W>, depots: &Option<Vec<u32>>)
+pub(crate) fn put_depots<W: Write>(
+    piece: &mut Piece,
+    out: &mut Watched<W>,
+    depots: &Option<Vec<u32>>,
+)
     ensures { Puts W.contents out.old piece.old out.new piece.new
         (optional (λ depots. section Field.DepotPart (node_list depots)) (option_map (λ v. v.items) depots.now)) }
 {
@@ -164,7 +168,11 @@ pub(crate) fn put_depots<W: Write>(piece: &mut Piece, out: &mut Watched<W>, depo
 }
 
 /// Adds FIXED_EDGES_SECTION, where the file has it.
-pub(crate) fn put_fixed<W: Write>(piece: &mut Piece, out: &mut Watched<W>, pairs: &Option<Vec<(u32, u32)>>)
+pub(crate) fn put_fixed<W: Write>(
+    piece: &mut Piece,
+    out: &mut Watched<W>,
+    pairs: &Option<Vec<(u32, u32)>>,
+)
     ensures { Puts W.contents out.old piece.old out.new piece.new
         (optional (λ pairs. section Field.FixedEdgesPart (pair_list pairs)) (option_map (λ v. v.items) pairs.now)) }
 {

@@ -1,7 +1,7 @@
 use Rattle.std.proofs.Common.{[], ◌∙◌, sym}
 use Rattle.std.specs.Prelude.{codes}
 use Rattle.std.specs.List.{flat_map}
-use Rattle.tsp_value.specs.Values.{fields_in_order}
+use Rattle.tsp_value.specs.Words.{fields_in_order}
 use Rattle.tsp_fields.specs.Fields.{fields_of}
 use Rattle.tsp_file.specs.Text.{text_of_field, text_of}
 use Rattle.tsp_stream.specs.Way.{way_of}
