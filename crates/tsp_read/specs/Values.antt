@@ -16,7 +16,7 @@ use Rattle.tsp_value.specs.declared.field.Field.{Field}
 use Rattle.tsp_value.specs.declared.field.Field.TheVariants.{NameKey, TypeKey, CommentKey, OtherKey, DimensionKey, CapacityKey, ScaleKey, EdgeWeightTypeKey, EdgeWeightFormatKey, NodeCoordTypeKey, DisplayDataTypeKey, NodeCoordPart, DisplayDataPart, DemandPart, DepotPart, FixedEdgesPart, EdgeWeightPart, TourPart, NodePotentialPart, RowPotentialPart, ColumnPotentialPart}
 use Rattle.tsp_value.specs.Limits.{most_nodes, most_capacity, most_scale}
 use Rattle.tsp_value.specs.Words.{kind_word, weight_kind_word, weight_format_word, coord_kind_word, display_kind_word}
-use Rattle.tsp_value.specs.Values.{kinds, weight_kinds, weight_formats, coord_kinds, display_kinds}
+use Rattle.tsp_value.specs.Words.{kinds, weight_kinds, weight_formats, coord_kinds, display_kinds}
 use Rattle.tsp_read.specs.Lines.{first_word}
 use Rattle.tsp_read.specs.Items.{Item}
 use Rattle.tsp_read.specs.Earlier.{value_at}

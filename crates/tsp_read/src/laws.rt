@@ -1,6 +1,6 @@
 //! What always holds of the definitions, as contracts of functions that do nothing.
 
-ghost use Rattle.std.specs.Prelude.{codes, ◌++◌};
+ghost use Rattle.std.specs.Prelude.{codes, ◌++◌, IsTrue, true};
 ghost use Rattle.tsp_number.specs.declared.fault.NumberFault.TheVariants as numbers;
 ghost use Rattle.tsp_value.specs.declared.field.Field.TheVariants as fields;
 ghost use Rattle.tsp_fields.specs.declared.fault.EndFault.TheVariants as ends;
@@ -80,4 +80,8 @@ pub fn fields_of_texts()
     ensures tours { ToursAre (codes "TYPE:TOUR/TOUR_SECTION/3 -1 -1/4 5/EOF") }
     ensures pairs { PairsAre (codes "TYPE:TOUR/DIMENSION 3/FIXED_EDGES/1 2 +3 1.0 -1/TOUR_SECTION") }
     ensures demands { DemandsAre (codes "DIMENSION : 3/DEMAND_SECTION/2 7/3 9 1/5") }
+{}
+
+fn scratch()
+    ensures { IsTrue true }
 {}
