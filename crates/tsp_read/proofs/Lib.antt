@@ -1,2 +1,4 @@
 pub mod Clean
 pub mod WordSteps
+pub mod Taken
+pub mod PartSteps
