@@ -2,3 +2,4 @@ pub mod Clean
 pub mod WordSteps
 pub mod Taken
 pub mod PartSteps
+pub mod CloseSteps
