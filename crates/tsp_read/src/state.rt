@@ -1,4 +1,5 @@
 //! What was read so far.
 
+pub(crate) mod line;
 pub(crate) mod part;
 pub(crate) mod reading;
