@@ -1,11 +1,14 @@
 -- A word line that is cut into its parts, and the rows of its value alone.
-use Rattle.std.specs.Prelude.{◌≡◌, ℕ, ℤ, Bool, true, false, not, List, [], ◌∷◌, Option, None, Some, is_none, Result, Ok, Err}
+use Rattle.std.specs.Prelude.{◌≡◌, ℕ, ℤ, Bool, true, false, not, List, [], ◌∷◌, Option, None, Some, is_none, is_some, Result, Ok, Err, pos}
 use Rattle.std.specs.Option.{option_map}
 use Rattle.std.specs.Result.{result_err}
 use Rattle.tsp_number.specs.Reading.{whole_of}
 use Rattle.tsp_value.specs.declared.field.Field.{Field}
 use Rattle.tsp_read.specs.declared.fault.LineFault.{LineFault}
 use Rattle.tsp_read.specs.declared.fault.LineFault.TheVariants as row
+use Rattle.tsp_number.specs.declared.fault.NumberFault.{NumberFault}
+use Rattle.tsp_read.specs.declared.fault.StepFault.{StepFault}
+use Rattle.tsp_read.specs.declared.fault.StepFault.TheVariants as steps
 use Rattle.tsp_read.specs.declared.state.line.CutLine.{CutLine}
 use Rattle.tsp_read.specs.Lines.{is_filled, first_word}
 use Rattle.tsp_read.specs.Items.{WordLine, Item, Line}
@@ -38,3 +41,29 @@ ReadsNumber low high value (Err fault) = number_rows low high value ≡ Some fau
 abbrev pub MayOpen : Bool → List ℕ → Option ℕ → Result ℕ LineFault → Type 0
 MayOpen stands value dimension (Ok n) = (stands ≡ false) × (is_filled value ≡ false) × (dimension ≡ Some n)
 MayOpen stands value dimension (Err fault) = first_row (when stands row.Repeated ∷ when (is_filled value) row.SectionValue ∷ when (is_none dimension) row.SectionEarly ∷ []) ≡ Some fault
+
+-- ---- a slot of the draft that a line fills
+
+abbrev pub named_rows : {V : Type 0} → Bool → Bool → Option V → Option LineFault
+named_rows stands out found = first_row (when stands row.Repeated ∷ when out row.Outside ∷ when (is_none found) row.BadValue ∷ [])
+
+-- the value that is named is there now, or the fault of the line
+abbrev pub SetsNamed : {V : Type 0} → (V → List ℕ) → List V → Field → List ℕ → Option V → Option V → Result (Unit {0}) StepFault → Type 0
+SetsNamed text values field word old new (Ok done) = (is_some old ≡ false) × (is_left_out field word ≡ false) × (named text values word ≡ new) × (is_some new ≡ true)
+SetsNamed text values field word old new (Err steps.Memory) = ⊥
+SetsNamed text values field word old new (Err (steps.Fault fault)) = named_rows (is_some old) (is_left_out field word) (named text values word) ≡ Some fault
+
+abbrev pub numbered_rows : Bool → List ℕ → Result ℤ NumberFault → Option LineFault
+numbered_rows stands value reading = first_row (when stands row.Repeated ∷ when (not (is_filled value)) row.BadValue ∷ option_map (λ fault. row.Number fault) (result_err reading) ∷ [])
+
+-- the number that is read is there now, or the fault of the line
+abbrev pub SetsNumber : ℤ → ℤ → List ℕ → Option ℤ → Option ℤ → Result (Unit {0}) StepFault → Type 0
+SetsNumber low high value old new (Ok done) = (is_some old ≡ false) × (is_filled value ≡ true) × (z : ℤ) × (whole_of (first_word value) low high ≡ Ok z) × (new ≡ Some z)
+SetsNumber low high value old new (Err steps.Memory) = ⊥
+SetsNumber low high value old new (Err (steps.Fault fault)) = numbered_rows (is_some old) value (whole_of (first_word value) low high) ≡ Some fault
+
+-- the same of a number of nodes
+abbrev pub SetsCount : ℕ → List ℕ → Option ℕ → Option ℕ → Result (Unit {0}) StepFault → Type 0
+SetsCount most value old new (Ok done) = (is_some old ≡ false) × (is_filled value ≡ true) × (n : ℕ) × (whole_of (first_word value) (pos 1) (pos most) ≡ Ok (pos n)) × (new ≡ Some n)
+SetsCount most value old new (Err steps.Memory) = ⊥
+SetsCount most value old new (Err (steps.Fault fault)) = numbered_rows (is_some old) value (whole_of (first_word value) (pos 1) (pos most)) ≡ Some fault

@@ -3,3 +3,4 @@
 pub(crate) mod line;
 pub(crate) mod part;
 pub(crate) mod reading;
+pub(crate) mod slots;

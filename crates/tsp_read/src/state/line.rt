@@ -1,6 +1,6 @@
 //! A word line in its parts, and what its value is read as.
 
-ghost use Rattle.std.specs.Prelude.{◌≡◌, ℤ};
+ghost use Rattle.std.specs.Prelude.{◌≡◌, ◌≤ℤ◌, ℤ, IfOk};
 ghost use Rattle.std.specs.List.{position};
 ghost use Rattle.tsp_value.specs.Bytes.{is_blank};
 ghost use Rattle.tsp_read.specs.Lines.{first_word, is_filled};
@@ -88,7 +88,8 @@ pub(crate) fn named<V: Word>(field: Field, value: &[u8]) -> Result<V, LineFault>
 
 /// The whole number from `low` to `high` that the first word of a keyword's value is.
 pub(crate) fn number(value: &[u8], low: i64, high: i64) -> Result<i64, LineFault>
-    ensures { ReadsNumber low high value.now result }
+    ensures read { ReadsNumber low high value.now result }
+    ensures within { IfOk result (λ z. (low ≤ℤ z) × (z ≤ℤ high)) }
 {
     if value.is_empty() {
         return Err(LineFault::BadValue);
