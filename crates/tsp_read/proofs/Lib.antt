@@ -3,3 +3,4 @@ pub mod WordSteps
 pub mod Taken
 pub mod PartSteps
 pub mod CloseSteps
+pub mod KeywordSteps
