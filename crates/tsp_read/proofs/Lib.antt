@@ -4,3 +4,5 @@ pub mod Taken
 pub mod PartSteps
 pub mod CloseSteps
 pub mod KeywordSteps
+pub mod TextSteps
+pub mod OpenSteps
