@@ -6,3 +6,6 @@ pub mod CloseSteps
 pub mod KeywordSteps
 pub mod TextSteps
 pub mod OpenSteps
+pub mod Scans
+pub mod Cuts
+pub mod NextSteps

@@ -19,3 +19,4 @@ pub mod Held
 pub mod Open
 pub mod Holds
 pub mod CutLine
+pub mod Cut

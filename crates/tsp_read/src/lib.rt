@@ -1,6 +1,7 @@
 //! Which file the bytes of a text spell, or the first fault and its place.
 #![tactic(auto)]
 
+mod cut;
 mod fault;
 mod laws;
 mod parts;
