@@ -9,3 +9,4 @@ pub mod OpenSteps
 pub mod Scans
 pub mod Cuts
 pub mod NextSteps
+pub mod Walks

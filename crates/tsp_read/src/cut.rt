@@ -44,7 +44,8 @@ fn line_end(text: &[u8]) -> Option<usize>
 fn word_end(text: &[u8]) -> Option<usize>
     ensures { result ≡ position ends_word text.now }
 {
-    text.iter().position(|byte| is_blank(*byte) || *byte == b'\n')
+    text.iter()
+        .position(|byte| is_blank(*byte) || *byte == b'\n')
 }
 
 // ---- without blanks
@@ -135,7 +136,7 @@ fn take_line(text: &[u8], goes_on: bool) -> Option<(&[u8], &[u8])>
     ensures { MatchOption result
         (is_settled most_line_bytes goes_on (before ends_line text.now) (from ends_line text.now) ≡ false)
         (λ cut. (cut.0.now ≡ before ends_line text.now) × (cut.1.now ≡ from ends_line text.now)
-            × (is_settled most_line_bytes goes_on cut.0.now cut.1.now ≡ true)) }
+        × (is_settled most_line_bytes goes_on cut.0.now cut.1.now ≡ true)) }
 {
     match line_end(text) {
         Some(end) => Some(text.split_at(end)),
@@ -151,7 +152,7 @@ fn take_word(text: &[u8], goes_on: bool) -> Option<(&[u8], &[u8])>
     ensures { MatchOption result
         (is_settled most_word_bytes goes_on (before ends_word text.now) (from ends_word text.now) ≡ false)
         (λ cut. (cut.0.now ≡ before ends_word text.now) × (cut.1.now ≡ from ends_word text.now)
-            × (is_settled most_word_bytes goes_on cut.0.now cut.1.now ≡ true)) }
+        × (is_settled most_word_bytes goes_on cut.0.now cut.1.now ≡ true)) }
 {
     match word_end(text) {
         Some(end) => Some(text.split_at(end)),
@@ -176,7 +177,7 @@ fn begins_line(first: u8, inside: bool) -> bool
 pub(crate) fn next_item(text: &[u8], inside: bool, goes_on: bool) -> Option<(Next<'_>, &[u8])>
     ensures items { MatchOption result (items_left goes_on inside text.now ≡ [])
         (λ found. items_left goes_on inside text.now
-            ≡ item_next found.0 ∷ items_left goes_on (is_inside found.0) found.1.now) }
+        ≡ item_next found.0 ∷ items_left goes_on (is_inside found.0) found.1.now) }
     ensures shorter { IfSome result (λ found. length found.1.now < length text.now) }
 {
     let filled = without_start(text);
