@@ -1,5 +1,5 @@
 use Rattle.tsp_read.proofs.Cuts.{all_left}
 use Rattle.tsp_read.proofs.walk.Walk.new.Goals as goal
 
-pub returns : goal.returns
-returns c = all_left c.args.goes_on c.args.text.now
+pub returns-clause-items : goal.returns-clause-items
+returns-clause-items c = all_left c.args.goes_on c.args.text.now
