@@ -4,3 +4,6 @@ pub mod Ended
 pub mod FixedSteps
 pub mod PairWords
 pub mod WordSteps
+pub mod Taken
+pub mod PartSteps
+pub mod CloseSteps

@@ -24,30 +24,30 @@ abbrev pub is_closed_incomplete : List Item → Field → Bool
 is_closed_incomplete earlier field = not (is_open field (open_section earlier)) && is_incomplete earlier field
 
 -- a keyword stands exactly where its field does
-pub record KeywordsStand (fields : Fields) (earlier : List Item) : Type 0 where
-  pub of_name : is_some fields.name ≡ has_line NameKey earlier
-  pub of_kind : is_some fields.kind ≡ has_line TypeKey earlier
-  pub of_dimension : is_some fields.dimension ≡ has_line DimensionKey earlier
-  pub of_capacity : is_some fields.capacity ≡ has_line CapacityKey earlier
-  pub of_scale : is_some fields.scale ≡ has_line ScaleKey earlier
-  pub of_weight_kind : is_some fields.weight_kind ≡ has_line EdgeWeightTypeKey earlier
-  pub of_weight_format : is_some fields.weight_format ≡ has_line EdgeWeightFormatKey earlier
-  pub of_coord_kind : is_some fields.coord_kind ≡ has_line NodeCoordTypeKey earlier
-  pub of_display_kind : is_some fields.display_kind ≡ has_line DisplayDataTypeKey earlier
+abbrev pub fields_there : Fields → List Bool
+fields_there fields = is_some fields.name ∷ is_some fields.kind ∷ is_some fields.dimension ∷ is_some fields.capacity ∷ is_some fields.scale
+    ∷ is_some fields.weight_kind ∷ is_some fields.weight_format ∷ is_some fields.coord_kind ∷ is_some fields.display_kind ∷ []
+
+abbrev pub keywords_there : List Item → List Bool
+keywords_there earlier = has_line NameKey earlier ∷ has_line TypeKey earlier ∷ has_line DimensionKey earlier ∷ has_line CapacityKey earlier ∷ has_line ScaleKey earlier
+    ∷ has_line EdgeWeightTypeKey earlier ∷ has_line EdgeWeightFormatKey earlier ∷ has_line NodeCoordTypeKey earlier ∷ has_line DisplayDataTypeKey earlier ∷ []
+
+abbrev pub KeywordsStand : Fields → List Item → Type 0
+KeywordsStand fields earlier = fields_there fields ≡ keywords_there earlier
 
 -- a section other than the tours stands only after DIMENSION
 abbrev pub AreAfterDimension : List Item → Type 0
 AreAfterDimension earlier = (field : Field) → is_section_field field ≡ true → same_field TourPart field ≡ false → has_line field earlier ≡ true → has_line DimensionKey earlier ≡ true
 
--- the flags of the sections that can be incomplete
-pub record FlagsHold (flags : Incomplete) (test : Field → Bool) : Type 0 where
-  pub of_coords : flags.coords ≡ test NodeCoordPart
-  pub of_display : flags.display ≡ test DisplayDataPart
-  pub of_demands : flags.demands ≡ test DemandPart
-  pub of_fixed : flags.fixed ≡ test FixedEdgesPart
-  pub of_node_potentials : flags.node_potentials ≡ test NodePotentialPart
-  pub of_row_potentials : flags.row_potentials ≡ test RowPotentialPart
-  pub of_column_potentials : flags.column_potentials ≡ test ColumnPotentialPart
+-- the flags of the sections that can be incomplete, and a test at those
+abbrev pub flags_in : Incomplete → List Bool
+flags_in flags = flags.coords ∷ flags.display ∷ flags.demands ∷ flags.fixed ∷ flags.node_potentials ∷ flags.row_potentials ∷ flags.column_potentials ∷ []
+
+abbrev pub tests_at : (Field → Bool) → List Bool
+tests_at test = test NodeCoordPart ∷ test DisplayDataPart ∷ test DemandPart ∷ test FixedEdgesPart ∷ test NodePotentialPart ∷ test RowPotentialPart ∷ test ColumnPotentialPart ∷ []
+
+abbrev pub FlagsHold : Incomplete → (Field → Bool) → Type 0
+FlagsHold flags test = flags_in flags ≡ tests_at test
 
 -- the open section's part has its words
 abbrev pub OpenHolds : Option Part → List Item → Type 0
