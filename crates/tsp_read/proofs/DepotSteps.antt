@@ -1,13 +1,13 @@
 -- One word more of the depots.
-use Rattle.std.proofs.Common.{◌≡◌, ℕ, ◌+◌, ◌<◌, Bool, true, false, cond, List, [], ◌∷◌, ◌++◌, length, map, refl, sym, ap, ◌∙◌, Option, None, Ok, arith, length-append}
-use Rattle.std.specs.Prelude.{ℤ, pos, negsuc, nat_abs, not, nat_le, ◌&&◌}
+use Rattle.std.proofs.Common.{◌≡◌, ℕ, ◌+◌, ◌<◌, Bool, true, false, List, [], ◌∷◌, ◌++◌, length, map, refl, sym, ap, ◌∙◌, None, Ok, arith}
+use Rattle.std.specs.Prelude.{pos, negsuc, nat_abs, nat_le}
 use Rattle.std.specs.List.{list_any}
 use Rattle.std.proofs.lemmas.List.{map_push, length_push}
 use Rattle.std.proofs.lemmas.Bool.Decides.{nat_tests}
 use Rattle.tsp_value.specs.Limits.{most_depots}
 use Rattle.tsp_read.specs.Numbers.{number, node_or_end, is_end, is_minus_one}
 use Rattle.tsp_read.specs.Places.{Place, PastEnd, DepotAfter}
-use Rattle.tsp_read.specs.Lists.{before, place_of_depot}
+use Rattle.tsp_read.specs.Lists.{place_of_depot}
 use Rattle.tsp_read.specs.Parts.{word_fault, DepotsHold}
 use Rattle.tsp_read.proofs.Ended.{and_false, any_kept, any_push, before_kept, before_none, before_end, before_push}
 

@@ -1,6 +1,6 @@
 -- One word more of the fixed pairs.
-use Rattle.std.proofs.Common.{◌≡◌, ◌≢◌, ℕ, ◌+◌, ◌<◌, ◌≤◌, Bool, true, false, cond, List, [], ◌∷◌, ◌++◌, length, map, refl, sym, ap, ◌∙◌, Option, None, Some, Result, Ok, Err, arith}
-use Rattle.std.specs.Prelude.{ℤ, pos, negsuc, nat_abs, not, nat_le, ◌&&◌, is_some}
+use Rattle.std.proofs.Common.{◌≡◌, ◌≢◌, ℕ, ◌+◌, ◌<◌, ◌≤◌, Bool, true, false, List, [], ◌∷◌, ◌++◌, length, map, refl, sym, ap, ◌∙◌, Option, None, Some, Ok, Err, arith}
+use Rattle.std.specs.Prelude.{pos, negsuc, nat_abs, nat_le, is_some}
 use Rattle.std.specs.List.{list_any}
 use Rattle.std.specs.Ordering.{int_eq}
 use Rattle.std.proofs.lemmas.List.{map_push, length_push}
@@ -9,9 +9,9 @@ use Rattle.tsp_number.specs.declared.fault.NumberFault.{NumberFault}
 use Rattle.tsp_value.specs.Limits.{most_fixed}
 use Rattle.tsp_read.specs.declared.fault.LineFault.TheVariants as row
 use Rattle.tsp_read.specs.Numbers.{number, node, node_or_end, is_end, is_minus_one}
-use Rattle.tsp_read.specs.Places.{Place, PastEnd, FirstAfter, SecondOf}
+use Rattle.tsp_read.specs.Places.{PastEnd, FirstAfter, SecondOf}
 use Rattle.tsp_read.specs.Groups.{pairs_in, begun_pair}
-use Rattle.tsp_read.specs.Lists.{before, firsts_in, place_in_pair, place_of_fixed}
+use Rattle.tsp_read.specs.Lists.{firsts_in, place_of_fixed}
 use Rattle.tsp_read.specs.Spells.{wants_more}
 use Rattle.tsp_read.specs.Parts.{word_fault, readings, PairsHold}
 use Rattle.tsp_read.proofs.Ended.{any_push, and_false}

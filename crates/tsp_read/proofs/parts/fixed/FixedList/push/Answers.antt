@@ -1,4 +1,4 @@
-use Rattle.std.proofs.Common.{◌≡◌, ◌∙◌, sym}
+use Rattle.std.proofs.Common.{◌∙◌, sym}
 use Rattle.tsp_read.proofs.FixedSteps.{pair_past_end}
 use Rattle.tsp_read.proofs.parts.fixed.FixedList.push.Goals as goal
 

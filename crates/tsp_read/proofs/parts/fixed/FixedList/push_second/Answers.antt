@@ -1,4 +1,4 @@
-use Rattle.std.proofs.Common.{◌≡◌, ◌∙◌, ap, Ok, Err, arith}
+use Rattle.std.proofs.Common.{◌≡◌, ◌∙◌, ap, Ok, Err}
 use Rattle.std.specs.Prelude.{pos}
 use Rattle.tsp_read.specs.Numbers.{node}
 use Rattle.tsp_read.specs.Parts.{as_number}
