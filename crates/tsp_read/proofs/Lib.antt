@@ -8,3 +8,4 @@ pub mod WordSteps
 pub mod Taken
 pub mod PartSteps
 pub mod CloseSteps
+pub mod KeywordSteps

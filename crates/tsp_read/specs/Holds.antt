@@ -1,15 +1,17 @@
 -- What the state of the reader holds of the items so far (nearest first).
-use Rattle.std.specs.Prelude.{◌≡◌, ℕ, Bool, true, false, not, ◌&&◌, List, [], ◌∷◌, Option, None, Some, is_some, Result, Ok, Err}
+use Rattle.std.specs.Prelude.{◌≡◌, ℕ, Bool, true, false, not, ◌&&◌, List, [], ◌∷◌, Option, None, Some, is_some, Result, Ok, Err, replicate, nat_lt}
 use Rattle.tsp_value.specs.declared.field.Field.{Field}
-use Rattle.tsp_value.specs.declared.field.Field.TheVariants.{NameKey, TypeKey, DimensionKey, CapacityKey, ScaleKey, EdgeWeightTypeKey, EdgeWeightFormatKey, NodeCoordTypeKey, DisplayDataTypeKey, NodeCoordPart, DisplayDataPart, DemandPart, FixedEdgesPart, TourPart, NodePotentialPart, RowPotentialPart, ColumnPotentialPart}
+use Rattle.tsp_value.specs.declared.field.Field.TheVariants.{NameKey, TypeKey, DimensionKey, CapacityKey, ScaleKey, EdgeWeightTypeKey, EdgeWeightFormatKey, NodeCoordTypeKey, DisplayDataTypeKey, NodeCoordPart, DisplayDataPart, DemandPart, DepotPart, FixedEdgesPart, EdgeWeightPart, NodePotentialPart, RowPotentialPart, ColumnPotentialPart}
 use Rattle.tsp_fields.specs.Fields.{Fields, fields_of}
 use Rattle.tsp_read.specs.declared.fault.StepFault.{StepFault}
 use Rattle.tsp_read.specs.declared.fault.StepFault.TheVariants as steps
 use Rattle.tsp_read.specs.declared.state.part.Part.{Part}
 use Rattle.tsp_read.specs.declared.state.reading.Incomplete.{Incomplete}
 use Rattle.tsp_read.specs.declared.state.reading.Reading.{Reading}
-use Rattle.tsp_read.specs.Items.{Item}
-use Rattle.tsp_read.specs.Earlier.{same_field, is_section_field, has_line, open_section, is_open, words_of}
+use Rattle.tsp_value.specs.declared.keyword.Keyword.TheVariants.{Known, Unknown}
+use Rattle.tsp_value.specs.Limits.{most_line_bytes}
+use Rattle.tsp_read.specs.Items.{WordLine, Item, Line}
+use Rattle.tsp_read.specs.Earlier.{has_line, open_section, is_open, words_of}
 use Rattle.tsp_read.specs.Sections.{nodes_of}
 use Rattle.tsp_read.specs.Rows.{row_of}
 use Rattle.tsp_read.specs.FirstFault.{IsClean}
@@ -36,8 +38,13 @@ abbrev pub KeywordsStand : Fields → List Item → Type 0
 KeywordsStand fields earlier = fields_there fields ≡ keywords_there earlier
 
 -- a section other than the tours stands only after DIMENSION
+abbrev pub sections_there : List Item → List Bool
+sections_there earlier = has_line NodeCoordPart earlier ∷ has_line DisplayDataPart earlier ∷ has_line DemandPart earlier ∷ has_line DepotPart earlier
+    ∷ has_line FixedEdgesPart earlier ∷ has_line EdgeWeightPart earlier ∷ has_line NodePotentialPart earlier ∷ has_line RowPotentialPart earlier
+    ∷ has_line ColumnPotentialPart earlier ∷ []
+
 abbrev pub AreAfterDimension : List Item → Type 0
-AreAfterDimension earlier = (field : Field) → is_section_field field ≡ true → same_field TourPart field ≡ false → has_line field earlier ≡ true → has_line DimensionKey earlier ≡ true
+AreAfterDimension earlier = has_line DimensionKey earlier ≡ false → sections_there earlier ≡ replicate 9 false
 
 -- the flags of the sections that can be incomplete, and a test at those
 abbrev pub flags_in : Incomplete → List Bool
@@ -77,3 +84,10 @@ abbrev pub Answers : List Item → Item → Reading → Result (Unit {0}) StepFa
 Answers earlier item new (Ok done) = Holds new (item ∷ earlier)
 Answers earlier item new (Err steps.Memory) = Unit {0}
 Answers earlier item new (Err (steps.Fault fault)) = row_of earlier item ≡ Some fault
+
+-- the same from a state where no section is open, for a line that isn't too long
+abbrev pub LineAnswers : Reading → Field → WordLine → Reading → Result (Unit {0}) StepFault → Type 0
+LineAnswers old field line new result = (earlier : List Item) → Closed old earlier → nat_lt most_line_bytes line.size ≡ false → Answers earlier (Line (Known field) line) new result
+
+abbrev pub OtherAnswers : Reading → WordLine → Reading → Result (Unit {0}) StepFault → Type 0
+OtherAnswers old line new result = (earlier : List Item) → Closed old earlier → nat_lt most_line_bytes line.size ≡ false → Answers earlier (Line Unknown line) new result
