@@ -1,2 +1,10 @@
 pub mod Clean
 pub mod WordSteps
+pub mod ValidRows
+pub mod ValidSections
+pub mod ValidNumbers
+pub mod ValidStanding
+pub mod ValidWeights
+pub mod ValidLists
+pub mod ValidDepots
+pub mod ValidTours

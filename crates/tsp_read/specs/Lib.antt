@@ -18,3 +18,4 @@ pub mod Parts
 pub mod Held
 pub mod Open
 pub mod Holds
+pub mod Cuts
