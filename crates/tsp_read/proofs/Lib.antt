@@ -8,3 +8,4 @@ pub mod ValidWeights
 pub mod ValidLists
 pub mod ValidDepots
 pub mod ValidTours
+pub mod ValidFixed

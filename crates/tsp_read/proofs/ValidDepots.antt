@@ -1,10 +1,9 @@
 -- The depots of a section without a fault: no more than may be, each a node.
 use Rattle.std.proofs.Common.{◌≡◌, ℕ, ◌+◌, ◌≤◌, Bool, true, false, cond, List, [], ◌∷◌, ◌++◌, length, map, refl, sym, ap, subst, ◌∙◌, arith, Option, Some, None, Ok}
 use Rattle.std.specs.Prelude.{not, ◌&&◌, nat_le, nat_abs, pos}
-use Rattle.std.specs.List.{list_all, list_any}
-use Rattle.std.proofs.lemmas.Bool.{true≢false, false≢true, and_from, and_parts, le-leb, leb-false}
-use Rattle.std.proofs.lemmas.List.{length-map, length_push, append-nil, map_push}
-use Rattle.std.proofs.lemmas.List.Folds.{list_all-append}
+use Rattle.std.specs.List.{list_any}
+use Rattle.std.proofs.lemmas.Bool.{false≢true}
+use Rattle.std.proofs.lemmas.List.{length-map, append-nil, map_push}
 use Rattle.tsp_value.specs.declared.field.Field.TheVariants.{DepotPart}
 use Rattle.tsp_value.specs.Limits.{most_depots}
 use Rattle.tsp_fields.specs.Validity.{is_node, are_depots}
@@ -19,7 +18,7 @@ use Rattle.tsp_read.specs.Parts.{word_fault}
 use Rattle.tsp_read.proofs.ValidRows.{is_taken}
 use Rattle.tsp_read.proofs.ValidSections.{Grows, grown}
 use Rattle.tsp_read.proofs.ValidNumbers.{read_listed}
-use Rattle.tsp_read.proofs.ValidLists.{before_ended, before_open, before_all}
+use Rattle.tsp_read.proofs.ValidLists.{before_ended, before_open, before_all, few_more, first_of_both}
 
 -- of the words before the -1
 abbrev AreListed : ℕ → List (List ℕ) → Type 0
@@ -34,19 +33,9 @@ listed_more : (n : ℕ) (words : List (List ℕ)) (word : List ℕ) → before (
 listed_more n words word all more room node held =
     let value : List ℕ → ℕ = λ word. nat_abs (number (node_or_end n word)) in
     let before_this : are_depots n (map value words) ≡ true = ap (λ (ws : List (List ℕ)). are_depots n (map value ws)) (sym all) ∙ held in
-    let nodes : list_all (is_node n) (map value words) ≡ true = (and_parts (nat_le (length (map value words)) most_depots) (list_all (is_node n) (map value words)) before_this).1 in
-    let few : nat_le (length (map value words ++ value word ∷ [])) most_depots ≡ true =
-    le-leb (length (map value words ++ value word ∷ [])) most_depots (omega (arith, length_push (map value words) (value word), length-map words value, leb-false most_depots (length words) room)) in
-    let each : list_all (is_node n) (map value words ++ value word ∷ []) ≡ true =
-    list_all-append (is_node n) (map value words) (value word ∷ []) ∙ and_from (list_all (is_node n) (map value words)) (is_node n (value word) && true) nodes (and_from (is_node n (value word)) true node refl) in
     ap (λ (ws : List (List ℕ)). are_depots n (map value ws)) more
     ∙ ap (are_depots n) (map_push value words word)
-    ∙ and_from (nat_le (length (map value words ++ value word ∷ [])) most_depots) (list_all (is_node n) (map value words ++ value word ∷ [])) few each
-
-pub first_of_both : (a b : Bool) → (a && not b) ≡ false → b ≡ false → a ≡ false
-first_of_both false b e other = refl
-first_of_both true false e other = absurd (true≢false e)
-first_of_both true true e other = absurd (true≢false other)
+    ∙ few_more most_depots (is_node n) (map value words) (value word) before_this (ap (λ k. nat_le most_depots k) (length-map words value) ∙ room) node
 
 taken : (n : ℕ) (words : List (List ℕ)) (word : List ℕ) (ended end : Bool) → list_any (is_end n) words ≡ ended → is_end n word ≡ end
     → word_fault n (cond ended PastEnd (DepotAfter (length words))) word ≡ None → AreListed n words → AreListed n (words ++ word ∷ [])

@@ -142,7 +142,7 @@ listed_node : (n : ℕ) (z : ℤ) → is_from_to (negsuc 0) (pos n) z ≡ true �
 listed_node n (pos zero) e nonzero no_end = absurd (true≢false nonzero)
 listed_node n (pos (suc k)) e nonzero no_end = (suc k, refl, and_from (nat_le 1 (suc k)) (nat_le (suc k) n) (le-leb 1 (suc k) (omega arith)) e)
 listed_node n (negsuc zero) e nonzero no_end = absurd (true≢false no_end)
-listed_node n (negsuc (suc k)) e nonzero no_end = absurd (false≢true e)
+listed_node n (negsuc (suc k)) e nonzero no_end = absurd (omega (arith, leb-true (suc k) 0 (and_parts (int_le (negsuc 0) (negsuc (suc k))) (int_le (negsuc (suc k)) (pos n)) e).0))
 
 by_zero : (n : ℕ) (z : ℤ) (b : Bool) → int_eq z (pos 0) ≡ b → is_from_to (negsuc 0) (pos n) z ≡ true
     → (let r : Result ℤ NumberFault = cond b (Err OutOfRange) (Ok z) in (result_err r ≡ None → reads_as (negsuc 0) r ≡ false → (k : ℕ) × (r ≡ Ok (pos k)) × (is_node n k ≡ true)))

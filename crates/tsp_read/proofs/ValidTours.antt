@@ -21,7 +21,7 @@ use Rattle.tsp_read.specs.Parts.{word_fault}
 use Rattle.tsp_read.proofs.ValidRows.{is_taken}
 use Rattle.tsp_read.proofs.ValidSections.{Grows, grown}
 use Rattle.tsp_read.proofs.ValidNumbers.{read_listed}
-use Rattle.tsp_read.proofs.ValidDepots.{first_of_both}
+use Rattle.tsp_read.proofs.ValidLists.{first_of_both}
 
 -- ---- pieces of a list
 
@@ -44,7 +44,7 @@ pieces_pass test good (x ∷ xs) all =
 
 onto_longer : {A : Type 0} (x : A) (pieces : List (List A)) → sum_by length (onto_first x pieces) ≡ suc (sum_by length pieces)
 onto_longer x [] = refl
-onto_longer {A} x (piece ∷ pieces) = sum_by-cons (λ (p : List A). length p) (x ∷ piece) pieces ∙ sym (ap (λ k. suc k) (sum_by-cons (λ (p : List A). length p) piece pieces))
+onto_longer {A} x (piece ∷ pieces) = omega (arith, sum_by-cons (λ (p : List A). length p) (x ∷ piece) pieces, sum_by-cons (λ (p : List A). length p) piece pieces)
 
 -- the pieces together have all that doesn't end one
 pieces_long : {A : Type 0} (test : A → Bool) (xs : List A) → sum_by length (slice_split test xs) ≡ length (filter (λ x. not (test x)) xs)
@@ -53,7 +53,7 @@ pieces_long {A} test (x ∷ xs) = by_case (test x) (pieces_long test xs)
   where
     by_case : (b : Bool) → sum_by length (slice_split test xs) ≡ length (filter (λ x. not (test x)) xs)
         → sum_by length (cond b ([] ∷ slice_split test xs) (onto_first x (slice_split test xs))) ≡ length (cond (not b) (x ∷ filter (λ x. not (test x)) xs) (filter (λ x. not (test x)) xs))
-    by_case true later = sum_by-cons (λ (p : List A). length p) [] (slice_split test xs) ∙ later
+    by_case true later = omega (arith, sum_by-cons (λ (p : List A). length p) [] (slice_split test xs))
     by_case false later = onto_longer x (slice_split test xs) ∙ ap (λ k. suc k) later
 
 -- ---- runs of nodes
@@ -74,7 +74,7 @@ filled_runs ((word ∷ words) ∷ pieces) all =
 
 runs_long : (pieces : List (List (List ℕ))) → sum_by length (map (map tour_node) (filter is_filled pieces)) ≡ sum_by length pieces
 runs_long [] = refl
-runs_long ([] ∷ pieces) = runs_long pieces ∙ sym (sum_by-cons (λ (p : List (List ℕ)). length p) [] pieces)
+runs_long ([] ∷ pieces) = omega (arith, runs_long pieces, sum_by-cons (λ (p : List (List ℕ)). length p) [] pieces)
 runs_long ((word ∷ words) ∷ pieces) =
     sum_by-cons (λ (p : List ℕ). length p) (map tour_node (word ∷ words)) (map (map tour_node) (filter is_filled pieces))
     ∙ ap (λ k. k + sum_by length (map (map tour_node) (filter is_filled pieces))) (length-map (word ∷ words) tour_node)

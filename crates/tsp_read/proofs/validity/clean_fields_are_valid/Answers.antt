@@ -6,7 +6,7 @@ use Rattle.tsp_read.proofs.ValidNumbers.{points_fit}
 use Rattle.tsp_read.proofs.ValidWeights.{weights_fit}
 use Rattle.tsp_read.proofs.ValidDepots.{depots_fit}
 use Rattle.tsp_read.proofs.ValidTours.{tours_fit}
-use Rattle.tsp_read.proofs.ValidLists.{pair_ends}
+use Rattle.tsp_read.proofs.ValidFixed.{fixed_fit}
 use Rattle.tsp_read.proofs.validity.clean_fields_are_valid.Goals as goal
 
 pub returns-clause-of_items : goal.returns-clause-of_items
