@@ -9,3 +9,6 @@ pub mod ValidLists
 pub mod ValidDepots
 pub mod ValidTours
 pub mod ValidFixed
+pub mod ValidKeywords
+pub mod ValidCuts
+pub mod ValidItems

@@ -125,7 +125,7 @@ points_fit n words = by_node_fits is_point (record { x = pos 0; y = pos 0 }) n (
 
 -- ---- nodes that are read
 
-node_read : (n : ℕ) (z : ℤ) → is_from_to (pos 1) (pos n) z ≡ true → (k : ℕ) × (z ≡ pos k) × (is_node n k ≡ true)
+pub node_read : (n : ℕ) (z : ℤ) → is_from_to (pos 1) (pos n) z ≡ true → (k : ℕ) × (z ≡ pos k) × (is_node n k ≡ true)
 node_read n (pos k) e = (k, refl, e)
 node_read n (negsuc k) e = absurd (false≢true e)
 

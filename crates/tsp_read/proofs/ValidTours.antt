@@ -32,7 +32,7 @@ onto_passes good x (piece ∷ pieces) here all =
     and_from (good x && list_all good piece) (list_all (list_all good) pieces) (and_from (good x) (list_all good piece) here both.0) both.1
 
 -- what passes or ends a piece passes in its piece
-pieces_pass : {A : Type 0} (test good : A → Bool) (xs : List A) → list_all (λ x. test x || good x) xs ≡ true → list_all (list_all good) (slice_split test xs) ≡ true
+pub pieces_pass : {A : Type 0} (test good : A → Bool) (xs : List A) → list_all (λ x. test x || good x) xs ≡ true → list_all (list_all good) (slice_split test xs) ≡ true
 pieces_pass test good [] all = refl
 pieces_pass test good (x ∷ xs) all =
     let both = and_parts (test x || good x) (list_all (λ x. test x || good x) xs) all in

@@ -1,16 +1,11 @@
 -- What items without a fault spell is valid, field by field.
-use Rattle.std.proofs.Common.{◌≡◌}
-use Rattle.tsp_read.proofs.ValidSections.{grown}
-use Rattle.tsp_read.proofs.ValidStanding.{section_fits}
-use Rattle.tsp_read.proofs.ValidNumbers.{points_fit}
-use Rattle.tsp_read.proofs.ValidWeights.{weights_fit}
-use Rattle.tsp_read.proofs.ValidDepots.{depots_fit}
-use Rattle.tsp_read.proofs.ValidTours.{tours_fit}
-use Rattle.tsp_read.proofs.ValidFixed.{fixed_fit}
+use Rattle.tsp_read.specs.Text.{part}
+use Rattle.tsp_read.proofs.ValidCuts.{part_cut}
+use Rattle.tsp_read.proofs.ValidItems.{none_bad}
 use Rattle.tsp_read.proofs.validity.clean_fields_are_valid.Goals as goal
 
 pub returns-clause-of_items : goal.returns-clause-of_items
-returns-clause-of_items c = ?
+returns-clause-of_items c = λ items cut clean. none_bad items cut clean
 
 pub returns-clause-of_text : goal.returns-clause-of_text
-returns-clause-of_text c = ?
+returns-clause-of_text c = λ bytes clean. none_bad (part bytes) (part_cut bytes) clean
