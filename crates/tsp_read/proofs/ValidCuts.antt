@@ -1,18 +1,17 @@
 -- The items of a text are cut from it: keywords begin with a letter, and values have no byte 10 and no blank at either end.
 use Rattle.std.proofs.Common.{◌≡◌, ℕ, suc, zero, ◌+◌, ◌-◌, Bool, true, false, cond, List, [], ◌∷◌, ◌++◌, length, get_or, map, reverse, refl, sym, ap, subst, ◌∙◌, arith}
-use Rattle.std.specs.Prelude.{not, ◌&&◌, ◌||◌, ◌==◌, nat_lt, slice_index}
-use Rattle.std.specs.List.{list_all, slice_split, prefix_len, take_while, AllByRecursion}
+use Rattle.std.specs.Prelude.{not, ◌&&◌, ◌||◌, nat_lt, slice_index}
+use Rattle.std.specs.List.{list_all, prefix_len, take_while}
 use Rattle.std.proofs.Math.ListN.{take, drop}
-use Rattle.std.proofs.lemmas.Bool.{true≢false, false≢true, and_from, and_parts, cond_both}
+use Rattle.std.proofs.lemmas.Bool.{false≢true, and_from, and_parts}
 use Rattle.std.proofs.lemmas.Bool.Decides.{nat_tests}
 use Rattle.std.proofs.lemmas.List.{reverse-append, reverse-reverse, take-append-drop, length_push, get_or_push}
 use Rattle.std.proofs.lemmas.List.Folds.{list_all-append}
 use Rattle.tsp_value.specs.Bytes.{is_blank, is_letter, is_keyword_byte}
-use Rattle.tsp_value.specs.Keywords.{keyword_of}
-use Rattle.tsp_value.specs.Limits.{most_word_bytes, most_line_bytes, most_file_bytes}
+use Rattle.tsp_value.specs.Limits.{most_line_bytes, most_file_bytes}
 use Rattle.tsp_read.specs.Lines.{ends_line, lines_of, words_in, without_start, without_end, begins, is_word_line, keyword_in, after_keyword, has_colon, value_in}
-use Rattle.tsp_read.specs.Items.{WordLine, Item, Line, NumberWord, LineEnd, word_line, line_item, items_in, items_by, items_of, settled_words, settled_line, settled_in, settled_items, is_end_line, to_end_line}
-use Rattle.tsp_read.specs.Cuts.{is_one_line, IsCutLine, IsCut, AreCut}
+use Rattle.tsp_read.specs.Items.{Item, NumberWord, LineEnd, line_item, items_in, items_by, items_of, settled_words, settled_in, settled_items, is_end_line, to_end_line}
+use Rattle.tsp_read.specs.Cuts.{is_one_line, IsCut, AreCut}
 use Rattle.tsp_read.specs.Text.{part, is_too_long}
 use Rattle.tsp_read.proofs.ValidNumbers.{all_pass}
 use Rattle.tsp_read.proofs.ValidTours.{pieces_pass}

@@ -1,6 +1,6 @@
 -- What cut items without a fault spell is valid, field by field.
-use Rattle.std.proofs.Common.{◌≡◌, ℕ, Bool, true, false, cond, List, [], ◌∷◌, refl, ap, ◌∙◌, Option, Some, None}
-use Rattle.std.specs.Prelude.{not, pos, neg_ℤ, ℤ}
+use Rattle.std.proofs.Common.{◌≡◌, ℕ, Bool, true, false, cond, List, [], ◌∷◌, refl, ap, ◌∙◌, Some, None}
+use Rattle.std.specs.Prelude.{not, pos, neg_ℤ}
 use Rattle.tsp_value.specs.declared.field.Field.{Field}
 use Rattle.tsp_value.specs.declared.field.Field.TheVariants.{NameKey, TypeKey, CommentKey, OtherKey, DimensionKey, CapacityKey, ScaleKey, EdgeWeightTypeKey, EdgeWeightFormatKey, NodeCoordTypeKey, DisplayDataTypeKey, NodeCoordPart, DisplayDataPart, DemandPart, DepotPart, FixedEdgesPart, EdgeWeightPart, TourPart, NodePotentialPart, RowPotentialPart, ColumnPotentialPart}
 use Rattle.tsp_value.specs.Limits.{most_demand, most_potential}
@@ -15,7 +15,7 @@ use Rattle.tsp_read.specs.Lists.{depots_in, fixed_in}
 use Rattle.tsp_read.specs.Weights.{weights_in}
 use Rattle.tsp_read.specs.Tours.{tours_in}
 use Rattle.tsp_read.specs.FirstFault.{IsClean}
-use Rattle.tsp_read.specs.Spells.{potentials_in, demands_in, section, stands, spelled}
+use Rattle.tsp_read.specs.Spells.{potentials_in, demands_in, spelled}
 use Rattle.tsp_read.proofs.ValidKeywords.{name_fits, comments_fit, others_fit, dimension_fits, capacity_fits, scale_fits}
 use Rattle.tsp_read.proofs.ValidNumbers.{numbers_fit, points_fit}
 use Rattle.tsp_read.proofs.ValidStanding.{section_fits}

@@ -1,11 +1,11 @@
 -- The keywords of clean items are valid: names, comments and unknown keywords are kept values, and numbers are in their ranges.
-use Rattle.std.proofs.Common.{◌≡◌, ℕ, ◌+◌, ◌≤◌, Bool, true, false, cond, List, [], ◌∷◌, ◌++◌, length, refl, sym, ap, subst, ◌∙◌, Option, Some, None, Result, Ok, Err}
-use Rattle.std.specs.Prelude.{◌-◌, not, ◌&&◌, ◌==◌, ℤ, pos, negsuc, nat_le, nat_lt, nat_abs, int_le, codes, slice_index}
-use Rattle.std.specs.List.{list_all, find, AllByRecursion}
+use Rattle.std.proofs.Common.{◌≡◌, ℕ, ◌+◌, Bool, true, false, cond, List, [], ◌∷◌, length, refl, sym, ap, subst, ◌∙◌, Option, Some, None, Result, Ok, Err}
+use Rattle.std.specs.Prelude.{◌-◌, not, ◌&&◌, ◌==◌, ℤ, pos, nat_le, nat_abs, codes, slice_index}
+use Rattle.std.specs.List.{list_all, find}
 use Rattle.std.specs.Option.{option_map, option_and_then}
 use Rattle.std.specs.Result.{result_ok}
 use Rattle.std.specs.Str.{bytes_eq}
-use Rattle.std.proofs.lemmas.Bool.{true≢false, false≢true, and_from, le-leb, ltb-false, not_from_false}
+use Rattle.std.proofs.lemmas.Bool.{true≢false, and_from, le-leb, ltb-false, not_from_false}
 use Rattle.std.proofs.lemmas.Option.{none-some, same_Some}
 use Rattle.std.proofs.lemmas.Slice.Eq.{bytes_eq-Decides}
 use Rattle.tsp_number.specs.declared.fault.NumberFault.{NumberFault}
@@ -23,7 +23,7 @@ use Rattle.tsp_read.specs.Lines.{first_word}
 use Rattle.tsp_read.specs.Items.{WordLine, Item, Line, NumberWord, LineEnd}
 use Rattle.tsp_read.specs.Earlier.{same_field, is_key, value_at, values_at, others_in}
 use Rattle.tsp_read.specs.Values.{number_at, dimension_of}
-use Rattle.tsp_read.specs.Cuts.{is_one_line, IsCutLine, IsCut, AreCut}
+use Rattle.tsp_read.specs.Cuts.{IsCutLine, AreCut}
 use Rattle.tsp_read.specs.Rows.{is_too_long_to_keep, has_bad_value, row_of}
 use Rattle.tsp_read.specs.FirstFault.{IsClean}
 use Rattle.tsp_read.proofs.ValidRows.{clean_parts, no_row}

@@ -11,11 +11,10 @@ use Rattle.std.proofs.lemmas.Slice.Eq.{bytes_eq-Decides}
 use Rattle.tsp_number.specs.declared.fault.NumberFault.{NumberFault}
 use Rattle.tsp_value.specs.declared.field.Field.{Field}
 use Rattle.tsp_value.specs.declared.field.Field.TheVariants.{CommentKey, DimensionKey, TourPart}
-use Rattle.tsp_value.specs.declared.keyword.Keyword.{Keyword}
 use Rattle.tsp_value.specs.declared.keyword.Keyword.TheVariants.{Known, EdgeDataFormat, EdgeDataSection, Eof, Unknown}
 use Rattle.tsp_value.specs.Words.{field_word, fields_in_order, field_found}
 use Rattle.tsp_read.specs.Items.{WordLine, Item, Line, NumberWord, LineEnd}
-use Rattle.tsp_read.specs.Earlier.{same_field, is_section_field, has_line, open_section, is_open, words_of}
+use Rattle.tsp_read.specs.Earlier.{same_field, is_section_field, has_line, open_section, words_of}
 use Rattle.tsp_read.specs.Values.{read_as, dimension_of}
 use Rattle.tsp_read.specs.Sections.{place_in, nodes_of}
 use Rattle.tsp_read.specs.Rows.{row_of, is_repeated}

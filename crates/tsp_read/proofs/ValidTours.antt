@@ -1,8 +1,8 @@
 -- The tours of a section without a fault: none is empty, each node is one that some file can have, and all together are no more than may be.
-use Rattle.std.proofs.Common.{◌≡◌, ℕ, suc, ◌+◌, ◌≤◌, Bool, true, false, cond, List, [], ◌∷◌, ◌++◌, length, map, refl, sym, ap, subst, ◌∙◌, arith, Option, Some, None, Ok}
-use Rattle.std.specs.Prelude.{not, ◌&&◌, ◌||◌, nat_le, nat_abs, pos}
+use Rattle.std.proofs.Common.{◌≡◌, ℕ, suc, ◌+◌, Bool, true, false, cond, List, [], ◌∷◌, ◌++◌, length, map, refl, sym, ap, ◌∙◌, arith, None}
+use Rattle.std.specs.Prelude.{not, ◌&&◌, ◌||◌, nat_le, nat_abs}
 use Rattle.std.specs.List.{list_all, filter, slice_split, onto_first, sum_by}
-use Rattle.std.proofs.lemmas.Bool.{true≢false, false≢true, and_from, and_parts, le-leb, leb-false}
+use Rattle.std.proofs.lemmas.Bool.{and_from, and_parts, le-leb, leb-false}
 use Rattle.std.proofs.lemmas.List.{length-map, length_push, append-nil}
 use Rattle.std.proofs.lemmas.List.Folds.{list_all-append, list_all-map}
 use Rattle.std.proofs.lemmas.List.Sums.{sum_by-cons}
@@ -13,7 +13,7 @@ use Rattle.tsp_fields.specs.Validity.{is_node, is_tour, are_tours}
 use Rattle.tsp_read.specs.Lines.{is_filled}
 use Rattle.tsp_read.specs.Items.{Item}
 use Rattle.tsp_read.specs.Earlier.{words_of}
-use Rattle.tsp_read.specs.Numbers.{number, node_or_end, is_end}
+use Rattle.tsp_read.specs.Numbers.{number}
 use Rattle.tsp_read.specs.Places.{TourNode}
 use Rattle.tsp_read.specs.Tours.{ends_tour, tour_node, tours_in}
 use Rattle.tsp_read.specs.FirstFault.{IsClean}

@@ -1,22 +1,22 @@
 -- The weights of a matrix are valid: for no more nodes than a matrix may have, no more than n * n, and each of its size.
-use Rattle.std.proofs.Common.{◌≡◌, ℕ, ◌+◌, ◌*◌, Bool, true, false, cond, List, [], ◌∷◌, ◌++◌, length, map, refl, sym, ap, subst, ◌∙◌, arith, Option, Some, None}
-use Rattle.std.specs.Prelude.{not, ◌&&◌, nat_le, nat_lt, pos, neg_ℤ}
+use Rattle.std.proofs.Common.{◌≡◌, ℕ, ◌*◌, Bool, true, false, cond, List, [], ◌∷◌, ◌++◌, length, refl, sym, ap, subst, ◌∙◌, arith, None}
+use Rattle.std.specs.Prelude.{◌&&◌, nat_le, nat_lt, pos, neg_ℤ}
 use Rattle.std.specs.List.{list_all}
 use Rattle.std.proofs.lemmas.Bool.{true≢false, false≢true, and_from, le-leb, leb-false, ltb-false}
 use Rattle.std.proofs.lemmas.List.{length-map, length_push}
 use Rattle.std.proofs.lemmas.List.Folds.{list_all-map}
 use Rattle.tsp_value.specs.declared.field.Field.{Field}
-use Rattle.tsp_value.specs.declared.field.Field.TheVariants.{DimensionKey, EdgeWeightPart, TourPart}
+use Rattle.tsp_value.specs.declared.field.Field.TheVariants.{EdgeWeightPart}
 use Rattle.tsp_value.specs.declared.keyword.Keyword.TheVariants.{Known, EdgeDataFormat, EdgeDataSection, Eof, Unknown}
 use Rattle.tsp_value.specs.Limits.{most_matrix_nodes, most_weight}
 use Rattle.tsp_fields.specs.Validity.{is_within, are_weights}
 use Rattle.tsp_read.specs.Items.{WordLine, Item, Line, NumberWord, LineEnd}
 use Rattle.tsp_read.specs.Earlier.{same_field, has_line, words_of}
 use Rattle.tsp_read.specs.Numbers.{number, sized}
-use Rattle.tsp_read.specs.Places.{Place, Weight, PastWeights}
+use Rattle.tsp_read.specs.Places.{Weight, PastWeights}
 use Rattle.tsp_read.specs.Weights.{weights_in}
 use Rattle.tsp_read.specs.Sections.{nodes_of}
-use Rattle.tsp_read.specs.Rows.{has_too_many_nodes, row_of}
+use Rattle.tsp_read.specs.Rows.{row_of}
 use Rattle.tsp_read.specs.FirstFault.{IsClean}
 use Rattle.tsp_read.specs.Parts.{word_fault}
 use Rattle.tsp_read.proofs.ValidRows.{clean_parts, no_row, is_taken}
