@@ -17,7 +17,7 @@ pub map_none : {A B : Type 0} (f : A → B) (o : Option A) → option_map f o �
 map_none f None e = refl
 map_none f (Some x) e = absurd cc
 
-none_applies : {F : Type 0} (rows : List (Option F)) → first_row rows ≡ None → AllByRecursion (λ row. row ≡ None) rows
+pub none_applies : {F : Type 0} (rows : List (Option F)) → first_row rows ≡ None → AllByRecursion (λ row. row ≡ None) rows
 none_applies [] e = tt
 none_applies (None ∷ rows) e = (refl, none_applies rows e)
 none_applies (Some fault ∷ rows) e = absurd cc
