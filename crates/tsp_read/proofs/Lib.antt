@@ -12,3 +12,7 @@ pub mod ValidFixed
 pub mod ValidKeywords
 pub mod ValidCuts
 pub mod ValidItems
+pub mod Taken
+pub mod PartSteps
+pub mod CloseSteps
+pub mod KeywordSteps

@@ -5,7 +5,6 @@ use Rattle.tsp_value.specs.declared.field.Field.TheVariants.{NameKey, TypeKey, C
 use Rattle.tsp_read.specs.declared.fault.StepFault.{StepFault}
 use Rattle.tsp_read.specs.declared.fault.StepFault.TheVariants as steps
 use Rattle.tsp_read.specs.declared.state.part.Part.{Part}
-use Rattle.tsp_read.specs.declared.state.reading.Incomplete.{Incomplete}
 use Rattle.tsp_read.specs.declared.state.reading.Reading.{Reading}
 use Rattle.tsp_read.specs.Items.{Item, NumberWord}
 use Rattle.tsp_read.specs.Earlier.{same_field, has_line, open_section, is_open, words_of}
@@ -14,8 +13,7 @@ use Rattle.tsp_read.specs.Rows.{row_of}
 use Rattle.tsp_read.specs.Parts.{word_fault}
 use Rattle.tsp_read.specs.Spells.{fields_by}
 use Rattle.tsp_read.specs.Open.{section_of, PartHolds, PartAfter, Pushes}
-use Rattle.tsp_fields.specs.Fields.{Fields, fields_of}
-use Rattle.tsp_read.specs.Holds.{KeywordsStand, is_closed, is_closed_incomplete, FlagsHold, OpenHolds, Holds, Answers}
+use Rattle.tsp_read.specs.Holds.{is_closed, is_closed_incomplete, tests_at, OpenHolds, Holds, Answers}
 use Rattle.tsp_read.proofs.Clean.{clean_more}
 
 pub same_self : (f : Field) → same_field f f ≡ true
@@ -73,40 +71,29 @@ fields_same NodePotentialPart earlier word o = rw o refl
 fields_same RowPotentialPart earlier word o = rw o refl
 fields_same ColumnPotentialPart earlier word o = rw o refl
 
--- a test of a closed section stays what it was
-test_same : (f g : Field) (earlier : List Item) (word : List ℕ) → open_section earlier ≡ Some f
-    → is_closed_incomplete (NumberWord word ∷ earlier) g ≡ is_closed_incomplete earlier g
-test_same f g earlier word o = by_case (is_open g (open_section earlier)) refl
-  where
-    by_case : (b : Bool) → is_open g (open_section earlier) ≡ b → is_closed_incomplete (NumberWord word ∷ earlier) g ≡ is_closed_incomplete earlier g
-    by_case true e = rw e refl
-    by_case false e = rw e refl
-
-flags_same : (f : Field) (flags : Incomplete) (earlier : List Item) (word : List ℕ) → open_section earlier ≡ Some f
-    → FlagsHold flags (is_closed_incomplete earlier) → FlagsHold flags (is_closed_incomplete (NumberWord word ∷ earlier))
-flags_same f flags earlier word o h = record {
-  of_coords = h.of_coords ∙ sym (test_same f NodeCoordPart earlier word o);
-  of_display = h.of_display ∙ sym (test_same f DisplayDataPart earlier word o);
-  of_demands = h.of_demands ∙ sym (test_same f DemandPart earlier word o);
-  of_fixed = h.of_fixed ∙ sym (test_same f FixedEdgesPart earlier word o);
-  of_node_potentials = h.of_node_potentials ∙ sym (test_same f NodePotentialPart earlier word o);
-  of_row_potentials = h.of_row_potentials ∙ sym (test_same f RowPotentialPart earlier word o);
-  of_column_potentials = h.of_column_potentials ∙ sym (test_same f ColumnPotentialPart earlier word o);
-}
-
--- the keywords that stand stay those
-keywords_same : (fields : Fields) (earlier : List Item) (word : List ℕ) → KeywordsStand fields earlier → KeywordsStand fields (NumberWord word ∷ earlier)
-keywords_same fields earlier word h = record {
-  of_name = h.of_name;
-  of_kind = h.of_kind;
-  of_dimension = h.of_dimension;
-  of_capacity = h.of_capacity;
-  of_scale = h.of_scale;
-  of_weight_kind = h.of_weight_kind;
-  of_weight_format = h.of_weight_format;
-  of_coord_kind = h.of_coord_kind;
-  of_display_kind = h.of_display_kind;
-}
+tests_same : (f : Field) (earlier : List Item) (word : List ℕ) → open_section earlier ≡ Some f
+    → tests_at (is_closed_incomplete (NumberWord word ∷ earlier)) ≡ tests_at (is_closed_incomplete earlier)
+tests_same NameKey earlier word o = rw o refl
+tests_same TypeKey earlier word o = rw o refl
+tests_same CommentKey earlier word o = rw o refl
+tests_same OtherKey earlier word o = rw o refl
+tests_same DimensionKey earlier word o = rw o refl
+tests_same CapacityKey earlier word o = rw o refl
+tests_same ScaleKey earlier word o = rw o refl
+tests_same EdgeWeightTypeKey earlier word o = rw o refl
+tests_same EdgeWeightFormatKey earlier word o = rw o refl
+tests_same NodeCoordTypeKey earlier word o = rw o refl
+tests_same DisplayDataTypeKey earlier word o = rw o refl
+tests_same NodeCoordPart earlier word o = rw o refl
+tests_same DisplayDataPart earlier word o = rw o refl
+tests_same DemandPart earlier word o = rw o refl
+tests_same DepotPart earlier word o = rw o refl
+tests_same FixedEdgesPart earlier word o = rw o refl
+tests_same EdgeWeightPart earlier word o = rw o refl
+tests_same TourPart earlier word o = rw o refl
+tests_same NodePotentialPart earlier word o = rw o refl
+tests_same RowPotentialPart earlier word o = rw o refl
+tests_same ColumnPotentialPart earlier word o = rw o refl
 
 -- the part after the word, of the same section
 open_more : (part after : Part) (earlier : List Item) (word : List ℕ) → open_section earlier ≡ Some (section_of part)
@@ -131,9 +118,9 @@ word_answer old new part after word (Ok done) earlier there same_draft same_flag
     record {
       clean = clean_more earlier (NumberWord word) h.clean (word_rows earlier word (section_of part) o ∙ next.0);
       late = h.late;
-      stand = rw same_draft (keywords_same (fields_of old.draft) earlier word h.stand);
+      stand = rw same_draft h.stand;
       spelled = rw same_draft (h.spelled ∙ sym (fields_same (section_of part) earlier word o));
-      flagged = rw same_flags (flags_same (section_of part) old.incomplete earlier word o h.flagged);
+      flagged = rw same_flags (h.flagged ∙ sym (tests_same (section_of part) earlier word o));
       part = rw is (open_more part after earlier word o next.1);
     }
 word_answer old new part after word (Err steps.Memory) earlier there same_draft same_flags is step h = tt

@@ -1,15 +1,17 @@
 -- What the state of the reader holds of the items so far (nearest first).
-use Rattle.std.specs.Prelude.{◌≡◌, ℕ, Bool, true, false, not, ◌&&◌, List, [], ◌∷◌, Option, None, Some, is_some, Result, Ok, Err}
+use Rattle.std.specs.Prelude.{◌≡◌, ℕ, Bool, true, false, not, ◌&&◌, List, [], ◌∷◌, Option, None, Some, is_some, Result, Ok, Err, replicate, nat_lt}
 use Rattle.tsp_value.specs.declared.field.Field.{Field}
-use Rattle.tsp_value.specs.declared.field.Field.TheVariants.{NameKey, TypeKey, DimensionKey, CapacityKey, ScaleKey, EdgeWeightTypeKey, EdgeWeightFormatKey, NodeCoordTypeKey, DisplayDataTypeKey, NodeCoordPart, DisplayDataPart, DemandPart, FixedEdgesPart, TourPart, NodePotentialPart, RowPotentialPart, ColumnPotentialPart}
+use Rattle.tsp_value.specs.declared.field.Field.TheVariants.{NameKey, TypeKey, DimensionKey, CapacityKey, ScaleKey, EdgeWeightTypeKey, EdgeWeightFormatKey, NodeCoordTypeKey, DisplayDataTypeKey, NodeCoordPart, DisplayDataPart, DemandPart, DepotPart, FixedEdgesPart, EdgeWeightPart, NodePotentialPart, RowPotentialPart, ColumnPotentialPart}
 use Rattle.tsp_fields.specs.Fields.{Fields, fields_of}
 use Rattle.tsp_read.specs.declared.fault.StepFault.{StepFault}
 use Rattle.tsp_read.specs.declared.fault.StepFault.TheVariants as steps
 use Rattle.tsp_read.specs.declared.state.part.Part.{Part}
 use Rattle.tsp_read.specs.declared.state.reading.Incomplete.{Incomplete}
 use Rattle.tsp_read.specs.declared.state.reading.Reading.{Reading}
-use Rattle.tsp_read.specs.Items.{Item}
-use Rattle.tsp_read.specs.Earlier.{same_field, is_section_field, has_line, open_section, is_open, words_of}
+use Rattle.tsp_value.specs.declared.keyword.Keyword.TheVariants.{Known, Unknown}
+use Rattle.tsp_value.specs.Limits.{most_line_bytes}
+use Rattle.tsp_read.specs.Items.{WordLine, Item, Line}
+use Rattle.tsp_read.specs.Earlier.{has_line, open_section, is_open, words_of}
 use Rattle.tsp_read.specs.Sections.{nodes_of}
 use Rattle.tsp_read.specs.Rows.{row_of}
 use Rattle.tsp_read.specs.FirstFault.{IsClean}
@@ -24,30 +26,35 @@ abbrev pub is_closed_incomplete : List Item → Field → Bool
 is_closed_incomplete earlier field = not (is_open field (open_section earlier)) && is_incomplete earlier field
 
 -- a keyword stands exactly where its field does
-pub record KeywordsStand (fields : Fields) (earlier : List Item) : Type 0 where
-  pub of_name : is_some fields.name ≡ has_line NameKey earlier
-  pub of_kind : is_some fields.kind ≡ has_line TypeKey earlier
-  pub of_dimension : is_some fields.dimension ≡ has_line DimensionKey earlier
-  pub of_capacity : is_some fields.capacity ≡ has_line CapacityKey earlier
-  pub of_scale : is_some fields.scale ≡ has_line ScaleKey earlier
-  pub of_weight_kind : is_some fields.weight_kind ≡ has_line EdgeWeightTypeKey earlier
-  pub of_weight_format : is_some fields.weight_format ≡ has_line EdgeWeightFormatKey earlier
-  pub of_coord_kind : is_some fields.coord_kind ≡ has_line NodeCoordTypeKey earlier
-  pub of_display_kind : is_some fields.display_kind ≡ has_line DisplayDataTypeKey earlier
+abbrev pub fields_there : Fields → List Bool
+fields_there fields = is_some fields.name ∷ is_some fields.kind ∷ is_some fields.dimension ∷ is_some fields.capacity ∷ is_some fields.scale
+    ∷ is_some fields.weight_kind ∷ is_some fields.weight_format ∷ is_some fields.coord_kind ∷ is_some fields.display_kind ∷ []
+
+abbrev pub keywords_there : List Item → List Bool
+keywords_there earlier = has_line NameKey earlier ∷ has_line TypeKey earlier ∷ has_line DimensionKey earlier ∷ has_line CapacityKey earlier ∷ has_line ScaleKey earlier
+    ∷ has_line EdgeWeightTypeKey earlier ∷ has_line EdgeWeightFormatKey earlier ∷ has_line NodeCoordTypeKey earlier ∷ has_line DisplayDataTypeKey earlier ∷ []
+
+abbrev pub KeywordsStand : Fields → List Item → Type 0
+KeywordsStand fields earlier = fields_there fields ≡ keywords_there earlier
 
 -- a section other than the tours stands only after DIMENSION
-abbrev pub AreAfterDimension : List Item → Type 0
-AreAfterDimension earlier = (field : Field) → is_section_field field ≡ true → same_field TourPart field ≡ false → has_line field earlier ≡ true → has_line DimensionKey earlier ≡ true
+abbrev pub sections_there : List Item → List Bool
+sections_there earlier = has_line NodeCoordPart earlier ∷ has_line DisplayDataPart earlier ∷ has_line DemandPart earlier ∷ has_line DepotPart earlier
+    ∷ has_line FixedEdgesPart earlier ∷ has_line EdgeWeightPart earlier ∷ has_line NodePotentialPart earlier ∷ has_line RowPotentialPart earlier
+    ∷ has_line ColumnPotentialPart earlier ∷ []
 
--- the flags of the sections that can be incomplete
-pub record FlagsHold (flags : Incomplete) (test : Field → Bool) : Type 0 where
-  pub of_coords : flags.coords ≡ test NodeCoordPart
-  pub of_display : flags.display ≡ test DisplayDataPart
-  pub of_demands : flags.demands ≡ test DemandPart
-  pub of_fixed : flags.fixed ≡ test FixedEdgesPart
-  pub of_node_potentials : flags.node_potentials ≡ test NodePotentialPart
-  pub of_row_potentials : flags.row_potentials ≡ test RowPotentialPart
-  pub of_column_potentials : flags.column_potentials ≡ test ColumnPotentialPart
+abbrev pub AreAfterDimension : List Item → Type 0
+AreAfterDimension earlier = has_line DimensionKey earlier ≡ false → sections_there earlier ≡ replicate 9 false
+
+-- the flags of the sections that can be incomplete, and a test at those
+abbrev pub flags_in : Incomplete → List Bool
+flags_in flags = flags.coords ∷ flags.display ∷ flags.demands ∷ flags.fixed ∷ flags.node_potentials ∷ flags.row_potentials ∷ flags.column_potentials ∷ []
+
+abbrev pub tests_at : (Field → Bool) → List Bool
+tests_at test = test NodeCoordPart ∷ test DisplayDataPart ∷ test DemandPart ∷ test FixedEdgesPart ∷ test NodePotentialPart ∷ test RowPotentialPart ∷ test ColumnPotentialPart ∷ []
+
+abbrev pub FlagsHold : Incomplete → (Field → Bool) → Type 0
+FlagsHold flags test = flags_in flags ≡ tests_at test
 
 -- the open section's part has its words
 abbrev pub OpenHolds : Option Part → List Item → Type 0
@@ -77,3 +84,10 @@ abbrev pub Answers : List Item → Item → Reading → Result (Unit {0}) StepFa
 Answers earlier item new (Ok done) = Holds new (item ∷ earlier)
 Answers earlier item new (Err steps.Memory) = Unit {0}
 Answers earlier item new (Err (steps.Fault fault)) = row_of earlier item ≡ Some fault
+
+-- the same from a state where no section is open, for a line that isn't too long
+abbrev pub LineAnswers : Reading → Field → WordLine → Reading → Result (Unit {0}) StepFault → Type 0
+LineAnswers old field line new result = (earlier : List Item) → Closed old earlier → nat_lt most_line_bytes line.size ≡ false → Answers earlier (Line (Known field) line) new result
+
+abbrev pub OtherAnswers : Reading → WordLine → Reading → Result (Unit {0}) StepFault → Type 0
+OtherAnswers old line new result = (earlier : List Item) → Closed old earlier → nat_lt most_line_bytes line.size ≡ false → Answers earlier (Line Unknown line) new result

@@ -19,3 +19,4 @@ pub mod Held
 pub mod Open
 pub mod Holds
 pub mod Cuts
+pub mod CutLine

@@ -1,7 +1,7 @@
 -- Lines and words. TSPLIB 95 (G. Reinelt) has lines of a keyword and a value, and lines of numbers. What exactly ends a line, parts words
 -- and begins a keyword is this project's profile.
 use Rattle.std.specs.Prelude.{ℕ, Bool, true, false, cond, ◌==◌, List, [], ◌∷◌, drop, reverse}
-use Rattle.std.specs.List.{filter, slice_split, prefix_len, take_while}
+use Rattle.std.specs.List.{filter, slice_split, prefix_len, take_while, before_first}
 use Rattle.tsp_value.specs.Bytes.{is_blank, is_letter, is_keyword_byte}
 
 -- byte 10 ends a line
@@ -58,4 +58,4 @@ value_in text = without_end (without_start (drop (cond (has_colon text) 1 0) (af
 
 -- the first word of a value; of an empty value nothing
 abbrev pub first_word : List ℕ → List ℕ
-first_word value = take_while (λ b. cond (is_blank b) false true) value
+first_word value = before_first is_blank value

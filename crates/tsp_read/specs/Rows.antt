@@ -8,7 +8,7 @@ use Rattle.std.specs.List.{list_any}
 use Rattle.tsp_number.specs.declared.fault.NumberFault.{NumberFault}
 use Rattle.tsp_number.specs.Reading.{decimal_of, whole_of}
 use Rattle.tsp_value.specs.declared.field.Field.{Field}
-use Rattle.tsp_value.specs.declared.field.Field.TheVariants.{CommentKey, DimensionKey, EdgeWeightPart, TourPart}
+use Rattle.tsp_value.specs.declared.field.Field.TheVariants.{CommentKey, OtherKey, DimensionKey, EdgeWeightPart, TourPart}
 use Rattle.tsp_value.specs.declared.keyword.Keyword.{Keyword}
 use Rattle.tsp_value.specs.declared.keyword.Keyword.TheVariants.{Known, EdgeDataFormat, EdgeDataSection, Eof, Unknown}
 use Rattle.tsp_value.specs.Limits.{most_nodes, most_matrix_nodes, most_weight, most_line_bytes, most_kept_bytes, most_comments, most_others, most_depots, most_fixed, most_tour_nodes}
@@ -46,8 +46,13 @@ is_unknown_line earlier LineEnd = false
 
 -- ---- Repeated: a keyword other than COMMENT, or a section, that an earlier line has (the two keywords that are refused have a fault at once)
 
+abbrev pub may_repeat : Field → Bool
+may_repeat CommentKey = true
+may_repeat OtherKey = true
+may_repeat field = false
+
 abbrev pub is_repeated : List Item → Item → Bool
-is_repeated earlier (Line (Known field) line) = not (same_field CommentKey field) && has_line field earlier
+is_repeated earlier (Line (Known field) line) = not (may_repeat field) && has_line field earlier
 is_repeated earlier (Line EdgeDataFormat line) = false
 is_repeated earlier (Line EdgeDataSection line) = false
 is_repeated earlier (Line Eof line) = false

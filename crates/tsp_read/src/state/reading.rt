@@ -72,44 +72,50 @@ impl Reading {
         match self.open_part.take() {
             None => {}
             Some(Part::Coords(part)) => {
-                let (points, wants_more) = part.finish();
-                self.draft.coords = Some(points);
+                let (coords, wants_more) = part.finish();
+                self.draft.coords = Some(coords);
                 self.incomplete.coords = wants_more;
             }
             Some(Part::Display(part)) => {
-                let (points, wants_more) = part.finish();
-                self.draft.display = Some(points);
+                let (display, wants_more) = part.finish();
+                self.draft.display = Some(display);
                 self.incomplete.display = wants_more;
             }
             Some(Part::Demands(part)) => {
-                let (numbers, wants_more) = part.finish();
-                self.draft.demands = Some(numbers);
+                let (demands, wants_more) = part.finish();
+                self.draft.demands = Some(demands);
                 self.incomplete.demands = wants_more;
             }
-            Some(Part::Depots(part)) => self.draft.depots = Some(part.finish()),
+            Some(Part::Depots(part)) => {
+                let depots = part.finish();
+                self.draft.depots = Some(depots);
+            }
             Some(Part::Fixed(part)) => {
-                let (pairs, wants_more) = part.finish();
-                self.draft.fixed = Some(pairs);
+                let (fixed, wants_more) = part.finish();
+                self.draft.fixed = Some(fixed);
                 self.incomplete.fixed = wants_more;
             }
-            Some(Part::Weights(part)) => self.draft.weights = Some(part.finish()),
+            Some(Part::Weights(part)) => {
+                let weights = part.finish();
+                self.draft.weights = Some(weights);
+            }
             Some(Part::Tours(part)) => match part.finish(alloc) {
                 Ok(tours) => self.draft.tours = Some(tours),
                 Err(fault) => return Err(fault),
             },
             Some(Part::NodePotentials(part)) => {
-                let (numbers, wants_more) = part.finish();
-                self.draft.node_potentials = Some(numbers);
+                let (node_potentials, wants_more) = part.finish();
+                self.draft.node_potentials = Some(node_potentials);
                 self.incomplete.node_potentials = wants_more;
             }
             Some(Part::RowPotentials(part)) => {
-                let (numbers, wants_more) = part.finish();
-                self.draft.row_potentials = Some(numbers);
+                let (row_potentials, wants_more) = part.finish();
+                self.draft.row_potentials = Some(row_potentials);
                 self.incomplete.row_potentials = wants_more;
             }
             Some(Part::ColumnPotentials(part)) => {
-                let (numbers, wants_more) = part.finish();
-                self.draft.column_potentials = Some(numbers);
+                let (column_potentials, wants_more) = part.finish();
+                self.draft.column_potentials = Some(column_potentials);
                 self.incomplete.column_potentials = wants_more;
             }
         }

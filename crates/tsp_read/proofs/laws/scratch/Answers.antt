@@ -1,5 +1,5 @@
 use Rattle.std.proofs.Common.{rules}
-use Rattle.tsp_read.proofs.WordSteps.{word_answer}
+use Rattle.tsp_read.proofs.KeywordSteps.{some_mapped}
 use Rattle.tsp_read.proofs.laws.scratch.Goals as goal
 
 pub returns : goal.returns
