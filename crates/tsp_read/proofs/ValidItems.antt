@@ -8,7 +8,6 @@ use Rattle.tsp_value.specs.Words.{fields_in_order}
 use Rattle.std.specs.Option.{option_or, option_map}
 use Rattle.tsp_fields.specs.declared.fault.EndFault.{EndFault}
 use Rattle.tsp_fields.specs.declared.fault.EndFault.TheVariants.{Missing, Incomplete}
-use Rattle.tsp_fields.specs.declared.fault.DraftFault.{DraftFault}
 use Rattle.tsp_fields.specs.declared.fault.DraftFault.TheVariants.{BadField, Rule}
 use Rattle.tsp_fields.specs.Fields.{Fields}
 use Rattle.tsp_fields.specs.Rules.{standing_of, is_there, asked_in_order, format_or_count, end_fault, fault_of}

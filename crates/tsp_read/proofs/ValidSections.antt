@@ -10,14 +10,14 @@ use Rattle.std.proofs.lemmas.Option.{none-some, same_Some, cond_some}
 use Rattle.std.proofs.lemmas.Slice.Eq.{bytes_eq-Decides}
 use Rattle.tsp_number.specs.declared.fault.NumberFault.{NumberFault}
 use Rattle.tsp_value.specs.declared.field.Field.{Field}
-use Rattle.tsp_value.specs.declared.field.Field.TheVariants.{CommentKey, DimensionKey, TourPart}
+use Rattle.tsp_value.specs.declared.field.Field.TheVariants.{DimensionKey, TourPart}
 use Rattle.tsp_value.specs.declared.keyword.Keyword.TheVariants.{Known, EdgeDataFormat, EdgeDataSection, Eof, Unknown}
 use Rattle.tsp_value.specs.Words.{field_word, fields_in_order, field_found}
 use Rattle.tsp_read.specs.Items.{WordLine, Item, Line, NumberWord, LineEnd}
 use Rattle.tsp_read.specs.Earlier.{same_field, is_section_field, has_line, open_section, words_of}
 use Rattle.tsp_read.specs.Values.{read_as, dimension_of}
 use Rattle.tsp_read.specs.Sections.{place_in, nodes_of}
-use Rattle.tsp_read.specs.Rows.{row_of, is_repeated}
+use Rattle.tsp_read.specs.Rows.{row_of, may_repeat, is_repeated}
 use Rattle.tsp_read.specs.FirstFault.{IsClean}
 use Rattle.tsp_read.specs.Parts.{word_fault}
 use Rattle.tsp_read.proofs.ValidRows.{clean_parts, no_row}
@@ -61,7 +61,7 @@ known_nodes : (f : Field) (line : WordLine) (earlier : List Item) (b : Bool) →
     → is_repeated earlier (Line (Known f) line) ≡ false → nodes_of (Line (Known f) line ∷ earlier) ≡ nodes_of earlier
 known_nodes f line earlier false e known first = rw e refl
 known_nodes f line earlier true e known first =
-    let again : has_line DimensionKey earlier ≡ false = subst (λ (g : Field). (not (same_field CommentKey g) && has_line g earlier) ≡ false) (sym (same_field_is DimensionKey f e)) first in
+    let again : has_line DimensionKey earlier ≡ false = subst (λ (g : Field). (not (may_repeat g) && has_line g earlier) ≡ false) (sym (same_field_is DimensionKey f e)) first in
     absurd (true≢false (sym known ∙ again))
 
 pub nodes_kept : (earlier : List Item) (item : Item) → has_line DimensionKey earlier ≡ true → row_of earlier item ≡ None → nodes_of (item ∷ earlier) ≡ nodes_of earlier
