@@ -53,7 +53,6 @@ first_of_both true true e other = absurd (true≢false other)
 
 -- ---- words by twos
 
-
 -- a pair begins
 pub pair_begins : {A : Type 0} (words : List A) (word : A) → begun_pair words ≡ []
     → (pairs_in (words ++ word ∷ []) ≡ pairs_in words) × (begun_pair (words ++ word ∷ []) ≡ word ∷ []) × (firsts_in (words ++ word ∷ []) ≡ firsts_in words ++ word ∷ [])

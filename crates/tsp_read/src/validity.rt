@@ -12,16 +12,13 @@ ghost use Rattle.tsp_read.specs.Text.{part, Spells};
 
 /// What items without a fault spell is valid, field by field.
 pub fn clean_fields_are_valid()
-    ensures of_items {
-        (items : List Item) → AreCut items → IsClean items → bad_field (spelled items) ≡ None }
-    ensures of_text {
-        (bytes : List ℕ) → IsClean (part bytes) → bad_field (spelled (part bytes)) ≡ None }
+    ensures of_items { (items : List Item) → AreCut items → IsClean items → bad_field (spelled items) ≡ None }
+    ensures of_text { (bytes : List ℕ) → IsClean (part bytes) → bad_field (spelled (part bytes)) ≡ None }
 {}
 
 /// What a text spells is a file: no field of it, nor its fields together, have a fault.
 pub fn spelled_files_are_valid()
-    ensures of_items {
-        (items : List Item) → AreCut items → IsClean items → fault_at_end items ≡ None
+    ensures of_items { (items : List Item) → AreCut items → IsClean items → fault_at_end items ≡ None
         → fault_of (spelled items) ≡ None }
     ensures of_text { (bytes : List ℕ) (file : Fields) → Spells bytes file → fault_of file ≡ None }
 {}
