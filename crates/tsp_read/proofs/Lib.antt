@@ -16,3 +16,5 @@ pub mod Taken
 pub mod PartSteps
 pub mod CloseSteps
 pub mod KeywordSteps
+pub mod TextSteps
+pub mod OpenSteps

@@ -1,8 +1,9 @@
 -- A word line that is cut into its parts, and the rows of its value alone.
-use Rattle.std.specs.Prelude.{◌≡◌, ℕ, ℤ, Bool, true, false, not, List, [], ◌∷◌, Option, None, Some, is_none, is_some, Result, Ok, Err, pos}
+use Rattle.std.specs.Prelude.{◌≡◌, ℕ, ℤ, Bool, true, false, not, List, [], ◌∷◌, Option, None, Some, is_none, is_some, Result, Ok, Err, pos, length, ◌++◌, nat_le}
 use Rattle.std.specs.Option.{option_map}
 use Rattle.std.specs.Result.{result_err}
 use Rattle.tsp_number.specs.Reading.{whole_of}
+use Rattle.tsp_value.specs.Limits.{most_comments, most_others}
 use Rattle.tsp_value.specs.declared.field.Field.{Field}
 use Rattle.tsp_read.specs.declared.fault.LineFault.{LineFault}
 use Rattle.tsp_read.specs.declared.fault.LineFault.TheVariants as row
@@ -13,7 +14,7 @@ use Rattle.tsp_read.specs.declared.state.line.CutLine.{CutLine}
 use Rattle.tsp_read.specs.Lines.{is_filled, first_word}
 use Rattle.tsp_read.specs.Items.{WordLine, Item, Line}
 use Rattle.tsp_read.specs.Values.{named, is_left_out}
-use Rattle.tsp_read.specs.Rows.{when, first_row}
+use Rattle.tsp_read.specs.Rows.{when, first_row, is_too_long_to_keep}
 
 abbrev pub seen : CutLine → WordLine
 seen line = record { size = line.size; keyword = line.keyword.now; has_colon = line.has_colon; value = line.value.now }
@@ -67,3 +68,21 @@ abbrev pub SetsCount : ℕ → List ℕ → Option ℕ → Option ℕ → Result
 SetsCount most value old new (Ok done) = (is_some old ≡ false) × (is_filled value ≡ true) × (n : ℕ) × (whole_of (first_word value) (pos 1) (pos most) ≡ Ok (pos n)) × (new ≡ Some n)
 SetsCount most value old new (Err steps.Memory) = ⊥
 SetsCount most value old new (Err (steps.Fault fault)) = numbered_rows (is_some old) value (whole_of (first_word value) (pos 1) (pos most)) ≡ Some fault
+
+-- the name is there now, or the fault of the line
+abbrev pub SetsName : WordLine → Option (List ℕ) → Option (List ℕ) → Result (Unit {0}) StepFault → Type 0
+SetsName line old new (Ok done) = (is_some old ≡ false) × (is_too_long_to_keep line ≡ false) × (new ≡ Some line.value)
+SetsName line old new (Err steps.Memory) = Unit {0}
+SetsName line old new (Err (steps.Fault fault)) = first_row (when (is_some old) row.Repeated ∷ when (is_too_long_to_keep line) row.BadValue ∷ []) ≡ Some fault
+
+-- the value is the last comment now, or the fault of the line
+abbrev pub AddsComment : WordLine → List (List ℕ) → List (List ℕ) → Result (Unit {0}) StepFault → Type 0
+AddsComment line old new (Ok done) = (is_too_long_to_keep line ≡ false) × (nat_le most_comments (length old) ≡ false) × (new ≡ old ++ line.value ∷ [])
+AddsComment line old new (Err steps.Memory) = Unit {0}
+AddsComment line old new (Err (steps.Fault fault)) = first_row (when (is_too_long_to_keep line) row.BadValue ∷ when (nat_le most_comments (length old)) row.Surplus ∷ []) ≡ Some fault
+
+-- the keyword and the value are the last of the unknown ones now, or the fault of the line
+abbrev pub AddsOther : WordLine → List (List ℕ × List ℕ) → List (List ℕ × List ℕ) → Result (Unit {0}) StepFault → Type 0
+AddsOther line old new (Ok done) = (line.has_colon ≡ true) × (is_too_long_to_keep line ≡ false) × (nat_le most_others (length old) ≡ false) × (new ≡ old ++ (line.keyword, line.value) ∷ [])
+AddsOther line old new (Err steps.Memory) = Unit {0}
+AddsOther line old new (Err (steps.Fault fault)) = first_row (when (not line.has_colon) row.UnknownLine ∷ when (is_too_long_to_keep line) row.BadValue ∷ when (nat_le most_others (length old)) row.Surplus ∷ []) ≡ Some fault
