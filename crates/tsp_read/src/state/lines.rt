@@ -45,19 +45,19 @@ impl Reading {
     {
         match field {
             Field::NameKey => set_name(alloc, &mut self.draft.name, line),
-            Field::TypeKey => set_named(&mut self.draft.kind, field, line.value),
+            Field::TypeKey => set_named(&mut self.draft.kind, Field::TypeKey, line.value),
             Field::CommentKey => add_comment(alloc, &mut self.draft.comments, line),
             Field::OtherKey => Ok(()),
             Field::DimensionKey => set_count(&mut self.draft.dimension, line.value, MOST_NODES),
             Field::CapacityKey => set_number(&mut self.draft.capacity, line.value, 1, MOST_CAPACITY),
             Field::ScaleKey => set_number(&mut self.draft.scale, line.value, 1, MOST_SCALE),
-            Field::EdgeWeightTypeKey => set_named(&mut self.draft.weight_kind, field, line.value),
+            Field::EdgeWeightTypeKey => set_named(&mut self.draft.weight_kind, Field::EdgeWeightTypeKey, line.value),
             Field::EdgeWeightFormatKey => {
-                set_named(&mut self.draft.weight_format, field, line.value)
+                set_named(&mut self.draft.weight_format, Field::EdgeWeightFormatKey, line.value)
             }
-            Field::NodeCoordTypeKey => set_named(&mut self.draft.coord_kind, field, line.value),
+            Field::NodeCoordTypeKey => set_named(&mut self.draft.coord_kind, Field::NodeCoordTypeKey, line.value),
             Field::DisplayDataTypeKey => {
-                set_named(&mut self.draft.display_kind, field, line.value)
+                set_named(&mut self.draft.display_kind, Field::DisplayDataTypeKey, line.value)
             }
             Field::NodeCoordPart => self.open_coords(alloc, line),
             Field::DisplayDataPart => self.open_display(alloc, line),
