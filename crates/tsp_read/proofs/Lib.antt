@@ -23,3 +23,5 @@ pub mod CloseSteps
 pub mod KeywordSteps
 pub mod TextSteps
 pub mod OpenSteps
+pub mod Pieces
+pub mod TourSteps
