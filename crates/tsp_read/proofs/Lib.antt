@@ -25,3 +25,4 @@ pub mod TextSteps
 pub mod OpenSteps
 pub mod Pieces
 pub mod TourSteps
+pub mod FinishSteps

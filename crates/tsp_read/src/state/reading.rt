@@ -11,13 +11,13 @@ use tsp_fields::Draft;
 /// Which of the closed sections are incomplete.
 #[derive(Clone, Copy, Drop)]
 pub(crate) struct Incomplete {
-    coords: bool,
-    display: bool,
-    demands: bool,
-    fixed: bool,
-    node_potentials: bool,
-    row_potentials: bool,
-    column_potentials: bool,
+    pub(crate) coords: bool,
+    pub(crate) display: bool,
+    pub(crate) demands: bool,
+    pub(crate) fixed: bool,
+    pub(crate) node_potentials: bool,
+    pub(crate) row_potentials: bool,
+    pub(crate) column_potentials: bool,
 }
 
 /// What was read so far: the fields of the lines and of the sections that are closed, and the part
