@@ -1,4 +1,9 @@
 pub mod Clean
+pub mod DepotSteps
+pub mod Ended
+pub mod FixedSteps
+pub mod PairWords
+pub mod WeightSteps
 pub mod WordSteps
 pub mod Taken
 pub mod PartSteps
