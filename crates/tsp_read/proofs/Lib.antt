@@ -11,3 +11,5 @@ pub mod CloseSteps
 pub mod KeywordSteps
 pub mod TextSteps
 pub mod OpenSteps
+pub mod NodeGroups
+pub mod NumberSteps
