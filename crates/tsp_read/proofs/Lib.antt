@@ -13,3 +13,5 @@ pub mod TextSteps
 pub mod OpenSteps
 pub mod NodeGroups
 pub mod NumberSteps
+pub mod PointSteps
+pub mod TripleWords
