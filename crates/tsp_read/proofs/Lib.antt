@@ -5,6 +5,18 @@ pub mod FixedSteps
 pub mod PairWords
 pub mod WeightSteps
 pub mod WordSteps
+pub mod ValidRows
+pub mod ValidSections
+pub mod ValidNumbers
+pub mod ValidStanding
+pub mod ValidWeights
+pub mod ValidLists
+pub mod ValidDepots
+pub mod ValidTours
+pub mod ValidFixed
+pub mod ValidKeywords
+pub mod ValidCuts
+pub mod ValidItems
 pub mod Taken
 pub mod PartSteps
 pub mod CloseSteps
@@ -15,3 +27,6 @@ pub mod NodeGroups
 pub mod NumberSteps
 pub mod PointSteps
 pub mod TripleWords
+pub mod Pieces
+pub mod TourSteps
+pub mod Readings

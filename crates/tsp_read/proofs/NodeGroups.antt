@@ -1,8 +1,9 @@
 -- By-node sections: the marks and entries of the nodes, a node and an entry more.
-use Rattle.std.proofs.Common.{◌≡◌, ◌≢◌, ℕ, ◌+◌, ◌-◌, ◌<◌, ◌≤◌, Bool, true, false, cond, ◌||◌, List, [], ◌∷◌, ◌++◌, length, map, set, refl, sym, ap, ◌∙◌, Option, None, Some, Ok, Err, inl, inr, arith, rules, get_or-set_other, get_or-set_same}
+use Rattle.std.proofs.Common.{◌≡◌, ◌≢◌, ℕ, ◌+◌, ◌-◌, ◌<◌, Bool, true, false, cond, ◌||◌, List, [], ◌∷◌, ◌++◌, map, set, refl, sym, ap, ◌∙◌, Option, None, Some, Ok, Err, inl, inr, arith, rules, get_or-set_other, get_or-set_same}
 use Rattle.std.specs.Prelude.{ℤ, pos, ◌⊎◌, slice_index_or, is_some, unwrap_or}
 use Rattle.std.specs.List.{list_any}
 use Rattle.std.specs.Ordering.{int_eq}
+use Rattle.std.proofs.lemmas.Bool.{false_from_ne_true}
 use Rattle.std.proofs.lemmas.Bool.Decides.{Decides-int_eq, same_from_decides}
 use Rattle.std.proofs.lemmas.List.{length-set, length_push, ext_get_or}
 use Rattle.std.proofs.lemmas.List.FromFn.{length-map-range_with_len, get_or-map-range_with_len}
@@ -16,17 +17,6 @@ use Rattle.tsp_read.specs.Groups.{entry_of, nodes_in, by_node, place_in_group}
 use Rattle.tsp_read.specs.Spells.{wants_more}
 use Rattle.tsp_read.specs.Parts.{word_fault, IsNodeOf, IsNewNode, NodesHold}
 
--- ---- words of a group that has begun, by what they are read as
-
-pub none_read : {A B : Type 0} (f : A → B) (xs : List A) → map f xs ≡ [] → xs ≡ []
-none_read f [] e = refl
-none_read f (x ∷ xs) e = cc
-
-pub one_read : {A B : Type 0} (f : A → B) (xs : List A) (y : B) → map f xs ≡ y ∷ [] → (x : A) × (xs ≡ x ∷ []) × (f x ≡ y)
-one_read f [] y e = cc
-one_read f (x ∷ []) y e = (x, refl, cc)
-one_read f (x ∷ other ∷ xs) y e = cc
-
 -- ---- the entry of a node, by the groups
 
 int_eq_turned : (x y : ℤ) → int_eq x y ≡ int_eq y x
@@ -34,10 +24,6 @@ int_eq_turned x y =
     let there = Decides-int_eq x y in
     let back = Decides-int_eq y x in
     same_from_decides (int_eq x y) (int_eq y x) there (λ e. sym (back.0 e), λ e. back.1 (sym e))
-
-is_other : (b : Bool) → (b ≡ true → ⊥) → b ≡ false
-is_other true h = absurd (h refl)
-is_other false h = refl
 
 found_step : {X : Type 0} (b : Bool) (x : X) (o : Option X) → is_some (cond b (Some x) o) ≡ (b || is_some o)
 found_step true x o = refl
@@ -156,7 +142,7 @@ entry_fills missing x seen entries left n k groups some h =
         rw (is, e, entry) (mark, value)
     there i lt (inr ne) within =
         let other : int_eq (pos k) (pos (i + 1)) ≡ false =
-        is_other (int_eq (pos k) (pos (i + 1))) (λ t. let e = (Decides-int_eq (pos k) (pos (i + 1))).0 t in let same : k ≡ i + 1 = cc in ne (omega arith)) in
+        false_from_ne_true (int_eq (pos k) (pos (i + 1))) (λ t. let e = (Decides-int_eq (pos k) (pos (i + 1))).0 t in let same : k ≡ i + 1 = cc in ne (omega arith)) in
         let entry = entry_other groups (pos k) (pos (i + 1)) x other in
         rw entry (get_or-set_other seen (k - 1) i true false ne ∙ h.marks i lt, get_or-set_other entries (k - 1) i x missing ne ∙ h.filled i lt)
 

@@ -1,5 +1,5 @@
 -- One word more of a by-node section with a whole number for each node.
-use Rattle.std.proofs.Common.{◌≡◌, ℕ, zero, suc, ◌+◌, ◌-◌, ◌*◌, ◌<◌, ◌≤◌, Bool, true, false, List, [], ◌∷◌, ◌++◌, length, map, set, take, refl, sym, ap, ◌∙◌, Option, None, Some, Ok, Err, arith}
+use Rattle.std.proofs.Common.{◌≡◌, ℕ, zero, suc, ◌+◌, ◌-◌, ◌*◌, ◌<◌, ◌≤◌, Bool, true, false, List, [], ◌∷◌, ◌++◌, length, map, set, refl, sym, ap, ◌∙◌, Option, None, Some, Ok, Err, arith}
 use Rattle.std.specs.Prelude.{ℤ, pos, nat_le, nat_lt}
 use Rattle.std.proofs.lemmas.List.{map_push, length_push, length-map, take_all}
 use Rattle.std.proofs.lemmas.Bool.Decides.{nat_tests}
@@ -8,22 +8,18 @@ use Rattle.tsp_number.specs.Reading.{whole_of}
 use Rattle.tsp_read.specs.declared.fault.LineFault.{LineFault}
 use Rattle.tsp_read.specs.declared.fault.LineFault.TheVariants as row
 use Rattle.tsp_read.specs.Numbers.{number, node}
-use Rattle.tsp_read.specs.Places.{Place, NodeAfter, Amount}
+use Rattle.tsp_read.specs.Places.{NodeAfter, Amount}
 use Rattle.tsp_read.specs.Groups.{pairs_in, begun_pair, number_groups, nodes_in, place_of_number, numbers_by_node}
 use Rattle.tsp_read.specs.Spells.{wants_more}
 use Rattle.tsp_read.specs.Parts.{word_fault, readings, IsNewNode, NodesHold, NumbersHold}
-use Rattle.tsp_read.proofs.PairWords.{pairs_begin, begun_begin, pairs_end, begun_end}
-use Rattle.tsp_read.proofs.NodeGroups.{none_read, one_read, node_begins, node_faulty, entry_fills, entries_by_node, wants_in_group}
+use Rattle.tsp_read.proofs.Readings.{none_read, one_read}
+use Rattle.tsp_read.proofs.PairWords.{length_pairs, pairs_begin, begun_begin, pairs_end, begun_end}
+use Rattle.tsp_read.proofs.NodeGroups.{node_begins, node_faulty, entry_fills, entries_by_node, wants_in_group}
 
 -- ---- the groups so far
 
 abbrev group_of : ℤ → ℤ → ℕ → List ℕ × List ℕ → ℤ × ℤ
 group_of low high n = λ group. (number (node n group.0), number (whole_of group.1 low high))
-
-length_pairs : {A : Type 0} (xs : List A) → length xs ≡ 2 * length (pairs_in xs) + length (begun_pair xs)
-length_pairs [] = refl
-length_pairs (a ∷ []) = refl
-length_pairs (a ∷ b ∷ xs) = omega (arith, length_pairs xs)
 
 -- where no words stand past the groups
 all_groups : (low high : ℤ) (n : ℕ) (words : List (List ℕ)) → length words ≤ 2 * n → number_groups low high n words ≡ map (group_of low high n) (pairs_in words)

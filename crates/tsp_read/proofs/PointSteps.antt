@@ -1,5 +1,5 @@
 -- One word more of a by-node section with a point for each node.
-use Rattle.std.proofs.Common.{◌≡◌, ℕ, zero, suc, ◌+◌, ◌-◌, ◌*◌, ◌<◌, ◌≤◌, Bool, true, false, List, [], ◌∷◌, ◌++◌, length, map, set, take, refl, sym, ap, ◌∙◌, Option, None, Some, Ok, Err, arith}
+use Rattle.std.proofs.Common.{◌≡◌, ℕ, zero, suc, ◌+◌, ◌-◌, ◌*◌, ◌<◌, ◌≤◌, Bool, true, false, List, [], ◌∷◌, ◌++◌, length, map, set, refl, sym, ap, ◌∙◌, Option, None, Some, Ok, Err, arith}
 use Rattle.std.specs.Prelude.{ℤ, pos, nat_le, nat_lt}
 use Rattle.std.proofs.lemmas.List.{map_push, length_push, length-map, take_all}
 use Rattle.std.proofs.lemmas.Bool.Decides.{nat_tests}
@@ -9,23 +9,17 @@ use Rattle.tsp_number.specs.Reading.{decimal_of}
 use Rattle.tsp_read.specs.declared.fault.LineFault.{LineFault}
 use Rattle.tsp_read.specs.declared.fault.LineFault.TheVariants as row
 use Rattle.tsp_read.specs.Numbers.{number, node}
-use Rattle.tsp_read.specs.Places.{Place, NodeAfter, Coordinate}
+use Rattle.tsp_read.specs.Places.{NodeAfter, Coordinate}
 use Rattle.tsp_read.specs.Groups.{triples_in, begun_triple, point_of, point_groups, nodes_in, place_of_point, points_by_node}
 use Rattle.tsp_read.specs.Spells.{wants_more}
 use Rattle.tsp_read.specs.Parts.{word_fault, no_point, BeginsPoint, IsNewNode, NodesHold, PointsHold}
-use Rattle.tsp_read.proofs.TripleWords.{triples_begin, begun_begin, triples_middle, begun_middle, triples_end, begun_end}
+use Rattle.tsp_read.proofs.TripleWords.{length_triples, triples_begin, begun_begin, triples_middle, begun_middle, triples_end, begun_end}
 use Rattle.tsp_read.proofs.NodeGroups.{node_begins, node_faulty, entry_fills, entries_by_node, wants_in_group}
 
 -- ---- the groups so far
 
 abbrev group_of : ℕ → List ℕ × List ℕ × List ℕ → ℤ × Point
 group_of n = λ group. (number (node n group.0), point_of group.1 group.2)
-
-length_triples : {A : Type 0} (xs : List A) → length xs ≡ 3 * length (triples_in xs) + length (begun_triple xs)
-length_triples [] = refl
-length_triples (a ∷ []) = refl
-length_triples (a ∷ b ∷ []) = refl
-length_triples (a ∷ b ∷ c ∷ xs) = omega (arith, length_triples xs)
 
 -- where no words stand past the groups
 all_groups : (n : ℕ) (words : List (List ℕ)) → length words ≤ 3 * n → point_groups n words ≡ map (group_of n) (triples_in words)

@@ -1,6 +1,14 @@
 -- Words in groups of three: one word more.
-use Rattle.std.proofs.Common.{◌≡◌, List, [], ◌∷◌, ◌++◌, refl, ap}
+use Rattle.std.proofs.Common.{◌≡◌, ◌+◌, ◌*◌, List, [], ◌∷◌, ◌++◌, length, refl, ap, arith}
 use Rattle.tsp_read.specs.Groups.{triples_in, begun_triple}
+
+-- ---- how many words there are
+
+pub length_triples : {A : Type 0} (xs : List A) → length xs ≡ 3 * length (triples_in xs) + length (begun_triple xs)
+length_triples [] = refl
+length_triples (a ∷ []) = refl
+length_triples (a ∷ b ∷ []) = refl
+length_triples (a ∷ b ∷ c ∷ xs) = omega (arith, length_triples xs)
 
 -- ---- a word that begins a group
 

@@ -18,4 +18,5 @@ pub mod Parts
 pub mod Held
 pub mod Open
 pub mod Holds
+pub mod Cuts
 pub mod CutLine

@@ -24,9 +24,9 @@ pub(crate) struct Incomplete {
 /// of the section that is open.
 #[derive(Drop)]
 pub(crate) struct Reading {
-    draft: Draft,
-    incomplete: Incomplete,
-    open_part: Option<Part>,
+    pub(crate) draft: Draft,
+    pub(crate) incomplete: Incomplete,
+    pub(crate) open_part: Option<Part>,
 }
 
 impl Reading {
@@ -64,7 +64,7 @@ impl Reading {
     }
 
     /// Closes the section that is open, if one is: what it has goes into the draft.
-    fn close(&mut self, alloc: Global) -> Result<(), StepFault>
+    pub(crate) fn close(&mut self, alloc: Global) -> Result<(), StepFault>
         ensures closed { OnOk result ((earlier : List Item) → Holds self.old earlier
             → Closed self.new earlier) }
         ensures err { IfErr result (λ e. e ≡ Memory) }

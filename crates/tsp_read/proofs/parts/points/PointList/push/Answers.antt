@@ -1,5 +1,4 @@
-use Rattle.std.proofs.Common.{◌≡◌, ◌∙◌, sym, subst, Ok, Err, arith}
-use Rattle.tsp_number.specs.Reading.{decimal_of}
+use Rattle.std.proofs.Common.{◌∙◌, sym, subst, Err, arith}
 use Rattle.tsp_read.specs.Parts.{IsNewNode}
 use Rattle.tsp_read.proofs.PointSteps.{point_node_faulty, point_bad, point_node}
 use Rattle.tsp_read.proofs.parts.points.PointList.push.Goals as goal
