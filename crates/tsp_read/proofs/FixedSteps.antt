@@ -4,6 +4,7 @@ use Rattle.std.specs.Prelude.{pos, negsuc, nat_abs, nat_le, is_some}
 use Rattle.std.specs.List.{list_any}
 use Rattle.std.specs.Ordering.{int_eq}
 use Rattle.std.proofs.lemmas.List.{map_push, length_push}
+use Rattle.std.proofs.lemmas.Bool.{false_from_ne_true}
 use Rattle.std.proofs.lemmas.Bool.Decides.{nat_tests, Decides-int_eq}
 use Rattle.tsp_number.specs.declared.fault.NumberFault.{NumberFault}
 use Rattle.tsp_value.specs.Limits.{most_fixed}
@@ -16,28 +17,20 @@ use Rattle.tsp_read.specs.Spells.{wants_more}
 use Rattle.tsp_read.specs.Parts.{word_fault, readings, PairsHold}
 use Rattle.tsp_read.proofs.Ended.{any_push, and_false}
 use Rattle.tsp_read.proofs.DepotSteps.{past_end_clean}
+use Rattle.tsp_read.proofs.Readings.{none_read, one_read}
 use Rattle.tsp_read.proofs.PairWords.{pairs_begin, begun_begin, firsts_begin, pairs_end, begun_end, firsts_end, firsts_kept, pairs_kept, pairs_none}
 
 -- ---- the word of a pair that has begun
 
-none_read : (n : ℕ) (words : List (List ℕ)) → map (node_or_end n) words ≡ [] → words ≡ []
-none_read n [] e = refl
-none_read n (word ∷ words) e = cc
-
-one_read : (n k : ℕ) (words : List (List ℕ)) → map (node_or_end n) words ≡ Ok (pos k) ∷ [] → (word : List ℕ) × (words ≡ word ∷ []) × (node_or_end n word ≡ Ok (pos k))
-one_read n k [] e = cc
-one_read n k (word ∷ []) e = (word, refl, cc)
-one_read n k (word ∷ other ∷ words) e = cc
-
 -- no pair has begun
 none_begun : (pairs : List (ℕ × ℕ)) (first : Option ℕ) (ended : Bool) (n : ℕ) (words : List (List ℕ)) → ended ≡ false → first ≡ None
     → PairsHold pairs first ended n words → begun_pair words ≡ []
-none_begun pairs first ended n words open_ended is h = none_read n (begun_pair words) (h.cut open_ended ∙ ap readings is)
+none_begun pairs first ended n words open_ended is h = none_read (node_or_end n) (begun_pair words) (h.cut open_ended ∙ ap readings is)
 
 -- a pair has begun with this node
 one_begun : (pairs : List (ℕ × ℕ)) (first : Option ℕ) (ended : Bool) (n : ℕ) (words : List (List ℕ)) (k : ℕ) → ended ≡ false → first ≡ Some k
     → PairsHold pairs first ended n words → (word : List ℕ) × (begun_pair words ≡ word ∷ []) × (node_or_end n word ≡ Ok (pos k))
-one_begun pairs first ended n words k open_ended is h = one_read n k (begun_pair words) (h.cut open_ended ∙ ap readings is)
+one_begun pairs first ended n words k open_ended is h = one_read (node_or_end n) (begun_pair words) (Ok (pos k)) (h.cut open_ended ∙ ap readings is)
 
 -- ---- where the next word stands
 
@@ -138,17 +131,13 @@ pair_begins pairs first ended n words word k e is read room h =
       },
     )
 
-is_other : (b : Bool) → (b ≡ true → ⊥) → b ≡ false
-is_other true h = absurd (h refl)
-is_other false h = refl
-
 pub pair_ends : (pairs : List (ℕ × ℕ)) (first : Option ℕ) (ended : Bool) (n : ℕ) (words : List (List ℕ)) (word : List ℕ) (k j : ℕ) → ended ≡ false → first ≡ Some k
     → node n word ≡ Ok (pos j) → j ≢ k → PairsHold pairs first ended n words
     → (word_fault n (place_of_fixed n words) word ≡ None) × PairsHold (pairs ++ (k, j) ∷ []) None ended n (words ++ word ∷ [])
 pair_ends pairs first ended n words word k j e is read apart h =
     let begun = one_begun pairs first ended n words k e is h in
     let none : list_any (is_end n) (firsts_in words) ≡ false = sym h.closed ∙ e in
-    let other : int_eq (pos j) (pos k) ≡ false = is_other (int_eq (pos j) (pos k)) (λ t. let same = (Decides-int_eq (pos j) (pos k)).0 t in apart cc) in
+    let other : int_eq (pos j) (pos k) ≡ false = false_from_ne_true (int_eq (pos j) (pos k)) (λ t. let same = (Decides-int_eq (pos j) (pos k)).0 t in apart cc) in
     let still : list_any (is_end n) (firsts_in (words ++ word ∷ [])) ≡ false = ap (list_any (is_end n)) (firsts_end words begun.0 word begun.1) ∙ none in
     let f : List ℕ × List ℕ → ℕ × ℕ = λ pair. (nat_abs (number (node_or_end n pair.0)), nat_abs (number (node n pair.1))) in
     let nodes : f (begun.0, word) ≡ (k, j) = rw (begun.2, read) refl in

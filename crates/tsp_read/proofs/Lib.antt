@@ -23,6 +23,11 @@ pub mod CloseSteps
 pub mod KeywordSteps
 pub mod TextSteps
 pub mod OpenSteps
+pub mod NodeGroups
+pub mod NumberSteps
+pub mod PointSteps
+pub mod TripleWords
 pub mod Pieces
 pub mod TourSteps
 pub mod FinishSteps
+pub mod Readings

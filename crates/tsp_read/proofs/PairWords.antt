@@ -1,9 +1,16 @@
 -- Words in groups of two: one word more.
-use Rattle.std.proofs.Common.{◌≡◌, Bool, true, false, ◌||◌, cond, List, [], ◌∷◌, ◌++◌, refl, ap}
+use Rattle.std.proofs.Common.{◌≡◌, ◌+◌, ◌*◌, Bool, true, false, ◌||◌, cond, List, [], ◌∷◌, ◌++◌, length, refl, ap, arith}
 use Rattle.std.specs.List.{list_any}
 use Rattle.tsp_read.specs.Groups.{pairs_in, begun_pair}
 use Rattle.tsp_read.specs.Lists.{before, firsts_in}
 use Rattle.tsp_read.proofs.Ended.{kept_step, none_step}
+
+-- ---- how many words there are
+
+pub length_pairs : {A : Type 0} (xs : List A) → length xs ≡ 2 * length (pairs_in xs) + length (begun_pair xs)
+length_pairs [] = refl
+length_pairs (a ∷ []) = refl
+length_pairs (a ∷ b ∷ xs) = omega (arith, length_pairs xs)
 
 -- ---- a word that begins a pair
 
