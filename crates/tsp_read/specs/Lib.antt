@@ -18,6 +18,8 @@ pub mod Parts
 pub mod Held
 pub mod Open
 pub mod Holds
+pub mod Cuts
 pub mod CutLine
 pub mod Cut
 pub mod Walk
+pub mod Finishes

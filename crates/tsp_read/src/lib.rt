@@ -7,6 +7,8 @@ mod laws;
 mod parts;
 mod state;
 mod walk;
+mod validity;
 
 pub use fault::{LineFault, ReadFault};
 pub use laws::{faults_at_the_end, faults_of_word_lines, faults_of_words, fields_of_texts};
+pub use validity::{clean_fields_are_valid, spelled_files_are_valid};
