@@ -24,7 +24,7 @@ pub mod KeywordSteps
 pub mod TextSteps
 pub mod OpenSteps
 pub mod Scans
-pub mod Cuts
+pub mod LeftSteps
 pub mod NextSteps
 pub mod Walks
 pub mod NodeGroups

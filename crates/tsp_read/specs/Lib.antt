@@ -20,6 +20,6 @@ pub mod Open
 pub mod Holds
 pub mod Cuts
 pub mod CutLine
-pub mod Cut
+pub mod Left
 pub mod Walk
 pub mod Finishes

@@ -2,7 +2,7 @@
 use Rattle.std.specs.Prelude.{◌≡◌, Bool, false, List, ◌++◌, reverse}
 use Rattle.tsp_read.specs.declared.walk.Walk.{Walk}
 use Rattle.tsp_read.specs.Items.{Item, has_end_line}
-use Rattle.tsp_read.specs.Cut.{items_left}
+use Rattle.tsp_read.specs.Left.{items_left}
 
 -- the items that are left
 abbrev pub left : Walk → List Item

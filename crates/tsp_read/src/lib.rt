@@ -6,8 +6,8 @@ mod fault;
 mod laws;
 mod parts;
 mod state;
-mod walk;
 mod validity;
+mod walk;
 
 pub use fault::{LineFault, ReadFault};
 pub use laws::{faults_at_the_end, faults_of_word_lines, faults_of_words, fields_of_texts};

@@ -17,7 +17,7 @@ pub(crate) struct Walk<'a> {
 impl<'a> Walk<'a> {
     ghost use Rattle.std.specs.Prelude.{◌≡◌, ◌∷◌, ◌<◌, [], cond, length, reverse, IfSome, MatchOption};
     ghost use Rattle.tsp_read.specs.Items.{items_of, settled_items, to_end_line};
-    ghost use Rattle.tsp_read.specs.Cut.{item_next};
+    ghost use Rattle.tsp_read.specs.Left.{item_next};
     ghost use Rattle.tsp_read.specs.Text.{is_too_long, part};
     ghost use Rattle.tsp_read.specs.Walk.{left};
 

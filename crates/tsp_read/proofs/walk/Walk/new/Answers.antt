@@ -1,4 +1,4 @@
-use Rattle.tsp_read.proofs.Cuts.{all_left}
+use Rattle.tsp_read.proofs.LeftSteps.{all_left}
 use Rattle.tsp_read.proofs.walk.Walk.new.Goals as goal
 
 pub returns-clause-items : goal.returns-clause-items
