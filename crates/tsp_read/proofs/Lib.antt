@@ -18,3 +18,5 @@ pub mod CloseSteps
 pub mod KeywordSteps
 pub mod TextSteps
 pub mod OpenSteps
+pub mod FirstFaults
+pub mod OneAnswer

@@ -20,3 +20,4 @@ pub mod Open
 pub mod Holds
 pub mod Cuts
 pub mod CutLine
+pub mod Answering

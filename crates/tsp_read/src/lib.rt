@@ -1,12 +1,14 @@
 //! Which file the bytes of a text spell, or the first fault and its place.
 #![tactic(auto)]
 
+mod answers;
 mod fault;
 mod laws;
 mod parts;
 mod state;
 mod validity;
 
+pub use answers::{first_faults, texts_have_one_answer};
 pub use fault::{LineFault, ReadFault};
 pub use laws::{faults_at_the_end, faults_of_word_lines, faults_of_words, fields_of_texts};
 pub use validity::{clean_fields_are_valid, spelled_files_are_valid};
