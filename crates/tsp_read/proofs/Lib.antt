@@ -20,3 +20,5 @@ pub mod TextSteps
 pub mod OpenSteps
 pub mod FirstFaults
 pub mod OneAnswer
+pub mod SettledItems
+pub mod SettledFaults

@@ -5,10 +5,12 @@ mod answers;
 mod fault;
 mod laws;
 mod parts;
+mod settled;
 mod state;
 mod validity;
 
 pub use answers::{first_faults, texts_have_one_answer};
 pub use fault::{LineFault, ReadFault};
 pub use laws::{faults_at_the_end, faults_of_word_lines, faults_of_words, fields_of_texts};
+pub use settled::{settled_ends_stay, settled_faults_stay};
 pub use validity::{clean_fields_are_valid, spelled_files_are_valid};
