@@ -280,3 +280,42 @@ settled_kept_by bytes more found false e h =
 
 pub settled_kept : (bytes more : List ℕ) (found : ReadFault) → settled_fault bytes ≡ Some found → settled_fault (bytes ++ more) ≡ Some found
 settled_kept bytes more found h = settled_kept_by bytes more found (is_too_long bytes) refl h
+
+-- ---- a settled end line
+
+short_end : (bytes : List ℕ) (ys : List Item) → is_too_long bytes ≡ false → IsClean (settled_part bytes) → has_end_line (settled_part bytes) ≡ true → Stay (settled_items bytes) ys
+    → reverse (to_end_line ys) ≡ settled_part bytes
+short_end bytes ys e clean ended stay =
+    let whole = settled_short bytes e in
+    let has : has_end_line (settled_items bytes) ≡ true =
+    sym (ends_kept (settled_items bytes)) ∙ sym (ends_turned (to_end_line (settled_items bytes))) ∙ ap has_end_line (sym whole) ∙ ended in
+    ap reverse (end_of_items (settled_items bytes) ys stay (ap fault_in (sym whole) ∙ clean) has) ∙ sym whole
+
+part_kept_by : (bytes more : List ℕ) (b c : Bool) → is_too_long bytes ≡ b → is_too_long (bytes ++ more) ≡ c → IsClean (settled_part bytes) → has_end_line (settled_part bytes) ≡ true
+    → part (bytes ++ more) ≡ settled_part bytes
+part_kept_by bytes more true c e t clean ended = part_long (bytes ++ more) (longer most_file_bytes bytes more e) ∙ settled_long bytes more e
+part_kept_by bytes more false true e t clean ended =
+    part_long (bytes ++ more) t ∙ settled_over bytes more e
+    ∙ short_end bytes (settled_items (bytes ++ take (room_for bytes) more)) e clean ended (items_settled bytes (take (room_for bytes) more))
+part_kept_by bytes more false false e t clean ended = part_short (bytes ++ more) t ∙ short_end bytes (items_of (bytes ++ more)) e clean ended (items_stay bytes more)
+
+pub part_kept : (bytes more : List ℕ) → IsClean (settled_part bytes) → has_end_line (settled_part bytes) ≡ true → part (bytes ++ more) ≡ settled_part bytes
+part_kept bytes more clean ended = part_kept_by bytes more (is_too_long bytes) (is_too_long (bytes ++ more)) refl refl clean ended
+
+only_last : (o last : Option ReadFault) (b c : Bool) → o ≡ None → c ≡ true → first_row (o ∷ when (b && not c) faults.TooLong ∷ last ∷ []) ≡ last
+only_last (Some other) last b c e t = absurd (none-some other (sym e))
+only_last None last b false e t = absurd (false≢true t)
+only_last None None true true e t = refl
+only_last None None false true e t = refl
+only_last None (Some found) true true e t = refl
+only_last None (Some found) false true e t = refl
+
+ended_fault : (bytes : List ℕ) (items : List Item) → part bytes ≡ items → IsClean items → has_end_line items ≡ true → fault bytes ≡ option_map (λ fault. faults.End fault) (fault_at_end items)
+ended_fault bytes items e clean ended =
+    ap (λ (xs : List Item). first_row (fault_in xs ∷ when (is_too_long bytes && not (has_end_line xs)) faults.TooLong ∷ option_map (λ fault. faults.End fault) (fault_at_end xs) ∷ [])) e
+    ∙ only_last (fault_in items) (option_map (λ fault. faults.End fault) (fault_at_end items)) (is_too_long bytes) (has_end_line items) clean ended
+
+pub ended_kept : (bytes more : List ℕ) → IsClean (settled_part bytes) → has_end_line (settled_part bytes) ≡ true → fault (bytes ++ more) ≡ fault bytes
+ended_kept bytes more clean ended =
+    let here : part bytes ≡ settled_part bytes = subst (λ (bs : List ℕ). part bs ≡ settled_part bytes) (append-nil bytes) (part_kept bytes [] clean ended) in
+    ended_fault (bytes ++ more) (settled_part bytes) (part_kept bytes more clean ended) clean ended ∙ sym (ended_fault bytes (settled_part bytes) here clean ended)
