@@ -22,3 +22,6 @@ pub mod FirstFaults
 pub mod OneAnswer
 pub mod SettledItems
 pub mod SettledFaults
+pub mod EachOnce
+pub mod Shapes
+pub mod ByNodeWords

@@ -21,3 +21,4 @@ pub mod Holds
 pub mod Cuts
 pub mod CutLine
 pub mod Answering
+pub mod ByNode

@@ -2,6 +2,7 @@
 #![tactic(auto)]
 
 mod answers;
+mod by_node;
 mod fault;
 mod laws;
 mod parts;
@@ -10,6 +11,7 @@ mod state;
 mod validity;
 
 pub use answers::{first_faults, texts_have_one_answer};
+pub use by_node::each_node_has_one_group;
 pub use fault::{LineFault, ReadFault};
 pub use laws::{faults_at_the_end, faults_of_word_lines, faults_of_words, fields_of_texts};
 pub use settled::{settled_ends_stay, settled_faults_stay};
