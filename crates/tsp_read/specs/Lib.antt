@@ -22,3 +22,4 @@ pub mod Cuts
 pub mod CutLine
 pub mod Answering
 pub mod ByNode
+pub mod Finishes

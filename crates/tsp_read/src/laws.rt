@@ -81,7 +81,3 @@ pub fn fields_of_texts()
     ensures pairs { PairsAre (codes "TYPE:TOUR/DIMENSION 3/FIXED_EDGES/1 2 +3 1.0 -1/TOUR_SECTION") }
     ensures demands { DemandsAre (codes "DIMENSION : 3/DEMAND_SECTION/2 7/3 9 1/5") }
 {}
-
-fn scratch()
-    ensures { IsTrue true }
-{}

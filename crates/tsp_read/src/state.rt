@@ -1,6 +1,9 @@
 //! What was read so far.
 
+pub(crate) mod finish;
 pub(crate) mod line;
+pub(crate) mod lines;
 pub(crate) mod part;
 pub(crate) mod reading;
+pub(crate) mod sections;
 pub(crate) mod slots;

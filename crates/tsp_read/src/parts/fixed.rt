@@ -1,6 +1,6 @@
 //! Fixed pairs.
 
-ghost use Rattle.std.specs.Prelude.{◌≡◌, [], ℕ, List, ◌∷◌, ◌++◌};
+ghost use Rattle.std.specs.Prelude.{◌≡◌, false, None, Some, [], ℕ, List, ◌∷◌, ◌++◌};
 
 use crate::fault::{LineFault, StepFault};
 use crate::parts::nodes::{is_minus_one, read_node, read_node_or_end};
@@ -53,7 +53,12 @@ impl FixedList {
     }
 
     /// Takes the first node of a pair, or the -1 that ends the list.
-    fn push_first(&mut self, word: &[u8]) -> Result<(), StepFault> {
+    fn push_first(&mut self, word: &[u8]) -> Result<(), StepFault>
+        ensures { (n : ℕ) (words : List (List ℕ)) → HoldsFixed self.old n words
+            → self.old.ended ≡ false → self.old.first ≡ None
+            → Takes n (place_of_fixed n words) word.now
+            (HoldsFixed self.new n (words ++ word.now ∷ [])) result }
+    {
         match read_node_or_end(word, self.n) {
             Err(fault) => Err(StepFault::Fault(LineFault::Number(fault))),
             Ok(None) => {
@@ -71,7 +76,12 @@ impl FixedList {
     }
 
     /// Takes the second node of a pair.
-    fn push_second(&mut self, first: u32, word: &[u8]) -> Result<(), StepFault> {
+    fn push_second(&mut self, first: u32, word: &[u8]) -> Result<(), StepFault>
+        ensures { (n : ℕ) (words : List (List ℕ)) → HoldsFixed self.old n words
+            → self.old.ended ≡ false → self.old.first ≡ Some first
+            → Takes n (place_of_fixed n words) word.now
+            (HoldsFixed self.new n (words ++ word.now ∷ [])) result }
+    {
         match read_node(word, self.n) {
             Err(fault) => Err(StepFault::Fault(LineFault::Number(fault))),
             Ok(second) if second == first => Err(StepFault::Fault(LineFault::SelfEdge)),

@@ -1,6 +1,6 @@
 //! By-node sections with a point for each node.
 
-ghost use Rattle.std.specs.Prelude.{◌≡◌, ◌<◌, ◌≤◌, ◌^◌, [], ℕ, List, ◌∷◌, ◌++◌, vec_len, IfOk};
+ghost use Rattle.std.specs.Prelude.{◌≡◌, ◌<◌, ◌≤◌, ◌^◌, None, Some, Ok, [], ℕ, List, ◌∷◌, ◌++◌, vec_len, IfOk};
 ghost use Rattle.std.specs.Option.{ForSome};
 
 use crate::fault::{LineFault, StepFault};
@@ -22,9 +22,10 @@ pub(crate) struct PointList {
 }
 
 impl PointList {
+    ghost use Rattle.tsp_number.specs.Reading.{decimal_of};
     ghost use Rattle.tsp_read.specs.Groups.{place_of_point, points_by_node};
     ghost use Rattle.tsp_read.specs.Spells.{wants_more};
-    ghost use Rattle.tsp_read.specs.Parts.{Takes};
+    ghost use Rattle.tsp_read.specs.Parts.{Takes, word_fault};
     ghost use Rattle.tsp_read.specs.Held.{HoldsPoints};
 
     /// The section with no words so far.
@@ -74,8 +75,15 @@ impl PointList {
         }
     }
 
-    /// The next coordinate of the group that has begun.
-    fn put(&mut self, node: u32, coordinate: Decimal) {
+    /// Takes the next coordinate of the group that has begun.
+    fn put(&mut self, node: u32, coordinate: Decimal)
+        requires to_come { 0 < self.old.left }
+        requires begun { self.old.begun ≡ Some node }
+        ensures { (n : ℕ) (words : List (List ℕ)) (word : List ℕ) → HoldsPoints self.old n words
+            → decimal_of word ≡ Ok coordinate
+            → (word_fault n (place_of_point n words) word ≡ None)
+            × HoldsPoints self.new n (words ++ word ∷ []) }
+    {
         match self.x {
             None => self.x = Some(coordinate),
             Some(x) => {

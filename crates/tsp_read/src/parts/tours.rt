@@ -43,10 +43,10 @@ impl TourList {
         match read_node_or_end(word, MOST_NODES) {
             Err(fault) => Err(StepFault::Fault(LineFault::Number(fault))),
             Ok(None) => self.end_run(alloc),
-            Ok(Some(_)) if self.count >= MOST_TOUR_NODES => {
-                Err(StepFault::Fault(LineFault::Surplus))
-            }
             Ok(Some(node)) => {
+                if self.count >= MOST_TOUR_NODES {
+                    return Err(StepFault::Fault(LineFault::Surplus));
+                }
                 self.count += 1;
                 match self.run.push(node) {
                     Ok(()) => Ok(()),

@@ -11,22 +11,22 @@ use tsp_fields::Draft;
 /// Which of the closed sections are incomplete.
 #[derive(Clone, Copy, Drop)]
 pub(crate) struct Incomplete {
-    coords: bool,
-    display: bool,
-    demands: bool,
-    fixed: bool,
-    node_potentials: bool,
-    row_potentials: bool,
-    column_potentials: bool,
+    pub(crate) coords: bool,
+    pub(crate) display: bool,
+    pub(crate) demands: bool,
+    pub(crate) fixed: bool,
+    pub(crate) node_potentials: bool,
+    pub(crate) row_potentials: bool,
+    pub(crate) column_potentials: bool,
 }
 
 /// What was read so far: the fields of the lines and of the sections that are closed, and the part
 /// of the section that is open.
 #[derive(Drop)]
 pub(crate) struct Reading {
-    draft: Draft,
-    incomplete: Incomplete,
-    open_part: Option<Part>,
+    pub(crate) draft: Draft,
+    pub(crate) incomplete: Incomplete,
+    pub(crate) open_part: Option<Part>,
 }
 
 impl Reading {
@@ -64,7 +64,7 @@ impl Reading {
     }
 
     /// Closes the section that is open, if one is: what it has goes into the draft.
-    fn close(&mut self, alloc: Global) -> Result<(), StepFault>
+    pub(crate) fn close(&mut self, alloc: Global) -> Result<(), StepFault>
         ensures closed { OnOk result ((earlier : List Item) → Holds self.old earlier
             → Closed self.new earlier) }
         ensures err { IfErr result (λ e. e ≡ Memory) }
