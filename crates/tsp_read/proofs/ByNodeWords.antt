@@ -1,17 +1,15 @@
 -- A section by node that isn't incomplete has one group for each node.
-use Rattle.std.proofs.Common.{◌≡◌, ℕ, ◌+◌, ◌*◌, ◌<◌, ◌≤◌, Bool, true, false, cond, List, [], ◌∷◌, ◌++◌, length, map, refl, sym, ap, subst, ◌∙◌, arith, inl, inr, Option, Some, None}
+use Rattle.std.proofs.Common.{◌≡◌, ℕ, ◌+◌, ◌*◌, Bool, true, false, cond, List, [], ◌∷◌, ◌++◌, length, map, refl, sym, ap, subst, ◌∙◌, arith, inl, inr, None}
 use Rattle.std.specs.Prelude.{◌⊎◌, ◌&&◌, nat_le, ℤ, pos, neg_ℤ}
 use Rattle.std.specs.Option.{option_map}
 use Rattle.std.specs.Result.{result_err}
 use Rattle.std.proofs.Math.ListN.{take}
 use Rattle.std.proofs.lemmas.Bool.{true≢false, false≢true, le-leb, leb-true, leb-false}
 use Rattle.std.proofs.lemmas.List.{length_push, length-map, length-take-le, take_all, take-append-le, map_push}
-use Rattle.tsp_number.specs.declared.decimal.Point.{Point}
 use Rattle.tsp_number.specs.Reading.{whole_of}
 use Rattle.tsp_value.specs.declared.field.Field.{Field}
 use Rattle.tsp_value.specs.declared.field.Field.TheVariants.{NameKey, TypeKey, CommentKey, OtherKey, DimensionKey, CapacityKey, ScaleKey, EdgeWeightTypeKey, EdgeWeightFormatKey, NodeCoordTypeKey, DisplayDataTypeKey, NodeCoordPart, DisplayDataPart, DemandPart, DepotPart, FixedEdgesPart, EdgeWeightPart, TourPart, NodePotentialPart, RowPotentialPart, ColumnPotentialPart}
 use Rattle.tsp_value.specs.Limits.{most_demand, most_potential}
-use Rattle.tsp_read.specs.declared.fault.LineFault.{LineFault}
 use Rattle.tsp_read.specs.declared.fault.LineFault.TheVariants as row
 use Rattle.tsp_read.specs.Numbers.{number, node}
 use Rattle.tsp_read.specs.Items.{Item}
@@ -24,7 +22,7 @@ use Rattle.tsp_read.specs.FirstFault.{IsClean}
 use Rattle.tsp_read.specs.Parts.{word_fault}
 use Rattle.tsp_read.specs.Spells.{wants_more, is_incomplete}
 use Rattle.tsp_read.specs.ByNode.{is_by_node_field, group_nodes, HasEachOnce}
-use Rattle.tsp_read.proofs.ValidRows.{map_none, none_applies}
+use Rattle.tsp_read.proofs.ValidRows.{when_none, map_none, none_applies}
 use Rattle.tsp_read.proofs.ValidSections.{Grows, grown}
 use Rattle.tsp_read.proofs.EachOnce.{AreOnce, IsFree, once_more, all_once}
 use Rattle.tsp_read.proofs.Shapes.{Words, IsShape, pair_firsts, pair_shape, triple_firsts, triple_shape}
@@ -87,7 +85,7 @@ same_holds firsts begun limit n words word first rest room h same_firsts next fr
     record {
       once = subst (AreOnce n) (sym same) h.once;
       free = λ other more e still. subst (λ (w : List ℕ). IsFree n (nodes_by firsts limit n (words ++ word ∷ [])) w) (same_first (begun (words ++ word ∷ [])) first other rest more next e)
-      (subst (λ (nodes : List ℤ). IsFree n nodes first) (sym same) free);
+          (subst (λ (nodes : List ℤ). IsFree n nodes first) (sym same) free);
     }
 
 -- a group ends
@@ -102,10 +100,6 @@ ended_holds firsts begun limit n words word first room h one_first next free =
       once = subst (AreOnce n) (sym more) (once_more n (nodes_by firsts limit n words) first h.once free);
       free = λ other rest e still. absurd (not_both (begun (words ++ word ∷ [])) other rest next e);
     }
-
-when_none : (test : Bool) (fault : LineFault) → when test fault ≡ None → test ≡ false
-when_none true fault e = absurd cc
-when_none false fault e = refl
 
 free_node : (n : ℕ) (nodes : List ℤ) (word : List ℕ) → word_fault n (NodeAfter nodes) word ≡ None → IsFree n nodes word
 free_node n nodes word e =

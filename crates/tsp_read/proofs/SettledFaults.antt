@@ -1,30 +1,25 @@
 -- A settled fault stays the fault of every longer text, and a settled end line its end.
-use Rattle.std.proofs.Common.{◌≡◌, ℕ, ◌+◌, ◌-◌, ◌<◌, ◌≤◌, Bool, true, false, cond, List, [], ◌∷◌, ◌++◌, length, reverse, refl, sym, ap, subst, ◌∙◌, arith, inl, inr, Option, Some, None, Result, Ok, Err, append_assoc}
-use Rattle.std.specs.Prelude.{◌⊎◌, ◌&&◌, ◌||◌, not, nat_lt, nat_le, codes, ℤ, pos, negsuc, neg_ℤ, is_none, if◌then◌else◌}
+use Rattle.std.proofs.Common.{◌≡◌, ℕ, ◌+◌, ◌-◌, Bool, true, false, cond, List, [], ◌∷◌, ◌++◌, length, reverse, refl, sym, ap, subst, ◌∙◌, arith, inl, inr, Option, Some, None, Err, append_assoc}
+use Rattle.std.specs.Prelude.{◌&&◌, ◌||◌, not, nat_lt, codes, ℤ, pos, negsuc, neg_ℤ, if◌then◌else◌}
 use Rattle.std.specs.Option.{option_or, option_map}
-use Rattle.std.specs.List.{list_any}
-use Rattle.std.specs.Str.{bytes_eq}
 use Rattle.std.proofs.Math.ListN.{take}
 use Rattle.std.proofs.Math.Seq.{take-append-add}
 use Rattle.std.proofs.lemmas.Bool.{true≢false, false≢true, ltb-true, ltb-false, lt-leb}
-use Rattle.std.proofs.lemmas.Bool.Decides.{nat_tests}
 use Rattle.std.proofs.lemmas.List.{append-nil, reverse-append, take_all, take-append-le}
 use Rattle.std.proofs.lemmas.List.Folds.{list_any-append}
-use Rattle.std.proofs.lemmas.Option.{none-some, same_Some}
+use Rattle.std.proofs.lemmas.Option.{none-some}
 use Rattle.std.proofs.lemmas.Slice.Eq.{bytes_eq-Decides}
-use Rattle.tsp_number.specs.declared.fault.NumberFault.{NumberFault}
 use Rattle.tsp_number.specs.declared.fault.NumberFault.TheVariants.{LongWord}
 use Rattle.tsp_number.specs.Scan.{numeral_in}
 use Rattle.tsp_number.specs.Reading.{whole_from, whole_of, decimal_from, decimal_of}
 use Rattle.tsp_value.specs.declared.field.Field.{Field}
-use Rattle.tsp_value.specs.Limits.{most_word_bytes, most_line_bytes, most_weight, most_nodes, most_file_bytes}
-use Rattle.tsp_fields.specs.declared.fault.EndFault.{EndFault}
+use Rattle.tsp_value.specs.Limits.{most_word_bytes, most_weight, most_nodes, most_file_bytes}
 use Rattle.tsp_read.specs.declared.fault.LineFault.{LineFault}
 use Rattle.tsp_read.specs.declared.fault.LineFault.TheVariants as row
 use Rattle.tsp_read.specs.declared.fault.ReadFault.{ReadFault}
 use Rattle.tsp_read.specs.declared.fault.ReadFault.TheVariants as faults
 use Rattle.tsp_read.specs.Numbers.{is_minus_one}
-use Rattle.tsp_read.specs.Items.{WordLine, line_number, Item, Line, NumberWord, LineEnd, items_of, settled_items, is_end_line, has_end_line, to_end_line}
+use Rattle.tsp_read.specs.Items.{Item, Line, NumberWord, LineEnd, items_of, settled_items, is_end_line, has_end_line, to_end_line}
 use Rattle.tsp_read.specs.Earlier.{open_section, words_of}
 use Rattle.tsp_read.specs.Places.{Place, NodeAfter, Coordinate, Amount, PastGroups, DepotAfter, FirstAfter, SecondOf, PastEnd, Weight, PastWeights, TourNode}
 use Rattle.tsp_read.specs.Sections.{place_in, nodes_of}
@@ -34,7 +29,8 @@ use Rattle.tsp_read.specs.Parts.{word_fault}
 use Rattle.tsp_read.specs.Spells.{fault_at_end}
 use Rattle.tsp_read.specs.Text.{is_too_long, part, fault, settled_part, settled_fault}
 use Rattle.tsp_read.proofs.TextSteps.{long_line}
-use Rattle.tsp_read.proofs.FirstFaults.{found_here, fault_stays}
+use Rattle.tsp_read.proofs.WordSteps.{word_rows}
+use Rattle.tsp_read.proofs.FirstFaults.{fault_stays}
 use Rattle.tsp_read.proofs.ValidRows.{clean_parts}
 use Rattle.tsp_read.proofs.SettledItems.{AreLong, Stay, longer, items_stay, items_settled}
 
@@ -84,10 +80,6 @@ long_fault n PastEnd word long = rw (minus_long word long) refl
 long_fault n Weight word long = rw (whole_long word (neg_ℤ (pos most_weight)) (pos most_weight) long) refl
 long_fault n PastWeights word long = refl
 long_fault n (TourNode count) word long = rw (whole_long word (negsuc 0) (pos most_nodes) long) refl
-
-word_rows : (earlier : List Item) (word : List ℕ) (f : Field) → open_section earlier ≡ Some f
-    → row_of earlier (NumberWord word) ≡ word_fault (nodes_of earlier) (place_in f (nodes_of earlier) (words_of f earlier)) word
-word_rows earlier word f opened = rw opened refl
 
 same_word_row : (earlier : List Item) (word next : List ℕ) (opened : Option Field) → IsLong word → IsLong next → open_section earlier ≡ opened
     → row_of earlier (NumberWord word) ≡ row_of earlier (NumberWord next)

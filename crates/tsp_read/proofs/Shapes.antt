@@ -1,8 +1,9 @@
 -- Groups of two words and of three: their first words, with one word more.
-use Rattle.std.proofs.Common.{◌≡◌, ℕ, suc, ◌+◌, ◌-◌, ◌*◌, ◌≤◌, List, [], ◌∷◌, ◌++◌, length, map, refl, ap, ◌∙◌, arith, inl, inr}
+use Rattle.std.proofs.Common.{◌≡◌, ℕ, ◌+◌, ◌-◌, ◌*◌, List, [], ◌∷◌, ◌++◌, length, map, refl, ap, ◌∙◌, arith, inl, inr}
 use Rattle.std.specs.Prelude.{◌⊎◌}
 use Rattle.std.proofs.lemmas.List.{map_push}
 use Rattle.tsp_read.specs.Groups.{pairs_in, triples_in, begun_pair, begun_triple}
+use Rattle.tsp_read.proofs.TripleWords.{triples_begin, begun_begin}
 use Rattle.tsp_read.proofs.ValidLists.{pair_begins, pair_ends, begun_short}
 
 abbrev pub Words : Type 0
@@ -53,12 +54,8 @@ abbrev pub triple_firsts : Words → Words
 triple_firsts words = map (λ group. group.0) (triples_in words)
 
 triple_starts : (words : Words) (word : List ℕ) → begun_triple words ≡ [] → (triple_firsts (words ++ word ∷ []) ≡ triple_firsts words) × (begun_triple (words ++ word ∷ []) ≡ word ∷ [])
-triple_starts [] word e = (refl, refl)
-triple_starts (a ∷ []) word e = absurd cc
-triple_starts (a ∷ b ∷ []) word e = absurd cc
-triple_starts (a ∷ b ∷ c ∷ words) word e =
-    let rest = triple_starts words word e in
-    (ap (λ (firsts : Words). a ∷ firsts) rest.0, rest.1)
+triple_starts words word e =
+    (ap (λ (groups : List (List ℕ × List ℕ × List ℕ)). map (λ group. group.0) groups) (triples_begin words word e), begun_begin words word e)
 
 abbrev TripleGoesOn : Words → List ℕ → Words → List ℕ → Type 0
 TripleGoesOn words first rest word = ((triple_firsts (words ++ word ∷ []) ≡ triple_firsts words) × (begun_triple (words ++ word ∷ []) ≡ first ∷ (rest ++ word ∷ [])))
