@@ -27,6 +27,13 @@ pub mod Scans
 pub mod LeftSteps
 pub mod NextSteps
 pub mod Walks
+pub mod FirstFaults
+pub mod OneAnswer
+pub mod SettledItems
+pub mod SettledFaults
+pub mod EachOnce
+pub mod Shapes
+pub mod ByNodeWords
 pub mod NodeGroups
 pub mod NumberSteps
 pub mod PointSteps

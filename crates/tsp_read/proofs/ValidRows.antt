@@ -9,7 +9,7 @@ use Rattle.tsp_read.specs.Rows.{when, first_row, table, row_of, is_repeated, has
 use Rattle.tsp_read.specs.FirstFault.{fault_here, fault_in, IsClean}
 use Rattle.tsp_read.specs.Parts.{word_fault}
 
-when_none : {F : Type 0} (test : Bool) (fault : F) → when test fault ≡ None → test ≡ false
+pub when_none : {F : Type 0} (test : Bool) (fault : F) → when test fault ≡ None → test ≡ false
 when_none true fault e = absurd cc
 when_none false fault e = refl
 

@@ -40,7 +40,7 @@ same_self RowPotentialPart = refl
 same_self ColumnPotentialPart = refl
 
 -- the rows of a word are those of its place
-word_rows : (earlier : List Item) (word : List ℕ) (f : Field) → open_section earlier ≡ Some f
+pub word_rows : (earlier : List Item) (word : List ℕ) (f : Field) → open_section earlier ≡ Some f
     → row_of earlier (NumberWord word) ≡ word_fault (nodes_of earlier) (place_in f (nodes_of earlier) (words_of f earlier)) word
 word_rows earlier word f o = rw o refl
 

@@ -22,4 +22,6 @@ pub mod Cuts
 pub mod CutLine
 pub mod Left
 pub mod Walk
+pub mod Answering
+pub mod ByNode
 pub mod Finishes
