@@ -42,3 +42,4 @@ pub mod Pieces
 pub mod TourSteps
 pub mod FinishSteps
 pub mod Readings
+pub mod ReadSteps

@@ -25,3 +25,4 @@ pub mod Walk
 pub mod Answering
 pub mod ByNode
 pub mod Finishes
+pub mod Reads
