@@ -24,5 +24,3 @@ pub mod Left
 pub mod Walk
 pub mod Answering
 pub mod ByNode
-pub mod Finishes
-pub mod Reads

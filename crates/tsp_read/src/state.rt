@@ -1,6 +1,5 @@
 //! What was read so far.
 
-pub(crate) mod finish;
 pub(crate) mod line;
 pub(crate) mod lines;
 pub(crate) mod part;
