@@ -70,7 +70,7 @@ kind_line old new line slot (Ok done) sets is same_flags same_part earlier h sho
       late = h.late;
       stand = ap fields_there is ∙ ap (λ (b : Bool). set (fields_there (fields_of old.draft)) 1 b) sets.3 ∙ ap (λ (xs : List Bool). set xs 1 true) h.stand;
       spelled = is ∙ ap (λ (fields : Fields). record fields { kind = slot }) h.spelled
-      ∙ ap (λ (k : Option Kind). let fields = fields_by (λ field. has_line field earlier) earlier in record fields { kind = k }) (sym sets.2);
+          ∙ ap (λ (k : Option Kind). let fields = fields_by (λ field. has_line field earlier) earlier in record fields { kind = k }) (sym sets.2);
       flagged = ap flags_in same_flags ∙ h.flagged;
       part = still_none old new (Line (Known TypeKey) line ∷ earlier) refl same_part h.part;
     }
@@ -97,7 +97,7 @@ weight_kind_line old new line slot (Ok done) sets is same_flags same_part earlie
       late = h.late;
       stand = ap fields_there is ∙ ap (λ (b : Bool). set (fields_there (fields_of old.draft)) 5 b) sets.3 ∙ ap (λ (xs : List Bool). set xs 5 true) h.stand;
       spelled = is ∙ ap (λ (fields : Fields). record fields { weight_kind = slot }) h.spelled
-      ∙ ap (λ (k : Option WeightKind). let fields = fields_by (λ field. has_line field earlier) earlier in record fields { weight_kind = k }) (sym sets.2);
+          ∙ ap (λ (k : Option WeightKind). let fields = fields_by (λ field. has_line field earlier) earlier in record fields { weight_kind = k }) (sym sets.2);
       flagged = ap flags_in same_flags ∙ h.flagged;
       part = still_none old new (Line (Known EdgeWeightTypeKey) line ∷ earlier) refl same_part h.part;
     }
@@ -124,7 +124,7 @@ weight_format_line old new line slot (Ok done) sets is same_flags same_part earl
       late = h.late;
       stand = ap fields_there is ∙ ap (λ (b : Bool). set (fields_there (fields_of old.draft)) 6 b) sets.3 ∙ ap (λ (xs : List Bool). set xs 6 true) h.stand;
       spelled = is ∙ ap (λ (fields : Fields). record fields { weight_format = slot }) h.spelled
-      ∙ ap (λ (k : Option WeightFormat). let fields = fields_by (λ field. has_line field earlier) earlier in record fields { weight_format = k }) (sym sets.2);
+          ∙ ap (λ (k : Option WeightFormat). let fields = fields_by (λ field. has_line field earlier) earlier in record fields { weight_format = k }) (sym sets.2);
       flagged = ap flags_in same_flags ∙ h.flagged;
       part = still_none old new (Line (Known EdgeWeightFormatKey) line ∷ earlier) refl same_part h.part;
     }
@@ -151,7 +151,7 @@ coord_kind_line old new line slot (Ok done) sets is same_flags same_part earlier
       late = h.late;
       stand = ap fields_there is ∙ ap (λ (b : Bool). set (fields_there (fields_of old.draft)) 7 b) sets.3 ∙ ap (λ (xs : List Bool). set xs 7 true) h.stand;
       spelled = is ∙ ap (λ (fields : Fields). record fields { coord_kind = slot }) h.spelled
-      ∙ ap (λ (k : Option CoordKind). let fields = fields_by (λ field. has_line field earlier) earlier in record fields { coord_kind = k }) (sym sets.2);
+          ∙ ap (λ (k : Option CoordKind). let fields = fields_by (λ field. has_line field earlier) earlier in record fields { coord_kind = k }) (sym sets.2);
       flagged = ap flags_in same_flags ∙ h.flagged;
       part = still_none old new (Line (Known NodeCoordTypeKey) line ∷ earlier) refl same_part h.part;
     }
@@ -178,7 +178,7 @@ display_kind_line old new line slot (Ok done) sets is same_flags same_part earli
       late = h.late;
       stand = ap fields_there is ∙ ap (λ (b : Bool). set (fields_there (fields_of old.draft)) 8 b) sets.3 ∙ ap (λ (xs : List Bool). set xs 8 true) h.stand;
       spelled = is ∙ ap (λ (fields : Fields). record fields { display_kind = slot }) h.spelled
-      ∙ ap (λ (k : Option DisplayKind). let fields = fields_by (λ field. has_line field earlier) earlier in record fields { display_kind = k }) (sym sets.2);
+          ∙ ap (λ (k : Option DisplayKind). let fields = fields_by (λ field. has_line field earlier) earlier in record fields { display_kind = k }) (sym sets.2);
       flagged = ap flags_in same_flags ∙ h.flagged;
       part = still_none old new (Line (Known DisplayDataTypeKey) line ∷ earlier) refl same_part h.part;
     }
@@ -205,7 +205,7 @@ capacity_line old new line slot (Ok done) sets is same_flags same_part earlier h
       late = h.late;
       stand = ap fields_there is ∙ ap (λ (b : Bool). set (fields_there (fields_of old.draft)) 3 b) filled ∙ ap (λ (xs : List Bool). set xs 3 true) h.stand;
       spelled = is ∙ ap (λ (fields : Fields). record fields { capacity = slot }) h.spelled
-      ∙ ap (λ (k : Option ℤ). let fields = fields_by (λ field. has_line field earlier) earlier in record fields { capacity = k }) (sets.4 ∙ sym (ap (λ (r : Result ℤ NumberFault). result_ok r) sets.3));
+          ∙ ap (λ (k : Option ℤ). let fields = fields_by (λ field. has_line field earlier) earlier in record fields { capacity = k }) (sets.4 ∙ sym (ap (λ (r : Result ℤ NumberFault). result_ok r) sets.3));
       flagged = ap flags_in same_flags ∙ h.flagged;
       part = still_none old new (Line (Known CapacityKey) line ∷ earlier) refl same_part h.part;
     }
@@ -232,7 +232,7 @@ scale_line old new line slot (Ok done) sets is same_flags same_part earlier h sh
       late = h.late;
       stand = ap fields_there is ∙ ap (λ (b : Bool). set (fields_there (fields_of old.draft)) 4 b) filled ∙ ap (λ (xs : List Bool). set xs 4 true) h.stand;
       spelled = is ∙ ap (λ (fields : Fields). record fields { scale = slot }) h.spelled
-      ∙ ap (λ (k : Option ℤ). let fields = fields_by (λ field. has_line field earlier) earlier in record fields { scale = k }) (sets.4 ∙ sym (ap (λ (r : Result ℤ NumberFault). result_ok r) sets.3));
+          ∙ ap (λ (k : Option ℤ). let fields = fields_by (λ field. has_line field earlier) earlier in record fields { scale = k }) (sets.4 ∙ sym (ap (λ (r : Result ℤ NumberFault). result_ok r) sets.3));
       flagged = ap flags_in same_flags ∙ h.flagged;
       part = still_none old new (Line (Known ScaleKey) line ∷ earlier) refl same_part h.part;
     }
@@ -270,8 +270,8 @@ dimension_line old new line slot (Ok done) sets is same_flags same_part earlier 
       late = λ e. cc;
       stand = ap fields_there is ∙ ap (λ (b : Bool). set (fields_there (fields_of old.draft)) 2 b) filled ∙ ap (λ (xs : List Bool). set xs 2 true) h.stand;
       spelled = is ∙ ap (λ (fields : Fields). record fields { dimension = slot }) h.spelled
-      ∙ ap (λ (k : Option ℕ). let fields = fields_by (λ field. has_line field earlier) earlier in record fields { dimension = k }) sets.4
-      ∙ dimension_field earlier line sets.2 sets.3 (at 0) (at 1) (at 2) (at 3) (at 4) (at 5) (at 6) (at 7) (at 8);
+          ∙ ap (λ (k : Option ℕ). let fields = fields_by (λ field. has_line field earlier) earlier in record fields { dimension = k }) sets.4
+          ∙ dimension_field earlier line sets.2 sets.3 (at 0) (at 1) (at 2) (at 3) (at 4) (at 5) (at 6) (at 7) (at 8);
       flagged = ap flags_in same_flags ∙ h.flagged ∙ dimension_tests earlier line (at 0) (at 1) (at 2) (at 3) (at 4) (at 5) (at 6) (at 7) (at 8);
       part = still_none old new (Line (Known DimensionKey) line ∷ earlier) refl same_part h.part;
     }

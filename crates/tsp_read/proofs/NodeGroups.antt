@@ -109,7 +109,7 @@ node_faulty missing seen entries left begun n groups place word row.RepeatedNode
     let k = new.0 in
     let within : IsNodeOf n k = (new.2.0, omega (arith, new.2.1, h.wide)) in
     node_repeats n k groups place word is (ap (λ i. node i word) (sym h.wide) ∙ new.1)
-        (sym (mark_is_entry missing seen entries left begun n k groups within h) ∙ new.3)
+    (sym (mark_is_entry missing seen entries left begun n k groups within h) ∙ new.3)
 node_faulty missing seen entries left begun n groups place word fault is new h = absurd new
 
 -- ---- the entry of a group that has begun
@@ -154,7 +154,7 @@ unfolding nodes_to
 entries_by_node missing seen entries left begun n groups h =
     let f : ℕ → _ = λ i. unwrap_or (entry_of groups (pos i)) missing in
     ext_get_or missing entries (by_node missing n groups) (h.sized ∙ sym (length-map-range_with_len f 1 n))
-        (λ i lt. h.filled i (omega (arith, h.sized)) ∙ sym (get_or-map-range_with_len f 1 n i (i + 1) missing (omega (arith, h.sized)) (omega arith)))
+    (λ i lt. h.filled i (omega (arith, h.sized)) ∙ sym (get_or-map-range_with_len f 1 n i (i + 1) missing (omega (arith, h.sized)) (omega arith)))
 
 -- a group is still to come where words are wanted
 pub wants_in_group : (place : Place) (nodes : List ℤ) (begun : List (List ℕ)) → wants_more place ≡ true → wants_more (place_in_group place nodes begun) ≡ true

@@ -37,7 +37,6 @@ use Rattle.tsp_read.specs.Spells.{fields_by, is_incomplete}
 use Rattle.tsp_read.specs.CutLine.{SetsName, AddsComment, AddsOther, MayOpen}
 use Rattle.tsp_read.specs.Holds.{fields_there, keywords_there, sections_there, is_closed, is_closed_incomplete, flags_in, tests_at, OpenHolds, Holds, Closed, Answers, LineAnswers, OtherAnswers}
 use Rattle.tsp_read.proofs.Clean.{clean_more}
-
 use Rattle.tsp_read.specs.declared.state.part.Part.TheVariants.{Coords, Display, Demands, Depots, Fixed, Weights, Tours, NodePotentials, RowPotentials, ColumnPotentials}
 use Rattle.tsp_value.specs.Limits.{most_matrix_nodes}
 use Rattle.tsp_read.specs.Items.{NumberWord, LineEnd}

@@ -32,7 +32,6 @@ use Rattle.tsp_read.specs.Spells.{fields_by, is_incomplete}
 use Rattle.tsp_read.specs.CutLine.{SetsName, AddsComment, AddsOther, MayOpen}
 use Rattle.tsp_read.specs.Holds.{fields_there, keywords_there, sections_there, is_closed, is_closed_incomplete, flags_in, tests_at, OpenHolds, Holds, Closed, Answers, LineAnswers, OtherAnswers}
 use Rattle.tsp_read.proofs.Clean.{clean_more}
-
 use Rattle.tsp_read.proofs.KeywordSteps.{still_none, some_mapped}
 
 -- two rows and three rows that don't apply
@@ -60,7 +59,7 @@ name_line old new line slot (Ok done) sets is same_flags same_part earlier h sho
       late = h.late;
       stand = ap fields_there is ∙ ap (λ (b : Bool). set (fields_there (fields_of old.draft)) 0 b) filled ∙ ap (λ (xs : List Bool). set xs 0 true) h.stand;
       spelled = is ∙ ap (λ (fields : Fields). record fields { name = slot }) h.spelled
-      ∙ ap (λ (k : Option (List ℕ)). let fields = fields_by (λ field. has_line field earlier) earlier in record fields { name = k }) sets.2;
+          ∙ ap (λ (k : Option (List ℕ)). let fields = fields_by (λ field. has_line field earlier) earlier in record fields { name = k }) sets.2;
       flagged = ap flags_in same_flags ∙ h.flagged;
       part = still_none old new (Line (Known NameKey) line ∷ earlier) refl same_part h.part;
     }
@@ -85,11 +84,11 @@ comment_line old new line comments (Ok done) adds is same_flags same_part earlie
     let few : nat_le most_comments (length (values_at CommentKey earlier)) ≡ false = ap (λ (xs : List (List ℕ)). nat_le most_comments (length xs)) (sym same) ∙ adds.1 in
     record {
       clean = clean_more earlier (Line (Known CommentKey) line) h.clean
-      (comment_rows earlier line short ∙ two_none (is_too_long_to_keep line) (nat_le most_comments (length (values_at CommentKey earlier))) row.BadValue row.Surplus adds.0 few);
+          (comment_rows earlier line short ∙ two_none (is_too_long_to_keep line) (nat_le most_comments (length (values_at CommentKey earlier))) row.BadValue row.Surplus adds.0 few);
       late = h.late;
       stand = ap fields_there is ∙ h.stand;
       spelled = is ∙ ap (λ (xs : List (List ℕ)). let fields = fields_of old.draft in record fields { comments = xs }) adds.2
-      ∙ ap (λ (fields : Fields). record fields { comments = fields.comments ++ line.value ∷ [] }) h.spelled;
+          ∙ ap (λ (fields : Fields). record fields { comments = fields.comments ++ line.value ∷ [] }) h.spelled;
       flagged = ap flags_in same_flags ∙ h.flagged;
       part = still_none old new (Line (Known CommentKey) line ∷ earlier) refl same_part h.part;
     }
@@ -115,11 +114,11 @@ other_line old new line others (Ok done) adds is same_flags same_part earlier h 
     let few : nat_le most_others (length (others_in earlier)) ≡ false = ap (λ (xs : List (List ℕ × List ℕ)). nat_le most_others (length xs)) (sym same) ∙ adds.2 in
     record {
       clean = clean_more earlier (Line Unknown line) h.clean
-      (other_rows earlier line short ∙ three_none (not line.has_colon) (is_too_long_to_keep line) (nat_le most_others (length (others_in earlier))) row.UnknownLine row.BadValue row.Surplus (ap not adds.0) adds.1 few);
+          (other_rows earlier line short ∙ three_none (not line.has_colon) (is_too_long_to_keep line) (nat_le most_others (length (others_in earlier))) row.UnknownLine row.BadValue row.Surplus (ap not adds.0) adds.1 few);
       late = h.late;
       stand = ap fields_there is ∙ h.stand;
       spelled = is ∙ ap (λ (xs : List (List ℕ × List ℕ)). let fields = fields_of old.draft in record fields { others = xs }) adds.3
-      ∙ ap (λ (fields : Fields). record fields { others = fields.others ++ (line.keyword, line.value) ∷ [] }) h.spelled;
+          ∙ ap (λ (fields : Fields). record fields { others = fields.others ++ (line.keyword, line.value) ∷ [] }) h.spelled;
       flagged = ap flags_in same_flags ∙ h.flagged;
       part = still_none old new (Line Unknown line ∷ earlier) refl same_part h.part;
     }

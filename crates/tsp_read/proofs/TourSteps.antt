@@ -36,8 +36,7 @@ after_end n words word old new (Ok done) read ok same err h =
     let ended = ok words h in
     let ends : ends_tour word ≡ true = rw read refl in
     let none : ◌≡◌ {A = ℕ} (cond (not (ends_tour word)) 1 0) 0 = rw ends refl in
-    let counted = count_push (λ w. not (ends_tour w)) words word in
-    (
+    let counted = count_push (λ w. not (ends_tour w)) words word in (
       end_clean n (length (filter (λ w. not (ends_tour w)) words)) word read,
       record {
         pieces = slice_split ends_tour words;
@@ -58,8 +57,7 @@ after_node n k words word old new read few same more counted h =
     let ends : ends_tour word ≡ false = rw read refl in
     let node : tour_node word ≡ k = rw read refl in
     let one : ◌≡◌ {A = ℕ} (cond (not (ends_tour word)) 1 0) 1 = rw ends refl in
-    let pushed = count_push (λ w. not (ends_tour w)) words word in
-    (
+    let pushed = count_push (λ w. not (ends_tour w)) words word in (
       node_clean n (length (filter (λ w. not (ends_tour w)) words)) k word read (ap (λ (c : ℕ). nat_le most_tour_nodes c) (sym h.nodes) ∙ few),
       record {
         pieces = h.pieces;

@@ -101,9 +101,9 @@ open_more : (part after : Part) (earlier : List Item) (word : List ℕ) → open
 open_more part after earlier word o h = (
   o ∙ ap (λ f. Some f) (sym h.1),
   let words : words_of (section_of after) (NumberWord word ∷ earlier) ≡ words_of (section_of part) earlier ++ word ∷ [] =
-  ap (λ f. words_of f (NumberWord word ∷ earlier)) h.1 ∙ words_more earlier word (section_of part) o in
-  let P : List (List ℕ) → Type 0 = λ words. PartHolds after (nodes_of earlier) words in
-  subst P (sym words) h.0,
+      ap (λ f. words_of f (NumberWord word ∷ earlier)) h.1 ∙ words_more earlier word (section_of part) o in
+      let P : List (List ℕ) → Type 0 = λ words. PartHolds after (nodes_of earlier) words in
+      subst P (sym words) h.0,
 )
 
 -- What the part answers is what the reader answers. The new state is the old one with the part after the word.

@@ -1,9 +1,9 @@
 //! Which file the bytes of a text spell, or the first fault and its place.
 #![tactic(auto)]
 
-mod cut;
 mod answers;
 mod by_node;
+mod cut;
 mod fault;
 mod laws;
 mod parts;

@@ -102,11 +102,7 @@ pub(crate) fn number(value: &[u8], low: i64, high: i64) -> Result<i64, LineFault
 
 /// The number of nodes of a section that may be opened: one that doesn't stand yet, whose line has
 /// no value, after DIMENSION.
-pub(crate) fn may_open(
-    stands: bool,
-    value: &[u8],
-    dimension: Option<u32>,
-) -> Result<u32, LineFault>
+pub(crate) fn may_open(stands: bool, value: &[u8], dimension: Option<u32>) -> Result<u32, LineFault>
     ensures { MayOpen stands value.now dimension result }
 {
     if stands {

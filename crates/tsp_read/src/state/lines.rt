@@ -35,12 +35,7 @@ impl Reading {
     }
 
     /// Takes the line of a field, where no section is open.
-    fn known(
-        &mut self,
-        alloc: Global,
-        field: Field,
-        line: &CutLine<'_>,
-    ) -> Result<(), StepFault>
+    fn known(&mut self, alloc: Global, field: Field, line: &CutLine<'_>) -> Result<(), StepFault>
         ensures { LineAnswers self.old field (seen line.now) self.new result }
     {
         match field {
@@ -49,15 +44,36 @@ impl Reading {
             Field::CommentKey => add_comment(alloc, &mut self.draft.comments, line),
             Field::OtherKey => Ok(()),
             Field::DimensionKey => set_count(&mut self.draft.dimension, line.value, MOST_NODES),
-            Field::CapacityKey => set_number(&mut self.draft.capacity, line.value, 1, MOST_CAPACITY),
+            Field::CapacityKey => set_number(
+                &mut self.draft.capacity,
+                line.value,
+                1,
+                MOST_CAPACITY,
+            ),
             Field::ScaleKey => set_number(&mut self.draft.scale, line.value, 1, MOST_SCALE),
-            Field::EdgeWeightTypeKey => set_named(&mut self.draft.weight_kind, Field::EdgeWeightTypeKey, line.value),
+            Field::EdgeWeightTypeKey => set_named(
+                &mut self.draft.weight_kind,
+                Field::EdgeWeightTypeKey,
+                line.value,
+            ),
             Field::EdgeWeightFormatKey => {
-                set_named(&mut self.draft.weight_format, Field::EdgeWeightFormatKey, line.value)
+                set_named(
+                    &mut self.draft.weight_format,
+                    Field::EdgeWeightFormatKey,
+                    line.value,
+                )
             }
-            Field::NodeCoordTypeKey => set_named(&mut self.draft.coord_kind, Field::NodeCoordTypeKey, line.value),
+            Field::NodeCoordTypeKey => set_named(
+                &mut self.draft.coord_kind,
+                Field::NodeCoordTypeKey,
+                line.value,
+            ),
             Field::DisplayDataTypeKey => {
-                set_named(&mut self.draft.display_kind, Field::DisplayDataTypeKey, line.value)
+                set_named(
+                    &mut self.draft.display_kind,
+                    Field::DisplayDataTypeKey,
+                    line.value,
+                )
             }
             Field::NodeCoordPart => self.open_coords(alloc, line),
             Field::DisplayDataPart => self.open_display(alloc, line),

@@ -22,7 +22,11 @@ impl Reading {
     pub(crate) fn open_coords(&mut self, alloc: Global, line: &CutLine<'_>) -> Result<(), StepFault>
         ensures { LineAnswers self.old NodeCoordPart (seen line.now) self.new result }
     {
-        match may_open(self.draft.coords.is_some(), line.value, self.draft.dimension) {
+        match may_open(
+            self.draft.coords.is_some(),
+            line.value,
+            self.draft.dimension,
+        ) {
             Ok(n) => match PointList::open(alloc, n) {
                 Ok(part) => {
                     self.open_part = Some(Part::Coords(part));
@@ -35,10 +39,18 @@ impl Reading {
     }
 
     /// Opens DISPLAY_DATA_SECTION.
-    pub(crate) fn open_display(&mut self, alloc: Global, line: &CutLine<'_>) -> Result<(), StepFault>
+    pub(crate) fn open_display(
+        &mut self,
+        alloc: Global,
+        line: &CutLine<'_>,
+    ) -> Result<(), StepFault>
         ensures { LineAnswers self.old DisplayDataPart (seen line.now) self.new result }
     {
-        match may_open(self.draft.display.is_some(), line.value, self.draft.dimension) {
+        match may_open(
+            self.draft.display.is_some(),
+            line.value,
+            self.draft.dimension,
+        ) {
             Ok(n) => match PointList::open(alloc, n) {
                 Ok(part) => {
                     self.open_part = Some(Part::Display(part));
@@ -51,10 +63,18 @@ impl Reading {
     }
 
     /// Opens DEMAND_SECTION.
-    pub(crate) fn open_demands(&mut self, alloc: Global, line: &CutLine<'_>) -> Result<(), StepFault>
+    pub(crate) fn open_demands(
+        &mut self,
+        alloc: Global,
+        line: &CutLine<'_>,
+    ) -> Result<(), StepFault>
         ensures { LineAnswers self.old DemandPart (seen line.now) self.new result }
     {
-        match may_open(self.draft.demands.is_some(), line.value, self.draft.dimension) {
+        match may_open(
+            self.draft.demands.is_some(),
+            line.value,
+            self.draft.dimension,
+        ) {
             Ok(n) => match NumberList::open(alloc, n, 0, MOST_DEMAND) {
                 Ok(part) => {
                     self.open_part = Some(Part::Demands(part));
@@ -70,7 +90,11 @@ impl Reading {
     pub(crate) fn open_depots(&mut self, alloc: Global, line: &CutLine<'_>) -> Result<(), StepFault>
         ensures { LineAnswers self.old DepotPart (seen line.now) self.new result }
     {
-        match may_open(self.draft.depots.is_some(), line.value, self.draft.dimension) {
+        match may_open(
+            self.draft.depots.is_some(),
+            line.value,
+            self.draft.dimension,
+        ) {
             Ok(n) => {
                 self.open_part = Some(Part::Depots(DepotList::open(alloc, n)));
                 Ok(())
@@ -93,10 +117,18 @@ impl Reading {
     }
 
     /// Opens EDGE_WEIGHT_SECTION.
-    pub(crate) fn open_weights(&mut self, alloc: Global, line: &CutLine<'_>) -> Result<(), StepFault>
+    pub(crate) fn open_weights(
+        &mut self,
+        alloc: Global,
+        line: &CutLine<'_>,
+    ) -> Result<(), StepFault>
         ensures { LineAnswers self.old EdgeWeightPart (seen line.now) self.new result }
     {
-        match may_open(self.draft.weights.is_some(), line.value, self.draft.dimension) {
+        match may_open(
+            self.draft.weights.is_some(),
+            line.value,
+            self.draft.dimension,
+        ) {
             Ok(n) => {
                 if n > MOST_MATRIX_NODES {
                     return Err(StepFault::Fault(LineFault::TooManyNodes));
@@ -123,10 +155,18 @@ impl Reading {
     }
 
     /// Opens NODE_POTENTIAL_SECTION.
-    pub(crate) fn open_node_potentials(&mut self, alloc: Global, line: &CutLine<'_>) -> Result<(), StepFault>
+    pub(crate) fn open_node_potentials(
+        &mut self,
+        alloc: Global,
+        line: &CutLine<'_>,
+    ) -> Result<(), StepFault>
         ensures { LineAnswers self.old NodePotentialPart (seen line.now) self.new result }
     {
-        match may_open(self.draft.node_potentials.is_some(), line.value, self.draft.dimension) {
+        match may_open(
+            self.draft.node_potentials.is_some(),
+            line.value,
+            self.draft.dimension,
+        ) {
             Ok(n) => match NumberList::open(alloc, n, -MOST_POTENTIAL, MOST_POTENTIAL) {
                 Ok(part) => {
                     self.open_part = Some(Part::NodePotentials(part));
@@ -139,10 +179,18 @@ impl Reading {
     }
 
     /// Opens ROW_POTENTIAL_SECTION.
-    pub(crate) fn open_row_potentials(&mut self, alloc: Global, line: &CutLine<'_>) -> Result<(), StepFault>
+    pub(crate) fn open_row_potentials(
+        &mut self,
+        alloc: Global,
+        line: &CutLine<'_>,
+    ) -> Result<(), StepFault>
         ensures { LineAnswers self.old RowPotentialPart (seen line.now) self.new result }
     {
-        match may_open(self.draft.row_potentials.is_some(), line.value, self.draft.dimension) {
+        match may_open(
+            self.draft.row_potentials.is_some(),
+            line.value,
+            self.draft.dimension,
+        ) {
             Ok(n) => match NumberList::open(alloc, n, -MOST_POTENTIAL, MOST_POTENTIAL) {
                 Ok(part) => {
                     self.open_part = Some(Part::RowPotentials(part));
@@ -155,10 +203,18 @@ impl Reading {
     }
 
     /// Opens COLUMN_POTENTIAL_SECTION.
-    pub(crate) fn open_column_potentials(&mut self, alloc: Global, line: &CutLine<'_>) -> Result<(), StepFault>
+    pub(crate) fn open_column_potentials(
+        &mut self,
+        alloc: Global,
+        line: &CutLine<'_>,
+    ) -> Result<(), StepFault>
         ensures { LineAnswers self.old ColumnPotentialPart (seen line.now) self.new result }
     {
-        match may_open(self.draft.column_potentials.is_some(), line.value, self.draft.dimension) {
+        match may_open(
+            self.draft.column_potentials.is_some(),
+            line.value,
+            self.draft.dimension,
+        ) {
             Ok(n) => match NumberList::open(alloc, n, -MOST_POTENTIAL, MOST_POTENTIAL) {
                 Ok(part) => {
                     self.open_part = Some(Part::ColumnPotentials(part));

@@ -53,11 +53,7 @@ pub(crate) fn set_number(
 }
 
 /// Sets the number of nodes that a line has, at most `most`, where none is set yet.
-pub(crate) fn set_count(
-    slot: &mut Option<u32>,
-    value: &[u8],
-    most: u32,
-) -> Result<(), StepFault>
+pub(crate) fn set_count(slot: &mut Option<u32>, value: &[u8], most: u32) -> Result<(), StepFault>
     ensures { SetsCount most value.now slot.old slot.new result }
 {
     if slot.is_some() {
@@ -76,8 +72,7 @@ pub(crate) fn set_count(
 fn is_too_long_to_keep(line: &CutLine<'_>) -> bool
     ensures { result ≡ is_too_long_to_keep (seen line.now) }
 {
-    line.keyword.len() > MOST_KEPT_BYTES
-        || line.value.len() > MOST_KEPT_BYTES - line.keyword.len()
+    line.keyword.len() > MOST_KEPT_BYTES || line.value.len() > MOST_KEPT_BYTES - line.keyword.len()
 }
 
 /// Sets the name, where none is set yet.
