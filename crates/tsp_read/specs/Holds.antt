@@ -1,0 +1,93 @@
+-- What the state of the reader holds of the items so far (nearest first).
+use Rattle.std.specs.Prelude.{◌≡◌, ℕ, Bool, true, false, not, ◌&&◌, List, [], ◌∷◌, Option, None, Some, is_some, Result, Ok, Err, replicate, nat_lt}
+use Rattle.tsp_value.specs.declared.field.Field.{Field}
+use Rattle.tsp_value.specs.declared.field.Field.TheVariants.{NameKey, TypeKey, DimensionKey, CapacityKey, ScaleKey, EdgeWeightTypeKey, EdgeWeightFormatKey, NodeCoordTypeKey, DisplayDataTypeKey, NodeCoordPart, DisplayDataPart, DemandPart, DepotPart, FixedEdgesPart, EdgeWeightPart, NodePotentialPart, RowPotentialPart, ColumnPotentialPart}
+use Rattle.tsp_fields.specs.Fields.{Fields, fields_of}
+use Rattle.tsp_read.specs.declared.fault.StepFault.{StepFault}
+use Rattle.tsp_read.specs.declared.fault.StepFault.TheVariants as steps
+use Rattle.tsp_read.specs.declared.state.part.Part.{Part}
+use Rattle.tsp_read.specs.declared.state.reading.Incomplete.{Incomplete}
+use Rattle.tsp_read.specs.declared.state.reading.Reading.{Reading}
+use Rattle.tsp_value.specs.declared.keyword.Keyword.TheVariants.{Known, Unknown}
+use Rattle.tsp_value.specs.Limits.{most_line_bytes}
+use Rattle.tsp_read.specs.Items.{WordLine, Item, Line}
+use Rattle.tsp_read.specs.Earlier.{has_line, open_section, is_open, words_of}
+use Rattle.tsp_read.specs.Sections.{nodes_of}
+use Rattle.tsp_read.specs.Rows.{row_of}
+use Rattle.tsp_read.specs.FirstFault.{IsClean}
+use Rattle.tsp_read.specs.Spells.{fields_by, is_incomplete}
+use Rattle.tsp_read.specs.Open.{section_of, PartHolds}
+
+-- the section stands and no longer takes words
+abbrev pub is_closed : List Item → Field → Bool
+is_closed earlier field = not (is_open field (open_section earlier)) && has_line field earlier
+
+abbrev pub is_closed_incomplete : List Item → Field → Bool
+is_closed_incomplete earlier field = not (is_open field (open_section earlier)) && is_incomplete earlier field
+
+-- a keyword stands exactly where its field does
+abbrev pub fields_there : Fields → List Bool
+fields_there fields = is_some fields.name ∷ is_some fields.kind ∷ is_some fields.dimension ∷ is_some fields.capacity ∷ is_some fields.scale
+    ∷ is_some fields.weight_kind ∷ is_some fields.weight_format ∷ is_some fields.coord_kind ∷ is_some fields.display_kind ∷ []
+
+abbrev pub keywords_there : List Item → List Bool
+keywords_there earlier = has_line NameKey earlier ∷ has_line TypeKey earlier ∷ has_line DimensionKey earlier ∷ has_line CapacityKey earlier ∷ has_line ScaleKey earlier
+    ∷ has_line EdgeWeightTypeKey earlier ∷ has_line EdgeWeightFormatKey earlier ∷ has_line NodeCoordTypeKey earlier ∷ has_line DisplayDataTypeKey earlier ∷ []
+
+abbrev pub KeywordsStand : Fields → List Item → Type 0
+KeywordsStand fields earlier = fields_there fields ≡ keywords_there earlier
+
+-- a section other than the tours stands only after DIMENSION
+abbrev pub sections_there : List Item → List Bool
+sections_there earlier = has_line NodeCoordPart earlier ∷ has_line DisplayDataPart earlier ∷ has_line DemandPart earlier ∷ has_line DepotPart earlier
+    ∷ has_line FixedEdgesPart earlier ∷ has_line EdgeWeightPart earlier ∷ has_line NodePotentialPart earlier ∷ has_line RowPotentialPart earlier
+    ∷ has_line ColumnPotentialPart earlier ∷ []
+
+abbrev pub AreAfterDimension : List Item → Type 0
+AreAfterDimension earlier = has_line DimensionKey earlier ≡ false → sections_there earlier ≡ replicate 9 false
+
+-- the flags of the sections that can be incomplete, and a test at those
+abbrev pub flags_in : Incomplete → List Bool
+flags_in flags = flags.coords ∷ flags.display ∷ flags.demands ∷ flags.fixed ∷ flags.node_potentials ∷ flags.row_potentials ∷ flags.column_potentials ∷ []
+
+abbrev pub tests_at : (Field → Bool) → List Bool
+tests_at test = test NodeCoordPart ∷ test DisplayDataPart ∷ test DemandPart ∷ test FixedEdgesPart ∷ test NodePotentialPart ∷ test RowPotentialPart ∷ test ColumnPotentialPart ∷ []
+
+abbrev pub FlagsHold : Incomplete → (Field → Bool) → Type 0
+FlagsHold flags test = flags_in flags ≡ tests_at test
+
+-- the open section's part has its words
+abbrev pub OpenHolds : Option Part → List Item → Type 0
+OpenHolds None earlier = open_section earlier ≡ None
+OpenHolds (Some part) earlier = (open_section earlier ≡ Some (section_of part)) × PartHolds part (nodes_of earlier) (words_of (section_of part) earlier)
+
+-- no item has a fault, and the state has what the items spell but for the section that is open, and that section's words
+pub record Holds (reading : Reading) (earlier : List Item) : Type 0 where
+  pub clean : IsClean earlier
+  pub late : AreAfterDimension earlier
+  pub stand : KeywordsStand (fields_of reading.draft) earlier
+  pub spelled : fields_of reading.draft ≡ fields_by (is_closed earlier) earlier
+  pub flagged : FlagsHold reading.incomplete (is_closed_incomplete earlier)
+  pub part : OpenHolds reading.open_part earlier
+
+-- the same where no section is open: of the items all that they spell
+pub record Closed (reading : Reading) (earlier : List Item) : Type 0 where
+  pub clean : IsClean earlier
+  pub late : AreAfterDimension earlier
+  pub stand : KeywordsStand (fields_of reading.draft) earlier
+  pub spelled : fields_of reading.draft ≡ fields_by (λ field. has_line field earlier) earlier
+  pub flagged : FlagsHold reading.incomplete (is_incomplete earlier)
+  pub part : reading.open_part ≡ None
+
+-- What a step answers for an item: its fault, or none and the state holds that item too.
+abbrev pub Answers : List Item → Item → Reading → Result (Unit {0}) StepFault → Type 0
+Answers earlier item new (Ok done) = Holds new (item ∷ earlier)
+Answers earlier item new (Err steps.Memory) = Unit {0}
+Answers earlier item new (Err (steps.Fault fault)) = row_of earlier item ≡ Some fault
+
+-- the same from a state where no section is open, for a line that isn't too long
+abbrev pub LineAnswers : Reading → Field → WordLine → Reading → Result (Unit {0}) StepFault → Type 0
+LineAnswers old field line new result = (earlier : List Item) → Closed old earlier → nat_lt most_line_bytes line.size ≡ false → Answers earlier (Line (Known field) line) new result
+
+abbrev pub OtherAnswers : Reading → WordLine → Reading → Result (Unit {0}) StepFault → Type 0
+OtherAnswers old line new result = (earlier : List Item) → Closed old earlier → nat_lt most_line_bytes line.size ≡ false → Answers earlier (Line Unknown line) new result

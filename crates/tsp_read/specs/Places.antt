@@ -1,0 +1,19 @@
+-- Where a word stands in its section.
+use Rattle.std.specs.Prelude.{ℕ, ℤ, List}
+
+pub data Place : Type 0 where
+  -- by-node sections: a group's node, after groups of these nodes; a coordinate; a whole number of this range; past the last group
+  NodeAfter : (nodes : List ℤ) → Place
+  Coordinate : Place
+  Amount : (low high : ℤ) → Place
+  PastGroups : Place
+  -- lists that -1 ends: a depot, after so many; a pair's first node, after so many pairs; its second node, after this one; past the -1
+  DepotAfter : (count : ℕ) → Place
+  FirstAfter : (count : ℕ) → Place
+  SecondOf : (first : ℤ) → Place
+  PastEnd : Place
+  -- a weight, and past the last one
+  Weight : Place
+  PastWeights : Place
+  -- a node of the tours, after so many, or a -1
+  TourNode : (count : ℕ) → Place

@@ -1,0 +1,20 @@
+//! Which file the bytes of a text spell, or the first fault and its place.
+#![tactic(auto)]
+
+mod answers;
+mod by_node;
+mod cut;
+mod fault;
+mod laws;
+mod parts;
+mod settled;
+mod state;
+mod validity;
+mod walk;
+
+pub use answers::{first_faults, texts_have_one_answer};
+pub use by_node::each_node_has_one_group;
+pub use fault::{LineFault, ReadFault};
+pub use laws::{faults_at_the_end, faults_of_word_lines, faults_of_words, fields_of_texts};
+pub use settled::{settled_ends_stay, settled_faults_stay};
+pub use validity::{clean_fields_are_valid, spelled_files_are_valid};

@@ -1,0 +1,8 @@
+//! What was read so far.
+
+pub(crate) mod line;
+pub(crate) mod lines;
+pub(crate) mod part;
+pub(crate) mod reading;
+pub(crate) mod sections;
+pub(crate) mod slots;

@@ -1,0 +1,90 @@
+//! Word lines.
+
+use crate::fault::{LineFault, StepFault};
+use crate::state::line::CutLine;
+use crate::state::reading::Reading;
+use crate::state::slots::{add_comment, add_other, set_count, set_name, set_named, set_number};
+use std::alloc::Global;
+use tsp_value::{Field, Keyword, MOST_CAPACITY, MOST_LINE_BYTES, MOST_NODES, MOST_SCALE};
+
+impl Reading {
+    ghost use Rattle.std.specs.Prelude.{List};
+    ghost use Rattle.tsp_read.specs.Items.{Item};
+    ghost use Rattle.tsp_read.specs.CutLine.{seen, cut_item};
+    ghost use Rattle.tsp_read.specs.Holds.{Holds, Answers, LineAnswers};
+
+    /// Takes a word line.
+    pub(crate) fn line(&mut self, alloc: Global, line: &CutLine<'_>) -> Result<(), StepFault>
+        ensures { (earlier : List Item) → Holds self.old earlier
+            → Answers earlier (cut_item line.now) self.new result }
+    {
+        if line.size > MOST_LINE_BYTES {
+            return Err(StepFault::Fault(LineFault::LongLine));
+        }
+        match self.close(alloc) {
+            Ok(()) => {}
+            Err(fault) => return Err(fault),
+        }
+        match line.key {
+            Keyword::Known(field) => self.known(alloc, field, line),
+            Keyword::EdgeDataFormat => Err(StepFault::Fault(LineFault::Outside)),
+            Keyword::EdgeDataSection => Err(StepFault::Fault(LineFault::Outside)),
+            Keyword::Eof => Ok(()),
+            Keyword::Unknown => add_other(alloc, &mut self.draft.others, line),
+        }
+    }
+
+    /// Takes the line of a field, where no section is open.
+    fn known(&mut self, alloc: Global, field: Field, line: &CutLine<'_>) -> Result<(), StepFault>
+        ensures { LineAnswers self.old field (seen line.now) self.new result }
+    {
+        match field {
+            Field::NameKey => set_name(alloc, &mut self.draft.name, line),
+            Field::TypeKey => set_named(&mut self.draft.kind, Field::TypeKey, line.value),
+            Field::CommentKey => add_comment(alloc, &mut self.draft.comments, line),
+            Field::OtherKey => Ok(()),
+            Field::DimensionKey => set_count(&mut self.draft.dimension, line.value, MOST_NODES),
+            Field::CapacityKey => set_number(
+                &mut self.draft.capacity,
+                line.value,
+                1,
+                MOST_CAPACITY,
+            ),
+            Field::ScaleKey => set_number(&mut self.draft.scale, line.value, 1, MOST_SCALE),
+            Field::EdgeWeightTypeKey => set_named(
+                &mut self.draft.weight_kind,
+                Field::EdgeWeightTypeKey,
+                line.value,
+            ),
+            Field::EdgeWeightFormatKey => {
+                set_named(
+                    &mut self.draft.weight_format,
+                    Field::EdgeWeightFormatKey,
+                    line.value,
+                )
+            }
+            Field::NodeCoordTypeKey => set_named(
+                &mut self.draft.coord_kind,
+                Field::NodeCoordTypeKey,
+                line.value,
+            ),
+            Field::DisplayDataTypeKey => {
+                set_named(
+                    &mut self.draft.display_kind,
+                    Field::DisplayDataTypeKey,
+                    line.value,
+                )
+            }
+            Field::NodeCoordPart => self.open_coords(alloc, line),
+            Field::DisplayDataPart => self.open_display(alloc, line),
+            Field::DemandPart => self.open_demands(alloc, line),
+            Field::DepotPart => self.open_depots(alloc, line),
+            Field::FixedEdgesPart => self.open_fixed(alloc, line),
+            Field::EdgeWeightPart => self.open_weights(alloc, line),
+            Field::TourPart => self.open_tours(alloc, line),
+            Field::NodePotentialPart => self.open_node_potentials(alloc, line),
+            Field::RowPotentialPart => self.open_row_potentials(alloc, line),
+            Field::ColumnPotentialPart => self.open_column_potentials(alloc, line),
+        }
+    }
+}

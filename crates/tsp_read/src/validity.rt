@@ -1,0 +1,24 @@
+//! What always holds of the fields that a text spells.
+
+ghost use Rattle.std.specs.Prelude.{◌≡◌, ℕ, List, None};
+ghost use Rattle.tsp_fields.specs.Fields.{Fields};
+ghost use Rattle.tsp_fields.specs.Validity.{bad_field};
+ghost use Rattle.tsp_fields.specs.Rules.{fault_of};
+ghost use Rattle.tsp_read.specs.Items.{Item};
+ghost use Rattle.tsp_read.specs.Cuts.{AreCut};
+ghost use Rattle.tsp_read.specs.FirstFault.{IsClean};
+ghost use Rattle.tsp_read.specs.Spells.{spelled, fault_at_end};
+ghost use Rattle.tsp_read.specs.Text.{part, Spells};
+
+/// What items without a fault spell is valid, field by field.
+pub fn clean_fields_are_valid()
+    ensures of_items { (items : List Item) → AreCut items → IsClean items → bad_field (spelled items) ≡ None }
+    ensures of_text { (bytes : List ℕ) → IsClean (part bytes) → bad_field (spelled (part bytes)) ≡ None }
+{}
+
+/// What a text spells is a file: no field of it, nor its fields together, have a fault.
+pub fn spelled_files_are_valid()
+    ensures of_items { (items : List Item) → AreCut items → IsClean items → fault_at_end items ≡ None
+        → fault_of (spelled items) ≡ None }
+    ensures of_text { (bytes : List ℕ) (file : Fields) → Spells bytes file → fault_of file ≡ None }
+{}
