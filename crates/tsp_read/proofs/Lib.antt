@@ -40,4 +40,6 @@ pub mod PointSteps
 pub mod TripleWords
 pub mod Pieces
 pub mod TourSteps
+pub mod FinishSteps
 pub mod Readings
+pub mod ReadSteps
