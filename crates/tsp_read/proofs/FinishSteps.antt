@@ -1,5 +1,5 @@
 -- The end: the first incomplete section by the flags, and the end table over the draft.
-use Rattle.std.proofs.Common.{◌≡◌, ℕ, Bool, true, false, cond, List, [], ◌∷◌, get_or, refl, sym, ap, ◌∙◌, Option, Some, None}
+use Rattle.std.proofs.Common.{◌≡◌, ℕ, Bool, true, false, cond, List, [], ◌∷◌, get_or, refl, sym, ap, ◌∙◌, Option, Some, None, Result, Ok, Err, inl, inr}
 use Rattle.std.specs.Prelude.{◌&&◌}
 use Rattle.std.specs.List.{list_any}
 use Rattle.tsp_value.specs.declared.field.Field.{Field}
@@ -7,8 +7,8 @@ use Rattle.tsp_value.specs.declared.field.Field.TheVariants.{NodeCoordPart, Disp
 use Rattle.tsp_fields.specs.declared.fault.EndFault.{EndFault}
 use Rattle.tsp_fields.specs.declared.fault.DraftFault.{DraftFault}
 use Rattle.tsp_fields.specs.declared.file.Draft.{Draft}
-use Rattle.tsp_fields.specs.Fields.{Fields, fields_of, standing_of}
-use Rattle.tsp_fields.specs.Rules.{end_fault, fault_of}
+use Rattle.tsp_fields.specs.Fields.{Fields, fields_of}
+use Rattle.tsp_fields.specs.Rules.{standing_of, end_fault, fault_of}
 use Rattle.tsp_read.specs.declared.state.reading.Incomplete.{Incomplete}
 use Rattle.tsp_read.specs.declared.state.reading.Reading.{Reading}
 use Rattle.tsp_read.specs.Items.{Item}
@@ -19,7 +19,9 @@ use Rattle.tsp_read.specs.Sections.{place_in, nodes_of}
 use Rattle.tsp_read.specs.Spells.{spelled, wants_more, is_incomplete, first_incomplete, fault_at_end}
 use Rattle.tsp_read.specs.Cuts.{AreCut}
 use Rattle.tsp_read.specs.Holds.{FlagsHold, Closed}
-use Rattle.tsp_read.specs.Finishes.{first_flagged}
+use Rattle.tsp_read.specs.declared.state.finish.FinishFault.{FinishFault}
+use Rattle.tsp_read.specs.declared.state.finish.FinishFault.TheVariants as finishes
+use Rattle.tsp_read.specs.Finishes.{first_flagged, Finishes, FileOf}
 use Rattle.tsp_read.proofs.ValidItems.{is_file}
 
 and_false : (a b : Bool) → b ≡ false → (a && b) ≡ false
@@ -57,3 +59,11 @@ pub never_refused : (reading : Reading) (items : List Item) (fault : DraftFault)
     → fault_of (fields_of reading.draft) ≡ Some fault → ⊥
 never_refused reading items fault h cut ended e =
     let none : fault_of (fields_of reading.draft) ≡ None = ap fault_of h.spelled ∙ is_file items cut h.clean ended in cc
+
+-- what the draft gives is what the items give
+pub finish_answer : (reading : Reading) (items : List Item) (r : Result Fields FinishFault) → Closed reading items → AreCut items
+    → FileOf (fields_of reading.draft) (first_flagged reading.incomplete) r → Finishes items r
+finish_answer reading items (Ok file) h cut of = (h.clean, sym (end_is reading items h) ∙ of.0, of.1 ∙ h.spelled)
+finish_answer reading items (Err finishes.Memory) h cut of = tt
+finish_answer reading items (Err (finishes.End fault)) h cut (inl e) = (h.clean, sym (end_is reading items h) ∙ e)
+finish_answer reading items (Err (finishes.End fault)) h cut (inr e) = absurd (never_refused reading items e.1 h cut (sym (end_is reading items h) ∙ e.0) e.2)

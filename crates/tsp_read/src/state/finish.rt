@@ -1,11 +1,12 @@
 //! The end of the text.
 
 ghost use Rattle.std.specs.Prelude.{◌≡◌};
-ghost use Rattle.tsp_read.specs.Finishes.{first_flagged};
+ghost use Rattle.tsp_fields.specs.Fields.{fields_of};
+ghost use Rattle.tsp_read.specs.Finishes.{first_flagged, FileOf};
 
 use crate::state::reading::{Incomplete, Reading};
 use std::alloc::Global;
-use tsp_fields::{DraftFault, EndFault, File, end_fault};
+use tsp_fields::{Draft, DraftFault, EndFault, File, end_fault};
 use tsp_value::Field;
 
 /// Why what was read is no file.
@@ -48,6 +49,19 @@ fn refused(fault: DraftFault) -> EndFault {
     }
 }
 
+/// The file of the fields that were read, or the fault of the end table.
+fn file_of(draft: Draft, incomplete: Incomplete) -> Result<File, FinishFault>
+    ensures { FileOf (fields_of draft) (first_flagged incomplete) result }
+{
+    match end_fault(&draft, first_incomplete(incomplete)) {
+        Some(fault) => Err(FinishFault::End(fault)),
+        None => match File::of(draft) {
+            Ok(file) => Ok(file),
+            Err((fault, _)) => Err(FinishFault::End(refused(fault))),
+        },
+    }
+}
+
 impl Reading {
     ghost use Rattle.std.specs.Prelude.{List};
     ghost use Rattle.tsp_read.specs.Items.{Item};
@@ -64,12 +78,11 @@ impl Reading {
             Ok(()) => {}
             Err(_) => return Err(FinishFault::Memory),
         }
-        if let Some(fault) = end_fault(&self.draft, first_incomplete(self.incomplete)) {
-            return Err(FinishFault::End(fault));
-        }
-        match File::of(self.draft) {
-            Ok(file) => Ok(file),
-            Err((fault, _)) => Err(FinishFault::End(refused(fault))),
-        }
+        let Reading {
+            draft,
+            incomplete,
+            open_part: _,
+        } = self;
+        file_of(draft, incomplete)
     }
 }

@@ -1,6 +1,5 @@
-use Rattle.std.proofs.Common.{refl}
-use Rattle.tsp_read.proofs.FinishSteps.{end_is, never_refused}
+use Rattle.tsp_read.proofs.FinishSteps.{finish_answer}
 use Rattle.tsp_read.proofs.state.reading.Reading.finish.Goals as goal
 
-pub returns-in-Ok : goal.returns-in-Ok
-returns-in-Ok c = ?
+pub returns : goal.returns
+returns c = λ earlier h cut. finish_answer c.close.new.self earlier c.file_of.result (c.in-Ok.ensures.closed earlier h) cut c.file_of.ensures
