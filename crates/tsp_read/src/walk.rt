@@ -15,17 +15,18 @@ pub(crate) struct Walk<'a> {
 }
 
 impl<'a> Walk<'a> {
-    ghost use Rattle.std.specs.Prelude.{◌≡◌, ◌∷◌, ◌<◌, [], cond, length, reverse, IfSome, MatchOption};
+    ghost use Rattle.std.specs.Prelude.{◌≡◌, ◌∷◌, ◌<◌, ◌≤◌, [], cond, length, reverse, IfSome, MatchOption};
     ghost use Rattle.tsp_read.specs.Items.{items_of, settled_items, to_end_line};
     ghost use Rattle.tsp_read.specs.Left.{item_next};
-    ghost use Rattle.tsp_read.specs.Text.{is_too_long, part};
+    ghost use Rattle.tsp_read.specs.Text.{part};
+    ghost use Rattle.tsp_value.specs.Limits.{most_file_bytes};
     ghost use Rattle.tsp_read.specs.Walk.{left};
 
     /// The start of a text. Of one that goes on only those items are taken that more bytes can't
     /// change.
     fn new(text: &'a [u8], goes_on: bool) -> Walk<'a>
         ensures items { left result ≡ cond goes_on (settled_items text.now) (items_of text.now) }
-        ensures goes_on { result.goes_on ≡ goes_on }
+        ensures rest { result.rest.now ≡ text.now }
     {
         Walk {
             rest: text,
@@ -37,7 +38,7 @@ impl<'a> Walk<'a> {
     /// The start of what counts of a text: of all its bytes, or of as many as a file may have.
     pub(crate) fn of(bytes: &'a [u8]) -> Walk<'a>
         ensures part { part bytes.now ≡ reverse (to_end_line (left result)) }
-        ensures long { result.goes_on ≡ is_too_long bytes.now }
+        ensures short { length result.rest.now ≤ most_file_bytes }
     {
         if bytes.len() > MOST_FILE_BYTES {
             let (front, _) = bytes.split_at(MOST_FILE_BYTES);
