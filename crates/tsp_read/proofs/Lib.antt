@@ -18,3 +18,4 @@ pub mod CloseSteps
 pub mod KeywordSteps
 pub mod TextSteps
 pub mod OpenSteps
+pub mod RoundTripText

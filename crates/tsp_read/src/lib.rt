@@ -4,9 +4,11 @@
 mod fault;
 mod laws;
 mod parts;
+mod round_trip;
 mod state;
 mod validity;
 
 pub use fault::{LineFault, ReadFault};
 pub use laws::{faults_at_the_end, faults_of_word_lines, faults_of_words, fields_of_texts};
+pub use round_trip::items_of_lines;
 pub use validity::{clean_fields_are_valid, spelled_files_are_valid};
