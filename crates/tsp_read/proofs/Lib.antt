@@ -19,3 +19,5 @@ pub mod KeywordSteps
 pub mod TextSteps
 pub mod OpenSteps
 pub mod RoundTripText
+pub mod RoundTripNumbers
+pub mod RoundTripLines
