@@ -21,3 +21,4 @@ pub mod OpenSteps
 pub mod RoundTripText
 pub mod RoundTripNumbers
 pub mod RoundTripLines
+pub mod RoundTripOnto

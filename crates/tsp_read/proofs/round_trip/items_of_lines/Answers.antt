@@ -1,5 +1,6 @@
 use Rattle.std.proofs.Common.{refl}
 use Rattle.tsp_read.proofs.RoundTripText.{number_line_written}
+use Rattle.tsp_read.proofs.RoundTripOnto.{onto}
 use Rattle.tsp_read.proofs.RoundTripLines.{value_written}
 use Rattle.tsp_read.proofs.RoundTripNumbers.{decimal_back}
 use Rattle.tsp_read.proofs.round_trip.items_of_lines.Goals as goal
