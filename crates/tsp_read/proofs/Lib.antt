@@ -22,3 +22,5 @@ pub mod RoundTripText
 pub mod RoundTripNumbers
 pub mod RoundTripLines
 pub mod RoundTripOnto
+pub mod RoundTripLists
+pub mod RoundTripGroups

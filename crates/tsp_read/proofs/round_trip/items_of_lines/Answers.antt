@@ -1,5 +1,7 @@
 use Rattle.std.proofs.Common.{refl}
 use Rattle.tsp_read.proofs.RoundTripText.{number_line_written}
+use Rattle.tsp_read.proofs.RoundTripGroups.{numbers_back}
+use Rattle.tsp_read.proofs.RoundTripLists.{weights_back}
 use Rattle.tsp_read.proofs.RoundTripOnto.{onto}
 use Rattle.tsp_read.proofs.RoundTripLines.{value_written}
 use Rattle.tsp_read.proofs.RoundTripNumbers.{decimal_back}
