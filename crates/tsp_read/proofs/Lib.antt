@@ -24,3 +24,7 @@ pub mod RoundTripLines
 pub mod RoundTripOnto
 pub mod RoundTripLists
 pub mod RoundTripGroups
+pub mod RoundTripTours
+pub mod RoundTripPoints
+pub mod RoundTripStages
+pub mod RoundTripSteps

@@ -42,7 +42,7 @@ apart_back a b less = false_from_ne_true (int_eq (pos a) (pos b)) (λ e.
     absurd (omega arith))
 
 -- a node that none of a range is
-new_node : (k a len : ℕ) → a + len ≤ k → list_any (λ z. int_eq (pos k) z) (map pos (range_with_len a len)) ≡ false
+pub new_node : (k a len : ℕ) → a + len ≤ k → list_any (λ z. int_eq (pos k) z) (map pos (range_with_len a len)) ≡ false
 new_node k a zero room = refl
 new_node k a (suc len) room =
     or_from (int_eq (pos k) (pos a)) (list_any (λ z. int_eq (pos k) z) (map pos (range_with_len (a + 1) len))) (apart_back k a (omega arith)) (new_node k (a + 1) len (omega arith))
@@ -68,13 +68,13 @@ entries_back {X} missing k (x ∷ xs) =
     ap (λ b. unwrap_or (cond b (Some x) (entry_of groups (pos k))) missing ∷ rest) ((Decides-int_eq (pos k) (pos k)).1 refl)
     ∙ ap (λ (ys : List X). x ∷ ys) (first_skipped missing k x groups (k + 1) (length xs) (omega arith) ∙ entries_back missing (k + 1) xs)
 
-by_node_back : {X : Type 0} (missing : X) (n : ℕ) (xs : List X) (groups : List (ℤ × X)) → length xs ≡ n → groups ≡ map tagged (enumerate_from 1 xs) → by_node missing n groups ≡ xs
+pub by_node_back : {X : Type 0} (missing : X) (n : ℕ) (xs : List X) (groups : List (ℤ × X)) → length xs ≡ n → groups ≡ map tagged (enumerate_from 1 xs) → by_node missing n groups ≡ xs
 unfolding nodes_to
 by_node_back {X} missing n xs groups count are =
     ap (λ (gs : List (ℤ × X)). by_node missing n gs) are
     ∙ ap (λ m. map (λ i. unwrap_or (entry_of (map tagged (enumerate_from 1 xs)) (pos i)) missing) (range_with_len 1 m)) (sym count) ∙ entries_back missing 1 xs
 
-fused : {A B C : Type 0} (f : B → C) (g : A → B) (xs : List A) → map f (map g xs) ≡ map (λ x. f (g x)) xs
+pub fused : {A B C : Type 0} (f : B → C) (g : A → B) (xs : List A) → map f (map g xs) ≡ map (λ x. f (g x)) xs
 fused f g [] = refl
 fused {A} {B} {C} f g (x ∷ xs) = ap (λ (ys : List C). f (g x) ∷ ys) (fused f g xs)
 
@@ -92,7 +92,7 @@ nodes_are low high n words few =
     fused (λ group. group.0) (λ group. (number (node n group.0), number (whole_of group.1 low high))) (pairs_in (take (2 * n) words))
     ∙ ap (λ (ws : List (List ℕ)). map (λ (pair : List ℕ × List ℕ). number (node n pair.0)) (pairs_in ws)) (take_all (2 * n) words few)
 
-one_node : (n i : ℕ) → i + 1 ≤ n → is_node n (i + 1) ≡ true
+pub one_node : (n i : ℕ) → i + 1 ≤ n → is_node n (i + 1) ≡ true
 one_node n i room = and_from (nat_le 1 (i + 1)) (nat_le (i + 1) n) (le-leb 1 (i + 1) (omega arith)) (le-leb (i + 1) n room)
 
 pub numbers_taken : NumberLaws → (low high : ℤ) → AreSmall low high → (n : ℕ) → n < 2 ^ 32 → (earlier : List (List ℕ)) (i : ℕ) (xs : List ℤ) → begun_pair earlier ≡ []
@@ -136,7 +136,7 @@ groups_back : NumberLaws → (low high : ℤ) → AreSmall low high → (n : ℕ
 groups_back laws low high small n few i [] room all = refl
 groups_back laws low high small n few i (z ∷ xs) room all =
     let both = and_parts (is_from_to low high z) (list_all (is_from_to low high) xs) all in
-    let rest = map (λ group. (number (node n group.0), number (whole_of group.1 low high))) (pairs_in (flat_map number_entry (enumerate_from (i + 1 + 1) xs))) in
+    let rest : List (ℤ × ℤ) = map (λ (group : List ℕ × List ℕ). (number (node n group.0), number (whole_of group.1 low high))) (pairs_in (flat_map number_entry (enumerate_from (i + 1 + 1) xs))) in
     ap (λ r. (number r, number (whole_of (signed_decimal z) low high)) ∷ rest) (node_back laws n (i + 1) few (one_node n i (omega arith)))
     ∙ ap (λ r. (pos (i + 1), number r) ∷ rest) (whole_back laws z low high (small z both.0) both.0)
     ∙ ap (λ (gs : List (ℤ × ℤ)). (pos (i + 1), z) ∷ gs) (groups_back laws low high small n few (i + 1) xs (omega arith) both.1)
