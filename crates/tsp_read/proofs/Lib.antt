@@ -28,3 +28,5 @@ pub mod RoundTripTours
 pub mod RoundTripPoints
 pub mod RoundTripStages
 pub mod RoundTripSteps
+pub mod RoundTripSections
+pub mod RoundTripBodies

@@ -1,5 +1,7 @@
 use Rattle.std.proofs.Common.{refl}
 use Rattle.tsp_read.proofs.RoundTripText.{number_line_written}
+use Rattle.tsp_read.proofs.RoundTripSections.{has_nodes}
+use Rattle.tsp_read.proofs.RoundTripBodies.{pair_lines_written}
 use Rattle.tsp_read.proofs.RoundTripStages.{all_fields}
 use Rattle.tsp_read.proofs.RoundTripSteps.{section_step}
 use Rattle.tsp_read.proofs.RoundTripTours.{tours_back}
