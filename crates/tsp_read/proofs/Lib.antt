@@ -30,3 +30,7 @@ pub mod RoundTripStages
 pub mod RoundTripSteps
 pub mod RoundTripSections
 pub mod RoundTripBodies
+pub mod RoundTripKeys
+pub mod RoundTripWords
+pub mod RoundTripSpelled
+pub mod RoundTripWhole

@@ -59,14 +59,14 @@ with_nodes : {A : Type 0} (fits : ℕ → A → Bool) (o : Option ℕ) (x : A) �
 with_nodes fits None x e = absurd (false≢true e)
 with_nodes fits (Some n) x e = (n, refl, e)
 
-pub has_nodes : {A : Type 0} → NumberLaws → (f : Fields) (fits : ℕ → A → Bool) (x : A) (field : Field) (earlier : List Item) → Ready f field earlier → is_section_field field ≡ true
+pub has_nodes : {A : Type 0} → NumberLaws → (f : Fields) (fits : ℕ → A → Bool) (x : A) (earlier : List Item) → value_at DimensionKey earlier ≡ option_map decimal f.dimension
     → if_there (is_node most_nodes) f.dimension ≡ true → with_dimension fits f.dimension x ≡ true → HasNodes f fits x earlier
-has_nodes laws f fits x field earlier ready section one e =
+has_nodes laws f fits x earlier written one e =
     let found = with_nodes fits f.dimension x e in
     let n = found.0 in
     let dimension : f.dimension ≡ Some n = found.1 in
     let is : is_node most_nodes n ≡ true = subst (λ (o : Option ℕ). if_there (is_node most_nodes) o ≡ true) dimension one in
-    let value : value_at DimensionKey earlier ≡ Some (decimal n) = ready.dimension section ∙ ap (option_map decimal) dimension in
+    let value : value_at DimensionKey earlier ≡ Some (decimal n) = written ∙ ap (option_map decimal) dimension in
     record {
       n = n;
       dimension = dimension;
