@@ -1,5 +1,5 @@
 -- By-node sections: the marks and entries of the nodes, a node and an entry more.
-use Rattle.std.proofs.Common.{◌≡◌, ◌≢◌, ℕ, ◌+◌, ◌-◌, ◌<◌, Bool, true, false, cond, ◌||◌, List, [], ◌∷◌, ◌++◌, map, set, refl, sym, ap, ◌∙◌, Option, None, Some, Ok, Err, inl, inr, arith, rules, get_or-set_other, get_or-set_same}
+use Rattle.std.proofs.Common.{◌≡◌, ◌≢◌, ℕ, ◌+◌, ◌-◌, ◌<◌, Bool, true, false, cond, ◌||◌, List, [], ◌∷◌, ◌++◌, set, refl, sym, ap, ◌∙◌, Option, None, Some, Ok, Err, inl, inr, arith, rules, get_or-set_other, get_or-set_same}
 use Rattle.std.specs.Prelude.{ℤ, pos, ◌⊎◌, slice_index_or, is_some, unwrap_or}
 use Rattle.std.specs.List.{list_any}
 use Rattle.std.specs.Ordering.{int_eq}
@@ -109,7 +109,7 @@ node_faulty missing seen entries left begun n groups place word row.RepeatedNode
     let k = new.0 in
     let within : IsNodeOf n k = (new.2.0, omega (arith, new.2.1, h.wide)) in
     node_repeats n k groups place word is (ap (λ i. node i word) (sym h.wide) ∙ new.1)
-        (sym (mark_is_entry missing seen entries left begun n k groups within h) ∙ new.3)
+    (sym (mark_is_entry missing seen entries left begun n k groups within h) ∙ new.3)
 node_faulty missing seen entries left begun n groups place word fault is new h = absurd new
 
 -- ---- the entry of a group that has begun
@@ -154,7 +154,7 @@ unfolding nodes_to
 entries_by_node missing seen entries left begun n groups h =
     let f : ℕ → _ = λ i. unwrap_or (entry_of groups (pos i)) missing in
     ext_get_or missing entries (by_node missing n groups) (h.sized ∙ sym (length-map-range_with_len f 1 n))
-        (λ i lt. h.filled i (omega (arith, h.sized)) ∙ sym (get_or-map-range_with_len f 1 n i (i + 1) missing (omega (arith, h.sized)) (omega arith)))
+    (λ i lt. h.filled i (omega (arith, h.sized)) ∙ sym (get_or-map-range_with_len f 1 n i (i + 1) missing (omega (arith, h.sized)) (omega arith)))
 
 -- a group is still to come where words are wanted
 pub wants_in_group : (place : Place) (nodes : List ℤ) (begun : List (List ℕ)) → wants_more place ≡ true → wants_more (place_in_group place nodes begun) ≡ true

@@ -64,7 +64,7 @@ pub number_node_faulty : (seen : List Bool) (entries : List ℤ) (left : ℕ) (b
     → word_fault n (place_of_number low high n words) word ≡ Some fault
 number_node_faulty seen entries left begun low high n words word fault some is new h =
     node_faulty (pos 0) seen entries left begun n (number_groups low high n words) (place_of_number low high n words) word fault
-        (place_of_node seen entries left begun low high n words some is h) new h.nodes
+    (place_of_node seen entries left begun low high n words some is h) new h.nodes
 
 pub number_bad : (seen : List Bool) (entries : List ℤ) (left : ℕ) (begun : Option ℕ) (low high : ℤ) (n : ℕ) (words : List (List ℕ)) (word : List ℕ) (k : ℕ)
     (fault : NumberFault) → 0 < left → begun ≡ Some k → whole_of word low high ≡ Err fault → NumbersHold seen entries left begun low high n words
@@ -87,7 +87,7 @@ number_node seen entries left begun low high n words word k some is new h =
     let same : number_groups low high n (words ++ word ∷ []) ≡ number_groups low high n words =
     all_groups low high n (words ++ word ∷ []) (omega arith) ∙ ap (map f) (pairs_begin words word start) ∙ sym (all_groups low high n words (omega arith)) in
     let taken = node_begins (pos 0) seen entries left begun n k (number_groups low high n words) (place_of_number low high n words) word
-        (place_of_node seen entries left begun low high n words some is h) new h.nodes in (
+    (place_of_node seen entries left begun low high n words some is h) new h.nodes in (
       taken.0,
       record {
         nodes = rw same taken.2;
@@ -111,8 +111,8 @@ number_more seen entries left begun low high n words word k z some is read h =
     let group : f (first.0, word) ≡ (pos k, z) = rw (first.2, read) refl in
     let groups : number_groups low high n (words ++ word ∷ []) ≡ number_groups low high n words ++ (pos k, z) ∷ [] =
     all_groups low high n (words ++ word ∷ []) (omega arith) ∙ ap (map f) (pairs_end words first.0 word first.1)
-        ∙ map_push f (pairs_in words) (first.0, word) ∙ ap (λ g. map f (pairs_in words) ++ g ∷ []) group
-        ∙ ap (λ gs. gs ++ (pos k, z) ∷ []) (sym (all_groups low high n words (omega arith))) in
+    ∙ map_push f (pairs_in words) (first.0, word) ∙ ap (λ g. map f (pairs_in words) ++ g ∷ []) group
+    ∙ ap (λ gs. gs ++ (pos k, z) ∷ []) (sym (all_groups low high n words (omega arith))) in
     let begins : NodesHold (pos 0) seen entries left (Some k) n (number_groups low high n words) = rw (← is) h.nodes in (
       rw (place_of_amount seen entries left begun low high n words k some is h, read) refl,
       record {

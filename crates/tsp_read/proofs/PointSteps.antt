@@ -93,7 +93,7 @@ pub point_node_faulty : (seen : List Bool) (entries : List Point) (left : ℕ) (
     → word_fault n (place_of_point n words) word ≡ Some fault
 point_node_faulty seen entries left begun x n words word fault some is new h =
     node_faulty no_point seen entries left begun n (point_groups n words) (place_of_point n words) word fault
-        (place_of_node seen entries left begun x n words some is h) new h.nodes
+    (place_of_node seen entries left begun x n words some is h) new h.nodes
 
 pub point_bad : (seen : List Bool) (entries : List Point) (left : ℕ) (begun : Option ℕ) (x : Option ℤ) (n : ℕ) (words : List (List ℕ)) (word : List ℕ) (k : ℕ)
     (fault : NumberFault) → 0 < left → begun ≡ Some k → decimal_of word ≡ Err fault → PointsHold seen entries left begun x n words
@@ -113,7 +113,7 @@ point_node seen entries left begun x n words word k some is new h =
     let size = ap length start.0 in
     let same = groups_kept n words word short (triples_begin words word start.0) in
     let taken = node_begins no_point seen entries left begun n k (point_groups n words) (place_of_point n words) word
-        (place_of_node seen entries left begun x n words some is h) new h.nodes in (
+    (place_of_node seen entries left begun x n words some is h) new h.nodes in (
       taken.0,
       record {
         nodes = rw same taken.2;
@@ -159,8 +159,8 @@ point_more seen entries left begun x n words word k y z some is also read h =
     let group : f (first.0, first.1, word) ≡ (pos k, point) = rw (first.3, first.4, read) refl in
     let groups : point_groups n (words ++ word ∷ []) ≡ point_groups n words ++ (pos k, point) ∷ [] =
     all_groups n (words ++ word ∷ []) (omega arith) ∙ ap (map f) (triples_end words first.0 first.1 word first.2)
-        ∙ map_push f (triples_in words) (first.0, first.1, word) ∙ ap (λ g. map f (triples_in words) ++ g ∷ []) group
-        ∙ ap (λ gs. gs ++ (pos k, point) ∷ []) (sym (all_groups n words (omega arith))) in
+    ∙ map_push f (triples_in words) (first.0, first.1, word) ∙ ap (λ g. map f (triples_in words) ++ g ∷ []) group
+    ∙ ap (λ gs. gs ++ (pos k, point) ∷ []) (sym (all_groups n words (omega arith))) in
     let held : NodesHold no_point seen entries left (Some k) n (point_groups n words) = rw (← is) h.nodes in (
       rw (place_of_coordinate seen entries left begun x n words k some is h, read) refl,
       record {
