@@ -59,6 +59,28 @@ one_half LowerCol i j half other = not_both j i
 one_half UpperDiagCol i j half other = not_both_of i j other
 one_half LowerDiagCol i j half other = not_both_of j i (λ same. other (sym same))
 
+-- a diagonal that isn't listed
+pub diagonal_unlisted : (layout : Layout) (i : ℕ) → is_listed layout (1, 1) ≡ false → is_listed layout (i, i) ≡ false
+diagonal_unlisted FullMatrix i e = e
+diagonal_unlisted UpperRow i e = le-ltb i i (omega arith)
+diagonal_unlisted LowerRow i e = le-ltb i i (omega arith)
+diagonal_unlisted UpperDiagRow i e = absurd (false≢true (sym e))
+diagonal_unlisted LowerDiagRow i e = absurd (false≢true (sym e))
+diagonal_unlisted UpperCol i e = le-ltb i i (omega arith)
+diagonal_unlisted LowerCol i e = le-ltb i i (omega arith)
+diagonal_unlisted UpperDiagCol i e = absurd (false≢true (sym e))
+diagonal_unlisted LowerDiagCol i e = absurd (false≢true (sym e))
+
+-- even costs of a pair or of the mirrored one
+turned : (cost : ℕ → ℕ → ℤ) → IsEven cost → (i j : ℕ) → cost j i ≡ cost i j
+turned cost even i j = ⊎_elim
+    (λ below. even j i (λ same. absurd (omega (arith, below, same))))
+    (λ le. ⊎_elim (λ above. even j i (λ same. absurd (omega (arith, above, same)))) (λ ge. let same : i ≡ j = omega (arith, le, ge) in ap (λ k. cost k i) (sym same) ∙ ap (λ k. cost i k) same) (cases_lt j i))
+    (cases_lt i j)
+
+pub either_way : (cost : ℕ → ℕ → ℤ) → IsEven cost → (i j : ℕ) (pair : ℕ × ℕ) → (pair ≡ (i, j)) ⊎ (pair ≡ (j, i)) → cost pair.0 pair.1 ≡ cost i j
+either_way cost even i j pair one = ⊎_elim (λ e. ap (λ p. cost p.0 p.1) e) (λ e. ap (λ p. cost p.0 p.1) e ∙ turned cost even i j) one
+
 swapped : (a b : Option ℤ) → (a ≡ None) ⊎ (b ≡ None) → unwrap_or (option_or a b) (pos 0) ≡ unwrap_or (option_or b a) (pos 0)
 swapped None None one = refl
 swapped None (Some b) one = refl

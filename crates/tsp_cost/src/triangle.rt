@@ -1,9 +1,9 @@
 //! Costs of which a layout lists one half.
 
-ghost use Rattle.std.specs.Prelude.{◌≡◌, ◌≢◌, ◌≤◌, length};
+ghost use Rattle.std.specs.Prelude.{◌≡◌, ◌≢◌, ◌≤◌, ◌⊎◌, IsTrue, length};
 ghost use Rattle.std.specs.List.{All};
 ghost use Rattle.tsp_value.specs.declared.layout.Layout.TheVariants.{FullMatrix};
-ghost use Rattle.tsp_value.specs.Cells.{cells};
+ghost use Rattle.tsp_value.specs.Cells.{is_listed, cells};
 ghost use Rattle.tsp_value.specs.Limits.{most_matrix_nodes, most_weight};
 ghost use Rattle.tsp_fields.specs.Valid.{IsWithin};
 ghost use Rattle.tsp_fields.specs.Cost.{listed_cost};
@@ -19,11 +19,15 @@ pub struct Triangle<'a> {
     layout: Layout,
     nodes: u32,
     weights: &'a [i64],
+    upper: bool,
+    diagonal: bool,
     ghost half: { layout ≢ FullMatrix },
     ghost some: { 1 ≤ nodes },
     ghost most: { nodes ≤ most_matrix_nodes },
     ghost filled: { length weights.now ≡ length (cells layout nodes) },
     ghost sizes: { All (IsWithin most_weight) weights.now },
+    ghost upper_is: { upper ≡ is_listed layout (1, 2) },
+    ghost diagonal_is: { diagonal ≡ is_listed layout (1, 1) },
     ghost unlisted: { IsUnlisted layout nodes },
     ghost even: { IsEven (λ i j. listed_cost layout nodes weights.now i j) },
 }
@@ -48,6 +52,22 @@ impl<'a> Triangle<'a> {
             layout,
             nodes,
             weights,
+            upper: layout.lists(1, 2),
+            diagonal: layout.lists(1, 1),
+        }
+    }
+
+    /// The one of (i, j) and (j, i) that the layout lists.
+    #[inline]
+    fn cell(&self, i: u32, j: u32) -> (u32, u32)
+        requires { i ≡ j → IsTrue self.now.diagonal }
+        ensures listed { IsTrue (is_listed self.now.layout result) }
+        ensures pair { (result ≡ (i, j)) ⊎ (result ≡ (j, i)) }
+    {
+        if (i < j) == self.upper {
+            (i, j)
+        } else {
+            (j, i)
         }
     }
 }
@@ -66,13 +86,11 @@ impl Costs for Triangle<'_> {
 
     #[inline]
     fn cost(&self, i: u32, j: u32) -> i64 {
-        if self.layout.lists(i, j) {
-            self.weights[self.layout.place(self.nodes, i, j)]
-        } else if self.layout.lists(j, i) {
-            self.weights[self.layout.place(self.nodes, j, i)]
-        } else {
-            0
+        if i == j && !self.diagonal {
+            return 0;
         }
+        let (row, column) = self.cell(i, j);
+        self.weights[self.layout.place(self.nodes, row, column)]
     }
 }
 

@@ -208,9 +208,15 @@ weights_in f weights valid stands =
     let right_format = neither (is_function f.weight_format && (lists_weights s || is_some f.weights)) (is_certificate f.kind && is_some f.node_potentials && has_row_or_column s) rules.0 in
     let format = listed_format f.weight_format has_format (first_false (is_function f.weight_format) (lists_weights s || is_some f.weights) right_format.0 asked) in
     let right_count = not_false (is_count f.dimension f.weight_format (count_of f.weights)) (second_false (is_some f.weights) (not (is_count f.dimension f.weight_format (count_of f.weights))) rules.1 there) in
-    record { n = held.0; layout = format.0; dimension = held.1; format = format.1; few_nodes = leb-true held.0 most_matrix_nodes few.0;
+    record {
+      n = held.0;
+      layout = format.0;
+      dimension = held.1;
+      format = format.1;
+      few_nodes = leb-true held.0 most_matrix_nodes few.0;
       count = counted held.0 format.0 weights f.dimension f.weight_format f.weights right_count held.1 format.1 stands;
-      sizes = all_so (is_within most_weight) (IsWithin most_weight) (within most_weight) weights most.1 }
+      sizes = all_so (is_within most_weight) (IsWithin most_weight) (within most_weight) weights most.1;
+    }
 
 pub in_range : (f : Fields) → fault_of f ≡ None → IsInRange f
 in_range f valid = record {

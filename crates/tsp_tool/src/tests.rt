@@ -32,7 +32,11 @@ fn each_ending_has_its_status(rt: HostRuntime) {
         (Err(RunFault::Write(WriteFault::OutOfMemory)), 3),
         (Err(RunFault::Write(WriteFault::Device)), 5),
     ] {
-        assert_eq!(rt; status_of(&Ending::Checked(answer)), status, "at {answer:?}");
+        assert_eq!(rt;
+            status_of(&Ending::Checked(answer)),
+            status,
+            "at {answer:?}"
+        );
     }
     for (fault, status) in [(ReadFault::TooLong, 2), (ReadFault::OutOfMemory, 3)] {
         let answer = Err(RunFault::File { file: 2, fault });

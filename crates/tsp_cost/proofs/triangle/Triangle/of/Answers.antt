@@ -11,6 +11,8 @@ invariant_of-result c =
       most = c.requires.most;
       filled = c.requires.filled;
       sizes = c.requires.sizes;
+      upper_is = c.lists.ensures;
+      diagonal_is = c.lists-2.ensures;
       unlisted = out;
       even = triangle_even c.args.layout c.args.nodes c.args.weights.now c.requires.half out;
     }
