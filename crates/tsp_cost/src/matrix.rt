@@ -43,7 +43,8 @@ impl<'a> Matrix<'a> {
         requires full { length weights.now ≡ length (cells FullMatrix nodes) }
         requires sizes { All (IsWithin most_weight) weights.now }
         ensures nodes { matrix_nodes result ≡ nodes }
-        ensures costs { (i j : ℕ) → matrix_cost result i j ≡ listed_cost FullMatrix nodes weights.now i j }
+        ensures costs { (i j : ℕ) → matrix_cost result i j
+            ≡ listed_cost FullMatrix nodes weights.now i j }
     {
         Matrix { nodes, weights }
     }
@@ -83,7 +84,8 @@ impl<'a> Matrix<'a> {
     fn first_uneven_of_row(&self, i: u32) -> Option<u32>
         requires { IsNode (matrix_nodes self.now) i }
         ensures { MatchOption result
-            ((j : ℕ) → i < j → j ≤ matrix_nodes self.now → matrix_cost self.now i j ≡ matrix_cost self.now j i)
+            ((j : ℕ) → i < j → j ≤ matrix_nodes self.now
+            → matrix_cost self.now i j ≡ matrix_cost self.now j i)
             (λ j. IsNode (matrix_nodes self.now) j × (i < j)
             × (matrix_cost self.now i j ≢ matrix_cost self.now j i)
             × ((b : ℕ) → i < b → b < j → matrix_cost self.now i b ≡ matrix_cost self.now b i)) }

@@ -30,7 +30,8 @@ impl<'a> Points<'a> {
         requires some { 1 ≤ length points.now }
         requires most { length points.now ≤ most_nodes }
         ensures nodes { points_nodes result ≡ length points.now }
-        ensures costs { (i j : ℕ) → points_cost result i j ≡ distance kind (point_of points.now i) (point_of points.now j) }
+        ensures costs { (i j : ℕ) → points_cost result i j
+            ≡ distance kind (point_of points.now i) (point_of points.now j) }
     {
         distance_laws();
         Points { kind, points }

@@ -44,7 +44,8 @@ impl<'a> Triangle<'a> {
         requires filled { length weights.now ≡ length (cells layout nodes) }
         requires sizes { All (IsWithin most_weight) weights.now }
         ensures nodes { triangle_nodes result ≡ nodes }
-        ensures costs { (i j : ℕ) → triangle_cost result i j ≡ listed_cost layout nodes weights.now i j }
+        ensures costs { (i j : ℕ) → triangle_cost result i j
+            ≡ listed_cost layout nodes weights.now i j }
     {
         cells_are_the_listed_pairs();
         only_cells_have_places();
