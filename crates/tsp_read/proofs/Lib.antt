@@ -40,4 +40,7 @@ pub mod PointSteps
 pub mod TripleWords
 pub mod Pieces
 pub mod TourSteps
+pub mod FinishSteps
 pub mod Readings
+pub mod ReadSteps
+pub mod FromReader

@@ -24,3 +24,5 @@ pub mod Left
 pub mod Walk
 pub mod Answering
 pub mod ByNode
+pub mod Finishes
+pub mod Reads

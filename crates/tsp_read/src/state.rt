@@ -1,5 +1,6 @@
 //! What was read so far.
 
+pub(crate) mod finish;
 pub(crate) mod line;
 pub(crate) mod lines;
 pub(crate) mod part;

@@ -1,0 +1,78 @@
+-- What reading answers: for an item, for the items of a text, and for a whole text.
+use Rattle.std.specs.Prelude.{◌≡◌, ℕ, ◌+◌, ◌≤◌, Bool, List, ◌∷◌, length, reverse, Option, None, Some, Result, Ok, Err}
+use Rattle.tsp_value.specs.Limits.{most_file_bytes}
+use Rattle.tsp_stream.specs.Turn.{Turn, Gave, IsSound, GaveAll, HasBrokenOff, TakesAtMost}
+use Rattle.tsp_fields.specs.Fields.{Fields}
+use Rattle.tsp_read.specs.declared.fault.LineFault.{LineFault}
+use Rattle.tsp_read.specs.declared.fault.StepFault.{StepFault}
+use Rattle.tsp_read.specs.declared.fault.StepFault.TheVariants as steps
+use Rattle.tsp_read.specs.declared.fault.ReadFault.{ReadFault}
+use Rattle.tsp_read.specs.declared.fault.ReadFault.TheVariants as faults
+use Rattle.tsp_read.specs.declared.state.reading.Reading.{Reading}
+use Rattle.tsp_read.specs.declared.walk.Walk.{Walk}
+use Rattle.tsp_read.specs.Items.{Item, is_end_line, has_end_line, to_end_line, line_number, words_before}
+use Rattle.tsp_read.specs.Rows.{row_of}
+use Rattle.tsp_read.specs.FirstFault.{fault_in}
+use Rattle.tsp_read.specs.Text.{fault, Spells}
+use Rattle.tsp_read.specs.Holds.{Holds}
+use Rattle.tsp_read.specs.Walk.{left, Walked}
+
+-- an item is taken, and whether it is an end line; or it has this row
+abbrev pub TakesItem : List Item → Item → Reading → Result Bool StepFault → Type 0
+TakesItem earlier item new (Ok ended) = Holds new (item ∷ earlier) × (ended ≡ is_end_line item)
+TakesItem earlier item new (Err steps.Memory) = Unit {0}
+TakesItem earlier item new (Err (steps.Fault fault)) = row_of earlier item ≡ Some fault
+
+-- the items that count are read, and whether an end line is among them; or they have this first fault
+abbrev pub ReadsItems : List Item → Result (Reading × Bool) ReadFault → Type 0
+ReadsItems items (Ok read) = Holds read.0 (reverse (to_end_line items)) × (read.1 ≡ has_end_line (reverse (to_end_line items)))
+ReadsItems items (Err (faults.Line line word fault)) = fault_in (reverse (to_end_line items)) ≡ Some (faults.Line line word fault)
+ReadsItems items (Err (faults.End fault)) = ⊥
+ReadsItems items (Err faults.OutOfMemory) = Unit {0}
+ReadsItems items (Err faults.Device) = ⊥
+ReadsItems items (Err faults.TooLong) = ⊥
+
+-- The text spells this file, or this is its first fault. Want of memory says nothing.
+abbrev pub Reads : List ℕ → Result Fields ReadFault → Type 0
+Reads bytes (Ok file) = Spells bytes file
+Reads bytes (Err (faults.Line line word found)) = fault bytes ≡ Some (faults.Line line word found)
+Reads bytes (Err (faults.End found)) = fault bytes ≡ Some (faults.End found)
+Reads bytes (Err faults.OutOfMemory) = Unit {0}
+Reads bytes (Err faults.Device) = ⊥
+Reads bytes (Err faults.TooLong) = fault bytes ≡ Some faults.TooLong
+
+-- ---- a reader
+
+-- at most 4,096 bytes are taken past the most that a file may have
+abbrev pub most_taken : ℕ
+most_taken = most_file_bytes + 4096
+
+-- what the reader gave spells the file, and so does its whole rest, where that is known
+abbrev pub IsFile : Turn → Fields → Type 0
+IsFile turn file = GaveAll turn (λ bytes. Spells bytes file)
+
+abbrev pub HasFault : ReadFault → Turn → Type 0
+HasFault found turn = GaveAll turn (λ bytes. fault bytes ≡ Some found)
+
+-- The turn ended without a file: this is the first fault of what the reader gave, and of its whole rest; or memory was refused, and the
+-- reader hasn't failed; or it has failed.
+abbrev pub StopsAt : ReadFault → Turn → Type 0
+StopsAt (faults.Line line word found) turn = HasFault (faults.Line line word found) turn
+StopsAt (faults.End found) turn = HasFault (faults.End found) turn
+StopsAt faults.OutOfMemory turn = Gave turn × IsSound turn
+StopsAt faults.Device turn = HasBrokenOff turn
+StopsAt faults.TooLong turn = HasFault faults.TooLong turn
+
+abbrev pub ReadsFrom : (List ℕ → Turn) → Result Fields ReadFault → Type 0
+ReadsFrom turn (Ok file) = TakesAtMost most_taken turn (λ whole. IsFile whole file)
+ReadsFrom turn (Err found) = TakesAtMost most_taken turn (StopsAt found)
+
+-- on the way: these items were taken, the state has them, and the counts are those of the next item
+pub record OnTheWay (items : List Item) (walk : Walk) (reading : Reading) (line words : ℕ) : Type 0 where
+  pub earlier : List Item
+  pub holds : Holds reading earlier
+  pub walked : Walked items earlier (left walk)
+  pub line_is : line ≡ line_number earlier
+  pub words_are : words ≡ words_before earlier
+  pub line_room : line + length walk.rest.now ≤ most_file_bytes + 1
+  pub words_room : words + length walk.rest.now ≤ most_file_bytes

@@ -1,0 +1,88 @@
+//! The end of the text.
+
+ghost use Rattle.std.specs.Prelude.{◌≡◌};
+ghost use Rattle.tsp_fields.specs.Fields.{fields_of};
+ghost use Rattle.tsp_read.specs.Finishes.{first_flagged, FileOf};
+
+use crate::state::reading::{Incomplete, Reading};
+use std::alloc::Global;
+use tsp_fields::{Draft, DraftFault, EndFault, File, end_fault};
+use tsp_value::Field;
+
+/// Why what was read is no file.
+#[derive(Clone, Copy, Debug)]
+pub(crate) enum FinishFault {
+    /// Memory was refused.
+    Memory,
+    /// The lines together have this fault.
+    End(EndFault),
+}
+
+/// The first section that is incomplete, in canonical order.
+fn first_incomplete(flags: Incomplete) -> Option<Field>
+    ensures { result ≡ first_flagged flags }
+{
+    if flags.coords {
+        Some(Field::NodeCoordPart)
+    } else if flags.display {
+        Some(Field::DisplayDataPart)
+    } else if flags.demands {
+        Some(Field::DemandPart)
+    } else if flags.fixed {
+        Some(Field::FixedEdgesPart)
+    } else if flags.node_potentials {
+        Some(Field::NodePotentialPart)
+    } else if flags.row_potentials {
+        Some(Field::RowPotentialPart)
+    } else if flags.column_potentials {
+        Some(Field::ColumnPotentialPart)
+    } else {
+        None
+    }
+}
+
+/// The fault that a refused draft stands for. The drafts that are read are never refused.
+fn refused(fault: DraftFault) -> EndFault {
+    match fault {
+        DraftFault::Rule(fault) => fault,
+        DraftFault::BadField(field) => EndFault::Missing(field),
+    }
+}
+
+/// The file of the fields that were read, or the fault of the end table.
+fn file_of(draft: Draft, incomplete: Incomplete) -> Result<File, FinishFault>
+    ensures { FileOf (fields_of draft) (first_flagged incomplete) result }
+{
+    match end_fault(&draft, first_incomplete(incomplete)) {
+        Some(fault) => Err(FinishFault::End(fault)),
+        None => match File::of(draft) {
+            Ok(file) => Ok(file),
+            Err((fault, _)) => Err(FinishFault::End(refused(fault))),
+        },
+    }
+}
+
+impl Reading {
+    ghost use Rattle.std.specs.Prelude.{List};
+    ghost use Rattle.tsp_read.specs.Items.{Item};
+    ghost use Rattle.tsp_read.specs.Holds.{Holds};
+    ghost use Rattle.tsp_read.specs.Cuts.{AreCut};
+    ghost use Rattle.tsp_read.specs.Finishes.{Finishes};
+
+    /// The file that was read, or the fault of its end.
+    pub(crate) fn finish(mut self, alloc: Global) -> Result<File, FinishFault>
+        ensures { (earlier : List Item) → Holds self earlier → AreCut earlier
+            → Finishes earlier result }
+    {
+        match self.close(alloc) {
+            Ok(()) => {}
+            Err(_) => return Err(FinishFault::Memory),
+        }
+        let Reading {
+            draft,
+            incomplete,
+            open_part: _,
+        } = self;
+        file_of(draft, incomplete)
+    }
+}
