@@ -1,11 +1,5 @@
 pub use Rattle.tsp_stream.specs.Sink
 pub use Rattle.tsp_stream.specs.Turn
-pub mod Words
-pub mod Numbers
-pub mod Forms
-pub mod Values
-pub mod Tour
-pub mod Verdict
+pub mod Judged
 pub mod Report
 pub mod Run
-pub mod Reading

@@ -1,52 +1,47 @@
 -- What a check does to its readers and its writer, and what it answers.
-use Rattle.std.specs.Prelude.{◌≡◌, ℕ, ◌⊎◌, Bool, List, Result, Ok, Err}
-use Rattle.tsp_judge.specs.declared.fault.ReadFault.{ReadFault}
-use Rattle.tsp_judge.specs.declared.fault.ReadFault.TheVariants as read_faults
+use Rattle.std.specs.Prelude.{◌≡◌, ℕ, ◌⊎◌, Bool, true, false, Result, Ok, Err}
 use Rattle.tsp_stream.specs.declared.output.WriteFault.TheVariants as write_faults
-use Rattle.tsp_judge.specs.declared.fault.RunFault.{RunFault}
-use Rattle.tsp_judge.specs.declared.fault.RunFault.TheVariants.{File, Write, OutOfMemory, NotYet}
-use Rattle.tsp_judge.specs.declared.verdict.Verdict.{Verdict}
-use Rattle.tsp_stream.specs.Turn.{Turn, Gave, IsSound, GaveAll, HasBrokenOff, IsUnread}
+use Rattle.tsp_stream.specs.Turn.{Turn, IsUnread}
 use Rattle.tsp_stream.specs.Sink.{Sink, IsUnwritten, HasWritten, HasStopped}
-use Rattle.tsp_judge.specs.Forms.{IsTooLong, Denotes, DenotesNone, Instance, IsInstance, IsSolution}
-use Rattle.tsp_judge.specs.Verdict.{IsVerdict, is_yes}
+use Rattle.tsp_fields.specs.Fields.{Fields}
+use Rattle.tsp_fields.specs.Rules.{is_instance}
+use Rattle.tsp_read.specs.Reads.{IsFile, StopsAt}
+use Rattle.tsp_verdict.specs.declared.verdict.Verdict.{Verdict}
+use Rattle.tsp_judge.specs.declared.fault.RunFault.{RunFault}
+use Rattle.tsp_judge.specs.declared.fault.RunFault.TheVariants.{File, WrongKind, Write, OutOfMemory}
+use Rattle.tsp_judge.specs.Judged.{IsVerdictOn, is_yes}
 use Rattle.tsp_judge.specs.Report.{report_of}
 
--- the bytes of the turn denote the value by the form
-abbrev pub IsFile : {A : Type 0} → (List ℕ → A → Type 0) → Turn → A → Type 0
-IsFile form turn value = GaveAll turn (λ bytes. Denotes form bytes value)
+-- the turn's bytes spell a file
+abbrev pub IsSomeFile : Turn → Type 0
+IsSomeFile turn = (file : Fields) × IsFile turn file
 
--- The turn ended with a fault of the file.
-abbrev pub StopsAt : ReadFault → Turn → Type 0
-StopsAt read_faults.Device turn = HasBrokenOff turn
-StopsAt read_faults.OutOfMemory turn = Gave turn × IsSound turn
-StopsAt read_faults.TooLong turn = GaveAll turn IsTooLong
+-- they spell a file that is an instance, or one that is none
+abbrev pub IsSomeInstance : Turn → Type 0
+IsSomeInstance turn = (file : Fields) × IsFile turn file × (is_instance file.kind ≡ true)
 
--- both files are of their forms, and the verdict on them is this one
-pub record IsJudged (instance solution : Turn) (nodes : ℕ) (verdict : Verdict) : Type 0 where
-  pub value : Instance
-  pub tours : List (List ℕ)
-  pub first : IsFile IsInstance instance value
-  pub second : IsFile IsSolution solution tours
-  pub size : value.nodes ≡ nodes
-  pub judged : IsVerdict value tours verdict
+abbrev pub IsNoInstance : Turn → Type 0
+IsNoInstance turn = (file : Fields) × IsFile turn file × (is_instance file.kind ≡ false)
+
+-- the first file is this instance, and the verdict on the second file is this one
+pub record IsJudged (first second : Turn) (instance : Fields) (verdict : Verdict) : Type 0 where
+  pub solution : Fields
+  pub first_file : IsFile first instance
+  pub second_file : IsFile second solution
+  pub judged : IsVerdictOn instance solution verdict
 
 -- What the check answers. At Ok the whole report was written, and the answer is whether the verdict is a yes. The first
--- file, in order, that isn't one decides, later ones aren't read, and then nothing is written. Out of memory, both are
--- files and nothing was written; writing itself takes no memory. Where the writer fails a front of the report was written.
+-- file, in order, that isn't one decides, later ones aren't read, and then nothing is written; then the first file's TYPE
+-- decides. Out of memory, both are files and nothing was written; writing itself takes no memory. Where the writer fails
+-- a front of the report was written.
 abbrev pub IsRun : Turn → Turn → Sink → Result Bool RunFault → Type 0
-IsRun instance solution sink (Ok answer) = (nodes : ℕ) × (verdict : Verdict)
-    × IsJudged instance solution nodes verdict
-    × (answer ≡ is_yes verdict) × HasWritten sink (report_of nodes verdict)
-IsRun instance solution sink (Err (File file fault)) = IsUnwritten sink
-    × (((file ≡ 1) × StopsAt fault instance × IsUnread solution)
-    ⊎ ((file ≡ 2) × ((value : Instance) × IsFile IsInstance instance value) × StopsAt fault solution))
-IsRun instance solution sink (Err NotYet) = IsUnwritten sink
-    × ((GaveAll instance (DenotesNone IsInstance) × IsUnread solution)
-    ⊎ (((value : Instance) × IsFile IsInstance instance value) × GaveAll solution (DenotesNone IsSolution)))
-IsRun instance solution sink (Err OutOfMemory) = IsUnwritten sink
-    × ((value : Instance) × IsFile IsInstance instance value)
-    × ((tours : List (List ℕ)) × IsFile IsSolution solution tours)
-IsRun instance solution sink (Err (Write write_faults.OutOfMemory)) = ⊥
-IsRun instance solution sink (Err (Write write_faults.Device)) = (nodes : ℕ) × (verdict : Verdict)
-    × IsJudged instance solution nodes verdict × HasStopped sink (report_of nodes verdict)
+IsRun first second sink (Ok answer) = (instance : Fields) × (verdict : Verdict) × IsJudged first second instance verdict
+    × (answer ≡ is_yes verdict) × HasWritten sink (report_of instance verdict)
+IsRun first second sink (Err (File file fault)) = IsUnwritten sink
+    × (((file ≡ 1) × StopsAt fault first × IsUnread second)
+    ⊎ ((file ≡ 2) × IsSomeFile first × StopsAt fault second))
+IsRun first second sink (Err WrongKind) = IsUnwritten sink × IsNoInstance first × IsSomeFile second
+IsRun first second sink (Err OutOfMemory) = IsUnwritten sink × IsSomeInstance first × IsSomeFile second
+IsRun first second sink (Err (Write write_faults.OutOfMemory)) = ⊥
+IsRun first second sink (Err (Write write_faults.Device)) = (instance : Fields) × (verdict : Verdict)
+    × IsJudged first second instance verdict × HasStopped sink (report_of instance verdict)

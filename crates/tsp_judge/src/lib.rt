@@ -3,13 +3,12 @@
 
 mod check;
 mod fault;
-mod form;
-mod judge;
-mod reading;
 mod report;
-mod verdict;
 
 pub use check::run_check;
-pub use fault::{ReadFault, RunFault};
+pub use fault::RunFault;
+pub use tsp_fields::EndFault;
+pub use tsp_read::{LineFault, ReadFault};
 pub use tsp_stream::{Watched, WriteFault};
-pub use verdict::{Reason, Verdict};
+pub use tsp_value::Layout;
+pub use tsp_verdict::{Reason, Verdict, judge_routes, judge_tour};

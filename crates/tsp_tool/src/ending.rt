@@ -51,7 +51,7 @@ const YES: u8 = 0;
 /// The check says no.
 const NO: u8 = 1;
 
-/// A file isn't one that can be judged.
+/// A file has a fault, or the first is of the wrong kind.
 const NOT_JUDGED: u8 = 2;
 
 /// Out of memory, anywhere.
@@ -84,11 +84,11 @@ pub(crate) fn status_of(ending: &Ending) -> u8
         Ending::Checked(Ok(true)) => YES,
         Ending::Checked(Ok(false)) => NO,
         Ending::Checked(Err(RunFault::File { file: _, fault })) => match fault {
-            ReadFault::TooLong => NOT_JUDGED,
+            ReadFault::Line { .. } | ReadFault::End(_) | ReadFault::TooLong => NOT_JUDGED,
             ReadFault::OutOfMemory => OUT_OF_MEMORY,
             ReadFault::Device => DEVICE,
         },
-        Ending::Checked(Err(RunFault::NotYet)) => NOT_JUDGED,
+        Ending::Checked(Err(RunFault::WrongKind)) => NOT_JUDGED,
         Ending::Checked(Err(RunFault::OutOfMemory)) => OUT_OF_MEMORY,
         Ending::Checked(Err(RunFault::Write(WriteFault::OutOfMemory))) => OUT_OF_MEMORY,
         Ending::Checked(Err(RunFault::Write(WriteFault::Device))) => DEVICE,

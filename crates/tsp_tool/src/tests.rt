@@ -9,7 +9,7 @@ use std::alloc::Global;
 use std::fs::File;
 use std::io;
 use std::io::{ErrorKind, Read};
-use tsp_judge::{ReadFault, RunFault, WriteFault};
+use tsp_judge::{EndFault, LineFault, ReadFault, RunFault, WriteFault};
 
 /// What the check of two readers answers, whatever it prints.
 fn answer_of<I: Read + Drop, S: Read + Drop>(
@@ -27,7 +27,7 @@ fn each_ending_has_its_status(rt: HostRuntime) {
         (Ok(true), 0),
         (Ok(false), 1),
         (Err(RunFault::File { file, fault }), 5),
-        (Err(RunFault::NotYet), 2),
+        (Err(RunFault::WrongKind), 2),
         (Err(RunFault::OutOfMemory), 3),
         (Err(RunFault::Write(WriteFault::OutOfMemory)), 3),
         (Err(RunFault::Write(WriteFault::Device)), 5),
@@ -38,7 +38,17 @@ fn each_ending_has_its_status(rt: HostRuntime) {
             "at {answer:?}"
         );
     }
-    for (fault, status) in [(ReadFault::TooLong, 2), (ReadFault::OutOfMemory, 3)] {
+    let line = ReadFault::Line {
+        line: 1,
+        word: 0,
+        fault: LineFault::Outside,
+    };
+    for (fault, status) in [
+        (line, 2),
+        (ReadFault::End(EndFault::WrongCount), 2),
+        (ReadFault::TooLong, 2),
+        (ReadFault::OutOfMemory, 3),
+    ] {
         let answer = Err(RunFault::File { file: 2, fault });
         assert_eq!(rt; status_of(&Ending::Checked(answer)), status, "at {fault:?}");
     }
@@ -48,7 +58,7 @@ fn each_ending_has_its_status(rt: HostRuntime) {
 
 #[test]
 fn each_ending_has_its_line(rt: HostRuntime) {
-    let fault = RunFault::NotYet;
+    let fault = RunFault::WrongKind;
     for (ending, line) in [
         (Ending::Checked(Ok(true)), None),
         (Ending::Checked(Ok(false)), None),
@@ -70,7 +80,7 @@ fn each_line_has_its_text(rt: HostRuntime) -> io::Result<()> {
         (Line::Usage, "usage: tsp check F T"),
         (Line::OutOfMemory, "out of memory"),
         (Line::Fault(fault), "file 2: device"),
-        (Line::Fault(RunFault::NotYet), "not yet"),
+        (Line::Fault(RunFault::WrongKind), "file 1: wrong kind"),
     ] {
         let printed = format!(in rt.alloc(); "{line}")?;
         assert_eq!(rt; printed.as_str(), text);
@@ -118,7 +128,7 @@ fn a_missing_file_is_a_fault_of_a_device(rt: HostRuntime) {
     let answer = answer_of(rt.alloc(), inst, Source::<File>::Missing);
     assert_eq!(rt; answer, Err(RunFault::File { file: 2, fault }));
     let answer = answer_of(rt.alloc(), sol, Source::<File>::Missing);
-    assert_eq!(rt; answer, Err(RunFault::NotYet));
+    assert_eq!(rt; answer, Err(RunFault::WrongKind));
 }
 
 #[test]

@@ -1,0 +1,26 @@
+-- What is judged of an instance and a solution: a tour for TYPE TSP and ATSP, routes for TYPE CVRP.
+use Rattle.std.specs.Prelude.{Bool, true, false, Option, None, Some}
+use Rattle.tsp_value.specs.declared.kinds.Kind.{Kind}
+use Rattle.tsp_value.specs.declared.kinds.Kind.TheVariants as kinds
+use Rattle.tsp_fields.specs.Fields.{Fields}
+use Rattle.tsp_verdict.specs.declared.verdict.Verdict.{Verdict}
+use Rattle.tsp_verdict.specs.declared.verdict.Verdict.TheVariants.{Tour, Routes, No}
+use Rattle.tsp_verdict.specs.Tours.{IsVerdict}
+use Rattle.tsp_verdict.specs.Routes.{IsRoutesVerdict}
+
+-- the verdict on a solution, by the TYPE of the instance
+abbrev pub IsVerdictBy : Option Kind → Fields → Fields → Verdict → Type 0
+IsVerdictBy (Some kinds.Tsp) instance solution verdict = IsVerdict instance solution verdict
+IsVerdictBy (Some kinds.Atsp) instance solution verdict = IsVerdict instance solution verdict
+IsVerdictBy (Some kinds.Cvrp) instance solution verdict = IsRoutesVerdict instance solution verdict
+IsVerdictBy (Some kinds.Tour) instance solution verdict = ⊥
+IsVerdictBy (Some kinds.Potentials) instance solution verdict = ⊥
+IsVerdictBy None instance solution verdict = ⊥
+
+abbrev pub IsVerdictOn : Fields → Fields → Verdict → Type 0
+IsVerdictOn instance solution verdict = IsVerdictBy instance.kind instance solution verdict
+
+abbrev pub is_yes : Verdict → Bool
+is_yes (Tour length bound) = true
+is_yes (Routes length routes least) = true
+is_yes (No reason) = false
