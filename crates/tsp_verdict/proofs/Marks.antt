@@ -1,0 +1,90 @@
+-- The nodes that stand at the first places, as marks.
+use Rattle.std.proofs.Common.{◌≡◌, ℕ, zero, suc, ◌+◌, ◌-◌, ◌<◌, ◌≤◌, Bool, true, false, List, [], ◌∷◌, length, get_or, set, refl, sym, ap, ◌∙◌, arith, inl, inr}
+use Rattle.std.specs.Prelude.{◌⊎◌}
+use Rattle.std.specs.List.{All}
+use Rattle.std.proofs.lemmas.Bool.{cases_lt}
+use Rattle.std.proofs.lemmas.List.{get_or_default}
+use Rattle.tsp_verdict.specs.Places.{node_at, IsRepeated, IsFirstPlace}
+
+-- a node is marked exactly where it stands at one of the first places, of which none repeats an earlier one
+pub record Marked (nodes : List ℕ) (seen : List Bool) (count : ℕ) : Type 0 where
+  pub marked : (place : ℕ) → 1 ≤ place → place ≤ count → get_or seen (node_at nodes place) false ≡ true
+  pub only : (node : ℕ) → get_or seen node false ≡ true → (place : ℕ) × (1 ≤ place) × (place ≤ count) × (node_at nodes place ≡ node)
+  pub once : (place : ℕ) → 1 ≤ place → place ≤ count → IsRepeated nodes place → ⊥
+
+set_keeps : (seen : List Bool) (k m : ℕ) → get_or seen m false ≡ true → get_or (set seen k true) m false ≡ true
+set_keeps [] k m h = h
+set_keeps (b ∷ seen) zero zero h = refl
+set_keeps (b ∷ seen) zero (suc m) h = h
+set_keeps (b ∷ seen) (suc k) zero h = h
+set_keeps (b ∷ seen) (suc k) (suc m) h = set_keeps seen k m h
+
+set_adds : (seen : List Bool) (k m : ℕ) → get_or (set seen k true) m false ≡ true → (m ≡ k) ⊎ (get_or seen m false ≡ true)
+set_adds [] k m h = inr h
+set_adds (b ∷ seen) zero zero h = inl refl
+set_adds (b ∷ seen) zero (suc m) h = inr h
+set_adds (b ∷ seen) (suc k) zero h = inr h
+set_adds (b ∷ seen) (suc k) (suc m) h = next (set_adds seen k m h)
+  where
+    next : (m ≡ k) ⊎ (get_or seen m false ≡ true) → (suc m ≡ suc k) ⊎ (get_or seen m false ≡ true)
+    next (inl e) = inl (ap suc e)
+    next (inr g) = inr g
+
+set_marks : (seen : List Bool) (k : ℕ) → k < length seen → get_or (set seen k true) k false ≡ true
+set_marks [] k h = absurd (omega (arith, h))
+set_marks (b ∷ seen) zero h = refl
+set_marks (b ∷ seen) (suc k) h = set_marks seen k (omega (arith, h))
+
+-- a place up to one more is the new one or one of those before
+last_or_before : (place count : ℕ) → place ≤ count + 1 → (place ≡ count + 1) ⊎ (place ≤ count)
+last_or_before place count h = by_cases (cases_lt count place)
+  where
+    by_cases : (count < place) ⊎ (place ≤ count) → (place ≡ count + 1) ⊎ (place ≤ count)
+    by_cases (inl over) = inl (omega arith)
+    by_cases (inr le) = inr le
+
+here : (nodes : List ℕ) (place count : ℕ) → place ≡ count + 1 → node_at nodes place ≡ get_or nodes count 0
+here nodes place count e = let k : place - 1 ≡ count = omega arith in rw k refl
+
+-- one node more, which isn't marked
+pub mark_more : (nodes : List ℕ) (seen : List Bool) (count : ℕ) → get_or nodes count 0 < length seen → get_or seen (get_or nodes count 0) false ≡ false
+    → Marked nodes seen count → Marked nodes (set seen (get_or nodes count 0) true) (count + 1)
+mark_more nodes seen count fits free m = record {
+  marked = λ place low high. marked_at place low (last_or_before place count high);
+  only = λ node h. only_at node (set_adds seen (get_or nodes count 0) node h);
+  once = λ place low high. once_at place low (last_or_before place count high);
+}
+  where
+    marked_at : (place : ℕ) → 1 ≤ place → (place ≡ count + 1) ⊎ (place ≤ count) → get_or (set seen (get_or nodes count 0) true) (node_at nodes place) false ≡ true
+    marked_at place low (inl e) = rw (here nodes place count e) (set_marks seen (get_or nodes count 0) fits)
+    marked_at place low (inr le) = set_keeps seen (get_or nodes count 0) (node_at nodes place) (m.marked place low le)
+
+    only_at : (node : ℕ) → (node ≡ get_or nodes count 0) ⊎ (get_or seen node false ≡ true) → (place : ℕ) × (1 ≤ place) × (place ≤ count + 1) × (node_at nodes place ≡ node)
+    only_at node (inl e) = (count + 1, omega arith, omega arith, here nodes (count + 1) count refl ∙ sym e)
+    only_at node (inr h) = let found = m.only node h in (found.0, found.1, omega (arith, found.2), found.3)
+
+    once_at : (place : ℕ) → 1 ≤ place → (place ≡ count + 1) ⊎ (place ≤ count) → IsRepeated nodes place → ⊥
+    once_at place low (inl e) r =
+        let taken : get_or seen (node_at nodes r.0) false ≡ true = m.marked r.0 r.1 (omega (arith, r.2)) in
+        let same : node_at nodes r.0 ≡ get_or nodes count 0 = r.3 ∙ here nodes place count e in
+        let wrong : true ≡ false = sym taken ∙ ap (λ k. get_or seen k false) same ∙ free in cc
+    once_at place low (inr le) r = m.once place low le r
+
+-- the next node is marked: it is the first that is repeated
+pub repeated_here : (nodes : List ℕ) (seen : List Bool) (count : ℕ) → count < length nodes → get_or seen (get_or nodes count 0) false ≡ true
+    → Marked nodes seen count → IsFirstPlace (IsRepeated nodes) nodes (count + 1)
+repeated_here nodes seen count lt taken m =
+    let found = m.only (get_or nodes count 0) taken in
+    record {
+      here = (omega arith, omega arith);
+      holds = (found.0, found.1, omega (arith, found.2), found.3 ∙ sym (here nodes (count + 1) count refl));
+      first = λ earlier low high. m.once earlier low (omega (arith, high));
+    }
+
+-- what a read of a mark says
+pub mark_is : (seen : List Bool) (k : ℕ) (mark value : Bool) → k < length seen → mark ≡ get_or seen k mark → mark ≡ value → get_or seen k false ≡ value
+mark_is seen k mark value h read e = get_or_default seen k false mark h ∙ sym read ∙ e
+
+-- a node within the range has a mark
+pub in_range : (nodes : List ℕ) (i n size : ℕ) → i < length nodes → All (λ node. node ≤ n) nodes → size ≡ n + 1 → get_or nodes i 0 < size
+in_range nodes i n size lt range wide = omega (arith, range i 0 lt, wide)

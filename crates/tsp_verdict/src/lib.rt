@@ -1,0 +1,10 @@
+//! The verdict on a solution of an instance: the first reason against it, or its length.
+#![tactic(auto)]
+
+mod fixed;
+mod places;
+mod tour;
+mod verdict;
+
+pub use tour::judge_tour;
+pub use verdict::{Reason, Verdict};

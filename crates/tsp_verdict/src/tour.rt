@@ -1,0 +1,141 @@
+//! The verdict on a tour.
+
+ghost use Rattle.std.specs.Prelude.{◌≡◌, ◌⊎◌, ◌<◌, ◌≤◌, ◌^◌, [], ◌∷◌, map, length, unwrap_or, Some, MatchOption, MatchResult};
+ghost use Rattle.std.specs.List.{All};
+ghost use Rattle.tsp_value.specs.declared.kinds.Kind.TheVariants as kinds;
+ghost use Rattle.tsp_value.specs.Limits.{most_fixed};
+ghost use Rattle.tsp_fields.specs.Valid.{IsPairOf};
+ghost use Rattle.tsp_cost.specs.Tour.{is_directed};
+ghost use Rattle.tsp_verdict.specs.Solution.{nodes_of, fixed_of, tours_of};
+ghost use Rattle.tsp_verdict.specs.Tours.{NoneUpTo, IsFirstAgainst, IsVerdict, NoneBeforeRepeats};
+
+use crate::fixed::{first_unused, next_nodes};
+use crate::places::{first_larger, first_repeated};
+use crate::verdict::{Reason, Verdict};
+use std::alloc::{AllocError, Global};
+use tsp_cost::{Costs, Instance, symmetric_fault, tour_length};
+use tsp_fields::{File, valid_fields_are_in_range};
+use tsp_value::Kind;
+
+/// The fewest nodes of an instance whose tours are judged.
+const FEWEST_NODES: u32 = 3;
+
+/// The verdict on a solution of an instance of TYPE TSP or ATSP: a no with the first reason
+/// against it, or a yes, where the solution is one tour of the instance, with its length.
+///
+/// A tour has each node of the instance once and uses every fixed pair (TSPLIB 95): as neighbours
+/// in either direction, under TYPE ATSP from the pair's first to its second node. The reasons are
+/// judged in the order of [`Reason`], up to `FixedEdgeUnused`. The bound is `None`. The caller
+/// owes an instance of TYPE TSP or ATSP.
+///
+/// Errors: out of memory for a mark and a number for each node, and then no reason up to
+/// `NodeOutOfRange` stands: those are found without memory.
+pub fn judge_tour(alloc: Global, inst: &Instance, sol: &File) -> Result<Verdict, AllocError>
+    requires { (inst.now.kind ≡ Some kinds.Tsp) ⊎ (inst.now.kind ≡ Some kinds.Atsp) }
+    ensures { MatchResult result
+        (λ verdict. IsVerdict inst.now sol.now verdict)
+        (λ refused. NoneBeforeRepeats inst.now sol.now) }
+{
+    let tour = match the_tour(inst, sol) {
+        Ok(tour) => tour,
+        Err(reason) => return Ok(Verdict::No(reason)),
+    };
+    let nodes = inst.count();
+    if let Some(place) = first_larger(tour, nodes) {
+        return Ok(Verdict::No(Reason::NodeOutOfRange { place }));
+    }
+    if let Some(place) = first_repeated(alloc, tour, nodes)? {
+        return Ok(Verdict::No(Reason::RepeatedNode { place }));
+    }
+    let next = next_nodes(alloc, tour, nodes)?;
+    let directed = is_directed(inst.kind());
+    if let Some(index) = first_unused(fixed_pairs(inst), next.as_slice(), directed) {
+        return Ok(Verdict::No(Reason::FixedEdgeUnused { index }));
+    }
+    Ok(Verdict::Tour {
+        length: tour_length(inst, tour),
+        bound: None,
+    })
+}
+
+/// The one tour of a solution, with as many nodes as the instance, or the first reason against it
+/// that is judged before its nodes are looked at.
+fn the_tour<'a>(inst: &Instance, sol: &'a File) -> Result<&'a [u32], Reason>
+    ensures { MatchResult result
+        (λ tour. (tours_of sol.now ≡ tour.now ∷ []) × (length tour.now ≡ nodes_of inst.now)
+        × All (λ node. 1 ≤ node) tour.now × NoneUpTo inst.now sol.now 7)
+        (λ reason. IsFirstAgainst inst.now sol.now reason) }
+{
+    if let Some(reason) = first_against_files(inst, sol) {
+        return Err(reason);
+    }
+    let [tour] = solution_tours(sol) else {
+        return Err(Reason::TourCount);
+    };
+    if tour.len() != inst.count() as usize {
+        return Err(Reason::TourLength);
+    }
+    Ok(tour.as_slice())
+}
+
+/// The first reason that needs no look at the tours.
+fn first_against_files(inst: &Instance, sol: &File) -> Option<Reason>
+    ensures { MatchOption result
+        (NoneUpTo inst.now sol.now 5)
+        (λ reason. IsFirstAgainst inst.now sol.now reason) }
+{
+    let nodes = inst.count();
+    if sol.kind() != Kind::Tour {
+        return Some(Reason::NotASolution);
+    }
+    if nodes < FEWEST_NODES {
+        return Some(Reason::TooFewNodes);
+    }
+    if inst.kind() == Kind::Tsp {
+        if let Some((i, j)) = symmetric_fault(inst) {
+            return Some(Reason::NotSymmetric { i, j });
+        }
+    }
+    if sol.dimension().is_some_and(|stated| stated != nodes) {
+        return Some(Reason::Dimension);
+    }
+    None
+}
+
+/// Whether fixed pairs have a direction.
+fn is_directed(kind: Kind) -> bool
+    ensures { result ≡ is_directed (Some kind) }
+{
+    match kind {
+        Kind::Atsp => true,
+        Kind::Tsp | Kind::Cvrp | Kind::Tour | Kind::Potentials => false,
+    }
+}
+
+/// The tours of a solution, none where it has no TOUR_SECTION.
+fn solution_tours(sol: &File) -> &[Vec<u32>]
+    ensures value { map (λ tour. tour.items) result.now ≡ tours_of sol.now }
+    ensures range { All (λ tour. All (λ node. 1 ≤ node) tour) (tours_of sol.now) }
+{
+    let _valid = sol.fields();
+    valid_fields_are_in_range();
+    match sol.tours() {
+        Some(tours) => tours,
+        None => &[],
+    }
+}
+
+/// The fixed pairs of an instance, none where it has no FIXED_EDGES_SECTION.
+fn fixed_pairs(inst: &Instance) -> &[(u32, u32)]
+    ensures value { result.now ≡ fixed_of inst.now }
+    ensures few { length result.now ≤ most_fixed }
+    ensures range { All (IsPairOf (nodes_of inst.now)) result.now }
+{
+    let file = inst.file();
+    let _valid = file.fields();
+    valid_fields_are_in_range();
+    match file.fixed() {
+        Some(pairs) => pairs,
+        None => &[],
+    }
+}

@@ -1,0 +1,63 @@
+//! What is said of a solution of an instance.
+
+/// Why a solution is refused. Places, routes and fixed pairs count from 1, and places through all
+/// tours of the solution, one after the other.
+///
+/// The reasons of a tour are judged in the order in which they stand here, those of routes in the
+/// order `NotASolution`, `TooFewNodes`, `Dimension`, `DepotCount`, `DepotDemand`,
+/// `FixedEdgesInRoutes`, `DepotInRoute`, `NodeOutOfRange`, `RepeatedNode`, `Unserved`, `Overload`.
+#[derive(Clone, Copy, Debug, PartialEq, Eq)]
+pub enum Reason {
+    /// The solution is not a file of TYPE TOUR.
+    NotASolution,
+    /// The instance has fewer than 3 nodes, or fewer than 2 where routes are judged.
+    TooFewNodes,
+    /// The instance is of TYPE TSP, and this is the first pair, the smaller node first, by rows,
+    /// whose two costs differ.
+    NotSymmetric { i: u32, j: u32 },
+    /// The solution has a DIMENSION other than that of the instance.
+    Dimension,
+    /// The solution does not hold exactly one tour.
+    TourCount,
+    /// The tour does not have as many nodes as the instance.
+    TourLength,
+    /// The node at this place is the first one larger than the number of nodes.
+    NodeOutOfRange { place: u32 },
+    /// The node at this place is the first one that stands at an earlier place.
+    RepeatedNode { place: u32 },
+    /// This fixed pair is the first one that the tour does not use: as neighbours in either
+    /// direction, and under TYPE ATSP from its first to its second node alone.
+    FixedEdgeUnused { index: u32 },
+    /// The instance does not list exactly one depot.
+    DepotCount,
+    /// The depot has a demand other than 0.
+    DepotDemand,
+    /// The instance lists a fixed pair.
+    FixedEdgesInRoutes,
+    /// The node at this place is the first one that is the depot.
+    DepotInRoute { place: u32 },
+    /// This node is the least one, the depot aside, that is in no route.
+    Unserved { node: u32 },
+    /// This route is the first one whose demands sum to more than the capacity.
+    Overload { route: u32 },
+}
+
+/// The verdict on a solution: a yes with its length, or a no with the first reason against it.
+#[derive(Clone, Copy, Debug, PartialEq, Eq)]
+pub enum Verdict {
+    /// A yes: the solution is a tour of this length. Where potentials were judged too, no tour of
+    /// the instance is shorter than the bound.
+    Tour {
+        length: i64,
+        bound: Option<i128>,
+    },
+    /// A yes: the solution is a plan of so many routes, of this length in all. No plan of the
+    /// instance has fewer than `least` routes.
+    Routes {
+        length: i64,
+        routes: u32,
+        least: u64,
+    },
+    /// A no, with the first reason that stands against the solution.
+    No(Reason),
+}
