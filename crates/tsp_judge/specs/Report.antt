@@ -1,7 +1,8 @@
 -- The report of a check, line by line. Each line ends with byte 10, and one blank stands between words.
-use Rattle.std.specs.Prelude.{ℕ, List, ◌++◌, map, codes, decimal, cond, ℤ, ◌-ℤ◌, int_eq, Option, None, Some, unwrap_or, [], IfSome, unsigned_abs, ◌≤◌, ◌^◌}
+use Rattle.std.specs.Prelude.{ℕ, List, ◌++◌, map, codes, decimal, cond, ℤ, pos, ◌-ℤ◌, Option, None, Some, unwrap_or, [], IfSome, unsigned_abs, ◌≤◌, ◌^◌}
 use Rattle.std.specs.List.{concat}
 use Rattle.std.specs.Option.{option_map_or}
+use Rattle.std.specs.Ordering.{int_eq}
 use Rattle.std.specs.Fmt.{signed_decimal}
 use Rattle.tsp_value.specs.Words.{kind_word}
 use Rattle.tsp_fields.specs.Fields.{Fields}
@@ -21,29 +22,56 @@ instance_lines f = codes "type " ++ option_map_or kind_word f.kind [] ++ codes "
 
 -- ---- the verdict
 
+abbrev pub reason_name : Reason → List ℕ
+reason_name NotASolution = codes "NotASolution"
+reason_name TooFewNodes = codes "TooFewNodes"
+reason_name (NotSymmetric i j) = codes "NotSymmetric"
+reason_name Dimension = codes "Dimension"
+reason_name TourCount = codes "TourCount"
+reason_name TourLength = codes "TourLength"
+reason_name (NodeOutOfRange place) = codes "NodeOutOfRange"
+reason_name (RepeatedNode place) = codes "RepeatedNode"
+reason_name (FixedEdgeUnused index) = codes "FixedEdgeUnused"
+reason_name DepotCount = codes "DepotCount"
+reason_name DepotDemand = codes "DepotDemand"
+reason_name FixedEdgesInRoutes = codes "FixedEdgesInRoutes"
+reason_name (DepotInRoute place) = codes "DepotInRoute"
+reason_name (Unserved node) = codes "Unserved"
+reason_name (Overload route) = codes "Overload"
+
+-- its numbers, of which it has two at most
+abbrev pub reason_numbers : Reason → Option ℕ × Option ℕ
+reason_numbers NotASolution = (None, None)
+reason_numbers TooFewNodes = (None, None)
+reason_numbers (NotSymmetric i j) = (Some i, Some j)
+reason_numbers Dimension = (None, None)
+reason_numbers TourCount = (None, None)
+reason_numbers TourLength = (None, None)
+reason_numbers (NodeOutOfRange place) = (Some place, None)
+reason_numbers (RepeatedNode place) = (Some place, None)
+reason_numbers (FixedEdgeUnused index) = (Some index, None)
+reason_numbers DepotCount = (None, None)
+reason_numbers DepotDemand = (None, None)
+reason_numbers FixedEdgesInRoutes = (None, None)
+reason_numbers (DepotInRoute place) = (Some place, None)
+reason_numbers (Unserved node) = (Some node, None)
+reason_numbers (Overload route) = (Some route, None)
+
+abbrev pub after_blank : Option ℕ → List ℕ
+after_blank None = []
+after_blank (Some number) = codes " " ++ decimal number
+
 -- the name of a reason, and its numbers
 abbrev pub reason_text : Reason → List ℕ
-reason_text NotASolution = codes "NotASolution"
-reason_text TooFewNodes = codes "TooFewNodes"
-reason_text (NotSymmetric i j) = codes "NotSymmetric " ++ decimal i ++ codes " " ++ decimal j
-reason_text Dimension = codes "Dimension"
-reason_text TourCount = codes "TourCount"
-reason_text TourLength = codes "TourLength"
-reason_text (NodeOutOfRange place) = codes "NodeOutOfRange " ++ decimal place
-reason_text (RepeatedNode place) = codes "RepeatedNode " ++ decimal place
-reason_text (FixedEdgeUnused index) = codes "FixedEdgeUnused " ++ decimal index
-reason_text DepotCount = codes "DepotCount"
-reason_text DepotDemand = codes "DepotDemand"
-reason_text FixedEdgesInRoutes = codes "FixedEdgesInRoutes"
-reason_text (DepotInRoute place) = codes "DepotInRoute " ++ decimal place
-reason_text (Unserved node) = codes "Unserved " ++ decimal node
-reason_text (Overload route) = codes "Overload " ++ decimal route
+reason_text reason = reason_name reason ++ after_blank (reason_numbers reason).0 ++ after_blank (reason_numbers reason).1
 
--- a bound, and whether it is the length
+-- by how much a length is more than a bound; it is optimal where they are equal
+abbrev pub gap_lines : ℤ → List ℕ
+gap_lines gap = cond (int_eq gap (pos 0)) (codes "\noptimal\n") (codes "\ngap " ++ signed_decimal gap ++ codes "\n")
+
 abbrev pub bound_lines : ℤ → Option ℤ → List ℕ
 bound_lines length None = []
-bound_lines length (Some bound) = codes "bound " ++ signed_decimal bound
-    ++ cond (int_eq length bound) (codes "\noptimal\n") (codes "\ngap " ++ signed_decimal (length -ℤ bound) ++ codes "\n")
+bound_lines length (Some bound) = codes "bound " ++ signed_decimal bound ++ gap_lines (length -ℤ bound)
 
 abbrev pub verdict_lines : Verdict → List ℕ
 verdict_lines (Tour length bound) = codes "length " ++ signed_decimal length ++ codes "\n" ++ bound_lines length bound ++ codes "yes\n"

@@ -1,5 +1,5 @@
 -- What a check does to its readers and its writer, and what it answers.
-use Rattle.std.specs.Prelude.{◌≡◌, ℕ, ◌⊎◌, Bool, true, false, Result, Ok, Err}
+use Rattle.std.specs.Prelude.{◌≡◌, ℕ, ◌⊎◌, Bool, false, Result, Ok, Err, IsTrue}
 use Rattle.tsp_stream.specs.declared.output.WriteFault.TheVariants as write_faults
 use Rattle.tsp_stream.specs.Turn.{Turn, IsUnread}
 use Rattle.tsp_stream.specs.Sink.{Sink, IsUnwritten, HasWritten, HasStopped}
@@ -18,7 +18,7 @@ IsSomeFile turn = (file : Fields) × IsFile turn file
 
 -- they spell a file that is an instance, or one that is none
 abbrev pub IsSomeInstance : Turn → Type 0
-IsSomeInstance turn = (file : Fields) × IsFile turn file × (is_instance file.kind ≡ true)
+IsSomeInstance turn = (file : Fields) × IsFile turn file × IsTrue (is_instance file.kind)
 
 abbrev pub IsNoInstance : Turn → Type 0
 IsNoInstance turn = (file : Fields) × IsFile turn file × (is_instance file.kind ≡ false)

@@ -3,6 +3,7 @@
 
 mod check;
 mod fault;
+mod reason;
 mod report;
 
 pub use check::run_check;

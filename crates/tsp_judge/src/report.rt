@@ -1,13 +1,14 @@
 //! The text of a report.
 
-ghost use Rattle.std.specs.Prelude.{◌≡◌, ◌++◌, IfOk, OnOk, map, decimal};
-ghost use Rattle.tsp_judge.specs.Report.{report_of, instance_lines, not_judged, verdict_lines, bound_lines, reason_text, IsBoundSized, IsSized};
+ghost use Rattle.std.specs.Prelude.{◌≡◌, ◌++◌, ◌≤◌, ◌^◌, ◌-ℤ◌, IfOk, OnOk, Some, map, unsigned_abs};
+ghost use Rattle.tsp_judge.specs.Report.{report_of, instance_lines, not_judged, verdict_lines, bound_lines, gap_lines, IsBoundSized, IsSized};
 
+use crate::reason::push_reason;
 use itoa::{Buffer, Integer};
 use std::alloc::{AllocError, Global};
 use tsp_fields::File;
 use tsp_value::Word;
-use tsp_verdict::{Reason, Verdict};
+use tsp_verdict::Verdict;
 
 /// The report on an instance, line by line.
 pub(crate) fn report_text(
@@ -84,19 +85,11 @@ fn push_verdict(text: &mut Vec<u8>, verdict: Verdict) -> Result<(), AllocError>
 }
 
 /// Appends the digits of a number.
-fn push_number<N: Integer>(text: &mut Vec<u8>, number: N) -> Result<(), AllocError>
+pub(crate) fn push_number<N: Integer>(text: &mut Vec<u8>, number: N) -> Result<(), AllocError>
     ensures { OnOk result (text.new.items ≡ text.old.items ++ N.text number) }
 {
     let mut buffer = Buffer::new();
     text.extend_from_slice(buffer.format(number).as_bytes())
-}
-
-/// Appends a name, and a number after it.
-fn push_named(text: &mut Vec<u8>, name: &[u8], number: u32) -> Result<(), AllocError>
-    ensures { OnOk result (text.new.items ≡ text.old.items ++ name.now ++ decimal number) }
-{
-    text.extend_from_slice(name)?;
-    push_number(text, number)
 }
 
 /// Appends the line of a bound and the line after it, where there is one.
@@ -104,42 +97,39 @@ fn push_bound(text: &mut Vec<u8>, length: i64, bound: Option<i128>) -> Result<()
     requires { IsBoundSized bound }
     ensures { OnOk result (text.new.items ≡ text.old.items ++ bound_lines length bound) }
 {
-    let Some(bound) = bound else {
-        return Ok(());
-    };
+    match bound {
+        None => Ok(()),
+        Some(bound) => push_bound_and_gap(text, length, bound),
+    }
+}
+
+/// Appends the line of a bound and the line after it.
+#[tactic(auto, using(crate::proofs::Texts::three_pieces))]
+fn push_bound_and_gap(text: &mut Vec<u8>, length: i64, bound: i128) -> Result<(), AllocError>
+    requires { unsigned_abs bound ≤ 2 ^ 126 }
+    ensures { OnOk result (text.new.items ≡ text.old.items ++ bound_lines length (Some bound)) }
+{
     text.extend_from_slice(b"bound ")?;
     push_number(text, bound)?;
-    let gap = i128::from(length) - bound;
+    push_gap(text, gap_of(length, bound))
+}
+
+/// By how much a length is more than a bound.
+fn gap_of(length: i64, bound: i128) -> i128
+    requires { unsigned_abs bound ≤ 2 ^ 126 }
+    ensures { result ≡ length -ℤ bound }
+{
+    i128::from(length) - bound
+}
+
+/// Appends by how much a length is more than a bound.
+fn push_gap(text: &mut Vec<u8>, gap: i128) -> Result<(), AllocError>
+    ensures { OnOk result (text.new.items ≡ text.old.items ++ gap_lines gap) }
+{
     if gap == 0 {
         return text.extend_from_slice(b"\noptimal\n");
     }
     text.extend_from_slice(b"\ngap ")?;
     push_number(text, gap)?;
     text.extend_from_slice(b"\n")
-}
-
-/// Appends the name of a reason, and its numbers.
-fn push_reason(text: &mut Vec<u8>, reason: Reason) -> Result<(), AllocError>
-    ensures { OnOk result (text.new.items ≡ text.old.items ++ reason_text reason) }
-{
-    match reason {
-        Reason::NotASolution => text.extend_from_slice(b"NotASolution"),
-        Reason::TooFewNodes => text.extend_from_slice(b"TooFewNodes"),
-        Reason::NotSymmetric { i, j } => {
-            push_named(text, b"NotSymmetric ", i)?;
-            push_named(text, b" ", j)
-        }
-        Reason::Dimension => text.extend_from_slice(b"Dimension"),
-        Reason::TourCount => text.extend_from_slice(b"TourCount"),
-        Reason::TourLength => text.extend_from_slice(b"TourLength"),
-        Reason::NodeOutOfRange { place } => push_named(text, b"NodeOutOfRange ", place),
-        Reason::RepeatedNode { place } => push_named(text, b"RepeatedNode ", place),
-        Reason::FixedEdgeUnused { index } => push_named(text, b"FixedEdgeUnused ", index),
-        Reason::DepotCount => text.extend_from_slice(b"DepotCount"),
-        Reason::DepotDemand => text.extend_from_slice(b"DepotDemand"),
-        Reason::FixedEdgesInRoutes => text.extend_from_slice(b"FixedEdgesInRoutes"),
-        Reason::DepotInRoute { place } => push_named(text, b"DepotInRoute ", place),
-        Reason::Unserved { node } => push_named(text, b"Unserved ", node),
-        Reason::Overload { route } => push_named(text, b"Overload ", route),
-    }
 }
