@@ -1,0 +1,44 @@
+//! What is written is read back, as contracts of functions that do nothing.
+
+ghost use Rattle.std.specs.Prelude.{◌≡◌, ◌≤◌, ◌<◌, ◌^◌, ℕ, ℤ, List, true, None, Ok, unsigned_abs};
+ghost use Rattle.std.specs.Fmt.{signed_decimal};
+ghost use Rattle.tsp_number.specs.Decimal.{most_count};
+ghost use Rattle.tsp_number.specs.Reading.{decimal_of, whole_of};
+ghost use Rattle.tsp_number.specs.Spelling.{spelling};
+ghost use Rattle.tsp_fields.specs.Fields.{Fields};
+ghost use Rattle.tsp_fields.specs.Rules.{fault_of};
+ghost use Rattle.tsp_fields.specs.Validity.{is_from_to};
+ghost use Rattle.tsp_file.specs.Text.{text_of};
+ghost use Rattle.tsp_read.specs.Text.{Spells};
+
+use tsp_file::a_valid_text_is_short;
+use tsp_number::{number_word_laws, spelling_laws};
+use tsp_read::{spelled_files_are_valid, texts_have_one_answer};
+
+/// Each number that the canonical text writes is read back: a whole number of less than 2^63 in
+/// size where one of its range is wanted, and a coordinate of at most 10^18 counts of 10^-9.
+pub fn written_numbers_are_read_back()
+    ensures whole { (z low high : ℤ) → unsigned_abs z < 2 ^ 63 → is_from_to low high z ≡ true
+        → whole_of (signed_decimal z) low high ≡ Ok z }
+    ensures coordinate { (k : ℤ) → unsigned_abs k ≤ most_count → decimal_of (spelling k) ≡ Ok k }
+{
+    number_word_laws();
+    spelling_laws();
+}
+
+/// The canonical text of every valid file spells that file, and no other. So no two valid files
+/// have the same canonical text, and what any text spells is spelled by its canonical text too.
+pub fn canonical_texts_are_read_back()
+    ensures spelled { (f : Fields) → fault_of f ≡ None → Spells (text_of f) f }
+    ensures alone { (f other : Fields) → fault_of f ≡ None → Spells (text_of f) other → other ≡ f }
+    ensures told_apart { (f g : Fields) → fault_of f ≡ None → fault_of g ≡ None
+        → text_of f ≡ text_of g → f ≡ g }
+    ensures again { (bytes : List ℕ) (file : Fields) → Spells bytes file
+        → Spells (text_of file) file }
+{
+    number_word_laws();
+    spelling_laws();
+    a_valid_text_is_short();
+    texts_have_one_answer();
+    spelled_files_are_valid();
+}
