@@ -19,7 +19,7 @@ use Rattle.tsp_read.specs.Places.{NodeAfter, Amount, PastGroups}
 use Rattle.tsp_read.specs.Groups.{pairs_in, begun_pair, number_groups, entry_of, by_node, numbers_by_node, place_in_group, nodes_in, place_of_number}
 use Rattle.tsp_read.specs.Parts.{word_fault}
 use Rattle.tsp_read.proofs.ValidLists.{pair_begins, pair_ends}
-use Rattle.tsp_round.proofs.Numbers.{NumberLaws, node_back, whole_back}
+use Rattle.tsp_round.proofs.Numbers.{NumberLaws, node_back}
 use Rattle.tsp_round.proofs.Onto.{AllTaken}
 use Rattle.tsp_round.proofs.Lists.{no_rows}
 
@@ -121,7 +121,7 @@ numbers_taken laws low high small n few earlier i (z ∷ xs) whole nodes count r
           (ap (λ (r : Result ℤ NumberFault). list_any (λ e. reads_as e r) (map pos (range_with_len 1 i))) (node_back laws n (i + 1) few is) ∙ new_node (i + 1) 1 i (omega arith)) refl refl refl,
       (
         ap (λ p. word_fault n p b) next
-            ∙ no_rows (result_err (whole_of b low high)) false false false false (ap (λ (r : Result ℤ NumberFault). result_err r) (whole_back laws z low high (small z both.0) both.0)) refl refl refl refl,
+            ∙ no_rows (result_err (whole_of b low high)) false false false false (ap (λ (r : Result ℤ NumberFault). result_err r) (laws.whole_back z low high (small z both.0) both.0)) refl refl refl refl,
         numbers_taken laws low high small n few ((earlier ++ a ∷ []) ++ b ∷ []) (i + 1) xs second.1 nodes_more (omega arith) (omega arith) both.1,
       ),
     )
@@ -137,7 +137,7 @@ groups_back laws low high small n few i (z ∷ xs) room all =
     let both = and_parts (is_from_to low high z) (list_all (is_from_to low high) xs) all in
     let rest : List (ℤ × ℤ) = map (λ (group : List ℕ × List ℕ). (number (node n group.0), number (whole_of group.1 low high))) (pairs_in (flat_map number_entry (enumerate_from (i + 1 + 1) xs))) in
     ap (λ r. (number r, number (whole_of (signed_decimal z) low high)) ∷ rest) (node_back laws n (i + 1) few (one_node n i (omega arith)))
-    ∙ ap (λ r. (pos (i + 1), number r) ∷ rest) (whole_back laws z low high (small z both.0) both.0)
+    ∙ ap (λ r. (pos (i + 1), number r) ∷ rest) (laws.whole_back z low high (small z both.0) both.0)
     ∙ ap (λ (gs : List (ℤ × ℤ)). (pos (i + 1), z) ∷ gs) (groups_back laws low high small n few (i + 1) xs (omega arith) both.1)
 
 pub numbers_back : NumberLaws → (low high : ℤ) → AreSmall low high → (n : ℕ) → n < 2 ^ 32 → (xs : List ℤ) → length xs ≡ n → list_all (is_from_to low high) xs ≡ true

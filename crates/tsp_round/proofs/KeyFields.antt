@@ -25,7 +25,7 @@ use Rattle.tsp_read.specs.Rows.{may_repeat, row_of}
 use Rattle.tsp_read.proofs.ValidSections.{same_field_is}
 use Rattle.tsp_round.proofs.Text.{is_plain, is_plain_word, no_blank, one_line_word}
 use Rattle.tsp_round.proofs.Lines.{IsWhole, IsKeyword, written_line, value_text}
-use Rattle.tsp_round.proofs.Numbers.{NumberLaws, signed_plain, short_signed, whole_back}
+use Rattle.tsp_round.proofs.Numbers.{NumberLaws, signed_plain, short_signed}
 use Rattle.tsp_round.proofs.Words.{kind_row, kind_whole, weight_kind_row, weight_kind_whole, weight_format_row, weight_format_whole, coord_kind_row, coord_kind_whole, display_kind_row, display_kind_whole}
 use Rattle.tsp_round.proofs.Keys.{text_length, kept, name_row, dimension_row, capacity_row, scale_row, no_comment, comments_run}
 use Rattle.tsp_round.proofs.Others.{others_run}
@@ -68,7 +68,7 @@ line_of_number laws keyword few low high z small inside =
       short = text_length keyword (signed_decimal z) most_kept_bytes (omega (arith, short_signed z small, few)) (omega arith);
       filled = (and_parts (is_filled (signed_decimal z)) (list_all is_plain (signed_decimal z)) plain).0;
       read = ap (λ (word : List ℕ). result_err (whole_of word low high)) (only_word (signed_decimal z) plain)
-          ∙ ap (λ (r : Result ℤ NumberFault). result_err r) (whole_back laws z low high small inside);
+          ∙ ap (λ (r : Result ℤ NumberFault). result_err r) (laws.whole_back z low high small inside);
     }
 
 -- ---- the line of a keyword

@@ -1,23 +1,23 @@
-mod Text
-mod Onto
-mod Lines
-mod Numbers
-mod Lists
-mod Groups
-mod Points
-mod Tours
-mod Words
-mod Keys
-mod Others
-mod Sections
-mod Stages
-mod Steps
-mod Spelled
-mod Whole
-mod Bodies
-mod Matrix
-mod KeyFields
-mod SectionFields
-mod FieldSteps
-mod Complete
-mod Joined
+pub mod Text
+pub mod Onto
+pub mod Lines
+pub mod Numbers
+pub mod Lists
+pub mod Groups
+pub mod Points
+pub mod Tours
+pub mod Words
+pub mod Keys
+pub mod Others
+pub mod Sections
+pub mod Stages
+pub mod Steps
+pub mod Spelled
+pub mod Whole
+pub mod Bodies
+pub mod Matrix
+pub mod KeyFields
+pub mod SectionFields
+pub mod FieldSteps
+pub mod Complete
+pub mod Joined

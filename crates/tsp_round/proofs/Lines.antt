@@ -17,7 +17,7 @@ use Rattle.tsp_round.proofs.Text.{Writes, line_written, all_such}
 
 -- ---- blanks
 
-pub start_kept : (bytes : List ℕ) → is_blank (slice_index bytes 0) ≡ false → without_start bytes ≡ bytes
+start_kept : (bytes : List ℕ) → is_blank (slice_index bytes 0) ≡ false → without_start bytes ≡ bytes
 start_kept [] e = refl
 start_kept (b ∷ bytes) e = ap (λ blank. drop (cond blank (1 + prefix_len is_blank bytes) 0) (b ∷ bytes)) e
 
@@ -25,7 +25,7 @@ last_first : (bytes : List ℕ) → slice_index (reverse bytes) 0 ≡ slice_inde
 last_first [] = refl
 last_first (b ∷ bytes) = get_or-reverse (b ∷ bytes) 0 0 (omega arith) ∙ ap (λ n. get_or (b ∷ bytes) n 0) (omega arith)
 
-pub end_kept : (bytes : List ℕ) → is_blank (slice_index bytes (length bytes - 1)) ≡ false → without_end bytes ≡ bytes
+end_kept : (bytes : List ℕ) → is_blank (slice_index bytes (length bytes - 1)) ≡ false → without_end bytes ≡ bytes
 end_kept bytes e = ap reverse (start_kept (reverse bytes) (ap is_blank (last_first bytes) ∙ e)) ∙ reverse-reverse bytes
 
 blank_gone : (value : List ℕ) → is_blank (slice_index value 0) ≡ false → without_start (after_blank value) ≡ value
@@ -102,7 +102,7 @@ one_line_after : (value : List ℕ) → is_one_line value ≡ true → is_one_li
 one_line_after [] one = refl
 one_line_after (b ∷ value) one = one
 
-pub items_of_value : (keyword value : List ℕ) → IsKeyword keyword → IsWhole value → items_in (value_text keyword value) ≡ Line (keyword_of keyword) (written_line keyword value) ∷ []
+items_of_value : (keyword value : List ℕ) → IsKeyword keyword → IsWhole value → items_in (value_text keyword value) ≡ Line (keyword_of keyword) (written_line keyword value) ∷ []
 items_of_value keyword value key whole =
     let text = value_text keyword value in
     let start = first_letter keyword (32 ∷ 58 ∷ after_blank value) key.letter_first in

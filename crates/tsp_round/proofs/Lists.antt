@@ -22,7 +22,7 @@ use Rattle.tsp_read.specs.Weights.{weights_in, place_of_weight}
 use Rattle.tsp_read.specs.Rows.{when, first_row}
 use Rattle.tsp_read.specs.Parts.{word_fault}
 use Rattle.tsp_read.proofs.ValidLists.{pair_begins, pair_ends}
-use Rattle.tsp_round.proofs.Numbers.{NumberLaws, node_back, listed_back, node_goes_on, end_read, end_ends, whole_back, size_in}
+use Rattle.tsp_round.proofs.Numbers.{NumberLaws, node_back, listed_back, node_goes_on, end_read, end_ends, size_in}
 use Rattle.tsp_round.proofs.Onto.{AllTaken}
 
 -- ---- rows of a word
@@ -145,7 +145,7 @@ fixed_ended laws n (pair ∷ pairs) = or_right (is_end n (decimal pair.0)) (list
 weight_back : NumberLaws → (z : ℤ) → is_within most_weight z ≡ true → sized most_weight (signed_decimal z) ≡ Ok z
 weight_back laws z inside =
     let small = size_in most_weight z inside in
-    whole_back laws z _ _ (omega (arith, small)) inside
+    laws.whole_back z _ _ (omega (arith, small)) inside
 
 pub weights_taken : NumberLaws → (n : ℕ) (earlier : List (List ℕ)) (weights : List ℤ) → length earlier + length weights ≤ n * n → list_all (is_within most_weight) weights ≡ true
     → AllTaken n (place_of_weight n) earlier (map signed_decimal weights)

@@ -25,12 +25,17 @@ use Rattle.tsp_read.specs.Lines.{is_filled}
 use Rattle.tsp_read.specs.Numbers.{node, node_or_end, is_end, not_zero, reads_as}
 use Rattle.tsp_round.proofs.Text.{is_plain, is_plain_word}
 
--- what always holds of number words
-pub record NumberLaws : Type 0 where
+-- what always holds of number words and of spellings
+pub record WordLaws : Type 0 where
   pub one_whole : (word : List ℕ) (low high : ℤ) (r s : Result ℤ NumberFault) → ReadsWhole word low high r → ReadsWhole word low high s → r ≡ s
   pub some_whole : (word : List ℕ) (low high : ℤ) → ReadsWhole word low high (whole_of word low high)
   pub some_decimal : (word : List ℕ) → ReadsDecimal word (decimal_of word)
   pub round_trip : (k : ℤ) (r : Result ℤ NumberFault) → unsigned_abs k ≤ most_count → ReadsDecimal (spelling k) r → r ≡ Ok k
+
+-- what follows from them: numbers that are written are read back
+pub record NumberLaws : Type 0 where
+  pub whole_back : (z low high : ℤ) → unsigned_abs z < 2 ^ 63 → is_from_to low high z ≡ true → whole_of (signed_decimal z) low high ≡ Ok z
+  pub decimal_back : (k : ℤ) → unsigned_abs k ≤ most_count → decimal_of (spelling k) ≡ Ok k
 
 -- ---- words are plain
 
@@ -135,7 +140,7 @@ stands_whole negative size small =
       shifted = ap (λ m. signed negative m *ℤ pos unit) (sym value);
     }
 
-pub stands_signed : (z : ℤ) → unsigned_abs z < 2 ^ 63 → StandsFor (signed_decimal z) (z *ℤ pos unit)
+stands_signed : (z : ℤ) → unsigned_abs z < 2 ^ 63 → StandsFor (signed_decimal z) (z *ℤ pos unit)
 unfolding sign_text
 stands_signed (pos n) small = stands_whole false n small
 stands_signed (negsuc n) small = stands_whole true (suc n) small
@@ -144,13 +149,16 @@ pub short_signed : (z : ℤ) → unsigned_abs z < 2 ^ 63 → length (signed_deci
 short_signed (pos n) small = omega (arith, length-decimal-le 20 n (omega arith) (omega arith) (omega arith))
 short_signed (negsuc n) small = omega (arith, length-decimal-le 20 (suc n) (omega arith) (omega arith) (omega arith))
 
-pub whole_back : NumberLaws → (z low high : ℤ) → unsigned_abs z < 2 ^ 63 → is_from_to low high z ≡ true → whole_of (signed_decimal z) low high ≡ Ok z
-whole_back laws z low high small inside =
-    let both = and_parts (int_le low z) (int_le z high) inside in
-    let lower : low ≤ℤ z = record { le = T_from_true (int_le low z) both.0 } in
-    let upper : z ≤ℤ high = record { le = T_from_true (int_le z high) both.1 } in
-    laws.one_whole (signed_decimal z) low high (whole_of (signed_decimal z) low high) (Ok z) (laws.some_whole (signed_decimal z) low high)
-    (short_signed z small, stands_signed z small, lower, upper)
+pub number_laws : WordLaws → NumberLaws
+number_laws laws = record {
+  whole_back = λ z low high small inside.
+      let both = and_parts (int_le low z) (int_le z high) inside in
+      let lower : low ≤ℤ z = record { le = T_from_true (int_le low z) both.0 } in
+      let upper : z ≤ℤ high = record { le = T_from_true (int_le z high) both.1 } in
+      laws.one_whole (signed_decimal z) low high (whole_of (signed_decimal z) low high) (Ok z) (laws.some_whole (signed_decimal z) low high)
+      (short_signed z small, stands_signed z small, lower, upper);
+  decimal_back = λ k most. laws.round_trip k (decimal_of (spelling k)) most (laws.some_decimal (spelling k));
+}
 
 -- a number within a limit
 pub size_in : (most : ℕ) (z : ℤ) → is_within most z ≡ true → unsigned_abs z ≤ most
@@ -165,7 +173,7 @@ size_in (suc m) (negsuc n) e =
 pub node_back : NumberLaws → (n k : ℕ) → n < 2 ^ 32 → is_node n k ≡ true → node n (decimal k) ≡ Ok (pos k)
 node_back laws n k few is =
     let both = and_parts (nat_le 1 k) (nat_le k n) is in
-    whole_back laws (pos k) (pos 1) (pos n) (omega (arith, leb-true k n both.1)) is
+    laws.whole_back (pos k) (pos 1) (pos n) (omega (arith, leb-true k n both.1)) is
 
 not_same : (a b : ℤ) → (a ≡ b → ⊥) → int_eq a b ≡ false
 not_same a b differ = false_from_ne_true (int_eq a b) (λ e. differ ((Decides-int_eq a b).0 e))
@@ -176,7 +184,7 @@ no_zero k some = not_same (pos k) (pos 0) (λ e. let z : k ≡ 0 = cc in absurd 
 pub listed_back : NumberLaws → (n k : ℕ) → n < 2 ^ 32 → is_node n k ≡ true → node_or_end n (decimal k) ≡ Ok (pos k)
 listed_back laws n k few is =
     let both = and_parts (nat_le 1 k) (nat_le k n) is in
-    ap not_zero (whole_back laws (pos k) (negsuc 0) (pos n) (omega (arith, leb-true k n both.1)) both.1)
+    ap not_zero (laws.whole_back (pos k) (negsuc 0) (pos n) (omega (arith, leb-true k n both.1)) both.1)
     ∙ ap (λ b. cond b (Err OutOfRange) (Ok (pos k))) (no_zero k (leb-true 1 k both.0))
 
 pub node_goes_on : NumberLaws → (n k : ℕ) → n < 2 ^ 32 → is_node n k ≡ true → is_end n (decimal k) ≡ false
@@ -186,12 +194,7 @@ minus_one : signed_decimal (negsuc 0) ≡ codes "-1"
 minus_one = ap (λ (ds : List ℕ). 45 ∷ ds) (decimal_digit 1 (omega arith))
 
 pub end_read : NumberLaws → (n : ℕ) → node_or_end n (codes "-1") ≡ Ok (negsuc 0)
-end_read laws n = ap not_zero (ap (λ word. whole_of word (negsuc 0) (pos n)) (sym minus_one) ∙ whole_back laws (negsuc 0) (negsuc 0) (pos n) (omega arith) refl)
+end_read laws n = ap not_zero (ap (λ word. whole_of word (negsuc 0) (pos n)) (sym minus_one) ∙ laws.whole_back (negsuc 0) (negsuc 0) (pos n) (omega arith) refl)
 
 pub end_ends : NumberLaws → (n : ℕ) → is_end n (codes "-1") ≡ true
 end_ends laws n = ap (reads_as (negsuc 0)) (end_read laws n)
-
--- ---- decimals
-
-pub decimal_back : NumberLaws → (k : ℤ) → unsigned_abs k ≤ most_count → decimal_of (spelling k) ≡ Ok k
-decimal_back laws k most = laws.round_trip k (decimal_of (spelling k)) most (laws.some_decimal (spelling k))

@@ -19,7 +19,7 @@ use Rattle.tsp_read.specs.Places.{NodeAfter, Coordinate, PastGroups}
 use Rattle.tsp_read.specs.Groups.{triples_in, begun_triple, point_of, point_groups, points_by_node, place_in_group, nodes_in, place_of_point}
 use Rattle.tsp_read.specs.Parts.{word_fault}
 use Rattle.tsp_round.proofs.Groups.{tagged, fused, one_node, new_node, by_node_back}
-use Rattle.tsp_round.proofs.Numbers.{NumberLaws, node_back, decimal_back, size_in}
+use Rattle.tsp_round.proofs.Numbers.{NumberLaws, node_back, size_in}
 use Rattle.tsp_round.proofs.Onto.{AllTaken}
 use Rattle.tsp_round.proofs.Lists.{no_rows}
 
@@ -60,7 +60,7 @@ abbrev pub point_entry : ℕ × Point → List (List ℕ)
 point_entry entry = decimal entry.0 ∷ spelling entry.1.x ∷ spelling entry.1.y ∷ []
 
 coordinate_back : NumberLaws → (z : ℤ) → is_within most_coordinate z ≡ true → decimal_of (spelling z) ≡ Ok z
-coordinate_back laws z inside = decimal_back laws z (size_in most_coordinate z inside)
+coordinate_back laws z inside = laws.decimal_back z (size_in most_coordinate z inside)
 
 nodes_are : (n : ℕ) (words : List (List ℕ)) → length words ≤ 3 * n → nodes_in (point_groups n words) ≡ map (λ group. number (node n group.0)) (triples_in words)
 nodes_are n words few =

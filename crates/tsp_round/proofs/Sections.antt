@@ -22,7 +22,7 @@ use Rattle.tsp_read.specs.Values.{read_as}
 use Rattle.tsp_read.specs.Sections.{nodes_of}
 use Rattle.tsp_read.specs.Rows.{may_repeat}
 use Rattle.tsp_round.proofs.Text.{is_plain_word, unblank}
-use Rattle.tsp_round.proofs.Numbers.{NumberLaws, decimal_plain, whole_back, size_in}
+use Rattle.tsp_round.proofs.Numbers.{NumberLaws, decimal_plain, size_in}
 use Rattle.tsp_round.proofs.Onto.{has_value}
 use Rattle.tsp_round.proofs.Groups.{AreSmall}
 use Rattle.tsp_round.proofs.Stages.{Ready}
@@ -42,7 +42,7 @@ pub dimension_back : NumberLaws → (n : ℕ) → is_node most_nodes n ≡ true 
 dimension_back laws n is =
     let few = leb-true n most_nodes (and_parts (nat_le 1 n) (nat_le n most_nodes) is).1 in
     ap (λ (word : List ℕ). option_map nat_abs (result_ok (whole_of word (pos 1) (pos most_nodes)))) (only_word (decimal n) (decimal_plain n (omega arith)))
-    ∙ ap (λ (r : Result ℤ NumberFault). option_map nat_abs (result_ok r)) (whole_back laws (pos n) (pos 1) (pos most_nodes) (omega arith) is)
+    ∙ ap (λ (r : Result ℤ NumberFault). option_map nat_abs (result_ok r)) (laws.whole_back (pos n) (pos 1) (pos most_nodes) (omega arith) is)
 
 -- a section of a valid file has a number of nodes
 pub record HasNodes {A : Type 0} (f : Fields) (fits : ℕ → A → Bool) (x : A) (earlier : List Item) : Type 0 where

@@ -1,6 +1,6 @@
 -- What the items of a whole text say is what its file holds, field by field.
-use Rattle.std.proofs.Common.{◌≡◌, ℕ, ◌^◌, ◌<◌, ◌≤◌, Bool, true, false, cond, List, [], refl, ap, ◌∙◌, arith, Option, Some, None, Result}
-use Rattle.std.specs.Prelude.{ℤ, pos, negsuc, nat_le, nat_abs, is_some, unsigned_abs}
+use Rattle.std.proofs.Common.{◌≡◌, ℕ, ◌^◌, ◌<◌, ◌≤◌, true, List, refl, ap, ◌∙◌, arith, Option, Some, None, Result}
+use Rattle.std.specs.Prelude.{ℤ, pos, negsuc, nat_le, nat_abs, unsigned_abs}
 use Rattle.std.specs.Option.{option_map, option_and_then}
 use Rattle.std.specs.Result.{result_ok}
 use Rattle.std.specs.Fmt.{decimal, signed_decimal}
@@ -13,20 +13,14 @@ use Rattle.tsp_value.specs.declared.kinds.WeightKind.{WeightKind}
 use Rattle.tsp_value.specs.declared.kinds.WeightFormat.{WeightFormat}
 use Rattle.tsp_value.specs.declared.kinds.CoordKind.{CoordKind}
 use Rattle.tsp_value.specs.declared.kinds.DisplayKind.{DisplayKind}
-use Rattle.tsp_value.specs.declared.field.Field.{Field}
 use Rattle.tsp_value.specs.declared.field.Field.TheVariants.{DimensionKey, CapacityKey, ScaleKey}
 use Rattle.tsp_value.specs.Limits.{most_nodes, most_capacity, most_scale}
 use Rattle.tsp_fields.specs.Fields.{Fields}
 use Rattle.tsp_fields.specs.Validity.{if_there, is_from_to, is_node}
 use Rattle.tsp_read.specs.Lines.{first_word}
-use Rattle.tsp_read.specs.Items.{Item}
-use Rattle.tsp_read.specs.Earlier.{has_line}
 use Rattle.tsp_read.specs.Values.{read_as}
-use Rattle.tsp_read.specs.Rows.{may_repeat}
-use Rattle.tsp_round.proofs.Numbers.{NumberLaws, signed_plain, whole_back}
-use Rattle.tsp_round.proofs.Onto.{has_value}
+use Rattle.tsp_round.proofs.Numbers.{NumberLaws, signed_plain}
 use Rattle.tsp_round.proofs.Sections.{only_word, dimension_back}
-use Rattle.tsp_round.proofs.Stages.{Stage, value_of}
 
 -- ---- fields that agree one by one
 
@@ -96,7 +90,7 @@ number_from : NumberLaws → (most : ℕ) (z : ℤ) → is_from_to (pos 1) (pos 
 number_from laws most z is few =
     let small = above_one most z is in
     ap (λ (word : List ℕ). result_ok (whole_of word (pos 1) (pos most))) (only_word (signed_decimal z) (signed_plain z (omega arith)))
-    ∙ ap (λ (r : Result ℤ NumberFault). result_ok r) (whole_back laws z (pos 1) (pos most) (omega arith) is)
+    ∙ ap (λ (r : Result ℤ NumberFault). result_ok r) (laws.whole_back z (pos 1) (pos most) (omega arith) is)
 
 pub capacity_whole : NumberLaws → (o : Option ℤ) → if_there (is_from_to (pos 1) (pos most_capacity)) o ≡ true
     → option_and_then (λ value. option_and_then result_ok (read_as CapacityKey value)) (option_map signed_decimal o) ≡ o
@@ -107,14 +101,3 @@ pub scale_whole : NumberLaws → (o : Option ℤ) → if_there (is_from_to (pos 
     → option_and_then (λ value. option_and_then result_ok (read_as ScaleKey value)) (option_map signed_decimal o) ≡ o
 scale_whole laws None is = refl
 scale_whole laws (Some z) is = number_from laws most_scale z is (omega arith)
-
--- ---- one section
-
--- a section's value is there where its line is
-pub section_back : {A : Type 0} (o : Option A) (has : Bool) (got : A) → has ≡ is_some (option_map (λ (x : A). let empty : List ℕ = [] in empty) o) → ((x : A) → o ≡ Some x → got ≡ x) → cond has (Some got) None ≡ o
-section_back {A} None has got e each = ap (λ b. cond b (Some got) None) e
-section_back {A} (Some x) has got e each = ap (λ b. cond b (Some got) None) e ∙ ap (λ (y : A). Some y) (each x refl)
-
--- at the end the items say of each field what the file says
-pub all_said : (f : Fields) (items : List Item) → Stage f [] items → (g : Field) → may_repeat g ≡ false → has_line g items ≡ is_some (value_of f g)
-all_said f items stage g once = has_value g items ∙ ap (λ (v : Option (List ℕ)). is_some v) (stage.values g once)

@@ -73,7 +73,7 @@ key_line f text field value earlier known text_is key_is key whole value_is no_w
 abbrev pub section_line : Field → WordLine
 section_line field = word_line (field_word field)
 
-pub section_written : (field : Field) → is_section_field field ≡ true → Writes (field_word field ++ 10 ∷ []) (Line (Known field) (section_line field) ∷ LineEnd ∷ [])
+section_written : (field : Field) → is_section_field field ≡ true → Writes (field_word field ++ 10 ∷ []) (Line (Known field) (section_line field) ∷ LineEnd ∷ [])
 section_written NameKey e = absurd (true≢false (sym e))
 section_written TypeKey e = absurd (true≢false (sym e))
 section_written CommentKey e = absurd (true≢false (sym e))

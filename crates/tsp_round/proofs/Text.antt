@@ -32,7 +32,7 @@ split_at p (x ∷ front) y rest none e =
     ∙ ap (onto_first x) (split_at p front y rest both.1 e)
 
 -- where none passes there is one piece
-pub split_none : {A : Type 0} (p : A → Bool) (front : List A) → list_all (λ x. not (p x)) front ≡ true → slice_split p front ≡ front ∷ []
+split_none : {A : Type 0} (p : A → Bool) (front : List A) → list_all (λ x. not (p x)) front ≡ true → slice_split p front ≡ front ∷ []
 split_none p [] none = refl
 split_none p (x ∷ front) none =
     let both = and_parts (not (p x)) (list_all (λ z. not (p z)) front) none in
@@ -117,13 +117,6 @@ both_words a b xs ys first second = record {
       ∙ ap (λ (ws : List (List ℕ)). xs ++ ws) second.words_are;
 }
 
-pub each_words : {A : Type 0} (text : A → List ℕ) (words : A → List (List ℕ)) (entries : List A) (fits : A → Bool) → ((entry : A) → fits entry ≡ true → WritesWords (text entry) (words entry))
-    → list_all fits entries ≡ true → WritesWords (flat_map text entries) (flat_map words entries)
-each_words text words [] fits each all = no_words_written
-each_words text words (entry ∷ entries) fits each all =
-    let both = and_parts (fits entry) (list_all fits entries) all in
-    both_words (text entry) (flat_map text entries) (words entry) (flat_map words entries) (each entry both.0) (each_words text words entries fits each both.1)
-
 -- the bytes of numbers: from `-` to `9`
 abbrev pub is_plain : ℕ → Bool
 is_plain b = nat_le 45 b && nat_le b 57
@@ -150,7 +143,7 @@ all_such p q such (x ∷ xs) all =
 pub unblank : (word : List ℕ) → is_plain_word word ≡ true → list_all (λ b. not (is_blank b)) word ≡ true
 unblank word plain = all_such is_plain (λ b. not (is_blank b)) no_blank word (and_parts (is_filled word) (list_all is_plain word) plain).1
 
-abbrev pub line_text : List ℕ → List (List ℕ) → List ℕ
+abbrev line_text : List ℕ → List (List ℕ) → List ℕ
 line_text first more = first ++ flat_map (λ word. 32 ∷ word) more
 
 split_words : (first : List ℕ) (more : List (List ℕ)) → is_plain_word first ≡ true → list_all is_plain_word more ≡ true → slice_split is_blank (line_text first more) ≡ first ∷ more
@@ -168,7 +161,7 @@ all_kept {A} p (x ∷ xs) all =
 first_filled : (word : List ℕ) → is_plain_word word ≡ true → is_filled word ≡ true
 first_filled word plain = (and_parts (is_filled word) (list_all is_plain word) plain).0
 
-pub line_words : (first : List ℕ) (more : List (List ℕ)) → is_plain_word first ≡ true → list_all is_plain_word more ≡ true → words_in (line_text first more) ≡ first ∷ more
+line_words : (first : List ℕ) (more : List (List ℕ)) → is_plain_word first ≡ true → list_all is_plain_word more ≡ true → words_in (line_text first more) ≡ first ∷ more
 line_words first more plain all =
     ap (filter is_filled) (split_words first more plain all)
     ∙ all_kept is_filled (first ∷ more) (and_from (is_filled first) (list_all is_filled more) (first_filled first plain) (all_such is_plain_word is_filled first_filled more all))
