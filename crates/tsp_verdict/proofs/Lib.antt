@@ -1,5 +1,6 @@
 pub mod FixedPairs
 pub mod Links
-pub mod Marks
+pub mod MarkedNodes
+pub mod Pieces
 pub mod TourReasons
 pub mod TourVerdicts

@@ -5,6 +5,7 @@ mod fixed;
 mod places;
 mod tour;
 mod verdict;
+mod visits;
 
 pub use tour::judge_tour;
 pub use verdict::{Reason, Verdict};

@@ -1,16 +1,11 @@
 -- The nodes that stand at the first places, as marks.
-use Rattle.std.proofs.Common.{◌≡◌, ℕ, zero, suc, ◌+◌, ◌-◌, ◌<◌, ◌≤◌, Bool, true, false, List, [], ◌∷◌, length, get_or, set, refl, sym, ap, ◌∙◌, arith, inl, inr}
-use Rattle.std.specs.Prelude.{◌⊎◌}
+use Rattle.std.proofs.Common.{◌≡◌, ℕ, zero, suc, ◌+◌, ◌-◌, ◌<◌, ◌≤◌, Bool, true, false, List, [], ◌∷◌, length, Option, None, Some, get_or, set, replicate, refl, sym, ap, subst, ◌∙◌, arith, inl, inr}
+use Rattle.std.specs.Prelude.{◌⊎◌, MatchOption}
 use Rattle.std.specs.List.{All}
-use Rattle.std.proofs.lemmas.Bool.{cases_lt}
+use Rattle.std.proofs.lemmas.Bool.{cases_lt, false≢true}
 use Rattle.std.proofs.lemmas.List.{get_or_default}
-use Rattle.tsp_verdict.specs.Places.{node_at, IsRepeated, IsFirstPlace}
-
--- a node is marked exactly where it stands at one of the first places, of which none repeats an earlier one
-pub record Marked (nodes : List ℕ) (seen : List Bool) (count : ℕ) : Type 0 where
-  pub marked : (place : ℕ) → 1 ≤ place → place ≤ count → get_or seen (node_at nodes place) false ≡ true
-  pub only : (node : ℕ) → get_or seen node false ≡ true → (place : ℕ) × (1 ≤ place) × (place ≤ count) × (node_at nodes place ≡ node)
-  pub once : (place : ℕ) → 1 ≤ place → place ≤ count → IsRepeated nodes place → ⊥
+use Rattle.tsp_verdict.specs.Marks.{Marked, StandsAfter}
+use Rattle.tsp_verdict.specs.Places.{node_at, HoldsAtNone, IsRepeated, IsFirstPlace}
 
 set_keeps : (seen : List Bool) (k m : ℕ) → get_or seen m false ≡ true → get_or (set seen k true) m false ≡ true
 set_keeps [] k m h = h
@@ -85,6 +80,49 @@ repeated_here nodes seen count lt taken m =
 pub mark_is : (seen : List Bool) (k : ℕ) (mark value : Bool) → k < length seen → mark ≡ get_or seen k mark → mark ≡ value → get_or seen k false ≡ value
 mark_is seen k mark value h read e = get_or_default seen k false mark h ∙ sym read ∙ e
 
--- a node within the range has a mark
-pub in_range : (nodes : List ℕ) (i n size : ℕ) → i < length nodes → All (λ node. node ≤ n) nodes → size ≡ n + 1 → get_or nodes i 0 < size
-in_range nodes i n size lt range wide = omega (arith, range i 0 lt, wide)
+-- no node is marked, and none stands at the first 0 places
+pub none_marked : (nodes : List ℕ) (m : ℕ) → Marked nodes (replicate m false) 0
+none_marked nodes m = record {
+  marked = λ place low high. absurd (omega (arith, low, high));
+  only = λ node is. absurd (false≢true (sym (unmarked m node) ∙ is));
+  once = λ place low high. absurd (omega (arith, low, high));
+}
+  where
+    unmarked : (m node : ℕ) → get_or (replicate m false) node false ≡ false
+    unmarked zero node = refl
+    unmarked (suc m) zero = refl
+    unmarked (suc m) (suc node) = unmarked m node
+
+-- one node more of a piece, which isn't marked
+pub mark_next : (nodes piece : List ℕ) (seen : List Bool) (before index : ℕ) → StandsAfter before nodes piece → index < length piece → get_or piece index 0 < length seen → get_or seen (get_or piece index 0) false ≡ false
+    → Marked nodes seen (before + index) → Marked nodes (set seen (get_or piece index 0) true) (before + (index + 1))
+mark_next nodes piece seen before index stands lt fits free m =
+    let same : get_or nodes (before + index) 0 ≡ get_or piece index 0 = stands.same index lt in
+    let fits_there : get_or nodes (before + index) 0 < length seen = omega (arith, same, fits) in
+    let more : Marked nodes (set seen (get_or nodes (before + index) 0) true) (before + index + 1) =
+    mark_more nodes seen (before + index) fits_there (ap (λ k. get_or seen k false) same ∙ free) m in
+    let count : before + index + 1 ≡ before + (index + 1) = omega arith in
+    subst (λ k. Marked nodes (set seen (get_or piece index 0) true) k) count (subst (λ v. Marked nodes (set seen v true) (before + index + 1)) same more)
+
+-- the next node of a piece is marked
+pub repeated_next : (nodes piece : List ℕ) (seen : List Bool) (before index : ℕ) → StandsAfter before nodes piece → index < length piece → get_or seen (get_or piece index 0) false ≡ true
+    → Marked nodes seen (before + index) → IsFirstPlace (IsRepeated nodes) nodes (before + (index + 1))
+repeated_next nodes piece seen before index stands lt taken m =
+    let same : get_or nodes (before + index) 0 ≡ get_or piece index 0 = stands.same index lt in
+    let inside : before + index < length nodes = omega (arith, stands.inside, lt) in
+    let first : IsFirstPlace (IsRepeated nodes) nodes (before + index + 1) = repeated_here nodes seen (before + index) inside (ap (λ k. get_or seen k false) same ∙ taken) m in
+    let count : before + index + 1 ≡ before + (index + 1) = omega arith in
+    subst (λ k. IsFirstPlace (IsRepeated nodes) nodes k) count first
+
+-- a list stands in itself
+pub stands_whole : (nodes : List ℕ) → StandsAfter 0 nodes nodes
+stands_whole nodes = record {
+  inside = omega arith;
+  same = λ k lt. ap (λ j. get_or nodes j 0) (omega arith);
+}
+
+-- what was found from the first place on
+pub found_whole : (nodes : List ℕ) (seen : List Bool) (found : Option ℕ) → MatchOption found (Marked nodes seen (0 + length nodes)) (λ place. IsFirstPlace (IsRepeated nodes) nodes (0 + place))
+    → MatchOption found (HoldsAtNone (IsRepeated nodes) (length nodes)) (λ place. IsFirstPlace (IsRepeated nodes) nodes place)
+found_whole nodes seen None m = λ place low high. m.once place low (omega (arith, high))
+found_whole nodes seen (Some place) first = subst (λ k. IsFirstPlace (IsRepeated nodes) nodes k) (omega arith) first
