@@ -1,7 +1,7 @@
 -- The nodes that stand at the first places, as marks.
-use Rattle.std.proofs.Common.{◌≡◌, ℕ, zero, suc, ◌+◌, ◌-◌, ◌<◌, ◌≤◌, Bool, true, false, List, [], ◌∷◌, length, Option, None, Some, get_or, set, replicate, refl, sym, ap, subst, ◌∙◌, arith, inl, inr}
+use Rattle.std.proofs.Common.{◌≡◌, ◌≢◌, ℕ, zero, suc, ◌+◌, ◌-◌, ◌<◌, ◌≤◌, Bool, true, false, List, [], ◌∷◌, length, Option, None, Some, get_or, set, replicate, refl, sym, ap, subst, ◌∙◌, arith, inl, inr}
 use Rattle.std.specs.Prelude.{◌⊎◌, MatchOption}
-use Rattle.std.specs.List.{All}
+use Rattle.std.specs.List.{AllPairs, Contains}
 use Rattle.std.proofs.lemmas.Bool.{cases_lt, false≢true}
 use Rattle.std.proofs.lemmas.List.{get_or_default}
 use Rattle.tsp_verdict.specs.Marks.{Marked, StandsAfter}
@@ -126,3 +126,23 @@ pub found_whole : (nodes : List ℕ) (seen : List Bool) (found : Option ℕ) →
     → MatchOption found (HoldsAtNone (IsRepeated nodes) (length nodes)) (λ place. IsFirstPlace (IsRepeated nodes) nodes place)
 found_whole nodes seen None m = λ place low high. m.once place low (omega (arith, high))
 found_whole nodes seen (Some place) first = subst (λ k. IsFirstPlace (IsRepeated nodes) nodes k) (omega arith) first
+
+-- no node repeated: all are apart
+pub all_apart : (xs : List ℕ) → HoldsAtNone (IsRepeated xs) (length xs) → AllPairs (λ a b. a ≢ b) xs
+all_apart xs once i j d before inside same =
+    let first : node_at xs (suc i) ≡ get_or xs i 0 = ap (λ k. get_or xs k 0) (omega arith) in
+    let second : node_at xs (suc j) ≡ get_or xs j 0 = ap (λ k. get_or xs k 0) (omega arith) in
+    let first_is : get_or xs i d ≡ get_or xs i 0 = get_or_default xs i d 0 (omega (arith, before, inside)) in
+    let second_is : get_or xs j d ≡ get_or xs j 0 = get_or_default xs j d 0 inside in
+    once (suc j) (omega arith) (omega (arith, inside)) (suc i, omega arith, omega (arith, before), first ∙ sym first_is ∙ same ∙ second_is ∙ sym second)
+
+-- a node is marked exactly where the list has it
+pub marked_there : (nodes : List ℕ) (seen : List Bool) (node : ℕ) → Marked nodes seen (length nodes) → get_or seen node false ≡ true → Contains nodes node
+marked_there nodes seen node m is =
+    let found = m.only node is in
+    (found.0 - 1, omega (arith, found.1, found.2), get_or_default nodes (found.0 - 1) node 0 (omega (arith, found.1, found.2)) ∙ found.3)
+
+pub there_marked : (nodes : List ℕ) (seen : List Bool) (node : ℕ) → Marked nodes seen (length nodes) → Contains nodes node → get_or seen node false ≡ true
+there_marked nodes seen node m there =
+    let place : node_at nodes (suc there.0) ≡ node = ap (λ k. get_or nodes k 0) (omega arith) ∙ get_or_default nodes there.0 0 node there.1 ∙ there.2 in
+    subst (λ v. get_or seen v false ≡ true) place (m.marked (suc there.0) (omega arith) (omega (arith, there.1)))

@@ -1,5 +1,5 @@
 -- Several routes, and the list of their nodes one after the other.
-use Rattle.std.proofs.Common.{◌≡◌, ◌≢◌, ℕ, zero, suc, ◌+◌, ◌-◌, ◌<◌, ◌≤◌, List, [], ◌∷◌, ◌++◌, length, get_or, take, refl, sym, ap, subst, ◌∙◌, inl, inr, arith, length-append}
+use Rattle.std.proofs.Common.{◌≡◌, ℕ, zero, suc, ◌+◌, ◌-◌, ◌<◌, ◌≤◌, List, [], ◌∷◌, ◌++◌, length, get_or, take, refl, sym, ap, subst, ◌∙◌, inl, inr, arith, length-append}
 use Rattle.std.specs.Prelude.{◌⊎◌, slice_index_or, map}
 use Rattle.std.specs.Global.{Vec}
 use Rattle.std.specs.List.{All, concat}
@@ -16,8 +16,8 @@ pub route_stands : (routes : List (Vec ℕ)) (i : ℕ) (route : Vec ℕ) → i <
 route_stands routes i route lt is = record {
   inside = subst (λ (r : Vec ℕ). length (nodes_in (take i routes)) + length r.items ≤ length (nodes_in routes)) (sym is) (length-flat_map-take (λ (r : Vec ℕ). r.items) routes i route lt);
   same = λ k inside.
-    let there : k < length (get_or routes i route).items = subst (λ (r : Vec ℕ). k < length r.items) is inside in
-    get_or-flat_map (λ (r : Vec ℕ). r.items) routes i k route 0 lt there ∙ ap (λ (r : Vec ℕ). get_or r.items k 0) (sym is);
+      let there : k < length (get_or routes i route).items = subst (λ (r : Vec ℕ). k < length r.items) is inside in
+      get_or-flat_map (λ (r : Vec ℕ). r.items) routes i k route 0 lt there ∙ ap (λ (r : Vec ℕ). get_or r.items k 0) (sym is);
 }
 
 -- with it there are so many more
@@ -79,9 +79,7 @@ nodes_in_is [] = refl
 nodes_in_is (r ∷ routes) = ap (λ (xs : List ℕ). r.items ++ xs) (nodes_in_is routes)
 
 -- what holds of all nodes holds of those of a route
-pub range_here : (nodes piece : List ℕ) (before size : ℕ) → StandsAfter before nodes piece → All (λ node. node < size) nodes → All (λ node. node < size) piece
-range_here nodes piece before size stands all k d lt =
-    let same : get_or nodes (before + k) 0 ≡ get_or piece k 0 = stands.same k lt in
-    let here : get_or nodes (before + k) 0 < size = all (before + k) 0 (omega (arith, lt, stands.inside)) in
-    let is : get_or piece k d ≡ get_or piece k 0 = get_or_default piece k d 0 lt in
-    omega (arith, here, same, is)
+pub all_here : (Q : ℕ → Type 0) (nodes piece : List ℕ) (before : ℕ) → StandsAfter before nodes piece → All Q nodes → All Q piece
+all_here Q nodes piece before stands all k d lt =
+    let same : get_or nodes (before + k) 0 ≡ get_or piece k d = stands.same k lt ∙ get_or_default piece k 0 d lt in
+    subst Q same (all (before + k) 0 (omega (arith, lt, stands.inside)))

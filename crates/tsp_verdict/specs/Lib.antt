@@ -5,4 +5,5 @@ pub mod Plan
 pub mod Reasons
 pub mod Routes
 pub mod Solution
+pub mod Sums
 pub mod Tours

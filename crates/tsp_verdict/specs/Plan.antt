@@ -1,10 +1,10 @@
 -- Plans of routes. Source: TSPLIB 95 (G. Reinelt), capacitated vehicle routing: CAPACITY, DEMAND_SECTION, DEPOT_SECTION.
-use Rattle.std.specs.Prelude.{◌≡◌, ◌≢◌, ℕ, ◌-◌, ◌≤◌, List, [], ◌∷◌, length, slice_index, slice_index_or, unwrap_or, ℤ, pos, ◌*ℤ◌, ◌≤ℤ◌}
+use Rattle.std.specs.Prelude.{◌≢◌, ℕ, ◌-◌, ◌≤◌, List, [], ◌∷◌, slice_index, slice_index_or, unwrap_or, ℤ, pos, ◌*ℤ◌, ◌≤ℤ◌}
 use Rattle.std.specs.List.{All, AllPairs, Contains, concat}
 use Rattle.tsp_value.specs.Cells.{IsNode, nodes_to}
 use Rattle.tsp_fields.specs.Fields.{Fields}
 use Rattle.tsp_cost.specs.Length.{sum_int_by, length_of}
-use Rattle.tsp_verdict.specs.Solution.{nodes_of}
+use Rattle.tsp_verdict.specs.Solution.{nodes_of, visited}
 
 -- the demand of a node
 abbrev pub demand_of : List ℤ → ℕ → ℤ
@@ -55,3 +55,7 @@ total_of f = load_of (demands_of f) (nodes_to (nodes_of f))
 
 abbrev pub IsPlanOf : Fields → List (List ℕ) → Type 0
 IsPlanOf f routes = IsPlan (nodes_of f) (depot_of f) (demands_of f) (capacity_of f) routes
+
+-- all nodes of the solution are customers of the instance
+abbrev pub AreCustomers : Fields → Fields → Type 0
+AreCustomers inst sol = All (IsCustomer (nodes_of inst) (depot_of inst)) (visited sol)

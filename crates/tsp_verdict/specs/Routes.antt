@@ -1,6 +1,6 @@
 -- The verdict on routes: the first reason against them, or a plan of the instance and its length.
 -- Source: TSPLIB 95 (G. Reinelt), capacitated vehicle routing; the reasons and their order are this project's.
-use Rattle.std.specs.Prelude.{◌≡◌, ◌≢◌, ℕ, ◌-◌, ◌<◌, ◌≤◌, false, List, [], ◌∷◌, length, Some, slice_index_or, ℤ, pos, ◌<ℤ◌}
+use Rattle.std.specs.Prelude.{◌≡◌, ◌≢◌, ℕ, ◌-◌, ◌<◌, ◌≤◌, false, List, [], length, Some, slice_index_or, ℤ, pos, ◌<ℤ◌}
 use Rattle.std.specs.List.{Contains}
 use Rattle.tsp_fields.specs.Fields.{Fields}
 use Rattle.tsp_fields.specs.Rules.{is_tours}

@@ -1,5 +1,4 @@
-use Rattle.std.proofs.Common.{◌≡◌, ◌<◌, ◌+◌, ℕ, Bool, true, false, List, length, get_or, sym, ap, subst, ◌∙◌, arith}
-use Rattle.std.specs.Prelude.{vec_len}
+use Rattle.std.proofs.Common.{◌≡◌, ◌<◌, ◌+◌, ℕ, true, false, length, get_or, sym, subst, arith}
 use Rattle.tsp_verdict.specs.Places.{IsFirstPlace, IsRepeated}
 use Rattle.tsp_verdict.proofs.MarkedNodes.{mark_next, repeated_next, mark_is}
 use Rattle.tsp_verdict.proofs.places.mark.Goals as goal
@@ -18,8 +17,8 @@ returns-then-index c =
     record {
       len = c.nodes.invariant.wide;
       marks = λ all before stands marked.
-        let first : IsFirstPlace (IsRepeated all) all (before + (index + 1)) = repeated_next all c.args.nodes.now c.nodes.seen.items before index stands c.nodes-test.true taken (c.nodes.invariant.marks all before stands marked) in
-        subst (λ (k : ℕ). IsFirstPlace (IsRepeated all) all (before + (k + 1))) (sym c.nodes.invariant.counted) first;
+          let first : IsFirstPlace (IsRepeated all) all (before + (index + 1)) = repeated_next all c.args.nodes.now c.nodes.seen.items before index stands c.nodes-test.true taken (c.nodes.invariant.marks all before stands marked) in
+          subst (λ (k : ℕ). IsFirstPlace (IsRepeated all) all (before + (k + 1))) (sym c.nodes.invariant.counted) first;
     }
 
 pub nodes-preserved : goal.nodes-preserved
@@ -31,5 +30,5 @@ nodes-preserved c =
       counted = omega (arith, c.nodes.invariant.counted);
       wide = c.nodes.invariant.wide;
       marks = λ all before stands marked.
-        mark_next all c.args.nodes.now c.nodes.seen.items before index stands c.nodes-test.true fits free (c.nodes.invariant.marks all before stands marked);
+          mark_next all c.args.nodes.now c.nodes.seen.items before index stands c.nodes-test.true fits free (c.nodes.invariant.marks all before stands marked);
     }

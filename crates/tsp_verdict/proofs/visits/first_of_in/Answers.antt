@@ -1,10 +1,7 @@
-use Rattle.std.proofs.Common.{◌≡◌, ◌≢◌, ◌<◌, ◌≤◌, ◌+◌, ℕ, List, length, sym, ap, subst, ◌∙◌, arith}
-use Rattle.std.specs.Prelude.{vec_len}
-use Rattle.std.specs.List.{All}
-use Rattle.tsp_verdict.specs.Marks.{Marked, StandsAfter}
-use Rattle.tsp_verdict.specs.Places.{IsFirstPlace, IsRepeated}
+use Rattle.std.proofs.Common.{◌≡◌, ◌≢◌, ℕ, List, arith}
+use Rattle.tsp_verdict.specs.Marks.{StandsAfter}
 use Rattle.tsp_verdict.specs.Solution.{nodes_in}
-use Rattle.tsp_verdict.proofs.Pieces.{stands_here, count_here, first_after, all_more, range_here}
+use Rattle.tsp_verdict.proofs.Pieces.{stands_here, count_here, first_after, all_more}
 use Rattle.tsp_verdict.proofs.visits.first_of_in.Goals as goal
 
 pub first_of-requires : goal.first_of-requires

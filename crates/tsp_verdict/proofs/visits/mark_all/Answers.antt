@@ -1,10 +1,9 @@
-use Rattle.std.proofs.Common.{◌≡◌, ◌≢◌, ◌<◌, ◌≤◌, ◌+◌, ℕ, List, length, sym, ap, subst, ◌∙◌, arith}
+use Rattle.std.proofs.Common.{◌<◌, ℕ, List, sym, subst, ◌∙◌, arith}
 use Rattle.std.specs.Prelude.{vec_len}
 use Rattle.std.specs.List.{All}
-use Rattle.tsp_verdict.specs.Marks.{Marked, StandsAfter}
-use Rattle.tsp_verdict.specs.Places.{IsFirstPlace, IsRepeated}
+use Rattle.tsp_verdict.specs.Marks.{StandsAfter}
 use Rattle.tsp_verdict.specs.Solution.{nodes_in}
-use Rattle.tsp_verdict.proofs.Pieces.{stands_here, count_here, first_after, all_more, range_here}
+use Rattle.tsp_verdict.proofs.Pieces.{stands_here, count_here, all_here}
 use Rattle.tsp_verdict.proofs.visits.mark_all.Goals as goal
 
 pub mark-requires-clause-size : goal.mark-requires-clause-size
@@ -19,7 +18,7 @@ mark-requires-clause-range c =
     let all : List ℕ = nodes_in c.args.routes.now in
     let nodes : List ℕ = c.as_slice-nodes.result.now in
     let stands : StandsAfter c.routes.before all nodes = stands_here c.args.routes.now c.routes.route-index c.routes.before c.route-item.result nodes c.routes-test.true c.route-item.is c.routes.invariant.counted c.as_slice-nodes.ensures.value in
-    range_here all nodes c.routes.before (vec_len c.routes.seen) stands (subst (λ n. All (λ node. node < n) all) (sym c.routes.invariant.wide) c.requires.range)
+    all_here (λ node. node < vec_len c.routes.seen) all nodes c.routes.before stands (subst (λ n. All (λ node. node < n) all) (sym c.routes.invariant.wide) c.requires.range)
 
 pub overflow_add-result : goal.overflow_add-result
 overflow_add-result c =
