@@ -56,7 +56,7 @@ fn a_word_line_has_4_096_bytes_with_the_blanks_at_its_end(rt: HostRuntime) -> Re
         let found = fault_of(rt.alloc(), text.as_bytes());
         same_at(&rt, (line, size), found, on_line(2, 0, *fault));
         let indent = " ".repeat(rt.alloc(), 5_000)?;
-        let less_one = filled(rt.alloc(), line, size - 1)?;
+        let less_one = filled(rt.alloc(), line, size.saturating_sub(1))?;
         let text = format!(in rt.alloc(); "NAME : a\n{indent}{less_one}\r\n")?;
         let found = fault_of(rt.alloc(), text.as_bytes());
         same_at(&rt, (line, size, "with CR"), found, on_line(2, 0, *fault));
