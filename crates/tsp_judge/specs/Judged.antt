@@ -5,14 +5,14 @@ use Rattle.tsp_value.specs.declared.kinds.Kind.TheVariants as kinds
 use Rattle.tsp_fields.specs.Fields.{Fields}
 use Rattle.tsp_verdict.specs.declared.verdict.Verdict.{Verdict}
 use Rattle.tsp_verdict.specs.declared.verdict.Verdict.TheVariants.{Tour, Routes, No}
-use Rattle.tsp_verdict.specs.Tours.{IsVerdict}
-use Rattle.tsp_verdict.specs.Routes.{IsRoutesVerdict}
+use Rattle.tsp_verdict.specs.Tours as tours
+use Rattle.tsp_verdict.specs.Routes as routes
 
 -- the verdict on a solution, by the TYPE of the instance
 abbrev pub IsVerdictBy : Option Kind → Fields → Fields → Verdict → Type 0
-IsVerdictBy (Some kinds.Tsp) instance solution verdict = IsVerdict instance solution verdict
-IsVerdictBy (Some kinds.Atsp) instance solution verdict = IsVerdict instance solution verdict
-IsVerdictBy (Some kinds.Cvrp) instance solution verdict = IsRoutesVerdict instance solution verdict
+IsVerdictBy (Some kinds.Tsp) instance solution verdict = tours.IsVerdict instance solution verdict
+IsVerdictBy (Some kinds.Atsp) instance solution verdict = tours.IsVerdict instance solution verdict
+IsVerdictBy (Some kinds.Cvrp) instance solution verdict = routes.IsVerdict instance solution verdict
 IsVerdictBy (Some kinds.Tour) instance solution verdict = ⊥
 IsVerdictBy (Some kinds.Potentials) instance solution verdict = ⊥
 IsVerdictBy None instance solution verdict = ⊥

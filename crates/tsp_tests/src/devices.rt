@@ -16,23 +16,36 @@ pub(crate) fn outcome<T>(answer: io::Result<T>) -> Result<T, ErrorKind> {
     }
 }
 
-/// A reader that hands out one byte a call, and fails at one call.
+/// A reader that hands out a few bytes a call, and fails at one call.
 #[derive(Drop)]
 pub(crate) struct Trickle<'a> {
     rest: &'a [u8],
+    most: usize,
     calls: usize,
     fails_at: usize,
     kind: ErrorKind,
 }
 
 impl<'a> Trickle<'a> {
-    /// A reader of these bytes whose call `fails_at`, counted from 0, fails in this way.
+    /// A reader of these bytes, one a call, whose call `fails_at`, counted from 0, fails in this way.
     pub(crate) fn new(bytes: &'a [u8], fails_at: usize, kind: ErrorKind) -> Trickle<'a> {
         Trickle {
             rest: bytes,
+            most: 1,
             calls: 0,
             fails_at,
             kind,
+        }
+    }
+
+    /// A reader of these bytes, so many a call, that doesn't fail.
+    pub(crate) fn by(bytes: &'a [u8], most: usize) -> Trickle<'a> {
+        Trickle {
+            rest: bytes,
+            most,
+            calls: 0,
+            fails_at: NEVER,
+            kind: ErrorKind::Other,
         }
     }
 
@@ -49,7 +62,7 @@ impl Read for Trickle<'_> {
         if call == self.fails_at {
             return Err(io::Error::from(self.kind));
         }
-        let room = buf.len().min(1);
+        let room = buf.len().min(self.most);
         self.rest.read(&mut buf[..room])
     }
 }

@@ -24,6 +24,8 @@ mod layout;
 #[cfg(test)]
 mod number;
 #[cfg(test)]
+mod reader;
+#[cfg(test)]
 mod reading;
 #[cfg(test)]
 mod texts;

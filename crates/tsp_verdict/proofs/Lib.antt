@@ -1,5 +1,12 @@
+pub mod FilesHold
 pub mod FixedPairs
 pub mod Links
-pub mod Marks
+pub mod MarkedNodes
+pub mod Pieces
+pub mod PlanBounds
+pub mod RouteLengths
+pub mod RouteLoads
+pub mod RouteReasons
+pub mod RouteVerdicts
 pub mod TourReasons
 pub mod TourVerdicts

@@ -1,13 +1,10 @@
 -- The reasons against a tour, ruled out one by one.
-use Rattle.std.proofs.Common.{◌≡◌, ℕ, ◌≤◌, true, List, [], length, Option, Some, sym, ap, subst, ◌∙◌, arith}
-use Rattle.std.specs.Prelude.{unwrap_or}
-use Rattle.std.specs.List.{All}
+use Rattle.std.proofs.Common.{◌≡◌, ℕ, ◌≤◌, true, length, Some, sym, ◌∙◌, arith}
 use Rattle.std.proofs.lemmas.Bool.{false≢true}
 use Rattle.tsp_value.specs.declared.kinds.Kind.TheVariants as kinds
 use Rattle.tsp_fields.specs.Fields.{Fields}
 use Rattle.tsp_fields.specs.Rules.{is_tours}
 use Rattle.tsp_fields.specs.Cost.{cost}
-use Rattle.tsp_fields.specs.Valid.{AreTours}
 use Rattle.tsp_cost.specs.Costs.{IsFirstUneven}
 use Rattle.tsp_cost.specs.Tour.{is_directed}
 use Rattle.tsp_verdict.specs.declared.verdict.Reason.{Reason}
@@ -57,10 +54,3 @@ after_fixed inst sol before used (DepotInRoute place) stands = stands
 after_fixed inst sol before used (Unserved node) stands = stands
 after_fixed inst sol before used (Overload route) stands = stands
 after_fixed inst sol before used reason stands = before reason (omega arith) stands
-
--- ---- what the files hold
-
-pub counted_from_one : (f : Fields) (tours : List (List ℕ)) → f.tours ≡ Some tours → AreTours tours → All (λ tour. All (λ node. 1 ≤ node) tour) (tours_of f)
-counted_from_one f tours stand held =
-    let same : tours_of f ≡ tours = ap (λ (o : Option (List (List ℕ))). unwrap_or o []) stand in
-    subst (λ (xs : List (List ℕ)). All (λ tour. All (λ node. 1 ≤ node) tour) xs) (sym same) (λ k d lt j e inside. ((held.0 k d lt).1 j e inside).0)

@@ -1,9 +1,9 @@
 -- The verdict on a tour, by what has been ruled out.
-use Rattle.std.proofs.Common.{◌≡◌, ℕ, suc, ◌-◌, ◌≤◌, Bool, List, [], ◌∷◌, map, length, get_or, sym, ap, subst, ◌∙◌, arith}
+use Rattle.std.proofs.Common.{◌≡◌, ℕ, ◌-◌, ◌≤◌, Bool, List, [], ◌∷◌, map, length, get_or, sym, ap, subst, ◌∙◌, arith}
 use Rattle.std.specs.Prelude.{ℤ}
 use Rattle.std.specs.Global.{Vec}
 use Rattle.std.specs.List.{All, concat}
-use Rattle.std.proofs.lemmas.List.{append-nil, get_or_default}
+use Rattle.std.proofs.lemmas.List.{append-nil}
 use Rattle.tsp_fields.specs.Fields.{Fields}
 use Rattle.tsp_fields.specs.Cost.{cost}
 use Rattle.tsp_cost.specs.Length.{length_of}
@@ -11,9 +11,10 @@ use Rattle.tsp_cost.specs.Tour.{is_directed, Uses, IsTourOf}
 use Rattle.tsp_cost.specs.Walk.{IsWalk}
 use Rattle.tsp_verdict.specs.declared.verdict.Reason.{Reason}
 use Rattle.tsp_verdict.specs.declared.verdict.Reason.TheVariants.{FixedEdgeUnused}
-use Rattle.tsp_verdict.specs.Places.{node_at, IsFirstPlace, HoldsAtNone, IsRepeated, IsUnused}
+use Rattle.tsp_verdict.specs.Places.{IsFirstPlace, HoldsAtNone, IsRepeated, IsUnused}
 use Rattle.tsp_verdict.specs.Solution.{nodes_of, fixed_of, tours_of, visited}
 use Rattle.tsp_verdict.specs.Tours.{StandsAgainst, NoneUpTo, IsFirstAgainst}
+use Rattle.tsp_verdict.proofs.MarkedNodes.{all_apart}
 use Rattle.tsp_verdict.proofs.TourReasons.{after_count, after_length, after_range, after_repeats, after_fixed}
 
 -- the only one of several tours
@@ -26,23 +27,18 @@ pub visited_is : (sol : Fields) (tour : List ℕ) → tours_of sol ≡ tour ∷ 
 visited_is sol tour only = ap concat only ∙ append-nil tour
 
 -- one tour that has so many nodes
-pub tour_found : (inst sol : Fields) (tour : List ℕ) → tours_of sol ≡ tour ∷ [] → length tour ≡ nodes_of inst → All (λ nodes. All (λ node. 1 ≤ node) nodes) (tours_of sol) → NoneUpTo inst sol 5
+pub tour_found : (inst sol : Fields) (tour : List ℕ) → tours_of sol ≡ tour ∷ [] → length tour ≡ nodes_of inst → All (λ node. 1 ≤ node) (visited sol) → NoneUpTo inst sol 5
     → (tours_of sol ≡ tour ∷ []) × (length tour ≡ nodes_of inst) × All (λ node. 1 ≤ node) tour × NoneUpTo inst sol 7
 tour_found inst sol tour only full low none =
-    let low_all : All (λ nodes. All (λ node. 1 ≤ node) nodes) (tour ∷ []) = subst (λ (xs : List (List ℕ)). All (λ nodes. All (λ node. 1 ≤ node) nodes) xs) only low in
-    (only, full, low_all 0 [] (omega arith), after_length inst sol (after_count inst sol none (ap length only)) (ap length (visited_is sol tour only) ∙ full))
+    let low_all : All (λ node. 1 ≤ node) tour = subst (λ (xs : List ℕ). All (λ node. 1 ≤ node) xs) (visited_is sol tour only) low in
+    (only, full, low_all, after_length inst sol (after_count inst sol none (ap length only)) (ap length (visited_is sol tour only) ∙ full))
 
 -- nodes of 1..n, as many as n and none repeated, are a walk
 pub is_walk : (n : ℕ) (tour : List ℕ) → length tour ≡ n → All (λ node. 1 ≤ node) tour → All (λ node. node ≤ n) tour → HoldsAtNone (IsRepeated tour) (length tour) → IsWalk n tour
 is_walk n tour full low high once = record {
   count = full;
   range = λ k d lt. (low k d lt, high k d lt);
-  once = λ i j d before inside same.
-      let first : node_at tour (suc i) ≡ get_or tour i 0 = ap (λ k. get_or tour k 0) (omega arith) in
-      let second : node_at tour (suc j) ≡ get_or tour j 0 = ap (λ k. get_or tour k 0) (omega arith) in
-      let first_is : get_or tour i d ≡ get_or tour i 0 = get_or_default tour i d 0 (omega (arith, before, inside)) in
-      let second_is : get_or tour j d ≡ get_or tour j 0 = get_or_default tour j d 0 inside in
-      once (suc j) (omega arith) (omega (arith, inside)) (suc i, omega arith, omega (arith, before), first ∙ sym first_is ∙ same ∙ second_is ∙ sym second);
+  once = all_apart tour once;
 }
 
 -- reasons 1 to 8 are ruled out

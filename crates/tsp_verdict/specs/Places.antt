@@ -23,6 +23,10 @@ pub record IsFirstPlace {X : Type 0} (P : ℕ → Type 0) (xs : List X) (place :
 abbrev pub IsLarger : ℕ → List ℕ → ℕ → Type 0
 IsLarger n nodes place = n < node_at nodes place
 
+-- the node at the place is this one
+abbrev pub IsAt : ℕ → List ℕ → ℕ → Type 0
+IsAt node nodes place = node_at nodes place ≡ node
+
 -- the node at the place stands at an earlier place too
 abbrev pub IsRepeated : List ℕ → ℕ → Type 0
 IsRepeated nodes place = (earlier : ℕ) × (1 ≤ earlier) × (earlier < place) × (node_at nodes earlier ≡ node_at nodes place)

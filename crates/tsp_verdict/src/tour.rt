@@ -1,20 +1,19 @@
 //! The verdict on a tour.
 
-ghost use Rattle.std.specs.Prelude.{◌≡◌, ◌⊎◌, ◌<◌, ◌≤◌, ◌^◌, [], ◌∷◌, map, length, unwrap_or, Some, MatchOption, MatchResult};
+ghost use Rattle.std.specs.Prelude.{◌≡◌, ◌⊎◌, ◌<◌, ◌≤◌, [], ◌∷◌, length, Some, MatchOption, MatchResult};
 ghost use Rattle.std.specs.List.{All};
 ghost use Rattle.tsp_value.specs.declared.kinds.Kind.TheVariants as kinds;
-ghost use Rattle.tsp_value.specs.Limits.{most_fixed};
-ghost use Rattle.tsp_fields.specs.Valid.{IsPairOf};
 ghost use Rattle.tsp_cost.specs.Tour.{is_directed};
-ghost use Rattle.tsp_verdict.specs.Solution.{nodes_of, fixed_of, tours_of};
+ghost use Rattle.tsp_verdict.specs.Solution.{nodes_of, tours_of};
 ghost use Rattle.tsp_verdict.specs.Tours.{NoneUpTo, IsFirstAgainst, IsVerdict, NoneBeforeRepeats};
 
+use crate::files::{fixed_pairs, solution_tours};
 use crate::fixed::{first_unused, next_nodes};
 use crate::places::{first_larger, first_repeated};
 use crate::verdict::{Reason, Verdict};
 use std::alloc::{AllocError, Global};
 use tsp_cost::{Costs, Instance, symmetric_fault, tour_length};
-use tsp_fields::{File, valid_fields_are_in_range};
+use tsp_fields::File;
 use tsp_value::Kind;
 
 /// The fewest nodes of an instance whose tours are judged.
@@ -109,33 +108,5 @@ fn is_directed(kind: Kind) -> bool
     match kind {
         Kind::Atsp => true,
         Kind::Tsp | Kind::Cvrp | Kind::Tour | Kind::Potentials => false,
-    }
-}
-
-/// The tours of a solution, none where it has no TOUR_SECTION.
-fn solution_tours(sol: &File) -> &[Vec<u32>]
-    ensures value { map (λ tour. tour.items) result.now ≡ tours_of sol.now }
-    ensures range { All (λ tour. All (λ node. 1 ≤ node) tour) (tours_of sol.now) }
-{
-    let _valid = sol.fields();
-    valid_fields_are_in_range();
-    match sol.tours() {
-        Some(tours) => tours,
-        None => &[],
-    }
-}
-
-/// The fixed pairs of an instance, none where it has no FIXED_EDGES_SECTION.
-fn fixed_pairs(inst: &Instance) -> &[(u32, u32)]
-    ensures value { result.now ≡ fixed_of inst.now }
-    ensures few { length result.now ≤ most_fixed }
-    ensures range { All (IsPairOf (nodes_of inst.now)) result.now }
-{
-    let file = inst.file();
-    let _valid = file.fields();
-    valid_fields_are_in_range();
-    match file.fixed() {
-        Some(pairs) => pairs,
-        None => &[],
     }
 }

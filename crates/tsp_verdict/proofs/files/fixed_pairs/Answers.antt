@@ -2,7 +2,7 @@ use Rattle.std.proofs.Common.{List, ℕ, sym}
 use Rattle.tsp_fields.specs.Fields.{Fields}
 use Rattle.tsp_fields.specs.Valid.{AreFixed}
 use Rattle.tsp_verdict.proofs.FixedPairs.{pairs_of}
-use Rattle.tsp_verdict.proofs.tour.fixed_pairs.Goals as goal
+use Rattle.tsp_verdict.proofs.files.fixed_pairs.Goals as goal
 
 pub returns-in-Some-clause-few : goal.returns-in-Some-clause-few
 returns-in-Some-clause-few c =

@@ -1,0 +1,56 @@
+-- What valid files hold.
+use Rattle.std.proofs.Common.{◌≡◌, ℕ, suc, ◌≤◌, List, [], ◌∷◌, ◌++◌, length, map, Option, Some, refl, sym, ap, ◌∙◌, arith, length-append}
+use Rattle.std.specs.Prelude.{unwrap_or}
+use Rattle.std.specs.Global.{Vec}
+use Rattle.std.specs.List.{All, AllByRecursion, concat, sum_by}
+use Rattle.std.proofs.lemmas.List.Elements.{All-from_recursion, recursion_from_All}
+use Rattle.std.proofs.lemmas.List.Sums.{sum_by-cons}
+use Rattle.tsp_value.specs.Cells.{IsNode}
+use Rattle.tsp_value.specs.Limits.{most_nodes, most_tour_nodes}
+use Rattle.tsp_fields.specs.Fields.{Fields}
+use Rattle.tsp_fields.specs.Valid.{AreTours, AreDepots, IsNodeList}
+use Rattle.tsp_verdict.specs.Solution.{nodes_of, tours_of, visited, nodes_in}
+use Rattle.tsp_verdict.proofs.Pieces.{nodes_in_is}
+
+in_both : (P : ℕ → Type 0) (xs ys : List ℕ) → AllByRecursion P xs → AllByRecursion P ys → AllByRecursion P (xs ++ ys)
+in_both P [] ys first second = second
+in_both P (x ∷ xs) ys first second = (first.0, in_both P xs ys first.1 second)
+
+in_all : (tours : List (List ℕ)) → AllByRecursion IsNodeList tours → AllByRecursion (IsNode most_nodes) (concat tours)
+in_all [] filled = tt
+in_all (tour ∷ tours) filled = in_both (IsNode most_nodes) tour (concat tours) (recursion_from_All (IsNode most_nodes) tour filled.0.1) (in_all tours filled.1)
+
+pub counted_from_one : (tours : List (Vec ℕ)) → AreTours (map (λ (t : Vec ℕ). t.items) tours) → All (λ node. 1 ≤ node) (nodes_in tours)
+counted_from_one tours held =
+    let nodes = All-from_recursion (IsNode most_nodes) (concat (map (λ (t : Vec ℕ). t.items) tours)) (in_all (map (λ (t : Vec ℕ). t.items) tours) (recursion_from_All IsNodeList (map (λ (t : Vec ℕ). t.items) tours) held.0)) in
+    rw (nodes_in_is tours) (λ k d lt. (nodes k d lt).0)
+
+sum_is : (tours : List (List ℕ)) → length (concat tours) ≡ sum_by length tours
+sum_is [] = refl
+sum_is (tour ∷ tours) = omega (arith, length-append tour (concat tours), sum_is tours, sum_by-cons length tour tours)
+
+count_le : (tours : List (List ℕ)) → AllByRecursion IsNodeList tours → length tours ≤ sum_by length tours
+count_le [] filled = omega arith
+count_le (tour ∷ tours) filled = omega (arith, filled.0.0, count_le tours filled.1, sum_by-cons length tour tours)
+
+pub as_many : (tours : List (Vec ℕ)) → length (map (λ (t : Vec ℕ). t.items) tours) ≡ length tours
+as_many [] = refl
+as_many (t ∷ tours) = ap suc (as_many tours)
+
+pub few_tours : (tours : List (Vec ℕ)) → AreTours (map (λ (t : Vec ℕ). t.items) tours) → length tours ≤ most_tour_nodes
+few_tours tours held = omega (arith, count_le (map (λ (t : Vec ℕ). t.items) tours) (recursion_from_All IsNodeList (map (λ (t : Vec ℕ). t.items) tours) held.0), held.1, as_many tours)
+
+pub few_nodes : (tours : List (Vec ℕ)) → AreTours (map (λ (t : Vec ℕ). t.items) tours) → length (nodes_in tours) ≤ most_tour_nodes
+few_nodes tours held = omega (arith, ap length (nodes_in_is tours), sum_is (map (λ (t : Vec ℕ). t.items) tours), held.1)
+
+pub nodes_are : (f : Fields) (tours : List (Vec ℕ)) → map (λ (t : Vec ℕ). t.items) tours ≡ tours_of f → nodes_in tours ≡ visited f
+nodes_are f tours same = nodes_in_is tours ∙ ap concat same
+
+pub tours_are : (f : Fields) (tours : List (List ℕ)) → f.tours ≡ Some tours → tours ≡ tours_of f
+tours_are f tours stand = sym (ap (λ (o : Option (List (List ℕ))). unwrap_or o []) stand)
+
+pub depots_in : (f : Fields) (depots : List ℕ) → AreDepots f depots → All (IsNode (nodes_of f)) depots
+depots_in f depots held k d lt =
+    let node = held.nodes k d lt in
+    let same : nodes_of f ≡ held.n = ap (λ (o : Option ℕ). unwrap_or o 0) held.dimension in
+    (node.0, omega (arith, node.1, same))
