@@ -1,0 +1,4 @@
+pub mod Division
+pub mod Duality
+pub mod Laws
+pub mod Sizes

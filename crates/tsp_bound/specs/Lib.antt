@@ -1,0 +1,2 @@
+pub mod Duals
+pub mod Numbers
