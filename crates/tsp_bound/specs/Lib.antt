@@ -1,2 +1,5 @@
 pub mod Duals
+pub mod Growth
 pub mod Numbers
+pub mod Potentials
+pub mod Tree

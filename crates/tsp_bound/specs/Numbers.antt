@@ -34,3 +34,8 @@ pub record AreDuals (scale : ℤ) (rows columns : List ℤ) : Type 0 where
   pub rows_are : ArePotentials rows
   pub columns_are : ArePotentials columns
   pub as_many : length rows ≡ length columns
+
+-- a scale and numbers of nodes
+pub record AreNodePotentials (scale : ℤ) (numbers : List ℤ) : Type 0 where
+  pub scale_is : IsScale scale
+  pub numbers_are : ArePotentials numbers
