@@ -14,8 +14,8 @@ use Rattle.tsp_cost.specs.Walk.{IsWalk, links_to}
 use Rattle.tsp_cost.specs.Length.{sum_int_by, length_of}
 use Rattle.tsp_bound.specs.Numbers.{entry}
 use Rattle.tsp_bound.specs.Tree.{weight_of, IsInner, IsLeastOneTree}
-use Rattle.tsp_bound.specs.Potentials.{scale_of, numbers_of, weight_between, OneTreesBoundWalks}
-use Rattle.tsp_bound.proofs.Laws.{Laws, entries_of_links}
+use Rattle.tsp_bound.specs.NodeBound.{weight_between, NodeBoundsBoundWalks}
+use Rattle.tsp_bound.proofs.CostLaws.{Laws, entries_of_links}
 use Rattle.tsp_bound.proofs.Duality.{scaled_length}
 use Rattle.tsp_bound.proofs.Weights.{weight_even}
 use Rattle.tsp_bound.proofs.Tours.{path, last_of, AreInner, tour_weight, tree_below_tour}
@@ -106,11 +106,11 @@ tree_below n w pairs nodes some laws symmetric least walk =
     subst (λ (xs : List ℕ). weight_of w pairs ≤ℤ length_of w xs) parts
     (tree_below_walk n w pairs (take one.0 nodes) (drop (suc one.0) nodes) some symmetric least (subst (IsWalk n) (sym parts) walk))
 
-pub one_trees_bound_walks : Laws → OneTreesBoundWalks
-one_trees_bound_walks laws n cost p pairs bound nodes some even count least is walk =
-    let w = weight_between p cost in
-    let below : weight_of w pairs ≤ℤ length_of w nodes = tree_below n w pairs nodes some laws (weight_even p cost even) least walk in
-    let split = laws.sum (λ i j. scale_of p *ℤ cost i j) (λ i j. entry (numbers_of p) i +ℤ entry (numbers_of p) j) nodes in
-    let sums = entries_of_links n nodes (numbers_of p) (numbers_of p) laws count count walk in
-    let scale = scaled_length (scale_of p) cost nodes laws p.are.scale_is in
-    is.least (length_of cost nodes) (omega (arith, ints, below, split, sums, scale))
+pub node_bounds_bound_walks : Laws → NodeBoundsBoundWalks
+node_bounds_bound_walks laws n cost scale potentials bound nodes some even scale_in count is walk =
+    let w = weight_between scale potentials cost in
+    let below : weight_of w is.tree ≤ℤ length_of w nodes = tree_below n w is.tree nodes some laws (weight_even scale potentials cost even) is.least walk in
+    let split = laws.sum (λ i j. scale *ℤ cost i j) (λ i j. entry potentials i +ℤ entry potentials j) nodes in
+    let sums = entries_of_links n nodes potentials potentials laws count count walk in
+    let whole = scaled_length scale cost nodes laws scale_in in
+    is.bound_is.least (length_of cost nodes) (omega (arith, ints, below, split, sums, whole))

@@ -1,5 +1,5 @@
 -- The weight between two nodes, as the code computes it.
-use Rattle.std.proofs.Common.{◌≡◌, ℕ, ◌+◌, ◌*◌, ◌≤◌, ap, sym, subst, ◌∙◌, arith, to_z, of_z, inl, inr}
+use Rattle.std.proofs.Common.{◌≡◌, ◌<◌, List, length, get_or, drop, drop-cons, add-one, ℕ, ◌+◌, ◌*◌, ◌≤◌, ap, sym, subst, ◌∙◌, arith, to_z, of_z, inl, inr}
 use Rattle.std.specs.Int.{w64, w128}
 use Rattle.std.specs.Prelude.{ℤ, pos, neg_ℤ, ◌+ℤ◌, ◌-ℤ◌, ◌*ℤ◌, FitsSigned}
 use Rattle.std.proofs.lemmas.Bool.{cases_eq}
@@ -7,8 +7,9 @@ use Rattle.std.proofs.lemmas.Int.{ints, to_z-of_z, fits_signed_from_abs}
 use Rattle.tsp_value.specs.Limits.{most_nodes, most_scale, most_weight, most_potential}
 use Rattle.tsp_cost.specs.Costs.{IsEven}
 use Rattle.tsp_bound.specs.Numbers.{IsFromTo, IsScale, IsLeastBound, entry}
-use Rattle.tsp_bound.specs.Potentials.{most_between, weight_between}
-use Rattle.tsp_bound.specs.declared.potentials.Potentials.{Potentials}
+use Rattle.tsp_bound.specs.Tree.{weight_of}
+use Rattle.tsp_bound.specs.NodeBound.{weight_between}
+use Rattle.tsp_bound.specs.Potentials.{most_between}
 use Rattle.tsp_bound.proofs.Sizes.{same_scale, size_of}
 
 pub between_size : (scaled first second : ℤ) → IsFromTo (neg_ℤ (pos (most_scale * most_weight))) (pos (most_scale * most_weight)) scaled
@@ -40,12 +41,12 @@ pub scaled_by : (scale cost scaled both : ℤ) → IsScale scale → scaled ≡ 
 scaled_by scale cost scaled both s is = ap (λ z. z +ℤ both) (is ∙ ap (λ z. z *ℤ cost) (same_scale scale s))
 
 -- the weight is the same both ways
-pub weight_even : (p : Potentials) (cost : ℕ → ℕ → ℤ) → IsEven cost → (i j : ℕ) → weight_between p cost i j ≡ weight_between p cost j i
-weight_even p cost even i j = elim (cases_eq i j) [
-  | inl same ↦ ap (λ k. weight_between p cost k j) same ∙ ap (λ k. weight_between p cost j k) (sym same)
+pub weight_even : (scale : ℤ) (potentials : List ℤ) (cost : ℕ → ℕ → ℤ) → IsEven cost → (i j : ℕ) → weight_between scale potentials cost i j ≡ weight_between scale potentials cost j i
+weight_even scale potentials cost even i j = elim (cases_eq i j) [
+  | inl same ↦ ap (λ k. weight_between scale potentials cost k j) same ∙ ap (λ k. weight_between scale potentials cost j k) (sym same)
   | inr other ↦ let turned : cost i j ≡ cost j i = even i j other in
-      ap (λ z. (p.scale *ℤ z) +ℤ (entry p.numbers.now i +ℤ entry p.numbers.now j)) turned
-      ∙ ap (λ z. (p.scale *ℤ cost j i) +ℤ z) (swapped (entry p.numbers.now i) (entry p.numbers.now j))
+      ap (λ z. (scale *ℤ z) +ℤ (entry potentials i +ℤ entry potentials j)) turned
+      ∙ ap (λ z. (scale *ℤ cost j i) +ℤ z) (swapped (entry potentials i) (entry potentials j))
 ]
   where
     swapped : (a b : ℤ) → a +ℤ b ≡ b +ℤ a
@@ -80,3 +81,15 @@ bound_of_weight scale weight potentials all bound s fits p q is least =
     difference : (a b : ℤ) → IsFromTo (neg_ℤ (pos (most_nodes * most_between))) (pos (most_nodes * most_between)) a → IsFromTo (neg_ℤ (pos (2 * (most_nodes * most_potential)))) (pos (2 * (most_nodes * most_potential))) b
         → to_z w128 (of_z w128 (to_z w128 (of_z w128 a) -ℤ b)) ≡ to_z w128 (of_z w128 a) -ℤ b
     difference a b p q = omega (arith, ints, p.0, p.1, q.0, q.1)
+
+-- one pair further
+pub weight_more : (w : ℕ → ℕ → ℤ) (pairs : List (ℕ × ℕ)) (index : ℕ) (sum weight total : ℤ) → index < length pairs → weight ≡ w (get_or pairs index (0, 0)).0 (get_or pairs index (0, 0)).1
+    → sum +ℤ weight_of w (drop index pairs) ≡ total → (sum +ℤ weight) +ℤ weight_of w (drop (index + 1) pairs) ≡ total
+weight_more w pairs index sum weight total lt is so_far =
+    let parts : weight_of w (drop index pairs) ≡ w (get_or pairs index (0, 0)).0 (get_or pairs index (0, 0)).1 +ℤ weight_of w (drop (index + 1) pairs) = ap (weight_of w) (drop-cons pairs index (0, 0) lt) ∙ rw (add-one index) in
+    omega (arith, ints, parts, is, so_far)
+
+-- the weight of a vector's pairs, seen as a slice
+pub weight_seen : (w : ℕ → ℕ → ℤ) (seen pairs : List (ℕ × ℕ)) (weight : ℤ) → IsFromTo (neg_ℤ (pos (most_nodes * most_between))) (pos (most_nodes * most_between)) weight → weight ≡ weight_of w seen → seen ≡ pairs
+    → to_z w128 (of_z w128 weight) ≡ weight_of w pairs
+weight_seen w seen pairs weight size is same = weight_same weight size ∙ is ∙ ap (weight_of w) same

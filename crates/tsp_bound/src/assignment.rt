@@ -4,27 +4,20 @@ ghost use Rattle.std.specs.Prelude.{◌≡◌, ◌≢◌, ◌↔◌, ℕ, List, 
 ghost use Rattle.tsp_value.specs.Cells.{IsNode};
 ghost use Rattle.tsp_cost.specs.Walk.{IsWalk};
 ghost use Rattle.tsp_cost.specs.Length.{length_of};
-ghost use Rattle.tsp_bound.specs.Duals.{rows_of, dual_of, scaled, AreGood, IsFirstBroken, IsDualBound, DualsBoundWalks};
+ghost use Rattle.tsp_bound.specs.Assignment.{AreGood, IsFirstBroken, IsDualBound};
+ghost use Rattle.tsp_bound.specs.Duals.{scale_of, rows_of, columns_of, dual_of, scaled};
 
 use crate::duals::Duals;
+use crate::laws::duals_bound_walks;
 use crate::numbers::{least_bound, total};
 use crate::scaled::scaled_cost;
-use tsp_cost::{Costs, lengths_add_up, walks_are_permutations, walks_have_no_loops};
+use tsp_cost::Costs;
 
 /// The first pair of different nodes, by rows, whose duals sum to more than the scaled cost.
 #[derive(Clone, Copy, Debug, PartialEq, Eq)]
 pub struct Infeasible {
     pub i: u32,
     pub j: u32,
-}
-
-/// The bound of good duals is at most the length of every walk of two or more nodes.
-pub fn duals_bound_walks()
-    ensures { DualsBoundWalks }
-{
-    walks_are_permutations();
-    lengths_add_up();
-    walks_have_no_loops();
 }
 
 /// The least whole number that at the duals' scale is no less than the sum of them all, where row
@@ -37,8 +30,11 @@ pub fn duals_bound_walks()
 pub fn dual_bound<C: Costs>(c: &C, d: &Duals) -> Result<i128, Infeasible>
     requires { length (rows_of d.now) ≡ C.nodes c.now }
     ensures value { MatchResult result
-        (λ bound. AreGood (C.nodes c.now) (C.at c.now) d.now × IsDualBound d.now bound)
-        (λ e. IsFirstBroken (C.nodes c.now) (C.at c.now) d.now e.i e.j) }
+        (λ bound.
+        AreGood (C.nodes c.now) (C.at c.now) (scale_of d.now) (rows_of d.now) (columns_of d.now)
+        × IsDualBound (scale_of d.now) (rows_of d.now) (columns_of d.now) bound)
+        (λ e. IsFirstBroken (C.nodes c.now) (C.at c.now)
+        (scale_of d.now) (rows_of d.now) (columns_of d.now) e.i e.j) }
     ensures walks { IfOk result (λ bound. 2 ≤ C.nodes c.now
         → (nodes : List ℕ) → IsWalk (C.nodes c.now) nodes → bound ≤ℤ length_of (C.at c.now) nodes) }
 {

@@ -3,7 +3,7 @@
 ghost use Rattle.std.specs.Prelude.{◌≡◌, ◌≤◌, ◌+◌, ℕ, length, false, IfOk, MatchOption, ◌<ℤ◌, pos};
 ghost use Rattle.tsp_bound.specs.Tree.{IsInner};
 ghost use Rattle.tsp_bound.specs.Growth.{is_inside, IsWholeGrowth, AllInside, IsNearestOutside, IsNearer, AreNearer};
-ghost use Rattle.tsp_bound.specs.Potentials.{numbers_of, weight_between};
+ghost use Rattle.tsp_bound.specs.Potentials.{numbers_of, weight_under};
 
 use crate::potentials::Potentials;
 use std::alloc::{AllocError, Global};
@@ -24,7 +24,7 @@ pub(crate) fn grow<C: Costs>(
     requires some { 3 ≤ C.nodes c.now }
     requires count { length (numbers_of p.now) ≡ C.nodes c.now }
     ensures { IfOk result (λ added.
-        IsWholeGrowth (C.nodes c.now) (weight_between p.now (C.at c.now)) added.items) }
+        IsWholeGrowth (C.nodes c.now) (weight_under p.now (C.at c.now)) added.items) }
 {
     let size = c.count() as usize + 1;
     let mut inside = vec![in alloc; false; size]?;
@@ -57,10 +57,10 @@ fn bring<C: Costs>(
     requires near_len { length near.old ≡ C.nodes c.now + 1 }
     requires least_len { length least.old ≡ C.nodes c.now + 1 }
     requires next_in { IsInner (C.nodes c.now) next }
-    ensures nearer { AreNearer (C.nodes c.now) (weight_between p.now (C.at c.now)) inside.now next
+    ensures nearer { AreNearer (C.nodes c.now) (weight_under p.now (C.at c.now)) inside.now next
         near.old least.old near.new least.new }
     ensures small { (x : ℕ) → IsInner (C.nodes c.now) x → is_inside inside.now x ≡ false
-        → weight_between p.now (C.at c.now) next x <ℤ i64.MAX }
+        → weight_under p.now (C.at c.now) next x <ℤ i64.MAX }
     ensures nearest { MatchOption result (AllInside (C.nodes c.now) inside.now)
         (λ node. IsNearestOutside (C.nodes c.now) inside.now least.new node) }
 {

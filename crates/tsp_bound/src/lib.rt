@@ -4,13 +4,15 @@
 mod assignment;
 mod duals;
 mod growth;
+mod laws;
 mod numbers;
 mod potentials;
 mod scaled;
 mod spokes;
 mod tree;
 
-pub use assignment::{Infeasible, dual_bound, duals_bound_walks};
+pub use assignment::{Infeasible, dual_bound};
 pub use duals::Duals;
+pub use laws::{bounds_are_unique, duals_bound_walks, node_bounds_bound_walks};
 pub use potentials::Potentials;
-pub use tree::{OneTree, one_tree, one_trees_bound_walks};
+pub use tree::{OneTree, one_tree};

@@ -18,7 +18,7 @@ impl<'a> Potentials<'a> {
     ghost use Rattle.std.specs.Prelude.{◌≡◌, length, pos, neg_ℤ, MatchOption};
     ghost use Rattle.tsp_value.specs.Cells.{IsNode};
     ghost use Rattle.tsp_bound.specs.Numbers.{IsFromTo};
-    ghost use Rattle.tsp_bound.specs.Potentials.{scale_of, numbers_of, weight_between, most_between};
+    ghost use Rattle.tsp_bound.specs.Potentials.{scale_of, numbers_of, weight_under, most_between};
 
     /// The potentials of these numbers, each a count of 1 / scale.
     ///
@@ -43,7 +43,7 @@ impl<'a> Potentials<'a> {
         requires count { length (numbers_of self.now) ≡ C.nodes c.now }
         requires from { IsNode (C.nodes c.now) i }
         requires to { IsNode (C.nodes c.now) j }
-        ensures value { result ≡ weight_between self.now (C.at c.now) i j }
+        ensures value { result ≡ weight_under self.now (C.at c.now) i j }
         ensures size { IsFromTo (neg_ℤ (pos most_between)) (pos most_between) result }
     {
         let both = self.numbers[i as usize - 1] + self.numbers[j as usize - 1];

@@ -3,7 +3,7 @@
 ghost use Rattle.std.specs.Prelude.{◌≡◌, ◌≤◌, length};
 ghost use Rattle.tsp_bound.specs.Tree.{IsInner};
 ghost use Rattle.tsp_bound.specs.Growth.{AreNearest};
-ghost use Rattle.tsp_bound.specs.Potentials.{numbers_of, weight_between, most_between};
+ghost use Rattle.tsp_bound.specs.Potentials.{numbers_of, weight_under, most_between};
 
 use crate::potentials::Potentials;
 use tsp_cost::Costs;
@@ -20,7 +20,7 @@ fn spoke_to<C: Costs>(c: &C, p: &Potentials, node: u32) -> Spoke
     requires count { length (numbers_of p.now) ≡ C.nodes c.now }
     requires inner { IsInner (C.nodes c.now) node }
     ensures node { result.node ≡ node }
-    ensures weight { result.weight ≡ weight_between p.now (C.at c.now) 1 node }
+    ensures weight { result.weight ≡ weight_under p.now (C.at c.now) 1 node }
 {
     Spoke {
         node,
@@ -32,7 +32,7 @@ fn spoke_to<C: Costs>(c: &C, p: &Potentials, node: u32) -> Spoke
 pub(crate) fn nearest_two<C: Costs>(c: &C, p: &Potentials) -> (u32, u32)
     requires some { 3 ≤ C.nodes c.now }
     requires count { length (numbers_of p.now) ≡ C.nodes c.now }
-    ensures { AreNearest (C.nodes c.now) (weight_between p.now (C.at c.now)) result.0 result.1 }
+    ensures { AreNearest (C.nodes c.now) (weight_under p.now (C.at c.now)) result.0 result.1 }
 {
     let two = spoke_to(c, p, 2);
     let three = spoke_to(c, p, 3);

@@ -8,14 +8,16 @@ ghost use Rattle.tsp_cost.specs.Length.{length_of};
 ghost use Rattle.tsp_bound.specs.Numbers.{IsFromTo};
 ghost use Rattle.tsp_bound.specs.Tree.{IsPair, IsOneTree, IsLeastOneTree, weight_of};
 ghost use Rattle.tsp_bound.specs.Growth.{tree_of};
-ghost use Rattle.tsp_bound.specs.Potentials.{numbers_of, weight_between, most_between, IsNodeBound, OneTreesBoundWalks};
+ghost use Rattle.tsp_bound.specs.NodeBound.{IsBoundOf, IsNodeBound};
+ghost use Rattle.tsp_bound.specs.Potentials.{scale_of, numbers_of, weight_under, most_between};
 
 use crate::growth::grow;
+use crate::laws::node_bounds_bound_walks;
 use crate::numbers::{least_bound, total};
 use crate::potentials::Potentials;
 use crate::spokes::nearest_two;
 use std::alloc::{AllocError, Global};
-use tsp_cost::{Costs, Symmetric, lengths_add_up, walks_are_permutations, walks_have_no_loops};
+use tsp_cost::{Costs, Symmetric};
 
 /// A least 1-tree, its weight, and the bound on the length of every walk.
 #[derive(Debug, Drop)]
@@ -27,15 +29,6 @@ pub struct OneTree {
     /// The least whole number that at the scale is no less than the weight without each
     /// potential twice.
     pub bound: i128,
-}
-
-/// The bound of a least 1-tree is at most the length of every walk of three or more nodes.
-pub fn one_trees_bound_walks()
-    ensures { OneTreesBoundWalks }
-{
-    walks_are_permutations();
-    lengths_add_up();
-    walks_have_no_loops();
 }
 
 /// A 1-tree than which none weighs less, where the weight between two nodes is the cost at the
@@ -51,10 +44,13 @@ pub fn one_tree<C: Symmetric>(alloc: Global, c: &C, p: &Potentials) -> Result<On
     requires count { length (numbers_of p.now) ≡ C.nodes c.now }
     ensures tree { IfOk result (λ found. IsOneTree (C.nodes c.now) found.edges.items) }
     ensures weight { IfOk result (λ found.
-        found.weight ≡ weight_of (weight_between p.now (C.at c.now)) found.edges.items) }
+        found.weight ≡ weight_of (weight_under p.now (C.at c.now)) found.edges.items) }
     ensures least { IfOk result (λ found. (others : List (ℕ × ℕ)) → IsOneTree (C.nodes c.now) others
-        → found.weight ≤ℤ weight_of (weight_between p.now (C.at c.now)) others) }
-    ensures bound { IfOk result (λ found. IsNodeBound p.now found.weight found.bound) }
+        → found.weight ≤ℤ weight_of (weight_under p.now (C.at c.now)) others) }
+    ensures rounded { IfOk result (λ found.
+        IsBoundOf (scale_of p.now) (numbers_of p.now) found.weight found.bound) }
+    ensures bound { IfOk result (λ found. IsNodeBound (C.nodes c.now) (C.at c.now)
+        (scale_of p.now) (numbers_of p.now) found.bound) }
     ensures walks { IfOk result (λ found. (nodes : List ℕ) → IsWalk (C.nodes c.now) nodes
         → found.bound ≤ℤ length_of (C.at c.now) nodes) }
 {
@@ -63,7 +59,7 @@ pub fn one_tree<C: Symmetric>(alloc: Global, c: &C, p: &Potentials) -> Result<On
     let weight = weight_of(c, p, &edges);
     let potentials = total(p.numbers);
     let bound = least_bound(p.scale, weight - 2 * potentials);
-    one_trees_bound_walks();
+    node_bounds_bound_walks();
     Ok(OneTree {
         edges,
         weight,
@@ -81,7 +77,7 @@ fn least_edges<C: Symmetric>(
     requires some { 3 ≤ C.nodes c.now }
     requires count { length (numbers_of p.now) ≡ C.nodes c.now }
     ensures { IfOk result (λ edges.
-        IsLeastOneTree (C.nodes c.now) (weight_between p.now (C.at c.now)) edges.items) }
+        IsLeastOneTree (C.nodes c.now) (weight_under p.now (C.at c.now)) edges.items) }
 {
     let (first, second) = nearest_two(c, p);
     let added = grow(alloc, c, p)?;
@@ -116,7 +112,7 @@ fn weight_of<C: Costs>(c: &C, p: &Potentials, pairs: &[(u32, u32)]) -> i128
     requires count { length (numbers_of p.now) ≡ C.nodes c.now }
     requires few { length pairs.now ≤ most_nodes }
     requires range { All (IsPair (C.nodes c.now)) pairs.now }
-    ensures value { result ≡ weight_of (weight_between p.now (C.at c.now)) pairs.now }
+    ensures value { result ≡ weight_of (weight_under p.now (C.at c.now)) pairs.now }
     ensures size { IsFromTo (neg_ℤ (pos (most_nodes * most_between)))
         (pos (most_nodes * most_between)) result }
 {

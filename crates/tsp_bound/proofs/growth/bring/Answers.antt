@@ -3,7 +3,7 @@ use Rattle.std.specs.Int.{w64}
 use Rattle.std.specs.Prelude.{◌≤ℤ◌, ◌<ℤ◌}
 use Rattle.std.proofs.lemmas.Int.{ints}
 use Rattle.tsp_bound.specs.Tree.{IsInner}
-use Rattle.tsp_bound.specs.Potentials.{weight_between}
+use Rattle.tsp_bound.specs.Potentials.{weight_under}
 use Rattle.tsp_bound.proofs.Nearest.{brought_inside, brought_nearer, brought_farther, nearest_found, taken_by_set, kept_is, most_64}
 use Rattle.tsp_bound.proofs.growth.bring.Goals as goal
 use Rattle.tsp_bound.proofs.growth.bring.Goals.{then-not-inside-place+then-kept-best, then-not-inside-place+else-kept-best, else-not-inside-place}
@@ -20,7 +20,7 @@ nodes-init g c = record {
 pub nodes-preserved : goal.nodes-preserved
 nodes-preserved g c =
     let n = g.C.Costs.nodes c.args.c.now in
-    let w = weight_between c.args.p.now (g.C.Costs.at c.args.c.now) in
+    let w = weight_under c.args.p.now (g.C.Costs.at c.args.c.now) in
     let node : ℕ = c.nodes.node in
     let in_node : IsInner n node = (c.nodes.auto.node, omega (arith, c.nodes-test.true, c.count-node-end.ensures.value)) in
     let in_near : node < length c.nodes.near = omega (arith, c.nodes.auto.near, c.requires.near_len, in_node.1) in

@@ -1,7 +1,7 @@
 use Rattle.std.proofs.Common.{◌≡◌, ◌+◌, ◌++◌, ◌∷◌, [], true, false, replicate, length, length-append, ap, sym, subst, ◌∙◌, arith, MatchOption}
 use Rattle.std.specs.Prelude.{slice_set}
 use Rattle.tsp_bound.specs.Growth.{AllInside, IsNearestOutside}
-use Rattle.tsp_bound.specs.Potentials.{weight_between}
+use Rattle.tsp_bound.specs.Potentials.{weight_under}
 use Rattle.tsp_bound.proofs.Nearest.{most_64}
 use Rattle.tsp_bound.proofs.Steps.{start_after, state_after, state_end, room_more, nearest_after}
 use Rattle.tsp_bound.proofs.growth.grow.Goals as goal
@@ -9,7 +9,7 @@ use Rattle.tsp_bound.proofs.growth.grow.Goals as goal
 pub grow-init : goal.grow-init
 grow-init g c =
     let n = g.C.Costs.nodes c.args.c.now in
-    let w = weight_between c.args.p.now (g.C.Costs.at c.args.c.now) in
+    let w = weight_under c.args.p.now (g.C.Costs.at c.args.c.now) in
     let size : c.count.result + 1 ≡ n + 1 = ap (λ k. k + 1) c.count.ensures.value in
     let inside : c.in_ok-inside.inside.items ≡ replicate (c.count.result + 1) false = c.in_ok-inside.ensures.items_if_clones_equal (λ y h. h) in
     let least : c.in_ok-least.least.items ≡ replicate (c.count.result + 1) most_64 = c.in_ok-least.ensures.items_if_clones_equal (λ y h. h) in
@@ -29,7 +29,7 @@ grow-init g c =
 pub grow-smaller : goal.grow-smaller
 grow-smaller g c =
     let n = g.C.Costs.nodes c.args.c.now in
-    let w = weight_between c.args.p.now (g.C.Costs.at c.args.c.now) in
+    let w = weight_under c.args.p.now (g.C.Costs.at c.args.c.now) in
     let next : IsNearestOutside n c.grow.inside.items c.grow.least.items c.in-Some.next =
     subst (λ o. MatchOption o (AllInside n c.grow.inside.items) (λ node. IsNearestOutside n c.grow.inside.items c.grow.least.items node)) c.in-Some.is c.grow.invariant.nearest in
     let room = room_more n w c.grow.inside.items c.grow.near.items c.grow.least.items c.grow.added.items c.in-Some.next c.grow.invariant.state next in
@@ -39,7 +39,7 @@ grow-smaller g c =
 pub grow-preserved : goal.grow-preserved
 grow-preserved g c =
     let n = g.C.Costs.nodes c.args.c.now in
-    let w = weight_between c.args.p.now (g.C.Costs.at c.args.c.now) in
+    let w = weight_under c.args.p.now (g.C.Costs.at c.args.c.now) in
     let next : IsNearestOutside n c.grow.inside.items c.grow.least.items c.in-Some.next =
     subst (λ o. MatchOption o (AllInside n c.grow.inside.items) (λ node. IsNearestOutside n c.grow.inside.items c.grow.least.items node)) c.in-Some.is c.grow.invariant.nearest in
     let near_len : c.grow.near.len ≡ length c.grow.near.items = omega arith in
@@ -57,4 +57,4 @@ pub returns : goal.returns
 returns g c =
     let n = g.C.Costs.nodes c.args.c.now in
     let all : AllInside n c.grow.inside.items = subst (λ o. MatchOption o (AllInside n c.grow.inside.items) (λ node. IsNearestOutside n c.grow.inside.items c.grow.least.items node)) c.in_default.is c.grow.invariant.nearest in
-    state_end n (weight_between c.args.p.now (g.C.Costs.at c.args.c.now)) c.grow.inside.items c.grow.near.items c.grow.least.items c.grow.added.items c.requires.some c.grow.invariant.state all
+    state_end n (weight_under c.args.p.now (g.C.Costs.at c.args.c.now)) c.grow.inside.items c.grow.near.items c.grow.least.items c.grow.added.items c.requires.some c.grow.invariant.state all

@@ -1,7 +1,7 @@
 use Rattle.std.proofs.Common.{◌<◌, ◌≤◌, ℕ, arith, rules, FitsSigned}
 use Rattle.std.specs.Prelude.{◌≤ℤ◌, ◌<ℤ◌}
 use Rattle.std.specs.Int.{w64}
-use Rattle.tsp_bound.specs.Potentials.{weight_between}
+use Rattle.tsp_bound.specs.Potentials.{weight_under}
 use Rattle.tsp_bound.proofs.TwoNearest.{two_first, three_first, nearer_first, nearer_second, nearer_none, nearest_of_all, less_of, not_less_of}
 use Rattle.tsp_bound.proofs.spokes.nearest_two.Goals as goal
 use Rattle.tsp_bound.proofs.spokes.nearest_two.Goals.{then-three-two, else-three-two, then-next-first, else-next-first+then-next-second, else-next-first+else-next-second}
@@ -9,7 +9,7 @@ use Rattle.tsp_bound.proofs.spokes.nearest_two.Goals.{then-three-two, else-three
 pub nodes-init : goal.nodes-init
 nodes-init g c =
     let n = g.C.Costs.nodes c.args.c.now in
-    let w = weight_between c.args.p.now (g.C.Costs.at c.args.c.now) in
+    let w = weight_under c.args.p.now (g.C.Costs.at c.args.c.now) in
     let two = c.spoke_to-two in
     let three = c.spoke_to-three in
     let two_in : FitsSigned w64 c.spoke_to-two.result.weight = search rules in
@@ -28,7 +28,7 @@ nodes-init g c =
 pub nodes-preserved : goal.nodes-preserved
 nodes-preserved g c =
     let n = g.C.Costs.nodes c.args.c.now in
-    let w = weight_between c.args.p.now (g.C.Costs.at c.args.c.now) in
+    let w = weight_under c.args.p.now (g.C.Costs.at c.args.c.now) in
     let node : ℕ = c.nodes.node in
     let next = c.spoke_to-next in
     let low : 2 ≤ node = omega (arith, c.nodes.auto.node) in
@@ -56,4 +56,4 @@ nodes-preserved g c =
 pub returns : goal.returns
 returns g c =
     let past : g.C.Costs.nodes c.args.c.now < c.nodes.node = omega (arith, c.nodes-test.false, c.count-node-end.ensures.value) in
-    nearest_of_all (g.C.Costs.nodes c.args.c.now) (weight_between c.args.p.now (g.C.Costs.at c.args.c.now)) c.nodes.node c.nodes.first.node c.nodes.second.node c.nodes.first.weight c.nodes.second.weight past c.nodes.invariant
+    nearest_of_all (g.C.Costs.nodes c.args.c.now) (weight_under c.args.p.now (g.C.Costs.at c.args.c.now)) c.nodes.node c.nodes.first.node c.nodes.second.node c.nodes.first.weight c.nodes.second.weight past c.nodes.invariant

@@ -1,6 +1,6 @@
-use Rattle.tsp_bound.proofs.Laws.{Laws}
-use Rattle.tsp_bound.proofs.Walks.{one_trees_bound_walks}
-use Rattle.tsp_bound.proofs.tree.one_trees_bound_walks.Goals as goal
+use Rattle.tsp_bound.proofs.CostLaws.{Laws}
+use Rattle.tsp_bound.proofs.Walks.{node_bounds_bound_walks}
+use Rattle.tsp_bound.proofs.laws.node_bounds_bound_walks.Goals as goal
 
 pub returns : goal.returns
 returns c =
@@ -13,4 +13,4 @@ returns c =
       scale = c.lengths_add_up.ensures.scale;
       no_loops = c.walks_have_no_loops.ensures;
     } in
-    one_trees_bound_walks laws
+    node_bounds_bound_walks laws

@@ -1,6 +1,6 @@
-use Rattle.tsp_bound.proofs.Laws.{Laws}
+use Rattle.tsp_bound.proofs.CostLaws.{Laws}
 use Rattle.tsp_bound.proofs.Duality.{duals_bound_walks}
-use Rattle.tsp_bound.proofs.assignment.duals_bound_walks.Goals as goal
+use Rattle.tsp_bound.proofs.laws.duals_bound_walks.Goals as goal
 
 pub returns : goal.returns
 returns c =
