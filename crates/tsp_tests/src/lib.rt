@@ -8,6 +8,8 @@
 #[cfg(test)]
 mod asserts;
 #[cfg(test)]
+mod bound;
+#[cfg(test)]
 mod check;
 #[cfg(test)]
 mod cost;

@@ -1,0 +1,12 @@
+pub mod CostLaws
+pub mod Division
+pub mod Duality
+pub mod Exchange
+pub mod Nearest
+pub mod OneTrees
+pub mod Sizes
+pub mod Steps
+pub mod Tours
+pub mod TwoNearest
+pub mod Walks
+pub mod Weights

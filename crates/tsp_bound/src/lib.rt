@@ -1,0 +1,18 @@
+//! Lower bounds on the length of every walk, from certificates that nobody has to trust.
+#![tactic(auto)]
+
+mod assignment;
+mod duals;
+mod growth;
+mod laws;
+mod numbers;
+mod potentials;
+mod scaled;
+mod spokes;
+mod tree;
+
+pub use assignment::{Infeasible, dual_bound};
+pub use duals::Duals;
+pub use laws::{bounds_are_unique, duals_bound_walks, node_bounds_bound_walks};
+pub use potentials::Potentials;
+pub use tree::{OneTree, one_tree};

@@ -1,0 +1,46 @@
+//! The numbers of a certificate: their ranges, their sums, and the least bound of a sum.
+
+ghost use Rattle.std.specs.Prelude.{◌≡◌, ◌↔◌, ◌≤◌, ◌*◌, ◌^◌, IsTrue, length, pos, neg_ℤ};
+ghost use Rattle.tsp_value.specs.Limits.{most_nodes, most_potential};
+ghost use Rattle.tsp_bound.specs.Numbers.{IsFromTo, IsScale, ArePotentials, total, IsLeastBound};
+
+use tsp_value::{MOST_POTENTIAL, MOST_SCALE};
+
+/// Whether a certificate may have this scale.
+pub(crate) fn is_scale(scale: i64) -> bool
+    ensures { IsTrue result ↔ IsScale scale }
+{
+    1 <= scale && scale <= MOST_SCALE
+}
+
+/// Whether a certificate may have these numbers.
+pub(crate) fn are_potentials(numbers: &[i64]) -> bool
+    ensures { IsTrue result ↔ ArePotentials numbers.now }
+{
+    numbers.iter().all(|number| -MOST_POTENTIAL <= *number && *number <= MOST_POTENTIAL)
+}
+
+/// The sum of a certificate's numbers.
+pub(crate) fn total(numbers: &[i64]) -> i128
+    requires few { length numbers.now ≤ most_nodes }
+    requires sizes { ArePotentials numbers.now }
+    ensures value { result ≡ total numbers.now }
+    ensures size { IsFromTo (neg_ℤ (pos (most_nodes * most_potential)))
+        (pos (most_nodes * most_potential)) result }
+{
+    let mut sum = 0;
+    'numbers: for number in numbers {
+        sum += i128::from(*number);
+    }
+    sum
+}
+
+/// The least whole number that at a scale is no less than a sum.
+pub(crate) fn least_bound(scale: i64, sum: i128) -> i128
+    requires scale { IsScale scale }
+    requires size { IsFromTo (neg_ℤ (pos (2 ^ 100))) (pos (2 ^ 100)) sum }
+    ensures { IsLeastBound scale sum result }
+{
+    // Euclid's quotient rounds down, so that of the negative sum rounds up.
+    -(-sum).div_euclid(i128::from(scale))
+}

@@ -1,0 +1,195 @@
+//! Bounds on the lengths of walks: examples worked by hand, and how often a cost is asked for.
+
+ghost use Rattle.std.specs.Prelude.{refl, pos};
+
+use crate::asserts::{holds, same};
+use crate::files::drafts::{file_of, upper_row};
+use std::alloc::Global;
+use std::cell::Cell;
+use std::test::Fail;
+use tsp_bound::{Duals, Infeasible, OneTree, Potentials, dual_bound, one_tree};
+use tsp_cost::{Costs, Instance, Symmetric, View};
+use tsp_fields::Draft;
+use tsp_value::{Kind, Layout, WeightFormat};
+
+/// The instance that a draft holds.
+fn instance_of(draft: Draft) -> Result<Instance, Fail> {
+    match Instance::of(file_of(draft)?) {
+        Ok(instance) => Ok(instance),
+        Err(_) => Err(Fail::from("no instance")),
+    }
+}
+
+/// An instance of n nodes with these weights by the upper rows.
+fn upper_rows(alloc: Global, nodes: u32, weights: &[i64]) -> Result<Instance, Fail> {
+    let mut draft = upper_row(alloc, nodes, 0)?;
+    draft.weights = Some(Vec::from_slice(alloc, weights)?);
+    instance_of(draft)
+}
+
+/// The 1-tree under potentials, where there is one for each of three or more nodes.
+fn tree_under<C: Symmetric>(
+    alloc: Global,
+    costs: &C,
+    scale: i64,
+    numbers: &[i64],
+) -> Result<OneTree, Fail> {
+    let potentials = Potentials::new(scale, numbers).ok_or("no potentials")?;
+    let count = costs.count();
+    if count < 3 || numbers.len() != count as usize {
+        return Err(Fail::from("no potential for each node"));
+    }
+    Ok(one_tree(alloc, costs, &potentials)?)
+}
+
+/// The weight and the bound of the 1-tree of an instance whose weights are a triangle.
+fn bound_under(
+    alloc: Global,
+    instance: &Instance,
+    scale: i64,
+    numbers: &[i64],
+) -> Result<(i128, i128), Fail> {
+    let View::Triangle(triangle) = instance.view() else {
+        return Err(Fail::from("no triangle"));
+    };
+    let tree = tree_under(alloc, &triangle, scale, numbers)?;
+    Ok((tree.weight, tree.bound))
+}
+
+/// What the duals of an instance give, where there is one for each node.
+fn dual_of(
+    instance: &Instance,
+    scale: i64,
+    rows: &[i64],
+    columns: &[i64],
+) -> Result<Result<i128, Infeasible>, Fail> {
+    let duals = Duals::new(scale, rows, columns).ok_or("no duals")?;
+    if rows.len() != instance.count() as usize {
+        return Err(Fail::from("no dual for each node"));
+    }
+    Ok(dual_bound(instance, &duals))
+}
+
+#[test]
+fn duals_of_three_nodes_round_up_or_fail_at_a_pair(rt: HostRuntime) -> Result<(), Fail> {
+    let mut draft = upper_row(rt.alloc(), 3, 0)?;
+    draft.kind = Some(Kind::Atsp);
+    draft.weight_format = Some(WeightFormat::Listed(Layout::FullMatrix));
+    draft.weights = Some(Vec::from_slice(rt.alloc(), &[9999, 1, 10, 10, 9999, 2, 3, 10, 9999])?);
+    let instance = instance_of(draft)?;
+    let none = [0i64, 0, 0];
+    same(&rt, dual_of(&instance, 1, &[1, 2, 3], &none)?, Ok(6));
+    same(&rt, dual_of(&instance, 2, &[2, 4, 5], &none)?, Ok(6));
+    same(&rt, dual_of(&instance, 2, &[-3, 0, 0], &none)?, Ok(-1));
+    same(
+        &rt,
+        dual_of(&instance, 1, &[2, 2, 3], &none)?,
+        Err(Infeasible { i: 1, j: 2 }),
+    );
+    same(
+        &rt,
+        dual_of(&instance, 1, &[1, 2, 4], &none)?,
+        Err(Infeasible { i: 3, j: 1 }),
+    );
+    Ok(())
+}
+
+#[test]
+fn trees_of_the_star_round_up(rt: HostRuntime) -> Result<(), Fail> {
+    let star = upper_rows(rt.alloc(), 4, &[1, 2, 2, 1, 1, 2])?;
+    same(
+        &rt,
+        bound_under(rt.alloc(), &star, 1, &[0, 0, 0, 0])?,
+        (5, 5),
+    );
+    same(
+        &rt,
+        bound_under(rt.alloc(), &star, 2, &[0, 1, 0, 0])?,
+        (13, 6),
+    );
+    let below = upper_rows(rt.alloc(), 4, &[-9, -8, -8, -9, -9, -8])?;
+    same(
+        &rt,
+        bound_under(rt.alloc(), &below, 2, &[0, 1, 0, 0])?,
+        (-67, -34),
+    );
+    same(
+        &rt,
+        bound_under(rt.alloc(), &below, 2, &[0, 0, 0, 0])?,
+        (-70, -35),
+    );
+    Ok(())
+}
+
+#[test]
+fn trees_of_five_nodes_and_at_the_limits(rt: HostRuntime) -> Result<(), Fail> {
+    let five = upper_rows(rt.alloc(), 5, &[1, 2, 2, 2, 1, 1, 1, 2, 2, 2])?;
+    same(
+        &rt,
+        bound_under(rt.alloc(), &five, 1, &[0, 0, 0, 0, 0])?,
+        (6, 6),
+    );
+    let large = 1_000_000_000_000i64;
+    let limits = upper_rows(rt.alloc(), 3, &[large, large, large])?;
+    let potential = 1_000_000_000_000_000i64;
+    let (_, bound) = bound_under(
+        rt.alloc(),
+        &limits,
+        1_000_000,
+        &[potential, potential, potential],
+    )?;
+    same(&rt, bound, 3_000_000_000_000);
+    Ok(())
+}
+
+#[test]
+fn certificates_out_of_range_are_none(rt: HostRuntime) -> Result<(), Fail> {
+    let most = 1_000_000_000_000_000i64;
+    holds(&rt, Potentials::new(0, &[1]).is_none());
+    holds(&rt, Potentials::new(1_000_001, &[1]).is_none());
+    holds(&rt, Potentials::new(1, &[0, most + 1]).is_none());
+    holds(&rt, Potentials::new(1_000_000, &[-most, most]).is_some());
+    holds(&rt, Duals::new(1, &[1, 2], &[1]).is_none());
+    holds(&rt, Duals::new(1, &[1, 2], &[1, -most - 1]).is_none());
+    holds(&rt, Duals::new(1, &[1, 2], &[1, -most]).is_some());
+    Ok(())
+}
+
+/// Costs of 1 between 300 nodes, which count how often they are asked for.
+#[derive(Drop)]
+struct Counted {
+    calls: Cell<u32>,
+}
+
+impl Costs for Counted {
+    ghost nodes = { λ c. 300 };
+
+    ghost at = { λ c i j. pos 1 };
+
+    fn count(&self) -> u32 {
+        300
+    }
+
+    fn cost(&self, _i: u32, _j: u32) -> i64 {
+        self.calls.set(self.calls.get().saturating_add(1));
+        1
+    }
+}
+
+impl Symmetric for Counted {
+    ghost even = { λ c i j other. refl };
+}
+
+#[test]
+fn a_tree_asks_for_each_cost_once(rt: HostRuntime) -> Result<(), Fail> {
+    let costs = Counted {
+        calls: Cell::new(0),
+    };
+    let numbers = vec![in rt.alloc(); 0i64; 300]?;
+    let tree = tree_under(rt.alloc(), &costs, 1, &numbers)?;
+    same(&rt, tree.edges.len(), 300);
+    same(&rt, tree.weight, 300);
+    same(&rt, tree.bound, 300);
+    holds(&rt, costs.calls.get() <= 90_000);
+    Ok(())
+}
