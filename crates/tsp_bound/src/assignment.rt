@@ -24,7 +24,8 @@ pub struct Infeasible {
 /// i and column j sum to at most the cost from i to j for all different nodes.
 ///
 /// With two or more nodes no walk is shorter than it. The costs from a node to itself aren't
-/// looked at. The caller owes as many duals as nodes. No memory is taken.
+/// looked at. The caller owes as many duals as nodes. No memory is taken. Source: the dual of the
+/// assignment problem, H. W. Kuhn, The Hungarian method for the assignment problem, 1955.
 ///
 /// Errors: the first pair i, j, by rows, whose duals sum to more than the cost.
 pub fn dual_bound<C: Costs>(c: &C, d: &Duals) -> Result<i128, Infeasible>

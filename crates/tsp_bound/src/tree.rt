@@ -36,7 +36,8 @@ pub struct OneTree {
 ///
 /// A 1-tree is a tree over the nodes 2..n and two different edges at node 1. Which of several
 /// least ones is given, and in what order its edges stand, is free. The caller owes three or more
-/// nodes, and as many potentials.
+/// nodes, and as many potentials. Source: M. Held and R. M. Karp, The traveling-salesman problem
+/// and minimum spanning trees, 1970; the tree is grown as R. C. Prim's, 1957.
 ///
 /// Errors: out of memory, of which it takes some for each node.
 pub fn one_tree<C: Symmetric>(alloc: Global, c: &C, p: &Potentials) -> Result<OneTree, AllocError>
