@@ -32,6 +32,8 @@ mod reading;
 #[cfg(test)]
 mod texts;
 #[cfg(test)]
+mod verdicts;
+#[cfg(test)]
 mod watched;
 #[cfg(test)]
 mod words;
