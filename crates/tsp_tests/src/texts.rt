@@ -132,6 +132,6 @@ fn faults_of_a_run_name_the_file_or_the_output(rt: HostRuntime) -> Result<(), Fa
         "output: out of memory",
     )?;
     prints(&rt, RunFault::OutOfMemory, "out of memory")?;
-    prints(&rt, RunFault::NotYet, "not yet")?;
+    prints(&rt, RunFault::WrongKind, "file 1: wrong kind")?;
     Ok(())
 }

@@ -1,15 +1,19 @@
 //! Readers and writers that fail, or had failed before.
 
-use super::{REPORT, THREE_NODES, TOUR, judged};
+use super::{POTENTIALS, REPORT, THREE_NODES, TOUR, judged};
 use crate::asserts::{holds, same, same_at};
 use crate::devices::{Drip, NEVER, Refusal, Trickle, outcome};
 use std::io::{ErrorKind, Read, Write};
 use std::test::Fail;
-use tsp_judge::{ReadFault, RunFault};
+use tsp_judge::{EndFault, ReadFault, RunFault};
 use tsp_stream::{Watched, WriteFault};
+use tsp_value::Field;
 
 /// No instance.
 const NO_INSTANCE: &str = "TYPE : TSP\n";
+
+/// The fault of that text.
+const ITS_FAULT: ReadFault = ReadFault::End(EndFault::Missing(Field::DimensionKey));
 
 /// A reader of a text that fails at one call.
 fn reader(text: &str, fails_at: usize) -> Watched<Trickle<'_>> {
@@ -120,10 +124,16 @@ fn a_reader_that_had_failed_counts_in_its_turn(rt: HostRuntime) -> Result<(), Fa
     same_at(&rt, "it isn't asked again", inst.into_inner().calls(), 1);
     let mut inst = reader(NO_INSTANCE, NEVER);
     let answer = judged(rt.alloc(), &mut inst, &mut sol, &mut out);
-    same(&rt, answer, Err(RunFault::NotYet));
-    let mut inst = reader(THREE_NODES, NEVER);
-    let answer = judged(rt.alloc(), &mut inst, &mut sol, &mut out);
-    same(&rt, answer, Err(RunFault::File { file: 2, fault }));
+    let missing = RunFault::File {
+        file: 1,
+        fault: ITS_FAULT,
+    };
+    same(&rt, answer, Err(missing));
+    for text in [THREE_NODES, POTENTIALS] {
+        let mut inst = reader(text, NEVER);
+        let answer = judged(rt.alloc(), &mut inst, &mut sol, &mut out);
+        same_at(&rt, text, answer, Err(RunFault::File { file: 2, fault }));
+    }
     same_at(&rt, "it isn't asked again", sol.into_inner().calls(), 1);
     same(&rt, out.into_inner().len(), 0);
     Ok(())
@@ -136,8 +146,16 @@ fn a_writer_that_had_failed_counts_in_its_turn(rt: HostRuntime) {
     let mut inst = reader(NO_INSTANCE, NEVER);
     let mut sol = reader(TOUR, NEVER);
     let answer = judged(rt.alloc(), &mut inst, &mut sol, &mut out);
-    same(&rt, answer, Err(RunFault::NotYet));
+    let missing = RunFault::File {
+        file: 1,
+        fault: ITS_FAULT,
+    };
+    same(&rt, answer, Err(missing));
     same(&rt, sol.into_inner().calls(), 0);
+    let mut inst = reader(POTENTIALS, NEVER);
+    let mut sol = reader(TOUR, NEVER);
+    let answer = judged(rt.alloc(), &mut inst, &mut sol, &mut out);
+    same(&rt, answer, Err(RunFault::WrongKind));
     let mut inst = reader(THREE_NODES, NEVER);
     let mut sol = reader(TOUR, NEVER);
     let answer = judged(rt.alloc(), &mut inst, &mut sol, &mut out);

@@ -1,11 +1,11 @@
-//! Files about as long as the limit, and files that never end. Each test reads a gigabyte or more.
+//! Files about as long as the limit, and files that never end: most tests read a gigabyte or more.
 
 use super::{REPORT, THREE_NODES, TOUR, judged};
-use crate::asserts::{holds, holds_at, same};
+use crate::asserts::{holds, holds_at, same, same_at};
 use crate::devices::{Flood, Repeats};
 use std::alloc::{AllocError, Global};
 use std::test::Fail;
-use tsp_judge::{ReadFault, RunFault};
+use tsp_judge::{LineFault, ReadFault, RunFault};
 use tsp_stream::Watched;
 
 /// How many bytes of a file count.
@@ -105,8 +105,71 @@ fn a_file_as_long_as_the_limit_is_read(rt: HostRuntime) -> Result<(), Fail> {
 }
 
 #[test]
-fn a_file_as_long_as_the_limit_needs_its_line_eof(rt: HostRuntime) -> Result<(), Fail> {
+fn a_file_as_long_as_the_limit_needs_no_line_eof(rt: HostRuntime) -> Result<(), Fail> {
     let answer = at_the_limit(rt.alloc(), UNIT, "")?;
-    same(&rt, answer, Err(RunFault::NotYet));
+    same(&rt, answer, Ok(true));
+    Ok(())
+}
+
+#[test]
+fn a_file_with_a_byte_past_the_limit_needs_its_line_eof(rt: HostRuntime) -> Result<(), Fail> {
+    let answer = at_the_limit(rt.alloc(), UNIT, " ")?;
+    let fault = ReadFault::TooLong;
+    same(&rt, answer, Err(RunFault::File { file: 1, fault }));
+    Ok(())
+}
+
+#[test]
+fn a_solution_has_at_most_a_million_nodes(rt: HostRuntime) -> Result<(), Fail> {
+    // the head has two lines, and each unit one
+    for (tail, wanted) in [
+        (" -1 \nEOF\n", Ok(false)),
+        (" 1\nEOF\n", Err(surplus(1))),
+        (" -1 1\nEOF\n", Err(surplus(2))),
+    ] {
+        let head = b"TYPE : TOUR\nTOUR_SECTION\n";
+        let mut inst = Watched::new(THREE_NODES.as_bytes());
+        let mut sol = Watched::new(Repeats::new(head, b"1 2 1 3\n", 250_000, tail.as_bytes()));
+        let mut out = Watched::new(Vec::new(rt.alloc()));
+        let answer = judged(rt.alloc(), &mut inst, &mut sol, &mut out);
+        same_at(&rt, tail, answer, wanted);
+    }
+    Ok(())
+}
+
+/// The fault of a node past a million, at this word of the line behind theirs.
+fn surplus(word: u32) -> RunFault {
+    RunFault::File {
+        file: 2,
+        fault: ReadFault::Line {
+            line: 250_003,
+            word,
+            fault: LineFault::Surplus,
+        },
+    }
+}
+
+#[test]
+fn an_instance_has_at_most_five_thousand_nodes(rt: HostRuntime) -> Result<(), Fail> {
+    let too_many = RunFault::File {
+        file: 1,
+        fault: ReadFault::Line {
+            line: 5,
+            word: 0,
+            fault: LineFault::TooManyNodes,
+        },
+    };
+    for (nodes, wanted) in [(5000usize, Ok(false)), (5001, Err(too_many))] {
+        let head = format!(in rt.alloc();
+            "TYPE : ATSP\nDIMENSION : {nodes}\nEDGE_WEIGHT_TYPE : EXPLICIT\nEDGE_WEIGHT_FORMAT : FULL_MATRIX\nEDGE_WEIGHT_SECTION\n"
+        )?;
+        let row = "0 ".repeat(rt.alloc(), nodes)?;
+        let rows = Repeats::new(head.as_bytes(), row.as_bytes(), nodes as u64, b"\nEOF\n");
+        let mut inst = Watched::new(rows);
+        let mut sol = Watched::new(TOUR.as_bytes());
+        let mut out = Watched::new(Vec::new(rt.alloc()));
+        let answer = judged(rt.alloc(), &mut inst, &mut sol, &mut out);
+        same_at(&rt, nodes, answer, wanted);
+    }
     Ok(())
 }
