@@ -128,7 +128,8 @@ fn a_missing_file_is_a_fault_of_a_device(rt: HostRuntime) {
     let answer = answer_of(rt.alloc(), inst, Source::<File>::Missing);
     assert_eq!(rt; answer, Err(RunFault::File { file: 2, fault }));
     let answer = answer_of(rt.alloc(), sol, Source::<File>::Missing);
-    assert_eq!(rt; answer, Err(RunFault::WrongKind));
+    assert_eq!(rt; answer, Err(RunFault::File { file: 2, fault }));
+    assert_eq!(rt; answer_of(rt.alloc(), sol, sol), Err(RunFault::WrongKind));
 }
 
 #[test]

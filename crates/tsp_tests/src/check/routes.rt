@@ -81,7 +81,7 @@ fn routes_of_a_rectangle_are_judged(rt: HostRuntime) -> Result<(), Fail> {
         let inst = rectangle(rt.alloc(), capacity, demands, depots)?;
         let sol = super::solution(rt.alloc(), words)?;
         let report = format!(in rt.alloc(); "type CVRP\nnodes 4\n{lines}")?;
-        let (answer, written) = check_texts(rt.alloc(), inst.as_bytes(), sol.as_bytes());
+        let (answer, written) = check_texts(rt.alloc(), inst.as_str(), sol.as_str());
         same_at(&rt, lines, answer, Ok(*yes));
         same_at(&rt, lines, written.as_slice(), report.as_bytes());
     }
@@ -100,7 +100,7 @@ fn routes_have_the_nodes_of_their_instance(rt: HostRuntime) -> Result<(), Fail> 
         let inst = rectangle(rt.alloc(), "8", FOURS, "1 -1")?;
         let sol = format!(in rt.alloc(); "TYPE : TOUR\n{head}\nTOUR_SECTION\n2 3 -1 4\nEOF\n")?;
         let report = format!(in rt.alloc(); "type CVRP\nnodes 4\n{lines}")?;
-        let (answer, written) = check_texts(rt.alloc(), inst.as_bytes(), sol.as_bytes());
+        let (answer, written) = check_texts(rt.alloc(), inst.as_str(), sol.as_str());
         same_at(&rt, head, answer, Ok(*yes));
         same_at(&rt, head, written.as_slice(), report.as_bytes());
     }
@@ -109,9 +109,10 @@ fn routes_have_the_nodes_of_their_instance(rt: HostRuntime) -> Result<(), Fail> 
 
 #[test]
 fn one_node_is_too_few_for_routes(rt: HostRuntime) -> Result<(), Fail> {
-    let inst = "TYPE : CVRP\nDIMENSION : 1\nCAPACITY : 8\nDISTANCE : 200\nEDGE_WEIGHT_TYPE : EUC_2D\nNODE_COORD_SECTION\n1 0 0\nDEMAND_SECTION\n1 0\nDEPOT_SECTION\n1 -1\nEOF\n";
+    let inst =
+        "TYPE : CVRP\nDIMENSION : 1\nCAPACITY : 8\nDISTANCE : 200\nEDGE_WEIGHT_TYPE : EUC_2D\nNODE_COORD_SECTION\n1 0 0\nDEMAND_SECTION\n1 0\nDEPOT_SECTION\n1 -1\nEOF\n";
     let sol = super::solution(rt.alloc(), "")?;
-    let (answer, written) = check_texts(rt.alloc(), inst.as_bytes(), sol.as_bytes());
+    let (answer, written) = check_texts(rt.alloc(), inst, sol.as_str());
     let report = "type CVRP\nnodes 1\nnot judged DISTANCE\nno TooFewNodes\n";
     same_at(&rt, "answer", answer, Ok(false));
     same_at(&rt, "report", written.as_slice(), report.as_bytes());
@@ -121,7 +122,7 @@ fn one_node_is_too_few_for_routes(rt: HostRuntime) -> Result<(), Fail> {
 #[test]
 fn an_instance_is_no_plan_of_routes(rt: HostRuntime) -> Result<(), Fail> {
     let inst = rectangle(rt.alloc(), "8", FOURS, "1 -1")?;
-    let (answer, written) = check_texts(rt.alloc(), inst.as_bytes(), inst.as_bytes());
+    let (answer, written) = check_texts(rt.alloc(), inst.as_str(), inst.as_str());
     let report = "type CVRP\nnodes 4\nno NotASolution\n";
     same_at(&rt, "answer", answer, Ok(false));
     same_at(&rt, "report", written.as_slice(), report.as_bytes());
