@@ -10,3 +10,4 @@ pub mod RouteReasons
 pub mod RouteVerdicts
 pub mod TourReasons
 pub mod TourVerdicts
+pub mod Certificates
