@@ -8,10 +8,12 @@
 mod check;
 mod command;
 mod ending;
+mod grammar;
 mod source;
 mod stored;
 #[cfg(test)]
 mod tests;
+mod words;
 
 use check::{check, check_stored};
 use command::{Command, command_of};
