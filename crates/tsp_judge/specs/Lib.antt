@@ -3,3 +3,5 @@ pub use Rattle.tsp_stream.specs.Turn
 pub mod Judged
 pub mod Report
 pub mod Run
+pub mod Show
+pub mod ShowRun

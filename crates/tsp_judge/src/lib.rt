@@ -5,9 +5,12 @@ mod check;
 mod fault;
 mod reason;
 mod report;
+mod show;
+mod show_text;
 
 pub use check::run_check;
 pub use fault::RunFault;
+pub use show::run_show;
 pub use tsp_fields::EndFault;
 pub use tsp_read::{LineFault, ReadFault};
 pub use tsp_stream::{Watched, WriteFault};

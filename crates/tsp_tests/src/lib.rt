@@ -30,6 +30,8 @@ mod reader;
 #[cfg(test)]
 mod reading;
 #[cfg(test)]
+mod show;
+#[cfg(test)]
 mod texts;
 #[cfg(test)]
 mod verdicts;
