@@ -3,4 +3,5 @@ pub mod Command
 pub mod Ending
 pub mod Grammar
 pub mod Source
+pub mod Task
 pub mod Words

@@ -11,6 +11,7 @@ mod ending;
 mod grammar;
 mod source;
 mod stored;
+mod task;
 #[cfg(test)]
 mod tests;
 mod words;
