@@ -10,7 +10,7 @@ use Rattle.tsp_verdict.specs.Next.{AreNext}
 use Rattle.tsp_verdict.specs.Solution.{nodes_of}
 use Rattle.tsp_verdict.specs.Tours.{NoneUpTo}
 use Rattle.tsp_verdict.proofs.TourVerdicts.{is_walk, none_up_to_fixed, unused_first, is_yes}
-use Rattle.tsp_verdict.proofs.tour.judge_tour.Goals as goal
+use Rattle.tsp_verdict.proofs.tour.length_of_tour.Goals as goal
 
 pub next_nodes-requires : goal.next_nodes-requires
 next_nodes-requires c =
@@ -42,4 +42,4 @@ returns c =
     let way : c.is_directed-directed.result ≡ is_directed inst.kind = c.is_directed-directed.ensures ∙ ap is_directed c.kind.ensures.value in
     let next : AreNext tour c.as_slice.result.now = subst (λ (xs : List ℕ). AreNext tour xs) (sym c.as_slice.ensures.value) c.in_ok-next.ensures.1 in
     let yes = is_yes inst sol tour c.is_directed-directed.result c.fixed_pairs.result.now c.tour_length.result c.in-Ok.ensures.0 way c.fixed_pairs.ensures.value none walk (c.in_default-first_unused.ensures tour next) c.tour_length.ensures in
-    (yes.0, simp to_z-of_z yes.1, refl)
+    ((yes.0, simp to_z-of_z yes.1, refl), c.in-Ok.ensures.4)
