@@ -1,6 +1,5 @@
-pub mod Check
-pub mod Command
 pub mod Ending
+pub mod Engines
 pub mod Grammar
 pub mod Source
 pub mod Task

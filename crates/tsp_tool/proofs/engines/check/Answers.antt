@@ -1,7 +1,7 @@
 use Rattle.std.proofs.Common.{List, ℕ, Option, ap}
 use Rattle.tsp_judge.specs.Turn.{turn_of}
 use Rattle.tsp_judge.specs.Sink.{sink_of}
-use Rattle.tsp_tool.proofs.check.check.Goals as goal
+use Rattle.tsp_tool.proofs.engines.check.Goals as goal
 
 pub returns : goal.returns
 returns g c =
