@@ -2,6 +2,7 @@
 #![tactic(auto)]
 
 mod check;
+mod convert;
 mod fault;
 mod reason;
 mod report;
@@ -9,9 +10,10 @@ mod show;
 mod show_text;
 
 pub use check::run_check;
+pub use convert::run_convert;
 pub use fault::RunFault;
 pub use show::run_show;
-pub use tsp_fields::EndFault;
+pub use tsp_fields::{EndFault, RelayoutFault};
 pub use tsp_read::{LineFault, ReadFault};
 pub use tsp_stream::{Watched, WriteFault};
 pub use tsp_value::Layout;
