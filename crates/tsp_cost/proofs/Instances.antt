@@ -12,7 +12,7 @@ use Rattle.tsp_fields.specs.Fields.{Fields}
 use Rattle.tsp_fields.specs.Rules.{is_explicit}
 use Rattle.tsp_fields.specs.Valid.{IsInRange}
 use Rattle.tsp_fields.specs.Cost.{listed_cost, layout_of, distance, point_of, cost_by, cost}
-use Rattle.tsp_cost.specs.Listed.{IsListed}
+use Rattle.tsp_fields.specs.Listed.{IsListed}
 
 -- what a valid file lists
 pub lists : (f : Fields) (layout : Layout) (n : ℕ) (weights : List ℤ) → IsInRange f → f.weight_format ≡ Some (Listed layout) → f.dimension ≡ Some n → f.weights ≡ Some weights → IsListed f layout n weights

@@ -1,3 +1,4 @@
+pub mod Listed
 pub mod Mapped
 pub mod Types
 pub mod ValidFields

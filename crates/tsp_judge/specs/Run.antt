@@ -8,7 +8,7 @@ use Rattle.tsp_fields.specs.Rules.{is_instance}
 use Rattle.tsp_read.specs.Reads.{IsFile, StopsAt}
 use Rattle.tsp_verdict.specs.declared.verdict.Verdict.{Verdict}
 use Rattle.tsp_judge.specs.declared.fault.RunFault.{RunFault}
-use Rattle.tsp_judge.specs.declared.fault.RunFault.TheVariants.{File, WrongKind, Write, OutOfMemory}
+use Rattle.tsp_judge.specs.declared.fault.RunFault.TheVariants.{File, WrongKind, Write, OutOfMemory, Relayout}
 use Rattle.tsp_judge.specs.Judged.{IsVerdictOn, is_yes}
 use Rattle.tsp_judge.specs.Report.{report_of}
 
@@ -52,6 +52,7 @@ IsRun first second sink (Err (File file fault)) = IsUnwritten sink
     ⊎ ((file ≡ 2) × IsSomeFile first × StopsAt fault second))
 IsRun first second sink (Err WrongKind) = IsUnwritten sink × IsNoInstance first × IsSomeFile second
 IsRun first second sink (Err OutOfMemory) = IsUnwritten sink × IsSomeInstance first × IsSomeFile second
+IsRun first second sink (Err (Relayout fault)) = ⊥
 IsRun first second sink (Err (Write write_faults.OutOfMemory)) = ⊥
 IsRun first second sink (Err (Write write_faults.Device)) = (instance : Fields) × (verdict : Verdict)
     × IsJudged first second instance verdict × HasStopped sink (report_of instance verdict)

@@ -6,7 +6,7 @@ use Rattle.tsp_stream.specs.Sink.{Sink, IsUnwritten, HasWritten, HasStopped}
 use Rattle.tsp_fields.specs.Fields.{Fields}
 use Rattle.tsp_read.specs.Reads.{IsFile, StopsAt}
 use Rattle.tsp_judge.specs.declared.fault.RunFault.{RunFault}
-use Rattle.tsp_judge.specs.declared.fault.RunFault.TheVariants.{File, WrongKind, Write, OutOfMemory}
+use Rattle.tsp_judge.specs.declared.fault.RunFault.TheVariants.{File, WrongKind, Write, OutOfMemory, Relayout}
 use Rattle.tsp_judge.specs.Run.{IsSomeFile}
 use Rattle.tsp_judge.specs.Show.{shown}
 
@@ -17,5 +17,6 @@ IsShowRun turn sink (Ok done) = (file : Fields) × IsFile turn file × HasWritte
 IsShowRun turn sink (Err (File place fault)) = (place ≡ 1) × StopsAt fault turn × IsUnwritten sink
 IsShowRun turn sink (Err WrongKind) = ⊥
 IsShowRun turn sink (Err OutOfMemory) = IsSomeFile turn × IsUnwritten sink
+IsShowRun turn sink (Err (Relayout fault)) = ⊥
 IsShowRun turn sink (Err (Write write_faults.OutOfMemory)) = ⊥
 IsShowRun turn sink (Err (Write write_faults.Device)) = (file : Fields) × IsFile turn file × HasStopped sink (shown file)

@@ -13,8 +13,8 @@ use Rattle.tsp_value.specs.Place.{place_of}
 use Rattle.tsp_value.specs.Limits.{most_weight}
 use Rattle.tsp_fields.specs.Valid.{IsWithin}
 use Rattle.tsp_fields.specs.Cost.{weight_at, listed_cost}
-use Rattle.tsp_cost.specs.Costs.{IsEven}
-use Rattle.tsp_cost.specs.Listed.{IsUnlisted}
+use Rattle.tsp_value.specs.Even.{IsEven}
+use Rattle.tsp_fields.specs.Listed.{IsUnlisted}
 
 -- the cost of a cell is the weight at its place
 pub cost_of_cell : (layout : Layout) (n : ℕ) (weights : List ℤ) (i j place : ℕ) → place_of layout n (i, j) ≡ Some place → listed_cost layout n weights i j ≡ slice_index_or weights place (pos 0)
