@@ -41,6 +41,11 @@ abbrev pub IsFaultOf : ErrorKind → JobFault → Type 0
 IsFaultOf kind (Refused refusal) = (kind_of refusal ≡ kind) × (kind ≢ kinds.OutOfMemory)
 IsFaultOf kind OutOfMemory = kind ≡ kinds.OutOfMemory
 
+-- the words are refused for another cause; out of memory may stand in its place
+abbrev pub IsRefused : JobFault → Type 0
+IsRefused (Refused refusal) = kind_of refusal ≢ kinds.OutOfMemory
+IsRefused OutOfMemory = ⊤
+
 -- what clap states of these words: with no fault a job, and else one of the first faults. Out of memory may stand in place of either.
 abbrev pub GivesJob : List Text → Result Job JobFault → Type 0
 GivesJob words (Ok job) = (fault_of tsp words ≡ []) × IsJobOf (subcommand_of tsp words) job

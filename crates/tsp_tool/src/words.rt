@@ -1,13 +1,16 @@
 //! What the words of the command line ask for.
 
 ghost use Rattle.std.specs.Prelude.{◌≡◌, ◌≢◌, IfOk, map};
+ghost use Rattle.std.specs.IoError.{error_kind};
 ghost use Rattle.clap.specs.Words.{first_of, found_of, kind_of, rows_of};
-ghost use Rattle.tsp_tool.specs.Words.{GivesJob, IsFaultOf, IsVerbOf, HasValues, text_in};
+ghost use Rattle.tsp_tool.specs.Words.{GivesJob, IsFaultOf, IsRefused, IsVerbOf, HasValues, text_in};
 
 use crate::grammar;
 use clap::error::ErrorKind;
 use clap::{ArgMatches, Error as Refusal};
 use std::alloc::{AllocError, Global};
+use std::io;
+use std::io::ErrorKind as IoKind;
 use thiserror::Error;
 
 /// What the program does with its files.
@@ -101,6 +104,31 @@ pub fn job_of(alloc: Global, words: &[&str]) -> Result<Job, JobFault>
         Ok(job) => Ok(job),
         Err(AllocError) => Err(JobFault::OutOfMemory),
     }
+}
+
+/// Why words that can't be had are no job: out of memory, or a word is no text, which is told as
+/// `clap` tells that words are refused.
+pub(crate) fn unread(alloc: Global, error: &io::Error) -> JobFault
+    ensures memory { error_kind error.now ≡ IoKind.OutOfMemory → result ≡ JobFault.OutOfMemory }
+    ensures no_text { error_kind error.now ≢ IoKind.OutOfMemory → IsRefused result }
+{
+    if let IoKind::OutOfMemory = error.kind() {
+        return JobFault::OutOfMemory;
+    }
+    match no_text(alloc) {
+        Ok(refusal) => JobFault::Refused(refusal),
+        Err(AllocError) => JobFault::OutOfMemory,
+    }
+}
+
+/// What `clap` says where a word is no text.
+fn no_text(alloc: Global) -> Result<Refusal, AllocError>
+    ensures { IfOk result (λ refusal. kind_of refusal ≡ ErrorKind.InvalidValue) }
+{
+    grammar::tsp(alloc)?.error(
+        ErrorKind::InvalidValue,
+        "invalid UTF-8 was detected in one or more arguments",
+    )
 }
 
 /// The job of a verb with the values that were found for its arguments.
