@@ -1,8 +1,8 @@
 -- Weights in another layout.
 use Rattle.std.proofs.Common.{◌≡◌, ◌≢◌, ℕ, ◌+◌, ◌-◌, ◌<◌, ◌≤◌, Bool, true, false, List, [], ◌∷◌, ◌++◌, length, map, take, Option, Some, None, refl, sym, ap, subst, ◌∙◌, inl, inr, ⊎_elim, arith}
-use Rattle.std.specs.Prelude.{nat_lt, nat_le, is_some, unwrap_or, slice_index_or as get_or, ◌⊎◌, IsTrue, ℤ, pos}
+use Rattle.std.specs.Prelude.{is_some, unwrap_or, slice_index_or as get_or, ◌⊎◌, ℤ, pos}
 use Rattle.std.specs.Option.{option_map, option_or}
-use Rattle.std.specs.List.{All, flat_map, range_with_len}
+use Rattle.std.specs.List.{All, flat_map}
 use Rattle.std.proofs.lemmas.Int.{ints}
 use Rattle.std.proofs.lemmas.Bool.{cases_lt, false≢true, le-leb}
 use Rattle.std.proofs.lemmas.Bool.Decides.{nat_tests}
@@ -35,7 +35,7 @@ pub cell_more : {X Y : Type 0} (f : X → Y) (xs : List X) (before items : List 
     → items ≡ before ++ map f (take k xs) → items ++ y ∷ [] ≡ before ++ map f (take (k + 1) xs)
 cell_more f xs before items k x y lt here value so_far =
     let step : map f (take (k + 1) xs) ≡ map f (take k xs) ++ y ∷ [] =
-        ap (map f) (take_more xs k x lt ∙ ap (λ z. take k xs ++ z ∷ []) here) ∙ map-append f (take k xs) (x ∷ []) ∙ ap (λ z. map f (take k xs) ++ z ∷ []) (sym value) in
+    ap (map f) (take_more xs k x lt ∙ ap (λ z. take k xs ++ z ∷ []) here) ∙ map-append f (take k xs) (x ∷ []) ∙ ap (λ z. map f (take k xs) ++ z ∷ []) (sym value) in
     ap (λ ys. ys ++ y ∷ []) so_far ∙ append_assoc before (map f (take k xs)) (y ∷ []) ∙ ap (λ ys. before ++ ys) (sym step)
 
 -- one line more

@@ -1,6 +1,6 @@
 -- What holds of every valid file.
-use Rattle.std.proofs.Common.{◌≡◌, ◌≢◌, ℕ, suc, ◌+◌, ◌*◌, ◌≤◌, Bool, true, false, cond, List, [], ◌∷◌, length, Option, None, Some, refl, sym, ap, subst, ◌∙◌, inl, inr, arith}
-use Rattle.std.specs.Prelude.{not, ◌&&◌, ◌||◌, ◌==◌, nat_le, IsTrue, IsSome, is_some, ◌⊎◌, ℤ, pos, neg_ℤ, ◌≤ℤ◌, int_le, slice_index_or as get_or}
+use Rattle.std.proofs.Common.{◌≡◌, ℕ, suc, ◌*◌, Bool, true, false, cond, List, [], ◌∷◌, length, Option, None, Some, refl, sym, ap, subst, ◌∙◌, inl, inr, arith}
+use Rattle.std.specs.Prelude.{not, ◌&&◌, ◌||◌, ◌==◌, nat_le, IsTrue, IsSome, is_some, ◌⊎◌, ℤ, pos, neg_ℤ, int_le, slice_index_or as get_or}
 use Rattle.std.specs.Option.{option_map, option_or}
 use Rattle.std.specs.Str.{bytes_eq}
 use Rattle.std.specs.List.{All, AllByRecursion, Contains, find, list_all, sum_by}
@@ -25,7 +25,7 @@ use Rattle.tsp_value.specs.Words.{field_word}
 use Rattle.tsp_value.specs.Words.{fields_in_order, field_found}
 use Rattle.tsp_fields.specs.Fields.{Fields}
 use Rattle.tsp_fields.specs.Validity.{if_there, is_from_to, is_within, is_node, with_dimension, is_by_node, is_point, is_demand, are_depots, is_pair, are_fixed, are_weights, is_tour, are_tours, fits, first_failing, bad_field}
-use Rattle.tsp_fields.specs.Rules.{Standing, standing_of, count_of, is_instance, is_routing, is_tours, is_certificate, is_explicit, is_function, lists_weights, has_distances, is_asked, is_there, asked_in_order, has_wrong_format, is_count, has_wrong_count, has_row_or_column, end_fault, format_or_count, fault_of}
+use Rattle.tsp_fields.specs.Rules.{standing_of, count_of, is_instance, is_routing, is_tours, is_certificate, is_explicit, is_function, lists_weights, is_there, asked_in_order, has_wrong_format, is_count, has_wrong_count, has_row_or_column, end_fault, format_or_count, fault_of}
 use Rattle.tsp_fields.specs.Valid.{IsFromTo, IsWithin, IsByNode, IsPoint, IsDemand, IsPairOf, IsNodeList, AreDepots, AreFixed, AreWeights, AreTours, IsInRange, HasInstance, HasRouting, HasPotentials}
 
 -- ---- tests that hold

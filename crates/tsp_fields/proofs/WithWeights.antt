@@ -1,6 +1,6 @@
 -- A valid file stays valid where its format and its weights change together.
 use Rattle.std.proofs.Common.{◌≡◌, ℕ, suc, zero, ◌+◌, ◌-◌, ◌*◌, ◌/◌, ◌≤◌, Bool, true, false, cond, List, [], ◌∷◌, length, Option, None, Some, refl, sym, ap, subst, ◌∙◌, arith}
-use Rattle.std.specs.Prelude.{IsSome, unwrap_or, not, ◌&&◌, ◌==◌, nat_le, ℤ, pos, neg_ℤ, ◌≤ℤ◌, int_le}
+use Rattle.std.specs.Prelude.{IsSome, unwrap_or, not, ◌&&◌, nat_le, ℤ, pos, neg_ℤ, int_le}
 use Rattle.std.specs.Option.{option_map, option_or}
 use Rattle.std.specs.List.{All, list_all}
 use Rattle.std.proofs.lemmas.Bool.{false≢true, le-leb, eq-eqb}
@@ -21,7 +21,7 @@ use Rattle.tsp_fields.specs.declared.fault.EndFault.TheVariants.{Missing, WrongF
 use Rattle.tsp_fields.specs.declared.fault.DraftFault.TheVariants.{BadField, Rule}
 use Rattle.tsp_fields.specs.Fields.{Fields}
 use Rattle.tsp_fields.specs.Validity.{is_within, with_dimension, are_weights, fits, first_failing, bad_field}
-use Rattle.tsp_fields.specs.Rules.{Standing, standing_of, is_there, asked_in_order, is_count, has_wrong_format, has_wrong_count, end_fault, format_or_count, fault_of}
+use Rattle.tsp_fields.specs.Rules.{standing_of, is_there, asked_in_order, is_count, has_wrong_format, has_wrong_count, end_fault, format_or_count, fault_of}
 use Rattle.tsp_fields.specs.Valid.{IsWithin, AreWeights}
 use Rattle.tsp_fields.specs.Relayout.{nodes_in, with_weights}
 use Rattle.tsp_fields.proofs.ValidFields.{in_range, each_fits, no_field_missing, format_and_count, and_true}
@@ -106,12 +106,12 @@ still_valid f to old weights valid stand held filled sizes =
     let fit : with_dimension are_weights f.dimension weights ≡ true = ap (λ o. with_dimension are_weights o weights) held.dimension ∙ weights_fit to held.n weights held.few_nodes filled sizes in
     let fields : bad_field new ≡ None = none_fails (fits new) fields_in_order (each_fits_with f to weights valid fit) in
     let there : first_failing (is_there (standing_of new)) asked_in_order ≡ None =
-        as_given (λ g. first_failing (is_there (standing_of g)) asked_in_order ≡ None) f held.layout old held.format stand (no_field_missing f valid) in
+    as_given (λ g. first_failing (is_there (standing_of g)) asked_in_order ≡ None) f held.layout old held.format stand (no_field_missing f valid) in
     let format : has_wrong_format (standing_of new) ≡ false = as_given (λ g. has_wrong_format (standing_of g) ≡ false) f held.layout old held.format stand (format_and_count f valid).0 in
     let count : has_wrong_count (standing_of new) ≡ false = count_right f.dimension held.n to (length weights) held.dimension filled in
     let rest : format_or_count (standing_of new) ≡ None = ap (λ b. cond b (Some WrongFormat) (cond (has_wrong_count (standing_of new)) (Some WrongCount) None)) format ∙ ap (λ b. cond b (Some WrongCount) None) count in
     let end : end_fault (standing_of new) None ≡ None =
-        ap (λ (o : Option Field). option_or (option_map (λ field. Missing field) o) (format_or_count (standing_of new))) there ∙ rest in
+    ap (λ (o : Option Field). option_or (option_map (λ field. Missing field) o) (format_or_count (standing_of new))) there ∙ rest in
     ap (λ (o : Option Field). option_or (option_map (λ field. BadField field) o) (option_map (λ fault. Rule fault) (end_fault (standing_of new) None))) fields
     ∙ ap (λ (o : Option EndFault). option_map (λ fault. Rule fault) o) end
 

@@ -4,7 +4,6 @@
 mod fault;
 mod file;
 mod laws;
-
 mod relayout;
 mod rules;
 mod table;

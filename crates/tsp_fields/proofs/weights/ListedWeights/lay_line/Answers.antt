@@ -1,4 +1,5 @@
-use Rattle.std.proofs.Common.{◌<◌, ◌++◌, length, map, ap, sym, subst, ◌∙◌, arith}
+use Rattle.std.proofs.Common.{◌<◌, List, ◌++◌, length, map, ap, sym, subst, ◌∙◌, arith}
+use Rattle.std.specs.Prelude.{ℤ}
 use Rattle.std.proofs.lemmas.List.{take_all}
 use Rattle.tsp_value.specs.Cells.{cells_of_line}
 use Rattle.tsp_value.specs.Limits.{most_weight}
@@ -15,8 +16,8 @@ cells-preserved c =
     let cell = c.line_cell-i.result in
     let inside : c.cells.index < length cells = omega (arith, c.line_len-index-end.ensures.count) in
     let size : IsWithin most_weight c.cost.result = subst (IsWithin most_weight) (sym c.cost.ensures) (cost_within w.layout w.nodes w.weights.now w.sizes cell.0 cell.1) in
-    c.in_ok-push.ensures.items
-    ∙ cell_more (λ pair. costs_of w pair.0 pair.1) cells _ _ c.cells.index cell _ inside (c.line_cell-i.ensures.value cell) (weight_read c.cost.result size ∙ c.cost.ensures) c.cells.invariant
+    ◌∙◌ {A = List ℤ} c.in_ok-push.ensures.items
+    (cell_more (λ pair. costs_of w pair.0 pair.1) cells _ _ c.cells.index cell _ inside (c.line_cell-i.ensures.value cell) (weight_read c.cost.result size ∙ c.cost.ensures) c.cells.invariant)
 
 pub returns : goal.returns
 returns c =
