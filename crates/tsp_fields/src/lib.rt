@@ -8,6 +8,7 @@ mod relayout;
 mod rules;
 mod table;
 mod validity;
+mod weights;
 
 pub use fault::{DraftFault, EndFault, RelayoutFault};
 pub use file::{Draft, File};
