@@ -39,6 +39,7 @@ Answers sink instance verdict (Err (Write write_faults.Device)) = HasStopped sin
 Answers sink instance verdict (Err (Write write_faults.OutOfMemory)) = ⊥
 Answers sink instance verdict (Err (File file fault)) = ⊥
 Answers sink instance verdict (Err WrongKind) = ⊥
+Answers sink instance verdict (Err (Relayout fault)) = ⊥
 
 -- What the check answers. At Ok the whole report was written, and the answer is whether the verdict is a yes. The first
 -- file, in order, that isn't one decides, later ones aren't read, and then nothing is written; then the first file's TYPE
