@@ -1,5 +1,5 @@
 -- How a run of the program ends: its exit status, and what goes to standard error.
-use Rattle.std.specs.Prelude.{ℕ, List, [], ◌++◌, ◌∷◌, true, false, Option, None, Some, Ok, Err, IfSome, codes}
+use Rattle.std.specs.Prelude.{◌≡◌, ℕ, List, [], ◌++◌, ◌∷◌, true, false, Option, None, Some, Ok, Err, IfSome, codes}
 use Rattle.std.specs.Io.KnownBytes.{Appends, Keeps}
 use Rattle.tsp_judge.specs.declared.ReadFault.TheVariants as read_faults
 use Rattle.tsp_judge.specs.declared.WriteFault.TheVariants as write_faults
@@ -38,13 +38,14 @@ status_of (Ended (Ok true)) = 0
 status_of (Ended (Ok false)) = 1
 status_of (Ended (Err fault)) = status_of_fault fault
 
--- an answer has no line: what it says is on standard output
-abbrev pub line_of : Ending → Option Line
-line_of (NoJob (job_faults.Refused refusal)) = Some (lines.Refusal refusal)
-line_of (NoJob job_faults.OutOfMemory) = Some lines.OutOfMemory
-line_of (NoTask fault) = Some (lines.NoTask fault)
-line_of (Ended (Ok answer)) = None
-line_of (Ended (Err fault)) = Some (lines.Fault fault)
+-- the line of an ending; an answer has none, since what it says is on standard output
+abbrev pub IsLineOf : Ending → Option Line → Type 0
+IsLineOf (NoJob (job_faults.Refused refusal)) (Some (lines.Refusal told)) = told.now ≡ refusal
+IsLineOf (NoJob job_faults.OutOfMemory) line = line ≡ Some lines.OutOfMemory
+IsLineOf (NoTask fault) line = line ≡ Some (lines.NoTask fault)
+IsLineOf (Ended (Ok answer)) line = line ≡ None
+IsLineOf (Ended (Err fault)) line = line ≡ Some (lines.Fault fault)
+IsLineOf (NoJob (job_faults.Refused refusal)) _ = ⊥
 
 -- a line of this program's own, with its end
 abbrev pub ended : List ℕ → Option (List ℕ)
@@ -58,7 +59,10 @@ line_text (lines.NoTask UnknownLayout) = ended (codes "unknown layout")
 line_text (lines.NoTask MissingPath) = ended (codes "missing path")
 line_text (lines.Fault fault) = None
 
--- the line is written, where there is one
-abbrev pub Tells : Option Line → Option (List ℕ) → Option (List ℕ) → Type 0
-Tells None old new = Keeps old new
-Tells (Some line) old new = IfSome (line_text line) (Appends old new)
+-- the ending's line is written, where it has one
+abbrev pub IsWritten : Option Line → Option (List ℕ) → Option (List ℕ) → Type 0
+IsWritten None old new = Keeps old new
+IsWritten (Some line) old new = IfSome (line_text line) (Appends old new)
+
+abbrev pub Tells : Ending → Option (List ℕ) → Option (List ℕ) → Type 0
+Tells ending old new = (line : Option Line) × IsLineOf ending line × IsWritten line old new

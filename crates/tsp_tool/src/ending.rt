@@ -1,7 +1,7 @@
 //! How a run of the program ends.
 
 ghost use Rattle.std.specs.Prelude.{◌≡◌, OnOk};
-ghost use Rattle.tsp_tool.specs.Ending.{status_of, line_of, Tells};
+ghost use Rattle.tsp_tool.specs.Ending.{IsLineOf, Tells, status_of, status_of_fault};
 
 use crate::task::TaskFault;
 use crate::words::JobFault;
@@ -23,7 +23,7 @@ pub(crate) enum Ending {
 }
 
 /// What goes to standard error.
-#[derive(Debug)]
+#[derive(Debug, Drop)]
 pub(crate) enum Line<'a> {
     /// Why `clap` refuses the words, or the help that they ask for.
     Refusal(&'a Refusal),
@@ -106,7 +106,7 @@ fn status_of_fault(fault: RunFault) -> u8
 
 /// What goes to standard error, or `None` where nothing goes there.
 pub(crate) fn line_of(ending: &Ending) -> Option<Line<'_>>
-    ensures { result ≡ line_of ending.now }
+    ensures { IsLineOf ending.now result }
 {
     match ending {
         Ending::NoJob(JobFault::Refused(refusal)) => Some(Line::Refusal(refusal)),
@@ -119,7 +119,7 @@ pub(crate) fn line_of(ending: &Ending) -> Option<Line<'_>>
 
 /// Tells how a run ended, where that wants a line.
 pub(crate) fn tell<W: Write>(ending: &Ending, errors: &mut W) -> io::Result<()>
-    ensures { OnOk result (Tells (line_of ending.now) (W.contents errors.old) (W.contents errors.new)) }
+    ensures { OnOk result (Tells ending.now (W.contents errors.old) (W.contents errors.new)) }
 {
     match line_of(ending) {
         Some(line) => write!(errors, "{line}"),
