@@ -72,6 +72,7 @@ pub(crate) fn tsp<'a>(alloc: Global) -> Result<Command<'a>, AllocError>
 {
     Command::new(alloc, "tsp")
         .no_binary_name(true)
+        .bin_name("tsp")?
         .version(VERSION)
         .about(ABOUT)
         .after_help(NOTES)
