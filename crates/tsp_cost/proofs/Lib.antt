@@ -1,6 +1,5 @@
 pub mod Distances
 pub mod Instances
 pub mod Lengths
-pub mod Listed
 pub mod Sums
 pub mod Walks

@@ -37,7 +37,7 @@ impl Instance {
     ghost use Rattle.tsp_fields.specs.Rules.{is_instance};
     ghost use Rattle.tsp_value.specs.declared.kinds.WeightKind.TheVariants.{Explicit};
     ghost use Rattle.tsp_cost.specs.declared.fault.CostFault.TheVariants.{NotInstance};
-    ghost use Rattle.tsp_cost.specs.Listed.{IsListed};
+    ghost use Rattle.tsp_fields.specs.Listed.{IsListed};
     ghost use Rattle.tsp_cost.specs.Views.{Shows};
 
     /// The instance that a file is, or why it is none, and the file itself, unchanged.

@@ -8,7 +8,7 @@ ghost use Rattle.tsp_value.specs.Limits.{most_matrix_nodes, most_weight};
 ghost use Rattle.tsp_fields.specs.Valid.{IsWithin};
 ghost use Rattle.tsp_fields.specs.Cost.{listed_cost};
 ghost use Rattle.tsp_cost.specs.Costs.{IsEven};
-ghost use Rattle.tsp_cost.specs.Listed.{IsUnlisted};
+ghost use Rattle.tsp_fields.specs.Listed.{IsUnlisted};
 
 use crate::costs::{Costs, Symmetric};
 use tsp_value::{Layout, cells_are_the_listed_pairs, only_cells_have_places};

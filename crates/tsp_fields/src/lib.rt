@@ -4,11 +4,13 @@
 mod fault;
 mod file;
 mod laws;
+mod relayout;
 mod rules;
 mod table;
 mod validity;
+mod weights;
 
-pub use fault::{DraftFault, EndFault};
+pub use fault::{DraftFault, EndFault, RelayoutFault};
 pub use file::{Draft, File};
 pub use laws::{valid_fields_are_in_range, valid_files_are_complete};
 pub use rules::end_fault;

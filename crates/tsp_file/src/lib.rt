@@ -5,7 +5,7 @@ mod laws;
 mod writer;
 
 pub use laws::a_valid_text_is_short;
-pub use tsp_fields::{Draft, DraftFault, EndFault, File, end_fault, is_kept};
+pub use tsp_fields::{Draft, DraftFault, EndFault, File, RelayoutFault, end_fault, is_kept};
 pub use tsp_stream::{Watched, WriteFault, write_text};
 pub use tsp_value::{
     CoordKind, DisplayKind, Field, Keyword, Kind, Layout, WeightFormat, WeightKind, Word,

@@ -18,7 +18,7 @@ use Rattle.tsp_verdict.specs.declared.verdict.Verdict.{Verdict}
 use Rattle.tsp_verdict.specs.declared.verdict.Verdict.TheVariants as verdicts
 use Rattle.tsp_verdict.specs.Bounded.{IsVerdict}
 use Rattle.tsp_judge.specs.declared.fault.RunFault.{RunFault}
-use Rattle.tsp_judge.specs.declared.fault.RunFault.TheVariants.{File, WrongKind, Write, OutOfMemory}
+use Rattle.tsp_judge.specs.declared.fault.RunFault.TheVariants.{File, WrongKind, Write, OutOfMemory, Relayout}
 use Rattle.tsp_judge.specs.Judged.{is_yes}
 use Rattle.tsp_judge.specs.Report.{report_of, IsBoundSized, IsSized}
 use Rattle.tsp_judge.specs.Run.{Answers}
@@ -70,6 +70,7 @@ answered first second third sink instance verdict (Err (Write write_faults.Devic
 answered first second third sink instance verdict (Err (Write write_faults.OutOfMemory)) is j a = absurd a
 answered first second third sink instance verdict (Err (File file fault)) is j a = absurd a
 answered first second third sink instance verdict (Err WrongKind) is j a = absurd a
+answered first second third sink instance verdict (Err (Relayout fault)) is j a = absurd a
 
 -- what a yes says
 pub a_yes : (first second third : Turn) (sink : Sink) (instance : Fields) (verdict : Verdict) → IsJudged first second third instance verdict → true ≡ is_yes verdict

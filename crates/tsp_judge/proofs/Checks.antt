@@ -12,7 +12,7 @@ use Rattle.tsp_read.specs.Reads.{IsFile, most_taken}
 use Rattle.tsp_verdict.specs.declared.verdict.Verdict.{Verdict}
 use Rattle.tsp_verdict.specs.declared.verdict.Verdict.TheVariants as verdicts
 use Rattle.tsp_judge.specs.declared.fault.RunFault.{RunFault}
-use Rattle.tsp_judge.specs.declared.fault.RunFault.TheVariants.{File, WrongKind, Write, OutOfMemory}
+use Rattle.tsp_judge.specs.declared.fault.RunFault.TheVariants.{File, WrongKind, Write, OutOfMemory, Relayout}
 use Rattle.tsp_judge.specs.Judged.{IsVerdictBy, IsVerdictOn}
 use Rattle.tsp_judge.specs.Report.{IsBoundSized, IsSized}
 use Rattle.tsp_judge.specs.Run.{IsJudged, IsRun, Answers}
@@ -60,3 +60,4 @@ answered first second sink instance verdict (Err (Write faults.Device)) is j a =
 answered first second sink instance verdict (Err (Write faults.OutOfMemory)) is j a = absurd a
 answered first second sink instance verdict (Err (File file fault)) is j a = absurd a
 answered first second sink instance verdict (Err WrongKind) is j a = absurd a
+answered first second sink instance verdict (Err (Relayout fault)) is j a = absurd a

@@ -16,7 +16,7 @@ use Rattle.tsp_verdict.specs.Solution.{tours_of}
 use Rattle.tsp_verdict.specs.Certificate.{IsBoundBy}
 use Rattle.tsp_verdict.specs.Bounded.{IsVerdict, BoundsTours}
 use Rattle.tsp_judge.specs.declared.fault.RunFault.{RunFault}
-use Rattle.tsp_judge.specs.declared.fault.RunFault.TheVariants.{File, WrongKind, Write, OutOfMemory}
+use Rattle.tsp_judge.specs.declared.fault.RunFault.TheVariants.{File, WrongKind, Write, OutOfMemory, Relayout}
 use Rattle.tsp_judge.specs.Judged.{is_yes}
 use Rattle.tsp_judge.specs.Report.{report_of}
 use Rattle.tsp_judge.specs.Run.{IsSomeFile}
@@ -57,6 +57,7 @@ IsBoundRun first second third sink (Err (File file fault)) = IsUnwritten sink
     ⊎ ((file ≡ 3) × IsSomeFile first × IsSomeFile second × StopsAt fault third))
 IsBoundRun first second third sink (Err WrongKind) = IsUnwritten sink × IsNoBounded first × IsSomeFile second × IsSomeFile third
 IsBoundRun first second third sink (Err OutOfMemory) = IsUnwritten sink × IsSomeBounded first × IsSomeFile second × IsSomeFile third
+IsBoundRun first second third sink (Err (Relayout fault)) = ⊥
 IsBoundRun first second third sink (Err (Write write_faults.OutOfMemory)) = ⊥
 IsBoundRun first second third sink (Err (Write write_faults.Device)) = (instance : Fields) × (verdict : Verdict)
     × IsJudged first second third instance verdict × HasStopped sink (report_of instance verdict)

@@ -1,6 +1,10 @@
 pub use Rattle.tsp_stream.specs.Sink
 pub use Rattle.tsp_stream.specs.Turn
+pub use Rattle.tsp_value.specs.Layout
 pub mod BoundRun
+pub mod ConvertRun
 pub mod Judged
 pub mod Report
 pub mod Run
+pub mod Show
+pub mod ShowRun

@@ -4,6 +4,7 @@ use Rattle.std.specs.List.{concat}
 use Rattle.std.specs.Option.{option_map_or}
 use Rattle.std.specs.Ordering.{int_eq}
 use Rattle.std.specs.Fmt.{signed_decimal}
+use Rattle.tsp_value.specs.declared.kinds.Kind.{Kind}
 use Rattle.tsp_value.specs.Words.{kind_word}
 use Rattle.tsp_fields.specs.Fields.{Fields}
 use Rattle.tsp_verdict.specs.declared.verdict.Reason.{Reason}
@@ -17,8 +18,14 @@ use Rattle.tsp_verdict.specs.declared.verdict.Verdict.TheVariants.{Tour, Routes,
 abbrev pub not_judged : List (List ℕ × List ℕ) → List ℕ
 not_judged others = concat (map (λ other. codes "not judged " ++ other.0 ++ codes "\n") others)
 
+abbrev pub type_line : Option Kind → List ℕ
+type_line kind = codes "type " ++ option_map_or kind_word kind [] ++ codes "\n"
+
+abbrev pub nodes_line : ℕ → List ℕ
+nodes_line n = codes "nodes " ++ decimal n ++ codes "\n"
+
 abbrev pub instance_lines : Fields → List ℕ
-instance_lines f = codes "type " ++ option_map_or kind_word f.kind [] ++ codes "\nnodes " ++ decimal (unwrap_or f.dimension 0) ++ codes "\n" ++ not_judged f.others
+instance_lines f = type_line f.kind ++ nodes_line (unwrap_or f.dimension 0) ++ not_judged f.others
 
 -- ---- the verdict
 

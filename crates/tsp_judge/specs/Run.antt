@@ -8,7 +8,7 @@ use Rattle.tsp_fields.specs.Rules.{is_instance}
 use Rattle.tsp_read.specs.Reads.{IsFile, StopsAt}
 use Rattle.tsp_verdict.specs.declared.verdict.Verdict.{Verdict}
 use Rattle.tsp_judge.specs.declared.fault.RunFault.{RunFault}
-use Rattle.tsp_judge.specs.declared.fault.RunFault.TheVariants.{File, WrongKind, Write, OutOfMemory}
+use Rattle.tsp_judge.specs.declared.fault.RunFault.TheVariants.{File, WrongKind, Write, OutOfMemory, Relayout}
 use Rattle.tsp_judge.specs.Judged.{IsVerdictOn, is_yes}
 use Rattle.tsp_judge.specs.Report.{report_of}
 
@@ -39,6 +39,7 @@ Answers sink instance verdict (Err (Write write_faults.Device)) = HasStopped sin
 Answers sink instance verdict (Err (Write write_faults.OutOfMemory)) = ⊥
 Answers sink instance verdict (Err (File file fault)) = ⊥
 Answers sink instance verdict (Err WrongKind) = ⊥
+Answers sink instance verdict (Err (Relayout fault)) = ⊥
 
 -- What the check answers. At Ok the whole report was written, and the answer is whether the verdict is a yes. The first
 -- file, in order, that isn't one decides, later ones aren't read, and then nothing is written; then the first file's TYPE
@@ -52,6 +53,7 @@ IsRun first second sink (Err (File file fault)) = IsUnwritten sink
     ⊎ ((file ≡ 2) × IsSomeFile first × StopsAt fault second))
 IsRun first second sink (Err WrongKind) = IsUnwritten sink × IsNoInstance first × IsSomeFile second
 IsRun first second sink (Err OutOfMemory) = IsUnwritten sink × IsSomeInstance first × IsSomeFile second
+IsRun first second sink (Err (Relayout fault)) = ⊥
 IsRun first second sink (Err (Write write_faults.OutOfMemory)) = ⊥
 IsRun first second sink (Err (Write write_faults.Device)) = (instance : Fields) × (verdict : Verdict)
     × IsJudged first second instance verdict × HasStopped sink (report_of instance verdict)

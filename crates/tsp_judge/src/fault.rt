@@ -1,10 +1,11 @@
 //! The faults of a run.
 
 use thiserror::Error;
+use tsp_fields::RelayoutFault;
 use tsp_read::ReadFault;
 use tsp_stream::WriteFault;
 
-/// Why a run gave no verdict.
+/// Why a run ended early.
 #[derive(Clone, Copy, Debug, PartialEq, Eq, Error)]
 pub enum RunFault {
     /// A file, counted from 1, is none.
@@ -19,4 +20,8 @@ pub enum RunFault {
     /// Out of memory for the judgement, or for the report.
     #[error("out of memory")]
     OutOfMemory,
+    /// The weights of the file can't go into the layout that is wanted, or there is no memory for
+    /// that.
+    #[error("relayout: {0}")]
+    Relayout(RelayoutFault),
 }

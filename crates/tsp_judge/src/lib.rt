@@ -4,14 +4,19 @@
 mod answer;
 mod bound_check;
 mod check;
+mod convert;
 mod fault;
 mod reason;
 mod report;
+mod show;
+mod show_text;
 
 pub use bound_check::run_bound_check;
 pub use check::run_check;
+pub use convert::run_convert;
 pub use fault::RunFault;
-pub use tsp_fields::EndFault;
+pub use show::run_show;
+pub use tsp_fields::{EndFault, RelayoutFault};
 pub use tsp_read::{LineFault, ReadFault};
 pub use tsp_stream::{Watched, WriteFault};
 pub use tsp_value::Layout;

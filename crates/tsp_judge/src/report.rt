@@ -1,13 +1,13 @@
 //! The text of a report.
 
 ghost use Rattle.std.specs.Prelude.{◌≡◌, ◌++◌, ◌≤◌, ◌^◌, ◌-ℤ◌, IfOk, OnOk, Some, map, unsigned_abs};
-ghost use Rattle.tsp_judge.specs.Report.{report_of, instance_lines, not_judged, verdict_lines, bound_lines, gap_lines, IsBoundSized, IsSized};
+ghost use Rattle.tsp_judge.specs.Report.{report_of, instance_lines, type_line, nodes_line, not_judged, verdict_lines, bound_lines, gap_lines, IsBoundSized, IsSized};
 
 use crate::reason::push_reason;
 use itoa::{Buffer, Integer};
 use std::alloc::{AllocError, Global};
 use tsp_fields::File;
-use tsp_value::Word;
+use tsp_value::{Kind, Word};
 use tsp_verdict::Verdict;
 
 /// The report on an instance, line by line.
@@ -29,16 +29,34 @@ pub(crate) fn report_text(
 fn push_instance(text: &mut Vec<u8>, instance: &File) -> Result<(), AllocError>
     ensures { OnOk result (text.new.items ≡ text.old.items ++ instance_lines instance.now) }
 {
-    text.extend_from_slice(b"type ")?;
-    text.extend_from_slice(instance.kind().word().as_bytes())?;
-    text.extend_from_slice(b"\nnodes ")?;
-    push_number(text, instance.dimension().unwrap_or(0))?;
-    text.extend_from_slice(b"\n")?;
+    push_type(text, instance.kind())?;
+    push_nodes(text, instance.dimension().unwrap_or(0))?;
     push_others(text, instance.others())
 }
 
+/// Appends the line of TYPE.
+pub(crate) fn push_type(text: &mut Vec<u8>, kind: Kind) -> Result<(), AllocError>
+    ensures { OnOk result (text.new.items ≡ text.old.items ++ type_line (Some kind)) }
+{
+    text.extend_from_slice(b"type ")?;
+    text.extend_from_slice(kind.word().as_bytes())?;
+    text.extend_from_slice(b"\n")
+}
+
+/// Appends the line of a number of nodes.
+pub(crate) fn push_nodes(text: &mut Vec<u8>, nodes: u32) -> Result<(), AllocError>
+    ensures { OnOk result (text.new.items ≡ text.old.items ++ nodes_line nodes) }
+{
+    text.extend_from_slice(b"nodes ")?;
+    push_number(text, nodes)?;
+    text.extend_from_slice(b"\n")
+}
+
 /// Appends a line for each line of an unknown keyword.
-fn push_others(text: &mut Vec<u8>, others: &[(Vec<u8>, Vec<u8>)]) -> Result<(), AllocError>
+pub(crate) fn push_others(
+    text: &mut Vec<u8>,
+    others: &[(Vec<u8>, Vec<u8>)],
+) -> Result<(), AllocError>
     ensures { OnOk result (text.new.items ≡ text.old.items
         ++ not_judged (map (λ line. (line.0.items, line.1.items)) others.now)) }
 {

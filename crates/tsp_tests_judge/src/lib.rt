@@ -4,3 +4,5 @@
 
 #[cfg(test)]
 mod check;
+#[cfg(test)]
+mod show;

@@ -1,4 +1,6 @@
-pub mod Check
-pub mod Command
 pub mod Ending
+pub mod Engines
+pub mod Grammar
 pub mod Source
+pub mod Task
+pub mod Words

@@ -1,54 +1,63 @@
 //! How a run of the program ends.
 
-ghost use Rattle.std.specs.Prelude.{◌≡◌, ◌≢◌};
-ghost use Rattle.std.specs.IoError.{error_kind};
-ghost use Rattle.tsp_tool.specs.Ending.{status_of, line_of};
+ghost use Rattle.std.specs.Prelude.{◌≡◌, OnOk};
+ghost use Rattle.tsp_tool.specs.Ending.{IsLineOf, Tells, status_of, status_of_fault};
 
+use crate::task::TaskFault;
+use crate::words::JobFault;
+use clap::Error as Refusal;
 use std::fmt::{Display, Formatter};
-use std::io::ErrorKind;
+use std::io::Write;
 use std::{fmt, io};
-use tsp_judge::{ReadFault, RunFault, WriteFault};
+use tsp_judge::{ReadFault, RelayoutFault, RunFault, WriteFault};
 
 /// How a run of the program ends.
-#[derive(Clone, Copy, Debug, PartialEq, Eq)]
+#[derive(Debug, Drop)]
 pub(crate) enum Ending {
-    /// The command line is refused: its words ask for nothing, or one of them is no text.
-    Refused,
-    /// Out of memory for the words of the command line.
-    OutOfMemory,
-    /// A check was run, and answered this.
-    Checked(Result<bool, RunFault>),
+    /// The words of the command line ask for nothing.
+    NoJob(JobFault),
+    /// What they ask for can't be begun.
+    NoTask(TaskFault),
+    /// A task was done, with this answer.
+    Ended(Result<bool, RunFault>),
 }
 
-/// A line for standard error.
-#[derive(Clone, Copy, Debug, PartialEq, Eq)]
-pub(crate) enum Line {
-    /// How the program is used.
-    Usage,
+/// What goes to standard error.
+#[derive(Debug, Drop)]
+pub(crate) enum Line<'a> {
+    /// Why `clap` refuses the words, or the help that they ask for.
+    Refusal(&'a Refusal),
     /// Out of memory for the words of the command line.
     OutOfMemory,
-    /// Why the check gave no verdict.
+    /// Why no task was begun.
+    NoTask(TaskFault),
+    /// Why a task gave no answer.
     Fault(RunFault),
 }
 
-impl Display for Line {
+impl Display for Line<'_> {
     ghost use Rattle.tsp_tool.specs.Ending.{line_text};
 
     ghost output = { line_text };
 
     fn fmt<W: fmt::Write>(&self, f: &mut Formatter<W>) -> fmt::Result {
         match self {
-            Line::Usage => f.write_str("usage: tsp check F T"),
-            Line::OutOfMemory => f.write_str("out of memory"),
-            Line::Fault(fault) => f.write(fault),
+            Line::Refusal(refusal) => f.write(*refusal),
+            Line::OutOfMemory => f.write_str("out of memory\n"),
+            Line::NoTask(TaskFault::UnknownLayout) => f.write_str("unknown layout\n"),
+            Line::NoTask(TaskFault::MissingPath) => f.write_str("missing path\n"),
+            Line::Fault(fault) => {
+                f.write(fault)?;
+                f.write_str("\n")
+            }
         }
     }
 }
 
-/// The check says yes.
+/// Done, and no verdict is a no.
 const YES: u8 = 0;
 
-/// The check says no.
+/// The verdict is a no, or a file's weights can't go into the layout.
 const NO: u8 = 1;
 
 /// A file has a fault, or the first is of the wrong kind.
@@ -63,46 +72,57 @@ const REFUSED: u8 = 4;
 /// A device failed, in or out.
 const DEVICE: u8 = 5;
 
-/// How a run ends whose words can't be had: out of memory, or a word is no text.
-pub(crate) fn ending_without_words(error: &io::Error) -> Ending
-    ensures memory { error_kind error.now ≡ ErrorKind.OutOfMemory → result ≡ Ending.OutOfMemory }
-    ensures no_text { error_kind error.now ≢ ErrorKind.OutOfMemory → result ≡ Ending.Refused }
-{
-    match error.kind() {
-        ErrorKind::OutOfMemory => Ending::OutOfMemory,
-        _ => Ending::Refused,
-    }
-}
-
 /// The exit status.
 pub(crate) fn status_of(ending: &Ending) -> u8
     ensures { result ≡ status_of ending.now }
 {
     match ending {
-        Ending::Refused => REFUSED,
-        Ending::OutOfMemory => OUT_OF_MEMORY,
-        Ending::Checked(Ok(true)) => YES,
-        Ending::Checked(Ok(false)) => NO,
-        Ending::Checked(Err(RunFault::File { file: _, fault })) => match fault {
+        Ending::NoJob(JobFault::Refused(_)) | Ending::NoTask(_) => REFUSED,
+        Ending::NoJob(JobFault::OutOfMemory) => OUT_OF_MEMORY,
+        Ending::Ended(Ok(true)) => YES,
+        Ending::Ended(Ok(false)) => NO,
+        Ending::Ended(Err(fault)) => status_of_fault(*fault),
+    }
+}
+
+/// The exit status of a task without an answer.
+fn status_of_fault(fault: RunFault) -> u8
+    ensures { result ≡ status_of_fault fault }
+{
+    match fault {
+        RunFault::File { file: _, fault } => match fault {
             ReadFault::Line { .. } | ReadFault::End(_) | ReadFault::TooLong => NOT_JUDGED,
             ReadFault::OutOfMemory => OUT_OF_MEMORY,
             ReadFault::Device => DEVICE,
         },
-        Ending::Checked(Err(RunFault::WrongKind)) => NOT_JUDGED,
-        Ending::Checked(Err(RunFault::OutOfMemory)) => OUT_OF_MEMORY,
-        Ending::Checked(Err(RunFault::Write(WriteFault::OutOfMemory))) => OUT_OF_MEMORY,
-        Ending::Checked(Err(RunFault::Write(WriteFault::Device))) => DEVICE,
+        RunFault::WrongKind => NOT_JUDGED,
+        RunFault::OutOfMemory => OUT_OF_MEMORY,
+        RunFault::Write(WriteFault::OutOfMemory) => OUT_OF_MEMORY,
+        RunFault::Write(WriteFault::Device) => DEVICE,
+        RunFault::Relayout(RelayoutFault::OutOfMemory) => OUT_OF_MEMORY,
+        RunFault::Relayout(_) => NO,
     }
 }
 
-/// The line that goes to standard error, or `None` where nothing goes there.
-pub(crate) fn line_of(ending: &Ending) -> Option<Line>
-    ensures { result ≡ line_of ending.now }
+/// What goes to standard error, or `None` where nothing goes there.
+pub(crate) fn line_of(ending: &Ending) -> Option<Line<'_>>
+    ensures { IsLineOf ending.now result }
 {
     match ending {
-        Ending::Refused => Some(Line::Usage),
-        Ending::OutOfMemory => Some(Line::OutOfMemory),
-        Ending::Checked(Ok(_)) => None,
-        Ending::Checked(Err(fault)) => Some(Line::Fault(*fault)),
+        Ending::NoJob(JobFault::Refused(refusal)) => Some(Line::Refusal(refusal)),
+        Ending::NoJob(JobFault::OutOfMemory) => Some(Line::OutOfMemory),
+        Ending::NoTask(fault) => Some(Line::NoTask(*fault)),
+        Ending::Ended(Ok(_)) => None,
+        Ending::Ended(Err(fault)) => Some(Line::Fault(*fault)),
+    }
+}
+
+/// Tells how a run ended, where that wants a line.
+pub(crate) fn tell<W: Write>(ending: &Ending, errors: &mut W) -> io::Result<()>
+    ensures { OnOk result (Tells ending.now (W.contents errors.old) (W.contents errors.new)) }
+{
+    match line_of(ending) {
+        Some(line) => write!(errors, "{line}"),
+        None => Ok(()),
     }
 }

@@ -1,63 +1,74 @@
-//! The program `tsp`, which checks solutions of TSPLIB 95 instances.
+//! The program `tsp`, which shows, converts and checks TSPLIB 95 files.
 //!
-//! `tsp check F T` judges the tour of the file `T` by the instance of the file `F`. With no words
-//! it judges the two texts that it holds itself. A report goes to standard output, a fault to
-//! standard error, and the exit status says how it went (`ending`).
+//! From the words of the command line to the end of the run: the words are a job (`words`), by the
+//! commands that the program has (`grammar`); a job is a task on files (`task`); the files are
+//! opened (`source`) and the task is done (`engines`); and how that ended is told on standard error
+//! and by the exit status (`ending`). What a task writes goes to standard output.
 #![tactic(auto)]
 
-mod check;
-mod command;
 mod ending;
+mod engines;
+mod grammar;
 mod source;
-mod stored;
+mod task;
 #[cfg(test)]
 mod tests;
+mod words;
 
-use check::{check, check_stored};
-use command::{Command, command_of};
-use ending::{Ending, ending_without_words, line_of, status_of};
+use ending::{Ending, status_of, tell};
+use engines::perform;
 use source::Source;
+use std::fs::File;
 use std::process::ExitCode;
-use std::rt::{Env, Files};
+use std::rt::Stdin;
 use std::{env, fs, io};
+use task::{Place, task_of};
+use words::{JobFault, job_of, unread};
 
 fn main(rt: HostRuntime) -> ExitCode {
     let ending = run(&rt);
-    if let Some(line) = line_of(&ending) {
-        // Where the line can't be written, the status alone tells it.
-        let _ = eprintln!(rt; "{line}");
-    }
+    // Where this can't be written, the status alone tells it.
+    let _ = tell(&ending, &mut rt.stderr());
     ExitCode::from(status_of(&ending))
 }
 
 /// Does what the words of the command line ask for.
-fn run<R: AllocGlobal + Env + Files + Print>(rt: &R) -> Ending {
+fn run(rt: &HostRuntime) -> Ending {
     let line = match words_of_line(rt) {
         Ok(line) => line,
-        Err(error) => return ending_without_words(&error),
+        Err(error) => return Ending::NoJob(unread(rt.alloc(), &error)),
     };
     let Ok(words) = line
         .iter()
+        .skip(1)
         .map(|word| word.as_str())
         .collect::<Vec<&str>>(rt.alloc())
     else {
-        return Ending::OutOfMemory;
+        return Ending::NoJob(JobFault::OutOfMemory);
     };
-    match command_of(&words) {
-        None => Ending::Refused,
-        Some(Command::Stored) => Ending::Checked(check_stored(rt.alloc(), io::writer(rt))),
-        Some(Command::Check { instance, solution }) => Ending::Checked(check(
-            rt.alloc(),
-            Source::of(fs::open(rt, instance)),
-            Source::of(fs::open(rt, solution)),
-            io::writer(rt),
-        )),
-    }
+    let job = match job_of(rt.alloc(), &words) {
+        Ok(job) => job,
+        Err(fault) => return Ending::NoJob(fault),
+    };
+    let task = match task_of(&job) {
+        Ok(task) => task,
+        Err(fault) => return Ending::NoTask(fault),
+    };
+    let opened = task.open(|place| source_at(rt, place));
+    Ending::Ended(perform(rt.alloc(), opened, rt.stdout()))
 }
 
 /// The words of the command line, the program's own name first. The error is out of memory, or a
 /// word that is no text.
-fn words_of_line<R: AllocGlobal + Env>(rt: &R) -> io::Result<Vec<String>> {
+fn words_of_line(rt: &HostRuntime) -> io::Result<Vec<String>> {
     let words = env::args(rt)?.collect(rt.alloc())?;
     Ok(words)
+}
+
+/// The file at a place, opened to be read.
+fn source_at(rt: &HostRuntime, place: Place<'_>) -> Source<Stdin, File> {
+    match place {
+        Place::Input => Source::Input(rt.stdin()),
+        Place::Path(path) => Source::of(fs::open(rt, path)),
+    }
 }

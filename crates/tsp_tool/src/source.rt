@@ -8,17 +8,18 @@ ghost use Rattle.tsp_tool.specs.Source.{remaining_of, is_missing};
 use std::io;
 use std::io::{ErrorKind, Read};
 
-/// A file that was opened, or the place of one that couldn't be. Each read of a missing one fails,
-/// so the check answers for it in its turn.
+/// Standard input, a file that was opened, or the place of one that couldn't be. Each read of a
+/// missing one fails, so the task answers for it in its turn.
 #[derive(Drop)]
-pub(crate) enum Source<F> {
+pub(crate) enum Source<I, F> {
+    Input(I),
     Opened(F),
     Missing,
 }
 
-impl<F> Source<F> {
+impl<I, F> Source<I, F> {
     /// The source that the opening of a file gives.
-    pub(crate) fn of(opened: io::Result<F>) -> Source<F>
+    pub(crate) fn of(opened: io::Result<F>) -> Source<I, F>
         ensures { MatchResult opened (λ file. result ≡ Source.Opened file) (λ _. result ≡ Source.Missing) }
     {
         match opened {
@@ -28,15 +29,17 @@ impl<F> Source<F> {
     }
 }
 
-impl<F: Read> Read for Source<F> {
-    ghost remaining = { remaining_of F.remaining };
+impl<I: Read, F: Read> Read for Source<I, F> {
+    ghost remaining = { remaining_of I.remaining F.remaining };
 
     fn read(&mut self, buf: &mut [u8]) -> io::Result<usize>
         ensures bound { ReadsAtMost result buf.new }
-        ensures bytes { ReadConsumes (remaining_of F.remaining self.old) (remaining_of F.remaining self.new) result buf.new }
+        ensures bytes { ReadConsumes (remaining_of I.remaining F.remaining self.old)
+            (remaining_of I.remaining F.remaining self.new) result buf.new }
         ensures missing { IsTrue (is_missing self.old) → IsErr result }
     {
         match self {
+            Source::Input(input) => input.read(buf),
             Source::Opened(file) => file.read(buf),
             Source::Missing => Err(io::Error::from(ErrorKind::NotFound)),
         }

@@ -1,5 +1,6 @@
 pub mod Bytes
 pub mod Cells
+pub mod Even
 pub mod Keywords
 pub mod Layout
 pub mod Limits
