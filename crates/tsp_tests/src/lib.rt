@@ -10,6 +10,10 @@ mod asserts;
 #[cfg(test)]
 mod bound;
 #[cfg(test)]
+mod bound_check;
+#[cfg(test)]
+mod bounded;
+#[cfg(test)]
 mod check;
 #[cfg(test)]
 mod cost;
