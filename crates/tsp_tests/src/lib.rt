@@ -8,6 +8,8 @@
 #[cfg(test)]
 mod bound;
 #[cfg(test)]
+mod bounded;
+#[cfg(test)]
 mod cost;
 #[cfg(test)]
 mod distance;

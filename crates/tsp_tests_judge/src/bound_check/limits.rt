@@ -1,0 +1,78 @@
+//! A certificate that never ends, and an instance of many nodes.
+
+use super::{DUALS, REPORT, THREE_NODES, TOUR, judged, reports};
+use std::alloc::{AllocError, Global};
+use std::test::Fail;
+use tsp_judge::{ReadFault, RunFault};
+use tsp_stream::Watched;
+use tsp_testing::asserts::{holds_at, same};
+use tsp_testing::devices::Flood;
+
+/// The most bytes that are taken from a reader that gives all that it is asked for.
+const MOST_TAKEN: u64 = 1_073_741_824 + 4_096;
+
+#[test]
+fn a_certificate_that_never_ends_is_left_at_the_limit(rt: HostRuntime) {
+    let mut inst = Watched::new(THREE_NODES.as_bytes());
+    let mut sol = Watched::new(TOUR.as_bytes());
+    let mut pot = Watched::new(Flood::after(b""));
+    let mut out = Watched::new(Vec::new(rt.alloc()));
+    let answer = judged(rt.alloc(), &mut inst, &mut sol, &mut pot, &mut out);
+    let fault = ReadFault::TooLong;
+    same(&rt, answer, Err(RunFault::File { file: 3, fault }));
+    let given = pot.into_inner().given();
+    holds_at(&rt, given, given <= MOST_TAKEN);
+    same(&rt, out.into_inner().len(), 0);
+}
+
+#[test]
+fn an_early_line_eof_ends_what_counts(rt: HostRuntime) {
+    let mut inst = Watched::new(THREE_NODES.as_bytes());
+    let mut sol = Watched::new(TOUR.as_bytes());
+    let mut pot = Watched::new(Flood::after(DUALS.as_bytes()));
+    let mut out = Watched::new(Vec::new(rt.alloc()));
+    let answer = judged(rt.alloc(), &mut inst, &mut sol, &mut pot, &mut out);
+    same(&rt, answer, Ok(true));
+    let given = pot.into_inner().given();
+    holds_at(&rt, given, given <= MOST_TAKEN);
+    same(&rt, out.into_inner().as_slice(), REPORT.as_bytes());
+}
+
+/// The numbers from 1 to 2,000, each behind a byte 10 and before this text.
+fn numbered(alloc: Global, after: &str) -> Result<String, AllocError> {
+    let mut text = String::new(alloc);
+    for number in 1..2001u32 {
+        let line = format!(in alloc; "\n{number}{after}")?;
+        text.push_str(line.as_str())?;
+    }
+    Ok(text)
+}
+
+/// The x of a point is its number: those of 2,000 points on a line.
+fn on_a_line(alloc: Global) -> Result<String, AllocError> {
+    let mut text = String::new(alloc);
+    for number in 1..2001u32 {
+        let line = format!(in alloc; "\n{number} {number} 0")?;
+        text.push_str(line.as_str())?;
+    }
+    Ok(text)
+}
+
+#[test]
+fn two_thousand_points_on_a_line_have_their_bound(rt: HostRuntime) -> Result<(), Fail> {
+    // along the line and back is 1,999 twice; the tree over the nodes 2..2,000 has 1,998, and node 1
+    // is at 1 from node 2 and at 2 from node 3
+    let points = on_a_line(rt.alloc())?;
+    let nodes = numbered(rt.alloc(), "")?;
+    let zeros = numbered(rt.alloc(), " 0")?;
+    let inst = format!(in rt.alloc();
+        "TYPE : TSP\nDIMENSION : 2000\nEDGE_WEIGHT_TYPE : EUC_2D\nNODE_COORD_SECTION{points}\nEOF\n"
+    )?;
+    let sol = format!(in rt.alloc(); "TYPE : TOUR\nTOUR_SECTION{nodes}\n-1\nEOF\n")?;
+    let pot = format!(in rt.alloc();
+        "TYPE : POTENTIALS\nDIMENSION : 2000\nNODE_POTENTIAL_SECTION{zeros}\nEOF\n"
+    )?;
+    let report = "type TSP\nnodes 2000\nlength 3998\nbound 2001\ngap 1997\nyes\n";
+    reports(&rt, inst.as_str(), sol.as_str(), pot.as_str(), report);
+    Ok(())
+}
