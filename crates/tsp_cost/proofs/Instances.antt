@@ -14,31 +14,6 @@ use Rattle.tsp_fields.specs.Valid.{IsInRange}
 use Rattle.tsp_fields.specs.Cost.{listed_cost, layout_of, distance, point_of, cost_by, cost}
 use Rattle.tsp_fields.specs.Listed.{IsListed}
 
--- what a valid file lists
-pub lists : (f : Fields) (layout : Layout) (n : ℕ) (weights : List ℤ) → IsInRange f → f.weight_format ≡ Some (Listed layout) → f.dimension ≡ Some n → f.weights ≡ Some weights → IsListed f layout n weights
-lists f layout n weights range format dimension stand =
-    let held = range.weights weights stand in
-    let same_n : held.n ≡ n = cc in
-    let same_layout : held.layout ≡ layout = cc in
-    record {
-      format = format;
-      dimension = dimension;
-      weights_are = stand;
-      some = (range.dimension n dimension).0;
-      most = omega (arith, held.few_nodes);
-      filled = held.count ∙ ap (λ l. length (cells l held.n)) same_layout ∙ ap (λ m. length (cells layout m)) same_n;
-      sizes = held.sizes;
-    }
-
--- the cost from the weights
-pub cost_of_listed : (f : Fields) (layout : Layout) (n : ℕ) (weights : List ℤ) → f.weight_kind ≡ Some Explicit → IsListed f layout n weights → (i j : ℕ) → listed_cost layout n weights i j ≡ cost f i j
-unfolding cost
-cost_of_listed f layout n weights kind held i j = sym (
-    ap (λ k. cost_by k f i j) kind
-    ∙ ap (λ o. listed_cost (layout_of o) (unwrap_or f.dimension 0) (unwrap_or f.weights []) i j) held.format
-    ∙ ap (λ o. listed_cost layout (unwrap_or o 0) (unwrap_or f.weights []) i j) held.dimension
-    ∙ ap (λ o. listed_cost layout n (unwrap_or o []) i j) held.weights_are)
-
 -- the cost from the coordinates
 by_distance : (kind : WeightKind) (f : Fields) (i j : ℕ) → kind ≢ Explicit → cost_by (Some kind) f i j ≡ distance kind (point_of (unwrap_or f.coords []) i) (point_of (unwrap_or f.coords []) j)
 by_distance Explicit f i j other = absurd (other refl)
@@ -65,13 +40,3 @@ not_explicit o kind e other = ap is_explicit e ∙ by_kind kind other
     by_kind Man2d other = refl
     by_kind Max2d other = refl
     by_kind Att other = refl
-
--- a layout is no function, and nothing is no layout
-pub not_by_function : (o : Option WeightFormat) (layout : Layout) → o ≡ Some (Listed layout) → o ≡ Some ByFunction → ⊥
-not_by_function o layout listed function = cc
-
-pub not_missing : {A : Type 0} (o : Option A) (x : A) → o ≡ Some x → o ≡ None → ⊥
-not_missing o x there none = cc
-
-pub same_layout : (o : Option WeightFormat) (a b : Layout) → o ≡ Some (Listed a) → o ≡ Some (Listed b) → a ≡ b
-same_layout o a b first second = cc

@@ -1,4 +1,6 @@
 pub mod Listed
 pub mod Mapped
+pub mod Relaid
 pub mod Types
 pub mod ValidFields
+pub mod WithWeights

@@ -34,7 +34,7 @@ both : (a b : Bool) → (a && b) ≡ true → (a ≡ true) × (b ≡ true)
 both true b e = (refl, e)
 both false b e = absurd cc
 
-and_true : (a b : Bool) → a ≡ true → b ≡ true → (a && b) ≡ true
+pub and_true : (a b : Bool) → a ≡ true → b ≡ true → (a && b) ≡ true
 and_true true b first second = second
 and_true false b first second = absurd cc
 
@@ -101,17 +101,19 @@ no_bad_field f valid = none_map (λ field. BadField field) (bad_field f) (none_o
 no_end_fault : (f : Fields) → fault_of f ≡ None → end_fault (standing_of f) None ≡ None
 no_end_fault f valid = none_map (λ fault. Rule fault) (end_fault (standing_of f) None) (none_or (option_map (λ field. BadField field) (bad_field f)) (option_map (λ fault. Rule fault) (end_fault (standing_of f) None)) valid).1
 
-each_fits : (f : Fields) → fault_of f ≡ None → (field : Field) → fits f field ≡ true
+pub each_fits : (f : Fields) → fault_of f ≡ None → (field : Field) → fits f field ≡ true
 each_fits f valid field = All-contains (λ g. fits f g ≡ true) fields_in_order field
     (All-from_recursion (λ g. fits f g ≡ true) fields_in_order (all_pass (fits f) fields_in_order (no_bad_field f valid)))
     (found_inside (λ other. bytes_eq (field_word field) (field_word other)) fields_in_order field (field_found field))
 
-none_missing : (f : Fields) → fault_of f ≡ None → AllByRecursion (λ field. is_there (standing_of f) field ≡ true) asked_in_order
-none_missing f valid = all_pass (is_there (standing_of f)) asked_in_order
-    (none_map (λ field. Missing field) (first_failing (is_there (standing_of f)) asked_in_order)
-    (none_or (option_map (λ field. Missing field) (first_failing (is_there (standing_of f)) asked_in_order)) (format_or_count (standing_of f)) (no_end_fault f valid)).0)
+pub no_field_missing : (f : Fields) → fault_of f ≡ None → first_failing (is_there (standing_of f)) asked_in_order ≡ None
+no_field_missing f valid = none_map (λ field. Missing field) (first_failing (is_there (standing_of f)) asked_in_order)
+    (none_or (option_map (λ field. Missing field) (first_failing (is_there (standing_of f)) asked_in_order)) (format_or_count (standing_of f)) (no_end_fault f valid)).0
 
-format_and_count : (f : Fields) → fault_of f ≡ None → (has_wrong_format (standing_of f) ≡ false) × (has_wrong_count (standing_of f) ≡ false)
+none_missing : (f : Fields) → fault_of f ≡ None → AllByRecursion (λ field. is_there (standing_of f) field ≡ true) asked_in_order
+none_missing f valid = all_pass (is_there (standing_of f)) asked_in_order (no_field_missing f valid)
+
+pub format_and_count : (f : Fields) → fault_of f ≡ None → (has_wrong_format (standing_of f) ≡ false) × (has_wrong_count (standing_of f) ≡ false)
 format_and_count f valid =
     let s = standing_of f in
     let rest : format_or_count s ≡ None = (none_or (option_map (λ field. Missing field) (first_failing (is_there s) asked_in_order)) (format_or_count s) (no_end_fault f valid)).1 in

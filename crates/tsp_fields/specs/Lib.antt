@@ -5,3 +5,4 @@ pub mod Relayout
 pub mod Rules
 pub mod Valid
 pub mod Validity
+pub mod Weights

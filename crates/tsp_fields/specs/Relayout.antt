@@ -1,15 +1,18 @@
 -- What becomes of a file whose weights are put into another layout, and which costs a layout can hold.
 -- Source: TSPLIB 95 (G. Reinelt), the values of EDGE_WEIGHT_FORMAT.
-use Rattle.std.specs.Prelude.{◌≡◌, ◌≢◌, ℕ, ◌<◌, ◌⊎◌, Bool, false, List, length, Some, IsSome, IsTrue, unwrap_or, Result, Ok, Err, ℤ, pos}
+use Rattle.std.specs.Prelude.{◌≡◌, ◌≢◌, ℕ, ◌<◌, ◌⊎◌, Bool, false, List, map, Option, None, Some, IsSome, IsTrue, unwrap_or, Result, Ok, Err, ℤ, pos}
+use Rattle.std.specs.List.{All}
 use Rattle.tsp_value.specs.declared.layout.Layout.{Layout}
 use Rattle.tsp_value.specs.declared.layout.Layout.TheVariants.{FullMatrix}
 use Rattle.tsp_value.specs.declared.kinds.WeightKind.TheVariants.{Explicit}
 use Rattle.tsp_value.specs.declared.kinds.WeightFormat.TheVariants.{Listed}
 use Rattle.tsp_value.specs.Cells.{IsNode, is_listed, cells}
+use Rattle.tsp_value.specs.Limits.{most_weight}
 use Rattle.tsp_value.specs.Even.{IsEven, IsFirstUneven}
 use Rattle.tsp_fields.specs.declared.fault.RelayoutFault.{RelayoutFault}
 use Rattle.tsp_fields.specs.declared.fault.RelayoutFault.TheVariants.{NotExplicit, NotSymmetric, DiagonalLost, OutOfMemory}
 use Rattle.tsp_fields.specs.Fields.{Fields}
+use Rattle.tsp_fields.specs.Valid.{IsWithin}
 use Rattle.tsp_fields.specs.Cost.{cost}
 
 -- ---- which costs a layout can hold
@@ -45,15 +48,25 @@ nodes_in f = unwrap_or f.dimension 0
 abbrev pub with_weights : Fields → Layout → List ℤ → Fields
 with_weights f to weights = record f { weight_format = Some (Listed to); weights = Some weights }
 
--- The layout can hold the costs, and every one of them is as before, those from a node to itself too; of the fields only
--- the format and the weights are others, and the weights are as many as the cells.
+-- the costs of the cells of a layout, in their order
+abbrev pub costs_in : Layout → ℕ → (ℕ → ℕ → ℤ) → List ℤ
+costs_in layout n cost = map (λ cell. cost cell.0 cell.1) (cells layout n)
+
+-- the weights are listed, and the layout can hold their costs
+pub record CanGo (f : Fields) (to : Layout) : Type 0 where
+  pub listed : HasListedWeights f
+  pub pairs : HoldsPairs to (cost f)
+  pub diagonal : HoldsDiagonal to (cost f)
+
+-- the weights in a layout, or none where the file has them in it already
+abbrev pub AreLaidOut : Fields → Layout → Option (List ℤ) → Type 0
+AreLaidOut f to None = (f.weight_format ≡ Some (Listed to)) × (f.weights ≡ Some (costs_in to (nodes_in f) (cost f)))
+AreLaidOut f to (Some weights) = (weights ≡ costs_in to (nodes_in f) (cost f)) × All (IsWithin most_weight) weights
+
+-- Only the format and the weights are others, and every cost is as before, those from a node to itself too.
 pub record IsRelaid (old : Fields) (to : Layout) (new : Fields) : Type 0 where
-  pub listed : HasListedWeights old
-  pub pairs : HoldsPairs to (cost old)
-  pub diagonal : HoldsDiagonal to (cost old)
-  pub weights : List ℤ
-  pub count : length weights ≡ length (cells to (nodes_in old))
-  pub fields : new ≡ with_weights old to weights
+  pub can_go : CanGo old to
+  pub fields : new ≡ with_weights old to (costs_in to (nodes_in old) (cost old))
   pub costs : (i j : ℕ) → cost new i j ≡ cost old i j
 
 -- Why it isn't done: the first of these that holds. Of memory there can't be a want where the layout is that of the file.
@@ -62,8 +75,7 @@ IsRefused f to NotExplicit = ¬ HasListedWeights f
 IsRefused f to (NotSymmetric i j) = HasListedWeights f × (to ≢ FullMatrix) × IsFirstUneven (nodes_in f) (cost f) (i, j)
 IsRefused f to (DiagonalLost i) = HasListedWeights f × HoldsPairs to (cost f)
     × (lists_diagonal to ≡ false) × IsFirstOnDiagonal (nodes_in f) (cost f) i
-IsRefused f to OutOfMemory = HasListedWeights f × HoldsPairs to (cost f) × HoldsDiagonal to (cost f)
-    × (f.weight_format ≢ Some (Listed to))
+IsRefused f to OutOfMemory = CanGo f to × (f.weight_format ≢ Some (Listed to))
 
 -- the file in the new layout, or why not and the same file
 abbrev pub IsRelayout : Fields → Layout → Result Fields (RelayoutFault × Fields) → Type 0

@@ -6,7 +6,7 @@ use crate::table::bad_field;
 use std::alloc::Global;
 use std::marker::Model;
 use tsp_number::Point;
-use tsp_value::{CoordKind, DisplayKind, Kind, WeightFormat, WeightKind};
+use tsp_value::{CoordKind, DisplayKind, Kind, Layout, WeightFormat, WeightKind};
 
 /// The fields of a file, in canonical order. A list by node has one entry for each node, in order.
 #[derive(Debug, Drop)]
@@ -111,8 +111,13 @@ impl Model for File {
 }
 
 impl File {
-    ghost use Rattle.std.specs.Prelude.{◌≡◌, Some, None, map, MatchResult};
+    ghost use Rattle.std.specs.Prelude.{◌≡◌, Some, None, IsSome, length, map, MatchResult};
+    ghost use Rattle.std.specs.List.{All};
     ghost use Rattle.std.specs.Option.{option_map};
+    ghost use Rattle.tsp_value.specs.Cells.{cells};
+    ghost use Rattle.tsp_value.specs.Limits.{most_weight};
+    ghost use Rattle.tsp_fields.specs.Valid.{IsWithin};
+    ghost use Rattle.tsp_fields.specs.Relayout.{nodes_in, with_weights};
     ghost use Rattle.tsp_fields.specs.Fields.{fields_of};
     ghost use Rattle.tsp_fields.specs.Rules.{fault_of};
 
@@ -140,6 +145,21 @@ impl File {
             return Err((DraftFault::Rule(rule), d));
         }
         Ok(File { draft: d })
+    }
+
+    /// This file with other weights, in a layout; every other field stays.
+    ///
+    /// The caller owes as many weights as the layout has cells, and a file that has weights.
+    pub(crate) fn with_weights(self, layout: Layout, weights: Vec<i64>) -> File
+        requires stand { IsSome self.weights }
+        requires count { length weights.items ≡ length (cells layout (nodes_in self)) }
+        requires sizes { All (IsWithin most_weight) weights.items }
+        ensures { result ≡ with_weights self layout weights.items }
+    {
+        let File { mut draft } = self;
+        draft.weight_format = Some(WeightFormat::Listed(layout));
+        draft.weights = Some(weights);
+        File { draft }
     }
 
     /// NAME, as bytes.

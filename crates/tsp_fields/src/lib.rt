@@ -4,10 +4,12 @@
 mod fault;
 mod file;
 mod laws;
+
 mod relayout;
 mod rules;
 mod table;
 mod validity;
+mod weights;
 
 pub use fault::{DraftFault, EndFault, RelayoutFault};
 pub use file::{Draft, File};

@@ -1,12 +1,17 @@
 //! The change of the layout of a file's weights.
 
-ghost use Rattle.std.specs.Prelude.{◌≡◌};
-ghost use Rattle.tsp_fields.specs.Relayout.{IsRelayout};
+ghost use Rattle.std.specs.Prelude.{◌≡◌, Some, MatchOption, MatchResult};
+ghost use Rattle.std.specs.Option.{option_map};
+ghost use Rattle.tsp_value.specs.declared.kinds.WeightKind.TheVariants.{Explicit};
+ghost use Rattle.tsp_fields.specs.Listed.{IsListed};
+ghost use Rattle.tsp_fields.specs.Relayout.{HasListedWeights, CanGo, AreLaidOut, IsRefused, IsRelayout};
 
 use crate::fault::RelayoutFault;
 use crate::file::File;
+use crate::laws::valid_fields_are_in_range;
+use crate::weights::ListedWeights;
 use std::alloc::Global;
-use tsp_value::Layout;
+use tsp_value::{Layout, WeightFormat, WeightKind};
 
 impl File {
     /// This file with its weights in another layout, or why not and the file itself, unchanged.
@@ -21,8 +26,59 @@ impl File {
     pub fn relayout(self, alloc: Global, to: Layout) -> Result<File, (RelayoutFault, File)>
         ensures { IsRelayout self to result }
     {
-        let _alloc = alloc;
-        let _to = to;
-        Err((RelayoutFault::NotExplicit, self))
+        match self.laid_out(alloc, to) {
+            Err(fault) => Err((fault, self)),
+            Ok(None) => Ok(self),
+            Ok(Some(weights)) => Ok(self.with_weights(to, weights)),
+        }
+    }
+
+    /// The weights of this file in another layout, or `None` where they have it already.
+    fn laid_out(&self, alloc: Global, to: Layout) -> Result<Option<Vec<i64>>, RelayoutFault>
+        ensures { MatchResult result
+            (λ weights. CanGo self.now to
+            × AreLaidOut self.now to (option_map (λ laid. laid.items) weights))
+            (λ fault. IsRefused self.now to fault) }
+    {
+        let Some(listed) = self.listed() else {
+            return Err(RelayoutFault::NotExplicit);
+        };
+        if listed.are_in(to) {
+            return Ok(None);
+        }
+        if let Some((i, j)) = listed.lost_pair(to) {
+            return Err(RelayoutFault::NotSymmetric { i, j });
+        }
+        if let Some(i) = listed.lost_diagonal(to) {
+            return Err(RelayoutFault::DiagonalLost { i });
+        }
+        match listed.laid_out(alloc, to) {
+            Ok(weights) => Ok(Some(weights)),
+            Err(_) => Err(RelayoutFault::OutOfMemory),
+        }
+    }
+
+    /// The weights of this file with their layout, if they are listed.
+    fn listed(&self) -> Option<ListedWeights<'_>>
+        ensures { MatchOption result (¬ HasListedWeights self.now)
+            (λ listed. (self.now.weight_kind ≡ Some Explicit)
+            × IsListed self.now listed.layout listed.nodes listed.weights.now) }
+    {
+        let _valid = self.fields();
+        valid_fields_are_in_range();
+        if !matches!(self.weight_kind(), Some(WeightKind::Explicit)) {
+            return None;
+        }
+        let Some(weights) = self.weights() else {
+            return None;
+        };
+        let Some(nodes) = self.dimension() else {
+            unreachable!();
+        };
+        match self.weight_format() {
+            Some(WeightFormat::Listed(layout)) => Some(ListedWeights::of(layout, nodes, weights)),
+            Some(WeightFormat::ByFunction) => unreachable!(),
+            None => unreachable!(),
+        }
     }
 }

@@ -6,6 +6,7 @@ use Rattle.std.proofs.lemmas.Bool.{cases_lt, ltb-true, leb-true, le-leb, lt-leb}
 use Rattle.std.proofs.lemmas.Bool.Decides.{Decides-and, Decides-eqb}
 use Rattle.std.proofs.lemmas.List.{get_or-map, get_or_append_left, get_or-append_right}
 use Rattle.std.proofs.lemmas.List.FromFn.{length-range_with_len, get_or-range_with_len}
+use Rattle.std.proofs.lemmas.List.Quantifiers.{position-Some}
 use Rattle.std.proofs.lemmas.List.Sums.{position_or_len_is, passes_at_first}
 use Rattle.tsp_value.specs.declared.layout.Layout.{Layout}
 use Rattle.tsp_value.specs.declared.layout.Layout.TheVariants.{FullMatrix, UpperRow, LowerRow, UpperDiagRow, LowerDiagRow, UpperCol, LowerCol, UpperDiagCol, LowerDiagCol}
@@ -120,7 +121,7 @@ line_is LowerCol n k low high = filter-map (is_listed LowerCol) (λ i. (i, k)) (
 line_is UpperDiagCol n k low high = filter-map (is_listed UpperDiagCol) (λ i. (i, k)) (range_with_len 1 n) ∙ ap (map (λ i. (i, k))) (upto k 1 n ∙ runs_same 1 1 (min n (suc k - 1)) k refl (omega arith))
 line_is LowerDiagCol n k low high = filter-map (is_listed LowerDiagCol) (λ i. (i, k)) (range_with_len 1 n) ∙ ap (map (λ i. (i, k))) (from_on k 1 n ∙ runs_same (max 1 k) k (n - (k - 1)) (n - k + 1) (omega arith) (omega arith))
 
-line_at : (layout : Layout) (n k at : ℕ) (d : ℕ × ℕ) → 1 ≤ k → k ≤ n → at < line_len_of layout n k → get_or (cells_of_line layout n k) at d ≡ pair_in layout k (first_of layout k + at)
+pub line_at : (layout : Layout) (n k at : ℕ) (d : ℕ × ℕ) → 1 ≤ k → k ≤ n → at < line_len_of layout n k → get_or (cells_of_line layout n k) at d ≡ pair_in layout k (first_of layout k + at)
 line_at layout n k at d low high lt =
     let run = range_with_len (first_of layout k) (line_len_of layout n k) in
     let inside : at < length run = omega (arith, lt, length-range_with_len (first_of layout k) (line_len_of layout n k)) in
@@ -323,7 +324,7 @@ other_pair pair cell other = is_false (is_pair pair cell) (λ e. other (pair_is 
     is_false false not_true = refl
 
 -- a pair that stands at an index of the cells stands there first
-place_from : (layout : Layout) (n at : ℕ) (pair : ℕ × ℕ) → at < length (cells layout n) → ((d : ℕ × ℕ) → get_or (cells layout n) at d ≡ pair) → place_of layout n pair ≡ Some at
+pub place_from : (layout : Layout) (n at : ℕ) (pair : ℕ × ℕ) → at < length (cells layout n) → ((d : ℕ × ℕ) → get_or (cells layout n) at d ≡ pair) → place_of layout n pair ≡ Some at
 unfolding place_of
 place_from layout n at pair lt here =
     let xs = cells layout n in
@@ -331,6 +332,13 @@ place_from layout n at pair lt here =
     (λ k below. other_pair pair (get_or xs k pair) (λ same. cells_differ layout n k at pair below lt (same ∙ sym (here pair))))
     (λ inside. (same_pair pair (get_or xs at pair)).1 (ap (λ cell. cell.0) (here pair), ap (λ cell. cell.1) (here pair))) in
     ap (λ k. cond (nat_lt k (length xs)) (Some k) None) found ∙ ap (λ b. cond b (Some at) None) (le-leb (suc at) (length xs) lt)
+
+-- and where a pair has a place it stands
+pub stands_at : (layout : Layout) (n at : ℕ) (pair : ℕ × ℕ) → place_of layout n pair ≡ Some at → (d : ℕ × ℕ) → get_or (cells layout n) at d ≡ pair
+unfolding place_of
+stands_at layout n at pair here d =
+    let cell = get_or (cells layout n) at d in
+    pair_is cell pair ((same_pair pair cell).0 (position-Some (is_pair pair) (cells layout n) at d here).1)
 
 -- a pair that is no cell has no place
 pub no_place : (layout : Layout) (n : ℕ) (pair : ℕ × ℕ) → ¬ Contains (cells layout n) pair → place_of layout n pair ≡ None

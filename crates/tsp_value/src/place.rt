@@ -1,9 +1,9 @@
 //! The place of a cell in its layout, by arithmetic.
 
-ghost use Rattle.std.specs.Prelude.{◌≡◌, ◌<◌, ◌≤◌, ◌^◌, ◌+◌, ◌*◌, Some, None, ℕ, IsTrue, length};
+ghost use Rattle.std.specs.Prelude.{◌≡◌, ◌<◌, ◌≤◌, ◌^◌, ◌+◌, ◌*◌, Some, None, ℕ, IsTrue, length, slice_index_or};
 ghost use Rattle.std.specs.List.{Contains};
 ghost use Rattle.tsp_value.specs.declared.layout.Layout.{Layout};
-ghost use Rattle.tsp_value.specs.Cells.{IsNode, is_listed, cells};
+ghost use Rattle.tsp_value.specs.Cells.{IsNode, is_listed, cells, cells_of_line, line_len_of};
 ghost use Rattle.tsp_value.specs.Place.{place_of, place_by_table, upper_place, lower_place, upper_diag_place, lower_diag_place};
 
 use crate::layout::Layout;
@@ -38,6 +38,30 @@ impl Layout {
         ensures table { result ≡ place_by_table self nodes i j }
     {
         place_by_table(self, nodes as usize, i as usize, j as usize)
+    }
+
+    /// The cell at an index of one row, or of one column for a layout that goes by columns; the
+    /// index counts from 0.
+    ///
+    /// The caller owes a line of 1 to `nodes` and an index below the line's number of cells.
+    #[inline]
+    #[tactic(auto, using(crate::proofs::Places::line_at))]
+    pub fn line_cell(self, nodes: u32, line: u32, index: u32) -> (u32, u32)
+        requires line { IsNode nodes line }
+        requires index { index < line_len_of self nodes line }
+        ensures value { (default : ℕ × ℕ) →
+            slice_index_or (cells_of_line self nodes line) index default ≡ result }
+        ensures row { IsNode nodes result.0 }
+        ensures column { IsNode nodes result.1 }
+    {
+        match self {
+            Layout::FullMatrix | Layout::LowerRow | Layout::LowerDiagRow => (line, 1 + index),
+            Layout::UpperRow => (line, line + 1 + index),
+            Layout::UpperDiagRow => (line, line + index),
+            Layout::UpperCol | Layout::UpperDiagCol => (1 + index, line),
+            Layout::LowerCol => (line + 1 + index, line),
+            Layout::LowerDiagCol => (line + index, line),
+        }
     }
 }
 

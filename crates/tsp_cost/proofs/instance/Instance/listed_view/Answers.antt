@@ -3,7 +3,7 @@ use Rattle.tsp_value.specs.declared.layout.Layout.TheVariants.{FullMatrix}
 use Rattle.tsp_value.specs.declared.kinds.WeightFormat.TheVariants.{Listed}
 use Rattle.tsp_fields.specs.Rules.{is_explicit}
 use Rattle.tsp_fields.specs.Cost.{listed_cost}
-use Rattle.tsp_cost.proofs.Instances.{cost_of_listed, same_layout}
+use Rattle.tsp_fields.proofs.Listed.{cost_of_listed, same_layout}
 use Rattle.tsp_cost.proofs.instance.Instance.listed_view.Goals as goal
 
 pub returns-in-FullMatrix : goal.returns-in-FullMatrix

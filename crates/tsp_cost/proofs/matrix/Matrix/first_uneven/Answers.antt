@@ -1,12 +1,12 @@
 use Rattle.std.proofs.Common.{◌<◌, arith}
 use Rattle.tsp_value.specs.declared.layout.Layout.TheVariants.{FullMatrix}
-use Rattle.tsp_fields.proofs.Listed.{outside_has_no_place, matrix_even}
+use Rattle.tsp_fields.proofs.Listed.{outside_has_no_place, even_between_nodes}
 use Rattle.tsp_cost.proofs.matrix.Matrix.first_uneven.Goals as goal
 
 pub returns : goal.returns
 returns c =
     let m = c.args.self.now in
-    matrix_even m.nodes m.weights.now
+    even_between_nodes FullMatrix m.nodes m.weights.now
     (outside_has_no_place c.cells_are_the_listed_pairs.ensures c.only_cells_have_places.ensures FullMatrix m.nodes)
     (λ i j row column upper.
     let earlier : i < c.rows.i = omega (arith, column.1) in
