@@ -12,6 +12,8 @@ mod bound;
 #[cfg(test)]
 mod check;
 #[cfg(test)]
+mod convert;
+#[cfg(test)]
 mod cost;
 #[cfg(test)]
 mod devices;
