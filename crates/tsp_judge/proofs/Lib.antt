@@ -1,3 +1,4 @@
+pub mod BoundChecks
 pub mod Checks
 pub mod Converts
 pub mod Shows

@@ -1,6 +1,8 @@
 //! Judges solutions of TSPLIB 95 instances.
 #![tactic(auto)]
 
+mod answer;
+mod bound_check;
 mod check;
 mod convert;
 mod fault;
@@ -9,6 +11,7 @@ mod report;
 mod show;
 mod show_text;
 
+pub use bound_check::run_bound_check;
 pub use check::run_check;
 pub use convert::run_convert;
 pub use fault::RunFault;
@@ -17,4 +20,4 @@ pub use tsp_fields::{EndFault, RelayoutFault};
 pub use tsp_read::{LineFault, ReadFault};
 pub use tsp_stream::{Watched, WriteFault};
 pub use tsp_value::Layout;
-pub use tsp_verdict::{Reason, Verdict, judge_routes, judge_tour};
+pub use tsp_verdict::{Reason, Verdict, judge_routes, judge_tour, judge_tour_bound};
