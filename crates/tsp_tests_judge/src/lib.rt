@@ -7,4 +7,6 @@ mod bound_check;
 #[cfg(test)]
 mod check;
 #[cfg(test)]
+mod convert;
+#[cfg(test)]
 mod show;
