@@ -2,4 +2,5 @@
 
 mod lends;
 mod limits;
+mod relayout;
 mod rules;
