@@ -50,9 +50,10 @@ sized instance solution certificate (verdicts.Tour length bound) v = subst IsBou
 sized instance solution certificate (verdicts.Routes length routes least) v = tt
 sized instance solution certificate (verdicts.No reason) v = tt
 
-pub judged : (first second third : Turn) (file instance solution certificate : Fields) (verdict : Verdict) → instance ≡ file → IsFile first file → IsFile second solution
-    → IsFile third certificate → IsVerdict instance solution certificate verdict → IsJudged first second third instance verdict
-judged first second third file instance solution certificate verdict same one two three v = record {
+pub judged : (first second third : Turn) (file instance solution certificate : Fields) (verdict : Verdict) → IsTrue (is_bounded instance.kind) → instance ≡ file → IsFile first file
+    → IsFile second solution → IsFile third certificate → IsVerdict instance solution certificate verdict → IsJudged first second third instance verdict
+judged first second third file instance solution certificate verdict is same one two three v = record {
+  bounded = is;
   solution = solution;
   certificate = certificate;
   first_file = subst (IsFile first) (sym same) one;
@@ -62,15 +63,15 @@ judged first second third file instance solution certificate verdict same one tw
 }
 
 -- what a check answers that has its verdict
-pub answered : (first second third : Turn) (sink : Sink) (instance : Fields) (verdict : Verdict) (result : Result Bool RunFault) → IsTrue (is_bounded instance.kind)
+pub answered : (first second third : Turn) (sink : Sink) (instance : Fields) (verdict : Verdict) (result : Result Bool RunFault)
     → IsJudged first second third instance verdict → Answers sink instance verdict result → IsBoundRun first second third sink result
-answered first second third sink instance verdict (Ok answer) is j a = (instance, verdict, j, a.0, a.1)
-answered first second third sink instance verdict (Err OutOfMemory) is j a = (a, (instance, j.first_file, is), (j.solution, j.second_file), (j.certificate, j.third_file))
-answered first second third sink instance verdict (Err (Write write_faults.Device)) is j a = (instance, verdict, j, a)
-answered first second third sink instance verdict (Err (Write write_faults.OutOfMemory)) is j a = absurd a
-answered first second third sink instance verdict (Err (File file fault)) is j a = absurd a
-answered first second third sink instance verdict (Err WrongKind) is j a = absurd a
-answered first second third sink instance verdict (Err (Relayout fault)) is j a = absurd a
+answered first second third sink instance verdict (Ok answer) j a = (instance, verdict, j, a.0, a.1)
+answered first second third sink instance verdict (Err OutOfMemory) j a = (a, (instance, j.first_file, j.bounded), (j.solution, j.second_file), (j.certificate, j.third_file))
+answered first second third sink instance verdict (Err (Write write_faults.Device)) j a = (instance, verdict, j, a)
+answered first second third sink instance verdict (Err (Write write_faults.OutOfMemory)) j a = absurd a
+answered first second third sink instance verdict (Err (File file fault)) j a = absurd a
+answered first second third sink instance verdict (Err WrongKind) j a = absurd a
+answered first second third sink instance verdict (Err (Relayout fault)) j a = absurd a
 
 -- what a yes says
 pub a_yes : (first second third : Turn) (sink : Sink) (instance : Fields) (verdict : Verdict) → IsJudged first second third instance verdict → true ≡ is_yes verdict

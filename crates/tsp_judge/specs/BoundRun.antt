@@ -37,8 +37,9 @@ IsSomeBounded turn = (file : Fields) × IsFile turn file × IsTrue (is_bounded f
 abbrev pub IsNoBounded : Turn → Type 0
 IsNoBounded turn = (file : Fields) × IsFile turn file × (is_bounded file.kind ≡ false)
 
--- the first file is this instance, and the verdict on the second file with the third is this one
+-- the first file is this instance, whose tours have a bound, and the verdict on the second file with the third is this one
 pub record IsJudged (first second third : Turn) (instance : Fields) (verdict : Verdict) : Type 0 where
+  pub bounded : IsTrue (is_bounded instance.kind)
   pub solution : Fields
   pub certificate : Fields
   pub first_file : IsFile first instance

@@ -96,8 +96,8 @@ returns-clause-run g c = let one = c.in-Ok.ensures in let two = c.in-Ok-read_fro
     let third = turn_of g.P.Read.remaining c.args.pot.now c.read_from-3.new.reader three.0 in
     let verdict = c.in-Ok-judge_tour_bound.verdict in
     let is : IsTrue (is_bounded c.in-Ok-of.instance.kind) = ap is_bounded (sym c.kind.ensures.value) ∙ sym c.is_bounded.ensures ∙ c.if-not-is_bounded.false in
-    let found = judged first second third c.in-Ok.file c.in-Ok-of.instance c.in-Ok-read_from.file c.in-Ok-read_from-2.file verdict c.in-Ok-of.ensures.0 one.2 two.2 three.2 c.in-Ok-judge_tour_bound.ensures in
-    (one.0, one.1, (two.0, two.1, (three.0, three.1, answered first second third (sink_of g.W.Write.contents c.args.out.now c.answer.new.out) c.in-Ok-of.instance verdict c.answer.result is found c.answer.ensures)))
+    let found = judged first second third c.in-Ok.file c.in-Ok-of.instance c.in-Ok-read_from.file c.in-Ok-read_from-2.file verdict is c.in-Ok-of.ensures.0 one.2 two.2 three.2 c.in-Ok-judge_tour_bound.ensures in
+    (one.0, one.1, (two.0, two.1, (three.0, three.1, answered first second third (sink_of g.W.Write.contents c.args.out.now c.answer.new.out) c.in-Ok-of.instance verdict c.answer.result found c.answer.ensures)))
 
 pub returns-clause-yes : goal.returns-clause-yes
 returns-clause-yes g c = λ accepted. let one = c.in-Ok.ensures in let two = c.in-Ok-read_from.ensures in let three = c.in-Ok-read_from-2.ensures in
@@ -105,5 +105,6 @@ returns-clause-yes g c = λ accepted. let one = c.in-Ok.ensures in let two = c.i
     let second = turn_of g.S.Read.remaining c.args.sol.now c.read_from-2.new.reader two.0 in
     let third = turn_of g.P.Read.remaining c.args.pot.now c.read_from-3.new.reader three.0 in
     let verdict = c.in-Ok-judge_tour_bound.verdict in
-    let found = judged first second third c.in-Ok.file c.in-Ok-of.instance c.in-Ok-read_from.file c.in-Ok-read_from-2.file verdict c.in-Ok-of.ensures.0 one.2 two.2 three.2 c.in-Ok-judge_tour_bound.ensures in
+    let is : IsTrue (is_bounded c.in-Ok-of.instance.kind) = ap is_bounded (sym c.kind.ensures.value) ∙ sym c.is_bounded.ensures ∙ c.if-not-is_bounded.false in
+    let found = judged first second third c.in-Ok.file c.in-Ok-of.instance c.in-Ok-read_from.file c.in-Ok-read_from-2.file verdict is c.in-Ok-of.ensures.0 one.2 two.2 three.2 c.in-Ok-judge_tour_bound.ensures in
     (one.0, one.1, (two.0, two.1, (three.0, three.1, yes_of first second third (sink_of g.W.Write.contents c.args.out.now c.answer.new.out) c.in-Ok-of.instance verdict c.answer.result found c.answer.ensures accepted)))
