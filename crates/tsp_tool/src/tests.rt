@@ -94,6 +94,11 @@ fn words_ask_for_another_layout(rt: HostRuntime) -> Result<(), Fail> {
     let job = job_of(rt.alloc(), &["convert", "a", "--layout", "UPPER_ROW"])?;
     let texts = [Some("a"), None, Some("UPPER_ROW"), None];
     assert_eq!(rt; fields_of(&job), (Some(Verb::Convert), texts));
+    Ok(())
+}
+
+#[test]
+fn words_ask_for_an_empty_layout(rt: HostRuntime) -> Result<(), Fail> {
     let job = job_of(rt.alloc(), &["convert", "--layout=", "a"])?;
     let texts = [Some("a"), None, Some(""), None];
     assert_eq!(rt; fields_of(&job), (Some(Verb::Convert), texts));
@@ -105,6 +110,11 @@ fn words_ask_to_show(rt: HostRuntime) -> Result<(), Fail> {
     let job = job_of(rt.alloc(), &["show", "-"])?;
     let texts = [Some("-"), None, None, None];
     assert_eq!(rt; fields_of(&job), (Some(Verb::Show), texts));
+    Ok(())
+}
+
+#[test]
+fn no_words_ask_for_no_verb(rt: HostRuntime) -> Result<(), Fail> {
     let job = job_of(rt.alloc(), &[])?;
     assert_eq!(rt; fields_of(&job), (None, [None, None, None, None]));
     Ok(())
