@@ -115,8 +115,11 @@ fn words_ask_to_show(rt: HostRuntime) -> Result<(), Fail> {
 
 #[test]
 fn no_words_ask_for_no_verb(rt: HostRuntime) -> Result<(), Fail> {
-    let job = job_of(rt.alloc(), &[])?;
-    assert_eq!(rt; fields_of(&job), (None, [None, None, None, None]));
+    let words: [&str; 0] = [];
+    let job = job_of(rt.alloc(), words.as_slice())?;
+    assert_eq!(rt; job.verb, None);
+    assert!(rt; job.file.is_none() && job.solution.is_none());
+    assert!(rt; job.layout.is_none() && job.potentials.is_none());
     Ok(())
 }
 
@@ -204,7 +207,7 @@ fn each_task_is_done(rt: HostRuntime) {
         ),
         (
             Task::Convert(TOUR, None),
-            "TYPE : TOUR\nTOUR_SECTION\n1 2 3 4 -1\n-1\nEOF\n",
+            "TYPE : TOUR\nTOUR_SECTION\n1\n2\n3\n4\n-1\nEOF\n",
         ),
         (
             Task::Check(RECTANGLE, TOUR),
