@@ -23,7 +23,7 @@ name_line None = []
 name_line (Some []) = []
 name_line (Some (first ∷ rest)) = codes "name " ++ (first ∷ rest) ++ codes "\n"
 
--- the number of nodes, where it stands
+-- the name, the TYPE, and the number of nodes where it stands
 abbrev pub head_lines : Fields → List ℕ
 head_lines f = name_line f.name ++ (type_line f.kind ++ option_map_or nodes_line f.dimension [])
 

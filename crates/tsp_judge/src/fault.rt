@@ -11,17 +11,17 @@ pub enum RunFault {
     /// A file, counted from 1, is none.
     #[error("file {file}: {fault}")]
     File { file: u32, fault: ReadFault },
-    /// The first file is of TYPE TOUR or POTENTIALS.
+    /// Of a check alone: the first file is of TYPE TOUR or POTENTIALS.
     #[error("file 1: wrong kind")]
     WrongKind,
-    /// The report could not be written.
+    /// The output could not be written.
     #[error("output: {0}")]
     Write(WriteFault),
-    /// Out of memory for the judgement, or for the report.
+    /// Out of memory for the judgement, for the report, or for what is shown.
     #[error("out of memory")]
     OutOfMemory,
-    /// The weights of the file can't go into the layout that is wanted, or there is no memory for
-    /// that.
+    /// Of converting alone: the weights of the file can't go into the layout that is wanted, or
+    /// there is no memory for that.
     #[error("relayout: {0}")]
     Relayout(RelayoutFault),
 }

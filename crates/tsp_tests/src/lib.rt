@@ -6,15 +6,9 @@
 #![tactic(auto)]
 
 #[cfg(test)]
-mod asserts;
-#[cfg(test)]
 mod bound;
 #[cfg(test)]
-mod check;
-#[cfg(test)]
 mod cost;
-#[cfg(test)]
-mod devices;
 #[cfg(test)]
 mod distance;
 #[cfg(test)]
@@ -26,11 +20,7 @@ mod layout;
 #[cfg(test)]
 mod number;
 #[cfg(test)]
-mod reader;
-#[cfg(test)]
 mod reading;
-#[cfg(test)]
-mod show;
 #[cfg(test)]
 mod texts;
 #[cfg(test)]

@@ -5,12 +5,12 @@ use std::fmt::Debug;
 use std::process::Abort;
 
 /// Asserts that what was found is what was wanted.
-pub(crate) fn same<T: PartialEq + Debug + Drop>(rt: &impl Abort, found: T, wanted: T) {
+pub fn same<T: PartialEq + Debug + Drop>(rt: &impl Abort, found: T, wanted: T) {
     assert_eq!(rt; found, wanted);
 }
 
 /// Asserts that what was found is what was wanted, at this row of a table.
-pub(crate) fn same_at<T: PartialEq + Debug + Drop>(
+pub fn same_at<T: PartialEq + Debug + Drop>(
     rt: &impl Abort,
     row: impl Debug + Drop,
     found: T,
@@ -20,11 +20,11 @@ pub(crate) fn same_at<T: PartialEq + Debug + Drop>(
 }
 
 /// Asserts a fact.
-pub(crate) fn holds(rt: &impl Abort, fact: bool) {
+pub fn holds(rt: &impl Abort, fact: bool) {
     assert!(rt; fact);
 }
 
 /// Asserts a fact at this row of a table.
-pub(crate) fn holds_at(rt: &impl Abort, row: impl Debug + Drop, fact: bool) {
+pub fn holds_at(rt: &impl Abort, row: impl Debug + Drop, fact: bool) {
     assert!(rt; fact, "at {row:?}");
 }

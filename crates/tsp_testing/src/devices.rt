@@ -6,10 +6,10 @@ use std::io;
 use std::io::{ErrorKind, Read, Write};
 
 /// A call that never comes.
-pub(crate) const NEVER: usize = usize::MAX;
+pub const NEVER: usize = usize::MAX;
 
 /// The outcome of a call, with the kind of its error.
-pub(crate) fn outcome<T>(answer: io::Result<T>) -> Result<T, ErrorKind> {
+pub fn outcome<T>(answer: io::Result<T>) -> Result<T, ErrorKind> {
     match answer {
         Ok(value) => Ok(value),
         Err(error) => Err(error.kind()),
@@ -18,7 +18,7 @@ pub(crate) fn outcome<T>(answer: io::Result<T>) -> Result<T, ErrorKind> {
 
 /// A reader that hands out a few bytes a call, and fails at one call.
 #[derive(Drop)]
-pub(crate) struct Trickle<'a> {
+pub struct Trickle<'a> {
     rest: &'a [u8],
     most: usize,
     calls: usize,
@@ -28,7 +28,7 @@ pub(crate) struct Trickle<'a> {
 
 impl<'a> Trickle<'a> {
     /// A reader of these bytes, one a call, whose call `fails_at`, counted from 0, fails in this way.
-    pub(crate) fn new(bytes: &'a [u8], fails_at: usize, kind: ErrorKind) -> Trickle<'a> {
+    pub fn new(bytes: &'a [u8], fails_at: usize, kind: ErrorKind) -> Trickle<'a> {
         Trickle {
             rest: bytes,
             most: 1,
@@ -39,7 +39,7 @@ impl<'a> Trickle<'a> {
     }
 
     /// A reader of these bytes, so many a call, that doesn't fail.
-    pub(crate) fn by(bytes: &'a [u8], most: usize) -> Trickle<'a> {
+    pub fn by(bytes: &'a [u8], most: usize) -> Trickle<'a> {
         Trickle {
             rest: bytes,
             most,
@@ -50,7 +50,7 @@ impl<'a> Trickle<'a> {
     }
 
     /// How often it was asked.
-    pub(crate) fn calls(&self) -> usize {
+    pub fn calls(&self) -> usize {
         self.calls
     }
 }
@@ -69,7 +69,7 @@ impl Read for Trickle<'_> {
 
 /// A reader that hands out a head, then a unit many times, then a tail.
 #[derive(Drop)]
-pub(crate) struct Repeats<'a> {
+pub struct Repeats<'a> {
     rest: &'a [u8],
     unit: &'a [u8],
     units: u64,
@@ -77,7 +77,7 @@ pub(crate) struct Repeats<'a> {
 }
 
 impl<'a> Repeats<'a> {
-    pub(crate) fn new(head: &'a [u8], unit: &'a [u8], units: u64, tail: &'a [u8]) -> Repeats<'a> {
+    pub fn new(head: &'a [u8], unit: &'a [u8], units: u64, tail: &'a [u8]) -> Repeats<'a> {
         Repeats {
             rest: head,
             unit,
@@ -104,18 +104,18 @@ impl Read for Repeats<'_> {
 
 /// A reader that hands out a head and then fills each buffer with blanks, for ever.
 #[derive(Drop)]
-pub(crate) struct Flood<'a> {
+pub struct Flood<'a> {
     head: &'a [u8],
     given: u64,
 }
 
 impl<'a> Flood<'a> {
-    pub(crate) fn after(head: &'a [u8]) -> Flood<'a> {
+    pub fn after(head: &'a [u8]) -> Flood<'a> {
         Flood { head, given: 0 }
     }
 
     /// How many bytes it handed out.
-    pub(crate) fn given(&self) -> u64 {
+    pub fn given(&self) -> u64 {
         self.given
     }
 }
@@ -135,7 +135,7 @@ impl Read for Flood<'_> {
 
 /// How a writer refuses.
 #[derive(Clone, Copy, Debug)]
-pub(crate) enum Refusal {
+pub enum Refusal {
     /// It takes no byte.
     Nothing,
     /// It answers an error.
@@ -145,7 +145,7 @@ pub(crate) enum Refusal {
 /// A writer that takes a few bytes a call, and refuses at one call. Where it refuses by an error,
 /// each flush answers that error too.
 #[derive(Drop)]
-pub(crate) struct Drip {
+pub struct Drip {
     held: Vec<u8>,
     most: usize,
     calls: usize,
@@ -157,7 +157,7 @@ pub(crate) struct Drip {
 impl Drip {
     /// A writer that takes so many bytes a call, and whose call `fails_at`, counted from 0,
     /// refuses in this way.
-    pub(crate) fn new(alloc: Global, most: usize, fails_at: usize, refusal: Refusal) -> Drip {
+    pub fn new(alloc: Global, most: usize, fails_at: usize, refusal: Refusal) -> Drip {
         Drip {
             held: Vec::new(alloc),
             most,
@@ -169,22 +169,22 @@ impl Drip {
     }
 
     /// A writer that takes all that it is given.
-    pub(crate) fn sound(alloc: Global) -> Drip {
+    pub fn sound(alloc: Global) -> Drip {
         Drip::new(alloc, usize::MAX, NEVER, Refusal::Nothing)
     }
 
     /// The bytes that it took.
-    pub(crate) fn held(&self) -> &[u8] {
+    pub fn held(&self) -> &[u8] {
         self.held.as_slice()
     }
 
     /// How often it was asked to write.
-    pub(crate) fn calls(&self) -> usize {
+    pub fn calls(&self) -> usize {
         self.calls
     }
 
     /// How often it was asked to flush.
-    pub(crate) fn flushes(&self) -> usize {
+    pub fn flushes(&self) -> usize {
         self.flushes
     }
 }

@@ -7,7 +7,7 @@ use tsp_number::{Decimal, Point};
 use tsp_value::{CoordKind, DisplayKind, Field, Kind, Layout, WeightFormat, WeightKind};
 
 /// A file of tours without any.
-pub(crate) fn tours(alloc: Global) -> Draft {
+pub fn tours(alloc: Global) -> Draft {
     let mut draft = Draft::new(alloc);
     draft.kind = Some(Kind::Tour);
     draft.tours = Some(Vec::new(alloc));
@@ -15,7 +15,7 @@ pub(crate) fn tours(alloc: Global) -> Draft {
 }
 
 /// The name `a`, an empty comment, and the tours 1, 2 and 3.
-pub(crate) fn two_tours(alloc: Global) -> Result<Draft, AllocError> {
+pub fn two_tours(alloc: Global) -> Result<Draft, AllocError> {
     let mut draft = Draft::new(alloc);
     draft.name = Some(Vec::from_slice(alloc, b"a")?);
     draft.kind = Some(Kind::Tour);
@@ -28,7 +28,7 @@ pub(crate) fn two_tours(alloc: Global) -> Result<Draft, AllocError> {
 }
 
 /// An instance of n nodes with this many weights 0 by the upper rows.
-pub(crate) fn upper_row(alloc: Global, n: u32, count: usize) -> Result<Draft, AllocError> {
+pub fn upper_row(alloc: Global, n: u32, count: usize) -> Result<Draft, AllocError> {
     let mut draft = Draft::new(alloc);
     draft.kind = Some(Kind::Tsp);
     draft.dimension = Some(n);
@@ -39,7 +39,7 @@ pub(crate) fn upper_row(alloc: Global, n: u32, count: usize) -> Result<Draft, Al
 }
 
 /// An instance of four nodes under a layout, with the weights from 1 on.
-pub(crate) fn four_nodes(alloc: Global, layout: Layout, count: u8) -> Result<Draft, AllocError> {
+pub fn four_nodes(alloc: Global, layout: Layout, count: u8) -> Result<Draft, AllocError> {
     let mut draft = upper_row(alloc, 4, 0)?;
     draft.weight_format = Some(WeightFormat::Listed(layout));
     let mut weights = Vec::new(alloc);
@@ -51,7 +51,7 @@ pub(crate) fn four_nodes(alloc: Global, layout: Layout, count: u8) -> Result<Dra
 }
 
 /// Points whose coordinates are given as counts of halves.
-pub(crate) fn points(alloc: Global, halves: &[(i64, i64)]) -> Result<Vec<Point>, Fail> {
+pub fn points(alloc: Global, halves: &[(i64, i64)]) -> Result<Vec<Point>, Fail> {
     let mut points = Vec::new(alloc);
     for (x, y) in halves {
         let x = Decimal::of_count(i128::from(*x) * 500_000_000).ok_or("no decimal")?;
@@ -62,7 +62,7 @@ pub(crate) fn points(alloc: Global, halves: &[(i64, i64)]) -> Result<Vec<Point>,
 }
 
 /// The rectangle with the sides 3 and 4 as a CVRP, with every field set.
-pub(crate) fn rectangle(alloc: Global) -> Result<Draft, Fail> {
+pub fn rectangle(alloc: Global) -> Result<Draft, Fail> {
     let mut draft = two_tours(alloc)?;
     draft.kind = Some(Kind::Cvrp);
     let other = (
@@ -90,7 +90,7 @@ pub(crate) fn rectangle(alloc: Global) -> Result<Draft, Fail> {
 }
 
 /// The file that a draft holds.
-pub(crate) fn file_of(draft: Draft) -> Result<File, Fail> {
+pub fn file_of(draft: Draft) -> Result<File, Fail> {
     match File::of(draft) {
         Ok(file) => Ok(file),
         Err(_) => Err(Fail::from("no file")),
@@ -98,21 +98,21 @@ pub(crate) fn file_of(draft: Draft) -> Result<File, Fail> {
 }
 
 /// The first fault of a draft, if it has one.
-pub(crate) fn fault(draft: Draft) -> Option<DraftFault> {
+pub fn fault(draft: Draft) -> Option<DraftFault> {
     match File::of(draft) {
         Ok(_) => None,
         Err((fault, _)) => Some(fault),
     }
 }
 
-pub(crate) fn bad(field: Field) -> Option<DraftFault> {
+pub fn bad(field: Field) -> Option<DraftFault> {
     Some(DraftFault::BadField(field))
 }
 
-pub(crate) fn missing(field: Field) -> Option<DraftFault> {
+pub fn missing(field: Field) -> Option<DraftFault> {
     Some(DraftFault::Rule(EndFault::Missing(field)))
 }
 
-pub(crate) const WRONG_FORMAT: Option<DraftFault> = Some(DraftFault::Rule(EndFault::WrongFormat));
+pub const WRONG_FORMAT: Option<DraftFault> = Some(DraftFault::Rule(EndFault::WrongFormat));
 
-pub(crate) const WRONG_COUNT: Option<DraftFault> = Some(DraftFault::Rule(EndFault::WrongCount));
+pub const WRONG_COUNT: Option<DraftFault> = Some(DraftFault::Rule(EndFault::WrongCount));

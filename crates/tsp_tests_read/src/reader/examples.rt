@@ -3,8 +3,6 @@
 use super::{
     EndRow, LineRow, at, fault_of, file_of, have_end_faults, have_line_faults, tours_with,
 };
-use crate::asserts::{same, same_at};
-use crate::files::drafts::points;
 use std::test::Fail;
 use tsp_fields::EndFault;
 use tsp_number::NumberFault::{BadNumber, OutOfRange};
@@ -13,6 +11,8 @@ use tsp_read::LineFault::{
     SelfEdge, StrayNumber, Surplus, TooManyNodes, UnknownLine,
 };
 use tsp_read::{LineFault, ReadFault};
+use tsp_testing::asserts::{same, same_at};
+use tsp_testing::drafts::points;
 use tsp_value::{Field, Kind, WeightKind};
 
 const LINE_FAULTS: &[LineRow] = &[

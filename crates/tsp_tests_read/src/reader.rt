@@ -12,8 +12,6 @@ mod ranges;
 mod readers;
 mod sections;
 
-use crate::asserts::same_at;
-use crate::devices::Drip;
 use std::alloc::Global;
 use std::process::Abort;
 use std::test::Fail;
@@ -21,6 +19,8 @@ use tsp_fields::{EndFault, File};
 use tsp_file::write_file;
 use tsp_read::{LineFault, ReadFault, read_bytes};
 use tsp_stream::Watched;
+use tsp_testing::asserts::same_at;
+use tsp_testing::devices::Drip;
 
 /// A text, the line and the word of its first fault, and its name.
 type LineRow = (&'static str, u32, u32, LineFault);

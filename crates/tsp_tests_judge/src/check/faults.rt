@@ -3,11 +3,11 @@
 use super::{
     POTENTIALS, RECTANGLE, THREE_NODES, TOUR, full_matrix, judged, printed, reports, stops,
 };
-use crate::asserts::{same, same_at};
-use crate::devices::{NEVER, Trickle};
 use std::io::ErrorKind;
 use std::test::Fail;
 use tsp_stream::Watched;
+use tsp_testing::asserts::{same, same_at};
+use tsp_testing::devices::{NEVER, Trickle};
 
 /// An instance with a word that is no number.
 const BAD_NUMBER: &str =

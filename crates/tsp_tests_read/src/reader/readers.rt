@@ -1,8 +1,6 @@
 //! Texts that come from a reader: one that does little at a time, fails, or never ends.
 
 use super::{at, written};
-use crate::asserts::{holds, holds_at, same, same_at};
-use crate::devices::{Flood, Trickle, outcome};
 use std::alloc::Global;
 use std::io::{ErrorKind, Read};
 use std::test::Fail;
@@ -11,6 +9,8 @@ use tsp_number::NumberFault::BadNumber;
 use tsp_read::LineFault::{Number, UnknownLine};
 use tsp_read::{ReadFault, read_bytes, read_from};
 use tsp_stream::Watched;
+use tsp_testing::asserts::{holds, holds_at, same, same_at};
+use tsp_testing::devices::{Flood, Trickle, outcome};
 use tsp_value::Field;
 
 /// What a reading answers: the canonical text of its file, or its fault.

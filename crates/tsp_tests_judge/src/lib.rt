@@ -1,0 +1,10 @@
+//! The tests of what the program does with files, from the bytes that come in to those that go
+//! out.
+#![tactic(auto)]
+
+#[cfg(test)]
+mod check;
+#[cfg(test)]
+mod convert;
+#[cfg(test)]
+mod show;
