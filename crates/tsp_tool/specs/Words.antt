@@ -1,5 +1,5 @@
 -- What the words of a command line ask for.
-use Rattle.std.specs.Prelude.{◌≡◌, ◌≢◌, ℕ, List, [], Option, None, Some, Result, Ok, Err, ⊤, codes, option_map, String}
+use Rattle.std.specs.Prelude.{◌≡◌, ◌≢◌, List, [], Option, None, Some, Result, Ok, Err, ⊤, codes, option_map, String}
 use Rattle.std.specs.String.{string_bytes}
 use Rattle.clap.specs.Words.{Row, Text, first_of, kind_of, fault_of, subcommand_of}
 use Rattle.clap.specs.Kinds.{IsAmong}

@@ -94,6 +94,11 @@ fn words_ask_for_another_layout(rt: HostRuntime) -> Result<(), Fail> {
     let job = job_of(rt.alloc(), &["convert", "a", "--layout", "UPPER_ROW"])?;
     let texts = [Some("a"), None, Some("UPPER_ROW"), None];
     assert_eq!(rt; fields_of(&job), (Some(Verb::Convert), texts));
+    Ok(())
+}
+
+#[test]
+fn words_ask_for_an_empty_layout(rt: HostRuntime) -> Result<(), Fail> {
     let job = job_of(rt.alloc(), &["convert", "--layout=", "a"])?;
     let texts = [Some("a"), None, Some(""), None];
     assert_eq!(rt; fields_of(&job), (Some(Verb::Convert), texts));
@@ -105,8 +110,16 @@ fn words_ask_to_show(rt: HostRuntime) -> Result<(), Fail> {
     let job = job_of(rt.alloc(), &["show", "-"])?;
     let texts = [Some("-"), None, None, None];
     assert_eq!(rt; fields_of(&job), (Some(Verb::Show), texts));
-    let job = job_of(rt.alloc(), &[])?;
-    assert_eq!(rt; fields_of(&job), (None, [None, None, None, None]));
+    Ok(())
+}
+
+#[test]
+fn no_words_ask_for_no_verb(rt: HostRuntime) -> Result<(), Fail> {
+    let words: [&str; 0] = [];
+    let job = job_of(rt.alloc(), words.as_slice())?;
+    assert_eq!(rt; job.verb, None);
+    assert!(rt; job.file.is_none() && job.solution.is_none());
+    assert!(rt; job.layout.is_none() && job.potentials.is_none());
     Ok(())
 }
 
@@ -194,7 +207,7 @@ fn each_task_is_done(rt: HostRuntime) {
         ),
         (
             Task::Convert(TOUR, None),
-            "TYPE : TOUR\nTOUR_SECTION\n1 2 3 4 -1\n-1\nEOF\n",
+            "TYPE : TOUR\nTOUR_SECTION\n1\n2\n3\n4\n-1\nEOF\n",
         ),
         (
             Task::Check(RECTANGLE, TOUR),

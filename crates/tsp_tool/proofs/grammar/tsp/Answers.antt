@@ -1,7 +1,7 @@
 use Rattle.std.proofs.Common.{rules, ◌≡◌, ◌∙◌, ap, ap₂}
 use Rattle.std.proofs.lemmas.Result.{IfOk-weaker}
 use Rattle.clap.specs.Words.{App, app_of, with_subcommand}
-use Rattle.tsp_tool.specs.Grammar.{IsCommandOf, start, show, convert, check, tsp}
+use Rattle.tsp_tool.specs.Grammar.{IsCommandOf, start, show}
 use Rattle.tsp_tool.proofs.grammar.tsp.Goals as goal
 
 -- the three subcommands one after the other
