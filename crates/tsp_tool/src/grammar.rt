@@ -28,7 +28,7 @@ Exit status:
 Examples:
   tsp show a.tsp
   tsp convert a.tsp --layout UPPER_ROW > b.tsp
-  tsp check a.tsp a.tour --potentials a.pi";
+  tsp check a.tsp a.tour --potentials a.potentials";
 
 /// The end of the help of `show`.
 const SHOW_NOTES: &str = "\
@@ -63,7 +63,7 @@ Exit status: 0 yes, 1 no, 2 a fault of a file or the wrong kind,
 
 Examples:
   tsp check a.tsp a.tour
-  tsp check a.tsp a.tour --potentials a.pi";
+  tsp check a.tsp a.tour --potentials a.potentials";
 
 /// The program's command with its three subcommands. Its words are those after the program's own
 /// name.
