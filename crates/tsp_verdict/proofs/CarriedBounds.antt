@@ -1,6 +1,6 @@
--- The bound of potentials, carried to costs that are the same between all nodes.
-use Rattle.std.proofs.Common.{◌≡◌, ℕ, List, [], ◌∷◌, refl, sym, ap, ap₂, subst, subst₂, ◌∙◌}
-use Rattle.std.specs.Prelude.{Some, ◌≤◌, length, unwrap_or, ℤ, ◌+ℤ◌, ◌*ℤ◌, ◌≤ℤ◌}
+-- The bounds of a certificate, carried to costs that are the same between all nodes.
+use Rattle.std.proofs.Common.{◌≡◌, ℕ, List, [], ◌∷◌, refl, sym, ap, ap₂, subst, subst₂, ◌∙◌, arith}
+use Rattle.std.specs.Prelude.{Some, ◌≤◌, length, unwrap_or, ℤ, ◌+ℤ◌, ◌*ℤ◌, ◌≤ℤ◌, ◌<ℤ◌}
 use Rattle.tsp_fields.specs.Fields.{Fields}
 use Rattle.tsp_fields.specs.Cost.{cost}
 use Rattle.tsp_cost.specs.Costs.{IsEven}
@@ -9,8 +9,10 @@ use Rattle.tsp_value.specs.declared.kinds.Kind.TheVariants as kinds
 use Rattle.tsp_bound.specs.Numbers.{IsScale, entry, IsBoundSized}
 use Rattle.tsp_bound.specs.Tree.{weight_of, IsLeastOneTree}
 use Rattle.tsp_bound.specs.NodeBound.{weight_between, IsBoundOf, IsNodeBound, NodeBoundsBoundWalks}
+use Rattle.tsp_bound.specs.Assignment.{AreGood, IsFirstBroken, IsDualBound, DualsBoundWalks}
+use Rattle.tsp_verdict.specs.declared.verdict.Reason.TheVariants.{DualInfeasible}
 use Rattle.tsp_verdict.specs.Solution.{nodes_of}
-use Rattle.tsp_verdict.specs.Certificate.{scale_in, potentials_in, IsBoundBy, IsCertified}
+use Rattle.tsp_verdict.specs.Certificate.{scale_in, potentials_in, rows_in, columns_in, StandsAgainst, IsBoundBy, IsCertified}
 
 abbrev pub Same : (ℕ → ℕ → ℤ) → (ℕ → ℕ → ℤ) → Type 0
 Same v w = (i j : ℕ) → v i j ≡ w i j
@@ -54,3 +56,52 @@ certified inst pot n costs scale potentials bound law kind even some scale_is sc
     let by_certificate : IsNodeBound (nodes_of inst) (cost inst) (scale_in pot) (potentials_in pot) bound =
     subst₂ (λ s p. IsNodeBound (nodes_of inst) (cost inst) s p bound) scale_in_is potentials_are here in
     (subst (λ k. IsBoundBy k inst pot bound) (sym kind) by_certificate, λ nodes walk. law (nodes_of inst) (cost inst) scale potentials bound nodes some even scale_is count here walk, found.1)
+
+-- ---- duals
+
+good_same : (n : ℕ) (a b : ℕ → ℕ → ℤ) (scale : ℤ) (rows columns : List ℤ) → Same a b → AreGood n a scale rows columns → AreGood n b scale rows columns
+good_same n a b scale rows columns same good i j row column other =
+    subst (λ c. (entry rows i +ℤ entry columns j) ≤ℤ (scale *ℤ c)) (same i j) (good i j row column other)
+
+broken_same : (n : ℕ) (a b : ℕ → ℕ → ℤ) (scale : ℤ) (rows columns : List ℤ) (i j : ℕ) → Same a b → IsFirstBroken n a scale rows columns i j → IsFirstBroken n b scale rows columns i j
+broken_same n a b scale rows columns i j same pair = record {
+  row = pair.row;
+  column = pair.column;
+  other = pair.other;
+  broken = subst (λ c. (scale *ℤ c) <ℤ (entry rows i +ℤ entry columns j)) (same i j) pair.broken;
+  first = λ k l row column other before. subst (λ c. (entry rows k +ℤ entry columns l) ≤ℤ (scale *ℤ c)) (same k l) (pair.first k l row column other before);
+}
+
+-- duals that are those of the certificate
+pub record AreOf (pot : Fields) (scale : ℤ) (rows columns : List ℤ) : Type 0 where
+  pub scale_is : scale ≡ scale_in pot
+  pub rows_are : rows ≡ rows_in pot
+  pub columns_are : columns ≡ columns_in pot
+
+-- the bound that a view's costs give is that of the certificate
+pub assigned : (inst pot : Fields) (n : ℕ) (costs : ℕ → ℕ → ℤ) (scale : ℤ) (rows columns : List ℤ) (bound : ℤ) → DualsBoundWalks → inst.kind ≡ Some kinds.Atsp → 3 ≤ nodes_of inst → IsScale scale
+    → AreOf pot scale rows columns → length rows ≡ nodes_of inst → length columns ≡ nodes_of inst → Keeps inst n costs
+    → AreGood n costs scale rows columns × IsDualBound scale rows columns bound → IsBoundSized bound → IsCertified inst pot bound
+assigned inst pot n costs scale rows columns bound law kind some scaled are as_rows as_columns keeps found small =
+    let nodes : nodes_of inst ≡ n = ap (λ o. unwrap_or o 0) keeps.count in
+    let good : AreGood (nodes_of inst) (cost inst) scale rows columns =
+    subst (λ m. AreGood m (cost inst) scale rows columns) (sym nodes) (good_same n costs (cost inst) scale rows columns keeps.every found.0) in
+    let by_certificate : AreGood (nodes_of inst) (cost inst) (scale_in pot) (rows_in pot) (columns_in pot) × IsDualBound (scale_in pot) (rows_in pot) (columns_in pot) bound =
+    subst (λ s. AreGood (nodes_of inst) (cost inst) s (rows_in pot) (columns_in pot) × IsDualBound s (rows_in pot) (columns_in pot) bound) are.scale_is
+    (subst₂ (λ r c. AreGood (nodes_of inst) (cost inst) scale r c × IsDualBound scale r c bound) are.rows_are are.columns_are (good, found.1)) in (
+      subst (λ k. IsBoundBy k inst pot bound) (sym kind) by_certificate,
+      λ walk is. law (nodes_of inst) (cost inst) scale rows columns bound walk (omega (arith, some)) scaled as_rows as_columns good found.1 is,
+      small,
+    )
+
+-- and so is the first pair that breaks them
+pub broken_stands : (inst pot : Fields) (n : ℕ) (costs : ℕ → ℕ → ℤ) (scale : ℤ) (rows columns : List ℤ) (i j : ℕ) → inst.kind ≡ Some kinds.Atsp
+    → AreOf pot scale rows columns → Keeps inst n costs → IsFirstBroken n costs scale rows columns i j → StandsAgainst inst pot (DualInfeasible i j)
+broken_stands inst pot n costs scale rows columns i j kind are keeps pair =
+    let nodes : nodes_of inst ≡ n = ap (λ o. unwrap_or o 0) keeps.count in
+    let here : IsFirstBroken (nodes_of inst) (cost inst) scale rows columns i j =
+    subst (λ m. IsFirstBroken m (cost inst) scale rows columns i j) (sym nodes) (broken_same n costs (cost inst) scale rows columns i j keeps.every pair) in (
+      kind,
+      subst (λ s. IsFirstBroken (nodes_of inst) (cost inst) s (rows_in pot) (columns_in pot) i j) are.scale_is
+          (subst₂ (λ r c. IsFirstBroken (nodes_of inst) (cost inst) scale r c i j) are.rows_are are.columns_are here),
+    )

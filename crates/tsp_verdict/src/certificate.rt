@@ -5,8 +5,8 @@ ghost use Rattle.tsp_value.specs.declared.kinds.Kind.TheVariants as kinds;
 ghost use Rattle.tsp_fields.specs.Rules.{is_certificate};
 ghost use Rattle.tsp_fields.specs.Cost.{cost};
 ghost use Rattle.tsp_cost.specs.Costs.{IsEven};
-ghost use Rattle.tsp_bound.specs.Numbers.{IsScale, IsBoundSized};
-ghost use Rattle.tsp_bound.specs.NodeBound.{IsNodeBound};
+ghost use Rattle.tsp_cost.specs.Views.{Keeps};
+ghost use Rattle.tsp_bound.specs.Numbers.{IsScale};
 ghost use Rattle.tsp_bound.specs.Duals.{scale_of as scale_of_duals, rows_of, columns_of};
 ghost use Rattle.tsp_bound.specs.Potentials.{scale_of, numbers_of};
 ghost use Rattle.tsp_verdict.specs.Reasons.{IsFirstReason};
@@ -16,7 +16,9 @@ ghost use Rattle.tsp_verdict.specs.Certificate.{has_wanted, scale_in, potentials
 
 use crate::verdict::Reason;
 use std::alloc::{AllocError, Global};
-use tsp_bound::{Duals, Potentials, dual_bound, node_bounds_bound_walks, one_tree};
+use tsp_bound::{
+    Duals, Potentials, dual_bound, duals_bound_walks, node_bounds_bound_walks, one_tree,
+};
 use tsp_cost::{Costs, Instance, Symmetric, View};
 use tsp_fields::{File, valid_fields_are_in_range};
 use tsp_value::Kind;
@@ -55,6 +57,8 @@ fn has_wanted(kind: Kind, pot: &File) -> bool
 fn duals_of(pot: &File) -> Duals<'_>
     requires { has_wanted (Some kinds.Atsp) pot.now ≡ true }
     ensures scale { scale_of_duals result ≡ scale_in pot.now }
+    ensures scaled { IsScale (scale_of_duals result) }
+    ensures as_many { length (columns_of result) ≡ length (rows_of result) }
     ensures rows { rows_of result ≡ rows_in pot.now }
     ensures columns { columns_of result ≡ columns_in pot.now }
     ensures count { length (rows_of result) ≡ nodes_of pot.now }
@@ -100,7 +104,27 @@ pub(crate) fn bound_of_duals(inst: &Instance, pot: &File) -> Result<i128, Reason
         (λ bound. IsCertified inst.now pot.now bound)
         (λ reason. StandsAgainst inst.now pot.now reason × (rank_of reason ≡ 13)) }
 {
-    match dual_bound(inst, &duals_of(pot)) {
+    // A view has found once and for all where the costs are.
+    match inst.view() {
+        View::Points(points) => assignment_bound(inst, pot, &points),
+        View::Triangle(triangle) => assignment_bound(inst, pot, &triangle),
+        View::Matrix(matrix) => assignment_bound(inst, pot, &matrix),
+    }
+}
+
+/// The same over the costs of a view.
+fn assignment_bound<C: Costs>(inst: &Instance, pot: &File, c: &C) -> Result<i128, Reason>
+    requires keeps { Keeps inst.now (C.nodes c.now) (C.at c.now) }
+    requires kind { inst.now.kind ≡ Some kinds.Atsp }
+    requires some { 3 ≤ nodes_of inst.now }
+    requires count { nodes_of pot.now ≡ nodes_of inst.now }
+    requires wanted { has_wanted (Some kinds.Atsp) pot.now ≡ true }
+    ensures { MatchResult result
+        (λ bound. IsCertified inst.now pot.now bound)
+        (λ reason. StandsAgainst inst.now pot.now reason × (rank_of reason ≡ 13)) }
+{
+    duals_bound_walks();
+    match dual_bound(c, &duals_of(pot)) {
         Ok(bound) => Ok(bound),
         Err(pair) => Err(Reason::DualInfeasible {
             i: pair.i,
@@ -122,28 +146,34 @@ pub(crate) fn bound_of_potentials(
     requires even { IsEven (cost inst.now) }
     ensures { IfOk result (λ bound. IsCertified inst.now pot.now bound) }
 {
-    let potentials = potentials_of(pot);
-    node_bounds_bound_walks();
     match inst.view() {
-        View::Points(points) => bound_over(alloc, &points, &potentials),
-        View::Triangle(triangle) => bound_over(alloc, &triangle, &potentials),
+        View::Points(points) => tree_bound(alloc, inst, pot, &points),
+        View::Triangle(triangle) => tree_bound(alloc, inst, pot, &triangle),
         View::Matrix(matrix) => match matrix.even() {
-            Ok(even) => bound_over(alloc, &even, &potentials),
+            Ok(even) => tree_bound(alloc, inst, pot, &even),
             Err(_) => unreachable!(),
         },
     }
 }
 
-/// The bound that potentials give over costs that are the same both ways.
-fn bound_over<C: Symmetric>(
+/// The same over the costs of a view.
+fn tree_bound<C: Symmetric>(
     alloc: Global,
+    inst: &Instance,
+    pot: &File,
     c: &C,
-    potentials: &Potentials<'_>,
 ) -> Result<i128, AllocError>
-    requires some { 3 ≤ C.nodes c.now }
-    requires count { length (numbers_of potentials.now) ≡ C.nodes c.now }
-    ensures { IfOk result (λ bound. IsNodeBound (C.nodes c.now) (C.at c.now)
-        (scale_of potentials.now) (numbers_of potentials.now) bound × IsBoundSized bound) }
+    requires keeps { Keeps inst.now (C.nodes c.now) (C.at c.now) }
+    requires kind { inst.now.kind ≡ Some kinds.Tsp }
+    requires some { 3 ≤ nodes_of inst.now }
+    requires count { nodes_of pot.now ≡ nodes_of inst.now }
+    requires wanted { has_wanted (Some kinds.Tsp) pot.now ≡ true }
+    requires even { IsEven (cost inst.now) }
+    ensures { IfOk result (λ bound. IsCertified inst.now pot.now bound) }
 {
-    Ok(one_tree(alloc, c, potentials)?.bound)
+    node_bounds_bound_walks();
+    match one_tree(alloc, c, &potentials_of(pot)) {
+        Ok(found) => Ok(found.bound),
+        Err(refused) => Err(refused),
+    }
 }
