@@ -11,7 +11,8 @@ pub enum RunFault {
     /// A file, counted from 1, is none.
     #[error("file {file}: {fault}")]
     File { file: u32, fault: ReadFault },
-    /// Of a check alone: the first file is of TYPE TOUR or POTENTIALS.
+    /// Of the checks alone: the first file is of TYPE TOUR or POTENTIALS, or of TYPE CVRP where
+    /// potentials are given.
     #[error("file 1: wrong kind")]
     WrongKind,
     /// The output could not be written.
