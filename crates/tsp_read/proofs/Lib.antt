@@ -26,6 +26,7 @@ pub mod OpenSteps
 pub mod Scans
 pub mod LeftSteps
 pub mod NextSteps
+pub mod Onwards
 pub mod Walks
 pub mod FirstFaults
 pub mod OneAnswer

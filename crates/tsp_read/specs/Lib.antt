@@ -21,6 +21,7 @@ pub mod Holds
 pub mod Cuts
 pub mod CutLine
 pub mod Left
+pub mod Onward
 pub mod Walk
 pub mod Answering
 pub mod ByNode

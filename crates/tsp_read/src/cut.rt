@@ -9,6 +9,7 @@ ghost use Rattle.tsp_read.specs.Lines.{ends_line, without_start, without_end, ke
 ghost use Rattle.tsp_read.specs.Items.{line_item};
 ghost use Rattle.tsp_read.specs.CutLine.{cut_item};
 ghost use Rattle.tsp_read.specs.Left.{ends_word, before, from, is_settled, items_left, item_next, is_inside};
+ghost use Rattle.tsp_read.specs.Onward.{is_over_long, GivesNext};
 
 use crate::state::line::CutLine;
 use tsp_value::{Keyword, MOST_LINE_BYTES, MOST_WORD_BYTES, is_blank, is_keyword_byte, is_letter};
@@ -172,12 +173,15 @@ fn begins_line(first: u8, inside: bool) -> bool
 /// What stands next in what is left of a text, and what is left then; nothing at its end.
 ///
 /// `inside`: an item of the first line was taken already. `goes_on`: more bytes follow than are
-/// given, so that only what those can't change is taken.
+/// given, so that only what those can't change is taken. That holds whatever follows, of a line or
+/// word that isn't too long.
 #[inline(always)]
 pub(crate) fn next_item(text: &[u8], inside: bool, goes_on: bool) -> Option<(Next<'_>, &[u8])>
     ensures items { MatchOption result (items_left goes_on inside text.now ≡ [])
         (λ found. items_left goes_on inside text.now
         ≡ item_next found.0 ∷ items_left goes_on (is_inside found.0) found.1.now) }
+    ensures follows { IfSome result (λ found. goes_on ≡ true → is_over_long (item_next found.0) ≡ false
+        → GivesNext inside text.now (item_next found.0) (is_inside found.0) found.1.now) }
     ensures shorter { IfSome result (λ found. length found.1.now < length text.now) }
 {
     let filled = without_start(text);
