@@ -44,4 +44,5 @@ pub mod TourSteps
 pub mod FinishSteps
 pub mod Readings
 pub mod ReadSteps
+pub mod IntakeSteps
 pub mod FromReader

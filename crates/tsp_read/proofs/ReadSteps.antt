@@ -67,7 +67,7 @@ takes_err earlier cut item new (steps.Fault fault) same h = let P : Item → Typ
 -- ---- counts
 
 -- after an item the line has as many words as the number of that item
-words_next : (earlier : List Item) (item : Item) → word_number earlier item ≡ words_before (item ∷ earlier)
+pub words_next : (earlier : List Item) (item : Item) → word_number earlier item ≡ words_before (item ∷ earlier)
 words_next earlier (Line key line) = refl
 words_next earlier (NumberWord word) = refl
 words_next earlier LineEnd = refl

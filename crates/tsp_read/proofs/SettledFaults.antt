@@ -54,7 +54,7 @@ minus_long word long = by_case (is_minus_one word) refl
     by_case true e = absurd (false≢true (subst IsLong ((bytes_eq-Decides word (codes "-1")).0 e) long))
     by_case false e = refl
 
-long_row : Place → LineFault
+pub long_row : Place → LineFault
 long_row (NodeAfter nodes) = row.Number LongWord
 long_row Coordinate = row.Number LongWord
 long_row (Amount low high) = row.Number LongWord
@@ -67,7 +67,7 @@ long_row Weight = row.Number LongWord
 long_row PastWeights = row.Surplus
 long_row (TourNode count) = row.Number LongWord
 
-long_fault : (n : ℕ) (place : Place) (word : List ℕ) → IsLong word → word_fault n place word ≡ Some (long_row place)
+pub long_fault : (n : ℕ) (place : Place) (word : List ℕ) → IsLong word → word_fault n place word ≡ Some (long_row place)
 unfolding long_row
 long_fault n (NodeAfter nodes) word long = rw (whole_long word (pos 1) (pos n) long) refl
 long_fault n Coordinate word long = rw (decimal_long word long) refl

@@ -90,14 +90,20 @@ fault_first earlier item row clean e =
     ap (λ first. option_or first (option_map (fault_here earlier item) (row_of earlier item))) clean
     ∙ ap (option_map (fault_here earlier item)) e
 
+-- with the next item comes the first fault
+pub walked_found : (items earlier later : List Item) (item : Item) (found : ReadFault) → Walked items earlier (item ∷ later) → fault_in (item ∷ earlier) ≡ Some found
+    → fault_in (reverse (to_end_line items)) ≡ Some found
+walked_found items earlier later item found h e =
+    let more = cond (is_end_line item) [] (to_end_line later) in
+    ap (λ xs. fault_in (reverse xs)) (counts items earlier (item ∷ later) h)
+    ∙ ap fault_in (turned earlier more item)
+    ∙ fault_stays (reverse more) (item ∷ earlier) found e
+
 -- the next item is the first with a row
 pub walked_to_fault : (items earlier later : List Item) (item : Item) (row : LineFault) → Walked items earlier (item ∷ later) → IsClean earlier → row_of earlier item ≡ Some row
     → fault_in (reverse (to_end_line items)) ≡ Some (fault_here earlier item row)
 walked_to_fault items earlier later item row h clean e =
-    let more = cond (is_end_line item) [] (to_end_line later) in
-    ap (λ xs. fault_in (reverse xs)) (counts items earlier (item ∷ later) h)
-    ∙ ap fault_in (turned earlier more item)
-    ∙ fault_stays (reverse more) (item ∷ earlier) (fault_here earlier item row) (fault_first earlier item row clean e)
+    walked_found items earlier later item (fault_here earlier item row) h (fault_first earlier item row clean e)
 
 -- ---- a whole text
 

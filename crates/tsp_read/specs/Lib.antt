@@ -27,3 +27,4 @@ pub mod Answering
 pub mod ByNode
 pub mod Finishes
 pub mod Reads
+pub mod Intake

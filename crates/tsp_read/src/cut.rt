@@ -130,6 +130,19 @@ pub(crate) enum Next<'a> {
     LineEnd,
 }
 
+impl<'a> Next<'a> {
+    /// Whether what follows is of the same line.
+    #[inline(always)]
+    pub(crate) fn is_inside(&self) -> bool
+        ensures { result ≡ is_inside self.now }
+    {
+        match self {
+            Next::Line(_) | Next::Word(_) => true,
+            Next::LineEnd => false,
+        }
+    }
+}
+
 /// The text up to the end of its first line, and what follows; or nothing where the text goes on
 /// and no line ends in it, unless it is longer than any word line.
 #[inline(always)]

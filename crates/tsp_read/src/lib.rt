@@ -5,6 +5,7 @@ mod answers;
 mod by_node;
 mod cut;
 mod fault;
+mod intake;
 mod laws;
 mod parts;
 mod read;

@@ -1,9 +1,10 @@
 //! A whole text.
 
-ghost use Rattle.std.specs.Prelude.{◌≡◌, ◌+◌, ◌<◌, ◌≤◌, ◌∷◌, ◌&&◌, not, List, length};
+ghost use Rattle.std.specs.Prelude.{◌≡◌, ◌+◌, ◌<◌, ◌≤◌, ◌∷◌, ◌&&◌, not, List, length, IsTrue, Ok, false};
 ghost use Rattle.tsp_value.specs.Limits.{most_file_bytes};
 ghost use Rattle.tsp_read.specs.Items.{Item, WordLine, Line, is_end_line, line_item, line_number, words_before, word_number};
 ghost use Rattle.tsp_read.specs.Left.{item_next};
+ghost use Rattle.tsp_read.specs.Onward.{is_line_end};
 ghost use Rattle.tsp_read.specs.Text.{is_too_long};
 ghost use Rattle.tsp_read.specs.Walk.{left};
 ghost use Rattle.tsp_read.specs.Holds.{Holds};
@@ -22,9 +23,10 @@ use tsp_stream::{InputFault, Watched, read_whole};
 use tsp_value::{Keyword, MOST_FILE_BYTES};
 
 /// Takes an item. The answer is whether it is an end line.
-fn take(reading: &mut Reading, alloc: Global, next: &Next<'_>) -> Result<bool, StepFault>
-    ensures { (earlier : List Item) → Holds reading.old earlier
+pub(crate) fn take(reading: &mut Reading, alloc: Global, next: &Next<'_>) -> Result<bool, StepFault>
+    ensures item { (earlier : List Item) → Holds reading.old earlier
         → TakesItem earlier (item_next next.now) reading.new result }
+    ensures line_end { IsTrue (is_line_end (item_next next.now)) → result ≡ Ok false }
 {
     match next {
         Next::LineEnd => Ok(false),
@@ -63,7 +65,7 @@ fn take_line(reading: &mut Reading, alloc: Global, text: &[u8]) -> Result<bool, 
 }
 
 /// The number of the word that an item is, after so many words of its line; 0 where it is none.
-fn word_of(words: u32, next: &Next<'_>) -> u32
+pub(crate) fn word_of(words: u32, next: &Next<'_>) -> u32
     requires { words ≤ most_file_bytes }
     ensures number { (earlier : List Item) → words ≡ words_before earlier
         → result ≡ word_number earlier (item_next next.now) }
@@ -76,7 +78,7 @@ fn word_of(words: u32, next: &Next<'_>) -> u32
 }
 
 /// The number of the line after an item of this one.
-fn line_after(line: u32, next: &Next<'_>) -> u32
+pub(crate) fn line_after(line: u32, next: &Next<'_>) -> u32
     requires { line ≤ most_file_bytes + 1 }
     ensures number { (earlier : List Item) → line ≡ line_number earlier
         → result ≡ line_number (item_next next.now ∷ earlier) }

@@ -1,0 +1,97 @@
+//! A text that is read while it comes.
+
+ghost use Rattle.std.specs.Prelude.{◌≡◌, ◌+◌, ◌≤◌, ◌<◌, [], List, ℕ, length, IfOk, IfSome, true};
+ghost use Rattle.tsp_value.specs.Limits.{most_file_bytes};
+ghost use Rattle.tsp_read.specs.Items.{Item};
+ghost use Rattle.tsp_read.specs.Left.{items_left, item_next, is_inside};
+
+use crate::cut::{Next, next_item};
+use crate::fault::{ReadFault, StepFault};
+use crate::read::{line_after, take, word_of};
+use crate::state::reading::Reading;
+use std::alloc::Global;
+
+/// What was read of a text up to a place in it.
+#[derive(Drop)]
+pub(crate) struct Intake {
+    pub(crate) reading: Reading,
+    /// The number of the line, from 1 on.
+    line: u32,
+    /// How many of its words were taken.
+    words: u32,
+    /// An item of the line was taken.
+    inside: bool,
+}
+
+impl Intake {
+    ghost use Rattle.tsp_read.specs.Intake.{Stands, TakesNext, IsReadTo, ReadsOn};
+
+    /// The start of a text.
+    pub(crate) fn new(alloc: Global) -> Intake
+        ensures start { Stands result [] }
+        ensures read { IsReadTo result [] [] }
+        ensures line { result.line ≡ 1 }
+        ensures words { result.words ≡ 0 }
+    {
+        Intake {
+            reading: Reading::new(alloc),
+            line: 1,
+            words: 0,
+            inside: false,
+        }
+    }
+
+    /// Takes the next item. The answer is whether it is an end line.
+    pub(crate) fn take_next(&mut self, alloc: Global, next: &Next<'_>) -> Result<bool, ReadFault>
+        requires line { self.old.line ≤ most_file_bytes }
+        requires words { self.old.words < most_file_bytes }
+        ensures item { (earlier : List Item) → Stands self.old earlier
+            → TakesNext earlier (item_next next.now) self.new result }
+        ensures inside { IfOk result (λ _. self.new.inside ≡ is_inside next.now) }
+        ensures line { self.new.line ≤ self.old.line + 1 }
+        ensures words { self.new.words ≤ self.old.words + 1 }
+    {
+        self.words = word_of(self.words, next);
+        match take(&mut self.reading, alloc, next) {
+            Ok(ended) => {
+                self.line = line_after(self.line, next);
+                self.inside = next.is_inside();
+                Ok(ended)
+            }
+            Err(StepFault::Memory) => Err(ReadFault::OutOfMemory),
+            Err(StepFault::Fault(fault)) => Err(ReadFault::Line {
+                line: self.line,
+                word: self.words,
+                fault,
+            }),
+        }
+    }
+
+    /// Takes all items of a piece that what follows can't change, and gives what is left of it; or
+    /// nothing where an end line was taken.
+    pub(crate) fn take_items<'a>(
+        &mut self,
+        alloc: Global,
+        piece: &'a [u8],
+    ) -> Result<Option<&'a [u8]>, ReadFault>
+        requires line { self.old.line + length piece.now ≤ most_file_bytes + 1 }
+        requires words { self.old.words + length piece.now ≤ most_file_bytes }
+        ensures items { (bytes : List ℕ) → IsReadTo self.old bytes piece.now
+            → ReadsOn bytes self.new.reading (λ rest. IsReadTo self.new bytes rest.now
+            × (items_left true self.new.inside rest.now ≡ [])) result }
+        ensures room { IfOk result (λ left. IfSome left (λ rest.
+            (self.new.line + length rest.now ≤ self.old.line + length piece.now)
+            × (self.new.words + length rest.now ≤ self.old.words + length piece.now))) }
+    {
+        let mut rest = piece;
+        'items: while let Some((next, after)) = next_item(rest, self.inside, true) {
+            match self.take_next(alloc, &next) {
+                Ok(true) => return Ok(None),
+                Ok(false) => {}
+                Err(fault) => return Err(fault),
+            }
+            rest = after;
+        }
+        Ok(Some(rest))
+    }
+}
