@@ -28,7 +28,7 @@ use Rattle.tsp_read.proofs.LeftSteps.{all_settled, left_blank, left_end, left_no
 use Rattle.tsp_read.proofs.TextSteps.{long_line}
 use Rattle.tsp_read.proofs.WordSteps.{word_rows}
 use Rattle.tsp_read.proofs.ValidRows.{clean_parts}
-use Rattle.tsp_read.proofs.SettledFaults.{long_row, long_fault}
+use Rattle.tsp_read.proofs.SettledFaults.{long_row, long_fault, same_fault}
 use Rattle.tsp_read.proofs.Walks.{walked_to_end, walked_found}
 
 -- ---- an item that is too long has a row
@@ -158,3 +158,18 @@ read_to_fault old new bytes rest item later (faults.End fault) h next taken = ta
 read_to_fault old new bytes rest item later faults.OutOfMemory h next taken = not_bare old bytes rest true item later h next (taken h.earlier h.stands)
 read_to_fault old new bytes rest item later faults.Device h next taken = taken h.earlier h.stands
 read_to_fault old new bytes rest item later faults.TooLong h next taken = taken h.earlier h.stands
+
+-- ---- words that are too long
+
+-- they have the same fault, whatever their bytes are
+pub same_long : (earlier : List Item) (long word : List ℕ) (new : Intake) (found : ReadFault) → is_over_long (NumberWord long) ≡ true → is_over_long (NumberWord word) ≡ true
+    → TakesNext earlier (NumberWord long) new (Err found) → TakesNext earlier (NumberWord word) new (Err found)
+same_long earlier long word new (faults.Line line number fault) a b taken = same_fault earlier (NumberWord word) (NumberWord long) (b, a) ∙ taken
+same_long earlier long word new (faults.End fault) a b taken = taken
+same_long earlier long word new faults.OutOfMemory a b taken = refl
+same_long earlier long word new faults.Device a b taken = taken
+same_long earlier long word new faults.TooLong a b taken = taken
+
+-- and are never taken
+pub never_long : (earlier : List Item) (item : Item) (new : Intake) (ended : Bool) → is_over_long item ≡ true → TakesNext earlier item new (Ok ended) → ⊥
+never_long earlier item new ended long taken = true≢false (sym long ∙ clean_is_short earlier item taken.0.holds.clean)

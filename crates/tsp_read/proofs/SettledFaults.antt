@@ -89,7 +89,7 @@ same_word_row earlier word next (Some f) long also e =
     let place = place_in f n (words_of f earlier) in
     word_rows earlier word f e ∙ long_fault n place word long ∙ sym (word_rows earlier next f e ∙ long_fault n place next also)
 
-same_fault : (earlier : List Item) (x y : Item) → AreLong x y → fault_in (x ∷ earlier) ≡ fault_in (y ∷ earlier)
+pub same_fault : (earlier : List Item) (x y : Item) → AreLong x y → fault_in (x ∷ earlier) ≡ fault_in (y ∷ earlier)
 same_fault earlier (Line key line) (Line other next) h =
     ap (λ (r : Option LineFault). option_or (fault_in earlier) (option_map (fault_here earlier (Line key line)) r)) (long_line key line earlier h.0 ∙ sym (long_line other next earlier h.1))
 same_fault earlier (Line key line) (NumberWord word) h = absurd h

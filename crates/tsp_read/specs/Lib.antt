@@ -28,3 +28,4 @@ pub mod ByNode
 pub mod Finishes
 pub mod Reads
 pub mod Intake
+pub mod Begun

@@ -54,7 +54,7 @@ fn word_end(text: &[u8]) -> Option<usize>
 /// A text from its first byte that isn't blank on.
 #[inline(always)]
 #[tactic(auto, using(crate::proofs::Scans::start_none, crate::proofs::Scans::start_some, crate::proofs::Scans::position_within))]
-fn without_start(text: &[u8]) -> &[u8]
+pub(crate) fn without_start(text: &[u8]) -> &[u8]
     ensures { result.now ≡ without_start text.now }
 {
     match first_filled(text) {
@@ -114,6 +114,30 @@ pub(crate) fn cut_line(text: &[u8]) -> CutLine<'_>
         keyword,
         has_colon,
         value: without_end(without_start(value)),
+    }
+}
+
+// ---- where a line or a word that has begun ends
+
+/// A text up to its first byte 10, and from there on.
+pub(crate) fn to_line_end(text: &[u8]) -> (&[u8], &[u8])
+    ensures before { result.0.now ≡ before ends_line text.now }
+    ensures from { result.1.now ≡ from ends_line text.now }
+{
+    match line_end(text) {
+        Some(end) => text.split_at(end),
+        None => text.split_at(text.len()),
+    }
+}
+
+/// A text up to its first blank or byte 10, and from there on.
+pub(crate) fn to_word_end(text: &[u8]) -> (&[u8], &[u8])
+    ensures before { result.0.now ≡ before ends_word text.now }
+    ensures from { result.1.now ≡ from ends_word text.now }
+{
+    match word_end(text) {
+        Some(end) => text.split_at(end),
+        None => text.split_at(text.len()),
     }
 }
 
@@ -177,7 +201,7 @@ fn take_word(text: &[u8], goes_on: bool) -> Option<(&[u8], &[u8])>
 
 /// Whether a byte that isn't blank begins a word line: the first of its line, where that is a letter.
 #[inline(always)]
-fn begins_line(first: u8, inside: bool) -> bool
+pub(crate) fn begins_line(first: u8, inside: bool) -> bool
     ensures { result ≡ (not inside && is_letter first) }
 {
     !inside && is_letter(first)

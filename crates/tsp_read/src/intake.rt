@@ -1,26 +1,33 @@
 //! A text that is read while it comes.
 
-ghost use Rattle.std.specs.Prelude.{◌≡◌, ◌+◌, ◌≤◌, ◌<◌, [], List, ℕ, length, IfOk, IfSome, true};
+ghost use Rattle.std.specs.Prelude.{◌≡◌, ◌+◌, ◌≤◌, ◌<◌, [], List, ℕ, length, IfOk, IfSome, Err, true};
 ghost use Rattle.tsp_value.specs.Limits.{most_file_bytes};
-ghost use Rattle.tsp_read.specs.Items.{Item};
+ghost use Rattle.tsp_value.specs.declared.keyword.Keyword.{Keyword};
+ghost use Rattle.tsp_read.specs.Items.{Item, WordLine, Line, NumberWord};
 ghost use Rattle.tsp_read.specs.Left.{items_left, item_next, is_inside};
+ghost use Rattle.tsp_read.specs.Onward.{is_over_long};
 
 use crate::cut::{Next, next_item};
-use crate::fault::{ReadFault, StepFault};
+use crate::fault::{LineFault, ReadFault, StepFault};
 use crate::read::{line_after, take, word_of};
 use crate::state::reading::Reading;
 use std::alloc::Global;
+use tsp_number::NumberFault;
+use tsp_value::MOST_WORD_BYTES;
+
+/// A word that is too long.
+const LONG_WORD: [u8; MOST_WORD_BYTES + 1] = [b'1'; MOST_WORD_BYTES + 1];
 
 /// What was read of a text up to a place in it.
 #[derive(Drop)]
 pub(crate) struct Intake {
     pub(crate) reading: Reading,
     /// The number of the line, from 1 on.
-    line: u32,
+    pub(crate) line: u32,
     /// How many of its words were taken.
-    words: u32,
+    pub(crate) words: u32,
     /// An item of the line was taken.
-    inside: bool,
+    pub(crate) inside: bool,
 }
 
 impl Intake {
@@ -67,6 +74,37 @@ impl Intake {
         }
     }
 
+    /// The fault of a word line that is too long.
+    pub(crate) fn long_line(&self) -> ReadFault
+        ensures { (earlier : List Item) → Stands self.now earlier → (key : Keyword) (line : WordLine)
+            → is_over_long (Line key line) ≡ true → TakesNext earlier (Line key line) self.now (Err result) }
+    {
+        ReadFault::Line {
+            line: self.line,
+            word: 0,
+            fault: LineFault::LongLine,
+        }
+    }
+
+    /// The fault of a word that is too long, whatever its bytes are.
+    pub(crate) fn long_word(&mut self, alloc: Global) -> ReadFault
+        requires line { self.old.line ≤ most_file_bytes }
+        requires words { self.old.words < most_file_bytes }
+        ensures { (earlier : List Item) → Stands self.old earlier → (word : List ℕ)
+            → is_over_long (NumberWord word) ≡ true
+            → TakesNext earlier (NumberWord word) self.new (Err result) }
+    {
+        match self.take_next(alloc, &Next::Word(&LONG_WORD)) {
+            Err(fault) => fault,
+            // No such word is taken.
+            Ok(_) => ReadFault::Line {
+                line: self.line,
+                word: self.words,
+                fault: LineFault::Number(NumberFault::LongWord),
+            },
+        }
+    }
+
     /// Takes all items of a piece that what follows can't change, and gives what is left of it; or
     /// nothing where an end line was taken.
     pub(crate) fn take_items<'a>(
@@ -77,8 +115,9 @@ impl Intake {
         requires line { self.old.line + length piece.now ≤ most_file_bytes + 1 }
         requires words { self.old.words + length piece.now ≤ most_file_bytes }
         ensures items { (bytes : List ℕ) → IsReadTo self.old bytes piece.now
-            → ReadsOn bytes self.new.reading (λ rest. IsReadTo self.new bytes rest.now
-            × (items_left true self.new.inside rest.now ≡ [])) result }
+            → ReadsOn bytes self.new.reading (λ rest. IsReadTo self.new bytes rest.now) result }
+        ensures left { IfOk result (λ left. IfSome left (λ rest.
+            items_left true self.new.inside rest.now ≡ [])) }
         ensures room { IfOk result (λ left. IfSome left (λ rest.
             (self.new.line + length rest.now ≤ self.old.line + length piece.now)
             × (self.new.words + length rest.now ≤ self.old.words + length piece.now))) }

@@ -2,6 +2,7 @@
 #![tactic(auto)]
 
 mod answers;
+mod begun;
 mod by_node;
 mod cut;
 mod fault;
