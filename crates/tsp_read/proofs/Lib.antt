@@ -45,4 +45,5 @@ pub mod FinishSteps
 pub mod Readings
 pub mod ReadSteps
 pub mod IntakeSteps
+pub mod BegunSteps
 pub mod FromReader

@@ -16,19 +16,19 @@ use Rattle.tsp_read.proofs.NextSteps.{end_next, line_next, word_next}
 one_more : (n : ℕ) → 1 + n ≡ suc n
 one_more n = omega arith
 
-abbrev CutsAlike : (ℕ → Bool) → List ℕ → List ℕ → Type 0
+abbrev pub CutsAlike : (ℕ → Bool) → List ℕ → List ℕ → Type 0
 CutsAlike p xs more = (before p (xs ++ more) ≡ before p xs) × (from p (xs ++ more) ≡ from p xs ++ more)
 
-on_before : (p : ℕ → Bool) (x : ℕ) (xs : List ℕ) → p x ≡ false → before p (x ∷ xs) ≡ x ∷ before p xs
+pub on_before : (p : ℕ → Bool) (x : ℕ) (xs : List ℕ) → p x ≡ false → before p (x ∷ xs) ≡ x ∷ before p xs
 on_before p x xs e = ap (λ b. take (cond (not b) (1 + position_or_len p xs) 0) (x ∷ xs)) e ∙ ap (λ n. take n (x ∷ xs)) (one_more (position_or_len p xs))
 
-on_from : (p : ℕ → Bool) (x : ℕ) (xs : List ℕ) → p x ≡ false → from p (x ∷ xs) ≡ from p xs
+pub on_from : (p : ℕ → Bool) (x : ℕ) (xs : List ℕ) → p x ≡ false → from p (x ∷ xs) ≡ from p xs
 on_from p x xs e = ap (λ b. drop (cond (not b) (1 + position_or_len p xs) 0) (x ∷ xs)) e ∙ ap (λ n. drop n (x ∷ xs)) (one_more (position_or_len p xs))
 
 at_before : (p : ℕ → Bool) (x : ℕ) (xs : List ℕ) → p x ≡ true → before p (x ∷ xs) ≡ []
 at_before p x xs e = ap (λ b. take (cond (not b) (1 + position_or_len p xs) 0) (x ∷ xs)) e
 
-at_from : (p : ℕ → Bool) (x : ℕ) (xs : List ℕ) → p x ≡ true → from p (x ∷ xs) ≡ x ∷ xs
+pub at_from : (p : ℕ → Bool) (x : ℕ) (xs : List ℕ) → p x ≡ true → from p (x ∷ xs) ≡ x ∷ xs
 at_from p x xs e = ap (λ b. drop (cond (not b) (1 + position_or_len p xs) 0) (x ∷ xs)) e
 
 cuts_by : (p : ℕ → Bool) (x : ℕ) (xs more : List ℕ) (b : Bool) → p x ≡ b → (is_filled (from p xs) ≡ true → CutsAlike p xs more)

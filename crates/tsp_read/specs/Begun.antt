@@ -1,5 +1,5 @@
 -- A line or a word that has begun in one piece of a text, and ends in another.
-use Rattle.std.specs.Prelude.{◌≡◌, ℕ, Bool, true, false, not, ◌&&◌, List, [], ◌∷◌, ◌++◌}
+use Rattle.std.specs.Prelude.{◌≡◌, ℕ, ◌+◌, ◌≤◌, Bool, true, false, not, ◌&&◌, List, [], ◌∷◌, ◌++◌, length}
 use Rattle.tsp_value.specs.Bytes.{is_blank, is_letter}
 use Rattle.tsp_read.specs.declared.intake.Intake.{Intake}
 use Rattle.tsp_read.specs.declared.begun.Begun.{Begun}
@@ -42,3 +42,14 @@ pub record IsFedTo (intake : Intake) (begun : Begun) (bytes rest : List ℕ) : T
 -- the same, and while something is kept nothing is left
 abbrev pub IsJoinedTo : Intake → Begun → List ℕ → List ℕ → Type 0
 IsJoinedTo intake begun bytes rest = IsFedTo intake begun bytes rest × (is_filled rest ≡ true → kept begun ≡ [])
+
+-- how large the numbers of lines and of words can become, with the bytes that are kept and so many more
+abbrev pub most_lines : Intake → Begun → ℕ → ℕ
+most_lines intake begun more = intake.line + length (kept begun) + more
+
+abbrev pub most_words : Intake → Begun → ℕ → ℕ
+most_words intake begun more = intake.words + length (kept begun) + more
+
+-- they have not become larger
+abbrev pub KeepRoom : Intake → Begun → ℕ → Intake → Begun → ℕ → Type 0
+KeepRoom old begun more new begun_new left = (most_lines new begun_new left ≤ most_lines old begun more) × (most_words new begun_new left ≤ most_words old begun more)

@@ -25,7 +25,7 @@ pub(crate) struct Begun {
 }
 
 impl Begun {
-    ghost use Rattle.tsp_read.specs.Begun.{HasBegun, kept, IsFedTo, IsJoinedTo};
+    ghost use Rattle.tsp_read.specs.Begun.{HasBegun, kept, IsFedTo, IsJoinedTo, most_lines, most_words, KeepRoom};
 
     /// Nothing has begun.
     pub(crate) fn new() -> Begun
@@ -46,7 +46,7 @@ impl Begun {
         self.line.clear();
         self.word.clear();
         let filled = without_start(rest);
-        let Some(first) = filled.first() else {
+        let Some((first, _)) = filled.split_first() else {
             return;
         };
         // There is room: what is longer has been taken.
@@ -65,15 +65,12 @@ impl Begun {
         piece: &'a [u8],
     ) -> Result<Option<&'a [u8]>, ReadFault>
         requires begun { 0 < array_vec_len self.old.line }
-        requires line { intake.old.line + length (kept self.old) + length piece.now ≤ most_file_bytes + 1 }
-        requires words { intake.old.words + length (kept self.old) + length piece.now ≤ most_file_bytes }
+        requires lines { most_lines intake.old self.old (length piece.now) ≤ most_file_bytes + 1 }
+        requires words { most_words intake.old self.old (length piece.now) ≤ most_file_bytes }
         ensures joined { (bytes : List ℕ) → IsFedTo intake.old self.old bytes piece.now
             → ReadsOn bytes intake.new.reading (λ rest. IsJoinedTo intake.new self.new bytes rest.now) result }
         ensures room { IfOk result (λ left. IfSome left (λ rest.
-            (intake.new.line + length (kept self.new) + length rest.now
-                ≤ intake.old.line + length (kept self.old) + length piece.now)
-            × (intake.new.words + length (kept self.new) + length rest.now
-                ≤ intake.old.words + length (kept self.old) + length piece.now))) }
+            KeepRoom intake.old self.old (length piece.now) intake.new self.new (length rest.now))) }
     {
         let (front, rest) = to_line_end(piece);
         if self.line.try_extend_from_slice(front).is_err() {
@@ -82,9 +79,14 @@ impl Begun {
         if rest.is_empty() {
             return Ok(Some(rest));
         }
-        let ended = intake.take_next(alloc, &Next::Line(self.line.as_slice()))?;
-        self.line.clear();
-        if ended { Ok(None) } else { Ok(Some(rest)) }
+        match intake.take_next(alloc, &Next::Line(self.line.as_slice())) {
+            Err(fault) => Err(fault),
+            Ok(true) => Ok(None),
+            Ok(false) => {
+                self.line.clear();
+                Ok(Some(rest))
+            }
+        }
     }
 
     /// Goes on with a word that has begun.
@@ -95,15 +97,12 @@ impl Begun {
         piece: &'a [u8],
     ) -> Result<Option<&'a [u8]>, ReadFault>
         requires begun { 0 < array_vec_len self.old.word }
-        requires line { intake.old.line + length (kept self.old) + length piece.now ≤ most_file_bytes + 1 }
-        requires words { intake.old.words + length (kept self.old) + length piece.now ≤ most_file_bytes }
+        requires lines { most_lines intake.old self.old (length piece.now) ≤ most_file_bytes + 1 }
+        requires words { most_words intake.old self.old (length piece.now) ≤ most_file_bytes }
         ensures joined { (bytes : List ℕ) → IsFedTo intake.old self.old bytes piece.now
             → ReadsOn bytes intake.new.reading (λ rest. IsJoinedTo intake.new self.new bytes rest.now) result }
         ensures room { IfOk result (λ left. IfSome left (λ rest.
-            (intake.new.line + length (kept self.new) + length rest.now
-                ≤ intake.old.line + length (kept self.old) + length piece.now)
-            × (intake.new.words + length (kept self.new) + length rest.now
-                ≤ intake.old.words + length (kept self.old) + length piece.now))) }
+            KeepRoom intake.old self.old (length piece.now) intake.new self.new (length rest.now))) }
     {
         let (front, rest) = to_word_end(piece);
         if self.word.try_extend_from_slice(front).is_err() {
@@ -112,9 +111,14 @@ impl Begun {
         if rest.is_empty() {
             return Ok(Some(rest));
         }
-        let ended = intake.take_next(alloc, &Next::Word(self.word.as_slice()))?;
-        self.word.clear();
-        if ended { Ok(None) } else { Ok(Some(rest)) }
+        match intake.take_next(alloc, &Next::Word(self.word.as_slice())) {
+            Err(fault) => Err(fault),
+            Ok(true) => Ok(None),
+            Ok(false) => {
+                self.word.clear();
+                Ok(Some(rest))
+            }
+        }
     }
 
     /// Goes on with what has begun, if anything has: takes it where its end is in the piece. What
@@ -125,15 +129,12 @@ impl Begun {
         alloc: Global,
         piece: &'a [u8],
     ) -> Result<Option<&'a [u8]>, ReadFault>
-        requires line { intake.old.line + length (kept self.old) + length piece.now ≤ most_file_bytes + 1 }
-        requires words { intake.old.words + length (kept self.old) + length piece.now ≤ most_file_bytes }
+        requires lines { most_lines intake.old self.old (length piece.now) ≤ most_file_bytes + 1 }
+        requires words { most_words intake.old self.old (length piece.now) ≤ most_file_bytes }
         ensures joined { (bytes : List ℕ) → IsFedTo intake.old self.old bytes piece.now
             → ReadsOn bytes intake.new.reading (λ rest. IsJoinedTo intake.new self.new bytes rest.now) result }
         ensures room { IfOk result (λ left. IfSome left (λ rest.
-            (intake.new.line + length (kept self.new) + length rest.now
-                ≤ intake.old.line + length (kept self.old) + length piece.now)
-            × (intake.new.words + length (kept self.new) + length rest.now
-                ≤ intake.old.words + length (kept self.old) + length piece.now))) }
+            KeepRoom intake.old self.old (length piece.now) intake.new self.new (length rest.now))) }
     {
         if !self.line.is_empty() {
             self.join_line(intake, alloc, piece)

@@ -2,8 +2,7 @@
 
 ghost use Rattle.std.specs.Prelude.{◌≡◌, ◌+◌, ◌≤◌, ◌<◌, [], List, ℕ, length, IfOk, IfSome, Err, true};
 ghost use Rattle.tsp_value.specs.Limits.{most_file_bytes};
-ghost use Rattle.tsp_value.specs.declared.keyword.Keyword.{Keyword};
-ghost use Rattle.tsp_read.specs.Items.{Item, WordLine, Line, NumberWord};
+ghost use Rattle.tsp_read.specs.Items.{Item, NumberWord, line_item};
 ghost use Rattle.tsp_read.specs.Left.{items_left, item_next, is_inside};
 ghost use Rattle.tsp_read.specs.Onward.{is_over_long};
 
@@ -76,8 +75,9 @@ impl Intake {
 
     /// The fault of a word line that is too long.
     pub(crate) fn long_line(&self) -> ReadFault
-        ensures { (earlier : List Item) → Stands self.now earlier → (key : Keyword) (line : WordLine)
-            → is_over_long (Line key line) ≡ true → TakesNext earlier (Line key line) self.now (Err result) }
+        ensures { (earlier : List Item) → Stands self.now earlier → (text : List ℕ)
+            → is_over_long (line_item text) ≡ true
+            → TakesNext earlier (line_item text) self.now (Err result) }
     {
         ReadFault::Line {
             line: self.line,
