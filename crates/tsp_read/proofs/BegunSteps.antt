@@ -2,7 +2,7 @@
 use Rattle.std.proofs.Common.{◌≡◌, ℕ, ◌+◌, ◌<◌, ◌≤◌, Bool, true, false, cond, List, [], ◌∷◌, ◌++◌, length, take, drop, refl, sym, ap, subst, ◌∙◌, arith, inl, inr, Option, Some, None, Result, Ok, Err, append-nil, append_assoc, length-append}
 use Rattle.std.specs.Prelude.{not, ◌&&◌, ◌||◌, nat_lt, ◌↔◌, ◌⊎◌, ◌==◌, is_err, IsOk, OnOk}
 use Rattle.std.specs.List.{position_or_len}
-use Rattle.std.proofs.lemmas.Bool.{true≢false, false≢true, ltb-true, ltb-false, lt-ltb, eqb-true, cases_lt}
+use Rattle.std.proofs.lemmas.Bool.{true≢false, false≢true, ltb-false, lt-ltb, le-ltb, eqb-true, cases_lt}
 use Rattle.std.proofs.lemmas.List.{nil_from_length}
 use Rattle.tsp_value.specs.Bytes.{is_blank, is_letter}
 use Rattle.tsp_value.specs.Limits.{most_word_bytes, most_line_bytes}
@@ -16,8 +16,8 @@ use Rattle.tsp_read.specs.Onward.{GivesNext}
 use Rattle.tsp_read.specs.Intake.{Stands, TakesNext, IsReadTo, HasEnded, StopsAt}
 use Rattle.tsp_read.specs.Begun.{HasBegunLine, HasBegunWord, HasBegun, kept, IsFedTo, IsJoinedTo}
 use Rattle.tsp_read.proofs.IntakeSteps.{read_further, read_to_end, read_to_fault}
-use Rattle.tsp_read.proofs.LeftSteps.{start_filled, letter_filled, blank_goes_on}
-use Rattle.tsp_read.proofs.NextSteps.{end_next, line_next, word_next}
+use Rattle.tsp_read.proofs.LeftSteps.{start_filled, letter_filled, left_none}
+use Rattle.tsp_read.proofs.NextSteps.{end_next, line_next, line_missing_next, word_next, word_missing_next}
 use Rattle.tsp_read.proofs.Onwards.{on_before, on_from, at_from, cuts_alike}
 
 -- ---- a list in which none passes, and more behind it
@@ -60,6 +60,10 @@ not_ten b e ten = true≢false (sym (ap ends_line ten) ∙ e)
 
 letter_not_ten : (inside : Bool) (b : ℕ) → (not inside && is_letter b) ≡ true → b ≡ 10 → ⊥
 letter_not_ten inside b e ten = false≢true (sym (ap is_letter ten) ∙ and_second (not inside) (is_letter b) e)
+
+open_still : (p : ℕ → Bool) (most : ℕ) (xs : List ℕ) → from p xs ≡ [] → length xs ≤ most → is_settled most true (before p xs) (from p xs) ≡ false
+open_still p most xs none short =
+    ap (λ (ys : List ℕ). is_settled most true (before p xs) ys) none ∙ ap (λ (ys : List ℕ). nat_lt most (length ys)) (whole p xs none) ∙ le-ltb most (length xs) short
 
 -- ---- what has begun is the next item, once its end has come, or it is too long
 
@@ -217,6 +221,19 @@ joined_more p most item old new begun piece bytes text ended goes same tail join
     (subst (λ (t : List ℕ). (earlier : List Item) → Stands old earlier → TakesNext earlier (item t) new (Ok ended)) same taken)
     inside (λ short. joined_gives p most item old.inside begun piece joins tail)
 
+-- it has no end yet, and isn't too long
+pub line_goes_on : (inside : Bool) (line : List ℕ) → HasBegunLine inside line → length line ≤ most_line_bytes → items_left true inside line ≡ []
+line_goes_on inside line h short =
+    let filled = letter_filled h.first (and_second (not inside) (is_letter h.first) h.letter) in
+    line_missing_next true inside line line h.first h.others (h.parts ∙ sym (ap without_start h.parts ∙ start_filled h.first h.others filled)) h.parts (letter_not_ten inside h.first h.letter) h.letter
+    (open_still ends_line most_line_bytes line h.no_end short)
+
+pub word_goes_on : (inside : Bool) (word : List ℕ) → HasBegunWord inside word → length word ≤ most_word_bytes → items_left true inside word ≡ []
+word_goes_on inside word h short =
+    let here = or_false (is_blank h.first) (ends_line h.first) (first_fails ends_word h.first h.others (ap (from ends_word) (sym h.parts) ∙ h.no_end)) in
+    word_missing_next true inside word word h.first h.others (h.parts ∙ sym (ap without_start h.parts ∙ start_filled h.first h.others here.0)) h.parts (not_ten h.first here.1) h.no_letter
+    (open_still ends_word most_word_bytes word h.no_end short)
+
 -- ---- the two buffers
 
 pub fed_line : (intake : Intake) (begun : Begun) (bytes piece : List ℕ) → IsFedTo intake begun bytes piece → begun.word.items ≡ [] → IsReadTo intake bytes (begun.line.items ++ piece)
@@ -232,10 +249,21 @@ none_kept begun l w = ap (λ (xs : List ℕ). xs ++ begun.word.items) l ∙ w
 
 -- nothing is kept
 pub fed_none : (intake : Intake) (begun : Begun) (bytes rest : List ℕ) → begun.line.items ≡ [] → begun.word.items ≡ [] → IsReadTo intake bytes rest → IsJoinedTo intake begun bytes rest
-fed_none intake begun bytes rest l w read = (record {
-  read = subst (λ (xs : List ℕ). IsReadTo intake bytes (xs ++ rest)) (sym (none_kept begun l w)) read;
-  begins = subst (λ (xs : List ℕ). HasBegun intake.inside xs begun.word.items) (sym l) (subst (λ (xs : List ℕ). HasBegun intake.inside [] xs) (sym w) tt);
-}, λ some. none_kept begun l w)
+fed_none intake begun bytes rest l w read = record {
+  fed = record {
+    read = subst (λ (xs : List ℕ). IsReadTo intake bytes (xs ++ rest)) (sym (none_kept begun l w)) read;
+    begins = subst (λ (xs : List ℕ). HasBegun intake.inside xs begun.word.items) (sym l) (subst (λ (xs : List ℕ). HasBegun intake.inside [] xs) (sym w) tt);
+  };
+  none_kept = λ some. none_kept begun l w;
+  unsettled = λ none. ap (items_left true intake.inside) (none_kept begun l w) ∙ left_none true intake.inside;
+}
+
+pub joined_none : (intake : Intake) (begun : Begun) (bytes piece : List ℕ) → IsFedTo intake begun bytes piece → length begun.line.items ≡ 0 → length begun.word.items ≡ 0
+    → IsJoinedTo intake begun bytes piece
+joined_none intake begun bytes piece h l w =
+    let line = nil_from_length begun.line.items l in
+    let word = nil_from_length begun.word.items w in
+    fed_none intake begun bytes piece line word (subst (λ (xs : List ℕ). IsReadTo intake bytes (xs ++ piece)) word (fed_word intake begun bytes piece h line))
 
 no_rest : (rest : List ℕ) (P : Type 0) → rest ≡ [] → is_filled rest ≡ true → P
 no_rest rest P none some = absurd (false≢true (sym (ap is_filled none) ∙ some))
@@ -260,30 +288,48 @@ longer_word inside word piece h none = record {
 }
 
 pub fed_longer_line : (intake : Intake) (old new : Begun) (bytes piece rest : List ℕ) → IsFedTo intake old bytes piece → 0 < length old.line.items
-    → new.line.items ≡ old.line.items ++ before ends_line piece → new.word.items ≡ old.word.items → rest ≡ from ends_line piece → rest ≡ [] → IsJoinedTo intake new bytes rest
-fed_longer_line intake old new bytes piece rest h some l w r none =
+    → new.line.items ≡ old.line.items ++ before ends_line piece → new.word.items ≡ old.word.items → rest ≡ from ends_line piece → rest ≡ []
+    → length old.line.items + length (before ends_line piece) ≤ most_line_bytes → IsJoinedTo intake new bytes rest
+fed_longer_line intake old new bytes piece rest h some l w r none short =
     let here = line_here intake.inside old.line.items old.word.items some h.begins in
     let all : new.line.items ≡ old.line.items ++ piece = l ∙ ap (λ (xs : List ℕ). old.line.items ++ xs) (whole ends_line piece (sym r ∙ none)) in
-    (record {
+    let longer = longer_line intake.inside old.line.items piece here.0 (sym r ∙ none) in
+    let few_enough : length (old.line.items ++ piece) ≤ most_line_bytes =
+    subst (λ (n : ℕ). n ≤ most_line_bytes) (ap (λ (xs : List ℕ). length old.line.items + length xs) (whole ends_line piece (sym r ∙ none)) ∙ sym (length-append old.line.items piece)) short in
+    let same : kept new ≡ old.line.items ++ piece = ap (λ (xs : List ℕ). new.line.items ++ xs) (w ∙ here.1) ∙ append-nil new.line.items ∙ all in
+    record {
+      fed = record {
       read =
           subst (λ (xs : List ℕ). IsReadTo intake bytes xs)
-          (sym (ap (λ (xs : List ℕ). kept new ++ xs) none ∙ append-nil (kept new) ∙ ap (λ (xs : List ℕ). new.line.items ++ xs) (w ∙ here.1) ∙ append-nil new.line.items ∙ all))
+          (sym (ap (λ (xs : List ℕ). kept new ++ xs) none ∙ append-nil (kept new) ∙ same))
           (fed_line intake old bytes piece h here.1);
-      begins = begun_line intake.inside new.line.items new.word.items (old.line.items ++ piece) all (w ∙ here.1) (longer_line intake.inside old.line.items piece here.0 (sym r ∙ none));
-    }, no_rest rest (kept new ≡ []) none)
+      begins = begun_line intake.inside new.line.items new.word.items (old.line.items ++ piece) all (w ∙ here.1) longer;
+      };
+      none_kept = no_rest rest (kept new ≡ []) none;
+      unsettled = λ _. ap (items_left true intake.inside) same ∙ line_goes_on intake.inside (old.line.items ++ piece) longer few_enough;
+    }
 
 pub fed_longer_word : (intake : Intake) (old new : Begun) (bytes piece rest : List ℕ) → IsFedTo intake old bytes piece → 0 < length old.word.items
-    → new.word.items ≡ old.word.items ++ before ends_word piece → new.line.items ≡ old.line.items → rest ≡ from ends_word piece → rest ≡ [] → IsJoinedTo intake new bytes rest
-fed_longer_word intake old new bytes piece rest h some w l r none =
+    → new.word.items ≡ old.word.items ++ before ends_word piece → new.line.items ≡ old.line.items → rest ≡ from ends_word piece → rest ≡ []
+    → length old.word.items + length (before ends_word piece) ≤ most_word_bytes → IsJoinedTo intake new bytes rest
+fed_longer_word intake old new bytes piece rest h some w l r none short =
     let here = word_here intake.inside old.line.items old.word.items some h.begins in
     let all : new.word.items ≡ old.word.items ++ piece = w ∙ ap (λ (xs : List ℕ). old.word.items ++ xs) (whole ends_word piece (sym r ∙ none)) in
-    (record {
+    let longer = longer_word intake.inside old.word.items piece here.0 (sym r ∙ none) in
+    let few_enough : length (old.word.items ++ piece) ≤ most_word_bytes =
+    subst (λ (n : ℕ). n ≤ most_word_bytes) (ap (λ (xs : List ℕ). length old.word.items + length xs) (whole ends_word piece (sym r ∙ none)) ∙ sym (length-append old.word.items piece)) short in
+    let same : kept new ≡ old.word.items ++ piece = ap (λ (xs : List ℕ). xs ++ new.word.items) (l ∙ here.1) ∙ all in
+    record {
+      fed = record {
       read =
           subst (λ (xs : List ℕ). IsReadTo intake bytes xs)
-          (sym (ap (λ (xs : List ℕ). kept new ++ xs) none ∙ append-nil (kept new) ∙ ap (λ (xs : List ℕ). xs ++ new.word.items) (l ∙ here.1) ∙ all))
+          (sym (ap (λ (xs : List ℕ). kept new ++ xs) none ∙ append-nil (kept new) ∙ same))
           (fed_word intake old bytes piece h here.1);
-      begins = begun_word intake.inside new.line.items new.word.items (old.word.items ++ piece) (l ∙ here.1) all (longer_word intake.inside old.word.items piece here.0 (sym r ∙ none));
-    }, no_rest rest (kept new ≡ []) none)
+      begins = begun_word intake.inside new.line.items new.word.items (old.word.items ++ piece) (l ∙ here.1) all longer;
+      };
+      none_kept = no_rest rest (kept new ≡ []) none;
+      unsettled = λ _. ap (items_left true intake.inside) same ∙ word_goes_on intake.inside (old.word.items ++ piece) longer few_enough;
+    }
 
 -- ---- what the code tells of the buffer and of what is left
 
@@ -294,6 +340,10 @@ too_many (Err fault) n most fits e = by_size (cases_lt most n)
     by_size : (most < n) ⊎ (n ≤ most) → most < n
     by_size (inl long) = long
     by_size (inr short) = absurd (false≢true (fits.1 short))
+
+pub few_enough : {E : Type 0} (r : Result (Unit {0}) E) (n most : ℕ) → (IsOk r ↔ (n ≤ most)) → is_err r ≡ false → n ≤ most
+few_enough (Ok done) n most fits e = fits.0 refl
+few_enough (Err fault) n most fits e = absurd (true≢false e)
 
 pub taken_up : {E : Type 0} (r : Result (Unit {0}) E) (P : Type 0) → is_err r ≡ false → OnOk r P → P
 taken_up (Ok done) P e h = h

@@ -4,7 +4,7 @@ use Rattle.tsp_value.specs.Bytes.{is_blank, is_letter}
 use Rattle.tsp_read.specs.declared.intake.Intake.{Intake}
 use Rattle.tsp_read.specs.declared.begun.Begun.{Begun}
 use Rattle.tsp_read.specs.Lines.{ends_line, is_filled}
-use Rattle.tsp_read.specs.Left.{ends_word, from}
+use Rattle.tsp_read.specs.Left.{ends_word, from, items_left}
 use Rattle.tsp_read.specs.Intake.{IsReadTo}
 
 -- a word line, from its first byte that isn't blank on, whose end has not come
@@ -39,9 +39,11 @@ pub record IsFedTo (intake : Intake) (begun : Begun) (bytes rest : List ℕ) : T
   pub read : IsReadTo intake bytes (kept begun ++ rest)
   pub begins : HasBegun intake.inside begun.line.items begun.word.items
 
--- the same, and while something is kept nothing is left
-abbrev pub IsJoinedTo : Intake → Begun → List ℕ → List ℕ → Type 0
-IsJoinedTo intake begun bytes rest = IsFedTo intake begun bytes rest × (is_filled rest ≡ true → kept begun ≡ [])
+-- The same; and while something is kept nothing is left, and the end of what is kept hasn't come.
+pub record IsJoinedTo (intake : Intake) (begun : Begun) (bytes rest : List ℕ) : Type 0 where
+  pub fed : IsFedTo intake begun bytes rest
+  pub none_kept : is_filled rest ≡ true → kept begun ≡ []
+  pub unsettled : is_filled rest ≡ false → items_left true intake.inside (kept begun) ≡ []
 
 -- how large the numbers of lines and of words can become, with the bytes that are kept and so many more
 abbrev pub most_lines : Intake → Begun → ℕ → ℕ

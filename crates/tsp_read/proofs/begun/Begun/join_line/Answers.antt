@@ -1,11 +1,11 @@
-use Rattle.std.proofs.Common.{refl, sym, ap, ◌∙◌, ◌<◌, ◌+◌, ◌++◌, true, List, ℕ, length, subst, length-append}
+use Rattle.std.proofs.Common.{refl, sym, ap, ◌∙◌, ◌<◌, ◌≤◌, ◌+◌, ◌++◌, true, List, ℕ, length, subst, length-append}
 use Rattle.std.proofs.lemmas.Bool.{lt-ltb}
 use Rattle.tsp_value.specs.Limits.{most_line_bytes}
 use Rattle.tsp_read.specs.Lines.{ends_line, is_filled}
 use Rattle.tsp_read.specs.Items.{line_item}
 use Rattle.tsp_read.specs.Left.{ends_word, before, from}
 use Rattle.tsp_read.specs.Intake.{IsReadTo}
-use Rattle.tsp_read.proofs.BegunSteps.{line_here, line_joins, fed_line, fed_longer_line, fed_none, joined_fault, joined_end, joined_more, settled_filled, settled_long, too_many, taken_up, empty_rest, filled_rest}
+use Rattle.tsp_read.proofs.BegunSteps.{line_here, line_joins, fed_line, fed_longer_line, fed_none, joined_fault, joined_end, joined_more, settled_filled, settled_long, too_many, few_enough, taken_up, empty_rest, filled_rest}
 use Rattle.tsp_read.proofs.begun.Begun.join_line.Goals as goal
 
 pub returns-then-is_err-clause-joined : goal.returns-then-is_err-clause-joined
@@ -23,6 +23,8 @@ returns-then-is_empty-clause-joined c = λ bytes h.
     fed_longer_line c.args.intake.now c.args.self.now _ bytes c.args.piece.now c.to_line_end.result.1.now h c.requires.begun
     (taken_up c.try_extend_from_slice.result _ (sym c.is_err.ensures.value ∙ c.if-is_err.false) c.try_extend_from_slice.ensures.ok ∙ ap (λ (xs : List ℕ). c.args.self.now.line.items ++ xs) c.to_line_end.ensures.before)
     refl c.to_line_end.ensures.from (empty_rest c.to_line_end.result.1.now (sym c.is_empty.ensures ∙ c.if-is_empty.true))
+    (subst (λ (xs : List ℕ). length c.args.self.now.line.items + length xs ≤ most_line_bytes) c.to_line_end.ensures.before
+    (few_enough c.try_extend_from_slice.result _ most_line_bytes c.try_extend_from_slice.ensures.variant (sym c.is_err.ensures.value ∙ c.if-is_err.false)))
 
 pub returns-in-Err-clause-joined : goal.returns-in-Err-clause-joined
 returns-in-Err-clause-joined c = λ bytes h.

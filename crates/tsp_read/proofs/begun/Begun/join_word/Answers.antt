@@ -1,11 +1,11 @@
-use Rattle.std.proofs.Common.{refl, sym, ap, ◌∙◌, ◌<◌, ◌+◌, ◌++◌, true, List, ℕ, length, subst, length-append}
+use Rattle.std.proofs.Common.{refl, sym, ap, ◌∙◌, ◌<◌, ◌≤◌, ◌+◌, ◌++◌, true, List, ℕ, length, subst, length-append}
 use Rattle.std.proofs.lemmas.Bool.{lt-ltb}
 use Rattle.tsp_value.specs.Limits.{most_word_bytes}
 use Rattle.tsp_read.specs.Lines.{ends_line, is_filled}
 use Rattle.tsp_read.specs.Items.{Item, NumberWord}
 use Rattle.tsp_read.specs.Left.{ends_word, before, from}
 use Rattle.tsp_read.specs.Intake.{IsReadTo}
-use Rattle.tsp_read.proofs.BegunSteps.{word_here, word_joins, fed_word, fed_longer_word, fed_none, joined_fault, joined_end, joined_more, settled_filled, settled_long, too_many, taken_up, empty_rest, filled_rest}
+use Rattle.tsp_read.proofs.BegunSteps.{word_here, word_joins, fed_word, fed_longer_word, fed_none, joined_fault, joined_end, joined_more, settled_filled, settled_long, too_many, few_enough, taken_up, empty_rest, filled_rest}
 use Rattle.tsp_read.proofs.begun.Begun.join_word.Goals as goal
 
 pub returns-then-is_err-clause-joined : goal.returns-then-is_err-clause-joined
@@ -23,6 +23,8 @@ returns-then-is_empty-clause-joined c = λ bytes h.
     fed_longer_word c.args.intake.now c.args.self.now _ bytes c.args.piece.now c.to_word_end.result.1.now h c.requires.begun
     (taken_up c.try_extend_from_slice.result _ (sym c.is_err.ensures.value ∙ c.if-is_err.false) c.try_extend_from_slice.ensures.ok ∙ ap (λ (xs : List ℕ). c.args.self.now.word.items ++ xs) c.to_word_end.ensures.before)
     refl c.to_word_end.ensures.from (empty_rest c.to_word_end.result.1.now (sym c.is_empty.ensures ∙ c.if-is_empty.true))
+    (subst (λ (xs : List ℕ). length c.args.self.now.word.items + length xs ≤ most_word_bytes) c.to_word_end.ensures.before
+    (few_enough c.try_extend_from_slice.result _ most_word_bytes c.try_extend_from_slice.ensures.variant (sym c.is_err.ensures.value ∙ c.if-is_err.false)))
 
 pub returns-in-Err-clause-joined : goal.returns-in-Err-clause-joined
 returns-in-Err-clause-joined c = λ bytes h.
