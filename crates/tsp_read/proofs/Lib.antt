@@ -46,4 +46,5 @@ pub mod Readings
 pub mod ReadSteps
 pub mod IntakeSteps
 pub mod BegunSteps
+pub mod PausedSteps
 pub mod FromReader

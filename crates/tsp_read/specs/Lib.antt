@@ -29,3 +29,4 @@ pub mod Finishes
 pub mod Reads
 pub mod Intake
 pub mod Begun
+pub mod Paused
