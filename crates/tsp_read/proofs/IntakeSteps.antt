@@ -86,11 +86,11 @@ all_after (x ∷ xs) ys h = all_after xs ys (and_both (is_line_end x) (list_all 
 
 -- ---- the items of the bytes so far
 
-read_parts : (intake : Intake) (bytes rest : List ℕ) (h : IsReadTo intake bytes rest) (goes_on : Bool) → items_left goes_on false bytes ≡ reverse h.earlier ++ items_left goes_on intake.inside rest
+pub read_parts : (intake : Intake) (bytes rest : List ℕ) (h : IsReadTo intake bytes rest) (goes_on : Bool) → items_left goes_on false bytes ≡ reverse h.earlier ++ items_left goes_on intake.inside rest
 read_parts intake bytes rest h goes_on =
     ap (items_left goes_on false) (sym (append-nil bytes)) ∙ h.parts goes_on [] ∙ ap (λ (xs : List ℕ). reverse h.earlier ++ items_left goes_on intake.inside xs) (append-nil rest)
 
-walked_so_far : (intake : Intake) (bytes rest : List ℕ) (h : IsReadTo intake bytes rest) → Walked (settled_items bytes) h.earlier (items_left true intake.inside rest)
+pub walked_so_far : (intake : Intake) (bytes rest : List ℕ) (h : IsReadTo intake bytes rest) → Walked (settled_items bytes) h.earlier (items_left true intake.inside rest)
 walked_so_far intake bytes rest h = record { parts = sym (all_settled bytes) ∙ read_parts intake bytes rest h true; going = h.going }
 
 -- an item that isn't a line's end is none of blanks and line ends

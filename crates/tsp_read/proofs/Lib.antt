@@ -47,4 +47,5 @@ pub mod ReadSteps
 pub mod IntakeSteps
 pub mod BegunSteps
 pub mod PausedSteps
+pub mod FeedSteps
 pub mod FromReader

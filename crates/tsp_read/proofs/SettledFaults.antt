@@ -294,6 +294,15 @@ part_kept_by bytes more false false e t clean ended = part_short (bytes ++ more)
 pub part_kept : (bytes more : List ℕ) → IsClean (settled_part bytes) → has_end_line (settled_part bytes) ≡ true → part (bytes ++ more) ≡ settled_part bytes
 part_kept bytes more clean ended = part_kept_by bytes more (is_too_long bytes) (is_too_long (bytes ++ more)) refl refl clean ended
 
+ended_stays_by : (bytes more : List ℕ) (b : Bool) → is_too_long bytes ≡ b → IsClean (settled_part bytes) → has_end_line (settled_part bytes) ≡ true
+    → settled_part (bytes ++ more) ≡ settled_part bytes
+ended_stays_by bytes more true e clean ended = settled_long bytes more e
+ended_stays_by bytes more false e clean ended =
+    settled_over bytes more e ∙ short_end bytes (settled_items (bytes ++ take (room_for bytes) more)) e clean ended (items_settled bytes (take (room_for bytes) more))
+
+pub ended_stays : (bytes more : List ℕ) → IsClean (settled_part bytes) → has_end_line (settled_part bytes) ≡ true → settled_part (bytes ++ more) ≡ settled_part bytes
+ended_stays bytes more clean ended = ended_stays_by bytes more (is_too_long bytes) refl clean ended
+
 only_last : (o last : Option ReadFault) (b c : Bool) → o ≡ None → c ≡ true → first_row (o ∷ when (b && not c) faults.TooLong ∷ last ∷ []) ≡ last
 only_last (Some other) last b c e t = absurd (none-some other (sym e))
 only_last None last b false e t = absurd (false≢true t)

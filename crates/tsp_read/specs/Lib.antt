@@ -30,3 +30,4 @@ pub mod Reads
 pub mod Intake
 pub mod Begun
 pub mod Paused
+pub mod Feed

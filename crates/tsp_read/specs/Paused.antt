@@ -1,11 +1,14 @@
 -- A text that goes on after a piece.
-use Rattle.std.specs.Prelude.{◌≡◌, ℕ, Bool, true, false, List, [], Result, Ok, Err}
+use Rattle.std.specs.Prelude.{◌≡◌, ℕ, ◌+◌, ◌≤◌, Bool, true, false, List, [], Result, Ok, Err}
 use Rattle.tsp_read.specs.declared.fault.ReadFault.{ReadFault}
+use Rattle.tsp_read.specs.declared.fault.ReadFault.TheVariants.{TooLong}
 use Rattle.tsp_read.specs.declared.intake.Intake.{Intake}
 use Rattle.tsp_read.specs.declared.begun.Begun.{Begun}
+use Rattle.tsp_read.specs.declared.stage.Stage.{Stage}
+use Rattle.tsp_read.specs.declared.stage.Stage.TheVariants.{Going, Ended, Refused}
 use Rattle.tsp_read.specs.Left.{items_left}
 use Rattle.tsp_read.specs.Intake.{HasEnded, StopsAt}
-use Rattle.tsp_read.specs.Begun.{kept, IsFedTo}
+use Rattle.tsp_read.specs.Begun.{kept, IsFedTo, most_lines, most_words}
 
 -- of the bytes so far all that is settled was taken, and what is not is kept
 pub record IsPaused (intake : Intake) (begun : Begun) (bytes : List ℕ) : Type 0 where
@@ -17,3 +20,14 @@ abbrev pub FeedsOn : List ℕ → Intake → Begun → Result Bool ReadFault →
 FeedsOn bytes intake begun (Ok true) = HasEnded intake.reading bytes
 FeedsOn bytes intake begun (Ok false) = IsPaused intake begun bytes
 FeedsOn bytes intake begun (Err found) = StopsAt bytes found
+
+-- the stage after a piece, by whether all of it could be read, and what reading it answered
+abbrev pub stage_after : Bool → Result Bool ReadFault → Stage
+stage_after all (Ok true) = Ended
+stage_after true (Ok false) = Going
+stage_after false (Ok false) = Refused TooLong
+stage_after all (Err found) = Refused found
+
+-- while a text goes on, no more lines and words can be counted than bytes have come
+abbrev pub HasRoom : Stage → Intake → Begun → ℕ → Type 0
+HasRoom stage intake begun count = stage ≡ Going → (most_lines intake begun 0 ≤ count + 1) × (most_words intake begun 0 ≤ count)
