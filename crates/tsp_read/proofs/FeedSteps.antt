@@ -1,6 +1,6 @@
 -- A file that is read in pieces: what a piece more does, and what is settled.
 use Rattle.std.proofs.Common.{◌≡◌, ℕ, ◌+◌, ◌-◌, ◌≤◌, ◌<◌, Bool, true, false, cond, List, [], ◌∷◌, ◌++◌, length, take, reverse, refl, sym, ap, subst, ◌∙◌, arith, Option, Some, None, Result, Ok, Err, append-nil, append_assoc, length-append}
-use Rattle.std.specs.Prelude.{not, ◌&&◌, ◌==◌, nat_lt}
+use Rattle.std.specs.Prelude.{not, ◌&&◌, ◌==◌, IfErr}
 use Rattle.std.specs.List.{list_all}
 use Rattle.std.proofs.Math.Seq.{take-append-add}
 use Rattle.std.proofs.lemmas.Bool.{true≢false, false≢true, eqb-true, lt-ltb, le-ltb}
@@ -27,8 +27,8 @@ use Rattle.tsp_read.specs.Walk.{Walked}
 use Rattle.tsp_read.specs.Onward.{is_bare, GoesOn}
 use Rattle.tsp_read.specs.Intake.{IsReadTo, settled_so_far, HasEnded, StopsAt}
 use Rattle.tsp_read.specs.Begun.{kept, IsFedTo}
-use Rattle.tsp_read.specs.Paused.{IsPaused, FeedsOn, stage_after}
-use Rattle.tsp_read.specs.Feed.{IsGoing, IsEnded, HasSettled, HasTaken, refusal, Feeds, ComesTo}
+use Rattle.tsp_read.specs.Paused.{IsPaused, FeedsOn, stage_after, outcome_of}
+use Rattle.tsp_read.specs.Feed.{IsGoing, IsEnded, HasSettled, HasTakenBy, HasTaken, refused_by, refusal, Feeds, ComesTo}
 use Rattle.tsp_read.proofs.IntakeSteps.{walked_so_far}
 use Rattle.tsp_read.proofs.Walks.{walked_all}
 use Rattle.tsp_read.proofs.SettledFaults.{settled_kept, ended_stays}
@@ -187,3 +187,79 @@ comes_to all read old new bytes piece front over stage is h parts few full e cou
     subst (λ (s : Stage). ComesTo s new (bytes ++ piece)) (sym is)
     (comes_by all read new (bytes ++ piece) (bytes ++ front) over (fits bytes piece front over old.count h.count h.short parts few full) e
     (count ∙ ap (λ (n : ℕ). n + length front) h.count ∙ sym (length-append bytes front)) f)
+
+-- ---- what is answered
+
+settled_more : (found : ReadFault) (bytes piece : List ℕ) → HasSettled found bytes → HasSettled found (bytes ++ piece)
+settled_more (faults.Line line word found) bytes piece h = settled_kept bytes piece (faults.Line line word found) h
+settled_more (faults.End found) bytes piece h = h
+settled_more faults.OutOfMemory bytes piece h = h
+settled_more faults.Device bytes piece h = h
+settled_more faults.TooLong bytes piece h = settled_kept bytes piece faults.TooLong h
+
+taken_at : (feed : Feed) (bytes : List ℕ) (stage : Stage) → feed.stage ≡ stage → HasTaken feed bytes → HasTakenBy stage feed bytes
+taken_at feed bytes stage e h = subst (λ (s : Stage). HasTakenBy s feed bytes) e h
+
+taken_from : (feed : Feed) (bytes : List ℕ) (stage : Stage) → feed.stage ≡ stage → HasTakenBy stage feed bytes → HasTaken feed bytes
+taken_from feed bytes stage e h = subst (λ (s : Stage). HasTakenBy s feed bytes) (sym e) h
+
+refused_answer : (found : ReadFault) (feed : Feed) (bytes : List ℕ) → HasTaken feed bytes → HasSettled found bytes → Feeds bytes feed (Err found)
+refused_answer (faults.Line line word found) feed bytes taken h = (taken, h)
+refused_answer (faults.End found) feed bytes taken h = h
+refused_answer faults.OutOfMemory feed bytes taken h = absurd h
+refused_answer faults.Device feed bytes taken h = h
+refused_answer faults.TooLong feed bytes taken h = (taken, h)
+
+-- a refusal stays
+pub feeds_refused : (feed : Feed) (bytes piece : List ℕ) (found : ReadFault) → feed.stage ≡ Refused found → HasTaken feed bytes → Feeds (bytes ++ piece) feed (Err found)
+feeds_refused feed bytes piece found e h =
+    let settled = settled_more found bytes piece (taken_at feed bytes (Refused found) e h) in
+    refused_answer found feed (bytes ++ piece) (taken_from feed (bytes ++ piece) (Refused found) e settled) settled
+
+has_fault : (found : ReadFault) (bytes : List ℕ) → HasSettled found bytes → settled_fault bytes ≡ None → ⊥
+has_fault (faults.Line line word found) bytes h none = none-some (faults.Line line word found) (sym none ∙ h)
+has_fault (faults.End found) bytes h none = h
+has_fault faults.OutOfMemory bytes h none = h
+has_fault faults.Device bytes h none = h
+has_fault faults.TooLong bytes h none = none-some faults.TooLong (sym none ∙ h)
+
+pub not_refused : (feed : Feed) (bytes : List ℕ) (found : ReadFault) → feed.stage ≡ Refused found → HasTaken feed bytes → settled_fault bytes ≡ None → ⊥
+not_refused feed bytes found e h none = has_fault found bytes (taken_at feed bytes (Refused found) e h) none
+
+-- after an end line nothing is looked at
+ended_more : (reading : Reading) (bytes piece : List ℕ) → IsEnded reading bytes → IsEnded reading (bytes ++ piece)
+ended_more reading bytes piece h =
+    let same = ended_stays bytes piece h.holds.clean h.ended in
+    record { holds = subst (λ (xs : List Item). Holds reading xs) (sym same) h.holds; ended = ap has_end_line same ∙ h.ended }
+
+pub feeds_ended : (feed : Feed) (bytes piece : List ℕ) → feed.stage ≡ Ended → HasTaken feed bytes → Feeds (bytes ++ piece) feed (Ok tt)
+feeds_ended feed bytes piece e h =
+    let more = ended_more feed.intake.reading bytes piece (taken_at feed bytes Ended e h) in
+    (taken_from feed (bytes ++ piece) Ended e more, ended_none feed.intake.reading (bytes ++ piece) more)
+
+-- a text that goes on
+comes_answer : (stage : Stage) (feed : Feed) (bytes : List ℕ) → feed.stage ≡ stage → ComesTo stage feed bytes → Feeds bytes feed (outcome_of stage)
+comes_answer Going feed bytes e h = (taken_from feed bytes Going e h, going_none feed bytes h)
+comes_answer Ended feed bytes e h = (taken_from feed bytes Ended e h, ended_none feed.intake.reading bytes h)
+comes_answer (Refused (faults.Line line word found)) feed bytes e h = (taken_from feed bytes (Refused (faults.Line line word found)) e h, h)
+comes_answer (Refused (faults.End found)) feed bytes e h = h
+comes_answer (Refused faults.OutOfMemory) feed bytes e h = h
+comes_answer (Refused faults.Device) feed bytes e h = h
+comes_answer (Refused faults.TooLong) feed bytes e h = (taken_from feed bytes (Refused faults.TooLong) e h, h)
+
+pub feeds_going : (old new : Feed) (bytes piece : List ℕ) (result : Result (Unit {0}) ReadFault) → old.stage ≡ Going → result ≡ outcome_of new.stage
+    → (IsGoing old bytes → ComesTo new.stage new (bytes ++ piece)) → HasTaken old bytes → Feeds (bytes ++ piece) new result
+feeds_going old new bytes piece result e is comes h =
+    subst (λ (r : Result (Unit {0}) ReadFault). Feeds (bytes ++ piece) new r) (sym is)
+    (comes_answer new.stage new (bytes ++ piece) refl (comes (taken_at old bytes Going e h)))
+
+pub still_going : (feed : Feed) (bytes : List ℕ) → feed.stage ≡ Going → HasTaken feed bytes → has_end_line (settled_part bytes) ≡ true → ⊥
+still_going feed bytes e h ended = true≢false (sym ended ∙ going_on feed bytes (taken_at feed bytes Going e h))
+
+outcome_refused : (stage : Stage) → IfErr (outcome_of stage) (λ found. refused_by stage ≡ Some found)
+outcome_refused Going = tt
+outcome_refused Ended = tt
+outcome_refused (Refused found) = refl
+
+pub refuses : (new : Feed) (result : Result (Unit {0}) ReadFault) → result ≡ outcome_of new.stage → IfErr result (λ found. refusal new ≡ Some found)
+refuses new result is = subst (λ (r : Result (Unit {0}) ReadFault). IfErr r (λ found. refusal new ≡ Some found)) (sym is) (outcome_refused new.stage)

@@ -28,6 +28,12 @@ stage_after true (Ok false) = Going
 stage_after false (Ok false) = Refused TooLong
 stage_after all (Err found) = Refused found
 
+-- what is answered at a stage
+abbrev pub outcome_of : Stage → Result (Unit {0}) ReadFault
+outcome_of Going = Ok tt
+outcome_of Ended = Ok tt
+outcome_of (Refused found) = Err found
+
 -- while a text goes on, no more lines and words can be counted than bytes have come
 abbrev pub HasRoom : Stage → Intake → Begun → ℕ → Type 0
 HasRoom stage intake begun count = stage ≡ Going → (most_lines intake begun 0 ≤ count + 1) × (most_words intake begun 0 ≤ count)

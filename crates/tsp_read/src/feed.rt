@@ -4,7 +4,7 @@ ghost use Rattle.std.specs.Prelude.{◌≡◌, ◌+◌, ◌≤◌, ◌++◌, [],
 ghost use Rattle.tsp_value.specs.Limits.{most_file_bytes};
 ghost use Rattle.tsp_read.specs.Begun.{IsFedTo, most_lines, most_words, KeepRoom};
 ghost use Rattle.tsp_read.specs.Lines.{is_filled};
-ghost use Rattle.tsp_read.specs.Paused.{FeedsOn, HasRoom, stage_after};
+ghost use Rattle.tsp_read.specs.Paused.{FeedsOn, HasRoom, stage_after, outcome_of};
 
 use crate::begun::Begun;
 use crate::fault::ReadFault;
@@ -68,6 +68,16 @@ fn stage_after(all: bool, read: Result<bool, ReadFault>) -> Stage
         Ok(false) if all => Stage::Going,
         Ok(false) => Stage::Refused(ReadFault::TooLong),
         Err(fault) => Stage::Refused(fault),
+    }
+}
+
+/// What is answered at a stage.
+fn outcome(stage: Stage) -> Result<(), ReadFault>
+    ensures { result ≡ outcome_of stage }
+{
+    match stage {
+        Stage::Going | Stage::Ended => Ok(()),
+        Stage::Refused(fault) => Err(fault),
     }
 }
 
@@ -138,12 +148,13 @@ impl Feed {
         ensures ended { (bytes : List ℕ) → HasTaken self.old bytes
             → settled_fault bytes ≡ None → has_end_line (settled_part bytes) ≡ true → result ≡ Ok tt }
     {
-        if matches!(self.stage, Stage::Going) {
-            self.go_on(piece);
-        }
         match self.stage {
-            Stage::Going | Stage::Ended => Ok(()),
             Stage::Refused(fault) => Err(fault),
+            Stage::Ended => Ok(()),
+            Stage::Going => {
+                self.go_on(piece);
+                outcome(self.stage)
+            }
         }
     }
 }
