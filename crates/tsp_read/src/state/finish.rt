@@ -63,7 +63,8 @@ fn file_of(draft: Draft, incomplete: Incomplete) -> Result<File, FinishFault>
 }
 
 impl Reading {
-    ghost use Rattle.std.specs.Prelude.{List};
+    ghost use Rattle.std.specs.Prelude.{List, Err, is_some, true};
+    ghost use Rattle.tsp_read.specs.declared.state.finish.FinishFault.TheVariants.{Memory};
     ghost use Rattle.tsp_read.specs.Items.{Item};
     ghost use Rattle.tsp_read.specs.Holds.{Holds};
     ghost use Rattle.tsp_read.specs.Cuts.{AreCut};
@@ -71,8 +72,9 @@ impl Reading {
 
     /// The file that was read, or the fault of its end.
     pub(crate) fn finish(mut self, alloc: Global) -> Result<File, FinishFault>
-        ensures { (earlier : List Item) → Holds self earlier → AreCut earlier
+        ensures file { (earlier : List Item) → Holds self earlier → AreCut earlier
             → Finishes earlier result }
+        ensures stood { result ≡ Err Memory → is_some self.open_part ≡ true }
     {
         match self.close(alloc) {
             Ok(()) => {}
