@@ -197,7 +197,7 @@ settled_more faults.OutOfMemory bytes piece h = h
 settled_more faults.Device bytes piece h = h
 settled_more faults.TooLong bytes piece h = settled_kept bytes piece faults.TooLong h
 
-taken_at : (feed : Feed) (bytes : List ℕ) (stage : Stage) → feed.stage ≡ stage → HasTaken feed bytes → HasTakenBy stage feed bytes
+pub taken_at : (feed : Feed) (bytes : List ℕ) (stage : Stage) → feed.stage ≡ stage → HasTaken feed bytes → HasTakenBy stage feed bytes
 taken_at feed bytes stage e h = subst (λ (s : Stage). HasTakenBy s feed bytes) e h
 
 taken_from : (feed : Feed) (bytes : List ℕ) (stage : Stage) → feed.stage ≡ stage → HasTakenBy stage feed bytes → HasTaken feed bytes

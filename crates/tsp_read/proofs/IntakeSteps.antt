@@ -57,7 +57,7 @@ clean_is_short earlier item clean = by_case (is_over_long item) refl
 
 -- ---- blanks and line ends alone
 
-and_both : (a b : Bool) → (a && b) ≡ true → (a ≡ true) × (b ≡ true)
+pub and_both : (a b : Bool) → (a && b) ≡ true → (a ≡ true) × (b ≡ true)
 and_both true b e = (refl, e)
 and_both false b e = absurd cc
 
@@ -65,7 +65,7 @@ or_second : (a b : Bool) → a ≡ false → (a || b) ≡ true → b ≡ true
 or_second true b e h = absurd cc
 or_second false b e h = h
 
-abbrev AllEnds : List Item → Type 0
+abbrev pub AllEnds : List Item → Type 0
 AllEnds items = list_all is_line_end items ≡ true
 
 bare_step : (goes_on inside : Bool) (b : ℕ) (bytes : List ℕ) (k : Bool) → is_blank b ≡ k → is_bare (b ∷ bytes) ≡ true
@@ -75,7 +75,7 @@ bare_step goes_on inside b bytes false e bare rest =
     let ten : b ≡ 10 = eqb-true b 10 (or_second (is_blank b) (ends_line b) e (and_both (ends_word b) (is_bare bytes) bare).0) in
     ap (λ (c : ℕ). list_all is_line_end (items_left goes_on inside (c ∷ bytes))) ten ∙ ap (list_all is_line_end) (left_end goes_on inside bytes) ∙ rest false
 
-bare_ends : (goes_on inside : Bool) (bytes : List ℕ) → is_bare bytes ≡ true → AllEnds (items_left goes_on inside bytes)
+pub bare_ends : (goes_on inside : Bool) (bytes : List ℕ) → is_bare bytes ≡ true → AllEnds (items_left goes_on inside bytes)
 bare_ends goes_on inside [] bare = ap (list_all is_line_end) (left_none goes_on inside)
 bare_ends goes_on inside (b ∷ bytes) bare =
     bare_step goes_on inside b bytes (is_blank b) refl bare (λ within. bare_ends goes_on within bytes (and_both (ends_word b) (is_bare bytes) bare).1)

@@ -48,4 +48,5 @@ pub mod IntakeSteps
 pub mod BegunSteps
 pub mod PausedSteps
 pub mod FeedSteps
+pub mod LastSteps
 pub mod FromReader

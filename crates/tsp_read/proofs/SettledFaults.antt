@@ -191,10 +191,10 @@ take_over size bytes more e =
     let room : length bytes + (size - length bytes) ≡ size = omega (arith, ltb-false size (length bytes) e) in
     ap (λ (n : ℕ). take n (bytes ++ more)) (sym room) ∙ take-append-add bytes more (size - length bytes)
 
-part_long : (bytes : List ℕ) → is_too_long bytes ≡ true → part bytes ≡ settled_part bytes
+pub part_long : (bytes : List ℕ) → is_too_long bytes ≡ true → part bytes ≡ settled_part bytes
 part_long bytes e = ap (λ (b : Bool). reverse (to_end_line (cond b (settled_items (take most_file_bytes bytes)) (items_of bytes)))) e
 
-part_short : (bytes : List ℕ) → is_too_long bytes ≡ false → part bytes ≡ reverse (to_end_line (items_of bytes))
+pub part_short : (bytes : List ℕ) → is_too_long bytes ≡ false → part bytes ≡ reverse (to_end_line (items_of bytes))
 part_short bytes e = ap (λ (b : Bool). reverse (to_end_line (cond b (settled_items (take most_file_bytes bytes)) (items_of bytes)))) e
 
 settled_long : (bytes more : List ℕ) → is_too_long bytes ≡ true → settled_part (bytes ++ more) ≡ settled_part bytes

@@ -15,6 +15,8 @@ use Rattle.tsp_read.specs.Rows.{row_of}
 use Rattle.tsp_read.specs.FirstFault.{fault_in}
 use Rattle.tsp_read.specs.Text.{fault, Spells}
 use Rattle.tsp_read.specs.Holds.{Holds}
+use Rattle.tsp_read.specs.declared.state.finish.FinishFault.TheVariants as finishes
+use Rattle.tsp_read.specs.Finishes.{Finishes}
 use Rattle.tsp_read.specs.Walk.{left, Walked}
 
 -- an item is taken, and whether it is an end line; or it has this row
@@ -40,6 +42,15 @@ Reads bytes (Err (faults.End found)) = fault bytes ≡ Some (faults.End found)
 Reads bytes (Err faults.OutOfMemory) = Unit {0}
 Reads bytes (Err faults.Device) = ⊥
 Reads bytes (Err faults.TooLong) = fault bytes ≡ Some faults.TooLong
+
+-- The file of these items, which have no fault, or the fault of their end.
+abbrev pub Completes : List Item → Result Fields ReadFault → Type 0
+Completes items (Ok file) = Finishes items (Ok file)
+Completes items (Err (faults.Line line word found)) = ⊥
+Completes items (Err (faults.End found)) = Finishes items (Err (finishes.End found))
+Completes items (Err faults.OutOfMemory) = Unit {0}
+Completes items (Err faults.Device) = ⊥
+Completes items (Err faults.TooLong) = ⊥
 
 -- ---- a reader
 

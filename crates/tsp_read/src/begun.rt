@@ -25,6 +25,7 @@ pub(crate) struct Begun {
 }
 
 impl Begun {
+    ghost use Rattle.tsp_read.specs.Paused.{IsPaused, TakesAll};
     ghost use Rattle.tsp_read.specs.Begun.{HasBegun, kept, IsFedTo, IsJoinedTo, most_lines, most_words, KeepRoom};
 
     /// Nothing has begun.
@@ -142,6 +143,22 @@ impl Begun {
             self.join_word(intake, alloc, piece)
         } else {
             Ok(Some(piece))
+        }
+    }
+    /// Takes what has begun as the last item of the text, if anything has. The answer is whether it
+    /// is an end line.
+    pub(crate) fn take_last(&self, intake: &mut Intake, alloc: Global) -> Result<bool, ReadFault>
+        requires lines { most_lines intake.old self.now 0 ≤ most_file_bytes + 1 }
+        requires words { most_words intake.old self.now 0 ≤ most_file_bytes }
+        ensures { (bytes : List ℕ) → IsPaused intake.old self.now bytes
+            → TakesAll bytes intake.new.reading result }
+    {
+        if !self.line.is_empty() {
+            intake.take_next(alloc, &Next::Line(self.line.as_slice()))
+        } else if !self.word.is_empty() {
+            intake.take_next(alloc, &Next::Word(self.word.as_slice()))
+        } else {
+            Ok(false)
         }
     }
 }

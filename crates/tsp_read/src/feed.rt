@@ -9,8 +9,10 @@ ghost use Rattle.tsp_read.specs.Paused.{FeedsOn, HasRoom, stage_after, outcome_o
 use crate::begun::Begun;
 use crate::fault::ReadFault;
 use crate::intake::Intake;
+use crate::read::completed;
 use crate::stage::Stage;
 use std::alloc::Global;
+use tsp_fields::File;
 use tsp_value::MOST_FILE_BYTES;
 
 /// Reads on with a piece that the limit of a file's bytes doesn't cut: all that what follows can't
@@ -102,6 +104,9 @@ impl Feed {
     ghost use Rattle.tsp_read.specs.declared.stage.Stage.TheVariants.{Going};
     ghost use Rattle.tsp_read.specs.Items.{has_end_line};
     ghost use Rattle.tsp_read.specs.Text.{settled_part, settled_fault};
+    ghost use Rattle.tsp_read.specs.declared.fault.ReadFault.TheVariants.{OutOfMemory};
+    ghost use Rattle.tsp_read.specs.Onward.{is_bare};
+    ghost use Rattle.tsp_read.specs.Reads.{Reads};
     ghost use Rattle.tsp_read.specs.Feed.{IsGoing, HasTaken, refusal, Feeds, ComesTo};
 
     /// The start of a file. It takes no memory.
@@ -155,6 +160,37 @@ impl Feed {
                 self.go_on(piece);
                 outcome(self.stage)
             }
+        }
+    }
+    /// The file that the bytes so far spell, or why they don't.
+    ///
+    /// # Errors
+    ///
+    /// A refusal of `feed` is answered again. Else:
+    ///
+    /// - `Line`: the last line, or its last word, has the first fault.
+    /// - `End`: no line has a fault, and the lines together are no file.
+    /// - `OutOfMemory`: memory was refused.
+    pub fn finish(self) -> Result<File, ReadFault>
+        ensures read { (bytes : List ℕ) → HasTaken self bytes → Reads bytes result }
+        ensures memory { (bytes : List ℕ) → HasTaken self bytes → result ≡ Err OutOfMemory
+            → is_bare bytes ≡ false }
+        ensures again { (found : ReadFault) → refusal self ≡ Some found → result ≡ Err found }
+    {
+        let Feed {
+            alloc,
+            mut intake,
+            begun,
+            count: _,
+            stage,
+        } = self;
+        match stage {
+            Stage::Refused(fault) => Err(fault),
+            Stage::Ended => completed(intake.reading, alloc),
+            Stage::Going => match begun.take_last(&mut intake, alloc) {
+                Ok(_) => completed(intake.reading, alloc),
+                Err(fault) => Err(fault),
+            },
         }
     }
 }

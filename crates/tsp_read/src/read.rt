@@ -1,14 +1,16 @@
 //! A whole text.
 
-ghost use Rattle.std.specs.Prelude.{◌≡◌, ◌+◌, ◌<◌, ◌≤◌, ◌∷◌, ◌&&◌, not, List, length, IsTrue, Ok, false};
+ghost use Rattle.std.specs.Prelude.{◌≡◌, ◌+◌, ◌<◌, ◌≤◌, ◌∷◌, ◌&&◌, not, List, length, IsTrue, Ok, Err, is_some, true, false};
 ghost use Rattle.tsp_value.specs.Limits.{most_file_bytes};
 ghost use Rattle.tsp_read.specs.Items.{Item, WordLine, Line, is_end_line, line_item, line_number, words_before, word_number};
 ghost use Rattle.tsp_read.specs.Left.{item_next};
 ghost use Rattle.tsp_read.specs.Onward.{is_line_end};
 ghost use Rattle.tsp_read.specs.Text.{is_too_long};
 ghost use Rattle.tsp_read.specs.Walk.{left};
+ghost use Rattle.tsp_read.specs.Cuts.{AreCut};
+ghost use Rattle.tsp_read.specs.declared.fault.ReadFault.TheVariants.{OutOfMemory};
 ghost use Rattle.tsp_read.specs.Holds.{Holds};
-ghost use Rattle.tsp_read.specs.Reads.{TakesItem, ReadsItems, Reads, ReadsFrom};
+ghost use Rattle.tsp_read.specs.Reads.{TakesItem, ReadsItems, Completes, Reads, ReadsFrom};
 ghost use Rattle.tsp_stream.specs.Turn.{turn_of};
 
 use crate::cut::{Next, cut_line};
@@ -123,6 +125,19 @@ fn decides_nothing(bytes: &[u8], ended: bool) -> bool
     ensures { result ≡ (is_too_long bytes.now && not ended) }
 {
     bytes.len() > MOST_FILE_BYTES && !ended
+}
+
+/// The file of all that was read.
+pub(crate) fn completed(reading: Reading, alloc: Global) -> Result<File, ReadFault>
+    ensures file { (earlier : List Item) → Holds reading earlier → AreCut earlier
+        → Completes earlier result }
+    ensures stood { result ≡ Err OutOfMemory → is_some reading.open_part ≡ true }
+{
+    match reading.finish(alloc) {
+        Ok(file) => Ok(file),
+        Err(FinishFault::Memory) => Err(ReadFault::OutOfMemory),
+        Err(FinishFault::End(fault)) => Err(ReadFault::End(fault)),
+    }
 }
 
 /// Reads a file from the bytes of a text.
