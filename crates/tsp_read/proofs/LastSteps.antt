@@ -18,7 +18,7 @@ use Rattle.tsp_read.specs.FirstFault.{fault_in}
 use Rattle.tsp_read.specs.Open.{section_of}
 use Rattle.tsp_read.specs.Cuts.{AreCut}
 use Rattle.tsp_read.specs.Text.{is_too_long, part, fault, settled_part}
-use Rattle.tsp_read.specs.Feed.{IsGoing, IsEnded, HasSettled, HasTaken}
+use Rattle.tsp_read.specs.Feed.{IsGoing, IsEnded, HasSettled, HasTaken, IsWhole, Ends}
 use Rattle.tsp_read.proofs.ValidCuts.{part_cut}
 use Rattle.tsp_read.proofs.SettledFaults.{part_long, part_short, part_kept, fault_kept}
 use Rattle.tsp_read.proofs.FeedSteps.{taken_at}
@@ -120,18 +120,22 @@ last_none intake begun bytes h l w =
 
 -- ---- the answer for the whole text
 
-pub whole_answer : (bytes : List ℕ) (reading : Reading) (result : Result Fields ReadFault) → Holds reading (part bytes) → (is_too_long bytes && not (has_end_line (part bytes))) ≡ false
+whole_by : (bytes : List ℕ) (reading : Reading) (result : Result Fields ReadFault) → Holds reading (part bytes) → (is_too_long bytes && not (has_end_line (part bytes))) ≡ false
     → ((earlier : List Item) → Holds reading earlier → AreCut earlier → Completes earlier result) → Reads bytes result
-whole_answer bytes reading (Ok file) h short finish =
+whole_by bytes reading (Ok file) h short finish =
     let got = finish (part bytes) h (part_cut bytes) in
     record { no_fault = end_fault_is bytes None got.0 short got.1; fields = got.2 }
-whole_answer bytes reading (Err (faults.Line line word found)) h short finish = absurd (finish (part bytes) h (part_cut bytes))
-whole_answer bytes reading (Err (faults.End found)) h short finish =
+whole_by bytes reading (Err (faults.Line line word found)) h short finish = absurd (finish (part bytes) h (part_cut bytes))
+whole_by bytes reading (Err (faults.End found)) h short finish =
     let got = finish (part bytes) h (part_cut bytes) in
     end_fault_is bytes (Some found) got.0 short got.1
-whole_answer bytes reading (Err faults.OutOfMemory) h short finish = tt
-whole_answer bytes reading (Err faults.Device) h short finish = finish (part bytes) h (part_cut bytes)
-whole_answer bytes reading (Err faults.TooLong) h short finish = absurd (finish (part bytes) h (part_cut bytes))
+whole_by bytes reading (Err faults.OutOfMemory) h short finish = tt
+whole_by bytes reading (Err faults.Device) h short finish = finish (part bytes) h (part_cut bytes)
+whole_by bytes reading (Err faults.TooLong) h short finish = absurd (finish (part bytes) h (part_cut bytes))
+
+pub whole_answer : (bytes : List ℕ) (reading : Reading) (result : Result Fields ReadFault) → IsWhole reading bytes
+    → ((earlier : List Item) → Holds reading earlier → AreCut earlier → Completes earlier result) → Reads bytes result
+whole_answer bytes reading result h finish = whole_by bytes reading result h.holds h.short finish
 
 -- blanks and line ends open no section
 ends_close : (items : List Item) → list_all is_line_end items ≡ true → open_section items ≡ None
@@ -158,7 +162,9 @@ ends_front (NumberWord word ∷ items) all = absurd (false≢true all)
 ends_front (LineEnd ∷ items) all = ends_front items all
 
 bare_part : (bytes : List ℕ) (goes_on : Bool) → is_bare bytes ≡ true → open_section (reverse (to_end_line (items_left goes_on false bytes))) ≡ None
-bare_part bytes goes_on bare = ends_close _ (ends_turned _ (ends_front _ (bare_ends goes_on false bytes bare)))
+bare_part bytes goes_on bare =
+    let items = items_left goes_on false bytes in
+    ends_close (reverse (to_end_line items)) (ends_turned (to_end_line items) (ends_front items (bare_ends goes_on false bytes bare)))
 
 bare_take : (n : ℕ) (bytes : List ℕ) → is_bare bytes ≡ true → is_bare (take n bytes) ≡ true
 bare_take n bytes bare =
@@ -177,19 +183,14 @@ stands_open None items h some none = false≢true some
 stands_open (Some p) items h some none = none-some (section_of p) (sym none ∙ h.0)
 
 -- where a section stood open, there was more than blanks and line ends
-pub open_not_bare : (bytes : List ℕ) (reading : Reading) → Holds reading (part bytes) → is_some reading.open_part ≡ true → is_bare bytes ≡ false
+pub open_not_bare : (bytes : List ℕ) (reading : Reading) → IsWhole reading bytes → is_some reading.open_part ≡ true → is_bare bytes ≡ false
 open_not_bare bytes reading h some = by_case (is_bare bytes) refl
   where
     by_case : (b : Bool) → is_bare bytes ≡ b → is_bare bytes ≡ false
-    by_case true e = absurd (stands_open reading.open_part (part bytes) h.part some (part_closed bytes (is_too_long bytes) refl e))
+    by_case true e = absurd (stands_open reading.open_part (part bytes) h.holds.part some (part_closed bytes (is_too_long bytes) refl e))
     by_case false e = e
 
 -- ---- what a feed answers at the end
-
--- all was taken, up to the end or an end line
-pub record IsWhole (reading : Reading) (bytes : List ℕ) : Type 0 where
-  pub holds : Holds reading (part bytes)
-  pub short : (is_too_long bytes && not (has_end_line (part bytes))) ≡ false
 
 and_none : (b : Bool) → (b && false) ≡ false
 and_none true = refl
@@ -225,16 +226,10 @@ last_fault bytes reading faults.Device short h = h
 last_fault bytes reading faults.TooLong short h = absurd h
 
 pub taken_fault : (feed : Feed) (bytes : List ℕ) (reading : Reading) (found : ReadFault) → feed.stage ≡ Going → HasTaken feed bytes
-    → (IsPaused feed.intake feed.begun bytes → TakesAll bytes reading (Err found)) → Reads bytes (Err found)
+    → (IsPaused feed.intake feed.begun bytes → TakesAll bytes reading (Err found)) → Ends bytes (Err found)
 taken_fault feed bytes reading found e taken last =
     let h : IsGoing feed bytes = taken_at feed bytes Going e taken in
-    last_fault bytes reading found (short_text feed bytes h) (last h.paused)
-
-pub taken_memory : (feed : Feed) (bytes : List ℕ) (reading : Reading) (found : ReadFault) → feed.stage ≡ Going → HasTaken feed bytes
-    → (IsPaused feed.intake feed.begun bytes → TakesAll bytes reading (Err found)) → found ≡ faults.OutOfMemory → is_bare bytes ≡ false
-taken_memory feed bytes reading found e taken last same =
-    let h : IsGoing feed bytes = taken_at feed bytes Going e taken in
-    subst (λ (f : ReadFault). TakesAll bytes reading (Err f)) same (last h.paused)
+    (last_fault bytes reading found (short_text feed bytes h) (last h.paused), λ same. subst (λ (f : ReadFault). TakesAll bytes reading (Err f)) same (last h.paused))
 
 settled_reads : (found : ReadFault) (bytes : List ℕ) → HasSettled found bytes → Reads bytes (Err found)
 settled_reads (faults.Line line word found) bytes h = ap fault (sym (append-nil bytes)) ∙ fault_kept bytes [] (faults.Line line word found) h
@@ -243,8 +238,7 @@ settled_reads faults.OutOfMemory bytes h = tt
 settled_reads faults.Device bytes h = h
 settled_reads faults.TooLong bytes h = ap fault (sym (append-nil bytes)) ∙ fault_kept bytes [] faults.TooLong h
 
-pub refused_reads : (feed : Feed) (bytes : List ℕ) (found : ReadFault) → feed.stage ≡ Refused found → HasTaken feed bytes → Reads bytes (Err found)
-refused_reads feed bytes found e taken = settled_reads found bytes (taken_at feed bytes (Refused found) e taken)
-
-pub refused_memory : (feed : Feed) (bytes : List ℕ) (found : ReadFault) → feed.stage ≡ Refused found → HasTaken feed bytes → found ≡ faults.OutOfMemory → ⊥
-refused_memory feed bytes found e taken same = subst (λ (f : ReadFault). HasSettled f bytes) same (taken_at feed bytes (Refused found) e taken)
+pub refused_fault : (feed : Feed) (bytes : List ℕ) (found : ReadFault) → feed.stage ≡ Refused found → HasTaken feed bytes → Ends bytes (Err found)
+refused_fault feed bytes found e taken =
+    let h = taken_at feed bytes (Refused found) e taken in
+    (settled_reads found bytes h, λ same. absurd (subst (λ (f : ReadFault). HasSettled f bytes) same h))

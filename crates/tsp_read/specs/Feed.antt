@@ -1,5 +1,5 @@
 -- A file that is read in pieces: which bytes have come so far, and what is answered for them.
-use Rattle.std.specs.Prelude.{◌≡◌, ℕ, ◌≤◌, Bool, true, false, List, length, Option, None, Some, Result, Ok, Err}
+use Rattle.std.specs.Prelude.{◌≡◌, ℕ, ◌≤◌, Bool, true, false, not, ◌&&◌, List, length, Option, None, Some, Result, Ok, Err}
 use Rattle.tsp_value.specs.Limits.{most_file_bytes}
 use Rattle.tsp_read.specs.declared.fault.ReadFault.{ReadFault}
 use Rattle.tsp_read.specs.declared.fault.ReadFault.TheVariants as faults
@@ -8,7 +8,8 @@ use Rattle.tsp_read.specs.declared.stage.Stage.{Stage}
 use Rattle.tsp_read.specs.declared.stage.Stage.TheVariants.{Going, Ended, Refused}
 use Rattle.tsp_read.specs.declared.feed.Feed.{Feed}
 use Rattle.tsp_read.specs.Items.{has_end_line}
-use Rattle.tsp_read.specs.Text.{settled_part, settled_fault}
+use Rattle.tsp_read.specs.Text.{is_too_long, part, settled_part, settled_fault}
+use Rattle.tsp_read.specs.Reads.{Reads}
 use Rattle.tsp_read.specs.Holds.{Holds}
 use Rattle.tsp_read.specs.Onward.{is_bare}
 use Rattle.tsp_read.specs.Paused.{IsPaused}
@@ -69,3 +70,13 @@ ComesTo (Refused (faults.End found)) new bytes = ⊥
 ComesTo (Refused faults.OutOfMemory) new bytes = is_bare bytes ≡ false
 ComesTo (Refused faults.Device) new bytes = ⊥
 ComesTo (Refused faults.TooLong) new bytes = HasSettled faults.TooLong bytes
+
+-- of all that counts of a text everything was taken
+pub record IsWhole (reading : Reading) (bytes : List ℕ) : Type 0 where
+  pub holds : Holds reading (part bytes)
+  pub short : (is_too_long bytes && not (has_end_line (part bytes))) ≡ false
+
+-- the same at the end of the text, or its answer is this fault
+abbrev pub Ends : List ℕ → Result Reading ReadFault → Type 0
+Ends bytes (Ok reading) = IsWhole reading bytes
+Ends bytes (Err found) = Reads bytes (Err found) × (found ≡ faults.OutOfMemory → is_bare bytes ≡ false)

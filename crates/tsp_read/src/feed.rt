@@ -11,6 +11,7 @@ use crate::fault::ReadFault;
 use crate::intake::Intake;
 use crate::read::completed;
 use crate::stage::Stage;
+use crate::state::reading::Reading;
 use std::alloc::Global;
 use tsp_fields::File;
 use tsp_value::MOST_FILE_BYTES;
@@ -107,7 +108,7 @@ impl Feed {
     ghost use Rattle.tsp_read.specs.declared.fault.ReadFault.TheVariants.{OutOfMemory};
     ghost use Rattle.tsp_read.specs.Onward.{is_bare};
     ghost use Rattle.tsp_read.specs.Reads.{Reads};
-    ghost use Rattle.tsp_read.specs.Feed.{IsGoing, HasTaken, refusal, Feeds, ComesTo};
+    ghost use Rattle.tsp_read.specs.Feed.{IsGoing, HasTaken, refusal, Feeds, ComesTo, Ends};
 
     /// The start of a file. It takes no memory.
     pub fn new(alloc: Global) -> Feed
@@ -162,6 +163,28 @@ impl Feed {
             }
         }
     }
+    /// All that was read, once the line or word that has begun is taken as the last.
+    fn end(self) -> Result<Reading, ReadFault>
+        ensures ends { (bytes : List ℕ) → HasTaken self bytes → Ends bytes result }
+        ensures again { (found : ReadFault) → refusal self ≡ Some found → result ≡ Err found }
+    {
+        let Feed {
+            alloc,
+            mut intake,
+            begun,
+            count: _,
+            stage,
+        } = self;
+        match stage {
+            Stage::Refused(fault) => Err(fault),
+            Stage::Ended => Ok(intake.into_reading()),
+            Stage::Going => match begun.take_last(&mut intake, alloc) {
+                Ok(_) => Ok(intake.into_reading()),
+                Err(fault) => Err(fault),
+            },
+        }
+    }
+
     /// The file that the bytes so far spell, or why they don't.
     ///
     /// # Errors
@@ -177,20 +200,10 @@ impl Feed {
             → is_bare bytes ≡ false }
         ensures again { (found : ReadFault) → refusal self ≡ Some found → result ≡ Err found }
     {
-        let Feed {
-            alloc,
-            mut intake,
-            begun,
-            count: _,
-            stage,
-        } = self;
-        match stage {
-            Stage::Refused(fault) => Err(fault),
-            Stage::Ended => completed(intake.reading, alloc),
-            Stage::Going => match begun.take_last(&mut intake, alloc) {
-                Ok(_) => completed(intake.reading, alloc),
-                Err(fault) => Err(fault),
-            },
+        let alloc = self.alloc;
+        match self.end() {
+            Ok(reading) => completed(reading, alloc),
+            Err(fault) => Err(fault),
         }
     }
 }

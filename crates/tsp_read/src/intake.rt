@@ -47,6 +47,19 @@ impl Intake {
         }
     }
 
+    /// What was read.
+    pub(crate) fn into_reading(self) -> Reading
+        ensures { result ≡ self.reading }
+    {
+        let Intake {
+            reading,
+            line: _,
+            words: _,
+            inside: _,
+        } = self;
+        reading
+    }
+
     /// Takes the next item. The answer is whether it is an end line.
     pub(crate) fn take_next(&mut self, alloc: Global, next: &Next<'_>) -> Result<bool, ReadFault>
         requires line { self.old.line ≤ most_file_bytes }
