@@ -168,6 +168,7 @@ open_word inside text filled first after e parts begins none = open_by ends_word
     no_ten ten =
         let next = end_next true inside text filled first after e parts ten in
         let f : LineEnd ∷ items_left true false after ≡ [] = sym next ∙ none in absurd cc
+
     by_case : (b : Bool) → is_settled most_word_bytes true (before ends_word filled) (from ends_word filled) ≡ b → is_settled most_word_bytes true (before ends_word filled) (from ends_word filled) ≡ false
     by_case true s =
         let next = word_next true inside text filled first after (before ends_word filled) (from ends_word filled) e parts no_ten begins refl refl s in
@@ -299,11 +300,11 @@ fed_longer_line intake old new bytes piece rest h some l w r none short =
     let same : kept new ≡ old.line.items ++ piece = ap (λ (xs : List ℕ). new.line.items ++ xs) (w ∙ here.1) ∙ append-nil new.line.items ∙ all in
     record {
       fed = record {
-      read =
-          subst (λ (xs : List ℕ). IsReadTo intake bytes xs)
-          (sym (ap (λ (xs : List ℕ). kept new ++ xs) none ∙ append-nil (kept new) ∙ same))
-          (fed_line intake old bytes piece h here.1);
-      begins = begun_line intake.inside new.line.items new.word.items (old.line.items ++ piece) all (w ∙ here.1) longer;
+        read =
+            subst (λ (xs : List ℕ). IsReadTo intake bytes xs)
+            (sym (ap (λ (xs : List ℕ). kept new ++ xs) none ∙ append-nil (kept new) ∙ same))
+            (fed_line intake old bytes piece h here.1);
+        begins = begun_line intake.inside new.line.items new.word.items (old.line.items ++ piece) all (w ∙ here.1) longer;
       };
       none_kept = no_rest rest (kept new ≡ []) none;
       unsettled = λ _. ap (items_left true intake.inside) same ∙ line_goes_on intake.inside (old.line.items ++ piece) longer few_enough;
@@ -321,11 +322,11 @@ fed_longer_word intake old new bytes piece rest h some w l r none short =
     let same : kept new ≡ old.word.items ++ piece = ap (λ (xs : List ℕ). xs ++ new.word.items) (l ∙ here.1) ∙ all in
     record {
       fed = record {
-      read =
-          subst (λ (xs : List ℕ). IsReadTo intake bytes xs)
-          (sym (ap (λ (xs : List ℕ). kept new ++ xs) none ∙ append-nil (kept new) ∙ same))
-          (fed_word intake old bytes piece h here.1);
-      begins = begun_word intake.inside new.line.items new.word.items (old.word.items ++ piece) (l ∙ here.1) all longer;
+        read =
+            subst (λ (xs : List ℕ). IsReadTo intake bytes xs)
+            (sym (ap (λ (xs : List ℕ). kept new ++ xs) none ∙ append-nil (kept new) ∙ same))
+            (fed_word intake old bytes piece h here.1);
+        begins = begun_word intake.inside new.line.items new.word.items (old.word.items ++ piece) (l ∙ here.1) all longer;
       };
       none_kept = no_rest rest (kept new ≡ []) none;
       unsettled = λ _. ap (items_left true intake.inside) same ∙ word_goes_on intake.inside (old.word.items ++ piece) longer few_enough;

@@ -62,9 +62,10 @@ takes_last : (old new : Intake) (bytes rest : List ℕ) (item : Item) (result : 
 takes_last old new bytes rest item (Ok ended) h next taken =
     let got = taken h.earlier h.stands in
     let walked = subst (λ (xs : List Item). Walked (items_of bytes) h.earlier xs) next (walked_whole old bytes rest h) in
-    let all = walked_last (items_of bytes) h.earlier item walked in
-    (subst (λ (xs : List Item). Holds new.reading xs) (sym all) got.0.holds,
-    got.1 ∙ sym (ap has_end_line all ∙ or_none (is_end_line item) (has_end_line h.earlier) h.going))
+    let all = walked_last (items_of bytes) h.earlier item walked in (
+      subst (λ (xs : List Item). Holds new.reading xs) (sym all) got.0.holds,
+      got.1 ∙ sym (ap has_end_line all ∙ or_none (is_end_line item) (has_end_line h.earlier) h.going),
+    )
 takes_last old new bytes rest item (Err (faults.Line line word found)) h next taken =
     let walked = subst (λ (xs : List Item). Walked (items_of bytes) h.earlier xs) next (walked_whole old bytes rest h) in
     walked_found (items_of bytes) h.earlier [] item (faults.Line line word found) walked (taken h.earlier h.stands)

@@ -36,9 +36,10 @@ cuts_by : (p : ℕ → Bool) (x : ℕ) (xs more : List ℕ) (b : Bool) → p x �
 cuts_by p x xs more true e rest filled =
     (at_before p x (xs ++ more) e ∙ sym (at_before p x xs e), at_from p x (xs ++ more) e ∙ ap (λ (ys : List ℕ). ys ++ more) (sym (at_from p x xs e)))
 cuts_by p x xs more false e rest filled =
-    let h = rest (ap is_filled (sym (on_from p x xs e)) ∙ filled) in
-    (on_before p x (xs ++ more) e ∙ ap (λ (ys : List ℕ). x ∷ ys) h.0 ∙ sym (on_before p x xs e),
-    on_from p x (xs ++ more) e ∙ h.1 ∙ ap (λ (ys : List ℕ). ys ++ more) (sym (on_from p x xs e)))
+    let h = rest (ap is_filled (sym (on_from p x xs e)) ∙ filled) in (
+      on_before p x (xs ++ more) e ∙ ap (λ (ys : List ℕ). x ∷ ys) h.0 ∙ sym (on_before p x xs e),
+      on_from p x (xs ++ more) e ∙ h.1 ∙ ap (λ (ys : List ℕ). ys ++ more) (sym (on_from p x xs e)),
+    )
 
 -- more at the end doesn't move the first place
 pub cuts_alike : (p : ℕ → Bool) (xs more : List ℕ) → is_filled (from p xs) ≡ true → CutsAlike p xs more
