@@ -5,7 +5,7 @@ use Rattle.std.specs.Int.{int_div_euclid, int_rem_euclid, w64, w128}
 use Rattle.std.proofs.lemmas.Int.{ints, by_lt_z}
 use Rattle.std.proofs.Math.IntN.{suc_ℤ-*ℤ, zero-*ℤ, *ℤ-zero, pos-*ℤ-pos, pos-*ℤ-negsuc}
 use Rattle.std.proofs.Math.Nat.{mul-suc, div-le_self}
-use Rattle.tsp_bound.specs.Numbers.{IsFromTo, IsScale, IsLeastBound}
+use Rattle.tsp_bound.specs.Numbers.{IsFromTo, IsScale, IsLeastBound, IsBoundSized}
 
 -- ---- products
 
@@ -82,7 +82,7 @@ least_of_negative scale sum q bound low is turned =
 
 pub least_computed : (scale sum whole_scale q : ℤ) → IsScale scale → IsFromTo (neg_ℤ (pos (2 ^ 100))) (pos (2 ^ 100)) sum → whole_scale ≡ to_z w64 (of_z w64 scale)
     → q ≡ int_div_euclid (to_z w128 (of_z w128 (pos 0 -ℤ to_z w128 (of_z w128 sum)))) (to_z w128 (of_z w128 whole_scale))
-    → IsLeastBound scale sum (to_z w128 (of_z w128 (pos 0 -ℤ to_z w128 (of_z w128 q))))
+    → IsLeastBound scale sum (to_z w128 (of_z w128 (pos 0 -ℤ to_z w128 (of_z w128 q)))) × IsBoundSized (to_z w128 (of_z w128 (pos 0 -ℤ to_z w128 (of_z w128 q))))
 least_computed (negsuc m) sum whole_scale q scale_in size scale_is is = absurd (omega (arith, ints, scale_in.0))
 least_computed (pos m) sum whole_scale q scale_in size scale_is is =
     let some : 0 < m = omega (arith, ints, scale_in.0) in
@@ -91,5 +91,7 @@ least_computed (pos m) sum whole_scale q scale_in size scale_is is =
     let q_is : q ≡ int_div_euclid (pos 0 -ℤ sum) (pos m) = is ∙ ap (λ z. int_div_euclid z (to_z w128 (of_z w128 whole_scale))) first ∙ ap (int_div_euclid (pos 0 -ℤ sum)) second in
     let turned : IsFromTo (neg_ℤ (pos (2 ^ 100))) (pos (2 ^ 100)) (pos 0 -ℤ sum) = (omega (arith, ints, size.1), omega (arith, ints, size.0)) in
     let q_size : IsFromTo (neg_ℤ (pos (2 ^ 100))) (pos (2 ^ 100)) q = rw q_is (quotient_size (2 ^ 100) m (pos 0 -ℤ sum) some turned) in
-    let bound_is : to_z w128 (of_z w128 (pos 0 -ℤ to_z w128 (of_z w128 q))) ≡ pos 0 -ℤ q = omega (arith, ints, q_size.0, q_size.1) in
-    least_of_negative m sum q (to_z w128 (of_z w128 (pos 0 -ℤ to_z w128 (of_z w128 q)))) some q_is bound_is
+    let bound_is : to_z w128 (of_z w128 (pos 0 -ℤ to_z w128 (of_z w128 q))) ≡ pos 0 -ℤ q = omega (arith, ints, q_size.0, q_size.1) in (
+      least_of_negative m sum q (to_z w128 (of_z w128 (pos 0 -ℤ to_z w128 (of_z w128 q)))) some q_is bound_is,
+      (omega (arith, ints, q_size.1, bound_is), omega (arith, ints, q_size.0, bound_is)),
+    )

@@ -1,5 +1,5 @@
 -- The numbers of a certificate, one for each node, and the bounds that their sums give.
-use Rattle.std.specs.Prelude.{◌≡◌, ℕ, ◌-◌, List, length, slice_index_or, ℤ, pos, neg_ℤ, ◌*ℤ◌, ◌≤ℤ◌}
+use Rattle.std.specs.Prelude.{◌≡◌, ℕ, ◌-◌, ◌^◌, List, length, slice_index_or, ℤ, pos, neg_ℤ, ◌*ℤ◌, ◌≤ℤ◌}
 use Rattle.std.specs.List.{All}
 use Rattle.tsp_value.specs.Limits.{most_scale, most_potential}
 use Rattle.tsp_cost.specs.Length.{sum_int_by}
@@ -27,6 +27,10 @@ total numbers = sum_int_by (λ number. number) numbers
 pub record IsLeastBound (scale sum bound : ℤ) : Type 0 where
   pub above : sum ≤ℤ (scale *ℤ bound)
   pub least : (other : ℤ) → sum ≤ℤ (scale *ℤ other) → bound ≤ℤ other
+
+-- how large a bound is at most: sums with it fit 128 bits
+abbrev pub IsBoundSized : ℤ → Type 0
+IsBoundSized bound = IsFromTo (neg_ℤ (pos (2 ^ 100))) (pos (2 ^ 100)) bound
 
 -- a scale and as many numbers of rows as of columns
 pub record AreDuals (scale : ℤ) (rows columns : List ℤ) : Type 0 where

@@ -4,6 +4,7 @@ ghost use Rattle.std.specs.Prelude.{◌≡◌, ◌≢◌, ◌↔◌, ℕ, List, 
 ghost use Rattle.tsp_value.specs.Cells.{IsNode};
 ghost use Rattle.tsp_cost.specs.Walk.{IsWalk};
 ghost use Rattle.tsp_cost.specs.Length.{length_of};
+ghost use Rattle.tsp_bound.specs.Numbers.{IsBoundSized};
 ghost use Rattle.tsp_bound.specs.Assignment.{AreGood, IsFirstBroken, IsDualBound};
 ghost use Rattle.tsp_bound.specs.Duals.{scale_of, rows_of, columns_of, dual_of, scaled};
 
@@ -36,6 +37,7 @@ pub fn dual_bound<C: Costs>(c: &C, d: &Duals) -> Result<i128, Infeasible>
         × IsDualBound (scale_of d.now) (rows_of d.now) (columns_of d.now) bound)
         (λ e. IsFirstBroken (C.nodes c.now) (C.at c.now)
         (scale_of d.now) (rows_of d.now) (columns_of d.now) e.i e.j) }
+    ensures size { IfOk result IsBoundSized }
     ensures walks { IfOk result (λ bound. 2 ≤ C.nodes c.now
         → (nodes : List ℕ) → IsWalk (C.nodes c.now) nodes → bound ≤ℤ length_of (C.at c.now) nodes) }
 {

@@ -2,7 +2,7 @@
 
 ghost use Rattle.std.specs.Prelude.{◌≡◌, ◌↔◌, ◌≤◌, ◌*◌, ◌^◌, IsTrue, length, pos, neg_ℤ};
 ghost use Rattle.tsp_value.specs.Limits.{most_nodes, most_potential};
-ghost use Rattle.tsp_bound.specs.Numbers.{IsFromTo, IsScale, ArePotentials, total, IsLeastBound};
+ghost use Rattle.tsp_bound.specs.Numbers.{IsFromTo, IsScale, ArePotentials, total, IsLeastBound, IsBoundSized};
 
 use tsp_value::{MOST_POTENTIAL, MOST_SCALE};
 
@@ -39,7 +39,8 @@ pub(crate) fn total(numbers: &[i64]) -> i128
 pub(crate) fn least_bound(scale: i64, sum: i128) -> i128
     requires scale { IsScale scale }
     requires size { IsFromTo (neg_ℤ (pos (2 ^ 100))) (pos (2 ^ 100)) sum }
-    ensures { IsLeastBound scale sum result }
+    ensures value { IsLeastBound scale sum result }
+    ensures size { IsBoundSized result }
 {
     // Euclid's quotient rounds down, so that of the negative sum rounds up.
     -(-sum).div_euclid(i128::from(scale))

@@ -5,7 +5,7 @@ ghost use Rattle.std.specs.List.{All};
 ghost use Rattle.tsp_value.specs.Limits.{most_nodes};
 ghost use Rattle.tsp_cost.specs.Walk.{IsWalk};
 ghost use Rattle.tsp_cost.specs.Length.{length_of};
-ghost use Rattle.tsp_bound.specs.Numbers.{IsFromTo};
+ghost use Rattle.tsp_bound.specs.Numbers.{IsFromTo, IsBoundSized};
 ghost use Rattle.tsp_bound.specs.Tree.{IsPair, IsOneTree, IsLeastOneTree, weight_of};
 ghost use Rattle.tsp_bound.specs.Growth.{tree_of};
 ghost use Rattle.tsp_bound.specs.NodeBound.{IsBoundOf, IsNodeBound};
@@ -52,6 +52,7 @@ pub fn one_tree<C: Symmetric>(alloc: Global, c: &C, p: &Potentials) -> Result<On
         IsBoundOf (scale_of p.now) (numbers_of p.now) found.weight found.bound) }
     ensures bound { IfOk result (λ found. IsNodeBound (C.nodes c.now) (C.at c.now)
         (scale_of p.now) (numbers_of p.now) found.bound) }
+    ensures size { IfOk result (λ found. IsBoundSized found.bound) }
     ensures walks { IfOk result (λ found. (nodes : List ℕ) → IsWalk (C.nodes c.now) nodes
         → found.bound ≤ℤ length_of (C.at c.now) nodes) }
 {

@@ -1,20 +1,21 @@
 -- The check, put together from its parts.
-use Rattle.std.specs.Prelude.{ℤ}
-use Rattle.std.proofs.Common.{◌≡◌, ℕ, ◌≤◌, List, [], length, Bool, Option, Some, None, Result, Ok, Err, refl, sym, subst, ◌∙◌, arith}
+use Rattle.std.specs.Prelude.{ℤ, IsTrue}
+use Rattle.std.proofs.Common.{◌≡◌, ℕ, ◌≤◌, [], length, Bool, Option, Some, None, Result, Ok, Err, sym, subst, arith}
 use Rattle.tsp_value.specs.declared.kinds.Kind.{Kind}
 use Rattle.tsp_value.specs.declared.kinds.Kind.TheVariants as kinds
 use Rattle.tsp_fields.specs.Fields.{Fields}
-use Rattle.tsp_stream.specs.declared.output.WriteFault.{WriteFault}
+use Rattle.tsp_fields.specs.Rules.{is_instance}
 use Rattle.tsp_stream.specs.declared.output.WriteFault.TheVariants as faults
 use Rattle.tsp_stream.specs.Turn.{Turn}
-use Rattle.tsp_stream.specs.Sink.{Sink, Writes, HasWritten}
+use Rattle.tsp_stream.specs.Sink.{Sink}
 use Rattle.tsp_read.specs.Reads.{IsFile, most_taken}
 use Rattle.tsp_verdict.specs.declared.verdict.Verdict.{Verdict}
 use Rattle.tsp_verdict.specs.declared.verdict.Verdict.TheVariants as verdicts
-use Rattle.tsp_judge.specs.declared.fault.RunFault.TheVariants.{Write}
-use Rattle.tsp_judge.specs.Judged.{IsVerdictBy, IsVerdictOn, is_yes}
-use Rattle.tsp_judge.specs.Report.{report_of, IsBoundSized, IsSized}
-use Rattle.tsp_judge.specs.Run.{IsJudged, IsRun}
+use Rattle.tsp_judge.specs.declared.fault.RunFault.{RunFault}
+use Rattle.tsp_judge.specs.declared.fault.RunFault.TheVariants.{File, WrongKind, Write, OutOfMemory}
+use Rattle.tsp_judge.specs.Judged.{IsVerdictBy, IsVerdictOn}
+use Rattle.tsp_judge.specs.Report.{IsBoundSized, IsSized}
+use Rattle.tsp_judge.specs.Run.{IsJudged, IsRun, Answers}
 
 pub none_taken : length {A = ℕ} [] ≤ most_taken
 none_taken = omega arith
@@ -50,13 +51,12 @@ judged first second file instance solution verdict same one two v = record {
   judged = v;
 }
 
-pub write_faults : (first second : Turn) (sink : Sink) (instance : Fields) (verdict : Verdict) (text : List ℕ) (fault : WriteFault) → IsJudged first second instance verdict
-    → text ≡ report_of instance verdict → Writes sink text (Err fault) → IsRun first second sink (Err (Write fault))
-write_faults first second sink instance verdict text faults.Device j e w =
-    let P : List ℕ → Type 0 = λ t. Writes sink t (Err faults.Device) in
-    (instance, verdict, j, subst P e w)
-write_faults first second sink instance verdict text faults.OutOfMemory j e w = absurd w
-
-pub written : (first second : Turn) (sink : Sink) (instance : Fields) (verdict : Verdict) (text : List ℕ) (answer : Bool) → IsJudged first second instance verdict
-    → text ≡ report_of instance verdict → answer ≡ is_yes verdict → HasWritten sink text → IsRun first second sink (Ok answer)
-written first second sink instance verdict text answer j e same w = (instance, verdict, j, same, subst (HasWritten sink) e w)
+-- what a check answers that has its verdict
+pub answered : (first second : Turn) (sink : Sink) (instance : Fields) (verdict : Verdict) (result : Result Bool RunFault) → IsTrue (is_instance instance.kind)
+    → IsJudged first second instance verdict → Answers sink instance verdict result → IsRun first second sink result
+answered first second sink instance verdict (Ok answer) is j a = (instance, verdict, j, a.0, a.1)
+answered first second sink instance verdict (Err OutOfMemory) is j a = (a, (instance, j.first_file, is), (j.solution, j.second_file))
+answered first second sink instance verdict (Err (Write faults.Device)) is j a = (instance, verdict, j, a)
+answered first second sink instance verdict (Err (Write faults.OutOfMemory)) is j a = absurd a
+answered first second sink instance verdict (Err (File file fault)) is j a = absurd a
+answered first second sink instance verdict (Err WrongKind) is j a = absurd a

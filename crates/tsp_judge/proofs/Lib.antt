@@ -1,2 +1,3 @@
+pub mod BoundChecks
 pub mod Checks
 pub mod Texts

@@ -7,7 +7,7 @@ use Rattle.std.specs.Fmt.{signed_decimal}
 use Rattle.tsp_value.specs.Words.{kind_word}
 use Rattle.tsp_fields.specs.Fields.{Fields}
 use Rattle.tsp_verdict.specs.declared.verdict.Reason.{Reason}
-use Rattle.tsp_verdict.specs.declared.verdict.Reason.TheVariants.{NotASolution, TooFewNodes, NotSymmetric, Dimension, TourCount, TourLength, NodeOutOfRange, RepeatedNode, FixedEdgeUnused, DepotCount, DepotDemand, FixedEdgesInRoutes, DepotInRoute, Unserved, Overload}
+use Rattle.tsp_verdict.specs.declared.verdict.Reason.TheVariants.{NotASolution, TooFewNodes, NotSymmetric, Dimension, TourCount, TourLength, NodeOutOfRange, RepeatedNode, FixedEdgeUnused, NotPotentials, PotentialsDimension, PotentialsKind, DualInfeasible, DepotCount, DepotDemand, FixedEdgesInRoutes, DepotInRoute, Unserved, Overload}
 use Rattle.tsp_verdict.specs.declared.verdict.Verdict.{Verdict}
 use Rattle.tsp_verdict.specs.declared.verdict.Verdict.TheVariants.{Tour, Routes, No}
 
@@ -32,6 +32,10 @@ reason_name TourLength = codes "TourLength"
 reason_name (NodeOutOfRange place) = codes "NodeOutOfRange"
 reason_name (RepeatedNode place) = codes "RepeatedNode"
 reason_name (FixedEdgeUnused index) = codes "FixedEdgeUnused"
+reason_name NotPotentials = codes "NotPotentials"
+reason_name PotentialsDimension = codes "PotentialsDimension"
+reason_name PotentialsKind = codes "PotentialsKind"
+reason_name (DualInfeasible i j) = codes "DualInfeasible"
 reason_name DepotCount = codes "DepotCount"
 reason_name DepotDemand = codes "DepotDemand"
 reason_name FixedEdgesInRoutes = codes "FixedEdgesInRoutes"
@@ -50,6 +54,10 @@ reason_numbers TourLength = (None, None)
 reason_numbers (NodeOutOfRange place) = (Some place, None)
 reason_numbers (RepeatedNode place) = (Some place, None)
 reason_numbers (FixedEdgeUnused index) = (Some index, None)
+reason_numbers NotPotentials = (None, None)
+reason_numbers PotentialsDimension = (None, None)
+reason_numbers PotentialsKind = (None, None)
+reason_numbers (DualInfeasible i j) = (Some i, Some j)
 reason_numbers DepotCount = (None, None)
 reason_numbers DepotDemand = (None, None)
 reason_numbers FixedEdgesInRoutes = (None, None)

@@ -1,5 +1,5 @@
 -- What a check does to its readers and its writer, and what it answers.
-use Rattle.std.specs.Prelude.{◌≡◌, ℕ, ◌⊎◌, Bool, false, Result, Ok, Err, IsTrue}
+use Rattle.std.specs.Prelude.{◌≡◌, ◌⊎◌, Bool, false, Result, Ok, Err, IsTrue}
 use Rattle.tsp_stream.specs.declared.output.WriteFault.TheVariants as write_faults
 use Rattle.tsp_stream.specs.Turn.{Turn, IsUnread}
 use Rattle.tsp_stream.specs.Sink.{Sink, IsUnwritten, HasWritten, HasStopped}
@@ -29,6 +29,16 @@ pub record IsJudged (first second : Turn) (instance : Fields) (verdict : Verdict
   pub first_file : IsFile first instance
   pub second_file : IsFile second solution
   pub judged : IsVerdictOn instance solution verdict
+
+-- How a check ends that has its verdict. At Ok the whole report was written, and the answer is whether the verdict is a yes. Out
+-- of memory, nothing was written; writing itself takes no memory. Where the writer fails a front of the report was written.
+abbrev pub Answers : Sink → Fields → Verdict → Result Bool RunFault → Type 0
+Answers sink instance verdict (Ok answer) = (answer ≡ is_yes verdict) × HasWritten sink (report_of instance verdict)
+Answers sink instance verdict (Err OutOfMemory) = IsUnwritten sink
+Answers sink instance verdict (Err (Write write_faults.Device)) = HasStopped sink (report_of instance verdict)
+Answers sink instance verdict (Err (Write write_faults.OutOfMemory)) = ⊥
+Answers sink instance verdict (Err (File file fault)) = ⊥
+Answers sink instance verdict (Err WrongKind) = ⊥
 
 -- What the check answers. At Ok the whole report was written, and the answer is whether the verdict is a yes. The first
 -- file, in order, that isn't one decides, later ones aren't read, and then nothing is written; then the first file's TYPE

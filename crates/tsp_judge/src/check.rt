@@ -1,20 +1,20 @@
 //! The check of an instance and a solution, from the bytes that come in to those that go out.
 
-ghost use Rattle.std.specs.Prelude.{◌≡◌, IfOk};
+ghost use Rattle.std.specs.Prelude.{IfOk};
 ghost use Rattle.tsp_stream.specs.Sink.{sink_of};
 ghost use Rattle.tsp_stream.specs.Turn.{turn_of, TakesAtMost};
 ghost use Rattle.tsp_read.specs.Reads.{most_taken};
-ghost use Rattle.tsp_judge.specs.Judged.{IsVerdictOn, is_yes};
+ghost use Rattle.tsp_judge.specs.Judged.{IsVerdictOn};
 ghost use Rattle.tsp_judge.specs.Run.{IsRun};
 
+use crate::answer::answer;
 use crate::fault::RunFault;
-use crate::report::report_text;
 use std::alloc::{AllocError, Global};
 use std::io::{Read, Write};
 use tsp_cost::Instance;
 use tsp_fields::File;
 use tsp_read::read_from;
-use tsp_stream::{Watched, write_text};
+use tsp_stream::Watched;
 use tsp_value::Kind;
 use tsp_verdict::{Verdict, judge_routes, judge_tour};
 
@@ -55,13 +55,7 @@ pub fn run_check<I: Read, S: Read, W: Write>(
         Err(_) => return Err(RunFault::OutOfMemory),
         Ok(verdict) => verdict,
     };
-    let Ok(report) = report_text(alloc, instance.file(), verdict) else {
-        return Err(RunFault::OutOfMemory);
-    };
-    match write_text(out, &report) {
-        Err(fault) => Err(RunFault::Write(fault)),
-        Ok(()) => Ok(is_yes(verdict)),
-    }
+    answer(alloc, &instance, verdict, out)
 }
 
 /// The verdict on a solution: on its tour, or for TYPE CVRP on its routes.
@@ -72,15 +66,5 @@ fn judge(alloc: Global, instance: &Instance, solution: &File) -> Result<Verdict,
         Kind::Tsp | Kind::Atsp => judge_tour(alloc, instance, solution),
         Kind::Cvrp => judge_routes(alloc, instance, solution),
         Kind::Tour | Kind::Potentials => unreachable!(),
-    }
-}
-
-/// Whether the solution is accepted.
-fn is_yes(verdict: Verdict) -> bool
-    ensures { result ≡ is_yes verdict }
-{
-    match verdict {
-        Verdict::Tour { .. } | Verdict::Routes { .. } => true,
-        Verdict::No(_) => false,
     }
 }

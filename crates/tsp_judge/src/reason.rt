@@ -42,6 +42,10 @@ fn name_of(reason: Reason) -> &'static str
         Reason::NodeOutOfRange { .. } => "NodeOutOfRange",
         Reason::RepeatedNode { .. } => "RepeatedNode",
         Reason::FixedEdgeUnused { .. } => "FixedEdgeUnused",
+        Reason::NotPotentials => "NotPotentials",
+        Reason::PotentialsDimension => "PotentialsDimension",
+        Reason::PotentialsKind => "PotentialsKind",
+        Reason::DualInfeasible { .. } => "DualInfeasible",
         Reason::DepotCount => "DepotCount",
         Reason::DepotDemand => "DepotDemand",
         Reason::FixedEdgesInRoutes => "FixedEdgesInRoutes",
@@ -56,7 +60,7 @@ fn numbers_of(reason: Reason) -> (Option<u32>, Option<u32>)
     ensures { result ≡ reason_numbers reason }
 {
     match reason {
-        Reason::NotSymmetric { i, j } => (Some(i), Some(j)),
+        Reason::NotSymmetric { i, j } | Reason::DualInfeasible { i, j } => (Some(i), Some(j)),
         Reason::NodeOutOfRange { place }
         | Reason::RepeatedNode { place }
         | Reason::DepotInRoute { place } => (Some(place), None),
@@ -68,6 +72,9 @@ fn numbers_of(reason: Reason) -> (Option<u32>, Option<u32>)
         | Reason::Dimension
         | Reason::TourCount
         | Reason::TourLength
+        | Reason::NotPotentials
+        | Reason::PotentialsDimension
+        | Reason::PotentialsKind
         | Reason::DepotCount
         | Reason::DepotDemand
         | Reason::FixedEdgesInRoutes => (None, None),

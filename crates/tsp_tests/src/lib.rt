@@ -6,15 +6,9 @@
 #![tactic(auto)]
 
 #[cfg(test)]
-mod asserts;
-#[cfg(test)]
 mod bound;
 #[cfg(test)]
-mod check;
-#[cfg(test)]
 mod cost;
-#[cfg(test)]
-mod devices;
 #[cfg(test)]
 mod distance;
 #[cfg(test)]
@@ -25,8 +19,6 @@ mod keyword;
 mod layout;
 #[cfg(test)]
 mod number;
-#[cfg(test)]
-mod reader;
 #[cfg(test)]
 mod reading;
 #[cfg(test)]

@@ -1,10 +1,10 @@
 //! A reader's bytes, taken whole up to a limit.
 
-use crate::asserts::{holds, holds_at, same, same_at};
-use crate::devices::{Flood, NEVER, Trickle, outcome};
 use std::io::{ErrorKind, Read};
 use std::test::Fail;
 use tsp_stream::{InputFault, Watched, read_whole};
+use tsp_testing::asserts::{holds, holds_at, same, same_at};
+use tsp_testing::devices::{Flood, NEVER, Trickle, outcome};
 
 #[test]
 fn all_bytes_are_read_where_the_limit_allows_them(rt: HostRuntime) -> Result<(), Fail> {

@@ -1,3 +1,5 @@
+pub mod CarriedBounds
+pub mod Certificates
 pub mod FilesHold
 pub mod FixedPairs
 pub mod Links

@@ -8,7 +8,7 @@ use Rattle.tsp_fields.specs.Cost.{cost}
 use Rattle.tsp_cost.specs.Costs.{IsFirstUneven}
 use Rattle.tsp_cost.specs.Tour.{is_directed}
 use Rattle.tsp_verdict.specs.declared.verdict.Reason.{Reason}
-use Rattle.tsp_verdict.specs.declared.verdict.Reason.TheVariants.{NotASolution, TooFewNodes, NotSymmetric, Dimension, TourCount, TourLength, NodeOutOfRange, RepeatedNode, FixedEdgeUnused, DepotCount, DepotDemand, FixedEdgesInRoutes, DepotInRoute, Unserved, Overload}
+use Rattle.tsp_verdict.specs.declared.verdict.Reason.TheVariants.{NotASolution, TooFewNodes, NotSymmetric, Dimension, TourCount, TourLength, NodeOutOfRange, RepeatedNode, FixedEdgeUnused, NotPotentials, PotentialsDimension, PotentialsKind, DualInfeasible, DepotCount, DepotDemand, FixedEdgesInRoutes, DepotInRoute, Unserved, Overload}
 use Rattle.tsp_verdict.specs.Places.{IsFirstPlace, IsLarger, IsRepeated, IsUnused}
 use Rattle.tsp_verdict.specs.Solution.{nodes_of, fixed_of, tours_of, visited}
 use Rattle.tsp_verdict.specs.Tours.{StandsAgainst, NoneUpTo}
@@ -47,6 +47,10 @@ after_repeats inst sol before once reason low stands = before reason (omega (ari
 
 pub after_fixed : (inst sol : Fields) → NoneUpTo inst sol 9 → ((index : ℕ) → IsFirstPlace (IsUnused (is_directed inst.kind) (visited sol) (fixed_of inst)) (fixed_of inst) index → ⊥) → (reason : Reason) → StandsAgainst inst sol reason → ⊥
 after_fixed inst sol before used (FixedEdgeUnused index) stands = used index stands
+after_fixed inst sol before used NotPotentials stands = stands
+after_fixed inst sol before used PotentialsDimension stands = stands
+after_fixed inst sol before used PotentialsKind stands = stands
+after_fixed inst sol before used (DualInfeasible i j) stands = stands
 after_fixed inst sol before used DepotCount stands = stands
 after_fixed inst sol before used DepotDemand stands = stands
 after_fixed inst sol before used FixedEdgesInRoutes stands = stands

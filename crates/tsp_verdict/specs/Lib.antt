@@ -7,3 +7,5 @@ pub mod Routes
 pub mod Solution
 pub mod Sums
 pub mod Tours
+pub mod Certificate
+pub mod Bounded

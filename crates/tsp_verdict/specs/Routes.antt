@@ -6,7 +6,7 @@ use Rattle.tsp_fields.specs.Fields.{Fields}
 use Rattle.tsp_fields.specs.Rules.{is_tours}
 use Rattle.tsp_fields.specs.Cost.{cost}
 use Rattle.tsp_verdict.specs.declared.verdict.Reason.{Reason}
-use Rattle.tsp_verdict.specs.declared.verdict.Reason.TheVariants.{NotASolution, TooFewNodes, NotSymmetric, Dimension, TourCount, TourLength, NodeOutOfRange, RepeatedNode, FixedEdgeUnused, DepotCount, DepotDemand, FixedEdgesInRoutes, DepotInRoute, Unserved, Overload}
+use Rattle.tsp_verdict.specs.declared.verdict.Reason.TheVariants.{NotASolution, TooFewNodes, NotSymmetric, Dimension, TourCount, TourLength, NodeOutOfRange, RepeatedNode, FixedEdgeUnused, NotPotentials, PotentialsDimension, PotentialsKind, DualInfeasible, DepotCount, DepotDemand, FixedEdgesInRoutes, DepotInRoute, Unserved, Overload}
 use Rattle.tsp_verdict.specs.declared.verdict.Verdict.{Verdict}
 use Rattle.tsp_verdict.specs.declared.verdict.Verdict.TheVariants as verdicts
 use Rattle.tsp_verdict.specs.Places.{IsFirstPlace, IsLarger, IsAt, IsRepeated}
@@ -24,7 +24,7 @@ pub record IsFirstUnserved (n depot : ℕ) (nodes : List ℕ) (node : ℕ) : Typ
 abbrev pub IsOverloaded : List ℤ → ℤ → List (List ℕ) → ℕ → Type 0
 IsOverloaded demands capacity routes place = capacity <ℤ load_of demands (slice_index_or routes (place - 1) [])
 
--- When a reason stands against routes. Reasons of tours alone never do.
+-- When a reason stands against routes. Reasons of tours alone and of certificates never do.
 abbrev pub StandsAgainst : Fields → Fields → Reason → Type 0
 StandsAgainst inst sol NotASolution = is_tours sol.kind ≡ false
 StandsAgainst inst sol TooFewNodes = nodes_of inst < 2
@@ -35,6 +35,10 @@ StandsAgainst inst sol TourLength = ⊥
 StandsAgainst inst sol (NodeOutOfRange place) = IsFirstPlace (IsLarger (nodes_of inst) (visited sol)) (visited sol) place
 StandsAgainst inst sol (RepeatedNode place) = IsFirstPlace (IsRepeated (visited sol)) (visited sol) place
 StandsAgainst inst sol (FixedEdgeUnused index) = ⊥
+StandsAgainst inst sol NotPotentials = ⊥
+StandsAgainst inst sol PotentialsDimension = ⊥
+StandsAgainst inst sol PotentialsKind = ⊥
+StandsAgainst inst sol (DualInfeasible i j) = ⊥
 StandsAgainst inst sol DepotCount = length (depots_of inst) ≢ 1
 StandsAgainst inst sol DepotDemand = demand_of (demands_of inst) (depot_of inst) ≢ pos 0
 StandsAgainst inst sol FixedEdgesInRoutes = 1 ≤ length (fixed_of inst)
@@ -59,6 +63,10 @@ rank_of (NotSymmetric i j) = 12
 rank_of TourCount = 12
 rank_of TourLength = 12
 rank_of (FixedEdgeUnused index) = 12
+rank_of NotPotentials = 12
+rank_of PotentialsDimension = 12
+rank_of PotentialsKind = 12
+rank_of (DualInfeasible i j) = 12
 
 -- no reason stands that is judged before this rank
 abbrev pub NoneUpTo : Fields → Fields → ℕ → Type 0

@@ -1,22 +1,22 @@
 -- The verdict on a tour: the first reason against it, or a tour of the instance and its length.
 -- Source: TSPLIB 95 (G. Reinelt), TOUR_SECTION and FIXED_EDGES_SECTION; the reasons and their order are this project's.
-use Rattle.std.specs.Prelude.{◌≡◌, ◌≢◌, ℕ, ◌<◌, false, List, [], ◌∷◌, length, None, Some}
+use Rattle.std.specs.Prelude.{◌≡◌, ◌≢◌, ℕ, ◌<◌, false, List, [], ◌∷◌, length, None, Some, Result, Ok, Err, ℤ}
 use Rattle.tsp_value.specs.declared.kinds.Kind.TheVariants as kinds
 use Rattle.tsp_fields.specs.Fields.{Fields}
 use Rattle.tsp_fields.specs.Rules.{is_tours}
 use Rattle.tsp_fields.specs.Cost.{cost}
-use Rattle.tsp_cost.specs.Costs.{IsFirstUneven}
+use Rattle.tsp_cost.specs.Costs.{IsEven, IsFirstUneven}
 use Rattle.tsp_cost.specs.Length.{length_of}
 use Rattle.tsp_cost.specs.Tour.{is_directed, IsTourOf}
 use Rattle.tsp_verdict.specs.declared.verdict.Reason.{Reason}
-use Rattle.tsp_verdict.specs.declared.verdict.Reason.TheVariants.{NotASolution, TooFewNodes, NotSymmetric, Dimension, TourCount, TourLength, NodeOutOfRange, RepeatedNode, FixedEdgeUnused, DepotCount, DepotDemand, FixedEdgesInRoutes, DepotInRoute, Unserved, Overload}
+use Rattle.tsp_verdict.specs.declared.verdict.Reason.TheVariants.{NotASolution, TooFewNodes, NotSymmetric, Dimension, TourCount, TourLength, NodeOutOfRange, RepeatedNode, FixedEdgeUnused, NotPotentials, PotentialsDimension, PotentialsKind, DualInfeasible, DepotCount, DepotDemand, FixedEdgesInRoutes, DepotInRoute, Unserved, Overload}
 use Rattle.tsp_verdict.specs.declared.verdict.Verdict.{Verdict}
 use Rattle.tsp_verdict.specs.declared.verdict.Verdict.TheVariants as verdicts
 use Rattle.tsp_verdict.specs.Places.{IsFirstPlace, IsLarger, IsRepeated, IsUnused}
 use Rattle.tsp_verdict.specs.Reasons.{NoneBefore, IsFirstReason}
 use Rattle.tsp_verdict.specs.Solution.{nodes_of, fixed_of, tours_of, visited}
 
--- When a reason stands against a tour. Reasons of routes never do.
+-- When a reason stands against a tour. Reasons of certificates and of routes never do.
 abbrev pub StandsAgainst : Fields → Fields → Reason → Type 0
 StandsAgainst inst sol NotASolution = is_tours sol.kind ≡ false
 StandsAgainst inst sol TooFewNodes = nodes_of inst < 3
@@ -27,6 +27,10 @@ StandsAgainst inst sol TourLength = length (visited sol) ≢ nodes_of inst
 StandsAgainst inst sol (NodeOutOfRange place) = IsFirstPlace (IsLarger (nodes_of inst) (visited sol)) (visited sol) place
 StandsAgainst inst sol (RepeatedNode place) = IsFirstPlace (IsRepeated (visited sol)) (visited sol) place
 StandsAgainst inst sol (FixedEdgeUnused index) = IsFirstPlace (IsUnused (is_directed inst.kind) (visited sol) (fixed_of inst)) (fixed_of inst) index
+StandsAgainst inst sol NotPotentials = ⊥
+StandsAgainst inst sol PotentialsDimension = ⊥
+StandsAgainst inst sol PotentialsKind = ⊥
+StandsAgainst inst sol (DualInfeasible i j) = ⊥
 StandsAgainst inst sol DepotCount = ⊥
 StandsAgainst inst sol DepotDemand = ⊥
 StandsAgainst inst sol FixedEdgesInRoutes = ⊥
@@ -34,7 +38,7 @@ StandsAgainst inst sol (DepotInRoute place) = ⊥
 StandsAgainst inst sol (Unserved node) = ⊥
 StandsAgainst inst sol (Overload route) = ⊥
 
--- the order in which the reasons against a tour are judged
+-- the order in which the reasons against a tour, and then those against a certificate, are judged
 abbrev pub rank_of : Reason → ℕ
 rank_of NotASolution = 1
 rank_of TooFewNodes = 2
@@ -45,12 +49,16 @@ rank_of TourLength = 6
 rank_of (NodeOutOfRange place) = 7
 rank_of (RepeatedNode place) = 8
 rank_of (FixedEdgeUnused index) = 9
-rank_of DepotCount = 10
-rank_of DepotDemand = 10
-rank_of FixedEdgesInRoutes = 10
-rank_of (DepotInRoute place) = 10
-rank_of (Unserved node) = 10
-rank_of (Overload route) = 10
+rank_of NotPotentials = 10
+rank_of PotentialsDimension = 11
+rank_of PotentialsKind = 12
+rank_of (DualInfeasible i j) = 13
+rank_of DepotCount = 14
+rank_of DepotDemand = 14
+rank_of FixedEdgesInRoutes = 14
+rank_of (DepotInRoute place) = 14
+rank_of (Unserved node) = 14
+rank_of (Overload route) = 14
 
 -- no reason stands that is judged before this rank
 abbrev pub NoneUpTo : Fields → Fields → ℕ → Type 0
@@ -68,6 +76,15 @@ IsVerdict inst sol (verdicts.Tour length bound) = ((reason : Reason) → StandsA
     × ((tour : List ℕ) × (tours_of sol ≡ tour ∷ []) × IsTourOf inst tour × (length ≡ length_of (cost inst) tour))
     × (bound ≡ None)
 IsVerdict inst sol (verdicts.Routes length routes least) = ⊥
+
+-- under TYPE TSP the costs are the same both ways
+abbrev pub IsEvenTsp : Fields → Type 0
+IsEvenTsp inst = inst.kind ≡ Some kinds.Tsp → IsEven (cost inst)
+
+-- the length of the one tour, where no reason stands, or the first reason
+abbrev pub FindsLength : Fields → Fields → Result ℤ Reason → Type 0
+FindsLength inst sol (Ok length) = IsVerdict inst sol (verdicts.Tour length None) × IsEvenTsp inst
+FindsLength inst sol (Err reason) = IsFirstAgainst inst sol reason
 
 -- Reasons 1 to 7 don't stand: they are found without memory.
 abbrev pub NoneBeforeRepeats : Fields → Fields → Type 0

@@ -5,7 +5,7 @@ ghost use Rattle.std.specs.List.{All};
 ghost use Rattle.tsp_value.specs.declared.kinds.Kind.TheVariants as kinds;
 ghost use Rattle.tsp_cost.specs.Tour.{is_directed};
 ghost use Rattle.tsp_verdict.specs.Solution.{nodes_of, tours_of};
-ghost use Rattle.tsp_verdict.specs.Tours.{NoneUpTo, IsFirstAgainst, IsVerdict, NoneBeforeRepeats};
+ghost use Rattle.tsp_verdict.specs.Tours.{NoneUpTo, IsFirstAgainst, IsEvenTsp, FindsLength, IsVerdict, NoneBeforeRepeats};
 
 use crate::files::{fixed_pairs, solution_tours};
 use crate::fixed::{first_unused, next_nodes};
@@ -35,26 +35,44 @@ pub fn judge_tour(alloc: Global, inst: &Instance, sol: &File) -> Result<Verdict,
         (λ verdict. IsVerdict inst.now sol.now verdict)
         (λ refused. NoneBeforeRepeats inst.now sol.now) }
 {
+    match length_of_tour(alloc, inst, sol) {
+        Ok(Ok(length)) => Ok(Verdict::Tour {
+            length,
+            bound: None,
+        }),
+        Ok(Err(reason)) => Ok(Verdict::No(reason)),
+        Err(refused) => Err(refused),
+    }
+}
+
+/// The length of a solution's one tour, or the first reason against it.
+pub(crate) fn length_of_tour(
+    alloc: Global,
+    inst: &Instance,
+    sol: &File,
+) -> Result<Result<i64, Reason>, AllocError>
+    requires { (inst.now.kind ≡ Some kinds.Tsp) ⊎ (inst.now.kind ≡ Some kinds.Atsp) }
+    ensures { MatchResult result
+        (λ found. FindsLength inst.now sol.now found)
+        (λ refused. NoneBeforeRepeats inst.now sol.now) }
+{
     let tour = match the_tour(inst, sol) {
         Ok(tour) => tour,
-        Err(reason) => return Ok(Verdict::No(reason)),
+        Err(reason) => return Ok(Err(reason)),
     };
     let nodes = inst.count();
     if let Some(place) = first_larger(tour, nodes) {
-        return Ok(Verdict::No(Reason::NodeOutOfRange { place }));
+        return Ok(Err(Reason::NodeOutOfRange { place }));
     }
     if let Some(place) = first_repeated(alloc, tour, nodes)? {
-        return Ok(Verdict::No(Reason::RepeatedNode { place }));
+        return Ok(Err(Reason::RepeatedNode { place }));
     }
     let next = next_nodes(alloc, tour, nodes)?;
     let directed = is_directed(inst.kind());
     if let Some(index) = first_unused(fixed_pairs(inst), next.as_slice(), directed) {
-        return Ok(Verdict::No(Reason::FixedEdgeUnused { index }));
+        return Ok(Err(Reason::FixedEdgeUnused { index }));
     }
-    Ok(Verdict::Tour {
-        length: tour_length(inst, tour),
-        bound: None,
-    })
+    Ok(Ok(tour_length(inst, tour)))
 }
 
 /// The one tour of a solution, with as many nodes as the instance, or the first reason against it
@@ -62,7 +80,8 @@ pub fn judge_tour(alloc: Global, inst: &Instance, sol: &File) -> Result<Verdict,
 fn the_tour<'a>(inst: &Instance, sol: &'a File) -> Result<&'a [u32], Reason>
     ensures { MatchResult result
         (λ tour. (tours_of sol.now ≡ tour.now ∷ []) × (length tour.now ≡ nodes_of inst.now)
-        × All (λ node. 1 ≤ node) tour.now × NoneUpTo inst.now sol.now 7)
+        × All (λ node. 1 ≤ node) tour.now × NoneUpTo inst.now sol.now 7
+        × IsEvenTsp inst.now)
         (λ reason. IsFirstAgainst inst.now sol.now reason) }
 {
     if let Some(reason) = first_against_files(inst, sol) {
@@ -80,7 +99,7 @@ fn the_tour<'a>(inst: &Instance, sol: &'a File) -> Result<&'a [u32], Reason>
 /// The first reason that needs no look at the tours.
 fn first_against_files(inst: &Instance, sol: &File) -> Option<Reason>
     ensures { MatchOption result
-        (NoneUpTo inst.now sol.now 5)
+        (NoneUpTo inst.now sol.now 5 × IsEvenTsp inst.now)
         (λ reason. IsFirstAgainst inst.now sol.now reason) }
 {
     let nodes = inst.count();

@@ -28,6 +28,16 @@ pub enum Reason {
     /// This fixed pair is the first one that the tour does not use: as neighbours in either
     /// direction, and under TYPE ATSP from its first to its second node alone.
     FixedEdgeUnused { index: u32 },
+    /// The certificate is not a file of TYPE POTENTIALS.
+    NotPotentials,
+    /// The certificate has a DIMENSION other than that of the instance.
+    PotentialsDimension,
+    /// The certificate has no potentials of nodes, which a TSP wants, or none of rows and columns,
+    /// which an ATSP wants.
+    PotentialsKind,
+    /// The instance is of TYPE ATSP, and this is the first pair of different nodes, by rows, whose
+    /// potentials of row and column sum to more than the cost at the scale.
+    DualInfeasible { i: u32, j: u32 },
     /// The instance does not list exactly one depot.
     DepotCount,
     /// The depot has a demand other than 0.

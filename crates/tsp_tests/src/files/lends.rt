@@ -1,8 +1,8 @@
 //! What a file lends: each field by the call of its name.
 
-use super::drafts::{file_of, points, rectangle, tours};
-use crate::asserts::{holds, same};
 use std::test::Fail;
+use tsp_testing::asserts::{holds, same};
+use tsp_testing::drafts::{file_of, points, rectangle, tours};
 use tsp_value::{CoordKind, DisplayKind, Kind, Layout, WeightFormat, WeightKind};
 
 #[test]

@@ -2,4 +2,6 @@ use Rattle.tsp_bound.proofs.Division.{least_computed}
 use Rattle.tsp_bound.proofs.numbers.least_bound.Goals as goal
 
 pub returns : goal.returns
-returns c = least_computed c.args.scale c.args.sum c.from.result c.div_euclid.result c.requires.scale c.requires.size c.from.ensures c.div_euclid.ensures
+returns c =
+    let both = least_computed c.args.scale c.args.sum c.from.result c.div_euclid.result c.requires.scale c.requires.size c.from.ensures c.div_euclid.ensures in
+    record { value = both.0; size = both.1 }

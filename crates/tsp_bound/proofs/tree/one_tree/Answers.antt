@@ -1,5 +1,6 @@
 use Rattle.std.proofs.Common.{◌≡◌, ℕ, List, ap, length, rules, arith, to_z, of_z, FitsSigned}
 use Rattle.std.specs.Int.{w128}
+use Rattle.std.proofs.lemmas.Int.{to_z-of_z}
 use Rattle.tsp_bound.specs.Numbers.{total}
 use Rattle.tsp_bound.specs.Tree.{weight_of, IsLeastOneTree}
 use Rattle.tsp_bound.specs.NodeBound.{IsBoundOf, IsNodeBound}
@@ -26,7 +27,7 @@ returns g c =
     let least = c.least_bound-bound.result in
     let fits : FitsSigned w128 c.least_bound-bound.result = search rules in
     let weight_is : to_z w128 (of_z w128 c.weight_of-weight.result) ≡ weight_of w edges = weight_seen w c.deref.result.now edges weight.result weight.ensures.size weight.ensures.value c.deref.ensures.value in
-    let bound = bound_of_weight p.scale weight.result potentials.result (total p.numbers.now) least p.are.scale_is fits weight.ensures.size potentials.ensures.size potentials.ensures.value c.least_bound-bound.ensures in
+    let bound = bound_of_weight p.scale weight.result potentials.result (total p.numbers.now) least p.are.scale_is fits weight.ensures.size potentials.ensures.size potentials.ensures.value c.least_bound-bound.ensures.value in
     let own : IsBoundOf p.scale p.numbers.now (weight_of w edges) (to_z w128 (of_z w128 least)) = rw weight_is at bound in
     let node_bound : IsNodeBound n cost p.scale p.numbers.now (to_z w128 (of_z w128 least)) = record { tree = edges; least = found; bound_is = own } in
     record {
@@ -35,5 +36,6 @@ returns g c =
       least = rw weight_is found.least;
       rounded = bound;
       bound = node_bound;
+      size = rw (to_z-of_z w128 least fits) c.least_bound-bound.ensures.size;
       walks = λ nodes walk. c.node_bounds_bound_walks.ensures n cost p.scale p.numbers.now (to_z w128 (of_z w128 least)) nodes c.requires.some (g.met.C.Symmetric.even c.args.c.now) p.are.scale_is c.requires.count node_bound walk;
     }

@@ -1,0 +1,82 @@
+-- What a check with a certificate of a bound does to its readers and its writer, and what it answers.
+use Rattle.std.specs.Prelude.{◌≡◌, ℕ, ◌⊎◌, Bool, true, false, List, [], ◌∷◌, Option, None, Some, Result, Ok, Err, IsTrue, ℤ, ◌≤ℤ◌}
+use Rattle.tsp_value.specs.declared.kinds.Kind.{Kind}
+use Rattle.tsp_value.specs.declared.kinds.Kind.TheVariants as kinds
+use Rattle.tsp_stream.specs.declared.output.WriteFault.TheVariants as write_faults
+use Rattle.tsp_stream.specs.Turn.{Turn, IsUnread}
+use Rattle.tsp_stream.specs.Sink.{Sink, IsUnwritten, HasWritten, HasStopped}
+use Rattle.tsp_fields.specs.Fields.{Fields}
+use Rattle.tsp_fields.specs.Cost.{cost}
+use Rattle.tsp_cost.specs.Length.{length_of}
+use Rattle.tsp_cost.specs.Tour.{IsTourOf}
+use Rattle.tsp_read.specs.Reads.{IsFile, StopsAt}
+use Rattle.tsp_verdict.specs.declared.verdict.Verdict.{Verdict}
+use Rattle.tsp_verdict.specs.declared.verdict.Verdict.TheVariants.{Tour}
+use Rattle.tsp_verdict.specs.Solution.{tours_of}
+use Rattle.tsp_verdict.specs.Certificate.{IsBoundBy}
+use Rattle.tsp_verdict.specs.Bounded.{IsVerdict, BoundsTours}
+use Rattle.tsp_judge.specs.declared.fault.RunFault.{RunFault}
+use Rattle.tsp_judge.specs.declared.fault.RunFault.TheVariants.{File, WrongKind, Write, OutOfMemory}
+use Rattle.tsp_judge.specs.Judged.{is_yes}
+use Rattle.tsp_judge.specs.Report.{report_of}
+use Rattle.tsp_judge.specs.Run.{IsSomeFile}
+
+-- the TYPEs whose tours have a bound
+abbrev pub is_bounded : Option Kind → Bool
+is_bounded (Some kinds.Tsp) = true
+is_bounded (Some kinds.Atsp) = true
+is_bounded (Some kinds.Cvrp) = false
+is_bounded (Some kinds.Tour) = false
+is_bounded (Some kinds.Potentials) = false
+is_bounded None = false
+
+-- the turn's bytes spell a file whose tours have a bound, or one whose tours have none
+abbrev pub IsSomeBounded : Turn → Type 0
+IsSomeBounded turn = (file : Fields) × IsFile turn file × IsTrue (is_bounded file.kind)
+
+abbrev pub IsNoBounded : Turn → Type 0
+IsNoBounded turn = (file : Fields) × IsFile turn file × (is_bounded file.kind ≡ false)
+
+-- the first file is this instance, and the verdict on the second file with the third is this one
+pub record IsJudged (first second third : Turn) (instance : Fields) (verdict : Verdict) : Type 0 where
+  pub solution : Fields
+  pub certificate : Fields
+  pub first_file : IsFile first instance
+  pub second_file : IsFile second solution
+  pub third_file : IsFile third certificate
+  pub judged : IsVerdict instance solution certificate verdict
+
+-- What the check answers, as the check of two files does. The first file, in order, that isn't one decides, later ones aren't
+-- read, and then nothing is written; then the first file's TYPE decides.
+abbrev pub IsBoundRun : Turn → Turn → Turn → Sink → Result Bool RunFault → Type 0
+IsBoundRun first second third sink (Ok answer) = (instance : Fields) × (verdict : Verdict) × IsJudged first second third instance verdict
+    × (answer ≡ is_yes verdict) × HasWritten sink (report_of instance verdict)
+IsBoundRun first second third sink (Err (File file fault)) = IsUnwritten sink
+    × (((file ≡ 1) × StopsAt fault first × IsUnread second × IsUnread third)
+    ⊎ ((file ≡ 2) × IsSomeFile first × StopsAt fault second × IsUnread third)
+    ⊎ ((file ≡ 3) × IsSomeFile first × IsSomeFile second × StopsAt fault third))
+IsBoundRun first second third sink (Err WrongKind) = IsUnwritten sink × IsNoBounded first × IsSomeFile second × IsSomeFile third
+IsBoundRun first second third sink (Err OutOfMemory) = IsUnwritten sink × IsSomeBounded first × IsSomeFile second × IsSomeFile third
+IsBoundRun first second third sink (Err (Write write_faults.OutOfMemory)) = ⊥
+IsBoundRun first second third sink (Err (Write write_faults.Device)) = (instance : Fields) × (verdict : Verdict)
+    × IsJudged first second third instance verdict × HasStopped sink (report_of instance verdict)
+
+-- What a yes says: the second file's one tour visits every node of the instance once and uses every fixed edge; its length and
+-- the bound of the third file are printed; and no tour of the instance is shorter than the bound, so that where the length
+-- equals it no tour is shorter than this one.
+pub record IsAYes (first second third : Turn) (sink : Sink) : Type 0 where
+  pub instance : Fields
+  pub solution : Fields
+  pub certificate : Fields
+  pub first_file : IsFile first instance
+  pub second_file : IsFile second solution
+  pub third_file : IsFile third certificate
+  pub tour : List ℕ
+  pub only : tours_of solution ≡ tour ∷ []
+  pub tour_of : IsTourOf instance tour
+  pub bound : ℤ
+  pub of_certificate : IsBoundBy instance.kind instance certificate bound
+  pub printed : HasWritten sink (report_of instance (Tour (length_of (cost instance) tour) (Some bound)))
+  pub below_tours : BoundsTours instance bound
+  pub optimal : length_of (cost instance) tour ≡ bound → (other : List ℕ) → IsTourOf instance other
+      → length_of (cost instance) tour ≤ℤ length_of (cost instance) other

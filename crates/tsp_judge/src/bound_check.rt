@@ -1,0 +1,87 @@
+//! The check of an instance and a tour with a certificate of a bound, from the bytes that come in to
+//! those that go out.
+
+ghost use Rattle.std.specs.Prelude.{◌≡◌, true, Some, Ok};
+ghost use Rattle.tsp_stream.specs.Sink.{sink_of};
+ghost use Rattle.tsp_stream.specs.Turn.{turn_of, TakesAtMost};
+ghost use Rattle.tsp_read.specs.Reads.{most_taken};
+ghost use Rattle.tsp_judge.specs.BoundRun.{is_bounded, IsBoundRun, IsAYes};
+
+use crate::answer::answer;
+use crate::fault::RunFault;
+use std::alloc::Global;
+use std::io::{Read, Write};
+use tsp_cost::Instance;
+use tsp_read::read_from;
+use tsp_stream::Watched;
+use tsp_value::Kind;
+use tsp_verdict::judge_tour_bound;
+
+/// Judges a tour of an instance of TYPE TSP or ATSP with a certificate of a bound, and writes the
+/// report.
+///
+/// The answer is true where the second file's one tour visits every node once and uses every fixed
+/// edge and the third file's potentials give a bound, and false where the report says a no with its
+/// first reason; the whole report was written then. At a yes no tour of the instance is shorter than
+/// the printed bound, so that a tour whose length equals it, which the report calls optimal, is a
+/// shortest one. Under TYPE TSP the bound is that of a least 1-tree under potentials of nodes
+/// (Held and Karp, 1970), under TYPE ATSP that of duals of the assignment problem.
+///
+/// Each file is read whole before the next, and the first file that is none decides. Nothing is
+/// written before the verdict exists.
+///
+/// Errors: `File` where a file is none, or can't be read; `WrongKind` where all three are files and
+/// the first is of TYPE CVRP, TOUR or POTENTIALS; `OutOfMemory` where the judgement or the report runs
+/// out of memory; `Write` where the writer fails. Of each file at most 4,096 bytes past
+/// `MOST_FILE_BYTES` are read.
+pub fn run_bound_check<I: Read, S: Read, P: Read, W: Write>(
+    alloc: Global,
+    inst: &mut Watched<I>,
+    sol: &mut Watched<S>,
+    pot: &mut Watched<P>,
+    out: &mut Watched<W>,
+) -> Result<bool, RunFault>
+    ensures run { TakesAtMost most_taken (turn_of I.remaining inst.old inst.new) (λ first.
+        TakesAtMost most_taken (turn_of S.remaining sol.old sol.new) (λ second.
+        TakesAtMost most_taken (turn_of P.remaining pot.old pot.new) (λ third.
+        IsBoundRun first second third (sink_of W.contents out.old out.new) result))) }
+    ensures yes { result ≡ Ok true
+        → TakesAtMost most_taken (turn_of I.remaining inst.old inst.new) (λ first.
+        TakesAtMost most_taken (turn_of S.remaining sol.old sol.new) (λ second.
+        TakesAtMost most_taken (turn_of P.remaining pot.old pot.new) (λ third.
+        IsAYes first second third (sink_of W.contents out.old out.new)))) }
+{
+    let instance = match read_from(alloc, inst) {
+        Err(fault) => return Err(RunFault::File { file: 1, fault }),
+        Ok(file) => file,
+    };
+    let solution = match read_from(alloc, sol) {
+        Err(fault) => return Err(RunFault::File { file: 2, fault }),
+        Ok(file) => file,
+    };
+    let certificate = match read_from(alloc, pot) {
+        Err(fault) => return Err(RunFault::File { file: 3, fault }),
+        Ok(file) => file,
+    };
+    let instance = match Instance::of(instance) {
+        Err(_) => return Err(RunFault::WrongKind),
+        Ok(instance) => instance,
+    };
+    if !is_bounded(instance.kind()) {
+        return Err(RunFault::WrongKind);
+    }
+    match judge_tour_bound(alloc, &instance, &solution, &certificate) {
+        Err(_) => Err(RunFault::OutOfMemory),
+        Ok(verdict) => answer(alloc, &instance, verdict, out),
+    }
+}
+
+/// Whether tours of instances of this TYPE have a bound.
+fn is_bounded(kind: Kind) -> bool
+    ensures { result ≡ is_bounded (Some kind) }
+{
+    match kind {
+        Kind::Tsp | Kind::Atsp => true,
+        Kind::Cvrp | Kind::Tour | Kind::Potentials => false,
+    }
+}

@@ -1,0 +1,118 @@
+//! Drafts by hand, and their faults.
+
+use std::alloc::{AllocError, Global};
+use std::test::Fail;
+use tsp_fields::{Draft, DraftFault, EndFault, File};
+use tsp_number::{Decimal, Point};
+use tsp_value::{CoordKind, DisplayKind, Field, Kind, Layout, WeightFormat, WeightKind};
+
+/// A file of tours without any.
+pub fn tours(alloc: Global) -> Draft {
+    let mut draft = Draft::new(alloc);
+    draft.kind = Some(Kind::Tour);
+    draft.tours = Some(Vec::new(alloc));
+    draft
+}
+
+/// The name `a`, an empty comment, and the tours 1, 2 and 3.
+pub fn two_tours(alloc: Global) -> Result<Draft, AllocError> {
+    let mut draft = Draft::new(alloc);
+    draft.name = Some(Vec::from_slice(alloc, b"a")?);
+    draft.kind = Some(Kind::Tour);
+    draft.comments.push(Vec::new(alloc))?;
+    let mut tours = Vec::new(alloc);
+    tours.push(Vec::from_slice(alloc, &[1u32, 2])?)?;
+    tours.push(Vec::from_slice(alloc, &[3u32])?)?;
+    draft.tours = Some(tours);
+    Ok(draft)
+}
+
+/// An instance of n nodes with this many weights 0 by the upper rows.
+pub fn upper_row(alloc: Global, n: u32, count: usize) -> Result<Draft, AllocError> {
+    let mut draft = Draft::new(alloc);
+    draft.kind = Some(Kind::Tsp);
+    draft.dimension = Some(n);
+    draft.weight_kind = Some(WeightKind::Explicit);
+    draft.weight_format = Some(WeightFormat::Listed(Layout::UpperRow));
+    draft.weights = Some(vec![in alloc; 0; count]?);
+    Ok(draft)
+}
+
+/// An instance of four nodes under a layout, with the weights from 1 on.
+pub fn four_nodes(alloc: Global, layout: Layout, count: u8) -> Result<Draft, AllocError> {
+    let mut draft = upper_row(alloc, 4, 0)?;
+    draft.weight_format = Some(WeightFormat::Listed(layout));
+    let mut weights = Vec::new(alloc);
+    for weight in 0..count {
+        weights.push(i64::from(weight) + 1)?;
+    }
+    draft.weights = Some(weights);
+    Ok(draft)
+}
+
+/// Points whose coordinates are given as counts of halves.
+pub fn points(alloc: Global, halves: &[(i64, i64)]) -> Result<Vec<Point>, Fail> {
+    let mut points = Vec::new(alloc);
+    for (x, y) in halves {
+        let x = Decimal::of_count(i128::from(*x) * 500_000_000).ok_or("no decimal")?;
+        let y = Decimal::of_count(i128::from(*y) * 500_000_000).ok_or("no decimal")?;
+        points.push(Point { x, y })?;
+    }
+    Ok(points)
+}
+
+/// The rectangle with the sides 3 and 4 as a CVRP, with every field set.
+pub fn rectangle(alloc: Global) -> Result<Draft, Fail> {
+    let mut draft = two_tours(alloc)?;
+    draft.kind = Some(Kind::Cvrp);
+    let other = (
+        Vec::from_slice(alloc, b"DISTANCE")?,
+        Vec::from_slice(alloc, b"9")?,
+    );
+    draft.others.push(other)?;
+    draft.dimension = Some(4);
+    draft.capacity = Some(8);
+    draft.scale = Some(7);
+    draft.weight_kind = Some(WeightKind::Euc2d);
+    draft.weight_format = Some(WeightFormat::Listed(Layout::UpperRow));
+    draft.coord_kind = Some(CoordKind::TwoD);
+    draft.display_kind = Some(DisplayKind::TwoD);
+    draft.coords = Some(points(alloc, &[(0, 0), (6, 0), (6, 8), (0, 8)])?);
+    draft.display = Some(points(alloc, &[(0, 0), (3, 0), (3, -4), (0, -4)])?);
+    draft.demands = Some(Vec::from_slice(alloc, &[0i64, 4, 4, 4])?);
+    draft.depots = Some(Vec::from_slice(alloc, &[1u32])?);
+    draft.fixed = Some(Vec::from_slice(alloc, &[(1u32, 2u32), (4, 3)])?);
+    draft.weights = Some(Vec::from_slice(alloc, &[3i64, 5, 4, -1, 0, 1_000_000_000_000])?);
+    draft.node_potentials = Some(Vec::from_slice(alloc, &[3i64, -3, 0, 0])?);
+    draft.row_potentials = Some(Vec::from_slice(alloc, &[4i64, -4, 0, 0])?);
+    draft.column_potentials = Some(Vec::from_slice(alloc, &[5i64, -5, 0, 0])?);
+    Ok(draft)
+}
+
+/// The file that a draft holds.
+pub fn file_of(draft: Draft) -> Result<File, Fail> {
+    match File::of(draft) {
+        Ok(file) => Ok(file),
+        Err(_) => Err(Fail::from("no file")),
+    }
+}
+
+/// The first fault of a draft, if it has one.
+pub fn fault(draft: Draft) -> Option<DraftFault> {
+    match File::of(draft) {
+        Ok(_) => None,
+        Err((fault, _)) => Some(fault),
+    }
+}
+
+pub fn bad(field: Field) -> Option<DraftFault> {
+    Some(DraftFault::BadField(field))
+}
+
+pub fn missing(field: Field) -> Option<DraftFault> {
+    Some(DraftFault::Rule(EndFault::Missing(field)))
+}
+
+pub const WRONG_FORMAT: Option<DraftFault> = Some(DraftFault::Rule(EndFault::WrongFormat));
+
+pub const WRONG_COUNT: Option<DraftFault> = Some(DraftFault::Rule(EndFault::WrongCount));

@@ -1,0 +1,6 @@
+//! The tests of the reader, over its public calls: texts that are files, and texts that have a
+//! fault.
+#![tactic(auto)]
+
+#[cfg(test)]
+mod reader;

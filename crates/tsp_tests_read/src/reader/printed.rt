@@ -1,0 +1,118 @@
+//! The texts of faults, which no contract states.
+
+use super::fault_of;
+use std::process::Abort;
+use std::test::Fail;
+use tsp_fields::EndFault;
+use tsp_number::NumberFault;
+use tsp_read::{LineFault, ReadFault};
+use tsp_testing::asserts::same_at;
+use tsp_value::Field;
+
+/// Faults, and their texts.
+const FAULTS: &[(ReadFault, &str)] = &[
+    (ReadFault::OutOfMemory, "out of memory"),
+    (ReadFault::Device, "device"),
+    (ReadFault::TooLong, "too long"),
+    (
+        ReadFault::End(EndFault::Missing(Field::TypeKey)),
+        "end: Missing TYPE",
+    ),
+    (
+        ReadFault::End(EndFault::Incomplete(Field::NodeCoordPart)),
+        "end: Incomplete NODE_COORD_SECTION",
+    ),
+    (ReadFault::End(EndFault::WrongFormat), "end: WrongFormat"),
+    (ReadFault::End(EndFault::WrongCount), "end: WrongCount"),
+];
+
+/// Asserts the text of a fault.
+fn prints(rt: &(impl AllocGlobal + Abort), fault: ReadFault, text: &str) -> Result<(), Fail> {
+    let printed = fault.to_string(rt.alloc())?;
+    same_at(rt, text, printed.as_str(), text);
+    Ok(())
+}
+
+#[test]
+fn faults_of_files_print_their_texts(rt: HostRuntime) -> Result<(), Fail> {
+    for (fault, text) in FAULTS {
+        prints(&rt, *fault, text)?;
+    }
+    Ok(())
+}
+
+/// Faults of lines, and their names.
+const LINE_FAULTS: &[(LineFault, &str)] = &[
+    (LineFault::LongLine, "LongLine"),
+    (LineFault::UnknownLine, "UnknownLine"),
+    (LineFault::Repeated, "Repeated"),
+    (LineFault::Outside, "Outside"),
+    (LineFault::BadValue, "BadValue"),
+    (LineFault::SectionValue, "SectionValue"),
+    (LineFault::SectionEarly, "SectionEarly"),
+    (LineFault::TooManyNodes, "TooManyNodes"),
+    (LineFault::StrayNumber, "StrayNumber"),
+    (LineFault::Number(NumberFault::LongWord), "Number LongWord"),
+    (
+        LineFault::Number(NumberFault::BadNumber),
+        "Number BadNumber",
+    ),
+    (LineFault::Number(NumberFault::TooFine), "Number TooFine"),
+    (
+        LineFault::Number(NumberFault::OutOfRange),
+        "Number OutOfRange",
+    ),
+    (LineFault::Number(NumberFault::NotWhole), "Number NotWhole"),
+    (LineFault::RepeatedNode, "RepeatedNode"),
+    (LineFault::SelfEdge, "SelfEdge"),
+    (LineFault::Surplus, "Surplus"),
+    (LineFault::AfterEnd, "AfterEnd"),
+];
+
+#[test]
+fn faults_of_lines_print_the_line_the_word_and_the_name(rt: HostRuntime) -> Result<(), Fail> {
+    for (fault, name) in LINE_FAULTS {
+        let text = format!(in rt.alloc(); "line 1073741825 word 0: {name}")?;
+        let fault = ReadFault::Line {
+            line: 1_073_741_825,
+            word: 0,
+            fault: *fault,
+        };
+        prints(&rt, fault, text.as_str())?;
+    }
+    Ok(())
+}
+
+/// Texts of files, and what their faults print.
+const TEXTS: &[(&str, &str)] = &[
+    (
+        "TYPE : TSP\nDIMENSION : 3\nEDGE_WEIGHT_TYPE : EUC_2D\nNODE_COORD_SECTION\n1 0 0\n2 3 x\n3 3 4\nEOF\n",
+        "line 6 word 3: Number BadNumber",
+    ),
+    (
+        "TYPE : TSP\nDIMENSION : 3\nEDGE_WEIGHT_TYPE : EUC_2D\nNODE_COORD_SECTION\n1 0 0\n2 3 0",
+        "end: Incomplete NODE_COORD_SECTION",
+    ),
+    (
+        "TYPE : TSP\nDIMENSION : 3\nDIMENSION : 4\n",
+        "line 3 word 0: Repeated",
+    ),
+    ("", "end: Missing TYPE"),
+    (
+        "DIMENSION : 2\nFIXED_EDGES\nFIXED_EDGES_SECTION\n",
+        "line 3 word 0: Repeated",
+    ),
+    (
+        "TYPE : TOUR\nTOUR_SECTION\nDIMENSION : 2\nFIXED_EDGES\n1\n",
+        "end: Incomplete FIXED_EDGES_SECTION",
+    ),
+];
+
+#[test]
+fn faults_of_texts_are_printed_with_their_places(rt: HostRuntime) -> Result<(), Fail> {
+    for (text, wanted) in TEXTS {
+        let fault = fault_of(rt.alloc(), text.as_bytes()).ok_or("no fault")?;
+        prints(&rt, fault, wanted)?;
+    }
+    Ok(())
+}

@@ -1,0 +1,76 @@
+-- A certificate of a bound: a file of potentials, when it stands against a verdict, and the bound that it gives.
+use Rattle.std.specs.Prelude.{◌≡◌, ◌≢◌, ℕ, Bool, false, ◌&&◌, List, [], Option, None, Some, is_some, unwrap_or, Result, Ok, Err, ℤ, pos, ◌≤ℤ◌}
+use Rattle.tsp_value.specs.declared.kinds.Kind.{Kind}
+use Rattle.tsp_value.specs.declared.kinds.Kind.TheVariants as kinds
+use Rattle.tsp_fields.specs.Fields.{Fields}
+use Rattle.tsp_fields.specs.Rules.{is_certificate}
+use Rattle.tsp_fields.specs.Cost.{cost}
+use Rattle.tsp_cost.specs.Walk.{IsWalk}
+use Rattle.tsp_cost.specs.Length.{length_of}
+use Rattle.tsp_bound.specs.Numbers.{IsBoundSized}
+use Rattle.tsp_bound.specs.Assignment.{AreGood, IsFirstBroken, IsDualBound}
+use Rattle.tsp_bound.specs.NodeBound.{IsNodeBound}
+use Rattle.tsp_verdict.specs.declared.verdict.Reason.{Reason}
+use Rattle.tsp_verdict.specs.declared.verdict.Reason.TheVariants.{NotPotentials, PotentialsDimension, PotentialsKind, DualInfeasible}
+use Rattle.tsp_verdict.specs.Reasons.{IsFirstReason}
+use Rattle.tsp_verdict.specs.Solution.{nodes_of}
+use Rattle.tsp_verdict.specs.Tours.{rank_of}
+
+-- ---- what is read of it
+
+-- SCALE; 1 is meant where it is missing
+abbrev pub scale_in : Fields → ℤ
+scale_in f = unwrap_or f.scale (pos 1)
+
+abbrev pub potentials_in : Fields → List ℤ
+potentials_in f = unwrap_or f.node_potentials []
+
+abbrev pub rows_in : Fields → List ℤ
+rows_in f = unwrap_or f.row_potentials []
+
+abbrev pub columns_in : Fields → List ℤ
+columns_in f = unwrap_or f.column_potentials []
+
+-- a TSP wants potentials of nodes, an ATSP those of rows and of columns
+abbrev pub has_wanted : Option Kind → Fields → Bool
+has_wanted (Some kinds.Tsp) f = is_some f.node_potentials
+has_wanted (Some kinds.Atsp) f = is_some f.row_potentials && is_some f.column_potentials
+has_wanted (Some kinds.Cvrp) f = false
+has_wanted (Some kinds.Tour) f = false
+has_wanted (Some kinds.Potentials) f = false
+has_wanted None f = false
+
+-- ---- when a reason stands against it; reasons of tours and of routes never do
+
+abbrev pub StandsAgainst : Fields → Fields → Reason → Type 0
+StandsAgainst inst pot NotPotentials = is_certificate pot.kind ≡ false
+StandsAgainst inst pot PotentialsDimension = nodes_of pot ≢ nodes_of inst
+StandsAgainst inst pot PotentialsKind = has_wanted inst.kind pot ≡ false
+StandsAgainst inst pot (DualInfeasible i j) = (inst.kind ≡ Some kinds.Atsp)
+    × IsFirstBroken (nodes_of inst) (cost inst) (scale_in pot) (rows_in pot) (columns_in pot) i j
+StandsAgainst inst pot reason = ⊥
+
+-- ---- its bound
+
+-- the bound of a least 1-tree under TYPE TSP, that of duals under TYPE ATSP
+abbrev pub IsBoundBy : Option Kind → Fields → Fields → ℤ → Type 0
+IsBoundBy (Some kinds.Tsp) inst pot bound = IsNodeBound (nodes_of inst) (cost inst) (scale_in pot) (potentials_in pot) bound
+IsBoundBy (Some kinds.Atsp) inst pot bound = AreGood (nodes_of inst) (cost inst) (scale_in pot) (rows_in pot) (columns_in pot)
+    × IsDualBound (scale_in pot) (rows_in pot) (columns_in pot) bound
+IsBoundBy (Some kinds.Cvrp) inst pot bound = ⊥
+IsBoundBy (Some kinds.Tour) inst pot bound = ⊥
+IsBoundBy (Some kinds.Potentials) inst pot bound = ⊥
+IsBoundBy None inst pot bound = ⊥
+
+-- no walk of the instance is shorter
+abbrev pub BoundsWalks : Fields → ℤ → Type 0
+BoundsWalks inst bound = (nodes : List ℕ) → IsWalk (nodes_of inst) nodes → bound ≤ℤ length_of (cost inst) nodes
+
+-- the bound that the certificate gives, which no walk is below, and sums with which fit 128 bits
+abbrev pub IsCertified : Fields → Fields → ℤ → Type 0
+IsCertified inst pot bound = IsBoundBy inst.kind inst pot bound × BoundsWalks inst bound × IsBoundSized bound
+
+-- the bound of a certificate against which no reason stands, or the first reason that does
+abbrev pub FindsBound : Fields → Fields → Result ℤ Reason → Type 0
+FindsBound inst pot (Ok bound) = ((reason : Reason) → StandsAgainst inst pot reason → ⊥) × IsCertified inst pot bound
+FindsBound inst pot (Err reason) = IsFirstReason (StandsAgainst inst pot) rank_of reason
