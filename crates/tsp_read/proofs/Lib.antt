@@ -49,4 +49,5 @@ pub mod BegunSteps
 pub mod PausedSteps
 pub mod FeedSteps
 pub mod LastSteps
+pub mod PieceSteps
 pub mod FromReader

@@ -31,3 +31,4 @@ pub mod Intake
 pub mod Begun
 pub mod Paused
 pub mod Feed
+pub mod Timely

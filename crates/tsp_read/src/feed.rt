@@ -108,6 +108,7 @@ impl Feed {
     ghost use Rattle.tsp_read.specs.declared.fault.ReadFault.TheVariants.{OutOfMemory};
     ghost use Rattle.tsp_read.specs.Onward.{is_bare};
     ghost use Rattle.tsp_read.specs.Reads.{Reads};
+    ghost use Rattle.tsp_read.specs.Timely.{is_going};
     ghost use Rattle.tsp_read.specs.Feed.{IsGoing, HasTaken, refusal, Feeds, ComesTo, Ends};
 
     /// The start of a file. It takes no memory.
@@ -133,6 +134,13 @@ impl Feed {
         let read = read_on(&mut self.intake, &mut self.begun, self.alloc, front);
         self.count += front.len();
         self.stage = stage_after(over.is_empty(), read);
+    }
+
+    /// Whether what follows is looked at.
+    pub(crate) fn is_going(&self) -> bool
+        ensures { result ≡ is_going self.now.stage }
+    {
+        matches!(self.stage, Stage::Going)
     }
 
     /// Takes the next piece. After an end line everything is taken, and nothing is looked at.

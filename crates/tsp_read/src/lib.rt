@@ -7,6 +7,7 @@ mod by_node;
 mod cut;
 mod fault;
 mod feed;
+mod input;
 mod intake;
 mod laws;
 mod parts;
