@@ -232,7 +232,7 @@ taken_fault feed bytes reading found e taken last =
     let h : IsGoing feed bytes = taken_at feed bytes Going e taken in
     (last_fault bytes reading found (short_text feed bytes h) (last h.paused), λ same. subst (λ (f : ReadFault). TakesAll bytes reading (Err f)) same (last h.paused))
 
-settled_reads : (found : ReadFault) (bytes : List ℕ) → HasSettled found bytes → Reads bytes (Err found)
+pub settled_reads : (found : ReadFault) (bytes : List ℕ) → HasSettled found bytes → Reads bytes (Err found)
 settled_reads (faults.Line line word found) bytes h = ap fault (sym (append-nil bytes)) ∙ fault_kept bytes [] (faults.Line line word found) h
 settled_reads (faults.End found) bytes h = absurd h
 settled_reads faults.OutOfMemory bytes h = tt

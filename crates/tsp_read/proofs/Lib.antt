@@ -50,4 +50,4 @@ pub mod PausedSteps
 pub mod FeedSteps
 pub mod LastSteps
 pub mod PieceSteps
-pub mod FromReader
+pub mod InTime

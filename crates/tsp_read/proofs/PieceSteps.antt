@@ -75,7 +75,7 @@ timely_more given piece none going few =
     let both = timely_front given (given ++ piece) k (take-append-le k given piece low) none going in
     record { no_fault = both.0; no_end = both.1 }
 
-timely_start : IsTimely []
+pub timely_start : IsTimely []
 timely_start = record { no_fault = refl; no_end = refl }
 
 pub gathered_start : (known : Option (List ℕ)) (feed : Feed) → HasTaken feed [] → Gathered known known feed 0

@@ -16,7 +16,6 @@ mod settled;
 mod stage;
 mod state;
 mod validity;
-mod walk;
 
 pub use answers::{first_faults, texts_have_one_answer};
 pub use by_node::each_node_has_one_group;

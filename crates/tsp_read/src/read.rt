@@ -1,28 +1,28 @@
 //! A whole text.
 
-ghost use Rattle.std.specs.Prelude.{◌≡◌, ◌+◌, ◌<◌, ◌≤◌, ◌∷◌, ◌&&◌, not, List, length, IsTrue, Ok, Err, is_some, true, false};
+ghost use Rattle.std.specs.Prelude.{◌≡◌, ◌+◌, ◌<◌, ◌≤◌, ◌∷◌, List, IsTrue, Ok, Err, is_some, true, false};
 ghost use Rattle.tsp_value.specs.Limits.{most_file_bytes};
 ghost use Rattle.tsp_read.specs.Items.{Item, WordLine, Line, is_end_line, line_item, line_number, words_before, word_number};
 ghost use Rattle.tsp_read.specs.Left.{item_next};
 ghost use Rattle.tsp_read.specs.Onward.{is_line_end};
-ghost use Rattle.tsp_read.specs.Text.{is_too_long};
-ghost use Rattle.tsp_read.specs.Walk.{left};
 ghost use Rattle.tsp_read.specs.Cuts.{AreCut};
 ghost use Rattle.tsp_read.specs.declared.fault.ReadFault.TheVariants.{OutOfMemory};
 ghost use Rattle.tsp_read.specs.Holds.{Holds};
-ghost use Rattle.tsp_read.specs.Reads.{TakesItem, ReadsItems, Completes, Reads, ReadsFrom};
+ghost use Rattle.tsp_read.specs.Reads.{TakesItem, Completes, Reads, ReadsFrom};
+ghost use Rattle.tsp_read.specs.Timely.{ReadsInTime};
 ghost use Rattle.tsp_stream.specs.Turn.{turn_of};
 
 use crate::cut::{Next, cut_line};
 use crate::fault::{ReadFault, StepFault};
+use crate::feed::Feed;
+use crate::input::feed_all;
 use crate::state::finish::FinishFault;
 use crate::state::reading::Reading;
-use crate::walk::Walk;
 use std::alloc::Global;
 use std::io::Read;
 use tsp_fields::File;
-use tsp_stream::{InputFault, Watched, read_whole};
-use tsp_value::{Keyword, MOST_FILE_BYTES};
+use tsp_stream::Watched;
+use tsp_value::Keyword;
 
 /// Takes an item. The answer is whether it is an end line.
 pub(crate) fn take(reading: &mut Reading, alloc: Global, next: &Next<'_>) -> Result<bool, StepFault>
@@ -92,41 +92,6 @@ pub(crate) fn line_after(line: u32, next: &Next<'_>) -> u32
     }
 }
 
-/// Reads what is left of a text up to and with the end line, and whether there is one; or the
-/// first fault.
-fn read_items(alloc: Global, mut walk: Walk<'_>) -> Result<(Reading, bool), ReadFault>
-    requires { length walk.rest.now ≤ most_file_bytes }
-    ensures { ReadsItems (left walk.entry) result }
-{
-    let mut reading = Reading::new(alloc);
-    let mut line = 1;
-    let mut words = 0;
-    'items: while let Some(next) = walk.next() {
-        words = word_of(words, &next);
-        match take(&mut reading, alloc, &next) {
-            Ok(true) => return Ok((reading, true)),
-            Ok(false) => {}
-            Err(StepFault::Memory) => return Err(ReadFault::OutOfMemory),
-            Err(StepFault::Fault(fault)) => {
-                return Err(ReadFault::Line {
-                    line,
-                    word: words,
-                    fault,
-                });
-            }
-        }
-        line = line_after(line, &next);
-    }
-    Ok((reading, false))
-}
-
-/// Whether a text is longer than a file may be, and has no end line among the bytes that count.
-fn decides_nothing(bytes: &[u8], ended: bool) -> bool
-    ensures { result ≡ (is_too_long bytes.now && not ended) }
-{
-    bytes.len() > MOST_FILE_BYTES && !ended
-}
-
 /// The file of all that was read.
 pub(crate) fn completed(reading: Reading, alloc: Global) -> Result<File, ReadFault>
     ensures file { (earlier : List Item) → Holds reading earlier → AreCut earlier
@@ -152,26 +117,19 @@ pub(crate) fn completed(reading: Reading, alloc: Global) -> Result<File, ReadFau
 pub fn read_bytes(alloc: Global, bytes: &[u8]) -> Result<File, ReadFault>
     ensures { Reads bytes.now result }
 {
-    match read_items(alloc, Walk::of(bytes)) {
+    let mut feed = Feed::new(alloc);
+    match feed.feed(bytes) {
+        Ok(()) => feed.finish(),
         Err(fault) => Err(fault),
-        Ok((reading, ended)) => {
-            if decides_nothing(bytes, ended) {
-                return Err(ReadFault::TooLong);
-            }
-            match reading.finish(alloc) {
-                Ok(file) => Ok(file),
-                Err(FinishFault::Memory) => Err(ReadFault::OutOfMemory),
-                Err(FinishFault::End(fault)) => Err(ReadFault::End(fault)),
-            }
-        }
     }
 }
 
-/// Reads a file from a reader: its bytes up to an end, or past the most bytes that a file may have.
+/// Reads a file from a reader, in pieces of at most 4,096 bytes: up to an end, to an end line, to a
+/// fault, or past the most bytes that a file may have.
 ///
 /// The answer is that of `read_bytes` for the bytes that the reader handed out, and for all that it
-/// has. At most 4,096 bytes are taken past 1,073,741,824. A reader that was handed in as failed is
-/// not read.
+/// has. At most 4,096 bytes are taken past 1,073,741,824, or past an end line or a fault that is
+/// settled. A reader that was handed in as failed is not read.
 ///
 /// # Errors
 ///
@@ -179,11 +137,15 @@ pub fn read_bytes(alloc: Global, bytes: &[u8]) -> Result<File, ReadFault>
 /// - `Device`: a read failed, or had failed before.
 /// - `OutOfMemory`: memory was refused. It may stand in the place of any answer but `Device`.
 pub fn read_from<R: Read>(alloc: Global, reader: &mut Watched<R>) -> Result<File, ReadFault>
-    ensures { ReadsFrom (turn_of R.remaining reader.old reader.new) result }
+    ensures answer { ReadsFrom (turn_of R.remaining reader.old reader.new) result }
+    ensures in_time { ReadsInTime (turn_of R.remaining reader.old reader.new) result }
 {
-    match read_whole(alloc, reader, MOST_FILE_BYTES) {
-        Err(InputFault::Device) => Err(ReadFault::Device),
-        Err(InputFault::OutOfMemory) => Err(ReadFault::OutOfMemory),
-        Ok(bytes) => read_bytes(alloc, &bytes),
+    if reader.failed() {
+        return Err(ReadFault::Device);
+    }
+    let mut feed = Feed::new(alloc);
+    match feed_all(&mut feed, reader) {
+        Ok(()) => feed.finish(),
+        Err(fault) => Err(fault),
     }
 }
