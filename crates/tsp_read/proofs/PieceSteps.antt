@@ -63,10 +63,11 @@ front_going front more none going = by_case (has_end_line (settled_part front)) 
 timely_front : (given whole : List ℕ) (k : ℕ) → take k whole ≡ take k given → settled_fault given ≡ None → has_end_line (settled_part given) ≡ false
     → (settled_fault (take k whole) ≡ None) × (has_end_line (settled_part (take k whole)) ≡ false)
 timely_front given whole k e none going =
-    let parts : take k given ++ drop k given ≡ given = take-append-drop k given in
-    (ap settled_fault e ∙ front_clean (take k given) (drop k given) (ap settled_fault parts ∙ none),
-    ap (λ (xs : List ℕ). has_end_line (settled_part xs)) e
-    ∙ front_going (take k given) (drop k given) (ap settled_fault parts ∙ none) (ap (λ (xs : List ℕ). has_end_line (settled_part xs)) parts ∙ going))
+    let parts : take k given ++ drop k given ≡ given = take-append-drop k given in (
+      ap settled_fault e ∙ front_clean (take k given) (drop k given) (ap settled_fault parts ∙ none),
+      ap (λ (xs : List ℕ). has_end_line (settled_part xs)) e
+          ∙ front_going (take k given) (drop k given) (ap settled_fault parts ∙ none) (ap (λ (xs : List ℕ). has_end_line (settled_part xs)) parts ∙ going),
+    )
 
 timely_more : (given piece : List ℕ) → settled_fault given ≡ None → has_end_line (settled_part given) ≡ false → length piece ≤ 4096 → IsTimely (given ++ piece)
 timely_more given piece none going few =
@@ -131,12 +132,15 @@ pub piece_stops : (turn : List ℕ → Turn) (known left next : Option (List ℕ
     → Consumes left next piece → ((bytes : List ℕ) → HasTaken old bytes → Feeds (bytes ++ piece) new (Err found))
     → TakesAtMost most_taken turn (λ whole. StopsAt found whole × IsTimely whole.given)
 piece_stops turn known left next old new taken piece found same gives sound room g going few gave feeds =
-    let given = g.given ++ piece in
-    (given,
-    omega (arith, length-append g.given piece, g.counted, room, few),
-    (stops_by (turn given) new found (gives given (Consumes-trans known left next g.given piece g.gave gave)) (sound given)
-    (subst (λ (xs : List ℕ). Feeds xs new (Err found)) (sym (same given)) (feeds g.given g.held)),
-    subst IsTimely (sym (same given)) (timely_next known left old taken piece g going few)))
+    let given = g.given ++ piece in (
+      given,
+      omega (arith, length-append g.given piece, g.counted, room, few),
+      (
+        stops_by (turn given) new found (gives given (Consumes-trans known left next g.given piece g.gave gave)) (sound given)
+            (subst (λ (xs : List ℕ). Feeds xs new (Err found)) (sym (same given)) (feeds g.given g.held)),
+        subst IsTimely (sym (same given)) (timely_next known left old taken piece g going few),
+      ),
+    )
 
 -- ---- the end
 
@@ -153,15 +157,18 @@ pub fed_from : (turn : List ℕ → Turn) (known left : Option (List ℕ)) (feed
     → taken ≤ most_taken → Gathered known left feed taken → ((given : List ℕ) → IsAtEnd (turn given).left ⊎ (is_going feed.stage ≡ false))
     → TakesAtMost most_taken turn (λ whole. IsFedFrom whole feed)
 fed_from turn known left feed taken same gives sound room g over =
-    let e = same g.given in
-    (g.given, omega (arith, g.counted, room), record {
-      gave = gives g.given g.gave;
-      sound = sound g.given;
-      held = subst (λ (xs : List ℕ). HasTaken feed xs) (sym e) g.held;
-      no_fault = ap settled_fault e ∙ g.no_fault;
-      timely = subst IsTimely (sym e) g.timely;
-      over = over g.given;
-    })
+    let e = same g.given in (
+      g.given,
+      omega (arith, g.counted, room),
+      record {
+        gave = gives g.given g.gave;
+        sound = sound g.given;
+        held = subst (λ (xs : List ℕ). HasTaken feed xs) (sym e) g.held;
+        no_fault = ap settled_fault e ∙ g.no_fault;
+        timely = subst IsTimely (sym e) g.timely;
+        over = over g.given;
+      },
+    )
 
 -- nothing more was given
 pub gathered_none : (known left next : Option (List ℕ)) (feed : Feed) (taken : ℕ) → Gathered known left feed taken → Consumes left next [] → Gathered known next feed taken

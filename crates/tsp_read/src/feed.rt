@@ -9,8 +9,8 @@ ghost use Rattle.tsp_read.specs.Paused.{FeedsOn, HasRoom, stage_after, outcome_o
 use crate::begun::Begun;
 use crate::fault::ReadFault;
 use crate::intake::Intake;
-use crate::read::completed;
 use crate::stage::Stage;
+use crate::state::finish::completed;
 use crate::state::reading::Reading;
 use std::alloc::Global;
 use tsp_fields::File;

@@ -8,7 +8,7 @@ ghost use Rattle.tsp_read.specs.Onward.{is_over_long};
 
 use crate::cut::{Next, next_item};
 use crate::fault::{LineFault, ReadFault, StepFault};
-use crate::read::{line_after, take, word_of};
+use crate::item::{line_after, take, word_of};
 use crate::state::reading::Reading;
 use std::alloc::Global;
 use tsp_number::NumberFault;

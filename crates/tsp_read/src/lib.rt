@@ -9,6 +9,7 @@ mod fault;
 mod feed;
 mod input;
 mod intake;
+mod item;
 mod laws;
 mod parts;
 mod read;
