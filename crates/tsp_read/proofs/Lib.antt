@@ -26,6 +26,7 @@ pub mod OpenSteps
 pub mod Scans
 pub mod LeftSteps
 pub mod NextSteps
+pub mod Onwards
 pub mod Walks
 pub mod FirstFaults
 pub mod OneAnswer
@@ -43,4 +44,10 @@ pub mod TourSteps
 pub mod FinishSteps
 pub mod Readings
 pub mod ReadSteps
-pub mod FromReader
+pub mod IntakeSteps
+pub mod BegunSteps
+pub mod PausedSteps
+pub mod FeedSteps
+pub mod LastSteps
+pub mod PieceSteps
+pub mod InTime

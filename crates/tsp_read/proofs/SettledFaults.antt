@@ -54,7 +54,7 @@ minus_long word long = by_case (is_minus_one word) refl
     by_case true e = absurd (false≢true (subst IsLong ((bytes_eq-Decides word (codes "-1")).0 e) long))
     by_case false e = refl
 
-long_row : Place → LineFault
+pub long_row : Place → LineFault
 long_row (NodeAfter nodes) = row.Number LongWord
 long_row Coordinate = row.Number LongWord
 long_row (Amount low high) = row.Number LongWord
@@ -67,7 +67,7 @@ long_row Weight = row.Number LongWord
 long_row PastWeights = row.Surplus
 long_row (TourNode count) = row.Number LongWord
 
-long_fault : (n : ℕ) (place : Place) (word : List ℕ) → IsLong word → word_fault n place word ≡ Some (long_row place)
+pub long_fault : (n : ℕ) (place : Place) (word : List ℕ) → IsLong word → word_fault n place word ≡ Some (long_row place)
 unfolding long_row
 long_fault n (NodeAfter nodes) word long = rw (whole_long word (pos 1) (pos n) long) refl
 long_fault n Coordinate word long = rw (decimal_long word long) refl
@@ -89,7 +89,7 @@ same_word_row earlier word next (Some f) long also e =
     let place = place_in f n (words_of f earlier) in
     word_rows earlier word f e ∙ long_fault n place word long ∙ sym (word_rows earlier next f e ∙ long_fault n place next also)
 
-same_fault : (earlier : List Item) (x y : Item) → AreLong x y → fault_in (x ∷ earlier) ≡ fault_in (y ∷ earlier)
+pub same_fault : (earlier : List Item) (x y : Item) → AreLong x y → fault_in (x ∷ earlier) ≡ fault_in (y ∷ earlier)
 same_fault earlier (Line key line) (Line other next) h =
     ap (λ (r : Option LineFault). option_or (fault_in earlier) (option_map (fault_here earlier (Line key line)) r)) (long_line key line earlier h.0 ∙ sym (long_line other next earlier h.1))
 same_fault earlier (Line key line) (NumberWord word) h = absurd h
@@ -191,10 +191,10 @@ take_over size bytes more e =
     let room : length bytes + (size - length bytes) ≡ size = omega (arith, ltb-false size (length bytes) e) in
     ap (λ (n : ℕ). take n (bytes ++ more)) (sym room) ∙ take-append-add bytes more (size - length bytes)
 
-part_long : (bytes : List ℕ) → is_too_long bytes ≡ true → part bytes ≡ settled_part bytes
+pub part_long : (bytes : List ℕ) → is_too_long bytes ≡ true → part bytes ≡ settled_part bytes
 part_long bytes e = ap (λ (b : Bool). reverse (to_end_line (cond b (settled_items (take most_file_bytes bytes)) (items_of bytes)))) e
 
-part_short : (bytes : List ℕ) → is_too_long bytes ≡ false → part bytes ≡ reverse (to_end_line (items_of bytes))
+pub part_short : (bytes : List ℕ) → is_too_long bytes ≡ false → part bytes ≡ reverse (to_end_line (items_of bytes))
 part_short bytes e = ap (λ (b : Bool). reverse (to_end_line (cond b (settled_items (take most_file_bytes bytes)) (items_of bytes)))) e
 
 settled_long : (bytes more : List ℕ) → is_too_long bytes ≡ true → settled_part (bytes ++ more) ≡ settled_part bytes
@@ -293,6 +293,15 @@ part_kept_by bytes more false false e t clean ended = part_short (bytes ++ more)
 
 pub part_kept : (bytes more : List ℕ) → IsClean (settled_part bytes) → has_end_line (settled_part bytes) ≡ true → part (bytes ++ more) ≡ settled_part bytes
 part_kept bytes more clean ended = part_kept_by bytes more (is_too_long bytes) (is_too_long (bytes ++ more)) refl refl clean ended
+
+ended_stays_by : (bytes more : List ℕ) (b : Bool) → is_too_long bytes ≡ b → IsClean (settled_part bytes) → has_end_line (settled_part bytes) ≡ true
+    → settled_part (bytes ++ more) ≡ settled_part bytes
+ended_stays_by bytes more true e clean ended = settled_long bytes more e
+ended_stays_by bytes more false e clean ended =
+    settled_over bytes more e ∙ short_end bytes (settled_items (bytes ++ take (room_for bytes) more)) e clean ended (items_settled bytes (take (room_for bytes) more))
+
+pub ended_stays : (bytes more : List ℕ) → IsClean (settled_part bytes) → has_end_line (settled_part bytes) ≡ true → settled_part (bytes ++ more) ≡ settled_part bytes
+ended_stays bytes more clean ended = ended_stays_by bytes more (is_too_long bytes) refl clean ended
 
 only_last : (o last : Option ReadFault) (b c : Bool) → o ≡ None → c ≡ true → first_row (o ∷ when (b && not c) faults.TooLong ∷ last ∷ []) ≡ last
 only_last (Some other) last b c e t = absurd (none-some other (sym e))

@@ -48,9 +48,6 @@ none_reversed (item ∷ items) e =
 
 -- ---- the walk
 
-pub walked_none : (items : List Item) → Walked items [] items
-walked_none items = record { parts = refl; going = refl }
-
 pub walked_more : (items earlier later : List Item) (item : Item) → Walked items earlier (item ∷ later) → is_end_line item ≡ false → Walked items (item ∷ earlier) later
 walked_more items earlier later item h e = record {
   parts = h.parts ∙ sym (append_assoc (reverse earlier) (item ∷ []) later) ∙ ap (λ xs. xs ++ later) (sym (on_end item earlier));
@@ -85,38 +82,22 @@ fault_stays [] items found e = e
 fault_stays (item ∷ later) items found e =
     ap (λ first. option_or first (option_map (fault_here (later ++ items) item) (row_of (later ++ items) item))) (fault_stays later items found e)
 
-fault_first : (earlier : List Item) (item : Item) (row : LineFault) → IsClean earlier → row_of earlier item ≡ Some row → fault_in (item ∷ earlier) ≡ Some (fault_here earlier item row)
-fault_first earlier item row clean e =
-    ap (λ first. option_or first (option_map (fault_here earlier item) (row_of earlier item))) clean
-    ∙ ap (option_map (fault_here earlier item)) e
-
--- the next item is the first with a row
-pub walked_to_fault : (items earlier later : List Item) (item : Item) (row : LineFault) → Walked items earlier (item ∷ later) → IsClean earlier → row_of earlier item ≡ Some row
-    → fault_in (reverse (to_end_line items)) ≡ Some (fault_here earlier item row)
-walked_to_fault items earlier later item row h clean e =
+-- with the next item comes the first fault
+pub walked_found : (items earlier later : List Item) (item : Item) (found : ReadFault) → Walked items earlier (item ∷ later) → fault_in (item ∷ earlier) ≡ Some found
+    → fault_in (reverse (to_end_line items)) ≡ Some found
+walked_found items earlier later item found h e =
     let more = cond (is_end_line item) [] (to_end_line later) in
     ap (λ xs. fault_in (reverse xs)) (counts items earlier (item ∷ later) h)
     ∙ ap fault_in (turned earlier more item)
-    ∙ fault_stays (reverse more) (item ∷ earlier) (fault_here earlier item row) (fault_first earlier item row clean e)
+    ∙ fault_stays (reverse more) (item ∷ earlier) found e
 
 -- ---- a whole text
-
-pub part_is : (bytes text : List ℕ) (goes_on : Bool) → goes_on ≡ is_too_long bytes → text ≡ cond goes_on (take most_file_bytes bytes) bytes
-    → part bytes ≡ reverse (to_end_line (cond goes_on (settled_items text) (items_of text)))
-part_is bytes text true e cut = ap (λ b. reverse (to_end_line (cond b (settled_items (take most_file_bytes bytes)) (items_of bytes)))) (sym e) ∙ ap (λ xs. reverse (to_end_line (settled_items xs))) (sym cut)
-part_is bytes text false e cut = ap (λ b. reverse (to_end_line (cond b (settled_items (take most_file_bytes bytes)) (items_of bytes)))) (sym e) ∙ ap (λ xs. reverse (to_end_line (items_of xs))) (sym cut)
 
 abbrev rows : Option ReadFault → Bool → Option EndFault → Option ReadFault
 rows line long end = first_row (line ∷ when long faults.TooLong ∷ option_map (λ fault. faults.End fault) end ∷ [])
 
 pub line_fault : (bytes : List ℕ) (found : ReadFault) → fault_in (part bytes) ≡ Some found → fault bytes ≡ Some found
 line_fault bytes found e = ap (λ line. rows line (is_too_long bytes && not (has_end_line (part bytes))) (fault_at_end (part bytes))) e
-
-pub long_fault : (bytes : List ℕ) → IsClean (part bytes) → is_too_long bytes ≡ true → has_end_line (part bytes) ≡ false → fault bytes ≡ Some faults.TooLong
-long_fault bytes clean long going =
-    ap (λ line. rows line (is_too_long bytes && not (has_end_line (part bytes))) (fault_at_end (part bytes))) clean
-    ∙ ap (λ b. rows None (b && not (has_end_line (part bytes))) (fault_at_end (part bytes))) long
-    ∙ ap (λ b. rows None (not b) (fault_at_end (part bytes))) going
 
 pub end_fault_is : (bytes : List ℕ) (found : Option EndFault) → IsClean (part bytes) → (is_too_long bytes && not (has_end_line (part bytes))) ≡ false → fault_at_end (part bytes) ≡ found
     → fault bytes ≡ option_map (λ fault. faults.End fault) found

@@ -21,8 +21,14 @@ pub mod Holds
 pub mod Cuts
 pub mod CutLine
 pub mod Left
+pub mod Onward
 pub mod Walk
 pub mod Answering
 pub mod ByNode
 pub mod Finishes
 pub mod Reads
+pub mod Intake
+pub mod Begun
+pub mod Paused
+pub mod Feed
+pub mod Timely

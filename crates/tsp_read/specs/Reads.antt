@@ -9,13 +9,13 @@ use Rattle.tsp_read.specs.declared.fault.StepFault.TheVariants as steps
 use Rattle.tsp_read.specs.declared.fault.ReadFault.{ReadFault}
 use Rattle.tsp_read.specs.declared.fault.ReadFault.TheVariants as faults
 use Rattle.tsp_read.specs.declared.state.reading.Reading.{Reading}
-use Rattle.tsp_read.specs.declared.walk.Walk.{Walk}
-use Rattle.tsp_read.specs.Items.{Item, is_end_line, has_end_line, to_end_line, line_number, words_before}
+use Rattle.tsp_read.specs.Items.{Item, is_end_line, has_end_line, to_end_line}
 use Rattle.tsp_read.specs.Rows.{row_of}
 use Rattle.tsp_read.specs.FirstFault.{fault_in}
 use Rattle.tsp_read.specs.Text.{fault, Spells}
 use Rattle.tsp_read.specs.Holds.{Holds}
-use Rattle.tsp_read.specs.Walk.{left, Walked}
+use Rattle.tsp_read.specs.declared.state.finish.FinishFault.TheVariants as finishes
+use Rattle.tsp_read.specs.Finishes.{Finishes}
 
 -- an item is taken, and whether it is an end line; or it has this row
 abbrev pub TakesItem : List Item → Item → Reading → Result Bool StepFault → Type 0
@@ -40,6 +40,15 @@ Reads bytes (Err (faults.End found)) = fault bytes ≡ Some (faults.End found)
 Reads bytes (Err faults.OutOfMemory) = Unit {0}
 Reads bytes (Err faults.Device) = ⊥
 Reads bytes (Err faults.TooLong) = fault bytes ≡ Some faults.TooLong
+
+-- The file of these items, which have no fault, or the fault of their end.
+abbrev pub Completes : List Item → Result Fields ReadFault → Type 0
+Completes items (Ok file) = Finishes items (Ok file)
+Completes items (Err (faults.Line line word found)) = ⊥
+Completes items (Err (faults.End found)) = Finishes items (Err (finishes.End found))
+Completes items (Err faults.OutOfMemory) = Unit {0}
+Completes items (Err faults.Device) = ⊥
+Completes items (Err faults.TooLong) = ⊥
 
 -- ---- a reader
 
@@ -66,13 +75,3 @@ StopsAt faults.TooLong turn = HasFault faults.TooLong turn
 abbrev pub ReadsFrom : (List ℕ → Turn) → Result Fields ReadFault → Type 0
 ReadsFrom turn (Ok file) = TakesAtMost most_taken turn (λ whole. IsFile whole file)
 ReadsFrom turn (Err found) = TakesAtMost most_taken turn (StopsAt found)
-
--- on the way: these items were taken, the state has them, and the counts are those of the next item
-pub record OnTheWay (items : List Item) (walk : Walk) (reading : Reading) (line words : ℕ) : Type 0 where
-  pub earlier : List Item
-  pub holds : Holds reading earlier
-  pub walked : Walked items earlier (left walk)
-  pub line_is : line ≡ line_number earlier
-  pub words_are : words ≡ words_before earlier
-  pub line_room : line + length walk.rest.now ≤ most_file_bytes + 1
-  pub words_room : words + length walk.rest.now ≤ most_file_bytes

@@ -9,6 +9,7 @@ ghost use Rattle.tsp_read.specs.Lines.{ends_line, without_start, without_end, ke
 ghost use Rattle.tsp_read.specs.Items.{line_item};
 ghost use Rattle.tsp_read.specs.CutLine.{cut_item};
 ghost use Rattle.tsp_read.specs.Left.{ends_word, before, from, is_settled, items_left, item_next, is_inside};
+ghost use Rattle.tsp_read.specs.Onward.{is_over_long, GivesNext};
 
 use crate::state::line::CutLine;
 use tsp_value::{Keyword, MOST_LINE_BYTES, MOST_WORD_BYTES, is_blank, is_keyword_byte, is_letter};
@@ -53,7 +54,7 @@ fn word_end(text: &[u8]) -> Option<usize>
 /// A text from its first byte that isn't blank on.
 #[inline(always)]
 #[tactic(auto, using(crate::proofs::Scans::start_none, crate::proofs::Scans::start_some, crate::proofs::Scans::position_within))]
-fn without_start(text: &[u8]) -> &[u8]
+pub(crate) fn without_start(text: &[u8]) -> &[u8]
     ensures { result.now ≡ without_start text.now }
 {
     match first_filled(text) {
@@ -116,6 +117,30 @@ pub(crate) fn cut_line(text: &[u8]) -> CutLine<'_>
     }
 }
 
+// ---- where a line or a word that has begun ends
+
+/// A text up to its first byte 10, and from there on.
+pub(crate) fn to_line_end(text: &[u8]) -> (&[u8], &[u8])
+    ensures before { result.0.now ≡ before ends_line text.now }
+    ensures from { result.1.now ≡ from ends_line text.now }
+{
+    match line_end(text) {
+        Some(end) => text.split_at(end),
+        None => text.split_at(text.len()),
+    }
+}
+
+/// A text up to its first blank or byte 10, and from there on.
+pub(crate) fn to_word_end(text: &[u8]) -> (&[u8], &[u8])
+    ensures before { result.0.now ≡ before ends_word text.now }
+    ensures from { result.1.now ≡ from ends_word text.now }
+{
+    match word_end(text) {
+        Some(end) => text.split_at(end),
+        None => text.split_at(text.len()),
+    }
+}
+
 // ---- item by item
 
 /// What stands next in a text.
@@ -127,6 +152,19 @@ pub(crate) enum Next<'a> {
     Word(&'a [u8]),
     /// A line's end.
     LineEnd,
+}
+
+impl<'a> Next<'a> {
+    /// Whether what follows is of the same line.
+    #[inline(always)]
+    pub(crate) fn is_inside(&self) -> bool
+        ensures { result ≡ is_inside self.now }
+    {
+        match self {
+            Next::Line(_) | Next::Word(_) => true,
+            Next::LineEnd => false,
+        }
+    }
 }
 
 /// The text up to the end of its first line, and what follows; or nothing where the text goes on
@@ -163,7 +201,7 @@ fn take_word(text: &[u8], goes_on: bool) -> Option<(&[u8], &[u8])>
 
 /// Whether a byte that isn't blank begins a word line: the first of its line, where that is a letter.
 #[inline(always)]
-fn begins_line(first: u8, inside: bool) -> bool
+pub(crate) fn begins_line(first: u8, inside: bool) -> bool
     ensures { result ≡ (not inside && is_letter first) }
 {
     !inside && is_letter(first)
@@ -172,12 +210,15 @@ fn begins_line(first: u8, inside: bool) -> bool
 /// What stands next in what is left of a text, and what is left then; nothing at its end.
 ///
 /// `inside`: an item of the first line was taken already. `goes_on`: more bytes follow than are
-/// given, so that only what those can't change is taken.
+/// given, so that only what those can't change is taken. That holds whatever follows, of a line or
+/// word that isn't too long.
 #[inline(always)]
 pub(crate) fn next_item(text: &[u8], inside: bool, goes_on: bool) -> Option<(Next<'_>, &[u8])>
     ensures items { MatchOption result (items_left goes_on inside text.now ≡ [])
         (λ found. items_left goes_on inside text.now
         ≡ item_next found.0 ∷ items_left goes_on (is_inside found.0) found.1.now) }
+    ensures follows { IfSome result (λ found. goes_on ≡ true → is_over_long (item_next found.0) ≡ false
+        → GivesNext inside text.now (item_next found.0) (is_inside found.0) found.1.now) }
     ensures shorter { IfSome result (λ found. length found.1.now < length text.now) }
 {
     let filled = without_start(text);

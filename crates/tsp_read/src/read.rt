@@ -1,127 +1,16 @@
-//! A whole text.
+//! A whole text, and a whole reader.
 
-ghost use Rattle.std.specs.Prelude.{◌≡◌, ◌+◌, ◌<◌, ◌≤◌, ◌∷◌, ◌&&◌, not, List, length};
-ghost use Rattle.tsp_value.specs.Limits.{most_file_bytes};
-ghost use Rattle.tsp_read.specs.Items.{Item, WordLine, Line, is_end_line, line_item, line_number, words_before, word_number};
-ghost use Rattle.tsp_read.specs.Left.{item_next};
-ghost use Rattle.tsp_read.specs.Text.{is_too_long};
-ghost use Rattle.tsp_read.specs.Walk.{left};
-ghost use Rattle.tsp_read.specs.Holds.{Holds};
-ghost use Rattle.tsp_read.specs.Reads.{TakesItem, ReadsItems, Reads, ReadsFrom};
 ghost use Rattle.tsp_stream.specs.Turn.{turn_of};
+ghost use Rattle.tsp_read.specs.Reads.{Reads, ReadsFrom};
+ghost use Rattle.tsp_read.specs.Timely.{ReadsInTime};
 
-use crate::cut::{Next, cut_line};
-use crate::fault::{ReadFault, StepFault};
-use crate::state::finish::FinishFault;
-use crate::state::reading::Reading;
-use crate::walk::Walk;
+use crate::fault::ReadFault;
+use crate::feed::Feed;
+use crate::input::feed_all;
 use std::alloc::Global;
 use std::io::Read;
 use tsp_fields::File;
-use tsp_stream::{InputFault, Watched, read_whole};
-use tsp_value::{Keyword, MOST_FILE_BYTES};
-
-/// Takes an item. The answer is whether it is an end line.
-fn take(reading: &mut Reading, alloc: Global, next: &Next<'_>) -> Result<bool, StepFault>
-    ensures { (earlier : List Item) → Holds reading.old earlier
-        → TakesItem earlier (item_next next.now) reading.new result }
-{
-    match next {
-        Next::LineEnd => Ok(false),
-        Next::Word(word) => match reading.word(alloc, word) {
-            Ok(()) => Ok(false),
-            Err(fault) => Err(fault),
-        },
-        Next::Line(text) => take_line(reading, alloc, text),
-    }
-}
-
-/// Whether a keyword is that of the end line.
-fn is_end(key: Keyword) -> bool
-    ensures { (line : WordLine) → result ≡ is_end_line (Line key line) }
-{
-    match key {
-        Keyword::Known(_) => false,
-        Keyword::EdgeDataFormat => false,
-        Keyword::EdgeDataSection => false,
-        Keyword::Eof => true,
-        Keyword::Unknown => false,
-    }
-}
-
-/// Takes a word line, from its first byte that isn't blank on. The answer is whether it is an end
-/// line.
-fn take_line(reading: &mut Reading, alloc: Global, text: &[u8]) -> Result<bool, StepFault>
-    ensures { (earlier : List Item) → Holds reading.old earlier
-        → TakesItem earlier (line_item text.now) reading.new result }
-{
-    let line = cut_line(text);
-    match reading.line(alloc, &line) {
-        Ok(()) => Ok(is_end(line.key)),
-        Err(fault) => Err(fault),
-    }
-}
-
-/// The number of the word that an item is, after so many words of its line; 0 where it is none.
-fn word_of(words: u32, next: &Next<'_>) -> u32
-    requires { words ≤ most_file_bytes }
-    ensures number { (earlier : List Item) → words ≡ words_before earlier
-        → result ≡ word_number earlier (item_next next.now) }
-    ensures more { result ≤ words + 1 }
-{
-    match next {
-        Next::Word(_) => words + 1,
-        _ => 0,
-    }
-}
-
-/// The number of the line after an item of this one.
-fn line_after(line: u32, next: &Next<'_>) -> u32
-    requires { line ≤ most_file_bytes + 1 }
-    ensures number { (earlier : List Item) → line ≡ line_number earlier
-        → result ≡ line_number (item_next next.now ∷ earlier) }
-    ensures more { result ≤ line + 1 }
-{
-    match next {
-        Next::LineEnd => line + 1,
-        _ => line,
-    }
-}
-
-/// Reads what is left of a text up to and with the end line, and whether there is one; or the
-/// first fault.
-fn read_items(alloc: Global, mut walk: Walk<'_>) -> Result<(Reading, bool), ReadFault>
-    requires { length walk.rest.now ≤ most_file_bytes }
-    ensures { ReadsItems (left walk.entry) result }
-{
-    let mut reading = Reading::new(alloc);
-    let mut line = 1;
-    let mut words = 0;
-    'items: while let Some(next) = walk.next() {
-        words = word_of(words, &next);
-        match take(&mut reading, alloc, &next) {
-            Ok(true) => return Ok((reading, true)),
-            Ok(false) => {}
-            Err(StepFault::Memory) => return Err(ReadFault::OutOfMemory),
-            Err(StepFault::Fault(fault)) => {
-                return Err(ReadFault::Line {
-                    line,
-                    word: words,
-                    fault,
-                });
-            }
-        }
-        line = line_after(line, &next);
-    }
-    Ok((reading, false))
-}
-
-/// Whether a text is longer than a file may be, and has no end line among the bytes that count.
-fn decides_nothing(bytes: &[u8], ended: bool) -> bool
-    ensures { result ≡ (is_too_long bytes.now && not ended) }
-{
-    bytes.len() > MOST_FILE_BYTES && !ended
-}
+use tsp_stream::Watched;
 
 /// Reads a file from the bytes of a text.
 ///
@@ -135,26 +24,19 @@ fn decides_nothing(bytes: &[u8], ended: bool) -> bool
 pub fn read_bytes(alloc: Global, bytes: &[u8]) -> Result<File, ReadFault>
     ensures { Reads bytes.now result }
 {
-    match read_items(alloc, Walk::of(bytes)) {
+    let mut feed = Feed::new(alloc);
+    match feed.feed(bytes) {
+        Ok(()) => feed.finish(),
         Err(fault) => Err(fault),
-        Ok((reading, ended)) => {
-            if decides_nothing(bytes, ended) {
-                return Err(ReadFault::TooLong);
-            }
-            match reading.finish(alloc) {
-                Ok(file) => Ok(file),
-                Err(FinishFault::Memory) => Err(ReadFault::OutOfMemory),
-                Err(FinishFault::End(fault)) => Err(ReadFault::End(fault)),
-            }
-        }
     }
 }
 
-/// Reads a file from a reader: its bytes up to an end, or past the most bytes that a file may have.
+/// Reads a file from a reader, in pieces of at most 4,096 bytes: up to an end, to an end line, to a
+/// fault, or past the most bytes that a file may have.
 ///
 /// The answer is that of `read_bytes` for the bytes that the reader handed out, and for all that it
-/// has. At most 4,096 bytes are taken past 1,073,741,824. A reader that was handed in as failed is
-/// not read.
+/// has. At most 4,096 bytes are taken past 1,073,741,824, or past an end line or a fault that is
+/// settled. A reader that was handed in as failed is not read.
 ///
 /// # Errors
 ///
@@ -162,11 +44,15 @@ pub fn read_bytes(alloc: Global, bytes: &[u8]) -> Result<File, ReadFault>
 /// - `Device`: a read failed, or had failed before.
 /// - `OutOfMemory`: memory was refused. It may stand in the place of any answer but `Device`.
 pub fn read_from<R: Read>(alloc: Global, reader: &mut Watched<R>) -> Result<File, ReadFault>
-    ensures { ReadsFrom (turn_of R.remaining reader.old reader.new) result }
+    ensures answer { ReadsFrom (turn_of R.remaining reader.old reader.new) result }
+    ensures in_time { ReadsInTime (turn_of R.remaining reader.old reader.new) result }
 {
-    match read_whole(alloc, reader, MOST_FILE_BYTES) {
-        Err(InputFault::Device) => Err(ReadFault::Device),
-        Err(InputFault::OutOfMemory) => Err(ReadFault::OutOfMemory),
-        Ok(bytes) => read_bytes(alloc, &bytes),
+    if reader.failed() {
+        return Err(ReadFault::Device);
+    }
+    let mut feed = Feed::new(alloc);
+    match feed_all(&mut feed, reader) {
+        Ok(()) => feed.finish(),
+        Err(fault) => Err(fault),
     }
 }

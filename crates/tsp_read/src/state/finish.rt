@@ -1,9 +1,15 @@
 //! The end of the text.
 
-ghost use Rattle.std.specs.Prelude.{◌≡◌};
+ghost use Rattle.std.specs.Prelude.{◌≡◌, List, Err, is_some, true};
+ghost use Rattle.tsp_read.specs.declared.fault.ReadFault.TheVariants.{OutOfMemory};
+ghost use Rattle.tsp_read.specs.Items.{Item};
+ghost use Rattle.tsp_read.specs.Holds.{Holds};
+ghost use Rattle.tsp_read.specs.Cuts.{AreCut};
+ghost use Rattle.tsp_read.specs.Reads.{Completes};
 ghost use Rattle.tsp_fields.specs.Fields.{fields_of};
 ghost use Rattle.tsp_read.specs.Finishes.{first_flagged, FileOf};
 
+use crate::fault::ReadFault;
 use crate::state::reading::{Incomplete, Reading};
 use std::alloc::Global;
 use tsp_fields::{Draft, DraftFault, EndFault, File, end_fault};
@@ -63,16 +69,14 @@ fn file_of(draft: Draft, incomplete: Incomplete) -> Result<File, FinishFault>
 }
 
 impl Reading {
-    ghost use Rattle.std.specs.Prelude.{List};
-    ghost use Rattle.tsp_read.specs.Items.{Item};
-    ghost use Rattle.tsp_read.specs.Holds.{Holds};
-    ghost use Rattle.tsp_read.specs.Cuts.{AreCut};
+    ghost use Rattle.tsp_read.specs.declared.state.finish.FinishFault.TheVariants.{Memory};
     ghost use Rattle.tsp_read.specs.Finishes.{Finishes};
 
     /// The file that was read, or the fault of its end.
     pub(crate) fn finish(mut self, alloc: Global) -> Result<File, FinishFault>
-        ensures { (earlier : List Item) → Holds self earlier → AreCut earlier
+        ensures file { (earlier : List Item) → Holds self earlier → AreCut earlier
             → Finishes earlier result }
+        ensures stood { result ≡ Err Memory → is_some self.open_part ≡ true }
     {
         match self.close(alloc) {
             Ok(()) => {}
@@ -84,5 +88,18 @@ impl Reading {
             open_part: _,
         } = self;
         file_of(draft, incomplete)
+    }
+}
+
+/// The file of all that was read.
+pub(crate) fn completed(reading: Reading, alloc: Global) -> Result<File, ReadFault>
+    ensures file { (earlier : List Item) → Holds reading earlier → AreCut earlier
+        → Completes earlier result }
+    ensures stood { result ≡ Err OutOfMemory → is_some reading.open_part ≡ true }
+{
+    match reading.finish(alloc) {
+        Ok(file) => Ok(file),
+        Err(FinishFault::Memory) => Err(ReadFault::OutOfMemory),
+        Err(FinishFault::End(fault)) => Err(ReadFault::End(fault)),
     }
 }

@@ -1,6 +1,6 @@
 //! The state of the reader: what the lines and words so far spell.
 
-ghost use Rattle.std.specs.Prelude.{[], List, IfErr, OnOk, ◌≡◌};
+ghost use Rattle.std.specs.Prelude.{[], List, IfErr, OnOk, ◌≡◌, is_some, true};
 ghost use Rattle.tsp_read.specs.Items.{Item, NumberWord};
 
 use crate::fault::{LineFault, StepFault};
@@ -68,6 +68,7 @@ impl Reading {
         ensures closed { OnOk result ((earlier : List Item) → Holds self.old earlier
             → Closed self.new earlier) }
         ensures err { IfErr result (λ e. e ≡ Memory) }
+        ensures stood { IfErr result (λ _. is_some self.old.open_part ≡ true) }
     {
         match self.open_part.take() {
             None => {}

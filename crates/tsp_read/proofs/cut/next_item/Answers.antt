@@ -1,5 +1,6 @@
 use Rattle.std.proofs.Common.{sym, ◌∙◌}
 use Rattle.tsp_read.proofs.NextSteps.{none_next, end_next, line_next, line_missing_next, word_next, word_missing_next}
+use Rattle.tsp_read.proofs.Onwards.{end_follows, line_follows, word_follows}
 use Rattle.tsp_read.proofs.cut.next_item.Goals as goal
 
 pub returns-in_default-clause-items : goal.returns-in_default-clause-items
@@ -28,3 +29,17 @@ pub returns-clause-items : goal.returns-clause-items
 returns-clause-items c =
     word_next c.args.goes_on c.args.inside c.args.text.now c.without_start-filled.result.now c.in-Some.first.now c.in-Some.after.now _ _ c.without_start-filled.ensures c.in-Some.ensures.cases.0 c.if-first-eq10.false
     (sym c.begins_line.ensures ∙ c.if-begins_line.false) c.in_ok-word.ensures.0 c.in_ok-word.ensures.1 c.in_ok-word.ensures.2
+
+pub returns-then-first-eq10-clause-follows : goal.returns-then-first-eq10-clause-follows
+returns-then-first-eq10-clause-follows c = λ goes short.
+    end_follows c.args.inside c.args.text.now c.without_start-filled.result.now c.in-Some.first.now c.in-Some.after.now c.without_start-filled.ensures c.in-Some.ensures.cases.0 c.if-first-eq10.true
+
+pub returns-then-begins_line-clause-follows : goal.returns-then-begins_line-clause-follows
+returns-then-begins_line-clause-follows c = λ goes short.
+    line_follows c.args.inside c.args.goes_on c.args.text.now c.without_start-filled.result.now c.in-Some.first.now c.in-Some.after.now _ _ c.without_start-filled.ensures c.in-Some.ensures.cases.0 c.if-first-eq10.false
+    (sym c.begins_line.ensures ∙ c.if-begins_line.true) c.in_ok-line.ensures.0 c.in_ok-line.ensures.1 c.in_ok-line.ensures.2 goes short
+
+pub returns-clause-follows : goal.returns-clause-follows
+returns-clause-follows c = λ goes short.
+    word_follows c.args.inside c.args.goes_on c.args.text.now c.without_start-filled.result.now c.in-Some.first.now c.in-Some.after.now _ _ c.without_start-filled.ensures c.in-Some.ensures.cases.0 c.if-first-eq10.false
+    (sym c.begins_line.ensures ∙ c.if-begins_line.false) c.in_ok-word.ensures.0 c.in_ok-word.ensures.1 c.in_ok-word.ensures.2 goes short

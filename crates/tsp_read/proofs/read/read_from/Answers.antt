@@ -1,7 +1,11 @@
-use Rattle.std.proofs.Common.{refl, subst}
-use Rattle.tsp_read.specs.Reads.{Reads}
-use Rattle.tsp_read.proofs.FromReader.{reads_from}
+use Rattle.tsp_stream.specs.Turn.{turn_of}
+use Rattle.tsp_read.proofs.InTime.{in_time, answer_of}
 use Rattle.tsp_read.proofs.read.read_from.Goals as goal
 
-pub returns-in-Ok : goal.returns-in-Ok
-returns-in-Ok g c = reads_from _ c.in-Ok.bytes.items c.read_bytes.result refl c.in-Ok.ensures (rw (← c.deref.ensures.value) c.read_bytes.ensures)
+pub returns-in-Ok-clause-in_time : goal.returns-in-Ok-clause-in_time
+returns-in-Ok-clause-in_time g c = in_time (turn_of g.R.Read.remaining c.args.reader.now c.feed_all.new.reader) c.feed_all.new.feed c.finish.result c.in-Ok.ensures c.finish.ensures.read
+
+pub returns-in-Ok-clause-answer : goal.returns-in-Ok-clause-answer
+returns-in-Ok-clause-answer g c =
+    answer_of (turn_of g.R.Read.remaining c.args.reader.now c.feed_all.new.reader) c.finish.result
+    (in_time (turn_of g.R.Read.remaining c.args.reader.now c.feed_all.new.reader) c.feed_all.new.feed c.finish.result c.in-Ok.ensures c.finish.ensures.read)

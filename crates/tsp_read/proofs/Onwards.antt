@@ -1,0 +1,98 @@
+-- The next item of a text, whatever follows the text.
+use Rattle.std.proofs.Common.{◌≡◌, ℕ, suc, ◌+◌, Bool, true, false, cond, List, [], ◌∷◌, ◌++◌, length, take, drop, refl, sym, ap, subst, ◌∙◌, arith}
+use Rattle.std.specs.Prelude.{not, ◌||◌, ◌&&◌}
+use Rattle.std.specs.List.{position_or_len}
+use Rattle.tsp_value.specs.Bytes.{is_blank, is_letter}
+use Rattle.tsp_value.specs.Limits.{most_word_bytes, most_line_bytes}
+use Rattle.tsp_read.specs.Lines.{ends_line, is_filled, without_start}
+use Rattle.tsp_read.specs.Items.{NumberWord, LineEnd, line_item}
+use Rattle.tsp_read.specs.Left.{items_left, ends_word, before, from, is_settled}
+use Rattle.tsp_read.specs.Onward.{is_over_long, GivesNext}
+use Rattle.tsp_read.proofs.LeftSteps.{start_blank, start_filled, left_blank}
+use Rattle.tsp_read.proofs.NextSteps.{end_next, line_next, word_next}
+
+-- ---- before and from the first place that passes, where there is one
+
+one_more : (n : ℕ) → 1 + n ≡ suc n
+one_more n = omega arith
+
+abbrev pub CutsAlike : (ℕ → Bool) → List ℕ → List ℕ → Type 0
+CutsAlike p xs more = (before p (xs ++ more) ≡ before p xs) × (from p (xs ++ more) ≡ from p xs ++ more)
+
+pub on_before : (p : ℕ → Bool) (x : ℕ) (xs : List ℕ) → p x ≡ false → before p (x ∷ xs) ≡ x ∷ before p xs
+on_before p x xs e = ap (λ b. take (cond (not b) (1 + position_or_len p xs) 0) (x ∷ xs)) e ∙ ap (λ n. take n (x ∷ xs)) (one_more (position_or_len p xs))
+
+pub on_from : (p : ℕ → Bool) (x : ℕ) (xs : List ℕ) → p x ≡ false → from p (x ∷ xs) ≡ from p xs
+on_from p x xs e = ap (λ b. drop (cond (not b) (1 + position_or_len p xs) 0) (x ∷ xs)) e ∙ ap (λ n. drop n (x ∷ xs)) (one_more (position_or_len p xs))
+
+at_before : (p : ℕ → Bool) (x : ℕ) (xs : List ℕ) → p x ≡ true → before p (x ∷ xs) ≡ []
+at_before p x xs e = ap (λ b. take (cond (not b) (1 + position_or_len p xs) 0) (x ∷ xs)) e
+
+pub at_from : (p : ℕ → Bool) (x : ℕ) (xs : List ℕ) → p x ≡ true → from p (x ∷ xs) ≡ x ∷ xs
+at_from p x xs e = ap (λ b. drop (cond (not b) (1 + position_or_len p xs) 0) (x ∷ xs)) e
+
+cuts_by : (p : ℕ → Bool) (x : ℕ) (xs more : List ℕ) (b : Bool) → p x ≡ b → (is_filled (from p xs) ≡ true → CutsAlike p xs more)
+    → is_filled (from p (x ∷ xs)) ≡ true → CutsAlike p (x ∷ xs) more
+cuts_by p x xs more true e rest filled =
+    (at_before p x (xs ++ more) e ∙ sym (at_before p x xs e), at_from p x (xs ++ more) e ∙ ap (λ (ys : List ℕ). ys ++ more) (sym (at_from p x xs e)))
+cuts_by p x xs more false e rest filled =
+    let h = rest (ap is_filled (sym (on_from p x xs e)) ∙ filled) in (
+      on_before p x (xs ++ more) e ∙ ap (λ (ys : List ℕ). x ∷ ys) h.0 ∙ sym (on_before p x xs e),
+      on_from p x (xs ++ more) e ∙ h.1 ∙ ap (λ (ys : List ℕ). ys ++ more) (sym (on_from p x xs e)),
+    )
+
+-- more at the end doesn't move the first place
+pub cuts_alike : (p : ℕ → Bool) (xs more : List ℕ) → is_filled (from p xs) ≡ true → CutsAlike p xs more
+cuts_alike p [] more filled = absurd cc
+cuts_alike p (x ∷ xs) more filled = cuts_by p x xs more (p x) refl (cuts_alike p xs more) filled
+
+-- ---- the first byte that isn't blank
+
+starts_by : (b : ℕ) (bytes more : List ℕ) (first : ℕ) (after : List ℕ) (k : Bool) → is_blank b ≡ k
+    → (without_start bytes ≡ first ∷ after → without_start (bytes ++ more) ≡ first ∷ (after ++ more))
+    → without_start (b ∷ bytes) ≡ first ∷ after → without_start (b ∷ (bytes ++ more)) ≡ first ∷ (after ++ more)
+starts_by b bytes more first after true e rest h = start_blank b (bytes ++ more) e ∙ rest (sym (start_blank b bytes e) ∙ h)
+starts_by b bytes more first after false e rest h = start_filled b (bytes ++ more) e ∙ ap (λ (ys : List ℕ). ys ++ more) (sym (start_filled b bytes e) ∙ h)
+
+pub starts_alike : (bytes more : List ℕ) (first : ℕ) (after : List ℕ) → without_start bytes ≡ first ∷ after → without_start (bytes ++ more) ≡ first ∷ (after ++ more)
+starts_alike [] more first after h = absurd cc
+starts_alike (b ∷ bytes) more first after h = starts_by b bytes more first after (is_blank b) refl (starts_alike bytes more first after) h
+
+-- ---- the next item
+
+filled_settled : (most : ℕ) (goes_on : Bool) (piece rest more : List ℕ) → is_filled rest ≡ true → is_settled most goes_on piece (rest ++ more) ≡ true
+filled_settled most goes_on piece [] more e = absurd cc
+filled_settled most goes_on piece (x ∷ rest) more e = refl
+
+-- a piece that is settled, and isn't too long, is followed by something
+not_long : (most : ℕ) (piece rest : List ℕ) (long : Bool) → (is_filled rest || false || long) ≡ true → long ≡ false → is_filled rest ≡ true
+not_long most piece (x ∷ rest) long e short = refl
+not_long most piece [] true e short = absurd cc
+not_long most piece [] false e short = absurd cc
+
+pub end_follows : (inside : Bool) (text filled : List ℕ) (first : ℕ) (after : List ℕ) → filled ≡ without_start text → filled ≡ first ∷ after → first ≡ 10
+    → GivesNext inside text LineEnd false after
+end_follows inside text filled first after e parts ten goes_on more =
+    end_next goes_on inside (text ++ more) (first ∷ (after ++ more)) first (after ++ more) (sym (starts_alike text more first after (sym e ∙ parts))) refl ten
+
+pub line_follows : (inside goes : Bool) (text filled : List ℕ) (first : ℕ) (after line rest : List ℕ) → filled ≡ without_start text → filled ≡ first ∷ after → (first ≡ 10 → ⊥)
+    → (not inside && is_letter first) ≡ true → line ≡ before ends_line filled → rest ≡ from ends_line filled → is_settled most_line_bytes goes line rest ≡ true → goes ≡ true
+    → is_over_long (line_item line) ≡ false → GivesNext inside text (line_item line) true rest
+line_follows inside true text filled first after line rest e parts more_ begins l r settled goes_is short goes_on more =
+    let tail : is_filled rest ≡ true = not_long most_line_bytes line rest _ settled short in
+    let cut = cuts_alike ends_line filled more (ap is_filled (sym r) ∙ tail) in
+    line_next goes_on inside (text ++ more) (filled ++ more) first (after ++ more) line (rest ++ more)
+    (ap (λ (ys : List ℕ). ys ++ more) parts ∙ sym (starts_alike text more first after (sym e ∙ parts))) (ap (λ (ys : List ℕ). ys ++ more) parts) more_ begins
+    (l ∙ sym cut.0) (ap (λ (ys : List ℕ). ys ++ more) r ∙ sym cut.1) (filled_settled most_line_bytes goes_on line rest more tail)
+line_follows inside false text filled first after line rest e parts more_ begins l r settled goes_is short goes_on more = absurd cc
+
+pub word_follows : (inside goes : Bool) (text filled : List ℕ) (first : ℕ) (after word rest : List ℕ) → filled ≡ without_start text → filled ≡ first ∷ after → (first ≡ 10 → ⊥)
+    → (not inside && is_letter first) ≡ false → word ≡ before ends_word filled → rest ≡ from ends_word filled → is_settled most_word_bytes goes word rest ≡ true → goes ≡ true
+    → is_over_long (NumberWord word) ≡ false → GivesNext inside text (NumberWord word) true rest
+word_follows inside true text filled first after word rest e parts more_ begins l r settled goes_is short goes_on more =
+    let tail : is_filled rest ≡ true = not_long most_word_bytes word rest _ settled short in
+    let cut = cuts_alike ends_word filled more (ap is_filled (sym r) ∙ tail) in
+    word_next goes_on inside (text ++ more) (filled ++ more) first (after ++ more) word (rest ++ more)
+    (ap (λ (ys : List ℕ). ys ++ more) parts ∙ sym (starts_alike text more first after (sym e ∙ parts))) (ap (λ (ys : List ℕ). ys ++ more) parts) more_ begins
+    (l ∙ sym cut.0) (ap (λ (ys : List ℕ). ys ++ more) r ∙ sym cut.1) (filled_settled most_word_bytes goes_on word rest more tail)
+word_follows inside false text filled first after word rest e parts more_ begins l r settled goes_is short goes_on more = absurd cc

@@ -1,0 +1,8 @@
+use Rattle.tsp_read.proofs.LastSteps.{whole_answer, open_not_bare}
+use Rattle.tsp_read.proofs.feed.Feed.finish.Goals as goal
+
+pub returns-in-Ok-clause-read : goal.returns-in-Ok-clause-read
+returns-in-Ok-clause-read c = λ bytes h. whole_answer bytes c.in-Ok.reading c.completed.result (c.in-Ok.ensures.ends bytes h) c.completed.ensures.file
+
+pub returns-in-Ok-clause-memory : goal.returns-in-Ok-clause-memory
+returns-in-Ok-clause-memory c = λ bytes h wants. open_not_bare bytes c.in-Ok.reading (c.in-Ok.ensures.ends bytes h) (c.completed.ensures.stood wants)

@@ -1,0 +1,40 @@
+use Rattle.std.proofs.Common.{refl, sym, ap, subst, ◌∙◌, ◌+◌, ◌≤◌, ◌<◌, ◌||◌, arith, take, length, inl, inr, true, false, ℕ, List}
+use Rattle.std.specs.Io.KnownBytes.{Consumes}
+use Rattle.std.proofs.lemmas.Bool.{true≢false}
+use Rattle.tsp_stream.specs.Turn.{turn_of}
+use Rattle.tsp_stream.specs.Watched.{watched}
+use Rattle.tsp_read.proofs.PieceSteps.{gathered_more, gathered_none, gathered_kept, piece_stops, fed_from}
+use Rattle.tsp_read.proofs.input.feed_all.Goals as goal
+
+pub returns-in-Err : goal.returns-in-Err
+returns-in-Err g c =
+    let way = gathered_kept _ _ _ c.pieces.feed c.pieces.taken c.pieces.invariant.gathered c.in-Err.ensures.bytes in
+    let broken = c.in-Err.ensures.failed ∙ ap (λ b. b || true) c.pieces.invariant.sound in
+    (way.given, omega (arith, way.counted, c.pieces.invariant.few), ((way.gave, broken, λ had. absurd (true≢false (sym had ∙ c.requires.sound))), way.timely))
+
+pub returns-then-count-eq0 : goal.returns-then-count-eq0
+returns-then-count-eq0 g c =
+    let zero = c.if-count-eq0.true in
+    let last : Consumes (g.R.Read.remaining (watched c.pieces.reader)) (g.R.Read.remaining (watched c.read.new.self)) (take 0 c.read.new.buf) =
+    subst (λ (n : ℕ). Consumes (g.R.Read.remaining (watched c.pieces.reader)) (g.R.Read.remaining (watched c.read.new.self)) (take n c.read.new.buf)) zero c.in-Ok.ensures.bytes.0 in
+    fed_from (turn_of g.R.Read.remaining c.args.reader.now c.read.new.self) _ _ c.pieces.feed c.pieces.taken (λ given. refl) (λ given gave. gave)
+    (λ given. (c.requires.sound, c.in-Ok.ensures.failed ∙ ap (λ b. b || false) c.pieces.invariant.sound)) c.pieces.invariant.few
+    (gathered_none _ _ _ c.pieces.feed c.pieces.taken c.pieces.invariant.gathered last)
+    (λ given. inl (c.in-Ok.ensures.bytes.1 zero (omega (arith, c.read.auto.buf))))
+
+pub returns-in-Err-feed : goal.returns-in-Err-feed
+returns-in-Err-feed g c =
+    piece_stops (turn_of g.R.Read.remaining c.args.reader.now c.read.new.self) _ _ _ c.pieces.feed c.feed.new.self c.pieces.taken (take c.in-Ok.count c.read.new.buf) c.in-Err-feed.fault
+    (λ given. refl) (λ given gave. gave) (λ given. (c.requires.sound, c.in-Ok.ensures.failed ∙ ap (λ b. b || false) c.pieces.invariant.sound))
+    (omega (arith, c.pieces-test.true)) c.pieces.invariant.gathered (sym c.is_going.ensures ∙ c.if-not-is_going.false)
+    (omega (arith, c.in-Ok.ensures.bound.0, c.in-Ok.ensures.bound.1, c.read.auto.buf)) c.in-Ok.ensures.bytes.0 c.in-Err-feed.ensures.taken
+
+pub pieces-preserved : goal.pieces-preserved
+pieces-preserved g c = record {
+  gathered =
+      gathered_more _ _ _ c.pieces.feed c.feed.new.self c.pieces.taken c.in-Ok.count (take c.in-Ok.count c.read.new.buf) c.pieces.invariant.gathered
+      (sym c.is_going.ensures ∙ c.if-not-is_going.false) (omega (arith, c.in-Ok.ensures.bound.0, c.in-Ok.ensures.bound.1, c.read.auto.buf)) c.in-Ok.ensures.bytes.0
+      (sym c.in-Ok.ensures.bound.1) c.in-Ok-feed.ensures.taken;
+  sound = c.in-Ok.ensures.failed ∙ ap (λ b. b || false) c.pieces.invariant.sound;
+  few = omega (arith, c.pieces-test.true, c.in-Ok.ensures.bound.0, c.read.auto.buf);
+}

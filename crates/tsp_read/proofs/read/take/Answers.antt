@@ -1,5 +1,0 @@
-use Rattle.tsp_read.proofs.ReadSteps.{line_ended}
-use Rattle.tsp_read.proofs.read.take.Goals as goal
-
-pub returns-in-LineEnd : goal.returns-in-LineEnd
-returns-in-LineEnd c = λ earlier h. line_ended c.args.reading.now earlier c.args.next.now c.in-LineEnd.is h

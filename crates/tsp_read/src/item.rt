@@ -1,0 +1,83 @@
+//! One item of a text, given to the state.
+
+ghost use Rattle.std.specs.Prelude.{◌≡◌, ◌+◌, ◌≤◌, ◌∷◌, List, IsTrue, Ok, false};
+ghost use Rattle.tsp_value.specs.Limits.{most_file_bytes};
+ghost use Rattle.tsp_read.specs.Items.{Item, WordLine, Line, is_end_line, line_item, line_number, words_before, word_number};
+ghost use Rattle.tsp_read.specs.Left.{item_next};
+ghost use Rattle.tsp_read.specs.Onward.{is_line_end};
+ghost use Rattle.tsp_read.specs.Holds.{Holds};
+ghost use Rattle.tsp_read.specs.Reads.{TakesItem};
+
+use crate::cut::{Next, cut_line};
+use crate::fault::StepFault;
+use crate::state::reading::Reading;
+use std::alloc::Global;
+use tsp_value::Keyword;
+
+/// Takes an item. The answer is whether it is an end line.
+pub(crate) fn take(reading: &mut Reading, alloc: Global, next: &Next<'_>) -> Result<bool, StepFault>
+    ensures item { (earlier : List Item) → Holds reading.old earlier
+        → TakesItem earlier (item_next next.now) reading.new result }
+    ensures line_end { IsTrue (is_line_end (item_next next.now)) → result ≡ Ok false }
+{
+    match next {
+        Next::LineEnd => Ok(false),
+        Next::Word(word) => match reading.word(alloc, word) {
+            Ok(()) => Ok(false),
+            Err(fault) => Err(fault),
+        },
+        Next::Line(text) => take_line(reading, alloc, text),
+    }
+}
+
+/// Whether a keyword is that of the end line.
+fn is_end(key: Keyword) -> bool
+    ensures { (line : WordLine) → result ≡ is_end_line (Line key line) }
+{
+    match key {
+        Keyword::Known(_) => false,
+        Keyword::EdgeDataFormat => false,
+        Keyword::EdgeDataSection => false,
+        Keyword::Eof => true,
+        Keyword::Unknown => false,
+    }
+}
+
+/// Takes a word line, from its first byte that isn't blank on. The answer is whether it is an end
+/// line.
+fn take_line(reading: &mut Reading, alloc: Global, text: &[u8]) -> Result<bool, StepFault>
+    ensures { (earlier : List Item) → Holds reading.old earlier
+        → TakesItem earlier (line_item text.now) reading.new result }
+{
+    let line = cut_line(text);
+    match reading.line(alloc, &line) {
+        Ok(()) => Ok(is_end(line.key)),
+        Err(fault) => Err(fault),
+    }
+}
+
+/// The number of the word that an item is, after so many words of its line; 0 where it is none.
+pub(crate) fn word_of(words: u32, next: &Next<'_>) -> u32
+    requires { words ≤ most_file_bytes }
+    ensures number { (earlier : List Item) → words ≡ words_before earlier
+        → result ≡ word_number earlier (item_next next.now) }
+    ensures more { result ≤ words + 1 }
+{
+    match next {
+        Next::Word(_) => words + 1,
+        _ => 0,
+    }
+}
+
+/// The number of the line after an item of this one.
+pub(crate) fn line_after(line: u32, next: &Next<'_>) -> u32
+    requires { line ≤ most_file_bytes + 1 }
+    ensures number { (earlier : List Item) → line ≡ line_number earlier
+        → result ≡ line_number (item_next next.now ∷ earlier) }
+    ensures more { result ≤ line + 1 }
+{
+    match next {
+        Next::LineEnd => line + 1,
+        _ => line,
+    }
+}
