@@ -11,6 +11,7 @@ mod intake;
 mod laws;
 mod parts;
 mod read;
+mod run;
 mod settled;
 mod stage;
 mod state;
