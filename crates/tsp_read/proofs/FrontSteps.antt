@@ -1,17 +1,16 @@
 -- A number word at the front of a text, whose end is where the number's is.
-use Rattle.std.proofs.Common.{◌≡◌, ℕ, ◌+◌, ◌<◌, ◌≤◌, Bool, true, false, List, [], ◌∷◌, ◌++◌, length, take, drop, refl, sym, ap, subst, ◌∙◌, arith, inl, inr, Ok, ℤ, pos, neg_ℤ, ◌*ℤ◌, ◌≤ℤ◌, take-append-drop, append_assoc}
-use Rattle.std.specs.Prelude.{not, ◌&&◌, ◌||◌, ◌⊎◌, nat_lt}
+use Rattle.std.proofs.Common.{◌≡◌, ℕ, ◌+◌, ◌<◌, ◌≤◌, Bool, true, false, List, [], ◌∷◌, ◌++◌, length, take, drop, refl, sym, ap, subst, ◌∙◌, arith, inl, inr, Ok, ℤ, pos, neg_ℤ, ◌*ℤ◌, ◌≤ℤ◌, take-append-drop}
+use Rattle.std.specs.Prelude.{not, ◌&&◌, ◌||◌, ◌⊎◌}
 use Rattle.std.specs.Str.Parse.{AllDigits}
 use Rattle.std.proofs.lemmas.Bool.{true≢false, le-ltb}
 use Rattle.std.proofs.lemmas.Bool.Decides.{nat_tests}
 use Rattle.std.proofs.lemmas.Str.Parse.{digit_from_value}
 use Rattle.tsp_number.specs.Decimal.{unit}
-use Rattle.tsp_number.specs.NumberWord.{plus, minus, point, lower_e, upper_e, IsSign, IsFraction, WritesExponent, IsExponent, Numeral, Spells, StandsFor, ReadsWhole}
-use Rattle.tsp_number.specs.Reading.{whole_of}
+use Rattle.tsp_number.specs.NumberWord.{plus, minus, point, lower_e, upper_e, IsSign, IsFraction, IsExponent, Numeral, Spells, ReadsWhole}
 use Rattle.tsp_number.specs.Front.{BeginsWithNumber}
 use Rattle.tsp_number.proofs.WordLaws.{whole_once, whole_of-reads}
 use Rattle.tsp_value.specs.Bytes.{is_blank, is_letter}
-use Rattle.tsp_value.specs.Limits.{most_word_bytes, most_weight}
+use Rattle.tsp_value.specs.Limits.{most_word_bytes}
 use Rattle.tsp_read.specs.Numbers.{sized}
 use Rattle.tsp_read.specs.Lines.{ends_line, is_filled, without_start}
 use Rattle.tsp_read.specs.Items.{Item, NumberWord}
