@@ -45,6 +45,7 @@ pub mod FinishSteps
 pub mod Readings
 pub mod ReadSteps
 pub mod IntakeSteps
+pub mod FrontSteps
 pub mod BegunSteps
 pub mod PausedSteps
 pub mod FeedSteps

@@ -25,7 +25,7 @@ on_before p x xs e = ap (λ b. take (cond (not b) (1 + position_or_len p xs) 0) 
 pub on_from : (p : ℕ → Bool) (x : ℕ) (xs : List ℕ) → p x ≡ false → from p (x ∷ xs) ≡ from p xs
 on_from p x xs e = ap (λ b. drop (cond (not b) (1 + position_or_len p xs) 0) (x ∷ xs)) e ∙ ap (λ n. drop n (x ∷ xs)) (one_more (position_or_len p xs))
 
-at_before : (p : ℕ → Bool) (x : ℕ) (xs : List ℕ) → p x ≡ true → before p (x ∷ xs) ≡ []
+pub at_before : (p : ℕ → Bool) (x : ℕ) (xs : List ℕ) → p x ≡ true → before p (x ∷ xs) ≡ []
 at_before p x xs e = ap (λ b. take (cond (not b) (1 + position_or_len p xs) 0) (x ∷ xs)) e
 
 pub at_from : (p : ℕ → Bool) (x : ℕ) (xs : List ℕ) → p x ≡ true → from p (x ∷ xs) ≡ x ∷ xs

@@ -22,6 +22,7 @@ pub mod Cuts
 pub mod CutLine
 pub mod Left
 pub mod Onward
+pub mod Front
 pub mod Walk
 pub mod Answering
 pub mod ByNode

@@ -13,6 +13,7 @@ mod item;
 mod laws;
 mod parts;
 mod read;
+mod run;
 mod settled;
 mod stage;
 mod state;

@@ -1,0 +1,121 @@
+//! A run of weights: the words of a matrix, each looked at once.
+//!
+//! Most words of a matrix are plain whole numbers. Such a word is read here where its end is found,
+//! so that it is not searched for first. Every other word, and whatever else stands in a text, is
+//! left to `Intake::take_next`.
+
+ghost use Rattle.std.specs.Prelude.{◌≡◌, ◌+◌, ◌≤◌, ◌<◌, ◌∷◌, List, ℕ, Bool, length, Ok, IfSome, MatchOption, true, false};
+ghost use Rattle.tsp_value.specs.Limits.{most_file_bytes, most_weight};
+ghost use Rattle.tsp_read.specs.Numbers.{sized};
+ghost use Rattle.tsp_read.specs.Items.{Item, NumberWord};
+ghost use Rattle.tsp_read.specs.Onward.{GivesNext};
+ghost use Rattle.tsp_read.specs.Front.{front_word, LeavesEnd};
+ghost use Rattle.tsp_read.specs.Intake.{IsReadTo};
+ghost use Rattle.tsp_read.specs.Holds.{Holds};
+
+use crate::cut::without_start;
+use crate::intake::Intake;
+use crate::state::part::Part;
+use crate::state::reading::Reading;
+use tsp_number::front_whole;
+use tsp_value::{MOST_WEIGHT, is_blank};
+
+/// What is left where a word has ended: without the blank that ended it, or from byte 10 on.
+/// Nothing where no word ends here.
+#[inline(always)]
+fn past_end(rest: &[u8]) -> Option<&[u8]>
+    ensures left { IfSome result (λ left. LeavesEnd rest.now left.now) }
+    ensures within { IfSome result (λ left. length left.now ≤ length rest.now) }
+{
+    match rest.split_first() {
+        Some((end, left)) if is_blank(*end) => Some(left),
+        Some((b'\n', _)) => Some(rest),
+        _ => None,
+    }
+}
+
+/// The weight at the front of a text, and what follows its word and the blank that ends it; or
+/// nothing where no word of at most 18 digits stands there whose end has come.
+#[inline(always)]
+pub(crate) fn front_weight(text: &[u8]) -> Option<(i64, &[u8])>
+    ensures word { IfSome result (λ found. (inside : Bool)
+        → GivesNext inside text.now (NumberWord (front_word text.now)) true found.1.now) }
+    ensures weight { IfSome result (λ found. sized most_weight (front_word text.now) ≡ Ok found.0) }
+    ensures shorter { IfSome result (λ found. length found.1.now < length text.now) }
+{
+    let filled = without_start(text);
+    let Some((weight, end)) = front_whole(filled) else {
+        return None;
+    };
+    if weight < -MOST_WEIGHT || weight > MOST_WEIGHT {
+        return None;
+    }
+    let rest = filled.split_at(end).1;
+    match past_end(rest) {
+        Some(left) => Some((weight, left)),
+        None => None,
+    }
+}
+
+impl Reading {
+    /// Takes the weight of a word that was read, where the open section has weights and room for it.
+    /// The answer is whether it was taken.
+    #[inline(always)]
+    fn weight(&mut self, weight: i64) -> bool
+        ensures taken { result ≡ true → (earlier : List Item) (word : List ℕ)
+            → sized most_weight word ≡ Ok weight → Holds self.old earlier
+            → Holds self.new (NumberWord word ∷ earlier) }
+        ensures kept { result ≡ false → (earlier : List Item) → Holds self.old earlier
+            → Holds self.new earlier }
+    {
+        match &mut self.open_part {
+            Some(Part::Weights(part)) => part.push_read(weight),
+            _ => false,
+        }
+    }
+}
+
+impl Intake {
+    /// Takes the weight at the front of a text, where one can be taken, and gives what follows it.
+    #[inline(always)]
+    fn take_weight<'a>(&mut self, text: &'a [u8]) -> Option<&'a [u8]>
+        requires { self.old.words + length text.now ≤ most_file_bytes }
+        ensures read { MatchOption result
+            ((bytes : List ℕ) → IsReadTo self.old bytes text.now → IsReadTo self.new bytes text.now)
+            (λ rest. (bytes : List ℕ) → IsReadTo self.old bytes text.now → IsReadTo self.new bytes rest.now) }
+        ensures line { self.new.line ≡ self.old.line }
+        ensures words { MatchOption result (self.new.words ≡ self.old.words)
+            (λ rest. self.new.words + length rest.now ≤ self.old.words + length text.now) }
+        ensures shorter { IfSome result (λ rest. length rest.now < length text.now) }
+    {
+        let Some((weight, rest)) = front_weight(text) else {
+            return None;
+        };
+        if !self.reading.weight(weight) {
+            return None;
+        }
+        self.words += 1;
+        self.inside = true;
+        Some(rest)
+    }
+
+    /// Takes the weights at the front of a text, as many as can be taken, and gives what is left of
+    /// it.
+    pub(crate) fn take_weights<'a>(&mut self, text: &'a [u8]) -> &'a [u8]
+        requires { self.old.words + length text.now ≤ most_file_bytes }
+        ensures read { (bytes : List ℕ) → IsReadTo self.old bytes text.now
+            → IsReadTo self.new bytes result.now }
+        ensures line { self.new.line ≡ self.old.line }
+        ensures words { self.new.words + length result.now ≤ self.old.words + length text.now }
+        ensures shorter { length result.now ≤ length text.now }
+    {
+        let mut rest = text;
+        if !matches!(self.reading.open_part, Some(Part::Weights(_))) {
+            return rest;
+        }
+        'weights: while let Some(after) = self.take_weight(rest) {
+            rest = after;
+        }
+        rest
+    }
+}
