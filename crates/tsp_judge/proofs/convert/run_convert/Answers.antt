@@ -6,15 +6,15 @@ use Rattle.tsp_judge.proofs.Converts.{converted, convert_stopped}
 use Rattle.tsp_judge.proofs.convert.run_convert.Goals as goal
 
 pub returns-in-Err : goal.returns-in-Err
-returns-in-Err g c = let read = c.in-Err.ensures in
+returns-in-Err g c = let read = c.in-Err.ensures.answer in
     (read.0, read.1, (refl, read.2, (Keeps-refl _, refl)))
 
 pub returns-in-Err-in_layout : goal.returns-in-Err-in_layout
-returns-in-Err-in_layout g c = let read = c.in-Ok.ensures in
+returns-in-Err-in_layout g c = let read = c.in-Ok.ensures.answer in
     (read.0, read.1, (c.in-Ok.file, read.2, c.in-Err-in_layout.ensures, (Keeps-refl _, refl)))
 
 pub returns-in-Err-write_file : goal.returns-in-Err-write_file
-returns-in-Err-write_file g c = let read = c.in-Ok.ensures in
+returns-in-Err-write_file g c = let read = c.in-Ok.ensures.answer in
     let turn = turn_of g.R.Read.remaining c.args.r.now c.read_from.new.reader read.0 in (
       read.0,
       read.1,
