@@ -7,6 +7,7 @@ mod keywords;
 mod limits;
 mod lines;
 mod order;
+mod pieces;
 mod printed;
 mod ranges;
 mod readers;

@@ -77,11 +77,14 @@ fn a_reader_that_gives_little_at_a_time_gives_the_same_answer(rt: HostRuntime) -
 /// A file of a tour.
 const TOUR: &str = "TYPE : TOUR\nTOUR_SECTION\n1 2 3\n-1\nEOF\n";
 
+/// Texts, and after how many bytes their answer is settled: by the line EOF, or by a fault.
+const SETTLED: &[(&str, usize)] = &[(TOUR, 38), ("FOO\n1\n", 4), (BAD_NUMBER, 82)];
+
 #[test]
-fn a_reader_that_fails_gives_no_file_and_no_other_fault(rt: HostRuntime) {
+fn a_reader_that_fails_in_time_gives_no_file_and_no_other_fault(rt: HostRuntime) {
     for kind in [ErrorKind::Other, ErrorKind::Interrupted] {
-        for text in [TOUR, "FOO\n1\n", BAD_NUMBER] {
-            for fails_at in 0..text.len() + 1 {
+        for (text, settled) in SETTLED {
+            for fails_at in 0..*settled {
                 let mut reader = Watched::new(Trickle::new(text.as_bytes(), fails_at, kind));
                 let found = read_from(rt.alloc(), &mut reader).err();
                 same_at(&rt, (text, fails_at), found, Some(ReadFault::Device));
@@ -94,13 +97,15 @@ fn a_reader_that_fails_gives_no_file_and_no_other_fault(rt: HostRuntime) {
 }
 
 #[test]
-fn a_reader_that_fails_after_its_end_has_given_its_file(rt: HostRuntime) -> Result<(), Fail> {
-    let fails_at = TOUR.len() + 1;
-    let mut reader = Watched::new(Trickle::new(TOUR.as_bytes(), fails_at, ErrorKind::Other));
-    let file = read_from(rt.alloc(), &mut reader)?;
-    same(&rt, file.tours().map(|tours| tours.len()), Some(1));
-    holds(&rt, !reader.failed());
-    same(&rt, reader.into_inner().calls(), fails_at);
+fn a_reader_is_asked_for_nothing_once_its_answer_is_settled(rt: HostRuntime) -> Result<(), Fail> {
+    for (text, settled) in SETTLED {
+        let bytes = text.as_bytes();
+        let mut reader = Watched::new(Trickle::new(bytes, *settled, ErrorKind::Other));
+        let found = answer_from(rt.alloc(), &mut reader)?;
+        holds_at(&rt, text, found == answer_of(rt.alloc(), bytes)?);
+        holds(&rt, !reader.failed());
+        same_at(&rt, text, reader.into_inner().calls(), *settled);
+    }
     Ok(())
 }
 
