@@ -1,5 +1,5 @@
 -- The open section is closed: its field has its value, and the rest stays.
-use Rattle.std.proofs.Common.{◌≡◌, ℕ, Bool, true, false, List, [], ◌∷◌, set, refl, sym, ap, subst, ◌∙◌, Option, Some, None, cond}
+use Rattle.std.proofs.Common.{◌≡◌, ℕ, Bool, true, false, List, [], ◌∷◌, set, refl, sym, ap, subst, ◌∙◌, Some, None, cond}
 use Rattle.std.specs.Prelude.{ℤ}
 use Rattle.tsp_number.specs.declared.decimal.Point.{Point}
 use Rattle.tsp_value.specs.declared.field.Field.{Field}
@@ -7,11 +7,10 @@ use Rattle.tsp_value.specs.declared.field.Field.TheVariants.{NodeCoordPart, Disp
 use Rattle.tsp_value.specs.declared.keyword.Keyword.{Keyword}
 use Rattle.tsp_value.specs.declared.keyword.Keyword.TheVariants.{Known, EdgeDataFormat, EdgeDataSection, Eof, Unknown}
 use Rattle.tsp_fields.specs.Fields.{Fields, fields_of}
-use Rattle.tsp_read.specs.declared.state.part.Part.{Part}
 use Rattle.tsp_read.specs.declared.state.part.Part.TheVariants.{Coords, Display, Demands, Depots, Fixed, Weights, Tours, NodePotentials, RowPotentials, ColumnPotentials}
 use Rattle.tsp_read.specs.declared.state.reading.Reading.{Reading}
 use Rattle.tsp_read.specs.Items.{Item, Line, NumberWord, LineEnd}
-use Rattle.tsp_read.specs.Earlier.{same_field, is_key, is_section_field, opened_by, has_line, open_section, is_open, words_of}
+use Rattle.tsp_read.specs.Earlier.{same_field, is_key, is_section_field, opened_by, has_line, open_section, words_of}
 use Rattle.tsp_read.specs.Groups.{points_by_node, place_of_point}
 use Rattle.tsp_read.specs.Lists.{depots_in, fixed_in, place_of_fixed}
 use Rattle.tsp_read.specs.Weights.{weights_in}
@@ -24,7 +23,7 @@ use Rattle.tsp_read.specs.declared.parts.depots.DepotList.{DepotList}
 use Rattle.tsp_read.specs.declared.parts.fixed.FixedList.{FixedList}
 use Rattle.tsp_read.specs.declared.parts.weights.WeightList.{WeightList}
 use Rattle.tsp_read.specs.declared.parts.tours.TourList.{TourList}
-use Rattle.tsp_read.specs.Open.{section_of, PartHolds}
+use Rattle.tsp_read.specs.Open.{PartHolds}
 use Rattle.tsp_read.specs.Holds.{fields_there, is_closed, is_closed_incomplete, flags_in, tests_at, OpenHolds, Holds, Closed}
 use Rattle.tsp_read.proofs.WordSteps.{same_self}
 

@@ -1,5 +1,5 @@
 -- Different nodes of 1..n, as many as n, are 1..n in another order.
-use Rattle.std.proofs.Common.{◌≡◌, ◌≢◌, ℕ, zero, suc, ◌+◌, ◌-◌, ◌<◌, ◌≤◌, true, false, List, [], ◌∷◌, ◌++◌, length, get_or, map, sym, ap, subst, ◌∙◌, arith, None}
+use Rattle.std.proofs.Common.{◌≡◌, ◌≢◌, ℕ, zero, suc, ◌-◌, ◌<◌, ◌≤◌, true, false, List, [], ◌∷◌, ◌++◌, length, get_or, map, sym, ap, subst, ◌∙◌, arith, None}
 use Rattle.std.specs.Prelude.{nat_le, ℤ, pos}
 use Rattle.std.specs.List.{AllByRecursion, Contains, list_any, remove}
 use Rattle.std.specs.List.Sorted.{IsPermutation}

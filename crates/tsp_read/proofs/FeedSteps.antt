@@ -1,7 +1,6 @@
 -- A file that is read in pieces: what a piece more does, and what is settled.
-use Rattle.std.proofs.Common.{◌≡◌, ℕ, ◌+◌, ◌-◌, ◌≤◌, ◌<◌, Bool, true, false, cond, List, [], ◌∷◌, ◌++◌, length, take, reverse, refl, sym, ap, subst, ◌∙◌, arith, Option, Some, None, Result, Ok, Err, append-nil, append_assoc, length-append}
+use Rattle.std.proofs.Common.{◌≡◌, ℕ, ◌+◌, ◌-◌, ◌≤◌, ◌<◌, Bool, true, false, List, [], ◌∷◌, ◌++◌, length, take, reverse, refl, sym, ap, subst, ◌∙◌, arith, Option, Some, None, Result, Ok, Err, append-nil, append_assoc, length-append}
 use Rattle.std.specs.Prelude.{not, ◌&&◌, ◌==◌, IfErr}
-use Rattle.std.specs.List.{list_all}
 use Rattle.std.proofs.Math.Seq.{take-append-add}
 use Rattle.std.proofs.lemmas.Bool.{true≢false, false≢true, eqb-true, lt-ltb, le-ltb}
 use Rattle.std.proofs.lemmas.List.{take_all, nil_from_length}
@@ -17,15 +16,15 @@ use Rattle.tsp_read.specs.declared.stage.Stage.{Stage}
 use Rattle.tsp_read.specs.declared.stage.Stage.TheVariants.{Going, Ended, Refused}
 use Rattle.tsp_read.specs.declared.feed.Feed.{Feed}
 use Rattle.tsp_read.specs.Lines.{is_filled}
-use Rattle.tsp_read.specs.Items.{Item, settled_items, has_end_line, to_end_line}
+use Rattle.tsp_read.specs.Items.{Item, settled_items, has_end_line}
 use Rattle.tsp_read.specs.Rows.{when, first_row}
 use Rattle.tsp_read.specs.FirstFault.{fault_in, IsClean}
 use Rattle.tsp_read.specs.Left.{items_left, ends_word}
 use Rattle.tsp_read.specs.Holds.{Holds}
 use Rattle.tsp_read.specs.Text.{is_too_long, settled_part, settled_fault}
 use Rattle.tsp_read.specs.Walk.{Walked}
-use Rattle.tsp_read.specs.Onward.{is_bare, GoesOn}
-use Rattle.tsp_read.specs.Intake.{IsReadTo, settled_so_far, HasEnded, StopsAt}
+use Rattle.tsp_read.specs.Onward.{is_bare}
+use Rattle.tsp_read.specs.Intake.{IsReadTo, settled_so_far}
 use Rattle.tsp_read.specs.Begun.{kept, IsFedTo}
 use Rattle.tsp_read.specs.Paused.{IsPaused, FeedsOn, stage_after, outcome_of}
 use Rattle.tsp_read.specs.Feed.{IsGoing, IsEnded, HasSettled, HasTakenBy, HasTaken, refused_by, refusal, Feeds, ComesTo}

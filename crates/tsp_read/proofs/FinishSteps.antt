@@ -1,19 +1,15 @@
 -- The end: the first incomplete section by the flags, and the end table over the draft.
-use Rattle.std.proofs.Common.{◌≡◌, ℕ, Bool, true, false, cond, List, [], ◌∷◌, get_or, refl, sym, ap, ◌∙◌, Option, Some, None, Result, Ok, Err, inl, inr}
+use Rattle.std.proofs.Common.{◌≡◌, Bool, true, false, cond, List, get_or, refl, sym, ap, ◌∙◌, Option, Some, None, Result, Ok, Err, inl, inr}
 use Rattle.std.specs.Prelude.{◌&&◌}
-use Rattle.std.specs.List.{list_any}
 use Rattle.tsp_value.specs.declared.field.Field.{Field}
 use Rattle.tsp_value.specs.declared.field.Field.TheVariants.{NodeCoordPart, DisplayDataPart, DemandPart, DepotPart, FixedEdgesPart, EdgeWeightPart, TourPart, NodePotentialPart, RowPotentialPart, ColumnPotentialPart}
-use Rattle.tsp_fields.specs.declared.fault.EndFault.{EndFault}
 use Rattle.tsp_fields.specs.declared.fault.DraftFault.{DraftFault}
-use Rattle.tsp_fields.specs.declared.file.Draft.{Draft}
 use Rattle.tsp_fields.specs.Fields.{Fields, fields_of}
 use Rattle.tsp_fields.specs.Rules.{standing_of, end_fault, fault_of}
 use Rattle.tsp_read.specs.declared.state.reading.Incomplete.{Incomplete}
 use Rattle.tsp_read.specs.declared.state.reading.Reading.{Reading}
 use Rattle.tsp_read.specs.Items.{Item}
 use Rattle.tsp_read.specs.Earlier.{has_line, words_of}
-use Rattle.tsp_read.specs.Numbers.{is_end}
 use Rattle.tsp_read.specs.Places.{Place, DepotAfter, PastEnd, Weight, PastWeights}
 use Rattle.tsp_read.specs.Sections.{place_in, nodes_of}
 use Rattle.tsp_read.specs.Spells.{spelled, wants_more, is_incomplete, first_incomplete, fault_at_end}

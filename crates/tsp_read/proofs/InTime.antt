@@ -1,7 +1,7 @@
 -- The answer for a reader that was read in pieces, and for a text.
-use Rattle.std.proofs.Common.{◌≡◌, ℕ, ◌≤◌, Bool, true, false, List, [], ◌++◌, length, refl, sym, ap, subst, ◌∙◌, arith, inl, inr, Option, Some, None, Result, Ok, Err, append-nil}
+use Rattle.std.proofs.Common.{◌≡◌, ℕ, false, List, [], ◌++◌, refl, sym, ap, subst, ◌∙◌, inl, inr, Option, Some, None, Result, Ok, Err, append-nil}
 use Rattle.std.specs.Prelude.{◌⊎◌, IfSome}
-use Rattle.std.specs.Io.KnownBytes.{Consumes, Keeps, IsAtEnd}
+use Rattle.std.specs.Io.KnownBytes.{Consumes, IsAtEnd}
 use Rattle.std.proofs.lemmas.Bool.{true≢false}
 use Rattle.tsp_stream.specs.Turn.{Turn, GaveAll, TakesAtMost}
 use Rattle.tsp_fields.specs.Fields.{Fields}
@@ -10,16 +10,14 @@ use Rattle.tsp_read.specs.declared.fault.ReadFault.TheVariants as faults
 use Rattle.tsp_read.specs.declared.stage.Stage.{Stage}
 use Rattle.tsp_read.specs.declared.stage.Stage.TheVariants.{Going, Ended, Refused}
 use Rattle.tsp_read.specs.declared.feed.Feed.{Feed}
-use Rattle.tsp_read.specs.Items.{Item, has_end_line}
 use Rattle.tsp_read.specs.Spells.{spelled}
 use Rattle.tsp_read.specs.Text.{part, fault, settled_fault, Spells}
 use Rattle.tsp_read.specs.Reads.{Reads, ReadsFrom, most_taken, StopsAt}
-use Rattle.tsp_read.specs.Feed.{IsEnded, HasSettled, HasTaken, Feeds}
-use Rattle.tsp_read.specs.Timely.{IsTimely, is_going, IsFedFrom, ReadsInTime}
+use Rattle.tsp_read.specs.Feed.{IsEnded, HasTaken, Feeds}
+use Rattle.tsp_read.specs.Timely.{is_going, IsFedFrom, ReadsInTime}
 use Rattle.tsp_read.proofs.SettledFaults.{part_kept, ended_kept}
 use Rattle.tsp_read.proofs.FeedSteps.{taken_at, not_refused}
 use Rattle.tsp_read.proofs.LastSteps.{settled_reads}
-use Rattle.tsp_read.proofs.PieceSteps.{timely_start}
 
 -- ---- the whole rest of a reader is read as what it gave
 

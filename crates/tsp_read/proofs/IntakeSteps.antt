@@ -1,5 +1,5 @@
 -- A text that is read while it comes: one item more, and where it stops.
-use Rattle.std.proofs.Common.{◌≡◌, ℕ, Bool, true, false, List, [], ◌∷◌, ◌++◌, reverse, refl, sym, ap, subst, ◌∙◌, Option, Some, None, Result, Ok, Err, append-nil, append_assoc}
+use Rattle.std.proofs.Common.{◌≡◌, ℕ, Bool, true, false, List, [], ◌∷◌, ◌++◌, reverse, refl, sym, ap, subst, ◌∙◌, Option, Some, None, Ok, Err, append-nil, append_assoc}
 use Rattle.std.specs.List.{list_all}
 use Rattle.std.specs.Prelude.{◌&&◌, ◌||◌}
 use Rattle.std.proofs.lemmas.Bool.{true≢false, false≢true, eqb-true}
@@ -11,19 +11,18 @@ use Rattle.tsp_read.specs.declared.fault.LineFault.{LineFault}
 use Rattle.tsp_read.specs.declared.fault.LineFault.TheVariants as row
 use Rattle.tsp_read.specs.declared.fault.ReadFault.{ReadFault}
 use Rattle.tsp_read.specs.declared.fault.ReadFault.TheVariants as faults
-use Rattle.tsp_read.specs.declared.state.reading.Reading.{Reading}
 use Rattle.tsp_read.specs.declared.intake.Intake.{Intake}
 use Rattle.tsp_read.specs.Lines.{ends_line}
-use Rattle.tsp_read.specs.Items.{Item, Line, NumberWord, LineEnd, settled_items, is_end_line, has_end_line, to_end_line}
+use Rattle.tsp_read.specs.Items.{Item, Line, NumberWord, LineEnd, settled_items, is_end_line, has_end_line}
 use Rattle.tsp_read.specs.Earlier.{open_section, words_of}
 use Rattle.tsp_read.specs.Sections.{place_in, nodes_of}
 use Rattle.tsp_read.specs.Rows.{row_of}
-use Rattle.tsp_read.specs.FirstFault.{fault_in, IsClean}
+use Rattle.tsp_read.specs.FirstFault.{IsClean}
 use Rattle.tsp_read.specs.Holds.{Holds}
 use Rattle.tsp_read.specs.Left.{items_left, ends_word}
 use Rattle.tsp_read.specs.Walk.{Walked}
 use Rattle.tsp_read.specs.Onward.{is_bare, is_line_end, is_over_long, GivesNext, GoesOn}
-use Rattle.tsp_read.specs.Intake.{Stands, TakesNext, IsReadTo, settled_so_far, HasEnded, StopsAt, ReadsOn}
+use Rattle.tsp_read.specs.Intake.{Stands, TakesNext, IsReadTo, settled_so_far, HasEnded, StopsAt}
 use Rattle.tsp_read.proofs.LeftSteps.{all_settled, left_blank, left_end, left_none}
 use Rattle.tsp_read.proofs.TextSteps.{long_line}
 use Rattle.tsp_read.proofs.WordSteps.{word_rows}

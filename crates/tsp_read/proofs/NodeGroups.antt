@@ -1,5 +1,5 @@
 -- By-node sections: the marks and entries of the nodes, a node and an entry more.
-use Rattle.std.proofs.Common.{◌≡◌, ◌≢◌, ℕ, ◌+◌, ◌-◌, ◌<◌, Bool, true, false, cond, ◌||◌, List, [], ◌∷◌, ◌++◌, map, set, refl, sym, ap, ◌∙◌, Option, None, Some, Ok, Err, inl, inr, arith, rules, get_or-set_other, get_or-set_same}
+use Rattle.std.proofs.Common.{◌≡◌, ◌≢◌, ℕ, ◌+◌, ◌-◌, ◌<◌, Bool, true, false, cond, ◌||◌, List, [], ◌∷◌, ◌++◌, set, refl, sym, ap, ◌∙◌, Option, None, Some, Ok, Err, inl, inr, arith, rules, get_or-set_other, get_or-set_same}
 use Rattle.std.specs.Prelude.{ℤ, pos, ◌⊎◌, slice_index_or, is_some, unwrap_or}
 use Rattle.std.specs.List.{list_any}
 use Rattle.std.specs.Ordering.{int_eq}

@@ -1,14 +1,14 @@
 -- The next item of a text, whatever follows the text.
-use Rattle.std.proofs.Common.{◌≡◌, ℕ, suc, ◌+◌, Bool, true, false, cond, List, [], ◌∷◌, ◌++◌, length, take, drop, refl, sym, ap, subst, ◌∙◌, arith}
+use Rattle.std.proofs.Common.{◌≡◌, ℕ, suc, ◌+◌, Bool, true, false, cond, List, [], ◌∷◌, ◌++◌, take, drop, refl, sym, ap, ◌∙◌, arith}
 use Rattle.std.specs.Prelude.{not, ◌||◌, ◌&&◌}
 use Rattle.std.specs.List.{position_or_len}
 use Rattle.tsp_value.specs.Bytes.{is_blank, is_letter}
 use Rattle.tsp_value.specs.Limits.{most_word_bytes, most_line_bytes}
 use Rattle.tsp_read.specs.Lines.{ends_line, is_filled, without_start}
 use Rattle.tsp_read.specs.Items.{NumberWord, LineEnd, line_item}
-use Rattle.tsp_read.specs.Left.{items_left, ends_word, before, from, is_settled}
+use Rattle.tsp_read.specs.Left.{ends_word, before, from, is_settled}
 use Rattle.tsp_read.specs.Onward.{is_over_long, GivesNext}
-use Rattle.tsp_read.proofs.LeftSteps.{start_blank, start_filled, left_blank}
+use Rattle.tsp_read.proofs.LeftSteps.{start_blank, start_filled}
 use Rattle.tsp_read.proofs.NextSteps.{end_next, line_next, word_next}
 
 -- ---- before and from the first place that passes, where there is one

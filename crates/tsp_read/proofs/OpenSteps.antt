@@ -1,25 +1,13 @@
 -- A line that opens a section.
-use Rattle.std.proofs.Common.{cond, ◌≡◌, ℕ, Bool, true, false, List, [], ◌∷◌, ◌++◌, set, get_or, refl, sym, ap, subst, ◌∙◌, Option, Some, None, Result, Ok, Err, length}
-use Rattle.std.specs.Prelude.{ℤ, pos, nat_lt, nat_le, is_some, is_none, not, ◌+◌}
-use Rattle.std.specs.Option.{option_map}
-use Rattle.std.specs.Result.{result_ok, result_err}
-use Rattle.tsp_number.specs.declared.fault.NumberFault.{NumberFault}
-use Rattle.tsp_number.specs.Reading.{whole_of}
-use Rattle.tsp_value.specs.declared.kinds.Kind.{Kind}
-use Rattle.tsp_value.specs.declared.kinds.WeightKind.{WeightKind}
-use Rattle.tsp_value.specs.declared.kinds.WeightFormat.{WeightFormat}
-use Rattle.tsp_value.specs.declared.kinds.CoordKind.{CoordKind}
-use Rattle.tsp_value.specs.declared.kinds.DisplayKind.{DisplayKind}
+use Rattle.std.proofs.Common.{cond, ◌≡◌, ℕ, Bool, true, false, List, [], ◌∷◌, ◌++◌, get_or, refl, sym, ap, subst, ◌∙◌, Option, Some, None, Ok, Err}
+use Rattle.std.specs.Prelude.{nat_lt, is_some, is_none, not}
 use Rattle.tsp_value.specs.declared.field.Field.{Field}
-use Rattle.tsp_value.specs.declared.field.Field.TheVariants.{NameKey, TypeKey, CommentKey, OtherKey, DimensionKey, CapacityKey, ScaleKey, EdgeWeightTypeKey, EdgeWeightFormatKey, NodeCoordTypeKey, DisplayDataTypeKey, NodeCoordPart, DisplayDataPart, DemandPart, DepotPart, FixedEdgesPart, EdgeWeightPart, TourPart, NodePotentialPart, RowPotentialPart, ColumnPotentialPart}
+use Rattle.tsp_value.specs.declared.field.Field.TheVariants.{DimensionKey, NodeCoordPart, DisplayDataPart, DemandPart, DepotPart, FixedEdgesPart, EdgeWeightPart, TourPart, NodePotentialPart, RowPotentialPart, ColumnPotentialPart}
 use Rattle.tsp_value.specs.declared.keyword.Keyword.TheVariants.{Known, EdgeDataFormat, EdgeDataSection, Eof, Unknown}
-use Rattle.tsp_value.specs.Limits.{most_nodes, most_capacity, most_scale, most_line_bytes, most_comments, most_others}
-use Rattle.tsp_value.specs.Words.{kind_word, weight_kind_word, weight_format_word, coord_kind_word, display_kind_word, kinds, weight_kinds, weight_formats, coord_kinds, display_kinds}
+use Rattle.tsp_value.specs.Limits.{most_line_bytes}
 use Rattle.tsp_fields.specs.Fields.{Fields, fields_of}
 use Rattle.tsp_read.specs.declared.fault.LineFault.{LineFault}
 use Rattle.tsp_read.specs.declared.fault.LineFault.TheVariants as row
-use Rattle.tsp_read.specs.declared.fault.StepFault.{StepFault}
-use Rattle.tsp_read.specs.declared.fault.StepFault.TheVariants as steps
 use Rattle.tsp_read.specs.declared.state.part.Part.{Part}
 use Rattle.tsp_read.specs.declared.parts.numbers.NumberList.{NumberList}
 use Rattle.tsp_read.specs.declared.parts.points.PointList.{PointList}
@@ -28,14 +16,13 @@ use Rattle.tsp_read.specs.declared.parts.fixed.FixedList.{FixedList}
 use Rattle.tsp_read.specs.declared.parts.weights.WeightList.{WeightList}
 use Rattle.tsp_read.specs.declared.parts.tours.TourList.{TourList}
 use Rattle.tsp_read.specs.declared.state.reading.Reading.{Reading}
-use Rattle.tsp_read.specs.Lines.{is_filled, first_word}
+use Rattle.tsp_read.specs.Lines.{is_filled}
 use Rattle.tsp_read.specs.Items.{WordLine, Item, Line}
-use Rattle.tsp_read.specs.Earlier.{has_line, value_at, values_at, others_in, open_section}
-use Rattle.tsp_read.specs.Values.{kind_named, weight_kind_named, weight_format_named, coord_kind_named, display_kind_named, named, is_left_out, number_at, dimension_of}
-use Rattle.tsp_read.specs.Rows.{row_of, when, first_row, is_too_long_to_keep}
+use Rattle.tsp_read.specs.Earlier.{has_line, open_section}
+use Rattle.tsp_read.specs.Rows.{row_of, when, first_row}
 use Rattle.tsp_read.specs.Spells.{fields_by, is_incomplete}
-use Rattle.tsp_read.specs.CutLine.{SetsName, AddsComment, AddsOther, MayOpen}
-use Rattle.tsp_read.specs.Holds.{fields_there, keywords_there, sections_there, is_closed, is_closed_incomplete, flags_in, tests_at, OpenHolds, Holds, Closed, Answers, LineAnswers, OtherAnswers}
+use Rattle.tsp_read.specs.CutLine.{MayOpen}
+use Rattle.tsp_read.specs.Holds.{fields_there, is_closed, is_closed_incomplete, flags_in, tests_at, OpenHolds, Holds, Closed}
 use Rattle.tsp_read.proofs.Clean.{clean_more}
 use Rattle.tsp_read.specs.declared.state.part.Part.TheVariants.{Coords, Display, Demands, Depots, Fixed, Weights, Tours, NodePotentials, RowPotentials, ColumnPotentials}
 use Rattle.tsp_value.specs.Limits.{most_matrix_nodes}
@@ -43,11 +30,9 @@ use Rattle.tsp_read.specs.Items.{NumberWord, LineEnd}
 use Rattle.tsp_value.specs.declared.keyword.Keyword.{Keyword}
 use Rattle.tsp_read.specs.Earlier.{same_field, is_section_field, is_key, opened_by, is_open, words_of}
 use Rattle.tsp_read.specs.Sections.{nodes_of}
-use Rattle.tsp_read.specs.Open.{section_of, PartHolds}
+use Rattle.tsp_read.specs.Open.{PartHolds}
 use Rattle.std.specs.Prelude.{unwrap_or, cond}
-use Rattle.tsp_read.proofs.CloseSteps.{was_opened}
-use Rattle.tsp_read.proofs.TextSteps.{three_none, two_none}
-use Rattle.tsp_read.proofs.KeywordSteps.{still_none, some_mapped}
+use Rattle.tsp_read.proofs.KeywordSteps.{some_mapped}
 
 some_cond : {A : Type 0} (b : Bool) (x : A) → is_some (cond b (Some x) None) ≡ b
 some_cond true x = refl

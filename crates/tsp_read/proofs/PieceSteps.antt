@@ -1,5 +1,5 @@
 -- A reader that is read in pieces.
-use Rattle.std.proofs.Common.{◌≡◌, ℕ, ◌+◌, ◌-◌, ◌≤◌, ◌<◌, Bool, true, false, List, [], ◌∷◌, ◌++◌, length, take, drop, take-append-drop, refl, sym, ap, subst, ◌∙◌, arith, inl, inr, Option, Some, None, Result, Ok, Err, append-nil, append_assoc, length-append}
+use Rattle.std.proofs.Common.{◌≡◌, ℕ, ◌+◌, ◌-◌, ◌≤◌, ◌<◌, Bool, true, false, List, [], ◌∷◌, ◌++◌, length, take, drop, take-append-drop, refl, sym, ap, subst, ◌∙◌, arith, Option, Some, None, Ok, Err, append-nil, length-append}
 use Rattle.std.specs.Prelude.{◌⊎◌, IfSome, not, ◌&&◌}
 use Rattle.std.specs.Io.KnownBytes.{Consumes, Keeps, IsAtEnd}
 use Rattle.std.proofs.KnownBytes.{Consumes-nil, Consumes-trans, Consumes-kept}
@@ -8,7 +8,6 @@ use Rattle.std.proofs.lemmas.List.{take-append-le}
 use Rattle.std.proofs.lemmas.Option.{none-some}
 use Rattle.tsp_value.specs.Limits.{most_file_bytes}
 use Rattle.tsp_stream.specs.Turn.{Turn, Gave, IsSound, GaveAll, TakesAtMost}
-use Rattle.tsp_fields.specs.Fields.{Fields}
 use Rattle.tsp_read.specs.declared.fault.ReadFault.{ReadFault}
 use Rattle.tsp_read.specs.declared.fault.ReadFault.TheVariants as faults
 use Rattle.tsp_read.specs.declared.stage.Stage.{Stage}
@@ -19,8 +18,8 @@ use Rattle.tsp_read.specs.Rows.{when, first_row}
 use Rattle.tsp_read.specs.FirstFault.{fault_in, IsClean}
 use Rattle.tsp_read.specs.Text.{is_too_long, settled_part, settled_fault, fault}
 use Rattle.tsp_read.specs.Reads.{most_taken, StopsAt}
-use Rattle.tsp_read.specs.Feed.{IsGoing, IsEnded, HasTaken, Feeds}
-use Rattle.tsp_read.specs.Timely.{before_last, IsTimely, is_going, IsFedFrom}
+use Rattle.tsp_read.specs.Feed.{IsGoing, HasTaken, Feeds}
+use Rattle.tsp_read.specs.Timely.{IsTimely, is_going, IsFedFrom}
 use Rattle.tsp_read.proofs.SettledFaults.{fault_kept, settled_kept, ended_stays}
 use Rattle.tsp_read.proofs.FeedSteps.{taken_at, going_on}
 

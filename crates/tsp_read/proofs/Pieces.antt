@@ -1,5 +1,5 @@
 -- A list between the elements that part it, with one element more at its end.
-use Rattle.std.proofs.Common.{◌≡◌, ℕ, ◌+◌, Bool, true, false, cond, List, [], ◌∷◌, ◌++◌, length, refl, ap, ◌∙◌, arith}
+use Rattle.std.proofs.Common.{◌≡◌, ◌+◌, Bool, true, false, cond, List, [], ◌∷◌, ◌++◌, length, refl, ap, ◌∙◌, arith}
 use Rattle.std.specs.List.{slice_split, onto_first, filter}
 
 abbrev IsFilled : {X : Type 0} → List X → Type 0

@@ -1,33 +1,16 @@
 -- Reading a text: item by item, and the answer for the whole.
-use Rattle.std.proofs.Common.{◌≡◌, ℕ, ◌+◌, ◌≤◌, ◌<◌, Bool, true, false, List, [], ◌∷◌, length, reverse, refl, sym, ap, subst, ◌∙◌, arith, Option, Some, None, Result, Ok, Err}
-use Rattle.std.specs.Prelude.{not, ◌&&◌, ◌||◌}
-use Rattle.std.specs.Option.{option_map}
-use Rattle.tsp_value.specs.Limits.{most_file_bytes}
-use Rattle.tsp_value.specs.declared.keyword.Keyword.{Keyword}
-use Rattle.tsp_value.specs.declared.keyword.Keyword.TheVariants.{Known, EdgeDataFormat, EdgeDataSection, Eof, Unknown}
-use Rattle.tsp_fields.specs.Fields.{Fields}
-use Rattle.tsp_fields.specs.declared.fault.EndFault.{EndFault}
-use Rattle.tsp_read.specs.declared.fault.LineFault.{LineFault}
+use Rattle.std.proofs.Common.{◌≡◌, Bool, false, List, ◌∷◌, refl, sym, subst, Option, Some, None, Ok, Err}
 use Rattle.tsp_read.specs.declared.fault.StepFault.{StepFault}
 use Rattle.tsp_read.specs.declared.fault.StepFault.TheVariants as steps
-use Rattle.tsp_read.specs.declared.fault.ReadFault.{ReadFault}
-use Rattle.tsp_read.specs.declared.fault.ReadFault.TheVariants as faults
 use Rattle.tsp_read.specs.declared.state.reading.Reading.{Reading}
-use Rattle.tsp_read.specs.declared.state.finish.FinishFault.TheVariants as finishes
 use Rattle.tsp_read.specs.declared.cut.Next.{Next}
 use Rattle.tsp_read.specs.declared.cut.Next.TheVariants as next
-use Rattle.tsp_read.specs.Items.{Item, LineEnd, NumberWord, Line, line_item, is_end_line, has_end_line, to_end_line, line_number, words_before, word_number}
+use Rattle.tsp_read.specs.Items.{Item, LineEnd, NumberWord, Line, is_end_line, words_before, word_number}
 use Rattle.tsp_read.specs.Rows.{row_of}
-use Rattle.tsp_read.specs.FirstFault.{fault_in, IsClean}
-use Rattle.tsp_read.specs.Spells.{spelled, fault_at_end}
-use Rattle.tsp_read.specs.Text.{is_too_long, part, fault, Spells}
+use Rattle.tsp_read.specs.Text.{part, fault}
 use Rattle.tsp_read.specs.Left.{item_next}
-use Rattle.tsp_read.specs.CutLine.{cut_item}
 use Rattle.tsp_read.specs.declared.state.part.Part.{Part}
-use Rattle.tsp_read.specs.declared.state.finish.FinishFault.{FinishFault}
 use Rattle.tsp_read.specs.Holds.{OpenHolds, Holds, Answers}
-use Rattle.tsp_read.specs.Cuts.{AreCut}
-use Rattle.tsp_read.specs.Finishes.{Finishes}
 use Rattle.tsp_read.specs.Reads.{TakesItem}
 use Rattle.tsp_read.proofs.Clean.{clean_more}
 

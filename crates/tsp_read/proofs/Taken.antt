@@ -1,5 +1,5 @@
 -- How a word is taken, with what holds after it.
-use Rattle.std.proofs.Common.{◌≡◌, ℕ, List, Result, Ok, Err}
+use Rattle.std.proofs.Common.{ℕ, List, Result, Ok, Err}
 use Rattle.tsp_read.specs.declared.fault.StepFault.{StepFault}
 use Rattle.tsp_read.specs.declared.fault.StepFault.TheVariants as steps
 use Rattle.tsp_read.specs.Places.{Place}

@@ -1,38 +1,25 @@
 -- Lines whose value is kept as it is, and lines that give no field.
-use Rattle.std.proofs.Common.{cond, ◌≡◌, ℕ, Bool, true, false, List, [], ◌∷◌, ◌++◌, set, get_or, refl, sym, ap, subst, ◌∙◌, Option, Some, None, Result, Ok, Err, length}
-use Rattle.std.specs.Prelude.{ℤ, pos, nat_lt, nat_le, is_some, is_none, not, ◌+◌}
+use Rattle.std.proofs.Common.{◌≡◌, ℕ, Bool, true, false, List, [], ◌∷◌, ◌++◌, set, get_or, refl, sym, ap, ◌∙◌, Option, Some, None, Result, Ok, Err, length}
+use Rattle.std.specs.Prelude.{nat_lt, nat_le, is_some, not}
 use Rattle.std.specs.Option.{option_map}
-use Rattle.std.specs.Result.{result_ok, result_err}
-use Rattle.tsp_number.specs.declared.fault.NumberFault.{NumberFault}
-use Rattle.tsp_number.specs.Reading.{whole_of}
-use Rattle.tsp_value.specs.declared.kinds.Kind.{Kind}
-use Rattle.tsp_value.specs.declared.kinds.WeightKind.{WeightKind}
-use Rattle.tsp_value.specs.declared.kinds.WeightFormat.{WeightFormat}
-use Rattle.tsp_value.specs.declared.kinds.CoordKind.{CoordKind}
-use Rattle.tsp_value.specs.declared.kinds.DisplayKind.{DisplayKind}
-use Rattle.tsp_value.specs.declared.field.Field.{Field}
-use Rattle.tsp_value.specs.declared.field.Field.TheVariants.{NameKey, TypeKey, CommentKey, OtherKey, DimensionKey, CapacityKey, ScaleKey, EdgeWeightTypeKey, EdgeWeightFormatKey, NodeCoordTypeKey, DisplayDataTypeKey, NodeCoordPart, DisplayDataPart, DemandPart, DepotPart, FixedEdgesPart, EdgeWeightPart, TourPart, NodePotentialPart, RowPotentialPart, ColumnPotentialPart}
+use Rattle.tsp_value.specs.declared.field.Field.TheVariants.{NameKey, CommentKey, OtherKey}
 use Rattle.tsp_value.specs.declared.keyword.Keyword.{Keyword}
 use Rattle.tsp_value.specs.declared.keyword.Keyword.TheVariants.{Known, EdgeDataFormat, EdgeDataSection, Eof, Unknown}
-use Rattle.tsp_value.specs.Limits.{most_nodes, most_capacity, most_scale, most_line_bytes, most_comments, most_others}
-use Rattle.tsp_value.specs.Words.{kind_word, weight_kind_word, weight_format_word, coord_kind_word, display_kind_word, kinds, weight_kinds, weight_formats, coord_kinds, display_kinds}
+use Rattle.tsp_value.specs.Limits.{most_line_bytes, most_comments, most_others}
 use Rattle.tsp_fields.specs.Fields.{Fields, fields_of}
 use Rattle.tsp_read.specs.declared.fault.LineFault.{LineFault}
 use Rattle.tsp_read.specs.declared.fault.LineFault.TheVariants as row
 use Rattle.tsp_read.specs.declared.fault.StepFault.{StepFault}
 use Rattle.tsp_read.specs.declared.fault.StepFault.TheVariants as steps
-use Rattle.tsp_read.specs.declared.state.part.Part.{Part}
 use Rattle.tsp_read.specs.declared.state.reading.Reading.{Reading}
-use Rattle.tsp_read.specs.Lines.{is_filled, first_word}
 use Rattle.tsp_read.specs.Items.{WordLine, Item, Line}
-use Rattle.tsp_read.specs.Earlier.{has_line, value_at, values_at, others_in, open_section}
-use Rattle.tsp_read.specs.Values.{kind_named, weight_kind_named, weight_format_named, coord_kind_named, display_kind_named, named, is_left_out, number_at, dimension_of}
+use Rattle.tsp_read.specs.Earlier.{has_line, values_at, others_in}
 use Rattle.tsp_read.specs.Rows.{row_of, when, first_row, is_too_long_to_keep}
-use Rattle.tsp_read.specs.Spells.{fields_by, is_incomplete}
-use Rattle.tsp_read.specs.CutLine.{SetsName, AddsComment, AddsOther, MayOpen}
-use Rattle.tsp_read.specs.Holds.{fields_there, keywords_there, sections_there, is_closed, is_closed_incomplete, flags_in, tests_at, OpenHolds, Holds, Closed, Answers, LineAnswers, OtherAnswers}
+use Rattle.tsp_read.specs.Spells.{fields_by}
+use Rattle.tsp_read.specs.CutLine.{SetsName, AddsComment, AddsOther}
+use Rattle.tsp_read.specs.Holds.{fields_there, flags_in, Holds, Closed, LineAnswers, OtherAnswers}
 use Rattle.tsp_read.proofs.Clean.{clean_more}
-use Rattle.tsp_read.proofs.KeywordSteps.{still_none, some_mapped}
+use Rattle.tsp_read.proofs.KeywordSteps.{still_none}
 
 -- two rows and three rows that don't apply
 pub two_none : (a b : Bool) (f g : LineFault) → a ≡ false → b ≡ false → first_row (when a f ∷ when b g ∷ []) ≡ None

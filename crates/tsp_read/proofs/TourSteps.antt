@@ -1,17 +1,16 @@
 -- One word more of the tours.
 use Rattle.std.proofs.Common.{◌≡◌, ℕ, ◌+◌, Bool, true, false, cond, List, [], ◌∷◌, ◌++◌, length, map, refl, sym, ap, ◌∙◌, arith, Result, Ok, Err, None}
-use Rattle.std.specs.Prelude.{ℤ, pos, negsuc, nat_abs, nat_le, not, ◌&&◌, OnOk, IfErr}
+use Rattle.std.specs.Prelude.{pos, negsuc, nat_le, not, ◌&&◌, OnOk, IfErr}
 use Rattle.std.specs.List.{slice_split, filter}
 use Rattle.std.proofs.lemmas.List.{map_push}
-use Rattle.tsp_number.specs.declared.fault.NumberFault.{NumberFault}
 use Rattle.tsp_value.specs.Limits.{most_nodes, most_tour_nodes}
 use Rattle.tsp_read.specs.declared.fault.StepFault.{StepFault}
 use Rattle.tsp_read.specs.declared.fault.StepFault.TheVariants as steps
 use Rattle.tsp_read.specs.declared.parts.tours.TourList.{TourList}
-use Rattle.tsp_read.specs.Numbers.{reads_as, node_or_end}
+use Rattle.tsp_read.specs.Numbers.{node_or_end}
 use Rattle.tsp_read.specs.Places.{TourNode}
-use Rattle.tsp_read.specs.Tours.{ends_tour, tour_node, tours_in, place_of_tour}
-use Rattle.tsp_read.specs.Parts.{word_fault, Takes, ToursHold}
+use Rattle.tsp_read.specs.Tours.{ends_tour, tour_node, place_of_tour}
+use Rattle.tsp_read.specs.Parts.{word_fault, Takes}
 use Rattle.tsp_read.specs.Held.{HoldsTours, EndsRunOf}
 use Rattle.tsp_read.proofs.Pieces.{split_end, split_more, count_push}
 

@@ -1,14 +1,12 @@
 -- A walk over the items of a text up to the end line: where it begins, one item more, and where it stops.
-use Rattle.std.proofs.Common.{◌≡◌, ℕ, Bool, true, false, cond, List, [], ◌∷◌, ◌++◌, take, reverse, Option, Some, None, refl, sym, ap, ◌∙◌, append-nil, append_assoc}
+use Rattle.std.proofs.Common.{◌≡◌, ℕ, Bool, true, false, cond, List, [], ◌∷◌, ◌++◌, reverse, Option, Some, None, refl, sym, ap, ◌∙◌, append-nil, append_assoc}
 use Rattle.std.specs.Prelude.{not, ◌||◌, ◌&&◌}
 use Rattle.std.specs.Option.{option_or, option_map}
 use Rattle.std.proofs.lemmas.List.{reverse-append, reverse-reverse}
-use Rattle.tsp_value.specs.Limits.{most_file_bytes}
 use Rattle.tsp_fields.specs.declared.fault.EndFault.{EndFault}
-use Rattle.tsp_read.specs.declared.fault.LineFault.{LineFault}
 use Rattle.tsp_read.specs.declared.fault.ReadFault.{ReadFault}
 use Rattle.tsp_read.specs.declared.fault.ReadFault.TheVariants as faults
-use Rattle.tsp_read.specs.Items.{Item, is_end_line, has_end_line, to_end_line, items_of, settled_items}
+use Rattle.tsp_read.specs.Items.{Item, is_end_line, has_end_line, to_end_line}
 use Rattle.tsp_read.specs.Rows.{row_of, when, first_row}
 use Rattle.tsp_read.specs.FirstFault.{fault_here, fault_in, IsClean}
 use Rattle.tsp_read.specs.Spells.{fault_at_end}

@@ -1,5 +1,5 @@
 -- A word of the open section: nothing changes but the words of that section.
-use Rattle.std.proofs.Common.{subst, ◌≡◌, ℕ, Bool, true, false, List, [], ◌∷◌, ◌++◌, refl, sym, ap, ◌∙◌, Option, Some, None, Result, Ok, Err}
+use Rattle.std.proofs.Common.{subst, ◌≡◌, ℕ, true, List, [], ◌∷◌, ◌++◌, refl, sym, ap, ◌∙◌, Some, Result, Ok, Err}
 use Rattle.tsp_value.specs.declared.field.Field.{Field}
 use Rattle.tsp_value.specs.declared.field.Field.TheVariants.{NameKey, TypeKey, CommentKey, OtherKey, DimensionKey, CapacityKey, ScaleKey, EdgeWeightTypeKey, EdgeWeightFormatKey, NodeCoordTypeKey, DisplayDataTypeKey, NodeCoordPart, DisplayDataPart, DemandPart, DepotPart, FixedEdgesPart, EdgeWeightPart, TourPart, NodePotentialPart, RowPotentialPart, ColumnPotentialPart}
 use Rattle.tsp_read.specs.declared.fault.StepFault.{StepFault}
@@ -7,7 +7,7 @@ use Rattle.tsp_read.specs.declared.fault.StepFault.TheVariants as steps
 use Rattle.tsp_read.specs.declared.state.part.Part.{Part}
 use Rattle.tsp_read.specs.declared.state.reading.Reading.{Reading}
 use Rattle.tsp_read.specs.Items.{Item, NumberWord}
-use Rattle.tsp_read.specs.Earlier.{same_field, has_line, open_section, is_open, words_of}
+use Rattle.tsp_read.specs.Earlier.{same_field, open_section, words_of}
 use Rattle.tsp_read.specs.Sections.{place_in, nodes_of}
 use Rattle.tsp_read.specs.Rows.{row_of}
 use Rattle.tsp_read.specs.Parts.{word_fault}

@@ -1,6 +1,6 @@
 -- A line or a word that has begun in one piece of a text, and ends in another.
 use Rattle.std.specs.Prelude.{◌≡◌, ℕ, ◌+◌, ◌≤◌, Bool, true, false, not, ◌&&◌, List, [], ◌∷◌, ◌++◌, length}
-use Rattle.tsp_value.specs.Bytes.{is_blank, is_letter}
+use Rattle.tsp_value.specs.Bytes.{is_letter}
 use Rattle.tsp_read.specs.declared.intake.Intake.{Intake}
 use Rattle.tsp_read.specs.declared.begun.Begun.{Begun}
 use Rattle.tsp_read.specs.Lines.{ends_line, is_filled}

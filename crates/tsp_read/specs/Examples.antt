@@ -1,12 +1,11 @@
 -- Small texts on which the definitions are evaluated. In them `/` stands for byte 10.
-use Rattle.std.specs.Prelude.{◌≡◌, ℕ, ◌==◌, cond, List, [], ◌∷◌, ◌++◌, map, replicate, Option, None, Some, codes, ℤ, pos}
+use Rattle.std.specs.Prelude.{◌≡◌, ℕ, ◌==◌, cond, List, [], ◌∷◌, ◌++◌, map, replicate, None, Some, codes, pos}
 use Rattle.tsp_value.specs.declared.field.Field.{Field}
 use Rattle.tsp_number.specs.declared.fault.NumberFault.{NumberFault}
 use Rattle.tsp_fields.specs.declared.fault.EndFault.{EndFault}
 use Rattle.tsp_fields.specs.declared.fault.EndFault.TheVariants.{Missing}
 use Rattle.tsp_read.specs.declared.fault.LineFault.{LineFault}
 use Rattle.tsp_read.specs.declared.fault.LineFault.TheVariants.{Number}
-use Rattle.tsp_read.specs.declared.fault.ReadFault.{ReadFault}
 use Rattle.tsp_read.specs.declared.fault.ReadFault.TheVariants as faults
 use Rattle.tsp_read.specs.Spells.{spelled}
 use Rattle.tsp_read.specs.Text.{part, fault}

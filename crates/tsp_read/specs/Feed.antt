@@ -1,5 +1,5 @@
 -- A file that is read in pieces: which bytes have come so far, and what is answered for them.
-use Rattle.std.specs.Prelude.{◌≡◌, ℕ, ◌≤◌, Bool, true, false, not, ◌&&◌, List, length, Option, None, Some, Result, Ok, Err}
+use Rattle.std.specs.Prelude.{◌≡◌, ℕ, ◌≤◌, true, false, not, ◌&&◌, List, length, Option, None, Some, Result, Ok, Err}
 use Rattle.tsp_value.specs.Limits.{most_file_bytes}
 use Rattle.tsp_read.specs.declared.fault.ReadFault.{ReadFault}
 use Rattle.tsp_read.specs.declared.fault.ReadFault.TheVariants as faults

@@ -1,5 +1,5 @@
 -- What the reader answers at the end of the items (nearest first).
-use Rattle.std.specs.Prelude.{◌≡◌, Bool, cond, List, Option, None, Some, Result, Ok, Err, ◌⊎◌}
+use Rattle.std.specs.Prelude.{◌≡◌, cond, List, Option, None, Some, Result, Ok, Err, ◌⊎◌}
 use Rattle.tsp_value.specs.declared.field.Field.{Field}
 use Rattle.tsp_value.specs.declared.field.Field.TheVariants.{NodeCoordPart, DisplayDataPart, DemandPart, FixedEdgesPart, NodePotentialPart, RowPotentialPart, ColumnPotentialPart}
 use Rattle.tsp_fields.specs.declared.fault.DraftFault.{DraftFault}

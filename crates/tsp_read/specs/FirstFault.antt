@@ -1,5 +1,5 @@
 -- The first fault of a text's items: of the first line, in it of the first word, the first row.
-use Rattle.std.specs.Prelude.{◌≡◌, ℕ, Bool, List, [], ◌∷◌, ◌++◌, Option, None, Some}
+use Rattle.std.specs.Prelude.{◌≡◌, List, [], ◌∷◌, ◌++◌, Option, None, Some}
 use Rattle.std.specs.Option.{option_or, option_map}
 use Rattle.tsp_read.specs.declared.fault.LineFault.{LineFault}
 use Rattle.tsp_read.specs.declared.fault.ReadFault.{ReadFault}

@@ -1,6 +1,6 @@
 -- By-node sections. TSPLIB 95 (G. Reinelt): NODE_COORD_SECTION, DISPLAY_DATA_SECTION and DEMAND_SECTION list each node once, in any order,
 -- each with its numbers. This project's profile adds the sections of potentials.
-use Rattle.std.specs.Prelude.{ℕ, ◌*◌, Bool, cond, nat_le, List, [], ◌∷◌, length, map, take, Option, None, Some, ℤ, pos, unwrap_or}
+use Rattle.std.specs.Prelude.{ℕ, ◌*◌, cond, nat_le, List, [], ◌∷◌, length, map, take, Option, None, Some, ℤ, pos, unwrap_or}
 use Rattle.std.specs.Ordering.{int_eq}
 use Rattle.tsp_number.specs.declared.decimal.Point.{Point}
 use Rattle.tsp_number.specs.Reading.{decimal_of, whole_of}

@@ -1,6 +1,5 @@
 -- What each section's part holds, by the part itself, and what it finishes with.
-use Rattle.std.specs.Prelude.{◌≡◌, ℕ, ℤ, Bool, List, map, Option}
-use Rattle.tsp_number.specs.declared.decimal.Point.{Point}
+use Rattle.std.specs.Prelude.{◌≡◌, ℕ, ℤ, List, map}
 use Rattle.tsp_read.specs.declared.parts.numbers.NumberList.{NumberList}
 use Rattle.tsp_read.specs.declared.parts.points.PointList.{PointList}
 use Rattle.tsp_read.specs.declared.parts.depots.DepotList.{DepotList}

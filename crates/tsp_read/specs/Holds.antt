@@ -1,5 +1,5 @@
 -- What the state of the reader holds of the items so far (nearest first).
-use Rattle.std.specs.Prelude.{◌≡◌, ℕ, Bool, true, false, not, ◌&&◌, List, [], ◌∷◌, Option, None, Some, is_some, Result, Ok, Err, replicate, nat_lt}
+use Rattle.std.specs.Prelude.{◌≡◌, Bool, false, not, ◌&&◌, List, [], ◌∷◌, Option, None, Some, is_some, Result, Ok, Err, replicate, nat_lt}
 use Rattle.tsp_value.specs.declared.field.Field.{Field}
 use Rattle.tsp_value.specs.declared.field.Field.TheVariants.{NameKey, TypeKey, DimensionKey, CapacityKey, ScaleKey, EdgeWeightTypeKey, EdgeWeightFormatKey, NodeCoordTypeKey, DisplayDataTypeKey, NodeCoordPart, DisplayDataPart, DemandPart, DepotPart, FixedEdgesPart, EdgeWeightPart, NodePotentialPart, RowPotentialPart, ColumnPotentialPart}
 use Rattle.tsp_fields.specs.Fields.{Fields, fields_of}

@@ -1,5 +1,5 @@
 -- A text that is taken item by item: the items of what is left of it, and where its next line or word ends.
-use Rattle.std.specs.Prelude.{◌≡◌, ℕ, Bool, true, false, not, ◌||◌, nat_lt, List, [], ◌∷◌, ◌++◌, length, map, take, drop, Option, None, Some}
+use Rattle.std.specs.Prelude.{ℕ, Bool, true, false, not, ◌||◌, nat_lt, List, [], ◌∷◌, ◌++◌, length, map, take, drop}
 use Rattle.std.specs.List.{position_or_len}
 use Rattle.tsp_value.specs.Bytes.{is_blank}
 use Rattle.tsp_read.specs.declared.cut.Next.{Next}

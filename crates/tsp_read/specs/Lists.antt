@@ -1,5 +1,5 @@
 -- Lists that -1 ends. TSPLIB 95 (G. Reinelt): DEPOT_SECTION lists depots, FIXED_EDGES_SECTION pairs of nodes.
-use Rattle.std.specs.Prelude.{ℕ, Bool, cond, List, [], ◌∷◌, length, map, nat_abs, ℤ}
+use Rattle.std.specs.Prelude.{ℕ, Bool, cond, List, [], ◌∷◌, length, map, nat_abs}
 use Rattle.std.specs.List.{list_any}
 use Rattle.tsp_read.specs.Numbers.{number, node, node_or_end, is_end}
 use Rattle.tsp_read.specs.Places.{Place, DepotAfter, FirstAfter, SecondOf, PastEnd}

@@ -1,5 +1,5 @@
 -- What a word of a section is read as where a number is wanted.
-use Rattle.std.specs.Prelude.{ℕ, Bool, true, false, cond, List, Result, Ok, Err, ℤ, pos, negsuc, neg_ℤ, codes}
+use Rattle.std.specs.Prelude.{ℕ, Bool, false, cond, List, Result, Ok, Err, ℤ, pos, negsuc, neg_ℤ, codes}
 use Rattle.std.specs.Result.{result_unwrap_or}
 use Rattle.std.specs.Ordering.{int_eq}
 use Rattle.std.specs.Str.{bytes_eq}

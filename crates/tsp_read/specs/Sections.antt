@@ -1,5 +1,5 @@
 -- Each section's words: where the next one stands. Source: TSPLIB 95 (G. Reinelt) for the sections; the ranges are this project's profile.
-use Rattle.std.specs.Prelude.{ℕ, Bool, true, false, List, Option, None, Some, ℤ, pos, neg_ℤ, unwrap_or}
+use Rattle.std.specs.Prelude.{ℕ, List, Option, pos, neg_ℤ, unwrap_or}
 use Rattle.std.specs.Option.{option_map}
 use Rattle.tsp_value.specs.declared.field.Field.{Field}
 use Rattle.tsp_value.specs.declared.field.Field.TheVariants.{NodeCoordPart, DisplayDataPart, DemandPart, DepotPart, FixedEdgesPart, EdgeWeightPart, TourPart, NodePotentialPart, RowPotentialPart, ColumnPotentialPart}

@@ -1,7 +1,7 @@
 -- What a text of bytes spells, and its first fault. Source: TSPLIB 95 (G. Reinelt) for the fields; lines, faults, their order and the limit
 -- of a file's bytes are this project's profile.
-use Rattle.std.specs.Prelude.{◌≡◌, ℕ, Bool, not, cond, ◌&&◌, nat_lt, List, [], ◌∷◌, length, take, reverse, Option, None, Some}
-use Rattle.std.specs.Option.{option_map, option_or}
+use Rattle.std.specs.Prelude.{◌≡◌, ℕ, Bool, not, cond, ◌&&◌, nat_lt, List, [], ◌∷◌, length, take, reverse, Option, None}
+use Rattle.std.specs.Option.{option_map}
 use Rattle.tsp_value.specs.Limits.{most_file_bytes}
 use Rattle.tsp_fields.specs.Fields.{Fields}
 use Rattle.tsp_read.specs.declared.fault.ReadFault.{ReadFault}

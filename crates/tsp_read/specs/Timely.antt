@@ -1,5 +1,5 @@
 -- A reader whose bytes are read in pieces, and when its reading stops.
-use Rattle.std.specs.Prelude.{◌≡◌, ℕ, ◌-◌, ◌≤◌, Bool, true, false, List, length, take, Option, None, Result, Ok, Err, ◌⊎◌}
+use Rattle.std.specs.Prelude.{◌≡◌, ℕ, ◌-◌, Bool, true, false, List, length, take, None, Result, Ok, Err, ◌⊎◌}
 use Rattle.std.specs.Io.KnownBytes.{IsAtEnd}
 use Rattle.tsp_stream.specs.Turn.{Turn, Gave, IsSound, TakesAtMost}
 use Rattle.tsp_fields.specs.Fields.{Fields}

@@ -1,5 +1,5 @@
 -- The weights of a matrix. TSPLIB 95 (G. Reinelt): EDGE_WEIGHT_SECTION.
-use Rattle.std.specs.Prelude.{ℕ, ◌*◌, Bool, cond, nat_le, List, length, map, ℤ}
+use Rattle.std.specs.Prelude.{ℕ, ◌*◌, cond, nat_le, List, length, map, ℤ}
 use Rattle.tsp_value.specs.Limits.{most_weight}
 use Rattle.tsp_read.specs.Numbers.{number, sized}
 use Rattle.tsp_read.specs.Places.{Place, Weight, PastWeights}

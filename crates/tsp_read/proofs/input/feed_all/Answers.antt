@@ -1,4 +1,4 @@
-use Rattle.std.proofs.Common.{refl, sym, ap, subst, ◌∙◌, ◌+◌, ◌≤◌, ◌<◌, ◌||◌, arith, take, length, inl, inr, true, false, ℕ, List}
+use Rattle.std.proofs.Common.{refl, sym, ap, subst, ◌∙◌, ◌||◌, arith, take, inl, inr, true, false, ℕ}
 use Rattle.std.specs.Io.KnownBytes.{Consumes}
 use Rattle.std.proofs.lemmas.Bool.{true≢false}
 use Rattle.tsp_stream.specs.Turn.{turn_of}

@@ -1,4 +1,4 @@
-use Rattle.std.proofs.Common.{sym, inl, inr}
+use Rattle.std.proofs.Common.{sym, inl}
 use Rattle.tsp_read.proofs.state.finish.file_of.Goals as goal
 
 pub returns-in-Some : goal.returns-in-Some

@@ -1,4 +1,4 @@
-use Rattle.std.proofs.Common.{sym, rules}
+use Rattle.std.proofs.Common.{sym}
 use Rattle.tsp_read.proofs.state.line.named.Goals as goal
 
 pub returns-in-Some : goal.returns-in-Some

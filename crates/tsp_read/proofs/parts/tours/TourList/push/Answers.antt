@@ -1,4 +1,4 @@
-use Rattle.std.proofs.Common.{◌+◌, ◌≡◌, ◌∙◌, ap, false, refl, tests, rules, Ok, Some, None}
+use Rattle.std.proofs.Common.{◌+◌, ◌≡◌, ◌∙◌, ap, false, refl, tests, rules, Ok}
 use Rattle.std.specs.Prelude.{nat_le, negsuc, pos}
 use Rattle.tsp_read.specs.Numbers.{node_or_end}
 use Rattle.tsp_read.specs.Parts.{as_node_or_end}

@@ -1,4 +1,4 @@
-use Rattle.std.proofs.Common.{refl, sym, ap, ◌∙◌, Some, map, List, ℕ}
+use Rattle.std.proofs.Common.{refl, sym, ap, ◌∙◌, Some, map}
 use Rattle.tsp_read.proofs.CloseSteps as steps
 use Rattle.tsp_read.proofs.state.reading.Reading.close.Goals as goal
 
