@@ -87,6 +87,14 @@ fn outcome(stage: Stage) -> Result<(), ReadFault>
 /// A file that is read in pieces. How they are cut doesn't matter.
 ///
 /// Of the bytes only a line or a word is kept whose end has not come, at most 4,096.
+///
+/// ```text
+/// let mut feed = Feed::new(alloc);
+/// for piece in pieces {
+///     feed.feed(piece)?;
+/// }
+/// let file = feed.finish()?;
+/// ```
 #[derive(Drop)]
 pub struct Feed {
     alloc: Global,

@@ -1,9 +1,9 @@
-use Rattle.std.proofs.Common.{refl, sym, ap, subst, ◌∙◌, ◌||◌, arith, take, inl, true, false, ℕ}
+use Rattle.std.proofs.Common.{refl, sym, ap, subst, ◌∙◌, ◌||◌, arith, take, inl, inr, true, false, ℕ}
 use Rattle.std.specs.Io.KnownBytes.{Consumes}
 use Rattle.std.proofs.lemmas.Bool.{true≢false}
 use Rattle.tsp_stream.specs.Turn.{turn_of}
 use Rattle.tsp_stream.specs.Watched.{watched}
-use Rattle.tsp_read.proofs.PieceSteps.{gathered_more, gathered_none, gathered_kept, piece_stops, fed_from}
+use Rattle.tsp_read.proofs.PieceSteps.{gathered_more, gathered_none, gathered_kept, piece_stops, fed_from, not_going}
 use Rattle.tsp_read.proofs.input.feed_all.Goals as goal
 
 pub returns-in-Err : goal.returns-in-Err
@@ -38,3 +38,9 @@ pieces-preserved g c = record {
   sound = c.in-Ok.ensures.failed ∙ ap (λ b. b || false) c.pieces.invariant.sound;
   few = omega (arith, c.pieces-test.true, c.in-Ok.ensures.bound.0, c.read.auto.buf);
 }
+
+pub returns : goal.returns
+returns g c =
+    fed_from (turn_of g.R.Read.remaining c.args.reader.now c.pieces.reader) _ _ c.pieces.feed c.pieces.taken (λ given. refl) (λ given gave. gave)
+    (λ given. (c.requires.sound, c.pieces.invariant.sound)) c.pieces.invariant.few c.pieces.invariant.gathered
+    (λ given. inr (not_going _ _ c.pieces.feed c.pieces.taken c.pieces.invariant.gathered (omega (arith, c.pieces-test.false))))
