@@ -3,4 +3,6 @@
 #![tactic(auto)]
 
 #[cfg(test)]
+mod feed;
+#[cfg(test)]
 mod reader;
