@@ -31,8 +31,8 @@ fn failed_reader(text: &str) -> Result<Watched<Trickle<'_>>, Fail> {
 
 #[test]
 fn each_read_of_the_instance_may_fail(rt: HostRuntime) {
-    // One call for each byte, and one for the end.
-    let calls = THREE_NODES.len() + 1;
+    // One call for each byte: after the line EOF nothing is asked for.
+    let calls = THREE_NODES.len();
     for fails_at in 0..calls + 1 {
         let mut inst = reader(THREE_NODES, fails_at);
         let mut sol = reader(TOUR, NEVER);
@@ -59,7 +59,7 @@ fn each_read_of_the_instance_may_fail(rt: HostRuntime) {
 
 #[test]
 fn each_read_of_the_solution_may_fail(rt: HostRuntime) {
-    let calls = TOUR.len() + 1;
+    let calls = TOUR.len();
     for fails_at in 0..calls + 1 {
         let mut inst = reader(THREE_NODES, NEVER);
         let mut sol = reader(TOUR, fails_at);
