@@ -2,13 +2,13 @@
 
 ghost use Rattle.std.specs.Prelude.{refl, pos};
 
+use crate::asserts::{holds, same};
 use std::alloc::Global;
 use std::cell::Cell;
 use std::test::Fail;
 use tsp_bound::{Duals, Infeasible, OneTree, Potentials, dual_bound, one_tree};
 use tsp_cost::{Costs, Instance, Symmetric, View};
 use tsp_fields::Draft;
-use tsp_testing::asserts::{holds, same};
 use tsp_testing::drafts::{file_of, upper_row};
 use tsp_value::{Kind, Layout, WeightFormat};
 

@@ -1,13 +1,13 @@
 //! Verdicts on tours with a certificate of a bound, as values: examples worked by hand, and bounds
 //! beside the lengths of all tours.
 
+use crate::asserts::{holds_at, same_at};
 use std::alloc::{AllocError, Global};
 use std::process::Abort;
 use std::test::Fail;
 use tsp_cost::Instance;
 use tsp_fields::{Draft, File};
 use tsp_judge::{Reason, Verdict, judge_tour_bound};
-use tsp_testing::asserts::{holds_at, same_at};
 use tsp_testing::drafts::{file_of, points, upper_row};
 use tsp_value::{Kind, Layout, WeightFormat, WeightKind};
 

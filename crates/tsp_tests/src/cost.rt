@@ -1,13 +1,13 @@
 //! Costs between nodes, and lengths of lists: examples worked by hand, and a walk of the cells of
 //! each layout.
 
+use crate::asserts::{same, same_at};
 use std::alloc::{AllocError, Global};
 use std::test::Fail;
 use tsp_cost::{
     CostFault, Costs, Instance, View, canonical_length, symmetric_fault, tour_length, trace_tours,
 };
 use tsp_fields::Draft;
-use tsp_testing::asserts::{same, same_at};
 use tsp_testing::drafts::{file_of, four_nodes, rectangle, two_tours, upper_row};
 use tsp_value::{Kind, Layout, WeightFormat};
 

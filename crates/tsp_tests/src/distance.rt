@@ -1,8 +1,8 @@
 //! The distances: examples worked by hand.
 
+use crate::asserts::same;
 use std::test::Fail;
 use tsp_number::{NumberFault, Point, att, ceil_2d, euc_2d, man_2d, max_2d, parse_decimal};
-use tsp_testing::asserts::same;
 
 /// The point with these words as coordinates.
 fn point(x: &[u8], y: &[u8]) -> Result<Point, NumberFault> {

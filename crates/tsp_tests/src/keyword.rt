@@ -1,6 +1,6 @@
 //! What bytes and keywords of a file are.
 
-use tsp_testing::asserts::{holds_at, same_at};
+use crate::asserts::{holds_at, same_at};
 use tsp_value::{Field, Keyword, is_blank, is_keyword_byte, is_letter};
 
 #[test]

@@ -1,6 +1,6 @@
 //! The layouts of a matrix: examples worked by hand.
 
-use tsp_testing::asserts::{same, same_at};
+use crate::asserts::{same, same_at};
 use tsp_value::{Layout, Word};
 
 /// The nine words of TSPLIB 95, and their layouts.

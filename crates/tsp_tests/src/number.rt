@@ -1,5 +1,6 @@
 //! Number words and the spelling of decimals: worked examples, and the edges of the ranges.
 
+use crate::asserts::{holds_at, same, same_at};
 use arrayvec::ArrayVec;
 use std::test::Fail;
 use tsp_number::NumberFault::{BadNumber, LongWord, NotWhole, OutOfRange, TooFine};
@@ -7,7 +8,6 @@ use tsp_number::{
     Decimal, NumberFault, front_decimal, front_whole, parse_decimal, parse_whole, push_decimal,
     write_decimal,
 };
-use tsp_testing::asserts::{holds_at, same, same_at};
 
 /// The count of 10^-9 that a word is read as.
 fn count_of(word: &[u8]) -> Result<i128, NumberFault> {

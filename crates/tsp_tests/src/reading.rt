@@ -1,9 +1,9 @@
 //! A reader's bytes, taken whole up to a limit.
 
+use crate::asserts::{holds, holds_at, same, same_at};
 use std::io::{ErrorKind, Read};
 use std::test::Fail;
 use tsp_stream::{InputFault, Watched, read_whole};
-use tsp_testing::asserts::{holds, holds_at, same, same_at};
 use tsp_testing::devices::{Flood, NEVER, Trickle, outcome};
 
 #[test]

@@ -1,10 +1,10 @@
 //! Verdicts on tours and on routes: examples worked by hand.
 
+use crate::asserts::{same, same_at};
 use std::alloc::{AllocError, Global};
 use std::test::Fail;
 use tsp_cost::Instance;
 use tsp_fields::{Draft, File};
-use tsp_testing::asserts::{same, same_at};
 use tsp_testing::drafts::{file_of, rectangle, tours, upper_row};
 use tsp_value::{Kind, Layout, WeightFormat};
 use tsp_verdict::{Reason, Verdict, judge_routes, judge_tour};

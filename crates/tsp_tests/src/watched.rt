@@ -1,9 +1,9 @@
 //! Watched readers and writers: each call is handed on once, and its outcome as it is.
 
+use crate::asserts::{holds, holds_at, same, same_at};
 use std::io::{ErrorKind, Read, Write};
 use std::test::Fail;
 use tsp_stream::Watched;
-use tsp_testing::asserts::{holds, holds_at, same, same_at};
 use tsp_testing::devices::{Drip, NEVER, Refusal, Trickle, outcome};
 
 /// Kinds of errors, an interruption among them, which is an error like any other.

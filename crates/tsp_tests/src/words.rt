@@ -1,8 +1,8 @@
 //! The words of TSPLIB 95 and of this project's own additions, spelled out.
 
+use crate::asserts::{same, same_at};
 use std::fmt::Debug;
 use std::process::Abort;
-use tsp_testing::asserts::{same, same_at};
 use tsp_value::{
     CoordKind, DisplayKind, Field, Kind, Layout, WeightFormat, WeightKind, Word, value_of,
 };

@@ -1,12 +1,12 @@
 //! The canonical text: whole texts by hand, and writers that take little, or fail.
 
+use crate::asserts::{holds, holds_at, same, same_at};
 use std::alloc::Global;
 use std::io::{ErrorKind, Write};
 use std::test::Fail;
 use tsp_fields::Draft;
 use tsp_file::write_file;
 use tsp_stream::{Watched, WriteFault};
-use tsp_testing::asserts::{holds, holds_at, same, same_at};
 use tsp_testing::devices::{Drip, NEVER, Refusal, outcome};
 use tsp_testing::drafts::{file_of, four_nodes, rectangle, two_tours};
 use tsp_value::{Kind, Layout};

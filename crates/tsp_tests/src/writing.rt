@@ -1,12 +1,12 @@
 //! The way of a text to a writer, and how often the writer is asked.
 
+use crate::asserts::{holds, same, same_at};
 use std::io::{ErrorKind, Write};
 use std::test::Fail;
 use tsp_stream::{
     PIECE, Piece, Watched, WriteFault, hand_over, put, put_next_number, put_number, send,
     write_text,
 };
-use tsp_testing::asserts::{holds, same, same_at};
 use tsp_testing::devices::{Drip, Refusal, outcome};
 
 #[test]

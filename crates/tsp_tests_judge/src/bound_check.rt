@@ -9,12 +9,12 @@ mod limits;
 mod pieces;
 mod reasons;
 
+use crate::asserts::same_at;
 use std::alloc::{AllocError, Global};
 use std::io::{Read, Write};
 use std::process::Abort;
 use tsp_judge::{RunFault, run_bound_check};
 use tsp_stream::Watched;
-use tsp_testing::asserts::same_at;
 
 /// An instance of three nodes whose costs depend on the direction.
 const THREE_NODES: &str =

@@ -4,12 +4,12 @@ mod failures;
 mod fields;
 mod layouts;
 
+use crate::asserts::same_at;
 use std::alloc::{AllocError, Global};
 use std::io::{Read, Write};
 use std::process::Abort;
 use tsp_judge::{RunFault, run_convert};
 use tsp_stream::Watched;
-use tsp_testing::asserts::same_at;
 use tsp_value::{Layout, Word};
 
 /// Four nodes: node 2 is at 1 from all, the others are at 2 from each other.

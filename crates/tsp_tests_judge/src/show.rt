@@ -3,12 +3,12 @@
 mod failures;
 mod lines;
 
+use crate::asserts::same_at;
 use std::alloc::{AllocError, Global};
 use std::io::{Read, Write};
 use std::process::Abort;
 use tsp_judge::{RunFault, run_show};
 use tsp_stream::Watched;
-use tsp_testing::asserts::same_at;
 
 /// The rectangle with the sides 3 and 4.
 const RECTANGLE: &str =

@@ -13,6 +13,7 @@ mod ranges;
 mod readers;
 mod sections;
 
+use crate::asserts::same_at;
 use std::alloc::Global;
 use std::process::Abort;
 use std::test::Fail;
@@ -20,7 +21,6 @@ use tsp_fields::{EndFault, File};
 use tsp_file::write_file;
 use tsp_read::{LineFault, ReadFault, read_bytes};
 use tsp_stream::Watched;
-use tsp_testing::asserts::same_at;
 use tsp_testing::devices::Drip;
 
 /// A text, the line and the word of its first fault, and its name.

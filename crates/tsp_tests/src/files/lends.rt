@@ -1,7 +1,7 @@
 //! What a file lends: each field by the call of its name.
 
+use crate::asserts::{holds, same};
 use std::test::Fail;
-use tsp_testing::asserts::{holds, same};
 use tsp_testing::drafts::{file_of, points, rectangle, tours};
 use tsp_value::{CoordKind, DisplayKind, Kind, Layout, WeightFormat, WeightKind};
 

@@ -1,9 +1,9 @@
 //! Each limit, in digits: a draft at the limit is a file, and one past it isn't.
 
+use crate::asserts::same_at;
 use std::alloc::{AllocError, Global};
 use std::test::Fail;
 use tsp_fields::{Draft, DraftFault};
-use tsp_testing::asserts::same_at;
 use tsp_testing::drafts::{bad, fault, tours, upper_row};
 use tsp_value::{Field, Kind, Layout, WeightFormat};
 

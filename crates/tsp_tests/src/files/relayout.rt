@@ -1,10 +1,10 @@
 //! Weights put into another layout: tables by hand, each refusal, and what stays.
 
+use crate::asserts::{same, same_at};
 use std::alloc::Global;
 use std::process::Abort;
 use std::test::Fail;
 use tsp_fields::{Draft, File, RelayoutFault};
-use tsp_testing::asserts::{same, same_at};
 use tsp_testing::drafts::{file_of, rectangle, tours, two_tours, upper_row};
 use tsp_value::{Kind, Layout, WeightFormat, WeightKind};
 

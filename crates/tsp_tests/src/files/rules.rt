@@ -1,9 +1,9 @@
 //! Which drafts are refused and with what, and what a file lends.
 
+use crate::asserts::{holds, same, same_at};
 use std::alloc::Global;
 use std::test::Fail;
 use tsp_fields::{Draft, DraftFault, EndFault, File, end_fault, is_kept};
-use tsp_testing::asserts::{holds, same, same_at};
 use tsp_testing::drafts::{
     WRONG_COUNT, WRONG_FORMAT, bad, fault, file_of, missing, points, rectangle, tours, upper_row,
 };

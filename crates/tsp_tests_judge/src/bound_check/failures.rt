@@ -1,12 +1,12 @@
 //! Readers and writers that fail, or had failed before.
 
 use super::{DUALS, REPORT, ROUTES, THREE_NODES, TOUR, judged, printed};
+use crate::asserts::{holds, same, same_at};
 use std::alloc::Global;
 use std::io::{ErrorKind, Read, Write};
 use std::test::Fail;
 use tsp_judge::{ReadFault, RunFault};
 use tsp_stream::{Watched, WriteFault};
-use tsp_testing::asserts::{holds, same, same_at};
 use tsp_testing::devices::{Drip, NEVER, Refusal, Trickle, outcome};
 
 /// No file.

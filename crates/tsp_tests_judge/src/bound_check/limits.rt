@@ -1,11 +1,11 @@
 //! A certificate that never ends, and an instance of many nodes.
 
 use super::{DUALS, REPORT, THREE_NODES, TOUR, judged, reports};
+use crate::asserts::{holds_at, same};
 use std::alloc::{AllocError, Global};
 use std::test::Fail;
 use tsp_judge::{ReadFault, RunFault};
 use tsp_stream::Watched;
-use tsp_testing::asserts::{holds_at, same};
 use tsp_testing::devices::Flood;
 
 /// The most bytes that are taken from a reader that gives all that it is asked for.

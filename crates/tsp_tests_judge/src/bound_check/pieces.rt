@@ -1,9 +1,9 @@
 //! Readers that hand out, and writers that take, a few bytes at a time.
 
 use super::{AROUND, DUALS, RECTANGLE, REPORT, THREE_NODES, TOUR, ZEROS, judged, printed};
+use crate::asserts::same_at;
 use std::test::Fail;
 use tsp_stream::Watched;
-use tsp_testing::asserts::same_at;
 use tsp_testing::devices::{Drip, NEVER, Refusal, Trickle};
 
 /// How many bytes a call hands out or takes.

@@ -1,11 +1,11 @@
 //! Readers and writers that fail, or had failed before.
 
 use super::{POTENTIALS, REPORT, THREE_NODES, TOUR, judged};
+use crate::asserts::{holds, same, same_at};
 use std::io::{ErrorKind, Read, Write};
 use std::test::Fail;
 use tsp_judge::{EndFault, ReadFault, RunFault};
 use tsp_stream::{Watched, WriteFault};
-use tsp_testing::asserts::{holds, same, same_at};
 use tsp_testing::devices::{Drip, NEVER, Refusal, Trickle, outcome};
 use tsp_value::Field;
 

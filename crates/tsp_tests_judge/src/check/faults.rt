@@ -3,10 +3,10 @@
 use super::{
     POTENTIALS, RECTANGLE, THREE_NODES, TOUR, full_matrix, judged, printed, reports, stops,
 };
+use crate::asserts::{same, same_at};
 use std::io::ErrorKind;
 use std::test::Fail;
 use tsp_stream::Watched;
-use tsp_testing::asserts::{same, same_at};
 use tsp_testing::devices::{NEVER, Trickle};
 
 /// An instance with a word that is no number.

@@ -1,11 +1,11 @@
 //! Files about as long as the limit, and files that never end: most tests read a gigabyte or more.
 
 use super::{REPORT, THREE_NODES, TOUR, judged};
+use crate::asserts::{holds, holds_at, same, same_at};
 use std::alloc::{AllocError, Global};
 use std::test::Fail;
 use tsp_judge::{LineFault, ReadFault, RunFault};
 use tsp_stream::Watched;
-use tsp_testing::asserts::{holds, holds_at, same, same_at};
 use tsp_testing::devices::{Flood, Repeats};
 
 /// How many bytes of a file count.

@@ -1,9 +1,9 @@
 //! Routes of a rectangle with the sides 3 and 4, whose reports were made by hand.
 
 use super::check_texts;
+use crate::asserts::same_at;
 use std::alloc::{AllocError, Global};
 use std::test::Fail;
-use tsp_testing::asserts::same_at;
 
 /// The rectangle with this capacity, these demands by node, and these words of the depots.
 fn rectangle(

@@ -1,11 +1,11 @@
 //! Verdicts as values, on files that were not read from bytes.
 
+use crate::asserts::same_at;
 use std::alloc::{AllocError, Global};
 use std::test::Fail;
 use tsp_cost::Instance;
 use tsp_fields::{Draft, File};
 use tsp_judge::{Reason, Verdict, judge_tour};
-use tsp_testing::asserts::same_at;
 use tsp_testing::drafts::{file_of, points, upper_row};
 use tsp_value::{Kind, Layout, WeightFormat, WeightKind};
 

@@ -1,11 +1,11 @@
 //! Readers and writers that do little at a time, fail, or had failed before, and the texts of faults.
 
 use super::{STAR, converted};
+use crate::asserts::{holds, same, same_at};
 use std::io::{ErrorKind, Read, Write};
 use std::test::Fail;
 use tsp_judge::{EndFault, ReadFault, RelayoutFault, RunFault};
 use tsp_stream::{Watched, WriteFault};
-use tsp_testing::asserts::{holds, same, same_at};
 use tsp_testing::devices::{Drip, NEVER, Refusal, Trickle, outcome};
 use tsp_value::{Field, Layout};
 

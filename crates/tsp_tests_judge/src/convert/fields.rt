@@ -1,9 +1,9 @@
 //! What a file becomes, field by field. All texts were made by hand.
 
 use super::{RECTANGLE, STAR, becomes, stops};
+use crate::asserts::same;
 use std::test::Fail;
 use tsp_stream::Watched;
-use tsp_testing::asserts::same;
 use tsp_value::Layout;
 
 /// Texts, and the canonical texts of the same files.

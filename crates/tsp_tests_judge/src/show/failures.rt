@@ -1,10 +1,10 @@
 //! Readers and writers that do little at a time, fail, or had failed before.
 
 use super::{RECTANGLE, RECTANGLE_SHOWN, shown};
+use crate::asserts::{holds, same, same_at};
 use std::io::{ErrorKind, Read, Write};
 use tsp_judge::{EndFault, ReadFault, RunFault};
 use tsp_stream::{Watched, WriteFault};
-use tsp_testing::asserts::{holds, same, same_at};
 use tsp_testing::devices::{Drip, NEVER, Refusal, Trickle, outcome};
 use tsp_value::Field;
 

@@ -1,10 +1,10 @@
 //! The lines of files of each TYPE, made by hand.
 
 use super::{RECTANGLE, RECTANGLE_SHOWN, shows, stops, with_lines};
+use crate::asserts::same;
 use std::alloc::{AllocError, Global};
 use std::test::Fail;
 use tsp_stream::Watched;
-use tsp_testing::asserts::same;
 
 /// Files, and what is shown of them.
 const FILES: &[(&str, &str)] = &[

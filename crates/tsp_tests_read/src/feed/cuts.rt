@@ -1,8 +1,8 @@
 //! Short texts in every cut into two pieces, and byte by byte.
 
 use super::{EXAMPLES, answer_by_bytes, answer_in, answer_of, wanted};
+use crate::asserts::same_at;
 use std::test::Fail;
-use tsp_testing::asserts::same_at;
 
 #[test]
 fn a_text_as_a_whole_has_its_answer(rt: HostRuntime) -> Result<(), Fail> {

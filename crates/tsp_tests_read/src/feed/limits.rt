@@ -1,13 +1,13 @@
 //! Lines, words and texts at their limits, in pieces.
 
 use super::{answer_in, at, feed_all, file};
+use crate::asserts::{same, same_at};
 use std::alloc::Global;
 use std::test::Fail;
 use tsp_fields::EndFault;
 use tsp_number::NumberFault::LongWord;
 use tsp_read::LineFault::{LongLine, Number};
 use tsp_read::{Feed, ReadFault};
-use tsp_testing::asserts::{same, same_at};
 use tsp_value::Field;
 
 /// A line of so many bytes, most of them blanks at its end.

@@ -3,12 +3,12 @@
 use super::{
     CANONICAL_TOUR, TOUR, answer, answer_by_bytes, answer_in, answer_of, at, feed_all, file,
 };
+use crate::asserts::{same, same_at};
 use std::test::Fail;
 use tsp_fields::EndFault;
 use tsp_number::NumberFault::{BadNumber, LongWord};
 use tsp_read::LineFault::{Number, Outside, UnknownLine};
 use tsp_read::{Feed, ReadFault};
-use tsp_testing::asserts::{same, same_at};
 use tsp_value::Field;
 
 /// The fault of a text without a line TYPE.

@@ -1,6 +1,7 @@
 //! Readers that hand out little at a time, and readers that must not be asked once more.
 
 use super::{Answer, CANONICAL_TOUR, EXAMPLES, RECTANGLE, TOUR, answer, at, file, wanted};
+use crate::asserts::{holds_at, same, same_at};
 use std::alloc::Global;
 use std::io::{Error, ErrorKind, Read, Result as IoResult};
 use std::test::Fail;
@@ -8,7 +9,6 @@ use tsp_number::NumberFault::BadNumber;
 use tsp_read::LineFault::{Number, Outside, UnknownLine};
 use tsp_read::{ReadFault, read_from};
 use tsp_stream::Watched;
-use tsp_testing::asserts::{holds_at, same, same_at};
 use tsp_testing::devices::{Flood, Trickle};
 
 /// What reading from a reader answers.

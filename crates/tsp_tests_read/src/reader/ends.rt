@@ -1,10 +1,10 @@
 //! Faults at the end: what is missing, incomplete, or doesn't fit.
 
 use super::{EndRow, fault_of, file_of, have_end_faults};
+use crate::asserts::{same, same_at};
 use std::test::Fail;
 use tsp_fields::EndFault::{Incomplete, Missing, WrongCount, WrongFormat};
 use tsp_read::ReadFault;
-use tsp_testing::asserts::{same, same_at};
 use tsp_value::{Field, Kind, WeightFormat};
 
 const MISSING: &[EndRow] = &[

@@ -3,6 +3,7 @@
 use super::{
     EndRow, LineRow, at, fault_of, file_of, have_end_faults, have_line_faults, tours_with,
 };
+use crate::asserts::{same, same_at};
 use std::test::Fail;
 use tsp_fields::EndFault;
 use tsp_number::NumberFault::{BadNumber, OutOfRange};
@@ -11,7 +12,6 @@ use tsp_read::LineFault::{
     SelfEdge, StrayNumber, Surplus, TooManyNodes, UnknownLine,
 };
 use tsp_read::{LineFault, ReadFault};
-use tsp_testing::asserts::{same, same_at};
 use tsp_testing::drafts::points;
 use tsp_value::{Field, Kind, WeightKind};
 

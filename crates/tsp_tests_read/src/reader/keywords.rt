@@ -2,10 +2,10 @@
 //! stand.
 
 use super::{LineRow, at, fault_of, file_of, have_line_faults, tours_with};
+use crate::asserts::{same, same_at};
 use std::test::Fail;
 use tsp_number::NumberFault::{BadNumber, NotWhole, OutOfRange, TooFine};
 use tsp_read::LineFault::{BadValue, Number, Outside, Repeated, SectionEarly, SectionValue};
-use tsp_testing::asserts::{same, same_at};
 use tsp_value::{CoordKind, DisplayKind, Kind, Layout, WeightFormat, WeightKind};
 
 const KINDS: &[(&str, Kind)] = &[

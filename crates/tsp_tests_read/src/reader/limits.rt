@@ -1,6 +1,7 @@
 //! Each limit of a text, in digits: what is still read, and what isn't.
 
 use super::{LineRow, at, fault_of, file_of, have_line_faults};
+use crate::asserts::same_at;
 use std::alloc::{AllocError, Global};
 use std::test::Fail;
 use tsp_fields::EndFault;
@@ -9,7 +10,6 @@ use tsp_read::LineFault::{
     AfterEnd, BadValue, LongLine, Number, StrayNumber, Surplus, UnknownLine,
 };
 use tsp_read::{LineFault, ReadFault};
-use tsp_testing::asserts::same_at;
 use tsp_value::Field;
 
 /// The fault of a text that has no line with a fault, and no TYPE.

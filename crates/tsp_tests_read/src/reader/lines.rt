@@ -1,11 +1,11 @@
 //! Lines, blanks, keywords and values, and the line EOF.
 
 use super::{LineRow, are_written_as, file_of, have_line_faults};
+use crate::asserts::{same, same_at};
 use std::test::Fail;
 use tsp_number::NumberFault::BadNumber;
 use tsp_read::LineFault::{BadValue, Number, Outside, SectionValue, StrayNumber, UnknownLine};
 use tsp_read::read_bytes;
-use tsp_testing::asserts::{same, same_at};
 
 const LINES: &[LineRow] = &[
     ("\n \n\t\r\n\x0b\x0c\nFOO", 5, 0, UnknownLine),

@@ -1,10 +1,10 @@
 //! A line and a word of the most bytes, in pieces of one size.
 
 use super::written;
+use crate::asserts::same_at;
 use std::alloc::Global;
 use std::test::Fail;
 use tsp_read::{Feed, ReadFault};
-use tsp_testing::asserts::same_at;
 
 /// What the pieces of a text answer: the canonical text of its file, or the fault of a piece or of
 /// the end.

@@ -1,12 +1,12 @@
 //! The texts of faults, which no contract states.
 
 use super::fault_of;
+use crate::asserts::same_at;
 use std::process::Abort;
 use std::test::Fail;
 use tsp_fields::EndFault;
 use tsp_number::NumberFault;
 use tsp_read::{LineFault, ReadFault};
-use tsp_testing::asserts::same_at;
 use tsp_value::Field;
 
 /// Faults, and their texts.

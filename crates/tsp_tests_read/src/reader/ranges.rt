@@ -1,13 +1,13 @@
 //! The words of each section that have a fault, and those that have no place in it.
 
 use super::{LineRow, at, fault_of, have_end_faults, have_line_faults};
+use crate::asserts::same_at;
 use std::test::Fail;
 use tsp_fields::EndFault;
 use tsp_number::NumberFault;
 use tsp_number::NumberFault::{BadNumber, NotWhole, OutOfRange, TooFine};
 use tsp_read::LineFault;
 use tsp_read::LineFault::{AfterEnd, Number, RepeatedNode, SelfEdge, StrayNumber, Surplus};
-use tsp_testing::asserts::same_at;
 use tsp_value::Field;
 
 /// Words of a section of points of two nodes, the place of the first with a fault, and its fault.

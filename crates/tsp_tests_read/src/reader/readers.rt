@@ -1,6 +1,7 @@
 //! Texts that come from a reader: one that does little at a time, fails, or never ends.
 
 use super::{at, written};
+use crate::asserts::{holds, holds_at, same, same_at};
 use std::alloc::Global;
 use std::io::{ErrorKind, Read};
 use std::test::Fail;
@@ -9,7 +10,6 @@ use tsp_number::NumberFault::BadNumber;
 use tsp_read::LineFault::{Number, UnknownLine};
 use tsp_read::{ReadFault, read_bytes, read_from};
 use tsp_stream::Watched;
-use tsp_testing::asserts::{holds, holds_at, same, same_at};
 use tsp_testing::devices::{Flood, Trickle, outcome};
 use tsp_value::Field;
 

@@ -1,8 +1,8 @@
 //! What the words of a section are read as.
 
 use super::{are_written_as, file_of};
+use crate::asserts::{same, same_at};
 use std::test::Fail;
-use tsp_testing::asserts::{same, same_at};
 use tsp_testing::drafts::points;
 
 /// Texts of the points (0, 1.5), (-2, 3) and (0.5, -1), by node.
