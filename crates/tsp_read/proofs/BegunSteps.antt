@@ -5,11 +5,11 @@ use Rattle.std.proofs.lemmas.Bool.{true≢false, false≢true, ltb-false, lt-ltb
 use Rattle.std.proofs.lemmas.List.{nil_from_length}
 use Rattle.tsp_value.specs.Bytes.{is_blank, is_letter}
 use Rattle.tsp_value.specs.Limits.{most_word_bytes, most_line_bytes}
-use Rattle.tsp_read.specs.declared.fault.ReadFault.{ReadFault}
+use Rattle.tsp_items.specs.declared.fault.ReadFault.{ReadFault}
 use Rattle.tsp_read.specs.declared.intake.Intake.{Intake}
 use Rattle.tsp_read.specs.declared.begun.Begun.{Begun}
-use Rattle.tsp_read.specs.Lines.{ends_line, is_filled, without_start}
-use Rattle.tsp_read.specs.Items.{Item, NumberWord, LineEnd, line_item}
+use Rattle.tsp_items.specs.Lines.{ends_line, is_filled, without_start}
+use Rattle.tsp_items.specs.Items.{Item, NumberWord, LineEnd, line_item}
 use Rattle.tsp_read.specs.Left.{items_left, ends_word, before, from, is_settled}
 use Rattle.tsp_read.specs.Onward.{GivesNext}
 use Rattle.tsp_read.specs.Intake.{Stands, TakesNext, IsReadTo, HasEnded, StopsAt}

@@ -9,20 +9,20 @@ use Rattle.tsp_value.specs.declared.keyword.Keyword.TheVariants.{Known, EdgeData
 use Rattle.tsp_fields.specs.Fields.{Fields, fields_of}
 use Rattle.tsp_read.specs.declared.state.part.Part.TheVariants.{Coords, Display, Demands, Depots, Fixed, Weights, Tours, NodePotentials, RowPotentials, ColumnPotentials}
 use Rattle.tsp_read.specs.declared.state.reading.Reading.{Reading}
-use Rattle.tsp_read.specs.Items.{Item, Line, NumberWord, LineEnd}
-use Rattle.tsp_read.specs.Earlier.{same_field, is_key, is_section_field, opened_by, has_line, open_section, words_of}
-use Rattle.tsp_read.specs.Groups.{points_by_node, place_of_point}
-use Rattle.tsp_read.specs.Lists.{depots_in, fixed_in, place_of_fixed}
-use Rattle.tsp_read.specs.Weights.{weights_in}
-use Rattle.tsp_read.specs.Tours.{tours_in}
-use Rattle.tsp_read.specs.Sections.{nodes_of, place_of_demand, place_of_potential}
-use Rattle.tsp_read.specs.Spells.{fields_by, demands_in, potentials_in, wants_more, is_incomplete}
-use Rattle.tsp_read.specs.declared.parts.numbers.NumberList.{NumberList}
-use Rattle.tsp_read.specs.declared.parts.points.PointList.{PointList}
-use Rattle.tsp_read.specs.declared.parts.depots.DepotList.{DepotList}
-use Rattle.tsp_read.specs.declared.parts.fixed.FixedList.{FixedList}
-use Rattle.tsp_read.specs.declared.parts.weights.WeightList.{WeightList}
-use Rattle.tsp_read.specs.declared.parts.tours.TourList.{TourList}
+use Rattle.tsp_items.specs.Items.{Item, Line, NumberWord, LineEnd}
+use Rattle.tsp_items.specs.Earlier.{same_field, is_key, is_section_field, opened_by, has_line, open_section, words_of}
+use Rattle.tsp_items.specs.Groups.{points_by_node, place_of_point}
+use Rattle.tsp_items.specs.Lists.{depots_in, fixed_in, place_of_fixed}
+use Rattle.tsp_items.specs.Weights.{weights_in}
+use Rattle.tsp_items.specs.Tours.{tours_in}
+use Rattle.tsp_items.specs.Sections.{nodes_of, place_of_demand, place_of_potential}
+use Rattle.tsp_items.specs.Spells.{fields_by, demands_in, potentials_in, wants_more, is_incomplete}
+use Rattle.tsp_items.specs.declared.parts.numbers.NumberList.{NumberList}
+use Rattle.tsp_items.specs.declared.parts.points.PointList.{PointList}
+use Rattle.tsp_items.specs.declared.parts.depots.DepotList.{DepotList}
+use Rattle.tsp_items.specs.declared.parts.fixed.FixedList.{FixedList}
+use Rattle.tsp_items.specs.declared.parts.weights.WeightList.{WeightList}
+use Rattle.tsp_items.specs.declared.parts.tours.TourList.{TourList}
 use Rattle.tsp_read.specs.Open.{PartHolds}
 use Rattle.tsp_read.specs.Holds.{fields_there, is_closed, is_closed_incomplete, flags_in, tests_at, OpenHolds, Holds, Closed}
 use Rattle.tsp_read.proofs.WordSteps.{same_self}

@@ -11,7 +11,7 @@ use Rattle.std.proofs.lemmas.List.FromFn.{length-map-range_with_len, get_or-map-
 use Rattle.std.proofs.lemmas.List.Sorted.{IsPermutation-refl, IsPermutation-remove, IsPermutation-cons, IsPermutation-sym, IsPermutation-trans, Contains-permutation, length_permutation}
 use Rattle.tsp_value.specs.Cells.{nodes_to}
 use Rattle.tsp_fields.specs.Validity.{is_node}
-use Rattle.tsp_read.specs.Numbers.{number, reads_as, node}
+use Rattle.tsp_items.specs.Numbers.{number, reads_as, node}
 use Rattle.tsp_read.specs.ByNode.{HasEachOnce}
 use Rattle.tsp_read.proofs.ValidNumbers.{read_node}
 

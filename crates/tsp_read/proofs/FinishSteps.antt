@@ -8,11 +8,11 @@ use Rattle.tsp_fields.specs.Fields.{Fields, fields_of}
 use Rattle.tsp_fields.specs.Rules.{standing_of, end_fault, fault_of}
 use Rattle.tsp_read.specs.declared.state.reading.Incomplete.{Incomplete}
 use Rattle.tsp_read.specs.declared.state.reading.Reading.{Reading}
-use Rattle.tsp_read.specs.Items.{Item}
-use Rattle.tsp_read.specs.Earlier.{has_line, words_of}
-use Rattle.tsp_read.specs.Places.{Place, DepotAfter, PastEnd, Weight, PastWeights}
-use Rattle.tsp_read.specs.Sections.{place_in, nodes_of}
-use Rattle.tsp_read.specs.Spells.{spelled, wants_more, is_incomplete, first_incomplete, fault_at_end}
+use Rattle.tsp_items.specs.Items.{Item}
+use Rattle.tsp_items.specs.Earlier.{has_line, words_of}
+use Rattle.tsp_items.specs.Places.{Place, DepotAfter, PastEnd, Weight, PastWeights}
+use Rattle.tsp_items.specs.Sections.{place_in, nodes_of}
+use Rattle.tsp_items.specs.Spells.{spelled, wants_more, is_incomplete, first_incomplete, fault_at_end}
 use Rattle.tsp_read.specs.Cuts.{AreCut}
 use Rattle.tsp_read.specs.Holds.{FlagsHold, Closed}
 use Rattle.tsp_read.specs.declared.state.finish.FinishFault.{FinishFault}

@@ -11,9 +11,9 @@ use Rattle.tsp_number.specs.Front.{BeginsWithNumber}
 use Rattle.tsp_number.proofs.WordLaws.{whole_once, whole_of-reads}
 use Rattle.tsp_value.specs.Bytes.{is_blank, is_letter}
 use Rattle.tsp_value.specs.Limits.{most_word_bytes}
-use Rattle.tsp_read.specs.Numbers.{sized}
-use Rattle.tsp_read.specs.Lines.{ends_line, is_filled, without_start}
-use Rattle.tsp_read.specs.Items.{Item, NumberWord}
+use Rattle.tsp_items.specs.Numbers.{sized}
+use Rattle.tsp_items.specs.Lines.{ends_line, is_filled, without_start}
+use Rattle.tsp_items.specs.Items.{Item, NumberWord}
 use Rattle.tsp_read.specs.Left.{items_left, ends_word, before, from}
 use Rattle.tsp_read.specs.Onward.{is_over_long, GivesNext}
 use Rattle.tsp_read.specs.Front.{front_word, LeavesEnd}

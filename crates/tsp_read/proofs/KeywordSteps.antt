@@ -15,17 +15,17 @@ use Rattle.tsp_value.specs.declared.keyword.Keyword.TheVariants.{Known}
 use Rattle.tsp_value.specs.Limits.{most_nodes, most_capacity, most_scale, most_line_bytes}
 use Rattle.tsp_value.specs.Words.{kind_word, weight_kind_word, weight_format_word, coord_kind_word, display_kind_word, kinds, weight_kinds, weight_formats, coord_kinds, display_kinds}
 use Rattle.tsp_fields.specs.Fields.{Fields, fields_of}
-use Rattle.tsp_read.specs.declared.fault.StepFault.{StepFault}
-use Rattle.tsp_read.specs.declared.fault.StepFault.TheVariants as steps
+use Rattle.tsp_items.specs.declared.fault.StepFault.{StepFault}
+use Rattle.tsp_items.specs.declared.fault.StepFault.TheVariants as steps
 use Rattle.tsp_read.specs.declared.state.part.Part.{Part}
 use Rattle.tsp_read.specs.declared.state.reading.Reading.{Reading}
-use Rattle.tsp_read.specs.Lines.{is_filled, first_word}
-use Rattle.tsp_read.specs.Items.{WordLine, Item, Line}
-use Rattle.tsp_read.specs.Earlier.{has_line, open_section}
-use Rattle.tsp_read.specs.Values.{kind_named, weight_kind_named, weight_format_named, coord_kind_named, display_kind_named, is_left_out}
-use Rattle.tsp_read.specs.Rows.{row_of}
-use Rattle.tsp_read.specs.Spells.{fields_by, is_incomplete}
-use Rattle.tsp_read.specs.CutLine.{named_rows, SetsNamed, numbered_rows, SetsNumber, SetsCount}
+use Rattle.tsp_items.specs.Lines.{is_filled, first_word}
+use Rattle.tsp_items.specs.Items.{WordLine, Item, Line}
+use Rattle.tsp_items.specs.Earlier.{has_line, open_section}
+use Rattle.tsp_items.specs.Values.{kind_named, weight_kind_named, weight_format_named, coord_kind_named, display_kind_named, is_left_out}
+use Rattle.tsp_items.specs.Rows.{row_of}
+use Rattle.tsp_items.specs.Spells.{fields_by, is_incomplete}
+use Rattle.tsp_items.specs.CutLine.{named_rows, SetsNamed, numbered_rows, SetsNumber, SetsCount}
 use Rattle.tsp_read.specs.Holds.{fields_there, sections_there, is_closed, is_closed_incomplete, flags_in, tests_at, OpenHolds, LineAnswers}
 use Rattle.tsp_read.proofs.Clean.{clean_more}
 

@@ -1,9 +1,4 @@
 pub mod Clean
-pub mod DepotSteps
-pub mod Ended
-pub mod FixedSteps
-pub mod PairWords
-pub mod WeightSteps
 pub mod WordSteps
 pub mod ValidRows
 pub mod ValidSections
@@ -35,14 +30,7 @@ pub mod SettledFaults
 pub mod EachOnce
 pub mod Shapes
 pub mod ByNodeWords
-pub mod NodeGroups
-pub mod NumberSteps
-pub mod PointSteps
-pub mod TripleWords
-pub mod Pieces
-pub mod TourSteps
 pub mod FinishSteps
-pub mod Readings
 pub mod ReadSteps
 pub mod IntakeSteps
 pub mod FrontSteps

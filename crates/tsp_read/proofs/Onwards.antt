@@ -4,8 +4,8 @@ use Rattle.std.specs.Prelude.{not, ◌||◌, ◌&&◌}
 use Rattle.std.specs.List.{position_or_len}
 use Rattle.tsp_value.specs.Bytes.{is_blank, is_letter}
 use Rattle.tsp_value.specs.Limits.{most_word_bytes, most_line_bytes}
-use Rattle.tsp_read.specs.Lines.{ends_line, is_filled, without_start}
-use Rattle.tsp_read.specs.Items.{NumberWord, LineEnd, line_item}
+use Rattle.tsp_items.specs.Lines.{ends_line, is_filled, without_start}
+use Rattle.tsp_items.specs.Items.{NumberWord, LineEnd, line_item}
 use Rattle.tsp_read.specs.Left.{ends_word, before, from, is_settled}
 use Rattle.tsp_read.specs.Onward.{is_over_long, GivesNext}
 use Rattle.tsp_read.proofs.LeftSteps.{start_blank, start_filled}

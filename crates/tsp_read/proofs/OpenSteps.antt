@@ -6,30 +6,30 @@ use Rattle.tsp_value.specs.declared.field.Field.TheVariants.{DimensionKey, NodeC
 use Rattle.tsp_value.specs.declared.keyword.Keyword.TheVariants.{Known, EdgeDataFormat, EdgeDataSection, Eof, Unknown}
 use Rattle.tsp_value.specs.Limits.{most_line_bytes}
 use Rattle.tsp_fields.specs.Fields.{Fields, fields_of}
-use Rattle.tsp_read.specs.declared.fault.LineFault.{LineFault}
-use Rattle.tsp_read.specs.declared.fault.LineFault.TheVariants as row
+use Rattle.tsp_items.specs.declared.fault.LineFault.{LineFault}
+use Rattle.tsp_items.specs.declared.fault.LineFault.TheVariants as row
 use Rattle.tsp_read.specs.declared.state.part.Part.{Part}
-use Rattle.tsp_read.specs.declared.parts.numbers.NumberList.{NumberList}
-use Rattle.tsp_read.specs.declared.parts.points.PointList.{PointList}
-use Rattle.tsp_read.specs.declared.parts.depots.DepotList.{DepotList}
-use Rattle.tsp_read.specs.declared.parts.fixed.FixedList.{FixedList}
-use Rattle.tsp_read.specs.declared.parts.weights.WeightList.{WeightList}
-use Rattle.tsp_read.specs.declared.parts.tours.TourList.{TourList}
+use Rattle.tsp_items.specs.declared.parts.numbers.NumberList.{NumberList}
+use Rattle.tsp_items.specs.declared.parts.points.PointList.{PointList}
+use Rattle.tsp_items.specs.declared.parts.depots.DepotList.{DepotList}
+use Rattle.tsp_items.specs.declared.parts.fixed.FixedList.{FixedList}
+use Rattle.tsp_items.specs.declared.parts.weights.WeightList.{WeightList}
+use Rattle.tsp_items.specs.declared.parts.tours.TourList.{TourList}
 use Rattle.tsp_read.specs.declared.state.reading.Reading.{Reading}
-use Rattle.tsp_read.specs.Lines.{is_filled}
-use Rattle.tsp_read.specs.Items.{WordLine, Item, Line}
-use Rattle.tsp_read.specs.Earlier.{has_line, open_section}
-use Rattle.tsp_read.specs.Rows.{row_of, when, first_row}
-use Rattle.tsp_read.specs.Spells.{fields_by, is_incomplete}
-use Rattle.tsp_read.specs.CutLine.{MayOpen}
+use Rattle.tsp_items.specs.Lines.{is_filled}
+use Rattle.tsp_items.specs.Items.{WordLine, Item, Line}
+use Rattle.tsp_items.specs.Earlier.{has_line, open_section}
+use Rattle.tsp_items.specs.Rows.{row_of, when, first_row}
+use Rattle.tsp_items.specs.Spells.{fields_by, is_incomplete}
+use Rattle.tsp_items.specs.CutLine.{MayOpen}
 use Rattle.tsp_read.specs.Holds.{fields_there, is_closed, is_closed_incomplete, flags_in, tests_at, OpenHolds, Holds, Closed}
 use Rattle.tsp_read.proofs.Clean.{clean_more}
 use Rattle.tsp_read.specs.declared.state.part.Part.TheVariants.{Coords, Display, Demands, Depots, Fixed, Weights, Tours, NodePotentials, RowPotentials, ColumnPotentials}
 use Rattle.tsp_value.specs.Limits.{most_matrix_nodes}
-use Rattle.tsp_read.specs.Items.{NumberWord, LineEnd}
+use Rattle.tsp_items.specs.Items.{NumberWord, LineEnd}
 use Rattle.tsp_value.specs.declared.keyword.Keyword.{Keyword}
-use Rattle.tsp_read.specs.Earlier.{same_field, is_section_field, is_key, opened_by, is_open, words_of}
-use Rattle.tsp_read.specs.Sections.{nodes_of}
+use Rattle.tsp_items.specs.Earlier.{same_field, is_section_field, is_key, opened_by, is_open, words_of}
+use Rattle.tsp_items.specs.Sections.{nodes_of}
 use Rattle.tsp_read.specs.Open.{PartHolds}
 use Rattle.std.specs.Prelude.{unwrap_or, cond}
 use Rattle.tsp_read.proofs.KeywordSteps.{some_mapped}

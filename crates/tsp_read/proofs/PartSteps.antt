@@ -2,21 +2,21 @@
 use Rattle.std.proofs.Common.{◌≡◌, ℕ, List, [], ◌∷◌, ◌++◌, refl, Result}
 use Rattle.std.specs.Prelude.{ℤ, pos, neg_ℤ}
 use Rattle.tsp_value.specs.Limits.{most_demand, most_potential}
-use Rattle.tsp_read.specs.declared.fault.StepFault.{StepFault}
+use Rattle.tsp_items.specs.declared.fault.StepFault.{StepFault}
 use Rattle.tsp_read.specs.declared.state.part.Part.{Part}
 use Rattle.tsp_read.specs.declared.state.part.Part.TheVariants.{Coords, Display, Demands, Depots, Fixed, Weights, Tours, NodePotentials, RowPotentials, ColumnPotentials}
-use Rattle.tsp_read.specs.declared.parts.numbers.NumberList.{NumberList}
-use Rattle.tsp_read.specs.declared.parts.points.PointList.{PointList}
-use Rattle.tsp_read.specs.declared.parts.depots.DepotList.{DepotList}
-use Rattle.tsp_read.specs.declared.parts.fixed.FixedList.{FixedList}
-use Rattle.tsp_read.specs.declared.parts.weights.WeightList.{WeightList}
-use Rattle.tsp_read.specs.declared.parts.tours.TourList.{TourList}
-use Rattle.tsp_read.specs.Groups.{place_of_number, place_of_point}
-use Rattle.tsp_read.specs.Lists.{place_of_depot, place_of_fixed}
-use Rattle.tsp_read.specs.Weights.{place_of_weight}
-use Rattle.tsp_read.specs.Tours.{place_of_tour}
-use Rattle.tsp_read.specs.Parts.{Takes}
-use Rattle.tsp_read.specs.Held.{HoldsNumbers, HoldsPoints, HoldsDepots, HoldsFixed, HoldsWeights, HoldsTours}
+use Rattle.tsp_items.specs.declared.parts.numbers.NumberList.{NumberList}
+use Rattle.tsp_items.specs.declared.parts.points.PointList.{PointList}
+use Rattle.tsp_items.specs.declared.parts.depots.DepotList.{DepotList}
+use Rattle.tsp_items.specs.declared.parts.fixed.FixedList.{FixedList}
+use Rattle.tsp_items.specs.declared.parts.weights.WeightList.{WeightList}
+use Rattle.tsp_items.specs.declared.parts.tours.TourList.{TourList}
+use Rattle.tsp_items.specs.Groups.{place_of_number, place_of_point}
+use Rattle.tsp_items.specs.Lists.{place_of_depot, place_of_fixed}
+use Rattle.tsp_items.specs.Weights.{place_of_weight}
+use Rattle.tsp_items.specs.Tours.{place_of_tour}
+use Rattle.tsp_items.specs.Parts.{Takes}
+use Rattle.tsp_items.specs.Held.{HoldsNumbers, HoldsPoints, HoldsDepots, HoldsFixed, HoldsWeights, HoldsTours}
 use Rattle.tsp_read.specs.Open.{PartHolds, PartAfter, Pushes}
 use Rattle.tsp_read.proofs.Taken.{takes_also}
 

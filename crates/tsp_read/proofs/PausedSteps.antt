@@ -4,8 +4,8 @@ use Rattle.std.specs.Prelude.{reverse, IfSome}
 use Rattle.tsp_value.specs.Bytes.{is_blank}
 use Rattle.tsp_read.specs.declared.intake.Intake.{Intake}
 use Rattle.tsp_read.specs.declared.begun.Begun.{Begun}
-use Rattle.tsp_read.specs.Lines.{is_filled, without_start}
-use Rattle.tsp_read.specs.Items.{Item}
+use Rattle.tsp_items.specs.Lines.{is_filled, without_start}
+use Rattle.tsp_items.specs.Items.{Item}
 use Rattle.tsp_read.specs.Left.{items_left}
 use Rattle.tsp_read.specs.declared.state.reading.Reading.{Reading}
 use Rattle.tsp_read.specs.Intake.{IsReadTo, HasEnded, ReadsOn}

@@ -1,13 +1,13 @@
 -- Reading a text: item by item, and the answer for the whole.
 use Rattle.std.proofs.Common.{◌≡◌, Bool, false, List, ◌∷◌, refl, sym, subst, Option, Some, None, Ok, Err}
-use Rattle.tsp_read.specs.declared.fault.StepFault.{StepFault}
-use Rattle.tsp_read.specs.declared.fault.StepFault.TheVariants as steps
+use Rattle.tsp_items.specs.declared.fault.StepFault.{StepFault}
+use Rattle.tsp_items.specs.declared.fault.StepFault.TheVariants as steps
 use Rattle.tsp_read.specs.declared.state.reading.Reading.{Reading}
 use Rattle.tsp_read.specs.declared.cut.Next.{Next}
 use Rattle.tsp_read.specs.declared.cut.Next.TheVariants as next
-use Rattle.tsp_read.specs.Items.{Item, LineEnd, NumberWord, Line, is_end_line, words_before, word_number}
-use Rattle.tsp_read.specs.Rows.{row_of}
-use Rattle.tsp_read.specs.Text.{part, fault}
+use Rattle.tsp_items.specs.Items.{Item, LineEnd, NumberWord, Line, is_end_line, words_before, word_number}
+use Rattle.tsp_items.specs.Rows.{row_of}
+use Rattle.tsp_items.specs.Text.{part, fault}
 use Rattle.tsp_read.specs.Left.{item_next}
 use Rattle.tsp_read.specs.declared.state.part.Part.{Part}
 use Rattle.tsp_read.specs.Holds.{OpenHolds, Holds, Answers}

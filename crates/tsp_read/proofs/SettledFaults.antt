@@ -14,20 +14,20 @@ use Rattle.tsp_number.specs.Scan.{numeral_in}
 use Rattle.tsp_number.specs.Reading.{whole_from, whole_of, decimal_from, decimal_of}
 use Rattle.tsp_value.specs.declared.field.Field.{Field}
 use Rattle.tsp_value.specs.Limits.{most_word_bytes, most_weight, most_nodes, most_file_bytes}
-use Rattle.tsp_read.specs.declared.fault.LineFault.{LineFault}
-use Rattle.tsp_read.specs.declared.fault.LineFault.TheVariants as row
-use Rattle.tsp_read.specs.declared.fault.ReadFault.{ReadFault}
-use Rattle.tsp_read.specs.declared.fault.ReadFault.TheVariants as faults
-use Rattle.tsp_read.specs.Numbers.{is_minus_one}
-use Rattle.tsp_read.specs.Items.{Item, Line, NumberWord, LineEnd, items_of, settled_items, is_end_line, has_end_line, to_end_line}
-use Rattle.tsp_read.specs.Earlier.{open_section, words_of}
-use Rattle.tsp_read.specs.Places.{Place, NodeAfter, Coordinate, Amount, PastGroups, DepotAfter, FirstAfter, SecondOf, PastEnd, Weight, PastWeights, TourNode}
-use Rattle.tsp_read.specs.Sections.{place_in, nodes_of}
-use Rattle.tsp_read.specs.Rows.{when, first_row, row_of}
-use Rattle.tsp_read.specs.FirstFault.{fault_here, fault_in, IsClean}
-use Rattle.tsp_read.specs.Parts.{word_fault}
-use Rattle.tsp_read.specs.Spells.{fault_at_end}
-use Rattle.tsp_read.specs.Text.{is_too_long, part, fault, settled_part, settled_fault}
+use Rattle.tsp_items.specs.declared.fault.LineFault.{LineFault}
+use Rattle.tsp_items.specs.declared.fault.LineFault.TheVariants as row
+use Rattle.tsp_items.specs.declared.fault.ReadFault.{ReadFault}
+use Rattle.tsp_items.specs.declared.fault.ReadFault.TheVariants as faults
+use Rattle.tsp_items.specs.Numbers.{is_minus_one}
+use Rattle.tsp_items.specs.Items.{Item, Line, NumberWord, LineEnd, items_of, settled_items, is_end_line, has_end_line, to_end_line}
+use Rattle.tsp_items.specs.Earlier.{open_section, words_of}
+use Rattle.tsp_items.specs.Places.{Place, NodeAfter, Coordinate, Amount, PastGroups, DepotAfter, FirstAfter, SecondOf, PastEnd, Weight, PastWeights, TourNode}
+use Rattle.tsp_items.specs.Sections.{place_in, nodes_of}
+use Rattle.tsp_items.specs.Rows.{when, first_row, row_of}
+use Rattle.tsp_items.specs.FirstFault.{fault_here, fault_in, IsClean}
+use Rattle.tsp_items.specs.Parts.{word_fault}
+use Rattle.tsp_items.specs.Spells.{fault_at_end}
+use Rattle.tsp_items.specs.Text.{is_too_long, part, fault, settled_part, settled_fault}
 use Rattle.tsp_read.proofs.TextSteps.{long_line}
 use Rattle.tsp_read.proofs.WordSteps.{word_rows}
 use Rattle.tsp_read.proofs.FirstFaults.{fault_stays}

@@ -2,8 +2,8 @@
 use Rattle.std.proofs.Common.{◌≡◌, ℕ, ◌-◌, ◌*◌, List, [], ◌∷◌, ◌++◌, length, map, refl, ap, ◌∙◌, arith, inl, inr}
 use Rattle.std.specs.Prelude.{◌⊎◌}
 use Rattle.std.proofs.lemmas.List.{map_push}
-use Rattle.tsp_read.specs.Groups.{pairs_in, triples_in, begun_pair, begun_triple}
-use Rattle.tsp_read.proofs.TripleWords.{triples_begin, begun_begin}
+use Rattle.tsp_items.specs.Groups.{pairs_in, triples_in, begun_pair, begun_triple}
+use Rattle.tsp_items.proofs.TripleWords.{triples_begin, begun_begin}
 use Rattle.tsp_read.proofs.ValidLists.{pair_begins, pair_ends, begun_short}
 
 abbrev pub Words : Type 0

@@ -7,16 +7,16 @@ use Rattle.tsp_value.specs.declared.keyword.Keyword.{Keyword}
 use Rattle.tsp_value.specs.declared.keyword.Keyword.TheVariants.{Known, EdgeDataFormat, EdgeDataSection, Eof, Unknown}
 use Rattle.tsp_value.specs.Limits.{most_line_bytes, most_comments, most_others}
 use Rattle.tsp_fields.specs.Fields.{Fields, fields_of}
-use Rattle.tsp_read.specs.declared.fault.LineFault.{LineFault}
-use Rattle.tsp_read.specs.declared.fault.LineFault.TheVariants as row
-use Rattle.tsp_read.specs.declared.fault.StepFault.{StepFault}
-use Rattle.tsp_read.specs.declared.fault.StepFault.TheVariants as steps
+use Rattle.tsp_items.specs.declared.fault.LineFault.{LineFault}
+use Rattle.tsp_items.specs.declared.fault.LineFault.TheVariants as row
+use Rattle.tsp_items.specs.declared.fault.StepFault.{StepFault}
+use Rattle.tsp_items.specs.declared.fault.StepFault.TheVariants as steps
 use Rattle.tsp_read.specs.declared.state.reading.Reading.{Reading}
-use Rattle.tsp_read.specs.Items.{WordLine, Item, Line}
-use Rattle.tsp_read.specs.Earlier.{has_line, values_at, others_in}
-use Rattle.tsp_read.specs.Rows.{row_of, when, first_row, is_too_long_to_keep}
-use Rattle.tsp_read.specs.Spells.{fields_by}
-use Rattle.tsp_read.specs.CutLine.{SetsName, AddsComment, AddsOther}
+use Rattle.tsp_items.specs.Items.{WordLine, Item, Line}
+use Rattle.tsp_items.specs.Earlier.{has_line, values_at, others_in}
+use Rattle.tsp_items.specs.Rows.{row_of, when, first_row, is_too_long_to_keep}
+use Rattle.tsp_items.specs.Spells.{fields_by}
+use Rattle.tsp_items.specs.CutLine.{SetsName, AddsComment, AddsOther}
 use Rattle.tsp_read.specs.Holds.{fields_there, flags_in, Holds, Closed, LineAnswers, OtherAnswers}
 use Rattle.tsp_read.proofs.Clean.{clean_more}
 use Rattle.tsp_read.proofs.KeywordSteps.{still_none}

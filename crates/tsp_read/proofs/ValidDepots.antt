@@ -7,14 +7,14 @@ use Rattle.std.proofs.lemmas.List.{length-map, append-nil, map_push}
 use Rattle.tsp_value.specs.declared.field.Field.TheVariants.{DepotPart}
 use Rattle.tsp_value.specs.Limits.{most_depots}
 use Rattle.tsp_fields.specs.Validity.{is_node, are_depots}
-use Rattle.tsp_read.specs.Items.{Item}
-use Rattle.tsp_read.specs.Earlier.{words_of}
-use Rattle.tsp_read.specs.Numbers.{number, node_or_end, is_end}
-use Rattle.tsp_read.specs.Places.{DepotAfter, PastEnd}
-use Rattle.tsp_read.specs.Lists.{before, depots_in}
-use Rattle.tsp_read.specs.Sections.{nodes_of}
-use Rattle.tsp_read.specs.FirstFault.{IsClean}
-use Rattle.tsp_read.specs.Parts.{word_fault}
+use Rattle.tsp_items.specs.Items.{Item}
+use Rattle.tsp_items.specs.Earlier.{words_of}
+use Rattle.tsp_items.specs.Numbers.{number, node_or_end, is_end}
+use Rattle.tsp_items.specs.Places.{DepotAfter, PastEnd}
+use Rattle.tsp_items.specs.Lists.{before, depots_in}
+use Rattle.tsp_items.specs.Sections.{nodes_of}
+use Rattle.tsp_items.specs.FirstFault.{IsClean}
+use Rattle.tsp_items.specs.Parts.{word_fault}
 use Rattle.tsp_read.proofs.ValidRows.{is_taken}
 use Rattle.tsp_read.proofs.ValidSections.{Grows, grown}
 use Rattle.tsp_read.proofs.ValidNumbers.{read_listed}

@@ -9,15 +9,15 @@ use Rattle.std.proofs.lemmas.List.Folds.{list_any-append}
 use Rattle.tsp_value.specs.declared.field.Field.TheVariants.{FixedEdgesPart}
 use Rattle.tsp_value.specs.Limits.{most_fixed}
 use Rattle.tsp_fields.specs.Validity.{is_node, is_pair, are_fixed}
-use Rattle.tsp_read.specs.Items.{Item}
-use Rattle.tsp_read.specs.Earlier.{words_of}
-use Rattle.tsp_read.specs.Numbers.{number, reads_as, node, node_or_end, is_end}
-use Rattle.tsp_read.specs.Places.{FirstAfter, SecondOf, PastEnd}
-use Rattle.tsp_read.specs.Groups.{pairs_in, begun_pair}
-use Rattle.tsp_read.specs.Lists.{before, fixed_in, firsts_in, place_in_pair}
-use Rattle.tsp_read.specs.Sections.{nodes_of}
-use Rattle.tsp_read.specs.FirstFault.{IsClean}
-use Rattle.tsp_read.specs.Parts.{word_fault}
+use Rattle.tsp_items.specs.Items.{Item}
+use Rattle.tsp_items.specs.Earlier.{words_of}
+use Rattle.tsp_items.specs.Numbers.{number, reads_as, node, node_or_end, is_end}
+use Rattle.tsp_items.specs.Places.{FirstAfter, SecondOf, PastEnd}
+use Rattle.tsp_items.specs.Groups.{pairs_in, begun_pair}
+use Rattle.tsp_items.specs.Lists.{before, fixed_in, firsts_in, place_in_pair}
+use Rattle.tsp_items.specs.Sections.{nodes_of}
+use Rattle.tsp_items.specs.FirstFault.{IsClean}
+use Rattle.tsp_items.specs.Parts.{word_fault}
 use Rattle.tsp_read.proofs.ValidRows.{is_taken}
 use Rattle.tsp_read.proofs.ValidSections.{Grows, grown}
 use Rattle.tsp_read.proofs.ValidNumbers.{read_node, read_listed, differ}

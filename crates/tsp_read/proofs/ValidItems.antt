@@ -12,19 +12,19 @@ use Rattle.tsp_fields.specs.declared.fault.DraftFault.TheVariants.{BadField, Rul
 use Rattle.tsp_fields.specs.Fields.{Fields}
 use Rattle.tsp_fields.specs.Rules.{standing_of, is_there, asked_in_order, format_or_count, end_fault, fault_of}
 use Rattle.tsp_fields.specs.Validity.{if_there, is_by_node, is_point, is_demand, is_within, are_depots, are_fixed, are_weights, are_tours, fits, first_failing, bad_field}
-use Rattle.tsp_read.specs.Items.{Item, has_end_line}
-use Rattle.tsp_read.specs.Earlier.{has_line, words_of}
+use Rattle.tsp_items.specs.Items.{Item, has_end_line}
+use Rattle.tsp_items.specs.Earlier.{has_line, words_of}
 use Rattle.tsp_read.specs.Cuts.{AreCut}
-use Rattle.tsp_read.specs.Sections.{nodes_of}
-use Rattle.tsp_read.specs.Groups.{points_by_node}
-use Rattle.tsp_read.specs.Lists.{depots_in, fixed_in}
-use Rattle.tsp_read.specs.Weights.{weights_in}
-use Rattle.tsp_read.specs.Tours.{tours_in}
-use Rattle.tsp_read.specs.FirstFault.{fault_in, IsClean}
-use Rattle.tsp_read.specs.declared.fault.ReadFault.TheVariants as faults
-use Rattle.tsp_read.specs.Rows.{when}
-use Rattle.tsp_read.specs.Spells.{potentials_in, demands_in, spelled, first_incomplete, fault_at_end}
-use Rattle.tsp_read.specs.Text.{is_too_long, part, Spells}
+use Rattle.tsp_items.specs.Sections.{nodes_of}
+use Rattle.tsp_items.specs.Groups.{points_by_node}
+use Rattle.tsp_items.specs.Lists.{depots_in, fixed_in}
+use Rattle.tsp_items.specs.Weights.{weights_in}
+use Rattle.tsp_items.specs.Tours.{tours_in}
+use Rattle.tsp_items.specs.FirstFault.{fault_in, IsClean}
+use Rattle.tsp_items.specs.declared.fault.ReadFault.TheVariants as faults
+use Rattle.tsp_items.specs.Rows.{when}
+use Rattle.tsp_items.specs.Spells.{potentials_in, demands_in, spelled, first_incomplete, fault_at_end}
+use Rattle.tsp_items.specs.Text.{is_too_long, part, Spells}
 use Rattle.tsp_read.proofs.ValidRows.{none_applies, map_none}
 use Rattle.tsp_read.proofs.ValidCuts.{part_cut}
 use Rattle.tsp_read.proofs.ValidKeywords.{name_fits, comments_fit, others_fit, dimension_fits, capacity_fits, scale_fits}

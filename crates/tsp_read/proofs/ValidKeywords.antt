@@ -19,13 +19,13 @@ use Rattle.tsp_value.specs.Words.{field_word, fields_in_order}
 use Rattle.tsp_value.specs.Keywords.{is_others, field_of, known_or_not, keyword_of, is_unknown}
 use Rattle.tsp_value.specs.Limits.{most_nodes, most_capacity, most_scale, most_kept_bytes, most_comments, most_others}
 use Rattle.tsp_fields.specs.Validity.{if_there, is_kept, is_unknown_keyword, is_other, are_comments, are_others, is_from_to, is_node}
-use Rattle.tsp_read.specs.Lines.{first_word}
-use Rattle.tsp_read.specs.Items.{WordLine, Item, Line, NumberWord, LineEnd}
-use Rattle.tsp_read.specs.Earlier.{same_field, is_key, value_at, values_at, others_in}
-use Rattle.tsp_read.specs.Values.{number_at, dimension_of}
+use Rattle.tsp_items.specs.Lines.{first_word}
+use Rattle.tsp_items.specs.Items.{WordLine, Item, Line, NumberWord, LineEnd}
+use Rattle.tsp_items.specs.Earlier.{same_field, is_key, value_at, values_at, others_in}
+use Rattle.tsp_items.specs.Values.{number_at, dimension_of}
 use Rattle.tsp_read.specs.Cuts.{IsCutLine, AreCut}
-use Rattle.tsp_read.specs.Rows.{is_too_long_to_keep, has_bad_value, row_of}
-use Rattle.tsp_read.specs.FirstFault.{IsClean}
+use Rattle.tsp_items.specs.Rows.{is_too_long_to_keep, has_bad_value, row_of}
+use Rattle.tsp_items.specs.FirstFault.{IsClean}
 use Rattle.tsp_read.proofs.ValidRows.{clean_parts, no_row}
 use Rattle.tsp_read.proofs.ValidSections.{same_field_is}
 use Rattle.tsp_read.proofs.ValidNumbers.{whole_in_range, node_read}

@@ -5,8 +5,8 @@ use Rattle.std.specs.List.{list_any, list_all}
 use Rattle.std.proofs.lemmas.Bool.{true≢false, false≢true, and_from, and_parts, or_parts, or_from, le-leb, leb-false}
 use Rattle.std.proofs.lemmas.List.{length_push}
 use Rattle.std.proofs.lemmas.List.Folds.{list_all-append}
-use Rattle.tsp_read.specs.Groups.{pairs_in, begun_pair}
-use Rattle.tsp_read.specs.Lists.{before, firsts_in}
+use Rattle.tsp_items.specs.Groups.{pairs_in, begun_pair}
+use Rattle.tsp_items.specs.Lists.{before, firsts_in}
 
 -- ---- before the first that passes
 

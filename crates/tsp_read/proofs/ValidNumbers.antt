@@ -19,8 +19,8 @@ use Rattle.tsp_number.specs.Reading.{number_in, decimal_within, decimal_from, de
 use Rattle.tsp_value.specs.Cells.{nodes_to}
 use Rattle.tsp_value.specs.Limits.{most_coordinate}
 use Rattle.tsp_fields.specs.Validity.{is_from_to, is_within, is_node, is_by_node, is_point}
-use Rattle.tsp_read.specs.Numbers.{number, reads_as, node, not_zero, node_or_end, is_end}
-use Rattle.tsp_read.specs.Groups.{pairs_in, triples_in, number_groups, point_of, point_groups, entry_of, by_node, numbers_by_node, points_by_node}
+use Rattle.tsp_items.specs.Numbers.{number, reads_as, node, not_zero, node_or_end, is_end}
+use Rattle.tsp_items.specs.Groups.{pairs_in, triples_in, number_groups, point_of, point_groups, entry_of, by_node, numbers_by_node, points_by_node}
 use Rattle.std.proofs.Math.ListN.{take}
 
 -- ---- tests of lists

@@ -13,13 +13,13 @@ use Rattle.tsp_value.specs.declared.field.Field.{Field}
 use Rattle.tsp_value.specs.declared.field.Field.TheVariants.{DimensionKey, TourPart}
 use Rattle.tsp_value.specs.declared.keyword.Keyword.TheVariants.{Known, EdgeDataFormat, EdgeDataSection, Eof, Unknown}
 use Rattle.tsp_value.specs.Words.{field_word, fields_in_order, field_found}
-use Rattle.tsp_read.specs.Items.{WordLine, Item, Line, NumberWord, LineEnd}
-use Rattle.tsp_read.specs.Earlier.{same_field, is_section_field, has_line, open_section, words_of}
-use Rattle.tsp_read.specs.Values.{read_as, dimension_of}
-use Rattle.tsp_read.specs.Sections.{place_in, nodes_of}
-use Rattle.tsp_read.specs.Rows.{row_of, may_repeat, is_repeated}
-use Rattle.tsp_read.specs.FirstFault.{IsClean}
-use Rattle.tsp_read.specs.Parts.{word_fault}
+use Rattle.tsp_items.specs.Items.{WordLine, Item, Line, NumberWord, LineEnd}
+use Rattle.tsp_items.specs.Earlier.{same_field, is_section_field, has_line, open_section, words_of}
+use Rattle.tsp_items.specs.Values.{read_as, dimension_of}
+use Rattle.tsp_items.specs.Sections.{place_in, nodes_of}
+use Rattle.tsp_items.specs.Rows.{row_of, may_repeat, is_repeated}
+use Rattle.tsp_items.specs.FirstFault.{IsClean}
+use Rattle.tsp_items.specs.Parts.{word_fault}
 use Rattle.tsp_read.proofs.ValidRows.{clean_parts, no_row}
 
 -- ---- fields

@@ -5,13 +5,13 @@ use Rattle.tsp_value.specs.declared.field.Field.{Field}
 use Rattle.tsp_value.specs.declared.field.Field.TheVariants.{DimensionKey, TourPart}
 use Rattle.tsp_value.specs.declared.keyword.Keyword.TheVariants.{Known, EdgeDataFormat, EdgeDataSection, Eof, Unknown}
 use Rattle.tsp_fields.specs.Validity.{if_there, with_dimension}
-use Rattle.tsp_read.specs.Items.{WordLine, Item, Line, NumberWord, LineEnd}
-use Rattle.tsp_read.specs.Earlier.{same_field, is_section_field, has_line, words_of}
-use Rattle.tsp_read.specs.Values.{dimension_of}
-use Rattle.tsp_read.specs.Sections.{nodes_of}
-use Rattle.tsp_read.specs.Rows.{is_early}
-use Rattle.tsp_read.specs.FirstFault.{IsClean}
-use Rattle.tsp_read.specs.Spells.{section, stands}
+use Rattle.tsp_items.specs.Items.{WordLine, Item, Line, NumberWord, LineEnd}
+use Rattle.tsp_items.specs.Earlier.{same_field, is_section_field, has_line, words_of}
+use Rattle.tsp_items.specs.Values.{dimension_of}
+use Rattle.tsp_items.specs.Sections.{nodes_of}
+use Rattle.tsp_items.specs.Rows.{is_early}
+use Rattle.tsp_items.specs.FirstFault.{IsClean}
+use Rattle.tsp_items.specs.Spells.{section, stands}
 use Rattle.tsp_read.proofs.ValidRows.{clean_parts, no_row}
 use Rattle.tsp_read.proofs.ValidSections.{same_field_is, late, dimension_there}
 

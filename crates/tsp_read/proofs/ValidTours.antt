@@ -10,14 +10,14 @@ use Rattle.std.proofs.lemmas.List.Elements.{filter-append}
 use Rattle.tsp_value.specs.declared.field.Field.TheVariants.{TourPart}
 use Rattle.tsp_value.specs.Limits.{most_nodes, most_tour_nodes}
 use Rattle.tsp_fields.specs.Validity.{is_node, is_tour, are_tours}
-use Rattle.tsp_read.specs.Lines.{is_filled}
-use Rattle.tsp_read.specs.Items.{Item}
-use Rattle.tsp_read.specs.Earlier.{words_of}
-use Rattle.tsp_read.specs.Numbers.{number}
-use Rattle.tsp_read.specs.Places.{TourNode}
-use Rattle.tsp_read.specs.Tours.{ends_tour, tour_node, tours_in}
-use Rattle.tsp_read.specs.FirstFault.{IsClean}
-use Rattle.tsp_read.specs.Parts.{word_fault}
+use Rattle.tsp_items.specs.Lines.{is_filled}
+use Rattle.tsp_items.specs.Items.{Item}
+use Rattle.tsp_items.specs.Earlier.{words_of}
+use Rattle.tsp_items.specs.Numbers.{number}
+use Rattle.tsp_items.specs.Places.{TourNode}
+use Rattle.tsp_items.specs.Tours.{ends_tour, tour_node, tours_in}
+use Rattle.tsp_items.specs.FirstFault.{IsClean}
+use Rattle.tsp_items.specs.Parts.{word_fault}
 use Rattle.tsp_read.proofs.ValidRows.{is_taken}
 use Rattle.tsp_read.proofs.ValidSections.{Grows, grown}
 use Rattle.tsp_read.proofs.ValidNumbers.{read_listed}

@@ -10,15 +10,15 @@ use Rattle.tsp_value.specs.declared.field.Field.TheVariants.{EdgeWeightPart}
 use Rattle.tsp_value.specs.declared.keyword.Keyword.TheVariants.{Known, EdgeDataFormat, EdgeDataSection, Eof, Unknown}
 use Rattle.tsp_value.specs.Limits.{most_matrix_nodes, most_weight}
 use Rattle.tsp_fields.specs.Validity.{is_within, are_weights}
-use Rattle.tsp_read.specs.Items.{WordLine, Item, Line, NumberWord, LineEnd}
-use Rattle.tsp_read.specs.Earlier.{same_field, has_line, words_of}
-use Rattle.tsp_read.specs.Numbers.{number, sized}
-use Rattle.tsp_read.specs.Places.{Weight, PastWeights}
-use Rattle.tsp_read.specs.Weights.{weights_in}
-use Rattle.tsp_read.specs.Sections.{nodes_of}
-use Rattle.tsp_read.specs.Rows.{row_of}
-use Rattle.tsp_read.specs.FirstFault.{IsClean}
-use Rattle.tsp_read.specs.Parts.{word_fault}
+use Rattle.tsp_items.specs.Items.{WordLine, Item, Line, NumberWord, LineEnd}
+use Rattle.tsp_items.specs.Earlier.{same_field, has_line, words_of}
+use Rattle.tsp_items.specs.Numbers.{number, sized}
+use Rattle.tsp_items.specs.Places.{Weight, PastWeights}
+use Rattle.tsp_items.specs.Weights.{weights_in}
+use Rattle.tsp_items.specs.Sections.{nodes_of}
+use Rattle.tsp_items.specs.Rows.{row_of}
+use Rattle.tsp_items.specs.FirstFault.{IsClean}
+use Rattle.tsp_items.specs.Parts.{word_fault}
 use Rattle.tsp_read.proofs.ValidRows.{clean_parts, no_row, is_taken}
 use Rattle.tsp_read.proofs.ValidSections.{Grows, grown, same_field_is, nodes_kept}
 use Rattle.tsp_read.proofs.ValidStanding.{after_dimension}

@@ -2,16 +2,16 @@
 use Rattle.std.proofs.Common.{subst, ◌≡◌, ℕ, true, List, [], ◌∷◌, ◌++◌, refl, sym, ap, ◌∙◌, Some, Result, Ok, Err}
 use Rattle.tsp_value.specs.declared.field.Field.{Field}
 use Rattle.tsp_value.specs.declared.field.Field.TheVariants.{NameKey, TypeKey, CommentKey, OtherKey, DimensionKey, CapacityKey, ScaleKey, EdgeWeightTypeKey, EdgeWeightFormatKey, NodeCoordTypeKey, DisplayDataTypeKey, NodeCoordPart, DisplayDataPart, DemandPart, DepotPart, FixedEdgesPart, EdgeWeightPart, TourPart, NodePotentialPart, RowPotentialPart, ColumnPotentialPart}
-use Rattle.tsp_read.specs.declared.fault.StepFault.{StepFault}
-use Rattle.tsp_read.specs.declared.fault.StepFault.TheVariants as steps
+use Rattle.tsp_items.specs.declared.fault.StepFault.{StepFault}
+use Rattle.tsp_items.specs.declared.fault.StepFault.TheVariants as steps
 use Rattle.tsp_read.specs.declared.state.part.Part.{Part}
 use Rattle.tsp_read.specs.declared.state.reading.Reading.{Reading}
-use Rattle.tsp_read.specs.Items.{Item, NumberWord}
-use Rattle.tsp_read.specs.Earlier.{same_field, open_section, words_of}
-use Rattle.tsp_read.specs.Sections.{place_in, nodes_of}
-use Rattle.tsp_read.specs.Rows.{row_of}
-use Rattle.tsp_read.specs.Parts.{word_fault}
-use Rattle.tsp_read.specs.Spells.{fields_by}
+use Rattle.tsp_items.specs.Items.{Item, NumberWord}
+use Rattle.tsp_items.specs.Earlier.{same_field, open_section, words_of}
+use Rattle.tsp_items.specs.Sections.{place_in, nodes_of}
+use Rattle.tsp_items.specs.Rows.{row_of}
+use Rattle.tsp_items.specs.Parts.{word_fault}
+use Rattle.tsp_items.specs.Spells.{fields_by}
 use Rattle.tsp_read.specs.Open.{section_of, PartHolds, PartAfter, Pushes}
 use Rattle.tsp_read.specs.Holds.{is_closed, is_closed_incomplete, tests_at, OpenHolds, Holds, Answers}
 use Rattle.tsp_read.proofs.Clean.{clean_more}

@@ -3,7 +3,7 @@ use Rattle.std.specs.Prelude.{◌≡◌, ℕ, ◌+◌, ◌≤◌, Bool, true, fa
 use Rattle.tsp_value.specs.Bytes.{is_letter}
 use Rattle.tsp_read.specs.declared.intake.Intake.{Intake}
 use Rattle.tsp_read.specs.declared.begun.Begun.{Begun}
-use Rattle.tsp_read.specs.Lines.{ends_line, is_filled}
+use Rattle.tsp_items.specs.Lines.{ends_line, is_filled}
 use Rattle.tsp_read.specs.Left.{ends_word, from, items_left}
 use Rattle.tsp_read.specs.Intake.{IsReadTo}
 

@@ -5,7 +5,7 @@ use Rattle.tsp_value.specs.declared.field.Field.{Field}
 use Rattle.tsp_value.specs.declared.field.Field.TheVariants.{NodeCoordPart, DisplayDataPart, DemandPart, NodePotentialPart, RowPotentialPart, ColumnPotentialPart}
 use Rattle.tsp_value.specs.Cells.{nodes_to}
 use Rattle.tsp_value.specs.Limits.{most_demand, most_potential}
-use Rattle.tsp_read.specs.Groups.{number_groups, point_groups, nodes_in}
+use Rattle.tsp_items.specs.Groups.{number_groups, point_groups, nodes_in}
 
 abbrev pub is_by_node_field : Field → Bool
 is_by_node_field NodeCoordPart = true

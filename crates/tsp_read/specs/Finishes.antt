@@ -8,9 +8,9 @@ use Rattle.tsp_fields.specs.Rules.{standing_of, end_fault, fault_of}
 use Rattle.tsp_read.specs.declared.state.reading.Incomplete.{Incomplete}
 use Rattle.tsp_read.specs.declared.state.finish.FinishFault.{FinishFault}
 use Rattle.tsp_read.specs.declared.state.finish.FinishFault.TheVariants as faults
-use Rattle.tsp_read.specs.Items.{Item}
-use Rattle.tsp_read.specs.FirstFault.{IsClean}
-use Rattle.tsp_read.specs.Spells.{spelled, fault_at_end}
+use Rattle.tsp_items.specs.Items.{Item}
+use Rattle.tsp_items.specs.FirstFault.{IsClean}
+use Rattle.tsp_items.specs.Spells.{spelled, fault_at_end}
 
 -- the first flag that is set
 abbrev pub first_flagged : Incomplete → Option Field

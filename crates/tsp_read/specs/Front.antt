@@ -1,7 +1,7 @@
 -- The word at the front of a text.
 use Rattle.std.specs.Prelude.{◌≡◌, ℕ, true, List, [], ◌∷◌, ◌⊎◌}
 use Rattle.tsp_value.specs.Bytes.{is_blank}
-use Rattle.tsp_read.specs.Lines.{ends_line, without_start}
+use Rattle.tsp_items.specs.Lines.{ends_line, without_start}
 use Rattle.tsp_read.specs.Left.{ends_word, before}
 
 -- its bytes from the first that isn't blank to the first blank or byte 10

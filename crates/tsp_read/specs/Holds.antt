@@ -3,19 +3,19 @@ use Rattle.std.specs.Prelude.{◌≡◌, Bool, false, not, ◌&&◌, List, [], �
 use Rattle.tsp_value.specs.declared.field.Field.{Field}
 use Rattle.tsp_value.specs.declared.field.Field.TheVariants.{NameKey, TypeKey, DimensionKey, CapacityKey, ScaleKey, EdgeWeightTypeKey, EdgeWeightFormatKey, NodeCoordTypeKey, DisplayDataTypeKey, NodeCoordPart, DisplayDataPart, DemandPart, DepotPart, FixedEdgesPart, EdgeWeightPart, NodePotentialPart, RowPotentialPart, ColumnPotentialPart}
 use Rattle.tsp_fields.specs.Fields.{Fields, fields_of}
-use Rattle.tsp_read.specs.declared.fault.StepFault.{StepFault}
-use Rattle.tsp_read.specs.declared.fault.StepFault.TheVariants as steps
+use Rattle.tsp_items.specs.declared.fault.StepFault.{StepFault}
+use Rattle.tsp_items.specs.declared.fault.StepFault.TheVariants as steps
 use Rattle.tsp_read.specs.declared.state.part.Part.{Part}
 use Rattle.tsp_read.specs.declared.state.reading.Incomplete.{Incomplete}
 use Rattle.tsp_read.specs.declared.state.reading.Reading.{Reading}
 use Rattle.tsp_value.specs.declared.keyword.Keyword.TheVariants.{Known, Unknown}
 use Rattle.tsp_value.specs.Limits.{most_line_bytes}
-use Rattle.tsp_read.specs.Items.{WordLine, Item, Line}
-use Rattle.tsp_read.specs.Earlier.{has_line, open_section, is_open, words_of}
-use Rattle.tsp_read.specs.Sections.{nodes_of}
-use Rattle.tsp_read.specs.Rows.{row_of}
-use Rattle.tsp_read.specs.FirstFault.{IsClean}
-use Rattle.tsp_read.specs.Spells.{fields_by, is_incomplete}
+use Rattle.tsp_items.specs.Items.{WordLine, Item, Line}
+use Rattle.tsp_items.specs.Earlier.{has_line, open_section, is_open, words_of}
+use Rattle.tsp_items.specs.Sections.{nodes_of}
+use Rattle.tsp_items.specs.Rows.{row_of}
+use Rattle.tsp_items.specs.FirstFault.{IsClean}
+use Rattle.tsp_items.specs.Spells.{fields_by, is_incomplete}
 use Rattle.tsp_read.specs.Open.{section_of, PartHolds}
 
 -- the section stands and no longer takes words

@@ -3,13 +3,13 @@ use Rattle.std.specs.Prelude.{◌≡◌, ℕ, ◌∷◌, [], ◌++◌, List, Res
 use Rattle.tsp_value.specs.declared.field.Field.{Field}
 use Rattle.tsp_value.specs.declared.field.Field.TheVariants.{NodeCoordPart, DisplayDataPart, DemandPart, DepotPart, FixedEdgesPart, EdgeWeightPart, TourPart, NodePotentialPart, RowPotentialPart, ColumnPotentialPart}
 use Rattle.tsp_value.specs.Limits.{most_demand, most_potential}
-use Rattle.tsp_read.specs.declared.fault.StepFault.{StepFault}
+use Rattle.tsp_items.specs.declared.fault.StepFault.{StepFault}
 use Rattle.tsp_read.specs.declared.state.part.Part.{Part}
 use Rattle.tsp_read.specs.declared.state.part.Part.TheVariants.{Coords, Display, Demands, Depots, Fixed, Weights, Tours, NodePotentials, RowPotentials, ColumnPotentials}
-use Rattle.tsp_read.specs.declared.parts.numbers.NumberList.{NumberList}
-use Rattle.tsp_read.specs.Sections.{place_in}
-use Rattle.tsp_read.specs.Parts.{Takes}
-use Rattle.tsp_read.specs.Held.{HoldsNumbers, HoldsPoints, HoldsDepots, HoldsFixed, HoldsWeights, HoldsTours}
+use Rattle.tsp_items.specs.declared.parts.numbers.NumberList.{NumberList}
+use Rattle.tsp_items.specs.Sections.{place_in}
+use Rattle.tsp_items.specs.Parts.{Takes}
+use Rattle.tsp_items.specs.Held.{HoldsNumbers, HoldsPoints, HoldsDepots, HoldsFixed, HoldsWeights, HoldsTours}
 
 -- the section of a part
 abbrev pub section_of : Part → Field

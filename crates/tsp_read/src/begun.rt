@@ -3,15 +3,15 @@
 ghost use Rattle.std.specs.Prelude.{◌≡◌, ◌+◌, ◌≤◌, ◌<◌, [], List, ℕ, length, IfOk, IfSome, true};
 ghost use Rattle.arrayvec.specs.ArrayVec.{array_vec_len};
 ghost use Rattle.tsp_value.specs.Limits.{most_file_bytes};
-ghost use Rattle.tsp_read.specs.Lines.{without_start};
+ghost use Rattle.tsp_items.specs.Lines.{without_start};
 ghost use Rattle.tsp_read.specs.Left.{items_left};
 ghost use Rattle.tsp_read.specs.Intake.{ReadsOn};
 
 use crate::cut::{Next, begins_line, to_line_end, to_word_end, without_start};
-use crate::fault::ReadFault;
 use crate::intake::Intake;
 use arrayvec::ArrayVec;
 use std::alloc::Global;
+use tsp_items::ReadFault;
 use tsp_value::{MOST_LINE_BYTES, MOST_WORD_BYTES};
 
 /// The bytes so far of a word line or of a word whose end has not come; at most one of the two has

@@ -3,17 +3,17 @@
 ghost use Rattle.std.specs.Prelude.{◌≡◌, ◌+◌, ◌≤◌, ◌++◌, [], List, ℕ, length, Ok, true, false};
 ghost use Rattle.tsp_value.specs.Limits.{most_file_bytes};
 ghost use Rattle.tsp_read.specs.Begun.{IsFedTo, most_lines, most_words, KeepRoom};
-ghost use Rattle.tsp_read.specs.Lines.{is_filled};
+ghost use Rattle.tsp_items.specs.Lines.{is_filled};
 ghost use Rattle.tsp_read.specs.Paused.{FeedsOn, HasRoom, stage_after, outcome_of};
 
 use crate::begun::Begun;
-use crate::fault::ReadFault;
 use crate::intake::Intake;
 use crate::stage::Stage;
 use crate::state::finish::completed;
 use crate::state::reading::Reading;
 use std::alloc::Global;
 use tsp_fields::File;
+use tsp_items::ReadFault;
 use tsp_value::MOST_FILE_BYTES;
 
 /// Reads on with a piece that the limit of a file's bytes doesn't cut: all that what follows can't
@@ -109,11 +109,11 @@ pub struct Feed {
 
 impl Feed {
     ghost use Rattle.std.specs.Prelude.{Some, None, Err, IfErr};
-    ghost use Rattle.tsp_read.specs.declared.fault.ReadFault.{ReadFault};
+    ghost use Rattle.tsp_items.specs.declared.fault.ReadFault.{ReadFault};
     ghost use Rattle.tsp_read.specs.declared.stage.Stage.TheVariants.{Going};
-    ghost use Rattle.tsp_read.specs.Items.{has_end_line};
-    ghost use Rattle.tsp_read.specs.Text.{settled_part, settled_fault};
-    ghost use Rattle.tsp_read.specs.declared.fault.ReadFault.TheVariants.{OutOfMemory};
+    ghost use Rattle.tsp_items.specs.Items.{has_end_line};
+    ghost use Rattle.tsp_items.specs.Text.{settled_part, settled_fault};
+    ghost use Rattle.tsp_items.specs.declared.fault.ReadFault.TheVariants.{OutOfMemory};
     ghost use Rattle.tsp_read.specs.Onward.{is_bare};
     ghost use Rattle.tsp_read.specs.Reads.{Reads};
     ghost use Rattle.tsp_read.specs.Timely.{is_going};

@@ -6,9 +6,9 @@ ghost use Rattle.tsp_stream.specs.Watched.{has_failed};
 ghost use Rattle.tsp_read.specs.Feed.{HasTaken};
 ghost use Rattle.tsp_read.specs.Timely.{FeedsAll};
 
-use crate::fault::ReadFault;
 use crate::feed::Feed;
 use std::io::Read;
+use tsp_items::ReadFault;
 use tsp_stream::Watched;
 use tsp_value::MOST_FILE_BYTES;
 

@@ -2,15 +2,15 @@
 
 ghost use Rattle.std.specs.Prelude.{◌≡◌, ◌+◌, ◌≤◌, ◌<◌, [], List, ℕ, length, IfOk, IfSome, Err, true};
 ghost use Rattle.tsp_value.specs.Limits.{most_file_bytes};
-ghost use Rattle.tsp_read.specs.Items.{Item, NumberWord, line_item};
+ghost use Rattle.tsp_items.specs.Items.{Item, NumberWord, line_item};
 ghost use Rattle.tsp_read.specs.Left.{items_left, item_next, is_inside};
 ghost use Rattle.tsp_read.specs.Onward.{is_over_long};
 
 use crate::cut::{Next, next_item};
-use crate::fault::{LineFault, ReadFault, StepFault};
 use crate::item::{line_after, take, word_of};
 use crate::state::reading::Reading;
 use std::alloc::Global;
+use tsp_items::{LineFault, ReadFault, StepFault};
 use tsp_number::NumberFault;
 use tsp_value::MOST_WORD_BYTES;
 

@@ -5,13 +5,10 @@ mod answers;
 mod begun;
 mod by_node;
 mod cut;
-mod fault;
 mod feed;
 mod input;
 mod intake;
 mod item;
-mod laws;
-mod parts;
 mod read;
 mod run;
 mod settled;
@@ -21,9 +18,10 @@ mod validity;
 
 pub use answers::{first_faults, texts_have_one_answer};
 pub use by_node::each_node_has_one_group;
-pub use fault::{LineFault, ReadFault};
 pub use feed::Feed;
-pub use laws::{faults_at_the_end, faults_of_word_lines, faults_of_words, fields_of_texts};
 pub use read::{read_bytes, read_from};
 pub use settled::{settled_ends_stay, settled_faults_stay};
+pub use tsp_items::{
+    LineFault, ReadFault, faults_at_the_end, faults_of_word_lines, faults_of_words, fields_of_texts,
+};
 pub use validity::{clean_fields_are_valid, spelled_files_are_valid};

@@ -4,12 +4,12 @@ ghost use Rattle.tsp_stream.specs.Turn.{turn_of};
 ghost use Rattle.tsp_read.specs.Reads.{Reads, ReadsFrom};
 ghost use Rattle.tsp_read.specs.Timely.{ReadsInTime};
 
-use crate::fault::ReadFault;
 use crate::feed::Feed;
 use crate::input::feed_all;
 use std::alloc::Global;
 use std::io::Read;
 use tsp_fields::File;
+use tsp_items::ReadFault;
 use tsp_stream::Watched;
 
 /// Reads a file from the bytes of a text.

@@ -6,8 +6,8 @@
 
 ghost use Rattle.std.specs.Prelude.{◌≡◌, ◌+◌, ◌≤◌, ◌<◌, ◌∷◌, List, ℕ, Bool, length, Ok, IfSome, MatchOption, true, false};
 ghost use Rattle.tsp_value.specs.Limits.{most_file_bytes, most_weight};
-ghost use Rattle.tsp_read.specs.Numbers.{sized};
-ghost use Rattle.tsp_read.specs.Items.{Item, NumberWord};
+ghost use Rattle.tsp_items.specs.Numbers.{sized};
+ghost use Rattle.tsp_items.specs.Items.{Item, NumberWord};
 ghost use Rattle.tsp_read.specs.Onward.{GivesNext};
 ghost use Rattle.tsp_read.specs.Front.{front_word, LeavesEnd};
 ghost use Rattle.tsp_read.specs.Intake.{IsReadTo};

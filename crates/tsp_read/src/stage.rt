@@ -1,6 +1,6 @@
 //! How far a text is that comes in pieces.
 
-use crate::fault::ReadFault;
+use tsp_items::ReadFault;
 
 /// How far a text is: it goes on, its end line was taken, or it was refused.
 #[derive(Clone, Copy, Debug)]

@@ -4,11 +4,11 @@ ghost use Rattle.std.specs.Prelude.{◌≡◌, ℕ, List, None};
 ghost use Rattle.tsp_fields.specs.Fields.{Fields};
 ghost use Rattle.tsp_fields.specs.Validity.{bad_field};
 ghost use Rattle.tsp_fields.specs.Rules.{fault_of};
-ghost use Rattle.tsp_read.specs.Items.{Item};
+ghost use Rattle.tsp_items.specs.Items.{Item};
 ghost use Rattle.tsp_read.specs.Cuts.{AreCut};
-ghost use Rattle.tsp_read.specs.FirstFault.{IsClean};
-ghost use Rattle.tsp_read.specs.Spells.{spelled, fault_at_end};
-ghost use Rattle.tsp_read.specs.Text.{part, Spells};
+ghost use Rattle.tsp_items.specs.FirstFault.{IsClean};
+ghost use Rattle.tsp_items.specs.Spells.{spelled, fault_at_end};
+ghost use Rattle.tsp_items.specs.Text.{part, Spells};
 
 /// What items without a fault spell is valid, field by field.
 pub fn clean_fields_are_valid()

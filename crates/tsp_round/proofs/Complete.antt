@@ -11,15 +11,15 @@ use Rattle.tsp_value.specs.declared.field.Field.TheVariants.{DimensionKey, NodeC
 use Rattle.tsp_value.specs.Limits.{most_nodes, most_demand, most_potential}
 use Rattle.tsp_fields.specs.Fields.{Fields}
 use Rattle.tsp_fields.specs.Validity.{fits, if_there, is_by_node, is_point, is_demand, is_within, is_from_to, is_node, are_depots, are_fixed, are_weights, with_dimension}
-use Rattle.tsp_read.specs.Items.{Item}
-use Rattle.tsp_read.specs.Earlier.{has_line, words_of}
-use Rattle.tsp_read.specs.Numbers.{is_end}
-use Rattle.tsp_read.specs.Places.{PastGroups, PastEnd, Weight, PastWeights, Coordinate, Amount, DepotAfter}
-use Rattle.tsp_read.specs.Groups.{begun_pair, begun_triple, number_groups, point_groups, nodes_in, place_in_group, place_of_number, place_of_point, pairs_in}
-use Rattle.tsp_read.specs.Lists.{place_in_pair}
-use Rattle.tsp_read.specs.Sections.{place_in, nodes_of}
-use Rattle.tsp_read.specs.Rows.{may_repeat}
-use Rattle.tsp_read.specs.Spells.{wants_more, is_incomplete, first_incomplete}
+use Rattle.tsp_items.specs.Items.{Item}
+use Rattle.tsp_items.specs.Earlier.{has_line, words_of}
+use Rattle.tsp_items.specs.Numbers.{is_end}
+use Rattle.tsp_items.specs.Places.{PastGroups, PastEnd, Weight, PastWeights, Coordinate, Amount, DepotAfter}
+use Rattle.tsp_items.specs.Groups.{begun_pair, begun_triple, number_groups, point_groups, nodes_in, place_in_group, place_of_number, place_of_point, pairs_in}
+use Rattle.tsp_items.specs.Lists.{place_in_pair}
+use Rattle.tsp_items.specs.Sections.{place_in, nodes_of}
+use Rattle.tsp_items.specs.Rows.{may_repeat}
+use Rattle.tsp_items.specs.Spells.{wants_more, is_incomplete, first_incomplete}
 use Rattle.tsp_round.proofs.Numbers.{NumberLaws, end_ends}
 use Rattle.tsp_round.proofs.Onto.{has_value}
 use Rattle.tsp_round.proofs.Lists.{pair_words, fixed_ended}

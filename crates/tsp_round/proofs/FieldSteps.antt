@@ -5,7 +5,7 @@ use Rattle.tsp_value.specs.declared.field.Field.TheVariants.{NameKey, TypeKey, C
 use Rattle.tsp_fields.specs.Fields.{Fields}
 use Rattle.tsp_fields.specs.Validity.{fits}
 use Rattle.tsp_file.specs.Text.{text_of_field}
-use Rattle.tsp_read.specs.Items.{Item}
+use Rattle.tsp_items.specs.Items.{Item}
 use Rattle.tsp_round.proofs.Numbers.{NumberLaws}
 use Rattle.tsp_round.proofs.KeyFields.{name_step, kind_step, comment_step, other_step, dimension_step, capacity_step, scale_step, weight_kind_step, weight_format_step, coord_kind_step, display_kind_step}
 use Rattle.tsp_round.proofs.SectionFields.{coords_step, display_step, demand_step, depot_step, fixed_step, weight_step, tour_step, node_potential_step, row_potential_step, column_potential_step}

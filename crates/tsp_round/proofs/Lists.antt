@@ -13,14 +13,14 @@ use Rattle.std.proofs.lemmas.List.Folds.{list_any-append}
 use Rattle.tsp_number.specs.declared.fault.NumberFault.{NumberFault}
 use Rattle.tsp_value.specs.Limits.{most_weight, most_depots, most_fixed}
 use Rattle.tsp_fields.specs.Validity.{is_within, is_node, is_pair}
-use Rattle.tsp_read.specs.declared.fault.LineFault.TheVariants as row
-use Rattle.tsp_read.specs.Numbers.{number, node, node_or_end, is_end, sized, reads_as}
-use Rattle.tsp_read.specs.Places.{DepotAfter, FirstAfter, SecondOf, PastEnd, Weight, PastWeights}
-use Rattle.tsp_read.specs.Groups.{pairs_in, begun_pair}
-use Rattle.tsp_read.specs.Lists.{before, firsts_in, depots_in, place_of_depot, fixed_in, place_in_pair, place_of_fixed}
-use Rattle.tsp_read.specs.Weights.{weights_in, place_of_weight}
-use Rattle.tsp_read.specs.Rows.{when, first_row}
-use Rattle.tsp_read.specs.Parts.{word_fault}
+use Rattle.tsp_items.specs.declared.fault.LineFault.TheVariants as row
+use Rattle.tsp_items.specs.Numbers.{number, node, node_or_end, is_end, sized, reads_as}
+use Rattle.tsp_items.specs.Places.{DepotAfter, FirstAfter, SecondOf, PastEnd, Weight, PastWeights}
+use Rattle.tsp_items.specs.Groups.{pairs_in, begun_pair}
+use Rattle.tsp_items.specs.Lists.{before, firsts_in, depots_in, place_of_depot, fixed_in, place_in_pair, place_of_fixed}
+use Rattle.tsp_items.specs.Weights.{weights_in, place_of_weight}
+use Rattle.tsp_items.specs.Rows.{when, first_row}
+use Rattle.tsp_items.specs.Parts.{word_fault}
 use Rattle.tsp_read.proofs.ValidLists.{pair_begins, pair_ends}
 use Rattle.tsp_round.proofs.Numbers.{NumberLaws, node_back, listed_back, node_goes_on, end_read, end_ends, size_in}
 use Rattle.tsp_round.proofs.Onto.{AllTaken}

@@ -4,13 +4,13 @@ use Rattle.std.specs.Prelude.{is_some, ◌||◌}
 use Rattle.std.proofs.lemmas.Bool.{false≢true}
 use Rattle.std.proofs.lemmas.List.{reverse-append}
 use Rattle.tsp_value.specs.declared.field.Field.{Field}
-use Rattle.tsp_read.specs.Items.{Item, Line, NumberWord, LineEnd, has_end_line, to_end_line, is_end_line}
-use Rattle.tsp_read.specs.Earlier.{is_key, has_line, value_at, values_at, others_in, open_section, is_open, words_of}
-use Rattle.tsp_read.specs.Sections.{place_in, nodes_of}
-use Rattle.tsp_read.specs.Places.{Place}
-use Rattle.tsp_read.specs.Rows.{row_of}
-use Rattle.tsp_read.specs.Parts.{word_fault}
-use Rattle.tsp_read.specs.FirstFault.{IsClean}
+use Rattle.tsp_items.specs.Items.{Item, Line, NumberWord, LineEnd, has_end_line, to_end_line, is_end_line}
+use Rattle.tsp_items.specs.Earlier.{is_key, has_line, value_at, values_at, others_in, open_section, is_open, words_of}
+use Rattle.tsp_items.specs.Sections.{place_in, nodes_of}
+use Rattle.tsp_items.specs.Places.{Place}
+use Rattle.tsp_items.specs.Rows.{row_of}
+use Rattle.tsp_items.specs.Parts.{word_fault}
+use Rattle.tsp_items.specs.FirstFault.{IsClean}
 use Rattle.tsp_read.proofs.Clean.{clean_more}
 use Rattle.tsp_read.proofs.WordSteps.{same_self}
 use Rattle.tsp_round.proofs.Text.{number_words, are_numbers}

@@ -15,12 +15,12 @@ use Rattle.tsp_value.specs.Bytes.{is_blank}
 use Rattle.tsp_value.specs.Limits.{most_nodes, most_demand, most_potential}
 use Rattle.tsp_fields.specs.Fields.{Fields}
 use Rattle.tsp_fields.specs.Validity.{with_dimension, if_there, is_node, is_from_to}
-use Rattle.tsp_read.specs.Lines.{first_word}
-use Rattle.tsp_read.specs.Items.{Item}
-use Rattle.tsp_read.specs.Earlier.{has_line, value_at}
-use Rattle.tsp_read.specs.Values.{read_as}
-use Rattle.tsp_read.specs.Sections.{nodes_of}
-use Rattle.tsp_read.specs.Rows.{may_repeat}
+use Rattle.tsp_items.specs.Lines.{first_word}
+use Rattle.tsp_items.specs.Items.{Item}
+use Rattle.tsp_items.specs.Earlier.{has_line, value_at}
+use Rattle.tsp_items.specs.Values.{read_as}
+use Rattle.tsp_items.specs.Sections.{nodes_of}
+use Rattle.tsp_items.specs.Rows.{may_repeat}
 use Rattle.tsp_round.proofs.Text.{is_plain_word, unblank}
 use Rattle.tsp_round.proofs.Numbers.{NumberLaws, decimal_plain, size_in}
 use Rattle.tsp_round.proofs.Onto.{has_value}

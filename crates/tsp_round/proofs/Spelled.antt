@@ -17,8 +17,8 @@ use Rattle.tsp_value.specs.declared.field.Field.TheVariants.{DimensionKey, Capac
 use Rattle.tsp_value.specs.Limits.{most_nodes, most_capacity, most_scale}
 use Rattle.tsp_fields.specs.Fields.{Fields}
 use Rattle.tsp_fields.specs.Validity.{if_there, is_from_to, is_node}
-use Rattle.tsp_read.specs.Lines.{first_word}
-use Rattle.tsp_read.specs.Values.{read_as}
+use Rattle.tsp_items.specs.Lines.{first_word}
+use Rattle.tsp_items.specs.Values.{read_as}
 use Rattle.tsp_round.proofs.Numbers.{NumberLaws, signed_plain}
 use Rattle.tsp_round.proofs.Sections.{only_word, dimension_back}
 

@@ -9,10 +9,10 @@ use Rattle.tsp_value.specs.declared.field.Field.{Field}
 use Rattle.tsp_value.specs.declared.field.Field.TheVariants.{NameKey, TypeKey, CommentKey, OtherKey, DimensionKey, CapacityKey, ScaleKey, EdgeWeightTypeKey, EdgeWeightFormatKey, NodeCoordTypeKey, DisplayDataTypeKey, NodeCoordPart, DisplayDataPart, DemandPart, DepotPart, FixedEdgesPart, EdgeWeightPart, TourPart, NodePotentialPart, RowPotentialPart, ColumnPotentialPart}
 use Rattle.tsp_value.specs.Words.{kind_word, weight_kind_word, weight_format_word, coord_kind_word, display_kind_word, fields_in_order}
 use Rattle.tsp_fields.specs.Fields.{Fields}
-use Rattle.tsp_read.specs.Items.{Item, has_end_line, is_end_line}
-use Rattle.tsp_read.specs.Earlier.{same_field, is_section_field, value_at, values_at, others_in, words_of}
-use Rattle.tsp_read.specs.Rows.{may_repeat}
-use Rattle.tsp_read.specs.FirstFault.{IsClean}
+use Rattle.tsp_items.specs.Items.{Item, has_end_line, is_end_line}
+use Rattle.tsp_items.specs.Earlier.{same_field, is_section_field, value_at, values_at, others_in, words_of}
+use Rattle.tsp_items.specs.Rows.{may_repeat}
+use Rattle.tsp_items.specs.FirstFault.{IsClean}
 use Rattle.tsp_read.proofs.ValidSections.{same_field_is}
 use Rattle.tsp_read.proofs.WordSteps.{same_self}
 use Rattle.tsp_round.proofs.Text.{Writes, nothing_written, both_written}

@@ -13,17 +13,17 @@ use Rattle.tsp_value.specs.Words.{kind_word, weight_kind_word, weight_format_wor
 use Rattle.tsp_value.specs.Limits.{most_nodes, most_matrix_nodes, most_demand, most_potential, most_weight, most_depots, most_fixed, most_tour_nodes}
 use Rattle.tsp_fields.specs.Fields.{Fields}
 use Rattle.tsp_fields.specs.Validity.{fits, if_there, is_by_node, is_point, is_demand, is_within, is_node, is_pair, are_depots, are_fixed, are_weights, is_tour, are_tours, with_dimension}
-use Rattle.tsp_read.specs.Lines.{first_word}
-use Rattle.tsp_read.specs.Items.{Item}
-use Rattle.tsp_read.specs.Earlier.{has_line, words_of}
-use Rattle.tsp_read.specs.Values.{kind_named, weight_kind_named, weight_format_named, coord_kind_named, display_kind_named, read_as}
-use Rattle.tsp_read.specs.Sections.{nodes_of}
-use Rattle.tsp_read.specs.Groups.{points_by_node}
-use Rattle.tsp_read.specs.Lists.{depots_in, fixed_in}
-use Rattle.tsp_read.specs.Weights.{weights_in}
-use Rattle.tsp_read.specs.Tours.{tours_in}
-use Rattle.tsp_read.specs.Rows.{may_repeat}
-use Rattle.tsp_read.specs.Spells.{demands_in, potentials_in, spelled}
+use Rattle.tsp_items.specs.Lines.{first_word}
+use Rattle.tsp_items.specs.Items.{Item}
+use Rattle.tsp_items.specs.Earlier.{has_line, words_of}
+use Rattle.tsp_items.specs.Values.{kind_named, weight_kind_named, weight_format_named, coord_kind_named, display_kind_named, read_as}
+use Rattle.tsp_items.specs.Sections.{nodes_of}
+use Rattle.tsp_items.specs.Groups.{points_by_node}
+use Rattle.tsp_items.specs.Lists.{depots_in, fixed_in}
+use Rattle.tsp_items.specs.Weights.{weights_in}
+use Rattle.tsp_items.specs.Tours.{tours_in}
+use Rattle.tsp_items.specs.Rows.{may_repeat}
+use Rattle.tsp_items.specs.Spells.{demands_in, potentials_in, spelled}
 use Rattle.tsp_round.proofs.Numbers.{NumberLaws}
 use Rattle.tsp_round.proofs.Onto.{has_value}
 use Rattle.tsp_round.proofs.Lists.{pair_words, depots_back, fixed_back, weights_back}

@@ -9,9 +9,9 @@ ghost use Rattle.tsp_fields.specs.Fields.{Fields};
 ghost use Rattle.tsp_fields.specs.Rules.{fault_of};
 ghost use Rattle.tsp_fields.specs.Validity.{is_from_to};
 ghost use Rattle.tsp_file.specs.Text.{text_of};
-ghost use Rattle.tsp_read.specs.declared.fault.ReadFault.{ReadFault};
+ghost use Rattle.tsp_items.specs.declared.fault.ReadFault.{ReadFault};
 ghost use Rattle.tsp_read.specs.Reads.{Reads};
-ghost use Rattle.tsp_read.specs.Text.{Spells};
+ghost use Rattle.tsp_items.specs.Text.{Spells};
 ghost use Rattle.tsp_round.specs.Answers.{IsThisFile};
 
 use tsp_file::a_valid_text_is_short;

@@ -1,18 +1,18 @@
 //! The end of the text.
 
 ghost use Rattle.std.specs.Prelude.{◌≡◌, List, Err, is_some, true};
-ghost use Rattle.tsp_read.specs.declared.fault.ReadFault.TheVariants.{OutOfMemory};
-ghost use Rattle.tsp_read.specs.Items.{Item};
+ghost use Rattle.tsp_items.specs.declared.fault.ReadFault.TheVariants.{OutOfMemory};
+ghost use Rattle.tsp_items.specs.Items.{Item};
 ghost use Rattle.tsp_read.specs.Holds.{Holds};
 ghost use Rattle.tsp_read.specs.Cuts.{AreCut};
 ghost use Rattle.tsp_read.specs.Reads.{Completes};
 ghost use Rattle.tsp_fields.specs.Fields.{fields_of};
 ghost use Rattle.tsp_read.specs.Finishes.{first_flagged, FileOf};
 
-use crate::fault::ReadFault;
 use crate::state::reading::{Incomplete, Reading};
 use std::alloc::Global;
 use tsp_fields::{Draft, DraftFault, EndFault, File, end_fault};
+use tsp_items::ReadFault;
 use tsp_value::Field;
 
 /// Why what was read is no file.

@@ -1,16 +1,17 @@
 //! Word lines.
 
-use crate::fault::{LineFault, StepFault};
-use crate::state::line::CutLine;
 use crate::state::reading::Reading;
-use crate::state::slots::{add_comment, add_other, set_count, set_name, set_named, set_number};
 use std::alloc::Global;
+use tsp_items::{
+    CutLine, LineFault, StepFault, add_comment, add_other, set_count, set_name, set_named,
+    set_number,
+};
 use tsp_value::{Field, Keyword, MOST_CAPACITY, MOST_LINE_BYTES, MOST_NODES, MOST_SCALE};
 
 impl Reading {
     ghost use Rattle.std.specs.Prelude.{List};
-    ghost use Rattle.tsp_read.specs.Items.{Item};
-    ghost use Rattle.tsp_read.specs.CutLine.{seen, cut_item};
+    ghost use Rattle.tsp_items.specs.Items.{Item};
+    ghost use Rattle.tsp_items.specs.CutLine.{seen, cut_item};
     ghost use Rattle.tsp_read.specs.Holds.{Holds, Answers, LineAnswers};
 
     /// Takes a word line.

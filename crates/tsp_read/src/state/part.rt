@@ -2,14 +2,8 @@
 
 ghost use Rattle.std.specs.Prelude.{ℕ, List};
 
-use crate::fault::StepFault;
-use crate::parts::depots::DepotList;
-use crate::parts::fixed::FixedList;
-use crate::parts::numbers::NumberList;
-use crate::parts::points::PointList;
-use crate::parts::tours::TourList;
-use crate::parts::weights::WeightList;
 use std::alloc::Global;
+use tsp_items::{DepotList, FixedList, NumberList, PointList, StepFault, TourList, WeightList};
 
 /// The part of each section.
 #[derive(Drop)]

@@ -1,12 +1,12 @@
 //! The state of the reader: what the lines and words so far spell.
 
 ghost use Rattle.std.specs.Prelude.{[], List, IfErr, OnOk, ◌≡◌, is_some, true};
-ghost use Rattle.tsp_read.specs.Items.{Item, NumberWord};
+ghost use Rattle.tsp_items.specs.Items.{Item, NumberWord};
 
-use crate::fault::{LineFault, StepFault};
 use crate::state::part::Part;
 use std::alloc::Global;
 use tsp_fields::Draft;
+use tsp_items::{LineFault, StepFault};
 
 /// Which of the closed sections are incomplete.
 #[derive(Clone, Copy, Drop)]
@@ -31,7 +31,7 @@ pub(crate) struct Reading {
 
 impl Reading {
     ghost use Rattle.tsp_read.specs.Holds.{Holds, Closed, Answers};
-    ghost use Rattle.tsp_read.specs.declared.fault.StepFault.TheVariants.{Memory};
+    ghost use Rattle.tsp_items.specs.declared.fault.StepFault.TheVariants.{Memory};
 
     /// Nothing so far.
     pub(crate) fn new(alloc: Global) -> Reading

@@ -1,21 +1,17 @@
 //! Lines that open a section.
 
-use crate::fault::{LineFault, StepFault};
-use crate::parts::depots::DepotList;
-use crate::parts::fixed::FixedList;
-use crate::parts::numbers::NumberList;
-use crate::parts::points::PointList;
-use crate::parts::tours::TourList;
-use crate::parts::weights::WeightList;
-use crate::state::line::{CutLine, may_open};
 use crate::state::part::Part;
 use crate::state::reading::Reading;
 use std::alloc::Global;
+use tsp_items::{
+    CutLine, DepotList, FixedList, LineFault, NumberList, PointList, StepFault, TourList,
+    WeightList, may_open,
+};
 use tsp_value::{MOST_DEMAND, MOST_MATRIX_NODES, MOST_POTENTIAL};
 
 impl Reading {
     ghost use Rattle.tsp_value.specs.declared.field.Field.TheVariants.{NodeCoordPart, DisplayDataPart, DemandPart, DepotPart, FixedEdgesPart, EdgeWeightPart, TourPart, NodePotentialPart, RowPotentialPart, ColumnPotentialPart};
-    ghost use Rattle.tsp_read.specs.CutLine.{seen};
+    ghost use Rattle.tsp_items.specs.CutLine.{seen};
     ghost use Rattle.tsp_read.specs.Holds.{LineAnswers};
 
     /// Opens NODE_COORD_SECTION.

@@ -1,5 +1,5 @@
 use Rattle.std.proofs.Common.{◌≡◌, length}
-use Rattle.tsp_read.specs.Lines.{without_end}
+use Rattle.tsp_items.specs.Lines.{without_end}
 use Rattle.tsp_read.proofs.cut.without_end.Given as goal
 
 abbrev pub invariant-loop-last : goal.invariant-loop-last

@@ -1,8 +1,8 @@
 use Rattle.std.proofs.Common.{refl, sym, ap, ◌∙◌, ◌<◌, ◌≤◌, ◌+◌, ◌++◌, true, List, ℕ, length, subst, length-append}
 use Rattle.std.proofs.lemmas.Bool.{lt-ltb}
 use Rattle.tsp_value.specs.Limits.{most_word_bytes}
-use Rattle.tsp_read.specs.Lines.{is_filled}
-use Rattle.tsp_read.specs.Items.{NumberWord}
+use Rattle.tsp_items.specs.Lines.{is_filled}
+use Rattle.tsp_items.specs.Items.{NumberWord}
 use Rattle.tsp_read.specs.Left.{ends_word, before, from}
 use Rattle.tsp_read.specs.Intake.{IsReadTo}
 use Rattle.tsp_read.proofs.BegunSteps.{word_here, word_joins, fed_word, fed_longer_word, fed_none, joined_fault, joined_end, joined_more, settled_filled, settled_long, too_many, few_enough, taken_up, empty_rest, filled_rest}

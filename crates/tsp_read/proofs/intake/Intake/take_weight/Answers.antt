@@ -1,6 +1,6 @@
 use Rattle.std.proofs.Common.{refl, true, false, FitsSigned, rules, w64}
 use Rattle.std.proofs.lemmas.Int.{to_z-of_z}
-use Rattle.tsp_read.specs.Items.{NumberWord}
+use Rattle.tsp_items.specs.Items.{NumberWord}
 use Rattle.tsp_read.specs.Front.{front_word}
 use Rattle.tsp_read.proofs.IntakeSteps.{read_further}
 use Rattle.tsp_read.proofs.intake.Intake.take_weight.Goals as goal

@@ -1,5 +1,5 @@
 use Rattle.std.proofs.Common.{refl}
-use Rattle.tsp_read.specs.CutLine.{seen}
+use Rattle.tsp_items.specs.CutLine.{seen}
 use Rattle.tsp_read.proofs.OpenSteps as steps
 use Rattle.tsp_read.proofs.state.reading.Reading.open_depots.Goals as goal
 

@@ -1,7 +1,7 @@
 use Rattle.std.proofs.Common.{◌≡◌, false, refl, rules}
 use Rattle.std.specs.Prelude.{is_some}
-use Rattle.tsp_read.specs.Lines.{is_filled}
-use Rattle.tsp_read.specs.CutLine.{seen}
+use Rattle.tsp_items.specs.Lines.{is_filled}
+use Rattle.tsp_items.specs.CutLine.{seen}
 use Rattle.tsp_read.proofs.OpenSteps as steps
 use Rattle.tsp_read.proofs.state.reading.Reading.open_tours.Goals as goal
 

@@ -1,6 +1,6 @@
 use Rattle.std.proofs.Common.{◌≡◌, false, refl, tests, rules}
 use Rattle.std.specs.Prelude.{nat_lt}
-use Rattle.tsp_read.specs.CutLine.{seen}
+use Rattle.tsp_items.specs.CutLine.{seen}
 use Rattle.tsp_read.proofs.OpenSteps as steps
 use Rattle.tsp_read.proofs.state.reading.Reading.open_weights.Goals as goal
 

@@ -1,0 +1,12 @@
+pub mod DepotSteps
+pub mod Ended
+pub mod FixedSteps
+pub mod PairWords
+pub mod WeightSteps
+pub mod NodeGroups
+pub mod NumberSteps
+pub mod PointSteps
+pub mod TripleWords
+pub mod Pieces
+pub mod TourSteps
+pub mod Readings

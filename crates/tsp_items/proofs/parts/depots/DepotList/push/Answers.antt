@@ -1,0 +1,29 @@
+use Rattle.std.proofs.Common.{◌≡◌, ◌∙◌, sym, ap, Ok, arith}
+use Rattle.std.specs.Prelude.{pos, negsuc}
+use Rattle.tsp_items.specs.Numbers.{node_or_end}
+use Rattle.tsp_items.specs.Parts.{as_node_or_end}
+use Rattle.tsp_items.proofs.DepotSteps.{depot_past_end, depot_end, depot_more}
+use Rattle.tsp_items.proofs.parts.depots.DepotList.push.Goals as goal
+
+pub returns-then-is_minus_one : goal.returns-then-is_minus_one
+returns-then-is_minus_one c = λ n words h.
+    let s = c.args.self.now in
+    let next = depot_past_end s.depots.items s.ended n words c.args.word.now c.if-self.true (sym c.is_minus_one.ensures ∙ c.if-is_minus_one.true) h.read in
+    (next.0, record { nodes = h.nodes; read = next.1 })
+
+pub returns-in-Ok-None : goal.returns-in-Ok-None
+returns-in-Ok-None c = λ n words h.
+    let s = c.args.self.now in
+    let read : node_or_end n c.args.word.now ≡ Ok (negsuc 0) =
+    rw (← h.nodes) (c.read_node_or_end.ensures.read ∙ ap as_node_or_end (c.in-Ok-None.is ∙ ap (λ o. Ok o) c.in-Ok-None.field-0-is)) in
+    let next = depot_end s.depots.items s.ended n words c.args.word.now c.if-self.false read h.read in
+    (next.0, record { nodes = h.nodes; read = next.1 })
+
+pub returns-in-Ok : goal.returns-in-Ok
+returns-in-Ok c = λ n words h.
+    let s = c.args.self.now in
+    let k = c.in-Ok-Some.field-0-0 in
+    let read : node_or_end n c.args.word.now ≡ Ok (pos k) =
+    rw (← h.nodes) (c.read_node_or_end.ensures.read ∙ ap as_node_or_end (c.in-Ok-Some.is ∙ ap (λ o. Ok o) c.in-Ok-Some.field-0-is)) in
+    let next = depot_more s.depots.items s.ended n words c.args.word.now k c.if-self.false read (omega arith) h.read in
+    (next.0, record { nodes = h.nodes; read = rw c.in-Ok.ensures.items next.1 })

@@ -1,0 +1,41 @@
+use Rattle.std.proofs.Common.{◌≡◌, ◌∙◌, sym, subst, Ok, Err, arith, rules, w64}
+use mir.Val.{SFits}
+use Rattle.std.proofs.lemmas.Int.{to_z-of_z}
+use Rattle.tsp_number.specs.Reading.{whole_of}
+use Rattle.tsp_items.specs.Parts.{IsNewNode}
+use Rattle.tsp_items.proofs.NumberSteps.{number_node_faulty, number_bad, number_node, number_more}
+use Rattle.tsp_items.proofs.parts.numbers.NumberList.push.Goals as goal
+
+pub returns-in-Ok : goal.returns-in-Ok
+returns-in-Ok c = λ low high n words h.
+    let s = c.args.self.now in
+    let new = rw c.as_slice.ensures.value at c.in-Ok.ensures in
+    let next = number_node s.seen.items s.entries.items s.left s.begun low high n words c.args.word.now c.in-Ok.node (omega arith) c.in-None.is new h.read in
+    (next.0, record { from = h.from; to = h.to; read = next.1 })
+
+pub returns-in-Err : goal.returns-in-Err
+returns-in-Err c = λ low high n words h.
+    let s = c.args.self.now in
+    let new = subst (λ seen. IsNewNode seen c.args.word.now (Err c.in-Err.fault)) c.as_slice.ensures.value c.in-Err.ensures in
+    number_node_faulty s.seen.items s.entries.items s.left s.begun low high n words c.args.word.now c.in-Err.fault (omega arith) c.in-None.is new h.read
+
+pub returns-in-Ok-parse_whole : goal.returns-in-Ok-parse_whole
+returns-in-Ok-parse_whole c = λ low high n words h.
+    let s = c.args.self.now in
+    let z = c.in-Ok-parse_whole.number in
+    let low_fits : SFits w64 s.low = search rules in
+    let high_fits : SFits w64 s.high = search rules in
+    let fits : SFits w64 z = search rules in
+    let computed = simp (to_z-of_z, low_fits, high_fits) at c.parse_whole.ensures.computed in
+    let read : whole_of c.args.word.now low high ≡ Ok z = rw (← h.from, ← h.to) (sym computed ∙ c.in-Ok-parse_whole.is) in
+    let next = number_more s.seen.items s.entries.items s.left s.begun low high n words c.args.word.now c.in-Some.node z (omega arith) c.in-Some.is read h.read in
+    (next.0, record { from = h.from; to = h.to; read = simp (to_z-of_z, fits) next.1 })
+
+pub returns-in-Err-parse_whole : goal.returns-in-Err-parse_whole
+returns-in-Err-parse_whole c = λ low high n words h.
+    let s = c.args.self.now in
+    let low_fits : SFits w64 s.low = search rules in
+    let high_fits : SFits w64 s.high = search rules in
+    let computed = simp (to_z-of_z, low_fits, high_fits) at c.parse_whole.ensures.computed in
+    let read : whole_of c.args.word.now low high ≡ Err c.in-Err-parse_whole.fault = rw (← h.from, ← h.to) (sym computed ∙ c.in-Err-parse_whole.is) in
+    number_bad s.seen.items s.entries.items s.left s.begun low high n words c.args.word.now c.in-Some.node c.in-Err-parse_whole.fault (omega arith) c.in-Some.is read h.read

@@ -1,0 +1,88 @@
+-- A word line that is cut into its parts, and the rows of its value alone.
+use Rattle.std.specs.Prelude.{◌≡◌, ℕ, ℤ, Bool, true, false, not, List, [], ◌∷◌, Option, Some, is_none, is_some, Result, Ok, Err, pos, length, ◌++◌, nat_le}
+use Rattle.std.specs.Option.{option_map}
+use Rattle.std.specs.Result.{result_err}
+use Rattle.tsp_number.specs.Reading.{whole_of}
+use Rattle.tsp_value.specs.Limits.{most_comments, most_others}
+use Rattle.tsp_value.specs.declared.field.Field.{Field}
+use Rattle.tsp_items.specs.declared.fault.LineFault.{LineFault}
+use Rattle.tsp_items.specs.declared.fault.LineFault.TheVariants as row
+use Rattle.tsp_number.specs.declared.fault.NumberFault.{NumberFault}
+use Rattle.tsp_items.specs.declared.fault.StepFault.{StepFault}
+use Rattle.tsp_items.specs.declared.fault.StepFault.TheVariants as steps
+use Rattle.tsp_items.specs.declared.line.CutLine.{CutLine}
+use Rattle.tsp_items.specs.Lines.{is_filled, first_word}
+use Rattle.tsp_items.specs.Items.{WordLine, Item, Line}
+use Rattle.tsp_items.specs.Values.{named, is_left_out}
+use Rattle.tsp_items.specs.Rows.{when, first_row, is_too_long_to_keep}
+
+abbrev pub seen : CutLine → WordLine
+seen line = record { size = line.size; keyword = line.keyword.now; has_colon = line.has_colon; value = line.value.now }
+
+abbrev pub cut_item : CutLine → Item
+cut_item line = Line line.key (seen line)
+
+-- the rows of a keyword with a list of accepted words
+abbrev pub word_rows : {V : Type 0} → (V → List ℕ) → List V → Field → List ℕ → Option LineFault
+word_rows text values field word = first_row (when (is_left_out field word) row.Outside ∷ when (is_none (named text values word)) row.BadValue ∷ [])
+
+abbrev pub NamesValue : {V : Type 0} → (V → List ℕ) → List V → Field → List ℕ → Result V LineFault → Type 0
+NamesValue text values field word (Ok v) = (is_left_out field word ≡ false) × (named text values word ≡ Some v)
+NamesValue text values field word (Err fault) = word_rows text values field word ≡ Some fault
+
+-- the rows of a keyword with a number
+abbrev pub number_rows : ℤ → ℤ → List ℕ → Option LineFault
+number_rows low high value = first_row (when (not (is_filled value)) row.BadValue ∷ option_map (λ fault. row.Number fault) (result_err (whole_of (first_word value) low high)) ∷ [])
+
+abbrev pub ReadsNumber : ℤ → ℤ → List ℕ → Result ℤ LineFault → Type 0
+ReadsNumber low high value (Ok z) = (is_filled value ≡ true) × (whole_of (first_word value) low high ≡ Ok z)
+ReadsNumber low high value (Err fault) = number_rows low high value ≡ Some fault
+
+-- whether a section may be opened, with n nodes, by its own rows
+abbrev pub MayOpen : Bool → List ℕ → Option ℕ → Result ℕ LineFault → Type 0
+MayOpen stands value dimension (Ok n) = (stands ≡ false) × (is_filled value ≡ false) × (dimension ≡ Some n)
+MayOpen stands value dimension (Err fault) = first_row (when stands row.Repeated ∷ when (is_filled value) row.SectionValue ∷ when (is_none dimension) row.SectionEarly ∷ []) ≡ Some fault
+
+-- ---- a slot of the draft that a line fills
+
+abbrev pub named_rows : {V : Type 0} → Bool → Bool → Option V → Option LineFault
+named_rows stands out found = first_row (when stands row.Repeated ∷ when out row.Outside ∷ when (is_none found) row.BadValue ∷ [])
+
+-- the value that is named is there now, or the fault of the line
+abbrev pub SetsNamed : {V : Type 0} → (V → List ℕ) → List V → Field → List ℕ → Option V → Option V → Result (Unit {0}) StepFault → Type 0
+SetsNamed text values field word old new (Ok done) = (is_some old ≡ false) × (is_left_out field word ≡ false) × (named text values word ≡ new) × (is_some new ≡ true)
+SetsNamed text values field word old new (Err steps.Memory) = ⊥
+SetsNamed text values field word old new (Err (steps.Fault fault)) = named_rows (is_some old) (is_left_out field word) (named text values word) ≡ Some fault
+
+abbrev pub numbered_rows : Bool → List ℕ → Result ℤ NumberFault → Option LineFault
+numbered_rows stands value reading = first_row (when stands row.Repeated ∷ when (not (is_filled value)) row.BadValue ∷ option_map (λ fault. row.Number fault) (result_err reading) ∷ [])
+
+-- the number that is read is there now, or the fault of the line
+abbrev pub SetsNumber : ℤ → ℤ → List ℕ → Option ℤ → Option ℤ → Result (Unit {0}) StepFault → Type 0
+SetsNumber low high value old new (Ok done) = (is_some old ≡ false) × (is_filled value ≡ true) × (z : ℤ) × (whole_of (first_word value) low high ≡ Ok z) × (new ≡ Some z)
+SetsNumber low high value old new (Err steps.Memory) = ⊥
+SetsNumber low high value old new (Err (steps.Fault fault)) = numbered_rows (is_some old) value (whole_of (first_word value) low high) ≡ Some fault
+
+-- the same of a number of nodes
+abbrev pub SetsCount : ℕ → List ℕ → Option ℕ → Option ℕ → Result (Unit {0}) StepFault → Type 0
+SetsCount most value old new (Ok done) = (is_some old ≡ false) × (is_filled value ≡ true) × (n : ℕ) × (whole_of (first_word value) (pos 1) (pos most) ≡ Ok (pos n)) × (new ≡ Some n)
+SetsCount most value old new (Err steps.Memory) = ⊥
+SetsCount most value old new (Err (steps.Fault fault)) = numbered_rows (is_some old) value (whole_of (first_word value) (pos 1) (pos most)) ≡ Some fault
+
+-- the name is there now, or the fault of the line
+abbrev pub SetsName : WordLine → Option (List ℕ) → Option (List ℕ) → Result (Unit {0}) StepFault → Type 0
+SetsName line old new (Ok done) = (is_some old ≡ false) × (is_too_long_to_keep line ≡ false) × (new ≡ Some line.value)
+SetsName line old new (Err steps.Memory) = Unit {0}
+SetsName line old new (Err (steps.Fault fault)) = first_row (when (is_some old) row.Repeated ∷ when (is_too_long_to_keep line) row.BadValue ∷ []) ≡ Some fault
+
+-- the value is the last comment now, or the fault of the line
+abbrev pub AddsComment : WordLine → List (List ℕ) → List (List ℕ) → Result (Unit {0}) StepFault → Type 0
+AddsComment line old new (Ok done) = (is_too_long_to_keep line ≡ false) × (nat_le most_comments (length old) ≡ false) × (new ≡ old ++ line.value ∷ [])
+AddsComment line old new (Err steps.Memory) = Unit {0}
+AddsComment line old new (Err (steps.Fault fault)) = first_row (when (is_too_long_to_keep line) row.BadValue ∷ when (nat_le most_comments (length old)) row.Surplus ∷ []) ≡ Some fault
+
+-- the keyword and the value are the last of the unknown ones now, or the fault of the line
+abbrev pub AddsOther : WordLine → List (List ℕ × List ℕ) → List (List ℕ × List ℕ) → Result (Unit {0}) StepFault → Type 0
+AddsOther line old new (Ok done) = (line.has_colon ≡ true) × (is_too_long_to_keep line ≡ false) × (nat_le most_others (length old) ≡ false) × (new ≡ old ++ (line.keyword, line.value) ∷ [])
+AddsOther line old new (Err steps.Memory) = Unit {0}
+AddsOther line old new (Err (steps.Fault fault)) = first_row (when (not line.has_colon) row.UnknownLine ∷ when (is_too_long_to_keep line) row.BadValue ∷ when (nat_le most_others (length old)) row.Surplus ∷ []) ≡ Some fault

@@ -1,0 +1,57 @@
+-- Small texts on which the definitions are evaluated. In them `/` stands for byte 10.
+use Rattle.std.specs.Prelude.{◌≡◌, ℕ, ◌==◌, cond, List, [], ◌∷◌, ◌++◌, map, replicate, None, Some, codes, pos}
+use Rattle.tsp_value.specs.declared.field.Field.{Field}
+use Rattle.tsp_number.specs.declared.fault.NumberFault.{NumberFault}
+use Rattle.tsp_fields.specs.declared.fault.EndFault.{EndFault}
+use Rattle.tsp_fields.specs.declared.fault.EndFault.TheVariants.{Missing}
+use Rattle.tsp_items.specs.declared.fault.LineFault.{LineFault}
+use Rattle.tsp_items.specs.declared.fault.LineFault.TheVariants.{Number}
+use Rattle.tsp_items.specs.declared.fault.ReadFault.TheVariants as faults
+use Rattle.tsp_items.specs.Spells.{spelled}
+use Rattle.tsp_items.specs.Text.{part, fault}
+
+abbrev pub newline : ℕ → ℕ
+newline b = cond (b == 47) 10 b
+
+abbrev pub text : List ℕ → List ℕ
+text bytes = map newline bytes
+
+-- the first fault of the text is that of this line and word
+abbrev pub FaultAt : List ℕ → ℕ → ℕ → LineFault → Type 0
+FaultAt bytes line word found = fault (text bytes) ≡ Some (faults.Line line word found)
+
+abbrev pub NumberAt : List ℕ → ℕ → ℕ → NumberFault → Type 0
+NumberAt bytes line word found = FaultAt bytes line word (Number found)
+
+-- no line has a fault, and this one is found at the end
+abbrev pub EndsWith : List ℕ → EndFault → Type 0
+EndsWith bytes found = fault (text bytes) ≡ Some (faults.End found)
+
+abbrev pub MissingAtEnd : List ℕ → Field → Type 0
+MissingAtEnd bytes field = EndsWith bytes (Missing field)
+
+-- the text has this one line of an unknown keyword
+abbrev pub OthersAre : List ℕ → List ℕ → List ℕ → Type 0
+OthersAre bytes keyword value = (spelled (part (text bytes))).others ≡ (keyword, value) ∷ []
+
+-- the text spells a file with the tours (3) and (4, 5); with the fixed pairs (1, 2) and (3, 1)
+abbrev pub ToursAre : List ℕ → Type 0
+ToursAre bytes = (fault (text bytes) ≡ None) × ((spelled (part (text bytes))).tours ≡ Some ((3 ∷ []) ∷ (4 ∷ 5 ∷ []) ∷ []))
+
+abbrev pub PairsAre : List ℕ → Type 0
+PairsAre bytes = (fault (text bytes) ≡ None) × ((spelled (part (text bytes))).fixed ≡ Some ((1, 2) ∷ (3, 1) ∷ []))
+
+-- the demands of the nodes 1, 2 and 3 are 5, 7 and 9
+abbrev pub DemandsAre : List ℕ → Type 0
+DemandsAre bytes = (spelled (part (text bytes))).demands ≡ Some (pos 5 ∷ pos 7 ∷ pos 9 ∷ [])
+
+-- four nodes with weights
+abbrev pub quad : List ℕ → List ℕ → List ℕ
+quad format weights = codes "TYPE:TSP/DIMENSION:4/EDGE_WEIGHT_TYPE:EXPLICIT/EDGE_WEIGHT_FORMAT:" ++ format ++ codes "/EDGE_WEIGHT_SECTION/" ++ weights
+
+-- a word line of 4097 bytes, and a word of 65 digits
+abbrev pub long_line : List ℕ
+long_line = codes "COMMENT" ++ replicate 4090 32
+
+abbrev pub long_word : List ℕ
+long_word = replicate 65 49

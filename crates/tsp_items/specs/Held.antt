@@ -1,0 +1,35 @@
+-- What each section's part holds, by the part itself, and what it finishes with.
+use Rattle.std.specs.Prelude.{◌≡◌, ℕ, ℤ, List, map}
+use Rattle.tsp_items.specs.declared.parts.numbers.NumberList.{NumberList}
+use Rattle.tsp_items.specs.declared.parts.points.PointList.{PointList}
+use Rattle.tsp_items.specs.declared.parts.depots.DepotList.{DepotList}
+use Rattle.tsp_items.specs.declared.parts.fixed.FixedList.{FixedList}
+use Rattle.tsp_items.specs.declared.parts.weights.WeightList.{WeightList}
+use Rattle.tsp_items.specs.declared.parts.tours.TourList.{TourList}
+use Rattle.tsp_items.specs.Parts.{NumbersHold, PointsHold, DepotsHold, PairsHold, WeightsHold, ToursHold, EndsRun}
+
+-- its numbers are of this range
+pub record HoldsNumbers (part : NumberList) (low high : ℤ) (n : ℕ) (words : List (List ℕ)) : Type 0 where
+  pub from : part.low ≡ low
+  pub to : part.high ≡ high
+  pub read : NumbersHold part.seen.items part.entries.items part.left part.begun low high n words
+
+abbrev pub HoldsPoints : PointList → ℕ → List (List ℕ) → Type 0
+HoldsPoints part n words = PointsHold part.seen.items part.entries.items part.left part.begun part.x n words
+
+pub record HoldsDepots (part : DepotList) (n : ℕ) (words : List (List ℕ)) : Type 0 where
+  pub nodes : part.n ≡ n
+  pub read : DepotsHold part.depots.items part.ended n words
+
+pub record HoldsFixed (part : FixedList) (n : ℕ) (words : List (List ℕ)) : Type 0 where
+  pub nodes : part.n ≡ n
+  pub read : PairsHold part.pairs.items part.first part.ended n words
+
+abbrev pub HoldsWeights : WeightList → ℕ → List (List ℕ) → Type 0
+HoldsWeights part n words = WeightsHold part.weights.items part.most n words
+
+abbrev pub HoldsTours : TourList → List (List ℕ) → Type 0
+HoldsTours part words = ToursHold (map (λ tour. tour.items) part.done.items) part.run.items part.count words
+
+abbrev pub EndsRunOf : TourList → List (List ℕ) → Type 0
+EndsRunOf part words = EndsRun (map (λ tour. tour.items) part.done.items) part.run.items words

@@ -1,0 +1,72 @@
+//! What always holds of the definitions, as contracts of functions that do nothing.
+
+ghost use Rattle.std.specs.Prelude.{codes, ◌++◌, IsTrue, true};
+ghost use Rattle.tsp_number.specs.declared.fault.NumberFault.TheVariants as numbers;
+ghost use Rattle.tsp_value.specs.declared.field.Field.TheVariants as fields;
+ghost use Rattle.tsp_fields.specs.declared.fault.EndFault.TheVariants as ends;
+ghost use Rattle.tsp_items.specs.declared.fault.LineFault.TheVariants as faults;
+ghost use Rattle.tsp_items.specs.Examples.{FaultAt, NumberAt, MissingAtEnd, EndsWith, OthersAre, ToursAre, PairsAre, DemandsAre, quad, long_line, long_word};
+
+/// The first faults of some texts of word lines. In the texts `/` parts lines.
+#[tactic(auto, unfolding(tsp_number::specs::Reading::whole_of))]
+pub fn faults_of_word_lines()
+    ensures unknown { FaultAt (codes "TYPE : TSP/FOO") 2 0 faults.UnknownLine }
+    ensures second_word_no_colon { FaultAt (codes "FOO BAR : 1") 1 0 faults.UnknownLine }
+    ensures left_out { FaultAt (codes "TYPE : HCP") 1 0 faults.Outside }
+    ensures not_accepted { FaultAt (codes "TYPE : FOO") 1 0 faults.BadValue }
+    ensures no_value { FaultAt (codes "TYPE") 1 0 faults.BadValue }
+    ensures twice { FaultAt (codes "TYPE : TOUR/TYPE : HCP") 2 0 faults.Repeated }
+    ensures no_number { NumberAt (codes "DIMENSION : x") 1 0 numbers.BadNumber }
+    ensures empty_number { FaultAt (codes "DIMENSION :") 1 0 faults.BadValue }
+    ensures valued_section { FaultAt (codes "NODE_COORD_SECTION x") 1 0 faults.SectionValue }
+    ensures early_section { FaultAt (codes "NODE_COORD_SECTION") 1 0 faults.SectionEarly }
+    ensures refused_keyword { FaultAt (codes "EDGE_DATA_FORMAT :") 1 0 faults.Outside }
+    ensures two_names_of_one_section { FaultAt (codes "DIMENSION : 2/FIXED_EDGES/1 2/FIXED_EDGES_SECTION") 4 0 faults.Repeated }
+    ensures long { FaultAt long_line 1 0 faults.LongLine }
+{}
+
+/// The first faults of some texts of numbers.
+#[tactic(auto, unfolding(tsp_number::specs::Reading::whole_of))]
+pub fn faults_of_words()
+    ensures stray { FaultAt (codes "1 2") 1 1 faults.StrayNumber }
+    ensures stray_after_comment { FaultAt (codes "TOUR_SECTION/1/COMMENT : x/2") 4 1 faults.StrayNumber }
+    ensures self_edge { FaultAt (codes "DIMENSION : 3/FIXED_EDGES/1 1") 3 2 faults.SelfEdge }
+    ensures after_end { FaultAt (codes "DIMENSION : 3/FIXED_EDGES/1 2 -1 5") 3 4 faults.AfterEnd }
+    ensures zero { NumberAt (codes "DIMENSION : 3/FIXED_EDGES/0 1") 3 1 numbers.OutOfRange }
+    ensures end_in_second_place { NumberAt (codes "DIMENSION : 3/FIXED_EDGES/1 -1") 3 2 numbers.OutOfRange }
+    ensures other_spelling_after_end { FaultAt (codes "DIMENSION : 3/FIXED_EDGES/1 2 -1 -1.0") 3 4 faults.AfterEnd }
+    ensures repeated_node { FaultAt (codes "DIMENSION : 2/DEMAND_SECTION/1 0 1 5") 3 3 faults.RepeatedNode }
+    ensures past_the_groups { FaultAt (codes "DIMENSION : 2/DEMAND_SECTION/1 0 2 5 7") 3 5 faults.Surplus }
+    ensures zero_in_a_tour { NumberAt (codes "TOUR_SECTION/1 0 2") 2 2 numbers.OutOfRange }
+    ensures long_word { NumberAt (codes "TOUR_SECTION/1 " ++ long_word) 2 2 numbers.LongWord }
+    ensures past_the_weights { FaultAt (quad (codes "UPPER_ROW") (codes "1 2 3 4 5 6 7 8 9 10 11 12 13 14 15 16 17")) 6 17 faults.Surplus }
+{}
+
+/// The faults at the end of some texts.
+#[tactic(auto, unfolding(tsp_number::specs::Reading::whole_of, tsp_value::specs::Cells::cells, tsp_value::specs::Cells::nodes_to))]
+pub fn faults_at_the_end()
+    ensures no_type { MissingAtEnd (codes "DIMENSION 3") fields.TypeKey }
+    ensures small_letters { MissingAtEnd (codes "dimension : 3") fields.TypeKey }
+    ensures ended_by_any_spelling { MissingAtEnd (codes "DIMENSION : 3/FIXED_EDGES/1 2 -1.0 -1 -1") fields.TypeKey }
+    ensures ignored_words { MissingAtEnd (codes "DIMENSION : 2/DEMAND_SECTION/1 0 2 5 -1") fields.TypeKey }
+    ensures after_the_end_line { MissingAtEnd (codes "TYPE : TSP/EOF/FOO") fields.DimensionKey }
+    ensures end_line_with_a_value { MissingAtEnd (codes " EOF : x/FOO") fields.TypeKey }
+    ensures cut_pair { EndsWith (codes "TYPE : TOUR/DIMENSION : 3/FIXED_EDGES_SECTION/1 2 3/TOUR_SECTION")
+        (ends.Incomplete fields.FixedEdgesPart) }
+    ensures rows_alone { MissingAtEnd (codes "TYPE : POTENTIALS/DIMENSION : 1/ROW_POTENTIAL_SECTION/1 0")
+        fields.ColumnPotentialPart }
+    ensures too_few { EndsWith (quad (codes "UPPER_ROW") (codes "1 2 3 4 5")) ends.WrongCount }
+    ensures too_many { EndsWith (quad (codes "UPPER_ROW") (codes "1 2 3 4 5 6 7")) ends.WrongCount }
+    ensures by_function { EndsWith (quad (codes "FUNCTION") (codes "1 2 3 4 5")) ends.WrongFormat }
+{}
+
+/// What some texts spell.
+#[tactic(auto, unfolding(tsp_number::specs::Reading::whole_of, tsp_value::specs::Cells::nodes_to))]
+pub fn fields_of_texts()
+    ensures value { OthersAre (codes "FOO : BAR") (codes "FOO") (codes "BAR") }
+    ensures no_value { OthersAre (codes "FOO: ") (codes "FOO") (codes "") }
+    ensures colon_in_value { OthersAre (codes "FOO :BAR : X ") (codes "FOO") (codes "BAR : X") }
+    ensures tours { ToursAre (codes "TYPE:TOUR/TOUR_SECTION/3 -1 -1/4 5/EOF") }
+    ensures pairs { PairsAre (codes "TYPE:TOUR/DIMENSION 3/FIXED_EDGES/1 2 +3 1.0 -1/TOUR_SECTION") }
+    ensures demands { DemandsAre (codes "DIMENSION : 3/DEMAND_SECTION/2 7/3 9 1/5") }
+{}

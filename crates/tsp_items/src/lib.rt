@@ -1,0 +1,20 @@
+//! What the items of a text spell, its word lines and its words, or the first fault among them; and
+//! the parts of a reader that take the words of each section and the value of each keyword.
+#![tactic(auto)]
+
+mod fault;
+mod laws;
+mod line;
+mod parts;
+mod slots;
+
+pub use fault::{LineFault, ReadFault, StepFault};
+pub use laws::{faults_at_the_end, faults_of_word_lines, faults_of_words, fields_of_texts};
+pub use line::{CutLine, may_open};
+pub use parts::depots::DepotList;
+pub use parts::fixed::FixedList;
+pub use parts::numbers::NumberList;
+pub use parts::points::PointList;
+pub use parts::tours::TourList;
+pub use parts::weights::WeightList;
+pub use slots::{add_comment, add_other, set_count, set_name, set_named, set_number};

@@ -1,0 +1,9 @@
+//! The parts of a reader that take the words of a section.
+
+pub(crate) mod depots;
+pub(crate) mod fixed;
+pub(crate) mod nodes;
+pub(crate) mod numbers;
+pub(crate) mod points;
+pub(crate) mod tours;
+pub(crate) mod weights;

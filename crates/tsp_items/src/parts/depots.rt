@@ -1,0 +1,69 @@
+//! Depots.
+
+ghost use Rattle.std.specs.Prelude.{◌≡◌, [], ℕ, List, ◌∷◌, ◌++◌};
+
+use crate::fault::{LineFault, StepFault};
+use crate::parts::nodes::{is_minus_one, read_node_or_end};
+use std::alloc::Global;
+use tsp_value::MOST_DEPOTS;
+
+/// What was read of the depots.
+#[derive(Drop)]
+pub struct DepotList {
+    n: u32,
+    depots: Vec<u32>,
+    ended: bool,
+}
+
+impl DepotList {
+    ghost use Rattle.tsp_items.specs.Lists.{place_of_depot, depots_in};
+    ghost use Rattle.tsp_items.specs.Parts.{Takes};
+    ghost use Rattle.tsp_items.specs.Held.{HoldsDepots};
+
+    /// The section with no words so far.
+    pub fn open(alloc: Global, n: u32) -> DepotList
+        ensures { HoldsDepots result n [] }
+    {
+        DepotList {
+            n,
+            depots: Vec::new(alloc),
+            ended: false,
+        }
+    }
+
+    /// Takes the next word.
+    pub fn push(&mut self, word: &[u8]) -> Result<(), StepFault>
+        ensures { (n : ℕ) (words : List (List ℕ)) → HoldsDepots self.old n words
+            → Takes n (place_of_depot n words) word.now
+            (HoldsDepots self.new n (words ++ word.now ∷ [])) result }
+    {
+        if self.ended {
+            if is_minus_one(word) {
+                return Ok(());
+            }
+            return Err(StepFault::Fault(LineFault::AfterEnd));
+        }
+        match read_node_or_end(word, self.n) {
+            Err(fault) => Err(StepFault::Fault(LineFault::Number(fault))),
+            Ok(None) => {
+                self.ended = true;
+                Ok(())
+            }
+            Ok(Some(_)) if self.depots.len() >= MOST_DEPOTS => {
+                Err(StepFault::Fault(LineFault::Surplus))
+            }
+            Ok(Some(node)) => match self.depots.push(node) {
+                Ok(()) => Ok(()),
+                Err(_) => Err(StepFault::Memory),
+            },
+        }
+    }
+
+    /// The depots.
+    pub fn finish(self) -> Vec<u32>
+        ensures { (n : ℕ) (words : List (List ℕ)) → HoldsDepots self n words
+            → result.items ≡ depots_in n words }
+    {
+        self.depots
+    }
+}

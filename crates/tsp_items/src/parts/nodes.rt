@@ -1,0 +1,56 @@
+//! Nodes, as the words of a section give them.
+
+ghost use Rattle.std.specs.Prelude.{◌≡◌, ◌<◌, ◌^◌, length, IfOk};
+ghost use Rattle.std.specs.Option.{ForSome};
+ghost use Rattle.tsp_items.specs.Numbers.{node, node_or_end, is_minus_one};
+ghost use Rattle.tsp_items.specs.Parts.{as_number, as_node_or_end, IsNodeOf, IsNewNode};
+
+use crate::fault::LineFault;
+use tsp_number::{NumberFault, parse_whole};
+
+/// A node of 1..n.
+pub(crate) fn read_node(word: &[u8], n: u32) -> Result<u32, NumberFault>
+    ensures read { node n word.now ≡ as_number result }
+    ensures within { IfOk result (λ k. IsNodeOf n k) }
+{
+    match parse_whole(word, 1, i64::from(n)) {
+        Ok(node) => Ok(node as u32),
+        Err(fault) => Err(fault),
+    }
+}
+
+/// A node of 1..n, or `None` for the -1 that ends a list.
+pub(crate) fn read_node_or_end(word: &[u8], n: u32) -> Result<Option<u32>, NumberFault>
+    ensures read { node_or_end n word.now ≡ as_node_or_end result }
+    ensures within { IfOk result (λ found. ForSome found (λ k. IsNodeOf n k)) }
+{
+    match parse_whole(word, -1, i64::from(n)) {
+        Ok(-1) => Ok(None),
+        Ok(0) => Err(NumberFault::OutOfRange),
+        Ok(node) => Ok(Some(node as u32)),
+        Err(fault) => Err(fault),
+    }
+}
+
+/// The node of a new group: one without a mark.
+pub(crate) fn new_node(seen: &[bool], word: &[u8]) -> Result<u32, LineFault>
+    requires { length seen.now < 2 ^ 32 }
+    ensures { IsNewNode seen.now word.now result }
+{
+    match read_node(word, seen.len() as u32) {
+        Ok(node) => {
+            if seen[node as usize - 1] {
+                return Err(LineFault::RepeatedNode);
+            }
+            Ok(node)
+        }
+        Err(fault) => Err(LineFault::Number(fault)),
+    }
+}
+
+/// Whether a word is the two bytes `-1`.
+pub(crate) fn is_minus_one(word: &[u8]) -> bool
+    ensures { result ≡ is_minus_one word.now }
+{
+    word == b"-1".as_slice()
+}

@@ -1,0 +1,108 @@
+//! By-node sections with a point for each node.
+
+ghost use Rattle.std.specs.Prelude.{◌≡◌, ◌<◌, ◌≤◌, ◌^◌, None, Some, Ok, [], ℕ, List, ◌∷◌, ◌++◌, vec_len, IfOk};
+ghost use Rattle.std.specs.Option.{ForSome};
+
+use crate::fault::{LineFault, StepFault};
+use crate::parts::nodes::{is_minus_one, new_node};
+use std::alloc::{AllocError, Global};
+use tsp_number::{Decimal, Point, parse_decimal};
+
+/// What was read of a section of groups of a node and its two coordinates.
+#[derive(Drop)]
+pub struct PointList {
+    seen: Vec<bool>,
+    entries: Vec<Point>,
+    left: u32,
+    begun: Option<u32>,
+    x: Option<Decimal>,
+    ghost same: { vec_len entries ≡ vec_len seen },
+    ghost narrow: { vec_len seen < 2 ^ 32 },
+    ghost within: { ForSome begun (λ k. (1 ≤ k) × (k ≤ vec_len seen)) },
+}
+
+impl PointList {
+    ghost use Rattle.tsp_number.specs.Reading.{decimal_of};
+    ghost use Rattle.tsp_items.specs.Groups.{place_of_point, points_by_node};
+    ghost use Rattle.tsp_items.specs.Spells.{wants_more};
+    ghost use Rattle.tsp_items.specs.Parts.{Takes, word_fault};
+    ghost use Rattle.tsp_items.specs.Held.{HoldsPoints};
+
+    /// The section with no words so far.
+    pub fn open(alloc: Global, n: u32) -> Result<PointList, AllocError>
+        ensures { IfOk result (λ part. HoldsPoints part n []) }
+    {
+        let zero = match Decimal::of_count(0) {
+            Some(zero) => zero,
+            None => unreachable!(),
+        };
+        Ok(PointList {
+            seen: vec![in alloc; false; n as usize]?,
+            entries: vec![in alloc; Point { x: zero, y: zero }; n as usize]?,
+            left: n,
+            begun: None,
+            x: None,
+        })
+    }
+
+    /// Takes the next word.
+    pub fn push(&mut self, word: &[u8]) -> Result<(), StepFault>
+        ensures { (n : ℕ) (words : List (List ℕ)) → HoldsPoints self.old n words
+            → Takes n (place_of_point n words) word.now
+            (HoldsPoints self.new n (words ++ word.now ∷ [])) result }
+    {
+        if self.left == 0 {
+            if is_minus_one(word) {
+                return Ok(());
+            }
+            return Err(StepFault::Fault(LineFault::Surplus));
+        }
+        match self.begun {
+            None => match new_node(self.seen.as_slice(), word) {
+                Ok(node) => {
+                    self.begun = Some(node);
+                    Ok(())
+                }
+                Err(fault) => Err(StepFault::Fault(fault)),
+            },
+            Some(node) => match parse_decimal(word) {
+                Ok(coordinate) => {
+                    self.put(node, coordinate);
+                    Ok(())
+                }
+                Err(fault) => Err(StepFault::Fault(LineFault::Number(fault))),
+            },
+        }
+    }
+
+    /// Takes the next coordinate of the group that has begun.
+    fn put(&mut self, node: u32, coordinate: Decimal)
+        requires to_come { 0 < self.old.left }
+        requires begun { self.old.begun ≡ Some node }
+        ensures { (n : ℕ) (words : List (List ℕ)) (word : List ℕ) → HoldsPoints self.old n words
+            → decimal_of word ≡ Ok coordinate
+            → (word_fault n (place_of_point n words) word ≡ None)
+            × HoldsPoints self.new n (words ++ word ∷ []) }
+    {
+        match self.x {
+            None => self.x = Some(coordinate),
+            Some(x) => {
+                self.seen[node as usize - 1] = true;
+                self.entries[node as usize - 1] = Point { x, y: coordinate };
+                self.left -= 1;
+                self.begun = None;
+                self.x = None;
+            }
+        }
+    }
+
+    /// The list by node, and whether a group is still to come.
+    pub fn finish(self) -> (Vec<Point>, bool)
+        ensures { (n : ℕ) (words : List (List ℕ)) → HoldsPoints self n words
+            → (result.0.items ≡ points_by_node n words)
+            × (result.1 ≡ wants_more (place_of_point n words)) }
+    {
+        let wants_more = self.left > 0;
+        (self.entries, wants_more)
+    }
+}

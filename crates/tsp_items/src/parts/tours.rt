@@ -1,0 +1,87 @@
+//! The tours.
+
+ghost use Rattle.std.specs.Prelude.{◌≡◌, [], ℕ, List, ◌∷◌, ◌++◌, OnOk, IfOk, IfErr, map};
+
+use crate::fault::{LineFault, StepFault};
+use crate::parts::nodes::read_node_or_end;
+use std::alloc::Global;
+use std::mem;
+use tsp_value::{MOST_NODES, MOST_TOUR_NODES};
+
+/// What was read of the tours: those that are done, the run of nodes that is open, and how many
+/// nodes came in all.
+#[derive(Drop)]
+pub struct TourList {
+    done: Vec<Vec<u32>>,
+    run: Vec<u32>,
+    count: usize,
+}
+
+impl TourList {
+    ghost use Rattle.tsp_items.specs.declared.fault.StepFault.TheVariants.{Memory};
+    ghost use Rattle.tsp_items.specs.Tours.{place_of_tour, tours_in};
+    ghost use Rattle.tsp_items.specs.Parts.{Takes};
+    ghost use Rattle.tsp_items.specs.Held.{HoldsTours, EndsRunOf};
+
+    /// The section with no words so far.
+    pub fn open(alloc: Global) -> TourList
+        ensures { HoldsTours result [] }
+    {
+        TourList {
+            done: Vec::new(alloc),
+            run: Vec::new(alloc),
+            count: 0,
+        }
+    }
+
+    /// Takes the next word. How many nodes the file has doesn't matter.
+    pub fn push(&mut self, alloc: Global, word: &[u8]) -> Result<(), StepFault>
+        ensures { (n : ℕ) (words : List (List ℕ)) → HoldsTours self.old words
+            → Takes n (place_of_tour words) word.now
+            (HoldsTours self.new (words ++ word.now ∷ [])) result }
+    {
+        match read_node_or_end(word, MOST_NODES) {
+            Err(fault) => Err(StepFault::Fault(LineFault::Number(fault))),
+            Ok(None) => self.end_run(alloc),
+            Ok(Some(node)) => {
+                if self.count >= MOST_TOUR_NODES {
+                    return Err(StepFault::Fault(LineFault::Surplus));
+                }
+                self.count += 1;
+                match self.run.push(node) {
+                    Ok(()) => Ok(()),
+                    Err(_) => Err(StepFault::Memory),
+                }
+            }
+        }
+    }
+
+    /// Ends the run that is open, if one is.
+    fn end_run(&mut self, alloc: Global) -> Result<(), StepFault>
+        ensures done { OnOk result ((words : List (List ℕ)) → HoldsTours self.old words
+            → EndsRunOf self.new words) }
+        ensures count { self.new.count ≡ self.old.count }
+        ensures err { IfErr result (λ e. e ≡ Memory) }
+    {
+        if self.run.is_empty() {
+            return Ok(());
+        }
+        let run = mem::replace(&mut self.run, Vec::new(alloc));
+        if self.done.push(run).is_err() {
+            return Err(StepFault::Memory);
+        }
+        Ok(())
+    }
+
+    /// The tours.
+    pub fn finish(mut self, alloc: Global) -> Result<Vec<Vec<u32>>, StepFault>
+        ensures tours { (words : List (List ℕ)) → HoldsTours self words
+            → IfOk result (λ tours. map (λ tour. tour.items) tours.items ≡ tours_in words) }
+        ensures err { IfErr result (λ e. e ≡ Memory) }
+    {
+        match self.end_run(alloc) {
+            Ok(()) => Ok(self.done),
+            Err(error) => Err(error),
+        }
+    }
+}

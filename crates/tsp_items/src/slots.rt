@@ -1,0 +1,155 @@
+//! Slots of the draft that a line fills.
+
+ghost use Rattle.tsp_items.specs.Lines.{first_word};
+ghost use Rattle.std.specs.Prelude.{◌≡◌, map};
+ghost use Rattle.std.specs.Option.{option_map};
+ghost use Rattle.tsp_items.specs.CutLine.{seen, SetsNamed, SetsNumber, SetsCount, SetsName, AddsComment, AddsOther};
+ghost use Rattle.tsp_items.specs.Rows.{is_too_long_to_keep};
+
+use crate::fault::{LineFault, StepFault};
+use crate::line::{CutLine, named, number};
+use std::alloc::Global;
+use tsp_value::{Field, MOST_COMMENTS, MOST_KEPT_BYTES, MOST_OTHERS, Word};
+
+/// Sets the value that a line names, where none is set yet.
+pub fn set_named<V: Word + Drop>(
+    slot: &mut Option<V>,
+    field: Field,
+    value: &[u8],
+) -> Result<(), StepFault>
+    ensures { SetsNamed V.text V.values field (first_word value.now) slot.old slot.new result }
+{
+    if slot.is_some() {
+        return Err(StepFault::Fault(LineFault::Repeated));
+    }
+    match named::<V>(field, value) {
+        Ok(value) => {
+            *slot = Some(value);
+            Ok(())
+        }
+        Err(fault) => Err(StepFault::Fault(fault)),
+    }
+}
+
+/// Sets the number that a line has, where none is set yet.
+pub fn set_number(
+    slot: &mut Option<i64>,
+    value: &[u8],
+    low: i64,
+    high: i64,
+) -> Result<(), StepFault>
+    ensures { SetsNumber low high value.now slot.old slot.new result }
+{
+    if slot.is_some() {
+        return Err(StepFault::Fault(LineFault::Repeated));
+    }
+    match number(value, low, high) {
+        Ok(number) => {
+            *slot = Some(number);
+            Ok(())
+        }
+        Err(fault) => Err(StepFault::Fault(fault)),
+    }
+}
+
+/// Sets the number of nodes that a line has, at most `most`, where none is set yet.
+pub fn set_count(slot: &mut Option<u32>, value: &[u8], most: u32) -> Result<(), StepFault>
+    ensures { SetsCount most value.now slot.old slot.new result }
+{
+    if slot.is_some() {
+        return Err(StepFault::Fault(LineFault::Repeated));
+    }
+    match number(value, 1, i64::from(most)) {
+        Ok(number) => {
+            *slot = Some(number as u32);
+            Ok(())
+        }
+        Err(fault) => Err(StepFault::Fault(fault)),
+    }
+}
+
+/// Whether a line's keyword and value together have more bytes than are kept.
+fn is_too_long_to_keep(line: &CutLine<'_>) -> bool
+    ensures { result ≡ is_too_long_to_keep (seen line.now) }
+{
+    line.keyword.len() > MOST_KEPT_BYTES || line.value.len() > MOST_KEPT_BYTES - line.keyword.len()
+}
+
+/// Sets the name, where none is set yet.
+pub fn set_name(
+    alloc: Global,
+    slot: &mut Option<Vec<u8>>,
+    line: &CutLine<'_>,
+) -> Result<(), StepFault>
+    ensures { SetsName (seen line.now) (option_map (λ name. name.items) slot.old)
+        (option_map (λ name. name.items) slot.new) result }
+{
+    if slot.is_some() {
+        return Err(StepFault::Fault(LineFault::Repeated));
+    }
+    if is_too_long_to_keep(line) {
+        return Err(StepFault::Fault(LineFault::BadValue));
+    }
+    match Vec::from_slice(alloc, line.value) {
+        Ok(name) => {
+            *slot = Some(name);
+            Ok(())
+        }
+        Err(_) => Err(StepFault::Memory),
+    }
+}
+
+/// Adds a comment.
+pub fn add_comment(
+    alloc: Global,
+    comments: &mut Vec<Vec<u8>>,
+    line: &CutLine<'_>,
+) -> Result<(), StepFault>
+    ensures { AddsComment (seen line.now) (map (λ comment. comment.items) comments.old.items)
+        (map (λ comment. comment.items) comments.new.items) result }
+{
+    if is_too_long_to_keep(line) {
+        return Err(StepFault::Fault(LineFault::BadValue));
+    }
+    if comments.len() >= MOST_COMMENTS {
+        return Err(StepFault::Fault(LineFault::Surplus));
+    }
+    match Vec::from_slice(alloc, line.value) {
+        Ok(comment) => match comments.push(comment) {
+            Ok(()) => Ok(()),
+            Err(_) => Err(StepFault::Memory),
+        },
+        Err(_) => Err(StepFault::Memory),
+    }
+}
+
+/// Adds the line of an unknown keyword.
+pub fn add_other(
+    alloc: Global,
+    others: &mut Vec<(Vec<u8>, Vec<u8>)>,
+    line: &CutLine<'_>,
+) -> Result<(), StepFault>
+    ensures { AddsOther (seen line.now)
+        (map (λ other. (other.0.items, other.1.items)) others.old.items)
+        (map (λ other. (other.0.items, other.1.items)) others.new.items) result }
+{
+    if !line.has_colon {
+        return Err(StepFault::Fault(LineFault::UnknownLine));
+    }
+    if is_too_long_to_keep(line) {
+        return Err(StepFault::Fault(LineFault::BadValue));
+    }
+    if others.len() >= MOST_OTHERS {
+        return Err(StepFault::Fault(LineFault::Surplus));
+    }
+    let (Ok(keyword), Ok(value)) = (
+        Vec::from_slice(alloc, line.keyword),
+        Vec::from_slice(alloc, line.value),
+    ) else {
+        return Err(StepFault::Memory);
+    };
+    match others.push((keyword, value)) {
+        Ok(()) => Ok(()),
+        Err(_) => Err(StepFault::Memory),
+    }
+}

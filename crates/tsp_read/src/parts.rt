@@ -1,9 +1,0 @@
-//! The parts of the reader that take the words of a section.
-
-pub(crate) mod depots;
-pub(crate) mod fixed;
-pub(crate) mod nodes;
-pub(crate) mod numbers;
-pub(crate) mod points;
-pub(crate) mod tours;
-pub(crate) mod weights;
