@@ -102,6 +102,11 @@ pub(crate) fn number(value: &[u8], low: i64, high: i64) -> Result<i64, LineFault
 
 /// The number of nodes of a section that may be opened: one that doesn't stand yet, whose line has
 /// no value, after DIMENSION.
+///
+/// # Errors
+///
+/// The section stands (`Repeated`), its line has a value (`SectionValue`), or no line of DIMENSION
+/// came before it (`SectionEarly`).
 pub fn may_open(stands: bool, value: &[u8], dimension: Option<u32>) -> Result<u32, LineFault>
     ensures { MayOpen stands value.now dimension result }
 {

@@ -12,6 +12,11 @@ use std::alloc::Global;
 use tsp_value::{Field, MOST_COMMENTS, MOST_KEPT_BYTES, MOST_OTHERS, Word};
 
 /// Sets the value that a line names, where none is set yet.
+///
+/// # Errors
+///
+/// `Fault`: one is set (`Repeated`), the value's first word is one of TSPLIB 95 that is left out
+/// (`Outside`), or none that the keyword accepts (`BadValue`).
 pub fn set_named<V: Word + Drop>(
     slot: &mut Option<V>,
     field: Field,
@@ -32,6 +37,11 @@ pub fn set_named<V: Word + Drop>(
 }
 
 /// Sets the number that a line has, where none is set yet.
+///
+/// # Errors
+///
+/// `Fault`: one is set (`Repeated`), the line has no value (`BadValue`), or its first word is no
+/// number from `low` to `high` (`Number`).
 pub fn set_number(
     slot: &mut Option<i64>,
     value: &[u8],
@@ -53,6 +63,11 @@ pub fn set_number(
 }
 
 /// Sets the number of nodes that a line has, at most `most`, where none is set yet.
+///
+/// # Errors
+///
+/// `Fault`: one is set (`Repeated`), the line has no value (`BadValue`), or its first word is no
+/// number from 1 to `most` (`Number`).
 pub fn set_count(slot: &mut Option<u32>, value: &[u8], most: u32) -> Result<(), StepFault>
     ensures { SetsCount most value.now slot.old slot.new result }
 {
@@ -76,6 +91,11 @@ fn is_too_long_to_keep(line: &CutLine<'_>) -> bool
 }
 
 /// Sets the name, where none is set yet.
+///
+/// # Errors
+///
+/// - `Fault`: one is set (`Repeated`), or the line is too long to be kept (`BadValue`).
+/// - `Memory`: memory was refused.
 pub fn set_name(
     alloc: Global,
     slot: &mut Option<Vec<u8>>,
@@ -100,6 +120,12 @@ pub fn set_name(
 }
 
 /// Adds a comment.
+///
+/// # Errors
+///
+/// - `Fault`: the line is too long to be kept (`BadValue`), or there are as many comments as a file
+///   may have (`Surplus`).
+/// - `Memory`: memory was refused.
 pub fn add_comment(
     alloc: Global,
     comments: &mut Vec<Vec<u8>>,
@@ -124,6 +150,12 @@ pub fn add_comment(
 }
 
 /// Adds the line of an unknown keyword.
+///
+/// # Errors
+///
+/// - `Fault`: no colon follows the keyword (`UnknownLine`), the line is too long to be kept
+///   (`BadValue`), or there are as many such lines as a file may have (`Surplus`).
+/// - `Memory`: memory was refused.
 pub fn add_other(
     alloc: Global,
     others: &mut Vec<(Vec<u8>, Vec<u8>)>,

@@ -20,7 +20,7 @@ impl DepotList {
     ghost use Rattle.tsp_items.specs.Parts.{Takes};
     ghost use Rattle.tsp_items.specs.Held.{HoldsDepots};
 
-    /// The section with no words so far.
+    /// The section with no words so far, in a file of `n` nodes.
     pub fn open(alloc: Global, n: u32) -> DepotList
         ensures { HoldsDepots result n [] }
     {
@@ -32,6 +32,12 @@ impl DepotList {
     }
 
     /// Takes the next word.
+    ///
+    /// # Errors
+    ///
+    /// - `Fault`: the word is neither a node nor a -1 (`Number`), there are as many depots as a
+    ///   file may have (`Surplus`), or the list has ended (`AfterEnd`).
+    /// - `Memory`: memory was refused.
     pub fn push(&mut self, word: &[u8]) -> Result<(), StepFault>
         ensures { (n : ℕ) (words : List (List ℕ)) → HoldsDepots self.old n words
             → Takes n (place_of_depot n words) word.now

@@ -22,7 +22,7 @@ impl FixedList {
     ghost use Rattle.tsp_items.specs.Parts.{Takes};
     ghost use Rattle.tsp_items.specs.Held.{HoldsFixed};
 
-    /// The section with no words so far.
+    /// The section with no words so far, in a file of `n` nodes.
     pub fn open(alloc: Global, n: u32) -> FixedList
         ensures { HoldsFixed result n [] }
     {
@@ -35,6 +35,13 @@ impl FixedList {
     }
 
     /// Takes the next word.
+    ///
+    /// # Errors
+    ///
+    /// - `Fault`: the word is no node, and no -1 where the list may end (`Number`), the pair is of a
+    ///   node and itself (`SelfEdge`), there are as many pairs as a file may have (`Surplus`), or
+    ///   the list has ended (`AfterEnd`).
+    /// - `Memory`: memory was refused.
     pub fn push(&mut self, word: &[u8]) -> Result<(), StepFault>
         ensures { (n : ℕ) (words : List (List ℕ)) → HoldsFixed self.old n words
             → Takes n (place_of_fixed n words) word.now

@@ -28,7 +28,12 @@ impl NumberList {
     ghost use Rattle.tsp_items.specs.Parts.{Takes};
     ghost use Rattle.tsp_items.specs.Held.{HoldsNumbers};
 
-    /// The section with no words so far. Its numbers are from `low` to `high`.
+    /// The section with no words so far, in a file of `n` nodes. Its numbers are from `low` to
+    /// `high`.
+    ///
+    /// # Errors
+    ///
+    /// Memory was refused.
     pub fn open(alloc: Global, n: u32, low: i64, high: i64) -> Result<NumberList, AllocError>
         ensures { IfOk result (λ part. HoldsNumbers part low high n []) }
     {
@@ -43,6 +48,11 @@ impl NumberList {
     }
 
     /// Takes the next word.
+    ///
+    /// # Errors
+    ///
+    /// `Fault`: the word is no node, or no number from `low` to `high` (`Number`), the node has a
+    /// group (`RepeatedNode`), or every node has one (`Surplus`).
     pub fn push(&mut self, word: &[u8]) -> Result<(), StepFault>
         ensures { (low high : ℤ) (n : ℕ) (words : List (List ℕ))
             → HoldsNumbers self.old low high n words

@@ -28,7 +28,11 @@ impl PointList {
     ghost use Rattle.tsp_items.specs.Parts.{Takes, word_fault};
     ghost use Rattle.tsp_items.specs.Held.{HoldsPoints};
 
-    /// The section with no words so far.
+    /// The section with no words so far, in a file of `n` nodes.
+    ///
+    /// # Errors
+    ///
+    /// Memory was refused.
     pub fn open(alloc: Global, n: u32) -> Result<PointList, AllocError>
         ensures { IfOk result (λ part. HoldsPoints part n []) }
     {
@@ -46,6 +50,11 @@ impl PointList {
     }
 
     /// Takes the next word.
+    ///
+    /// # Errors
+    ///
+    /// `Fault`: the word is no node, or no coordinate (`Number`), the node has a group
+    /// (`RepeatedNode`), or every node has one (`Surplus`).
     pub fn push(&mut self, word: &[u8]) -> Result<(), StepFault>
         ensures { (n : ℕ) (words : List (List ℕ)) → HoldsPoints self.old n words
             → Takes n (place_of_point n words) word.now

@@ -35,6 +35,12 @@ impl TourList {
     }
 
     /// Takes the next word. How many nodes the file has doesn't matter.
+    ///
+    /// # Errors
+    ///
+    /// - `Fault`: the word is neither a node of some file nor a -1 (`Number`), or the tours have as
+    ///   many nodes as a file may have in tours (`Surplus`).
+    /// - `Memory`: memory was refused.
     pub fn push(&mut self, alloc: Global, word: &[u8]) -> Result<(), StepFault>
         ensures { (n : ℕ) (words : List (List ℕ)) → HoldsTours self.old words
             → Takes n (place_of_tour words) word.now
@@ -74,6 +80,10 @@ impl TourList {
     }
 
     /// The tours.
+    ///
+    /// # Errors
+    ///
+    /// `Memory`: memory was refused.
     pub fn finish(mut self, alloc: Global) -> Result<Vec<Vec<u32>>, StepFault>
         ensures tours { (words : List (List ℕ)) → HoldsTours self words
             → IfOk result (λ tours. map (λ tour. tour.items) tours.items ≡ tours_in words) }

@@ -21,7 +21,7 @@ impl WeightList {
     ghost use Rattle.tsp_items.specs.Parts.{Takes};
     ghost use Rattle.tsp_items.specs.Held.{HoldsWeights};
 
-    /// The section with no words so far.
+    /// The section with no words so far, in a file of `n` nodes.
     pub fn open(alloc: Global, n: u32) -> WeightList
         requires { n ≤ MOST_MATRIX_NODES }
         ensures { HoldsWeights result n [] }
@@ -33,6 +33,11 @@ impl WeightList {
     }
 
     /// Takes the next word.
+    ///
+    /// # Errors
+    ///
+    /// - `Fault`: the word is no weight (`Number`), or there are `n * n` weights (`Surplus`).
+    /// - `Memory`: memory was refused.
     pub fn push(&mut self, word: &[u8]) -> Result<(), StepFault>
         ensures { (n : ℕ) (words : List (List ℕ)) → HoldsWeights self.old n words
             → Takes n (place_of_weight n words) word.now
