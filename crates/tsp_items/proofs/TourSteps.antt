@@ -1,13 +1,17 @@
 -- One word more of the tours.
-use Rattle.std.proofs.Common.{◌≡◌, ℕ, ◌+◌, Bool, true, false, cond, List, [], ◌∷◌, ◌++◌, length, map, refl, sym, ap, ◌∙◌, arith, Result, Ok, Err, None}
-use Rattle.std.specs.Prelude.{pos, negsuc, nat_le, not, ◌&&◌, OnOk, IfErr}
+use Rattle.std.proofs.Common.{◌≡◌, ℕ, ℤ, zero, suc, ◌+◌, ◌≤◌, Bool, true, false, cond, List, [], ◌∷◌, ◌++◌, length, map, refl, sym, ap, ◌∙◌, arith, rules, Result, Ok, Err, None}
+use Rattle.std.specs.Int.{FitsUnsignedBits}
+use Rattle.std.specs.Prelude.{pos, negsuc, nat_abs, nat_le, not, ◌&&◌, OnOk, IfErr}
 use Rattle.std.specs.List.{slice_split, filter}
+use Rattle.std.specs.Ordering.{int_eq}
+use Rattle.std.proofs.lemmas.Int.{ints}
 use Rattle.std.proofs.lemmas.List.{map_push}
 use Rattle.tsp_value.specs.Limits.{most_nodes, most_tour_nodes}
 use Rattle.tsp_items.specs.declared.fault.StepFault.{StepFault}
 use Rattle.tsp_items.specs.declared.fault.StepFault.TheVariants as steps
 use Rattle.tsp_items.specs.declared.parts.tours.TourList.{TourList}
-use Rattle.tsp_items.specs.Numbers.{node_or_end}
+use Rattle.tsp_number.specs.Reading.{whole_of}
+use Rattle.tsp_items.specs.Numbers.{node_or_end, IsWhole}
 use Rattle.tsp_items.specs.Places.{TourNode}
 use Rattle.tsp_items.specs.Tours.{ends_tour, tour_node, place_of_tour}
 use Rattle.tsp_items.specs.Parts.{word_fault, Takes}
@@ -27,6 +31,21 @@ node_clean : (n count k : ℕ) (word : List ℕ) → node_or_end most_nodes word
 node_clean n count k word read few = rw (read, few) refl
 
 -- ---- the words
+
+not_nothing : (k : ℕ) → 1 ≤ k → int_eq (pos k) (pos 0) ≡ false
+not_nothing zero some = absurd (omega (arith, some))
+not_nothing (suc k) some = search rules
+
+natural : (z : ℤ) → FitsUnsignedBits 32 z → z ≡ pos (nat_abs z)
+natural (pos n) fits = refl
+natural (negsuc n) fits = absurd fits
+
+-- a whole number among the nodes is read as that node
+pub whole_node : (z : ℤ) (k : ℕ) (word : List ℕ) → IsWhole word z → FitsUnsignedBits 32 z × (k ≡ nat_abs z) → 1 ≤ k → k ≤ most_nodes → node_or_end most_nodes word ≡ Ok (pos k)
+whole_node z k word whole from some within =
+    let is : z ≡ pos k = natural z from.0 ∙ ap (λ (j : ℕ). pos j) (sym from.1) in
+    let read : whole_of word (negsuc 0) (pos most_nodes) ≡ Ok z = whole (negsuc 0) (pos most_nodes) (omega (arith, ints, is)) (omega (arith, ints, is, within)) in
+    rw (read, is, not_nothing k some) refl
 
 pub after_end : (n : ℕ) (words : List (List ℕ)) (word : List ℕ) (old new : TourList) (r : Result (Unit {0}) StepFault) → node_or_end most_nodes word ≡ Ok (negsuc 0)
     → OnOk r ((words : List (List ℕ)) → HoldsTours old words → EndsRunOf new words) → new.count ≡ old.count → IfErr r (λ e. e ≡ steps.Memory)

@@ -1,5 +1,5 @@
 -- What a word of a section is read as where a number is wanted.
-use Rattle.std.specs.Prelude.{ℕ, Bool, false, cond, List, Result, Ok, Err, ℤ, pos, negsuc, neg_ℤ, codes}
+use Rattle.std.specs.Prelude.{◌≡◌, ◌≤ℤ◌, ℕ, Bool, false, cond, List, Result, Ok, Err, ℤ, pos, negsuc, neg_ℤ, codes}
 use Rattle.std.specs.Result.{result_unwrap_or}
 use Rattle.std.specs.Ordering.{int_eq}
 use Rattle.std.specs.Str.{bytes_eq}
@@ -14,6 +14,10 @@ number r = result_unwrap_or r (pos 0)
 abbrev pub reads_as : ℤ → Result ℤ NumberFault → Bool
 reads_as z (Ok y) = int_eq y z
 reads_as z (Err fault) = false
+
+-- the word is read as this whole number, wherever that is in range
+abbrev pub IsWhole : List ℕ → ℤ → Type 0
+IsWhole word z = (low high : ℤ) → low ≤ℤ z → z ≤ℤ high → whole_of word low high ≡ Ok z
 
 -- a node of 1..n
 abbrev pub node : ℕ → List ℕ → Result ℤ NumberFault

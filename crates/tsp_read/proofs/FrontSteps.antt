@@ -8,16 +8,17 @@ use Rattle.std.proofs.lemmas.Str.Parse.{digit_from_value}
 use Rattle.tsp_number.specs.Decimal.{unit}
 use Rattle.tsp_number.specs.NumberWord.{plus, minus, point, lower_e, upper_e, IsSign, IsFraction, IsExponent, Numeral, Spells, ReadsWhole}
 use Rattle.tsp_number.specs.Front.{BeginsWithNumber}
+use Rattle.tsp_number.specs.Reading.{whole_of}
 use Rattle.tsp_number.proofs.WordLaws.{whole_once, whole_of-reads}
 use Rattle.tsp_value.specs.Bytes.{is_blank, is_letter}
 use Rattle.tsp_value.specs.Limits.{most_word_bytes}
-use Rattle.tsp_items.specs.Numbers.{sized}
+use Rattle.tsp_items.specs.Numbers.{IsWhole}
 use Rattle.tsp_items.specs.Lines.{ends_line, is_filled, without_start}
-use Rattle.tsp_items.specs.Items.{Item, NumberWord}
+use Rattle.tsp_items.specs.Items.{Item, NumberWord, LineEnd}
 use Rattle.tsp_read.specs.Left.{items_left, ends_word, before, from}
 use Rattle.tsp_read.specs.Onward.{is_over_long, GivesNext}
 use Rattle.tsp_read.specs.Front.{front_word, LeavesEnd}
-use Rattle.tsp_read.proofs.LeftSteps.{FreeOf, left_blank}
+use Rattle.tsp_read.proofs.LeftSteps.{FreeOf, left_blank, left_end}
 use Rattle.tsp_read.proofs.Onwards.{on_before, on_from, at_before, at_from, word_follows}
 use Rattle.tsp_read.proofs.BegunSteps.{settled_filled}
 
@@ -185,9 +186,13 @@ front_gives text filled count k rest left h inside goes_on more =
     ∙ ap (λ (items : List Item). NumberWord (front_word text) ∷ items) (by.left_is goes_on more)
 
 -- and is read as that number
-pub front_reads : (text filled : List ℕ) (count most : ℕ) (z : ℤ) (rest left : List ℕ) → EndsNumber text filled count (z *ℤ pos unit) rest left
-    → neg_ℤ (pos most) ≤ℤ z → z ≤ℤ pos most → sized most (front_word text) ≡ Ok z
-front_reads text filled count most z rest left h above below =
+pub front_reads : (text filled : List ℕ) (count : ℕ) (z : ℤ) (rest left : List ℕ) → EndsNumber text filled count (z *ℤ pos unit) rest left → IsWhole (front_word text) z
+front_reads text filled count z rest left h low high above below =
     let word : List ℕ = take count filled in
-    let reads : ReadsWhole word (neg_ℤ (pos most)) (pos most) (Ok z) = (h.number.short, h.number.stands, above, below) in
-    ap (sized most) (front_is text filled count (z *ℤ pos unit) rest left h) ∙ sym (whole_once _ _ _ _ _ reads (whole_of-reads word (neg_ℤ (pos most)) (pos most)))
+    let reads : ReadsWhole word low high (Ok z) = (h.number.short, h.number.stands, above, below) in
+    ap (λ (w : List ℕ). whole_of w low high) (front_is text filled count (z *ℤ pos unit) rest left h) ∙ sym (whole_once _ _ _ _ _ reads (whole_of-reads word low high))
+
+-- ---- a line's end at the front of a text
+
+pub end_gives : (inside : Bool) (text rest : List ℕ) → text ≡ 10 ∷ rest → GivesNext inside text LineEnd false rest
+end_gives inside text rest parts goes_on more = ap (λ (xs : List ℕ). items_left goes_on inside (xs ++ more)) parts ∙ left_end goes_on inside (rest ++ more)

@@ -21,7 +21,7 @@ still_open None earlier h = h
 still_open (Some part) earlier h = h
 
 -- a line's end changes nothing
-line_ends : (reading : Reading) (earlier : List Item) → Holds reading earlier → Holds reading (LineEnd ∷ earlier)
+pub line_ends : (reading : Reading) (earlier : List Item) → Holds reading earlier → Holds reading (LineEnd ∷ earlier)
 line_ends reading earlier h = record {
   clean = clean_more earlier LineEnd h.clean refl;
   late = h.late;

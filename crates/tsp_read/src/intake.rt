@@ -135,14 +135,14 @@ impl Intake {
             (self.new.line + length rest.now ≤ self.old.line + length piece.now)
             × (self.new.words + length rest.now ≤ self.old.words + length piece.now))) }
     {
-        let mut rest = self.take_weights(piece);
+        let mut rest = self.take_run(piece);
         'items: while let Some((next, after)) = next_item(rest, self.inside, true) {
             match self.take_next(alloc, &next) {
                 Ok(true) => return Ok(None),
                 Ok(false) => {}
                 Err(fault) => return Err(fault),
             }
-            rest = self.take_weights(after);
+            rest = self.take_run(after);
         }
         Ok(Some(rest))
     }

@@ -1,12 +1,12 @@
-//! A run of weights: the words of a matrix, each looked at once.
+//! A run of whole numbers: the words of a matrix or of tours, each looked at once.
 //!
-//! Most words of a matrix are plain whole numbers. Such a word is read here where its end is found,
-//! so that it is not searched for first. Every other word, and whatever else stands in a text, is
-//! left to `Intake::take_next`.
+//! Most words of a matrix or of a tour are plain whole numbers. Such a word is read here where its
+//! end is found, so that it is not searched for first. Every other word, and whatever else stands in
+//! a text but the ends of these lines, is left to `Intake::take_next`.
 
-ghost use Rattle.std.specs.Prelude.{◌≡◌, ◌+◌, ◌≤◌, ◌<◌, ◌∷◌, List, ℕ, Bool, length, Ok, IfSome, MatchOption, true, false};
-ghost use Rattle.tsp_value.specs.Limits.{most_file_bytes, most_weight};
-ghost use Rattle.tsp_items.specs.Numbers.{sized};
+ghost use Rattle.std.specs.Prelude.{◌≡◌, ◌+◌, ◌≤◌, ◌<◌, ◌∷◌, List, ℕ, Bool, length, IfSome, MatchOption, true, false};
+ghost use Rattle.tsp_value.specs.Limits.{most_file_bytes};
+ghost use Rattle.tsp_items.specs.Numbers.{IsWhole};
 ghost use Rattle.tsp_items.specs.Items.{Item, NumberWord};
 ghost use Rattle.tsp_read.specs.Onward.{GivesNext};
 ghost use Rattle.tsp_read.specs.Front.{front_word, LeavesEnd};
@@ -18,7 +18,7 @@ use crate::intake::Intake;
 use crate::state::part::Part;
 use crate::state::reading::Reading;
 use tsp_number::front_whole;
-use tsp_value::{MOST_WEIGHT, is_blank};
+use tsp_value::is_blank;
 
 /// What is left where a word has ended: without the blank that ended it, or from byte 10 on.
 /// Nothing where no word ends here.
@@ -34,51 +34,49 @@ fn past_end(rest: &[u8]) -> Option<&[u8]>
     }
 }
 
-/// The weight at the front of a text, and what follows its word and the blank that ends it; or
+/// The whole number at the front of a text, and what follows its word and the blank that ends it; or
 /// nothing where no word of at most 18 digits stands there whose end has come.
 #[inline(always)]
-pub(crate) fn front_weight(text: &[u8]) -> Option<(i64, &[u8])>
+pub(crate) fn front_number(text: &[u8]) -> Option<(i64, &[u8])>
     ensures word { IfSome result (λ found. (inside : Bool)
         → GivesNext inside text.now (NumberWord (front_word text.now)) true found.1.now) }
-    ensures weight { IfSome result (λ found. sized most_weight (front_word text.now) ≡ Ok found.0) }
+    ensures number { IfSome result (λ found. IsWhole (front_word text.now) found.0) }
     ensures shorter { IfSome result (λ found. length found.1.now < length text.now) }
 {
     let filled = without_start(text);
-    let Some((weight, end)) = front_whole(filled) else {
+    let Some((number, end)) = front_whole(filled) else {
         return None;
     };
-    if weight < -MOST_WEIGHT || weight > MOST_WEIGHT {
-        return None;
-    }
     let rest = filled.split_at(end).1;
     match past_end(rest) {
-        Some(left) => Some((weight, left)),
+        Some(left) => Some((number, left)),
         None => None,
     }
 }
 
 impl Reading {
-    /// Takes the weight of a word that was read, where the open section has weights and room for it.
-    /// The answer is whether it was taken.
+    /// Takes the whole number of a word that was read, where the open section is of weights or tours
+    /// and has room for it. The answer is whether it was taken.
     #[inline(always)]
-    fn weight(&mut self, weight: i64) -> bool
+    fn push_read(&mut self, number: i64) -> bool
         ensures taken { result ≡ true → (earlier : List Item) (word : List ℕ)
-            → sized most_weight word ≡ Ok weight → Holds self.old earlier
+            → IsWhole word number → Holds self.old earlier
             → Holds self.new (NumberWord word ∷ earlier) }
         ensures kept { result ≡ false → (earlier : List Item) → Holds self.old earlier
             → Holds self.new earlier }
     {
         match &mut self.open_part {
-            Some(Part::Weights(part)) => part.push_read(weight),
+            Some(Part::Weights(part)) => part.push_read(number),
+            Some(Part::Tours(part)) => part.push_read(number),
             _ => false,
         }
     }
 }
 
 impl Intake {
-    /// Takes the weight at the front of a text, where one can be taken, and gives what follows it.
+    /// Takes the number at the front of a text, where one can be taken, and gives what follows it.
     #[inline(always)]
-    fn take_weight<'a>(&mut self, text: &'a [u8]) -> Option<&'a [u8]>
+    fn take_number<'a>(&mut self, text: &'a [u8]) -> Option<&'a [u8]>
         requires { self.old.words + length text.now ≤ most_file_bytes }
         ensures read { MatchOption result
             ((bytes : List ℕ) → IsReadTo self.old bytes text.now → IsReadTo self.new bytes text.now)
@@ -88,10 +86,10 @@ impl Intake {
             (λ rest. self.new.words + length rest.now ≤ self.old.words + length text.now) }
         ensures shorter { IfSome result (λ rest. length rest.now < length text.now) }
     {
-        let Some((weight, rest)) = front_weight(text) else {
+        let Some((number, rest)) = front_number(text) else {
             return None;
         };
-        if !self.reading.weight(weight) {
+        if !self.reading.push_read(number) {
             return None;
         }
         self.words += 1;
@@ -99,21 +97,69 @@ impl Intake {
         Some(rest)
     }
 
-    /// Takes the weights at the front of a text, as many as can be taken, and gives what is left of
-    /// it.
-    pub(crate) fn take_weights<'a>(&mut self, text: &'a [u8]) -> &'a [u8]
-        requires { self.old.words + length text.now ≤ most_file_bytes }
+    /// Takes the line's end at the front of a text, where one stands there, and gives what follows it.
+    #[inline(always)]
+    fn take_line_end<'a>(&mut self, text: &'a [u8]) -> Option<&'a [u8]>
+        requires { self.old.line + length text.now ≤ most_file_bytes + 1 }
+        ensures read { MatchOption result
+            ((bytes : List ℕ) → IsReadTo self.old bytes text.now → IsReadTo self.new bytes text.now)
+            (λ rest. (bytes : List ℕ) → IsReadTo self.old bytes text.now → IsReadTo self.new bytes rest.now) }
+        ensures line { MatchOption result (self.new.line ≡ self.old.line)
+            (λ rest. self.new.line + length rest.now ≤ self.old.line + length text.now) }
+        ensures words { self.new.words ≤ self.old.words }
+        ensures shorter { IfSome result (λ rest. length rest.now < length text.now) }
+    {
+        match text.split_first() {
+            Some((b'\n', rest)) => {
+                self.line += 1;
+                self.words = 0;
+                self.inside = false;
+                Some(rest)
+            }
+            _ => None,
+        }
+    }
+
+    /// Takes the number or the line's end at the front of a text, where one can be taken, and gives
+    /// what follows it.
+    #[inline(always)]
+    fn take_front<'a>(&mut self, text: &'a [u8]) -> Option<&'a [u8]>
+        requires line { self.old.line + length text.now ≤ most_file_bytes + 1 }
+        requires words { self.old.words + length text.now ≤ most_file_bytes }
+        ensures read { MatchOption result
+            ((bytes : List ℕ) → IsReadTo self.old bytes text.now → IsReadTo self.new bytes text.now)
+            (λ rest. (bytes : List ℕ) → IsReadTo self.old bytes text.now → IsReadTo self.new bytes rest.now) }
+        ensures line { MatchOption result (self.new.line ≤ self.old.line)
+            (λ rest. self.new.line + length rest.now ≤ self.old.line + length text.now) }
+        ensures words { MatchOption result (self.new.words ≤ self.old.words)
+            (λ rest. self.new.words + length rest.now ≤ self.old.words + length text.now) }
+        ensures shorter { IfSome result (λ rest. length rest.now < length text.now) }
+    {
+        match self.take_number(text) {
+            Some(rest) => Some(rest),
+            None => self.take_line_end(text),
+        }
+    }
+
+    /// Takes the numbers and line ends at the front of a text, as many as can be taken, where the
+    /// open section is of weights or tours, and gives what is left of it.
+    pub(crate) fn take_run<'a>(&mut self, text: &'a [u8]) -> &'a [u8]
+        requires line { self.old.line + length text.now ≤ most_file_bytes + 1 }
+        requires words { self.old.words + length text.now ≤ most_file_bytes }
         ensures read { (bytes : List ℕ) → IsReadTo self.old bytes text.now
             → IsReadTo self.new bytes result.now }
-        ensures line { self.new.line ≡ self.old.line }
+        ensures line { self.new.line + length result.now ≤ self.old.line + length text.now }
         ensures words { self.new.words + length result.now ≤ self.old.words + length text.now }
         ensures shorter { length result.now ≤ length text.now }
     {
         let mut rest = text;
-        if !matches!(self.reading.open_part, Some(Part::Weights(_))) {
+        if !matches!(
+            self.reading.open_part,
+            Some(Part::Weights(_) | Part::Tours(_))
+        ) {
             return rest;
         }
-        'weights: while let Some(after) = self.take_weight(rest) {
+        'run: while let Some(after) = self.take_front(rest) {
             rest = after;
         }
         rest

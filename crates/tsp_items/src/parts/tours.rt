@@ -1,6 +1,7 @@
 //! The tours.
 
-ghost use Rattle.std.specs.Prelude.{◌≡◌, [], ℕ, List, ◌∷◌, ◌++◌, OnOk, IfOk, IfErr, map};
+ghost use Rattle.std.specs.Prelude.{◌≡◌, [], ℕ, List, ◌∷◌, ◌++◌, Ok, OnOk, IfOk, IfErr, map, true, false};
+ghost use Rattle.tsp_items.specs.Numbers.{IsWhole};
 
 use crate::fault::{LineFault, StepFault};
 use crate::parts::nodes::read_node_or_end;
@@ -60,6 +61,29 @@ impl TourList {
                 }
             }
         }
+    }
+
+    /// Takes the number of a word that was read, where it is a node and there is room. The answer is
+    /// whether it was taken.
+    #[inline(always)]
+    pub(crate) fn push_read(&mut self, number: i64) -> bool
+        ensures taken { result ≡ true → (n : ℕ) (words : List (List ℕ)) (word : List ℕ)
+            → IsWhole word number → HoldsTours self.old words
+            → Takes n (place_of_tour words) word (HoldsTours self.new (words ++ word ∷ [])) (Ok tt) }
+        ensures kept { result ≡ false → (words : List (List ℕ)) → HoldsTours self.old words
+            → HoldsTours self.new words }
+    {
+        let Ok(node) = u32::try_from(number) else {
+            return false;
+        };
+        if node < 1 || node > MOST_NODES || self.count >= MOST_TOUR_NODES {
+            return false;
+        }
+        if self.run.push(node).is_err() {
+            return false;
+        }
+        self.count += 1;
+        true
     }
 
     /// Ends the run that is open, if one is.

@@ -1,8 +1,7 @@
 //! The weights of a matrix.
 
 ghost use Rattle.std.specs.Prelude.{◌≡◌, ◌≤◌, [], ℕ, List, ◌∷◌, ◌++◌, Ok, true, false};
-ghost use Rattle.tsp_value.specs.Limits.{most_weight};
-ghost use Rattle.tsp_items.specs.Numbers.{sized};
+ghost use Rattle.tsp_items.specs.Numbers.{IsWhole};
 
 use crate::fault::{LineFault, StepFault};
 use std::alloc::Global;
@@ -55,17 +54,20 @@ impl WeightList {
         }
     }
 
-    /// Takes the weight of a word that was read, where there is room. The answer is whether it was
-    /// taken.
+    /// Takes the number of a word that was read, where it is a weight and there is room. The answer
+    /// is whether it was taken.
     #[inline(always)]
     pub fn push_read(&mut self, weight: i64) -> bool
         ensures taken { result ≡ true → (n : ℕ) (words : List (List ℕ)) (word : List ℕ)
-            → sized most_weight word ≡ Ok weight → HoldsWeights self.old n words
+            → IsWhole word weight → HoldsWeights self.old n words
             → Takes n (place_of_weight n words) word
             (HoldsWeights self.new n (words ++ word ∷ [])) (Ok tt) }
         ensures kept { result ≡ false → (n : ℕ) (words : List (List ℕ))
             → HoldsWeights self.old n words → HoldsWeights self.new n words }
     {
+        if weight < -MOST_WEIGHT || weight > MOST_WEIGHT {
+            return false;
+        }
         self.weights.len() < self.most && self.weights.push(weight).is_ok()
     }
 

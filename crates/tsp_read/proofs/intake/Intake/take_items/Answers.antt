@@ -16,9 +16,9 @@ returns-in-Err-clause-items c = λ bytes h.
 pub items-preserved : goal.items-preserved
 items-preserved c = record {
   read = λ bytes h.
-      c.take_weights-rest-in-Some.ensures.read bytes
+      c.take_run-rest-in-Some.ensures.read bytes
       (read_further c.items.self c.take_next.new.self bytes c.items.rest.now c.in-Some.after.now (item_next c.in-Some.next) (is_inside c.in-Some.next) c.in-Ok-false.field-0
       c.in-Ok-false.field-0-test (c.items.invariant.read bytes h) c.in-Ok-false.ensures.item c.in-Ok-false.ensures.inside (c.in-Some.ensures.follows refl));
-  line = omega (arith, c.items.invariant.line, c.in-Ok-false.ensures.line, c.in-Some.ensures.shorter);
-  words = omega (arith, c.items.invariant.words, c.in-Ok-false.ensures.words, c.in-Some.ensures.shorter);
+  line = omega (arith, c.items.invariant.line, c.in-Ok-false.ensures.line, c.in-Some.ensures.shorter, c.take_run-rest-in-Some.ensures.line);
+  words = omega (arith, c.items.invariant.words, c.in-Ok-false.ensures.words, c.in-Some.ensures.shorter, c.take_run-rest-in-Some.ensures.words);
 }
