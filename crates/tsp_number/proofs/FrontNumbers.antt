@@ -4,9 +4,10 @@ use Rattle.std.proofs.Math.Nat.{pow-suc, pow-le-pow_right, mul-le-mul}
 use Rattle.std.proofs.Math.Seq.{take-add, take-suc, take-length}
 use Rattle.std.proofs.lemmas.Bool.Decides.{nat_tests}
 use Rattle.std.proofs.lemmas.Int.{ints}
-use Rattle.std.proofs.lemmas.Int.Digits.{digits_value_more}
-use Rattle.std.proofs.lemmas.List.{length-take-le}
+use Rattle.std.proofs.lemmas.Int.Digits.{digits_value_more, digits_value-lt}
+use Rattle.std.proofs.lemmas.List.{length-take-le, take-take}
 use Rattle.std.proofs.lemmas.Str.{digit_value_digit}
+use Rattle.std.specs.Array.{IsFirstChunk}
 use Rattle.std.specs.Char.{is_ascii_digit}
 use Rattle.std.specs.Str.Parse.{AllDigits, digits_value}
 use Rattle.tsp_number.specs.Decimal.{unit, most_count}
@@ -42,6 +43,21 @@ one_more bytes count value read within digit =
       digits = rw texts (AllDigits-append (take count bytes) (c ∷ []) read.digits last);
       value_is = omega (arith, more, read.value_is, worth);
       size = omega (arith, worth);
+    }
+
+-- what the first eight bytes give
+pub eight_more : (bytes eight : List ℕ) (count value : ℕ) → IsFirstChunk bytes eight 8 → count ≤ 8 → AllDigits 10 (take count eight)
+    → value ≡ digits_value 10 (take count eight) → ReadsFront bytes count value
+eight_more bytes eight count value chunk few digits is =
+    let front : take count eight ≡ take count bytes = ap (take count) chunk.same ∙ take-take count 8 bytes few in
+    let within : count ≤ length bytes = omega (arith, chunk.enough) in
+    let long : length (take count bytes) ≡ count = length-take-le count bytes within in
+    let digits' : AllDigits 10 (take count bytes) = rw front at digits in
+    let same : value ≡ digits_value 10 (take count bytes) = rw front at is in
+    record {
+      digits = digits';
+      value_is = same;
+      size = rw same (rw long at (digits_value-lt 10 (take count bytes) digits'));
     }
 
 -- fewer than 18 digits leave room for one more

@@ -7,4 +7,6 @@ pub mod Scanning
 pub mod Spellings
 pub mod WordLaws
 pub mod Spelled
+pub mod DigitLanes
+pub mod EightDigits
 pub mod FrontNumbers

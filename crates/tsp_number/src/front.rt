@@ -7,6 +7,7 @@ ghost use Rattle.tsp_number.specs.NumberWord.{IsSign, signed as signed_of};
 ghost use Rattle.tsp_number.specs.Front.{BeginsWithNumber};
 
 use crate::decimal::{Decimal, UNIT};
+use crate::eight::front_of_eight;
 use crate::scale::power_of_ten;
 
 /// The most digits that are read before or after the point of a decimal: nine places are all.
@@ -39,9 +40,17 @@ fn front_digits(bytes: &[u8], most: usize) -> (u64, usize)
     ensures value { result.0 ≡ digits_value 10 (take result.1 bytes.now) }
     ensures size { result.0 < 10 ^ result.1 }
 {
-    let end = bytes.len().min(most);
     let mut value = 0;
     let mut count = 0;
+    if most >= 8
+        && let Some(eight) = bytes.first_chunk::<8>()
+    {
+        (value, count) = front_of_eight(eight);
+        if count < 8 {
+            return (value, count);
+        }
+    }
+    let end = bytes.len().min(most);
     while count < end {
         let byte = bytes[count];
         if !byte.is_ascii_digit() {

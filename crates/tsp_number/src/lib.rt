@@ -8,6 +8,7 @@
 
 mod decimal;
 mod distance;
+mod eight;
 mod fault;
 mod front;
 mod laws;

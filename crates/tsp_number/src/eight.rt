@@ -1,0 +1,71 @@
+//! Up to eight digits at once.
+
+ghost use Rattle.std.specs.Prelude.{◌≡◌, ◌<◌, ◌≤◌, take};
+ghost use Rattle.std.specs.Char.{is_ascii_digit};
+ghost use Rattle.std.specs.Int.{to_le_bytes, w64};
+ghost use Rattle.std.specs.Int.Digits.{AllBelowBase, number_from_digits};
+ghost use Rattle.std.specs.List.{prefix_len};
+ghost use Rattle.std.specs.Str.Parse.{AllDigits, digits_value};
+
+use std::simd::prelude::*;
+
+/// Eight bytes `0`, as a number.
+const EIGHT_ZEROS: u64 = 0x3030_3030_3030_3030;
+
+/// How many digits these bytes begin with.
+#[inline(always)]
+fn count_in(eight: u8x8) -> usize
+    ensures { result ≡ prefix_len is_ascii_digit eight }
+{
+    let digits = eight - u8x8::splat(b'0');
+    let others = digits.simd_ge(u8x8::splat(10)).to_bitmask();
+    if others == 0 {
+        8
+    } else {
+        others.trailing_zeros() as usize
+    }
+}
+
+/// The number that eight digits write, which stand in the bytes of `digits`, the first one lowest.
+#[inline(always)]
+fn value_of(digits: u64) -> u64
+    requires { AllBelowBase 10 (to_le_bytes w64 digits) }
+    ensures { result ≡ number_from_digits 10 (to_le_bytes w64 digits) }
+{
+    // Each byte times ten and the next: at most 99, so nothing is carried over.
+    let pairs = 10 * digits + digits / 0x100;
+    let first = pairs % 0x100;
+    let second = pairs / 0x1_0000 % 0x100;
+    let third = pairs / 0x1_0000_0000 % 0x100;
+    let fourth = pairs / 0x1_0000_0000_0000 % 0x100;
+    ((first * 100 + second) * 100 + third) * 100 + fourth
+}
+
+/// The number that the first `count` of these bytes write, which are digits.
+#[inline(always)]
+fn value_in(eight: &[u8; 8], count: usize) -> u64
+    requires some { 0 < count }
+    requires within { count ≤ 8 }
+    requires digits { AllDigits 10 (take count eight.now) }
+    ensures { result ≡ digits_value 10 (take count eight.now) }
+{
+    let text = u64::from_le_bytes(*eight);
+    // The bytes after the digits are shifted out, and zeros come in before them.
+    let digits = text.wrapping_sub(EIGHT_ZEROS) << (64 - 8 * count);
+    value_of(digits)
+}
+
+/// The digits that these bytes begin with, as a number, and how many they are.
+#[inline(always)]
+pub(crate) fn front_of_eight(eight: &[u8; 8]) -> (u64, usize)
+    ensures count { result.1 ≡ prefix_len is_ascii_digit eight.now }
+    ensures within { result.1 ≤ 8 }
+    ensures digits { AllDigits 10 (take result.1 eight.now) }
+    ensures value { result.0 ≡ digits_value 10 (take result.1 eight.now) }
+{
+    let count = count_in(u8x8::from_array(*eight));
+    if count == 0 {
+        return (0, 0);
+    }
+    (value_in(eight, count), count)
+}
