@@ -120,7 +120,7 @@ impl Intake {
         }
     }
 
-    /// Takes the number or the line's end at the front of a text, where one can be taken, and gives
+    /// Takes the line's end or the number at the front of a text, where one can be taken, and gives
     /// what follows it.
     #[inline(always)]
     fn take_front<'a>(&mut self, text: &'a [u8]) -> Option<&'a [u8]>
@@ -135,9 +135,9 @@ impl Intake {
             (λ rest. self.new.words + length rest.now ≤ self.old.words + length text.now) }
         ensures shorter { IfSome result (λ rest. length rest.now < length text.now) }
     {
-        match self.take_number(text) {
+        match self.take_line_end(text) {
             Some(rest) => Some(rest),
-            None => self.take_line_end(text),
+            None => self.take_number(text),
         }
     }
 

@@ -66,7 +66,7 @@ impl TourList {
     /// Takes the number of a word that was read, where it is a node and there is room. The answer is
     /// whether it was taken.
     #[inline(always)]
-    pub(crate) fn push_read(&mut self, number: i64) -> bool
+    pub fn push_read(&mut self, number: i64) -> bool
         ensures taken { result ≡ true → (n : ℕ) (words : List (List ℕ)) (word : List ℕ)
             → IsWhole word number → HoldsTours self.old words
             → Takes n (place_of_tour words) word (HoldsTours self.new (words ++ word ∷ [])) (Ok tt) }
