@@ -101,6 +101,35 @@ fn sign(bytes: &[u8]) -> (bool, usize) {
     }
 }
 
+/// The number at the front of a text, and where it ends: up to seven digits at once.
+#[inline(always)]
+fn front_whole(text: &[u8]) -> Option<(i64, usize)> {
+    let (negative, start) = sign(text);
+    let (size, end) = match text[start..].first_chunk::<8>() {
+        Some(eight) => {
+            let chunk = u64::from_le_bytes(*eight);
+            let digits = chunk ^ 0x3030_3030_3030_3030;
+            let others = (digits.wrapping_add(0x7676_7676_7676_7676) | digits) & 0x8080_8080_8080_8080;
+            let count = (others.trailing_zeros() / 8) as usize;
+            if 0 < count && count < 8 {
+                let front = digits << (64 - 8 * count);
+                let pairs = front.wrapping_mul(10).wrapping_add(front >> 8);
+                let low = (pairs & 0x0000_00ff_0000_00ff).wrapping_mul(0x000f_4240_0000_0064);
+                let high = ((pairs >> 16) & 0x0000_00ff_0000_00ff).wrapping_mul(0x0000_2710_0000_0001);
+                (low.wrapping_add(high) >> 32, start + count)
+            } else {
+                self::digits(text, start)
+            }
+        }
+        None => self::digits(text, start),
+    };
+    if end == start {
+        return None;
+    }
+    let size = size as i64;
+    Some((if negative { -size } else { size }, end))
+}
+
 /// The sign, the digits without zeros at either end and the exponent of any number word.
 fn any_word(word: &[u8]) -> Result<(bool, [u8; 64], usize, i64), Fault> {
     if word.len() > 64 {
@@ -407,9 +436,26 @@ fn distances(points: &[Point], rounds: u64, distance: impl Fn(Point, Point) -> i
     sum
 }
 
-fn work(name: &str, words: &[Word], list: &[Decimal], points: &[Point], rounds: u64) -> i64 {
+fn read_text(text: &[u8], rounds: u64) -> i64 {
+    let mut sum = 0i64;
+    for _ in 0..rounds {
+        let mut rest = text;
+        for _ in 0..SIZE {
+            if let Some((whole, end)) = front_whole(rest) {
+                sum = sum.wrapping_add(whole);
+                if let Some(left) = rest.get(end + 1..) {
+                    rest = left;
+                }
+            }
+        }
+    }
+    sum
+}
+
+fn work(name: &str, text: &[u8], words: &[Word], list: &[Decimal], points: &[Point], rounds: u64) -> i64 {
     let mut sum = 0i64;
     match name {
+        "front_whole" => sum = read_text(text, rounds),
         "parse_whole" => {
             for _ in 0..rounds {
                 for word in words {
@@ -463,9 +509,10 @@ fn main() {
         _ => decimals(1_000_000_000, 1),
     };
     let words: Vec<Word> = list.iter().map(|decimal| write_decimal(*decimal)).collect();
+    let text: Vec<u8> = words.iter().flat_map(|word| [word.as_slice(), b" "].concat()).collect();
     let points: Vec<Point> = list.windows(2).map(|pair| Point { x: pair[0], y: pair[1] }).collect();
     let start = Instant::now();
-    let sum = work(name, &words, &list, &points, rounds);
+    let sum = work(name, &text, &words, &list, &points, rounds);
     let took = start.elapsed();
     println!("{} {sum}", took.as_nanos());
 }

@@ -60,6 +60,30 @@ eight_more bytes eight count value chunk few digits is =
       size = rw same (rw long at (digits_value-lt 10 (take count bytes) digits'));
     }
 
+-- the digits after the first eight go on from theirs
+pub eight_and_more : (bytes : List ℕ) (value more places power : ℕ) → ReadsFront bytes 8 value → ReadsFront (drop 8 bytes) places more
+    → places ≤ length (drop 8 bytes) → power ≡ 10 ^ places → ReadsFront bytes (8 + places) (value * power + more)
+eight_and_more bytes value more places power first then within is =
+    let rest : List ℕ = take places (drop 8 bytes) in
+    let long : length rest ≡ places = length-take-le places (drop 8 bytes) within in
+    let text : take (8 + places) bytes ≡ take 8 bytes ++ rest = take-add 8 places bytes in
+    let sum : digits_value 10 (take 8 bytes ++ rest) ≡ value * power + more =
+    digits_value-append (take 8 bytes) rest ∙ rw (long, ← first.value_is, ← then.value_is, ← is) refl in
+    let above : value + 1 ≤ 10 ^ 8 = omega (arith, first.size) in
+    let same : power ≤ 10 ^ places = omega arith in
+    let product : (value + 1) * power ≤ 10 ^ 8 * 10 ^ places = mul-le-mul above same in
+    record {
+      digits = rw text (AllDigits-append (take 8 bytes) rest first.digits then.digits);
+      value_is = sym (ap (digits_value 10) text ∙ sum);
+      size = rw (pow-add 10 8 places) (omega (arith, product, then.size));
+    }
+
+-- at most 18 digits fit 64 bits
+pub few_fit : (bytes : List ℕ) (count value : ℕ) → ReadsFront bytes count value → count ≤ 18 → value < 2 ^ 64
+few_fit bytes count value read few =
+    let power : 10 ^ count ≤ 10 ^ 18 = pow-le-pow_right (omega arith) few in
+    omega (arith, read.size)
+
 -- fewer than 18 digits leave room for one more
 pub room_for_one : (bytes : List ℕ) (count value : ℕ) → ReadsFront bytes count value → count < 18 → value < 10 ^ 17
 room_for_one bytes count value read few =

@@ -9,6 +9,9 @@ ghost use Rattle.std.specs.Str.Parse.{AllDigits, digits_value};
 
 use std::simd::prelude::*;
 
+/// How many bytes are looked at together.
+pub(crate) const EIGHT: usize = 8;
+
 /// Eight bytes `0`, as a number.
 const EIGHT_ZEROS: u64 = 0x3030_3030_3030_3030;
 
@@ -20,7 +23,7 @@ fn count_in(eight: u8x8) -> usize
     let digits = eight - u8x8::splat(b'0');
     let others = digits.simd_ge(u8x8::splat(10)).to_bitmask();
     if others == 0 {
-        8
+        EIGHT
     } else {
         others.trailing_zeros() as usize
     }
@@ -43,7 +46,7 @@ fn value_of(digits: u64) -> u64
 
 /// The number that the first `count` of these bytes write, which are digits.
 #[inline(always)]
-fn value_in(eight: &[u8; 8], count: usize) -> u64
+fn value_in(eight: &[u8; EIGHT], count: usize) -> u64
     requires some { 0 < count }
     requires within { count ≤ 8 }
     requires digits { AllDigits 10 (take count eight.now) }
@@ -57,7 +60,7 @@ fn value_in(eight: &[u8; 8], count: usize) -> u64
 
 /// The digits that these bytes begin with, as a number, and how many they are.
 #[inline(always)]
-pub(crate) fn front_of_eight(eight: &[u8; 8]) -> (u64, usize)
+pub(crate) fn front_of_eight(eight: &[u8; EIGHT]) -> (u64, usize)
     ensures count { result.1 ≡ prefix_len is_ascii_digit eight.now }
     ensures within { result.1 ≤ 8 }
     ensures digits { AllDigits 10 (take result.1 eight.now) }

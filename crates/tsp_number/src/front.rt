@@ -7,7 +7,7 @@ ghost use Rattle.tsp_number.specs.NumberWord.{IsSign, signed as signed_of};
 ghost use Rattle.tsp_number.specs.Front.{BeginsWithNumber};
 
 use crate::decimal::{Decimal, UNIT};
-use crate::eight::front_of_eight;
+use crate::eight::{EIGHT, front_of_eight};
 use crate::scale::power_of_ten;
 
 /// The most digits that are read before or after the point of a decimal: nine places are all.
@@ -30,6 +30,30 @@ fn front_sign(bytes: &[u8]) -> (bool, usize)
     }
 }
 
+/// The same as `front_digits`, one digit after another.
+#[inline(always)]
+fn single_digits(bytes: &[u8], most: usize) -> (u64, usize)
+    requires { most ≤ 18 }
+    ensures within { result.1 ≤ length bytes.now }
+    ensures few { result.1 ≤ most }
+    ensures digits { AllDigits 10 (take result.1 bytes.now) }
+    ensures value { result.0 ≡ digits_value 10 (take result.1 bytes.now) }
+    ensures size { result.0 < 10 ^ result.1 }
+{
+    let end = bytes.len().min(most);
+    let mut value = 0;
+    let mut count = 0;
+    while count < end {
+        let byte = bytes[count];
+        if !byte.is_ascii_digit() {
+            break;
+        }
+        value = 10 * value + u64::from(byte - b'0');
+        count += 1;
+    }
+    (value, count)
+}
+
 /// The digits that the bytes begin with, at most so many, as a number, and how many they are.
 #[inline(always)]
 fn front_digits(bytes: &[u8], most: usize) -> (u64, usize)
@@ -40,26 +64,18 @@ fn front_digits(bytes: &[u8], most: usize) -> (u64, usize)
     ensures value { result.0 ≡ digits_value 10 (take result.1 bytes.now) }
     ensures size { result.0 < 10 ^ result.1 }
 {
-    let mut value = 0;
-    let mut count = 0;
-    if most >= 8
-        && let Some(eight) = bytes.first_chunk::<8>()
-    {
-        (value, count) = front_of_eight(eight);
-        if count < 8 {
-            return (value, count);
-        }
+    if most < EIGHT {
+        return single_digits(bytes, most);
     }
-    let end = bytes.len().min(most);
-    while count < end {
-        let byte = bytes[count];
-        if !byte.is_ascii_digit() {
-            break;
-        }
-        value = 10 * value + u64::from(byte - b'0');
-        count += 1;
+    let Some(eight) = bytes.first_chunk::<EIGHT>() else {
+        return single_digits(bytes, most);
+    };
+    let (value, count) = front_of_eight(eight);
+    if count < EIGHT {
+        return (value, count);
     }
-    (value, count)
+    let (more, places) = single_digits(&bytes[EIGHT..], most - EIGHT);
+    (value * power_of_ten(places as u64) + more, EIGHT + places)
 }
 
 /// The number of this size.

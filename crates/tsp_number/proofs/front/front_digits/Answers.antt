@@ -1,45 +1,52 @@
-use Rattle.std.proofs.Common.{◌<◌, length, arith, rules, sym, ◌∙◌}
-use Rattle.tsp_number.proofs.FrontNumbers.{eight_more, none_read, one_more, room_for_one}
+use Rattle.std.proofs.Common.{◌≡◌, ◌+◌, ◌*◌, ◌<◌, ◌≤◌, ◌^◌, drop, arith, rules}
+use Rattle.std.proofs.lemmas.List.{take_rest}
+use Rattle.tsp_number.proofs.FrontNumbers.{ReadsFront, eight_more, eight_and_more, few_fit}
 use Rattle.tsp_number.proofs.front.front_digits.Goals as goal
-use Rattle.tsp_number.proofs.front.front_digits.Goals.{then-most-ge8+in-Some+else-count-lt8, else-most-ge8}
 
-pub returns-then-count-lt8-clause-digits : goal.returns-then-count-lt8-clause-digits
-returns-then-count-lt8-clause-digits c =
-    let read = eight_more _ _ _ _ c.in-Some.ensures.cases c.front_of_eight.ensures.within c.front_of_eight.ensures.digits c.front_of_eight.ensures.value in
+pub returns-then-count-lt-EIGHT-clause-digits : goal.returns-then-count-lt-EIGHT-clause-digits
+returns-then-count-lt-EIGHT-clause-digits c =
+    let eight = c.front_of_eight-value.ensures in
+    let read = eight_more _ _ _ _ c.in-Some.ensures.cases eight.within eight.digits eight.value in
     read.digits
 
-pub returns-then-count-lt8-clause-value : goal.returns-then-count-lt8-clause-value
-returns-then-count-lt8-clause-value c =
-    let read = eight_more _ _ _ _ c.in-Some.ensures.cases c.front_of_eight.ensures.within c.front_of_eight.ensures.digits c.front_of_eight.ensures.value in
+pub returns-then-count-lt-EIGHT-clause-value : goal.returns-then-count-lt-EIGHT-clause-value
+returns-then-count-lt-EIGHT-clause-value c =
+    let eight = c.front_of_eight-value.ensures in
+    let read = eight_more _ _ _ _ c.in-Some.ensures.cases eight.within eight.digits eight.value in
     read.value_is
 
-pub returns-then-count-lt8-clause-size : goal.returns-then-count-lt8-clause-size
-returns-then-count-lt8-clause-size c =
-    let read = eight_more _ _ _ _ c.in-Some.ensures.cases c.front_of_eight.ensures.within c.front_of_eight.ensures.digits c.front_of_eight.ensures.value in
+pub returns-then-count-lt-EIGHT-clause-size : goal.returns-then-count-lt-EIGHT-clause-size
+returns-then-count-lt-EIGHT-clause-size c =
+    let eight = c.front_of_eight-value.ensures in
+    let read = eight_more _ _ _ _ c.in-Some.ensures.cases eight.within eight.digits eight.value in
     read.size
 
-pub loop-count-init : goal.loop-count-init
-loop-count-init c =
-    elim c.if-most-ge8.branch [
-      | then-most-ge8+in-Some+else-count-lt8 w ↦
-          let read = eight_more _ _ _ _ w.in-Some.ensures.cases w.front_of_eight.ensures.within w.front_of_eight.ensures.digits w.front_of_eight.ensures.value in (
-            omega (arith, w.count-is, w.if-most-ge8.true, w.front_of_eight.ensures.within, w.in-Some.ensures.cases.enough, c.min-end.ensures),
-            rw (w.value-is, w.count-is) read,
-          )
-      | else-most-ge8 w ↦ (omega (arith, w.count-is), rw (w.value-is, w.count-is) (none_read c.args.bytes.now))
-    ]
+read_on : (c : goal.After-power_of_ten) → ReadsFront c.args.bytes.now (8 + c.single_digits-more.result.1) (c.front_of_eight-value.result.0 * c.power_of_ten.result + c.single_digits-more.result.0)
+read_on c =
+    let eight = c.front_of_eight-value.ensures in
+    let more = c.single_digits-more.ensures in
+    let whole : c.front_of_eight-value.result.1 ≡ 8 = omega (arith, eight.within, c.if-count-lt-EIGHT.false) in
+    let first = eight_more _ _ _ _ c.in-Some.ensures.cases eight.within eight.digits eight.value in
+    let then : ReadsFront (drop 8 c.args.bytes.now) c.single_digits-more.result.1 c.single_digits-more.result.0 =
+    record { digits = rw take_rest at more.digits; value_is = rw take_rest at more.value; size = more.size } in
+    eight_and_more _ _ _ _ _ (rw whole at first) then (rw take_rest at more.within) c.power_of_ten.ensures
 
-pub overflow_mul-value : goal.overflow_mul-value
-overflow_mul-value c =
-    let room = room_for_one _ _ _ c.loop-count.invariant.1 (omega (arith, c.min-end.ensures)) in
-    search rules
+fits : (c : goal.After-power_of_ten) → c.front_of_eight-value.result.0 * c.power_of_ten.result + c.single_digits-more.result.0 < 2 ^ 64
+fits c =
+    let few : 8 + c.single_digits-more.result.1 ≤ 18 = omega (arith, c.single_digits-more.ensures.few, c.requires) in
+    few_fit _ _ _ (read_on c) few
 
-pub overflow_add-value : goal.overflow_add-value
-overflow_add-value c =
-    let room = room_for_one _ _ _ c.loop-count.invariant.1 (omega (arith, c.min-end.ensures)) in
-    search rules
+pub overflow_mul-result : goal.overflow_mul-result
+overflow_mul-result c = let room = fits c in search rules
 
-pub loop-count-preserved : goal.loop-count-preserved
-loop-count-preserved c =
-    let within : c.loop-count.count < length c.args.bytes.now = omega (arith, c.min-end.ensures) in
-    (omega arith, rw c.from.ensures (one_more _ _ _ c.loop-count.invariant.1 within (sym c.is_ascii_digit.ensures.value ∙ c.if-not-is_ascii_digit.false)))
+pub overflow_add-result : goal.overflow_add-result
+overflow_add-result c = let room = fits c in search rules
+
+pub returns-clause-digits : goal.returns-clause-digits
+returns-clause-digits c = (read_on c).digits
+
+pub returns-clause-value : goal.returns-clause-value
+returns-clause-value c = (read_on c).value_is
+
+pub returns-clause-size : goal.returns-clause-size
+returns-clause-size c = (read_on c).size

@@ -1,6 +1,6 @@
 use Rattle.std.proofs.Common.{◌≤◌, ◌-◌}
 use Rattle.tsp_number.proofs.FrontNumbers.{ReadsFront}
-use Rattle.tsp_number.proofs.front.front_digits.Given as goal
+use Rattle.tsp_number.proofs.front.single_digits.Given as goal
 
 abbrev pub invariant-loop-count : goal.invariant-loop-count
 invariant-loop-count l = (l.count ≤ l.end) × ReadsFront l.bytes l.count l.value
