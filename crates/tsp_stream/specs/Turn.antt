@@ -1,9 +1,6 @@
 -- What a call does to the reader that it is given.
-use Rattle.std.specs.Prelude.{◌≡◌, ℕ, ◌+◌, ◌≤◌, Bool, true, false, List, length, Option, Result, Ok, Err, IfSome}
-use Rattle.std.specs.Global.{Vec}
-use Rattle.std.specs.Io.KnownBytes.{Keeps, Consumes, IsAtEnd}
-use Rattle.tsp_stream.specs.declared.input.InputFault.{InputFault}
-use Rattle.tsp_stream.specs.declared.input.InputFault.TheVariants as faults
+use Rattle.std.specs.Prelude.{◌≡◌, ℕ, ◌≤◌, Bool, true, false, List, length, Option, IfSome}
+use Rattle.std.specs.Io.KnownBytes.{Keeps, Consumes}
 use Rattle.tsp_stream.specs.declared.watched.Watched.{Watched}
 use Rattle.tsp_stream.specs.Watched.{watched, has_failed}
 
@@ -50,13 +47,3 @@ IsUnread turn = Keeps turn.known turn.left × (turn.failed ≡ turn.had_failed)
 -- for some bytes that the reader handed out, at most so many, P holds of its turn
 abbrev pub TakesAtMost : ℕ → (List ℕ → Turn) → (Turn → Type 0) → Type 0
 TakesAtMost most turn P = (given : List ℕ) × (length given ≤ most) × P (turn given)
-
--- How the reading of a whole reader ends. The bytes are all that it has, unless they are more than the limit. At most
--- 4,096 are taken past the limit.
-abbrev pub TakesWhole : ℕ → (List ℕ → Turn) → Result (Vec ℕ) InputFault → Type 0
-TakesWhole limit turn (Ok bytes) = Gave (turn bytes.items) × IsSound (turn bytes.items)
-    × (length bytes.items ≤ limit → IsAtEnd (turn bytes.items).left)
-    × (length bytes.items ≤ limit + 4096)
-TakesWhole limit turn (Err faults.Device) = TakesAtMost (limit + 4096) turn HasBrokenOff
-TakesWhole limit turn (Err faults.OutOfMemory) =
-    TakesAtMost (limit + 4096) turn (λ stopped. Gave stopped × IsSound stopped)

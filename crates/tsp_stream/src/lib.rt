@@ -1,12 +1,10 @@
 //! Readers and writers that remember a failure, and the way of a text to a writer.
 #![tactic(auto)]
 
-mod input;
 mod output;
 mod piece;
 mod watched;
 
-pub use input::{InputFault, read_whole};
 pub use output::{WriteFault, send, write_text};
 pub use piece::{PIECE, Piece, hand_over, make_room, put, put_next_number, put_number};
 pub use watched::Watched;

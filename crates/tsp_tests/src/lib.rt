@@ -24,8 +24,6 @@ mod layout;
 #[cfg(test)]
 mod number;
 #[cfg(test)]
-mod reading;
-#[cfg(test)]
 mod texts;
 #[cfg(test)]
 mod verdicts;

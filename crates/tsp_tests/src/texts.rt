@@ -7,7 +7,7 @@ use std::test::Fail;
 use tsp_fields::{DraftFault, EndFault};
 use tsp_judge::{ReadFault, RunFault};
 use tsp_number::NumberFault;
-use tsp_stream::{InputFault, WriteFault};
+use tsp_stream::WriteFault;
 use tsp_value::Field;
 
 /// Asserts what a fault prints.
@@ -88,13 +88,6 @@ fn faults_of_drafts_print_the_field_or_the_rule(rt: HostRuntime) -> Result<(), F
     )?;
     prints(&rt, DraftFault::Rule(EndFault::WrongFormat), "WrongFormat")?;
     prints(&rt, DraftFault::Rule(EndFault::WrongCount), "WrongCount")?;
-    Ok(())
-}
-
-#[test]
-fn faults_of_taking_a_reader_whole_print_their_texts(rt: HostRuntime) -> Result<(), Fail> {
-    prints(&rt, InputFault::Device, "device")?;
-    prints(&rt, InputFault::OutOfMemory, "out of memory")?;
     Ok(())
 }
 
