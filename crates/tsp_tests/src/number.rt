@@ -196,6 +196,40 @@ fn numbers_are_read_before_other_words(rt: HostRuntime) {
 }
 
 #[test]
+fn digits_are_read_whatever_follows(rt: HostRuntime) {
+    same(&rt, front_whole(b"1 2345678"), Some((1, 1)));
+    same(&rt, front_whole(b"1234567:9"), Some((1_234_567, 7)));
+    same(&rt, front_whole(b"1234567/9"), Some((1_234_567, 7)));
+    same(&rt, front_whole(b"12345678"), Some((12_345_678, 8)));
+    same(&rt, front_whole(b"-00000090 1"), Some((-90, 9)));
+    same(
+        &rt,
+        front_whole(b"1234567890\xff"),
+        Some((1_234_567_890, 10)),
+    );
+    same(
+        &rt,
+        front_whole(b"123456789012345678 "),
+        Some((123_456_789_012_345_678, 18)),
+    );
+    same(
+        &rt,
+        front_whole(b"1234567890123456789"),
+        Some((123_456_789_012_345_678, 18)),
+    );
+    same(
+        &rt,
+        front_count(b"1.500000000 2345"),
+        Some((1_500_000_000, 11)),
+    );
+    same(
+        &rt,
+        front_count(b"1234567.25 00000"),
+        Some((1_234_567_250_000_000, 10)),
+    );
+}
+
+#[test]
 fn a_spelling_is_appended(rt: HostRuntime) -> Result<(), Fail> {
     let decimal = Decimal::of_count(-12_034_500_000_000).ok_or("out of range")?;
     let mut text: ArrayVec<u8, 32> = ArrayVec::new();
