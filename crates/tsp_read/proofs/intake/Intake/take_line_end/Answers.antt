@@ -1,4 +1,4 @@
-use Rattle.std.proofs.Common.{refl, false, ◌∙◌, ap, ◌∷◌, ℕ}
+use Rattle.std.proofs.Common.{refl, false, ◌∙◌, ap, ◌∷◌}
 use Rattle.tsp_items.specs.Items.{LineEnd}
 use Rattle.tsp_read.proofs.FrontSteps.{end_gives}
 use Rattle.tsp_read.proofs.IntakeSteps.{read_further}
