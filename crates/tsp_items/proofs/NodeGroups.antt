@@ -1,17 +1,20 @@
 -- By-node sections: the marks and entries of the nodes, a node and an entry more.
-use Rattle.std.proofs.Common.{◌≡◌, ◌≢◌, ℕ, ◌+◌, ◌-◌, ◌<◌, Bool, true, false, cond, ◌||◌, List, [], ◌∷◌, ◌++◌, set, refl, sym, ap, ◌∙◌, Option, None, Some, Ok, Err, inl, inr, arith, rules, get_or-set_other, get_or-set_same}
-use Rattle.std.specs.Prelude.{ℤ, pos, ◌⊎◌, slice_index_or, is_some, unwrap_or}
+use Rattle.std.proofs.Common.{◌≡◌, ◌≢◌, ℕ, ◌+◌, ◌-◌, ◌<◌, ◌≤◌, Bool, true, false, cond, ◌||◌, List, [], ◌∷◌, ◌++◌, length, set, refl, sym, ap, ◌∙◌, Option, None, Some, Ok, Err, inl, inr, arith, rules, get_or-set_other, get_or-set_same}
+use Rattle.std.specs.Int.{FitsUnsignedBits}
+use Rattle.std.specs.Prelude.{ℤ, pos, negsuc, nat_abs, ◌⊎◌, slice_index_or, is_some, unwrap_or}
 use Rattle.std.specs.List.{list_any}
 use Rattle.std.specs.Ordering.{int_eq}
 use Rattle.std.proofs.lemmas.Bool.{false_from_ne_true}
 use Rattle.std.proofs.lemmas.Bool.Decides.{Decides-int_eq, same_from_decides}
+use Rattle.std.proofs.lemmas.Int.{ints}
 use Rattle.std.proofs.lemmas.List.{length-set, length_push, ext_get_or}
 use Rattle.std.proofs.lemmas.List.FromFn.{length-map-range_with_len, get_or-map-range_with_len}
 use Rattle.tsp_number.specs.declared.fault.NumberFault.{NumberFault}
+use Rattle.tsp_number.specs.Reading.{whole_of}
 use Rattle.tsp_value.specs.Cells.{nodes_to}
 use Rattle.tsp_items.specs.declared.fault.LineFault.{LineFault}
 use Rattle.tsp_items.specs.declared.fault.LineFault.TheVariants as row
-use Rattle.tsp_items.specs.Numbers.{node, reads_as}
+use Rattle.tsp_items.specs.Numbers.{node, reads_as, IsWhole}
 use Rattle.tsp_items.specs.Places.{Place, NodeAfter}
 use Rattle.tsp_items.specs.Groups.{entry_of, nodes_in, by_node, place_in_group}
 use Rattle.tsp_items.specs.Spells.{wants_more}
@@ -61,6 +64,19 @@ mark_is_entry : {X : Type 0} (missing : X) (seen : List Bool) (entries : List X)
 mark_is_entry missing seen entries left begun n k groups within h =
     let place : k - 1 + 1 ≡ k = omega (arith, within.0) in
     h.marks (k - 1) (omega (arith, within.0, within.1)) ∙ ap (λ i. is_some (entry_of groups (pos i))) place
+
+-- ---- a node by the number that its word was read as
+
+pub natural : (z : ℤ) → FitsUnsignedBits 32 z → z ≡ pos (nat_abs z)
+natural (pos n) fits = refl
+natural (negsuc n) fits = absurd fits
+
+pub unmarked : (seen : List Bool) (z : ℤ) (k : ℕ) (word : List ℕ) → IsWhole word z → FitsUnsignedBits 32 z × (k ≡ nat_abs z) → 1 ≤ k → k ≤ length seen
+    → slice_index_or seen (k - 1) false ≡ false → IsNewNode seen word (Ok k)
+unmarked seen z k word whole from some within free =
+    let is : z ≡ pos k = natural z from.0 ∙ ap (λ (j : ℕ). pos j) (sym from.1) in
+    let read : whole_of word (pos 1) (pos (length seen)) ≡ Ok z = whole (pos 1) (pos (length seen)) (omega (arith, ints, is, some)) (omega (arith, ints, is, within)) in
+    (read ∙ ap (λ (y : ℤ). Ok y) is, (some, within), free)
 
 -- ---- the node of a new group
 

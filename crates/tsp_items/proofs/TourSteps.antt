@@ -16,6 +16,7 @@ use Rattle.tsp_items.specs.Places.{TourNode}
 use Rattle.tsp_items.specs.Tours.{ends_tour, tour_node, place_of_tour}
 use Rattle.tsp_items.specs.Parts.{word_fault, Takes}
 use Rattle.tsp_items.specs.Held.{HoldsTours, EndsRunOf}
+use Rattle.tsp_items.proofs.NodeGroups.{natural}
 use Rattle.tsp_items.proofs.Pieces.{split_end, split_more, count_push}
 
 -- ---- the rows
@@ -35,10 +36,6 @@ node_clean n count k word read few = rw (read, few) refl
 not_nothing : (k : ℕ) → 1 ≤ k → int_eq (pos k) (pos 0) ≡ false
 not_nothing zero some = absurd (omega (arith, some))
 not_nothing (suc k) some = search rules
-
-natural : (z : ℤ) → FitsUnsignedBits 32 z → z ≡ pos (nat_abs z)
-natural (pos n) fits = refl
-natural (negsuc n) fits = absurd fits
 
 -- a whole number among the nodes is read as that node
 pub whole_node : (z : ℤ) (k : ℕ) (word : List ℕ) → IsWhole word z → FitsUnsignedBits 32 z × (k ≡ nat_abs z) → 1 ≤ k → k ≤ most_nodes → node_or_end most_nodes word ≡ Ok (pos k)

@@ -1,15 +1,15 @@
 -- A number word at the front of a text, whose end is where the number's is.
 use Rattle.std.proofs.Common.{◌≡◌, ℕ, ◌+◌, ◌<◌, ◌≤◌, Bool, true, false, List, [], ◌∷◌, ◌++◌, length, take, drop, refl, sym, ap, subst, ◌∙◌, arith, inl, inr, Ok, ℤ, pos, ◌*ℤ◌, take-append-drop}
-use Rattle.std.specs.Prelude.{not, ◌&&◌, ◌||◌, ◌⊎◌}
+use Rattle.std.specs.Prelude.{not, ◌&&◌, ◌||◌, ◌⊎◌, unsigned_abs}
 use Rattle.std.specs.Str.Parse.{AllDigits}
 use Rattle.std.proofs.lemmas.Bool.{true≢false, le-ltb}
 use Rattle.std.proofs.lemmas.Bool.Decides.{nat_tests}
 use Rattle.std.proofs.lemmas.Str.Parse.{digit_from_value}
-use Rattle.tsp_number.specs.Decimal.{unit}
-use Rattle.tsp_number.specs.NumberWord.{plus, minus, point, lower_e, upper_e, IsSign, IsFraction, IsExponent, Numeral, Spells, ReadsWhole}
+use Rattle.tsp_number.specs.Decimal.{unit, most_count}
+use Rattle.tsp_number.specs.NumberWord.{plus, minus, point, lower_e, upper_e, IsSign, IsFraction, IsExponent, Numeral, Spells, ReadsWhole, ReadsDecimal}
 use Rattle.tsp_number.specs.Front.{BeginsWithNumber}
-use Rattle.tsp_number.specs.Reading.{whole_of}
-use Rattle.tsp_number.proofs.WordLaws.{whole_once, whole_of-reads}
+use Rattle.tsp_number.specs.Reading.{whole_of, decimal_of}
+use Rattle.tsp_number.proofs.WordLaws.{whole_once, whole_of-reads, decimal_once, decimal_of-reads}
 use Rattle.tsp_value.specs.Bytes.{is_blank, is_letter}
 use Rattle.tsp_value.specs.Limits.{most_word_bytes}
 use Rattle.tsp_items.specs.Numbers.{IsWhole}
@@ -191,6 +191,14 @@ front_reads text filled count z rest left h low high above below =
     let word : List ℕ = take count filled in
     let reads : ReadsWhole word low high (Ok z) = (h.number.short, h.number.stands, above, below) in
     ap (λ (w : List ℕ). whole_of w low high) (front_is text filled count (z *ℤ pos unit) rest left h) ∙ sym (whole_once _ _ _ _ _ reads (whole_of-reads word low high))
+
+-- or as that decimal
+pub front_reads_decimal : (text filled : List ℕ) (count : ℕ) (k : ℤ) (rest left : List ℕ) → EndsNumber text filled count k rest left → unsigned_abs k ≤ most_count
+    → decimal_of (front_word text) ≡ Ok k
+front_reads_decimal text filled count k rest left h small =
+    let word : List ℕ = take count filled in
+    let reads : ReadsDecimal word (Ok k) = (h.number.short, h.number.stands, small) in
+    ap (λ (w : List ℕ). decimal_of w) (front_is text filled count k rest left h) ∙ sym (decimal_once _ _ _ reads (decimal_of-reads word))
 
 -- ---- a line's end at the front of a text
 

@@ -1,11 +1,12 @@
-//! A run of whole numbers: the words of a matrix or of tours, each looked at once.
+//! A run of numbers: the words of a matrix, of tours or of points, each looked at once.
 //!
-//! Most words of a matrix or of a tour are plain whole numbers. Such a word is read here where its
-//! end is found, so that it is not searched for first. Every other word, and whatever else stands in
-//! a text but the ends of these lines, is left to `Intake::take_next`.
+//! Most words there are plain numbers. Such a word is read here where its end is found, so that it
+//! is not searched for first. Every other word, and whatever else stands in a text but the ends of
+//! these lines, is left to `Intake::take_next`.
 
-ghost use Rattle.std.specs.Prelude.{◌≡◌, ◌+◌, ◌≤◌, ◌<◌, ◌∷◌, List, ℕ, Bool, length, IfSome, MatchOption, true, false};
+ghost use Rattle.std.specs.Prelude.{◌≡◌, ◌+◌, ◌≤◌, ◌<◌, ◌∷◌, List, ℕ, Bool, length, IfSome, MatchOption, Ok, true, false};
 ghost use Rattle.tsp_value.specs.Limits.{most_file_bytes};
+ghost use Rattle.tsp_number.specs.Reading.{decimal_of};
 ghost use Rattle.tsp_items.specs.Numbers.{IsWhole};
 ghost use Rattle.tsp_items.specs.Items.{Item, NumberWord};
 ghost use Rattle.tsp_read.specs.Onward.{GivesNext};
@@ -17,7 +18,7 @@ use crate::cut::without_start;
 use crate::intake::Intake;
 use crate::state::part::Part;
 use crate::state::reading::Reading;
-use tsp_number::front_whole;
+use tsp_number::{Decimal, front_decimal, front_whole};
 use tsp_value::is_blank;
 
 /// What is left where a word has ended: without the blank that ended it, or from byte 10 on.
@@ -54,9 +55,56 @@ pub(crate) fn front_number(text: &[u8]) -> Option<(i64, &[u8])>
     }
 }
 
+/// The coordinate at the front of a text, and what follows its word and the blank that ends it; or
+/// nothing where no word of at most nine digits, a point and nine more stands there whose end has
+/// come.
+#[inline(always)]
+pub(crate) fn front_coordinate(text: &[u8]) -> Option<(Decimal, &[u8])>
+    ensures word { IfSome result (λ found. (inside : Bool)
+        → GivesNext inside text.now (NumberWord (front_word text.now)) true found.1.now) }
+    ensures coordinate { IfSome result (λ found. decimal_of (front_word text.now) ≡ Ok found.0) }
+    ensures shorter { IfSome result (λ found. length found.1.now < length text.now) }
+{
+    let filled = without_start(text);
+    let Some(found) = front_decimal(filled) else {
+        return None;
+    };
+    let rest = filled.split_at(found.1).1;
+    match past_end(rest) {
+        Some(left) => Some((found.0, left)),
+        None => None,
+    }
+}
+
 impl Reading {
-    /// Takes the whole number of a word that was read, where the open section is of weights or tours
-    /// and has room for it. The answer is whether it was taken.
+    /// Whether the next word is a coordinate.
+    #[inline(always)]
+    fn wants_coordinate(&self) -> bool {
+        match &self.open_part {
+            Some(Part::Coords(part) | Part::Display(part)) => part.wants_coordinate(),
+            _ => false,
+        }
+    }
+
+    /// Takes the coordinate of a word that was read, where a group of the open section has begun.
+    /// The answer is whether it was taken.
+    #[inline(always)]
+    fn push_coordinate(&mut self, coordinate: Decimal) -> bool
+        ensures taken { result ≡ true → (earlier : List Item) (word : List ℕ)
+            → decimal_of word ≡ Ok coordinate → Holds self.old earlier
+            → Holds self.new (NumberWord word ∷ earlier) }
+        ensures kept { result ≡ false → (earlier : List Item) → Holds self.old earlier
+            → Holds self.new earlier }
+    {
+        match &mut self.open_part {
+            Some(Part::Coords(part)) => part.push_coordinate(coordinate),
+            Some(Part::Display(part)) => part.push_coordinate(coordinate),
+            _ => false,
+        }
+    }
+
+    /// Takes the whole number of a word that was read, where the open section is of weights, tours
+    /// or points and has room for it. The answer is whether it was taken.
     #[inline(always)]
     fn push_read(&mut self, number: i64) -> bool
         ensures taken { result ≡ true → (earlier : List Item) (word : List ℕ)
@@ -68,6 +116,8 @@ impl Reading {
         match &mut self.open_part {
             Some(Part::Weights(part)) => part.push_read(number),
             Some(Part::Tours(part)) => part.push_read(number),
+            Some(Part::Coords(part)) => part.push_read(number),
+            Some(Part::Display(part)) => part.push_read(number),
             _ => false,
         }
     }
@@ -95,6 +145,29 @@ impl Intake {
         self.words += 1;
         self.inside = true;
         Some(rest)
+    }
+
+    /// Takes the coordinate at the front of a text, where one can be taken, and gives what follows it.
+    #[inline(always)]
+    fn take_coordinate<'a>(&mut self, text: &'a [u8]) -> Option<&'a [u8]>
+        requires { self.old.words + length text.now ≤ most_file_bytes }
+        ensures read { MatchOption result
+            ((bytes : List ℕ) → IsReadTo self.old bytes text.now → IsReadTo self.new bytes text.now)
+            (λ rest. (bytes : List ℕ) → IsReadTo self.old bytes text.now → IsReadTo self.new bytes rest.now) }
+        ensures line { self.new.line ≡ self.old.line }
+        ensures words { MatchOption result (self.new.words ≡ self.old.words)
+            (λ rest. self.new.words + length rest.now ≤ self.old.words + length text.now) }
+        ensures shorter { IfSome result (λ rest. length rest.now < length text.now) }
+    {
+        let Some(found) = front_coordinate(text) else {
+            return None;
+        };
+        if !self.reading.push_coordinate(found.0) {
+            return None;
+        }
+        self.words += 1;
+        self.inside = true;
+        Some(found.1)
     }
 
     /// Takes the line's end at the front of a text, where one stands there, and gives what follows it.
@@ -137,12 +210,13 @@ impl Intake {
     {
         match self.take_line_end(text) {
             Some(rest) => Some(rest),
+            None if self.reading.wants_coordinate() => self.take_coordinate(text),
             None => self.take_number(text),
         }
     }
 
     /// Takes the numbers and line ends at the front of a text, as many as can be taken, where the
-    /// open section is of weights or tours, and gives what is left of it.
+    /// open section is of weights, tours or points, and gives what is left of it.
     pub(crate) fn take_run<'a>(&mut self, text: &'a [u8]) -> &'a [u8]
         requires line { self.old.line + length text.now ≤ most_file_bytes + 1 }
         requires words { self.old.words + length text.now ≤ most_file_bytes }
@@ -155,7 +229,7 @@ impl Intake {
         let mut rest = text;
         if !matches!(
             self.reading.open_part,
-            Some(Part::Weights(_) | Part::Tours(_))
+            Some(Part::Weights(_) | Part::Tours(_) | Part::Coords(_) | Part::Display(_))
         ) {
             return rest;
         }

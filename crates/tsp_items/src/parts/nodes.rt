@@ -1,8 +1,8 @@
 //! Nodes, as the words of a section give them.
 
-ghost use Rattle.std.specs.Prelude.{◌≡◌, ◌<◌, ◌^◌, length, IfOk};
+ghost use Rattle.std.specs.Prelude.{◌≡◌, ◌<◌, ◌^◌, ℕ, List, length, Ok, IfOk, IfSome};
 ghost use Rattle.std.specs.Option.{ForSome};
-ghost use Rattle.tsp_items.specs.Numbers.{node, node_or_end, is_minus_one};
+ghost use Rattle.tsp_items.specs.Numbers.{node, node_or_end, is_minus_one, IsWhole};
 ghost use Rattle.tsp_items.specs.Parts.{as_number, as_node_or_end, IsNodeOf, IsNewNode};
 
 use crate::fault::LineFault;
@@ -46,6 +46,23 @@ pub(crate) fn new_node(seen: &[bool], word: &[u8]) -> Result<u32, LineFault>
         }
         Err(fault) => Err(LineFault::Number(fault)),
     }
+}
+
+/// The node of a new group by the number that its word was read as, where it is one without a mark.
+#[inline(always)]
+pub(crate) fn unmarked_node(seen: &[bool], number: i64) -> Option<u32>
+    requires { length seen.now < 2 ^ 32 }
+    ensures new { IfSome result (λ node. (word : List ℕ) → IsWhole word number
+        → IsNewNode seen.now word (Ok node)) }
+    ensures within { IfSome result (λ node. IsNodeOf (length seen.now) node) }
+{
+    let Ok(node) = u32::try_from(number) else {
+        return None;
+    };
+    if node < 1 || node as usize > seen.len() || seen[node as usize - 1] {
+        return None;
+    }
+    Some(node)
 }
 
 /// Whether a word is the two bytes `-1`.

@@ -1,10 +1,10 @@
 //! By-node sections with a point for each node.
 
-ghost use Rattle.std.specs.Prelude.{◌≡◌, ◌<◌, ◌≤◌, ◌^◌, None, Some, Ok, [], ℕ, List, ◌∷◌, ◌++◌, vec_len, IfOk};
+ghost use Rattle.std.specs.Prelude.{◌≡◌, ◌<◌, ◌≤◌, ◌^◌, None, Some, Ok, [], ℕ, List, ◌∷◌, ◌++◌, vec_len, IfOk, is_some, true, false};
 ghost use Rattle.std.specs.Option.{ForSome};
 
 use crate::fault::{LineFault, StepFault};
-use crate::parts::nodes::{is_minus_one, new_node};
+use crate::parts::nodes::{is_minus_one, new_node, unmarked_node};
 use std::alloc::{AllocError, Global};
 use tsp_number::{Decimal, Point, parse_decimal};
 
@@ -23,6 +23,7 @@ pub struct PointList {
 
 impl PointList {
     ghost use Rattle.tsp_number.specs.Reading.{decimal_of};
+    ghost use Rattle.tsp_items.specs.Numbers.{IsWhole};
     ghost use Rattle.tsp_items.specs.Groups.{place_of_point, points_by_node};
     ghost use Rattle.tsp_items.specs.Spells.{wants_more};
     ghost use Rattle.tsp_items.specs.Parts.{Takes, word_fault};
@@ -85,6 +86,7 @@ impl PointList {
     }
 
     /// Takes the next coordinate of the group that has begun.
+    #[inline(always)]
     fn put(&mut self, node: u32, coordinate: Decimal)
         requires to_come { 0 < self.old.left }
         requires begun { self.old.begun ≡ Some node }
@@ -102,6 +104,57 @@ impl PointList {
                 self.begun = None;
                 self.x = None;
             }
+        }
+    }
+
+    /// Whether a group has begun, so that the next word is a coordinate.
+    #[inline(always)]
+    pub fn wants_coordinate(&self) -> bool
+        ensures { result ≡ is_some self.now.begun }
+    {
+        self.begun.is_some()
+    }
+
+    /// Takes the number of a word that was read, where a group can begin with it. The answer is
+    /// whether it was taken.
+    #[inline(always)]
+    pub fn push_read(&mut self, number: i64) -> bool
+        ensures taken { result ≡ true → (n : ℕ) (words : List (List ℕ)) (word : List ℕ)
+            → IsWhole word number → HoldsPoints self.old n words
+            → Takes n (place_of_point n words) word
+            (HoldsPoints self.new n (words ++ word ∷ [])) (Ok tt) }
+        ensures kept { result ≡ false → (n : ℕ) (words : List (List ℕ))
+            → HoldsPoints self.old n words → HoldsPoints self.new n words }
+    {
+        match self.begun {
+            None if self.left > 0 => match unmarked_node(self.seen.as_slice(), number) {
+                Some(node) => {
+                    self.begun = Some(node);
+                    true
+                }
+                None => false,
+            },
+            _ => false,
+        }
+    }
+
+    /// Takes the coordinate of a word that was read, where a group has begun. The answer is whether
+    /// it was taken.
+    #[inline(always)]
+    pub fn push_coordinate(&mut self, coordinate: Decimal) -> bool
+        ensures taken { result ≡ true → (n : ℕ) (words : List (List ℕ)) (word : List ℕ)
+            → decimal_of word ≡ Ok coordinate → HoldsPoints self.old n words
+            → Takes n (place_of_point n words) word
+            (HoldsPoints self.new n (words ++ word ∷ [])) (Ok tt) }
+        ensures kept { result ≡ false → (n : ℕ) (words : List (List ℕ))
+            → HoldsPoints self.old n words → HoldsPoints self.new n words }
+    {
+        match self.begun {
+            Some(node) if self.left > 0 => {
+                self.put(node, coordinate);
+                true
+            }
+            _ => false,
         }
     }
 
