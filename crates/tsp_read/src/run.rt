@@ -210,14 +210,34 @@ impl Intake {
     {
         match self.take_line_end(text) {
             Some(rest) => Some(rest),
-            None if self.reading.wants_coordinate() => self.take_coordinate(text),
             None => self.take_number(text),
         }
     }
 
-    /// Takes the numbers and line ends at the front of a text, as many as can be taken, where the
-    /// open section is of weights, tours or points, and gives what is left of it.
-    pub(crate) fn take_run<'a>(&mut self, text: &'a [u8]) -> &'a [u8]
+    /// Takes the line's end, the node or the coordinate at the front of a text, where one can be
+    /// taken, and gives what follows it.
+    #[inline(always)]
+    fn take_point_front<'a>(&mut self, text: &'a [u8]) -> Option<&'a [u8]>
+        requires line { self.old.line + length text.now ≤ most_file_bytes + 1 }
+        requires words { self.old.words + length text.now ≤ most_file_bytes }
+        ensures read { MatchOption result
+            ((bytes : List ℕ) → IsReadTo self.old bytes text.now → IsReadTo self.new bytes text.now)
+            (λ rest. (bytes : List ℕ) → IsReadTo self.old bytes text.now → IsReadTo self.new bytes rest.now) }
+        ensures line { MatchOption result (self.new.line ≤ self.old.line)
+            (λ rest. self.new.line + length rest.now ≤ self.old.line + length text.now) }
+        ensures words { MatchOption result (self.new.words ≤ self.old.words)
+            (λ rest. self.new.words + length rest.now ≤ self.old.words + length text.now) }
+        ensures shorter { IfSome result (λ rest. length rest.now < length text.now) }
+    {
+        if self.reading.wants_coordinate() {
+            return self.take_coordinate(text);
+        }
+        self.take_front(text)
+    }
+
+    /// Takes the numbers and line ends at the front of a text, as many as can be taken, and gives
+    /// what is left of it.
+    fn take_numbers<'a>(&mut self, text: &'a [u8]) -> &'a [u8]
         requires line { self.old.line + length text.now ≤ most_file_bytes + 1 }
         requires words { self.old.words + length text.now ≤ most_file_bytes }
         ensures read { (bytes : List ℕ) → IsReadTo self.old bytes text.now
@@ -227,15 +247,45 @@ impl Intake {
         ensures shorter { length result.now ≤ length text.now }
     {
         let mut rest = text;
-        if !matches!(
-            self.reading.open_part,
-            Some(Part::Weights(_) | Part::Tours(_) | Part::Coords(_) | Part::Display(_))
-        ) {
-            return rest;
-        }
         'run: while let Some(after) = self.take_front(rest) {
             rest = after;
         }
         rest
+    }
+
+    /// Takes the nodes, coordinates and line ends at the front of a text, as many as can be taken,
+    /// and gives what is left of it.
+    fn take_points<'a>(&mut self, text: &'a [u8]) -> &'a [u8]
+        requires line { self.old.line + length text.now ≤ most_file_bytes + 1 }
+        requires words { self.old.words + length text.now ≤ most_file_bytes }
+        ensures read { (bytes : List ℕ) → IsReadTo self.old bytes text.now
+            → IsReadTo self.new bytes result.now }
+        ensures line { self.new.line + length result.now ≤ self.old.line + length text.now }
+        ensures words { self.new.words + length result.now ≤ self.old.words + length text.now }
+        ensures shorter { length result.now ≤ length text.now }
+    {
+        let mut rest = text;
+        'run: while let Some(after) = self.take_point_front(rest) {
+            rest = after;
+        }
+        rest
+    }
+
+    /// Takes what can be taken so at the front of a text, where the open section is of weights,
+    /// tours or points, and gives what is left of it.
+    pub(crate) fn take_run<'a>(&mut self, text: &'a [u8]) -> &'a [u8]
+        requires line { self.old.line + length text.now ≤ most_file_bytes + 1 }
+        requires words { self.old.words + length text.now ≤ most_file_bytes }
+        ensures read { (bytes : List ℕ) → IsReadTo self.old bytes text.now
+            → IsReadTo self.new bytes result.now }
+        ensures line { self.new.line + length result.now ≤ self.old.line + length text.now }
+        ensures words { self.new.words + length result.now ≤ self.old.words + length text.now }
+        ensures shorter { length result.now ≤ length text.now }
+    {
+        match self.reading.open_part {
+            Some(Part::Weights(_) | Part::Tours(_)) => self.take_numbers(text),
+            Some(Part::Coords(_) | Part::Display(_)) => self.take_points(text),
+            _ => text,
+        }
     }
 }

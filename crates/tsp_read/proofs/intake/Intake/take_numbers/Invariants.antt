@@ -1,6 +1,6 @@
 use Rattle.std.proofs.Common.{ℕ, ◌+◌, ◌≤◌, List, length}
 use Rattle.tsp_read.specs.Intake.{IsReadTo}
-use Rattle.tsp_read.proofs.intake.Intake.take_run.Given as goal
+use Rattle.tsp_read.proofs.intake.Intake.take_numbers.Given as goal
 
 abbrev pub invariant-run : goal.invariant-run
 invariant-run l = record {
