@@ -6,8 +6,8 @@ use Rattle.std.proofs.lemmas.Bool.{false≢true}
 use Rattle.tsp_value.specs.declared.kinds.Kind.{Kind}
 use Rattle.tsp_value.specs.declared.kinds.Kind.TheVariants as kinds
 use Rattle.tsp_stream.specs.declared.output.WriteFault.TheVariants as write_faults
-use Rattle.tsp_stream.specs.Turn.{Turn}
-use Rattle.tsp_stream.specs.Sink.{Sink, HasWritten}
+use Rattle.tsp_stream.specs.Turn.{Turn, IsUnread}
+use Rattle.tsp_stream.specs.Sink.{Sink, IsUnwritten, HasWritten}
 use Rattle.tsp_fields.specs.Fields.{Fields}
 use Rattle.tsp_fields.specs.Rules.{is_instance}
 use Rattle.tsp_fields.specs.Cost.{cost}
@@ -21,7 +21,7 @@ use Rattle.tsp_judge.specs.declared.fault.RunFault.{RunFault}
 use Rattle.tsp_judge.specs.declared.fault.RunFault.TheVariants.{File, WrongKind, Write, OutOfMemory, Relayout}
 use Rattle.tsp_judge.specs.Judged.{is_yes}
 use Rattle.tsp_judge.specs.Report.{report_of, IsBoundSized, IsSized}
-use Rattle.tsp_judge.specs.Run.{Answers}
+use Rattle.tsp_judge.specs.Run.{ReadsFile, Answers}
 use Rattle.tsp_judge.specs.BoundRun.{is_bounded, IsJudged, IsBoundRun, IsAYes}
 
 pub kind_of_bounded : (kind : Option Kind) → IsTrue (is_bounded kind) → (kind ≡ Some kinds.Tsp) ⊎ (kind ≡ Some kinds.Atsp)
@@ -50,28 +50,60 @@ sized instance solution certificate (verdicts.Tour length bound) v = subst IsBou
 sized instance solution certificate (verdicts.Routes length routes least) v = tt
 sized instance solution certificate (verdicts.No reason) v = tt
 
-pub judged : (first second third : Turn) (file instance solution certificate : Fields) (verdict : Verdict) → IsTrue (is_bounded instance.kind) → instance ≡ file → IsFile first file
-    → IsFile second solution → IsFile third certificate → IsVerdict instance solution certificate verdict → IsJudged first second third instance verdict
-judged first second third file instance solution certificate verdict is same one two three v = record {
+judged : (first second third : Turn) (instance solution certificate : Fields) (verdict : Verdict) → IsTrue (is_bounded instance.kind)
+    → IsVerdict instance solution certificate verdict → IsFile first instance → IsFile second solution → IsFile third certificate
+    → IsJudged first second third instance verdict
+judged first second third instance solution certificate verdict is v one two three = record {
   bounded = is;
   solution = solution;
   certificate = certificate;
-  first_file = subst (IsFile first) (sym same) one;
+  first_file = one;
   second_file = two;
   third_file = three;
   judged = v;
 }
 
 -- what a check answers that has its verdict
-pub answered : (first second third : Turn) (sink : Sink) (instance : Fields) (verdict : Verdict) (result : Result Bool RunFault)
-    → IsJudged first second third instance verdict → Answers sink instance verdict result → IsBoundRun first second third sink result
-answered first second third sink instance verdict (Ok answer) j a = (instance, verdict, j, a.0, a.1)
-answered first second third sink instance verdict (Err OutOfMemory) j a = (a, (instance, j.first_file, j.bounded), (j.solution, j.second_file), (j.certificate, j.third_file))
-answered first second third sink instance verdict (Err (Write write_faults.Device)) j a = (instance, verdict, j, a)
-answered first second third sink instance verdict (Err (Write write_faults.OutOfMemory)) j a = absurd a
-answered first second third sink instance verdict (Err (File file fault)) j a = absurd a
-answered first second third sink instance verdict (Err WrongKind) j a = absurd a
-answered first second third sink instance verdict (Err (Relayout fault)) j a = absurd a
+pub answered : (first second third : Turn) (instance solution certificate : Fields) (sink : Sink) (verdict : Verdict) (result : Result Bool RunFault)
+    → IsTrue (is_bounded instance.kind) → IsVerdict instance solution certificate verdict → Answers sink instance verdict result
+    → IsFile first instance → IsFile second solution → IsFile third certificate → IsBoundRun first second third sink result
+answered first second third instance solution certificate sink verdict (Ok answer) is v a one two three =
+    (instance, verdict, judged first second third instance solution certificate verdict is v one two three, a.0, a.1)
+answered first second third instance solution certificate sink verdict (Err OutOfMemory) is v a one two three =
+    (a, (instance, one, is), (solution, two), (certificate, three))
+answered first second third instance solution certificate sink verdict (Err (Write write_faults.Device)) is v a one two three =
+    (instance, verdict, judged first second third instance solution certificate verdict is v one two three, a)
+answered first second third instance solution certificate sink verdict (Err (Write write_faults.OutOfMemory)) is v a one two three = absurd a
+answered first second third instance solution certificate sink verdict (Err (File file fault)) is v a one two three = absurd a
+answered first second third instance solution certificate sink verdict (Err WrongKind) is v a one two three = absurd a
+answered first second third instance solution certificate sink verdict (Err (Relayout fault)) is v a one two three = absurd a
+
+-- a run that stops at its first file, at its second, and at its third
+pub first_stops : (first second third : Turn) (sink : Sink) (fault : RunFault) → ReadsFile 1 first (Err fault) → IsUnread second → IsUnread third
+    → IsUnwritten sink → IsBoundRun first second third sink (Err fault)
+first_stops first second third sink (File place fault) stops two three unwritten = (unwritten, inl (stops.0, stops.1, two, three))
+first_stops first second third sink WrongKind stops two three unwritten = absurd stops
+first_stops first second third sink (Write fault) stops two three unwritten = absurd stops
+first_stops first second third sink OutOfMemory stops two three unwritten = absurd stops
+first_stops first second third sink (Relayout fault) stops two three unwritten = absurd stops
+
+pub second_stops : (first second third : Turn) (instance : Fields) (sink : Sink) (fault : RunFault) → IsFile first instance
+    → ReadsFile 2 second (Err fault) → IsUnread third → IsUnwritten sink → IsBoundRun first second third sink (Err fault)
+second_stops first second third instance sink (File place fault) one stops three unwritten =
+    (unwritten, inr (inl (stops.0, (instance, one), stops.1, three)))
+second_stops first second third instance sink WrongKind one stops three unwritten = absurd stops
+second_stops first second third instance sink (Write fault) one stops three unwritten = absurd stops
+second_stops first second third instance sink OutOfMemory one stops three unwritten = absurd stops
+second_stops first second third instance sink (Relayout fault) one stops three unwritten = absurd stops
+
+pub third_stops : (first second third : Turn) (instance solution : Fields) (sink : Sink) (fault : RunFault) → IsFile first instance
+    → IsFile second solution → ReadsFile 3 third (Err fault) → IsUnwritten sink → IsBoundRun first second third sink (Err fault)
+third_stops first second third instance solution sink (File place fault) one two stops unwritten =
+    (unwritten, inr (inr (stops.0, (instance, one), (solution, two), stops.1)))
+third_stops first second third instance solution sink WrongKind one two stops unwritten = absurd stops
+third_stops first second third instance solution sink (Write fault) one two stops unwritten = absurd stops
+third_stops first second third instance solution sink OutOfMemory one two stops unwritten = absurd stops
+third_stops first second third instance solution sink (Relayout fault) one two stops unwritten = absurd stops
 
 -- what a yes says
 pub a_yes : (first second third : Turn) (sink : Sink) (instance : Fields) (verdict : Verdict) → IsJudged first second third instance verdict → true ≡ is_yes verdict
@@ -97,8 +129,8 @@ a_yes first second third sink instance (verdicts.Tour length bound) j accepted w
 a_yes first second third sink instance (verdicts.Routes length routes least) j accepted written = absurd j.judged
 a_yes first second third sink instance (verdicts.No reason) j accepted written = absurd (false≢true (sym accepted))
 
-pub yes_of : (first second third : Turn) (sink : Sink) (instance : Fields) (verdict : Verdict) (result : Result Bool RunFault) → IsJudged first second third instance verdict
-    → Answers sink instance verdict result → result ≡ Ok true → IsAYes first second third sink
-yes_of first second third sink instance verdict result j a is =
-    let b : Answers sink instance verdict (Ok true) = subst (Answers sink instance verdict) is a in
-    a_yes first second third sink instance verdict j b.0 b.1
+pub yes_of : (first second third : Turn) (sink : Sink) (result : Result Bool RunFault) → IsBoundRun first second third sink result → result ≡ Ok true
+    → IsAYes first second third sink
+yes_of first second third sink result run is =
+    let r : IsBoundRun first second third sink (Ok true) = subst (IsBoundRun first second third sink) is run in
+    a_yes first second third sink r.0 r.1 r.2 r.3 r.4

@@ -3,10 +3,12 @@ use Rattle.std.proofs.Common.{◌≡◌, ℕ, List, Err, subst}
 use Rattle.tsp_stream.specs.declared.output.WriteFault.{WriteFault}
 use Rattle.tsp_stream.specs.declared.output.WriteFault.TheVariants as faults
 use Rattle.tsp_stream.specs.Turn.{Turn}
-use Rattle.tsp_stream.specs.Sink.{Sink, Writes, HasStopped}
+use Rattle.tsp_stream.specs.Sink.{Sink, IsUnwritten, Writes, HasStopped}
 use Rattle.tsp_fields.specs.Fields.{Fields}
 use Rattle.tsp_read.specs.Reads.{IsFile}
-use Rattle.tsp_judge.specs.declared.fault.RunFault.TheVariants.{Write}
+use Rattle.tsp_judge.specs.declared.fault.RunFault.{RunFault}
+use Rattle.tsp_judge.specs.declared.fault.RunFault.TheVariants.{File, WrongKind, Write, OutOfMemory, Relayout}
+use Rattle.tsp_judge.specs.Run.{ReadsFile}
 use Rattle.tsp_judge.specs.Show.{shown}
 use Rattle.tsp_judge.specs.ShowRun.{IsShowRun}
 
@@ -14,3 +16,11 @@ pub show_stopped : (turn : Turn) (sink : Sink) (file : Fields) (text : List ℕ)
     → Writes sink text (Err fault) → IsShowRun turn sink (Err (Write fault))
 show_stopped turn sink file text faults.Device whole e w = (file, whole, subst (HasStopped sink) e w)
 show_stopped turn sink file text faults.OutOfMemory whole e w = absurd w
+
+-- a run that stops at its file
+pub show_stops : (turn : Turn) (sink : Sink) (fault : RunFault) → ReadsFile 1 turn (Err fault) → IsUnwritten sink → IsShowRun turn sink (Err fault)
+show_stops turn sink (File place fault) stops unwritten = (stops.0, stops.1, unwritten)
+show_stops turn sink WrongKind stops unwritten = absurd stops
+show_stops turn sink (Write fault) stops unwritten = absurd stops
+show_stops turn sink OutOfMemory stops unwritten = absurd stops
+show_stops turn sink (Relayout fault) stops unwritten = absurd stops

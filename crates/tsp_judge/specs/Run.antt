@@ -1,5 +1,5 @@
 -- What a check does to its readers and its writer, and what it answers.
-use Rattle.std.specs.Prelude.{◌≡◌, ◌⊎◌, Bool, false, Result, Ok, Err, IsTrue}
+use Rattle.std.specs.Prelude.{◌≡◌, ℕ, ◌⊎◌, Bool, false, Result, Ok, Err, IsTrue}
 use Rattle.tsp_stream.specs.declared.output.WriteFault.TheVariants as write_faults
 use Rattle.tsp_stream.specs.Turn.{Turn, IsUnread}
 use Rattle.tsp_stream.specs.Sink.{Sink, IsUnwritten, HasWritten, HasStopped}
@@ -15,6 +15,15 @@ use Rattle.tsp_judge.specs.Report.{report_of}
 -- the turn's bytes spell a file
 abbrev pub IsSomeFile : Turn → Type 0
 IsSomeFile turn = (file : Fields) × IsFile turn file
+
+-- the file with this number was read, or it is none and the run ends with its fault
+abbrev pub ReadsFile : ℕ → Turn → Result Fields RunFault → Type 0
+ReadsFile number turn (Ok file) = IsFile turn file
+ReadsFile number turn (Err (File place fault)) = (place ≡ number) × StopsAt fault turn
+ReadsFile number turn (Err WrongKind) = ⊥
+ReadsFile number turn (Err (Write fault)) = ⊥
+ReadsFile number turn (Err OutOfMemory) = ⊥
+ReadsFile number turn (Err (Relayout fault)) = ⊥
 
 -- they spell a file that is an instance, or one that is none
 abbrev pub IsSomeInstance : Turn → Type 0

@@ -3,16 +3,17 @@
 
 ghost use Rattle.std.specs.Prelude.{◌≡◌, true, Some, Ok};
 ghost use Rattle.tsp_stream.specs.Sink.{sink_of};
-ghost use Rattle.tsp_stream.specs.Turn.{turn_of, TakesAtMost};
-ghost use Rattle.tsp_read.specs.Reads.{most_taken};
+ghost use Rattle.tsp_stream.specs.Turn.{Turn, turn_of, TakesAtMost};
+ghost use Rattle.tsp_read.specs.Reads.{IsFile, most_taken};
 ghost use Rattle.tsp_judge.specs.BoundRun.{is_bounded, IsBoundRun, IsAYes};
 
 use crate::answer::answer;
 use crate::fault::RunFault;
-use std::alloc::Global;
+use crate::file::read_file;
+use std::alloc::{AllocError, Global};
 use std::io::{Read, Write};
 use tsp_cost::Instance;
-use tsp_read::read_from;
+use tsp_fields::File;
 use tsp_stream::Watched;
 use tsp_value::Kind;
 use tsp_verdict::judge_tour_bound;
@@ -51,28 +52,122 @@ pub fn run_bound_check<I: Read, S: Read, P: Read, W: Write>(
         TakesAtMost most_taken (turn_of P.remaining pot.old pot.new) (λ third.
         IsAYes first second third (sink_of W.contents out.old out.new)))) }
 {
-    let instance = match read_from(alloc, inst) {
-        Err(fault) => return Err(RunFault::File { file: 1, fault }),
-        Ok(file) => file,
-    };
-    let solution = match read_from(alloc, sol) {
-        Err(fault) => return Err(RunFault::File { file: 2, fault }),
-        Ok(file) => file,
-    };
-    let certificate = match read_from(alloc, pot) {
-        Err(fault) => return Err(RunFault::File { file: 3, fault }),
-        Ok(file) => file,
-    };
-    let instance = match Instance::of(instance) {
-        Err(_) => return Err(RunFault::WrongKind),
-        Ok(instance) => instance,
-    };
+    checked(alloc, inst, sol, pot, out)
+}
+
+/// The check, of which each step takes one file more.
+fn checked<I: Read, S: Read, P: Read, W: Write>(
+    alloc: Global,
+    inst: &mut Watched<I>,
+    sol: &mut Watched<S>,
+    pot: &mut Watched<P>,
+    out: &mut Watched<W>,
+) -> Result<bool, RunFault>
+    ensures { TakesAtMost most_taken (turn_of I.remaining inst.old inst.new) (λ first.
+        TakesAtMost most_taken (turn_of S.remaining sol.old sol.new) (λ second.
+        TakesAtMost most_taken (turn_of P.remaining pot.old pot.new) (λ third.
+        IsBoundRun first second third (sink_of W.contents out.old out.new) result))) }
+{
+    match read_file(alloc, 1, inst) {
+        Err(fault) => Err(fault),
+        Ok(instance) => with_instance(alloc, instance, sol, pot, out),
+    }
+}
+
+/// The check of this instance, whatever reader it came from.
+fn with_instance<S: Read, P: Read, W: Write>(
+    alloc: Global,
+    instance: File,
+    sol: &mut Watched<S>,
+    pot: &mut Watched<P>,
+    out: &mut Watched<W>,
+) -> Result<bool, RunFault>
+    ensures { TakesAtMost most_taken (turn_of S.remaining sol.old sol.new) (λ second.
+        TakesAtMost most_taken (turn_of P.remaining pot.old pot.new) (λ third.
+        (first : Turn) → IsFile first instance
+        → IsBoundRun first second third (sink_of W.contents out.old out.new) result)) }
+{
+    match read_file(alloc, 2, sol) {
+        Err(fault) => {
+            drop(instance);
+            Err(fault)
+        }
+        Ok(solution) => {
+            let answer = with_solution(alloc, instance, &solution, pot, out);
+            drop(solution);
+            answer
+        }
+    }
+}
+
+/// The check of this instance and this solution.
+fn with_solution<P: Read, W: Write>(
+    alloc: Global,
+    instance: File,
+    solution: &File,
+    pot: &mut Watched<P>,
+    out: &mut Watched<W>,
+) -> Result<bool, RunFault>
+    ensures { TakesAtMost most_taken (turn_of P.remaining pot.old pot.new) (λ third.
+        (first second : Turn) → IsFile first instance → IsFile second solution.now
+        → IsBoundRun first second third (sink_of W.contents out.old out.new) result) }
+{
+    match read_file(alloc, 3, pot) {
+        Err(fault) => {
+            drop(instance);
+            Err(fault)
+        }
+        Ok(certificate) => {
+            let answer = with_certificate(alloc, instance, solution, &certificate, out);
+            drop(certificate);
+            answer
+        }
+    }
+}
+
+/// The check of these three files.
+fn with_certificate<W: Write>(
+    alloc: Global,
+    instance: File,
+    solution: &File,
+    certificate: &File,
+    out: &mut Watched<W>,
+) -> Result<bool, RunFault>
+    ensures { (first second third : Turn) → IsFile first instance → IsFile second solution.now
+        → IsFile third certificate.now
+        → IsBoundRun first second third (sink_of W.contents out.old out.new) result }
+{
+    match Instance::of(instance) {
+        Err((_, other)) => {
+            drop(other);
+            Err(RunFault::WrongKind)
+        }
+        Ok(instance) => {
+            let answer = judged(alloc, &instance, solution, certificate, out);
+            drop(instance);
+            answer
+        }
+    }
+}
+
+/// Judges the solution with the certificate, and writes the report.
+fn judged<W: Write>(
+    alloc: Global,
+    instance: &Instance,
+    solution: &File,
+    certificate: &File,
+    out: &mut Watched<W>,
+) -> Result<bool, RunFault>
+    ensures { (first second third : Turn) → IsFile first instance.now → IsFile second solution.now
+        → IsFile third certificate.now
+        → IsBoundRun first second third (sink_of W.contents out.old out.new) result }
+{
     if !is_bounded(instance.kind()) {
         return Err(RunFault::WrongKind);
     }
-    match judge_tour_bound(alloc, &instance, &solution, &certificate) {
-        Err(_) => Err(RunFault::OutOfMemory),
-        Ok(verdict) => answer(alloc, &instance, verdict, out),
+    match judge_tour_bound(alloc, instance, solution, certificate) {
+        Err(AllocError) => Err(RunFault::OutOfMemory),
+        Ok(verdict) => answer(alloc, instance, verdict, out),
     }
 }
 

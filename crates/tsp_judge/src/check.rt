@@ -1,19 +1,20 @@
 //! The check of an instance and a solution, from the bytes that come in to those that go out.
 
-ghost use Rattle.std.specs.Prelude.{IfOk};
+ghost use Rattle.std.specs.Prelude.{IfOk, IsTrue};
 ghost use Rattle.tsp_stream.specs.Sink.{sink_of};
-ghost use Rattle.tsp_stream.specs.Turn.{turn_of, TakesAtMost};
-ghost use Rattle.tsp_read.specs.Reads.{most_taken};
+ghost use Rattle.tsp_stream.specs.Turn.{Turn, turn_of, TakesAtMost};
+ghost use Rattle.tsp_read.specs.Reads.{IsFile, most_taken};
+ghost use Rattle.tsp_fields.specs.Rules.{is_instance};
 ghost use Rattle.tsp_judge.specs.Judged.{IsVerdictOn};
 ghost use Rattle.tsp_judge.specs.Run.{IsRun};
 
 use crate::answer::answer;
 use crate::fault::RunFault;
+use crate::file::read_file;
 use std::alloc::{AllocError, Global};
 use std::io::{Read, Write};
 use tsp_cost::Instance;
 use tsp_fields::File;
-use tsp_read::read_from;
 use tsp_stream::Watched;
 use tsp_value::Kind;
 use tsp_verdict::{Verdict, judge_routes, judge_tour};
@@ -39,23 +40,74 @@ pub fn run_check<I: Read, S: Read, W: Write>(
         TakesAtMost most_taken (turn_of S.remaining sol.old sol.new) (λ second.
         IsRun first second (sink_of W.contents out.old out.new) result)) }
 {
-    let instance = match read_from(alloc, inst) {
-        Err(fault) => return Err(RunFault::File { file: 1, fault }),
-        Ok(file) => file,
-    };
-    let solution = match read_from(alloc, sol) {
-        Err(fault) => return Err(RunFault::File { file: 2, fault }),
-        Ok(file) => file,
-    };
-    let instance = match Instance::of(instance) {
-        Err(_) => return Err(RunFault::WrongKind),
-        Ok(instance) => instance,
-    };
-    let verdict = match judge(alloc, &instance, &solution) {
-        Err(_) => return Err(RunFault::OutOfMemory),
-        Ok(verdict) => verdict,
-    };
-    answer(alloc, &instance, verdict, out)
+    match read_file(alloc, 1, inst) {
+        Err(fault) => Err(fault),
+        Ok(instance) => with_instance(alloc, instance, sol, out),
+    }
+}
+
+/// The check of this instance, whatever reader it came from.
+fn with_instance<S: Read, W: Write>(
+    alloc: Global,
+    instance: File,
+    sol: &mut Watched<S>,
+    out: &mut Watched<W>,
+) -> Result<bool, RunFault>
+    ensures { TakesAtMost most_taken (turn_of S.remaining sol.old sol.new) (λ second.
+        (first : Turn) → IsFile first instance
+        → IsRun first second (sink_of W.contents out.old out.new) result) }
+{
+    match read_file(alloc, 2, sol) {
+        Err(fault) => {
+            drop(instance);
+            Err(fault)
+        }
+        Ok(solution) => {
+            let answer = with_solution(alloc, instance, &solution, out);
+            drop(solution);
+            answer
+        }
+    }
+}
+
+/// The check of these two files.
+fn with_solution<W: Write>(
+    alloc: Global,
+    instance: File,
+    solution: &File,
+    out: &mut Watched<W>,
+) -> Result<bool, RunFault>
+    ensures { (first second : Turn) → IsFile first instance → IsFile second solution.now
+        → IsRun first second (sink_of W.contents out.old out.new) result }
+{
+    match Instance::of(instance) {
+        Err((_, other)) => {
+            drop(other);
+            Err(RunFault::WrongKind)
+        }
+        Ok(instance) => {
+            let answer = judged(alloc, &instance, solution, out);
+            drop(instance);
+            answer
+        }
+    }
+}
+
+/// Judges a solution of an instance, and writes the report.
+fn judged<W: Write>(
+    alloc: Global,
+    instance: &Instance,
+    solution: &File,
+    out: &mut Watched<W>,
+) -> Result<bool, RunFault>
+    requires { IsTrue (is_instance instance.now.kind) }
+    ensures { (first second : Turn) → IsFile first instance.now → IsFile second solution.now
+        → IsRun first second (sink_of W.contents out.old out.new) result }
+{
+    match judge(alloc, instance, solution) {
+        Err(AllocError) => Err(RunFault::OutOfMemory),
+        Ok(verdict) => answer(alloc, instance, verdict, out),
+    }
 }
 
 /// The verdict on a solution: on its tour, or for TYPE CVRP on its routes.

@@ -6,11 +6,11 @@ ghost use Rattle.tsp_read.specs.Reads.{most_taken};
 ghost use Rattle.tsp_judge.specs.ConvertRun.{Becomes, IsConvertRun};
 
 use crate::fault::RunFault;
+use crate::file::read_file;
 use std::alloc::Global;
 use std::io::{Read, Write};
 use tsp_fields::{File, RelayoutFault};
 use tsp_file::write_file;
-use tsp_read::read_from;
 use tsp_stream::Watched;
 use tsp_value::Layout;
 
@@ -31,8 +31,8 @@ pub fn run_convert<R: Read, W: Write>(
     ensures { TakesAtMost most_taken (turn_of R.remaining r.old r.new) (λ turn.
         IsConvertRun to turn (sink_of W.contents out.old out.new) result) }
 {
-    let file = match read_from(alloc, r) {
-        Err(fault) => return Err(RunFault::File { file: 1, fault }),
+    let file = match read_file(alloc, 1, r) {
+        Err(fault) => return Err(fault),
         Ok(file) => file,
     };
     let converted = match in_layout(alloc, file, to) {
@@ -40,7 +40,9 @@ pub fn run_convert<R: Read, W: Write>(
         Ok(converted) => converted,
     };
     let _valid = converted.fields();
-    match write_file(alloc, &converted, out) {
+    let written = write_file(alloc, &converted, out);
+    drop(converted);
+    match written {
         Err(fault) => Err(RunFault::Write(fault)),
         Ok(()) => Ok(()),
     }
@@ -54,7 +56,10 @@ fn in_layout(alloc: Global, file: File, to: Option<Layout>) -> Result<File, Rela
         return Ok(file);
     };
     match file.relayout(alloc, to) {
-        Err((fault, _)) => Err(fault),
+        Err((fault, file)) => {
+            drop(file);
+            Err(fault)
+        }
         Ok(relaid) => Ok(relaid),
     }
 }

@@ -6,6 +6,7 @@ mod bound_check;
 mod check;
 mod convert;
 mod fault;
+mod file;
 mod reason;
 mod report;
 mod show;

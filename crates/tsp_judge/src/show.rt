@@ -6,10 +6,10 @@ ghost use Rattle.tsp_read.specs.Reads.{most_taken};
 ghost use Rattle.tsp_judge.specs.ShowRun.{IsShowRun};
 
 use crate::fault::RunFault;
+use crate::file::read_file;
 use crate::show_text::show_text;
 use std::alloc::Global;
 use std::io::{Read, Write};
-use tsp_read::read_from;
 use tsp_stream::{Watched, write_text};
 
 /// Writes what a file is: its name, its TYPE and number of nodes, of an instance the weight type,
@@ -29,8 +29,8 @@ pub fn run_show<R: Read, W: Write>(
     ensures { TakesAtMost most_taken (turn_of R.remaining r.old r.new) (λ turn.
         IsShowRun turn (sink_of W.contents out.old out.new) result) }
 {
-    let file = match read_from(alloc, r) {
-        Err(fault) => return Err(RunFault::File { file: 1, fault }),
+    let file = match read_file(alloc, 1, r) {
+        Err(fault) => return Err(fault),
         Ok(file) => file,
     };
     let Ok(text) = show_text(alloc, file) else {

@@ -17,9 +17,21 @@ pub(crate) fn show_text(alloc: Global, file: File) -> Result<Vec<u8>, AllocError
     ensures { IfOk result (λ text. text.items ≡ shown file) }
 {
     let mut text = Vec::new(alloc);
-    push_head(&mut text, &file)?;
-    push_rest(&mut text, file)?;
+    push_file(&mut text, file)?;
     Ok(text)
+}
+
+/// Appends all lines of a file.
+fn push_file(text: &mut Vec<u8>, file: File) -> Result<(), AllocError>
+    ensures { OnOk result (text.new.items ≡ text.old.items ++ shown file) }
+{
+    match push_head(text, &file) {
+        Ok(()) => push_rest(text, file),
+        Err(AllocError) => {
+            drop(file);
+            Err(AllocError)
+        }
+    }
 }
 
 /// Appends the lines that every file has.
@@ -38,8 +50,16 @@ fn push_rest(text: &mut Vec<u8>, file: File) -> Result<(), AllocError>
         ≡ text.old.items ++ lines_by_type file.kind file ++ not_judged file.others) }
 {
     match Instance::of(file) {
-        Ok(instance) => push_instance_rest(text, &instance),
-        Err((_, file)) => push_solution_rest(text, &file),
+        Ok(instance) => {
+            let pushed = push_instance_rest(text, &instance);
+            drop(instance);
+            pushed
+        }
+        Err((_, file)) => {
+            let pushed = push_solution_rest(text, &file);
+            drop(file);
+            pushed
+        }
     }
 }
 

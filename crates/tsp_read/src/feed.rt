@@ -192,11 +192,17 @@ impl Feed {
             stage,
         } = self;
         match stage {
-            Stage::Refused(fault) => Err(fault),
+            Stage::Refused(fault) => {
+                drop(intake);
+                Err(fault)
+            }
             Stage::Ended => Ok(intake.into_reading()),
             Stage::Going => match begun.take_last(&mut intake, alloc) {
                 Ok(_) => Ok(intake.into_reading()),
-                Err(fault) => Err(fault),
+                Err(fault) => {
+                    drop(intake);
+                    Err(fault)
+                }
             },
         }
     }

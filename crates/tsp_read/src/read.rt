@@ -27,7 +27,10 @@ pub fn read_bytes(alloc: Global, bytes: &[u8]) -> Result<File, ReadFault>
     let mut feed = Feed::new(alloc);
     match feed.feed(bytes) {
         Ok(()) => feed.finish(),
-        Err(fault) => Err(fault),
+        Err(fault) => {
+            drop(feed);
+            Err(fault)
+        }
     }
 }
 
@@ -53,6 +56,9 @@ pub fn read_from<R: Read>(alloc: Global, reader: &mut Watched<R>) -> Result<File
     let mut feed = Feed::new(alloc);
     match feed_all(&mut feed, reader) {
         Ok(()) => feed.finish(),
-        Err(fault) => Err(fault),
+        Err(fault) => {
+            drop(feed);
+            Err(fault)
+        }
     }
 }

@@ -1,29 +1,16 @@
 //! The program `tsp`, which shows, converts and checks TSPLIB 95 files.
 //!
-//! From the words of the command line to the end of the run: the words are a job (`words`), by the
-//! commands that the program has (`grammar`); a job is a task on files (`task`); the files are
-//! opened (`source`) and the task is done (`engines`); and how that ended is told on standard error
-//! and by the exit status (`ending`). What a task writes goes to standard output.
+//! It has the calls of the host alone: the words of the command line, the opening of files, and the
+//! streams. All else is tsp_command's. What a task writes goes to standard output.
 #![tactic(auto)]
 
-mod ending;
-mod engines;
-mod grammar;
-mod source;
-mod task;
-#[cfg(test)]
-mod tests;
-mod words;
-
-use ending::{Ending, status_of, tell};
-use engines::perform;
-use source::Source;
 use std::fs::File;
 use std::process::ExitCode;
 use std::rt::Stdin;
 use std::{env, fs, io};
-use task::{Place, task_of};
-use words::{JobFault, job_of, unread};
+use tsp_command::{
+    Ending, JobFault, Place, Source, job_of, perform, status_of, task_of, tell, unread,
+};
 
 fn main(rt: HostRuntime) -> ExitCode {
     let ending = run(&rt);

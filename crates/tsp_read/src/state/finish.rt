@@ -60,10 +60,16 @@ fn file_of(draft: Draft, incomplete: Incomplete) -> Result<File, FinishFault>
     ensures { FileOf (fields_of draft) (first_flagged incomplete) result }
 {
     match end_fault(&draft, first_incomplete(incomplete)) {
-        Some(fault) => Err(FinishFault::End(fault)),
+        Some(fault) => {
+            drop(draft);
+            Err(FinishFault::End(fault))
+        }
         None => match File::of(draft) {
             Ok(file) => Ok(file),
-            Err((fault, _)) => Err(FinishFault::End(refused(fault))),
+            Err((fault, draft)) => {
+                drop(draft);
+                Err(FinishFault::End(refused(fault)))
+            }
         },
     }
 }
@@ -80,7 +86,10 @@ impl Reading {
     {
         match self.close(alloc) {
             Ok(()) => {}
-            Err(_) => return Err(FinishFault::Memory),
+            Err(_) => {
+                drop(self);
+                return Err(FinishFault::Memory);
+            }
         }
         let Reading {
             draft,

@@ -52,6 +52,16 @@ impl Reading {
         }
     }
 
+    /// Begins with the part of a section that a line opens. The part before it was closed.
+    pub(crate) fn begin(&mut self, part: Part)
+        ensures draft { self.new.draft ≡ self.old.draft }
+        ensures incomplete { self.new.incomplete ≡ self.old.incomplete }
+        ensures begun { self.new.open_part ≡ Some part }
+    {
+        let before = self.open_part.replace(part);
+        drop(before);
+    }
+
     /// Takes a word of a number line.
     pub(crate) fn word(&mut self, alloc: Global, word: &[u8]) -> Result<(), StepFault>
         ensures { (earlier : List Item) → Holds self.old earlier

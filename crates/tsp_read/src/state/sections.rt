@@ -25,7 +25,7 @@ impl Reading {
         ) {
             Ok(n) => match PointList::open(alloc, n) {
                 Ok(part) => {
-                    self.open_part = Some(Part::Coords(part));
+                    self.begin(Part::Coords(part));
                     Ok(())
                 }
                 Err(_) => Err(StepFault::Memory),
@@ -49,7 +49,7 @@ impl Reading {
         ) {
             Ok(n) => match PointList::open(alloc, n) {
                 Ok(part) => {
-                    self.open_part = Some(Part::Display(part));
+                    self.begin(Part::Display(part));
                     Ok(())
                 }
                 Err(_) => Err(StepFault::Memory),
@@ -73,7 +73,7 @@ impl Reading {
         ) {
             Ok(n) => match NumberList::open(alloc, n, 0, MOST_DEMAND) {
                 Ok(part) => {
-                    self.open_part = Some(Part::Demands(part));
+                    self.begin(Part::Demands(part));
                     Ok(())
                 }
                 Err(_) => Err(StepFault::Memory),
@@ -92,7 +92,7 @@ impl Reading {
             self.draft.dimension,
         ) {
             Ok(n) => {
-                self.open_part = Some(Part::Depots(DepotList::open(alloc, n)));
+                self.begin(Part::Depots(DepotList::open(alloc, n)));
                 Ok(())
             }
             Err(fault) => Err(StepFault::Fault(fault)),
@@ -105,7 +105,7 @@ impl Reading {
     {
         match may_open(self.draft.fixed.is_some(), line.value, self.draft.dimension) {
             Ok(n) => {
-                self.open_part = Some(Part::Fixed(FixedList::open(alloc, n)));
+                self.begin(Part::Fixed(FixedList::open(alloc, n)));
                 Ok(())
             }
             Err(fault) => Err(StepFault::Fault(fault)),
@@ -129,7 +129,7 @@ impl Reading {
                 if n > MOST_MATRIX_NODES {
                     return Err(StepFault::Fault(LineFault::TooManyNodes));
                 }
-                self.open_part = Some(Part::Weights(WeightList::open(alloc, n)));
+                self.begin(Part::Weights(WeightList::open(alloc, n)));
                 Ok(())
             }
             Err(fault) => Err(StepFault::Fault(fault)),
@@ -146,7 +146,7 @@ impl Reading {
         if !line.value.is_empty() {
             return Err(StepFault::Fault(LineFault::SectionValue));
         }
-        self.open_part = Some(Part::Tours(TourList::open(alloc)));
+        self.begin(Part::Tours(TourList::open(alloc)));
         Ok(())
     }
 
@@ -165,7 +165,7 @@ impl Reading {
         ) {
             Ok(n) => match NumberList::open(alloc, n, -MOST_POTENTIAL, MOST_POTENTIAL) {
                 Ok(part) => {
-                    self.open_part = Some(Part::NodePotentials(part));
+                    self.begin(Part::NodePotentials(part));
                     Ok(())
                 }
                 Err(_) => Err(StepFault::Memory),
@@ -189,7 +189,7 @@ impl Reading {
         ) {
             Ok(n) => match NumberList::open(alloc, n, -MOST_POTENTIAL, MOST_POTENTIAL) {
                 Ok(part) => {
-                    self.open_part = Some(Part::RowPotentials(part));
+                    self.begin(Part::RowPotentials(part));
                     Ok(())
                 }
                 Err(_) => Err(StepFault::Memory),
@@ -213,7 +213,7 @@ impl Reading {
         ) {
             Ok(n) => match NumberList::open(alloc, n, -MOST_POTENTIAL, MOST_POTENTIAL) {
                 Ok(part) => {
-                    self.open_part = Some(Part::ColumnPotentials(part));
+                    self.begin(Part::ColumnPotentials(part));
                     Ok(())
                 }
                 Err(_) => Err(StepFault::Memory),

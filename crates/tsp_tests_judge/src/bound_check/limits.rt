@@ -1,29 +1,14 @@
-//! A certificate that never ends, and an instance of many nodes.
+//! A certificate that goes on past its line EOF, and an instance of many nodes.
 
 use super::{DUALS, REPORT, THREE_NODES, TOUR, judged, reports};
 use crate::asserts::{holds_at, same};
 use std::alloc::{AllocError, Global};
 use std::test::Fail;
-use tsp_judge::{ReadFault, RunFault};
 use tsp_stream::Watched;
 use tsp_testing::devices::Flood;
 
 /// The most bytes that are taken from a reader that gives all that it is asked for.
 const MOST_TAKEN: u64 = 1_073_741_824 + 4_096;
-
-#[test]
-fn a_certificate_that_never_ends_is_left_at_the_limit(rt: HostRuntime) {
-    let mut inst = Watched::new(THREE_NODES.as_bytes());
-    let mut sol = Watched::new(TOUR.as_bytes());
-    let mut pot = Watched::new(Flood::after(b""));
-    let mut out = Watched::new(Vec::new(rt.alloc()));
-    let answer = judged(rt.alloc(), &mut inst, &mut sol, &mut pot, &mut out);
-    let fault = ReadFault::TooLong;
-    same(&rt, answer, Err(RunFault::File { file: 3, fault }));
-    let given = pot.into_inner().given();
-    holds_at(&rt, given, given <= MOST_TAKEN);
-    same(&rt, out.into_inner().len(), 0);
-}
 
 #[test]
 fn an_early_line_eof_ends_what_counts(rt: HostRuntime) {

@@ -1,4 +1,4 @@
-use Rattle.std.proofs.Common.{◌≡◌, false, refl, rules}
+use Rattle.std.proofs.Common.{◌≡◌, false, rules}
 use Rattle.std.specs.Prelude.{is_some}
 use Rattle.tsp_items.specs.Lines.{is_filled}
 use Rattle.tsp_items.specs.CutLine.{seen}
@@ -9,4 +9,4 @@ pub returns : goal.returns
 returns c = λ earlier h short.
     let absent : is_some c.args.self.now.draft.tours ≡ false = search rules in
     let empty : is_filled c.args.line.now.value.now ≡ false = search rules in
-    steps.opens_tours c.args.self.now _ (seen c.args.line.now) c.open.result absent empty c.open.ensures refl refl refl earlier h short
+    steps.opens_tours c.args.self.now _ (seen c.args.line.now) c.open.result absent empty c.open.ensures c.begin.ensures.draft c.begin.ensures.incomplete c.begin.ensures.begun earlier h short

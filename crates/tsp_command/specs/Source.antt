@@ -1,0 +1,15 @@
+-- What a clause sees of a file that may be missing.
+use Rattle.std.specs.Prelude.{ℕ, Bool, true, false, List, Option, None}
+use Rattle.tsp_command.specs.declared.source.Source.{Source}
+use Rattle.tsp_command.specs.declared.source.Source.TheVariants.{Input, Opened, Missing}
+
+abbrev pub is_missing : {I F : Type 0} → Source I F → Bool
+is_missing (Input input) = false
+is_missing (Opened file) = false
+is_missing Missing = true
+
+-- the bytes that are left to read, where they are known
+abbrev pub remaining_of : {I F : Type 0} → (I → Option (List ℕ)) → (F → Option (List ℕ)) → Source I F → Option (List ℕ)
+remaining_of of_input of_file (Input input) = of_input input
+remaining_of of_input of_file (Opened file) = of_file file
+remaining_of of_input of_file Missing = None

@@ -1,0 +1,128 @@
+//! How a run of the program ends.
+
+ghost use Rattle.std.specs.Prelude.{◌≡◌, OnOk};
+ghost use Rattle.tsp_command.specs.Ending.{IsLineOf, Tells, status_of, status_of_fault};
+
+use crate::task::TaskFault;
+use crate::words::JobFault;
+use clap::Error as Refusal;
+use std::fmt::{Display, Formatter};
+use std::io::Write;
+use std::{fmt, io};
+use tsp_judge::{ReadFault, RelayoutFault, RunFault, WriteFault};
+
+/// How a run of the program ends.
+#[derive(Drop)]
+pub enum Ending {
+    /// The words of the command line ask for nothing.
+    NoJob(JobFault),
+    /// What they ask for can't be begun.
+    NoTask(TaskFault),
+    /// A task was done, with this answer.
+    Ended(Result<bool, RunFault>),
+}
+
+/// What goes to standard error.
+#[derive(Drop)]
+pub enum Line<'a> {
+    /// Why `clap` refuses the words, or the help that they ask for.
+    Refusal(&'a Refusal),
+    /// Out of memory for the words of the command line.
+    OutOfMemory,
+    /// Why no task was begun.
+    NoTask(TaskFault),
+    /// Why a task gave no answer.
+    Fault(RunFault),
+}
+
+impl Display for Line<'_> {
+    ghost use Rattle.tsp_command.specs.Ending.{line_text};
+
+    ghost output = { line_text };
+
+    fn fmt<W: fmt::Write>(&self, f: &mut Formatter<W>) -> fmt::Result {
+        match self {
+            Line::Refusal(refusal) => f.write(*refusal),
+            Line::OutOfMemory => f.write_str("out of memory\n"),
+            Line::NoTask(TaskFault::UnknownLayout) => f.write_str("unknown layout\n"),
+            Line::NoTask(TaskFault::MissingPath) => f.write_str("missing path\n"),
+            Line::Fault(fault) => {
+                f.write(fault)?;
+                f.write_str("\n")
+            }
+        }
+    }
+}
+
+/// Done, and no verdict is a no.
+const YES: u8 = 0;
+
+/// The verdict is a no, or a file's weights can't go into the layout.
+const NO: u8 = 1;
+
+/// A file has a fault, or the first is of the wrong kind.
+const NOT_JUDGED: u8 = 2;
+
+/// Out of memory, anywhere.
+const OUT_OF_MEMORY: u8 = 3;
+
+/// The command line is refused.
+const REFUSED: u8 = 4;
+
+/// A device failed, in or out.
+const DEVICE: u8 = 5;
+
+/// The exit status.
+pub fn status_of(ending: &Ending) -> u8
+    ensures { result ≡ status_of ending.now }
+{
+    match ending {
+        Ending::NoJob(JobFault::Refused(_)) | Ending::NoTask(_) => REFUSED,
+        Ending::NoJob(JobFault::OutOfMemory) => OUT_OF_MEMORY,
+        Ending::Ended(Ok(true)) => YES,
+        Ending::Ended(Ok(false)) => NO,
+        Ending::Ended(Err(fault)) => status_of_fault(*fault),
+    }
+}
+
+/// The exit status of a task without an answer.
+fn status_of_fault(fault: RunFault) -> u8
+    ensures { result ≡ status_of_fault fault }
+{
+    match fault {
+        RunFault::File { file: _, fault } => match fault {
+            ReadFault::Line { .. } | ReadFault::End(_) | ReadFault::TooLong => NOT_JUDGED,
+            ReadFault::OutOfMemory => OUT_OF_MEMORY,
+            ReadFault::Device => DEVICE,
+        },
+        RunFault::WrongKind => NOT_JUDGED,
+        RunFault::OutOfMemory => OUT_OF_MEMORY,
+        RunFault::Write(WriteFault::OutOfMemory) => OUT_OF_MEMORY,
+        RunFault::Write(WriteFault::Device) => DEVICE,
+        RunFault::Relayout(RelayoutFault::OutOfMemory) => OUT_OF_MEMORY,
+        RunFault::Relayout(_) => NO,
+    }
+}
+
+/// What goes to standard error, or `None` where nothing goes there.
+pub fn line_of(ending: &Ending) -> Option<Line<'_>>
+    ensures { IsLineOf ending.now result }
+{
+    match ending {
+        Ending::NoJob(JobFault::Refused(refusal)) => Some(Line::Refusal(refusal)),
+        Ending::NoJob(JobFault::OutOfMemory) => Some(Line::OutOfMemory),
+        Ending::NoTask(fault) => Some(Line::NoTask(*fault)),
+        Ending::Ended(Ok(_)) => None,
+        Ending::Ended(Err(fault)) => Some(Line::Fault(*fault)),
+    }
+}
+
+/// Tells how a run ended, where that wants a line.
+pub fn tell<W: Write>(ending: &Ending, errors: &mut W) -> io::Result<()>
+    ensures { OnOk result (Tells ending.now (W.contents errors.old) (W.contents errors.new)) }
+{
+    match line_of(ending) {
+        Some(line) => write!(errors, "{line}"),
+        None => Ok(()),
+    }
+}

@@ -1,0 +1,19 @@
+//! The command line of the program `tsp`, from its words to the end of a run.
+//!
+//! The words are a job (`words`), by the commands that the program has (`grammar`); a job is a task
+//! on files (`task`); each file is opened, or is missing (`source`); the task is done (`engines`);
+//! and how that ended is told on standard error and by the exit status (`ending`).
+#![tactic(auto)]
+
+mod ending;
+mod engines;
+mod grammar;
+mod source;
+mod task;
+mod words;
+
+pub use ending::{Ending, Line, line_of, status_of, tell};
+pub use engines::perform;
+pub use source::Source;
+pub use task::{Place, Task, TaskFault, task_of};
+pub use words::{Job, JobFault, Verb, job_of, unread};

@@ -1,0 +1,47 @@
+//! A file to be read, which may be missing.
+
+ghost use Rattle.std.specs.Prelude.{◌≡◌, IsTrue, IsErr, MatchResult};
+ghost use Rattle.std.specs.Io.{ReadsAtMost};
+ghost use Rattle.std.specs.Io.KnownBytes.{ReadConsumes};
+ghost use Rattle.tsp_command.specs.Source.{remaining_of, is_missing};
+
+use std::io;
+use std::io::{ErrorKind, Read};
+
+/// Standard input, a file that was opened, or the place of one that couldn't be. Each read of a
+/// missing one fails, so the task answers for it in its turn.
+#[derive(Drop)]
+pub enum Source<I, F> {
+    Input(I),
+    Opened(F),
+    Missing,
+}
+
+impl<I, F> Source<I, F> {
+    /// The source that the opening of a file gives.
+    pub fn of(opened: io::Result<F>) -> Source<I, F>
+        ensures { MatchResult opened (λ file. result ≡ Source.Opened file) (λ _. result ≡ Source.Missing) }
+    {
+        match opened {
+            Ok(file) => Source::Opened(file),
+            Err(_) => Source::Missing,
+        }
+    }
+}
+
+impl<I: Read, F: Read> Read for Source<I, F> {
+    ghost remaining = { remaining_of I.remaining F.remaining };
+
+    fn read(&mut self, buf: &mut [u8]) -> io::Result<usize>
+        ensures bound { ReadsAtMost result buf.new }
+        ensures bytes { ReadConsumes (remaining_of I.remaining F.remaining self.old)
+            (remaining_of I.remaining F.remaining self.new) result buf.new }
+        ensures missing { IsTrue (is_missing self.old) → IsErr result }
+    {
+        match self {
+            Source::Input(input) => input.read(buf),
+            Source::Opened(file) => file.read(buf),
+            Source::Missing => Err(io::Error::from(ErrorKind::NotFound)),
+        }
+    }
+}

@@ -1,0 +1,107 @@
+//! What is done with which files.
+
+ghost use Rattle.std.specs.Prelude.{◌≡◌, Some};
+ghost use Rattle.tsp_command.specs.Task.{AreOpened, GivesPlace, GivesLayout, GivesTask};
+
+use crate::words::{Job, Verb};
+use tsp_judge::Layout;
+
+/// Where a file is.
+#[derive(Clone, Copy)]
+pub enum Place<'a> {
+    /// Standard input.
+    Input,
+    /// At a path. `-` is one like any other.
+    Path(&'a str),
+}
+
+/// What is done with which files, in the order in which they are read. `F` is what is known of a
+/// file: its place, or a reader.
+#[derive(Drop)]
+pub enum Task<F> {
+    /// To say what stands in a file.
+    Show(F),
+    /// To write a file anew, its matrix in this layout where one is named.
+    Convert(F, Option<Layout>),
+    /// To judge the solution of an instance.
+    Check(F, F),
+    /// To judge the solution of an instance, and to bound every solution by potentials.
+    BoundCheck(F, F, F),
+}
+
+/// Why a job is no task.
+#[derive(Clone, Copy)]
+pub enum TaskFault {
+    /// No layout has the word.
+    UnknownLayout,
+    /// A path that the job wants is missing.
+    MissingPath,
+}
+
+impl<F> Task<F> {
+    /// The task with each file opened.
+    pub fn open<G, O: Fn(F) -> G>(self, opening: O) -> Task<G>
+    where
+        O: Drop,
+        requires { O.IsAlwaysCallable opening }
+        ensures { AreOpened (O.post opening) self result }
+    {
+        match self {
+            Task::Show(file) => Task::Show(opening(file)),
+            Task::Convert(file, to) => Task::Convert(opening(file), to),
+            Task::Check(instance, solution) => Task::Check(opening(instance), opening(solution)),
+            Task::BoundCheck(instance, solution, potentials) => {
+                Task::BoundCheck(opening(instance), opening(solution), opening(potentials))
+            }
+        }
+    }
+}
+
+/// The task of a job. With no verb, standard input is shown.
+///
+/// # Errors
+///
+/// `UnknownLayout` where no layout has the word that stands for one; `MissingPath` where a path is
+/// missing, as in no job that words ask for.
+pub fn task_of(job: &Job) -> Result<Task<Place<'_>>, TaskFault>
+    ensures { GivesTask job.now result }
+{
+    let Some(verb) = job.verb else {
+        return Ok(Task::Show(Place::Input));
+    };
+    let file = place_of(&job.file)?;
+    match verb {
+        Verb::Show => Ok(Task::Show(file)),
+        Verb::Convert => Ok(Task::Convert(file, layout_of(&job.layout)?)),
+        Verb::Check => {
+            let solution = place_of(&job.solution)?;
+            match &job.potentials {
+                None => Ok(Task::Check(file, solution)),
+                Some(path) => Ok(Task::BoundCheck(file, solution, Place::Path(path))),
+            }
+        }
+    }
+}
+
+/// The place of a path that has to be there.
+fn place_of(path: &Option<String>) -> Result<Place<'_>, TaskFault>
+    ensures { GivesPlace path.now result }
+{
+    match path {
+        Some(path) => Ok(Place::Path(path)),
+        None => Err(TaskFault::MissingPath),
+    }
+}
+
+/// The layout with a word, where there is a word.
+fn layout_of(word: &Option<String>) -> Result<Option<Layout>, TaskFault>
+    ensures { GivesLayout word.now result }
+{
+    let Some(word) = word else {
+        return Ok(None);
+    };
+    match Layout::of_word(word) {
+        Some(layout) => Ok(Some(layout)),
+        None => Err(TaskFault::UnknownLayout),
+    }
+}
