@@ -51,11 +51,3 @@ abbrev pub GivesTask : Job → Result (Task Place) TaskFault → Type 0
 GivesTask job (Ok task) = IsTask job task
 GivesTask job (Err UnknownLayout) = (job.verb ≡ Some verbs.Convert) × IsNoLayout job.layout
 GivesTask job (Err MissingPath) = (job.verb ≢ None) × ((job.file ≡ None) ⊎ ((job.verb ≡ Some verbs.Check) × (job.solution ≡ None)))
-
--- the same task, each of its files opened in its place
-abbrev pub AreOpened : {F G : Type 0} → (F → G → Type 0) → Task F → Task G → Type 0
-AreOpened opens (Show a) (Show x) = opens a x
-AreOpened opens (Convert a to) (Convert x to2) = opens a x × (to ≡ to2)
-AreOpened opens (Check a b) (Check x y) = opens a x × opens b y
-AreOpened opens (BoundCheck a b c) (BoundCheck x y z) = opens a x × opens b y × opens c z
-AreOpened opens _ _ = ⊥

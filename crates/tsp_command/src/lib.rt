@@ -8,12 +8,15 @@
 mod ending;
 mod engines;
 mod grammar;
+mod running;
 mod source;
 mod task;
 mod words;
 
 pub use ending::{Ending, Line, line_of, status_of, tell};
 pub use engines::perform;
-pub use source::Source;
+pub use running::{run, tell_unread};
+pub use source::{Open, Source};
 pub use task::{Place, Task, TaskFault, task_of};
+pub use tsp_judge::Watched;
 pub use words::{Job, JobFault, Verb, job_of, unread};

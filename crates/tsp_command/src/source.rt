@@ -3,10 +3,22 @@
 ghost use Rattle.std.specs.Prelude.{◌≡◌, IsTrue, IsErr, MatchResult};
 ghost use Rattle.std.specs.Io.{ReadsAtMost};
 ghost use Rattle.std.specs.Io.KnownBytes.{ReadConsumes};
+ghost use Rattle.tsp_command.specs.declared.task.Place.{Place};
 ghost use Rattle.tsp_command.specs.Source.{remaining_of, is_missing};
 
+use crate::task::Place;
 use std::io;
 use std::io::{ErrorKind, Read};
+
+/// What opens files.
+pub trait Open<F> {
+    /// Whether this is what opening the file at a place may give.
+    ghost opens: { Self → Place → F → Type 0 };
+
+    /// The file at a place, opened to be read.
+    fn open(&self, place: Place<'_>) -> F
+        ensures { opens self.now place.entry result };
+}
 
 /// Standard input, a file that was opened, or the place of one that couldn't be. Each read of a
 /// missing one fails, so the task answers for it in its turn.

@@ -1,7 +1,7 @@
 //! What is done with which files.
 
 ghost use Rattle.std.specs.Prelude.{◌≡◌, Some};
-ghost use Rattle.tsp_command.specs.Task.{AreOpened, GivesPlace, GivesLayout, GivesTask};
+ghost use Rattle.tsp_command.specs.Task.{GivesPlace, GivesLayout, GivesTask};
 
 use crate::words::{Job, Verb};
 use tsp_judge::Layout;
@@ -36,25 +36,6 @@ pub enum TaskFault {
     UnknownLayout,
     /// A path that the job wants is missing.
     MissingPath,
-}
-
-impl<F> Task<F> {
-    /// The task with each file opened.
-    pub fn open<G, O: Fn(F) -> G>(self, opening: O) -> Task<G>
-    where
-        O: Drop,
-        requires { O.IsAlwaysCallable opening }
-        ensures { AreOpened (O.post opening) self result }
-    {
-        match self {
-            Task::Show(file) => Task::Show(opening(file)),
-            Task::Convert(file, to) => Task::Convert(opening(file), to),
-            Task::Check(instance, solution) => Task::Check(opening(instance), opening(solution)),
-            Task::BoundCheck(instance, solution, potentials) => {
-                Task::BoundCheck(opening(instance), opening(solution), opening(potentials))
-            }
-        }
-    }
 }
 
 /// The task of a job. With no verb, standard input is shown.

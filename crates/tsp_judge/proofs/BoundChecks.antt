@@ -9,11 +9,12 @@ use Rattle.tsp_stream.specs.declared.output.WriteFault.TheVariants as write_faul
 use Rattle.tsp_stream.specs.Turn.{Turn, IsUnread}
 use Rattle.tsp_stream.specs.Sink.{Sink, IsUnwritten, HasWritten}
 use Rattle.tsp_fields.specs.Fields.{Fields}
-use Rattle.tsp_fields.specs.Rules.{is_instance}
+use Rattle.tsp_fields.specs.Rules.{is_instance, is_certificate}
 use Rattle.tsp_fields.specs.Cost.{cost}
 use Rattle.tsp_cost.specs.Length.{length_of}
 use Rattle.tsp_read.specs.Reads.{IsFile}
 use Rattle.tsp_bound.specs.Numbers.{IsBoundSized as IsSmall}
+use Rattle.tsp_verdict.specs.declared.verdict.Reason.TheVariants.{NotASolution, NotPotentials}
 use Rattle.tsp_verdict.specs.declared.verdict.Verdict.{Verdict}
 use Rattle.tsp_verdict.specs.declared.verdict.Verdict.TheVariants as verdicts
 use Rattle.tsp_verdict.specs.Bounded.{IsVerdict}
@@ -22,7 +23,8 @@ use Rattle.tsp_judge.specs.declared.fault.RunFault.TheVariants.{File, WrongKind,
 use Rattle.tsp_judge.specs.Judged.{is_yes}
 use Rattle.tsp_judge.specs.Report.{report_of, IsBoundSized, IsSized}
 use Rattle.tsp_judge.specs.Run.{ReadsFile, Answers}
-use Rattle.tsp_judge.specs.BoundRun.{is_bounded, IsJudged, IsBoundRun, IsAYes}
+use Rattle.tsp_judge.proofs.Checks.{a_file_of_tours}
+use Rattle.tsp_judge.specs.BoundRun.{is_bounded, IsJudged, IsBoundRun, IsAYes, IsBoundCheck}
 
 pub kind_of_bounded : (kind : Option Kind) → IsTrue (is_bounded kind) → (kind ≡ Some kinds.Tsp) ⊎ (kind ≡ Some kinds.Atsp)
 kind_of_bounded (Some kinds.Tsp) is = inl refl
@@ -105,8 +107,16 @@ third_stops first second third instance solution sink (Write fault) one two stop
 third_stops first second third instance solution sink OutOfMemory one two stops unwritten = absurd stops
 third_stops first second third instance solution sink (Relayout fault) one two stops unwritten = absurd stops
 
+a_certificate : (kind : Option Kind) → (is_certificate kind ≡ false → ⊥) → kind ≡ Some kinds.Potentials
+a_certificate (Some kinds.Tsp) not = absurd (not refl)
+a_certificate (Some kinds.Atsp) not = absurd (not refl)
+a_certificate (Some kinds.Cvrp) not = absurd (not refl)
+a_certificate (Some kinds.Tour) not = absurd (not refl)
+a_certificate (Some kinds.Potentials) not = refl
+a_certificate None not = absurd (not refl)
+
 -- what a yes says
-pub a_yes : (first second third : Turn) (sink : Sink) (instance : Fields) (verdict : Verdict) → IsJudged first second third instance verdict → true ≡ is_yes verdict
+a_yes : (first second third : Turn) (sink : Sink) (instance : Fields) (verdict : Verdict) → IsJudged first second third instance verdict → true ≡ is_yes verdict
     → HasWritten sink (report_of instance verdict) → IsAYes first second third sink
 a_yes first second third sink instance (verdicts.Tour length bound) j accepted written =
     let b = j.judged.1 in
@@ -117,6 +127,8 @@ a_yes first second third sink instance (verdicts.Tour length bound) j accepted w
       first_file = j.first_file;
       second_file = j.second_file;
       third_file = j.third_file;
+      of_tours = a_file_of_tours j.solution.kind (λ other. j.judged.0 NotASolution (inl other));
+      of_potentials = a_certificate j.certificate.kind (λ other. j.judged.0 NotPotentials (inr other));
       tour = b.tour;
       only = b.only;
       tour_of = b.tour_of;
@@ -129,8 +141,12 @@ a_yes first second third sink instance (verdicts.Tour length bound) j accepted w
 a_yes first second third sink instance (verdicts.Routes length routes least) j accepted written = absurd j.judged
 a_yes first second third sink instance (verdicts.No reason) j accepted written = absurd (false≢true (sym accepted))
 
-pub yes_of : (first second third : Turn) (sink : Sink) (result : Result Bool RunFault) → IsBoundRun first second third sink result → result ≡ Ok true
+yes_of : (first second third : Turn) (sink : Sink) (result : Result Bool RunFault) → IsBoundRun first second third sink result → result ≡ Ok true
     → IsAYes first second third sink
 yes_of first second third sink result run is =
     let r : IsBoundRun first second third sink (Ok true) = subst (IsBoundRun first second third sink) is run in
     a_yes first second third sink r.0 r.1 r.2 r.3 r.4
+
+pub with_yes : (first second third : Turn) (sink : Sink) (result : Result Bool RunFault) → IsBoundRun first second third sink result
+    → IsBoundCheck first second third sink result
+with_yes first second third sink result run = (run, λ is. yes_of first second third sink result run is)

@@ -63,8 +63,8 @@ IsBoundRun first second third sink (Err (Write write_faults.OutOfMemory)) = ⊥
 IsBoundRun first second third sink (Err (Write write_faults.Device)) = (instance : Fields) × (verdict : Verdict)
     × IsJudged first second third instance verdict × HasStopped sink (report_of instance verdict)
 
--- What a yes says: the second file's one tour visits every node of the instance once and uses every fixed edge; its length and
--- the bound of the third file are printed; and no tour of the instance is shorter than the bound, so that where the length
+-- What a yes says: the second file is one of tours and the third one of potentials; the one tour visits every node of the
+-- instance once and uses every fixed edge; its length and the bound of the third file are printed; and no tour of the instance is shorter than the bound, so that where the length
 -- equals it no tour is shorter than this one.
 pub record IsAYes (first second third : Turn) (sink : Sink) : Type 0 where
   pub instance : Fields
@@ -73,6 +73,8 @@ pub record IsAYes (first second third : Turn) (sink : Sink) : Type 0 where
   pub first_file : IsFile first instance
   pub second_file : IsFile second solution
   pub third_file : IsFile third certificate
+  pub of_tours : solution.kind ≡ Some kinds.Tour
+  pub of_potentials : certificate.kind ≡ Some kinds.Potentials
   pub tour : List ℕ
   pub only : tours_of solution ≡ tour ∷ []
   pub tour_of : IsTourOf instance tour
@@ -82,3 +84,8 @@ pub record IsAYes (first second third : Turn) (sink : Sink) : Type 0 where
   pub below_tours : BoundsTours instance bound
   pub optimal : length_of (cost instance) tour ≡ bound → (other : List ℕ) → IsTourOf instance other
       → length_of (cost instance) tour ≤ℤ length_of (cost instance) other
+
+-- what the check does, and what its yes says
+abbrev pub IsBoundCheck : Turn → Turn → Turn → Sink → Result Bool RunFault → Type 0
+IsBoundCheck first second third sink result = IsBoundRun first second third sink result
+    × (result ≡ Ok true → IsAYes first second third sink)

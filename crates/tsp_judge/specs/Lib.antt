@@ -1,5 +1,7 @@
+pub use Rattle.tsp_read.specs.Reads
 pub use Rattle.tsp_stream.specs.Sink
 pub use Rattle.tsp_stream.specs.Turn
+pub use Rattle.tsp_stream.specs.Watched
 pub use Rattle.tsp_value.specs.Layout
 pub mod BoundRun
 pub mod ConvertRun
@@ -8,3 +10,4 @@ pub mod Report
 pub mod Run
 pub mod Show
 pub mod ShowRun
+pub mod Yes

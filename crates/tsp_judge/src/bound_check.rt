@@ -1,11 +1,11 @@
 //! The check of an instance and a tour with a certificate of a bound, from the bytes that come in to
 //! those that go out.
 
-ghost use Rattle.std.specs.Prelude.{◌≡◌, true, Some, Ok};
+ghost use Rattle.std.specs.Prelude.{◌≡◌, Some};
 ghost use Rattle.tsp_stream.specs.Sink.{sink_of};
 ghost use Rattle.tsp_stream.specs.Turn.{Turn, turn_of, TakesAtMost};
 ghost use Rattle.tsp_read.specs.Reads.{IsFile, most_taken};
-ghost use Rattle.tsp_judge.specs.BoundRun.{is_bounded, IsBoundRun, IsAYes};
+ghost use Rattle.tsp_judge.specs.BoundRun.{is_bounded, IsBoundRun, IsBoundCheck};
 
 use crate::answer::answer;
 use crate::fault::RunFault;
@@ -42,31 +42,10 @@ pub fn run_bound_check<I: Read, S: Read, P: Read, W: Write>(
     pot: &mut Watched<P>,
     out: &mut Watched<W>,
 ) -> Result<bool, RunFault>
-    ensures run { TakesAtMost most_taken (turn_of I.remaining inst.old inst.new) (λ first.
-        TakesAtMost most_taken (turn_of S.remaining sol.old sol.new) (λ second.
-        TakesAtMost most_taken (turn_of P.remaining pot.old pot.new) (λ third.
-        IsBoundRun first second third (sink_of W.contents out.old out.new) result))) }
-    ensures yes { result ≡ Ok true
-        → TakesAtMost most_taken (turn_of I.remaining inst.old inst.new) (λ first.
-        TakesAtMost most_taken (turn_of S.remaining sol.old sol.new) (λ second.
-        TakesAtMost most_taken (turn_of P.remaining pot.old pot.new) (λ third.
-        IsAYes first second third (sink_of W.contents out.old out.new)))) }
-{
-    checked(alloc, inst, sol, pot, out)
-}
-
-/// The check, of which each step takes one file more.
-fn checked<I: Read, S: Read, P: Read, W: Write>(
-    alloc: Global,
-    inst: &mut Watched<I>,
-    sol: &mut Watched<S>,
-    pot: &mut Watched<P>,
-    out: &mut Watched<W>,
-) -> Result<bool, RunFault>
     ensures { TakesAtMost most_taken (turn_of I.remaining inst.old inst.new) (λ first.
         TakesAtMost most_taken (turn_of S.remaining sol.old sol.new) (λ second.
         TakesAtMost most_taken (turn_of P.remaining pot.old pot.new) (λ third.
-        IsBoundRun first second third (sink_of W.contents out.old out.new) result))) }
+        IsBoundCheck first second third (sink_of W.contents out.old out.new) result))) }
 {
     match read_file(alloc, 1, inst) {
         Err(fault) => Err(fault),

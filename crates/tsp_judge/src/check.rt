@@ -7,6 +7,7 @@ ghost use Rattle.tsp_read.specs.Reads.{IsFile, most_taken};
 ghost use Rattle.tsp_fields.specs.Rules.{is_instance};
 ghost use Rattle.tsp_judge.specs.Judged.{IsVerdictOn};
 ghost use Rattle.tsp_judge.specs.Run.{IsRun};
+ghost use Rattle.tsp_judge.specs.Yes.{IsCheck};
 
 use crate::answer::answer;
 use crate::fault::RunFault;
@@ -38,7 +39,7 @@ pub fn run_check<I: Read, S: Read, W: Write>(
 ) -> Result<bool, RunFault>
     ensures { TakesAtMost most_taken (turn_of I.remaining inst.old inst.new) (λ first.
         TakesAtMost most_taken (turn_of S.remaining sol.old sol.new) (λ second.
-        IsRun first second (sink_of W.contents out.old out.new) result)) }
+        IsCheck first second (sink_of W.contents out.old out.new) result)) }
 {
     match read_file(alloc, 1, inst) {
         Err(fault) => Err(fault),

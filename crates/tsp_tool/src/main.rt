@@ -4,45 +4,28 @@
 //! streams. All else is tsp_command's. What a task writes goes to standard output.
 #![tactic(auto)]
 
+ghost use Rattle.tsp_command.specs.Source.{IsSourceOf};
+
 use std::fs::File;
 use std::process::ExitCode;
 use std::rt::Stdin;
 use std::{env, fs, io};
-use tsp_command::{
-    Ending, JobFault, Place, Source, job_of, perform, status_of, task_of, tell, unread,
-};
+use tsp_command::{Open, Place, Source, Watched, run, tell_unread};
 
 fn main(rt: HostRuntime) -> ExitCode {
-    let ending = run(&rt);
-    // Where this can't be written, the status alone tells it.
-    let _ = tell(&ending, &mut rt.stderr());
-    ExitCode::from(status_of(&ending))
-}
-
-/// Does what the words of the command line ask for.
-fn run(rt: &HostRuntime) -> Ending {
-    let line = match words_of_line(rt) {
-        Ok(line) => line,
-        Err(error) => return Ending::NoJob(unread(rt.alloc(), &error)),
+    let mut out = Watched::new(rt.stdout());
+    // Where the reason can't be written, the status alone tells it.
+    let (status, _) = match words_of_line(&rt) {
+        Ok(line) => run(
+            rt.alloc(),
+            &line,
+            &Host { rt: &rt },
+            &mut out,
+            &mut rt.stderr(),
+        ),
+        Err(error) => tell_unread(rt.alloc(), &error, &mut rt.stderr()),
     };
-    let Ok(words) = line
-        .iter()
-        .skip(1)
-        .map(|word| word.as_str())
-        .collect::<Vec<&str>>(rt.alloc())
-    else {
-        return Ending::NoJob(JobFault::OutOfMemory);
-    };
-    let job = match job_of(rt.alloc(), &words) {
-        Ok(job) => job,
-        Err(fault) => return Ending::NoJob(fault),
-    };
-    let task = match task_of(&job) {
-        Ok(task) => task,
-        Err(fault) => return Ending::NoTask(fault),
-    };
-    let opened = task.open(|place| source_at(rt, place));
-    Ending::Ended(perform(rt.alloc(), opened, rt.stdout()))
+    ExitCode::from(status)
 }
 
 /// The words of the command line, the program's own name first. The error is out of memory, or a
@@ -52,10 +35,19 @@ fn words_of_line(rt: &HostRuntime) -> io::Result<Vec<String>> {
     Ok(words)
 }
 
-/// The file at a place, opened to be read.
-fn source_at(rt: &HostRuntime, place: Place<'_>) -> Source<Stdin, File> {
-    match place {
-        Place::Input => Source::Input(rt.stdin()),
-        Place::Path(path) => Source::of(fs::open(rt, path)),
+/// The files and the standard input of the host.
+#[derive(Drop)]
+struct Host<'a> {
+    rt: &'a HostRuntime,
+}
+
+impl Open<Source<Stdin, File>> for Host<'_> {
+    ghost opens = { λ host place source. IsSourceOf place source };
+
+    fn open(&self, place: Place<'_>) -> Source<Stdin, File> {
+        match place {
+            Place::Input => Source::Input(self.rt.stdin()),
+            Place::Path(path) => Source::of(fs::open(self.rt, path)),
+        }
     }
 }
