@@ -1,0 +1,149 @@
+#!/usr/bin/env python3
+"""Finds potentials of an instance: examples/ascent.py INSTANCE > FILE
+
+For a TSP they are numbers of the nodes, by the steps of Held and Karp: up for a node with too many
+edges in a least 1-tree, down for one with too few. For an ATSP they are duals of the assignment
+problem, by the Hungarian method. Nothing here is proved, and nothing has to be trusted: `tsp check`
+says what the numbers are worth. It needs Python 3.8 or later, and the program tsp to read the file.
+"""
+
+import argparse
+import re
+import subprocess
+import sys
+from decimal import Decimal
+from math import inf, isqrt
+from pathlib import Path
+
+SCALE = 100  # of the potentials; the rows of costs are at this scale too
+UNIT = 10**9  # coordinates are counts of 10^-9
+
+
+def canonical(tsp, *words):
+    """The words after each keyword, its colon too, or section's name in the text of `tsp convert`."""
+    ran = subprocess.run([tsp, "convert", *words], stdout=subprocess.PIPE)
+    if ran.returncode:
+        sys.exit(ran.returncode)
+    parts = re.split(rb"\n(?=[A-Za-z])", ran.stdout)
+    return {words[0]: words[1:] for words in map(bytes.split, parts)}
+
+
+def distance(kind, x, y):
+    """The distance of points that are x and y apart along the axes, in counts."""
+    square = x * x + y * y
+    if kind in (b"CEIL_2D", b"ATT"):
+        return isqrt((square - 1) // (10 if kind == b"ATT" else 1)) // UNIT + 1 if square else 0
+    twice = {b"EUC_2D": isqrt(4 * square), b"MAN_2D": 2 * (x + y), b"MAX_2D": 2 * max(x, y)}[kind]
+    return (twice + UNIT) // (2 * UNIT)
+
+
+def costs_of(fields):
+    """The rows of costs between the nodes."""
+    kind = fields[b"EDGE_WEIGHT_TYPE"][-1]
+    if kind == b"EXPLICIT":
+        cells = (SCALE * int(word) for word in fields[b"EDGE_WEIGHT_SECTION"])
+        return list(zip(*[cells] * int(fields[b"DIMENSION"][-1])))
+    numbers = [int(Decimal(word.decode()).scaleb(9)) for word in fields[b"NODE_COORD_SECTION"]]
+    points = list(zip(numbers[1::3], numbers[2::3]))
+    return [[SCALE * distance(kind, abs(a - c), abs(b - d)) for c, d in points] for a, b in points]
+
+
+def nearest_neighbours(rows):
+    """The length of the tour that always goes on to the nearest node."""
+    tour, left = [0], set(range(1, len(rows)))
+    while left:
+        tour.append(min(left, key=rows[tour[-1]].__getitem__))
+        left.remove(tour[-1])
+    return sum(rows[i][j] for i, j in zip(tour, tour[1:] + tour[:1]))
+
+
+def one_tree(rows, potentials):
+    """The bound that a least 1-tree gives, and how many of its edges each node has."""
+    count = len(rows)
+    degrees, weight = [2] + [0] * (count - 1), 2 * potentials[0]
+    for node in sorted(range(1, count), key=lambda node: rows[0][node] + potentials[node])[:2]:
+        degrees[node] = 1
+        weight += rows[0][node] + potentials[node]
+    # Prim's tree over the others: of each node outside its nearest one inside, and how near that is
+    ends, near, last, outside = [0] * count, [inf] * count, 1, list(range(2, count))
+    while outside:
+        row, own = rows[last], potentials[last]
+        for node in outside:
+            way = row[node] + own + potentials[node]
+            if way < near[node]:
+                ends[node], near[node] = last, way
+        last = min(outside, key=near.__getitem__)
+        outside.remove(last)
+        degrees[last] += 1
+        degrees[ends[last]] += 1
+        weight += near[last]
+    return weight - 2 * sum(potentials), degrees
+
+
+def ascend(rows, upper):
+    """What no tour is shorter than, and the potentials of the nodes that show it."""
+    upper = nearest_neighbours(rows) if upper is None else SCALE * upper
+    potentials, best = [0] * len(rows), -inf
+    reach = 2 * (upper - one_tree(rows, potentials)[0])
+    for step in range(max(200, min(500, 250_000 // len(rows)))):
+        bound, degrees = one_tree(rows, potentials)
+        if bound > best:
+            best, kept = bound, potentials
+        if sys.stderr.isatty():
+            print(f"step {step}: {best / SCALE:.2f}", end="\r", file=sys.stderr, flush=True)
+        squares = sum((degree - 2) ** 2 for degree in degrees)
+        if squares == 0 or best > upper - SCALE:
+            break  # the 1-tree is a tour, or the bound rounded up is the length of one
+        size = reach * 0.97**step / squares
+        potentials = [old + round(size * (degree - 2)) for old, degree in zip(potentials, degrees)]
+    return best, {"NODE": kept}
+
+
+def assign(rows):
+    """What no tour is shorter than, and the duals of the rows and columns that show it."""
+    count = len(rows)
+    u, v, row_of = [0] * count, [0] * (count + 1), [None] * (count + 1)  # one column more, to start at
+    for start in range(count):
+        # the shortest ways to the columns, up to one that no row has; no node goes to itself
+        column, row_of[count] = count, start
+        ends, far, outside = [count] * count, [inf] * count + [0], set(range(count))
+        while row_of[column] is not None:
+            row = row_of[column]
+            for other in outside - {row}:
+                way = far[column] + rows[row][other] - u[row] - v[other]
+                if way < far[other]:
+                    ends[other], far[other] = column, way
+            column = min(outside, key=far.__getitem__)
+            outside.remove(column)
+        for inside in set(range(count + 1)) - outside - {column}:
+            u[row_of[inside]] += far[column] - far[inside]
+            v[inside] -= far[column] - far[inside]
+        while column != count:
+            row_of[column], column = row_of[ends[column]], ends[column]
+    return sum(u) + sum(v[:count]), {"ROW": u, "COLUMN": v[:count]}
+
+
+def main():
+    words = argparse.ArgumentParser(description="Finds potentials of a TSP or an ATSP, for tsp check.")
+    words.add_argument("instance")
+    words.add_argument("--tsp", default=Path(__file__).resolve().parents[1] / "tsp", help="the program")
+    words.add_argument("--upper", type=int, help="the length of a tour, the shorter the better")
+    given = words.parse_args()
+    fields = canonical(given.tsp, given.instance)
+    if fields[b"TYPE"][-1] not in (b"TSP", b"ATSP") or int(fields[b"DIMENSION"][-1]) < 3:
+        sys.exit("ascent: this is no TSP or ATSP with three or more nodes")
+    if fields[b"EDGE_WEIGHT_TYPE"][-1] == b"EXPLICIT":
+        fields = canonical(given.tsp, given.instance, "--layout", "FULL_MATRIX")
+    rows = costs_of(fields)
+    bound, sections = assign(rows) if fields[b"TYPE"][-1] == b"ATSP" else ascend(rows, given.upper)
+    print(f"TYPE : POTENTIALS\nCOMMENT : Bound = {-(-bound // SCALE)}")
+    print(f"DIMENSION : {len(rows)}\nSCALE : {SCALE}")
+    for name, numbers in sections.items():
+        print(f"{name}_POTENTIAL_SECTION")
+        for node, number in enumerate(numbers, 1):
+            print(node, number)
+    print("EOF")
+
+
+if __name__ == "__main__":
+    main()
