@@ -1,7 +1,6 @@
 use Rattle.std.proofs.Common.{subst, sym}
 use Rattle.tsp_read.specs.declared.state.reading.Reading.{Reading}
 use Rattle.tsp_read.specs.Feed.{IsWhole}
-use Rattle.tsp_read.specs.Feed.{EndsClosed}
 use Rattle.std.specs.Prelude.{is_some}
 use Rattle.std.proofs.Common.{◌≡◌, false}
 use Rattle.tsp_read.proofs.FeedSteps.{taken_at, not_refused, still_going}
