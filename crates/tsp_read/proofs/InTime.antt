@@ -13,6 +13,7 @@ use Rattle.tsp_read.specs.declared.feed.Feed.{Feed}
 use Rattle.tsp_items.specs.Spells.{spelled}
 use Rattle.tsp_items.specs.Text.{part, fault, settled_fault, Spells}
 use Rattle.tsp_read.specs.Reads.{Reads, ReadsFrom, most_taken, StopsAt}
+use Rattle.tsp_read.specs.Onward.{is_bare}
 use Rattle.tsp_read.specs.Feed.{IsEnded, HasTaken, Feeds}
 use Rattle.tsp_read.specs.Timely.{is_going, IsFedFrom, ReadsInTime}
 use Rattle.tsp_read.proofs.SettledFaults.{part_kept, ended_kept}
@@ -69,10 +70,12 @@ stops_by turn feed faults.Device f h = absurd h
 stops_by turn feed faults.TooLong f h = gave_alike (λ bytes. fault bytes ≡ Some faults.TooLong) (fault_back faults.TooLong) turn feed f h
 
 pub in_time : (turn : List ℕ → Turn) (feed : Feed) (result : Result Fields ReadFault) → TakesAtMost most_taken turn (λ whole. IsFedFrom whole feed)
-    → ((bytes : List ℕ) → HasTaken feed bytes → Reads bytes result) → ReadsInTime turn result
-in_time turn feed (Ok file) (given, few, f) reads =
+    → ((bytes : List ℕ) → HasTaken feed bytes → Reads bytes result)
+    → ((bytes : List ℕ) → HasTaken feed bytes → result ≡ Err faults.OutOfMemory → is_bare bytes ≡ false) → ReadsInTime turn result
+in_time turn feed (Ok file) (given, few, f) reads memory =
     (given, few, (gave_alike (λ bytes. Spells bytes file) (spells_back file) (turn given) feed f (reads (turn given).given f.held), f.timely))
-in_time turn feed (Err found) (given, few, f) reads = (given, few, (stops_by (turn given) feed found f (reads (turn given).given f.held), f.timely))
+in_time turn feed (Err found) (given, few, f) reads memory =
+    (given, few, (stops_by (turn given) feed found f (reads (turn given).given f.held), f.timely, λ wants. memory (turn given).given f.held (ap (λ f. Err f) wants)))
 
 -- the answer alone
 pub answer_of : (turn : List ℕ → Turn) (result : Result Fields ReadFault) → ReadsInTime turn result → ReadsFrom turn result
@@ -87,3 +90,11 @@ bytes_fault bytes feed (faults.End found) h = absurd h
 bytes_fault bytes feed faults.OutOfMemory h = tt
 bytes_fault bytes feed faults.Device h = h
 bytes_fault bytes feed faults.TooLong h = settled_reads faults.TooLong bytes h.1
+
+pub bytes_memory : (bytes : List ℕ) (feed : Feed) (found : ReadFault) (result : Result Fields ReadFault) → result ≡ Err found → Feeds bytes feed (Err found)
+    → result ≡ Err faults.OutOfMemory → is_bare bytes ≡ false
+bytes_memory bytes feed (faults.Line line word found) result is h wants = absurd cc
+bytes_memory bytes feed (faults.End found) result is h wants = absurd h
+bytes_memory bytes feed faults.OutOfMemory result is h wants = h
+bytes_memory bytes feed faults.Device result is h wants = absurd h
+bytes_memory bytes feed faults.TooLong result is h wants = absurd cc

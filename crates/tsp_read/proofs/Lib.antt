@@ -40,3 +40,4 @@ pub mod FeedSteps
 pub mod LastSteps
 pub mod PieceSteps
 pub mod InTime
+pub mod EndLines

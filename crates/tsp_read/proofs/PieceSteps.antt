@@ -18,8 +18,9 @@ use Rattle.tsp_items.specs.Rows.{when, first_row}
 use Rattle.tsp_items.specs.FirstFault.{fault_in, IsClean}
 use Rattle.tsp_items.specs.Text.{is_too_long, settled_part, settled_fault, fault}
 use Rattle.tsp_read.specs.Reads.{most_taken, StopsAt}
+use Rattle.tsp_read.specs.Onward.{is_bare}
 use Rattle.tsp_read.specs.Feed.{IsGoing, HasTaken, Feeds}
-use Rattle.tsp_read.specs.Timely.{IsTimely, is_going, IsFedFrom}
+use Rattle.tsp_read.specs.Timely.{IsTimely, HasCause, is_going, IsFedFrom}
 use Rattle.tsp_read.proofs.SettledFaults.{fault_kept, settled_kept, ended_stays}
 use Rattle.tsp_read.proofs.FeedSteps.{taken_at, going_on}
 
@@ -125,11 +126,14 @@ stops_by turn feed faults.OutOfMemory gave sound h = (gave, sound)
 stops_by turn feed faults.Device gave sound h = absurd h
 stops_by turn feed faults.TooLong gave sound h = whole_fault turn faults.TooLong gave sound h.1
 
+memory_caused : (bytes : List ℕ) (feed : Feed) (found : ReadFault) → found ≡ faults.OutOfMemory → Feeds bytes feed (Err found) → is_bare bytes ≡ false
+memory_caused bytes feed found wants h = subst (λ (f : ReadFault). Feeds bytes feed (Err f)) wants h
+
 pub piece_stops : (turn : List ℕ → Turn) (known left next : Option (List ℕ)) (old new : Feed) (taken : ℕ) (piece : List ℕ) (found : ReadFault) → ((given : List ℕ) → (turn given).given ≡ given)
     → ((given : List ℕ) → Consumes known next given → Gave (turn given)) → ((given : List ℕ) → IsSound (turn given))
     → taken ≤ most_file_bytes → Gathered known left old taken → is_going old.stage ≡ true → length piece ≤ 4096
     → Consumes left next piece → ((bytes : List ℕ) → HasTaken old bytes → Feeds (bytes ++ piece) new (Err found))
-    → TakesAtMost most_taken turn (λ whole. StopsAt found whole × IsTimely whole.given)
+    → TakesAtMost most_taken turn (λ whole. StopsAt found whole × IsTimely whole.given × HasCause found whole.given)
 piece_stops turn known left next old new taken piece found same gives sound room g going few gave feeds =
     let given = g.given ++ piece in (
       given,
@@ -138,6 +142,7 @@ piece_stops turn known left next old new taken piece found same gives sound room
         stops_by (turn given) new found (gives given (Consumes-trans known left next g.given piece g.gave gave)) (sound given)
             (subst (λ (xs : List ℕ). Feeds xs new (Err found)) (sym (same given)) (feeds g.given g.held)),
         subst IsTimely (sym (same given)) (timely_next known left old taken piece g going few),
+        λ wants. memory_caused (turn given).given new found wants (subst (λ (xs : List ℕ). Feeds xs new (Err found)) (sym (same given)) (feeds g.given g.held)),
       ),
     )
 

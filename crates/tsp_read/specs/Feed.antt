@@ -1,5 +1,5 @@
 -- A file that is read in pieces: which bytes have come so far, and what is answered for them.
-use Rattle.std.specs.Prelude.{◌≡◌, ℕ, ◌≤◌, true, false, not, ◌&&◌, List, length, Option, None, Some, Result, Ok, Err}
+use Rattle.std.specs.Prelude.{◌≡◌, ℕ, ◌≤◌, true, false, not, ◌&&◌, List, length, Option, None, Some, is_some, Result, Ok, Err}
 use Rattle.tsp_value.specs.Limits.{most_file_bytes}
 use Rattle.tsp_items.specs.declared.fault.ReadFault.{ReadFault}
 use Rattle.tsp_items.specs.declared.fault.ReadFault.TheVariants as faults
@@ -75,6 +75,11 @@ ComesTo (Refused faults.TooLong) new bytes = HasSettled faults.TooLong bytes
 pub record IsWhole (reading : Reading) (bytes : List ℕ) : Type 0 where
   pub holds : Holds reading (part bytes)
   pub short : (is_too_long bytes && not (has_end_line (part bytes))) ≡ false
+
+-- where the end line was settled no section is open, so that the end of the text wants no memory
+abbrev pub EndsClosed : Result Reading ReadFault → Type 0
+EndsClosed (Ok reading) = is_some reading.open_part ≡ false
+EndsClosed (Err found) = ⊥
 
 -- the same at the end of the text, or its answer is this fault
 abbrev pub Ends : List ℕ → Result Reading ReadFault → Type 0

@@ -4,12 +4,14 @@ use Rattle.std.specs.Io.KnownBytes.{IsAtEnd}
 use Rattle.tsp_stream.specs.Turn.{Turn, Gave, IsSound, TakesAtMost}
 use Rattle.tsp_fields.specs.Fields.{Fields}
 use Rattle.tsp_items.specs.declared.fault.ReadFault.{ReadFault}
+use Rattle.tsp_items.specs.declared.fault.ReadFault.TheVariants as faults
 use Rattle.tsp_read.specs.declared.stage.Stage.{Stage}
 use Rattle.tsp_read.specs.declared.stage.Stage.TheVariants.{Going, Ended, Refused}
 use Rattle.tsp_read.specs.declared.feed.Feed.{Feed}
 use Rattle.tsp_items.specs.Items.{has_end_line}
 use Rattle.tsp_items.specs.Text.{settled_part, settled_fault}
 use Rattle.tsp_read.specs.Reads.{most_taken, IsFile, StopsAt}
+use Rattle.tsp_read.specs.Onward.{is_bare}
 use Rattle.tsp_read.specs.Feed.{HasTaken}
 
 -- all but the last piece that is taken at once
@@ -20,6 +22,10 @@ before_last bytes = take (length bytes - 4096) bytes
 pub record IsTimely (bytes : List ℕ) : Type 0 where
   pub no_fault : settled_fault (before_last bytes) ≡ None
   pub no_end : has_end_line (settled_part (before_last bytes)) ≡ false
+
+-- want of memory is no answer for blanks and line ends alone
+abbrev pub HasCause : ReadFault → List ℕ → Type 0
+HasCause found bytes = found ≡ faults.OutOfMemory → is_bare bytes ≡ false
 
 abbrev pub is_going : Stage → Bool
 is_going Going = true
@@ -37,9 +43,10 @@ pub record IsFedFrom (turn : Turn) (feed : Feed) : Type 0 where
 
 abbrev pub FeedsAll : (List ℕ → Turn) → Feed → Result (Unit {0}) ReadFault → Type 0
 FeedsAll turn feed (Ok done) = TakesAtMost most_taken turn (λ whole. IsFedFrom whole feed)
-FeedsAll turn feed (Err found) = TakesAtMost most_taken turn (λ whole. StopsAt found whole × IsTimely whole.given)
+FeedsAll turn feed (Err found) = TakesAtMost most_taken turn (λ whole. StopsAt found whole × IsTimely whole.given × HasCause found whole.given)
 
--- What is answered for a reader, of which no more was taken than was needed.
+-- What is answered for a reader, of which no more was taken than was needed; memory is wanted only for more than blanks and line
+-- ends.
 abbrev pub ReadsInTime : (List ℕ → Turn) → Result Fields ReadFault → Type 0
 ReadsInTime turn (Ok file) = TakesAtMost most_taken turn (λ whole. IsFile whole file × IsTimely whole.given)
-ReadsInTime turn (Err found) = TakesAtMost most_taken turn (λ whole. StopsAt found whole × IsTimely whole.given)
+ReadsInTime turn (Err found) = TakesAtMost most_taken turn (λ whole. StopsAt found whole × IsTimely whole.given × HasCause found whole.given)

@@ -108,7 +108,7 @@ pub struct Feed {
 }
 
 impl Feed {
-    ghost use Rattle.std.specs.Prelude.{Some, None, Err, IfErr};
+    ghost use Rattle.std.specs.Prelude.{Some, None, Err, IfErr, ◌≢◌};
     ghost use Rattle.tsp_items.specs.declared.fault.ReadFault.{ReadFault};
     ghost use Rattle.tsp_read.specs.declared.stage.Stage.TheVariants.{Going};
     ghost use Rattle.tsp_items.specs.Items.{has_end_line};
@@ -117,7 +117,7 @@ impl Feed {
     ghost use Rattle.tsp_read.specs.Onward.{is_bare};
     ghost use Rattle.tsp_read.specs.Reads.{Reads};
     ghost use Rattle.tsp_read.specs.Timely.{is_going};
-    ghost use Rattle.tsp_read.specs.Feed.{IsGoing, HasTaken, refusal, Feeds, ComesTo, Ends};
+    ghost use Rattle.tsp_read.specs.Feed.{IsGoing, HasTaken, refusal, Feeds, ComesTo, Ends, EndsClosed};
 
     /// The start of a file. It takes no memory.
     pub fn new(alloc: Global) -> Feed
@@ -183,6 +183,8 @@ impl Feed {
     fn end(self) -> Result<Reading, ReadFault>
         ensures ends { (bytes : List ℕ) → HasTaken self bytes → Ends bytes result }
         ensures again { (found : ReadFault) → refusal self ≡ Some found → result ≡ Err found }
+        ensures ended { (bytes : List ℕ) → HasTaken self bytes → settled_fault bytes ≡ None
+            → has_end_line (settled_part bytes) ≡ true → EndsClosed result }
     {
         let Feed {
             alloc,
@@ -215,12 +217,14 @@ impl Feed {
     ///
     /// - `Line`: the last line, or its last word, has the first fault.
     /// - `End`: no line has a fault, and the lines together are no file.
-    /// - `OutOfMemory`: memory was refused.
+    /// - `OutOfMemory`: memory was refused. Where a line EOF is settled none is wanted.
     pub fn finish(self) -> Result<File, ReadFault>
         ensures read { (bytes : List ℕ) → HasTaken self bytes → Reads bytes result }
         ensures memory { (bytes : List ℕ) → HasTaken self bytes → result ≡ Err OutOfMemory
             → is_bare bytes ≡ false }
         ensures again { (found : ReadFault) → refusal self ≡ Some found → result ≡ Err found }
+        ensures ended { (bytes : List ℕ) → HasTaken self bytes → settled_fault bytes ≡ None
+            → has_end_line (settled_part bytes) ≡ true → result ≢ Err OutOfMemory }
     {
         let alloc = self.alloc;
         match self.end() {

@@ -1,6 +1,9 @@
 //! A whole text, and a whole reader.
 
+ghost use Rattle.std.specs.Prelude.{◌≡◌, Err, false};
 ghost use Rattle.tsp_stream.specs.Turn.{turn_of};
+ghost use Rattle.tsp_items.specs.declared.fault.ReadFault.TheVariants.{OutOfMemory};
+ghost use Rattle.tsp_read.specs.Onward.{is_bare};
 ghost use Rattle.tsp_read.specs.Reads.{Reads, ReadsFrom};
 ghost use Rattle.tsp_read.specs.Timely.{ReadsInTime};
 
@@ -20,9 +23,11 @@ use tsp_stream::Watched;
 /// - `TooLong`: there are more bytes than a file may have, and those that it may have decide
 ///   nothing.
 /// - `End`: no line has a fault, and the lines together are no file.
-/// - `OutOfMemory`: memory was refused. It may stand in the place of any answer.
+/// - `OutOfMemory`: memory was refused. It may stand in the place of any answer, but for a text of
+///   blanks and bytes 10 alone.
 pub fn read_bytes(alloc: Global, bytes: &[u8]) -> Result<File, ReadFault>
-    ensures { Reads bytes.now result }
+    ensures answer { Reads bytes.now result }
+    ensures memory { result ≡ Err OutOfMemory → is_bare bytes.now ≡ false }
 {
     let mut feed = Feed::new(alloc);
     match feed.feed(bytes) {
@@ -45,7 +50,8 @@ pub fn read_bytes(alloc: Global, bytes: &[u8]) -> Result<File, ReadFault>
 ///
 /// - `Line`, `End` and `TooLong`: as `read_bytes` says.
 /// - `Device`: a read failed, or had failed before.
-/// - `OutOfMemory`: memory was refused. It may stand in the place of any answer but `Device`.
+/// - `OutOfMemory`: memory was refused. It may stand in the place of any answer but `Device`, where
+///   more than blanks and bytes 10 was handed out.
 pub fn read_from<R: Read>(alloc: Global, reader: &mut Watched<R>) -> Result<File, ReadFault>
     ensures answer { ReadsFrom (turn_of R.remaining reader.old reader.new) result }
     ensures in_time { ReadsInTime (turn_of R.remaining reader.old reader.new) result }

@@ -10,7 +10,7 @@ pub returns-in-Err : goal.returns-in-Err
 returns-in-Err g c =
     let way = gathered_kept _ _ _ c.pieces.feed c.pieces.taken c.pieces.invariant.gathered c.in-Err.ensures.bytes in
     let broken = c.in-Err.ensures.failed ∙ ap (λ b. b || true) c.pieces.invariant.sound in
-    (way.given, omega (arith, way.counted, c.pieces.invariant.few), ((way.gave, broken, λ had. absurd (true≢false (sym had ∙ c.requires.sound))), way.timely))
+    (way.given, omega (arith, way.counted, c.pieces.invariant.few), ((way.gave, broken, λ had. absurd (true≢false (sym had ∙ c.requires.sound))), way.timely, λ wants. absurd cc))
 
 pub returns-then-count-eq0 : goal.returns-then-count-eq0
 returns-then-count-eq0 g c =
