@@ -7,9 +7,9 @@ use std::process::Abort;
 use std::test::Fail;
 use tsp_cost::Instance;
 use tsp_fields::{Draft, File};
-use tsp_judge::{Reason, Verdict, judge_tour_bound};
 use tsp_testing::drafts::{file_of, points, upper_row};
 use tsp_value::{Kind, Layout, WeightFormat, WeightKind};
+use tsp_verdict::{Reason, Verdict, judge_tour_bound};
 
 /// The rectangle with the sides 3 and 4.
 fn rectangle(alloc: Global) -> Result<Draft, Fail> {

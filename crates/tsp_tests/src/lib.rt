@@ -24,8 +24,6 @@ mod layout;
 #[cfg(test)]
 mod number;
 #[cfg(test)]
-mod texts;
-#[cfg(test)]
 mod verdicts;
 #[cfg(test)]
 mod watched;

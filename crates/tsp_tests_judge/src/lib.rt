@@ -1,5 +1,5 @@
 //! The tests of what the program does with files, from the bytes that come in to those that go
-//! out.
+//! out, and of the texts of faults.
 #![tactic(auto)]
 
 #[cfg(test)]
@@ -12,3 +12,5 @@ mod check;
 mod convert;
 #[cfg(test)]
 mod show;
+#[cfg(test)]
+mod texts;
