@@ -140,6 +140,9 @@ yes_by (Some kinds.Potentials) first second sink instance solution verdict same 
 yes_by None first second sink instance solution verdict same one two v is written = absurd v
 
 pub with_yes : (first second : Turn) (sink : Sink) (result : Result Bool RunFault) → IsRun first second sink result → IsCheck first second sink result
-with_yes first second sink result run = (run, λ is.
-    let r : IsRun first second sink (Ok true) = subst (IsRun first second sink) is run in
-    yes_by r.0.kind first second sink r.0 r.2.solution r.1 refl r.2.first_file r.2.second_file r.2.judged r.3 r.4)
+with_yes first second sink result run = (
+  run,
+  λ is.
+      let r : IsRun first second sink (Ok true) = subst (IsRun first second sink) is run in
+      yes_by r.0.kind first second sink r.0 r.2.solution r.1 refl r.2.first_file r.2.second_file r.2.judged r.3 r.4,
+)
