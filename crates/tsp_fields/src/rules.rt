@@ -7,7 +7,6 @@ ghost use Rattle.tsp_fields.specs.Rules.{standing_of, is_instance, is_routing, i
 
 use crate::fault::EndFault;
 use crate::file::Draft;
-use crate::table::stands;
 use tsp_value::{Field, Kind, WeightFormat, WeightKind};
 
 /// The fields that some file is asked for, in the order in which they are missed.
@@ -67,7 +66,7 @@ fn first_missing(draft: &Draft, fields: &[Field]) -> Option<Field>
 fn is_there(draft: &Draft, field: Field) -> bool
     ensures { result ≡ is_there (standing_of (fields_of draft.now)) field }
 {
-    !is_asked(draft, field) || stands(draft, field)
+    !is_asked(draft, field) || draft.stands(field)
 }
 
 /// Whether a field is asked for.

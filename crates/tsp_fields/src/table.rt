@@ -12,31 +12,33 @@ use crate::validity;
 use tsp_number::Point;
 use tsp_value::{Field, MOST_CAPACITY, MOST_COMMENTS, MOST_NODES, MOST_OTHERS, MOST_SCALE, Word};
 
-/// Whether a field stands in a draft; comments and unknown keywords may be none.
-pub(crate) fn stands(draft: &Draft, field: Field) -> bool
-    ensures { result ≡ stands_in (fields_of draft.now) field }
-{
-    match field {
-        Field::NameKey => draft.name.is_some(),
-        Field::TypeKey => draft.kind.is_some(),
-        Field::CommentKey | Field::OtherKey => true,
-        Field::DimensionKey => draft.dimension.is_some(),
-        Field::CapacityKey => draft.capacity.is_some(),
-        Field::ScaleKey => draft.scale.is_some(),
-        Field::EdgeWeightTypeKey => draft.weight_kind.is_some(),
-        Field::EdgeWeightFormatKey => draft.weight_format.is_some(),
-        Field::NodeCoordTypeKey => draft.coord_kind.is_some(),
-        Field::DisplayDataTypeKey => draft.display_kind.is_some(),
-        Field::NodeCoordPart => draft.coords.is_some(),
-        Field::DisplayDataPart => draft.display.is_some(),
-        Field::DemandPart => draft.demands.is_some(),
-        Field::DepotPart => draft.depots.is_some(),
-        Field::FixedEdgesPart => draft.fixed.is_some(),
-        Field::EdgeWeightPart => draft.weights.is_some(),
-        Field::TourPart => draft.tours.is_some(),
-        Field::NodePotentialPart => draft.node_potentials.is_some(),
-        Field::RowPotentialPart => draft.row_potentials.is_some(),
-        Field::ColumnPotentialPart => draft.column_potentials.is_some(),
+impl Draft {
+    /// Whether a field stands; comments and unknown keywords may be none.
+    pub fn stands(&self, field: Field) -> bool
+        ensures { result ≡ stands_in (fields_of self.now) field }
+    {
+        match field {
+            Field::NameKey => self.name.is_some(),
+            Field::TypeKey => self.kind.is_some(),
+            Field::CommentKey | Field::OtherKey => true,
+            Field::DimensionKey => self.dimension.is_some(),
+            Field::CapacityKey => self.capacity.is_some(),
+            Field::ScaleKey => self.scale.is_some(),
+            Field::EdgeWeightTypeKey => self.weight_kind.is_some(),
+            Field::EdgeWeightFormatKey => self.weight_format.is_some(),
+            Field::NodeCoordTypeKey => self.coord_kind.is_some(),
+            Field::DisplayDataTypeKey => self.display_kind.is_some(),
+            Field::NodeCoordPart => self.coords.is_some(),
+            Field::DisplayDataPart => self.display.is_some(),
+            Field::DemandPart => self.demands.is_some(),
+            Field::DepotPart => self.depots.is_some(),
+            Field::FixedEdgesPart => self.fixed.is_some(),
+            Field::EdgeWeightPart => self.weights.is_some(),
+            Field::TourPart => self.tours.is_some(),
+            Field::NodePotentialPart => self.node_potentials.is_some(),
+            Field::RowPotentialPart => self.row_potentials.is_some(),
+            Field::ColumnPotentialPart => self.column_potentials.is_some(),
+        }
     }
 }
 

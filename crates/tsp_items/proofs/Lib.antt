@@ -10,3 +10,5 @@ pub mod TripleWords
 pub mod Pieces
 pub mod TourSteps
 pub mod Readings
+pub mod Taken
+pub mod PartSteps

@@ -1,9 +1,9 @@
 -- A word line that is cut into its parts, and the rows of its value alone.
-use Rattle.std.specs.Prelude.{◌≡◌, ℕ, ℤ, Bool, true, false, not, List, [], ◌∷◌, Option, Some, is_none, is_some, Result, Ok, Err, pos, length, ◌++◌, nat_le}
+use Rattle.std.specs.Prelude.{◌≡◌, ℕ, ℤ, Bool, true, false, not, ◌&&◌, List, [], ◌∷◌, Option, None, Some, is_none, is_some, unwrap_or, Result, Ok, Err, pos, length, ◌++◌, nat_le, nat_lt}
 use Rattle.std.specs.Option.{option_map}
 use Rattle.std.specs.Result.{result_err}
 use Rattle.tsp_number.specs.Reading.{whole_of}
-use Rattle.tsp_value.specs.Limits.{most_comments, most_others}
+use Rattle.tsp_value.specs.Limits.{most_matrix_nodes, most_comments, most_others}
 use Rattle.tsp_value.specs.declared.field.Field.{Field}
 use Rattle.tsp_items.specs.declared.fault.LineFault.{LineFault}
 use Rattle.tsp_items.specs.declared.fault.LineFault.TheVariants as row
@@ -11,6 +11,8 @@ use Rattle.tsp_number.specs.declared.fault.NumberFault.{NumberFault}
 use Rattle.tsp_items.specs.declared.fault.StepFault.{StepFault}
 use Rattle.tsp_items.specs.declared.fault.StepFault.TheVariants as steps
 use Rattle.tsp_items.specs.declared.line.CutLine.{CutLine}
+use Rattle.tsp_items.specs.declared.shape.Shape.{Shape}
+use Rattle.tsp_items.specs.declared.shape.Shape.TheVariants.{Numbers, Points, Depots, Pairs, Weights, Tours}
 use Rattle.tsp_items.specs.Lines.{is_filled, first_word}
 use Rattle.tsp_items.specs.Items.{WordLine, Item, Line}
 use Rattle.tsp_items.specs.Values.{named, is_left_out}
@@ -38,10 +40,36 @@ abbrev pub ReadsNumber : ℤ → ℤ → List ℕ → Result ℤ LineFault → T
 ReadsNumber low high value (Ok z) = (is_filled value ≡ true) × (whole_of (first_word value) low high ≡ Ok z)
 ReadsNumber low high value (Err fault) = number_rows low high value ≡ Some fault
 
--- whether a section may be opened, with n nodes, by its own rows
-abbrev pub MayOpen : Bool → List ℕ → Option ℕ → Result ℕ LineFault → Type 0
-MayOpen stands value dimension (Ok n) = (stands ≡ false) × (is_filled value ≡ false) × (dimension ≡ Some n)
-MayOpen stands value dimension (Err fault) = first_row (when stands row.Repeated ∷ when (is_filled value) row.SectionValue ∷ when (is_none dimension) row.SectionEarly ∷ []) ≡ Some fault
+-- ---- a line that opens a section
+
+-- all sections but the tours need DIMENSION
+abbrev pub needs_nodes : Shape → Bool
+needs_nodes (Numbers low high) = true
+needs_nodes Points = true
+needs_nodes Depots = true
+needs_nodes Pairs = true
+needs_nodes Weights = true
+needs_nodes Tours = false
+
+abbrev pub is_matrix : Shape → Bool
+is_matrix (Numbers low high) = false
+is_matrix Points = false
+is_matrix Depots = false
+is_matrix Pairs = false
+is_matrix Weights = true
+is_matrix Tours = false
+
+-- The rows of a line that opens a section: whether an earlier line has it, the line's value, whether DIMENSION stands, and n, its value.
+abbrev pub opening_rows : Shape → Bool → List ℕ → Bool → ℕ → Option LineFault
+opening_rows shape stands value has_nodes n = first_row (when stands row.Repeated ∷ when (is_filled value) row.SectionValue
+    ∷ when (needs_nodes shape && not has_nodes) row.SectionEarly ∷ when (is_matrix shape && nat_lt most_matrix_nodes n) row.TooManyNodes ∷ [])
+
+-- whether a section may be opened, with n nodes, or the fault of its line
+abbrev pub MayOpen : Shape → Bool → List ℕ → Option ℕ → Result ℕ LineFault → Type 0
+MayOpen shape stands value dimension (Ok n) = (n ≡ unwrap_or dimension 0)
+    × (opening_rows shape stands value (is_some dimension) n ≡ None)
+MayOpen shape stands value dimension (Err fault) =
+    opening_rows shape stands value (is_some dimension) (unwrap_or dimension 0) ≡ Some fault
 
 -- ---- a slot of the draft that a line fills
 

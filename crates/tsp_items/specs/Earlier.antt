@@ -2,12 +2,12 @@
 use Rattle.std.specs.Prelude.{ℕ, Bool, true, false, cond, List, [], ◌∷◌, ◌++◌, Option, None, Some}
 use Rattle.std.specs.Str.{bytes_eq}
 use Rattle.tsp_value.specs.declared.field.Field.{Field}
-use Rattle.tsp_value.specs.declared.field.Field.TheVariants as field
 use Rattle.tsp_value.specs.declared.keyword.Keyword.{Keyword}
 use Rattle.tsp_value.specs.declared.keyword.Keyword.TheVariants.{Known, EdgeDataFormat, EdgeDataSection, Eof, Unknown}
 use Rattle.tsp_value.specs.Words.{field_word}
 use Rattle.tsp_value.specs.Keywords.{is_unknown}
 use Rattle.tsp_items.specs.Items.{Item, Line, NumberWord, LineEnd}
+use Rattle.tsp_items.specs.Shapes.{is_section_field}
 
 -- ---- which keyword a line has
 
@@ -22,30 +22,6 @@ is_key f EdgeDataFormat = false
 is_key f EdgeDataSection = false
 is_key f Eof = false
 is_key f Unknown = false
-
--- the sections
-abbrev pub is_section_field : Field → Bool
-is_section_field field.NameKey = false
-is_section_field field.TypeKey = false
-is_section_field field.CommentKey = false
-is_section_field field.OtherKey = false
-is_section_field field.DimensionKey = false
-is_section_field field.CapacityKey = false
-is_section_field field.ScaleKey = false
-is_section_field field.EdgeWeightTypeKey = false
-is_section_field field.EdgeWeightFormatKey = false
-is_section_field field.NodeCoordTypeKey = false
-is_section_field field.DisplayDataTypeKey = false
-is_section_field field.NodeCoordPart = true
-is_section_field field.DisplayDataPart = true
-is_section_field field.DemandPart = true
-is_section_field field.DepotPart = true
-is_section_field field.FixedEdgesPart = true
-is_section_field field.EdgeWeightPart = true
-is_section_field field.TourPart = true
-is_section_field field.NodePotentialPart = true
-is_section_field field.RowPotentialPart = true
-is_section_field field.ColumnPotentialPart = true
 
 -- the section that a line opens
 abbrev pub opened_by : Keyword → Option Field

@@ -6,6 +6,10 @@ use Rattle.tsp_items.specs.declared.parts.depots.DepotList.{DepotList}
 use Rattle.tsp_items.specs.declared.parts.fixed.FixedList.{FixedList}
 use Rattle.tsp_items.specs.declared.parts.weights.WeightList.{WeightList}
 use Rattle.tsp_items.specs.declared.parts.tours.TourList.{TourList}
+use Rattle.tsp_items.specs.declared.part.Part.{Part}
+use Rattle.tsp_items.specs.declared.part.Part.TheVariants as parts
+use Rattle.tsp_items.specs.declared.shape.Shape.{Shape}
+use Rattle.tsp_items.specs.declared.shape.Shape.TheVariants.{Numbers, Points, Depots, Pairs, Weights, Tours}
 use Rattle.tsp_items.specs.Parts.{NumbersHold, PointsHold, DepotsHold, PairsHold, WeightsHold, ToursHold, EndsRun}
 
 -- its numbers are of this range
@@ -33,3 +37,26 @@ HoldsTours part words = ToursHold (map (λ tour. tour.items) part.done.items) pa
 
 abbrev pub EndsRunOf : TourList → List (List ℕ) → Type 0
 EndsRunOf part words = EndsRun (map (λ tour. tour.items) part.done.items) part.run.items words
+
+-- ---- the part of a section, whichever its shape
+
+abbrev pub shape_by : Part → Shape
+shape_by (parts.Numbers list) = Numbers list.low list.high
+shape_by (parts.Points list) = Points
+shape_by (parts.Depots list) = Depots
+shape_by (parts.Pairs list) = Pairs
+shape_by (parts.Weights list) = Weights
+shape_by (parts.Tours list) = Tours
+
+-- the part holds these words of its section
+abbrev pub HoldsPart : Part → ℕ → List (List ℕ) → Type 0
+HoldsPart (parts.Numbers list) n words = HoldsNumbers list list.low list.high n words
+HoldsPart (parts.Points list) n words = HoldsPoints list n words
+HoldsPart (parts.Depots list) n words = HoldsDepots list n words
+HoldsPart (parts.Pairs list) n words = HoldsFixed list n words
+HoldsPart (parts.Weights list) n words = HoldsWeights list n words
+HoldsPart (parts.Tours list) n words = HoldsTours list words
+
+-- and its section has this shape
+abbrev pub HoldsShape : Shape → Part → ℕ → List (List ℕ) → Type 0
+HoldsShape shape part n words = (shape_by part ≡ shape) × HoldsPart part n words

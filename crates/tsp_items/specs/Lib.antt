@@ -1,5 +1,6 @@
 pub mod Lines
 pub mod Items
+pub mod Shapes
 pub mod Earlier
 pub mod Values
 pub mod Numbers

@@ -1,13 +1,15 @@
 -- What the items of a text spell, field by field, and the fault at their end. Source: TSPLIB 95 (G. Reinelt) for the fields.
-use Rattle.std.specs.Prelude.{ℕ, Bool, true, false, cond, ◌&&◌, List, [], ◌∷◌, Option, None, Some, ℤ, pos, neg_ℤ}
-use Rattle.std.specs.List.{find}
+use Rattle.std.specs.Prelude.{ℕ, Bool, true, false, cond, ◌&&◌, List, Option, None, Some, ℤ, pos, neg_ℤ}
+use Rattle.std.specs.List.{find, filter}
 use Rattle.tsp_value.specs.declared.field.Field.{Field}
 use Rattle.tsp_value.specs.declared.field.Field.TheVariants.{NameKey, TypeKey, CommentKey, CapacityKey, ScaleKey, EdgeWeightTypeKey, EdgeWeightFormatKey, NodeCoordTypeKey, DisplayDataTypeKey, NodeCoordPart, DisplayDataPart, DemandPart, DepotPart, FixedEdgesPart, EdgeWeightPart, TourPart, NodePotentialPart, RowPotentialPart, ColumnPotentialPart}
 use Rattle.tsp_value.specs.Limits.{most_demand, most_potential}
 use Rattle.tsp_fields.specs.declared.fault.EndFault.{EndFault}
 use Rattle.tsp_fields.specs.Fields.{Fields}
 use Rattle.tsp_fields.specs.Rules.{standing_of, end_fault}
+use Rattle.tsp_value.specs.Words.{fields_in_order}
 use Rattle.tsp_items.specs.Items.{Item}
+use Rattle.tsp_items.specs.Shapes.{is_section_field}
 use Rattle.tsp_items.specs.Earlier.{has_line, value_at, values_at, others_in, words_of}
 use Rattle.tsp_items.specs.Values.{kind_named, weight_kind_named, weight_format_named, coord_kind_named, display_kind_named, number_at, named_at, dimension_of}
 use Rattle.tsp_items.specs.Places.{Place, NodeAfter, Coordinate, Amount, PastGroups, DepotAfter, FirstAfter, SecondOf, PastEnd, Weight, PastWeights, TourNode}
@@ -83,8 +85,7 @@ is_incomplete items field = has_line field items && wants_more (place_in field (
 
 -- the sections, in canonical order
 abbrev pub sections_in_order : List Field
-sections_in_order = NodeCoordPart ∷ DisplayDataPart ∷ DemandPart ∷ DepotPart ∷ FixedEdgesPart ∷ EdgeWeightPart ∷ TourPart
-    ∷ NodePotentialPart ∷ RowPotentialPart ∷ ColumnPotentialPart ∷ []
+sections_in_order = filter is_section_field fields_in_order
 
 -- the first section that is incomplete
 abbrev pub first_incomplete : List Item → Option Field

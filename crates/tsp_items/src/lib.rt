@@ -5,16 +5,20 @@
 mod fault;
 mod laws;
 mod line;
+mod part;
 mod parts;
+mod shape;
 mod slots;
 
 pub use fault::{LineFault, ReadFault, StepFault};
 pub use laws::{faults_at_the_end, faults_of_word_lines, faults_of_words, fields_of_texts};
 pub use line::{CutLine, may_open};
+pub use part::Part;
 pub use parts::depots::DepotList;
 pub use parts::fixed::FixedList;
 pub use parts::numbers::NumberList;
 pub use parts::points::PointList;
 pub use parts::tours::TourList;
 pub use parts::weights::WeightList;
+pub use shape::{Shape, shape_of};
 pub use slots::{add_comment, add_other, set_count, set_name, set_named, set_number};

@@ -9,8 +9,9 @@ ghost use Rattle.tsp_value.specs.declared.field.Field.TheVariants.{EdgeWeightTyp
 ghost use Rattle.tsp_items.specs.CutLine.{NamesValue, ReadsNumber, MayOpen};
 
 use crate::fault::LineFault;
+use crate::shape::Shape;
 use tsp_number::parse_whole;
-use tsp_value::{Field, Keyword, Word, is_blank, value_of};
+use tsp_value::{Field, Keyword, MOST_MATRIX_NODES, Word, is_blank, value_of};
 
 /// A word line, cut into its parts.
 #[derive(Clone, Copy)]
@@ -100,15 +101,21 @@ pub(crate) fn number(value: &[u8], low: i64, high: i64) -> Result<i64, LineFault
     }
 }
 
-/// The number of nodes of a section that may be opened: one that doesn't stand yet, whose line has
-/// no value, after DIMENSION.
+/// The number of nodes of a section that a line may open: one of this shape that doesn't stand yet,
+/// whose line has no value, and but for tours after DIMENSION. Where there is no DIMENSION the
+/// answer for tours is 0.
 ///
 /// # Errors
 ///
-/// The section stands (`Repeated`), its line has a value (`SectionValue`), or no line of DIMENSION
-/// came before it (`SectionEarly`).
-pub fn may_open(stands: bool, value: &[u8], dimension: Option<u32>) -> Result<u32, LineFault>
-    ensures { MayOpen stands value.now dimension result }
+/// The section stands (`Repeated`), its line has a value (`SectionValue`), no line of DIMENSION came
+/// before it (`SectionEarly`), or the file has more nodes than a matrix may have (`TooManyNodes`).
+pub fn may_open(
+    shape: Shape,
+    stands: bool,
+    value: &[u8],
+    dimension: Option<u32>,
+) -> Result<u32, LineFault>
+    ensures { MayOpen shape stands value.now dimension result }
 {
     if stands {
         return Err(LineFault::Repeated);
@@ -117,7 +124,11 @@ pub fn may_open(stands: bool, value: &[u8], dimension: Option<u32>) -> Result<u3
         return Err(LineFault::SectionValue);
     }
     match dimension {
+        None if shape != Shape::Tours => Err(LineFault::SectionEarly),
+        None => Ok(0),
+        Some(nodes) if shape == Shape::Weights && nodes > MOST_MATRIX_NODES => {
+            Err(LineFault::TooManyNodes)
+        }
         Some(nodes) => Ok(nodes),
-        None => Err(LineFault::SectionEarly),
     }
 }

@@ -9,9 +9,8 @@ use Rattle.tsp_items.specs.Items.{Item, Line, NumberWord, LineEnd, is_end_line, 
 use Rattle.tsp_items.specs.Earlier.{open_section}
 use Rattle.tsp_value.specs.Limits.{most_file_bytes}
 use Rattle.tsp_items.specs.Text.{settled_part}
-use Rattle.tsp_read.specs.declared.state.part.Part.{Part}
+use Rattle.tsp_read.specs.declared.state.reading.OpenSection.{OpenSection}
 use Rattle.tsp_read.specs.declared.state.reading.Reading.{Reading}
-use Rattle.tsp_read.specs.Open.{section_of}
 use Rattle.tsp_read.specs.Holds.{OpenHolds}
 use Rattle.tsp_read.specs.Feed.{IsEnded}
 
@@ -57,9 +56,9 @@ closed_by_end (item ∷ items) any = by_case (is_end_line item) refl (closed_by_
         any_front (reverse (to_end_line items)) item e (sym (ap has_end_line same) ∙ any) in
         ap open_section same ∙ front_decides (reverse (to_end_line items)) item before ∙ rest before
 
-no_part : (opened : Option Part) (items : List Item) → OpenHolds opened items → open_section items ≡ None → is_some opened ≡ false
+no_part : (opened : Option OpenSection) (items : List Item) → OpenHolds opened items → open_section items ≡ None → is_some opened ≡ false
 no_part None items h none = refl
-no_part (Some p) items h none = absurd (none-some (section_of p) (sym none ∙ h.0))
+no_part (Some p) items h none = absurd (none-some p.field (sym none ∙ h.0))
 
-pub ended_none : (reading : Reading) (bytes : List ℕ) → IsEnded reading bytes → is_some reading.open_part ≡ false
-ended_none reading bytes h = no_part reading.open_part (settled_part bytes) h.holds.part (closed_by_end (settled_items (take most_file_bytes bytes)) h.ended)
+pub ended_none : (reading : Reading) (bytes : List ℕ) → IsEnded reading bytes → is_some reading.opened ≡ false
+ended_none reading bytes h = no_part reading.opened (settled_part bytes) h.holds.part (closed_by_end (settled_items (take most_file_bytes bytes)) h.ended)

@@ -1,8 +1,9 @@
 -- A line of a keyword: the field that it gives, and its rows.
-use Rattle.std.proofs.Common.{cond, ◌≡◌, ℕ, Bool, true, false, List, [], ◌∷◌, set, get_or, refl, sym, ap, subst, ◌∙◌, Option, Some, None, Result, Ok, Err}
+use Rattle.std.proofs.Common.{cond, ◌≡◌, ℕ, Bool, true, false, List, ◌∷◌, set, get_or, refl, sym, ap, subst, ◌∙◌, Option, Some, None, Result, Ok, Err}
 use Rattle.std.specs.Prelude.{ℤ, pos, nat_lt, is_some, is_none}
 use Rattle.std.specs.Option.{option_map}
 use Rattle.std.specs.Result.{result_ok}
+use Rattle.std.specs.List.{find}
 use Rattle.tsp_number.specs.declared.fault.NumberFault.{NumberFault}
 use Rattle.tsp_number.specs.Reading.{whole_of}
 use Rattle.tsp_value.specs.declared.kinds.Kind.{Kind}
@@ -10,28 +11,32 @@ use Rattle.tsp_value.specs.declared.kinds.WeightKind.{WeightKind}
 use Rattle.tsp_value.specs.declared.kinds.WeightFormat.{WeightFormat}
 use Rattle.tsp_value.specs.declared.kinds.CoordKind.{CoordKind}
 use Rattle.tsp_value.specs.declared.kinds.DisplayKind.{DisplayKind}
-use Rattle.tsp_value.specs.declared.field.Field.TheVariants.{TypeKey, DimensionKey, CapacityKey, ScaleKey, EdgeWeightTypeKey, EdgeWeightFormatKey, NodeCoordTypeKey, DisplayDataTypeKey, NodeCoordPart, DisplayDataPart, DemandPart, DepotPart, FixedEdgesPart, EdgeWeightPart, NodePotentialPart, RowPotentialPart, ColumnPotentialPart}
+use Rattle.tsp_value.specs.declared.field.Field.{Field}
+use Rattle.tsp_value.specs.declared.field.Field.TheVariants.{TypeKey, DimensionKey, CapacityKey, ScaleKey, EdgeWeightTypeKey, EdgeWeightFormatKey, NodeCoordTypeKey, DisplayDataTypeKey, NodeCoordPart, DisplayDataPart, DemandPart, DepotPart, FixedEdgesPart, EdgeWeightPart, TourPart, NodePotentialPart, RowPotentialPart, ColumnPotentialPart}
 use Rattle.tsp_value.specs.declared.keyword.Keyword.TheVariants.{Known}
 use Rattle.tsp_value.specs.Limits.{most_nodes, most_capacity, most_scale, most_line_bytes}
 use Rattle.tsp_value.specs.Words.{kind_word, weight_kind_word, weight_format_word, coord_kind_word, display_kind_word, kinds, weight_kinds, weight_formats, coord_kinds, display_kinds}
 use Rattle.tsp_fields.specs.Fields.{Fields, fields_of}
 use Rattle.tsp_items.specs.declared.fault.StepFault.{StepFault}
 use Rattle.tsp_items.specs.declared.fault.StepFault.TheVariants as steps
-use Rattle.tsp_read.specs.declared.state.part.Part.{Part}
+use Rattle.tsp_read.specs.declared.state.reading.OpenSection.{OpenSection}
 use Rattle.tsp_read.specs.declared.state.reading.Reading.{Reading}
 use Rattle.tsp_items.specs.Lines.{is_filled, first_word}
 use Rattle.tsp_items.specs.Items.{WordLine, Item, Line}
-use Rattle.tsp_items.specs.Earlier.{has_line, open_section}
+use Rattle.tsp_items.specs.Earlier.{same_field, has_line, open_section}
 use Rattle.tsp_items.specs.Values.{kind_named, weight_kind_named, weight_format_named, coord_kind_named, display_kind_named, is_left_out}
 use Rattle.tsp_items.specs.Rows.{row_of}
-use Rattle.tsp_items.specs.Spells.{fields_by, is_incomplete}
+use Rattle.tsp_items.specs.FirstFault.{IsClean}
+use Rattle.tsp_items.specs.Shapes.{is_section_field}
+use Rattle.tsp_items.specs.Spells.{fields_by, sections_in_order, first_incomplete}
 use Rattle.tsp_items.specs.CutLine.{named_rows, SetsNamed, numbered_rows, SetsNumber, SetsCount}
-use Rattle.tsp_read.specs.Holds.{fields_there, sections_there, is_closed, is_closed_incomplete, flags_in, tests_at, OpenHolds, LineAnswers}
+use Rattle.tsp_read.specs.Holds.{fields_there, is_closed, is_closed_incomplete, OpenHolds, LineAnswers}
 use Rattle.tsp_read.proofs.Clean.{clean_more}
+use Rattle.tsp_read.proofs.ValidStanding.{after_dimension}
 
 -- no section is open after a line that opens none
-pub still_none : (old new : Reading) (items : List Item) → open_section items ≡ None → new.open_part ≡ old.open_part → old.open_part ≡ None → OpenHolds new.open_part items
-still_none old new items o same none = let P : Option Part → Type 0 = λ part. OpenHolds part items in subst P (sym (same ∙ none)) o
+pub still_none : (old new : Reading) (items : List Item) → open_section items ≡ None → new.opened ≡ old.opened → old.opened ≡ None → OpenHolds new.opened items
+still_none old new items o same none = let P : Option OpenSection → Type 0 = λ part. OpenHolds part items in subst P (sym (same ∙ none)) o
 
 pub some_mapped : {A B : Type 0} (f : A → B) (o : Option A) → is_some (option_map f o) ≡ is_some o
 some_mapped f None = refl
@@ -57,22 +62,21 @@ kind_rows earlier line short = rw (short, cond_same (is_none (kind_named (first_
 
 pub kind_line : (old new : Reading) (line : WordLine) (slot : Option Kind) (r : Result (Unit {0}) StepFault)
     → SetsNamed kind_word kinds TypeKey (first_word line.value) old.draft.kind slot r
-    → fields_of new.draft ≡ (let fields = fields_of old.draft in record fields { kind = slot }) → new.incomplete ≡ old.incomplete → new.open_part ≡ old.open_part
+    → fields_of new.draft ≡ (let fields = fields_of old.draft in record fields { kind = slot }) → new.incomplete ≡ old.incomplete → new.opened ≡ old.opened
     → LineAnswers old TypeKey line new r
-kind_line old new line slot (Ok done) sets is same_flags same_part earlier h short =
+kind_line old new line slot (Ok done) sets is same_first same_part earlier h short =
     let there : is_some old.draft.kind ≡ has_line TypeKey earlier = ap (λ (xs : List Bool). get_or xs 1 false) h.stand in
     let found : is_some (kind_named (first_word line.value)) ≡ true = ap (λ (o : Option Kind). is_some o) sets.2 ∙ sets.3 in
     record {
       clean = clean_more earlier (Line (Known TypeKey) line) h.clean (kind_rows earlier line short ∙ named_none (has_line TypeKey earlier) (is_left_out TypeKey (first_word line.value)) (kind_named (first_word line.value)) (sym there ∙ sets.0) sets.1 found);
-      late = h.late;
       stand = ap fields_there is ∙ ap (λ (b : Bool). set (fields_there (fields_of old.draft)) 1 b) sets.3 ∙ ap (λ (xs : List Bool). set xs 1 true) h.stand;
       spelled = is ∙ ap (λ (fields : Fields). record fields { kind = slot }) h.spelled
           ∙ ap (λ (k : Option Kind). let fields = fields_by (λ field. has_line field earlier) earlier in record fields { kind = k }) (sym sets.2);
-      flagged = ap flags_in same_flags ∙ h.flagged;
+      incomplete = same_first ∙ h.incomplete;
       part = still_none old new (Line (Known TypeKey) line ∷ earlier) refl same_part h.part;
     }
-kind_line old new line slot (Err steps.Memory) sets is same_flags same_part earlier h short = tt
-kind_line old new line slot (Err (steps.Fault fault)) sets is same_flags same_part earlier h short =
+kind_line old new line slot (Err steps.Memory) sets is same_first same_part earlier h short = tt
+kind_line old new line slot (Err (steps.Fault fault)) sets is same_first same_part earlier h short =
     let there : is_some old.draft.kind ≡ has_line TypeKey earlier = ap (λ (xs : List Bool). get_or xs 1 false) h.stand in
     kind_rows earlier line short ∙ ap (λ (b : Bool). named_rows b (is_left_out TypeKey (first_word line.value)) (kind_named (first_word line.value))) (sym there) ∙ sets
 
@@ -84,22 +88,21 @@ weight_kind_rows earlier line short = rw (short, cond_same (is_none (weight_kind
 
 pub weight_kind_line : (old new : Reading) (line : WordLine) (slot : Option WeightKind) (r : Result (Unit {0}) StepFault)
     → SetsNamed weight_kind_word weight_kinds EdgeWeightTypeKey (first_word line.value) old.draft.weight_kind slot r
-    → fields_of new.draft ≡ (let fields = fields_of old.draft in record fields { weight_kind = slot }) → new.incomplete ≡ old.incomplete → new.open_part ≡ old.open_part
+    → fields_of new.draft ≡ (let fields = fields_of old.draft in record fields { weight_kind = slot }) → new.incomplete ≡ old.incomplete → new.opened ≡ old.opened
     → LineAnswers old EdgeWeightTypeKey line new r
-weight_kind_line old new line slot (Ok done) sets is same_flags same_part earlier h short =
+weight_kind_line old new line slot (Ok done) sets is same_first same_part earlier h short =
     let there : is_some old.draft.weight_kind ≡ has_line EdgeWeightTypeKey earlier = ap (λ (xs : List Bool). get_or xs 5 false) h.stand in
     let found : is_some (weight_kind_named (first_word line.value)) ≡ true = ap (λ (o : Option WeightKind). is_some o) sets.2 ∙ sets.3 in
     record {
       clean = clean_more earlier (Line (Known EdgeWeightTypeKey) line) h.clean (weight_kind_rows earlier line short ∙ named_none (has_line EdgeWeightTypeKey earlier) (is_left_out EdgeWeightTypeKey (first_word line.value)) (weight_kind_named (first_word line.value)) (sym there ∙ sets.0) sets.1 found);
-      late = h.late;
       stand = ap fields_there is ∙ ap (λ (b : Bool). set (fields_there (fields_of old.draft)) 5 b) sets.3 ∙ ap (λ (xs : List Bool). set xs 5 true) h.stand;
       spelled = is ∙ ap (λ (fields : Fields). record fields { weight_kind = slot }) h.spelled
           ∙ ap (λ (k : Option WeightKind). let fields = fields_by (λ field. has_line field earlier) earlier in record fields { weight_kind = k }) (sym sets.2);
-      flagged = ap flags_in same_flags ∙ h.flagged;
+      incomplete = same_first ∙ h.incomplete;
       part = still_none old new (Line (Known EdgeWeightTypeKey) line ∷ earlier) refl same_part h.part;
     }
-weight_kind_line old new line slot (Err steps.Memory) sets is same_flags same_part earlier h short = tt
-weight_kind_line old new line slot (Err (steps.Fault fault)) sets is same_flags same_part earlier h short =
+weight_kind_line old new line slot (Err steps.Memory) sets is same_first same_part earlier h short = tt
+weight_kind_line old new line slot (Err (steps.Fault fault)) sets is same_first same_part earlier h short =
     let there : is_some old.draft.weight_kind ≡ has_line EdgeWeightTypeKey earlier = ap (λ (xs : List Bool). get_or xs 5 false) h.stand in
     weight_kind_rows earlier line short ∙ ap (λ (b : Bool). named_rows b (is_left_out EdgeWeightTypeKey (first_word line.value)) (weight_kind_named (first_word line.value))) (sym there) ∙ sets
 
@@ -111,22 +114,21 @@ weight_format_rows earlier line short = rw (short, cond_same (is_none (weight_fo
 
 pub weight_format_line : (old new : Reading) (line : WordLine) (slot : Option WeightFormat) (r : Result (Unit {0}) StepFault)
     → SetsNamed weight_format_word weight_formats EdgeWeightFormatKey (first_word line.value) old.draft.weight_format slot r
-    → fields_of new.draft ≡ (let fields = fields_of old.draft in record fields { weight_format = slot }) → new.incomplete ≡ old.incomplete → new.open_part ≡ old.open_part
+    → fields_of new.draft ≡ (let fields = fields_of old.draft in record fields { weight_format = slot }) → new.incomplete ≡ old.incomplete → new.opened ≡ old.opened
     → LineAnswers old EdgeWeightFormatKey line new r
-weight_format_line old new line slot (Ok done) sets is same_flags same_part earlier h short =
+weight_format_line old new line slot (Ok done) sets is same_first same_part earlier h short =
     let there : is_some old.draft.weight_format ≡ has_line EdgeWeightFormatKey earlier = ap (λ (xs : List Bool). get_or xs 6 false) h.stand in
     let found : is_some (weight_format_named (first_word line.value)) ≡ true = ap (λ (o : Option WeightFormat). is_some o) sets.2 ∙ sets.3 in
     record {
       clean = clean_more earlier (Line (Known EdgeWeightFormatKey) line) h.clean (weight_format_rows earlier line short ∙ named_none (has_line EdgeWeightFormatKey earlier) (is_left_out EdgeWeightFormatKey (first_word line.value)) (weight_format_named (first_word line.value)) (sym there ∙ sets.0) sets.1 found);
-      late = h.late;
       stand = ap fields_there is ∙ ap (λ (b : Bool). set (fields_there (fields_of old.draft)) 6 b) sets.3 ∙ ap (λ (xs : List Bool). set xs 6 true) h.stand;
       spelled = is ∙ ap (λ (fields : Fields). record fields { weight_format = slot }) h.spelled
           ∙ ap (λ (k : Option WeightFormat). let fields = fields_by (λ field. has_line field earlier) earlier in record fields { weight_format = k }) (sym sets.2);
-      flagged = ap flags_in same_flags ∙ h.flagged;
+      incomplete = same_first ∙ h.incomplete;
       part = still_none old new (Line (Known EdgeWeightFormatKey) line ∷ earlier) refl same_part h.part;
     }
-weight_format_line old new line slot (Err steps.Memory) sets is same_flags same_part earlier h short = tt
-weight_format_line old new line slot (Err (steps.Fault fault)) sets is same_flags same_part earlier h short =
+weight_format_line old new line slot (Err steps.Memory) sets is same_first same_part earlier h short = tt
+weight_format_line old new line slot (Err (steps.Fault fault)) sets is same_first same_part earlier h short =
     let there : is_some old.draft.weight_format ≡ has_line EdgeWeightFormatKey earlier = ap (λ (xs : List Bool). get_or xs 6 false) h.stand in
     weight_format_rows earlier line short ∙ ap (λ (b : Bool). named_rows b (is_left_out EdgeWeightFormatKey (first_word line.value)) (weight_format_named (first_word line.value))) (sym there) ∙ sets
 
@@ -138,22 +140,21 @@ coord_kind_rows earlier line short = rw (short, cond_same (is_none (coord_kind_n
 
 pub coord_kind_line : (old new : Reading) (line : WordLine) (slot : Option CoordKind) (r : Result (Unit {0}) StepFault)
     → SetsNamed coord_kind_word coord_kinds NodeCoordTypeKey (first_word line.value) old.draft.coord_kind slot r
-    → fields_of new.draft ≡ (let fields = fields_of old.draft in record fields { coord_kind = slot }) → new.incomplete ≡ old.incomplete → new.open_part ≡ old.open_part
+    → fields_of new.draft ≡ (let fields = fields_of old.draft in record fields { coord_kind = slot }) → new.incomplete ≡ old.incomplete → new.opened ≡ old.opened
     → LineAnswers old NodeCoordTypeKey line new r
-coord_kind_line old new line slot (Ok done) sets is same_flags same_part earlier h short =
+coord_kind_line old new line slot (Ok done) sets is same_first same_part earlier h short =
     let there : is_some old.draft.coord_kind ≡ has_line NodeCoordTypeKey earlier = ap (λ (xs : List Bool). get_or xs 7 false) h.stand in
     let found : is_some (coord_kind_named (first_word line.value)) ≡ true = ap (λ (o : Option CoordKind). is_some o) sets.2 ∙ sets.3 in
     record {
       clean = clean_more earlier (Line (Known NodeCoordTypeKey) line) h.clean (coord_kind_rows earlier line short ∙ named_none (has_line NodeCoordTypeKey earlier) (is_left_out NodeCoordTypeKey (first_word line.value)) (coord_kind_named (first_word line.value)) (sym there ∙ sets.0) sets.1 found);
-      late = h.late;
       stand = ap fields_there is ∙ ap (λ (b : Bool). set (fields_there (fields_of old.draft)) 7 b) sets.3 ∙ ap (λ (xs : List Bool). set xs 7 true) h.stand;
       spelled = is ∙ ap (λ (fields : Fields). record fields { coord_kind = slot }) h.spelled
           ∙ ap (λ (k : Option CoordKind). let fields = fields_by (λ field. has_line field earlier) earlier in record fields { coord_kind = k }) (sym sets.2);
-      flagged = ap flags_in same_flags ∙ h.flagged;
+      incomplete = same_first ∙ h.incomplete;
       part = still_none old new (Line (Known NodeCoordTypeKey) line ∷ earlier) refl same_part h.part;
     }
-coord_kind_line old new line slot (Err steps.Memory) sets is same_flags same_part earlier h short = tt
-coord_kind_line old new line slot (Err (steps.Fault fault)) sets is same_flags same_part earlier h short =
+coord_kind_line old new line slot (Err steps.Memory) sets is same_first same_part earlier h short = tt
+coord_kind_line old new line slot (Err (steps.Fault fault)) sets is same_first same_part earlier h short =
     let there : is_some old.draft.coord_kind ≡ has_line NodeCoordTypeKey earlier = ap (λ (xs : List Bool). get_or xs 7 false) h.stand in
     coord_kind_rows earlier line short ∙ ap (λ (b : Bool). named_rows b (is_left_out NodeCoordTypeKey (first_word line.value)) (coord_kind_named (first_word line.value))) (sym there) ∙ sets
 
@@ -165,22 +166,21 @@ display_kind_rows earlier line short = rw (short, cond_same (is_none (display_ki
 
 pub display_kind_line : (old new : Reading) (line : WordLine) (slot : Option DisplayKind) (r : Result (Unit {0}) StepFault)
     → SetsNamed display_kind_word display_kinds DisplayDataTypeKey (first_word line.value) old.draft.display_kind slot r
-    → fields_of new.draft ≡ (let fields = fields_of old.draft in record fields { display_kind = slot }) → new.incomplete ≡ old.incomplete → new.open_part ≡ old.open_part
+    → fields_of new.draft ≡ (let fields = fields_of old.draft in record fields { display_kind = slot }) → new.incomplete ≡ old.incomplete → new.opened ≡ old.opened
     → LineAnswers old DisplayDataTypeKey line new r
-display_kind_line old new line slot (Ok done) sets is same_flags same_part earlier h short =
+display_kind_line old new line slot (Ok done) sets is same_first same_part earlier h short =
     let there : is_some old.draft.display_kind ≡ has_line DisplayDataTypeKey earlier = ap (λ (xs : List Bool). get_or xs 8 false) h.stand in
     let found : is_some (display_kind_named (first_word line.value)) ≡ true = ap (λ (o : Option DisplayKind). is_some o) sets.2 ∙ sets.3 in
     record {
       clean = clean_more earlier (Line (Known DisplayDataTypeKey) line) h.clean (display_kind_rows earlier line short ∙ named_none (has_line DisplayDataTypeKey earlier) (is_left_out DisplayDataTypeKey (first_word line.value)) (display_kind_named (first_word line.value)) (sym there ∙ sets.0) sets.1 found);
-      late = h.late;
       stand = ap fields_there is ∙ ap (λ (b : Bool). set (fields_there (fields_of old.draft)) 8 b) sets.3 ∙ ap (λ (xs : List Bool). set xs 8 true) h.stand;
       spelled = is ∙ ap (λ (fields : Fields). record fields { display_kind = slot }) h.spelled
           ∙ ap (λ (k : Option DisplayKind). let fields = fields_by (λ field. has_line field earlier) earlier in record fields { display_kind = k }) (sym sets.2);
-      flagged = ap flags_in same_flags ∙ h.flagged;
+      incomplete = same_first ∙ h.incomplete;
       part = still_none old new (Line (Known DisplayDataTypeKey) line ∷ earlier) refl same_part h.part;
     }
-display_kind_line old new line slot (Err steps.Memory) sets is same_flags same_part earlier h short = tt
-display_kind_line old new line slot (Err (steps.Fault fault)) sets is same_flags same_part earlier h short =
+display_kind_line old new line slot (Err steps.Memory) sets is same_first same_part earlier h short = tt
+display_kind_line old new line slot (Err (steps.Fault fault)) sets is same_first same_part earlier h short =
     let there : is_some old.draft.display_kind ≡ has_line DisplayDataTypeKey earlier = ap (λ (xs : List Bool). get_or xs 8 false) h.stand in
     display_kind_rows earlier line short ∙ ap (λ (b : Bool). named_rows b (is_left_out DisplayDataTypeKey (first_word line.value)) (display_kind_named (first_word line.value))) (sym there) ∙ sets
 
@@ -192,22 +192,21 @@ capacity_rows earlier line short = rw short refl
 
 pub capacity_line : (old new : Reading) (line : WordLine) (slot : Option ℤ) (r : Result (Unit {0}) StepFault)
     → SetsNumber (pos 1) (pos most_capacity) line.value old.draft.capacity slot r
-    → fields_of new.draft ≡ (let fields = fields_of old.draft in record fields { capacity = slot }) → new.incomplete ≡ old.incomplete → new.open_part ≡ old.open_part
+    → fields_of new.draft ≡ (let fields = fields_of old.draft in record fields { capacity = slot }) → new.incomplete ≡ old.incomplete → new.opened ≡ old.opened
     → LineAnswers old CapacityKey line new r
-capacity_line old new line slot (Ok done) sets is same_flags same_part earlier h short =
+capacity_line old new line slot (Ok done) sets is same_first same_part earlier h short =
     let there : is_some old.draft.capacity ≡ has_line CapacityKey earlier = ap (λ (xs : List Bool). get_or xs 3 false) h.stand in
     let filled : is_some slot ≡ true = ap (λ (o : Option ℤ). is_some o) sets.4 in
     record {
       clean = clean_more earlier (Line (Known CapacityKey) line) h.clean (capacity_rows earlier line short ∙ numbered_none (has_line CapacityKey earlier) line.value (whole_of (first_word line.value) (pos 1) (pos most_capacity)) sets.2 (sym there ∙ sets.0) sets.1 sets.3);
-      late = h.late;
       stand = ap fields_there is ∙ ap (λ (b : Bool). set (fields_there (fields_of old.draft)) 3 b) filled ∙ ap (λ (xs : List Bool). set xs 3 true) h.stand;
       spelled = is ∙ ap (λ (fields : Fields). record fields { capacity = slot }) h.spelled
           ∙ ap (λ (k : Option ℤ). let fields = fields_by (λ field. has_line field earlier) earlier in record fields { capacity = k }) (sets.4 ∙ sym (ap (λ (r : Result ℤ NumberFault). result_ok r) sets.3));
-      flagged = ap flags_in same_flags ∙ h.flagged;
+      incomplete = same_first ∙ h.incomplete;
       part = still_none old new (Line (Known CapacityKey) line ∷ earlier) refl same_part h.part;
     }
-capacity_line old new line slot (Err steps.Memory) sets is same_flags same_part earlier h short = tt
-capacity_line old new line slot (Err (steps.Fault fault)) sets is same_flags same_part earlier h short =
+capacity_line old new line slot (Err steps.Memory) sets is same_first same_part earlier h short = tt
+capacity_line old new line slot (Err (steps.Fault fault)) sets is same_first same_part earlier h short =
     let there : is_some old.draft.capacity ≡ has_line CapacityKey earlier = ap (λ (xs : List Bool). get_or xs 3 false) h.stand in
     capacity_rows earlier line short ∙ ap (λ (b : Bool). numbered_rows b line.value (whole_of (first_word line.value) (pos 1) (pos most_capacity))) (sym there) ∙ sets
 
@@ -219,22 +218,21 @@ scale_rows earlier line short = rw short refl
 
 pub scale_line : (old new : Reading) (line : WordLine) (slot : Option ℤ) (r : Result (Unit {0}) StepFault)
     → SetsNumber (pos 1) (pos most_scale) line.value old.draft.scale slot r
-    → fields_of new.draft ≡ (let fields = fields_of old.draft in record fields { scale = slot }) → new.incomplete ≡ old.incomplete → new.open_part ≡ old.open_part
+    → fields_of new.draft ≡ (let fields = fields_of old.draft in record fields { scale = slot }) → new.incomplete ≡ old.incomplete → new.opened ≡ old.opened
     → LineAnswers old ScaleKey line new r
-scale_line old new line slot (Ok done) sets is same_flags same_part earlier h short =
+scale_line old new line slot (Ok done) sets is same_first same_part earlier h short =
     let there : is_some old.draft.scale ≡ has_line ScaleKey earlier = ap (λ (xs : List Bool). get_or xs 4 false) h.stand in
     let filled : is_some slot ≡ true = ap (λ (o : Option ℤ). is_some o) sets.4 in
     record {
       clean = clean_more earlier (Line (Known ScaleKey) line) h.clean (scale_rows earlier line short ∙ numbered_none (has_line ScaleKey earlier) line.value (whole_of (first_word line.value) (pos 1) (pos most_scale)) sets.2 (sym there ∙ sets.0) sets.1 sets.3);
-      late = h.late;
       stand = ap fields_there is ∙ ap (λ (b : Bool). set (fields_there (fields_of old.draft)) 4 b) filled ∙ ap (λ (xs : List Bool). set xs 4 true) h.stand;
       spelled = is ∙ ap (λ (fields : Fields). record fields { scale = slot }) h.spelled
           ∙ ap (λ (k : Option ℤ). let fields = fields_by (λ field. has_line field earlier) earlier in record fields { scale = k }) (sets.4 ∙ sym (ap (λ (r : Result ℤ NumberFault). result_ok r) sets.3));
-      flagged = ap flags_in same_flags ∙ h.flagged;
+      incomplete = same_first ∙ h.incomplete;
       part = still_none old new (Line (Known ScaleKey) line ∷ earlier) refl same_part h.part;
     }
-scale_line old new line slot (Err steps.Memory) sets is same_flags same_part earlier h short = tt
-scale_line old new line slot (Err (steps.Fault fault)) sets is same_flags same_part earlier h short =
+scale_line old new line slot (Err steps.Memory) sets is same_first same_part earlier h short = tt
+scale_line old new line slot (Err (steps.Fault fault)) sets is same_first same_part earlier h short =
     let there : is_some old.draft.scale ≡ has_line ScaleKey earlier = ap (λ (xs : List Bool). get_or xs 4 false) h.stand in
     scale_rows earlier line short ∙ ap (λ (b : Bool). numbered_rows b line.value (whole_of (first_word line.value) (pos 1) (pos most_scale))) (sym there) ∙ sets
 
@@ -249,30 +247,42 @@ dimension_field : (earlier : List Item) (line : WordLine) (n : ℕ) → whole_of
     → (let fields = fields_by (λ field. has_line field earlier) earlier in record fields { dimension = Some n }) ≡ fields_by (is_closed (Line (Known DimensionKey) line ∷ earlier)) (Line (Known DimensionKey) line ∷ earlier)
 dimension_field earlier line n read c0 c1 c2 c3 c4 c5 c6 c7 c8 = rw (c0, c1, c2, c3, c4, c5, c6, c7, c8, read) refl
 
-dimension_tests : (earlier : List Item) (line : WordLine) → has_line NodeCoordPart earlier ≡ false → has_line DisplayDataPart earlier ≡ false → has_line DemandPart earlier ≡ false → has_line DepotPart earlier ≡ false → has_line FixedEdgesPart earlier ≡ false → has_line EdgeWeightPart earlier ≡ false → has_line NodePotentialPart earlier ≡ false → has_line RowPotentialPart earlier ≡ false → has_line ColumnPotentialPart earlier ≡ false
-    → tests_at (is_incomplete earlier) ≡ tests_at (is_closed_incomplete (Line (Known DimensionKey) line ∷ earlier))
-dimension_tests earlier line c0 c1 c2 c3 c4 c5 c6 c7 c8 = rw (c0, c1, c2, c4, c6, c7, c8) refl
+dimension_first : (earlier : List Item) (line : WordLine) → has_line NodeCoordPart earlier ≡ false → has_line DisplayDataPart earlier ≡ false → has_line DemandPart earlier ≡ false → has_line DepotPart earlier ≡ false → has_line FixedEdgesPart earlier ≡ false → has_line EdgeWeightPart earlier ≡ false → has_line NodePotentialPart earlier ≡ false → has_line RowPotentialPart earlier ≡ false → has_line ColumnPotentialPart earlier ≡ false
+    → first_incomplete earlier ≡ find (is_closed_incomplete (Line (Known DimensionKey) line ∷ earlier)) sections_in_order
+dimension_first earlier line c0 c1 c2 c3 c4 c5 c6 c7 c8 = rw (c0, c1, c2, c3, c4, c5, c6, c7, c8) refl
+
+-- no section but the tours stands before DIMENSION
+none_before : (f : Field) (earlier : List Item) → is_section_field f ≡ true → same_field TourPart f ≡ false → IsClean earlier → has_line DimensionKey earlier ≡ false
+    → has_line f earlier ≡ false
+none_before f earlier section other clean none = by_case (has_line f earlier) refl
+  where
+    by_case : (b : Bool) → has_line f earlier ≡ b → b ≡ false
+    by_case true e = sym (after_dimension f section other earlier clean e) ∙ none
+    by_case false e = refl
 
 pub dimension_line : (old new : Reading) (line : WordLine) (slot : Option ℕ) (r : Result (Unit {0}) StepFault)
     → SetsCount most_nodes line.value old.draft.dimension slot r
-    → fields_of new.draft ≡ (let fields = fields_of old.draft in record fields { dimension = slot }) → new.incomplete ≡ old.incomplete → new.open_part ≡ old.open_part
+    → fields_of new.draft ≡ (let fields = fields_of old.draft in record fields { dimension = slot }) → new.incomplete ≡ old.incomplete → new.opened ≡ old.opened
     → LineAnswers old DimensionKey line new r
-dimension_line old new line slot (Ok done) sets is same_flags same_part earlier h short =
+dimension_line old new line slot (Ok done) sets is same_first same_part earlier h short =
     let there : is_some old.draft.dimension ≡ has_line DimensionKey earlier = ap (λ (xs : List Bool). get_or xs 2 false) h.stand in
     let filled : is_some slot ≡ true = ap (λ (o : Option ℕ). is_some o) sets.4 in
-    let none = h.late (sym there ∙ sets.0) in
-    let at : (k : ℕ) → get_or (sections_there earlier) k false ≡ get_or (false ∷ false ∷ false ∷ false ∷ false ∷ false ∷ false ∷ false ∷ false ∷ []) k false = λ k. ap (λ (xs : List Bool). get_or xs k false) none in
+    let none : (f : Field) → is_section_field f ≡ true → same_field TourPart f ≡ false → has_line f earlier ≡ false =
+        λ f section other. none_before f earlier section other h.clean (sym there ∙ sets.0) in
     record {
       clean = clean_more earlier (Line (Known DimensionKey) line) h.clean (dimension_rows earlier line short ∙ numbered_none (has_line DimensionKey earlier) line.value (whole_of (first_word line.value) (pos 1) (pos most_nodes)) (pos sets.2) (sym there ∙ sets.0) sets.1 sets.3);
-      late = λ e. cc;
       stand = ap fields_there is ∙ ap (λ (b : Bool). set (fields_there (fields_of old.draft)) 2 b) filled ∙ ap (λ (xs : List Bool). set xs 2 true) h.stand;
       spelled = is ∙ ap (λ (fields : Fields). record fields { dimension = slot }) h.spelled
           ∙ ap (λ (k : Option ℕ). let fields = fields_by (λ field. has_line field earlier) earlier in record fields { dimension = k }) sets.4
-          ∙ dimension_field earlier line sets.2 sets.3 (at 0) (at 1) (at 2) (at 3) (at 4) (at 5) (at 6) (at 7) (at 8);
-      flagged = ap flags_in same_flags ∙ h.flagged ∙ dimension_tests earlier line (at 0) (at 1) (at 2) (at 3) (at 4) (at 5) (at 6) (at 7) (at 8);
+          ∙ dimension_field earlier line sets.2 sets.3 (none NodeCoordPart refl refl) (none DisplayDataPart refl refl) (none DemandPart refl refl)
+          (none DepotPart refl refl) (none FixedEdgesPart refl refl) (none EdgeWeightPart refl refl)
+          (none NodePotentialPart refl refl) (none RowPotentialPart refl refl) (none ColumnPotentialPart refl refl);
+      incomplete = same_first ∙ h.incomplete ∙ dimension_first earlier line (none NodeCoordPart refl refl) (none DisplayDataPart refl refl) (none DemandPart refl refl)
+          (none DepotPart refl refl) (none FixedEdgesPart refl refl) (none EdgeWeightPart refl refl)
+          (none NodePotentialPart refl refl) (none RowPotentialPart refl refl) (none ColumnPotentialPart refl refl);
       part = still_none old new (Line (Known DimensionKey) line ∷ earlier) refl same_part h.part;
     }
-dimension_line old new line slot (Err steps.Memory) sets is same_flags same_part earlier h short = tt
-dimension_line old new line slot (Err (steps.Fault fault)) sets is same_flags same_part earlier h short =
+dimension_line old new line slot (Err steps.Memory) sets is same_first same_part earlier h short = tt
+dimension_line old new line slot (Err (steps.Fault fault)) sets is same_first same_part earlier h short =
     let there : is_some old.draft.dimension ≡ has_line DimensionKey earlier = ap (λ (xs : List Bool). get_or xs 2 false) h.stand in
     dimension_rows earlier line short ∙ ap (λ (b : Bool). numbered_rows b line.value (whole_of (first_word line.value) (pos 1) (pos most_nodes))) (sym there) ∙ sets

@@ -8,14 +8,13 @@ use Rattle.tsp_items.specs.declared.fault.ReadFault.TheVariants as faults
 use Rattle.tsp_read.specs.declared.state.reading.Reading.{Reading}
 use Rattle.tsp_read.specs.declared.intake.Intake.{Intake}
 use Rattle.tsp_read.specs.declared.begun.Begun.{Begun}
-use Rattle.tsp_read.specs.declared.state.part.Part.{Part}
+use Rattle.tsp_read.specs.declared.state.reading.OpenSection.{OpenSection}
 use Rattle.tsp_read.specs.declared.stage.Stage.TheVariants.{Going, Ended, Refused}
 use Rattle.tsp_read.specs.declared.feed.Feed.{Feed}
 use Rattle.tsp_fields.specs.Fields.{Fields}
 use Rattle.tsp_items.specs.Lines.{ends_line}
 use Rattle.tsp_items.specs.Earlier.{open_section}
 use Rattle.tsp_items.specs.FirstFault.{fault_in}
-use Rattle.tsp_read.specs.Open.{section_of}
 use Rattle.tsp_read.specs.Cuts.{AreCut}
 use Rattle.tsp_items.specs.Text.{is_too_long, part, fault, settled_part}
 use Rattle.tsp_read.specs.Feed.{IsGoing, IsEnded, HasSettled, HasTaken, IsWhole, Ends}
@@ -179,16 +178,16 @@ part_closed bytes true e bare =
 part_closed bytes false e bare =
     ap open_section (part_short bytes e ∙ ap (λ (xs : List Item). reverse (to_end_line xs)) (sym (all_items bytes))) ∙ bare_part bytes false bare
 
-stands_open : (opened : Option Part) (items : List Item) → OpenHolds opened items → is_some opened ≡ true → open_section items ≡ None → ⊥
+stands_open : (opened : Option OpenSection) (items : List Item) → OpenHolds opened items → is_some opened ≡ true → open_section items ≡ None → ⊥
 stands_open None items h some none = false≢true some
-stands_open (Some p) items h some none = none-some (section_of p) (sym none ∙ h.0)
+stands_open (Some p) items h some none = none-some p.field (sym none ∙ h.0)
 
 -- where a section stood open, there was more than blanks and line ends
-pub open_not_bare : (bytes : List ℕ) (reading : Reading) → IsWhole reading bytes → is_some reading.open_part ≡ true → is_bare bytes ≡ false
+pub open_not_bare : (bytes : List ℕ) (reading : Reading) → IsWhole reading bytes → is_some reading.opened ≡ true → is_bare bytes ≡ false
 open_not_bare bytes reading h some = by_case (is_bare bytes) refl
   where
     by_case : (b : Bool) → is_bare bytes ≡ b → is_bare bytes ≡ false
-    by_case true e = absurd (stands_open reading.open_part (part bytes) h.holds.part some (part_closed bytes (is_too_long bytes) refl e))
+    by_case true e = absurd (stands_open reading.opened (part bytes) h.holds.part some (part_closed bytes (is_too_long bytes) refl e))
     by_case false e = e
 
 -- ---- what a feed answers at the end

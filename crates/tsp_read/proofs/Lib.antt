@@ -12,12 +12,8 @@ pub mod ValidFixed
 pub mod ValidKeywords
 pub mod ValidCuts
 pub mod ValidItems
-pub mod Taken
-pub mod PartSteps
-pub mod CloseSteps
 pub mod KeywordSteps
 pub mod TextSteps
-pub mod OpenSteps
 pub mod Scans
 pub mod LeftSteps
 pub mod NextSteps
@@ -41,3 +37,6 @@ pub mod LastSteps
 pub mod PieceSteps
 pub mod InTime
 pub mod EndLines
+pub mod SectionCases
+pub mod FirstSteps
+pub mod SectionSteps

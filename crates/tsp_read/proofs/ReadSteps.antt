@@ -1,5 +1,5 @@
 -- Reading a text: item by item, and the answer for the whole.
-use Rattle.std.proofs.Common.{◌≡◌, Bool, false, List, ◌∷◌, refl, sym, subst, Option, Some, None, Ok, Err}
+use Rattle.std.proofs.Common.{◌≡◌, ℕ, Bool, false, List, ◌∷◌, refl, sym, subst, Option, Some, None, Ok, Err}
 use Rattle.tsp_items.specs.declared.fault.StepFault.{StepFault}
 use Rattle.tsp_items.specs.declared.fault.StepFault.TheVariants as steps
 use Rattle.tsp_read.specs.declared.state.reading.Reading.{Reading}
@@ -9,14 +9,14 @@ use Rattle.tsp_items.specs.Items.{Item, LineEnd, NumberWord, Line, is_end_line, 
 use Rattle.tsp_items.specs.Rows.{row_of}
 use Rattle.tsp_items.specs.Text.{part, fault}
 use Rattle.tsp_read.specs.Left.{item_next}
-use Rattle.tsp_read.specs.declared.state.part.Part.{Part}
+use Rattle.tsp_read.specs.declared.state.reading.OpenSection.{OpenSection}
 use Rattle.tsp_read.specs.Holds.{OpenHolds, Holds, Answers}
 use Rattle.tsp_read.specs.Reads.{TakesItem}
 use Rattle.tsp_read.proofs.Clean.{clean_more}
 
 -- ---- one item
 
-still_open : (part : Option Part) (earlier : List Item) → OpenHolds part earlier → OpenHolds part (LineEnd ∷ earlier)
+still_open : (part : Option OpenSection) (earlier : List Item) → OpenHolds part earlier → OpenHolds part (LineEnd ∷ earlier)
 still_open None earlier h = h
 still_open (Some part) earlier h = h
 
@@ -24,17 +24,20 @@ still_open (Some part) earlier h = h
 pub line_ends : (reading : Reading) (earlier : List Item) → Holds reading earlier → Holds reading (LineEnd ∷ earlier)
 line_ends reading earlier h = record {
   clean = clean_more earlier LineEnd h.clean refl;
-  late = h.late;
   stand = h.stand;
   spelled = h.spelled;
-  flagged = h.flagged;
-  part = still_open reading.open_part earlier h.part;
+  incomplete = h.incomplete;
+  part = still_open reading.opened earlier h.part;
 }
 
 pub line_ended : (reading : Reading) (earlier : List Item) (item : Next) → item ≡ next.LineEnd → Holds reading earlier → TakesItem earlier (item_next item) reading (Ok false)
 line_ended reading earlier item is h =
     let P : Next → Type 0 = λ i. TakesItem earlier (item_next i) reading (Ok false) in
     subst P (sym is) (line_ends reading earlier h, refl)
+
+pub word_taken : (new : Reading) (earlier : List Item) (item : Next) (word : List ℕ) → item_next item ≡ NumberWord word → Holds new (NumberWord word ∷ earlier)
+    → TakesItem earlier (item_next item) new (Ok false)
+word_taken new earlier item word is h = let P : Item → Type 0 = λ i. TakesItem earlier i new (Ok false) in subst P (sym is) (h, refl)
 
 pub takes_ok : (earlier : List Item) (cut item : Item) (new : Reading) (ended : Bool) → cut ≡ item → Holds new (cut ∷ earlier) → ended ≡ is_end_line cut → TakesItem earlier item new (Ok ended)
 takes_ok earlier cut item new ended same h e = let P : Item → Type 0 = λ i. TakesItem earlier i new (Ok ended) in subst P same (h, e)

@@ -4,16 +4,21 @@ use Rattle.tsp_value.specs.declared.field.Field.{Field}
 use Rattle.tsp_value.specs.declared.field.Field.TheVariants.{NameKey, TypeKey, CommentKey, OtherKey, DimensionKey, CapacityKey, ScaleKey, EdgeWeightTypeKey, EdgeWeightFormatKey, NodeCoordTypeKey, DisplayDataTypeKey, NodeCoordPart, DisplayDataPart, DemandPart, DepotPart, FixedEdgesPart, EdgeWeightPart, TourPart, NodePotentialPart, RowPotentialPart, ColumnPotentialPart}
 use Rattle.tsp_items.specs.declared.fault.StepFault.{StepFault}
 use Rattle.tsp_items.specs.declared.fault.StepFault.TheVariants as steps
-use Rattle.tsp_read.specs.declared.state.part.Part.{Part}
+use Rattle.tsp_items.specs.declared.shape.Shape.{Shape}
+use Rattle.tsp_read.specs.declared.state.reading.OpenSection.{OpenSection}
 use Rattle.tsp_read.specs.declared.state.reading.Reading.{Reading}
 use Rattle.tsp_items.specs.Items.{Item, NumberWord}
 use Rattle.tsp_items.specs.Earlier.{same_field, open_section, words_of}
-use Rattle.tsp_items.specs.Sections.{place_in, nodes_of}
+use Rattle.tsp_items.specs.Shapes.{shape_of, is_section_field}
+use Rattle.tsp_items.specs.Places.{PastEnd}
+use Rattle.tsp_items.specs.Sections.{place_by, place_in, nodes_of}
 use Rattle.tsp_items.specs.Rows.{row_of}
-use Rattle.tsp_items.specs.Parts.{word_fault}
-use Rattle.tsp_items.specs.Spells.{fields_by}
-use Rattle.tsp_read.specs.Open.{section_of, PartHolds, PartAfter, Pushes}
-use Rattle.tsp_read.specs.Holds.{is_closed, is_closed_incomplete, tests_at, OpenHolds, Holds, Answers}
+use Rattle.tsp_items.specs.Parts.{word_fault, Takes}
+use Rattle.tsp_items.specs.Held.{shape_by, HoldsPart, HoldsShape}
+use Rattle.std.specs.Prelude.{is_some}
+use Rattle.std.specs.Option.{option_map_or}
+use Rattle.tsp_read.specs.Holds.{OpenHolds, Holds, Answers}
+use Rattle.tsp_read.proofs.SectionCases.{word_fields, word_first}
 use Rattle.tsp_read.proofs.Clean.{clean_more}
 
 pub same_self : (f : Field) → same_field f f ≡ true
@@ -47,83 +52,62 @@ word_rows earlier word f o = rw o refl
 words_more : (earlier : List Item) (word : List ℕ) (f : Field) → open_section earlier ≡ Some f → words_of f (NumberWord word ∷ earlier) ≡ words_of f earlier ++ word ∷ []
 words_more earlier word f o = rw (o, same_self f) refl
 
-fields_same : (f : Field) (earlier : List Item) (word : List ℕ) → open_section earlier ≡ Some f
-    → fields_by (is_closed (NumberWord word ∷ earlier)) (NumberWord word ∷ earlier) ≡ fields_by (is_closed earlier) earlier
-fields_same NameKey earlier word o = rw o refl
-fields_same TypeKey earlier word o = rw o refl
-fields_same CommentKey earlier word o = rw o refl
-fields_same OtherKey earlier word o = rw o refl
-fields_same DimensionKey earlier word o = rw o refl
-fields_same CapacityKey earlier word o = rw o refl
-fields_same ScaleKey earlier word o = rw o refl
-fields_same EdgeWeightTypeKey earlier word o = rw o refl
-fields_same EdgeWeightFormatKey earlier word o = rw o refl
-fields_same NodeCoordTypeKey earlier word o = rw o refl
-fields_same DisplayDataTypeKey earlier word o = rw o refl
-fields_same NodeCoordPart earlier word o = rw o refl
-fields_same DisplayDataPart earlier word o = rw o refl
-fields_same DemandPart earlier word o = rw o refl
-fields_same DepotPart earlier word o = rw o refl
-fields_same FixedEdgesPart earlier word o = rw o refl
-fields_same EdgeWeightPart earlier word o = rw o refl
-fields_same TourPart earlier word o = rw o refl
-fields_same NodePotentialPart earlier word o = rw o refl
-fields_same RowPotentialPart earlier word o = rw o refl
-fields_same ColumnPotentialPart earlier word o = rw o refl
+-- the open section after the word
+open_more : (section after : OpenSection) (earlier : List Item) (word : List ℕ) → open_section earlier ≡ Some section.field
+    → shape_of section.field ≡ Some (shape_by section.part) → after.field ≡ section.field
+    → HoldsShape (shape_by section.part) after.part (nodes_of earlier) (words_of section.field earlier ++ word ∷ []) → OpenHolds (Some after) (NumberWord word ∷ earlier)
+open_more section after earlier word o shape same h =
+    let words : words_of after.field (NumberWord word ∷ earlier) ≡ words_of section.field earlier ++ word ∷ [] =
+        ap (λ f. words_of f (NumberWord word ∷ earlier)) same ∙ words_more earlier word section.field o in
+    (
+      o ∙ ap (λ f. Some f) (sym same),
+      (ap shape_of same ∙ shape ∙ ap (λ s. Some s) (sym h.0), subst (λ (ws : List (List ℕ)). HoldsPart after.part (nodes_of earlier) ws) (sym words) h.1),
+    )
 
-tests_same : (f : Field) (earlier : List Item) (word : List ℕ) → open_section earlier ≡ Some f
-    → tests_at (is_closed_incomplete (NumberWord word ∷ earlier)) ≡ tests_at (is_closed_incomplete earlier)
-tests_same NameKey earlier word o = rw o refl
-tests_same TypeKey earlier word o = rw o refl
-tests_same CommentKey earlier word o = rw o refl
-tests_same OtherKey earlier word o = rw o refl
-tests_same DimensionKey earlier word o = rw o refl
-tests_same CapacityKey earlier word o = rw o refl
-tests_same ScaleKey earlier word o = rw o refl
-tests_same EdgeWeightTypeKey earlier word o = rw o refl
-tests_same EdgeWeightFormatKey earlier word o = rw o refl
-tests_same NodeCoordTypeKey earlier word o = rw o refl
-tests_same DisplayDataTypeKey earlier word o = rw o refl
-tests_same NodeCoordPart earlier word o = rw o refl
-tests_same DisplayDataPart earlier word o = rw o refl
-tests_same DemandPart earlier word o = rw o refl
-tests_same DepotPart earlier word o = rw o refl
-tests_same FixedEdgesPart earlier word o = rw o refl
-tests_same EdgeWeightPart earlier word o = rw o refl
-tests_same TourPart earlier word o = rw o refl
-tests_same NodePotentialPart earlier word o = rw o refl
-tests_same RowPotentialPart earlier word o = rw o refl
-tests_same ColumnPotentialPart earlier word o = rw o refl
+-- what the part of the open section answers
+abbrev pub SectionTakes : OpenSection → OpenSection → List ℕ → Result (Unit {0}) StepFault → Type 0
+SectionTakes section after word r = (n : ℕ) (words : List (List ℕ)) → HoldsPart section.part n words
+    → Takes n (place_by (shape_by section.part) n words) word (HoldsShape (shape_by section.part) after.part n (words ++ word ∷ [])) r
 
--- the part after the word, of the same section
-open_more : (part after : Part) (earlier : List Item) (word : List ℕ) → open_section earlier ≡ Some (section_of part)
-    → PartAfter part after (nodes_of earlier) (words_of (section_of part) earlier ++ word ∷ []) → OpenHolds (Some after) (NumberWord word ∷ earlier)
-open_more part after earlier word o h = (
-  o ∙ ap (λ f. Some f) (sym h.1),
-  let words : words_of (section_of after) (NumberWord word ∷ earlier) ≡ words_of (section_of part) earlier ++ word ∷ [] =
-      ap (λ f. words_of f (NumberWord word ∷ earlier)) h.1 ∙ words_more earlier word (section_of part) o in
-      let P : List (List ℕ) → Type 0 = λ words. PartHolds after (nodes_of earlier) words in
-      subst P (sym words) h.0,
-)
+place_is : (field : Field) (shape : Shape) (n : ℕ) (words : List (List ℕ)) → shape_of field ≡ Some shape → place_in field n words ≡ place_by shape n words
+place_is field shape n words is = ap (λ o. option_map_or (λ shape. place_by shape n words) o PastEnd) is
 
 -- What the part answers is what the reader answers. The new state is the old one with the part after the word.
-pub word_answer : (old new : Reading) (part after : Part) (word : List ℕ) (r : Result (Unit {0}) StepFault) (earlier : List Item)
-    → old.open_part ≡ Some part → new.draft ≡ old.draft → new.incomplete ≡ old.incomplete → new.open_part ≡ Some after
-    → ((n : ℕ) (words : List (List ℕ)) → PartHolds part n words → Pushes part after n words word r)
-    → Holds old earlier → Answers earlier (NumberWord word) new r
-word_answer old new part after word (Ok done) earlier there same_draft same_flags is step h =
-    let held : OpenHolds (Some part) earlier = rw there at h.part in
-    let o : open_section earlier ≡ Some (section_of part) = held.0 in
-    let next = step (nodes_of earlier) (words_of (section_of part) earlier) held.1 in
+pub word_answer : (old new : Reading) (section after : OpenSection) (word : List ℕ) (r : Result (Unit {0}) StepFault) (earlier : List Item)
+    → old.opened ≡ Some section → after.field ≡ section.field → new.draft ≡ old.draft → new.incomplete ≡ old.incomplete → new.opened ≡ Some after
+    → SectionTakes section after word r → Holds old earlier → Answers earlier (NumberWord word) new r
+word_answer old new section after word (Ok done) earlier there same same_draft same_first is step h =
+    let held : OpenHolds (Some section) earlier = rw there at h.part in
+    let f = section.field in
+    let kind : is_section_field f ≡ true = ap is_some held.1.0 in
+    let next = step (nodes_of earlier) (words_of f earlier) held.1.1 in
     record {
-      clean = clean_more earlier (NumberWord word) h.clean (word_rows earlier word (section_of part) o ∙ next.0);
-      late = h.late;
+      clean = clean_more earlier (NumberWord word) h.clean (word_rows earlier word f held.0
+      ∙ ap (λ p. word_fault (nodes_of earlier) p word) (place_is f (shape_by section.part) (nodes_of earlier) (words_of f earlier) held.1.0) ∙ next.0);
       stand = rw same_draft h.stand;
-      spelled = rw same_draft (h.spelled ∙ sym (fields_same (section_of part) earlier word o));
-      flagged = rw same_flags (h.flagged ∙ sym (tests_same (section_of part) earlier word o));
-      part = rw is (open_more part after earlier word o next.1);
+      spelled = rw same_draft (h.spelled ∙ sym (word_fields earlier word f kind held.0));
+      incomplete = same_first ∙ h.incomplete ∙ sym (word_first earlier word f kind held.0);
+      part = rw is (open_more section after earlier word held.0 held.1.0 same next.1);
     }
-word_answer old new part after word (Err steps.Memory) earlier there same_draft same_flags is step h = tt
-word_answer old new part after word (Err (steps.Fault fault)) earlier there same_draft same_flags is step h =
-    let held : OpenHolds (Some part) earlier = rw there at h.part in
-    word_rows earlier word (section_of part) held.0 ∙ step (nodes_of earlier) (words_of (section_of part) earlier) held.1
+word_answer old new section after word (Err steps.Memory) earlier there same same_draft same_first is step h = tt
+word_answer old new section after word (Err (steps.Fault fault)) earlier there same same_draft same_first is step h =
+    let held : OpenHolds (Some section) earlier = rw there at h.part in
+    word_rows earlier word section.field held.0
+    ∙ ap (λ p. word_fault (nodes_of earlier) p word) (place_is section.field (shape_by section.part) (nodes_of earlier) (words_of section.field earlier) held.1.0)
+    ∙ step (nodes_of earlier) (words_of section.field earlier) held.1.1
+
+-- nothing changes where a word isn't taken
+pub kept_answer : (old new : Reading) (section after : OpenSection) (earlier : List Item)
+    → old.opened ≡ Some section → after.field ≡ section.field → new.draft ≡ old.draft → new.incomplete ≡ old.incomplete → new.opened ≡ Some after
+    → ((n : ℕ) (words : List (List ℕ)) → HoldsPart section.part n words → HoldsShape (shape_by section.part) after.part n words) → Holds old earlier → Holds new earlier
+kept_answer old new section after earlier there same same_draft same_first is step h =
+    let held : OpenHolds (Some section) earlier = rw there at h.part in
+    let kept = step (nodes_of earlier) (words_of section.field earlier) held.1.1 in
+    record {
+      clean = h.clean;
+      stand = rw same_draft h.stand;
+      spelled = rw same_draft h.spelled;
+      incomplete = same_first ∙ h.incomplete;
+      part = rw is (held.0 ∙ ap (λ f. Some f) (sym same), (ap shape_of same ∙ held.1.0 ∙ ap (λ s. Some s) (sym kept.0),
+      subst (λ f. HoldsPart after.part (nodes_of earlier) (words_of f earlier)) (sym same) kept.1));
+    }

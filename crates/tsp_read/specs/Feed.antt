@@ -78,7 +78,7 @@ pub record IsWhole (reading : Reading) (bytes : List ℕ) : Type 0 where
 
 -- where the end line was settled no section is open, so that the end of the text wants no memory
 abbrev pub EndsClosed : Result Reading ReadFault → Type 0
-EndsClosed (Ok reading) = is_some reading.open_part ≡ false
+EndsClosed (Ok reading) = is_some reading.opened ≡ false
 EndsClosed (Err found) = ⊥
 
 -- the same at the end of the text, or its answer is this fault

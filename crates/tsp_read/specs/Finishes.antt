@@ -1,22 +1,14 @@
 -- What the reader answers at the end of the items (nearest first).
-use Rattle.std.specs.Prelude.{◌≡◌, cond, List, Option, None, Some, Result, Ok, Err, ◌⊎◌}
+use Rattle.std.specs.Prelude.{◌≡◌, List, Option, None, Some, Result, Ok, Err, ◌⊎◌}
 use Rattle.tsp_value.specs.declared.field.Field.{Field}
-use Rattle.tsp_value.specs.declared.field.Field.TheVariants.{NodeCoordPart, DisplayDataPart, DemandPart, FixedEdgesPart, NodePotentialPart, RowPotentialPart, ColumnPotentialPart}
 use Rattle.tsp_fields.specs.declared.fault.DraftFault.{DraftFault}
 use Rattle.tsp_fields.specs.Fields.{Fields}
 use Rattle.tsp_fields.specs.Rules.{standing_of, end_fault, fault_of}
-use Rattle.tsp_read.specs.declared.state.reading.Incomplete.{Incomplete}
 use Rattle.tsp_read.specs.declared.state.finish.FinishFault.{FinishFault}
 use Rattle.tsp_read.specs.declared.state.finish.FinishFault.TheVariants as faults
 use Rattle.tsp_items.specs.Items.{Item}
 use Rattle.tsp_items.specs.FirstFault.{IsClean}
 use Rattle.tsp_items.specs.Spells.{spelled, fault_at_end}
-
--- the first flag that is set
-abbrev pub first_flagged : Incomplete → Option Field
-first_flagged flags = cond flags.coords (Some NodeCoordPart) (cond flags.display (Some DisplayDataPart) (cond flags.demands (Some DemandPart)
-    (cond flags.fixed (Some FixedEdgesPart) (cond flags.node_potentials (Some NodePotentialPart) (cond flags.row_potentials (Some RowPotentialPart)
-    (cond flags.column_potentials (Some ColumnPotentialPart) None))))))
 
 abbrev pub Finishes : List Item → Result Fields FinishFault → Type 0
 Finishes items (Ok file) = IsClean items × (fault_at_end items ≡ None) × (file ≡ spelled items)

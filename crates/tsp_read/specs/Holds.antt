@@ -1,12 +1,12 @@
 -- What the state of the reader holds of the items so far (nearest first).
-use Rattle.std.specs.Prelude.{◌≡◌, Bool, false, not, ◌&&◌, List, [], ◌∷◌, Option, None, Some, is_some, Result, Ok, Err, replicate, nat_lt}
+use Rattle.std.specs.Prelude.{◌≡◌, Bool, false, not, ◌&&◌, List, [], ◌∷◌, Option, None, Some, is_some, Result, Ok, Err, nat_lt}
+use Rattle.std.specs.List.{find}
 use Rattle.tsp_value.specs.declared.field.Field.{Field}
-use Rattle.tsp_value.specs.declared.field.Field.TheVariants.{NameKey, TypeKey, DimensionKey, CapacityKey, ScaleKey, EdgeWeightTypeKey, EdgeWeightFormatKey, NodeCoordTypeKey, DisplayDataTypeKey, NodeCoordPart, DisplayDataPart, DemandPart, DepotPart, FixedEdgesPart, EdgeWeightPart, NodePotentialPart, RowPotentialPart, ColumnPotentialPart}
+use Rattle.tsp_value.specs.declared.field.Field.TheVariants.{NameKey, TypeKey, DimensionKey, CapacityKey, ScaleKey, EdgeWeightTypeKey, EdgeWeightFormatKey, NodeCoordTypeKey, DisplayDataTypeKey}
 use Rattle.tsp_fields.specs.Fields.{Fields, fields_of}
 use Rattle.tsp_items.specs.declared.fault.StepFault.{StepFault}
 use Rattle.tsp_items.specs.declared.fault.StepFault.TheVariants as steps
-use Rattle.tsp_read.specs.declared.state.part.Part.{Part}
-use Rattle.tsp_read.specs.declared.state.reading.Incomplete.{Incomplete}
+use Rattle.tsp_read.specs.declared.state.reading.OpenSection.{OpenSection}
 use Rattle.tsp_read.specs.declared.state.reading.Reading.{Reading}
 use Rattle.tsp_value.specs.declared.keyword.Keyword.TheVariants.{Known, Unknown}
 use Rattle.tsp_value.specs.Limits.{most_line_bytes}
@@ -15,8 +15,8 @@ use Rattle.tsp_items.specs.Earlier.{has_line, open_section, is_open, words_of}
 use Rattle.tsp_items.specs.Sections.{nodes_of}
 use Rattle.tsp_items.specs.Rows.{row_of}
 use Rattle.tsp_items.specs.FirstFault.{IsClean}
-use Rattle.tsp_items.specs.Spells.{fields_by, is_incomplete}
-use Rattle.tsp_read.specs.Open.{section_of, PartHolds}
+use Rattle.tsp_items.specs.Spells.{fields_by, is_incomplete, sections_in_order, first_incomplete}
+use Rattle.tsp_read.specs.states.Open.{HoldsSection}
 
 -- the section stands and no longer takes words
 abbrev pub is_closed : List Item → Field → Bool
@@ -37,47 +37,27 @@ keywords_there earlier = has_line NameKey earlier ∷ has_line TypeKey earlier �
 abbrev pub KeywordsStand : Fields → List Item → Type 0
 KeywordsStand fields earlier = fields_there fields ≡ keywords_there earlier
 
--- a section other than the tours stands only after DIMENSION
-abbrev pub sections_there : List Item → List Bool
-sections_there earlier = has_line NodeCoordPart earlier ∷ has_line DisplayDataPart earlier ∷ has_line DemandPart earlier ∷ has_line DepotPart earlier
-    ∷ has_line FixedEdgesPart earlier ∷ has_line EdgeWeightPart earlier ∷ has_line NodePotentialPart earlier ∷ has_line RowPotentialPart earlier
-    ∷ has_line ColumnPotentialPart earlier ∷ []
-
-abbrev pub AreAfterDimension : List Item → Type 0
-AreAfterDimension earlier = has_line DimensionKey earlier ≡ false → sections_there earlier ≡ replicate 9 false
-
--- the flags of the sections that can be incomplete, and a test at those
-abbrev pub flags_in : Incomplete → List Bool
-flags_in flags = flags.coords ∷ flags.display ∷ flags.demands ∷ flags.fixed ∷ flags.node_potentials ∷ flags.row_potentials ∷ flags.column_potentials ∷ []
-
-abbrev pub tests_at : (Field → Bool) → List Bool
-tests_at test = test NodeCoordPart ∷ test DisplayDataPart ∷ test DemandPart ∷ test FixedEdgesPart ∷ test NodePotentialPart ∷ test RowPotentialPart ∷ test ColumnPotentialPart ∷ []
-
-abbrev pub FlagsHold : Incomplete → (Field → Bool) → Type 0
-FlagsHold flags test = flags_in flags ≡ tests_at test
-
 -- the open section's part has its words
-abbrev pub OpenHolds : Option Part → List Item → Type 0
+abbrev pub OpenHolds : Option OpenSection → List Item → Type 0
 OpenHolds None earlier = open_section earlier ≡ None
-OpenHolds (Some part) earlier = (open_section earlier ≡ Some (section_of part)) × PartHolds part (nodes_of earlier) (words_of (section_of part) earlier)
+OpenHolds (Some section) earlier = (open_section earlier ≡ Some section.field)
+    × HoldsSection section (nodes_of earlier) (words_of section.field earlier)
 
 -- no item has a fault, and the state has what the items spell but for the section that is open, and that section's words
 pub record Holds (reading : Reading) (earlier : List Item) : Type 0 where
   pub clean : IsClean earlier
-  pub late : AreAfterDimension earlier
   pub stand : KeywordsStand (fields_of reading.draft) earlier
   pub spelled : fields_of reading.draft ≡ fields_by (is_closed earlier) earlier
-  pub flagged : FlagsHold reading.incomplete (is_closed_incomplete earlier)
-  pub part : OpenHolds reading.open_part earlier
+  pub incomplete : reading.incomplete ≡ find (is_closed_incomplete earlier) sections_in_order
+  pub part : OpenHolds reading.opened earlier
 
 -- the same where no section is open: of the items all that they spell
 pub record Closed (reading : Reading) (earlier : List Item) : Type 0 where
   pub clean : IsClean earlier
-  pub late : AreAfterDimension earlier
   pub stand : KeywordsStand (fields_of reading.draft) earlier
   pub spelled : fields_of reading.draft ≡ fields_by (λ field. has_line field earlier) earlier
-  pub flagged : FlagsHold reading.incomplete (is_incomplete earlier)
-  pub part : reading.open_part ≡ None
+  pub incomplete : reading.incomplete ≡ first_incomplete earlier
+  pub part : reading.opened ≡ None
 
 -- What a step answers for an item: its fault, or none and the state holds that item too.
 abbrev pub Answers : List Item → Item → Reading → Result (Unit {0}) StepFault → Type 0

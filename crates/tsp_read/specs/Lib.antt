@@ -1,4 +1,4 @@
-pub mod Open
+pub mod states
 pub mod Holds
 pub mod Cuts
 pub mod Left

@@ -16,8 +16,8 @@ ghost use Rattle.tsp_read.specs.Holds.{Holds};
 
 use crate::cut::without_start;
 use crate::intake::Intake;
-use crate::state::part::Part;
 use crate::state::reading::Reading;
+use tsp_items::Part;
 use tsp_number::{Decimal, front_decimal, front_whole};
 use tsp_value::is_blank;
 
@@ -80,9 +80,9 @@ impl Reading {
     /// Whether the next word is a coordinate.
     #[inline(always)]
     fn wants_coordinate(&self) -> bool {
-        match &self.open_part {
-            Some(Part::Coords(part) | Part::Display(part)) => part.wants_coordinate(),
-            _ => false,
+        match &self.opened {
+            Some(section) => section.part.wants_coordinate(),
+            None => false,
         }
     }
 
@@ -96,10 +96,9 @@ impl Reading {
         ensures kept { result ≡ false → (earlier : List Item) → Holds self.old earlier
             → Holds self.new earlier }
     {
-        match &mut self.open_part {
-            Some(Part::Coords(part)) => part.push_coordinate(coordinate),
-            Some(Part::Display(part)) => part.push_coordinate(coordinate),
-            _ => false,
+        match &mut self.opened {
+            Some(section) => section.part.push_coordinate(coordinate),
+            None => false,
         }
     }
 
@@ -113,12 +112,9 @@ impl Reading {
         ensures kept { result ≡ false → (earlier : List Item) → Holds self.old earlier
             → Holds self.new earlier }
     {
-        match &mut self.open_part {
-            Some(Part::Weights(part)) => part.push_read(number),
-            Some(Part::Tours(part)) => part.push_read(number),
-            Some(Part::Coords(part)) => part.push_read(number),
-            Some(Part::Display(part)) => part.push_read(number),
-            _ => false,
+        match &mut self.opened {
+            Some(section) => section.part.push_read(number),
+            None => false,
         }
     }
 }
@@ -282,9 +278,12 @@ impl Intake {
         ensures words { self.new.words + length result.now ≤ self.old.words + length text.now }
         ensures shorter { length result.now ≤ length text.now }
     {
-        match self.reading.open_part {
-            Some(Part::Weights(_) | Part::Tours(_)) => self.take_numbers(text),
-            Some(Part::Coords(_) | Part::Display(_)) => self.take_points(text),
+        let Some(section) = &self.reading.opened else {
+            return text;
+        };
+        match section.part {
+            Part::Weights(_) | Part::Tours(_) => self.take_numbers(text),
+            Part::Points(_) => self.take_points(text),
             _ => text,
         }
     }

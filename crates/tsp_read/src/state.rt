@@ -2,6 +2,6 @@
 
 pub(crate) mod finish;
 pub(crate) mod lines;
-pub(crate) mod part;
 pub(crate) mod reading;
 pub(crate) mod sections;
+pub(crate) mod store;

@@ -7,9 +7,9 @@ ghost use Rattle.tsp_read.specs.Holds.{Holds};
 ghost use Rattle.tsp_read.specs.Cuts.{AreCut};
 ghost use Rattle.tsp_read.specs.Reads.{Completes};
 ghost use Rattle.tsp_fields.specs.Fields.{fields_of};
-ghost use Rattle.tsp_read.specs.Finishes.{first_flagged, FileOf};
+ghost use Rattle.tsp_read.specs.Finishes.{FileOf};
 
-use crate::state::reading::{Incomplete, Reading};
+use crate::state::reading::Reading;
 use std::alloc::Global;
 use tsp_fields::{Draft, DraftFault, EndFault, File, end_fault};
 use tsp_items::ReadFault;
@@ -24,29 +24,6 @@ pub(crate) enum FinishFault {
     End(EndFault),
 }
 
-/// The first section that is incomplete, in canonical order.
-fn first_incomplete(flags: Incomplete) -> Option<Field>
-    ensures { result ≡ first_flagged flags }
-{
-    if flags.coords {
-        Some(Field::NodeCoordPart)
-    } else if flags.display {
-        Some(Field::DisplayDataPart)
-    } else if flags.demands {
-        Some(Field::DemandPart)
-    } else if flags.fixed {
-        Some(Field::FixedEdgesPart)
-    } else if flags.node_potentials {
-        Some(Field::NodePotentialPart)
-    } else if flags.row_potentials {
-        Some(Field::RowPotentialPart)
-    } else if flags.column_potentials {
-        Some(Field::ColumnPotentialPart)
-    } else {
-        None
-    }
-}
-
 /// The fault that a refused draft stands for. The drafts that are read are never refused.
 fn refused(fault: DraftFault) -> EndFault {
     match fault {
@@ -56,10 +33,10 @@ fn refused(fault: DraftFault) -> EndFault {
 }
 
 /// The file of the fields that were read, or the fault of the end table.
-fn file_of(draft: Draft, incomplete: Incomplete) -> Result<File, FinishFault>
-    ensures { FileOf (fields_of draft) (first_flagged incomplete) result }
+fn file_of(draft: Draft, incomplete: Option<Field>) -> Result<File, FinishFault>
+    ensures { FileOf (fields_of draft) incomplete result }
 {
-    match end_fault(&draft, first_incomplete(incomplete)) {
+    match end_fault(&draft, incomplete) {
         Some(fault) => {
             drop(draft);
             Err(FinishFault::End(fault))
@@ -82,7 +59,7 @@ impl Reading {
     pub(crate) fn finish(mut self, alloc: Global) -> Result<File, FinishFault>
         ensures file { (earlier : List Item) → Holds self earlier → AreCut earlier
             → Finishes earlier result }
-        ensures stood { result ≡ Err Memory → is_some self.open_part ≡ true }
+        ensures stood { result ≡ Err Memory → is_some self.opened ≡ true }
     {
         match self.close(alloc) {
             Ok(()) => {}
@@ -94,7 +71,7 @@ impl Reading {
         let Reading {
             draft,
             incomplete,
-            open_part: _,
+            opened: _,
         } = self;
         file_of(draft, incomplete)
     }
@@ -104,7 +81,7 @@ impl Reading {
 pub(crate) fn completed(reading: Reading, alloc: Global) -> Result<File, ReadFault>
     ensures file { (earlier : List Item) → Holds reading earlier → AreCut earlier
         → Completes earlier result }
-    ensures stood { result ≡ Err OutOfMemory → is_some reading.open_part ≡ true }
+    ensures stood { result ≡ Err OutOfMemory → is_some reading.opened ≡ true }
 {
     match reading.finish(alloc) {
         Ok(file) => Ok(file),

@@ -4,12 +4,13 @@ use crate::state::reading::Reading;
 use std::alloc::Global;
 use tsp_items::{
     CutLine, LineFault, StepFault, add_comment, add_other, set_count, set_name, set_named,
-    set_number,
+    set_number, shape_of,
 };
 use tsp_value::{Field, Keyword, MOST_CAPACITY, MOST_LINE_BYTES, MOST_NODES, MOST_SCALE};
 
 impl Reading {
-    ghost use Rattle.std.specs.Prelude.{List};
+    ghost use Rattle.std.specs.Prelude.{◌≡◌, None, List};
+    ghost use Rattle.tsp_items.specs.Shapes.{shape_of};
     ghost use Rattle.tsp_items.specs.Items.{Item};
     ghost use Rattle.tsp_items.specs.CutLine.{seen, cut_item};
     ghost use Rattle.tsp_read.specs.Holds.{Holds, Answers, LineAnswers};
@@ -27,7 +28,10 @@ impl Reading {
             Err(fault) => return Err(fault),
         }
         match line.key {
-            Keyword::Known(field) => self.known(alloc, field, line),
+            Keyword::Known(field) => match shape_of(field) {
+                Some(shape) => self.open(alloc, field, shape, line),
+                None => self.known(alloc, field, line),
+            },
             Keyword::EdgeDataFormat => Err(StepFault::Fault(LineFault::Outside)),
             Keyword::EdgeDataSection => Err(StepFault::Fault(LineFault::Outside)),
             Keyword::Eof => Ok(()),
@@ -35,15 +39,15 @@ impl Reading {
         }
     }
 
-    /// Takes the line of a field, where no section is open.
+    /// Takes the line of a keyword, where no section is open.
     fn known(&mut self, alloc: Global, field: Field, line: &CutLine<'_>) -> Result<(), StepFault>
+        requires { shape_of field ≡ None }
         ensures { LineAnswers self.old field (seen line.now) self.new result }
     {
         match field {
             Field::NameKey => set_name(alloc, &mut self.draft.name, line),
             Field::TypeKey => set_named(&mut self.draft.kind, Field::TypeKey, line.value),
             Field::CommentKey => add_comment(alloc, &mut self.draft.comments, line),
-            Field::OtherKey => Ok(()),
             Field::DimensionKey => set_count(&mut self.draft.dimension, line.value, MOST_NODES),
             Field::CapacityKey => set_number(
                 &mut self.draft.capacity,
@@ -76,16 +80,7 @@ impl Reading {
                     line.value,
                 )
             }
-            Field::NodeCoordPart => self.open_coords(alloc, line),
-            Field::DisplayDataPart => self.open_display(alloc, line),
-            Field::DemandPart => self.open_demands(alloc, line),
-            Field::DepotPart => self.open_depots(alloc, line),
-            Field::FixedEdgesPart => self.open_fixed(alloc, line),
-            Field::EdgeWeightPart => self.open_weights(alloc, line),
-            Field::TourPart => self.open_tours(alloc, line),
-            Field::NodePotentialPart => self.open_node_potentials(alloc, line),
-            Field::RowPotentialPart => self.open_row_potentials(alloc, line),
-            Field::ColumnPotentialPart => self.open_column_potentials(alloc, line),
+            _ => Ok(()),
         }
     }
 }

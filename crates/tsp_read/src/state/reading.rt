@@ -1,32 +1,67 @@
 //! The state of the reader: what the lines and words so far spell.
 
-ghost use Rattle.std.specs.Prelude.{[], List, IfErr, OnOk, ◌≡◌, is_some, true};
+ghost use Rattle.std.specs.Prelude.{[], List, Some, IfErr, OnOk, ◌≡◌, is_some, true};
+ghost use Rattle.tsp_value.specs.Words.{fields_in_order};
 ghost use Rattle.tsp_items.specs.Items.{Item, NumberWord};
+ghost use Rattle.tsp_items.specs.Earlier.{same_field};
+ghost use Rattle.tsp_read.specs.states.Incomplete.{is_either, first_of};
 
-use crate::state::part::Part;
+use crate::state::store::store;
 use std::alloc::Global;
 use tsp_fields::Draft;
-use tsp_items::{LineFault, StepFault};
+use tsp_items::{LineFault, Part, StepFault};
+use tsp_value::Field;
 
-/// Which of the closed sections are incomplete.
-#[derive(Clone, Copy, Drop)]
-pub(crate) struct Incomplete {
-    pub(crate) coords: bool,
-    pub(crate) display: bool,
-    pub(crate) demands: bool,
-    pub(crate) fixed: bool,
-    pub(crate) node_potentials: bool,
-    pub(crate) row_potentials: bool,
-    pub(crate) column_potentials: bool,
+/// The section that is open, and the part that takes its words.
+#[derive(Drop)]
+pub(crate) struct OpenSection {
+    pub(crate) field: Field,
+    pub(crate) part: Part,
 }
 
-/// What was read so far: the fields of the lines and of the sections that are closed, and the part
-/// of the section that is open.
+/// What was read so far: the fields of the lines and of the sections that are closed, the first of
+/// these in canonical order that is incomplete, and the section that is open.
 #[derive(Drop)]
 pub(crate) struct Reading {
     pub(crate) draft: Draft,
-    pub(crate) incomplete: Incomplete,
-    pub(crate) open_part: Option<Part>,
+    pub(crate) incomplete: Option<Field>,
+    pub(crate) opened: Option<OpenSection>,
+}
+
+/// The one of a section and another, if there is another, that stands first in canonical order.
+fn first_of(section: Field, other: Option<Field>) -> Option<Field>
+    ensures { result ≡ first_of section other fields_in_order }
+{
+    first_among(&Field::ALL, section, other)
+}
+
+/// The first of some fields that is this one, or the other.
+fn first_among(fields: &[Field], section: Field, other: Option<Field>) -> Option<Field>
+    ensures { result ≡ first_of section other fields.now }
+{
+    for field in fields {
+        if is_either(*field, section, other) {
+            return Some(*field);
+        }
+    }
+    None
+}
+
+/// Whether a field is this section, or the other.
+fn is_either(field: Field, section: Field, other: Option<Field>) -> bool
+    ensures { result ≡ is_either section other field }
+{
+    match other {
+        Some(other) => is_same(field, section) || is_same(field, other),
+        None => is_same(field, section),
+    }
+}
+
+/// Whether two fields have the same word, which no two have.
+fn is_same(field: Field, other: Field) -> bool
+    ensures { result ≡ same_field field other }
+{
+    field == other
 }
 
 impl Reading {
@@ -39,26 +74,18 @@ impl Reading {
     {
         Reading {
             draft: Draft::new(alloc),
-            incomplete: Incomplete {
-                coords: false,
-                display: false,
-                demands: false,
-                fixed: false,
-                node_potentials: false,
-                row_potentials: false,
-                column_potentials: false,
-            },
-            open_part: None,
+            incomplete: None,
+            opened: None,
         }
     }
 
-    /// Begins with the part of a section that a line opens. The part before it was closed.
-    pub(crate) fn begin(&mut self, part: Part)
+    /// Begins with a section that a line opens. The one before it was closed.
+    pub(crate) fn begin(&mut self, section: OpenSection)
         ensures draft { self.new.draft ≡ self.old.draft }
         ensures incomplete { self.new.incomplete ≡ self.old.incomplete }
-        ensures begun { self.new.open_part ≡ Some part }
+        ensures begun { self.new.opened ≡ Some section }
     {
-        let before = self.open_part.replace(part);
+        let before = self.opened.replace(section);
         drop(before);
     }
 
@@ -67,9 +94,9 @@ impl Reading {
         ensures { (earlier : List Item) → Holds self.old earlier
             → Answers earlier (NumberWord word.now) self.new result }
     {
-        match &mut self.open_part {
+        match &mut self.opened {
             None => Err(StepFault::Fault(LineFault::StrayNumber)),
-            Some(part) => part.push(alloc, word),
+            Some(section) => section.part.push(alloc, word),
         }
     }
 
@@ -78,58 +105,19 @@ impl Reading {
         ensures closed { OnOk result ((earlier : List Item) → Holds self.old earlier
             → Closed self.new earlier) }
         ensures err { IfErr result (λ e. e ≡ Memory) }
-        ensures stood { IfErr result (λ _. is_some self.old.open_part ≡ true) }
+        ensures stood { IfErr result (λ _. is_some self.old.opened ≡ true) }
     {
-        match self.open_part.take() {
-            None => {}
-            Some(Part::Coords(part)) => {
-                let (coords, wants_more) = part.finish();
-                self.draft.coords = Some(coords);
-                self.incomplete.coords = wants_more;
+        let Some(section) = self.opened.take() else {
+            return Ok(());
+        };
+        let field = section.field;
+        match store(&mut self.draft, alloc, section) {
+            Ok(true) => {
+                self.incomplete = first_of(field, self.incomplete);
+                Ok(())
             }
-            Some(Part::Display(part)) => {
-                let (display, wants_more) = part.finish();
-                self.draft.display = Some(display);
-                self.incomplete.display = wants_more;
-            }
-            Some(Part::Demands(part)) => {
-                let (demands, wants_more) = part.finish();
-                self.draft.demands = Some(demands);
-                self.incomplete.demands = wants_more;
-            }
-            Some(Part::Depots(part)) => {
-                let depots = part.finish();
-                self.draft.depots = Some(depots);
-            }
-            Some(Part::Fixed(part)) => {
-                let (fixed, wants_more) = part.finish();
-                self.draft.fixed = Some(fixed);
-                self.incomplete.fixed = wants_more;
-            }
-            Some(Part::Weights(part)) => {
-                let weights = part.finish();
-                self.draft.weights = Some(weights);
-            }
-            Some(Part::Tours(part)) => match part.finish(alloc) {
-                Ok(tours) => self.draft.tours = Some(tours),
-                Err(fault) => return Err(fault),
-            },
-            Some(Part::NodePotentials(part)) => {
-                let (node_potentials, wants_more) = part.finish();
-                self.draft.node_potentials = Some(node_potentials);
-                self.incomplete.node_potentials = wants_more;
-            }
-            Some(Part::RowPotentials(part)) => {
-                let (row_potentials, wants_more) = part.finish();
-                self.draft.row_potentials = Some(row_potentials);
-                self.incomplete.row_potentials = wants_more;
-            }
-            Some(Part::ColumnPotentials(part)) => {
-                let (column_potentials, wants_more) = part.finish();
-                self.draft.column_potentials = Some(column_potentials);
-                self.incomplete.column_potentials = wants_more;
-            }
+            Ok(false) => Ok(()),
+            Err(fault) => Err(fault),
         }
-        Ok(())
     }
 }

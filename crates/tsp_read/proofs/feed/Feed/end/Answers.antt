@@ -29,7 +29,7 @@ returns-in-Refused-clause-ended c = λ bytes h none ended. absurd (not_refused c
 
 pub returns-in-Ended-clause-ended : goal.returns-in-Ended-clause-ended
 returns-in-Ended-clause-ended c = λ bytes h none ended.
-    subst (λ (r : Reading). is_some r.open_part ≡ false) (sym c.into_reading.ensures)
+    subst (λ (r : Reading). is_some r.opened ≡ false) (sym c.into_reading.ensures)
     (ended_none c.args.self.intake.reading bytes (taken_at c.args.self bytes Ended c.in-Ended.is h))
 
 pub returns-in-Ok-clause-ended : goal.returns-in-Ok-clause-ended

@@ -2,6 +2,7 @@ use Rattle.std.proofs.Common.{refl, map}
 use Rattle.std.specs.Option.{option_map}
 use Rattle.tsp_items.specs.CutLine.{seen}
 use Rattle.tsp_read.proofs.KeywordSteps as keywords
+use Rattle.tsp_read.proofs.SectionCases.{unnamed}
 use Rattle.tsp_read.proofs.TextSteps as texts
 use Rattle.tsp_read.proofs.state.reading.Reading.known.Goals as goal
 
@@ -12,9 +13,6 @@ returns-in-NameKey c = λ earlier h short.
 pub returns-in-CommentKey : goal.returns-in-CommentKey
 returns-in-CommentKey c = λ earlier h short.
     rw c.in-CommentKey.is (texts.comment_line c.args.self.now _ (seen c.args.line.now) (map (λ v. v.items) c.add_comment.new.comments.items) c.add_comment.result c.add_comment.ensures refl refl refl earlier h short)
-
-pub returns-in-OtherKey : goal.returns-in-OtherKey
-returns-in-OtherKey c = λ earlier h short. rw c.in-OtherKey.is (texts.unnamed_line c.args.self.now (seen c.args.line.now) earlier short h)
 
 pub returns-in-DimensionKey : goal.returns-in-DimensionKey
 returns-in-DimensionKey c = λ earlier h short.
@@ -47,3 +45,10 @@ returns-in-NodeCoordTypeKey c = λ earlier h short.
 pub returns-in-DisplayDataTypeKey : goal.returns-in-DisplayDataTypeKey
 returns-in-DisplayDataTypeKey c = λ earlier h short.
     rw c.in-DisplayDataTypeKey.is (keywords.display_kind_line c.args.self.now _ (seen c.args.line.now) c.set_named-in-DisplayDataTypeKey.new.slot c.set_named-in-DisplayDataTypeKey.result c.set_named-in-DisplayDataTypeKey.ensures refl refl refl earlier h short)
+
+pub returns-in_default : goal.returns-in_default
+returns-in_default c = λ earlier h short.
+    let d = c.in_default in
+    texts.unnamed_field c.args.self.now c.args.field (seen c.args.line.now) earlier (unnamed c.args.field c.requires d.not-NameKey d.not-TypeKey
+    d.not-CommentKey d.not-DimensionKey d.not-CapacityKey d.not-ScaleKey d.not-EdgeWeightTypeKey d.not-EdgeWeightFormatKey
+    d.not-NodeCoordTypeKey d.not-DisplayDataTypeKey) short h

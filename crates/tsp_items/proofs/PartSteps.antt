@@ -1,0 +1,49 @@
+-- The part of a section answers what its own list answers.
+use Rattle.std.proofs.Common.{◌≡◌, ℕ, ℤ, List, [], ◌∷◌, ◌++◌, sym, ap, subst, ◌∙◌, Result}
+use Rattle.tsp_items.specs.declared.fault.StepFault.{StepFault}
+use Rattle.tsp_items.specs.declared.part.Part.{Part}
+use Rattle.tsp_items.specs.declared.part.Part.TheVariants as parts
+use Rattle.tsp_items.specs.declared.parts.numbers.NumberList.{NumberList}
+use Rattle.tsp_items.specs.declared.shape.Shape.TheVariants.{Numbers}
+use Rattle.tsp_items.specs.Groups.{place_of_number}
+use Rattle.tsp_items.specs.Sections.{place_by}
+use Rattle.tsp_items.specs.Parts.{Takes}
+use Rattle.tsp_items.specs.Held.{HoldsNumbers, shape_by, HoldsPart, HoldsShape}
+use Rattle.tsp_items.proofs.Taken.{takes_also}
+
+-- how a part takes a word
+abbrev pub PartTakes : Part → Part → ℕ → List (List ℕ) → List ℕ → Result (Unit {0}) StepFault → Type 0
+PartTakes old new n words word r =
+    Takes n (place_by (shape_by old) n words) word (HoldsShape (shape_by old) new n (words ++ word ∷ [])) r
+
+-- a part of the same shape takes a word as its list does
+pub as_list : (old part after : Part) (n : ℕ) (words : List (List ℕ)) (word : List ℕ) (r : Result (Unit {0}) StepFault)
+    → old ≡ part → shape_by after ≡ shape_by part
+    → (HoldsPart part n words → Takes n (place_by (shape_by part) n words) word (HoldsPart after n (words ++ word ∷ [])) r)
+    → HoldsPart old n words → PartTakes old after n words word r
+as_list old part after n words word r is same step h =
+    let P : Part → Type 0 = λ p. HoldsPart p n words in
+    let Q : Part → Type 0 = λ p. PartTakes p after n words word r in
+    subst Q (sym is) (takes_also n (place_by (shape_by part) n words) word (HoldsPart after n (words ++ word ∷ []))
+    (HoldsShape (shape_by part) after n (words ++ word ∷ [])) r (λ held. (same, held)) (step (subst P is h)))
+
+-- a list of numbers keeps its range
+kept_range : (low high : ℤ) (after : NumberList) (n : ℕ) (words : List (List ℕ)) → HoldsNumbers after low high n words
+    → HoldsShape (Numbers low high) (parts.Numbers after) n words
+kept_range low high after n words h =
+    let P : ℤ → Type 0 = λ z. HoldsNumbers after z high n words in
+    let Q : ℤ → Type 0 = λ z. HoldsNumbers after after.low z n words in
+    (ap (λ z. Numbers z after.high) h.from ∙ ap (λ z. Numbers low z) h.to, subst Q (sym h.to) (subst P (sym h.from) h))
+
+pub numbers : (old : Part) (part after : NumberList) (n : ℕ) (words : List (List ℕ)) (word : List ℕ) (r : Result (Unit {0}) StepFault)
+    → old ≡ parts.Numbers part
+    → ((low high : ℤ) (n : ℕ) (words : List (List ℕ)) → HoldsNumbers part low high n words
+    → Takes n (place_of_number low high n words) word (HoldsNumbers after low high n (words ++ word ∷ [])) r)
+    → HoldsPart old n words → PartTakes old (parts.Numbers after) n words word r
+numbers old part after n words word r is step h =
+    let P : Part → Type 0 = λ p. HoldsPart p n words in
+    let Q : Part → Type 0 = λ p. PartTakes p (parts.Numbers after) n words word r in
+    subst Q (sym is) (takes_also n (place_of_number part.low part.high n words) word
+    (HoldsNumbers after part.low part.high n (words ++ word ∷ []))
+    (HoldsShape (Numbers part.low part.high) (parts.Numbers after) n (words ++ word ∷ [])) r
+    (kept_range part.low part.high after n (words ++ word ∷ [])) (step part.low part.high n words (subst P is h)))

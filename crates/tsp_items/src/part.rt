@@ -1,0 +1,120 @@
+//! The part of a reader that takes the words of a section, whichever its shape.
+
+ghost use Rattle.std.specs.Prelude.{◌≡◌, ◌≤◌, [], ℕ, List, ◌∷◌, ◌++◌, Ok, IfOk, true, false};
+
+use crate::fault::StepFault;
+use crate::parts::depots::DepotList;
+use crate::parts::fixed::FixedList;
+use crate::parts::numbers::NumberList;
+use crate::parts::points::PointList;
+use crate::parts::tours::TourList;
+use crate::parts::weights::WeightList;
+use crate::shape::Shape;
+use std::alloc::{AllocError, Global};
+use tsp_number::Decimal;
+use tsp_value::MOST_MATRIX_NODES;
+
+/// What was read of a section, by its shape.
+#[derive(Drop)]
+pub enum Part {
+    Numbers(NumberList),
+    Points(PointList),
+    Depots(DepotList),
+    Pairs(FixedList),
+    Weights(WeightList),
+    Tours(TourList),
+}
+
+impl Part {
+    ghost use Rattle.tsp_number.specs.Reading.{decimal_of};
+    ghost use Rattle.tsp_items.specs.declared.shape.Shape.TheVariants as shapes;
+    ghost use Rattle.tsp_items.specs.Numbers.{IsWhole};
+    ghost use Rattle.tsp_items.specs.Sections.{place_by};
+    ghost use Rattle.tsp_items.specs.Parts.{Takes};
+    ghost use Rattle.tsp_items.specs.Held.{shape_by, HoldsPart, HoldsShape};
+
+    /// A section of this shape with no words so far, in a file of `n` nodes.
+    ///
+    /// # Errors
+    ///
+    /// Memory was refused.
+    pub fn open(alloc: Global, shape: Shape, n: u32) -> Result<Part, AllocError>
+        requires { shape ≡ shapes.Weights → n ≤ MOST_MATRIX_NODES }
+        ensures { IfOk result (λ part. HoldsShape shape part n []) }
+    {
+        Ok(match shape {
+            Shape::Numbers { low, high } => Part::Numbers(NumberList::open(alloc, n, low, high)?),
+            Shape::Points => Part::Points(PointList::open(alloc, n)?),
+            Shape::Depots => Part::Depots(DepotList::open(alloc, n)),
+            Shape::Pairs => Part::Pairs(FixedList::open(alloc, n)),
+            Shape::Weights => Part::Weights(WeightList::open(alloc, n)),
+            Shape::Tours => Part::Tours(TourList::open(alloc)),
+        })
+    }
+
+    /// Takes the next word of the section.
+    ///
+    /// # Errors
+    ///
+    /// - `Fault`: the first row that the word has at its place.
+    /// - `Memory`: memory was refused.
+    pub fn push(&mut self, alloc: Global, word: &[u8]) -> Result<(), StepFault>
+        ensures { (n : ℕ) (words : List (List ℕ)) → HoldsPart self.old n words
+            → Takes n (place_by (shape_by self.old) n words) word.now
+            (HoldsShape (shape_by self.old) self.new n (words ++ word.now ∷ [])) result }
+    {
+        match self {
+            Part::Numbers(part) => part.push(word),
+            Part::Points(part) => part.push(word),
+            Part::Depots(part) => part.push(word),
+            Part::Pairs(part) => part.push(word),
+            Part::Weights(part) => part.push(word),
+            Part::Tours(part) => part.push(alloc, word),
+        }
+    }
+
+    /// Whether the next word is a coordinate.
+    #[inline(always)]
+    pub fn wants_coordinate(&self) -> bool {
+        match self {
+            Part::Points(part) => part.wants_coordinate(),
+            _ => false,
+        }
+    }
+
+    /// Takes the number of a word that was read, where the section is of weights, tours or points
+    /// and has room for it. The answer is whether it was taken.
+    #[inline(always)]
+    pub fn push_read(&mut self, number: i64) -> bool
+        ensures taken { result ≡ true → (n : ℕ) (words : List (List ℕ)) (word : List ℕ)
+            → IsWhole word number → HoldsPart self.old n words
+            → Takes n (place_by (shape_by self.old) n words) word
+            (HoldsShape (shape_by self.old) self.new n (words ++ word ∷ [])) (Ok tt) }
+        ensures kept { result ≡ false → (n : ℕ) (words : List (List ℕ))
+            → HoldsPart self.old n words → HoldsShape (shape_by self.old) self.new n words }
+    {
+        match self {
+            Part::Weights(part) => part.push_read(number),
+            Part::Tours(part) => part.push_read(number),
+            Part::Points(part) => part.push_read(number),
+            _ => false,
+        }
+    }
+
+    /// Takes the coordinate of a word that was read, where a group of points has begun. The answer
+    /// is whether it was taken.
+    #[inline(always)]
+    pub fn push_coordinate(&mut self, coordinate: Decimal) -> bool
+        ensures taken { result ≡ true → (n : ℕ) (words : List (List ℕ)) (word : List ℕ)
+            → decimal_of word ≡ Ok coordinate → HoldsPart self.old n words
+            → Takes n (place_by (shape_by self.old) n words) word
+            (HoldsShape (shape_by self.old) self.new n (words ++ word ∷ [])) (Ok tt) }
+        ensures kept { result ≡ false → (n : ℕ) (words : List (List ℕ))
+            → HoldsPart self.old n words → HoldsShape (shape_by self.old) self.new n words }
+    {
+        match self {
+            Part::Points(part) => part.push_coordinate(coordinate),
+            _ => false,
+        }
+    }
+}

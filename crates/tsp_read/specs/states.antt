@@ -1,0 +1,3 @@
+pub mod Open
+pub mod Stored
+pub mod Incomplete

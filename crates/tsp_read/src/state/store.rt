@@ -1,0 +1,86 @@
+//! What a section has read goes into its field of the draft.
+
+ghost use Rattle.std.specs.Prelude.{◌≡◌, ℕ, List, IfOk, IfErr};
+ghost use Rattle.tsp_fields.specs.Fields.{fields_of};
+ghost use Rattle.tsp_items.specs.declared.fault.StepFault.TheVariants.{Memory};
+ghost use Rattle.tsp_items.specs.Sections.{place_in};
+ghost use Rattle.tsp_items.specs.Spells.{wants_more};
+ghost use Rattle.tsp_read.specs.states.Open.{HoldsSection};
+ghost use Rattle.tsp_read.specs.states.Stored.{with_numbers, with_points, with_section};
+
+use crate::state::reading::OpenSection;
+use std::alloc::Global;
+use tsp_fields::Draft;
+use tsp_items::{Part, StepFault};
+use tsp_number::Point;
+use tsp_value::Field;
+
+/// Stores what a section has. The answer is whether it is incomplete.
+pub(crate) fn store(
+    draft: &mut Draft,
+    alloc: Global,
+    section: OpenSection,
+) -> Result<bool, StepFault>
+    ensures stored { IfOk result (λ more. (n : ℕ) (words : List (List ℕ)) → HoldsSection section n words
+        → (fields_of draft.new ≡ with_section section.field n words (fields_of draft.old))
+        × (more ≡ wants_more (place_in section.field n words))) }
+    ensures err { IfErr result (λ e. e ≡ Memory) }
+{
+    let OpenSection { field, part } = section;
+    match part {
+        Part::Numbers(part) => {
+            let (numbers, wants_more) = part.finish();
+            put_numbers(draft, field, numbers);
+            Ok(wants_more)
+        }
+        Part::Points(part) => {
+            let (points, wants_more) = part.finish();
+            put_points(draft, field, points);
+            Ok(wants_more)
+        }
+        Part::Depots(part) => {
+            draft.depots = Some(part.finish());
+            Ok(false)
+        }
+        Part::Pairs(part) => {
+            let (pairs, wants_more) = part.finish();
+            draft.fixed = Some(pairs);
+            Ok(wants_more)
+        }
+        Part::Weights(part) => {
+            draft.weights = Some(part.finish());
+            Ok(false)
+        }
+        Part::Tours(part) => match part.finish(alloc) {
+            Ok(tours) => {
+                draft.tours = Some(tours);
+                Ok(false)
+            }
+            Err(fault) => Err(fault),
+        },
+    }
+}
+
+/// Stores the numbers of a section that has one for each node.
+fn put_numbers(draft: &mut Draft, field: Field, numbers: Vec<i64>)
+    ensures { fields_of draft.new ≡ with_numbers field numbers.items (fields_of draft.old) }
+{
+    match field {
+        Field::DemandPart => draft.demands = Some(numbers),
+        Field::NodePotentialPart => draft.node_potentials = Some(numbers),
+        Field::RowPotentialPart => draft.row_potentials = Some(numbers),
+        Field::ColumnPotentialPart => draft.column_potentials = Some(numbers),
+        _ => drop(numbers),
+    }
+}
+
+/// Stores the points of a section that has one for each node.
+fn put_points(draft: &mut Draft, field: Field, points: Vec<Point>)
+    ensures { fields_of draft.new ≡ with_points field points.items (fields_of draft.old) }
+{
+    match field {
+        Field::NodeCoordPart => draft.coords = Some(points),
+        Field::DisplayDataPart => draft.display = Some(points),
+        _ => drop(points),
+    }
+}
