@@ -59,6 +59,7 @@ first_without test f xs fails = found_alike (but f test) test xs each
     by_case : (x : Field) (b : Bool) → same_field x f ≡ b → (not b && test x) ≡ test x
     by_case x true e = sym (ap test (same_field_is x f e) ∙ fails)
     by_case x false e = refl
+
     each : (x : Field) → but f test x ≡ test x
     each x = by_case x (same_field x f) refl
 
@@ -77,6 +78,7 @@ first_with test f (x ∷ xs) passes = by_case (same_field x f) (test x) refl ref
   where
     others : List Field → Option Field
     others ys = find (but f test) ys
+
     by_case : (b c : Bool) → same_field x f ≡ b → test x ≡ c → find test xs ≡ first_of f (others xs) xs
         → cond c (Some x) (find test xs) ≡ (let o = cond (not b && c) (Some x) (others xs) in cond (b || is_it x o) (Some x) (first_of f o xs))
     by_case true true same is rest = refl
@@ -95,11 +97,14 @@ first_more p test f xs there passes =
   where
     others : Option Field
     others = find (but f test) (filter p xs)
+
     second : (x : Field) (o : Option Field) → others ≡ o → is_it x o ≡ true → p x ≡ true
     second x None e it = cc
     second x (Some y) e it = ap p (same_field_is x y it) ∙ among_passes p (but f test) xs y e
+
     by_case : (x : Field) (b : Bool) → same_field x f ≡ b → (b || is_it x others) ≡ true → p x ≡ true
     by_case x true same e = ap p (same_field_is x f same) ∙ there
     by_case x false same e = second x others refl e
+
     only : (x : Field) → (same_field x f || is_it x others) ≡ true → p x ≡ true
     only x e = by_case x (same_field x f) refl e

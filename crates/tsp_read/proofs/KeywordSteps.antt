@@ -268,7 +268,7 @@ dimension_line old new line slot (Ok done) sets is same_first same_part earlier 
     let there : is_some old.draft.dimension ≡ has_line DimensionKey earlier = ap (λ (xs : List Bool). get_or xs 2 false) h.stand in
     let filled : is_some slot ≡ true = ap (λ (o : Option ℕ). is_some o) sets.4 in
     let none : (f : Field) → is_section_field f ≡ true → same_field TourPart f ≡ false → has_line f earlier ≡ false =
-        λ f section other. none_before f earlier section other h.clean (sym there ∙ sets.0) in
+    λ f section other. none_before f earlier section other h.clean (sym there ∙ sets.0) in
     record {
       clean = clean_more earlier (Line (Known DimensionKey) line) h.clean (dimension_rows earlier line short ∙ numbered_none (has_line DimensionKey earlier) line.value (whole_of (first_word line.value) (pos 1) (pos most_nodes)) (pos sets.2) (sym there ∙ sets.0) sets.1 sets.3);
       stand = ap fields_there is ∙ ap (λ (b : Bool). set (fields_there (fields_of old.draft)) 2 b) filled ∙ ap (λ (xs : List Bool). set xs 2 true) h.stand;

@@ -110,14 +110,14 @@ opens old new field shape line n section is may of start same_draft same_first o
     let kind : is_section_field field ≡ true = ap is_some is in
     let rows = ap (λ (m : ℕ). opening_rows shape (stands_in (fields_of old.draft) field) line.value (is_some old.draft.dimension) m) (sym may.0) ∙ may.1 in
     let absent : stands_in (fields_of old.draft) field ≡ false = first_none (stands_in (fields_of old.draft) field) row.Repeated
-        (when (is_filled line.value) row.SectionValue ∷ when (needs_nodes shape && not (is_some old.draft.dimension)) row.SectionEarly
-        ∷ when (is_matrix shape && nat_lt most_matrix_nodes (unwrap_or old.draft.dimension 0)) row.TooManyNodes ∷ []) rows in
+    (when (is_filled line.value) row.SectionValue ∷ when (needs_nodes shape && not (is_some old.draft.dimension)) row.SectionEarly
+    ∷ when (is_matrix shape && nat_lt most_matrix_nodes (unwrap_or old.draft.dimension 0)) row.TooManyNodes ∷ []) rows in
     let none : has_line field earlier ≡ false = sym (standing earlier field kind) ∙ sym (ap (λ (fields : Fields). stands_in fields field) h.spelled) ∙ absent in
     let nodes : nodes_of earlier ≡ n = sym (ap (λ (fields : Fields). unwrap_or fields.dimension 0) h.spelled) ∙ sym may.0 in
     let words : words_of field earlier ≡ [] = no_words field earlier none in
     let held : HoldsPart section.part (nodes_of (Line (Known field) line ∷ earlier)) (words_of section.field earlier) =
-        subst (λ (m : ℕ). HoldsPart section.part m (words_of section.field earlier)) (sym ((keywords_stay earlier line field kind).1 ∙ nodes))
-        (subst (λ (ws : List (List ℕ)). HoldsPart section.part n ws) (sym (ap (λ f. words_of f earlier) of ∙ words)) start.1) in
+    subst (λ (m : ℕ). HoldsPart section.part m (words_of section.field earlier)) (sym ((keywords_stay earlier line field kind).1 ∙ nodes))
+    (subst (λ (ws : List (List ℕ)). HoldsPart section.part n ws) (sym (ap (λ f. words_of f earlier) of ∙ words)) start.1) in
     let open_now : open_section (Line (Known field) line ∷ earlier) ≡ Some field = ap (λ b. cond b (Some field) None) kind in
     record {
       clean = clean_more earlier (Line (Known field) line) h.clean (rows_are old field shape line earlier is h short ∙ rows);
@@ -156,7 +156,7 @@ first_now earlier f false first kind is fails = sym is ∙ first_without (is_inc
 
 pub closes : (old new : Reading) (section : OpenSection) (more : Bool) → old.opened ≡ Some section
     → ((n : ℕ) (words : List (List ℕ)) → HoldsSection section n words
-        → (fields_of new.draft ≡ with_section section.field n words (fields_of old.draft)) × (more ≡ wants_more (place_in section.field n words)))
+    → (fields_of new.draft ≡ with_section section.field n words (fields_of old.draft)) × (more ≡ wants_more (place_in section.field n words)))
     → new.incomplete ≡ cond more (first_of section.field old.incomplete fields_in_order) old.incomplete → new.opened ≡ None
     → (earlier : List Item) → Holds old earlier → Closed new earlier
 closes old new section more there stored first none earlier h =
@@ -166,7 +166,7 @@ closes old new section more there stored first none earlier h =
     let stands : has_line f earlier ≡ true = was_opened earlier f held.0 in
     let got = stored (nodes_of earlier) (words_of f earlier) held.1 in
     let others : find (but f (is_incomplete earlier)) sections_in_order ≡ old.incomplete =
-        ap (λ o. find (λ x. not (is_open x o) && is_incomplete earlier x) sections_in_order) (sym held.0) ∙ sym h.incomplete in
+    ap (λ o. find (λ x. not (is_open x o) && is_incomplete earlier x) sections_in_order) (sym held.0) ∙ sym h.incomplete in
     let wants : is_incomplete earlier f ≡ more = ap (λ b. b && wants_more (place_in f (nodes_of earlier) (words_of f earlier))) stands ∙ sym got.1 in
     record {
       clean = h.clean;
@@ -189,7 +189,7 @@ stored_as section shape old new more n words is fields wants = (
 pub numbers_stored : (section : OpenSection) (part : NumberList) (numbers : List ℤ) (more : Bool) (old new : Fields) → section.part ≡ parts.Numbers part
     → new ≡ with_numbers section.field numbers old
     → ((low high : ℤ) (n : ℕ) (words : List (List ℕ)) → HoldsNumbers part low high n words
-        → (numbers ≡ numbers_by_node low high n words) × (more ≡ wants_more (place_of_number low high n words)))
+    → (numbers ≡ numbers_by_node low high n words) × (more ≡ wants_more (place_of_number low high n words)))
     → (n : ℕ) (words : List (List ℕ)) → HoldsSection section n words
     → (new ≡ with_section section.field n words old) × (more ≡ wants_more (place_in section.field n words))
 numbers_stored section part numbers more old new is put finished n words h =

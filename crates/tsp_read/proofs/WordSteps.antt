@@ -58,8 +58,7 @@ open_more : (section after : OpenSection) (earlier : List Item) (word : List ℕ
     → HoldsShape (shape_by section.part) after.part (nodes_of earlier) (words_of section.field earlier ++ word ∷ []) → OpenHolds (Some after) (NumberWord word ∷ earlier)
 open_more section after earlier word o shape same h =
     let words : words_of after.field (NumberWord word ∷ earlier) ≡ words_of section.field earlier ++ word ∷ [] =
-        ap (λ f. words_of f (NumberWord word ∷ earlier)) same ∙ words_more earlier word section.field o in
-    (
+    ap (λ f. words_of f (NumberWord word ∷ earlier)) same ∙ words_more earlier word section.field o in (
       o ∙ ap (λ f. Some f) (sym same),
       (ap shape_of same ∙ shape ∙ ap (λ s. Some s) (sym h.0), subst (λ (ws : List (List ℕ)). HoldsPart after.part (nodes_of earlier) ws) (sym words) h.1),
     )
@@ -83,7 +82,7 @@ word_answer old new section after word (Ok done) earlier there same same_draft s
     let next = step (nodes_of earlier) (words_of f earlier) held.1.1 in
     record {
       clean = clean_more earlier (NumberWord word) h.clean (word_rows earlier word f held.0
-      ∙ ap (λ p. word_fault (nodes_of earlier) p word) (place_is f (shape_by section.part) (nodes_of earlier) (words_of f earlier) held.1.0) ∙ next.0);
+          ∙ ap (λ p. word_fault (nodes_of earlier) p word) (place_is f (shape_by section.part) (nodes_of earlier) (words_of f earlier) held.1.0) ∙ next.0);
       stand = rw same_draft h.stand;
       spelled = rw same_draft (h.spelled ∙ sym (word_fields earlier word f kind held.0));
       incomplete = same_first ∙ h.incomplete ∙ sym (word_first earlier word f kind held.0);
@@ -108,6 +107,11 @@ kept_answer old new section after earlier there same same_draft same_first is st
       stand = rw same_draft h.stand;
       spelled = rw same_draft h.spelled;
       incomplete = same_first ∙ h.incomplete;
-      part = rw is (held.0 ∙ ap (λ f. Some f) (sym same), (ap shape_of same ∙ held.1.0 ∙ ap (λ s. Some s) (sym kept.0),
-      subst (λ f. HoldsPart after.part (nodes_of earlier) (words_of f earlier)) (sym same) kept.1));
+      part = rw is (
+        held.0 ∙ ap (λ f. Some f) (sym same),
+        (
+          ap shape_of same ∙ held.1.0 ∙ ap (λ s. Some s) (sym kept.0),
+          subst (λ f. HoldsPart after.part (nodes_of earlier) (words_of f earlier)) (sym same) kept.1,
+        ),
+      );
     }
