@@ -80,7 +80,7 @@ named_rows stands out found = first_row (when stands row.Repeated ∷ when out r
 abbrev pub SetsNamed : {V : Type 0} → (V → List ℕ) → List V → Field → List ℕ → Option V → Option V → Result (Unit {0}) StepFault → Type 0
 SetsNamed text values field word old new (Ok done) = (is_some old ≡ false) × (is_left_out field word ≡ false) × (named text values word ≡ new) × (is_some new ≡ true)
 SetsNamed text values field word old new (Err steps.Memory) = ⊥
-SetsNamed text values field word old new (Err (steps.Fault fault)) = named_rows (is_some old) (is_left_out field word) (named text values word) ≡ Some fault
+SetsNamed text values field word old new (Err (steps.Fault fault)) = (new ≡ old) × (named_rows (is_some old) (is_left_out field word) (named text values word) ≡ Some fault)
 
 abbrev pub numbered_rows : Bool → List ℕ → Result ℤ NumberFault → Option LineFault
 numbered_rows stands value reading = first_row (when stands row.Repeated ∷ when (not (is_filled value)) row.BadValue ∷ option_map (λ fault. row.Number fault) (result_err reading) ∷ [])
@@ -89,28 +89,28 @@ numbered_rows stands value reading = first_row (when stands row.Repeated ∷ whe
 abbrev pub SetsNumber : ℤ → ℤ → List ℕ → Option ℤ → Option ℤ → Result (Unit {0}) StepFault → Type 0
 SetsNumber low high value old new (Ok done) = (is_some old ≡ false) × (is_filled value ≡ true) × (z : ℤ) × (whole_of (first_word value) low high ≡ Ok z) × (new ≡ Some z)
 SetsNumber low high value old new (Err steps.Memory) = ⊥
-SetsNumber low high value old new (Err (steps.Fault fault)) = numbered_rows (is_some old) value (whole_of (first_word value) low high) ≡ Some fault
+SetsNumber low high value old new (Err (steps.Fault fault)) = (new ≡ old) × (numbered_rows (is_some old) value (whole_of (first_word value) low high) ≡ Some fault)
 
 -- the same of a number of nodes
 abbrev pub SetsCount : ℕ → List ℕ → Option ℕ → Option ℕ → Result (Unit {0}) StepFault → Type 0
 SetsCount most value old new (Ok done) = (is_some old ≡ false) × (is_filled value ≡ true) × (n : ℕ) × (whole_of (first_word value) (pos 1) (pos most) ≡ Ok (pos n)) × (new ≡ Some n)
 SetsCount most value old new (Err steps.Memory) = ⊥
-SetsCount most value old new (Err (steps.Fault fault)) = numbered_rows (is_some old) value (whole_of (first_word value) (pos 1) (pos most)) ≡ Some fault
+SetsCount most value old new (Err (steps.Fault fault)) = (new ≡ old) × (numbered_rows (is_some old) value (whole_of (first_word value) (pos 1) (pos most)) ≡ Some fault)
 
 -- the name is there now, or the fault of the line
 abbrev pub SetsName : WordLine → Option (List ℕ) → Option (List ℕ) → Result (Unit {0}) StepFault → Type 0
 SetsName line old new (Ok done) = (is_some old ≡ false) × (is_too_long_to_keep line ≡ false) × (new ≡ Some line.value)
-SetsName line old new (Err steps.Memory) = Unit {0}
-SetsName line old new (Err (steps.Fault fault)) = first_row (when (is_some old) row.Repeated ∷ when (is_too_long_to_keep line) row.BadValue ∷ []) ≡ Some fault
+SetsName line old new (Err steps.Memory) = new ≡ old
+SetsName line old new (Err (steps.Fault fault)) = (new ≡ old) × (first_row (when (is_some old) row.Repeated ∷ when (is_too_long_to_keep line) row.BadValue ∷ []) ≡ Some fault)
 
 -- the value is the last comment now, or the fault of the line
 abbrev pub AddsComment : WordLine → List (List ℕ) → List (List ℕ) → Result (Unit {0}) StepFault → Type 0
 AddsComment line old new (Ok done) = (is_too_long_to_keep line ≡ false) × (nat_le most_comments (length old) ≡ false) × (new ≡ old ++ line.value ∷ [])
-AddsComment line old new (Err steps.Memory) = Unit {0}
-AddsComment line old new (Err (steps.Fault fault)) = first_row (when (is_too_long_to_keep line) row.BadValue ∷ when (nat_le most_comments (length old)) row.Surplus ∷ []) ≡ Some fault
+AddsComment line old new (Err steps.Memory) = new ≡ old
+AddsComment line old new (Err (steps.Fault fault)) = (new ≡ old) × (first_row (when (is_too_long_to_keep line) row.BadValue ∷ when (nat_le most_comments (length old)) row.Surplus ∷ []) ≡ Some fault)
 
 -- the keyword and the value are the last of the unknown ones now, or the fault of the line
 abbrev pub AddsOther : WordLine → List (List ℕ × List ℕ) → List (List ℕ × List ℕ) → Result (Unit {0}) StepFault → Type 0
 AddsOther line old new (Ok done) = (line.has_colon ≡ true) × (is_too_long_to_keep line ≡ false) × (nat_le most_others (length old) ≡ false) × (new ≡ old ++ (line.keyword, line.value) ∷ [])
-AddsOther line old new (Err steps.Memory) = Unit {0}
-AddsOther line old new (Err (steps.Fault fault)) = first_row (when (not line.has_colon) row.UnknownLine ∷ when (is_too_long_to_keep line) row.BadValue ∷ when (nat_le most_others (length old)) row.Surplus ∷ []) ≡ Some fault
+AddsOther line old new (Err steps.Memory) = new ≡ old
+AddsOther line old new (Err (steps.Fault fault)) = (new ≡ old) × (first_row (when (not line.has_colon) row.UnknownLine ∷ when (is_too_long_to_keep line) row.BadValue ∷ when (nat_le most_others (length old)) row.Surplus ∷ []) ≡ Some fault)

@@ -1,6 +1,6 @@
 //! The part of a reader that takes the words of a section, whichever its shape.
 
-ghost use Rattle.std.specs.Prelude.{◌≡◌, ◌≤◌, [], ℕ, List, ◌∷◌, ◌++◌, Ok, IfOk, true, false};
+ghost use Rattle.std.specs.Prelude.{◌≡◌, ◌≤◌, [], ℕ, List, ◌∷◌, ◌++◌, Ok, IfOk, IfErr, true, false};
 
 use crate::fault::StepFault;
 use crate::parts::depots::DepotList;
@@ -58,10 +58,14 @@ impl Part {
     ///
     /// - `Fault`: the first row that the word has at its place.
     /// - `Memory`: memory was refused.
+    ///
+    /// The part has the words from before then.
     pub fn push(&mut self, alloc: Global, word: &[u8]) -> Result<(), StepFault>
-        ensures { (n : ℕ) (words : List (List ℕ)) → HoldsPart self.old n words
+        ensures takes { (n : ℕ) (words : List (List ℕ)) → HoldsPart self.old n words
             → Takes n (place_by (shape_by self.old) n words) word.now
             (HoldsShape (shape_by self.old) self.new n (words ++ word.now ∷ [])) result }
+        ensures kept { IfErr result (λ _. (n : ℕ) (words : List (List ℕ))
+            → HoldsPart self.old n words → HoldsShape (shape_by self.old) self.new n words) }
     {
         match self {
             Part::Numbers(part) => part.push(word),

@@ -1,6 +1,6 @@
 //! Depots.
 
-ghost use Rattle.std.specs.Prelude.{◌≡◌, [], ℕ, List, ◌∷◌, ◌++◌};
+ghost use Rattle.std.specs.Prelude.{◌≡◌, [], ℕ, List, ◌∷◌, ◌++◌, IfErr};
 
 use crate::fault::{LineFault, StepFault};
 use crate::parts::nodes::{is_minus_one, read_node_or_end};
@@ -38,10 +38,14 @@ impl DepotList {
     /// - `Fault`: the word is neither a node nor a -1 (`Number`), there are as many depots as a
     ///   file may have (`Surplus`), or the list has ended (`AfterEnd`).
     /// - `Memory`: memory was refused.
+    ///
+    /// The list has the words from before then.
     pub fn push(&mut self, word: &[u8]) -> Result<(), StepFault>
-        ensures { (n : ℕ) (words : List (List ℕ)) → HoldsDepots self.old n words
+        ensures takes { (n : ℕ) (words : List (List ℕ)) → HoldsDepots self.old n words
             → Takes n (place_of_depot n words) word.now
             (HoldsDepots self.new n (words ++ word.now ∷ [])) result }
+        ensures kept { IfErr result (λ _. (n : ℕ) (words : List (List ℕ)) → HoldsDepots self.old n words
+            → HoldsDepots self.new n words) }
     {
         if self.ended {
             if is_minus_one(word) {

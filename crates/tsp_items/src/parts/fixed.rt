@@ -1,6 +1,6 @@
 //! Fixed pairs.
 
-ghost use Rattle.std.specs.Prelude.{◌≡◌, false, None, Some, [], ℕ, List, ◌∷◌, ◌++◌};
+ghost use Rattle.std.specs.Prelude.{◌≡◌, false, None, Some, [], ℕ, List, ◌∷◌, ◌++◌, IfErr};
 
 use crate::fault::{LineFault, StepFault};
 use crate::parts::nodes::{is_minus_one, read_node, read_node_or_end};
@@ -42,10 +42,14 @@ impl FixedList {
     ///   node and itself (`SelfEdge`), there are as many pairs as a file may have (`Surplus`), or
     ///   the list has ended (`AfterEnd`).
     /// - `Memory`: memory was refused.
+    ///
+    /// The list has the words from before then.
     pub fn push(&mut self, word: &[u8]) -> Result<(), StepFault>
-        ensures { (n : ℕ) (words : List (List ℕ)) → HoldsFixed self.old n words
+        ensures takes { (n : ℕ) (words : List (List ℕ)) → HoldsFixed self.old n words
             → Takes n (place_of_fixed n words) word.now
             (HoldsFixed self.new n (words ++ word.now ∷ [])) result }
+        ensures kept { IfErr result (λ _. (n : ℕ) (words : List (List ℕ)) → HoldsFixed self.old n words
+            → HoldsFixed self.new n words) }
     {
         if self.ended {
             if is_minus_one(word) {
@@ -61,10 +65,12 @@ impl FixedList {
 
     /// Takes the first node of a pair, or the -1 that ends the list.
     fn push_first(&mut self, word: &[u8]) -> Result<(), StepFault>
-        ensures { (n : ℕ) (words : List (List ℕ)) → HoldsFixed self.old n words
+        ensures takes { (n : ℕ) (words : List (List ℕ)) → HoldsFixed self.old n words
             → self.old.ended ≡ false → self.old.first ≡ None
             → Takes n (place_of_fixed n words) word.now
             (HoldsFixed self.new n (words ++ word.now ∷ [])) result }
+        ensures kept { IfErr result (λ _. (n : ℕ) (words : List (List ℕ)) → HoldsFixed self.old n words
+            → HoldsFixed self.new n words) }
     {
         match read_node_or_end(word, self.n) {
             Err(fault) => Err(StepFault::Fault(LineFault::Number(fault))),
@@ -84,21 +90,23 @@ impl FixedList {
 
     /// Takes the second node of a pair.
     fn push_second(&mut self, first: u32, word: &[u8]) -> Result<(), StepFault>
-        ensures { (n : ℕ) (words : List (List ℕ)) → HoldsFixed self.old n words
+        ensures takes { (n : ℕ) (words : List (List ℕ)) → HoldsFixed self.old n words
             → self.old.ended ≡ false → self.old.first ≡ Some first
             → Takes n (place_of_fixed n words) word.now
             (HoldsFixed self.new n (words ++ word.now ∷ [])) result }
+        ensures kept { IfErr result (λ _. (n : ℕ) (words : List (List ℕ)) → HoldsFixed self.old n words
+            → HoldsFixed self.new n words) }
     {
         match read_node(word, self.n) {
             Err(fault) => Err(StepFault::Fault(LineFault::Number(fault))),
             Ok(second) if second == first => Err(StepFault::Fault(LineFault::SelfEdge)),
-            Ok(second) => {
-                self.first = None;
-                match self.pairs.push((first, second)) {
-                    Ok(()) => Ok(()),
-                    Err(_) => Err(StepFault::Memory),
+            Ok(second) => match self.pairs.push((first, second)) {
+                Ok(()) => {
+                    self.first = None;
+                    Ok(())
                 }
-            }
+                Err(_) => Err(StepFault::Memory),
+            },
         }
     }
 

@@ -1,6 +1,6 @@
 //! By-node sections with a whole number for each node.
 
-ghost use Rattle.std.specs.Prelude.{◌≡◌, ◌<◌, ◌≤◌, ◌^◌, [], ℕ, ℤ, List, ◌∷◌, ◌++◌, vec_len, IfOk};
+ghost use Rattle.std.specs.Prelude.{◌≡◌, ◌<◌, ◌≤◌, ◌^◌, [], ℕ, ℤ, List, ◌∷◌, ◌++◌, vec_len, IfOk, IfErr, Err, ◌≢◌};
 ghost use Rattle.std.specs.Option.{ForSome};
 
 use crate::fault::{LineFault, StepFault};
@@ -23,6 +23,7 @@ pub struct NumberList {
 }
 
 impl NumberList {
+    ghost use Rattle.tsp_items.specs.declared.fault.StepFault.TheVariants.{Memory};
     ghost use Rattle.tsp_items.specs.Groups.{place_of_number, numbers_by_node};
     ghost use Rattle.tsp_items.specs.Spells.{wants_more};
     ghost use Rattle.tsp_items.specs.Parts.{Takes};
@@ -52,12 +53,16 @@ impl NumberList {
     /// # Errors
     ///
     /// `Fault`: the word is no node, or no number from `low` to `high` (`Number`), the node has a
-    /// group (`RepeatedNode`), or every node has one (`Surplus`).
+    /// group (`RepeatedNode`), or every node has one (`Surplus`). The list has the words from before
+    /// then. No memory is taken.
     pub fn push(&mut self, word: &[u8]) -> Result<(), StepFault>
-        ensures { (low high : ℤ) (n : ℕ) (words : List (List ℕ))
+        ensures takes { (low high : ℤ) (n : ℕ) (words : List (List ℕ))
             → HoldsNumbers self.old low high n words
             → Takes n (place_of_number low high n words) word.now
             (HoldsNumbers self.new low high n (words ++ word.now ∷ [])) result }
+        ensures kept { IfErr result (λ _. (low high : ℤ) (n : ℕ) (words : List (List ℕ))
+            → HoldsNumbers self.old low high n words → HoldsNumbers self.new low high n words) }
+        ensures memory { result ≢ Err Memory }
     {
         if self.left == 0 {
             if is_minus_one(word) {

@@ -1,6 +1,6 @@
 //! By-node sections with a point for each node.
 
-ghost use Rattle.std.specs.Prelude.{◌≡◌, ◌<◌, ◌≤◌, ◌^◌, None, Some, Ok, [], ℕ, List, ◌∷◌, ◌++◌, vec_len, IfOk, is_some, true, false};
+ghost use Rattle.std.specs.Prelude.{◌≡◌, ◌<◌, ◌≤◌, ◌^◌, None, Some, Ok, [], ℕ, List, ◌∷◌, ◌++◌, vec_len, IfOk, IfErr, Err, ◌≢◌, is_some, true, false};
 ghost use Rattle.std.specs.Option.{ForSome};
 
 use crate::fault::{LineFault, StepFault};
@@ -22,6 +22,7 @@ pub struct PointList {
 }
 
 impl PointList {
+    ghost use Rattle.tsp_items.specs.declared.fault.StepFault.TheVariants.{Memory};
     ghost use Rattle.tsp_number.specs.Reading.{decimal_of};
     ghost use Rattle.tsp_items.specs.Numbers.{IsWhole};
     ghost use Rattle.tsp_items.specs.Groups.{place_of_point, points_by_node};
@@ -55,11 +56,15 @@ impl PointList {
     /// # Errors
     ///
     /// `Fault`: the word is no node, or no coordinate (`Number`), the node has a group
-    /// (`RepeatedNode`), or every node has one (`Surplus`).
+    /// (`RepeatedNode`), or every node has one (`Surplus`). The list has the words from before then.
+    /// No memory is taken.
     pub fn push(&mut self, word: &[u8]) -> Result<(), StepFault>
-        ensures { (n : ℕ) (words : List (List ℕ)) → HoldsPoints self.old n words
+        ensures takes { (n : ℕ) (words : List (List ℕ)) → HoldsPoints self.old n words
             → Takes n (place_of_point n words) word.now
             (HoldsPoints self.new n (words ++ word.now ∷ [])) result }
+        ensures kept { IfErr result (λ _. (n : ℕ) (words : List (List ℕ))
+            → HoldsPoints self.old n words → HoldsPoints self.new n words) }
+        ensures memory { result ≢ Err Memory }
     {
         if self.left == 0 {
             if is_minus_one(word) {

@@ -42,10 +42,14 @@ impl TourList {
     /// - `Fault`: the word is neither a node of some file nor a -1 (`Number`), or the tours have as
     ///   many nodes as a file may have in tours (`Surplus`).
     /// - `Memory`: memory was refused.
+    ///
+    /// The list has the words from before then.
     pub fn push(&mut self, alloc: Global, word: &[u8]) -> Result<(), StepFault>
-        ensures { (n : ℕ) (words : List (List ℕ)) → HoldsTours self.old words
+        ensures takes { (n : ℕ) (words : List (List ℕ)) → HoldsTours self.old words
             → Takes n (place_of_tour words) word.now
             (HoldsTours self.new (words ++ word.now ∷ [])) result }
+        ensures kept { IfErr result (λ _. (words : List (List ℕ)) → HoldsTours self.old words
+            → HoldsTours self.new words) }
     {
         match read_node_or_end(word, MOST_NODES) {
             Err(fault) => Err(StepFault::Fault(LineFault::Number(fault))),
@@ -54,9 +58,11 @@ impl TourList {
                 if self.count >= MOST_TOUR_NODES {
                     return Err(StepFault::Fault(LineFault::Surplus));
                 }
-                self.count += 1;
                 match self.run.push(node) {
-                    Ok(()) => Ok(()),
+                    Ok(()) => {
+                        self.count += 1;
+                        Ok(())
+                    }
                     Err(_) => Err(StepFault::Memory),
                 }
             }
@@ -90,6 +96,8 @@ impl TourList {
     fn end_run(&mut self, alloc: Global) -> Result<(), StepFault>
         ensures done { OnOk result ((words : List (List ℕ)) → HoldsTours self.old words
             → EndsRunOf self.new words) }
+        ensures kept { IfErr result (λ _. (words : List (List ℕ)) → HoldsTours self.old words
+            → HoldsTours self.new words) }
         ensures count { self.new.count ≡ self.old.count }
         ensures err { IfErr result (λ e. e ≡ Memory) }
     {
@@ -97,10 +105,13 @@ impl TourList {
             return Ok(());
         }
         let run = mem::replace(&mut self.run, Vec::new(alloc));
-        if self.done.push(run).is_err() {
-            return Err(StepFault::Memory);
+        match self.done.push(run) {
+            Ok(()) => Ok(()),
+            Err(refused) => {
+                self.run = refused.value;
+                Err(StepFault::Memory)
+            }
         }
-        Ok(())
     }
 
     /// The tours.

@@ -1,6 +1,6 @@
 //! The weights of a matrix.
 
-ghost use Rattle.std.specs.Prelude.{◌≡◌, ◌≤◌, [], ℕ, List, ◌∷◌, ◌++◌, Ok, true, false};
+ghost use Rattle.std.specs.Prelude.{◌≡◌, ◌≤◌, [], ℕ, List, ◌∷◌, ◌++◌, Ok, IfErr, true, false};
 ghost use Rattle.tsp_items.specs.Numbers.{IsWhole};
 
 use crate::fault::{LineFault, StepFault};
@@ -37,10 +37,14 @@ impl WeightList {
     ///
     /// - `Fault`: the word is no weight (`Number`), or there are `n * n` weights (`Surplus`).
     /// - `Memory`: memory was refused.
+    ///
+    /// The list has the words from before then.
     pub fn push(&mut self, word: &[u8]) -> Result<(), StepFault>
-        ensures { (n : ℕ) (words : List (List ℕ)) → HoldsWeights self.old n words
+        ensures takes { (n : ℕ) (words : List (List ℕ)) → HoldsWeights self.old n words
             → Takes n (place_of_weight n words) word.now
             (HoldsWeights self.new n (words ++ word.now ∷ [])) result }
+        ensures kept { IfErr result (λ _. (n : ℕ) (words : List (List ℕ)) → HoldsWeights self.old n words
+            → HoldsWeights self.new n words) }
     {
         if self.weights.len() >= self.most {
             return Err(StepFault::Fault(LineFault::Surplus));

@@ -3,17 +3,17 @@ use Rattle.tsp_items.specs.declared.part.Part.TheVariants as parts
 use Rattle.tsp_items.proofs.PartSteps as steps
 use Rattle.tsp_items.proofs.part.Part.push.Goals as goal
 
-pub returns-in-Numbers : goal.returns-in-Numbers
-returns-in-Numbers c = λ n words h.
+pub returns-in-Numbers-clause-takes : goal.returns-in-Numbers-clause-takes
+returns-in-Numbers-clause-takes c = λ n words h.
     steps.numbers c.args.self.now c.in-Numbers.part c.push.new.self n words c.args.word.now
-    c.push.result c.in-Numbers.is c.push.ensures h
+    c.push.result c.in-Numbers.is c.push.ensures.takes h
 
-pub returns-in-Pairs : goal.returns-in-Pairs
-returns-in-Pairs c = λ n words h.
+pub returns-in-Pairs-clause-takes : goal.returns-in-Pairs-clause-takes
+returns-in-Pairs-clause-takes c = λ n words h.
     steps.as_list c.args.self.now (parts.Pairs c.in-Pairs.part) (parts.Pairs c.push-in-Pairs.new.self) n words
-    c.args.word.now c.push-in-Pairs.result c.in-Pairs.is refl (c.push-in-Pairs.ensures n words) h
+    c.args.word.now c.push-in-Pairs.result c.in-Pairs.is refl (c.push-in-Pairs.ensures.takes n words) h
 
-pub returns-in-Tours : goal.returns-in-Tours
-returns-in-Tours c = λ n words h.
+pub returns-in-Tours-clause-takes : goal.returns-in-Tours-clause-takes
+returns-in-Tours-clause-takes c = λ n words h.
     steps.as_list c.args.self.now (parts.Tours c.in-Tours.part) (parts.Tours c.push-in-Tours.new.self) n words
-    c.args.word.now c.push-in-Tours.result c.in-Tours.is refl (c.push-in-Tours.ensures n words) h
+    c.args.word.now c.push-in-Tours.result c.in-Tours.is refl (c.push-in-Tours.ensures.takes n words) h

@@ -6,21 +6,21 @@ use Rattle.tsp_items.specs.Parts.{IsNewNode}
 use Rattle.tsp_items.proofs.NumberSteps.{number_node_faulty, number_bad, number_node, number_more}
 use Rattle.tsp_items.proofs.parts.numbers.NumberList.push.Goals as goal
 
-pub returns-in-Ok : goal.returns-in-Ok
-returns-in-Ok c = λ low high n words h.
+pub returns-in-Ok-clause-takes : goal.returns-in-Ok-clause-takes
+returns-in-Ok-clause-takes c = λ low high n words h.
     let s = c.args.self.now in
     let new = rw c.as_slice.ensures.value at c.in-Ok.ensures in
     let next = number_node s.seen.items s.entries.items s.left s.begun low high n words c.args.word.now c.in-Ok.node (omega arith) c.in-None.is new h.read in
     (next.0, record { from = h.from; to = h.to; read = next.1 })
 
-pub returns-in-Err : goal.returns-in-Err
-returns-in-Err c = λ low high n words h.
+pub returns-in-Err-clause-takes : goal.returns-in-Err-clause-takes
+returns-in-Err-clause-takes c = λ low high n words h.
     let s = c.args.self.now in
     let new = subst (λ seen. IsNewNode seen c.args.word.now (Err c.in-Err.fault)) c.as_slice.ensures.value c.in-Err.ensures in
     number_node_faulty s.seen.items s.entries.items s.left s.begun low high n words c.args.word.now c.in-Err.fault (omega arith) c.in-None.is new h.read
 
-pub returns-in-Ok-parse_whole : goal.returns-in-Ok-parse_whole
-returns-in-Ok-parse_whole c = λ low high n words h.
+pub returns-in-Ok-parse_whole-clause-takes : goal.returns-in-Ok-parse_whole-clause-takes
+returns-in-Ok-parse_whole-clause-takes c = λ low high n words h.
     let s = c.args.self.now in
     let z = c.in-Ok-parse_whole.number in
     let low_fits : SFits w64 s.low = search rules in
@@ -31,8 +31,8 @@ returns-in-Ok-parse_whole c = λ low high n words h.
     let next = number_more s.seen.items s.entries.items s.left s.begun low high n words c.args.word.now c.in-Some.node z (omega arith) c.in-Some.is read h.read in
     (next.0, record { from = h.from; to = h.to; read = simp (to_z-of_z, fits) next.1 })
 
-pub returns-in-Err-parse_whole : goal.returns-in-Err-parse_whole
-returns-in-Err-parse_whole c = λ low high n words h.
+pub returns-in-Err-parse_whole-clause-takes : goal.returns-in-Err-parse_whole-clause-takes
+returns-in-Err-parse_whole-clause-takes c = λ low high n words h.
     let s = c.args.self.now in
     let low_fits : SFits w64 s.low = search rules in
     let high_fits : SFits w64 s.high = search rules in

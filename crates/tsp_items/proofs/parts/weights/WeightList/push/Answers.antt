@@ -6,8 +6,8 @@ use Rattle.tsp_items.specs.Numbers.{sized}
 use Rattle.tsp_items.proofs.WeightSteps.{weight_more}
 use Rattle.tsp_items.proofs.parts.weights.WeightList.push.Goals as goal
 
-pub returns-in-Ok-push : goal.returns-in-Ok-push
-returns-in-Ok-push c = λ n words h.
+pub returns-in-Ok-push-clause-takes : goal.returns-in-Ok-push-clause-takes
+returns-in-Ok-push-clause-takes c = λ n words h.
     let s = c.args.self.now in
     let read : sized most_weight c.args.word.now ≡ Ok c.in-Ok.weight = sym c.parse_whole.ensures.computed ∙ c.in-Ok.is in
     let next = weight_more s.weights.items s.most n words c.args.word.now c.in-Ok.weight (omega arith) read h in
