@@ -78,7 +78,7 @@ kind_line old new line slot (Ok done) sets is same_first same_part earlier h sho
 kind_line old new line slot (Err steps.Memory) sets is same_first same_part earlier h short = tt
 kind_line old new line slot (Err (steps.Fault fault)) sets is same_first same_part earlier h short =
     let there : is_some old.draft.kind ≡ has_line TypeKey earlier = ap (λ (xs : List Bool). get_or xs 1 false) h.stand in
-    kind_rows earlier line short ∙ ap (λ (b : Bool). named_rows b (is_left_out TypeKey (first_word line.value)) (kind_named (first_word line.value))) (sym there) ∙ sets
+    kind_rows earlier line short ∙ ap (λ (b : Bool). named_rows b (is_left_out TypeKey (first_word line.value)) (kind_named (first_word line.value))) (sym there) ∙ sets.1
 
 -- ---- EdgeWeightTypeKey
 
@@ -104,7 +104,7 @@ weight_kind_line old new line slot (Ok done) sets is same_first same_part earlie
 weight_kind_line old new line slot (Err steps.Memory) sets is same_first same_part earlier h short = tt
 weight_kind_line old new line slot (Err (steps.Fault fault)) sets is same_first same_part earlier h short =
     let there : is_some old.draft.weight_kind ≡ has_line EdgeWeightTypeKey earlier = ap (λ (xs : List Bool). get_or xs 5 false) h.stand in
-    weight_kind_rows earlier line short ∙ ap (λ (b : Bool). named_rows b (is_left_out EdgeWeightTypeKey (first_word line.value)) (weight_kind_named (first_word line.value))) (sym there) ∙ sets
+    weight_kind_rows earlier line short ∙ ap (λ (b : Bool). named_rows b (is_left_out EdgeWeightTypeKey (first_word line.value)) (weight_kind_named (first_word line.value))) (sym there) ∙ sets.1
 
 -- ---- EdgeWeightFormatKey
 
@@ -130,7 +130,7 @@ weight_format_line old new line slot (Ok done) sets is same_first same_part earl
 weight_format_line old new line slot (Err steps.Memory) sets is same_first same_part earlier h short = tt
 weight_format_line old new line slot (Err (steps.Fault fault)) sets is same_first same_part earlier h short =
     let there : is_some old.draft.weight_format ≡ has_line EdgeWeightFormatKey earlier = ap (λ (xs : List Bool). get_or xs 6 false) h.stand in
-    weight_format_rows earlier line short ∙ ap (λ (b : Bool). named_rows b (is_left_out EdgeWeightFormatKey (first_word line.value)) (weight_format_named (first_word line.value))) (sym there) ∙ sets
+    weight_format_rows earlier line short ∙ ap (λ (b : Bool). named_rows b (is_left_out EdgeWeightFormatKey (first_word line.value)) (weight_format_named (first_word line.value))) (sym there) ∙ sets.1
 
 -- ---- NodeCoordTypeKey
 
@@ -156,7 +156,7 @@ coord_kind_line old new line slot (Ok done) sets is same_first same_part earlier
 coord_kind_line old new line slot (Err steps.Memory) sets is same_first same_part earlier h short = tt
 coord_kind_line old new line slot (Err (steps.Fault fault)) sets is same_first same_part earlier h short =
     let there : is_some old.draft.coord_kind ≡ has_line NodeCoordTypeKey earlier = ap (λ (xs : List Bool). get_or xs 7 false) h.stand in
-    coord_kind_rows earlier line short ∙ ap (λ (b : Bool). named_rows b (is_left_out NodeCoordTypeKey (first_word line.value)) (coord_kind_named (first_word line.value))) (sym there) ∙ sets
+    coord_kind_rows earlier line short ∙ ap (λ (b : Bool). named_rows b (is_left_out NodeCoordTypeKey (first_word line.value)) (coord_kind_named (first_word line.value))) (sym there) ∙ sets.1
 
 -- ---- DisplayDataTypeKey
 
@@ -182,7 +182,7 @@ display_kind_line old new line slot (Ok done) sets is same_first same_part earli
 display_kind_line old new line slot (Err steps.Memory) sets is same_first same_part earlier h short = tt
 display_kind_line old new line slot (Err (steps.Fault fault)) sets is same_first same_part earlier h short =
     let there : is_some old.draft.display_kind ≡ has_line DisplayDataTypeKey earlier = ap (λ (xs : List Bool). get_or xs 8 false) h.stand in
-    display_kind_rows earlier line short ∙ ap (λ (b : Bool). named_rows b (is_left_out DisplayDataTypeKey (first_word line.value)) (display_kind_named (first_word line.value))) (sym there) ∙ sets
+    display_kind_rows earlier line short ∙ ap (λ (b : Bool). named_rows b (is_left_out DisplayDataTypeKey (first_word line.value)) (display_kind_named (first_word line.value))) (sym there) ∙ sets.1
 
 -- ---- CapacityKey
 
@@ -208,7 +208,7 @@ capacity_line old new line slot (Ok done) sets is same_first same_part earlier h
 capacity_line old new line slot (Err steps.Memory) sets is same_first same_part earlier h short = tt
 capacity_line old new line slot (Err (steps.Fault fault)) sets is same_first same_part earlier h short =
     let there : is_some old.draft.capacity ≡ has_line CapacityKey earlier = ap (λ (xs : List Bool). get_or xs 3 false) h.stand in
-    capacity_rows earlier line short ∙ ap (λ (b : Bool). numbered_rows b line.value (whole_of (first_word line.value) (pos 1) (pos most_capacity))) (sym there) ∙ sets
+    capacity_rows earlier line short ∙ ap (λ (b : Bool). numbered_rows b line.value (whole_of (first_word line.value) (pos 1) (pos most_capacity))) (sym there) ∙ sets.1
 
 -- ---- ScaleKey
 
@@ -234,7 +234,7 @@ scale_line old new line slot (Ok done) sets is same_first same_part earlier h sh
 scale_line old new line slot (Err steps.Memory) sets is same_first same_part earlier h short = tt
 scale_line old new line slot (Err (steps.Fault fault)) sets is same_first same_part earlier h short =
     let there : is_some old.draft.scale ≡ has_line ScaleKey earlier = ap (λ (xs : List Bool). get_or xs 4 false) h.stand in
-    scale_rows earlier line short ∙ ap (λ (b : Bool). numbered_rows b line.value (whole_of (first_word line.value) (pos 1) (pos most_scale))) (sym there) ∙ sets
+    scale_rows earlier line short ∙ ap (λ (b : Bool). numbered_rows b line.value (whole_of (first_word line.value) (pos 1) (pos most_scale))) (sym there) ∙ sets.1
 
 -- ---- DimensionKey: no section stands yet but the tours, which don't look at it
 
@@ -285,4 +285,4 @@ dimension_line old new line slot (Ok done) sets is same_first same_part earlier 
 dimension_line old new line slot (Err steps.Memory) sets is same_first same_part earlier h short = tt
 dimension_line old new line slot (Err (steps.Fault fault)) sets is same_first same_part earlier h short =
     let there : is_some old.draft.dimension ≡ has_line DimensionKey earlier = ap (λ (xs : List Bool). get_or xs 2 false) h.stand in
-    dimension_rows earlier line short ∙ ap (λ (b : Bool). numbered_rows b line.value (whole_of (first_word line.value) (pos 1) (pos most_nodes))) (sym there) ∙ sets
+    dimension_rows earlier line short ∙ ap (λ (b : Bool). numbered_rows b line.value (whole_of (first_word line.value) (pos 1) (pos most_nodes))) (sym there) ∙ sets.1

@@ -53,7 +53,7 @@ name_line old new line slot (Ok done) sets is same_first same_part earlier h sho
 name_line old new line slot (Err steps.Memory) sets is same_first same_part earlier h short = tt
 name_line old new line slot (Err (steps.Fault fault)) sets is same_first same_part earlier h short =
     let there : is_some (fields_of old.draft).name ≡ has_line NameKey earlier = ap (λ (xs : List Bool). get_or xs 0 false) h.stand in
-    name_rows earlier line short ∙ ap (λ (b : Bool). first_row (when b row.Repeated ∷ when (is_too_long_to_keep line) row.BadValue ∷ [])) (sym there) ∙ sets
+    name_rows earlier line short ∙ ap (λ (b : Bool). first_row (when b row.Repeated ∷ when (is_too_long_to_keep line) row.BadValue ∷ [])) (sym there) ∙ sets.1
 
 -- ---- CommentKey
 
@@ -82,7 +82,7 @@ comment_line old new line comments (Err steps.Memory) adds is same_first same_pa
 comment_line old new line comments (Err (steps.Fault fault)) adds is same_first same_part earlier h short =
     let same : (fields_of old.draft).comments ≡ values_at CommentKey earlier = ap (λ (fields : Fields). fields.comments) h.spelled in
     comment_rows earlier line short
-    ∙ ap (λ (xs : List (List ℕ)). first_row (when (is_too_long_to_keep line) row.BadValue ∷ when (nat_le most_comments (length xs)) row.Surplus ∷ [])) (sym same) ∙ adds
+    ∙ ap (λ (xs : List (List ℕ)). first_row (when (is_too_long_to_keep line) row.BadValue ∷ when (nat_le most_comments (length xs)) row.Surplus ∷ [])) (sym same) ∙ adds.1
 
 -- ---- unknown keywords
 
@@ -111,7 +111,7 @@ other_line old new line others (Err steps.Memory) adds is same_first same_part e
 other_line old new line others (Err (steps.Fault fault)) adds is same_first same_part earlier h short =
     let same : (fields_of old.draft).others ≡ others_in earlier = ap (λ (fields : Fields). fields.others) h.spelled in
     other_rows earlier line short
-    ∙ ap (λ (xs : List (List ℕ × List ℕ)). first_row (when (not line.has_colon) row.UnknownLine ∷ when (is_too_long_to_keep line) row.BadValue ∷ when (nat_le most_others (length xs)) row.Surplus ∷ [])) (sym same) ∙ adds
+    ∙ ap (λ (xs : List (List ℕ × List ℕ)). first_row (when (not line.has_colon) row.UnknownLine ∷ when (is_too_long_to_keep line) row.BadValue ∷ when (nat_le most_others (length xs)) row.Surplus ∷ [])) (sym same) ∙ adds.1
 
 -- ---- Line Eof line: nothing is given
 

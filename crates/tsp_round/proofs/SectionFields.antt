@@ -16,7 +16,7 @@ use Rattle.tsp_items.specs.Items.{Item}
 use Rattle.tsp_items.specs.Shapes.{is_section_field}
 use Rattle.tsp_items.specs.Earlier.{same_field}
 use Rattle.tsp_items.specs.Groups.{place_of_point, place_of_number}
-use Rattle.tsp_items.specs.Sections.{place_in, place_of_potential, nodes_of}
+use Rattle.tsp_items.specs.Sections.{place_in, nodes_of}
 use Rattle.tsp_items.specs.Rows.{may_repeat}
 use Rattle.tsp_round.proofs.Text.{WritesWords}
 use Rattle.tsp_round.proofs.Numbers.{NumberLaws}
@@ -90,7 +90,7 @@ demands_body laws n few xs fit =
     record { written = body.0; taken = body.1; few = λ e. absurd (false≢true e) }
 
 potentials_body : NumberLaws → (n : ℕ) → n ≤ most_nodes → (xs : List ℤ) → is_by_node (is_within most_potential) n xs ≡ true
-    → WritesWords (by_node whole_number xs) (flat_map number_entry (enumerate_from 1 xs)) × AllTaken n (place_of_potential n) [] (flat_map number_entry (enumerate_from 1 xs))
+    → WritesWords (by_node whole_number xs) (flat_map number_entry (enumerate_from 1 xs)) × AllTaken n (place_of_number (neg_ℤ (pos most_potential)) (pos most_potential) n) [] (flat_map number_entry (enumerate_from 1 xs))
 potentials_body laws n few xs fit = numbers_body laws (neg_ℤ (pos most_potential)) (pos most_potential) small_potentials n few xs fit
 
 depots_body : NumberLaws → (n : ℕ) → n ≤ most_nodes → (xs : List ℕ) → are_depots n xs ≡ true → IsBody DepotPart n (node_list xs) (map decimal xs ++ codes "-1" ∷ [])
