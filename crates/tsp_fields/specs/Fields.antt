@@ -1,5 +1,5 @@
 -- What a file holds, as lists.
-use Rattle.std.specs.Prelude.{ℕ, Bool, true, List, [], map, Option, None, ℤ, is_some}
+use Rattle.std.specs.Prelude.{ℕ, Bool, true, List, [], map, Option, None, Some, ℤ, is_some}
 use Rattle.std.specs.Option.{option_map}
 use Rattle.tsp_number.specs.declared.decimal.Point.{Point}
 use Rattle.tsp_value.specs.declared.field.Field.{Field}
@@ -110,3 +110,31 @@ stands_in f TourPart = is_some f.tours
 stands_in f NodePotentialPart = is_some f.node_potentials
 stands_in f RowPotentialPart = is_some f.row_potentials
 stands_in f ColumnPotentialPart = is_some f.column_potentials
+
+-- ---- sections by node, by their field
+
+-- the numbers of a section that has one for each node
+abbrev pub numbers_in : Fields → Field → Option (List ℤ)
+numbers_in f DemandPart = f.demands
+numbers_in f NodePotentialPart = f.node_potentials
+numbers_in f RowPotentialPart = f.row_potentials
+numbers_in f ColumnPotentialPart = f.column_potentials
+numbers_in f field = None
+
+abbrev pub with_numbers : Field → List ℤ → Fields → Fields
+with_numbers DemandPart numbers f = record f { demands = Some numbers }
+with_numbers NodePotentialPart numbers f = record f { node_potentials = Some numbers }
+with_numbers RowPotentialPart numbers f = record f { row_potentials = Some numbers }
+with_numbers ColumnPotentialPart numbers f = record f { column_potentials = Some numbers }
+with_numbers field numbers f = f
+
+-- the points of a section that has one for each node
+abbrev pub points_in : Fields → Field → Option (List Point)
+points_in f NodeCoordPart = f.coords
+points_in f DisplayDataPart = f.display
+points_in f field = None
+
+abbrev pub with_points : Field → List Point → Fields → Fields
+with_points NodeCoordPart points f = record f { coords = Some points }
+with_points DisplayDataPart points f = record f { display = Some points }
+with_points field points f = f

@@ -1,15 +1,19 @@
 -- When a field is valid on its own. The ranges are this project's profile of TSPLIB 95.
 use Rattle.std.specs.Prelude.{ℕ, ◌+◌, ◌-◌, ◌*◌, Bool, true, false, not, ◌&&◌, ◌==◌, nat_le, List, length, slice_index, Option, None, Some, ℤ, pos, neg_ℤ, int_le}
+use Rattle.std.specs.Option.{option_map_or}
 use Rattle.std.specs.List.{list_all, find, sum_by}
 use Rattle.tsp_number.specs.declared.decimal.Point.{Point}
 use Rattle.tsp_value.specs.declared.field.Field.{Field}
-use Rattle.tsp_value.specs.declared.field.Field.TheVariants.{NameKey, CommentKey, OtherKey, DimensionKey, CapacityKey, ScaleKey, NodeCoordPart, DisplayDataPart, DemandPart, DepotPart, FixedEdgesPart, EdgeWeightPart, TourPart, NodePotentialPart, RowPotentialPart, ColumnPotentialPart}
-use Rattle.tsp_value.specs.Limits.{most_nodes, most_matrix_nodes, most_coordinate, most_weight, most_demand, most_capacity, most_scale, most_potential, most_kept_bytes, most_comments, most_others, most_depots, most_fixed, most_tour_nodes}
+use Rattle.tsp_value.specs.declared.field.Field.TheVariants.{NameKey, CommentKey, OtherKey, DimensionKey, CapacityKey, ScaleKey}
+use Rattle.tsp_value.specs.declared.field.Shape.{Shape}
+use Rattle.tsp_value.specs.declared.field.Shape.TheVariants.{Numbers, Points, Depots, Pairs, Weights, Tours}
+use Rattle.tsp_value.specs.Limits.{most_nodes, most_matrix_nodes, most_coordinate, most_weight, most_demand, most_capacity, most_scale, most_kept_bytes, most_comments, most_others, most_depots, most_fixed, most_tour_nodes}
 use Rattle.tsp_value.specs.Bytes.{is_blank, is_letter, is_keyword_byte}
 use Rattle.tsp_value.specs.Words.{field_word}
 use Rattle.tsp_value.specs.Keywords.{keyword_of, is_unknown}
 use Rattle.tsp_value.specs.Words.{fields_in_order}
-use Rattle.tsp_fields.specs.Fields.{Fields}
+use Rattle.tsp_value.specs.Shapes.{shape_of}
+use Rattle.tsp_fields.specs.Fields.{Fields, numbers_in, points_in}
 
 -- a field that is missing is valid
 abbrev pub if_there : {A : Type 0} → (A → Bool) → Option A → Bool
@@ -89,7 +93,16 @@ are_tours tours = list_all is_tour tours && nat_le (sum_by length tours) most_to
 
 -- ---- all fields
 
--- the field is valid on its own; the others are of types that hold nothing else
+-- a section of this shape is valid
+abbrev pub section_fits : Fields → Field → Shape → Bool
+section_fits f field (Numbers low high) = if_there (with_dimension (is_by_node (is_from_to low high)) f.dimension) (numbers_in f field)
+section_fits f field Points = if_there (with_dimension (is_by_node is_point) f.dimension) (points_in f field)
+section_fits f field Depots = if_there (with_dimension are_depots f.dimension) f.depots
+section_fits f field Pairs = if_there (with_dimension are_fixed f.dimension) f.fixed
+section_fits f field Weights = if_there (with_dimension are_weights f.dimension) f.weights
+section_fits f field Tours = if_there are_tours f.tours
+
+-- the field is valid on its own; keywords that are not named here are of types that hold nothing else
 abbrev pub fits : Fields → Field → Bool
 fits f NameKey = if_there (is_kept (field_word NameKey)) f.name
 fits f CommentKey = are_comments f.comments
@@ -97,17 +110,7 @@ fits f OtherKey = are_others f.others
 fits f DimensionKey = if_there (is_node most_nodes) f.dimension
 fits f CapacityKey = if_there (is_from_to (pos 1) (pos most_capacity)) f.capacity
 fits f ScaleKey = if_there (is_from_to (pos 1) (pos most_scale)) f.scale
-fits f NodeCoordPart = if_there (with_dimension (is_by_node is_point) f.dimension) f.coords
-fits f DisplayDataPart = if_there (with_dimension (is_by_node is_point) f.dimension) f.display
-fits f DemandPart = if_there (with_dimension (is_by_node is_demand) f.dimension) f.demands
-fits f DepotPart = if_there (with_dimension are_depots f.dimension) f.depots
-fits f FixedEdgesPart = if_there (with_dimension are_fixed f.dimension) f.fixed
-fits f EdgeWeightPart = if_there (with_dimension are_weights f.dimension) f.weights
-fits f TourPart = if_there are_tours f.tours
-fits f NodePotentialPart = if_there (with_dimension (is_by_node (is_within most_potential)) f.dimension) f.node_potentials
-fits f RowPotentialPart = if_there (with_dimension (is_by_node (is_within most_potential)) f.dimension) f.row_potentials
-fits f ColumnPotentialPart = if_there (with_dimension (is_by_node (is_within most_potential)) f.dimension) f.column_potentials
-fits f field = true
+fits f field = option_map_or (section_fits f field) (shape_of field) true
 
 -- the first field of a list that fails the test
 abbrev pub first_failing : (Field → Bool) → List Field → Option Field

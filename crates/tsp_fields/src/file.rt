@@ -6,7 +6,7 @@ use crate::table::bad_field;
 use std::alloc::Global;
 use std::marker::Model;
 use tsp_number::Point;
-use tsp_value::{CoordKind, DisplayKind, Kind, Layout, WeightFormat, WeightKind};
+use tsp_value::{CoordKind, DisplayKind, Field, Kind, Layout, WeightFormat, WeightKind};
 
 /// The fields of a file, in canonical order. A list by node has one entry for each node, in order.
 #[derive(Debug, Drop)]
@@ -57,7 +57,8 @@ pub struct Draft {
 
 impl Draft {
     ghost use Rattle.std.specs.Prelude.{◌≡◌};
-    ghost use Rattle.tsp_fields.specs.Fields.{fields_of, blank_fields};
+    ghost use Rattle.std.specs.Option.{option_map};
+    ghost use Rattle.tsp_fields.specs.Fields.{fields_of, blank_fields, stands_in, numbers_in, with_numbers, points_in, with_points};
 
     /// A draft with no field set: each is `None` or an empty list. No memory is taken.
     pub fn new(alloc: Global) -> Draft
@@ -85,6 +86,85 @@ impl Draft {
             node_potentials: None,
             row_potentials: None,
             column_potentials: None,
+        }
+    }
+
+    /// Whether a field stands; comments and unknown keywords may be none.
+    pub fn stands(&self, field: Field) -> bool
+        ensures { result ≡ stands_in (fields_of self.now) field }
+    {
+        match field {
+            Field::NameKey => self.name.is_some(),
+            Field::TypeKey => self.kind.is_some(),
+            Field::CommentKey | Field::OtherKey => true,
+            Field::DimensionKey => self.dimension.is_some(),
+            Field::CapacityKey => self.capacity.is_some(),
+            Field::ScaleKey => self.scale.is_some(),
+            Field::EdgeWeightTypeKey => self.weight_kind.is_some(),
+            Field::EdgeWeightFormatKey => self.weight_format.is_some(),
+            Field::NodeCoordTypeKey => self.coord_kind.is_some(),
+            Field::DisplayDataTypeKey => self.display_kind.is_some(),
+            Field::NodeCoordPart => self.coords.is_some(),
+            Field::DisplayDataPart => self.display.is_some(),
+            Field::DemandPart => self.demands.is_some(),
+            Field::DepotPart => self.depots.is_some(),
+            Field::FixedEdgesPart => self.fixed.is_some(),
+            Field::EdgeWeightPart => self.weights.is_some(),
+            Field::TourPart => self.tours.is_some(),
+            Field::NodePotentialPart => self.node_potentials.is_some(),
+            Field::RowPotentialPart => self.row_potentials.is_some(),
+            Field::ColumnPotentialPart => self.column_potentials.is_some(),
+        }
+    }
+    /// The numbers of a section that has one for each node; nothing where it is missing, and of
+    /// every other field.
+    pub fn numbers(&self, field: Field) -> Option<&[i64]>
+        ensures { option_map (λ entries. entries.now) result ≡ numbers_in (fields_of self.now) field }
+    {
+        let numbers = match field {
+            Field::DemandPart => &self.demands,
+            Field::NodePotentialPart => &self.node_potentials,
+            Field::RowPotentialPart => &self.row_potentials,
+            Field::ColumnPotentialPart => &self.column_potentials,
+            _ => return None,
+        };
+        numbers.as_ref().map(|entries| entries.as_slice())
+    }
+
+    /// Sets the numbers of such a section; those of another field are dropped.
+    pub fn set_numbers(&mut self, field: Field, numbers: Vec<i64>)
+        ensures { fields_of self.new ≡ with_numbers field numbers.items (fields_of self.old) }
+    {
+        match field {
+            Field::DemandPart => self.demands = Some(numbers),
+            Field::NodePotentialPart => self.node_potentials = Some(numbers),
+            Field::RowPotentialPart => self.row_potentials = Some(numbers),
+            Field::ColumnPotentialPart => self.column_potentials = Some(numbers),
+            _ => drop(numbers),
+        }
+    }
+
+    /// The points of a section that has one for each node; nothing where it is missing, and of
+    /// every other field.
+    pub fn points(&self, field: Field) -> Option<&[Point]>
+        ensures { option_map (λ entries. entries.now) result ≡ points_in (fields_of self.now) field }
+    {
+        let points = match field {
+            Field::NodeCoordPart => &self.coords,
+            Field::DisplayDataPart => &self.display,
+            _ => return None,
+        };
+        points.as_ref().map(|entries| entries.as_slice())
+    }
+
+    /// Sets the points of such a section; those of another field are dropped.
+    pub fn set_points(&mut self, field: Field, points: Vec<Point>)
+        ensures { fields_of self.new ≡ with_points field points.items (fields_of self.old) }
+    {
+        match field {
+            Field::NodeCoordPart => self.coords = Some(points),
+            Field::DisplayDataPart => self.display = Some(points),
+            _ => drop(points),
         }
     }
 }

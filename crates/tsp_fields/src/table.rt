@@ -1,46 +1,18 @@
-//! The table of fields: whether each stands in a draft, and whether it is valid on its own.
+//! The table of fields: whether each is valid on its own.
 
 ghost use Rattle.std.specs.Prelude.{◌≡◌, ℕ, Bool, List, Some, MatchResult, pos, map};
 ghost use Rattle.std.specs.Option.{option_map};
-ghost use Rattle.tsp_value.specs.Limits.{most_nodes, most_potential};
+ghost use Rattle.tsp_value.specs.Limits.{most_nodes};
 ghost use Rattle.tsp_value.specs.Words.{field_word};
-ghost use Rattle.tsp_fields.specs.Fields.{fields_of, stands_in};
-ghost use Rattle.tsp_fields.specs.Validity.{if_there, with_dimension, is_by_node, is_kept, is_node, is_from_to, is_within, is_point, is_demand, are_comments, are_others, are_depots, are_fixed, are_weights, are_tours, fits, first_failing, bad_field};
+ghost use Rattle.tsp_fields.specs.Fields.{fields_of};
+ghost use Rattle.tsp_fields.specs.Validity.{if_there, with_dimension, is_by_node, is_kept, is_node, is_from_to, is_point, are_comments, are_others, are_depots, are_fixed, are_weights, are_tours, section_fits, fits, first_failing, bad_field};
 
 use crate::file::Draft;
 use crate::validity;
 use tsp_number::Point;
-use tsp_value::{Field, MOST_CAPACITY, MOST_COMMENTS, MOST_NODES, MOST_OTHERS, MOST_SCALE, Word};
-
-impl Draft {
-    /// Whether a field stands; comments and unknown keywords may be none.
-    pub fn stands(&self, field: Field) -> bool
-        ensures { result ≡ stands_in (fields_of self.now) field }
-    {
-        match field {
-            Field::NameKey => self.name.is_some(),
-            Field::TypeKey => self.kind.is_some(),
-            Field::CommentKey | Field::OtherKey => true,
-            Field::DimensionKey => self.dimension.is_some(),
-            Field::CapacityKey => self.capacity.is_some(),
-            Field::ScaleKey => self.scale.is_some(),
-            Field::EdgeWeightTypeKey => self.weight_kind.is_some(),
-            Field::EdgeWeightFormatKey => self.weight_format.is_some(),
-            Field::NodeCoordTypeKey => self.coord_kind.is_some(),
-            Field::DisplayDataTypeKey => self.display_kind.is_some(),
-            Field::NodeCoordPart => self.coords.is_some(),
-            Field::DisplayDataPart => self.display.is_some(),
-            Field::DemandPart => self.demands.is_some(),
-            Field::DepotPart => self.depots.is_some(),
-            Field::FixedEdgesPart => self.fixed.is_some(),
-            Field::EdgeWeightPart => self.weights.is_some(),
-            Field::TourPart => self.tours.is_some(),
-            Field::NodePotentialPart => self.node_potentials.is_some(),
-            Field::RowPotentialPart => self.row_potentials.is_some(),
-            Field::ColumnPotentialPart => self.column_potentials.is_some(),
-        }
-    }
-}
+use tsp_value::{
+    Field, MOST_CAPACITY, MOST_COMMENTS, MOST_NODES, MOST_OTHERS, MOST_SCALE, Shape, Word,
+};
 
 /// Whether a field of a draft is valid on its own.
 pub(crate) fn fits(draft: &Draft, field: Field) -> bool
@@ -53,21 +25,26 @@ pub(crate) fn fits(draft: &Draft, field: Field) -> bool
         Field::DimensionKey => is_dimension(draft.dimension),
         Field::CapacityKey => is_from_one(draft.capacity, MOST_CAPACITY),
         Field::ScaleKey => is_from_one(draft.scale, MOST_SCALE),
-        Field::NodeCoordPart => are_points(draft.dimension, &draft.coords),
-        Field::DisplayDataPart => are_points(draft.dimension, &draft.display),
-        Field::DemandPart => are_demands(draft.dimension, &draft.demands),
-        Field::DepotPart => are_depots(draft.dimension, &draft.depots),
-        Field::FixedEdgesPart => are_fixed(draft.dimension, &draft.fixed),
-        Field::EdgeWeightPart => are_weights(draft.dimension, &draft.weights),
-        Field::TourPart => are_tours(&draft.tours),
-        Field::NodePotentialPart => are_potentials(draft.dimension, &draft.node_potentials),
-        Field::RowPotentialPart => are_potentials(draft.dimension, &draft.row_potentials),
-        Field::ColumnPotentialPart => are_potentials(draft.dimension, &draft.column_potentials),
-        Field::TypeKey
-        | Field::EdgeWeightTypeKey
-        | Field::EdgeWeightFormatKey
-        | Field::NodeCoordTypeKey
-        | Field::DisplayDataTypeKey => true,
+        _ => match field.shape() {
+            Some(shape) => section_fits(draft, field, shape),
+            None => true,
+        },
+    }
+}
+
+/// Whether a section of this shape is valid on its own.
+fn section_fits(draft: &Draft, field: Field, shape: Shape) -> bool
+    ensures { result ≡ section_fits (fields_of draft.now) field shape }
+{
+    match shape {
+        Shape::Numbers { low, high } => {
+            are_numbers(draft.dimension, draft.numbers(field), low, high)
+        }
+        Shape::Points => are_points(draft.dimension, draft.points(field)),
+        Shape::Depots => are_depots(draft.dimension, &draft.depots),
+        Shape::Pairs => are_fixed(draft.dimension, &draft.fixed),
+        Shape::Weights => are_weights(draft.dimension, &draft.weights),
+        Shape::Tours => are_tours(&draft.tours),
     }
 }
 
@@ -153,22 +130,28 @@ fn section<'a, T>(
 }
 
 /// There is a point for each node.
-fn are_points(dimension: Option<u32>, points: &Option<Vec<Point>>) -> bool
-    ensures { result ≡ if_there (with_dimension (is_by_node is_point) dimension) (option_map (λ v. v.items) points.now) }
+fn are_points(dimension: Option<u32>, points: Option<&[Point]>) -> bool
+    ensures { result ≡ if_there (with_dimension (is_by_node is_point) dimension) (option_map (λ entries. entries.now) points.entry) }
 {
-    match section(dimension, points) {
-        Ok((nodes, points)) => points.len() == nodes as usize && validity::are_points(points),
-        Err(valid) => valid,
+    match (points, dimension) {
+        (None, _) => true,
+        (Some(_), None) => false,
+        (Some(points), Some(nodes)) => {
+            points.len() == nodes as usize && validity::are_points(points)
+        }
     }
 }
 
-/// There is a demand for each node.
-fn are_demands(dimension: Option<u32>, demands: &Option<Vec<i64>>) -> bool
-    ensures { result ≡ if_there (with_dimension (is_by_node is_demand) dimension) (option_map (λ v. v.items) demands.now) }
+/// There is a number of this range for each node.
+fn are_numbers(dimension: Option<u32>, numbers: Option<&[i64]>, low: i64, high: i64) -> bool
+    ensures { result ≡ if_there (with_dimension (is_by_node (is_from_to low high)) dimension) (option_map (λ entries. entries.now) numbers.entry) }
 {
-    match section(dimension, demands) {
-        Ok((nodes, demands)) => demands.len() == nodes as usize && validity::are_demands(demands),
-        Err(valid) => valid,
+    match (numbers, dimension) {
+        (None, _) => true,
+        (Some(_), None) => false,
+        (Some(numbers), Some(nodes)) => {
+            numbers.len() == nodes as usize && validity::are_from_to(numbers, low, high)
+        }
     }
 }
 
@@ -209,17 +192,5 @@ fn are_tours(tours: &Option<Vec<Vec<u32>>>) -> bool
     match tours {
         None => true,
         Some(tours) => validity::are_tours(tours),
-    }
-}
-
-/// There is a potential for each node.
-fn are_potentials(dimension: Option<u32>, potentials: &Option<Vec<i64>>) -> bool
-    ensures { result ≡ if_there (with_dimension (is_by_node (is_within most_potential)) dimension) (option_map (λ v. v.items) potentials.now) }
-{
-    match section(dimension, potentials) {
-        Ok((nodes, potentials)) => {
-            potentials.len() == nodes as usize && validity::are_potentials(potentials)
-        }
-        Err(valid) => valid,
     }
 }

@@ -90,26 +90,12 @@ pub(crate) fn is_from_to(number: i64, low: i64, high: i64) -> bool
 }
 
 /// Whether every number is from low to high.
-fn are_from_to(numbers: &[i64], low: i64, high: i64) -> bool
+pub(crate) fn are_from_to(numbers: &[i64], low: i64, high: i64) -> bool
     ensures { result ≡ list_all (is_from_to low high) numbers.now }
 {
     numbers
         .iter()
         .all(|number| low <= *number && *number <= high)
-}
-
-/// Whether every number is a demand: 0 to `MOST_DEMAND`.
-pub(crate) fn are_demands(numbers: &[i64]) -> bool
-    ensures { result ≡ list_all is_demand numbers.now }
-{
-    are_from_to(numbers, 0, MOST_DEMAND)
-}
-
-/// Whether every number is a potential: of a size of at most `MOST_POTENTIAL`.
-pub(crate) fn are_potentials(numbers: &[i64]) -> bool
-    ensures { result ≡ list_all (is_within most_potential) numbers.now }
-{
-    are_from_to(numbers, -MOST_POTENTIAL, MOST_POTENTIAL)
 }
 
 /// Whether a coordinate is of a size of at most 10^9.

@@ -1,5 +1,6 @@
 -- The canonical text of a file: the texts of its fields in canonical order, then the line EOF. A field that is missing has no text.
 use Rattle.std.specs.Prelude.{ℕ, List, [], ◌∷◌, ◌++◌, take, drop, map, length, codes, Option, Some, None, ℤ}
+use Rattle.std.specs.Option.{option_map_or}
 use Rattle.std.specs.List.{flat_map, enumerate_from}
 use Rattle.std.specs.Fmt.{decimal, signed_decimal}
 use Rattle.tsp_number.specs.declared.decimal.Point.{Point}
@@ -7,11 +8,14 @@ use Rattle.tsp_number.specs.Spelling.{spelling}
 use Rattle.tsp_value.specs.declared.kinds.WeightFormat.{WeightFormat}
 use Rattle.tsp_value.specs.declared.kinds.WeightFormat.TheVariants.{Listed}
 use Rattle.tsp_value.specs.declared.field.Field.{Field}
-use Rattle.tsp_value.specs.declared.field.Field.TheVariants.{NameKey, TypeKey, CommentKey, OtherKey, DimensionKey, CapacityKey, ScaleKey, EdgeWeightTypeKey, EdgeWeightFormatKey, NodeCoordTypeKey, DisplayDataTypeKey, NodeCoordPart, DisplayDataPart, DemandPart, DepotPart, FixedEdgesPart, EdgeWeightPart, TourPart, NodePotentialPart, RowPotentialPart, ColumnPotentialPart}
+use Rattle.tsp_value.specs.declared.field.Field.TheVariants.{NameKey, TypeKey, CommentKey, OtherKey, DimensionKey, CapacityKey, ScaleKey, EdgeWeightTypeKey, EdgeWeightFormatKey, NodeCoordTypeKey, DisplayDataTypeKey}
+use Rattle.tsp_value.specs.declared.field.Shape.{Shape}
+use Rattle.tsp_value.specs.declared.field.Shape.TheVariants.{Numbers, Points, Depots, Pairs, Weights, Tours}
+use Rattle.tsp_value.specs.Shapes.{shape_of}
 use Rattle.tsp_value.specs.Words.{field_word, kind_word, weight_kind_word, weight_format_word, coord_kind_word, display_kind_word}
 use Rattle.tsp_value.specs.Words.{fields_in_order}
 use Rattle.tsp_value.specs.Cells.{nodes_to, cells_of_line}
-use Rattle.tsp_fields.specs.Fields.{Fields}
+use Rattle.tsp_fields.specs.Fields.{Fields, numbers_in, points_in}
 
 -- ---- lines
 
@@ -91,6 +95,15 @@ abbrev pub optional : {A : Type 0} → (A → List ℕ) → Option A → List �
 optional text None = []
 optional text (Some value) = text value
 
+-- the text of a section of this shape
+abbrev pub text_of_section : Fields → Field → Shape → List ℕ
+text_of_section f field (Numbers low high) = optional (λ numbers. section field (by_node whole_number numbers)) (numbers_in f field)
+text_of_section f field Points = optional (λ points. section field (by_node point_numbers points)) (points_in f field)
+text_of_section f field Depots = optional (λ depots. section field (node_list depots)) f.depots
+text_of_section f field Pairs = optional (λ pairs. section field (pair_list pairs)) f.fixed
+text_of_section f field Weights = optional (λ weights. section field (matrix_lines (line_lens f.weight_format f.dimension) weights)) f.weights
+text_of_section f field Tours = optional (λ tours. section field (flat_map node_list tours)) f.tours
+
 -- the text of a field
 abbrev pub text_of_field : Fields → Field → List ℕ
 text_of_field f NameKey = optional (keyword_line NameKey) f.name
@@ -104,16 +117,7 @@ text_of_field f EdgeWeightTypeKey = optional (λ kind. keyword_line EdgeWeightTy
 text_of_field f EdgeWeightFormatKey = optional (λ format. keyword_line EdgeWeightFormatKey (weight_format_word format)) f.weight_format
 text_of_field f NodeCoordTypeKey = optional (λ kind. keyword_line NodeCoordTypeKey (coord_kind_word kind)) f.coord_kind
 text_of_field f DisplayDataTypeKey = optional (λ kind. keyword_line DisplayDataTypeKey (display_kind_word kind)) f.display_kind
-text_of_field f NodeCoordPart = optional (λ points. section NodeCoordPart (by_node point_numbers points)) f.coords
-text_of_field f DisplayDataPart = optional (λ points. section DisplayDataPart (by_node point_numbers points)) f.display
-text_of_field f DemandPart = optional (λ demands. section DemandPart (by_node whole_number demands)) f.demands
-text_of_field f DepotPart = optional (λ depots. section DepotPart (node_list depots)) f.depots
-text_of_field f FixedEdgesPart = optional (λ pairs. section FixedEdgesPart (pair_list pairs)) f.fixed
-text_of_field f EdgeWeightPart = optional (λ weights. section EdgeWeightPart (matrix_lines (line_lens f.weight_format f.dimension) weights)) f.weights
-text_of_field f TourPart = optional (λ tours. section TourPart (flat_map node_list tours)) f.tours
-text_of_field f NodePotentialPart = optional (λ numbers. section NodePotentialPart (by_node whole_number numbers)) f.node_potentials
-text_of_field f RowPotentialPart = optional (λ numbers. section RowPotentialPart (by_node whole_number numbers)) f.row_potentials
-text_of_field f ColumnPotentialPart = optional (λ numbers. section ColumnPotentialPart (by_node whole_number numbers)) f.column_potentials
+text_of_field f field = option_map_or (text_of_section f field) (shape_of field) []
 
 -- the canonical text
 abbrev pub text_of : Fields → List ℕ

@@ -5,7 +5,7 @@ ghost use Rattle.std.specs.List.{flat_map};
 ghost use Rattle.tsp_fields.specs.Fields.{fields_of};
 ghost use Rattle.tsp_stream.specs.Sink.{sink_of, Writes};
 ghost use Rattle.tsp_stream.specs.Way.{Puts};
-ghost use Rattle.tsp_file.specs.Text.{text_of, text_of_field};
+ghost use Rattle.tsp_file.specs.Text.{text_of, text_of_field, text_of_section};
 
 mod keywords;
 mod matrix;
@@ -14,13 +14,13 @@ mod sections;
 use crate::writer::keywords::{put_comments, put_name, put_others, put_whole, put_word};
 use crate::writer::matrix::put_weight_section;
 use crate::writer::sections::{
-    put_depots, put_fixed, put_number_section, put_point_section, put_tour_section,
+    put_node_section, put_number_section, put_pair_section, put_point_section, put_tour_section,
 };
 use std::alloc::Global;
 use std::io::Write;
 use tsp_fields::{Draft, File};
 use tsp_stream::{Piece, Watched, WriteFault, hand_over, put};
-use tsp_value::Field;
+use tsp_value::{Field, Shape};
 
 /// Writes the canonical text of a file.
 ///
@@ -84,23 +84,37 @@ fn put_field<W: Write>(piece: &mut Piece, out: &mut Watched<W>, draft: &Draft, f
         Field::EdgeWeightFormatKey => put_word(piece, out, field, draft.weight_format),
         Field::NodeCoordTypeKey => put_word(piece, out, field, draft.coord_kind),
         Field::DisplayDataTypeKey => put_word(piece, out, field, draft.display_kind),
-        Field::NodeCoordPart => put_point_section(piece, out, field, &draft.coords),
-        Field::DisplayDataPart => put_point_section(piece, out, field, &draft.display),
-        Field::DemandPart => put_number_section(piece, out, field, &draft.demands),
-        Field::DepotPart => put_depots(piece, out, &draft.depots),
-        Field::FixedEdgesPart => put_fixed(piece, out, &draft.fixed),
-        Field::EdgeWeightPart => put_weight_section(
+        _ => match field.shape() {
+            Some(shape) => put_section(piece, out, draft, field, shape),
+            None => {}
+        },
+    }
+}
+
+/// Adds the text of a section of this shape, where the draft has it.
+fn put_section<W: Write>(
+    piece: &mut Piece,
+    out: &mut Watched<W>,
+    draft: &Draft,
+    field: Field,
+    shape: Shape,
+)
+    ensures { Puts W.contents out.old piece.old out.new piece.new
+        (text_of_section (fields_of draft.now) field shape) }
+{
+    match shape {
+        Shape::Numbers { .. } => put_number_section(piece, out, field, draft.numbers(field)),
+        Shape::Points => put_point_section(piece, out, field, draft.points(field)),
+        Shape::Depots => put_node_section(piece, out, field, &draft.depots),
+        Shape::Pairs => put_pair_section(piece, out, field, &draft.fixed),
+        Shape::Weights => put_weight_section(
             piece,
             out,
+            field,
             draft.weight_format,
             draft.dimension,
             &draft.weights,
         ),
-        Field::TourPart => put_tour_section(piece, out, &draft.tours),
-        Field::NodePotentialPart => put_number_section(piece, out, field, &draft.node_potentials),
-        Field::RowPotentialPart => put_number_section(piece, out, field, &draft.row_potentials),
-        Field::ColumnPotentialPart => {
-            put_number_section(piece, out, field, &draft.column_potentials)
-        }
+        Shape::Tours => put_tour_section(piece, out, field, &draft.tours),
     }
 }

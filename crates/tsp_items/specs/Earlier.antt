@@ -7,7 +7,7 @@ use Rattle.tsp_value.specs.declared.keyword.Keyword.TheVariants.{Known, EdgeData
 use Rattle.tsp_value.specs.Words.{field_word}
 use Rattle.tsp_value.specs.Keywords.{is_unknown}
 use Rattle.tsp_items.specs.Items.{Item, Line, NumberWord, LineEnd}
-use Rattle.tsp_items.specs.Shapes.{is_section_field}
+use Rattle.tsp_value.specs.Shapes.{is_section_field}
 
 -- ---- which keyword a line has
 

@@ -8,8 +8,8 @@ use Rattle.tsp_items.specs.declared.parts.weights.WeightList.{WeightList}
 use Rattle.tsp_items.specs.declared.parts.tours.TourList.{TourList}
 use Rattle.tsp_items.specs.declared.part.Part.{Part}
 use Rattle.tsp_items.specs.declared.part.Part.TheVariants as parts
-use Rattle.tsp_items.specs.declared.shape.Shape.{Shape}
-use Rattle.tsp_items.specs.declared.shape.Shape.TheVariants.{Numbers, Points, Depots, Pairs, Weights, Tours}
+use Rattle.tsp_value.specs.declared.field.Shape.{Shape}
+use Rattle.tsp_value.specs.declared.field.Shape.TheVariants.{Numbers, Points, Depots, Pairs, Weights, Tours}
 use Rattle.tsp_items.specs.Parts.{NumbersHold, PointsHold, DepotsHold, PairsHold, WeightsHold, ToursHold, EndsRun}
 
 -- its numbers are of this range

@@ -1,6 +1,5 @@
 pub mod Lines
 pub mod Items
-pub mod Shapes
 pub mod Earlier
 pub mod Values
 pub mod Numbers

@@ -15,7 +15,7 @@ use Rattle.tsp_items.specs.declared.fault.LineFault.{LineFault}
 use Rattle.tsp_items.specs.declared.fault.LineFault.TheVariants as row
 use Rattle.tsp_items.specs.Lines.{is_filled, first_word}
 use Rattle.tsp_items.specs.Items.{WordLine, Item, Line, NumberWord, LineEnd}
-use Rattle.tsp_items.specs.Shapes.{is_section_field}
+use Rattle.tsp_value.specs.Shapes.{is_section_field}
 use Rattle.tsp_items.specs.Earlier.{same_field, has_line, values_at, others_in, open_section}
 use Rattle.tsp_items.specs.Values.{is_refused, is_left_out, has_number, read_as, is_kept_as_is}
 use Rattle.tsp_items.specs.Numbers.{reads_as, node, sized, node_or_end, is_end, is_minus_one}

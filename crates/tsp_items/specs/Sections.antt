@@ -2,10 +2,10 @@
 use Rattle.std.specs.Prelude.{ℕ, List, Option, unwrap_or}
 use Rattle.std.specs.Option.{option_map, option_map_or}
 use Rattle.tsp_value.specs.declared.field.Field.{Field}
-use Rattle.tsp_items.specs.declared.shape.Shape.{Shape}
-use Rattle.tsp_items.specs.declared.shape.Shape.TheVariants.{Numbers, Points, Depots, Pairs, Weights, Tours}
+use Rattle.tsp_value.specs.declared.field.Shape.{Shape}
+use Rattle.tsp_value.specs.declared.field.Shape.TheVariants.{Numbers, Points, Depots, Pairs, Weights, Tours}
 use Rattle.tsp_items.specs.Items.{Item}
-use Rattle.tsp_items.specs.Shapes.{shape_of}
+use Rattle.tsp_value.specs.Shapes.{shape_of}
 use Rattle.tsp_items.specs.Earlier.{open_section, words_of}
 use Rattle.tsp_items.specs.Values.{dimension_of}
 use Rattle.tsp_items.specs.Places.{Place, PastEnd}

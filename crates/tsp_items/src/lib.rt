@@ -7,7 +7,6 @@ mod laws;
 mod line;
 mod part;
 mod parts;
-mod shape;
 mod slots;
 
 pub use fault::{LineFault, ReadFault, StepFault};
@@ -20,5 +19,4 @@ pub use parts::numbers::NumberList;
 pub use parts::points::PointList;
 pub use parts::tours::TourList;
 pub use parts::weights::WeightList;
-pub use shape::{Shape, shape_of};
 pub use slots::{add_comment, add_other, set_count, set_name, set_named, set_number};

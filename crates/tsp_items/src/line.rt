@@ -9,9 +9,8 @@ ghost use Rattle.tsp_value.specs.declared.field.Field.TheVariants.{EdgeWeightTyp
 ghost use Rattle.tsp_items.specs.CutLine.{NamesValue, ReadsNumber, MayOpen};
 
 use crate::fault::LineFault;
-use crate::shape::Shape;
 use tsp_number::parse_whole;
-use tsp_value::{Field, Keyword, MOST_MATRIX_NODES, Word, is_blank, value_of};
+use tsp_value::{Field, Keyword, MOST_MATRIX_NODES, Shape, Word, is_blank, value_of};
 
 /// A word line, cut into its parts.
 #[derive(Clone, Copy)]

@@ -9,10 +9,9 @@ use crate::parts::numbers::NumberList;
 use crate::parts::points::PointList;
 use crate::parts::tours::TourList;
 use crate::parts::weights::WeightList;
-use crate::shape::Shape;
 use std::alloc::{AllocError, Global};
 use tsp_number::Decimal;
-use tsp_value::MOST_MATRIX_NODES;
+use tsp_value::{MOST_MATRIX_NODES, Shape};
 
 /// What was read of a section, by its shape.
 #[derive(Drop)]
@@ -27,7 +26,7 @@ pub enum Part {
 
 impl Part {
     ghost use Rattle.tsp_number.specs.Reading.{decimal_of};
-    ghost use Rattle.tsp_items.specs.declared.shape.Shape.TheVariants as shapes;
+    ghost use Rattle.tsp_value.specs.declared.field.Shape.TheVariants as shapes;
     ghost use Rattle.tsp_items.specs.Numbers.{IsWhole};
     ghost use Rattle.tsp_items.specs.Sections.{place_by};
     ghost use Rattle.tsp_items.specs.Parts.{Takes};

@@ -27,7 +27,7 @@ use Rattle.tsp_items.specs.Earlier.{same_field, has_line, open_section}
 use Rattle.tsp_items.specs.Values.{kind_named, weight_kind_named, weight_format_named, coord_kind_named, display_kind_named, is_left_out}
 use Rattle.tsp_items.specs.Rows.{row_of}
 use Rattle.tsp_items.specs.FirstFault.{IsClean}
-use Rattle.tsp_items.specs.Shapes.{is_section_field}
+use Rattle.tsp_value.specs.Shapes.{is_section_field}
 use Rattle.tsp_items.specs.Spells.{fields_by, sections_in_order, first_incomplete}
 use Rattle.tsp_items.specs.CutLine.{named_rows, SetsNamed, numbered_rows, SetsNumber, SetsCount}
 use Rattle.tsp_read.specs.Holds.{fields_there, is_closed, is_closed_incomplete, OpenHolds, LineAnswers}

@@ -9,7 +9,7 @@ use Rattle.tsp_value.specs.declared.keyword.Keyword.TheVariants.{Known}
 use Rattle.tsp_value.specs.Limits.{most_line_bytes}
 use Rattle.tsp_fields.specs.Fields.{Fields, stands_in}
 use Rattle.tsp_items.specs.Items.{WordLine, Item, Line, NumberWord}
-use Rattle.tsp_items.specs.Shapes.{shape_of, is_section_field}
+use Rattle.tsp_value.specs.Shapes.{shape_of, is_section_field}
 use Rattle.tsp_items.specs.Earlier.{has_line, open_section, words_of}
 use Rattle.tsp_items.specs.Sections.{nodes_of}
 use Rattle.tsp_items.specs.Rows.{row_of}

@@ -9,11 +9,11 @@ use Rattle.tsp_value.specs.declared.keyword.Keyword.{Keyword}
 use Rattle.tsp_value.specs.declared.keyword.Keyword.TheVariants.{Known, EdgeDataFormat, EdgeDataSection, Eof, Unknown}
 use Rattle.tsp_value.specs.Limits.{most_line_bytes, most_matrix_nodes}
 use Rattle.tsp_value.specs.Words.{fields_in_order}
-use Rattle.tsp_fields.specs.Fields.{Fields, fields_of, stands_in}
+use Rattle.tsp_fields.specs.Fields.{Fields, fields_of, stands_in, with_numbers}
 use Rattle.tsp_items.specs.declared.fault.LineFault.{LineFault}
 use Rattle.tsp_items.specs.declared.fault.LineFault.TheVariants as row
-use Rattle.tsp_items.specs.declared.shape.Shape.{Shape}
-use Rattle.tsp_items.specs.declared.shape.Shape.TheVariants.{Numbers, Pairs}
+use Rattle.tsp_value.specs.declared.field.Shape.{Shape}
+use Rattle.tsp_value.specs.declared.field.Shape.TheVariants.{Numbers, Pairs}
 use Rattle.tsp_items.specs.declared.part.Part.{Part}
 use Rattle.tsp_items.specs.declared.part.Part.TheVariants as parts
 use Rattle.tsp_items.specs.declared.parts.numbers.NumberList.{NumberList}
@@ -23,7 +23,7 @@ use Rattle.tsp_items.specs.Lists.{fixed_in, place_of_fixed}
 use Rattle.tsp_items.specs.Places.{PastEnd}
 use Rattle.tsp_items.specs.Lines.{is_filled}
 use Rattle.tsp_items.specs.Items.{WordLine, Item, Line, NumberWord, LineEnd}
-use Rattle.tsp_items.specs.Shapes.{shape_of, is_section_field}
+use Rattle.tsp_value.specs.Shapes.{shape_of, is_section_field}
 use Rattle.tsp_items.specs.Earlier.{same_field, is_key, opened_by, is_open, has_line, open_section, words_of}
 use Rattle.tsp_items.specs.Sections.{place_by, place_in, nodes_of}
 use Rattle.tsp_items.specs.Rows.{row_of, when, first_row}
@@ -33,7 +33,7 @@ use Rattle.tsp_items.specs.Spells.{wants_more, is_incomplete, sections_in_order,
 use Rattle.tsp_read.specs.declared.state.reading.OpenSection.{OpenSection}
 use Rattle.tsp_read.specs.declared.state.reading.Reading.{Reading}
 use Rattle.tsp_read.specs.states.Open.{HoldsSection}
-use Rattle.tsp_read.specs.states.Stored.{with_numbers, with_words, with_section}
+use Rattle.tsp_read.specs.states.Stored.{with_words, with_section}
 use Rattle.tsp_read.specs.states.Incomplete.{first_of}
 use Rattle.tsp_read.specs.Holds.{fields_there, OpenHolds, Holds, Closed}
 use Rattle.tsp_read.proofs.Clean.{clean_more}

@@ -14,7 +14,7 @@ use Rattle.tsp_value.specs.declared.field.Field.TheVariants.{DimensionKey, TourP
 use Rattle.tsp_value.specs.declared.keyword.Keyword.TheVariants.{Known, EdgeDataFormat, EdgeDataSection, Eof, Unknown}
 use Rattle.tsp_value.specs.Words.{field_word, fields_in_order, field_found}
 use Rattle.tsp_items.specs.Items.{WordLine, Item, Line, NumberWord, LineEnd}
-use Rattle.tsp_items.specs.Shapes.{is_section_field}
+use Rattle.tsp_value.specs.Shapes.{is_section_field}
 use Rattle.tsp_items.specs.Earlier.{same_field, has_line, open_section, words_of}
 use Rattle.tsp_items.specs.Values.{read_as, dimension_of}
 use Rattle.tsp_items.specs.Sections.{place_in, nodes_of}

@@ -6,7 +6,7 @@ use Rattle.tsp_value.specs.declared.field.Field.TheVariants.{DimensionKey, TourP
 use Rattle.tsp_value.specs.declared.keyword.Keyword.TheVariants.{Known, EdgeDataFormat, EdgeDataSection, Eof, Unknown}
 use Rattle.tsp_fields.specs.Validity.{if_there, with_dimension}
 use Rattle.tsp_items.specs.Items.{WordLine, Item, Line, NumberWord, LineEnd}
-use Rattle.tsp_items.specs.Shapes.{is_section_field}
+use Rattle.tsp_value.specs.Shapes.{is_section_field}
 use Rattle.tsp_items.specs.Earlier.{same_field, has_line, words_of}
 use Rattle.tsp_items.specs.Values.{dimension_of}
 use Rattle.tsp_items.specs.Sections.{nodes_of}

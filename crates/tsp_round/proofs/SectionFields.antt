@@ -13,7 +13,7 @@ use Rattle.tsp_fields.specs.Fields.{Fields}
 use Rattle.tsp_fields.specs.Validity.{if_there, is_by_node, is_point, is_demand, is_within, is_from_to, is_node, is_pair, are_depots, are_fixed, are_weights, is_tour, are_tours, with_dimension, fits}
 use Rattle.tsp_file.specs.Text.{section, by_node, node_list, pair_list, point_numbers, whole_number, line_lens, matrix_lines, optional, text_of_field}
 use Rattle.tsp_items.specs.Items.{Item}
-use Rattle.tsp_items.specs.Shapes.{is_section_field}
+use Rattle.tsp_value.specs.Shapes.{is_section_field}
 use Rattle.tsp_items.specs.Earlier.{same_field}
 use Rattle.tsp_items.specs.Groups.{place_of_point, place_of_number}
 use Rattle.tsp_items.specs.Sections.{place_in, nodes_of}

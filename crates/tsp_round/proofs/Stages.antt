@@ -10,7 +10,7 @@ use Rattle.tsp_value.specs.declared.field.Field.TheVariants.{NameKey, TypeKey, C
 use Rattle.tsp_value.specs.Words.{kind_word, weight_kind_word, weight_format_word, coord_kind_word, display_kind_word, fields_in_order}
 use Rattle.tsp_fields.specs.Fields.{Fields}
 use Rattle.tsp_items.specs.Items.{Item, has_end_line, is_end_line}
-use Rattle.tsp_items.specs.Shapes.{is_section_field}
+use Rattle.tsp_value.specs.Shapes.{is_section_field}
 use Rattle.tsp_items.specs.Earlier.{same_field, value_at, values_at, others_in, words_of}
 use Rattle.tsp_items.specs.Rows.{may_repeat}
 use Rattle.tsp_items.specs.FirstFault.{IsClean}

@@ -11,7 +11,7 @@ use Rattle.std.specs.Prelude.{nat_lt}
 use Rattle.tsp_fields.specs.Fields.{Fields}
 use Rattle.tsp_file.specs.Text.{keyword_line}
 use Rattle.tsp_items.specs.Items.{WordLine, Item, Line, LineEnd, word_line, items_of}
-use Rattle.tsp_items.specs.Shapes.{is_section_field}
+use Rattle.tsp_value.specs.Shapes.{is_section_field}
 use Rattle.tsp_items.specs.Earlier.{same_field, is_open, has_line, value_at, values_at, others_in, open_section, words_of}
 use Rattle.tsp_items.specs.Sections.{place_in, nodes_of}
 use Rattle.tsp_items.specs.Rows.{may_repeat, row_of}

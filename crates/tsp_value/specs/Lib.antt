@@ -6,3 +6,4 @@ pub mod Layout
 pub mod Limits
 pub mod Place
 pub mod Words
+pub mod Shapes

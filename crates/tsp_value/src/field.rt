@@ -3,7 +3,9 @@
 ghost use Rattle.std.specs.Prelude.{◌≡◌};
 ghost use Rattle.tsp_value.specs.Words.{field_word};
 ghost use Rattle.tsp_value.specs.Words.{fields_in_order, field_found};
+ghost use Rattle.tsp_value.specs.Shapes.{shape_of};
 
+use crate::limits::{MOST_DEMAND, MOST_POTENTIAL};
 use crate::word::Word;
 use std::fmt;
 
@@ -34,6 +36,23 @@ pub enum Field {
     ColumnPotentialPart,
 }
 
+/// What the words of a section are.
+#[derive(Clone, Copy, Debug, PartialEq, Eq)]
+pub enum Shape {
+    /// For each node a whole number from `low` to `high`.
+    Numbers { low: i64, high: i64 },
+    /// For each node a point.
+    Points,
+    /// Nodes, up to a -1.
+    Depots,
+    /// Pairs of nodes, up to a -1.
+    Pairs,
+    /// The weights of a matrix.
+    Weights,
+    /// Runs of nodes, each up to a -1.
+    Tours,
+}
+
 impl Field {
     /// Each field, in canonical order.
     pub const ALL: [Field; 21] = [
@@ -59,6 +78,30 @@ impl Field {
         Field::RowPotentialPart,
         Field::ColumnPotentialPart,
     ];
+
+    /// What the words of a section are; nothing of a keyword.
+    pub fn shape(self) -> Option<Shape>
+        ensures { result ≡ shape_of self }
+    {
+        match self {
+            Field::NodeCoordPart | Field::DisplayDataPart => Some(Shape::Points),
+            Field::DemandPart => Some(Shape::Numbers {
+                low: 0,
+                high: MOST_DEMAND,
+            }),
+            Field::DepotPart => Some(Shape::Depots),
+            Field::FixedEdgesPart => Some(Shape::Pairs),
+            Field::EdgeWeightPart => Some(Shape::Weights),
+            Field::TourPart => Some(Shape::Tours),
+            Field::NodePotentialPart | Field::RowPotentialPart | Field::ColumnPotentialPart => {
+                Some(Shape::Numbers {
+                    low: -MOST_POTENTIAL,
+                    high: MOST_POTENTIAL,
+                })
+            }
+            _ => None,
+        }
+    }
 }
 
 impl Word for Field {

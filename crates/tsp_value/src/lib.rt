@@ -11,7 +11,7 @@ mod place;
 mod word;
 
 pub use bytes::{is_blank, is_keyword_byte, is_letter};
-pub use field::Field;
+pub use field::{Field, Shape};
 pub use keyword::Keyword;
 pub use kinds::{CoordKind, DisplayKind, Kind, WeightFormat, WeightKind};
 pub use layout::{Layout, cells_are_distinct, cells_are_the_listed_pairs, cells_go_line_by_line};

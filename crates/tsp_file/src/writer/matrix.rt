@@ -84,19 +84,20 @@ fn put_matrix<W: Write>(
     }
 }
 
-/// Adds EDGE_WEIGHT_SECTION, where the file has it.
+/// Adds a section of weights, where the file has it.
 pub(crate) fn put_weight_section<W: Write>(
     piece: &mut Piece,
     out: &mut Watched<W>,
+    field: Field,
     format: Option<WeightFormat>,
     dimension: Option<u32>,
     weights: &Option<Vec<i64>>,
 )
     ensures { Puts W.contents out.old piece.old out.new piece.new
-        (optional (λ weights. section Field.EdgeWeightPart (matrix_lines (line_lens format dimension) weights)) (option_map (λ v. v.items) weights.now)) }
+        (optional (λ weights. section field (matrix_lines (line_lens format dimension) weights)) (option_map (λ v. v.items) weights.now)) }
 {
     if let Some(weights) = weights {
-        put_opening(piece, out, Field::EdgeWeightPart);
+        put_opening(piece, out, field);
         put_matrix(piece, out, format, dimension, weights);
     }
 }

@@ -129,10 +129,10 @@ pub(crate) fn put_number_section<W: Write>(
     piece: &mut Piece,
     out: &mut Watched<W>,
     field: Field,
-    numbers: &Option<Vec<i64>>,
+    numbers: Option<&[i64]>,
 )
     ensures { Puts W.contents out.old piece.old out.new piece.new
-        (optional (λ numbers. section field (by_node whole_number numbers)) (option_map (λ v. v.items) numbers.now)) }
+        (optional (λ numbers. section field (by_node whole_number numbers)) (option_map (λ entries. entries.now) numbers.entry)) }
 {
     if let Some(numbers) = numbers {
         put_opening(piece, out, field);
@@ -145,10 +145,10 @@ pub(crate) fn put_point_section<W: Write>(
     piece: &mut Piece,
     out: &mut Watched<W>,
     field: Field,
-    points: &Option<Vec<Point>>,
+    points: Option<&[Point]>,
 )
     ensures { Puts W.contents out.old piece.old out.new piece.new
-        (optional (λ points. section field (by_node point_numbers points)) (option_map (λ v. v.items) points.now)) }
+        (optional (λ points. section field (by_node point_numbers points)) (option_map (λ entries. entries.now) points.entry)) }
 {
     if let Some(points) = points {
         put_opening(piece, out, field);
@@ -156,47 +156,50 @@ pub(crate) fn put_point_section<W: Write>(
     }
 }
 
-/// Adds DEPOT_SECTION, where the file has it.
-pub(crate) fn put_depots<W: Write>(
+/// Adds a section of nodes, where the file has it.
+pub(crate) fn put_node_section<W: Write>(
     piece: &mut Piece,
     out: &mut Watched<W>,
+    field: Field,
     depots: &Option<Vec<u32>>,
 )
     ensures { Puts W.contents out.old piece.old out.new piece.new
-        (optional (λ depots. section Field.DepotPart (node_list depots)) (option_map (λ v. v.items) depots.now)) }
+        (optional (λ depots. section field (node_list depots)) (option_map (λ v. v.items) depots.now)) }
 {
     if let Some(depots) = depots {
-        put_opening(piece, out, Field::DepotPart);
+        put_opening(piece, out, field);
         put_nodes(piece, out, depots);
     }
 }
 
-/// Adds FIXED_EDGES_SECTION, where the file has it.
-pub(crate) fn put_fixed<W: Write>(
+/// Adds a section of pairs of nodes, where the file has it.
+pub(crate) fn put_pair_section<W: Write>(
     piece: &mut Piece,
     out: &mut Watched<W>,
+    field: Field,
     pairs: &Option<Vec<(u32, u32)>>,
 )
     ensures { Puts W.contents out.old piece.old out.new piece.new
-        (optional (λ pairs. section Field.FixedEdgesPart (pair_list pairs)) (option_map (λ v. v.items) pairs.now)) }
+        (optional (λ pairs. section field (pair_list pairs)) (option_map (λ v. v.items) pairs.now)) }
 {
     if let Some(pairs) = pairs {
-        put_opening(piece, out, Field::FixedEdgesPart);
+        put_opening(piece, out, field);
         put_pairs(piece, out, pairs);
     }
 }
 
-/// Adds TOUR_SECTION, where the file has it.
+/// Adds a section of tours, where the file has it.
 pub(crate) fn put_tour_section<W: Write>(
     piece: &mut Piece,
     out: &mut Watched<W>,
+    field: Field,
     tours: &Option<Vec<Vec<u32>>>,
 )
     ensures { Puts W.contents out.old piece.old out.new piece.new
-        (optional (λ tours. section Field.TourPart (flat_map node_list tours)) (option_map (λ v. map (λ t. t.items) v.items) tours.now)) }
+        (optional (λ tours. section field (flat_map node_list tours)) (option_map (λ v. map (λ t. t.items) v.items) tours.now)) }
 {
     if let Some(tours) = tours {
-        put_opening(piece, out, Field::TourPart);
+        put_opening(piece, out, field);
         put_tours(piece, out, tours);
     }
 }

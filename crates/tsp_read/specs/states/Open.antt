@@ -1,6 +1,6 @@
 -- What the section that is open holds.
 use Rattle.std.specs.Prelude.{◌≡◌, ℕ, List, Some}
-use Rattle.tsp_items.specs.Shapes.{shape_of}
+use Rattle.tsp_value.specs.Shapes.{shape_of}
 use Rattle.tsp_items.specs.Held.{shape_by, HoldsPart}
 use Rattle.tsp_read.specs.declared.state.reading.OpenSection.{OpenSection}
 

@@ -4,13 +4,13 @@ use crate::state::reading::Reading;
 use std::alloc::Global;
 use tsp_items::{
     CutLine, LineFault, StepFault, add_comment, add_other, set_count, set_name, set_named,
-    set_number, shape_of,
+    set_number,
 };
 use tsp_value::{Field, Keyword, MOST_CAPACITY, MOST_LINE_BYTES, MOST_NODES, MOST_SCALE};
 
 impl Reading {
     ghost use Rattle.std.specs.Prelude.{◌≡◌, None, List};
-    ghost use Rattle.tsp_items.specs.Shapes.{shape_of};
+    ghost use Rattle.tsp_value.specs.Shapes.{shape_of};
     ghost use Rattle.tsp_items.specs.Items.{Item};
     ghost use Rattle.tsp_items.specs.CutLine.{seen, cut_item};
     ghost use Rattle.tsp_read.specs.Holds.{Holds, Answers, LineAnswers};
@@ -28,7 +28,7 @@ impl Reading {
             Err(fault) => return Err(fault),
         }
         match line.key {
-            Keyword::Known(field) => match shape_of(field) {
+            Keyword::Known(field) => match field.shape() {
                 Some(shape) => self.open(alloc, field, shape, line),
                 None => self.known(alloc, field, line),
             },

@@ -1,14 +1,14 @@
 //! Lines that open a section.
 
 ghost use Rattle.std.specs.Prelude.{◌≡◌, Some};
-ghost use Rattle.tsp_items.specs.Shapes.{shape_of};
+ghost use Rattle.tsp_value.specs.Shapes.{shape_of};
 ghost use Rattle.tsp_items.specs.CutLine.{seen};
 ghost use Rattle.tsp_read.specs.Holds.{LineAnswers};
 
 use crate::state::reading::{OpenSection, Reading};
 use std::alloc::Global;
-use tsp_items::{CutLine, Part, Shape, StepFault, may_open};
-use tsp_value::Field;
+use tsp_items::{CutLine, Part, StepFault, may_open};
+use tsp_value::{Field, Shape};
 
 impl Reading {
     /// Opens the section of a field, which has this shape, where no section is open.

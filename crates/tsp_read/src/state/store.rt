@@ -6,14 +6,12 @@ ghost use Rattle.tsp_items.specs.declared.fault.StepFault.TheVariants.{Memory};
 ghost use Rattle.tsp_items.specs.Sections.{place_in};
 ghost use Rattle.tsp_items.specs.Spells.{wants_more};
 ghost use Rattle.tsp_read.specs.states.Open.{HoldsSection};
-ghost use Rattle.tsp_read.specs.states.Stored.{with_numbers, with_points, with_section};
+ghost use Rattle.tsp_read.specs.states.Stored.{with_section};
 
 use crate::state::reading::OpenSection;
 use std::alloc::Global;
 use tsp_fields::Draft;
 use tsp_items::{Part, StepFault};
-use tsp_number::Point;
-use tsp_value::Field;
 
 /// Stores what a section has. The answer is whether it is incomplete.
 pub(crate) fn store(
@@ -30,12 +28,12 @@ pub(crate) fn store(
     match part {
         Part::Numbers(part) => {
             let (numbers, wants_more) = part.finish();
-            put_numbers(draft, field, numbers);
+            draft.set_numbers(field, numbers);
             Ok(wants_more)
         }
         Part::Points(part) => {
             let (points, wants_more) = part.finish();
-            put_points(draft, field, points);
+            draft.set_points(field, points);
             Ok(wants_more)
         }
         Part::Depots(part) => {
@@ -58,29 +56,5 @@ pub(crate) fn store(
             }
             Err(fault) => Err(fault),
         },
-    }
-}
-
-/// Stores the numbers of a section that has one for each node.
-fn put_numbers(draft: &mut Draft, field: Field, numbers: Vec<i64>)
-    ensures { fields_of draft.new ≡ with_numbers field numbers.items (fields_of draft.old) }
-{
-    match field {
-        Field::DemandPart => draft.demands = Some(numbers),
-        Field::NodePotentialPart => draft.node_potentials = Some(numbers),
-        Field::RowPotentialPart => draft.row_potentials = Some(numbers),
-        Field::ColumnPotentialPart => draft.column_potentials = Some(numbers),
-        _ => drop(numbers),
-    }
-}
-
-/// Stores the points of a section that has one for each node.
-fn put_points(draft: &mut Draft, field: Field, points: Vec<Point>)
-    ensures { fields_of draft.new ≡ with_points field points.items (fields_of draft.old) }
-{
-    match field {
-        Field::NodeCoordPart => draft.coords = Some(points),
-        Field::DisplayDataPart => draft.display = Some(points),
-        _ => drop(points),
     }
 }

@@ -6,7 +6,7 @@ use Rattle.tsp_read.proofs.state.store.store.Goals as goal
 pub returns-in-Numbers-clause-stored : goal.returns-in-Numbers-clause-stored
 returns-in-Numbers-clause-stored c =
     steps.numbers_stored c.args.section c.in-Numbers.part c.finish-numbers.result.0.items c.finish-numbers.result.1 (fields_of c.args.draft.now)
-    (fields_of c.put_numbers.new.draft) c.in-Numbers.is c.put_numbers.ensures c.finish-numbers.ensures
+    (fields_of c.set_numbers.new.self) c.in-Numbers.is c.set_numbers.ensures c.finish-numbers.ensures
 
 pub returns-in-Pairs-clause-stored : goal.returns-in-Pairs-clause-stored
 returns-in-Pairs-clause-stored c =

@@ -3,8 +3,8 @@ use Rattle.std.specs.Prelude.{Bool, Option, None, Some, is_some, pos, neg_ℤ}
 use Rattle.tsp_value.specs.declared.field.Field.{Field}
 use Rattle.tsp_value.specs.declared.field.Field.TheVariants.{NodeCoordPart, DisplayDataPart, DemandPart, DepotPart, FixedEdgesPart, EdgeWeightPart, TourPart, NodePotentialPart, RowPotentialPart, ColumnPotentialPart}
 use Rattle.tsp_value.specs.Limits.{most_demand, most_potential}
-use Rattle.tsp_items.specs.declared.shape.Shape.{Shape}
-use Rattle.tsp_items.specs.declared.shape.Shape.TheVariants.{Numbers, Points, Depots, Pairs, Weights, Tours}
+use Rattle.tsp_value.specs.declared.field.Shape.{Shape}
+use Rattle.tsp_value.specs.declared.field.Shape.TheVariants.{Numbers, Points, Depots, Pairs, Weights, Tours}
 
 -- a keyword has none
 abbrev pub shape_of : Field → Option Shape

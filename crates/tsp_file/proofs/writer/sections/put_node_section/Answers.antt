@@ -1,5 +1,5 @@
 use Rattle.std.proofs.Common.{append_assoc}
-use Rattle.tsp_file.proofs.writer.sections.put_depots.Goals as goal
+use Rattle.tsp_file.proofs.writer.sections.put_node_section.Goals as goal
 
 pub returns-in-Some : goal.returns-in-Some
 returns-in-Some g c = λ start text h.
