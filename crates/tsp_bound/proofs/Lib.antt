@@ -1,8 +1,11 @@
+pub mod Adjustments
 pub mod CostLaws
+pub mod Crossings
 pub mod Division
 pub mod Duality
 pub mod Exchange
 pub mod Nearest
+pub mod Neighbours
 pub mod OneTrees
 pub mod Sizes
 pub mod Steps

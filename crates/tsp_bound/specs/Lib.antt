@@ -1,3 +1,4 @@
+pub mod Adjusted
 pub mod Assignment
 pub mod Duals
 pub mod Growth

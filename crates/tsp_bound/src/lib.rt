@@ -13,6 +13,9 @@ mod tree;
 
 pub use assignment::{Infeasible, dual_bound};
 pub use duals::Duals;
-pub use laws::{bounds_are_unique, duals_bound_walks, node_bounds_bound_walks};
+pub use laws::{
+    adjusted_bounds_bound_walks, bounds_are_unique, duals_bound_walks, least_trees_are_below_walks,
+    node_bounds_bound_walks,
+};
 pub use potentials::Potentials;
 pub use tree::{OneTree, one_tree};
