@@ -4,11 +4,13 @@ pub mod Crossings
 pub mod Division
 pub mod Duality
 pub mod Exchange
+pub mod Lowered
 pub mod Nearest
 pub mod Neighbours
 pub mod OneTrees
 pub mod Sizes
 pub mod Steps
+pub mod Tables
 pub mod Tours
 pub mod TwoNearest
 pub mod Walks

@@ -2,9 +2,11 @@
 #![tactic(auto)]
 
 mod assignment;
+mod by_node;
 mod duals;
 mod growth;
 mod laws;
+mod multipliers;
 mod numbers;
 mod potentials;
 mod scaled;
@@ -17,5 +19,6 @@ pub use laws::{
     adjusted_bounds_bound_walks, bounds_are_unique, duals_bound_walks, least_trees_are_below_walks,
     node_bounds_bound_walks,
 };
+pub use multipliers::Multipliers;
 pub use potentials::Potentials;
 pub use tree::{OneTree, one_tree};
