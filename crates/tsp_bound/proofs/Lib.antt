@@ -1,11 +1,16 @@
+pub mod Adjustments
 pub mod CostLaws
+pub mod Crossings
 pub mod Division
 pub mod Duality
 pub mod Exchange
+pub mod Lowered
 pub mod Nearest
+pub mod Neighbours
 pub mod OneTrees
 pub mod Sizes
 pub mod Steps
+pub mod Tables
 pub mod Tours
 pub mod TwoNearest
 pub mod Walks

@@ -200,6 +200,17 @@ state_start n w inside near after least least_after most some is size least_size
       count = ap insiders is ∙ insiders_more (replicate (n + 1) false) 2 (omega (arith, length-replicate (n + 1) false)) (none_inside (n + 1) 2) ∙ ap suc (insiders_none (n + 1)) ∙ omega arith;
     }
 
+-- where no node is inside, and no weight is known, a node's weights are those that are taken
+pub row_reached : (n : ℕ) (w : ℕ → ℕ → ℤ) (size next : ℕ) (inside : List Bool) (near after : List ℕ) (least least_after : List ℤ) (most : ℤ) → n < size → inside ≡ replicate size false → least ≡ replicate size most
+    → ((x : ℕ) → IsInner n x → is_inside inside x ≡ false → w next x <ℤ most) → AreNearer n w inside next near least after least_after → (x : ℕ) → IsInner n x → least_at least_after x ≡ w next x
+row_reached n w size next inside near after least least_after most enough none full small nearer x h =
+    let free : is_inside inside x ≡ false = ap (λ xs. is_inside xs x) none ∙ none_inside size x in
+    let old : least_at least x ≡ most = ap (λ zs. least_at zs x) full ∙ get_or-replicate size x most (pos 0) (omega (arith, h.1, enough)) in
+    elim (nearer x h free) [
+      | inl same ↦ let few = small x h free in absurd (omega (arith, ints, old, few, same.2))
+      | inr new ↦ new.1
+    ]
+
 -- ---- the steps as the code shows them: slices of the vectors, and the slices written back
 
 pub written_back : {X : Type 0} (before after : List X) (len : ℕ) → len ≡ length after → take len (after ++ drop (length after) before) ≡ after

@@ -1,11 +1,11 @@
 -- The two nodes that are nearest to node 1, in one pass.
-use Rattle.std.proofs.Common.{◌≡◌, ◌≢◌, ℕ, ◌+◌, ◌<◌, ◌≤◌, true, false, to_z, of_z, inl, inr, sym, ap, subst, ◌∙◌, arith}
+use Rattle.std.proofs.Common.{◌≡◌, ◌≢◌, ℕ, ◌+◌, ◌<◌, ◌≤◌, true, false, List, to_z, of_z, inl, inr, sym, ap, subst, ◌∙◌, arith}
 use Rattle.std.specs.Prelude.{ℤ, ◌≤ℤ◌, ◌<ℤ◌, int_lt, FitsSigned}
 use Rattle.std.specs.Int.{w64}
 use Rattle.std.proofs.lemmas.Bool.{cases_eq}
 use Rattle.std.proofs.lemmas.Int.{ints, to_z-of_z}
 use Rattle.tsp_bound.specs.Tree.{IsInner}
-use Rattle.tsp_bound.specs.Growth.{AreNearest}
+use Rattle.tsp_bound.specs.Growth.{AreNearest, least_at}
 
 -- the two nearest ones of the nodes before this one, and their weights
 pub record AreNearestBefore (n : ℕ) (w : ℕ → ℕ → ℤ) (node first : ℕ) (first_weight : ℤ) (second : ℕ) (second_weight : ℤ) : Type 0 where
@@ -114,6 +114,16 @@ nearest_of_all n w node first second first_weight second_weight past b = record 
   differ = b.differ;
   near = λ x h. subst (λ (z : ℤ). z ≤ℤ w 1 x) b.first_is (b.near x h (omega (arith, h.1, past)));
   next = λ x h other. subst (λ (z : ℤ). z ≤ℤ w 1 x) b.second_is (b.next x h (omega (arith, h.1, past)) other);
+}
+
+-- the same under weights that are these between node 1 and the others
+pub nearest_by_row : (n : ℕ) (w : ℕ → ℕ → ℤ) (row : List ℤ) (first second : ℕ) → ((x : ℕ) → IsInner n x → least_at row x ≡ w 1 x) → AreNearest n (λ i j. least_at row j) first second → AreNearest n w first second
+nearest_by_row n w row first second same h = record {
+  first_in = h.first_in;
+  second_in = h.second_in;
+  differ = h.differ;
+  near = λ x in_x. let below = h.near x in_x in let own = same first h.first_in in let other = same x in_x in omega (arith, ints, below, own, other);
+  next = λ x in_x apart. let below = h.next x in_x apart in let own = same second h.second_in in let other = same x in_x in omega (arith, ints, below, own, other);
 }
 
 -- ---- what the code compares

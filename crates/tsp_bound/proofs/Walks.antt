@@ -1,5 +1,5 @@
 -- A walk, wherever it begins, is one from node 1 on, so the bound of a least 1-tree is at most its length.
-use Rattle.std.proofs.Common.{◌≡◌, ◌≢◌, ℕ, zero, suc, ◌≤◌, false, eqb, List, [], ◌∷◌, ◌++◌, take, drop, get_or, inl, inr, arith, ap, sym, ◌∙◌, subst, length-append, drop-cons}
+use Rattle.std.proofs.Common.{◌≡◌, ◌≢◌, ℕ, zero, suc, ◌-◌, ◌≤◌, false, eqb, List, [], ◌∷◌, ◌++◌, take, drop, get_or, inl, inr, arith, ap, sym, ◌∙◌, subst, length-append, drop-cons}
 use Rattle.std.specs.Prelude.{ℤ, ◌+ℤ◌, ◌*ℤ◌, ◌≤ℤ◌}
 use Rattle.std.specs.List.{AllPairs, AllByRecursion, Contains, IsDistinct, range_with_len}
 use Rattle.std.proofs.lemmas.Bool.{cases_eq, ne_eqb, eqb-false}
@@ -15,6 +15,7 @@ use Rattle.tsp_cost.specs.Length.{sum_int_by, length_of}
 use Rattle.tsp_bound.specs.Numbers.{entry}
 use Rattle.tsp_bound.specs.Tree.{weight_of, IsInner, IsLeastOneTree}
 use Rattle.tsp_bound.specs.NodeBound.{weight_between, NodeBoundsBoundWalks}
+use Rattle.tsp_bound.specs.Adjusted.{LeastTreesAreBelowWalks}
 use Rattle.tsp_bound.proofs.CostLaws.{Laws, entries_of_links}
 use Rattle.tsp_bound.proofs.Duality.{scaled_length}
 use Rattle.tsp_bound.proofs.Weights.{weight_even}
@@ -82,11 +83,12 @@ turned_nodes n before after walk =
       count = omega (arith, walk.count, length-append before (1 ∷ after), length-append after before);
     }
 
-has_one : (n : ℕ) (nodes : List ℕ) → 1 ≤ n → Laws → IsWalk n nodes → Contains nodes 1
+pub has_node : (n : ℕ) (nodes : List ℕ) (node : ℕ) → Laws → IsWalk n nodes → IsNode n node → Contains nodes node
 unfolding nodes_to
-has_one n nodes some laws walk =
-    Contains-permutation (range_with_len 1 n) nodes 1 (IsPermutation-sym nodes (range_with_len 1 n) (laws.permutation n nodes walk))
-    (0, omega (arith, length-range_with_len 1 n), get_or-range_with_len 1 n 0 1 (omega (arith, some)) ∙ omega arith)
+has_node n nodes node laws walk h =
+    let read : get_or (range_with_len 1 n) (node - 1) node ≡ node = get_or-range_with_len 1 n (node - 1) node (omega (arith, h.0, h.1)) ∙ omega (arith, h.0) in
+    Contains-permutation (range_with_len 1 n) nodes node (IsPermutation-sym nodes (range_with_len 1 n) (laws.permutation n nodes walk))
+    (node - 1, omega (arith, length-range_with_len 1 n, h.0, h.1), read)
 
 -- ---- the bound
 
@@ -98,9 +100,9 @@ tree_below_walk n w pairs before after some symmetric least walk =
     let tour = tour_length w 1 1 (after ++ before) in
     omega (arith, ints, below, same, tour)
 
-tree_below : (n : ℕ) (w : ℕ → ℕ → ℤ) (pairs : List (ℕ × ℕ)) (nodes : List ℕ) → 3 ≤ n → Laws → ((a b : ℕ) → w a b ≡ w b a) → IsLeastOneTree n w pairs → IsWalk n nodes → weight_of w pairs ≤ℤ length_of w nodes
-tree_below n w pairs nodes some laws symmetric least walk =
-    let one = has_one n nodes (omega (arith, some)) laws walk in
+pub least_tree_below : Laws → LeastTreesAreBelowWalks
+least_tree_below laws n w pairs nodes some symmetric least walk =
+    let one = has_node n nodes 1 laws walk (omega arith, omega (arith, some)) in
     let here : get_or nodes one.0 1 ≡ 1 = one.2 in
     let parts : take one.0 nodes ++ 1 ∷ drop (suc one.0) nodes ≡ nodes = ap (λ x. take one.0 nodes ++ x ∷ drop (suc one.0) nodes) (sym here) ∙ ap (λ xs. take one.0 nodes ++ xs) (sym (drop-cons nodes one.0 1 one.1)) ∙ take-append-drop one.0 nodes in
     subst (λ (xs : List ℕ). weight_of w pairs ≤ℤ length_of w xs) parts
@@ -109,7 +111,7 @@ tree_below n w pairs nodes some laws symmetric least walk =
 pub node_bounds_bound_walks : Laws → NodeBoundsBoundWalks
 node_bounds_bound_walks laws n cost scale potentials bound nodes some even scale_in count is walk =
     let w = weight_between scale potentials cost in
-    let below : weight_of w is.tree ≤ℤ length_of w nodes = tree_below n w is.tree nodes some laws (weight_even scale potentials cost even) is.least walk in
+    let below : weight_of w is.tree ≤ℤ length_of w nodes = least_tree_below laws n w is.tree nodes some (weight_even scale potentials cost even) is.least walk in
     let split = laws.sum (λ i j. scale *ℤ cost i j) (λ i j. entry potentials i +ℤ entry potentials j) nodes in
     let sums = entries_of_links n nodes potentials potentials laws count count walk in
     let whole = scaled_length scale cost nodes laws scale_in in

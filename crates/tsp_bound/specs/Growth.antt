@@ -1,5 +1,6 @@
 -- A tree over the nodes 2..n that is grown from one of them by least pairs, and what the growth knows of the nodes.
-use Rattle.std.specs.Prelude.{◌≡◌, ◌≢◌, ℕ, ◌==◌, ◌+◌, Bool, true, false, ◌||◌, if◌then◌else◌, List, [], ◌∷◌, length, map, nat_lt, slice_index, slice_index_or, ◌⊎◌, ℤ, pos, ◌≤ℤ◌, ◌<ℤ◌}
+use Rattle.std.specs.Prelude.{◌≡◌, ◌≢◌, ℕ, ◌==◌, ◌+◌, Bool, true, false, ◌||◌, if◌then◌else◌, List, [], ◌∷◌, length, map, nat_lt, slice_index, slice_index_or, ◌⊎◌, ℤ, pos, ◌-ℤ◌, ◌≤ℤ◌, ◌<ℤ◌}
+use Rattle.std.specs.List.{All, Contains}
 use Rattle.tsp_bound.specs.Tree.{IsInner}
 
 -- a part and one node more
@@ -68,7 +69,17 @@ abbrev pub IsNearer : ℤ → ℕ → ℕ → ℤ → ℕ → ℤ → Type 0
 IsNearer weight next old_near old_least new_near new_least = ((new_near ≡ old_near) × (new_least ≡ old_least) × (old_least ≤ℤ weight))
     ⊎ ((new_near ≡ next) × (new_least ≡ weight) × (weight <ℤ old_least))
 
+-- where the weight of the node's pair is lowered: the same at the lower weight, and elsewhere nothing changes
+abbrev pub IsLowered : List (ℕ × ℤ) → ℤ → ℕ → ℕ → ℕ → ℤ → ℕ → ℤ → Type 0
+IsLowered lowerings weight next x old_near old_least new_near new_least =
+    (All (λ lowering. lowering.0 ≢ x) lowerings × (new_near ≡ old_near) × (new_least ≡ old_least))
+    ⊎ ((number : ℤ) × Contains lowerings (x, number) × IsNearer (weight -ℤ number) next old_near old_least new_near new_least)
+
 -- so for each node outside
+abbrev pub AreLowered : ℕ → (ℕ → ℕ → ℤ) → List (ℕ × ℤ) → List Bool → ℕ → List ℕ → List ℤ → List ℕ → List ℤ → Type 0
+AreLowered n w lowerings inside next old_near old_least new_near new_least = (x : ℕ) → IsInner n x → is_inside inside x ≡ false
+    → IsLowered lowerings (w next x) next x (slice_index old_near x) (least_at old_least x) (slice_index new_near x) (least_at new_least x)
+
 abbrev pub AreNearer : ℕ → (ℕ → ℕ → ℤ) → List Bool → ℕ → List ℕ → List ℤ → List ℕ → List ℤ → Type 0
 AreNearer n w inside next old_near old_least new_near new_least = (x : ℕ) → IsInner n x → is_inside inside x ≡ false
     → IsNearer (w next x) next (slice_index old_near x) (least_at old_least x) (slice_index new_near x) (least_at new_least x)

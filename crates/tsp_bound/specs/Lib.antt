@@ -1,6 +1,9 @@
+pub mod Adjusted
 pub mod Assignment
+pub mod ByNode
 pub mod Duals
 pub mod Growth
+pub mod Multipliers
 pub mod NodeBound
 pub mod Numbers
 pub mod Potentials

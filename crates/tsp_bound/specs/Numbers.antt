@@ -1,5 +1,5 @@
 -- The numbers of a certificate, one for each node, and the bounds that their sums give.
-use Rattle.std.specs.Prelude.{◌≡◌, ℕ, ◌-◌, ◌^◌, List, length, slice_index_or, ℤ, pos, neg_ℤ, ◌*ℤ◌, ◌≤ℤ◌}
+use Rattle.std.specs.Prelude.{◌≡◌, ◌≢◌, ℕ, ◌-◌, ◌^◌, ◌≤◌, List, length, slice_index_or, ℤ, pos, neg_ℤ, ◌*ℤ◌, ◌≤ℤ◌}
 use Rattle.std.specs.List.{All}
 use Rattle.tsp_value.specs.Limits.{most_scale, most_potential}
 use Rattle.tsp_cost.specs.Length.{sum_int_by}
@@ -32,6 +32,13 @@ pub record IsLeastBound (scale sum bound : ℤ) : Type 0 where
 abbrev pub IsBoundSized : ℤ → Type 0
 IsBoundSized bound = IsFromTo (neg_ℤ (pos (2 ^ 100))) (pos (2 ^ 100)) bound
 
+-- multipliers of pairs of nodes: how many there may be, and how large one is at most
+abbrev pub most_multipliers : ℕ
+most_multipliers = 100000
+
+abbrev pub most_multiplier : ℕ
+most_multiplier = 1000000000000000
+
 -- a scale and as many numbers of rows as of columns
 pub record AreDuals (scale : ℤ) (rows columns : List ℤ) : Type 0 where
   pub scale_is : IsScale scale
@@ -43,3 +50,11 @@ pub record AreDuals (scale : ℤ) (rows columns : List ℤ) : Type 0 where
 pub record AreNodePotentials (scale : ℤ) (numbers : List ℤ) : Type 0 where
   pub scale_is : IsScale scale
   pub numbers_are : ArePotentials numbers
+
+-- two different nodes with a number that isn't negative
+abbrev pub IsMultiplier : ℕ × ℕ × ℤ → Type 0
+IsMultiplier triple = (triple.0 ≢ triple.1) × IsFromTo (pos 0) (pos most_multiplier) triple.2
+
+pub record AreMultipliers (triples : List (ℕ × ℕ × ℤ)) : Type 0 where
+  pub few : length triples ≤ most_multipliers
+  pub each : All IsMultiplier triples

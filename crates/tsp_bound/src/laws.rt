@@ -4,6 +4,7 @@ ghost use Rattle.std.specs.Prelude.{◌≡◌, ℕ, ℤ, List};
 ghost use Rattle.tsp_bound.specs.Numbers.{IsLeastBound};
 ghost use Rattle.tsp_bound.specs.Assignment.{DualsBoundWalks};
 ghost use Rattle.tsp_bound.specs.NodeBound.{IsNodeBound, NodeBoundsBoundWalks};
+ghost use Rattle.tsp_bound.specs.Adjusted.{LeastTreesAreBelowWalks, AdjustedBoundsBoundWalks, UnadjustedBoundsAreNodeBounds};
 
 use tsp_cost::{lengths_add_up, walks_are_permutations, walks_have_no_loops};
 
@@ -19,6 +20,28 @@ pub fn duals_bound_walks()
 /// The bound of potentials is at most the length of every walk of three or more nodes.
 pub fn node_bounds_bound_walks()
     ensures { NodeBoundsBoundWalks }
+{
+    walks_are_permutations();
+    lengths_add_up();
+    walks_have_no_loops();
+}
+
+/// The cut argument: under weights that are the same both ways a least 1-tree weighs no more than
+/// a walk of three or more nodes.
+pub fn least_trees_are_below_walks()
+    ensures { LeastTreesAreBelowWalks }
+{
+    walks_are_permutations();
+    lengths_add_up();
+    walks_have_no_loops();
+}
+
+/// The bound of potentials and of numbers on taken and avoided pairs is at most the length of every
+/// walk of three or more nodes that uses each taken pair and no avoided one. With neither it is the
+/// bound of the potentials.
+pub fn adjusted_bounds_bound_walks()
+    ensures walks { AdjustedBoundsBoundWalks }
+    ensures unadjusted { UnadjustedBoundsAreNodeBounds }
 {
     walks_are_permutations();
     lengths_add_up();

@@ -2,9 +2,11 @@
 #![tactic(auto)]
 
 mod assignment;
+mod by_node;
 mod duals;
 mod growth;
 mod laws;
+mod multipliers;
 mod numbers;
 mod potentials;
 mod scaled;
@@ -13,6 +15,10 @@ mod tree;
 
 pub use assignment::{Infeasible, dual_bound};
 pub use duals::Duals;
-pub use laws::{bounds_are_unique, duals_bound_walks, node_bounds_bound_walks};
+pub use laws::{
+    adjusted_bounds_bound_walks, bounds_are_unique, duals_bound_walks, least_trees_are_below_walks,
+    node_bounds_bound_walks,
+};
+pub use multipliers::Multipliers;
 pub use potentials::Potentials;
 pub use tree::{OneTree, one_tree};

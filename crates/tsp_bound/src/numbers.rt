@@ -2,7 +2,8 @@
 
 ghost use Rattle.std.specs.Prelude.{◌≡◌, ◌↔◌, ◌≤◌, ◌*◌, ◌^◌, IsTrue, length, pos, neg_ℤ};
 ghost use Rattle.tsp_value.specs.Limits.{most_nodes, most_potential};
-ghost use Rattle.tsp_bound.specs.Numbers.{IsFromTo, IsScale, ArePotentials, total, IsLeastBound, IsBoundSized};
+ghost use Rattle.tsp_bound.specs.Numbers.{IsFromTo, IsScale, ArePotentials, total, IsLeastBound, IsBoundSized, AreMultipliers, most_multipliers, most_multiplier};
+ghost use Rattle.tsp_bound.specs.Adjusted.{total_of};
 
 use tsp_value::{MOST_POTENTIAL, MOST_SCALE};
 
@@ -31,6 +32,19 @@ pub(crate) fn total(numbers: &[i64]) -> i128
     let mut sum = 0;
     'numbers: for number in numbers {
         sum += i128::from(*number);
+    }
+    sum
+}
+
+/// The sum of the numbers of multipliers.
+pub(crate) fn total_of(triples: &[(u32, u32, i64)]) -> i128
+    requires { AreMultipliers triples.now }
+    ensures value { result ≡ total_of triples.now }
+    ensures size { IsFromTo (pos 0) (pos (most_multipliers * most_multiplier)) result }
+{
+    let mut sum = 0;
+    'triples: for triple in triples {
+        sum += i128::from(triple.2);
     }
     sum
 }

@@ -6,7 +6,7 @@ use crate::asserts::{holds, same};
 use std::alloc::Global;
 use std::cell::Cell;
 use std::test::Fail;
-use tsp_bound::{Duals, Infeasible, OneTree, Potentials, dual_bound, one_tree};
+use tsp_bound::{Duals, Infeasible, Multipliers, OneTree, Potentials, dual_bound, one_tree};
 use tsp_cost::{Costs, Instance, Symmetric, View};
 use tsp_fields::Draft;
 use tsp_testing::drafts::{file_of, upper_row};
@@ -39,7 +39,8 @@ fn tree_under<C: Symmetric>(
     if count < 3 || numbers.len() != count as usize {
         return Err(Fail::from("no potential for each node"));
     }
-    Ok(one_tree(alloc, costs, &potentials)?)
+    let none = Multipliers::new(&[]).ok_or("no multipliers")?;
+    Ok(one_tree(alloc, costs, &potentials, &none)?)
 }
 
 /// The weight and the bound of the 1-tree of an instance whose weights are a triangle.

@@ -1,18 +1,24 @@
 -- The bounds of a certificate, carried to costs that are the same between all nodes.
-use Rattle.std.proofs.Common.{◌≡◌, ℕ, List, [], ◌∷◌, refl, sym, ap, ap₂, subst, subst₂, ◌∙◌, arith}
-use Rattle.std.specs.Prelude.{Some, ◌≤◌, length, unwrap_or, ℤ, ◌+ℤ◌, ◌*ℤ◌, ◌≤ℤ◌, ◌<ℤ◌}
+use Rattle.std.proofs.Common.{◌≡◌, ℕ, List, [], ◌∷◌, get_or, inl, inr, refl, sym, ap, ap₂, subst, subst₂, ◌∙◌, arith}
+use Rattle.std.specs.Prelude.{Some, ◌≤◌, length, unwrap_or, ℤ, ◌+ℤ◌, ◌-ℤ◌, ◌*ℤ◌, ◌≤ℤ◌, ◌<ℤ◌}
+use Rattle.std.specs.List.{All}
+use Rattle.std.proofs.lemmas.List.Elements.{All-contains}
 use Rattle.tsp_fields.specs.Fields.{Fields}
 use Rattle.tsp_fields.specs.Cost.{cost}
 use Rattle.tsp_cost.specs.Costs.{IsEven}
+use Rattle.tsp_cost.specs.Length.{length_of}
+use Rattle.tsp_cost.specs.Tour.{is_directed, Uses}
 use Rattle.tsp_cost.specs.Views.{Keeps}
+use Rattle.tsp_cost.specs.Walk.{IsWalk, AreNeighbours}
 use Rattle.tsp_value.specs.declared.kinds.Kind.TheVariants as kinds
 use Rattle.tsp_bound.specs.Numbers.{IsScale, entry, IsBoundSized}
 use Rattle.tsp_bound.specs.Tree.{weight_of, IsLeastOneTree}
-use Rattle.tsp_bound.specs.NodeBound.{weight_between, IsBoundOf, IsNodeBound, NodeBoundsBoundWalks}
+use Rattle.tsp_bound.specs.NodeBound.{weight_between}
+use Rattle.tsp_bound.specs.Adjusted.{pair_of, numbers_on, adjusted, UsesEach, IsAdjustedBoundOf, IsAdjustedBound, AdjustedBoundsBoundWalks}
 use Rattle.tsp_bound.specs.Assignment.{AreGood, IsFirstBroken, IsDualBound, DualsBoundWalks}
 use Rattle.tsp_verdict.specs.declared.verdict.Reason.TheVariants.{DualInfeasible}
-use Rattle.tsp_verdict.specs.Solution.{nodes_of}
-use Rattle.tsp_verdict.specs.Certificate.{scale_in, potentials_in, rows_in, columns_in, StandsAgainst, IsBoundBy, IsCertified}
+use Rattle.tsp_verdict.specs.Solution.{nodes_of, fixed_of}
+use Rattle.tsp_verdict.specs.Certificate.{scale_in, potentials_in, rows_in, columns_in, multipliers_in, StandsAgainst, IsBoundBy, UsesMultiplied, AreListed, IsCertified}
 
 abbrev pub Same : (ℕ → ℕ → ℤ) → (ℕ → ℕ → ℤ) → Type 0
 Same v w = (i j : ℕ) → v i j ≡ w i j
@@ -27,16 +33,28 @@ least_same n v w same pairs found = record {
   least = λ others tree. subst₂ (λ a b. a ≤ℤ b) (weights_same v w same pairs) (weights_same v w same others) (found.least others tree);
 }
 
-pub bound_same : (n : ℕ) (a b : ℕ → ℕ → ℤ) (scale : ℤ) (potentials : List ℤ) (bound : ℤ) → Same a b
-    → IsNodeBound n a scale potentials bound → IsNodeBound n b scale potentials bound
-bound_same n a b scale potentials bound same found =
-    let between : Same (weight_between scale potentials a) (weight_between scale potentials b) =
-    λ i j. ap (λ c. (scale *ℤ c) +ℤ (entry potentials i +ℤ entry potentials j)) (same i j) in
+pub bound_same : (n : ℕ) (a b : ℕ → ℕ → ℤ) (scale : ℤ) (potentials : List ℤ) (triples : List (ℕ × ℕ × ℤ)) (bound : ℤ) → Same a b
+    → IsAdjustedBound n a scale potentials triples [] bound → IsAdjustedBound n b scale potentials triples [] bound
+bound_same n a b scale potentials triples bound same found =
+    let v = adjusted triples [] (weight_between scale potentials a) in
+    let w = adjusted triples [] (weight_between scale potentials b) in
+    let between : Same v w = λ i j. ap (λ c. (((scale *ℤ c) +ℤ (entry potentials i +ℤ entry potentials j)) -ℤ numbers_on triples i j) +ℤ numbers_on [] i j) (same i j) in
     record {
       tree = found.tree;
-      least = least_same n (weight_between scale potentials a) (weight_between scale potentials b) between found.tree found.least;
-      bound_is = subst (λ weight. IsBoundOf scale potentials weight bound) (weights_same (weight_between scale potentials a) (weight_between scale potentials b) between found.tree) found.bound_is;
+      least = least_same n v w between found.tree found.least;
+      bound_is = subst (λ weight. IsAdjustedBoundOf scale potentials triples weight bound) (weights_same v w between found.tree) found.bound_is;
     }
+
+-- a tour of a TSP uses each pair that is listed as fixed
+listed_used : (nodes : List ℕ) (pairs : List (ℕ × ℕ)) (triples : List (ℕ × ℕ × ℤ)) → All (AreNeighbours nodes) pairs → AreListed pairs triples → UsesEach triples nodes
+listed_used nodes pairs triples used listed k d lt = elim (listed k d lt) [
+  | inl here ↦ All-contains (AreNeighbours nodes) pairs (pair_of (get_or triples k d)) used here
+  | inr back ↦ turned (All-contains (AreNeighbours nodes) pairs ((get_or triples k d).1, (get_or triples k d).0) used back)
+]
+  where
+    turned : AreNeighbours nodes ((get_or triples k d).1, (get_or triples k d).0) → AreNeighbours nodes (pair_of (get_or triples k d))
+    turned (inl next) = inr next
+    turned (inr next) = inl next
 
 -- costs that are the same as those that an instance keeps
 pub keeps_on : (f : Fields) (m n : ℕ) (a b : ℕ → ℕ → ℤ) → m ≡ n → Same a b → Keeps f n b → Keeps f m a
@@ -46,16 +64,24 @@ keeps_on f m n a b same_count same keeps = record {
 }
 
 -- the bound that a view's costs give is that of the certificate
-pub certified : (inst pot : Fields) (n : ℕ) (costs : ℕ → ℕ → ℤ) (scale : ℤ) (potentials : List ℤ) (bound : ℤ) → NodeBoundsBoundWalks
-    → inst.kind ≡ Some kinds.Tsp → IsEven (cost inst) → 3 ≤ nodes_of inst → IsScale scale → scale ≡ scale_in pot → potentials ≡ potentials_in pot → length potentials ≡ nodes_of inst
-    → Keeps inst n costs → IsNodeBound n costs scale potentials bound × IsBoundSized bound → IsCertified inst pot bound
-certified inst pot n costs scale potentials bound law kind even some scale_is scale_in_is potentials_are count keeps found =
+pub certified : (inst pot : Fields) (n : ℕ) (costs : ℕ → ℕ → ℤ) (scale : ℤ) (potentials : List ℤ) (triples : List (ℕ × ℕ × ℤ)) (bound : ℤ) → AdjustedBoundsBoundWalks
+    → triples ≡ multipliers_in pot → AreListed (fixed_of inst) (multipliers_in pot) → inst.kind ≡ Some kinds.Tsp → IsEven (cost inst) → 3 ≤ nodes_of inst → IsScale scale → scale ≡ scale_in pot → potentials ≡ potentials_in pot → length potentials ≡ nodes_of inst
+    → Keeps inst n costs → IsAdjustedBound n costs scale potentials triples [] bound × IsBoundSized bound → IsCertified inst pot bound
+certified inst pot n costs scale potentials triples bound law triples_are listed kind even some scale_is scale_in_is potentials_are count keeps found =
     let same : nodes_of inst ≡ n = ap (λ o. unwrap_or o 0) keeps.count in
-    let here : IsNodeBound (nodes_of inst) (cost inst) scale potentials bound =
-    subst (λ m. IsNodeBound m (cost inst) scale potentials bound) (sym same) (bound_same n costs (cost inst) scale potentials bound keeps.every found.0) in
-    let by_certificate : IsNodeBound (nodes_of inst) (cost inst) (scale_in pot) (potentials_in pot) bound =
-    subst₂ (λ s p. IsNodeBound (nodes_of inst) (cost inst) s p bound) scale_in_is potentials_are here in
-    (subst (λ k. IsBoundBy k inst pot bound) (sym kind) by_certificate, λ nodes walk. law (nodes_of inst) (cost inst) scale potentials bound nodes some even scale_is count here walk, found.1)
+    let here : IsAdjustedBound (nodes_of inst) (cost inst) scale potentials triples [] bound =
+    subst (λ m. IsAdjustedBound m (cost inst) scale potentials triples [] bound) (sym same) (bound_same n costs (cost inst) scale potentials triples bound keeps.every found.0) in
+    let by_numbers : IsAdjustedBound (nodes_of inst) (cost inst) (scale_in pot) (potentials_in pot) triples [] bound =
+    subst₂ (λ s p. IsAdjustedBound (nodes_of inst) (cost inst) s p triples [] bound) scale_in_is potentials_are here in
+    let by_certificate : IsAdjustedBound (nodes_of inst) (cost inst) (scale_in pot) (potentials_in pot) (multipliers_in pot) [] bound =
+    subst (λ ts. IsAdjustedBound (nodes_of inst) (cost inst) (scale_in pot) (potentials_in pot) ts [] bound) triples_are by_numbers in
+    let walks : (nodes : List ℕ) → IsWalk (nodes_of inst) nodes → UsesEach (multipliers_in pot) nodes → bound ≤ℤ length_of (cost inst) nodes = λ nodes walk used.
+    law (nodes_of inst) (cost inst) scale potentials triples [] bound nodes some even scale_is count here walk (subst (λ ts. UsesEach ts nodes) (sym triples_are) used) (λ k d lt. absurd (omega arith)) in (
+      subst (λ k. IsBoundBy k inst pot bound) (sym kind) by_certificate,
+      λ nodes walk used. walks nodes walk (subst (λ k. UsesMultiplied k pot nodes) kind used),
+      λ nodes tour. walks nodes tour.walk (listed_used nodes (fixed_of inst) (multipliers_in pot) (subst (λ k. All (Uses (is_directed k) nodes) (fixed_of inst)) kind tour.fixed_used) listed),
+      found.1,
+    )
 
 -- ---- duals
 
@@ -90,7 +116,8 @@ assigned inst pot n costs scale rows columns bound law kind some scaled are as_r
     subst (λ s. AreGood (nodes_of inst) (cost inst) s (rows_in pot) (columns_in pot) × IsDualBound s (rows_in pot) (columns_in pot) bound) are.scale_is
     (subst₂ (λ r c. AreGood (nodes_of inst) (cost inst) scale r c × IsDualBound scale r c bound) are.rows_are are.columns_are (good, found.1)) in (
       subst (λ k. IsBoundBy k inst pot bound) (sym kind) by_certificate,
-      λ walk is. law (nodes_of inst) (cost inst) scale rows columns bound walk (omega (arith, some)) scaled as_rows as_columns good found.1 is,
+      λ walk is used. law (nodes_of inst) (cost inst) scale rows columns bound walk (omega (arith, some)) scaled as_rows as_columns good found.1 is,
+      λ walk tour. law (nodes_of inst) (cost inst) scale rows columns bound walk (omega (arith, some)) scaled as_rows as_columns good found.1 tour.walk,
       small,
     )
 

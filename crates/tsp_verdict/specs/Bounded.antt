@@ -1,5 +1,5 @@
 -- The verdict on a tour with a certificate of a bound: the first reason against either, or a tour, its length and the bound.
-use Rattle.std.specs.Prelude.{◌≡◌, ◌⊎◌, ℕ, List, [], ◌∷◌, Option, Some, ℤ, ◌≤ℤ◌}
+use Rattle.std.specs.Prelude.{◌≡◌, ◌⊎◌, ℕ, List, [], ◌∷◌, Option, Some, ℤ}
 use Rattle.tsp_fields.specs.Fields.{Fields}
 use Rattle.tsp_fields.specs.Cost.{cost}
 use Rattle.tsp_cost.specs.Length.{length_of}
@@ -20,10 +20,6 @@ StandsAgainst inst sol pot reason = tours.StandsAgainst inst sol reason ⊎ cert
 abbrev pub IsFirstAgainst : Fields → Fields → Fields → Reason → Type 0
 IsFirstAgainst inst sol pot reason = IsFirstReason (StandsAgainst inst sol pot) tours.rank_of reason
 
--- no tour of the instance is shorter
-abbrev pub BoundsTours : Fields → ℤ → Type 0
-BoundsTours inst bound = (other : List ℕ) → IsTourOf inst other → bound ≤ℤ length_of (cost inst) other
-
 -- What a yes says: the one tour is a tour of the instance, of this length, and the bound is that of the certificate; every
 -- tour of the instance is at least as long as the bound, so that one whose length equals it is a shortest.
 pub record IsBounded (inst sol pot : Fields) (length_is : ℤ) (bound : Option ℤ) : Type 0 where
@@ -34,7 +30,7 @@ pub record IsBounded (inst sol pot : Fields) (length_is : ℤ) (bound : Option �
   pub least : ℤ
   pub bound_is : bound ≡ Some least
   pub of_certificate : certificate.IsBoundBy inst.kind inst pot least
-  pub below_tours : BoundsTours inst least
+  pub below_tours : certificate.BoundsTours inst least
   pub sized : IsBoundSized least
 
 -- A no: the reason is the first one that stands. A yes: none stands, and the tour is bounded so.

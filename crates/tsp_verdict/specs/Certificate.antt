@@ -1,5 +1,6 @@
 -- A certificate of a bound: a file of potentials, when it stands against a verdict, and the bound that it gives.
-use Rattle.std.specs.Prelude.{◌≡◌, ◌≢◌, ℕ, Bool, false, ◌&&◌, List, [], Option, None, Some, is_some, unwrap_or, Result, Ok, Err, ℤ, pos, ◌≤ℤ◌}
+use Rattle.std.specs.Prelude.{◌≡◌, ◌≢◌, ℕ, Bool, false, ◌&&◌, List, [], Option, None, Some, is_some, unwrap_or, Result, Ok, Err, ℤ, pos, ◌≤ℤ◌, ◌⊎◌}
+use Rattle.std.specs.List.{All, Contains}
 use Rattle.tsp_value.specs.declared.kinds.Kind.{Kind}
 use Rattle.tsp_value.specs.declared.kinds.Kind.TheVariants as kinds
 use Rattle.tsp_fields.specs.Fields.{Fields}
@@ -9,7 +10,8 @@ use Rattle.tsp_cost.specs.Walk.{IsWalk}
 use Rattle.tsp_cost.specs.Length.{length_of}
 use Rattle.tsp_bound.specs.Numbers.{IsBoundSized}
 use Rattle.tsp_bound.specs.Assignment.{AreGood, IsFirstBroken, IsDualBound}
-use Rattle.tsp_bound.specs.NodeBound.{IsNodeBound}
+use Rattle.tsp_cost.specs.Tour.{IsTourOf}
+use Rattle.tsp_bound.specs.Adjusted.{pair_of, UsesEach, IsAdjustedBound}
 use Rattle.tsp_verdict.specs.declared.verdict.Reason.{Reason}
 use Rattle.tsp_verdict.specs.declared.verdict.Reason.TheVariants.{NotPotentials, PotentialsDimension, PotentialsKind, DualInfeasible}
 use Rattle.tsp_verdict.specs.Reasons.{IsFirstReason}
@@ -30,6 +32,10 @@ rows_in f = unwrap_or f.row_potentials []
 
 abbrev pub columns_in : Fields → List ℤ
 columns_in f = unwrap_or f.column_potentials []
+
+-- its multipliers of pairs: none, since no section of a file has any yet
+abbrev pub multipliers_in : Fields → List (ℕ × ℕ × ℤ)
+multipliers_in f = []
 
 -- a TSP wants potentials of nodes, an ATSP those of rows and of columns
 abbrev pub has_wanted : Option Kind → Fields → Bool
@@ -54,7 +60,8 @@ StandsAgainst inst pot reason = ⊥
 
 -- the bound of a least 1-tree under TYPE TSP, that of duals under TYPE ATSP
 abbrev pub IsBoundBy : Option Kind → Fields → Fields → ℤ → Type 0
-IsBoundBy (Some kinds.Tsp) inst pot bound = IsNodeBound (nodes_of inst) (cost inst) (scale_in pot) (potentials_in pot) bound
+IsBoundBy (Some kinds.Tsp) inst pot bound =
+    IsAdjustedBound (nodes_of inst) (cost inst) (scale_in pot) (potentials_in pot) (multipliers_in pot) [] bound
 IsBoundBy (Some kinds.Atsp) inst pot bound = AreGood (nodes_of inst) (cost inst) (scale_in pot) (rows_in pot) (columns_in pot)
     × IsDualBound (scale_in pot) (rows_in pot) (columns_in pot) bound
 IsBoundBy (Some kinds.Cvrp) inst pot bound = ⊥
@@ -62,13 +69,35 @@ IsBoundBy (Some kinds.Tour) inst pot bound = ⊥
 IsBoundBy (Some kinds.Potentials) inst pot bound = ⊥
 IsBoundBy None inst pot bound = ⊥
 
--- no walk of the instance is shorter
-abbrev pub BoundsWalks : Fields → ℤ → Type 0
-BoundsWalks inst bound = (nodes : List ℕ) → IsWalk (nodes_of inst) nodes → bound ≤ℤ length_of (cost inst) nodes
+-- Under TYPE TSP a walk uses the pairs with multipliers, in either direction; elsewhere multipliers aren't looked at.
+abbrev pub UsesMultiplied : Option Kind → Fields → List ℕ → Type 0
+UsesMultiplied (Some kinds.Tsp) pot nodes = UsesEach (multipliers_in pot) nodes
+UsesMultiplied (Some kinds.Atsp) pot nodes = Unit {0}
+UsesMultiplied (Some kinds.Cvrp) pot nodes = Unit {0}
+UsesMultiplied (Some kinds.Tour) pot nodes = Unit {0}
+UsesMultiplied (Some kinds.Potentials) pot nodes = Unit {0}
+UsesMultiplied None pot nodes = Unit {0}
 
--- the bound that the certificate gives, which no walk is below, and sums with which fit 128 bits
+-- no walk of the instance that uses the pairs with multipliers is shorter
+abbrev pub BoundsWalks : Fields → Fields → ℤ → Type 0
+BoundsWalks inst pot bound = (nodes : List ℕ) → IsWalk (nodes_of inst) nodes → UsesMultiplied inst.kind pot nodes
+    → bound ≤ℤ length_of (cost inst) nodes
+
+-- no tour of the instance is shorter
+abbrev pub BoundsTours : Fields → ℤ → Type 0
+BoundsTours inst bound = (other : List ℕ) → IsTourOf inst other → bound ≤ℤ length_of (cost inst) other
+
+-- the bound that the certificate gives, which no such walk and no tour is below, and sums with which fit 128 bits
 abbrev pub IsCertified : Fields → Fields → ℤ → Type 0
-IsCertified inst pot bound = IsBoundBy inst.kind inst pot bound × BoundsWalks inst bound × IsBoundSized bound
+IsCertified inst pot bound = IsBoundBy inst.kind inst pot bound × BoundsWalks inst pot bound × BoundsTours inst bound × IsBoundSized bound
+
+-- a pair is listed, in either direction
+abbrev pub IsListed : List (ℕ × ℕ) → ℕ × ℕ → Type 0
+IsListed pairs pair = Contains pairs pair ⊎ Contains pairs (pair.1, pair.0)
+
+-- so is that of each triple
+abbrev pub AreListed : List (ℕ × ℕ) → List (ℕ × ℕ × ℤ) → Type 0
+AreListed pairs triples = All (λ triple. IsListed pairs (pair_of triple)) triples
 
 -- the bound of a certificate against which no reason stands, or the first reason that does
 abbrev pub FindsBound : Fields → Fields → Result ℤ Reason → Type 0

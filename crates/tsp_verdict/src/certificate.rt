@@ -6,18 +6,21 @@ ghost use Rattle.tsp_fields.specs.Rules.{is_certificate};
 ghost use Rattle.tsp_fields.specs.Cost.{cost};
 ghost use Rattle.tsp_cost.specs.Costs.{IsEven};
 ghost use Rattle.tsp_cost.specs.Views.{Keeps};
-ghost use Rattle.tsp_bound.specs.Numbers.{IsScale};
+ghost use Rattle.tsp_bound.specs.Numbers.{IsScale, AreMultipliers};
+ghost use Rattle.tsp_bound.specs.Adjusted.{AreOnPairs};
 ghost use Rattle.tsp_bound.specs.Duals.{scale_of as scale_of_duals, rows_of, columns_of};
+ghost use Rattle.tsp_bound.specs.Multipliers.{triples_of};
 ghost use Rattle.tsp_bound.specs.Potentials.{scale_of, numbers_of};
 ghost use Rattle.tsp_verdict.specs.Reasons.{IsFirstReason};
-ghost use Rattle.tsp_verdict.specs.Solution.{nodes_of};
+ghost use Rattle.tsp_verdict.specs.Solution.{nodes_of, fixed_of};
 ghost use Rattle.tsp_verdict.specs.Tours.{rank_of};
-ghost use Rattle.tsp_verdict.specs.Certificate.{has_wanted, scale_in, potentials_in, rows_in, columns_in, StandsAgainst, IsCertified, BoundsWalks};
+ghost use Rattle.tsp_verdict.specs.Certificate.{has_wanted, scale_in, potentials_in, rows_in, columns_in, multipliers_in, StandsAgainst, AreListed, IsCertified};
 
 use crate::verdict::Reason;
 use std::alloc::{AllocError, Global};
 use tsp_bound::{
-    Duals, Potentials, dual_bound, duals_bound_walks, node_bounds_bound_walks, one_tree,
+    Duals, Multipliers, Potentials, adjusted_bounds_bound_walks, dual_bound, duals_bound_walks,
+    one_tree,
 };
 use tsp_cost::{Costs, Instance, Symmetric, View};
 use tsp_fields::{File, valid_fields_are_in_range};
@@ -93,6 +96,25 @@ fn potentials_of(pot: &File) -> Potentials<'_>
     potentials
 }
 
+/// The multipliers that a certificate holds, as triples of two nodes and a number: none, since no
+/// section of a file has any yet.
+pub(crate) fn multipliers_in(_pot: &File) -> &[(u32, u32, i64)]
+    ensures value { result.now ≡ multipliers_in _pot.now }
+    ensures are { AreMultipliers result.now }
+{
+    &[]
+}
+
+/// The same as they go into a 1-tree.
+fn multipliers_of(pot: &File) -> Multipliers<'_>
+    ensures { triples_of result ≡ multipliers_in pot.now }
+{
+    let Some(multipliers) = Multipliers::new(multipliers_in(pot)) else {
+        unreachable!();
+    };
+    multipliers
+}
+
 /// The bound that the duals of a certificate give an instance of TYPE ATSP, or the first pair that
 /// breaks them.
 pub(crate) fn bound_of_duals(inst: &Instance, pot: &File) -> Result<i128, Reason>
@@ -144,6 +166,8 @@ pub(crate) fn bound_of_potentials(
     requires count { nodes_of pot.now ≡ nodes_of inst.now }
     requires wanted { has_wanted (Some kinds.Tsp) pot.now ≡ true }
     requires even { IsEven (cost inst.now) }
+    requires on_pairs { AreOnPairs (nodes_of inst.now) (multipliers_in pot.now) }
+    requires listed { AreListed (fixed_of inst.now) (multipliers_in pot.now) }
     ensures { IfOk result (λ bound. IsCertified inst.now pot.now bound) }
 {
     match inst.view() {
@@ -169,10 +193,12 @@ fn tree_bound<C: Symmetric>(
     requires count { nodes_of pot.now ≡ nodes_of inst.now }
     requires wanted { has_wanted (Some kinds.Tsp) pot.now ≡ true }
     requires even { IsEven (cost inst.now) }
+    requires on_pairs { AreOnPairs (nodes_of inst.now) (multipliers_in pot.now) }
+    requires listed { AreListed (fixed_of inst.now) (multipliers_in pot.now) }
     ensures { IfOk result (λ bound. IsCertified inst.now pot.now bound) }
 {
-    node_bounds_bound_walks();
-    match one_tree(alloc, c, &potentials_of(pot)) {
+    adjusted_bounds_bound_walks();
+    match one_tree(alloc, c, &potentials_of(pot), &multipliers_of(pot)) {
         Ok(found) => Ok(found.bound),
         Err(refused) => Err(refused),
     }

@@ -1,41 +1,48 @@
-use Rattle.std.proofs.Common.{◌≡◌, ℕ, List, ap, length, rules, arith, to_z, of_z, FitsSigned}
+use Rattle.std.proofs.Common.{◌≡◌, ℕ, List, [], subst, ◌∙◌, arith, rules, FitsSigned, to_z, of_z}
+use Rattle.std.specs.Prelude.{ℤ}
 use Rattle.std.specs.Int.{w128}
 use Rattle.std.proofs.lemmas.Int.{to_z-of_z}
 use Rattle.tsp_bound.specs.Numbers.{total}
 use Rattle.tsp_bound.specs.Tree.{weight_of, IsLeastOneTree}
-use Rattle.tsp_bound.specs.NodeBound.{IsBoundOf, IsNodeBound}
-use Rattle.tsp_bound.specs.Potentials.{weight_under}
-use Rattle.tsp_bound.proofs.Weights.{weight_seen, bound_of_weight}
+use Rattle.tsp_bound.specs.Adjusted.{total_of, IsAdjustedBoundOf, IsAdjustedBound}
+use Rattle.tsp_bound.specs.Multipliers.{weight_less}
+use Rattle.tsp_bound.proofs.Weights.{sum_of_bound, bound_of_weight, tree_same}
 use Rattle.tsp_bound.proofs.tree.one_tree.Goals as goal
 
-pub weight_of-weight-requires-clause-few : goal.weight_of-weight-requires-clause-few
-weight_of-weight-requires-clause-few g c = omega (arith, ap length c.deref.ensures.value, c.in_ok-edges.ensures.tree.count, c.count-count.ensures.value, c.count-count.ensures.most)
-
-pub total-potentials-requires-clause-few : goal.total-potentials-requires-clause-few
-total-potentials-requires-clause-few g c = omega (arith, c.requires.count, c.count-count.ensures.value, c.count-count.ensures.most)
+pub least_bound-bound-requires-clause-size : goal.least_bound-bound-requires-clause-size
+least_bound-bound-requires-clause-size g c =
+    let sum = sum_of_bound c.in_ok-found.found.weight c.total-potentials.result c.total_of-multipliers.result (total c.args.p.now.numbers.now) (total_of c.args.m.now.triples.now)
+    c.in_ok-found.ensures.size c.total-potentials.ensures.size c.total_of-multipliers.ensures.size c.total-potentials.ensures.value c.total_of-multipliers.ensures.value in
+    rw sum.0 sum.1
 
 pub returns : goal.returns
 returns g c =
     let n = g.C.Costs.nodes c.args.c.now in
     let cost = g.C.Costs.at c.args.c.now in
     let p = c.args.p.now in
-    let w = weight_under p cost in
-    let edges : List (ℕ × ℕ) = c.in_ok-edges.edges.items in
-    let found : IsLeastOneTree n w edges = c.in_ok-edges.ensures in
-    let weight = c.weight_of-weight in
-    let potentials = c.total-potentials in
+    let triples : List (ℕ × ℕ × ℤ) = c.args.m.now.triples.now in
+    let w = weight_less p triples cost in
+    let edges : List (ℕ × ℕ) = c.in_ok-found.found.edges.items in
+    let found : IsLeastOneTree n w edges = subst (λ (ts : List (ℕ × ℕ × ℤ)). IsLeastOneTree n (weight_less p ts cost) edges) c.in_ok-by_node.ensures.triples c.in_ok-found.ensures.least in
+    let weight : ℤ = c.in_ok-found.found.weight in
+    let same : to_z w128 (of_z w128 c.in_ok-found.found.weight) ≡ weight = tree_same weight c.in_ok-found.ensures.size in
+    let weight_is : weight ≡ weight_of w edges = subst (λ (ts : List (ℕ × ℕ × ℤ)). weight ≡ weight_of (weight_less p ts cost) edges) c.in_ok-by_node.ensures.triples c.in_ok-found.ensures.weight in
     let least = c.least_bound-bound.result in
     let fits : FitsSigned w128 c.least_bound-bound.result = search rules in
-    let weight_is : to_z w128 (of_z w128 c.weight_of-weight.result) ≡ weight_of w edges = weight_seen w c.deref.result.now edges weight.result weight.ensures.size weight.ensures.value c.deref.ensures.value in
-    let bound = bound_of_weight p.scale weight.result potentials.result (total p.numbers.now) least p.are.scale_is fits weight.ensures.size potentials.ensures.size potentials.ensures.value c.least_bound-bound.ensures.value in
-    let own : IsBoundOf p.scale p.numbers.now (weight_of w edges) (to_z w128 (of_z w128 least)) = rw weight_is at bound in
-    let node_bound : IsNodeBound n cost p.scale p.numbers.now (to_z w128 (of_z w128 least)) = record { tree = edges; least = found; bound_is = own } in
+    let bound : ℤ = to_z w128 (of_z w128 least) in
+    let rounded : IsAdjustedBoundOf p.scale p.numbers.now triples weight bound = bound_of_weight p.scale weight c.total-potentials.result c.total_of-multipliers.result (total p.numbers.now) (total_of triples) least p.are.scale_is fits
+    c.in_ok-found.ensures.size c.total-potentials.ensures.size c.total_of-multipliers.ensures.size c.total-potentials.ensures.value c.total_of-multipliers.ensures.value c.least_bound-bound.ensures.value in
+    let own : IsAdjustedBound n cost p.scale p.numbers.now triples [] bound = record {
+      tree = edges;
+      least = found;
+      bound_is = subst (λ (z : ℤ). IsAdjustedBoundOf p.scale p.numbers.now triples z bound) weight_is rounded;
+    } in
     record {
       tree = found.tree;
-      weight = weight_is;
-      least = rw weight_is found.least;
-      rounded = bound;
-      bound = node_bound;
+      weight = same ∙ weight_is;
+      least = rw (same ∙ weight_is) found.least;
+      rounded = rw same rounded;
+      bound = own;
       size = rw (to_z-of_z w128 least fits) c.least_bound-bound.ensures.size;
-      walks = λ nodes walk. c.node_bounds_bound_walks.ensures n cost p.scale p.numbers.now (to_z w128 (of_z w128 least)) nodes c.requires.some (g.met.C.Symmetric.even c.args.c.now) p.are.scale_is c.requires.count node_bound walk;
+      walks = λ nodes walk used. c.adjusted_bounds_bound_walks.ensures.walks n cost p.scale p.numbers.now triples [] bound nodes c.requires.some (g.met.C.Symmetric.even c.args.c.now) p.are.scale_is c.requires.count own walk used (λ k d lt. absurd (omega arith));
     }
