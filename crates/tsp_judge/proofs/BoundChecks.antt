@@ -1,5 +1,5 @@
 -- The check with a certificate of a bound, put together from its parts.
-use Rattle.std.specs.Prelude.{ℤ, pos, negsuc, ◌⊎◌, ◌≤◌, ◌^◌, unsigned_abs, IsTrue, ◌≤ℤ◌}
+use Rattle.std.specs.Prelude.{ℤ, pos, negsuc, ◌⊎◌, ◌≤◌, ◌^◌, unsigned_abs, IsTrue, IfOk, ◌≤ℤ◌}
 use Rattle.std.proofs.Common.{◌≡◌, Bool, true, false, Option, Some, None, Result, Ok, Err, refl, sym, subst, subst₂, inl, inr, arith}
 use Rattle.std.proofs.lemmas.Int.{ints}
 use Rattle.std.proofs.lemmas.Bool.{false≢true}
@@ -22,9 +22,9 @@ use Rattle.tsp_judge.specs.declared.fault.RunFault.{RunFault}
 use Rattle.tsp_judge.specs.declared.fault.RunFault.TheVariants.{File, WrongKind, Write, OutOfMemory, Relayout}
 use Rattle.tsp_judge.specs.Judged.{is_yes}
 use Rattle.tsp_judge.specs.Report.{report_of, IsBoundSized, IsSized}
-use Rattle.tsp_judge.specs.Run.{ReadsFile, Answers}
+use Rattle.tsp_judge.specs.Run.{ReadsFile, Answers, told}
 use Rattle.tsp_judge.proofs.Checks.{a_file_of_tours}
-use Rattle.tsp_judge.specs.BoundRun.{is_bounded, IsJudged, IsBoundRun, IsAYes, IsBoundCheck}
+use Rattle.tsp_judge.specs.BoundRun.{is_bounded, IsJudged, IsBoundRun, IsBoundVerdictRun, IsAYes, IsBoundCheck, IsBoundVerdictCheck}
 
 pub kind_of_bounded : (kind : Option Kind) → IsTrue (is_bounded kind) → (kind ≡ Some kinds.Tsp) ⊎ (kind ≡ Some kinds.Atsp)
 kind_of_bounded (Some kinds.Tsp) is = inl refl
@@ -66,19 +66,21 @@ judged first second third instance solution certificate verdict is v one two thr
 }
 
 -- what a check answers that has its verdict
-pub answered : (first second third : Turn) (instance solution certificate : Fields) (sink : Sink) (verdict : Verdict) (result : Result Bool RunFault)
-    → IsTrue (is_bounded instance.kind) → IsVerdict instance solution certificate verdict → Answers sink instance verdict result
-    → IsFile first instance → IsFile second solution → IsFile third certificate → IsBoundRun first second third sink result
-answered first second third instance solution certificate sink verdict (Ok answer) is v a one two three =
-    (instance, verdict, judged first second third instance solution certificate verdict is v one two three, a.0, a.1)
-answered first second third instance solution certificate sink verdict (Err OutOfMemory) is v a one two three =
+pub answered : (first second third : Turn) (instance solution certificate : Fields) (sink : Sink) (verdict : Verdict) (result : Result Verdict RunFault)
+    → IsTrue (is_bounded instance.kind) → IsVerdict instance solution certificate verdict → Answers sink instance verdict (told result)
+    → IfOk result (λ answer. answer ≡ verdict) → IsFile first instance → IsFile second solution → IsFile third certificate
+    → IsBoundVerdictRun first second third sink result
+answered first second third instance solution certificate sink verdict (Ok answer) is v a same one two three =
+    subst (λ w. IsBoundVerdictRun first second third sink (Ok w)) (sym same)
+    (instance, judged first second third instance solution certificate verdict is v one two three, a.1)
+answered first second third instance solution certificate sink verdict (Err OutOfMemory) is v a same one two three =
     (a, (instance, one, is), (solution, two), (certificate, three))
-answered first second third instance solution certificate sink verdict (Err (Write write_faults.Device)) is v a one two three =
+answered first second third instance solution certificate sink verdict (Err (Write write_faults.Device)) is v a same one two three =
     (instance, verdict, judged first second third instance solution certificate verdict is v one two three, a)
-answered first second third instance solution certificate sink verdict (Err (Write write_faults.OutOfMemory)) is v a one two three = absurd a
-answered first second third instance solution certificate sink verdict (Err (File file fault)) is v a one two three = absurd a
-answered first second third instance solution certificate sink verdict (Err WrongKind) is v a one two three = absurd a
-answered first second third instance solution certificate sink verdict (Err (Relayout fault)) is v a one two three = absurd a
+answered first second third instance solution certificate sink verdict (Err (Write write_faults.OutOfMemory)) is v a same one two three = absurd a
+answered first second third instance solution certificate sink verdict (Err (File file fault)) is v a same one two three = absurd a
+answered first second third instance solution certificate sink verdict (Err WrongKind) is v a same one two three = absurd a
+answered first second third instance solution certificate sink verdict (Err (Relayout fault)) is v a same one two three = absurd a
 
 -- a run that stops at its first file, at its second, and at its third
 pub first_stops : (first second third : Turn) (sink : Sink) (fault : RunFault) → ReadsFile 1 first (Err fault) → IsUnread second → IsUnread third
@@ -150,3 +152,17 @@ yes_of first second third sink result run is =
 pub with_yes : (first second third : Turn) (sink : Sink) (result : Result Bool RunFault) → IsBoundRun first second third sink result
     → IsBoundCheck first second third sink result
 with_yes first second third sink result run = (run, λ is. yes_of first second third sink result run is)
+
+-- a run whose verdict is answered, and the same of which a yes or a no is
+run_of_verdict : (first second third : Turn) (sink : Sink) (result : Result Verdict RunFault) → IsBoundVerdictRun first second third sink result
+    → IsBoundRun first second third sink (told result)
+run_of_verdict first second third sink (Ok verdict) run = (run.0, verdict, run.1, refl, run.2)
+run_of_verdict first second third sink (Err fault) run = run
+
+pub with_verdict : (first second third : Turn) (sink : Sink) (result : Result Verdict RunFault) → IsBoundVerdictRun first second third sink result
+    → IsBoundVerdictCheck first second third sink result
+with_verdict first second third sink result run = (run, with_yes first second third sink (told result) (run_of_verdict first second third sink result run))
+
+pub with_fault : (first second third : Turn) (sink : Sink) (fault : RunFault) → IsBoundRun first second third sink (Err fault)
+    → IsBoundVerdictCheck first second third sink (Err fault)
+with_fault first second third sink fault run = with_verdict first second third sink (Err fault) run

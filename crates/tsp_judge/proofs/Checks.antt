@@ -1,5 +1,5 @@
 -- The check, put together from its parts.
-use Rattle.std.specs.Prelude.{ℤ, IsTrue, ◌⊎◌}
+use Rattle.std.specs.Prelude.{ℤ, IsTrue, IfOk, ◌⊎◌}
 use Rattle.std.proofs.lemmas.Bool.{false≢true}
 use Rattle.std.proofs.Common.{◌≡◌, ℕ, ◌≤◌, [], length, Bool, Option, Some, None, Result, Ok, Err, true, false, inl, inr, refl, sym, subst, subst₂, arith}
 use Rattle.tsp_value.specs.declared.kinds.Kind.{Kind}
@@ -19,8 +19,8 @@ use Rattle.tsp_verdict.specs.Tours as tours
 use Rattle.tsp_verdict.specs.Routes as routes
 use Rattle.tsp_judge.specs.Judged.{IsVerdictBy, IsVerdictOn, is_yes}
 use Rattle.tsp_judge.specs.Report.{IsBoundSized, IsSized, report_of}
-use Rattle.tsp_judge.specs.Run.{ReadsFile, IsRun, Answers}
-use Rattle.tsp_judge.specs.Yes.{IsATourYes, IsARoutesYes, IsCheck}
+use Rattle.tsp_judge.specs.Run.{ReadsFile, IsRun, IsVerdictRun, Answers, told}
+use Rattle.tsp_judge.specs.Yes.{IsATourYes, IsARoutesYes, IsCheck, IsVerdictCheck}
 
 pub none_taken : length {A = ℕ} [] ≤ most_taken
 none_taken = omega arith
@@ -48,18 +48,18 @@ pub sized : (instance solution : Fields) (verdict : Verdict) → IsVerdictOn ins
 sized instance solution verdict v = sized_by instance.kind instance solution verdict v
 
 -- what a check answers that has its verdict
-pub answered : (first second : Turn) (instance solution : Fields) (sink : Sink) (verdict : Verdict) (result : Result Bool RunFault)
-    → IsTrue (is_instance instance.kind) → IsVerdictOn instance solution verdict → Answers sink instance verdict result
-    → IsFile first instance → IsFile second solution → IsRun first second sink result
-answered first second instance solution sink verdict (Ok answer) is v a one two =
-    (instance, verdict, record { solution = solution; first_file = one; second_file = two; judged = v }, a.0, a.1)
-answered first second instance solution sink verdict (Err OutOfMemory) is v a one two = (a, (instance, one, is), (solution, two))
-answered first second instance solution sink verdict (Err (Write faults.Device)) is v a one two =
+pub answered : (first second : Turn) (instance solution : Fields) (sink : Sink) (verdict : Verdict) (result : Result Verdict RunFault)
+    → IsTrue (is_instance instance.kind) → IsVerdictOn instance solution verdict → Answers sink instance verdict (told result)
+    → IfOk result (λ answer. answer ≡ verdict) → IsFile first instance → IsFile second solution → IsVerdictRun first second sink result
+answered first second instance solution sink verdict (Ok answer) is v a same one two = subst (λ w. IsVerdictRun first second sink (Ok w)) (sym same)
+    (instance, record { solution = solution; first_file = one; second_file = two; judged = v }, a.1)
+answered first second instance solution sink verdict (Err OutOfMemory) is v a same one two = (a, (instance, one, is), (solution, two))
+answered first second instance solution sink verdict (Err (Write faults.Device)) is v a same one two =
     (instance, verdict, record { solution = solution; first_file = one; second_file = two; judged = v }, a)
-answered first second instance solution sink verdict (Err (Write faults.OutOfMemory)) is v a one two = absurd a
-answered first second instance solution sink verdict (Err (File file fault)) is v a one two = absurd a
-answered first second instance solution sink verdict (Err WrongKind) is v a one two = absurd a
-answered first second instance solution sink verdict (Err (Relayout fault)) is v a one two = absurd a
+answered first second instance solution sink verdict (Err (Write faults.OutOfMemory)) is v a same one two = absurd a
+answered first second instance solution sink verdict (Err (File file fault)) is v a same one two = absurd a
+answered first second instance solution sink verdict (Err WrongKind) is v a same one two = absurd a
+answered first second instance solution sink verdict (Err (Relayout fault)) is v a same one two = absurd a
 
 -- a run that stops at its first file, and one that stops at its second
 pub first_stops : (first second : Turn) (sink : Sink) (fault : RunFault) → ReadsFile 1 first (Err fault) → IsUnread second
@@ -146,3 +146,17 @@ with_yes first second sink result run = (
       let r : IsRun first second sink (Ok true) = subst (IsRun first second sink) is run in
       yes_by r.0.kind first second sink r.0 r.2.solution r.1 refl r.2.first_file r.2.second_file r.2.judged r.3 r.4,
 )
+
+-- a run whose verdict is answered, and the same of which a yes or a no is
+run_of_verdict : (first second : Turn) (sink : Sink) (result : Result Verdict RunFault) → IsVerdictRun first second sink result
+    → IsRun first second sink (told result)
+run_of_verdict first second sink (Ok verdict) run = (run.0, verdict, run.1, refl, run.2)
+run_of_verdict first second sink (Err fault) run = run
+
+pub with_verdict : (first second : Turn) (sink : Sink) (result : Result Verdict RunFault) → IsVerdictRun first second sink result
+    → IsVerdictCheck first second sink result
+with_verdict first second sink result run = (run, with_yes first second sink (told result) (run_of_verdict first second sink result run))
+
+pub with_fault : (first second : Turn) (sink : Sink) (fault : RunFault) → IsRun first second sink (Err fault)
+    → IsVerdictCheck first second sink (Err fault)
+with_fault first second sink fault run = with_verdict first second sink (Err fault) run

@@ -19,7 +19,7 @@ use Rattle.tsp_judge.specs.declared.fault.RunFault.{RunFault}
 use Rattle.tsp_judge.specs.declared.fault.RunFault.TheVariants.{File, WrongKind, Write, OutOfMemory, Relayout}
 use Rattle.tsp_judge.specs.Judged.{is_yes}
 use Rattle.tsp_judge.specs.Report.{report_of}
-use Rattle.tsp_judge.specs.Run.{IsSomeFile}
+use Rattle.tsp_judge.specs.Run.{IsSomeFile, told}
 
 -- the TYPEs whose tours have a bound
 abbrev pub is_bounded : Option Kind → Bool
@@ -63,6 +63,12 @@ IsBoundRun first second third sink (Err (Write write_faults.OutOfMemory)) = ⊥
 IsBoundRun first second third sink (Err (Write write_faults.Device)) = (instance : Fields) × (verdict : Verdict)
     × IsJudged first second third instance verdict × HasStopped sink (report_of instance verdict)
 
+-- The same run, where the verdict itself is answered: at Ok it is that of these files, and the whole report on it was written.
+abbrev pub IsBoundVerdictRun : Turn → Turn → Turn → Sink → Result Verdict RunFault → Type 0
+IsBoundVerdictRun first second third sink (Ok verdict) = (instance : Fields) × IsJudged first second third instance verdict
+    × HasWritten sink (report_of instance verdict)
+IsBoundVerdictRun first second third sink (Err fault) = IsBoundRun first second third sink (Err fault)
+
 -- What a yes says: the second file is one of tours and the third one of potentials; the one tour visits every node of the
 -- instance once and uses every fixed edge; its length and the bound of the third file are printed; and no tour of the instance is shorter than the bound, so that where the length
 -- equals it no tour is shorter than this one.
@@ -89,3 +95,8 @@ pub record IsAYes (first second third : Turn) (sink : Sink) : Type 0 where
 abbrev pub IsBoundCheck : Turn → Turn → Turn → Sink → Result Bool RunFault → Type 0
 IsBoundCheck first second third sink result = IsBoundRun first second third sink result
     × (result ≡ Ok true → IsAYes first second third sink)
+
+-- the same where the verdict is answered
+abbrev pub IsBoundVerdictCheck : Turn → Turn → Turn → Sink → Result Verdict RunFault → Type 0
+IsBoundVerdictCheck first second third sink result = IsBoundVerdictRun first second third sink result
+    × IsBoundCheck first second third sink (told result)

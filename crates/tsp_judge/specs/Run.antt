@@ -66,3 +66,14 @@ IsRun first second sink (Err (Relayout fault)) = ⊥
 IsRun first second sink (Err (Write write_faults.OutOfMemory)) = ⊥
 IsRun first second sink (Err (Write write_faults.Device)) = (instance : Fields) × (verdict : Verdict)
     × IsJudged first second instance verdict × HasStopped sink (report_of instance verdict)
+
+-- whether it is a yes, where there is a verdict
+abbrev pub told : Result Verdict RunFault → Result Bool RunFault
+told (Ok verdict) = Ok (is_yes verdict)
+told (Err fault) = Err fault
+
+-- The same run, where the verdict itself is answered: at Ok it is that of these files, and the whole report on it was written.
+abbrev pub IsVerdictRun : Turn → Turn → Sink → Result Verdict RunFault → Type 0
+IsVerdictRun first second sink (Ok verdict) = (instance : Fields) × IsJudged first second instance verdict
+    × HasWritten sink (report_of instance verdict)
+IsVerdictRun first second sink (Err fault) = IsRun first second sink (Err fault)

@@ -8,12 +8,13 @@ use Rattle.tsp_fields.specs.Cost.{cost}
 use Rattle.tsp_cost.specs.Length.{length_of}
 use Rattle.tsp_cost.specs.Tour.{IsTourOf}
 use Rattle.tsp_read.specs.Reads.{IsFile}
+use Rattle.tsp_verdict.specs.declared.verdict.Verdict.{Verdict}
 use Rattle.tsp_verdict.specs.declared.verdict.Verdict.TheVariants.{Tour, Routes}
 use Rattle.tsp_verdict.specs.Plan.{IsPlanOf, plan_length, depot_of}
 use Rattle.tsp_verdict.specs.Solution.{tours_of}
 use Rattle.tsp_judge.specs.declared.fault.RunFault.{RunFault}
 use Rattle.tsp_judge.specs.Report.{report_of}
-use Rattle.tsp_judge.specs.Run.{IsRun}
+use Rattle.tsp_judge.specs.Run.{IsRun, IsVerdictRun, told}
 
 -- The second file is one of tours, its one tour visits every node of the instance once and uses every fixed edge, and its
 -- length is printed.
@@ -48,3 +49,7 @@ pub record IsARoutesYes (first second : Turn) (sink : Sink) : Type 0 where
 abbrev pub IsCheck : Turn → Turn → Sink → Result Bool RunFault → Type 0
 IsCheck first second sink result = IsRun first second sink result
     × (result ≡ Ok true → IsATourYes first second sink ⊎ IsARoutesYes first second sink)
+
+-- the same where the verdict is answered
+abbrev pub IsVerdictCheck : Turn → Turn → Sink → Result Verdict RunFault → Type 0
+IsVerdictCheck first second sink result = IsVerdictRun first second sink result × IsCheck first second sink (told result)

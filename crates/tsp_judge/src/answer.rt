@@ -1,10 +1,10 @@
 //! The end of a check: its report, and its answer.
 
-ghost use Rattle.std.specs.Prelude.{◌≡◌};
+ghost use Rattle.std.specs.Prelude.{◌≡◌, IfOk};
 ghost use Rattle.tsp_stream.specs.Sink.{sink_of};
 ghost use Rattle.tsp_judge.specs.Judged.{is_yes};
 ghost use Rattle.tsp_judge.specs.Report.{IsSized};
-ghost use Rattle.tsp_judge.specs.Run.{Answers};
+ghost use Rattle.tsp_judge.specs.Run.{Answers, told};
 
 use crate::fault::RunFault;
 use crate::report::report_text;
@@ -14,7 +14,7 @@ use tsp_cost::Instance;
 use tsp_stream::{Watched, write_text};
 use tsp_verdict::Verdict;
 
-/// Writes the report on an instance, and answers whether its solution is accepted.
+/// Writes the report on an instance, and answers the verdict that it is of.
 ///
 /// Errors: `OutOfMemory` where the report runs out of memory, and then nothing was written; `Write`
 /// where the writer fails.
@@ -23,16 +23,27 @@ pub(crate) fn answer<W: Write>(
     instance: &Instance,
     verdict: Verdict,
     out: &mut Watched<W>,
-) -> Result<bool, RunFault>
+) -> Result<Verdict, RunFault>
     requires { IsSized verdict }
-    ensures { Answers (sink_of W.contents out.old out.new) instance.now verdict result }
+    ensures report { Answers (sink_of W.contents out.old out.new) instance.now verdict (told result) }
+    ensures same { IfOk result (λ answer. answer ≡ verdict) }
 {
     let Ok(report) = report_text(alloc, instance.file(), verdict) else {
         return Err(RunFault::OutOfMemory);
     };
     match write_text(out, &report) {
         Err(fault) => Err(RunFault::Write(fault)),
-        Ok(()) => Ok(is_yes(verdict)),
+        Ok(()) => Ok(verdict),
+    }
+}
+
+/// Whether the solution is accepted, where there is a verdict.
+pub(crate) fn told(ended: Result<Verdict, RunFault>) -> Result<bool, RunFault>
+    ensures { result ≡ told ended }
+{
+    match ended {
+        Ok(verdict) => Ok(is_yes(verdict)),
+        Err(fault) => Err(fault),
     }
 }
 

@@ -5,9 +5,9 @@ ghost use Rattle.std.specs.Prelude.{◌≡◌, Some};
 ghost use Rattle.tsp_stream.specs.Sink.{sink_of};
 ghost use Rattle.tsp_stream.specs.Turn.{Turn, turn_of, TakesAtMost};
 ghost use Rattle.tsp_read.specs.Reads.{IsFile, most_taken};
-ghost use Rattle.tsp_judge.specs.BoundRun.{is_bounded, IsBoundRun, IsBoundCheck};
+ghost use Rattle.tsp_judge.specs.BoundRun.{is_bounded, IsBoundVerdictRun, IsBoundCheck, IsBoundVerdictCheck};
 
-use crate::answer::answer;
+use crate::answer::{answer, told};
 use crate::fault::RunFault;
 use crate::file::read_file;
 use std::alloc::{AllocError, Global};
@@ -16,7 +16,7 @@ use tsp_cost::Instance;
 use tsp_fields::File;
 use tsp_stream::Watched;
 use tsp_value::Kind;
-use tsp_verdict::judge_tour_bound;
+use tsp_verdict::{Verdict, judge_tour_bound};
 
 /// Judges a tour of an instance of TYPE TSP or ATSP with a certificate of a bound, and writes the
 /// report.
@@ -47,6 +47,24 @@ pub fn run_bound_check<I: Read, S: Read, P: Read, W: Write>(
         TakesAtMost most_taken (turn_of P.remaining pot.old pot.new) (λ third.
         IsBoundCheck first second third (sink_of W.contents out.old out.new) result))) }
 {
+    told(run_bound_verdict(alloc, inst, sol, pot, out))
+}
+
+/// Does what `run_bound_check` does, and answers the verdict itself: at `Ok` the one of the report.
+///
+/// Errors: those of `run_bound_check`.
+pub fn run_bound_verdict<I: Read, S: Read, P: Read, W: Write>(
+    alloc: Global,
+    inst: &mut Watched<I>,
+    sol: &mut Watched<S>,
+    pot: &mut Watched<P>,
+    out: &mut Watched<W>,
+) -> Result<Verdict, RunFault>
+    ensures { TakesAtMost most_taken (turn_of I.remaining inst.old inst.new) (λ first.
+        TakesAtMost most_taken (turn_of S.remaining sol.old sol.new) (λ second.
+        TakesAtMost most_taken (turn_of P.remaining pot.old pot.new) (λ third.
+        IsBoundVerdictCheck first second third (sink_of W.contents out.old out.new) result))) }
+{
     match read_file(alloc, 1, inst) {
         Err(fault) => Err(fault),
         Ok(instance) => with_instance(alloc, instance, sol, pot, out),
@@ -60,11 +78,11 @@ fn with_instance<S: Read, P: Read, W: Write>(
     sol: &mut Watched<S>,
     pot: &mut Watched<P>,
     out: &mut Watched<W>,
-) -> Result<bool, RunFault>
+) -> Result<Verdict, RunFault>
     ensures { TakesAtMost most_taken (turn_of S.remaining sol.old sol.new) (λ second.
         TakesAtMost most_taken (turn_of P.remaining pot.old pot.new) (λ third.
         (first : Turn) → IsFile first instance
-        → IsBoundRun first second third (sink_of W.contents out.old out.new) result)) }
+        → IsBoundVerdictRun first second third (sink_of W.contents out.old out.new) result)) }
 {
     match read_file(alloc, 2, sol) {
         Err(fault) => {
@@ -86,10 +104,10 @@ fn with_solution<P: Read, W: Write>(
     solution: &File,
     pot: &mut Watched<P>,
     out: &mut Watched<W>,
-) -> Result<bool, RunFault>
+) -> Result<Verdict, RunFault>
     ensures { TakesAtMost most_taken (turn_of P.remaining pot.old pot.new) (λ third.
         (first second : Turn) → IsFile first instance → IsFile second solution.now
-        → IsBoundRun first second third (sink_of W.contents out.old out.new) result) }
+        → IsBoundVerdictRun first second third (sink_of W.contents out.old out.new) result) }
 {
     match read_file(alloc, 3, pot) {
         Err(fault) => {
@@ -111,10 +129,10 @@ fn with_certificate<W: Write>(
     solution: &File,
     certificate: &File,
     out: &mut Watched<W>,
-) -> Result<bool, RunFault>
+) -> Result<Verdict, RunFault>
     ensures { (first second third : Turn) → IsFile first instance → IsFile second solution.now
         → IsFile third certificate.now
-        → IsBoundRun first second third (sink_of W.contents out.old out.new) result }
+        → IsBoundVerdictRun first second third (sink_of W.contents out.old out.new) result }
 {
     match Instance::of(instance) {
         Err((_, other)) => {
@@ -136,10 +154,10 @@ fn judged<W: Write>(
     solution: &File,
     certificate: &File,
     out: &mut Watched<W>,
-) -> Result<bool, RunFault>
+) -> Result<Verdict, RunFault>
     ensures { (first second third : Turn) → IsFile first instance.now → IsFile second solution.now
         → IsFile third certificate.now
-        → IsBoundRun first second third (sink_of W.contents out.old out.new) result }
+        → IsBoundVerdictRun first second third (sink_of W.contents out.old out.new) result }
 {
     if !is_bounded(instance.kind()) {
         return Err(RunFault::WrongKind);

@@ -6,10 +6,10 @@ ghost use Rattle.tsp_stream.specs.Turn.{Turn, turn_of, TakesAtMost};
 ghost use Rattle.tsp_read.specs.Reads.{IsFile, most_taken};
 ghost use Rattle.tsp_fields.specs.Rules.{is_instance};
 ghost use Rattle.tsp_judge.specs.Judged.{IsVerdictOn};
-ghost use Rattle.tsp_judge.specs.Run.{IsRun};
-ghost use Rattle.tsp_judge.specs.Yes.{IsCheck};
+ghost use Rattle.tsp_judge.specs.Run.{IsVerdictRun};
+ghost use Rattle.tsp_judge.specs.Yes.{IsCheck, IsVerdictCheck};
 
-use crate::answer::answer;
+use crate::answer::{answer, told};
 use crate::fault::RunFault;
 use crate::file::read_file;
 use std::alloc::{AllocError, Global};
@@ -41,6 +41,22 @@ pub fn run_check<I: Read, S: Read, W: Write>(
         TakesAtMost most_taken (turn_of S.remaining sol.old sol.new) (λ second.
         IsCheck first second (sink_of W.contents out.old out.new) result)) }
 {
+    told(run_verdict(alloc, inst, sol, out))
+}
+
+/// Does what `run_check` does, and answers the verdict itself: at `Ok` the one of the report.
+///
+/// Errors: those of `run_check`.
+pub fn run_verdict<I: Read, S: Read, W: Write>(
+    alloc: Global,
+    inst: &mut Watched<I>,
+    sol: &mut Watched<S>,
+    out: &mut Watched<W>,
+) -> Result<Verdict, RunFault>
+    ensures { TakesAtMost most_taken (turn_of I.remaining inst.old inst.new) (λ first.
+        TakesAtMost most_taken (turn_of S.remaining sol.old sol.new) (λ second.
+        IsVerdictCheck first second (sink_of W.contents out.old out.new) result)) }
+{
     match read_file(alloc, 1, inst) {
         Err(fault) => Err(fault),
         Ok(instance) => with_instance(alloc, instance, sol, out),
@@ -53,10 +69,10 @@ fn with_instance<S: Read, W: Write>(
     instance: File,
     sol: &mut Watched<S>,
     out: &mut Watched<W>,
-) -> Result<bool, RunFault>
+) -> Result<Verdict, RunFault>
     ensures { TakesAtMost most_taken (turn_of S.remaining sol.old sol.new) (λ second.
         (first : Turn) → IsFile first instance
-        → IsRun first second (sink_of W.contents out.old out.new) result) }
+        → IsVerdictRun first second (sink_of W.contents out.old out.new) result) }
 {
     match read_file(alloc, 2, sol) {
         Err(fault) => {
@@ -77,9 +93,9 @@ fn with_solution<W: Write>(
     instance: File,
     solution: &File,
     out: &mut Watched<W>,
-) -> Result<bool, RunFault>
+) -> Result<Verdict, RunFault>
     ensures { (first second : Turn) → IsFile first instance → IsFile second solution.now
-        → IsRun first second (sink_of W.contents out.old out.new) result }
+        → IsVerdictRun first second (sink_of W.contents out.old out.new) result }
 {
     match Instance::of(instance) {
         Err((_, other)) => {
@@ -100,10 +116,10 @@ fn judged<W: Write>(
     instance: &Instance,
     solution: &File,
     out: &mut Watched<W>,
-) -> Result<bool, RunFault>
+) -> Result<Verdict, RunFault>
     requires { IsTrue (is_instance instance.now.kind) }
     ensures { (first second : Turn) → IsFile first instance.now → IsFile second solution.now
-        → IsRun first second (sink_of W.contents out.old out.new) result }
+        → IsVerdictRun first second (sink_of W.contents out.old out.new) result }
 {
     match judge(alloc, instance, solution) {
         Err(AllocError) => Err(RunFault::OutOfMemory),

@@ -12,8 +12,8 @@ mod report;
 mod show;
 mod show_text;
 
-pub use bound_check::run_bound_check;
-pub use check::run_check;
+pub use bound_check::{run_bound_check, run_bound_verdict};
+pub use check::{run_check, run_verdict};
 pub use convert::run_convert;
 pub use fault::RunFault;
 pub use show::run_show;

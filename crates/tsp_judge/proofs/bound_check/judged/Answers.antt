@@ -26,4 +26,4 @@ pub returns-in-Ok : goal.returns-in-Ok
 returns-in-Ok g c = λ first second third one two three.
     let is : IsTrue (is_bounded c.args.instance.now.kind) = ap is_bounded (sym c.kind.ensures.value) ∙ sym c.is_bounded.ensures ∙ c.if-not-is_bounded.false in
     answered first second third c.args.instance.now c.args.solution.now c.args.certificate.now
-    (sink_of g.W.Write.contents c.args.out.now c.answer.new.out) c.in-Ok.verdict c.answer.result is c.in-Ok.ensures c.answer.ensures one two three
+    (sink_of g.W.Write.contents c.args.out.now c.answer.new.out) c.in-Ok.verdict c.answer.result is c.in-Ok.ensures c.answer.ensures.report c.answer.ensures.same one two three

@@ -1,14 +1,7 @@
-use Rattle.std.proofs.Common.{[], refl}
-use Rattle.std.proofs.KnownBytes.{Keeps-refl}
-use Rattle.tsp_stream.specs.Turn.{turn_of}
-use Rattle.tsp_judge.proofs.Checks.{none_taken}
-use Rattle.tsp_judge.proofs.BoundChecks.{first_stops, with_yes}
+use Rattle.std.proofs.Common.{sym, subst}
+use Rattle.tsp_judge.specs.BoundRun.{IsBoundCheck}
 use Rattle.tsp_judge.proofs.bound_check.run_bound_check.Goals as goal
 
-pub returns-in-Err : goal.returns-in-Err
-returns-in-Err g c = let one = c.in-Err.ensures in
-    (one.0, one.1, ([], none_taken, ([], none_taken, with_yes _ _ _ _ _ (first_stops (turn_of g.I.Read.remaining c.args.inst.now c.read_file.new.reader one.0) _ _ _ _ one.2 (Keeps-refl _, refl) (Keeps-refl _, refl) (Keeps-refl _, refl)))))
-
-pub returns-in-Ok : goal.returns-in-Ok
-returns-in-Ok g c = let one = c.in-Ok.ensures in let two = c.with_instance.ensures in
-    (one.0, one.1, (two.0, two.1, (two.2.0, two.2.1, with_yes _ _ _ _ _ (two.2.2 _ one.2))))
+pub returns : goal.returns
+returns g c = let one = c.run_bound_verdict.ensures in let two = one.2 in let three = two.2 in
+    (one.0, one.1, (two.0, two.1, (three.0, three.1, subst (IsBoundCheck _ _ _ _) (sym c.told.ensures) three.2.1)))

@@ -12,4 +12,4 @@ answer-requires g c = sized c.args.instance.now c.args.solution.now c.in-Ok.verd
 
 pub returns-in-Ok : goal.returns-in-Ok
 returns-in-Ok g c = λ first second one two. answered first second c.args.instance.now c.args.solution.now
-    (sink_of g.W.Write.contents c.args.out.now c.answer.new.out) c.in-Ok.verdict c.answer.result c.requires c.in-Ok.ensures c.answer.ensures one two
+    (sink_of g.W.Write.contents c.args.out.now c.answer.new.out) c.in-Ok.verdict c.answer.result c.requires c.in-Ok.ensures c.answer.ensures.report c.answer.ensures.same one two

@@ -1,0 +1,111 @@
+//! Likely causes of a fault, as far as what was seen of the file shows one.
+
+use crate::look::Look;
+use tsp_fields::EndFault;
+use tsp_items::{LineFault, ReadFault};
+use tsp_number::NumberFault;
+use tsp_value::{Field, is_blank, is_letter};
+
+/// The likely cause of a fault, where one is known.
+pub(crate) fn cause(look: &Look, fault: ReadFault) -> Option<&'static str> {
+    match fault {
+        ReadFault::Line {
+            line,
+            word: _,
+            fault,
+        } => {
+            let kind = if line == 1 {
+                kind_of(look.head.as_slice())
+            } else {
+                None
+            };
+            kind.or(cause_of_returns(look))
+                .or(cause_of_line(look, line, fault))
+        }
+        ReadFault::End(fault) => cause_of_returns(look).or(cause_of_end(look, fault)),
+        ReadFault::OutOfMemory | ReadFault::Device | ReadFault::TooLong => None,
+    }
+}
+
+/// What the first bytes of a file say that is no text of TSPLIB 95.
+fn kind_of(head: &[u8]) -> Option<&'static str> {
+    if head.starts_with(&[31, 139]) {
+        return Some("The file begins as gzip does. Unpack it first: gunzip < FILE.gz > FILE.");
+    }
+    if head.starts_with(b"BZh") || head.starts_with(&[253, 55]) || head.starts_with(b"PK") {
+        return Some("The file begins as a compressed one does. Unpack it first.");
+    }
+    if head.starts_with(&[255, 254]) || head.starts_with(&[254, 255]) {
+        return Some("The file begins as UTF-16 does. Convert it first: iconv -f UTF-16 -t UTF-8.");
+    }
+    if head.starts_with(&[239, 187, 191]) {
+        return Some(
+            "The file begins with a byte order mark, the bytes 239 187 191. Take it off: tail -c +4 FILE.",
+        );
+    }
+    match head.first() {
+        Some(byte) if !is_usual(*byte) => {
+            Some("The file's first byte is no letter, digit or blank. Is it a text?")
+        }
+        Some(_) | None => None,
+    }
+}
+
+/// Whether a text of TSPLIB 95 may begin with the byte: a letter, a number, a blank or an empty line.
+fn is_usual(byte: u8) -> bool {
+    is_letter(byte)
+        || is_blank(byte)
+        || byte.is_ascii_digit()
+        || byte == b'\n'
+        || byte == b'-'
+        || byte == b'+'
+        || byte == b'.'
+}
+
+/// Whether the ends of lines may be the cause.
+fn cause_of_returns(look: &Look) -> Option<&'static str> {
+    if look.has_returns {
+        Some(
+            "Lines of this file end in byte 13 alone. A line ends in byte 10: tr '\\r' '\\n' < FILE.",
+        )
+    } else {
+        None
+    }
+}
+
+/// The likely cause of a line fault.
+fn cause_of_line(look: &Look, line: u32, fault: LineFault) -> Option<&'static str> {
+    match fault {
+        LineFault::UnknownLine if is_route(look.excerpt.marked()) => Some(
+            "This is how CVRPLIB writes routes. They leave the depot out and count customers from 1:\n\
+             docs/certificates.md has a recipe.",
+        ),
+        LineFault::StrayNumber if line == 1 => Some(
+            "This may be a list of nodes without keywords, as Concorde writes a tour (.sol):\n\
+             docs/certificates.md has a recipe.",
+        ),
+        LineFault::Number(NumberFault::OutOfRange)
+            if look.excerpt.marked() == b"0".as_slice() && look.field == Some(Field::TourPart) => {
+            Some("Nodes count from 1. Some programs count them from 0: add 1 to each node then.")
+        }
+        _ => None,
+    }
+}
+
+/// Whether a line is one of CVRPLIB's.
+fn is_route(line: &[u8]) -> bool {
+    line.starts_with(b"Route") || line.starts_with(b"Cost")
+}
+
+/// The likely cause of an end fault.
+fn cause_of_end(look: &Look, fault: EndFault) -> Option<&'static str> {
+    match fault {
+        EndFault::Missing(_) if look.has_small_letters => Some(
+            "A line has this keyword in small letters. Keywords stand in capital letters.",
+        ),
+        EndFault::Missing(_)
+        | EndFault::Incomplete(_)
+        | EndFault::WrongFormat
+        | EndFault::WrongCount => None,
+    }
+}

@@ -1,0 +1,285 @@
+//! Why a solution is refused: the rule, and the nodes and numbers that the reason is about.
+
+use crate::sentences::reason_sentence;
+use crate::solution::{count_at_place, first_place_of, node_at, sum_of};
+use crate::text::{begin, end, push, push_lines, push_number};
+use std::alloc::{AllocError, Global};
+use std::io::Read;
+use tsp_fields::File;
+use tsp_read::read_from;
+use tsp_stream::Watched;
+use tsp_value::Word;
+use tsp_verdict::Reason;
+
+/// Which file a reason is about.
+#[derive(Clone, Copy, Debug, PartialEq, Eq)]
+pub enum Blame {
+    /// The instance.
+    Instance,
+    /// The solution.
+    Solution,
+    /// The potentials.
+    Potentials,
+}
+
+/// The file that a reason is about.
+pub fn blamed(reason: Reason) -> Blame {
+    match reason {
+        Reason::TooFewNodes
+        | Reason::NotSymmetric { .. }
+        | Reason::DepotCount
+        | Reason::DepotDemand
+        | Reason::FixedEdgesInRoutes => Blame::Instance,
+        Reason::NotASolution
+        | Reason::Dimension
+        | Reason::TourCount
+        | Reason::TourLength
+        | Reason::NodeOutOfRange { .. }
+        | Reason::RepeatedNode { .. }
+        | Reason::FixedEdgeUnused { .. }
+        | Reason::DepotInRoute { .. }
+        | Reason::Unserved { .. }
+        | Reason::Overload { .. } => Blame::Solution,
+        Reason::NotPotentials
+        | Reason::PotentialsDimension
+        | Reason::PotentialsKind
+        | Reason::DualInfeasible { .. } => Blame::Potentials,
+    }
+}
+
+/// Appends why a solution is refused. `name` is what the user calls the file that is to blame; each
+/// file is given as opened once more, where it can be, and is read as the first time. The nodes and
+/// numbers are told as far as that shows them.
+///
+/// Errors: out of memory; part of the explanation may be appended then.
+pub fn explain_reason<R: Read + Drop>(
+    alloc: Global,
+    text: &mut Vec<u8>,
+    name: &str,
+    reason: Reason,
+    instance: Option<R>,
+    solution: Option<R>,
+) -> Result<(), AllocError> {
+    begin(text)?;
+    push(text, name)?;
+    push(text, ":")?;
+    end(text)?;
+    push_lines(text, reason_sentence(reason))?;
+    let instance = read_again(alloc, instance);
+    let solution = read_again(alloc, solution);
+    let answer = match (&instance, &solution) {
+        (Some(instance), Some(solution)) => push_details(text, reason, instance, solution),
+        _ => Ok(()),
+    };
+    drop(instance);
+    drop(solution);
+    answer
+}
+
+/// The file that is read a second time, or `None` where there is none.
+fn read_again<R: Read + Drop>(alloc: Global, again: Option<R>) -> Option<File> {
+    match again {
+        None => None,
+        Some(reader) => {
+            let mut reader = Watched::new(reader);
+            read_from(alloc, &mut reader).ok()
+        }
+    }
+}
+
+/// Appends the nodes and numbers that the reason is about.
+fn push_details(
+    text: &mut Vec<u8>,
+    reason: Reason,
+    instance: &File,
+    solution: &File,
+) -> Result<(), AllocError> {
+    match reason {
+        Reason::NotASolution => push_type(text, solution),
+        Reason::Dimension => push_dimensions(text, instance, solution),
+        Reason::TourCount => say(
+            text,
+            &[("The number of tours in it is ", tours_in(solution))],
+        ),
+        Reason::TourLength => push_lengths(text, instance, solution),
+        Reason::NodeOutOfRange { place } => push_node(text, place, instance, solution),
+        Reason::RepeatedNode { place } => push_repeated(text, place, solution),
+        Reason::DepotInRoute { place } => push_node(text, place, instance, solution),
+        Reason::FixedEdgeUnused { index } => push_pair(text, index, instance),
+        Reason::Overload { route } => push_load(text, route, instance, solution),
+        Reason::Unserved { node } => push_unserved(text, node),
+        Reason::TooFewNodes => say(text, &[("DIMENSION is ", nodes_of(instance))]),
+        Reason::DepotCount => say(
+            text,
+            &[("The number of depots in it is ", depots_in(instance))],
+        ),
+        Reason::NotSymmetric { i: _, j: _ }
+        | Reason::DualInfeasible { i: _, j: _ }
+        | Reason::NotPotentials
+        | Reason::PotentialsDimension
+        | Reason::PotentialsKind
+        | Reason::DepotDemand
+        | Reason::FixedEdgesInRoutes => Ok(()),
+    }
+}
+
+/// Appends a line of words with a number after each.
+fn say(text: &mut Vec<u8>, parts: &[(&str, i64)]) -> Result<(), AllocError> {
+    begin(text)?;
+    'parts: for (words, number) in parts {
+        push(text, words)?;
+        push_number(text, *number)?;
+    }
+    push(text, ".")?;
+    end(text)
+}
+
+/// Appends the TYPE of a solution that isn't one.
+fn push_type(text: &mut Vec<u8>, solution: &File) -> Result<(), AllocError> {
+    begin(text)?;
+    push(text, "It is of TYPE ")?;
+    push(text, solution.kind().word())?;
+    push(text, ".")?;
+    end(text)
+}
+
+/// The value of DIMENSION, and 0 where it is missing.
+fn nodes_of(file: &File) -> i64 {
+    i64::from(file.dimension().unwrap_or(0))
+}
+
+/// How many tours a file holds.
+fn tours_in(solution: &File) -> i64 {
+    count_of(solution.tours().unwrap_or(&[]).len())
+}
+
+/// How many depots an instance lists.
+fn depots_in(instance: &File) -> i64 {
+    count_of(instance.depots().unwrap_or(&[]).len())
+}
+
+/// A count as a number to be printed.
+fn count_of(count: usize) -> i64 {
+    i64::try_from(count).unwrap_or(i64::MAX)
+}
+
+/// Appends both values of DIMENSION.
+fn push_dimensions(text: &mut Vec<u8>, instance: &File, solution: &File) -> Result<(), AllocError> {
+    say(
+        text,
+        &[
+            ("In the instance it is ", nodes_of(instance)),
+            (", and in the solution ", nodes_of(solution)),
+        ],
+    )
+}
+
+/// Appends how many nodes the tour has and how many the instance, and whether the tour lists its
+/// first node at its end again.
+fn push_lengths(text: &mut Vec<u8>, instance: &File, solution: &File) -> Result<(), AllocError> {
+    let Some(tour) = solution.tours().unwrap_or(&[]).first() else {
+        return Ok(());
+    };
+    say(
+        text,
+        &[
+            ("The tour has ", count_of(tour.len())),
+            (" nodes, and DIMENSION is ", nodes_of(instance)),
+        ],
+    )?;
+    if tour.len() > 1 && tour.first() == tour.last() {
+        push_lines(
+            text,
+            "Its first node stands at its end again: leave it out there.",
+        )
+    } else {
+        Ok(())
+    }
+}
+
+/// Appends the node at a place of the tours.
+fn push_node(
+    text: &mut Vec<u8>,
+    place: u32,
+    instance: &File,
+    solution: &File,
+) -> Result<(), AllocError> {
+    let Some(node) = node_at(solution.tours().unwrap_or(&[]), place) else {
+        return Ok(());
+    };
+    say(
+        text,
+        &[
+            ("Place ", i64::from(place)),
+            (" is node ", i64::from(node)),
+            (", and DIMENSION is ", nodes_of(instance)),
+        ],
+    )
+}
+
+/// Appends the node at a place of the tours, and the first place that has it.
+fn push_repeated(text: &mut Vec<u8>, place: u32, solution: &File) -> Result<(), AllocError> {
+    let tours = solution.tours().unwrap_or(&[]);
+    let Some(node) = node_at(tours, place) else {
+        return Ok(());
+    };
+    let Some(first) = first_place_of(tours, node) else {
+        return Ok(());
+    };
+    say(
+        text,
+        &[
+            ("Place ", i64::from(place)),
+            (" is node ", i64::from(node)),
+            (", which stands at place ", first),
+        ],
+    )
+}
+
+/// Appends a fixed pair, counted from 1.
+fn push_pair(text: &mut Vec<u8>, index: u32, instance: &File) -> Result<(), AllocError> {
+    let pairs = instance.fixed().unwrap_or(&[]);
+    match count_at_place(pairs, index) {
+        None => Ok(()),
+        Some((from, to)) => say(
+            text,
+            &[
+                ("Pair ", i64::from(index)),
+                (" is ", i64::from(from)),
+                (" and ", i64::from(to)),
+            ],
+        ),
+    }
+}
+
+/// Appends what a route carries, and the capacity.
+fn push_load(
+    text: &mut Vec<u8>,
+    route: u32,
+    instance: &File,
+    solution: &File,
+) -> Result<(), AllocError> {
+    let (Some(demands), Some(capacity)) = (instance.demands(), instance.capacity()) else {
+        return Ok(());
+    };
+    match sum_of(solution.tours().unwrap_or(&[]), route, demands) {
+        None => Ok(()),
+        Some(load) => say(
+            text,
+            &[
+                ("The demands of route ", i64::from(route)),
+                (" sum to ", load),
+                (", and CAPACITY is ", capacity),
+            ],
+        ),
+    }
+}
+
+/// Appends the node that no route serves.
+fn push_unserved(text: &mut Vec<u8>, node: u32) -> Result<(), AllocError> {
+    say(text, &[("No route has node ", i64::from(node))])?;
+    push_lines(
+        text,
+        "Routes of CVRPLIB count customers from 1 without the depot: add 1 to each node then.",
+    )
+}

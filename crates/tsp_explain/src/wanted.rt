@@ -1,0 +1,139 @@
+//! What each keyword and each section takes, with its numbers.
+
+use tsp_value::Field;
+
+/// What a keyword or a section takes.
+pub(crate) fn wanted(field: Field) -> &'static str {
+    match field {
+        Field::NameKey => "NAME keeps its whole value, with the keyword at most 4,000 bytes.",
+        Field::CommentKey => {
+            "COMMENT keeps its whole value, with the keyword at most 4,000 bytes. At most 1,000 lines have it."
+        }
+        Field::OtherKey => {
+            "An unknown keyword keeps its whole value, with the keyword at most 4,000 bytes. At most 1,000 lines have one."
+        }
+        Field::TypeKey => {
+            "TYPE is TSP, ATSP, CVRP, TOUR or POTENTIALS. Of TSPLIB 95's, tsp doesn't read HCP and SOP."
+        }
+        Field::DimensionKey => {
+            "DIMENSION is the number of nodes: a whole number from 1 to 100,000."
+        }
+        Field::CapacityKey => "CAPACITY is a whole number from 1 to 1,000,000,000,000.",
+        Field::ScaleKey => "SCALE is a whole number from 1 to 1,000,000.",
+        Field::EdgeWeightTypeKey => {
+            "EDGE_WEIGHT_TYPE is EXPLICIT, EUC_2D, CEIL_2D, MAN_2D, MAX_2D or ATT. tsp doesn't read the other types of TSPLIB 95.\n\
+             Written as an EXPLICIT matrix of whole numbers, the file could be read with up to 5,000 nodes."
+        }
+        Field::EdgeWeightFormatKey => {
+            "EDGE_WEIGHT_FORMAT is FUNCTION, FULL_MATRIX, UPPER_ROW, LOWER_ROW, UPPER_DIAG_ROW, LOWER_DIAG_ROW,\n\
+             UPPER_COL, LOWER_COL, UPPER_DIAG_COL or LOWER_DIAG_COL."
+        }
+        Field::NodeCoordTypeKey => {
+            "NODE_COORD_TYPE is TWOD_COORDS or NO_COORDS. tsp doesn't read points in space, THREED_COORDS."
+        }
+        Field::DisplayDataTypeKey => {
+            "DISPLAY_DATA_TYPE is COORD_DISPLAY, TWOD_DISPLAY or NO_DISPLAY."
+        }
+        Field::NodeCoordPart => {
+            "NODE_COORD_SECTION has for each node from 1 to DIMENSION a group: the node, x and y.\n\
+             x and y are from -1,000,000,000 to 1,000,000,000, with at most 9 decimals."
+        }
+        Field::DisplayDataPart => {
+            "DISPLAY_DATA_SECTION has for each node from 1 to DIMENSION a group: the node, x and y.\n\
+             x and y are from -1,000,000,000 to 1,000,000,000, with at most 9 decimals."
+        }
+        Field::DemandPart => {
+            "DEMAND_SECTION has for each node from 1 to DIMENSION a group: the node and its demand,\n\
+             a whole number from 0 to 1,000,000,000."
+        }
+        Field::DepotPart => {
+            "DEPOT_SECTION lists nodes from 1 to DIMENSION, at most 100,000, and -1 at its end."
+        }
+        Field::FixedEdgesPart => {
+            "FIXED_EDGES_SECTION lists pairs of different nodes from 1 to DIMENSION, at most 100,000, and -1 at its end."
+        }
+        Field::EdgeWeightPart => {
+            "EDGE_WEIGHT_SECTION lists whole numbers from -1,000,000,000,000 to 1,000,000,000,000,\n\
+             at most DIMENSION * DIMENSION of them."
+        }
+        Field::TourPart => {
+            "TOUR_SECTION lists nodes from 1 to 100,000, at most 1,000,000, and -1 at the end of each tour."
+        }
+        Field::NodePotentialPart => {
+            "NODE_POTENTIAL_SECTION has for each node from 1 to DIMENSION a group: the node and its number,\n\
+             a whole number from -1,000,000,000,000,000 to 1,000,000,000,000,000."
+        }
+        Field::RowPotentialPart => {
+            "ROW_POTENTIAL_SECTION has for each node from 1 to DIMENSION a group: the node and its number,\n\
+             a whole number from -1,000,000,000,000,000 to 1,000,000,000,000,000."
+        }
+        Field::ColumnPotentialPart => {
+            "COLUMN_POTENTIAL_SECTION has for each node from 1 to DIMENSION a group: the node and its number,\n\
+             a whole number from -1,000,000,000,000,000 to 1,000,000,000,000,000."
+        }
+    }
+}
+
+/// Which files have to have a keyword or a section.
+pub(crate) fn asked(field: Field) -> &'static str {
+    match field {
+        Field::TypeKey => "Every file has a line TYPE.",
+        Field::DimensionKey => "Every file has a line DIMENSION, but one of TYPE TOUR.",
+        Field::EdgeWeightTypeKey => {
+            "A file of TYPE TSP, ATSP or CVRP has a line EDGE_WEIGHT_TYPE."
+        }
+        Field::EdgeWeightFormatKey => {
+            "A file with EXPLICIT weights has a line EDGE_WEIGHT_FORMAT, which says how they are listed."
+        }
+        Field::CapacityKey => "A file of TYPE CVRP has a line CAPACITY.",
+        Field::NodeCoordPart => {
+            "A TSP, ATSP or CVRP whose weights are distances has a NODE_COORD_SECTION."
+        }
+        Field::EdgeWeightPart => {
+            "A TSP, ATSP or CVRP with EXPLICIT weights has an EDGE_WEIGHT_SECTION."
+        }
+        Field::DemandPart => "A file of TYPE CVRP has a DEMAND_SECTION.",
+        Field::DepotPart => "A file of TYPE CVRP has a DEPOT_SECTION.",
+        Field::TourPart => "A file of TYPE TOUR has a TOUR_SECTION.",
+        Field::NodePotentialPart => {
+            "A file of TYPE POTENTIALS has a NODE_POTENTIAL_SECTION, or both others of potentials."
+        }
+        Field::RowPotentialPart | Field::ColumnPotentialPart => {
+            "A file of TYPE POTENTIALS with numbers of rows has them of columns too, and the other way round."
+        }
+        Field::NameKey
+        | Field::CommentKey
+        | Field::OtherKey
+        | Field::ScaleKey
+        | Field::NodeCoordTypeKey
+        | Field::DisplayDataTypeKey
+        | Field::DisplayDataPart
+        | Field::FixedEdgesPart => "No file needs it.",
+    }
+}
+
+/// How many words a group of a section has, or `None` where it has no groups.
+pub(crate) fn group(field: Field) -> Option<u64> {
+    match field {
+        Field::NodeCoordPart | Field::DisplayDataPart => Some(3),
+        Field::DemandPart
+        | Field::NodePotentialPart
+        | Field::RowPotentialPart
+        | Field::ColumnPotentialPart => Some(2),
+        Field::NameKey
+        | Field::TypeKey
+        | Field::CommentKey
+        | Field::OtherKey
+        | Field::DimensionKey
+        | Field::CapacityKey
+        | Field::ScaleKey
+        | Field::EdgeWeightTypeKey
+        | Field::EdgeWeightFormatKey
+        | Field::NodeCoordTypeKey
+        | Field::DisplayDataTypeKey
+        | Field::DepotPart
+        | Field::FixedEdgesPart
+        | Field::EdgeWeightPart
+        | Field::TourPart => None,
+    }
+}
