@@ -8,7 +8,8 @@ use Rattle.tsp_value.specs.Limits.{most_depots}
 use Rattle.tsp_items.specs.Numbers.{number, node_or_end, is_end, is_minus_one}
 use Rattle.tsp_items.specs.Places.{Place, PastEnd, DepotAfter}
 use Rattle.tsp_items.specs.Lists.{place_of_depot}
-use Rattle.tsp_items.specs.Parts.{word_fault, DepotsHold}
+use Rattle.tsp_items.specs.states.Parts.{DepotsHold}
+use Rattle.tsp_items.specs.Rows.{word_fault}
 use Rattle.tsp_items.proofs.Ended.{and_false, any_kept, any_push, before_kept, before_none, before_end, before_push}
 
 -- ---- words without a fault

@@ -14,7 +14,8 @@ use Rattle.tsp_items.specs.Places.{PastEnd, FirstAfter, SecondOf}
 use Rattle.tsp_items.specs.Groups.{pairs_in, begun_pair}
 use Rattle.tsp_items.specs.Lists.{firsts_in, place_of_fixed}
 use Rattle.tsp_items.specs.Spells.{wants_more}
-use Rattle.tsp_items.specs.Parts.{word_fault, readings, PairsHold}
+use Rattle.tsp_items.specs.states.Parts.{readings, PairsHold}
+use Rattle.tsp_items.specs.Rows.{word_fault}
 use Rattle.tsp_items.proofs.Ended.{any_push, and_false}
 use Rattle.tsp_items.proofs.DepotSteps.{past_end_clean}
 use Rattle.tsp_items.proofs.Readings.{none_read, one_read}

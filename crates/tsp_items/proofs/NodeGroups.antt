@@ -18,7 +18,8 @@ use Rattle.tsp_items.specs.Numbers.{node, reads_as, IsWhole}
 use Rattle.tsp_items.specs.Places.{Place, NodeAfter}
 use Rattle.tsp_items.specs.Groups.{entry_of, nodes_in, by_node, place_in_group}
 use Rattle.tsp_items.specs.Spells.{wants_more}
-use Rattle.tsp_items.specs.Parts.{word_fault, IsNodeOf, IsNewNode, NodesHold}
+use Rattle.tsp_items.specs.states.Parts.{IsNodeOf, IsNewNode, NodesHold}
+use Rattle.tsp_items.specs.Rows.{word_fault}
 
 -- ---- the entry of a node, by the groups
 

@@ -11,7 +11,8 @@ use Rattle.tsp_items.specs.Numbers.{number, node}
 use Rattle.tsp_items.specs.Places.{NodeAfter, Amount}
 use Rattle.tsp_items.specs.Groups.{pairs_in, begun_pair, number_groups, nodes_in, place_of_number, numbers_by_node}
 use Rattle.tsp_items.specs.Spells.{wants_more}
-use Rattle.tsp_items.specs.Parts.{word_fault, readings, IsNewNode, NodesHold, NumbersHold}
+use Rattle.tsp_items.specs.states.Parts.{readings, IsNewNode, NodesHold, NumbersHold}
+use Rattle.tsp_items.specs.Rows.{word_fault}
 use Rattle.tsp_items.proofs.Readings.{none_read, one_read}
 use Rattle.tsp_items.proofs.PairWords.{length_pairs, pairs_begin, begun_begin, pairs_end, begun_end}
 use Rattle.tsp_items.proofs.NodeGroups.{node_begins, node_faulty, entry_fills, entries_by_node, wants_in_group}

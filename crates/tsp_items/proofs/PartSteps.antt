@@ -7,8 +7,8 @@ use Rattle.tsp_items.specs.declared.parts.numbers.NumberList.{NumberList}
 use Rattle.tsp_value.specs.declared.field.Shape.TheVariants.{Numbers}
 use Rattle.tsp_items.specs.Groups.{place_of_number}
 use Rattle.tsp_items.specs.Sections.{place_by}
-use Rattle.tsp_items.specs.Parts.{Takes}
-use Rattle.tsp_items.specs.Held.{HoldsNumbers, shape_by, HoldsPart, HoldsShape}
+use Rattle.tsp_items.specs.states.Parts.{Takes}
+use Rattle.tsp_items.specs.states.Held.{HoldsNumbers, shape_by, HoldsPart, HoldsShape}
 use Rattle.tsp_items.proofs.Taken.{takes_also}
 
 -- how a part takes a word

@@ -12,7 +12,8 @@ use Rattle.tsp_items.specs.Numbers.{number, node}
 use Rattle.tsp_items.specs.Places.{NodeAfter, Coordinate}
 use Rattle.tsp_items.specs.Groups.{triples_in, begun_triple, point_of, point_groups, nodes_in, place_of_point, points_by_node}
 use Rattle.tsp_items.specs.Spells.{wants_more}
-use Rattle.tsp_items.specs.Parts.{word_fault, no_point, BeginsPoint, IsNewNode, NodesHold, PointsHold}
+use Rattle.tsp_items.specs.states.Parts.{no_point, BeginsPoint, IsNewNode, NodesHold, PointsHold}
+use Rattle.tsp_items.specs.Rows.{word_fault}
 use Rattle.tsp_items.proofs.TripleWords.{length_triples, triples_begin, begun_begin, triples_middle, begun_middle, triples_end, begun_end}
 use Rattle.tsp_items.proofs.NodeGroups.{node_begins, node_faulty, entry_fills, entries_by_node, wants_in_group}
 

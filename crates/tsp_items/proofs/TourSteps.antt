@@ -14,8 +14,9 @@ use Rattle.tsp_number.specs.Reading.{whole_of}
 use Rattle.tsp_items.specs.Numbers.{node_or_end, IsWhole}
 use Rattle.tsp_items.specs.Places.{TourNode}
 use Rattle.tsp_items.specs.Tours.{ends_tour, tour_node, place_of_tour}
-use Rattle.tsp_items.specs.Parts.{word_fault, Takes}
-use Rattle.tsp_items.specs.Held.{HoldsTours, EndsRunOf}
+use Rattle.tsp_items.specs.states.Parts.{Takes}
+use Rattle.tsp_items.specs.Rows.{word_fault}
+use Rattle.tsp_items.specs.states.Held.{HoldsTours, EndsRunOf}
 use Rattle.tsp_items.proofs.NodeGroups.{natural}
 use Rattle.tsp_items.proofs.Pieces.{split_end, split_more, count_push}
 

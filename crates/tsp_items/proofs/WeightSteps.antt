@@ -7,7 +7,8 @@ use Rattle.tsp_value.specs.Limits.{most_weight}
 use Rattle.tsp_items.specs.Numbers.{number, sized}
 use Rattle.tsp_items.specs.Places.{Weight}
 use Rattle.tsp_items.specs.Weights.{place_of_weight}
-use Rattle.tsp_items.specs.Parts.{word_fault, WeightsHold}
+use Rattle.tsp_items.specs.states.Parts.{WeightsHold}
+use Rattle.tsp_items.specs.Rows.{word_fault}
 
 pub weight_more : (weights : List ℤ) (most n : ℕ) (words : List (List ℕ)) (word : List ℕ) (z : ℤ) → length weights < most → sized most_weight word ≡ Ok z
     → WeightsHold weights most n words → (word_fault n (place_of_weight n words) word ≡ None) × WeightsHold (weights ++ z ∷ []) most n (words ++ word ∷ [])

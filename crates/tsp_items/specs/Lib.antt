@@ -14,6 +14,4 @@ pub mod FirstFault
 pub mod Spells
 pub mod Text
 pub mod Examples
-pub mod Parts
-pub mod Held
-pub mod CutLine
+pub mod states

@@ -237,3 +237,11 @@ first_row (fault ∷ rows) = option_or fault (first_row rows)
 
 abbrev pub row_of : List Item → Item → Option LineFault
 row_of earlier item = first_row (table earlier item)
+
+-- the rows of a word that stands at this place
+abbrev pub word_fault : ℕ → Place → List ℕ → Option LineFault
+word_fault n place word = first_row (option_map (λ fault. row.Number fault) (number_fault_at n place word)
+    ∷ when (is_repeated_node_at n place word) row.RepeatedNode
+    ∷ when (is_self_edge_at n place word) row.SelfEdge
+    ∷ when (is_surplus_at n place word) row.Surplus
+    ∷ when (is_after_end_at n place word) row.AfterEnd ∷ [])

@@ -6,7 +6,7 @@ ghost use Rattle.tsp_value.specs.Bytes.{is_blank};
 ghost use Rattle.tsp_items.specs.Lines.{first_word, is_filled};
 ghost use Rattle.tsp_items.specs.Values.{is_left_out};
 ghost use Rattle.tsp_value.specs.declared.field.Field.TheVariants.{EdgeWeightTypeKey};
-ghost use Rattle.tsp_items.specs.CutLine.{NamesValue, ReadsNumber, MayOpen};
+ghost use Rattle.tsp_items.specs.states.CutLine.{NamesValue, ReadsNumber, MayOpen};
 
 use crate::fault::LineFault;
 use tsp_number::parse_whole;

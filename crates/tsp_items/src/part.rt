@@ -29,8 +29,8 @@ impl Part {
     ghost use Rattle.tsp_value.specs.declared.field.Shape.TheVariants as shapes;
     ghost use Rattle.tsp_items.specs.Numbers.{IsWhole};
     ghost use Rattle.tsp_items.specs.Sections.{place_by};
-    ghost use Rattle.tsp_items.specs.Parts.{Takes};
-    ghost use Rattle.tsp_items.specs.Held.{shape_by, HoldsPart, HoldsShape};
+    ghost use Rattle.tsp_items.specs.states.Parts.{Takes};
+    ghost use Rattle.tsp_items.specs.states.Held.{shape_by, HoldsPart, HoldsShape};
 
     /// A section of this shape with no words so far, in a file of `n` nodes.
     ///

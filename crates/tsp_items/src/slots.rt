@@ -3,7 +3,7 @@
 ghost use Rattle.tsp_items.specs.Lines.{first_word};
 ghost use Rattle.std.specs.Prelude.{◌≡◌, map};
 ghost use Rattle.std.specs.Option.{option_map};
-ghost use Rattle.tsp_items.specs.CutLine.{seen, SetsNamed, SetsNumber, SetsCount, SetsName, AddsComment, AddsOther};
+ghost use Rattle.tsp_items.specs.states.CutLine.{seen, SetsNamed, SetsNumber, SetsCount, SetsName, AddsComment, AddsOther};
 ghost use Rattle.tsp_items.specs.Rows.{is_too_long_to_keep};
 
 use crate::fault::{LineFault, StepFault};

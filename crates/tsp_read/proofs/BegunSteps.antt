@@ -10,10 +10,10 @@ use Rattle.tsp_read.specs.declared.intake.Intake.{Intake}
 use Rattle.tsp_read.specs.declared.begun.Begun.{Begun}
 use Rattle.tsp_items.specs.Lines.{ends_line, is_filled, without_start}
 use Rattle.tsp_items.specs.Items.{Item, NumberWord, LineEnd, line_item}
-use Rattle.tsp_read.specs.Left.{items_left, ends_word, before, from, is_settled}
+use Rattle.tsp_read.specs.states.Left.{items_left, ends_word, before, from, is_settled}
 use Rattle.tsp_read.specs.Onward.{GivesNext}
-use Rattle.tsp_read.specs.Intake.{Stands, TakesNext, IsReadTo, HasEnded, StopsAt}
-use Rattle.tsp_read.specs.Begun.{HasBegunLine, HasBegunWord, HasBegun, kept, IsFedTo, IsJoinedTo}
+use Rattle.tsp_read.specs.states.Intake.{Stands, TakesNext, IsReadTo, HasEnded, StopsAt}
+use Rattle.tsp_read.specs.states.Begun.{HasBegunLine, HasBegunWord, HasBegun, kept, IsFedTo, IsJoinedTo}
 use Rattle.tsp_read.proofs.IntakeSteps.{read_further, read_to_end, read_to_fault}
 use Rattle.tsp_read.proofs.LeftSteps.{start_filled, letter_filled, left_none}
 use Rattle.tsp_read.proofs.NextSteps.{end_next, line_next, line_missing_next, word_next, word_missing_next}

@@ -17,9 +17,8 @@ use Rattle.tsp_items.specs.Earlier.{same_field, has_line, words_of}
 use Rattle.tsp_items.specs.Places.{Place, NodeAfter, Coordinate, Amount, PastGroups}
 use Rattle.tsp_items.specs.Groups.{pairs_in, triples_in, begun_pair, begun_triple, number_groups, point_of, point_groups, place_in_group, nodes_in}
 use Rattle.tsp_items.specs.Sections.{place_in, nodes_of}
-use Rattle.tsp_items.specs.Rows.{when, number_fault_at, is_repeated_node_at, is_self_edge_at, is_surplus_at, is_after_end_at}
+use Rattle.tsp_items.specs.Rows.{when, number_fault_at, is_repeated_node_at, is_self_edge_at, is_surplus_at, is_after_end_at, word_fault}
 use Rattle.tsp_items.specs.FirstFault.{IsClean}
-use Rattle.tsp_items.specs.Parts.{word_fault}
 use Rattle.tsp_items.specs.Spells.{wants_more, is_incomplete}
 use Rattle.tsp_read.specs.ByNode.{is_by_node_field, group_nodes, HasEachOnce}
 use Rattle.tsp_read.proofs.ValidRows.{when_none, map_none, none_applies}

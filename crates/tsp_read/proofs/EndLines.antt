@@ -11,7 +11,7 @@ use Rattle.tsp_value.specs.Limits.{most_file_bytes}
 use Rattle.tsp_items.specs.Text.{settled_part}
 use Rattle.tsp_read.specs.declared.state.reading.OpenSection.{OpenSection}
 use Rattle.tsp_read.specs.declared.state.reading.Reading.{Reading}
-use Rattle.tsp_read.specs.Holds.{OpenHolds}
+use Rattle.tsp_read.specs.states.Holds.{OpenHolds}
 use Rattle.tsp_read.specs.Feed.{IsEnded}
 
 end_opens_none : (item : Item) (earlier : List Item) → is_end_line item ≡ true → open_section (item ∷ earlier) ≡ None

@@ -19,14 +19,14 @@ use Rattle.tsp_items.specs.Lines.{is_filled}
 use Rattle.tsp_items.specs.Items.{Item, settled_items, has_end_line}
 use Rattle.tsp_items.specs.Rows.{when, first_row}
 use Rattle.tsp_items.specs.FirstFault.{fault_in, IsClean}
-use Rattle.tsp_read.specs.Left.{items_left, ends_word}
-use Rattle.tsp_read.specs.Holds.{Holds}
+use Rattle.tsp_read.specs.states.Left.{items_left, ends_word}
+use Rattle.tsp_read.specs.states.Holds.{Holds}
 use Rattle.tsp_items.specs.Text.{is_too_long, settled_part, settled_fault}
 use Rattle.tsp_read.specs.Walk.{Walked}
 use Rattle.tsp_read.specs.Onward.{is_bare}
-use Rattle.tsp_read.specs.Intake.{IsReadTo, settled_so_far}
-use Rattle.tsp_read.specs.Begun.{kept, IsFedTo}
-use Rattle.tsp_read.specs.Paused.{IsPaused, FeedsOn, stage_after, outcome_of}
+use Rattle.tsp_read.specs.states.Intake.{IsReadTo, settled_so_far}
+use Rattle.tsp_read.specs.states.Begun.{kept, IsFedTo}
+use Rattle.tsp_read.specs.states.Paused.{IsPaused, FeedsOn, stage_after, outcome_of}
 use Rattle.tsp_read.specs.Feed.{IsGoing, IsEnded, HasSettled, HasTakenBy, HasTaken, refused_by, refusal, Feeds, ComesTo}
 use Rattle.tsp_read.proofs.IntakeSteps.{walked_so_far}
 use Rattle.tsp_read.proofs.Walks.{walked_all}

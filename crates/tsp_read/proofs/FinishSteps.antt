@@ -8,7 +8,7 @@ use Rattle.tsp_read.specs.declared.state.reading.Reading.{Reading}
 use Rattle.tsp_items.specs.Items.{Item}
 use Rattle.tsp_items.specs.Spells.{spelled, fault_at_end}
 use Rattle.tsp_read.specs.Cuts.{AreCut}
-use Rattle.tsp_read.specs.Holds.{Closed}
+use Rattle.tsp_read.specs.states.Holds.{Closed}
 use Rattle.tsp_read.specs.declared.state.finish.FinishFault.{FinishFault}
 use Rattle.tsp_read.specs.declared.state.finish.FinishFault.TheVariants as finishes
 use Rattle.tsp_read.specs.Finishes.{Finishes, FileOf}

@@ -15,7 +15,7 @@ use Rattle.tsp_value.specs.Limits.{most_word_bytes}
 use Rattle.tsp_items.specs.Numbers.{IsWhole}
 use Rattle.tsp_items.specs.Lines.{ends_line, is_filled, without_start}
 use Rattle.tsp_items.specs.Items.{Item, NumberWord, LineEnd}
-use Rattle.tsp_read.specs.Left.{items_left, ends_word, before, from}
+use Rattle.tsp_read.specs.states.Left.{items_left, ends_word, before, from}
 use Rattle.tsp_read.specs.Onward.{is_over_long, GivesNext}
 use Rattle.tsp_read.specs.Front.{front_word, LeavesEnd}
 use Rattle.tsp_read.proofs.LeftSteps.{FreeOf, left_blank, left_end}

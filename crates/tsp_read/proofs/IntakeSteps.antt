@@ -18,11 +18,11 @@ use Rattle.tsp_items.specs.Earlier.{open_section, words_of}
 use Rattle.tsp_items.specs.Sections.{place_in, nodes_of}
 use Rattle.tsp_items.specs.Rows.{row_of}
 use Rattle.tsp_items.specs.FirstFault.{IsClean}
-use Rattle.tsp_read.specs.Holds.{Holds}
-use Rattle.tsp_read.specs.Left.{items_left, ends_word}
+use Rattle.tsp_read.specs.states.Holds.{Holds}
+use Rattle.tsp_read.specs.states.Left.{items_left, ends_word}
 use Rattle.tsp_read.specs.Walk.{Walked}
 use Rattle.tsp_read.specs.Onward.{is_bare, is_line_end, is_over_long, GivesNext, GoesOn}
-use Rattle.tsp_read.specs.Intake.{Stands, TakesNext, IsReadTo, settled_so_far, HasEnded, StopsAt}
+use Rattle.tsp_read.specs.states.Intake.{Stands, TakesNext, IsReadTo, settled_so_far, HasEnded, StopsAt}
 use Rattle.tsp_read.proofs.LeftSteps.{all_settled, left_blank, left_end, left_none}
 use Rattle.tsp_read.proofs.TextSteps.{long_line}
 use Rattle.tsp_read.proofs.WordSteps.{word_rows}

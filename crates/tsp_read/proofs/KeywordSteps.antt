@@ -29,8 +29,8 @@ use Rattle.tsp_items.specs.Rows.{row_of}
 use Rattle.tsp_items.specs.FirstFault.{IsClean}
 use Rattle.tsp_value.specs.Shapes.{is_section_field}
 use Rattle.tsp_items.specs.Spells.{fields_by, sections_in_order, first_incomplete}
-use Rattle.tsp_items.specs.CutLine.{named_rows, SetsNamed, numbered_rows, SetsNumber, SetsCount}
-use Rattle.tsp_read.specs.Holds.{fields_there, is_closed, is_closed_incomplete, OpenHolds, LineAnswers}
+use Rattle.tsp_items.specs.states.CutLine.{named_rows, SetsNamed, numbered_rows, SetsNumber, SetsCount}
+use Rattle.tsp_read.specs.states.Holds.{fields_there, is_closed, is_closed_incomplete, OpenHolds, LineAnswers}
 use Rattle.tsp_read.proofs.Clean.{clean_more}
 use Rattle.tsp_read.proofs.ValidStanding.{after_dimension}
 

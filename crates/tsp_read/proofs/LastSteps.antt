@@ -26,14 +26,14 @@ use Rattle.std.proofs.lemmas.List.{reverse-append}
 use Rattle.std.proofs.lemmas.List.Folds.{list_all-append}
 use Rattle.std.proofs.lemmas.Option.{none-some}
 use Rattle.tsp_items.specs.Items.{Item, Line, NumberWord, LineEnd, line_item, items_of, is_end_line, has_end_line, to_end_line}
-use Rattle.tsp_read.specs.Left.{items_left, ends_word, before, from, is_settled}
-use Rattle.tsp_read.specs.Holds.{OpenHolds, Holds}
+use Rattle.tsp_read.specs.states.Left.{items_left, ends_word, before, from, is_settled}
+use Rattle.tsp_read.specs.states.Holds.{OpenHolds, Holds}
 use Rattle.tsp_read.specs.Walk.{Walked}
 use Rattle.tsp_read.specs.Onward.{is_bare, is_line_end}
 use Rattle.tsp_read.specs.Reads.{Reads, Completes}
-use Rattle.tsp_read.specs.Intake.{Stands, TakesNext, IsReadTo}
-use Rattle.tsp_read.specs.Begun.{kept}
-use Rattle.tsp_read.specs.Paused.{IsPaused, TakesAll}
+use Rattle.tsp_read.specs.states.Intake.{Stands, TakesNext, IsReadTo}
+use Rattle.tsp_read.specs.states.Begun.{kept}
+use Rattle.tsp_read.specs.states.Paused.{IsPaused, TakesAll}
 use Rattle.tsp_read.proofs.LeftSteps.{all_items, all_settled, left_none}
 use Rattle.tsp_read.proofs.Walks.{walked_more, walked_all, walked_to_end, walked_found, line_fault, end_fault_is}
 use Rattle.tsp_read.proofs.IntakeSteps.{and_both, bare_ends, read_parts, not_bare}

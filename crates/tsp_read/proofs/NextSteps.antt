@@ -7,7 +7,7 @@ use Rattle.tsp_value.specs.Bytes.{is_blank, is_letter}
 use Rattle.tsp_value.specs.Limits.{most_word_bytes, most_line_bytes}
 use Rattle.tsp_items.specs.Lines.{ends_line, without_start, without_end}
 use Rattle.tsp_items.specs.Items.{NumberWord, LineEnd, line_item}
-use Rattle.tsp_read.specs.Left.{items_left, ends_word, before, from, is_settled}
+use Rattle.tsp_read.specs.states.Left.{items_left, ends_word, before, from, is_settled}
 use Rattle.tsp_read.proofs.LeftSteps.{Filled, start_blank, start_filled, start_is_filled, left_start, left_none, left_end, line_taken, line_not_taken, word_taken, word_not_taken}
 
 -- ---- the next item, by the text's first byte that isn't blank

@@ -6,7 +6,7 @@ use Rattle.tsp_value.specs.Bytes.{is_blank, is_letter}
 use Rattle.tsp_value.specs.Limits.{most_word_bytes, most_line_bytes}
 use Rattle.tsp_items.specs.Lines.{ends_line, is_filled, without_start}
 use Rattle.tsp_items.specs.Items.{NumberWord, LineEnd, line_item}
-use Rattle.tsp_read.specs.Left.{ends_word, before, from, is_settled}
+use Rattle.tsp_read.specs.states.Left.{ends_word, before, from, is_settled}
 use Rattle.tsp_read.specs.Onward.{is_over_long, GivesNext}
 use Rattle.tsp_read.proofs.LeftSteps.{start_blank, start_filled}
 use Rattle.tsp_read.proofs.NextSteps.{end_next, line_next, word_next}

@@ -6,11 +6,11 @@ use Rattle.tsp_read.specs.declared.intake.Intake.{Intake}
 use Rattle.tsp_read.specs.declared.begun.Begun.{Begun}
 use Rattle.tsp_items.specs.Lines.{is_filled, without_start}
 use Rattle.tsp_items.specs.Items.{Item}
-use Rattle.tsp_read.specs.Left.{items_left}
+use Rattle.tsp_read.specs.states.Left.{items_left}
 use Rattle.tsp_read.specs.declared.state.reading.Reading.{Reading}
-use Rattle.tsp_read.specs.Intake.{IsReadTo, HasEnded, ReadsOn}
-use Rattle.tsp_read.specs.Begun.{HasBegun, kept, IsFedTo, IsJoinedTo}
-use Rattle.tsp_read.specs.Paused.{IsPaused}
+use Rattle.tsp_read.specs.states.Intake.{IsReadTo, HasEnded, ReadsOn}
+use Rattle.tsp_read.specs.states.Begun.{HasBegun, kept, IsFedTo, IsJoinedTo}
+use Rattle.tsp_read.specs.states.Paused.{IsPaused}
 use Rattle.tsp_read.proofs.LeftSteps.{start_blank, start_filled, left_blank, left_start}
 
 -- ---- blanks at the start

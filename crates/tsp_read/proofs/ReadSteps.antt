@@ -8,9 +8,9 @@ use Rattle.tsp_read.specs.declared.cut.Next.TheVariants as next
 use Rattle.tsp_items.specs.Items.{Item, LineEnd, NumberWord, Line, is_end_line, words_before, word_number}
 use Rattle.tsp_items.specs.Rows.{row_of}
 use Rattle.tsp_items.specs.Text.{part, fault}
-use Rattle.tsp_read.specs.Left.{item_next}
+use Rattle.tsp_read.specs.states.Left.{item_next}
 use Rattle.tsp_read.specs.declared.state.reading.OpenSection.{OpenSection}
-use Rattle.tsp_read.specs.Holds.{OpenHolds, Holds, Answers}
+use Rattle.tsp_read.specs.states.Holds.{OpenHolds, Holds, Answers}
 use Rattle.tsp_read.specs.Reads.{TakesItem}
 use Rattle.tsp_read.proofs.Clean.{clean_more}
 

@@ -13,9 +13,9 @@ use Rattle.tsp_value.specs.Shapes.{shape_of, is_section_field}
 use Rattle.tsp_items.specs.Earlier.{has_line, open_section, words_of}
 use Rattle.tsp_items.specs.Sections.{nodes_of}
 use Rattle.tsp_items.specs.Rows.{row_of}
-use Rattle.tsp_items.specs.CutLine.{opening_rows}
+use Rattle.tsp_items.specs.states.CutLine.{opening_rows}
 use Rattle.tsp_items.specs.Spells.{fields_by, is_incomplete, sections_in_order}
-use Rattle.tsp_read.specs.Holds.{is_closed, is_closed_incomplete, fields_there, keywords_there}
+use Rattle.tsp_read.specs.states.Holds.{is_closed, is_closed_incomplete, fields_there, keywords_there}
 use Rattle.tsp_read.specs.states.Stored.{with_section}
 
 -- what holds of each section holds of every field that is one

@@ -27,15 +27,15 @@ use Rattle.tsp_value.specs.Shapes.{shape_of, is_section_field}
 use Rattle.tsp_items.specs.Earlier.{same_field, is_key, opened_by, is_open, has_line, open_section, words_of}
 use Rattle.tsp_items.specs.Sections.{place_by, place_in, nodes_of}
 use Rattle.tsp_items.specs.Rows.{row_of, when, first_row}
-use Rattle.tsp_items.specs.CutLine.{needs_nodes, is_matrix, opening_rows, MayOpen}
-use Rattle.tsp_items.specs.Held.{HoldsNumbers, HoldsFixed, shape_by, HoldsPart, HoldsShape}
+use Rattle.tsp_items.specs.states.CutLine.{needs_nodes, is_matrix, opening_rows, MayOpen}
+use Rattle.tsp_items.specs.states.Held.{HoldsNumbers, HoldsFixed, shape_by, HoldsPart, HoldsShape}
 use Rattle.tsp_items.specs.Spells.{wants_more, is_incomplete, sections_in_order, first_incomplete}
 use Rattle.tsp_read.specs.declared.state.reading.OpenSection.{OpenSection}
 use Rattle.tsp_read.specs.declared.state.reading.Reading.{Reading}
 use Rattle.tsp_read.specs.states.Open.{HoldsSection}
 use Rattle.tsp_read.specs.states.Stored.{with_words, with_section}
 use Rattle.tsp_read.specs.states.Incomplete.{first_of}
-use Rattle.tsp_read.specs.Holds.{fields_there, OpenHolds, Holds, Closed}
+use Rattle.tsp_read.specs.states.Holds.{fields_there, OpenHolds, Holds, Closed}
 use Rattle.tsp_read.proofs.Clean.{clean_more}
 use Rattle.tsp_read.proofs.FirstSteps.{but, first_without, first_more}
 use Rattle.tsp_read.proofs.SectionCases.{opening, standing, opened_fields, opened_first, keywords_stay, closed_fields, stored_keywords}

@@ -23,9 +23,8 @@ use Rattle.tsp_items.specs.Items.{Item, Line, NumberWord, LineEnd, items_of, set
 use Rattle.tsp_items.specs.Earlier.{open_section, words_of}
 use Rattle.tsp_items.specs.Places.{Place, NodeAfter, Coordinate, Amount, PastGroups, DepotAfter, FirstAfter, SecondOf, PastEnd, Weight, PastWeights, TourNode}
 use Rattle.tsp_items.specs.Sections.{place_in, nodes_of}
-use Rattle.tsp_items.specs.Rows.{when, first_row, row_of}
+use Rattle.tsp_items.specs.Rows.{when, first_row, row_of, word_fault}
 use Rattle.tsp_items.specs.FirstFault.{fault_here, fault_in, IsClean}
-use Rattle.tsp_items.specs.Parts.{word_fault}
 use Rattle.tsp_items.specs.Spells.{fault_at_end}
 use Rattle.tsp_items.specs.Text.{is_too_long, part, fault, settled_part, settled_fault}
 use Rattle.tsp_read.proofs.TextSteps.{long_line}

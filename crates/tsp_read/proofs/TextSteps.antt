@@ -17,8 +17,8 @@ use Rattle.tsp_items.specs.Items.{WordLine, Item, Line}
 use Rattle.tsp_items.specs.Earlier.{has_line, values_at, others_in}
 use Rattle.tsp_items.specs.Rows.{row_of, when, first_row, is_too_long_to_keep}
 use Rattle.tsp_items.specs.Spells.{fields_by}
-use Rattle.tsp_items.specs.CutLine.{SetsName, AddsComment, AddsOther}
-use Rattle.tsp_read.specs.Holds.{fields_there, Holds, Closed, LineAnswers, OtherAnswers}
+use Rattle.tsp_items.specs.states.CutLine.{SetsName, AddsComment, AddsOther}
+use Rattle.tsp_read.specs.states.Holds.{fields_there, Holds, Closed, LineAnswers, OtherAnswers}
 use Rattle.tsp_read.proofs.Clean.{clean_more}
 use Rattle.tsp_read.proofs.KeywordSteps.{still_none}
 

@@ -14,7 +14,7 @@ use Rattle.tsp_items.specs.Places.{DepotAfter, PastEnd}
 use Rattle.tsp_items.specs.Lists.{before, depots_in}
 use Rattle.tsp_items.specs.Sections.{nodes_of}
 use Rattle.tsp_items.specs.FirstFault.{IsClean}
-use Rattle.tsp_items.specs.Parts.{word_fault}
+use Rattle.tsp_items.specs.Rows.{word_fault}
 use Rattle.tsp_read.proofs.ValidRows.{is_taken}
 use Rattle.tsp_read.proofs.ValidSections.{Grows, grown}
 use Rattle.tsp_read.proofs.ValidNumbers.{read_listed}

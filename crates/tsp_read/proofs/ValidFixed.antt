@@ -17,7 +17,7 @@ use Rattle.tsp_items.specs.Groups.{pairs_in, begun_pair}
 use Rattle.tsp_items.specs.Lists.{before, fixed_in, firsts_in, place_in_pair}
 use Rattle.tsp_items.specs.Sections.{nodes_of}
 use Rattle.tsp_items.specs.FirstFault.{IsClean}
-use Rattle.tsp_items.specs.Parts.{word_fault}
+use Rattle.tsp_items.specs.Rows.{word_fault}
 use Rattle.tsp_read.proofs.ValidRows.{is_taken}
 use Rattle.tsp_read.proofs.ValidSections.{Grows, grown}
 use Rattle.tsp_read.proofs.ValidNumbers.{read_node, read_listed, differ}

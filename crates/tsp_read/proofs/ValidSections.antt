@@ -18,9 +18,8 @@ use Rattle.tsp_value.specs.Shapes.{is_section_field}
 use Rattle.tsp_items.specs.Earlier.{same_field, has_line, open_section, words_of}
 use Rattle.tsp_items.specs.Values.{read_as, dimension_of}
 use Rattle.tsp_items.specs.Sections.{place_in, nodes_of}
-use Rattle.tsp_items.specs.Rows.{row_of, may_repeat, is_repeated}
+use Rattle.tsp_items.specs.Rows.{row_of, may_repeat, is_repeated, word_fault}
 use Rattle.tsp_items.specs.FirstFault.{IsClean}
-use Rattle.tsp_items.specs.Parts.{word_fault}
 use Rattle.tsp_read.proofs.ValidRows.{clean_parts, no_row}
 
 -- ---- fields

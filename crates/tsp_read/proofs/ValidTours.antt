@@ -17,7 +17,7 @@ use Rattle.tsp_items.specs.Numbers.{number}
 use Rattle.tsp_items.specs.Places.{TourNode}
 use Rattle.tsp_items.specs.Tours.{ends_tour, tour_node, tours_in}
 use Rattle.tsp_items.specs.FirstFault.{IsClean}
-use Rattle.tsp_items.specs.Parts.{word_fault}
+use Rattle.tsp_items.specs.Rows.{word_fault}
 use Rattle.tsp_read.proofs.ValidRows.{is_taken}
 use Rattle.tsp_read.proofs.ValidSections.{Grows, grown}
 use Rattle.tsp_read.proofs.ValidNumbers.{read_listed}

@@ -16,9 +16,8 @@ use Rattle.tsp_items.specs.Numbers.{number, sized}
 use Rattle.tsp_items.specs.Places.{Weight, PastWeights}
 use Rattle.tsp_items.specs.Weights.{weights_in}
 use Rattle.tsp_items.specs.Sections.{nodes_of}
-use Rattle.tsp_items.specs.Rows.{row_of}
+use Rattle.tsp_items.specs.Rows.{row_of, word_fault}
 use Rattle.tsp_items.specs.FirstFault.{IsClean}
-use Rattle.tsp_items.specs.Parts.{word_fault}
 use Rattle.tsp_read.proofs.ValidRows.{clean_parts, no_row, is_taken}
 use Rattle.tsp_read.proofs.ValidSections.{Grows, grown, same_field_is, nodes_kept}
 use Rattle.tsp_read.proofs.ValidStanding.{after_dimension}

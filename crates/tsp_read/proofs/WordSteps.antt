@@ -12,12 +12,12 @@ use Rattle.tsp_items.specs.Earlier.{same_field, open_section, words_of}
 use Rattle.tsp_value.specs.Shapes.{shape_of, is_section_field}
 use Rattle.tsp_items.specs.Places.{PastEnd}
 use Rattle.tsp_items.specs.Sections.{place_by, place_in, nodes_of}
-use Rattle.tsp_items.specs.Rows.{row_of}
-use Rattle.tsp_items.specs.Parts.{word_fault, Takes}
-use Rattle.tsp_items.specs.Held.{shape_by, HoldsPart, HoldsShape}
+use Rattle.tsp_items.specs.Rows.{row_of, word_fault}
+use Rattle.tsp_items.specs.states.Parts.{Takes}
+use Rattle.tsp_items.specs.states.Held.{shape_by, HoldsPart, HoldsShape}
 use Rattle.std.specs.Prelude.{is_some}
 use Rattle.std.specs.Option.{option_map_or}
-use Rattle.tsp_read.specs.Holds.{OpenHolds, Holds, Answers}
+use Rattle.tsp_read.specs.states.Holds.{OpenHolds, Holds, Answers}
 use Rattle.tsp_read.proofs.SectionCases.{word_fields, word_first}
 use Rattle.tsp_read.proofs.Clean.{clean_more}
 

@@ -10,9 +10,9 @@ use Rattle.tsp_read.specs.declared.feed.Feed.{Feed}
 use Rattle.tsp_items.specs.Items.{has_end_line}
 use Rattle.tsp_items.specs.Text.{is_too_long, part, settled_part, settled_fault}
 use Rattle.tsp_read.specs.Reads.{Reads}
-use Rattle.tsp_read.specs.Holds.{Holds}
+use Rattle.tsp_read.specs.states.Holds.{Holds}
 use Rattle.tsp_read.specs.Onward.{is_bare}
-use Rattle.tsp_read.specs.Paused.{IsPaused}
+use Rattle.tsp_read.specs.states.Paused.{IsPaused}
 
 -- the text goes on: of these bytes all that is settled was taken, and it has neither a fault nor an end line
 pub record IsGoing (feed : Feed) (bytes : List ℕ) : Type 0 where

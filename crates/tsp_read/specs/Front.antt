@@ -2,7 +2,7 @@
 use Rattle.std.specs.Prelude.{◌≡◌, ℕ, true, List, [], ◌∷◌, ◌⊎◌}
 use Rattle.tsp_value.specs.Bytes.{is_blank}
 use Rattle.tsp_items.specs.Lines.{ends_line, without_start}
-use Rattle.tsp_read.specs.Left.{ends_word, before}
+use Rattle.tsp_read.specs.states.Left.{ends_word, before}
 
 -- its bytes from the first that isn't blank to the first blank or byte 10
 abbrev pub front_word : List ℕ → List ℕ

@@ -1,7 +1,5 @@
 pub mod states
-pub mod Holds
 pub mod Cuts
-pub mod Left
 pub mod Onward
 pub mod Front
 pub mod Walk
@@ -9,8 +7,5 @@ pub mod Answering
 pub mod ByNode
 pub mod Finishes
 pub mod Reads
-pub mod Intake
-pub mod Begun
-pub mod Paused
 pub mod Feed
 pub mod Timely

@@ -12,7 +12,7 @@ use Rattle.tsp_items.specs.Items.{Item, is_end_line, has_end_line, to_end_line}
 use Rattle.tsp_items.specs.Rows.{row_of}
 use Rattle.tsp_items.specs.FirstFault.{fault_in}
 use Rattle.tsp_items.specs.Text.{fault, Spells}
-use Rattle.tsp_read.specs.Holds.{Holds}
+use Rattle.tsp_read.specs.states.Holds.{Holds}
 use Rattle.tsp_read.specs.declared.state.finish.FinishFault.TheVariants as finishes
 use Rattle.tsp_read.specs.Finishes.{Finishes}
 

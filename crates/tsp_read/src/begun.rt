@@ -4,8 +4,8 @@ ghost use Rattle.std.specs.Prelude.{◌≡◌, ◌+◌, ◌≤◌, ◌<◌, [], 
 ghost use Rattle.arrayvec.specs.ArrayVec.{array_vec_len};
 ghost use Rattle.tsp_value.specs.Limits.{most_file_bytes};
 ghost use Rattle.tsp_items.specs.Lines.{without_start};
-ghost use Rattle.tsp_read.specs.Left.{items_left};
-ghost use Rattle.tsp_read.specs.Intake.{ReadsOn};
+ghost use Rattle.tsp_read.specs.states.Left.{items_left};
+ghost use Rattle.tsp_read.specs.states.Intake.{ReadsOn};
 
 use crate::cut::{Next, begins_line, to_line_end, to_word_end, without_start};
 use crate::intake::Intake;
@@ -25,8 +25,8 @@ pub(crate) struct Begun {
 }
 
 impl Begun {
-    ghost use Rattle.tsp_read.specs.Paused.{IsPaused, TakesAll};
-    ghost use Rattle.tsp_read.specs.Begun.{HasBegun, kept, IsFedTo, IsJoinedTo, most_lines, most_words, KeepRoom};
+    ghost use Rattle.tsp_read.specs.states.Paused.{IsPaused, TakesAll};
+    ghost use Rattle.tsp_read.specs.states.Begun.{HasBegun, kept, IsFedTo, IsJoinedTo, most_lines, most_words, KeepRoom};
 
     /// Nothing has begun.
     pub(crate) fn new() -> Begun

@@ -7,8 +7,8 @@ ghost use Rattle.tsp_value.specs.Bytes.{is_blank, is_keyword_byte, is_letter};
 ghost use Rattle.tsp_value.specs.Limits.{most_word_bytes, most_line_bytes};
 ghost use Rattle.tsp_items.specs.Lines.{ends_line, without_start, without_end, keyword_in, is_colon, begins};
 ghost use Rattle.tsp_items.specs.Items.{line_item};
-ghost use Rattle.tsp_items.specs.CutLine.{cut_item};
-ghost use Rattle.tsp_read.specs.Left.{ends_word, before, from, is_settled, items_left, item_next, is_inside};
+ghost use Rattle.tsp_items.specs.states.CutLine.{cut_item};
+ghost use Rattle.tsp_read.specs.states.Left.{ends_word, before, from, is_settled, items_left, item_next, is_inside};
 ghost use Rattle.tsp_read.specs.Onward.{is_over_long, GivesNext};
 
 use tsp_items::CutLine;

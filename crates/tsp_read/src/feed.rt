@@ -2,9 +2,9 @@
 
 ghost use Rattle.std.specs.Prelude.{◌≡◌, ◌+◌, ◌≤◌, ◌++◌, [], List, ℕ, length, Ok, true, false};
 ghost use Rattle.tsp_value.specs.Limits.{most_file_bytes};
-ghost use Rattle.tsp_read.specs.Begun.{IsFedTo, most_lines, most_words, KeepRoom};
+ghost use Rattle.tsp_read.specs.states.Begun.{IsFedTo, most_lines, most_words, KeepRoom};
 ghost use Rattle.tsp_items.specs.Lines.{is_filled};
-ghost use Rattle.tsp_read.specs.Paused.{FeedsOn, HasRoom, stage_after, outcome_of};
+ghost use Rattle.tsp_read.specs.states.Paused.{FeedsOn, HasRoom, stage_after, outcome_of};
 
 use crate::begun::Begun;
 use crate::intake::Intake;

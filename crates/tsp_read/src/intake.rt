@@ -3,7 +3,7 @@
 ghost use Rattle.std.specs.Prelude.{◌≡◌, ◌+◌, ◌≤◌, ◌<◌, [], List, ℕ, length, IfOk, IfSome, Err, true};
 ghost use Rattle.tsp_value.specs.Limits.{most_file_bytes};
 ghost use Rattle.tsp_items.specs.Items.{Item, NumberWord, line_item};
-ghost use Rattle.tsp_read.specs.Left.{items_left, item_next, is_inside};
+ghost use Rattle.tsp_read.specs.states.Left.{items_left, item_next, is_inside};
 ghost use Rattle.tsp_read.specs.Onward.{is_over_long};
 
 use crate::cut::{Next, next_item};
@@ -30,7 +30,7 @@ pub(crate) struct Intake {
 }
 
 impl Intake {
-    ghost use Rattle.tsp_read.specs.Intake.{Stands, TakesNext, IsReadTo, ReadsOn};
+    ghost use Rattle.tsp_read.specs.states.Intake.{Stands, TakesNext, IsReadTo, ReadsOn};
 
     /// The start of a text.
     pub(crate) fn new(alloc: Global) -> Intake

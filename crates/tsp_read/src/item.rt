@@ -3,9 +3,9 @@
 ghost use Rattle.std.specs.Prelude.{◌≡◌, ◌+◌, ◌≤◌, ◌∷◌, List, IsTrue, Ok, false};
 ghost use Rattle.tsp_value.specs.Limits.{most_file_bytes};
 ghost use Rattle.tsp_items.specs.Items.{Item, WordLine, Line, is_end_line, line_item, line_number, words_before, word_number};
-ghost use Rattle.tsp_read.specs.Left.{item_next};
+ghost use Rattle.tsp_read.specs.states.Left.{item_next};
 ghost use Rattle.tsp_read.specs.Onward.{is_line_end};
-ghost use Rattle.tsp_read.specs.Holds.{Holds};
+ghost use Rattle.tsp_read.specs.states.Holds.{Holds};
 ghost use Rattle.tsp_read.specs.Reads.{TakesItem};
 
 use crate::cut::{Next, cut_line};

@@ -11,8 +11,8 @@ ghost use Rattle.tsp_items.specs.Numbers.{IsWhole};
 ghost use Rattle.tsp_items.specs.Items.{Item, NumberWord};
 ghost use Rattle.tsp_read.specs.Onward.{GivesNext};
 ghost use Rattle.tsp_read.specs.Front.{front_word, LeavesEnd};
-ghost use Rattle.tsp_read.specs.Intake.{IsReadTo};
-ghost use Rattle.tsp_read.specs.Holds.{Holds};
+ghost use Rattle.tsp_read.specs.states.Intake.{IsReadTo};
+ghost use Rattle.tsp_read.specs.states.Holds.{Holds};
 
 use crate::cut::without_start;
 use crate::intake::Intake;

@@ -17,7 +17,7 @@ use Rattle.tsp_fields.specs.Validity.{is_from_to, is_node}
 use Rattle.tsp_items.specs.Numbers.{number, node, reads_as}
 use Rattle.tsp_items.specs.Places.{NodeAfter, Amount, PastGroups}
 use Rattle.tsp_items.specs.Groups.{pairs_in, begun_pair, number_groups, entry_of, by_node, numbers_by_node, place_in_group, nodes_in, place_of_number}
-use Rattle.tsp_items.specs.Parts.{word_fault}
+use Rattle.tsp_items.specs.Rows.{word_fault}
 use Rattle.tsp_read.proofs.ValidLists.{pair_begins, pair_ends}
 use Rattle.tsp_round.proofs.Numbers.{NumberLaws, node_back}
 use Rattle.tsp_round.proofs.Onto.{AllTaken}

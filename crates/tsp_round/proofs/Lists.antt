@@ -19,8 +19,7 @@ use Rattle.tsp_items.specs.Places.{DepotAfter, FirstAfter, SecondOf, PastEnd, We
 use Rattle.tsp_items.specs.Groups.{pairs_in, begun_pair}
 use Rattle.tsp_items.specs.Lists.{before, firsts_in, depots_in, place_of_depot, fixed_in, place_in_pair, place_of_fixed}
 use Rattle.tsp_items.specs.Weights.{weights_in, place_of_weight}
-use Rattle.tsp_items.specs.Rows.{when, first_row}
-use Rattle.tsp_items.specs.Parts.{word_fault}
+use Rattle.tsp_items.specs.Rows.{when, first_row, word_fault}
 use Rattle.tsp_read.proofs.ValidLists.{pair_begins, pair_ends}
 use Rattle.tsp_round.proofs.Numbers.{NumberLaws, node_back, listed_back, node_goes_on, end_read, end_ends, size_in}
 use Rattle.tsp_round.proofs.Onto.{AllTaken}

@@ -8,8 +8,7 @@ use Rattle.tsp_items.specs.Items.{Item, Line, NumberWord, LineEnd, has_end_line,
 use Rattle.tsp_items.specs.Earlier.{is_key, has_line, value_at, values_at, others_in, open_section, is_open, words_of}
 use Rattle.tsp_items.specs.Sections.{place_in, nodes_of}
 use Rattle.tsp_items.specs.Places.{Place}
-use Rattle.tsp_items.specs.Rows.{row_of}
-use Rattle.tsp_items.specs.Parts.{word_fault}
+use Rattle.tsp_items.specs.Rows.{row_of, word_fault}
 use Rattle.tsp_items.specs.FirstFault.{IsClean}
 use Rattle.tsp_read.proofs.Clean.{clean_more}
 use Rattle.tsp_read.proofs.WordSteps.{same_self}

@@ -17,7 +17,7 @@ use Rattle.tsp_fields.specs.Validity.{is_within, is_point}
 use Rattle.tsp_items.specs.Numbers.{number, node, reads_as}
 use Rattle.tsp_items.specs.Places.{NodeAfter, Coordinate, PastGroups}
 use Rattle.tsp_items.specs.Groups.{triples_in, begun_triple, point_of, point_groups, points_by_node, place_in_group, nodes_in, place_of_point}
-use Rattle.tsp_items.specs.Parts.{word_fault}
+use Rattle.tsp_items.specs.Rows.{word_fault}
 use Rattle.tsp_round.proofs.Groups.{tagged, fused, one_node, new_node, by_node_back}
 use Rattle.tsp_round.proofs.Numbers.{NumberLaws, node_back, size_in}
 use Rattle.tsp_round.proofs.Onto.{AllTaken}

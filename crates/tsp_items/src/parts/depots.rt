@@ -17,8 +17,8 @@ pub struct DepotList {
 
 impl DepotList {
     ghost use Rattle.tsp_items.specs.Lists.{place_of_depot, depots_in};
-    ghost use Rattle.tsp_items.specs.Parts.{Takes};
-    ghost use Rattle.tsp_items.specs.Held.{HoldsDepots};
+    ghost use Rattle.tsp_items.specs.states.Parts.{Takes};
+    ghost use Rattle.tsp_items.specs.states.Held.{HoldsDepots};
 
     /// The section with no words so far, in a file of `n` nodes.
     pub fn open(alloc: Global, n: u32) -> DepotList

@@ -19,8 +19,8 @@ pub struct FixedList {
 impl FixedList {
     ghost use Rattle.tsp_items.specs.Lists.{place_of_fixed, fixed_in};
     ghost use Rattle.tsp_items.specs.Spells.{wants_more};
-    ghost use Rattle.tsp_items.specs.Parts.{Takes};
-    ghost use Rattle.tsp_items.specs.Held.{HoldsFixed};
+    ghost use Rattle.tsp_items.specs.states.Parts.{Takes};
+    ghost use Rattle.tsp_items.specs.states.Held.{HoldsFixed};
 
     /// The section with no words so far, in a file of `n` nodes.
     pub fn open(alloc: Global, n: u32) -> FixedList

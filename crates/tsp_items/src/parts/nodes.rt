@@ -3,7 +3,7 @@
 ghost use Rattle.std.specs.Prelude.{◌≡◌, ◌<◌, ◌^◌, ℕ, List, length, Ok, IfOk, IfSome};
 ghost use Rattle.std.specs.Option.{ForSome};
 ghost use Rattle.tsp_items.specs.Numbers.{node, node_or_end, is_minus_one, IsWhole};
-ghost use Rattle.tsp_items.specs.Parts.{as_number, as_node_or_end, IsNodeOf, IsNewNode};
+ghost use Rattle.tsp_items.specs.states.Parts.{as_number, as_node_or_end, IsNodeOf, IsNewNode};
 
 use crate::fault::LineFault;
 use tsp_number::{NumberFault, parse_whole};

@@ -26,8 +26,8 @@ impl NumberList {
     ghost use Rattle.tsp_items.specs.declared.fault.StepFault.TheVariants.{Memory};
     ghost use Rattle.tsp_items.specs.Groups.{place_of_number, numbers_by_node};
     ghost use Rattle.tsp_items.specs.Spells.{wants_more};
-    ghost use Rattle.tsp_items.specs.Parts.{Takes};
-    ghost use Rattle.tsp_items.specs.Held.{HoldsNumbers};
+    ghost use Rattle.tsp_items.specs.states.Parts.{Takes};
+    ghost use Rattle.tsp_items.specs.states.Held.{HoldsNumbers};
 
     /// The section with no words so far, in a file of `n` nodes. Its numbers are from `low` to
     /// `high`.

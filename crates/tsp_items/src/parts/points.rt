@@ -27,8 +27,9 @@ impl PointList {
     ghost use Rattle.tsp_items.specs.Numbers.{IsWhole};
     ghost use Rattle.tsp_items.specs.Groups.{place_of_point, points_by_node};
     ghost use Rattle.tsp_items.specs.Spells.{wants_more};
-    ghost use Rattle.tsp_items.specs.Parts.{Takes, word_fault};
-    ghost use Rattle.tsp_items.specs.Held.{HoldsPoints};
+    ghost use Rattle.tsp_items.specs.states.Parts.{Takes};
+    ghost use Rattle.tsp_items.specs.Rows.{word_fault};
+    ghost use Rattle.tsp_items.specs.states.Held.{HoldsPoints};
 
     /// The section with no words so far, in a file of `n` nodes.
     ///

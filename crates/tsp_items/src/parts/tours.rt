@@ -21,8 +21,8 @@ pub struct TourList {
 impl TourList {
     ghost use Rattle.tsp_items.specs.declared.fault.StepFault.TheVariants.{Memory};
     ghost use Rattle.tsp_items.specs.Tours.{place_of_tour, tours_in};
-    ghost use Rattle.tsp_items.specs.Parts.{Takes};
-    ghost use Rattle.tsp_items.specs.Held.{HoldsTours, EndsRunOf};
+    ghost use Rattle.tsp_items.specs.states.Parts.{Takes};
+    ghost use Rattle.tsp_items.specs.states.Held.{HoldsTours, EndsRunOf};
 
     /// The section with no words so far.
     pub fn open(alloc: Global) -> TourList

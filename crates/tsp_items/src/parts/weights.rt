@@ -17,8 +17,8 @@ pub struct WeightList {
 
 impl WeightList {
     ghost use Rattle.tsp_items.specs.Weights.{place_of_weight, weights_in};
-    ghost use Rattle.tsp_items.specs.Parts.{Takes};
-    ghost use Rattle.tsp_items.specs.Held.{HoldsWeights};
+    ghost use Rattle.tsp_items.specs.states.Parts.{Takes};
+    ghost use Rattle.tsp_items.specs.states.Held.{HoldsWeights};
 
     /// The section with no words so far, in a file of `n` nodes.
     pub fn open(alloc: Global, n: u32) -> WeightList

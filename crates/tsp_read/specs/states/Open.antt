@@ -1,7 +1,7 @@
 -- What the section that is open holds.
 use Rattle.std.specs.Prelude.{◌≡◌, ℕ, List, Some}
 use Rattle.tsp_value.specs.Shapes.{shape_of}
-use Rattle.tsp_items.specs.Held.{shape_by, HoldsPart}
+use Rattle.tsp_items.specs.states.Held.{shape_by, HoldsPart}
 use Rattle.tsp_read.specs.declared.state.reading.OpenSection.{OpenSection}
 
 -- its part is one for it, and holds these words of it

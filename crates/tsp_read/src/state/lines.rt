@@ -12,8 +12,8 @@ impl Reading {
     ghost use Rattle.std.specs.Prelude.{◌≡◌, None, List};
     ghost use Rattle.tsp_value.specs.Shapes.{shape_of};
     ghost use Rattle.tsp_items.specs.Items.{Item};
-    ghost use Rattle.tsp_items.specs.CutLine.{seen, cut_item};
-    ghost use Rattle.tsp_read.specs.Holds.{Holds, Answers, LineAnswers};
+    ghost use Rattle.tsp_items.specs.states.CutLine.{seen, cut_item};
+    ghost use Rattle.tsp_read.specs.states.Holds.{Holds, Answers, LineAnswers};
 
     /// Takes a word line.
     pub(crate) fn line(&mut self, alloc: Global, line: &CutLine<'_>) -> Result<(), StepFault>

@@ -65,7 +65,7 @@ fn is_same(field: Field, other: Field) -> bool
 }
 
 impl Reading {
-    ghost use Rattle.tsp_read.specs.Holds.{Holds, Closed, Answers};
+    ghost use Rattle.tsp_read.specs.states.Holds.{Holds, Closed, Answers};
     ghost use Rattle.tsp_items.specs.declared.fault.StepFault.TheVariants.{Memory};
 
     /// Nothing so far.

@@ -2,8 +2,8 @@
 
 ghost use Rattle.std.specs.Prelude.{◌≡◌, Some};
 ghost use Rattle.tsp_value.specs.Shapes.{shape_of};
-ghost use Rattle.tsp_items.specs.CutLine.{seen};
-ghost use Rattle.tsp_read.specs.Holds.{LineAnswers};
+ghost use Rattle.tsp_items.specs.states.CutLine.{seen};
+ghost use Rattle.tsp_read.specs.states.Holds.{LineAnswers};
 
 use crate::state::reading::{OpenSection, Reading};
 use std::alloc::Global;

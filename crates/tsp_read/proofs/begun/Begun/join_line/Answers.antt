@@ -3,8 +3,8 @@ use Rattle.std.proofs.lemmas.Bool.{lt-ltb}
 use Rattle.tsp_value.specs.Limits.{most_line_bytes}
 use Rattle.tsp_items.specs.Lines.{ends_line, is_filled}
 use Rattle.tsp_items.specs.Items.{line_item}
-use Rattle.tsp_read.specs.Left.{before, from}
-use Rattle.tsp_read.specs.Intake.{IsReadTo}
+use Rattle.tsp_read.specs.states.Left.{before, from}
+use Rattle.tsp_read.specs.states.Intake.{IsReadTo}
 use Rattle.tsp_read.proofs.BegunSteps.{line_here, line_joins, fed_line, fed_longer_line, fed_none, joined_fault, joined_end, joined_more, settled_filled, settled_long, too_many, few_enough, taken_up, empty_rest, filled_rest}
 use Rattle.tsp_read.proofs.begun.Begun.join_line.Goals as goal
 

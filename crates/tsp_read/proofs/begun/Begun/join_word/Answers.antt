@@ -3,8 +3,8 @@ use Rattle.std.proofs.lemmas.Bool.{lt-ltb}
 use Rattle.tsp_value.specs.Limits.{most_word_bytes}
 use Rattle.tsp_items.specs.Lines.{is_filled}
 use Rattle.tsp_items.specs.Items.{NumberWord}
-use Rattle.tsp_read.specs.Left.{ends_word, before, from}
-use Rattle.tsp_read.specs.Intake.{IsReadTo}
+use Rattle.tsp_read.specs.states.Left.{ends_word, before, from}
+use Rattle.tsp_read.specs.states.Intake.{IsReadTo}
 use Rattle.tsp_read.proofs.BegunSteps.{word_here, word_joins, fed_word, fed_longer_word, fed_none, joined_fault, joined_end, joined_more, settled_filled, settled_long, too_many, few_enough, taken_up, empty_rest, filled_rest}
 use Rattle.tsp_read.proofs.begun.Begun.join_word.Goals as goal
 

@@ -1,5 +1,5 @@
 use Rattle.std.proofs.Common.{ℕ, ◌+◌, ◌≤◌, List, length}
-use Rattle.tsp_read.specs.Intake.{IsReadTo}
+use Rattle.tsp_read.specs.states.Intake.{IsReadTo}
 use Rattle.tsp_read.proofs.intake.Intake.take_items.Given as goal
 
 abbrev pub invariant-items : goal.invariant-items

@@ -1,5 +1,5 @@
 use Rattle.std.proofs.Common.{◌∙◌}
-use Rattle.tsp_read.specs.Left.{item_next}
+use Rattle.tsp_read.specs.states.Left.{item_next}
 use Rattle.tsp_read.proofs.ReadSteps.{words_next}
 use Rattle.tsp_read.proofs.intake.Intake.take_next.Goals as goal
 

@@ -1,7 +1,7 @@
 use Rattle.std.proofs.Common.{◌≡◌, ◌∙◌, sym, ap, Ok, arith}
 use Rattle.std.specs.Prelude.{pos, negsuc}
 use Rattle.tsp_items.specs.Numbers.{node_or_end}
-use Rattle.tsp_items.specs.Parts.{as_node_or_end}
+use Rattle.tsp_items.specs.states.Parts.{as_node_or_end}
 use Rattle.tsp_items.proofs.DepotSteps.{depot_past_end, depot_end, depot_more}
 use Rattle.tsp_items.proofs.parts.depots.DepotList.push.Goals as goal
 

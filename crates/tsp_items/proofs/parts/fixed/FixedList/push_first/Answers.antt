@@ -1,7 +1,7 @@
 use Rattle.std.proofs.Common.{◌≡◌, ◌∙◌, ap, Ok, Err, arith}
 use Rattle.std.specs.Prelude.{pos, negsuc}
 use Rattle.tsp_items.specs.Numbers.{node_or_end}
-use Rattle.tsp_items.specs.Parts.{as_node_or_end}
+use Rattle.tsp_items.specs.states.Parts.{as_node_or_end}
 use Rattle.tsp_items.proofs.FixedSteps.{first_bad, first_surplus, pairs_ended, pair_begins}
 use Rattle.tsp_items.proofs.parts.fixed.FixedList.push_first.Goals as goal
 

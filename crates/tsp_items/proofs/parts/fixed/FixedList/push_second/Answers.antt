@@ -1,7 +1,7 @@
 use Rattle.std.proofs.Common.{◌≡◌, ◌∙◌, ap, Ok, Err}
 use Rattle.std.specs.Prelude.{pos}
 use Rattle.tsp_items.specs.Numbers.{node}
-use Rattle.tsp_items.specs.Parts.{as_number}
+use Rattle.tsp_items.specs.states.Parts.{as_number}
 use Rattle.tsp_items.proofs.FixedSteps.{second_bad, second_same, pair_ends}
 use Rattle.tsp_items.proofs.parts.fixed.FixedList.push_second.Goals as goal
 

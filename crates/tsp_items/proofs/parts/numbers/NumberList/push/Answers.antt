@@ -2,7 +2,7 @@ use Rattle.std.proofs.Common.{◌≡◌, ◌∙◌, sym, subst, Ok, Err, arith, 
 use mir.Val.{SFits}
 use Rattle.std.proofs.lemmas.Int.{to_z-of_z}
 use Rattle.tsp_number.specs.Reading.{whole_of}
-use Rattle.tsp_items.specs.Parts.{IsNewNode}
+use Rattle.tsp_items.specs.states.Parts.{IsNewNode}
 use Rattle.tsp_items.proofs.NumberSteps.{number_node_faulty, number_bad, number_node, number_more}
 use Rattle.tsp_items.proofs.parts.numbers.NumberList.push.Goals as goal
 

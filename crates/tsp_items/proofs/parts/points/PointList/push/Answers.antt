@@ -1,5 +1,5 @@
 use Rattle.std.proofs.Common.{◌∙◌, sym, subst, Err, arith}
-use Rattle.tsp_items.specs.Parts.{IsNewNode}
+use Rattle.tsp_items.specs.states.Parts.{IsNewNode}
 use Rattle.tsp_items.proofs.PointSteps.{point_node_faulty, point_bad, point_node}
 use Rattle.tsp_items.proofs.parts.points.PointList.push.Goals as goal
 

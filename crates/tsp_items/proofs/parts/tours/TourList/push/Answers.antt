@@ -1,7 +1,7 @@
 use Rattle.std.proofs.Common.{◌+◌, ◌≡◌, ◌∙◌, ap, false, refl, tests, rules, Ok}
 use Rattle.std.specs.Prelude.{nat_le, negsuc, pos}
 use Rattle.tsp_items.specs.Numbers.{node_or_end}
-use Rattle.tsp_items.specs.Parts.{as_node_or_end}
+use Rattle.tsp_items.specs.states.Parts.{as_node_or_end}
 use Rattle.tsp_items.specs.declared.parts.tours.TourList.{TourList}
 use Rattle.tsp_items.proofs.TourSteps.{after_end, after_node}
 use Rattle.tsp_items.proofs.parts.tours.TourList.push.Goals as goal

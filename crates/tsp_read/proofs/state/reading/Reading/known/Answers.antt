@@ -1,6 +1,6 @@
 use Rattle.std.proofs.Common.{refl, map}
 use Rattle.std.specs.Option.{option_map}
-use Rattle.tsp_items.specs.CutLine.{seen}
+use Rattle.tsp_items.specs.states.CutLine.{seen}
 use Rattle.tsp_read.proofs.KeywordSteps as keywords
 use Rattle.tsp_read.proofs.SectionCases.{unnamed}
 use Rattle.tsp_read.proofs.TextSteps as texts

@@ -16,19 +16,11 @@ use Rattle.tsp_items.specs.Groups.{pairs_in, begun_pair, begun_triple, number_gr
 use Rattle.tsp_items.specs.Lists.{depots_in, fixed_in, firsts_in}
 use Rattle.tsp_items.specs.Weights.{weights_in}
 use Rattle.tsp_items.specs.Tours.{ends_tour, tour_node, tours_in}
-use Rattle.tsp_items.specs.Rows.{when, first_row, number_fault_at, is_repeated_node_at, is_self_edge_at, is_surplus_at, is_after_end_at}
+use Rattle.tsp_items.specs.Rows.{word_fault}
 
 -- ---- a word at its place
 
--- the rows of a word that stands at this place
-abbrev pub word_fault : ℕ → Place → List ℕ → Option LineFault
-word_fault n place word = first_row (option_map (λ fault. row.Number fault) (number_fault_at n place word)
-    ∷ when (is_repeated_node_at n place word) row.RepeatedNode
-    ∷ when (is_self_edge_at n place word) row.SelfEdge
-    ∷ when (is_surplus_at n place word) row.Surplus
-    ∷ when (is_after_end_at n place word) row.AfterEnd ∷ [])
-
--- How a word at this place is taken: it has no fault and `Held` holds, or it has this one. Want of memory says nothing.
+-- How a word at this place is taken: it has no fault and `Held` holds, or it has this one.
 abbrev pub Takes : ℕ → Place → List ℕ → Type 0 → Result (Unit {0}) StepFault → Type 0
 Takes n place word Held (Ok done) = (word_fault n place word ≡ None) × Held
 Takes n place word Held (Err steps.Memory) = Unit {0}

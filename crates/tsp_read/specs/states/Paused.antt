@@ -8,11 +8,11 @@ use Rattle.tsp_read.specs.declared.begun.Begun.{Begun}
 use Rattle.tsp_read.specs.declared.stage.Stage.{Stage}
 use Rattle.tsp_read.specs.declared.stage.Stage.TheVariants.{Going, Ended, Refused}
 use Rattle.tsp_items.specs.Items.{items_of}
-use Rattle.tsp_read.specs.Left.{items_left}
+use Rattle.tsp_read.specs.states.Left.{items_left}
 use Rattle.tsp_read.specs.Onward.{is_bare}
 use Rattle.tsp_read.specs.Reads.{ReadsItems}
-use Rattle.tsp_read.specs.Intake.{HasEnded, StopsAt}
-use Rattle.tsp_read.specs.Begun.{kept, IsFedTo, most_lines, most_words}
+use Rattle.tsp_read.specs.states.Intake.{HasEnded, StopsAt}
+use Rattle.tsp_read.specs.states.Begun.{kept, IsFedTo, most_lines, most_words}
 
 -- of the bytes so far all that is settled was taken, and what is not is kept
 pub record IsPaused (intake : Intake) (begun : Begun) (bytes : List ℕ) : Type 0 where

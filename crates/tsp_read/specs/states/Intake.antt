@@ -6,7 +6,7 @@ use Rattle.tsp_read.specs.declared.state.reading.Reading.{Reading}
 use Rattle.tsp_read.specs.declared.intake.Intake.{Intake}
 use Rattle.tsp_items.specs.Items.{Item, settled_items, is_end_line, has_end_line, to_end_line, line_number, words_before}
 use Rattle.tsp_items.specs.FirstFault.{fault_in}
-use Rattle.tsp_read.specs.Holds.{Holds}
+use Rattle.tsp_read.specs.states.Holds.{Holds}
 use Rattle.tsp_read.specs.Onward.{is_bare, is_line_end, GoesOn}
 
 -- these items were taken (nearest first), and the next one is counted on from them

@@ -4,8 +4,8 @@ use Rattle.tsp_value.specs.Bytes.{is_letter}
 use Rattle.tsp_read.specs.declared.intake.Intake.{Intake}
 use Rattle.tsp_read.specs.declared.begun.Begun.{Begun}
 use Rattle.tsp_items.specs.Lines.{ends_line, is_filled}
-use Rattle.tsp_read.specs.Left.{ends_word, from, items_left}
-use Rattle.tsp_read.specs.Intake.{IsReadTo}
+use Rattle.tsp_read.specs.states.Left.{ends_word, from, items_left}
+use Rattle.tsp_read.specs.states.Intake.{IsReadTo}
 
 -- a word line, from its first byte that isn't blank on, whose end has not come
 pub record HasBegunLine (inside : Bool) (line : List ℕ) : Type 0 where

@@ -10,7 +10,7 @@ use Rattle.tsp_items.specs.declared.part.Part.{Part}
 use Rattle.tsp_items.specs.declared.part.Part.TheVariants as parts
 use Rattle.tsp_value.specs.declared.field.Shape.{Shape}
 use Rattle.tsp_value.specs.declared.field.Shape.TheVariants.{Numbers, Points, Depots, Pairs, Weights, Tours}
-use Rattle.tsp_items.specs.Parts.{NumbersHold, PointsHold, DepotsHold, PairsHold, WeightsHold, ToursHold, EndsRun}
+use Rattle.tsp_items.specs.states.Parts.{NumbersHold, PointsHold, DepotsHold, PairsHold, WeightsHold, ToursHold, EndsRun}
 
 -- its numbers are of this range
 pub record HoldsNumbers (part : NumberList) (low high : ℤ) (n : ℕ) (words : List (List ℕ)) : Type 0 where
