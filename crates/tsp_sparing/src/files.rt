@@ -1,0 +1,104 @@
+//! Drafts, files, instances of one node, and texts of line ends.
+
+use std::alloc::Global;
+use tsp_bound::{Duals, dual_bound};
+use tsp_cost::{Costs, Instance, canonical_length, symmetric_fault, tour_length};
+use tsp_fields::{Draft, DraftFault, EndFault, File};
+use tsp_read::{Feed, ReadFault};
+use tsp_value::{Field, Kind, Layout, WeightFormat, WeightKind};
+
+/// Whether each call has the answer that is wanted.
+pub(crate) fn are_right(alloc: Global) -> bool {
+    is_refused(alloc) && is_no_instance(alloc) && is_instance(alloc) && has_no_type(alloc)
+}
+
+/// An empty draft is refused, and handed back.
+fn is_refused(alloc: Global) -> bool {
+    match File::of(Draft::new(alloc)) {
+        Ok(file) => {
+            drop(file);
+            false
+        }
+        Err((fault, draft)) => {
+            drop(draft);
+            fault == DraftFault::Rule(EndFault::Missing(Field::TypeKey))
+        }
+    }
+}
+
+/// A file without tours is no instance, and handed back.
+fn is_no_instance(alloc: Global) -> bool {
+    let mut draft = Draft::new(alloc);
+    draft.kind = Some(Kind::Tour);
+    draft.tours = Some(Vec::new(alloc));
+    let Ok(file) = File::of(draft) else {
+        return false;
+    };
+    match Instance::of(file) {
+        Ok(instance) => {
+            drop(instance);
+            false
+        }
+        Err((_, file)) => {
+            let same = file.kind() == Kind::Tour
+                && file.name().is_none()
+                && file.weights().is_none();
+            drop(file);
+            same
+        }
+    }
+}
+
+/// A matrix of one node without its diagonal is an instance.
+fn is_instance(alloc: Global) -> bool {
+    let mut draft = Draft::new(alloc);
+    draft.kind = Some(Kind::Tsp);
+    draft.dimension = Some(1);
+    draft.weight_kind = Some(WeightKind::Explicit);
+    draft.weight_format = Some(WeightFormat::Listed(Layout::UpperRow));
+    draft.weights = Some(Vec::new(alloc));
+    let Ok(file) = File::of(draft) else {
+        return false;
+    };
+    match Instance::of(file) {
+        Ok(instance) => {
+            let right = has_no_costs(&instance);
+            drop(instance);
+            right
+        }
+        Err(refused) => {
+            drop(refused);
+            false
+        }
+    }
+}
+
+/// An instance of one node has lengths and a bound of 0.
+fn has_no_costs(instance: &Instance) -> bool {
+    if instance.count() != 1 {
+        return false;
+    }
+    let Some(duals) = Duals::new(1, &[0], &[0]) else {
+        return false;
+    };
+    instance.cost(1, 1) == 0
+        && tour_length(instance, &[1]) == 0
+        && canonical_length(instance) == 0
+        && symmetric_fault(instance).is_none()
+        && dual_bound(instance, &duals) == Ok(0)
+}
+
+/// Line ends and blanks are no file.
+fn has_no_type(alloc: Global) -> bool {
+    let mut feed = Feed::new(alloc);
+    let fed = feed.feed(b"\n \n\t");
+    let end = feed.finish();
+    let right = match end {
+        Ok(file) => {
+            drop(file);
+            false
+        }
+        Err(fault) => fault == ReadFault::End(EndFault::Missing(Field::TypeKey)),
+    };
+    fed.is_ok() && right
+}
