@@ -9,8 +9,8 @@ use std::test::Fail;
 use tsp_bound::{Duals, Infeasible, Multipliers, OneTree, Potentials, dual_bound, one_tree};
 use tsp_cost::{Costs, Instance, Symmetric, View};
 use tsp_fields::Draft;
-use tsp_testing::drafts::{file_of, upper_row};
-use tsp_value::{Kind, Layout, WeightFormat};
+use tsp_testing::drafts::{file_of, points, upper_row};
+use tsp_value::{Kind, Layout, WeightFormat, WeightKind};
 
 /// The instance that a draft holds.
 fn instance_of(draft: Draft) -> Result<Instance, Fail> {
@@ -18,6 +18,16 @@ fn instance_of(draft: Draft) -> Result<Instance, Fail> {
         Ok(instance) => Ok(instance),
         Err(_) => Err(Fail::from("no instance")),
     }
+}
+
+/// The rectangle with the sides 3 and 4, in halves.
+fn rectangle(alloc: Global) -> Result<Instance, Fail> {
+    let mut draft = Draft::new(alloc);
+    draft.kind = Some(Kind::Tsp);
+    draft.dimension = Some(4);
+    draft.weight_kind = Some(WeightKind::Euc2d);
+    draft.coords = Some(points(alloc, &[(0, 0), (6, 0), (6, 8), (0, 8)])?);
+    instance_of(draft)
 }
 
 /// An instance of n nodes with these weights by the upper rows.
@@ -55,6 +65,27 @@ fn bound_under(
     };
     let tree = tree_under(alloc, &triangle, scale, numbers)?;
     Ok((tree.weight, tree.bound))
+}
+
+/// The 1-tree of the rectangle with the sides 6 and 8 under potentials and a multiplier of one
+/// pair.
+fn tree_with(alloc: Global, numbers: &[i64], triple: (u32, u32, i64)) -> Result<OneTree, Fail> {
+    let instance = rectangle(alloc)?;
+    let View::Points(points) = instance.view() else {
+        return Err(Fail::from("no points"));
+    };
+    let potentials = Potentials::new(1, numbers).ok_or("no potentials")?;
+    let triples = [triple];
+    let multipliers = Multipliers::new(&triples).ok_or("no multipliers")?;
+    let count = points.count();
+    let (a, b, _) = triple;
+    if count < 3 || numbers.len() != count as usize {
+        return Err(Fail::from("no potential for each node"));
+    }
+    if a < 1 || count < a || b < 1 || count < b {
+        return Err(Fail::from("no nodes"));
+    }
+    Ok(one_tree(alloc, &points, &potentials, &multipliers)?)
 }
 
 /// What the duals of an instance give, where there is one for each node.
@@ -140,6 +171,56 @@ fn trees_of_five_nodes_and_at_the_limits(rt: HostRuntime) -> Result<(), Fail> {
         &[potential, potential, potential],
     )?;
     same(&rt, bound, 3_000_000_000_000);
+    Ok(())
+}
+
+#[test]
+fn a_multiplier_lowers_its_pair_and_is_given_back(rt: HostRuntime) -> Result<(), Fail> {
+    // Of the pairs 1 2 weighs 3, 1 4 and 3 4 weigh 4, 2 3 and 2 4 weigh 5, and 1 3 weighs 6. A least
+    // 1-tree weighs 16, also where 1 3 weighs 4; without the potential twice and with 2 it is 16.
+    let numbers = [0i64, 0, 1, 0];
+    for (triple, bound) in [
+        ((1, 3, 2), 16),
+        ((3, 1, 2), 16),
+        ((1, 3, 0), 14),
+        ((1, 2, 0), 14),
+    ] {
+        let tree = tree_with(rt.alloc(), &numbers, triple)?;
+        same(&rt, tree.bound, bound);
+    }
+    Ok(())
+}
+
+#[test]
+fn no_bound_is_above_the_tours_that_use_the_pair(rt: HostRuntime) -> Result<(), Fail> {
+    // The tours that use 1 3 are 1 2 4 3 of the length 16 and 1 3 2 4 of the length 18; 1 2 3 4,
+    // which doesn't use it, has the length 14.
+    for numbers in [[0i64, 0, 0, 0], [0, 0, 1, 0], [-1, 2, -1, 2], [3, -2, 0, 1]] {
+        for number in [0i64, 1, 2, 3, 4, 10, 1000] {
+            let tree = tree_with(rt.alloc(), &numbers, (1, 3, number))?;
+            holds(&rt, tree.bound <= 16);
+        }
+    }
+    // So large a multiplier wins the pair: 5 less 10, and 3, at node 1, 3 and 4 among the others.
+    let tree = tree_with(rt.alloc(), &[0, 0, 0, 0], (3, 1, 10))?;
+    same(&rt, tree.weight, 5);
+    same(&rt, tree.bound, 15);
+    Ok(())
+}
+
+#[test]
+fn multipliers_out_of_range_are_none(rt: HostRuntime) -> Result<(), Fail> {
+    let most = 1_000_000_000_000_000i64;
+    holds(&rt, Multipliers::new(&[(1, 2, -1)]).is_none());
+    holds(&rt, Multipliers::new(&[(1, 2, most + 1)]).is_none());
+    holds(&rt, Multipliers::new(&[(1, 2, 0), (3, 3, 1)]).is_none());
+    holds(
+        &rt,
+        Multipliers::new(&[(1, 2, most), (2, 1, 0), (1, 2, 3)]).is_some(),
+    );
+    let many = vec![in rt.alloc(); (1u32, 2u32, 0i64); 100_001]?;
+    holds(&rt, Multipliers::new(&many).is_none());
+    holds(&rt, Multipliers::new(&many[1..]).is_some());
     Ok(())
 }
 

@@ -12,6 +12,7 @@ use Rattle.tsp_verdict.specs.Reasons.{IsFirstReason}
 use Rattle.tsp_verdict.specs.Solution.{tours_of}
 use Rattle.tsp_verdict.specs.Tours as tours
 use Rattle.tsp_verdict.specs.Certificate as certificate
+pub use Rattle.tsp_verdict.specs.Certificate.{BoundsTours}
 
 -- against the tour, or against the certificate
 abbrev pub StandsAgainst : Fields → Fields → Fields → Reason → Type 0
@@ -30,7 +31,7 @@ pub record IsBounded (inst sol pot : Fields) (length_is : ℤ) (bound : Option �
   pub least : ℤ
   pub bound_is : bound ≡ Some least
   pub of_certificate : certificate.IsBoundBy inst.kind inst pot least
-  pub below_tours : certificate.BoundsTours inst least
+  pub below_tours : BoundsTours inst least
   pub sized : IsBoundSized least
 
 -- A no: the reason is the first one that stands. A yes: none stands, and the tour is bounded so.
