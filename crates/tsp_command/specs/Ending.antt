@@ -1,6 +1,7 @@
 -- How a run of the program ends: its exit status, and what goes to standard error.
-use Rattle.std.specs.Prelude.{◌≡◌, ℕ, List, [], ◌++◌, ◌∷◌, true, false, Option, None, Some, Ok, Err, IfSome, codes}
+use Rattle.std.specs.Prelude.{◌≡◌, ℕ, Bool, List, [], ◌++◌, ◌∷◌, true, false, Option, None, Some, Ok, Err, IfSome, codes}
 use Rattle.std.specs.Io.KnownBytes.{Appends, Keeps}
+use Rattle.tsp_judge.specs.declared.Verdict.TheVariants.{Tour, Routes, No}
 use Rattle.tsp_judge.specs.declared.ReadFault.TheVariants as read_faults
 use Rattle.tsp_judge.specs.declared.WriteFault.TheVariants as write_faults
 use Rattle.tsp_judge.specs.declared.RelayoutFault.TheVariants as relayout_faults
@@ -34,8 +35,10 @@ abbrev pub status_of : Ending → ℕ
 status_of (NoJob (job_faults.Refused refusal)) = 4
 status_of (NoJob job_faults.OutOfMemory) = 3
 status_of (NoTask fault) = 4
-status_of (Ended (Ok true)) = 0
-status_of (Ended (Ok false)) = 1
+status_of (Ended (Ok None)) = 0
+status_of (Ended (Ok (Some (Tour length bound)))) = 0
+status_of (Ended (Ok (Some (Routes length routes least)))) = 0
+status_of (Ended (Ok (Some (No reason)))) = 1
 status_of (Ended (Err fault)) = status_of_fault fault
 
 -- the line of an ending; an answer has none, since what it says is on standard output
@@ -66,3 +69,8 @@ IsWritten (Some line) old new = IfSome (line_text line) (Appends old new)
 
 abbrev pub Tells : Ending → Option (List ℕ) → Option (List ℕ) → Type 0
 Tells ending old new = (line : Option Line) × IsLineOf ending line × IsWritten line old new
+
+-- the same, and after the line a text and nothing else, where the ending is explained
+abbrev pub TellsAll : Bool → Ending → Option (List ℕ) → Option (List ℕ) → Type 0
+TellsAll false ending old new = Tells ending old new
+TellsAll true ending old new = (between : Option (List ℕ)) × (text : List ℕ) × Tells ending old between × Appends between new text

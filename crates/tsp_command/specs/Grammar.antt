@@ -2,6 +2,7 @@
 use Rattle.std.specs.Prelude.{◌≡◌, true, false, Some, codes}
 use Rattle.clap.specs.Words.{App, Rule, Text, app_of, new_app, new_rule, with_rule, with_subcommand}
 use Rattle.clap.specs.Simple.{on_top}
+use Rattle.clap.specs.declared.builder.action.ArgAction.TheVariants.{SetTrue}
 use Rattle.clap.specs.declared.builder.command.Command.{Command}
 use Rattle.clap.specs.declared.builder.command.Command.TheViews.{out-Command}
 
@@ -13,18 +14,30 @@ path id = record (new_rule id) { required = true }
 abbrev pub option : Text → Text → Rule
 option id long = record (new_rule id) { long = Some long }
 
--- show F
-abbrev pub show : App
-show = with_rule (new_app (codes "show")) (path (codes "F"))
+-- an option without a value: it is given or not
+abbrev pub flag : Text → Text → Rule
+flag id long = record (new_rule id) { long = Some long; action = Some SetTrue }
 
--- convert F [--layout L]
+-- [--explain], which each verb has
+abbrev pub explain : Rule
+explain = flag (codes "E") (codes "explain")
+
+-- show F [--explain]
+abbrev pub show : App
+show = with_rule (with_rule (new_app (codes "show")) (path (codes "F"))) explain
+
+-- convert F [--layout L] [--explain]
 abbrev pub convert : App
-convert = with_rule (with_rule (new_app (codes "convert")) (path (codes "F"))) (option (codes "L") (codes "layout"))
+convert = with_rule (with_rule (with_rule (new_app (codes "convert")) (path (codes "F"))) (option (codes "L") (codes "layout"))) explain
 
 -- check F T [--potentials P]
-abbrev pub check : App
-check = with_rule (with_rule (with_rule (new_app (codes "check")) (path (codes "F"))) (path (codes "T")))
+abbrev pub check_files : App
+check_files = with_rule (with_rule (with_rule (new_app (codes "check")) (path (codes "F"))) (path (codes "T")))
     (option (codes "P") (codes "potentials"))
+
+-- check F T [--potentials P] [--explain]
+abbrev pub check : App
+check = with_rule check_files explain
 
 -- the program, whose words don't begin with its own name, and which knows its version
 abbrev pub start : App

@@ -1,5 +1,5 @@
 -- A run of the program: what its words come to.
-use Rattle.std.specs.Prelude.{◌≡◌, ◌≢◌, ℕ, List, drop, Option, Result, Ok, Err, OnOk, false}
+use Rattle.std.specs.Prelude.{◌≡◌, ◌≢◌, ℕ, Bool, List, drop, Option, Result, Ok, Err, OnOk, false}
 use Rattle.std.specs.declared.io.Error.{Error}
 use Rattle.std.specs.declared.io.ErrorKind.{ErrorKind}
 use Rattle.std.specs.declared.io.ErrorKind.TheVariants as io_kinds
@@ -17,7 +17,7 @@ use Rattle.tsp_command.specs.declared.words.JobFault.TheVariants.{OutOfMemory}
 use Rattle.tsp_command.specs.Words.{GivesJob, IsRefused}
 use Rattle.tsp_command.specs.Task.{GivesTask}
 use Rattle.tsp_command.specs.Engines.{IsDone}
-use Rattle.tsp_command.specs.Ending.{status_of, Tells}
+use Rattle.tsp_command.specs.Ending.{status_of, TellsAll}
 
 -- the reader is that of the opened place, and hasn't failed
 abbrev pub IsFresh : {F : Type 0} → (Place → F → Type 0) → Place → Watched F → Type 0
@@ -40,20 +40,28 @@ EndsWith {F = F} remaining opens job sink (Ended answer) = (task : Task Place) �
     × AreFresh opens task old × IsDone remaining old new sink answer
 
 -- How a run ends with these words, of which the first is the program's own name: they ask for no job, and then nothing is
--- written; or it ends with the job that they ask for.
-abbrev pub Ends : {F : Type 0} → (F → Option (List ℕ)) → (Place → F → Type 0) → List Text → Sink → Ending → Type 0
-Ends remaining opens words sink (NoJob fault) = GivesJob (drop 1 words) (Err fault) × IsUnwritten sink
-Ends remaining opens words sink (NoTask fault) =
-    (job : Job) × GivesJob (drop 1 words) (Ok job) × EndsWith remaining opens job sink (NoTask fault)
-Ends remaining opens words sink (Ended answer) =
-    (job : Job) × GivesJob (drop 1 words) (Ok job) × EndsWith remaining opens job sink (Ended answer)
+-- written; or it ends with the job that they ask for. Whether that is explained is a matter of the job, and nothing else is.
+abbrev pub Ends : {F : Type 0} → (F → Option (List ℕ)) → (Place → F → Type 0) → List Text → Sink → Bool → Ending → Type 0
+Ends remaining opens words sink explained (NoJob fault) = GivesJob (drop 1 words) (Err fault) × IsUnwritten sink × (explained ≡ false)
+Ends remaining opens words sink explained (NoTask fault) =
+    (job : Job) × GivesJob (drop 1 words) (Ok job) × EndsWith remaining opens job sink (NoTask fault) × (explained ≡ job.explain)
+Ends remaining opens words sink explained (Ended answer) =
+    (job : Job) × GivesJob (drop 1 words) (Ok job) × EndsWith remaining opens job sink (Ended answer) × (explained ≡ job.explain)
 
 -- the end where the words can't be had: out of memory, or a word is no text, which is told as refused words are
-abbrev pub IsUnread : ErrorKind → Ending → Type 0
-IsUnread kind (NoJob fault) = (kind ≡ io_kinds.OutOfMemory → fault ≡ OutOfMemory) × (kind ≢ io_kinds.OutOfMemory → IsRefused fault)
-IsUnread kind (NoTask fault) = ⊥
-IsUnread kind (Ended answer) = ⊥
+abbrev pub IsUnread : ErrorKind → Bool → Ending → Type 0
+IsUnread kind explained (NoJob fault) = (kind ≡ io_kinds.OutOfMemory → fault ≡ OutOfMemory)
+    × (kind ≢ io_kinds.OutOfMemory → IsRefused fault) × (explained ≡ false)
+IsUnread kind explained (NoTask fault) = ⊥
+IsUnread kind explained (Ended answer) = ⊥
 
--- the exit status is that of an ending with Q, and its line is told, where that could be written
-abbrev pub Runs : (Ending → Type 0) → Option (List ℕ) → Option (List ℕ) → ℕ × Result (Unit {0}) Error → Type 0
-Runs Q old new answer = (ending : Ending) × Q ending × (answer.0 ≡ status_of ending) × OnOk answer.1 (Tells ending old new)
+-- the exit status is that of an ending with Q, whose line is told, and more where it is explained
+abbrev pub RunsJob : (Ending → Type 0) → Bool → Option (List ℕ) → Option (List ℕ) → ℕ × Result (Unit {0}) Error → Type 0
+RunsJob Q explained old new answer = (ending : Ending) × Q ending × (answer.0 ≡ status_of ending)
+    × OnOk answer.1 (TellsAll explained ending old new)
+
+-- the exit status is that of an ending with Q, and its line is told, where that could be written; more follows the line where
+-- the ending is explained
+abbrev pub Runs : (Bool → Ending → Type 0) → Option (List ℕ) → Option (List ℕ) → ℕ × Result (Unit {0}) Error → Type 0
+Runs Q old new answer = (explained : Bool) × (ending : Ending) × Q explained ending × (answer.0 ≡ status_of ending)
+    × OnOk answer.1 (TellsAll explained ending old new)

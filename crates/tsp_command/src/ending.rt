@@ -9,7 +9,7 @@ use clap::Error as Refusal;
 use std::fmt::{Display, Formatter};
 use std::io::Write;
 use std::{fmt, io};
-use tsp_judge::{ReadFault, RelayoutFault, RunFault, WriteFault};
+use tsp_judge::{ReadFault, RelayoutFault, RunFault, Verdict, WriteFault};
 
 /// How a run of the program ends.
 #[derive(Drop)]
@@ -18,8 +18,8 @@ pub enum Ending {
     NoJob(JobFault),
     /// What they ask for can't be begun.
     NoTask(TaskFault),
-    /// A task was done, with this answer.
-    Ended(Result<bool, RunFault>),
+    /// A task was done, with this verdict, where it has one.
+    Ended(Result<Option<Verdict>, RunFault>),
 }
 
 /// What goes to standard error.
@@ -79,8 +79,9 @@ pub fn status_of(ending: &Ending) -> u8
     match ending {
         Ending::NoJob(JobFault::Refused(_)) | Ending::NoTask(_) => REFUSED,
         Ending::NoJob(JobFault::OutOfMemory) => OUT_OF_MEMORY,
-        Ending::Ended(Ok(true)) => YES,
-        Ending::Ended(Ok(false)) => NO,
+        Ending::Ended(Ok(None)) => YES,
+        Ending::Ended(Ok(Some(Verdict::Tour { .. } | Verdict::Routes { .. }))) => YES,
+        Ending::Ended(Ok(Some(Verdict::No(_)))) => NO,
         Ending::Ended(Err(fault)) => status_of_fault(*fault),
     }
 }

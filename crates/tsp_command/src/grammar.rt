@@ -2,9 +2,9 @@
 
 ghost use Rattle.std.specs.Prelude.{◌≡◌, IfOk, false};
 ghost use Rattle.clap.specs.Words.{rule_of};
-ghost use Rattle.tsp_command.specs.Grammar.{IsCommandOf, path, option, show, convert, check, tsp};
+ghost use Rattle.tsp_command.specs.Grammar.{IsCommandOf, path, option, flag, explain, show, convert, check_files, check, tsp};
 
-use clap::{Arg, Command};
+use clap::{Arg, ArgAction, Command};
 use std::alloc::{AllocError, Global};
 
 /// What `--version` prints after the program's name.
@@ -24,6 +24,8 @@ Exit status:
   3  out of memory
   4  the words are refused, or ask for help
   5  a file can't be read, or standard output not written
+
+With --explain, lines after a fault or a no say where it is and what to do.
 
 Examples:
   tsp show a.tsp
@@ -81,17 +83,18 @@ pub(crate) fn tsp<'a>(alloc: Global) -> Result<Command<'a>, AllocError>
         .subcommand(check(alloc)?)
 }
 
-/// `show F`.
+/// `show F [--explain]`.
 fn show<'a>(alloc: Global) -> Result<Command<'a>, AllocError>
     ensures { IfOk result (IsCommandOf show) }
 {
     Command::new(alloc, "show")
         .about("Says what stands in a file")
         .after_help(SHOW_NOTES)
-        .arg(path(alloc, "F", "The path of a TSPLIB 95 file"))
+        .arg(path(alloc, "F", "The path of a TSPLIB 95 file"))?
+        .arg(explain(alloc))
 }
 
-/// `convert F [--layout L]`.
+/// `convert F [--layout L] [--explain]`.
 fn convert<'a>(alloc: Global) -> Result<Command<'a>, AllocError>
     ensures { IfOk result (IsCommandOf convert) }
 {
@@ -99,12 +102,20 @@ fn convert<'a>(alloc: Global) -> Result<Command<'a>, AllocError>
         .about("Writes a file anew, on request with its matrix in another layout")
         .after_help(CONVERT_NOTES)
         .arg(path(alloc, "F", "The path of a TSPLIB 95 file"))?
-        .arg(option(alloc, "L", "layout", "The layout that the matrix gets"))
+        .arg(option(alloc, "L", "layout", "The layout that the matrix gets"))?
+        .arg(explain(alloc))
 }
 
-/// `check F T [--potentials P]`.
+/// `check F T [--potentials P] [--explain]`.
 fn check<'a>(alloc: Global) -> Result<Command<'a>, AllocError>
     ensures { IfOk result (IsCommandOf check) }
+{
+    check_files(alloc)?.arg(explain(alloc))
+}
+
+/// `check F T [--potentials P]`, which has the files.
+fn check_files<'a>(alloc: Global) -> Result<Command<'a>, AllocError>
+    ensures { IfOk result (IsCommandOf check_files) }
 {
     Command::new(alloc, "check")
         .about("Judges a tour or routes, and with potentials bounds every tour")
@@ -137,4 +148,28 @@ fn option<'a>(alloc: Global, id: &'a str, long: &'a str, help: &'a str) -> Arg<'
     ensures local { result.global ≡ false }
 {
     Arg::new(alloc, id).long(long).help(help)
+}
+
+/// An option without a value, which is given or not.
+fn flag<'a>(alloc: Global, id: &'a str, long: &'a str, help: &'a str) -> Arg<'a>
+    ensures rule { rule_of result ≡ flag id.now long.now }
+    ensures local { result.global ≡ false }
+{
+    Arg::new(alloc, id)
+        .long(long)
+        .action(ArgAction::SetTrue)
+        .help(help)
+}
+
+/// `--explain`, which each verb has.
+fn explain<'a>(alloc: Global) -> Arg<'a>
+    ensures rule { rule_of result ≡ explain }
+    ensures local { result.global ≡ false }
+{
+    flag(
+        alloc,
+        "E",
+        "explain",
+        "Say more of a fault, or of a no, on standard error",
+    )
 }

@@ -2,11 +2,13 @@
 //!
 //! The words are a job (`words`), by the commands that the program has (`grammar`); a job is a task
 //! on files (`task`); each file is opened, or is missing (`source`); the task is done (`engines`);
-//! and how that ended is told on standard error and by the exit status (`ending`).
+//! and how that ended is told on standard error and by the exit status (`ending`). Where the words ask
+//! for it, more is told after that (`explained`).
 #![tactic(auto)]
 
 mod ending;
 mod engines;
+mod explained;
 mod grammar;
 mod running;
 mod source;

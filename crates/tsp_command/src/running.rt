@@ -1,13 +1,15 @@
 //! A run of the program, from the words of its command line to its exit status.
 
-ghost use Rattle.std.specs.Prelude.{◌≡◌, IfOk, drop, map};
+ghost use Rattle.std.specs.Prelude.{◌≡◌, IfOk, OnOk, drop, map};
 ghost use Rattle.std.specs.IoError.{error_kind};
 ghost use Rattle.std.specs.String.{string_bytes};
 ghost use Rattle.tsp_judge.specs.Sink.{sink_of};
-ghost use Rattle.tsp_command.specs.Run.{AreFresh, IsFresh, Ends, EndsWith, IsUnread, Runs};
+ghost use Rattle.tsp_command.specs.Ending.{status_of, Tells, TellsAll};
+ghost use Rattle.tsp_command.specs.Run.{AreFresh, IsFresh, Ends, EndsWith, IsUnread, Runs, RunsJob};
 
 use crate::ending::{Ending, status_of, tell};
 use crate::engines::perform;
+use crate::explained::explanation;
 use crate::source::Open;
 use crate::task::{Place, Task, task_of};
 use crate::words::{Job, JobFault, job_of, unread};
@@ -31,9 +33,17 @@ pub fn run<F: Read + Drop, O: Open<F>, W: Write, E: Write>(
     ensures { Runs (Ends F.remaining (O.opens files.now) (map string_bytes line.now)
         (sink_of W.contents out.old out.new)) (E.contents errors.old) (E.contents errors.new) result }
 {
-    let ending = ended(alloc, line, files, out);
-    let told = tell(&ending, errors);
-    (status_of(&ending), told)
+    let Ok(words) = words_after_first(alloc, line) else {
+        return end(&Ending::NoJob(JobFault::OutOfMemory), errors);
+    };
+    match job_of(alloc, &words) {
+        Err(fault) => end(&Ending::NoJob(fault), errors),
+        Ok(job) => {
+            let answer = run_job(alloc, &job, files, out, errors);
+            drop(job);
+            answer
+        }
+    }
 }
 
 /// Tells why words that can't be had ask for nothing. The answer is as that of `run`.
@@ -44,31 +54,53 @@ pub fn tell_unread<E: Write>(
 ) -> (u8, io::Result<()>)
     ensures { Runs (IsUnread (error_kind error.now)) (E.contents errors.old) (E.contents errors.new) result }
 {
-    let ending = Ending::NoJob(unread(alloc, error));
-    let told = tell(&ending, errors);
+    end(&Ending::NoJob(unread(alloc, error)), errors)
+}
+
+/// The exit status of an ending, and whether its line could be told.
+fn end<E: Write>(ending: &Ending, errors: &mut E) -> (u8, io::Result<()>)
+    ensures status { result.0 ≡ status_of ending.now }
+    ensures told { OnOk result.1 (Tells ending.now (E.contents errors.old) (E.contents errors.new)) }
+{
+    let told = tell(ending, errors);
+    (status_of(ending), told)
+}
+
+/// Does the job, and tells how that ended. The answer is as that of `run`.
+fn run_job<F: Read + Drop, O: Open<F>, W: Write, E: Write>(
+    alloc: Global,
+    job: &Job,
+    files: &O,
+    out: &mut Watched<W>,
+    errors: &mut E,
+) -> (u8, io::Result<()>)
+    ensures { RunsJob (EndsWith F.remaining (O.opens files.now) job.now (sink_of W.contents out.old out.new))
+        job.now.explain (E.contents errors.old) (E.contents errors.new) result }
+{
+    let ending = ended_with(alloc, job, files, out);
+    let told = tell_all(alloc, job, &ending, files, errors);
     (status_of(&ending), told)
 }
 
-/// How the run ends.
-fn ended<F: Read + Drop, O: Open<F>, W: Write>(
+/// Tells how a job ended, and explains it where the job says so. Where there is no memory for that,
+/// no more is told than without.
+fn tell_all<F: Read + Drop, O: Open<F>, E: Write>(
     alloc: Global,
-    line: &[String],
+    job: &Job,
+    ending: &Ending,
     files: &O,
-    out: &mut Watched<W>,
-) -> Ending
-    ensures { Ends F.remaining (O.opens files.now) (map string_bytes line.now)
-        (sink_of W.contents out.old out.new) result }
+    errors: &mut E,
+) -> io::Result<()>
+    ensures { OnOk result (TellsAll job.now.explain ending.now (E.contents errors.old) (E.contents errors.new)) }
 {
-    let Ok(words) = words_after_first(alloc, line) else {
-        return Ending::NoJob(JobFault::OutOfMemory);
-    };
-    let job = match job_of(alloc, &words) {
-        Ok(job) => job,
-        Err(fault) => return Ending::NoJob(fault),
-    };
-    let ending = ended_with(alloc, &job, files, out);
-    drop(job);
-    ending
+    tell(ending, errors)?;
+    if !job.explain {
+        return Ok(());
+    }
+    let text = explanation(alloc, job, ending, files);
+    let told = errors.write_all(&text);
+    drop(text);
+    told
 }
 
 /// How the run ends of which this is the job.

@@ -8,7 +8,7 @@ ghost use Rattle.tsp_command.specs.Source.{remaining_of, is_missing};
 
 use crate::task::Place;
 use std::io;
-use std::io::{ErrorKind, Read};
+use std::io::Read;
 
 /// What opens files.
 pub trait Open<F> {
@@ -18,25 +18,28 @@ pub trait Open<F> {
     /// The file at a place, opened to be read.
     fn open(&self, place: Place<'_>) -> F
         ensures { opens self.now place.entry result };
+
+    /// The file at a path, opened once more, or `None` where it can't be read twice.
+    fn open_again(&self, path: &str) -> Option<F>;
 }
 
-/// Standard input, a file that was opened, or the place of one that couldn't be. Each read of a
-/// missing one fails, so the task answers for it in its turn.
+/// Standard input, a file that was opened, or why one couldn't be. Each read of a missing one fails
+/// with that error, so the task answers for it in its turn.
 #[derive(Drop)]
 pub enum Source<I, F> {
     Input(I),
     Opened(F),
-    Missing,
+    Missing(io::Error),
 }
 
 impl<I, F> Source<I, F> {
     /// The source that the opening of a file gives.
     pub fn of(opened: io::Result<F>) -> Source<I, F>
-        ensures { MatchResult opened (λ file. result ≡ Source.Opened file) (λ _. result ≡ Source.Missing) }
+        ensures { MatchResult opened (λ file. result ≡ Source.Opened file) (λ error. result ≡ Source.Missing error) }
     {
         match opened {
             Ok(file) => Source::Opened(file),
-            Err(_) => Source::Missing,
+            Err(error) => Source::Missing(error),
         }
     }
 }
@@ -53,7 +56,15 @@ impl<I: Read, F: Read> Read for Source<I, F> {
         match self {
             Source::Input(input) => input.read(buf),
             Source::Opened(file) => file.read(buf),
-            Source::Missing => Err(io::Error::from(ErrorKind::NotFound)),
+            Source::Missing(error) => Err(same_error(error)),
         }
+    }
+}
+
+/// An error of the same kind, with the number that the system gave it.
+fn same_error(error: &io::Error) -> io::Error {
+    match error.raw_os_error() {
+        Some(code) => io::Error::from_raw_os_error(code),
+        None => io::Error::from(error.kind()),
     }
 }

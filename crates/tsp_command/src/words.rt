@@ -1,6 +1,6 @@
 //! What the words of the command line ask for.
 
-ghost use Rattle.std.specs.Prelude.{◌≡◌, ◌≢◌, IfOk, map};
+ghost use Rattle.std.specs.Prelude.{◌≡◌, ◌≢◌, ◌↔◌, IfOk, IsTrue, Some, codes, map, option_map};
 ghost use Rattle.std.specs.IoError.{error_kind};
 ghost use Rattle.clap.specs.Words.{first_of, found_of, kind_of, rows_of};
 ghost use Rattle.tsp_command.specs.Words.{GivesJob, IsFaultOf, IsRefused, IsVerbOf, HasValues, text_in};
@@ -51,6 +51,8 @@ pub struct Job {
     pub layout: Option<String>,
     /// The path of the potentials.
     pub potentials: Option<String>,
+    /// Whether a fault, or a no, is to be explained.
+    pub explain: bool,
 }
 
 /// Why words ask for nothing.
@@ -76,7 +78,8 @@ impl JobFault {
 }
 
 /// Reads the words of a command line, those after the program's own name: `show F`,
-/// `convert F [--layout L]`, `check F T [--potentials P]`, or no words at all.
+/// `convert F [--layout L]`, `check F T [--potentials P]`, each with `--explain` or without, or no
+/// words at all.
 ///
 /// # Errors
 ///
@@ -98,6 +101,7 @@ pub fn job_of(alloc: Global, words: &[&str]) -> Result<Job, JobFault>
             solution: None,
             layout: None,
             potentials: None,
+            explain: false,
         });
     };
     match job_with(alloc, Verb::of_word(name), found) {
@@ -142,6 +146,7 @@ fn job_with(alloc: Global, verb: Option<Verb>, found: &ArgMatches<'_>) -> Result
         solution: value(alloc, found, "T")?,
         layout: value(alloc, found, "L")?,
         potentials: value(alloc, found, "P")?,
+        explain: is_given(found, "E"),
     })
 }
 
@@ -153,4 +158,21 @@ fn value(alloc: Global, found: &ArgMatches<'_>, id: &str) -> Result<Option<Strin
         Some(text) => Ok(Some(String::from_str(alloc, text)?)),
         None => Ok(None),
     }
+}
+
+/// Whether an option without a value was given.
+fn is_given(found: &ArgMatches<'_>, id: &str) -> bool
+    ensures { IsTrue result ↔ (first_of id.now (rows_of (found_of found.now)) ≡ Some (codes "true")) }
+{
+    match text_of(found, id) {
+        Some("true") => true,
+        Some(_) | None => false,
+    }
+}
+
+/// The text that was found for an argument, where there is one.
+fn text_of<'a>(found: &ArgMatches<'a>, id: &str) -> Option<&'a str>
+    ensures { option_map (λ text. text.now) result ≡ first_of id.now (rows_of (found_of found.now)) }
+{
+    found.get_str(id)
 }

@@ -50,4 +50,15 @@ impl Open<Source<Stdin, File>> for Host<'_> {
             Place::Path(path) => Source::of(fs::open(self.rt, path)),
         }
     }
+
+    /// A pipe or a device gives its bytes once, and to open one could wait for ever.
+    fn open_again(&self, path: &str) -> Option<Source<Stdin, File>> {
+        match fs::metadata(self.rt, path) {
+            Ok(found) if found.is_file() || found.is_dir() => {
+                Some(Source::of(fs::open(self.rt, path)))
+            }
+            Ok(_) => None,
+            Err(error) => Some(Source::Missing(error)),
+        }
+    }
 }

@@ -1,0 +1,120 @@
+//! What a run's end means, for a person.
+
+use crate::ending::Ending;
+use crate::source::Open;
+use crate::task::TaskFault;
+use crate::words::Job;
+use std::alloc::{AllocError, Global};
+use std::io::Read;
+use tsp_explain::{
+    Blame, blamed, explain_file, explain_reason, push_lines, relayout_sentence, write_sentence,
+};
+use tsp_judge::{Reason, RunFault, Verdict};
+
+/// What explains how a job ended, line by line. Files that can be are looked at once more for it.
+/// It is cut short where there is no memory for more.
+pub(crate) fn explanation<F: Read + Drop, O: Open<F>>(
+    alloc: Global,
+    job: &Job,
+    ending: &Ending,
+    files: &O,
+) -> Vec<u8> {
+    let mut text = Vec::new(alloc);
+    let _ = push_explanation(alloc, &mut text, job, ending, files);
+    text
+}
+
+/// Appends what explains how a job ended.
+fn push_explanation<F: Read + Drop, O: Open<F>>(
+    alloc: Global,
+    text: &mut Vec<u8>,
+    job: &Job,
+    ending: &Ending,
+    files: &O,
+) -> Result<(), AllocError> {
+    match ending {
+        Ending::NoJob(_) | Ending::NoTask(TaskFault::MissingPath) => Ok(()),
+        Ending::NoTask(TaskFault::UnknownLayout) => push_lines(text, LAYOUTS),
+        Ending::Ended(Ok(Some(Verdict::No(reason)))) => {
+            push_reason(alloc, text, job, *reason, files)
+        }
+        Ending::Ended(Ok(_)) => Ok(()),
+        Ending::Ended(Err(fault)) => push_fault(alloc, text, job, *fault, files),
+    }
+}
+
+/// What a layout is.
+const LAYOUTS: &str =
+    "A layout is FULL_MATRIX, UPPER_ROW, LOWER_ROW, UPPER_DIAG_ROW, LOWER_DIAG_ROW,\n\
+    UPPER_COL, LOWER_COL, UPPER_DIAG_COL or LOWER_DIAG_COL, in capital letters.";
+
+/// What the first file of a check is.
+const KINDS: &str =
+    "The first file of a check is of TYPE TSP, ATSP or CVRP, and with --potentials of TYPE TSP or ATSP.\n\
+    The second file is the solution, of TYPE TOUR.";
+
+/// Appends what explains a fault of a task.
+fn push_fault<F: Read + Drop, O: Open<F>>(
+    alloc: Global,
+    text: &mut Vec<u8>,
+    job: &Job,
+    fault: RunFault,
+    files: &O,
+) -> Result<(), AllocError> {
+    match fault {
+        RunFault::File { file, fault } => {
+            let path = path_of(job, file);
+            explain_file(alloc, text, name_of(path), again(path, files), fault)
+        }
+        RunFault::WrongKind => push_lines(text, KINDS),
+        RunFault::Write(fault) => push_lines(text, write_sentence(fault)),
+        RunFault::OutOfMemory => push_lines(text, "There is no memory for what is to be done."),
+        RunFault::Relayout(fault) => push_lines(text, relayout_sentence(fault)),
+    }
+}
+
+/// Appends what explains a no.
+fn push_reason<F: Read + Drop, O: Open<F>>(
+    alloc: Global,
+    text: &mut Vec<u8>,
+    job: &Job,
+    reason: Reason,
+    files: &O,
+) -> Result<(), AllocError> {
+    let name = name_of(path_of(job, file_of(blamed(reason))));
+    let instance = again(path_of(job, 1), files);
+    let solution = again(path_of(job, 2), files);
+    explain_reason(alloc, text, name, reason, instance, solution)
+}
+
+/// The number of the file that a reason is about.
+fn file_of(blamed: Blame) -> u32 {
+    match blamed {
+        Blame::Instance => 1,
+        Blame::Solution => 2,
+        Blame::Potentials => 3,
+    }
+}
+
+/// The path of the file with this number, or `None` where it is standard input.
+fn path_of(job: &Job, file: u32) -> Option<&str> {
+    let path = match file {
+        1 => &job.file,
+        2 => &job.solution,
+        _ => &job.potentials,
+    };
+    match path {
+        Some(path) => Some(path.as_str()),
+        None => None,
+    }
+}
+
+/// What a file is called.
+fn name_of(path: Option<&str>) -> &str {
+    path.unwrap_or("standard input")
+}
+
+/// The file opened once more, where it can be.
+fn again<F: Read, O: Open<F>>(path: Option<&str>, files: &O) -> Option<F> {
+    files.open_again(path?)
+}

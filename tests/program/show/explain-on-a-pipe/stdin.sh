@@ -1,0 +1,1 @@
+printf 'TYPE : TSP\nFOO\n'
