@@ -5,12 +5,18 @@
 #[cfg(test)]
 mod asserts;
 #[cfg(test)]
-mod bound_check;
+mod bound_limits;
 #[cfg(test)]
-mod check;
+mod bytes;
 #[cfg(test)]
-mod convert;
+mod failures;
 #[cfg(test)]
-mod show;
+mod files;
+#[cfg(test)]
+mod limits;
+#[cfg(test)]
+mod pieces;
+#[cfg(test)]
+mod runs;
 #[cfg(test)]
 mod texts;

@@ -1,10 +1,11 @@
 //! Files about as long as the limit, of which two read a gigabyte, and other limits of a file.
 
-use super::{REPORT, THREE_NODES, TOUR, judged};
 use crate::asserts::{holds_at, same, same_at};
+use crate::files::{REPORT, THREE_NODES, TOUR};
 use std::alloc::{AllocError, Global};
+use std::io::Read;
 use std::test::Fail;
-use tsp_judge::{LineFault, ReadFault, RunFault};
+use tsp_judge::{LineFault, ReadFault, RunFault, run_check};
 use tsp_stream::Watched;
 use tsp_testing::devices::{Flood, Repeats};
 
@@ -16,6 +17,16 @@ const MOST_TAKEN: u64 = 1_073_741_824 + 4_096;
 
 /// How many bytes a unit of blanks has.
 const UNIT: usize = 4_096;
+
+/// What a check answers. (It has no contract, which the proofs of the tests would go through.)
+fn judged<I: Read, S: Read>(
+    alloc: Global,
+    inst: &mut Watched<I>,
+    sol: &mut Watched<S>,
+    out: &mut Watched<Vec<u8>>,
+) -> Result<bool, RunFault> {
+    run_check(alloc, inst, sol, out)
+}
 
 #[test]
 fn an_early_line_eof_ends_what_counts(rt: HostRuntime) {
