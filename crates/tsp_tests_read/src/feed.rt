@@ -5,53 +5,13 @@ mod limits;
 mod pieces;
 mod readers;
 
+use crate::answers::{Answer, answer};
 use std::alloc::Global;
 use std::test::Fail;
-use tsp_fields::{EndFault, File};
-use tsp_file::write_file;
+use tsp_fields::EndFault;
 use tsp_number::NumberFault;
-use tsp_read::{Feed, LineFault, ReadFault, read_bytes};
-use tsp_stream::Watched;
-use tsp_testing::devices::Drip;
+use tsp_read::{Feed, LineFault, ReadFault};
 use tsp_value::Field;
-
-/// What a reading answers: the canonical text of its file, or its fault.
-type Answer = Result<Vec<u8>, ReadFault>;
-
-/// The answer of a reading.
-fn answer(alloc: Global, read: Result<File, ReadFault>) -> Result<Answer, Fail> {
-    let file = match read {
-        Ok(file) => file,
-        Err(fault) => return Ok(Err(fault)),
-    };
-    let mut out = Watched::new(Drip::sound(alloc));
-    if write_file(alloc, &file, &mut out).is_err() {
-        return Err(Fail::from("not written"));
-    }
-    Ok(Ok(Vec::from_slice(alloc, out.into_inner().held())?))
-}
-
-/// The answer for a text as a whole.
-fn answer_of(alloc: Global, text: &[u8]) -> Result<Answer, Fail> {
-    answer(alloc, read_bytes(alloc, text))
-}
-
-/// What is answered for pieces, up to the first refusal.
-fn feed_all(feed: &mut Feed, pieces: &[&[u8]]) -> Result<(), ReadFault> {
-    for piece in pieces {
-        feed.feed(piece)?;
-    }
-    Ok(())
-}
-
-/// The answer for a text in these pieces: the first refusal, or what the end says.
-fn answer_in(alloc: Global, pieces: &[&[u8]]) -> Result<Answer, Fail> {
-    let mut feed = Feed::new(alloc);
-    match feed_all(&mut feed, pieces) {
-        Ok(()) => answer(alloc, feed.finish()),
-        Err(fault) => Ok(Err(fault)),
-    }
-}
 
 /// The answer for a text in pieces of one byte.
 fn answer_by_bytes(alloc: Global, text: &[u8]) -> Result<Answer, Fail> {
@@ -69,21 +29,16 @@ fn at(line: u32, word: u32, fault: LineFault) -> ReadFault {
     ReadFault::Line { line, word, fault }
 }
 
-/// A canonical text, as the answer of a reading.
-fn file(alloc: Global, canonical: &str) -> Result<Answer, Fail> {
-    Ok(Ok(Vec::from_slice(alloc, canonical.as_bytes())?))
+/// An answer whose canonical text is this one, or this fault.
+fn file(alloc: Global, wanted: &Result<&str, ReadFault>) -> Result<Answer, Fail> {
+    match wanted {
+        Ok(canonical) => Ok(Ok(Vec::from_slice(alloc, canonical.as_bytes())?)),
+        Err(fault) => Ok(Err(*fault)),
+    }
 }
 
 /// A text, and its answer: the canonical text of its file, or its fault.
 type Example = (&'static str, Result<&'static str, ReadFault>);
-
-/// An example's answer.
-fn wanted(alloc: Global, example: &Example) -> Result<Answer, Fail> {
-    match example.1 {
-        Ok(canonical) => file(alloc, canonical),
-        Err(fault) => Ok(Err(fault)),
-    }
-}
 
 /// A tour that ends with its line EOF.
 const TOUR: &str = "TYPE : TOUR\nTOUR_SECTION\n1 2 3\n-1\nEOF\n";

@@ -1,53 +1,35 @@
-//! Short texts in every cut into two pieces, and byte by byte.
+//! Short texts as a whole, in every cut into two pieces, and byte by byte.
 
-use super::{EXAMPLES, answer_by_bytes, answer_in, answer_of, wanted};
+use super::{EXAMPLES, Example, answer_by_bytes, file};
+use crate::answers::{answer_in, answer_of};
 use crate::asserts::same_at;
+use std::process::Abort;
 use std::test::Fail;
 
+/// Asserts that no cut of an example into two pieces changes its answer, with empty pieces between
+/// them and without.
+fn cuts_hold(rt: &(impl AllocGlobal + Abort), example: &Example) -> Result<(), Fail> {
+    let alloc = rt.alloc();
+    let text = example.0.as_bytes();
+    for cut in 0..text.len() + 1 {
+        let (front, back) = text.split_at(cut);
+        let found = answer_in(alloc, &[front, back])?;
+        same_at(rt, (example.0, cut), found, file(alloc, &example.1)?);
+        let found = answer_in(alloc, &[b"", front, b"", b"", back, b""])?;
+        same_at(rt, (example.0, cut), found, file(alloc, &example.1)?);
+    }
+    Ok(())
+}
+
 #[test]
-fn a_text_as_a_whole_has_its_answer(rt: HostRuntime) -> Result<(), Fail> {
+fn a_text_has_its_answer_however_it_is_cut(rt: HostRuntime) -> Result<(), Fail> {
     let alloc = rt.alloc();
     for example in EXAMPLES {
         let found = answer_of(alloc, example.0.as_bytes())?;
-        same_at(&rt, example.0, found, wanted(alloc, example)?);
-    }
-    Ok(())
-}
-
-#[test]
-fn no_cut_into_two_pieces_changes_an_answer(rt: HostRuntime) -> Result<(), Fail> {
-    let alloc = rt.alloc();
-    for example in EXAMPLES {
-        let text = example.0.as_bytes();
-        for cut in 0..text.len() + 1 {
-            let (front, back) = text.split_at(cut);
-            let found = answer_in(alloc, &[front, back])?;
-            same_at(&rt, (example.0, cut), found, wanted(alloc, example)?);
-        }
-    }
-    Ok(())
-}
-
-#[test]
-fn a_text_byte_by_byte_has_its_answer(rt: HostRuntime) -> Result<(), Fail> {
-    let alloc = rt.alloc();
-    for example in EXAMPLES {
+        same_at(&rt, example.0, found, file(alloc, &example.1)?);
         let found = answer_by_bytes(alloc, example.0.as_bytes())?;
-        same_at(&rt, example.0, found, wanted(alloc, example)?);
-    }
-    Ok(())
-}
-
-#[test]
-fn an_empty_piece_changes_nothing(rt: HostRuntime) -> Result<(), Fail> {
-    let alloc = rt.alloc();
-    for example in EXAMPLES {
-        let text = example.0.as_bytes();
-        for cut in 0..text.len() + 1 {
-            let (front, back) = text.split_at(cut);
-            let found = answer_in(alloc, &[b"", front, b"", b"", back, b""])?;
-            same_at(&rt, (example.0, cut), found, wanted(alloc, example)?);
-        }
+        same_at(&rt, example.0, found, file(alloc, &example.1)?);
+        cuts_hold(&rt, example)?;
     }
     Ok(())
 }

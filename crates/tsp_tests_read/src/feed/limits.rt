@@ -1,6 +1,7 @@
 //! Lines, words and texts at their limits, in pieces.
 
-use super::{answer_in, at, feed_all, file};
+use super::{at, file};
+use crate::answers::{answer_in, feed_all};
 use crate::asserts::{same, same_at};
 use std::alloc::Global;
 use std::test::Fail;
@@ -34,13 +35,13 @@ fn a_line_of_4_096_bytes_in_pieces_is_read(rt: HostRuntime) -> Result<(), Fail> 
     for cut in CUTS {
         let (front, back) = cut_at(line.as_str(), *cut);
         let found = answer_in(alloc, &[front, back, b"\nTOUR_SECTION\n1"])?;
-        same_at(&rt, cut, found, file(alloc, canonical)?);
+        same_at(&rt, cut, found, file(alloc, &Ok(canonical))?);
         let indented: [&[u8]; 5] = [&[b' '; 5_000], b"\t", front, back, b"\nTOUR_SECTION\n1"];
         same_at(
             &rt,
             cut,
             answer_in(alloc, &indented)?,
-            file(alloc, canonical)?,
+            file(alloc, &Ok(canonical))?,
         );
     }
     Ok(())
@@ -78,9 +79,9 @@ fn a_word_of_64_bytes_cut_anywhere_is_read(rt: HostRuntime) -> Result<(), Fail> 
     for cut in 0..65 {
         let (front, back) = NODE.split_at(cut);
         let found = answer_in(alloc, &[BEFORE, front, back])?;
-        same_at(&rt, cut, found, file(alloc, canonical)?);
+        same_at(&rt, cut, found, file(alloc, &Ok(canonical))?);
         let found = answer_in(alloc, &[BEFORE, front, back, b"\n"])?;
-        same_at(&rt, cut, found, file(alloc, canonical)?);
+        same_at(&rt, cut, found, file(alloc, &Ok(canonical))?);
     }
     Ok(())
 }

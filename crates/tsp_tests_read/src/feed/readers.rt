@@ -1,8 +1,8 @@
 //! Readers that hand out little at a time, and readers that must not be asked once more.
 
-use super::{Answer, CANONICAL_TOUR, EXAMPLES, RECTANGLE, TOUR, answer, at, file, wanted};
+use super::{CANONICAL_TOUR, EXAMPLES, RECTANGLE, TOUR, at, file};
+use crate::answers::answer_from;
 use crate::asserts::{holds_at, same, same_at};
-use std::alloc::Global;
 use std::io::{Error, ErrorKind, Read, Result as IoResult};
 use std::test::Fail;
 use tsp_number::NumberFault::BadNumber;
@@ -10,11 +10,6 @@ use tsp_read::LineFault::{Number, Outside, UnknownLine};
 use tsp_read::{ReadFault, read_from};
 use tsp_stream::Watched;
 use tsp_testing::devices::{Flood, Trickle};
-
-/// What reading from a reader answers.
-fn answer_from<R: Read>(alloc: Global, reader: &mut Watched<R>) -> Result<Answer, Fail> {
-    answer(alloc, read_from(alloc, reader))
-}
 
 /// A reader that hands out all that it has at its first read, and fails at the next.
 #[derive(Drop)]
@@ -48,7 +43,7 @@ fn a_reader_of_few_bytes_a_call_gives_the_same_answer(rt: HostRuntime) -> Result
         for most in [1usize, 2, 7] {
             let mut reader = Watched::new(Trickle::by(example.0.as_bytes(), most));
             let found = answer_from(alloc, &mut reader)?;
-            same_at(&rt, (example.0, most), found, wanted(alloc, example)?);
+            same_at(&rt, (example.0, most), found, file(alloc, &example.1)?);
             holds_at(&rt, (example.0, most), !reader.failed());
         }
     }
@@ -81,7 +76,7 @@ fn a_reader_is_not_asked_again_once_its_answer_is_settled(rt: HostRuntime) -> Re
     for example in settled() {
         let mut reader = Once::new(example.0);
         let found = answer_from(alloc, &mut reader)?;
-        same_at(&rt, example.0, found, wanted(alloc, &example)?);
+        same_at(&rt, example.0, found, file(alloc, &example.1)?);
         holds_at(&rt, example.0, !reader.failed());
         same_at(&rt, example.0, reader.into_inner().calls, 1);
     }
@@ -116,7 +111,7 @@ fn a_reader_that_never_ends_is_left_at_its_line_eof(rt: HostRuntime) -> Result<(
     same(
         &rt,
         answer_from(alloc, &mut reader)?,
-        file(alloc, CANONICAL_TOUR)?,
+        file(alloc, &Ok(CANONICAL_TOUR))?,
     );
     same(&rt, reader.into_inner().given(), TOUR.len() as u64);
     Ok(())

@@ -1,6 +1,6 @@
 //! Each limit of a text, in digits: what is still read, and what isn't.
 
-use super::{LineRow, at, fault_of, file_of, have_line_faults};
+use super::{at, fault_of};
 use crate::asserts::same_at;
 use std::alloc::{AllocError, Global};
 use std::test::Fail;
@@ -9,7 +9,7 @@ use tsp_number::NumberFault::{BadNumber, LongWord, OutOfRange};
 use tsp_read::LineFault::{
     AfterEnd, BadValue, LongLine, Number, StrayNumber, Surplus, UnknownLine,
 };
-use tsp_read::{LineFault, ReadFault};
+use tsp_read::{LineFault, ReadFault, read_bytes};
 use tsp_value::Field;
 
 /// The fault of a text that has no line with a fault, and no TYPE.
@@ -68,7 +68,7 @@ fn a_word_line_has_4_096_bytes_with_the_blanks_at_its_end(rt: HostRuntime) -> Re
 fn a_number_line_has_any_length(rt: HostRuntime) -> Result<(), Fail> {
     let nodes = "    1   ".repeat(rt.alloc(), 10_000)?;
     let text = format!(in rt.alloc(); "TYPE : TOUR\nTOUR_SECTION\n{nodes}\n")?;
-    let file = file_of(rt.alloc(), text.as_str())?;
+    let file = read_bytes(rt.alloc(), text.as_bytes())?;
     let tours = file.tours().ok_or("no tours")?;
     assert_eq!(rt; tours.len(), 1);
     same_at(&rt, "each word", tours[0].len(), 10_000);
@@ -311,30 +311,4 @@ fn after_a_million_nodes_of_tours_a_good_node_is_surplus(rt: HostRuntime) -> Res
         same_at(&rt, tail, found, on_line(2, *word, *fault));
     }
     Ok(())
-}
-
-const LARGE: &[LineRow] = &[
-    (
-        "DIMENSION : 100000\nDEMAND_SECTION\n100000 0\n100001 0\n",
-        4,
-        1,
-        Number(OutOfRange),
-    ),
-    (
-        "DIMENSION : 100000\nDEPOT_SECTION\n100000 100001",
-        3,
-        2,
-        Number(OutOfRange),
-    ),
-    (
-        "DIMENSION : 100000\nFIXED_EDGES\n100000 100001",
-        3,
-        2,
-        Number(OutOfRange),
-    ),
-];
-
-#[test]
-fn nodes_are_at_most_100_000(rt: HostRuntime) {
-    have_line_faults(&rt, LARGE);
 }

@@ -1,26 +1,8 @@
 //! A line and a word of the most bytes, in pieces of one size.
 
-use super::written;
+use crate::answers::answer_in;
 use crate::asserts::same_at;
-use std::alloc::Global;
 use std::test::Fail;
-use tsp_read::{Feed, ReadFault};
-
-/// What the pieces of a text answer: the canonical text of its file, or the fault of a piece or of
-/// the end.
-fn answer_to(alloc: Global, pieces: &[&[u8]]) -> Result<Result<Vec<u8>, ReadFault>, Fail> {
-    let mut feed = Feed::new(alloc);
-    for piece in pieces {
-        match feed.feed(piece) {
-            Ok(()) => {}
-            Err(fault) => return Ok(Err(fault)),
-        }
-    }
-    match feed.finish() {
-        Ok(file) => Ok(Ok(written(alloc, &file)?)),
-        Err(fault) => Ok(Err(fault)),
-    }
-}
 
 #[test]
 fn lines_and_words_of_the_most_bytes_are_taken_in_pieces(rt: HostRuntime) -> Result<(), Fail> {
@@ -34,7 +16,7 @@ fn lines_and_words_of_the_most_bytes_are_taken_in_pieces(rt: HostRuntime) -> Res
         for piece in text.as_bytes().chunks(size) {
             pieces.push(piece)?;
         }
-        match answer_to(alloc, pieces.as_slice())? {
+        match answer_in(alloc, pieces.as_slice())? {
             Ok(file) => same_at(&rt, size, file.as_slice(), canonical.as_bytes()),
             Err(fault) => same_at(&rt, size, Some(fault), None),
         }

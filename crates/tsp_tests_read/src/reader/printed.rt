@@ -1,6 +1,5 @@
 //! The texts of faults, which no contract states.
 
-use super::fault_of;
 use crate::asserts::same_at;
 use std::process::Abort;
 use std::test::Fail;
@@ -79,40 +78,6 @@ fn faults_of_lines_print_the_line_the_word_and_the_name(rt: HostRuntime) -> Resu
             fault: *fault,
         };
         prints(&rt, fault, text.as_str())?;
-    }
-    Ok(())
-}
-
-/// Texts of files, and what their faults print.
-const TEXTS: &[(&str, &str)] = &[
-    (
-        "TYPE : TSP\nDIMENSION : 3\nEDGE_WEIGHT_TYPE : EUC_2D\nNODE_COORD_SECTION\n1 0 0\n2 3 x\n3 3 4\nEOF\n",
-        "line 6 word 3: Number BadNumber",
-    ),
-    (
-        "TYPE : TSP\nDIMENSION : 3\nEDGE_WEIGHT_TYPE : EUC_2D\nNODE_COORD_SECTION\n1 0 0\n2 3 0",
-        "end: Incomplete NODE_COORD_SECTION",
-    ),
-    (
-        "TYPE : TSP\nDIMENSION : 3\nDIMENSION : 4\n",
-        "line 3 word 0: Repeated",
-    ),
-    ("", "end: Missing TYPE"),
-    (
-        "DIMENSION : 2\nFIXED_EDGES\nFIXED_EDGES_SECTION\n",
-        "line 3 word 0: Repeated",
-    ),
-    (
-        "TYPE : TOUR\nTOUR_SECTION\nDIMENSION : 2\nFIXED_EDGES\n1\n",
-        "end: Incomplete FIXED_EDGES_SECTION",
-    ),
-];
-
-#[test]
-fn faults_of_texts_are_printed_with_their_places(rt: HostRuntime) -> Result<(), Fail> {
-    for (text, wanted) in TEXTS {
-        let fault = fault_of(rt.alloc(), text.as_bytes()).ok_or("no fault")?;
-        prints(&rt, fault, wanted)?;
     }
     Ok(())
 }

@@ -1,36 +1,18 @@
 //! Texts that come from a reader: one that does little at a time, fails, or never ends.
 
-use super::{at, written};
+use super::at;
+use crate::answers::{answer_from, answer_of};
 use crate::asserts::{holds, holds_at, same, same_at};
 use std::alloc::Global;
 use std::io::{ErrorKind, Read};
 use std::test::Fail;
 use tsp_fields::EndFault;
 use tsp_number::NumberFault::BadNumber;
-use tsp_read::LineFault::{Number, UnknownLine};
-use tsp_read::{ReadFault, read_bytes, read_from};
+use tsp_read::LineFault::Number;
+use tsp_read::{ReadFault, read_from};
 use tsp_stream::Watched;
 use tsp_testing::devices::{Flood, Trickle, outcome};
 use tsp_value::Field;
-
-/// What a reading answers: the canonical text of its file, or its fault.
-type Answer = Result<Vec<u8>, ReadFault>;
-
-/// What reading these bytes answers.
-fn answer_of(alloc: Global, bytes: &[u8]) -> Result<Answer, Fail> {
-    match read_bytes(alloc, bytes) {
-        Ok(file) => Ok(Ok(written(alloc, &file)?)),
-        Err(fault) => Ok(Err(fault)),
-    }
-}
-
-/// What reading from a reader answers.
-fn answer_from<R: Read>(alloc: Global, reader: &mut Watched<R>) -> Result<Answer, Fail> {
-    match read_from(alloc, reader) {
-        Ok(file) => Ok(Ok(written(alloc, &file)?)),
-        Err(fault) => Ok(Err(fault)),
-    }
-}
 
 /// A file of tours in more than 4,096 bytes, with its canonical text.
 fn long_file(alloc: Global) -> Result<(String, String), Fail> {
