@@ -4,7 +4,6 @@ use Rattle.tsp_judge.specs.declared.Watched.{Watched}
 use Rattle.tsp_judge.specs.Turn.{turn_of, TakesAtMost}
 use Rattle.tsp_judge.specs.Sink.{Sink}
 use Rattle.tsp_judge.specs.Reads.{most_taken}
-use Rattle.tsp_judge.specs.declared.Layout.{Layout}
 use Rattle.tsp_judge.specs.declared.fault.RunFault.{RunFault}
 use Rattle.tsp_judge.specs.ShowRun.{IsShowRun}
 use Rattle.tsp_judge.specs.ConvertRun.{IsConvertRun}
