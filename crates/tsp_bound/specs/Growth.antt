@@ -73,7 +73,8 @@ IsNearer weight next old_near old_least new_near new_least = ((new_near ≡ old_
 abbrev pub IsLowered : List (ℕ × ℤ) → ℤ → ℕ → ℕ → ℕ → ℤ → ℕ → ℤ → Type 0
 IsLowered lowerings weight next x old_near old_least new_near new_least =
     (All (λ lowering. lowering.0 ≢ x) lowerings × (new_near ≡ old_near) × (new_least ≡ old_least))
-    ⊎ ((number : ℤ) × Contains lowerings (x, number) × IsNearer (weight -ℤ number) next old_near old_least new_near new_least)
+    ⊎ ((number : ℤ) × Contains lowerings (x, number)
+    × IsNearer (weight -ℤ number) next old_near old_least new_near new_least)
 
 -- so for each node outside
 abbrev pub AreLowered : ℕ → (ℕ → ℕ → ℤ) → List (ℕ × ℤ) → List Bool → ℕ → List ℕ → List ℤ → List ℕ → List ℤ → Type 0

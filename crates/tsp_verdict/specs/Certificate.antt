@@ -89,7 +89,8 @@ BoundsTours inst bound = (other : List ℕ) → IsTourOf inst other → bound �
 
 -- the bound that the certificate gives, which no such walk and no tour is below, and sums with which fit 128 bits
 abbrev pub IsCertified : Fields → Fields → ℤ → Type 0
-IsCertified inst pot bound = IsBoundBy inst.kind inst pot bound × BoundsWalks inst pot bound × BoundsTours inst bound × IsBoundSized bound
+IsCertified inst pot bound = IsBoundBy inst.kind inst pot bound × BoundsWalks inst pot bound
+    × BoundsTours inst bound × IsBoundSized bound
 
 -- a pair is listed, in either direction
 abbrev pub IsListed : List (ℕ × ℕ) → ℕ × ℕ → Type 0
