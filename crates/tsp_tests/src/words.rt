@@ -1,6 +1,6 @@
 //! The words of TSPLIB 95 and of this project's own additions, spelled out.
 
-use crate::asserts::{same, same_at};
+use crate::asserts::same_at;
 use std::fmt::Debug;
 use std::process::Abort;
 use tsp_value::{
@@ -44,11 +44,6 @@ const FIELDS: &[(Field, &str)] = &[
     (Field::ColumnPotentialPart, "COLUMN_POTENTIAL_SECTION"),
 ];
 
-#[test]
-fn fields_stand_in_canonical_order_and_have_their_words(rt: HostRuntime) {
-    are_all_with_their_words(&rt, FIELDS);
-}
-
 const KINDS: &[(Kind, &str)] = &[
     (Kind::Tsp, "TSP"),
     (Kind::Atsp, "ATSP"),
@@ -56,11 +51,6 @@ const KINDS: &[(Kind, &str)] = &[
     (Kind::Tour, "TOUR"),
     (Kind::Potentials, "POTENTIALS"),
 ];
-
-#[test]
-fn each_type_has_its_word(rt: HostRuntime) {
-    are_all_with_their_words(&rt, KINDS);
-}
 
 const WEIGHT_KINDS: &[(WeightKind, &str)] = &[
     (WeightKind::Explicit, "EXPLICIT"),
@@ -70,11 +60,6 @@ const WEIGHT_KINDS: &[(WeightKind, &str)] = &[
     (WeightKind::Max2d, "MAX_2D"),
     (WeightKind::Att, "ATT"),
 ];
-
-#[test]
-fn each_weight_type_has_its_word(rt: HostRuntime) {
-    are_all_with_their_words(&rt, WEIGHT_KINDS);
-}
 
 const WEIGHT_FORMATS: &[(WeightFormat, &str)] = &[
     (WeightFormat::ByFunction, "FUNCTION"),
@@ -89,20 +74,10 @@ const WEIGHT_FORMATS: &[(WeightFormat, &str)] = &[
     (WeightFormat::Listed(Layout::LowerDiagCol), "LOWER_DIAG_COL"),
 ];
 
-#[test]
-fn each_weight_format_has_its_word(rt: HostRuntime) {
-    are_all_with_their_words(&rt, WEIGHT_FORMATS);
-}
-
 const COORD_KINDS: &[(CoordKind, &str)] = &[
     (CoordKind::TwoD, "TWOD_COORDS"),
     (CoordKind::NoCoords, "NO_COORDS"),
 ];
-
-#[test]
-fn each_kind_of_coordinates_has_its_word(rt: HostRuntime) {
-    are_all_with_their_words(&rt, COORD_KINDS);
-}
 
 const DISPLAY_KINDS: &[(DisplayKind, &str)] = &[
     (DisplayKind::Coord, "COORD_DISPLAY"),
@@ -111,30 +86,26 @@ const DISPLAY_KINDS: &[(DisplayKind, &str)] = &[
 ];
 
 #[test]
-fn each_kind_of_display_has_its_word(rt: HostRuntime) {
+fn values_stand_in_their_order_and_have_their_words(rt: HostRuntime) {
+    are_all_with_their_words(&rt, FIELDS);
+    are_all_with_their_words(&rt, KINDS);
+    are_all_with_their_words(&rt, WEIGHT_KINDS);
+    are_all_with_their_words(&rt, WEIGHT_FORMATS);
+    are_all_with_their_words(&rt, COORD_KINDS);
     are_all_with_their_words(&rt, DISPLAY_KINDS);
+}
+
+/// Asserts that these words have no value.
+fn have_no_value<V: Word + PartialEq + Debug + Drop>(rt: &impl Abort, words: &[&'static str]) {
+    for word in words {
+        same_at(rt, word, value_of::<V>(word.as_bytes()), None);
+    }
 }
 
 #[test]
 fn other_words_have_no_value(rt: HostRuntime) {
-    for word in [
-        b"".as_slice(),
-        b"tsp".as_slice(),
-        b"TSP ".as_slice(),
-        b"TS".as_slice(),
-        b"TSPS".as_slice(),
-        b"HCP".as_slice(),
-        b"SOP".as_slice(),
-    ] {
-        same_at(&rt, word, value_of::<Kind>(word), None);
-    }
-    for word in [
-        b"GEO".as_slice(),
-        b"EUC_3D".as_slice(),
-        b"SPECIAL".as_slice(),
-    ] {
-        same_at(&rt, word, value_of::<WeightKind>(word), None);
-    }
-    same(&rt, value_of::<CoordKind>(b"THREED_COORDS"), None);
-    same(&rt, value_of::<Field>(b"FIXED_EDGES"), None);
+    have_no_value::<Kind>(&rt, &["", "tsp", "TSP ", "TS", "TSPS", "HCP", "SOP"]);
+    have_no_value::<WeightKind>(&rt, &["GEO", "EUC_3D", "SPECIAL"]);
+    have_no_value::<CoordKind>(&rt, &["THREED_COORDS"]);
+    have_no_value::<Field>(&rt, &["FIXED_EDGES"]);
 }
