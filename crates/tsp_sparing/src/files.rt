@@ -2,7 +2,7 @@
 
 use std::alloc::Global;
 use tsp_bound::{Duals, dual_bound};
-use tsp_cost::{Costs, Instance, canonical_length, symmetric_fault, tour_length};
+use tsp_cost::{Costs, Instance, View, canonical_length, symmetric_fault, tour_length};
 use tsp_fields::{Draft, DraftFault, EndFault, File};
 use tsp_read::{Feed, ReadFault};
 use tsp_value::{Field, Kind, Layout, WeightFormat, WeightKind};
@@ -40,13 +40,46 @@ fn is_no_instance(alloc: Global) -> bool {
             false
         }
         Err((_, file)) => {
-            let same = file.kind() == Kind::Tour
-                && file.name().is_none()
-                && file.weights().is_none();
+            let right = has_empty_tours(&file);
             drop(file);
-            same
+            right
         }
     }
+}
+
+/// The file has its TYPE, an empty list of tours, and nothing else.
+fn has_empty_tours(file: &File) -> bool {
+    file.kind() == Kind::Tour
+        && file.tours().is_some()
+        && has_no_keywords(file)
+        && has_no_sections(file)
+}
+
+/// The file has no keyword but its TYPE.
+fn has_no_keywords(file: &File) -> bool {
+    file.name().is_none()
+        && file.comments().is_empty()
+        && file.others().is_empty()
+        && file.dimension().is_none()
+        && file.capacity().is_none()
+        && file.scale().is_none()
+        && file.weight_kind().is_none()
+        && file.weight_format().is_none()
+        && file.coord_kind().is_none()
+        && file.display_kind().is_none()
+}
+
+/// The file has no section but its tours.
+fn has_no_sections(file: &File) -> bool {
+    file.coords().is_none()
+        && file.display().is_none()
+        && file.demands().is_none()
+        && file.depots().is_none()
+        && file.fixed().is_none()
+        && file.weights().is_none()
+        && file.node_potentials().is_none()
+        && file.row_potentials().is_none()
+        && file.column_potentials().is_none()
 }
 
 /// A matrix of one node without its diagonal is an instance.
@@ -81,7 +114,11 @@ fn has_no_costs(instance: &Instance) -> bool {
     let Some(duals) = Duals::new(1, &[0], &[0]) else {
         return false;
     };
-    instance.cost(1, 1) == 0
+    let View::Triangle(triangle) = instance.view() else {
+        return false;
+    };
+    triangle.count() == 1
+        && instance.cost(1, 1) == 0
         && tour_length(instance, &[1]) == 0
         && canonical_length(instance) == 0
         && symmetric_fault(instance).is_none()

@@ -1,9 +1,9 @@
 //! Number words, distances, values, streams and the numbers of certificates.
 
-use tsp_bound::{Duals, Potentials};
+use tsp_bound::{Duals, Multipliers, Potentials};
 use tsp_number::{
-    Decimal, NumberFault, Point, att, ceil_2d, euc_2d, man_2d, max_2d, parse_decimal, parse_whole,
-    write_decimal,
+    Decimal, NumberFault, Point, att, ceil_2d, euc_2d, front_decimal, front_whole, man_2d, max_2d,
+    parse_decimal, parse_whole, write_decimal,
 };
 use tsp_stream::Watched;
 use tsp_value::Layout;
@@ -22,6 +22,8 @@ fn are_words() -> bool {
         && write_decimal(number).as_slice() == b"1.5".as_slice()
         && parse_whole(b"-7", -10, 10) == Ok(-7)
         && parse_whole(b"11", -10, 10) == Err(NumberFault::OutOfRange)
+        && front_whole(b"12 7") == Some((12, 2))
+        && front_decimal(b"1.5 7") == Some((number, 3))
 }
 
 /// The five distances between two ends of a rectangle with the sides 3 and 4.
@@ -51,4 +53,5 @@ fn are_others() -> bool {
         && Potentials::new(1, &[0, 2]).is_some()
         && Potentials::new(0, &[0, 2]).is_none()
         && Duals::new(1, &[0], &[0, 1]).is_none()
+        && Multipliers::new(&[(1, 2, 3)]).is_some()
 }
