@@ -18,6 +18,7 @@ struct Decimal {
 struct Point {
     x: Decimal,
     y: Decimal,
+    z: Decimal,
 }
 
 #[derive(Clone, Copy)]
@@ -321,7 +322,7 @@ fn write_decimal(decimal: Decimal) -> Word {
 #[cold]
 #[inline(never)]
 fn exact_root(covers: impl Fn(u64) -> bool) -> i64 {
-    let (mut low, mut high) = (0u64, 2_828_427_125u64);
+    let (mut low, mut high) = (0u64, 3_464_101_615u64);
     while low < high {
         let middle = (low + high) / 2;
         if covers(middle) {
@@ -400,6 +401,36 @@ fn man_2d(a: Point, b: Point) -> i64 {
 #[inline(never)]
 fn max_2d(a: Point, b: Point) -> i64 {
     let most = a.x.nanos.abs_diff(b.x.nanos).max(a.y.nanos.abs_diff(b.y.nanos));
+    ((most + UNIT / 2) / UNIT) as i64
+}
+
+#[inline(never)]
+fn euc_3d(a: Point, b: Point) -> i64 {
+    let (x, y, square) = ways(a, b);
+    let way = a.z.nanos - b.z.nanos;
+    let z = way as f64;
+    let square = square + i128::from(way) * i128::from(way);
+    let whole = whole_of((x * x + y * y + z * z).sqrt() * 1e-9 + 0.5);
+    let edge = i128::from(2 * whole + 1) * i128::from(UNIT);
+    let past = edge * edge - 4 * square;
+    if past > 0 && (past <= i128::from(whole) * (8 * SQUARE_UNIT) || whole == 0) {
+        return whole;
+    }
+    exact_root(|whole| {
+        let edge = i128::from(2 * whole + 1) * i128::from(UNIT);
+        4 * square < edge * edge
+    })
+}
+
+#[inline(never)]
+fn man_3d(a: Point, b: Point) -> i64 {
+    let sum = a.x.nanos.abs_diff(b.x.nanos) + a.y.nanos.abs_diff(b.y.nanos) + a.z.nanos.abs_diff(b.z.nanos);
+    ((sum + UNIT / 2) / UNIT) as i64
+}
+
+#[inline(never)]
+fn max_3d(a: Point, b: Point) -> i64 {
+    let most = a.x.nanos.abs_diff(b.x.nanos).max(a.y.nanos.abs_diff(b.y.nanos)).max(a.z.nanos.abs_diff(b.z.nanos));
     ((most + UNIT / 2) / UNIT) as i64
 }
 
@@ -491,6 +522,9 @@ fn work(name: &str, text: &[u8], words: &[Word], list: &[Decimal], points: &[Poi
         "att" => sum = distances(points, rounds, att),
         "man_2d" => sum = distances(points, rounds, man_2d),
         "max_2d" => sum = distances(points, rounds, max_2d),
+        "euc_3d" => sum = distances(points, rounds, euc_3d),
+        "man_3d" => sum = distances(points, rounds, man_3d),
+        "max_3d" => sum = distances(points, rounds, max_3d),
         _ => {}
     }
     sum
@@ -510,7 +544,8 @@ fn main() {
     };
     let words: Vec<Word> = list.iter().map(|decimal| write_decimal(*decimal)).collect();
     let text: Vec<u8> = words.iter().flat_map(|word| [word.as_slice(), b" "].concat()).collect();
-    let points: Vec<Point> = list.windows(2).map(|pair| Point { x: pair[0], y: pair[1] }).collect();
+    let points: Vec<Point> =
+        list.windows(3).map(|three| Point { x: three[0], y: three[1], z: three[2] }).collect();
     let start = Instant::now();
     let sum = work(name, &text, &words, &list, &points, rounds);
     let took = start.elapsed();

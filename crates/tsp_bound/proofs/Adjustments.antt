@@ -1,15 +1,15 @@
 -- The bound of a least 1-tree under adjusted weights.
-use Rattle.std.proofs.Common.{◌≡◌, ℕ, ◌≤◌, ◌==◌, ◌&&◌, ◌||◌, Bool, true, false, List, [], ◌∷◌, ℤ, ◌+ℤ◌, ◌≤ℤ◌, refl, arith, ap, ap₂, subst₂, ◌∙◌}
+use Rattle.std.proofs.Common.{◌≡◌, ℕ, ◌≤◌, ◌==◌, ◌&&◌, ◌||◌, Bool, true, false, List, [], ◌∷◌, length, ℤ, ◌+ℤ◌, ◌≤ℤ◌, refl, arith, ap, ap₂, subst₂, ◌∙◌}
 use Rattle.std.specs.Prelude.{pos, ◌-ℤ◌, ◌*ℤ◌, if◌then◌else◌}
 use Rattle.std.specs.List.{AllByRecursion}
 use Rattle.std.proofs.lemmas.Int.{ints}
 use Rattle.std.proofs.lemmas.List.Elements.{recursion_from_All}
 use Rattle.tsp_cost.specs.Walk.{IsWalk, links, AreNeighbours}
 use Rattle.tsp_cost.specs.Length.{sum_int_by, length_of}
-use Rattle.tsp_bound.specs.Numbers.{entry}
+use Rattle.tsp_bound.specs.Numbers.{IsScale, entry, total}
 use Rattle.tsp_bound.specs.Tree.{weight_of}
 use Rattle.tsp_bound.specs.NodeBound.{weight_between}
-use Rattle.tsp_bound.specs.Adjusted.{pair_of, is_same_pair, number_on, numbers_on, total_of, adjusted, AdjustedBoundsBoundWalks, UnadjustedBoundsAreNodeBounds}
+use Rattle.tsp_bound.specs.Adjusted.{pair_of, is_same_pair, number_on, numbers_on, total_of, adjusted, UsesEach, UsesNone, AdjustedBoundsBoundWalks, UnadjustedBoundsAreNodeBounds}
 use Rattle.tsp_bound.proofs.CostLaws.{Laws, entries_of_links}
 use Rattle.tsp_bound.proofs.Duality.{scaled_length}
 use Rattle.tsp_bound.proofs.Weights.{weight_even}
@@ -47,7 +47,7 @@ adjusted_even taken avoided w even i j = ap₂ (λ a b. a +ℤ b) (ap₂ (λ a b
 
 -- ---- the numbers along a walk
 
-sum_zero : {X : Type 0} (xs : List X) → sum_int_by (λ x. pos 0) xs ≡ pos 0
+pub sum_zero : {X : Type 0} (xs : List X) → sum_int_by (λ x. pos 0) xs ≡ pos 0
 sum_zero [] = refl
 sum_zero (x ∷ xs) = omega (arith, ints, sum_zero xs)
 
@@ -70,7 +70,7 @@ numbers_of_unused nodes (t ∷ ts) laws unused =
     let rest = numbers_of_unused nodes ts laws unused.1 in
     omega (arith, ints, split, first, rest)
 
-difference : {X : Type 0} (f g : X → ℤ) (xs : List X) → sum_int_by (λ x. f x -ℤ g x) xs ≡ sum_int_by f xs -ℤ sum_int_by g xs
+pub difference : {X : Type 0} (f g : X → ℤ) (xs : List X) → sum_int_by (λ x. f x -ℤ g x) xs ≡ sum_int_by f xs -ℤ sum_int_by g xs
 difference f g [] = omega (arith, ints)
 difference f g (x ∷ xs) = let rest = difference f g xs in omega (arith, ints, rest)
 
@@ -82,17 +82,25 @@ adjusted_length taken avoided w nodes laws =
     let inner = difference (λ (link : ℕ × ℕ). w link.0 link.1) (λ (link : ℕ × ℕ). numbers_on taken link.0 link.1) (links nodes) in
     omega (arith, ints, outer, inner)
 
-pub adjusted_bounds_bound_walks : Laws → AdjustedBoundsBoundWalks
-adjusted_bounds_bound_walks laws n cost scale potentials taken avoided bound nodes some even scale_in long is walk used unused =
-    let w = weight_between scale potentials cost in
-    let below = least_tree_below laws n (adjusted taken avoided w) is.tree nodes some (adjusted_even taken avoided w (weight_even scale potentials cost even)) is.least walk in
-    let own = adjusted_length taken avoided w nodes laws in
+-- what a walk weighs that uses each taken pair and no avoided one
+pub adjusted_walk : (n : ℕ) (cost : ℕ → ℕ → ℤ) (scale : ℤ) (potentials : List ℤ) (taken avoided : List (ℕ × ℕ × ℤ)) (nodes : List ℕ) → Laws → 3 ≤ n → IsScale scale → length potentials ≡ n
+    → IsWalk n nodes → UsesEach taken nodes → UsesNone avoided nodes
+    → length_of (adjusted taken avoided (weight_between scale potentials cost)) nodes ≡ ((scale *ℤ length_of cost nodes) +ℤ (pos 2 *ℤ total potentials)) -ℤ total_of taken
+adjusted_walk n cost scale potentials taken avoided nodes laws some scale_in long walk used unused =
+    let own = adjusted_length taken avoided (weight_between scale potentials cost) nodes laws in
     let less = numbers_of_used n nodes taken laws some walk (recursion_from_All (λ t. AreNeighbours nodes (pair_of t)) taken used) in
     let more = numbers_of_unused nodes avoided laws (recursion_from_All (λ t. AreNeighbours nodes (pair_of t) → ⊥) avoided unused) in
     let split = laws.sum (λ i j. scale *ℤ cost i j) (λ i j. entry potentials i +ℤ entry potentials j) nodes in
     let sums = entries_of_links n nodes potentials potentials laws long long walk in
     let whole = scaled_length scale cost nodes laws scale_in in
-    is.bound_is.least (length_of cost nodes) (omega (arith, ints, below, own, less, more, split, sums, whole))
+    omega (arith, ints, own, less, more, split, sums, whole)
+
+pub adjusted_bounds_bound_walks : Laws → AdjustedBoundsBoundWalks
+adjusted_bounds_bound_walks laws n cost scale potentials taken avoided bound nodes some even scale_in long is walk used unused =
+    let w = weight_between scale potentials cost in
+    let below = least_tree_below laws n (adjusted taken avoided w) is.tree nodes some (adjusted_even taken avoided w (weight_even scale potentials cost even)) is.least walk in
+    let own = adjusted_walk n cost scale potentials taken avoided nodes laws some scale_in long walk used unused in
+    is.bound_is.least (length_of cost nodes) (omega (arith, ints, below, own))
 
 -- ---- nothing taken or avoided
 

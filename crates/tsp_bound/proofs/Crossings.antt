@@ -7,7 +7,7 @@ use Rattle.std.proofs.lemmas.Int.{ints}
 use Rattle.std.proofs.lemmas.List.Elements.{All-from_recursion, All-contains}
 use Rattle.tsp_cost.specs.Walk.{links_to}
 use Rattle.tsp_cost.specs.Length.{sum_int_by, length_of}
-use Rattle.tsp_bound.specs.Tree.{crosses}
+use Rattle.tsp_bound.specs.Tree.{crosses, crossing}
 
 abbrev pub one_if : Bool → ℤ
 one_if b = if b then pos 1 else pos 0
@@ -15,10 +15,6 @@ one_if b = if b then pos 1 else pos 0
 pub none_or_one : (b : Bool) → (pos 0 ≤ℤ one_if b) × (one_if b ≤ℤ pos 1)
 none_or_one true = (omega (arith, ints), omega (arith, ints))
 none_or_one false = (omega (arith, ints), omega (arith, ints))
-
--- 1 for two nodes of which one is in the part
-abbrev pub crossing : (ℕ → Bool) → ℕ → ℕ → ℤ
-crossing part i j = one_if (crosses part (i, j))
 
 -- the sum over the links from a node along others to an end
 abbrev sum_to : (ℕ → ℕ → ℤ) → ℕ → ℕ → List ℕ → ℤ
@@ -42,7 +38,7 @@ parity part end from (next ∷ others) =
     let turn = turns (part from) (part next) (part end) in
     (rest.0 +ℤ turn.0, omega (arith, ints, rest.1, turn.1))
 
-evenly : (part : ℕ → Bool) (nodes : List ℕ) → (half : ℤ) × (length_of (crossing part) nodes ≡ half +ℤ half)
+pub evenly : (part : ℕ → Bool) (nodes : List ℕ) → (half : ℤ) × (length_of (crossing part) nodes ≡ half +ℤ half)
 evenly part [] = (pos 0, refl)
 evenly part (x ∷ xs) = let p = parity part x x xs in (p.0, omega (arith, ints, p.1, none (part x)))
   where

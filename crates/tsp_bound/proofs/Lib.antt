@@ -15,3 +15,4 @@ pub mod Tours
 pub mod TwoNearest
 pub mod Walks
 pub mod Weights
+pub mod SmallTrees

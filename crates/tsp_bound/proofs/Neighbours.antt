@@ -1,5 +1,5 @@
 -- A walk of three nodes or more has each two neighbours in one of its links.
-use Rattle.std.proofs.Common.{◌≡◌, ◌≢◌, ℕ, zero, suc, ◌≤◌, ◌==◌, ◌&&◌, ◌||◌, Bool, true, false, not, cond, List, [], ◌∷◌, ℤ, ◌+ℤ◌, ◌≤ℤ◌, inl, inr, refl, arith, ap, sym, ◌∙◌, subst}
+use Rattle.std.proofs.Common.{◌≡◌, ◌≢◌, ℕ, zero, suc, ◌≤◌, ◌==◌, ◌&&◌, ◌||◌, Bool, true, false, not, cond, List, [], ◌∷◌, ℤ, ◌+ℤ◌, ◌≤ℤ◌, ◌⊎◌, inl, inr, refl, arith, ap, sym, ◌∙◌, subst}
 use Rattle.std.specs.Prelude.{pos, if◌then◌else◌}
 use Rattle.std.specs.List.{AllPairs, AllByRecursion, Contains, list_any}
 use Rattle.std.proofs.lemmas.Bool.{cases_Bool, cases_eq, both_ways, false_from_ne_true, and_parts, and_from, or_cases, or_left, or_right, eqb-true, eq-eqb, ne_eqb}
@@ -9,15 +9,15 @@ use Rattle.std.proofs.lemmas.List.Elements.{recursion_from_All}
 use Rattle.std.proofs.lemmas.List.Folds.{Any-from_list_any, list_any_at}
 use Rattle.tsp_cost.specs.Walk.{IsWalk, links, AreNeighbours}
 use Rattle.tsp_cost.specs.Length.{sum_int_by, length_of}
-use Rattle.tsp_bound.specs.Tree.{crosses}
+use Rattle.tsp_bound.specs.Tree.{crosses, crossing}
 use Rattle.tsp_bound.specs.Adjusted.{is_same_pair}
 use Rattle.tsp_bound.proofs.CostLaws.{Laws}
-use Rattle.tsp_bound.proofs.Crossings.{one_if, none_or_one, crossing, twice}
+use Rattle.tsp_bound.proofs.Crossings.{one_if, none_or_one, twice}
 use Rattle.tsp_bound.proofs.Walks.{has_node}
 
 -- ---- sums and counts
 
-sum_below : {X : Type 0} (f g : X → ℤ) (xs : List X) → ((x : X) → f x ≤ℤ g x) → sum_int_by f xs ≤ℤ sum_int_by g xs
+pub sum_below : {X : Type 0} (f g : X → ℤ) (xs : List X) → ((x : X) → f x ≤ℤ g x) → sum_int_by f xs ≤ℤ sum_int_by g xs
 sum_below f g [] h = omega (arith, ints)
 sum_below f g (x ∷ xs) h = omega (arith, ints, h x, sum_below f g xs h)
 
@@ -95,6 +95,12 @@ found_neighbours nodes pair (inl c) =
 found_neighbours nodes pair (inr c) =
     list_any_at (is_same_pair pair) (links nodes) c.0 (pair.1, pair.0) c.1 (ap (is_same_pair pair) c.2
     ∙ or_right ((pair.0 == pair.1) && (pair.1 == pair.0)) ((pair.1 == pair.1) && (pair.0 == pair.0)) (and_from (pair.1 == pair.1) (pair.0 == pair.0) (eq-eqb pair.1 pair.1 refl) (eq-eqb pair.0 pair.0 refl)))
+
+pub neighbours_or_not : (nodes : List ℕ) (pair : ℕ × ℕ) → AreNeighbours nodes pair ⊎ (AreNeighbours nodes pair → ⊥)
+neighbours_or_not nodes pair = elim (cases_Bool (list_any (is_same_pair pair) (links nodes))) [
+  | inl t ↦ inl (neighbours_found nodes pair t)
+  | inr f ↦ inr (λ h. both_ways (list_any (is_same_pair pair) (links nodes)) f (found_neighbours nodes pair h))
+]
 
 -- ---- one link at most: a walk crosses the part of the two nodes at least twice, and each of the two ends two links
 

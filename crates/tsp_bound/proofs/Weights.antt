@@ -5,9 +5,9 @@ use Rattle.std.specs.Prelude.{ℤ, pos, neg_ℤ, ◌+ℤ◌, ◌-ℤ◌, ◌*ℤ
 use Rattle.std.proofs.lemmas.Bool.{cases_eq}
 use Rattle.std.proofs.lemmas.Int.{ints, to_z-of_z, fits_signed_from_abs}
 use Rattle.std.proofs.lemmas.List.{get_or_default}
-use Rattle.tsp_value.specs.Limits.{most_nodes, most_scale, most_weight, most_potential}
+use Rattle.tsp_value.specs.Limits.{most_nodes, most_scale, most_weight, most_potential, most_multipliers, most_multiplier}
 use Rattle.tsp_cost.specs.Costs.{IsEven}
-use Rattle.tsp_bound.specs.Numbers.{IsFromTo, IsScale, IsLeastBound, entry, most_multipliers, most_multiplier}
+use Rattle.tsp_bound.specs.Numbers.{IsFromTo, IsScale, IsLeastBound, entry}
 use Rattle.tsp_bound.specs.Tree.{weight_of}
 use Rattle.tsp_bound.specs.NodeBound.{weight_between}
 use Rattle.tsp_bound.specs.Potentials.{most_between}

@@ -8,3 +8,4 @@ pub mod NodeBound
 pub mod Numbers
 pub mod Potentials
 pub mod Tree
+pub mod Examples

@@ -1,7 +1,7 @@
 -- The numbers of a certificate, one for each node, and the bounds that their sums give.
 use Rattle.std.specs.Prelude.{◌≡◌, ◌≢◌, ℕ, ◌-◌, ◌^◌, ◌≤◌, List, length, slice_index_or, ℤ, pos, neg_ℤ, ◌*ℤ◌, ◌≤ℤ◌}
 use Rattle.std.specs.List.{All}
-use Rattle.tsp_value.specs.Limits.{most_scale, most_potential}
+use Rattle.tsp_value.specs.Limits.{most_scale, most_potential, most_multipliers, most_multiplier}
 use Rattle.tsp_cost.specs.Length.{sum_int_by}
 
 abbrev pub IsFromTo : ℤ → ℤ → ℤ → Type 0
@@ -31,13 +31,6 @@ pub record IsLeastBound (scale sum bound : ℤ) : Type 0 where
 -- how large a bound is at most: sums with it fit 128 bits
 abbrev pub IsBoundSized : ℤ → Type 0
 IsBoundSized bound = IsFromTo (neg_ℤ (pos (2 ^ 100))) (pos (2 ^ 100)) bound
-
--- multipliers of pairs of nodes: how many there may be, and how large one is at most
-abbrev pub most_multipliers : ℕ
-most_multipliers = 100000
-
-abbrev pub most_multiplier : ℕ
-most_multiplier = 1000000000000000
 
 -- a scale and as many numbers of rows as of columns
 pub record AreDuals (scale : ℤ) (rows columns : List ℤ) : Type 0 where

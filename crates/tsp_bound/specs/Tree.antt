@@ -1,6 +1,6 @@
 -- 1-trees. A tree is said by its cuts: each part of its nodes that is neither empty nor all of them is left by a pair.
 -- Source: M. Held and R. M. Karp, The traveling-salesman problem and minimum spanning trees, 1970.
-use Rattle.std.specs.Prelude.{◌≡◌, ◌≢◌, ℕ, ◌==◌, ◌<◌, ◌≤◌, Bool, true, false, not, if◌then◌else◌, List, [], ◌∷◌, length, ℤ, ◌≤ℤ◌}
+use Rattle.std.specs.Prelude.{◌≡◌, ◌≢◌, ℕ, ◌==◌, ◌<◌, ◌≤◌, Bool, true, false, not, if◌then◌else◌, List, [], ◌∷◌, length, ℤ, pos, ◌≤ℤ◌}
 use Rattle.std.specs.List.{All, list_any, filter}
 use Rattle.tsp_cost.specs.Length.{sum_int_by}
 
@@ -22,6 +22,10 @@ inner_pairs pairs = filter (λ pair. not (is_at_one pair)) pairs
 -- one end of the pair is in the part, and one isn't
 abbrev pub crosses : (ℕ → Bool) → ℕ × ℕ → Bool
 crosses part pair = if part pair.0 then not (part pair.1) else part pair.1
+
+-- 1 for two nodes of which one is in the part, else 0
+abbrev pub crossing : (ℕ → Bool) → ℕ → ℕ → ℤ
+crossing part i j = if crosses part (i, j) then pos 1 else pos 0
 
 -- A 1-tree: n pairs, of which two different ones are at node 1 and the others join the nodes 2..n.
 pub record IsOneTree (n : ℕ) (pairs : List (ℕ × ℕ)) : Type 0 where

@@ -4,7 +4,7 @@ ghost use Rattle.std.specs.Prelude.{◌≡◌, ◌≢◌, ◌↔◌, ℕ, List, 
 ghost use Rattle.tsp_value.specs.Cells.{IsNode};
 ghost use Rattle.tsp_cost.specs.Walk.{IsWalk};
 ghost use Rattle.tsp_cost.specs.Length.{length_of};
-ghost use Rattle.tsp_bound.specs.Numbers.{IsBoundSized};
+ghost use Rattle.tsp_bound.specs.Numbers.{IsBoundSized, entry};
 ghost use Rattle.tsp_bound.specs.Assignment.{AreGood, IsFirstBroken, IsDualBound};
 ghost use Rattle.tsp_bound.specs.Duals.{scale_of, rows_of, columns_of, dual_of, scaled};
 
@@ -64,23 +64,25 @@ fn first_broken_of_row<C: Costs>(c: &C, d: &Duals, i: u32) -> Option<u32>
         × ((b : ℕ) → 1 ≤ b → b < j → i ≢ b
         → dual_of d.now i b ≤ℤ scaled d.now (C.at c.now) i b)) }
 {
+    let row = d.rows[i as usize - 1];
     'columns: for j in 1..c.count() + 1 {
-        if i != j && !fits(c, d, i, j) {
+        if i != j && !fits(c, d, row, i, j) {
             return Some(j);
         }
     }
     None
 }
 
-/// Whether row i and column j sum to at most the cost.
+/// Whether the number of row i, which the caller hands in, and column j sum to at most the cost.
 ///
 /// The limits of certificates and of weights let both sides fit 64 bits.
 #[inline]
-fn fits<C: Costs>(c: &C, d: &Duals, i: u32, j: u32) -> bool
+fn fits<C: Costs>(c: &C, d: &Duals, row: i64, i: u32, j: u32) -> bool
     requires count { length (rows_of d.now) ≡ C.nodes c.now }
+    requires number { row ≡ entry (rows_of d.now) i }
     requires row { IsNode (C.nodes c.now) i }
     requires column { IsNode (C.nodes c.now) j }
     ensures { IsTrue result ↔ (dual_of d.now i j ≤ℤ scaled d.now (C.at c.now) i j) }
 {
-    d.rows[i as usize - 1] + d.columns[j as usize - 1] <= scaled_cost(c, d.scale, i, j)
+    row + d.columns[j as usize - 1] <= scaled_cost(c, d.scale, i, j)
 }

@@ -146,10 +146,11 @@ fn bring<C: Costs>(
 {
     let mut nearest: Option<u32> = None;
     let mut best = i64::MAX;
+    let own = p.number(next);
     'nodes: for node in 2..c.count() + 1 {
         let place = node as usize;
         if !inside[place] {
-            let weight = p.weight(c, next, node);
+            let weight = p.weight_from(c, own, next, node);
             let kept = take_nearer(&mut near[place], &mut least[place], next, weight);
             if kept < best {
                 best = kept;

@@ -4,6 +4,7 @@
 mod assignment;
 mod by_node;
 mod duals;
+mod examples;
 mod growth;
 mod laws;
 mod multipliers;
@@ -15,6 +16,9 @@ mod tree;
 
 pub use assignment::{Infeasible, dual_bound};
 pub use duals::Duals;
+pub use examples::{
+    examples_of_duals, examples_of_multipliers, examples_of_numbers, examples_of_trees,
+};
 pub use laws::{
     adjusted_bounds_bound_walks, bounds_are_unique, duals_bound_walks, least_trees_are_below_walks,
     node_bounds_bound_walks,

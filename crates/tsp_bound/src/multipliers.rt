@@ -4,11 +4,7 @@ ghost use Rattle.std.specs.Prelude.{◌↔◌, IsTrue};
 ghost use Rattle.std.specs.List.{All};
 ghost use Rattle.tsp_bound.specs.Numbers.{IsMultiplier, AreMultipliers};
 
-/// The most multipliers.
-const MOST_MULTIPLIERS: usize = 100_000;
-
-/// The largest multiplier.
-const MOST_MULTIPLIER: i64 = 1_000_000_000_000_000;
+use tsp_value::{MOST_MULTIPLIER, MOST_MULTIPLIERS};
 
 /// A number for each of some pairs of nodes, as triples of two nodes and the number.
 #[derive(Clone, Copy, Debug)]

@@ -1,8 +1,8 @@
 //! The numbers of a certificate: their ranges, their sums, and the least bound of a sum.
 
 ghost use Rattle.std.specs.Prelude.{◌≡◌, ◌↔◌, ◌≤◌, ◌*◌, ◌^◌, IsTrue, length, pos, neg_ℤ};
-ghost use Rattle.tsp_value.specs.Limits.{most_nodes, most_potential};
-ghost use Rattle.tsp_bound.specs.Numbers.{IsFromTo, IsScale, ArePotentials, total, IsLeastBound, IsBoundSized, AreMultipliers, most_multipliers, most_multiplier};
+ghost use Rattle.tsp_value.specs.Limits.{most_nodes, most_potential, most_multipliers, most_multiplier};
+ghost use Rattle.tsp_bound.specs.Numbers.{IsFromTo, IsScale, ArePotentials, total, IsLeastBound, IsBoundSized, AreMultipliers};
 ghost use Rattle.tsp_bound.specs.Adjusted.{total_of};
 
 use tsp_value::{MOST_POTENTIAL, MOST_SCALE};

@@ -17,7 +17,7 @@ pub struct Potentials<'a> {
 impl<'a> Potentials<'a> {
     ghost use Rattle.std.specs.Prelude.{◌≡◌, length, pos, neg_ℤ, MatchOption};
     ghost use Rattle.tsp_value.specs.Cells.{IsNode};
-    ghost use Rattle.tsp_bound.specs.Numbers.{IsFromTo};
+    ghost use Rattle.tsp_bound.specs.Numbers.{IsFromTo, entry};
     ghost use Rattle.tsp_bound.specs.Potentials.{scale_of, numbers_of, weight_under, most_between};
 
     /// The potentials of these numbers, each a count of 1 / scale.
@@ -35,6 +35,15 @@ impl<'a> Potentials<'a> {
         Some(Potentials { scale, numbers: p })
     }
 
+    /// The number of a node.
+    #[inline]
+    pub(crate) fn number(&self, node: u32) -> i64
+        requires { IsNode (length (numbers_of self.now)) node }
+        ensures { result ≡ entry (numbers_of self.now) node }
+    {
+        self.numbers[node as usize - 1]
+    }
+
     /// The weight between two nodes: the cost at the scale, and the potentials of both.
     ///
     /// The limits of certificates and of weights let it fit 64 bits.
@@ -46,7 +55,21 @@ impl<'a> Potentials<'a> {
         ensures value { result ≡ weight_under self.now (C.at c.now) i j }
         ensures size { IsFromTo (neg_ℤ (pos most_between)) (pos most_between) result }
     {
-        let both = self.numbers[i as usize - 1] + self.numbers[j as usize - 1];
+        self.weight_from(c, self.number(i), i, j)
+    }
+
+    /// The same, where the caller hands in the potential of the first node: a loop over all pairs of
+    /// one node reads it once.
+    #[inline]
+    pub(crate) fn weight_from<C: Costs>(&self, c: &C, own: i64, i: u32, j: u32) -> i64
+        requires count { length (numbers_of self.now) ≡ C.nodes c.now }
+        requires number { own ≡ entry (numbers_of self.now) i }
+        requires from { IsNode (C.nodes c.now) i }
+        requires to { IsNode (C.nodes c.now) j }
+        ensures value { result ≡ weight_under self.now (C.at c.now) i j }
+        ensures size { IsFromTo (neg_ℤ (pos most_between)) (pos most_between) result }
+    {
+        let both = own + self.numbers[j as usize - 1];
         scaled_cost(c, self.scale, i, j) + both
     }
 }

@@ -1,5 +1,5 @@
 -- A run of the program: what its words come to.
-use Rattle.std.specs.Prelude.{◌≡◌, ◌≢◌, ℕ, Bool, List, drop, Option, Result, Ok, Err, OnOk, false}
+use Rattle.std.specs.Prelude.{◌≡◌, ◌≢◌, ◌||◌, ℕ, Bool, List, drop, Option, Result, Ok, Err, OnOk, false}
 use Rattle.std.specs.declared.io.Error.{Error}
 use Rattle.std.specs.declared.io.ErrorKind.{ErrorKind}
 use Rattle.std.specs.declared.io.ErrorKind.TheVariants as io_kinds
@@ -40,13 +40,14 @@ EndsWith {F = F} remaining opens job sink (Ended answer) = (task : Task Place) �
     × AreFresh opens task old × IsDone remaining old new sink answer
 
 -- How a run ends with these words, of which the first is the program's own name: they ask for no job, and then nothing is
--- written; or it ends with the job that they ask for. Whether that is explained is a matter of the job, and nothing else is.
-abbrev pub Ends : {F : Type 0} → (F → Option (List ℕ)) → (Place → F → Type 0) → List Text → Sink → Bool → Ending → Type 0
-Ends remaining opens words sink explained (NoJob fault) = GivesJob (drop 1 words) (Err fault) × IsUnwritten sink × (explained ≡ false)
-Ends remaining opens words sink explained (NoTask fault) =
-    (job : Job) × GivesJob (drop 1 words) (Ok job) × EndsWith remaining opens job sink (NoTask fault) × (explained ≡ job.explain)
-Ends remaining opens words sink explained (Ended answer) =
-    (job : Job) × GivesJob (drop 1 words) (Ok job) × EndsWith remaining opens job sink (Ended answer) × (explained ≡ job.explain)
+-- written; or it ends with the job that they ask for. That is explained where the job says so, and on a terminal; nothing else
+-- is.
+abbrev pub Ends : {F : Type 0} → (F → Option (List ℕ)) → (Place → F → Type 0) → Bool → List Text → Sink → Bool → Ending → Type 0
+Ends remaining opens on_terminal words sink explained (NoJob fault) = GivesJob (drop 1 words) (Err fault) × IsUnwritten sink × (explained ≡ false)
+Ends remaining opens on_terminal words sink explained (NoTask fault) = (job : Job) × GivesJob (drop 1 words) (Ok job)
+    × EndsWith remaining opens job sink (NoTask fault) × (explained ≡ (job.explain || on_terminal))
+Ends remaining opens on_terminal words sink explained (Ended answer) = (job : Job) × GivesJob (drop 1 words) (Ok job)
+    × EndsWith remaining opens job sink (Ended answer) × (explained ≡ (job.explain || on_terminal))
 
 -- the end where the words can't be had: out of memory, or a word is no text, which is told as refused words are
 abbrev pub IsUnread : ErrorKind → Bool → Ending → Type 0

@@ -5,22 +5,26 @@ use crate::source::Open;
 use crate::task::TaskFault;
 use crate::words::Job;
 use std::alloc::{AllocError, Global};
+use std::io;
 use std::io::Read;
 use tsp_explain::{
-    Blame, blamed, explain_file, explain_reason, push_lines, relayout_sentence, write_sentence,
+    Blame, blamed, explain_file, explain_reason, push_error, push_lines, relayout_sentence,
+    write_sentence,
 };
-use tsp_judge::{Reason, RunFault, Verdict};
+use tsp_judge::{Reason, RunFault, Verdict, WriteFault};
 
-/// What explains how a job ended, line by line. Files that can be are looked at once more for it.
-/// It is cut short where there is no memory for more.
+/// What explains how a job ended, line by line. Files that can be are looked at once more for it;
+/// `write_error` is what the system said of a write that failed. It is cut short where there is no
+/// memory for more.
 pub(crate) fn explanation<F: Read + Drop, O: Open<F>>(
     alloc: Global,
     job: &Job,
     ending: &Ending,
     files: &O,
+    write_error: Option<&io::Error>,
 ) -> Vec<u8> {
     let mut text = Vec::new(alloc);
-    let _ = push_explanation(alloc, &mut text, job, ending, files);
+    let _ = push_explanation(alloc, &mut text, job, ending, files, write_error);
     text
 }
 
@@ -31,6 +35,7 @@ fn push_explanation<F: Read + Drop, O: Open<F>>(
     job: &Job,
     ending: &Ending,
     files: &O,
+    write_error: Option<&io::Error>,
 ) -> Result<(), AllocError> {
     match ending {
         Ending::NoJob(_) | Ending::NoTask(TaskFault::MissingPath) => Ok(()),
@@ -39,7 +44,7 @@ fn push_explanation<F: Read + Drop, O: Open<F>>(
             push_reason(alloc, text, job, *reason, files)
         }
         Ending::Ended(Ok(_)) => Ok(()),
-        Ending::Ended(Err(fault)) => push_fault(alloc, text, job, *fault, files),
+        Ending::Ended(Err(fault)) => push_fault(alloc, text, job, *fault, files, write_error),
     }
 }
 
@@ -60,6 +65,7 @@ fn push_fault<F: Read + Drop, O: Open<F>>(
     job: &Job,
     fault: RunFault,
     files: &O,
+    write_error: Option<&io::Error>,
 ) -> Result<(), AllocError> {
     match fault {
         RunFault::File { file, fault } => {
@@ -67,9 +73,23 @@ fn push_fault<F: Read + Drop, O: Open<F>>(
             explain_file(alloc, text, name_of(path), again(path, files), fault)
         }
         RunFault::WrongKind => push_lines(text, KINDS),
-        RunFault::Write(fault) => push_lines(text, write_sentence(fault)),
+        RunFault::Write(fault) => push_write_fault(alloc, text, fault, write_error),
         RunFault::OutOfMemory => push_lines(text, "There is no memory for what is to be done."),
         RunFault::Relayout(fault) => push_lines(text, relayout_sentence(fault)),
+    }
+}
+
+/// Appends what explains that a text could not be written, and what the system said of that.
+fn push_write_fault(
+    alloc: Global,
+    text: &mut Vec<u8>,
+    fault: WriteFault,
+    error: Option<&io::Error>,
+) -> Result<(), AllocError> {
+    push_lines(text, write_sentence(fault))?;
+    match error {
+        None => Ok(()),
+        Some(error) => push_error(alloc, text, error),
     }
 }
 

@@ -8,6 +8,7 @@
 
 mod ending;
 mod engines;
+mod examples;
 mod explained;
 mod grammar;
 mod running;
@@ -17,6 +18,7 @@ mod words;
 
 pub use ending::{Ending, Line, line_of, status_of, tell};
 pub use engines::perform;
+pub use examples::examples_of_statuses;
 pub use running::{run, tell_unread};
 pub use source::{Open, Source};
 pub use task::{Place, Task, TaskFault, task_of};

@@ -22,15 +22,17 @@ use tsp_judge::Watched;
 /// comes of it goes to the writer `out`, and where there is no answer the reason to `errors`.
 ///
 /// The answer is the exit status, and whether the reason could be told. Files are opened in the order
-/// in which they are read, each as `files` opens its place.
+/// in which they are read, each as `files` opens its place. The reason is explained where the words ask
+/// for that, and wherever `errors` is a terminal, as `on_terminal` says.
 pub fn run<F: Read + Drop, O: Open<F>, W: Write, E: Write>(
     alloc: Global,
     line: &[String],
     files: &O,
     out: &mut Watched<W>,
     errors: &mut E,
+    on_terminal: bool,
 ) -> (u8, io::Result<()>)
-    ensures { Runs (Ends F.remaining (O.opens files.now) (map string_bytes line.now)
+    ensures { Runs (Ends F.remaining (O.opens files.now) on_terminal (map string_bytes line.now)
         (sink_of W.contents out.old out.new)) (E.contents errors.old) (E.contents errors.new) result }
 {
     let Ok(words) = words_after_first(alloc, line) else {
@@ -39,7 +41,8 @@ pub fn run<F: Read + Drop, O: Open<F>, W: Write, E: Write>(
     match job_of(alloc, &words) {
         Err(fault) => end(&Ending::NoJob(fault), errors),
         Ok(job) => {
-            let answer = run_job(alloc, &job, files, out, errors);
+            let explain = job.explain || on_terminal;
+            let answer = run_job(alloc, &job, files, out, errors, explain);
             drop(job);
             answer
         }
@@ -66,38 +69,42 @@ fn end<E: Write>(ending: &Ending, errors: &mut E) -> (u8, io::Result<()>)
     (status_of(ending), told)
 }
 
-/// Does the job, and tells how that ended. The answer is as that of `run`.
+/// Does the job, and tells how that ended, with its explanation where that is wanted. The answer is as
+/// that of `run`.
 fn run_job<F: Read + Drop, O: Open<F>, W: Write, E: Write>(
     alloc: Global,
     job: &Job,
     files: &O,
     out: &mut Watched<W>,
     errors: &mut E,
+    explain: bool,
 ) -> (u8, io::Result<()>)
     ensures { RunsJob (EndsWith F.remaining (O.opens files.now) job.now (sink_of W.contents out.old out.new))
-        job.now.explain (E.contents errors.old) (E.contents errors.new) result }
+        explain (E.contents errors.old) (E.contents errors.new) result }
 {
     let ending = ended_with(alloc, job, files, out);
-    let told = tell_all(alloc, job, &ending, files, errors);
+    let told = tell_all(alloc, job, &ending, files, out.error(), errors, explain);
     (status_of(&ending), told)
 }
 
-/// Tells how a job ended, and explains it where the job says so. Where there is no memory for that,
-/// no more is told than without.
+/// Tells how a job ended, and explains it where that is wanted, with what the system said of a write
+/// that failed. Where there is no memory for that, no more is told than without.
 fn tell_all<F: Read + Drop, O: Open<F>, E: Write>(
     alloc: Global,
     job: &Job,
     ending: &Ending,
     files: &O,
+    write_error: Option<&io::Error>,
     errors: &mut E,
+    explain: bool,
 ) -> io::Result<()>
-    ensures { OnOk result (TellsAll job.now.explain ending.now (E.contents errors.old) (E.contents errors.new)) }
+    ensures { OnOk result (TellsAll explain ending.now (E.contents errors.old) (E.contents errors.new)) }
 {
     tell(ending, errors)?;
-    if !job.explain {
+    if !explain {
         return Ok(());
     }
-    let text = explanation(alloc, job, ending, files);
+    let text = explanation(alloc, job, ending, files, write_error);
     let told = errors.write_all(&text);
     drop(text);
     told

@@ -3,3 +3,4 @@ pub mod Length
 pub mod Tour
 pub mod Views
 pub mod Walk
+pub mod Examples

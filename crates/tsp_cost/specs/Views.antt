@@ -1,5 +1,7 @@
 -- What the views of an instance say of it.
-use Rattle.std.specs.Prelude.{◌≡◌, ◌≢◌, ℕ, true, false, length, Some, ℤ}
+use Rattle.std.specs.Prelude.{◌≡◌, ◌≢◌, ℕ, true, false, length, map, Some, ℤ}
+use Rattle.tsp_number.specs.declared.decimal.Point.{Point}
+use Rattle.tsp_number.specs.Distances.{on_plane}
 use Rattle.tsp_value.specs.declared.layout.Layout.TheVariants.{FullMatrix}
 use Rattle.tsp_value.specs.declared.kinds.WeightFormat.TheVariants.{Listed}
 use Rattle.tsp_fields.specs.Fields.{Fields}
@@ -13,11 +15,12 @@ use Rattle.tsp_cost.specs.declared.view.View.{View}
 use Rattle.tsp_cost.specs.declared.view.View.TheVariants as views
 
 -- the nodes and the costs of each view
-abbrev pub points_nodes : Points → ℕ
+abbrev pub points_nodes : {P : Type 0} → Points P → ℕ
 points_nodes p = length p.points.now
 
-abbrev pub points_cost : Points → ℕ → ℕ → ℤ
-points_cost p i j = distance p.kind (point_of p.points.now i) (point_of p.points.now j)
+-- of points that have these places in space
+abbrev pub points_cost : {P : Type 0} → (P → Point) → Points P → ℕ → ℕ → ℤ
+points_cost place p i j = distance p.kind (point_of (map place p.points.now) i) (point_of (map place p.points.now) j)
 
 abbrev pub matrix_nodes : Matrix → ℕ
 matrix_nodes m = m.nodes
@@ -44,6 +47,7 @@ pub record Keeps (f : Fields) (nodes : ℕ) (costs : ℕ → ℕ → ℤ) : Type
 
 -- points where the weights are distances, a matrix where all are listed, a triangle where half of them are
 abbrev pub Shows : Fields → View → Type 0
-Shows f (views.Points p) = (is_explicit f.weight_kind ≡ false) × Keeps f (points_nodes p) (points_cost p)
+Shows f (views.Plane p) = (is_explicit f.weight_kind ≡ false) × Keeps f (points_nodes p) (points_cost (λ point. on_plane point.x point.y) p)
+Shows f (views.Space p) = (is_explicit f.weight_kind ≡ false) × Keeps f (points_nodes p) (points_cost (λ point. point) p)
 Shows f (views.Matrix m) = (is_explicit f.weight_kind ≡ true) × (f.weight_format ≡ Some (Listed FullMatrix)) × Keeps f (matrix_nodes m) (matrix_cost m)
 Shows f (views.Triangle t) = (is_explicit f.weight_kind ≡ true) × (f.weight_format ≢ Some (Listed FullMatrix)) × Keeps f (triangle_nodes t) (triangle_cost t)

@@ -11,7 +11,7 @@ use crate::points::Points;
 use crate::triangle::Triangle;
 use crate::view::View;
 use std::marker::Model;
-use tsp_fields::{File, valid_fields_are_in_range, valid_files_are_complete};
+use tsp_fields::{Coords, File, valid_fields_are_in_range, valid_files_are_complete};
 use tsp_value::{Kind, Layout, WeightFormat, WeightKind};
 
 /// A valid file of TYPE TSP, ATSP or CVRP, with the costs between its nodes.
@@ -109,7 +109,10 @@ impl Instance {
         let Some(points) = self.file.coords() else {
             unreachable!();
         };
-        View::Points(Points::of(kind, points))
+        match points {
+            Coords::Plane(points) => View::Plane(Points::of(kind, points)),
+            Coords::Space(points) => View::Space(Points::of(kind, points)),
+        }
     }
 
     /// The matrix or the triangle of an instance whose weights are listed.
@@ -158,7 +161,8 @@ impl Costs for Instance {
 
     fn count(&self) -> u32 {
         match self.view() {
-            View::Points(points) => points.count(),
+            View::Plane(points) => points.count(),
+            View::Space(points) => points.count(),
             View::Matrix(matrix) => matrix.count(),
             View::Triangle(triangle) => triangle.count(),
         }
@@ -167,7 +171,8 @@ impl Costs for Instance {
     #[inline]
     fn cost(&self, i: u32, j: u32) -> i64 {
         match self.view() {
-            View::Points(points) => points.cost(i, j),
+            View::Plane(points) => points.cost(i, j),
+            View::Space(points) => points.cost(i, j),
             View::Matrix(matrix) => matrix.cost(i, j),
             View::Triangle(triangle) => triangle.cost(i, j),
         }
@@ -182,6 +187,6 @@ pub fn symmetric_fault(inst: &Instance) -> Option<(u32, u32)>
 {
     match inst.view() {
         View::Matrix(matrix) => matrix.first_uneven(),
-        View::Points(_) | View::Triangle(_) => None,
+        View::Plane(_) | View::Space(_) | View::Triangle(_) => None,
     }
 }

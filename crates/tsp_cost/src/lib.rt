@@ -2,6 +2,7 @@
 #![tactic(auto)]
 
 mod costs;
+mod examples;
 mod fault;
 mod instance;
 mod laws;
@@ -12,6 +13,7 @@ mod triangle;
 mod view;
 
 pub use costs::{Costs, Symmetric};
+pub use examples::{examples_of_tours, examples_of_walks};
 pub use fault::CostFault;
 pub use instance::{Instance, symmetric_fault};
 pub use laws::{lengths_add_up, walks_are_permutations, walks_have_no_loops};

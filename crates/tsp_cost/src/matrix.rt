@@ -12,6 +12,9 @@ ghost use Rattle.tsp_cost.specs.Costs.{IsEven};
 use crate::costs::{Costs, Symmetric};
 use tsp_value::{Layout, cells_are_the_listed_pairs, only_cells_have_places};
 
+/// How many rows and columns a block of cells has, which with its mirrored block stays in the cache.
+const BLOCK: u32 = 64;
+
 /// The costs of an instance whose weights are a full matrix.
 #[derive(Clone, Copy, Debug)]
 pub struct Matrix<'a> {
@@ -31,7 +34,7 @@ pub struct EvenMatrix<'a> {
 }
 
 impl<'a> Matrix<'a> {
-    ghost use Rattle.std.specs.Prelude.{ℕ, ◌<◌, ◌≢◌, MatchResult, MatchOption};
+    ghost use Rattle.std.specs.Prelude.{ℕ, ◌<◌, ◌+◌, ◌*◌, ◌≢◌, ◌↔◌, IsTrue, MatchResult, MatchOption};
     ghost use Rattle.tsp_value.specs.Cells.{IsNode};
     ghost use Rattle.tsp_cost.specs.Costs.{IsFirstUneven, FindsUneven};
     ghost use Rattle.tsp_cost.specs.Views.{matrix_nodes, matrix_cost, even_nodes, even_cost};
@@ -67,17 +70,106 @@ impl<'a> Matrix<'a> {
     }
 
     /// The first pair, the smaller node first, by rows, whose two costs differ.
+    ///
+    /// Most matrices that come here are even, and show it by blocks: going by rows walks down a
+    /// column of the whole matrix for each, so it is left to those that aren't.
     pub(crate) fn first_uneven(&self) -> Option<(u32, u32)>
         ensures { FindsUneven (matrix_nodes self.now) (matrix_cost self.now) result }
     {
         cells_are_the_listed_pairs();
         only_cells_have_places();
+        if self.is_even() {
+            return None;
+        }
         'rows: for i in 1..self.nodes {
             if let Some(j) = self.first_uneven_of_row(i) {
                 return Some((i, j));
             }
         }
         None
+    }
+
+    /// Whether the two costs of each pair are the same, block by block.
+    fn is_even(&self) -> bool
+        ensures { IsTrue result ↔ ((i j : ℕ) → IsNode (matrix_nodes self.now) i
+            → IsNode (matrix_nodes self.now) j → i < j
+            → matrix_cost self.now i j ≡ matrix_cost self.now j i) }
+    {
+        'bands: for band in 0..self.nodes / BLOCK + 1 {
+            if !self.is_even_band(band) {
+                return false;
+            }
+        }
+        true
+    }
+
+    /// The same over a band of rows, counted from 0, from the band's block on the diagonal on.
+    fn is_even_band(&self, band: u32) -> bool
+        requires { band * 64 ≤ matrix_nodes self.now }
+        ensures { IsTrue result ↔ ((i j : ℕ) → band * 64 < i → i ≤ band * 64 + 64
+            → band * 64 < j → i ≤ matrix_nodes self.now → j ≤ matrix_nodes self.now
+            → matrix_cost self.now i j ≡ matrix_cost self.now j i) }
+    {
+        'across: for block in band..self.nodes / BLOCK + 1 {
+            if !self.is_even_block(band * BLOCK + 1, block * BLOCK + 1) {
+                return false;
+            }
+        }
+        true
+    }
+
+    /// The same over the block of cells that begins with the cell (top, left).
+    fn is_even_block(&self, top: u32, left: u32) -> bool
+        requires top { 1 ≤ top }
+        requires left { 1 ≤ left }
+        requires top_most { top ≤ matrix_nodes self.now + 1 }
+        requires left_most { left ≤ matrix_nodes self.now + 1 }
+        ensures { IsTrue result ↔ ((i j : ℕ) → top ≤ i → i < top + 64
+            → left ≤ j → j < left + 64 → i ≤ matrix_nodes self.now → j ≤ matrix_nodes self.now
+            → matrix_cost self.now i j ≡ matrix_cost self.now j i) }
+    {
+        let past = self.block_end(top);
+        'rows: for i in top..past {
+            if !self.is_even_in_block(i, left) {
+                return false;
+            }
+        }
+        true
+    }
+
+    /// The same over the cells of a row in the block whose first column is `left`.
+    #[inline]
+    fn is_even_in_block(&self, i: u32, left: u32) -> bool
+        requires row { IsNode (matrix_nodes self.now) i }
+        requires left { 1 ≤ left }
+        requires left_most { left ≤ matrix_nodes self.now + 1 }
+        ensures { IsTrue result ↔ ((j : ℕ) → left ≤ j → j < left + 64
+            → j ≤ matrix_nodes self.now
+            → matrix_cost self.now i j ≡ matrix_cost self.now j i) }
+    {
+        let past = self.block_end(left);
+        'columns: for j in left..past {
+            let mirrored = self.cost(j, i);
+            if self.cost(i, j) != mirrored {
+                return false;
+            }
+        }
+        true
+    }
+
+    /// The first row or column past the block that begins with this one.
+    #[inline]
+    fn block_end(&self, first: u32) -> u32
+        requires { first ≤ matrix_nodes self.now + 1 }
+        ensures within { result ≤ matrix_nodes self.now + 1 }
+        ensures short { result ≤ first + 64 }
+        ensures all { (j : ℕ) → j < first + 64 → j ≤ matrix_nodes self.now → j < result }
+    {
+        if first + BLOCK <= self.nodes {
+            first + BLOCK
+        } else {
+            self.nodes + 1
+        }
     }
 
     /// The first node past i whose two costs with i differ.

@@ -1,49 +1,66 @@
 //! Costs that are distances of points.
 
-ghost use Rattle.std.specs.Prelude.{◌≡◌, ◌≢◌, ◌≤◌, ◌-◌, ℕ, length, pos, ◌≤ℤ◌};
+ghost use Rattle.std.specs.Prelude.{◌≡◌, ◌≢◌, ◌≤◌, ◌-◌, ℕ, length, map, pos, ◌≤ℤ◌};
 ghost use Rattle.tsp_number.specs.declared.decimal.Point.{Point};
 ghost use Rattle.tsp_value.specs.declared.kinds.WeightKind.TheVariants.{Explicit};
 ghost use Rattle.tsp_value.specs.Limits.{most_nodes};
 ghost use Rattle.tsp_fields.specs.Cost.{distance, point_of};
 
 use crate::costs::{Costs, Symmetric};
-use tsp_number::{Point, att, ceil_2d, distance_laws, euc_2d, man_2d, max_2d};
+use std::alloc::AllocError;
+use tsp_number::{InSpace, Point, att, ceil_2d, distance_laws, euc_2d, man_2d, max_2d};
 use tsp_value::WeightKind;
 
 /// The costs of an instance whose weight type is a distance: that of the nodes' points.
-#[derive(Clone, Copy, Debug)]
-pub struct Points<'a> {
+///
+/// The points are those of the plane or those in space, each in the room that it needs.
+#[derive(Debug)]
+pub struct Points<'a, P> {
     kind: WeightKind,
-    points: &'a [Point],
+    points: &'a [P],
     ghost distances: { kind ≢ Explicit },
     ghost some: { 1 ≤ length points.now },
     ghost most: { length points.now ≤ most_nodes },
     ghost symmetric: { (a b : Point) → distance kind a b ≡ distance kind b a },
 }
 
-impl<'a> Points<'a> {
+impl<'a, P: InSpace> Points<'a, P> {
     ghost use Rattle.tsp_cost.specs.Views.{points_nodes, points_cost};
 
     /// The costs by a distance, over points of which there is one for each node.
-    pub(crate) fn of(kind: WeightKind, points: &'a [Point]) -> Points<'a>
+    pub(crate) fn of(kind: WeightKind, points: &'a [P]) -> Points<'a, P>
         requires distances { kind ≢ Explicit }
         requires some { 1 ≤ length points.now }
         requires most { length points.now ≤ most_nodes }
         ensures nodes { points_nodes result ≡ length points.now }
-        ensures costs { (i j : ℕ) → points_cost result i j
-            ≡ distance kind (point_of points.now i) (point_of points.now j) }
+        ensures costs { (i j : ℕ) → points_cost P.place result i j
+            ≡ distance kind (point_of (map P.place points.now) i) (point_of (map P.place points.now) j) }
     {
         distance_laws();
         Points { kind, points }
     }
 }
 
-impl Costs for Points<'_> {
+impl<P> Clone for Points<'_, P> {
+    ghost use Rattle.std.specs.Prelude.{◌≡◌};
+
+    ghost is_clone = { λ x y. y ≡ x };
+
+    ghost is_infallible = { λ _. Unit {0} };
+
+    fn clone(&self) -> Result<Self, AllocError> {
+        Ok(*self)
+    }
+}
+
+impl<P> Copy for Points<'_, P> {}
+
+impl<P: InSpace> Costs for Points<'_, P> {
     ghost use Rattle.tsp_cost.specs.Views.{points_nodes, points_cost};
 
     ghost nodes = { points_nodes };
 
-    ghost at = { points_cost };
+    ghost at = { points_cost P.place };
 
     #[inline]
     fn count(&self) -> u32 {
@@ -54,31 +71,31 @@ impl Costs for Points<'_> {
     fn cost(&self, i: u32, j: u32) -> i64 {
         distance(
             self.kind,
-            &self.points[i as usize - 1],
-            &self.points[j as usize - 1],
+            self.points[i as usize - 1].in_space(),
+            self.points[j as usize - 1].in_space(),
         )
     }
 }
 
-impl Symmetric for Points<'_> {
+impl<P: InSpace> Symmetric for Points<'_, P> {
     ghost even = { λ points i j different. points.symmetric _ _ };
 }
 
 /// The distance of two points by a weight type that is a distance.
 #[inline]
 #[tactic(auto, unfolding(tsp_fields::specs::Cost::distance))]
-fn distance(kind: WeightKind, a: &Point, b: &Point) -> i64
+fn distance(kind: WeightKind, a: Point, b: Point) -> i64
     requires { kind ≢ Explicit }
-    ensures value { result ≡ distance kind a.now b.now }
+    ensures value { result ≡ distance kind a b }
     ensures low { pos 0 ≤ℤ result }
     ensures high { result ≤ℤ pos 4000000000 }
 {
     match kind {
-        WeightKind::Euc2d => euc_2d(*a, *b),
-        WeightKind::Ceil2d => ceil_2d(*a, *b),
-        WeightKind::Man2d => man_2d(*a, *b),
-        WeightKind::Max2d => max_2d(*a, *b),
-        WeightKind::Att => att(*a, *b),
+        WeightKind::Euc2d => euc_2d(a, b),
+        WeightKind::Ceil2d => ceil_2d(a, b),
+        WeightKind::Man2d => man_2d(a, b),
+        WeightKind::Max2d => max_2d(a, b),
+        WeightKind::Att => att(a, b),
         WeightKind::Explicit => unreachable!(),
     }
 }

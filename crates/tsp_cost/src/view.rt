@@ -3,12 +3,15 @@
 use crate::matrix::Matrix;
 use crate::points::Points;
 use crate::triangle::Triangle;
+use tsp_number::{PlanePoint, Point};
 
 /// What the costs of an instance are taken from.
 #[derive(Clone, Copy, Debug)]
 pub enum View<'a> {
-    /// The weight type is a distance.
-    Points(Points<'a>),
+    /// The weight type is a distance, of points of the plane.
+    Plane(Points<'a, PlanePoint>),
+    /// The weight type is a distance, of points in space.
+    Space(Points<'a, Point>),
     /// The weights are a full matrix.
     Matrix(Matrix<'a>),
     /// The weights are one half of a matrix.

@@ -5,6 +5,7 @@ use crate::solution::{count_at_place, first_place_of, node_at, sum_of};
 use crate::text::{begin, end, push, push_lines, push_number};
 use std::alloc::{AllocError, Global};
 use std::io::Read;
+use tsp_cost::{Costs, Instance};
 use tsp_fields::File;
 use tsp_read::read_from;
 use tsp_stream::Watched;
@@ -43,6 +44,8 @@ pub fn blamed(reason: Reason) -> Blame {
         Reason::NotPotentials
         | Reason::PotentialsDimension
         | Reason::PotentialsKind
+        | Reason::MultiplierNotFixed { .. }
+        | Reason::MultiplierRepeated { .. }
         | Reason::DualInfeasible { .. } => Blame::Potentials,
     }
 }
@@ -65,7 +68,7 @@ pub fn explain_reason<R: Read + Drop>(
     push(text, ":")?;
     end(text)?;
     push_lines(text, reason_sentence(reason))?;
-    let instance = read_again(alloc, instance);
+    let instance = weighed_again(alloc, instance);
     let solution = read_again(alloc, solution);
     let answer = match (&instance, &solution) {
         (Some(instance), Some(solution)) => push_details(text, reason, instance, solution),
@@ -87,13 +90,19 @@ fn read_again<R: Read + Drop>(alloc: Global, again: Option<R>) -> Option<File> {
     }
 }
 
+/// The instance that is read a second time, or `None` where there is none.
+fn weighed_again<R: Read + Drop>(alloc: Global, again: Option<R>) -> Option<Instance> {
+    Instance::of(read_again(alloc, again)?).ok()
+}
+
 /// Appends the nodes and numbers that the reason is about.
 fn push_details(
     text: &mut Vec<u8>,
     reason: Reason,
-    instance: &File,
+    weighed: &Instance,
     solution: &File,
 ) -> Result<(), AllocError> {
+    let instance = weighed.file();
     match reason {
         Reason::NotASolution => push_type(text, solution),
         Reason::Dimension => push_dimensions(text, instance, solution),
@@ -113,11 +122,16 @@ fn push_details(
             text,
             &[("The number of depots in it is ", depots_in(instance))],
         ),
-        Reason::NotSymmetric { i: _, j: _ }
-        | Reason::DualInfeasible { i: _, j: _ }
-        | Reason::NotPotentials
+        Reason::NotSymmetric { i, j } => {
+            push_cost(text, weighed, i, j)?;
+            push_cost(text, weighed, j, i)
+        }
+        Reason::DualInfeasible { i, j } => push_cost(text, weighed, i, j),
+        Reason::NotPotentials
         | Reason::PotentialsDimension
         | Reason::PotentialsKind
+        | Reason::MultiplierNotFixed { .. }
+        | Reason::MultiplierRepeated { .. }
         | Reason::DepotDemand
         | Reason::FixedEdgesInRoutes => Ok(()),
     }
@@ -132,6 +146,27 @@ fn say(text: &mut Vec<u8>, parts: &[(&str, i64)]) -> Result<(), AllocError> {
     }
     push(text, ".")?;
     end(text)
+}
+
+/// Appends the cost from a node to another.
+fn push_cost(
+    text: &mut Vec<u8>,
+    instance: &Instance,
+    from: u32,
+    to: u32,
+) -> Result<(), AllocError> {
+    let nodes = 1..=instance.count();
+    if !nodes.contains(&from) || !nodes.contains(&to) {
+        return Ok(());
+    }
+    say(
+        text,
+        &[
+            ("The cost from ", i64::from(from)),
+            (" to ", i64::from(to)),
+            (" is ", instance.cost(from, to)),
+        ],
+    )
 }
 
 /// Appends the TYPE of a solution that isn't one.

@@ -131,6 +131,13 @@ pub fn reason_sentence(reason: Reason) -> &'static str {
         Reason::PotentialsKind => {
             "A TSP wants a NODE_POTENTIAL_SECTION, an ATSP a ROW_POTENTIAL_SECTION and a COLUMN_POTENTIAL_SECTION."
         }
+        Reason::MultiplierNotFixed { index: _ } => {
+            "A multiplier of FIXED_EDGE_POTENTIAL_SECTION is on a pair of FIXED_EDGES_SECTION of the instance, in either direction.\n\
+             Other pairs need not be in a tour, so a multiplier on one bounds nothing."
+        }
+        Reason::MultiplierRepeated { index: _ } => {
+            "FIXED_EDGE_POTENTIAL_SECTION has at most one multiplier for each pair, whichever node stands first."
+        }
         Reason::DualInfeasible { i: _, j: _ } => {
             "The potentials of a row and a column may sum to at most SCALE times the cost from the one node to the other.\n\
              Here they sum to more, so they bound nothing."

@@ -71,6 +71,10 @@ pub(crate) fn wanted(field: Field) -> &'static str {
             "COLUMN_POTENTIAL_SECTION has for each node from 1 to DIMENSION a group: the node and its number,\n\
              a whole number from -1,000,000,000,000,000 to 1,000,000,000,000,000."
         }
+        Field::FixedPotentialPart => {
+            "FIXED_EDGE_POTENTIAL_SECTION lists two different nodes from 1 to DIMENSION and their multiplier,\n\
+             a whole number from 0 to 1,000,000,000,000,000: at most 100,000 such triples, and -1 at its end."
+        }
     }
 }
 
@@ -108,7 +112,8 @@ pub(crate) fn asked(field: Field) -> &'static str {
         | Field::NodeCoordTypeKey
         | Field::DisplayDataTypeKey
         | Field::DisplayDataPart
-        | Field::FixedEdgesPart => "No file needs it.",
+        | Field::FixedEdgesPart
+        | Field::FixedPotentialPart => "No file needs it.",
     }
 }
 
@@ -134,6 +139,7 @@ pub(crate) fn group(field: Field) -> Option<u64> {
         | Field::DepotPart
         | Field::FixedEdgesPart
         | Field::EdgeWeightPart
-        | Field::TourPart => None,
+        | Field::TourPart
+        | Field::FixedPotentialPart => None,
     }
 }

@@ -1,6 +1,6 @@
 -- Tests of a list, seen through what its elements hold.
-use Rattle.std.proofs.Common.{◌≡◌, ℕ, ◌+◌, [], ◌∷◌, ◌≤◌, Bool, true, List, length, map, refl, sym, ap, ◌∙◌, arith}
-use Rattle.std.specs.Prelude.{◌&&◌, nat_le}
+use Rattle.std.proofs.Common.{◌≡◌, ℕ, zero, suc, ◌+◌, [], ◌∷◌, ◌≤◌, Bool, true, List, length, map, refl, sym, ap, ◌∙◌, arith}
+use Rattle.std.specs.Prelude.{◌&&◌, nat_le, replicate}
 use Rattle.std.specs.Global.{Vec}
 use Rattle.std.specs.List.{fold, list_all, sum_by}
 use Rattle.std.proofs.lemmas.Bool.{le-leb}
@@ -25,3 +25,8 @@ sum_by_mapped f h ys = fold_mapped f h 0 ys
 pub mapped_tours : (tours : List (Vec ℕ)) (r : Bool) → r ≡ (list_all (λ tour. is_tour tour.items) tours && nat_le (sum_by (λ tour. length tour.items) tours) most_tour_nodes)
     → r ≡ are_tours (map (λ tour. tour.items) tours)
 mapped_tours tours r e = e ∙ rw (list_all-map is_tour (λ (tour : Vec ℕ). tour.items) tours, sum_by_mapped (λ (t : List ℕ). length t) (λ (tour : Vec ℕ). tour.items) tours) refl
+
+-- what a list of equal elements is seen as
+pub map_replicate : {X Y : Type 0} (f : X → Y) (n : ℕ) (x : X) → map f (replicate n x) ≡ replicate n (f x)
+map_replicate f zero x = refl
+map_replicate f (suc n) x = ap (λ ys. f x ∷ ys) (map_replicate f n x)

@@ -2,10 +2,11 @@
 use Rattle.std.proofs.Common.{◌≡◌, ℕ, suc, ◌*◌, Bool, true, false, cond, List, [], ◌∷◌, length, Option, None, Some, refl, sym, ap, subst, ◌∙◌, inl, inr, arith}
 use Rattle.std.specs.Prelude.{not, ◌&&◌, ◌||◌, ◌==◌, nat_le, IsTrue, IsSome, is_some, ◌⊎◌, ℤ, pos, neg_ℤ, int_le, slice_index_or as get_or}
 use Rattle.std.specs.Option.{option_map, option_or}
+use Rattle.std.specs.Ordering.{int_eq}
 use Rattle.std.specs.Str.{bytes_eq}
 use Rattle.std.specs.List.{All, AllByRecursion, Contains, find, list_all, sum_by}
 use Rattle.std.proofs.lemmas.Bool.{false≢true, leb-true, eqb-true}
-use Rattle.std.proofs.lemmas.Bool.Decides.{nat_tests}
+use Rattle.std.proofs.lemmas.Bool.Decides.{Decides-int_eq, nat_tests}
 use Rattle.std.proofs.lemmas.Int.{ints}
 use Rattle.std.proofs.lemmas.List.Elements.{All-from_recursion, All-contains}
 use Rattle.std.proofs.lemmas.List.Sums.{AllPass-from_list_all}
@@ -20,13 +21,13 @@ use Rattle.tsp_value.specs.declared.kinds.Kind.TheVariants as kinds
 use Rattle.tsp_value.specs.declared.kinds.WeightFormat.{WeightFormat}
 use Rattle.tsp_value.specs.declared.kinds.WeightFormat.TheVariants.{ByFunction, Listed}
 use Rattle.tsp_value.specs.Cells.{IsNode, cells}
-use Rattle.tsp_value.specs.Limits.{most_nodes, most_matrix_nodes, most_coordinate, most_weight, most_demand, most_capacity, most_scale, most_potential, most_depots, most_fixed, most_tour_nodes}
+use Rattle.tsp_value.specs.Limits.{most_nodes, most_matrix_nodes, most_coordinate, most_weight, most_demand, most_capacity, most_scale, most_potential, most_depots, most_fixed, most_multipliers, most_multiplier, most_tour_nodes}
 use Rattle.tsp_value.specs.Words.{field_word}
 use Rattle.tsp_value.specs.Words.{fields_in_order, field_found}
 use Rattle.tsp_fields.specs.Fields.{Fields}
-use Rattle.tsp_fields.specs.Validity.{if_there, is_from_to, is_within, is_node, with_dimension, is_by_node, is_point, is_demand, are_depots, is_pair, are_fixed, are_weights, is_tour, are_tours, fits, first_failing, bad_field}
+use Rattle.tsp_fields.specs.Validity.{if_there, is_from_to, is_within, is_node, with_dimension, is_by_node, is_point, is_demand, are_depots, is_pair, are_fixed, is_triple, are_triples, are_weights, is_tour, are_tours, fits, first_failing, bad_field}
 use Rattle.tsp_fields.specs.Rules.{standing_of, count_of, is_instance, is_routing, is_tours, is_certificate, is_explicit, is_function, lists_weights, is_there, asked_in_order, has_wrong_format, is_count, has_wrong_count, has_row_or_column, end_fault, format_or_count, fault_of}
-use Rattle.tsp_fields.specs.Valid.{IsFromTo, IsWithin, IsByNode, IsPoint, IsDemand, IsPairOf, IsNodeList, AreDepots, AreFixed, AreWeights, AreTours, IsInRange, HasInstance, HasRouting, HasPotentials}
+use Rattle.tsp_fields.specs.Valid.{IsFromTo, IsWithin, IsByNode, IsPoint, IsDemand, IsPairOf, IsNodeList, AreDepots, AreFixed, IsTripleOf, AreTriples, AreWeights, AreTours, IsInRange, HasInstance, HasRouting, HasPotentials}
 
 -- ---- tests that hold
 
@@ -142,8 +143,16 @@ is_pair_of n pair e =
     let nodes = both (is_node n pair.0) (is_node n pair.1) first.0 in
     (node n pair.0 nodes.0, node n pair.1 nodes.1, λ same. grind (arith, nat_tests, first.1, same))
 
+is_triple_of : (n : ℕ) (triple : ℕ × ℕ × ℤ) → is_triple n triple ≡ true → IsTripleOf n triple
+is_triple_of n triple e =
+    let two = both (is_pair n (triple.0, triple.1)) (is_from_to (pos 0) (pos most_multiplier) triple.2) e in
+    (is_pair_of n (triple.0, triple.1) two.0, from_to (pos 0) (pos most_multiplier) triple.2 two.1)
+
 point : (p : Point) → is_point p ≡ true → IsPoint p
-point p e = let two = both (is_within most_coordinate p.x) (is_within most_coordinate p.y) e in (within most_coordinate p.x two.0, within most_coordinate p.y two.1)
+point p e =
+    let flat = both (is_within most_coordinate p.x && is_within most_coordinate p.y) (int_eq p.z (pos 0)) e in
+    let two = both (is_within most_coordinate p.x) (is_within most_coordinate p.y) flat.0 in
+    (within most_coordinate p.x two.0, within most_coordinate p.y two.1, (Decides-int_eq p.z (pos 0)).0 flat.1)
 
 -- ---- fields that stand
 
@@ -172,6 +181,19 @@ fixed_in f pairs e stands =
     let held = dimensioned are_fixed f.dimension pairs (given (with_dimension are_fixed f.dimension) f.fixed pairs e stands) in
     let two = both (nat_le (length pairs) most_fixed) (list_all (is_pair held.0) pairs) held.2 in
     record { n = held.0; dimension = held.1; few = leb-true (length pairs) most_fixed two.0; pairs_of_nodes = all_so (is_pair held.0) (IsPairOf held.0) (is_pair_of held.0) pairs two.1 }
+
+triples_in : (f : Fields) (triples : List (ℕ × ℕ × ℤ)) → fits f fields.FixedPotentialPart ≡ true → f.fixed_potentials ≡ Some triples
+    → AreTriples f triples
+triples_in f triples e stands =
+    let given_so = given (with_dimension are_triples f.dimension) f.fixed_potentials triples e stands in
+    let held = dimensioned are_triples f.dimension triples given_so in
+    let two = both (nat_le (length triples) most_multipliers) (list_all (is_triple held.0) triples) held.2 in
+    record {
+      n = held.0;
+      dimension = held.1;
+      few = leb-true (length triples) most_multipliers two.0;
+      triples_of_nodes = all_so (is_triple held.0) (IsTripleOf held.0) (is_triple_of held.0) triples two.1;
+    }
 
 tours_in : (tours : List (List ℕ)) → are_tours tours ≡ true → AreTours tours
 tours_in tours e =
@@ -235,6 +257,7 @@ in_range f valid = record {
   node_potentials = λ potentials. by_node f (is_within most_potential) (IsWithin most_potential) (within most_potential) f.node_potentials potentials (each_fits f valid fields.NodePotentialPart);
   row_potentials = λ potentials. by_node f (is_within most_potential) (IsWithin most_potential) (within most_potential) f.row_potentials potentials (each_fits f valid fields.RowPotentialPart);
   column_potentials = λ potentials. by_node f (is_within most_potential) (IsWithin most_potential) (within most_potential) f.column_potentials potentials (each_fits f valid fields.ColumnPotentialPart);
+  fixed_potentials = λ triples. triples_in f triples (each_fits f valid fields.FixedPotentialPart);
 }
 
 -- ---- what stands

@@ -11,6 +11,7 @@ use Rattle.tsp_value.specs.declared.kinds.WeightKind.TheVariants.{Explicit, Euc2
 use Rattle.tsp_value.specs.declared.kinds.WeightFormat.{WeightFormat}
 use Rattle.tsp_value.specs.declared.kinds.WeightFormat.TheVariants.{ByFunction, Listed}
 use Rattle.tsp_value.specs.Place.{place_of}
+use Rattle.tsp_fields.specs.Coords.{origin}
 use Rattle.tsp_fields.specs.Fields.{Fields}
 
 -- ---- weights that are listed
@@ -28,7 +29,7 @@ listed_cost layout n weights i j = unwrap_or (option_or (weight_at layout n weig
 
 -- the point of a node
 abbrev pub point_of : List Point → ℕ → Point
-point_of points node = slice_index_or points (node - 1) (record { x = pos 0; y = pos 0 })
+point_of points node = slice_index_or points (node - 1) origin
 
 -- the distance by the weight type, if it is one
 unfoldable pub distance : WeightKind → Point → Point → ℤ

@@ -3,8 +3,9 @@ use Rattle.std.specs.Prelude.{ℕ, Bool, true, List, [], map, Option, None, Some
 use Rattle.std.specs.Option.{option_map}
 use Rattle.tsp_number.specs.declared.decimal.Point.{Point}
 use Rattle.tsp_value.specs.declared.field.Field.{Field}
-use Rattle.tsp_value.specs.declared.field.Field.TheVariants.{NameKey, TypeKey, CommentKey, OtherKey, DimensionKey, CapacityKey, ScaleKey, EdgeWeightTypeKey, EdgeWeightFormatKey, NodeCoordTypeKey, DisplayDataTypeKey, NodeCoordPart, DisplayDataPart, DemandPart, DepotPart, FixedEdgesPart, EdgeWeightPart, TourPart, NodePotentialPart, RowPotentialPart, ColumnPotentialPart}
+use Rattle.tsp_value.specs.declared.field.Field.TheVariants.{NameKey, TypeKey, CommentKey, OtherKey, DimensionKey, CapacityKey, ScaleKey, EdgeWeightTypeKey, EdgeWeightFormatKey, NodeCoordTypeKey, DisplayDataTypeKey, NodeCoordPart, DisplayDataPart, DemandPart, DepotPart, FixedEdgesPart, EdgeWeightPart, TourPart, NodePotentialPart, RowPotentialPart, ColumnPotentialPart, FixedPotentialPart}
 use Rattle.tsp_fields.specs.declared.file.Draft.{Draft}
+use Rattle.tsp_fields.specs.Coords.{points_of}
 use Rattle.tsp_value.specs.declared.kinds.Kind.{Kind}
 use Rattle.tsp_value.specs.declared.kinds.WeightKind.{WeightKind}
 use Rattle.tsp_value.specs.declared.kinds.WeightFormat.{WeightFormat}
@@ -34,6 +35,7 @@ pub record Fields : Type 0 where
   pub node_potentials : Option (List ℤ)
   pub row_potentials : Option (List ℤ)
   pub column_potentials : Option (List ℤ)
+  pub fixed_potentials : Option (List (ℕ × ℕ × ℤ))
 
 -- no field is set
 abbrev pub blank_fields : Fields
@@ -59,6 +61,7 @@ blank_fields = record {
   node_potentials = None;
   row_potentials = None;
   column_potentials = None;
+  fixed_potentials = None;
 }
 
 -- what a draft holds
@@ -75,8 +78,8 @@ fields_of d = record {
   weight_format = d.weight_format;
   coord_kind = d.coord_kind;
   display_kind = d.display_kind;
-  coords = option_map (λ v. v.items) d.coords;
-  display = option_map (λ v. v.items) d.display;
+  coords = option_map points_of d.coords;
+  display = option_map points_of d.display;
   demands = option_map (λ v. v.items) d.demands;
   depots = option_map (λ v. v.items) d.depots;
   fixed = option_map (λ v. v.items) d.fixed;
@@ -85,6 +88,7 @@ fields_of d = record {
   node_potentials = option_map (λ v. v.items) d.node_potentials;
   row_potentials = option_map (λ v. v.items) d.row_potentials;
   column_potentials = option_map (λ v. v.items) d.column_potentials;
+  fixed_potentials = option_map (λ v. v.items) d.fixed_potentials;
 }
 
 -- whether a field stands; comments and unknown keywords may be none
@@ -110,6 +114,7 @@ stands_in f TourPart = is_some f.tours
 stands_in f NodePotentialPart = is_some f.node_potentials
 stands_in f RowPotentialPart = is_some f.row_potentials
 stands_in f ColumnPotentialPart = is_some f.column_potentials
+stands_in f FixedPotentialPart = is_some f.fixed_potentials
 
 -- ---- sections by node, by their field
 

@@ -1,3 +1,4 @@
+pub mod Coords
 pub mod Cost
 pub mod Fields
 pub mod Listed
@@ -6,3 +7,4 @@ pub mod Rules
 pub mod Valid
 pub mod Validity
 pub mod Weights
+pub mod Examples

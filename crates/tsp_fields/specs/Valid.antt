@@ -5,7 +5,7 @@ use Rattle.tsp_number.specs.declared.decimal.Point.{Point}
 use Rattle.tsp_value.specs.declared.layout.Layout.{Layout}
 use Rattle.tsp_value.specs.declared.kinds.WeightFormat.TheVariants.{Listed}
 use Rattle.tsp_value.specs.Cells.{IsNode, cells}
-use Rattle.tsp_value.specs.Limits.{most_nodes, most_matrix_nodes, most_coordinate, most_weight, most_demand, most_capacity, most_scale, most_potential, most_depots, most_fixed, most_tour_nodes}
+use Rattle.tsp_value.specs.Limits.{most_nodes, most_matrix_nodes, most_coordinate, most_weight, most_demand, most_capacity, most_scale, most_potential, most_depots, most_fixed, most_multipliers, most_multiplier, most_tour_nodes}
 use Rattle.tsp_fields.specs.Fields.{Fields}
 use Rattle.tsp_fields.specs.Rules.{is_explicit}
 
@@ -20,8 +20,9 @@ IsWithin most z = IsFromTo (neg_ℤ (pos most)) (pos most) z
 abbrev pub IsByNode : {A : Type 0} → (A → Type 0) → Fields → List A → Type 0
 IsByNode P f entries = (f.dimension ≡ Some (length entries)) × All P entries
 
+-- a point of the plane
 abbrev pub IsPoint : Point → Type 0
-IsPoint point = IsWithin most_coordinate point.x × IsWithin most_coordinate point.y
+IsPoint point = IsWithin most_coordinate point.x × IsWithin most_coordinate point.y × (point.z ≡ pos 0)
 
 abbrev pub IsDemand : ℤ → Type 0
 IsDemand demand = IsFromTo (pos 0) (pos most_demand) demand
@@ -29,6 +30,10 @@ IsDemand demand = IsFromTo (pos 0) (pos most_demand) demand
 -- two different nodes of 1..n
 abbrev pub IsPairOf : ℕ → ℕ × ℕ → Type 0
 IsPairOf n pair = IsNode n pair.0 × IsNode n pair.1 × (pair.0 ≢ pair.1)
+
+-- two different nodes of 1..n, and a number that a multiplier may have
+abbrev pub IsTripleOf : ℕ → ℕ × ℕ × ℤ → Type 0
+IsTripleOf n triple = IsPairOf n (triple.0, triple.1) × IsFromTo (pos 0) (pos most_multiplier) triple.2
 
 -- not empty, and of nodes that some file can have
 abbrev pub IsNodeList : List ℕ → Type 0
@@ -45,6 +50,12 @@ pub record AreFixed (f : Fields) (pairs : List (ℕ × ℕ)) : Type 0 where
   pub dimension : f.dimension ≡ Some n
   pub few : length pairs ≤ most_fixed
   pub pairs_of_nodes : All (IsPairOf n) pairs
+
+pub record AreTriples (f : Fields) (triples : List (ℕ × ℕ × ℤ)) : Type 0 where
+  pub n : ℕ
+  pub dimension : f.dimension ≡ Some n
+  pub few : length triples ≤ most_multipliers
+  pub triples_of_nodes : All (IsTripleOf n) triples
 
 -- weights are listed in a layout, and as many as its cells
 pub record AreWeights (f : Fields) (weights : List ℤ) : Type 0 where
@@ -74,6 +85,7 @@ pub record IsInRange (f : Fields) : Type 0 where
   pub node_potentials : (potentials : List ℤ) → f.node_potentials ≡ Some potentials → IsByNode (IsWithin most_potential) f potentials
   pub row_potentials : (potentials : List ℤ) → f.row_potentials ≡ Some potentials → IsByNode (IsWithin most_potential) f potentials
   pub column_potentials : (potentials : List ℤ) → f.column_potentials ≡ Some potentials → IsByNode (IsWithin most_potential) f potentials
+  pub fixed_potentials : (triples : List (ℕ × ℕ × ℤ)) → f.fixed_potentials ≡ Some triples → AreTriples f triples
 
 -- what stands in an instance: its nodes and weight type, and the weights or the coordinates that the weight type is over
 pub record HasInstance (f : Fields) : Type 0 where

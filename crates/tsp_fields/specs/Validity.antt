@@ -1,13 +1,14 @@
 -- When a field is valid on its own. The ranges are this project's profile of TSPLIB 95.
 use Rattle.std.specs.Prelude.{ℕ, ◌+◌, ◌-◌, ◌*◌, Bool, true, false, not, ◌&&◌, ◌==◌, nat_le, List, length, slice_index, Option, None, Some, ℤ, pos, neg_ℤ, int_le}
 use Rattle.std.specs.Option.{option_map_or}
+use Rattle.std.specs.Ordering.{int_eq}
 use Rattle.std.specs.List.{list_all, find, sum_by}
 use Rattle.tsp_number.specs.declared.decimal.Point.{Point}
 use Rattle.tsp_value.specs.declared.field.Field.{Field}
 use Rattle.tsp_value.specs.declared.field.Field.TheVariants.{NameKey, CommentKey, OtherKey, DimensionKey, CapacityKey, ScaleKey}
 use Rattle.tsp_value.specs.declared.field.Shape.{Shape}
-use Rattle.tsp_value.specs.declared.field.Shape.TheVariants.{Numbers, Points, Depots, Pairs, Weights, Tours}
-use Rattle.tsp_value.specs.Limits.{most_nodes, most_matrix_nodes, most_coordinate, most_weight, most_demand, most_capacity, most_scale, most_kept_bytes, most_comments, most_others, most_depots, most_fixed, most_tour_nodes}
+use Rattle.tsp_value.specs.declared.field.Shape.TheVariants.{Numbers, Points, Depots, Pairs, Weights, Tours, Triples}
+use Rattle.tsp_value.specs.Limits.{most_nodes, most_matrix_nodes, most_coordinate, most_weight, most_demand, most_capacity, most_scale, most_kept_bytes, most_comments, most_others, most_depots, most_fixed, most_multipliers, most_multiplier, most_tour_nodes}
 use Rattle.tsp_value.specs.Bytes.{is_blank, is_letter, is_keyword_byte}
 use Rattle.tsp_value.specs.Words.{field_word}
 use Rattle.tsp_value.specs.Keywords.{keyword_of, is_unknown}
@@ -65,8 +66,9 @@ with_dimension fits (Some n) x = fits n x
 abbrev pub is_by_node : {A : Type 0} → (A → Bool) → ℕ → List A → Bool
 is_by_node fits n xs = length xs == n && list_all fits xs
 
+-- a point of the plane
 abbrev pub is_point : Point → Bool
-is_point point = is_within most_coordinate point.x && is_within most_coordinate point.y
+is_point point = is_within most_coordinate point.x && is_within most_coordinate point.y && int_eq point.z (pos 0)
 
 abbrev pub is_demand : ℤ → Bool
 is_demand demand = is_from_to (pos 0) (pos most_demand) demand
@@ -80,6 +82,13 @@ is_pair n pair = is_node n pair.0 && is_node n pair.1 && not (pair.0 == pair.1)
 
 abbrev pub are_fixed : ℕ → List (ℕ × ℕ) → Bool
 are_fixed n pairs = nat_le (length pairs) most_fixed && list_all (is_pair n) pairs
+
+-- two different nodes, and a number that a multiplier may have
+abbrev pub is_triple : ℕ → ℕ × ℕ × ℤ → Bool
+is_triple n triple = is_pair n (triple.0, triple.1) && is_from_to (pos 0) (pos most_multiplier) triple.2
+
+abbrev pub are_triples : ℕ → List (ℕ × ℕ × ℤ) → Bool
+are_triples n triples = nat_le (length triples) most_multipliers && list_all (is_triple n) triples
 
 abbrev pub are_weights : ℕ → List ℤ → Bool
 are_weights n weights = nat_le n most_matrix_nodes && nat_le (length weights) (n * n) && list_all (is_within most_weight) weights
@@ -101,6 +110,7 @@ section_fits f field Depots = if_there (with_dimension are_depots f.dimension) f
 section_fits f field Pairs = if_there (with_dimension are_fixed f.dimension) f.fixed
 section_fits f field Weights = if_there (with_dimension are_weights f.dimension) f.weights
 section_fits f field Tours = if_there are_tours f.tours
+section_fits f field Triples = if_there (with_dimension are_triples f.dimension) f.fixed_potentials
 
 -- the field is valid on its own; keywords that are not named here are of types that hold nothing else
 abbrev pub fits : Fields → Field → Bool

@@ -1,11 +1,11 @@
 //! What a file holds: as a draft, and as a file once it is valid.
 
+use crate::coords::Coords;
 use crate::fault::DraftFault;
 use crate::rules::end_fault;
 use crate::table::bad_field;
 use std::alloc::Global;
 use std::marker::Model;
-use tsp_number::Point;
 use tsp_value::{CoordKind, DisplayKind, Field, Kind, Layout, WeightFormat, WeightKind};
 
 /// The fields of a file, in canonical order. A list by node has one entry for each node, in order.
@@ -34,9 +34,9 @@ pub struct Draft {
     /// DISPLAY_DATA_TYPE.
     pub display_kind: Option<DisplayKind>,
     /// NODE_COORD_SECTION, by node.
-    pub coords: Option<Vec<Point>>,
+    pub coords: Option<Coords>,
     /// DISPLAY_DATA_SECTION, by node.
-    pub display: Option<Vec<Point>>,
+    pub display: Option<Coords>,
     /// DEMAND_SECTION, by node.
     pub demands: Option<Vec<i64>>,
     /// DEPOT_SECTION.
@@ -53,11 +53,14 @@ pub struct Draft {
     pub row_potentials: Option<Vec<i64>>,
     /// COLUMN_POTENTIAL_SECTION, by node.
     pub column_potentials: Option<Vec<i64>>,
+    /// FIXED_EDGE_POTENTIAL_SECTION: two nodes and the multiplier of their edge.
+    pub fixed_potentials: Option<Vec<(u32, u32, i64)>>,
 }
 
 impl Draft {
     ghost use Rattle.std.specs.Prelude.{◌≡◌};
     ghost use Rattle.std.specs.Option.{option_map};
+    ghost use Rattle.tsp_fields.specs.Coords.{points_of};
     ghost use Rattle.tsp_fields.specs.Fields.{fields_of, blank_fields, stands_in, numbers_in, with_numbers, points_in, with_points};
 
     /// A draft with no field set: each is `None` or an empty list. No memory is taken.
@@ -86,6 +89,7 @@ impl Draft {
             node_potentials: None,
             row_potentials: None,
             column_potentials: None,
+            fixed_potentials: None,
         }
     }
 
@@ -114,8 +118,10 @@ impl Draft {
             Field::NodePotentialPart => self.node_potentials.is_some(),
             Field::RowPotentialPart => self.row_potentials.is_some(),
             Field::ColumnPotentialPart => self.column_potentials.is_some(),
+            Field::FixedPotentialPart => self.fixed_potentials.is_some(),
         }
     }
+
     /// The numbers of a section that has one for each node; nothing where it is missing, and of
     /// every other field.
     pub fn numbers(&self, field: Field) -> Option<&[i64]>
@@ -146,20 +152,19 @@ impl Draft {
 
     /// The points of a section that has one for each node; nothing where it is missing, and of
     /// every other field.
-    pub fn points(&self, field: Field) -> Option<&[Point]>
-        ensures { option_map (λ entries. entries.now) result ≡ points_in (fields_of self.now) field }
+    pub fn points(&self, field: Field) -> Option<&Coords>
+        ensures { option_map (λ points. points_of points.now) result ≡ points_in (fields_of self.now) field }
     {
-        let points = match field {
-            Field::NodeCoordPart => &self.coords,
-            Field::DisplayDataPart => &self.display,
-            _ => return None,
-        };
-        points.as_ref().map(|entries| entries.as_slice())
+        match field {
+            Field::NodeCoordPart => self.coords.as_ref(),
+            Field::DisplayDataPart => self.display.as_ref(),
+            _ => None,
+        }
     }
 
     /// Sets the points of such a section; those of another field are dropped.
-    pub fn set_points(&mut self, field: Field, points: Vec<Point>)
-        ensures { fields_of self.new ≡ with_points field points.items (fields_of self.old) }
+    pub fn set_points(&mut self, field: Field, points: Coords)
+        ensures { fields_of self.new ≡ with_points field (points_of points) (fields_of self.old) }
     {
         match field {
             Field::NodeCoordPart => self.coords = Some(points),
@@ -196,6 +201,7 @@ impl File {
     ghost use Rattle.std.specs.Option.{option_map};
     ghost use Rattle.tsp_value.specs.Cells.{cells};
     ghost use Rattle.tsp_value.specs.Limits.{most_weight};
+    ghost use Rattle.tsp_fields.specs.Coords.{points_of};
     ghost use Rattle.tsp_fields.specs.Valid.{IsWithin};
     ghost use Rattle.tsp_fields.specs.Relayout.{nodes_in, with_weights};
     ghost use Rattle.tsp_fields.specs.Fields.{fields_of};
@@ -323,20 +329,17 @@ impl File {
     }
 
     /// NODE_COORD_SECTION: a point for each node.
-    pub fn coords(&self) -> Option<&[Point]>
-        ensures { option_map (λ entries. entries.now) result ≡ self.now.coords }
+    pub fn coords(&self) -> Option<&Coords>
+        ensures { option_map (λ points. points_of points.now) result ≡ self.now.coords }
     {
-        self.draft.coords.as_ref().map(|entries| entries.as_slice())
+        self.draft.coords.as_ref()
     }
 
     /// DISPLAY_DATA_SECTION: a point for each node.
-    pub fn display(&self) -> Option<&[Point]>
-        ensures { option_map (λ entries. entries.now) result ≡ self.now.display }
+    pub fn display(&self) -> Option<&Coords>
+        ensures { option_map (λ points. points_of points.now) result ≡ self.now.display }
     {
-        self.draft
-            .display
-            .as_ref()
-            .map(|entries| entries.as_slice())
+        self.draft.display.as_ref()
     }
 
     /// DEMAND_SECTION: a demand for each node.
@@ -406,6 +409,17 @@ impl File {
     {
         self.draft
             .column_potentials
+            .as_ref()
+            .map(|entries| entries.as_slice())
+    }
+
+    /// FIXED_EDGE_POTENTIAL_SECTION: two different nodes and the multiplier of their edge, a count
+    /// of 1 / scale.
+    pub fn fixed_potentials(&self) -> Option<&[(u32, u32, i64)]>
+        ensures { option_map (λ entries. entries.now) result ≡ self.now.fixed_potentials }
+    {
+        self.draft
+            .fixed_potentials
             .as_ref()
             .map(|entries| entries.as_slice())
     }

@@ -1,6 +1,8 @@
 //! What a TSPLIB 95 file holds, and when it is valid.
 #![tactic(auto)]
 
+mod coords;
+mod examples;
 mod fault;
 mod file;
 mod laws;
@@ -10,6 +12,10 @@ mod table;
 mod validity;
 mod weights;
 
+pub use coords::Coords;
+pub use examples::{
+    examples_of_costs, examples_of_distances_by_type, examples_of_lost_costs, examples_of_relayouts,
+};
 pub use fault::{DraftFault, EndFault, RelayoutFault};
 pub use file::{Draft, File};
 pub use laws::{valid_fields_are_in_range, valid_files_are_complete};

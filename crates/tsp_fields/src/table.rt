@@ -4,12 +4,13 @@ ghost use Rattle.std.specs.Prelude.{◌≡◌, ℕ, Bool, List, Some, MatchResul
 ghost use Rattle.std.specs.Option.{option_map};
 ghost use Rattle.tsp_value.specs.Limits.{most_nodes};
 ghost use Rattle.tsp_value.specs.Words.{field_word};
+ghost use Rattle.tsp_fields.specs.Coords.{points_of};
 ghost use Rattle.tsp_fields.specs.Fields.{fields_of};
-ghost use Rattle.tsp_fields.specs.Validity.{if_there, with_dimension, is_by_node, is_kept, is_node, is_from_to, is_point, are_comments, are_others, are_depots, are_fixed, are_weights, are_tours, section_fits, fits, first_failing, bad_field};
+ghost use Rattle.tsp_fields.specs.Validity.{if_there, with_dimension, is_by_node, is_kept, is_node, is_from_to, is_point, are_comments, are_others, are_depots, are_fixed, are_triples, are_weights, are_tours, section_fits, fits, first_failing, bad_field};
 
+use crate::coords::Coords;
 use crate::file::Draft;
 use crate::validity;
-use tsp_number::Point;
 use tsp_value::{
     Field, MOST_CAPACITY, MOST_COMMENTS, MOST_NODES, MOST_OTHERS, MOST_SCALE, Shape, Word,
 };
@@ -45,6 +46,7 @@ fn section_fits(draft: &Draft, field: Field, shape: Shape) -> bool
         Shape::Pairs => are_fixed(draft.dimension, &draft.fixed),
         Shape::Weights => are_weights(draft.dimension, &draft.weights),
         Shape::Tours => are_tours(&draft.tours),
+        Shape::Triples => are_triples(draft.dimension, &draft.fixed_potentials),
     }
 }
 
@@ -130,8 +132,8 @@ fn section<'a, T>(
 }
 
 /// There is a point for each node.
-fn are_points(dimension: Option<u32>, points: Option<&[Point]>) -> bool
-    ensures { result ≡ if_there (with_dimension (is_by_node is_point) dimension) (option_map (λ entries. entries.now) points.entry) }
+fn are_points(dimension: Option<u32>, points: Option<&Coords>) -> bool
+    ensures { result ≡ if_there (with_dimension (is_by_node is_point) dimension) (option_map (λ points. points_of points.now) points.entry) }
 {
     match (points, dimension) {
         (None, _) => true,
@@ -171,6 +173,16 @@ fn are_fixed(dimension: Option<u32>, pairs: &Option<Vec<(u32, u32)>>) -> bool
 {
     match section(dimension, pairs) {
         Ok((nodes, pairs)) => validity::are_fixed(nodes, pairs),
+        Err(valid) => valid,
+    }
+}
+
+/// The triples are of two different nodes and a multiplier, and not too many.
+fn are_triples(dimension: Option<u32>, triples: &Option<Vec<(u32, u32, i64)>>) -> bool
+    ensures { result ≡ if_there (with_dimension are_triples dimension) (option_map (λ v. v.items) triples.now) }
+{
+    match section(dimension, triples) {
+        Ok((nodes, triples)) => validity::are_triples(nodes, triples),
         Err(valid) => valid,
     }
 }

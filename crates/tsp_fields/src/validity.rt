@@ -5,13 +5,16 @@ ghost use Rattle.std.specs.List.{list_all, sum_by};
 ghost use Rattle.tsp_value.specs.Words.{field_word};
 ghost use Rattle.tsp_value.specs.Bytes.{is_blank, is_keyword_byte};
 ghost use Rattle.tsp_value.specs.Limits.{most_coordinate, most_potential, most_tour_nodes};
-ghost use Rattle.tsp_fields.specs.Validity.{is_kept, is_unknown_keyword, is_other, is_from_to, is_within, is_node, is_point, is_demand, are_depots, is_pair, are_fixed, are_weights, is_tour};
+ghost use Rattle.tsp_number.specs.Distances.{on_plane};
+ghost use Rattle.tsp_fields.specs.Coords.{points_of};
+ghost use Rattle.tsp_fields.specs.Validity.{is_kept, is_unknown_keyword, is_other, is_from_to, is_within, is_node, is_point, is_demand, are_depots, is_pair, are_fixed, is_triple, are_triples, are_weights, is_tour};
 
-use tsp_number::{Decimal, Point};
+use crate::coords::Coords;
+use tsp_number::{Decimal, InSpace, PlanePoint, Point};
 use tsp_value::{
     Field, Keyword, MOST_COORDINATE, MOST_DEMAND, MOST_DEPOTS, MOST_FIXED, MOST_KEPT_BYTES,
-    MOST_MATRIX_NODES, MOST_NODES, MOST_POTENTIAL, MOST_TOUR_NODES, MOST_WEIGHT, Word, is_blank,
-    is_keyword_byte, is_letter,
+    MOST_MATRIX_NODES, MOST_MULTIPLIER, MOST_MULTIPLIERS, MOST_NODES, MOST_POTENTIAL,
+    MOST_TOUR_NODES, MOST_WEIGHT, Word, is_blank, is_keyword_byte, is_letter,
 };
 
 /// Whether no byte is a byte 10.
@@ -106,13 +109,28 @@ fn is_coordinate(coordinate: Decimal) -> bool
     -MOST_COORDINATE <= count && count <= MOST_COORDINATE
 }
 
-/// Whether both coordinates of every point are of a size of at most 10^9.
-pub(crate) fn are_points(points: &[Point]) -> bool
-    ensures { result ≡ list_all is_point points.now }
+/// Whether it is a point of the plane whose coordinates are of a size of at most 10^9.
+fn is_point(point: Point) -> bool
+    ensures { result ≡ is_point point }
 {
-    points
-        .iter()
-        .all(|point| is_coordinate(point.x) && is_coordinate(point.y))
+    is_coordinate(point.x) && is_coordinate(point.y) && point.z.count() == 0
+}
+
+/// Whether the coordinates of every point of the plane are of a size of at most 10^9.
+fn are_within(points: &[PlanePoint]) -> bool
+    ensures { result ≡ list_all (λ point. is_point (on_plane point.x point.y)) points.now }
+{
+    points.iter().all(|point| is_point(point.in_space()))
+}
+
+/// Whether every point is one of the plane, within its limits.
+pub(crate) fn are_points(points: &Coords) -> bool
+    ensures { result ≡ list_all is_point (points_of points.now) }
+{
+    match points {
+        Coords::Plane(points) => are_within(points),
+        Coords::Space(points) => points.iter().all(|point| is_point(*point)),
+    }
 }
 
 /// Whether a number is a node of 1..n.
@@ -155,6 +173,28 @@ pub(crate) fn are_fixed(n: u32, pairs: &[(u32, u32)]) -> bool
     ensures { result ≡ are_fixed n pairs.now }
 {
     pairs.len() <= MOST_FIXED && are_pairs(n, pairs)
+}
+
+/// Whether a triple is of two different nodes of 1..n and a number from 0 to `MOST_MULTIPLIER`.
+fn is_triple(n: u32, triple: (u32, u32, i64)) -> bool
+    ensures { result ≡ is_triple n triple }
+{
+    is_pair(n, (triple.0, triple.1)) && is_from_to(triple.2, 0, MOST_MULTIPLIER)
+}
+
+/// Whether every triple is of two different nodes of 1..n and a multiplier.
+fn are_multipliers(n: u32, triples: &[(u32, u32, i64)]) -> bool
+    ensures { result ≡ list_all (is_triple n) triples.now }
+{
+    triples.iter().all(|triple| is_triple(n, *triple))
+}
+
+/// Whether every triple is of two different nodes of 1..n and a multiplier, and there are at most
+/// `MOST_MULTIPLIERS`.
+pub(crate) fn are_triples(n: u32, triples: &[(u32, u32, i64)]) -> bool
+    ensures { result ≡ are_triples n triples.now }
+{
+    triples.len() <= MOST_MULTIPLIERS && are_multipliers(n, triples)
 }
 
 /// Whether every weight is of a size of at most `MOST_WEIGHT`, there are at most `n * n` of them,

@@ -9,6 +9,9 @@ ghost use Rattle.tsp_fields.specs.Valid.{IsWithin};
 use std::alloc::{AllocError, Global};
 use tsp_value::Layout;
 
+/// How many rows and columns a block of cells has, which with its mirrored block stays in the cache.
+const BLOCK: u32 = 64;
+
 /// The weights of a matrix over some nodes, as a layout lists them.
 #[derive(Clone, Copy, Debug)]
 pub(crate) struct ListedWeights<'a> {
@@ -22,7 +25,7 @@ pub(crate) struct ListedWeights<'a> {
 }
 
 impl<'a> ListedWeights<'a> {
-    ghost use Rattle.std.specs.Prelude.{ℕ, ◌<◌, ◌≢◌, ◌++◌, false, map, pos, ◌↔◌, IsTrue, MatchOption, IfOk, OnOk};
+    ghost use Rattle.std.specs.Prelude.{ℕ, ◌<◌, ◌+◌, ◌*◌, ◌≢◌, ◌++◌, false, map, pos, ◌↔◌, IsTrue, MatchOption, IfOk, OnOk};
     ghost use Rattle.tsp_value.specs.declared.layout.Layout.TheVariants.{FullMatrix};
     ghost use Rattle.tsp_value.specs.Cells.{IsNode, cells_of_line};
     ghost use Rattle.tsp_value.specs.Even.{IsFirstUneven, FindsUneven};
@@ -100,7 +103,20 @@ impl<'a> ListedWeights<'a> {
     }
 
     /// The first pair, the smaller node first, by rows, whose two costs differ.
+    ///
+    /// Most matrices that come here are even, and show it by blocks: going by rows walks down a
+    /// column of the whole matrix for each, so it is left to those that aren't.
     fn first_uneven(&self) -> Option<(u32, u32)>
+        ensures { FindsUneven self.now.nodes (costs_of self.now) result }
+    {
+        if self.is_even() {
+            return None;
+        }
+        self.first_uneven_by_rows()
+    }
+
+    /// The same, pair by pair.
+    fn first_uneven_by_rows(&self) -> Option<(u32, u32)>
         ensures { FindsUneven self.now.nodes (costs_of self.now) result }
     {
         'rows: for i in 1..self.nodes {
@@ -109,6 +125,89 @@ impl<'a> ListedWeights<'a> {
             }
         }
         None
+    }
+
+    /// Whether the two costs of each pair are the same, block by block.
+    fn is_even(&self) -> bool
+        ensures { IsTrue result ↔ ((i j : ℕ) → IsNode (self.now.nodes) i
+            → IsNode (self.now.nodes) j → i < j
+            → costs_of self.now i j ≡ costs_of self.now j i) }
+    {
+        'bands: for band in 0..self.nodes / BLOCK + 1 {
+            if !self.is_even_band(band) {
+                return false;
+            }
+        }
+        true
+    }
+
+    /// The same over a band of rows, counted from 0, from the band's block on the diagonal on.
+    fn is_even_band(&self, band: u32) -> bool
+        requires { band * 64 ≤ self.now.nodes }
+        ensures { IsTrue result ↔ ((i j : ℕ) → band * 64 < i → i ≤ band * 64 + 64
+            → band * 64 < j → i ≤ self.now.nodes → j ≤ self.now.nodes
+            → costs_of self.now i j ≡ costs_of self.now j i) }
+    {
+        'across: for block in band..self.nodes / BLOCK + 1 {
+            if !self.is_even_block(band * BLOCK + 1, block * BLOCK + 1) {
+                return false;
+            }
+        }
+        true
+    }
+
+    /// The same over the block of cells that begins with the cell (top, left).
+    fn is_even_block(&self, top: u32, left: u32) -> bool
+        requires top { 1 ≤ top }
+        requires left { 1 ≤ left }
+        requires top_most { top ≤ self.now.nodes + 1 }
+        requires left_most { left ≤ self.now.nodes + 1 }
+        ensures { IsTrue result ↔ ((i j : ℕ) → top ≤ i → i < top + 64
+            → left ≤ j → j < left + 64 → i ≤ self.now.nodes → j ≤ self.now.nodes
+            → costs_of self.now i j ≡ costs_of self.now j i) }
+    {
+        let past = self.block_end(top);
+        'rows: for i in top..past {
+            if !self.is_even_in_block(i, left) {
+                return false;
+            }
+        }
+        true
+    }
+
+    /// The same over the cells of a row in the block whose first column is `left`.
+    #[inline]
+    fn is_even_in_block(&self, i: u32, left: u32) -> bool
+        requires row { IsNode (self.now.nodes) i }
+        requires left { 1 ≤ left }
+        requires left_most { left ≤ self.now.nodes + 1 }
+        ensures { IsTrue result ↔ ((j : ℕ) → left ≤ j → j < left + 64
+            → j ≤ self.now.nodes
+            → costs_of self.now i j ≡ costs_of self.now j i) }
+    {
+        let past = self.block_end(left);
+        'columns: for j in left..past {
+            let mirrored = self.cost(j, i);
+            if self.cost(i, j) != mirrored {
+                return false;
+            }
+        }
+        true
+    }
+
+    /// The first row or column past the block that begins with this one.
+    #[inline]
+    fn block_end(&self, first: u32) -> u32
+        requires { first ≤ self.now.nodes + 1 }
+        ensures within { result ≤ self.now.nodes + 1 }
+        ensures short { result ≤ first + 64 }
+        ensures all { (j : ℕ) → j < first + 64 → j ≤ self.now.nodes → j < result }
+    {
+        if first + BLOCK <= self.nodes {
+            first + BLOCK
+        } else {
+            self.nodes + 1
+        }
     }
 
     /// The first node past i whose two costs with i differ.

@@ -7,6 +7,7 @@ pub mod NodeGroups
 pub mod NumberSteps
 pub mod PointSteps
 pub mod TripleWords
+pub mod TripleSteps
 pub mod Pieces
 pub mod TourSteps
 pub mod Readings

@@ -1,9 +1,9 @@
 -- Words in groups of two: one word more.
-use Rattle.std.proofs.Common.{◌≡◌, ◌+◌, ◌*◌, Bool, true, false, ◌||◌, cond, List, [], ◌∷◌, ◌++◌, length, refl, ap, arith}
+use Rattle.std.proofs.Common.{◌≡◌, ◌+◌, ◌*◌, Bool, true, false, List, [], ◌∷◌, ◌++◌, length, refl, ap, arith}
 use Rattle.std.specs.List.{list_any}
 use Rattle.tsp_items.specs.Groups.{pairs_in, begun_pair}
 use Rattle.tsp_items.specs.Lists.{before, firsts_in}
-use Rattle.tsp_items.proofs.Ended.{kept_step, none_step}
+use Rattle.tsp_items.proofs.Ended.{or_step, kept_step, last_step, none_step}
 
 -- ---- how many words there are
 
@@ -48,24 +48,16 @@ firsts_end (a ∷ b ∷ xs) first x e = ap (λ ys. a ∷ ys) (firsts_end xs firs
 
 -- ---- a first word of a pair that ends the list
 
-or_step : (b any more : Bool) → (any ≡ true → more ≡ true) → (b || any) ≡ true → (b || more) ≡ true
-or_step true any more h e = refl
-or_step false any more h e = h e
-
 pub firsts_kept : {A : Type 0} (p : A → Bool) (xs : List A) (x : A) → list_any p (firsts_in xs) ≡ true → list_any p (firsts_in (xs ++ x ∷ [])) ≡ true
 firsts_kept p [] x any = cc
 firsts_kept p (a ∷ []) x any = any
 firsts_kept p (a ∷ b ∷ xs) x any = or_step (p a) (list_any p (firsts_in xs)) (list_any p (firsts_in (xs ++ x ∷ []))) (firsts_kept p xs x) any
 
-begun_ends : {A : Type 0} (b : Bool) (pair : A) → (b || false) ≡ true → cond b [] (pair ∷ []) ≡ []
-begun_ends true pair e = refl
-begun_ends false pair e = cc
-
 -- past it no pair counts
 pub pairs_kept : {A : Type 0} (p : A → Bool) (xs : List A) (x : A) → list_any p (firsts_in xs) ≡ true
     → before (λ pair. p pair.0) (pairs_in (xs ++ x ∷ [])) ≡ before (λ pair. p pair.0) (pairs_in xs)
 pairs_kept p [] x any = cc
-pairs_kept p (a ∷ []) x any = begun_ends (p a) (a, x) any
+pairs_kept p (a ∷ []) x any = last_step (p a) (a, x) any
 pairs_kept p (a ∷ b ∷ xs) x any =
     kept_step (p a) (list_any p (firsts_in xs)) (a, b) (before (λ pair. p pair.0) (pairs_in (xs ++ x ∷ []))) (before (λ pair. p pair.0) (pairs_in xs)) (pairs_kept p xs x) any
 

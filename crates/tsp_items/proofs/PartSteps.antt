@@ -1,5 +1,5 @@
 -- The part of a section answers what its own list answers.
-use Rattle.std.proofs.Common.{◌≡◌, ℕ, ℤ, List, [], ◌∷◌, ◌++◌, sym, ap, subst, ◌∙◌, Result}
+use Rattle.std.proofs.Common.{◌≡◌, ℕ, ℤ, List, [], ◌∷◌, ◌++◌, sym, ap, subst, ◌∙◌, Result, Ok, Err, IfErr}
 use Rattle.tsp_items.specs.declared.fault.StepFault.{StepFault}
 use Rattle.tsp_items.specs.declared.part.Part.{Part}
 use Rattle.tsp_items.specs.declared.part.Part.TheVariants as parts
@@ -26,6 +26,13 @@ as_list old part after n words word r is same step h =
     let Q : Part → Type 0 = λ p. PartTakes p after n words word r in
     subst Q (sym is) (takes_also n (place_by (shape_by part) n words) word (HoldsPart after n (words ++ word ∷ []))
     (HoldsShape (shape_by part) after n (words ++ word ∷ [])) r (λ held. (same, held)) (step (subst P is h)))
+
+-- and what it refuses leaves it as it is
+pub kept_list : (old part after : Part) (r : Result (Unit {0}) StepFault) → old ≡ part → shape_by after ≡ shape_by part
+    → IfErr r (λ fault. (n : ℕ) (words : List (List ℕ)) → HoldsPart part n words → HoldsPart after n words)
+    → IfErr r (λ fault. (n : ℕ) (words : List (List ℕ)) → HoldsPart old n words → HoldsShape (shape_by old) after n words)
+kept_list old part after (Ok done) is same kept = tt
+kept_list old part after (Err fault) is same kept = λ n words h. (same ∙ ap shape_by (sym is), kept n words (subst (λ p. HoldsPart p n words) is h))
 
 -- a list of numbers keeps its range
 kept_range : (low high : ℤ) (after : NumberList) (n : ℕ) (words : List (List ℕ)) → HoldsNumbers after low high n words

@@ -4,6 +4,8 @@ use Rattle.std.specs.Prelude.{ℤ, pos, nat_le, nat_lt}
 use Rattle.std.proofs.lemmas.List.{map_push, length_push, length-map, take_all}
 use Rattle.std.proofs.lemmas.Bool.Decides.{nat_tests}
 use Rattle.tsp_number.specs.declared.decimal.Point.{Point}
+use Rattle.tsp_number.specs.Distances.{on_plane}
+use Rattle.tsp_fields.specs.Coords.{origin}
 use Rattle.tsp_number.specs.declared.fault.NumberFault.{NumberFault}
 use Rattle.tsp_number.specs.Reading.{decimal_of}
 use Rattle.tsp_items.specs.declared.fault.LineFault.{LineFault}
@@ -12,7 +14,7 @@ use Rattle.tsp_items.specs.Numbers.{number, node}
 use Rattle.tsp_items.specs.Places.{NodeAfter, Coordinate}
 use Rattle.tsp_items.specs.Groups.{triples_in, begun_triple, point_of, point_groups, nodes_in, place_of_point, points_by_node}
 use Rattle.tsp_items.specs.Spells.{wants_more}
-use Rattle.tsp_items.specs.states.Parts.{no_point, BeginsPoint, IsNewNode, NodesHold, PointsHold}
+use Rattle.tsp_items.specs.states.Parts.{BeginsPoint, IsNewNode, NodesHold, PointsHold}
 use Rattle.tsp_items.specs.Rows.{word_fault}
 use Rattle.tsp_items.proofs.TripleWords.{length_triples, triples_begin, begun_begin, triples_middle, begun_middle, triples_end, begun_end}
 use Rattle.tsp_items.proofs.NodeGroups.{node_begins, node_faulty, entry_fills, entries_by_node, wants_in_group}
@@ -93,7 +95,7 @@ pub point_node_faulty : (seen : List Bool) (entries : List Point) (left : ℕ) (
     (fault : LineFault) → 0 < left → begun ≡ None → IsNewNode seen word (Err fault) → PointsHold seen entries left begun x n words
     → word_fault n (place_of_point n words) word ≡ Some fault
 point_node_faulty seen entries left begun x n words word fault some is new h =
-    node_faulty no_point seen entries left begun n (point_groups n words) (place_of_point n words) word fault
+    node_faulty origin seen entries left begun n (point_groups n words) (place_of_point n words) word fault
     (place_of_node seen entries left begun x n words some is h) new h.nodes
 
 pub point_bad : (seen : List Bool) (entries : List Point) (left : ℕ) (begun : Option ℕ) (x : Option ℤ) (n : ℕ) (words : List (List ℕ)) (word : List ℕ) (k : ℕ)
@@ -113,7 +115,7 @@ point_node seen entries left begun x n words word k some is new h =
     let so_far = words_so_far n left words short h.nodes.to_come in
     let size = ap length start.0 in
     let same = groups_kept n words word short (triples_begin words word start.0) in
-    let taken = node_begins no_point seen entries left begun n k (point_groups n words) (place_of_point n words) word
+    let taken = node_begins origin seen entries left begun n k (point_groups n words) (place_of_point n words) word
     (place_of_node seen entries left begun x n words some is h) new h.nodes in (
       taken.0,
       record {
@@ -148,7 +150,7 @@ point_middle seen entries left begun x n words word k z some is also read h =
 pub point_more : (seen : List Bool) (entries : List Point) (left : ℕ) (begun : Option ℕ) (x : Option ℤ) (n : ℕ) (words : List (List ℕ)) (word : List ℕ) (k : ℕ) (y z : ℤ)
     → 0 < left → begun ≡ Some k → x ≡ Some y → decimal_of word ≡ Ok z → PointsHold seen entries left begun x n words
     → (word_fault n (place_of_point n words) word ≡ None)
-    × PointsHold (set seen (k - 1) true) (set entries (k - 1) (record { x = y; y = z })) (left - 1) None None n (words ++ word ∷ [])
+    × PointsHold (set seen (k - 1) true) (set entries (k - 1) (on_plane y z)) (left - 1) None None n (words ++ word ∷ [])
 point_more seen entries left begun x n words word k y z some is also read h =
     let first = coordinate_begun n k y (begun_triple words) (begins left begun (Some k) x (Some y) seen entries n words some is also h) in
     let short = h.open_ended some in
@@ -156,16 +158,16 @@ point_more seen entries left begun x n words word k y z some is also read h =
     let so_far = words_so_far n left words short h.nodes.to_come in
     let size = ap length first.2 in
     let f = group_of n in
-    let point : Point = record { x = y; y = z } in
+    let point : Point = on_plane y z in
     let group : f (first.0, first.1, word) ≡ (pos k, point) = rw (first.3, first.4, read) refl in
     let groups : point_groups n (words ++ word ∷ []) ≡ point_groups n words ++ (pos k, point) ∷ [] =
     all_groups n (words ++ word ∷ []) (omega arith) ∙ ap (map f) (triples_end words first.0 first.1 word first.2)
     ∙ map_push f (triples_in words) (first.0, first.1, word) ∙ ap (λ g. map f (triples_in words) ++ g ∷ []) group
     ∙ ap (λ gs. gs ++ (pos k, point) ∷ []) (sym (all_groups n words (omega arith))) in
-    let held : NodesHold no_point seen entries left (Some k) n (point_groups n words) = rw (← is) h.nodes in (
+    let held : NodesHold origin seen entries left (Some k) n (point_groups n words) = rw (← is) h.nodes in (
       rw (place_of_coordinate seen entries left begun x n words k some is h, read) refl,
       record {
-        nodes = rw groups (entry_fills no_point point seen entries left n k (point_groups n words) some held);
+        nodes = rw groups (entry_fills origin point seen entries left n k (point_groups n words) some held);
         cut = λ yet. rw (begun_end words first.0 first.1 word first.2) refl;
         open_ended = λ yet. omega (arith, more, so_far, size, yet);
         full = λ done. omega (arith, more, so_far, size, done);
@@ -176,7 +178,7 @@ point_more seen entries left begun x n words word k y z some is also read h =
 
 pub points_finish : (seen : List Bool) (entries : List Point) (left : ℕ) (begun : Option ℕ) (x : Option ℤ) (n : ℕ) (words : List (List ℕ))
     → PointsHold seen entries left begun x n words → entries ≡ points_by_node n words
-points_finish seen entries left begun x n words h = entries_by_node no_point seen entries left begun n (point_groups n words) h.nodes
+points_finish seen entries left begun x n words h = entries_by_node origin seen entries left begun n (point_groups n words) h.nodes
 
 -- a group is still to come exactly where one is left
 pub points_to_come : (seen : List Bool) (entries : List Point) (left : ℕ) (begun : Option ℕ) (x : Option ℤ) (n : ℕ) (words : List (List ℕ))

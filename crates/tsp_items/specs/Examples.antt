@@ -41,6 +41,11 @@ ToursAre bytes = (fault (text bytes) ≡ None) × ((spelled (part (text bytes)))
 abbrev pub PairsAre : List ℕ → Type 0
 PairsAre bytes = (fault (text bytes) ≡ None) × ((spelled (part (text bytes))).fixed ≡ Some ((1, 2) ∷ (3, 1) ∷ []))
 
+-- with the triples (1, 2, 5) and (3, 1, 0)
+abbrev pub TriplesAre : List ℕ → Type 0
+TriplesAre bytes = (fault (text bytes) ≡ None)
+    × ((spelled (part (text bytes))).fixed_potentials ≡ Some ((1, 2, pos 5) ∷ (3, 1, pos 0) ∷ []))
+
 -- the demands of the nodes 1, 2 and 3 are 5, 7 and 9
 abbrev pub DemandsAre : List ℕ → Type 0
 DemandsAre bytes = (spelled (part (text bytes))).demands ≡ Some (pos 5 ∷ pos 7 ∷ pos 9 ∷ [])

@@ -3,6 +3,8 @@
 use Rattle.std.specs.Prelude.{ℕ, ◌*◌, cond, nat_le, List, [], ◌∷◌, length, map, take, Option, None, Some, ℤ, pos, unwrap_or}
 use Rattle.std.specs.Ordering.{int_eq}
 use Rattle.tsp_number.specs.declared.decimal.Point.{Point}
+use Rattle.tsp_number.specs.Distances.{on_plane}
+use Rattle.tsp_fields.specs.Coords.{origin}
 use Rattle.tsp_number.specs.Reading.{decimal_of, whole_of}
 use Rattle.tsp_value.specs.Cells.{nodes_to}
 use Rattle.tsp_items.specs.Numbers.{number, node}
@@ -41,7 +43,7 @@ abbrev pub number_groups : ℤ → ℤ → ℕ → List (List ℕ) → List (ℤ
 number_groups low high n words = map (λ group. (number (node n group.0), number (whole_of group.1 low high))) (pairs_in (take (2 * n) words))
 
 abbrev pub point_of : List ℕ → List ℕ → Point
-point_of x y = record { x = number (decimal_of x); y = number (decimal_of y) }
+point_of x y = on_plane (number (decimal_of x)) (number (decimal_of y))
 
 -- the n groups of a node and its coordinates
 abbrev pub point_groups : ℕ → List (List ℕ) → List (ℤ × Point)
@@ -60,7 +62,7 @@ abbrev pub numbers_by_node : ℤ → ℤ → ℕ → List (List ℕ) → List �
 numbers_by_node low high n words = by_node (pos 0) n (number_groups low high n words)
 
 abbrev pub points_by_node : ℕ → List (List ℕ) → List Point
-points_by_node n words = by_node (record { x = pos 0; y = pos 0 }) n (point_groups n words)
+points_by_node n words = by_node origin n (point_groups n words)
 
 -- ---- where the next word stands
 

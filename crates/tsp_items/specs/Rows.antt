@@ -161,7 +161,7 @@ is_repeated_node earlier (Line key line) = false
 is_repeated_node earlier (NumberWord word) = at_place is_repeated_node_at earlier word
 is_repeated_node earlier LineEnd = false
 
--- ---- SelfEdge: the second node of a fixed pair that equals the first
+-- ---- SelfEdge: the second node of a fixed pair, or of one with a multiplier, that equals the first
 
 abbrev pub is_self_edge_at : ℕ → Place → List ℕ → Bool
 is_self_edge_at n (SecondOf first) word = reads_as first (node n word)
@@ -173,7 +173,7 @@ is_self_edge earlier (NumberWord word) = at_place is_self_edge_at earlier word
 is_self_edge earlier LineEnd = false
 
 -- ---- Surplus: a line of COMMENT or of an unknown keyword after as many as may stand; past the groups a word other than `-1`; a word past
--- the weights; a depot, a first node of a pair or a node of the tours (no -1) after as many as may stand
+-- the weights; a depot, a first node of a pair or a triple, or a node of the tours (no -1) after as many as may stand
 
 abbrev pub is_surplus_at : ℕ → Place → List ℕ → Bool
 is_surplus_at n (NodeAfter nodes) word = false

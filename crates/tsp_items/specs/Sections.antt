@@ -3,14 +3,14 @@ use Rattle.std.specs.Prelude.{ℕ, List, Option, unwrap_or}
 use Rattle.std.specs.Option.{option_map, option_map_or}
 use Rattle.tsp_value.specs.declared.field.Field.{Field}
 use Rattle.tsp_value.specs.declared.field.Shape.{Shape}
-use Rattle.tsp_value.specs.declared.field.Shape.TheVariants.{Numbers, Points, Depots, Pairs, Weights, Tours}
+use Rattle.tsp_value.specs.declared.field.Shape.TheVariants.{Numbers, Points, Depots, Pairs, Weights, Tours, Triples}
 use Rattle.tsp_items.specs.Items.{Item}
 use Rattle.tsp_value.specs.Shapes.{shape_of}
 use Rattle.tsp_items.specs.Earlier.{open_section, words_of}
 use Rattle.tsp_items.specs.Values.{dimension_of}
 use Rattle.tsp_items.specs.Places.{Place, PastEnd}
 use Rattle.tsp_items.specs.Groups.{place_of_number, place_of_point}
-use Rattle.tsp_items.specs.Lists.{place_of_depot, place_of_fixed}
+use Rattle.tsp_items.specs.Lists.{place_of_depot, place_of_fixed, place_of_triple}
 use Rattle.tsp_items.specs.Weights.{place_of_weight}
 use Rattle.tsp_items.specs.Tours.{place_of_tour}
 
@@ -22,6 +22,7 @@ place_by Depots n words = place_of_depot n words
 place_by Pairs n words = place_of_fixed n words
 place_by Weights n words = place_of_weight n words
 place_by Tours n words = place_of_tour words
+place_by Triples n words = place_of_triple n words
 
 -- the same of a section; no other field has words
 abbrev pub place_in : Field → ℕ → List (List ℕ) → Place

@@ -40,7 +40,7 @@ pub enum LineFault {
     /// A group's node has an earlier group.
     #[error("RepeatedNode")]
     RepeatedNode,
-    /// The two nodes of a fixed pair are equal.
+    /// The two nodes of a fixed pair, or of a triple with its multiplier, are equal.
     #[error("SelfEdge")]
     SelfEdge,
     /// There are more lines or words than the file can have.

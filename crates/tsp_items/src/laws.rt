@@ -5,7 +5,7 @@ ghost use Rattle.tsp_number.specs.declared.fault.NumberFault.TheVariants as numb
 ghost use Rattle.tsp_value.specs.declared.field.Field.TheVariants as fields;
 ghost use Rattle.tsp_fields.specs.declared.fault.EndFault.TheVariants as ends;
 ghost use Rattle.tsp_items.specs.declared.fault.LineFault.TheVariants as faults;
-ghost use Rattle.tsp_items.specs.Examples.{FaultAt, NumberAt, MissingAtEnd, EndsWith, OthersAre, ToursAre, PairsAre, DemandsAre, quad, long_line, long_word};
+ghost use Rattle.tsp_items.specs.Examples.{FaultAt, NumberAt, MissingAtEnd, EndsWith, OthersAre, ToursAre, PairsAre, TriplesAre, DemandsAre, quad, long_line, long_word};
 
 /// The first faults of some texts of word lines. In the texts `/` parts lines.
 #[tactic(auto, unfolding(tsp_number::specs::Reading::whole_of))]
@@ -35,6 +35,11 @@ pub fn faults_of_words()
     ensures zero { NumberAt (codes "DIMENSION : 3/FIXED_EDGES/0 1") 3 1 numbers.OutOfRange }
     ensures end_in_second_place { NumberAt (codes "DIMENSION : 3/FIXED_EDGES/1 -1") 3 2 numbers.OutOfRange }
     ensures other_spelling_after_end { FaultAt (codes "DIMENSION : 3/FIXED_EDGES/1 2 -1 -1.0") 3 4 faults.AfterEnd }
+    ensures triple_of_a_node_with_itself { FaultAt (codes "DIMENSION : 3/FIXED_EDGE_POTENTIAL_SECTION/2 2") 3 2 faults.SelfEdge }
+    ensures triple_past_the_end { FaultAt (codes "DIMENSION : 3/FIXED_EDGE_POTENTIAL_SECTION/1 2 5 -1 -1 3") 3 6 faults.AfterEnd }
+    ensures multiplier_too_large { NumberAt (codes "DIMENSION : 3/FIXED_EDGE_POTENTIAL_SECTION/1 2 1000000000000000 1 3 1000000000000001")
+        3 6 numbers.OutOfRange }
+    ensures multiplier_below_zero { NumberAt (codes "DIMENSION : 3/FIXED_EDGE_POTENTIAL_SECTION/1 2 -1") 3 3 numbers.OutOfRange }
     ensures repeated_node { FaultAt (codes "DIMENSION : 2/DEMAND_SECTION/1 0 1 5") 3 3 faults.RepeatedNode }
     ensures past_the_groups { FaultAt (codes "DIMENSION : 2/DEMAND_SECTION/1 0 2 5 7") 3 5 faults.Surplus }
     ensures zero_in_a_tour { NumberAt (codes "TOUR_SECTION/1 0 2") 2 2 numbers.OutOfRange }
@@ -53,6 +58,12 @@ pub fn faults_at_the_end()
     ensures end_line_with_a_value { MissingAtEnd (codes " EOF : x/FOO") fields.TypeKey }
     ensures cut_pair { EndsWith (codes "TYPE : TOUR/DIMENSION : 3/FIXED_EDGES_SECTION/1 2 3/TOUR_SECTION")
         (ends.Incomplete fields.FixedEdgesPart) }
+    ensures cut_triple { EndsWith (codes "TYPE : TOUR/DIMENSION : 3/FIXED_EDGE_POTENTIAL_SECTION/1 2 5 3 1/TOUR_SECTION")
+        (ends.Incomplete fields.FixedPotentialPart) }
+    ensures triple_of_one_word { EndsWith (codes "TYPE : TOUR/DIMENSION : 3/FIXED_EDGE_POTENTIAL_SECTION/1/TOUR_SECTION")
+        (ends.Incomplete fields.FixedPotentialPart) }
+    ensures triples_alone { MissingAtEnd (codes "TYPE : POTENTIALS/DIMENSION : 3/FIXED_EDGE_POTENTIAL_SECTION/1 3 2 -1")
+        fields.NodePotentialPart }
     ensures rows_alone { MissingAtEnd (codes "TYPE : POTENTIALS/DIMENSION : 1/ROW_POTENTIAL_SECTION/1 0")
         fields.ColumnPotentialPart }
     ensures too_few { EndsWith (quad (codes "UPPER_ROW") (codes "1 2 3 4 5")) ends.WrongCount }
@@ -68,5 +79,6 @@ pub fn fields_of_texts()
     ensures colon_in_value { OthersAre (codes "FOO :BAR : X ") (codes "FOO") (codes "BAR : X") }
     ensures tours { ToursAre (codes "TYPE:TOUR/TOUR_SECTION/3 -1 -1/4 5/EOF") }
     ensures pairs { PairsAre (codes "TYPE:TOUR/DIMENSION 3/FIXED_EDGES/1 2 +3 1.0 -1/TOUR_SECTION") }
+    ensures triples { TriplesAre (codes "TYPE:TOUR/DIMENSION 3/FIXED_EDGE_POTENTIAL_SECTION/1 2 5 +3/1 0 -1.0 -1/TOUR_SECTION") }
     ensures demands { DemandsAre (codes "DIMENSION : 3/DEMAND_SECTION/2 7/3 9 1/5") }
 {}

@@ -18,5 +18,6 @@ pub use parts::fixed::FixedList;
 pub use parts::numbers::NumberList;
 pub use parts::points::PointList;
 pub use parts::tours::TourList;
+pub use parts::triples::TripleList;
 pub use parts::weights::WeightList;
 pub use slots::{add_comment, add_other, set_count, set_name, set_named, set_number};

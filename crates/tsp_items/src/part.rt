@@ -8,6 +8,7 @@ use crate::parts::fixed::FixedList;
 use crate::parts::numbers::NumberList;
 use crate::parts::points::PointList;
 use crate::parts::tours::TourList;
+use crate::parts::triples::TripleList;
 use crate::parts::weights::WeightList;
 use std::alloc::{AllocError, Global};
 use tsp_number::Decimal;
@@ -22,6 +23,7 @@ pub enum Part {
     Pairs(FixedList),
     Weights(WeightList),
     Tours(TourList),
+    Triples(TripleList),
 }
 
 impl Part {
@@ -48,6 +50,7 @@ impl Part {
             Shape::Pairs => Part::Pairs(FixedList::open(alloc, n)),
             Shape::Weights => Part::Weights(WeightList::open(alloc, n)),
             Shape::Tours => Part::Tours(TourList::open(alloc)),
+            Shape::Triples => Part::Triples(TripleList::open(alloc, n)),
         })
     }
 
@@ -73,6 +76,7 @@ impl Part {
             Part::Pairs(part) => part.push(word),
             Part::Weights(part) => part.push(word),
             Part::Tours(part) => part.push(alloc, word),
+            Part::Triples(part) => part.push(word),
         }
     }
 

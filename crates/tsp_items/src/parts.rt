@@ -6,4 +6,5 @@ pub(crate) mod nodes;
 pub(crate) mod numbers;
 pub(crate) mod points;
 pub(crate) mod tours;
+pub(crate) mod triples;
 pub(crate) mod weights;

@@ -8,7 +8,7 @@ use Rattle.tsp_value.specs.declared.kinds.Kind.{Kind}
 use Rattle.tsp_value.specs.Words.{kind_word}
 use Rattle.tsp_fields.specs.Fields.{Fields}
 use Rattle.tsp_verdict.specs.declared.verdict.Reason.{Reason}
-use Rattle.tsp_verdict.specs.declared.verdict.Reason.TheVariants.{NotASolution, TooFewNodes, NotSymmetric, Dimension, TourCount, TourLength, NodeOutOfRange, RepeatedNode, FixedEdgeUnused, NotPotentials, PotentialsDimension, PotentialsKind, DualInfeasible, DepotCount, DepotDemand, FixedEdgesInRoutes, DepotInRoute, Unserved, Overload}
+use Rattle.tsp_verdict.specs.declared.verdict.Reason.TheVariants.{NotASolution, TooFewNodes, NotSymmetric, Dimension, TourCount, TourLength, NodeOutOfRange, RepeatedNode, FixedEdgeUnused, NotPotentials, PotentialsDimension, PotentialsKind, MultiplierNotFixed, MultiplierRepeated, DualInfeasible, DepotCount, DepotDemand, FixedEdgesInRoutes, DepotInRoute, Unserved, Overload}
 use Rattle.tsp_verdict.specs.declared.verdict.Verdict.{Verdict}
 use Rattle.tsp_verdict.specs.declared.verdict.Verdict.TheVariants.{Tour, Routes, No}
 
@@ -42,6 +42,8 @@ reason_name (FixedEdgeUnused index) = codes "FixedEdgeUnused"
 reason_name NotPotentials = codes "NotPotentials"
 reason_name PotentialsDimension = codes "PotentialsDimension"
 reason_name PotentialsKind = codes "PotentialsKind"
+reason_name (MultiplierNotFixed index) = codes "MultiplierNotFixed"
+reason_name (MultiplierRepeated index) = codes "MultiplierRepeated"
 reason_name (DualInfeasible i j) = codes "DualInfeasible"
 reason_name DepotCount = codes "DepotCount"
 reason_name DepotDemand = codes "DepotDemand"
@@ -64,6 +66,8 @@ reason_numbers (FixedEdgeUnused index) = (Some index, None)
 reason_numbers NotPotentials = (None, None)
 reason_numbers PotentialsDimension = (None, None)
 reason_numbers PotentialsKind = (None, None)
+reason_numbers (MultiplierNotFixed index) = (Some index, None)
+reason_numbers (MultiplierRepeated index) = (Some index, None)
 reason_numbers (DualInfeasible i j) = (Some i, Some j)
 reason_numbers DepotCount = (None, None)
 reason_numbers DepotDemand = (None, None)

@@ -45,6 +45,8 @@ fn name_of(reason: Reason) -> &'static str
         Reason::NotPotentials => "NotPotentials",
         Reason::PotentialsDimension => "PotentialsDimension",
         Reason::PotentialsKind => "PotentialsKind",
+        Reason::MultiplierNotFixed { .. } => "MultiplierNotFixed",
+        Reason::MultiplierRepeated { .. } => "MultiplierRepeated",
         Reason::DualInfeasible { .. } => "DualInfeasible",
         Reason::DepotCount => "DepotCount",
         Reason::DepotDemand => "DepotDemand",
@@ -64,7 +66,9 @@ fn numbers_of(reason: Reason) -> (Option<u32>, Option<u32>)
         Reason::NodeOutOfRange { place }
         | Reason::RepeatedNode { place }
         | Reason::DepotInRoute { place } => (Some(place), None),
-        Reason::FixedEdgeUnused { index } => (Some(index), None),
+        Reason::FixedEdgeUnused { index }
+        | Reason::MultiplierNotFixed { index }
+        | Reason::MultiplierRepeated { index } => (Some(index), None),
         Reason::Unserved { node } => (Some(node), None),
         Reason::Overload { route } => (Some(route), None),
         Reason::NotASolution

@@ -14,7 +14,7 @@ least_from : (test : ℕ → Bool) (first : Bool) (n more : ℕ) → test 0 ≡ 
 least_from test true n more here there = here
 least_from test false n more here there = there refl
 
-least-holds : (test : ℕ → Bool) (n : ℕ) → test n ≡ true → test (least test n) ≡ true
+pub least-holds : (test : ℕ → Bool) (n : ℕ) → test n ≡ true → test (least test n) ≡ true
 unfolding least
 least-holds test zero holds = holds
 least-holds test (suc n) holds =
@@ -26,7 +26,7 @@ below_by test true more k here there below = absurd (omega arith)
 below_by test false more zero here there below = here
 below_by test false more (suc k) here there below = there k (omega arith)
 
-least-below : (test : ℕ → Bool) (n k : ℕ) → k < least test n → test k ≡ false
+pub least-below : (test : ℕ → Bool) (n k : ℕ) → k < least test n → test k ≡ false
 unfolding least
 least-below test zero k below = absurd (omega arith)
 least-below test (suc n) k below =
@@ -47,13 +47,13 @@ squared-unit (suc n) =
 
 -- ---- tests on numbers
 
-below : (m n : ℕ) → m < n → nat_lt m n ≡ true
+pub below : (m n : ℕ) → m < n → nat_lt m n ≡ true
 below m n less = grind (arith, nat_tests)
 
-from_below : (m n : ℕ) → nat_lt m n ≡ true → m < n
+pub from_below : (m n : ℕ) → nat_lt m n ≡ true → m < n
 from_below m n test = grind (arith, nat_tests)
 
-not_below : (m n : ℕ) → nat_lt m n ≡ false → n ≤ m
+pub not_below : (m n : ℕ) → nat_lt m n ≡ false → n ≤ m
 not_below m n test = grind (arith, nat_tests)
 
 at_most : (m n : ℕ) → m ≤ n → nat_le m n ≡ true
@@ -67,22 +67,27 @@ not_at_most m n test = grind (arith, nat_tests)
 
 -- ---- each distance is defined
 
-euc_2d-defined : (a b : Point) → IsEuc2d a b (euc_2d_of a b)
-euc_2d-defined a b =
-    let s : ℕ = square_apart a b in
-    let test : ℕ → Bool = λ k. nat_lt (4 * s) (squared ((2 * k + 1) * unit)) in
+-- the least k with s below the square of its next half is the root of s rounded
+pub rounded_square : (s k : ℕ) → k ≡ least (λ j. nat_lt (4 * s) (squared ((2 * j + 1) * unit))) s
+    → (4 * s < squared ((2 * k + 1) * unit)) × (0 < k → squared ((2 * k - 1) * unit) ≤ 4 * s)
+rounded_square s k is =
+    let test : ℕ → Bool = λ j. nat_lt (4 * s) (squared ((2 * j + 1) * unit)) in
     let side : 2 * s + 1 ≤ (2 * s + 1) * unit = omega arith in
     let sides = squared-le (2 * s + 1) ((2 * s + 1) * unit) side in
     let reached : test s ≡ true = below _ _ (omega arith) in
-    let holds = least-holds test s reached in
-    record {
-      below_next_half = from_below _ _ holds;
-      from_last_half = λ some.
-          let before = least-below test s (euc_2d_of a b - 1) (omega arith) in
-          let same : 2 * (euc_2d_of a b - 1) + 1 ≡ 2 * euc_2d_of a b - 1 = omega arith in
+    let holds : test k ≡ true = rw is (least-holds test s reached) in (
+      from_below _ _ holds,
+      λ some.
+          let before = least-below test s (k - 1) (omega arith) in
+          let same : 2 * (k - 1) + 1 ≡ 2 * k - 1 = omega arith in
           let far = not_below _ _ before in
-          rw same at far;
-    }
+          rw same at far,
+    )
+
+euc_2d-defined : (a b : Point) → IsEuc2d a b (euc_2d_of a b)
+euc_2d-defined a b =
+    let parts = rounded_square (square_apart a b) (euc_2d_of a b) refl in
+    record { below_next_half = parts.0; from_last_half = parts.1 }
 
 -- the least k with s at most f k
 covered : (s : ℕ) (f : ℕ → ℕ) (k : ℕ) → s ≤ f s → k ≡ least (λ j. nat_le s (f j)) s → (s ≤ f k) × ((j : ℕ) → j < k → f j < s)
@@ -103,7 +108,7 @@ att-defined a b =
     record { enough = parts.0; none_smaller = parts.1 }
 
 -- the least k with t below its next half is t rounded
-rounded : (t k : ℕ) → k ≡ least (λ j. nat_lt (2 * t) ((2 * j + 1) * unit)) t
+pub rounded : (t k : ℕ) → k ≡ least (λ j. nat_lt (2 * t) ((2 * j + 1) * unit)) t
     → (2 * t < (2 * k + 1) * unit) × (0 < k → (2 * k - 1) * unit ≤ 2 * t)
 rounded t k is =
     let test : ℕ → Bool = λ j. nat_lt (2 * t) ((2 * j + 1) * unit) in
@@ -128,12 +133,14 @@ max_2d-defined a b =
 
 -- ---- and only once
 
-euc_2d_apart : (a b : Point) (j k : ℕ) → IsEuc2d a b j → IsEuc2d a b k → ¬ (j < k)
-euc_2d_apart a b j k first second less =
+pub rounded_square_apart : (s j k : ℕ) → 4 * s < squared ((2 * j + 1) * unit) → (0 < k → squared ((2 * k - 1) * unit) ≤ 4 * s) → ¬ (j < k)
+rounded_square_apart s j k high low less =
     let sides = squared-le ((2 * j + 1) * unit) ((2 * k - 1) * unit) (omega arith) in
-    let low = second.from_last_half (omega arith) in
-    let high = first.below_next_half in
+    let reached = low (omega arith) in
     omega arith
+
+euc_2d_apart : (a b : Point) (j k : ℕ) → IsEuc2d a b j → IsEuc2d a b k → ¬ (j < k)
+euc_2d_apart a b j k first second = rounded_square_apart (square_apart a b) j k first.below_next_half second.from_last_half
 
 covered_apart : (s : ℕ) (f : ℕ → ℕ) (j k : ℕ) → s ≤ f j → ((i : ℕ) → i < k → f i < s) → ¬ (j < k)
 covered_apart s f j k enough none less = omega (arith, enough, none j less)
@@ -144,7 +151,7 @@ ceil_2d_apart a b j k first second = covered_apart (square_apart a b) (λ i. squ
 att_apart : (a b : Point) (j k : ℕ) → IsAtt a b j → IsAtt a b k → ¬ (j < k)
 att_apart a b j k first second = covered_apart (square_apart a b) (λ i. 10 * squared (i * unit)) j k first.enough second.none_smaller
 
-rounded_apart : (t j k : ℕ) → 2 * t < (2 * j + 1) * unit → (0 < k → (2 * k - 1) * unit ≤ 2 * t) → ¬ (j < k)
+pub rounded_apart : (t j k : ℕ) → 2 * t < (2 * j + 1) * unit → (0 < k → (2 * k - 1) * unit ≤ 2 * t) → ¬ (j < k)
 rounded_apart t j k high low less =
     let reached = low (omega arith) in
     omega arith
@@ -159,7 +166,7 @@ same_from : (j k : ℕ) → ¬ (j < k) → ¬ (k < j) → j ≡ k
 same_from j k first second = omega arith
 
 -- what is defined, and of no two numbers, is unique
-only_one : (Is : Point → Point → ℕ → Type 0) (distance : Point → Point → ℕ) → ((a b : Point) → Is a b (distance a b))
+pub only_one : (Is : Point → Point → ℕ → Type 0) (distance : Point → Point → ℕ) → ((a b : Point) → Is a b (distance a b))
     → ((a b : Point) (j k : ℕ) → Is a b j → Is a b k → ¬ (j < k)) → (a b : Point) (k : ℕ) → Is a b k → k ≡ distance a b
 only_one Is distance defined apart a b k is =
     same_from k (distance a b) (apart a b k (distance a b) is (defined a b)) (apart a b (distance a b) k (defined a b) is)
@@ -171,12 +178,12 @@ unsigned_abs-neg (pos zero) = refl
 unsigned_abs-neg (pos (suc n)) = refl
 unsigned_abs-neg (negsuc n) = refl
 
-unsigned_abs-sub : (x y : ℤ) → unsigned_abs (x -ℤ y) ≡ unsigned_abs (y -ℤ x)
+pub unsigned_abs-sub : (x y : ℤ) → unsigned_abs (x -ℤ y) ≡ unsigned_abs (y -ℤ x)
 unsigned_abs-sub x y =
     let turned : x -ℤ y ≡ neg_ℤ (y -ℤ x) = omega (arith, ints) in
     ap unsigned_abs turned ∙ unsigned_abs-neg (y -ℤ x)
 
-unsigned_abs-self : (x : ℤ) → unsigned_abs (x -ℤ x) ≡ 0
+pub unsigned_abs-self : (x : ℤ) → unsigned_abs (x -ℤ x) ≡ 0
 unsigned_abs-self x =
     let none : x -ℤ x ≡ pos 0 = omega (arith, ints) in
     ap unsigned_abs none
@@ -189,16 +196,16 @@ from_within : (x : ℤ) (m : ℕ) → x ≤ℤ pos m → pos 0 ≤ℤ (x +ℤ po
 from_within (pos n) m high low = omega (arith, ints)
 from_within (negsuc n) m high low = omega (arith, ints)
 
-unsigned_abs-most : (x y : ℤ) → unsigned_abs x ≤ most_count → unsigned_abs y ≤ most_count → unsigned_abs (x -ℤ y) ≤ 2 * most_count
+pub unsigned_abs-most : (x y : ℤ) → unsigned_abs x ≤ most_count → unsigned_abs y ≤ most_count → unsigned_abs (x -ℤ y) ≤ 2 * most_count
 unsigned_abs-most x y left right =
     let x' = within x most_count left in
     let y' = within y most_count right in
     from_within (x -ℤ y) (2 * most_count) (omega (arith, ints, x', y')) (omega (arith, ints, x', y'))
 
-across-comm : (a b : Point) → across a b ≡ across b a
+pub across-comm : (a b : Point) → across a b ≡ across b a
 across-comm a b = unsigned_abs-sub a.x b.x
 
-along-comm : (a b : Point) → along a b ≡ along b a
+pub along-comm : (a b : Point) → along a b ≡ along b a
 along-comm a b = unsigned_abs-sub a.y b.y
 
 square_apart-comm : (a b : Point) → square_apart a b ≡ square_apart b a
@@ -215,15 +222,15 @@ square_apart-most a b on on' =
 
 -- ---- no distance is long
 
-euc_2d-most : (a b : Point) (k : ℕ) → square_apart a b ≤ 8 * 10 ^ 36 → IsEuc2d a b k → k ≤ 4000000000
-euc_2d-most a b k small is =
-    elim (cases_lt 4000000000 k) [
-      | inl long ↦
-          let low = is.from_last_half (omega arith) in
-          let sides = squared-le (8 * 10 ^ 18) ((2 * k - 1) * unit) (omega arith) in
-          absurd (omega arith)
+pub rounded_square-most : (s most k : ℕ) → 4 * s < squared ((2 * most + 1) * unit) → (0 < k → squared ((2 * k - 1) * unit) ≤ 4 * s) → k ≤ most
+rounded_square-most s most k small low =
+    elim (cases_lt most k) [
+      | inl long ↦ absurd (rounded_square_apart s most k small low long)
       | inr short ↦ short
     ]
+
+euc_2d-most : (a b : Point) (k : ℕ) → square_apart a b ≤ 8 * 10 ^ 36 → IsEuc2d a b k → k ≤ 4000000000
+euc_2d-most a b k small is = rounded_square-most (square_apart a b) 4000000000 k (omega arith) is.from_last_half
 
 covered-most : (s : ℕ) (f : ℕ → ℕ) (most k : ℕ) → s ≤ f most → ((i : ℕ) → i < k → f i < s) → k ≤ most
 covered-most s f most k enough none =
@@ -238,12 +245,10 @@ ceil_2d-most a b k small is = covered-most (square_apart a b) (λ i. squared (i 
 pub att-most : (a b : Point) (k : ℕ) → square_apart a b ≤ 8 * 10 ^ 36 → IsAtt a b k → k ≤ 894427191
 att-most a b k small is = covered-most (square_apart a b) (λ i. 10 * squared (i * unit)) 894427191 k (omega arith) is.none_smaller
 
-rounded-most : (t k : ℕ) → t ≤ 4 * 10 ^ 18 → (0 < k → (2 * k - 1) * unit ≤ 2 * t) → k ≤ 4000000000
-rounded-most t k small low =
-    elim (cases_lt 4000000000 k) [
-      | inl long ↦
-          let reached = low (omega arith) in
-          absurd (omega arith)
+pub rounded-most : (t most k : ℕ) → 2 * t < (2 * most + 1) * unit → (0 < k → (2 * k - 1) * unit ≤ 2 * t) → k ≤ most
+rounded-most t most k small low =
+    elim (cases_lt most k) [
+      | inl long ↦ absurd (rounded_apart t most k small low long)
       | inr short ↦ short
     ]
 
@@ -251,10 +256,10 @@ ways-most : (a b : Point) → IsOnPlane a → IsOnPlane b → (across a b ≤ 2 
 ways-most a b on on' = (unsigned_abs-most a.x b.x on.x on'.x, unsigned_abs-most a.y b.y on.y on'.y)
 
 man_2d-most : (a b : Point) (k : ℕ) → IsOnPlane a → IsOnPlane b → IsMan2d a b k → k ≤ 4000000000
-man_2d-most a b k on on' is = rounded-most (across a b + along a b) k (omega (arith, ways-most a b on on')) is.from_last_half
+man_2d-most a b k on on' is = rounded-most (across a b + along a b) 4000000000 k (omega (arith, ways-most a b on on')) is.from_last_half
 
 max_2d-most : (a b : Point) (k : ℕ) → IsOnPlane a → IsOnPlane b → IsMax2d a b k → k ≤ 4000000000
-max_2d-most a b k on on' is = rounded-most (max (across a b) (along a b)) k (omega (arith, ways-most a b on on')) is.from_last_half
+max_2d-most a b k on on' is = rounded-most (max (across a b) (along a b)) 4000000000 k (omega (arith, ways-most a b on on')) is.from_last_half
 
 -- ---- the laws
 

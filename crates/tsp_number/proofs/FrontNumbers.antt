@@ -9,11 +9,13 @@ use Rattle.std.proofs.lemmas.List.{length-take-le, take-take}
 use Rattle.std.proofs.lemmas.Str.{digit_value_digit}
 use Rattle.std.specs.Array.{IsFirstChunk}
 use Rattle.std.specs.Char.{is_ascii_digit}
+use Rattle.std.specs.List.{prefix_len}
 use Rattle.std.specs.Str.Parse.{AllDigits, digits_value}
 use Rattle.tsp_number.specs.Decimal.{unit, most_count}
 use Rattle.tsp_number.specs.NumberWord.{IsShort, ReadsDecimal, ReadsWhole, point, IsSign, IsFraction, Numeral, StandsFor, IsShifted, signed, mantissa, digits_of, places}
 use Rattle.tsp_number.specs.declared.fault.NumberFault.TheVariants.{OutOfRange}
-use Rattle.tsp_number.specs.Front.{BeginsWithNumber}
+use Rattle.tsp_number.specs.Front.{BeginsWithNumber, digit_count}
+use Rattle.tsp_number.proofs.Prefixes.{prefix_of_front, prefix_goes_on}
 use Rattle.tsp_number.proofs.Reading.{to_signed}
 use Rattle.tsp_number.proofs.Scaling.{digits_value-append}
 use Rattle.tsp_number.proofs.Scanning.{AllDigits-append}
@@ -59,6 +61,14 @@ eight_more bytes eight count value chunk few digits is =
       value_is = same;
       size = rw same (rw long at (digits_value-lt 10 (take count bytes) digits'));
     }
+
+-- where the first eight are digits, those after them are counted on
+pub counts_on : (bytes eight : List ℕ) (most count places : ℕ) → IsFirstChunk bytes eight 8 → count ≡ prefix_len is_ascii_digit eight → 8 ≤ count
+    → places ≡ digit_count (most - 8) (drop 8 bytes) → 8 ≤ most → 8 + places ≡ digit_count most bytes
+counts_on bytes eight most count places chunk counted full more room =
+    let front = ap (prefix_len is_ascii_digit) chunk.same ∙ prefix_of_front is_ascii_digit 8 bytes in
+    let all : 8 ≤ prefix_len is_ascii_digit bytes = omega (arith, counted, front, full) in
+    omega (arith, prefix_goes_on is_ascii_digit 8 bytes all, more, room)
 
 -- the digits after the first eight go on from theirs
 pub eight_and_more : (bytes : List ℕ) (value more places power : ℕ) → ReadsFront bytes 8 value → ReadsFront (drop 8 bytes) places more

@@ -1,5 +1,6 @@
 pub mod Grammar
 pub mod DistanceLaws
+pub mod SpaceLaws
 pub mod Reading
 pub mod Roots
 pub mod Scaling
@@ -10,3 +11,4 @@ pub mod Spelled
 pub mod DigitLanes
 pub mod EightDigits
 pub mod FrontNumbers
+pub mod Prefixes

@@ -8,7 +8,7 @@ use Rattle.std.specs.Int.{w128}
 use Rattle.std.specs.Bool.{OnTrue}
 use Rattle.tsp_number.specs.declared.decimal.Point.{Point}
 use Rattle.tsp_number.specs.Decimal.{unit}
-use Rattle.tsp_number.specs.Distances.{squared, across, along, square_apart, IsEuc2d, IsCeil2d, IsAtt}
+use Rattle.tsp_number.specs.Distances.{squared, across, along, above, square_apart, square_apart_in_space, IsEuc2d, IsEuc3d, IsCeil2d, IsAtt}
 use Rattle.tsp_number.specs.declared.root.Rounding.{Rounding}
 use Rattle.tsp_number.specs.declared.root.Rounding.TheVariants.{Nearest, Up, TenthUp}
 use Rattle.tsp_number.specs.Rounding.{Covers, IsLeastCover}
@@ -31,6 +31,21 @@ is_euc_2d a b w h k wide high enough least =
           let short : ¬ (4 * (squared w + squared h) < squared ((2 * (k - 1) + 1) * unit)) = least some in
           let before : 2 * (k - 1) + 1 ≡ 2 * k - 1 = omega arith in
           let far : ¬ (4 * square_apart a b < squared ((2 * k - 1) * unit)) = rw (before, same) at short in
+          omega arith;
+    }
+
+pub is_euc_3d : (a b : Point) (w h u k : ℕ) → w ≡ across a b → h ≡ along a b → u ≡ above a b
+    → 4 * (squared w + squared h + squared u) < squared ((2 * k + 1) * unit)
+    → (0 < k → ¬ (4 * (squared w + squared h + squared u) < squared ((2 * (k - 1) + 1) * unit)))
+    → IsEuc3d a b k
+is_euc_3d a b w h u k wide high up enough least =
+    let same : squared w + squared h + squared u ≡ square_apart_in_space a b = cc in
+    record {
+      below_next_half = rw same at enough;
+      from_last_half = λ some.
+          let short : ¬ (4 * (squared w + squared h + squared u) < squared ((2 * (k - 1) + 1) * unit)) = least some in
+          let before : 2 * (k - 1) + 1 ≡ 2 * k - 1 = omega arith in
+          let far : ¬ (4 * square_apart_in_space a b < squared ((2 * k - 1) * unit)) = rw (before, same) at short in
           omega arith;
     }
 
@@ -149,26 +164,35 @@ pub tenth_cover : (square k edge edge' steps : ℕ) → edge ≡ k * unit → ed
 tenth_cover square k edge edge' steps edge_is edge'_is reached is =
     rw (edge_is, edge'_is) (tenth_by square k steps _ (rw (edge_is, edge'_is) at reached) is refl)
 
--- ---- no rounded root is larger than that of the diagonal
+-- ---- no rounded root is larger than a number that covers the square
 
--- what is at least the diagonal covers every square
-covers_diagonal : (rounding : Rounding) (square k : ℕ) → square ≤ 8 * 10 ^ 36 → 2828427125 ≤ k → ¬ Covers rounding square k → ⊥
-covers_diagonal Nearest square k most far short =
-    let side : 5656854251 * unit ≤ (2 * k + 1) * unit = omega arith in
-    let area = mul-le (5656854251 * unit) (5656854251 * unit) ((2 * k + 1) * unit) ((2 * k + 1) * unit) side side in
-    short (omega arith)
-covers_diagonal Up square k most far short =
-    let side : 2828427125 * unit ≤ k * unit = omega arith in
-    let area = mul-le (2828427125 * unit) (2828427125 * unit) (k * unit) (k * unit) side side in
-    short (omega arith)
-covers_diagonal TenthUp square k most far short =
-    let side : 2828427125 * unit ≤ k * unit = omega arith in
-    let area = mul-le (2828427125 * unit) (2828427125 * unit) (k * unit) (k * unit) side side in
-    short (omega arith)
+-- what is at least a number that covers the square covers it too
+covers-up : (rounding : Rounding) (square most k : ℕ) → Covers rounding square most → most ≤ k → Covers rounding square k
+covers-up Nearest square most k enough le =
+    let side : (2 * most + 1) * unit ≤ (2 * k + 1) * unit = omega arith in
+    let area = mul-le ((2 * most + 1) * unit) ((2 * most + 1) * unit) ((2 * k + 1) * unit) ((2 * k + 1) * unit) side side in
+    omega arith
+covers-up Up square most k enough le =
+    let side : most * unit ≤ k * unit = omega arith in
+    let area = mul-le (most * unit) (most * unit) (k * unit) (k * unit) side side in
+    omega arith
+covers-up TenthUp square most k enough le =
+    let side : most * unit ≤ k * unit = omega arith in
+    let area = mul-le (most * unit) (most * unit) (k * unit) (k * unit) side side in
+    omega arith
 
-pub least-most : (rounding : Rounding) (square k : ℕ) → square ≤ 8 * 10 ^ 36 → (0 < k → ¬ Covers rounding square (k - 1)) → k ≤ 2828427125
-least-most rounding square k most least =
-    elim (cases_lt 2828427125 k) [
-      | inl long ↦ absurd (covers_diagonal rounding square (k - 1) most (omega arith) (least (omega arith)))
+pub least-most : (rounding : Rounding) (square most k : ℕ) → Covers rounding square most → (0 < k → ¬ Covers rounding square (k - 1)) → k ≤ most
+least-most rounding square most k enough least =
+    elim (cases_lt most k) [
+      | inl long ↦ absurd (least (omega arith) (covers-up rounding square most (k - 1) enough (omega arith)))
       | inr short ↦ short
     ]
+
+-- the diagonal of the plane covers every square there, and that of space every one in space
+pub diagonal_covers : (rounding : Rounding) (square : ℕ) → square ≤ 8 * 10 ^ 36 → Covers rounding square 2828427125
+diagonal_covers Nearest square small = omega arith
+diagonal_covers Up square small = omega arith
+diagonal_covers TenthUp square small = omega arith
+
+pub space_covers : (square : ℕ) → square ≤ 12 * 10 ^ 36 → Covers Nearest square 3464101615
+space_covers square small = omega arith

@@ -7,3 +7,4 @@ pub mod Written
 pub mod Spelling
 pub mod Reading
 pub mod Front
+pub mod Examples

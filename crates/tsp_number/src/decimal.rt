@@ -1,4 +1,4 @@
-//! Decimals with nine places, and points in the plane.
+//! Decimals with nine places, and points in the plane and in space.
 
 ghost use Rattle.std.specs.Prelude.{◌≡◌, ◌≤◌, unsigned_abs, SomeIff};
 ghost use Rattle.tsp_number.specs.Decimal.{most_count};
@@ -72,11 +72,57 @@ impl Decimal {
     }
 }
 
-/// A point in the plane, by its coordinates.
+/// A point in space, by its coordinates. Of a point in the plane the third is 0.
 #[derive(Clone, Copy, Debug, PartialEq, Eq)]
 pub struct Point {
     /// The first coordinate.
     pub x: Decimal,
     /// The second coordinate.
     pub y: Decimal,
+    /// The third coordinate.
+    pub z: Decimal,
+}
+
+/// A point in the plane, by its coordinates, in the room that two numbers take.
+#[derive(Clone, Copy, Debug, PartialEq, Eq)]
+pub struct PlanePoint {
+    /// The first coordinate.
+    pub x: Decimal,
+    /// The second coordinate.
+    pub y: Decimal,
+}
+
+/// A point that has its place in space.
+pub trait InSpace: Copy {
+    ghost use Rattle.tsp_number.specs.declared.decimal.Point.{Point};
+
+    ghost place: { Self → Point };
+
+    /// The point by its three coordinates.
+    fn in_space(self) -> Point
+        ensures { result ≡ place self };
+}
+
+impl InSpace for Point {
+    ghost place = { λ point. point };
+
+    #[inline(always)]
+    fn in_space(self) -> Point {
+        self
+    }
+}
+
+impl InSpace for PlanePoint {
+    ghost use Rattle.tsp_number.specs.Distances.{on_plane};
+
+    ghost place = { λ point. on_plane point.x point.y };
+
+    #[inline(always)]
+    fn in_space(self) -> Point {
+        Point {
+            x: self.x,
+            y: self.y,
+            z: Decimal { nanos: 0 },
+        }
+    }
 }

@@ -9,7 +9,7 @@ use crate::root::{Rounding, rounded_root};
 
 /// The way from one number to another, in counts of 10^-9.
 #[inline(always)]
-fn way(a: Decimal, b: Decimal) -> i64
+pub(crate) fn way(a: Decimal, b: Decimal) -> i64
     ensures value { result ≡ a -ℤ b }
     ensures most { unsigned_abs result ≤ 2 * 10 ^ 18 }
 {
@@ -18,7 +18,7 @@ fn way(a: Decimal, b: Decimal) -> i64
 
 /// How far two numbers are apart, in counts of 10^-9.
 #[inline(always)]
-fn gap(a: Decimal, b: Decimal) -> u64
+pub(crate) fn gap(a: Decimal, b: Decimal) -> u64
     ensures value { result ≡ unsigned_abs (a -ℤ b) }
     ensures most { result ≤ 2 * 10 ^ 18 }
 {
@@ -27,12 +27,12 @@ fn gap(a: Decimal, b: Decimal) -> u64
 
 /// The count as whole numbers, to the nearest, a half upward.
 #[inline(always)]
-fn nearest_whole(count: u64) -> i64
-    requires { count ≤ 4 * 10 ^ 18 }
+pub(crate) fn nearest_whole(count: u64) -> i64
+    requires { count ≤ 6 * 10 ^ 18 }
     ensures below_next_half { 2 * count < (2 * unsigned_abs result + 1) * unit }
     ensures from_last_half { 0 < unsigned_abs result → (2 * unsigned_abs result - 1) * unit ≤ 2 * count }
     ensures low { pos 0 ≤ℤ result }
-    ensures high { result ≤ℤ pos 4000000000 }
+    ensures high { result ≤ℤ pos 6000000000 }
 {
     ((count + UNIT / 2) / UNIT) as i64
 }

@@ -1,10 +1,11 @@
 //! Numbers as most words write them, read from the front of some bytes.
 
 ghost use Rattle.std.specs.Prelude.{◌≡◌, ◌+◌, ◌*◌, ◌^◌, ◌<◌, ◌≤◌, ◌*ℤ◌, pos, length, take, unsigned_abs, IfSome};
+ghost use Rattle.std.specs.Option.{option_map};
 ghost use Rattle.std.specs.Str.Parse.{AllDigits, digits_value};
 ghost use Rattle.tsp_number.specs.Decimal.{unit, most_count};
 ghost use Rattle.tsp_number.specs.NumberWord.{IsSign, signed as signed_of};
-ghost use Rattle.tsp_number.specs.Front.{BeginsWithNumber};
+ghost use Rattle.tsp_number.specs.Front.{BeginsWithNumber, sign_count, digit_count, whole_end, decimal_end};
 
 use crate::decimal::{Decimal, UNIT};
 use crate::eight::{EIGHT, front_of_eight};
@@ -22,6 +23,7 @@ fn front_sign(bytes: &[u8]) -> (bool, usize)
     ensures within { result.1 ≤ length bytes.now }
     ensures short { result.1 ≤ 1 }
     ensures sign { IsSign (take result.1 bytes.now) result.0 }
+    ensures count { result.1 ≡ sign_count bytes.now }
 {
     match bytes.first() {
         Some(b'-') => (true, 1),
@@ -36,6 +38,7 @@ fn single_digits(bytes: &[u8], most: usize) -> (u64, usize)
     requires { most ≤ 18 }
     ensures within { result.1 ≤ length bytes.now }
     ensures few { result.1 ≤ most }
+    ensures count { result.1 ≡ digit_count most bytes.now }
     ensures digits { AllDigits 10 (take result.1 bytes.now) }
     ensures value { result.0 ≡ digits_value 10 (take result.1 bytes.now) }
     ensures size { result.0 < 10 ^ result.1 }
@@ -60,6 +63,7 @@ fn front_digits(bytes: &[u8], most: usize) -> (u64, usize)
     requires { most ≤ 18 }
     ensures within { result.1 ≤ length bytes.now }
     ensures few { result.1 ≤ most }
+    ensures count { result.1 ≡ digit_count most bytes.now }
     ensures digits { AllDigits 10 (take result.1 bytes.now) }
     ensures value { result.0 ≡ digits_value 10 (take result.1 bytes.now) }
     ensures size { result.0 < 10 ^ result.1 }
@@ -98,7 +102,8 @@ fn signed(negative: bool, size: u64) -> i64
 /// full; one that goes on is for [`parse_whole`](crate::parse_whole).
 #[inline(always)]
 pub fn front_whole(bytes: &[u8]) -> Option<(i64, usize)>
-    ensures { IfSome result (λ found. BeginsWithNumber bytes.now found.1 (found.0 *ℤ pos unit)) }
+    ensures number { IfSome result (λ found. BeginsWithNumber bytes.now found.1 (found.0 *ℤ pos unit)) }
+    ensures end { option_map (λ found. found.1) result ≡ whole_end bytes.now }
 {
     let (negative, sign) = front_sign(bytes);
     let (size, count) = front_digits(&bytes[sign..], MOST_DIGITS);
@@ -117,6 +122,7 @@ pub fn front_whole(bytes: &[u8]) -> Option<(i64, usize)>
 pub fn front_decimal(bytes: &[u8]) -> Option<(Decimal, usize)>
     ensures number { IfSome result (λ found. BeginsWithNumber bytes.now found.1 found.0) }
     ensures size { IfSome result (λ found. unsigned_abs found.0 ≤ most_count) }
+    ensures end { option_map (λ found. found.1) result ≡ decimal_end bytes.now }
 {
     let (negative, sign) = front_sign(bytes);
     let (whole, count) = front_digits(&bytes[sign..], MOST_PLACES);

@@ -3,13 +3,19 @@
 ghost use Rattle.std.specs.Prelude.{◌≡◌, ◌+◌, ◌-◌, ◌*◌, ◌<◌, ◌≤◌, ◌^◌, ◌↔◌, IsTrue, unsigned_abs};
 ghost use Rattle.std.specs.Bool.{OnTrue};
 ghost use Rattle.tsp_number.specs.Distances.{squared};
+ghost use Rattle.tsp_number.specs.declared.root.Rounding.TheVariants.{Nearest};
 ghost use Rattle.tsp_number.specs.Rounding.{Covers, IsLeastCover, estimate_limit};
 
 use crate::decimal::UNIT;
 use std::num;
 
-/// No rounded root is larger: the diagonal of the square of all points is 2,828,427,124.7 long.
+/// No rounded root in the plane is larger: the diagonal of the square of all points is
+/// 2,828,427,124.7 long.
 const MOST_ROOT: u32 = 2_828_427_125;
+
+/// No root in space is larger to the nearest: the diagonal of the cube of all points is
+/// 3,464,101,615.1 long.
+const MOST_ROOT_IN_SPACE: u32 = 3_464_101_615;
 
 /// The square of a whole, in counts of 10^-18.
 const SQUARE_UNIT: u128 = 1_000_000_000_000_000_000;
@@ -28,7 +34,7 @@ pub(crate) enum Rounding {
 /// Whether `whole` is at least the rounded root of `square`, where both count 10^-9.
 #[inline(always)]
 fn covers(rounding: Rounding, square: u128, whole: u32) -> bool
-    requires { square ≤ 8 * 10 ^ 36 }
+    requires { square ≤ 12 * 10 ^ 36 }
     ensures { IsTrue result ↔ Covers rounding square whole }
 {
     match rounding {
@@ -47,17 +53,18 @@ fn covers(rounding: Rounding, square: u128, whole: u32) -> bool
     }
 }
 
-/// The least number that covers the square, by halving the range that it lies in.
+/// The least number that covers the square, by halving the range up to `most`, which covers it.
 #[cold]
 #[inline(never)]
-fn exact_root(rounding: Rounding, square: u128) -> u32
-    requires { square ≤ 8 * 10 ^ 36 }
+fn exact_root(rounding: Rounding, square: u128, most: u32) -> u32
+    requires size { square ≤ 12 * 10 ^ 36 }
+    requires covered { Covers rounding square most }
     ensures enough { Covers rounding square result }
     ensures least { 0 < result → ¬ Covers rounding square (result - 1) }
-    ensures most { result ≤ 2828427125 }
+    ensures most { result ≤ most }
 {
     let mut low = 0;
-    let mut high = MOST_ROOT;
+    let mut high = most;
     while low < high {
         let middle = low + (high - low) / 2;
         if covers(rounding, square, middle) {
@@ -80,17 +87,21 @@ fn square_of(way: i64) -> u128
     (wide * wide) as u128
 }
 
-/// What floats make of the root, which may be wrong.
+/// What floats make of the square of a way, in counts of 2^18 * 10^-18.
 #[inline(always)]
-fn estimate(rounding: Rounding, across: i64, along: i64) -> u32
-    requires across { unsigned_abs across ≤ 2 * 10 ^ 18 }
-    requires along { unsigned_abs along ≤ 2 * 10 ^ 18 }
-    ensures { result < estimate_limit rounding }
+fn coarse_square(way: i64) -> f64
+    requires { unsigned_abs way ≤ 2 * 10 ^ 18 }
 {
     // 10^9 is 5^9 * 2^9: of a whole number nothing is lost here.
-    let x = (across >> 9) as f64;
-    let y = (along >> 9) as f64;
-    let square = x * x + y * y;
+    let coarse = (way >> 9) as f64;
+    coarse * coarse
+}
+
+/// What floats make of the root, which may be wrong.
+#[inline(always)]
+fn estimate(rounding: Rounding, square: f64) -> u32
+    ensures { result < estimate_limit rounding }
+{
     let (near, most) = match rounding {
         Rounding::Nearest => (square.sqrt() * 5.12e-7, 0xffff_ffff),
         Rounding::Up => (square.sqrt() * 5.12e-7 + 0.499_999_999, 0xffff_ffff),
@@ -107,7 +118,7 @@ fn estimate(rounding: Rounding, across: i64, along: i64) -> u32
 /// than the square of the smaller one.
 #[inline(always)]
 fn is_least_cover(rounding: Rounding, square: u128, whole: u32) -> bool
-    requires most { square ≤ 8 * 10 ^ 36 }
+    requires size { square ≤ 12 * 10 ^ 36 }
     requires limit { whole < estimate_limit rounding }
     ensures { OnTrue result (IsLeastCover rounding square whole) }
 {
@@ -135,29 +146,44 @@ fn is_least_cover(rounding: Rounding, square: u128, whole: u32) -> bool
 /// The least number that covers the square, next to an estimate or else by halving.
 #[cold]
 #[inline(never)]
-fn corrected_root(rounding: Rounding, across: i64, along: i64, near: u32) -> u32
-    requires across { unsigned_abs across ≤ 2 * 10 ^ 18 }
-    requires along { unsigned_abs along ≤ 2 * 10 ^ 18 }
-    ensures enough { Covers rounding (squared (unsigned_abs across) + squared (unsigned_abs along)) result }
-    ensures least { 0 < result
-        → ¬ Covers rounding (squared (unsigned_abs across) + squared (unsigned_abs along)) (result - 1) }
-    ensures most { result ≤ 2828427125 }
+fn corrected_root(rounding: Rounding, square: u128, near: u32, most: u32) -> u32
+    requires size { square ≤ 12 * 10 ^ 36 }
+    requires covered { Covers rounding square most }
+    ensures enough { Covers rounding square result }
+    ensures least { 0 < result → ¬ Covers rounding square (result - 1) }
+    ensures most { result ≤ most }
 {
-    let square = square_of(across) + square_of(along);
-    let low = near.min(MOST_ROOT);
+    let low = near.min(most);
     if covers(rounding, square, low) {
         if low == 0 || !covers(rounding, square, low - 1) {
             return low;
         }
-    } else if low < MOST_ROOT && covers(rounding, square, low + 1) {
+    } else if low < most && covers(rounding, square, low + 1) {
         return low + 1;
     }
-    exact_root(rounding, square)
+    exact_root(rounding, square, most)
 }
 
-/// The rounded root of the square of a distance, whose ways along both axes count 10^-9.
+/// The least number that covers the square, by an estimate and a number that covers it.
 ///
-/// An estimate in floats is taken only where whole numbers show that it is right.
+/// The estimate is taken only where whole numbers show that it is right.
+#[inline(always)]
+fn settled_root(rounding: Rounding, square: u128, near: u32, most: u32) -> u32
+    requires size { square ≤ 12 * 10 ^ 36 }
+    requires limit { near < estimate_limit rounding }
+    requires covered { Covers rounding square most }
+    ensures enough { Covers rounding square result }
+    ensures least { 0 < result → ¬ Covers rounding square (result - 1) }
+    ensures most { result ≤ most }
+{
+    if is_least_cover(rounding, square, near) {
+        return near;
+    }
+    corrected_root(rounding, square, near, most)
+}
+
+/// The rounded root of the square of a distance in the plane, whose ways along both axes count
+/// 10^-9.
 #[inline(always)]
 pub(crate) fn rounded_root(rounding: Rounding, across: i64, along: i64) -> u32
     requires across { unsigned_abs across ≤ 2 * 10 ^ 18 }
@@ -168,9 +194,27 @@ pub(crate) fn rounded_root(rounding: Rounding, across: i64, along: i64) -> u32
     ensures most { result ≤ 2828427125 }
 {
     let square = square_of(across) + square_of(along);
-    let near = estimate(rounding, across, along);
-    if is_least_cover(rounding, square, near) {
-        return near;
-    }
-    corrected_root(rounding, across, along, near)
+    let near = estimate(rounding, coarse_square(across) + coarse_square(along));
+    settled_root(rounding, square, near, MOST_ROOT)
+}
+
+/// The root of the square of a distance in space, whose ways along the axes count 10^-9, to the
+/// nearest whole number, a half upward.
+#[inline(always)]
+pub(crate) fn nearest_root_in_space(across: i64, along: i64, above: i64) -> u32
+    requires across { unsigned_abs across ≤ 2 * 10 ^ 18 }
+    requires along { unsigned_abs along ≤ 2 * 10 ^ 18 }
+    requires above { unsigned_abs above ≤ 2 * 10 ^ 18 }
+    ensures enough { Covers Nearest (squared (unsigned_abs across) + squared (unsigned_abs along)
+        + squared (unsigned_abs above)) result }
+    ensures least { 0 < result → ¬ Covers Nearest (squared (unsigned_abs across)
+        + squared (unsigned_abs along) + squared (unsigned_abs above)) (result - 1) }
+    ensures most { result ≤ 3464101615 }
+{
+    // Each square is at most 4 * 10^36, so that their sum is at most 12 * 10^36, and 4 times the
+    // sum at most 4.8 * 10^37: far below 2^128, which is above 3.4 * 10^38.
+    let square = square_of(across) + square_of(along) + square_of(above);
+    let coarse = coarse_square(across) + coarse_square(along) + coarse_square(above);
+    let near = estimate(Rounding::Nearest, coarse);
+    settled_root(Rounding::Nearest, square, near, MOST_ROOT_IN_SPACE)
 }

@@ -9,6 +9,7 @@ pub mod ValidLists
 pub mod ValidDepots
 pub mod ValidTours
 pub mod ValidFixed
+pub mod ValidTriples
 pub mod ValidKeywords
 pub mod ValidCuts
 pub mod ValidItems

@@ -4,7 +4,7 @@ use Rattle.std.specs.Prelude.{ℕ, nat_lt, is_some}
 use Rattle.std.specs.Option.{option_map_or}
 use Rattle.std.specs.List.{find}
 use Rattle.tsp_value.specs.declared.field.Field.{Field}
-use Rattle.tsp_value.specs.declared.field.Field.TheVariants.{NameKey, TypeKey, CommentKey, OtherKey, DimensionKey, CapacityKey, ScaleKey, EdgeWeightTypeKey, EdgeWeightFormatKey, NodeCoordTypeKey, DisplayDataTypeKey, NodeCoordPart, DisplayDataPart, DemandPart, DepotPart, FixedEdgesPart, EdgeWeightPart, TourPart, NodePotentialPart, RowPotentialPart, ColumnPotentialPart}
+use Rattle.tsp_value.specs.declared.field.Field.TheVariants.{NameKey, TypeKey, CommentKey, OtherKey, DimensionKey, CapacityKey, ScaleKey, EdgeWeightTypeKey, EdgeWeightFormatKey, NodeCoordTypeKey, DisplayDataTypeKey, NodeCoordPart, DisplayDataPart, DemandPart, DepotPart, FixedEdgesPart, EdgeWeightPart, TourPart, NodePotentialPart, RowPotentialPart, ColumnPotentialPart, FixedPotentialPart}
 use Rattle.tsp_value.specs.declared.keyword.Keyword.TheVariants.{Known}
 use Rattle.tsp_value.specs.Limits.{most_line_bytes}
 use Rattle.tsp_fields.specs.Fields.{Fields, stands_in}
@@ -20,29 +20,30 @@ use Rattle.tsp_read.specs.states.Stored.{with_section}
 
 -- what holds of each section holds of every field that is one
 pub by_section : (P : Field → Type 0) → P NodeCoordPart → P DisplayDataPart → P DemandPart → P DepotPart → P FixedEdgesPart
-    → P EdgeWeightPart → P TourPart → P NodePotentialPart → P RowPotentialPart → P ColumnPotentialPart
+    → P EdgeWeightPart → P TourPart → P NodePotentialPart → P RowPotentialPart → P ColumnPotentialPart → P FixedPotentialPart
     → (f : Field) → is_section_field f ≡ true → P f
-by_section P p0 p1 p2 p3 p4 p5 p6 p7 p8 p9 NameKey e = cc
-by_section P p0 p1 p2 p3 p4 p5 p6 p7 p8 p9 TypeKey e = cc
-by_section P p0 p1 p2 p3 p4 p5 p6 p7 p8 p9 CommentKey e = cc
-by_section P p0 p1 p2 p3 p4 p5 p6 p7 p8 p9 OtherKey e = cc
-by_section P p0 p1 p2 p3 p4 p5 p6 p7 p8 p9 DimensionKey e = cc
-by_section P p0 p1 p2 p3 p4 p5 p6 p7 p8 p9 CapacityKey e = cc
-by_section P p0 p1 p2 p3 p4 p5 p6 p7 p8 p9 ScaleKey e = cc
-by_section P p0 p1 p2 p3 p4 p5 p6 p7 p8 p9 EdgeWeightTypeKey e = cc
-by_section P p0 p1 p2 p3 p4 p5 p6 p7 p8 p9 EdgeWeightFormatKey e = cc
-by_section P p0 p1 p2 p3 p4 p5 p6 p7 p8 p9 NodeCoordTypeKey e = cc
-by_section P p0 p1 p2 p3 p4 p5 p6 p7 p8 p9 DisplayDataTypeKey e = cc
-by_section P p0 p1 p2 p3 p4 p5 p6 p7 p8 p9 NodeCoordPart e = p0
-by_section P p0 p1 p2 p3 p4 p5 p6 p7 p8 p9 DisplayDataPart e = p1
-by_section P p0 p1 p2 p3 p4 p5 p6 p7 p8 p9 DemandPart e = p2
-by_section P p0 p1 p2 p3 p4 p5 p6 p7 p8 p9 DepotPart e = p3
-by_section P p0 p1 p2 p3 p4 p5 p6 p7 p8 p9 FixedEdgesPart e = p4
-by_section P p0 p1 p2 p3 p4 p5 p6 p7 p8 p9 EdgeWeightPart e = p5
-by_section P p0 p1 p2 p3 p4 p5 p6 p7 p8 p9 TourPart e = p6
-by_section P p0 p1 p2 p3 p4 p5 p6 p7 p8 p9 NodePotentialPart e = p7
-by_section P p0 p1 p2 p3 p4 p5 p6 p7 p8 p9 RowPotentialPart e = p8
-by_section P p0 p1 p2 p3 p4 p5 p6 p7 p8 p9 ColumnPotentialPart e = p9
+by_section P p0 p1 p2 p3 p4 p5 p6 p7 p8 p9 p10 NameKey e = cc
+by_section P p0 p1 p2 p3 p4 p5 p6 p7 p8 p9 p10 TypeKey e = cc
+by_section P p0 p1 p2 p3 p4 p5 p6 p7 p8 p9 p10 CommentKey e = cc
+by_section P p0 p1 p2 p3 p4 p5 p6 p7 p8 p9 p10 OtherKey e = cc
+by_section P p0 p1 p2 p3 p4 p5 p6 p7 p8 p9 p10 DimensionKey e = cc
+by_section P p0 p1 p2 p3 p4 p5 p6 p7 p8 p9 p10 CapacityKey e = cc
+by_section P p0 p1 p2 p3 p4 p5 p6 p7 p8 p9 p10 ScaleKey e = cc
+by_section P p0 p1 p2 p3 p4 p5 p6 p7 p8 p9 p10 EdgeWeightTypeKey e = cc
+by_section P p0 p1 p2 p3 p4 p5 p6 p7 p8 p9 p10 EdgeWeightFormatKey e = cc
+by_section P p0 p1 p2 p3 p4 p5 p6 p7 p8 p9 p10 NodeCoordTypeKey e = cc
+by_section P p0 p1 p2 p3 p4 p5 p6 p7 p8 p9 p10 DisplayDataTypeKey e = cc
+by_section P p0 p1 p2 p3 p4 p5 p6 p7 p8 p9 p10 NodeCoordPart e = p0
+by_section P p0 p1 p2 p3 p4 p5 p6 p7 p8 p9 p10 DisplayDataPart e = p1
+by_section P p0 p1 p2 p3 p4 p5 p6 p7 p8 p9 p10 DemandPart e = p2
+by_section P p0 p1 p2 p3 p4 p5 p6 p7 p8 p9 p10 DepotPart e = p3
+by_section P p0 p1 p2 p3 p4 p5 p6 p7 p8 p9 p10 FixedEdgesPart e = p4
+by_section P p0 p1 p2 p3 p4 p5 p6 p7 p8 p9 p10 EdgeWeightPart e = p5
+by_section P p0 p1 p2 p3 p4 p5 p6 p7 p8 p9 p10 TourPart e = p6
+by_section P p0 p1 p2 p3 p4 p5 p6 p7 p8 p9 p10 NodePotentialPart e = p7
+by_section P p0 p1 p2 p3 p4 p5 p6 p7 p8 p9 p10 RowPotentialPart e = p8
+by_section P p0 p1 p2 p3 p4 p5 p6 p7 p8 p9 p10 ColumnPotentialPart e = p9
+by_section P p0 p1 p2 p3 p4 p5 p6 p7 p8 p9 p10 FixedPotentialPart e = p10
 
 -- a field that is none of the other keywords and no section
 pub unnamed : (f : Field) → shape_of f ≡ None → f ≢ NameKey → f ≢ TypeKey → f ≢ CommentKey → f ≢ DimensionKey → f ≢ CapacityKey → f ≢ ScaleKey → f ≢ EdgeWeightTypeKey → f ≢ EdgeWeightFormatKey → f ≢ NodeCoordTypeKey → f ≢ DisplayDataTypeKey
@@ -68,6 +69,7 @@ unnamed TourPart no_shape k0 k1 k2 k3 k4 k5 k6 k7 k8 k9 = cc
 unnamed NodePotentialPart no_shape k0 k1 k2 k3 k4 k5 k6 k7 k8 k9 = cc
 unnamed RowPotentialPart no_shape k0 k1 k2 k3 k4 k5 k6 k7 k8 k9 = cc
 unnamed ColumnPotentialPart no_shape k0 k1 k2 k3 k4 k5 k6 k7 k8 k9 = cc
+unnamed FixedPotentialPart no_shape k0 k1 k2 k3 k4 k5 k6 k7 k8 k9 = cc
 
 some_cond : {A : Type 0} (b : Bool) (x : A) → is_some (cond b (Some x) None) ≡ b
 some_cond true x = refl
@@ -83,6 +85,7 @@ opening earlier line short = by_section (λ f. row_of earlier (Line (Known f) li
     ≡ option_map_or (λ shape. opening_rows shape (has_line f earlier) line.value (has_line DimensionKey earlier) (nodes_of earlier)) (shape_of f) None)
     (rw short refl) (rw short refl) (rw short refl) (rw short refl) (rw short refl)
     (rw short refl) (rw short refl) (rw short refl) (rw short refl) (rw short refl)
+    (rw short refl)
 
 -- a section stands in the fields where a line opened it
 pub standing : (earlier : List Item) (f : Field) → is_section_field f ≡ true
@@ -93,6 +96,7 @@ standing earlier = by_section (λ f. stands_in (fields_by (λ field. has_line fi
     (some_cond (has_line FixedEdgesPart earlier) _) (some_cond (has_line EdgeWeightPart earlier) _)
     (some_cond (has_line TourPart earlier) _) (some_cond (has_line NodePotentialPart earlier) _)
     (some_cond (has_line RowPotentialPart earlier) _) (some_cond (has_line ColumnPotentialPart earlier) _)
+    (some_cond (has_line FixedPotentialPart earlier) _)
 
 -- the fields of the closed sections are those from before
 pub opened_fields : (earlier : List Item) (line : WordLine) (f : Field) → is_section_field f ≡ true → has_line f earlier ≡ false
@@ -102,6 +106,7 @@ opened_fields earlier line = by_section (λ f. has_line f earlier ≡ false → 
     ≡ fields_by (is_closed (Line (Known f) line ∷ earlier)) (Line (Known f) line ∷ earlier))
     (λ none. rw none refl) (λ none. rw none refl) (λ none. rw none refl) (λ none. rw none refl) (λ none. rw none refl)
     (λ none. rw none refl) (λ none. rw none refl) (λ none. rw none refl) (λ none. rw none refl) (λ none. rw none refl)
+    (λ none. rw none refl)
 
 -- and so is the first that is incomplete
 pub opened_first : (earlier : List Item) (line : WordLine) (f : Field) → is_section_field f ≡ true → has_line f earlier ≡ false
@@ -110,6 +115,7 @@ opened_first earlier line = by_section (λ f. has_line f earlier ≡ false
     → find (is_incomplete earlier) sections_in_order ≡ find (is_closed_incomplete (Line (Known f) line ∷ earlier)) sections_in_order)
     (λ none. rw none refl) (λ none. rw none refl) (λ none. rw none refl) (λ none. rw none refl) (λ none. rw none refl)
     (λ none. rw none refl) (λ none. rw none refl) (λ none. rw none refl) (λ none. rw none refl) (λ none. rw none refl)
+    (λ none. rw none refl)
 
 -- what the keywords say stays
 pub keywords_stay : (earlier : List Item) (line : WordLine) (f : Field) → is_section_field f ≡ true
@@ -118,6 +124,7 @@ keywords_stay earlier line = by_section (λ f. (keywords_there (Line (Known f) l
     × (nodes_of (Line (Known f) line ∷ earlier) ≡ nodes_of earlier))
     (refl, refl) (refl, refl) (refl, refl) (refl, refl) (refl, refl)
     (refl, refl) (refl, refl) (refl, refl) (refl, refl) (refl, refl)
+    (refl, refl)
 
 -- ---- a word of the open section: the closed ones stay
 
@@ -127,6 +134,7 @@ word_fields earlier word = by_section (λ f. open_section earlier ≡ Some f
     → fields_by (is_closed (NumberWord word ∷ earlier)) (NumberWord word ∷ earlier) ≡ fields_by (is_closed earlier) earlier)
     (λ o. rw o refl) (λ o. rw o refl) (λ o. rw o refl) (λ o. rw o refl) (λ o. rw o refl)
     (λ o. rw o refl) (λ o. rw o refl) (λ o. rw o refl) (λ o. rw o refl) (λ o. rw o refl)
+    (λ o. rw o refl)
 
 pub word_first : (earlier : List Item) (word : List ℕ) (f : Field) → is_section_field f ≡ true → open_section earlier ≡ Some f
     → find (is_closed_incomplete (NumberWord word ∷ earlier)) sections_in_order ≡ find (is_closed_incomplete earlier) sections_in_order
@@ -134,6 +142,7 @@ word_first earlier word = by_section (λ f. open_section earlier ≡ Some f
     → find (is_closed_incomplete (NumberWord word ∷ earlier)) sections_in_order ≡ find (is_closed_incomplete earlier) sections_in_order)
     (λ o. rw o refl) (λ o. rw o refl) (λ o. rw o refl) (λ o. rw o refl) (λ o. rw o refl)
     (λ o. rw o refl) (λ o. rw o refl) (λ o. rw o refl) (λ o. rw o refl) (λ o. rw o refl)
+    (λ o. rw o refl)
 
 -- ---- the open section is closed
 
@@ -143,6 +152,7 @@ closed_fields earlier = by_section (λ f. open_section earlier ≡ Some f → ha
     → with_section f (nodes_of earlier) (words_of f earlier) (fields_by (is_closed earlier) earlier) ≡ fields_by (λ field. has_line field earlier) earlier)
     (λ o there. rw (o, there) refl) (λ o there. rw (o, there) refl) (λ o there. rw (o, there) refl) (λ o there. rw (o, there) refl) (λ o there. rw (o, there) refl)
     (λ o there. rw (o, there) refl) (λ o there. rw (o, there) refl) (λ o there. rw (o, there) refl) (λ o there. rw (o, there) refl) (λ o there. rw (o, there) refl)
+    (λ o there. rw (o, there) refl)
 
 -- what the keywords say stays
 pub stored_keywords : (n : ℕ) (words : List (List ℕ)) (fields : Fields) (f : Field) → is_section_field f ≡ true
@@ -150,3 +160,4 @@ pub stored_keywords : (n : ℕ) (words : List (List ℕ)) (fields : Fields) (f :
 stored_keywords n words fields = by_section (λ f. fields_there (with_section f n words fields) ≡ fields_there fields)
     refl refl refl refl refl
     refl refl refl refl refl
+    refl

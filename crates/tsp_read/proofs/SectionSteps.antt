@@ -13,13 +13,14 @@ use Rattle.tsp_fields.specs.Fields.{Fields, fields_of, stands_in, with_numbers}
 use Rattle.tsp_items.specs.declared.fault.LineFault.{LineFault}
 use Rattle.tsp_items.specs.declared.fault.LineFault.TheVariants as row
 use Rattle.tsp_value.specs.declared.field.Shape.{Shape}
-use Rattle.tsp_value.specs.declared.field.Shape.TheVariants.{Numbers, Pairs}
+use Rattle.tsp_value.specs.declared.field.Shape.TheVariants.{Numbers, Pairs, Triples}
 use Rattle.tsp_items.specs.declared.part.Part.{Part}
 use Rattle.tsp_items.specs.declared.part.Part.TheVariants as parts
 use Rattle.tsp_items.specs.declared.parts.numbers.NumberList.{NumberList}
 use Rattle.tsp_items.specs.declared.parts.fixed.FixedList.{FixedList}
+use Rattle.tsp_items.specs.declared.parts.triples.TripleList.{TripleList}
 use Rattle.tsp_items.specs.Groups.{numbers_by_node, place_of_number}
-use Rattle.tsp_items.specs.Lists.{fixed_in, place_of_fixed}
+use Rattle.tsp_items.specs.Lists.{fixed_in, place_of_fixed, fixed_triples_in, place_of_triple}
 use Rattle.tsp_items.specs.Places.{PastEnd}
 use Rattle.tsp_items.specs.Lines.{is_filled}
 use Rattle.tsp_items.specs.Items.{WordLine, Item, Line, NumberWord, LineEnd}
@@ -28,7 +29,7 @@ use Rattle.tsp_items.specs.Earlier.{same_field, is_key, opened_by, is_open, has_
 use Rattle.tsp_items.specs.Sections.{place_by, place_in, nodes_of}
 use Rattle.tsp_items.specs.Rows.{row_of, when, first_row}
 use Rattle.tsp_items.specs.states.CutLine.{needs_nodes, is_matrix, opening_rows, MayOpen}
-use Rattle.tsp_items.specs.states.Held.{HoldsNumbers, HoldsFixed, shape_by, HoldsPart, HoldsShape}
+use Rattle.tsp_items.specs.states.Held.{HoldsNumbers, HoldsFixed, HoldsTriples, shape_by, HoldsPart, HoldsShape}
 use Rattle.tsp_items.specs.Spells.{wants_more, is_incomplete, sections_in_order, first_incomplete}
 use Rattle.tsp_read.specs.declared.state.reading.OpenSection.{OpenSection}
 use Rattle.tsp_read.specs.declared.state.reading.Reading.{Reading}
@@ -205,3 +206,13 @@ pub pairs_stored : (section : OpenSection) (part : FixedList) (pairs : List (ℕ
 pairs_stored section part pairs more old new is put finished n words h =
     let got = finished n words (subst (λ (p : Part). HoldsPart p n words) is h.1) in
     stored_as section Pairs old new more n words (h.0 ∙ ap (λ p. Some (shape_by p)) is) (put ∙ ap (λ xs. record old { fixed = Some xs }) got.0) got.1
+
+pub triples_stored : (section : OpenSection) (part : TripleList) (triples : List (ℕ × ℕ × ℤ)) (more : Bool) (old new : Fields) → section.part ≡ parts.Triples part
+    → new ≡ record old { fixed_potentials = Some triples }
+    → ((n : ℕ) (words : List (List ℕ)) → HoldsTriples part n words → (triples ≡ fixed_triples_in n words) × (more ≡ wants_more (place_of_triple n words)))
+    → (n : ℕ) (words : List (List ℕ)) → HoldsSection section n words
+    → (new ≡ with_section section.field n words old) × (more ≡ wants_more (place_in section.field n words))
+triples_stored section part triples more old new is put finished n words h =
+    let got = finished n words (subst (λ (p : Part). HoldsPart p n words) is h.1) in
+    stored_as section Triples old new more n words (h.0 ∙ ap (λ p. Some (shape_by p)) is)
+    (put ∙ ap (λ xs. record old { fixed_potentials = Some xs }) got.0) got.1

@@ -3,7 +3,7 @@ use Rattle.std.proofs.Common.{◌≡◌, ℕ, Bool, true, false, cond, List, [],
 use Rattle.std.specs.Prelude.{nat_le, nat_abs}
 use Rattle.std.specs.List.{list_any}
 use Rattle.std.proofs.lemmas.Bool.{false≢true}
-use Rattle.std.proofs.lemmas.List.{length-map, append-nil, map_push}
+use Rattle.std.proofs.lemmas.List.{length-map, map_push}
 use Rattle.tsp_value.specs.declared.field.Field.TheVariants.{DepotPart}
 use Rattle.tsp_value.specs.Limits.{most_depots}
 use Rattle.tsp_fields.specs.Validity.{is_node, are_depots}
@@ -15,10 +15,11 @@ use Rattle.tsp_items.specs.Lists.{before, depots_in}
 use Rattle.tsp_items.specs.Sections.{nodes_of}
 use Rattle.tsp_items.specs.FirstFault.{IsClean}
 use Rattle.tsp_items.specs.Rows.{word_fault}
+use Rattle.tsp_items.proofs.Ended.{before_kept, before_none, before_end, before_push}
 use Rattle.tsp_read.proofs.ValidRows.{is_taken}
 use Rattle.tsp_read.proofs.ValidSections.{Grows, grown}
 use Rattle.tsp_read.proofs.ValidNumbers.{read_listed}
-use Rattle.tsp_read.proofs.ValidLists.{before_ended, before_open, before_all, few_more, first_of_both}
+use Rattle.tsp_read.proofs.ValidLists.{few_more, first_of_both}
 
 -- of the words before the -1
 abbrev AreListed : ℕ → List (List ℕ) → Type 0
@@ -39,16 +40,14 @@ listed_more n words word all more room node held =
 
 taken : (n : ℕ) (words : List (List ℕ)) (word : List ℕ) (ended end : Bool) → list_any (is_end n) words ≡ ended → is_end n word ≡ end
     → word_fault n (cond ended PastEnd (DepotAfter (length words))) word ≡ None → AreListed n words → AreListed n (words ++ word ∷ [])
-taken n words word true end e is row held = listed_same n words (words ++ word ∷ []) (before_ended (is_end n) words (word ∷ []) e) held
+taken n words word true end e is row held = listed_same n words (words ++ word ∷ []) (before_kept (is_end n) words word e) held
 taken n words word false true e is row held =
-    let more : before (is_end n) (words ++ word ∷ []) ≡ words ++ [] = before_open (is_end n) words (word ∷ []) e ∙ ap (λ b. words ++ cond b [] (word ∷ [])) is in
-    listed_same n words (words ++ word ∷ []) (more ∙ append-nil words ∙ sym (before_all (is_end n) words e)) held
+    listed_same n words (words ++ word ∷ []) (before_end (is_end n) words word is e ∙ sym (before_none (is_end n) words e)) held
 taken n words word false false e is row held =
     let t = is_taken n (DepotAfter (length words)) word row in
     let found = read_listed n word t.is_read is in
-    let more : before (is_end n) (words ++ word ∷ []) ≡ words ++ word ∷ [] = before_open (is_end n) words (word ∷ []) e ∙ ap (λ b. words ++ cond b [] (word ∷ [])) is in
     let node : is_node n (nat_abs (number (node_or_end n word))) ≡ true = ap (λ r. is_node n (nat_abs (number r))) found.1 ∙ found.2 in
-    listed_more n words word (before_all (is_end n) words e) more (first_of_both (nat_le most_depots (length words)) (is_end n word) t.has_room is) node held
+    listed_more n words word (before_none (is_end n) words e) (before_push (is_end n) words word is e) (first_of_both (nat_le most_depots (length words)) (is_end n word) t.has_room is) node held
 
 all_taken : Grows DepotPart AreListed
 all_taken = record {

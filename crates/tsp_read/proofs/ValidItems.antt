@@ -2,7 +2,7 @@
 use Rattle.std.proofs.Common.{◌≡◌, ℕ, Bool, true, false, cond, List, [], ◌∷◌, refl, ap, ◌∙◌, Option, Some, None}
 use Rattle.std.specs.Prelude.{not, ◌&&◌, pos, neg_ℤ}
 use Rattle.tsp_value.specs.declared.field.Field.{Field}
-use Rattle.tsp_value.specs.declared.field.Field.TheVariants.{NameKey, TypeKey, CommentKey, OtherKey, DimensionKey, CapacityKey, ScaleKey, EdgeWeightTypeKey, EdgeWeightFormatKey, NodeCoordTypeKey, DisplayDataTypeKey, NodeCoordPart, DisplayDataPart, DemandPart, DepotPart, FixedEdgesPart, EdgeWeightPart, TourPart, NodePotentialPart, RowPotentialPart, ColumnPotentialPart}
+use Rattle.tsp_value.specs.declared.field.Field.TheVariants.{NameKey, TypeKey, CommentKey, OtherKey, DimensionKey, CapacityKey, ScaleKey, EdgeWeightTypeKey, EdgeWeightFormatKey, NodeCoordTypeKey, DisplayDataTypeKey, NodeCoordPart, DisplayDataPart, DemandPart, DepotPart, FixedEdgesPart, EdgeWeightPart, TourPart, NodePotentialPart, RowPotentialPart, ColumnPotentialPart, FixedPotentialPart}
 use Rattle.tsp_value.specs.Limits.{most_demand, most_potential}
 use Rattle.tsp_value.specs.Words.{fields_in_order}
 use Rattle.std.specs.Option.{option_or, option_map}
@@ -11,13 +11,13 @@ use Rattle.tsp_fields.specs.declared.fault.EndFault.TheVariants.{Missing, Incomp
 use Rattle.tsp_fields.specs.declared.fault.DraftFault.TheVariants.{BadField, Rule}
 use Rattle.tsp_fields.specs.Fields.{Fields}
 use Rattle.tsp_fields.specs.Rules.{standing_of, is_there, asked_in_order, format_or_count, end_fault, fault_of}
-use Rattle.tsp_fields.specs.Validity.{if_there, is_by_node, is_point, is_demand, is_within, are_depots, are_fixed, are_weights, are_tours, fits, first_failing, bad_field}
+use Rattle.tsp_fields.specs.Validity.{if_there, is_by_node, is_point, is_demand, is_within, are_depots, are_fixed, are_triples, are_weights, are_tours, fits, first_failing, bad_field}
 use Rattle.tsp_items.specs.Items.{Item, has_end_line}
 use Rattle.tsp_items.specs.Earlier.{has_line, words_of}
 use Rattle.tsp_read.specs.Cuts.{AreCut}
 use Rattle.tsp_items.specs.Sections.{nodes_of}
 use Rattle.tsp_items.specs.Groups.{points_by_node}
-use Rattle.tsp_items.specs.Lists.{depots_in, fixed_in}
+use Rattle.tsp_items.specs.Lists.{depots_in, fixed_in, fixed_triples_in}
 use Rattle.tsp_items.specs.Weights.{weights_in}
 use Rattle.tsp_items.specs.Tours.{tours_in}
 use Rattle.tsp_items.specs.FirstFault.{fault_in, IsClean}
@@ -33,6 +33,7 @@ use Rattle.tsp_read.proofs.ValidStanding.{section_fits}
 use Rattle.tsp_read.proofs.ValidWeights.{weights_fit}
 use Rattle.tsp_read.proofs.ValidDepots.{depots_fit}
 use Rattle.tsp_read.proofs.ValidFixed.{fixed_fit}
+use Rattle.tsp_read.proofs.ValidTriples.{triples_fit}
 use Rattle.tsp_read.proofs.ValidTours.{tours_fit}
 
 tours_there : (items : List Item) (b : Bool) → IsClean items → if_there are_tours (cond b (Some (tours_in (words_of TourPart items))) None) ≡ true
@@ -65,6 +66,7 @@ each_fits items cut clean TourPart = tours_there items (has_line TourPart items)
 each_fits items cut clean NodePotentialPart = section_fits (is_by_node (is_within most_potential)) (potentials_in (nodes_of items)) NodePotentialPart refl refl items clean (λ there. potentials_fit (nodes_of items) (words_of NodePotentialPart items))
 each_fits items cut clean RowPotentialPart = section_fits (is_by_node (is_within most_potential)) (potentials_in (nodes_of items)) RowPotentialPart refl refl items clean (λ there. potentials_fit (nodes_of items) (words_of RowPotentialPart items))
 each_fits items cut clean ColumnPotentialPart = section_fits (is_by_node (is_within most_potential)) (potentials_in (nodes_of items)) ColumnPotentialPart refl refl items clean (λ there. potentials_fit (nodes_of items) (words_of ColumnPotentialPart items))
+each_fits items cut clean FixedPotentialPart = section_fits are_triples (fixed_triples_in (nodes_of items)) FixedPotentialPart refl refl items clean (λ there. triples_fit items clean)
 
 none_fails : (test : Field → Bool) (fields : List Field) → ((field : Field) → test field ≡ true) → first_failing test fields ≡ None
 none_fails test [] each = refl

@@ -1,6 +1,6 @@
 -- What a word is read as is in its range, and a word that isn't read counts as 0, which is in each range by node. So a list by node is valid.
 use Rattle.std.proofs.Common.{◌≡◌, ℕ, suc, zero, ◌*◌, ◌≤◌, Bool, true, false, cond, List, [], ◌∷◌, length, map, refl, sym, ap, subst, ◌∙◌, arith, Option, Some, None, Result, Ok, Err}
-use Rattle.std.specs.Prelude.{◌==◌, ℤ, pos, negsuc, neg_ℤ, nat_le, unwrap_or, unsigned_abs, int_le, if◌then◌else◌}
+use Rattle.std.specs.Prelude.{◌==◌, ◌&&◌, ℤ, pos, negsuc, neg_ℤ, nat_le, unwrap_or, unsigned_abs, int_le, if◌then◌else◌}
 use Rattle.std.specs.List.{list_all}
 use Rattle.std.specs.Ordering.{int_eq}
 use Rattle.std.specs.Result.{result_err}
@@ -18,6 +18,7 @@ use Rattle.tsp_number.specs.Scan.{numeral_in}
 use Rattle.tsp_number.specs.Reading.{number_in, decimal_within, decimal_from, decimal_of, whole_within, whole_from, whole_of}
 use Rattle.tsp_value.specs.Cells.{nodes_to}
 use Rattle.tsp_value.specs.Limits.{most_coordinate}
+use Rattle.tsp_fields.specs.Coords.{origin}
 use Rattle.tsp_fields.specs.Validity.{is_from_to, is_within, is_node, is_by_node, is_point}
 use Rattle.tsp_items.specs.Numbers.{number, reads_as, node, not_zero, node_or_end, is_end}
 use Rattle.tsp_items.specs.Groups.{pairs_in, triples_in, number_groups, point_of, point_groups, entry_of, by_node, numbers_by_node, points_by_node}
@@ -115,10 +116,11 @@ numbers_fit low high n words zero_passes = by_node_fits (is_from_to low high) (p
     ∙ all_pass (λ (group : List ℕ × List ℕ). is_from_to low high (number (whole_of group.1 low high))) (pairs_in (take (2 * n) words)) (λ group. whole_passes low high group.1 zero_passes))
 
 point_fits : (x y : List ℕ) → is_point (point_of x y) ≡ true
-point_fits x y = and_from (is_within most_coordinate (number (decimal_of x))) (is_within most_coordinate (number (decimal_of y))) (decimal_passes x) (decimal_passes y)
+point_fits x y = and_from (is_within most_coordinate (number (decimal_of x)) && is_within most_coordinate (number (decimal_of y))) true
+    (and_from (is_within most_coordinate (number (decimal_of x))) (is_within most_coordinate (number (decimal_of y))) (decimal_passes x) (decimal_passes y)) refl
 
 pub points_fit : (n : ℕ) (words : List (List ℕ)) → is_by_node is_point n (points_by_node n words) ≡ true
-points_fit n words = by_node_fits is_point (record { x = pos 0; y = pos 0 }) n (point_groups n words) refl
+points_fit n words = by_node_fits is_point origin n (point_groups n words) refl
     (list_all-map (λ (group : ℤ × Point). is_point group.1) (λ (group : List ℕ × List ℕ × List ℕ). (number (node n group.0), point_of group.1 group.2)) (triples_in (take (3 * n) words))
     ∙ all_pass (λ (group : List ℕ × List ℕ × List ℕ). is_point (point_of group.1 group.2)) (triples_in (take (3 * n) words)) (λ group. point_fits group.1 group.2))
 

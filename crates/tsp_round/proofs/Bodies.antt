@@ -1,19 +1,21 @@
 -- The number lines of sections as they are written, and their words.
-use Rattle.std.proofs.Common.{◌≡◌, ℕ, ◌+◌, ◌^◌, ◌<◌, ◌≤◌, true, List, [], ◌∷◌, ◌++◌, length, map, refl, arith}
-use Rattle.std.specs.Prelude.{ℤ, not, ◌&&◌, ◌==◌, nat_le, codes}
+use Rattle.std.proofs.Common.{◌≡◌, ℕ, ◌+◌, ◌^◌, ◌<◌, ◌≤◌, true, List, [], ◌∷◌, ◌++◌, length, map, refl, arith, Bool}
+use Rattle.std.specs.Prelude.{ℤ, pos, nat_le, codes, ◌&&◌}
 use Rattle.std.specs.List.{list_all, flat_map, enumerate_from}
+use Rattle.std.specs.Ordering.{int_eq}
 use Rattle.std.specs.Fmt.{decimal, signed_decimal}
 use Rattle.std.proofs.lemmas.Bool.{and_from, and_parts, leb-true}
 use Rattle.tsp_number.specs.declared.decimal.Point.{Point}
 use Rattle.tsp_number.specs.Spelling.{spelling}
-use Rattle.tsp_value.specs.Limits.{most_nodes, most_weight, most_coordinate}
-use Rattle.tsp_fields.specs.Validity.{is_from_to, is_within, is_node, is_pair, is_point, is_tour}
-use Rattle.tsp_file.specs.Text.{number_line, node_list}
+use Rattle.tsp_value.specs.Limits.{most_nodes, most_weight, most_multiplier, most_coordinate}
+use Rattle.tsp_fields.specs.Validity.{is_from_to, is_within, is_node, is_pair, is_triple, is_point, is_tour}
+use Rattle.tsp_write.specs.Text.{number_line, ended, node_list, pair_list, triple_list}
 use Rattle.tsp_round.proofs.Text.{is_plain_word, WritesWords, no_words_written, both_words, number_line_written}
-use Rattle.tsp_round.proofs.Numbers.{decimal_plain, signed_plain, spelling_plain, size_in}
+use Rattle.tsp_round.proofs.Numbers.{decimal_plain, signed_plain, spelling_plain, size_in, size_from}
 use Rattle.tsp_round.proofs.Groups.{AreSmall, number_entry}
 use Rattle.tsp_round.proofs.Points.{point_entry}
-use Rattle.tsp_round.proofs.Lists.{pair_words}
+use Rattle.tsp_round.proofs.Lists.{pair_words, are_pair}
+use Rattle.tsp_round.proofs.Triples.{triple_words, are_triple}
 use Rattle.tsp_round.proofs.Tours.{tour_words}
 
 one_plain : (word : List ℕ) → is_plain_word word ≡ true → list_all is_plain_word (word ∷ []) ≡ true
@@ -42,7 +44,8 @@ pub points_written : (n : ℕ) → n < 2 ^ 32 → (i : ℕ) (xs : List Point) �
 points_written n few i [] room all = no_words_written
 points_written n few i (p ∷ xs) room all =
     let both = and_parts (is_point p) (list_all is_point xs) all in
-    let inside = and_parts (is_within most_coordinate p.x) (is_within most_coordinate p.y) both.0 in
+    let flat = and_parts (is_within most_coordinate p.x && is_within most_coordinate p.y) (int_eq p.z (pos 0)) both.0 in
+    let inside = and_parts (is_within most_coordinate p.x) (is_within most_coordinate p.y) flat.0 in
     both_words (number_line (decimal (i + 1)) (spelling p.x ∷ spelling p.y ∷ [])) (flat_map (λ (entry : ℕ × Point). number_line (decimal entry.0) (spelling entry.1.x ∷ spelling entry.1.y ∷ [])) (enumerate_from (i + 1 + 1) xs))
     (point_entry (i + 1, p)) (flat_map point_entry (enumerate_from (i + 1 + 1) xs))
     (number_line_written (decimal (i + 1)) (spelling p.x ∷ spelling p.y ∷ []) (decimal_plain (i + 1) (omega arith))
@@ -70,28 +73,50 @@ pub node_lines_written : (n : ℕ) → n < 2 ^ 32 → (nodes : List ℕ) → lis
 node_lines_written n few nodes all =
     both_words (flat_map (λ node. number_line (decimal node) []) nodes) (codes "-1" ++ 10 ∷ []) (map decimal nodes) (codes "-1" ∷ []) (nodes_written n few nodes all) end_written
 
+-- one line for each pair, or triple
+lines_written : {A : Type 0} (fits : A → Bool) (line : A → List ℕ) (words : A → List (List ℕ)) → ((x : A) → fits x ≡ true → WritesWords (line x) (words x))
+    → (xs : List A) → list_all fits xs ≡ true → WritesWords (flat_map line xs) (flat_map words xs)
+lines_written fits line words each [] all = no_words_written
+lines_written fits line words each (x ∷ xs) all =
+    let both = and_parts (fits x) (list_all fits xs) all in
+    both_words (line x) (flat_map line xs) (words x) (flat_map words xs) (each x both.0) (lines_written fits line words each xs both.1)
+
+-- and the line of the -1
+list_written : {A : Type 0} (fits : A → Bool) (line : A → List ℕ) (words : A → List (List ℕ)) → ((x : A) → fits x ≡ true → WritesWords (line x) (words x))
+    → (xs : List A) → list_all fits xs ≡ true → WritesWords (ended (flat_map line xs)) (flat_map words xs ++ codes "-1" ∷ [])
+list_written fits line words each xs all =
+    both_words (flat_map line xs) (codes "-1" ++ 10 ∷ []) (flat_map words xs) (codes "-1" ∷ []) (lines_written fits line words each xs all) end_written
+
+tour_written : (tour : List ℕ) → is_tour tour ≡ true → WritesWords (node_list tour) (tour_words tour)
+tour_written tour fits = node_lines_written most_nodes (omega arith) tour (and_parts (nat_le 1 (length tour)) (list_all (is_node most_nodes) tour) fits).1
+
 pub tour_lines_written : (tours : List (List ℕ)) → list_all is_tour tours ≡ true → WritesWords (flat_map node_list tours) (flat_map tour_words tours)
-tour_lines_written [] all = no_words_written
-tour_lines_written (tour ∷ tours) all =
-    let both = and_parts (is_tour tour) (list_all is_tour tours) all in
-    let nodes = (and_parts (nat_le 1 (length tour)) (list_all (is_node most_nodes) tour) both.0).1 in
-    both_words (node_list tour) (flat_map node_list tours) (tour_words tour) (flat_map tour_words tours) (node_lines_written most_nodes (omega arith) tour nodes) (tour_lines_written tours both.1)
+tour_lines_written tours all = lines_written is_tour node_list tour_words tour_written tours all
 
-pairs_written : (n : ℕ) → n < 2 ^ 32 → (pairs : List (ℕ × ℕ)) → list_all (is_pair n) pairs ≡ true
-    → WritesWords (flat_map (λ (pair : ℕ × ℕ). number_line (decimal pair.0) (decimal pair.1 ∷ [])) pairs) (flat_map pair_words pairs)
-pairs_written n few [] all = no_words_written
-pairs_written n few (pair ∷ pairs) all =
-    let both = and_parts (is_pair n pair) (list_all (is_pair n) pairs) all in
-    let nodes = and_parts (is_node n pair.0 && is_node n pair.1) (not (pair.0 == pair.1)) both.0 in
-    let each = and_parts (is_node n pair.0) (is_node n pair.1) nodes.0 in
-    both_words (number_line (decimal pair.0) (decimal pair.1 ∷ [])) (flat_map (λ (p : ℕ × ℕ). number_line (decimal p.0) (decimal p.1 ∷ [])) pairs) (pair_words pair) (flat_map pair_words pairs)
-    (number_line_written (decimal pair.0) (decimal pair.1 ∷ []) (node_plain n pair.0 few each.0) (one_plain (decimal pair.1) (node_plain n pair.1 few each.1)))
-    (pairs_written n few pairs both.1)
+pair_written : (n : ℕ) → n < 2 ^ 32 → (pair : ℕ × ℕ) → is_pair n pair ≡ true → WritesWords (number_line (decimal pair.0) (decimal pair.1 ∷ [])) (pair_words pair)
+pair_written n few pair fits =
+    let are = are_pair n pair fits in
+    number_line_written (decimal pair.0) (decimal pair.1 ∷ []) (node_plain n pair.0 few are.first) (one_plain (decimal pair.1) (node_plain n pair.1 few are.second))
 
-pub pair_lines_written : (n : ℕ) → n < 2 ^ 32 → (pairs : List (ℕ × ℕ)) → list_all (is_pair n) pairs ≡ true
-    → WritesWords (flat_map (λ (pair : ℕ × ℕ). number_line (decimal pair.0) (decimal pair.1 ∷ [])) pairs ++ (codes "-1" ++ 10 ∷ [])) (flat_map pair_words pairs ++ codes "-1" ∷ [])
+pub pair_lines_written : (n : ℕ) → n < 2 ^ 32 → (pairs : List (ℕ × ℕ)) → list_all (is_pair n) pairs ≡ true → WritesWords (pair_list pairs) (flat_map pair_words pairs ++ codes "-1" ∷ [])
 pair_lines_written n few pairs all =
-    both_words (flat_map (λ (pair : ℕ × ℕ). number_line (decimal pair.0) (decimal pair.1 ∷ [])) pairs) (codes "-1" ++ 10 ∷ []) (flat_map pair_words pairs) (codes "-1" ∷ []) (pairs_written n few pairs all) end_written
+    list_written (is_pair n) (λ (pair : ℕ × ℕ). number_line (decimal pair.0) (decimal pair.1 ∷ [])) pair_words (pair_written n few) pairs all
+
+triple_written : (n : ℕ) → n < 2 ^ 32 → (triple : ℕ × ℕ × ℤ) → is_triple n triple ≡ true
+    → WritesWords (number_line (decimal triple.0) (decimal triple.1 ∷ signed_decimal triple.2 ∷ [])) (triple_words triple)
+triple_written n few triple fits =
+    let are = are_triple n triple fits in
+    let b = decimal triple.1 in
+    let c = signed_decimal triple.2 in
+    let small = size_from 0 most_multiplier triple.2 are.1 in
+    let second = node_plain n triple.1 few are.0.second in
+    number_line_written (decimal triple.0) (b ∷ c ∷ []) (node_plain n triple.0 few are.0.first)
+    (and_from (is_plain_word b) (list_all is_plain_word (c ∷ [])) second (one_plain c (signed_plain triple.2 (omega (arith, small)))))
+
+pub triple_lines_written : (n : ℕ) → n < 2 ^ 32 → (triples : List (ℕ × ℕ × ℤ)) → list_all (is_triple n) triples ≡ true
+    → WritesWords (triple_list triples) (flat_map triple_words triples ++ codes "-1" ∷ [])
+triple_lines_written n few triples all =
+    list_written (is_triple n) (λ (triple : ℕ × ℕ × ℤ). number_line (decimal triple.0) (decimal triple.1 ∷ signed_decimal triple.2 ∷ [])) triple_words (triple_written n few) triples all
 
 -- ---- weights
 

@@ -1,14 +1,15 @@
 -- The text of each field of a valid file, read after the texts of the fields before it.
-use Rattle.std.proofs.Common.{◌≡◌, true, List}
+use Rattle.std.proofs.Common.{◌≡◌, true, List, refl}
 use Rattle.tsp_value.specs.declared.field.Field.{Field}
-use Rattle.tsp_value.specs.declared.field.Field.TheVariants.{NameKey, TypeKey, CommentKey, OtherKey, DimensionKey, CapacityKey, ScaleKey, EdgeWeightTypeKey, EdgeWeightFormatKey, NodeCoordTypeKey, DisplayDataTypeKey, NodeCoordPart, DisplayDataPart, DemandPart, DepotPart, FixedEdgesPart, EdgeWeightPart, TourPart, NodePotentialPart, RowPotentialPart, ColumnPotentialPart}
+use Rattle.tsp_value.specs.declared.field.Field.TheVariants.{NameKey, TypeKey, CommentKey, OtherKey, DimensionKey, CapacityKey, ScaleKey, EdgeWeightTypeKey, EdgeWeightFormatKey, NodeCoordTypeKey, DisplayDataTypeKey, NodeCoordPart, DisplayDataPart, DemandPart, DepotPart, FixedEdgesPart, EdgeWeightPart, TourPart, NodePotentialPart, RowPotentialPart, ColumnPotentialPart, FixedPotentialPart}
+use Rattle.tsp_value.specs.declared.field.Shape.TheVariants.{Points, Depots, Pairs, Weights, Tours, Triples}
 use Rattle.tsp_fields.specs.Fields.{Fields}
 use Rattle.tsp_fields.specs.Validity.{fits}
-use Rattle.tsp_file.specs.Text.{text_of_field}
+use Rattle.tsp_write.specs.Text.{text_of_field}
 use Rattle.tsp_items.specs.Items.{Item}
 use Rattle.tsp_round.proofs.Numbers.{NumberLaws}
 use Rattle.tsp_round.proofs.KeyFields.{name_step, kind_step, comment_step, other_step, dimension_step, capacity_step, scale_step, weight_kind_step, weight_format_step, coord_kind_step, display_kind_step}
-use Rattle.tsp_round.proofs.SectionFields.{coords_step, display_step, demand_step, depot_step, fixed_step, weight_step, tour_step, node_potential_step, row_potential_step, column_potential_step}
+use Rattle.tsp_round.proofs.SectionFields.{section_step}
 use Rattle.tsp_round.proofs.Stages.{Ready, Step}
 
 pub field_step : NumberLaws → (f : Fields) → ((g : Field) → fits f g ≡ true) → (field : Field) (earlier : List Item) → Ready f field earlier → Step f (text_of_field f) field earlier
@@ -23,13 +24,14 @@ field_step laws f valid EdgeWeightTypeKey earlier ready = weight_kind_step f ear
 field_step laws f valid EdgeWeightFormatKey earlier ready = weight_format_step f earlier ready
 field_step laws f valid NodeCoordTypeKey earlier ready = coord_kind_step f earlier ready
 field_step laws f valid DisplayDataTypeKey earlier ready = display_kind_step f earlier ready
-field_step laws f valid NodeCoordPart earlier ready = coords_step laws f earlier (valid DimensionKey) (valid NodeCoordPart) ready
-field_step laws f valid DisplayDataPart earlier ready = display_step laws f earlier (valid DimensionKey) (valid DisplayDataPart) ready
-field_step laws f valid DemandPart earlier ready = demand_step laws f earlier (valid DimensionKey) (valid DemandPart) ready
-field_step laws f valid DepotPart earlier ready = depot_step laws f earlier (valid DimensionKey) (valid DepotPart) ready
-field_step laws f valid FixedEdgesPart earlier ready = fixed_step laws f earlier (valid DimensionKey) (valid FixedEdgesPart) ready
-field_step laws f valid EdgeWeightPart earlier ready = weight_step laws f earlier (valid DimensionKey) (valid EdgeWeightPart) ready
-field_step laws f valid TourPart earlier ready = tour_step laws f earlier (valid TourPart) ready
-field_step laws f valid NodePotentialPart earlier ready = node_potential_step laws f earlier (valid DimensionKey) (valid NodePotentialPart) ready
-field_step laws f valid RowPotentialPart earlier ready = row_potential_step laws f earlier (valid DimensionKey) (valid RowPotentialPart) ready
-field_step laws f valid ColumnPotentialPart earlier ready = column_potential_step laws f earlier (valid DimensionKey) (valid ColumnPotentialPart) ready
+field_step laws f valid NodeCoordPart earlier ready = section_step laws f valid NodeCoordPart Points refl earlier ready
+field_step laws f valid DisplayDataPart earlier ready = section_step laws f valid DisplayDataPart Points refl earlier ready
+field_step laws f valid DemandPart earlier ready = section_step laws f valid DemandPart _ refl earlier ready
+field_step laws f valid DepotPart earlier ready = section_step laws f valid DepotPart Depots refl earlier ready
+field_step laws f valid FixedEdgesPart earlier ready = section_step laws f valid FixedEdgesPart Pairs refl earlier ready
+field_step laws f valid EdgeWeightPart earlier ready = section_step laws f valid EdgeWeightPart Weights refl earlier ready
+field_step laws f valid TourPart earlier ready = section_step laws f valid TourPart Tours refl earlier ready
+field_step laws f valid NodePotentialPart earlier ready = section_step laws f valid NodePotentialPart _ refl earlier ready
+field_step laws f valid RowPotentialPart earlier ready = section_step laws f valid RowPotentialPart _ refl earlier ready
+field_step laws f valid ColumnPotentialPart earlier ready = section_step laws f valid ColumnPotentialPart _ refl earlier ready
+field_step laws f valid FixedPotentialPart earlier ready = section_step laws f valid FixedPotentialPart Triples refl earlier ready

@@ -18,7 +18,7 @@ use Rattle.tsp_items.specs.Numbers.{number, node, reads_as}
 use Rattle.tsp_items.specs.Places.{NodeAfter, Amount, PastGroups}
 use Rattle.tsp_items.specs.Groups.{pairs_in, begun_pair, number_groups, entry_of, by_node, numbers_by_node, place_in_group, nodes_in, place_of_number}
 use Rattle.tsp_items.specs.Rows.{word_fault}
-use Rattle.tsp_read.proofs.ValidLists.{pair_begins, pair_ends}
+use Rattle.tsp_items.proofs.PairWords.{pairs_begin, begun_begin, pairs_end, begun_end}
 use Rattle.tsp_round.proofs.Numbers.{NumberLaws, node_back}
 use Rattle.tsp_round.proofs.Onto.{AllTaken}
 use Rattle.tsp_round.proofs.Lists.{no_rows}
@@ -103,16 +103,15 @@ numbers_taken laws low high small n few earlier i (z ∷ xs) whole nodes count r
     let here : place_of_number low high n earlier ≡ NodeAfter (map pos (range_with_len 1 i)) =
     ap (λ t. cond t PastGroups (place_in_group (Amount low high) (nodes_in (number_groups low high n earlier)) (begun_pair earlier))) (lt-leb (2 * n) (length earlier) (omega arith))
     ∙ ap (place_in_group (Amount low high) (nodes_in (number_groups low high n earlier))) whole ∙ ap NodeAfter (nodes_are low high n earlier (omega arith) ∙ nodes) in
-    let first = pair_begins earlier a whole in
-    let second = pair_ends (earlier ++ a ∷ []) a b first.1 in
+    let first = begun_begin earlier a whole in
     let one = length_push earlier a in
     let two = length_push (earlier ++ a ∷ []) b in
     let next : place_of_number low high n (earlier ++ a ∷ []) ≡ Amount low high =
     ap (λ t. cond t PastGroups (place_in_group (Amount low high) (nodes_in (number_groups low high n (earlier ++ a ∷ []))) (begun_pair (earlier ++ a ∷ [])))) (lt-leb (2 * n) (length (earlier ++ a ∷ [])) (omega arith))
-    ∙ ap (place_in_group (Amount low high) (nodes_in (number_groups low high n (earlier ++ a ∷ [])))) first.1 in
+    ∙ ap (place_in_group (Amount low high) (nodes_in (number_groups low high n (earlier ++ a ∷ [])))) first in
     let f : List ℕ × List ℕ → ℤ = λ pair. number (node n pair.0) in
     let nodes_more : map f (pairs_in ((earlier ++ a ∷ []) ++ b ∷ [])) ≡ map pos (range_with_len 1 (i + 1)) =
-    ap (map f) (second.0 ∙ ap (λ (ps : List (List ℕ × List ℕ)). ps ++ (a, b) ∷ []) first.0) ∙ map-append f (pairs_in earlier) ((a, b) ∷ [])
+    ap (map f) (pairs_end (earlier ++ a ∷ []) a b first ∙ ap (λ (ps : List (List ℕ × List ℕ)). ps ++ (a, b) ∷ []) (pairs_begin earlier a whole)) ∙ map-append f (pairs_in earlier) ((a, b) ∷ [])
     ∙ ap (λ (zs : List ℤ). zs ++ number (node n a) ∷ []) nodes ∙ ap (λ r. map pos (range_with_len 1 i) ++ number r ∷ []) (node_back laws n (i + 1) few is)
     ∙ sym (map-range_with_len_more pos 1 i (i + 1) (omega arith)) in (
       ap (λ p. word_fault n p a) here
@@ -122,7 +121,7 @@ numbers_taken laws low high small n few earlier i (z ∷ xs) whole nodes count r
       (
         ap (λ p. word_fault n p b) next
             ∙ no_rows (result_err (whole_of b low high)) false false false false (ap (λ (r : Result ℤ NumberFault). result_err r) (laws.whole_back z low high (small z both.0) both.0)) refl refl refl refl,
-        numbers_taken laws low high small n few ((earlier ++ a ∷ []) ++ b ∷ []) (i + 1) xs second.1 nodes_more (omega arith) (omega arith) both.1,
+        numbers_taken laws low high small n few ((earlier ++ a ∷ []) ++ b ∷ []) (i + 1) xs (begun_end (earlier ++ a ∷ []) a b first) nodes_more (omega arith) (omega arith) both.1,
       ),
     )
 

@@ -17,7 +17,7 @@ use Rattle.tsp_value.specs.Keywords.{keyword_of}
 use Rattle.tsp_value.specs.Limits.{most_nodes, most_capacity, most_scale, most_line_bytes, most_kept_bytes, most_comments, most_others}
 use Rattle.tsp_fields.specs.Fields.{Fields}
 use Rattle.tsp_fields.specs.Validity.{if_there, is_kept, is_from_to, is_node, is_other, fits}
-use Rattle.tsp_file.specs.Text.{keyword_line, optional, text_of_field}
+use Rattle.tsp_write.specs.Text.{keyword_line, optional, text_of_field}
 use Rattle.tsp_items.specs.Lines.{is_filled, first_word}
 use Rattle.tsp_items.specs.Items.{Item, Line}
 use Rattle.tsp_items.specs.Earlier.{same_field, value_at, values_at, others_in, words_of}
@@ -25,12 +25,11 @@ use Rattle.tsp_items.specs.Rows.{may_repeat, row_of}
 use Rattle.tsp_read.proofs.ValidSections.{same_field_is}
 use Rattle.tsp_round.proofs.Text.{is_plain, is_plain_word, no_blank, one_line_word}
 use Rattle.tsp_round.proofs.Lines.{IsWhole, IsKeyword, written_line, value_text}
-use Rattle.tsp_round.proofs.Numbers.{NumberLaws, signed_plain, short_signed}
+use Rattle.tsp_round.proofs.Numbers.{NumberLaws, signed_plain, short_signed, size_from}
 use Rattle.tsp_round.proofs.Words.{kind_row, kind_whole, weight_kind_row, weight_kind_whole, weight_format_row, weight_format_whole, coord_kind_row, coord_kind_whole, display_kind_row, display_kind_whole}
 use Rattle.tsp_round.proofs.Keys.{text_length, kept, name_row, dimension_row, capacity_row, scale_row, no_comment, comments_run}
 use Rattle.tsp_round.proofs.Others.{others_run}
 use Rattle.tsp_round.proofs.Sections.{only_word, no_line_yet}
-use Rattle.tsp_round.proofs.Spelled.{above_one}
 use Rattle.tsp_round.proofs.Stages.{value_of, words_written, Ready, Step}
 use Rattle.tsp_round.proofs.Steps.{kept_blank, missing, key_line}
 
@@ -152,7 +151,7 @@ capacity_step laws f earlier fit ready =
     line_step f CapacityKey signed_decimal f.capacity earlier refl refl
     (record { known = refl; keyword = record { letter_first = refl; bytes = refl }; once = refl; no_words = refl; no_comment = refl; no_other = refl })
     (is_from_to (pos 1) (pos most_capacity)) fit
-    (λ z is. let few = above_one most_capacity z is in
+    (λ z is. let few = size_from 1 most_capacity z is in
     let line = line_of_number laws (field_word CapacityKey) (omega arith) (pos 1) (pos most_capacity) z (omega arith) is in
     (line.whole, capacity_row earlier (written_line (field_word CapacityKey) (signed_decimal z)) (no_line_yet f CapacityKey earlier ready refl) line.short line.filled line.read)) ready
 
@@ -161,7 +160,7 @@ scale_step laws f earlier fit ready =
     line_step f ScaleKey signed_decimal f.scale earlier refl refl
     (record { known = refl; keyword = record { letter_first = refl; bytes = refl }; once = refl; no_words = refl; no_comment = refl; no_other = refl })
     (is_from_to (pos 1) (pos most_scale)) fit
-    (λ z is. let few = above_one most_scale z is in
+    (λ z is. let few = size_from 1 most_scale z is in
     let line = line_of_number laws (field_word ScaleKey) (omega arith) (pos 1) (pos most_scale) z (omega arith) is in
     (line.whole, scale_row earlier (written_line (field_word ScaleKey) (signed_decimal z)) (no_line_yet f ScaleKey earlier ready refl) line.short line.filled line.read)) ready
 

@@ -6,10 +6,9 @@ use Rattle.std.specs.Result.{result_err}
 use Rattle.std.specs.List.{list_all, list_any, flat_map}
 use Rattle.std.specs.Fmt.{decimal, signed_decimal}
 use Rattle.std.specs.Ordering.{int_eq}
-use Rattle.std.proofs.lemmas.Bool.{true≢false, and_parts, lt-leb, eq-eqb, or_from, or_right, and_right, and_left, not_from_true, not-true, false_from_ne_true}
+use Rattle.std.proofs.lemmas.Bool.{true≢false, and_parts, lt-leb, eq-eqb, or_right, and_right, and_left, not_from_true, not-true, false_from_ne_true}
 use Rattle.std.proofs.lemmas.Bool.Decides.{Decides-int_eq}
 use Rattle.std.proofs.lemmas.List.{length_push}
-use Rattle.std.proofs.lemmas.List.Folds.{list_any-append}
 use Rattle.tsp_number.specs.declared.fault.NumberFault.{NumberFault}
 use Rattle.tsp_value.specs.Limits.{most_weight, most_depots, most_fixed}
 use Rattle.tsp_fields.specs.Validity.{is_within, is_node, is_pair}
@@ -20,7 +19,8 @@ use Rattle.tsp_items.specs.Groups.{pairs_in, begun_pair}
 use Rattle.tsp_items.specs.Lists.{before, firsts_in, depots_in, place_of_depot, fixed_in, place_in_pair, place_of_fixed}
 use Rattle.tsp_items.specs.Weights.{weights_in, place_of_weight}
 use Rattle.tsp_items.specs.Rows.{when, first_row, word_fault}
-use Rattle.tsp_read.proofs.ValidLists.{pair_begins, pair_ends}
+use Rattle.tsp_items.proofs.Ended.{any_push}
+use Rattle.tsp_items.proofs.PairWords.{pairs_begin, begun_begin, firsts_begin, pairs_end, begun_end, firsts_end}
 use Rattle.tsp_round.proofs.Numbers.{NumberLaws, node_back, listed_back, node_goes_on, end_read, end_ends, size_in}
 use Rattle.tsp_round.proofs.Onto.{AllTaken}
 
@@ -50,8 +50,7 @@ depots_taken laws n few earlier (k ∷ nodes) unended room all =
     let both = and_parts (is_node n k) (list_all (is_node n) nodes) all in
     let place : place_of_depot n earlier ≡ DepotAfter (length earlier) = ap (λ b. cond b PastEnd (DepotAfter (length earlier))) unended in
     let goes_on = node_goes_on laws n k few both.0 in
-    let unended_more : list_any (is_end n) (earlier ++ decimal k ∷ []) ≡ false =
-    list_any-append (is_end n) earlier (decimal k ∷ []) ∙ or_from (list_any (is_end n) earlier) (is_end n (decimal k) || false) unended (or_from (is_end n (decimal k)) false goes_on refl) in
+    let unended_more : list_any (is_end n) (earlier ++ decimal k ∷ []) ≡ false = any_push (is_end n) earlier (decimal k) unended ∙ goes_on in
     let count = length_push earlier (decimal k) in (
       ap (λ p. word_fault n p (decimal k)) place
           ∙ no_rows (result_err (node_or_end n (decimal k))) false false (nat_le most_depots (length earlier) && not (is_end n (decimal k))) false
@@ -79,46 +78,65 @@ no_self a b differ = false_from_ne_true (int_eq (pos b) (pos a)) (λ e.
     let same : b ≡ a = cc in
     absurd (true≢false (sym (eq-eqb a b (sym same)) ∙ differ)))
 
+-- the -1 that ends a list of pairs or of triples
+pub end_taken : NumberLaws → (n count : ℕ) → word_fault n (FirstAfter count) (codes "-1") ≡ None
+end_taken laws n count =
+    no_rows (result_err (node_or_end n (codes "-1"))) false false (nat_le most_fixed count && not (is_end n (codes "-1"))) false
+    (ap (λ (r : Result ℤ NumberFault). result_err r) (end_read laws n)) refl refl
+    (and_right (nat_le most_fixed count) (not (is_end n (codes "-1"))) (not_from_true (is_end n (codes "-1")) (end_ends laws n))) refl
+
+-- the first node of one
+pub first_taken : NumberLaws → (n count more k : ℕ) → n < 2 ^ 32 → count + suc more ≤ most_fixed → is_node n k ≡ true → word_fault n (FirstAfter count) (decimal k) ≡ None
+first_taken laws n count more k few room is =
+    no_rows (result_err (node_or_end n (decimal k))) false false (nat_le most_fixed count && not (is_end n (decimal k))) false
+    (ap (λ (r : Result ℤ NumberFault). result_err r) (listed_back laws n k few is)) refl refl
+    (and_left (nat_le most_fixed count) (not (is_end n (decimal k))) (has_room most_fixed count more room)) refl
+
+-- its second node
+pub second_taken : NumberLaws → (n a b : ℕ) → n < 2 ^ 32 → is_node n b ≡ true → (a == b) ≡ false → word_fault n (SecondOf (pos a)) (decimal b) ≡ None
+second_taken laws n a b few is differ =
+    no_rows (result_err (node n (decimal b))) false (reads_as (pos a) (node n (decimal b))) false false
+    (ap (λ (r : Result ℤ NumberFault). result_err r) (node_back laws n b few is)) refl (ap (reads_as (pos a)) (node_back laws n b few is) ∙ no_self a b differ) refl refl
+
+-- two different nodes of 1..n
+pub record ArePair (n a b : ℕ) : Type 0 where
+  pub first : is_node n a ≡ true
+  pub second : is_node n b ≡ true
+  pub differ : (a == b) ≡ false
+
+pub are_pair : (n : ℕ) (pair : ℕ × ℕ) → is_pair n pair ≡ true → ArePair n pair.0 pair.1
+are_pair n pair fits =
+    let parts = and_parts (is_node n pair.0 && is_node n pair.1) (not (pair.0 == pair.1)) fits in
+    let each = and_parts (is_node n pair.0) (is_node n pair.1) parts.0 in
+    record { first = each.0; second = each.1; differ = not-true (pair.0 == pair.1) parts.1 }
+
+-- the first node of a list doesn't end it
+pub still_open : NumberLaws → (n k : ℕ) (firsts : List (List ℕ)) → n < 2 ^ 32 → is_node n k ≡ true → list_any (is_end n) firsts ≡ false → list_any (is_end n) (firsts ++ decimal k ∷ []) ≡ false
+still_open laws n k firsts few is unended = any_push (is_end n) firsts (decimal k) unended ∙ node_goes_on laws n k few is
+
+-- where the next word of pairs stands, before the -1
+pair_place : (n : ℕ) (words begun : List (List ℕ)) → list_any (is_end n) (firsts_in words) ≡ false → begun_pair words ≡ begun → place_of_fixed n words ≡ place_in_pair n (length (pairs_in words)) begun
+pair_place n words begun unended whole = rw (unended, whole) refl
+
 pub fixed_taken : NumberLaws → (n : ℕ) → n < 2 ^ 32 → (earlier : List (List ℕ)) (pairs : List (ℕ × ℕ)) → list_any (is_end n) (firsts_in earlier) ≡ false → begun_pair earlier ≡ []
     → length (pairs_in earlier) + length pairs ≤ most_fixed → list_all (is_pair n) pairs ≡ true → AllTaken n (place_of_fixed n) earlier (flat_map pair_words pairs ++ codes "-1" ∷ [])
-fixed_taken laws n few earlier [] unended whole room all =
-    let place : place_of_fixed n earlier ≡ FirstAfter (length (pairs_in earlier)) =
-    ap (λ b. cond b PastEnd (place_in_pair n (length (pairs_in earlier)) (begun_pair earlier))) unended ∙ ap (λ (begun : List (List ℕ)). place_in_pair n (length (pairs_in earlier)) begun) whole in (
-      ap (λ p. word_fault n p (codes "-1")) place
-          ∙ no_rows (result_err (node_or_end n (codes "-1"))) false false (nat_le most_fixed (length (pairs_in earlier)) && not (is_end n (codes "-1"))) false
-          (ap (λ (r : Result ℤ NumberFault). result_err r) (end_read laws n)) refl refl
-          (and_right (nat_le most_fixed (length (pairs_in earlier))) (not (is_end n (codes "-1"))) (not_from_true (is_end n (codes "-1")) (end_ends laws n))) refl,
-      tt,
-    )
+fixed_taken laws n few earlier [] unended whole room all = (ap (λ p. word_fault n p (codes "-1")) (pair_place n earlier [] unended whole) ∙ end_taken laws n (length (pairs_in earlier)), tt)
 fixed_taken laws n few earlier (pair ∷ pairs) unended whole room all =
     let both = and_parts (is_pair n pair) (list_all (is_pair n) pairs) all in
-    let nodes = and_parts (is_node n pair.0 && is_node n pair.1) (not (pair.0 == pair.1)) both.0 in
-    let each = and_parts (is_node n pair.0) (is_node n pair.1) nodes.0 in
+    let are = are_pair n pair both.0 in
     let a = decimal pair.0 in
     let b = decimal pair.1 in
-    let place : place_of_fixed n earlier ≡ FirstAfter (length (pairs_in earlier)) =
-    ap (λ t. cond t PastEnd (place_in_pair n (length (pairs_in earlier)) (begun_pair earlier))) unended ∙ ap (λ (begun : List (List ℕ)). place_in_pair n (length (pairs_in earlier)) begun) whole in
-    let first = pair_begins earlier a whole in
-    let second = pair_ends (earlier ++ a ∷ []) a b first.1 in
-    let unended_first : list_any (is_end n) (firsts_in (earlier ++ a ∷ [])) ≡ false =
-    ap (list_any (is_end n)) first.2 ∙ list_any-append (is_end n) (firsts_in earlier) (a ∷ [])
-    ∙ or_from (list_any (is_end n) (firsts_in earlier)) (is_end n a || false) unended (or_from (is_end n a) false (node_goes_on laws n pair.0 few each.0) refl) in
-    let second_place : place_of_fixed n (earlier ++ a ∷ []) ≡ SecondOf (pos pair.0) =
-    ap (λ t. cond t PastEnd (place_in_pair n (length (pairs_in (earlier ++ a ∷ []))) (begun_pair (earlier ++ a ∷ [])))) unended_first
-    ∙ ap (λ (begun : List (List ℕ)). place_in_pair n (length (pairs_in (earlier ++ a ∷ []))) begun) first.1
-    ∙ ap (λ r. SecondOf (number r)) (listed_back laws n pair.0 few each.0) in
-    let count : length (pairs_in ((earlier ++ a ∷ []) ++ b ∷ [])) ≡ length (pairs_in earlier) + 1 =
-    ap length second.0 ∙ length_push (pairs_in (earlier ++ a ∷ [])) (a, b) ∙ ap (λ (ps : List (List ℕ × List ℕ)). length ps + 1) first.0 in (
-      ap (λ p. word_fault n p a) place
-          ∙ no_rows (result_err (node_or_end n a)) false false (nat_le most_fixed (length (pairs_in earlier)) && not (is_end n a)) false
-          (ap (λ (r : Result ℤ NumberFault). result_err r) (listed_back laws n pair.0 few each.0)) refl refl
-          (and_left (nat_le most_fixed (length (pairs_in earlier))) (not (is_end n a)) (has_room most_fixed (length (pairs_in earlier)) (length pairs) room)) refl,
+    let w1 = earlier ++ a ∷ [] in
+    let w2 = w1 ++ b ∷ [] in
+    let begun = begun_begin earlier a whole in
+    let unended_first : list_any (is_end n) (firsts_in w1) ≡ false = ap (list_any (is_end n)) (firsts_begin earlier a whole) ∙ still_open laws n pair.0 (firsts_in earlier) few are.first unended in
+    let count : length (pairs_in w2) ≡ length (pairs_in earlier) + 1 =
+    ap length (pairs_end w1 a b begun) ∙ length_push (pairs_in w1) (a, b) ∙ ap (λ (ps : List (List ℕ × List ℕ)). length ps + 1) (pairs_begin earlier a whole) in (
+      ap (λ p. word_fault n p a) (pair_place n earlier [] unended whole) ∙ first_taken laws n (length (pairs_in earlier)) (length pairs) pair.0 few room are.first,
       (
-        ap (λ p. word_fault n p b) second_place
-            ∙ no_rows (result_err (node n b)) false (reads_as (pos pair.0) (node n b)) false false
-            (ap (λ (r : Result ℤ NumberFault). result_err r) (node_back laws n pair.1 few each.1)) refl
-            (ap (reads_as (pos pair.0)) (node_back laws n pair.1 few each.1) ∙ no_self pair.0 pair.1 (not-true (pair.0 == pair.1) nodes.1)) refl refl,
-        fixed_taken laws n few ((earlier ++ a ∷ []) ++ b ∷ []) pairs (ap (list_any (is_end n)) second.2 ∙ unended_first) second.1 (omega (arith, count)) both.1,
+        ap (λ p. word_fault n p b) (pair_place n w1 (a ∷ []) unended_first begun ∙ ap (λ r. SecondOf (number r)) (listed_back laws n pair.0 few are.first))
+            ∙ second_taken laws n pair.0 pair.1 few are.second are.differ,
+        fixed_taken laws n few w2 pairs (ap (list_any (is_end n)) (firsts_end w1 a b begun) ∙ unended_first) (begun_end w1 a b begun) (omega (arith, count)) both.1,
       ),
     )
 
@@ -126,13 +144,12 @@ pub fixed_back : NumberLaws → (n : ℕ) → n < 2 ^ 32 → (pairs : List (ℕ 
 fixed_back laws n few [] all = refl
 fixed_back laws n few (pair ∷ pairs) all =
     let both = and_parts (is_pair n pair) (list_all (is_pair n) pairs) all in
-    let nodes = and_parts (is_node n pair.0 && is_node n pair.1) (not (pair.0 == pair.1)) both.0 in
-    let each = and_parts (is_node n pair.0) (is_node n pair.1) nodes.0 in
+    let are = are_pair n pair both.0 in
     let more = flat_map pair_words pairs ++ codes "-1" ∷ [] in
     let read : List ℕ × List ℕ → ℕ × ℕ = λ p. (nat_abs (number (node_or_end n p.0)), nat_abs (number (node n p.1))) in
-    ap (λ t. map read (cond t [] ((decimal pair.0, decimal pair.1) ∷ before (λ p. is_end n p.0) (pairs_in more)))) (node_goes_on laws n pair.0 few each.0)
-    ∙ ap (λ r. (nat_abs (number r), nat_abs (number (node n (decimal pair.1)))) ∷ fixed_in n more) (listed_back laws n pair.0 few each.0)
-    ∙ ap (λ r. (pair.0, nat_abs (number r)) ∷ fixed_in n more) (node_back laws n pair.1 few each.1)
+    ap (λ t. map read (cond t [] ((decimal pair.0, decimal pair.1) ∷ before (λ p. is_end n p.0) (pairs_in more)))) (node_goes_on laws n pair.0 few are.first)
+    ∙ ap (λ r. (nat_abs (number r), nat_abs (number (node n (decimal pair.1)))) ∷ fixed_in n more) (listed_back laws n pair.0 few are.first)
+    ∙ ap (λ r. (pair.0, nat_abs (number r)) ∷ fixed_in n more) (node_back laws n pair.1 few are.second)
     ∙ ap (λ (ps : List (ℕ × ℕ)). pair ∷ ps) (fixed_back laws n few pairs both.1)
 
 pub fixed_ended : NumberLaws → (n : ℕ) → (pairs : List (ℕ × ℕ)) → list_any (is_end n) (firsts_in (flat_map pair_words pairs ++ codes "-1" ∷ [])) ≡ true

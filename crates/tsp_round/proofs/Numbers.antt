@@ -168,6 +168,11 @@ size_in (suc m) (negsuc n) e =
     let below = leb-true n m (and_parts (int_le (neg_ℤ (pos (suc m))) (negsuc n)) true e).0 in
     omega arith
 
+-- a number of a range of natural numbers
+pub size_from : (low most : ℕ) (z : ℤ) → is_from_to (pos low) (pos most) z ≡ true → unsigned_abs z ≤ most
+size_from low most (pos n) e = leb-true n most (and_parts (nat_le low n) (nat_le n most) e).1
+size_from low most (negsuc n) e = absurd (true≢false (sym e))
+
 -- ---- nodes
 
 pub node_back : NumberLaws → (n k : ℕ) → n < 2 ^ 32 → is_node n k ≡ true → node n (decimal k) ≡ Ok (pos k)

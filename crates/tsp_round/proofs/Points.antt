@@ -1,58 +1,32 @@
 -- Points by node as they are written: each word is taken at its place, and they are read back.
 use Rattle.std.proofs.Common.{◌≡◌, ℕ, ◌+◌, ◌*◌, ◌^◌, ◌<◌, ◌≤◌, true, false, cond, List, [], ◌∷◌, ◌++◌, length, map, refl, sym, ap, ◌∙◌, arith, None, Result, Ok}
-use Rattle.std.specs.Prelude.{ℤ, pos}
+use Rattle.std.specs.Prelude.{ℤ, pos, ◌&&◌}
+use Rattle.std.specs.Ordering.{int_eq}
 use Rattle.std.specs.Result.{result_err}
 use Rattle.std.specs.List.{list_all, list_any, flat_map, enumerate_from, range_with_len}
 use Rattle.std.specs.Fmt.{decimal}
 use Rattle.std.proofs.Math.ListN.{take}
 use Rattle.std.proofs.lemmas.Bool.{and_parts, lt-leb}
+use Rattle.std.proofs.lemmas.Bool.Decides.{Decides-int_eq}
 use Rattle.std.proofs.lemmas.List.{length_push, take_all, map-append}
 use Rattle.std.proofs.lemmas.List.FromFn.{map-range_with_len_more}
 use Rattle.tsp_number.specs.declared.fault.NumberFault.{NumberFault}
 use Rattle.tsp_number.specs.declared.decimal.Point.{Point}
+use Rattle.tsp_number.specs.Distances.{on_plane}
 use Rattle.tsp_number.specs.Reading.{decimal_of}
 use Rattle.tsp_number.specs.Spelling.{spelling}
 use Rattle.tsp_value.specs.Limits.{most_coordinate}
+use Rattle.tsp_fields.specs.Coords.{origin}
 use Rattle.tsp_fields.specs.Validity.{is_within, is_point}
 use Rattle.tsp_items.specs.Numbers.{number, node, reads_as}
 use Rattle.tsp_items.specs.Places.{NodeAfter, Coordinate, PastGroups}
 use Rattle.tsp_items.specs.Groups.{triples_in, begun_triple, point_of, point_groups, points_by_node, place_in_group, nodes_in, place_of_point}
 use Rattle.tsp_items.specs.Rows.{word_fault}
+use Rattle.tsp_items.proofs.TripleWords.{triples_begin, begun_begin, triples_middle, begun_middle, triples_end, begun_end}
 use Rattle.tsp_round.proofs.Groups.{tagged, fused, one_node, new_node, by_node_back}
 use Rattle.tsp_round.proofs.Numbers.{NumberLaws, node_back, size_in}
 use Rattle.tsp_round.proofs.Onto.{AllTaken}
 use Rattle.tsp_round.proofs.Lists.{no_rows}
-
--- ---- words by threes
-
-triple_first : {A : Type 0} (words : List A) (a : A) → begun_triple words ≡ [] → (triples_in (words ++ a ∷ []) ≡ triples_in words) × (begun_triple (words ++ a ∷ []) ≡ a ∷ [])
-triple_first [] a e = (refl, refl)
-triple_first (x ∷ []) a e = absurd cc
-triple_first (x ∷ y ∷ []) a e = absurd cc
-triple_first {A} (x ∷ y ∷ z ∷ words) a e =
-    let rest = triple_first words a e in
-    (ap (λ (ts : List (A × A × A)). (x, y, z) ∷ ts) rest.0, rest.1)
-
-triple_second : {A : Type 0} (words : List A) (a b : A) → begun_triple words ≡ a ∷ [] → (triples_in (words ++ b ∷ []) ≡ triples_in words) × (begun_triple (words ++ b ∷ []) ≡ a ∷ b ∷ [])
-triple_second [] a b e = absurd cc
-triple_second {A} (x ∷ []) a b e =
-    let same : x ≡ a = cc in
-    (refl, ap (λ (v : A). v ∷ b ∷ []) same)
-triple_second (x ∷ y ∷ []) a b e = absurd cc
-triple_second {A} (x ∷ y ∷ z ∷ words) a b e =
-    let rest = triple_second words a b e in
-    (ap (λ (ts : List (A × A × A)). (x, y, z) ∷ ts) rest.0, rest.1)
-
-triple_third : {A : Type 0} (words : List A) (a b c : A) → begun_triple words ≡ a ∷ b ∷ [] → (triples_in (words ++ c ∷ []) ≡ triples_in words ++ (a, b, c) ∷ []) × (begun_triple (words ++ c ∷ []) ≡ [])
-triple_third [] a b c e = absurd cc
-triple_third (x ∷ []) a b c e = absurd cc
-triple_third {A} (x ∷ y ∷ []) a b c e =
-    let first : x ≡ a = cc in
-    let second : y ≡ b = cc in
-    (ap (λ (v : A). (v, y, c) ∷ []) first ∙ ap (λ (v : A). (a, v, c) ∷ []) second, refl)
-triple_third {A} (x ∷ y ∷ z ∷ words) a b c e =
-    let rest = triple_third words a b c e in
-    (ap (λ (ts : List (A × A × A)). (x, y, z) ∷ ts) rest.0, rest.1)
 
 -- ---- points
 
@@ -82,7 +56,8 @@ pub points_taken : NumberLaws → (n : ℕ) → n < 2 ^ 32 → (earlier : List (
 points_taken laws n few earlier i [] whole nodes count room all = tt
 points_taken laws n few earlier i (p ∷ xs) whole nodes count room all =
     let both = and_parts (is_point p) (list_all is_point xs) all in
-    let inside = and_parts (is_within most_coordinate p.x) (is_within most_coordinate p.y) both.0 in
+    let flat = and_parts (is_within most_coordinate p.x && is_within most_coordinate p.y) (int_eq p.z (pos 0)) both.0 in
+    let inside = and_parts (is_within most_coordinate p.x) (is_within most_coordinate p.y) flat.0 in
     let a = decimal (i + 1) in
     let b = spelling p.x in
     let c = spelling p.y in
@@ -92,15 +67,14 @@ points_taken laws n few earlier i (p ∷ xs) whole nodes count room all =
     let is = one_node n i (omega arith) in
     let here : place_of_point n earlier ≡ NodeAfter (map pos (range_with_len 1 i)) =
     place_here n earlier (omega arith) ∙ ap (place_in_group Coordinate (nodes_in (point_groups n earlier))) whole ∙ ap NodeAfter (nodes_are n earlier (omega arith) ∙ nodes) in
-    let first = triple_first earlier a whole in
-    let second = triple_second w1 a b first.1 in
-    let third = triple_third w2 a b c second.1 in
+    let first = begun_begin earlier a whole in
+    let second = begun_middle w1 a b first in
     let one = length_push earlier a in
     let two = length_push w1 b in
     let three = length_push w2 c in
     let f : List ℕ × List ℕ × List ℕ → ℤ = λ group. number (node n group.0) in
     let nodes_more : map f (triples_in w3) ≡ map pos (range_with_len 1 (i + 1)) =
-    ap (map f) (third.0 ∙ ap (λ (ts : List (List ℕ × List ℕ × List ℕ)). ts ++ (a, b, c) ∷ []) (second.0 ∙ first.0)) ∙ map-append f (triples_in earlier) ((a, b, c) ∷ [])
+    ap (map f) (triples_end w2 a b c second ∙ ap (λ (ts : List (List ℕ × List ℕ × List ℕ)). ts ++ (a, b, c) ∷ []) (triples_middle w1 a b first ∙ triples_begin earlier a whole)) ∙ map-append f (triples_in earlier) ((a, b, c) ∷ [])
     ∙ ap (λ (zs : List ℤ). zs ++ number (node n a) ∷ []) nodes ∙ ap (λ r. map pos (range_with_len 1 i) ++ number r ∷ []) (node_back laws n (i + 1) few is)
     ∙ sym (map-range_with_len_more pos 1 i (i + 1) (omega arith)) in (
       ap (λ p. word_fault n p a) here
@@ -108,10 +82,10 @@ points_taken laws n few earlier i (p ∷ xs) whole nodes count room all =
           (ap (λ (r : Result ℤ NumberFault). result_err r) (node_back laws n (i + 1) few is))
           (ap (λ (r : Result ℤ NumberFault). list_any (λ e. reads_as e r) (map pos (range_with_len 1 i))) (node_back laws n (i + 1) few is) ∙ new_node (i + 1) 1 i (omega arith)) refl refl refl,
       (
-        coordinate_taken laws n w1 a [] p.x (omega arith) first.1 inside.0,
+        coordinate_taken laws n w1 a [] p.x (omega arith) first inside.0,
         (
-          coordinate_taken laws n w2 a (b ∷ []) p.y (omega arith) second.1 inside.1,
-          points_taken laws n few w3 (i + 1) xs third.1 nodes_more (omega arith) (omega arith) both.1,
+          coordinate_taken laws n w2 a (b ∷ []) p.y (omega arith) second inside.1,
+          points_taken laws n few w3 (i + 1) xs (begun_end w2 a b c second) nodes_more (omega arith) (omega arith) both.1,
         ),
       ),
     )
@@ -120,25 +94,26 @@ pub count_of_points : (k : ℕ) (xs : List Point) → length (flat_map point_ent
 count_of_points k [] = refl
 count_of_points k (x ∷ xs) = omega (arith, count_of_points (k + 1) xs)
 
-same_point : (p : Point) (x y : ℤ) → x ≡ p.x → y ≡ p.y → (let q : Point = record { x = x; y = y } in q ≡ p)
-same_point p x y e f =
-    let made : ℤ → ℤ → Point = λ a b. record { x = a; y = b } in
-    ap (λ a. made a y) e ∙ ap (made p.x) f
+same_point : (p : Point) (x y : ℤ) → x ≡ p.x → y ≡ p.y → p.z ≡ pos 0 → on_plane x y ≡ p
+same_point p x y e f g =
+    let made : ℤ → ℤ → ℤ → Point = λ a b c. record { x = a; y = b; z = c } in
+    ap (λ a. made a y (pos 0)) e ∙ ap (λ b. made p.x b (pos 0)) f ∙ ap (made p.x p.y) (sym g)
 
 groups_back : NumberLaws → (n : ℕ) → n < 2 ^ 32 → (i : ℕ) (xs : List Point) → i + length xs ≤ n → list_all is_point xs ≡ true
     → map (λ group. (number (node n group.0), point_of group.1 group.2)) (triples_in (flat_map point_entry (enumerate_from (i + 1) xs))) ≡ map tagged (enumerate_from (i + 1) xs)
 groups_back laws n few i [] room all = refl
 groups_back laws n few i (p ∷ xs) room all =
     let both = and_parts (is_point p) (list_all is_point xs) all in
-    let inside = and_parts (is_within most_coordinate p.x) (is_within most_coordinate p.y) both.0 in
+    let flat = and_parts (is_within most_coordinate p.x && is_within most_coordinate p.y) (int_eq p.z (pos 0)) both.0 in
+    let inside = and_parts (is_within most_coordinate p.x) (is_within most_coordinate p.y) flat.0 in
     let rest : List (ℤ × Point) = map (λ (group : List ℕ × List ℕ × List ℕ). (number (node n group.0), point_of group.1 group.2)) (triples_in (flat_map point_entry (enumerate_from (i + 1 + 1) xs))) in
     ap (λ r. (number r, point_of (spelling p.x) (spelling p.y)) ∷ rest) (node_back laws n (i + 1) few (one_node n i (omega arith)))
-    ∙ ap (λ (q : Point). (pos (i + 1), q) ∷ rest) (same_point p (number (decimal_of (spelling p.x))) (number (decimal_of (spelling p.y))) (ap number (coordinate_back laws p.x inside.0)) (ap number (coordinate_back laws p.y inside.1)))
+    ∙ ap (λ (q : Point). (pos (i + 1), q) ∷ rest) (same_point p (number (decimal_of (spelling p.x))) (number (decimal_of (spelling p.y))) (ap number (coordinate_back laws p.x inside.0)) (ap number (coordinate_back laws p.y inside.1)) ((Decides-int_eq p.z (pos 0)).0 flat.1))
     ∙ ap (λ (gs : List (ℤ × Point)). (pos (i + 1), p) ∷ gs) (groups_back laws n few (i + 1) xs (omega arith) both.1)
 
 pub points_back : NumberLaws → (n : ℕ) → n < 2 ^ 32 → (xs : List Point) → length xs ≡ n → list_all is_point xs ≡ true → points_by_node n (flat_map point_entry (enumerate_from 1 xs)) ≡ xs
 points_back laws n few xs count all =
     let words = flat_map point_entry (enumerate_from 1 xs) in
-    by_node_back (record { x = pos 0; y = pos 0 }) n xs (point_groups n words) count
+    by_node_back origin n xs (point_groups n words) count
     (ap (λ (ws : List (List ℕ)). map (λ (group : List ℕ × List ℕ × List ℕ). (number (node n group.0), point_of group.1 group.2)) (triples_in ws)) (take_all (3 * n) words (omega (arith, count_of_points 1 xs)))
     ∙ groups_back laws n few 0 xs (omega arith) all)

@@ -1,190 +1,198 @@
 -- The texts of the sections: each field's own condition says that no row applies to its line and its words.
-use Rattle.std.proofs.Common.{◌≡◌, ℕ, ◌*◌, ◌^◌, ◌<◌, ◌≤◌, Bool, true, false, List, [], ◌∷◌, ◌++◌, length, map, refl, ap, ◌∙◌, arith, Option, Some, None}
-use Rattle.std.specs.Prelude.{ℤ, pos, neg_ℤ, ◌&&◌, ◌==◌, nat_le, nat_lt, codes}
-use Rattle.std.specs.Option.{option_map}
-use Rattle.std.specs.List.{list_all, flat_map, enumerate_from, sum_by}
-use Rattle.std.specs.Fmt.{decimal, signed_decimal}
-use Rattle.std.proofs.lemmas.Bool.{false≢true, and_parts, leb-true, eqb-true, le-ltb}
-use Rattle.tsp_number.specs.declared.decimal.Point.{Point}
+use Rattle.std.proofs.Common.{◌≡◌, ℕ, ◌≤◌, Bool, true, false, cond, append_assoc, List, [], ◌∷◌, ◌++◌, refl, sym, ap, subst, ◌∙◌, Option, Some, None}
+use Rattle.std.specs.Prelude.{not, ◌&&◌, nat_lt, is_some}
+use Rattle.std.specs.Option.{option_map, option_map_or}
+use Rattle.std.specs.Fmt.{decimal}
+use Rattle.std.proofs.lemmas.Bool.{false≢true}
 use Rattle.tsp_value.specs.declared.field.Field.{Field}
-use Rattle.tsp_value.specs.declared.field.Field.TheVariants.{CommentKey, OtherKey, DimensionKey, NodeCoordPart, DisplayDataPart, DemandPart, DepotPart, FixedEdgesPart, EdgeWeightPart, TourPart, NodePotentialPart, RowPotentialPart, ColumnPotentialPart}
-use Rattle.tsp_value.specs.Limits.{most_nodes, most_matrix_nodes, most_demand, most_potential, most_weight, most_depots, most_fixed, most_tour_nodes}
+use Rattle.tsp_value.specs.declared.field.Field.TheVariants.{CommentKey, OtherKey, DimensionKey}
+use Rattle.tsp_value.specs.declared.field.Shape.{Shape}
+use Rattle.tsp_value.specs.declared.field.Shape.TheVariants.{Numbers, Points, Depots, Pairs, Weights, Tours, Triples}
+use Rattle.tsp_value.specs.declared.keyword.Keyword.TheVariants.{Known}
+use Rattle.tsp_value.specs.Limits.{most_nodes, most_matrix_nodes, most_line_bytes}
+use Rattle.tsp_value.specs.Shapes.{shape_of, is_section_field}
+use Rattle.tsp_value.specs.Words.{field_word}
 use Rattle.tsp_fields.specs.Fields.{Fields}
-use Rattle.tsp_fields.specs.Validity.{if_there, is_by_node, is_point, is_demand, is_within, is_from_to, is_node, is_pair, are_depots, are_fixed, are_weights, is_tour, are_tours, with_dimension, fits}
-use Rattle.tsp_file.specs.Text.{section, by_node, node_list, pair_list, point_numbers, whole_number, line_lens, matrix_lines, optional, text_of_field}
-use Rattle.tsp_items.specs.Items.{Item}
-use Rattle.tsp_value.specs.Shapes.{is_section_field}
-use Rattle.tsp_items.specs.Earlier.{same_field}
-use Rattle.tsp_items.specs.Groups.{place_of_point, place_of_number}
-use Rattle.tsp_items.specs.Sections.{place_in, nodes_of}
-use Rattle.tsp_items.specs.Rows.{may_repeat}
-use Rattle.tsp_round.proofs.Text.{WritesWords}
+use Rattle.tsp_fields.specs.Validity.{if_there, with_dimension, section_fits, fits}
+use Rattle.tsp_write.specs.Text.{line_lens, text_of_section, text_of_field}
+use Rattle.tsp_items.specs.Items.{WordLine, Item, Line, LineEnd, items_in, items_of}
+use Rattle.tsp_items.specs.Earlier.{same_field, is_open, has_line, value_at, values_at, others_in, open_section, words_of}
+use Rattle.tsp_items.specs.Sections.{place_by, place_in, nodes_of}
+use Rattle.tsp_items.specs.Places.{PastEnd}
+use Rattle.tsp_items.specs.Rows.{may_repeat, row_of}
+use Rattle.tsp_items.specs.FirstFault.{IsClean}
+use Rattle.tsp_items.specs.states.CutLine.{needs_nodes, is_matrix, opening_rows}
+use Rattle.tsp_read.proofs.Clean.{clean_more}
+use Rattle.tsp_read.proofs.SectionCases.{by_section, opening}
+use Rattle.tsp_read.proofs.ValidSections.{same_field_is}
+use Rattle.tsp_read.specs.Cuts.{is_one_line}
+use Rattle.tsp_round.proofs.Text.{Writes, line_written, both_written, number_words, are_numbers}
 use Rattle.tsp_round.proofs.Numbers.{NumberLaws}
-use Rattle.tsp_round.proofs.Onto.{AllTaken}
-use Rattle.tsp_round.proofs.Lists.{pair_words, depots_taken, fixed_taken, weights_taken}
-use Rattle.tsp_round.proofs.Groups.{AreSmall, number_entry, numbers_taken}
-use Rattle.tsp_round.proofs.Points.{point_entry, points_taken}
-use Rattle.tsp_round.proofs.Tours.{tour_words, tours_taken}
-use Rattle.tsp_round.proofs.Bodies.{numbers_written, points_written, node_lines_written, tour_lines_written, pair_lines_written}
-use Rattle.tsp_round.proofs.Matrix.{matrix_lines_written}
-use Rattle.tsp_round.proofs.Sections.{has_nodes, no_line_yet, small_demands, small_potentials}
-use Rattle.tsp_round.proofs.Stages.{value_of, if_written, words_written, Ready, Step}
-use Rattle.tsp_round.proofs.Steps.{missing, section_line, section_row, tour_row, section_step}
+use Rattle.tsp_round.proofs.Onto.{onto, value_kept, values_kept, others_kept, no_end_line, other_words, section_words, AllTaken, words_clean}
+use Rattle.tsp_round.proofs.Shapes.{Entries, entries_in, are_valid, lines_for, words_for, text_for, text_by, fit_for, fits_by, is_writable, body}
+use Rattle.tsp_round.proofs.Sections.{has_nodes, no_line_yet}
+use Rattle.tsp_round.proofs.Stages.{empty_line, value_of, if_written, words_written, Ready, Step}
+use Rattle.tsp_round.proofs.Steps.{missing, section_line}
 
--- ---- a section by the number of nodes
+-- ---- what is said of a section by its field, by its shape
 
--- what its lines are, with n nodes
-pub record IsBody (field : Field) (n : ℕ) (body : List ℕ) (words : List (List ℕ)) : Type 0 where
-  pub written : WritesWords body words
-  pub taken : AllTaken n (place_in field n) [] words
-  pub few : same_field EdgeWeightPart field ≡ true → nat_lt most_matrix_nodes n ≡ false
+-- its text, its condition, the value of its line, whether its numbers can be written, and the bytes and the item of its line
+abbrev ByShape : Fields → Field → Type 0
+ByShape f g = (text_of_field f g ≡ option_map_or (text_of_section f g) (shape_of g) [])
+    × (fits f g ≡ option_map_or (section_fits f g) (shape_of g) true)
+    × (value_of f g ≡ option_map_or (λ shape. empty_line (is_some (entries_in f g shape))) (shape_of g) None)
+    × (option_map_or is_writable (shape_of g) true ≡ true)
+    × (is_one_line (field_word g) ≡ true) × (items_in (field_word g) ≡ Line (Known g) (section_line g) ∷ [])
 
-record IsPart (field : Field) : Type 0 where
-  part : is_section_field field ≡ true
-  once : may_repeat field ≡ false
-  no_value : (section_line field).value ≡ []
-  no_comment : same_field CommentKey field ≡ false
-  no_other : same_field OtherKey field ≡ false
-  no_dimension : same_field DimensionKey field ≡ false
-  no_tours : same_field TourPart field ≡ false
+-- it is none of the keywords that differ from it, and its line has no value and is no long one
+abbrev IsPlain : Field → Type 0
+IsPlain g = (may_repeat g ≡ false) × (same_field CommentKey g ≡ false) × (same_field OtherKey g ≡ false) × (same_field DimensionKey g ≡ false)
+    × ((section_line g).value ≡ []) × (nat_lt most_line_bytes (section_line g).size ≡ false)
 
--- the value of a section's line is empty
-abbrev no_value_of : {A : Type 0} → A → List ℕ
-no_value_of x = []
+by_shape : (f : Fields) (field : Field) → is_section_field field ≡ true → ByShape f field
+by_shape f = by_section (ByShape f)
+    (refl, refl, refl, refl, refl, refl) (refl, refl, refl, refl, refl, refl) (refl, refl, refl, refl, refl, refl) (refl, refl, refl, refl, refl, refl)
+    (refl, refl, refl, refl, refl, refl) (refl, refl, refl, refl, refl, refl) (refl, refl, refl, refl, refl, refl) (refl, refl, refl, refl, refl, refl)
+    (refl, refl, refl, refl, refl, refl) (refl, refl, refl, refl, refl, refl) (refl, refl, refl, refl, refl, refl)
 
-part_step : {A : Type 0} → NumberLaws → (f : Fields) (field : Field) (o : Option A) (fitting : ℕ → A → Bool) (body : A → List ℕ) (words : A → List (List ℕ)) (earlier : List Item)
-    → text_of_field f field ≡ optional (λ x. section field (body x)) o → value_of f field ≡ option_map no_value_of o → words_written f field ≡ if_written words o → IsPart field
-    → if_there (is_node most_nodes) f.dimension ≡ true → if_there (with_dimension fitting f.dimension) o ≡ true
-    → ((n : ℕ) → n ≤ most_nodes → (x : A) → fitting n x ≡ true → IsBody field n (body x) (words x)) → Ready f field earlier → Step f (text_of_field f) field earlier
-part_step laws f field None fitting body words earlier text_is value_is words_are part one fit each ready =
-    missing f (text_of_field f) field earlier ready text_is part.once value_is words_are part.no_comment part.no_other
-part_step laws f field (Some x) fitting body words earlier text_is value_is words_are part one fit each ready =
-    let h = has_nodes laws f fitting x earlier (ready.dimension part.part) one fit in
-    let is = each h.n h.few x h.fitting in
-    let row = section_row field earlier part.part (no_line_yet f field earlier ready part.once) h.known (λ e. ap (nat_lt most_matrix_nodes) h.nodes ∙ is.few e) part.no_tours in
-    section_step f (text_of_field f) field (body x) (words x) h.n earlier ready part.part text_is is.written part.no_value value_is words_are
-    part.no_comment part.no_other part.no_dimension row h.nodes is.taken
+is_plain : (field : Field) → is_section_field field ≡ true → IsPlain field
+is_plain = by_section IsPlain
+    (refl, refl, refl, refl, refl, refl) (refl, refl, refl, refl, refl, refl) (refl, refl, refl, refl, refl, refl) (refl, refl, refl, refl, refl, refl)
+    (refl, refl, refl, refl, refl, refl) (refl, refl, refl, refl, refl, refl) (refl, refl, refl, refl, refl, refl) (refl, refl, refl, refl, refl, refl)
+    (refl, refl, refl, refl, refl, refl) (refl, refl, refl, refl, refl, refl) (refl, refl, refl, refl, refl, refl)
 
--- ---- what the lines of each sort of section are
+-- what is known of a section with these entries, or without any
+pub record IsSection (f : Fields) (field : Field) (shape : Shape) (entries : Option (Entries shape)) : Type 0 where
+  pub shape_is : shape_of field ≡ Some shape
+  pub part : is_section_field field ≡ true
+  pub text_is : text_of_field f field ≡ text_for f field shape entries
+  pub fit : if_there (fit_for f shape) entries ≡ true
+  pub value_is : value_of f field ≡ empty_line (is_some entries)
+  pub words_are : words_written f field ≡ if_written (words_for shape) entries
+  pub writable : is_writable shape ≡ true
+  pub once : may_repeat field ≡ false
 
-few_nodes : (n : ℕ) → n ≤ most_nodes → n < 2 ^ 32
-few_nodes n few = omega (arith, few)
-
-points_body : NumberLaws → (n : ℕ) → n ≤ most_nodes → (xs : List Point) → is_by_node is_point n xs ≡ true
-    → WritesWords (by_node point_numbers xs) (flat_map point_entry (enumerate_from 1 xs)) × AllTaken n (place_of_point n) [] (flat_map point_entry (enumerate_from 1 xs))
-points_body laws n few xs fit =
-    let both = and_parts (length xs == n) (list_all is_point xs) fit in
-    let count = eqb-true (length xs) n both.0 in
-    (points_written n (few_nodes n few) 0 xs (omega (arith, count)) both.1, points_taken laws n (few_nodes n few) [] 0 xs refl refl refl (omega (arith, count)) both.1)
-
-numbers_body : NumberLaws → (low high : ℤ) → AreSmall low high → (n : ℕ) → n ≤ most_nodes → (xs : List ℤ) → is_by_node (is_from_to low high) n xs ≡ true
-    → WritesWords (by_node whole_number xs) (flat_map number_entry (enumerate_from 1 xs)) × AllTaken n (place_of_number low high n) [] (flat_map number_entry (enumerate_from 1 xs))
-numbers_body laws low high small n few xs fit =
-    let both = and_parts (length xs == n) (list_all (is_from_to low high) xs) fit in
-    let count = eqb-true (length xs) n both.0 in
-    (numbers_written low high small n (few_nodes n few) 0 xs (omega (arith, count)) both.1, numbers_taken laws low high small n (few_nodes n few) [] 0 xs refl refl refl (omega (arith, count)) both.1)
-
-demands_body : NumberLaws → (n : ℕ) → n ≤ most_nodes → (xs : List ℤ) → is_by_node is_demand n xs ≡ true → IsBody DemandPart n (by_node whole_number xs) (flat_map number_entry (enumerate_from 1 xs))
-demands_body laws n few xs fit =
-    let body = numbers_body laws (pos 0) (pos most_demand) small_demands n few xs fit in
-    record { written = body.0; taken = body.1; few = λ e. absurd (false≢true e) }
-
-potentials_body : NumberLaws → (n : ℕ) → n ≤ most_nodes → (xs : List ℤ) → is_by_node (is_within most_potential) n xs ≡ true
-    → WritesWords (by_node whole_number xs) (flat_map number_entry (enumerate_from 1 xs)) × AllTaken n (place_of_number (neg_ℤ (pos most_potential)) (pos most_potential) n) [] (flat_map number_entry (enumerate_from 1 xs))
-potentials_body laws n few xs fit = numbers_body laws (neg_ℤ (pos most_potential)) (pos most_potential) small_potentials n few xs fit
-
-depots_body : NumberLaws → (n : ℕ) → n ≤ most_nodes → (xs : List ℕ) → are_depots n xs ≡ true → IsBody DepotPart n (node_list xs) (map decimal xs ++ codes "-1" ∷ [])
-depots_body laws n few xs fit =
-    let both = and_parts (nat_le (length xs) most_depots) (list_all (is_node n) xs) fit in
+pub is_section : (f : Fields) → ((g : Field) → fits f g ≡ true) → (field : Field) (shape : Shape) → shape_of field ≡ Some shape → IsSection f field shape (entries_in f field shape)
+is_section f valid field shape e =
+    let part : is_section_field field ≡ true = ap (λ (o : Option Shape). is_some o) e in
+    let facts = by_shape f field part in
     record {
-      written = node_lines_written n (few_nodes n few) xs both.1;
-      taken = depots_taken laws n (few_nodes n few) [] xs refl (omega (arith, leb-true (length xs) most_depots both.0)) both.1;
-      few = λ e. absurd (false≢true e);
+      shape_is = e;
+      part = part;
+      text_is = facts.0 ∙ ap (λ (o : Option Shape). option_map_or (text_of_section f field) o []) e ∙ text_by f field shape;
+      fit = sym (facts.1 ∙ ap (λ (o : Option Shape). option_map_or (section_fits f field) o true) e ∙ fits_by f field shape) ∙ valid field;
+      value_is = facts.2 ∙ ap (λ (o : Option Shape). option_map_or (λ s. empty_line (is_some (entries_in f field s))) o None) e;
+      words_are = ap (λ (o : Option Shape). option_map_or (λ s. if_written (words_for s) (entries_in f field s)) o []) e;
+      writable = ap (λ (o : Option Shape). option_map_or is_writable o true) (sym e) ∙ facts.3;
+      once = (is_plain field part).0;
     }
 
-fixed_body : NumberLaws → (n : ℕ) → n ≤ most_nodes → (xs : List (ℕ × ℕ)) → are_fixed n xs ≡ true → IsBody FixedEdgesPart n (pair_list xs) (flat_map pair_words xs ++ codes "-1" ∷ [])
-fixed_body laws n few xs fit =
-    let both = and_parts (nat_le (length xs) most_fixed) (list_all (is_pair n) xs) fit in
+-- ---- the number of nodes
+
+-- the entries are those of a file with so many nodes as the items say
+pub record AreRight (shape : Shape) (xs : Entries shape) (items : List Item) : Type 0 where
+  pub valid : are_valid shape (nodes_of items) xs ≡ true
+  pub few : needs_nodes shape ≡ true → nodes_of items ≤ most_nodes
+  pub known : needs_nodes shape ≡ true → has_line DimensionKey items ≡ true
+
+counted : NumberLaws → (f : Fields) (shape : Shape) (xs : Entries shape) (items : List Item) → value_at DimensionKey items ≡ option_map decimal f.dimension → fits f DimensionKey ≡ true
+    → with_dimension (are_valid shape) f.dimension xs ≡ true → AreRight shape xs items
+counted laws f shape xs items written one fit =
+    let h = has_nodes laws f (are_valid shape) xs items written one fit in
     record {
-      written = pair_lines_written n (few_nodes n few) xs both.1;
-      taken = fixed_taken laws n (few_nodes n few) [] xs refl refl (omega (arith, leb-true (length xs) most_fixed both.0)) both.1;
-      few = λ e. absurd (false≢true e);
+      valid = ap (λ n. are_valid shape n xs) h.nodes ∙ h.fitting;
+      few = λ e. subst (λ (n : ℕ). n ≤ most_nodes) (sym h.nodes) h.few;
+      known = λ e. h.known;
     }
 
-weights_body : NumberLaws → (lens : List ℕ) (n : ℕ) → n ≤ most_nodes → (xs : List ℤ) → are_weights n xs ≡ true → IsBody EdgeWeightPart n (matrix_lines lens xs) (map signed_decimal xs)
-weights_body laws lens n few xs fit =
-    let both = and_parts (nat_le n most_matrix_nodes && nat_le (length xs) (n * n)) (list_all (is_within most_weight) xs) fit in
-    let sizes = and_parts (nat_le n most_matrix_nodes) (nat_le (length xs) (n * n)) both.0 in
-    record {
-      written = matrix_lines_written lens xs both.1;
-      taken = weights_taken laws n [] xs (omega (arith, leb-true (length xs) (n * n) sizes.1)) both.1;
-      few = λ e. le-ltb most_matrix_nodes n (leb-true n most_matrix_nodes sizes.0);
-    }
+pub are_right : NumberLaws → (f : Fields) (shape : Shape) (xs : Entries shape) (items : List Item) → value_at DimensionKey items ≡ option_map decimal f.dimension → fits f DimensionKey ≡ true
+    → fit_for f shape xs ≡ true → AreRight shape xs items
+are_right laws f (Numbers low high) xs items written one fit = counted laws f (Numbers low high) xs items written one fit
+are_right laws f Points xs items written one fit = counted laws f Points xs items written one fit
+are_right laws f Depots xs items written one fit = counted laws f Depots xs items written one fit
+are_right laws f Pairs xs items written one fit = counted laws f Pairs xs items written one fit
+are_right laws f Weights xs items written one fit = counted laws f Weights xs items written one fit
+are_right laws f Tours xs items written one fit = record { valid = fit; few = λ e. absurd (false≢true e); known = λ e. absurd (false≢true e) }
+are_right laws f Triples xs items written one fit = counted laws f Triples xs items written one fit
 
--- ---- the steps
+-- ---- the step
 
-pub coords_step : NumberLaws → (f : Fields) (earlier : List Item) → fits f DimensionKey ≡ true → fits f NodeCoordPart ≡ true → Ready f NodeCoordPart earlier → Step f (text_of_field f) NodeCoordPart earlier
-coords_step laws f earlier one fit ready =
-    part_step laws f NodeCoordPart f.coords (is_by_node is_point) (by_node point_numbers) (λ points. flat_map point_entry (enumerate_from 1 points)) earlier refl refl refl
-    (record { part = refl; once = refl; no_value = refl; no_comment = refl; no_other = refl; no_dimension = refl; no_tours = refl }) one fit
-    (λ n few xs e. let body = points_body laws n few xs e in record { written = body.0; taken = body.1; few = λ same. absurd (false≢true same) }) ready
+both_false : (a b : Bool) → (a ≡ true → b ≡ false) → (a && b) ≡ false
+both_false true b h = h refl
+both_false false b h = refl
 
-pub display_step : NumberLaws → (f : Fields) (earlier : List Item) → fits f DimensionKey ≡ true → fits f DisplayDataPart ≡ true → Ready f DisplayDataPart earlier → Step f (text_of_field f) DisplayDataPart earlier
-display_step laws f earlier one fit ready =
-    part_step laws f DisplayDataPart f.display (is_by_node is_point) (by_node point_numbers) (λ points. flat_map point_entry (enumerate_from 1 points)) earlier refl refl refl
-    (record { part = refl; once = refl; no_value = refl; no_comment = refl; no_other = refl; no_dimension = refl; no_tours = refl }) one fit
-    (λ n few xs e. let body = points_body laws n few xs e in record { written = body.0; taken = body.1; few = λ same. absurd (false≢true same) }) ready
+-- no row applies to a section's line
+section_row : (field : Field) (shape : Shape) (earlier : List Item) → shape_of field ≡ Some shape → is_section_field field ≡ true → has_line field earlier ≡ false
+    → (needs_nodes shape ≡ true → has_line DimensionKey earlier ≡ true) → (is_matrix shape ≡ true → nat_lt most_matrix_nodes (nodes_of earlier) ≡ false)
+    → row_of earlier (Line (Known field) (section_line field)) ≡ None
+section_row field shape earlier e part unseen known few =
+    let plain = is_plain field part in
+    let early = both_false (needs_nodes shape) (not (has_line DimensionKey earlier)) (λ needs. ap not (known needs)) in
+    let many = both_false (is_matrix shape) (nat_lt most_matrix_nodes (nodes_of earlier)) few in
+    opening earlier (section_line field) plain.5 field part
+    ∙ ap (λ (o : Option Shape). option_map_or (λ s. opening_rows s (has_line field earlier) (section_line field).value (has_line DimensionKey earlier) (nodes_of earlier)) o None) e
+    ∙ rw (unseen, plain.4, early, many) refl
 
-pub demand_step : NumberLaws → (f : Fields) (earlier : List Item) → fits f DimensionKey ≡ true → fits f DemandPart ≡ true → Ready f DemandPart earlier → Step f (text_of_field f) DemandPart earlier
-demand_step laws f earlier one fit ready =
-    part_step laws f DemandPart f.demands (is_by_node is_demand) (by_node whole_number) (λ numbers. flat_map number_entry (enumerate_from 1 numbers)) earlier refl refl refl
-    (record { part = refl; once = refl; no_value = refl; no_comment = refl; no_other = refl; no_dimension = refl; no_tours = refl }) one fit (demands_body laws) ready
+-- the words that its lines add
+section_adds_words : (f : Fields) (field : Field) (words : List (List ℕ)) (items start earlier : List Item) → are_numbers items ≡ true → number_words items ≡ words → open_section start ≡ Some field
+    → ((g : Field) → words_of g start ≡ words_of g earlier) → words_of field earlier ≡ [] → words_written f field ≡ words
+    → (g : Field) → words_of g (onto items start) ≡ cond (same_field g field) (words_written f field) (words_of g earlier)
+section_adds_words f field words items start earlier numbers are opened same none is g = by_case (same_field g field) refl
+  where
+    by_case : (b : Bool) → same_field g field ≡ b → words_of g (onto items start) ≡ cond (same_field g field) (words_written f field) (words_of g earlier)
+    by_case true e =
+        ap (λ (h : Field). words_of h (onto items start)) (same_field_is g field e) ∙ section_words field items start numbers opened
+        ∙ ap (λ (ws : List (List ℕ)). ws ++ number_words items) (same field ∙ none) ∙ are ∙ sym is ∙ sym (ap (λ b. cond b (words_written f field) (words_of g earlier)) e)
+    by_case false e =
+        other_words g items start numbers (ap (is_open g) opened ∙ e) ∙ same g ∙ sym (ap (λ b. cond b (words_written f field) (words_of g earlier)) e)
 
-pub depot_step : NumberLaws → (f : Fields) (earlier : List Item) → fits f DimensionKey ≡ true → fits f DepotPart ≡ true → Ready f DepotPart earlier → Step f (text_of_field f) DepotPart earlier
-depot_step laws f earlier one fit ready =
-    part_step laws f DepotPart f.depots are_depots node_list (λ depots. map decimal depots ++ codes "-1" ∷ []) earlier refl refl refl
-    (record { part = refl; once = refl; no_value = refl; no_comment = refl; no_other = refl; no_dimension = refl; no_tours = refl }) one fit (depots_body laws) ready
-
-pub fixed_step : NumberLaws → (f : Fields) (earlier : List Item) → fits f DimensionKey ≡ true → fits f FixedEdgesPart ≡ true → Ready f FixedEdgesPart earlier → Step f (text_of_field f) FixedEdgesPart earlier
-fixed_step laws f earlier one fit ready =
-    part_step laws f FixedEdgesPart f.fixed are_fixed pair_list (λ pairs. flat_map pair_words pairs ++ codes "-1" ∷ []) earlier refl refl refl
-    (record { part = refl; once = refl; no_value = refl; no_comment = refl; no_other = refl; no_dimension = refl; no_tours = refl }) one fit (fixed_body laws) ready
-
-pub weight_step : NumberLaws → (f : Fields) (earlier : List Item) → fits f DimensionKey ≡ true → fits f EdgeWeightPart ≡ true → Ready f EdgeWeightPart earlier → Step f (text_of_field f) EdgeWeightPart earlier
-weight_step laws f earlier one fit ready =
+step_of : NumberLaws → (f : Fields) (field : Field) (shape : Shape) (entries : Option (Entries shape)) (earlier : List Item) → fits f DimensionKey ≡ true → IsSection f field shape entries
+    → Ready f field earlier → Step f (text_of_field f) field earlier
+step_of laws f field shape None earlier one is ready =
+    let plain = is_plain field is.part in
+    missing f (text_of_field f) field earlier ready is.text_is is.once is.value_is is.words_are plain.1 plain.2
+step_of laws f field shape (Some xs) earlier one is ready =
+    let plain = is_plain field is.part in
+    let facts = by_shape f field is.part in
+    let right = are_right laws f shape xs earlier (ready.dimension is.part) one is.fit in
+    let n = nodes_of earlier in
     let lens = line_lens f.weight_format f.dimension in
-    part_step laws f EdgeWeightPart f.weights are_weights (matrix_lines lens) (λ weights. map signed_decimal weights) earlier refl refl refl
-    (record { part = refl; once = refl; no_value = refl; no_comment = refl; no_other = refl; no_dimension = refl; no_tours = refl }) one fit (weights_body laws lens) ready
+    let lines = body laws lens shape is.writable n right.few xs right.valid in
+    let text = lines_for lens shape xs in
+    let line = section_line field in
+    let opening_items : List Item = Line (Known field) line ∷ LineEnd ∷ [] in
+    let opens : Writes (field_word field ++ 10 ∷ []) opening_items =
+    λ rest. line_written (field_word field) facts.4 rest ∙ ap (λ (items : List Item). (items ++ LineEnd ∷ []) ++ items_of rest) facts.5 in
+    let start = LineEnd ∷ Line (Known field) line ∷ earlier in
+    let items = lines.written.items in
+    let numbers = lines.written.numbers in
+    let row = section_row field shape earlier is.shape_is is.part (no_line_yet f field earlier ready is.once) right.known lines.few in
+    let clean : IsClean start = clean_more (Line (Known field) line ∷ earlier) LineEnd (clean_more earlier (Line (Known field) line) ready.clean row) refl in
+    let opened : open_section start ≡ Some field = ap (λ b. cond b (Some field) None) is.part in
+    let taken : AllTaken n (place_in field n) [] (words_for shape xs) =
+    subst (λ (o : Option Shape). AllTaken n (λ words. option_map_or (λ s. place_by s n words) o PastEnd) [] (words_for shape xs)) (sym is.shape_is) lines.taken in
+    let taken_after : AllTaken n (place_in field n) (words_of field earlier) (number_words items) =
+    subst (λ (ws : List (List ℕ)). AllTaken n (place_in field n) ws (number_words items)) (sym ready.no_words)
+    (subst (λ (ws : List (List ℕ)). AllTaken n (place_in field n) [] ws) (sym lines.written.words_are) taken) in
+    record {
+      items = opening_items ++ items;
+      written = λ rest. ap (λ (t : List ℕ). items_of (t ++ rest)) (is.text_is ∙ sym (append_assoc (field_word field) (10 ∷ []) text))
+          ∙ both_written (field_word field ++ 10 ∷ []) text opening_items items opens lines.written.written rest;
+      no_end = no_end_line items numbers;
+      adds = record {
+        clean = words_clean field n items start numbers clean opened (nodes_after field line earlier plain.3) taken_after;
+        values = λ g again. value_kept g items start numbers
+            ∙ ap (λ (v : Option (List ℕ)). cond (same_field g field) v (value_at g earlier)) (ap (λ (v : List ℕ). Some v) plain.4 ∙ sym is.value_is);
+        words = section_adds_words f field (words_for shape xs) items start earlier numbers lines.written.words_are opened (λ g. refl) ready.no_words is.words_are;
+        comments = values_kept CommentKey items start numbers ∙ ap (λ b. cond b (values_at CommentKey earlier ++ line.value ∷ []) (values_at CommentKey earlier)) plain.1
+            ∙ sym (ap (λ b. cond b f.comments (values_at CommentKey earlier)) plain.1);
+        others = others_kept items start numbers ∙ sym (ap (λ b. cond b f.others (others_in earlier)) plain.2);
+      };
+    }
+  where
+    nodes_after : (field : Field) (line : WordLine) (earlier : List Item) → same_field DimensionKey field ≡ false → nodes_of (LineEnd ∷ Line (Known field) line ∷ earlier) ≡ nodes_of earlier
+    nodes_after field line earlier other = rw other refl
 
-pub node_potential_step : NumberLaws → (f : Fields) (earlier : List Item) → fits f DimensionKey ≡ true → fits f NodePotentialPart ≡ true → Ready f NodePotentialPart earlier → Step f (text_of_field f) NodePotentialPart earlier
-node_potential_step laws f earlier one fit ready =
-    part_step laws f NodePotentialPart f.node_potentials (is_by_node (is_within most_potential)) (by_node whole_number) (λ numbers. flat_map number_entry (enumerate_from 1 numbers)) earlier refl refl refl
-    (record { part = refl; once = refl; no_value = refl; no_comment = refl; no_other = refl; no_dimension = refl; no_tours = refl }) one fit
-    (λ n few xs e. let body = potentials_body laws n few xs e in record { written = body.0; taken = body.1; few = λ same. absurd (false≢true same) }) ready
-
-pub row_potential_step : NumberLaws → (f : Fields) (earlier : List Item) → fits f DimensionKey ≡ true → fits f RowPotentialPart ≡ true → Ready f RowPotentialPart earlier → Step f (text_of_field f) RowPotentialPart earlier
-row_potential_step laws f earlier one fit ready =
-    part_step laws f RowPotentialPart f.row_potentials (is_by_node (is_within most_potential)) (by_node whole_number) (λ numbers. flat_map number_entry (enumerate_from 1 numbers)) earlier refl refl refl
-    (record { part = refl; once = refl; no_value = refl; no_comment = refl; no_other = refl; no_dimension = refl; no_tours = refl }) one fit
-    (λ n few xs e. let body = potentials_body laws n few xs e in record { written = body.0; taken = body.1; few = λ same. absurd (false≢true same) }) ready
-
-pub column_potential_step : NumberLaws → (f : Fields) (earlier : List Item) → fits f DimensionKey ≡ true → fits f ColumnPotentialPart ≡ true → Ready f ColumnPotentialPart earlier → Step f (text_of_field f) ColumnPotentialPart earlier
-column_potential_step laws f earlier one fit ready =
-    part_step laws f ColumnPotentialPart f.column_potentials (is_by_node (is_within most_potential)) (by_node whole_number) (λ numbers. flat_map number_entry (enumerate_from 1 numbers)) earlier refl refl refl
-    (record { part = refl; once = refl; no_value = refl; no_comment = refl; no_other = refl; no_dimension = refl; no_tours = refl }) one fit
-    (λ n few xs e. let body = potentials_body laws n few xs e in record { written = body.0; taken = body.1; few = λ same. absurd (false≢true same) }) ready
-
--- ---- tours, which ask for no DIMENSION
-
-tours_by : NumberLaws → (f : Fields) (o : Option (List (List ℕ))) (earlier : List Item) → text_of_field f TourPart ≡ optional (λ tours. section TourPart (flat_map node_list tours)) o
-    → value_of f TourPart ≡ option_map no_value_of o → words_written f TourPart ≡ if_written (λ tours. flat_map tour_words tours) o → if_there are_tours o ≡ true
-    → Ready f TourPart earlier → Step f (text_of_field f) TourPart earlier
-tours_by laws f None earlier text_is value_is words_are fit ready = missing f (text_of_field f) TourPart earlier ready text_is refl value_is words_are refl refl
-tours_by laws f (Some tours) earlier text_is value_is words_are fit ready =
-    let both = and_parts (list_all is_tour tours) (nat_le (sum_by length tours) most_tour_nodes) fit in
-    section_step f (text_of_field f) TourPart (flat_map node_list tours) (flat_map tour_words tours) (nodes_of earlier) earlier ready refl text_is (tour_lines_written tours both.0) refl value_is words_are
-    refl refl refl (tour_row earlier (no_line_yet f TourPart earlier ready refl)) refl
-    (tours_taken laws (nodes_of earlier) [] tours (omega (arith, leb-true (sum_by length tours) most_tour_nodes both.1)) both.0)
-
-pub tour_step : NumberLaws → (f : Fields) (earlier : List Item) → fits f TourPart ≡ true → Ready f TourPart earlier → Step f (text_of_field f) TourPart earlier
-tour_step laws f earlier fit ready = tours_by laws f f.tours earlier refl refl refl fit ready
+pub section_step : NumberLaws → (f : Fields) → ((g : Field) → fits f g ≡ true) → (field : Field) (shape : Shape) → shape_of field ≡ Some shape → (earlier : List Item) → Ready f field earlier
+    → Step f (text_of_field f) field earlier
+section_step laws f valid field shape e earlier ready = step_of laws f field shape (entries_in f field shape) earlier (valid DimensionKey) (is_section f valid field shape e) ready

@@ -1,6 +1,6 @@
 -- The sections of a valid file, one after the other: the text of each is read as the words that were written.
-use Rattle.std.proofs.Common.{◌≡◌, ℕ, ◌+◌, ◌^◌, ◌<◌, ◌≤◌, Bool, true, false, cond, List, [], ◌∷◌, length, refl, ap, subst, ◌∙◌, arith, Option, Some, None, Result}
-use Rattle.std.specs.Prelude.{ℤ, pos, negsuc, not, nat_le, nat_abs, is_some, unwrap_or, unsigned_abs, neg_ℤ}
+use Rattle.std.proofs.Common.{◌≡◌, ℕ, ◌+◌, ◌≤◌, Bool, true, false, cond, List, [], ◌∷◌, length, refl, ap, subst, ◌∙◌, arith, Option, Some, None, Result}
+use Rattle.std.specs.Prelude.{ℤ, pos, not, nat_le, nat_abs, is_some, unwrap_or}
 use Rattle.std.specs.Option.{option_map, option_and_then}
 use Rattle.std.specs.Result.{result_ok}
 use Rattle.std.specs.List.{list_all, prefix_len}
@@ -12,9 +12,9 @@ use Rattle.tsp_number.specs.Reading.{whole_of}
 use Rattle.tsp_value.specs.declared.field.Field.{Field}
 use Rattle.tsp_value.specs.declared.field.Field.TheVariants.{DimensionKey}
 use Rattle.tsp_value.specs.Bytes.{is_blank}
-use Rattle.tsp_value.specs.Limits.{most_nodes, most_demand, most_potential}
+use Rattle.tsp_value.specs.Limits.{most_nodes}
 use Rattle.tsp_fields.specs.Fields.{Fields}
-use Rattle.tsp_fields.specs.Validity.{with_dimension, if_there, is_node, is_from_to}
+use Rattle.tsp_fields.specs.Validity.{with_dimension, if_there, is_node}
 use Rattle.tsp_items.specs.Lines.{first_word}
 use Rattle.tsp_items.specs.Items.{Item}
 use Rattle.tsp_items.specs.Earlier.{has_line, value_at}
@@ -22,9 +22,8 @@ use Rattle.tsp_items.specs.Values.{read_as}
 use Rattle.tsp_items.specs.Sections.{nodes_of}
 use Rattle.tsp_items.specs.Rows.{may_repeat}
 use Rattle.tsp_round.proofs.Text.{is_plain_word, unblank}
-use Rattle.tsp_round.proofs.Numbers.{NumberLaws, decimal_plain, size_in}
+use Rattle.tsp_round.proofs.Numbers.{NumberLaws, decimal_plain}
 use Rattle.tsp_round.proofs.Onto.{has_value}
-use Rattle.tsp_round.proofs.Groups.{AreSmall}
 use Rattle.tsp_round.proofs.Stages.{Ready}
 
 -- ---- DIMENSION
@@ -77,15 +76,3 @@ has_nodes laws f fits x earlier written one e =
 
 pub no_line_yet : (f : Fields) (field : Field) (earlier : List Item) → Ready f field earlier → may_repeat field ≡ false → has_line field earlier ≡ false
 no_line_yet f field earlier ready once = has_value field earlier ∙ ap (λ (v : Option (List ℕ)). is_some v) (ready.unseen once)
-
--- ---- ranges of numbers that can be written
-
-pub small_demands : AreSmall (pos 0) (pos most_demand)
-small_demands z inside = demand_size z inside
-  where
-    demand_size : (z : ℤ) → is_from_to (pos 0) (pos most_demand) z ≡ true → unsigned_abs z < 2 ^ 63
-    demand_size (pos k) inside = omega (arith, leb-true k most_demand (and_parts (nat_le 0 k) (nat_le k most_demand) inside).1)
-    demand_size (negsuc k) inside = absurd (false≢true inside)
-
-pub small_potentials : AreSmall (neg_ℤ (pos most_potential)) (pos most_potential)
-small_potentials z inside = omega (arith, size_in most_potential z inside)

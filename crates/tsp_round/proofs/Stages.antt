@@ -1,16 +1,17 @@
 -- A text by fields: what the items read so far say of each field, while the texts of the fields come one after the other.
-use Rattle.std.proofs.Common.{◌≡◌, ℕ, Bool, true, false, cond, List, [], ◌∷◌, ◌++◌, map, refl, sym, ap, subst, ◌∙◌, Option, Some, None}
-use Rattle.std.specs.Prelude.{not, ◌&&◌, ◌||◌, codes}
-use Rattle.std.specs.Option.{option_map}
-use Rattle.std.specs.List.{list_any, flat_map, enumerate_from}
+use Rattle.std.proofs.Common.{◌≡◌, ℕ, Bool, true, false, cond, List, [], ◌∷◌, ◌++◌, refl, sym, ap, subst, ◌∙◌, Option, Some, None}
+use Rattle.std.specs.Prelude.{not, ◌&&◌, ◌||◌}
+use Rattle.std.specs.Option.{option_map, option_map_or}
+use Rattle.std.specs.List.{find, list_any, flat_map}
 use Rattle.std.specs.Fmt.{decimal, signed_decimal}
+use Rattle.std.proofs.lemmas.Option.{none-some}
 use Rattle.std.proofs.lemmas.Bool.{and_parts, or_parts, or_from, not-true, true≢false}
 use Rattle.tsp_value.specs.declared.field.Field.{Field}
-use Rattle.tsp_value.specs.declared.field.Field.TheVariants.{NameKey, TypeKey, CommentKey, OtherKey, DimensionKey, CapacityKey, ScaleKey, EdgeWeightTypeKey, EdgeWeightFormatKey, NodeCoordTypeKey, DisplayDataTypeKey, NodeCoordPart, DisplayDataPart, DemandPart, DepotPart, FixedEdgesPart, EdgeWeightPart, TourPart, NodePotentialPart, RowPotentialPart, ColumnPotentialPart}
-use Rattle.tsp_value.specs.Words.{kind_word, weight_kind_word, weight_format_word, coord_kind_word, display_kind_word, fields_in_order}
-use Rattle.tsp_fields.specs.Fields.{Fields}
+use Rattle.tsp_value.specs.declared.field.Field.TheVariants.{NameKey, TypeKey, CommentKey, OtherKey, DimensionKey, CapacityKey, ScaleKey, EdgeWeightTypeKey, EdgeWeightFormatKey, NodeCoordTypeKey, DisplayDataTypeKey}
+use Rattle.tsp_value.specs.Words.{kind_word, weight_kind_word, weight_format_word, coord_kind_word, display_kind_word, fields_in_order, field_found}
+use Rattle.tsp_fields.specs.Fields.{Fields, stands_in}
 use Rattle.tsp_items.specs.Items.{Item, has_end_line, is_end_line}
-use Rattle.tsp_value.specs.Shapes.{is_section_field}
+use Rattle.tsp_value.specs.Shapes.{shape_of, is_section_field}
 use Rattle.tsp_items.specs.Earlier.{same_field, value_at, values_at, others_in, words_of}
 use Rattle.tsp_items.specs.Rows.{may_repeat}
 use Rattle.tsp_items.specs.FirstFault.{IsClean}
@@ -18,12 +19,13 @@ use Rattle.tsp_read.proofs.ValidSections.{same_field_is}
 use Rattle.tsp_read.proofs.WordSteps.{same_self}
 use Rattle.tsp_round.proofs.Text.{Writes, nothing_written, both_written}
 use Rattle.tsp_round.proofs.Onto.{onto, onto-append}
-use Rattle.tsp_round.proofs.Lists.{pair_words}
-use Rattle.tsp_round.proofs.Groups.{number_entry}
-use Rattle.tsp_round.proofs.Points.{point_entry}
-use Rattle.tsp_round.proofs.Tours.{tour_words}
+use Rattle.tsp_round.proofs.Shapes.{entries_in, words_for}
 
 -- ---- what is written of a field
+
+-- the empty value of a line that stands
+abbrev pub empty_line : Bool → Option (List ℕ)
+empty_line there = cond there (Some []) None
 
 -- the value of the field's line; a section's line has an empty one, and comments and unknown keywords have lines of their own
 abbrev pub value_of : Fields → Field → Option (List ℕ)
@@ -38,16 +40,7 @@ value_of f EdgeWeightTypeKey = option_map weight_kind_word f.weight_kind
 value_of f EdgeWeightFormatKey = option_map weight_format_word f.weight_format
 value_of f NodeCoordTypeKey = option_map coord_kind_word f.coord_kind
 value_of f DisplayDataTypeKey = option_map display_kind_word f.display_kind
-value_of f NodeCoordPart = option_map (λ points. []) f.coords
-value_of f DisplayDataPart = option_map (λ points. []) f.display
-value_of f DemandPart = option_map (λ demands. []) f.demands
-value_of f DepotPart = option_map (λ depots. []) f.depots
-value_of f FixedEdgesPart = option_map (λ pairs. []) f.fixed
-value_of f EdgeWeightPart = option_map (λ weights. []) f.weights
-value_of f TourPart = option_map (λ tours. []) f.tours
-value_of f NodePotentialPart = option_map (λ numbers. []) f.node_potentials
-value_of f RowPotentialPart = option_map (λ numbers. []) f.row_potentials
-value_of f ColumnPotentialPart = option_map (λ numbers. []) f.column_potentials
+value_of f field = empty_line (stands_in f field)
 
 abbrev pub if_written : {A : Type 0} → (A → List (List ℕ)) → Option A → List (List ℕ)
 if_written words None = []
@@ -55,17 +48,7 @@ if_written words (Some value) = words value
 
 -- the words of the field's section
 abbrev pub words_written : Fields → Field → List (List ℕ)
-words_written f NodeCoordPart = if_written (λ points. flat_map point_entry (enumerate_from 1 points)) f.coords
-words_written f DisplayDataPart = if_written (λ points. flat_map point_entry (enumerate_from 1 points)) f.display
-words_written f DemandPart = if_written (λ demands. flat_map number_entry (enumerate_from 1 demands)) f.demands
-words_written f DepotPart = if_written (λ depots. map decimal depots ++ codes "-1" ∷ []) f.depots
-words_written f FixedEdgesPart = if_written (λ pairs. flat_map pair_words pairs ++ codes "-1" ∷ []) f.fixed
-words_written f EdgeWeightPart = if_written (λ weights. map signed_decimal weights) f.weights
-words_written f TourPart = if_written (λ tours. flat_map tour_words tours) f.tours
-words_written f NodePotentialPart = if_written (λ numbers. flat_map number_entry (enumerate_from 1 numbers)) f.node_potentials
-words_written f RowPotentialPart = if_written (λ numbers. flat_map number_entry (enumerate_from 1 numbers)) f.row_potentials
-words_written f ColumnPotentialPart = if_written (λ numbers. flat_map number_entry (enumerate_from 1 numbers)) f.column_potentials
-words_written f field = []
+words_written f field = option_map_or (λ shape. if_written (words_for shape) (entries_in f field shape)) (shape_of field) []
 
 -- ---- stages
 
@@ -177,29 +160,17 @@ all_fields f text each (field ∷ left) ordered earlier stage =
       stage = subst (λ (items : List Item). Stage f [] items) (sym (onto-append step.items rest.items earlier)) rest.stage;
     }
 
+one_passes : {A : Type 0} (passes later : Bool) (x first : A) (rest : Option A) → cond passes (Some first) rest ≡ Some x → (rest ≡ Some x → later ≡ true) → (passes || later) ≡ true
+one_passes true later x first rest e more = refl
+one_passes false later x first rest e more = more e
+
+any_found : {A : Type 0} (test : A → Bool) (xs : List A) (x : A) → find test xs ≡ Some x → list_any test xs ≡ true
+any_found test [] x e = absurd (none-some x e)
+any_found test (y ∷ ys) x e = one_passes (test y) (list_any test ys) x y (find test ys) e (any_found test ys x)
+
 -- before the first field's text, all are left
 all_left : (g : Field) → is_left g fields_in_order ≡ true
-all_left NameKey = refl
-all_left TypeKey = refl
-all_left CommentKey = refl
-all_left OtherKey = refl
-all_left DimensionKey = refl
-all_left CapacityKey = refl
-all_left ScaleKey = refl
-all_left EdgeWeightTypeKey = refl
-all_left EdgeWeightFormatKey = refl
-all_left NodeCoordTypeKey = refl
-all_left DisplayDataTypeKey = refl
-all_left NodeCoordPart = refl
-all_left DisplayDataPart = refl
-all_left DemandPart = refl
-all_left DepotPart = refl
-all_left FixedEdgesPart = refl
-all_left EdgeWeightPart = refl
-all_left TourPart = refl
-all_left NodePotentialPart = refl
-all_left RowPotentialPart = refl
-all_left ColumnPotentialPart = refl
+all_left g = any_found (same_field g) fields_in_order g (field_found g)
 
 pub first_stage : (f : Fields) → Stage f fields_in_order []
 first_stage f = record {

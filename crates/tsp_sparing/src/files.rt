@@ -80,6 +80,7 @@ fn has_no_sections(file: &File) -> bool {
         && file.node_potentials().is_none()
         && file.row_potentials().is_none()
         && file.column_potentials().is_none()
+        && file.fixed_potentials().is_none()
 }
 
 /// A matrix of one node without its diagonal is an instance.

@@ -2,8 +2,8 @@
 
 use tsp_bound::{Duals, Multipliers, Potentials};
 use tsp_number::{
-    Decimal, NumberFault, Point, att, ceil_2d, euc_2d, front_decimal, front_whole, man_2d, max_2d,
-    parse_decimal, parse_whole, write_decimal,
+    Decimal, InSpace, NumberFault, PlanePoint, att, ceil_2d, euc_2d, front_decimal, front_whole,
+    man_2d, max_2d, parse_decimal, parse_whole, write_decimal,
 };
 use tsp_stream::Watched;
 use tsp_value::Layout;
@@ -35,7 +35,10 @@ fn are_distances() -> bool {
     ) else {
         return false;
     };
-    let ends = [Point { x: zero, y: zero }, Point { x: three, y: four }];
+    let ends = [
+        PlanePoint { x: zero, y: zero }.in_space(),
+        PlanePoint { x: three, y: four }.in_space(),
+    ];
     euc_2d(ends[0], ends[1]) == 5
         && ceil_2d(ends[0], ends[1]) == 5
         && att(ends[0], ends[1]) == 2

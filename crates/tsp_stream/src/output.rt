@@ -1,11 +1,13 @@
 //! The way of a text to a writer.
 
-ghost use Rattle.std.specs.Prelude.{◌≡◌, List, ℕ, true, false};
-ghost use Rattle.tsp_stream.specs.Watched.{has_failed};
+ghost use Rattle.std.specs.Prelude.{◌≡◌, ◌≤◌, ◌<◌, List, ℕ, true, false, length, take};
+ghost use Rattle.std.specs.Io.KnownBytes.{Appends};
+ghost use Rattle.tsp_stream.specs.Watched.{watched, has_failed};
 ghost use Rattle.tsp_stream.specs.Sink.{sink_of, HasWritten, HasStopped, Writes};
 
 use crate::watched::Watched;
-use std::io::Write;
+use std::io;
+use std::io::{ErrorKind, Write};
 use thiserror::Error;
 
 /// Why a text could not be written.
@@ -33,15 +35,33 @@ pub fn send<W: Write>(out: &mut Watched<W>, text: &[u8])
     }
     let mut rest = text;
     'parts: while !rest.is_empty() {
-        let count = match out.write(rest) {
-            Err(_) => return,
-            Ok(count) => count,
-        };
+        let count = send_part(out, rest);
         if count == 0 {
             return;
         }
         let (_, left) = rest.split_at(count);
         rest = left;
+    }
+}
+
+/// Sends what the writer takes at once of a text, and says how many bytes that is: none where it
+/// fails, which the writer then remembers, with what the system says of it.
+fn send_part<W: Write>(out: &mut Watched<W>, text: &[u8]) -> usize
+    ensures part { result ≤ length text.now }
+    ensures bytes { Appends (W.contents (watched out.old)) (W.contents (watched out.new)) (take result text.now) }
+    ensures sound { 0 < result → has_failed out.new ≡ has_failed out.old }
+    ensures failed { result ≡ 0 → 0 < length text.now → has_failed out.new ≡ true }
+{
+    match out.write(text) {
+        Err(error) => {
+            out.keep_error(error);
+            0
+        }
+        Ok(0) => {
+            out.keep_error(io::Error::from(ErrorKind::WriteZero));
+            0
+        }
+        Ok(count) => count,
     }
 }
 

@@ -17,6 +17,8 @@ use std::io::{Read, Write};
 pub struct Watched<T> {
     inner: T,
     failed: bool,
+    /// What the system said of the failure, where a caller has kept it.
+    error: Option<io::Error>,
 }
 
 impl<T> Watched<T> {
@@ -28,6 +30,7 @@ impl<T> Watched<T> {
         Watched {
             inner,
             failed: false,
+            error: None,
         }
     }
 
@@ -42,8 +45,27 @@ impl<T> Watched<T> {
     pub fn into_inner(self) -> T
         ensures { result ≡ watched self }
     {
-        let Watched { inner, failed: _ } = self;
+        let Watched {
+            inner,
+            failed: _,
+            error,
+        } = self;
+        drop(error);
         inner
+    }
+
+    /// What the system said of the failure that ended a text; nothing where none was kept.
+    pub fn error(&self) -> Option<&io::Error> {
+        self.error.as_ref()
+    }
+
+    /// Keeps what the system said of a failure, for a person. Nothing else of the reader or writer
+    /// is changed.
+    pub fn keep_error(&mut self, error: io::Error)
+        ensures inner { watched self.new ≡ watched self.old }
+        ensures failed { has_failed self.new ≡ has_failed self.old }
+    {
+        self.error = Some(error);
     }
 
     /// Hands on what a call of the inner value answered, as it is, and remembers a failure: an

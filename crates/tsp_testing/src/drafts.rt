@@ -2,8 +2,8 @@
 
 use std::alloc::{AllocError, Global};
 use std::test::Fail;
-use tsp_fields::{Draft, DraftFault, EndFault, File};
-use tsp_number::{Decimal, Point};
+use tsp_fields::{Coords, Draft, DraftFault, EndFault, File};
+use tsp_number::{Decimal, PlanePoint};
 use tsp_value::{CoordKind, DisplayKind, Field, Kind, Layout, WeightFormat, WeightKind};
 
 /// A file of tours without any.
@@ -50,15 +50,15 @@ pub fn four_nodes(alloc: Global, layout: Layout, count: u8) -> Result<Draft, All
     Ok(draft)
 }
 
-/// Points whose coordinates are given as counts of halves.
-pub fn points(alloc: Global, halves: &[(i64, i64)]) -> Result<Vec<Point>, Fail> {
+/// Points of the plane whose coordinates are given as counts of halves.
+pub fn points(alloc: Global, halves: &[(i64, i64)]) -> Result<Coords, Fail> {
     let mut points = Vec::new(alloc);
     for (x, y) in halves {
         let x = Decimal::of_count(i128::from(*x) * 500_000_000).ok_or("no decimal")?;
         let y = Decimal::of_count(i128::from(*y) * 500_000_000).ok_or("no decimal")?;
-        points.push(Point { x, y })?;
+        points.push(PlanePoint { x, y })?;
     }
-    Ok(points)
+    Ok(Coords::Plane(points))
 }
 
 /// The rectangle with the sides 3 and 4 as a CVRP, with every field set.
@@ -86,6 +86,7 @@ pub fn rectangle(alloc: Global) -> Result<Draft, Fail> {
     draft.node_potentials = Some(Vec::from_slice(alloc, &[3i64, -3, 0, 0])?);
     draft.row_potentials = Some(Vec::from_slice(alloc, &[4i64, -4, 0, 0])?);
     draft.column_potentials = Some(Vec::from_slice(alloc, &[5i64, -5, 0, 0])?);
+    draft.fixed_potentials = Some(Vec::from_slice(alloc, &[(1u32, 2u32, 6i64), (3, 4, 0)])?);
     Ok(draft)
 }
 

@@ -1,6 +1,5 @@
 //! Which drafts are files, and what a file lends.
 
 mod lends;
-mod limits;
 mod relayout;
 mod rules;

@@ -38,70 +38,47 @@ fn a_text_goes_out_in_parts_until_the_writer_fails(rt: HostRuntime) {
 }
 
 #[test]
-fn an_empty_text_is_no_call(rt: HostRuntime) {
+fn an_empty_text_is_no_call_and_a_failed_writer_gets_nothing(rt: HostRuntime) {
     let mut out = Watched::new(Drip::new(rt.alloc(), 1, 0, Refusal::Nothing));
     same(&rt, write_text(&mut out, b""), Ok(()));
     send(&mut out, b"");
     holds(&rt, !out.failed());
-    same(&rt, out.into_inner().calls(), 0);
-}
-
-#[test]
-fn a_writer_that_had_failed_gets_nothing(rt: HostRuntime) {
+    same(&rt, outcome(out.write(b"x")), Ok(0));
     for text in [b"".as_slice(), b"abc".as_slice()] {
-        let mut out = Watched::new(Drip::new(rt.alloc(), 1, 0, Refusal::Nothing));
-        same(&rt, outcome(out.write(b"x")), Ok(0));
         same(&rt, write_text(&mut out, text), Err(WriteFault::Device));
         send(&mut out, text);
         let mut piece = Piece::new();
         put(&mut piece, &mut out, text);
         hand_over(&mut piece, &mut out);
-        holds(&rt, out.failed());
-        same(&rt, out.into_inner().calls(), 1);
     }
+    holds(&rt, out.failed());
+    same(&rt, out.into_inner().calls(), 1);
 }
 
 #[test]
-fn a_long_text_is_one_call_where_the_writer_takes_it(rt: HostRuntime) -> Result<(), Fail> {
-    let text = vec![in rt.alloc(); b'x'; 100_000]?;
-    let mut out = Watched::new(Drip::sound(rt.alloc()));
-    same(&rt, write_text(&mut out, text.as_slice()), Ok(()));
-    let drip = out.into_inner();
-    same(&rt, drip.held(), text.as_slice());
-    same(&rt, drip.calls(), 1);
-    Ok(())
-}
-
-#[test]
-fn small_texts_wait_until_they_are_handed_over(rt: HostRuntime) {
+fn small_texts_wait_and_long_ones_go_out_as_they_are(rt: HostRuntime) -> Result<(), Fail> {
+    let long = vec![in rt.alloc(); b'x'; PIECE + 1]?;
+    let small = b"a7 -1000000000000\n".as_slice();
+    let mut wanted = Vec::from_slice(rt.alloc(), small)?;
+    wanted.extend_from_slice(long.as_slice())?;
+    wanted.extend_from_slice(long.as_slice())?;
     let mut out = Watched::new(Drip::sound(rt.alloc()));
     let mut piece = Piece::new();
     put(&mut piece, &mut out, b"a");
     put_number(&mut piece, &mut out, 7u32);
     put_next_number(&mut piece, &mut out, -1_000_000_000_000i64);
     put(&mut piece, &mut out, b"\n");
-    same(&rt, piece.as_slice(), b"a7 -1000000000000\n".as_slice());
-    hand_over(&mut piece, &mut out);
-    holds(&rt, piece.as_slice().is_empty());
-    let drip = out.into_inner();
-    same(&rt, drip.held(), b"a7 -1000000000000\n".as_slice());
-    same(&rt, drip.calls(), 1);
-}
-
-#[test]
-fn a_text_longer_than_a_piece_goes_out_as_it_is(rt: HostRuntime) -> Result<(), Fail> {
-    let long = vec![in rt.alloc(); b'x'; PIECE + 1]?;
-    let mut wanted = Vec::from_slice(rt.alloc(), b"a")?;
-    wanted.extend_from_slice(long.as_slice())?;
-    let mut out = Watched::new(Drip::sound(rt.alloc()));
-    let mut piece = Piece::new();
-    put(&mut piece, &mut out, b"a");
+    same(&rt, piece.as_slice(), small);
     put(&mut piece, &mut out, long.as_slice());
     holds(&rt, piece.as_slice().is_empty());
+    same(&rt, write_text(&mut out, long.as_slice()), Ok(()));
     put(&mut piece, &mut out, b"b");
+    same(&rt, piece.as_slice(), b"b".as_slice());
+    hand_over(&mut piece, &mut out);
+    holds(&rt, piece.as_slice().is_empty());
+    wanted.push(b'b')?;
     let drip = out.into_inner();
     same(&rt, drip.held(), wanted.as_slice());
-    same(&rt, drip.calls(), 2);
-    same(&rt, piece.as_slice(), b"b".as_slice());
+    same(&rt, drip.calls(), 4);
     Ok(())
 }

@@ -187,6 +187,16 @@ fn reasons_have_their_rule_where_no_file_is_seen(rt: HostRuntime) -> Result<(), 
     )?;
     explains_unseen(
         &rt,
+        Reason::MultiplierNotFixed { index: 1 },
+        "  a.tour:\n  A multiplier of FIXED_EDGE_POTENTIAL_SECTION is on a pair of FIXED_EDGES_SECTION of the instance, in either direction.\n  Other pairs need not be in a tour, so a multiplier on one bounds nothing.\n",
+    )?;
+    explains_unseen(
+        &rt,
+        Reason::MultiplierRepeated { index: 2 },
+        "  a.tour:\n  FIXED_EDGE_POTENTIAL_SECTION has at most one multiplier for each pair, whichever node stands first.\n",
+    )?;
+    explains_unseen(
+        &rt,
         Reason::DualInfeasible { i: 1, j: 2 },
         "  a.tour:\n  The potentials of a row and a column may sum to at most SCALE times the cost from the one node to the other.\n  Here they sum to more, so they bound nothing.\n",
     )?;

@@ -7,6 +7,7 @@
 ghost use Rattle.tsp_command.specs.Source.{IsSourceOf};
 
 use std::fs::File;
+use std::io::IsTerminal;
 use std::process::ExitCode;
 use std::rt::Stdin;
 use std::{env, fs, io};
@@ -14,6 +15,8 @@ use tsp_command::{Open, Place, Source, Watched, run, tell_unread};
 
 fn main(rt: HostRuntime) -> ExitCode {
     let mut out = Watched::new(rt.stdout());
+    let mut errors = rt.stderr();
+    let on_terminal = errors.is_terminal();
     // Where the reason can't be written, the status alone tells it.
     let (status, _) = match words_of_line(&rt) {
         Ok(line) => run(
@@ -21,9 +24,10 @@ fn main(rt: HostRuntime) -> ExitCode {
             &line,
             &Host { rt: &rt },
             &mut out,
-            &mut rt.stderr(),
+            &mut errors,
+            on_terminal,
         ),
-        Err(error) => tell_unread(rt.alloc(), &error, &mut rt.stderr()),
+        Err(error) => tell_unread(rt.alloc(), &error, &mut errors),
     };
     ExitCode::from(status)
 }

@@ -7,3 +7,4 @@ pub mod Limits
 pub mod Place
 pub mod Words
 pub mod Shapes
+pub mod Examples

@@ -54,6 +54,14 @@ most_depots = 100000
 abbrev pub most_fixed : ℕ
 most_fixed = 100000
 
+-- multipliers of fixed edges
+abbrev pub most_multipliers : ℕ
+most_multipliers = 100000
+
+-- the largest multiplier
+abbrev pub most_multiplier : ℕ
+most_multiplier = 1000000000000000
+
 -- nodes of all tours of a file
 abbrev pub most_tour_nodes : ℕ
 most_tour_nodes = 1000000

@@ -70,6 +70,7 @@ field_word field.TourPart = codes "TOUR_SECTION"
 field_word field.NodePotentialPart = codes "NODE_POTENTIAL_SECTION"
 field_word field.RowPotentialPart = codes "ROW_POTENTIAL_SECTION"
 field_word field.ColumnPotentialPart = codes "COLUMN_POTENTIAL_SECTION"
+field_word field.FixedPotentialPart = codes "FIXED_EDGE_POTENTIAL_SECTION"
 
 -- ---- all values, each the first with its own word
 
@@ -150,7 +151,7 @@ display_kind_found display_kind.NoDisplay = refl
 
 -- the fields in canonical order
 abbrev pub fields_in_order : List Field
-fields_in_order = field.NameKey ∷ field.TypeKey ∷ field.CommentKey ∷ field.OtherKey ∷ field.DimensionKey ∷ field.CapacityKey ∷ field.ScaleKey ∷ field.EdgeWeightTypeKey ∷ field.EdgeWeightFormatKey ∷ field.NodeCoordTypeKey ∷ field.DisplayDataTypeKey ∷ field.NodeCoordPart ∷ field.DisplayDataPart ∷ field.DemandPart ∷ field.DepotPart ∷ field.FixedEdgesPart ∷ field.EdgeWeightPart ∷ field.TourPart ∷ field.NodePotentialPart ∷ field.RowPotentialPart ∷ field.ColumnPotentialPart ∷ []
+fields_in_order = field.NameKey ∷ field.TypeKey ∷ field.CommentKey ∷ field.OtherKey ∷ field.DimensionKey ∷ field.CapacityKey ∷ field.ScaleKey ∷ field.EdgeWeightTypeKey ∷ field.EdgeWeightFormatKey ∷ field.NodeCoordTypeKey ∷ field.DisplayDataTypeKey ∷ field.NodeCoordPart ∷ field.DisplayDataPart ∷ field.DemandPart ∷ field.DepotPart ∷ field.FixedEdgesPart ∷ field.EdgeWeightPart ∷ field.TourPart ∷ field.NodePotentialPart ∷ field.RowPotentialPart ∷ field.ColumnPotentialPart ∷ field.FixedPotentialPart ∷ []
 
 pub field_found : (value : Field) → IsFound field_word fields_in_order value
 field_found field.NameKey = refl
@@ -174,3 +175,4 @@ field_found field.TourPart = refl
 field_found field.NodePotentialPart = refl
 field_found field.RowPotentialPart = refl
 field_found field.ColumnPotentialPart = refl
+field_found field.FixedPotentialPart = refl

@@ -34,6 +34,7 @@ pub enum Field {
     NodePotentialPart,
     RowPotentialPart,
     ColumnPotentialPart,
+    FixedPotentialPart,
 }
 
 /// What the words of a section are.
@@ -51,11 +52,13 @@ pub enum Shape {
     Weights,
     /// Runs of nodes, each up to a -1.
     Tours,
+    /// Pairs of nodes with a number each, up to a -1.
+    Triples,
 }
 
 impl Field {
     /// Each field, in canonical order.
-    pub const ALL: [Field; 21] = [
+    pub const ALL: [Field; 22] = [
         Field::NameKey,
         Field::TypeKey,
         Field::CommentKey,
@@ -77,6 +80,7 @@ impl Field {
         Field::NodePotentialPart,
         Field::RowPotentialPart,
         Field::ColumnPotentialPart,
+        Field::FixedPotentialPart,
     ];
 
     /// What the words of a section are; nothing of a keyword.
@@ -99,6 +103,7 @@ impl Field {
                     high: MOST_POTENTIAL,
                 })
             }
+            Field::FixedPotentialPart => Some(Shape::Triples),
             _ => None,
         }
     }
@@ -138,6 +143,7 @@ impl Word for Field {
             Field::NodePotentialPart => "NODE_POTENTIAL_SECTION",
             Field::RowPotentialPart => "ROW_POTENTIAL_SECTION",
             Field::ColumnPotentialPart => "COLUMN_POTENTIAL_SECTION",
+            Field::FixedPotentialPart => "FIXED_EDGE_POTENTIAL_SECTION",
         }
     }
 }

@@ -2,6 +2,7 @@
 #![tactic(auto)]
 
 mod bytes;
+mod examples;
 mod field;
 mod keyword;
 mod kinds;
@@ -11,15 +12,19 @@ mod place;
 mod word;
 
 pub use bytes::{is_blank, is_keyword_byte, is_letter};
+pub use examples::{
+    examples_of_bytes, examples_of_cells, examples_of_fields, examples_of_limits,
+    examples_of_uneven_costs, examples_of_words,
+};
 pub use field::{Field, Shape};
 pub use keyword::Keyword;
 pub use kinds::{CoordKind, DisplayKind, Kind, WeightFormat, WeightKind};
 pub use layout::{Layout, cells_are_distinct, cells_are_the_listed_pairs, cells_go_line_by_line};
 pub use limits::{
     MOST_CAPACITY, MOST_COMMENTS, MOST_COORDINATE, MOST_DEMAND, MOST_DEPOTS, MOST_FILE_BYTES,
-    MOST_FIXED, MOST_KEPT_BYTES, MOST_LINE_BYTES, MOST_MATRIX_NODES, MOST_NODES, MOST_OTHERS,
-    MOST_POTENTIAL, MOST_SCALE, MOST_TOUR_NODES, MOST_WEIGHT, MOST_WORD_BYTES,
-    limits_are_those_of_the_profile,
+    MOST_FIXED, MOST_KEPT_BYTES, MOST_LINE_BYTES, MOST_MATRIX_NODES, MOST_MULTIPLIER,
+    MOST_MULTIPLIERS, MOST_NODES, MOST_OTHERS, MOST_POTENTIAL, MOST_SCALE, MOST_TOUR_NODES,
+    MOST_WEIGHT, MOST_WORD_BYTES, limits_are_those_of_the_profile,
 };
 pub use place::only_cells_have_places;
 pub use word::{Word, value_of};

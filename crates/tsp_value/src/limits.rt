@@ -1,8 +1,8 @@
 //! The limits of this project's profile of TSPLIB 95, each in this one place.
 
 ghost use Rattle.std.specs.Prelude.{◌≡◌, pos};
-ghost use Rattle.tsp_value.specs.declared.limits.TheConstants.{MOST_NODES, MOST_MATRIX_NODES, MOST_COORDINATE, MOST_WEIGHT, MOST_DEMAND, MOST_CAPACITY, MOST_SCALE, MOST_POTENTIAL, MOST_WORD_BYTES, MOST_LINE_BYTES, MOST_KEPT_BYTES, MOST_COMMENTS, MOST_OTHERS, MOST_DEPOTS, MOST_FIXED, MOST_TOUR_NODES, MOST_FILE_BYTES};
-ghost use Rattle.tsp_value.specs.Limits.{most_nodes, most_matrix_nodes, most_coordinate, most_weight, most_demand, most_capacity, most_scale, most_potential, most_word_bytes, most_line_bytes, most_kept_bytes, most_comments, most_others, most_depots, most_fixed, most_tour_nodes, most_file_bytes};
+ghost use Rattle.tsp_value.specs.declared.limits.TheConstants.{MOST_NODES, MOST_MATRIX_NODES, MOST_COORDINATE, MOST_WEIGHT, MOST_DEMAND, MOST_CAPACITY, MOST_SCALE, MOST_POTENTIAL, MOST_WORD_BYTES, MOST_LINE_BYTES, MOST_KEPT_BYTES, MOST_COMMENTS, MOST_OTHERS, MOST_DEPOTS, MOST_FIXED, MOST_MULTIPLIERS, MOST_MULTIPLIER, MOST_TOUR_NODES, MOST_FILE_BYTES};
+ghost use Rattle.tsp_value.specs.Limits.{most_nodes, most_matrix_nodes, most_coordinate, most_weight, most_demand, most_capacity, most_scale, most_potential, most_word_bytes, most_line_bytes, most_kept_bytes, most_comments, most_others, most_depots, most_fixed, most_multipliers, most_multiplier, most_tour_nodes, most_file_bytes};
 
 /// The most nodes of a file: DIMENSION is from 1 to this.
 pub const MOST_NODES: u32 = 100_000;
@@ -49,6 +49,12 @@ pub const MOST_DEPOTS: usize = 100_000;
 /// The most fixed pairs.
 pub const MOST_FIXED: usize = 100_000;
 
+/// The most multipliers of fixed edges.
+pub const MOST_MULTIPLIERS: usize = 100_000;
+
+/// The largest multiplier; the smallest is 0.
+pub const MOST_MULTIPLIER: i64 = 1_000_000_000_000_000;
+
 /// The most nodes of all tours of a file.
 pub const MOST_TOUR_NODES: usize = 1_000_000;
 
@@ -72,6 +78,8 @@ pub fn limits_are_those_of_the_profile()
     ensures others { MOST_OTHERS ≡ most_others }
     ensures depots { MOST_DEPOTS ≡ most_depots }
     ensures fixed { MOST_FIXED ≡ most_fixed }
+    ensures multipliers { MOST_MULTIPLIERS ≡ most_multipliers }
+    ensures multiplier { MOST_MULTIPLIER ≡ pos most_multiplier }
     ensures tour_nodes { MOST_TOUR_NODES ≡ most_tour_nodes }
     ensures file_bytes { MOST_FILE_BYTES ≡ most_file_bytes }
 {}

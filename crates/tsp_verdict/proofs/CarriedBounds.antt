@@ -17,8 +17,9 @@ use Rattle.tsp_bound.specs.NodeBound.{weight_between}
 use Rattle.tsp_bound.specs.Adjusted.{pair_of, numbers_on, adjusted, UsesEach, IsAdjustedBoundOf, IsAdjustedBound, AdjustedBoundsBoundWalks}
 use Rattle.tsp_bound.specs.Assignment.{AreGood, IsFirstBroken, IsDualBound, DualsBoundWalks}
 use Rattle.tsp_verdict.specs.declared.verdict.Reason.TheVariants.{DualInfeasible}
+use Rattle.tsp_verdict.specs.Multiplied.{AreListed}
 use Rattle.tsp_verdict.specs.Solution.{nodes_of, fixed_of}
-use Rattle.tsp_verdict.specs.Certificate.{scale_in, potentials_in, rows_in, columns_in, multipliers_in, StandsAgainst, IsBoundBy, UsesMultiplied, AreListed, IsCertified}
+use Rattle.tsp_verdict.specs.Certificate.{scale_in, potentials_in, rows_in, columns_in, multipliers_in, StandsAgainst, IsBoundBy, UsesMultiplied, IsCertified}
 
 abbrev pub Same : (ℕ → ℕ → ℤ) → (ℕ → ℕ → ℤ) → Type 0
 Same v w = (i j : ℕ) → v i j ≡ w i j

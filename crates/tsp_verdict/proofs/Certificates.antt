@@ -1,38 +1,95 @@
 -- Reasons against a certificate, ruled out one by one, and how they join those against the tour.
-use Rattle.std.proofs.Common.{◌≡◌, ℕ, ◌<◌, ◌≤◌, true, sym, ◌∙◌, arith, inl, inr}
-use Rattle.std.specs.Prelude.{◌⊎◌}
+use Rattle.std.proofs.Common.{◌≡◌, ℕ, ◌-◌, ◌<◌, ◌≤◌, true, false, List, Some, sym, subst, subst₂, ◌∙◌, arith, inl, inr}
+use Rattle.std.specs.Prelude.{◌⊎◌, ℤ, pos}
+use Rattle.std.specs.List.{All, AllPairs}
 use Rattle.std.proofs.lemmas.Bool.{false≢true}
 use Rattle.std.proofs.Math.Nat.{lt_of_not-le}
+use Rattle.tsp_value.specs.Cells.{IsNode}
+use Rattle.tsp_value.specs.declared.kinds.Kind.TheVariants as kinds
 use Rattle.tsp_fields.specs.Fields.{Fields}
 use Rattle.tsp_fields.specs.Rules.{is_certificate}
+use Rattle.tsp_bound.specs.Adjusted.{pair_of, is_same_pair, AreOnPairs}
 use Rattle.tsp_verdict.specs.declared.verdict.Reason.{Reason}
-use Rattle.tsp_verdict.specs.declared.verdict.Reason.TheVariants.{TooFewNodes, NotPotentials, PotentialsDimension, PotentialsKind, DualInfeasible, DepotCount, DepotDemand, FixedEdgesInRoutes, DepotInRoute, Unserved, Overload}
+use Rattle.tsp_verdict.specs.declared.verdict.Reason.TheVariants.{TooFewNodes, NotPotentials, PotentialsDimension, PotentialsKind, MultiplierNotFixed, MultiplierRepeated, DualInfeasible, DepotCount, DepotDemand, FixedEdgesInRoutes, DepotInRoute, Unserved, Overload}
+use Rattle.tsp_verdict.specs.Multiplied.{AreListed, IsUnlisted, IsPairRepeated, pair_at}
+use Rattle.tsp_verdict.specs.Places.{IsFirstPlace}
 use Rattle.tsp_verdict.specs.Reasons.{NoneBefore, IsFirstReason}
-use Rattle.tsp_verdict.specs.Solution.{nodes_of}
+use Rattle.tsp_verdict.specs.Solution.{nodes_of, fixed_of}
 use Rattle.tsp_verdict.specs.Tours.{rank_of}
 use Rattle.tsp_verdict.specs.Tours as tours
-use Rattle.tsp_verdict.specs.Certificate.{has_wanted, StandsAgainst}
+use Rattle.tsp_verdict.specs.Certificate.{has_wanted, multipliers_in, StandsAgainst}
 use Rattle.tsp_verdict.specs.Bounded as bounded
 
 -- ---- against the certificate alone
 
 -- what is known before a rank rules out the reasons before it
 pub none_before : (inst pot : Fields) (rank : ℕ) → (10 < rank → is_certificate pot.kind ≡ true) → (11 < rank → nodes_of pot ≡ nodes_of inst)
-    → (12 < rank → has_wanted inst.kind pot ≡ true) → (13 < rank → (i j : ℕ) → StandsAgainst inst pot (DualInfeasible i j) → ⊥) → NoneBefore (StandsAgainst inst pot) rank_of rank
-none_before inst pot rank sort size wanted good NotPotentials low stands = false≢true (sym stands ∙ sort low)
-none_before inst pot rank sort size wanted good PotentialsDimension low stands = stands (size low)
-none_before inst pot rank sort size wanted good PotentialsKind low stands = false≢true (sym stands ∙ wanted low)
-none_before inst pot rank sort size wanted good (DualInfeasible i j) low stands = good low i j stands
-none_before inst pot rank sort size wanted good reason low stands = stands
+    → (12 < rank → has_wanted inst.kind pot ≡ true) → (13 < rank → (index : ℕ) → StandsAgainst inst pot (MultiplierNotFixed index) → ⊥) → (14 < rank → (index : ℕ) → StandsAgainst inst pot (MultiplierRepeated index) → ⊥)
+    → (15 < rank → (i j : ℕ) → StandsAgainst inst pot (DualInfeasible i j) → ⊥) → NoneBefore (StandsAgainst inst pot) rank_of rank
+none_before inst pot rank sort size wanted fixed once good NotPotentials low stands = false≢true (sym stands ∙ sort low)
+none_before inst pot rank sort size wanted fixed once good PotentialsDimension low stands = stands (size low)
+none_before inst pot rank sort size wanted fixed once good PotentialsKind low stands = false≢true (sym stands ∙ wanted low)
+none_before inst pot rank sort size wanted fixed once good (MultiplierNotFixed index) low stands = fixed low index stands
+none_before inst pot rank sort size wanted fixed once good (MultiplierRepeated index) low stands = once low index stands
+none_before inst pot rank sort size wanted fixed once good (DualInfeasible i j) low stands = good low i j stands
+none_before inst pot rank sort size wanted fixed once good reason low stands = stands
 
--- all four are ruled out
+-- all six are ruled out
 pub none_stands : (inst pot : Fields) → is_certificate pot.kind ≡ true → nodes_of pot ≡ nodes_of inst → has_wanted inst.kind pot ≡ true
+    → ((index : ℕ) → StandsAgainst inst pot (MultiplierNotFixed index) → ⊥) → ((index : ℕ) → StandsAgainst inst pot (MultiplierRepeated index) → ⊥)
     → ((i j : ℕ) → StandsAgainst inst pot (DualInfeasible i j) → ⊥) → (reason : Reason) → StandsAgainst inst pot reason → ⊥
-none_stands inst pot sort size wanted good NotPotentials stands = false≢true (sym stands ∙ sort)
-none_stands inst pot sort size wanted good PotentialsDimension stands = stands size
-none_stands inst pot sort size wanted good PotentialsKind stands = false≢true (sym stands ∙ wanted)
-none_stands inst pot sort size wanted good (DualInfeasible i j) stands = good i j stands
-none_stands inst pot sort size wanted good reason stands = stands
+none_stands inst pot sort size wanted fixed once good NotPotentials stands = false≢true (sym stands ∙ sort)
+none_stands inst pot sort size wanted fixed once good PotentialsDimension stands = stands size
+none_stands inst pot sort size wanted fixed once good PotentialsKind stands = false≢true (sym stands ∙ wanted)
+none_stands inst pot sort size wanted fixed once good (MultiplierNotFixed index) stands = fixed index stands
+none_stands inst pot sort size wanted fixed once good (MultiplierRepeated index) stands = once index stands
+none_stands inst pot sort size wanted fixed once good (DualInfeasible i j) stands = good i j stands
+none_stands inst pot sort size wanted fixed once good reason stands = stands
+
+-- each multiplier is on a fixed pair
+pub none_unlisted : (inst pot : Fields) → AreListed (fixed_of inst) (multipliers_in pot) → (index : ℕ) → StandsAgainst inst pot (MultiplierNotFixed index) → ⊥
+none_unlisted inst pot listed index stands = stands.1.holds (listed (index - 1) (0, 0, pos 0) (omega (arith, stands.1.here.0, stands.1.here.1)))
+
+-- no two are on the same
+pub none_repeated : (n : ℕ) (inst pot : Fields) → AreOnPairs n (multipliers_in pot) → (index : ℕ) → StandsAgainst inst pot (MultiplierRepeated index) → ⊥
+none_repeated n inst pot are index stands =
+    let again = stands.1.holds in
+    let apart : is_same_pair (pair_at (multipliers_in pot) again.0) (pair_at (multipliers_in pot) index) ≡ false =
+    are.differ (again.0 - 1) (index - 1) (0, 0, pos 0) (omega (arith, again.1, again.2)) (omega (arith, stands.1.here.0, stands.1.here.1)) in
+    false≢true (sym apart ∙ again.3)
+
+-- the first multiplier that isn't on a fixed pair is the first reason
+pub not_fixed : (inst pot : Fields) (fixed : List (ℕ × ℕ)) (triples : List (ℕ × ℕ × ℤ)) (index : ℕ) → fixed ≡ fixed_of inst → triples ≡ multipliers_in pot → inst.kind ≡ Some kinds.Tsp → is_certificate pot.kind ≡ true
+    → nodes_of pot ≡ nodes_of inst → has_wanted (Some kinds.Tsp) pot ≡ true → IsFirstPlace (IsUnlisted fixed triples) triples index → IsFirstReason (StandsAgainst inst pot) rank_of (MultiplierNotFixed index)
+not_fixed inst pot fixed triples index fixed_are triples_are kind sort size wanted first = record {
+  stands = (kind, subst₂ (λ fs ts. IsFirstPlace (IsUnlisted fs ts) ts index) fixed_are triples_are first);
+  none_before = none_before inst pot 13 (λ low. sort) (λ low. size) (λ low. rw kind wanted) (λ low. absurd (omega (arith, low))) (λ low. absurd (omega (arith, low))) (λ low. absurd (omega (arith, low)));
+}
+
+-- where all are on fixed pairs, so is the first one on the pair of an earlier one
+pub repeats : (inst pot : Fields) (fixed : List (ℕ × ℕ)) (triples : List (ℕ × ℕ × ℤ)) (index : ℕ) → fixed ≡ fixed_of inst → triples ≡ multipliers_in pot → inst.kind ≡ Some kinds.Tsp → is_certificate pot.kind ≡ true
+    → nodes_of pot ≡ nodes_of inst → has_wanted (Some kinds.Tsp) pot ≡ true → AreListed fixed triples → IsFirstPlace (IsPairRepeated triples) triples index → IsFirstReason (StandsAgainst inst pot) rank_of (MultiplierRepeated index)
+repeats inst pot fixed triples index fixed_are triples_are kind sort size wanted listed first = record {
+  stands = (kind, subst (λ ts. IsFirstPlace (IsPairRepeated ts) ts index) triples_are first);
+  none_before = none_before inst pot 14 (λ low. sort) (λ low. size) (λ low. rw kind wanted) (λ low. none_unlisted inst pot (subst₂ (λ fs ts. AreListed fs ts) fixed_are triples_are listed)) (λ low. absurd (omega (arith, low))) (λ low. absurd (omega (arith, low)));
+}
+
+-- what is found where neither stands
+pub multiplied : (inst pot : Fields) (fixed : List (ℕ × ℕ)) (triples : List (ℕ × ℕ × ℤ)) → fixed ≡ fixed_of inst → triples ≡ multipliers_in pot → nodes_of pot ≡ nodes_of inst
+    → All (λ triple. IsNode (nodes_of pot) triple.0 × IsNode (nodes_of pot) triple.1) triples → AreListed fixed triples → AllPairs (λ s t. is_same_pair (pair_of s) (pair_of t) ≡ false) triples
+    → AreOnPairs (nodes_of inst) (multipliers_in pot) × AreListed (fixed_of inst) (multipliers_in pot)
+multiplied inst pot fixed triples fixed_are triples_are size nodes listed apart =
+    let on_pairs : AreOnPairs (nodes_of pot) triples = record { nodes = nodes; differ = apart } in
+    (subst₂ (λ n ts. AreOnPairs n ts) size triples_are on_pairs, subst₂ (λ fs ts. AreListed fs ts) fixed_are triples_are listed)
+
+-- no reason stands against a certificate of a TSP whose multipliers are on different fixed pairs
+pub none_of_tsp : (inst pot : Fields) → inst.kind ≡ Some kinds.Tsp → is_certificate pot.kind ≡ true → nodes_of pot ≡ nodes_of inst → has_wanted inst.kind pot ≡ true
+    → AreOnPairs (nodes_of inst) (multipliers_in pot) → AreListed (fixed_of inst) (multipliers_in pot) → (reason : Reason) → StandsAgainst inst pot reason → ⊥
+none_of_tsp inst pot kind sort size wanted on_pairs listed =
+    none_stands inst pot sort size wanted (none_unlisted inst pot listed) (none_repeated (nodes_of inst) inst pot on_pairs) (λ i j stands. other (sym kind ∙ stands.0))
+  where
+    other : Some kinds.Tsp ≡ Some kinds.Atsp → ⊥
+    other e = cc
 
 -- ---- with those against the tour
 
@@ -40,6 +97,8 @@ tour_rank : (inst sol : Fields) (reason : Reason) → tours.StandsAgainst inst s
 tour_rank inst sol NotPotentials stands = absurd stands
 tour_rank inst sol PotentialsDimension stands = absurd stands
 tour_rank inst sol PotentialsKind stands = absurd stands
+tour_rank inst sol (MultiplierNotFixed index) stands = absurd stands
+tour_rank inst sol (MultiplierRepeated index) stands = absurd stands
 tour_rank inst sol (DualInfeasible i j) stands = absurd stands
 tour_rank inst sol DepotCount stands = absurd stands
 tour_rank inst sol DepotDemand stands = absurd stands
@@ -53,6 +112,8 @@ certificate_rank : (inst pot : Fields) (reason : Reason) → StandsAgainst inst 
 certificate_rank inst pot NotPotentials stands = omega arith
 certificate_rank inst pot PotentialsDimension stands = omega arith
 certificate_rank inst pot PotentialsKind stands = omega arith
+certificate_rank inst pot (MultiplierNotFixed index) stands = omega arith
+certificate_rank inst pot (MultiplierRepeated index) stands = omega arith
 certificate_rank inst pot (DualInfeasible i j) stands = omega arith
 certificate_rank inst pot reason stands = absurd stands
 

@@ -1,6 +1,6 @@
 -- What valid files hold.
 use Rattle.std.proofs.Common.{◌≡◌, ℕ, suc, ◌≤◌, List, [], ◌∷◌, ◌++◌, length, map, Option, Some, refl, sym, ap, ◌∙◌, arith, length-append}
-use Rattle.std.specs.Prelude.{unwrap_or}
+use Rattle.std.specs.Prelude.{unwrap_or, ℤ}
 use Rattle.std.specs.Global.{Vec}
 use Rattle.std.specs.List.{All, AllByRecursion, concat, sum_by}
 use Rattle.std.proofs.lemmas.List.Elements.{All-from_recursion, recursion_from_All}
@@ -8,7 +8,8 @@ use Rattle.std.proofs.lemmas.List.Sums.{sum_by-cons}
 use Rattle.tsp_value.specs.Cells.{IsNode}
 use Rattle.tsp_value.specs.Limits.{most_nodes, most_tour_nodes}
 use Rattle.tsp_fields.specs.Fields.{Fields}
-use Rattle.tsp_fields.specs.Valid.{AreTours, AreDepots, IsNodeList}
+use Rattle.tsp_fields.specs.Valid.{AreTours, AreDepots, AreTriples, IsNodeList}
+use Rattle.tsp_bound.specs.Numbers.{AreMultipliers}
 use Rattle.tsp_verdict.specs.Solution.{nodes_of, tours_of, visited, nodes_in}
 use Rattle.tsp_verdict.proofs.Pieces.{nodes_in_is}
 
@@ -54,3 +55,15 @@ depots_in f depots held k d lt =
     let node = held.nodes k d lt in
     let same : nodes_of f ≡ held.n = ap (λ (o : Option ℕ). unwrap_or o 0) held.dimension in
     (node.0, omega (arith, node.1, same))
+
+pub multipliers_are : (f : Fields) (triples : List (ℕ × ℕ × ℤ)) → AreTriples f triples → AreMultipliers triples
+multipliers_are f triples held = record {
+  few = held.few;
+  each = λ k d lt. let triple = held.triples_of_nodes k d lt in (triple.0.2, triple.1);
+}
+
+pub multiplied_nodes : (f : Fields) (triples : List (ℕ × ℕ × ℤ)) → AreTriples f triples → All (λ triple. IsNode (nodes_of f) triple.0 × IsNode (nodes_of f) triple.1) triples
+multiplied_nodes f triples held k d lt =
+    let pair = (held.triples_of_nodes k d lt).0 in
+    let same : nodes_of f ≡ held.n = ap (λ (o : Option ℕ). unwrap_or o 0) held.dimension in
+    ((pair.0.0, omega (arith, pair.0.1, same)), (pair.1.0, omega (arith, pair.1.1, same)))

@@ -4,6 +4,7 @@ pub mod FilesHold
 pub mod FixedPairs
 pub mod Links
 pub mod MarkedNodes
+pub mod PairSets
 pub mod Pieces
 pub mod PlanBounds
 pub mod RouteLengths
@@ -12,3 +13,4 @@ pub mod RouteReasons
 pub mod RouteVerdicts
 pub mod TourReasons
 pub mod TourVerdicts
+pub mod SmallPlans

@@ -8,7 +8,7 @@ use Rattle.tsp_fields.specs.Cost.{cost}
 use Rattle.tsp_cost.specs.Costs.{IsFirstUneven}
 use Rattle.tsp_cost.specs.Tour.{is_directed}
 use Rattle.tsp_verdict.specs.declared.verdict.Reason.{Reason}
-use Rattle.tsp_verdict.specs.declared.verdict.Reason.TheVariants.{NotASolution, TooFewNodes, NotSymmetric, Dimension, TourCount, TourLength, NodeOutOfRange, RepeatedNode, FixedEdgeUnused, NotPotentials, PotentialsDimension, PotentialsKind, DualInfeasible, DepotCount, DepotDemand, FixedEdgesInRoutes, DepotInRoute, Unserved, Overload}
+use Rattle.tsp_verdict.specs.declared.verdict.Reason.TheVariants.{NotASolution, TooFewNodes, NotSymmetric, Dimension, TourCount, TourLength, NodeOutOfRange, RepeatedNode, FixedEdgeUnused, NotPotentials, PotentialsDimension, PotentialsKind, MultiplierNotFixed, MultiplierRepeated, DualInfeasible, DepotCount, DepotDemand, FixedEdgesInRoutes, DepotInRoute, Unserved, Overload}
 use Rattle.tsp_verdict.specs.Places.{IsFirstPlace, IsLarger, IsRepeated, IsUnused}
 use Rattle.tsp_verdict.specs.Solution.{nodes_of, fixed_of, tours_of, visited}
 use Rattle.tsp_verdict.specs.Tours.{StandsAgainst, NoneUpTo}
@@ -50,6 +50,8 @@ after_fixed inst sol before used (FixedEdgeUnused index) stands = used index sta
 after_fixed inst sol before used NotPotentials stands = stands
 after_fixed inst sol before used PotentialsDimension stands = stands
 after_fixed inst sol before used PotentialsKind stands = stands
+after_fixed inst sol before used (MultiplierNotFixed index) stands = stands
+after_fixed inst sol before used (MultiplierRepeated index) stands = stands
 after_fixed inst sol before used (DualInfeasible i j) stands = stands
 after_fixed inst sol before used DepotCount stands = stands
 after_fixed inst sol before used DepotDemand stands = stands

@@ -1,6 +1,5 @@
 -- A certificate of a bound: a file of potentials, when it stands against a verdict, and the bound that it gives.
-use Rattle.std.specs.Prelude.{◌≡◌, ◌≢◌, ℕ, Bool, false, ◌&&◌, List, [], Option, None, Some, is_some, unwrap_or, Result, Ok, Err, ℤ, pos, ◌≤ℤ◌, ◌⊎◌}
-use Rattle.std.specs.List.{All, Contains}
+use Rattle.std.specs.Prelude.{◌≡◌, ◌≢◌, ℕ, Bool, false, ◌&&◌, List, [], Option, None, Some, is_some, unwrap_or, Result, Ok, Err, ℤ, pos, ◌≤ℤ◌}
 use Rattle.tsp_value.specs.declared.kinds.Kind.{Kind}
 use Rattle.tsp_value.specs.declared.kinds.Kind.TheVariants as kinds
 use Rattle.tsp_fields.specs.Fields.{Fields}
@@ -11,11 +10,13 @@ use Rattle.tsp_cost.specs.Length.{length_of}
 use Rattle.tsp_bound.specs.Numbers.{IsBoundSized}
 use Rattle.tsp_bound.specs.Assignment.{AreGood, IsFirstBroken, IsDualBound}
 use Rattle.tsp_cost.specs.Tour.{IsTourOf}
-use Rattle.tsp_bound.specs.Adjusted.{pair_of, UsesEach, IsAdjustedBound}
+use Rattle.tsp_bound.specs.Adjusted.{UsesEach, IsAdjustedBound}
 use Rattle.tsp_verdict.specs.declared.verdict.Reason.{Reason}
-use Rattle.tsp_verdict.specs.declared.verdict.Reason.TheVariants.{NotPotentials, PotentialsDimension, PotentialsKind, DualInfeasible}
+use Rattle.tsp_verdict.specs.declared.verdict.Reason.TheVariants.{NotPotentials, PotentialsDimension, PotentialsKind, MultiplierNotFixed, MultiplierRepeated, DualInfeasible}
+use Rattle.tsp_verdict.specs.Multiplied.{IsUnlisted, IsPairRepeated}
+use Rattle.tsp_verdict.specs.Places.{IsFirstPlace}
 use Rattle.tsp_verdict.specs.Reasons.{IsFirstReason}
-use Rattle.tsp_verdict.specs.Solution.{nodes_of}
+use Rattle.tsp_verdict.specs.Solution.{nodes_of, fixed_of}
 use Rattle.tsp_verdict.specs.Tours.{rank_of}
 
 -- ---- what is read of it
@@ -33,9 +34,9 @@ rows_in f = unwrap_or f.row_potentials []
 abbrev pub columns_in : Fields → List ℤ
 columns_in f = unwrap_or f.column_potentials []
 
--- its multipliers of pairs: none, since no section of a file has any yet
+-- its multipliers of fixed pairs
 abbrev pub multipliers_in : Fields → List (ℕ × ℕ × ℤ)
-multipliers_in f = []
+multipliers_in f = unwrap_or f.fixed_potentials []
 
 -- a TSP wants potentials of nodes, an ATSP those of rows and of columns
 abbrev pub has_wanted : Option Kind → Fields → Bool
@@ -52,6 +53,10 @@ abbrev pub StandsAgainst : Fields → Fields → Reason → Type 0
 StandsAgainst inst pot NotPotentials = is_certificate pot.kind ≡ false
 StandsAgainst inst pot PotentialsDimension = nodes_of pot ≢ nodes_of inst
 StandsAgainst inst pot PotentialsKind = has_wanted inst.kind pot ≡ false
+StandsAgainst inst pot (MultiplierNotFixed index) = (inst.kind ≡ Some kinds.Tsp)
+    × IsFirstPlace (IsUnlisted (fixed_of inst) (multipliers_in pot)) (multipliers_in pot) index
+StandsAgainst inst pot (MultiplierRepeated index) = (inst.kind ≡ Some kinds.Tsp)
+    × IsFirstPlace (IsPairRepeated (multipliers_in pot)) (multipliers_in pot) index
 StandsAgainst inst pot (DualInfeasible i j) = (inst.kind ≡ Some kinds.Atsp)
     × IsFirstBroken (nodes_of inst) (cost inst) (scale_in pot) (rows_in pot) (columns_in pot) i j
 StandsAgainst inst pot reason = ⊥
@@ -91,14 +96,6 @@ BoundsTours inst bound = (other : List ℕ) → IsTourOf inst other → bound �
 abbrev pub IsCertified : Fields → Fields → ℤ → Type 0
 IsCertified inst pot bound = IsBoundBy inst.kind inst pot bound × BoundsWalks inst pot bound
     × BoundsTours inst bound × IsBoundSized bound
-
--- a pair is listed, in either direction
-abbrev pub IsListed : List (ℕ × ℕ) → ℕ × ℕ → Type 0
-IsListed pairs pair = Contains pairs pair ⊎ Contains pairs (pair.1, pair.0)
-
--- so is that of each triple
-abbrev pub AreListed : List (ℕ × ℕ) → List (ℕ × ℕ × ℤ) → Type 0
-AreListed pairs triples = All (λ triple. IsListed pairs (pair_of triple)) triples
 
 -- the bound of a certificate against which no reason stands, or the first reason that does
 abbrev pub FindsBound : Fields → Fields → Result ℤ Reason → Type 0

@@ -1,5 +1,7 @@
 pub mod Marks
+pub mod Multiplied
 pub mod Next
+pub mod PairSets
 pub mod Places
 pub mod Plan
 pub mod Reasons
@@ -9,3 +11,4 @@ pub mod Sums
 pub mod Tours
 pub mod Certificate
 pub mod Bounded
+pub mod Examples

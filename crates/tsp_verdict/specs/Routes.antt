@@ -6,7 +6,7 @@ use Rattle.tsp_fields.specs.Fields.{Fields}
 use Rattle.tsp_fields.specs.Rules.{is_tours}
 use Rattle.tsp_fields.specs.Cost.{cost}
 use Rattle.tsp_verdict.specs.declared.verdict.Reason.{Reason}
-use Rattle.tsp_verdict.specs.declared.verdict.Reason.TheVariants.{NotASolution, TooFewNodes, NotSymmetric, Dimension, TourCount, TourLength, NodeOutOfRange, RepeatedNode, FixedEdgeUnused, NotPotentials, PotentialsDimension, PotentialsKind, DualInfeasible, DepotCount, DepotDemand, FixedEdgesInRoutes, DepotInRoute, Unserved, Overload}
+use Rattle.tsp_verdict.specs.declared.verdict.Reason.TheVariants.{NotASolution, TooFewNodes, NotSymmetric, Dimension, TourCount, TourLength, NodeOutOfRange, RepeatedNode, FixedEdgeUnused, NotPotentials, PotentialsDimension, PotentialsKind, MultiplierNotFixed, MultiplierRepeated, DualInfeasible, DepotCount, DepotDemand, FixedEdgesInRoutes, DepotInRoute, Unserved, Overload}
 use Rattle.tsp_verdict.specs.declared.verdict.Verdict.{Verdict}
 use Rattle.tsp_verdict.specs.declared.verdict.Verdict.TheVariants as verdicts
 use Rattle.tsp_verdict.specs.Places.{IsFirstPlace, IsLarger, IsAt, IsRepeated}
@@ -38,6 +38,8 @@ StandsAgainst inst sol (FixedEdgeUnused index) = ⊥
 StandsAgainst inst sol NotPotentials = ⊥
 StandsAgainst inst sol PotentialsDimension = ⊥
 StandsAgainst inst sol PotentialsKind = ⊥
+StandsAgainst inst sol (MultiplierNotFixed index) = ⊥
+StandsAgainst inst sol (MultiplierRepeated index) = ⊥
 StandsAgainst inst sol (DualInfeasible i j) = ⊥
 StandsAgainst inst sol DepotCount = length (depots_of inst) ≢ 1
 StandsAgainst inst sol DepotDemand = demand_of (demands_of inst) (depot_of inst) ≢ pos 0
@@ -66,6 +68,8 @@ rank_of (FixedEdgeUnused index) = 12
 rank_of NotPotentials = 12
 rank_of PotentialsDimension = 12
 rank_of PotentialsKind = 12
+rank_of (MultiplierNotFixed index) = 12
+rank_of (MultiplierRepeated index) = 12
 rank_of (DualInfeasible i j) = 12
 
 -- no reason stands that is judged before this rank

@@ -9,7 +9,7 @@ use Rattle.tsp_cost.specs.Costs.{IsEven, IsFirstUneven}
 use Rattle.tsp_cost.specs.Length.{length_of}
 use Rattle.tsp_cost.specs.Tour.{is_directed, IsTourOf}
 use Rattle.tsp_verdict.specs.declared.verdict.Reason.{Reason}
-use Rattle.tsp_verdict.specs.declared.verdict.Reason.TheVariants.{NotASolution, TooFewNodes, NotSymmetric, Dimension, TourCount, TourLength, NodeOutOfRange, RepeatedNode, FixedEdgeUnused, NotPotentials, PotentialsDimension, PotentialsKind, DualInfeasible, DepotCount, DepotDemand, FixedEdgesInRoutes, DepotInRoute, Unserved, Overload}
+use Rattle.tsp_verdict.specs.declared.verdict.Reason.TheVariants.{NotASolution, TooFewNodes, NotSymmetric, Dimension, TourCount, TourLength, NodeOutOfRange, RepeatedNode, FixedEdgeUnused, NotPotentials, PotentialsDimension, PotentialsKind, MultiplierNotFixed, MultiplierRepeated, DualInfeasible, DepotCount, DepotDemand, FixedEdgesInRoutes, DepotInRoute, Unserved, Overload}
 use Rattle.tsp_verdict.specs.declared.verdict.Verdict.{Verdict}
 use Rattle.tsp_verdict.specs.declared.verdict.Verdict.TheVariants as verdicts
 use Rattle.tsp_verdict.specs.Places.{IsFirstPlace, IsLarger, IsRepeated, IsUnused}
@@ -30,6 +30,8 @@ StandsAgainst inst sol (FixedEdgeUnused index) = IsFirstPlace (IsUnused (is_dire
 StandsAgainst inst sol NotPotentials = ⊥
 StandsAgainst inst sol PotentialsDimension = ⊥
 StandsAgainst inst sol PotentialsKind = ⊥
+StandsAgainst inst sol (MultiplierNotFixed index) = ⊥
+StandsAgainst inst sol (MultiplierRepeated index) = ⊥
 StandsAgainst inst sol (DualInfeasible i j) = ⊥
 StandsAgainst inst sol DepotCount = ⊥
 StandsAgainst inst sol DepotDemand = ⊥
@@ -52,13 +54,15 @@ rank_of (FixedEdgeUnused index) = 9
 rank_of NotPotentials = 10
 rank_of PotentialsDimension = 11
 rank_of PotentialsKind = 12
-rank_of (DualInfeasible i j) = 13
-rank_of DepotCount = 14
-rank_of DepotDemand = 14
-rank_of FixedEdgesInRoutes = 14
-rank_of (DepotInRoute place) = 14
-rank_of (Unserved node) = 14
-rank_of (Overload route) = 14
+rank_of (MultiplierNotFixed index) = 13
+rank_of (MultiplierRepeated index) = 14
+rank_of (DualInfeasible i j) = 15
+rank_of DepotCount = 16
+rank_of DepotDemand = 16
+rank_of FixedEdgesInRoutes = 16
+rank_of (DepotInRoute place) = 16
+rank_of (Unserved node) = 16
+rank_of (Overload route) = 16
 
 -- no reason stands that is judged before this rank
 abbrev pub NoneUpTo : Fields → Fields → ℕ → Type 0

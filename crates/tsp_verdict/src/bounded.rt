@@ -7,7 +7,9 @@ ghost use Rattle.tsp_verdict.specs.Tours.{IsEvenTsp, NoneBeforeRepeats};
 ghost use Rattle.tsp_verdict.specs.Bounded.{IsVerdict};
 ghost use Rattle.tsp_verdict.specs.Certificate.{FindsBound};
 
-use crate::certificate::{bound_of_duals, bound_of_potentials, first_against_certificate};
+use crate::certificate::{
+    bound_of_duals, bound_of_potentials, first_against_certificate, first_against_multipliers,
+};
 use crate::tour::length_of_tour;
 use crate::verdict::{Reason, Verdict};
 use std::alloc::{AllocError, Global};
@@ -20,8 +22,9 @@ use tsp_value::Kind;
 /// instance is below.
 ///
 /// The reasons of [`crate::judge_tour`] are judged first, then those of the certificate. Under TYPE TSP
-/// the bound is that of a least 1-tree under the potentials (Held and Karp, 1970), under TYPE ATSP
-/// that of duals of the assignment problem. The caller owes an instance of TYPE TSP or ATSP.
+/// the bound is that of a least 1-tree under the potentials (Held and Karp, 1970) and the
+/// multipliers of fixed pairs, under TYPE ATSP that of duals of the assignment problem. The caller
+/// owes an instance of TYPE TSP or ATSP.
 ///
 /// Errors: out of memory, and then no reason up to `NodeOutOfRange` stands.
 pub fn judge_tour_bound(
@@ -59,10 +62,12 @@ fn bound_of(alloc: Global, inst: &Instance, pot: &File) -> Result<Result<i128, R
         return Ok(Err(reason));
     }
     match inst.kind() {
-        Kind::Tsp => match bound_of_potentials(alloc, inst, pot) {
-            Ok(bound) => Ok(Ok(bound)),
-            Err(refused) => Err(refused),
-        },
+        Kind::Tsp => {
+            if let Some(reason) = first_against_multipliers(alloc, inst, pot)? {
+                return Ok(Err(reason));
+            }
+            Ok(Ok(bound_of_potentials(alloc, inst, pot)?))
+        }
         _ => Ok(bound_of_duals(inst, pot)),
     }
 }

@@ -1,6 +1,8 @@
 //! The bound that a certificate gives, or the first reason against it.
 
 ghost use Rattle.std.specs.Prelude.{◌≡◌, ◌⊎◌, ◌≤◌, true, length, Some, IfOk, MatchOption, MatchResult};
+ghost use Rattle.std.specs.List.{All};
+ghost use Rattle.tsp_value.specs.Cells.{IsNode};
 ghost use Rattle.tsp_value.specs.declared.kinds.Kind.TheVariants as kinds;
 ghost use Rattle.tsp_fields.specs.Rules.{is_certificate};
 ghost use Rattle.tsp_fields.specs.Cost.{cost};
@@ -14,8 +16,11 @@ ghost use Rattle.tsp_bound.specs.Potentials.{scale_of, numbers_of};
 ghost use Rattle.tsp_verdict.specs.Reasons.{IsFirstReason};
 ghost use Rattle.tsp_verdict.specs.Solution.{nodes_of, fixed_of};
 ghost use Rattle.tsp_verdict.specs.Tours.{rank_of};
-ghost use Rattle.tsp_verdict.specs.Certificate.{has_wanted, scale_in, potentials_in, rows_in, columns_in, multipliers_in, StandsAgainst, AreListed, IsCertified};
+ghost use Rattle.tsp_verdict.specs.Certificate.{has_wanted, scale_in, potentials_in, rows_in, columns_in, multipliers_in, StandsAgainst, IsCertified};
+ghost use Rattle.tsp_verdict.specs.Multiplied.{AreListed};
 
+use crate::files::fixed_pairs;
+use crate::multiplied::{first_repeated_pair, first_unlisted};
 use crate::verdict::Reason;
 use std::alloc::{AllocError, Global};
 use tsp_bound::{
@@ -96,13 +101,20 @@ fn potentials_of(pot: &File) -> Potentials<'_>
     potentials
 }
 
-/// The multipliers that a certificate holds, as triples of two nodes and a number: none, since no
-/// section of a file has any yet.
-pub(crate) fn multipliers_in(_pot: &File) -> &[(u32, u32, i64)]
-    ensures value { result.now ≡ multipliers_in _pot.now }
+/// The multipliers that a certificate holds, as triples of two nodes and a number: none where it
+/// has no FIXED_EDGE_POTENTIAL_SECTION.
+fn multipliers_in(pot: &File) -> &[(u32, u32, i64)]
+    ensures value { result.now ≡ multipliers_in pot.now }
     ensures are { AreMultipliers result.now }
+    ensures nodes { All (λ triple. IsNode (nodes_of pot.now) triple.0
+        × IsNode (nodes_of pot.now) triple.1) result.now }
 {
-    &[]
+    let _valid = pot.fields();
+    valid_fields_are_in_range();
+    match pot.fixed_potentials() {
+        Some(triples) => triples,
+        None => &[],
+    }
 }
 
 /// The same as they go into a 1-tree.
@@ -115,6 +127,38 @@ fn multipliers_of(pot: &File) -> Multipliers<'_>
     multipliers
 }
 
+/// The first reason against the multipliers of a certificate of an instance of TYPE TSP. Where no
+/// reason stands against them, they are on different pairs, each of which is fixed.
+///
+/// Errors: out of memory for the fixed pairs and for those of the multipliers; none is taken where
+/// there are no multipliers.
+pub(crate) fn first_against_multipliers(
+    alloc: Global,
+    inst: &Instance,
+    pot: &File,
+) -> Result<Option<Reason>, AllocError>
+    requires kind { inst.now.kind ≡ Some kinds.Tsp }
+    requires sort { is_certificate pot.now.kind ≡ true }
+    requires count { nodes_of pot.now ≡ nodes_of inst.now }
+    requires wanted { has_wanted (Some kinds.Tsp) pot.now ≡ true }
+    ensures { IfOk result (λ found. MatchOption found
+        (AreOnPairs (nodes_of inst.now) (multipliers_in pot.now)
+        × AreListed (fixed_of inst.now) (multipliers_in pot.now))
+        (λ reason. IsFirstReason (StandsAgainst inst.now pot.now) rank_of reason)) }
+{
+    let triples = multipliers_in(pot);
+    if triples.is_empty() {
+        return Ok(None);
+    }
+    if let Some(index) = first_unlisted(alloc, fixed_pairs(inst), triples)? {
+        return Ok(Some(Reason::MultiplierNotFixed { index }));
+    }
+    if let Some(index) = first_repeated_pair(alloc, triples)? {
+        return Ok(Some(Reason::MultiplierRepeated { index }));
+    }
+    Ok(None)
+}
+
 /// The bound that the duals of a certificate give an instance of TYPE ATSP, or the first pair that
 /// breaks them.
 pub(crate) fn bound_of_duals(inst: &Instance, pot: &File) -> Result<i128, Reason>
@@ -124,11 +168,12 @@ pub(crate) fn bound_of_duals(inst: &Instance, pot: &File) -> Result<i128, Reason
     requires wanted { has_wanted (Some kinds.Atsp) pot.now ≡ true }
     ensures { MatchResult result
         (λ bound. IsCertified inst.now pot.now bound)
-        (λ reason. StandsAgainst inst.now pot.now reason × (rank_of reason ≡ 13)) }
+        (λ reason. StandsAgainst inst.now pot.now reason × (rank_of reason ≡ 15)) }
 {
     // A view has found once and for all where the costs are.
     match inst.view() {
-        View::Points(points) => assignment_bound(inst, pot, &points),
+        View::Plane(points) => assignment_bound(inst, pot, &points),
+        View::Space(points) => assignment_bound(inst, pot, &points),
         View::Triangle(triangle) => assignment_bound(inst, pot, &triangle),
         View::Matrix(matrix) => assignment_bound(inst, pot, &matrix),
     }
@@ -143,7 +188,7 @@ fn assignment_bound<C: Costs>(inst: &Instance, pot: &File, c: &C) -> Result<i128
     requires wanted { has_wanted (Some kinds.Atsp) pot.now ≡ true }
     ensures { MatchResult result
         (λ bound. IsCertified inst.now pot.now bound)
-        (λ reason. StandsAgainst inst.now pot.now reason × (rank_of reason ≡ 13)) }
+        (λ reason. StandsAgainst inst.now pot.now reason × (rank_of reason ≡ 15)) }
 {
     duals_bound_walks();
     match dual_bound(c, &duals_of(pot)) {
@@ -171,7 +216,8 @@ pub(crate) fn bound_of_potentials(
     ensures { IfOk result (λ bound. IsCertified inst.now pot.now bound) }
 {
     match inst.view() {
-        View::Points(points) => tree_bound(alloc, inst, pot, &points),
+        View::Plane(points) => tree_bound(alloc, inst, pot, &points),
+        View::Space(points) => tree_bound(alloc, inst, pot, &points),
         View::Triangle(triangle) => tree_bound(alloc, inst, pot, &triangle),
         View::Matrix(matrix) => match matrix.even() {
             Ok(even) => tree_bound(alloc, inst, pot, &even),

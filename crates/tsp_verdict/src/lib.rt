@@ -3,10 +3,12 @@
 
 mod bounded;
 mod certificate;
+mod examples;
 mod files;
 mod fixed;
 mod lengths;
 mod loads;
+mod multiplied;
 mod places;
 mod routes;
 mod tour;
@@ -14,6 +16,10 @@ mod verdict;
 mod visits;
 
 pub use bounded::judge_tour_bound;
+pub use examples::{
+    examples_against_certificates, examples_against_routes, examples_against_tours,
+    examples_of_order, examples_of_order_of_routes, examples_of_plans,
+};
 pub use routes::judge_routes;
 pub use tour::judge_tour;
 pub use verdict::{Reason, Verdict};

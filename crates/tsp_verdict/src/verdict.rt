@@ -1,6 +1,6 @@
 //! What is said of a solution of an instance.
 
-/// Why a solution is refused. Places, routes and fixed pairs count from 1, and places through all
+/// Why a solution is refused. Places, routes, fixed pairs and multipliers count from 1, and places through all
 /// tours of the solution, one after the other.
 ///
 /// The reasons of a tour are judged in the order in which they stand here, those of routes in the
@@ -35,6 +35,12 @@ pub enum Reason {
     /// The certificate has no potentials of nodes, which a TSP wants, or none of rows and columns,
     /// which an ATSP wants.
     PotentialsKind,
+    /// The instance is of TYPE TSP, and this multiplier is the first one whose pair isn't among the
+    /// fixed pairs of the instance, in either direction.
+    MultiplierNotFixed { index: u32 },
+    /// The instance is of TYPE TSP, and this multiplier is the first one whose pair an earlier one
+    /// has, in either direction.
+    MultiplierRepeated { index: u32 },
     /// The instance is of TYPE ATSP, and this is the first pair of different nodes, by rows, whose
     /// potentials of row and column sum to more than the cost at the scale.
     DualInfeasible { i: u32, j: u32 },

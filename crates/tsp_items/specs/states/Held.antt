@@ -1,16 +1,18 @@
 -- What each section's part holds, by the part itself, and what it finishes with.
 use Rattle.std.specs.Prelude.{◌≡◌, ℕ, ℤ, List, map}
+use Rattle.tsp_fields.specs.Coords.{points_of}
 use Rattle.tsp_items.specs.declared.parts.numbers.NumberList.{NumberList}
 use Rattle.tsp_items.specs.declared.parts.points.PointList.{PointList}
 use Rattle.tsp_items.specs.declared.parts.depots.DepotList.{DepotList}
 use Rattle.tsp_items.specs.declared.parts.fixed.FixedList.{FixedList}
+use Rattle.tsp_items.specs.declared.parts.triples.TripleList.{TripleList}
 use Rattle.tsp_items.specs.declared.parts.weights.WeightList.{WeightList}
 use Rattle.tsp_items.specs.declared.parts.tours.TourList.{TourList}
 use Rattle.tsp_items.specs.declared.part.Part.{Part}
 use Rattle.tsp_items.specs.declared.part.Part.TheVariants as parts
 use Rattle.tsp_value.specs.declared.field.Shape.{Shape}
-use Rattle.tsp_value.specs.declared.field.Shape.TheVariants.{Numbers, Points, Depots, Pairs, Weights, Tours}
-use Rattle.tsp_items.specs.states.Parts.{NumbersHold, PointsHold, DepotsHold, PairsHold, WeightsHold, ToursHold, EndsRun}
+use Rattle.tsp_value.specs.declared.field.Shape.TheVariants.{Numbers, Points, Depots, Pairs, Weights, Tours, Triples}
+use Rattle.tsp_items.specs.states.Parts.{NumbersHold, PointsHold, DepotsHold, PairsHold, TriplesHold, WeightsHold, ToursHold, EndsRun}
 
 -- its numbers are of this range
 pub record HoldsNumbers (part : NumberList) (low high : ℤ) (n : ℕ) (words : List (List ℕ)) : Type 0 where
@@ -19,7 +21,7 @@ pub record HoldsNumbers (part : NumberList) (low high : ℤ) (n : ℕ) (words : 
   pub read : NumbersHold part.seen.items part.entries.items part.left part.begun low high n words
 
 abbrev pub HoldsPoints : PointList → ℕ → List (List ℕ) → Type 0
-HoldsPoints part n words = PointsHold part.seen.items part.entries.items part.left part.begun part.x n words
+HoldsPoints part n words = PointsHold part.seen.items (points_of part.entries) part.left part.begun part.x n words
 
 pub record HoldsDepots (part : DepotList) (n : ℕ) (words : List (List ℕ)) : Type 0 where
   pub nodes : part.n ≡ n
@@ -28,6 +30,10 @@ pub record HoldsDepots (part : DepotList) (n : ℕ) (words : List (List ℕ)) : 
 pub record HoldsFixed (part : FixedList) (n : ℕ) (words : List (List ℕ)) : Type 0 where
   pub nodes : part.n ≡ n
   pub read : PairsHold part.pairs.items part.first part.ended n words
+
+pub record HoldsTriples (part : TripleList) (n : ℕ) (words : List (List ℕ)) : Type 0 where
+  pub nodes : part.n ≡ n
+  pub read : TriplesHold part.triples.items part.first part.second part.ended n words
 
 abbrev pub HoldsWeights : WeightList → ℕ → List (List ℕ) → Type 0
 HoldsWeights part n words = WeightsHold part.weights.items part.most n words
@@ -47,6 +53,7 @@ shape_by (parts.Depots list) = Depots
 shape_by (parts.Pairs list) = Pairs
 shape_by (parts.Weights list) = Weights
 shape_by (parts.Tours list) = Tours
+shape_by (parts.Triples list) = Triples
 
 -- the part holds these words of its section
 abbrev pub HoldsPart : Part → ℕ → List (List ℕ) → Type 0
@@ -56,6 +63,7 @@ HoldsPart (parts.Depots list) n words = HoldsDepots list n words
 HoldsPart (parts.Pairs list) n words = HoldsFixed list n words
 HoldsPart (parts.Weights list) n words = HoldsWeights list n words
 HoldsPart (parts.Tours list) n words = HoldsTours list words
+HoldsPart (parts.Triples list) n words = HoldsTriples list n words
 
 -- and its section has this shape
 abbrev pub HoldsShape : Shape → Part → ℕ → List (List ℕ) → Type 0

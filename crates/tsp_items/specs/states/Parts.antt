@@ -4,6 +4,7 @@ use Rattle.std.specs.List.{filter, slice_split, list_any}
 use Rattle.tsp_number.specs.declared.decimal.Point.{Point}
 use Rattle.tsp_number.specs.declared.fault.NumberFault.{NumberFault}
 use Rattle.tsp_number.specs.Reading.{decimal_of}
+use Rattle.tsp_fields.specs.Coords.{origin}
 use Rattle.tsp_items.specs.declared.fault.LineFault.{LineFault}
 use Rattle.tsp_items.specs.declared.fault.LineFault.TheVariants as row
 use Rattle.tsp_items.specs.declared.fault.StepFault.{StepFault}
@@ -11,8 +12,8 @@ use Rattle.tsp_items.specs.declared.fault.StepFault.TheVariants as steps
 use Rattle.tsp_items.specs.Lines.{is_filled}
 use Rattle.tsp_items.specs.Numbers.{node, node_or_end, is_end}
 use Rattle.tsp_items.specs.Places.{Place}
-use Rattle.tsp_items.specs.Groups.{pairs_in, begun_pair, begun_triple, number_groups, point_groups, entry_of}
-use Rattle.tsp_items.specs.Lists.{depots_in, fixed_in, firsts_in}
+use Rattle.tsp_items.specs.Groups.{pairs_in, triples_in, begun_pair, begun_triple, number_groups, point_groups, entry_of}
+use Rattle.tsp_items.specs.Lists.{depots_in, fixed_in, firsts_in, fixed_triples_in, triple_firsts_in}
 use Rattle.tsp_items.specs.Weights.{weights_in}
 use Rattle.tsp_items.specs.Tours.{ends_tour, tour_node, tours_in}
 use Rattle.tsp_items.specs.Rows.{word_fault}
@@ -78,11 +79,8 @@ BeginsPoint n (Some k) None (word ∷ []) = node n word ≡ Ok (pos k)
 BeginsPoint n (Some k) (Some x) (word ∷ other ∷ []) = (node n word ≡ Ok (pos k)) × (decimal_of other ≡ Ok x)
 BeginsPoint n begun x words = ⊥
 
-abbrev pub no_point : Point
-no_point = record { x = pos 0; y = pos 0 }
-
 pub record PointsHold (seen : List Bool) (entries : List Point) (left : ℕ) (begun : Option ℕ) (x : Option ℤ) (n : ℕ) (words : List (List ℕ)) : Type 0 where
-  pub nodes : NodesHold no_point seen entries left begun n (point_groups n words)
+  pub nodes : NodesHold origin seen entries left begun n (point_groups n words)
   pub cut : 0 < left → BeginsPoint n begun x (begun_triple words)
   pub open_ended : 0 < left → length words < 3 * n
   pub full : left ≡ 0 → 3 * n ≤ length words
@@ -99,6 +97,20 @@ pub record PairsHold (pairs : List (ℕ × ℕ)) (first : Option ℕ) (ended : B
   pub closed : ended ≡ list_any (is_end n) (firsts_in words)
   pub cut : ended ≡ false → map (node_or_end n) (begun_pair words) ≡ readings first
   pub count : ended ≡ false → length pairs ≡ length (pairs_in words)
+  pub whole : ended ≡ true → first ≡ None
+
+-- the nodes of a triple that has begun
+abbrev pub BeginsTriple : ℕ → Option ℕ → Option ℕ → List (List ℕ) → Type 0
+BeginsTriple n None second [] = second ≡ None
+BeginsTriple n (Some i) None (word ∷ []) = node_or_end n word ≡ Ok (pos i)
+BeginsTriple n (Some i) (Some j) (word ∷ other ∷ []) = (node_or_end n word ≡ Ok (pos i)) × (node n other ≡ Ok (pos j))
+BeginsTriple n first second words = ⊥
+
+pub record TriplesHold (triples : List (ℕ × ℕ × ℤ)) (first second : Option ℕ) (ended : Bool) (n : ℕ) (words : List (List ℕ)) : Type 0 where
+  pub list : triples ≡ fixed_triples_in n words
+  pub closed : ended ≡ list_any (is_end n) (triple_firsts_in words)
+  pub cut : ended ≡ false → BeginsTriple n first second (begun_triple words)
+  pub count : ended ≡ false → length triples ≡ length (triples_in words)
   pub whole : ended ≡ true → first ≡ None
 
 -- ---- weights

@@ -1,22 +1,24 @@
 //! By-node sections with a point for each node.
 
-ghost use Rattle.std.specs.Prelude.{◌≡◌, ◌<◌, ◌≤◌, ◌^◌, None, Some, Ok, [], ℕ, List, ◌∷◌, ◌++◌, vec_len, IfOk, IfErr, Err, ◌≢◌, is_some, true, false};
+ghost use Rattle.std.specs.Prelude.{◌≡◌, ◌<◌, ◌≤◌, ◌^◌, None, Some, Ok, [], ℕ, List, length, ◌∷◌, ◌++◌, vec_len, IfOk, IfErr, Err, ◌≢◌, is_some, true, false};
 ghost use Rattle.std.specs.Option.{ForSome};
+ghost use Rattle.tsp_fields.specs.Coords.{points_of};
 
 use crate::fault::{LineFault, StepFault};
 use crate::parts::nodes::{is_minus_one, new_node, unmarked_node};
 use std::alloc::{AllocError, Global};
-use tsp_number::{Decimal, Point, parse_decimal};
+use tsp_fields::Coords;
+use tsp_number::{Decimal, PlanePoint, parse_decimal};
 
 /// What was read of a section of groups of a node and its two coordinates.
 #[derive(Drop)]
 pub struct PointList {
     seen: Vec<bool>,
-    entries: Vec<Point>,
+    entries: Coords,
     left: u32,
     begun: Option<u32>,
     x: Option<Decimal>,
-    ghost same: { vec_len entries ≡ vec_len seen },
+    ghost same: { length (points_of entries) ≡ vec_len seen },
     ghost narrow: { vec_len seen < 2 ^ 32 },
     ghost within: { ForSome begun (λ k. (1 ≤ k) × (k ≤ vec_len seen)) },
 }
@@ -39,13 +41,9 @@ impl PointList {
     pub fn open(alloc: Global, n: u32) -> Result<PointList, AllocError>
         ensures { IfOk result (λ part. HoldsPoints part n []) }
     {
-        let zero = match Decimal::of_count(0) {
-            Some(zero) => zero,
-            None => unreachable!(),
-        };
         Ok(PointList {
             seen: vec![in alloc; false; n as usize]?,
-            entries: vec![in alloc; Point { x: zero, y: zero }; n as usize]?,
+            entries: Coords::at_origin(alloc, n as usize)?,
             left: n,
             begun: None,
             x: None,
@@ -105,7 +103,8 @@ impl PointList {
             None => self.x = Some(coordinate),
             Some(x) => {
                 self.seen[node as usize - 1] = true;
-                self.entries[node as usize - 1] = Point { x, y: coordinate };
+                self.entries
+                    .put(node as usize - 1, PlanePoint { x, y: coordinate });
                 self.left -= 1;
                 self.begun = None;
                 self.x = None;
@@ -165,9 +164,9 @@ impl PointList {
     }
 
     /// The list by node, and whether a group is still to come.
-    pub fn finish(self) -> (Vec<Point>, bool)
+    pub fn finish(self) -> (Coords, bool)
         ensures { (n : ℕ) (words : List (List ℕ)) → HoldsPoints self n words
-            → (result.0.items ≡ points_by_node n words)
+            → (points_of result.0 ≡ points_by_node n words)
             × (result.1 ≡ wants_more (place_of_point n words)) }
     {
         let wants_more = self.left > 0;

@@ -4,9 +4,9 @@ use Rattle.std.specs.Option.{option_map_or}
 use Rattle.tsp_value.specs.declared.field.Field.{Field}
 use Rattle.tsp_fields.specs.Fields.{Fields, with_numbers, with_points}
 use Rattle.tsp_value.specs.declared.field.Shape.{Shape}
-use Rattle.tsp_value.specs.declared.field.Shape.TheVariants.{Numbers, Points, Depots, Pairs, Weights, Tours}
+use Rattle.tsp_value.specs.declared.field.Shape.TheVariants.{Numbers, Points, Depots, Pairs, Weights, Tours, Triples}
 use Rattle.tsp_items.specs.Groups.{numbers_by_node, points_by_node}
-use Rattle.tsp_items.specs.Lists.{depots_in, fixed_in}
+use Rattle.tsp_items.specs.Lists.{depots_in, fixed_in, fixed_triples_in}
 use Rattle.tsp_value.specs.Shapes.{shape_of}
 use Rattle.tsp_items.specs.Tours.{tours_in}
 use Rattle.tsp_items.specs.Weights.{weights_in}
@@ -19,6 +19,7 @@ with_words Depots field n words fields = record fields { depots = Some (depots_i
 with_words Pairs field n words fields = record fields { fixed = Some (fixed_in n words) }
 with_words Weights field n words fields = record fields { weights = Some (weights_in words) }
 with_words Tours field n words fields = record fields { tours = Some (tours_in words) }
+with_words Triples field n words fields = record fields { fixed_potentials = Some (fixed_triples_in n words) }
 
 abbrev pub with_section : Field → ℕ → List (List ℕ) → Fields → Fields
 with_section field n words fields = option_map_or (λ shape. with_words shape field n words fields) (shape_of field) fields

@@ -56,5 +56,10 @@ pub(crate) fn store(
             }
             Err(fault) => Err(fault),
         },
+        Part::Triples(part) => {
+            let (triples, wants_more) = part.finish();
+            draft.fixed_potentials = Some(triples);
+            Ok(wants_more)
+        }
     }
 }

@@ -1,12 +1,14 @@
 //! What a file lends: each field by the call of its name.
 
 use crate::asserts::{holds, same};
+use std::process::Abort;
 use std::test::Fail;
+use tsp_fields::File;
 use tsp_testing::drafts::{file_of, points, rectangle, tours};
 use tsp_value::{CoordKind, DisplayKind, Kind, Layout, WeightFormat, WeightKind};
 
 #[test]
-fn a_file_lends_the_keywords_that_it_has(rt: HostRuntime) -> Result<(), Fail> {
+fn a_file_lends_the_fields_that_it_has(rt: HostRuntime) -> Result<(), Fail> {
     let file = file_of(rectangle(rt.alloc())?)?;
     same(&rt, file.name(), Some(b"a".as_slice()));
     same(&rt, file.kind(), Kind::Cvrp);
@@ -26,50 +28,40 @@ fn a_file_lends_the_keywords_that_it_has(rt: HostRuntime) -> Result<(), Fail> {
     same(&rt, file.weight_format(), Some(format));
     same(&rt, file.coord_kind(), Some(CoordKind::TwoD));
     same(&rt, file.display_kind(), Some(DisplayKind::TwoD));
-    Ok(())
+    same(&rt, file.fields().kind, Some(Kind::Cvrp));
+    lends_sections(&rt, &file)
 }
 
-#[test]
-fn a_file_lends_its_fields_together(rt: HostRuntime) -> Result<(), Fail> {
-    let file = file_of(rectangle(rt.alloc())?)?;
-    let fields = file.fields();
-    same(&rt, fields.kind, Some(Kind::Cvrp));
-    same(&rt, fields.dimension, Some(4));
-    let depots = fields.depots.as_ref().map(|depots| depots.as_slice());
-    same(&rt, depots, Some([1u32].as_slice()));
-    Ok(())
-}
-
-#[test]
-fn a_file_lends_the_sections_that_it_has(rt: HostRuntime) -> Result<(), Fail> {
-    let file = file_of(rectangle(rt.alloc())?)?;
+/// Asserts that a file lends the sections of the rectangle.
+fn lends_sections(rt: &(impl AllocGlobal + Abort), file: &File) -> Result<(), Fail> {
     let coords = points(rt.alloc(), &[(0, 0), (6, 0), (6, 8), (0, 8)])?;
     let display = points(rt.alloc(), &[(0, 0), (3, 0), (3, -4), (0, -4)])?;
-    same(&rt, file.coords(), Some(coords.as_slice()));
-    same(&rt, file.display(), Some(display.as_slice()));
-    same(&rt, file.demands(), Some([0i64, 4, 4, 4].as_slice()));
-    same(&rt, file.depots(), Some([1u32].as_slice()));
-    same(&rt, file.fixed(), Some([(1u32, 2u32), (4, 3)].as_slice()));
+    same(rt, file.coords(), Some(&coords));
+    same(rt, file.display(), Some(&display));
+    same(rt, file.demands(), Some([0i64, 4, 4, 4].as_slice()));
+    same(rt, file.depots(), Some([1u32].as_slice()));
+    same(rt, file.fixed(), Some([(1u32, 2u32), (4, 3)].as_slice()));
     let weights = [3i64, 5, 4, -1, 0, 1_000_000_000_000];
-    same(&rt, file.weights(), Some(weights.as_slice()));
+    same(rt, file.weights(), Some(weights.as_slice()));
     let tours = file.tours().ok_or("no tours")?;
     assert_eq!(rt; tours.len(), 2);
-    same(&rt, tours[0].as_slice(), [1u32, 2].as_slice());
-    same(&rt, tours[1].as_slice(), [3u32].as_slice());
+    same(rt, tours[0].as_slice(), [1u32, 2].as_slice());
+    same(rt, tours[1].as_slice(), [3u32].as_slice());
     same(
-        &rt,
+        rt,
         file.node_potentials(),
         Some([3i64, -3, 0, 0].as_slice()),
     );
+    same(rt, file.row_potentials(), Some([4i64, -4, 0, 0].as_slice()));
     same(
-        &rt,
-        file.row_potentials(),
-        Some([4i64, -4, 0, 0].as_slice()),
-    );
-    same(
-        &rt,
+        rt,
         file.column_potentials(),
         Some([5i64, -5, 0, 0].as_slice()),
+    );
+    same(
+        rt,
+        file.fixed_potentials(),
+        Some([(1u32, 2u32, 6i64), (3, 4, 0)].as_slice()),
     );
     Ok(())
 }
@@ -99,6 +91,9 @@ fn a_file_lends_nothing_of_the_fields_that_it_lacks(rt: HostRuntime) -> Result<(
         &rt,
         file.node_potentials().is_none() && file.row_potentials().is_none(),
     );
-    holds(&rt, file.column_potentials().is_none());
+    holds(
+        &rt,
+        file.column_potentials().is_none() && file.fixed_potentials().is_none(),
+    );
     Ok(())
 }

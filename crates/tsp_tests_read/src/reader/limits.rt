@@ -294,6 +294,29 @@ fn after_100_000_fixed_pairs_a_good_node_is_surplus(rt: HostRuntime) -> Result<(
     Ok(())
 }
 
+/// Words after 100,000 triples, the place of the first with a fault, and its fault.
+const AFTER_TRIPLES: &[(&str, u32, Option<LineFault>)] = &[
+    ("", 0, None),
+    ("1", 300_001, Some(Surplus)),
+    ("1 2 0", 300_001, Some(Surplus)),
+    ("x", 300_001, Some(Number(BadNumber))),
+    ("0", 300_001, Some(Number(OutOfRange))),
+    ("-1.0 -1", 0, None),
+    ("-1 2", 300_002, Some(AfterEnd)),
+];
+
+#[test]
+fn after_100_000_triples_a_good_node_is_surplus(rt: HostRuntime) -> Result<(), Fail> {
+    let front = "DIMENSION : 2\nFIXED_EDGE_POTENTIAL_SECTION\n";
+    let most = with_units(rt.alloc(), front, "1 2 0 ", 100_000)?;
+    for (tail, word, fault) in AFTER_TRIPLES {
+        let text = format!(in rt.alloc(); "{most}{tail}")?;
+        let found = fault_of(rt.alloc(), text.as_bytes());
+        same_at(&rt, tail, found, on_line(3, *word, *fault));
+    }
+    Ok(())
+}
+
 /// Words after 1,000,000 nodes of tours, the place of the first with a fault, and its fault.
 const AFTER_TOURS: &[(&str, u32, Option<LineFault>)] = &[
     ("7", 1_250_001, Some(Surplus)),

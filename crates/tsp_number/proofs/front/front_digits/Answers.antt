@@ -1,6 +1,6 @@
 use Rattle.std.proofs.Common.{◌≡◌, ◌+◌, ◌*◌, ◌<◌, ◌≤◌, ◌^◌, drop, arith, rules}
 use Rattle.std.proofs.lemmas.List.{take_rest}
-use Rattle.tsp_number.proofs.FrontNumbers.{ReadsFront, eight_more, eight_and_more, few_fit}
+use Rattle.tsp_number.proofs.FrontNumbers.{ReadsFront, counts_on, eight_more, eight_and_more, few_fit}
 use Rattle.tsp_number.proofs.front.front_digits.Goals as goal
 
 pub returns-then-count-lt-EIGHT-clause-digits : goal.returns-then-count-lt-EIGHT-clause-digits
@@ -50,3 +50,9 @@ returns-clause-value c = (read_on c).value_is
 
 pub returns-clause-size : goal.returns-clause-size
 returns-clause-size c = (read_on c).size
+
+pub returns-clause-count : goal.returns-clause-count
+returns-clause-count c =
+    let eight = c.front_of_eight-value.ensures in
+    counts_on _ _ _ _ _ c.in-Some.ensures.cases eight.count (omega (arith, c.if-count-lt-EIGHT.false)) (rw take_rest at c.single_digits-more.ensures.count)
+    (omega (arith, c.if-most-lt-EIGHT.false))

@@ -6,7 +6,7 @@ use Rattle.tsp_number.proofs.root.exact_root.Given as goal
 abbrev pub invariant-loop-low : goal.invariant-loop-low
 invariant-loop-low l =
     (l.low ≤ l.high)
-    × (l.high ≤ 2828427125)
+    × (l.high ≤ l.most)
     × Covers l.rounding l.square l.high
     × (0 < l.low → ¬ Covers l.rounding l.square (l.low - 1))
 

@@ -11,7 +11,7 @@ returns-then-whole-low c =
       | then-whole-low-via-then-whole-low w ↦ inl (omega (arith, ints, w.if-whole-low.true))
       | then-whole-low-via-else-whole-low+then-whole-high w ↦ inr (omega (arith, ints, w.if-whole-high.true))
     ] in
-    let reads = whole_outside _ _ _ _ _ c.in-Some.ensures c.if-end-word.true out in
+    let reads = whole_outside _ _ _ _ _ c.in-Some.ensures.number c.if-end-word.true out in
     record { reads = reads; computed = whole_once _ _ _ _ _ reads (whole_of-reads c.args.word.now c.args.low c.args.high) }
 
 pub returns : goal.returns
@@ -19,6 +19,6 @@ returns c =
     let fits : FitsSigned w64 c.in-Some.whole = search rules in
     let low : c.args.low ≤ℤ c.in-Some.whole = omega (arith, ints, c.if-whole-low.false) in
     let high : c.in-Some.whole ≤ℤ c.args.high = omega (arith, ints, c.if-whole-high.false) in
-    let reads = whole_word _ _ _ _ _ c.in-Some.ensures c.if-end-word.true low high in
+    let reads = whole_word _ _ _ _ _ c.in-Some.ensures.number c.if-end-word.true low high in
     rw (to_z-of_z w64 c.in-Some.whole fits)
     (record { reads = reads; computed = whole_once _ _ _ _ _ reads (whole_of-reads c.args.word.now c.args.low c.args.high) })

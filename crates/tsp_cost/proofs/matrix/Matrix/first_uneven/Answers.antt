@@ -3,6 +3,13 @@ use Rattle.tsp_value.specs.declared.layout.Layout.TheVariants.{FullMatrix}
 use Rattle.tsp_fields.proofs.Listed.{outside_has_no_place, even_between_nodes}
 use Rattle.tsp_cost.proofs.matrix.Matrix.first_uneven.Goals as goal
 
+pub returns-then-is_even : goal.returns-then-is_even
+returns-then-is_even c =
+    let m = c.args.self.now in
+    even_between_nodes FullMatrix m.nodes m.weights.now
+    (outside_has_no_place c.cells_are_the_listed_pairs.ensures c.only_cells_have_places.ensures FullMatrix m.nodes)
+    (c.is_even.ensures.0 c.if-is_even.true)
+
 pub returns : goal.returns
 returns c =
     let m = c.args.self.now in

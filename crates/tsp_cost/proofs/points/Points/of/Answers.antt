@@ -2,7 +2,7 @@ use Rattle.tsp_cost.proofs.Distances.{distance_symmetric}
 use Rattle.tsp_cost.proofs.points.Points.of.Goals as goal
 
 pub invariant_of-result : goal.invariant_of-result
-invariant_of-result c =
+invariant_of-result g c =
     let laws = c.distance_laws.ensures in
     record {
       distances = c.requires.distances;

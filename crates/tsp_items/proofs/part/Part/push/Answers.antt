@@ -17,3 +17,13 @@ pub returns-in-Tours-clause-takes : goal.returns-in-Tours-clause-takes
 returns-in-Tours-clause-takes c = λ n words h.
     steps.as_list c.args.self.now (parts.Tours c.in-Tours.part) (parts.Tours c.push-in-Tours.new.self) n words
     c.args.word.now c.push-in-Tours.result c.in-Tours.is refl (c.push-in-Tours.ensures.takes n words) h
+
+pub returns-in-Triples-clause-takes : goal.returns-in-Triples-clause-takes
+returns-in-Triples-clause-takes c = λ n words h.
+    steps.as_list c.args.self.now (parts.Triples c.in-Triples.part) (parts.Triples c.push-in-Triples.new.self) n words
+    c.args.word.now c.push-in-Triples.result c.in-Triples.is refl (c.push-in-Triples.ensures.takes n words) h
+
+pub returns-in-Triples-clause-kept : goal.returns-in-Triples-clause-kept
+returns-in-Triples-clause-kept c =
+    steps.kept_list c.args.self.now (parts.Triples c.in-Triples.part) (parts.Triples c.push-in-Triples.new.self)
+    c.push-in-Triples.result c.in-Triples.is refl c.push-in-Triples.ensures.kept

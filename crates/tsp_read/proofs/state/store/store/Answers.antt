@@ -12,3 +12,8 @@ pub returns-in-Pairs-clause-stored : goal.returns-in-Pairs-clause-stored
 returns-in-Pairs-clause-stored c =
     steps.pairs_stored c.args.section c.in-Pairs.part c.finish-pairs.result.0.items c.finish-pairs.result.1 (fields_of c.args.draft.now) _
     c.in-Pairs.is refl c.finish-pairs.ensures
+
+pub returns-in-Triples-clause-stored : goal.returns-in-Triples-clause-stored
+returns-in-Triples-clause-stored c =
+    steps.triples_stored c.args.section c.in-Triples.part c.finish-triples.result.0.items c.finish-triples.result.1 (fields_of c.args.draft.now) _
+    c.in-Triples.is refl c.finish-triples.ensures

@@ -1,0 +1,11 @@
+pub mod Cases
+pub mod Certificates
+pub mod Combs
+pub mod Decisions
+pub mod LeafBounds
+pub mod Numbered
+pub mod SmallBounds
+pub mod SmallTrees
+pub mod Rows
+pub mod Leaves
+pub mod Changes

@@ -1,0 +1,40 @@
+-- Decisions as code has them: two nodes, and whether the pair is taken. Each changes the weight of its pair by the same number.
+use Rattle.std.specs.Prelude.{◌≡◌, ◌≢◌, ℕ, Bool, if◌then◌else◌, List, map, ℤ, pos, neg_ℤ, ◌+ℤ◌, ◌⊎◌}
+use Rattle.std.specs.Int.{w64, int_wrap}
+use Rattle.tsp_value.specs.Cells.{IsNode}
+use Rattle.tsp_cost.specs.Length.{sum_int_by}
+use Rattle.tsp_bound.specs.Adjusted.{is_same_pair, adjusted}
+use Rattle.tsp_branch.specs.Decisions.{Decision, on_taken, on_avoided}
+
+-- the number on each decided pair
+abbrev pub decided_number : ℤ
+decided_number = pos 4000000000000000000
+
+abbrev pub decision_of : ℕ × ℕ × Bool → Decision
+decision_of (i, j, taken) = record { pair = (i, j); taken = taken }
+
+abbrev pub case_of : List (ℕ × ℕ × Bool) → List Decision
+case_of decisions = map decision_of decisions
+
+-- two different nodes
+abbrev pub IsDecision : ℕ → ℕ × ℕ × Bool → Type 0
+IsDecision n (i, j, taken) = IsNode n i × IsNode n j × (i ≢ j)
+
+-- weights less the number of each taken pair, and more by that of each avoided one
+abbrev pub decided : List (ℕ × ℕ × Bool) → (ℕ → ℕ → ℤ) → ℕ → ℕ → ℤ
+decided decisions w = adjusted (on_taken decided_number (case_of decisions)) (on_avoided decided_number (case_of decisions)) w
+
+-- what a decision adds to the weight of two nodes, and what several do
+abbrev pub signed : Bool → ℤ
+signed taken = if taken then (neg_ℤ decided_number) else decided_number
+
+abbrev pub change_of : ℕ × ℕ × Bool → ℕ → ℕ → ℤ
+change_of (a, b, taken) i j = if is_same_pair (a, b) (i, j) then signed taken else pos 0
+
+abbrev pub changes : List (ℕ × ℕ × Bool) → ℕ → ℕ → ℤ
+changes decisions i j = sum_int_by (λ decision. change_of decision i j) decisions
+
+-- a value as it was, where the pair is another one; else what is left of the sum with the number in 64 bits
+abbrev pub IsChanged : ℕ × ℕ × Bool → ℕ → ℕ → ℤ → ℤ → Type 0
+IsChanged decision i j old new = ((new ≡ old) × (change_of decision i j ≡ pos 0))
+    ⊎ (new ≡ int_wrap w64 (old +ℤ change_of decision i j))

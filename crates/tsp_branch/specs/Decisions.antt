@@ -1,0 +1,61 @@
+-- Decisions: pairs that a walk uses, and pairs that it doesn't.
+use Rattle.std.specs.Prelude.{ℕ, ◌≤◌, ◌≡◌, Bool, true, false, if◌then◌else◌, List, [], ◌∷◌, length, map, ℤ, ◌≤ℤ◌}
+use Rattle.std.specs.List.{All}
+use Rattle.tsp_cost.specs.Costs.{IsEven}
+use Rattle.tsp_cost.specs.Walk.{IsWalk, AreNeighbours}
+use Rattle.tsp_cost.specs.Length.{length_of}
+use Rattle.tsp_cost.specs.Tour.{IsTour}
+use Rattle.tsp_bound.specs.Numbers.{IsScale}
+use Rattle.tsp_bound.specs.Adjusted.{pair_of, IsAdjustedBound}
+
+-- two nodes, and whether a walk is to use them as neighbours
+pub record Decision : Type 0 where
+  pub pair : ℕ × ℕ
+  pub taken : Bool
+
+abbrev pub KeepsPair : List ℕ → Bool → ℕ × ℕ → Type 0
+KeepsPair nodes true pair = AreNeighbours nodes pair
+KeepsPair nodes false pair = AreNeighbours nodes pair → ⊥
+
+-- a walk keeps a decision: the two nodes are neighbours on it, in either direction, exactly if the pair is taken
+abbrev pub Keeps : List ℕ → Decision → Type 0
+Keeps nodes decision = KeepsPair nodes decision.taken decision.pair
+
+abbrev pub KeepsAll : List ℕ → List Decision → Type 0
+KeepsAll nodes decisions = All (Keeps nodes) decisions
+
+-- pairs that are fixed, as decisions
+abbrev pub take_pairs : List (ℕ × ℕ) → List Decision
+take_pairs pairs = map (λ pair. record { pair = pair; taken = true }) pairs
+
+-- ---- decisions as the numbers on pairs that tsp_bound speaks of: the same number on each
+
+abbrev pub on_pair : ℤ → Decision → ℕ × ℕ × ℤ
+on_pair number decision = (decision.pair.0, decision.pair.1, number)
+
+-- the number on each taken pair; on each avoided one
+abbrev pub on_taken : ℤ → List Decision → List (ℕ × ℕ × ℤ)
+on_taken number [] = []
+on_taken number (decision ∷ decisions) =
+    if decision.taken then (on_pair number decision ∷ on_taken number decisions) else on_taken number decisions
+
+abbrev pub on_avoided : ℤ → List Decision → List (ℕ × ℕ × ℤ)
+on_avoided number [] = []
+on_avoided number (decision ∷ decisions) =
+    if decision.taken then on_avoided number decisions else (on_pair number decision ∷ on_avoided number decisions)
+
+-- ---- the theorems, which are those of tsp_bound
+
+-- The bound of potentials and decisions is at most the length of every walk that keeps these.
+abbrev pub DecidedBoundsBoundWalks : Type 0
+DecidedBoundsBoundWalks = (n : ℕ) (cost : ℕ → ℕ → ℤ) (scale : ℤ) (potentials : List ℤ) (number : ℤ) (decisions : List Decision)
+    (bound : ℤ) (nodes : List ℕ) → 3 ≤ n → IsEven cost → IsScale scale → length potentials ≡ n
+    → IsAdjustedBound n cost scale potentials (on_taken number decisions) (on_avoided number decisions) bound
+    → IsWalk n nodes → KeepsAll nodes decisions → bound ≤ℤ length_of cost nodes
+
+-- The bound of potentials and of numbers on fixed pairs is at most the length of every tour.
+abbrev pub FixedBoundsBoundTours : Type 0
+FixedBoundsBoundTours = (n : ℕ) (cost : ℕ → ℕ → ℤ) (scale : ℤ) (potentials : List ℤ) (fixed : List (ℕ × ℕ × ℤ)) (bound : ℤ)
+    (nodes : List ℕ) → 3 ≤ n → IsEven cost → IsScale scale → length potentials ≡ n
+    → IsAdjustedBound n cost scale potentials fixed [] bound → IsTour false n (map pair_of fixed) nodes
+    → bound ≤ℤ length_of cost nodes

@@ -1,0 +1,109 @@
+//! What always holds of bounds by branching, as contracts of functions that do nothing.
+
+ghost use Rattle.std.specs.Prelude.{ℕ, ℤ, List, [], ◌∷◌, ◌≤ℤ◌, true, false};
+ghost use Rattle.tsp_branch.specs.Combs.{WalksCrossCombs, NumbersTellCombs, NumbersTellLists};
+ghost use Rattle.tsp_branch.specs.Decisions.{Decision, DecidedBoundsBoundWalks, FixedBoundsBoundTours};
+ghost use Rattle.tsp_branch.specs.LeafBound.{LeafBoundsBoundWalks, UncombedBoundsAreAdjustedBounds};
+ghost use Rattle.tsp_branch.specs.Cases.{decide, BoundsCase, BoundsButOpen, WalksKeepLeaves, CasesBoundWalks, StacksBegin, StacksBranch, StacksHoldCases};
+ghost use Rattle.tsp_branch.specs.Certificate.{CertificatesBoundWalks, CertificatesBoundTours, CertificateBoundsAreUnique};
+
+use tsp_bound::adjusted_bounds_bound_walks;
+use tsp_cost::{lengths_add_up, walks_are_permutations, walks_have_no_loops};
+
+/// The bound of potentials and decisions is at most the length of every walk that keeps the
+/// decisions.
+pub fn decided_bounds_bound_walks()
+    ensures { DecidedBoundsBoundWalks }
+{
+    adjusted_bounds_bound_walks();
+}
+
+/// The bound of potentials and of numbers on fixed pairs is at most the length of every tour.
+pub fn fixed_bounds_bound_tours()
+    ensures { FixedBoundsBoundTours }
+{
+    adjusted_bounds_bound_walks();
+}
+
+/// Each walk crosses a comb of k teeth at least 3k + 1 times.
+pub fn walks_cross_combs()
+    ensures { WalksCrossCombs }
+{
+    walks_are_permutations();
+    lengths_add_up();
+    walks_have_no_loops();
+}
+
+/// Where each node has the number of its tooth, these numbers give a comb, and tell how many of its
+/// parts two nodes cross.
+pub fn numbers_tell_combs()
+    ensures { NumbersTellCombs }
+{}
+
+/// Where each node has the number of the tooth in whose list it stands, no two teeth have a node in
+/// common, and the numbers tell how many parts two nodes cross.
+pub fn numbers_tell_lists()
+    ensures { NumbersTellLists }
+{}
+
+/// The bound of potentials, of numbers on pairs and of combs is at most the length of every walk
+/// that uses each taken pair and no avoided one. With no comb it is the bound of tsp_bound.
+pub fn leaf_bounds_bound_walks()
+    ensures walks { LeafBoundsBoundWalks }
+    ensures uncombed { UncombedBoundsAreAdjustedBounds }
+{
+    walks_are_permutations();
+    lengths_add_up();
+    walks_have_no_loops();
+    walks_cross_combs();
+}
+
+/// Each walk that keeps the given decisions keeps those of a leaf.
+pub fn walks_keep_leaves()
+    ensures { WalksKeepLeaves }
+{}
+
+/// A bound that is at most the length of every walk of each leaf's case is at most the length of
+/// every walk that keeps the given decisions.
+pub fn cases_bound_walks()
+    ensures { CasesBoundWalks }
+{}
+
+/// How a bound of all walks but those of the open cases goes from step to step.
+pub fn steps_leave_cases()
+    ensures start { (n : ℕ) (cost : ℕ → ℕ → ℤ) (given : List Decision) (bound : ℤ)
+        → BoundsButOpen n cost given bound (given ∷ []) }
+    ensures branch { (n : ℕ) (cost : ℕ → ℕ → ℤ) (given : List Decision) (bound : ℤ) (pair : ℕ × ℕ)
+        (case : List Decision) (cases : List (List Decision))
+        → BoundsButOpen n cost given bound (case ∷ cases)
+        → BoundsButOpen n cost given bound (decide pair true case ∷ decide pair false case ∷ cases) }
+    ensures leaf { (n : ℕ) (cost : ℕ → ℕ → ℤ) (given : List Decision) (bound own lower : ℤ)
+        (case : List Decision) (cases : List (List Decision)) → lower ≤ℤ bound → lower ≤ℤ own
+        → BoundsCase n cost own case → BoundsButOpen n cost given bound (case ∷ cases)
+        → BoundsButOpen n cost given lower cases }
+    ensures end { (n : ℕ) (cost : ℕ → ℕ → ℤ) (given : List Decision) (bound : ℤ)
+        → BoundsButOpen n cost given bound [] → BoundsCase n cost bound given }
+{}
+
+/// A stack of decisions has the open cases: the given one at first, after a branch two in the place
+/// of the first, and after a leaf all but the first.
+pub fn stacks_hold_cases()
+    ensures start { StacksBegin }
+    ensures branch { StacksBranch }
+    ensures leaf { StacksHoldCases }
+{}
+
+/// The bound of a certificate is at most the length of every walk that keeps the given decisions,
+/// and of every tour where the fixed pairs are given.
+pub fn certificates_bound_walks()
+    ensures walks { CertificatesBoundWalks }
+    ensures tours { CertificatesBoundTours }
+{
+    leaf_bounds_bound_walks();
+    cases_bound_walks();
+}
+
+/// A certificate has one bound, whichever least 1-trees are found.
+pub fn certificate_bounds_are_unique()
+    ensures { CertificateBoundsAreUnique }
+{}

@@ -1,0 +1,29 @@
+//! Lower bounds by branching: combs, and cases by pairs of nodes, as theorems over lists and whole
+//! numbers; and in code the bound of a leaf whose weights are told by rows.
+#![tactic(auto)]
+
+mod decided;
+mod examples;
+mod growth;
+mod laws;
+mod leaf;
+mod node_weights;
+mod scaled;
+mod spokes;
+mod tree;
+mod weights;
+
+pub use decided::DecidedWeights;
+pub use examples::{
+    examples_of_bounds, examples_of_crossings, examples_of_trees, examples_of_weights,
+};
+pub use laws::{
+    cases_bound_walks, certificate_bounds_are_unique, certificates_bound_walks,
+    decided_bounds_bound_walks, fixed_bounds_bound_tours, leaf_bounds_bound_walks,
+    numbers_tell_combs, numbers_tell_lists, stacks_hold_cases, steps_leave_cases,
+    walks_cross_combs, walks_keep_leaves,
+};
+pub use leaf::leaf_bound;
+pub use node_weights::NodeWeights;
+pub use tree::least_weight;
+pub use weights::Weights;

@@ -1,0 +1,116 @@
+//! Small instances and solutions, on which the definitions are evaluated. No body is looked at
+//! here: a definition that is changed together with its code is refused by its examples.
+
+ghost use Rattle.std.specs.Prelude.{◌≡◌, ℕ, ◌+◌, ◌*◌, [], ◌∷◌, pos, negsuc};
+ghost use Rattle.tsp_value.specs.declared.kinds.Kind.TheVariants as kinds;
+ghost use Rattle.tsp_verdict.specs.declared.verdict.Reason.TheVariants as reasons;
+ghost use Rattle.tsp_verdict.specs.Plan.{IsPlanOf, IsLeast, plan_length, total_of};
+ghost use Rattle.tsp_verdict.specs.Tours as tours;
+ghost use Rattle.tsp_verdict.specs.Routes as routes;
+ghost use Rattle.tsp_verdict.specs.Certificate as certificates;
+ghost use Rattle.tsp_verdict.specs.Certificate.{scale_in};
+ghost use Rattle.tsp_verdict.specs.Examples.{of_nodes, of_rows, of_both, nodes, vehicles, carrying, solution, sized, lone, both, two, three, four, Before};
+
+/// The order in which reasons against a tour, and then against its certificate, are judged: each
+/// pair of neighbours.
+pub fn examples_of_order()
+    ensures nodes { Before tours.rank_of reasons.NotASolution reasons.TooFewNodes }
+    ensures even { Before tours.rank_of reasons.TooFewNodes (reasons.NotSymmetric 1 2) }
+    ensures dimension { Before tours.rank_of (reasons.NotSymmetric 1 2) reasons.Dimension }
+    ensures count { Before tours.rank_of reasons.Dimension reasons.TourCount }
+    ensures length { Before tours.rank_of reasons.TourCount reasons.TourLength }
+    ensures range { Before tours.rank_of reasons.TourLength (reasons.NodeOutOfRange 1) }
+    ensures repeated { Before tours.rank_of (reasons.NodeOutOfRange 9) (reasons.RepeatedNode 1) }
+    ensures fixed { Before tours.rank_of (reasons.RepeatedNode 9) (reasons.FixedEdgeUnused 1) }
+    ensures potentials { Before tours.rank_of (reasons.FixedEdgeUnused 9) reasons.NotPotentials }
+    ensures their_dimension { Before tours.rank_of reasons.NotPotentials reasons.PotentialsDimension }
+    ensures their_kind { Before tours.rank_of reasons.PotentialsDimension reasons.PotentialsKind }
+    ensures not_fixed { Before tours.rank_of reasons.PotentialsKind (reasons.MultiplierNotFixed 1) }
+    ensures multiplied_twice { Before tours.rank_of (reasons.MultiplierNotFixed 9) (reasons.MultiplierRepeated 1) }
+    ensures duals { Before tours.rank_of (reasons.MultiplierRepeated 9) (reasons.DualInfeasible 1 2) }
+{}
+
+/// The order in which reasons against routes are judged: each pair of neighbours.
+pub fn examples_of_order_of_routes()
+    ensures nodes { Before routes.rank_of reasons.NotASolution reasons.TooFewNodes }
+    ensures dimension { Before routes.rank_of reasons.TooFewNodes reasons.Dimension }
+    ensures depots { Before routes.rank_of reasons.Dimension reasons.DepotCount }
+    ensures demand { Before routes.rank_of reasons.DepotCount reasons.DepotDemand }
+    ensures fixed { Before routes.rank_of reasons.DepotDemand reasons.FixedEdgesInRoutes }
+    ensures depot { Before routes.rank_of reasons.FixedEdgesInRoutes (reasons.DepotInRoute 1) }
+    ensures range { Before routes.rank_of (reasons.DepotInRoute 9) (reasons.NodeOutOfRange 1) }
+    ensures repeated { Before routes.rank_of (reasons.NodeOutOfRange 9) (reasons.RepeatedNode 1) }
+    ensures unserved { Before routes.rank_of (reasons.RepeatedNode 9) (reasons.Unserved 2) }
+    ensures overload { Before routes.rank_of (reasons.Unserved 9) (reasons.Overload 1) }
+{}
+
+/// When the reasons against a tour stand.
+pub fn examples_against_tours()
+    ensures no_solution { tours.StandsAgainst (nodes kinds.Tsp 4 []) (nodes kinds.Potentials 4 []) reasons.NotASolution }
+    ensures two_nodes { tours.StandsAgainst (nodes kinds.Tsp 2 []) (lone (two 1 2)) reasons.TooFewNodes }
+    ensures three_nodes { ¬ tours.StandsAgainst (nodes kinds.Tsp 3 []) (lone (two 1 2)) reasons.TooFewNodes }
+    ensures dimension { tours.StandsAgainst (nodes kinds.Tsp 4 []) (sized 5 []) reasons.Dimension }
+    ensures same_dimension { ¬ tours.StandsAgainst (nodes kinds.Tsp 4 []) (sized 4 []) reasons.Dimension }
+    ensures no_dimension { ¬ tours.StandsAgainst (nodes kinds.Tsp 4 []) (solution []) reasons.Dimension }
+    ensures no_tour { tours.StandsAgainst (nodes kinds.Tsp 4 []) (solution []) reasons.TourCount }
+    ensures two_tours { tours.StandsAgainst (nodes kinds.Tsp 4 []) (both (two 1 2) (two 3 4)) reasons.TourCount }
+    ensures one_tour { ¬ tours.StandsAgainst (nodes kinds.Tsp 4 []) (lone (two 1 2)) reasons.TourCount }
+    ensures short { tours.StandsAgainst (nodes kinds.Tsp 4 []) (lone (three 1 2 3)) reasons.TourLength }
+    ensures past_the_last { tours.StandsAgainst (nodes kinds.Tsp 4 []) (lone (four 1 2 3 5)) (reasons.NodeOutOfRange 4) }
+    ensures the_last { ¬ tours.StandsAgainst (nodes kinds.Tsp 4 []) (lone (four 1 2 3 4)) (reasons.NodeOutOfRange 4) }
+    ensures first_past { ¬ tours.StandsAgainst (nodes kinds.Tsp 4 []) (lone (four 1 2 5 6)) (reasons.NodeOutOfRange 4) }
+    ensures repeated { tours.StandsAgainst (nodes kinds.Tsp 4 []) (lone (four 1 2 2 3)) (reasons.RepeatedNode 3) }
+    ensures first_repeated { tours.StandsAgainst (nodes kinds.Tsp 4 []) (lone (four 1 1 4 4)) (reasons.RepeatedNode 2) }
+    ensures not_the_second { ¬ tours.StandsAgainst (nodes kinds.Tsp 4 []) (lone (four 1 1 4 4)) (reasons.RepeatedNode 4) }
+    ensures unused { tours.StandsAgainst (nodes kinds.Tsp 4 ((1, 3) ∷ [])) (lone (four 1 2 3 4)) (reasons.FixedEdgeUnused 1) }
+    ensures arc { tours.StandsAgainst (nodes kinds.Atsp 3 ((2, 1) ∷ [])) (lone (three 1 2 3)) (reasons.FixedEdgeUnused 1) }
+    ensures no_arc { ¬ tours.StandsAgainst (nodes kinds.Tsp 3 ((2, 1) ∷ [])) (lone (three 1 2 3)) (reasons.FixedEdgeUnused 1) }
+{}
+
+/// When the reasons against a certificate stand. None is broken here by its numbers.
+pub fn examples_against_certificates()
+    ensures scale { scale_in (of_nodes 4) ≡ pos 1 }
+    ensures no_potentials { certificates.StandsAgainst (nodes kinds.Tsp 4 []) (solution []) reasons.NotPotentials }
+    ensures potentials { ¬ certificates.StandsAgainst (nodes kinds.Tsp 4 []) (of_nodes 4) reasons.NotPotentials }
+    ensures dimension { certificates.StandsAgainst (nodes kinds.Tsp 4 []) (of_nodes 3) reasons.PotentialsDimension }
+    ensures same_dimension { ¬ certificates.StandsAgainst (nodes kinds.Tsp 4 []) (of_nodes 4) reasons.PotentialsDimension }
+    ensures tsp { ¬ certificates.StandsAgainst (nodes kinds.Tsp 4 []) (of_nodes 4) reasons.PotentialsKind }
+    ensures tsp_by_rows { certificates.StandsAgainst (nodes kinds.Tsp 4 []) (of_both 4) reasons.PotentialsKind }
+    ensures atsp { ¬ certificates.StandsAgainst (nodes kinds.Atsp 4 []) (of_both 4) reasons.PotentialsKind }
+    ensures atsp_by_nodes { certificates.StandsAgainst (nodes kinds.Atsp 4 []) (of_nodes 4) reasons.PotentialsKind }
+    ensures atsp_by_rows { certificates.StandsAgainst (nodes kinds.Atsp 4 []) (of_rows 4) reasons.PotentialsKind }
+{}
+
+/// When the reasons against routes stand. Node 1 is the depot.
+pub fn examples_against_routes()
+    ensures one_node { routes.StandsAgainst (nodes kinds.Cvrp 1 []) (solution []) reasons.TooFewNodes }
+    ensures two_nodes { ¬ routes.StandsAgainst (nodes kinds.Cvrp 2 []) (solution []) reasons.TooFewNodes }
+    ensures no_depot { routes.StandsAgainst (vehicles [] (pos 0) (pos 4) (pos 8)) (solution []) reasons.DepotCount }
+    ensures two_depots { routes.StandsAgainst (vehicles (two 1 1) (pos 0) (pos 4) (pos 8)) (solution []) reasons.DepotCount }
+    ensures one_depot { ¬ routes.StandsAgainst (carrying (pos 8)) (solution []) reasons.DepotCount }
+    ensures demand { routes.StandsAgainst (vehicles (1 ∷ []) (pos 1) (pos 4) (pos 8)) (solution []) reasons.DepotDemand }
+    ensures no_demand { ¬ routes.StandsAgainst (carrying (pos 8)) (solution []) reasons.DepotDemand }
+    ensures fixed { routes.StandsAgainst (nodes kinds.Cvrp 4 ((2, 3) ∷ [])) (solution []) reasons.FixedEdgesInRoutes }
+    ensures depot { routes.StandsAgainst (carrying (pos 8)) (lone (three 2 1 3)) (reasons.DepotInRoute 2) }
+    ensures repeated { routes.StandsAgainst (carrying (pos 8)) (both (two 2 3) (3 ∷ [])) (reasons.RepeatedNode 3) }
+    ensures unserved { routes.StandsAgainst (carrying (pos 8)) (lone (two 2 3)) (reasons.Unserved 4) }
+    ensures past_capacity { routes.StandsAgainst (carrying (pos 7)) (both (two 2 3) (4 ∷ [])) (reasons.Overload 1) }
+    ensures at_capacity { ¬ routes.StandsAgainst (carrying (pos 8)) (both (two 2 3) (4 ∷ [])) (reasons.Overload 1) }
+{}
+
+/// What plans are, how long they are, how many routes are the least.
+#[tactic(auto, unfolding(tsp_value::specs::Cells::nodes_to))]
+pub fn examples_of_plans()
+    ensures at_capacity { IsPlanOf (carrying (pos 8)) (two 2 3 ∷ (4 ∷ []) ∷ []) }
+    ensures past_capacity { ¬ IsPlanOf (carrying (pos 7)) (two 2 3 ∷ (4 ∷ []) ∷ []) }
+    ensures unserved { ¬ IsPlanOf (carrying (pos 8)) (two 2 3 ∷ []) }
+    ensures twice { ¬ IsPlanOf (carrying (pos 8)) (two 2 3 ∷ two 3 4 ∷ []) }
+    ensures depot { ¬ IsPlanOf (carrying (pos 8)) (two 2 3 ∷ two 1 4 ∷ []) }
+    ensures length { plan_length (λ i j. pos (10 * i + j)) 1 (two 2 3 ∷ (4 ∷ []) ∷ []) ≡ pos (12 + 23 + 31 + 14 + 41) }
+    ensures direction { plan_length (λ i j. pos (i * i + j)) 1 (two 3 2 ∷ []) ≡ pos (4 + 11 + 5) }
+    ensures total { total_of (carrying (pos 8)) ≡ pos 12 }
+    ensures least { IsLeast (pos 12) (pos 8) 2 }
+    ensures full { IsLeast (pos 16) (pos 8) 2 }
+    ensures one_more { IsLeast (pos 17) (pos 8) 3 }
+    ensures nothing { IsLeast (pos 0) (pos 8) 0 }
+{}

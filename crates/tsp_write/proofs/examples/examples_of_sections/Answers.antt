@@ -1,0 +1,53 @@
+use Rattle.std.proofs.Common.{rules}
+use Rattle.std.specs.Fmt.{digits}
+use Rattle.tsp_number.specs.Spelling.{decimals}
+use Rattle.tsp_value.specs.Cells.{nodes_to, cells_of_line}
+use Rattle.tsp_write.proofs.examples.examples_of_sections.Goals as goal
+
+pub returns-clause-coords : goal.returns-clause-coords
+unfolding digits decimals nodes_to cells_of_line
+returns-clause-coords c = search rules
+
+pub returns-clause-display : goal.returns-clause-display
+unfolding digits decimals nodes_to cells_of_line
+returns-clause-display c = search rules
+
+pub returns-clause-demands : goal.returns-clause-demands
+unfolding digits decimals nodes_to cells_of_line
+returns-clause-demands c = search rules
+
+pub returns-clause-depots : goal.returns-clause-depots
+unfolding digits decimals nodes_to cells_of_line
+returns-clause-depots c = search rules
+
+pub returns-clause-fixed : goal.returns-clause-fixed
+unfolding digits decimals nodes_to cells_of_line
+returns-clause-fixed c = search rules
+
+pub returns-clause-weights : goal.returns-clause-weights
+unfolding digits decimals nodes_to cells_of_line
+returns-clause-weights c = search rules
+
+pub returns-clause-tours : goal.returns-clause-tours
+unfolding digits decimals nodes_to cells_of_line
+returns-clause-tours c = search rules
+
+pub returns-clause-node_potentials : goal.returns-clause-node_potentials
+unfolding digits decimals nodes_to cells_of_line
+returns-clause-node_potentials c = search rules
+
+pub returns-clause-row_potentials : goal.returns-clause-row_potentials
+unfolding digits decimals nodes_to cells_of_line
+returns-clause-row_potentials c = search rules
+
+pub returns-clause-column_potentials : goal.returns-clause-column_potentials
+unfolding digits decimals nodes_to cells_of_line
+returns-clause-column_potentials c = search rules
+
+pub returns-clause-fixed_potentials : goal.returns-clause-fixed_potentials
+unfolding digits decimals nodes_to cells_of_line
+returns-clause-fixed_potentials c = search rules
+
+pub returns-clause-whole : goal.returns-clause-whole
+unfolding digits decimals nodes_to cells_of_line
+returns-clause-whole c = search rules

@@ -1,0 +1,130 @@
+-- The canonical text of a file: the texts of its fields in canonical order, then the line EOF. A field that is missing has no text.
+use Rattle.std.specs.Prelude.{ℕ, List, [], ◌∷◌, ◌++◌, take, drop, map, length, codes, Option, Some, None, ℤ}
+use Rattle.std.specs.Option.{option_map_or}
+use Rattle.std.specs.List.{flat_map, enumerate_from}
+use Rattle.std.specs.Fmt.{decimal, signed_decimal}
+use Rattle.tsp_number.specs.declared.decimal.Point.{Point}
+use Rattle.tsp_number.specs.Spelling.{spelling}
+use Rattle.tsp_value.specs.declared.kinds.WeightFormat.{WeightFormat}
+use Rattle.tsp_value.specs.declared.kinds.WeightFormat.TheVariants.{Listed}
+use Rattle.tsp_value.specs.declared.field.Field.{Field}
+use Rattle.tsp_value.specs.declared.field.Field.TheVariants.{NameKey, TypeKey, CommentKey, OtherKey, DimensionKey, CapacityKey, ScaleKey, EdgeWeightTypeKey, EdgeWeightFormatKey, NodeCoordTypeKey, DisplayDataTypeKey}
+use Rattle.tsp_value.specs.declared.field.Shape.{Shape}
+use Rattle.tsp_value.specs.declared.field.Shape.TheVariants.{Numbers, Points, Depots, Pairs, Weights, Tours, Triples}
+use Rattle.tsp_value.specs.Shapes.{shape_of}
+use Rattle.tsp_value.specs.Words.{field_word, kind_word, weight_kind_word, weight_format_word, coord_kind_word, display_kind_word}
+use Rattle.tsp_value.specs.Words.{fields_in_order}
+use Rattle.tsp_value.specs.Cells.{nodes_to, cells_of_line}
+use Rattle.tsp_fields.specs.Fields.{Fields, numbers_in, points_in}
+
+-- ---- lines
+
+-- the end of a line
+abbrev pub line_end : List ℕ
+line_end = 10 ∷ []
+
+-- a blank before a text that isn't empty
+abbrev pub after_blank : List ℕ → List ℕ
+after_blank [] = []
+after_blank (first ∷ rest) = 32 ∷ first ∷ rest
+
+-- a keyword, a blank, a colon and the value
+abbrev pub value_line : List ℕ → List ℕ → List ℕ
+value_line keyword value = keyword ++ (codes " :" ++ (after_blank value ++ line_end))
+
+abbrev pub keyword_line : Field → List ℕ → List ℕ
+keyword_line field value = value_line (field_word field) value
+
+-- the line of an unknown keyword
+abbrev pub other_line : List ℕ × List ℕ → List ℕ
+other_line other = value_line other.0 other.1
+
+-- a number, and more of them, each after a blank
+abbrev pub number_line : List ℕ → List (List ℕ) → List ℕ
+number_line first more = first ++ (flat_map (λ word. 32 ∷ word) more ++ line_end)
+
+-- ---- sections
+
+-- the section's line, then its number lines
+abbrev pub section : Field → List ℕ → List ℕ
+section field lines = field_word field ++ (line_end ++ lines)
+
+-- one line for each node in rising order: the node and its numbers
+abbrev pub by_node : {A : Type 0} → (A → List (List ℕ)) → List A → List ℕ
+by_node numbers entries = flat_map (λ entry. number_line (decimal entry.0) (numbers entry.1)) (enumerate_from 1 entries)
+
+-- lines that -1 ends
+abbrev pub ended : List ℕ → List ℕ
+ended lines = lines ++ (codes "-1" ++ line_end)
+
+-- one node per line, then -1
+abbrev pub node_list : List ℕ → List ℕ
+node_list nodes = ended (flat_map (λ node. number_line (decimal node) []) nodes)
+
+-- one pair per line, then -1
+abbrev pub pair_list : List (ℕ × ℕ) → List ℕ
+pair_list pairs = ended (flat_map (λ pair. number_line (decimal pair.0) (decimal pair.1 ∷ [])) pairs)
+
+-- one pair with its number per line, then -1
+abbrev pub triple_list : List (ℕ × ℕ × ℤ) → List ℕ
+triple_list triples =
+    ended (flat_map (λ triple. number_line (decimal triple.0) (decimal triple.1 ∷ signed_decimal triple.2 ∷ [])) triples)
+
+abbrev pub point_numbers : Point → List (List ℕ)
+point_numbers point = spelling point.x ∷ spelling point.y ∷ []
+
+abbrev pub whole_number : ℤ → List (List ℕ)
+whole_number number = signed_decimal number ∷ []
+
+-- ---- the matrix of weights
+
+-- how many cells each row of the layout has, each column for a layout that goes by columns
+abbrev pub line_lens : Option WeightFormat → Option ℕ → List ℕ
+line_lens (Some (Listed layout)) (Some n) = map (λ k. length (cells_of_line layout n k)) (nodes_to n)
+line_lens format dimension = []
+
+-- the line of some weights; no line where there are none
+abbrev pub weight_line : List ℤ → List ℕ
+weight_line [] = []
+weight_line (first ∷ rest) = number_line (signed_decimal first) (map signed_decimal rest)
+
+-- The weights in lines of these lengths. Weights that no line takes, which a valid file doesn't have, stand in a last line.
+abbrev pub matrix_lines : List ℕ → List ℤ → List ℕ
+matrix_lines [] weights = weight_line weights
+matrix_lines (len ∷ lens) weights = weight_line (take len weights) ++ matrix_lines lens (drop len weights)
+
+-- ---- the whole text
+
+-- a field that is missing has no text
+abbrev pub optional : {A : Type 0} → (A → List ℕ) → Option A → List ℕ
+optional text None = []
+optional text (Some value) = text value
+
+-- the text of a section of this shape
+abbrev pub text_of_section : Fields → Field → Shape → List ℕ
+text_of_section f field (Numbers low high) = optional (λ numbers. section field (by_node whole_number numbers)) (numbers_in f field)
+text_of_section f field Points = optional (λ points. section field (by_node point_numbers points)) (points_in f field)
+text_of_section f field Depots = optional (λ depots. section field (node_list depots)) f.depots
+text_of_section f field Pairs = optional (λ pairs. section field (pair_list pairs)) f.fixed
+text_of_section f field Weights = optional (λ weights. section field (matrix_lines (line_lens f.weight_format f.dimension) weights)) f.weights
+text_of_section f field Tours = optional (λ tours. section field (flat_map node_list tours)) f.tours
+text_of_section f field Triples = optional (λ triples. section field (triple_list triples)) f.fixed_potentials
+
+-- the text of a field
+abbrev pub text_of_field : Fields → Field → List ℕ
+text_of_field f NameKey = optional (keyword_line NameKey) f.name
+text_of_field f TypeKey = optional (λ kind. keyword_line TypeKey (kind_word kind)) f.kind
+text_of_field f CommentKey = flat_map (keyword_line CommentKey) f.comments
+text_of_field f OtherKey = flat_map other_line f.others
+text_of_field f DimensionKey = optional (λ n. keyword_line DimensionKey (decimal n)) f.dimension
+text_of_field f CapacityKey = optional (λ capacity. keyword_line CapacityKey (signed_decimal capacity)) f.capacity
+text_of_field f ScaleKey = optional (λ scale. keyword_line ScaleKey (signed_decimal scale)) f.scale
+text_of_field f EdgeWeightTypeKey = optional (λ kind. keyword_line EdgeWeightTypeKey (weight_kind_word kind)) f.weight_kind
+text_of_field f EdgeWeightFormatKey = optional (λ format. keyword_line EdgeWeightFormatKey (weight_format_word format)) f.weight_format
+text_of_field f NodeCoordTypeKey = optional (λ kind. keyword_line NodeCoordTypeKey (coord_kind_word kind)) f.coord_kind
+text_of_field f DisplayDataTypeKey = optional (λ kind. keyword_line DisplayDataTypeKey (display_kind_word kind)) f.display_kind
+text_of_field f field = option_map_or (text_of_section f field) (shape_of field) []
+
+-- the canonical text
+abbrev pub text_of : Fields → List ℕ
+text_of f = flat_map (text_of_field f) fields_in_order ++ (codes "EOF" ++ line_end)
