@@ -110,21 +110,21 @@ const UNIT: usize = 1_048_576;
 
 const UNITS: usize = 1_024;
 
-/// A text of blanks, so many fewer than a file may have bytes.
-fn blanks_but(alloc: Global, fewer: usize) -> Result<Feed, Fail> {
+/// Feeds blanks, so many bytes fewer than a file may have.
+fn feed_blanks_but(feed: &mut Feed, alloc: Global, fewer: usize) -> Result<(), Fail> {
     let blanks = " ".repeat(alloc, UNIT)?;
-    let mut feed = Feed::new(alloc);
     for _ in 1..UNITS {
         feed.feed(blanks.as_bytes())?;
     }
     let last = " ".repeat(alloc, UNIT.saturating_sub(fewer))?;
     feed.feed(last.as_bytes())?;
-    Ok(feed)
+    Ok(())
 }
 
 #[test]
 fn a_byte_past_the_limit_is_refused(rt: HostRuntime) -> Result<(), Fail> {
-    let mut feed = blanks_but(rt.alloc(), 1)?;
+    let mut feed = Feed::new(rt.alloc());
+    feed_blanks_but(&mut feed, rt.alloc(), 1)?;
     same(&rt, feed.feed(b"\n"), Ok(()));
     same(&rt, feed.feed(b""), Ok(()));
     same(&rt, feed.feed(b" "), Err(ReadFault::TooLong));
@@ -135,7 +135,8 @@ fn a_byte_past_the_limit_is_refused(rt: HostRuntime) -> Result<(), Fail> {
 
 #[test]
 fn a_line_eof_that_ends_at_the_limit_counts(rt: HostRuntime) -> Result<(), Fail> {
-    let mut feed = blanks_but(rt.alloc(), 4)?;
+    let mut feed = Feed::new(rt.alloc());
+    feed_blanks_but(&mut feed, rt.alloc(), 4)?;
     same(&rt, feed.feed(b"EO"), Ok(()));
     same(&rt, feed.feed(b"F\n### "), Ok(()));
     same(&rt, feed.feed(b"1 x\n"), Ok(()));
@@ -146,7 +147,8 @@ fn a_line_eof_that_ends_at_the_limit_counts(rt: HostRuntime) -> Result<(), Fail>
 
 #[test]
 fn a_line_eof_that_ends_past_the_limit_does_not_count(rt: HostRuntime) -> Result<(), Fail> {
-    let mut feed = blanks_but(rt.alloc(), 3)?;
+    let mut feed = Feed::new(rt.alloc());
+    feed_blanks_but(&mut feed, rt.alloc(), 3)?;
     same(&rt, feed.feed(b"EOF"), Ok(()));
     same(&rt, feed.feed(b"\n"), Err(ReadFault::TooLong));
     same(&rt, feed.finish().err(), Some(ReadFault::TooLong));
