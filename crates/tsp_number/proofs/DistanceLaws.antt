@@ -142,7 +142,7 @@ rounded_square_apart s j k high low less =
 euc_2d_apart : (a b : Point) (j k : ℕ) → IsEuc2d a b j → IsEuc2d a b k → ¬ (j < k)
 euc_2d_apart a b j k first second = rounded_square_apart (square_apart a b) j k first.below_next_half second.from_last_half
 
-covered_apart : (s : ℕ) (f : ℕ → ℕ) (j k : ℕ) → s ≤ f j → ((i : ℕ) → i < k → f i < s) → ¬ (j < k)
+pub covered_apart : (s : ℕ) (f : ℕ → ℕ) (j k : ℕ) → s ≤ f j → ((i : ℕ) → i < k → f i < s) → ¬ (j < k)
 covered_apart s f j k enough none less = omega (arith, enough, none j less)
 
 ceil_2d_apart : (a b : Point) (j k : ℕ) → IsCeil2d a b j → IsCeil2d a b k → ¬ (j < k)

@@ -1,6 +1,7 @@
 pub mod Grammar
 pub mod DistanceLaws
 pub mod SpaceLaws
+pub mod MonotoneLaws
 pub mod Reading
 pub mod Roots
 pub mod Scaling

@@ -1,5 +1,6 @@
 pub mod Decimal
 pub mod Distances
+pub mod Monotone
 pub mod Rounding
 pub mod NumberWord
 pub mod Scan

@@ -14,6 +14,7 @@ mod examples;
 mod fault;
 mod front;
 mod laws;
+mod monotone;
 mod root;
 mod scale;
 mod scan;
@@ -30,6 +31,7 @@ pub use examples::{
 pub use fault::NumberFault;
 pub use front::{front_decimal, front_whole};
 pub use laws::{distance_laws, number_word_laws, spelling_laws};
+pub use monotone::monotone_laws;
 pub use space::{euc_3d, man_3d, max_3d};
 pub use spelling::{push_decimal, write_decimal};
 pub use word::{parse_decimal, parse_whole};
