@@ -43,6 +43,12 @@ pub grown_by_nodes : (Node : ℕ → Type 0) (w : ℕ → ℕ → ℤ) (added : 
 grown_by_nodes Node w [] grown g nodes = nodes
 grown_by_nodes Node w (e ∷ es) grown g nodes = grown_by_nodes Node w es (and_node grown e.1) g.1 (and_node_all grown e.1 Node g.0.node nodes)
 
+-- the pair at a place of a growth leaves the part grown before it
+pub grows_at : (Node : ℕ → Type 0) (w : ℕ → ℕ → ℤ) (pairs : List (ℕ × ℕ)) (grown : ℕ → Bool) (i : ℕ) (d : ℕ × ℕ) → i < length pairs → Grows Node w grown pairs → IsLeastLeaving Node w (grown_by grown (take i pairs)) (get_or pairs i d)
+grows_at Node w [] grown i d low g = absurd (omega (arith, low))
+grows_at Node w (e ∷ es) grown zero d low g = g.0
+grows_at Node w (e ∷ es) grown (suc i) d low g = grows_at Node w es (and_node grown e.1) i d (omega (arith, low)) g.1
+
 -- ---- a mark more
 
 pub marked_more : (inside : List Bool) (v x : ℕ) → v < length inside → is_inside (set inside v true) x ≡ and_node (is_inside inside) v x
@@ -84,10 +90,11 @@ insiders_inner (false ∷ false ∷ inside) some none one all = omega (arith, in
 before : (n : ℕ) (inside : List Bool) (v x : ℕ) → v < length inside → is_inside (set inside v true) x ≡ false → is_inside inside x ≡ false
 before n inside v x in_list free = (or_parts (x == v) (is_inside inside x) (sym (marked_more inside v x in_list) ∙ free)).1
 
-pub state_more : (n : ℕ) (w : ℕ → ℕ → ℤ) (inside : List Bool) (near after : List ℕ) (least least_after : List ℤ) (added : List (ℕ × ℕ)) (v : ℕ) → IsState n w inside near least added → IsNearestOutside n inside least v
-    → length after ≡ length near → length least_after ≡ length least → AreNearer n w (set inside v true) v near least after least_after → IsState n w (set inside v true) after least_after (added ++ (slice_index near v, v) ∷ [])
-state_more n w inside near after least least_after added v s next size least_size nearer =
-    let in_list : v < length inside = omega (arith, s.inside_len, next.inner) in
+pub state_more_by : (n : ℕ) (w : ℕ → ℕ → ℤ) (inside : List Bool) (near after : List ℕ) (least least_after : List ℤ) (added : List (ℕ × ℕ)) (u v : ℕ) → IsState n w inside near least added → IsInner n v → is_inside inside v ≡ false
+    → IsLeastLeaving (IsInner n) w (grown_by (λ x. x == 2) added) (u, v)
+    → length after ≡ length near → length least_after ≡ length least → AreNearer n w (set inside v true) v near least after least_after → IsState n w (set inside v true) after least_after (added ++ (u, v) ∷ [])
+state_more_by n w inside near after least least_after added u v s inner outside leaving size least_size nearer =
+    let in_list : v < length inside = omega (arith, s.inside_len, inner) in
     let more : (x : ℕ) → is_inside (set inside v true) x ≡ and_node (is_inside inside) v x = λ x. marked_more inside v x in_list in
     record {
       inside_len = length-set inside v true ∙ s.inside_len;
@@ -102,18 +109,9 @@ state_more n w inside near after least least_after added v s next size least_siz
         | inr new ↦ new.1 ∙ ap (λ y. w y x) (sym new.0)
       ];
       least_is = λ x a in_x in_a free taken. below x a in_x in_a free (or_cases (a == v) (is_inside inside a) (sym (more a) ∙ taken)) (nearer x in_x free);
-      grows = grows_more (IsInner n) w added (λ x. x == 2) (slice_index near v, v) s.grows (record {
-        from = sym (s.reached (slice_index near v)) ∙ s.joined v next.inner next.outside;
-        to = sym (s.reached v) ∙ next.outside;
-        node = next.inner;
-        least = λ a b in_a in_b a_inside b_outside.
-            let here = s.weight v next.inner next.outside in
-            let first = next.nearest b in_b (s.reached b ∙ b_outside) in
-            let second : least_at least b ≤ℤ w a b = s.least_is b a in_b in_a (s.reached b ∙ b_outside) (s.reached a ∙ a_inside) in
-            omega (arith, ints, here, first, second);
-      });
-      reached = λ x. more x ∙ (ap (λ b. (x == v) || b) (s.reached x) ∙ ap (λ f. f x) (sym (grown_by_more added (λ y. y == 2) (slice_index near v, v))));
-      count = omega (arith, insiders_more inside v in_list next.outside, s.count, length-append added ((slice_index near v, v) ∷ []));
+      grows = grows_more (IsInner n) w added (λ x. x == 2) (u, v) s.grows leaving;
+      reached = λ x. more x ∙ (ap (λ b. (x == v) || b) (s.reached x) ∙ ap (λ f. f x) (sym (grown_by_more added (λ y. y == 2) (u, v))));
+      count = omega (arith, insiders_more inside v in_list outside, s.count, length-append added ((u, v) ∷ []));
     }
   where
     below : (x a : ℕ) → IsInner n x → IsInner n a → is_inside (set inside v true) x ≡ false → ((a == v) ≡ true) ⊎ (is_inside inside a ≡ true)
@@ -127,11 +125,27 @@ state_more n w inside near after least least_after added v s next size least_siz
         let under : least_at least_after x ≤ℤ w v x = omega (arith, ints, new.1) in
         subst (λ y. least_at least_after x ≤ℤ w y x) (sym here) under
     below x a in_x in_a free (inr taken) (inl old) =
-        let first : least_at least x ≤ℤ w a x = s.least_is x a in_x in_a (before n inside v x (omega (arith, s.inside_len, next.inner)) free) taken in
+        let first : least_at least x ≤ℤ w a x = s.least_is x a in_x in_a (before n inside v x (omega (arith, s.inside_len, inner)) free) taken in
         omega (arith, ints, first, old.1)
     below x a in_x in_a free (inr taken) (inr new) =
-        let first : least_at least x ≤ℤ w a x = s.least_is x a in_x in_a (before n inside v x (omega (arith, s.inside_len, next.inner)) free) taken in
+        let first : least_at least x ≤ℤ w a x = s.least_is x a in_x in_a (before n inside v x (omega (arith, s.inside_len, inner)) free) taken in
         omega (arith, ints, first, new.1, new.2)
+
+pub state_more : (n : ℕ) (w : ℕ → ℕ → ℤ) (inside : List Bool) (near after : List ℕ) (least least_after : List ℤ) (added : List (ℕ × ℕ)) (v : ℕ) → IsState n w inside near least added → IsNearestOutside n inside least v
+    → length after ≡ length near → length least_after ≡ length least → AreNearer n w (set inside v true) v near least after least_after → IsState n w (set inside v true) after least_after (added ++ (slice_index near v, v) ∷ [])
+state_more n w inside near after least least_after added v s next size least_size nearer =
+    state_more_by n w inside near after least least_after added (slice_index near v) v s next.inner next.outside
+    (record {
+      from = sym (s.reached (slice_index near v)) ∙ s.joined v next.inner next.outside;
+      to = sym (s.reached v) ∙ next.outside;
+      node = next.inner;
+      least = λ a b in_a in_b a_inside b_outside.
+          let here = s.weight v next.inner next.outside in
+          let first = next.nearest b in_b (s.reached b ∙ b_outside) in
+          let second : least_at least b ≤ℤ w a b = s.least_is b a in_b in_a (s.reached b ∙ b_outside) (s.reached a ∙ a_inside) in
+          omega (arith, ints, here, first, second);
+    })
+    size least_size nearer
 
 -- as many pairs as nodes can be added
 pub room_more : (n : ℕ) (w : ℕ → ℕ → ℤ) (inside : List Bool) (near : List ℕ) (least : List ℤ) (added : List (ℕ × ℕ)) (v : ℕ) → IsState n w inside near least added → IsNearestOutside n inside least v → length added < n
@@ -251,6 +265,22 @@ state_after n w inside seen near near_was near_after least least_was least_after
     subst (λ (xs : List ℤ). IsState n w (set inside v true) (take near_len (near_after ++ drop (length near_after) near)) xs pushed) (sym least_back)
     (subst (λ (xs : List ℕ). IsState n w (set inside v true) xs least_after pushed) (sym near_back)
     (subst (IsState n w (set inside v true) near_after least_after) (ap (λ y. added ++ (y, v) ∷ []) (sym u_is) ∙ sym push) more))
+
+pub state_after_by : (n : ℕ) (w : ℕ → ℕ → ℤ) (inside seen : List Bool) (near near_was near_after : List ℕ) (least least_was least_after : List ℤ) (added pushed : List (ℕ × ℕ)) (v u near_len least_len : ℕ) → IsState n w inside near least added → IsInner n v → is_inside inside v ≡ false
+    → IsLeastLeaving (IsInner n) w (grown_by (λ x. x == 2) added) (u, v)
+    → seen ≡ set inside v true → near_was ≡ near → least_was ≡ least → length near_after ≡ length near_was → length least_after ≡ length least_was → near_len ≡ length near → least_len ≡ length least
+    → AreNearer n w seen v near_was least_was near_after least_after → pushed ≡ added ++ (u, v) ∷ []
+    → IsState n w (set inside v true) (take near_len (near_after ++ drop (length near_after) near)) (take least_len (least_after ++ drop (length least_after) least)) pushed
+state_after_by n w inside seen near near_was near_after least least_was least_after added pushed v u near_len least_len s inner outside leaving seen_is near_same least_same near_kept least_kept near_len_is least_len_is nearer push =
+    let own = subst (λ (xs : List ℤ). AreNearer n w (set inside v true) v near xs near_after least_after) least_same
+    (subst (λ (xs : List ℕ). AreNearer n w (set inside v true) v xs least_was near_after least_after) near_same
+    (subst (λ (xs : List Bool). AreNearer n w xs v near_was least_was near_after least_after) seen_is nearer)) in
+    let more = state_more_by n w inside near near_after least least_after added u v s inner outside leaving (near_kept ∙ ap length near_same) (least_kept ∙ ap length least_same) own in
+    let near_back = written_back near near_after near_len (near_len_is ∙ sym (near_kept ∙ ap length near_same)) in
+    let least_back = written_back least least_after least_len (least_len_is ∙ sym (least_kept ∙ ap length least_same)) in
+    subst (λ (xs : List ℤ). IsState n w (set inside v true) (take near_len (near_after ++ drop (length near_after) near)) xs pushed) (sym least_back)
+    (subst (λ (xs : List ℕ). IsState n w (set inside v true) xs least_after pushed) (sym near_back)
+    (subst (IsState n w (set inside v true) near_after least_after) (sym push) more))
 
 -- what the pass found
 pub nearest_after : (n : ℕ) (inside seen : List Bool) (least least_was least_after : List ℤ) (least_len : ℕ) (nearest : Option ℕ) → seen ≡ inside → least_was ≡ least → length least_after ≡ length least_was → least_len ≡ length least

@@ -1,7 +1,8 @@
 -- A tree over the nodes 2..n that is grown from one of them by least pairs, and what the growth knows of the nodes.
 use Rattle.std.specs.Prelude.{◌≡◌, ◌≢◌, ℕ, ◌==◌, ◌+◌, Bool, true, false, ◌||◌, if◌then◌else◌, List, [], ◌∷◌, length, map, nat_lt, slice_index, slice_index_or, ◌⊎◌, ℤ, pos, ◌-ℤ◌, ◌≤ℤ◌, ◌<ℤ◌}
 use Rattle.std.specs.List.{All, Contains}
-use Rattle.tsp_bound.specs.Tree.{IsInner}
+use Rattle.tsp_bound.specs.Numbers.{IsSumSized}
+use Rattle.tsp_bound.specs.Tree.{IsInner, weight_of}
 
 -- a part and one node more
 abbrev pub and_node : (ℕ → Bool) → ℕ → ℕ → Bool
@@ -29,6 +30,12 @@ pub record IsWholeGrowth (n : ℕ) (w : ℕ → ℕ → ℤ) (added : List (ℕ 
   pub grows : Grows (IsInner n) w (λ x. x == 2) added
   pub reached : (x : ℕ) → IsInner n x → grown_by (λ y. y == 2) added x ≡ true
   pub count : 2 + length added ≡ n
+
+-- a growth from node 2 as far as it got, with the sum of its weights
+pub record IsPartGrowth (n : ℕ) (w : ℕ → ℕ → ℤ) (added : List (ℕ × ℕ)) (sum : ℤ) : Type 0 where
+  pub grows : Grows (IsInner n) w (λ x. x == 2) added
+  pub weight : sum ≡ weight_of w added
+  pub size : IsSumSized (length added) sum
 
 -- the two nodes of 2..n that are nearest to node 1
 pub record AreNearest (n : ℕ) (w : ℕ → ℕ → ℤ) (first second : ℕ) : Type 0 where

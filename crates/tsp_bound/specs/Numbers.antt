@@ -1,5 +1,5 @@
 -- The numbers of a certificate, one for each node, and the bounds that their sums give.
-use Rattle.std.specs.Prelude.{◌≡◌, ◌≢◌, ℕ, ◌-◌, ◌^◌, ◌≤◌, List, length, slice_index_or, ℤ, pos, neg_ℤ, ◌*ℤ◌, ◌≤ℤ◌}
+use Rattle.std.specs.Prelude.{◌≡◌, ◌≢◌, ℕ, ◌-◌, ◌^◌, ◌*◌, ◌≤◌, List, length, slice_index_or, ℤ, pos, neg_ℤ, ◌*ℤ◌, ◌≤ℤ◌}
 use Rattle.std.specs.List.{All}
 use Rattle.tsp_value.specs.Limits.{most_scale, most_potential, most_multipliers, most_multiplier}
 use Rattle.tsp_cost.specs.Length.{sum_int_by}
@@ -51,3 +51,7 @@ IsMultiplier triple = (triple.0 ≢ triple.1) × IsFromTo (pos 0) (pos most_mult
 pub record AreMultipliers (triples : List (ℕ × ℕ × ℤ)) : Type 0 where
   pub few : length triples ≤ most_multipliers
   pub each : All IsMultiplier triples
+
+-- how large a sum of so many numbers of 64 bits is at most
+abbrev pub IsSumSized : ℕ → ℤ → Type 0
+IsSumSized count sum = IsFromTo (neg_ℤ (pos (count * 2 ^ 63))) (pos (count * 2 ^ 63)) sum

@@ -6,7 +6,7 @@ ghost use Rattle.tsp_value.specs.Limits.{most_nodes};
 ghost use Rattle.tsp_bound.specs.Numbers.{IsFromTo};
 ghost use Rattle.tsp_bound.specs.Tree.{IsInner, weight_of};
 ghost use Rattle.tsp_bound.specs.ByNode.{AreLowerings};
-ghost use Rattle.tsp_bound.specs.Growth.{is_inside, IsWholeGrowth, AllInside, IsNearestOutside, IsNearer, AreNearer, AreLowered};
+ghost use Rattle.tsp_bound.specs.Growth.{is_inside, IsWholeGrowth, AllInside, IsNearestOutside, IsNearer, AreNearer, AreLowered, IsPartGrowth};
 ghost use Rattle.tsp_bound.specs.Potentials.{numbers_of, weight_under};
 ghost use Rattle.tsp_bound.specs.Multipliers.{triples_in, nodes_in, weight_less};
 
@@ -25,9 +25,6 @@ pub(crate) struct Grown {
 /// Grows a tree over the nodes 2..n from node 2: each pair leads from a node inside to one
 /// outside, and no such pair weighs less.
 ///
-/// Of each node outside it keeps the nearest node inside and the weight between the two, so that
-/// each cost is asked for once, and once more for each multiplier.
-///
 /// Errors: out of memory.
 pub(crate) fn grow<C: Costs>(
     alloc: Global,
@@ -45,15 +42,51 @@ pub(crate) fn grow<C: Costs>(
     ensures size { IfOk result (λ grown. IsFromTo (neg_ℤ (pos (most_nodes * 2 ^ 63)))
         (pos (most_nodes * 2 ^ 63)) grown.weight) }
 {
+    let pairs = Vec::with_capacity(alloc, c.count() as usize + 1)?;
+    grow_on(alloc, c, p, m, Grown { pairs, weight: 0 })
+}
+
+/// Goes on with a growth from node 2, over all the nodes that it hasn't reached.
+///
+/// Of each node outside it keeps the nearest node inside and the weight between the two, first
+/// over the part that is there, so that each cost is asked for once, and once more for each
+/// multiplier.
+///
+/// Errors: out of memory.
+pub(crate) fn grow_on<C: Costs>(
+    alloc: Global,
+    c: &C,
+    p: &Potentials,
+    m: &ByNode,
+    grown: Grown,
+) -> Result<Grown, AllocError>
+    requires some { 3 ≤ C.nodes c.now }
+    requires count { length (numbers_of p.now) ≡ C.nodes c.now }
+    requires over { nodes_in m.now ≡ C.nodes c.now }
+    requires part { IsPartGrowth (C.nodes c.now) (weight_less p.now (triples_in m.now) (C.at c.now))
+        grown.pairs.items grown.weight }
+    ensures whole { IfOk result (λ grown. IsWholeGrowth (C.nodes c.now)
+        (weight_less p.now (triples_in m.now) (C.at c.now)) grown.pairs.items) }
+    ensures weight { IfOk result (λ grown. grown.weight
+        ≡ weight_of (weight_less p.now (triples_in m.now) (C.at c.now)) grown.pairs.items) }
+    ensures size { IfOk result (λ grown. IsFromTo (neg_ℤ (pos (most_nodes * 2 ^ 63)))
+        (pos (most_nodes * 2 ^ 63)) grown.weight) }
+{
     let size = c.count() as usize + 1;
     let mut inside = vec![in alloc; false; size]?;
     let mut near: Vec<u32> = vec![in alloc; 2; size]?;
     // Every weight is below the one that stands for none.
     let mut least = vec![in alloc; i64::MAX; size]?;
-    let mut pairs = Vec::with_capacity(alloc, size)?;
-    let mut weight = 0;
     inside[2] = true;
     let mut nearest = reach(c, p, m, &inside, &mut near, &mut least, 2);
+    'again: for pair in &grown.pairs {
+        inside[pair.1 as usize] = true;
+        nearest = reach(c, p, m, &inside, &mut near, &mut least, pair.1);
+    }
+    let Grown {
+        mut pairs,
+        mut weight,
+    } = grown;
     'grow: while let Some(next) = nearest {
         inside[next as usize] = true;
         pairs.push((near[next as usize], next))?;
