@@ -9,3 +9,4 @@ pub mod SmallTrees
 pub mod Rows
 pub mod Leaves
 pub mod Changes
+pub mod NextCases

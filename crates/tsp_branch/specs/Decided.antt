@@ -1,10 +1,11 @@
 -- Decisions as code has them: two nodes, and whether the pair is taken. Each changes the weight of its pair by the same number.
-use Rattle.std.specs.Prelude.{◌≡◌, ◌≢◌, ℕ, Bool, if◌then◌else◌, List, map, ℤ, pos, neg_ℤ, ◌+ℤ◌, ◌⊎◌}
+use Rattle.std.specs.Prelude.{◌≡◌, ◌≢◌, ℕ, Bool, true, false, if◌then◌else◌, List, [], map, reverse, Some, None, ℤ, pos, neg_ℤ, ◌+ℤ◌, ◌⊎◌}
 use Rattle.std.specs.Int.{w64, int_wrap}
 use Rattle.tsp_value.specs.Cells.{IsNode}
 use Rattle.tsp_cost.specs.Length.{sum_int_by}
 use Rattle.tsp_bound.specs.Adjusted.{is_same_pair, adjusted}
 use Rattle.tsp_branch.specs.Decisions.{Decision, on_taken, on_avoided}
+use Rattle.tsp_branch.specs.Cases.{next_stack}
 
 -- the number on each decided pair
 abbrev pub decided_number : ℤ
@@ -38,3 +39,12 @@ changes decisions i j = sum_int_by (λ decision. change_of decision i j) decisio
 abbrev pub IsChanged : ℕ × ℕ × Bool → ℕ → ℕ → ℤ → ℤ → Type 0
 IsChanged decision i j old new = ((new ≡ old) × (change_of decision i j ≡ pos 0))
     ⊎ (new ≡ int_wrap w64 (old +ℤ change_of decision i j))
+
+-- a stack of decisions as code has it, the last one at the end: as a case has it, the last one first
+abbrev pub stack_of : List (ℕ × ℕ × Bool) → List Decision
+stack_of decisions = reverse (case_of decisions)
+
+-- what is left of a stack after a leaf, where a case is open; else nothing
+abbrev pub IsNextStack : List (ℕ × ℕ × Bool) → Bool → List (ℕ × ℕ × Bool) → Type 0
+IsNextStack old true new = next_stack (stack_of old) ≡ Some (stack_of new)
+IsNextStack old false new = (next_stack (stack_of old) ≡ None) × (new ≡ [])

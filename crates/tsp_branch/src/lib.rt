@@ -10,6 +10,7 @@ mod leaf;
 mod node_weights;
 mod scaled;
 mod spokes;
+mod stack;
 mod tree;
 mod weights;
 
@@ -25,5 +26,6 @@ pub use laws::{
 };
 pub use leaf::leaf_bound;
 pub use node_weights::NodeWeights;
+pub use stack::next_case;
 pub use tree::least_weight;
 pub use weights::Weights;
