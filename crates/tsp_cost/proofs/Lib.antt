@@ -1,4 +1,5 @@
 pub mod Distances
+pub mod Growing
 pub mod Instances
 pub mod Lengths
 pub mod Sums

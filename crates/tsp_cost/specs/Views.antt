@@ -22,6 +22,9 @@ points_nodes p = length p.points.now
 abbrev pub points_cost : {P : Type 0} → (P → Point) → Points P → ℕ → ℕ → ℤ
 points_cost place p i j = distance p.kind (point_of (map place p.points.now) i) (point_of (map place p.points.now) j)
 
+abbrev pub points_place : {P : Type 0} → (P → Point) → Points P → ℕ → Point
+points_place place p node = point_of (map place p.points.now) node
+
 abbrev pub matrix_nodes : Matrix → ℕ
 matrix_nodes m = m.nodes
 

@@ -16,8 +16,8 @@ use tsp_value::WeightKind;
 /// The points are those of the plane or those in space, each in the room that it needs.
 #[derive(Debug)]
 pub struct Points<'a, P> {
-    kind: WeightKind,
-    points: &'a [P],
+    pub(crate) kind: WeightKind,
+    pub(crate) points: &'a [P],
     ghost distances: { kind ≢ Explicit },
     ghost some: { 1 ≤ length points.now },
     ghost most: { length points.now ≤ most_nodes },
@@ -84,7 +84,7 @@ impl<P: InSpace> Symmetric for Points<'_, P> {
 /// The distance of two points by a weight type that is a distance.
 #[inline]
 #[tactic(auto, unfolding(tsp_fields::specs::Cost::distance))]
-fn distance(kind: WeightKind, a: Point, b: Point) -> i64
+pub(crate) fn distance(kind: WeightKind, a: Point, b: Point) -> i64
     requires { kind ≢ Explicit }
     ensures value { result ≡ distance kind a b }
     ensures low { pos 0 ≤ℤ result }
