@@ -10,3 +10,4 @@ pub mod Rows
 pub mod Leaves
 pub mod Changes
 pub mod NextCases
+pub mod SetSums

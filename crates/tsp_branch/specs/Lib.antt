@@ -6,3 +6,4 @@ pub mod Examples
 pub mod LeafBound
 pub mod Weighed
 pub mod Decided
+pub mod Sets

@@ -89,7 +89,7 @@ fn change(row: &mut [i64], decision: (u32, u32, bool), from: u32)
 
 /// Adds a number at a place.
 #[inline]
-fn add_at(row: &mut [i64], node: u32, number: i64)
+pub(crate) fn add_at(row: &mut [i64], node: u32, number: i64)
     requires { node < length row.old }
     ensures here { least_at row.new node ≡ int_wrap w64 (least_at row.old node +ℤ number) }
     ensures others { (x : ℕ) → x ≢ node → least_at row.new x ≡ least_at row.old x }

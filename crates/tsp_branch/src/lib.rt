@@ -9,6 +9,7 @@ mod laws;
 mod leaf;
 mod node_weights;
 mod scaled;
+mod sets;
 mod spokes;
 mod stack;
 mod tree;
