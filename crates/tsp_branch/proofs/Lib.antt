@@ -11,3 +11,4 @@ pub mod Leaves
 pub mod Changes
 pub mod NextCases
 pub mod SetSums
+pub mod CombedRows

@@ -7,3 +7,4 @@ pub mod LeafBound
 pub mod Weighed
 pub mod Decided
 pub mod Sets
+pub mod Combed

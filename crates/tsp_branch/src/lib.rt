@@ -2,6 +2,7 @@
 //! numbers; and in code the bound of a leaf whose weights are told by rows.
 #![tactic(auto)]
 
+mod add_sets;
 mod decided;
 mod examples;
 mod growth;
