@@ -4,10 +4,12 @@ pub mod Crossings
 pub mod Division
 pub mod Duality
 pub mod Exchange
+pub mod HeapSteps
 pub mod Lowered
 pub mod Nearest
 pub mod Neighbours
 pub mod OneTrees
+pub mod Renaming
 pub mod Sizes
 pub mod Steps
 pub mod Tables

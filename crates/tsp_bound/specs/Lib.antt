@@ -3,8 +3,10 @@ pub mod Assignment
 pub mod ByNode
 pub mod Duals
 pub mod Growth
+pub mod Heap
 pub mod Multipliers
 pub mod NodeBound
+pub mod Numbering
 pub mod Numbers
 pub mod Potentials
 pub mod Tree
