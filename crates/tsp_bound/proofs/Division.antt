@@ -34,6 +34,16 @@ step_up scale a b lt =
     let rest : (pos scale *ℤ pos gap) ≡ pos (scale * gap) = pos-*ℤ-pos scale gap in
     omega (arith, ints)
 
+-- a factor that is no less gives no less
+pub scaled_up : (scale : ℕ) (a b : ℤ) → a ≤ℤ b → (pos scale *ℤ a) ≤ℤ (pos scale *ℤ b)
+scaled_up scale a b le =
+    let gap = unsigned_abs (b -ℤ a) in
+    let apart : b -ℤ a ≡ pos gap = natural (b -ℤ a) (omega (arith, ints, le)) in
+    let sum : b ≡ a +ℤ pos gap = omega (arith, ints, apart) in
+    let outer : (pos scale *ℤ b) ≡ (pos scale *ℤ a) +ℤ (pos scale *ℤ pos gap) = ap (λ z. pos scale *ℤ z) sum ∙ scaled_sum scale a (pos gap) in
+    let rest : (pos scale *ℤ pos gap) ≡ pos (scale * gap) = pos-*ℤ-pos scale gap in
+    omega (arith, ints)
+
 -- ---- the quotient
 
 -- a number is the scaled quotient and the remainder

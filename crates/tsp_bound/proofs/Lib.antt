@@ -1,4 +1,5 @@
 pub mod Adjustments
+pub mod Boxed
 pub mod CostLaws
 pub mod Crossings
 pub mod Division
@@ -14,6 +15,7 @@ pub mod Sizes
 pub mod Steps
 pub mod Tables
 pub mod Tours
+pub mod Trees
 pub mod TwoNearest
 pub mod Walks
 pub mod Weights

@@ -1,5 +1,6 @@
 pub mod Adjusted
 pub mod Assignment
+pub mod Boxes
 pub mod ByNode
 pub mod Duals
 pub mod Growth

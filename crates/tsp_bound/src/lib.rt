@@ -1,7 +1,9 @@
 //! Lower bounds on the length of every walk, from certificates that nobody has to trust.
 #![tactic(auto)]
 
+mod area;
 mod assignment;
+mod boxes;
 mod by_node;
 mod duals;
 mod examples;
