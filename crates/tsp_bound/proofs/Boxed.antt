@@ -1,5 +1,5 @@
 -- Orders on numbers of 64 bits as code shows them, and the weights that a box bounds.
-use Rattle.std.proofs.Common.{◌≡◌, ℕ, ◌≤◌, Bool, true, false, refl, ℤ, pos, negsuc, ◌+ℤ◌, ◌*ℤ◌, ◌≤ℤ◌, w64, to_z, of_z, SFits, arith}
+use Rattle.std.proofs.Common.{◌≡◌, Bool, true, false, refl, ℤ, pos, negsuc, ◌+ℤ◌, ◌*ℤ◌, ◌≤ℤ◌, w64, to_z, of_z, SFits, arith}
 use Rattle.std.specs.Bool.{OnTrue}
 use Rattle.std.specs.Int.Signed.{lt_z, le_z}
 use Rattle.std.proofs.lemmas.Int.{ints, to_z-of_z}

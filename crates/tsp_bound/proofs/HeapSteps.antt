@@ -1,19 +1,19 @@
 -- The steps of a growth by a heap.
-use Rattle.std.proofs.Common.{◌≡◌, ◌≢◌, ℕ, ◌+◌, ◌<◌, ◌≤◌, Bool, true, false, not, ◌||◌, ◌&&◌, ◌==◌, List, [], ◌∷◌, ◌++◌, length, get_or, zero, suc, lit<, ℤ, ◌≤ℤ◌, ◌⊎◌, inl, inr, refl, arith, ap, sym, ◌∙◌, subst}
+use Rattle.std.proofs.Common.{◌≡◌, ◌≢◌, ℕ, ◌<◌, Bool, true, false, not, ◌||◌, ◌&&◌, ◌==◌, List, [], ◌∷◌, ◌++◌, get_or, zero, suc, lit<, ℤ, ◌≤ℤ◌, ◌⊎◌, inl, inr, refl, arith, ap, sym, ◌∙◌, subst}
 use Rattle.std.specs.List.{Contains, All}
 use Rattle.std.specs.List.Sorted.{IsPermutation}
-use Rattle.std.specs.Ordering.{is_lt, ordering_then, int_cmp, nat_cmp}
+use Rattle.std.specs.Ordering.{is_lt, ordering_then, int_cmp}
 use Rattle.std.specs.declared.cmp.Ordering.{Ordering}
 use Rattle.std.specs.declared.cmp.Reverse.{Reverse}
 use Rattle.std.specs.BinaryHeap.{IsUpperBound}
-use Rattle.std.proofs.lemmas.Bool.{cases_eq, false≢true, or_left, or_cases, or_parts, and_right, and_parts, false_from_ne_true, ne_eqb, eq-eqb, eqb-true}
+use Rattle.std.proofs.lemmas.Bool.{cases_eq, false≢true, and_right, and_parts, ne_eqb, eq-eqb}
 use Rattle.std.proofs.lemmas.List.Sorted.{Contains-permutation, IsPermutation-sym}
-use Rattle.std.proofs.lemmas.List.Elements.{All-cons, All-nil, All-contains, Contains-append_cases, Contains-append_left, Contains-append_right, Contains-push}
+use Rattle.std.proofs.lemmas.List.Elements.{All-cons, All-nil, All-contains, Contains-append_cases, Contains-append_left, Contains-append_right}
 use Rattle.std.proofs.lemmas.Int.{ints}
 use Rattle.tsp_bound.specs.declared.outside.Link.{Link}
 use Rattle.tsp_bound.proofs.Steps.{grows_more, grown_by_more}
-use Rattle.tsp_bound.specs.Growth.{and_node, IsLeastLeaving, Grows, grown_by}
-use Rattle.tsp_bound.specs.Heap.{IsBelow, without, NoneOutside, IsNearest, IsGrowth, IsLink, link_cmp, entry_cmp, Bounds, IsHeapOf, IsFullHeapOf}
+use Rattle.tsp_bound.specs.Growth.{IsLeastLeaving, grown_by}
+use Rattle.tsp_bound.specs.Heap.{IsBelow, without, IsNearest, IsGrowth, IsLink, entry_cmp, IsHeapOf, IsFullHeapOf}
 
 -- ---- the least entry
 

@@ -1,5 +1,5 @@
 -- A growth over places is one over nodes.
-use Rattle.std.proofs.Common.{◌≡◌, ◌≢◌, ℕ, ◌<◌, ◌==◌, ◌||◌, Bool, true, false, List, [], ◌∷◌, map, ℤ, ◌≤ℤ◌, inl, inr, refl, arith, ap, sym, ◌∙◌, subst}
+use Rattle.std.proofs.Common.{◌≡◌, ℕ, ◌<◌, ◌==◌, ◌||◌, Bool, true, List, [], ◌∷◌, map, ℤ, ◌≤ℤ◌, inl, inr, ap, sym, ◌∙◌, subst}
 use Rattle.std.proofs.lemmas.Bool.{cases_eq, ne_eqb, eq-eqb, eqb-true, or_cases}
 use Rattle.tsp_bound.specs.Tree.{IsInner}
 use Rattle.tsp_bound.specs.Growth.{and_node, IsLeastLeaving, Grows}

@@ -1,7 +1,7 @@
 -- The tree of boxes: what a write keeps, and what a search of halves is.
-use Rattle.std.proofs.Common.{◌≡◌, ◌≢◌, ℕ, zero, suc, ◌+◌, ◌*◌, ◌/◌, ◌-◌, ◌<◌, ◌≤◌, Bool, true, false, List, [], ◌∷◌, length, get_or, Option, ℤ, pos, ◌≤ℤ◌, ◌<ℤ◌, ◌⊎◌, inl, inr, refl, arith, ap, sym, ◌∙◌, subst}
-use Rattle.std.proofs.Math.ListN.{set, length-set}
-use Rattle.std.proofs.lemmas.Bool.{cases_eq, false≢true, false_from_ne_true}
+use Rattle.std.proofs.Common.{◌≡◌, ◌≢◌, ℕ, zero, suc, ◌+◌, ◌*◌, ◌/◌, ◌<◌, ◌≤◌, Bool, true, false, List, [], ◌∷◌, length, Option, ℤ, pos, ◌≤ℤ◌, ◌⊎◌, inl, inr, refl, arith, ap, sym, ◌∙◌, subst}
+use Rattle.std.proofs.Math.ListN.{set}
+use Rattle.std.proofs.lemmas.Bool.{cases_eq, false≢true}
 use Rattle.std.proofs.lemmas.List.{get_or-set_same, get_or-set_other}
 use Rattle.std.proofs.lemmas.Int.{ints}
 use Rattle.tsp_bound.specs.declared.area.Area.{Area}
@@ -211,15 +211,6 @@ searched_all w places outside from old new all j j_in out =
     all.below j top.0 j_in out top.1
 
 -- ---- the search of all, as the trait has it
-
-pub none_outside : (w : ℕ → ℕ → ℤ) (places : List ℕ) (outside : List Bool) (from : ℕ) (best : Best) → ((x : ℕ) → x < length places → w (node_at places from) (node_at places x) <ℤ pos 9223372036854775807) → from < length places
-    → IsSearched w places outside (node_at places from) 1 no_best best → best.weight ≡ pos 9223372036854775807
-    → (x : ℕ) → x < length places → is_outside outside x ≡ false
-none_outside w places outside from best small from_in all is x x_in = false_from_ne_true (is_outside outside x) (λ out.
-    let a = searched_all w places outside (node_at places from) no_best best all x x_in out in
-    let b = small x x_in in
-    let c : pos 9223372036854775807 ≤ℤ w (node_at places from) (node_at places x) = subst (λ (z : ℤ). z ≤ℤ w (node_at places from) (node_at places x)) is a in
-    absurd (omega (arith, ints, b, c)))
 
 pub found_some : (w : ℕ → ℕ → ℤ) (places : List ℕ) (outside : List Bool) (from : ℕ) (best : Best) → IsSearched w places outside from 1 no_best best
     → best.weight ≢ pos 9223372036854775807 → IsFound w places outside from best

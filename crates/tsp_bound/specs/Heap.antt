@@ -1,5 +1,5 @@
 -- A tree that is grown by a heap of links, over places 0..n-1 of which some are outside, and what the heap knows.
-use Rattle.std.specs.Prelude.{◌≡◌, ◌≢◌, ℕ, ◌==◌, ◌<◌, ◌+◌, Bool, true, false, not, ◌||◌, ◌&&◌, List, [], ◌∷◌, length, ℤ, ◌≤ℤ◌, ◌⊎◌}
+use Rattle.std.specs.Prelude.{◌≡◌, ◌≢◌, ℕ, ◌==◌, ◌<◌, Bool, true, false, not, ◌&&◌, List, ℤ, ◌≤ℤ◌}
 use Rattle.std.specs.List.{Contains}
 use Rattle.std.specs.Ordering.{ordering_then, int_cmp, nat_cmp}
 use Rattle.std.specs.declared.cmp.Ordering.{Ordering}
@@ -14,9 +14,6 @@ IsBelow n x = x < n
 
 abbrev pub without : (ℕ → Bool) → ℕ → ℕ → Bool
 without outside node x = not (x == node) && outside x
-
-abbrev pub NoneOutside : ℕ → (ℕ → Bool) → Type 0
-NoneOutside n outside = (x : ℕ) → x < n → outside x ≡ false
 
 -- a link to a node outside, and none from the same node weighs less
 pub record IsNearest (n : ℕ) (w : ℕ → ℕ → ℤ) (outside : ℕ → Bool) (from : ℕ) (link : Link) : Type 0 where

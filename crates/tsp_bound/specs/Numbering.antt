@@ -1,5 +1,5 @@
 -- The places of a list stand for nodes: a growth over places is one over nodes.
-use Rattle.std.specs.Prelude.{◌≡◌, ℕ, ◌==◌, ◌<◌, ◌≤◌, Bool, true, List, map, ℤ}
+use Rattle.std.specs.Prelude.{◌≡◌, ℕ, ◌==◌, ◌<◌, List, map, ℤ}
 use Rattle.tsp_bound.specs.Tree.{IsInner}
 use Rattle.tsp_bound.specs.Growth.{Grows}
 use Rattle.tsp_bound.specs.Heap.{IsBelow}

@@ -1,7 +1,7 @@
 //! The search for the nearest place outside a part that grows.
 
-ghost use Rattle.std.specs.Prelude.{◌≡◌, ◌<◌, ℕ, ℤ, Bool, MatchOption};
-ghost use Rattle.tsp_bound.specs.Heap.{without, NoneOutside, IsNearest};
+ghost use Rattle.std.specs.Prelude.{◌≡◌, ◌<◌, ℕ, ℤ, Bool, IfSome};
+ghost use Rattle.tsp_bound.specs.Heap.{without, IsNearest};
 
 /// A link from a node inside to another node, with its weight.
 #[derive(Clone, Copy, Debug, PartialEq, Eq, PartialOrd, Ord, Drop)]
@@ -31,12 +31,12 @@ pub(crate) trait Outside {
         requires { node < count_of self.now }
         ensures { result ≡ outside_of self.now node };
 
-    /// The least link from the node to one outside; none where none is outside. It adds to `steps`
-    /// what the search took.
+    /// The least link from the node to one outside, or none. It adds to `steps` what the search
+    /// took.
     fn nearest(&self, from: u32, steps: &mut u64) -> Option<Link>
         requires { from < count_of self.now }
-        ensures { MatchOption result (NoneOutside (count_of self.now) (outside_of self.now))
-            (λ link. IsNearest (count_of self.now) (weight_of self.now) (outside_of self.now) from link) };
+        ensures { IfSome result (λ link. IsNearest (count_of self.now) (weight_of self.now)
+            (outside_of self.now) from link) };
 
     /// Brings the node inside.
     fn take(&mut self, node: u32)

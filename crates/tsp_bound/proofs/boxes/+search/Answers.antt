@@ -1,9 +1,8 @@
-use Rattle.std.proofs.Common.{◌≡◌, ◌≤ℤ◌, ◌-◌, ◌+◌, ℕ, ℤ, true, length, arith, rules, sym, ◌∙◌, subst, inl, inr, refl, w64, to_z, of_z, SFits}
+use Rattle.std.proofs.Common.{◌≡◌, ◌≤ℤ◌, ◌-◌, ◌+◌, ℤ, length, arith, rules, sym, ◌∙◌, subst, inr, w64, to_z, of_z, SFits}
 use Rattle.std.proofs.lemmas.Int.{ints, to_z-of_z}
 use Rattle.std.proofs.lemmas.Bool.{false≢true}
-use Rattle.std.proofs.lemmas.List.{get_or_read}
 use Rattle.tsp_bound.specs.Potentials.{weight_under}
-use Rattle.tsp_bound.specs.Boxes.{is_outside, node_at}
+use Rattle.tsp_bound.specs.Boxes.{node_at}
 use Rattle.tsp_bound.proofs.Boxed.{less_seen, not_less_seen}
 use Rattle.tsp_bound.proofs.Trees.{searched_halves, searched_none, leaf_below}
 use Rattle.tsp_bound.proofs.boxes.+search.Goals as goal

@@ -1,8 +1,8 @@
-use Rattle.std.proofs.Common.{◌≡◌, ◌<◌, ◌≤◌, ◌-◌, ◌+◌, ◌*◌, ℕ, Option, Some, length, arith, ap, sym, subst, ◌∙◌}
-use Rattle.std.proofs.Math.ListN.{set, length-set}
+use Rattle.std.proofs.Common.{◌≡◌, ◌-◌, ◌+◌, ℕ, Option, Some, length, arith, subst, ◌∙◌}
+use Rattle.std.proofs.Math.ListN.{length-set}
 use Rattle.tsp_bound.specs.Potentials.{numbers_of}
 use Rattle.tsp_bound.specs.declared.area.Area.{Area}
-use Rattle.tsp_bound.specs.Boxes.{Holds, AreHeldFrom, node_at}
+use Rattle.tsp_bound.specs.Boxes.{Holds, AreHeldFrom}
 use Rattle.tsp_bound.proofs.Trees.{leaf_more, held_leaves, refit_more}
 use Rattle.tsp_bound.proofs.boxes.boxes_of.Goals as goal
 

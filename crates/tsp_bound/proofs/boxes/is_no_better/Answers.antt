@@ -3,7 +3,7 @@ use Rattle.std.specs.Int.Signed.{le_z}
 use Rattle.tsp_value.specs.Limits.{most_weight, most_potential}
 use Rattle.tsp_bound.specs.Numbers.{entry}
 use Rattle.tsp_bound.proofs.Sizes.{same_64}
-use Rattle.tsp_bound.specs.Potentials.{scale_of, numbers_of, weight_under}
+use Rattle.tsp_bound.specs.Potentials.{scale_of, numbers_of}
 use Rattle.tsp_bound.specs.declared.area.Area.{Area}
 use Rattle.tsp_bound.specs.Boxes.{Holds}
 use Rattle.tsp_bound.proofs.Boxed.{at_most_seen, weight_above, chained, if_true}

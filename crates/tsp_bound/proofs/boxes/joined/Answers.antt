@@ -1,4 +1,4 @@
-use Rattle.std.proofs.Common.{rules, ◌≤ℤ◌, Option, Some, arith, w64, FitsSigned, to_z, of_z, subst}
+use Rattle.std.proofs.Common.{rules, Option, Some, arith, w64, FitsSigned, subst}
 use Rattle.std.proofs.lemmas.Int.{ints, to_z-of_z}
 use Rattle.tsp_bound.specs.declared.area.Area.{Area}
 use Rattle.tsp_bound.specs.Boxes.{Holds}

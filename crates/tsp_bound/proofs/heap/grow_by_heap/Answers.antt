@@ -1,7 +1,7 @@
-use Rattle.std.proofs.Common.{ℕ, List, true, ◌<◌, ◌≡◌, ◌∷◌, [], ◌++◌, ap, sym, ◌∙◌, subst}
+use Rattle.std.proofs.Common.{ℕ, List, true, ◌<◌, ◌≡◌, ◌∷◌, [], ◌++◌, sym, ◌∙◌, subst}
 use Rattle.std.specs.BinaryHeap.{IsHeap, heap_items}
 use Rattle.tsp_bound.specs.Heap.{IsGrowth, entry_cmp}
-use Rattle.tsp_bound.proofs.HeapSteps.{least_entry, heap_pushed, heap_popped, heap_kept, popped_link, leaving, growth_more, near_seen, taken_itself}
+use Rattle.tsp_bound.proofs.HeapSteps.{heap_pushed, heap_popped, heap_kept, popped_link, leaving, growth_more, near_seen, taken_itself}
 use Rattle.tsp_bound.proofs.heap.grow_by_heap.Goals as goal
 use Rattle.tsp_bound.proofs.heap.grow_by_heap.Goals.{then-is_outside+in_ok-push-2+in_ok-push-3, else-is_outside}
 
