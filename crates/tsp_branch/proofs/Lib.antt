@@ -12,3 +12,4 @@ pub mod Changes
 pub mod NextCases
 pub mod SetSums
 pub mod CombedRows
+pub mod SetAlgebra

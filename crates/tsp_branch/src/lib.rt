@@ -3,6 +3,7 @@
 #![tactic(auto)]
 
 mod add_sets;
+mod combed;
 mod decided;
 mod examples;
 mod growth;
@@ -16,6 +17,7 @@ mod stack;
 mod tree;
 mod weights;
 
+pub use combed::CombedWeights;
 pub use decided::DecidedWeights;
 pub use examples::{
     examples_of_bounds, examples_of_crossings, examples_of_trees, examples_of_weights,
