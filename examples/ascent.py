@@ -28,24 +28,24 @@ def canonical(tsp, *words):
     return {words[0]: words[1:] for words in map(bytes.split, parts)}
 
 
-def distance(kind, x, y):
-    """The distance of points that are x and y apart along the axes, in counts."""
-    square = x * x + y * y
+def distance(kind, x, y, z=0):
+    """The distance of points that are x, y and in space z apart along the axes, in counts."""
+    square = x * x + y * y + z * z
     if kind in (b"CEIL_2D", b"ATT"):
         return isqrt((square - 1) // (10 if kind == b"ATT" else 1)) // UNIT + 1 if square else 0
-    twice = {b"EUC_2D": isqrt(4 * square), b"MAN_2D": 2 * (x + y), b"MAX_2D": 2 * max(x, y)}[kind]
+    twice = {b"EUC": isqrt(4 * square), b"MAN": 2 * (x + y + z), b"MAX": 2 * max(x, y, z)}[kind[:3]]
     return (twice + UNIT) // (2 * UNIT)
 
 
 def costs_of(fields):
     """The rows of costs between the nodes."""
-    kind = fields[b"EDGE_WEIGHT_TYPE"][-1]
+    kind, count = fields[b"EDGE_WEIGHT_TYPE"][-1], int(fields[b"DIMENSION"][-1])
     if kind == b"EXPLICIT":
-        cells = (SCALE * int(word) for word in fields[b"EDGE_WEIGHT_SECTION"])
-        return list(zip(*[cells] * int(fields[b"DIMENSION"][-1])))
+        return list(zip(*[(SCALE * int(word) for word in fields[b"EDGE_WEIGHT_SECTION"])] * count))
     numbers = [int(Decimal(word.decode()).scaleb(9)) for word in fields[b"NODE_COORD_SECTION"]]
-    points = list(zip(numbers[1::3], numbers[2::3]))
-    return [[SCALE * distance(kind, abs(a - c), abs(b - d)) for c, d in points] for a, b in points]
+    axes = range(1, 4 if kind.endswith(b"_3D") else 3)  # a group is a node, x, y, and in space z
+    points = list(zip(*(numbers[axis :: len(numbers) // count] for axis in axes)))
+    return [[SCALE * distance(kind, *(abs(x - y) for x, y in zip(a, b))) for b in points] for a in points]
 
 
 def nearest_neighbours(rows):

@@ -3,7 +3,7 @@ use Rattle.std.proofs.Common.{◌≡◌, ◌≢◌, ℕ, false, List, [], Option
 use Rattle.std.specs.Prelude.{unwrap_or}
 use Rattle.tsp_number.specs.declared.decimal.Point.{Point}
 use Rattle.tsp_value.specs.declared.kinds.WeightKind.{WeightKind}
-use Rattle.tsp_value.specs.declared.kinds.WeightKind.TheVariants.{Explicit, Euc2d, Ceil2d, Man2d, Max2d, Att}
+use Rattle.tsp_value.specs.declared.kinds.WeightKind.TheVariants.{Explicit, Euc2d, Ceil2d, Man2d, Max2d, Att, Euc3d, Man3d, Max3d}
 use Rattle.tsp_fields.specs.Fields.{Fields}
 use Rattle.tsp_fields.specs.Rules.{is_explicit}
 use Rattle.tsp_fields.specs.Cost.{distance, point_of, cost_by, cost}
@@ -16,6 +16,9 @@ by_distance Ceil2d f i j other = refl
 by_distance Man2d f i j other = refl
 by_distance Max2d f i j other = refl
 by_distance Att f i j other = refl
+by_distance Euc3d f i j other = refl
+by_distance Man3d f i j other = refl
+by_distance Max3d f i j other = refl
 
 pub cost_of_points : (f : Fields) (kind : WeightKind) (points : List Point) → f.weight_kind ≡ Some kind → kind ≢ Explicit → f.coords ≡ Some points → (i j : ℕ) → distance kind (point_of points i) (point_of points j) ≡ cost f i j
 unfolding cost
@@ -34,3 +37,6 @@ not_explicit o kind e other = ap is_explicit e ∙ by_kind kind other
     by_kind Man2d other = refl
     by_kind Max2d other = refl
     by_kind Att other = refl
+    by_kind Euc3d other = refl
+    by_kind Man3d other = refl
+    by_kind Max3d other = refl

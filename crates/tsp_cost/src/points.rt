@@ -8,7 +8,9 @@ ghost use Rattle.tsp_fields.specs.Cost.{distance, point_of};
 
 use crate::costs::{Costs, Symmetric};
 use std::alloc::AllocError;
-use tsp_number::{InSpace, Point, att, ceil_2d, distance_laws, euc_2d, man_2d, max_2d};
+use tsp_number::{
+    InSpace, Point, att, ceil_2d, distance_laws, euc_2d, euc_3d, man_2d, man_3d, max_2d, max_3d,
+};
 use tsp_value::WeightKind;
 
 /// The costs of an instance whose weight type is a distance: that of the nodes' points.
@@ -82,13 +84,14 @@ impl<P: InSpace> Symmetric for Points<'_, P> {
 }
 
 /// The distance of two points by a weight type that is a distance.
-#[inline]
+// (as a call of its own it cost 65 instructions a pair)
+#[inline(always)]
 #[tactic(auto, unfolding(tsp_fields::specs::Cost::distance))]
 pub(crate) fn distance(kind: WeightKind, a: Point, b: Point) -> i64
     requires { kind ≢ Explicit }
     ensures value { result ≡ distance kind a b }
     ensures low { pos 0 ≤ℤ result }
-    ensures high { result ≤ℤ pos 4000000000 }
+    ensures high { result ≤ℤ pos 6000000000 }
 {
     match kind {
         WeightKind::Euc2d => euc_2d(a, b),
@@ -96,6 +99,9 @@ pub(crate) fn distance(kind: WeightKind, a: Point, b: Point) -> i64
         WeightKind::Man2d => man_2d(a, b),
         WeightKind::Max2d => max_2d(a, b),
         WeightKind::Att => att(a, b),
+        WeightKind::Euc3d => euc_3d(a, b),
+        WeightKind::Man3d => man_3d(a, b),
+        WeightKind::Max3d => max_3d(a, b),
         WeightKind::Explicit => unreachable!(),
     }
 }

@@ -168,7 +168,8 @@ fn is_of_a_field(fault: LineFault) -> bool {
         | LineFault::SectionValue
         | LineFault::SectionEarly
         | LineFault::TooManyNodes
-        | LineFault::StrayNumber => false,
+        | LineFault::StrayNumber
+        | LineFault::LateSpace => false,
     }
 }
 
@@ -186,7 +187,7 @@ fn push_end_rule(text: &mut Vec<u8>, fault: EndFault) -> Result<(), AllocError> 
 fn push_counts(text: &mut Vec<u8>, seen: &Look, fault: ReadFault) -> Result<(), AllocError> {
     match (fault, seen.dimension) {
         (ReadFault::End(EndFault::Incomplete(field)), Some(nodes)) => {
-            push_groups(text, seen.words, group(field), nodes)
+            push_groups(text, seen.words, group(field, seen.is_spatial), nodes)
         }
         (ReadFault::End(EndFault::WrongCount), Some(nodes)) => {
             begin(text)?;
@@ -206,6 +207,7 @@ fn push_groups(
     nodes: i64,
 ) -> Result<(), AllocError> {
     let groups = match size {
+        Some(4) => words / 4,
         Some(3) => words / 3,
         Some(2) => words / 2,
         Some(_) | None => return Ok(()),

@@ -6,6 +6,7 @@ use crate::excerpt::Excerpt;
 use arrayvec::ArrayVec;
 use std::io;
 use std::io::Read;
+use tsp_items::says_space;
 use tsp_number::parse_whole;
 use tsp_value::{
     Field, Keyword, MOST_FILE_BYTES, MOST_NODES, Word, is_blank, is_keyword_byte, is_letter,
@@ -51,6 +52,8 @@ pub(crate) struct Look {
     pub(crate) field: Option<Field>,
     /// The value of DIMENSION, where such a line was seen.
     pub(crate) dimension: Option<i64>,
+    /// Whether a line says that each node has three coordinates.
+    pub(crate) is_spatial: bool,
     /// How many words stand in the section that was looked for.
     pub(crate) words: u64,
     /// Whether the keyword that was looked for stands there in other letters, as `type`.
@@ -98,6 +101,7 @@ impl Look {
             excerpt: Excerpt::new(),
             field: None,
             dimension: None,
+            is_spatial: false,
             words: 0,
             has_small_letters: false,
             has_returns: false,
@@ -162,8 +166,9 @@ impl Look {
             Keyword::Eof => self.is_done = true,
             Keyword::Known(field) => {
                 self.field = Some(field);
+                let (value, _) = first_run(after_colon(rest));
+                self.is_spatial = self.is_spatial || says_space(field, value);
                 if field == Field::DimensionKey {
-                    let (value, _) = first_run(after_colon(rest));
                     self.dimension = parse_whole(value, 1, i64::from(MOST_NODES)).ok();
                 }
             }

@@ -44,6 +44,10 @@ pub fn line_sentence(fault: LineFault) -> &'static str {
         LineFault::AfterEnd => {
             "The list was ended by -1 before this word. After that only words -1 may stand."
         }
+        LineFault::LateSpace => {
+            "The line says that each node has three coordinates, after a NODE_COORD_SECTION with two of each.\n\
+             It stands before that section."
+        }
     }
 }
 

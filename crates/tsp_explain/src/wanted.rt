@@ -21,22 +21,21 @@ pub(crate) fn wanted(field: Field) -> &'static str {
         Field::CapacityKey => "CAPACITY is a whole number from 1 to 1,000,000,000,000.",
         Field::ScaleKey => "SCALE is a whole number from 1 to 1,000,000.",
         Field::EdgeWeightTypeKey => {
-            "EDGE_WEIGHT_TYPE is EXPLICIT, EUC_2D, CEIL_2D, MAN_2D, MAX_2D or ATT. tsp doesn't read the other types of TSPLIB 95.\n\
+            "EDGE_WEIGHT_TYPE is EXPLICIT, EUC_2D, CEIL_2D, MAN_2D, MAX_2D, ATT, EUC_3D, MAN_3D or MAX_3D.\n\
+             tsp doesn't read the other types of TSPLIB 95.\n\
              Written as an EXPLICIT matrix of whole numbers, the file could be read with up to 5,000 nodes."
         }
         Field::EdgeWeightFormatKey => {
             "EDGE_WEIGHT_FORMAT is FUNCTION, FULL_MATRIX, UPPER_ROW, LOWER_ROW, UPPER_DIAG_ROW, LOWER_DIAG_ROW,\n\
              UPPER_COL, LOWER_COL, UPPER_DIAG_COL or LOWER_DIAG_COL."
         }
-        Field::NodeCoordTypeKey => {
-            "NODE_COORD_TYPE is TWOD_COORDS or NO_COORDS. tsp doesn't read points in space, THREED_COORDS."
-        }
+        Field::NodeCoordTypeKey => { "NODE_COORD_TYPE is TWOD_COORDS, THREED_COORDS or NO_COORDS." }
         Field::DisplayDataTypeKey => {
             "DISPLAY_DATA_TYPE is COORD_DISPLAY, TWOD_DISPLAY or NO_DISPLAY."
         }
         Field::NodeCoordPart => {
-            "NODE_COORD_SECTION has for each node from 1 to DIMENSION a group: the node, x and y.\n\
-             x and y are from -1,000,000,000 to 1,000,000,000, with at most 9 decimals."
+            "NODE_COORD_SECTION has for each node from 1 to DIMENSION a group: the node, x and y; and z where an earlier line\n\
+             says THREED_COORDS, EUC_3D, MAN_3D or MAX_3D. They are from -1,000,000,000 to 1,000,000,000, with at most 9 decimals."
         }
         Field::DisplayDataPart => {
             "DISPLAY_DATA_SECTION has for each node from 1 to DIMENSION a group: the node, x and y.\n\
@@ -117,9 +116,11 @@ pub(crate) fn asked(field: Field) -> &'static str {
     }
 }
 
-/// How many words a group of a section has, or `None` where it has no groups.
-pub(crate) fn group(field: Field) -> Option<u64> {
+/// How many words a group of a section has, in a spatial file or in another, or `None` where it has
+/// no groups.
+pub(crate) fn group(field: Field, is_spatial: bool) -> Option<u64> {
     match field {
+        Field::NodeCoordPart if is_spatial => Some(4),
         Field::NodeCoordPart | Field::DisplayDataPart => Some(3),
         Field::DemandPart
         | Field::NodePotentialPart

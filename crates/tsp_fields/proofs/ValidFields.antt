@@ -2,7 +2,6 @@
 use Rattle.std.proofs.Common.{◌≡◌, ℕ, suc, ◌*◌, Bool, true, false, cond, List, [], ◌∷◌, length, Option, None, Some, refl, sym, ap, subst, ◌∙◌, inl, inr, arith}
 use Rattle.std.specs.Prelude.{not, ◌&&◌, ◌||◌, ◌==◌, nat_le, IsTrue, IsSome, is_some, ◌⊎◌, ℤ, pos, neg_ℤ, int_le, slice_index_or as get_or}
 use Rattle.std.specs.Option.{option_map, option_or}
-use Rattle.std.specs.Ordering.{int_eq}
 use Rattle.std.specs.Str.{bytes_eq}
 use Rattle.std.specs.List.{All, AllByRecursion, Contains, find, list_all, sum_by}
 use Rattle.std.proofs.lemmas.Bool.{false≢true, leb-true, eqb-true}
@@ -24,10 +23,11 @@ use Rattle.tsp_value.specs.Cells.{IsNode, cells}
 use Rattle.tsp_value.specs.Limits.{most_nodes, most_matrix_nodes, most_coordinate, most_weight, most_demand, most_capacity, most_scale, most_potential, most_depots, most_fixed, most_multipliers, most_multiplier, most_tour_nodes}
 use Rattle.tsp_value.specs.Words.{field_word}
 use Rattle.tsp_value.specs.Words.{fields_in_order, field_found}
-use Rattle.tsp_fields.specs.Fields.{Fields}
-use Rattle.tsp_fields.specs.Validity.{if_there, is_from_to, is_within, is_node, with_dimension, is_by_node, is_point, is_demand, are_depots, is_pair, are_fixed, is_triple, are_triples, are_weights, is_tour, are_tours, fits, first_failing, bad_field}
+use Rattle.tsp_value.specs.declared.field.Shape.TheVariants.{Points, SpacePoints}
+use Rattle.tsp_fields.specs.Fields.{Fields, spatial}
+use Rattle.tsp_fields.specs.Validity.{if_there, is_from_to, is_within, is_node, with_dimension, is_by_node, is_third, is_point, is_demand, section_fits, are_depots, is_pair, are_fixed, is_triple, are_triples, are_weights, is_tour, are_tours, fits, first_failing, bad_field}
 use Rattle.tsp_fields.specs.Rules.{standing_of, count_of, is_instance, is_routing, is_tours, is_certificate, is_explicit, is_function, lists_weights, is_there, asked_in_order, has_wrong_format, is_count, has_wrong_count, has_row_or_column, end_fault, format_or_count, fault_of}
-use Rattle.tsp_fields.specs.Valid.{IsFromTo, IsWithin, IsByNode, IsPoint, IsDemand, IsPairOf, IsNodeList, AreDepots, AreFixed, IsTripleOf, AreTriples, AreWeights, AreTours, IsInRange, HasInstance, HasRouting, HasPotentials}
+use Rattle.tsp_fields.specs.Valid.{IsFromTo, IsWithin, IsByNode, IsThird, IsPoint, IsDemand, IsPairOf, IsNodeList, AreDepots, AreFixed, IsTripleOf, AreTriples, AreWeights, AreTours, IsInRange, HasInstance, HasRouting, HasPotentials}
 
 -- ---- tests that hold
 
@@ -148,11 +148,21 @@ is_triple_of n triple e =
     let two = both (is_pair n (triple.0, triple.1)) (is_from_to (pos 0) (pos most_multiplier) triple.2) e in
     (is_pair_of n (triple.0, triple.1) two.0, from_to (pos 0) (pos most_multiplier) triple.2 two.1)
 
-point : (p : Point) → is_point p ≡ true → IsPoint p
-point p e =
-    let flat = both (is_within most_coordinate p.x && is_within most_coordinate p.y) (int_eq p.z (pos 0)) e in
+third : (in_space : Bool) (z : ℤ) → is_third in_space z ≡ true → IsThird in_space z
+third true z e = within most_coordinate z e
+third false z e = (Decides-int_eq z (pos 0)).0 e
+
+point : (in_space : Bool) (p : Point) → is_point in_space p ≡ true → IsPoint in_space p
+point in_space p e =
+    let flat = both (is_within most_coordinate p.x && is_within most_coordinate p.y) (is_third in_space p.z) e in
     let two = both (is_within most_coordinate p.x) (is_within most_coordinate p.y) flat.0 in
-    (within most_coordinate p.x two.0, within most_coordinate p.y two.1, (Decides-int_eq p.z (pos 0)).0 flat.1)
+    (within most_coordinate p.x two.0, within most_coordinate p.y two.1, third in_space p.z flat.1)
+
+-- the points of nodes are judged by whether the file is spatial
+pub nodes_fit : (f : Fields) (in_space : Bool) → section_fits f fields.NodeCoordPart (cond in_space SpacePoints Points)
+    ≡ if_there (with_dimension (is_by_node (is_point in_space)) f.dimension) f.coords
+nodes_fit f true = refl
+nodes_fit f false = refl
 
 -- ---- fields that stand
 
@@ -247,8 +257,9 @@ in_range f valid = record {
   dimension = λ n stands. node most_nodes n (given (is_node most_nodes) f.dimension n (each_fits f valid fields.DimensionKey) stands);
   capacity = λ z stands. from_to (pos 1) (pos most_capacity) z (given (is_from_to (pos 1) (pos most_capacity)) f.capacity z (each_fits f valid fields.CapacityKey) stands);
   scale = λ z stands. from_to (pos 1) (pos most_scale) z (given (is_from_to (pos 1) (pos most_scale)) f.scale z (each_fits f valid fields.ScaleKey) stands);
-  coords = λ points. by_node f is_point IsPoint point f.coords points (each_fits f valid fields.NodeCoordPart);
-  display = λ points. by_node f is_point IsPoint point f.display points (each_fits f valid fields.DisplayDataPart);
+  coords = λ points. by_node f (is_point (spatial f)) (IsPoint (spatial f)) (point (spatial f)) f.coords points
+      (sym (nodes_fit f (spatial f)) ∙ each_fits f valid fields.NodeCoordPart);
+  display = λ points. by_node f (is_point false) (IsPoint false) (point false) f.display points (each_fits f valid fields.DisplayDataPart);
   demands = λ demands. by_node f is_demand IsDemand (from_to (pos 0) (pos most_demand)) f.demands demands (each_fits f valid fields.DemandPart);
   depots = λ depots. depots_in f depots (each_fits f valid fields.DepotPart);
   fixed = λ pairs. fixed_in f pairs (each_fits f valid fields.FixedEdgesPart);

@@ -19,12 +19,12 @@ use Rattle.tsp_value.proofs.Counts.{cells_counted}
 use Rattle.tsp_fields.specs.declared.fault.EndFault.{EndFault}
 use Rattle.tsp_fields.specs.declared.fault.EndFault.TheVariants.{Missing, WrongFormat, WrongCount}
 use Rattle.tsp_fields.specs.declared.fault.DraftFault.TheVariants.{BadField, Rule}
-use Rattle.tsp_fields.specs.Fields.{Fields}
+use Rattle.tsp_fields.specs.Fields.{Fields, spatial}
 use Rattle.tsp_fields.specs.Validity.{is_within, with_dimension, are_weights, fits, first_failing, bad_field}
 use Rattle.tsp_fields.specs.Rules.{standing_of, is_there, asked_in_order, is_count, has_wrong_format, has_wrong_count, end_fault, format_or_count, fault_of}
 use Rattle.tsp_fields.specs.Valid.{IsWithin, AreWeights}
 use Rattle.tsp_fields.specs.Relayout.{nodes_in, with_weights}
-use Rattle.tsp_fields.proofs.ValidFields.{in_range, each_fits, no_field_missing, format_and_count, and_true}
+use Rattle.tsp_fields.proofs.ValidFields.{in_range, each_fits, nodes_fit, no_field_missing, format_and_count, and_true}
 
 -- ---- no more cells than pairs
 
@@ -83,7 +83,8 @@ each_fits_with f to weights valid fit EdgeWeightTypeKey = each_fits f valid Edge
 each_fits_with f to weights valid fit EdgeWeightFormatKey = each_fits f valid EdgeWeightFormatKey
 each_fits_with f to weights valid fit NodeCoordTypeKey = each_fits f valid NodeCoordTypeKey
 each_fits_with f to weights valid fit DisplayDataTypeKey = each_fits f valid DisplayDataTypeKey
-each_fits_with f to weights valid fit NodeCoordPart = each_fits f valid NodeCoordPart
+each_fits_with f to weights valid fit NodeCoordPart =
+    nodes_fit (with_weights f to weights) (spatial f) ∙ sym (nodes_fit f (spatial f)) ∙ each_fits f valid NodeCoordPart
 each_fits_with f to weights valid fit DisplayDataPart = each_fits f valid DisplayDataPart
 each_fits_with f to weights valid fit DemandPart = each_fits f valid DemandPart
 each_fits_with f to weights valid fit DepotPart = each_fits f valid DepotPart

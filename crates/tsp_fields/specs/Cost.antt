@@ -3,11 +3,11 @@
 use Rattle.std.specs.Prelude.{ℕ, ◌-◌, List, [], Option, None, Some, unwrap_or, slice_index_or, ℤ, pos}
 use Rattle.std.specs.Option.{option_map, option_or}
 use Rattle.tsp_number.specs.declared.decimal.Point.{Point}
-use Rattle.tsp_number.specs.Distances.{euc_2d_of, ceil_2d_of, man_2d_of, max_2d_of, att_of}
+use Rattle.tsp_number.specs.Distances.{euc_2d_of, ceil_2d_of, man_2d_of, max_2d_of, att_of, euc_3d_of, man_3d_of, max_3d_of}
 use Rattle.tsp_value.specs.declared.layout.Layout.{Layout}
 use Rattle.tsp_value.specs.declared.layout.Layout.TheVariants.{FullMatrix}
 use Rattle.tsp_value.specs.declared.kinds.WeightKind.{WeightKind}
-use Rattle.tsp_value.specs.declared.kinds.WeightKind.TheVariants.{Explicit, Euc2d, Ceil2d, Man2d, Max2d, Att}
+use Rattle.tsp_value.specs.declared.kinds.WeightKind.TheVariants.{Explicit, Euc2d, Ceil2d, Man2d, Max2d, Att, Euc3d, Man3d, Max3d}
 use Rattle.tsp_value.specs.declared.kinds.WeightFormat.{WeightFormat}
 use Rattle.tsp_value.specs.declared.kinds.WeightFormat.TheVariants.{ByFunction, Listed}
 use Rattle.tsp_value.specs.Place.{place_of}
@@ -38,6 +38,9 @@ distance Ceil2d a b = pos (ceil_2d_of a b)
 distance Man2d a b = pos (man_2d_of a b)
 distance Max2d a b = pos (max_2d_of a b)
 distance Att a b = pos (att_of a b)
+distance Euc3d a b = pos (euc_3d_of a b)
+distance Man3d a b = pos (man_3d_of a b)
+distance Max3d a b = pos (max_3d_of a b)
 distance Explicit a b = pos 0
 
 -- ---- costs

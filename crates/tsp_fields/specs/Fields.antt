@@ -7,6 +7,7 @@ use Rattle.tsp_value.specs.declared.field.Field.TheVariants.{NameKey, TypeKey, C
 use Rattle.tsp_fields.specs.declared.file.Draft.{Draft}
 use Rattle.tsp_fields.specs.Coords.{points_of}
 use Rattle.tsp_value.specs.declared.kinds.Kind.{Kind}
+use Rattle.tsp_value.specs.Space.{is_spatial}
 use Rattle.tsp_value.specs.declared.kinds.WeightKind.{WeightKind}
 use Rattle.tsp_value.specs.declared.kinds.WeightFormat.{WeightFormat}
 use Rattle.tsp_value.specs.declared.kinds.CoordKind.{CoordKind}
@@ -90,6 +91,10 @@ fields_of d = record {
   column_potentials = option_map (λ v. v.items) d.column_potentials;
   fixed_potentials = option_map (λ v. v.items) d.fixed_potentials;
 }
+
+-- its nodes have three coordinates each
+abbrev pub spatial : Fields → Bool
+spatial f = is_spatial f.coord_kind f.weight_kind
 
 -- whether a field stands; comments and unknown keywords may be none
 abbrev pub stands_in : Fields → Field → Bool

@@ -85,6 +85,9 @@ is_explicit (Some weight_kinds.Ceil2d) = false
 is_explicit (Some weight_kinds.Man2d) = false
 is_explicit (Some weight_kinds.Max2d) = false
 is_explicit (Some weight_kinds.Att) = false
+is_explicit (Some weight_kinds.Euc3d) = false
+is_explicit (Some weight_kinds.Man3d) = false
+is_explicit (Some weight_kinds.Max3d) = false
 is_explicit None = false
 
 abbrev pub is_function : Option WeightFormat → Bool

@@ -1,12 +1,12 @@
 -- What holds of every valid file: its fields are in these ranges, and those stand that its kind asks for.
-use Rattle.std.specs.Prelude.{◌≡◌, ◌≢◌, ℕ, ◌≤◌, ◌⊎◌, true, false, List, length, None, Some, IsSome, ℤ, pos, neg_ℤ, ◌≤ℤ◌}
+use Rattle.std.specs.Prelude.{◌≡◌, ◌≢◌, ℕ, ◌≤◌, ◌⊎◌, Bool, true, false, List, length, None, Some, IsSome, ℤ, pos, neg_ℤ, ◌≤ℤ◌}
 use Rattle.std.specs.List.{All, sum_by}
 use Rattle.tsp_number.specs.declared.decimal.Point.{Point}
 use Rattle.tsp_value.specs.declared.layout.Layout.{Layout}
 use Rattle.tsp_value.specs.declared.kinds.WeightFormat.TheVariants.{Listed}
 use Rattle.tsp_value.specs.Cells.{IsNode, cells}
 use Rattle.tsp_value.specs.Limits.{most_nodes, most_matrix_nodes, most_coordinate, most_weight, most_demand, most_capacity, most_scale, most_potential, most_depots, most_fixed, most_multipliers, most_multiplier, most_tour_nodes}
-use Rattle.tsp_fields.specs.Fields.{Fields}
+use Rattle.tsp_fields.specs.Fields.{Fields, spatial}
 use Rattle.tsp_fields.specs.Rules.{is_explicit}
 
 abbrev pub IsFromTo : ℤ → ℤ → ℤ → Type 0
@@ -20,9 +20,14 @@ IsWithin most z = IsFromTo (neg_ℤ (pos most)) (pos most) z
 abbrev pub IsByNode : {A : Type 0} → (A → Type 0) → Fields → List A → Type 0
 IsByNode P f entries = (f.dimension ≡ Some (length entries)) × All P entries
 
--- a point of the plane
-abbrev pub IsPoint : Point → Type 0
-IsPoint point = IsWithin most_coordinate point.x × IsWithin most_coordinate point.y × (point.z ≡ pos 0)
+-- a third coordinate of a spatial file, or of another
+abbrev pub IsThird : Bool → ℤ → Type 0
+IsThird true z = IsWithin most_coordinate z
+IsThird false z = z ≡ pos 0
+
+-- a point of a spatial file, or of another
+abbrev pub IsPoint : Bool → Point → Type 0
+IsPoint in_space point = IsWithin most_coordinate point.x × IsWithin most_coordinate point.y × IsThird in_space point.z
 
 abbrev pub IsDemand : ℤ → Type 0
 IsDemand demand = IsFromTo (pos 0) (pos most_demand) demand
@@ -75,8 +80,8 @@ pub record IsInRange (f : Fields) : Type 0 where
   pub dimension : (n : ℕ) → f.dimension ≡ Some n → IsNode most_nodes n
   pub capacity : (capacity : ℤ) → f.capacity ≡ Some capacity → IsFromTo (pos 1) (pos most_capacity) capacity
   pub scale : (scale : ℤ) → f.scale ≡ Some scale → IsFromTo (pos 1) (pos most_scale) scale
-  pub coords : (points : List Point) → f.coords ≡ Some points → IsByNode IsPoint f points
-  pub display : (points : List Point) → f.display ≡ Some points → IsByNode IsPoint f points
+  pub coords : (points : List Point) → f.coords ≡ Some points → IsByNode (IsPoint (spatial f)) f points
+  pub display : (points : List Point) → f.display ≡ Some points → IsByNode (IsPoint false) f points
   pub demands : (demands : List ℤ) → f.demands ≡ Some demands → IsByNode IsDemand f demands
   pub depots : (depots : List ℕ) → f.depots ≡ Some depots → AreDepots f depots
   pub fixed : (pairs : List (ℕ × ℕ)) → f.fixed ≡ Some pairs → AreFixed f pairs

@@ -1,5 +1,5 @@
 -- When a field is valid on its own. The ranges are this project's profile of TSPLIB 95.
-use Rattle.std.specs.Prelude.{ℕ, ◌+◌, ◌-◌, ◌*◌, Bool, true, false, not, ◌&&◌, ◌==◌, nat_le, List, length, slice_index, Option, None, Some, ℤ, pos, neg_ℤ, int_le}
+use Rattle.std.specs.Prelude.{ℕ, ◌+◌, ◌-◌, ◌*◌, Bool, true, false, cond, not, ◌&&◌, ◌==◌, nat_le, List, length, slice_index, Option, None, Some, ℤ, pos, neg_ℤ, int_le}
 use Rattle.std.specs.Option.{option_map_or}
 use Rattle.std.specs.Ordering.{int_eq}
 use Rattle.std.specs.List.{list_all, find, sum_by}
@@ -7,14 +7,14 @@ use Rattle.tsp_number.specs.declared.decimal.Point.{Point}
 use Rattle.tsp_value.specs.declared.field.Field.{Field}
 use Rattle.tsp_value.specs.declared.field.Field.TheVariants.{NameKey, CommentKey, OtherKey, DimensionKey, CapacityKey, ScaleKey}
 use Rattle.tsp_value.specs.declared.field.Shape.{Shape}
-use Rattle.tsp_value.specs.declared.field.Shape.TheVariants.{Numbers, Points, Depots, Pairs, Weights, Tours, Triples}
+use Rattle.tsp_value.specs.declared.field.Shape.TheVariants.{Numbers, Points, SpacePoints, Depots, Pairs, Weights, Tours, Triples}
 use Rattle.tsp_value.specs.Limits.{most_nodes, most_matrix_nodes, most_coordinate, most_weight, most_demand, most_capacity, most_scale, most_kept_bytes, most_comments, most_others, most_depots, most_fixed, most_multipliers, most_multiplier, most_tour_nodes}
 use Rattle.tsp_value.specs.Bytes.{is_blank, is_letter, is_keyword_byte}
 use Rattle.tsp_value.specs.Words.{field_word}
 use Rattle.tsp_value.specs.Keywords.{keyword_of, is_unknown}
 use Rattle.tsp_value.specs.Words.{fields_in_order}
 use Rattle.tsp_value.specs.Shapes.{shape_of}
-use Rattle.tsp_fields.specs.Fields.{Fields, numbers_in, points_in}
+use Rattle.tsp_fields.specs.Fields.{Fields, spatial, numbers_in, points_in}
 
 -- a field that is missing is valid
 abbrev pub if_there : {A : Type 0} → (A → Bool) → Option A → Bool
@@ -66,9 +66,13 @@ with_dimension fits (Some n) x = fits n x
 abbrev pub is_by_node : {A : Type 0} → (A → Bool) → ℕ → List A → Bool
 is_by_node fits n xs = length xs == n && list_all fits xs
 
--- a point of the plane
-abbrev pub is_point : Point → Bool
-is_point point = is_within most_coordinate point.x && is_within most_coordinate point.y && int_eq point.z (pos 0)
+-- a third coordinate is within the limits of all in a spatial file, and 0 in every other
+abbrev pub is_third : Bool → ℤ → Bool
+is_third in_space z = cond in_space (is_within most_coordinate z) (int_eq z (pos 0))
+
+-- a point of a spatial file, or of another
+abbrev pub is_point : Bool → Point → Bool
+is_point in_space point = is_within most_coordinate point.x && is_within most_coordinate point.y && is_third in_space point.z
 
 abbrev pub is_demand : ℤ → Bool
 is_demand demand = is_from_to (pos 0) (pos most_demand) demand
@@ -105,7 +109,8 @@ are_tours tours = list_all is_tour tours && nat_le (sum_by length tours) most_to
 -- a section of this shape is valid
 abbrev pub section_fits : Fields → Field → Shape → Bool
 section_fits f field (Numbers low high) = if_there (with_dimension (is_by_node (is_from_to low high)) f.dimension) (numbers_in f field)
-section_fits f field Points = if_there (with_dimension (is_by_node is_point) f.dimension) (points_in f field)
+section_fits f field Points = if_there (with_dimension (is_by_node (is_point false)) f.dimension) (points_in f field)
+section_fits f field SpacePoints = if_there (with_dimension (is_by_node (is_point true)) f.dimension) (points_in f field)
 section_fits f field Depots = if_there (with_dimension are_depots f.dimension) f.depots
 section_fits f field Pairs = if_there (with_dimension are_fixed f.dimension) f.fixed
 section_fits f field Weights = if_there (with_dimension are_weights f.dimension) f.weights
@@ -120,7 +125,7 @@ fits f OtherKey = are_others f.others
 fits f DimensionKey = if_there (is_node most_nodes) f.dimension
 fits f CapacityKey = if_there (is_from_to (pos 1) (pos most_capacity)) f.capacity
 fits f ScaleKey = if_there (is_from_to (pos 1) (pos most_scale)) f.scale
-fits f field = option_map_or (section_fits f field) (shape_of field) true
+fits f field = option_map_or (section_fits f field) (shape_of (spatial f) field) true
 
 -- the first field of a list that fails the test
 abbrev pub first_failing : (Field → Bool) → List Field → Option Field

@@ -1,11 +1,9 @@
 //! The points of a section, each list in the room that its points need.
 
-ghost use Rattle.std.specs.Prelude.{◌≡◌, length, slice_index_or, ◌<◌, SomeIff, IfOk, replicate, set};
-ghost use Rattle.tsp_number.specs.Distances.{on_plane};
+ghost use Rattle.std.specs.Prelude.{◌≡◌, length, slice_index_or, ◌<◌, SomeIff};
 ghost use Rattle.tsp_fields.specs.Coords.{points_of, origin};
 
-use std::alloc::{AllocError, Global};
-use tsp_number::{Decimal, InSpace, PlanePoint, Point};
+use tsp_number::{InSpace, PlanePoint, Point};
 
 /// A point for each node, in order.
 #[derive(Debug, Drop, PartialEq, Eq)]
@@ -17,36 +15,6 @@ pub enum Coords {
 }
 
 impl Coords {
-    /// So many points of the plane whose coordinates are 0.
-    ///
-    /// # Errors
-    ///
-    /// Memory was refused.
-    pub fn at_origin(alloc: Global, count: usize) -> Result<Coords, AllocError>
-        ensures { IfOk result (λ points. points_of points ≡ replicate count origin) }
-    {
-        let zero = match Decimal::of_count(0) {
-            Some(zero) => zero,
-            None => unreachable!(),
-        };
-        let points = vec![in alloc; PlanePoint { x: zero, y: zero }; count]?;
-        Ok(Coords::Plane(points))
-    }
-
-    /// Puts a point of the plane at an index, from 0 on.
-    ///
-    /// The caller owes an index of a point.
-    #[inline(always)]
-    pub fn put(&mut self, index: usize, point: PlanePoint)
-        requires { index < length (points_of self.old) }
-        ensures { points_of self.new ≡ set (points_of self.old) index (on_plane point.x point.y) }
-    {
-        match self {
-            Coords::Plane(points) => points[index] = point,
-            Coords::Space(points) => points[index] = point.in_space(),
-        }
-    }
-
     /// How many points there are.
     pub fn len(&self) -> usize
         ensures { result ≡ length (points_of self.now) }

@@ -3,7 +3,7 @@
 
 ghost use Rattle.std.specs.Prelude.{◌≡◌, true, false, [], ◌∷◌, pos};
 ghost use Rattle.tsp_number.specs.declared.decimal.Point.{Point};
-ghost use Rattle.tsp_number.specs.Distances.{euc_2d_of, ceil_2d_of, man_2d_of, max_2d_of, att_of};
+ghost use Rattle.tsp_number.specs.Distances.{euc_2d_of, ceil_2d_of, man_2d_of, max_2d_of, att_of, euc_3d_of, man_3d_of, max_3d_of};
 ghost use Rattle.tsp_value.specs.declared.kinds.WeightKind.TheVariants as weight_kinds;
 ghost use Rattle.tsp_value.specs.declared.layout.Layout.TheVariants as layouts;
 ghost use Rattle.tsp_fields.specs.declared.fault.RelayoutFault.TheVariants as faults;
@@ -56,5 +56,8 @@ pub fn examples_of_distances_by_type()
     ensures man { (a b : Point) → distance weight_kinds.Man2d a b ≡ pos (man_2d_of a b) }
     ensures max { (a b : Point) → distance weight_kinds.Max2d a b ≡ pos (max_2d_of a b) }
     ensures att { (a b : Point) → distance weight_kinds.Att a b ≡ pos (att_of a b) }
+    ensures euc_in_space { (a b : Point) → distance weight_kinds.Euc3d a b ≡ pos (euc_3d_of a b) }
+    ensures man_in_space { (a b : Point) → distance weight_kinds.Man3d a b ≡ pos (man_3d_of a b) }
+    ensures max_in_space { (a b : Point) → distance weight_kinds.Max3d a b ≡ pos (max_3d_of a b) }
     ensures explicit { (a b : Point) → distance weight_kinds.Explicit a b ≡ pos 0 }
 {}

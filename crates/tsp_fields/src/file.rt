@@ -6,7 +6,9 @@ use crate::rules::end_fault;
 use crate::table::bad_field;
 use std::alloc::Global;
 use std::marker::Model;
-use tsp_value::{CoordKind, DisplayKind, Field, Kind, Layout, WeightFormat, WeightKind};
+use tsp_value::{
+    CoordKind, DisplayKind, Field, Kind, Layout, WeightFormat, WeightKind, is_spatial,
+};
 
 /// The fields of a file, in canonical order. A list by node has one entry for each node, in order.
 #[derive(Debug, Drop)]
@@ -61,7 +63,7 @@ impl Draft {
     ghost use Rattle.std.specs.Prelude.{◌≡◌};
     ghost use Rattle.std.specs.Option.{option_map};
     ghost use Rattle.tsp_fields.specs.Coords.{points_of};
-    ghost use Rattle.tsp_fields.specs.Fields.{fields_of, blank_fields, stands_in, numbers_in, with_numbers, points_in, with_points};
+    ghost use Rattle.tsp_fields.specs.Fields.{fields_of, blank_fields, spatial, stands_in, numbers_in, with_numbers, points_in, with_points};
 
     /// A draft with no field set: each is `None` or an empty list. No memory is taken.
     pub fn new(alloc: Global) -> Draft
@@ -91,6 +93,13 @@ impl Draft {
             column_potentials: None,
             fixed_potentials: None,
         }
+    }
+
+    /// Whether the nodes have three coordinates each: the coordinate kind or the weight kind says so.
+    pub fn is_spatial(&self) -> bool
+        ensures { result ≡ spatial (fields_of self.now) }
+    {
+        is_spatial(self.coord_kind, self.weight_kind)
     }
 
     /// Whether a field stands; comments and unknown keywords may be none.

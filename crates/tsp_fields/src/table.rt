@@ -26,7 +26,7 @@ pub(crate) fn fits(draft: &Draft, field: Field) -> bool
         Field::DimensionKey => is_dimension(draft.dimension),
         Field::CapacityKey => is_from_one(draft.capacity, MOST_CAPACITY),
         Field::ScaleKey => is_from_one(draft.scale, MOST_SCALE),
-        _ => match field.shape() {
+        _ => match field.shape(draft.is_spatial()) {
             Some(shape) => section_fits(draft, field, shape),
             None => true,
         },
@@ -41,7 +41,8 @@ fn section_fits(draft: &Draft, field: Field, shape: Shape) -> bool
         Shape::Numbers { low, high } => {
             are_numbers(draft.dimension, draft.numbers(field), low, high)
         }
-        Shape::Points => are_points(draft.dimension, draft.points(field)),
+        Shape::Points => are_points(false, draft.dimension, draft.points(field)),
+        Shape::SpacePoints => are_points(true, draft.dimension, draft.points(field)),
         Shape::Depots => are_depots(draft.dimension, &draft.depots),
         Shape::Pairs => are_fixed(draft.dimension, &draft.fixed),
         Shape::Weights => are_weights(draft.dimension, &draft.weights),
@@ -131,15 +132,16 @@ fn section<'a, T>(
     }
 }
 
-/// There is a point for each node.
-fn are_points(dimension: Option<u32>, points: Option<&Coords>) -> bool
-    ensures { result ≡ if_there (with_dimension (is_by_node is_point) dimension) (option_map (λ points. points_of points.now) points.entry) }
+/// There is a point for each node, with three coordinates or with two.
+fn are_points(spatial: bool, dimension: Option<u32>, points: Option<&Coords>) -> bool
+    ensures { result ≡ if_there (with_dimension (is_by_node (is_point spatial)) dimension)
+        (option_map (λ points. points_of points.now) points.entry) }
 {
     match (points, dimension) {
         (None, _) => true,
         (Some(_), None) => false,
         (Some(points), Some(nodes)) => {
-            points.len() == nodes as usize && validity::are_points(points)
+            points.len() == nodes as usize && validity::are_points(spatial, points)
         }
     }
 }

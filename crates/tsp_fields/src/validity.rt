@@ -7,7 +7,7 @@ ghost use Rattle.tsp_value.specs.Bytes.{is_blank, is_keyword_byte};
 ghost use Rattle.tsp_value.specs.Limits.{most_coordinate, most_potential, most_tour_nodes};
 ghost use Rattle.tsp_number.specs.Distances.{on_plane};
 ghost use Rattle.tsp_fields.specs.Coords.{points_of};
-ghost use Rattle.tsp_fields.specs.Validity.{is_kept, is_unknown_keyword, is_other, is_from_to, is_within, is_node, is_point, is_demand, are_depots, is_pair, are_fixed, is_triple, are_triples, are_weights, is_tour};
+ghost use Rattle.tsp_fields.specs.Validity.{is_kept, is_unknown_keyword, is_other, is_from_to, is_within, is_node, is_third, is_point, is_demand, are_depots, is_pair, are_fixed, is_triple, are_triples, are_weights, is_tour};
 
 use crate::coords::Coords;
 use tsp_number::{Decimal, InSpace, PlanePoint, Point};
@@ -109,27 +109,40 @@ fn is_coordinate(coordinate: Decimal) -> bool
     -MOST_COORDINATE <= count && count <= MOST_COORDINATE
 }
 
-/// Whether it is a point of the plane whose coordinates are of a size of at most 10^9.
-fn is_point(point: Point) -> bool
-    ensures { result ≡ is_point point }
+/// Whether a third coordinate is of a size of at most 10^9 in a spatial file, and 0 in another.
+fn is_third(spatial: bool, coordinate: Decimal) -> bool
+    ensures { result ≡ is_third spatial coordinate }
 {
-    is_coordinate(point.x) && is_coordinate(point.y) && point.z.count() == 0
+    if spatial {
+        is_coordinate(coordinate)
+    } else {
+        coordinate.count() == 0
+    }
+}
+
+/// Whether it is a point of a spatial file, or of another, with coordinates of a size of at most 10^9.
+fn is_point(spatial: bool, point: Point) -> bool
+    ensures { result ≡ is_point spatial point }
+{
+    is_coordinate(point.x) && is_coordinate(point.y) && is_third(spatial, point.z)
 }
 
 /// Whether the coordinates of every point of the plane are of a size of at most 10^9.
-fn are_within(points: &[PlanePoint]) -> bool
-    ensures { result ≡ list_all (λ point. is_point (on_plane point.x point.y)) points.now }
+fn are_within(spatial: bool, points: &[PlanePoint]) -> bool
+    ensures { result ≡ list_all (λ point. is_point spatial (on_plane point.x point.y)) points.now }
 {
-    points.iter().all(|point| is_point(point.in_space()))
+    points
+        .iter()
+        .all(|point| is_point(spatial, point.in_space()))
 }
 
-/// Whether every point is one of the plane, within its limits.
-pub(crate) fn are_points(points: &Coords) -> bool
-    ensures { result ≡ list_all is_point (points_of points.now) }
+/// Whether every point is one of a spatial file, or of another.
+pub(crate) fn are_points(spatial: bool, points: &Coords) -> bool
+    ensures { result ≡ list_all (is_point spatial) (points_of points.now) }
 {
     match points {
-        Coords::Plane(points) => are_within(points),
-        Coords::Space(points) => points.iter().all(|point| is_point(*point)),
+        Coords::Plane(points) => are_within(spatial, points),
+        Coords::Space(points) => points.iter().all(|point| is_point(spatial, *point)),
     }
 }
 

@@ -6,6 +6,8 @@ pub mod WeightSteps
 pub mod NodeGroups
 pub mod NumberSteps
 pub mod PointSteps
+pub mod SpacePointSteps
+pub mod FourWords
 pub mod TripleWords
 pub mod TripleSteps
 pub mod Pieces
@@ -13,3 +15,4 @@ pub mod TourSteps
 pub mod Readings
 pub mod Taken
 pub mod PartSteps
+pub mod NamedRows

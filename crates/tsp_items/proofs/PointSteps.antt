@@ -1,9 +1,10 @@
 -- One word more of a by-node section with a point for each node.
 use Rattle.std.proofs.Common.{◌≡◌, ℕ, zero, suc, ◌+◌, ◌-◌, ◌*◌, ◌<◌, ◌≤◌, Bool, true, false, List, [], ◌∷◌, ◌++◌, length, map, set, refl, sym, ap, ◌∙◌, Option, None, Some, Ok, Err, arith}
-use Rattle.std.specs.Prelude.{ℤ, pos, nat_le, nat_lt}
-use Rattle.std.proofs.lemmas.List.{map_push, length_push, length-map, take_all}
+use Rattle.std.specs.Prelude.{ℤ, pos, nat_le, nat_lt, replicate, slice_index_or, is_some, unwrap_or}
+use Rattle.std.proofs.lemmas.List.{map_push, length_push, length-map, take_all, length-replicate, get_or-replicate}
 use Rattle.std.proofs.lemmas.Bool.Decides.{nat_tests}
 use Rattle.tsp_number.specs.declared.decimal.Point.{Point}
+use Rattle.tsp_number.specs.declared.decimal.PlanePoint.{PlanePoint}
 use Rattle.tsp_number.specs.Distances.{on_plane}
 use Rattle.tsp_fields.specs.Coords.{origin}
 use Rattle.tsp_number.specs.declared.fault.NumberFault.{NumberFault}
@@ -12,12 +13,17 @@ use Rattle.tsp_items.specs.declared.fault.LineFault.{LineFault}
 use Rattle.tsp_items.specs.declared.fault.LineFault.TheVariants as row
 use Rattle.tsp_items.specs.Numbers.{number, node}
 use Rattle.tsp_items.specs.Places.{NodeAfter, Coordinate}
-use Rattle.tsp_items.specs.Groups.{triples_in, begun_triple, point_of, point_groups, nodes_in, place_of_point, points_by_node}
+use Rattle.tsp_items.specs.Groups.{triples_in, begun_triple, point_of, point_groups, entry_of, nodes_in, place_of_point, points_by_node}
 use Rattle.tsp_items.specs.Spells.{wants_more}
 use Rattle.tsp_items.specs.states.Parts.{BeginsPoint, IsNewNode, NodesHold, PointsHold}
 use Rattle.tsp_items.specs.Rows.{word_fault}
 use Rattle.tsp_items.proofs.TripleWords.{length_triples, triples_begin, begun_begin, triples_middle, begun_middle, triples_end, begun_end}
 use Rattle.tsp_items.proofs.NodeGroups.{node_begins, node_faulty, entry_fills, entries_by_node, wants_in_group}
+
+-- ---- the points as they are kept
+
+abbrev pub plane_points : List PlanePoint → List Point
+plane_points points = map (λ point. on_plane point.x point.y) points
 
 -- ---- the groups so far
 
@@ -40,6 +46,24 @@ groups_kept : (n : ℕ) (words : List (List ℕ)) (word : List ℕ) → length w
     → point_groups n (words ++ word ∷ []) ≡ point_groups n words
 groups_kept n words word short same =
     all_groups n (words ++ word ∷ []) (omega (arith, length_push words word)) ∙ ap (map (group_of n)) same ∙ sym (all_groups n words (omega arith))
+
+-- no words so far
+pub none_so_far : (seen : List Bool) (entries : List Point) (n : ℕ) → seen ≡ replicate n false → entries ≡ replicate n origin
+    → PointsHold seen entries n None None n []
+none_so_far seen entries n unseen at_origin =
+    let none : length (point_groups n []) ≡ 0 = ap length (all_groups n [] (omega arith)) in
+    let nodes : NodesHold origin seen entries n None n (point_groups n []) = record {
+      wide = ap length unseen ∙ length-replicate n false;
+      sized = ap length at_origin ∙ length-replicate n origin;
+      to_come = omega (arith, none);
+      within = λ k e. cc;
+      fresh = λ k e. cc;
+      marks = λ i lt. ap (λ xs. slice_index_or xs i false) unseen ∙ get_or-replicate n i false false lt
+          ∙ ap (λ (groups : List (ℤ × Point)). is_some (entry_of groups (pos (i + 1)))) (sym (all_groups n [] (omega arith)));
+      filled = λ i lt. ap (λ xs. slice_index_or xs i origin) at_origin ∙ get_or-replicate n i origin origin lt
+          ∙ ap (λ (groups : List (ℤ × Point)). unwrap_or (entry_of groups (pos (i + 1))) origin) (sym (all_groups n [] (omega arith)));
+    } in
+    record { nodes = nodes; cut = λ yet. refl; open_ended = λ yet. omega (arith, yet); full = λ done. omega (arith, done) }
 
 -- ---- the words of a group that has begun
 

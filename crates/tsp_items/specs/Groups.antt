@@ -1,6 +1,6 @@
 -- By-node sections. TSPLIB 95 (G. Reinelt): NODE_COORD_SECTION, DISPLAY_DATA_SECTION and DEMAND_SECTION list each node once, in any order,
 -- each with its numbers. This project's profile adds the sections of potentials.
-use Rattle.std.specs.Prelude.{ℕ, ◌*◌, cond, nat_le, List, [], ◌∷◌, length, map, take, Option, None, Some, ℤ, pos, unwrap_or}
+use Rattle.std.specs.Prelude.{ℕ, ◌*◌, Bool, cond, nat_le, List, [], ◌∷◌, length, map, take, Option, None, Some, ℤ, pos, unwrap_or}
 use Rattle.std.specs.Ordering.{int_eq}
 use Rattle.tsp_number.specs.declared.decimal.Point.{Point}
 use Rattle.tsp_number.specs.Distances.{on_plane}
@@ -10,7 +10,7 @@ use Rattle.tsp_value.specs.Cells.{nodes_to}
 use Rattle.tsp_items.specs.Numbers.{number, node}
 use Rattle.tsp_items.specs.Places.{Place, NodeAfter, Coordinate, Amount, PastGroups}
 
--- ---- words in groups of two and of three
+-- ---- words in groups of two, of three and of four
 
 -- the groups that are whole
 abbrev pub pairs_in : {A : Type 0} → List A → List (A × A)
@@ -24,6 +24,13 @@ triples_in (a ∷ []) = []
 triples_in (a ∷ b ∷ []) = []
 triples_in (a ∷ b ∷ c ∷ words) = (a, b, c) ∷ triples_in words
 
+abbrev pub fours_in : {A : Type 0} → List A → List (A × A × A × A)
+fours_in [] = []
+fours_in (a ∷ []) = []
+fours_in (a ∷ b ∷ []) = []
+fours_in (a ∷ b ∷ c ∷ []) = []
+fours_in (a ∷ b ∷ c ∷ d ∷ words) = (a, b, c, d) ∷ fours_in words
+
 -- the words of a group that has begun
 abbrev pub begun_pair : {A : Type 0} → List A → List A
 begun_pair [] = []
@@ -35,6 +42,13 @@ begun_triple [] = []
 begun_triple (a ∷ []) = a ∷ []
 begun_triple (a ∷ b ∷ []) = a ∷ b ∷ []
 begun_triple (a ∷ b ∷ c ∷ words) = begun_triple words
+
+abbrev pub begun_four : {A : Type 0} → List A → List A
+begun_four [] = []
+begun_four (a ∷ []) = a ∷ []
+begun_four (a ∷ b ∷ []) = a ∷ b ∷ []
+begun_four (a ∷ b ∷ c ∷ []) = a ∷ b ∷ c ∷ []
+begun_four (a ∷ b ∷ c ∷ d ∷ words) = begun_four words
 
 -- ---- groups as numbers: a node with what stands for it
 
@@ -48,6 +62,13 @@ point_of x y = on_plane (number (decimal_of x)) (number (decimal_of y))
 -- the n groups of a node and its coordinates
 abbrev pub point_groups : ℕ → List (List ℕ) → List (ℤ × Point)
 point_groups n words = map (λ group. (number (node n group.0), point_of group.1 group.2)) (triples_in (take (3 * n) words))
+
+abbrev pub space_point_of : List ℕ → List ℕ → List ℕ → Point
+space_point_of x y z = record { x = number (decimal_of x); y = number (decimal_of y); z = number (decimal_of z) }
+
+-- the n groups of a node and its three coordinates
+abbrev pub space_point_groups : ℕ → List (List ℕ) → List (ℤ × Point)
+space_point_groups n words = map (λ group. (number (node n group.0), space_point_of group.1 group.2 group.3)) (fours_in (take (4 * n) words))
 
 -- what stands for a node: the entry of its group
 abbrev pub entry_of : {X : Type 0} → List (ℤ × X) → ℤ → Option X
@@ -63,6 +84,13 @@ numbers_by_node low high n words = by_node (pos 0) n (number_groups low high n w
 
 abbrev pub points_by_node : ℕ → List (List ℕ) → List Point
 points_by_node n words = by_node origin n (point_groups n words)
+
+abbrev pub space_points_by_node : ℕ → List (List ℕ) → List Point
+space_points_by_node n words = by_node origin n (space_point_groups n words)
+
+-- the points of nodes in a spatial file, or in another
+abbrev pub coords_by_node : Bool → ℕ → List (List ℕ) → List Point
+coords_by_node in_space n words = cond in_space (space_points_by_node n words) (points_by_node n words)
 
 -- ---- where the next word stands
 
@@ -81,3 +109,7 @@ place_of_number low high n words = cond (nat_le (2 * n) (length words)) PastGrou
 abbrev pub place_of_point : ℕ → List (List ℕ) → Place
 place_of_point n words = cond (nat_le (3 * n) (length words)) PastGroups
     (place_in_group Coordinate (nodes_in (point_groups n words)) (begun_triple words))
+
+abbrev pub place_of_space_point : ℕ → List (List ℕ) → Place
+place_of_space_point n words = cond (nat_le (4 * n) (length words)) PastGroups
+    (place_in_group Coordinate (nodes_in (space_point_groups n words)) (begun_four words))

@@ -8,7 +8,7 @@ use Rattle.std.specs.List.{list_any}
 use Rattle.tsp_number.specs.declared.fault.NumberFault.{NumberFault}
 use Rattle.tsp_number.specs.Reading.{decimal_of, whole_of}
 use Rattle.tsp_value.specs.declared.field.Field.{Field}
-use Rattle.tsp_value.specs.declared.field.Field.TheVariants.{CommentKey, OtherKey, DimensionKey, EdgeWeightPart, TourPart}
+use Rattle.tsp_value.specs.declared.field.Field.TheVariants.{CommentKey, OtherKey, DimensionKey, NodeCoordPart, EdgeWeightPart, TourPart}
 use Rattle.tsp_value.specs.declared.keyword.Keyword.TheVariants.{Known, EdgeDataFormat, EdgeDataSection, Eof, Unknown}
 use Rattle.tsp_value.specs.Limits.{most_nodes, most_matrix_nodes, most_weight, most_line_bytes, most_kept_bytes, most_comments, most_others, most_depots, most_fixed, most_tour_nodes}
 use Rattle.tsp_items.specs.declared.fault.LineFault.{LineFault}
@@ -17,7 +17,7 @@ use Rattle.tsp_items.specs.Lines.{is_filled, first_word}
 use Rattle.tsp_items.specs.Items.{WordLine, Item, Line, NumberWord, LineEnd}
 use Rattle.tsp_value.specs.Shapes.{is_section_field}
 use Rattle.tsp_items.specs.Earlier.{same_field, has_line, values_at, others_in, open_section}
-use Rattle.tsp_items.specs.Values.{is_refused, is_left_out, has_number, read_as, is_kept_as_is}
+use Rattle.tsp_items.specs.Values.{is_refused, is_left_out, has_number, read_as, is_kept_as_is, says_space, spatial_after}
 use Rattle.tsp_items.specs.Numbers.{reads_as, node, sized, node_or_end, is_end, is_minus_one}
 use Rattle.tsp_items.specs.Places.{Place, NodeAfter, Coordinate, Amount, PastGroups, DepotAfter, FirstAfter, SecondOf, PastEnd, Weight, PastWeights, TourNode}
 use Rattle.tsp_items.specs.Sections.{nodes_of, place_of}
@@ -208,6 +208,18 @@ is_after_end earlier (Line key line) = false
 is_after_end earlier (NumberWord word) = at_place is_after_end_at earlier word
 is_after_end earlier LineEnd = false
 
+-- ---- LateSpace: a line that makes the file spatial, after a section of points of the plane
+
+abbrev pub is_late : List Item → Item → Bool
+is_late earlier (Line (Known field) line) = says_space field (first_word line.value) && has_line NodeCoordPart earlier
+    && not (spatial_after earlier)
+is_late earlier (Line EdgeDataFormat line) = false
+is_late earlier (Line EdgeDataSection line) = false
+is_late earlier (Line Eof line) = false
+is_late earlier (Line Unknown line) = false
+is_late earlier (NumberWord word) = false
+is_late earlier LineEnd = false
+
 -- ---- the table
 
 abbrev pub when : {F : Type 0} → Bool → F → Option F
@@ -228,7 +240,8 @@ table earlier item = when (is_long earlier item) row.LongLine
     ∷ when (is_repeated_node earlier item) row.RepeatedNode
     ∷ when (is_self_edge earlier item) row.SelfEdge
     ∷ when (is_surplus earlier item) row.Surplus
-    ∷ when (is_after_end earlier item) row.AfterEnd ∷ []
+    ∷ when (is_after_end earlier item) row.AfterEnd
+    ∷ when (is_late earlier item) row.LateSpace ∷ []
 
 -- the first row that applies
 abbrev pub first_row : {F : Type 0} → List (Option F) → Option F

@@ -11,9 +11,9 @@ use Rattle.tsp_value.specs.Words.{fields_in_order}
 use Rattle.tsp_items.specs.Items.{Item}
 use Rattle.tsp_value.specs.Shapes.{is_section_field}
 use Rattle.tsp_items.specs.Earlier.{has_line, value_at, values_at, others_in, words_of}
-use Rattle.tsp_items.specs.Values.{kind_named, weight_kind_named, weight_format_named, coord_kind_named, display_kind_named, number_at, named_at, dimension_of}
+use Rattle.tsp_items.specs.Values.{kind_named, weight_kind_named, weight_format_named, coord_kind_named, display_kind_named, number_at, named_at, dimension_of, spatial_after}
 use Rattle.tsp_items.specs.Places.{Place, NodeAfter, Coordinate, Amount, PastGroups, DepotAfter, FirstAfter, SecondOf, PastEnd, Weight, PastWeights, TourNode}
-use Rattle.tsp_items.specs.Groups.{numbers_by_node, points_by_node}
+use Rattle.tsp_items.specs.Groups.{numbers_by_node, points_by_node, coords_by_node}
 use Rattle.tsp_items.specs.Lists.{depots_in, fixed_in, fixed_triples_in}
 use Rattle.tsp_items.specs.Weights.{weights_in}
 use Rattle.tsp_items.specs.Tours.{tours_in}
@@ -45,7 +45,7 @@ fields_by stands items = record {
   weight_format = named_at weight_format_named EdgeWeightFormatKey items;
   coord_kind = named_at coord_kind_named NodeCoordTypeKey items;
   display_kind = named_at display_kind_named DisplayDataTypeKey items;
-  coords = section stands (points_by_node (nodes_of items)) NodeCoordPart items;
+  coords = section stands (coords_by_node (spatial_after items) (nodes_of items)) NodeCoordPart items;
   display = section stands (points_by_node (nodes_of items)) DisplayDataPart items;
   demands = section stands (demands_in (nodes_of items)) DemandPart items;
   depots = section stands (depots_in (nodes_of items)) DepotPart items;
@@ -82,7 +82,8 @@ wants_more PastWeights = false
 wants_more (TourNode count) = false
 
 abbrev pub is_incomplete : List Item → Field → Bool
-is_incomplete items field = has_line field items && wants_more (place_in field (nodes_of items) (words_of field items))
+is_incomplete items field = has_line field items
+    && wants_more (place_in (spatial_after items) field (nodes_of items) (words_of field items))
 
 -- the sections, in canonical order
 abbrev pub sections_in_order : List Field

@@ -1,7 +1,7 @@
 -- What the value of a keyword may be, keyword by keyword. The words are those of TSPLIB 95 (G. Reinelt); which of them are left out, and
 -- the ranges of numbers, are this project's profile.
 use Rattle.std.specs.Prelude.{ℕ, Bool, true, false, List, [], ◌∷◌, Option, None, Some, is_some, is_none, ℤ, pos, codes, Result, nat_abs}
-use Rattle.std.specs.Option.{option_map, option_and_then}
+use Rattle.std.specs.Option.{option_map, option_map_or, option_and_then}
 use Rattle.std.specs.Result.{result_ok}
 use Rattle.std.specs.List.{find, list_any}
 use Rattle.std.specs.Str.{bytes_eq}
@@ -15,6 +15,7 @@ use Rattle.tsp_value.specs.declared.kinds.DisplayKind.{DisplayKind}
 use Rattle.tsp_value.specs.declared.field.Field.{Field}
 use Rattle.tsp_value.specs.declared.field.Field.TheVariants.{NameKey, TypeKey, CommentKey, DimensionKey, CapacityKey, ScaleKey, EdgeWeightTypeKey, EdgeWeightFormatKey, NodeCoordTypeKey, DisplayDataTypeKey}
 use Rattle.tsp_value.specs.Limits.{most_nodes, most_capacity, most_scale}
+use Rattle.tsp_value.specs.Space.{weighs_three, has_three, is_spatial}
 use Rattle.tsp_value.specs.Words.{kind_word, weight_kind_word, weight_format_word, coord_kind_word, display_kind_word}
 use Rattle.tsp_value.specs.Words.{kinds, weight_kinds, weight_formats, coord_kinds, display_kinds}
 use Rattle.tsp_items.specs.Lines.{first_word}
@@ -54,8 +55,7 @@ is_refused field word = false
 -- words of TSPLIB 95 that the keyword doesn't take here
 abbrev pub left_out : Field → List (List ℕ)
 left_out TypeKey = codes "SOP" ∷ codes "HCP" ∷ []
-left_out EdgeWeightTypeKey = codes "EUC_3D" ∷ codes "MAN_3D" ∷ codes "MAX_3D" ∷ codes "GEO" ∷ codes "XRAY1" ∷ codes "XRAY2" ∷ codes "SPECIAL" ∷ []
-left_out NodeCoordTypeKey = codes "THREED_COORDS" ∷ []
+left_out EdgeWeightTypeKey = codes "GEO" ∷ codes "XRAY1" ∷ codes "XRAY2" ∷ codes "SPECIAL" ∷ []
 left_out field = []
 
 abbrev pub is_left_out : Field → List ℕ → Bool
@@ -93,6 +93,21 @@ number_at field earlier = option_and_then (λ value. option_and_then result_ok (
 -- the value of the line with this keyword, by the first word
 abbrev pub named_at : {V : Type 0} → (List ℕ → Option V) → Field → List Item → Option V
 named_at by_word field earlier = option_and_then (λ value. by_word (first_word value)) (value_at field earlier)
+
+-- ---- points with three coordinates
+
+-- the value of the keyword, by its first word, makes a file spatial
+abbrev pub says_space : Field → List ℕ → Bool
+says_space EdgeWeightTypeKey word = option_map_or weighs_three (weight_kind_named word) false
+says_space NodeCoordTypeKey word = option_map_or has_three (coord_kind_named word) false
+says_space field word = false
+
+-- a file of these items is spatial
+abbrev pub spatial_after : List Item → Bool
+spatial_after earlier = is_spatial (named_at coord_kind_named NodeCoordTypeKey earlier)
+    (named_at weight_kind_named EdgeWeightTypeKey earlier)
+
+-- ---- the number of nodes
 
 abbrev pub dimension_of : List Item → Option ℕ
 dimension_of earlier = option_map nat_abs (number_at DimensionKey earlier)

@@ -49,6 +49,9 @@ pub enum LineFault {
     /// A word other than `-1` stands after the -1 that ended the list.
     #[error("AfterEnd")]
     AfterEnd,
+    /// The line says that the nodes have three coordinates, after a NODE_COORD_SECTION of two each.
+    #[error("LateSpace")]
+    LateSpace,
 }
 
 /// Why a file isn't read, in the order of their numbers.

@@ -8,7 +8,7 @@ ghost use Rattle.tsp_items.specs.declared.fault.LineFault.TheVariants as faults;
 ghost use Rattle.tsp_items.specs.Examples.{FaultAt, NumberAt, MissingAtEnd, EndsWith, OthersAre, ToursAre, PairsAre, TriplesAre, DemandsAre, quad, long_line, long_word};
 
 /// The first faults of some texts of word lines. In the texts `/` parts lines.
-#[tactic(auto, unfolding(tsp_number::specs::Reading::whole_of))]
+#[tactic(auto, unfolding(tsp_number::specs::Reading::decimal_of, tsp_number::specs::Reading::whole_of))]
 pub fn faults_of_word_lines()
     ensures unknown { FaultAt (codes "TYPE : TSP/FOO") 2 0 faults.UnknownLine }
     ensures second_word_no_colon { FaultAt (codes "FOO BAR : 1") 1 0 faults.UnknownLine }
@@ -23,10 +23,14 @@ pub fn faults_of_word_lines()
     ensures refused_keyword { FaultAt (codes "EDGE_DATA_FORMAT :") 1 0 faults.Outside }
     ensures two_names_of_one_section { FaultAt (codes "DIMENSION : 2/FIXED_EDGES/1 2/FIXED_EDGES_SECTION") 4 0 faults.Repeated }
     ensures long { FaultAt long_line 1 0 faults.LongLine }
+    ensures late { FaultAt (codes "TYPE : TSP/DIMENSION : 1/NODE_COORD_SECTION/1 0 0/EDGE_WEIGHT_TYPE : EUC_3D") 5 0 faults.LateSpace }
+    ensures late_after_none { FaultAt (codes "DIMENSION : 1/NODE_COORD_SECTION/NODE_COORD_TYPE : THREED_COORDS") 3 0 faults.LateSpace }
+    ensures outside_still { FaultAt (codes "EDGE_WEIGHT_TYPE : GEO") 1 0 faults.Outside }
+    ensures no_word { FaultAt (codes "EDGE_WEIGHT_TYPE : CEIL_3D") 1 0 faults.BadValue }
 {}
 
 /// The first faults of some texts of numbers.
-#[tactic(auto, unfolding(tsp_number::specs::Reading::whole_of))]
+#[tactic(auto, unfolding(tsp_number::specs::Reading::decimal_of, tsp_number::specs::Reading::whole_of))]
 pub fn faults_of_words()
     ensures stray { FaultAt (codes "1 2") 1 1 faults.StrayNumber }
     ensures stray_after_comment { FaultAt (codes "TOUR_SECTION/1/COMMENT : x/2") 4 1 faults.StrayNumber }
@@ -43,12 +47,15 @@ pub fn faults_of_words()
     ensures repeated_node { FaultAt (codes "DIMENSION : 2/DEMAND_SECTION/1 0 1 5") 3 3 faults.RepeatedNode }
     ensures past_the_groups { FaultAt (codes "DIMENSION : 2/DEMAND_SECTION/1 0 2 5 7") 3 5 faults.Surplus }
     ensures zero_in_a_tour { NumberAt (codes "TOUR_SECTION/1 0 2") 2 2 numbers.OutOfRange }
+    ensures third_in_the_plane { FaultAt (codes "DIMENSION : 1/NODE_COORD_SECTION/1 0 0 5") 3 4 faults.Surplus }
+    ensures fourth_in_space { FaultAt (codes "DIMENSION : 1/NODE_COORD_TYPE : THREED_COORDS/NODE_COORD_SECTION/1 0 0 5 6") 4 5 faults.Surplus }
+    ensures third_of_display { FaultAt (codes "DIMENSION : 1/EDGE_WEIGHT_TYPE : MAN_3D/DISPLAY_DATA_SECTION/1 0 0 5") 4 4 faults.Surplus }
     ensures long_word { NumberAt (codes "TOUR_SECTION/1 " ++ long_word) 2 2 numbers.LongWord }
     ensures past_the_weights { FaultAt (quad (codes "UPPER_ROW") (codes "1 2 3 4 5 6 7 8 9 10 11 12 13 14 15 16 17")) 6 17 faults.Surplus }
 {}
 
 /// The faults at the end of some texts.
-#[tactic(auto, unfolding(tsp_number::specs::Reading::whole_of, tsp_value::specs::Cells::cells, tsp_value::specs::Cells::nodes_to))]
+#[tactic(auto, unfolding(tsp_number::specs::Reading::decimal_of, tsp_number::specs::Reading::whole_of, tsp_value::specs::Cells::cells, tsp_value::specs::Cells::nodes_to))]
 pub fn faults_at_the_end()
     ensures no_type { MissingAtEnd (codes "DIMENSION 3") fields.TypeKey }
     ensures small_letters { MissingAtEnd (codes "dimension : 3") fields.TypeKey }
@@ -66,13 +73,16 @@ pub fn faults_at_the_end()
         fields.NodePotentialPart }
     ensures rows_alone { MissingAtEnd (codes "TYPE : POTENTIALS/DIMENSION : 1/ROW_POTENTIAL_SECTION/1 0")
         fields.ColumnPotentialPart }
+    ensures space_said_again { MissingAtEnd (codes "DIMENSION : 1/EDGE_WEIGHT_TYPE : MAX_3D/NODE_COORD_SECTION/1 0 0 5/NODE_COORD_TYPE : THREED_COORDS") fields.TypeKey }
+    ensures two_of_three { EndsWith (codes "TYPE : TSP/DIMENSION : 1/EDGE_WEIGHT_TYPE : EUC_3D/NODE_COORD_SECTION/1 0 0")
+        (ends.Incomplete fields.NodeCoordPart) }
     ensures too_few { EndsWith (quad (codes "UPPER_ROW") (codes "1 2 3 4 5")) ends.WrongCount }
     ensures too_many { EndsWith (quad (codes "UPPER_ROW") (codes "1 2 3 4 5 6 7")) ends.WrongCount }
     ensures by_function { EndsWith (quad (codes "FUNCTION") (codes "1 2 3 4 5")) ends.WrongFormat }
 {}
 
 /// What some texts spell.
-#[tactic(auto, unfolding(tsp_number::specs::Reading::whole_of, tsp_value::specs::Cells::nodes_to))]
+#[tactic(auto, unfolding(tsp_number::specs::Reading::decimal_of, tsp_number::specs::Reading::whole_of, tsp_value::specs::Cells::nodes_to))]
 pub fn fields_of_texts()
     ensures value { OthersAre (codes "FOO : BAR") (codes "FOO") (codes "BAR") }
     ensures no_value { OthersAre (codes "FOO: ") (codes "FOO") (codes "") }

@@ -11,12 +11,13 @@ mod slots;
 
 pub use fault::{LineFault, ReadFault, StepFault};
 pub use laws::{faults_at_the_end, faults_of_word_lines, faults_of_words, fields_of_texts};
-pub use line::{CutLine, may_open};
-pub use part::Part;
+pub use line::{CutLine, may_open, says_space};
+pub use part::{Part, Run};
 pub use parts::depots::DepotList;
 pub use parts::fixed::FixedList;
 pub use parts::numbers::NumberList;
 pub use parts::points::PointList;
+pub use parts::space_points::SpacePointList;
 pub use parts::tours::TourList;
 pub use parts::triples::TripleList;
 pub use parts::weights::WeightList;

@@ -4,13 +4,15 @@ ghost use Rattle.std.specs.Prelude.{◌≡◌, ◌≤ℤ◌, ℤ, IfOk};
 ghost use Rattle.std.specs.List.{position};
 ghost use Rattle.tsp_value.specs.Bytes.{is_blank};
 ghost use Rattle.tsp_items.specs.Lines.{first_word, is_filled};
-ghost use Rattle.tsp_items.specs.Values.{is_left_out};
+ghost use Rattle.tsp_items.specs.Values.{is_left_out, says_space};
 ghost use Rattle.tsp_value.specs.declared.field.Field.TheVariants.{EdgeWeightTypeKey};
 ghost use Rattle.tsp_items.specs.states.CutLine.{NamesValue, ReadsNumber, MayOpen};
 
 use crate::fault::LineFault;
 use tsp_number::parse_whole;
-use tsp_value::{Field, Keyword, MOST_MATRIX_NODES, Shape, Word, is_blank, value_of};
+use tsp_value::{
+    CoordKind, Field, Keyword, MOST_MATRIX_NODES, Shape, WeightKind, Word, is_blank, value_of,
+};
 
 /// A word line, cut into its parts.
 #[derive(Clone, Copy)]
@@ -54,7 +56,6 @@ fn is_left_out(field: Field, word: &[u8]) -> bool
     match field {
         Field::TypeKey => word == b"SOP".as_slice() || word == b"HCP".as_slice(),
         Field::EdgeWeightTypeKey => is_weight_kind_left_out(word),
-        Field::NodeCoordTypeKey => word == b"THREED_COORDS".as_slice(),
         _ => false,
     }
 }
@@ -63,13 +64,27 @@ fn is_left_out(field: Field, word: &[u8]) -> bool
 fn is_weight_kind_left_out(word: &[u8]) -> bool
     ensures { result ≡ is_left_out EdgeWeightTypeKey word.now }
 {
-    word == b"EUC_3D".as_slice()
-        || word == b"MAN_3D".as_slice()
-        || word == b"MAX_3D".as_slice()
-        || word == b"GEO".as_slice()
+    word == b"GEO".as_slice()
         || word == b"XRAY1".as_slice()
         || word == b"XRAY2".as_slice()
         || word == b"SPECIAL".as_slice()
+}
+
+/// Whether the value of a keyword says that the nodes of the file have three coordinates each.
+pub fn says_space(field: Field, value: &[u8]) -> bool
+    ensures { result ≡ says_space field (first_word value.now) }
+{
+    match field {
+        Field::EdgeWeightTypeKey => match value_of::<WeightKind>(first_word(value)) {
+            Some(kind) => kind.weighs_three(),
+            None => false,
+        },
+        Field::NodeCoordTypeKey => match value_of::<CoordKind>(first_word(value)) {
+            Some(CoordKind::ThreeD) => true,
+            _ => false,
+        },
+        _ => false,
+    }
 }
 
 /// The value that the first word of a keyword's value names.

@@ -7,6 +7,7 @@ use crate::parts::depots::DepotList;
 use crate::parts::fixed::FixedList;
 use crate::parts::numbers::NumberList;
 use crate::parts::points::PointList;
+use crate::parts::space_points::SpacePointList;
 use crate::parts::tours::TourList;
 use crate::parts::triples::TripleList;
 use crate::parts::weights::WeightList;
@@ -19,11 +20,21 @@ use tsp_value::{MOST_MATRIX_NODES, Shape};
 pub enum Part {
     Numbers(NumberList),
     Points(PointList),
+    SpacePoints(SpacePointList),
     Depots(DepotList),
     Pairs(FixedList),
     Weights(WeightList),
     Tours(TourList),
     Triples(TripleList),
+}
+
+/// The sections whose words are read in a run, each kind in a loop of its own.
+#[derive(Clone, Copy, Debug, PartialEq, Eq)]
+pub enum Run {
+    Weights,
+    Tours,
+    Points,
+    SpacePoints,
 }
 
 impl Part {
@@ -32,7 +43,7 @@ impl Part {
     ghost use Rattle.tsp_items.specs.Numbers.{IsWhole};
     ghost use Rattle.tsp_items.specs.Sections.{place_by};
     ghost use Rattle.tsp_items.specs.states.Parts.{Takes};
-    ghost use Rattle.tsp_items.specs.states.Held.{shape_by, HoldsPart, HoldsShape};
+    ghost use Rattle.tsp_items.specs.states.Held.{shape_by, run_of, HoldsPart, HoldsShape};
 
     /// A section of this shape with no words so far, in a file of `n` nodes.
     ///
@@ -46,6 +57,7 @@ impl Part {
         Ok(match shape {
             Shape::Numbers { low, high } => Part::Numbers(NumberList::open(alloc, n, low, high)?),
             Shape::Points => Part::Points(PointList::open(alloc, n)?),
+            Shape::SpacePoints => Part::SpacePoints(SpacePointList::open(alloc, n)?),
             Shape::Depots => Part::Depots(DepotList::open(alloc, n)),
             Shape::Pairs => Part::Pairs(FixedList::open(alloc, n)),
             Shape::Weights => Part::Weights(WeightList::open(alloc, n)),
@@ -72,6 +84,7 @@ impl Part {
         match self {
             Part::Numbers(part) => part.push(word),
             Part::Points(part) => part.push(word),
+            Part::SpacePoints(part) => part.push(word),
             Part::Depots(part) => part.push(word),
             Part::Pairs(part) => part.push(word),
             Part::Weights(part) => part.push(word),
@@ -80,19 +93,35 @@ impl Part {
         }
     }
 
-    /// Whether the next word is a coordinate.
+    /// The run that the words of the section are read in, where they are.
     #[inline(always)]
-    pub fn wants_coordinate(&self) -> bool {
+    pub fn run(&self) -> Option<Run>
+        ensures { result ≡ run_of self.now }
+    {
         match self {
-            Part::Points(part) => part.wants_coordinate(),
+            Part::Weights(_) => Some(Run::Weights),
+            Part::Tours(_) => Some(Run::Tours),
+            Part::Points(_) => Some(Run::Points),
+            Part::SpacePoints(_) => Some(Run::SpacePoints),
+            _ => None,
+        }
+    }
+
+    /// Whether the next word is a coordinate, where the section has this run.
+    #[inline(always)]
+    pub fn wants_coordinate(&self, run: Run) -> bool {
+        match self {
+            Part::Points(part) if run == Run::Points => part.wants_coordinate(),
+            Part::SpacePoints(part) if run == Run::SpacePoints => part.wants_coordinate(),
             _ => false,
         }
     }
 
-    /// Takes the number of a word that was read, where the section is of weights, tours or points
-    /// and has room for it. The answer is whether it was taken.
+    /// Takes the number of a word that was read, where the section has this run and room for it. The
+    /// answer is whether it was taken.
+    // (in a loop over words of one run the other arms are gone)
     #[inline(always)]
-    pub fn push_read(&mut self, number: i64) -> bool
+    pub fn push_read(&mut self, run: Run, number: i64) -> bool
         ensures taken { result ≡ true → (n : ℕ) (words : List (List ℕ)) (word : List ℕ)
             → IsWhole word number → HoldsPart self.old n words
             → Takes n (place_by (shape_by self.old) n words) word
@@ -101,17 +130,18 @@ impl Part {
             → HoldsPart self.old n words → HoldsShape (shape_by self.old) self.new n words }
     {
         match self {
-            Part::Weights(part) => part.push_read(number),
-            Part::Tours(part) => part.push_read(number),
-            Part::Points(part) => part.push_read(number),
+            Part::Weights(part) if run == Run::Weights => part.push_read(number),
+            Part::Tours(part) if run == Run::Tours => part.push_read(number),
+            Part::Points(part) if run == Run::Points => part.push_read(number),
+            Part::SpacePoints(part) if run == Run::SpacePoints => part.push_read(number),
             _ => false,
         }
     }
 
-    /// Takes the coordinate of a word that was read, where a group of points has begun. The answer
-    /// is whether it was taken.
+    /// Takes the coordinate of a word that was read, where the section has this run and a group of
+    /// points has begun. The answer is whether it was taken.
     #[inline(always)]
-    pub fn push_coordinate(&mut self, coordinate: Decimal) -> bool
+    pub fn push_coordinate(&mut self, run: Run, coordinate: Decimal) -> bool
         ensures taken { result ≡ true → (n : ℕ) (words : List (List ℕ)) (word : List ℕ)
             → decimal_of word ≡ Ok coordinate → HoldsPart self.old n words
             → Takes n (place_by (shape_by self.old) n words) word
@@ -120,7 +150,8 @@ impl Part {
             → HoldsPart self.old n words → HoldsShape (shape_by self.old) self.new n words }
     {
         match self {
-            Part::Points(part) => part.push_coordinate(coordinate),
+            Part::Points(part) if run == Run::Points => part.push_coordinate(coordinate),
+            Part::SpacePoints(part) if run == Run::SpacePoints => part.push_coordinate(coordinate),
             _ => false,
         }
     }

@@ -5,6 +5,7 @@ pub(crate) mod fixed;
 pub(crate) mod nodes;
 pub(crate) mod numbers;
 pub(crate) mod points;
+pub(crate) mod space_points;
 pub(crate) mod tours;
 pub(crate) mod triples;
 pub(crate) mod weights;

@@ -11,23 +11,25 @@ use crate::line::{CutLine, named, number};
 use std::alloc::Global;
 use tsp_value::{Field, MOST_COMMENTS, MOST_KEPT_BYTES, MOST_OTHERS, Word};
 
-/// Sets the value that a line names, where none is set yet.
+/// Sets the value that a line names, where none is set yet; `late` is whether it comes too late.
 ///
 /// # Errors
 ///
 /// `Fault`: one is set (`Repeated`), the value's first word is one of TSPLIB 95 that is left out
-/// (`Outside`), or none that the keyword accepts (`BadValue`).
+/// (`Outside`), or none that the keyword accepts (`BadValue`), or it comes too late (`LateSpace`).
 pub fn set_named<V: Word + Drop>(
     slot: &mut Option<V>,
     field: Field,
     value: &[u8],
+    late: bool,
 ) -> Result<(), StepFault>
-    ensures { SetsNamed V.text V.values field (first_word value.now) slot.old slot.new result }
+    ensures { SetsNamed V.text V.values field (first_word value.now) late slot.old slot.new result }
 {
     if slot.is_some() {
         return Err(StepFault::Fault(LineFault::Repeated));
     }
     match named::<V>(field, value) {
+        Ok(_) if late => Err(StepFault::Fault(LineFault::LateSpace)),
         Ok(value) => {
             *slot = Some(value);
             Ok(())

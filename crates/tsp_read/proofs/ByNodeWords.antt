@@ -15,16 +15,17 @@ use Rattle.tsp_items.specs.Numbers.{number, node}
 use Rattle.tsp_items.specs.Items.{Item}
 use Rattle.tsp_items.specs.Earlier.{same_field, has_line, words_of}
 use Rattle.tsp_items.specs.Places.{Place, NodeAfter, Coordinate, Amount, PastGroups}
-use Rattle.tsp_items.specs.Groups.{pairs_in, triples_in, begun_pair, begun_triple, number_groups, point_of, point_groups, place_in_group, nodes_in}
+use Rattle.tsp_items.specs.Groups.{pairs_in, triples_in, fours_in, begun_pair, begun_triple, begun_four, place_of_number, place_of_point, number_groups, point_of, point_groups, space_point_of, space_point_groups, place_in_group, nodes_in}
+use Rattle.tsp_items.specs.Values.{spatial_after}
 use Rattle.tsp_items.specs.Sections.{place_in, nodes_of}
 use Rattle.tsp_items.specs.Rows.{when, number_fault_at, is_repeated_node_at, is_self_edge_at, is_surplus_at, is_after_end_at, word_fault}
 use Rattle.tsp_items.specs.FirstFault.{IsClean}
 use Rattle.tsp_items.specs.Spells.{wants_more, is_incomplete}
 use Rattle.tsp_read.specs.ByNode.{is_by_node_field, group_nodes, HasEachOnce}
 use Rattle.tsp_read.proofs.ValidRows.{when_none, map_none, none_applies}
-use Rattle.tsp_read.proofs.ValidSections.{Grows, grown}
+use Rattle.tsp_read.proofs.Grown.{Grows, grown, grown_in}
 use Rattle.tsp_read.proofs.EachOnce.{AreOnce, IsFree, once_more, all_once}
-use Rattle.tsp_read.proofs.Shapes.{Words, IsShape, pair_firsts, pair_shape, triple_firsts, triple_shape}
+use Rattle.tsp_read.proofs.Shapes.{Words, IsShape, pair_firsts, pair_shape, triple_firsts, triple_shape, four_firsts, four_shape}
 
 -- ---- what holds of the words so far
 
@@ -159,11 +160,20 @@ point_nodes : (n : ℕ) (triples : List (List ℕ × List ℕ × List ℕ))
 point_nodes n [] = refl
 point_nodes n (triple ∷ triples) = ap (λ (nodes : List ℤ). number (node n triple.0) ∷ nodes) (point_nodes n triples)
 
+space_point_nodes : (n : ℕ) (fours : List (List ℕ × List ℕ × List ℕ × List ℕ))
+    → nodes_in (map (λ (group : List ℕ × List ℕ × List ℕ × List ℕ). (number (node n group.0), space_point_of group.1 group.2 group.3)) fours)
+    ≡ nodes_read n (map (λ (group : List ℕ × List ℕ × List ℕ × List ℕ). group.0) fours)
+space_point_nodes n [] = refl
+space_point_nodes n (four ∷ fours) = ap (λ (nodes : List ℤ). number (node n four.0) ∷ nodes) (space_point_nodes n fours)
+
 abbrev NumbersHold : ℕ → Words → Type 0
 NumbersHold n words = NodesHold pair_firsts begun_pair (2 * n) n words
 
 abbrev PointsHold : ℕ → Words → Type 0
 PointsHold n words = NodesHold triple_firsts begun_triple (3 * n) n words
+
+abbrev SpacePointsHold : ℕ → Words → Type 0
+SpacePointsHold n words = NodesHold four_firsts begun_four (4 * n) n words
 
 numbers_more : (low high : ℤ) (n : ℕ) (words : Words) (word : List ℕ) → NumbersHold n words
     → word_fault n (cond (nat_le (2 * n) (length words)) PastGroups (place_in_group (Amount low high) (nodes_in (number_groups low high n words)) (begun_pair words))) word ≡ None
@@ -179,52 +189,94 @@ points_more n words word h none =
     more_hold 3 triple_firsts begun_triple triple_shape (3 * n) n words word Coordinate (nodes_in (point_groups n words)) (nat_le (3 * n) (length words)) refl
     (point_nodes n (triples_in (take (3 * n) words))) h none
 
-numbers_grow : (field : Field) (low high : ℤ) → same_field TourPart field ≡ false
-    → ((n : ℕ) (words : Words) → place_in field n words ≡ cond (nat_le (2 * n) (length words)) PastGroups (place_in_group (Amount low high) (nodes_in (number_groups low high n words)) (begun_pair words)))
-    → Grows field NumbersHold
+space_points_more : (n : ℕ) (words : Words) (word : List ℕ) → SpacePointsHold n words
+    → word_fault n (cond (nat_le (4 * n) (length words)) PastGroups (place_in_group Coordinate (nodes_in (space_point_groups n words)) (begun_four words))) word ≡ None
+    → SpacePointsHold n (words ++ word ∷ [])
+space_points_more n words word h none =
+    more_hold 4 four_firsts begun_four four_shape (4 * n) n words word Coordinate (nodes_in (space_point_groups n words)) (nat_le (4 * n) (length words)) refl
+    (space_point_nodes n (fours_in (take (4 * n) words))) h none
+
+-- where the next word of a section stands, whether the file is spatial or not
+abbrev StandsAt : Field → (ℕ → Words → Place) → Type 0
+StandsAt field place = (b : Bool) (n : ℕ) (words : Words) → place_in b field n words ≡ place n words
+
+numbers_grow : (field : Field) (low high : ℤ) → same_field TourPart field ≡ false → StandsAt field (place_of_number low high) → Grows false field NumbersHold
 numbers_grow field low high other at = record {
   none = λ n. none_hold 2 pair_firsts begun_pair pair_shape (2 * n) n;
-  more = λ n words word h none. numbers_more low high n words word h (subst (λ (place : Place). word_fault n place word ≡ None) (at n words) none);
+  more = λ b same n words word h none. numbers_more low high n words word h (subst (λ (place : Place). word_fault n place word ≡ None) (at b n words) none);
   any_nodes = λ n m words tours h. absurd (true≢false (sym tours ∙ other));
 }
 
-points_grow : (field : Field) → same_field TourPart field ≡ false
-    → ((n : ℕ) (words : Words) → place_in field n words ≡ cond (nat_le (3 * n) (length words)) PastGroups (place_in_group Coordinate (nodes_in (point_groups n words)) (begun_triple words)))
-    → Grows field PointsHold
-points_grow field other at = record {
+display_grows : Grows false DisplayDataPart PointsHold
+display_grows = record {
   none = λ n. none_hold 3 triple_firsts begun_triple triple_shape (3 * n) n;
-  more = λ n words word h none. points_more n words word h (subst (λ (place : Place). word_fault n place word ≡ None) (at n words) none);
-  any_nodes = λ n m words tours h. absurd (true≢false (sym tours ∙ other));
+  more = λ b same n words word h none. points_more n words word h none;
+  any_nodes = λ n m words tours h. absurd (false≢true tours);
+}
+
+points_grow : Grows false NodeCoordPart PointsHold
+points_grow = record {
+  none = λ n. none_hold 3 triple_firsts begun_triple triple_shape (3 * n) n;
+  more = λ b same n words word h none. points_more n words word h
+      (subst (λ (in_space : Bool). word_fault n (place_in in_space NodeCoordPart n words) word ≡ None) (same refl) none);
+  any_nodes = λ n m words tours h. absurd (false≢true tours);
+}
+
+space_points_grow : Grows true NodeCoordPart SpacePointsHold
+space_points_grow = record {
+  none = λ n. none_hold 4 four_firsts begun_four four_shape (4 * n) n;
+  more = λ b same n words word h none. space_points_more n words word h
+      (subst (λ (in_space : Bool). word_fault n (place_in in_space NodeCoordPart n words) word ≡ None) (same refl) none);
+  any_nodes = λ n m words tours h. absurd (false≢true tours);
 }
 
 complete : (stands wants : Bool) → stands ≡ true → (stands && wants) ≡ false → wants ≡ false
 complete true wants e f = f
 complete false wants e f = absurd (false≢true e)
 
-numbers_once : (items : List Item) (field : Field) (low high : ℤ) → same_field TourPart field ≡ false
-    → ((n : ℕ) (words : Words) → place_in field n words ≡ cond (nat_le (2 * n) (length words)) PastGroups (place_in_group (Amount low high) (nodes_in (number_groups low high n words)) (begun_pair words)))
+numbers_once : (items : List Item) (field : Field) (low high : ℤ) → same_field TourPart field ≡ false → same_field NodeCoordPart field ≡ false
+    → StandsAt field (place_of_number low high)
     → IsClean items → has_line field items ≡ true → is_incomplete items field ≡ false → HasEachOnce (nodes_of items) (nodes_in (number_groups low high (nodes_of items) (words_of field items)))
-numbers_once items field low high other at clean stands whole =
+numbers_once items field low high other flat at clean stands whole =
     let n = nodes_of items in
     let words = words_of field items in
     let nodes = nodes_in (number_groups low high n words) in
-    let ended = complete (has_line field items) (wants_more (place_in field n words)) stands whole in
-    let full = full_end (nat_le (2 * n) (length words)) (Amount low high) nodes (begun_pair words) refl (ap wants_more (sym (at n words)) ∙ ended) in
-    all_there 2 pair_firsts begun_pair pair_shape n words nodes (number_nodes low high n (pairs_in (take (2 * n) words))) full (grown field NumbersHold (numbers_grow field low high other at) items clean)
+    let ended = complete (has_line field items) (wants_more (place_in (spatial_after items) field n words)) stands whole in
+    let full = full_end (nat_le (2 * n) (length words)) (Amount low high) nodes (begun_pair words) refl (ap wants_more (sym (at (spatial_after items) n words)) ∙ ended) in
+    all_there 2 pair_firsts begun_pair pair_shape n words nodes (number_nodes low high n (pairs_in (take (2 * n) words))) full
+    (grown field NumbersHold flat (numbers_grow field low high other at) items clean)
 
-points_once : (items : List Item) (field : Field) → same_field TourPart field ≡ false
-    → ((n : ℕ) (words : Words) → place_in field n words ≡ cond (nat_le (3 * n) (length words)) PastGroups (place_in_group Coordinate (nodes_in (point_groups n words)) (begun_triple words)))
-    → IsClean items → has_line field items ≡ true → is_incomplete items field ≡ false → HasEachOnce (nodes_of items) (nodes_in (point_groups (nodes_of items) (words_of field items)))
-points_once items field other at clean stands whole =
-    let n = nodes_of items in
-    let words = words_of field items in
+-- points of the plane
+points_once : (n : ℕ) (words : Words) → wants_more (place_of_point n words) ≡ false → PointsHold n words → HasEachOnce n (nodes_in (point_groups n words))
+points_once n words ended held =
     let nodes = nodes_in (point_groups n words) in
-    let ended = complete (has_line field items) (wants_more (place_in field n words)) stands whole in
-    let full = full_end (nat_le (3 * n) (length words)) Coordinate nodes (begun_triple words) refl (ap wants_more (sym (at n words)) ∙ ended) in
-    all_there 3 triple_firsts begun_triple triple_shape n words nodes (point_nodes n (triples_in (take (3 * n) words))) full (grown field PointsHold (points_grow field other at) items clean)
+    let full = full_end (nat_le (3 * n) (length words)) Coordinate nodes (begun_triple words) refl ended in
+    all_there 3 triple_firsts begun_triple triple_shape n words nodes (point_nodes n (triples_in (take (3 * n) words))) full held
+
+display_once : (items : List Item) → IsClean items → has_line DisplayDataPart items ≡ true → is_incomplete items DisplayDataPart ≡ false
+    → HasEachOnce (nodes_of items) (nodes_in (point_groups (nodes_of items) (words_of DisplayDataPart items)))
+display_once items clean stands whole =
+    let n = nodes_of items in
+    let words = words_of DisplayDataPart items in
+    points_once n words (complete (has_line DisplayDataPart items) (wants_more (place_of_point n words)) stands whole)
+    (grown DisplayDataPart PointsHold refl display_grows items clean)
+
+coords_once : (items : List Item) (in_space : Bool) → spatial_after items ≡ in_space → IsClean items → has_line NodeCoordPart items ≡ true
+    → wants_more (place_in in_space NodeCoordPart (nodes_of items) (words_of NodeCoordPart items)) ≡ false
+    → HasEachOnce (nodes_of items) (group_nodes in_space NodeCoordPart (nodes_of items) (words_of NodeCoordPart items))
+coords_once items false is clean stands ended =
+    points_once (nodes_of items) (words_of NodeCoordPart items) ended
+    (grown_in false NodeCoordPart PointsHold points_grow items clean (λ coords there. is))
+coords_once items true is clean stands ended =
+    let n = nodes_of items in
+    let words = words_of NodeCoordPart items in
+    let nodes = nodes_in (space_point_groups n words) in
+    let full = full_end (nat_le (4 * n) (length words)) Coordinate nodes (begun_four words) refl ended in
+    all_there 4 four_firsts begun_four four_shape n words nodes (space_point_nodes n (fours_in (take (4 * n) words))) full
+    (grown_in true NodeCoordPart SpacePointsHold space_points_grow items clean (λ coords there. is))
 
 pub each_once : (items : List Item) (field : Field) → IsClean items → is_by_node_field field ≡ true → has_line field items ≡ true → is_incomplete items field ≡ false
-    → HasEachOnce (nodes_of items) (group_nodes field (nodes_of items) (words_of field items))
+    → HasEachOnce (nodes_of items) (group_nodes (spatial_after items) field (nodes_of items) (words_of field items))
 each_once items NameKey clean by_node = absurd (false≢true by_node)
 each_once items TypeKey clean by_node = absurd (false≢true by_node)
 each_once items CommentKey clean by_node = absurd (false≢true by_node)
@@ -236,14 +288,15 @@ each_once items EdgeWeightTypeKey clean by_node = absurd (false≢true by_node)
 each_once items EdgeWeightFormatKey clean by_node = absurd (false≢true by_node)
 each_once items NodeCoordTypeKey clean by_node = absurd (false≢true by_node)
 each_once items DisplayDataTypeKey clean by_node = absurd (false≢true by_node)
-each_once items NodeCoordPart clean by_node = points_once items NodeCoordPart refl (λ n words. refl) clean
-each_once items DisplayDataPart clean by_node = points_once items DisplayDataPart refl (λ n words. refl) clean
-each_once items DemandPart clean by_node = numbers_once items DemandPart (pos 0) (pos most_demand) refl (λ n words. refl) clean
+each_once items NodeCoordPart clean by_node = λ stands whole. coords_once items (spatial_after items) refl clean stands
+    (complete (has_line NodeCoordPart items) (wants_more (place_in (spatial_after items) NodeCoordPart (nodes_of items) (words_of NodeCoordPart items))) stands whole)
+each_once items DisplayDataPart clean by_node = display_once items clean
+each_once items DemandPart clean by_node = numbers_once items DemandPart (pos 0) (pos most_demand) refl refl (λ b n words. refl) clean
 each_once items DepotPart clean by_node = absurd (false≢true by_node)
 each_once items FixedEdgesPart clean by_node = absurd (false≢true by_node)
 each_once items EdgeWeightPart clean by_node = absurd (false≢true by_node)
 each_once items TourPart clean by_node = absurd (false≢true by_node)
-each_once items NodePotentialPart clean by_node = numbers_once items NodePotentialPart (neg_ℤ (pos most_potential)) (pos most_potential) refl (λ n words. refl) clean
-each_once items RowPotentialPart clean by_node = numbers_once items RowPotentialPart (neg_ℤ (pos most_potential)) (pos most_potential) refl (λ n words. refl) clean
-each_once items ColumnPotentialPart clean by_node = numbers_once items ColumnPotentialPart (neg_ℤ (pos most_potential)) (pos most_potential) refl (λ n words. refl) clean
+each_once items NodePotentialPart clean by_node = numbers_once items NodePotentialPart (neg_ℤ (pos most_potential)) (pos most_potential) refl refl (λ b n words. refl) clean
+each_once items RowPotentialPart clean by_node = numbers_once items RowPotentialPart (neg_ℤ (pos most_potential)) (pos most_potential) refl refl (λ b n words. refl) clean
+each_once items ColumnPotentialPart clean by_node = numbers_once items ColumnPotentialPart (neg_ℤ (pos most_potential)) (pos most_potential) refl refl (λ b n words. refl) clean
 each_once items FixedPotentialPart clean by_node = absurd (false≢true by_node)

@@ -15,6 +15,7 @@ use Rattle.tsp_read.specs.declared.intake.Intake.{Intake}
 use Rattle.tsp_items.specs.Lines.{ends_line}
 use Rattle.tsp_items.specs.Items.{Item, Line, NumberWord, LineEnd, settled_items, is_end_line, has_end_line}
 use Rattle.tsp_items.specs.Earlier.{open_section, words_of}
+use Rattle.tsp_items.specs.Values.{spatial_after}
 use Rattle.tsp_items.specs.Sections.{place_in, nodes_of}
 use Rattle.tsp_items.specs.Rows.{row_of}
 use Rattle.tsp_items.specs.FirstFault.{IsClean}
@@ -38,7 +39,7 @@ HasRow earlier item = (fault : LineFault) × (row_of earlier item ≡ Some fault
 long_word_row : (earlier : List Item) (word : List ℕ) (opened : Option Field) → open_section earlier ≡ opened → is_over_long (NumberWord word) ≡ true → HasRow earlier (NumberWord word)
 long_word_row earlier word None e long = (row.StrayNumber, rw e refl)
 long_word_row earlier word (Some f) e long =
-    let place = place_in f (nodes_of earlier) (words_of f earlier) in
+    let place = place_in (spatial_after earlier) f (nodes_of earlier) (words_of f earlier) in
     (long_row place, word_rows earlier word f e ∙ long_fault (nodes_of earlier) place word long)
 
 long_has_row : (earlier : List Item) (item : Item) → is_over_long item ≡ true → HasRow earlier item

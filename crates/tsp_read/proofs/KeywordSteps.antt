@@ -1,6 +1,6 @@
 -- A line of a keyword: the field that it gives, and its rows.
 use Rattle.std.proofs.Common.{cond, ◌≡◌, ℕ, Bool, true, false, List, ◌∷◌, set, get_or, refl, sym, ap, subst, ◌∙◌, Option, Some, None, Result, Ok, Err}
-use Rattle.std.specs.Prelude.{ℤ, pos, nat_lt, is_some, is_none}
+use Rattle.std.specs.Prelude.{ℤ, pos, nat_lt, is_some, is_none, not, ◌&&◌}
 use Rattle.std.specs.Option.{option_map}
 use Rattle.std.specs.Result.{result_ok}
 use Rattle.std.specs.List.{find}
@@ -16,22 +16,26 @@ use Rattle.tsp_value.specs.declared.field.Field.TheVariants.{TypeKey, DimensionK
 use Rattle.tsp_value.specs.declared.keyword.Keyword.TheVariants.{Known}
 use Rattle.tsp_value.specs.Limits.{most_nodes, most_capacity, most_scale, most_line_bytes}
 use Rattle.tsp_value.specs.Words.{kind_word, weight_kind_word, weight_format_word, coord_kind_word, display_kind_word, kinds, weight_kinds, weight_formats, coord_kinds, display_kinds}
-use Rattle.tsp_fields.specs.Fields.{Fields, fields_of}
+use Rattle.tsp_number.specs.declared.decimal.Point.{Point}
+use Rattle.tsp_fields.specs.Fields.{Fields, fields_of, spatial}
 use Rattle.tsp_items.specs.declared.fault.StepFault.{StepFault}
 use Rattle.tsp_items.specs.declared.fault.StepFault.TheVariants as steps
 use Rattle.tsp_read.specs.declared.state.reading.OpenSection.{OpenSection}
 use Rattle.tsp_read.specs.declared.state.reading.Reading.{Reading}
 use Rattle.tsp_items.specs.Lines.{is_filled, first_word}
 use Rattle.tsp_items.specs.Items.{WordLine, Item, Line}
-use Rattle.tsp_items.specs.Earlier.{same_field, has_line, open_section}
-use Rattle.tsp_items.specs.Values.{kind_named, weight_kind_named, weight_format_named, coord_kind_named, display_kind_named, is_left_out}
-use Rattle.tsp_items.specs.Rows.{row_of}
+use Rattle.tsp_items.specs.Earlier.{same_field, has_line, open_section, words_of}
+use Rattle.tsp_items.specs.Values.{kind_named, weight_kind_named, weight_format_named, coord_kind_named, display_kind_named, is_left_out, says_space, spatial_after}
+use Rattle.tsp_items.specs.Groups.{coords_by_node}
+use Rattle.tsp_items.specs.Sections.{nodes_of}
+use Rattle.tsp_items.specs.Rows.{row_of, is_late}
 use Rattle.tsp_items.specs.FirstFault.{IsClean}
 use Rattle.tsp_value.specs.Shapes.{is_section_field}
 use Rattle.tsp_items.specs.Spells.{fields_by, sections_in_order, first_incomplete}
 use Rattle.tsp_items.specs.states.CutLine.{named_rows, SetsNamed, numbered_rows, SetsNumber, SetsCount}
-use Rattle.tsp_read.specs.states.Holds.{fields_there, is_closed, is_closed_incomplete, OpenHolds, LineAnswers}
+use Rattle.tsp_read.specs.states.Holds.{fields_there, is_closed, is_closed_incomplete, OpenHolds, Closed, LineAnswers}
 use Rattle.tsp_read.proofs.Clean.{clean_more}
+use Rattle.tsp_read.proofs.SpaceSteps.{space_kept, coords_stay, first_stays}
 use Rattle.tsp_read.proofs.ValidStanding.{after_dimension}
 
 -- no section is open after a line that opens none
@@ -47,28 +51,47 @@ cond_same true = refl
 cond_same false = refl
 
 -- no row applies
-named_none : {V : Type 0} (stands out : Bool) (found : Option V) → stands ≡ false → out ≡ false → is_some found ≡ true → named_rows stands out found ≡ None
-named_none stands out None s t f = cc
-named_none stands out (Some v) s t f = rw (s, t) refl
+named_none : {V : Type 0} (stands out : Bool) (found : Option V) (late : Bool) → stands ≡ false → out ≡ false → is_some found ≡ true → late ≡ false
+    → named_rows stands out found late ≡ None
+named_none stands out None late s t f l = cc
+named_none stands out (Some v) late s t f l = rw (s, t, l) refl
 
 numbered_none : (stands : Bool) (value : List ℕ) (reading : Result ℤ NumberFault) (z : ℤ) → stands ≡ false → is_filled value ≡ true → reading ≡ Ok z → numbered_rows stands value reading ≡ None
 numbered_none stands value reading z s f r = rw (s, f, r) refl
 
+-- ---- lines that may come too late
+
+-- by what the draft has
+abbrev pub is_late_in : Reading → Field → WordLine → Bool
+is_late_in old field line = says_space field (first_word line.value) && is_some (fields_of old.draft).coords && not (spatial (fields_of old.draft))
+
+some_points : (b : Bool) (points : List Point) → is_some (cond b (Some points) None) ≡ b
+some_points true points = refl
+some_points false points = refl
+
+late_by : (old : Reading) (field : Field) (line : WordLine) (earlier : List Item) → Closed old earlier
+    → is_late_in old field line ≡ is_late earlier (Line (Known field) line)
+late_by old field line earlier h =
+    let says = says_space field (first_word line.value) in
+    let points = coords_by_node (spatial_after earlier) (nodes_of earlier) (words_of NodeCoordPart earlier) in
+    ap (λ (fields : Fields). says && is_some fields.coords && not (spatial fields)) h.spelled
+    ∙ ap (λ (b : Bool). says && b && not (spatial_after earlier)) (some_points (has_line NodeCoordPart earlier) points)
+
 -- ---- TypeKey
 
 kind_rows : (earlier : List Item) (line : WordLine) → nat_lt most_line_bytes line.size ≡ false
-    → row_of earlier (Line (Known TypeKey) line) ≡ named_rows (has_line TypeKey earlier) (is_left_out TypeKey (first_word line.value)) (kind_named (first_word line.value))
+    → row_of earlier (Line (Known TypeKey) line) ≡ named_rows (has_line TypeKey earlier) (is_left_out TypeKey (first_word line.value)) (kind_named (first_word line.value)) false
 kind_rows earlier line short = rw (short, cond_same (is_none (kind_named (first_word line.value)))) refl
 
 pub kind_line : (old new : Reading) (line : WordLine) (slot : Option Kind) (r : Result (Unit {0}) StepFault)
-    → SetsNamed kind_word kinds TypeKey (first_word line.value) old.draft.kind slot r
+    → SetsNamed kind_word kinds TypeKey (first_word line.value) false old.draft.kind slot r
     → fields_of new.draft ≡ (let fields = fields_of old.draft in record fields { kind = slot }) → new.incomplete ≡ old.incomplete → new.opened ≡ old.opened
     → LineAnswers old TypeKey line new r
 kind_line old new line slot (Ok done) sets is same_first same_part earlier h short =
     let there : is_some old.draft.kind ≡ has_line TypeKey earlier = ap (λ (xs : List Bool). get_or xs 1 false) h.stand in
     let found : is_some (kind_named (first_word line.value)) ≡ true = ap (λ (o : Option Kind). is_some o) sets.2 ∙ sets.3 in
     record {
-      clean = clean_more earlier (Line (Known TypeKey) line) h.clean (kind_rows earlier line short ∙ named_none (has_line TypeKey earlier) (is_left_out TypeKey (first_word line.value)) (kind_named (first_word line.value)) (sym there ∙ sets.0) sets.1 found);
+      clean = clean_more earlier (Line (Known TypeKey) line) h.clean (kind_rows earlier line short ∙ named_none (has_line TypeKey earlier) (is_left_out TypeKey (first_word line.value)) (kind_named (first_word line.value)) false (sym there ∙ sets.0) sets.1 found refl);
       stand = ap fields_there is ∙ ap (λ (b : Bool). set (fields_there (fields_of old.draft)) 1 b) sets.3 ∙ ap (λ (xs : List Bool). set xs 1 true) h.stand;
       spelled = is ∙ ap (λ (fields : Fields). record fields { kind = slot }) h.spelled
           ∙ ap (λ (k : Option Kind). let fields = fields_by (λ field. has_line field earlier) earlier in record fields { kind = k }) (sym sets.2);
@@ -78,49 +101,57 @@ kind_line old new line slot (Ok done) sets is same_first same_part earlier h sho
 kind_line old new line slot (Err steps.Memory) sets is same_first same_part earlier h short = tt
 kind_line old new line slot (Err (steps.Fault fault)) sets is same_first same_part earlier h short =
     let there : is_some old.draft.kind ≡ has_line TypeKey earlier = ap (λ (xs : List Bool). get_or xs 1 false) h.stand in
-    kind_rows earlier line short ∙ ap (λ (b : Bool). named_rows b (is_left_out TypeKey (first_word line.value)) (kind_named (first_word line.value))) (sym there) ∙ sets.1
+    kind_rows earlier line short ∙ ap (λ (b : Bool). named_rows b (is_left_out TypeKey (first_word line.value)) (kind_named (first_word line.value)) false) (sym there) ∙ sets.1
 
 -- ---- EdgeWeightTypeKey
 
 weight_kind_rows : (earlier : List Item) (line : WordLine) → nat_lt most_line_bytes line.size ≡ false
-    → row_of earlier (Line (Known EdgeWeightTypeKey) line) ≡ named_rows (has_line EdgeWeightTypeKey earlier) (is_left_out EdgeWeightTypeKey (first_word line.value)) (weight_kind_named (first_word line.value))
+    → row_of earlier (Line (Known EdgeWeightTypeKey) line) ≡ named_rows (has_line EdgeWeightTypeKey earlier) (is_left_out EdgeWeightTypeKey (first_word line.value)) (weight_kind_named (first_word line.value)) (is_late earlier (Line (Known EdgeWeightTypeKey) line))
 weight_kind_rows earlier line short = rw (short, cond_same (is_none (weight_kind_named (first_word line.value)))) refl
 
 pub weight_kind_line : (old new : Reading) (line : WordLine) (slot : Option WeightKind) (r : Result (Unit {0}) StepFault)
-    → SetsNamed weight_kind_word weight_kinds EdgeWeightTypeKey (first_word line.value) old.draft.weight_kind slot r
+    → SetsNamed weight_kind_word weight_kinds EdgeWeightTypeKey (first_word line.value) (is_late_in old EdgeWeightTypeKey line) old.draft.weight_kind slot r
     → fields_of new.draft ≡ (let fields = fields_of old.draft in record fields { weight_kind = slot }) → new.incomplete ≡ old.incomplete → new.opened ≡ old.opened
     → LineAnswers old EdgeWeightTypeKey line new r
 weight_kind_line old new line slot (Ok done) sets is same_first same_part earlier h short =
     let there : is_some old.draft.weight_kind ≡ has_line EdgeWeightTypeKey earlier = ap (λ (xs : List Bool). get_or xs 5 false) h.stand in
+    let late : is_late earlier (Line (Known EdgeWeightTypeKey) line) ≡ false = sym (late_by old EdgeWeightTypeKey line earlier h) ∙ sets.4 in
     let found : is_some (weight_kind_named (first_word line.value)) ≡ true = ap (λ (o : Option WeightKind). is_some o) sets.2 ∙ sets.3 in
+    let row : row_of earlier (Line (Known EdgeWeightTypeKey) line) ≡ None = weight_kind_rows earlier line short ∙ named_none (has_line EdgeWeightTypeKey earlier) (is_left_out EdgeWeightTypeKey (first_word line.value)) (weight_kind_named (first_word line.value)) (is_late earlier (Line (Known EdgeWeightTypeKey) line)) (sym there ∙ sets.0) sets.1 found late in
+    let space : has_line NodeCoordPart earlier ≡ true → spatial_after (Line (Known EdgeWeightTypeKey) line ∷ earlier) ≡ spatial_after earlier = λ known.
+    space_kept earlier (Line (Known EdgeWeightTypeKey) line) known row in
     record {
-      clean = clean_more earlier (Line (Known EdgeWeightTypeKey) line) h.clean (weight_kind_rows earlier line short ∙ named_none (has_line EdgeWeightTypeKey earlier) (is_left_out EdgeWeightTypeKey (first_word line.value)) (weight_kind_named (first_word line.value)) (sym there ∙ sets.0) sets.1 found);
+      clean = clean_more earlier (Line (Known EdgeWeightTypeKey) line) h.clean row;
       stand = ap fields_there is ∙ ap (λ (b : Bool). set (fields_there (fields_of old.draft)) 5 b) sets.3 ∙ ap (λ (xs : List Bool). set xs 5 true) h.stand;
       spelled = is ∙ ap (λ (fields : Fields). record fields { weight_kind = slot }) h.spelled
-          ∙ ap (λ (k : Option WeightKind). let fields = fields_by (λ field. has_line field earlier) earlier in record fields { weight_kind = k }) (sym sets.2);
-      incomplete = same_first ∙ h.incomplete;
+          ∙ ap (λ (k : Option WeightKind). let fields = fields_by (λ field. has_line field earlier) earlier in record fields { weight_kind = k }) (sym sets.2)
+          ∙ ap (λ (points : Option (List Point)). let fields = fields_by (λ field. has_line field earlier) earlier in
+          record fields { weight_kind = (weight_kind_named (first_word line.value)); coords = points }) (coords_stay (has_line NodeCoordPart earlier) (spatial_after earlier)
+          (spatial_after (Line (Known EdgeWeightTypeKey) line ∷ earlier)) (nodes_of earlier) (words_of NodeCoordPart earlier) space);
+      incomplete = same_first ∙ h.incomplete ∙ first_stays earlier (nodes_of earlier) (spatial_after earlier)
+          (spatial_after (Line (Known EdgeWeightTypeKey) line ∷ earlier)) (has_line NodeCoordPart earlier) refl space;
       part = still_none old new (Line (Known EdgeWeightTypeKey) line ∷ earlier) refl same_part h.part;
     }
 weight_kind_line old new line slot (Err steps.Memory) sets is same_first same_part earlier h short = tt
 weight_kind_line old new line slot (Err (steps.Fault fault)) sets is same_first same_part earlier h short =
     let there : is_some old.draft.weight_kind ≡ has_line EdgeWeightTypeKey earlier = ap (λ (xs : List Bool). get_or xs 5 false) h.stand in
-    weight_kind_rows earlier line short ∙ ap (λ (b : Bool). named_rows b (is_left_out EdgeWeightTypeKey (first_word line.value)) (weight_kind_named (first_word line.value))) (sym there) ∙ sets.1
+    weight_kind_rows earlier line short ∙ ap (λ (b : Bool). named_rows b (is_left_out EdgeWeightTypeKey (first_word line.value)) (weight_kind_named (first_word line.value)) (is_late earlier (Line (Known EdgeWeightTypeKey) line))) (sym there) ∙ ap (λ (b : Bool). named_rows (is_some old.draft.weight_kind) (is_left_out EdgeWeightTypeKey (first_word line.value)) (weight_kind_named (first_word line.value)) b) (sym (late_by old EdgeWeightTypeKey line earlier h)) ∙ sets.1
 
 -- ---- EdgeWeightFormatKey
 
 weight_format_rows : (earlier : List Item) (line : WordLine) → nat_lt most_line_bytes line.size ≡ false
-    → row_of earlier (Line (Known EdgeWeightFormatKey) line) ≡ named_rows (has_line EdgeWeightFormatKey earlier) (is_left_out EdgeWeightFormatKey (first_word line.value)) (weight_format_named (first_word line.value))
+    → row_of earlier (Line (Known EdgeWeightFormatKey) line) ≡ named_rows (has_line EdgeWeightFormatKey earlier) (is_left_out EdgeWeightFormatKey (first_word line.value)) (weight_format_named (first_word line.value)) false
 weight_format_rows earlier line short = rw (short, cond_same (is_none (weight_format_named (first_word line.value)))) refl
 
 pub weight_format_line : (old new : Reading) (line : WordLine) (slot : Option WeightFormat) (r : Result (Unit {0}) StepFault)
-    → SetsNamed weight_format_word weight_formats EdgeWeightFormatKey (first_word line.value) old.draft.weight_format slot r
+    → SetsNamed weight_format_word weight_formats EdgeWeightFormatKey (first_word line.value) false old.draft.weight_format slot r
     → fields_of new.draft ≡ (let fields = fields_of old.draft in record fields { weight_format = slot }) → new.incomplete ≡ old.incomplete → new.opened ≡ old.opened
     → LineAnswers old EdgeWeightFormatKey line new r
 weight_format_line old new line slot (Ok done) sets is same_first same_part earlier h short =
     let there : is_some old.draft.weight_format ≡ has_line EdgeWeightFormatKey earlier = ap (λ (xs : List Bool). get_or xs 6 false) h.stand in
     let found : is_some (weight_format_named (first_word line.value)) ≡ true = ap (λ (o : Option WeightFormat). is_some o) sets.2 ∙ sets.3 in
     record {
-      clean = clean_more earlier (Line (Known EdgeWeightFormatKey) line) h.clean (weight_format_rows earlier line short ∙ named_none (has_line EdgeWeightFormatKey earlier) (is_left_out EdgeWeightFormatKey (first_word line.value)) (weight_format_named (first_word line.value)) (sym there ∙ sets.0) sets.1 found);
+      clean = clean_more earlier (Line (Known EdgeWeightFormatKey) line) h.clean (weight_format_rows earlier line short ∙ named_none (has_line EdgeWeightFormatKey earlier) (is_left_out EdgeWeightFormatKey (first_word line.value)) (weight_format_named (first_word line.value)) false (sym there ∙ sets.0) sets.1 found refl);
       stand = ap fields_there is ∙ ap (λ (b : Bool). set (fields_there (fields_of old.draft)) 6 b) sets.3 ∙ ap (λ (xs : List Bool). set xs 6 true) h.stand;
       spelled = is ∙ ap (λ (fields : Fields). record fields { weight_format = slot }) h.spelled
           ∙ ap (λ (k : Option WeightFormat). let fields = fields_by (λ field. has_line field earlier) earlier in record fields { weight_format = k }) (sym sets.2);
@@ -130,49 +161,57 @@ weight_format_line old new line slot (Ok done) sets is same_first same_part earl
 weight_format_line old new line slot (Err steps.Memory) sets is same_first same_part earlier h short = tt
 weight_format_line old new line slot (Err (steps.Fault fault)) sets is same_first same_part earlier h short =
     let there : is_some old.draft.weight_format ≡ has_line EdgeWeightFormatKey earlier = ap (λ (xs : List Bool). get_or xs 6 false) h.stand in
-    weight_format_rows earlier line short ∙ ap (λ (b : Bool). named_rows b (is_left_out EdgeWeightFormatKey (first_word line.value)) (weight_format_named (first_word line.value))) (sym there) ∙ sets.1
+    weight_format_rows earlier line short ∙ ap (λ (b : Bool). named_rows b (is_left_out EdgeWeightFormatKey (first_word line.value)) (weight_format_named (first_word line.value)) false) (sym there) ∙ sets.1
 
 -- ---- NodeCoordTypeKey
 
 coord_kind_rows : (earlier : List Item) (line : WordLine) → nat_lt most_line_bytes line.size ≡ false
-    → row_of earlier (Line (Known NodeCoordTypeKey) line) ≡ named_rows (has_line NodeCoordTypeKey earlier) (is_left_out NodeCoordTypeKey (first_word line.value)) (coord_kind_named (first_word line.value))
+    → row_of earlier (Line (Known NodeCoordTypeKey) line) ≡ named_rows (has_line NodeCoordTypeKey earlier) (is_left_out NodeCoordTypeKey (first_word line.value)) (coord_kind_named (first_word line.value)) (is_late earlier (Line (Known NodeCoordTypeKey) line))
 coord_kind_rows earlier line short = rw (short, cond_same (is_none (coord_kind_named (first_word line.value)))) refl
 
 pub coord_kind_line : (old new : Reading) (line : WordLine) (slot : Option CoordKind) (r : Result (Unit {0}) StepFault)
-    → SetsNamed coord_kind_word coord_kinds NodeCoordTypeKey (first_word line.value) old.draft.coord_kind slot r
+    → SetsNamed coord_kind_word coord_kinds NodeCoordTypeKey (first_word line.value) (is_late_in old NodeCoordTypeKey line) old.draft.coord_kind slot r
     → fields_of new.draft ≡ (let fields = fields_of old.draft in record fields { coord_kind = slot }) → new.incomplete ≡ old.incomplete → new.opened ≡ old.opened
     → LineAnswers old NodeCoordTypeKey line new r
 coord_kind_line old new line slot (Ok done) sets is same_first same_part earlier h short =
     let there : is_some old.draft.coord_kind ≡ has_line NodeCoordTypeKey earlier = ap (λ (xs : List Bool). get_or xs 7 false) h.stand in
+    let late : is_late earlier (Line (Known NodeCoordTypeKey) line) ≡ false = sym (late_by old NodeCoordTypeKey line earlier h) ∙ sets.4 in
     let found : is_some (coord_kind_named (first_word line.value)) ≡ true = ap (λ (o : Option CoordKind). is_some o) sets.2 ∙ sets.3 in
+    let row : row_of earlier (Line (Known NodeCoordTypeKey) line) ≡ None = coord_kind_rows earlier line short ∙ named_none (has_line NodeCoordTypeKey earlier) (is_left_out NodeCoordTypeKey (first_word line.value)) (coord_kind_named (first_word line.value)) (is_late earlier (Line (Known NodeCoordTypeKey) line)) (sym there ∙ sets.0) sets.1 found late in
+    let space : has_line NodeCoordPart earlier ≡ true → spatial_after (Line (Known NodeCoordTypeKey) line ∷ earlier) ≡ spatial_after earlier = λ known.
+    space_kept earlier (Line (Known NodeCoordTypeKey) line) known row in
     record {
-      clean = clean_more earlier (Line (Known NodeCoordTypeKey) line) h.clean (coord_kind_rows earlier line short ∙ named_none (has_line NodeCoordTypeKey earlier) (is_left_out NodeCoordTypeKey (first_word line.value)) (coord_kind_named (first_word line.value)) (sym there ∙ sets.0) sets.1 found);
+      clean = clean_more earlier (Line (Known NodeCoordTypeKey) line) h.clean row;
       stand = ap fields_there is ∙ ap (λ (b : Bool). set (fields_there (fields_of old.draft)) 7 b) sets.3 ∙ ap (λ (xs : List Bool). set xs 7 true) h.stand;
       spelled = is ∙ ap (λ (fields : Fields). record fields { coord_kind = slot }) h.spelled
-          ∙ ap (λ (k : Option CoordKind). let fields = fields_by (λ field. has_line field earlier) earlier in record fields { coord_kind = k }) (sym sets.2);
-      incomplete = same_first ∙ h.incomplete;
+          ∙ ap (λ (k : Option CoordKind). let fields = fields_by (λ field. has_line field earlier) earlier in record fields { coord_kind = k }) (sym sets.2)
+          ∙ ap (λ (points : Option (List Point)). let fields = fields_by (λ field. has_line field earlier) earlier in
+          record fields { coord_kind = (coord_kind_named (first_word line.value)); coords = points }) (coords_stay (has_line NodeCoordPart earlier) (spatial_after earlier)
+          (spatial_after (Line (Known NodeCoordTypeKey) line ∷ earlier)) (nodes_of earlier) (words_of NodeCoordPart earlier) space);
+      incomplete = same_first ∙ h.incomplete ∙ first_stays earlier (nodes_of earlier) (spatial_after earlier)
+          (spatial_after (Line (Known NodeCoordTypeKey) line ∷ earlier)) (has_line NodeCoordPart earlier) refl space;
       part = still_none old new (Line (Known NodeCoordTypeKey) line ∷ earlier) refl same_part h.part;
     }
 coord_kind_line old new line slot (Err steps.Memory) sets is same_first same_part earlier h short = tt
 coord_kind_line old new line slot (Err (steps.Fault fault)) sets is same_first same_part earlier h short =
     let there : is_some old.draft.coord_kind ≡ has_line NodeCoordTypeKey earlier = ap (λ (xs : List Bool). get_or xs 7 false) h.stand in
-    coord_kind_rows earlier line short ∙ ap (λ (b : Bool). named_rows b (is_left_out NodeCoordTypeKey (first_word line.value)) (coord_kind_named (first_word line.value))) (sym there) ∙ sets.1
+    coord_kind_rows earlier line short ∙ ap (λ (b : Bool). named_rows b (is_left_out NodeCoordTypeKey (first_word line.value)) (coord_kind_named (first_word line.value)) (is_late earlier (Line (Known NodeCoordTypeKey) line))) (sym there) ∙ ap (λ (b : Bool). named_rows (is_some old.draft.coord_kind) (is_left_out NodeCoordTypeKey (first_word line.value)) (coord_kind_named (first_word line.value)) b) (sym (late_by old NodeCoordTypeKey line earlier h)) ∙ sets.1
 
 -- ---- DisplayDataTypeKey
 
 display_kind_rows : (earlier : List Item) (line : WordLine) → nat_lt most_line_bytes line.size ≡ false
-    → row_of earlier (Line (Known DisplayDataTypeKey) line) ≡ named_rows (has_line DisplayDataTypeKey earlier) (is_left_out DisplayDataTypeKey (first_word line.value)) (display_kind_named (first_word line.value))
+    → row_of earlier (Line (Known DisplayDataTypeKey) line) ≡ named_rows (has_line DisplayDataTypeKey earlier) (is_left_out DisplayDataTypeKey (first_word line.value)) (display_kind_named (first_word line.value)) false
 display_kind_rows earlier line short = rw (short, cond_same (is_none (display_kind_named (first_word line.value)))) refl
 
 pub display_kind_line : (old new : Reading) (line : WordLine) (slot : Option DisplayKind) (r : Result (Unit {0}) StepFault)
-    → SetsNamed display_kind_word display_kinds DisplayDataTypeKey (first_word line.value) old.draft.display_kind slot r
+    → SetsNamed display_kind_word display_kinds DisplayDataTypeKey (first_word line.value) false old.draft.display_kind slot r
     → fields_of new.draft ≡ (let fields = fields_of old.draft in record fields { display_kind = slot }) → new.incomplete ≡ old.incomplete → new.opened ≡ old.opened
     → LineAnswers old DisplayDataTypeKey line new r
 display_kind_line old new line slot (Ok done) sets is same_first same_part earlier h short =
     let there : is_some old.draft.display_kind ≡ has_line DisplayDataTypeKey earlier = ap (λ (xs : List Bool). get_or xs 8 false) h.stand in
     let found : is_some (display_kind_named (first_word line.value)) ≡ true = ap (λ (o : Option DisplayKind). is_some o) sets.2 ∙ sets.3 in
     record {
-      clean = clean_more earlier (Line (Known DisplayDataTypeKey) line) h.clean (display_kind_rows earlier line short ∙ named_none (has_line DisplayDataTypeKey earlier) (is_left_out DisplayDataTypeKey (first_word line.value)) (display_kind_named (first_word line.value)) (sym there ∙ sets.0) sets.1 found);
+      clean = clean_more earlier (Line (Known DisplayDataTypeKey) line) h.clean (display_kind_rows earlier line short ∙ named_none (has_line DisplayDataTypeKey earlier) (is_left_out DisplayDataTypeKey (first_word line.value)) (display_kind_named (first_word line.value)) false (sym there ∙ sets.0) sets.1 found refl);
       stand = ap fields_there is ∙ ap (λ (b : Bool). set (fields_there (fields_of old.draft)) 8 b) sets.3 ∙ ap (λ (xs : List Bool). set xs 8 true) h.stand;
       spelled = is ∙ ap (λ (fields : Fields). record fields { display_kind = slot }) h.spelled
           ∙ ap (λ (k : Option DisplayKind). let fields = fields_by (λ field. has_line field earlier) earlier in record fields { display_kind = k }) (sym sets.2);
@@ -182,7 +221,7 @@ display_kind_line old new line slot (Ok done) sets is same_first same_part earli
 display_kind_line old new line slot (Err steps.Memory) sets is same_first same_part earlier h short = tt
 display_kind_line old new line slot (Err (steps.Fault fault)) sets is same_first same_part earlier h short =
     let there : is_some old.draft.display_kind ≡ has_line DisplayDataTypeKey earlier = ap (λ (xs : List Bool). get_or xs 8 false) h.stand in
-    display_kind_rows earlier line short ∙ ap (λ (b : Bool). named_rows b (is_left_out DisplayDataTypeKey (first_word line.value)) (display_kind_named (first_word line.value))) (sym there) ∙ sets.1
+    display_kind_rows earlier line short ∙ ap (λ (b : Bool). named_rows b (is_left_out DisplayDataTypeKey (first_word line.value)) (display_kind_named (first_word line.value)) false) (sym there) ∙ sets.1
 
 -- ---- CapacityKey
 

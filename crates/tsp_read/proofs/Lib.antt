@@ -2,6 +2,8 @@ pub mod Clean
 pub mod WordSteps
 pub mod ValidRows
 pub mod ValidSections
+pub mod SpaceSteps
+pub mod Grown
 pub mod ValidNumbers
 pub mod ValidStanding
 pub mod ValidWeights

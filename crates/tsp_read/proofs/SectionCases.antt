@@ -1,5 +1,5 @@
 -- What is shown section by section: each is one row, and so is each of its cases.
-use Rattle.std.proofs.Common.{◌≡◌, ◌≢◌, Bool, true, false, cond, List, ◌∷◌, refl, Some, None}
+use Rattle.std.proofs.Common.{◌≡◌, ◌≢◌, Bool, true, false, cond, List, ◌∷◌, refl, ap, ◌∙◌, Some, None}
 use Rattle.std.specs.Prelude.{ℕ, nat_lt, is_some}
 use Rattle.std.specs.Option.{option_map_or}
 use Rattle.std.specs.List.{find}
@@ -11,12 +11,16 @@ use Rattle.tsp_fields.specs.Fields.{Fields, stands_in}
 use Rattle.tsp_items.specs.Items.{WordLine, Item, Line, NumberWord}
 use Rattle.tsp_value.specs.Shapes.{shape_of, is_section_field}
 use Rattle.tsp_items.specs.Earlier.{has_line, open_section, words_of}
+use Rattle.tsp_value.specs.declared.field.Shape.{Shape}
+use Rattle.tsp_value.specs.declared.field.Shape.TheVariants.{Points, SpacePoints}
+use Rattle.tsp_items.specs.Values.{spatial_after}
+use Rattle.tsp_items.specs.Groups.{coords_by_node}
 use Rattle.tsp_items.specs.Sections.{nodes_of}
 use Rattle.tsp_items.specs.Rows.{row_of}
 use Rattle.tsp_items.specs.states.CutLine.{opening_rows}
 use Rattle.tsp_items.specs.Spells.{fields_by, is_incomplete, sections_in_order}
 use Rattle.tsp_read.specs.states.Holds.{is_closed, is_closed_incomplete, fields_there, keywords_there}
-use Rattle.tsp_read.specs.states.Stored.{with_section}
+use Rattle.tsp_read.specs.states.Stored.{with_words, with_section}
 
 -- what holds of each section holds of every field that is one
 pub by_section : (P : Field → Type 0) → P NodeCoordPart → P DisplayDataPart → P DemandPart → P DepotPart → P FixedEdgesPart
@@ -45,31 +49,56 @@ by_section P p0 p1 p2 p3 p4 p5 p6 p7 p8 p9 p10 RowPotentialPart e = p8
 by_section P p0 p1 p2 p3 p4 p5 p6 p7 p8 p9 p10 ColumnPotentialPart e = p9
 by_section P p0 p1 p2 p3 p4 p5 p6 p7 p8 p9 p10 FixedPotentialPart e = p10
 
+-- a field with a shape is a section, in a spatial file as in another
+pub section_of : (in_space : Bool) (f : Field) (shape : Shape) → shape_of in_space f ≡ Some shape → is_section_field f ≡ true
+section_of in_space NameKey shape e = cc
+section_of in_space TypeKey shape e = cc
+section_of in_space CommentKey shape e = cc
+section_of in_space OtherKey shape e = cc
+section_of in_space DimensionKey shape e = cc
+section_of in_space CapacityKey shape e = cc
+section_of in_space ScaleKey shape e = cc
+section_of in_space EdgeWeightTypeKey shape e = cc
+section_of in_space EdgeWeightFormatKey shape e = cc
+section_of in_space NodeCoordTypeKey shape e = cc
+section_of in_space DisplayDataTypeKey shape e = cc
+section_of in_space NodeCoordPart shape e = refl
+section_of in_space DisplayDataPart shape e = refl
+section_of in_space DemandPart shape e = refl
+section_of in_space DepotPart shape e = refl
+section_of in_space FixedEdgesPart shape e = refl
+section_of in_space EdgeWeightPart shape e = refl
+section_of in_space TourPart shape e = refl
+section_of in_space NodePotentialPart shape e = refl
+section_of in_space RowPotentialPart shape e = refl
+section_of in_space ColumnPotentialPart shape e = refl
+section_of in_space FixedPotentialPart shape e = refl
+
 -- a field that is none of the other keywords and no section
-pub unnamed : (f : Field) → shape_of f ≡ None → f ≢ NameKey → f ≢ TypeKey → f ≢ CommentKey → f ≢ DimensionKey → f ≢ CapacityKey → f ≢ ScaleKey → f ≢ EdgeWeightTypeKey → f ≢ EdgeWeightFormatKey → f ≢ NodeCoordTypeKey → f ≢ DisplayDataTypeKey
+pub unnamed : (in_space : Bool) (f : Field) → shape_of in_space f ≡ None → f ≢ NameKey → f ≢ TypeKey → f ≢ CommentKey → f ≢ DimensionKey → f ≢ CapacityKey → f ≢ ScaleKey → f ≢ EdgeWeightTypeKey → f ≢ EdgeWeightFormatKey → f ≢ NodeCoordTypeKey → f ≢ DisplayDataTypeKey
     → f ≡ OtherKey
-unnamed NameKey no_shape k0 k1 k2 k3 k4 k5 k6 k7 k8 k9 = absurd (k0 refl)
-unnamed TypeKey no_shape k0 k1 k2 k3 k4 k5 k6 k7 k8 k9 = absurd (k1 refl)
-unnamed CommentKey no_shape k0 k1 k2 k3 k4 k5 k6 k7 k8 k9 = absurd (k2 refl)
-unnamed DimensionKey no_shape k0 k1 k2 k3 k4 k5 k6 k7 k8 k9 = absurd (k3 refl)
-unnamed CapacityKey no_shape k0 k1 k2 k3 k4 k5 k6 k7 k8 k9 = absurd (k4 refl)
-unnamed ScaleKey no_shape k0 k1 k2 k3 k4 k5 k6 k7 k8 k9 = absurd (k5 refl)
-unnamed EdgeWeightTypeKey no_shape k0 k1 k2 k3 k4 k5 k6 k7 k8 k9 = absurd (k6 refl)
-unnamed EdgeWeightFormatKey no_shape k0 k1 k2 k3 k4 k5 k6 k7 k8 k9 = absurd (k7 refl)
-unnamed NodeCoordTypeKey no_shape k0 k1 k2 k3 k4 k5 k6 k7 k8 k9 = absurd (k8 refl)
-unnamed DisplayDataTypeKey no_shape k0 k1 k2 k3 k4 k5 k6 k7 k8 k9 = absurd (k9 refl)
-unnamed OtherKey no_shape k0 k1 k2 k3 k4 k5 k6 k7 k8 k9 = refl
-unnamed NodeCoordPart no_shape k0 k1 k2 k3 k4 k5 k6 k7 k8 k9 = cc
-unnamed DisplayDataPart no_shape k0 k1 k2 k3 k4 k5 k6 k7 k8 k9 = cc
-unnamed DemandPart no_shape k0 k1 k2 k3 k4 k5 k6 k7 k8 k9 = cc
-unnamed DepotPart no_shape k0 k1 k2 k3 k4 k5 k6 k7 k8 k9 = cc
-unnamed FixedEdgesPart no_shape k0 k1 k2 k3 k4 k5 k6 k7 k8 k9 = cc
-unnamed EdgeWeightPart no_shape k0 k1 k2 k3 k4 k5 k6 k7 k8 k9 = cc
-unnamed TourPart no_shape k0 k1 k2 k3 k4 k5 k6 k7 k8 k9 = cc
-unnamed NodePotentialPart no_shape k0 k1 k2 k3 k4 k5 k6 k7 k8 k9 = cc
-unnamed RowPotentialPart no_shape k0 k1 k2 k3 k4 k5 k6 k7 k8 k9 = cc
-unnamed ColumnPotentialPart no_shape k0 k1 k2 k3 k4 k5 k6 k7 k8 k9 = cc
-unnamed FixedPotentialPart no_shape k0 k1 k2 k3 k4 k5 k6 k7 k8 k9 = cc
+unnamed in_space NameKey no_shape k0 k1 k2 k3 k4 k5 k6 k7 k8 k9 = absurd (k0 refl)
+unnamed in_space TypeKey no_shape k0 k1 k2 k3 k4 k5 k6 k7 k8 k9 = absurd (k1 refl)
+unnamed in_space CommentKey no_shape k0 k1 k2 k3 k4 k5 k6 k7 k8 k9 = absurd (k2 refl)
+unnamed in_space DimensionKey no_shape k0 k1 k2 k3 k4 k5 k6 k7 k8 k9 = absurd (k3 refl)
+unnamed in_space CapacityKey no_shape k0 k1 k2 k3 k4 k5 k6 k7 k8 k9 = absurd (k4 refl)
+unnamed in_space ScaleKey no_shape k0 k1 k2 k3 k4 k5 k6 k7 k8 k9 = absurd (k5 refl)
+unnamed in_space EdgeWeightTypeKey no_shape k0 k1 k2 k3 k4 k5 k6 k7 k8 k9 = absurd (k6 refl)
+unnamed in_space EdgeWeightFormatKey no_shape k0 k1 k2 k3 k4 k5 k6 k7 k8 k9 = absurd (k7 refl)
+unnamed in_space NodeCoordTypeKey no_shape k0 k1 k2 k3 k4 k5 k6 k7 k8 k9 = absurd (k8 refl)
+unnamed in_space DisplayDataTypeKey no_shape k0 k1 k2 k3 k4 k5 k6 k7 k8 k9 = absurd (k9 refl)
+unnamed in_space OtherKey no_shape k0 k1 k2 k3 k4 k5 k6 k7 k8 k9 = refl
+unnamed in_space NodeCoordPart no_shape k0 k1 k2 k3 k4 k5 k6 k7 k8 k9 = cc
+unnamed in_space DisplayDataPart no_shape k0 k1 k2 k3 k4 k5 k6 k7 k8 k9 = cc
+unnamed in_space DemandPart no_shape k0 k1 k2 k3 k4 k5 k6 k7 k8 k9 = cc
+unnamed in_space DepotPart no_shape k0 k1 k2 k3 k4 k5 k6 k7 k8 k9 = cc
+unnamed in_space FixedEdgesPart no_shape k0 k1 k2 k3 k4 k5 k6 k7 k8 k9 = cc
+unnamed in_space EdgeWeightPart no_shape k0 k1 k2 k3 k4 k5 k6 k7 k8 k9 = cc
+unnamed in_space TourPart no_shape k0 k1 k2 k3 k4 k5 k6 k7 k8 k9 = cc
+unnamed in_space NodePotentialPart no_shape k0 k1 k2 k3 k4 k5 k6 k7 k8 k9 = cc
+unnamed in_space RowPotentialPart no_shape k0 k1 k2 k3 k4 k5 k6 k7 k8 k9 = cc
+unnamed in_space ColumnPotentialPart no_shape k0 k1 k2 k3 k4 k5 k6 k7 k8 k9 = cc
+unnamed in_space FixedPotentialPart no_shape k0 k1 k2 k3 k4 k5 k6 k7 k8 k9 = cc
 
 some_cond : {A : Type 0} (b : Bool) (x : A) → is_some (cond b (Some x) None) ≡ b
 some_cond true x = refl
@@ -77,13 +106,19 @@ some_cond false x = refl
 
 -- ---- a line that opens a section
 
+-- points have the same rows in a spatial file as in another
+points_open : (in_space stands known : Bool) (value : List ℕ) (n : ℕ)
+    → opening_rows Points stands value known n ≡ opening_rows (cond in_space SpacePoints Points) stands value known n
+points_open true stands known value n = refl
+points_open false stands known value n = refl
+
 -- its rows
-pub opening : (earlier : List Item) (line : WordLine) → nat_lt most_line_bytes line.size ≡ false → (f : Field) → is_section_field f ≡ true
+pub opening : (in_space : Bool) (earlier : List Item) (line : WordLine) → nat_lt most_line_bytes line.size ≡ false → (f : Field) → is_section_field f ≡ true
     → row_of earlier (Line (Known f) line)
-    ≡ option_map_or (λ shape. opening_rows shape (has_line f earlier) line.value (has_line DimensionKey earlier) (nodes_of earlier)) (shape_of f) None
-opening earlier line short = by_section (λ f. row_of earlier (Line (Known f) line)
-    ≡ option_map_or (λ shape. opening_rows shape (has_line f earlier) line.value (has_line DimensionKey earlier) (nodes_of earlier)) (shape_of f) None)
-    (rw short refl) (rw short refl) (rw short refl) (rw short refl) (rw short refl)
+    ≡ option_map_or (λ shape. opening_rows shape (has_line f earlier) line.value (has_line DimensionKey earlier) (nodes_of earlier)) (shape_of in_space f) None
+opening in_space earlier line short = by_section (λ f. row_of earlier (Line (Known f) line)
+    ≡ option_map_or (λ shape. opening_rows shape (has_line f earlier) line.value (has_line DimensionKey earlier) (nodes_of earlier)) (shape_of in_space f) None)
+    (rw short (points_open in_space (has_line NodeCoordPart earlier) (has_line DimensionKey earlier) line.value (nodes_of earlier))) (rw short refl) (rw short refl) (rw short refl) (rw short refl)
     (rw short refl) (rw short refl) (rw short refl) (rw short refl) (rw short refl)
     (rw short refl)
 
@@ -120,11 +155,13 @@ opened_first earlier line = by_section (λ f. has_line f earlier ≡ false
 -- what the keywords say stays
 pub keywords_stay : (earlier : List Item) (line : WordLine) (f : Field) → is_section_field f ≡ true
     → (keywords_there (Line (Known f) line ∷ earlier) ≡ keywords_there earlier) × (nodes_of (Line (Known f) line ∷ earlier) ≡ nodes_of earlier)
+    × (spatial_after (Line (Known f) line ∷ earlier) ≡ spatial_after earlier)
 keywords_stay earlier line = by_section (λ f. (keywords_there (Line (Known f) line ∷ earlier) ≡ keywords_there earlier)
-    × (nodes_of (Line (Known f) line ∷ earlier) ≡ nodes_of earlier))
-    (refl, refl) (refl, refl) (refl, refl) (refl, refl) (refl, refl)
-    (refl, refl) (refl, refl) (refl, refl) (refl, refl) (refl, refl)
-    (refl, refl)
+    × (nodes_of (Line (Known f) line ∷ earlier) ≡ nodes_of earlier)
+    × (spatial_after (Line (Known f) line ∷ earlier) ≡ spatial_after earlier))
+    (refl, refl, refl) (refl, refl, refl) (refl, refl, refl) (refl, refl, refl) (refl, refl, refl)
+    (refl, refl, refl) (refl, refl, refl) (refl, refl, refl) (refl, refl, refl) (refl, refl, refl)
+    (refl, refl, refl)
 
 -- ---- a word of the open section: the closed ones stay
 
@@ -146,18 +183,25 @@ word_first earlier word = by_section (λ f. open_section earlier ≡ Some f
 
 -- ---- the open section is closed
 
+-- the points of nodes go to their field in a spatial file as in another
+points_stored : (in_space : Bool) (n : ℕ) (words : List (List ℕ)) (fields : Fields)
+    → with_words (cond in_space SpacePoints Points) NodeCoordPart n words fields ≡ record fields { coords = Some (coords_by_node in_space n words) }
+points_stored true n words fields = refl
+points_stored false n words fields = refl
+
 pub closed_fields : (earlier : List Item) (f : Field) → is_section_field f ≡ true → open_section earlier ≡ Some f → has_line f earlier ≡ true
-    → with_section f (nodes_of earlier) (words_of f earlier) (fields_by (is_closed earlier) earlier) ≡ fields_by (λ field. has_line field earlier) earlier
+    → with_section (spatial_after earlier) f (nodes_of earlier) (words_of f earlier) (fields_by (is_closed earlier) earlier) ≡ fields_by (λ field. has_line field earlier) earlier
 closed_fields earlier = by_section (λ f. open_section earlier ≡ Some f → has_line f earlier ≡ true
-    → with_section f (nodes_of earlier) (words_of f earlier) (fields_by (is_closed earlier) earlier) ≡ fields_by (λ field. has_line field earlier) earlier)
-    (λ o there. rw (o, there) refl) (λ o there. rw (o, there) refl) (λ o there. rw (o, there) refl) (λ o there. rw (o, there) refl) (λ o there. rw (o, there) refl)
+    → with_section (spatial_after earlier) f (nodes_of earlier) (words_of f earlier) (fields_by (is_closed earlier) earlier) ≡ fields_by (λ field. has_line field earlier) earlier)
+    (λ o there. points_stored (spatial_after earlier) (nodes_of earlier) (words_of NodeCoordPart earlier) (fields_by (is_closed earlier) earlier)
+    ∙ rw (o, there) refl) (λ o there. rw (o, there) refl) (λ o there. rw (o, there) refl) (λ o there. rw (o, there) refl) (λ o there. rw (o, there) refl)
     (λ o there. rw (o, there) refl) (λ o there. rw (o, there) refl) (λ o there. rw (o, there) refl) (λ o there. rw (o, there) refl) (λ o there. rw (o, there) refl)
     (λ o there. rw (o, there) refl)
 
 -- what the keywords say stays
-pub stored_keywords : (n : ℕ) (words : List (List ℕ)) (fields : Fields) (f : Field) → is_section_field f ≡ true
-    → fields_there (with_section f n words fields) ≡ fields_there fields
-stored_keywords n words fields = by_section (λ f. fields_there (with_section f n words fields) ≡ fields_there fields)
-    refl refl refl refl refl
+pub stored_keywords : (in_space : Bool) (n : ℕ) (words : List (List ℕ)) (fields : Fields) (f : Field) → is_section_field f ≡ true
+    → fields_there (with_section in_space f n words fields) ≡ fields_there fields
+stored_keywords in_space n words fields = by_section (λ f. fields_there (with_section in_space f n words fields) ≡ fields_there fields)
+    (ap fields_there (points_stored in_space n words fields)) refl refl refl refl
     refl refl refl refl refl
     refl

@@ -9,7 +9,7 @@ use Rattle.tsp_value.specs.declared.keyword.Keyword.{Keyword}
 use Rattle.tsp_value.specs.declared.keyword.Keyword.TheVariants.{Known, EdgeDataFormat, EdgeDataSection, Eof, Unknown}
 use Rattle.tsp_value.specs.Limits.{most_line_bytes, most_matrix_nodes}
 use Rattle.tsp_value.specs.Words.{fields_in_order}
-use Rattle.tsp_fields.specs.Fields.{Fields, fields_of, stands_in, with_numbers}
+use Rattle.tsp_fields.specs.Fields.{Fields, fields_of, stands_in, with_numbers, spatial}
 use Rattle.tsp_items.specs.declared.fault.LineFault.{LineFault}
 use Rattle.tsp_items.specs.declared.fault.LineFault.TheVariants as row
 use Rattle.tsp_value.specs.declared.field.Shape.{Shape}
@@ -26,6 +26,7 @@ use Rattle.tsp_items.specs.Lines.{is_filled}
 use Rattle.tsp_items.specs.Items.{WordLine, Item, Line, NumberWord, LineEnd}
 use Rattle.tsp_value.specs.Shapes.{shape_of, is_section_field}
 use Rattle.tsp_items.specs.Earlier.{same_field, is_key, opened_by, is_open, has_line, open_section, words_of}
+use Rattle.tsp_items.specs.Values.{spatial_after}
 use Rattle.tsp_items.specs.Sections.{place_by, place_in, nodes_of}
 use Rattle.tsp_items.specs.Rows.{row_of, when, first_row}
 use Rattle.tsp_items.specs.states.CutLine.{needs_nodes, is_matrix, opening_rows, MayOpen}
@@ -39,7 +40,7 @@ use Rattle.tsp_read.specs.states.Incomplete.{first_of}
 use Rattle.tsp_read.specs.states.Holds.{fields_there, OpenHolds, Holds, Closed}
 use Rattle.tsp_read.proofs.Clean.{clean_more}
 use Rattle.tsp_read.proofs.FirstSteps.{but, first_without, first_more}
-use Rattle.tsp_read.proofs.SectionCases.{opening, standing, opened_fields, opened_first, keywords_stay, closed_fields, stored_keywords}
+use Rattle.tsp_read.proofs.SectionCases.{section_of, opening, standing, opened_fields, opened_first, keywords_stay, closed_fields, stored_keywords}
 use Rattle.tsp_read.proofs.WordSteps.{same_self}
 
 -- ---- which section was opened
@@ -62,7 +63,7 @@ open_there f (Line key line ∷ earlier) e = rw (open_key f key e) refl
 open_there f (NumberWord word ∷ earlier) e = open_there f earlier e
 open_there f (LineEnd ∷ earlier) e = open_there f earlier e
 
-was_opened : (earlier : List Item) (f : Field) → open_section earlier ≡ Some f → has_line f earlier ≡ true
+pub was_opened : (earlier : List Item) (f : Field) → open_section earlier ≡ Some f → has_line f earlier ≡ true
 was_opened earlier f e = open_there f earlier (ap (is_open f) e ∙ same_self f)
 
 past : (a b : Bool) → cond a true b ≡ false → b ≡ false
@@ -84,16 +85,17 @@ no_words f (LineEnd ∷ earlier) none = no_words f earlier none
 -- ---- a line opens a section
 
 -- the rows of its line, by what the draft has
-rows_are : (old : Reading) (field : Field) (shape : Shape) (line : WordLine) (earlier : List Item) → shape_of field ≡ Some shape → Closed old earlier
+rows_are : (old : Reading) (field : Field) (shape : Shape) (line : WordLine) (earlier : List Item)
+    → shape_of (spatial (fields_of old.draft)) field ≡ Some shape → Closed old earlier
     → nat_lt most_line_bytes line.size ≡ false
     → row_of earlier (Line (Known field) line)
     ≡ opening_rows shape (stands_in (fields_of old.draft) field) line.value (is_some old.draft.dimension) (unwrap_or old.draft.dimension 0)
 rows_are old field shape line earlier is h short =
-    let section : is_section_field field ≡ true = ap is_some is in
+    let section : is_section_field field ≡ true = section_of (spatial (fields_of old.draft)) field shape is in
     let there : stands_in (fields_of old.draft) field ≡ has_line field earlier = ap (λ (fields : Fields). stands_in fields field) h.spelled ∙ standing earlier field section in
     let dimension : is_some old.draft.dimension ≡ has_line DimensionKey earlier = ap (λ (xs : List Bool). get_or xs 2 false) h.stand in
     let nodes : unwrap_or old.draft.dimension 0 ≡ nodes_of earlier = ap (λ (fields : Fields). unwrap_or fields.dimension 0) h.spelled in
-    opening earlier line short field section
+    opening (spatial (fields_of old.draft)) earlier line short field section
     ∙ ap (λ o. option_map_or (λ shape. opening_rows shape (has_line field earlier) line.value (has_line DimensionKey earlier) (nodes_of earlier)) o None) is
     ∙ ap (λ (b : Bool). opening_rows shape b line.value (has_line DimensionKey earlier) (nodes_of earlier)) (sym there)
     ∙ ap (λ (b : Bool). opening_rows shape (stands_in (fields_of old.draft) field) line.value b (nodes_of earlier)) (sym dimension)
@@ -103,12 +105,15 @@ first_none : (b : Bool) (fault : LineFault) (rows : List (Option LineFault)) →
 first_none true fault rows e = cc
 first_none false fault rows e = refl
 
-pub opens : (old new : Reading) (field : Field) (shape : Shape) (line : WordLine) (n : ℕ) (section : OpenSection) → shape_of field ≡ Some shape
+pub opens : (old new : Reading) (field : Field) (shape : Shape) (line : WordLine) (n : ℕ) (section : OpenSection)
+    → shape_of (spatial (fields_of old.draft)) field ≡ Some shape
     → MayOpen shape (stands_in (fields_of old.draft) field) line.value old.draft.dimension (Ok n) → section.field ≡ field → HoldsShape shape section.part n []
     → new.draft ≡ old.draft → new.incomplete ≡ old.incomplete → new.opened ≡ Some section
     → (earlier : List Item) → Closed old earlier → nat_lt most_line_bytes line.size ≡ false → Holds new (Line (Known field) line ∷ earlier)
 opens old new field shape line n section is may of start same_draft same_first opened earlier h short =
-    let kind : is_section_field field ≡ true = ap is_some is in
+    let kind : is_section_field field ≡ true = section_of (spatial (fields_of old.draft)) field shape is in
+    let stays = keywords_stay earlier line field kind in
+    let space : spatial (fields_of old.draft) ≡ spatial_after (Line (Known field) line ∷ earlier) = ap spatial h.spelled ∙ sym stays.2 in
     let rows = ap (λ (m : ℕ). opening_rows shape (stands_in (fields_of old.draft) field) line.value (is_some old.draft.dimension) m) (sym may.0) ∙ may.1 in
     let absent : stands_in (fields_of old.draft) field ≡ false = first_none (stands_in (fields_of old.draft) field) row.Repeated
     (when (is_filled line.value) row.SectionValue ∷ when (needs_nodes shape && not (is_some old.draft.dimension)) row.SectionEarly
@@ -117,19 +122,26 @@ opens old new field shape line n section is may of start same_draft same_first o
     let nodes : nodes_of earlier ≡ n = sym (ap (λ (fields : Fields). unwrap_or fields.dimension 0) h.spelled) ∙ sym may.0 in
     let words : words_of field earlier ≡ [] = no_words field earlier none in
     let held : HoldsPart section.part (nodes_of (Line (Known field) line ∷ earlier)) (words_of section.field earlier) =
-    subst (λ (m : ℕ). HoldsPart section.part m (words_of section.field earlier)) (sym ((keywords_stay earlier line field kind).1 ∙ nodes))
+    subst (λ (m : ℕ). HoldsPart section.part m (words_of section.field earlier)) (sym (stays.1 ∙ nodes))
     (subst (λ (ws : List (List ℕ)). HoldsPart section.part n ws) (sym (ap (λ f. words_of f earlier) of ∙ words)) start.1) in
     let open_now : open_section (Line (Known field) line ∷ earlier) ≡ Some field = ap (λ b. cond b (Some field) None) kind in
     record {
       clean = clean_more earlier (Line (Known field) line) h.clean (rows_are old field shape line earlier is h short ∙ rows);
-      stand = ap (λ d. fields_there (fields_of d)) same_draft ∙ h.stand ∙ sym (keywords_stay earlier line field kind).0;
+      stand = ap (λ d. fields_there (fields_of d)) same_draft ∙ h.stand ∙ sym stays.0;
       spelled = ap fields_of same_draft ∙ h.spelled ∙ opened_fields earlier line field kind none;
       incomplete = same_first ∙ h.incomplete ∙ opened_first earlier line field kind none;
-      part = subst (λ (o : Option OpenSection). OpenHolds o (Line (Known field) line ∷ earlier)) (sym opened)
-          (open_now ∙ ap (λ f. Some f) (sym of), (ap shape_of of ∙ is ∙ ap (λ s. Some s) (sym start.0), held));
+      part = subst (λ (o : Option OpenSection). OpenHolds o (Line (Known field) line ∷ earlier)) (sym opened) (
+        open_now ∙ ap (λ f. Some f) (sym of),
+        (
+          ap (shape_of (spatial_after (Line (Known field) line ∷ earlier))) of ∙ ap (λ b. shape_of b field) (sym space) ∙ is
+              ∙ ap (λ s. Some s) (sym start.0),
+          held,
+        ),
+      );
     }
 
-pub refuses : (old : Reading) (field : Field) (shape : Shape) (line : WordLine) (fault : LineFault) → shape_of field ≡ Some shape
+pub refuses : (old : Reading) (field : Field) (shape : Shape) (line : WordLine) (fault : LineFault)
+    → shape_of (spatial (fields_of old.draft)) field ≡ Some shape
     → MayOpen shape (stands_in (fields_of old.draft) field) line.value old.draft.dimension (Err fault)
     → (earlier : List Item) → Closed old earlier → nat_lt most_line_bytes line.size ≡ false → row_of earlier (Line (Known field) line) ≡ Some fault
 refuses old field shape line fault is may earlier h short = rows_are old field shape line earlier is h short ∙ may
@@ -156,33 +168,35 @@ first_now earlier f true first kind is passes = ap (λ o. first_of f o fields_in
 first_now earlier f false first kind is fails = sym is ∙ first_without (is_incomplete earlier) f sections_in_order fails
 
 pub closes : (old new : Reading) (section : OpenSection) (more : Bool) → old.opened ≡ Some section
-    → ((n : ℕ) (words : List (List ℕ)) → HoldsSection section n words
-    → (fields_of new.draft ≡ with_section section.field n words (fields_of old.draft)) × (more ≡ wants_more (place_in section.field n words)))
+    → ((in_space : Bool) (n : ℕ) (words : List (List ℕ)) → HoldsSection in_space section n words
+    → (fields_of new.draft ≡ with_section in_space section.field n words (fields_of old.draft)) × (more ≡ wants_more (place_in in_space section.field n words)))
     → new.incomplete ≡ cond more (first_of section.field old.incomplete fields_in_order) old.incomplete → new.opened ≡ None
     → (earlier : List Item) → Holds old earlier → Closed new earlier
 closes old new section more there stored first none earlier h =
     let f = section.field in
     let held = subst (λ (o : Option OpenSection). OpenHolds o earlier) there h.part in
-    let kind : is_section_field f ≡ true = ap is_some held.1.0 in
+    let space = spatial_after earlier in
+    let kind : is_section_field f ≡ true = section_of space f (shape_by section.part) held.1.0 in
     let stands : has_line f earlier ≡ true = was_opened earlier f held.0 in
-    let got = stored (nodes_of earlier) (words_of f earlier) held.1 in
+    let got = stored space (nodes_of earlier) (words_of f earlier) held.1 in
     let others : find (but f (is_incomplete earlier)) sections_in_order ≡ old.incomplete =
     ap (λ o. find (λ x. not (is_open x o) && is_incomplete earlier x) sections_in_order) (sym held.0) ∙ sym h.incomplete in
-    let wants : is_incomplete earlier f ≡ more = ap (λ b. b && wants_more (place_in f (nodes_of earlier) (words_of f earlier))) stands ∙ sym got.1 in
+    let wants : is_incomplete earlier f ≡ more = ap (λ b. b && wants_more (place_in (spatial_after earlier) f (nodes_of earlier) (words_of f earlier))) stands ∙ sym got.1 in
     record {
       clean = h.clean;
-      stand = ap fields_there got.0 ∙ stored_keywords (nodes_of earlier) (words_of f earlier) (fields_of old.draft) f kind ∙ h.stand;
-      spelled = got.0 ∙ ap (with_section f (nodes_of earlier) (words_of f earlier)) h.spelled ∙ closed_fields earlier f kind held.0 stands;
+      stand = ap fields_there got.0 ∙ stored_keywords space (nodes_of earlier) (words_of f earlier) (fields_of old.draft) f kind ∙ h.stand;
+      spelled = got.0 ∙ ap (with_section space f (nodes_of earlier) (words_of f earlier)) h.spelled ∙ closed_fields earlier f kind held.0 stands;
       incomplete = first ∙ first_now earlier f more old.incomplete kind others wants;
       part = none;
     }
 
 -- ---- what a part has goes into its field
 
-stored_as : (section : OpenSection) (shape : Shape) (old new : Fields) (more : Bool) (n : ℕ) (words : List (List ℕ)) → shape_of section.field ≡ Some shape
+stored_as : (section : OpenSection) (shape : Shape) (old new : Fields) (more in_space : Bool) (n : ℕ) (words : List (List ℕ))
+    → shape_of in_space section.field ≡ Some shape
     → new ≡ with_words shape section.field n words old → more ≡ wants_more (place_by shape n words)
-    → (new ≡ with_section section.field n words old) × (more ≡ wants_more (place_in section.field n words))
-stored_as section shape old new more n words is fields wants = (
+    → (new ≡ with_section in_space section.field n words old) × (more ≡ wants_more (place_in in_space section.field n words))
+stored_as section shape old new more in_space n words is fields wants = (
   fields ∙ ap (λ o. option_map_or (λ shape. with_words shape section.field n words old) o old) (sym is),
   wants ∙ ap (λ o. wants_more (option_map_or (λ shape. place_by shape n words) o PastEnd)) (sym is),
 )
@@ -191,28 +205,28 @@ pub numbers_stored : (section : OpenSection) (part : NumberList) (numbers : List
     → new ≡ with_numbers section.field numbers old
     → ((low high : ℤ) (n : ℕ) (words : List (List ℕ)) → HoldsNumbers part low high n words
     → (numbers ≡ numbers_by_node low high n words) × (more ≡ wants_more (place_of_number low high n words)))
-    → (n : ℕ) (words : List (List ℕ)) → HoldsSection section n words
-    → (new ≡ with_section section.field n words old) × (more ≡ wants_more (place_in section.field n words))
-numbers_stored section part numbers more old new is put finished n words h =
+    → (in_space : Bool) (n : ℕ) (words : List (List ℕ)) → HoldsSection in_space section n words
+    → (new ≡ with_section in_space section.field n words old) × (more ≡ wants_more (place_in in_space section.field n words))
+numbers_stored section part numbers more old new is put finished in_space n words h =
     let got = finished part.low part.high n words (subst (λ (p : Part). HoldsPart p n words) is h.1) in
-    stored_as section (Numbers part.low part.high) old new more n words (h.0 ∙ ap (λ p. Some (shape_by p)) is)
+    stored_as section (Numbers part.low part.high) old new more in_space n words (h.0 ∙ ap (λ p. Some (shape_by p)) is)
     (put ∙ ap (λ xs. with_numbers section.field xs old) got.0) got.1
 
 pub pairs_stored : (section : OpenSection) (part : FixedList) (pairs : List (ℕ × ℕ)) (more : Bool) (old new : Fields) → section.part ≡ parts.Pairs part
     → new ≡ record old { fixed = Some pairs }
     → ((n : ℕ) (words : List (List ℕ)) → HoldsFixed part n words → (pairs ≡ fixed_in n words) × (more ≡ wants_more (place_of_fixed n words)))
-    → (n : ℕ) (words : List (List ℕ)) → HoldsSection section n words
-    → (new ≡ with_section section.field n words old) × (more ≡ wants_more (place_in section.field n words))
-pairs_stored section part pairs more old new is put finished n words h =
+    → (in_space : Bool) (n : ℕ) (words : List (List ℕ)) → HoldsSection in_space section n words
+    → (new ≡ with_section in_space section.field n words old) × (more ≡ wants_more (place_in in_space section.field n words))
+pairs_stored section part pairs more old new is put finished in_space n words h =
     let got = finished n words (subst (λ (p : Part). HoldsPart p n words) is h.1) in
-    stored_as section Pairs old new more n words (h.0 ∙ ap (λ p. Some (shape_by p)) is) (put ∙ ap (λ xs. record old { fixed = Some xs }) got.0) got.1
+    stored_as section Pairs old new more in_space n words (h.0 ∙ ap (λ p. Some (shape_by p)) is) (put ∙ ap (λ xs. record old { fixed = Some xs }) got.0) got.1
 
 pub triples_stored : (section : OpenSection) (part : TripleList) (triples : List (ℕ × ℕ × ℤ)) (more : Bool) (old new : Fields) → section.part ≡ parts.Triples part
     → new ≡ record old { fixed_potentials = Some triples }
     → ((n : ℕ) (words : List (List ℕ)) → HoldsTriples part n words → (triples ≡ fixed_triples_in n words) × (more ≡ wants_more (place_of_triple n words)))
-    → (n : ℕ) (words : List (List ℕ)) → HoldsSection section n words
-    → (new ≡ with_section section.field n words old) × (more ≡ wants_more (place_in section.field n words))
-triples_stored section part triples more old new is put finished n words h =
+    → (in_space : Bool) (n : ℕ) (words : List (List ℕ)) → HoldsSection in_space section n words
+    → (new ≡ with_section in_space section.field n words old) × (more ≡ wants_more (place_in in_space section.field n words))
+triples_stored section part triples more old new is put finished in_space n words h =
     let got = finished n words (subst (λ (p : Part). HoldsPart p n words) is h.1) in
-    stored_as section Triples old new more n words (h.0 ∙ ap (λ p. Some (shape_by p)) is)
+    stored_as section Triples old new more in_space n words (h.0 ∙ ap (λ p. Some (shape_by p)) is)
     (put ∙ ap (λ xs. record old { fixed_potentials = Some xs }) got.0) got.1

@@ -22,6 +22,7 @@ use Rattle.tsp_items.specs.Numbers.{is_minus_one}
 use Rattle.tsp_items.specs.Items.{Item, Line, NumberWord, LineEnd, items_of, settled_items, is_end_line, has_end_line, to_end_line}
 use Rattle.tsp_items.specs.Earlier.{open_section, words_of}
 use Rattle.tsp_items.specs.Places.{Place, NodeAfter, Coordinate, Amount, PastGroups, DepotAfter, FirstAfter, SecondOf, PastEnd, Weight, PastWeights, TourNode}
+use Rattle.tsp_items.specs.Values.{spatial_after}
 use Rattle.tsp_items.specs.Sections.{place_in, nodes_of}
 use Rattle.tsp_items.specs.Rows.{when, first_row, row_of, word_fault}
 use Rattle.tsp_items.specs.FirstFault.{fault_here, fault_in, IsClean}
@@ -85,7 +86,7 @@ same_word_row : (earlier : List Item) (word next : List ℕ) (opened : Option Fi
 same_word_row earlier word next None long also e = rw e refl
 same_word_row earlier word next (Some f) long also e =
     let n = nodes_of earlier in
-    let place = place_in f n (words_of f earlier) in
+    let place = place_in (spatial_after earlier) f n (words_of f earlier) in
     word_rows earlier word f e ∙ long_fault n place word long ∙ sym (word_rows earlier next f e ∙ long_fault n place next also)
 
 pub same_fault : (earlier : List Item) (x y : Item) → AreLong x y → fault_in (x ∷ earlier) ≡ fault_in (y ∷ earlier)

@@ -1,9 +1,10 @@
--- Groups of two words and of three: their first words, with one word more.
+-- Groups of two words, of three and of four: their first words, with one word more.
 use Rattle.std.proofs.Common.{◌≡◌, ℕ, ◌-◌, ◌*◌, List, [], ◌∷◌, ◌++◌, length, map, refl, ap, ◌∙◌, arith, inl, inr}
 use Rattle.std.specs.Prelude.{◌⊎◌}
 use Rattle.std.proofs.lemmas.List.{map_push}
-use Rattle.tsp_items.specs.Groups.{pairs_in, triples_in, begun_pair, begun_triple}
+use Rattle.tsp_items.specs.Groups.{pairs_in, triples_in, fours_in, begun_pair, begun_triple, begun_four}
 use Rattle.tsp_items.proofs.TripleWords.{triples_begin, begun_begin}
+use Rattle.tsp_items.proofs.FourWords.{fours_begin, begun_begin as begun_begin_four}
 use Rattle.tsp_read.proofs.ValidLists.{pair_begins, pair_ends, begun_short}
 
 abbrev pub Words : Type 0
@@ -84,3 +85,42 @@ triple_counted m (a ∷ b ∷ c ∷ words) e =
 
 pub triple_shape : IsShape 3 triple_firsts begun_triple
 triple_shape = record { no_firsts = refl; none_begun = refl; starts = triple_starts; goes_on = triple_goes_on; counted = triple_counted }
+
+-- ---- fours
+
+abbrev pub four_firsts : Words → Words
+four_firsts words = map (λ group. group.0) (fours_in words)
+
+four_starts : (words : Words) (word : List ℕ) → begun_four words ≡ [] → (four_firsts (words ++ word ∷ []) ≡ four_firsts words) × (begun_four (words ++ word ∷ []) ≡ word ∷ [])
+four_starts words word e =
+    (ap (λ (groups : List (List ℕ × List ℕ × List ℕ × List ℕ)). map (λ group. group.0) groups) (fours_begin words word e), begun_begin_four words word e)
+
+abbrev FourGoesOn : Words → List ℕ → Words → List ℕ → Type 0
+FourGoesOn words first rest word = ((four_firsts (words ++ word ∷ []) ≡ four_firsts words) × (begun_four (words ++ word ∷ []) ≡ first ∷ (rest ++ word ∷ [])))
+    ⊎ ((four_firsts (words ++ word ∷ []) ≡ four_firsts words ++ first ∷ []) × (begun_four (words ++ word ∷ []) ≡ []))
+
+four_before : (a b c d : List ℕ) (words : Words) (first : List ℕ) (rest : Words) (word : List ℕ) → FourGoesOn words first rest word → FourGoesOn (a ∷ b ∷ c ∷ d ∷ words) first rest word
+four_before a b c d words first rest word (inl h) = inl (ap (λ (firsts : Words). a ∷ firsts) h.0, h.1)
+four_before a b c d words first rest word (inr h) = inr (ap (λ (firsts : Words). a ∷ firsts) h.0, h.1)
+
+four_goes_on : (words : Words) (first : List ℕ) (rest : Words) (word : List ℕ) → begun_four words ≡ first ∷ rest → FourGoesOn words first rest word
+four_goes_on [] first rest word e = absurd cc
+four_goes_on (a ∷ []) first rest word e = inl (refl, ap (λ (begun : Words). begun ++ word ∷ []) e)
+four_goes_on (a ∷ b ∷ []) first rest word e = inl (refl, ap (λ (begun : Words). begun ++ word ∷ []) e)
+four_goes_on (a ∷ b ∷ c ∷ []) first rest word e =
+    let same : a ≡ first = cc in
+    inr (ap (λ (x : List ℕ). x ∷ []) same, refl)
+four_goes_on (a ∷ b ∷ c ∷ d ∷ words) first rest word e = four_before a b c d words first rest word (four_goes_on words first rest word e)
+
+four_counted : (m : ℕ) (words : Words) → length words ≡ 4 * m → length (four_firsts words) ≡ m
+four_counted m [] e = omega arith
+four_counted m (a ∷ []) e = absurd (omega arith)
+four_counted m (a ∷ b ∷ []) e = absurd (omega arith)
+four_counted m (a ∷ b ∷ c ∷ []) e = absurd (omega arith)
+four_counted m (a ∷ b ∷ c ∷ d ∷ words) e =
+    let less : length words ≡ 4 * (m - 1) = omega arith in
+    let rest = four_counted (m - 1) words less in
+    omega arith
+
+pub four_shape : IsShape 4 four_firsts begun_four
+four_shape = record { no_firsts = refl; none_begun = refl; starts = four_starts; goes_on = four_goes_on; counted = four_counted }

@@ -17,7 +17,7 @@ use Rattle.tsp_items.specs.FirstFault.{IsClean}
 use Rattle.tsp_items.specs.Rows.{word_fault}
 use Rattle.tsp_items.proofs.Ended.{before_kept, before_none, before_end, before_push}
 use Rattle.tsp_read.proofs.ValidRows.{is_taken}
-use Rattle.tsp_read.proofs.ValidSections.{Grows, grown}
+use Rattle.tsp_read.proofs.Grown.{Grows, grown}
 use Rattle.tsp_read.proofs.ValidNumbers.{read_listed}
 use Rattle.tsp_read.proofs.ValidLists.{few_more, first_of_both}
 
@@ -49,12 +49,12 @@ taken n words word false false e is row held =
     let node : is_node n (nat_abs (number (node_or_end n word))) ≡ true = ap (λ r. is_node n (nat_abs (number r))) found.1 ∙ found.2 in
     listed_more n words word (before_none (is_end n) words e) (before_push (is_end n) words word is e) (first_of_both (nat_le most_depots (length words)) (is_end n word) t.has_room is) node held
 
-all_taken : Grows DepotPart AreListed
+all_taken : Grows false DepotPart AreListed
 all_taken = record {
   none = λ n. refl;
-  more = λ n words word held row. taken n words word (list_any (is_end n) words) (is_end n word) refl refl row held;
+  more = λ b same n words word held row. taken n words word (list_any (is_end n) words) (is_end n word) refl refl row held;
   any_nodes = λ n m words tours held. absurd (false≢true tours);
 }
 
 pub depots_fit : (items : List Item) → IsClean items → are_depots (nodes_of items) (depots_in (nodes_of items) (words_of DepotPart items)) ≡ true
-depots_fit items clean = grown DepotPart AreListed all_taken items clean
+depots_fit items clean = grown DepotPart AreListed refl all_taken items clean

@@ -20,7 +20,7 @@ use Rattle.tsp_items.specs.Rows.{word_fault}
 use Rattle.tsp_items.proofs.Ended.{any_push}
 use Rattle.tsp_items.proofs.PairWords.{pairs_begin, begun_begin, firsts_begin, pairs_end, begun_end, firsts_end, firsts_kept, pairs_kept, pairs_none}
 use Rattle.tsp_read.proofs.ValidRows.{is_taken}
-use Rattle.tsp_read.proofs.ValidSections.{Grows, grown}
+use Rattle.tsp_read.proofs.Grown.{Grows, grown}
 use Rattle.tsp_read.proofs.ValidNumbers.{read_node, read_listed, differ}
 use Rattle.tsp_read.proofs.ValidLists.{few_more, first_of_both, begun_short}
 
@@ -113,14 +113,14 @@ taken n words word false (first ∷ second ∷ rest) e is row held = absurd (beg
 nothing_begun : (first : List ℕ) → (let none : List (List ℕ) = [] in none ≡ first ∷ []) → ⊥
 nothing_begun first e = cc
 
-all_taken : Grows FixedEdgesPart ArePaired
+all_taken : Grows false FixedEdgesPart ArePaired
 all_taken = record {
   none = λ n. record { pairs = refl; begun = λ none first e. absurd (nothing_begun first e) };
-  more = λ n words word held row. taken n words word (list_any (is_end n) (firsts_in words)) (begun_pair words) refl refl row held;
+  more = λ b same n words word held row. taken n words word (list_any (is_end n) (firsts_in words)) (begun_pair words) refl refl row held;
   any_nodes = λ n m words tours held. absurd (false≢true tours);
 }
 
 pub fixed_fit : (items : List Item) → IsClean items → are_fixed (nodes_of items) (fixed_in (nodes_of items) (words_of FixedEdgesPart items)) ≡ true
 fixed_fit items clean =
-    let held : ArePaired (nodes_of items) (words_of FixedEdgesPart items) = grown FixedEdgesPart ArePaired all_taken items clean in
+    let held : ArePaired (nodes_of items) (words_of FixedEdgesPart items) = grown FixedEdgesPart ArePaired refl all_taken items clean in
     held.pairs

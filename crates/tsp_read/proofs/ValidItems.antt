@@ -16,7 +16,9 @@ use Rattle.tsp_items.specs.Items.{Item, has_end_line}
 use Rattle.tsp_items.specs.Earlier.{has_line, words_of}
 use Rattle.tsp_read.specs.Cuts.{AreCut}
 use Rattle.tsp_items.specs.Sections.{nodes_of}
-use Rattle.tsp_items.specs.Groups.{points_by_node}
+use Rattle.tsp_items.specs.Values.{spatial_after}
+use Rattle.tsp_items.specs.Groups.{points_by_node, coords_by_node}
+use Rattle.tsp_fields.proofs.ValidFields.{nodes_fit}
 use Rattle.tsp_items.specs.Lists.{depots_in, fixed_in, fixed_triples_in}
 use Rattle.tsp_items.specs.Weights.{weights_in}
 use Rattle.tsp_items.specs.Tours.{tours_in}
@@ -28,7 +30,7 @@ use Rattle.tsp_items.specs.Text.{is_too_long, part, Spells}
 use Rattle.tsp_read.proofs.ValidRows.{none_applies, map_none}
 use Rattle.tsp_read.proofs.ValidCuts.{part_cut}
 use Rattle.tsp_read.proofs.ValidKeywords.{name_fits, comments_fit, others_fit, dimension_fits, capacity_fits, scale_fits}
-use Rattle.tsp_read.proofs.ValidNumbers.{numbers_fit, points_fit}
+use Rattle.tsp_read.proofs.ValidNumbers.{numbers_fit, points_fit, coords_fit}
 use Rattle.tsp_read.proofs.ValidStanding.{section_fits}
 use Rattle.tsp_read.proofs.ValidWeights.{weights_fit}
 use Rattle.tsp_read.proofs.ValidDepots.{depots_fit}
@@ -55,8 +57,11 @@ each_fits items cut clean EdgeWeightTypeKey = refl
 each_fits items cut clean EdgeWeightFormatKey = refl
 each_fits items cut clean NodeCoordTypeKey = refl
 each_fits items cut clean DisplayDataTypeKey = refl
-each_fits items cut clean NodeCoordPart = section_fits (is_by_node is_point) (points_by_node (nodes_of items)) NodeCoordPart refl refl items clean (λ there. points_fit (nodes_of items) (words_of NodeCoordPart items))
-each_fits items cut clean DisplayDataPart = section_fits (is_by_node is_point) (points_by_node (nodes_of items)) DisplayDataPart refl refl items clean (λ there. points_fit (nodes_of items) (words_of DisplayDataPart items))
+each_fits items cut clean NodeCoordPart =
+    let in_space = spatial_after items in
+    nodes_fit (spelled items) in_space ∙ section_fits (is_by_node (is_point in_space)) (coords_by_node in_space (nodes_of items)) NodeCoordPart refl refl items clean
+    (λ there. coords_fit in_space (nodes_of items) (words_of NodeCoordPart items))
+each_fits items cut clean DisplayDataPart = section_fits (is_by_node (is_point false)) (points_by_node (nodes_of items)) DisplayDataPart refl refl items clean (λ there. points_fit (nodes_of items) (words_of DisplayDataPart items))
 each_fits items cut clean DemandPart = section_fits (is_by_node is_demand) (demands_in (nodes_of items)) DemandPart refl refl items clean
     (λ there. numbers_fit (pos 0) (pos most_demand) (nodes_of items) (words_of DemandPart items) refl)
 each_fits items cut clean DepotPart = section_fits are_depots (depots_in (nodes_of items)) DepotPart refl refl items clean (λ there. depots_fit items clean)

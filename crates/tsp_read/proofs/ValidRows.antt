@@ -5,7 +5,7 @@ use Rattle.std.specs.List.{AllByRecursion}
 use Rattle.tsp_items.specs.declared.fault.LineFault.TheVariants as row
 use Rattle.tsp_items.specs.Items.{Item}
 use Rattle.tsp_items.specs.Places.{Place}
-use Rattle.tsp_items.specs.Rows.{when, first_row, table, row_of, is_repeated, has_bad_value, is_early, has_too_many_nodes, number_fault, is_surplus, number_fault_at, is_repeated_node_at, is_self_edge_at, is_surplus_at, is_after_end_at, word_fault}
+use Rattle.tsp_items.specs.Rows.{when, first_row, table, row_of, is_repeated, has_bad_value, is_early, has_too_many_nodes, number_fault, is_surplus, is_late, number_fault_at, is_repeated_node_at, is_self_edge_at, is_surplus_at, is_after_end_at, word_fault}
 use Rattle.tsp_items.specs.FirstFault.{fault_here, fault_in, IsClean}
 
 pub when_none : {F : Type 0} (test : Bool) (fault : F) → when test fault ≡ None → test ≡ false
@@ -38,6 +38,7 @@ pub record HasNoRow (earlier : List Item) (item : Item) : Type 0 where
   pub few_nodes : has_too_many_nodes earlier item ≡ false
   pub is_read : number_fault earlier item ≡ None
   pub has_room : is_surplus earlier item ≡ false
+  pub not_late : is_late earlier item ≡ false
 
 pub no_row : (earlier : List Item) (item : Item) → row_of earlier item ≡ None → HasNoRow earlier item
 no_row earlier item e =
@@ -49,6 +50,7 @@ no_row earlier item e =
       few_nodes = when_none (has_too_many_nodes earlier item) row.TooManyNodes rows.1.1.1.1.1.1.1.0;
       is_read = map_none (λ fault. row.Number fault) (number_fault earlier item) rows.1.1.1.1.1.1.1.1.1.0;
       has_room = when_none (is_surplus earlier item) row.Surplus rows.1.1.1.1.1.1.1.1.1.1.1.1.0;
+      not_late = when_none (is_late earlier item) row.LateSpace rows.1.1.1.1.1.1.1.1.1.1.1.1.1.1.0;
     }
 
 pub record IsTaken (n : ℕ) (place : Place) (word : List ℕ) : Type 0 where

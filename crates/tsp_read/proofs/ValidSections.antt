@@ -1,5 +1,5 @@
 -- The words of a section as they came: each followed the earlier ones of its section without a fault, all with one number of nodes.
-use Rattle.std.proofs.Common.{◌≡◌, ℕ, Bool, true, false, cond, List, [], ◌∷◌, ◌++◌, refl, sym, ap, subst, ◌∙◌, Option, Some, None, Result, Ok, Err}
+use Rattle.std.proofs.Common.{◌≡◌, ℕ, Bool, true, false, cond, List, [], ◌∷◌, refl, sym, ap, subst, ◌∙◌, Option, Some, None, Result, Ok, Err}
 use Rattle.std.specs.Prelude.{not, ◌&&◌, ℤ, is_some, unwrap_or, nat_abs}
 use Rattle.std.specs.Option.{option_map, option_and_then}
 use Rattle.std.specs.Result.{result_ok, result_err}
@@ -17,8 +17,8 @@ use Rattle.tsp_items.specs.Items.{WordLine, Item, Line, NumberWord, LineEnd}
 use Rattle.tsp_value.specs.Shapes.{is_section_field}
 use Rattle.tsp_items.specs.Earlier.{same_field, has_line, open_section, words_of}
 use Rattle.tsp_items.specs.Values.{read_as, dimension_of}
-use Rattle.tsp_items.specs.Sections.{place_in, nodes_of}
-use Rattle.tsp_items.specs.Rows.{row_of, may_repeat, is_repeated, word_fault}
+use Rattle.tsp_items.specs.Sections.{nodes_of}
+use Rattle.tsp_items.specs.Rows.{row_of, may_repeat, is_repeated}
 use Rattle.tsp_items.specs.FirstFault.{IsClean}
 use Rattle.tsp_read.proofs.ValidRows.{clean_parts, no_row}
 
@@ -124,7 +124,7 @@ no_dimension_before : (key : Bool) (dimension : Bool) → cond key true dimensio
 no_dimension_before true dimension e = absurd (true≢false e)
 no_dimension_before false dimension e = e
 
-no_words : (field : Field) (items : List Item) → IsClean items → same_field TourPart field ≡ false → has_line DimensionKey items ≡ false → words_of field items ≡ []
+pub no_words : (field : Field) (items : List Item) → IsClean items → same_field TourPart field ≡ false → has_line DimensionKey items ≡ false → words_of field items ≡ []
 no_words field [] clean other unknown = refl
 no_words field (LineEnd ∷ earlier) clean other unknown = no_words field earlier (clean_parts earlier LineEnd clean).0 other unknown
 no_words field (NumberWord word ∷ earlier) clean other unknown =
@@ -136,40 +136,3 @@ no_words field (Line EdgeDataFormat line ∷ earlier) clean other unknown = no_w
 no_words field (Line EdgeDataSection line ∷ earlier) clean other unknown = no_words field earlier (clean_parts earlier (Line EdgeDataSection line) clean).0 other unknown
 no_words field (Line Eof line ∷ earlier) clean other unknown = no_words field earlier (clean_parts earlier (Line Eof line) clean).0 other unknown
 no_words field (Line Unknown line ∷ earlier) clean other unknown = no_words field earlier (clean_parts earlier (Line Unknown line) clean).0 other unknown
-
--- what stays true of a section's words while they come; of the tours with any number of nodes
-pub record Grows (field : Field) (Q : ℕ → List (List ℕ) → Type 0) : Type 0 where
-  pub none : (n : ℕ) → Q n []
-  pub more : (n : ℕ) (words : List (List ℕ)) (word : List ℕ) → Q n words → word_fault n (place_in field n words) word ≡ None → Q n (words ++ word ∷ [])
-  pub any_nodes : (n m : ℕ) (words : List (List ℕ)) → same_field TourPart field ≡ true → Q n words → Q m words
-
-word_rows : (earlier : List Item) (word : List ℕ) (f : Field) → open_section earlier ≡ Some f → row_of earlier (NumberWord word) ≡ None
-    → word_fault (nodes_of earlier) (place_in f (nodes_of earlier) (words_of f earlier)) word ≡ None
-word_rows earlier word f opened row = rw opened at row
-
-grown_word : (field : Field) (Q : ℕ → List (List ℕ) → Type 0) → Grows field Q → (earlier : List Item) (word : List ℕ) (opened : Option Field) → open_section earlier ≡ opened
-    → row_of earlier (NumberWord word) ≡ None → Q (nodes_of earlier) (words_of field earlier) → Q (nodes_of earlier) (words_of field (NumberWord word ∷ earlier))
-grown_word field Q grows earlier word None e row held = rw e held
-grown_word field Q grows earlier word (Some g) e row held = by_same (same_field field g) refl
-  where
-    by_same : (b : Bool) → same_field field g ≡ b → Q (nodes_of earlier) (words_of field (NumberWord word ∷ earlier))
-    by_same false differs = rw (e, differs) held
-    by_same true same =
-        let is : open_section earlier ≡ Some field = e ∙ ap (λ f. Some f) (sym (same_field_is field g same)) in
-        rw (e, same) (grows.more (nodes_of earlier) (words_of field earlier) word held (word_rows earlier word field is row))
-
-grown_line : (field : Field) (Q : ℕ → List (List ℕ) → Type 0) → Grows field Q → (earlier : List Item) (item : Item) (tours known : Bool) → same_field TourPart field ≡ tours
-    → has_line DimensionKey earlier ≡ known → IsClean earlier → row_of earlier item ≡ None → Q (nodes_of earlier) (words_of field earlier) → Q (nodes_of (item ∷ earlier)) (words_of field earlier)
-grown_line field Q grows earlier item true known t k clean row held = grows.any_nodes (nodes_of earlier) (nodes_of (item ∷ earlier)) (words_of field earlier) t held
-grown_line field Q grows earlier item false true t k clean row held = subst (λ (n : ℕ). Q n (words_of field earlier)) (sym (nodes_kept earlier item k row)) held
-grown_line field Q grows earlier item false false t k clean row held = subst (λ (words : List (List ℕ)). Q (nodes_of (item ∷ earlier)) words) (sym (no_words field earlier clean t k)) (grows.none (nodes_of (item ∷ earlier)))
-
-pub grown : (field : Field) (Q : ℕ → List (List ℕ) → Type 0) → Grows field Q → (items : List Item) → IsClean items → Q (nodes_of items) (words_of field items)
-grown field Q grows [] clean = grows.none (nodes_of [])
-grown field Q grows (LineEnd ∷ earlier) clean = grown field Q grows earlier (clean_parts earlier LineEnd clean).0
-grown field Q grows (NumberWord word ∷ earlier) clean =
-    let parts = clean_parts earlier (NumberWord word) clean in
-    grown_word field Q grows earlier word (open_section earlier) refl parts.1 (grown field Q grows earlier parts.0)
-grown field Q grows (Line key line ∷ earlier) clean =
-    let parts = clean_parts earlier (Line key line) clean in
-    grown_line field Q grows earlier (Line key line) (same_field TourPart field) (has_line DimensionKey earlier) refl refl parts.0 parts.1 (grown field Q grows earlier parts.0)

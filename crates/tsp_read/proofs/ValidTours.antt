@@ -19,7 +19,7 @@ use Rattle.tsp_items.specs.Tours.{ends_tour, tour_node, tours_in}
 use Rattle.tsp_items.specs.FirstFault.{IsClean}
 use Rattle.tsp_items.specs.Rows.{word_fault}
 use Rattle.tsp_read.proofs.ValidRows.{is_taken}
-use Rattle.tsp_read.proofs.ValidSections.{Grows, grown}
+use Rattle.tsp_read.proofs.Grown.{Grows, grown}
 use Rattle.tsp_read.proofs.ValidNumbers.{read_listed}
 use Rattle.tsp_read.proofs.ValidLists.{first_of_both}
 
@@ -114,17 +114,17 @@ taken words word false is row held =
           (omega (arith, length_push (filter (λ w. not (ends_tour w)) words) word, leb-false most_tour_nodes count room));
     }
 
-all_taken : Grows TourPart (λ n words. AreTourWords words)
+all_taken : Grows false TourPart (λ n words. AreTourWords words)
 all_taken = record {
   none = λ n. record { nodes = refl; few = refl };
-  more = λ n words word held row. taken words word (ends_tour word) refl row held;
+  more = λ b same n words word held row. taken words word (ends_tour word) refl row held;
   any_nodes = λ n m words tours held. held;
 }
 
 pub tours_fit : (items : List Item) → IsClean items → are_tours (tours_in (words_of TourPart items)) ≡ true
 tours_fit items clean =
     let words = words_of TourPart items in
-    let held : AreTourWords words = grown TourPart (λ n words. AreTourWords words) all_taken items clean in
+    let held : AreTourWords words = grown TourPart (λ n words. AreTourWords words) refl all_taken items clean in
     let pieces = slice_split ends_tour words in
     and_from (list_all is_tour (tours_in words)) (nat_le (sum_by length (tours_in words)) most_tour_nodes)
     (filled_runs pieces (pieces_pass ends_tour is_tour_node words held.nodes))

@@ -21,7 +21,7 @@ use Rattle.tsp_items.specs.Rows.{word_fault}
 use Rattle.tsp_items.proofs.Ended.{any_push}
 use Rattle.tsp_items.proofs.TripleWords.{triples_begin, begun_begin, firsts_begin, triples_middle, begun_middle, triples_end, begun_end, firsts_end, firsts_kept, triples_kept, triples_none}
 use Rattle.tsp_read.proofs.ValidRows.{is_taken}
-use Rattle.tsp_read.proofs.ValidSections.{Grows, grown}
+use Rattle.tsp_read.proofs.Grown.{Grows, grown}
 use Rattle.tsp_read.proofs.ValidNumbers.{whole_passes}
 use Rattle.tsp_read.proofs.ValidLists.{few_more, first_of_both}
 use Rattle.tsp_read.proofs.ValidFixed.{pair_of, valid_pair}
@@ -136,14 +136,14 @@ taken n words word false (first ∷ second ∷ third ∷ rest) e is row held = a
 nothing_begun : (first : List ℕ) (rest : List (List ℕ)) → (let none : List (List ℕ) = [] in none ≡ first ∷ rest) → ⊥
 nothing_begun first rest e = cc
 
-all_taken : Grows FixedPotentialPart AreTripled
+all_taken : Grows false FixedPotentialPart AreTripled
 all_taken = record {
   none = λ n. record { triples = refl; begun = λ none first rest e. absurd (nothing_begun first rest e) };
-  more = λ n words word held row. taken n words word (list_any (is_end n) (triple_firsts_in words)) (begun_triple words) refl refl row held;
+  more = λ b same n words word held row. taken n words word (list_any (is_end n) (triple_firsts_in words)) (begun_triple words) refl refl row held;
   any_nodes = λ n m words tours held. absurd (false≢true tours);
 }
 
 pub triples_fit : (items : List Item) → IsClean items → are_triples (nodes_of items) (fixed_triples_in (nodes_of items) (words_of FixedPotentialPart items)) ≡ true
 triples_fit items clean =
-    let held : AreTripled (nodes_of items) (words_of FixedPotentialPart items) = grown FixedPotentialPart AreTripled all_taken items clean in
+    let held : AreTripled (nodes_of items) (words_of FixedPotentialPart items) = grown FixedPotentialPart AreTripled refl all_taken items clean in
     held.triples

@@ -19,7 +19,8 @@ use Rattle.tsp_items.specs.Sections.{nodes_of}
 use Rattle.tsp_items.specs.Rows.{row_of, word_fault}
 use Rattle.tsp_items.specs.FirstFault.{IsClean}
 use Rattle.tsp_read.proofs.ValidRows.{clean_parts, no_row, is_taken}
-use Rattle.tsp_read.proofs.ValidSections.{Grows, grown, same_field_is, nodes_kept}
+use Rattle.tsp_read.proofs.ValidSections.{same_field_is, nodes_kept}
+use Rattle.tsp_read.proofs.Grown.{Grows, grown}
 use Rattle.tsp_read.proofs.ValidStanding.{after_dimension}
 use Rattle.tsp_read.proofs.ValidNumbers.{all_pass, whole_passes}
 
@@ -30,10 +31,10 @@ has_room : (n : ℕ) (words : List (List ℕ)) (word : List ℕ) (b : Bool) → 
 has_room n words word true e row = absurd (true≢false (is_taken n PastWeights word row).has_room)
 has_room n words word false e row = le-leb (length (words ++ word ∷ [])) (n * n) (omega (arith, length_push words word, leb-false (n * n) (length words) e))
 
-few_weights : Grows EdgeWeightPart (λ n words. nat_le (length words) (n * n) ≡ true)
+few_weights : Grows false EdgeWeightPart (λ n words. nat_le (length words) (n * n) ≡ true)
 few_weights = record {
   none = λ n. le-leb 0 (n * n) (omega arith);
-  more = λ n words word held row. has_room n words word (nat_le (n * n) (length words)) refl row;
+  more = λ b same n words word held row. has_room n words word (nat_le (n * n) (length words)) refl row;
   any_nodes = λ n m words tours held. absurd (false≢true tours);
 }
 
@@ -74,7 +75,7 @@ pub weights_fit : (items : List Item) → IsClean items → has_line EdgeWeightP
 weights_fit items clean stands =
     let n = nodes_of items in
     let words = words_of EdgeWeightPart items in
-    let room : nat_le (length words) (n * n) ≡ true = grown EdgeWeightPart (λ n words. nat_le (length words) (n * n) ≡ true) few_weights items clean in
+    let room : nat_le (length words) (n * n) ≡ true = grown EdgeWeightPart (λ n words. nat_le (length words) (n * n) ≡ true) refl few_weights items clean in
     let size : nat_le (length (weights_in words)) (n * n) ≡ true = ap (λ k. nat_le k (n * n)) (length-map words (λ word. number (sized most_weight word))) ∙ room in
     and_from (nat_le n most_matrix_nodes && nat_le (length (weights_in words)) (n * n)) (list_all (is_within most_weight) (weights_in words))
     (and_from (nat_le n most_matrix_nodes) (nat_le (length (weights_in words)) (n * n)) (few_nodes items clean stands) size) (weights_sized words)

@@ -1,5 +1,5 @@
 -- A word of the open section: nothing changes but the words of that section.
-use Rattle.std.proofs.Common.{subst, ◌≡◌, ℕ, true, List, [], ◌∷◌, ◌++◌, refl, sym, ap, ◌∙◌, Some, Result, Ok, Err}
+use Rattle.std.proofs.Common.{Bool, subst, ◌≡◌, ℕ, true, List, [], ◌∷◌, ◌++◌, refl, sym, ap, ◌∙◌, Some, Result, Ok, Err}
 use Rattle.tsp_value.specs.declared.field.Field.{Field}
 use Rattle.tsp_value.specs.declared.field.Field.TheVariants.{NameKey, TypeKey, CommentKey, OtherKey, DimensionKey, CapacityKey, ScaleKey, EdgeWeightTypeKey, EdgeWeightFormatKey, NodeCoordTypeKey, DisplayDataTypeKey, NodeCoordPart, DisplayDataPart, DemandPart, DepotPart, FixedEdgesPart, EdgeWeightPart, TourPart, NodePotentialPart, RowPotentialPart, ColumnPotentialPart, FixedPotentialPart}
 use Rattle.tsp_items.specs.declared.fault.StepFault.{StepFault}
@@ -11,14 +11,14 @@ use Rattle.tsp_items.specs.Items.{Item, NumberWord}
 use Rattle.tsp_items.specs.Earlier.{same_field, open_section, words_of}
 use Rattle.tsp_value.specs.Shapes.{shape_of, is_section_field}
 use Rattle.tsp_items.specs.Places.{PastEnd}
+use Rattle.tsp_items.specs.Values.{spatial_after}
 use Rattle.tsp_items.specs.Sections.{place_by, place_in, nodes_of}
 use Rattle.tsp_items.specs.Rows.{row_of, word_fault}
 use Rattle.tsp_items.specs.states.Parts.{Takes}
 use Rattle.tsp_items.specs.states.Held.{shape_by, HoldsPart, HoldsShape}
-use Rattle.std.specs.Prelude.{is_some}
 use Rattle.std.specs.Option.{option_map_or}
 use Rattle.tsp_read.specs.states.Holds.{OpenHolds, Holds, Answers}
-use Rattle.tsp_read.proofs.SectionCases.{word_fields, word_first}
+use Rattle.tsp_read.proofs.SectionCases.{section_of, word_fields, word_first}
 use Rattle.tsp_read.proofs.Clean.{clean_more}
 
 pub same_self : (f : Field) → same_field f f ≡ true
@@ -47,7 +47,7 @@ same_self FixedPotentialPart = refl
 
 -- the rows of a word are those of its place
 pub word_rows : (earlier : List Item) (word : List ℕ) (f : Field) → open_section earlier ≡ Some f
-    → row_of earlier (NumberWord word) ≡ word_fault (nodes_of earlier) (place_in f (nodes_of earlier) (words_of f earlier)) word
+    → row_of earlier (NumberWord word) ≡ word_fault (nodes_of earlier) (place_in (spatial_after earlier) f (nodes_of earlier) (words_of f earlier)) word
 word_rows earlier word f o = rw o refl
 
 words_more : (earlier : List Item) (word : List ℕ) (f : Field) → open_section earlier ≡ Some f → words_of f (NumberWord word ∷ earlier) ≡ words_of f earlier ++ word ∷ []
@@ -55,13 +55,13 @@ words_more earlier word f o = rw (o, same_self f) refl
 
 -- the open section after the word
 open_more : (section after : OpenSection) (earlier : List Item) (word : List ℕ) → open_section earlier ≡ Some section.field
-    → shape_of section.field ≡ Some (shape_by section.part) → after.field ≡ section.field
+    → shape_of (spatial_after earlier) section.field ≡ Some (shape_by section.part) → after.field ≡ section.field
     → HoldsShape (shape_by section.part) after.part (nodes_of earlier) (words_of section.field earlier ++ word ∷ []) → OpenHolds (Some after) (NumberWord word ∷ earlier)
 open_more section after earlier word o shape same h =
     let words : words_of after.field (NumberWord word ∷ earlier) ≡ words_of section.field earlier ++ word ∷ [] =
     ap (λ f. words_of f (NumberWord word ∷ earlier)) same ∙ words_more earlier word section.field o in (
       o ∙ ap (λ f. Some f) (sym same),
-      (ap shape_of same ∙ shape ∙ ap (λ s. Some s) (sym h.0), subst (λ (ws : List (List ℕ)). HoldsPart after.part (nodes_of earlier) ws) (sym words) h.1),
+      (ap (shape_of (spatial_after earlier)) same ∙ shape ∙ ap (λ s. Some s) (sym h.0), subst (λ (ws : List (List ℕ)). HoldsPart after.part (nodes_of earlier) ws) (sym words) h.1),
     )
 
 -- what the part of the open section answers
@@ -69,8 +69,9 @@ abbrev pub SectionTakes : OpenSection → OpenSection → List ℕ → Result (U
 SectionTakes section after word r = (n : ℕ) (words : List (List ℕ)) → HoldsPart section.part n words
     → Takes n (place_by (shape_by section.part) n words) word (HoldsShape (shape_by section.part) after.part n (words ++ word ∷ [])) r
 
-place_is : (field : Field) (shape : Shape) (n : ℕ) (words : List (List ℕ)) → shape_of field ≡ Some shape → place_in field n words ≡ place_by shape n words
-place_is field shape n words is = ap (λ o. option_map_or (λ shape. place_by shape n words) o PastEnd) is
+place_is : (in_space : Bool) (field : Field) (shape : Shape) (n : ℕ) (words : List (List ℕ)) → shape_of in_space field ≡ Some shape
+    → place_in in_space field n words ≡ place_by shape n words
+place_is in_space field shape n words is = ap (λ o. option_map_or (λ shape. place_by shape n words) o PastEnd) is
 
 -- What the part answers is what the reader answers. The new state is the old one with the part after the word.
 pub word_answer : (old new : Reading) (section after : OpenSection) (word : List ℕ) (r : Result (Unit {0}) StepFault) (earlier : List Item)
@@ -79,11 +80,11 @@ pub word_answer : (old new : Reading) (section after : OpenSection) (word : List
 word_answer old new section after word (Ok done) earlier there same same_draft same_first is step h =
     let held : OpenHolds (Some section) earlier = rw there at h.part in
     let f = section.field in
-    let kind : is_section_field f ≡ true = ap is_some held.1.0 in
+    let kind : is_section_field f ≡ true = section_of (spatial_after earlier) f (shape_by section.part) held.1.0 in
     let next = step (nodes_of earlier) (words_of f earlier) held.1.1 in
     record {
       clean = clean_more earlier (NumberWord word) h.clean (word_rows earlier word f held.0
-          ∙ ap (λ p. word_fault (nodes_of earlier) p word) (place_is f (shape_by section.part) (nodes_of earlier) (words_of f earlier) held.1.0) ∙ next.0);
+          ∙ ap (λ p. word_fault (nodes_of earlier) p word) (place_is (spatial_after earlier) f (shape_by section.part) (nodes_of earlier) (words_of f earlier) held.1.0) ∙ next.0);
       stand = rw same_draft h.stand;
       spelled = rw same_draft (h.spelled ∙ sym (word_fields earlier word f kind held.0));
       incomplete = same_first ∙ h.incomplete ∙ sym (word_first earlier word f kind held.0);
@@ -93,7 +94,7 @@ word_answer old new section after word (Err steps.Memory) earlier there same sam
 word_answer old new section after word (Err (steps.Fault fault)) earlier there same same_draft same_first is step h =
     let held : OpenHolds (Some section) earlier = rw there at h.part in
     word_rows earlier word section.field held.0
-    ∙ ap (λ p. word_fault (nodes_of earlier) p word) (place_is section.field (shape_by section.part) (nodes_of earlier) (words_of section.field earlier) held.1.0)
+    ∙ ap (λ p. word_fault (nodes_of earlier) p word) (place_is (spatial_after earlier) section.field (shape_by section.part) (nodes_of earlier) (words_of section.field earlier) held.1.0)
     ∙ step (nodes_of earlier) (words_of section.field earlier) held.1.1
 
 -- nothing changes where a word isn't taken
@@ -111,7 +112,7 @@ kept_answer old new section after earlier there same same_draft same_first is st
       part = rw is (
         held.0 ∙ ap (λ f. Some f) (sym same),
         (
-          ap shape_of same ∙ held.1.0 ∙ ap (λ s. Some s) (sym kept.0),
+          ap (shape_of (spatial_after earlier)) same ∙ held.1.0 ∙ ap (λ s. Some s) (sym kept.0),
           subst (λ f. HoldsPart after.part (nodes_of earlier) (words_of f earlier)) (sym same) kept.1,
         ),
       );

@@ -17,7 +17,7 @@ ghost use Rattle.tsp_read.specs.states.Holds.{Holds};
 use crate::cut::without_start;
 use crate::intake::Intake;
 use crate::state::reading::Reading;
-use tsp_items::Part;
+use tsp_items::Run;
 use tsp_number::{Decimal, front_decimal, front_whole};
 use tsp_value::is_blank;
 
@@ -79,9 +79,9 @@ pub(crate) fn front_coordinate(text: &[u8]) -> Option<(Decimal, &[u8])>
 impl Reading {
     /// Whether the next word is a coordinate.
     #[inline(always)]
-    fn wants_coordinate(&self) -> bool {
+    fn wants_coordinate(&self, run: Run) -> bool {
         match &self.opened {
-            Some(section) => section.part.wants_coordinate(),
+            Some(section) => section.part.wants_coordinate(run),
             None => false,
         }
     }
@@ -89,7 +89,7 @@ impl Reading {
     /// Takes the coordinate of a word that was read, where a group of the open section has begun.
     /// The answer is whether it was taken.
     #[inline(always)]
-    fn push_coordinate(&mut self, coordinate: Decimal) -> bool
+    fn push_coordinate(&mut self, run: Run, coordinate: Decimal) -> bool
         ensures taken { result ≡ true → (earlier : List Item) (word : List ℕ)
             → decimal_of word ≡ Ok coordinate → Holds self.old earlier
             → Holds self.new (NumberWord word ∷ earlier) }
@@ -97,7 +97,7 @@ impl Reading {
             → Holds self.new earlier }
     {
         match &mut self.opened {
-            Some(section) => section.part.push_coordinate(coordinate),
+            Some(section) => section.part.push_coordinate(run, coordinate),
             None => false,
         }
     }
@@ -105,7 +105,7 @@ impl Reading {
     /// Takes the whole number of a word that was read, where the open section is of weights, tours
     /// or points and has room for it. The answer is whether it was taken.
     #[inline(always)]
-    fn push_read(&mut self, number: i64) -> bool
+    fn push_read(&mut self, run: Run, number: i64) -> bool
         ensures taken { result ≡ true → (earlier : List Item) (word : List ℕ)
             → IsWhole word number → Holds self.old earlier
             → Holds self.new (NumberWord word ∷ earlier) }
@@ -113,7 +113,7 @@ impl Reading {
             → Holds self.new earlier }
     {
         match &mut self.opened {
-            Some(section) => section.part.push_read(number),
+            Some(section) => section.part.push_read(run, number),
             None => false,
         }
     }
@@ -122,7 +122,7 @@ impl Reading {
 impl Intake {
     /// Takes the number at the front of a text, where one can be taken, and gives what follows it.
     #[inline(always)]
-    fn take_number<'a>(&mut self, text: &'a [u8]) -> Option<&'a [u8]>
+    fn take_number<'a>(&mut self, run: Run, text: &'a [u8]) -> Option<&'a [u8]>
         requires { self.old.words + length text.now ≤ most_file_bytes }
         ensures read { MatchOption result
             ((bytes : List ℕ) → IsReadTo self.old bytes text.now → IsReadTo self.new bytes text.now)
@@ -135,7 +135,7 @@ impl Intake {
         let Some((number, rest)) = front_number(text) else {
             return None;
         };
-        if !self.reading.push_read(number) {
+        if !self.reading.push_read(run, number) {
             return None;
         }
         self.words += 1;
@@ -145,7 +145,7 @@ impl Intake {
 
     /// Takes the coordinate at the front of a text, where one can be taken, and gives what follows it.
     #[inline(always)]
-    fn take_coordinate<'a>(&mut self, text: &'a [u8]) -> Option<&'a [u8]>
+    fn take_coordinate<'a>(&mut self, run: Run, text: &'a [u8]) -> Option<&'a [u8]>
         requires { self.old.words + length text.now ≤ most_file_bytes }
         ensures read { MatchOption result
             ((bytes : List ℕ) → IsReadTo self.old bytes text.now → IsReadTo self.new bytes text.now)
@@ -158,7 +158,7 @@ impl Intake {
         let Some(found) = front_coordinate(text) else {
             return None;
         };
-        if !self.reading.push_coordinate(found.0) {
+        if !self.reading.push_coordinate(run, found.0) {
             return None;
         }
         self.words += 1;
@@ -192,7 +192,7 @@ impl Intake {
     /// Takes the line's end or the number at the front of a text, where one can be taken, and gives
     /// what follows it.
     #[inline(always)]
-    fn take_front<'a>(&mut self, text: &'a [u8]) -> Option<&'a [u8]>
+    fn take_front<'a>(&mut self, run: Run, text: &'a [u8]) -> Option<&'a [u8]>
         requires line { self.old.line + length text.now ≤ most_file_bytes + 1 }
         requires words { self.old.words + length text.now ≤ most_file_bytes }
         ensures read { MatchOption result
@@ -206,14 +206,14 @@ impl Intake {
     {
         match self.take_line_end(text) {
             Some(rest) => Some(rest),
-            None => self.take_number(text),
+            None => self.take_number(run, text),
         }
     }
 
     /// Takes the line's end, the node or the coordinate at the front of a text, where one can be
     /// taken, and gives what follows it.
     #[inline(always)]
-    fn take_point_front<'a>(&mut self, text: &'a [u8]) -> Option<&'a [u8]>
+    fn take_point_front<'a>(&mut self, run: Run, text: &'a [u8]) -> Option<&'a [u8]>
         requires line { self.old.line + length text.now ≤ most_file_bytes + 1 }
         requires words { self.old.words + length text.now ≤ most_file_bytes }
         ensures read { MatchOption result
@@ -225,15 +225,16 @@ impl Intake {
             (λ rest. self.new.words + length rest.now ≤ self.old.words + length text.now) }
         ensures shorter { IfSome result (λ rest. length rest.now < length text.now) }
     {
-        if self.reading.wants_coordinate() {
-            return self.take_coordinate(text);
+        if self.reading.wants_coordinate(run) {
+            return self.take_coordinate(run, text);
         }
-        self.take_front(text)
+        self.take_front(run, text)
     }
 
     /// Takes the numbers and line ends at the front of a text, as many as can be taken, and gives
     /// what is left of it.
-    fn take_numbers<'a>(&mut self, text: &'a [u8]) -> &'a [u8]
+    #[inline(always)]
+    fn take_numbers<'a>(&mut self, run: Run, text: &'a [u8]) -> &'a [u8]
         requires line { self.old.line + length text.now ≤ most_file_bytes + 1 }
         requires words { self.old.words + length text.now ≤ most_file_bytes }
         ensures read { (bytes : List ℕ) → IsReadTo self.old bytes text.now
@@ -243,7 +244,7 @@ impl Intake {
         ensures shorter { length result.now ≤ length text.now }
     {
         let mut rest = text;
-        'run: while let Some(after) = self.take_front(rest) {
+        'run: while let Some(after) = self.take_front(run, rest) {
             rest = after;
         }
         rest
@@ -251,7 +252,8 @@ impl Intake {
 
     /// Takes the nodes, coordinates and line ends at the front of a text, as many as can be taken,
     /// and gives what is left of it.
-    fn take_points<'a>(&mut self, text: &'a [u8]) -> &'a [u8]
+    #[inline(always)]
+    fn take_points<'a>(&mut self, run: Run, text: &'a [u8]) -> &'a [u8]
         requires line { self.old.line + length text.now ≤ most_file_bytes + 1 }
         requires words { self.old.words + length text.now ≤ most_file_bytes }
         ensures read { (bytes : List ℕ) → IsReadTo self.old bytes text.now
@@ -261,7 +263,7 @@ impl Intake {
         ensures shorter { length result.now ≤ length text.now }
     {
         let mut rest = text;
-        'run: while let Some(after) = self.take_point_front(rest) {
+        'run: while let Some(after) = self.take_point_front(run, rest) {
             rest = after;
         }
         rest
@@ -281,10 +283,12 @@ impl Intake {
         let Some(section) = &self.reading.opened else {
             return text;
         };
-        match section.part {
-            Part::Weights(_) | Part::Tours(_) => self.take_numbers(text),
-            Part::Points(_) => self.take_points(text),
-            _ => text,
+        match section.part.run() {
+            Some(Run::Weights) => self.take_numbers(Run::Weights, text),
+            Some(Run::Tours) => self.take_numbers(Run::Tours, text),
+            Some(Run::Points) => self.take_points(Run::Points, text),
+            Some(Run::SpacePoints) => self.take_points(Run::SpacePoints, text),
+            None => text,
         }
     }
 }

@@ -1,5 +1,5 @@
 -- The number lines of sections as they are written, and their words.
-use Rattle.std.proofs.Common.{◌≡◌, ℕ, ◌+◌, ◌^◌, ◌<◌, ◌≤◌, true, List, [], ◌∷◌, ◌++◌, length, map, refl, arith, Bool}
+use Rattle.std.proofs.Common.{◌≡◌, ℕ, ◌+◌, ◌^◌, ◌<◌, ◌≤◌, true, List, [], ◌∷◌, ◌++◌, length, map, refl, arith, Bool, false}
 use Rattle.std.specs.Prelude.{ℤ, pos, nat_le, codes, ◌&&◌}
 use Rattle.std.specs.List.{list_all, flat_map, enumerate_from}
 use Rattle.std.specs.Ordering.{int_eq}
@@ -14,6 +14,7 @@ use Rattle.tsp_round.proofs.Text.{is_plain_word, WritesWords, no_words_written, 
 use Rattle.tsp_round.proofs.Numbers.{decimal_plain, signed_plain, spelling_plain, size_in, size_from}
 use Rattle.tsp_round.proofs.Groups.{AreSmall, number_entry}
 use Rattle.tsp_round.proofs.Points.{point_entry}
+use Rattle.tsp_round.proofs.SpacePoints.{space_point_entry}
 use Rattle.tsp_round.proofs.Lists.{pair_words, are_pair}
 use Rattle.tsp_round.proofs.Triples.{triple_words, are_triple}
 use Rattle.tsp_round.proofs.Tours.{tour_words}
@@ -39,11 +40,11 @@ coordinate_plain z inside =
     let small = size_in most_coordinate z inside in
     spelling_plain z (omega (arith, small))
 
-pub points_written : (n : ℕ) → n < 2 ^ 32 → (i : ℕ) (xs : List Point) → i + length xs ≤ n → list_all is_point xs ≡ true
+pub points_written : (n : ℕ) → n < 2 ^ 32 → (i : ℕ) (xs : List Point) → i + length xs ≤ n → list_all (is_point false) xs ≡ true
     → WritesWords (flat_map (λ (entry : ℕ × Point). number_line (decimal entry.0) (spelling entry.1.x ∷ spelling entry.1.y ∷ [])) (enumerate_from (i + 1) xs)) (flat_map point_entry (enumerate_from (i + 1) xs))
 points_written n few i [] room all = no_words_written
 points_written n few i (p ∷ xs) room all =
-    let both = and_parts (is_point p) (list_all is_point xs) all in
+    let both = and_parts (is_point false p) (list_all (is_point false) xs) all in
     let flat = and_parts (is_within most_coordinate p.x && is_within most_coordinate p.y) (int_eq p.z (pos 0)) both.0 in
     let inside = and_parts (is_within most_coordinate p.x) (is_within most_coordinate p.y) flat.0 in
     both_words (number_line (decimal (i + 1)) (spelling p.x ∷ spelling p.y ∷ [])) (flat_map (λ (entry : ℕ × Point). number_line (decimal entry.0) (spelling entry.1.x ∷ spelling entry.1.y ∷ [])) (enumerate_from (i + 1 + 1) xs))
@@ -51,6 +52,24 @@ points_written n few i (p ∷ xs) room all =
     (number_line_written (decimal (i + 1)) (spelling p.x ∷ spelling p.y ∷ []) (decimal_plain (i + 1) (omega arith))
     (and_from (is_plain_word (spelling p.x)) (list_all is_plain_word (spelling p.y ∷ [])) (coordinate_plain p.x inside.0) (one_plain (spelling p.y) (coordinate_plain p.y inside.1))))
     (points_written n few (i + 1) xs (omega arith) both.1)
+
+pub space_points_written : (n : ℕ) → n < 2 ^ 32 → (i : ℕ) (xs : List Point) → i + length xs ≤ n → list_all (is_point true) xs ≡ true
+    → WritesWords (flat_map (λ (entry : ℕ × Point). number_line (decimal entry.0) (spelling entry.1.x ∷ spelling entry.1.y ∷ spelling entry.1.z ∷ []))
+    (enumerate_from (i + 1) xs)) (flat_map space_point_entry (enumerate_from (i + 1) xs))
+space_points_written n few i [] room all = no_words_written
+space_points_written n few i (p ∷ xs) room all =
+    let both = and_parts (is_point true p) (list_all (is_point true) xs) all in
+    let flat = and_parts (is_within most_coordinate p.x && is_within most_coordinate p.y) (is_within most_coordinate p.z) both.0 in
+    let inside = and_parts (is_within most_coordinate p.x) (is_within most_coordinate p.y) flat.0 in
+    let words = spelling p.x ∷ spelling p.y ∷ spelling p.z ∷ [] in
+    both_words (number_line (decimal (i + 1)) words)
+    (flat_map (λ (entry : ℕ × Point). number_line (decimal entry.0) (spelling entry.1.x ∷ spelling entry.1.y ∷ spelling entry.1.z ∷ [])) (enumerate_from (i + 1 + 1) xs))
+    (space_point_entry (i + 1, p)) (flat_map space_point_entry (enumerate_from (i + 1 + 1) xs))
+    (number_line_written (decimal (i + 1)) words (decimal_plain (i + 1) (omega arith))
+    (and_from (is_plain_word (spelling p.x)) (list_all is_plain_word (spelling p.y ∷ spelling p.z ∷ [])) (coordinate_plain p.x inside.0)
+    (and_from (is_plain_word (spelling p.y)) (list_all is_plain_word (spelling p.z ∷ [])) (coordinate_plain p.y inside.1)
+    (one_plain (spelling p.z) (coordinate_plain p.z flat.1)))))
+    (space_points_written n few (i + 1) xs (omega arith) both.1)
 
 -- ---- lists that -1 ends
 

@@ -1,9 +1,9 @@
 -- The text of each field of a valid file, read after the texts of the fields before it.
-use Rattle.std.proofs.Common.{◌≡◌, true, List, refl}
+use Rattle.std.proofs.Common.{◌≡◌, true, cond, List, refl}
 use Rattle.tsp_value.specs.declared.field.Field.{Field}
 use Rattle.tsp_value.specs.declared.field.Field.TheVariants.{NameKey, TypeKey, CommentKey, OtherKey, DimensionKey, CapacityKey, ScaleKey, EdgeWeightTypeKey, EdgeWeightFormatKey, NodeCoordTypeKey, DisplayDataTypeKey, NodeCoordPart, DisplayDataPart, DemandPart, DepotPart, FixedEdgesPart, EdgeWeightPart, TourPart, NodePotentialPart, RowPotentialPart, ColumnPotentialPart, FixedPotentialPart}
-use Rattle.tsp_value.specs.declared.field.Shape.TheVariants.{Points, Depots, Pairs, Weights, Tours, Triples}
-use Rattle.tsp_fields.specs.Fields.{Fields}
+use Rattle.tsp_value.specs.declared.field.Shape.TheVariants.{Points, SpacePoints, Depots, Pairs, Weights, Tours, Triples}
+use Rattle.tsp_fields.specs.Fields.{Fields, spatial}
 use Rattle.tsp_fields.specs.Validity.{fits}
 use Rattle.tsp_write.specs.Text.{text_of_field}
 use Rattle.tsp_items.specs.Items.{Item}
@@ -24,7 +24,7 @@ field_step laws f valid EdgeWeightTypeKey earlier ready = weight_kind_step f ear
 field_step laws f valid EdgeWeightFormatKey earlier ready = weight_format_step f earlier ready
 field_step laws f valid NodeCoordTypeKey earlier ready = coord_kind_step f earlier ready
 field_step laws f valid DisplayDataTypeKey earlier ready = display_kind_step f earlier ready
-field_step laws f valid NodeCoordPart earlier ready = section_step laws f valid NodeCoordPart Points refl earlier ready
+field_step laws f valid NodeCoordPart earlier ready = section_step laws f valid NodeCoordPart (cond (spatial f) SpacePoints Points) refl earlier ready
 field_step laws f valid DisplayDataPart earlier ready = section_step laws f valid DisplayDataPart Points refl earlier ready
 field_step laws f valid DemandPart earlier ready = section_step laws f valid DemandPart _ refl earlier ready
 field_step laws f valid DepotPart earlier ready = section_step laws f valid DepotPart Depots refl earlier ready

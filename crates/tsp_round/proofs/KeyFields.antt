@@ -1,6 +1,7 @@
 -- The texts of the keywords: each field's own condition says that no row applies to its lines.
+use Rattle.tsp_round.proofs.Onto.{has_value}
 use Rattle.std.proofs.Common.{◌≡◌, ℕ, ◌-◌, ◌^◌, ◌<◌, ◌≤◌, Bool, true, false, cond, List, [], ◌∷◌, ◌++◌, length, refl, sym, ap, ◌∙◌, arith, Option, Some, None, Result}
-use Rattle.std.specs.Prelude.{ℤ, pos, nat_le, nat_lt, slice_index, unsigned_abs}
+use Rattle.std.specs.Prelude.{ℤ, pos, nat_le, nat_lt, slice_index, unsigned_abs, is_some}
 use Rattle.std.specs.Option.{option_map}
 use Rattle.std.specs.Result.{result_err}
 use Rattle.std.specs.List.{list_all}
@@ -9,7 +10,7 @@ use Rattle.std.proofs.lemmas.Bool.{false≢true, true≢false, and_parts, leb-tr
 use Rattle.tsp_number.specs.declared.fault.NumberFault.{NumberFault}
 use Rattle.tsp_number.specs.Reading.{whole_of}
 use Rattle.tsp_value.specs.declared.field.Field.{Field}
-use Rattle.tsp_value.specs.declared.field.Field.TheVariants.{NameKey, TypeKey, CommentKey, OtherKey, DimensionKey, CapacityKey, ScaleKey, EdgeWeightTypeKey, EdgeWeightFormatKey, NodeCoordTypeKey, DisplayDataTypeKey}
+use Rattle.tsp_value.specs.declared.field.Field.TheVariants.{NameKey, TypeKey, CommentKey, OtherKey, DimensionKey, CapacityKey, ScaleKey, EdgeWeightTypeKey, EdgeWeightFormatKey, NodeCoordTypeKey, DisplayDataTypeKey, NodeCoordPart}
 use Rattle.tsp_value.specs.declared.keyword.Keyword.TheVariants.{Known}
 use Rattle.tsp_value.specs.Bytes.{is_blank}
 use Rattle.tsp_value.specs.Words.{field_word, kind_word, weight_kind_word, weight_format_word, coord_kind_word, display_kind_word}
@@ -117,7 +118,11 @@ pub weight_kind_step : (f : Fields) (earlier : List Item) → Ready f EdgeWeight
 weight_kind_step f earlier ready =
     line_step f EdgeWeightTypeKey weight_kind_word f.weight_kind earlier refl refl
     (record { known = refl; keyword = record { letter_first = refl; bytes = refl }; once = refl; no_words = refl; no_comment = refl; no_other = refl })
-    (λ x. true) (any f.weight_kind) (λ x e. (weight_kind_whole x, weight_kind_row earlier x (no_line_yet f EdgeWeightTypeKey earlier ready refl))) ready
+    (λ x. true) (any f.weight_kind) (λ x e. (
+      weight_kind_whole x,
+      weight_kind_row earlier x (no_line_yet f EdgeWeightTypeKey earlier ready refl)
+          (has_value NodeCoordPart earlier ∙ ap (λ (v : Option (List ℕ)). is_some v) (ready.no_points refl)),
+    )) ready
 
 pub weight_format_step : (f : Fields) (earlier : List Item) → Ready f EdgeWeightFormatKey earlier → Step f (text_of_field f) EdgeWeightFormatKey earlier
 weight_format_step f earlier ready =
@@ -129,7 +134,11 @@ pub coord_kind_step : (f : Fields) (earlier : List Item) → Ready f NodeCoordTy
 coord_kind_step f earlier ready =
     line_step f NodeCoordTypeKey coord_kind_word f.coord_kind earlier refl refl
     (record { known = refl; keyword = record { letter_first = refl; bytes = refl }; once = refl; no_words = refl; no_comment = refl; no_other = refl })
-    (λ x. true) (any f.coord_kind) (λ x e. (coord_kind_whole x, coord_kind_row earlier x (no_line_yet f NodeCoordTypeKey earlier ready refl))) ready
+    (λ x. true) (any f.coord_kind) (λ x e. (
+      coord_kind_whole x,
+      coord_kind_row earlier x (no_line_yet f NodeCoordTypeKey earlier ready refl)
+          (has_value NodeCoordPart earlier ∙ ap (λ (v : Option (List ℕ)). is_some v) (ready.no_points refl)),
+    )) ready
 
 pub display_kind_step : (f : Fields) (earlier : List Item) → Ready f DisplayDataTypeKey earlier → Step f (text_of_field f) DisplayDataTypeKey earlier
 display_kind_step f earlier ready =

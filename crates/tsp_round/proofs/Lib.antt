@@ -6,6 +6,8 @@ pub mod Lists
 pub mod Triples
 pub mod Groups
 pub mod Points
+pub mod SpacePoints
+pub mod Space
 pub mod Tours
 pub mod Words
 pub mod Keys

@@ -6,6 +6,7 @@ use Rattle.std.proofs.lemmas.List.{reverse-append}
 use Rattle.tsp_value.specs.declared.field.Field.{Field}
 use Rattle.tsp_items.specs.Items.{Item, Line, NumberWord, LineEnd, has_end_line, to_end_line, is_end_line}
 use Rattle.tsp_items.specs.Earlier.{is_key, has_line, value_at, values_at, others_in, open_section, is_open, words_of}
+use Rattle.tsp_items.specs.Values.{spatial_after}
 use Rattle.tsp_items.specs.Sections.{place_in, nodes_of}
 use Rattle.tsp_items.specs.Places.{Place}
 use Rattle.tsp_items.specs.Rows.{row_of, word_fault}
@@ -100,18 +101,18 @@ taken-append n place before (x ∷ xs) ys first second =
     (first.0, taken-append n place (before ++ x ∷ []) xs ys first.1 (subst (λ (ws : List (List ℕ)). AllTaken n place ws ys) (sym (append_assoc before (x ∷ []) xs)) second))
 
 word_row : (earlier : List Item) (word : List ℕ) (f : Field) → open_section earlier ≡ Some f
-    → row_of earlier (NumberWord word) ≡ word_fault (nodes_of earlier) (place_in f (nodes_of earlier) (words_of f earlier)) word
+    → row_of earlier (NumberWord word) ≡ word_fault (nodes_of earlier) (place_in (spatial_after earlier) f (nodes_of earlier) (words_of f earlier)) word
 word_row earlier word f opened = rw opened refl
 
 pub words_clean : (field : Field) (n : ℕ) (items earlier : List Item) → are_numbers items ≡ true → IsClean earlier → open_section earlier ≡ Some field → nodes_of earlier ≡ n
-    → AllTaken n (place_in field n) (words_of field earlier) (number_words items) → IsClean (onto items earlier)
+    → AllTaken n (place_in (spatial_after earlier) field n) (words_of field earlier) (number_words items) → IsClean (onto items earlier)
 words_clean field n [] earlier numbers clean opened nodes taken = clean
 words_clean field n (Line key line ∷ items) earlier numbers clean opened nodes taken = absurd (false≢true numbers)
 words_clean field n (NumberWord word ∷ items) earlier numbers clean opened nodes taken =
     let row : row_of earlier (NumberWord word) ≡ None =
-    word_row earlier word field opened ∙ ap (λ m. word_fault m (place_in field m (words_of field earlier)) word) nodes ∙ taken.0 in
+    word_row earlier word field opened ∙ ap (λ m. word_fault m (place_in (spatial_after earlier) field m (words_of field earlier)) word) nodes ∙ taken.0 in
     words_clean field n items (NumberWord word ∷ earlier) numbers (clean_more earlier (NumberWord word) clean row) opened nodes
-    (subst (λ (ws : List (List ℕ)). AllTaken n (place_in field n) ws (number_words items)) (sym (word_added earlier word field opened)) taken.1)
+    (subst (λ (ws : List (List ℕ)). AllTaken n (place_in (spatial_after earlier) field n) ws (number_words items)) (sym (word_added earlier word field opened)) taken.1)
 words_clean field n (LineEnd ∷ items) earlier numbers clean opened nodes taken =
     words_clean field n items (LineEnd ∷ earlier) numbers (clean_more earlier LineEnd clean refl) opened nodes taken
 

@@ -33,7 +33,7 @@ use Rattle.tsp_round.proofs.Lists.{no_rows}
 abbrev pub point_entry : ℕ × Point → List (List ℕ)
 point_entry entry = decimal entry.0 ∷ spelling entry.1.x ∷ spelling entry.1.y ∷ []
 
-coordinate_back : NumberLaws → (z : ℤ) → is_within most_coordinate z ≡ true → decimal_of (spelling z) ≡ Ok z
+pub coordinate_back : NumberLaws → (z : ℤ) → is_within most_coordinate z ≡ true → decimal_of (spelling z) ≡ Ok z
 coordinate_back laws z inside = laws.decimal_back z (size_in most_coordinate z inside)
 
 nodes_are : (n : ℕ) (words : List (List ℕ)) → length words ≤ 3 * n → nodes_in (point_groups n words) ≡ map (λ group. number (node n group.0)) (triples_in words)
@@ -51,11 +51,11 @@ coordinate_taken laws n words first begun z room whole inside =
     ∙ no_rows (result_err (decimal_of (spelling z))) false false false false (ap (λ (r : Result ℤ NumberFault). result_err r) (coordinate_back laws z inside)) refl refl refl refl
 
 pub points_taken : NumberLaws → (n : ℕ) → n < 2 ^ 32 → (earlier : List (List ℕ)) (i : ℕ) (xs : List Point) → begun_triple earlier ≡ []
-    → map (λ group. number (node n group.0)) (triples_in earlier) ≡ map pos (range_with_len 1 i) → length earlier ≡ 3 * i → i + length xs ≤ n → list_all is_point xs ≡ true
+    → map (λ group. number (node n group.0)) (triples_in earlier) ≡ map pos (range_with_len 1 i) → length earlier ≡ 3 * i → i + length xs ≤ n → list_all (is_point false) xs ≡ true
     → AllTaken n (place_of_point n) earlier (flat_map point_entry (enumerate_from (i + 1) xs))
 points_taken laws n few earlier i [] whole nodes count room all = tt
 points_taken laws n few earlier i (p ∷ xs) whole nodes count room all =
-    let both = and_parts (is_point p) (list_all is_point xs) all in
+    let both = and_parts (is_point false p) (list_all (is_point false) xs) all in
     let flat = and_parts (is_within most_coordinate p.x && is_within most_coordinate p.y) (int_eq p.z (pos 0)) both.0 in
     let inside = and_parts (is_within most_coordinate p.x) (is_within most_coordinate p.y) flat.0 in
     let a = decimal (i + 1) in
@@ -99,11 +99,11 @@ same_point p x y e f g =
     let made : ℤ → ℤ → ℤ → Point = λ a b c. record { x = a; y = b; z = c } in
     ap (λ a. made a y (pos 0)) e ∙ ap (λ b. made p.x b (pos 0)) f ∙ ap (made p.x p.y) (sym g)
 
-groups_back : NumberLaws → (n : ℕ) → n < 2 ^ 32 → (i : ℕ) (xs : List Point) → i + length xs ≤ n → list_all is_point xs ≡ true
+groups_back : NumberLaws → (n : ℕ) → n < 2 ^ 32 → (i : ℕ) (xs : List Point) → i + length xs ≤ n → list_all (is_point false) xs ≡ true
     → map (λ group. (number (node n group.0), point_of group.1 group.2)) (triples_in (flat_map point_entry (enumerate_from (i + 1) xs))) ≡ map tagged (enumerate_from (i + 1) xs)
 groups_back laws n few i [] room all = refl
 groups_back laws n few i (p ∷ xs) room all =
-    let both = and_parts (is_point p) (list_all is_point xs) all in
+    let both = and_parts (is_point false p) (list_all (is_point false) xs) all in
     let flat = and_parts (is_within most_coordinate p.x && is_within most_coordinate p.y) (int_eq p.z (pos 0)) both.0 in
     let inside = and_parts (is_within most_coordinate p.x) (is_within most_coordinate p.y) flat.0 in
     let rest : List (ℤ × Point) = map (λ (group : List ℕ × List ℕ × List ℕ). (number (node n group.0), point_of group.1 group.2)) (triples_in (flat_map point_entry (enumerate_from (i + 1 + 1) xs))) in
@@ -111,7 +111,7 @@ groups_back laws n few i (p ∷ xs) room all =
     ∙ ap (λ (q : Point). (pos (i + 1), q) ∷ rest) (same_point p (number (decimal_of (spelling p.x))) (number (decimal_of (spelling p.y))) (ap number (coordinate_back laws p.x inside.0)) (ap number (coordinate_back laws p.y inside.1)) ((Decides-int_eq p.z (pos 0)).0 flat.1))
     ∙ ap (λ (gs : List (ℤ × Point)). (pos (i + 1), p) ∷ gs) (groups_back laws n few (i + 1) xs (omega arith) both.1)
 
-pub points_back : NumberLaws → (n : ℕ) → n < 2 ^ 32 → (xs : List Point) → length xs ≡ n → list_all is_point xs ≡ true → points_by_node n (flat_map point_entry (enumerate_from 1 xs)) ≡ xs
+pub points_back : NumberLaws → (n : ℕ) → n < 2 ^ 32 → (xs : List Point) → length xs ≡ n → list_all (is_point false) xs ≡ true → points_by_node n (flat_map point_entry (enumerate_from 1 xs)) ≡ xs
 points_back laws n few xs count all =
     let words = flat_map point_entry (enumerate_from 1 xs) in
     by_node_back origin n xs (point_groups n words) count

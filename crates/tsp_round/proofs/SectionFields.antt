@@ -5,31 +5,33 @@ use Rattle.std.specs.Option.{option_map, option_map_or}
 use Rattle.std.specs.Fmt.{decimal}
 use Rattle.std.proofs.lemmas.Bool.{false≢true}
 use Rattle.tsp_value.specs.declared.field.Field.{Field}
-use Rattle.tsp_value.specs.declared.field.Field.TheVariants.{CommentKey, OtherKey, DimensionKey}
+use Rattle.tsp_value.specs.declared.field.Field.TheVariants.{CommentKey, OtherKey, DimensionKey, NodeCoordPart}
 use Rattle.tsp_value.specs.declared.field.Shape.{Shape}
-use Rattle.tsp_value.specs.declared.field.Shape.TheVariants.{Numbers, Points, Depots, Pairs, Weights, Tours, Triples}
+use Rattle.tsp_value.specs.declared.field.Shape.TheVariants.{Numbers, Points, SpacePoints, Depots, Pairs, Weights, Tours, Triples}
 use Rattle.tsp_value.specs.declared.keyword.Keyword.TheVariants.{Known}
 use Rattle.tsp_value.specs.Limits.{most_nodes, most_matrix_nodes, most_line_bytes}
 use Rattle.tsp_value.specs.Shapes.{shape_of, is_section_field}
 use Rattle.tsp_value.specs.Words.{field_word}
-use Rattle.tsp_fields.specs.Fields.{Fields}
+use Rattle.tsp_fields.specs.Fields.{Fields, spatial}
 use Rattle.tsp_fields.specs.Validity.{if_there, with_dimension, section_fits, fits}
 use Rattle.tsp_write.specs.Text.{line_lens, text_of_section, text_of_field}
 use Rattle.tsp_items.specs.Items.{WordLine, Item, Line, LineEnd, items_in, items_of}
 use Rattle.tsp_items.specs.Earlier.{same_field, is_open, has_line, value_at, values_at, others_in, open_section, words_of}
+use Rattle.tsp_items.specs.Values.{spatial_after}
 use Rattle.tsp_items.specs.Sections.{place_by, place_in, nodes_of}
 use Rattle.tsp_items.specs.Places.{PastEnd}
 use Rattle.tsp_items.specs.Rows.{may_repeat, row_of}
 use Rattle.tsp_items.specs.FirstFault.{IsClean}
 use Rattle.tsp_items.specs.states.CutLine.{needs_nodes, is_matrix, opening_rows}
 use Rattle.tsp_read.proofs.Clean.{clean_more}
-use Rattle.tsp_read.proofs.SectionCases.{by_section, opening}
+use Rattle.tsp_read.proofs.SectionCases.{by_section, section_of, opening, keywords_stay}
 use Rattle.tsp_read.proofs.ValidSections.{same_field_is}
 use Rattle.tsp_read.specs.Cuts.{is_one_line}
 use Rattle.tsp_round.proofs.Text.{Writes, line_written, both_written, number_words, are_numbers}
 use Rattle.tsp_round.proofs.Numbers.{NumberLaws}
 use Rattle.tsp_round.proofs.Onto.{onto, value_kept, values_kept, others_kept, no_end_line, other_words, section_words, AllTaken, words_clean}
 use Rattle.tsp_round.proofs.Shapes.{Entries, entries_in, are_valid, lines_for, words_for, text_for, text_by, fit_for, fits_by, is_writable, body}
+use Rattle.tsp_round.proofs.Space.{space_written}
 use Rattle.tsp_round.proofs.Sections.{has_nodes, no_line_yet}
 use Rattle.tsp_round.proofs.Stages.{empty_line, value_of, if_written, words_written, Ready, Step}
 use Rattle.tsp_round.proofs.Steps.{missing, section_line}
@@ -38,10 +40,10 @@ use Rattle.tsp_round.proofs.Steps.{missing, section_line}
 
 -- its text, its condition, the value of its line, whether its numbers can be written, and the bytes and the item of its line
 abbrev ByShape : Fields → Field → Type 0
-ByShape f g = (text_of_field f g ≡ option_map_or (text_of_section f g) (shape_of g) [])
-    × (fits f g ≡ option_map_or (section_fits f g) (shape_of g) true)
-    × (value_of f g ≡ option_map_or (λ shape. empty_line (is_some (entries_in f g shape))) (shape_of g) None)
-    × (option_map_or is_writable (shape_of g) true ≡ true)
+ByShape f g = (text_of_field f g ≡ option_map_or (text_of_section f g) (shape_of (spatial f) g) [])
+    × (fits f g ≡ option_map_or (section_fits f g) (shape_of (spatial f) g) true)
+    × (value_of f g ≡ option_map_or (λ shape. empty_line (is_some (entries_in f g shape))) (shape_of (spatial f) g) None)
+    × (option_map_or is_writable (shape_of (spatial f) g) true ≡ true)
     × (is_one_line (field_word g) ≡ true) × (items_in (field_word g) ≡ Line (Known g) (section_line g) ∷ [])
 
 -- it is none of the keywords that differ from it, and its line has no value and is no long one
@@ -49,9 +51,19 @@ abbrev IsPlain : Field → Type 0
 IsPlain g = (may_repeat g ≡ false) × (same_field CommentKey g ≡ false) × (same_field OtherKey g ≡ false) × (same_field DimensionKey g ≡ false)
     × ((section_line g).value ≡ []) × (nat_lt most_line_bytes (section_line g).size ≡ false)
 
+-- points of nodes in space as in the plane
+entries_there : (f : Fields) (in_space : Bool)
+    → empty_line (is_some f.coords) ≡ empty_line (is_some (entries_in f NodeCoordPart (cond in_space SpacePoints Points)))
+entries_there f true = refl
+entries_there f false = refl
+
+points_writable : (in_space : Bool) → is_writable (cond in_space SpacePoints Points) ≡ true
+points_writable true = refl
+points_writable false = refl
+
 by_shape : (f : Fields) (field : Field) → is_section_field field ≡ true → ByShape f field
 by_shape f = by_section (ByShape f)
-    (refl, refl, refl, refl, refl, refl) (refl, refl, refl, refl, refl, refl) (refl, refl, refl, refl, refl, refl) (refl, refl, refl, refl, refl, refl)
+    (refl, refl, entries_there f (spatial f), points_writable (spatial f), refl, refl) (refl, refl, refl, refl, refl, refl) (refl, refl, refl, refl, refl, refl) (refl, refl, refl, refl, refl, refl)
     (refl, refl, refl, refl, refl, refl) (refl, refl, refl, refl, refl, refl) (refl, refl, refl, refl, refl, refl) (refl, refl, refl, refl, refl, refl)
     (refl, refl, refl, refl, refl, refl) (refl, refl, refl, refl, refl, refl) (refl, refl, refl, refl, refl, refl)
 
@@ -63,7 +75,7 @@ is_plain = by_section IsPlain
 
 -- what is known of a section with these entries, or without any
 pub record IsSection (f : Fields) (field : Field) (shape : Shape) (entries : Option (Entries shape)) : Type 0 where
-  pub shape_is : shape_of field ≡ Some shape
+  pub shape_is : shape_of (spatial f) field ≡ Some shape
   pub part : is_section_field field ≡ true
   pub text_is : text_of_field f field ≡ text_for f field shape entries
   pub fit : if_there (fit_for f shape) entries ≡ true
@@ -72,9 +84,10 @@ pub record IsSection (f : Fields) (field : Field) (shape : Shape) (entries : Opt
   pub writable : is_writable shape ≡ true
   pub once : may_repeat field ≡ false
 
-pub is_section : (f : Fields) → ((g : Field) → fits f g ≡ true) → (field : Field) (shape : Shape) → shape_of field ≡ Some shape → IsSection f field shape (entries_in f field shape)
+pub is_section : (f : Fields) → ((g : Field) → fits f g ≡ true) → (field : Field) (shape : Shape)
+    → shape_of (spatial f) field ≡ Some shape → IsSection f field shape (entries_in f field shape)
 is_section f valid field shape e =
-    let part : is_section_field field ≡ true = ap (λ (o : Option Shape). is_some o) e in
+    let part : is_section_field field ≡ true = section_of (spatial f) field shape e in
     let facts = by_shape f field part in
     record {
       shape_is = e;
@@ -109,6 +122,7 @@ pub are_right : NumberLaws → (f : Fields) (shape : Shape) (xs : Entries shape)
     → fit_for f shape xs ≡ true → AreRight shape xs items
 are_right laws f (Numbers low high) xs items written one fit = counted laws f (Numbers low high) xs items written one fit
 are_right laws f Points xs items written one fit = counted laws f Points xs items written one fit
+are_right laws f SpacePoints xs items written one fit = counted laws f SpacePoints xs items written one fit
 are_right laws f Depots xs items written one fit = counted laws f Depots xs items written one fit
 are_right laws f Pairs xs items written one fit = counted laws f Pairs xs items written one fit
 are_right laws f Weights xs items written one fit = counted laws f Weights xs items written one fit
@@ -122,14 +136,14 @@ both_false true b h = h refl
 both_false false b h = refl
 
 -- no row applies to a section's line
-section_row : (field : Field) (shape : Shape) (earlier : List Item) → shape_of field ≡ Some shape → is_section_field field ≡ true → has_line field earlier ≡ false
+section_row : (in_space : Bool) (field : Field) (shape : Shape) (earlier : List Item) → shape_of in_space field ≡ Some shape → is_section_field field ≡ true → has_line field earlier ≡ false
     → (needs_nodes shape ≡ true → has_line DimensionKey earlier ≡ true) → (is_matrix shape ≡ true → nat_lt most_matrix_nodes (nodes_of earlier) ≡ false)
     → row_of earlier (Line (Known field) (section_line field)) ≡ None
-section_row field shape earlier e part unseen known few =
+section_row in_space field shape earlier e part unseen known few =
     let plain = is_plain field part in
     let early = both_false (needs_nodes shape) (not (has_line DimensionKey earlier)) (λ needs. ap not (known needs)) in
     let many = both_false (is_matrix shape) (nat_lt most_matrix_nodes (nodes_of earlier)) few in
-    opening earlier (section_line field) plain.5 field part
+    opening in_space earlier (section_line field) plain.5 field part
     ∙ ap (λ (o : Option Shape). option_map_or (λ s. opening_rows s (has_line field earlier) (section_line field).value (has_line DimensionKey earlier) (nodes_of earlier)) o None) e
     ∙ rw (unseen, plain.4, early, many) refl
 
@@ -166,14 +180,16 @@ step_of laws f field shape (Some xs) earlier one is ready =
     let start = LineEnd ∷ Line (Known field) line ∷ earlier in
     let items = lines.written.items in
     let numbers = lines.written.numbers in
-    let row = section_row field shape earlier is.shape_is is.part (no_line_yet f field earlier ready is.once) right.known lines.few in
+    let row = section_row (spatial f) field shape earlier is.shape_is is.part (no_line_yet f field earlier ready is.once) right.known lines.few in
     let clean : IsClean start = clean_more (Line (Known field) line ∷ earlier) LineEnd (clean_more earlier (Line (Known field) line) ready.clean row) refl in
     let opened : open_section start ≡ Some field = ap (λ b. cond b (Some field) None) is.part in
-    let taken : AllTaken n (place_in field n) [] (words_for shape xs) =
+    let space : spatial_after start ≡ spatial f = (keywords_stay earlier line field is.part).2 ∙ space_written f earlier (ready.coords is.part) (ready.weights is.part) in
+    let taken : AllTaken n (place_in (spatial f) field n) [] (words_for shape xs) =
     subst (λ (o : Option Shape). AllTaken n (λ words. option_map_or (λ s. place_by s n words) o PastEnd) [] (words_for shape xs)) (sym is.shape_is) lines.taken in
-    let taken_after : AllTaken n (place_in field n) (words_of field earlier) (number_words items) =
-    subst (λ (ws : List (List ℕ)). AllTaken n (place_in field n) ws (number_words items)) (sym ready.no_words)
-    (subst (λ (ws : List (List ℕ)). AllTaken n (place_in field n) [] ws) (sym lines.written.words_are) taken) in
+    let taken_after : AllTaken n (place_in (spatial_after start) field n) (words_of field earlier) (number_words items) =
+    subst (λ (b : Bool). AllTaken n (place_in b field n) (words_of field earlier) (number_words items)) (sym space)
+    (subst (λ (ws : List (List ℕ)). AllTaken n (place_in (spatial f) field n) ws (number_words items)) (sym ready.no_words)
+    (subst (λ (ws : List (List ℕ)). AllTaken n (place_in (spatial f) field n) [] ws) (sym lines.written.words_are) taken)) in
     record {
       items = opening_items ++ items;
       written = λ rest. ap (λ (t : List ℕ). items_of (t ++ rest)) (is.text_is ∙ sym (append_assoc (field_word field) (10 ∷ []) text))
@@ -193,6 +209,7 @@ step_of laws f field shape (Some xs) earlier one is ready =
     nodes_after : (field : Field) (line : WordLine) (earlier : List Item) → same_field DimensionKey field ≡ false → nodes_of (LineEnd ∷ Line (Known field) line ∷ earlier) ≡ nodes_of earlier
     nodes_after field line earlier other = rw other refl
 
-pub section_step : NumberLaws → (f : Fields) → ((g : Field) → fits f g ≡ true) → (field : Field) (shape : Shape) → shape_of field ≡ Some shape → (earlier : List Item) → Ready f field earlier
+pub section_step : NumberLaws → (f : Fields) → ((g : Field) → fits f g ≡ true) → (field : Field) (shape : Shape)
+    → shape_of (spatial f) field ≡ Some shape → (earlier : List Item) → Ready f field earlier
     → Step f (text_of_field f) field earlier
 section_step laws f valid field shape e earlier ready = step_of laws f field shape (entries_in f field shape) earlier (valid DimensionKey) (is_section f valid field shape e) ready

@@ -8,14 +8,14 @@ use Rattle.std.proofs.lemmas.Int.{ints}
 use Rattle.tsp_number.specs.declared.decimal.Point.{Point}
 use Rattle.tsp_value.specs.declared.field.Field.{Field}
 use Rattle.tsp_value.specs.declared.field.Shape.{Shape}
-use Rattle.tsp_value.specs.declared.field.Shape.TheVariants.{Numbers, Points, Depots, Pairs, Weights, Tours, Triples}
+use Rattle.tsp_value.specs.declared.field.Shape.TheVariants.{Numbers, Points, SpacePoints, Depots, Pairs, Weights, Tours, Triples}
 use Rattle.tsp_value.specs.Limits.{most_nodes, most_matrix_nodes, most_weight, most_depots, most_fixed, most_multipliers, most_tour_nodes}
 use Rattle.tsp_fields.specs.Fields.{Fields, numbers_in, points_in}
 use Rattle.tsp_fields.specs.Validity.{if_there, is_by_node, is_point, is_within, is_from_to, is_node, is_pair, is_triple, are_depots, are_fixed, are_triples, are_weights, is_tour, are_tours, with_dimension, section_fits}
 use Rattle.tsp_write.specs.Text.{section, by_node, node_list, pair_list, triple_list, point_numbers, whole_number, line_lens, matrix_lines, optional, text_of_section}
 use Rattle.tsp_items.specs.Numbers.{is_end}
 use Rattle.tsp_items.specs.Places.{PastGroups, PastEnd, Weight, PastWeights, Coordinate, Amount, DepotAfter}
-use Rattle.tsp_items.specs.Groups.{numbers_by_node, points_by_node, begun_pair, begun_triple, number_groups, point_groups, nodes_in, place_in_group, pairs_in, triples_in}
+use Rattle.tsp_items.specs.Groups.{numbers_by_node, points_by_node, space_points_by_node, begun_pair, begun_triple, begun_four, number_groups, point_groups, space_point_groups, nodes_in, place_in_group, pairs_in, triples_in}
 use Rattle.tsp_items.specs.Lists.{depots_in, fixed_in, fixed_triples_in, place_in_pair, place_in_triple}
 use Rattle.tsp_items.specs.Weights.{weights_in}
 use Rattle.tsp_items.specs.Tours.{tours_in}
@@ -29,8 +29,9 @@ use Rattle.tsp_round.proofs.Lists.{pair_words, depots_taken, depots_back, fixed_
 use Rattle.tsp_round.proofs.Triples.{triple_words, triples_taken, triples_back, triples_ended}
 use Rattle.tsp_round.proofs.Groups.{AreSmall, number_entry, numbers_taken, numbers_back, count_of_numbers}
 use Rattle.tsp_round.proofs.Points.{point_entry, points_taken, points_back, count_of_points}
+use Rattle.tsp_round.proofs.SpacePoints.{space_point_entry, space_points_taken, space_points_back, count_of_space_points}
 use Rattle.tsp_round.proofs.Tours.{tour_words, tours_taken, tours_back}
-use Rattle.tsp_round.proofs.Bodies.{numbers_written, points_written, node_lines_written, tour_lines_written, pair_lines_written, triple_lines_written}
+use Rattle.tsp_round.proofs.Bodies.{numbers_written, points_written, space_points_written, node_lines_written, tour_lines_written, pair_lines_written, triple_lines_written}
 use Rattle.tsp_round.proofs.Matrix.{matrix_lines_written}
 
 -- ---- what a section of a shape has
@@ -38,6 +39,7 @@ use Rattle.tsp_round.proofs.Matrix.{matrix_lines_written}
 abbrev pub Entries : Shape → Type 0
 Entries (Numbers low high) = List ℤ
 Entries Points = List Point
+Entries SpacePoints = List Point
 Entries Depots = List ℕ
 Entries Pairs = List (ℕ × ℕ)
 Entries Weights = List ℤ
@@ -48,6 +50,7 @@ Entries Triples = List (ℕ × ℕ × ℤ)
 abbrev pub entries_in : Fields → Field → (shape : Shape) → Option (Entries shape)
 entries_in f field (Numbers low high) = numbers_in f field
 entries_in f field Points = points_in f field
+entries_in f field SpacePoints = points_in f field
 entries_in f field Depots = f.depots
 entries_in f field Pairs = f.fixed
 entries_in f field Weights = f.weights
@@ -57,7 +60,8 @@ entries_in f field Triples = f.fixed_potentials
 -- what they are in a file of n nodes
 abbrev pub are_valid : (shape : Shape) → ℕ → Entries shape → Bool
 are_valid (Numbers low high) n xs = is_by_node (is_from_to low high) n xs
-are_valid Points n xs = is_by_node is_point n xs
+are_valid Points n xs = is_by_node (is_point false) n xs
+are_valid SpacePoints n xs = is_by_node (is_point true) n xs
 are_valid Depots n xs = are_depots n xs
 are_valid Pairs n xs = are_fixed n xs
 are_valid Weights n xs = are_weights n xs
@@ -67,7 +71,8 @@ are_valid Triples n xs = are_triples n xs
 -- their lines; those of weights have these lengths
 abbrev pub lines_for : List ℕ → (shape : Shape) → Entries shape → List ℕ
 lines_for lens (Numbers low high) xs = by_node whole_number xs
-lines_for lens Points xs = by_node point_numbers xs
+lines_for lens Points xs = by_node (point_numbers false) xs
+lines_for lens SpacePoints xs = by_node (point_numbers true) xs
 lines_for lens Depots xs = node_list xs
 lines_for lens Pairs xs = pair_list xs
 lines_for lens Weights xs = matrix_lines lens xs
@@ -78,6 +83,7 @@ lines_for lens Triples xs = triple_list xs
 abbrev pub words_for : (shape : Shape) → Entries shape → List (List ℕ)
 words_for (Numbers low high) xs = flat_map number_entry (enumerate_from 1 xs)
 words_for Points xs = flat_map point_entry (enumerate_from 1 xs)
+words_for SpacePoints xs = flat_map space_point_entry (enumerate_from 1 xs)
 words_for Depots xs = map decimal xs ++ codes "-1" ∷ []
 words_for Pairs xs = flat_map pair_words xs ++ codes "-1" ∷ []
 words_for Weights xs = map signed_decimal xs
@@ -88,6 +94,7 @@ words_for Triples xs = flat_map triple_words xs ++ codes "-1" ∷ []
 abbrev pub read_for : (shape : Shape) → ℕ → List (List ℕ) → Entries shape
 read_for (Numbers low high) n words = numbers_by_node low high n words
 read_for Points n words = points_by_node n words
+read_for SpacePoints n words = space_points_by_node n words
 read_for Depots n words = depots_in n words
 read_for Pairs n words = fixed_in n words
 read_for Weights n words = weights_in words
@@ -101,6 +108,7 @@ text_for f field shape xs = optional (λ entries. section field (lines_for (line
 pub text_by : (f : Fields) (field : Field) (shape : Shape) → text_of_section f field shape ≡ text_for f field shape (entries_in f field shape)
 text_by f field (Numbers low high) = refl
 text_by f field Points = refl
+text_by f field SpacePoints = refl
 text_by f field Depots = refl
 text_by f field Pairs = refl
 text_by f field Weights = refl
@@ -113,6 +121,7 @@ fit_for f shape xs = cond (needs_nodes shape) (with_dimension (are_valid shape) 
 pub fits_by : (f : Fields) (field : Field) (shape : Shape) → section_fits f field shape ≡ if_there (fit_for f shape) (entries_in f field shape)
 fits_by f field (Numbers low high) = refl
 fits_by f field Points = refl
+fits_by f field SpacePoints = refl
 fits_by f field Depots = refl
 fits_by f field Pairs = refl
 fits_by f field Weights = refl
@@ -173,7 +182,7 @@ body laws lens (Numbers low high) writable n few xs fit =
       few = λ e. absurd (false≢true e);
     }
 body laws lens Points writable n few xs fit =
-    let both = and_parts (length xs == n) (list_all is_point xs) fit in
+    let both = and_parts (length xs == n) (list_all (is_point false) xs) fit in
     let count = eqb-true (length xs) n both.0 in
     let most = few_nodes n (few refl) in
     let words = flat_map point_entry (enumerate_from 1 xs) in
@@ -183,6 +192,19 @@ body laws lens Points writable n few xs fit =
       back = points_back laws n most xs count both.1;
       done = ap (λ b. wants_more (cond b PastGroups (place_in_group Coordinate (nodes_in (point_groups n words)) (begun_triple words))))
           (le-leb (3 * n) (length words) (omega (arith, count, count_of_points 1 xs)));
+      few = λ e. absurd (false≢true e);
+    }
+body laws lens SpacePoints writable n few xs fit =
+    let both = and_parts (length xs == n) (list_all (is_point true) xs) fit in
+    let count = eqb-true (length xs) n both.0 in
+    let most = few_nodes n (few refl) in
+    let words = flat_map space_point_entry (enumerate_from 1 xs) in
+    record {
+      written = space_points_written n most 0 xs (omega (arith, count)) both.1;
+      taken = space_points_taken laws n most [] 0 xs refl refl refl (omega (arith, count)) both.1;
+      back = space_points_back laws n most xs count both.1;
+      done = ap (λ b. wants_more (cond b PastGroups (place_in_group Coordinate (nodes_in (space_point_groups n words)) (begun_four words))))
+          (le-leb (4 * n) (length words) (omega (arith, count, count_of_space_points 1 xs)));
       few = λ e. absurd (false≢true e);
     }
 body laws lens Depots writable n few xs fit =

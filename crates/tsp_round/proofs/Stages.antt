@@ -7,9 +7,9 @@ use Rattle.std.specs.Fmt.{decimal, signed_decimal}
 use Rattle.std.proofs.lemmas.Option.{none-some}
 use Rattle.std.proofs.lemmas.Bool.{and_parts, or_parts, or_from, not-true, true≢false}
 use Rattle.tsp_value.specs.declared.field.Field.{Field}
-use Rattle.tsp_value.specs.declared.field.Field.TheVariants.{NameKey, TypeKey, CommentKey, OtherKey, DimensionKey, CapacityKey, ScaleKey, EdgeWeightTypeKey, EdgeWeightFormatKey, NodeCoordTypeKey, DisplayDataTypeKey}
+use Rattle.tsp_value.specs.declared.field.Field.TheVariants.{NameKey, TypeKey, CommentKey, OtherKey, DimensionKey, CapacityKey, ScaleKey, EdgeWeightTypeKey, EdgeWeightFormatKey, NodeCoordTypeKey, DisplayDataTypeKey, NodeCoordPart}
 use Rattle.tsp_value.specs.Words.{kind_word, weight_kind_word, weight_format_word, coord_kind_word, display_kind_word, fields_in_order, field_found}
-use Rattle.tsp_fields.specs.Fields.{Fields, stands_in}
+use Rattle.tsp_fields.specs.Fields.{Fields, spatial, stands_in}
 use Rattle.tsp_items.specs.Items.{Item, has_end_line, is_end_line}
 use Rattle.tsp_value.specs.Shapes.{shape_of, is_section_field}
 use Rattle.tsp_items.specs.Earlier.{same_field, value_at, values_at, others_in, words_of}
@@ -48,7 +48,7 @@ if_written words (Some value) = words value
 
 -- the words of the field's section
 abbrev pub words_written : Fields → Field → List (List ℕ)
-words_written f field = option_map_or (λ shape. if_written (words_for shape) (entries_in f field shape)) (shape_of field) []
+words_written f field = option_map_or (λ shape. if_written (words_for shape) (entries_in f field shape)) (shape_of (spatial f) field) []
 
 -- ---- stages
 
@@ -72,6 +72,9 @@ pub record Ready (f : Fields) (field : Field) (earlier : List Item) : Type 0 whe
   pub no_comments : same_field CommentKey field ≡ true → values_at CommentKey earlier ≡ []
   pub no_others : same_field OtherKey field ≡ true → others_in earlier ≡ []
   pub dimension : is_section_field field ≡ true → value_at DimensionKey earlier ≡ option_map decimal f.dimension
+  pub coords : is_section_field field ≡ true → value_at NodeCoordTypeKey earlier ≡ option_map coord_kind_word f.coord_kind
+  pub weights : is_section_field field ≡ true → value_at EdgeWeightTypeKey earlier ≡ option_map weight_kind_word f.weight_kind
+  pub no_points : is_section_field field ≡ false → value_at NodeCoordPart earlier ≡ None
 
 -- what the items of the field's text add
 pub record Adds (f : Fields) (field : Field) (earlier later : List Item) : Type 0 where
@@ -103,27 +106,59 @@ next_stage f field left earlier later gone stage adds = record {
 
 -- ---- one field after the other
 
--- no field is twice in the list, and no section stands before DIMENSION
+-- keywords that say how the words of sections are read
+abbrev keys_left : List Field → Bool
+keys_left left = is_left DimensionKey left || is_left NodeCoordTypeKey left || is_left EdgeWeightTypeKey left
+
+-- sections stand after those keywords, and the points of nodes after all keywords
+abbrev is_in_place : Field → List Field → Bool
+is_in_place field left = not (is_section_field field && keys_left left) && (is_section_field field || is_left NodeCoordPart left)
+
+-- no field is twice in the list, and each is in its place
 abbrev pub is_ordered : List Field → Bool
 is_ordered [] = true
-is_ordered (field ∷ left) = not (is_left field left) && not (is_section_field field && is_left DimensionKey (field ∷ left)) && is_ordered left
+is_ordered (field ∷ left) = not (is_left field left) && is_in_place field (field ∷ left) && is_ordered left
 
-no_dimension_left : (section late : Bool) → not (section && late) ≡ true → section ≡ true → late ≡ false
-no_dimension_left true late e s = not-true late e
-no_dimension_left false late e s = absurd (true≢false (sym s))
+none_late : (section late : Bool) → not (section && late) ≡ true → section ≡ true → late ≡ false
+none_late true late e s = not-true late e
+none_late false late e s = absurd (true≢false (sym s))
+
+points_late : (section points : Bool) → (section || points) ≡ true → section ≡ false → points ≡ true
+points_late true points e s = absurd (true≢false s)
+points_late false points e s = e
 
 here : {X : Type 0} (g field : Field) (left : List Field) (blank whole : X) → same_field g field ≡ true → cond (is_left g (field ∷ left)) blank whole ≡ blank
 here g field left blank whole e = ap (λ b. cond (b || is_left g left) blank whole) e
 
-pub ready : (f : Fields) (field : Field) (left : List Field) (earlier : List Item) → not (is_section_field field && is_left DimensionKey (field ∷ left)) ≡ true → Stage f (field ∷ left) earlier → Ready f field earlier
-ready f field left earlier late stage = record {
+-- what was written of a keyword that isn't left
+came : (f : Fields) (key : Field) (left : List Field) (earlier : List Item) → may_repeat key ≡ false → is_left key left ≡ false → Stage f left earlier
+    → value_at key earlier ≡ value_of f key
+came f key left earlier once late stage = stage.values key once ∙ ap (λ b. cond b None (value_of f key)) late
+
+-- none of those keywords is left at a section
+none_left : (field : Field) (left : List Field) → is_in_place field left ≡ true → is_section_field field ≡ true
+    → (is_left DimensionKey left ≡ false) × (is_left NodeCoordTypeKey left ≡ false) × (is_left EdgeWeightTypeKey left ≡ false)
+none_left field left placed section =
+    let sections = and_parts (not (is_section_field field && keys_left left)) (is_section_field field || is_left NodeCoordPart left) placed in
+    let late = none_late (is_section_field field) (keys_left left) sections.0 section in
+    let two = or_parts (is_left DimensionKey left || is_left NodeCoordTypeKey left) (is_left EdgeWeightTypeKey left) late in
+    let one = or_parts (is_left DimensionKey left) (is_left NodeCoordTypeKey left) two.0 in
+    (one.0, one.1, two.1)
+
+pub ready : (f : Fields) (field : Field) (left : List Field) (earlier : List Item) → is_in_place field (field ∷ left) ≡ true
+    → Stage f (field ∷ left) earlier → Ready f field earlier
+ready f field left earlier placed stage = record {
   clean = stage.clean;
   unseen = λ once. stage.values field once ∙ here field field left None (value_of f field) (same_self field);
   no_words = stage.words field ∙ here field field left [] (words_written f field) (same_self field);
   no_comments = λ same. stage.comments ∙ here CommentKey field left [] f.comments same;
   no_others = λ same. stage.others ∙ here OtherKey field left [] f.others same;
-  dimension = λ section. stage.values DimensionKey refl
-      ∙ ap (λ b. cond b None (value_of f DimensionKey)) (no_dimension_left (is_section_field field) (is_left DimensionKey (field ∷ left)) late section);
+  dimension = λ section. came f DimensionKey (field ∷ left) earlier refl (none_left field (field ∷ left) placed section).0 stage;
+  coords = λ section. came f NodeCoordTypeKey (field ∷ left) earlier refl (none_left field (field ∷ left) placed section).1 stage;
+  weights = λ section. came f EdgeWeightTypeKey (field ∷ left) earlier refl (none_left field (field ∷ left) placed section).2 stage;
+  no_points = λ keyword. stage.values NodeCoordPart refl ∙ ap (λ b. cond b None (value_of f NodeCoordPart))
+      (points_late (is_section_field field) (is_left NodeCoordPart (field ∷ left))
+      (and_parts (not (is_section_field field && keys_left (field ∷ left))) (is_section_field field || is_left NodeCoordPart (field ∷ left)) placed).1 keyword);
 }
 
 -- the items of a field's text, after these
@@ -149,8 +184,8 @@ pub all_fields : (f : Fields) (text : Field → List ℕ) → ((field : Field) (
     → (fields : List Field) → is_ordered fields ≡ true → (earlier : List Item) → Stage f fields earlier → Whole f text fields earlier
 all_fields f text each [] ordered earlier stage = record { items = []; written = nothing_written; no_end = refl; stage = stage }
 all_fields f text each (field ∷ left) ordered earlier stage =
-    let both = and_parts (not (is_left field left) && not (is_section_field field && is_left DimensionKey (field ∷ left))) (is_ordered left) ordered in
-    let first = and_parts (not (is_left field left)) (not (is_section_field field && is_left DimensionKey (field ∷ left))) both.0 in
+    let both = and_parts (not (is_left field left) && is_in_place field (field ∷ left)) (is_ordered left) ordered in
+    let first = and_parts (not (is_left field left)) (is_in_place field (field ∷ left)) both.0 in
     let step = each field earlier (ready f field left earlier first.1 stage) in
     let rest = all_fields f text each left both.1 (onto step.items earlier) (next_stage f field left earlier (onto step.items earlier) (not-true (is_left field left) first.0) stage step.adds) in
     record {

@@ -1,26 +1,28 @@
 -- What the items of a whole text spell is its file.
-use Rattle.std.proofs.Common.{◌≡◌, ℕ, true, false, cond, List, [], refl, ap, ◌∙◌, Option, Some, None}
+use Rattle.std.proofs.Common.{◌≡◌, ℕ, Bool, true, false, cond, List, [], refl, ap, ◌∙◌, Option, Some, None}
 use Rattle.std.specs.Prelude.{ℤ, nat_abs, is_some}
 use Rattle.std.specs.Option.{option_map, option_and_then}
 use Rattle.std.specs.Result.{result_ok}
 use Rattle.tsp_value.specs.declared.field.Field.{Field}
 use Rattle.tsp_value.specs.declared.field.Field.TheVariants.{NameKey, TypeKey, DimensionKey, CapacityKey, ScaleKey, EdgeWeightTypeKey, EdgeWeightFormatKey, NodeCoordTypeKey, DisplayDataTypeKey, NodeCoordPart, DisplayDataPart, DemandPart, DepotPart, FixedEdgesPart, EdgeWeightPart, TourPart, NodePotentialPart, RowPotentialPart, ColumnPotentialPart, FixedPotentialPart}
 use Rattle.tsp_value.specs.declared.field.Shape.{Shape}
-use Rattle.tsp_value.specs.declared.field.Shape.TheVariants.{Points, Depots, Pairs, Weights, Tours, Triples}
+use Rattle.tsp_value.specs.declared.field.Shape.TheVariants.{Points, SpacePoints, Depots, Pairs, Weights, Tours, Triples}
 use Rattle.tsp_value.specs.Shapes.{shape_of}
 use Rattle.tsp_value.specs.Words.{kind_word, weight_kind_word, weight_format_word, coord_kind_word, display_kind_word}
-use Rattle.tsp_fields.specs.Fields.{Fields}
+use Rattle.tsp_fields.specs.Fields.{Fields, spatial}
 use Rattle.tsp_fields.specs.Validity.{fits}
 use Rattle.tsp_items.specs.Lines.{first_word}
 use Rattle.tsp_items.specs.Items.{Item}
 use Rattle.tsp_items.specs.Earlier.{has_line, value_at, words_of}
 use Rattle.tsp_items.specs.Values.{kind_named, weight_kind_named, weight_format_named, coord_kind_named, display_kind_named, read_as}
+use Rattle.tsp_items.specs.Groups.{coords_by_node}
 use Rattle.tsp_items.specs.Sections.{nodes_of}
 use Rattle.tsp_items.specs.Rows.{may_repeat}
 use Rattle.tsp_items.specs.Spells.{spelled}
 use Rattle.tsp_round.proofs.Numbers.{NumberLaws}
 use Rattle.tsp_round.proofs.Onto.{has_value}
 use Rattle.tsp_round.proofs.Shapes.{Entries, entries_in, read_for, body}
+use Rattle.tsp_round.proofs.Space.{space_written}
 use Rattle.tsp_round.proofs.SectionFields.{IsSection, is_section, are_right}
 use Rattle.tsp_round.proofs.Words.{kind_back, weight_kind_back, weight_format_back, coord_kind_back, display_kind_back}
 use Rattle.tsp_round.proofs.Stages.{Stage, value_of}
@@ -49,13 +51,25 @@ named_is f items stage field once text by_word back o is =
 abbrev number_from : Field → Option (List ℕ) → Option ℤ
 number_from field v = option_and_then (λ value. option_and_then result_ok (read_as field value)) v
 
+-- the points of nodes, in space or in the plane
+points_read : (f : Fields) (items : List Item) (in_space : Bool)
+    → ((shape : Shape) → Some (cond in_space SpacePoints Points) ≡ Some shape
+    → cond (has_line NodeCoordPart items) (Some (read_for shape (nodes_of items) (words_of NodeCoordPart items))) None ≡ entries_in f NodeCoordPart shape)
+    → cond (has_line NodeCoordPart items) (Some (coords_by_node in_space (nodes_of items) (words_of NodeCoordPart items))) None ≡ f.coords
+points_read f items true read = read SpacePoints refl
+points_read f items false read = read Points refl
+
 -- the items of a whole text spell its file
 pub spelled_is : NumberLaws → (f : Fields) (items : List Item) → ((g : Field) → fits f g ≡ true) → Stage f [] items → spelled items ≡ f
 spelled_is laws f items valid stage =
     let one = valid DimensionKey in
-    let read : (field : Field) (shape : Shape) → shape_of field ≡ Some shape
+    let read : (field : Field) (shape : Shape) → shape_of (spatial f) field ≡ Some shape
     → cond (has_line field items) (Some (read_for shape (nodes_of items) (words_of field items))) None ≡ entries_in f field shape =
     λ field shape e. section_is laws f items stage one field shape (entries_in f field shape) (is_section f valid field shape e) in
+    let space = space_written f items (stage.values NodeCoordTypeKey refl) (stage.values EdgeWeightTypeKey refl) in
+    let coords_read : (in_space : Bool) → spatial f ≡ in_space
+    → cond (has_line NodeCoordPart items) (Some (coords_by_node in_space (nodes_of items) (words_of NodeCoordPart items))) None ≡ f.coords =
+    λ in_space e. points_read f items in_space (λ shape is. read NodeCoordPart shape (ap (λ b. Some (cond b SpacePoints Points)) e ∙ is)) in
     λ i. record {
       name = stage.values NameKey refl i;
       kind = named_is f items stage TypeKey refl kind_word kind_named kind_back f.kind refl i;
@@ -68,7 +82,8 @@ spelled_is laws f items valid stage =
       weight_format = named_is f items stage EdgeWeightFormatKey refl weight_format_word weight_format_named weight_format_back f.weight_format refl i;
       coord_kind = named_is f items stage NodeCoordTypeKey refl coord_kind_word coord_kind_named coord_kind_back f.coord_kind refl i;
       display_kind = named_is f items stage DisplayDataTypeKey refl display_kind_word display_kind_named display_kind_back f.display_kind refl i;
-      coords = read NodeCoordPart Points refl i;
+      coords = (ap (λ (b : Bool). cond (has_line NodeCoordPart items) (Some (coords_by_node b (nodes_of items) (words_of NodeCoordPart items))) None) space
+          ∙ coords_read (spatial f) refl) i;
       display = read DisplayDataPart Points refl i;
       demands = read DemandPart _ refl i;
       depots = read DepotPart Depots refl i;

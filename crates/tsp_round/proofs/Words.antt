@@ -11,7 +11,7 @@ use Rattle.tsp_value.specs.declared.kinds.CoordKind.TheVariants as coord_kinds
 use Rattle.tsp_value.specs.declared.kinds.DisplayKind.{DisplayKind}
 use Rattle.tsp_value.specs.declared.kinds.DisplayKind.TheVariants as display_kinds
 use Rattle.tsp_value.specs.declared.layout.Layout.TheVariants as layouts
-use Rattle.tsp_value.specs.declared.field.Field.TheVariants.{TypeKey, EdgeWeightTypeKey, EdgeWeightFormatKey, NodeCoordTypeKey, DisplayDataTypeKey}
+use Rattle.tsp_value.specs.declared.field.Field.TheVariants.{NodeCoordPart, TypeKey, EdgeWeightTypeKey, EdgeWeightFormatKey, NodeCoordTypeKey, DisplayDataTypeKey}
 use Rattle.tsp_value.specs.declared.keyword.Keyword.TheVariants.{Known}
 use Rattle.tsp_value.specs.Words.{field_word, kind_word, weight_kind_word, weight_format_word, coord_kind_word, display_kind_word}
 use Rattle.tsp_items.specs.Lines.{first_word}
@@ -46,13 +46,17 @@ kind_back kinds.Potentials = refl
 
 -- ---- EdgeWeightTypeKey
 
-pub weight_kind_row : (earlier : List Item) (value : WeightKind) → has_line EdgeWeightTypeKey earlier ≡ false → row_of earlier (Line (Known EdgeWeightTypeKey) (written_line (field_word EdgeWeightTypeKey) (weight_kind_word value))) ≡ None
-weight_kind_row earlier weight_kinds.Explicit unseen = rw unseen refl
-weight_kind_row earlier weight_kinds.Euc2d unseen = rw unseen refl
-weight_kind_row earlier weight_kinds.Ceil2d unseen = rw unseen refl
-weight_kind_row earlier weight_kinds.Man2d unseen = rw unseen refl
-weight_kind_row earlier weight_kinds.Max2d unseen = rw unseen refl
-weight_kind_row earlier weight_kinds.Att unseen = rw unseen refl
+pub weight_kind_row : (earlier : List Item) (value : WeightKind) → has_line EdgeWeightTypeKey earlier ≡ false → has_line NodeCoordPart earlier ≡ false
+    → row_of earlier (Line (Known EdgeWeightTypeKey) (written_line (field_word EdgeWeightTypeKey) (weight_kind_word value))) ≡ None
+weight_kind_row earlier weight_kinds.Explicit unseen none = rw unseen refl
+weight_kind_row earlier weight_kinds.Euc2d unseen none = rw unseen refl
+weight_kind_row earlier weight_kinds.Ceil2d unseen none = rw unseen refl
+weight_kind_row earlier weight_kinds.Man2d unseen none = rw unseen refl
+weight_kind_row earlier weight_kinds.Max2d unseen none = rw unseen refl
+weight_kind_row earlier weight_kinds.Att unseen none = rw unseen refl
+weight_kind_row earlier weight_kinds.Euc3d unseen none = rw (unseen, none) refl
+weight_kind_row earlier weight_kinds.Man3d unseen none = rw (unseen, none) refl
+weight_kind_row earlier weight_kinds.Max3d unseen none = rw (unseen, none) refl
 
 pub weight_kind_whole : (value : WeightKind) → IsWhole (weight_kind_word value)
 weight_kind_whole weight_kinds.Explicit = record { one_line = refl; begins_filled = refl; ends_filled = refl }
@@ -61,6 +65,9 @@ weight_kind_whole weight_kinds.Ceil2d = record { one_line = refl; begins_filled 
 weight_kind_whole weight_kinds.Man2d = record { one_line = refl; begins_filled = refl; ends_filled = refl }
 weight_kind_whole weight_kinds.Max2d = record { one_line = refl; begins_filled = refl; ends_filled = refl }
 weight_kind_whole weight_kinds.Att = record { one_line = refl; begins_filled = refl; ends_filled = refl }
+weight_kind_whole weight_kinds.Euc3d = record { one_line = refl; begins_filled = refl; ends_filled = refl }
+weight_kind_whole weight_kinds.Man3d = record { one_line = refl; begins_filled = refl; ends_filled = refl }
+weight_kind_whole weight_kinds.Max3d = record { one_line = refl; begins_filled = refl; ends_filled = refl }
 
 pub weight_kind_back : (value : WeightKind) → weight_kind_named (first_word (weight_kind_word value)) ≡ Some value
 weight_kind_back weight_kinds.Explicit = refl
@@ -69,6 +76,9 @@ weight_kind_back weight_kinds.Ceil2d = refl
 weight_kind_back weight_kinds.Man2d = refl
 weight_kind_back weight_kinds.Max2d = refl
 weight_kind_back weight_kinds.Att = refl
+weight_kind_back weight_kinds.Euc3d = refl
+weight_kind_back weight_kinds.Man3d = refl
+weight_kind_back weight_kinds.Max3d = refl
 
 -- ---- EdgeWeightFormatKey
 
@@ -110,16 +120,20 @@ weight_format_back (formats.Listed layouts.LowerDiagCol) = refl
 
 -- ---- NodeCoordTypeKey
 
-pub coord_kind_row : (earlier : List Item) (value : CoordKind) → has_line NodeCoordTypeKey earlier ≡ false → row_of earlier (Line (Known NodeCoordTypeKey) (written_line (field_word NodeCoordTypeKey) (coord_kind_word value))) ≡ None
-coord_kind_row earlier coord_kinds.TwoD unseen = rw unseen refl
-coord_kind_row earlier coord_kinds.NoCoords unseen = rw unseen refl
+pub coord_kind_row : (earlier : List Item) (value : CoordKind) → has_line NodeCoordTypeKey earlier ≡ false → has_line NodeCoordPart earlier ≡ false
+    → row_of earlier (Line (Known NodeCoordTypeKey) (written_line (field_word NodeCoordTypeKey) (coord_kind_word value))) ≡ None
+coord_kind_row earlier coord_kinds.TwoD unseen none = rw unseen refl
+coord_kind_row earlier coord_kinds.ThreeD unseen none = rw (unseen, none) refl
+coord_kind_row earlier coord_kinds.NoCoords unseen none = rw unseen refl
 
 pub coord_kind_whole : (value : CoordKind) → IsWhole (coord_kind_word value)
 coord_kind_whole coord_kinds.TwoD = record { one_line = refl; begins_filled = refl; ends_filled = refl }
+coord_kind_whole coord_kinds.ThreeD = record { one_line = refl; begins_filled = refl; ends_filled = refl }
 coord_kind_whole coord_kinds.NoCoords = record { one_line = refl; begins_filled = refl; ends_filled = refl }
 
 pub coord_kind_back : (value : CoordKind) → coord_kind_named (first_word (coord_kind_word value)) ≡ Some value
 coord_kind_back coord_kinds.TwoD = refl
+coord_kind_back coord_kinds.ThreeD = refl
 coord_kind_back coord_kinds.NoCoords = refl
 
 -- ---- DisplayDataTypeKey

@@ -25,10 +25,10 @@ fn has_its_word<V: Word + PartialEq + Debug + Drop>(
 fn a_value_has_its_word_and_a_word_its_value(rt: HostRuntime) {
     has_its_word(&rt, 22, Field::OtherKey, "others");
     has_its_word(&rt, 5, Kind::Tsp, "TSP");
-    has_its_word(&rt, 6, WeightKind::Euc2d, "EUC_2D");
+    has_its_word(&rt, 9, WeightKind::Max3d, "MAX_3D");
     has_its_word(&rt, 10, WeightFormat::ByFunction, "FUNCTION");
     has_its_word(&rt, 9, Layout::UpperRow, "UPPER_ROW");
-    has_its_word(&rt, 2, CoordKind::TwoD, "TWOD_COORDS");
+    has_its_word(&rt, 3, CoordKind::ThreeD, "THREED_COORDS");
     has_its_word(&rt, 3, DisplayKind::TwoD, "TWOD_DISPLAY");
     same(&rt, value_of::<Kind>(b""), None);
     same(&rt, value_of::<Kind>(b"TSP "), None);

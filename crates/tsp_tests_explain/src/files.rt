@@ -56,7 +56,7 @@ const WORD_LINES: [(&str, &str); 13] = [
     ),
     (
         "EDGE_WEIGHT_TYPE : GEO\n",
-        "  a.tsp, line 1:\n    EDGE_WEIGHT_TYPE : GEO\n  This is a word of TSPLIB 95 that tsp doesn't read.\n  EDGE_WEIGHT_TYPE is EXPLICIT, EUC_2D, CEIL_2D, MAN_2D, MAX_2D or ATT. tsp doesn't read the other types of TSPLIB 95.\n  Written as an EXPLICIT matrix of whole numbers, the file could be read with up to 5,000 nodes.\n",
+        "  a.tsp, line 1:\n    EDGE_WEIGHT_TYPE : GEO\n  This is a word of TSPLIB 95 that tsp doesn't read.\n  EDGE_WEIGHT_TYPE is EXPLICIT, EUC_2D, CEIL_2D, MAN_2D, MAX_2D, ATT, EUC_3D, MAN_3D or MAX_3D.\n  tsp doesn't read the other types of TSPLIB 95.\n  Written as an EXPLICIT matrix of whole numbers, the file could be read with up to 5,000 nodes.\n",
     ),
     (
         "TYPE : FOO\n",
@@ -68,7 +68,7 @@ const WORD_LINES: [(&str, &str); 13] = [
     ),
     (
         "NODE_COORD_TYPE : FOO\n",
-        "  a.tsp, line 1:\n    NODE_COORD_TYPE : FOO\n  The keyword has no value here, one that it doesn't take, or one of too many bytes.\n  NODE_COORD_TYPE is TWOD_COORDS or NO_COORDS. tsp doesn't read points in space, THREED_COORDS.\n",
+        "  a.tsp, line 1:\n    NODE_COORD_TYPE : FOO\n  The keyword has no value here, one that it doesn't take, or one of too many bytes.\n  NODE_COORD_TYPE is TWOD_COORDS, THREED_COORDS or NO_COORDS.\n",
     ),
     (
         "DISPLAY_DATA_TYPE : FOO\n",
@@ -104,7 +104,7 @@ const NUMBER_LINES: [(&str, &str); 15] = [
     ),
     (
         "DIMENSION : 2\nNODE_COORD_SECTION\n1 0 0\n2\t3 x7\n",
-        "  a.tsp, line 4, word 3:\n    2\t3 x7\n     \t  ^^\n  This isn't a number. A number is an optional sign, digits with at most one point,\n  and optionally e or E with a whole exponent.\n  NODE_COORD_SECTION has for each node from 1 to DIMENSION a group: the node, x and y.\n  x and y are from -1,000,000,000 to 1,000,000,000, with at most 9 decimals.\n",
+        "  a.tsp, line 4, word 3:\n    2\t3 x7\n     \t  ^^\n  This isn't a number. A number is an optional sign, digits with at most one point,\n  and optionally e or E with a whole exponent.\n  NODE_COORD_SECTION has for each node from 1 to DIMENSION a group: the node, x and y; and z where an earlier line\n  says THREED_COORDS, EUC_3D, MAN_3D or MAX_3D. They are from -1,000,000,000 to 1,000,000,000, with at most 9 decimals.\n",
     ),
     (
         "DIMENSION : 2\nDISPLAY_DATA_SECTION\n1 0 1e-10\n",
@@ -216,7 +216,7 @@ const ENDS: [(&str, &str); 17] = [
     ),
     (
         "TYPE : TSP\nDIMENSION : 5\nEDGE_WEIGHT_TYPE : EUC_2D\nNODE_COORD_SECTION\n1 0 0\n2 3 0\n3 3 4\n4 0 4\nEOF\n",
-        "  a.tsp:\n  A section ends before it is whole.\n  NODE_COORD_SECTION has for each node from 1 to DIMENSION a group: the node, x and y.\n  x and y are from -1,000,000,000 to 1,000,000,000, with at most 9 decimals.\n  The section has 4 whole groups, and DIMENSION is 5.\n",
+        "  a.tsp:\n  A section ends before it is whole.\n  NODE_COORD_SECTION has for each node from 1 to DIMENSION a group: the node, x and y; and z where an earlier line\n  says THREED_COORDS, EUC_3D, MAN_3D or MAX_3D. They are from -1,000,000,000 to 1,000,000,000, with at most 9 decimals.\n  The section has 4 whole groups, and DIMENSION is 5.\n",
     ),
     (
         "TYPE : TSP\nDIMENSION : 3\nEDGE_WEIGHT_TYPE : EXPLICIT\nEDGE_WEIGHT_FORMAT : UPPER_ROW\nEDGE_WEIGHT_SECTION\n1 2\nEOF\n",

@@ -7,4 +7,5 @@ pub mod Limits
 pub mod Place
 pub mod Words
 pub mod Shapes
+pub mod Space
 pub mod Examples

@@ -34,6 +34,9 @@ weight_kind_word weight_kind.Ceil2d = codes "CEIL_2D"
 weight_kind_word weight_kind.Man2d = codes "MAN_2D"
 weight_kind_word weight_kind.Max2d = codes "MAX_2D"
 weight_kind_word weight_kind.Att = codes "ATT"
+weight_kind_word weight_kind.Euc3d = codes "EUC_3D"
+weight_kind_word weight_kind.Man3d = codes "MAN_3D"
+weight_kind_word weight_kind.Max3d = codes "MAX_3D"
 
 abbrev pub weight_format_word : WeightFormat → List ℕ
 weight_format_word format.ByFunction = codes "FUNCTION"
@@ -41,6 +44,7 @@ weight_format_word (format.Listed layout) = layout_word layout
 
 abbrev pub coord_kind_word : CoordKind → List ℕ
 coord_kind_word coord_kind.TwoD = codes "TWOD_COORDS"
+coord_kind_word coord_kind.ThreeD = codes "THREED_COORDS"
 coord_kind_word coord_kind.NoCoords = codes "NO_COORDS"
 
 abbrev pub display_kind_word : DisplayKind → List ℕ
@@ -91,7 +95,7 @@ kind_found kind.Potentials = refl
 
 -- the values of EDGE_WEIGHT_TYPE
 abbrev pub weight_kinds : List WeightKind
-weight_kinds = weight_kind.Explicit ∷ weight_kind.Euc2d ∷ weight_kind.Ceil2d ∷ weight_kind.Man2d ∷ weight_kind.Max2d ∷ weight_kind.Att ∷ []
+weight_kinds = weight_kind.Explicit ∷ weight_kind.Euc2d ∷ weight_kind.Ceil2d ∷ weight_kind.Man2d ∷ weight_kind.Max2d ∷ weight_kind.Att ∷ weight_kind.Euc3d ∷ weight_kind.Man3d ∷ weight_kind.Max3d ∷ []
 
 pub weight_kind_found : (value : WeightKind) → IsFound weight_kind_word weight_kinds value
 weight_kind_found weight_kind.Explicit = refl
@@ -100,6 +104,9 @@ weight_kind_found weight_kind.Ceil2d = refl
 weight_kind_found weight_kind.Man2d = refl
 weight_kind_found weight_kind.Max2d = refl
 weight_kind_found weight_kind.Att = refl
+weight_kind_found weight_kind.Euc3d = refl
+weight_kind_found weight_kind.Man3d = refl
+weight_kind_found weight_kind.Max3d = refl
 
 -- the layouts
 abbrev pub layouts : List Layout
@@ -134,10 +141,11 @@ weight_format_found (format.Listed layout.LowerDiagCol) = refl
 
 -- the values of NODE_COORD_TYPE
 abbrev pub coord_kinds : List CoordKind
-coord_kinds = coord_kind.TwoD ∷ coord_kind.NoCoords ∷ []
+coord_kinds = coord_kind.TwoD ∷ coord_kind.ThreeD ∷ coord_kind.NoCoords ∷ []
 
 pub coord_kind_found : (value : CoordKind) → IsFound coord_kind_word coord_kinds value
 coord_kind_found coord_kind.TwoD = refl
+coord_kind_found coord_kind.ThreeD = refl
 coord_kind_found coord_kind.NoCoords = refl
 
 -- the values of DISPLAY_DATA_TYPE

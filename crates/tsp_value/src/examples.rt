@@ -17,6 +17,7 @@ ghost use Rattle.tsp_value.specs.Keywords.{keyword_of};
 ghost use Rattle.tsp_value.specs.Layout.{layout_word};
 ghost use Rattle.tsp_value.specs.Limits as limits;
 ghost use Rattle.tsp_value.specs.Shapes.{shape_of};
+ghost use Rattle.tsp_value.specs.Space.{is_spatial};
 ghost use Rattle.tsp_value.specs.Words.{kind_word, weight_kind_word, weight_format_word, coord_kind_word, display_kind_word, fields_in_order};
 ghost use Rattle.tsp_value.specs.Examples.{StandsAt, CellsAre, by_rows};
 
@@ -89,6 +90,9 @@ pub fn examples_of_words()
     ensures man { weight_kind_word weight_kinds.Man2d ≡ codes "MAN_2D" }
     ensures max { weight_kind_word weight_kinds.Max2d ≡ codes "MAX_2D" }
     ensures att { weight_kind_word weight_kinds.Att ≡ codes "ATT" }
+    ensures euc_in_space { weight_kind_word weight_kinds.Euc3d ≡ codes "EUC_3D" }
+    ensures man_in_space { weight_kind_word weight_kinds.Man3d ≡ codes "MAN_3D" }
+    ensures max_in_space { weight_kind_word weight_kinds.Max3d ≡ codes "MAX_3D" }
     ensures function { weight_format_word formats.ByFunction ≡ codes "FUNCTION" }
     ensures listed { weight_format_word (formats.Listed layouts.UpperCol) ≡ codes "UPPER_COL" }
     ensures full { layout_word layouts.FullMatrix ≡ codes "FULL_MATRIX" }
@@ -101,6 +105,7 @@ pub fn examples_of_words()
     ensures upper_diag_col { layout_word layouts.UpperDiagCol ≡ codes "UPPER_DIAG_COL" }
     ensures lower_diag_col { layout_word layouts.LowerDiagCol ≡ codes "LOWER_DIAG_COL" }
     ensures two_numbers { coord_kind_word coord_kinds.TwoD ≡ codes "TWOD_COORDS" }
+    ensures three_numbers { coord_kind_word coord_kinds.ThreeD ≡ codes "THREED_COORDS" }
     ensures no_coords { coord_kind_word coord_kinds.NoCoords ≡ codes "NO_COORDS" }
     ensures shown_by_coords { display_kind_word display_kinds.Coord ≡ codes "COORD_DISPLAY" }
     ensures shown_in_plane { display_kind_word display_kinds.TwoD ≡ codes "TWOD_DISPLAY" }
@@ -140,8 +145,22 @@ pub fn examples_of_limits()
     ensures fixed { limits.most_fixed ≡ 10 ^ 5 }
     ensures tour_nodes { limits.most_tour_nodes ≡ 10 ^ 6 }
     ensures file_bytes { limits.most_file_bytes ≡ 2 ^ 30 }
-    ensures demands_from_zero { shape_of fields.DemandPart ≡ Some (shapes.Numbers (pos 0) (pos (10 ^ 9))) }
-    ensures no_shape { shape_of fields.ScaleKey ≡ None }
+    ensures demands_from_zero { shape_of false fields.DemandPart ≡ Some (shapes.Numbers (pos 0) (pos (10 ^ 9))) }
+    ensures no_shape { shape_of true fields.ScaleKey ≡ None }
+{}
+
+/// When a file is spatial, and which of its sections then has points with three coordinates.
+pub fn examples_of_space()
+    ensures by_coords { is_spatial (Some coord_kinds.ThreeD) (Some weight_kinds.Euc2d) ≡ true }
+    ensures by_straight_way { is_spatial None (Some weight_kinds.Euc3d) ≡ true }
+    ensures by_sum { is_spatial (Some coord_kinds.NoCoords) (Some weight_kinds.Man3d) ≡ true }
+    ensures by_longest_way { is_spatial (Some coord_kinds.TwoD) (Some weight_kinds.Max3d) ≡ true }
+    ensures in_plane { is_spatial (Some coord_kinds.TwoD) (Some weight_kinds.Att) ≡ false }
+    ensures listed { is_spatial (Some coord_kinds.NoCoords) (Some weight_kinds.Explicit) ≡ false }
+    ensures nothing_said { is_spatial None None ≡ false }
+    ensures nodes_in_space { shape_of true fields.NodeCoordPart ≡ Some shapes.SpacePoints }
+    ensures nodes_in_plane { shape_of false fields.NodeCoordPart ≡ Some shapes.Points }
+    ensures display_in_plane { shape_of true fields.DisplayDataPart ≡ Some shapes.Points }
 {}
 
 /// The first pair of three nodes whose two costs differ.

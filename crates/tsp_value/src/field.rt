@@ -42,8 +42,10 @@ pub enum Field {
 pub enum Shape {
     /// For each node a whole number from `low` to `high`.
     Numbers { low: i64, high: i64 },
-    /// For each node a point.
+    /// For each node a point of the plane.
     Points,
+    /// For each node a point with three coordinates.
+    SpacePoints,
     /// Nodes, up to a -1.
     Depots,
     /// Pairs of nodes, up to a -1.
@@ -83,11 +85,12 @@ impl Field {
         Field::FixedPotentialPart,
     ];
 
-    /// What the words of a section are; nothing of a keyword.
-    pub fn shape(self) -> Option<Shape>
-        ensures { result ≡ shape_of self }
+    /// What the words of a section are, in a file that is spatial or not; nothing of a keyword.
+    pub fn shape(self, spatial: bool) -> Option<Shape>
+        ensures { result ≡ shape_of spatial self }
     {
         match self {
+            Field::NodeCoordPart if spatial => Some(Shape::SpacePoints),
             Field::NodeCoordPart | Field::DisplayDataPart => Some(Shape::Points),
             Field::DemandPart => Some(Shape::Numbers {
                 low: 0,

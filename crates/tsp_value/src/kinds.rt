@@ -1,6 +1,7 @@
 //! The keywords' accepted words, as values.
 
 ghost use Rattle.std.specs.Prelude.{◌≡◌};
+ghost use Rattle.tsp_value.specs.Space.{weighs_three, is_spatial};
 ghost use Rattle.tsp_value.specs.Words.{kind_word, weight_kind_word, weight_format_word, coord_kind_word, display_kind_word};
 ghost use Rattle.tsp_value.specs.Words.{kinds, weight_kinds, weight_formats, coord_kinds, display_kinds, kind_found, weight_kind_found, weight_format_found, coord_kind_found, display_kind_found};
 
@@ -70,18 +71,37 @@ pub enum WeightKind {
     Max2d,
     /// The pseudo-Euclidean distance of the instances att48 and att532.
     Att,
+    /// The straight distance in space, rounded.
+    Euc3d,
+    /// The sum of the three ways along the axes, rounded.
+    Man3d,
+    /// The longest of the three ways along the axes, rounded.
+    Max3d,
 }
 
 impl WeightKind {
     /// Each value.
-    pub const ALL: [WeightKind; 6] = [
+    pub const ALL: [WeightKind; 9] = [
         WeightKind::Explicit,
         WeightKind::Euc2d,
         WeightKind::Ceil2d,
         WeightKind::Man2d,
         WeightKind::Max2d,
         WeightKind::Att,
+        WeightKind::Euc3d,
+        WeightKind::Man3d,
+        WeightKind::Max3d,
     ];
+
+    /// Whether this is a distance of points with three coordinates.
+    pub fn weighs_three(self) -> bool
+        ensures { result ≡ weighs_three self }
+    {
+        match self {
+            WeightKind::Euc3d | WeightKind::Man3d | WeightKind::Max3d => true,
+            _ => false,
+        }
+    }
 }
 
 impl Word for WeightKind {
@@ -103,6 +123,9 @@ impl Word for WeightKind {
             WeightKind::Man2d => "MAN_2D",
             WeightKind::Max2d => "MAX_2D",
             WeightKind::Att => "ATT",
+            WeightKind::Euc3d => "EUC_3D",
+            WeightKind::Man3d => "MAN_3D",
+            WeightKind::Max3d => "MAX_3D",
         }
     }
 }
@@ -151,16 +174,19 @@ impl Word for WeightFormat {
     }
 }
 
-/// How many coordinates a node has (NODE_COORD_TYPE). It is kept and not judged.
+/// How many coordinates a node has (NODE_COORD_TYPE).
+///
+/// `ThreeD` makes a file spatial, see [`is_spatial`]; the others are kept and not judged.
 #[derive(Clone, Copy, Debug, PartialEq, Eq)]
 pub enum CoordKind {
     TwoD,
+    ThreeD,
     NoCoords,
 }
 
 impl CoordKind {
     /// Each value.
-    pub const ALL: [CoordKind; 2] = [CoordKind::TwoD, CoordKind::NoCoords];
+    pub const ALL: [CoordKind; 3] = [CoordKind::TwoD, CoordKind::ThreeD, CoordKind::NoCoords];
 }
 
 impl Word for CoordKind {
@@ -177,9 +203,26 @@ impl Word for CoordKind {
     fn word(self) -> &'static str {
         match self {
             CoordKind::TwoD => "TWOD_COORDS",
+            CoordKind::ThreeD => "THREED_COORDS",
             CoordKind::NoCoords => "NO_COORDS",
         }
     }
+}
+
+/// Whether the points of a file's nodes have three coordinates: its coordinate kind says so, or it
+/// weighs by three.
+pub fn is_spatial(coord_kind: Option<CoordKind>, weight_kind: Option<WeightKind>) -> bool
+    ensures { result ≡ is_spatial coord_kind weight_kind }
+{
+    let by_kind = match coord_kind {
+        Some(CoordKind::ThreeD) => true,
+        _ => false,
+    };
+    let by_weight = match weight_kind {
+        Some(kind) => kind.weighs_three(),
+        None => false,
+    };
+    by_kind || by_weight
 }
 
 /// How nodes are displayed (DISPLAY_DATA_TYPE). It is kept and not judged.

@@ -14,11 +14,11 @@ mod word;
 pub use bytes::{is_blank, is_keyword_byte, is_letter};
 pub use examples::{
     examples_of_bytes, examples_of_cells, examples_of_fields, examples_of_limits,
-    examples_of_uneven_costs, examples_of_words,
+    examples_of_space, examples_of_uneven_costs, examples_of_words,
 };
 pub use field::{Field, Shape};
 pub use keyword::Keyword;
-pub use kinds::{CoordKind, DisplayKind, Kind, WeightFormat, WeightKind};
+pub use kinds::{CoordKind, DisplayKind, Kind, WeightFormat, WeightKind, is_spatial};
 pub use layout::{Layout, cells_are_distinct, cells_are_the_listed_pairs, cells_go_line_by_line};
 pub use limits::{
     MOST_CAPACITY, MOST_COMMENTS, MOST_COORDINATE, MOST_DEMAND, MOST_DEPOTS, MOST_FILE_BYTES,

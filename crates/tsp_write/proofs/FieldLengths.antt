@@ -1,5 +1,5 @@
 -- How long the text of each field of a valid file is at most, and all of it.
-use Rattle.std.proofs.Common.{◌≡◌, ℕ, ◌+◌, ◌*◌, ◌<◌, ◌≤◌, Bool, true, List, [], ◌∷◌, ◌++◌, length, Option, None, Some, arith, refl, ℤ, pos, length-append}
+use Rattle.std.proofs.Common.{◌≡◌, ℕ, ◌+◌, ◌*◌, ◌<◌, ◌≤◌, Bool, true, false, cond, List, [], ◌∷◌, ◌++◌, length, Option, None, Some, arith, refl, ℤ, pos, length-append}
 use Rattle.std.specs.Prelude.{not, ◌==◌, ◌&&◌, nat_le, neg_ℤ, unsigned_abs, codes}
 use Rattle.std.specs.List.{flat_map, list_all, sum_by}
 use Rattle.std.specs.Option.{option_map_or}
@@ -14,12 +14,12 @@ use Rattle.tsp_number.specs.Spelling.{spelling}
 use Rattle.tsp_number.proofs.Spelled.{spelling_short}
 use Rattle.tsp_value.specs.declared.field.Field.{Field}
 use Rattle.tsp_value.specs.declared.field.Shape.{Shape}
-use Rattle.tsp_value.specs.declared.field.Shape.TheVariants.{Numbers, Points, Depots, Pairs, Weights, Tours, Triples}
+use Rattle.tsp_value.specs.declared.field.Shape.TheVariants.{Numbers, Points, SpacePoints, Depots, Pairs, Weights, Tours, Triples}
 use Rattle.tsp_value.specs.Shapes.{shape_of}
 use Rattle.tsp_value.specs.declared.field.Field.TheVariants.{NameKey, TypeKey, CommentKey, OtherKey, DimensionKey, CapacityKey, ScaleKey, EdgeWeightTypeKey, EdgeWeightFormatKey, NodeCoordTypeKey, DisplayDataTypeKey, NodeCoordPart, DisplayDataPart, DemandPart, DepotPart, FixedEdgesPart, EdgeWeightPart, TourPart, NodePotentialPart, RowPotentialPart, ColumnPotentialPart, FixedPotentialPart}
 use Rattle.tsp_value.specs.Limits.{most_nodes, most_matrix_nodes, most_coordinate, most_weight, most_demand, most_capacity, most_scale, most_potential, most_comments, most_others, most_depots, most_fixed, most_multipliers, most_multiplier, most_tour_nodes}
 use Rattle.tsp_value.specs.Words.{field_word, kind_word, weight_kind_word, weight_format_word, coord_kind_word, display_kind_word, fields_in_order}
-use Rattle.tsp_fields.specs.Fields.{Fields, numbers_in, points_in}
+use Rattle.tsp_fields.specs.Fields.{Fields, spatial, numbers_in, points_in}
 use Rattle.tsp_fields.specs.Validity.{if_there, with_dimension, is_kept, is_other, is_node, is_pair, is_triple, is_from_to, is_within, is_point, is_by_node, are_comments, are_others, are_depots, are_fixed, are_triples, are_weights, is_tour, are_tours, section_fits, fits}
 use Rattle.tsp_fields.specs.Rules.{fault_of}
 use Rattle.tsp_write.specs.Text.{line_end, keyword_line, other_line, number_line, section, by_node, node_list, pair_list, triple_list, point_numbers, whole_number, line_lens, matrix_lines, optional, text_of_section, text_of_field, text_of}
@@ -80,8 +80,32 @@ two_numbers_short a b k first second =
 coordinate_short : (z : ℤ) → is_within most_coordinate z ≡ true → length (spelling z) ≤ 21
 coordinate_short z fits = spelling_short z (within_abs most_coordinate z fits)
 
-point_short : (point : Point) → is_point point ≡ true → length (number_line [] (point_numbers point)) ≤ 50
-point_short point fits =
+three_numbers_short : (a b c : List ℕ) (k : ℕ) → length a ≤ k → length b ≤ k → length c ≤ k
+    → length (number_line [] (a ∷ b ∷ c ∷ [])) ≤ 3 * k + 4
+three_numbers_short a b c k first second third =
+    let last : List ℕ = b ++ (32 ∷ (c ++ [])) in
+    let words : List ℕ = a ++ (32 ∷ last) in
+    omega (
+      arith,
+      length-append words line_end,
+      length-append a (32 ∷ last),
+      length-append b (32 ∷ (c ++ [])),
+      length-append c [],
+      first,
+      second,
+      third,
+    )
+
+point_short : (in_space : Bool) (point : Point) → is_point in_space point ≡ true → length (number_line [] (point_numbers in_space point)) ≤ 75
+point_short true point fits =
+    let flat = and_parts (is_within most_coordinate point.x && is_within most_coordinate point.y) (is_within most_coordinate point.z) fits in
+    let parts = and_parts (is_within most_coordinate point.x) (is_within most_coordinate point.y) flat.0 in
+    omega (
+      arith,
+      three_numbers_short (spelling point.x) (spelling point.y) (spelling point.z) 21 (coordinate_short point.x parts.0)
+          (coordinate_short point.y parts.1) (coordinate_short point.z flat.1),
+    )
+point_short false point fits =
     let flat = and_parts (is_within most_coordinate point.x && is_within most_coordinate point.y) (int_eq point.z (pos 0)) fits in
     let parts = and_parts (is_within most_coordinate point.x) (is_within most_coordinate point.y) flat.0 in
     omega (arith, two_numbers_short (spelling point.x) (spelling point.y) 21 (coordinate_short point.x parts.0) (coordinate_short point.y parts.1))
@@ -146,7 +170,8 @@ all_tours_short tours fits =
 -- at most so many bytes; most of all are the weights, 15 for each of 5,000 * 5,000
 abbrev most_of : Shape → ℕ
 most_of (Numbers low high) = 2600029
-most_of Points = 5600029
+most_of Points = 8100029
+most_of SpacePoints = 8100029
 most_of Depots = 900029
 most_of Pairs = 1900029
 most_of Weights = 375000029
@@ -157,13 +182,16 @@ abbrev most_bytes : Field → ℕ
 most_bytes NameKey = 4004
 most_bytes CommentKey = 4004000
 most_bytes OtherKey = 4004000
-most_bytes field = option_map_or most_of (shape_of field) 60
+most_bytes field = option_map_or most_of (shape_of true field) 60
 
 shape_short : (f : Fields) (field : Field) (shape : Shape) → is_short shape ≡ true → if_there (is_node most_nodes) f.dimension ≡ true → section_fits f field shape ≡ true
     → length (text_of_section f field shape) ≤ most_of shape
 shape_short f field (Numbers low high) short one fit =
     by_node_section_short field (is_from_to low high) whole_number 20 (λ number fits. whole_short low high number short fits) f.dimension (numbers_in f field) one fit
-shape_short f field Points short one fit = by_node_section_short field is_point point_numbers 50 point_short f.dimension (points_in f field) one fit
+shape_short f field Points short one fit =
+    by_node_section_short field (is_point false) (point_numbers false) 75 (point_short false) f.dimension (points_in f field) one fit
+shape_short f field SpacePoints short one fit =
+    by_node_section_short field (is_point true) (point_numbers true) 75 (point_short true) f.dimension (points_in f field) one fit
 shape_short f field Depots short one fit = section_of_short field are_depots node_list 900000 depots_short f.dimension f.depots one fit
 shape_short f field Pairs short one fit = section_of_short field are_fixed pair_list 1900000 fixed_short f.dimension f.fixed one fit
 shape_short f field Weights short one fit =
@@ -207,7 +235,12 @@ field_short f fit EdgeWeightTypeKey = word_line_short EdgeWeightTypeKey weight_k
 field_short f fit EdgeWeightFormatKey = word_line_short EdgeWeightFormatKey weight_format_word weight_format_short f.weight_format
 field_short f fit NodeCoordTypeKey = word_line_short NodeCoordTypeKey coord_kind_word coord_kind_short f.coord_kind
 field_short f fit DisplayDataTypeKey = word_line_short DisplayDataTypeKey display_kind_word display_kind_short f.display_kind
-field_short f fit NodeCoordPart = shape_short f NodeCoordPart Points refl (fit DimensionKey) (fit NodeCoordPart)
+field_short f fit NodeCoordPart = points_short (spatial f) (fit NodeCoordPart)
+  where
+    points_short : (in_space : Bool) → section_fits f NodeCoordPart (cond in_space SpacePoints Points) ≡ true
+        → length (text_of_section f NodeCoordPart (cond in_space SpacePoints Points)) ≤ 8100029
+    points_short true fit_here = shape_short f NodeCoordPart SpacePoints refl (fit DimensionKey) fit_here
+    points_short false fit_here = shape_short f NodeCoordPart Points refl (fit DimensionKey) fit_here
 field_short f fit DisplayDataPart = shape_short f DisplayDataPart Points refl (fit DimensionKey) (fit DisplayDataPart)
 field_short f fit DemandPart = shape_short f DemandPart (Numbers (pos 0) (pos most_demand)) refl (fit DimensionKey) (fit DemandPart)
 field_short f fit DepotPart = shape_short f DepotPart Depots refl (fit DimensionKey) (fit DepotPart)

@@ -1,5 +1,5 @@
 -- The canonical text of a file: the texts of its fields in canonical order, then the line EOF. A field that is missing has no text.
-use Rattle.std.specs.Prelude.{ℕ, List, [], ◌∷◌, ◌++◌, take, drop, map, length, codes, Option, Some, None, ℤ}
+use Rattle.std.specs.Prelude.{ℕ, Bool, true, false, cond, List, [], ◌∷◌, ◌++◌, take, drop, map, length, codes, Option, Some, None, ℤ}
 use Rattle.std.specs.Option.{option_map_or}
 use Rattle.std.specs.List.{flat_map, enumerate_from}
 use Rattle.std.specs.Fmt.{decimal, signed_decimal}
@@ -10,12 +10,12 @@ use Rattle.tsp_value.specs.declared.kinds.WeightFormat.TheVariants.{Listed}
 use Rattle.tsp_value.specs.declared.field.Field.{Field}
 use Rattle.tsp_value.specs.declared.field.Field.TheVariants.{NameKey, TypeKey, CommentKey, OtherKey, DimensionKey, CapacityKey, ScaleKey, EdgeWeightTypeKey, EdgeWeightFormatKey, NodeCoordTypeKey, DisplayDataTypeKey}
 use Rattle.tsp_value.specs.declared.field.Shape.{Shape}
-use Rattle.tsp_value.specs.declared.field.Shape.TheVariants.{Numbers, Points, Depots, Pairs, Weights, Tours, Triples}
+use Rattle.tsp_value.specs.declared.field.Shape.TheVariants.{Numbers, Points, SpacePoints, Depots, Pairs, Weights, Tours, Triples}
 use Rattle.tsp_value.specs.Shapes.{shape_of}
 use Rattle.tsp_value.specs.Words.{field_word, kind_word, weight_kind_word, weight_format_word, coord_kind_word, display_kind_word}
 use Rattle.tsp_value.specs.Words.{fields_in_order}
 use Rattle.tsp_value.specs.Cells.{nodes_to, cells_of_line}
-use Rattle.tsp_fields.specs.Fields.{Fields, numbers_in, points_in}
+use Rattle.tsp_fields.specs.Fields.{Fields, spatial, numbers_in, points_in}
 
 -- ---- lines
 
@@ -70,8 +70,9 @@ abbrev pub triple_list : List (ℕ × ℕ × ℤ) → List ℕ
 triple_list triples =
     ended (flat_map (λ triple. number_line (decimal triple.0) (decimal triple.1 ∷ signed_decimal triple.2 ∷ [])) triples)
 
-abbrev pub point_numbers : Point → List (List ℕ)
-point_numbers point = spelling point.x ∷ spelling point.y ∷ []
+-- the coordinates of a point, three in space and two in the plane
+abbrev pub point_numbers : Bool → Point → List (List ℕ)
+point_numbers in_space point = spelling point.x ∷ spelling point.y ∷ cond in_space (spelling point.z ∷ []) []
 
 abbrev pub whole_number : ℤ → List (List ℕ)
 whole_number number = signed_decimal number ∷ []
@@ -103,7 +104,8 @@ optional text (Some value) = text value
 -- the text of a section of this shape
 abbrev pub text_of_section : Fields → Field → Shape → List ℕ
 text_of_section f field (Numbers low high) = optional (λ numbers. section field (by_node whole_number numbers)) (numbers_in f field)
-text_of_section f field Points = optional (λ points. section field (by_node point_numbers points)) (points_in f field)
+text_of_section f field Points = optional (λ points. section field (by_node (point_numbers false) points)) (points_in f field)
+text_of_section f field SpacePoints = optional (λ points. section field (by_node (point_numbers true) points)) (points_in f field)
 text_of_section f field Depots = optional (λ depots. section field (node_list depots)) f.depots
 text_of_section f field Pairs = optional (λ pairs. section field (pair_list pairs)) f.fixed
 text_of_section f field Weights = optional (λ weights. section field (matrix_lines (line_lens f.weight_format f.dimension) weights)) f.weights
@@ -123,7 +125,7 @@ text_of_field f EdgeWeightTypeKey = optional (λ kind. keyword_line EdgeWeightTy
 text_of_field f EdgeWeightFormatKey = optional (λ format. keyword_line EdgeWeightFormatKey (weight_format_word format)) f.weight_format
 text_of_field f NodeCoordTypeKey = optional (λ kind. keyword_line NodeCoordTypeKey (coord_kind_word kind)) f.coord_kind
 text_of_field f DisplayDataTypeKey = optional (λ kind. keyword_line DisplayDataTypeKey (display_kind_word kind)) f.display_kind
-text_of_field f field = option_map_or (text_of_section f field) (shape_of field) []
+text_of_field f field = option_map_or (text_of_section f field) (shape_of (spatial f) field) []
 
 -- the canonical text
 abbrev pub text_of : Fields → List ℕ

@@ -85,7 +85,7 @@ fn put_field<W: Write>(piece: &mut Piece, out: &mut Watched<W>, draft: &Draft, f
         Field::EdgeWeightFormatKey => put_word(piece, out, field, draft.weight_format),
         Field::NodeCoordTypeKey => put_word(piece, out, field, draft.coord_kind),
         Field::DisplayDataTypeKey => put_word(piece, out, field, draft.display_kind),
-        _ => match field.shape() {
+        _ => match field.shape(draft.is_spatial()) {
             Some(shape) => put_section(piece, out, draft, field, shape),
             None => {}
         },
@@ -105,7 +105,8 @@ fn put_section<W: Write>(
 {
     match shape {
         Shape::Numbers { .. } => put_number_section(piece, out, field, draft.numbers(field)),
-        Shape::Points => put_point_section(piece, out, field, draft.points(field)),
+        Shape::Points => put_point_section(piece, out, field, draft.points(field), false),
+        Shape::SpacePoints => put_point_section(piece, out, field, draft.points(field), true),
         Shape::Depots => put_node_section(piece, out, field, &draft.depots),
         Shape::Pairs => put_pair_section(piece, out, field, &draft.fixed),
         Shape::Weights => put_weight_section(

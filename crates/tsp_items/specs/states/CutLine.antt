@@ -12,7 +12,7 @@ use Rattle.tsp_items.specs.declared.fault.StepFault.{StepFault}
 use Rattle.tsp_items.specs.declared.fault.StepFault.TheVariants as steps
 use Rattle.tsp_items.specs.declared.line.CutLine.{CutLine}
 use Rattle.tsp_value.specs.declared.field.Shape.{Shape}
-use Rattle.tsp_value.specs.declared.field.Shape.TheVariants.{Numbers, Points, Depots, Pairs, Weights, Tours, Triples}
+use Rattle.tsp_value.specs.declared.field.Shape.TheVariants.{Numbers, Points, SpacePoints, Depots, Pairs, Weights, Tours, Triples}
 use Rattle.tsp_items.specs.Lines.{is_filled, first_word}
 use Rattle.tsp_items.specs.Items.{WordLine, Item, Line}
 use Rattle.tsp_items.specs.Values.{named, is_left_out}
@@ -46,6 +46,7 @@ ReadsNumber low high value (Err fault) = number_rows low high value ≡ Some fau
 abbrev pub needs_nodes : Shape → Bool
 needs_nodes (Numbers low high) = true
 needs_nodes Points = true
+needs_nodes SpacePoints = true
 needs_nodes Depots = true
 needs_nodes Pairs = true
 needs_nodes Weights = true
@@ -55,6 +56,7 @@ needs_nodes Triples = true
 abbrev pub is_matrix : Shape → Bool
 is_matrix (Numbers low high) = false
 is_matrix Points = false
+is_matrix SpacePoints = false
 is_matrix Depots = false
 is_matrix Pairs = false
 is_matrix Weights = true
@@ -75,14 +77,17 @@ MayOpen shape stands value dimension (Err fault) =
 
 -- ---- a slot of the draft that a line fills
 
-abbrev pub named_rows : {V : Type 0} → Bool → Bool → Option V → Option LineFault
-named_rows stands out found = first_row (when stands row.Repeated ∷ when out row.Outside ∷ when (is_none found) row.BadValue ∷ [])
+abbrev pub named_rows : {V : Type 0} → Bool → Bool → Option V → Bool → Option LineFault
+named_rows stands out found late = first_row (when stands row.Repeated ∷ when out row.Outside ∷ when (is_none found) row.BadValue
+    ∷ when late row.LateSpace ∷ [])
 
--- the value that is named is there now, or the fault of the line
-abbrev pub SetsNamed : {V : Type 0} → (V → List ℕ) → List V → Field → List ℕ → Option V → Option V → Result (Unit {0}) StepFault → Type 0
-SetsNamed text values field word old new (Ok done) = (is_some old ≡ false) × (is_left_out field word ≡ false) × (named text values word ≡ new) × (is_some new ≡ true)
-SetsNamed text values field word old new (Err steps.Memory) = ⊥
-SetsNamed text values field word old new (Err (steps.Fault fault)) = (new ≡ old) × (named_rows (is_some old) (is_left_out field word) (named text values word) ≡ Some fault)
+-- The value that is named is there now, or the fault of the line; `late` is whether its value comes too late.
+abbrev pub SetsNamed : {V : Type 0} → (V → List ℕ) → List V → Field → List ℕ → Bool → Option V → Option V → Result (Unit {0}) StepFault → Type 0
+SetsNamed text values field word late old new (Ok done) = (is_some old ≡ false) × (is_left_out field word ≡ false)
+    × (named text values word ≡ new) × (is_some new ≡ true) × (late ≡ false)
+SetsNamed text values field word late old new (Err steps.Memory) = ⊥
+SetsNamed text values field word late old new (Err (steps.Fault fault)) = (new ≡ old)
+    × (named_rows (is_some old) (is_left_out field word) (named text values word) late ≡ Some fault)
 
 abbrev pub numbered_rows : Bool → List ℕ → Result ℤ NumberFault → Option LineFault
 numbered_rows stands value reading = first_row (when stands row.Repeated ∷ when (not (is_filled value)) row.BadValue ∷ option_map (λ fault. row.Number fault) (result_err reading) ∷ [])

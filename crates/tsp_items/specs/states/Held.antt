@@ -1,8 +1,9 @@
 -- What each section's part holds, by the part itself, and what it finishes with.
-use Rattle.std.specs.Prelude.{◌≡◌, ℕ, ℤ, List, map}
-use Rattle.tsp_fields.specs.Coords.{points_of}
+use Rattle.std.specs.Prelude.{◌≡◌, ℕ, ℤ, List, map, Option, Some, None}
+use Rattle.tsp_number.specs.Distances.{on_plane}
 use Rattle.tsp_items.specs.declared.parts.numbers.NumberList.{NumberList}
 use Rattle.tsp_items.specs.declared.parts.points.PointList.{PointList}
+use Rattle.tsp_items.specs.declared.parts.space_points.SpacePointList.{SpacePointList}
 use Rattle.tsp_items.specs.declared.parts.depots.DepotList.{DepotList}
 use Rattle.tsp_items.specs.declared.parts.fixed.FixedList.{FixedList}
 use Rattle.tsp_items.specs.declared.parts.triples.TripleList.{TripleList}
@@ -10,9 +11,11 @@ use Rattle.tsp_items.specs.declared.parts.weights.WeightList.{WeightList}
 use Rattle.tsp_items.specs.declared.parts.tours.TourList.{TourList}
 use Rattle.tsp_items.specs.declared.part.Part.{Part}
 use Rattle.tsp_items.specs.declared.part.Part.TheVariants as parts
+use Rattle.tsp_items.specs.declared.part.Run.{Run}
+use Rattle.tsp_items.specs.declared.part.Run.TheVariants as runs
 use Rattle.tsp_value.specs.declared.field.Shape.{Shape}
-use Rattle.tsp_value.specs.declared.field.Shape.TheVariants.{Numbers, Points, Depots, Pairs, Weights, Tours, Triples}
-use Rattle.tsp_items.specs.states.Parts.{NumbersHold, PointsHold, DepotsHold, PairsHold, TriplesHold, WeightsHold, ToursHold, EndsRun}
+use Rattle.tsp_value.specs.declared.field.Shape.TheVariants.{Numbers, Points, SpacePoints, Depots, Pairs, Weights, Tours, Triples}
+use Rattle.tsp_items.specs.states.Parts.{NumbersHold, PointsHold, SpacePointsHold, DepotsHold, PairsHold, TriplesHold, WeightsHold, ToursHold, EndsRun}
 
 -- its numbers are of this range
 pub record HoldsNumbers (part : NumberList) (low high : ℤ) (n : ℕ) (words : List (List ℕ)) : Type 0 where
@@ -21,7 +24,11 @@ pub record HoldsNumbers (part : NumberList) (low high : ℤ) (n : ℕ) (words : 
   pub read : NumbersHold part.seen.items part.entries.items part.left part.begun low high n words
 
 abbrev pub HoldsPoints : PointList → ℕ → List (List ℕ) → Type 0
-HoldsPoints part n words = PointsHold part.seen.items (points_of part.entries) part.left part.begun part.x n words
+HoldsPoints part n words =
+    PointsHold part.seen.items (map (λ point. on_plane point.x point.y) part.entries.items) part.left part.begun part.x n words
+
+abbrev pub HoldsSpacePoints : SpacePointList → ℕ → List (List ℕ) → Type 0
+HoldsSpacePoints part n words = SpacePointsHold part.seen.items part.entries.items part.left part.begun part.x part.y n words
 
 pub record HoldsDepots (part : DepotList) (n : ℕ) (words : List (List ℕ)) : Type 0 where
   pub nodes : part.n ≡ n
@@ -49,16 +56,29 @@ EndsRunOf part words = EndsRun (map (λ tour. tour.items) part.done.items) part.
 abbrev pub shape_by : Part → Shape
 shape_by (parts.Numbers list) = Numbers list.low list.high
 shape_by (parts.Points list) = Points
+shape_by (parts.SpacePoints list) = SpacePoints
 shape_by (parts.Depots list) = Depots
 shape_by (parts.Pairs list) = Pairs
 shape_by (parts.Weights list) = Weights
 shape_by (parts.Tours list) = Tours
 shape_by (parts.Triples list) = Triples
 
+-- the run that its words are read in, where they are
+abbrev pub run_of : Part → Option Run
+run_of (parts.Weights list) = Some runs.Weights
+run_of (parts.Tours list) = Some runs.Tours
+run_of (parts.Points list) = Some runs.Points
+run_of (parts.SpacePoints list) = Some runs.SpacePoints
+run_of (parts.Numbers list) = None
+run_of (parts.Depots list) = None
+run_of (parts.Pairs list) = None
+run_of (parts.Triples list) = None
+
 -- the part holds these words of its section
 abbrev pub HoldsPart : Part → ℕ → List (List ℕ) → Type 0
 HoldsPart (parts.Numbers list) n words = HoldsNumbers list list.low list.high n words
 HoldsPart (parts.Points list) n words = HoldsPoints list n words
+HoldsPart (parts.SpacePoints list) n words = HoldsSpacePoints list n words
 HoldsPart (parts.Depots list) n words = HoldsDepots list n words
 HoldsPart (parts.Pairs list) n words = HoldsFixed list n words
 HoldsPart (parts.Weights list) n words = HoldsWeights list n words

@@ -12,7 +12,7 @@ use Rattle.tsp_items.specs.declared.fault.StepFault.TheVariants as steps
 use Rattle.tsp_items.specs.Lines.{is_filled}
 use Rattle.tsp_items.specs.Numbers.{node, node_or_end, is_end}
 use Rattle.tsp_items.specs.Places.{Place}
-use Rattle.tsp_items.specs.Groups.{pairs_in, triples_in, begun_pair, begun_triple, number_groups, point_groups, entry_of}
+use Rattle.tsp_items.specs.Groups.{pairs_in, triples_in, begun_pair, begun_triple, begun_four, number_groups, point_groups, space_point_groups, entry_of}
 use Rattle.tsp_items.specs.Lists.{depots_in, fixed_in, firsts_in, fixed_triples_in, triple_firsts_in}
 use Rattle.tsp_items.specs.Weights.{weights_in}
 use Rattle.tsp_items.specs.Tours.{ends_tour, tour_node, tours_in}
@@ -84,6 +84,22 @@ pub record PointsHold (seen : List Bool) (entries : List Point) (left : ℕ) (be
   pub cut : 0 < left → BeginsPoint n begun x (begun_triple words)
   pub open_ended : 0 < left → length words < 3 * n
   pub full : left ≡ 0 → 3 * n ≤ length words
+
+-- the first two coordinates of a group that has begun
+abbrev pub BeginsSpacePoint : ℕ → Option ℕ → Option ℤ → Option ℤ → List (List ℕ) → Type 0
+BeginsSpacePoint n None x y [] = (x ≡ None) × (y ≡ None)
+BeginsSpacePoint n (Some k) None None (word ∷ []) = node n word ≡ Ok (pos k)
+BeginsSpacePoint n (Some k) (Some x) None (word ∷ first ∷ []) = (node n word ≡ Ok (pos k)) × (decimal_of first ≡ Ok x)
+BeginsSpacePoint n (Some k) (Some x) (Some y) (word ∷ first ∷ second ∷ []) =
+    (node n word ≡ Ok (pos k)) × (decimal_of first ≡ Ok x) × (decimal_of second ≡ Ok y)
+BeginsSpacePoint n begun x y words = ⊥
+
+pub record SpacePointsHold (seen : List Bool) (entries : List Point) (left : ℕ) (begun : Option ℕ) (x y : Option ℤ) (n : ℕ)
+    (words : List (List ℕ)) : Type 0 where
+  pub nodes : NodesHold origin seen entries left begun n (space_point_groups n words)
+  pub cut : 0 < left → BeginsSpacePoint n begun x y (begun_four words)
+  pub open_ended : 0 < left → length words < 4 * n
+  pub full : left ≡ 0 → 4 * n ≤ length words
 
 -- ---- lists that -1 ends
 

@@ -1,4 +1,4 @@
-//! By-node sections with a point for each node.
+//! By-node sections with a point of the plane for each node.
 
 ghost use Rattle.std.specs.Prelude.{◌≡◌, ◌<◌, ◌≤◌, ◌^◌, None, Some, Ok, [], ℕ, List, length, ◌∷◌, ◌++◌, vec_len, IfOk, IfErr, Err, ◌≢◌, is_some, true, false};
 ghost use Rattle.std.specs.Option.{ForSome};
@@ -14,11 +14,11 @@ use tsp_number::{Decimal, PlanePoint, parse_decimal};
 #[derive(Drop)]
 pub struct PointList {
     seen: Vec<bool>,
-    entries: Coords,
+    entries: Vec<PlanePoint>,
     left: u32,
     begun: Option<u32>,
     x: Option<Decimal>,
-    ghost same: { length (points_of entries) ≡ vec_len seen },
+    ghost same: { vec_len entries ≡ vec_len seen },
     ghost narrow: { vec_len seen < 2 ^ 32 },
     ghost within: { ForSome begun (λ k. (1 ≤ k) × (k ≤ vec_len seen)) },
 }
@@ -41,9 +41,13 @@ impl PointList {
     pub fn open(alloc: Global, n: u32) -> Result<PointList, AllocError>
         ensures { IfOk result (λ part. HoldsPoints part n []) }
     {
+        let zero = match Decimal::of_count(0) {
+            Some(zero) => zero,
+            None => unreachable!(),
+        };
         Ok(PointList {
             seen: vec![in alloc; false; n as usize]?,
-            entries: Coords::at_origin(alloc, n as usize)?,
+            entries: vec![in alloc; PlanePoint { x: zero, y: zero }; n as usize]?,
             left: n,
             begun: None,
             x: None,
@@ -103,8 +107,7 @@ impl PointList {
             None => self.x = Some(coordinate),
             Some(x) => {
                 self.seen[node as usize - 1] = true;
-                self.entries
-                    .put(node as usize - 1, PlanePoint { x, y: coordinate });
+                self.entries[node as usize - 1] = PlanePoint { x, y: coordinate };
                 self.left -= 1;
                 self.begun = None;
                 self.x = None;
@@ -170,6 +173,6 @@ impl PointList {
             × (result.1 ≡ wants_more (place_of_point n words)) }
     {
         let wants_more = self.left > 0;
-        (self.entries, wants_more)
+        (Coords::Plane(self.entries), wants_more)
     }
 }

@@ -3,14 +3,17 @@
 use crate::state::reading::Reading;
 use std::alloc::Global;
 use tsp_items::{
-    CutLine, LineFault, StepFault, add_comment, add_other, set_count, set_name, set_named,
-    set_number,
+    CutLine, LineFault, StepFault, add_comment, add_other, says_space, set_count, set_name,
+    set_named, set_number,
 };
 use tsp_value::{Field, Keyword, MOST_CAPACITY, MOST_LINE_BYTES, MOST_NODES, MOST_SCALE};
 
 impl Reading {
-    ghost use Rattle.std.specs.Prelude.{◌≡◌, None, List};
+    ghost use Rattle.std.specs.Prelude.{◌≡◌, ◌&&◌, not, is_some, None, List};
     ghost use Rattle.tsp_value.specs.Shapes.{shape_of};
+    ghost use Rattle.tsp_fields.specs.Fields.{fields_of, spatial};
+    ghost use Rattle.tsp_items.specs.Lines.{first_word};
+    ghost use Rattle.tsp_items.specs.Values.{says_space};
     ghost use Rattle.tsp_items.specs.Items.{Item};
     ghost use Rattle.tsp_items.specs.states.CutLine.{seen, cut_item};
     ghost use Rattle.tsp_read.specs.states.Holds.{Holds, Answers, LineAnswers};
@@ -28,7 +31,7 @@ impl Reading {
             Err(fault) => return Err(fault),
         }
         match line.key {
-            Keyword::Known(field) => match field.shape() {
+            Keyword::Known(field) => match field.shape(self.draft.is_spatial()) {
                 Some(shape) => self.open(alloc, field, shape, line),
                 None => self.known(alloc, field, line),
             },
@@ -39,14 +42,22 @@ impl Reading {
         }
     }
 
+    /// Whether a line says that the nodes have three coordinates, after a section of two of each.
+    fn is_late(&self, field: Field, value: &[u8]) -> bool
+        ensures { result ≡ (says_space field (first_word value.now) && is_some (fields_of self.now.draft).coords
+            && not (spatial (fields_of self.now.draft))) }
+    {
+        says_space(field, value) && self.draft.coords.is_some() && !self.draft.is_spatial()
+    }
+
     /// Takes the line of a keyword, where no section is open.
     fn known(&mut self, alloc: Global, field: Field, line: &CutLine<'_>) -> Result<(), StepFault>
-        requires { shape_of field ≡ None }
+        requires { shape_of (spatial (fields_of self.old.draft)) field ≡ None }
         ensures { LineAnswers self.old field (seen line.now) self.new result }
     {
         match field {
             Field::NameKey => set_name(alloc, &mut self.draft.name, line),
-            Field::TypeKey => set_named(&mut self.draft.kind, Field::TypeKey, line.value),
+            Field::TypeKey => set_named(&mut self.draft.kind, Field::TypeKey, line.value, false),
             Field::CommentKey => add_comment(alloc, &mut self.draft.comments, line),
             Field::DimensionKey => set_count(&mut self.draft.dimension, line.value, MOST_NODES),
             Field::CapacityKey => set_number(
@@ -56,28 +67,38 @@ impl Reading {
                 MOST_CAPACITY,
             ),
             Field::ScaleKey => set_number(&mut self.draft.scale, line.value, 1, MOST_SCALE),
-            Field::EdgeWeightTypeKey => set_named(
-                &mut self.draft.weight_kind,
-                Field::EdgeWeightTypeKey,
-                line.value,
-            ),
+            Field::EdgeWeightTypeKey => {
+                let late = self.is_late(Field::EdgeWeightTypeKey, line.value);
+                set_named(
+                    &mut self.draft.weight_kind,
+                    Field::EdgeWeightTypeKey,
+                    line.value,
+                    late,
+                )
+            }
             Field::EdgeWeightFormatKey => {
                 set_named(
                     &mut self.draft.weight_format,
                     Field::EdgeWeightFormatKey,
                     line.value,
+                    false,
                 )
             }
-            Field::NodeCoordTypeKey => set_named(
-                &mut self.draft.coord_kind,
-                Field::NodeCoordTypeKey,
-                line.value,
-            ),
+            Field::NodeCoordTypeKey => {
+                let late = self.is_late(Field::NodeCoordTypeKey, line.value);
+                set_named(
+                    &mut self.draft.coord_kind,
+                    Field::NodeCoordTypeKey,
+                    line.value,
+                    late,
+                )
+            }
             Field::DisplayDataTypeKey => {
                 set_named(
                     &mut self.draft.display_kind,
                     Field::DisplayDataTypeKey,
                     line.value,
+                    false,
                 )
             }
             _ => Ok(()),

@@ -2,6 +2,7 @@
 
 ghost use Rattle.std.specs.Prelude.{◌≡◌, Some};
 ghost use Rattle.tsp_value.specs.Shapes.{shape_of};
+ghost use Rattle.tsp_fields.specs.Fields.{fields_of, spatial};
 ghost use Rattle.tsp_items.specs.states.CutLine.{seen};
 ghost use Rattle.tsp_read.specs.states.Holds.{LineAnswers};
 
@@ -19,7 +20,7 @@ impl Reading {
         shape: Shape,
         line: &CutLine<'_>,
     ) -> Result<(), StepFault>
-        requires { shape_of field ≡ Some shape }
+        requires { shape_of (spatial (fields_of self.old.draft)) field ≡ Some shape }
         ensures { LineAnswers self.old field (seen line.now) self.new result }
     {
         let stands = self.draft.stands(field);

@@ -1,6 +1,6 @@
 //! What a section has read goes into its field of the draft.
 
-ghost use Rattle.std.specs.Prelude.{◌≡◌, ℕ, List, IfOk, IfErr};
+ghost use Rattle.std.specs.Prelude.{◌≡◌, ℕ, Bool, List, IfOk, IfErr};
 ghost use Rattle.tsp_fields.specs.Fields.{fields_of};
 ghost use Rattle.tsp_items.specs.declared.fault.StepFault.TheVariants.{Memory};
 ghost use Rattle.tsp_items.specs.Sections.{place_in};
@@ -19,9 +19,10 @@ pub(crate) fn store(
     alloc: Global,
     section: OpenSection,
 ) -> Result<bool, StepFault>
-    ensures stored { IfOk result (λ more. (n : ℕ) (words : List (List ℕ)) → HoldsSection section n words
-        → (fields_of draft.new ≡ with_section section.field n words (fields_of draft.old))
-        × (more ≡ wants_more (place_in section.field n words))) }
+    ensures stored { IfOk result (λ more. (in_space : Bool) (n : ℕ) (words : List (List ℕ))
+        → HoldsSection in_space section n words
+        → (fields_of draft.new ≡ with_section in_space section.field n words (fields_of draft.old))
+        × (more ≡ wants_more (place_in in_space section.field n words))) }
     ensures err { IfErr result (λ e. e ≡ Memory) }
 {
     let OpenSection { field, part } = section;
@@ -32,6 +33,11 @@ pub(crate) fn store(
             Ok(wants_more)
         }
         Part::Points(part) => {
+            let (points, wants_more) = part.finish();
+            draft.set_points(field, points);
+            Ok(wants_more)
+        }
+        Part::SpacePoints(part) => {
             let (points, wants_more) = part.finish();
             draft.set_points(field, points);
             Ok(wants_more)

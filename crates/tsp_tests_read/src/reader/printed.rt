@@ -66,6 +66,7 @@ const LINE_FAULTS: &[(LineFault, &str)] = &[
     (LineFault::SelfEdge, "SelfEdge"),
     (LineFault::Surplus, "Surplus"),
     (LineFault::AfterEnd, "AfterEnd"),
+    (LineFault::LateSpace, "LateSpace"),
 ];
 
 #[test]

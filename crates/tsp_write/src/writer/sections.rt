@@ -46,14 +46,23 @@ fn put_coordinate<W: Write>(piece: &mut Piece, out: &mut Watched<W>, coordinate:
     push_decimal(piece, coordinate);
 }
 
-/// Adds the line of a node and its coordinates.
-fn put_point_line<W: Write>(piece: &mut Piece, out: &mut Watched<W>, node: usize, point: Point)
+/// Adds the line of a node and its coordinates, three in space and two in the plane.
+fn put_point_line<W: Write>(
+    piece: &mut Piece,
+    out: &mut Watched<W>,
+    node: usize,
+    point: Point,
+    spatial: bool,
+)
     ensures { Puts W.contents out.old piece.old out.new piece.new
-        (number_line (decimal node) (point_numbers point)) }
+        (number_line (decimal node) (point_numbers spatial point)) }
 {
     put_number(piece, out, node);
     put_coordinate(piece, out, point.x);
     put_coordinate(piece, out, point.y);
+    if spatial {
+        put_coordinate(piece, out, point.z);
+    }
     put(piece, out, b"\n");
 }
 
@@ -104,15 +113,15 @@ fn put_numbers<W: Write>(piece: &mut Piece, out: &mut Watched<W>, numbers: &[i64
 }
 
 /// Adds a line for each node, in rising order, with its coordinates.
-fn put_points<W: Write>(piece: &mut Piece, out: &mut Watched<W>, points: &Coords)
+fn put_points<W: Write>(piece: &mut Piece, out: &mut Watched<W>, points: &Coords, spatial: bool)
     ensures { Puts W.contents out.old piece.old out.new piece.new
-        (by_node point_numbers (points_of points.now)) }
+        (by_node (point_numbers spatial) (points_of points.now)) }
 {
     'nodes: for index in 0..points.len() {
         let Some(point) = points.get(index) else {
             unreachable!();
         };
-        put_point_line(piece, out, index + 1, point);
+        put_point_line(piece, out, index + 1, point, spatial);
     }
 }
 
@@ -172,19 +181,22 @@ pub(crate) fn put_number_section<W: Write>(
     }
 }
 
-/// Adds a section of coordinates, where the file has it.
+/// Adds a section of coordinates, three of each node in space and two in the plane, where the file
+/// has it.
 pub(crate) fn put_point_section<W: Write>(
     piece: &mut Piece,
     out: &mut Watched<W>,
     field: Field,
     points: Option<&Coords>,
+    spatial: bool,
 )
     ensures { Puts W.contents out.old piece.old out.new piece.new
-        (optional (λ points. section field (by_node point_numbers points)) (option_map (λ points. points_of points.now) points.entry)) }
+        (optional (λ points. section field (by_node (point_numbers spatial) points))
+        (option_map (λ points. points_of points.now) points.entry)) }
 {
     if let Some(points) = points {
         put_opening(piece, out, field);
-        put_points(piece, out, points);
+        put_points(piece, out, points, spatial);
     }
 }
 

@@ -12,4 +12,5 @@ pub returns-in-Plane : goal.returns-in-Plane
 returns-in-Plane c =
     let place : PlanePoint → Point = λ point. on_plane point.x point.y in
     let points : map place c.deref.result.now ≡ points_of c.args.points.now = ap (map place) c.deref.ensures.value ∙ ap points_of (sym c.in-Plane.is) in
-    c.are_within.ensures ∙ sym (list_all-map is_point place c.deref.result.now) ∙ ap (list_all is_point) points
+    c.are_within.ensures ∙ sym (list_all-map (is_point c.args.spatial) place c.deref.result.now)
+    ∙ ap (list_all (is_point c.args.spatial)) points

@@ -24,3 +24,10 @@ returns-in-Points-clause-taken c = λ taken n words word read h.
     steps.as_list c.args.self.now (parts.Points c.in-Points.part) (parts.Points c.push_read-in-Points.new.self) n words
     word (Ok tt) c.in-Points.is refl
     (c.push_read-in-Points.ensures.taken taken n words word (rw (to_z-of_z w64 c.args.number fits) read)) h
+
+pub returns-in-SpacePoints-clause-taken : goal.returns-in-SpacePoints-clause-taken
+returns-in-SpacePoints-clause-taken c = λ taken n words word read h.
+    let fits : FitsSigned w64 c.args.number = search rules in
+    steps.as_list c.args.self.now (parts.SpacePoints c.in-SpacePoints.part) (parts.SpacePoints c.push_read-in-SpacePoints.new.self) n words
+    word (Ok tt) c.in-SpacePoints.is refl
+    (c.push_read-in-SpacePoints.ensures.taken taken n words word (rw (to_z-of_z w64 c.args.number fits) read)) h

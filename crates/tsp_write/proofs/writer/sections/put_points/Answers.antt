@@ -1,4 +1,4 @@
-use Rattle.std.proofs.Common.{◌≡◌, ℕ, ◌+◌, List, get_or, subst, arith}
+use Rattle.std.proofs.Common.{ℕ, ◌+◌, List, get_or, subst, arith}
 use Rattle.tsp_number.specs.declared.decimal.Point.{Point}
 use Rattle.std.specs.Fmt.{decimal}
 use Rattle.tsp_fields.specs.Coords.{points_of, origin}
@@ -9,7 +9,7 @@ use Rattle.tsp_write.proofs.writer.sections.put_points.Goals as goal
 
 pub nodes-preserved : goal.nodes-preserved
 nodes-preserved g c =
-    let line : ℕ × Point → List ℕ = λ entry. number_line (decimal entry.0) (point_numbers entry.1) in
+    let line : ℕ × Point → List ℕ = λ entry. number_line (decimal entry.0) (point_numbers c.args.spatial entry.1) in
     let points : List Point = points_of c.args.points.now in
     let before : Way = way_of g.W.Write.contents c.nodes.out c.nodes.piece.items in
     let after : Way = way_of g.W.Write.contents c.put_point_line.new.out c.put_point_line.new.piece.items in
@@ -19,5 +19,5 @@ nodes-preserved g c =
     c.in-Some.ensures.0 c.nodes.invariant put
 
 pub returns : goal.returns
-returns g c = carried_nodes (λ (entry : ℕ × Point). number_line (decimal entry.0) (point_numbers entry.1)) (points_of c.args.points.now) c.nodes.index
+returns g c = carried_nodes (λ (entry : ℕ × Point). number_line (decimal entry.0) (point_numbers c.args.spatial entry.1)) (points_of c.args.points.now) c.nodes.index
     (way_of g.W.Write.contents c.args.out.now c.args.piece.now.items) (way_of g.W.Write.contents c.nodes.out c.nodes.piece.items) (omega arith) c.nodes.invariant

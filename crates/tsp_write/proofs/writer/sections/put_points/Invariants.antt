@@ -8,4 +8,4 @@ use Rattle.tsp_write.proofs.writer.sections.put_points.Given as goal
 
 abbrev pub invariant-nodes : goal.invariant-nodes
 invariant-nodes g l = Carried (way_of g.W.Write.contents l.initial.out l.initial.piece.items) (way_of g.W.Write.contents l.out l.piece.items)
-    (flat_map (λ entry. number_line (decimal entry.0) (point_numbers entry.1)) (take l.index (enumerate_from 1 (points_of l.points))))
+    (flat_map (λ entry. number_line (decimal entry.0) (point_numbers l.spatial entry.1)) (take l.index (enumerate_from 1 (points_of l.points))))

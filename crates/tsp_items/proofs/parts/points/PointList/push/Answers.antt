@@ -1,5 +1,5 @@
 use Rattle.std.proofs.Common.{◌∙◌, sym, subst, Err, arith}
-use Rattle.tsp_fields.specs.Coords.{points_of}
+use Rattle.tsp_items.proofs.PointSteps.{plane_points}
 use Rattle.tsp_items.specs.states.Parts.{IsNewNode}
 use Rattle.tsp_items.proofs.PointSteps.{point_node_faulty, point_bad, point_node}
 use Rattle.tsp_items.proofs.parts.points.PointList.push.Goals as goal
@@ -8,13 +8,13 @@ pub returns-in-Ok-clause-takes : goal.returns-in-Ok-clause-takes
 returns-in-Ok-clause-takes c = λ n words h.
     let s = c.args.self.now in
     let new = rw c.as_slice.ensures.value at c.in-Ok.ensures in
-    point_node s.seen.items (points_of s.entries) s.left s.begun s.x n words c.args.word.now c.in-Ok.node (omega arith) c.in-None.is new h
+    point_node s.seen.items (plane_points s.entries.items) s.left s.begun s.x n words c.args.word.now c.in-Ok.node (omega arith) c.in-None.is new h
 
 pub returns-in-Err-clause-takes : goal.returns-in-Err-clause-takes
 returns-in-Err-clause-takes c = λ n words h.
     let s = c.args.self.now in
     let new = subst (λ seen. IsNewNode seen c.args.word.now (Err c.in-Err.fault)) c.as_slice.ensures.value c.in-Err.ensures in
-    point_node_faulty s.seen.items (points_of s.entries) s.left s.begun s.x n words c.args.word.now c.in-Err.fault (omega arith) c.in-None.is new h
+    point_node_faulty s.seen.items (plane_points s.entries.items) s.left s.begun s.x n words c.args.word.now c.in-Err.fault (omega arith) c.in-None.is new h
 
 pub returns-in-Ok-parse_decimal-clause-takes : goal.returns-in-Ok-parse_decimal-clause-takes
 returns-in-Ok-parse_decimal-clause-takes c = λ n words h. c.put.ensures n words c.args.word.now h (sym c.parse_decimal.ensures.computed ∙ c.in-Ok-parse_decimal.is)
@@ -22,4 +22,4 @@ returns-in-Ok-parse_decimal-clause-takes c = λ n words h. c.put.ensures n words
 pub returns-in-Err-parse_decimal-clause-takes : goal.returns-in-Err-parse_decimal-clause-takes
 returns-in-Err-parse_decimal-clause-takes c = λ n words h.
     let s = c.args.self.now in
-    point_bad s.seen.items (points_of s.entries) s.left s.begun s.x n words c.args.word.now c.in-Some.node c.in-Err-parse_decimal.fault (omega arith) c.in-Some.is (sym c.parse_decimal.ensures.computed ∙ c.in-Err-parse_decimal.is) h
+    point_bad s.seen.items (plane_points s.entries.items) s.left s.begun s.x n words c.args.word.now c.in-Some.node c.in-Err-parse_decimal.fault (omega arith) c.in-Some.is (sym c.parse_decimal.ensures.computed ∙ c.in-Err-parse_decimal.is) h

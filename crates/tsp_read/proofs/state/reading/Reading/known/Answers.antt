@@ -1,5 +1,6 @@
 use Rattle.std.proofs.Common.{refl, map}
 use Rattle.std.specs.Option.{option_map}
+use Rattle.tsp_fields.specs.Fields.{fields_of, spatial}
 use Rattle.tsp_items.specs.states.CutLine.{seen}
 use Rattle.tsp_read.proofs.KeywordSteps as keywords
 use Rattle.tsp_read.proofs.SectionCases.{unnamed}
@@ -32,7 +33,9 @@ returns-in-TypeKey c = λ earlier h short.
 
 pub returns-in-EdgeWeightTypeKey : goal.returns-in-EdgeWeightTypeKey
 returns-in-EdgeWeightTypeKey c = λ earlier h short.
-    rw c.in-EdgeWeightTypeKey.is (keywords.weight_kind_line c.args.self.now _ (seen c.args.line.now) c.set_named-in-EdgeWeightTypeKey.new.slot c.set_named-in-EdgeWeightTypeKey.result c.set_named-in-EdgeWeightTypeKey.ensures refl refl refl earlier h short)
+    let sets = rw c.is_late-late.ensures at c.set_named-in-EdgeWeightTypeKey.ensures in
+    rw c.in-EdgeWeightTypeKey.is (keywords.weight_kind_line c.args.self.now _ (seen c.args.line.now) c.set_named-in-EdgeWeightTypeKey.new.slot
+    c.set_named-in-EdgeWeightTypeKey.result sets refl refl refl earlier h short)
 
 pub returns-in-EdgeWeightFormatKey : goal.returns-in-EdgeWeightFormatKey
 returns-in-EdgeWeightFormatKey c = λ earlier h short.
@@ -40,7 +43,9 @@ returns-in-EdgeWeightFormatKey c = λ earlier h short.
 
 pub returns-in-NodeCoordTypeKey : goal.returns-in-NodeCoordTypeKey
 returns-in-NodeCoordTypeKey c = λ earlier h short.
-    rw c.in-NodeCoordTypeKey.is (keywords.coord_kind_line c.args.self.now _ (seen c.args.line.now) c.set_named-in-NodeCoordTypeKey.new.slot c.set_named-in-NodeCoordTypeKey.result c.set_named-in-NodeCoordTypeKey.ensures refl refl refl earlier h short)
+    let sets = rw c.is_late-late-in-NodeCoordTypeKey.ensures at c.set_named-in-NodeCoordTypeKey.ensures in
+    rw c.in-NodeCoordTypeKey.is (keywords.coord_kind_line c.args.self.now _ (seen c.args.line.now) c.set_named-in-NodeCoordTypeKey.new.slot
+    c.set_named-in-NodeCoordTypeKey.result sets refl refl refl earlier h short)
 
 pub returns-in-DisplayDataTypeKey : goal.returns-in-DisplayDataTypeKey
 returns-in-DisplayDataTypeKey c = λ earlier h short.
@@ -49,6 +54,6 @@ returns-in-DisplayDataTypeKey c = λ earlier h short.
 pub returns-in_default : goal.returns-in_default
 returns-in_default c = λ earlier h short.
     let d = c.in_default in
-    texts.unnamed_field c.args.self.now c.args.field (seen c.args.line.now) earlier (unnamed c.args.field c.requires d.not-NameKey d.not-TypeKey
+    texts.unnamed_field c.args.self.now c.args.field (seen c.args.line.now) earlier (unnamed (spatial (fields_of c.args.self.now.draft)) c.args.field c.requires d.not-NameKey d.not-TypeKey
     d.not-CommentKey d.not-DimensionKey d.not-CapacityKey d.not-ScaleKey d.not-EdgeWeightTypeKey d.not-EdgeWeightFormatKey
     d.not-NodeCoordTypeKey d.not-DisplayDataTypeKey) short h
