@@ -1,5 +1,7 @@
 -- A tree of boxes over nodes in an order, its leaves one node each, and what a search of it finds.
 use Rattle.std.specs.Prelude.{◌≡◌, ℕ, zero, suc, ◌+◌, ◌*◌, ◌/◌, ◌<◌, ◌≤◌, Bool, true, false, List, Option, None, Some, length, slice_index_or, slice_set, ℤ, pos, ◌≤ℤ◌, ◌⊎◌}
+use denote.Struct.Props as logic
+use mathlib.Core.HLevel.{Π_prop, ⊥_prop}
 use Rattle.tsp_number.specs.declared.decimal.Point.{Point}
 use Rattle.tsp_cost.specs.Regions.{IsIn}
 use Rattle.tsp_bound.specs.Numbers.{entry}
@@ -61,3 +63,13 @@ pub record IsSearched (w : ℕ → ℕ → ℤ) (order : List ℕ) (outside : Li
 -- before the search
 abbrev pub no_best : Best
 no_best = record { weight = pos 9223372036854775807; place = 0 }
+
+-- ---- each has one proof at most
+
+pub Holds-prop : (place : ℕ → Point) (numbers : List ℤ) (area : Option Area) (node : ℕ) → IsProp (Holds place numbers area node)
+Holds-prop place numbers None node = ⊥_prop
+Holds-prop place numbers (Some area) node = Prim.hlevel logic.props
+
+pub AreHeld-prop : (place : ℕ → Point) (numbers : List ℤ) (order : List ℕ) (outside : List Bool) (areas : List (Option Area)) → IsProp (AreHeld (Holds place numbers) order outside areas)
+AreHeld-prop place numbers order outside areas =
+    Π_prop λ j. Π_prop λ h. Π_prop λ _. Π_prop λ _. Π_prop λ _. Holds-prop place numbers (area_at areas (up h (length order + j))) (node_at order j)

@@ -11,6 +11,7 @@ mod growth;
 mod heap;
 mod laws;
 mod multipliers;
+mod nodes;
 mod numbering;
 mod numbers;
 mod outside;
