@@ -14,7 +14,7 @@ returns-clause-below g c = λ to node inside.
     let there : Point = points_place g.P.InSpace.place c.args.self.now to in
     let nearest = c.nearest-nearest in
     let grows : distance kind here nearest.result ≤ℤ distance kind here there =
-    distance_grows laws.euc_2d laws.ceil_2d laws.man_2d laws.max_2d laws.att kind here nearest.result here there
+    distance_grows laws.euc_2d laws.ceil_2d laws.man_2d laws.max_2d laws.att laws.euc_3d laws.man_3d laws.max_3d kind here nearest.result here there
     (nearest.ensures.across there inside) (nearest.ensures.along there inside) (nearest.ensures.above there inside) in
     let fits : FitsSigned w64 c.distance.result = search rules in
     subst (λ (p : Point). to_z w64 (of_z w64 c.distance.result) ≤ℤ distance kind p there) c.place-here.ensures
