@@ -13,3 +13,4 @@ pub mod NextCases
 pub mod SetSums
 pub mod CombedRows
 pub mod SetAlgebra
+pub mod CombsBySets

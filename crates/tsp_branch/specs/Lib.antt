@@ -8,3 +8,4 @@ pub mod Weighed
 pub mod Decided
 pub mod Sets
 pub mod Combed
+pub mod CombsOfSets

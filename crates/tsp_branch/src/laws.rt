@@ -6,6 +6,7 @@ ghost use Rattle.tsp_branch.specs.Decisions.{Decision, DecidedBoundsBoundWalks, 
 ghost use Rattle.tsp_branch.specs.LeafBound.{LeafBoundsBoundWalks, UncombedBoundsAreAdjustedBounds};
 ghost use Rattle.tsp_branch.specs.Cases.{decide, BoundsCase, BoundsButOpen, WalksKeepLeaves, CasesBoundWalks, StacksBegin, StacksBranch, StacksHoldCases};
 ghost use Rattle.tsp_branch.specs.Certificate.{CertificatesBoundWalks, CertificatesBoundTours, CertificateBoundsAreUnique};
+ghost use Rattle.tsp_branch.specs.CombsOfSets.{SetsTellCombs, SetsGiveLeaves};
 
 use tsp_bound::adjusted_bounds_bound_walks;
 use tsp_cost::{lengths_add_up, walks_are_permutations, walks_have_no_loops};
@@ -44,6 +45,12 @@ pub fn numbers_tell_combs()
 /// common, and the numbers tell how many parts two nodes cross.
 pub fn numbers_tell_lists()
     ensures { NumbersTellLists }
+{}
+
+/// Sets with the numbers of their combs tell what two nodes cross, and give the weights of a leaf.
+pub fn sets_tell_combs()
+    ensures combs { SetsTellCombs }
+    ensures leaves { SetsGiveLeaves }
 {}
 
 /// The bound of potentials, of numbers on pairs and of combs is at most the length of every walk

@@ -25,7 +25,7 @@ pub use examples::{
 pub use laws::{
     cases_bound_walks, certificate_bounds_are_unique, certificates_bound_walks,
     decided_bounds_bound_walks, fixed_bounds_bound_tours, leaf_bounds_bound_walks,
-    numbers_tell_combs, numbers_tell_lists, stacks_hold_cases, steps_leave_cases,
+    numbers_tell_combs, numbers_tell_lists, sets_tell_combs, stacks_hold_cases, steps_leave_cases,
     walks_cross_combs, walks_keep_leaves,
 };
 pub use leaf::leaf_bound;
