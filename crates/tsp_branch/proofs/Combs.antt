@@ -68,11 +68,11 @@ of_tooth n nodes handle tooth laws walk t off =
 
 -- ---- all teeth
 
-abbrev Apart : List (ℕ → Bool) → Type 0
+abbrev pub Apart : List (ℕ → Bool) → Type 0
 Apart [] = Unit {0}
 Apart (tooth ∷ teeth) = AllByRecursion (AreApart tooth) teeth × Apart teeth
 
-apart_from_pairs : (teeth : List (ℕ → Bool)) → AllPairs AreApart teeth → Apart teeth
+pub apart_from_pairs : (teeth : List (ℕ → Bool)) → AllPairs AreApart teeth → Apart teeth
 apart_from_pairs [] h = tt
 apart_from_pairs (t ∷ ts) h = (
   recursion_from_All (AreApart t) ts (λ k d lt. h zero (suc k) d (omega arith) (omega arith)),

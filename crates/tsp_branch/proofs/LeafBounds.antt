@@ -40,7 +40,7 @@ leaf_even scale potentials taken avoided combs cost even i j =
 
 -- ---- what the combs take off a walk
 
-product_below : (m : ℕ) (a b : ℤ) → a ≤ℤ b → (pos m *ℤ a) ≤ℤ (pos m *ℤ b)
+pub product_below : (m : ℕ) (a b : ℤ) → a ≤ℤ b → (pos m *ℤ a) ≤ℤ (pos m *ℤ b)
 product_below zero a b h = let first = zero-*ℤ a in let second = zero-*ℤ b in omega (arith, ints, first, second)
 product_below (suc m) a b h = omega (arith, ints, h, product_below m a b h, suc_ℤ-*ℤ (pos m) a, suc_ℤ-*ℤ (pos m) b)
 

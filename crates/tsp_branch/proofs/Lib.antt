@@ -14,3 +14,6 @@ pub mod SetSums
 pub mod CombedRows
 pub mod SetAlgebra
 pub mod CombsBySets
+pub mod CombSizes
+pub mod DecidedOnce
+pub mod MovedSums

@@ -1,5 +1,5 @@
 -- Weights under combs as code finds them: by the sets of the combs, each with the multiplier of its comb.
-use Rattle.std.specs.Prelude.{◌≢◌, ℕ, ◌<◌, List, [], map, length, slice_index_or, ℤ, pos, ◌-ℤ◌, ◌*ℤ◌}
+use Rattle.std.specs.Prelude.{◌≢◌, ℕ, ◌*◌, ◌<◌, List, [], map, length, slice_index_or, ℤ, pos, ◌-ℤ◌, ◌*ℤ◌}
 use Rattle.std.specs.Global.{Vec}
 use Rattle.std.specs.List.{All, AllPairs}
 use Rattle.tsp_cost.specs.Length.{sum_int_by}
@@ -48,3 +48,14 @@ inside_both multipliers sets numbers x = sum_int_by (λ number. twice_in multipl
 abbrev pub set_weight : ℤ → List ℤ → List ℤ → List (ℕ × List ℕ) → (ℕ → ℕ → ℤ) → ℕ → ℕ → ℤ
 set_weight scale potentials multipliers sets cost i j =
     weight_between scale potentials cost i j -ℤ set_crossings multipliers sets i j
+
+-- how often two nodes cross the sets at most, and how large a weight is: no two teeth of a comb have a node in common, so that two
+-- nodes cross three sets of each comb at most
+abbrev pub most_crossed : ℕ
+most_crossed = 3 * most_multiplied
+
+abbrev pub AreFewCrossings : List ℤ → List (ℕ × List ℕ) → Type 0
+AreFewCrossings multipliers sets = (i j : ℕ) → IsFromTo (pos 0) (pos most_crossed) (set_crossings multipliers sets i j)
+
+abbrev pub most_combed : ℕ
+most_combed = 2000000000000000000

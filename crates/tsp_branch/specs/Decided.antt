@@ -3,6 +3,7 @@ use Rattle.std.specs.Prelude.{◌≡◌, ◌≢◌, ℕ, Bool, true, false, if�
 use Rattle.std.specs.Int.{w64, int_wrap}
 use Rattle.tsp_value.specs.Cells.{IsNode}
 use Rattle.tsp_cost.specs.Length.{sum_int_by}
+use Rattle.tsp_bound.specs.Numbers.{IsFromTo}
 use Rattle.tsp_bound.specs.Adjusted.{is_same_pair, adjusted}
 use Rattle.tsp_branch.specs.Decisions.{Decision, on_taken, on_avoided}
 use Rattle.tsp_branch.specs.Cases.{next_stack}
@@ -25,6 +26,10 @@ IsDecision n (i, j, taken) = IsNode n i × IsNode n j × (i ≢ j)
 abbrev pub decided : List (ℕ × ℕ × Bool) → (ℕ → ℕ → ℤ) → ℕ → ℕ → ℤ
 decided decisions w = adjusted (on_taken decided_number (case_of decisions)) (on_avoided decided_number (case_of decisions)) w
 
+-- the same by decisions that are given for all cases, and those of a case
+abbrev pub decided_twice : List (ℕ × ℕ × Bool) → List (ℕ × ℕ × Bool) → (ℕ → ℕ → ℤ) → ℕ → ℕ → ℤ
+decided_twice given decisions w = decided decisions (decided given w)
+
 -- what a decision adds to the weight of two nodes, and what several do
 abbrev pub signed : Bool → ℤ
 signed taken = if taken then (neg_ℤ decided_number) else decided_number
@@ -34,6 +39,11 @@ change_of (a, b, taken) i j = if is_same_pair (a, b) (i, j) then signed taken el
 
 abbrev pub changes : List (ℕ × ℕ × Bool) → ℕ → ℕ → ℤ
 changes decisions i j = sum_int_by (λ decision. change_of decision i j) decisions
+
+-- no weight changes by more than one decision does
+abbrev pub AreFewChanges : List (ℕ × ℕ × Bool) → List (ℕ × ℕ × Bool) → Type 0
+AreFewChanges given decisions =
+    (i j : ℕ) → IsFromTo (neg_ℤ decided_number) decided_number (changes given i j +ℤ changes decisions i j)
 
 -- a value as it was, where the pair is another one; else what is left of the sum with the number in 64 bits
 abbrev pub IsChanged : ℕ × ℕ × Bool → ℕ → ℕ → ℤ → ℤ → Type 0

@@ -1,12 +1,12 @@
 -- Decisions: pairs that a walk uses, and pairs that it doesn't.
 use Rattle.std.specs.Prelude.{ℕ, ◌≤◌, ◌≡◌, Bool, true, false, if◌then◌else◌, List, [], ◌∷◌, length, map, ℤ, ◌≤ℤ◌}
-use Rattle.std.specs.List.{All}
+use Rattle.std.specs.List.{All, AllPairs}
 use Rattle.tsp_cost.specs.Costs.{IsEven}
 use Rattle.tsp_cost.specs.Walk.{IsWalk, AreNeighbours}
 use Rattle.tsp_cost.specs.Length.{length_of}
 use Rattle.tsp_cost.specs.Tour.{IsTour}
 use Rattle.tsp_bound.specs.Numbers.{IsScale}
-use Rattle.tsp_bound.specs.Adjusted.{pair_of, IsAdjustedBound}
+use Rattle.tsp_bound.specs.Adjusted.{pair_of, is_same_pair, IsAdjustedBound}
 
 -- two nodes, and whether a walk is to use them as neighbours
 pub record Decision : Type 0 where
@@ -23,6 +23,10 @@ Keeps nodes decision = KeepsPair nodes decision.taken decision.pair
 
 abbrev pub KeepsAll : List ℕ → List Decision → Type 0
 KeepsAll nodes decisions = All (Keeps nodes) decisions
+
+-- no two decisions are on the same two nodes
+abbrev pub DecideOnce : List Decision → Type 0
+DecideOnce decisions = AllPairs (λ a b. is_same_pair a.pair b.pair ≡ false) decisions
 
 -- pairs that are fixed, as decisions
 abbrev pub take_pairs : List (ℕ × ℕ) → List Decision

@@ -1,12 +1,12 @@
 //! Weights under combs.
 
-ghost use Rattle.std.specs.Prelude.{◌≡◌, ◌+◌, ◌≢◌, ◌+ℤ◌, ℕ, length, pos, neg_ℤ};
+ghost use Rattle.std.specs.Prelude.{◌≡◌, ◌+◌, ◌+ℤ◌, ℕ, length, neg_ℤ};
 ghost use Rattle.std.specs.Int.{w64, int_wrap};
 ghost use Rattle.tsp_value.specs.Cells.{IsNode};
-ghost use Rattle.tsp_bound.specs.Numbers.{IsFromTo, IsScale, entry};
+ghost use Rattle.tsp_bound.specs.Numbers.{IsFromTo, IsScale, ArePotentials, entry};
 ghost use Rattle.tsp_bound.specs.Growth.{least_at};
 ghost use Rattle.tsp_branch.specs.Sets.{IsMoved, IsSetTable, AreSetsOf};
-ghost use Rattle.tsp_branch.specs.Combed.{plain, AreSmallMultipliers, AreMultipliedSets, multipliers_at, set_weight};
+ghost use Rattle.tsp_branch.specs.Combed.{plain, AreSmallMultipliers, AreMultipliedSets, multipliers_at, AreFewCrossings, set_weight};
 
 use crate::add_sets::{add_sets, sum_left};
 use crate::growth::weight_in;
@@ -36,27 +36,30 @@ pub struct CombedWeights<'a, C: Costs> {
     ghost are_moved: { (x : ℕ) → IsNode (C.nodes costs.now) x
         → int_wrap w64 (least_at moved.now x)
         ≡ int_wrap w64 (entry potentials.now x +ℤ neg_ℤ (multipliers_at multipliers.now (plain sets.now) x)) },
-    ghost sizes: { (i j : ℕ) → IsNode (C.nodes costs.now) i → IsNode (C.nodes costs.now) j
-        → IsFromTo (neg_ℤ (pos 9000000000000000000)) (pos 9000000000000000000)
-        (set_weight scale potentials.now multipliers.now (plain sets.now) (C.at costs.now) i j) },
+    ghost long: { length potentials.now ≡ C.nodes costs.now },
+    ghost potentials_are: { ArePotentials potentials.now },
+    ghost crossed: { AreFewCrossings multipliers.now (plain sets.now) },
 }
 
 impl<'a, C: Costs> CombedWeights<'a, C> {
     ghost use Rattle.std.specs.Prelude.{◌≡◌, ◌+◌, ◌+ℤ◌, ℕ, length, pos, neg_ℤ};
     ghost use Rattle.std.specs.Int.{w64, int_wrap};
     ghost use Rattle.tsp_value.specs.Cells.{IsNode};
-    ghost use Rattle.tsp_bound.specs.Numbers.{IsFromTo, IsScale, entry};
+    ghost use Rattle.tsp_bound.specs.Numbers.{IsFromTo, IsScale, ArePotentials, entry};
+    ghost use Rattle.tsp_bound.specs.Tree.{IsInner};
     ghost use Rattle.tsp_bound.specs.Growth.{least_at};
     ghost use Rattle.tsp_bound.specs.NodeBound.{weight_between};
+    ghost use Rattle.tsp_bound.specs.Potentials.{most_between};
     ghost use Rattle.tsp_branch.specs.Sets.{IsMoved, IsSetTable, AreSetsOf};
-    ghost use Rattle.tsp_branch.specs.Combed.{plain, AreSmallMultipliers, AreMultipliedSets, multipliers_at, set_weight};
+    ghost use Rattle.tsp_branch.specs.Combed.{plain, AreSmallMultipliers, AreMultipliedSets, multipliers_at, AreFewCrossings, most_combed, set_weight};
 
     /// The weights of these costs, potentials and sets.
     ///
-    /// The caller owes a scale of 1 to 1,000,000; multipliers that aren't negative, each at most
-    /// 3 * 10^17; sets of different nodes, each with the number of a comb; by node the numbers of
-    /// its sets; by node what is left in 64 bits of its potential less its sets' multipliers; and
-    /// weights that are at most 9 * 10^18 in size.
+    /// The caller owes a scale of 1 to 1,000,000; as many potentials as nodes, each at most 10^15 in
+    /// size; multipliers that aren't negative, each at most 3 * 10^17; sets of different nodes, each
+    /// with the number of a comb, of which no two nodes cross more than 9 * 10^17 with the
+    /// multipliers; by node the numbers of its sets; and by node what is left in 64 bits of its
+    /// potential less its sets' multipliers.
     pub fn of(
         costs: &'a C,
         scale: i64,
@@ -74,9 +77,9 @@ impl<'a, C: Costs> CombedWeights<'a, C> {
         requires places { length moved.now ≡ C.nodes costs.now + 1 }
         requires are_moved { (x : ℕ) → IsNode (C.nodes costs.now) x → int_wrap w64 (least_at moved.now x)
             ≡ int_wrap w64 (entry potentials.now x +ℤ neg_ℤ (multipliers_at multipliers.now (plain sets.now) x)) }
-        requires sizes { (i j : ℕ) → IsNode (C.nodes costs.now) i → IsNode (C.nodes costs.now) j
-            → IsFromTo (neg_ℤ (pos 9000000000000000000)) (pos 9000000000000000000)
-            (set_weight scale potentials.now multipliers.now (plain sets.now) (C.at costs.now) i j) }
+        requires long { length potentials.now ≡ C.nodes costs.now }
+        requires potentials_are { ArePotentials potentials.now }
+        requires crossed { AreFewCrossings multipliers.now (plain sets.now) }
         ensures nodes { C.nodes result.costs.now ≡ C.nodes costs.now }
         ensures weights { (i j : ℕ) → set_weight result.scale result.potentials.now result.multipliers.now
             (plain result.sets.now) (C.at result.costs.now) i j
@@ -98,27 +101,51 @@ impl<'a, C: Costs> CombedWeights<'a, C> {
     fn weight_apart(&self, i: u32, j: u32) -> i64
         requires from { IsNode (C.nodes self.now.costs.now) i }
         requires to { IsNode (C.nodes self.now.costs.now) j }
-        ensures { IsMoved (neg_ℤ (multipliers_at self.now.multipliers.now (plain self.now.sets.now) i)
+        ensures value { IsMoved (neg_ℤ (multipliers_at self.now.multipliers.now (plain self.now.sets.now) i)
             +ℤ neg_ℤ (multipliers_at self.now.multipliers.now (plain self.now.sets.now) j))
             (weight_between self.now.scale self.now.potentials.now (C.at self.now.costs.now) i j) result }
+        ensures size { IsFromTo (neg_ℤ (pos most_between)) (pos most_between)
+            (weight_between self.now.scale self.now.potentials.now (C.at self.now.costs.now) i j) }
     {
         let both = sum_left(weight_in(self.moved, i), weight_in(self.moved, j));
         sum_left(scaled_cost(self.costs, self.scale, i, j), both)
     }
 
-    /// A row of these.
+    /// A row of these; and how large the weights between the node and others are without combs.
     fn fill_apart(&self, from: u32, row: &mut [i64])
         requires from { IsNode (C.nodes self.now.costs.now) from }
         requires room { length row.old ≡ C.nodes self.now.costs.now + 1 }
-        ensures { (x : ℕ) → IsNode (C.nodes self.now.costs.now) x
+        ensures values { (x : ℕ) → IsNode (C.nodes self.now.costs.now) x
             → IsMoved (neg_ℤ (multipliers_at self.now.multipliers.now (plain self.now.sets.now) from)
             +ℤ neg_ℤ (multipliers_at self.now.multipliers.now (plain self.now.sets.now) x))
             (weight_between self.now.scale self.now.potentials.now (C.at self.now.costs.now) from x)
             (least_at row.new x) }
+        ensures sizes { (x : ℕ) → IsNode (C.nodes self.now.costs.now) x
+            → IsFromTo (neg_ℤ (pos most_between)) (pos most_between)
+            (weight_between self.now.scale self.now.potentials.now (C.at self.now.costs.now) from x) }
     {
         'nodes: for node in 1..self.costs.count() + 1 {
             row[node as usize] = self.weight_apart(from, node);
         }
+    }
+
+    /// Writes a row as `fill` does, of weights that are at most 2 * 10^18 in size.
+    pub(crate) fn fill_combed(&self, from: u32, row: &mut [i64])
+        requires from { IsNode (C.nodes self.now.costs.now) from }
+        requires room { length row.old ≡ C.nodes self.now.costs.now + 1 }
+        ensures values { (x : ℕ) → IsInner (C.nodes self.now.costs.now) x → least_at row.new x
+            ≡ set_weight self.now.scale self.now.potentials.now self.now.multipliers.now
+            (plain self.now.sets.now) (C.at self.now.costs.now) from x }
+        ensures sizes { (x : ℕ) → IsInner (C.nodes self.now.costs.now) x
+            → IsFromTo (neg_ℤ (pos most_combed)) (pos most_combed) (least_at row.new x) }
+    {
+        self.fill_apart(from, row);
+        add_sets(
+            row,
+            &self.by_node[from as usize],
+            self.sets,
+            self.multipliers,
+        );
     }
 }
 
@@ -135,12 +162,6 @@ impl<C: Costs> Weights for CombedWeights<'_, C> {
     }
 
     fn fill(&self, from: u32, row: &mut [i64]) {
-        self.fill_apart(from, row);
-        add_sets(
-            row,
-            &self.by_node[from as usize],
-            self.sets,
-            self.multipliers,
-        );
+        self.fill_combed(from, row);
     }
 }

@@ -1,71 +1,95 @@
 //! Weights that decisions change.
 
-ghost use Rattle.std.specs.Prelude.{◌≡◌, ◌<◌, ◌≢◌, ◌+ℤ◌, ℕ, length, pos, neg_ℤ};
+ghost use Rattle.std.specs.Prelude.{◌≡◌, ◌<◌, ◌≢◌, ◌+ℤ◌, ℕ, length};
 ghost use Rattle.std.specs.Int.{w64, int_wrap};
 ghost use Rattle.std.specs.List.{All};
-ghost use Rattle.tsp_value.specs.Cells.{IsNode};
-ghost use Rattle.tsp_bound.specs.Numbers.{IsFromTo};
 ghost use Rattle.tsp_bound.specs.Growth.{least_at};
-ghost use Rattle.tsp_branch.specs.Decided.{IsDecision, IsChanged, decided};
+ghost use Rattle.tsp_branch.specs.Sets.{IsMoved};
+ghost use Rattle.tsp_branch.specs.Decided.{IsDecision, IsChanged, AreFewChanges, changes};
 
+use crate::combed::CombedWeights;
 use crate::growth::weight_in;
 use crate::weights::Weights;
+use tsp_cost::Costs;
 
 /// The number on each decided pair. It cancels in the bound: any number would be sound, and this
 /// one is far above all other parts of a weight and lets weights fit 64 bits.
 const DECIDED: i64 = 4_000_000_000_000_000_000;
 
-/// Weights, less a number for each taken pair and more by it for each avoided one.
-pub struct DecidedWeights<'a, W: Weights> {
-    weights: &'a W,
+/// Weights under combs, less a number for each taken pair and more by it for each avoided one.
+///
+/// The decisions are told as those that are given for all cases, and those of a case.
+pub struct DecidedWeights<'a, C: Costs> {
+    combed: &'a CombedWeights<'a, C>,
+    given: &'a [(u32, u32, bool)],
     decisions: &'a [(u32, u32, bool)],
-    ghost pairs: { All (IsDecision (W.nodes weights.now)) decisions.now },
-    ghost sizes: { (i j : ℕ) → IsNode (W.nodes weights.now) i → IsNode (W.nodes weights.now) j
-        → IsFromTo (neg_ℤ (pos 9000000000000000000)) (pos 9000000000000000000)
-        (decided decisions.now (W.at weights.now) i j) },
+    ghost given_are: { All (IsDecision (C.nodes combed.now.costs.now)) given.now },
+    ghost pairs: { All (IsDecision (C.nodes combed.now.costs.now)) decisions.now },
+    ghost once: { AreFewChanges given.now decisions.now },
 }
 
-impl<'a, W: Weights> DecidedWeights<'a, W> {
-    ghost use Rattle.std.specs.Prelude.{◌≡◌, ℕ, pos, neg_ℤ};
+impl<'a, C: Costs> DecidedWeights<'a, C> {
+    ghost use Rattle.std.specs.Prelude.{◌≡◌, ℕ};
     ghost use Rattle.std.specs.List.{All};
-    ghost use Rattle.tsp_value.specs.Cells.{IsNode};
-    ghost use Rattle.tsp_bound.specs.Numbers.{IsFromTo};
-    ghost use Rattle.tsp_branch.specs.Decided.{IsDecision, decided};
+    ghost use Rattle.tsp_branch.specs.Combed.{plain, set_weight};
+    ghost use Rattle.tsp_branch.specs.Decided.{IsDecision, AreFewChanges, decided_twice};
 
     /// The weights under decisions: two nodes, and whether a walk is to use them as neighbours.
     ///
-    /// The caller owes pairs of different nodes, and weights that then are at most 9 * 10^18 in
-    /// size.
-    pub fn of(weights: &'a W, decisions: &'a [(u32, u32, bool)]) -> DecidedWeights<'a, W>
-        requires pairs { All (IsDecision (W.nodes weights.now)) decisions.now }
-        requires sizes { (i j : ℕ) → IsNode (W.nodes weights.now) i → IsNode (W.nodes weights.now) j
-            → IsFromTo (neg_ℤ (pos 9000000000000000000)) (pos 9000000000000000000)
-            (decided decisions.now (W.at weights.now) i j) }
-        ensures nodes { W.nodes result.weights.now ≡ W.nodes weights.now }
-        ensures weights { (i j : ℕ) → decided result.decisions.now (W.at result.weights.now) i j
-            ≡ decided decisions.now (W.at weights.now) i j }
+    /// The caller owes pairs of different nodes, no two of which are the same pair.
+    pub fn of(
+        combed: &'a CombedWeights<'a, C>,
+        given: &'a [(u32, u32, bool)],
+        decisions: &'a [(u32, u32, bool)],
+    ) -> DecidedWeights<'a, C>
+        requires given_are { All (IsDecision (C.nodes combed.now.costs.now)) given.now }
+        requires pairs { All (IsDecision (C.nodes combed.now.costs.now)) decisions.now }
+        requires once { AreFewChanges given.now decisions.now }
+        ensures nodes { C.nodes result.combed.now.costs.now ≡ C.nodes combed.now.costs.now }
+        ensures weights { (i j : ℕ) → decided_twice result.given.now result.decisions.now
+            (set_weight result.combed.now.scale result.combed.now.potentials.now result.combed.now.multipliers.now
+            (plain result.combed.now.sets.now) (C.at result.combed.now.costs.now)) i j
+            ≡ decided_twice given.now decisions.now (set_weight combed.now.scale combed.now.potentials.now
+            combed.now.multipliers.now (plain combed.now.sets.now) (C.at combed.now.costs.now)) i j }
     {
-        DecidedWeights { weights, decisions }
+        DecidedWeights {
+            combed,
+            given,
+            decisions,
+        }
     }
 }
 
-impl<W: Weights> Weights for DecidedWeights<'_, W> {
-    ghost use Rattle.tsp_branch.specs.Decided.{decided};
+impl<C: Costs> Weights for DecidedWeights<'_, C> {
+    ghost use Rattle.tsp_branch.specs.Combed.{plain, set_weight};
+    ghost use Rattle.tsp_branch.specs.Decided.{decided_twice};
 
-    ghost nodes = { λ w. W.nodes w.weights.now };
+    ghost nodes = { λ w. C.nodes w.combed.now.costs.now };
 
-    ghost at = { λ w. decided w.decisions.now (W.at w.weights.now) };
+    ghost at = { λ w. decided_twice w.given.now w.decisions.now (set_weight w.combed.now.scale
+        w.combed.now.potentials.now w.combed.now.multipliers.now (plain w.combed.now.sets.now)
+        (C.at w.combed.now.costs.now)) };
 
     #[inline]
     fn count(&self) -> u32 {
-        self.weights.count()
+        self.combed.count()
     }
 
     fn fill(&self, from: u32, row: &mut [i64]) {
-        self.weights.fill(from, row);
-        'decisions: for decision in self.decisions {
-            change(row, *decision, from);
-        }
+        self.combed.fill_combed(from, row);
+        change_row(row, self.given, from);
+        change_row(row, self.decisions, from);
+    }
+}
+
+/// Changes the row of a node by decisions.
+fn change_row(row: &mut [i64], decisions: &[(u32, u32, bool)], from: u32)
+    requires { All (λ decision. (decision.0 < length row.old) × (decision.1 < length row.old)
+        × (decision.0 ≢ decision.1)) decisions.now }
+    ensures { (x : ℕ) → IsMoved (changes decisions.now from x) (least_at row.old x) (least_at row.new x) }
+{
+    'decisions: for decision in decisions {
+        change(row, *decision, from);
     }
 }
 

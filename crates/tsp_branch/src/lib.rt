@@ -9,6 +9,7 @@ mod examples;
 mod growth;
 mod laws;
 mod leaf;
+mod moved;
 mod node_weights;
 mod scaled;
 mod sets;

@@ -1,44 +1,41 @@
-use Rattle.std.proofs.Common.{◌≡◌, ◌+◌, ◌≤◌, ℕ, ℤ, List, Bool, false, drop, length, arith, ap, sym, subst, ◌∙◌, FitsSigned}
-use Rattle.std.specs.Prelude.{◌+ℤ◌, pos, neg_ℤ, slice_index_or, ◌<ℤ◌}
-use Rattle.std.specs.Int.{w64}
+use Rattle.std.proofs.Common.{◌≡◌, ℕ, ℤ, List, Bool, arith, sym, subst}
+use Rattle.std.specs.Prelude.{◌+ℤ◌, pos, neg_ℤ, ◌<ℤ◌}
 use Rattle.std.proofs.lemmas.Int.{ints}
-use Rattle.std.proofs.lemmas.List.{drop_all}
 use Rattle.tsp_bound.specs.Numbers.{IsFromTo}
 use Rattle.tsp_bound.specs.Tree.{IsInner}
 use Rattle.tsp_bound.specs.Growth.{least_at}
 use Rattle.tsp_bound.proofs.Nearest.{most_64}
-use Rattle.tsp_branch.specs.Decided.{decided, changes}
-use Rattle.tsp_branch.proofs.Changes.{changes_are, begun, arrived, changed, changes_left, within}
+use Rattle.tsp_branch.specs.Combed.{plain, set_weight}
+use Rattle.tsp_branch.specs.Decided.{decided, decided_twice, changes}
+use Rattle.tsp_branch.proofs.Changes.{changes_are, within}
+use Rattle.tsp_branch.proofs.SetSums.{moved_on}
+use Rattle.tsp_branch.proofs.SetAlgebra.{moved_to}
 use Rattle.tsp_branch.proofs.decided.DecidedWeightsWeights.fill.Goals as goal
-
-pub decisions-init : goal.decisions-init
-decisions-init g c = λ x h.
-    begun (g.W.Weights.at c.args.self.now.weights.now c.args.from x) (changes c.args.self.now.decisions.now c.args.from x) (least_at c.fill.new.row x) (c.fill.ensures.values x h)
-
-pub decisions-preserved : goal.decisions-preserved
-decisions-preserved g c = λ x h.
-    let ds : List (ℕ × ℕ × Bool) = c.args.self.now.decisions.now in
-    let index : ℕ = c.decisions.decision-index in
-    let decision : ℕ × ℕ × Bool = slice_index_or ds index (0, 0, false) in
-    let from : ℕ = c.args.from in
-    changed decision from x (g.W.Weights.at c.args.self.now.weights.now from x +ℤ changes ds from x) (changes (drop index ds) from x) (changes (drop (index + 1) ds) from x)
-    (least_at c.decisions.row x) (least_at c.change.new.row x) (changes_left ds index from x (0, 0, false) c.decisions-test.true) (c.decisions.invariant x h) (c.change.ensures x)
 
 pub returns : goal.returns
 returns g c =
-    let ds : List (ℕ × ℕ × Bool) = c.args.self.now.decisions.now in
-    let w = g.W.Weights.at c.args.self.now.weights.now in
-    let n = g.W.Weights.nodes c.args.self.now.weights.now in
+    let p = c.args.self.now in
+    let q = p.combed.now in
+    let n = g.C.Costs.nodes q.costs.now in
     let from : ℕ = c.args.from in
-    let row : List ℤ = c.decisions.row in
-    let past : length ds ≤ c.decisions.decision-index = omega (arith, c.decisions-test.false) in
-    let none : (x : ℕ) → changes (drop c.decisions.decision-index ds) from x ≡ pos 0 = λ x. ap (λ zs. changes zs from x) (drop_all c.decisions.decision-index ds past) in
-    let size : (x : ℕ) → IsInner n x → IsFromTo (neg_ℤ (pos 9000000000000000000)) (pos 9000000000000000000) (decided ds w from x) = λ x h. c.args.self.now.sizes from x c.requires.from
-    (omega (arith, h.0), h.1) in
-    let is : (x : ℕ) → IsInner n x → least_at row x ≡ decided ds w from x = λ x h.
-    arrived (w from x +ℤ changes ds from x) (changes (drop c.decisions.decision-index ds) from x) (least_at row x) (none x)
-    (subst (λ (z : ℤ). FitsSigned w64 z) (changes_are ds w from x) (within (decided ds w from x) (size x h))) (c.decisions.invariant x h)
-    ∙ sym (changes_are ds w from x) in
+    let w : ℕ → ℕ → ℤ = set_weight q.scale q.potentials.now q.multipliers.now (plain q.sets.now) (g.C.Costs.at q.costs.now) in
+    let given : List (ℕ × ℕ × Bool) = p.given.now in
+    let ds : List (ℕ × ℕ × Bool) = p.decisions.now in
+    let row : List ℤ = c.change_row-2.new.row in
+    let first : ℕ → ℤ = λ x. least_at c.fill_combed.new.row x in
+    let sum_is : (x : ℕ) → IsInner n x → decided_twice given ds w from x ≡ first x +ℤ (changes given from x +ℤ changes ds from x) = λ x h.
+    let one = changes_are ds (decided given w) from x in
+    let two = changes_are given w from x in
+    let three = c.fill_combed.ensures.values x h in
+    omega (arith, ints, one, two, three) in
+    let size : (x : ℕ) → IsInner n x → IsFromTo (neg_ℤ (pos 9000000000000000000)) (pos 9000000000000000000) (decided_twice given ds w from x) = λ x h.
+    let own = c.fill_combed.ensures.sizes x h in
+    let more = p.once from x in
+    let sum = sum_is x h in
+    (omega (arith, ints, own.0, more.0, sum), omega (arith, ints, own.1, more.1, sum)) in
+    let is : (x : ℕ) → IsInner n x → least_at row x ≡ decided_twice given ds w from x = λ x h.
+    moved_to (changes given from x +ℤ changes ds from x) (first x) (least_at row x) (decided_twice given ds w from x) (sum_is x h) (within (decided_twice given ds w from x) (size x h))
+    (moved_on _ _ _ _ _ (c.change_row.ensures x) (c.change_row-2.ensures x)) in
     record {
       values = is;
       small = λ x h. subst (λ (z : ℤ). z <ℤ most_64) (sym (is x h)) (let high = (size x h).1 in omega (arith, ints, high));
