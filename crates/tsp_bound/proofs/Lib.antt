@@ -7,9 +7,11 @@ pub mod Duality
 pub mod Exchange
 pub mod HeapSteps
 pub mod Lowered
+pub mod Marks
 pub mod Nearest
 pub mod Neighbours
 pub mod OneTrees
+pub mod Parts
 pub mod Renaming
 pub mod Sizes
 pub mod Steps

@@ -57,7 +57,7 @@ marked_more inside v x h = elim (cases_eq x v) [
   | inr other ↦ get_or-set_other inside v x true false other ∙ sym (ap (λ b. b || is_inside inside x) (ne_eqb x v other))
 ]
 
-abbrev one_if : Bool → ℕ
+abbrev pub one_if : Bool → ℕ
 one_if b = cond b 1 0
 
 pub insiders_more : (inside : List Bool) (v : ℕ) → v < length inside → is_inside inside v ≡ false → insiders (set inside v true) ≡ suc (insiders inside)
@@ -173,27 +173,27 @@ state_end n w inside near least added some s all =
 
 -- ---- the start
 
-none_inside : (size x : ℕ) → is_inside (replicate size false) x ≡ false
+pub none_inside : (size x : ℕ) → is_inside (replicate size false) x ≡ false
 none_inside size x = elim (cases_lt x size) [
   | inl below ↦ get_or-replicate size x false false below
   | inr past ↦ get_or_past (replicate size false) x false (omega (arith, length-replicate size false))
 ]
 
-insiders_none : (size : ℕ) → insiders (replicate size false) ≡ 0
+pub insiders_none : (size : ℕ) → insiders (replicate size false) ≡ 0
 insiders_none zero = refl
 insiders_none (suc size) = omega (arith, sum_by-cons one_if false (replicate size false), insiders_none size)
 
-one_start : (size x : ℕ) → 2 < size → is_inside (set (replicate size false) 2 true) x ≡ (x == 2)
-one_start size x some = elim (cases_eq x 2) [
-  | inl same ↦ subst (λ z. is_inside (set (replicate size false) 2 true) z ≡ (z == 2)) (sym same) (get_or-set_same (replicate size false) 2 true false (omega (arith, length-replicate size false)))
-  | inr other ↦ get_or-set_other (replicate size false) 2 x true false other ∙ none_inside size x ∙ sym (ne_eqb x 2 other)
+pub one_start : (size start x : ℕ) → start < size → is_inside (set (replicate size false) start true) x ≡ (x == start)
+one_start size start x some = elim (cases_eq x start) [
+  | inl same ↦ subst (λ z. is_inside (set (replicate size false) start true) z ≡ (z == start)) (sym same) (get_or-set_same (replicate size false) start true false (omega (arith, length-replicate size false, some)) ∙ sym (eq-eqb start start refl))
+  | inr other ↦ get_or-set_other (replicate size false) start x true false other ∙ none_inside size x ∙ sym (ne_eqb x start other)
 ]
 
 pub state_start : (n : ℕ) (w : ℕ → ℕ → ℤ) (inside : List Bool) (near after : List ℕ) (least least_after : List ℤ) (most : ℤ) → 3 ≤ n → inside ≡ set (replicate (n + 1) false) 2 true → length after ≡ n + 1 → length least_after ≡ n + 1
     → ((x : ℕ) → IsInner n x → least_at least x ≡ most) → ((x : ℕ) → IsInner n x → is_inside inside x ≡ false → w 2 x <ℤ most)
     → AreNearer n w inside 2 near least after least_after → IsState n w inside after least_after []
 state_start n w inside near after least least_after most some is size least_size none small nearer =
-    let only : (x : ℕ) → is_inside inside x ≡ (x == 2) = λ x. ap (λ xs. is_inside xs x) is ∙ one_start (n + 1) x (omega arith) in
+    let only : (x : ℕ) → is_inside inside x ≡ (x == 2) = λ x. ap (λ xs. is_inside xs x) is ∙ one_start (n + 1) 2 x (omega arith) in
     let start : (x : ℕ) → IsInner n x → is_inside inside x ≡ false → (slice_index after x ≡ 2) × (least_at least_after x ≡ w 2 x) = λ x h free. elim (nearer x h free) [
       | inl old ↦ let most_is = none x h in let few = small x h free in absurd (omega (arith, ints, most_is, few, old.2))
       | inr new ↦ (new.0, new.1)

@@ -21,7 +21,7 @@ pub(crate) struct ByNode<'a> {
 }
 
 impl<'a> ByNode<'a> {
-    ghost use Rattle.std.specs.Prelude.{◌≡◌, ℕ};
+    ghost use Rattle.std.specs.Prelude.{◌≡◌, ◌↔◌, IsTrue, ℕ, []};
     ghost use Rattle.tsp_value.specs.Cells.{IsNode};
     ghost use Rattle.tsp_bound.specs.Adjusted.{numbers_on};
     ghost use Rattle.tsp_bound.specs.ByNode.{AreLowerings, lowered_by};
@@ -46,6 +46,13 @@ impl<'a> ByNode<'a> {
             triples: m.triples,
             lists,
         })
+    }
+
+    /// Whether no pair has a multiplier.
+    pub(crate) fn is_empty(&self) -> bool
+        ensures { IsTrue result ↔ (triples_in self.now ≡ []) }
+    {
+        self.triples.is_empty()
     }
 
     /// The multipliers of a node's pairs, each with the pair's other node.

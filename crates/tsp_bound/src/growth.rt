@@ -22,30 +22,6 @@ pub(crate) struct Grown {
     pub(crate) weight: i128,
 }
 
-/// Grows a tree over the nodes 2..n from node 2: each pair leads from a node inside to one
-/// outside, and no such pair weighs less.
-///
-/// Errors: out of memory.
-pub(crate) fn grow<C: Costs>(
-    alloc: Global,
-    c: &C,
-    p: &Potentials,
-    m: &ByNode,
-) -> Result<Grown, AllocError>
-    requires some { 3 ≤ C.nodes c.now }
-    requires count { length (numbers_of p.now) ≡ C.nodes c.now }
-    requires over { nodes_in m.now ≡ C.nodes c.now }
-    ensures whole { IfOk result (λ grown. IsWholeGrowth (C.nodes c.now)
-        (weight_less p.now (triples_in m.now) (C.at c.now)) grown.pairs.items) }
-    ensures weight { IfOk result (λ grown. grown.weight
-        ≡ weight_of (weight_less p.now (triples_in m.now) (C.at c.now)) grown.pairs.items) }
-    ensures size { IfOk result (λ grown. IsFromTo (neg_ℤ (pos (most_nodes * 2 ^ 63)))
-        (pos (most_nodes * 2 ^ 63)) grown.weight) }
-{
-    let pairs = Vec::with_capacity(alloc, c.count() as usize + 1)?;
-    grow_on(alloc, c, p, m, Grown { pairs, weight: 0 })
-}
-
 /// Goes on with a growth from node 2, over all the nodes that it hasn't reached.
 ///
 /// Of each node outside it keeps the nearest node inside and the weight between the two, first

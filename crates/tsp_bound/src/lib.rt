@@ -15,6 +15,7 @@ mod nodes;
 mod numbering;
 mod numbers;
 mod outside;
+mod part;
 mod potentials;
 mod scaled;
 mod spokes;

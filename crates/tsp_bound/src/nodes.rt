@@ -17,15 +17,15 @@ use tsp_cost::Grouped;
 pub(crate) struct Nodes<'a, C: Grouped> {
     c: &'a C,
     p: Potentials<'a>,
-    order: Vec<u32>,
+    order: &'a [u32],
     outside: Vec<bool>,
     areas: Vec<Option<Area>>,
     ghost count: { length (numbers_of p) ≡ C.nodes c.now },
-    ghost nodes: { (j : ℕ) → j < length order.items → IsNode (C.nodes c.now) (node_at order.items j) },
-    ghost few: { length order.items < 2 ^ 31 },
-    ghost as_many: { length outside.items ≡ length order.items },
-    ghost boxes: { length areas.items ≡ 2 * length order.items },
-    ghost held: { AreHeld (Holds (C.place c.now) (numbers_of p)) order.items outside.items areas.items } by { AreHeld-prop (C.place c.now) (numbers_of p) order.items outside.items areas.items },
+    ghost nodes: { (j : ℕ) → j < length order.now → IsNode (C.nodes c.now) (node_at order.now j) },
+    ghost few: { length order.now < 2 ^ 31 },
+    ghost as_many: { length outside.items ≡ length order.now },
+    ghost boxes: { length areas.items ≡ 2 * length order.now },
+    ghost held: { AreHeld (Holds (C.place c.now) (numbers_of p)) order.now outside.items areas.items } by { AreHeld-prop (C.place c.now) (numbers_of p) order.now outside.items areas.items },
 }
 
 impl<'a, C: Grouped> Nodes<'a, C> {
@@ -39,18 +39,18 @@ impl<'a, C: Grouped> Nodes<'a, C> {
         alloc: Global,
         c: &'a C,
         p: Potentials<'a>,
-        order: Vec<u32>,
+        order: &'a [u32],
     ) -> Result<Option<Nodes<'a, C>>, AllocError>
         requires count { length (numbers_of p) ≡ C.nodes c.now }
-        requires nodes { (j : ℕ) → j < length order.items → IsNode (C.nodes c.now) (node_at order.items j) }
-        requires few { length order.items < 2 ^ 31 }
-        ensures order { IfOk result (λ made. IfSome made (λ nodes. nodes.order.items ≡ order.items)) }
+        requires nodes { (j : ℕ) → j < length order.now → IsNode (C.nodes c.now) (node_at order.now j) }
+        requires few { length order.now < 2 ^ 31 }
+        ensures order { IfOk result (λ made. IfSome made (λ nodes. nodes.order.now ≡ order.now)) }
         ensures costs { IfOk result (λ made. IfSome made (λ nodes. nodes.c.now ≡ c.now)) }
         ensures potentials { IfOk result (λ made. IfSome made (λ nodes. nodes.p ≡ p.entry)) }
-        ensures outside { IfOk result (λ made. IfSome made (λ nodes. (x : ℕ) → x < length order.items
+        ensures outside { IfOk result (λ made. IfSome made (λ nodes. (x : ℕ) → x < length order.now
             → is_outside nodes.outside.items x ≡ true)) }
     {
-        let Some(areas) = boxes_of(alloc, c, &p, &order)? else {
+        let Some(areas) = boxes_of(alloc, c, &p, order)? else {
             return Ok(None);
         };
         let outside = vec![in alloc; true; order.len()]?;
@@ -68,9 +68,9 @@ impl<C: Grouped> Outside for Nodes<'_, C> {
     ghost use Rattle.tsp_bound.specs.Potentials.{weight_under};
     ghost use Rattle.tsp_bound.specs.Boxes.{is_outside};
 
-    ghost count_of = { λ s. length s.order.items };
+    ghost count_of = { λ s. length s.order.now };
 
-    ghost weight_of = { λ s i j. weight_under s.p (C.at s.c.now) (node_at s.order.items i) (node_at s.order.items j) };
+    ghost weight_of = { λ s i j. weight_under s.p (C.at s.c.now) (node_at s.order.now i) (node_at s.order.now j) };
 
     ghost outside_of = { λ s x. is_outside s.outside.items x };
 
@@ -86,7 +86,7 @@ impl<C: Grouped> Outside for Nodes<'_, C> {
         let best = nearest_from(
             self.c,
             &self.p,
-            &self.order,
+            self.order,
             &self.outside,
             &self.areas,
             from as usize,

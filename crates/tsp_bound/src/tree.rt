@@ -12,14 +12,14 @@ ghost use Rattle.tsp_bound.specs.Potentials.{scale_of, numbers_of};
 ghost use Rattle.tsp_bound.specs.Multipliers.{triples_of, triples_in, nodes_in, weight_less};
 
 use crate::by_node::ByNode;
-use crate::growth::grow;
 use crate::laws::adjusted_bounds_bound_walks;
 use crate::multipliers::Multipliers;
 use crate::numbers::{least_bound, total, total_of};
+use crate::part::grow;
 use crate::potentials::Potentials;
 use crate::spokes::two_spokes;
 use std::alloc::{AllocError, Global};
-use tsp_cost::{Costs, Symmetric};
+use tsp_cost::{Costs, Grouped};
 
 /// A least 1-tree, its weight, and the bound on the length of every walk.
 #[derive(Debug, Drop)]
@@ -45,7 +45,7 @@ pub struct OneTree {
 /// minimum spanning trees, 1970; the tree is grown as R. C. Prim's, 1957.
 ///
 /// Errors: out of memory, of which it takes some for each node and for each multiplier.
-pub fn one_tree<C: Symmetric>(
+pub fn one_tree<C: Grouped>(
     alloc: Global,
     c: &C,
     p: &Potentials,
@@ -89,7 +89,7 @@ struct Weighed {
 }
 
 /// The edges of a least 1-tree, in a vector with room for so many, and their weight.
-fn least_edges<C: Symmetric>(
+fn least_edges<C: Grouped>(
     alloc: Global,
     c: &C,
     p: &Potentials,

@@ -7,7 +7,7 @@ use std::alloc::Global;
 use std::cell::Cell;
 use std::test::Fail;
 use tsp_bound::{Duals, Infeasible, Multipliers, OneTree, Potentials, dual_bound, one_tree};
-use tsp_cost::{Costs, Instance, Symmetric, View};
+use tsp_cost::{Costs, Grouped, Instance, Symmetric, View};
 use tsp_fields::Draft;
 use tsp_testing::drafts::{file_of, points, upper_row};
 use tsp_value::{Kind, Layout, WeightFormat, WeightKind};
@@ -31,7 +31,7 @@ fn rectangle(alloc: Global) -> Result<Instance, Fail> {
 }
 
 /// The 1-tree under potentials, where there is one for each of three or more nodes.
-fn tree_under<C: Symmetric>(
+fn tree_under<C: Grouped>(
     alloc: Global,
     costs: &C,
     scale: i64,
@@ -186,6 +186,12 @@ impl Costs for Counted {
 
 impl Symmetric for Counted {
     ghost even = { λ c i j other. refl };
+}
+
+impl Grouped for Counted {
+    ghost use Rattle.tsp_fields.specs.Coords.{origin};
+
+    ghost place = { λ _ _. origin };
 }
 
 #[test]

@@ -27,7 +27,7 @@ use tsp_bound::{
     Duals, Multipliers, Potentials, adjusted_bounds_bound_walks, dual_bound, duals_bound_walks,
     one_tree,
 };
-use tsp_cost::{Costs, Instance, Symmetric, View};
+use tsp_cost::{Costs, Grouped, Instance, View};
 use tsp_fields::{File, valid_fields_are_in_range};
 use tsp_value::Kind;
 
@@ -227,7 +227,7 @@ pub(crate) fn bound_of_potentials(
 }
 
 /// The same over the costs of a view.
-fn tree_bound<C: Symmetric>(
+fn tree_bound<C: Grouped>(
     alloc: Global,
     inst: &Instance,
     pot: &File,
