@@ -34,21 +34,21 @@ both_on p q i j (inr a) (inl b) = rw (eq-eqb p.1 q.0 (a.0 ∙ sym b.0), eq-eqb p
 
 -- ---- what decisions change, in any order
 
-abbrev change_by : Decision → ℕ → ℕ → ℤ
+abbrev pub change_by : Decision → ℕ → ℕ → ℤ
 change_by d i j = if is_same_pair d.pair (i, j) then signed d.taken else pos 0
 
-abbrev changes_by : List Decision → ℕ → ℕ → ℤ
+abbrev pub changes_by : List Decision → ℕ → ℕ → ℤ
 changes_by ds i j = sum_int_by (λ d. change_by d i j) ds
 
-changes_told : (ds : List (ℕ × ℕ × Bool)) (i j : ℕ) → changes ds i j ≡ changes_by (case_of ds) i j
+pub changes_told : (ds : List (ℕ × ℕ × Bool)) (i j : ℕ) → changes ds i j ≡ changes_by (case_of ds) i j
 changes_told [] i j = refl
 changes_told (d ∷ ds) i j = ap (λ z. change_of d i j +ℤ z) (changes_told ds i j)
 
-changes_both : (ds es : List Decision) (i j : ℕ) → changes_by (ds ++ es) i j ≡ changes_by ds i j +ℤ changes_by es i j
+pub changes_both : (ds es : List Decision) (i j : ℕ) → changes_by (ds ++ es) i j ≡ changes_by ds i j +ℤ changes_by es i j
 changes_both [] es i j = omega (arith, ints)
 changes_both (d ∷ ds) es i j = let rest = changes_both ds es i j in omega (arith, ints, rest)
 
-changes_turned : (ds : List Decision) (i j : ℕ) → changes_by (reverse ds) i j ≡ changes_by ds i j
+pub changes_turned : (ds : List Decision) (i j : ℕ) → changes_by (reverse ds) i j ≡ changes_by ds i j
 changes_turned [] i j = refl
 changes_turned (d ∷ ds) i j =
     let split = ap (λ es. changes_by es i j) (reverse-append (d ∷ []) ds) in

@@ -17,3 +17,5 @@ pub mod CombsBySets
 pub mod CombSizes
 pub mod DecidedOnce
 pub mod MovedSums
+pub mod CaseWeights
+pub mod GivenBack

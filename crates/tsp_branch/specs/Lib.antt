@@ -9,3 +9,4 @@ pub mod Decided
 pub mod Sets
 pub mod Combed
 pub mod CombsOfSets
+pub mod Judged

@@ -19,6 +19,7 @@ use tsp_cost::Costs;
 /// What two nodes cross of a set is 1 for each of them that it has, less 2 where it has both. So
 /// each multiplier is taken off the potentials of its sets' nodes, and a row needs besides these
 /// only the sets of its own node.
+#[derive(Drop)]
 pub struct CombedWeights<'a, C: Costs> {
     costs: &'a C,
     scale: i64,

@@ -14,11 +14,12 @@ use tsp_cost::Costs;
 
 /// The number on each decided pair. It cancels in the bound: any number would be sound, and this
 /// one is far above all other parts of a weight and lets weights fit 64 bits.
-const DECIDED: i64 = 4_000_000_000_000_000_000;
+pub(crate) const DECIDED: i64 = 4_000_000_000_000_000_000;
 
 /// Weights under combs, less a number for each taken pair and more by it for each avoided one.
 ///
 /// The decisions are told as those that are given for all cases, and those of a case.
+#[derive(Drop)]
 pub struct DecidedWeights<'a, C: Costs> {
     combed: &'a CombedWeights<'a, C>,
     given: &'a [(u32, u32, bool)],
