@@ -16,7 +16,8 @@ pub record Laws : Type 0 where
   pub by_second : (f : ℕ → ℤ) (nodes : List ℕ) → length_of (λ i j. f j) nodes ≡ sum_int_by f nodes
   pub sum : (first second : ℕ → ℕ → ℤ) (nodes : List ℕ) → length_of (λ i j. first i j +ℤ second i j) nodes ≡ length_of first nodes +ℤ length_of second nodes
   pub scale : (scale : ℕ) (cost : ℕ → ℕ → ℤ) (nodes : List ℕ) → length_of (λ i j. pos scale *ℤ cost i j) nodes ≡ pos scale *ℤ length_of cost nodes
-  pub no_loops : (n : ℕ) (nodes : List ℕ) (lower upper : ℕ → ℕ → ℤ) → 2 ≤ n → IsWalk n nodes → ((i j : ℕ) → IsNode n i → IsNode n j → i ≢ j → lower i j ≤ℤ upper i j) → length_of lower nodes ≤ℤ length_of upper nodes
+  pub no_loops : (n : ℕ) (nodes : List ℕ) (lower upper : ℕ → ℕ → ℤ) → 2 ≤ n → IsWalk n nodes
+      → ((i j : ℕ) → IsNode n i → IsNode n j → i ≢ j → lower i j ≤ℤ upper i j) → length_of lower nodes ≤ℤ length_of upper nodes
 
 -- the sum over the numbers of a list, by their places
 sum_by_places : (numbers : List ℤ) (a : ℕ) (f : ℕ → ℤ) → ((k : ℕ) → k < length numbers → f (a + k) ≡ get_or numbers k (pos 0)) → sum_int_by f (range_with_len a (length numbers)) ≡ total numbers
@@ -38,7 +39,8 @@ pub entries_of_walk : (n : ℕ) (nodes : List ℕ) (numbers : List ℤ) → Laws
 entries_of_walk n nodes numbers laws long walk = laws.sum_of_walk n nodes (entry numbers) walk ∙ entries_of_all n numbers long
 
 -- the length under the sum of a number of the first node and one of the second
-pub entries_of_links : (n : ℕ) (nodes : List ℕ) (firsts seconds : List ℤ) → Laws → length firsts ≡ n → length seconds ≡ n → IsWalk n nodes → length_of (λ i j. entry firsts i +ℤ entry seconds j) nodes ≡ total firsts +ℤ total seconds
+pub entries_of_links : (n : ℕ) (nodes : List ℕ) (firsts seconds : List ℤ) → Laws → length firsts ≡ n → length seconds ≡ n → IsWalk n nodes
+    → length_of (λ i j. entry firsts i +ℤ entry seconds j) nodes ≡ total firsts +ℤ total seconds
 entries_of_links n nodes firsts seconds laws long as_long walk =
     let split = laws.sum (λ i j. entry firsts i) (λ i j. entry seconds j) nodes in
     let one = laws.by_first (entry firsts) nodes ∙ entries_of_walk n nodes firsts laws long walk in

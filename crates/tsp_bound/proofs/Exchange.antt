@@ -33,7 +33,8 @@ pub takes_first : (P : ℕ × ℕ → Type 0) (w : ℕ → ℕ → ℤ) (y : ℕ
 takes_first P w y ys = record { count = refl; weighs = refl; any = λ test. refl; all = λ h. h }
 
 -- what is taken of the rest is taken of all, and the first one taken is put back
-pub takes_later : (P : ℕ × ℕ → Type 0) (w : ℕ → ℕ → ℤ) (ys : List (ℕ × ℕ)) (e : ℕ × ℕ) (rest : List (ℕ × ℕ)) (f : ℕ × ℕ) (last : List (ℕ × ℕ)) → Takes P w ys e rest → Takes P w rest f last → Takes P w ys f (e ∷ last)
+pub takes_later : (P : ℕ × ℕ → Type 0) (w : ℕ → ℕ → ℤ) (ys : List (ℕ × ℕ)) (e : ℕ × ℕ) (rest : List (ℕ × ℕ)) (f : ℕ × ℕ) (last : List (ℕ × ℕ))
+    → Takes P w ys e rest → Takes P w rest f last → Takes P w ys f (e ∷ last)
 takes_later P w ys e rest f last t s = record {
   count = t.count ∙ ap suc s.count;
   weighs = omega (arith, ints, t.weighs, s.weighs);
@@ -105,7 +106,8 @@ abbrev pub JoinsBoth : (ℕ → Type 0) → (ℕ → Bool) → (ℕ → Bool) �
 JoinsBoth Node grown held xs = (part : ℕ → Bool) (outside : ℕ) → Node outside → part outside ≡ false → Within grown part → Within held part → IsCrossed xs part
 
 -- what a taken pair does not cross the rest crosses
-rest_crosses : (P : ℕ × ℕ → Type 0) (w : ℕ → ℕ → ℤ) (ys : List (ℕ × ℕ)) (f : ℕ × ℕ) (rest : List (ℕ × ℕ)) (part : ℕ → Bool) → Takes P w ys f rest → IsCrossed ys part → crosses part f ≡ false → IsCrossed rest part
+rest_crosses : (P : ℕ × ℕ → Type 0) (w : ℕ → ℕ → ℤ) (ys : List (ℕ × ℕ)) (f : ℕ × ℕ) (rest : List (ℕ × ℕ)) (part : ℕ → Bool) → Takes P w ys f rest
+    → IsCrossed ys part → crosses part f ≡ false → IsCrossed rest part
 rest_crosses P w ys f rest part t h n = sym (ap (λ b. b || list_any (crosses part) rest) n) ∙ (sym (t.any (crosses part)) ∙ h)
 
 -- a pair that leaves the grown part, and without which the list joins both parts
@@ -117,7 +119,9 @@ pub record Exchanged (P : ℕ × ℕ → Type 0) (Node : ℕ → Type 0) (w : �
   pub joins : JoinsBoth Node grown held rest
 
 -- the pair that leaves the held nodes ends in the grown part
-exchange_now : (P : ℕ × ℕ → Type 0) (Node : ℕ → Type 0) (w : ℕ → ℕ → ℤ) (grown held : ℕ → Bool) (ys : List (ℕ × ℕ)) (e : ℕ × ℕ) (rest : List (ℕ × ℕ)) (a b : ℕ) → Apart grown held → JoinsAsOne Node grown held ys → Takes P w ys e rest → held a ≡ true → ((other : ℕ → Bool) → crosses other e ≡ crosses other (a, b)) → grown b ≡ true → Exchanged P Node w grown held ys
+exchange_now : (P : ℕ × ℕ → Type 0) (Node : ℕ → Type 0) (w : ℕ → ℕ → ℤ) (grown held : ℕ → Bool) (ys : List (ℕ × ℕ)) (e : ℕ × ℕ) (rest : List (ℕ × ℕ)) (a b : ℕ)
+    → Apart grown held → JoinsAsOne Node grown held ys → Takes P w ys e rest → held a ≡ true → ((other : ℕ → Bool) → crosses other e ≡ crosses other (a, b))
+    → grown b ≡ true → Exchanged P Node w grown held ys
 exchange_now P Node w grown held ys e rest a b apart joins takes in_held alike in_grown = record {
   pair = e;
   rest = rest;
@@ -146,7 +150,9 @@ apart_more grown held b apart free = λ x h. false_from_ne_true (and_node held b
     both_ways (grown x) (and_node_all held b (λ y. grown y ≡ false) free (λ y k. false_from_ne_true (grown y) (λ g. both_ways (held y) (apart y g) k)) x t) h)
 
 -- the pair that leaves the held nodes does not end in the grown part: it is left aside, and its end is held from now on
-exchange_later : (P : ℕ × ℕ → Type 0) (Node : ℕ → Type 0) (w : ℕ → ℕ → ℤ) (grown held : ℕ → Bool) (ys : List (ℕ × ℕ)) (e : ℕ × ℕ) (rest : List (ℕ × ℕ)) (a b : ℕ) → Takes P w ys e rest → held a ≡ true → ((other : ℕ → Bool) → crosses other e ≡ crosses other (a, b)) → Exchanged P Node w grown (and_node held b) rest → Exchanged P Node w grown held ys
+exchange_later : (P : ℕ × ℕ → Type 0) (Node : ℕ → Type 0) (w : ℕ → ℕ → ℤ) (grown held : ℕ → Bool) (ys : List (ℕ × ℕ)) (e : ℕ × ℕ) (rest : List (ℕ × ℕ))
+    (a b : ℕ) → Takes P w ys e rest → held a ≡ true → ((other : ℕ → Bool) → crosses other e ≡ crosses other (a, b))
+    → Exchanged P Node w grown (and_node held b) rest → Exchanged P Node w grown held ys
 exchange_later P Node w grown held ys e rest a b takes in_held alike x = record {
   pair = x.pair;
   rest = e ∷ x.rest;
@@ -159,7 +165,9 @@ exchange_later P Node w grown held ys e rest a b takes in_held alike x = record 
 }
 
 -- without a pair between two held nodes the list still joins the held nodes as one
-joins_rest : (P : ℕ × ℕ → Type 0) (Node : ℕ → Type 0) (w : ℕ → ℕ → ℤ) (grown held : ℕ → Bool) (ys : List (ℕ × ℕ)) (e : ℕ × ℕ) (rest : List (ℕ × ℕ)) (a b : ℕ) → JoinsAsOne Node grown held ys → Takes P w ys e rest → held a ≡ true → ((other : ℕ → Bool) → crosses other e ≡ crosses other (a, b)) → JoinsAsOne Node grown (and_node held b) rest
+joins_rest : (P : ℕ × ℕ → Type 0) (Node : ℕ → Type 0) (w : ℕ → ℕ → ℤ) (grown held : ℕ → Bool) (ys : List (ℕ × ℕ)) (e : ℕ × ℕ) (rest : List (ℕ × ℕ)) (a b : ℕ)
+    → JoinsAsOne Node grown held ys → Takes P w ys e rest → held a ≡ true → ((other : ℕ → Bool) → crosses other e ≡ crosses other (a, b))
+    → JoinsAsOne Node grown (and_node held b) rest
 joins_rest P Node w grown held ys e rest a b joins takes in_held alike = λ part outside node out holds_grown one. elim one [
   | inl all ↦ rest_crosses P w ys e rest part takes
       (joins part outside node out holds_grown (inl (λ x h. all x (and_node_old held b x h))))
@@ -169,7 +177,8 @@ joins_rest P Node w grown held ys e rest a b joins takes in_held alike = λ part
       (alike part ∙ crosses_neither part a b (none a (and_node_old held b a in_held)) (none b (and_node_self held b)))
 ]
 
-pub exchange : (P : ℕ × ℕ → Type 0) (Node : ℕ → Type 0) (w : ℕ → ℕ → ℤ) (grown : ℕ → Bool) (v : ℕ) → Node v → (count : ℕ) (held : ℕ → Bool) (ys : List (ℕ × ℕ)) → length ys ≡ count → held v ≡ true → Apart grown held → JoinsAsOne Node grown held ys → Exchanged P Node w grown held ys
+pub exchange : (P : ℕ × ℕ → Type 0) (Node : ℕ → Type 0) (w : ℕ → ℕ → ℤ) (grown : ℕ → Bool) (v : ℕ) → Node v → (count : ℕ) (held : ℕ → Bool) (ys : List (ℕ × ℕ))
+    → length ys ≡ count → held v ≡ true → Apart grown held → JoinsAsOne Node grown held ys → Exchanged P Node w grown held ys
 exchange P Node w grown v node zero held ys size in_held apart joins =
     let r = find P w (crosses (λ x. not (held x))) ys (joins (λ x. not (held x)) v node (ap not in_held) (λ x h. ap not (apart x h)) (inr (λ x h. ap not h))) in
     absurd (omega (arith, r.3.count))
@@ -191,7 +200,8 @@ exchange P Node w grown v node (suc count) held ys size in_held apart joins =
 -- ---- the growth
 
 -- a list that joins the grown part has a pair that leaves it, and without that pair it joins the part with v
-pub exchange_node : (P : ℕ × ℕ → Type 0) (Node : ℕ → Type 0) (w : ℕ → ℕ → ℤ) (grown : ℕ → Bool) (v : ℕ) (ys : List (ℕ × ℕ)) → Node v → grown v ≡ false → Joins Node grown ys → (f : ℕ × ℕ) × (rest : List (ℕ × ℕ)) × Takes P w ys f rest × (crosses grown f ≡ true) × Joins Node (and_node grown v) rest
+pub exchange_node : (P : ℕ × ℕ → Type 0) (Node : ℕ → Type 0) (w : ℕ → ℕ → ℤ) (grown : ℕ → Bool) (v : ℕ) (ys : List (ℕ × ℕ)) → Node v → grown v ≡ false
+    → Joins Node grown ys → (f : ℕ × ℕ) × (rest : List (ℕ × ℕ)) × Takes P w ys f rest × (crosses grown f ≡ true) × Joins Node (and_node grown v) rest
 exchange_node P Node w grown v ys node free joins =
     let x = exchange P Node w grown v node (length ys) (λ y. y == v) ys refl (eq-eqb v v refl)
     (λ y h. false_from_ne_true (y == v) (λ e. both_ways (grown y) (subst (λ z. grown z ≡ false) (sym (eqb-true y v e)) free) h))
@@ -210,7 +220,8 @@ abbrev pub IsPairOf : (ℕ → Type 0) → ℕ × ℕ → Type 0
 IsPairOf Node e = Node e.0 × Node e.1
 
 -- the least pair that leaves weighs no more than one that leaves, whichever way it is written
-pub least_below : (Node : ℕ → Type 0) (w : ℕ → ℕ → ℤ) (grown : ℕ → Bool) (e f : ℕ × ℕ) → ((a b : ℕ) → w a b ≡ w b a) → IsLeastLeaving Node w grown e → IsPairOf Node f → crosses grown f ≡ true → w e.0 e.1 ≤ℤ w f.0 f.1
+pub least_below : (Node : ℕ → Type 0) (w : ℕ → ℕ → ℤ) (grown : ℕ → Bool) (e f : ℕ × ℕ) → ((a b : ℕ) → w a b ≡ w b a) → IsLeastLeaving Node w grown e
+    → IsPairOf Node f → crosses grown f ≡ true → w e.0 e.1 ≤ℤ w f.0 f.1
 least_below Node w grown e f symmetric least of h = elim (cases_Bool (grown f.0)) [
   | inl p ↦ elim (cases_Bool (grown f.1)) [
     | inl q ↦ absurd (both_ways (crosses grown f) (crosses_both grown f.0 f.1 p q) h)
@@ -223,7 +234,8 @@ least_below Node w grown e f symmetric least of h = elim (cases_Bool (grown f.0)
 ]
 
 -- A growth weighs no more than a list of as many pairs that crosses each cut which leaves the start on one side.
-pub growth_least : (Node : ℕ → Type 0) (w : ℕ → ℕ → ℤ) → ((a b : ℕ) → w a b ≡ w b a) → (added : List (ℕ × ℕ)) (grown : ℕ → Bool) (xs : List (ℕ × ℕ)) → Grows Node w grown added → length xs ≡ length added → AllByRecursion (IsPairOf Node) xs → Joins Node grown xs → weight_of w added ≤ℤ weight_of w xs
+pub growth_least : (Node : ℕ → Type 0) (w : ℕ → ℕ → ℤ) → ((a b : ℕ) → w a b ≡ w b a) → (added : List (ℕ × ℕ)) (grown : ℕ → Bool) (xs : List (ℕ × ℕ))
+    → Grows Node w grown added → length xs ≡ length added → AllByRecursion (IsPairOf Node) xs → Joins Node grown xs → weight_of w added ≤ℤ weight_of w xs
 growth_least Node w symmetric [] grown [] grows size of joins = omega (arith, ints)
 growth_least Node w symmetric [] grown (x ∷ xs) grows size of joins = absurd (omega (arith, size))
 growth_least Node w symmetric (e ∷ es) grown xs grows size of joins =

@@ -18,7 +18,8 @@ none_lowered : (lowerings : List (ℕ × ℤ)) (x : ℕ) → AllByRecursion (λ 
 none_lowered [] x h = refl
 none_lowered (l ∷ ls) x h = let rest = none_lowered ls x h.1 in let other = ne_eqb l.0 x h.0 in rw other (omega (arith, ints, rest))
 
-one_lowered : (lowerings : List (ℕ × ℤ)) (x k : ℕ) (number : ℤ) → AllPairs (λ a b. a.0 ≢ b.0) lowerings → k < length lowerings → get_or lowerings k (x, number) ≡ (x, number) → lowered_by lowerings x ≡ number
+one_lowered : (lowerings : List (ℕ × ℤ)) (x k : ℕ) (number : ℤ) → AllPairs (λ a b. a.0 ≢ b.0) lowerings → k < length lowerings
+    → get_or lowerings k (x, number) ≡ (x, number) → lowered_by lowerings x ≡ number
 one_lowered [] x k number once lt is = absurd (omega arith)
 one_lowered (l ∷ ls) x zero number once lt is =
     let node : l.0 ≡ x = ap (λ (e : ℕ × ℤ). e.0) is in
@@ -34,7 +35,8 @@ one_lowered (l ∷ ls) x (suc k) number once lt is =
 
 -- ---- lowered first, then not lowered
 
-nearer_at : (weight other : ℤ) (next old_near : ℕ) (old_least : ℤ) (new_near : ℕ) (new_least : ℤ) → weight ≡ other → IsNearer weight next old_near old_least new_near new_least → IsNearer other next old_near old_least new_near new_least
+nearer_at : (weight other : ℤ) (next old_near : ℕ) (old_least : ℤ) (new_near : ℕ) (new_least : ℤ) → weight ≡ other
+    → IsNearer weight next old_near old_least new_near new_least → IsNearer other next old_near old_least new_near new_least
 nearer_at weight other next old_near old_least new_near new_least same h = subst (λ (z : ℤ). IsNearer z next old_near old_least new_near new_least) same h
 
 both_nearer : (lower weight : ℤ) (next old_near : ℕ) (old_least : ℤ) (mid_near : ℕ) (mid_least : ℤ) (new_near : ℕ) (new_least : ℤ) → lower ≤ℤ weight
@@ -45,7 +47,8 @@ both_nearer lower weight next old_near old_least mid_near mid_least new_near new
 both_nearer lower weight next old_near old_least mid_near mid_least new_near new_least below (inr a) (inr b) = absurd (omega (arith, ints, below, a.1, b.2))
 
 both_steps : (lowerings : List (ℕ × ℤ)) (n : ℕ) (weight : ℤ) (next x old_near : ℕ) (old_least : ℤ) (mid_near : ℕ) (mid_least : ℤ) (new_near : ℕ) (new_least : ℤ) → AreLowerings n lowerings
-    → IsLowered lowerings weight next x old_near old_least mid_near mid_least → IsNearer weight next mid_near mid_least new_near new_least → IsNearer (weight -ℤ lowered_by lowerings x) next old_near old_least new_near new_least
+    → IsLowered lowerings weight next x old_near old_least mid_near mid_least → IsNearer weight next mid_near mid_least new_near new_least
+    → IsNearer (weight -ℤ lowered_by lowerings x) next old_near old_least new_near new_least
 both_steps lowerings n weight next x old_near old_least mid_near mid_least new_near new_least are (inl same) nearer =
     let none = none_lowered lowerings x (recursion_from_All (λ l. l.0 ≢ x) lowerings same.0) in
     nearer_at weight (weight -ℤ lowered_by lowerings x) next old_near old_least new_near new_least (omega (arith, ints, none))
@@ -68,12 +71,15 @@ lowered_positive n (l ∷ ls) x h = let rest = lowered_positive n ls x h.1 in el
 pub record AreLess (w v : ℕ → ℕ → ℤ) (lowerings : List (ℕ × ℤ)) (next : ℕ) : Type 0 where
   pub less : (x : ℕ) → v next x ≡ w next x -ℤ lowered_by lowerings x
 
-pub reached_nearer : (n : ℕ) (w v : ℕ → ℕ → ℤ) (lowerings : List (ℕ × ℤ)) (inside : List Bool) (next : ℕ) (old_near : List ℕ) (old_least : List ℤ) (mid_near : List ℕ) (mid_least : List ℤ) (new_near : List ℕ) (new_least : List ℤ)
-    → AreLowerings n lowerings → AreLess w v lowerings next → AreLowered n w lowerings inside next old_near old_least mid_near mid_least → AreNearer n w inside next mid_near mid_least new_near new_least
+pub reached_nearer : (n : ℕ) (w v : ℕ → ℕ → ℤ) (lowerings : List (ℕ × ℤ)) (inside : List Bool) (next : ℕ) (old_near : List ℕ) (old_least : List ℤ)
+    (mid_near : List ℕ) (mid_least : List ℤ) (new_near : List ℕ) (new_least : List ℤ)
+    → AreLowerings n lowerings → AreLess w v lowerings next → AreLowered n w lowerings inside next old_near old_least mid_near mid_least
+    → AreNearer n w inside next mid_near mid_least new_near new_least
     → AreNearer n v inside next old_near old_least new_near new_least
 reached_nearer n w v lowerings inside next old_near old_least mid_near mid_least new_near new_least are is lowered nearer x h free =
     nearer_at (w next x -ℤ lowered_by lowerings x) (v next x) next (slice_index old_near x) (least_at old_least x) (slice_index new_near x) (least_at new_least x) (sym (is.less x))
-    (both_steps lowerings n (w next x) next x (slice_index old_near x) (least_at old_least x) (slice_index mid_near x) (least_at mid_least x) (slice_index new_near x) (least_at new_least x) are (lowered x h free) (nearer x h free))
+    (both_steps lowerings n (w next x) next x (slice_index old_near x) (least_at old_least x) (slice_index mid_near x) (least_at mid_least x)
+    (slice_index new_near x) (least_at new_least x) are (lowered x h free) (nearer x h free))
 
 pub reached_small : (n : ℕ) (w v : ℕ → ℕ → ℤ) (lowerings : List (ℕ × ℤ)) (inside : List Bool) (next : ℕ) → AreLowerings n lowerings → AreLess w v lowerings next
     → ((x : ℕ) → IsInner n x → is_inside inside x ≡ false → w next x <ℤ most_64) → (x : ℕ) → IsInner n x → is_inside inside x ≡ false → v next x <ℤ most_64
@@ -95,7 +101,8 @@ abbrev pub AreLoweredBy : ℕ → ℕ → (ℕ → ℕ → ℤ) → List (ℕ ×
 AreLoweredBy count n w lowerings inside next old_near old_least new_near new_least = (x : ℕ) → IsInner n x → is_inside inside x ≡ false
     → IsLoweredBy count lowerings (w next x) next x (slice_index old_near x) (least_at old_least x) (slice_index new_near x) (least_at new_least x)
 
-pub all_lowered : (n : ℕ) (w : ℕ → ℕ → ℤ) (lowerings : List (ℕ × ℤ)) (inside : List Bool) (next : ℕ) (old_near : List ℕ) (old_least : List ℤ) (new_near : List ℕ) (new_least : List ℤ) (count : ℕ) → count ≡ length lowerings
+pub all_lowered : (n : ℕ) (w : ℕ → ℕ → ℤ) (lowerings : List (ℕ × ℤ)) (inside : List Bool) (next : ℕ) (old_near : List ℕ) (old_least : List ℤ)
+    (new_near : List ℕ) (new_least : List ℤ) (count : ℕ) → count ≡ length lowerings
     → AreLoweredBy count n w lowerings inside next old_near old_least new_near new_least → AreLowered n w lowerings inside next old_near old_least new_near new_least
 all_lowered n w lowerings inside next old_near old_least new_near new_least count whole h x in_x free = elim (h x in_x free) [
   | inl same ↦ inl (λ k d lt. same.0 k d (omega (arith, whole, lt)), same.1, same.2)
@@ -103,7 +110,8 @@ all_lowered n w lowerings inside next old_near old_least new_near new_least coun
 ]
 
 -- one more of another node
-lowered_other : (count : ℕ) (lowerings : List (ℕ × ℤ)) (weight : ℤ) (next x old_near : ℕ) (old_least : ℤ) (near : ℕ) (least : ℤ) → count < length lowerings → ((d : ℕ × ℤ) → (get_or lowerings count d).0 ≢ x)
+lowered_other : (count : ℕ) (lowerings : List (ℕ × ℤ)) (weight : ℤ) (next x old_near : ℕ) (old_least : ℤ) (near : ℕ) (least : ℤ) → count < length lowerings
+    → ((d : ℕ × ℤ) → (get_or lowerings count d).0 ≢ x)
     → IsLoweredBy count lowerings weight next x old_near old_least near least → IsLoweredBy (count + 1) lowerings weight next x old_near old_least near least
 lowered_other count lowerings weight next x old_near old_least near least lt other (inl same) = inl (
   λ k d below is. elim (cases_eq k count) [
@@ -116,7 +124,8 @@ lowered_other count lowerings weight next x old_near old_least near least lt oth
 lowered_other count lowerings weight next x old_near old_least near least lt other (inr found) = inr (found.0, (found.1.0, omega (arith, found.1.1), found.1.2), found.2)
 
 -- a node that is inside isn't looked at
-pub lowered_inside : (count n : ℕ) (w : ℕ → ℕ → ℤ) (lowerings : List (ℕ × ℤ)) (inside : List Bool) (next : ℕ) (old_near : List ℕ) (old_least : List ℤ) (near : List ℕ) (least : List ℤ) (node : ℕ) → count < length lowerings
+pub lowered_inside : (count n : ℕ) (w : ℕ → ℕ → ℤ) (lowerings : List (ℕ × ℤ)) (inside : List Bool) (next : ℕ) (old_near : List ℕ) (old_least : List ℤ)
+    (near : List ℕ) (least : List ℤ) (node : ℕ) → count < length lowerings
     → ((d : ℕ × ℤ) → (get_or lowerings count d).0 ≡ node) → is_inside inside node ≡ true
     → AreLoweredBy count n w lowerings inside next old_near old_least near least → AreLoweredBy (count + 1) n w lowerings inside next old_near old_least near least
 lowered_inside count n w lowerings inside next old_near old_least near least node lt is taken h x in_x free =
@@ -124,18 +133,22 @@ lowered_inside count n w lowerings inside next old_near old_least near least nod
     (λ d same. both_ways (is_inside inside node) (ap (is_inside inside) (sym (is d) ∙ same) ∙ free) taken) (h x in_x free)
 
 -- one that is outside takes the lower weight
-pub lowered_outside : (count n : ℕ) (w : ℕ → ℕ → ℤ) (lowerings : List (ℕ × ℤ)) (inside : List Bool) (next : ℕ) (old_near : List ℕ) (old_least : List ℤ) (near new_near : List ℕ) (least new_least : List ℤ) (node : ℕ) (number : ℤ)
+pub lowered_outside : (count n : ℕ) (w : ℕ → ℕ → ℤ) (lowerings : List (ℕ × ℤ)) (inside : List Bool) (next : ℕ) (old_near : List ℕ) (old_least : List ℤ)
+    (near new_near : List ℕ) (least new_least : List ℤ) (node : ℕ) (number : ℤ)
     → count < length lowerings → AreLowerings n lowerings → ((d : ℕ × ℤ) → get_or lowerings count d ≡ (node, number)) → IsTaken (w next node -ℤ number) next node near least new_near new_least
     → AreLoweredBy count n w lowerings inside next old_near old_least near least → AreLoweredBy (count + 1) n w lowerings inside next old_near old_least new_near new_least
 lowered_outside count n w lowerings inside next old_near old_least near new_near least new_least node number lt are is taken h x in_x free = elim (cases_eq x node) [
   | inr other ↦
       subst (λ (y : ℕ). IsLoweredBy (count + 1) lowerings (w next x) next x (slice_index old_near x) (least_at old_least x) y (least_at new_least x)) (sym (taken.near_other x other))
       (subst (λ (z : ℤ). IsLoweredBy (count + 1) lowerings (w next x) next x (slice_index old_near x) (least_at old_least x) (slice_index near x) z) (sym (taken.least_other x other))
-      (lowered_other count lowerings (w next x) next x (slice_index old_near x) (least_at old_least x) (slice_index near x) (least_at least x) lt (λ d same. other (sym same ∙ ap (λ (e : ℕ × ℤ). e.0) (is d))) (h x in_x free)))
-  | inl same ↦ subst (λ (y : ℕ). IsLoweredBy (count + 1) lowerings (w next y) next y (slice_index old_near y) (least_at old_least y) (slice_index new_near y) (least_at new_least y)) (sym same) (here (subst (IsInner n) same in_x) (subst (λ (y : ℕ). is_inside inside y ≡ false) same free))
+      (lowered_other count lowerings (w next x) next x (slice_index old_near x) (least_at old_least x) (slice_index near x) (least_at least x) lt
+      (λ d same. other (sym same ∙ ap (λ (e : ℕ × ℤ). e.0) (is d))) (h x in_x free)))
+  | inl same ↦ subst (λ (y : ℕ). IsLoweredBy (count + 1) lowerings (w next y) next y (slice_index old_near y) (least_at old_least y) (slice_index new_near y)
+      (least_at new_least y)) (sym same) (here (subst (IsInner n) same in_x) (subst (λ (y : ℕ). is_inside inside y ≡ false) same free))
 ]
   where
-    here : IsInner n node → is_inside inside node ≡ false → IsLoweredBy (count + 1) lowerings (w next node) next node (slice_index old_near node) (least_at old_least node) (slice_index new_near node) (least_at new_least node)
+    here : IsInner n node → is_inside inside node ≡ false → IsLoweredBy (count + 1) lowerings (w next node) next node (slice_index old_near node)
+        (least_at old_least node) (slice_index new_near node) (least_at new_least node)
     here in_node out_node = elim (h node in_node out_node) [
       | inl same ↦ inr (
         number,

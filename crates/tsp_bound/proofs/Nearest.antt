@@ -19,7 +19,8 @@ FindsNearest n inside node least best (Some v) = IsInner n v × (v < node) × (i
     × ((x : ℕ) → IsInner n x → x < node → is_inside inside x ≡ false → best ≤ℤ least_at least x)
 
 -- the nodes before this one are brought up to date, and the others are as they were
-pub record IsBrought (n : ℕ) (w : ℕ → ℕ → ℤ) (inside : List Bool) (next node : ℕ) (old_near : List ℕ) (old_least : List ℤ) (near : List ℕ) (least : List ℤ) (best : ℤ) (nearest : Option ℕ) : Type 0 where
+pub record IsBrought (n : ℕ) (w : ℕ → ℕ → ℤ) (inside : List Bool) (next node : ℕ) (old_near : List ℕ) (old_least : List ℤ) (near : List ℕ) (least : List ℤ)
+    (best : ℤ) (nearest : Option ℕ) : Type 0 where
   pub done : (x : ℕ) → IsInner n x → x < node → is_inside inside x ≡ false → IsNearer (w next x) next (slice_index old_near x) (least_at old_least x) (slice_index near x) (least_at least x)
   pub small : (x : ℕ) → IsInner n x → x < node → is_inside inside x ≡ false → w next x <ℤ most_64
   pub near_rest : (x : ℕ) → node ≤ x → slice_index near x ≡ slice_index old_near x
@@ -62,16 +63,19 @@ brought_inside n w inside next node old_near old_least near least best nearest b
 
 -- ---- a node outside is taken
 
-below_others : (n : ℕ) (inside : List Bool) (node : ℕ) (least : List ℤ) (best : ℤ) (nearest : Option ℕ) → FindsNearest n inside node least best nearest → (x : ℕ) → IsInner n x → x < node → is_inside inside x ≡ false → best ≤ℤ least_at least x
+below_others : (n : ℕ) (inside : List Bool) (node : ℕ) (least : List ℤ) (best : ℤ) (nearest : Option ℕ) → FindsNearest n inside node least best nearest
+    → (x : ℕ) → IsInner n x → x < node → is_inside inside x ≡ false → best ≤ℤ least_at least x
 below_others n inside node least best None f x h below out = absurd (both_ways (is_inside inside x) out (f.1 x h below))
 below_others n inside node least best (Some v) f x h below out = f.4 x h below out
 
 -- what is taken is below the weight that stands for none
-taken_small : (weight : ℤ) (next : ℕ) (old_near : ℕ) (old_least : ℤ) (new_near : ℕ) (new_least : ℤ) → weight <ℤ most_64 → IsNearer weight next old_near old_least new_near new_least → new_least <ℤ most_64
+taken_small : (weight : ℤ) (next : ℕ) (old_near : ℕ) (old_least : ℤ) (new_near : ℕ) (new_least : ℤ) → weight <ℤ most_64
+    → IsNearer weight next old_near old_least new_near new_least → new_least <ℤ most_64
 taken_small weight next old_near old_least new_near new_least small (inl old) = omega (arith, ints, small, old.1, old.2)
 taken_small weight next old_near old_least new_near new_least small (inr new) = omega (arith, ints, small, new.1)
 
-taken_found : (n : ℕ) (inside : List Bool) (node : ℕ) (least new_least : List ℤ) (best kept : ℤ) (nearest : Option ℕ) → FindsNearest n inside node least best nearest → ((x : ℕ) → x ≢ node → least_at new_least x ≡ least_at least x)
+taken_found : (n : ℕ) (inside : List Bool) (node : ℕ) (least new_least : List ℤ) (best kept : ℤ) (nearest : Option ℕ)
+    → FindsNearest n inside node least best nearest → ((x : ℕ) → x ≢ node → least_at new_least x ≡ least_at least x)
     → IsInner n node → is_inside inside node ≡ false → kept ≡ least_at new_least node → kept <ℤ best → FindsNearest n inside (node + 1) new_least kept (Some node)
 taken_found n inside node least new_least best kept nearest f same in_node out_node is less = (
   in_node,
@@ -87,7 +91,8 @@ taken_found n inside node least new_least best kept nearest f same in_node out_n
   ],
 )
 
-kept_found : (n : ℕ) (inside : List Bool) (node : ℕ) (least new_least : List ℤ) (best kept : ℤ) (nearest : Option ℕ) → FindsNearest n inside node least best nearest → ((x : ℕ) → x ≢ node → least_at new_least x ≡ least_at least x)
+kept_found : (n : ℕ) (inside : List Bool) (node : ℕ) (least new_least : List ℤ) (best kept : ℤ) (nearest : Option ℕ)
+    → FindsNearest n inside node least best nearest → ((x : ℕ) → x ≢ node → least_at new_least x ≡ least_at least x)
     → kept ≡ least_at new_least node → kept <ℤ most_64 → best ≤ℤ kept → FindsNearest n inside (node + 1) new_least best nearest
 kept_found n inside node least new_least best kept None f same is small less = absurd (omega (arith, ints, f.0, small, less))
 kept_found n inside node least new_least best kept (Some v) f same is small less = (
@@ -104,7 +109,8 @@ kept_found n inside node least new_least best kept (Some v) f same is small less
   ],
 )
 
-brought_taken : (n : ℕ) (w : ℕ → ℕ → ℤ) (inside : List Bool) (next node : ℕ) (old_near : List ℕ) (old_least : List ℤ) (near new_near : List ℕ) (least new_least : List ℤ) (best new_best : ℤ) (nearest new_nearest : Option ℕ)
+brought_taken : (n : ℕ) (w : ℕ → ℕ → ℤ) (inside : List Bool) (next node : ℕ) (old_near : List ℕ) (old_least : List ℤ) (near new_near : List ℕ)
+    (least new_least : List ℤ) (best new_best : ℤ) (nearest new_nearest : Option ℕ)
     → IsBrought n w inside next node old_near old_least near least best nearest → IsTaken (w next node) next node near least new_near new_least → w next node <ℤ most_64
     → FindsNearest n inside (node + 1) new_least new_best new_nearest → IsBrought n w inside next (node + 1) old_near old_least new_near new_least new_best new_nearest
 brought_taken n w inside next node old_near old_least near new_near least new_least best new_best nearest new_nearest b t small found = record {
@@ -125,15 +131,18 @@ brought_taken n w inside next node old_near old_least near new_near least new_le
 }
 
 -- it is the nearest so far
-pub brought_nearer : (n : ℕ) (w : ℕ → ℕ → ℤ) (inside : List Bool) (next node : ℕ) (old_near : List ℕ) (old_least : List ℤ) (near new_near : List ℕ) (least new_least : List ℤ) (best kept : ℤ) (nearest : Option ℕ)
-    → IsBrought n w inside next node old_near old_least near least best nearest → IsInner n node → is_inside inside node ≡ false → IsTaken (w next node) next node near least new_near new_least → w next node <ℤ most_64
+pub brought_nearer : (n : ℕ) (w : ℕ → ℕ → ℤ) (inside : List Bool) (next node : ℕ) (old_near : List ℕ) (old_least : List ℤ) (near new_near : List ℕ)
+    (least new_least : List ℤ) (best kept : ℤ) (nearest : Option ℕ)
+    → IsBrought n w inside next node old_near old_least near least best nearest → IsInner n node → is_inside inside node ≡ false
+    → IsTaken (w next node) next node near least new_near new_least → w next node <ℤ most_64
     → kept ≡ least_at new_least node → kept <ℤ best → IsBrought n w inside next (node + 1) old_near old_least new_near new_least kept (Some node)
 brought_nearer n w inside next node old_near old_least near new_near least new_least best kept nearest b in_node out_node t small is less =
     brought_taken n w inside next node old_near old_least near new_near least new_least best kept nearest (Some node) b t small
     (taken_found n inside node least new_least best kept nearest b.found t.least_other in_node out_node is less)
 
 -- it isn't
-pub brought_farther : (n : ℕ) (w : ℕ → ℕ → ℤ) (inside : List Bool) (next node : ℕ) (old_near : List ℕ) (old_least : List ℤ) (near new_near : List ℕ) (least new_least : List ℤ) (best kept : ℤ) (nearest : Option ℕ)
+pub brought_farther : (n : ℕ) (w : ℕ → ℕ → ℤ) (inside : List Bool) (next node : ℕ) (old_near : List ℕ) (old_least : List ℤ) (near new_near : List ℕ)
+    (least new_least : List ℤ) (best kept : ℤ) (nearest : Option ℕ)
     → IsBrought n w inside next node old_near old_least near least best nearest → IsTaken (w next node) next node near least new_near new_least → w next node <ℤ most_64
     → kept ≡ least_at new_least node → best ≤ℤ kept → IsBrought n w inside next (node + 1) old_near old_least new_near new_least best nearest
 brought_farther n w inside next node old_near old_least near new_near least new_least best kept nearest b t small is less =
@@ -143,7 +152,8 @@ brought_farther n w inside next node old_near old_least near new_near least new_
 
 -- ---- the end
 
-pub nearest_found : (n : ℕ) (inside : List Bool) (node : ℕ) (least : List ℤ) (best : ℤ) (nearest : Option ℕ) → n < node → FindsNearest n inside node least best nearest → MatchOption nearest (AllInside n inside) (λ v. IsNearestOutside n inside least v)
+pub nearest_found : (n : ℕ) (inside : List Bool) (node : ℕ) (least : List ℤ) (best : ℤ) (nearest : Option ℕ) → n < node
+    → FindsNearest n inside node least best nearest → MatchOption nearest (AllInside n inside) (λ v. IsNearestOutside n inside least v)
 nearest_found n inside node least best None past f = λ x h. f.1 x h (omega (arith, h.1, past))
 nearest_found n inside node least best (Some v) past f = record {
   inner = f.0;
@@ -153,10 +163,13 @@ nearest_found n inside node least best (Some v) past f = record {
 
 -- ---- as a turn of the loop shows it
 
-pub taken_by_set : (weight result : ℤ) (next node : ℕ) (near : List ℕ) (least : List ℤ) (new_near : ℕ) (new_least : ℤ) → node < length near → node < length least → FitsSigned w64 result → result ≡ weight
-    → IsNearer (to_z w64 (of_z w64 result)) next (get_or near node 0) (get_or least node (pos 0)) new_near new_least → IsTaken weight next node near least (set near node new_near) (set least node new_least)
+pub taken_by_set : (weight result : ℤ) (next node : ℕ) (near : List ℕ) (least : List ℤ) (new_near : ℕ) (new_least : ℤ) → node < length near
+    → node < length least → FitsSigned w64 result → result ≡ weight
+    → IsNearer (to_z w64 (of_z w64 result)) next (get_or near node 0) (get_or least node (pos 0)) new_near new_least
+    → IsTaken weight next node near least (set near node new_near) (set least node new_least)
 taken_by_set weight result next node near least new_near new_least in_near in_least fits is nearer =
-    let own : IsNearer weight next (get_or near node 0) (get_or least node (pos 0)) new_near new_least = subst (λ (z : ℤ). IsNearer z next (get_or near node 0) (get_or least node (pos 0)) new_near new_least) (to_z-of_z w64 result fits ∙ is) nearer in
+    let own : IsNearer weight next (get_or near node 0) (get_or least node (pos 0)) new_near new_least =
+    subst (λ (z : ℤ). IsNearer z next (get_or near node 0) (get_or least node (pos 0)) new_near new_least) (to_z-of_z w64 result fits ∙ is) nearer in
     let near_here : get_or (set near node new_near) node 0 ≡ new_near = get_or-set_same near node new_near 0 in_near in
     let least_here : get_or (set least node new_least) node (pos 0) ≡ new_least = get_or-set_same least node new_least (pos 0) in_least in
     record {
@@ -166,5 +179,6 @@ taken_by_set weight result next node near least new_near new_least in_near in_le
       least_other = λ x other. get_or-set_other least node x new_least (pos 0) other;
     }
 
-pub kept_is : (result new_least : ℤ) (node : ℕ) (least : List ℤ) → node < length least → FitsSigned w64 result → result ≡ new_least → to_z w64 (of_z w64 result) ≡ least_at (set least node new_least) node
+pub kept_is : (result new_least : ℤ) (node : ℕ) (least : List ℤ) → node < length least → FitsSigned w64 result → result ≡ new_least
+    → to_z w64 (of_z w64 result) ≡ least_at (set least node new_least) node
 kept_is result new_least node least in_least fits is = to_z-of_z w64 result fits ∙ is ∙ sym (get_or-set_same least node new_least (pos 0) in_least)

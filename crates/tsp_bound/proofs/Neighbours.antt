@@ -91,10 +91,12 @@ neighbours_found nodes pair h =
 found_neighbours : (nodes : List ℕ) (pair : ℕ × ℕ) → AreNeighbours nodes pair → list_any (is_same_pair pair) (links nodes) ≡ true
 found_neighbours nodes pair (inl c) =
     list_any_at (is_same_pair pair) (links nodes) c.0 pair c.1 (ap (is_same_pair pair) c.2
-    ∙ or_left ((pair.0 == pair.0) && (pair.1 == pair.1)) ((pair.1 == pair.0) && (pair.0 == pair.1)) (and_from (pair.0 == pair.0) (pair.1 == pair.1) (eq-eqb pair.0 pair.0 refl) (eq-eqb pair.1 pair.1 refl)))
+    ∙ or_left ((pair.0 == pair.0) && (pair.1 == pair.1)) ((pair.1 == pair.0) && (pair.0 == pair.1))
+    (and_from (pair.0 == pair.0) (pair.1 == pair.1) (eq-eqb pair.0 pair.0 refl) (eq-eqb pair.1 pair.1 refl)))
 found_neighbours nodes pair (inr c) =
     list_any_at (is_same_pair pair) (links nodes) c.0 (pair.1, pair.0) c.1 (ap (is_same_pair pair) c.2
-    ∙ or_right ((pair.0 == pair.1) && (pair.1 == pair.0)) ((pair.1 == pair.1) && (pair.0 == pair.0)) (and_from (pair.1 == pair.1) (pair.0 == pair.0) (eq-eqb pair.1 pair.1 refl) (eq-eqb pair.0 pair.0 refl)))
+    ∙ or_right ((pair.0 == pair.1) && (pair.1 == pair.0)) ((pair.1 == pair.1) && (pair.0 == pair.0))
+    (and_from (pair.1 == pair.1) (pair.0 == pair.0) (eq-eqb pair.1 pair.1 refl) (eq-eqb pair.0 pair.0 refl)))
 
 pub neighbours_or_not : (nodes : List ℕ) (pair : ℕ × ℕ) → AreNeighbours nodes pair ⊎ (AreNeighbours nodes pair → ⊥)
 neighbours_or_not nodes pair = elim (cases_Bool (list_any (is_same_pair pair) (links nodes))) [

@@ -11,10 +11,12 @@ use Rattle.tsp_bound.proofs.Exchange.{IsCrossed, Joins, IsPairOf, and_node_all, 
 
 -- ---- a growth that reaches each node joins them
 
-pub growth_joins : (Node : ℕ → Type 0) (w : ℕ → ℕ → ℤ) (added : List (ℕ × ℕ)) (grown : ℕ → Bool) → Grows Node w grown added → ((v : ℕ) → Node v → grown_by grown added v ≡ true) → Joins Node grown added
+pub growth_joins : (Node : ℕ → Type 0) (w : ℕ → ℕ → ℤ) (added : List (ℕ × ℕ)) (grown : ℕ → Bool) → Grows Node w grown added
+    → ((v : ℕ) → Node v → grown_by grown added v ≡ true) → Joins Node grown added
 growth_joins Node w [] grown grows reached = λ part outside node out holds. absurd (both_ways (part outside) out (holds outside (reached outside node)))
 growth_joins Node w (e ∷ es) grown grows reached = λ part outside node out holds. elim (cases_Bool (part e.1)) [
-  | inl t ↦ or_right (crosses part e) (list_any (crosses part) es) (growth_joins Node w es (and_node grown e.1) grows.1 reached part outside node out (and_node_all grown e.1 (λ y. part y ≡ true) t holds))
+  | inl t ↦ or_right (crosses part e) (list_any (crosses part) es)
+      (growth_joins Node w es (and_node grown e.1) grows.1 reached part outside node out (and_node_all grown e.1 (λ y. part y ≡ true) t holds))
   | inr f ↦ or_left (crosses part e) (list_any (crosses part) es) (crosses_out part e.0 e.1 (holds e.0 grows.0.from) f)
 ]
 
@@ -49,7 +51,8 @@ ordered_crossed part (e ∷ es) =
 
 -- ---- the pairs at node 1 and the others
 
-both_weights : (w : ℕ → ℕ → ℤ) (b : Bool) (e : ℕ × ℕ) (xs ys : List (ℕ × ℕ)) → weight_of w (cond b (e ∷ xs) xs) +ℤ weight_of w (cond (not b) (e ∷ ys) ys) ≡ w e.0 e.1 +ℤ (weight_of w xs +ℤ weight_of w ys)
+both_weights : (w : ℕ → ℕ → ℤ) (b : Bool) (e : ℕ × ℕ) (xs ys : List (ℕ × ℕ))
+    → weight_of w (cond b (e ∷ xs) xs) +ℤ weight_of w (cond (not b) (e ∷ ys) ys) ≡ w e.0 e.1 +ℤ (weight_of w xs +ℤ weight_of w ys)
 both_weights w true e xs ys = omega (arith, ints)
 both_weights w false e xs ys = omega (arith, ints)
 
@@ -107,7 +110,8 @@ crosses_rest part (e ∷ es) = ap (λ b. b || list_any (crosses (λ x. not (part
     turned false false = refl
 
 -- a list that joins one start crosses each part that is neither empty nor all
-joins_parts : (Node : ℕ → Type 0) (start : ℕ) (xs : List (ℕ × ℕ)) → Joins Node (λ x. x == start) xs → (part : ℕ → Bool) (inside outside : ℕ) → Node inside → Node outside → part inside ≡ true → part outside ≡ false → IsCrossed xs part
+joins_parts : (Node : ℕ → Type 0) (start : ℕ) (xs : List (ℕ × ℕ)) → Joins Node (λ x. x == start) xs → (part : ℕ → Bool) (inside outside : ℕ) → Node inside
+    → Node outside → part inside ≡ true → part outside ≡ false → IsCrossed xs part
 joins_parts Node start xs joins part inside outside in_node out_node in_part out_part = elim (cases_Bool (part start)) [
   | inl t ↦ joins part outside out_node out_part (λ x h. subst (λ z. part z ≡ true) (sym (eqb-true x start h)) t)
   | inr f ↦ sym (crosses_rest part xs) ∙ joins (λ x. not (part x)) inside in_node (ap not in_part) (λ x h. subst (λ z. not (part z) ≡ true) (sym (eqb-true x start h)) (ap not f))
@@ -122,7 +126,9 @@ pub record IsGrown (n : ℕ) (w : ℕ → ℕ → ℤ) (start first second : ℕ
   pub count : 2 + length added ≡ n
 
 -- two spokes and as many links as a tree has, which cross each part
-pub one_tree_of : (n first second : ℕ) (added : List (ℕ × ℕ)) → IsInner n first → IsInner n second → first ≢ second → AllByRecursion (IsLink (IsInner n)) added → ((part : ℕ → Bool) (inside outside : ℕ) → IsInner n inside → IsInner n outside → part inside ≡ true → part outside ≡ false → IsCrossed added part) → 2 + length added ≡ n → IsOneTree n (tree_of first second added)
+pub one_tree_of : (n first second : ℕ) (added : List (ℕ × ℕ)) → IsInner n first → IsInner n second → first ≢ second → AllByRecursion (IsLink (IsInner n)) added
+    → ((part : ℕ → Bool) (inside outside : ℕ) → IsInner n inside → IsInner n outside → part inside ≡ true → part outside ≡ false → IsCrossed added part)
+    → 2 + length added ≡ n → IsOneTree n (tree_of first second added)
 one_tree_of n first second added one two differ links joined count =
     let pairs = ordered_pairs n added links in
     let none = none_at_one (map ordered added) pairs.1 in
@@ -158,19 +164,23 @@ nearest_least n w first second a b near in_a in_b differ = elim (cases_eq a firs
       omega (arith, ints, one, two)
 ]
 
-pub grown_least : (n : ℕ) (w : ℕ → ℕ → ℤ) → ((a b : ℕ) → w a b ≡ w b a) → (start first second : ℕ) (added : List (ℕ × ℕ)) → IsGrown n w start first second added → (es : List (ℕ × ℕ)) → IsOneTree n es → weight_of w (tree_of first second added) ≤ℤ weight_of w es
+pub grown_least : (n : ℕ) (w : ℕ → ℕ → ℤ) → ((a b : ℕ) → w a b ≡ w b a) → (start first second : ℕ) (added : List (ℕ × ℕ)) → IsGrown n w start first second added
+    → (es : List (ℕ × ℕ)) → IsOneTree n es → weight_of w (tree_of first second added) ≤ℤ weight_of w es
 grown_least n w symmetric start first second added g es t =
     let range = recursion_from_All (IsPair n) es t.range in
     let spokes = subst (AllByRecursion (IsPair n)) t.spokes (kept_pairs (IsPair n) is_at_one es range) in
     let near : (w 1 first +ℤ w 1 second) ≤ℤ (w 1 t.first +ℤ w 1 t.second) = nearest_least n w first second t.first t.second g.nearest (omega arith, spokes.0.2) (omega arith, spokes.1.0.2) t.differ in
     let size : length es ≡ 2 + length (inner_pairs es) = apart_length es ∙ ap (λ xs. length xs + length (inner_pairs es)) t.spokes in
-    let rest : weight_of w added ≤ℤ weight_of w (inner_pairs es) = growth_least (IsInner n) w symmetric added (λ x. x == start) (inner_pairs es) g.grows (omega (arith, size, t.count, g.count)) (ends_inside n es range)
+    let rest : weight_of w added ≤ℤ weight_of w (inner_pairs es) =
+    growth_least (IsInner n) w symmetric added (λ x. x == start) (inner_pairs es) g.grows (omega (arith, size, t.count, g.count)) (ends_inside n es range)
     (λ part outside node out holds. t.joined part start outside g.start_in node (holds start (eq-eqb start start refl)) out) in
-    let split : weight_of w es ≡ weight_of w ((1, t.first) ∷ (1, t.second) ∷ []) +ℤ weight_of w (inner_pairs es) = apart_weight w es ∙ ap (λ xs. weight_of w xs +ℤ weight_of w (inner_pairs es)) t.spokes in
+    let split : weight_of w es ≡ weight_of w ((1, t.first) ∷ (1, t.second) ∷ []) +ℤ weight_of w (inner_pairs es) = apart_weight w es
+    ∙ ap (λ xs. weight_of w xs +ℤ weight_of w (inner_pairs es)) t.spokes in
     let same : weight_of w (map ordered added) ≡ weight_of w added = ordered_weight w symmetric added in
     omega (arith, ints, near, rest, split, same)
 
-pub grown_least_one_tree : (n : ℕ) (w : ℕ → ℕ → ℤ) → ((a b : ℕ) → w a b ≡ w b a) → (start first second : ℕ) (added : List (ℕ × ℕ)) → IsGrown n w start first second added → IsLeastOneTree n w (tree_of first second added)
+pub grown_least_one_tree : (n : ℕ) (w : ℕ → ℕ → ℤ) → ((a b : ℕ) → w a b ≡ w b a) → (start first second : ℕ) (added : List (ℕ × ℕ))
+    → IsGrown n w start first second added → IsLeastOneTree n w (tree_of first second added)
 grown_least_one_tree n w symmetric start first second added g = record {
   tree = grown_one_tree n w start first second added g;
   least = grown_least n w symmetric start first second added g;
@@ -178,7 +188,8 @@ grown_least_one_tree n w symmetric start first second added g = record {
 
 -- ---- as the functions find them
 
-pub least_from_growth : (n : ℕ) (w : ℕ → ℕ → ℤ) (first second : ℕ) (added seen pairs : List (ℕ × ℕ)) → 3 ≤ n → ((a b : ℕ) → w a b ≡ w b a) → AreNearest n w first second → IsWholeGrowth n w added → seen ≡ added → pairs ≡ tree_of first second seen → IsLeastOneTree n w pairs
+pub least_from_growth : (n : ℕ) (w : ℕ → ℕ → ℤ) (first second : ℕ) (added seen pairs : List (ℕ × ℕ)) → 3 ≤ n → ((a b : ℕ) → w a b ≡ w b a)
+    → AreNearest n w first second → IsWholeGrowth n w added → seen ≡ added → pairs ≡ tree_of first second seen → IsLeastOneTree n w pairs
 least_from_growth n w first second added seen pairs some symmetric nearest g same is = subst (IsLeastOneTree n w) (sym (is ∙ ap (tree_of first second) same))
     (grown_least_one_tree n w symmetric 2 first second added (record {
       start_in = (omega arith, omega arith);

@@ -36,7 +36,8 @@ product_fits scale cost s low high =
     let second : to_z w64 (of_z w64 cost) ≡ cost = omega (arith, ints, low, high) in
     rw (first, second) (fits_signed_mul w64 scale cost most_scale most_weight (size_of most_scale scale (omega (arith, ints, s.0), s.1)) (size_of most_weight cost (low, high)) (omega arith))
 
-pub product_is : (scale cost : ℤ) → IsScale scale → neg_ℤ (pos most_weight) ≤ℤ cost → cost ≤ℤ pos most_weight → to_z w64 (of_z w64 (to_z w64 (of_z w64 scale) *ℤ to_z w64 (of_z w64 cost))) ≡ scale *ℤ cost
+pub product_is : (scale cost : ℤ) → IsScale scale → neg_ℤ (pos most_weight) ≤ℤ cost → cost ≤ℤ pos most_weight
+    → to_z w64 (of_z w64 (to_z w64 (of_z w64 scale) *ℤ to_z w64 (of_z w64 cost))) ≡ scale *ℤ cost
 product_is scale cost s low high =
     let first : to_z w64 (of_z w64 scale) ≡ scale = omega (arith, ints, s.0, s.1) in
     let second : to_z w64 (of_z w64 cost) ≡ cost = omega (arith, ints, low, high) in
@@ -66,11 +67,13 @@ fit_decided row column scale cost scaled p q s is r =
 
 -- ---- sums of two
 
-pub sum_more : (sum number : ℤ) (index : ℕ) → index ≤ most_nodes → IsFromTo (neg_ℤ (pos (index * most_potential))) (pos (index * most_potential)) sum → IsFromTo (neg_ℤ (pos most_potential)) (pos most_potential) number
+pub sum_more : (sum number : ℤ) (index : ℕ) → index ≤ most_nodes → IsFromTo (neg_ℤ (pos (index * most_potential))) (pos (index * most_potential)) sum
+    → IsFromTo (neg_ℤ (pos most_potential)) (pos most_potential) number
     → IsFromTo (neg_ℤ (pos ((index + 1) * most_potential))) (pos ((index + 1) * most_potential)) (sum +ℤ number)
 sum_more sum number index few s p = (omega (arith, ints, s.0, p.0), omega (arith, ints, s.1, p.1))
 
-pub sum_computed : (sum number from : ℤ) (index : ℕ) → index ≤ most_nodes → IsFromTo (neg_ℤ (pos (index * most_potential))) (pos (index * most_potential)) sum → IsFromTo (neg_ℤ (pos most_potential)) (pos most_potential) number
+pub sum_computed : (sum number from : ℤ) (index : ℕ) → index ≤ most_nodes → IsFromTo (neg_ℤ (pos (index * most_potential))) (pos (index * most_potential)) sum
+    → IsFromTo (neg_ℤ (pos most_potential)) (pos most_potential) number
     → from ≡ to_z w64 (of_z w64 number) → to_z w128 (of_z w128 (sum +ℤ to_z w128 (of_z w128 from))) ≡ sum +ℤ number
 sum_computed sum number from index few s p is =
     let same : from ≡ number = is ∙ omega (arith, ints, p.0, p.1) in
@@ -83,4 +86,6 @@ pub bound_of_sums : (scale first second first_total second_total bound : ℤ) �
     → IsLeastBound scale (first_total +ℤ second_total) (to_z w128 (of_z w128 bound))
 bound_of_sums scale first second first_total second_total bound s fits p q first_is second_is least =
     let sum : to_z w128 (of_z w128 (to_z w128 (of_z w128 first) +ℤ to_z w128 (of_z w128 second))) ≡ first_total +ℤ second_total = omega (arith, ints, p.0, p.1, q.0, q.1) in
-    rw (to_z-of_z w128 bound fits) (subst (λ (z : ℤ). IsLeastBound scale z bound) sum (subst (λ (z : ℤ). IsLeastBound z (to_z w128 (of_z w128 (to_z w128 (of_z w128 first) +ℤ to_z w128 (of_z w128 second)))) bound) (same_scale scale s) least))
+    rw (to_z-of_z w128 bound fits) (subst (λ (z : ℤ). IsLeastBound scale z bound) sum
+    (subst (λ (z : ℤ). IsLeastBound z (to_z w128 (of_z w128 (to_z w128 (of_z w128 first) +ℤ to_z w128 (of_z w128 second)))) bound) (same_scale scale s)
+    least))

@@ -56,7 +56,8 @@ one_or_none P false false x y first second = tt
 abbrev IsLowering : ℕ → ℕ × ℤ → Type 0
 IsLowering n lowering = IsNode n lowering.0 × IsFromTo (pos 0) (pos most_multiplier) lowering.1
 
-said_in : (n node : ℕ) (triples : List (ℕ × ℕ × ℤ)) → AllByRecursion IsMultiplier triples → AllByRecursion (λ t. IsNode n t.0 × IsNode n t.1) triples → AllByRecursion (IsLowering n) (all_said_of node triples)
+said_in : (n node : ℕ) (triples : List (ℕ × ℕ × ℤ)) → AllByRecursion IsMultiplier triples → AllByRecursion (λ t. IsNode n t.0 × IsNode n t.1) triples
+    → AllByRecursion (IsLowering n) (all_said_of node triples)
 said_in n node [] h nodes = tt
 said_in n node (t ∷ ts) h nodes =
     both_all (IsLowering n) (said_of node t) (all_said_of node ts)
@@ -77,14 +78,19 @@ none_said : (node other : ℕ) (triples : List (ℕ × ℕ × ℤ)) → HaveNone
 none_said node other [] h = tt
 none_said node other (u ∷ us) h =
     both_all (λ e. other ≢ e.0) (said_of node u) (all_said_of node us)
-    (one_or_none (λ e. other ≢ e.0) (u.0 == node) (u.1 == node) (u.1, u.2) (u.0, u.2) (λ first same. h.0.0 (eqb-true u.0 node first) (sym same)) (λ second same. h.0.1 (eqb-true u.1 node second) (sym same)))
+    (one_or_none (λ e. other ≢ e.0) (u.0 == node) (u.1 == node) (u.1, u.2) (u.0, u.2) (λ first same. h.0.0 (eqb-true u.0 node first) (sym same))
+    (λ second same. h.0.1 (eqb-true u.1 node second) (sym same)))
     (none_said node other us h.1)
 
-have_none : (t : ℕ × ℕ × ℤ) (node other : ℕ) (triples : List (ℕ × ℕ × ℤ)) → ((p : ℕ × ℕ) → (p.0 ≡ node) → (p.1 ≡ other) → is_same_pair (pair_of t) p ≡ true) → ((p : ℕ × ℕ) → (p.1 ≡ node) → (p.0 ≡ other) → is_same_pair (pair_of t) p ≡ true)
+have_none : (t : ℕ × ℕ × ℤ) (node other : ℕ) (triples : List (ℕ × ℕ × ℤ)) → ((p : ℕ × ℕ) → (p.0 ≡ node) → (p.1 ≡ other) → is_same_pair (pair_of t) p ≡ true)
+    → ((p : ℕ × ℕ) → (p.1 ≡ node) → (p.0 ≡ other) → is_same_pair (pair_of t) p ≡ true)
     → AllByRecursion (λ u. is_same_pair (pair_of t) (pair_of u) ≡ false) triples → HaveNone node other triples
 have_none t node other [] one two h = tt
 have_none t node other (u ∷ us) one two h = (
-  (λ first second. both_ways (is_same_pair (pair_of t) (pair_of u)) h.0 (one (pair_of u) first second), λ second first. both_ways (is_same_pair (pair_of t) (pair_of u)) h.0 (two (pair_of u) second first)),
+  (
+    λ first second. both_ways (is_same_pair (pair_of t) (pair_of u)) h.0 (one (pair_of u) first second),
+    λ second first. both_ways (is_same_pair (pair_of t) (pair_of u)) h.0 (two (pair_of u) second first),
+  ),
   have_none t node other us one two h.1,
 )
 
@@ -102,11 +108,17 @@ said_apart node [] h = tt
 said_apart node (t ∷ ts) h =
     let rest = said_apart node ts h.1 in
     elim (cases_Bool (t.0 == node)) [
-      | inl first ↦ rw first
-          (none_said node t.1 ts (have_none t node t.1 ts (λ p a b. straight (pair_of t) p (eqb-true t.0 node first ∙ sym a) (sym b)) (λ p a b. crossed (pair_of t) p (sym b) (eqb-true t.0 node first ∙ sym a)) h.0), rest)
+      | inl first ↦ rw first (
+        none_said node t.1 ts (have_none t node t.1 ts (λ p a b. straight (pair_of t) p (eqb-true t.0 node first ∙ sym a) (sym b))
+            (λ p a b. crossed (pair_of t) p (sym b) (eqb-true t.0 node first ∙ sym a)) h.0),
+        rest,
+      )
       | inr other ↦ elim (cases_Bool (t.1 == node)) [
-        | inl second ↦ rw (other, second)
-            (none_said node t.0 ts (have_none t node t.0 ts (λ p a b. crossed (pair_of t) p (eqb-true t.1 node second ∙ sym a) (sym b)) (λ p a b. straight (pair_of t) p (sym b) (eqb-true t.1 node second ∙ sym a)) h.0), rest)
+        | inl second ↦ rw (other, second) (
+          none_said node t.0 ts (have_none t node t.0 ts (λ p a b. crossed (pair_of t) p (eqb-true t.1 node second ∙ sym a) (sym b))
+              (λ p a b. straight (pair_of t) p (sym b) (eqb-true t.1 node second ∙ sym a)) h.0),
+          rest,
+        )
         | inr neither ↦ rw (other, neither) rest
       ]
     ]
@@ -127,7 +139,8 @@ pairs_from_apart (e ∷ es) h (suc i) (suc j) d below lt = pairs_from_apart es h
 
 pub are_lowerings : (n node : ℕ) (triples : List (ℕ × ℕ × ℤ)) → All IsMultiplier triples → AreOnPairs n triples → AreLowerings n (all_said_of node triples)
 are_lowerings n node triples each on = record {
-  each = All-from_recursion (IsLowering n) (all_said_of node triples) (said_in n node triples (recursion_from_All IsMultiplier triples each) (recursion_from_All (λ t. IsNode n t.0 × IsNode n t.1) triples on.nodes));
+  each = All-from_recursion (IsLowering n) (all_said_of node triples)
+      (said_in n node triples (recursion_from_All IsMultiplier triples each) (recursion_from_All (λ t. IsNode n t.0 × IsNode n t.1) triples on.nodes));
   once = pairs_from_apart (all_said_of node triples) (said_apart node triples (all_differ triples on.differ));
 }
 
@@ -179,7 +192,8 @@ table_more n triples t lists first second table a_in b_in differ first_is second
     elsewhere node a b = let first_none = ne_eqb t.0 node (λ same. a (sym same)) in let second_none = ne_eqb t.1 node (λ same. b (sym same)) in rw (first_none, second_none) refl
 
 -- as a turn of the loop shows it
-pub table_pushed : (n : ℕ) (triples : List (ℕ × ℕ × ℤ)) (index : ℕ) (lists : List (Vec (ℕ × ℤ))) (t : ℕ × ℕ × ℤ) (number : ℤ) (old_first old_second first second : Vec (ℕ × ℤ)) → index < length triples → t ≡ get_or triples index (0, 0, pos 0)
+pub table_pushed : (n : ℕ) (triples : List (ℕ × ℕ × ℤ)) (index : ℕ) (lists : List (Vec (ℕ × ℤ))) (t : ℕ × ℕ × ℤ) (number : ℤ)
+    (old_first old_second first second : Vec (ℕ × ℤ)) → index < length triples → t ≡ get_or triples index (0, 0, pos 0)
     → number ≡ t.2 → All IsMultiplier triples → AreOnPairs n triples → IsTable n (take index triples) lists
     → old_first ≡ get_or lists t.0 old_first → first.items ≡ old_first.items ++ (t.1, number) ∷ []
     → old_second ≡ get_or (set lists t.0 first) t.1 old_second → second.items ≡ old_second.items ++ (t.0, number) ∷ []

@@ -79,7 +79,8 @@ one_side part side a (b ∷ bs) h e =
     same_side true false k = sym k
     same_side false y k = k
 
-path_crosses : (part : ℕ → Bool) (b : ℕ) (bs : List ℕ) (inside outside : ℕ) → list_any (eqb inside) (b ∷ bs) ≡ true → list_any (eqb outside) (b ∷ bs) ≡ true → part inside ≡ true → part outside ≡ false → list_any (crosses part) (path b bs) ≡ true
+path_crosses : (part : ℕ → Bool) (b : ℕ) (bs : List ℕ) (inside outside : ℕ) → list_any (eqb inside) (b ∷ bs) ≡ true → list_any (eqb outside) (b ∷ bs) ≡ true
+    → part inside ≡ true → part outside ≡ false → list_any (crosses part) (path b bs) ≡ true
 path_crosses part b bs inside outside has_in has_out in_part out_part = elim (cases_Bool (list_any (crosses part) (path b bs))) [
   | inl h ↦ h
   | inr h ↦
@@ -110,7 +111,8 @@ tour_tree n b c cs t =
     one_tree_of n b (last_of c cs) (path b (c ∷ cs)) t.range.0 (last_all (IsInner n) c cs t.range.1.0 t.range.1.1)
     (last_all (λ y. b ≢ y) c cs (eqb-false b c far.0) (all_other cs far.1))
     (path_links n b (c ∷ cs) t.range.0 t.range.1 t.once)
-    (λ part inside outside in_node out_node in_part out_part. path_crosses part b (c ∷ cs) inside outside (has_each n (b ∷ c ∷ cs) t inside in_node) (has_each n (b ∷ c ∷ cs) t outside out_node) in_part out_part)
+    (λ part inside outside in_node out_node in_part out_part. path_crosses part b (c ∷ cs) inside outside (has_each n (b ∷ c ∷ cs) t inside in_node)
+    (has_each n (b ∷ c ∷ cs) t outside out_node) in_part out_part)
     (omega (arith, t.count, path_length b (c ∷ cs)))
   where
     all_other : (ys : List ℕ) → AllByRecursion (λ y. eqb b y ≡ false) ys → AllByRecursion (λ y. b ≢ y) ys
@@ -124,7 +126,9 @@ tour_tree_weight w symmetric b c cs =
     omega (arith, ints, same, back)
 
 -- a least 1-tree weighs no more than a tour
-pub tree_below_tour : (n : ℕ) (w : ℕ → ℕ → ℤ) (pairs : List (ℕ × ℕ)) (nodes : List ℕ) → 3 ≤ n → ((a b : ℕ) → w a b ≡ w b a) → IsLeastOneTree n w pairs → AreInner n nodes → weight_of w pairs ≤ℤ tour_weight w nodes
+pub tree_below_tour : (n : ℕ) (w : ℕ → ℕ → ℤ) (pairs : List (ℕ × ℕ)) (nodes : List ℕ) → 3 ≤ n → ((a b : ℕ) → w a b ≡ w b a) → IsLeastOneTree n w pairs
+    → AreInner n nodes → weight_of w pairs ≤ℤ tour_weight w nodes
 tree_below_tour n w pairs [] some symmetric least t = absurd (omega (arith, t.count))
 tree_below_tour n w pairs (b ∷ []) some symmetric least t = absurd (omega (arith, t.count))
-tree_below_tour n w pairs (b ∷ c ∷ cs) some symmetric least t = subst (λ z. weight_of w pairs ≤ℤ z) (tour_tree_weight w symmetric b c cs) (least.least (tree_of b (last_of c cs) (path b (c ∷ cs))) (tour_tree n b c cs t))
+tree_below_tour n w pairs (b ∷ c ∷ cs) some symmetric least t =
+    subst (λ z. weight_of w pairs ≤ℤ z) (tour_tree_weight w symmetric b c cs) (least.least (tree_of b (last_of c cs) (path b (c ∷ cs))) (tour_tree n b c cs t))

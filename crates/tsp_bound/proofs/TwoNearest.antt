@@ -20,7 +20,8 @@ pub record AreNearestBefore (n : ℕ) (w : ℕ → ℕ → ℤ) (node first : �
   pub next : (x : ℕ) → IsInner n x → x < node → x ≢ first → second_weight ≤ℤ w 1 x
 
 -- the nodes 2 and 3
-two_nodes : (n : ℕ) (w : ℕ → ℕ → ℤ) (a b : ℕ) (a_weight b_weight : ℤ) → IsInner n a → IsInner n b → a < 4 → b < 4 → a ≢ b → a_weight ≡ w 1 a → b_weight ≡ w 1 b → a_weight ≤ℤ b_weight → AreNearestBefore n w 4 a a_weight b b_weight
+two_nodes : (n : ℕ) (w : ℕ → ℕ → ℤ) (a b : ℕ) (a_weight b_weight : ℤ) → IsInner n a → IsInner n b → a < 4 → b < 4 → a ≢ b → a_weight ≡ w 1 a → b_weight ≡ w 1 b
+    → a_weight ≤ℤ b_weight → AreNearestBefore n w 4 a a_weight b b_weight
 two_nodes n w a b a_weight b_weight a_in b_in a_few b_few differ a_is b_is less = record {
   first_in = a_in;
   first_before = a_few;
@@ -38,19 +39,24 @@ two_nodes n w a b a_weight b_weight a_in b_in a_few b_few differ a_is b_is less 
       subst (λ (y : ℕ). b_weight ≤ℤ w 1 y) (sym here) (omega (arith, ints, b_is));
 }
 
-pub two_first : (n : ℕ) (w : ℕ → ℕ → ℤ) (a b : ℕ) (a_weight b_weight : ℤ) → 3 ≤ n → a ≡ 2 → b ≡ 3 → a_weight ≡ w 1 2 → b_weight ≡ w 1 3 → a_weight ≤ℤ b_weight → AreNearestBefore n w 4 a a_weight b b_weight
+pub two_first : (n : ℕ) (w : ℕ → ℕ → ℤ) (a b : ℕ) (a_weight b_weight : ℤ) → 3 ≤ n → a ≡ 2 → b ≡ 3 → a_weight ≡ w 1 2 → b_weight ≡ w 1 3 → a_weight ≤ℤ b_weight
+    → AreNearestBefore n w 4 a a_weight b b_weight
 two_first n w a b a_weight b_weight some a_is b_is a_weighs b_weighs less =
-    two_nodes n w a b a_weight b_weight (omega (arith, a_is), omega (arith, a_is, some)) (omega (arith, b_is), omega (arith, b_is, some)) (omega (arith, a_is)) (omega (arith, b_is)) (λ same. omega (arith, a_is, b_is, same))
+    two_nodes n w a b a_weight b_weight (omega (arith, a_is), omega (arith, a_is, some)) (omega (arith, b_is), omega (arith, b_is, some)) (omega (arith, a_is))
+    (omega (arith, b_is)) (λ same. omega (arith, a_is, b_is, same))
     (a_weighs ∙ ap (w 1) (sym a_is)) (b_weighs ∙ ap (w 1) (sym b_is)) less
 
-pub three_first : (n : ℕ) (w : ℕ → ℕ → ℤ) (a b : ℕ) (a_weight b_weight : ℤ) → 3 ≤ n → a ≡ 2 → b ≡ 3 → a_weight ≡ w 1 2 → b_weight ≡ w 1 3 → b_weight <ℤ a_weight → AreNearestBefore n w 4 b b_weight a a_weight
+pub three_first : (n : ℕ) (w : ℕ → ℕ → ℤ) (a b : ℕ) (a_weight b_weight : ℤ) → 3 ≤ n → a ≡ 2 → b ≡ 3 → a_weight ≡ w 1 2 → b_weight ≡ w 1 3 → b_weight <ℤ a_weight
+    → AreNearestBefore n w 4 b b_weight a a_weight
 three_first n w a b a_weight b_weight some a_is b_is a_weighs b_weighs less =
-    two_nodes n w b a b_weight a_weight (omega (arith, b_is), omega (arith, b_is, some)) (omega (arith, a_is), omega (arith, a_is, some)) (omega (arith, b_is)) (omega (arith, a_is)) (λ same. omega (arith, a_is, b_is, same))
+    two_nodes n w b a b_weight a_weight (omega (arith, b_is), omega (arith, b_is, some)) (omega (arith, a_is), omega (arith, a_is, some)) (omega (arith, b_is))
+    (omega (arith, a_is)) (λ same. omega (arith, a_is, b_is, same))
     (b_weighs ∙ ap (w 1) (sym b_is)) (a_weighs ∙ ap (w 1) (sym a_is)) (omega (arith, ints, less))
 
 -- ---- one node more
 
-pub nearer_first : (n : ℕ) (w : ℕ → ℕ → ℤ) (node first second here : ℕ) (first_weight second_weight weight : ℤ) → AreNearestBefore n w node first first_weight second second_weight → 2 ≤ node → node ≤ n → here ≡ node → weight ≡ w 1 node
+pub nearer_first : (n : ℕ) (w : ℕ → ℕ → ℤ) (node first second here : ℕ) (first_weight second_weight weight : ℤ)
+    → AreNearestBefore n w node first first_weight second second_weight → 2 ≤ node → node ≤ n → here ≡ node → weight ≡ w 1 node
     → weight <ℤ first_weight → AreNearestBefore n w (node + 1) here weight first first_weight
 nearer_first n w node first second here first_weight second_weight weight b low high here_is is less = record {
   first_in = (omega (arith, low, here_is), omega (arith, high, here_is));
@@ -67,7 +73,8 @@ nearer_first n w node first second here first_weight second_weight weight b low 
   next = λ x h before other. b.near x h (omega (arith, before, other, here_is));
 }
 
-pub nearer_second : (n : ℕ) (w : ℕ → ℕ → ℤ) (node first second here : ℕ) (first_weight second_weight weight : ℤ) → AreNearestBefore n w node first first_weight second second_weight → 2 ≤ node → node ≤ n → here ≡ node → weight ≡ w 1 node
+pub nearer_second : (n : ℕ) (w : ℕ → ℕ → ℤ) (node first second here : ℕ) (first_weight second_weight weight : ℤ)
+    → AreNearestBefore n w node first first_weight second second_weight → 2 ≤ node → node ≤ n → here ≡ node → weight ≡ w 1 node
     → first_weight ≤ℤ weight → weight <ℤ second_weight → AreNearestBefore n w (node + 1) first first_weight here weight
 nearer_second n w node first second here first_weight second_weight weight b low high here_is is not_less less = record {
   first_in = b.first_in;
@@ -107,7 +114,8 @@ nearer_none n w node first second first_weight second_weight weight b is not_fir
   ];
 }
 
-pub nearest_of_all : (n : ℕ) (w : ℕ → ℕ → ℤ) (node first second : ℕ) (first_weight second_weight : ℤ) → n < node → AreNearestBefore n w node first first_weight second second_weight → AreNearest n w first second
+pub nearest_of_all : (n : ℕ) (w : ℕ → ℕ → ℤ) (node first second : ℕ) (first_weight second_weight : ℤ) → n < node
+    → AreNearestBefore n w node first first_weight second second_weight → AreNearest n w first second
 nearest_of_all n w node first second first_weight second_weight past b = record {
   first_in = b.first_in;
   second_in = b.second_in;
@@ -117,7 +125,8 @@ nearest_of_all n w node first second first_weight second_weight past b = record 
 }
 
 -- the same under weights that are these between node 1 and the others
-pub nearest_by_row : (n : ℕ) (w : ℕ → ℕ → ℤ) (row : List ℤ) (first second : ℕ) → ((x : ℕ) → IsInner n x → least_at row x ≡ w 1 x) → AreNearest n (λ i j. least_at row j) first second → AreNearest n w first second
+pub nearest_by_row : (n : ℕ) (w : ℕ → ℕ → ℤ) (row : List ℤ) (first second : ℕ) → ((x : ℕ) → IsInner n x → least_at row x ≡ w 1 x)
+    → AreNearest n (λ i j. least_at row j) first second → AreNearest n w first second
 nearest_by_row n w row first second same h = record {
   first_in = h.first_in;
   second_in = h.second_in;

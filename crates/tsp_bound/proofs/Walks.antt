@@ -26,7 +26,8 @@ use Rattle.tsp_bound.proofs.Tours.{path, last_of, AreInner, tour_weight, tree_be
 abbrev length_to : (ℕ → ℕ → ℤ) → ℕ → ℕ → List ℕ → ℤ
 length_to cost end from others = sum_int_by (λ link. cost link.0 link.1) (links_to end from others)
 
-length_through : (cost : ℕ → ℕ → ℤ) (end from middle : ℕ) (before after : List ℕ) → length_to cost end from (before ++ middle ∷ after) ≡ length_to cost middle from before +ℤ length_to cost end middle after
+length_through : (cost : ℕ → ℕ → ℤ) (end from middle : ℕ) (before after : List ℕ)
+    → length_to cost end from (before ++ middle ∷ after) ≡ length_to cost middle from before +ℤ length_to cost end middle after
 length_through cost end from middle [] after = omega (arith, ints)
 length_through cost end from middle (next ∷ before) after = let rest = length_through cost end next middle before after in omega (arith, ints)
 
@@ -51,7 +52,8 @@ apart x (y ∷ xs) h = (ne_eqb x y h.0, apart x xs h.1)
 distinct : (xs : List ℕ) → AllPairs (λ a b. a ≢ b) xs → IsDistinct eqb xs
 unfolding IsDistinct
 distinct [] h = tt
-distinct (x ∷ xs) h = IsDistinct-cons eqb x xs (apart x xs (recursion_from_All (λ y. x ≢ y) xs (λ k d lt. h zero (suc k) d (omega arith) (omega arith)))) (distinct xs (λ i j d below lt. h (suc i) (suc j) d (omega arith) (omega arith)))
+distinct (x ∷ xs) h = IsDistinct-cons eqb x xs (apart x xs (recursion_from_All (λ y. x ≢ y) xs (λ k d lt. h zero (suc k) d (omega arith) (omega arith))))
+    (distinct xs (λ i j d below lt. h (suc i) (suc j) d (omega arith) (omega arith)))
 
 parts_all : (P : ℕ → Type 0) (xs ys : List ℕ) → AllByRecursion P (xs ++ ys) → AllByRecursion P xs × AllByRecursion P ys
 parts_all P [] ys h = (tt, h)
@@ -75,7 +77,8 @@ flips x y = elim (cases_eq x y) [
 -- a walk that goes through node 1 after some nodes
 pub turned_nodes : (n : ℕ) (before after : List ℕ) → IsWalk n (before ++ 1 ∷ after) → AreInner n (after ++ before)
 turned_nodes n before after walk =
-    let turned : IsDistinct eqb (1 ∷ (after ++ before)) = IsDistinct-IsPermutation eqb flips (before ++ 1 ∷ after) (1 ∷ (after ++ before)) (IsPermutation-append_comm before (1 ∷ after)) (distinct (before ++ 1 ∷ after) walk.once) in
+    let turned : IsDistinct eqb (1 ∷ (after ++ before)) = IsDistinct-IsPermutation eqb flips (before ++ 1 ∷ after) (1 ∷ (after ++ before))
+    (IsPermutation-append_comm before (1 ∷ after)) (distinct (before ++ 1 ∷ after) walk.once) in
     let range = parts_all (IsNode n) before (1 ∷ after) (recursion_from_All (IsNode n) (before ++ 1 ∷ after) walk.range) in
     record {
       range = inner n (after ++ before) (both_all (IsNode n) after before range.1.1 range.0) (IsDistinct-head eqb 1 (after ++ before) turned);
@@ -93,7 +96,8 @@ has_node n nodes node laws walk h =
 -- ---- the bound
 
 -- a least 1-tree weighs no more than a walk
-pub tree_below_walk : (n : ℕ) (w : ℕ → ℕ → ℤ) (pairs : List (ℕ × ℕ)) (before after : List ℕ) → 3 ≤ n → ((a b : ℕ) → w a b ≡ w b a) → IsLeastOneTree n w pairs → IsWalk n (before ++ 1 ∷ after) → weight_of w pairs ≤ℤ length_of w (before ++ 1 ∷ after)
+pub tree_below_walk : (n : ℕ) (w : ℕ → ℕ → ℤ) (pairs : List (ℕ × ℕ)) (before after : List ℕ) → 3 ≤ n → ((a b : ℕ) → w a b ≡ w b a) → IsLeastOneTree n w pairs
+    → IsWalk n (before ++ 1 ∷ after) → weight_of w pairs ≤ℤ length_of w (before ++ 1 ∷ after)
 tree_below_walk n w pairs before after some symmetric least walk =
     let below : weight_of w pairs ≤ℤ tour_weight w (after ++ before) = tree_below_tour n w pairs (after ++ before) some symmetric least (turned_nodes n before after walk) in
     let same = turned_length w 1 before after in
@@ -104,7 +108,8 @@ pub least_tree_below : Laws → LeastTreesAreBelowWalks
 least_tree_below laws n w pairs nodes some symmetric least walk =
     let one = has_node n nodes 1 laws walk (omega arith, omega (arith, some)) in
     let here : get_or nodes one.0 1 ≡ 1 = one.2 in
-    let parts : take one.0 nodes ++ 1 ∷ drop (suc one.0) nodes ≡ nodes = ap (λ x. take one.0 nodes ++ x ∷ drop (suc one.0) nodes) (sym here) ∙ ap (λ xs. take one.0 nodes ++ xs) (sym (drop-cons nodes one.0 1 one.1)) ∙ take-append-drop one.0 nodes in
+    let parts : take one.0 nodes ++ 1 ∷ drop (suc one.0) nodes ≡ nodes = ap (λ x. take one.0 nodes ++ x ∷ drop (suc one.0) nodes) (sym here)
+    ∙ ap (λ xs. take one.0 nodes ++ xs) (sym (drop-cons nodes one.0 1 one.1)) ∙ take-append-drop one.0 nodes in
     subst (λ (xs : List ℕ). weight_of w pairs ≤ℤ length_of w xs) parts
     (tree_below_walk n w pairs (take one.0 nodes) (drop (suc one.0) nodes) some symmetric least (subst (IsWalk n) (sym parts) walk))
 

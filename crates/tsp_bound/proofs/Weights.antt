@@ -39,7 +39,8 @@ weight_fits scaled first second p q r = rw (both_is first second q r, scaled_is 
 pub weight_computed : (scaled first second : ℤ) → IsFromTo (neg_ℤ (pos (most_scale * most_weight))) (pos (most_scale * most_weight)) scaled
     → IsFromTo (neg_ℤ (pos most_potential)) (pos most_potential) first → IsFromTo (neg_ℤ (pos most_potential)) (pos most_potential) second
     → to_z w64 (of_z w64 (to_z w64 (of_z w64 scaled) +ℤ to_z w64 (of_z w64 (to_z w64 (of_z w64 first) +ℤ to_z w64 (of_z w64 second))))) ≡ scaled +ℤ (first +ℤ second)
-weight_computed scaled first second p q r = rw (both_is first second q r, scaled_is scaled p) (to_z-of_z w64 (scaled +ℤ (first +ℤ second)) (between_fits (scaled +ℤ (first +ℤ second)) (between_size scaled first second p q r)))
+weight_computed scaled first second p q r = rw (both_is first second q r, scaled_is scaled p)
+    (to_z-of_z w64 (scaled +ℤ (first +ℤ second)) (between_fits (scaled +ℤ (first +ℤ second)) (between_size scaled first second p q r)))
 
 pub scaled_by : (scale cost scaled both : ℤ) → IsScale scale → scaled ≡ to_z w64 (of_z w64 scale) *ℤ cost → scaled +ℤ both ≡ (scale *ℤ cost) +ℤ both
 scaled_by scale cost scaled both s is = ap (λ z. z +ℤ both) (is ∙ ap (λ z. z *ℤ cost) (same_scale scale s))
@@ -99,7 +100,8 @@ weight_added w [] pair = omega (arith, ints)
 weight_added w (p ∷ pairs) pair = let rest = weight_added w pairs pair in omega (arith, ints, rest)
 
 -- the pair that a growth adds, with the weight that is kept of it
-pub sum_pushed : (n : ℕ) (w : ℕ → ℕ → ℤ) (inside : List Bool) (near : List ℕ) (least : List ℤ) (pairs after : List (ℕ × ℕ)) (next from : ℕ) (weight : ℤ) → IsState n w inside near least pairs → IsNearestOutside n inside least next
+pub sum_pushed : (n : ℕ) (w : ℕ → ℕ → ℤ) (inside : List Bool) (near : List ℕ) (least : List ℤ) (pairs after : List (ℕ × ℕ)) (next from : ℕ) (weight : ℤ)
+    → IsState n w inside near least pairs → IsNearestOutside n inside least next
     → from ≡ get_or near next from → weight ≡ get_or least next weight → after ≡ pairs ++ (from, next) ∷ [] → weight_of w after ≡ weight_of w pairs +ℤ weight
 sum_pushed n w inside near least pairs after next from weight s outside from_is weight_is pushed =
     let node : from ≡ get_or near next 0 = from_is ∙ get_or_default near next from 0 (omega (arith, s.near_len, outside.inner.1)) in
@@ -144,12 +146,15 @@ pub tree_computed : (first second grown from other : ℤ) → FitsSigned w64 fir
 tree_computed first second grown from other p q is also r =
     rw (spokes_is first second from other p q is also, grown_is grown r) (to_z-of_z w128 ((first +ℤ second) +ℤ grown) (tree_in ((first +ℤ second) +ℤ grown) (tree_size first second grown p q r)))
 
-pub weight_of_tree : (w : ℕ → ℕ → ℤ) → ((a b : ℕ) → w a b ≡ w b a) → (first second : ℕ) (added : List (ℕ × ℕ)) → weight_of w (tree_of first second added) ≡ (w 1 first +ℤ w 1 second) +ℤ weight_of w added
+pub weight_of_tree : (w : ℕ → ℕ → ℤ) → ((a b : ℕ) → w a b ≡ w b a) → (first second : ℕ) (added : List (ℕ × ℕ))
+    → weight_of w (tree_of first second added) ≡ (w 1 first +ℤ w 1 second) +ℤ weight_of w added
 weight_of_tree w even first second added = let same = ordered_weight w even added in omega (arith, ints, same)
 
 -- ---- the bound as the code computes it
 
-computed_parts : (a b c : ℤ) → IsFromTo (neg_ℤ (pos most_tree)) (pos most_tree) a → IsFromTo (neg_ℤ (pos (2 * (most_nodes * most_potential)))) (pos (2 * (most_nodes * most_potential))) b → IsFromTo (pos 0) (pos (most_multipliers * most_multiplier)) c
+computed_parts : (a b c : ℤ) → IsFromTo (neg_ℤ (pos most_tree)) (pos most_tree) a
+    → IsFromTo (neg_ℤ (pos (2 * (most_nodes * most_potential)))) (pos (2 * (most_nodes * most_potential))) b
+    → IsFromTo (pos 0) (pos (most_multipliers * most_multiplier)) c
     → (to_z w128 (of_z w128 (to_z w128 (of_z w128 (to_z w128 (of_z w128 a) -ℤ b)) +ℤ c)) ≡ (a -ℤ b) +ℤ c) × (to_z w128 (of_z w128 a) ≡ a)
 computed_parts a b c p q r =
     let same : to_z w128 (of_z w128 a) ≡ a = omega (arith, ints, p.0, p.1) in
@@ -159,8 +164,11 @@ computed_parts a b c p q r =
 
 -- the sum that is rounded, and how large it is
 pub sum_of_bound : (weight potentials given all more : ℤ) → IsFromTo (neg_ℤ (pos most_tree)) (pos most_tree) weight
-    → IsFromTo (neg_ℤ (pos (most_nodes * most_potential))) (pos (most_nodes * most_potential)) potentials → IsFromTo (pos 0) (pos (most_multipliers * most_multiplier)) given → potentials ≡ all → given ≡ more
-    → (to_z w128 (of_z w128 (to_z w128 (of_z w128 (to_z w128 (of_z w128 weight) -ℤ to_z w128 (of_z w128 (pos 2 *ℤ to_z w128 (of_z w128 potentials))))) +ℤ to_z w128 (of_z w128 given))) ≡ (weight -ℤ (pos 2 *ℤ all)) +ℤ more) × IsFromTo (neg_ℤ (pos (2 ^ 100))) (pos (2 ^ 100)) ((weight -ℤ (pos 2 *ℤ all)) +ℤ more)
+    → IsFromTo (neg_ℤ (pos (most_nodes * most_potential))) (pos (most_nodes * most_potential)) potentials
+    → IsFromTo (pos 0) (pos (most_multipliers * most_multiplier)) given → potentials ≡ all → given ≡ more
+    → (to_z w128 (of_z w128 (to_z w128 (of_z w128 (to_z w128 (of_z w128 weight) -ℤ to_z w128 (of_z w128 (pos 2 *ℤ to_z w128 (of_z w128 potentials)))))
+    +ℤ to_z w128 (of_z w128 given))) ≡ (weight -ℤ (pos 2 *ℤ all)) +ℤ more)
+    × IsFromTo (neg_ℤ (pos (2 ^ 100))) (pos (2 ^ 100)) ((weight -ℤ (pos 2 *ℤ all)) +ℤ more)
 sum_of_bound weight potentials given all more p q r is also =
     let twice : to_z w128 (of_z w128 (pos 2 *ℤ to_z w128 (of_z w128 potentials))) ≡ pos 2 *ℤ all = omega (arith, ints, q.0, q.1, is) in
     let size : IsFromTo (neg_ℤ (pos (2 * (most_nodes * most_potential)))) (pos (2 * (most_nodes * most_potential))) (pos 2 *ℤ all) = (omega (arith, ints, q.0, is), omega (arith, ints, q.1, is)) in
@@ -170,8 +178,14 @@ sum_of_bound weight potentials given all more p q r is also =
     (rw (twice, own) parts.0, (omega (arith, ints, p.0, size.1, over.0), omega (arith, ints, p.1, size.0, over.1)))
 
 pub bound_of_weight : (scale weight potentials given all more bound : ℤ) → IsScale scale → FitsSigned w128 bound → IsFromTo (neg_ℤ (pos most_tree)) (pos most_tree) weight
-    → IsFromTo (neg_ℤ (pos (most_nodes * most_potential))) (pos (most_nodes * most_potential)) potentials → IsFromTo (pos 0) (pos (most_multipliers * most_multiplier)) given → potentials ≡ all → given ≡ more
-    → IsLeastBound (to_z w64 (of_z w64 scale)) (to_z w128 (of_z w128 (to_z w128 (of_z w128 (to_z w128 (of_z w128 weight) -ℤ to_z w128 (of_z w128 (pos 2 *ℤ to_z w128 (of_z w128 potentials))))) +ℤ to_z w128 (of_z w128 given)))) bound → IsLeastBound scale ((weight -ℤ (pos 2 *ℤ all)) +ℤ more) (to_z w128 (of_z w128 bound))
+    → IsFromTo (neg_ℤ (pos (most_nodes * most_potential))) (pos (most_nodes * most_potential)) potentials
+    → IsFromTo (pos 0) (pos (most_multipliers * most_multiplier)) given → potentials ≡ all → given ≡ more
+    → IsLeastBound (to_z w64 (of_z w64 scale)) (to_z w128 (of_z w128
+    (to_z w128 (of_z w128 (to_z w128 (of_z w128 weight) -ℤ to_z w128 (of_z w128 (pos 2 *ℤ to_z w128 (of_z w128 potentials))))) +ℤ to_z w128 (of_z w128 given))))
+    bound → IsLeastBound scale ((weight -ℤ (pos 2 *ℤ all)) +ℤ more) (to_z w128 (of_z w128 bound))
 bound_of_weight scale weight potentials given all more bound s fits p q r is also least =
     let sum = (sum_of_bound weight potentials given all more p q r is also).0 in
-    rw (to_z-of_z w128 bound fits) (subst (λ (z : ℤ). IsLeastBound scale z bound) sum (subst (λ (z : ℤ). IsLeastBound z (to_z w128 (of_z w128 (to_z w128 (of_z w128 (to_z w128 (of_z w128 weight) -ℤ to_z w128 (of_z w128 (pos 2 *ℤ to_z w128 (of_z w128 potentials))))) +ℤ to_z w128 (of_z w128 given)))) bound) (same_scale scale s) least))
+    rw (to_z-of_z w128 bound fits) (subst (λ (z : ℤ). IsLeastBound scale z bound) sum
+    (subst (λ (z : ℤ). IsLeastBound z (to_z w128 (of_z w128 (to_z w128
+    (of_z w128 (to_z w128 (of_z w128 weight) -ℤ to_z w128 (of_z w128 (pos 2 *ℤ to_z w128 (of_z w128 potentials))))) +ℤ to_z w128 (of_z w128 given)))) bound)
+    (same_scale scale s) least))

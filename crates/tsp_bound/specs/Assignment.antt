@@ -9,7 +9,8 @@ use Rattle.tsp_bound.specs.Numbers.{IsScale, entry, total, IsLeastBound}
 
 -- good duals: for different nodes i and j of 1..n the sum of row i and column j is at most the cost from i to j at the scale
 abbrev pub AreGood : ℕ → (ℕ → ℕ → ℤ) → ℤ → List ℤ → List ℤ → Type 0
-AreGood n cost scale rows columns = (i j : ℕ) → IsNode n i → IsNode n j → i ≢ j → (entry rows i +ℤ entry columns j) ≤ℤ (scale *ℤ cost i j)
+AreGood n cost scale rows columns = (i j : ℕ) → IsNode n i → IsNode n j → i ≢ j
+    → (entry rows i +ℤ entry columns j) ≤ℤ (scale *ℤ cost i j)
 
 -- the first pair of different nodes, by rows, whose sum is larger than the cost
 pub record IsFirstBroken (n : ℕ) (cost : ℕ → ℕ → ℤ) (scale : ℤ) (rows columns : List ℤ) (i j : ℕ) : Type 0 where
@@ -17,7 +18,8 @@ pub record IsFirstBroken (n : ℕ) (cost : ℕ → ℕ → ℤ) (scale : ℤ) (r
   pub column : IsNode n j
   pub other : i ≢ j
   pub broken : (scale *ℤ cost i j) <ℤ (entry rows i +ℤ entry columns j)
-  pub first : (a b : ℕ) → IsNode n a → IsNode n b → a ≢ b → IsBefore (a, b) (i, j) → (entry rows a +ℤ entry columns b) ≤ℤ (scale *ℤ cost a b)
+  pub first : (a b : ℕ) → IsNode n a → IsNode n b → a ≢ b → IsBefore (a, b) (i, j)
+      → (entry rows a +ℤ entry columns b) ≤ℤ (scale *ℤ cost a b)
 
 -- the bound of duals: the least whole number that at the scale is no less than the sum of them all
 abbrev pub IsDualBound : ℤ → List ℤ → List ℤ → ℤ → Type 0

@@ -28,7 +28,8 @@ show = with_rule (with_rule (new_app (codes "show")) (path (codes "F"))) explain
 
 -- convert F [--layout L] [--explain]
 abbrev pub convert : App
-convert = with_rule (with_rule (with_rule (new_app (codes "convert")) (path (codes "F"))) (option (codes "L") (codes "layout"))) explain
+convert = with_rule (with_rule (with_rule (new_app (codes "convert")) (path (codes "F"))) (option (codes "L") (codes "layout")))
+    explain
 
 -- check F T [--potentials P]
 abbrev pub check_files : App

@@ -36,14 +36,16 @@ AreFresh opens _ _ = ⊥
 abbrev pub EndsWith : {F : Type 0} → (F → Option (List ℕ)) → (Place → F → Type 0) → Job → Sink → Ending → Type 0
 EndsWith remaining opens job sink (NoJob fault) = ⊥
 EndsWith remaining opens job sink (NoTask fault) = GivesTask job (Err fault) × IsUnwritten sink
-EndsWith {F = F} remaining opens job sink (Ended answer) = (task : Task Place) × (old new : Task (Watched F)) × GivesTask job (Ok task)
+EndsWith {F = F} remaining opens job sink (Ended answer) = (task : Task Place) × (old new : Task (Watched F))
+    × GivesTask job (Ok task)
     × AreFresh opens task old × IsDone remaining old new sink answer
 
 -- How a run ends with these words, of which the first is the program's own name: they ask for no job, and then nothing is
 -- written; or it ends with the job that they ask for. That is explained where the job says so, and on a terminal; nothing else
 -- is.
 abbrev pub Ends : {F : Type 0} → (F → Option (List ℕ)) → (Place → F → Type 0) → Bool → List Text → Sink → Bool → Ending → Type 0
-Ends remaining opens on_terminal words sink explained (NoJob fault) = GivesJob (drop 1 words) (Err fault) × IsUnwritten sink × (explained ≡ false)
+Ends remaining opens on_terminal words sink explained (NoJob fault) = GivesJob (drop 1 words) (Err fault) × IsUnwritten sink
+    × (explained ≡ false)
 Ends remaining opens on_terminal words sink explained (NoTask fault) = (job : Job) × GivesJob (drop 1 words) (Ok job)
     × EndsWith remaining opens job sink (NoTask fault) × (explained ≡ (job.explain || on_terminal))
 Ends remaining opens on_terminal words sink explained (Ended answer) = (job : Job) × GivesJob (drop 1 words) (Ok job)

@@ -50,4 +50,5 @@ IsTask job (BoundCheck instance solution potentials) = (job.verb ≡ Some verbs.
 abbrev pub GivesTask : Job → Result (Task Place) TaskFault → Type 0
 GivesTask job (Ok task) = IsTask job task
 GivesTask job (Err UnknownLayout) = (job.verb ≡ Some verbs.Convert) × IsNoLayout job.layout
-GivesTask job (Err MissingPath) = (job.verb ≢ None) × ((job.file ≡ None) ⊎ ((job.verb ≡ Some verbs.Check) × (job.solution ≡ None)))
+GivesTask job (Err MissingPath) = (job.verb ≢ None)
+    × ((job.file ≡ None) ⊎ ((job.verb ≡ Some verbs.Check) × (job.solution ≡ None)))

@@ -47,7 +47,8 @@ abbrev pub IsRefused : JobFault → Type 0
 IsRefused (Refused refusal) = kind_of refusal ≢ kinds.OutOfMemory
 IsRefused OutOfMemory = ⊤
 
--- what clap states of these words: with no fault a job, and else one of the first faults. Out of memory may stand in place of either.
+-- what clap states of these words: with no fault a job, and else one of the first faults. Out of memory may stand in place of
+-- either.
 abbrev pub GivesJob : List Text → Result Job JobFault → Type 0
 GivesJob words (Ok job) = (fault_of tsp words ≡ []) × IsJobOf (subcommand_of tsp words) job
 GivesJob words (Err (Refused refusal)) = IsAmong (kind_of refusal) (fault_of tsp words) × (kind_of refusal ≢ kinds.OutOfMemory)

@@ -20,7 +20,8 @@ by_distance Euc3d f i j other = refl
 by_distance Man3d f i j other = refl
 by_distance Max3d f i j other = refl
 
-pub cost_of_points : (f : Fields) (kind : WeightKind) (points : List Point) → f.weight_kind ≡ Some kind → kind ≢ Explicit → f.coords ≡ Some points → (i j : ℕ) → distance kind (point_of points i) (point_of points j) ≡ cost f i j
+pub cost_of_points : (f : Fields) (kind : WeightKind) (points : List Point) → f.weight_kind ≡ Some kind → kind ≢ Explicit → f.coords ≡ Some points → (i j : ℕ)
+    → distance kind (point_of points i) (point_of points j) ≡ cost f i j
 unfolding cost
 cost_of_points f kind points is_kind other stand i j = sym (
     ap (λ k. cost_by k f i j) is_kind

@@ -50,7 +50,10 @@ pub record Keeps (f : Fields) (nodes : ℕ) (costs : ℕ → ℕ → ℤ) : Type
 
 -- points where the weights are distances, a matrix where all are listed, a triangle where half of them are
 abbrev pub Shows : Fields → View → Type 0
-Shows f (views.Plane p) = (is_explicit f.weight_kind ≡ false) × Keeps f (points_nodes p) (points_cost (λ point. on_plane point.x point.y) p)
+Shows f (views.Plane p) = (is_explicit f.weight_kind ≡ false)
+    × Keeps f (points_nodes p) (points_cost (λ point. on_plane point.x point.y) p)
 Shows f (views.Space p) = (is_explicit f.weight_kind ≡ false) × Keeps f (points_nodes p) (points_cost (λ point. point) p)
-Shows f (views.Matrix m) = (is_explicit f.weight_kind ≡ true) × (f.weight_format ≡ Some (Listed FullMatrix)) × Keeps f (matrix_nodes m) (matrix_cost m)
-Shows f (views.Triangle t) = (is_explicit f.weight_kind ≡ true) × (f.weight_format ≢ Some (Listed FullMatrix)) × Keeps f (triangle_nodes t) (triangle_cost t)
+Shows f (views.Matrix m) = (is_explicit f.weight_kind ≡ true) × (f.weight_format ≡ Some (Listed FullMatrix))
+    × Keeps f (matrix_nodes m) (matrix_cost m)
+Shows f (views.Triangle t) = (is_explicit f.weight_kind ≡ true) × (f.weight_format ≢ Some (Listed FullMatrix))
+    × Keeps f (triangle_nodes t) (triangle_cost t)

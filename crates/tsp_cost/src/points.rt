@@ -69,7 +69,8 @@ impl<P: InSpace> Costs for Points<'_, P> {
         self.points.len() as u32
     }
 
-    #[inline]
+    // (as a call of its own it cost a growth over points 3 instructions in 100 more)
+    #[inline(always)]
     fn cost(&self, i: u32, j: u32) -> i64 {
         distance(
             self.kind,

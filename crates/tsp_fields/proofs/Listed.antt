@@ -26,7 +26,8 @@ unfolding listed_cost
 cost_of_cell layout n weights i j place here = ap (λ o. unwrap_or (option_or (option_map (λ at. slice_index_or weights at (pos 0)) o) (weight_at layout n weights (j, i))) (pos 0)) here
 
 -- the cost of another pair is that of the mirrored pair
-pub cost_mirrored : (layout : Layout) (n : ℕ) (weights : List ℤ) (i j place : ℕ) → place_of layout n (i, j) ≡ None → place_of layout n (j, i) ≡ Some place → listed_cost layout n weights i j ≡ slice_index_or weights place (pos 0)
+pub cost_mirrored : (layout : Layout) (n : ℕ) (weights : List ℤ) (i j place : ℕ) → place_of layout n (i, j) ≡ None → place_of layout n (j, i) ≡ Some place
+    → listed_cost layout n weights i j ≡ slice_index_or weights place (pos 0)
 unfolding listed_cost
 cost_mirrored layout n weights i j place out there =
     ap (λ o. unwrap_or (option_or (option_map (λ at. slice_index_or weights at (pos 0)) o) (weight_at layout n weights (j, i))) (pos 0)) out
@@ -79,7 +80,8 @@ diagonal_unlisted LowerDiagCol i e = absurd (false≢true (sym e))
 pub turned : (cost : ℕ → ℕ → ℤ) → IsEven cost → (i j : ℕ) → cost j i ≡ cost i j
 turned cost even i j = ⊎_elim
     (λ below. even j i (λ same. absurd (omega (arith, below, same))))
-    (λ le. ⊎_elim (λ above. even j i (λ same. absurd (omega (arith, above, same)))) (λ ge. let same : i ≡ j = omega (arith, le, ge) in ap (λ k. cost k i) (sym same) ∙ ap (λ k. cost i k) same) (cases_lt j i))
+    (λ le. ⊎_elim (λ above. even j i (λ same. absurd (omega (arith, above, same))))
+    (λ ge. let same : i ≡ j = omega (arith, le, ge) in ap (λ k. cost k i) (sym same) ∙ ap (λ k. cost i k) same) (cases_lt j i))
     (cases_lt i j)
 
 pub either_way : (cost : ℕ → ℕ → ℤ) → IsEven cost → (i j : ℕ) (pair : ℕ × ℕ) → (pair ≡ (i, j)) ⊎ (pair ≡ (j, i)) → cost pair.0 pair.1 ≡ cost i j
@@ -115,7 +117,8 @@ nodes_or_not n i j = ⊎_elim (λ out. inl (λ h. out h.0))
 pub even_between_nodes : (layout : Layout) (n : ℕ) (weights : List ℤ) → ((i j : ℕ) → ¬ (IsNode n i × IsNode n j) → place_of layout n (i, j) ≡ None)
     → ((i j : ℕ) → IsNode n i → IsNode n j → i < j → listed_cost layout n weights i j ≡ listed_cost layout n weights j i) → IsEven (listed_cost layout n weights)
 even_between_nodes layout n weights out inside i j other = ⊎_elim
-    (λ outside. cost_unlisted layout n weights i j (out i j outside) (out j i (λ nodes. outside (nodes.1, nodes.0))) ∙ sym (cost_unlisted layout n weights j i (out j i (λ nodes. outside (nodes.1, nodes.0))) (out i j outside)))
+    (λ outside. cost_unlisted layout n weights i j (out i j outside) (out j i (λ nodes. outside (nodes.1, nodes.0)))
+    ∙ sym (cost_unlisted layout n weights j i (out j i (λ nodes. outside (nodes.1, nodes.0))) (out i j outside)))
     (λ nodes. ⊎_elim (λ lt. inside i j nodes.0 nodes.1 lt) (λ le. sym (inside j i nodes.1 nodes.0 (omega (arith, other)))) (cases_lt i j))
     (nodes_or_not n i j)
 
@@ -137,7 +140,8 @@ outside_has_no_place listed places layout n i j out = places layout n (i, j) (λ
 -- ---- what a file lists
 
 -- what a valid file lists
-pub lists : (f : Fields) (layout : Layout) (n : ℕ) (weights : List ℤ) → IsInRange f → f.weight_format ≡ Some (Listed layout) → f.dimension ≡ Some n → f.weights ≡ Some weights → IsListed f layout n weights
+pub lists : (f : Fields) (layout : Layout) (n : ℕ) (weights : List ℤ) → IsInRange f → f.weight_format ≡ Some (Listed layout) → f.dimension ≡ Some n
+    → f.weights ≡ Some weights → IsListed f layout n weights
 lists f layout n weights range format dimension stand =
     let held = range.weights weights stand in
     let same_n : held.n ≡ n = cc in

@@ -166,7 +166,8 @@ costs_kept to n cost none pairs diagonal i j = ⊎_elim
 
 -- the weights are the costs of the cells
 pub own_costs : (layout : Layout) (n : ℕ) (weights : List ℤ) → length weights ≡ length (cells layout n) → costs_in layout n (listed_cost layout n weights) ≡ weights
-own_costs layout n weights filled = ext_get_or (pos 0) (costs_in layout n (listed_cost layout n weights)) weights (length-map (cells layout n) (λ cell. listed_cost layout n weights cell.0 cell.1) ∙ sym filled)
+own_costs layout n weights filled = ext_get_or (pos 0) (costs_in layout n (listed_cost layout n weights)) weights
+    (length-map (cells layout n) (λ cell. listed_cost layout n weights cell.0 cell.1) ∙ sym filled)
     (λ k lt.
     let inside : k < length (cells layout n) = omega (arith, lt, length-map (cells layout n) (λ cell. listed_cost layout n weights cell.0 cell.1)) in
     let cell = get_or (cells layout n) k (0, 0) in
@@ -203,7 +204,8 @@ own_diagonal layout n weights = by_diagonal (lists_diagonal layout) refl
 -- ---- the file
 
 -- what holds of the weights of a file holds of its nodes and costs
-pub of_file : (P : ℕ → (ℕ → ℕ → ℤ) → Type 0) (f : Fields) (layout : Layout) (n : ℕ) (weights : List ℤ) → f.weight_kind ≡ Some Explicit → IsListed f layout n weights → P n (listed_cost layout n weights) → P (nodes_in f) (cost f)
+pub of_file : (P : ℕ → (ℕ → ℕ → ℤ) → Type 0) (f : Fields) (layout : Layout) (n : ℕ) (weights : List ℤ) → f.weight_kind ≡ Some Explicit
+    → IsListed f layout n weights → P n (listed_cost layout n weights) → P (nodes_in f) (cost f)
 of_file P f layout n weights explicit held holds =
     let nodes : n ≡ nodes_in f = sym (ap (λ o. unwrap_or o 0) held.dimension) in
     let costs : listed_cost layout n weights ≡ cost f = λ t i j. cost_of_listed f layout n weights explicit held i j t in
@@ -212,7 +214,8 @@ of_file P f layout n weights explicit held holds =
 pub has_weights : (f : Fields) (layout : Layout) (n : ℕ) (weights : List ℤ) → f.weight_kind ≡ Some Explicit → IsListed f layout n weights → HasListedWeights f
 has_weights f layout n weights explicit held = (explicit, ap is_some held.weights_are)
 
-pub pairs_held : (f : Fields) (layout : Layout) (n : ℕ) (weights : List ℤ) (to : Layout) → f.weight_kind ≡ Some Explicit → IsListed f layout n weights → HoldsPairs to (listed_cost layout n weights) → HoldsPairs to (cost f)
+pub pairs_held : (f : Fields) (layout : Layout) (n : ℕ) (weights : List ℤ) (to : Layout) → f.weight_kind ≡ Some Explicit → IsListed f layout n weights
+    → HoldsPairs to (listed_cost layout n weights) → HoldsPairs to (cost f)
 pairs_held f layout n weights to explicit held = of_file (λ k c. HoldsPairs to c) f layout n weights explicit held
 
 pub can_go : (f : Fields) (layout : Layout) (n : ℕ) (weights : List ℤ) (to : Layout) → f.weight_kind ≡ Some Explicit → IsListed f layout n weights
@@ -245,7 +248,8 @@ relaid f to new can fields = record {
   fields = fields;
   costs = λ i j. ap (λ g. cost g i j) fields
       ∙ explicit_cost (with_weights f to (costs_in to (nodes_in f) (cost f))) i j can.listed.0
-      ∙ costs_kept to (nodes_in f) (cost f) (λ a b out. explicit_cost f a b can.listed.0 ∙ cost_outside (layout_of f.weight_format) (nodes_in f) (unwrap_or f.weights []) a b out) can.pairs can.diagonal i j;
+      ∙ costs_kept to (nodes_in f) (cost f) (λ a b out. explicit_cost f a b can.listed.0
+      ∙ cost_outside (layout_of f.weight_format) (nodes_in f) (unwrap_or f.weights []) a b out) can.pairs can.diagonal i j;
 }
 
 pub already : (f : Fields) (to : Layout) → CanGo f to → f.weight_format ≡ Some (Listed to) → f.weights ≡ Some (costs_in to (nodes_in f) (cost f)) → IsRelaid f to f

@@ -97,10 +97,12 @@ found_inside {X} test (y ∷ ys) x e = by_test (test y) (found_inside test ys x)
 -- ---- what a draft without a fault passes
 
 no_bad_field : (f : Fields) → fault_of f ≡ None → bad_field f ≡ None
-no_bad_field f valid = none_map (λ field. BadField field) (bad_field f) (none_or (option_map (λ field. BadField field) (bad_field f)) (option_map (λ fault. Rule fault) (end_fault (standing_of f) None)) valid).0
+no_bad_field f valid = none_map (λ field. BadField field) (bad_field f)
+    (none_or (option_map (λ field. BadField field) (bad_field f)) (option_map (λ fault. Rule fault) (end_fault (standing_of f) None)) valid).0
 
 no_end_fault : (f : Fields) → fault_of f ≡ None → end_fault (standing_of f) None ≡ None
-no_end_fault f valid = none_map (λ fault. Rule fault) (end_fault (standing_of f) None) (none_or (option_map (λ field. BadField field) (bad_field f)) (option_map (λ fault. Rule fault) (end_fault (standing_of f) None)) valid).1
+no_end_fault f valid = none_map (λ fault. Rule fault) (end_fault (standing_of f) None)
+    (none_or (option_map (λ field. BadField field) (bad_field f)) (option_map (λ fault. Rule fault) (end_fault (standing_of f) None)) valid).1
 
 pub each_fits : (f : Fields) → fault_of f ≡ None → (field : Field) → fits f field ≡ true
 each_fits f valid field = All-contains (λ g. fits f g ≡ true) fields_in_order field
@@ -241,7 +243,8 @@ weights_in f weights valid stands =
     let rules = format_and_count f valid in
     let right_format = neither (is_function f.weight_format && (lists_weights s || is_some f.weights)) (is_certificate f.kind && is_some f.node_potentials && has_row_or_column s) rules.0 in
     let format = listed_format f.weight_format has_format (first_false (is_function f.weight_format) (lists_weights s || is_some f.weights) right_format.0 asked) in
-    let right_count = not_false (is_count f.dimension f.weight_format (count_of f.weights)) (second_false (is_some f.weights) (not (is_count f.dimension f.weight_format (count_of f.weights))) rules.1 there) in
+    let right_count = not_false (is_count f.dimension f.weight_format (count_of f.weights))
+    (second_false (is_some f.weights) (not (is_count f.dimension f.weight_format (count_of f.weights))) rules.1 there) in
     record {
       n = held.0;
       layout = format.0;
@@ -267,7 +270,8 @@ in_range f valid = record {
   tours = λ tours stands. tours_in tours (given are_tours f.tours tours (each_fits f valid fields.TourPart) stands);
   node_potentials = λ potentials. by_node f (is_within most_potential) (IsWithin most_potential) (within most_potential) f.node_potentials potentials (each_fits f valid fields.NodePotentialPart);
   row_potentials = λ potentials. by_node f (is_within most_potential) (IsWithin most_potential) (within most_potential) f.row_potentials potentials (each_fits f valid fields.RowPotentialPart);
-  column_potentials = λ potentials. by_node f (is_within most_potential) (IsWithin most_potential) (within most_potential) f.column_potentials potentials (each_fits f valid fields.ColumnPotentialPart);
+  column_potentials = λ potentials. by_node f (is_within most_potential) (IsWithin most_potential) (within most_potential) f.column_potentials potentials
+      (each_fits f valid fields.ColumnPotentialPart);
   fixed_potentials = λ triples. triples_in f triples (each_fits f valid fields.FixedPotentialPart);
 }
 
@@ -299,7 +303,8 @@ has_instance f valid is_one =
     record {
       dimension = asked_there (not (is_tours f.kind)) (is_some f.dimension) there.1.0 (instance_is_no_tours f.kind is_one);
       weight_kind = kind_there;
-      weights = λ explicit. asked_there (is_instance f.kind && is_explicit f.weight_kind) (is_some f.weights) there.1.1.1.1.1.1.0 (and_true (is_instance f.kind) (is_explicit f.weight_kind) is_one explicit);
+      weights = λ explicit. asked_there (is_instance f.kind && is_explicit f.weight_kind) (is_some f.weights) there.1.1.1.1.1.1.0
+          (and_true (is_instance f.kind) (is_explicit f.weight_kind) is_one explicit);
       coords = λ distance. asked_there (is_instance f.kind && is_some f.weight_kind && not (is_explicit f.weight_kind)) (is_some f.coords) there.1.1.1.1.1.0
           (and_true (is_instance f.kind && is_some f.weight_kind) (not (is_explicit f.weight_kind)) (and_true (is_instance f.kind) (is_some f.weight_kind) is_one kind_there) (ap not distance));
     }
@@ -331,12 +336,15 @@ has_potentials f valid is_one =
     let there = none_missing f valid in
     let s = standing_of f in
     let no_node = not (is_some f.row_potentials || is_some f.column_potentials) in
-    let right_format = neither (is_function f.weight_format && (lists_weights s || is_some f.weights)) (is_certificate f.kind && is_some f.node_potentials && has_row_or_column s) (format_and_count f valid).0 in
+    let right_format = neither (is_function f.weight_format && (lists_weights s || is_some f.weights))
+    (is_certificate f.kind && is_some f.node_potentials && has_row_or_column s) (format_and_count f valid).0 in
     record {
       dimension = asked_there (not (is_tours f.kind)) (is_some f.dimension) there.1.0 (certificate_is_no_tours f.kind is_one);
       sort = one_sort f.node_potentials f.row_potentials f.column_potentials
           (λ none. asked_there (is_certificate f.kind && no_node) (is_some f.node_potentials) there.1.1.1.1.1.1.1.1.1.1.0 (and_true (is_certificate f.kind) no_node is_one none))
-          (λ column. asked_there (is_certificate f.kind && is_some f.column_potentials) (is_some f.row_potentials) there.1.1.1.1.1.1.1.1.1.1.1.0 (and_true (is_certificate f.kind) (is_some f.column_potentials) is_one column))
-          (λ row. asked_there (is_certificate f.kind && is_some f.row_potentials) (is_some f.column_potentials) there.1.1.1.1.1.1.1.1.1.1.1.1.0 (and_true (is_certificate f.kind) (is_some f.row_potentials) is_one row))
+          (λ column. asked_there (is_certificate f.kind && is_some f.column_potentials) (is_some f.row_potentials) there.1.1.1.1.1.1.1.1.1.1.1.0
+          (and_true (is_certificate f.kind) (is_some f.column_potentials) is_one column))
+          (λ row. asked_there (is_certificate f.kind && is_some f.row_potentials) (is_some f.column_potentials) there.1.1.1.1.1.1.1.1.1.1.1.1.0
+          (and_true (is_certificate f.kind) (is_some f.row_potentials) is_one row))
           (subst (λ (b : Bool). (b && is_some f.node_potentials && has_row_or_column s) ≡ false) is_one right_format.1);
     }

@@ -56,7 +56,8 @@ is_small z within = and_true (int_le (neg_ℤ (pos most_weight)) z) (int_le z (p
 
 weights_fit : (layout : Layout) (n : ℕ) (weights : List ℤ) → n ≤ most_matrix_nodes → length weights ≡ length (cells layout n) → All (IsWithin most_weight) weights → are_weights n weights ≡ true
 weights_fit layout n weights few filled sizes = and_true (nat_le n most_matrix_nodes && nat_le (length weights) (n * n)) (list_all (is_within most_weight) weights)
-    (and_true (nat_le n most_matrix_nodes) (nat_le (length weights) (n * n)) (le-leb n most_matrix_nodes few) (le-leb (length weights) (n * n) (omega (arith, filled, cells_counted layout n, few_cells layout n))))
+    (and_true (nat_le n most_matrix_nodes) (nat_le (length weights) (n * n)) (le-leb n most_matrix_nodes few)
+    (le-leb (length weights) (n * n) (omega (arith, filled, cells_counted layout n, few_cells layout n))))
     (list_all-from_AllPass (is_within most_weight) weights (λ k d lt. is_small _ (sizes k d lt)))
 
 -- ---- no fault
@@ -71,7 +72,8 @@ as_given P f layout weights format stand holds =
     subst (λ (o : Option (List ℤ)). P (record f { weight_format = Some (Listed layout); weights = o })) stand
     (subst (λ (o : Option WeightFormat). P (record f { weight_format = o })) format holds)
 
-each_fits_with : (f : Fields) (to : Layout) (weights : List ℤ) → fault_of f ≡ None → with_dimension are_weights f.dimension weights ≡ true → (field : Field) → fits (with_weights f to weights) field ≡ true
+each_fits_with : (f : Fields) (to : Layout) (weights : List ℤ) → fault_of f ≡ None → with_dimension are_weights f.dimension weights ≡ true → (field : Field)
+    → fits (with_weights f to weights) field ≡ true
 each_fits_with f to weights valid fit NameKey = each_fits f valid NameKey
 each_fits_with f to weights valid fit TypeKey = each_fits f valid TypeKey
 each_fits_with f to weights valid fit CommentKey = each_fits f valid CommentKey
@@ -101,7 +103,8 @@ count_right dimension n layout count is_n filled =
     ap (λ o. not (is_count o (Some (Listed layout)) count)) is_n ∙ ap not (eq-eqb count (length (cells layout n)) filled)
 
 -- the file with other weights in a layout, as many as its cells
-still_valid : (f : Fields) (to : Layout) (old weights : List ℤ) → fault_of f ≡ None → f.weights ≡ Some old → (held : AreWeights f old) → length weights ≡ length (cells to held.n) → All (IsWithin most_weight) weights
+still_valid : (f : Fields) (to : Layout) (old weights : List ℤ) → fault_of f ≡ None → f.weights ≡ Some old → (held : AreWeights f old)
+    → length weights ≡ length (cells to held.n) → All (IsWithin most_weight) weights
     → fault_of (with_weights f to weights) ≡ None
 still_valid f to old weights valid stand held filled sizes =
     let new = with_weights f to weights in
@@ -111,7 +114,8 @@ still_valid f to old weights valid stand held filled sizes =
     as_given (λ g. first_failing (is_there (standing_of g)) asked_in_order ≡ None) f held.layout old held.format stand (no_field_missing f valid) in
     let format : has_wrong_format (standing_of new) ≡ false = as_given (λ g. has_wrong_format (standing_of g) ≡ false) f held.layout old held.format stand (format_and_count f valid).0 in
     let count : has_wrong_count (standing_of new) ≡ false = count_right f.dimension held.n to (length weights) held.dimension filled in
-    let rest : format_or_count (standing_of new) ≡ None = ap (λ b. cond b (Some WrongFormat) (cond (has_wrong_count (standing_of new)) (Some WrongCount) None)) format ∙ ap (λ b. cond b (Some WrongCount) None) count in
+    let rest : format_or_count (standing_of new) ≡ None = ap (λ b. cond b (Some WrongFormat) (cond (has_wrong_count (standing_of new)) (Some WrongCount) None))
+    format ∙ ap (λ b. cond b (Some WrongCount) None) count in
     let end : end_fault (standing_of new) None ≡ None =
     ap (λ (o : Option Field). option_or (option_map (λ field. Missing field) o) (format_or_count (standing_of new))) there ∙ rest in
     ap (λ (o : Option Field). option_or (option_map (λ field. BadField field) o) (option_map (λ fault. Rule fault) (end_fault (standing_of new) None))) fields

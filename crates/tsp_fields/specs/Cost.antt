@@ -23,7 +23,8 @@ weight_at layout n weights pair = option_map (λ place. slice_index_or weights p
 -- The weight of (i, j) where it is a cell; else that of (j, i), as in the other half of a triangle; else 0, as on a diagonal
 -- that isn't listed.
 unfoldable pub listed_cost : Layout → ℕ → List ℤ → ℕ → ℕ → ℤ
-listed_cost layout n weights i j = unwrap_or (option_or (weight_at layout n weights (i, j)) (weight_at layout n weights (j, i))) (pos 0)
+listed_cost layout n weights i j =
+    unwrap_or (option_or (weight_at layout n weights (i, j)) (weight_at layout n weights (j, i))) (pos 0)
 
 -- ---- distances
 

@@ -162,7 +162,8 @@ abbrev pub end_fault : Standing → Option Field → Option EndFault
 end_fault s incomplete = option_or (option_map (λ field. Missing field) (first_failing (is_there s) asked_in_order))
     (option_or (option_map (λ field. Incomplete field) incomplete) (format_or_count s))
 
--- the first fault of a draft: the first field that isn't valid on its own, or the first row of the end table, no section being incomplete
+-- the first fault of a draft: the first field that isn't valid on its own, or the first row of the end table, no section
+-- being incomplete
 abbrev pub fault_of : Fields → Option DraftFault
 fault_of f = option_or (option_map (λ field. BadField field) (bad_field f))
     (option_map (λ fault. Rule fault) (end_fault (standing_of f) None))

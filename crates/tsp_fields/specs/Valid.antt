@@ -87,9 +87,12 @@ pub record IsInRange (f : Fields) : Type 0 where
   pub fixed : (pairs : List (ℕ × ℕ)) → f.fixed ≡ Some pairs → AreFixed f pairs
   pub weights : (weights : List ℤ) → f.weights ≡ Some weights → AreWeights f weights
   pub tours : (tours : List (List ℕ)) → f.tours ≡ Some tours → AreTours tours
-  pub node_potentials : (potentials : List ℤ) → f.node_potentials ≡ Some potentials → IsByNode (IsWithin most_potential) f potentials
-  pub row_potentials : (potentials : List ℤ) → f.row_potentials ≡ Some potentials → IsByNode (IsWithin most_potential) f potentials
-  pub column_potentials : (potentials : List ℤ) → f.column_potentials ≡ Some potentials → IsByNode (IsWithin most_potential) f potentials
+  pub node_potentials : (potentials : List ℤ) → f.node_potentials ≡ Some potentials
+      → IsByNode (IsWithin most_potential) f potentials
+  pub row_potentials : (potentials : List ℤ) → f.row_potentials ≡ Some potentials
+      → IsByNode (IsWithin most_potential) f potentials
+  pub column_potentials : (potentials : List ℤ) → f.column_potentials ≡ Some potentials
+      → IsByNode (IsWithin most_potential) f potentials
   pub fixed_potentials : (triples : List (ℕ × ℕ × ℤ)) → f.fixed_potentials ≡ Some triples → AreTriples f triples
 
 -- what stands in an instance: its nodes and weight type, and the weights or the coordinates that the weight type is over

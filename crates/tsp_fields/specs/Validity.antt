@@ -108,7 +108,8 @@ are_tours tours = list_all is_tour tours && nat_le (sum_by length tours) most_to
 
 -- a section of this shape is valid
 abbrev pub section_fits : Fields → Field → Shape → Bool
-section_fits f field (Numbers low high) = if_there (with_dimension (is_by_node (is_from_to low high)) f.dimension) (numbers_in f field)
+section_fits f field (Numbers low high) =
+    if_there (with_dimension (is_by_node (is_from_to low high)) f.dimension) (numbers_in f field)
 section_fits f field Points = if_there (with_dimension (is_by_node (is_point false)) f.dimension) (points_in f field)
 section_fits f field SpacePoints = if_there (with_dimension (is_by_node (is_point true)) f.dimension) (points_in f field)
 section_fits f field Depots = if_there (with_dimension are_depots f.dimension) f.depots

@@ -123,7 +123,8 @@ fn section<'a, T>(
 ) -> Result<(u32, &'a [T]), bool>
     ensures { MatchResult result
         (λ found. (dimension ≡ Some found.0) × (option_map (λ v. v.items) entries.now ≡ Some found.1.now))
-        (λ valid. (fits : ℕ → List T → Bool) → valid ≡ if_there (with_dimension fits dimension) (option_map (λ v. v.items) entries.now)) }
+        (λ valid. (fits : ℕ → List T → Bool) → valid ≡ if_there (with_dimension fits dimension)
+        (option_map (λ v. v.items) entries.now)) }
 {
     match (entries, dimension) {
         (None, _) => Err(true),
@@ -148,7 +149,8 @@ fn are_points(spatial: bool, dimension: Option<u32>, points: Option<&Coords>) ->
 
 /// There is a number of this range for each node.
 fn are_numbers(dimension: Option<u32>, numbers: Option<&[i64]>, low: i64, high: i64) -> bool
-    ensures { result ≡ if_there (with_dimension (is_by_node (is_from_to low high)) dimension) (option_map (λ entries. entries.now) numbers.entry) }
+    ensures { result ≡ if_there (with_dimension (is_by_node (is_from_to low high)) dimension)
+        (option_map (λ entries. entries.now) numbers.entry) }
 {
     match (numbers, dimension) {
         (None, _) => true,

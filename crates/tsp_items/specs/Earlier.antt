@@ -57,7 +57,8 @@ values_at f (LineEnd ∷ earlier) = values_at f earlier
 -- the keyword and the value of each line whose keyword is unknown, in the order of the file
 abbrev pub others_in : List Item → List (List ℕ × List ℕ)
 others_in [] = []
-others_in (Line key line ∷ earlier) = cond (is_unknown key) (others_in earlier ++ (line.keyword, line.value) ∷ []) (others_in earlier)
+others_in (Line key line ∷ earlier) =
+    cond (is_unknown key) (others_in earlier ++ (line.keyword, line.value) ∷ []) (others_in earlier)
 others_in (NumberWord word ∷ earlier) = others_in earlier
 others_in (LineEnd ∷ earlier) = others_in earlier
 
@@ -78,5 +79,6 @@ is_open f (Some g) = same_field f g
 abbrev pub words_of : Field → List Item → List (List ℕ)
 words_of f [] = []
 words_of f (Line key line ∷ earlier) = words_of f earlier
-words_of f (NumberWord word ∷ earlier) = cond (is_open f (open_section earlier)) (words_of f earlier ++ word ∷ []) (words_of f earlier)
+words_of f (NumberWord word ∷ earlier) =
+    cond (is_open f (open_section earlier)) (words_of f earlier ++ word ∷ []) (words_of f earlier)
 words_of f (LineEnd ∷ earlier) = words_of f earlier

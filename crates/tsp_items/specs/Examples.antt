@@ -1,7 +1,8 @@
 -- Small texts on which the definitions are evaluated. In them `/` stands for byte 10.
-use Rattle.std.specs.Prelude.{◌≡◌, ℕ, ◌==◌, cond, List, [], ◌∷◌, ◌++◌, map, replicate, None, Some, codes, pos}
+use Rattle.std.specs.Prelude.{◌≡◌, ℕ, ◌==◌, cond, List, [], ◌∷◌, ◌++◌, map, replicate, None, Some, codes, pos, negsuc}
 use Rattle.tsp_value.specs.declared.field.Field.{Field}
 use Rattle.tsp_number.specs.declared.fault.NumberFault.{NumberFault}
+use Rattle.tsp_number.specs.Distances.{on_plane}
 use Rattle.tsp_fields.specs.declared.fault.EndFault.{EndFault}
 use Rattle.tsp_fields.specs.declared.fault.EndFault.TheVariants.{Missing}
 use Rattle.tsp_items.specs.declared.fault.LineFault.{LineFault}
@@ -50,9 +51,18 @@ TriplesAre bytes = (fault (text bytes) ≡ None)
 abbrev pub DemandsAre : List ℕ → Type 0
 DemandsAre bytes = (spelled (part (text bytes))).demands ≡ Some (pos 5 ∷ pos 7 ∷ pos 9 ∷ [])
 
+-- the one node has the point (1.5, 0, -2), in space; the point (1.5, -2), in the plane
+abbrev pub InSpace : List ℕ → Type 0
+InSpace bytes = (spelled (part (text bytes))).coords
+    ≡ Some (record { x = pos 1500000000; y = pos 0; z = negsuc 1999999999 } ∷ [])
+
+abbrev pub OnPlane : List ℕ → Type 0
+OnPlane bytes = (spelled (part (text bytes))).coords ≡ Some (on_plane (pos 1500000000) (negsuc 1999999999) ∷ [])
+
 -- four nodes with weights
 abbrev pub quad : List ℕ → List ℕ → List ℕ
-quad format weights = codes "TYPE:TSP/DIMENSION:4/EDGE_WEIGHT_TYPE:EXPLICIT/EDGE_WEIGHT_FORMAT:" ++ format ++ codes "/EDGE_WEIGHT_SECTION/" ++ weights
+quad format weights = codes "TYPE:TSP/DIMENSION:4/EDGE_WEIGHT_TYPE:EXPLICIT/EDGE_WEIGHT_FORMAT:" ++ format
+    ++ codes "/EDGE_WEIGHT_SECTION/" ++ weights
 
 -- a word line of 4097 bytes, and a word of 65 digits
 abbrev pub long_line : List ℕ

@@ -1,5 +1,5 @@
--- By-node sections. TSPLIB 95 (G. Reinelt): NODE_COORD_SECTION, DISPLAY_DATA_SECTION and DEMAND_SECTION list each node once, in any order,
--- each with its numbers. This project's profile adds the sections of potentials.
+-- By-node sections. TSPLIB 95 (G. Reinelt): NODE_COORD_SECTION, DISPLAY_DATA_SECTION and DEMAND_SECTION list each node once,
+-- in any order, each with its numbers. This project's profile adds the sections of potentials.
 use Rattle.std.specs.Prelude.{ℕ, ◌*◌, Bool, cond, nat_le, List, [], ◌∷◌, length, map, take, Option, None, Some, ℤ, pos, unwrap_or}
 use Rattle.std.specs.Ordering.{int_eq}
 use Rattle.tsp_number.specs.declared.decimal.Point.{Point}
@@ -54,7 +54,8 @@ begun_four (a ∷ b ∷ c ∷ d ∷ words) = begun_four words
 
 -- the n groups of a node and a whole number; words past them are in no group
 abbrev pub number_groups : ℤ → ℤ → ℕ → List (List ℕ) → List (ℤ × ℤ)
-number_groups low high n words = map (λ group. (number (node n group.0), number (whole_of group.1 low high))) (pairs_in (take (2 * n) words))
+number_groups low high n words =
+    map (λ group. (number (node n group.0), number (whole_of group.1 low high))) (pairs_in (take (2 * n) words))
 
 abbrev pub point_of : List ℕ → List ℕ → Point
 point_of x y = on_plane (number (decimal_of x)) (number (decimal_of y))
@@ -68,14 +69,16 @@ space_point_of x y z = record { x = number (decimal_of x); y = number (decimal_o
 
 -- the n groups of a node and its three coordinates
 abbrev pub space_point_groups : ℕ → List (List ℕ) → List (ℤ × Point)
-space_point_groups n words = map (λ group. (number (node n group.0), space_point_of group.1 group.2 group.3)) (fours_in (take (4 * n) words))
+space_point_groups n words =
+    map (λ group. (number (node n group.0), space_point_of group.1 group.2 group.3)) (fours_in (take (4 * n) words))
 
 -- what stands for a node: the entry of its group
 abbrev pub entry_of : {X : Type 0} → List (ℤ × X) → ℤ → Option X
 entry_of [] z = None
 entry_of (group ∷ groups) z = cond (int_eq group.0 z) (Some group.1) (entry_of groups z)
 
--- The list by node: for each node of 1..n in rising order the entry of its group. (A section that lacks a node is incomplete, which is a fault.)
+-- The list by node: for each node of 1..n in rising order the entry of its group. (A section that lacks a node is incomplete,
+-- which is a fault.)
 abbrev pub by_node : {X : Type 0} → X → ℕ → List (ℤ × X) → List X
 by_node missing n groups = map (λ i. unwrap_or (entry_of groups (pos i)) missing) (nodes_to n)
 

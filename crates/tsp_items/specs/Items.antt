@@ -1,5 +1,5 @@
--- A text as items, in order: its word lines, the words of its number lines, and the ends of its lines. Which items are settled is this
--- project's profile.
+-- A text as items, in order: its word lines, the words of its number lines, and the ends of its lines. Which items are
+-- settled is this project's profile.
 use Rattle.std.specs.Prelude.{ℕ, ◌+◌, Bool, true, false, cond, nat_lt, List, [], ◌∷◌, ◌++◌, length, map}
 use Rattle.std.specs.List.{filter, slice_split, list_any}
 use Rattle.tsp_value.specs.declared.keyword.Keyword.{Keyword}
@@ -59,7 +59,8 @@ settled_line text = cond (nat_lt most_line_bytes (length text)) (line_item text 
 
 -- the settled items of a line that goes on
 abbrev pub settled_in : List ℕ → List Item
-settled_in line = cond (is_word_line line) (settled_line (without_start line)) (map (λ word. NumberWord word) (settled_words line))
+settled_in line = cond (is_word_line line) (settled_line (without_start line))
+    (map (λ word. NumberWord word) (settled_words line))
 
 abbrev pub settled_items : List ℕ → List Item
 settled_items bytes = items_by settled_in (lines_of bytes)

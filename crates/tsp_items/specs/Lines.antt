@@ -1,5 +1,5 @@
--- Lines and words. TSPLIB 95 (G. Reinelt) has lines of a keyword and a value, and lines of numbers. What exactly ends a line, parts words
--- and begins a keyword is this project's profile.
+-- Lines and words. TSPLIB 95 (G. Reinelt) has lines of a keyword and a value, and lines of numbers. What exactly ends a line,
+-- parts words and begins a keyword is this project's profile.
 use Rattle.std.specs.Prelude.{ℕ, Bool, true, false, cond, ◌==◌, List, [], ◌∷◌, drop, reverse}
 use Rattle.std.specs.List.{filter, slice_split, prefix_len, take_while, before_first}
 use Rattle.tsp_value.specs.Bytes.{is_blank, is_letter, is_keyword_byte}

@@ -1,5 +1,5 @@
--- Lists that -1 ends. TSPLIB 95 (G. Reinelt): DEPOT_SECTION lists depots, FIXED_EDGES_SECTION pairs of nodes. This project's profile adds
--- FIXED_EDGE_POTENTIAL_SECTION, which lists pairs of nodes with a multiplier each.
+-- Lists that -1 ends. TSPLIB 95 (G. Reinelt): DEPOT_SECTION lists depots, FIXED_EDGES_SECTION pairs of nodes. This project's
+-- profile adds FIXED_EDGE_POTENTIAL_SECTION, which lists pairs of nodes with a multiplier each.
 use Rattle.std.specs.Prelude.{ℕ, ℤ, pos, Bool, cond, List, [], ◌∷◌, length, map, nat_abs}
 use Rattle.std.specs.List.{list_any}
 use Rattle.tsp_number.specs.Reading.{whole_of}
@@ -26,7 +26,8 @@ place_of_depot n words = cond (list_any (is_end n) words) PastEnd (DepotAfter (l
 
 -- the pairs before the first whose first word stands for -1
 abbrev pub fixed_in : ℕ → List (List ℕ) → List (ℕ × ℕ)
-fixed_in n words = map (λ pair. (nat_abs (number (node_or_end n pair.0)), nat_abs (number (node n pair.1)))) (before (λ pair. is_end n pair.0) (pairs_in words))
+fixed_in n words = map (λ pair. (nat_abs (number (node_or_end n pair.0)), nat_abs (number (node n pair.1))))
+    (before (λ pair. is_end n pair.0) (pairs_in words))
 
 -- the words in the first place of a pair
 abbrev pub firsts_in : {A : Type 0} → List A → List A
@@ -40,7 +41,8 @@ place_in_pair n count [] = FirstAfter count
 place_in_pair n count (first ∷ begun) = SecondOf (number (node_or_end n first))
 
 abbrev pub place_of_fixed : ℕ → List (List ℕ) → Place
-place_of_fixed n words = cond (list_any (is_end n) (firsts_in words)) PastEnd (place_in_pair n (length (pairs_in words)) (begun_pair words))
+place_of_fixed n words =
+    cond (list_any (is_end n) (firsts_in words)) PastEnd (place_in_pair n (length (pairs_in words)) (begun_pair words))
 
 -- ---- multipliers of fixed edges
 

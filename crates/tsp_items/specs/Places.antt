@@ -2,14 +2,14 @@
 use Rattle.std.specs.Prelude.{ℕ, ℤ, List}
 
 pub data Place : Type 0 where
-  -- by-node sections: a group's node, after groups of these nodes; a coordinate; a whole number of this range, which a triple has too; past
-  -- the last group
+  -- by-node sections: a group's node, after groups of these nodes; a coordinate; a whole number of this range, which a triple
+  -- has too; past the last group
   NodeAfter : (nodes : List ℤ) → Place
   Coordinate : Place
   Amount : (low high : ℤ) → Place
   PastGroups : Place
-  -- lists that -1 ends: a depot, after so many; the first node of a pair or a triple, after so many of them (the most of either is the same);
-  -- its second node, after this one; past the -1
+  -- lists that -1 ends: a depot, after so many; the first node of a pair or a triple, after so many of them (the most of
+  -- either is the same); its second node, after this one; past the -1
   DepotAfter : (count : ℕ) → Place
   FirstAfter : (count : ℕ) → Place
   SecondOf : (first : ℤ) → Place

@@ -1,6 +1,6 @@
--- The rows by which a line or a word is judged. Each says when it applies to an item after the earlier items, the nearest first: to a word
--- line, or to one word of a number line. Source: TSPLIB 95 (G. Reinelt) for what stands where; the rows and their order are this
--- project's profile.
+-- The rows by which a line or a word is judged. Each says when it applies to an item after the earlier items, the nearest
+-- first: to a word line, or to one word of a number line. Source: TSPLIB 95 (G. Reinelt) for what stands where; the rows and
+-- their order are this project's profile.
 use Rattle.std.specs.Prelude.{ℕ, ◌+◌, Bool, true, false, cond, not, ◌&&◌, nat_lt, nat_le, List, [], ◌∷◌, length, Option, None, Some, is_none}
 use Rattle.std.specs.Option.{option_map, option_and_then, option_map_or, option_or}
 use Rattle.std.specs.Result.{result_err}
@@ -44,7 +44,8 @@ is_unknown_line earlier (Line Unknown line) = not line.has_colon
 is_unknown_line earlier (NumberWord word) = false
 is_unknown_line earlier LineEnd = false
 
--- ---- Repeated: a keyword other than COMMENT, or a section, that an earlier line has (the two keywords that are refused have a fault at once)
+-- ---- Repeated: a keyword other than COMMENT, or a section, that an earlier line has (the two keywords that are refused have
+-- a fault at once)
 
 abbrev pub may_repeat : Field → Bool
 may_repeat CommentKey = true
@@ -71,7 +72,8 @@ is_outside earlier (Line Unknown line) = false
 is_outside earlier (NumberWord word) = false
 is_outside earlier LineEnd = false
 
--- ---- BadValue: a first word that the keyword doesn't accept, or none; a number keyword without a value; too many bytes to be kept
+-- ---- BadValue: a first word that the keyword doesn't accept, or none; a number keyword without a value; too many bytes to
+-- be kept
 
 abbrev pub is_too_long_to_keep : WordLine → Bool
 is_too_long_to_keep line = nat_lt most_kept_bytes (length line.keyword + length line.value)
@@ -100,7 +102,8 @@ has_section_value earlier LineEnd = false
 -- ---- SectionEarly: a section other than the tours, and no earlier line of DIMENSION
 
 abbrev pub is_early : List Item → Item → Bool
-is_early earlier (Line (Known field) line) = is_section_field field && not (same_field TourPart field) && not (has_line DimensionKey earlier)
+is_early earlier (Line (Known field) line) = is_section_field field && not (same_field TourPart field)
+    && not (has_line DimensionKey earlier)
 is_early earlier (Line EdgeDataFormat line) = false
 is_early earlier (Line EdgeDataSection line) = not (has_line DimensionKey earlier)
 is_early earlier (Line Eof line) = false
@@ -111,7 +114,8 @@ is_early earlier LineEnd = false
 -- ---- TooManyNodes: EDGE_WEIGHT_SECTION, and more nodes than a matrix may have
 
 abbrev pub has_too_many_nodes : List Item → Item → Bool
-has_too_many_nodes earlier (Line (Known field) line) = same_field EdgeWeightPart field && nat_lt most_matrix_nodes (nodes_of earlier)
+has_too_many_nodes earlier (Line (Known field) line) = same_field EdgeWeightPart field
+    && nat_lt most_matrix_nodes (nodes_of earlier)
 has_too_many_nodes earlier (Line EdgeDataFormat line) = false
 has_too_many_nodes earlier (Line EdgeDataSection line) = false
 has_too_many_nodes earlier (Line Eof line) = false
@@ -126,7 +130,8 @@ is_stray earlier (Line key line) = false
 is_stray earlier (NumberWord word) = is_none (open_section earlier)
 is_stray earlier LineEnd = false
 
--- ---- Number: the fault of what is read, in the first word of a number keyword's value or in a word that stands at a place of its section
+-- ---- Number: the fault of what is read, in the first word of a number keyword's value or in a word that stands at a place
+-- of its section
 
 abbrev pub number_fault_at : ℕ → Place → List ℕ → Option NumberFault
 number_fault_at n (NodeAfter nodes) word = result_err (node n word)
@@ -147,7 +152,8 @@ number_fault earlier (Line EdgeDataFormat line) = None
 number_fault earlier (Line EdgeDataSection line) = None
 number_fault earlier (Line Eof line) = None
 number_fault earlier (Line Unknown line) = None
-number_fault earlier (NumberWord word) = option_and_then (λ place. number_fault_at (nodes_of earlier) place word) (place_of earlier)
+number_fault earlier (NumberWord word) =
+    option_and_then (λ place. number_fault_at (nodes_of earlier) place word) (place_of earlier)
 number_fault earlier LineEnd = None
 
 -- ---- RepeatedNode: a group's node that an earlier group of the section has
@@ -172,8 +178,9 @@ is_self_edge earlier (Line key line) = false
 is_self_edge earlier (NumberWord word) = at_place is_self_edge_at earlier word
 is_self_edge earlier LineEnd = false
 
--- ---- Surplus: a line of COMMENT or of an unknown keyword after as many as may stand; past the groups a word other than `-1`; a word past
--- the weights; a depot, a first node of a pair or a triple, or a node of the tours (no -1) after as many as may stand
+-- ---- Surplus: a line of COMMENT or of an unknown keyword after as many as may stand; past the groups a word other than
+-- `-1`; a word past the weights; a depot, a first node of a pair or a triple, or a node of the tours (no -1) after as many as
+-- may stand
 
 abbrev pub is_surplus_at : ℕ → Place → List ℕ → Bool
 is_surplus_at n (NodeAfter nodes) word = false
@@ -189,7 +196,8 @@ is_surplus_at n PastWeights word = true
 is_surplus_at n (TourNode count) word = nat_le most_tour_nodes count && not (is_end most_nodes word)
 
 abbrev pub is_surplus : List Item → Item → Bool
-is_surplus earlier (Line (Known field) line) = same_field CommentKey field && nat_le most_comments (length (values_at CommentKey earlier))
+is_surplus earlier (Line (Known field) line) = same_field CommentKey field
+    && nat_le most_comments (length (values_at CommentKey earlier))
 is_surplus earlier (Line EdgeDataFormat line) = false
 is_surplus earlier (Line EdgeDataSection line) = false
 is_surplus earlier (Line Eof line) = false

@@ -27,7 +27,8 @@ potentials_in n words = numbers_by_node (neg_ℤ (pos most_potential)) (pos most
 abbrev pub demands_in : ℕ → List (List ℕ) → List ℤ
 demands_in n words = numbers_by_node (pos 0) (pos most_demand) n words
 
--- the value of a section, by its words; without words a section that stands gives the value of no words, and one that doesn't none
+-- the value of a section, by its words; without words a section that stands gives the value of no words, and one that doesn't
+-- none
 abbrev pub section : {A : Type 0} → (Field → Bool) → (List (List ℕ) → A) → Field → List Item → Option A
 section stands value field items = cond (stands field) (Some (value (words_of field items))) None
 

@@ -1,5 +1,5 @@
--- What a text of bytes spells, and its first fault. Source: TSPLIB 95 (G. Reinelt) for the fields; lines, faults, their order and the limit
--- of a file's bytes are this project's profile.
+-- What a text of bytes spells, and its first fault. Source: TSPLIB 95 (G. Reinelt) for the fields; lines, faults, their order
+-- and the limit of a file's bytes are this project's profile.
 use Rattle.std.specs.Prelude.{◌≡◌, ℕ, Bool, not, cond, ◌&&◌, nat_lt, List, [], ◌∷◌, length, take, reverse, Option, None}
 use Rattle.std.specs.Option.{option_map}
 use Rattle.tsp_value.specs.Limits.{most_file_bytes}
@@ -15,8 +15,8 @@ use Rattle.tsp_items.specs.Spells.{spelled, fault_at_end}
 abbrev pub is_too_long : List ℕ → Bool
 is_too_long bytes = nat_lt most_file_bytes (length bytes)
 
--- The items that count, nearest first: all of them up to and with the end line. Of a text that is too long those that are settled in the
--- bytes that a file may have.
+-- The items that count, nearest first: all of them up to and with the end line. Of a text that is too long those that are
+-- settled in the bytes that a file may have.
 abbrev pub part : List ℕ → List Item
 part bytes = reverse (to_end_line (cond (is_too_long bytes) (settled_items (take most_file_bytes bytes)) (items_of bytes)))
 
@@ -38,4 +38,5 @@ settled_part bytes = reverse (to_end_line (settled_items (take most_file_bytes b
 
 -- the fault of a text that begins with these bytes, where they decide it
 abbrev pub settled_fault : List ℕ → Option ReadFault
-settled_fault bytes = first_row (fault_in (settled_part bytes) ∷ when (is_too_long bytes && not (has_end_line (settled_part bytes))) faults.TooLong ∷ [])
+settled_fault bytes = first_row
+    (fault_in (settled_part bytes) ∷ when (is_too_long bytes && not (has_end_line (settled_part bytes))) faults.TooLong ∷ [])

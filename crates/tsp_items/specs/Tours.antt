@@ -1,4 +1,5 @@
--- Tours. TSPLIB 95 (G. Reinelt): TOUR_SECTION lists tours, each ended by -1. That empty ones are left out is this project's profile.
+-- Tours. TSPLIB 95 (G. Reinelt): TOUR_SECTION lists tours, each ended by -1. That empty ones are left out is this project's
+-- profile.
 use Rattle.std.specs.Prelude.{ℕ, Bool, not, List, length, map, nat_abs}
 use Rattle.std.specs.List.{slice_split, filter}
 use Rattle.tsp_value.specs.Limits.{most_nodes}

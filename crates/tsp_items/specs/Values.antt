@@ -1,5 +1,5 @@
--- What the value of a keyword may be, keyword by keyword. The words are those of TSPLIB 95 (G. Reinelt); which of them are left out, and
--- the ranges of numbers, are this project's profile.
+-- What the value of a keyword may be, keyword by keyword. The words are those of TSPLIB 95 (G. Reinelt); which of them are
+-- left out, and the ranges of numbers, are this project's profile.
 use Rattle.std.specs.Prelude.{ℕ, Bool, true, false, List, [], ◌∷◌, Option, None, Some, is_some, is_none, ℤ, pos, codes, Result, nat_abs}
 use Rattle.std.specs.Option.{option_map, option_map_or, option_and_then}
 use Rattle.std.specs.Result.{result_ok}

@@ -5,7 +5,7 @@ ghost use Rattle.tsp_number.specs.declared.fault.NumberFault.TheVariants as numb
 ghost use Rattle.tsp_value.specs.declared.field.Field.TheVariants as fields;
 ghost use Rattle.tsp_fields.specs.declared.fault.EndFault.TheVariants as ends;
 ghost use Rattle.tsp_items.specs.declared.fault.LineFault.TheVariants as faults;
-ghost use Rattle.tsp_items.specs.Examples.{FaultAt, NumberAt, MissingAtEnd, EndsWith, OthersAre, ToursAre, PairsAre, TriplesAre, DemandsAre, quad, long_line, long_word};
+ghost use Rattle.tsp_items.specs.Examples.{FaultAt, NumberAt, MissingAtEnd, EndsWith, OthersAre, ToursAre, PairsAre, TriplesAre, DemandsAre, InSpace, OnPlane, quad, long_line, long_word};
 
 /// The first faults of some texts of word lines. In the texts `/` parts lines.
 #[tactic(auto, unfolding(tsp_number::specs::Reading::decimal_of, tsp_number::specs::Reading::whole_of))]
@@ -23,8 +23,10 @@ pub fn faults_of_word_lines()
     ensures refused_keyword { FaultAt (codes "EDGE_DATA_FORMAT :") 1 0 faults.Outside }
     ensures two_names_of_one_section { FaultAt (codes "DIMENSION : 2/FIXED_EDGES/1 2/FIXED_EDGES_SECTION") 4 0 faults.Repeated }
     ensures long { FaultAt long_line 1 0 faults.LongLine }
-    ensures late { FaultAt (codes "TYPE : TSP/DIMENSION : 1/NODE_COORD_SECTION/1 0 0/EDGE_WEIGHT_TYPE : EUC_3D") 5 0 faults.LateSpace }
-    ensures late_after_none { FaultAt (codes "DIMENSION : 1/NODE_COORD_SECTION/NODE_COORD_TYPE : THREED_COORDS") 3 0 faults.LateSpace }
+    ensures late { FaultAt (codes "TYPE : TSP/DIMENSION : 1/NODE_COORD_SECTION/1 0 0/EDGE_WEIGHT_TYPE : EUC_3D")
+        5 0 faults.LateSpace }
+    ensures late_after_none { FaultAt (codes "DIMENSION : 1/NODE_COORD_SECTION/NODE_COORD_TYPE : THREED_COORDS")
+        3 0 faults.LateSpace }
     ensures outside_still { FaultAt (codes "EDGE_WEIGHT_TYPE : GEO") 1 0 faults.Outside }
     ensures no_word { FaultAt (codes "EDGE_WEIGHT_TYPE : CEIL_3D") 1 0 faults.BadValue }
 {}
@@ -41,21 +43,32 @@ pub fn faults_of_words()
     ensures other_spelling_after_end { FaultAt (codes "DIMENSION : 3/FIXED_EDGES/1 2 -1 -1.0") 3 4 faults.AfterEnd }
     ensures triple_of_a_node_with_itself { FaultAt (codes "DIMENSION : 3/FIXED_EDGE_POTENTIAL_SECTION/2 2") 3 2 faults.SelfEdge }
     ensures triple_past_the_end { FaultAt (codes "DIMENSION : 3/FIXED_EDGE_POTENTIAL_SECTION/1 2 5 -1 -1 3") 3 6 faults.AfterEnd }
-    ensures multiplier_too_large { NumberAt (codes "DIMENSION : 3/FIXED_EDGE_POTENTIAL_SECTION/1 2 1000000000000000 1 3 1000000000000001")
-        3 6 numbers.OutOfRange }
+    ensures multiplier_too_large { NumberAt
+        (codes "DIMENSION : 3/FIXED_EDGE_POTENTIAL_SECTION/1 2 1000000000000000 1 3 1000000000000001") 3 6 numbers.OutOfRange }
     ensures multiplier_below_zero { NumberAt (codes "DIMENSION : 3/FIXED_EDGE_POTENTIAL_SECTION/1 2 -1") 3 3 numbers.OutOfRange }
     ensures repeated_node { FaultAt (codes "DIMENSION : 2/DEMAND_SECTION/1 0 1 5") 3 3 faults.RepeatedNode }
     ensures past_the_groups { FaultAt (codes "DIMENSION : 2/DEMAND_SECTION/1 0 2 5 7") 3 5 faults.Surplus }
     ensures zero_in_a_tour { NumberAt (codes "TOUR_SECTION/1 0 2") 2 2 numbers.OutOfRange }
     ensures third_in_the_plane { FaultAt (codes "DIMENSION : 1/NODE_COORD_SECTION/1 0 0 5") 3 4 faults.Surplus }
-    ensures fourth_in_space { FaultAt (codes "DIMENSION : 1/NODE_COORD_TYPE : THREED_COORDS/NODE_COORD_SECTION/1 0 0 5 6") 4 5 faults.Surplus }
-    ensures third_of_display { FaultAt (codes "DIMENSION : 1/EDGE_WEIGHT_TYPE : MAN_3D/DISPLAY_DATA_SECTION/1 0 0 5") 4 4 faults.Surplus }
+    ensures fourth_in_space { FaultAt (codes "DIMENSION : 1/NODE_COORD_TYPE : THREED_COORDS/NODE_COORD_SECTION/1 0 0 5 6")
+        4 5 faults.Surplus }
+    ensures third_of_display { FaultAt (codes "DIMENSION : 1/EDGE_WEIGHT_TYPE : MAN_3D/DISPLAY_DATA_SECTION/1 0 0 5")
+        4 4 faults.Surplus }
     ensures long_word { NumberAt (codes "TOUR_SECTION/1 " ++ long_word) 2 2 numbers.LongWord }
-    ensures past_the_weights { FaultAt (quad (codes "UPPER_ROW") (codes "1 2 3 4 5 6 7 8 9 10 11 12 13 14 15 16 17")) 6 17 faults.Surplus }
+    ensures past_the_weights { FaultAt (quad (codes "UPPER_ROW") (codes "1 2 3 4 5 6 7 8 9 10 11 12 13 14 15 16 17"))
+        6 17 faults.Surplus }
 {}
 
 /// The faults at the end of some texts.
-#[tactic(auto, unfolding(tsp_number::specs::Reading::decimal_of, tsp_number::specs::Reading::whole_of, tsp_value::specs::Cells::cells, tsp_value::specs::Cells::nodes_to))]
+#[tactic(
+    auto,
+    unfolding(
+        tsp_number::specs::Reading::decimal_of,
+        tsp_number::specs::Reading::whole_of,
+        tsp_value::specs::Cells::cells,
+        tsp_value::specs::Cells::nodes_to,
+    )
+)]
 pub fn faults_at_the_end()
     ensures no_type { MissingAtEnd (codes "DIMENSION 3") fields.TypeKey }
     ensures small_letters { MissingAtEnd (codes "dimension : 3") fields.TypeKey }
@@ -73,7 +86,8 @@ pub fn faults_at_the_end()
         fields.NodePotentialPart }
     ensures rows_alone { MissingAtEnd (codes "TYPE : POTENTIALS/DIMENSION : 1/ROW_POTENTIAL_SECTION/1 0")
         fields.ColumnPotentialPart }
-    ensures space_said_again { MissingAtEnd (codes "DIMENSION : 1/EDGE_WEIGHT_TYPE : MAX_3D/NODE_COORD_SECTION/1 0 0 5/NODE_COORD_TYPE : THREED_COORDS") fields.TypeKey }
+    ensures space_said_again { MissingAtEnd
+        (codes "DIMENSION : 1/EDGE_WEIGHT_TYPE : MAX_3D/NODE_COORD_SECTION/1 0 0 5/NODE_COORD_TYPE : THREED_COORDS") fields.TypeKey }
     ensures two_of_three { EndsWith (codes "TYPE : TSP/DIMENSION : 1/EDGE_WEIGHT_TYPE : EUC_3D/NODE_COORD_SECTION/1 0 0")
         (ends.Incomplete fields.NodeCoordPart) }
     ensures too_few { EndsWith (quad (codes "UPPER_ROW") (codes "1 2 3 4 5")) ends.WrongCount }
@@ -82,7 +96,14 @@ pub fn faults_at_the_end()
 {}
 
 /// What some texts spell.
-#[tactic(auto, unfolding(tsp_number::specs::Reading::decimal_of, tsp_number::specs::Reading::whole_of, tsp_value::specs::Cells::nodes_to))]
+#[tactic(
+    auto,
+    unfolding(
+        tsp_number::specs::Reading::decimal_of,
+        tsp_number::specs::Reading::whole_of,
+        tsp_value::specs::Cells::nodes_to,
+    )
+)]
 pub fn fields_of_texts()
     ensures value { OthersAre (codes "FOO : BAR") (codes "FOO") (codes "BAR") }
     ensures no_value { OthersAre (codes "FOO: ") (codes "FOO") (codes "") }
@@ -91,4 +112,7 @@ pub fn fields_of_texts()
     ensures pairs { PairsAre (codes "TYPE:TOUR/DIMENSION 3/FIXED_EDGES/1 2 +3 1.0 -1/TOUR_SECTION") }
     ensures triples { TriplesAre (codes "TYPE:TOUR/DIMENSION 3/FIXED_EDGE_POTENTIAL_SECTION/1 2 5 +3/1 0 -1.0 -1/TOUR_SECTION") }
     ensures demands { DemandsAre (codes "DIMENSION : 3/DEMAND_SECTION/2 7/3 9 1/5") }
+    ensures by_its_type { InSpace (codes "DIMENSION : 1/EDGE_WEIGHT_TYPE : MAN_3D/NODE_COORD_SECTION/1 1.5 0 -2") }
+    ensures by_its_coordinates { InSpace (codes "NODE_COORD_TYPE:THREED_COORDS/DIMENSION 1/NODE_COORD_SECTION/1 1.5 0/-2") }
+    ensures on_plane { OnPlane (codes "DIMENSION : 1/EDGE_WEIGHT_TYPE : MAN_2D/NODE_COORD_SECTION/1 1.5 -2") }
 {}

@@ -50,14 +50,16 @@ pub record IsJudged (first second third : Turn) (instance : Fields) (verdict : V
 -- What the check answers, as the check of two files does. The first file, in order, that isn't one decides, later ones aren't
 -- read, and then nothing is written; then the first file's TYPE decides.
 abbrev pub IsBoundRun : Turn → Turn → Turn → Sink → Result Bool RunFault → Type 0
-IsBoundRun first second third sink (Ok answer) = (instance : Fields) × (verdict : Verdict) × IsJudged first second third instance verdict
+IsBoundRun first second third sink (Ok answer) = (instance : Fields) × (verdict : Verdict)
+    × IsJudged first second third instance verdict
     × (answer ≡ is_yes verdict) × HasWritten sink (report_of instance verdict)
 IsBoundRun first second third sink (Err (File file fault)) = IsUnwritten sink
     × (((file ≡ 1) × StopsAt fault first × IsUnread second × IsUnread third)
     ⊎ ((file ≡ 2) × IsSomeFile first × StopsAt fault second × IsUnread third)
     ⊎ ((file ≡ 3) × IsSomeFile first × IsSomeFile second × StopsAt fault third))
 IsBoundRun first second third sink (Err WrongKind) = IsUnwritten sink × IsNoBounded first × IsSomeFile second × IsSomeFile third
-IsBoundRun first second third sink (Err OutOfMemory) = IsUnwritten sink × IsSomeBounded first × IsSomeFile second × IsSomeFile third
+IsBoundRun first second third sink (Err OutOfMemory) = IsUnwritten sink × IsSomeBounded first × IsSomeFile second
+    × IsSomeFile third
 IsBoundRun first second third sink (Err (Relayout fault)) = ⊥
 IsBoundRun first second third sink (Err (Write write_faults.OutOfMemory)) = ⊥
 IsBoundRun first second third sink (Err (Write write_faults.Device)) = (instance : Fields) × (verdict : Verdict)
@@ -70,8 +72,8 @@ IsBoundVerdictRun first second third sink (Ok verdict) = (instance : Fields) × 
 IsBoundVerdictRun first second third sink (Err fault) = IsBoundRun first second third sink (Err fault)
 
 -- What a yes says: the second file is one of tours and the third one of potentials; the one tour visits every node of the
--- instance once and uses every fixed edge; its length and the bound of the third file are printed; and no tour of the instance is shorter than the bound, so that where the length
--- equals it no tour is shorter than this one.
+-- instance once and uses every fixed edge; its length and the bound of the third file are printed; and no tour of the
+-- instance is shorter than the bound, so that where the length equals it no tour is shorter than this one.
 pub record IsAYes (first second third : Turn) (sink : Sink) : Type 0 where
   pub instance : Fields
   pub solution : Fields

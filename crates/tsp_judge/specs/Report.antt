@@ -93,8 +93,10 @@ bound_lines length None = []
 bound_lines length (Some bound) = codes "bound " ++ signed_decimal bound ++ gap_lines (length -ℤ bound)
 
 abbrev pub verdict_lines : Verdict → List ℕ
-verdict_lines (Tour length bound) = codes "length " ++ signed_decimal length ++ codes "\n" ++ bound_lines length bound ++ codes "yes\n"
-verdict_lines (Routes length routes least) = codes "routes " ++ decimal routes ++ codes "\nleast " ++ decimal least ++ codes "\nlength " ++ signed_decimal length ++ codes "\nyes\n"
+verdict_lines (Tour length bound) = codes "length " ++ signed_decimal length ++ codes "\n" ++ bound_lines length bound
+    ++ codes "yes\n"
+verdict_lines (Routes length routes least) = codes "routes " ++ decimal routes ++ codes "\nleast " ++ decimal least
+    ++ codes "\nlength " ++ signed_decimal length ++ codes "\nyes\n"
 verdict_lines (No reason) = codes "no " ++ reason_text reason ++ codes "\n"
 
 -- a bound of which the gap to a length fits

@@ -22,7 +22,8 @@ pub fn examples_of_reports()
     ensures no_bound { bound_lines (pos 14) None ≡ [] }
     ensures bound_met { bound_lines (pos 14) (Some (pos 14)) ≡ codes "bound " ++ signed_decimal (pos 14) ++ codes "\noptimal\n" }
     ensures bound_below { bound_lines (pos 18) (Some (pos 14)) ≡ codes "bound " ++ signed_decimal (pos 14) ++ gap_lines (pos 4) }
-    ensures below_zero { bound_lines (negsuc 33) (Some (negsuc 34)) ≡ codes "bound " ++ signed_decimal (negsuc 34) ++ gap_lines (pos 1) }
+    ensures below_zero { bound_lines (negsuc 33) (Some (negsuc 34))
+        ≡ codes "bound " ++ signed_decimal (negsuc 34) ++ gap_lines (pos 1) }
     ensures tour { verdict_lines (verdicts.Tour (pos 14) None) ≡ codes "length " ++ signed_decimal (pos 14) ++ codes "\nyes\n" }
     ensures routes { verdict_lines (verdicts.Routes (pos 20) 3 2) ≡ codes "routes " ++ decimal 3 ++ codes "\nleast " ++ decimal 2
         ++ codes "\nlength " ++ signed_decimal (pos 20) ++ codes "\nyes\n" }
@@ -59,12 +60,14 @@ pub fn examples_of_shown_lines()
     ensures no_name { name_line None ≡ [] }
     ensures points { weights_line (Some weight_kinds.Euc2d) None ≡ codes "weights EUC_2D\n" }
     ensures function { weights_line (Some weight_kinds.Att) (Some formats.ByFunction) ≡ codes "weights ATT\n" }
-    ensures listed { weights_line (Some weight_kinds.Explicit) (Some (formats.Listed layouts.LowerRow)) ≡ codes "weights EXPLICIT LOWER_ROW\n" }
+    ensures listed { weights_line (Some weight_kinds.Explicit) (Some (formats.Listed layouts.LowerRow))
+        ≡ codes "weights EXPLICIT LOWER_ROW\n" }
     ensures canonical { canonical_line (pos 14) ≡ codes "canonical " ++ signed_decimal (pos 14) ++ codes "\n" }
     ensures no_fixed { fixed_line None ≡ [] }
     ensures none_fixed { fixed_line (Some []) ≡ codes "fixed " ++ decimal 0 ++ codes "\n" }
     ensures twice_fixed { fixed_line (Some ((1, 2) ∷ (1, 2) ∷ [])) ≡ codes "fixed " ++ decimal 2 ++ codes "\n" }
-    ensures tours { tour_lines ((3 ∷ 4 ∷ []) ∷ []) ≡ codes "tours " ++ decimal 1 ++ codes "\ntour " ++ decimal 1 ++ codes " nodes " ++ decimal 2
+    ensures tours { tour_lines ((3 ∷ 4 ∷ []) ∷ [])
+        ≡ codes "tours " ++ decimal 1 ++ codes "\ntour " ++ decimal 1 ++ codes " nodes " ++ decimal 2
         ++ codes "\n" }
     ensures no_scale { scale_line None ≡ codes "scale " ++ signed_decimal (pos 1) ++ codes "\n" }
     ensures scale { scale_line (Some (pos 2)) ≡ codes "scale " ++ signed_decimal (pos 2) ++ codes "\n" }

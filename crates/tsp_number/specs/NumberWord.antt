@@ -23,7 +23,8 @@ upper_e = 69
 
 -- a sign: nothing, `+` or `-`
 abbrev pub IsSign : List ℕ → Bool → Type 0
-IsSign sign negative = ((sign ≡ []) × (negative ≡ false)) ⊎ ((sign ≡ plus ∷ []) × (negative ≡ false)) ⊎ ((sign ≡ minus ∷ []) × (negative ≡ true))
+IsSign sign negative = ((sign ≡ []) × (negative ≡ false)) ⊎ ((sign ≡ plus ∷ []) × (negative ≡ false))
+    ⊎ ((sign ≡ minus ∷ []) × (negative ≡ true))
 
 -- the number of this size
 abbrev pub signed : Bool → ℕ → ℤ

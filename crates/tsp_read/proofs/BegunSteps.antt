@@ -151,9 +151,11 @@ open_by p most filled e =
 
 pub open_line : (inside : Bool) (text filled : List ℕ) (first : ℕ) (after : List ℕ) → filled ≡ without_start text → filled ≡ first ∷ after
     → (not inside && is_letter first) ≡ true → items_left true inside text ≡ [] → IsOpen ends_line most_line_bytes filled
-open_line inside text filled first after e parts begins none = open_by ends_line most_line_bytes filled (by_case (is_settled most_line_bytes true (before ends_line filled) (from ends_line filled)) refl)
+open_line inside text filled first after e parts begins none =
+    open_by ends_line most_line_bytes filled (by_case (is_settled most_line_bytes true (before ends_line filled) (from ends_line filled)) refl)
   where
-    by_case : (b : Bool) → is_settled most_line_bytes true (before ends_line filled) (from ends_line filled) ≡ b → is_settled most_line_bytes true (before ends_line filled) (from ends_line filled) ≡ false
+    by_case : (b : Bool) → is_settled most_line_bytes true (before ends_line filled) (from ends_line filled) ≡ b
+        → is_settled most_line_bytes true (before ends_line filled) (from ends_line filled) ≡ false
     by_case true s =
         let next = line_next true inside text filled first after (before ends_line filled) (from ends_line filled) e parts (letter_not_ten inside first begins) begins refl refl s in
         absurd (let f : line_item (before ends_line filled) ∷ items_left true true (from ends_line filled) ≡ [] = sym next ∙ none in cc)
@@ -161,14 +163,16 @@ open_line inside text filled first after e parts begins none = open_by ends_line
 
 pub open_word : (inside : Bool) (text filled : List ℕ) (first : ℕ) (after : List ℕ) → filled ≡ without_start text → filled ≡ first ∷ after
     → (not inside && is_letter first) ≡ false → items_left true inside text ≡ [] → IsOpen ends_word most_word_bytes filled
-open_word inside text filled first after e parts begins none = open_by ends_word most_word_bytes filled (by_case (is_settled most_word_bytes true (before ends_word filled) (from ends_word filled)) refl)
+open_word inside text filled first after e parts begins none =
+    open_by ends_word most_word_bytes filled (by_case (is_settled most_word_bytes true (before ends_word filled) (from ends_word filled)) refl)
   where
     no_ten : first ≡ 10 → ⊥
     no_ten ten =
         let next = end_next true inside text filled first after e parts ten in
         let f : LineEnd ∷ items_left true false after ≡ [] = sym next ∙ none in absurd cc
 
-    by_case : (b : Bool) → is_settled most_word_bytes true (before ends_word filled) (from ends_word filled) ≡ b → is_settled most_word_bytes true (before ends_word filled) (from ends_word filled) ≡ false
+    by_case : (b : Bool) → is_settled most_word_bytes true (before ends_word filled) (from ends_word filled) ≡ b
+        → is_settled most_word_bytes true (before ends_word filled) (from ends_word filled) ≡ false
     by_case true s =
         let next = word_next true inside text filled first after (before ends_word filled) (from ends_word filled) e parts no_ten begins refl refl s in
         absurd (let f : NumberWord (before ends_word filled) ∷ items_left true true (from ends_word filled) ≡ [] = sym next ∙ none in cc)

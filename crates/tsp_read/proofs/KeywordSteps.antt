@@ -91,7 +91,9 @@ kind_line old new line slot (Ok done) sets is same_first same_part earlier h sho
     let there : is_some old.draft.kind ≡ has_line TypeKey earlier = ap (λ (xs : List Bool). get_or xs 1 false) h.stand in
     let found : is_some (kind_named (first_word line.value)) ≡ true = ap (λ (o : Option Kind). is_some o) sets.2 ∙ sets.3 in
     record {
-      clean = clean_more earlier (Line (Known TypeKey) line) h.clean (kind_rows earlier line short ∙ named_none (has_line TypeKey earlier) (is_left_out TypeKey (first_word line.value)) (kind_named (first_word line.value)) false (sym there ∙ sets.0) sets.1 found refl);
+      clean = clean_more earlier (Line (Known TypeKey) line) h.clean
+          (kind_rows earlier line short ∙ named_none (has_line TypeKey earlier) (is_left_out TypeKey (first_word line.value))
+          (kind_named (first_word line.value)) false (sym there ∙ sets.0) sets.1 found refl);
       stand = ap fields_there is ∙ ap (λ (b : Bool). set (fields_there (fields_of old.draft)) 1 b) sets.3 ∙ ap (λ (xs : List Bool). set xs 1 true) h.stand;
       spelled = is ∙ ap (λ (fields : Fields). record fields { kind = slot }) h.spelled
           ∙ ap (λ (k : Option Kind). let fields = fields_by (λ field. has_line field earlier) earlier in record fields { kind = k }) (sym sets.2);
@@ -106,7 +108,8 @@ kind_line old new line slot (Err (steps.Fault fault)) sets is same_first same_pa
 -- ---- EdgeWeightTypeKey
 
 weight_kind_rows : (earlier : List Item) (line : WordLine) → nat_lt most_line_bytes line.size ≡ false
-    → row_of earlier (Line (Known EdgeWeightTypeKey) line) ≡ named_rows (has_line EdgeWeightTypeKey earlier) (is_left_out EdgeWeightTypeKey (first_word line.value)) (weight_kind_named (first_word line.value)) (is_late earlier (Line (Known EdgeWeightTypeKey) line))
+    → row_of earlier (Line (Known EdgeWeightTypeKey) line) ≡ named_rows (has_line EdgeWeightTypeKey earlier)
+    (is_left_out EdgeWeightTypeKey (first_word line.value)) (weight_kind_named (first_word line.value)) (is_late earlier (Line (Known EdgeWeightTypeKey) line))
 weight_kind_rows earlier line short = rw (short, cond_same (is_none (weight_kind_named (first_word line.value)))) refl
 
 pub weight_kind_line : (old new : Reading) (line : WordLine) (slot : Option WeightKind) (r : Result (Unit {0}) StepFault)
@@ -117,7 +120,9 @@ weight_kind_line old new line slot (Ok done) sets is same_first same_part earlie
     let there : is_some old.draft.weight_kind ≡ has_line EdgeWeightTypeKey earlier = ap (λ (xs : List Bool). get_or xs 5 false) h.stand in
     let late : is_late earlier (Line (Known EdgeWeightTypeKey) line) ≡ false = sym (late_by old EdgeWeightTypeKey line earlier h) ∙ sets.4 in
     let found : is_some (weight_kind_named (first_word line.value)) ≡ true = ap (λ (o : Option WeightKind). is_some o) sets.2 ∙ sets.3 in
-    let row : row_of earlier (Line (Known EdgeWeightTypeKey) line) ≡ None = weight_kind_rows earlier line short ∙ named_none (has_line EdgeWeightTypeKey earlier) (is_left_out EdgeWeightTypeKey (first_word line.value)) (weight_kind_named (first_word line.value)) (is_late earlier (Line (Known EdgeWeightTypeKey) line)) (sym there ∙ sets.0) sets.1 found late in
+    let row : row_of earlier (Line (Known EdgeWeightTypeKey) line) ≡ None = weight_kind_rows earlier line short
+    ∙ named_none (has_line EdgeWeightTypeKey earlier) (is_left_out EdgeWeightTypeKey (first_word line.value)) (weight_kind_named (first_word line.value))
+    (is_late earlier (Line (Known EdgeWeightTypeKey) line)) (sym there ∙ sets.0) sets.1 found late in
     let space : has_line NodeCoordPart earlier ≡ true → spatial_after (Line (Known EdgeWeightTypeKey) line ∷ earlier) ≡ spatial_after earlier = λ known.
     space_kept earlier (Line (Known EdgeWeightTypeKey) line) known row in
     record {
@@ -135,12 +140,16 @@ weight_kind_line old new line slot (Ok done) sets is same_first same_part earlie
 weight_kind_line old new line slot (Err steps.Memory) sets is same_first same_part earlier h short = tt
 weight_kind_line old new line slot (Err (steps.Fault fault)) sets is same_first same_part earlier h short =
     let there : is_some old.draft.weight_kind ≡ has_line EdgeWeightTypeKey earlier = ap (λ (xs : List Bool). get_or xs 5 false) h.stand in
-    weight_kind_rows earlier line short ∙ ap (λ (b : Bool). named_rows b (is_left_out EdgeWeightTypeKey (first_word line.value)) (weight_kind_named (first_word line.value)) (is_late earlier (Line (Known EdgeWeightTypeKey) line))) (sym there) ∙ ap (λ (b : Bool). named_rows (is_some old.draft.weight_kind) (is_left_out EdgeWeightTypeKey (first_word line.value)) (weight_kind_named (first_word line.value)) b) (sym (late_by old EdgeWeightTypeKey line earlier h)) ∙ sets.1
+    weight_kind_rows earlier line short ∙ ap (λ (b : Bool). named_rows b (is_left_out EdgeWeightTypeKey (first_word line.value))
+    (weight_kind_named (first_word line.value)) (is_late earlier (Line (Known EdgeWeightTypeKey) line))) (sym there)
+    ∙ ap (λ (b : Bool). named_rows (is_some old.draft.weight_kind) (is_left_out EdgeWeightTypeKey (first_word line.value))
+    (weight_kind_named (first_word line.value)) b) (sym (late_by old EdgeWeightTypeKey line earlier h)) ∙ sets.1
 
 -- ---- EdgeWeightFormatKey
 
 weight_format_rows : (earlier : List Item) (line : WordLine) → nat_lt most_line_bytes line.size ≡ false
-    → row_of earlier (Line (Known EdgeWeightFormatKey) line) ≡ named_rows (has_line EdgeWeightFormatKey earlier) (is_left_out EdgeWeightFormatKey (first_word line.value)) (weight_format_named (first_word line.value)) false
+    → row_of earlier (Line (Known EdgeWeightFormatKey) line) ≡ named_rows (has_line EdgeWeightFormatKey earlier)
+    (is_left_out EdgeWeightFormatKey (first_word line.value)) (weight_format_named (first_word line.value)) false
 weight_format_rows earlier line short = rw (short, cond_same (is_none (weight_format_named (first_word line.value)))) refl
 
 pub weight_format_line : (old new : Reading) (line : WordLine) (slot : Option WeightFormat) (r : Result (Unit {0}) StepFault)
@@ -151,7 +160,9 @@ weight_format_line old new line slot (Ok done) sets is same_first same_part earl
     let there : is_some old.draft.weight_format ≡ has_line EdgeWeightFormatKey earlier = ap (λ (xs : List Bool). get_or xs 6 false) h.stand in
     let found : is_some (weight_format_named (first_word line.value)) ≡ true = ap (λ (o : Option WeightFormat). is_some o) sets.2 ∙ sets.3 in
     record {
-      clean = clean_more earlier (Line (Known EdgeWeightFormatKey) line) h.clean (weight_format_rows earlier line short ∙ named_none (has_line EdgeWeightFormatKey earlier) (is_left_out EdgeWeightFormatKey (first_word line.value)) (weight_format_named (first_word line.value)) false (sym there ∙ sets.0) sets.1 found refl);
+      clean = clean_more earlier (Line (Known EdgeWeightFormatKey) line) h.clean
+          (weight_format_rows earlier line short ∙ named_none (has_line EdgeWeightFormatKey earlier) (is_left_out EdgeWeightFormatKey (first_word line.value))
+          (weight_format_named (first_word line.value)) false (sym there ∙ sets.0) sets.1 found refl);
       stand = ap fields_there is ∙ ap (λ (b : Bool). set (fields_there (fields_of old.draft)) 6 b) sets.3 ∙ ap (λ (xs : List Bool). set xs 6 true) h.stand;
       spelled = is ∙ ap (λ (fields : Fields). record fields { weight_format = slot }) h.spelled
           ∙ ap (λ (k : Option WeightFormat). let fields = fields_by (λ field. has_line field earlier) earlier in record fields { weight_format = k }) (sym sets.2);
@@ -161,12 +172,14 @@ weight_format_line old new line slot (Ok done) sets is same_first same_part earl
 weight_format_line old new line slot (Err steps.Memory) sets is same_first same_part earlier h short = tt
 weight_format_line old new line slot (Err (steps.Fault fault)) sets is same_first same_part earlier h short =
     let there : is_some old.draft.weight_format ≡ has_line EdgeWeightFormatKey earlier = ap (λ (xs : List Bool). get_or xs 6 false) h.stand in
-    weight_format_rows earlier line short ∙ ap (λ (b : Bool). named_rows b (is_left_out EdgeWeightFormatKey (first_word line.value)) (weight_format_named (first_word line.value)) false) (sym there) ∙ sets.1
+    weight_format_rows earlier line short ∙ ap (λ (b : Bool). named_rows b (is_left_out EdgeWeightFormatKey (first_word line.value))
+    (weight_format_named (first_word line.value)) false) (sym there) ∙ sets.1
 
 -- ---- NodeCoordTypeKey
 
 coord_kind_rows : (earlier : List Item) (line : WordLine) → nat_lt most_line_bytes line.size ≡ false
-    → row_of earlier (Line (Known NodeCoordTypeKey) line) ≡ named_rows (has_line NodeCoordTypeKey earlier) (is_left_out NodeCoordTypeKey (first_word line.value)) (coord_kind_named (first_word line.value)) (is_late earlier (Line (Known NodeCoordTypeKey) line))
+    → row_of earlier (Line (Known NodeCoordTypeKey) line) ≡ named_rows (has_line NodeCoordTypeKey earlier)
+    (is_left_out NodeCoordTypeKey (first_word line.value)) (coord_kind_named (first_word line.value)) (is_late earlier (Line (Known NodeCoordTypeKey) line))
 coord_kind_rows earlier line short = rw (short, cond_same (is_none (coord_kind_named (first_word line.value)))) refl
 
 pub coord_kind_line : (old new : Reading) (line : WordLine) (slot : Option CoordKind) (r : Result (Unit {0}) StepFault)
@@ -177,7 +190,9 @@ coord_kind_line old new line slot (Ok done) sets is same_first same_part earlier
     let there : is_some old.draft.coord_kind ≡ has_line NodeCoordTypeKey earlier = ap (λ (xs : List Bool). get_or xs 7 false) h.stand in
     let late : is_late earlier (Line (Known NodeCoordTypeKey) line) ≡ false = sym (late_by old NodeCoordTypeKey line earlier h) ∙ sets.4 in
     let found : is_some (coord_kind_named (first_word line.value)) ≡ true = ap (λ (o : Option CoordKind). is_some o) sets.2 ∙ sets.3 in
-    let row : row_of earlier (Line (Known NodeCoordTypeKey) line) ≡ None = coord_kind_rows earlier line short ∙ named_none (has_line NodeCoordTypeKey earlier) (is_left_out NodeCoordTypeKey (first_word line.value)) (coord_kind_named (first_word line.value)) (is_late earlier (Line (Known NodeCoordTypeKey) line)) (sym there ∙ sets.0) sets.1 found late in
+    let row : row_of earlier (Line (Known NodeCoordTypeKey) line) ≡ None = coord_kind_rows earlier line short
+    ∙ named_none (has_line NodeCoordTypeKey earlier) (is_left_out NodeCoordTypeKey (first_word line.value)) (coord_kind_named (first_word line.value))
+    (is_late earlier (Line (Known NodeCoordTypeKey) line)) (sym there ∙ sets.0) sets.1 found late in
     let space : has_line NodeCoordPart earlier ≡ true → spatial_after (Line (Known NodeCoordTypeKey) line ∷ earlier) ≡ spatial_after earlier = λ known.
     space_kept earlier (Line (Known NodeCoordTypeKey) line) known row in
     record {
@@ -195,12 +210,16 @@ coord_kind_line old new line slot (Ok done) sets is same_first same_part earlier
 coord_kind_line old new line slot (Err steps.Memory) sets is same_first same_part earlier h short = tt
 coord_kind_line old new line slot (Err (steps.Fault fault)) sets is same_first same_part earlier h short =
     let there : is_some old.draft.coord_kind ≡ has_line NodeCoordTypeKey earlier = ap (λ (xs : List Bool). get_or xs 7 false) h.stand in
-    coord_kind_rows earlier line short ∙ ap (λ (b : Bool). named_rows b (is_left_out NodeCoordTypeKey (first_word line.value)) (coord_kind_named (first_word line.value)) (is_late earlier (Line (Known NodeCoordTypeKey) line))) (sym there) ∙ ap (λ (b : Bool). named_rows (is_some old.draft.coord_kind) (is_left_out NodeCoordTypeKey (first_word line.value)) (coord_kind_named (first_word line.value)) b) (sym (late_by old NodeCoordTypeKey line earlier h)) ∙ sets.1
+    coord_kind_rows earlier line short ∙ ap (λ (b : Bool). named_rows b (is_left_out NodeCoordTypeKey (first_word line.value))
+    (coord_kind_named (first_word line.value)) (is_late earlier (Line (Known NodeCoordTypeKey) line))) (sym there)
+    ∙ ap (λ (b : Bool). named_rows (is_some old.draft.coord_kind) (is_left_out NodeCoordTypeKey (first_word line.value))
+    (coord_kind_named (first_word line.value)) b) (sym (late_by old NodeCoordTypeKey line earlier h)) ∙ sets.1
 
 -- ---- DisplayDataTypeKey
 
 display_kind_rows : (earlier : List Item) (line : WordLine) → nat_lt most_line_bytes line.size ≡ false
-    → row_of earlier (Line (Known DisplayDataTypeKey) line) ≡ named_rows (has_line DisplayDataTypeKey earlier) (is_left_out DisplayDataTypeKey (first_word line.value)) (display_kind_named (first_word line.value)) false
+    → row_of earlier (Line (Known DisplayDataTypeKey) line) ≡ named_rows (has_line DisplayDataTypeKey earlier)
+    (is_left_out DisplayDataTypeKey (first_word line.value)) (display_kind_named (first_word line.value)) false
 display_kind_rows earlier line short = rw (short, cond_same (is_none (display_kind_named (first_word line.value)))) refl
 
 pub display_kind_line : (old new : Reading) (line : WordLine) (slot : Option DisplayKind) (r : Result (Unit {0}) StepFault)
@@ -211,7 +230,9 @@ display_kind_line old new line slot (Ok done) sets is same_first same_part earli
     let there : is_some old.draft.display_kind ≡ has_line DisplayDataTypeKey earlier = ap (λ (xs : List Bool). get_or xs 8 false) h.stand in
     let found : is_some (display_kind_named (first_word line.value)) ≡ true = ap (λ (o : Option DisplayKind). is_some o) sets.2 ∙ sets.3 in
     record {
-      clean = clean_more earlier (Line (Known DisplayDataTypeKey) line) h.clean (display_kind_rows earlier line short ∙ named_none (has_line DisplayDataTypeKey earlier) (is_left_out DisplayDataTypeKey (first_word line.value)) (display_kind_named (first_word line.value)) false (sym there ∙ sets.0) sets.1 found refl);
+      clean = clean_more earlier (Line (Known DisplayDataTypeKey) line) h.clean
+          (display_kind_rows earlier line short ∙ named_none (has_line DisplayDataTypeKey earlier) (is_left_out DisplayDataTypeKey (first_word line.value))
+          (display_kind_named (first_word line.value)) false (sym there ∙ sets.0) sets.1 found refl);
       stand = ap fields_there is ∙ ap (λ (b : Bool). set (fields_there (fields_of old.draft)) 8 b) sets.3 ∙ ap (λ (xs : List Bool). set xs 8 true) h.stand;
       spelled = is ∙ ap (λ (fields : Fields). record fields { display_kind = slot }) h.spelled
           ∙ ap (λ (k : Option DisplayKind). let fields = fields_by (λ field. has_line field earlier) earlier in record fields { display_kind = k }) (sym sets.2);
@@ -221,7 +242,8 @@ display_kind_line old new line slot (Ok done) sets is same_first same_part earli
 display_kind_line old new line slot (Err steps.Memory) sets is same_first same_part earlier h short = tt
 display_kind_line old new line slot (Err (steps.Fault fault)) sets is same_first same_part earlier h short =
     let there : is_some old.draft.display_kind ≡ has_line DisplayDataTypeKey earlier = ap (λ (xs : List Bool). get_or xs 8 false) h.stand in
-    display_kind_rows earlier line short ∙ ap (λ (b : Bool). named_rows b (is_left_out DisplayDataTypeKey (first_word line.value)) (display_kind_named (first_word line.value)) false) (sym there) ∙ sets.1
+    display_kind_rows earlier line short ∙ ap (λ (b : Bool). named_rows b (is_left_out DisplayDataTypeKey (first_word line.value))
+    (display_kind_named (first_word line.value)) false) (sym there) ∙ sets.1
 
 -- ---- CapacityKey
 
@@ -237,10 +259,13 @@ capacity_line old new line slot (Ok done) sets is same_first same_part earlier h
     let there : is_some old.draft.capacity ≡ has_line CapacityKey earlier = ap (λ (xs : List Bool). get_or xs 3 false) h.stand in
     let filled : is_some slot ≡ true = ap (λ (o : Option ℤ). is_some o) sets.4 in
     record {
-      clean = clean_more earlier (Line (Known CapacityKey) line) h.clean (capacity_rows earlier line short ∙ numbered_none (has_line CapacityKey earlier) line.value (whole_of (first_word line.value) (pos 1) (pos most_capacity)) sets.2 (sym there ∙ sets.0) sets.1 sets.3);
+      clean = clean_more earlier (Line (Known CapacityKey) line) h.clean
+          (capacity_rows earlier line short ∙ numbered_none (has_line CapacityKey earlier) line.value
+          (whole_of (first_word line.value) (pos 1) (pos most_capacity)) sets.2 (sym there ∙ sets.0) sets.1 sets.3);
       stand = ap fields_there is ∙ ap (λ (b : Bool). set (fields_there (fields_of old.draft)) 3 b) filled ∙ ap (λ (xs : List Bool). set xs 3 true) h.stand;
       spelled = is ∙ ap (λ (fields : Fields). record fields { capacity = slot }) h.spelled
-          ∙ ap (λ (k : Option ℤ). let fields = fields_by (λ field. has_line field earlier) earlier in record fields { capacity = k }) (sets.4 ∙ sym (ap (λ (r : Result ℤ NumberFault). result_ok r) sets.3));
+          ∙ ap (λ (k : Option ℤ). let fields = fields_by (λ field. has_line field earlier) earlier in record fields { capacity = k })
+          (sets.4 ∙ sym (ap (λ (r : Result ℤ NumberFault). result_ok r) sets.3));
       incomplete = same_first ∙ h.incomplete;
       part = still_none old new (Line (Known CapacityKey) line ∷ earlier) refl same_part h.part;
     }
@@ -263,10 +288,13 @@ scale_line old new line slot (Ok done) sets is same_first same_part earlier h sh
     let there : is_some old.draft.scale ≡ has_line ScaleKey earlier = ap (λ (xs : List Bool). get_or xs 4 false) h.stand in
     let filled : is_some slot ≡ true = ap (λ (o : Option ℤ). is_some o) sets.4 in
     record {
-      clean = clean_more earlier (Line (Known ScaleKey) line) h.clean (scale_rows earlier line short ∙ numbered_none (has_line ScaleKey earlier) line.value (whole_of (first_word line.value) (pos 1) (pos most_scale)) sets.2 (sym there ∙ sets.0) sets.1 sets.3);
+      clean = clean_more earlier (Line (Known ScaleKey) line) h.clean
+          (scale_rows earlier line short ∙ numbered_none (has_line ScaleKey earlier) line.value (whole_of (first_word line.value) (pos 1) (pos most_scale))
+          sets.2 (sym there ∙ sets.0) sets.1 sets.3);
       stand = ap fields_there is ∙ ap (λ (b : Bool). set (fields_there (fields_of old.draft)) 4 b) filled ∙ ap (λ (xs : List Bool). set xs 4 true) h.stand;
       spelled = is ∙ ap (λ (fields : Fields). record fields { scale = slot }) h.spelled
-          ∙ ap (λ (k : Option ℤ). let fields = fields_by (λ field. has_line field earlier) earlier in record fields { scale = k }) (sets.4 ∙ sym (ap (λ (r : Result ℤ NumberFault). result_ok r) sets.3));
+          ∙ ap (λ (k : Option ℤ). let fields = fields_by (λ field. has_line field earlier) earlier in record fields { scale = k })
+          (sets.4 ∙ sym (ap (λ (r : Result ℤ NumberFault). result_ok r) sets.3));
       incomplete = same_first ∙ h.incomplete;
       part = still_none old new (Line (Known ScaleKey) line ∷ earlier) refl same_part h.part;
     }
@@ -282,11 +310,18 @@ dimension_rows : (earlier : List Item) (line : WordLine) → nat_lt most_line_by
 dimension_rows earlier line short = rw short refl
 
 dimension_field : (earlier : List Item) (line : WordLine) (n : ℕ) → whole_of (first_word line.value) (pos 1) (pos most_nodes) ≡ Ok (pos n)
-    → has_line NodeCoordPart earlier ≡ false → has_line DisplayDataPart earlier ≡ false → has_line DemandPart earlier ≡ false → has_line DepotPart earlier ≡ false → has_line FixedEdgesPart earlier ≡ false → has_line EdgeWeightPart earlier ≡ false → has_line NodePotentialPart earlier ≡ false → has_line RowPotentialPart earlier ≡ false → has_line ColumnPotentialPart earlier ≡ false → has_line FixedPotentialPart earlier ≡ false
-    → (let fields = fields_by (λ field. has_line field earlier) earlier in record fields { dimension = Some n }) ≡ fields_by (is_closed (Line (Known DimensionKey) line ∷ earlier)) (Line (Known DimensionKey) line ∷ earlier)
+    → has_line NodeCoordPart earlier ≡ false → has_line DisplayDataPart earlier ≡ false → has_line DemandPart earlier ≡ false
+    → has_line DepotPart earlier ≡ false → has_line FixedEdgesPart earlier ≡ false → has_line EdgeWeightPart earlier ≡ false
+    → has_line NodePotentialPart earlier ≡ false → has_line RowPotentialPart earlier ≡ false → has_line ColumnPotentialPart earlier ≡ false
+    → has_line FixedPotentialPart earlier ≡ false
+    → (let fields = fields_by (λ field. has_line field earlier) earlier in record fields { dimension = Some n })
+    ≡ fields_by (is_closed (Line (Known DimensionKey) line ∷ earlier)) (Line (Known DimensionKey) line ∷ earlier)
 dimension_field earlier line n read c0 c1 c2 c3 c4 c5 c6 c7 c8 c9 = rw (c0, c1, c2, c3, c4, c5, c6, c7, c8, c9, read) refl
 
-dimension_first : (earlier : List Item) (line : WordLine) → has_line NodeCoordPart earlier ≡ false → has_line DisplayDataPart earlier ≡ false → has_line DemandPart earlier ≡ false → has_line DepotPart earlier ≡ false → has_line FixedEdgesPart earlier ≡ false → has_line EdgeWeightPart earlier ≡ false → has_line NodePotentialPart earlier ≡ false → has_line RowPotentialPart earlier ≡ false → has_line ColumnPotentialPart earlier ≡ false → has_line FixedPotentialPart earlier ≡ false
+dimension_first : (earlier : List Item) (line : WordLine) → has_line NodeCoordPart earlier ≡ false → has_line DisplayDataPart earlier ≡ false
+    → has_line DemandPart earlier ≡ false → has_line DepotPart earlier ≡ false → has_line FixedEdgesPart earlier ≡ false
+    → has_line EdgeWeightPart earlier ≡ false → has_line NodePotentialPart earlier ≡ false → has_line RowPotentialPart earlier ≡ false
+    → has_line ColumnPotentialPart earlier ≡ false → has_line FixedPotentialPart earlier ≡ false
     → first_incomplete earlier ≡ find (is_closed_incomplete (Line (Known DimensionKey) line ∷ earlier)) sections_in_order
 dimension_first earlier line c0 c1 c2 c3 c4 c5 c6 c7 c8 c9 = rw (c0, c1, c2, c3, c4, c5, c6, c7, c8, c9) refl
 
@@ -309,7 +344,9 @@ dimension_line old new line slot (Ok done) sets is same_first same_part earlier 
     let none : (f : Field) → is_section_field f ≡ true → same_field TourPart f ≡ false → has_line f earlier ≡ false =
     λ f section other. none_before f earlier section other h.clean (sym there ∙ sets.0) in
     record {
-      clean = clean_more earlier (Line (Known DimensionKey) line) h.clean (dimension_rows earlier line short ∙ numbered_none (has_line DimensionKey earlier) line.value (whole_of (first_word line.value) (pos 1) (pos most_nodes)) (pos sets.2) (sym there ∙ sets.0) sets.1 sets.3);
+      clean = clean_more earlier (Line (Known DimensionKey) line) h.clean
+          (dimension_rows earlier line short ∙ numbered_none (has_line DimensionKey earlier) line.value
+          (whole_of (first_word line.value) (pos 1) (pos most_nodes)) (pos sets.2) (sym there ∙ sets.0) sets.1 sets.3);
       stand = ap fields_there is ∙ ap (λ (b : Bool). set (fields_there (fields_of old.draft)) 2 b) filled ∙ ap (λ (xs : List Bool). set xs 2 true) h.stand;
       spelled = is ∙ ap (λ (fields : Fields). record fields { dimension = slot }) h.spelled
           ∙ ap (λ (k : Option ℕ). let fields = fields_by (λ field. has_line field earlier) earlier in record fields { dimension = k }) sets.4

@@ -75,7 +75,8 @@ section_of in_space ColumnPotentialPart shape e = refl
 section_of in_space FixedPotentialPart shape e = refl
 
 -- a field that is none of the other keywords and no section
-pub unnamed : (in_space : Bool) (f : Field) → shape_of in_space f ≡ None → f ≢ NameKey → f ≢ TypeKey → f ≢ CommentKey → f ≢ DimensionKey → f ≢ CapacityKey → f ≢ ScaleKey → f ≢ EdgeWeightTypeKey → f ≢ EdgeWeightFormatKey → f ≢ NodeCoordTypeKey → f ≢ DisplayDataTypeKey
+pub unnamed : (in_space : Bool) (f : Field) → shape_of in_space f ≡ None → f ≢ NameKey → f ≢ TypeKey → f ≢ CommentKey → f ≢ DimensionKey → f ≢ CapacityKey
+    → f ≢ ScaleKey → f ≢ EdgeWeightTypeKey → f ≢ EdgeWeightFormatKey → f ≢ NodeCoordTypeKey → f ≢ DisplayDataTypeKey
     → f ≡ OtherKey
 unnamed in_space NameKey no_shape k0 k1 k2 k3 k4 k5 k6 k7 k8 k9 = absurd (k0 refl)
 unnamed in_space TypeKey no_shape k0 k1 k2 k3 k4 k5 k6 k7 k8 k9 = absurd (k1 refl)

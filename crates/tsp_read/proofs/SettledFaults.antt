@@ -235,7 +235,8 @@ over_fault bytes more found e h =
     ap fault_in (settled_over bytes more e)
     ∙ fault_of_items (settled_items bytes) (settled_items (bytes ++ take (room_for bytes) more)) found (items_settled bytes (take (room_for bytes) more)) (short_fault bytes found e h)
 
-part_fault : (bytes more : List ℕ) (found : ReadFault) (b : Bool) → is_too_long (bytes ++ more) ≡ b → is_too_long bytes ≡ false → settled_fault bytes ≡ Some found → fault_in (part (bytes ++ more)) ≡ Some found
+part_fault : (bytes more : List ℕ) (found : ReadFault) (b : Bool) → is_too_long (bytes ++ more) ≡ b → is_too_long bytes ≡ false
+    → settled_fault bytes ≡ Some found → fault_in (part (bytes ++ more)) ≡ Some found
 part_fault bytes more found true t e h = ap fault_in (part_long (bytes ++ more) t) ∙ over_fault bytes more found e h
 part_fault bytes more found false t e h =
     ap fault_in (part_short (bytes ++ more) t) ∙ fault_of_items (settled_items bytes) (items_of (bytes ++ more)) found (items_stay bytes more) (short_fault bytes found e h)
@@ -252,7 +253,8 @@ fault_kept_by bytes more found true e h =
     subst (λ (items : List Item). first_row (fault_in items ∷ when (is_too_long (bytes ++ more) && not (has_end_line items)) faults.TooLong
     ∷ option_map (λ fault. faults.End fault) (fault_at_end items) ∷ []) ≡ Some found)
     (sym (part_long (bytes ++ more) (longer most_file_bytes bytes more e) ∙ settled_long bytes more e))
-    (more_rows (fault_in (settled_part bytes)) (is_too_long (bytes ++ more) && not (has_end_line (settled_part bytes))) (option_map (λ fault. faults.End fault) (fault_at_end (settled_part bytes))) found
+    (more_rows (fault_in (settled_part bytes)) (is_too_long (bytes ++ more) && not (has_end_line (settled_part bytes)))
+    (option_map (λ fault. faults.End fault) (fault_at_end (settled_part bytes))) found
     (long_fault_kept bytes more found e h))
 fault_kept_by bytes more found false e h =
     first_wins (fault_in (part (bytes ++ more)))

@@ -195,14 +195,16 @@ line_stays_by : (line more : List ℕ) → BeginsAlike line more → Stay (settl
 line_stays_by line more (inl h) = subst (λ (xs : List Item). Stay xs (items_in (line ++ more))) (sym (settled_none line h.0 h.1)) tt
 line_stays_by line more (inr h) =
     subst (λ (s : List ℕ). Stay (cond (begins is_letter s) (settled_line s) (word_items (settled_words line))) (items_in (line ++ more))) (sym h.2)
-    (subst (λ (t : List ℕ). Stay (cond (is_letter h.0) (settled_line (h.0 ∷ h.1)) (word_items (settled_words line))) (cond (begins is_letter t) (line_item t ∷ []) (word_items (words_in (line ++ more))))) (sym h.3)
+    (subst (λ (t : List ℕ). Stay (cond (is_letter h.0) (settled_line (h.0 ∷ h.1)) (word_items (settled_words line)))
+    (cond (begins is_letter t) (line_item t ∷ []) (word_items (words_in (line ++ more))))) (sym h.3)
     (letter_stays (is_letter h.0) line more (h.0 ∷ h.1)))
 
 line_settled_by : (line more : List ℕ) → BeginsAlike line more → Stay (settled_in line) (settled_in (line ++ more))
 line_settled_by line more (inl h) = subst (λ (xs : List Item). Stay xs (settled_in (line ++ more))) (sym (settled_none line h.0 h.1)) tt
 line_settled_by line more (inr h) =
     subst (λ (s : List ℕ). Stay (cond (begins is_letter s) (settled_line s) (word_items (settled_words line))) (settled_in (line ++ more))) (sym h.2)
-    (subst (λ (t : List ℕ). Stay (cond (is_letter h.0) (settled_line (h.0 ∷ h.1)) (word_items (settled_words line))) (cond (begins is_letter t) (settled_line t) (word_items (settled_words (line ++ more))))) (sym h.3)
+    (subst (λ (t : List ℕ). Stay (cond (is_letter h.0) (settled_line (h.0 ∷ h.1)) (word_items (settled_words line)))
+    (cond (begins is_letter t) (settled_line t) (word_items (settled_words (line ++ more))))) (sym h.3)
     (letter_settled (is_letter h.0) line more (h.0 ∷ h.1)))
 
 line_stays : (line more : List ℕ) → Stay (settled_in line) (items_in (line ++ more))

@@ -43,7 +43,8 @@ name_line old new line slot (Ok done) sets is same_first same_part earlier h sho
     let there : is_some (fields_of old.draft).name ≡ has_line NameKey earlier = ap (λ (xs : List Bool). get_or xs 0 false) h.stand in
     let filled : is_some slot ≡ true = ap (λ (o : Option (List ℕ)). is_some o) sets.2 in
     record {
-      clean = clean_more earlier (Line (Known NameKey) line) h.clean (name_rows earlier line short ∙ two_none (has_line NameKey earlier) (is_too_long_to_keep line) row.Repeated row.BadValue (sym there ∙ sets.0) sets.1);
+      clean = clean_more earlier (Line (Known NameKey) line) h.clean
+          (name_rows earlier line short ∙ two_none (has_line NameKey earlier) (is_too_long_to_keep line) row.Repeated row.BadValue (sym there ∙ sets.0) sets.1);
       stand = ap fields_there is ∙ ap (λ (b : Bool). set (fields_there (fields_of old.draft)) 0 b) filled ∙ ap (λ (xs : List Bool). set xs 0 true) h.stand;
       spelled = is ∙ ap (λ (fields : Fields). record fields { name = slot }) h.spelled
           ∙ ap (λ (k : Option (List ℕ)). let fields = fields_by (λ field. has_line field earlier) earlier in record fields { name = k }) sets.2;
@@ -100,7 +101,8 @@ other_line old new line others (Ok done) adds is same_first same_part earlier h 
     let few : nat_le most_others (length (others_in earlier)) ≡ false = ap (λ (xs : List (List ℕ × List ℕ)). nat_le most_others (length xs)) (sym same) ∙ adds.2 in
     record {
       clean = clean_more earlier (Line Unknown line) h.clean
-          (other_rows earlier line short ∙ three_none (not line.has_colon) (is_too_long_to_keep line) (nat_le most_others (length (others_in earlier))) row.UnknownLine row.BadValue row.Surplus (ap not adds.0) adds.1 few);
+          (other_rows earlier line short ∙ three_none (not line.has_colon) (is_too_long_to_keep line) (nat_le most_others (length (others_in earlier)))
+          row.UnknownLine row.BadValue row.Surplus (ap not adds.0) adds.1 few);
       stand = ap fields_there is ∙ h.stand;
       spelled = is ∙ ap (λ (xs : List (List ℕ × List ℕ)). let fields = fields_of old.draft in record fields { others = xs }) adds.3
           ∙ ap (λ (fields : Fields). record fields { others = fields.others ++ (line.keyword, line.value) ∷ [] }) h.spelled;
@@ -111,7 +113,8 @@ other_line old new line others (Err steps.Memory) adds is same_first same_part e
 other_line old new line others (Err (steps.Fault fault)) adds is same_first same_part earlier h short =
     let same : (fields_of old.draft).others ≡ others_in earlier = ap (λ (fields : Fields). fields.others) h.spelled in
     other_rows earlier line short
-    ∙ ap (λ (xs : List (List ℕ × List ℕ)). first_row (when (not line.has_colon) row.UnknownLine ∷ when (is_too_long_to_keep line) row.BadValue ∷ when (nat_le most_others (length xs)) row.Surplus ∷ [])) (sym same) ∙ adds.1
+    ∙ ap (λ (xs : List (List ℕ × List ℕ)). first_row (when (not line.has_colon) row.UnknownLine ∷ when (is_too_long_to_keep line) row.BadValue
+    ∷ when (nat_le most_others (length xs)) row.Surplus ∷ [])) (sym same) ∙ adds.1
 
 -- ---- Line Eof line: nothing is given
 
@@ -126,7 +129,8 @@ end_line reading line earlier short h = record {
 
 -- ---- Line (Known OtherKey) line: nothing is given
 
-pub unnamed_line : (reading : Reading) (line : WordLine) (earlier : List Item) → nat_lt most_line_bytes line.size ≡ false → Closed reading earlier → Holds reading (Line (Known OtherKey) line ∷ earlier)
+pub unnamed_line : (reading : Reading) (line : WordLine) (earlier : List Item) → nat_lt most_line_bytes line.size ≡ false → Closed reading earlier
+    → Holds reading (Line (Known OtherKey) line ∷ earlier)
 unnamed_line reading line earlier short h = record {
   clean = clean_more earlier (Line (Known OtherKey) line) h.clean (rw short refl);
   stand = h.stand;

@@ -61,7 +61,8 @@ start_filled : (bytes : List ℕ) → is_blank (slice_index (without_start bytes
 start_filled [] = refl
 start_filled (b ∷ bytes) = by_case (is_blank b) refl (start_filled bytes)
   where
-    by_case : (blank : Bool) → is_blank b ≡ blank → is_blank (slice_index (without_start bytes) 0) ≡ false → is_blank (slice_index (drop (cond blank (1 + prefix_len is_blank bytes) 0) (b ∷ bytes)) 0) ≡ false
+    by_case : (blank : Bool) → is_blank b ≡ blank → is_blank (slice_index (without_start bytes) 0) ≡ false
+        → is_blank (slice_index (drop (cond blank (1 + prefix_len is_blank bytes) 0) (b ∷ bytes)) 0) ≡ false
     by_case true e later = ap (λ n. is_blank (slice_index (drop n (b ∷ bytes)) 0)) (one_more (prefix_len is_blank bytes)) ∙ later
     by_case false e later = e
 
@@ -104,7 +105,8 @@ line_cut text letter one =
       letter_first = letter_first text letter;
       keyword_bytes = while_passes is_keyword_byte text;
       one_line = one_line_value text one;
-      begins_filled = front_filled (without_end start) (reverse (take (prefix_len is_blank (reverse start)) (reverse start))) start (cut_end start) (start_filled (drop (cond (has_colon text) 1 0) (after_keyword text)));
+      begins_filled = front_filled (without_end start) (reverse (take (prefix_len is_blank (reverse start)) (reverse start))) start (cut_end start)
+          (start_filled (drop (cond (has_colon text) 1 0) (after_keyword text)));
       ends_filled = end_filled start;
     }
 
@@ -130,7 +132,8 @@ settled_cut line true true word one = (text_cut line word one, tt)
 settled_cut line true false word one = tt
 settled_cut line false long word one = words_cut (settled_words line)
 
-by_lines_cut : (last : List ℕ → List Item) → ((line : List ℕ) → is_one_line line ≡ true → AreCut (last line)) → (lines : List (List ℕ)) → list_all is_one_line lines ≡ true → AreCut (items_by last lines)
+by_lines_cut : (last : List ℕ → List Item) → ((line : List ℕ) → is_one_line line ≡ true → AreCut (last line)) → (lines : List (List ℕ))
+    → list_all is_one_line lines ≡ true → AreCut (items_by last lines)
 by_lines_cut last each [] one = tt
 by_lines_cut last each (line ∷ []) one = each line (and_parts (is_one_line line) true one).0
 by_lines_cut last each (line ∷ next ∷ lines) one =

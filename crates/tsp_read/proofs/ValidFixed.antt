@@ -37,7 +37,8 @@ pub record ArePaired (n : ℕ) (words : List (List ℕ)) : Type 0 where
   pub begun : list_any (is_end n) (firsts_in words) ≡ false → (first : List ℕ) → begun_pair words ≡ first ∷ []
       → (result_err (node_or_end n first) ≡ None) × (is_end n first ≡ false) × (nat_le most_fixed (length (pairs_in words)) ≡ false)
 
-same_pairs : (n : ℕ) (words more : List (List ℕ)) → before (ends_pairs n) (pairs_in more) ≡ before (ends_pairs n) (pairs_in words) → are_fixed n (fixed_in n words) ≡ true → are_fixed n (fixed_in n more) ≡ true
+same_pairs : (n : ℕ) (words more : List (List ℕ)) → before (ends_pairs n) (pairs_in more) ≡ before (ends_pairs n) (pairs_in words)
+    → are_fixed n (fixed_in n words) ≡ true → are_fixed n (fixed_in n more) ≡ true
 same_pairs n words more same held = ap (λ (pairs : List (List ℕ × List ℕ)). are_fixed n (map (pair_of n) pairs)) same ∙ held
 
 same_first : (found : List (List ℕ)) (first other : List ℕ) → found ≡ first ∷ [] → found ≡ other ∷ [] → first ≡ other

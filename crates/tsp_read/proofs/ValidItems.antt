@@ -61,16 +61,20 @@ each_fits items cut clean NodeCoordPart =
     let in_space = spatial_after items in
     nodes_fit (spelled items) in_space ∙ section_fits (is_by_node (is_point in_space)) (coords_by_node in_space (nodes_of items)) NodeCoordPart refl refl items clean
     (λ there. coords_fit in_space (nodes_of items) (words_of NodeCoordPart items))
-each_fits items cut clean DisplayDataPart = section_fits (is_by_node (is_point false)) (points_by_node (nodes_of items)) DisplayDataPart refl refl items clean (λ there. points_fit (nodes_of items) (words_of DisplayDataPart items))
+each_fits items cut clean DisplayDataPart = section_fits (is_by_node (is_point false)) (points_by_node (nodes_of items)) DisplayDataPart refl refl items clean
+    (λ there. points_fit (nodes_of items) (words_of DisplayDataPart items))
 each_fits items cut clean DemandPart = section_fits (is_by_node is_demand) (demands_in (nodes_of items)) DemandPart refl refl items clean
     (λ there. numbers_fit (pos 0) (pos most_demand) (nodes_of items) (words_of DemandPart items) refl)
 each_fits items cut clean DepotPart = section_fits are_depots (depots_in (nodes_of items)) DepotPart refl refl items clean (λ there. depots_fit items clean)
 each_fits items cut clean FixedEdgesPart = section_fits are_fixed (fixed_in (nodes_of items)) FixedEdgesPart refl refl items clean (λ there. fixed_fit items clean)
 each_fits items cut clean EdgeWeightPart = section_fits are_weights weights_in EdgeWeightPart refl refl items clean (λ there. weights_fit items clean there)
 each_fits items cut clean TourPart = tours_there items (has_line TourPart items) clean
-each_fits items cut clean NodePotentialPart = section_fits (is_by_node (is_within most_potential)) (potentials_in (nodes_of items)) NodePotentialPart refl refl items clean (λ there. potentials_fit (nodes_of items) (words_of NodePotentialPart items))
-each_fits items cut clean RowPotentialPart = section_fits (is_by_node (is_within most_potential)) (potentials_in (nodes_of items)) RowPotentialPart refl refl items clean (λ there. potentials_fit (nodes_of items) (words_of RowPotentialPart items))
-each_fits items cut clean ColumnPotentialPart = section_fits (is_by_node (is_within most_potential)) (potentials_in (nodes_of items)) ColumnPotentialPart refl refl items clean (λ there. potentials_fit (nodes_of items) (words_of ColumnPotentialPart items))
+each_fits items cut clean NodePotentialPart = section_fits (is_by_node (is_within most_potential)) (potentials_in (nodes_of items)) NodePotentialPart refl refl
+    items clean (λ there. potentials_fit (nodes_of items) (words_of NodePotentialPart items))
+each_fits items cut clean RowPotentialPart = section_fits (is_by_node (is_within most_potential)) (potentials_in (nodes_of items)) RowPotentialPart refl refl
+    items clean (λ there. potentials_fit (nodes_of items) (words_of RowPotentialPart items))
+each_fits items cut clean ColumnPotentialPart = section_fits (is_by_node (is_within most_potential)) (potentials_in (nodes_of items)) ColumnPotentialPart refl
+    refl items clean (λ there. potentials_fit (nodes_of items) (words_of ColumnPotentialPart items))
 each_fits items cut clean FixedPotentialPart = section_fits are_triples (fixed_triples_in (nodes_of items)) FixedPotentialPart refl refl items clean (λ there. triples_fit items clean)
 
 none_fails : (test : Field → Bool) (fields : List Field) → ((field : Field) → test field ≡ true) → first_failing test fields ≡ None

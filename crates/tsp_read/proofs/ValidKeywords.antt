@@ -60,13 +60,15 @@ word_known word f false false false false is other e =
     (bytes_eq-Decides word (field_word f)).0 (found_passes (λ field. bytes_eq word (field_word field)) fields_in_order f (known_field (field_of word) f e))
 
 keyword_word : (word : List ℕ) (f : Field) → same_field FixedEdgesPart f ≡ false → keyword_of word ≡ Known f → word ≡ field_word f
-keyword_word word f other e = word_known word f (bytes_eq word (codes "FIXED_EDGES")) (bytes_eq word (codes "EDGE_DATA_FORMAT")) (bytes_eq word (codes "EDGE_DATA_SECTION")) (bytes_eq word (codes "EOF")) refl other e
+keyword_word word f other e = word_known word f (bytes_eq word (codes "FIXED_EDGES")) (bytes_eq word (codes "EDGE_DATA_FORMAT"))
+    (bytes_eq word (codes "EDGE_DATA_SECTION")) (bytes_eq word (codes "EOF")) refl other e
 
 -- ---- kept values
 
 kept : (key : Keyword) (line : WordLine) → IsCutLine key line → is_too_long_to_keep line ≡ false → is_kept line.keyword line.value ≡ true
 kept key line cut short =
-    let size : nat_le (length line.keyword + length line.value) most_kept_bytes ≡ true = le-leb (length line.keyword + length line.value) most_kept_bytes (ltb-false most_kept_bytes (length line.keyword + length line.value) short) in
+    let size : nat_le (length line.keyword + length line.value) most_kept_bytes ≡ true =
+    le-leb (length line.keyword + length line.value) most_kept_bytes (ltb-false most_kept_bytes (length line.keyword + length line.value) short) in
     let front = nat_le (length line.keyword + length line.value) most_kept_bytes && list_all (λ b. not (b == 10)) line.value in
     and_from (front && not (is_blank (slice_index line.value 0))) (not (is_blank (slice_index line.value (length line.value - 1))))
     (and_from front (not (is_blank (slice_index line.value 0)))

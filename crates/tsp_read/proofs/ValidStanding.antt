@@ -29,7 +29,8 @@ late_line field f line earlier true e section other in_time before stands =
     late (is_section_field f) (same_field TourPart f) (has_line DimensionKey earlier) (same_field DimensionKey f)
     (ap is_section_field (sym same) ∙ section) (ap (same_field TourPart) (sym same) ∙ other) in_time
 
-stands_late : (field : Field) → is_section_field field ≡ true → same_field TourPart field ≡ false → (items : List Item) → IsClean items → has_line field items ≡ true → has_line DimensionKey items ≡ true
+stands_late : (field : Field) → is_section_field field ≡ true → same_field TourPart field ≡ false → (items : List Item) → IsClean items
+    → has_line field items ≡ true → has_line DimensionKey items ≡ true
 stands_late field section other [] clean stands = absurd (false≢true stands)
 stands_late field section other (NumberWord word ∷ earlier) clean stands = stands_late field section other earlier (clean_parts earlier (NumberWord word) clean).0 stands
 stands_late field section other (LineEnd ∷ earlier) clean stands = stands_late field section other earlier (clean_parts earlier LineEnd clean).0 stands
@@ -41,16 +42,20 @@ stands_late field section other (Line EdgeDataSection line ∷ earlier) clean st
 stands_late field section other (Line Eof line ∷ earlier) clean stands = stands_late field section other earlier (clean_parts earlier (Line Eof line) clean).0 stands
 stands_late field section other (Line Unknown line ∷ earlier) clean stands = stands_late field section other earlier (clean_parts earlier (Line Unknown line) clean).0 stands
 
-pub after_dimension : (field : Field) → is_section_field field ≡ true → same_field TourPart field ≡ false → (items : List Item) → IsClean items → has_line field items ≡ true → has_line DimensionKey items ≡ true
+pub after_dimension : (field : Field) → is_section_field field ≡ true → same_field TourPart field ≡ false → (items : List Item) → IsClean items
+    → has_line field items ≡ true → has_line DimensionKey items ≡ true
 after_dimension field section other items clean stands = stands_late field section other items clean stands
 
 -- a section is valid where its value fits that number of nodes
-standing_fits : {A : Type 0} (fits : ℕ → A → Bool) (value : List (List ℕ) → A) (words : List (List ℕ)) (n : ℕ) (dimension : Option ℕ) (b : Bool) → (b ≡ true → dimension ≡ Some n) → (b ≡ true → fits n (value words) ≡ true)
+standing_fits : {A : Type 0} (fits : ℕ → A → Bool) (value : List (List ℕ) → A) (words : List (List ℕ)) (n : ℕ) (dimension : Option ℕ) (b : Bool)
+    → (b ≡ true → dimension ≡ Some n) → (b ≡ true → fits n (value words) ≡ true)
     → if_there (with_dimension fits dimension) (cond b (Some (value words)) None) ≡ true
 standing_fits fits value words n dimension false known each = refl
 standing_fits fits value words n dimension true known each = subst (λ d. with_dimension fits d (value words) ≡ true) (sym (known refl)) (each refl)
 
-pub section_fits : {A : Type 0} (fits : ℕ → A → Bool) (value : List (List ℕ) → A) (field : Field) → is_section_field field ≡ true → same_field TourPart field ≡ false → (items : List Item) → IsClean items
-    → (has_line field items ≡ true → fits (nodes_of items) (value (words_of field items)) ≡ true) → if_there (with_dimension fits (dimension_of items)) (section (stands items) value field items) ≡ true
+pub section_fits : {A : Type 0} (fits : ℕ → A → Bool) (value : List (List ℕ) → A) (field : Field) → is_section_field field ≡ true
+    → same_field TourPart field ≡ false → (items : List Item) → IsClean items
+    → (has_line field items ≡ true → fits (nodes_of items) (value (words_of field items)) ≡ true)
+    → if_there (with_dimension fits (dimension_of items)) (section (stands items) value field items) ≡ true
 section_fits fits value field is_one other items clean each = standing_fits fits value (words_of field items) (nodes_of items) (dimension_of items) (has_line field items)
     (λ stands. dimension_there items clean (stands_late field is_one other items clean stands)) each

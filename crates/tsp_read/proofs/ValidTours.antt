@@ -38,7 +38,8 @@ pieces_pass test good (x ∷ xs) all =
     let both = and_parts (test x || good x) (list_all (λ x. test x || good x) xs) all in
     by_case (test x) both.0 (pieces_pass test good xs both.1)
   where
-    by_case : (b : Bool) → (b || good x) ≡ true → list_all (list_all good) (slice_split test xs) ≡ true → list_all (list_all good) (cond b ([] ∷ slice_split test xs) (onto_first x (slice_split test xs))) ≡ true
+    by_case : (b : Bool) → (b || good x) ≡ true → list_all (list_all good) (slice_split test xs) ≡ true
+        → list_all (list_all good) (cond b ([] ∷ slice_split test xs) (onto_first x (slice_split test xs))) ≡ true
     by_case true here later = later
     by_case false here later = onto_passes good x (slice_split test xs) here later
 
@@ -94,7 +95,8 @@ taken words word true is row held = record {
       ∙ and_from (list_all (λ w. ends_tour w || is_tour_node w) words) ((ends_tour word || is_tour_node word) && true) held.nodes (ap (λ b. (b || is_tour_node word) && true) is);
   few =
       let same : filter (λ w. not (ends_tour w)) (words ++ word ∷ []) ≡ filter (λ w. not (ends_tour w)) words =
-      filter-append (λ w. not (ends_tour w)) words (word ∷ []) ∙ ap (λ b. filter (λ w. not (ends_tour w)) words ++ cond (not b) (word ∷ []) []) is ∙ append-nil (filter (λ w. not (ends_tour w)) words) in
+      filter-append (λ w. not (ends_tour w)) words (word ∷ []) ∙ ap (λ b. filter (λ w. not (ends_tour w)) words ++ cond (not b) (word ∷ []) []) is
+      ∙ append-nil (filter (λ w. not (ends_tour w)) words) in
       ap (λ (ws : List (List ℕ)). nat_le (length ws) most_tour_nodes) same ∙ held.few;
 }
 taken words word false is row held =

@@ -9,7 +9,8 @@ use Rattle.tsp_items.specs.Text.{fault, Spells}
 
 -- no row applies to any of these items, each after those before it (nearest first)
 abbrev pub NoneHasRow : List Item → Type 0
-NoneHasRow items = (later : List Item) (item : Item) (earlier : List Item) → items ≡ later ++ item ∷ earlier → row_of earlier item ≡ None
+NoneHasRow items = (later : List Item) (item : Item) (earlier : List Item) → items ≡ later ++ item ∷ earlier
+    → row_of earlier item ≡ None
 
 -- the answer for a text: the file that it spells, or its first fault
 abbrev pub IsAnswer : List ℕ → Result Fields ReadFault → Type 0

@@ -18,12 +18,15 @@ is_by_node_field field = false
 
 -- the nodes of the section's groups with n nodes, as they are read
 abbrev pub group_nodes : Bool → Field → ℕ → List (List ℕ) → List ℤ
-group_nodes in_space NodeCoordPart n words = cond in_space (nodes_in (space_point_groups n words)) (nodes_in (point_groups n words))
+group_nodes in_space NodeCoordPart n words =
+    cond in_space (nodes_in (space_point_groups n words)) (nodes_in (point_groups n words))
 group_nodes in_space DisplayDataPart n words = nodes_in (point_groups n words)
 group_nodes in_space DemandPart n words = nodes_in (number_groups (pos 0) (pos most_demand) n words)
-group_nodes in_space NodePotentialPart n words = nodes_in (number_groups (neg_ℤ (pos most_potential)) (pos most_potential) n words)
+group_nodes in_space NodePotentialPart n words =
+    nodes_in (number_groups (neg_ℤ (pos most_potential)) (pos most_potential) n words)
 group_nodes in_space RowPotentialPart n words = nodes_in (number_groups (neg_ℤ (pos most_potential)) (pos most_potential) n words)
-group_nodes in_space ColumnPotentialPart n words = nodes_in (number_groups (neg_ℤ (pos most_potential)) (pos most_potential) n words)
+group_nodes in_space ColumnPotentialPart n words =
+    nodes_in (number_groups (neg_ℤ (pos most_potential)) (pos most_potential) n words)
 group_nodes in_space field n words = []
 
 -- the nodes are 1..n, each once, in any order

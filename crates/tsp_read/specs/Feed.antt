@@ -51,8 +51,8 @@ refused_by (Refused found) = Some found
 abbrev pub refusal : Feed → Option ReadFault
 refusal feed = refused_by feed.stage
 
--- With these the bytes so far: nothing of them that is settled has a fault, or they have this settled fault. Want of memory is no answer for
--- blanks and line ends alone.
+-- With these the bytes so far: nothing of them that is settled has a fault, or they have this settled fault. Want of memory
+-- is no answer for blanks and line ends alone.
 abbrev pub Feeds : List ℕ → Feed → Result (Unit {0}) ReadFault → Type 0
 Feeds bytes new (Ok done) = HasTaken new bytes × (settled_fault bytes ≡ None)
 Feeds bytes new (Err (faults.Line line word found)) = HasTaken new bytes × HasSettled (faults.Line line word found) bytes

@@ -15,7 +15,8 @@ Finishes items (Ok file) = IsClean items × (fault_at_end items ≡ None) × (fi
 Finishes items (Err faults.Memory) = Unit {0}
 Finishes items (Err (faults.End fault)) = IsClean items × (fault_at_end items ≡ Some fault)
 
--- The file of these fields, with this first section that is incomplete, or the fault of the end table. (A draft that was read is never refused.)
+-- The file of these fields, with this first section that is incomplete, or the fault of the end table. (A draft that was read
+-- is never refused.)
 abbrev pub FileOf : Fields → Option Field → Result Fields FinishFault → Type 0
 FileOf fields incomplete (Ok file) = (end_fault (standing_of fields) incomplete ≡ None) × (file ≡ fields)
 FileOf fields incomplete (Err faults.Memory) = ⊥

@@ -43,10 +43,12 @@ pub record IsFedFrom (turn : Turn) (feed : Feed) : Type 0 where
 
 abbrev pub FeedsAll : (List ℕ → Turn) → Feed → Result (Unit {0}) ReadFault → Type 0
 FeedsAll turn feed (Ok done) = TakesAtMost most_taken turn (λ whole. IsFedFrom whole feed)
-FeedsAll turn feed (Err found) = TakesAtMost most_taken turn (λ whole. StopsAt found whole × IsTimely whole.given × HasCause found whole.given)
+FeedsAll turn feed (Err found) =
+    TakesAtMost most_taken turn (λ whole. StopsAt found whole × IsTimely whole.given × HasCause found whole.given)
 
 -- What is answered for a reader, of which no more was taken than was needed; memory is wanted only for more than blanks and line
 -- ends.
 abbrev pub ReadsInTime : (List ℕ → Turn) → Result Fields ReadFault → Type 0
 ReadsInTime turn (Ok file) = TakesAtMost most_taken turn (λ whole. IsFile whole file × IsTimely whole.given)
-ReadsInTime turn (Err found) = TakesAtMost most_taken turn (λ whole. StopsAt found whole × IsTimely whole.given × HasCause found whole.given)
+ReadsInTime turn (Err found) =
+    TakesAtMost most_taken turn (λ whole. StopsAt found whole × IsTimely whole.given × HasCause found whole.given)

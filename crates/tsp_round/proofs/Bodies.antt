@@ -41,13 +41,15 @@ coordinate_plain z inside =
     spelling_plain z (omega (arith, small))
 
 pub points_written : (n : ℕ) → n < 2 ^ 32 → (i : ℕ) (xs : List Point) → i + length xs ≤ n → list_all (is_point false) xs ≡ true
-    → WritesWords (flat_map (λ (entry : ℕ × Point). number_line (decimal entry.0) (spelling entry.1.x ∷ spelling entry.1.y ∷ [])) (enumerate_from (i + 1) xs)) (flat_map point_entry (enumerate_from (i + 1) xs))
+    → WritesWords (flat_map (λ (entry : ℕ × Point). number_line (decimal entry.0) (spelling entry.1.x ∷ spelling entry.1.y ∷ [])) (enumerate_from (i + 1) xs))
+    (flat_map point_entry (enumerate_from (i + 1) xs))
 points_written n few i [] room all = no_words_written
 points_written n few i (p ∷ xs) room all =
     let both = and_parts (is_point false p) (list_all (is_point false) xs) all in
     let flat = and_parts (is_within most_coordinate p.x && is_within most_coordinate p.y) (int_eq p.z (pos 0)) both.0 in
     let inside = and_parts (is_within most_coordinate p.x) (is_within most_coordinate p.y) flat.0 in
-    both_words (number_line (decimal (i + 1)) (spelling p.x ∷ spelling p.y ∷ [])) (flat_map (λ (entry : ℕ × Point). number_line (decimal entry.0) (spelling entry.1.x ∷ spelling entry.1.y ∷ [])) (enumerate_from (i + 1 + 1) xs))
+    both_words (number_line (decimal (i + 1)) (spelling p.x ∷ spelling p.y ∷ []))
+    (flat_map (λ (entry : ℕ × Point). number_line (decimal entry.0) (spelling entry.1.x ∷ spelling entry.1.y ∷ [])) (enumerate_from (i + 1 + 1) xs))
     (point_entry (i + 1, p)) (flat_map point_entry (enumerate_from (i + 1 + 1) xs))
     (number_line_written (decimal (i + 1)) (spelling p.x ∷ spelling p.y ∷ []) (decimal_plain (i + 1) (omega arith))
     (and_from (is_plain_word (spelling p.x)) (list_all is_plain_word (spelling p.y ∷ [])) (coordinate_plain p.x inside.0) (one_plain (spelling p.y) (coordinate_plain p.y inside.1))))

@@ -107,7 +107,8 @@ numbers_taken laws low high small n few earlier i (z ∷ xs) whole nodes count r
     let one = length_push earlier a in
     let two = length_push (earlier ++ a ∷ []) b in
     let next : place_of_number low high n (earlier ++ a ∷ []) ≡ Amount low high =
-    ap (λ t. cond t PastGroups (place_in_group (Amount low high) (nodes_in (number_groups low high n (earlier ++ a ∷ []))) (begun_pair (earlier ++ a ∷ [])))) (lt-leb (2 * n) (length (earlier ++ a ∷ [])) (omega arith))
+    ap (λ t. cond t PastGroups (place_in_group (Amount low high) (nodes_in (number_groups low high n (earlier ++ a ∷ []))) (begun_pair (earlier ++ a ∷ []))))
+    (lt-leb (2 * n) (length (earlier ++ a ∷ [])) (omega arith))
     ∙ ap (place_in_group (Amount low high) (nodes_in (number_groups low high n (earlier ++ a ∷ [])))) first in
     let f : List ℕ × List ℕ → ℤ = λ pair. number (node n pair.0) in
     let nodes_more : map f (pairs_in ((earlier ++ a ∷ []) ++ b ∷ [])) ≡ map pos (range_with_len 1 (i + 1)) =
@@ -120,7 +121,8 @@ numbers_taken laws low high small n few earlier i (z ∷ xs) whole nodes count r
           (ap (λ (r : Result ℤ NumberFault). list_any (λ e. reads_as e r) (map pos (range_with_len 1 i))) (node_back laws n (i + 1) few is) ∙ new_node (i + 1) 1 i (omega arith)) refl refl refl,
       (
         ap (λ p. word_fault n p b) next
-            ∙ no_rows (result_err (whole_of b low high)) false false false false (ap (λ (r : Result ℤ NumberFault). result_err r) (laws.whole_back z low high (small z both.0) both.0)) refl refl refl refl,
+            ∙ no_rows (result_err (whole_of b low high)) false false false false
+            (ap (λ (r : Result ℤ NumberFault). result_err r) (laws.whole_back z low high (small z both.0) both.0)) refl refl refl refl,
         numbers_taken laws low high small n few ((earlier ++ a ∷ []) ++ b ∷ []) (i + 1) xs (begun_end (earlier ++ a ∷ []) a b first) nodes_more (omega arith) (omega arith) both.1,
       ),
     )
@@ -144,5 +146,6 @@ pub numbers_back : NumberLaws → (low high : ℤ) → AreSmall low high → (n 
 numbers_back laws low high small n few xs count all =
     let words = flat_map number_entry (enumerate_from 1 xs) in
     by_node_back (pos 0) n xs (number_groups low high n words) count
-    (ap (λ (ws : List (List ℕ)). map (λ (group : List ℕ × List ℕ). (number (node n group.0), number (whole_of group.1 low high))) (pairs_in ws)) (take_all (2 * n) words (omega (arith, count_of_numbers 1 xs)))
+    (ap (λ (ws : List (List ℕ)). map (λ (group : List ℕ × List ℕ). (number (node n group.0), number (whole_of group.1 low high))) (pairs_in ws))
+    (take_all (2 * n) words (omega (arith, count_of_numbers 1 xs)))
     ∙ groups_back laws low high small n few 0 xs (omega arith) all)

@@ -62,7 +62,8 @@ part_is bytes items short items_are no_end =
 
 spelled_by : (bytes : List ℕ) (f : Fields) (items : List Item) → is_too_long bytes ≡ false → part bytes ≡ items → IsClean items → fault_at_end items ≡ None → spelled items ≡ f → Spells bytes f
 spelled_by bytes f items short part_are clean at_end spelled_are = record {
-  no_fault = ap (λ (all : List Item). first_row (fault_in all ∷ when (is_too_long bytes && not (has_end_line all)) faults.TooLong ∷ option_map (λ fault. faults.End fault) (fault_at_end all) ∷ [])) part_are
+  no_fault = ap (λ (all : List Item). first_row (fault_in all ∷ when (is_too_long bytes && not (has_end_line all)) faults.TooLong
+      ∷ option_map (λ fault. faults.End fault) (fault_at_end all) ∷ [])) part_are
       ∙ ap (λ b. first_row (fault_in items ∷ when (b && not (has_end_line items)) faults.TooLong ∷ option_map (λ fault. faults.End fault) (fault_at_end items) ∷ [])) short
       ∙ ap (λ (found : Option ReadFault). first_row (found ∷ None ∷ option_map (λ fault. faults.End fault) (fault_at_end items) ∷ [])) clean
       ∙ ap (λ (found : Option EndFault). first_row (None ∷ None ∷ option_map (λ fault. faults.End fault) found ∷ [])) at_end;

@@ -82,7 +82,8 @@ record IsKey (f : Fields) (field : Field) : Type 0 where
   no_comment : same_field CommentKey field ≡ false
   no_other : same_field OtherKey field ≡ false
 
-line_step : {A : Type 0} (f : Fields) (field : Field) (text : A → List ℕ) (o : Option A) (earlier : List Item) → text_of_field f field ≡ optional (λ x. keyword_line field (text x)) o → value_of f field ≡ option_map text o
+line_step : {A : Type 0} (f : Fields) (field : Field) (text : A → List ℕ) (o : Option A) (earlier : List Item)
+    → text_of_field f field ≡ optional (λ x. keyword_line field (text x)) o → value_of f field ≡ option_map text o
     → IsKey f field → (fits : A → Bool) → if_there fits o ≡ true
     → ((x : A) → fits x ≡ true → IsWhole (text x) × (row_of earlier (Line (Known field) (written_line (field_word field) (text x))) ≡ None))
     → Ready f field earlier → Step f (text_of_field f) field earlier

@@ -59,13 +59,15 @@ kept keyword value e =
 
 -- ---- the lines of NAME and of numbers
 
-pub name_row : (earlier : List Item) (value : List ℕ) → has_line NameKey earlier ≡ false → Kept (field_word NameKey) value → row_of earlier (Line (Known NameKey) (written_line (field_word NameKey) value)) ≡ None
+pub name_row : (earlier : List Item) (value : List ℕ) → has_line NameKey earlier ≡ false → Kept (field_word NameKey) value
+    → row_of earlier (Line (Known NameKey) (written_line (field_word NameKey) value)) ≡ None
 name_row earlier value unseen k =
     let short = k.short in
     let room = k.room in
     name_line_row earlier (written_line (field_word NameKey) value) unseen short room
   where
-    name_line_row : (earlier : List Item) (line : WordLine) → has_line NameKey earlier ≡ false → nat_lt most_line_bytes line.size ≡ false → is_too_long_to_keep line ≡ false → row_of earlier (Line (Known NameKey) line) ≡ None
+    name_line_row : (earlier : List Item) (line : WordLine) → has_line NameKey earlier ≡ false → nat_lt most_line_bytes line.size ≡ false
+        → is_too_long_to_keep line ≡ false → row_of earlier (Line (Known NameKey) line) ≡ None
     name_line_row earlier line unseen short room = rw (short, unseen, room) refl
 
 pub dimension_row : (earlier : List Item) (line : WordLine) → has_line DimensionKey earlier ≡ false → nat_lt most_line_bytes line.size ≡ false → is_filled line.value ≡ true
@@ -82,7 +84,8 @@ scale_row earlier line unseen short filled read = rw (short, unseen, filled, rea
 
 -- ---- comments
 
-comment_row : (earlier : List Item) (line : WordLine) → nat_lt most_line_bytes line.size ≡ false → is_too_long_to_keep line ≡ false → nat_le most_comments (length (values_at CommentKey earlier)) ≡ false
+comment_row : (earlier : List Item) (line : WordLine) → nat_lt most_line_bytes line.size ≡ false → is_too_long_to_keep line ≡ false
+    → nat_le most_comments (length (values_at CommentKey earlier)) ≡ false
     → row_of earlier (Line (Known CommentKey) line) ≡ None
 comment_row earlier line short room few = rw (short, room, few) refl
 
@@ -127,7 +130,8 @@ comments_run (value ∷ comments) earlier clean room all =
     let rest = comments_run comments next next_clean (omega (arith, count)) both.1 in
     record {
       items = Line (Known CommentKey) line ∷ LineEnd ∷ rest.items;
-      written = both_written (keyword_line CommentKey value) (flat_map (keyword_line CommentKey) comments) (Line (Known CommentKey) line ∷ LineEnd ∷ []) rest.items (value_written (field_word CommentKey) value comment_keyword k.whole) rest.written;
+      written = both_written (keyword_line CommentKey value) (flat_map (keyword_line CommentKey) comments) (Line (Known CommentKey) line ∷ LineEnd ∷ [])
+          rest.items (value_written (field_word CommentKey) value comment_keyword k.whole) rest.written;
       no_end = rest.no_end;
       clean = rest.clean;
       comments_are = rest.comments_are ∙ append_assoc (values_at CommentKey earlier) (value ∷ []) comments;

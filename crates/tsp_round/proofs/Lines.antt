@@ -85,7 +85,8 @@ line_found keyword value key whole =
     let found : keyword_in text ≡ keyword = keyword_is keyword value key.bytes in
     let after : after_keyword text ≡ 58 ∷ after_blank value = after_is keyword value key.bytes in
     let colon : has_colon text ≡ true = ap (begins is_colon) after in
-    let line : word_line text ≡ written_line keyword value = same_line (length text) (keyword_in text) keyword (has_colon text) (value_in text) value found colon (value_found text value after whole) in
+    let line : word_line text ≡ written_line keyword value =
+    same_line (length text) (keyword_in text) keyword (has_colon text) (value_in text) value found colon (value_found text value after whole) in
     ap (λ (word : List ℕ). Line (keyword_of word) (word_line text)) found ∙ ap (λ (l : WordLine). Line (keyword_of keyword) l) line
 
 letter_filled : (b : ℕ) → is_letter b ≡ true → is_blank b ≡ false

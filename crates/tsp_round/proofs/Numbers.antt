@@ -77,7 +77,8 @@ decimals_plain zero rest part = refl
 decimals_plain (suc places) rest part =
     let first : rest / 10 ^ places < 10 = div_below rest (10 ^ places) 10 (above_zero places) (omega (arith, pow-suc 10 places)) in
     let more = decimals_plain places (rest % 10 ^ places) (mod_below rest (10 ^ places) (above_zero places)) in
-    by_case (rest == 0) (and_from (is_plain (48 + rest / 10 ^ places)) (list_all is_plain (decimals places (rest % 10 ^ places))) (plain_range (48 + rest / 10 ^ places) (omega arith) (omega arith)) more)
+    by_case (rest == 0) (and_from (is_plain (48 + rest / 10 ^ places)) (list_all is_plain (decimals places (rest % 10 ^ places)))
+    (plain_range (48 + rest / 10 ^ places) (omega arith) (omega arith)) more)
   where
     by_case : (b : Bool) → list_all is_plain ((48 + rest / 10 ^ places) ∷ decimals places (rest % 10 ^ places)) ≡ true
         → list_all is_plain (cond b [] ((48 + rest / 10 ^ places) ∷ decimals places (rest % 10 ^ places))) ≡ true

@@ -79,7 +79,8 @@ word_added : (earlier : List Item) (word : List ℕ) (f : Field) → open_sectio
 word_added earlier word f opened = rw (opened, same_self f) refl
 
 -- the words of the open section
-pub section_words : (field : Field) (items earlier : List Item) → are_numbers items ≡ true → open_section earlier ≡ Some field → words_of field (onto items earlier) ≡ words_of field earlier ++ number_words items
+pub section_words : (field : Field) (items earlier : List Item) → are_numbers items ≡ true → open_section earlier ≡ Some field
+    → words_of field (onto items earlier) ≡ words_of field earlier ++ number_words items
 section_words field [] earlier numbers opened = sym (append-nil (words_of field earlier))
 section_words field (Line key line ∷ items) earlier numbers opened = absurd (false≢true numbers)
 section_words field (NumberWord word ∷ items) earlier numbers opened =

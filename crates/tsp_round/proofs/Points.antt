@@ -44,7 +44,8 @@ nodes_are n words few =
 place_here : (n : ℕ) (words : List (List ℕ)) → length words + 1 ≤ 3 * n → place_of_point n words ≡ place_in_group Coordinate (nodes_in (point_groups n words)) (begun_triple words)
 place_here n words room = ap (λ t. cond t PastGroups (place_in_group Coordinate (nodes_in (point_groups n words)) (begun_triple words))) (lt-leb (3 * n) (length words) (omega arith))
 
-coordinate_taken : NumberLaws → (n : ℕ) (words : List (List ℕ)) (first : List ℕ) (begun : List (List ℕ)) (z : ℤ) → length words + 1 ≤ 3 * n → begun_triple words ≡ first ∷ begun → is_within most_coordinate z ≡ true
+coordinate_taken : NumberLaws → (n : ℕ) (words : List (List ℕ)) (first : List ℕ) (begun : List (List ℕ)) (z : ℤ) → length words + 1 ≤ 3 * n
+    → begun_triple words ≡ first ∷ begun → is_within most_coordinate z ≡ true
     → word_fault n (place_of_point n words) (spelling z) ≡ None
 coordinate_taken laws n words first begun z room whole inside =
     ap (λ p. word_fault n p (spelling z)) (place_here n words room ∙ ap (place_in_group Coordinate (nodes_in (point_groups n words))) whole)
@@ -74,7 +75,8 @@ points_taken laws n few earlier i (p ∷ xs) whole nodes count room all =
     let three = length_push w2 c in
     let f : List ℕ × List ℕ × List ℕ → ℤ = λ group. number (node n group.0) in
     let nodes_more : map f (triples_in w3) ≡ map pos (range_with_len 1 (i + 1)) =
-    ap (map f) (triples_end w2 a b c second ∙ ap (λ (ts : List (List ℕ × List ℕ × List ℕ)). ts ++ (a, b, c) ∷ []) (triples_middle w1 a b first ∙ triples_begin earlier a whole)) ∙ map-append f (triples_in earlier) ((a, b, c) ∷ [])
+    ap (map f) (triples_end w2 a b c second ∙ ap (λ (ts : List (List ℕ × List ℕ × List ℕ)). ts ++ (a, b, c) ∷ [])
+    (triples_middle w1 a b first ∙ triples_begin earlier a whole)) ∙ map-append f (triples_in earlier) ((a, b, c) ∷ [])
     ∙ ap (λ (zs : List ℤ). zs ++ number (node n a) ∷ []) nodes ∙ ap (λ r. map pos (range_with_len 1 i) ++ number r ∷ []) (node_back laws n (i + 1) few is)
     ∙ sym (map-range_with_len_more pos 1 i (i + 1) (omega arith)) in (
       ap (λ p. word_fault n p a) here
@@ -108,12 +110,14 @@ groups_back laws n few i (p ∷ xs) room all =
     let inside = and_parts (is_within most_coordinate p.x) (is_within most_coordinate p.y) flat.0 in
     let rest : List (ℤ × Point) = map (λ (group : List ℕ × List ℕ × List ℕ). (number (node n group.0), point_of group.1 group.2)) (triples_in (flat_map point_entry (enumerate_from (i + 1 + 1) xs))) in
     ap (λ r. (number r, point_of (spelling p.x) (spelling p.y)) ∷ rest) (node_back laws n (i + 1) few (one_node n i (omega arith)))
-    ∙ ap (λ (q : Point). (pos (i + 1), q) ∷ rest) (same_point p (number (decimal_of (spelling p.x))) (number (decimal_of (spelling p.y))) (ap number (coordinate_back laws p.x inside.0)) (ap number (coordinate_back laws p.y inside.1)) ((Decides-int_eq p.z (pos 0)).0 flat.1))
+    ∙ ap (λ (q : Point). (pos (i + 1), q) ∷ rest) (same_point p (number (decimal_of (spelling p.x))) (number (decimal_of (spelling p.y)))
+    (ap number (coordinate_back laws p.x inside.0)) (ap number (coordinate_back laws p.y inside.1)) ((Decides-int_eq p.z (pos 0)).0 flat.1))
     ∙ ap (λ (gs : List (ℤ × Point)). (pos (i + 1), p) ∷ gs) (groups_back laws n few (i + 1) xs (omega arith) both.1)
 
 pub points_back : NumberLaws → (n : ℕ) → n < 2 ^ 32 → (xs : List Point) → length xs ≡ n → list_all (is_point false) xs ≡ true → points_by_node n (flat_map point_entry (enumerate_from 1 xs)) ≡ xs
 points_back laws n few xs count all =
     let words = flat_map point_entry (enumerate_from 1 xs) in
     by_node_back origin n xs (point_groups n words) count
-    (ap (λ (ws : List (List ℕ)). map (λ (group : List ℕ × List ℕ × List ℕ). (number (node n group.0), point_of group.1 group.2)) (triples_in ws)) (take_all (3 * n) words (omega (arith, count_of_points 1 xs)))
+    (ap (λ (ws : List (List ℕ)). map (λ (group : List ℕ × List ℕ × List ℕ). (number (node n group.0), point_of group.1 group.2)) (triples_in ws))
+    (take_all (3 * n) words (omega (arith, count_of_points 1 xs)))
     ∙ groups_back laws n few 0 xs (omega arith) all)

@@ -37,7 +37,8 @@ prefix_all p (x ∷ xs) all =
 pub only_word : (word : List ℕ) → is_plain_word word ≡ true → first_word word ≡ word
 only_word word plain = take_all (prefix_len (λ b. not (is_blank b)) word) word (omega (arith, prefix_all (λ b. not (is_blank b)) word (unblank word plain)))
 
-pub dimension_back : NumberLaws → (n : ℕ) → is_node most_nodes n ≡ true → option_map nat_abs (option_and_then (λ value. option_and_then result_ok (read_as DimensionKey value)) (Some (decimal n))) ≡ Some n
+pub dimension_back : NumberLaws → (n : ℕ) → is_node most_nodes n ≡ true
+    → option_map nat_abs (option_and_then (λ value. option_and_then result_ok (read_as DimensionKey value)) (Some (decimal n))) ≡ Some n
 dimension_back laws n is =
     let few = leb-true n most_nodes (and_parts (nat_le 1 n) (nat_le n most_nodes) is).1 in
     ap (λ (word : List ℕ). option_map nat_abs (result_ok (whole_of word (pos 1) (pos most_nodes)))) (only_word (decimal n) (decimal_plain n (omega arith)))

@@ -39,7 +39,8 @@ nodes_are n words few =
 place_here : (n : ℕ) (words : List (List ℕ)) → length words + 1 ≤ 4 * n → place_of_space_point n words ≡ place_in_group Coordinate (nodes_in (space_point_groups n words)) (begun_four words)
 place_here n words room = ap (λ t. cond t PastGroups (place_in_group Coordinate (nodes_in (space_point_groups n words)) (begun_four words))) (lt-leb (4 * n) (length words) (omega arith))
 
-coordinate_taken : NumberLaws → (n : ℕ) (words : List (List ℕ)) (first : List ℕ) (begun : List (List ℕ)) (z : ℤ) → length words + 1 ≤ 4 * n → begun_four words ≡ first ∷ begun → is_within most_coordinate z ≡ true
+coordinate_taken : NumberLaws → (n : ℕ) (words : List (List ℕ)) (first : List ℕ) (begun : List (List ℕ)) (z : ℤ) → length words + 1 ≤ 4 * n
+    → begun_four words ≡ first ∷ begun → is_within most_coordinate z ≡ true
     → word_fault n (place_of_space_point n words) (spelling z) ≡ None
 coordinate_taken laws n words first begun z room whole inside =
     ap (λ p. word_fault n p (spelling z)) (place_here n words room ∙ ap (place_in_group Coordinate (nodes_in (space_point_groups n words))) whole)
@@ -111,16 +112,19 @@ space_groups_back laws n few i (p ∷ xs) room all =
     let both = and_parts (is_point true p) (list_all (is_point true) xs) all in
     let flat = and_parts (is_within most_coordinate p.x && is_within most_coordinate p.y) (is_within most_coordinate p.z) both.0 in
     let inside = and_parts (is_within most_coordinate p.x) (is_within most_coordinate p.y) flat.0 in
-    let rest : List (ℤ × Point) = map (λ (group : List ℕ × List ℕ × List ℕ × List ℕ). (number (node n group.0), space_point_of group.1 group.2 group.3)) (fours_in (flat_map space_point_entry (enumerate_from (i + 1 + 1) xs))) in
+    let rest : List (ℤ × Point) = map (λ (group : List ℕ × List ℕ × List ℕ × List ℕ). (number (node n group.0), space_point_of group.1 group.2 group.3))
+    (fours_in (flat_map space_point_entry (enumerate_from (i + 1 + 1) xs))) in
     ap (λ r. (number r, space_point_of (spelling p.x) (spelling p.y) (spelling p.z)) ∷ rest) (node_back laws n (i + 1) few (one_node n i (omega arith)))
     ∙ ap (λ (q : Point). (pos (i + 1), q) ∷ rest) (same_point p (number (decimal_of (spelling p.x))) (number (decimal_of (spelling p.y)))
     (number (decimal_of (spelling p.z))) (ap number (coordinate_back laws p.x inside.0)) (ap number (coordinate_back laws p.y inside.1))
     (ap number (coordinate_back laws p.z flat.1)))
     ∙ ap (λ (gs : List (ℤ × Point)). (pos (i + 1), p) ∷ gs) (space_groups_back laws n few (i + 1) xs (omega arith) both.1)
 
-pub space_points_back : NumberLaws → (n : ℕ) → n < 2 ^ 32 → (xs : List Point) → length xs ≡ n → list_all (is_point true) xs ≡ true → space_points_by_node n (flat_map space_point_entry (enumerate_from 1 xs)) ≡ xs
+pub space_points_back : NumberLaws → (n : ℕ) → n < 2 ^ 32 → (xs : List Point) → length xs ≡ n → list_all (is_point true) xs ≡ true
+    → space_points_by_node n (flat_map space_point_entry (enumerate_from 1 xs)) ≡ xs
 space_points_back laws n few xs count all =
     let words = flat_map space_point_entry (enumerate_from 1 xs) in
     by_node_back origin n xs (space_point_groups n words) count
-    (ap (λ (ws : List (List ℕ)). map (λ (group : List ℕ × List ℕ × List ℕ × List ℕ). (number (node n group.0), space_point_of group.1 group.2 group.3)) (fours_in ws)) (take_all (4 * n) words (omega (arith, count_of_space_points 1 xs)))
+    (ap (λ (ws : List (List ℕ)). map (λ (group : List ℕ × List ℕ × List ℕ × List ℕ). (number (node n group.0), space_point_of group.1 group.2 group.3))
+    (fours_in ws)) (take_all (4 * n) words (omega (arith, count_of_space_points 1 xs)))
     ∙ space_groups_back laws n few 0 xs (omega arith) all)

@@ -95,7 +95,8 @@ carried {X} blank whole field left g old new gone was is = by_case (same_field g
         ∙ subst (λ (h : Field). whole field ≡ cond (is_left h left) blank (whole h)) (sym (same_field_is g field e)) (sym (ap (λ t. cond t blank (whole field)) gone))
     by_case false e = is ∙ ap (λ t. cond t (whole field) old) e ∙ was ∙ ap (λ t. cond (t || is_left g left) blank (whole g)) e
 
-next_stage : (f : Fields) (field : Field) (left : List Field) (earlier later : List Item) → is_left field left ≡ false → Stage f (field ∷ left) earlier → Adds f field earlier later → Stage f left later
+next_stage : (f : Fields) (field : Field) (left : List Field) (earlier later : List Item) → is_left field left ≡ false → Stage f (field ∷ left) earlier
+    → Adds f field earlier later → Stage f left later
 next_stage f field left earlier later gone stage adds = record {
   clean = adds.clean;
   values = λ g once. carried None (value_of f) field left g (value_at g earlier) (value_at g later) gone (stage.values g once) (adds.values g once);

@@ -56,7 +56,8 @@ key_line f text field value earlier known text_is key_is key whole value_is no_w
         values = λ g again. ap (λ (v : Option (List ℕ)). cond (same_field g field) v (value_at g earlier)) (sym value_is);
         words = λ g. kept_blank (same_field g field) (words_written f field) (words_of g earlier)
             (λ same. ap (λ (h : Field). words_of h earlier) (same_field_is g field same) ∙ known.no_words ∙ sym no_word);
-        comments = ap (λ b. cond b (values_at CommentKey earlier ++ value ∷ []) (values_at CommentKey earlier)) no_comment ∙ sym (ap (λ b. cond b f.comments (values_at CommentKey earlier)) no_comment);
+        comments = ap (λ b. cond b (values_at CommentKey earlier ++ value ∷ []) (values_at CommentKey earlier)) no_comment
+            ∙ sym (ap (λ b. cond b f.comments (values_at CommentKey earlier)) no_comment);
         others = sym (ap (λ b. cond b f.others (others_in earlier)) no_other);
       };
     }

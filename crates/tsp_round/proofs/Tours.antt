@@ -55,7 +55,8 @@ tour_taken laws n earlier (k ∷ tour) room all =
       tour_taken laws n (earlier ++ decimal k ∷ []) tour (omega (arith, count)) both.1,
     )
 
-tour_count : NumberLaws → (earlier : List (List ℕ)) (tour : List ℕ) → list_all (is_node most_nodes) tour ≡ true → length (nodes_among (earlier ++ tour_words tour)) ≡ length (nodes_among earlier) + length tour
+tour_count : NumberLaws → (earlier : List (List ℕ)) (tour : List ℕ) → list_all (is_node most_nodes) tour ≡ true
+    → length (nodes_among (earlier ++ tour_words tour)) ≡ length (nodes_among earlier) + length tour
 tour_count laws earlier [] all =
     ap length (filter-append (λ word. not (ends_tour word)) earlier (codes "-1" ∷ []))
     ∙ ap (λ b. length (nodes_among earlier ++ cond (not b) (codes "-1" ∷ []) [])) (end_ends laws most_nodes)
@@ -98,6 +99,7 @@ tours_back laws (tour ∷ tours) all =
     let parts = and_parts (nat_le 1 (length tour)) (list_all (is_node most_nodes) tour) both.0 in
     let rest = flat_map tour_words tours in
     ap (λ (ws : List (List ℕ)). map (map tour_node) (filter is_filled (slice_split ends_tour ws))) (append_assoc (map decimal tour) (codes "-1" ∷ []) rest)
-    ∙ ap (λ (pieces : List (List (List ℕ))). map (map tour_node) (filter is_filled pieces)) (split_at ends_tour (map decimal tour) (codes "-1") rest (none_ends laws tour parts.1) (end_ends laws most_nodes))
+    ∙ ap (λ (pieces : List (List (List ℕ))). map (map tour_node) (filter is_filled pieces))
+    (split_at ends_tour (map decimal tour) (codes "-1") rest (none_ends laws tour parts.1) (end_ends laws most_nodes))
     ∙ ap (λ b. map (map tour_node) (cond b (map decimal tour ∷ filter is_filled (slice_split ends_tour rest)) (filter is_filled (slice_split ends_tour rest)))) (filled_tour tour parts.0)
     ∙ ap (λ (t : List ℕ). t ∷ tours_in rest) (nodes_back laws tour parts.1) ∙ ap (λ (ts : List (List ℕ)). tour ∷ ts) (tours_back laws tours both.1)

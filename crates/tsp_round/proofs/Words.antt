@@ -82,7 +82,8 @@ weight_kind_back weight_kinds.Max3d = refl
 
 -- ---- EdgeWeightFormatKey
 
-pub weight_format_row : (earlier : List Item) (value : WeightFormat) → has_line EdgeWeightFormatKey earlier ≡ false → row_of earlier (Line (Known EdgeWeightFormatKey) (written_line (field_word EdgeWeightFormatKey) (weight_format_word value))) ≡ None
+pub weight_format_row : (earlier : List Item) (value : WeightFormat) → has_line EdgeWeightFormatKey earlier ≡ false
+    → row_of earlier (Line (Known EdgeWeightFormatKey) (written_line (field_word EdgeWeightFormatKey) (weight_format_word value))) ≡ None
 weight_format_row earlier formats.ByFunction unseen = rw unseen refl
 weight_format_row earlier (formats.Listed layouts.FullMatrix) unseen = rw unseen refl
 weight_format_row earlier (formats.Listed layouts.UpperRow) unseen = rw unseen refl
@@ -138,7 +139,8 @@ coord_kind_back coord_kinds.NoCoords = refl
 
 -- ---- DisplayDataTypeKey
 
-pub display_kind_row : (earlier : List Item) (value : DisplayKind) → has_line DisplayDataTypeKey earlier ≡ false → row_of earlier (Line (Known DisplayDataTypeKey) (written_line (field_word DisplayDataTypeKey) (display_kind_word value))) ≡ None
+pub display_kind_row : (earlier : List Item) (value : DisplayKind) → has_line DisplayDataTypeKey earlier ≡ false
+    → row_of earlier (Line (Known DisplayDataTypeKey) (written_line (field_word DisplayDataTypeKey) (display_kind_word value))) ≡ None
 display_kind_row earlier display_kinds.Coord unseen = rw unseen refl
 display_kind_row earlier display_kinds.TwoD unseen = rw unseen refl
 display_kind_row earlier display_kinds.NoDisplay unseen = rw unseen refl

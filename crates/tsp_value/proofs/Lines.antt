@@ -11,7 +11,8 @@ filter-flat_map : {X Y : Type 0} (p : Y → Bool) (f : X → List Y) (xs : List 
 filter-flat_map p f [] = refl
 filter-flat_map p f (x ∷ xs) = filter-append p (f x) (flat_map f xs) ∙ ap (λ ys. filter p (f x) ++ ys) (filter-flat_map p f xs)
 
-by_order : {X Y : Type 0} (p : Y → Bool) (order : Bool) (f g : X → List Y) (xs : List X) → filter p (if order then flat_map f xs else flat_map g xs) ≡ flat_map (λ x. filter p (if order then f x else g x)) xs
+by_order : {X Y : Type 0} (p : Y → Bool) (order : Bool) (f g : X → List Y) (xs : List X)
+    → filter p (if order then flat_map f xs else flat_map g xs) ≡ flat_map (λ x. filter p (if order then f x else g x)) xs
 by_order p true f g xs = filter-flat_map p f xs
 by_order p false f g xs = filter-flat_map p g xs
 

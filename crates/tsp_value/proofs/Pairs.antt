@@ -86,7 +86,8 @@ pub cell_is : (layout : Layout) (n i j : ℕ) → Contains (cells layout n) (i, 
 unfolding cells
 cell_is layout n i j = (
   λ h.
-      let in_range : IsPair n (i, j) = All-contains (IsPair n) (cells layout n) (i, j) (All-filter (is_listed layout) (IsPair n) (pairs (goes_by_columns layout) n) (all_pairs (goes_by_columns layout) n)) h in
+      let in_range : IsPair n (i, j) = All-contains (IsPair n) (cells layout n) (i, j)
+      (All-filter (is_listed layout) (IsPair n) (pairs (goes_by_columns layout) n) (all_pairs (goes_by_columns layout) n)) h in
       let passes : is_listed layout (i, j) ≡ true = All-contains (λ c. is_listed layout c ≡ true) (cells layout n) (i, j) (filter_passes (is_listed layout) (pairs (goes_by_columns layout) n)) h in
       (in_range.0, in_range.1, passes),
   λ h.

@@ -112,14 +112,20 @@ first_of LowerDiagCol k = k
 line_is : (layout : Layout) (n k : ℕ) → 1 ≤ k → k ≤ n → cells_of_line layout n k ≡ map (pair_in layout k) (range_with_len (first_of layout k) (line_len_of layout n k))
 unfolding cells_of_line nodes_to
 line_is FullMatrix n k low high = filter-map (is_listed FullMatrix) (λ j. (k, j)) (range_with_len 1 n) ∙ ap (map (λ j. (k, j))) (all_pass (range_with_len 1 n))
-line_is UpperRow n k low high = filter-map (is_listed UpperRow) (λ j. (k, j)) (range_with_len 1 n) ∙ ap (map (λ j. (k, j))) (from_on (suc k) 1 n ∙ runs_same (max 1 (suc k)) (k + 1) (n - (suc k - 1)) (n - k) (omega arith) (omega arith))
+line_is UpperRow n k low high = filter-map (is_listed UpperRow) (λ j. (k, j)) (range_with_len 1 n)
+    ∙ ap (map (λ j. (k, j))) (from_on (suc k) 1 n ∙ runs_same (max 1 (suc k)) (k + 1) (n - (suc k - 1)) (n - k) (omega arith) (omega arith))
 line_is LowerRow n k low high = filter-map (is_listed LowerRow) (λ j. (k, j)) (range_with_len 1 n) ∙ ap (map (λ j. (k, j))) (under k 1 n ∙ runs_same 1 1 (min n (k - 1)) (k - 1) refl (omega arith))
-line_is UpperDiagRow n k low high = filter-map (is_listed UpperDiagRow) (λ j. (k, j)) (range_with_len 1 n) ∙ ap (map (λ j. (k, j))) (from_on k 1 n ∙ runs_same (max 1 k) k (n - (k - 1)) (n - k + 1) (omega arith) (omega arith))
-line_is LowerDiagRow n k low high = filter-map (is_listed LowerDiagRow) (λ j. (k, j)) (range_with_len 1 n) ∙ ap (map (λ j. (k, j))) (upto k 1 n ∙ runs_same 1 1 (min n (suc k - 1)) k refl (omega arith))
+line_is UpperDiagRow n k low high = filter-map (is_listed UpperDiagRow) (λ j. (k, j)) (range_with_len 1 n)
+    ∙ ap (map (λ j. (k, j))) (from_on k 1 n ∙ runs_same (max 1 k) k (n - (k - 1)) (n - k + 1) (omega arith) (omega arith))
+line_is LowerDiagRow n k low high = filter-map (is_listed LowerDiagRow) (λ j. (k, j)) (range_with_len 1 n)
+    ∙ ap (map (λ j. (k, j))) (upto k 1 n ∙ runs_same 1 1 (min n (suc k - 1)) k refl (omega arith))
 line_is UpperCol n k low high = filter-map (is_listed UpperCol) (λ i. (i, k)) (range_with_len 1 n) ∙ ap (map (λ i. (i, k))) (under k 1 n ∙ runs_same 1 1 (min n (k - 1)) (k - 1) refl (omega arith))
-line_is LowerCol n k low high = filter-map (is_listed LowerCol) (λ i. (i, k)) (range_with_len 1 n) ∙ ap (map (λ i. (i, k))) (from_on (suc k) 1 n ∙ runs_same (max 1 (suc k)) (k + 1) (n - (suc k - 1)) (n - k) (omega arith) (omega arith))
-line_is UpperDiagCol n k low high = filter-map (is_listed UpperDiagCol) (λ i. (i, k)) (range_with_len 1 n) ∙ ap (map (λ i. (i, k))) (upto k 1 n ∙ runs_same 1 1 (min n (suc k - 1)) k refl (omega arith))
-line_is LowerDiagCol n k low high = filter-map (is_listed LowerDiagCol) (λ i. (i, k)) (range_with_len 1 n) ∙ ap (map (λ i. (i, k))) (from_on k 1 n ∙ runs_same (max 1 k) k (n - (k - 1)) (n - k + 1) (omega arith) (omega arith))
+line_is LowerCol n k low high = filter-map (is_listed LowerCol) (λ i. (i, k)) (range_with_len 1 n)
+    ∙ ap (map (λ i. (i, k))) (from_on (suc k) 1 n ∙ runs_same (max 1 (suc k)) (k + 1) (n - (suc k - 1)) (n - k) (omega arith) (omega arith))
+line_is UpperDiagCol n k low high = filter-map (is_listed UpperDiagCol) (λ i. (i, k)) (range_with_len 1 n)
+    ∙ ap (map (λ i. (i, k))) (upto k 1 n ∙ runs_same 1 1 (min n (suc k - 1)) k refl (omega arith))
+line_is LowerDiagCol n k low high = filter-map (is_listed LowerDiagCol) (λ i. (i, k)) (range_with_len 1 n)
+    ∙ ap (map (λ i. (i, k))) (from_on k 1 n ∙ runs_same (max 1 k) k (n - (k - 1)) (n - k + 1) (omega arith) (omega arith))
 
 pub line_at : (layout : Layout) (n k at : ℕ) (d : ℕ × ℕ) → 1 ≤ k → k ≤ n → at < line_len_of layout n k → get_or (cells_of_line layout n k) at d ≡ pair_in layout k (first_of layout k + at)
 line_at layout n k at d low high lt =
@@ -148,7 +154,8 @@ module _ {X : Type 0} (line : ℕ → List X) (before : ℕ → ℕ) (n : ℕ) (
       let inside : p < length (line a) = omega arith in
       (omega (arith, length-append (line a) rest), get_or_append_left (line a) rest d p inside ∙ ap (λ i. get_or (line a) i d) same)
 
-  at_later : (a m p : ℕ) (d x : X) → length (line a) ≤ p → (p - length (line a) < length (flat_map line (range_with_len (a + 1) m))) × (get_or (flat_map line (range_with_len (a + 1) m)) (p - length (line a)) d ≡ x)
+  at_later : (a m p : ℕ) (d x : X) → length (line a) ≤ p → (p - length (line a) < length (flat_map line (range_with_len (a + 1) m)))
+      × (get_or (flat_map line (range_with_len (a + 1) m)) (p - length (line a)) d ≡ x)
       → (p < length (line a ++ flat_map line (range_with_len (a + 1) m))) × (get_or (line a ++ flat_map line (range_with_len (a + 1) m)) p d ≡ x)
   at_later a m p d x past there =
       let rest = flat_map line (range_with_len (a + 1) m) in
@@ -305,7 +312,8 @@ cell_at : (layout : Layout) (n k at : ℕ) (d : ℕ × ℕ) → 1 ≤ k → k �
 unfolding nodes_to
 cell_at layout n k at d low high lt =
     let inside : at < length (cells_of_line layout n k) = omega (arith, lt, line_counted layout n k low high) in
-    let found = lines_at (cells_of_line layout n) (before layout n) n (steps layout n) 1 n k at (before layout n k + at) d (omega arith) (omega arith) low high inside (omega (arith, before_first layout n)) in
+    let found = lines_at (cells_of_line layout n) (before layout n) n (steps layout n) 1 n k at (before layout n k + at) d (omega arith) (omega arith) low high
+    inside (omega (arith, before_first layout n)) in
     (omega (arith, found.0, ap length (cells-lines layout n)), ap (λ xs. get_or xs (before layout n k + at) d) (cells-lines layout n) ∙ found.1 ∙ line_at layout n k at d low high lt)
 
 -- ---- the first place of a pair

@@ -1,4 +1,5 @@
--- What the keyword of a line is. Source: TSPLIB 95 (G. Reinelt); which words are refused, kept or this project's own is its profile's choice.
+-- What the keyword of a line is. Source: TSPLIB 95 (G. Reinelt); which words are refused, kept or this project's own is its
+-- profile's choice.
 use Rattle.std.specs.Prelude.{ℕ, Bool, true, false, cond, List, Option, None, Some, codes}
 use Rattle.std.specs.List.{find}
 use Rattle.std.specs.Str.{bytes_eq}

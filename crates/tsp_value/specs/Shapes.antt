@@ -1,4 +1,5 @@
--- What the words of each section are: its shape. Source: TSPLIB 95 (G. Reinelt) for the sections; the ranges are this project's profile.
+-- What the words of each section are: its shape. Source: TSPLIB 95 (G. Reinelt) for the sections; the ranges are this
+-- project's profile.
 use Rattle.std.specs.Prelude.{Bool, false, cond, Option, None, Some, is_some, pos, neg_ℤ}
 use Rattle.tsp_value.specs.declared.field.Field.{Field}
 use Rattle.tsp_value.specs.declared.field.Field.TheVariants.{NodeCoordPart, DisplayDataPart, DemandPart, DepotPart, FixedEdgesPart, EdgeWeightPart, TourPart, NodePotentialPart, RowPotentialPart, ColumnPotentialPart, FixedPotentialPart}

@@ -1,4 +1,5 @@
--- When the points of a file's nodes have three coordinates. Source: NODE_COORD_TYPE and EDGE_WEIGHT_TYPE of TSPLIB 95 (G. Reinelt).
+-- When the points of a file's nodes have three coordinates. Source: NODE_COORD_TYPE and EDGE_WEIGHT_TYPE of TSPLIB 95 (G.
+-- Reinelt).
 use Rattle.std.specs.Prelude.{Bool, true, false, ◌||◌, Option}
 use Rattle.std.specs.Option.{option_map_or}
 use Rattle.tsp_value.specs.declared.kinds.CoordKind.{CoordKind}

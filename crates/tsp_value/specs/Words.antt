@@ -95,7 +95,8 @@ kind_found kind.Potentials = refl
 
 -- the values of EDGE_WEIGHT_TYPE
 abbrev pub weight_kinds : List WeightKind
-weight_kinds = weight_kind.Explicit ∷ weight_kind.Euc2d ∷ weight_kind.Ceil2d ∷ weight_kind.Man2d ∷ weight_kind.Max2d ∷ weight_kind.Att ∷ weight_kind.Euc3d ∷ weight_kind.Man3d ∷ weight_kind.Max3d ∷ []
+weight_kinds = weight_kind.Explicit ∷ weight_kind.Euc2d ∷ weight_kind.Ceil2d ∷ weight_kind.Man2d ∷ weight_kind.Max2d
+    ∷ weight_kind.Att ∷ weight_kind.Euc3d ∷ weight_kind.Man3d ∷ weight_kind.Max3d ∷ []
 
 pub weight_kind_found : (value : WeightKind) → IsFound weight_kind_word weight_kinds value
 weight_kind_found weight_kind.Explicit = refl
@@ -110,7 +111,8 @@ weight_kind_found weight_kind.Max3d = refl
 
 -- the layouts
 abbrev pub layouts : List Layout
-layouts = layout.FullMatrix ∷ layout.UpperRow ∷ layout.LowerRow ∷ layout.UpperDiagRow ∷ layout.LowerDiagRow ∷ layout.UpperCol ∷ layout.LowerCol ∷ layout.UpperDiagCol ∷ layout.LowerDiagCol ∷ []
+layouts = layout.FullMatrix ∷ layout.UpperRow ∷ layout.LowerRow ∷ layout.UpperDiagRow ∷ layout.LowerDiagRow ∷ layout.UpperCol
+    ∷ layout.LowerCol ∷ layout.UpperDiagCol ∷ layout.LowerDiagCol ∷ []
 
 pub layout_found : (value : Layout) → IsFound layout_word layouts value
 layout_found layout.FullMatrix = refl
@@ -125,7 +127,10 @@ layout_found layout.LowerDiagCol = refl
 
 -- the values of EDGE_WEIGHT_FORMAT
 abbrev pub weight_formats : List WeightFormat
-weight_formats = format.ByFunction ∷ (format.Listed layout.FullMatrix) ∷ (format.Listed layout.UpperRow) ∷ (format.Listed layout.LowerRow) ∷ (format.Listed layout.UpperDiagRow) ∷ (format.Listed layout.LowerDiagRow) ∷ (format.Listed layout.UpperCol) ∷ (format.Listed layout.LowerCol) ∷ (format.Listed layout.UpperDiagCol) ∷ (format.Listed layout.LowerDiagCol) ∷ []
+weight_formats = format.ByFunction ∷ (format.Listed layout.FullMatrix) ∷ (format.Listed layout.UpperRow)
+    ∷ (format.Listed layout.LowerRow) ∷ (format.Listed layout.UpperDiagRow) ∷ (format.Listed layout.LowerDiagRow)
+    ∷ (format.Listed layout.UpperCol) ∷ (format.Listed layout.LowerCol) ∷ (format.Listed layout.UpperDiagCol)
+    ∷ (format.Listed layout.LowerDiagCol) ∷ []
 
 pub weight_format_found : (value : WeightFormat) → IsFound weight_format_word weight_formats value
 weight_format_found format.ByFunction = refl
@@ -159,7 +164,11 @@ display_kind_found display_kind.NoDisplay = refl
 
 -- the fields in canonical order
 abbrev pub fields_in_order : List Field
-fields_in_order = field.NameKey ∷ field.TypeKey ∷ field.CommentKey ∷ field.OtherKey ∷ field.DimensionKey ∷ field.CapacityKey ∷ field.ScaleKey ∷ field.EdgeWeightTypeKey ∷ field.EdgeWeightFormatKey ∷ field.NodeCoordTypeKey ∷ field.DisplayDataTypeKey ∷ field.NodeCoordPart ∷ field.DisplayDataPart ∷ field.DemandPart ∷ field.DepotPart ∷ field.FixedEdgesPart ∷ field.EdgeWeightPart ∷ field.TourPart ∷ field.NodePotentialPart ∷ field.RowPotentialPart ∷ field.ColumnPotentialPart ∷ field.FixedPotentialPart ∷ []
+fields_in_order = field.NameKey ∷ field.TypeKey ∷ field.CommentKey ∷ field.OtherKey ∷ field.DimensionKey ∷ field.CapacityKey
+    ∷ field.ScaleKey ∷ field.EdgeWeightTypeKey ∷ field.EdgeWeightFormatKey ∷ field.NodeCoordTypeKey ∷ field.DisplayDataTypeKey
+    ∷ field.NodeCoordPart ∷ field.DisplayDataPart ∷ field.DemandPart ∷ field.DepotPart ∷ field.FixedEdgesPart
+    ∷ field.EdgeWeightPart ∷ field.TourPart ∷ field.NodePotentialPart ∷ field.RowPotentialPart ∷ field.ColumnPotentialPart
+    ∷ field.FixedPotentialPart ∷ []
 
 pub field_found : (value : Field) → IsFound field_word fields_in_order value
 field_found field.NameKey = refl

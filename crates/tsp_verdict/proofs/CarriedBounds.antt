@@ -66,7 +66,8 @@ keeps_on f m n a b same_count same keeps = record {
 
 -- the bound that a view's costs give is that of the certificate
 pub certified : (inst pot : Fields) (n : ℕ) (costs : ℕ → ℕ → ℤ) (scale : ℤ) (potentials : List ℤ) (triples : List (ℕ × ℕ × ℤ)) (bound : ℤ) → AdjustedBoundsBoundWalks
-    → triples ≡ multipliers_in pot → AreListed (fixed_of inst) (multipliers_in pot) → inst.kind ≡ Some kinds.Tsp → IsEven (cost inst) → 3 ≤ nodes_of inst → IsScale scale → scale ≡ scale_in pot → potentials ≡ potentials_in pot → length potentials ≡ nodes_of inst
+    → triples ≡ multipliers_in pot → AreListed (fixed_of inst) (multipliers_in pot) → inst.kind ≡ Some kinds.Tsp → IsEven (cost inst) → 3 ≤ nodes_of inst
+    → IsScale scale → scale ≡ scale_in pot → potentials ≡ potentials_in pot → length potentials ≡ nodes_of inst
     → Keeps inst n costs → IsAdjustedBound n costs scale potentials triples [] bound × IsBoundSized bound → IsCertified inst pot bound
 certified inst pot n costs scale potentials triples bound law triples_are listed kind even some scale_is scale_in_is potentials_are count keeps found =
     let same : nodes_of inst ≡ n = ap (λ o. unwrap_or o 0) keeps.count in
@@ -77,7 +78,8 @@ certified inst pot n costs scale potentials triples bound law triples_are listed
     let by_certificate : IsAdjustedBound (nodes_of inst) (cost inst) (scale_in pot) (potentials_in pot) (multipliers_in pot) [] bound =
     subst (λ ts. IsAdjustedBound (nodes_of inst) (cost inst) (scale_in pot) (potentials_in pot) ts [] bound) triples_are by_numbers in
     let walks : (nodes : List ℕ) → IsWalk (nodes_of inst) nodes → UsesEach (multipliers_in pot) nodes → bound ≤ℤ length_of (cost inst) nodes = λ nodes walk used.
-    law (nodes_of inst) (cost inst) scale potentials triples [] bound nodes some even scale_is count here walk (subst (λ ts. UsesEach ts nodes) (sym triples_are) used) (λ k d lt. absurd (omega arith)) in (
+    law (nodes_of inst) (cost inst) scale potentials triples [] bound nodes some even scale_is count here walk
+    (subst (λ ts. UsesEach ts nodes) (sym triples_are) used) (λ k d lt. absurd (omega arith)) in (
       subst (λ k. IsBoundBy k inst pot bound) (sym kind) by_certificate,
       λ nodes walk used. walks nodes walk (subst (λ k. UsesMultiplied k pot nodes) kind used),
       λ nodes tour. walks nodes tour.walk (listed_used nodes (fixed_of inst) (multipliers_in pot) (subst (λ k. All (Uses (is_directed k) nodes) (fixed_of inst)) kind tour.fixed_used) listed),

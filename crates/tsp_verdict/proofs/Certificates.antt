@@ -24,7 +24,8 @@ use Rattle.tsp_verdict.specs.Bounded as bounded
 
 -- what is known before a rank rules out the reasons before it
 pub none_before : (inst pot : Fields) (rank : ℕ) → (10 < rank → is_certificate pot.kind ≡ true) → (11 < rank → nodes_of pot ≡ nodes_of inst)
-    → (12 < rank → has_wanted inst.kind pot ≡ true) → (13 < rank → (index : ℕ) → StandsAgainst inst pot (MultiplierNotFixed index) → ⊥) → (14 < rank → (index : ℕ) → StandsAgainst inst pot (MultiplierRepeated index) → ⊥)
+    → (12 < rank → has_wanted inst.kind pot ≡ true) → (13 < rank → (index : ℕ) → StandsAgainst inst pot (MultiplierNotFixed index) → ⊥)
+    → (14 < rank → (index : ℕ) → StandsAgainst inst pot (MultiplierRepeated index) → ⊥)
     → (15 < rank → (i j : ℕ) → StandsAgainst inst pot (DualInfeasible i j) → ⊥) → NoneBefore (StandsAgainst inst pot) rank_of rank
 none_before inst pot rank sort size wanted fixed once good NotPotentials low stands = false≢true (sym stands ∙ sort low)
 none_before inst pot rank sort size wanted fixed once good PotentialsDimension low stands = stands (size low)
@@ -59,19 +60,26 @@ none_repeated n inst pot are index stands =
     false≢true (sym apart ∙ again.3)
 
 -- the first multiplier that isn't on a fixed pair is the first reason
-pub not_fixed : (inst pot : Fields) (fixed : List (ℕ × ℕ)) (triples : List (ℕ × ℕ × ℤ)) (index : ℕ) → fixed ≡ fixed_of inst → triples ≡ multipliers_in pot → inst.kind ≡ Some kinds.Tsp → is_certificate pot.kind ≡ true
-    → nodes_of pot ≡ nodes_of inst → has_wanted (Some kinds.Tsp) pot ≡ true → IsFirstPlace (IsUnlisted fixed triples) triples index → IsFirstReason (StandsAgainst inst pot) rank_of (MultiplierNotFixed index)
+pub not_fixed : (inst pot : Fields) (fixed : List (ℕ × ℕ)) (triples : List (ℕ × ℕ × ℤ)) (index : ℕ) → fixed ≡ fixed_of inst → triples ≡ multipliers_in pot
+    → inst.kind ≡ Some kinds.Tsp → is_certificate pot.kind ≡ true
+    → nodes_of pot ≡ nodes_of inst → has_wanted (Some kinds.Tsp) pot ≡ true → IsFirstPlace (IsUnlisted fixed triples) triples index
+    → IsFirstReason (StandsAgainst inst pot) rank_of (MultiplierNotFixed index)
 not_fixed inst pot fixed triples index fixed_are triples_are kind sort size wanted first = record {
   stands = (kind, subst₂ (λ fs ts. IsFirstPlace (IsUnlisted fs ts) ts index) fixed_are triples_are first);
-  none_before = none_before inst pot 13 (λ low. sort) (λ low. size) (λ low. rw kind wanted) (λ low. absurd (omega (arith, low))) (λ low. absurd (omega (arith, low))) (λ low. absurd (omega (arith, low)));
+  none_before = none_before inst pot 13 (λ low. sort) (λ low. size) (λ low. rw kind wanted) (λ low. absurd (omega (arith, low)))
+      (λ low. absurd (omega (arith, low))) (λ low. absurd (omega (arith, low)));
 }
 
 -- where all are on fixed pairs, so is the first one on the pair of an earlier one
-pub repeats : (inst pot : Fields) (fixed : List (ℕ × ℕ)) (triples : List (ℕ × ℕ × ℤ)) (index : ℕ) → fixed ≡ fixed_of inst → triples ≡ multipliers_in pot → inst.kind ≡ Some kinds.Tsp → is_certificate pot.kind ≡ true
-    → nodes_of pot ≡ nodes_of inst → has_wanted (Some kinds.Tsp) pot ≡ true → AreListed fixed triples → IsFirstPlace (IsPairRepeated triples) triples index → IsFirstReason (StandsAgainst inst pot) rank_of (MultiplierRepeated index)
+pub repeats : (inst pot : Fields) (fixed : List (ℕ × ℕ)) (triples : List (ℕ × ℕ × ℤ)) (index : ℕ) → fixed ≡ fixed_of inst → triples ≡ multipliers_in pot
+    → inst.kind ≡ Some kinds.Tsp → is_certificate pot.kind ≡ true
+    → nodes_of pot ≡ nodes_of inst → has_wanted (Some kinds.Tsp) pot ≡ true → AreListed fixed triples → IsFirstPlace (IsPairRepeated triples) triples index
+    → IsFirstReason (StandsAgainst inst pot) rank_of (MultiplierRepeated index)
 repeats inst pot fixed triples index fixed_are triples_are kind sort size wanted listed first = record {
   stands = (kind, subst (λ ts. IsFirstPlace (IsPairRepeated ts) ts index) triples_are first);
-  none_before = none_before inst pot 14 (λ low. sort) (λ low. size) (λ low. rw kind wanted) (λ low. none_unlisted inst pot (subst₂ (λ fs ts. AreListed fs ts) fixed_are triples_are listed)) (λ low. absurd (omega (arith, low))) (λ low. absurd (omega (arith, low)));
+  none_before = none_before inst pot 14 (λ low. sort) (λ low. size) (λ low. rw kind wanted)
+      (λ low. none_unlisted inst pot (subst₂ (λ fs ts. AreListed fs ts) fixed_are triples_are listed)) (λ low. absurd (omega (arith, low)))
+      (λ low. absurd (omega (arith, low)));
 }
 
 -- what is found where neither stands

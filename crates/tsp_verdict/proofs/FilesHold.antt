@@ -23,7 +23,8 @@ in_all (tour ∷ tours) filled = in_both (IsNode most_nodes) tour (concat tours)
 
 pub counted_from_one : (tours : List (Vec ℕ)) → AreTours (map (λ (t : Vec ℕ). t.items) tours) → All (λ node. 1 ≤ node) (nodes_in tours)
 counted_from_one tours held =
-    let nodes = All-from_recursion (IsNode most_nodes) (concat (map (λ (t : Vec ℕ). t.items) tours)) (in_all (map (λ (t : Vec ℕ). t.items) tours) (recursion_from_All IsNodeList (map (λ (t : Vec ℕ). t.items) tours) held.0)) in
+    let nodes = All-from_recursion (IsNode most_nodes) (concat (map (λ (t : Vec ℕ). t.items) tours))
+    (in_all (map (λ (t : Vec ℕ). t.items) tours) (recursion_from_All IsNodeList (map (λ (t : Vec ℕ). t.items) tours) held.0)) in
     rw (nodes_in_is tours) (λ k d lt. (nodes k d lt).0)
 
 sum_is : (tours : List (List ℕ)) → length (concat tours) ≡ sum_by length tours

@@ -52,7 +52,9 @@ set_more firsts seconds next count inside fits once m = record {
     new : List ℕ
     new = set next (get_or firsts count 0) (get_or seconds count 0)
 
-    read_at : (k : ℕ) → (k ≡ count) ⊎ (k < count) → ((get_or firsts k 0 ≡ get_or firsts count 0) × (get_or new (get_or firsts k 0) 0 ≡ get_or seconds count 0)) ⊎ ((get_or firsts k 0 ≢ get_or firsts count 0) × (get_or new (get_or firsts k 0) 0 ≡ get_or next (get_or firsts k 0) 0)) → get_or new (get_or firsts k 0) 0 ≡ get_or seconds k 0
+    read_at : (k : ℕ) → (k ≡ count) ⊎ (k < count) → ((get_or firsts k 0 ≡ get_or firsts count 0) × (get_or new (get_or firsts k 0) 0 ≡ get_or seconds count 0))
+        ⊎ ((get_or firsts k 0 ≢ get_or firsts count 0) × (get_or new (get_or firsts k 0) 0 ≡ get_or next (get_or firsts k 0) 0))
+        → get_or new (get_or firsts k 0) 0 ≡ get_or seconds k 0
     read_at k (inl e) (inl h) = h.1 ∙ ap (λ j. get_or seconds j 0) (sym e)
     read_at k (inl e) (inr h) = absurd (h.0 (ap (λ j. get_or firsts j 0) e))
     read_at k (inr lt) (inl h) = absurd (once k count 0 lt inside h.0)
@@ -61,7 +63,8 @@ set_more firsts seconds next count inside fits once m = record {
     set_at : (k : ℕ) → (k ≡ count) ⊎ (k < count) → get_or new (get_or firsts k 0) 0 ≡ get_or seconds k 0
     set_at k place = read_at k place (set_read next (get_or firsts count 0) (get_or seconds count 0) (get_or firsts k 0) fits)
 
-    only_at : (a b : ℕ) → 1 ≤ b → get_or new a 0 ≡ b → ((a ≡ get_or firsts count 0) × (get_or new a 0 ≡ get_or seconds count 0)) ⊎ ((a ≢ get_or firsts count 0) × (get_or new a 0 ≡ get_or next a 0)) → (k : ℕ) × (k < count + 1) × (get_or firsts k 0 ≡ a) × (get_or seconds k 0 ≡ b)
+    only_at : (a b : ℕ) → 1 ≤ b → get_or new a 0 ≡ b → ((a ≡ get_or firsts count 0) × (get_or new a 0 ≡ get_or seconds count 0))
+        ⊎ ((a ≢ get_or firsts count 0) × (get_or new a 0 ≡ get_or next a 0)) → (k : ℕ) × (k < count + 1) × (get_or firsts k 0 ≡ a) × (get_or seconds k 0 ≡ b)
     only_at a b some is (inl h) = (count, omega arith, sym h.0, sym h.1 ∙ is)
     only_at a b some is (inr h) = let found = m.only a b some (sym h.1 ∙ is) in (found.0, omega (arith, found.1), found.2, found.3)
 
@@ -77,8 +80,12 @@ are_next first others next m = record {
   only = λ a b some is.
       let found = m.only a b some is in
       let from : get_or (first ∷ others) found.0 0 ≡ a = found.2 in
-      let to : get_or (others ++ first ∷ []) found.0 0 ≡ b = found.3 in
-      (found.0, omega (arith, found.1, link_count first first others), link_at first first others found.0 (a, b) found.1 ∙ (ap (λ v. (v, get_or (others ++ first ∷ []) found.0 0)) from ∙ ap (λ v. (a, v)) to));
+      let to : get_or (others ++ first ∷ []) found.0 0 ≡ b = found.3 in (
+        found.0,
+        omega (arith, found.1, link_count first first others),
+        link_at first first others found.0 (a, b) found.1
+            ∙ (ap (λ v. (v, get_or (others ++ first ∷ []) found.0 0)) from ∙ ap (λ v. (a, v)) to),
+      );
 }
 
 -- ---- in the code's terms

@@ -94,7 +94,8 @@ none_marked nodes m = record {
     unmarked (suc m) (suc node) = unmarked m node
 
 -- one node more of a piece, which isn't marked
-pub mark_next : (nodes piece : List ℕ) (seen : List Bool) (before index : ℕ) → StandsAfter before nodes piece → index < length piece → get_or piece index 0 < length seen → get_or seen (get_or piece index 0) false ≡ false
+pub mark_next : (nodes piece : List ℕ) (seen : List Bool) (before index : ℕ) → StandsAfter before nodes piece → index < length piece
+    → get_or piece index 0 < length seen → get_or seen (get_or piece index 0) false ≡ false
     → Marked nodes seen (before + index) → Marked nodes (set seen (get_or piece index 0) true) (before + (index + 1))
 mark_next nodes piece seen before index stands lt fits free m =
     let same : get_or nodes (before + index) 0 ≡ get_or piece index 0 = stands.same index lt in

@@ -94,7 +94,9 @@ pub has_more : {X : Type 0} (pair_in : X → ℕ × ℕ) (s n : BTreeSet (ℕ ×
     → HasPairs pair_in s (take i xs) → HasPairs pair_in n (take (i + 1) xs)
 has_more pair_in s n xs i d lt updates has = λ pair.
     let here : is_at (pair_cmp (undirected (pair_in (get_or xs i d)))) (undirected pair) ≡ is_same_pair pair (pair_in (get_or xs i d)) = same_keys (pair_in (get_or xs i d)) pair in
-    updates.0 (undirected pair) ∙ ap₂ (λ a b. cond a true b) here (has pair) ∙ cond_or (is_same_pair pair (pair_in (get_or xs i d))) (list_any (λ x. is_same_pair pair (pair_in x)) (take i xs)) ∙ sym (list_any_more (λ x. is_same_pair pair (pair_in x)) xs i d lt)
+    updates.0 (undirected pair) ∙ ap₂ (λ a b. cond a true b) here (has pair)
+    ∙ cond_or (is_same_pair pair (pair_in (get_or xs i d))) (list_any (λ x. is_same_pair pair (pair_in x)) (take i xs))
+    ∙ sym (list_any_more (λ x. is_same_pair pair (pair_in x)) xs i d lt)
 
 -- ---- what it says of a list of pairs
 
@@ -165,11 +167,13 @@ apart_more triples s i lt has apart lacks k j before inside = elim (cases_lt j i
   | inr high ↦ let e : j ≡ i = omega (arith, high, inside) in rw e (last (omega (arith, before, e)))
 ]
   where
-    known : k < i → is_same_pair (pair_of (get_or triples k none)) (pair_of (get_or triples i none)) ≡ true → list_any (λ x. is_same_pair (pair_of (get_or triples i none)) (pair_of x)) (take i triples) ≡ true
+    known : k < i → is_same_pair (pair_of (get_or triples k none)) (pair_of (get_or triples i none)) ≡ true
+        → list_any (λ x. is_same_pair (pair_of (get_or triples i none)) (pair_of x)) (take i triples) ≡ true
     known low same =
         let fits : k < length (take i triples) = omega (arith, low, length-take-le i triples (omega (arith, lt))) in
         let here : is_same_pair (pair_of (get_or triples i none)) (pair_of (get_or (take i triples) k none)) ≡ true =
-        ap (λ x. is_same_pair (pair_of (get_or triples i none)) (pair_of x)) (get_or-take i triples k none low) ∙ same_turn (pair_of (get_or triples i none)) (pair_of (get_or triples k none)) ∙ same in
+        ap (λ x. is_same_pair (pair_of (get_or triples i none)) (pair_of x)) (get_or-take i triples k none low)
+        ∙ same_turn (pair_of (get_or triples i none)) (pair_of (get_or triples k none)) ∙ same in
         list_any_at (λ x. is_same_pair (pair_of (get_or triples i none)) (pair_of x)) (take i triples) k none fits here
 
     last : k < i → is_same_pair (pair_of (get_or triples k (0, 0, pos 0))) (pair_of (get_or triples i (0, 0, pos 0))) ≡ false

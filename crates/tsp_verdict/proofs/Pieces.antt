@@ -21,7 +21,8 @@ route_stands routes i route lt is = record {
 }
 
 -- with it there are so many more
-pub count_more : (routes : List (Vec ℕ)) (i : ℕ) (route : Vec ℕ) → i < length routes → route ≡ get_or routes i route → length (nodes_in (take i routes)) + length route.items ≡ length (nodes_in (take (i + 1) routes))
+pub count_more : (routes : List (Vec ℕ)) (i : ℕ) (route : Vec ℕ) → i < length routes → route ≡ get_or routes i route
+    → length (nodes_in (take i routes)) + length route.items ≡ length (nodes_in (take (i + 1) routes))
 count_more [] i route lt is = absurd (omega (arith, lt))
 count_more (r ∷ routes) zero route lt is = rw is (omega (arith, length-append r.items []))
 count_more (r ∷ routes) (suc i) route lt is =
@@ -30,13 +31,15 @@ count_more (r ∷ routes) (suc i) route lt is =
     rw further (omega (arith, length-append r.items (nodes_in (take i routes)), length-append r.items (nodes_in (take (i + 1) routes)), tail))
 
 -- in the code's terms
-pub stands_here : (routes : List (Vec ℕ)) (i before : ℕ) (route : Vec ℕ) (nodes : List ℕ) → i < length routes → route ≡ get_or routes i route → before ≡ length (nodes_in (take i routes)) → nodes ≡ route.items
+pub stands_here : (routes : List (Vec ℕ)) (i before : ℕ) (route : Vec ℕ) (nodes : List ℕ) → i < length routes → route ≡ get_or routes i route
+    → before ≡ length (nodes_in (take i routes)) → nodes ≡ route.items
     → StandsAfter before (nodes_in routes) nodes
 stands_here routes i before route nodes lt is counted same =
     subst (λ (b : ℕ). StandsAfter b (nodes_in routes) nodes) (sym counted)
     (subst (λ (xs : List ℕ). StandsAfter (length (nodes_in (take i routes))) (nodes_in routes) xs) (sym same) (route_stands routes i route lt is))
 
-pub count_here : (routes : List (Vec ℕ)) (i before : ℕ) (route : Vec ℕ) (nodes : List ℕ) → i < length routes → route ≡ get_or routes i route → before ≡ length (nodes_in (take i routes)) → nodes ≡ route.items
+pub count_here : (routes : List (Vec ℕ)) (i before : ℕ) (route : Vec ℕ) (nodes : List ℕ) → i < length routes → route ≡ get_or routes i route
+    → before ≡ length (nodes_in (take i routes)) → nodes ≡ route.items
     → before + length nodes ≡ length (nodes_in (take (i + 1) routes))
 count_here routes i before route nodes lt is counted same = omega (arith, count_more routes i route lt is, counted, ap length same)
 

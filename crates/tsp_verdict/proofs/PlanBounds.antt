@@ -21,7 +21,8 @@ sum_append f [] ys = omega (arith, ints)
 sum_append f (x ∷ xs) ys = let tail = sum_append f xs ys in omega (arith, ints)
 
 -- what the routes carry is at most as many times the capacity
-carried : (demands : List ℤ) (capacity : ℤ) (routes : List (List ℕ)) → AllByRecursion (λ route. load_of demands route ≤ℤ capacity) routes → load_of demands (concat routes) ≤ℤ (pos (length routes) *ℤ capacity)
+carried : (demands : List ℤ) (capacity : ℤ) (routes : List (List ℕ)) → AllByRecursion (λ route. load_of demands route ≤ℤ capacity) routes
+    → load_of demands (concat routes) ≤ℤ (pos (length routes) *ℤ capacity)
 carried demands capacity [] within = let none = zero-*ℤ capacity in omega (arith, ints, none)
 carried demands capacity (route ∷ routes) within =
     let tail = carried demands capacity routes within.1 in
@@ -74,7 +75,8 @@ plan_carries : (n depot : ℕ) (demands : List ℤ) (capacity : ℤ) (routes : L
     → IsPlan n depot demands capacity routes → load_of demands (nodes_to n) ≤ℤ (pos (length routes) *ℤ capacity)
 unfolding nodes_to
 plan_carries n depot demands capacity routes low none plan =
-    let all : load_of demands (range_with_len 1 n) ≤ℤ load_of demands (depot ∷ concat routes) = run_sum (demand_of demands) low n 1 (depot ∷ concat routes) (λ v above below. there v above below (eqb_tells v depot)) in
+    let all : load_of demands (range_with_len 1 n) ≤ℤ load_of demands (depot ∷ concat routes) =
+    run_sum (demand_of demands) low n 1 (depot ∷ concat routes) (λ v above below. there v above below (eqb_tells v depot)) in
     let held = carried demands capacity routes (recursion_from_All (λ route. load_of demands route ≤ℤ capacity) routes plan.within) in
     omega (arith, ints, all, held, none)
   where

@@ -45,7 +45,8 @@ least_is total capacity some = record {
   none_less = λ count carries. by_size count carries (cases_lt count ((total + (capacity - 1)) / capacity));
 }
   where
-    by_size : (count : ℕ) → pos total ≤ℤ (pos count *ℤ pos capacity) → (count < (total + (capacity - 1)) / capacity) ⊎ ((total + (capacity - 1)) / capacity ≤ count) → (total + (capacity - 1)) / capacity ≤ count
+    by_size : (count : ℕ) → pos total ≤ℤ (pos count *ℤ pos capacity) → (count < (total + (capacity - 1)) / capacity)
+        ⊎ ((total + (capacity - 1)) / capacity ≤ count) → (total + (capacity - 1)) / capacity ≤ count
     by_size count carries (inr le) = le
     by_size count carries (inl lt) =
         let more : suc count * capacity ≤ (total + (capacity - 1)) / capacity * capacity = mul-le-mul_right capacity lt in
@@ -71,7 +72,8 @@ total_more demands so_far total i lt e =
     let less : length demands - (i + 1) ≡ length demands - i - 1 = omega arith in
     let at : i + 1 - 1 ≡ i = omega arith in
     let step : (so_far +ℤ demand_of demands (i + 1)) +ℤ load_of demands (range_with_len (i + 1 + 1) (length demands - i - 1)) ≡ total =
-    sum_step (demand_of demands) so_far total (i + 1) (range_with_len (i + 1) (length demands - i)) (range_with_len (i + 1 + 1) (length demands - i - 1)) (run_parts (i + 1) (length demands - i) some) e in
+    sum_step (demand_of demands) so_far total (i + 1) (range_with_len (i + 1) (length demands - i)) (range_with_len (i + 1 + 1) (length demands - i - 1))
+    (run_parts (i + 1) (length demands - i) some) e in
     subst (λ k. (so_far +ℤ slice_index_or demands k (pos 0)) +ℤ load_of demands (range_with_len (i + 1 + 1) (length demands - (i + 1))) ≡ total) at
     (subst (λ k. (so_far +ℤ demand_of demands (i + 1)) +ℤ load_of demands (range_with_len (i + 1 + 1) k) ≡ total) (sym less) step)
 

@@ -21,7 +21,8 @@ use Rattle.tsp_verdict.proofs.RouteReasons.{after_depot, after_range, after_repe
 
 -- ---- places
 
-pub depot_first : (inst sol : Fields) (nodes : List ℕ) (depot place : ℕ) → nodes ≡ visited sol → depot ≡ depot_of inst → NoneUpTo inst sol 7 → IsFirstPlace (IsAt depot nodes) nodes place → IsFirstAgainst inst sol (DepotInRoute place)
+pub depot_first : (inst sol : Fields) (nodes : List ℕ) (depot place : ℕ) → nodes ≡ visited sol → depot ≡ depot_of inst → NoneUpTo inst sol 7
+    → IsFirstPlace (IsAt depot nodes) nodes place → IsFirstAgainst inst sol (DepotInRoute place)
 depot_first inst sol nodes depot place are is none first = record {
   stands = subst (λ d. IsFirstPlace (IsAt d (visited sol)) (visited sol) place) is (subst (λ (xs : List ℕ). IsFirstPlace (IsAt depot xs) xs place) are first);
   none_before = none;
@@ -32,7 +33,8 @@ no_depot inst sol nodes depot are is none others =
     let all : All (λ node. node ≢ depot_of inst) (visited sol) = subst (λ d. All (λ node. node ≢ d) (visited sol)) is (subst (λ (xs : List ℕ). All (λ node. node ≢ depot) xs) are others) in
     after_depot inst sol none (λ place first. all (place - 1) 0 (omega (arith, first.here.0, first.here.1)) first.holds)
 
-pub larger_first : (inst sol : Fields) (nodes : List ℕ) (n place : ℕ) → nodes ≡ visited sol → n ≡ nodes_of inst → NoneUpTo inst sol 8 → IsFirstPlace (IsLarger n nodes) nodes place → IsFirstAgainst inst sol (NodeOutOfRange place)
+pub larger_first : (inst sol : Fields) (nodes : List ℕ) (n place : ℕ) → nodes ≡ visited sol → n ≡ nodes_of inst → NoneUpTo inst sol 8
+    → IsFirstPlace (IsLarger n nodes) nodes place → IsFirstAgainst inst sol (NodeOutOfRange place)
 larger_first inst sol nodes n place are is none first = record {
   stands = subst (λ m. IsFirstPlace (IsLarger m (visited sol)) (visited sol) place) is (subst (λ (xs : List ℕ). IsFirstPlace (IsLarger n xs) xs place) are first);
   none_before = none;
@@ -54,7 +56,8 @@ pub customers_in : (inst sol : Fields) (nodes : List ℕ) (n : ℕ) → nodes �
 customers_in inst sol nodes n are is all =
     subst (λ m. All (IsNode m) nodes) (sym is) (subst (λ (xs : List ℕ). All (IsNode (nodes_of inst)) xs) (sym are) (λ k d lt. (all k d lt).0))
 
-pub repeated_first : (inst sol : Fields) (nodes : List ℕ) (place : ℕ) → nodes ≡ visited sol → NoneUpTo inst sol 9 → IsFirstPlace (IsRepeated nodes) nodes place → IsFirstAgainst inst sol (RepeatedNode place)
+pub repeated_first : (inst sol : Fields) (nodes : List ℕ) (place : ℕ) → nodes ≡ visited sol → NoneUpTo inst sol 9 → IsFirstPlace (IsRepeated nodes) nodes place
+    → IsFirstAgainst inst sol (RepeatedNode place)
 repeated_first inst sol nodes place are none first = record {
   stands = subst (λ (xs : List ℕ). IsFirstPlace (IsRepeated xs) xs place) are first;
   none_before = none;
@@ -68,7 +71,8 @@ pub record IsMarked (inst sol : Fields) (seen : List Bool) (size : ℕ) : Type 0
   pub wide : size ≡ nodes_of inst + 1
   pub none : NoneUpTo inst sol 10
 
-pub is_marked : (inst sol : Fields) (nodes : List ℕ) (seen : List Bool) (size : ℕ) → nodes ≡ visited sol → size ≡ nodes_of inst + 1 → NoneUpTo inst sol 9 → Marked nodes seen (length nodes) → IsMarked inst sol seen size
+pub is_marked : (inst sol : Fields) (nodes : List ℕ) (seen : List Bool) (size : ℕ) → nodes ≡ visited sol → size ≡ nodes_of inst + 1 → NoneUpTo inst sol 9
+    → Marked nodes seen (length nodes) → IsMarked inst sol seen size
 is_marked inst sol nodes seen size are wide none m =
     let there : Marked (visited sol) seen (length (visited sol)) = subst (λ (xs : List ℕ). Marked xs seen (length xs)) are m in
     record { marks = there; wide = wide; none = after_repeats inst sol none (λ place first. there.once place first.here.0 first.here.1 first.holds) }
@@ -110,7 +114,8 @@ pub is_planned : (inst sol : Fields) (seen : List Bool) (size : ℕ) (routes : L
     → routes ≡ tours_of sol → demands ≡ demands_of inst → length demands ≡ nodes_of inst → capacity ≡ capacity_of inst → depot ≡ depot_of inst
     → AreCustomers inst sol → IsMarked inst sol seen size → ((node : ℕ) → IsCustomer (nodes_of inst) (depot_of inst) node → Contains (visited sol) node)
     → All IsDemand demands → demand_of (demands_of inst) depot ≡ pos 0
-    → All (λ route. load_of demands route ≤ℤ capacity) routes → measured ≡ plan_length (cost inst) depot routes → count ≡ length routes → IsLeast (load_of demands (nodes_to (length demands))) capacity least
+    → All (λ route. load_of demands route ≤ℤ capacity) routes → measured ≡ plan_length (cost inst) depot routes → count ≡ length routes
+    → IsLeast (load_of demands (nodes_to (length demands))) capacity least
     → ((reason : Reason) → StandsAgainst inst sol reason → ⊥) × IsPlanned inst (tours_of sol) measured count least
 is_planned inst sol seen size routes demands capacity depot measured count least are demands_are each capacity_is depot_is all m served range empty within long counted is_least =
     let carried : All (λ route. load_of (demands_of inst) route ≤ℤ capacity_of inst) (tours_of sol) =
@@ -133,5 +138,6 @@ is_planned inst sol seen size routes demands capacity depot measured count least
       },
     )
   where
-    over : (place : ℕ) → IsFirstPlace (IsOverloaded (demands_of inst) (capacity_of inst) (tours_of sol)) (tours_of sol) place → All (λ route. load_of (demands_of inst) route ≤ℤ capacity_of inst) (tours_of sol) → ⊥
+    over : (place : ℕ) → IsFirstPlace (IsOverloaded (demands_of inst) (capacity_of inst) (tours_of sol)) (tours_of sol) place
+        → All (λ route. load_of (demands_of inst) route ≤ℤ capacity_of inst) (tours_of sol) → ⊥
     over place first carried = omega (arith, ints, first.holds, carried (place - 1) [] (omega (arith, first.here.0, first.here.1)))

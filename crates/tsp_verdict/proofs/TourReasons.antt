@@ -45,7 +45,9 @@ pub after_repeats : (inst sol : Fields) → NoneUpTo inst sol 8 → ((place : �
 after_repeats inst sol before once (RepeatedNode place) low stands = once place stands
 after_repeats inst sol before once reason low stands = before reason (omega (arith, low)) stands
 
-pub after_fixed : (inst sol : Fields) → NoneUpTo inst sol 9 → ((index : ℕ) → IsFirstPlace (IsUnused (is_directed inst.kind) (visited sol) (fixed_of inst)) (fixed_of inst) index → ⊥) → (reason : Reason) → StandsAgainst inst sol reason → ⊥
+pub after_fixed : (inst sol : Fields) → NoneUpTo inst sol 9 → ((index : ℕ)
+    → IsFirstPlace (IsUnused (is_directed inst.kind) (visited sol) (fixed_of inst)) (fixed_of inst) index → ⊥) → (reason : Reason)
+    → StandsAgainst inst sol reason → ⊥
 after_fixed inst sol before used (FixedEdgeUnused index) stands = used index stands
 after_fixed inst sol before used NotPotentials stands = stands
 after_fixed inst sol before used PotentialsDimension stands = stands

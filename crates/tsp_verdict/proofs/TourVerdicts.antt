@@ -42,7 +42,8 @@ is_walk n tour full low high once = record {
 }
 
 -- reasons 1 to 8 are ruled out
-pub none_up_to_fixed : (inst sol : Fields) (tour : List ℕ) → tours_of sol ≡ tour ∷ [] → NoneUpTo inst sol 7 → All (λ node. node ≤ nodes_of inst) tour → HoldsAtNone (IsRepeated tour) (length tour) → NoneUpTo inst sol 9
+pub none_up_to_fixed : (inst sol : Fields) (tour : List ℕ) → tours_of sol ≡ tour ∷ [] → NoneUpTo inst sol 7 → All (λ node. node ≤ nodes_of inst) tour
+    → HoldsAtNone (IsRepeated tour) (length tour) → NoneUpTo inst sol 9
 none_up_to_fixed inst sol tour only none high once =
     let is : tour ≡ visited sol = sym (visited_is sol tour only) in
     let high_all : All (λ node. node ≤ nodes_of inst) (visited sol) = subst (λ (xs : List ℕ). All (λ node. node ≤ nodes_of inst) xs) is high in

@@ -5,7 +5,8 @@ use Rattle.tsp_verdict.specs.Places.{node_at, IsRepeated}
 -- a node is marked exactly where it stands at one of the first places, of which none repeats an earlier one
 pub record Marked (nodes : List ℕ) (seen : List Bool) (count : ℕ) : Type 0 where
   pub marked : (place : ℕ) → 1 ≤ place → place ≤ count → slice_index_or seen (node_at nodes place) false ≡ true
-  pub only : (node : ℕ) → slice_index_or seen node false ≡ true → (place : ℕ) × (1 ≤ place) × (place ≤ count) × (node_at nodes place ≡ node)
+  pub only : (node : ℕ) → slice_index_or seen node false ≡ true → (place : ℕ) × (1 ≤ place) × (place ≤ count)
+      × (node_at nodes place ≡ node)
   pub once : (place : ℕ) → 1 ≤ place → place ≤ count → IsRepeated nodes place → ⊥
 
 -- the piece stands in the list after so many nodes

@@ -16,4 +16,5 @@ pair_cmp p q = ordering_then (nat_cmp p.0 q.0) (nat_cmp p.1 q.1)
 
 -- the set has exactly the pairs of a list, in either direction
 abbrev pub HasPairs : {X : Type 0} → (X → ℕ × ℕ) → BTreeSet (ℕ × ℕ) → List X → Type 0
-HasPairs pair_in set xs = (pair : ℕ × ℕ) → contains pair_cmp set (undirected pair) ≡ list_any (λ x. is_same_pair pair (pair_in x)) xs
+HasPairs pair_in set xs = (pair : ℕ × ℕ)
+    → contains pair_cmp set (undirected pair) ≡ list_any (λ x. is_same_pair pair (pair_in x)) xs

@@ -46,7 +46,8 @@ StandsAgainst inst sol DepotDemand = demand_of (demands_of inst) (depot_of inst)
 StandsAgainst inst sol FixedEdgesInRoutes = 1 ≤ length (fixed_of inst)
 StandsAgainst inst sol (DepotInRoute place) = IsFirstPlace (IsAt (depot_of inst) (visited sol)) (visited sol) place
 StandsAgainst inst sol (Unserved node) = IsFirstUnserved (nodes_of inst) (depot_of inst) (visited sol) node
-StandsAgainst inst sol (Overload route) = IsFirstPlace (IsOverloaded (demands_of inst) (capacity_of inst) (tours_of sol)) (tours_of sol) route
+StandsAgainst inst sol (Overload route) =
+    IsFirstPlace (IsOverloaded (demands_of inst) (capacity_of inst) (tours_of sol)) (tours_of sol) route
 
 -- the order in which the reasons against routes are judged
 abbrev pub rank_of : Reason → ℕ

@@ -26,7 +26,8 @@ StandsAgainst inst sol TourCount = length (tours_of sol) ≢ 1
 StandsAgainst inst sol TourLength = length (visited sol) ≢ nodes_of inst
 StandsAgainst inst sol (NodeOutOfRange place) = IsFirstPlace (IsLarger (nodes_of inst) (visited sol)) (visited sol) place
 StandsAgainst inst sol (RepeatedNode place) = IsFirstPlace (IsRepeated (visited sol)) (visited sol) place
-StandsAgainst inst sol (FixedEdgeUnused index) = IsFirstPlace (IsUnused (is_directed inst.kind) (visited sol) (fixed_of inst)) (fixed_of inst) index
+StandsAgainst inst sol (FixedEdgeUnused index) =
+    IsFirstPlace (IsUnused (is_directed inst.kind) (visited sol) (fixed_of inst)) (fixed_of inst) index
 StandsAgainst inst sol NotPotentials = ⊥
 StandsAgainst inst sol PotentialsDimension = ⊥
 StandsAgainst inst sol PotentialsKind = ⊥

@@ -118,7 +118,8 @@ is_short shape = true
 whole_short : (low high number : ℤ) → is_short (Numbers low high) ≡ true → is_from_to low high number ≡ true → length (number_line [] (whole_number number)) ≤ 20
 whole_short low high number short fits =
     let parts = and_parts (nat_le (unsigned_abs low) most_potential) (nat_le (unsigned_abs high) most_potential) short in
-    let inside = between_short 16 low high most_potential number (leb-true (unsigned_abs low) most_potential parts.0) (leb-true (unsigned_abs high) most_potential parts.1) (omega arith) (omega arith) fits in
+    let inside = between_short 16 low high most_potential number (leb-true (unsigned_abs low) most_potential parts.0)
+    (leb-true (unsigned_abs high) most_potential parts.1) (omega arith) (omega arith) fits in
     omega (arith, one_number_short (signed_decimal number) 17 inside)
 
 depots_short : (n : ℕ) (depots : List ℕ) → n ≤ most_nodes → are_depots n depots ≡ true → length (node_list depots) ≤ 900000
@@ -198,7 +199,8 @@ shape_short f field Weights short one fit =
     let lens = line_lens f.weight_format f.dimension in
     section_of_short field are_weights (matrix_lines lens) 375000000 (λ n weights most fits. weights_short lens n weights fits) f.dimension f.weights one fit
 shape_short f field Tours short one fit =
-    optional_short are_tours (λ tours. section field (flat_map node_list tours)) 10000029 (λ tours fits. section_short field (flat_map node_list tours) 10000000 (all_tours_short tours fits)) f.tours fit
+    optional_short are_tours (λ tours. section field (flat_map node_list tours)) 10000029
+    (λ tours fits. section_short field (flat_map node_list tours) 10000000 (all_tours_short tours fits)) f.tours fit
 shape_short f field Triples short one fit = section_of_short field are_triples triple_list 3300000 triples_short f.dimension f.fixed_potentials one fit
 
 dimension_line_short : (n : ℕ) → is_node most_nodes n ≡ true → length (keyword_line DimensionKey (decimal n)) ≤ 60
@@ -216,7 +218,8 @@ whole_line_short field most low number fits =
 comments_short : (comments : List (List ℕ)) → are_comments comments ≡ true → length (flat_map (keyword_line CommentKey) comments) ≤ most_bytes CommentKey
 comments_short comments fits =
     let parts = and_parts (nat_le (length comments) most_comments) (list_all (is_kept (field_word CommentKey)) comments) fits in
-    flat_short_of (is_kept (field_word CommentKey)) (keyword_line CommentKey) 4004 most_comments (kept_short (field_word CommentKey)) comments parts.1 (leb-true (length comments) most_comments parts.0)
+    flat_short_of (is_kept (field_word CommentKey)) (keyword_line CommentKey) 4004 most_comments (kept_short (field_word CommentKey)) comments parts.1
+    (leb-true (length comments) most_comments parts.0)
 
 others_short : (others : List (List ℕ × List ℕ)) → are_others others ≡ true → length (flat_map other_line others) ≤ most_bytes OtherKey
 others_short others fits =

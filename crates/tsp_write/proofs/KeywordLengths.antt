@@ -61,7 +61,8 @@ first_of_four false b c d e = e
 
 pub kept_short : (keyword value : List ℕ) → is_kept keyword value ≡ true → length (value_line keyword value) ≤ 4004
 kept_short keyword value kept =
-    let few = first_of_four (nat_le (length keyword + length value) most_kept_bytes) (list_all (λ b. not (b == 10)) value) (not (is_blank (slice_index value 0))) (not (is_blank (slice_index value (length value - 1)))) kept in
+    let few = first_of_four (nat_le (length keyword + length value) most_kept_bytes) (list_all (λ b. not (b == 10)) value)
+    (not (is_blank (slice_index value 0))) (not (is_blank (slice_index value (length value - 1)))) kept in
     omega (arith, value_line_short keyword value, leb-true (length keyword + length value) most_kept_bytes few)
 
 pub other_short : (line : List ℕ × List ℕ) → is_other line ≡ true → length (other_line line) ≤ 4004

@@ -164,7 +164,8 @@ pub matrix_lines_short : (lens : List ℕ) (weights : List ℤ) → list_all (is
 matrix_lines_short [] weights all = weight_line_short weights all
 matrix_lines_short (len ∷ lens) weights all =
     let halves : list_all (is_within most_weight) (take len weights ++ drop len weights) ≡ true = subst (λ ws. list_all (is_within most_weight) ws ≡ true) (sym (take-append-drop len weights)) all in
-    let parts = and_parts (list_all (is_within most_weight) (take len weights)) (list_all (is_within most_weight) (drop len weights)) (sym (list_all-append (is_within most_weight) (take len weights) (drop len weights)) ∙ halves) in
+    let parts = and_parts (list_all (is_within most_weight) (take len weights)) (list_all (is_within most_weight) (drop len weights))
+    (sym (list_all-append (is_within most_weight) (take len weights) (drop len weights)) ∙ halves) in
     let both : length weights ≡ length (take len weights) + length (drop len weights) = ap length (sym (take-append-drop len weights)) ∙ length-append (take len weights) (drop len weights) in
     let line = weight_line_short (take len weights) parts.0 in
     let others = matrix_lines_short lens (drop len weights) parts.1 in

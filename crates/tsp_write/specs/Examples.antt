@@ -1,7 +1,7 @@
 -- A small file with all sorts of fields, on which the definitions are evaluated. No valid file has all of them.
 use Rattle.std.specs.Prelude.{◌≡◌, ℕ, List, [], ◌∷◌, Some, pos, negsuc, codes}
 use Rattle.tsp_value.specs.declared.kinds.Kind.TheVariants as kinds
-use Rattle.tsp_value.specs.declared.kinds.WeightKind.TheVariants.{Explicit}
+use Rattle.tsp_value.specs.declared.kinds.WeightKind.TheVariants as weight_kinds
 use Rattle.tsp_value.specs.declared.kinds.WeightFormat.TheVariants.{Listed}
 use Rattle.tsp_value.specs.declared.kinds.CoordKind.TheVariants as coord_kinds
 use Rattle.tsp_value.specs.declared.kinds.DisplayKind.TheVariants as display_kinds
@@ -20,7 +20,7 @@ small = record blank_fields {
   dimension = Some 2;
   capacity = Some (pos 8);
   scale = Some (pos 3);
-  weight_kind = Some Explicit;
+  weight_kind = Some weight_kinds.Explicit;
   weight_format = Some (Listed LowerDiagRow);
   coord_kind = Some coord_kinds.TwoD;
   display_kind = Some display_kinds.TwoD;
@@ -35,6 +35,15 @@ small = record blank_fields {
   row_potentials = Some (pos 1 ∷ pos 2 ∷ []);
   column_potentials = Some (pos 3 ∷ pos 4 ∷ []);
   fixed_potentials = Some ((1, 2, pos 7) ∷ []);
+}
+
+-- a node in space, which is shown on a plane
+abbrev pub spatial_node : Fields
+spatial_node = record blank_fields {
+  dimension = Some 1;
+  weight_kind = Some weight_kinds.Max3d;
+  coords = Some (record { x = pos 1500000000; y = pos 0; z = negsuc 1999999999 } ∷ []);
+  display = Some (on_plane (pos 0) (pos 1000000000) ∷ []);
 }
 
 -- two tours of two nodes

@@ -1,4 +1,5 @@
--- The canonical text of a file: the texts of its fields in canonical order, then the line EOF. A field that is missing has no text.
+-- The canonical text of a file: the texts of its fields in canonical order, then the line EOF. A field that is missing has no
+-- text.
 use Rattle.std.specs.Prelude.{ℕ, Bool, true, false, cond, List, [], ◌∷◌, ◌++◌, take, drop, map, length, codes, Option, Some, None, ℤ}
 use Rattle.std.specs.Option.{option_map_or}
 use Rattle.std.specs.List.{flat_map, enumerate_from}
@@ -103,12 +104,14 @@ optional text (Some value) = text value
 
 -- the text of a section of this shape
 abbrev pub text_of_section : Fields → Field → Shape → List ℕ
-text_of_section f field (Numbers low high) = optional (λ numbers. section field (by_node whole_number numbers)) (numbers_in f field)
+text_of_section f field (Numbers low high) =
+    optional (λ numbers. section field (by_node whole_number numbers)) (numbers_in f field)
 text_of_section f field Points = optional (λ points. section field (by_node (point_numbers false) points)) (points_in f field)
 text_of_section f field SpacePoints = optional (λ points. section field (by_node (point_numbers true) points)) (points_in f field)
 text_of_section f field Depots = optional (λ depots. section field (node_list depots)) f.depots
 text_of_section f field Pairs = optional (λ pairs. section field (pair_list pairs)) f.fixed
-text_of_section f field Weights = optional (λ weights. section field (matrix_lines (line_lens f.weight_format f.dimension) weights)) f.weights
+text_of_section f field Weights =
+    optional (λ weights. section field (matrix_lines (line_lens f.weight_format f.dimension) weights)) f.weights
 text_of_section f field Tours = optional (λ tours. section field (flat_map node_list tours)) f.tours
 text_of_section f field Triples = optional (λ triples. section field (triple_list triples)) f.fixed_potentials
 
@@ -122,7 +125,8 @@ text_of_field f DimensionKey = optional (λ n. keyword_line DimensionKey (decima
 text_of_field f CapacityKey = optional (λ capacity. keyword_line CapacityKey (signed_decimal capacity)) f.capacity
 text_of_field f ScaleKey = optional (λ scale. keyword_line ScaleKey (signed_decimal scale)) f.scale
 text_of_field f EdgeWeightTypeKey = optional (λ kind. keyword_line EdgeWeightTypeKey (weight_kind_word kind)) f.weight_kind
-text_of_field f EdgeWeightFormatKey = optional (λ format. keyword_line EdgeWeightFormatKey (weight_format_word format)) f.weight_format
+text_of_field f EdgeWeightFormatKey =
+    optional (λ format. keyword_line EdgeWeightFormatKey (weight_format_word format)) f.weight_format
 text_of_field f NodeCoordTypeKey = optional (λ kind. keyword_line NodeCoordTypeKey (coord_kind_word kind)) f.coord_kind
 text_of_field f DisplayDataTypeKey = optional (λ kind. keyword_line DisplayDataTypeKey (display_kind_word kind)) f.display_kind
 text_of_field f field = option_map_or (text_of_section f field) (shape_of (spatial f) field) []

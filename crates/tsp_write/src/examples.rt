@@ -5,7 +5,7 @@ ghost use Rattle.std.specs.Prelude.{◌≡◌, [], codes};
 ghost use Rattle.tsp_value.specs.declared.field.Field.TheVariants as fields;
 ghost use Rattle.tsp_fields.specs.Fields.{blank_fields};
 ghost use Rattle.tsp_write.specs.Text.{text_of, text_of_field};
-ghost use Rattle.tsp_write.specs.Examples.{IsWritten, two_tours};
+ghost use Rattle.tsp_write.specs.Examples.{IsWritten, spatial_node, two_tours};
 
 /// The lines of keywords.
 pub fn examples_of_lines()
@@ -36,6 +36,8 @@ pub fn examples_of_sections()
     ensures row_potentials { IsWritten fields.RowPotentialPart (codes "ROW_POTENTIAL_SECTION\n1 1\n2 2\n") }
     ensures column_potentials { IsWritten fields.ColumnPotentialPart (codes "COLUMN_POTENTIAL_SECTION\n1 3\n2 4\n") }
     ensures fixed_potentials { IsWritten fields.FixedPotentialPart (codes "FIXED_EDGE_POTENTIAL_SECTION\n1 2 7\n-1\n") }
+    ensures in_space { text_of_field spatial_node fields.NodeCoordPart ≡ codes "NODE_COORD_SECTION\n1 1.5 0 -2\n" }
+    ensures shown { text_of_field spatial_node fields.DisplayDataPart ≡ codes "DISPLAY_DATA_SECTION\n1 0 1\n" }
     ensures missing { text_of_field blank_fields fields.TourPart ≡ [] }
     ensures whole { text_of two_tours ≡ codes "TYPE : TOUR\nDIMENSION : 2\nTOUR_SECTION\n2\n1\n-1\n1\n-1\nEOF\n" }
     ensures nothing { text_of blank_fields ≡ codes "EOF\n" }

@@ -26,7 +26,8 @@ cut_item line = Line line.key (seen line)
 
 -- the rows of a keyword with a list of accepted words
 abbrev pub word_rows : {V : Type 0} → (V → List ℕ) → List V → Field → List ℕ → Option LineFault
-word_rows text values field word = first_row (when (is_left_out field word) row.Outside ∷ when (is_none (named text values word)) row.BadValue ∷ [])
+word_rows text values field word =
+    first_row (when (is_left_out field word) row.Outside ∷ when (is_none (named text values word)) row.BadValue ∷ [])
 
 abbrev pub NamesValue : {V : Type 0} → (V → List ℕ) → List V → Field → List ℕ → Result V LineFault → Type 0
 NamesValue text values field word (Ok v) = (is_left_out field word ≡ false) × (named text values word ≡ Some v)
@@ -34,7 +35,8 @@ NamesValue text values field word (Err fault) = word_rows text values field word
 
 -- the rows of a keyword with a number
 abbrev pub number_rows : ℤ → ℤ → List ℕ → Option LineFault
-number_rows low high value = first_row (when (not (is_filled value)) row.BadValue ∷ option_map (λ fault. row.Number fault) (result_err (whole_of (first_word value) low high)) ∷ [])
+number_rows low high value = first_row (when (not (is_filled value)) row.BadValue
+    ∷ option_map (λ fault. row.Number fault) (result_err (whole_of (first_word value) low high)) ∷ [])
 
 abbrev pub ReadsNumber : ℤ → ℤ → List ℕ → Result ℤ LineFault → Type 0
 ReadsNumber low high value (Ok z) = (is_filled value ≡ true) × (whole_of (first_word value) low high ≡ Ok z)
@@ -63,10 +65,12 @@ is_matrix Weights = true
 is_matrix Tours = false
 is_matrix Triples = false
 
--- The rows of a line that opens a section: whether an earlier line has it, the line's value, whether DIMENSION stands, and n, its value.
+-- The rows of a line that opens a section: whether an earlier line has it, the line's value, whether DIMENSION stands, and n,
+-- its value.
 abbrev pub opening_rows : Shape → Bool → List ℕ → Bool → ℕ → Option LineFault
 opening_rows shape stands value has_nodes n = first_row (when stands row.Repeated ∷ when (is_filled value) row.SectionValue
-    ∷ when (needs_nodes shape && not has_nodes) row.SectionEarly ∷ when (is_matrix shape && nat_lt most_matrix_nodes n) row.TooManyNodes ∷ [])
+    ∷ when (needs_nodes shape && not has_nodes) row.SectionEarly
+    ∷ when (is_matrix shape && nat_lt most_matrix_nodes n) row.TooManyNodes ∷ [])
 
 -- whether a section may be opened, with n nodes, or the fault of its line
 abbrev pub MayOpen : Shape → Bool → List ℕ → Option ℕ → Result ℕ LineFault → Type 0
@@ -82,7 +86,8 @@ named_rows stands out found late = first_row (when stands row.Repeated ∷ when 
     ∷ when late row.LateSpace ∷ [])
 
 -- The value that is named is there now, or the fault of the line; `late` is whether its value comes too late.
-abbrev pub SetsNamed : {V : Type 0} → (V → List ℕ) → List V → Field → List ℕ → Bool → Option V → Option V → Result (Unit {0}) StepFault → Type 0
+abbrev pub SetsNamed : {V : Type 0} → (V → List ℕ) → List V → Field → List ℕ → Bool → Option V → Option V
+    → Result (Unit {0}) StepFault → Type 0
 SetsNamed text values field word late old new (Ok done) = (is_some old ≡ false) × (is_left_out field word ≡ false)
     × (named text values word ≡ new) × (is_some new ≡ true) × (late ≡ false)
 SetsNamed text values field word late old new (Err steps.Memory) = ⊥
@@ -90,34 +95,46 @@ SetsNamed text values field word late old new (Err (steps.Fault fault)) = (new �
     × (named_rows (is_some old) (is_left_out field word) (named text values word) late ≡ Some fault)
 
 abbrev pub numbered_rows : Bool → List ℕ → Result ℤ NumberFault → Option LineFault
-numbered_rows stands value reading = first_row (when stands row.Repeated ∷ when (not (is_filled value)) row.BadValue ∷ option_map (λ fault. row.Number fault) (result_err reading) ∷ [])
+numbered_rows stands value reading = first_row (when stands row.Repeated ∷ when (not (is_filled value)) row.BadValue
+    ∷ option_map (λ fault. row.Number fault) (result_err reading) ∷ [])
 
 -- the number that is read is there now, or the fault of the line
 abbrev pub SetsNumber : ℤ → ℤ → List ℕ → Option ℤ → Option ℤ → Result (Unit {0}) StepFault → Type 0
-SetsNumber low high value old new (Ok done) = (is_some old ≡ false) × (is_filled value ≡ true) × (z : ℤ) × (whole_of (first_word value) low high ≡ Ok z) × (new ≡ Some z)
+SetsNumber low high value old new (Ok done) = (is_some old ≡ false) × (is_filled value ≡ true) × (z : ℤ)
+    × (whole_of (first_word value) low high ≡ Ok z) × (new ≡ Some z)
 SetsNumber low high value old new (Err steps.Memory) = ⊥
-SetsNumber low high value old new (Err (steps.Fault fault)) = (new ≡ old) × (numbered_rows (is_some old) value (whole_of (first_word value) low high) ≡ Some fault)
+SetsNumber low high value old new (Err (steps.Fault fault)) = (new ≡ old)
+    × (numbered_rows (is_some old) value (whole_of (first_word value) low high) ≡ Some fault)
 
 -- the same of a number of nodes
 abbrev pub SetsCount : ℕ → List ℕ → Option ℕ → Option ℕ → Result (Unit {0}) StepFault → Type 0
-SetsCount most value old new (Ok done) = (is_some old ≡ false) × (is_filled value ≡ true) × (n : ℕ) × (whole_of (first_word value) (pos 1) (pos most) ≡ Ok (pos n)) × (new ≡ Some n)
+SetsCount most value old new (Ok done) = (is_some old ≡ false) × (is_filled value ≡ true) × (n : ℕ)
+    × (whole_of (first_word value) (pos 1) (pos most) ≡ Ok (pos n)) × (new ≡ Some n)
 SetsCount most value old new (Err steps.Memory) = ⊥
-SetsCount most value old new (Err (steps.Fault fault)) = (new ≡ old) × (numbered_rows (is_some old) value (whole_of (first_word value) (pos 1) (pos most)) ≡ Some fault)
+SetsCount most value old new (Err (steps.Fault fault)) = (new ≡ old)
+    × (numbered_rows (is_some old) value (whole_of (first_word value) (pos 1) (pos most)) ≡ Some fault)
 
 -- the name is there now, or the fault of the line
 abbrev pub SetsName : WordLine → Option (List ℕ) → Option (List ℕ) → Result (Unit {0}) StepFault → Type 0
 SetsName line old new (Ok done) = (is_some old ≡ false) × (is_too_long_to_keep line ≡ false) × (new ≡ Some line.value)
 SetsName line old new (Err steps.Memory) = new ≡ old
-SetsName line old new (Err (steps.Fault fault)) = (new ≡ old) × (first_row (when (is_some old) row.Repeated ∷ when (is_too_long_to_keep line) row.BadValue ∷ []) ≡ Some fault)
+SetsName line old new (Err (steps.Fault fault)) = (new ≡ old)
+    × (first_row (when (is_some old) row.Repeated ∷ when (is_too_long_to_keep line) row.BadValue ∷ []) ≡ Some fault)
 
 -- the value is the last comment now, or the fault of the line
 abbrev pub AddsComment : WordLine → List (List ℕ) → List (List ℕ) → Result (Unit {0}) StepFault → Type 0
-AddsComment line old new (Ok done) = (is_too_long_to_keep line ≡ false) × (nat_le most_comments (length old) ≡ false) × (new ≡ old ++ line.value ∷ [])
+AddsComment line old new (Ok done) = (is_too_long_to_keep line ≡ false) × (nat_le most_comments (length old) ≡ false)
+    × (new ≡ old ++ line.value ∷ [])
 AddsComment line old new (Err steps.Memory) = new ≡ old
-AddsComment line old new (Err (steps.Fault fault)) = (new ≡ old) × (first_row (when (is_too_long_to_keep line) row.BadValue ∷ when (nat_le most_comments (length old)) row.Surplus ∷ []) ≡ Some fault)
+AddsComment line old new (Err (steps.Fault fault)) = (new ≡ old)
+    × (first_row (when (is_too_long_to_keep line) row.BadValue ∷ when (nat_le most_comments (length old)) row.Surplus ∷ [])
+    ≡ Some fault)
 
 -- the keyword and the value are the last of the unknown ones now, or the fault of the line
 abbrev pub AddsOther : WordLine → List (List ℕ × List ℕ) → List (List ℕ × List ℕ) → Result (Unit {0}) StepFault → Type 0
-AddsOther line old new (Ok done) = (line.has_colon ≡ true) × (is_too_long_to_keep line ≡ false) × (nat_le most_others (length old) ≡ false) × (new ≡ old ++ (line.keyword, line.value) ∷ [])
+AddsOther line old new (Ok done) = (line.has_colon ≡ true) × (is_too_long_to_keep line ≡ false)
+    × (nat_le most_others (length old) ≡ false) × (new ≡ old ++ (line.keyword, line.value) ∷ [])
 AddsOther line old new (Err steps.Memory) = new ≡ old
-AddsOther line old new (Err (steps.Fault fault)) = (new ≡ old) × (first_row (when (not line.has_colon) row.UnknownLine ∷ when (is_too_long_to_keep line) row.BadValue ∷ when (nat_le most_others (length old)) row.Surplus ∷ []) ≡ Some fault)
+AddsOther line old new (Err (steps.Fault fault)) = (new ≡ old)
+    × (first_row (when (not line.has_colon) row.UnknownLine ∷ when (is_too_long_to_keep line) row.BadValue
+    ∷ when (nat_le most_others (length old)) row.Surplus ∷ []) ≡ Some fault)

@@ -49,8 +49,10 @@ IsNodeOf n k = (1 ≤ k) × (k ≤ n)
 
 -- ---- by-node sections
 
--- Marks and entries of n nodes, how many groups are still to come and the node of a group that has begun, against the whole groups so far.
-pub record NodesHold {X : Type 0} (missing : X) (seen : List Bool) (entries : List X) (left : ℕ) (begun : Option ℕ) (n : ℕ) (groups : List (ℤ × X)) : Type 0 where
+-- Marks and entries of n nodes, how many groups are still to come and the node of a group that has begun, against the whole
+-- groups so far.
+pub record NodesHold {X : Type 0} (missing : X) (seen : List Bool) (entries : List X) (left : ℕ) (begun : Option ℕ) (n : ℕ)
+    (groups : List (ℤ × X)) : Type 0 where
   pub wide : length seen ≡ n
   pub sized : length entries ≡ n
   pub to_come : length groups + left ≡ n
@@ -61,12 +63,15 @@ pub record NodesHold {X : Type 0} (missing : X) (seen : List Bool) (entries : Li
 
 -- the node of a new group: one of 1..n without a mark, or a fault
 abbrev pub IsNewNode : List Bool → List ℕ → Result ℕ LineFault → Type 0
-IsNewNode seen word (Ok k) = (node (length seen) word ≡ Ok (pos k)) × IsNodeOf (length seen) k × (slice_index_or seen (k - 1) false ≡ false)
+IsNewNode seen word (Ok k) = (node (length seen) word ≡ Ok (pos k)) × IsNodeOf (length seen) k
+    × (slice_index_or seen (k - 1) false ≡ false)
 IsNewNode seen word (Err (row.Number fault)) = node (length seen) word ≡ Err fault
-IsNewNode seen word (Err row.RepeatedNode) = (k : ℕ) × (node (length seen) word ≡ Ok (pos k)) × IsNodeOf (length seen) k × (slice_index_or seen (k - 1) false ≡ true)
+IsNewNode seen word (Err row.RepeatedNode) = (k : ℕ) × (node (length seen) word ≡ Ok (pos k)) × IsNodeOf (length seen) k
+    × (slice_index_or seen (k - 1) false ≡ true)
 IsNewNode seen word (Err fault) = ⊥
 
-pub record NumbersHold (seen : List Bool) (entries : List ℤ) (left : ℕ) (begun : Option ℕ) (low high : ℤ) (n : ℕ) (words : List (List ℕ)) : Type 0 where
+pub record NumbersHold (seen : List Bool) (entries : List ℤ) (left : ℕ) (begun : Option ℕ) (low high : ℤ) (n : ℕ)
+    (words : List (List ℕ)) : Type 0 where
   pub nodes : NodesHold (pos 0) seen entries left begun n (number_groups low high n words)
   pub cut : 0 < left → map (node n) (begun_pair words) ≡ readings begun
   pub open_ended : 0 < left → length words < 2 * n
@@ -79,7 +84,8 @@ BeginsPoint n (Some k) None (word ∷ []) = node n word ≡ Ok (pos k)
 BeginsPoint n (Some k) (Some x) (word ∷ other ∷ []) = (node n word ≡ Ok (pos k)) × (decimal_of other ≡ Ok x)
 BeginsPoint n begun x words = ⊥
 
-pub record PointsHold (seen : List Bool) (entries : List Point) (left : ℕ) (begun : Option ℕ) (x : Option ℤ) (n : ℕ) (words : List (List ℕ)) : Type 0 where
+pub record PointsHold (seen : List Bool) (entries : List Point) (left : ℕ) (begun : Option ℕ) (x : Option ℤ) (n : ℕ)
+    (words : List (List ℕ)) : Type 0 where
   pub nodes : NodesHold origin seen entries left begun n (point_groups n words)
   pub cut : 0 < left → BeginsPoint n begun x (begun_triple words)
   pub open_ended : 0 < left → length words < 3 * n
@@ -122,7 +128,8 @@ BeginsTriple n (Some i) None (word ∷ []) = node_or_end n word ≡ Ok (pos i)
 BeginsTriple n (Some i) (Some j) (word ∷ other ∷ []) = (node_or_end n word ≡ Ok (pos i)) × (node n other ≡ Ok (pos j))
 BeginsTriple n first second words = ⊥
 
-pub record TriplesHold (triples : List (ℕ × ℕ × ℤ)) (first second : Option ℕ) (ended : Bool) (n : ℕ) (words : List (List ℕ)) : Type 0 where
+pub record TriplesHold (triples : List (ℕ × ℕ × ℤ)) (first second : Option ℕ) (ended : Bool) (n : ℕ)
+    (words : List (List ℕ)) : Type 0 where
   pub list : triples ≡ fixed_triples_in n words
   pub closed : ended ≡ list_any (is_end n) (triple_firsts_in words)
   pub cut : ended ≡ false → BeginsTriple n first second (begun_triple words)

@@ -54,4 +54,5 @@ most_words intake begun more = intake.words + length (kept begun) + more
 
 -- they have not become larger
 abbrev pub KeepRoom : Intake → Begun → ℕ → Intake → Begun → ℕ → Type 0
-KeepRoom old begun more new begun_new left = (most_lines new begun_new left ≤ most_lines old begun more) × (most_words new begun_new left ≤ most_words old begun more)
+KeepRoom old begun more new begun_new left = (most_lines new begun_new left ≤ most_lines old begun more)
+    × (most_words new begun_new left ≤ most_words old begun more)

@@ -28,12 +28,15 @@ is_closed_incomplete earlier field = not (is_open field (open_section earlier)) 
 
 -- a keyword stands exactly where its field does
 abbrev pub fields_there : Fields → List Bool
-fields_there fields = is_some fields.name ∷ is_some fields.kind ∷ is_some fields.dimension ∷ is_some fields.capacity ∷ is_some fields.scale
+fields_there fields = is_some fields.name ∷ is_some fields.kind ∷ is_some fields.dimension ∷ is_some fields.capacity
+    ∷ is_some fields.scale
     ∷ is_some fields.weight_kind ∷ is_some fields.weight_format ∷ is_some fields.coord_kind ∷ is_some fields.display_kind ∷ []
 
 abbrev pub keywords_there : List Item → List Bool
-keywords_there earlier = has_line NameKey earlier ∷ has_line TypeKey earlier ∷ has_line DimensionKey earlier ∷ has_line CapacityKey earlier ∷ has_line ScaleKey earlier
-    ∷ has_line EdgeWeightTypeKey earlier ∷ has_line EdgeWeightFormatKey earlier ∷ has_line NodeCoordTypeKey earlier ∷ has_line DisplayDataTypeKey earlier ∷ []
+keywords_there earlier = has_line NameKey earlier ∷ has_line TypeKey earlier ∷ has_line DimensionKey earlier
+    ∷ has_line CapacityKey earlier ∷ has_line ScaleKey earlier
+    ∷ has_line EdgeWeightTypeKey earlier ∷ has_line EdgeWeightFormatKey earlier ∷ has_line NodeCoordTypeKey earlier
+    ∷ has_line DisplayDataTypeKey earlier ∷ []
 
 abbrev pub KeywordsStand : Fields → List Item → Type 0
 KeywordsStand fields earlier = fields_there fields ≡ keywords_there earlier
@@ -68,7 +71,9 @@ Answers earlier item new (Err (steps.Fault fault)) = row_of earlier item ≡ Som
 
 -- the same from a state where no section is open, for a line that isn't too long
 abbrev pub LineAnswers : Reading → Field → WordLine → Reading → Result (Unit {0}) StepFault → Type 0
-LineAnswers old field line new result = (earlier : List Item) → Closed old earlier → nat_lt most_line_bytes line.size ≡ false → Answers earlier (Line (Known field) line) new result
+LineAnswers old field line new result = (earlier : List Item) → Closed old earlier → nat_lt most_line_bytes line.size ≡ false
+    → Answers earlier (Line (Known field) line) new result
 
 abbrev pub OtherAnswers : Reading → WordLine → Reading → Result (Unit {0}) StepFault → Type 0
-OtherAnswers old line new result = (earlier : List Item) → Closed old earlier → nat_lt most_line_bytes line.size ≡ false → Answers earlier (Line Unknown line) new result
+OtherAnswers old line new result = (earlier : List Item) → Closed old earlier → nat_lt most_line_bytes line.size ≡ false
+    → Answers earlier (Line Unknown line) new result

@@ -24,10 +24,11 @@ last_items true false line = settled_in line
 abbrev pub items_left_by : Bool → Bool → List (List ℕ) → List Item
 items_left_by goes_on inside [] = []
 items_left_by goes_on inside (line ∷ []) = last_items goes_on inside line
-items_left_by goes_on inside (line ∷ next ∷ lines) = line_items inside line ++ LineEnd ∷ items_by (λ last. last_items goes_on false last) (next ∷ lines)
+items_left_by goes_on inside (line ∷ next ∷ lines) = line_items inside line ++ LineEnd
+    ∷ items_by (λ last. last_items goes_on false last) (next ∷ lines)
 
--- The items of what is left of a text: all of them, or the settled ones of a text that goes on. Inside of a line that has given an item, what
--- follows are words.
+-- The items of what is left of a text: all of them, or the settled ones of a text that goes on. Inside of a line that has
+-- given an item, what follows are words.
 abbrev pub items_left : Bool → Bool → List ℕ → List Item
 items_left goes_on inside bytes = items_left_by goes_on inside (lines_of bytes)
 
@@ -56,6 +57,7 @@ before test text = take (position_or_len test text) text
 abbrev pub from : (ℕ → Bool) → List ℕ → List ℕ
 from test text = drop (position_or_len test text) text
 
--- A piece at the front of a text is whole, or longer than any of its sort may be. One that nothing follows is whole only where the text ends.
+-- A piece at the front of a text is whole, or longer than any of its sort may be. One that nothing follows is whole only
+-- where the text ends.
 abbrev pub is_settled : ℕ → Bool → List ℕ → List ℕ → Bool
 is_settled most goes_on piece rest = is_filled rest || not goes_on || nat_lt most (length piece)

@@ -94,7 +94,8 @@ pub(crate) fn put_weight_section<W: Write>(
     weights: &Option<Vec<i64>>,
 )
     ensures { Puts W.contents out.old piece.old out.new piece.new
-        (optional (λ weights. section field (matrix_lines (line_lens format dimension) weights)) (option_map (λ v. v.items) weights.now)) }
+        (optional (λ weights. section field (matrix_lines (line_lens format dimension) weights))
+        (option_map (λ v. v.items) weights.now)) }
 {
     if let Some(weights) = weights {
         put_opening(piece, out, field);

@@ -41,12 +41,14 @@ nodes-preserved c =
       | then-next-first v ↦
           let less = less_of c.spoke_to-next.result.weight c.nodes.first.weight next_in first_in v.if-next-first.true in
           rw (v.first-is, v.second-is)
-          (nearer_first n w node c.nodes.first.node c.nodes.second.node next.result.node c.nodes.first.weight c.nodes.second.weight next.result.weight c.nodes.invariant low high next.ensures.node (next.ensures.weight) less)
+          (nearer_first n w node c.nodes.first.node c.nodes.second.node next.result.node c.nodes.first.weight c.nodes.second.weight next.result.weight
+          c.nodes.invariant low high next.ensures.node (next.ensures.weight) less)
       | else-next-first+then-next-second v ↦
           let least = not_less_of c.spoke_to-next.result.weight c.nodes.first.weight next_in first_in v.if-next-first.false in
           let less = less_of c.spoke_to-next.result.weight c.nodes.second.weight next_in second_in v.if-next-second.true in
           rw (v.first-is, v.second-is)
-          (nearer_second n w node c.nodes.first.node c.nodes.second.node next.result.node c.nodes.first.weight c.nodes.second.weight next.result.weight c.nodes.invariant low high next.ensures.node (next.ensures.weight) least less)
+          (nearer_second n w node c.nodes.first.node c.nodes.second.node next.result.node c.nodes.first.weight c.nodes.second.weight next.result.weight
+          c.nodes.invariant low high next.ensures.node (next.ensures.weight) least less)
       | else-next-first+else-next-second v ↦
           let least = not_less_of c.spoke_to-next.result.weight c.nodes.first.weight next_in first_in v.if-next-first.false in
           let later = not_less_of c.spoke_to-next.result.weight c.nodes.second.weight next_in second_in v.if-next-second.false in

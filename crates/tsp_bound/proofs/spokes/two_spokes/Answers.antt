@@ -21,9 +21,11 @@ returns g c =
     let is : row ≡ c.reach.new.least = c.deref-2.ensures.value ∙ written_back c.in_ok-least.least.items c.reach.new.least c.in_ok-least.least.len whole in
     let enough : n < size = omega (arith, c.count.ensures.value) in
     let same : (x : ℕ) → IsInner n x → least_at row x ≡ w 1 x = λ x h. ap (λ zs. least_at zs x) is
-    ∙ row_reached n w size 1 c.deref.result.now c.deref_mut.result.now c.reach.new.near c.deref_mut-2.result.now c.reach.new.least most_64 enough inside least c.reach.ensures.small c.reach.ensures.nearer x h in
+    ∙ row_reached n w size 1 c.deref.result.now c.deref_mut.result.now c.reach.new.near c.deref_mut-2.result.now c.reach.new.least most_64 enough inside least
+    c.reach.ensures.small c.reach.ensures.nearer x h in
     let count : length row - 1 ≡ n = omega (arith, ap length is, whole, c.in_ok-least.ensures.len, c.count.ensures.value) in
-    let nearest : AreNearest n (λ i j. least_at row j) c.nearest_two.result.0.node c.nearest_two.result.1.node = subst (λ (k : ℕ). AreNearest k (λ i j. least_at row j) c.nearest_two.result.0.node c.nearest_two.result.1.node) count c.nearest_two.ensures.nearest in
+    let nearest : AreNearest n (λ i j. least_at row j) c.nearest_two.result.0.node c.nearest_two.result.1.node =
+    subst (λ (k : ℕ). AreNearest k (λ i j. least_at row j) c.nearest_two.result.0.node c.nearest_two.result.1.node) count c.nearest_two.ensures.nearest in
     record {
       nearest = nearest_by_row n w row c.nearest_two.result.0.node c.nearest_two.result.1.node same nearest;
       first = c.nearest_two.ensures.first ∙ same c.nearest_two.result.0.node nearest.first_in;

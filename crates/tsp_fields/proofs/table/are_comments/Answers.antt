@@ -10,4 +10,5 @@ use Rattle.tsp_fields.proofs.table.are_comments.Goals as goal
 pub returns-then-len-le-MOST_COMMENTS : goal.returns-then-len-le-MOST_COMMENTS
 returns-then-len-le-MOST_COMMENTS c =
     let kept = rw c.deref.ensures.value at c.are_kept.ensures in
-    mapped_all (λ (v : Vec ℕ). v.items) (is_kept (field_word CommentKey)) c.args.comments.now.items c.are_kept.result most_comments c.len.result kept c.if-len-le-MOST_COMMENTS.true (c.len.ensures ∙ c.args.comments.now.ok.0)
+    mapped_all (λ (v : Vec ℕ). v.items) (is_kept (field_word CommentKey)) c.args.comments.now.items c.are_kept.result most_comments c.len.result kept
+    c.if-len-le-MOST_COMMENTS.true (c.len.ensures ∙ c.args.comments.now.ok.0)

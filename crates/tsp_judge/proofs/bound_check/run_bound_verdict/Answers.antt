@@ -6,8 +6,21 @@ use Rattle.tsp_judge.proofs.BoundChecks.{first_stops, with_fault, with_verdict}
 use Rattle.tsp_judge.proofs.bound_check.run_bound_verdict.Goals as goal
 
 pub returns-in-Err : goal.returns-in-Err
-returns-in-Err g c = let one = c.in-Err.ensures in
-    (one.0, one.1, ([], none_taken, ([], none_taken, with_fault _ _ _ _ _ (first_stops (turn_of g.I.Read.remaining c.args.inst.now c.read_file.new.reader one.0) _ _ _ _ one.2 (Keeps-refl _, refl) (Keeps-refl _, refl) (Keeps-refl _, refl)))))
+returns-in-Err g c = let one = c.in-Err.ensures in (
+  one.0,
+  one.1,
+  (
+    [],
+    none_taken,
+    (
+      [],
+      none_taken,
+      with_fault _ _ _ _ _
+          (first_stops (turn_of g.I.Read.remaining c.args.inst.now c.read_file.new.reader one.0) _ _ _ _ one.2 (Keeps-refl _, refl) (Keeps-refl _, refl)
+          (Keeps-refl _, refl)),
+    ),
+  ),
+)
 
 pub returns-in-Ok : goal.returns-in-Ok
 returns-in-Ok g c = let one = c.in-Ok.ensures in let two = c.with_instance.ensures in

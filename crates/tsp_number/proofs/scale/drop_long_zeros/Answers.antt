@@ -36,7 +36,8 @@ returns-then-kept-whole c =
 
 pub returns-then-are_zeros-3 : goal.returns-then-are_zeros-3
 returns-then-are_zeros-3 c =
-    let cut : CutsFraction c.args.whole.now c.args.fraction.now c.split_at-2.result.0.now c.split_at-2.result.1.now c.args.count (length c.args.whole.now + length c.args.fraction.now - c.args.count - length c.args.whole.now) =
+    let cut : CutsFraction c.args.whole.now c.args.fraction.now c.split_at-2.result.0.now c.split_at-2.result.1.now c.args.count
+    (length c.args.whole.now + length c.args.fraction.now - c.args.count - length c.args.whole.now) =
     record { front_is = c.split_at-2.ensures.front; back_is = c.split_at-2.ensures.back; places = omega arith } in
     fraction_cut_zeros _ _ _ _ _ _ _ cut c.requires.all_digits
     (sym c.are_zeros-2.ensures ∙ c.if-are_zeros-3.true)
@@ -44,6 +45,7 @@ returns-then-are_zeros-3 c =
 
 pub returns : goal.returns
 returns c =
-    let cut : CutsFraction c.args.whole.now c.args.fraction.now c.split_at-2.result.0.now c.split_at-2.result.1.now c.args.count (length c.args.whole.now + length c.args.fraction.now - c.args.count - length c.args.whole.now) =
+    let cut : CutsFraction c.args.whole.now c.args.fraction.now c.split_at-2.result.0.now c.split_at-2.result.1.now c.args.count
+    (length c.args.whole.now + length c.args.fraction.now - c.args.count - length c.args.whole.now) =
     record { front_is = c.split_at-2.ensures.front; back_is = c.split_at-2.ensures.back; places = omega arith } in
     fraction_cut_rest _ _ _ _ _ _ cut c.requires.all_digits (sym c.are_zeros-2.ensures ∙ c.if-are_zeros-3.false)

@@ -5,7 +5,8 @@ use Rattle.tsp_number.specs.Decimal.{unit}
 use Rattle.tsp_read.proofs.FrontSteps.{EndsNumber, front_gives, front_reads}
 use Rattle.tsp_read.proofs.run.front_number.Goals as goal
 
-number_at_front : (c : goal.In-Some-past_end) → EndsNumber c.args.text.now c.without_start-filled.result.now c.in-Some.end (c.in-Some.number *ℤ pos unit) c.split_at.result.1.now c.in-Some-past_end.left.now
+number_at_front : (c : goal.In-Some-past_end) → EndsNumber c.args.text.now c.without_start-filled.result.now c.in-Some.end (c.in-Some.number *ℤ pos unit)
+    c.split_at.result.1.now c.in-Some-past_end.left.now
 number_at_front c = record {
   filled_is = c.without_start-filled.ensures;
   number = c.in-Some.ensures.number;

@@ -46,4 +46,5 @@ returns-else-is_err g c =
     let last = way_of g.W.Write.contents c.hand_over.new.out c.try_extend_from_slice-2.new.self.items in
     carried_then first second last [] c.args.bytes.now (carried_waits first second [] refl refl (ap {B = List ℕ} (λ v. v.items) refused ∙ sym (append-nil c.args.piece.now.items)))
     (carried_then second third last [] c.args.bytes.now c.hand_over.ensures.carried
-    (carried_waits third last c.args.bytes.now refl refl (when_ok c.try_extend_from_slice-2.result _ (ok_is c.try_extend_from_slice-2.result (sym c.if-is_err.false ∙ c.is_err.ensures.value)) c.try_extend_from_slice-2.ensures.ok)))
+    (carried_waits third last c.args.bytes.now refl refl (when_ok c.try_extend_from_slice-2.result _
+    (ok_is c.try_extend_from_slice-2.result (sym c.if-is_err.false ∙ c.is_err.ensures.value)) c.try_extend_from_slice-2.ensures.ok)))

@@ -17,7 +17,8 @@ returns-in_ok-bound_of_potentials-in-Tsp c =
     let inst = c.args.inst.now in
     let pot = c.args.pot.now in
     let kind : inst.kind ≡ Some kinds.Tsp = search rules in
-    let good = subst (λ found. MatchOption found (AreOnPairs (nodes_of inst) (multipliers_in pot) × AreListed (fixed_of inst) (multipliers_in pot)) (λ reason. IsFirstReason (StandsAgainst inst pot) rank_of reason)) c.in_default-2.is c.in_ok-reason-in-Tsp.ensures in
+    let good = subst (λ found. MatchOption found (AreOnPairs (nodes_of inst) (multipliers_in pot) × AreListed (fixed_of inst) (multipliers_in pot))
+    (λ reason. IsFirstReason (StandsAgainst inst pot) rank_of reason)) c.in_default-2.is c.in_ok-reason-in-Tsp.ensures in
     let bound = c.in_ok-bound_of_potentials-in-Tsp.field-0 in
     let fits : FitsSigned w128 bound = search rules in
     (none_of_tsp inst pot kind c.in_default.ensures.0 c.in_default.ensures.1 c.in_default.ensures.2 good.0 good.1, rw (to_z-of_z w128 bound fits) c.in_ok-bound_of_potentials-in-Tsp.ensures)

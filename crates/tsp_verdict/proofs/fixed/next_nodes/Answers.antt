@@ -34,7 +34,8 @@ returns c =
     let walk : IsWalk c.args.n (first ∷ others) = subst (λ (xs : List ℕ). IsWalk c.args.n xs) c.in-Some.ensures.cases.0 c.requires in
     let value : first ≡ get_or (others ++ first ∷ []) index 0 = last_at first others ∙ ap (λ k. get_or (others ++ first ∷ []) k 0) (sym last) in
     let table : SetUpTo (first ∷ others) (others ++ first ∷ []) (set c.nodes.next.items c.nodes.from first) (index + 1) =
-    set_next c.args.n first others c.nodes.next.items index c.nodes.from first walk (omega (arith, last)) (sym c.nodes.next.ok.0 ∙ c.nodes.invariant.wide) c.nodes.invariant.from value c.nodes.invariant.table in
+    set_next c.args.n first others c.nodes.next.items index c.nodes.from first walk (omega (arith, last)) (sym c.nodes.next.ok.0 ∙ c.nodes.invariant.wide)
+    c.nodes.invariant.from value c.nodes.invariant.table in
     let count : index + 1 ≡ suc (length others) = omega (arith, last) in (
       c.nodes.invariant.wide,
       subst (λ (xs : List ℕ). AreNext xs (set c.nodes.next.items c.nodes.from first)) (sym c.in-Some.ensures.cases.0)

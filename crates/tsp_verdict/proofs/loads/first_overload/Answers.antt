@@ -14,14 +14,18 @@ pub load-requires-clause-range : goal.load-requires-clause-range
 load-requires-clause-range c =
     let before : ℕ = length (nodes_in (take c.routes.route-index c.args.routes.now)) in
     let nodes : List ℕ = c.as_slice-nodes.result.now in
-    let stands : StandsAfter before (nodes_in c.args.routes.now) nodes = stands_here c.args.routes.now c.routes.route-index before c.route-item.result nodes c.routes-test.true c.route-item.is refl c.as_slice-nodes.ensures.value in
+    let stands : StandsAfter before (nodes_in c.args.routes.now) nodes =
+    stands_here c.args.routes.now c.routes.route-index before c.route-item.result nodes c.routes-test.true c.route-item.is refl
+    c.as_slice-nodes.ensures.value in
     all_here (IsNode (length c.args.demands.now)) (nodes_in c.args.routes.now) nodes before stands c.requires.range
 
 pub load-requires-clause-size : goal.load-requires-clause-size
 load-requires-clause-size c =
     let before : ℕ = length (nodes_in (take c.routes.route-index c.args.routes.now)) in
     let nodes : List ℕ = c.as_slice-nodes.result.now in
-    let stands : StandsAfter before (nodes_in c.args.routes.now) nodes = stands_here c.args.routes.now c.routes.route-index before c.route-item.result nodes c.routes-test.true c.route-item.is refl c.as_slice-nodes.ensures.value in
+    let stands : StandsAfter before (nodes_in c.args.routes.now) nodes =
+    stands_here c.args.routes.now c.routes.route-index before c.route-item.result nodes c.routes-test.true c.route-item.is refl
+    c.as_slice-nodes.ensures.value in
     omega (arith, stands.inside, c.requires.size)
 
 pub routes-preserved : goal.routes-preserved

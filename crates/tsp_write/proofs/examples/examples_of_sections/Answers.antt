@@ -48,6 +48,14 @@ pub returns-clause-fixed_potentials : goal.returns-clause-fixed_potentials
 unfolding digits decimals nodes_to cells_of_line
 returns-clause-fixed_potentials c = search rules
 
+pub returns-clause-in_space : goal.returns-clause-in_space
+unfolding digits decimals nodes_to cells_of_line
+returns-clause-in_space c = search rules
+
+pub returns-clause-shown : goal.returns-clause-shown
+unfolding digits decimals nodes_to cells_of_line
+returns-clause-shown c = search rules
+
 pub returns-clause-whole : goal.returns-clause-whole
 unfolding digits decimals nodes_to cells_of_line
 returns-clause-whole c = search rules

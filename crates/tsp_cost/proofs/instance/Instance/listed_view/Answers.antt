@@ -16,7 +16,8 @@ returns-in-FullMatrix c =
       held.format ∙ ap (λ layout. Some (Listed layout)) c.in-FullMatrix.is,
       record {
         count = held.dimension ∙ ap (λ n. Some n) (sym c.of.ensures.nodes);
-        every = λ i j. c.of.ensures.costs i j ∙ ap (λ layout. listed_cost layout nodes weights i j) (sym c.in-FullMatrix.is) ∙ cost_of_listed f c.listed-layout.result.0 nodes weights c.requires held i j;
+        every = λ i j. c.of.ensures.costs i j ∙ ap (λ layout. listed_cost layout nodes weights i j) (sym c.in-FullMatrix.is)
+            ∙ cost_of_listed f c.listed-layout.result.0 nodes weights c.requires held i j;
       },
     )
 

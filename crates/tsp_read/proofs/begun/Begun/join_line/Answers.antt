@@ -13,15 +13,20 @@ returns-then-is_err-clause-joined c = λ bytes h.
     let here = line_here c.args.intake.now.inside c.args.self.now.line.items c.args.self.now.word.items c.requires.begun h.begins in
     let many = too_many c.try_extend_from_slice.result _ most_line_bytes c.try_extend_from_slice.ensures.variant (sym c.is_err.ensures.value ∙ c.if-is_err.true) in
     let over : most_line_bytes < length (c.args.self.now.line.items ++ before ends_line c.args.piece.now) =
-    subst (λ (n : ℕ). most_line_bytes < n) (ap (λ (xs : List ℕ). length c.args.self.now.line.items + length xs) c.to_line_end.ensures.before ∙ sym (length-append c.args.self.now.line.items (before ends_line c.args.piece.now))) many in
+    subst (λ (n : ℕ). most_line_bytes < n) (ap (λ (xs : List ℕ). length c.args.self.now.line.items + length xs) c.to_line_end.ensures.before
+    ∙ sym (length-append c.args.self.now.line.items (before ends_line c.args.piece.now))) many in
     let long = lt-ltb most_line_bytes (length (c.args.self.now.line.items ++ before ends_line c.args.piece.now)) over in
-    joined_fault ends_line most_line_bytes line_item c.args.intake.now c.args.intake.now c.args.self.now.line.items c.args.piece.now bytes (c.args.self.now.line.items ++ before ends_line c.args.piece.now) c.long_line.result refl
-    (settled_long most_line_bytes true (c.args.self.now.line.items ++ before ends_line c.args.piece.now) (from ends_line c.args.piece.now) over) (line_joins c.args.intake.now.inside c.args.self.now.line.items here.0) (fed_line c.args.intake.now c.args.self.now bytes c.args.piece.now h here.1) (λ earlier s. c.long_line.ensures earlier s (c.args.self.now.line.items ++ before ends_line c.args.piece.now) long)
+    joined_fault ends_line most_line_bytes line_item c.args.intake.now c.args.intake.now c.args.self.now.line.items c.args.piece.now bytes
+    (c.args.self.now.line.items ++ before ends_line c.args.piece.now) c.long_line.result refl
+    (settled_long most_line_bytes true (c.args.self.now.line.items ++ before ends_line c.args.piece.now) (from ends_line c.args.piece.now) over)
+    (line_joins c.args.intake.now.inside c.args.self.now.line.items here.0) (fed_line c.args.intake.now c.args.self.now bytes c.args.piece.now h here.1)
+    (λ earlier s. c.long_line.ensures earlier s (c.args.self.now.line.items ++ before ends_line c.args.piece.now) long)
 
 pub returns-then-is_empty-clause-joined : goal.returns-then-is_empty-clause-joined
 returns-then-is_empty-clause-joined c = λ bytes h.
     fed_longer_line c.args.intake.now c.args.self.now _ bytes c.args.piece.now c.to_line_end.result.1.now h c.requires.begun
-    (taken_up c.try_extend_from_slice.result _ (sym c.is_err.ensures.value ∙ c.if-is_err.false) c.try_extend_from_slice.ensures.ok ∙ ap (λ (xs : List ℕ). c.args.self.now.line.items ++ xs) c.to_line_end.ensures.before)
+    (taken_up c.try_extend_from_slice.result _ (sym c.is_err.ensures.value ∙ c.if-is_err.false) c.try_extend_from_slice.ensures.ok
+    ∙ ap (λ (xs : List ℕ). c.args.self.now.line.items ++ xs) c.to_line_end.ensures.before)
     refl c.to_line_end.ensures.from (empty_rest c.to_line_end.result.1.now (sym c.is_empty.ensures ∙ c.if-is_empty.true))
     (subst (λ (xs : List ℕ). length c.args.self.now.line.items + length xs ≤ most_line_bytes) c.to_line_end.ensures.before
     (few_enough c.try_extend_from_slice.result _ most_line_bytes c.try_extend_from_slice.ensures.variant (sym c.is_err.ensures.value ∙ c.if-is_err.false)))
@@ -29,19 +34,35 @@ returns-then-is_empty-clause-joined c = λ bytes h.
 pub returns-in-Err-clause-joined : goal.returns-in-Err-clause-joined
 returns-in-Err-clause-joined c = λ bytes h.
     let here = line_here c.args.intake.now.inside c.args.self.now.line.items c.args.self.now.word.items c.requires.begun h.begins in
-    joined_fault ends_line most_line_bytes line_item c.args.intake.now c.take_next.new.self c.args.self.now.line.items c.args.piece.now bytes c.as_slice.result.now c.in-Err.fault (c.as_slice.ensures.value ∙ taken_up c.try_extend_from_slice.result _ (sym c.is_err.ensures.value ∙ c.if-is_err.false) c.try_extend_from_slice.ensures.ok ∙ ap (λ (xs : List ℕ). c.args.self.now.line.items ++ xs) c.to_line_end.ensures.before)
-    (settled_filled most_line_bytes true (c.args.self.now.line.items ++ before ends_line c.args.piece.now) (from ends_line c.args.piece.now) (ap is_filled (sym c.to_line_end.ensures.from) ∙ filled_rest c.to_line_end.result.1.now (sym c.is_empty.ensures ∙ c.if-is_empty.false))) (line_joins c.args.intake.now.inside c.args.self.now.line.items here.0) (fed_line c.args.intake.now c.args.self.now bytes c.args.piece.now h here.1) c.in-Err.ensures.item
+    joined_fault ends_line most_line_bytes line_item c.args.intake.now c.take_next.new.self c.args.self.now.line.items c.args.piece.now bytes
+    c.as_slice.result.now c.in-Err.fault (c.as_slice.ensures.value
+    ∙ taken_up c.try_extend_from_slice.result _ (sym c.is_err.ensures.value ∙ c.if-is_err.false) c.try_extend_from_slice.ensures.ok
+    ∙ ap (λ (xs : List ℕ). c.args.self.now.line.items ++ xs) c.to_line_end.ensures.before)
+    (settled_filled most_line_bytes true (c.args.self.now.line.items ++ before ends_line c.args.piece.now) (from ends_line c.args.piece.now)
+    (ap is_filled (sym c.to_line_end.ensures.from) ∙ filled_rest c.to_line_end.result.1.now (sym c.is_empty.ensures ∙ c.if-is_empty.false)))
+    (line_joins c.args.intake.now.inside c.args.self.now.line.items here.0) (fed_line c.args.intake.now c.args.self.now bytes c.args.piece.now h here.1)
+    c.in-Err.ensures.item
 
 pub returns-in-Ok-true-clause-joined : goal.returns-in-Ok-true-clause-joined
 returns-in-Ok-true-clause-joined c = λ bytes h.
     let here = line_here c.args.intake.now.inside c.args.self.now.line.items c.args.self.now.word.items c.requires.begun h.begins in
-    joined_end ends_line most_line_bytes line_item c.args.intake.now c.take_next.new.self c.args.self.now.line.items c.args.piece.now bytes c.as_slice.result.now c.in-Ok-true.field-0 c.in-Ok-true.field-0-test (c.as_slice.ensures.value ∙ taken_up c.try_extend_from_slice.result _ (sym c.is_err.ensures.value ∙ c.if-is_err.false) c.try_extend_from_slice.ensures.ok ∙ ap (λ (xs : List ℕ). c.args.self.now.line.items ++ xs) c.to_line_end.ensures.before)
-    (ap is_filled (sym c.to_line_end.ensures.from) ∙ filled_rest c.to_line_end.result.1.now (sym c.is_empty.ensures ∙ c.if-is_empty.false)) (line_joins c.args.intake.now.inside c.args.self.now.line.items here.0) (fed_line c.args.intake.now c.args.self.now bytes c.args.piece.now h here.1) c.in-Ok-true.ensures.item
+    joined_end ends_line most_line_bytes line_item c.args.intake.now c.take_next.new.self c.args.self.now.line.items c.args.piece.now bytes
+    c.as_slice.result.now c.in-Ok-true.field-0 c.in-Ok-true.field-0-test
+    (c.as_slice.ensures.value ∙ taken_up c.try_extend_from_slice.result _ (sym c.is_err.ensures.value ∙ c.if-is_err.false)
+    c.try_extend_from_slice.ensures.ok ∙ ap (λ (xs : List ℕ). c.args.self.now.line.items ++ xs) c.to_line_end.ensures.before)
+    (ap is_filled (sym c.to_line_end.ensures.from) ∙ filled_rest c.to_line_end.result.1.now (sym c.is_empty.ensures ∙ c.if-is_empty.false))
+    (line_joins c.args.intake.now.inside c.args.self.now.line.items here.0) (fed_line c.args.intake.now c.args.self.now bytes c.args.piece.now h here.1)
+    c.in-Ok-true.ensures.item
 
 pub returns-in-Ok-false-clause-joined : goal.returns-in-Ok-false-clause-joined
 returns-in-Ok-false-clause-joined c = λ bytes h.
     let here = line_here c.args.intake.now.inside c.args.self.now.line.items c.args.self.now.word.items c.requires.begun h.begins in
     fed_none c.take_next.new.self _ bytes c.to_line_end.result.1.now c.clear.ensures here.1
     (subst (λ (xs : List ℕ). IsReadTo c.take_next.new.self bytes xs) (sym c.to_line_end.ensures.from)
-    (joined_more ends_line most_line_bytes line_item c.args.intake.now c.take_next.new.self c.args.self.now.line.items c.args.piece.now bytes c.as_slice.result.now c.in-Ok-false.field-0 c.in-Ok-false.field-0-test (c.as_slice.ensures.value ∙ taken_up c.try_extend_from_slice.result _ (sym c.is_err.ensures.value ∙ c.if-is_err.false) c.try_extend_from_slice.ensures.ok ∙ ap (λ (xs : List ℕ). c.args.self.now.line.items ++ xs) c.to_line_end.ensures.before)
-    (ap is_filled (sym c.to_line_end.ensures.from) ∙ filled_rest c.to_line_end.result.1.now (sym c.is_empty.ensures ∙ c.if-is_empty.false)) (line_joins c.args.intake.now.inside c.args.self.now.line.items here.0) (fed_line c.args.intake.now c.args.self.now bytes c.args.piece.now h here.1) c.in-Ok-false.ensures.inside c.in-Ok-false.ensures.item))
+    (joined_more ends_line most_line_bytes line_item c.args.intake.now c.take_next.new.self c.args.self.now.line.items c.args.piece.now bytes
+    c.as_slice.result.now c.in-Ok-false.field-0 c.in-Ok-false.field-0-test
+    (c.as_slice.ensures.value ∙ taken_up c.try_extend_from_slice.result _ (sym c.is_err.ensures.value ∙ c.if-is_err.false)
+    c.try_extend_from_slice.ensures.ok ∙ ap (λ (xs : List ℕ). c.args.self.now.line.items ++ xs) c.to_line_end.ensures.before)
+    (ap is_filled (sym c.to_line_end.ensures.from) ∙ filled_rest c.to_line_end.result.1.now (sym c.is_empty.ensures ∙ c.if-is_empty.false))
+    (line_joins c.args.intake.now.inside c.args.self.now.line.items here.0) (fed_line c.args.intake.now c.args.self.now bytes c.args.piece.now h here.1)
+    c.in-Ok-false.ensures.inside c.in-Ok-false.ensures.item))

@@ -22,7 +22,8 @@ returns-else-begins_line-clause-begins c =
     let other = sym c.begins_line.ensures ∙ c.if-begins_line.false in
     let unended = open_word c.args.inside c.args.rest.now c.without_start-filled.result.now c.in-Some.first.now _ c.without_start-filled.ensures c.in-Some.ensures.cases.0 other c.requires in
     begun_word c.args.inside _ _ c.without_start-filled.result.now c.clear.ensures
-    (has_taken c.try_extend_from_slice-else-begins_line.result _ _ _ _ c.try_extend_from_slice-else-begins_line.ensures.variant c.try_extend_from_slice-else-begins_line.ensures.ok c.clear-2.ensures unended.short)
+    (has_taken c.try_extend_from_slice-else-begins_line.result _ _ _ _ c.try_extend_from_slice-else-begins_line.ensures.variant
+    c.try_extend_from_slice-else-begins_line.ensures.ok c.clear-2.ensures unended.short)
     (record { first = c.in-Some.first.now; others = _; parts = c.in-Some.ensures.cases.0; no_letter = other; no_end = unended.no_end })
 
 pub returns-else-begins_line-clause-kept : goal.returns-else-begins_line-clause-kept
@@ -30,5 +31,6 @@ returns-else-begins_line-clause-kept c =
     let other = sym c.begins_line.ensures ∙ c.if-begins_line.false in
     let unended = open_word c.args.inside c.args.rest.now c.without_start-filled.result.now c.in-Some.first.now _ c.without_start-filled.ensures c.in-Some.ensures.cases.0 other c.requires in
     ap (λ (xs : List ℕ). xs ++ c.try_extend_from_slice-else-begins_line.new.self.items) c.clear.ensures
-    ∙ has_taken c.try_extend_from_slice-else-begins_line.result _ _ _ _ c.try_extend_from_slice-else-begins_line.ensures.variant c.try_extend_from_slice-else-begins_line.ensures.ok c.clear-2.ensures unended.short
+    ∙ has_taken c.try_extend_from_slice-else-begins_line.result _ _ _ _ c.try_extend_from_slice-else-begins_line.ensures.variant
+    c.try_extend_from_slice-else-begins_line.ensures.ok c.clear-2.ensures unended.short
     ∙ c.without_start-filled.ensures

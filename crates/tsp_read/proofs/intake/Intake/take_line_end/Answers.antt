@@ -15,4 +15,5 @@ returns-in-Some-eq10-default-clause-read c = λ bytes h.
         words_are = refl;
       },
       refl,
-    )) refl (λ short. end_gives c.args.self.now.inside c.args.text.now c.in-Some-eq10-default.rest.now (c.in-Some-eq10-default.ensures.cases.0 ∙ ap (λ b. b ∷ c.in-Some-eq10-default.rest.now) c.in-Some-eq10-default.field-0-0-test))
+    )) refl (λ short. end_gives c.args.self.now.inside c.args.text.now c.in-Some-eq10-default.rest.now
+    (c.in-Some-eq10-default.ensures.cases.0 ∙ ap (λ b. b ∷ c.in-Some-eq10-default.rest.now) c.in-Some-eq10-default.field-0-0-test))

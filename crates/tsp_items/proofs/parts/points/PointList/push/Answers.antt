@@ -22,4 +22,5 @@ returns-in-Ok-parse_decimal-clause-takes c = λ n words h. c.put.ensures n words
 pub returns-in-Err-parse_decimal-clause-takes : goal.returns-in-Err-parse_decimal-clause-takes
 returns-in-Err-parse_decimal-clause-takes c = λ n words h.
     let s = c.args.self.now in
-    point_bad s.seen.items (plane_points s.entries.items) s.left s.begun s.x n words c.args.word.now c.in-Some.node c.in-Err-parse_decimal.fault (omega arith) c.in-Some.is (sym c.parse_decimal.ensures.computed ∙ c.in-Err-parse_decimal.is) h
+    point_bad s.seen.items (plane_points s.entries.items) s.left s.begun s.x n words c.args.word.now c.in-Some.node c.in-Err-parse_decimal.fault (omega arith)
+    c.in-Some.is (sym c.parse_decimal.ensures.computed ∙ c.in-Err-parse_decimal.is) h

@@ -14,4 +14,5 @@ returns-in_default-y c = λ n words word h read.
 pub returns : goal.returns
 returns c = λ n words word h read.
     let s = c.args.self.now in
-    space_third s.seen.items s.entries.items s.left s.begun s.x s.y n words word c.args.node c.in-Some.x c.in-Some-y.y c.args.coordinate c.requires.to_come c.requires.begun c.in-Some.is c.in-Some-y.is read h
+    space_third s.seen.items s.entries.items s.left s.begun s.x s.y n words word c.args.node c.in-Some.x c.in-Some-y.y c.args.coordinate c.requires.to_come
+    c.requires.begun c.in-Some.is c.in-Some-y.is read h

@@ -13,7 +13,8 @@ returns-in-NameKey c = λ earlier h short.
 
 pub returns-in-CommentKey : goal.returns-in-CommentKey
 returns-in-CommentKey c = λ earlier h short.
-    rw c.in-CommentKey.is (texts.comment_line c.args.self.now _ (seen c.args.line.now) (map (λ v. v.items) c.add_comment.new.comments.items) c.add_comment.result c.add_comment.ensures refl refl refl earlier h short)
+    rw c.in-CommentKey.is (texts.comment_line c.args.self.now _ (seen c.args.line.now) (map (λ v. v.items) c.add_comment.new.comments.items)
+    c.add_comment.result c.add_comment.ensures refl refl refl earlier h short)
 
 pub returns-in-DimensionKey : goal.returns-in-DimensionKey
 returns-in-DimensionKey c = λ earlier h short.
@@ -25,7 +26,8 @@ returns-in-CapacityKey c = λ earlier h short.
 
 pub returns-in-ScaleKey : goal.returns-in-ScaleKey
 returns-in-ScaleKey c = λ earlier h short.
-    rw c.in-ScaleKey.is (keywords.scale_line c.args.self.now _ (seen c.args.line.now) c.set_number-in-ScaleKey.new.slot c.set_number-in-ScaleKey.result c.set_number-in-ScaleKey.ensures refl refl refl earlier h short)
+    rw c.in-ScaleKey.is (keywords.scale_line c.args.self.now _ (seen c.args.line.now) c.set_number-in-ScaleKey.new.slot c.set_number-in-ScaleKey.result
+    c.set_number-in-ScaleKey.ensures refl refl refl earlier h short)
 
 pub returns-in-TypeKey : goal.returns-in-TypeKey
 returns-in-TypeKey c = λ earlier h short.
@@ -39,7 +41,8 @@ returns-in-EdgeWeightTypeKey c = λ earlier h short.
 
 pub returns-in-EdgeWeightFormatKey : goal.returns-in-EdgeWeightFormatKey
 returns-in-EdgeWeightFormatKey c = λ earlier h short.
-    rw c.in-EdgeWeightFormatKey.is (keywords.weight_format_line c.args.self.now _ (seen c.args.line.now) c.set_named-in-EdgeWeightFormatKey.new.slot c.set_named-in-EdgeWeightFormatKey.result c.set_named-in-EdgeWeightFormatKey.ensures refl refl refl earlier h short)
+    rw c.in-EdgeWeightFormatKey.is (keywords.weight_format_line c.args.self.now _ (seen c.args.line.now) c.set_named-in-EdgeWeightFormatKey.new.slot
+    c.set_named-in-EdgeWeightFormatKey.result c.set_named-in-EdgeWeightFormatKey.ensures refl refl refl earlier h short)
 
 pub returns-in-NodeCoordTypeKey : goal.returns-in-NodeCoordTypeKey
 returns-in-NodeCoordTypeKey c = λ earlier h short.
@@ -49,7 +52,8 @@ returns-in-NodeCoordTypeKey c = λ earlier h short.
 
 pub returns-in-DisplayDataTypeKey : goal.returns-in-DisplayDataTypeKey
 returns-in-DisplayDataTypeKey c = λ earlier h short.
-    rw c.in-DisplayDataTypeKey.is (keywords.display_kind_line c.args.self.now _ (seen c.args.line.now) c.set_named-in-DisplayDataTypeKey.new.slot c.set_named-in-DisplayDataTypeKey.result c.set_named-in-DisplayDataTypeKey.ensures refl refl refl earlier h short)
+    rw c.in-DisplayDataTypeKey.is (keywords.display_kind_line c.args.self.now _ (seen c.args.line.now) c.set_named-in-DisplayDataTypeKey.new.slot
+    c.set_named-in-DisplayDataTypeKey.result c.set_named-in-DisplayDataTypeKey.ensures refl refl refl earlier h short)
 
 pub returns-in_default : goal.returns-in_default
 returns-in_default c = λ earlier h short.

@@ -12,4 +12,5 @@ returns-in-Eof c = λ earlier h.
 pub returns-in-Unknown : goal.returns-in-Unknown
 returns-in-Unknown c = λ earlier h.
     let short : nat_lt 4096 c.args.line.now.size ≡ false = search (tests, rules) in
-    rw c.in-Unknown.is (texts.other_line c.close.new.self _ (seen c.args.line.now) (map (λ v. (v.0.items, v.1.items)) c.add_other.new.others.items) c.add_other.result c.add_other.ensures refl refl refl earlier (c.in-Ok.ensures.closed earlier h) short)
+    rw c.in-Unknown.is (texts.other_line c.close.new.self _ (seen c.args.line.now) (map (λ v. (v.0.items, v.1.items)) c.add_other.new.others.items)
+    c.add_other.result c.add_other.ensures refl refl refl earlier (c.in-Ok.ensures.closed earlier h) short)
