@@ -69,8 +69,7 @@ impl<P: InSpace> Costs for Points<'_, P> {
         self.points.len() as u32
     }
 
-    // (as a call of its own it cost a growth over points 3 instructions in 100 more)
-    #[inline(always)]
+    #[inline]
     fn cost(&self, i: u32, j: u32) -> i64 {
         distance(
             self.kind,
