@@ -60,15 +60,7 @@ pub fn faults_of_words()
 {}
 
 /// The faults at the end of some texts.
-#[tactic(
-    auto,
-    unfolding(
-        tsp_number::specs::Reading::decimal_of,
-        tsp_number::specs::Reading::whole_of,
-        tsp_value::specs::Cells::cells,
-        tsp_value::specs::Cells::nodes_to,
-    )
-)]
+#[tactic(auto, unfolding(tsp_number::specs::Reading::decimal_of, tsp_number::specs::Reading::whole_of, tsp_value::specs::Cells::cells, tsp_value::specs::Cells::nodes_to))]
 pub fn faults_at_the_end()
     ensures no_type { MissingAtEnd (codes "DIMENSION 3") fields.TypeKey }
     ensures small_letters { MissingAtEnd (codes "dimension : 3") fields.TypeKey }
@@ -96,14 +88,7 @@ pub fn faults_at_the_end()
 {}
 
 /// What some texts spell.
-#[tactic(
-    auto,
-    unfolding(
-        tsp_number::specs::Reading::decimal_of,
-        tsp_number::specs::Reading::whole_of,
-        tsp_value::specs::Cells::nodes_to,
-    )
-)]
+#[tactic(auto, unfolding(tsp_number::specs::Reading::decimal_of, tsp_number::specs::Reading::whole_of, tsp_value::specs::Cells::nodes_to))]
 pub fn fields_of_texts()
     ensures value { OthersAre (codes "FOO : BAR") (codes "FOO") (codes "BAR") }
     ensures no_value { OthersAre (codes "FOO: ") (codes "FOO") (codes "") }
