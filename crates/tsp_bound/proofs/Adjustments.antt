@@ -36,7 +36,7 @@ same_turned pair i j =
     ∙ ap (λ b. b || ((pair.0 == i) && (pair.1 == j))) (and_turned (pair.1 == i) (pair.0 == j))
     ∙ ap (λ b. ((pair.0 == j) && (pair.1 == i)) || b) (and_turned (pair.0 == i) (pair.1 == j))
 
-numbers_turned : (triples : List (ℕ × ℕ × ℤ)) (i j : ℕ) → numbers_on triples i j ≡ numbers_on triples j i
+pub numbers_turned : (triples : List (ℕ × ℕ × ℤ)) (i j : ℕ) → numbers_on triples i j ≡ numbers_on triples j i
 numbers_turned [] i j = refl
 numbers_turned (t ∷ ts) i j =
     let first : number_on t i j ≡ number_on t j i = ap (λ b. if b then t.2 else pos 0) (same_turned (pair_of t) i j) in

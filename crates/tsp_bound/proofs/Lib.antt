@@ -7,6 +7,7 @@ pub mod Duality
 pub mod Exchange
 pub mod HeapSteps
 pub mod Lowered
+pub mod Lowest
 pub mod Marks
 pub mod Nearest
 pub mod Neighbours

@@ -14,11 +14,11 @@ use Rattle.tsp_bound.proofs.Nearest.{IsTaken, most_64}
 
 -- ---- what a node's weight is lowered by
 
-none_lowered : (lowerings : List (ℕ × ℤ)) (x : ℕ) → AllByRecursion (λ l. l.0 ≢ x) lowerings → lowered_by lowerings x ≡ pos 0
+pub none_lowered : (lowerings : List (ℕ × ℤ)) (x : ℕ) → AllByRecursion (λ l. l.0 ≢ x) lowerings → lowered_by lowerings x ≡ pos 0
 none_lowered [] x h = refl
 none_lowered (l ∷ ls) x h = let rest = none_lowered ls x h.1 in let other = ne_eqb l.0 x h.0 in rw other (omega (arith, ints, rest))
 
-one_lowered : (lowerings : List (ℕ × ℤ)) (x k : ℕ) (number : ℤ) → AllPairs (λ a b. a.0 ≢ b.0) lowerings → k < length lowerings
+pub one_lowered : (lowerings : List (ℕ × ℤ)) (x k : ℕ) (number : ℤ) → AllPairs (λ a b. a.0 ≢ b.0) lowerings → k < length lowerings
     → get_or lowerings k (x, number) ≡ (x, number) → lowered_by lowerings x ≡ number
 one_lowered [] x k number once lt is = absurd (omega arith)
 one_lowered (l ∷ ls) x zero number once lt is =
@@ -60,7 +60,7 @@ both_steps lowerings n weight next x old_near old_least mid_near mid_least new_n
     nearer_at (weight -ℤ found.0) (weight -ℤ lowered_by lowerings x) next old_near old_least new_near new_least (omega (arith, ints, one))
     (both_nearer (weight -ℤ found.0) weight next old_near old_least mid_near mid_least new_near new_least (omega (arith, ints, size.0)) found.2 nearer)
 
-lowered_positive : (n : ℕ) (lowerings : List (ℕ × ℤ)) (x : ℕ) → AllByRecursion (λ l. IsFromTo (pos 0) (pos most_multiplier) l.1) lowerings → pos 0 ≤ℤ lowered_by lowerings x
+pub lowered_positive : (n : ℕ) (lowerings : List (ℕ × ℤ)) (x : ℕ) → AllByRecursion (λ l. IsFromTo (pos 0) (pos most_multiplier) l.1) lowerings → pos 0 ≤ℤ lowered_by lowerings x
 lowered_positive n [] x h = omega (arith, ints)
 lowered_positive n (l ∷ ls) x h = let rest = lowered_positive n ls x h.1 in elim (cases_eq l.0 x) [
   | inl same ↦ let here = eq-eqb l.0 x same in rw here (omega (arith, ints, rest, h.0.0))

@@ -1,19 +1,22 @@
 -- A growth over the places of an order is one over its nodes, and its weight.
-use Rattle.std.proofs.Common.{◌≡◌, ℕ, ◌+◌, ◌*◌, ◌^◌, ◌<◌, ◌≤◌, ◌==◌, Bool, List, [], ◌∷◌, ◌++◌, map, take, length, get_or, ℤ, ◌+ℤ◌, ◌≤ℤ◌, refl, arith, ap, ap₂, sym, ◌∙◌, subst, subst₂, Result, Ok, Err, IfOk}
-use Rattle.std.specs.Prelude.{pos, neg_ℤ, slice_index_or}
+use Rattle.std.proofs.Common.{◌≡◌, ℕ, ◌+◌, ◌*◌, ◌^◌, ◌<◌, ◌≤◌, ◌==◌, List, [], ◌∷◌, ◌++◌, map, take, length, get_or, ℤ, refl, arith, ap, sym, ◌∙◌, subst, Result, Ok, Err, IfOk}
+use Rattle.std.specs.Prelude.{pos, neg_ℤ, ◌-ℤ◌, slice_index_or}
 use Rattle.std.proofs.lemmas.Int.{ints}
 use Rattle.std.proofs.lemmas.List.{take_more, map-append}
 use Rattle.tsp_value.specs.Limits.{most_nodes}
 use Rattle.tsp_value.specs.Cells.{IsNode}
 use Rattle.tsp_bound.specs.declared.potentials.Potentials.{Potentials}
-use Rattle.tsp_bound.specs.Potentials.{weight_under}
-use Rattle.tsp_bound.specs.Adjusted.{adjusted}
+use Rattle.tsp_bound.specs.declared.by_node.ByNode.{ByNode}
+use Rattle.tsp_bound.specs.Adjusted.{numbers_on, adjusted}
+use Rattle.tsp_bound.specs.ByNode.{lowered_by}
+use Rattle.tsp_bound.specs.Multipliers.{triples_in, weight_less}
 use Rattle.tsp_bound.specs.Boxes.{node_at}
-use Rattle.tsp_bound.specs.Growth.{and_node, IsLeastLeaving, Grows, IsPartGrowth}
+use Rattle.tsp_bound.specs.Growth.{Grows, IsPartGrowth}
 use Rattle.tsp_bound.specs.Heap.{IsBelow}
 use Rattle.tsp_bound.specs.Numbering.{IsNumbering, both}
 use Rattle.tsp_bound.specs.Numbers.{IsFromTo, IsSumSized}
 use Rattle.tsp_bound.specs.Tree.{IsInner, weight_of}
+use Rattle.tsp_bound.proofs.Adjustments.{numbers_turned}
 use Rattle.tsp_bound.proofs.Renaming.{growths_rename}
 
 pub map_more : (f : ℕ × ℕ → ℕ × ℕ) (xs : List (ℕ × ℕ)) (i : ℕ) (d : ℕ × ℕ) → i < length xs → map f (take (i + 1) xs) ≡ map f (take i xs) ++ f (get_or xs i d) ∷ []
@@ -34,34 +37,13 @@ over_nodes order places last start w v pairs some num is same grows =
     subst (λ (k : ℕ). Grows (IsInner last) w (λ x. x == k) (map (both (node_at order)) pairs)) first
     (growths_rename (length order) last (node_at order) (λ x. slice_index_or places x 0) w v start pairs num below (λ i j i_in j_in. same i j) grows)
 
--- ---- the same weights
+-- ---- the weight of a pair, less its multiplier
 
-leaving_same : (Node : ℕ → Type 0) (w v : ℕ → ℕ → ℤ) (grown : ℕ → Bool) (pair : ℕ × ℕ) → ((i j : ℕ) → w i j ≡ v i j) → IsLeastLeaving Node w grown pair → IsLeastLeaving Node v grown pair
-leaving_same Node w v grown pair same least = record {
-  from = least.from;
-  to = least.to;
-  node = least.node;
-  least = λ a b a_in b_in a_grown b_free. subst₂ (λ x y. x ≤ℤ y) (same pair.0 pair.1) (same a b) (least.least a b a_in b_in a_grown b_free);
-}
-
-grows_same : (Node : ℕ → Type 0) (w v : ℕ → ℕ → ℤ) (pairs : List (ℕ × ℕ)) (grown : ℕ → Bool) → ((i j : ℕ) → w i j ≡ v i j) → Grows Node w grown pairs → Grows Node v grown pairs
-grows_same Node w v [] grown same g = tt
-grows_same Node w v (pair ∷ pairs) grown same g = (leaving_same Node w v grown pair same g.0, grows_same Node w v pairs (and_node grown pair.1) same g.1)
-
-weight_same : (w v : ℕ → ℕ → ℤ) (pairs : List (ℕ × ℕ)) → ((i j : ℕ) → w i j ≡ v i j) → weight_of w pairs ≡ weight_of v pairs
-weight_same w v [] same = refl
-weight_same w v (pair ∷ pairs) same = ap₂ (λ a b. a +ℤ b) (same pair.0 pair.1) (weight_same w v pairs same)
-
-unadjusted : (w : ℕ → ℕ → ℤ) (i j : ℕ) → w i j ≡ adjusted [] [] w i j
-unadjusted w i j = omega (arith, ints)
-
--- with no multipliers they are those of the potentials
-pub unadjusted_part : (n : ℕ) (w : ℕ → ℕ → ℤ) (triples : List (ℕ × ℕ × ℤ)) (pairs : List (ℕ × ℕ)) (sum : ℤ) → triples ≡ [] → IsPartGrowth n w pairs sum → IsPartGrowth n (adjusted triples [] w) pairs sum
-unadjusted_part n w triples pairs sum none part = subst (λ (ts : List (ℕ × ℕ × ℤ)). IsPartGrowth n (adjusted ts [] w) pairs sum) (sym none) (record {
-  grows = grows_same (IsInner n) w (adjusted [] [] w) pairs (λ x. x == 2) (unadjusted w) part.grows;
-  weight = part.weight ∙ weight_same w (adjusted [] [] w) pairs (unadjusted w);
-  size = part.size;
-})
+pub less_value : (triples : List (ℕ × ℕ × ℤ)) (lowerings : List (ℕ × ℤ)) (w : ℕ → ℕ → ℤ) (from to : ℕ) (weight number : ℤ) → weight ≡ w from to → number ≡ lowered_by lowerings from
+    → lowered_by lowerings from ≡ numbers_on triples to from → weight -ℤ number ≡ adjusted triples [] w from to
+less_value triples lowerings w from to weight number weight_is number_is sums =
+    let turned = numbers_turned triples to from in
+    omega (arith, ints, weight_is, number_is, sums, turned)
 
 -- ---- no pair, and as many as a tree has
 
@@ -81,13 +63,16 @@ whole_size n w pairs sum most count size = (omega (arith, ints, size.0, most, co
 pub is_node : (order : List ℕ) (place : ℕ → ℕ) (last : ℕ) → IsNumbering (length order) (IsInner last) (node_at order) place → (j : ℕ) → j < length order → IsNode last (node_at order j)
 is_node order place last num j h = let inner = num.node_in j h in (omega (arith, inner.0), inner.1)
 
-pub growth_seen : (order seen : List ℕ) (p q : Potentials) (cost shown : ℕ → ℕ → ℤ) (start : ℕ) (pairs : List (ℕ × ℕ)) → seen ≡ order → q ≡ p → shown ≡ cost
-    → Grows (IsBelow (length seen)) (λ i j. weight_under q shown (node_at seen i) (node_at seen j)) (λ x. x == start) pairs
-    → Grows (IsBelow (length order)) (λ i j. weight_under p cost (node_at order i) (node_at order j)) (λ x. x == start) pairs
-growth_seen order seen p q cost shown start pairs same_order same_p same_cost g =
-    subst (λ (os : List ℕ). Grows (IsBelow (length os)) (λ i j. weight_under p cost (node_at os i) (node_at os j)) (λ x. x == start) pairs) same_order
-    (subst (λ (r : Potentials). Grows (IsBelow (length seen)) (λ i j. weight_under r cost (node_at seen i) (node_at seen j)) (λ x. x == start) pairs) same_p
-    (subst (λ (k : ℕ → ℕ → ℤ). Grows (IsBelow (length seen)) (λ i j. weight_under q k (node_at seen i) (node_at seen j)) (λ x. x == start) pairs) same_cost g))
+pub weights_seen : (p q : Potentials) (m k : ByNode) (cost shown : ℕ → ℕ → ℤ) → q ≡ p → k ≡ m → shown ≡ cost → weight_less q (triples_in k) shown ≡ weight_less p (triples_in m) cost
+weights_seen p q m k cost shown same_p same_m same_cost =
+    ap (λ (r : Potentials). weight_less r (triples_in k) shown) same_p ∙ (ap (λ (r : ByNode). weight_less p (triples_in r) shown) same_m ∙ ap (weight_less p (triples_in m)) same_cost)
+
+pub growth_seen : (order seen : List ℕ) (w shown : ℕ → ℕ → ℤ) (start : ℕ) (pairs : List (ℕ × ℕ)) → seen ≡ order → shown ≡ w
+    → Grows (IsBelow (length seen)) (λ i j. shown (node_at seen i) (node_at seen j)) (λ x. x == start) pairs
+    → Grows (IsBelow (length order)) (λ i j. w (node_at order i) (node_at order j)) (λ x. x == start) pairs
+growth_seen order seen w shown start pairs same_order same_weights g =
+    subst (λ (os : List ℕ). Grows (IsBelow (length os)) (λ i j. w (node_at os i) (node_at os j)) (λ x. x == start) pairs) same_order
+    (subst (λ (k : ℕ → ℕ → ℤ). Grows (IsBelow (length seen)) (λ i j. k (node_at seen i) (node_at seen j)) (λ x. x == start) pairs) same_weights g)
 
 -- the pairs of the nodes and their sum
 pub part_of : (order places : List ℕ) (last start : ℕ) (w : ℕ → ℕ → ℤ) (pairs named : List (ℕ × ℕ)) (sum : ℤ) → 3 ≤ last

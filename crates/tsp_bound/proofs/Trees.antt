@@ -6,7 +6,7 @@ use Rattle.std.proofs.lemmas.List.{get_or-set_same, get_or-set_other}
 use Rattle.std.proofs.lemmas.Int.{ints}
 use Rattle.tsp_bound.specs.declared.area.Area.{Area}
 use Rattle.tsp_bound.specs.declared.boxes.Best.{Best}
-use Rattle.tsp_bound.specs.Boxes.{up, node_at, is_outside, area_at, AreHeldFrom, AreHeld, IsRefit, Keeps, IsFound, IsSearched, no_best}
+use Rattle.tsp_bound.specs.Boxes.{up, node_at, is_outside, area_at, AreHeldFrom, AreHeld, IsRefit, Keeps, IsFound, IsBest, IsSearched, no_best}
 use Rattle.tsp_bound.specs.Heap.{IsNearest}
 
 -- ---- numbers of boxes
@@ -212,7 +212,7 @@ searched_all w places outside from old new all j j_in out =
 
 -- ---- the search of all, as the trait has it
 
-pub found_some : (w : ℕ → ℕ → ℤ) (places : List ℕ) (outside : List Bool) (from : ℕ) (best : Best) → IsSearched w places outside from 1 no_best best
+pub found_some : (w : ℕ → ℕ → ℤ) (places : List ℕ) (outside : List Bool) (from : ℕ) (best : Best) → IsBest w places outside from best
     → best.weight ≢ pos 9223372036854775807 → IsFound w places outside from best
 found_some w places outside from best all other = elim all.found [
   | inl same ↦ absurd (other (ap (λ (b : Best). b.weight) same))
@@ -224,7 +224,7 @@ pub searched_seen : (w : ℕ → ℕ → ℤ) (places seen : List ℕ) (outside 
 searched_seen w places seen outside marks from best p q h = subst (λ (os : List Bool). IsSearched w places os (node_at places from) 1 no_best best) q
     (subst (λ (ps : List ℕ). IsSearched w ps marks (node_at ps from) 1 no_best best) p h)
 
-pub nearest_is : (w : ℕ → ℕ → ℤ) (places : List ℕ) (outside : List Bool) (from : ℕ) (best : Best) (weight : ℤ) → IsSearched w places outside (node_at places from) 1 no_best best
+pub nearest_is : (w : ℕ → ℕ → ℤ) (places : List ℕ) (outside : List Bool) (from : ℕ) (best : Best) (weight : ℤ) → IsBest w places outside (node_at places from) best
     → IsFound w places outside (node_at places from) best → weight ≡ best.weight
     → IsNearest (length places) (λ i j. w (node_at places i) (node_at places j)) (is_outside outside) from (record { weight = weight; from = from; to = best.place })
 nearest_is w places outside from best weight all found is = record {
@@ -232,7 +232,7 @@ nearest_is w places outside from best weight all found is = record {
   to_in = found.node_in;
   to_out = found.out;
   weight_is = is ∙ found.weight_is;
-  least = λ x x_in out. subst (λ (z : ℤ). z ≤ℤ w (node_at places from) (node_at places x)) (sym is) (searched_all w places outside (node_at places from) no_best best all x x_in out);
+  least = λ x x_in out. subst (λ (z : ℤ). z ≤ℤ w (node_at places from) (node_at places x)) (sym is) (all.least x x_in out);
 }
 
 -- once a node is taken in

@@ -54,15 +54,20 @@ pub record IsFound (w : ℕ → ℕ → ℤ) (order : List ℕ) (outside : List 
   pub out : is_outside outside best.place ≡ true
   pub weight_is : best.weight ≡ w from (node_at order best.place)
 
+-- before the search
+abbrev pub no_best : Best
+no_best = record { weight = pos 9223372036854775807; place = 0 }
+
+-- no node outside is better, and it is one, where there is one
+pub record IsBest (w : ℕ → ℕ → ℤ) (order : List ℕ) (outside : List Bool) (from : ℕ) (best : Best) : Type 0 where
+  pub least : (j : ℕ) → j < length order → is_outside outside j ≡ true → best.weight ≤ℤ w from (node_at order j)
+  pub found : (best ≡ no_best) ⊎ IsFound w order outside from best
+
 -- the search of the box v: the new best is no worse than the old one and than each node outside below v
 pub record IsSearched (w : ℕ → ℕ → ℤ) (order : List ℕ) (outside : List Bool) (from : ℕ) (v : ℕ) (old new : Best) : Type 0 where
   pub kept : new.weight ≤ℤ old.weight
   pub below : (j h : ℕ) → j < length order → is_outside outside j ≡ true → up h (length order + j) ≡ v → new.weight ≤ℤ w from (node_at order j)
   pub found : (new ≡ old) ⊎ IsFound w order outside from new
-
--- before the search
-abbrev pub no_best : Best
-no_best = record { weight = pos 9223372036854775807; place = 0 }
 
 -- ---- each has one proof at most
 

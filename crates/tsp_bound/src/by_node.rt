@@ -1,10 +1,11 @@
 //! The multipliers of the pairs of each node.
 
-ghost use Rattle.std.specs.Prelude.{◌-◌, ◌<◌, ◌^◌, [], IfOk};
-ghost use Rattle.std.specs.List.{All};
-ghost use Rattle.tsp_bound.specs.Numbers.{IsMultiplier, AreMultipliers};
+ghost use Rattle.std.specs.Prelude.{◌≡◌, ◌≢◌, ◌-◌, ◌<◌, ◌^◌, [], pos, IfOk};
+ghost use Rattle.std.specs.List.{All, AllPairs};
+ghost use Rattle.tsp_value.specs.Limits.{most_multiplier};
+ghost use Rattle.tsp_bound.specs.Numbers.{IsFromTo, IsMultiplier, AreMultipliers};
 ghost use Rattle.tsp_bound.specs.Adjusted.{AreOnPairs};
-ghost use Rattle.tsp_bound.specs.ByNode.{IsTable};
+ghost use Rattle.tsp_bound.specs.ByNode.{IsTable, lowered_by};
 
 use crate::multipliers::Multipliers;
 use std::alloc::{AllocError, Global};
@@ -21,10 +22,10 @@ pub(crate) struct ByNode<'a> {
 }
 
 impl<'a> ByNode<'a> {
-    ghost use Rattle.std.specs.Prelude.{◌≡◌, ◌↔◌, IsTrue, ℕ, []};
+    ghost use Rattle.std.specs.Prelude.{ℕ};
     ghost use Rattle.tsp_value.specs.Cells.{IsNode};
     ghost use Rattle.tsp_bound.specs.Adjusted.{numbers_on};
-    ghost use Rattle.tsp_bound.specs.ByNode.{AreLowerings, lowered_by};
+    ghost use Rattle.tsp_bound.specs.ByNode.{AreLowerings};
     ghost use Rattle.tsp_bound.specs.Multipliers.{triples_of, triples_in, nodes_in};
 
     /// The multipliers of different pairs of the nodes 1 to `nodes`, by node.
@@ -48,13 +49,6 @@ impl<'a> ByNode<'a> {
         })
     }
 
-    /// Whether no pair has a multiplier.
-    pub(crate) fn is_empty(&self) -> bool
-        ensures { IsTrue result ↔ (triples_in self.now ≡ []) }
-    {
-        self.triples.is_empty()
-    }
-
     /// The multipliers of a node's pairs, each with the pair's other node.
     pub(crate) fn at(&self, node: u32) -> &[(u32, i64)]
         requires { IsNode (nodes_in self.now) node }
@@ -63,6 +57,21 @@ impl<'a> ByNode<'a> {
     {
         self.lists[node as usize].as_slice()
     }
+}
+
+/// What a list lowers the weight to a node by.
+pub(crate) fn lowered_by(lowerings: &[(u32, i64)], node: u32) -> i64
+    requires once { AllPairs (λ a b. a.0 ≢ b.0) lowerings.now }
+    requires each { All (λ lowering. IsFromTo (pos 0) (pos most_multiplier) lowering.1) lowerings.now }
+    ensures value { result ≡ lowered_by lowerings.now node }
+    ensures size { IsFromTo (pos 0) (pos most_multiplier) result }
+{
+    'lowerings: for lowering in lowerings {
+        if lowering.0 == node {
+            return lowering.1;
+        }
+    }
+    0
 }
 
 /// For each node from 0 to `nodes` the other node and the number of each triple that has it.

@@ -9,10 +9,10 @@ ghost use Rattle.tsp_bound.specs.Growth.{IsWholeGrowth, IsPartGrowth};
 ghost use Rattle.tsp_bound.specs.Multipliers.{triples_in, nodes_in, weight_less};
 ghost use Rattle.tsp_bound.specs.Numbering.{both};
 ghost use Rattle.tsp_bound.specs.Numbers.{IsFromTo, IsSumSized};
-ghost use Rattle.tsp_bound.specs.Potentials.{numbers_of, weight_under};
+ghost use Rattle.tsp_bound.specs.Potentials.{numbers_of};
 ghost use Rattle.tsp_bound.specs.Tree.{weight_of};
 
-use crate::by_node::ByNode;
+use crate::by_node::{ByNode, lowered_by};
 use crate::growth::{Grown, grow_on};
 use crate::heap::grow_by_heap;
 use crate::nodes::Nodes;
@@ -50,8 +50,7 @@ pub(crate) fn grow<C: Grouped>(
 
 /// The part of a growth from node 2 that the boxes of the nodes and a heap give, and its weight.
 ///
-/// It is empty where a node has no place or the order isn't one of all the nodes, and where a pair
-/// has a multiplier: such a pair may weigh less than its box says.
+/// It is empty where a node has no place, or the order isn't one of all the nodes.
 ///
 /// Errors: out of memory.
 fn grown_part<C: Grouped>(
@@ -62,18 +61,16 @@ fn grown_part<C: Grouped>(
 ) -> Result<Grown, AllocError>
     requires some { 3 ≤ C.nodes c.now }
     requires count { length (numbers_of p.now) ≡ C.nodes c.now }
+    requires over { nodes_in m.now ≡ C.nodes c.now }
     ensures { IfOk result (λ grown. IsPartGrowth (C.nodes c.now)
         (weight_less p.now (triples_in m.now) (C.at c.now)) grown.pairs.items grown.weight) }
 {
-    if !m.is_empty() {
-        return nothing(alloc, c);
-    }
     let mut order = c.order(alloc)?;
     order.retain(|node| *node != 1);
     if order.len() + 1 != c.count() as usize {
         return nothing(alloc, c);
     }
-    grown_over(alloc, c, p, &order)
+    grown_over(alloc, c, p, m, &order)
 }
 
 /// The same over an order of nodes.
@@ -81,23 +78,25 @@ fn grown_over<C: Grouped>(
     alloc: Global,
     c: &C,
     p: &Potentials,
+    m: &ByNode,
     order: &[u32],
 ) -> Result<Grown, AllocError>
     requires some { 3 ≤ C.nodes c.now }
     requires count { length (numbers_of p.now) ≡ C.nodes c.now }
+    requires over { nodes_in m.now ≡ C.nodes c.now }
     requires few { length order.now ≤ most_nodes }
-    ensures { IfOk result (λ grown. IsPartGrowth (C.nodes c.now) (weight_under p.now (C.at c.now))
-        grown.pairs.items grown.weight) }
+    ensures { IfOk result (λ grown. IsPartGrowth (C.nodes c.now)
+        (weight_less p.now (triples_in m.now) (C.at c.now)) grown.pairs.items grown.weight) }
 {
     let Some(places) = places_in(alloc, order, c.count())? else {
         return nothing(alloc, c);
     };
     let start = places[2];
-    let Some(mut nodes) = Nodes::new(alloc, c, *p, order)? else {
+    let Some(mut nodes) = Nodes::new(alloc, c, *p, m, order, &places)? else {
         return nothing(alloc, c);
     };
     let pairs = grow_by_heap(alloc, &mut nodes, start, most_steps(c.count()))?;
-    weighed(alloc, c, p, order, &pairs)
+    weighed(alloc, c, p, m, order, &pairs)
 }
 
 /// No pair yet, with room for those of a tree: a part of any growth.
@@ -125,16 +124,18 @@ fn weighed<C: Costs>(
     alloc: Global,
     c: &C,
     p: &Potentials,
+    m: &ByNode,
     order: &[u32],
     pairs: &[(u32, u32)],
 ) -> Result<Grown, AllocError>
     requires count { length (numbers_of p.now) ≡ C.nodes c.now }
+    requires over { nodes_in m.now ≡ C.nodes c.now }
     requires nodes { (j : ℕ) → j < length order.now → IsNode (C.nodes c.now) (node_at order.now j) }
     requires places { All (λ pair. (pair.0 < length order.now) × (pair.1 < length order.now)) pairs.now }
     requires few { length pairs.now ≤ most_nodes }
     ensures pairs { IfOk result (λ grown. grown.pairs.items ≡ map (both (node_at order.now)) pairs.now) }
     ensures weight { IfOk result (λ grown. grown.weight
-        ≡ weight_of (weight_under p.now (C.at c.now)) grown.pairs.items) }
+        ≡ weight_of (weight_less p.now (triples_in m.now) (C.at c.now)) grown.pairs.items) }
     ensures size { IfOk result (λ grown. IsSumSized (length grown.pairs.items) grown.weight) }
 {
     let mut named = Vec::with_capacity(alloc, c.count() as usize + 1)?;
@@ -143,7 +144,9 @@ fn weighed<C: Costs>(
         let from = order[pair.0 as usize];
         let to = order[pair.1 as usize];
         named.push((from, to))?;
-        weight += i128::from(p.weight(c, from, to));
+        // A node is at most once a pair's second one, so that no list is gone over twice.
+        let number = lowered_by(m.at(to), from);
+        weight += i128::from(p.weight(c, from, to) - number);
     }
     Ok(Grown {
         pairs: named,

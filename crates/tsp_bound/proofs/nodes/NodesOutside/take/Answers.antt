@@ -10,6 +10,12 @@ invariant_of-self g c =
     let s = c.args.self.now in
     record {
       count = s.count;
+      over = s.over;
+      long = s.long;
+      inner = s.inner;
+      placed = s.placed;
+      back = s.back;
+      there = s.there;
       nodes = s.nodes;
       few = s.few;
       as_many = length-set s.outside.items c.args.node _ ∙ s.as_many;
