@@ -17,5 +17,7 @@ pub mod CombsBySets
 pub mod CombSizes
 pub mod DecidedOnce
 pub mod MovedSums
+pub mod Passes
+pub mod Grown
 pub mod CaseWeights
 pub mod GivenBack

@@ -10,3 +10,4 @@ pub mod Sets
 pub mod Combed
 pub mod CombsOfSets
 pub mod Judged
+pub mod Listed

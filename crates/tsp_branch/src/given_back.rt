@@ -46,7 +46,7 @@ pub(crate) fn given_back(
 }
 
 /// The sum of numbers.
-fn total(numbers: &[i64]) -> i128
+pub(crate) fn total(numbers: &[i64]) -> i128
     requires { length numbers.now < 2 ^ 32 }
     ensures value { result ≡ total numbers.now }
     ensures size { IsFromTo (neg_ℤ (pos (2 ^ 95))) (pos (2 ^ 95)) result }

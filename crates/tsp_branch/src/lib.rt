@@ -8,15 +8,18 @@ mod decided;
 mod examples;
 mod given_back;
 mod growth;
+mod judge;
 mod laws;
 mod leaf;
 mod moved;
 mod node_weights;
+mod numbers;
 mod scaled;
 mod sets;
 mod setting;
 mod spokes;
 mod stack;
+mod steps;
 mod tree;
 mod weights;
 
@@ -34,5 +37,6 @@ pub use laws::{
 pub use leaf::leaf_bound;
 pub use node_weights::NodeWeights;
 pub use stack::next_case;
+pub use steps::{Judged, TreeStep};
 pub use tree::least_weight;
 pub use weights::Weights;
