@@ -36,18 +36,13 @@ pub fn perform<R: Read, W: Write>(
 fn done(ended: Result<(), RunFault>) -> Result<Option<Verdict>, RunFault>
     ensures { result ≡ counts ended }
 {
-    match ended {
-        Ok(()) => Ok(None),
-        Err(fault) => Err(fault),
-    }
+    ended?;
+    Ok(None)
 }
 
 /// What is done has this verdict.
 fn judged(ended: Result<Verdict, RunFault>) -> Result<Option<Verdict>, RunFault>
     ensures { result ≡ judges ended }
 {
-    match ended {
-        Ok(verdict) => Ok(Some(verdict)),
-        Err(fault) => Err(fault),
-    }
+    Ok(Some(ended?))
 }

@@ -41,10 +41,7 @@ pub(crate) fn answer<W: Write>(
 pub(crate) fn told(ended: Result<Verdict, RunFault>) -> Result<bool, RunFault>
     ensures { result ≡ told ended }
 {
-    match ended {
-        Ok(verdict) => Ok(is_yes(verdict)),
-        Err(fault) => Err(fault),
-    }
+    Ok(is_yes(ended?))
 }
 
 /// Whether the solution is accepted.

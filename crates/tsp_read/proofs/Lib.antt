@@ -43,3 +43,4 @@ pub mod EndLines
 pub mod SectionCases
 pub mod FirstSteps
 pub mod SectionSteps
+mod HandedOn

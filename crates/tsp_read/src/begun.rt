@@ -80,14 +80,11 @@ impl Begun {
         if rest.is_empty() {
             return Ok(Some(rest));
         }
-        match intake.take_next(alloc, &Next::Line(self.line.as_slice())) {
-            Err(fault) => Err(fault),
-            Ok(true) => Ok(None),
-            Ok(false) => {
-                self.line.clear();
-                Ok(Some(rest))
-            }
+        if intake.take_next(alloc, &Next::Line(self.line.as_slice()))? {
+            return Ok(None);
         }
+        self.line.clear();
+        Ok(Some(rest))
     }
 
     /// Goes on with a word that has begun.
@@ -112,14 +109,11 @@ impl Begun {
         if rest.is_empty() {
             return Ok(Some(rest));
         }
-        match intake.take_next(alloc, &Next::Word(self.word.as_slice())) {
-            Err(fault) => Err(fault),
-            Ok(true) => Ok(None),
-            Ok(false) => {
-                self.word.clear();
-                Ok(Some(rest))
-            }
+        if intake.take_next(alloc, &Next::Word(self.word.as_slice()))? {
+            return Ok(None);
         }
+        self.word.clear();
+        Ok(Some(rest))
     }
 
     /// Goes on with what has begun, if anything has: takes it where its end is in the piece. What

@@ -31,10 +31,8 @@ fn read_on(
     ensures room { result ≡ Ok false
         → KeepRoom intake.old begun.old (length piece.now) intake.new begun.new 0 }
 {
-    let rest = match begun.join(intake, alloc, piece) {
-        Err(fault) => return Err(fault),
-        Ok(None) => return Ok(true),
-        Ok(Some(rest)) => rest,
+    let Some(rest) = begun.join(intake, alloc, piece)? else {
+        return Ok(true);
     };
     if rest.is_empty() {
         return Ok(false);
@@ -227,9 +225,7 @@ impl Feed {
             → has_end_line (settled_part bytes) ≡ true → result ≢ Err OutOfMemory }
     {
         let alloc = self.alloc;
-        match self.end() {
-            Ok(reading) => completed(reading, alloc),
-            Err(fault) => Err(fault),
-        }
+        let reading = self.end()?;
+        completed(reading, alloc)
     }
 }

@@ -28,17 +28,13 @@ pub(crate) fn feed_all<R: Read>(feed: &mut Feed, reader: &mut Watched<R>) -> Res
         if !feed.is_going() {
             return Ok(());
         }
-        let count = match reader.read(&mut piece) {
-            Err(_) => return Err(ReadFault::Device),
-            Ok(count) => count,
+        let Ok(count) = reader.read(&mut piece) else {
+            return Err(ReadFault::Device);
         };
         if count == 0 {
             return Ok(());
         }
-        match feed.feed(&piece[..count]) {
-            Err(fault) => return Err(fault),
-            Ok(()) => {}
-        }
+        feed.feed(&piece[..count])?;
         taken += count;
     }
     Ok(())

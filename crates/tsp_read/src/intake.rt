@@ -137,10 +137,8 @@ impl Intake {
     {
         let mut rest = self.take_run(piece);
         'items: while let Some((next, after)) = next_item(rest, self.inside, true) {
-            match self.take_next(alloc, &next) {
-                Ok(true) => return Ok(None),
-                Ok(false) => {}
-                Err(fault) => return Err(fault),
+            if self.take_next(alloc, &next)? {
+                return Ok(None);
             }
             rest = self.take_run(after);
         }

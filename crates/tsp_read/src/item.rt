@@ -22,10 +22,10 @@ pub(crate) fn take(reading: &mut Reading, alloc: Global, next: &Next<'_>) -> Res
 {
     match next {
         Next::LineEnd => Ok(false),
-        Next::Word(word) => match reading.word(alloc, word) {
-            Ok(()) => Ok(false),
-            Err(fault) => Err(fault),
-        },
+        Next::Word(word) => {
+            reading.word(alloc, word)?;
+            Ok(false)
+        }
         Next::Line(text) => take_line(reading, alloc, text),
     }
 }
@@ -50,10 +50,8 @@ fn take_line(reading: &mut Reading, alloc: Global, text: &[u8]) -> Result<bool, 
         → TakesItem earlier (line_item text.now) reading.new result }
 {
     let line = cut_line(text);
-    match reading.line(alloc, &line) {
-        Ok(()) => Ok(is_end(line.key)),
-        Err(fault) => Err(fault),
-    }
+    reading.line(alloc, &line)?;
+    Ok(is_end(line.key))
 }
 
 /// The number of the word that an item is, after so many words of its line; 0 where it is none.

@@ -35,13 +35,12 @@ pub fn judge_tour(alloc: Global, inst: &Instance, sol: &File) -> Result<Verdict,
         (λ verdict. IsVerdict inst.now sol.now verdict)
         (λ refused. NoneBeforeRepeats inst.now sol.now) }
 {
-    match length_of_tour(alloc, inst, sol) {
-        Ok(Ok(length)) => Ok(Verdict::Tour {
+    match length_of_tour(alloc, inst, sol)? {
+        Ok(length) => Ok(Verdict::Tour {
             length,
             bound: None,
         }),
-        Ok(Err(reason)) => Ok(Verdict::No(reason)),
-        Err(refused) => Err(refused),
+        Err(reason) => Ok(Verdict::No(reason)),
     }
 }
 

@@ -13,10 +13,8 @@ pub(crate) fn read_node(word: &[u8], n: u32) -> Result<u32, NumberFault>
     ensures read { node n word.now ≡ as_number result }
     ensures within { IfOk result (λ k. IsNodeOf n k) }
 {
-    match parse_whole(word, 1, i64::from(n)) {
-        Ok(node) => Ok(node as u32),
-        Err(fault) => Err(fault),
-    }
+    let node = parse_whole(word, 1, i64::from(n))?;
+    Ok(node as u32)
 }
 
 /// A node of 1..n, or `None` for the -1 that ends a list.
@@ -24,11 +22,10 @@ pub(crate) fn read_node_or_end(word: &[u8], n: u32) -> Result<Option<u32>, Numbe
     ensures read { node_or_end n word.now ≡ as_node_or_end result }
     ensures within { IfOk result (λ found. ForSome found (λ k. IsNodeOf n k)) }
 {
-    match parse_whole(word, -1, i64::from(n)) {
-        Ok(-1) => Ok(None),
-        Ok(0) => Err(NumberFault::OutOfRange),
-        Ok(node) => Ok(Some(node as u32)),
-        Err(fault) => Err(fault),
+    match parse_whole(word, -1, i64::from(n))? {
+        -1 => Ok(None),
+        0 => Err(NumberFault::OutOfRange),
+        node => Ok(Some(node as u32)),
     }
 }
 

@@ -124,9 +124,7 @@ impl TourList {
             → IfOk result (λ tours. map (λ tour. tour.items) tours.items ≡ tours_in words) }
         ensures err { IfErr result (λ e. e ≡ Memory) }
     {
-        match self.end_run(alloc) {
-            Ok(()) => Ok(self.done),
-            Err(error) => Err(error),
-        }
+        self.end_run(alloc)?;
+        Ok(self.done)
     }
 }

@@ -26,10 +26,7 @@ impl Reading {
         if line.size > MOST_LINE_BYTES {
             return Err(StepFault::Fault(LineFault::LongLine));
         }
-        match self.close(alloc) {
-            Ok(()) => {}
-            Err(fault) => return Err(fault),
-        }
+        self.close(alloc)?;
         match line.key {
             Keyword::Known(field) => match field.shape(self.draft.is_spatial()) {
                 Some(shape) => self.open(alloc, field, shape, line),

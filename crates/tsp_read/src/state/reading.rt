@@ -111,13 +111,9 @@ impl Reading {
             return Ok(());
         };
         let field = section.field;
-        match store(&mut self.draft, alloc, section) {
-            Ok(true) => {
-                self.incomplete = first_of(field, self.incomplete);
-                Ok(())
-            }
-            Ok(false) => Ok(()),
-            Err(fault) => Err(fault),
+        if store(&mut self.draft, alloc, section)? {
+            self.incomplete = first_of(field, self.incomplete);
         }
+        Ok(())
     }
 }

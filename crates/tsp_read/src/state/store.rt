@@ -55,13 +55,10 @@ pub(crate) fn store(
             draft.weights = Some(part.finish());
             Ok(false)
         }
-        Part::Tours(part) => match part.finish(alloc) {
-            Ok(tours) => {
-                draft.tours = Some(tours);
-                Ok(false)
-            }
-            Err(fault) => Err(fault),
-        },
+        Part::Tours(part) => {
+            draft.tours = Some(part.finish(alloc)?);
+            Ok(false)
+        }
         Part::Triples(part) => {
             let (triples, wants_more) = part.finish();
             draft.fixed_potentials = Some(triples);

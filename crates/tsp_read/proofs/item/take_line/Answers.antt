@@ -3,7 +3,7 @@ use Rattle.tsp_items.specs.states.CutLine.{seen, cut_item}
 use Rattle.tsp_read.proofs.ReadSteps.{takes_ok}
 use Rattle.tsp_read.proofs.item.take_line.Goals as goal
 
-pub returns-in-Ok : goal.returns-in-Ok
-returns-in-Ok c = λ earlier h.
+pub returns : goal.returns
+returns c = λ earlier h.
     takes_ok earlier (cut_item c.cut_line-line.result) (line_item c.args.text.now) c.line.new.self c.is_end.result c.cut_line-line.ensures
-    (c.in-Ok.ensures earlier h) (c.is_end.ensures (seen c.cut_line-line.result))
+    (c.in_ok-line.ensures earlier h) (c.is_end.ensures (seen c.cut_line-line.result))
