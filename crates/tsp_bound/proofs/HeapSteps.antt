@@ -147,7 +147,8 @@ pub heap_kept : (n : ℕ) (w : ℕ → ℕ → ℤ) (outside after : ℕ → Boo
 heap_kept n w outside after old rest new x heap p q taken =
     record {
       links_are = λ entry h.
-          let link = heap.links_are entry (Contains-permutation (x ∷ rest) old entry (IsPermutation-sym old (x ∷ rest) p) (Contains-permutation new (x ∷ rest) entry (IsPermutation-sym (x ∷ rest) new q) h)) in
+          let link = heap.links_are entry (Contains-permutation (x ∷ rest) old entry (IsPermutation-sym old (x ∷ rest) p)
+          (Contains-permutation new (x ∷ rest) entry (IsPermutation-sym (x ∷ rest) new q) h)) in
           record {
             from_in = link.from_in;
             from_inside = taken_after outside after x.0.to entry.0.from taken link.from_inside;

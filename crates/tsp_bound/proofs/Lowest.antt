@@ -37,7 +37,8 @@ pub record IsLowest (n : ℕ) (w v : ℕ → ℕ → ℤ) (lowerings : List (ℕ
       → best.weight ≤ℤ (w from x -ℤ number)
   pub found : (best ≡ old) ⊎ IsFound v order outside from best
 
-pub lowest_start : (n : ℕ) (w v : ℕ → ℕ → ℤ) (lowerings : List (ℕ × ℤ)) (order places : List ℕ) (outside : List Bool) (from : ℕ) (old : Best) → FitsSigned w64 old.weight → IsLowest n w v lowerings order places outside from 0 old old
+pub lowest_start : (n : ℕ) (w v : ℕ → ℕ → ℤ) (lowerings : List (ℕ × ℤ)) (order places : List ℕ) (outside : List Bool) (from : ℕ) (old : Best)
+    → FitsSigned w64 old.weight → IsLowest n w v lowerings order places outside from 0 old old
 lowest_start n w v lowerings order places outside from old fits = record {
   fits = fits;
   kept = omega (arith, ints);

@@ -80,7 +80,8 @@ pub part_of : (order places : List ℕ) (last start : ℕ) (w : ℕ → ℕ → 
     → Grows (IsBelow (length order)) (λ i j. w (node_at order i) (node_at order j)) (λ x. x == start) pairs
     → named ≡ map (both (node_at order)) pairs → sum ≡ weight_of w named → IsSumSized (length named) sum → IsPartGrowth last w named sum
 part_of order places last start w pairs named sum some num is grows named_is sum_is size = record {
-  grows = subst (λ (ps : List (ℕ × ℕ)). Grows (IsInner last) w (λ x. x == 2) ps) (sym named_is) (over_nodes order places last start w (λ i j. w (node_at order i) (node_at order j)) pairs some num is (λ i j. refl) grows);
+  grows = subst (λ (ps : List (ℕ × ℕ)). Grows (IsInner last) w (λ x. x == 2) ps) (sym named_is)
+      (over_nodes order places last start w (λ i j. w (node_at order i) (node_at order j)) pairs some num is (λ i j. refl) grows);
   weight = sum_is;
   size = size;
 }

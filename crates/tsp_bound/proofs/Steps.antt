@@ -30,7 +30,8 @@ pub record IsState (n : ℕ) (w : ℕ → ℕ → ℤ) (inside : List Bool) (nea
 
 -- ---- a pair more
 
-pub grows_more : (Node : ℕ → Type 0) (w : ℕ → ℕ → ℤ) (added : List (ℕ × ℕ)) (grown : ℕ → Bool) (e : ℕ × ℕ) → Grows Node w grown added → IsLeastLeaving Node w (grown_by grown added) e → Grows Node w grown (added ++ e ∷ [])
+pub grows_more : (Node : ℕ → Type 0) (w : ℕ → ℕ → ℤ) (added : List (ℕ × ℕ)) (grown : ℕ → Bool) (e : ℕ × ℕ) → Grows Node w grown added
+    → IsLeastLeaving Node w (grown_by grown added) e → Grows Node w grown (added ++ e ∷ [])
 grows_more Node w [] grown e g least = (least, tt)
 grows_more Node w (f ∷ fs) grown e g least = (g.0, grows_more Node w fs (and_node grown f.1) e g.1 least)
 
@@ -39,12 +40,14 @@ grown_by_more [] grown e = refl
 grown_by_more (f ∷ fs) grown e = grown_by_more fs (and_node grown f.1) e
 
 -- a node that is reached is a node
-pub grown_by_nodes : (Node : ℕ → Type 0) (w : ℕ → ℕ → ℤ) (added : List (ℕ × ℕ)) (grown : ℕ → Bool) → Grows Node w grown added → ((x : ℕ) → grown x ≡ true → Node x) → (x : ℕ) → grown_by grown added x ≡ true → Node x
+pub grown_by_nodes : (Node : ℕ → Type 0) (w : ℕ → ℕ → ℤ) (added : List (ℕ × ℕ)) (grown : ℕ → Bool) → Grows Node w grown added
+    → ((x : ℕ) → grown x ≡ true → Node x) → (x : ℕ) → grown_by grown added x ≡ true → Node x
 grown_by_nodes Node w [] grown g nodes = nodes
 grown_by_nodes Node w (e ∷ es) grown g nodes = grown_by_nodes Node w es (and_node grown e.1) g.1 (and_node_all grown e.1 Node g.0.node nodes)
 
 -- the pair at a place of a growth leaves the part grown before it
-pub grows_at : (Node : ℕ → Type 0) (w : ℕ → ℕ → ℤ) (pairs : List (ℕ × ℕ)) (grown : ℕ → Bool) (i : ℕ) (d : ℕ × ℕ) → i < length pairs → Grows Node w grown pairs → IsLeastLeaving Node w (grown_by grown (take i pairs)) (get_or pairs i d)
+pub grows_at : (Node : ℕ → Type 0) (w : ℕ → ℕ → ℤ) (pairs : List (ℕ × ℕ)) (grown : ℕ → Bool) (i : ℕ) (d : ℕ × ℕ) → i < length pairs → Grows Node w grown pairs
+    → IsLeastLeaving Node w (grown_by grown (take i pairs)) (get_or pairs i d)
 grows_at Node w [] grown i d low g = absurd (omega (arith, low))
 grows_at Node w (e ∷ es) grown zero d low g = g.0
 grows_at Node w (e ∷ es) grown (suc i) d low g = grows_at Node w es (and_node grown e.1) i d (omega (arith, low)) g.1
@@ -53,7 +56,8 @@ grows_at Node w (e ∷ es) grown (suc i) d low g = grows_at Node w es (and_node 
 
 pub marked_more : (inside : List Bool) (v x : ℕ) → v < length inside → is_inside (set inside v true) x ≡ and_node (is_inside inside) v x
 marked_more inside v x h = elim (cases_eq x v) [
-  | inl same ↦ subst (λ z. is_inside (set inside v true) z ≡ and_node (is_inside inside) v z) (sym same) (get_or-set_same inside v true false h ∙ sym (or_left (v == v) (is_inside inside v) (eq-eqb v v refl)))
+  | inl same ↦ subst (λ z. is_inside (set inside v true) z ≡ and_node (is_inside inside) v z) (sym same)
+      (get_or-set_same inside v true false h ∙ sym (or_left (v == v) (is_inside inside v) (eq-eqb v v refl)))
   | inr other ↦ get_or-set_other inside v x true false other ∙ sym (ap (λ b. b || is_inside inside x) (ne_eqb x v other))
 ]
 
@@ -77,12 +81,18 @@ insiders_all (true ∷ inside) all = omega (arith, insiders_all inside (λ x h. 
 insiders_all (false ∷ inside) all = absurd (false≢true (all 0 (omega arith)))
 
 -- all but the first two
-pub insiders_inner : (inside : List Bool) → 2 ≤ length inside → is_inside inside 0 ≡ false → is_inside inside 1 ≡ false → ((x : ℕ) → 2 ≤ x → x < length inside → is_inside inside x ≡ true) → insiders inside + 2 ≡ length inside
+pub insiders_inner : (inside : List Bool) → 2 ≤ length inside → is_inside inside 0 ≡ false → is_inside inside 1 ≡ false
+    → ((x : ℕ) → 2 ≤ x → x < length inside → is_inside inside x ≡ true) → insiders inside + 2 ≡ length inside
 insiders_inner [] some none one all = absurd (omega arith)
 insiders_inner (a ∷ []) some none one all = absurd (omega arith)
 insiders_inner (true ∷ b ∷ inside) some none one all = absurd (false≢true (sym none))
 insiders_inner (false ∷ true ∷ inside) some none one all = absurd (false≢true (sym one))
-insiders_inner (false ∷ false ∷ inside) some none one all = omega (arith, insiders_all inside (λ x h. all (suc (suc x)) (omega arith) (omega arith)), sum_by-cons one_if false (false ∷ inside), sum_by-cons one_if false inside)
+insiders_inner (false ∷ false ∷ inside) some none one all = omega (
+  arith,
+  insiders_all inside (λ x h. all (suc (suc x)) (omega arith) (omega arith)),
+  sum_by-cons one_if false (false ∷ inside),
+  sum_by-cons one_if false inside,
+)
 
 -- ---- the step
 
@@ -90,9 +100,11 @@ insiders_inner (false ∷ false ∷ inside) some none one all = omega (arith, in
 before : (n : ℕ) (inside : List Bool) (v x : ℕ) → v < length inside → is_inside (set inside v true) x ≡ false → is_inside inside x ≡ false
 before n inside v x in_list free = (or_parts (x == v) (is_inside inside x) (sym (marked_more inside v x in_list) ∙ free)).1
 
-pub state_more_by : (n : ℕ) (w : ℕ → ℕ → ℤ) (inside : List Bool) (near after : List ℕ) (least least_after : List ℤ) (added : List (ℕ × ℕ)) (u v : ℕ) → IsState n w inside near least added → IsInner n v → is_inside inside v ≡ false
+pub state_more_by : (n : ℕ) (w : ℕ → ℕ → ℤ) (inside : List Bool) (near after : List ℕ) (least least_after : List ℤ) (added : List (ℕ × ℕ)) (u v : ℕ)
+    → IsState n w inside near least added → IsInner n v → is_inside inside v ≡ false
     → IsLeastLeaving (IsInner n) w (grown_by (λ x. x == 2) added) (u, v)
-    → length after ≡ length near → length least_after ≡ length least → AreNearer n w (set inside v true) v near least after least_after → IsState n w (set inside v true) after least_after (added ++ (u, v) ∷ [])
+    → length after ≡ length near → length least_after ≡ length least → AreNearer n w (set inside v true) v near least after least_after
+    → IsState n w (set inside v true) after least_after (added ++ (u, v) ∷ [])
 state_more_by n w inside near after least least_after added u v s inner outside leaving size least_size nearer =
     let in_list : v < length inside = omega (arith, s.inside_len, inner) in
     let more : (x : ℕ) → is_inside (set inside v true) x ≡ and_node (is_inside inside) v x = λ x. marked_more inside v x in_list in
@@ -131,8 +143,10 @@ state_more_by n w inside near after least least_after added u v s inner outside 
         let first : least_at least x ≤ℤ w a x = s.least_is x a in_x in_a (before n inside v x (omega (arith, s.inside_len, inner)) free) taken in
         omega (arith, ints, first, new.1, new.2)
 
-pub state_more : (n : ℕ) (w : ℕ → ℕ → ℤ) (inside : List Bool) (near after : List ℕ) (least least_after : List ℤ) (added : List (ℕ × ℕ)) (v : ℕ) → IsState n w inside near least added → IsNearestOutside n inside least v
-    → length after ≡ length near → length least_after ≡ length least → AreNearer n w (set inside v true) v near least after least_after → IsState n w (set inside v true) after least_after (added ++ (slice_index near v, v) ∷ [])
+pub state_more : (n : ℕ) (w : ℕ → ℕ → ℤ) (inside : List Bool) (near after : List ℕ) (least least_after : List ℤ) (added : List (ℕ × ℕ)) (v : ℕ)
+    → IsState n w inside near least added → IsNearestOutside n inside least v
+    → length after ≡ length near → length least_after ≡ length least → AreNearer n w (set inside v true) v near least after least_after
+    → IsState n w (set inside v true) after least_after (added ++ (slice_index near v, v) ∷ [])
 state_more n w inside near after least least_after added v s next size least_size nearer =
     state_more_by n w inside near after least least_after added (slice_index near v) v s next.inner next.outside
     (record {
@@ -148,7 +162,8 @@ state_more n w inside near after least least_after added v s next size least_siz
     size least_size nearer
 
 -- as many pairs as nodes can be added
-pub room_more : (n : ℕ) (w : ℕ → ℕ → ℤ) (inside : List Bool) (near : List ℕ) (least : List ℤ) (added : List (ℕ × ℕ)) (v : ℕ) → IsState n w inside near least added → IsNearestOutside n inside least v → length added < n
+pub room_more : (n : ℕ) (w : ℕ → ℕ → ℤ) (inside : List Bool) (near : List ℕ) (least : List ℤ) (added : List (ℕ × ℕ)) (v : ℕ)
+    → IsState n w inside near least added → IsNearestOutside n inside least v → length added < n
 room_more n w inside near least added v s next =
     let in_list : v < length inside = omega (arith, s.inside_len, next.inner) in
     omega (arith, insiders_more inside v in_list next.outside, insiders_few (set inside v true), length-set inside v true, s.inside_len, s.count)
@@ -157,7 +172,8 @@ outside_inner : (n x : ℕ) → (IsInner n x → ⊥) → (b : Bool) → (b ≡ 
 outside_inner n x never b in_if = false_from_ne_true b (λ h. never (in_if h))
 
 -- where all are inside the growth is whole
-pub state_end : (n : ℕ) (w : ℕ → ℕ → ℤ) (inside : List Bool) (near : List ℕ) (least : List ℤ) (added : List (ℕ × ℕ)) → 3 ≤ n → IsState n w inside near least added → AllInside n inside → IsWholeGrowth n w added
+pub state_end : (n : ℕ) (w : ℕ → ℕ → ℤ) (inside : List Bool) (near : List ℕ) (least : List ℤ) (added : List (ℕ × ℕ)) → 3 ≤ n
+    → IsState n w inside near least added → AllInside n inside → IsWholeGrowth n w added
 state_end n w inside near least added some s all =
     let nodes : (x : ℕ) → is_inside inside x ≡ true → IsInner n x = λ x h.
     grown_by_nodes (IsInner n) w added (λ y. y == 2) s.grows (λ y k. subst (IsInner n) (sym (eqb-true y 2 k)) (omega arith, omega arith)) x (sym (s.reached x) ∙ h) in
@@ -185,11 +201,13 @@ insiders_none (suc size) = omega (arith, sum_by-cons one_if false (replicate siz
 
 pub one_start : (size start x : ℕ) → start < size → is_inside (set (replicate size false) start true) x ≡ (x == start)
 one_start size start x some = elim (cases_eq x start) [
-  | inl same ↦ subst (λ z. is_inside (set (replicate size false) start true) z ≡ (z == start)) (sym same) (get_or-set_same (replicate size false) start true false (omega (arith, length-replicate size false, some)) ∙ sym (eq-eqb start start refl))
+  | inl same ↦ subst (λ z. is_inside (set (replicate size false) start true) z ≡ (z == start)) (sym same)
+      (get_or-set_same (replicate size false) start true false (omega (arith, length-replicate size false, some)) ∙ sym (eq-eqb start start refl))
   | inr other ↦ get_or-set_other (replicate size false) start x true false other ∙ none_inside size x ∙ sym (ne_eqb x start other)
 ]
 
-pub state_start : (n : ℕ) (w : ℕ → ℕ → ℤ) (inside : List Bool) (near after : List ℕ) (least least_after : List ℤ) (most : ℤ) → 3 ≤ n → inside ≡ set (replicate (n + 1) false) 2 true → length after ≡ n + 1 → length least_after ≡ n + 1
+pub state_start : (n : ℕ) (w : ℕ → ℕ → ℤ) (inside : List Bool) (near after : List ℕ) (least least_after : List ℤ) (most : ℤ) → 3 ≤ n
+    → inside ≡ set (replicate (n + 1) false) 2 true → length after ≡ n + 1 → length least_after ≡ n + 1
     → ((x : ℕ) → IsInner n x → least_at least x ≡ most) → ((x : ℕ) → IsInner n x → is_inside inside x ≡ false → w 2 x <ℤ most)
     → AreNearer n w inside 2 near least after least_after → IsState n w inside after least_after []
 state_start n w inside near after least least_after most some is size least_size none small nearer =
@@ -215,7 +233,8 @@ state_start n w inside near after least least_after most some is size least_size
     }
 
 -- where no node is inside, and no weight is known, a node's weights are those that are taken
-pub row_reached : (n : ℕ) (w : ℕ → ℕ → ℤ) (size next : ℕ) (inside : List Bool) (near after : List ℕ) (least least_after : List ℤ) (most : ℤ) → n < size → inside ≡ replicate size false → least ≡ replicate size most
+pub row_reached : (n : ℕ) (w : ℕ → ℕ → ℤ) (size next : ℕ) (inside : List Bool) (near after : List ℕ) (least least_after : List ℤ) (most : ℤ) → n < size
+    → inside ≡ replicate size false → least ≡ replicate size most
     → ((x : ℕ) → IsInner n x → is_inside inside x ≡ false → w next x <ℤ most) → AreNearer n w inside next near least after least_after → (x : ℕ) → IsInner n x → least_at least_after x ≡ w next x
 row_reached n w size next inside near after least least_after most enough none full small nearer x h =
     let free : is_inside inside x ≡ false = ap (λ xs. is_inside xs x) none ∙ none_inside size x in
@@ -233,28 +252,33 @@ written_back before after len same = ap (λ k. take k (after ++ drop (length aft
 none_yet : (n x : ℕ) (least : List ℤ) (most : ℤ) → least ≡ replicate (n + 1) most → IsInner n x → least_at least x ≡ most
 none_yet n x least most is h = ap (λ xs. least_at xs x) is ∙ get_or-replicate (n + 1) x most (pos 0) (omega (arith, h.1))
 
-pub start_after : (n : ℕ) (w : ℕ → ℕ → ℤ) (size : ℕ) (inside seen : List Bool) (near near_was near_after : List ℕ) (least least_was least_after : List ℤ) (near_len least_len : ℕ) (most : ℤ) → 3 ≤ n → size ≡ n + 1
+pub start_after : (n : ℕ) (w : ℕ → ℕ → ℤ) (size : ℕ) (inside seen : List Bool) (near near_was near_after : List ℕ) (least least_was least_after : List ℤ)
+    (near_len least_len : ℕ) (most : ℤ) → 3 ≤ n → size ≡ n + 1
     → inside ≡ replicate size false → least ≡ replicate size most → seen ≡ set inside 2 true → near_was ≡ near → least_was ≡ least → length near ≡ size
     → length near_after ≡ length near_was → length least_after ≡ length least_was → near_len ≡ length near → least_len ≡ length least
     → ((x : ℕ) → IsInner n x → is_inside seen x ≡ false → w 2 x <ℤ most) → AreNearer n w seen 2 near_was least_was near_after least_after
     → IsState n w (set inside 2 true) (take near_len (near_after ++ drop (length near_after) near)) (take least_len (least_after ++ drop (length least_after) least)) []
-start_after n w size inside seen near near_was near_after least least_was least_after near_len least_len most some size_is inside_is least_is seen_is near_same least_same near_size near_kept least_kept near_len_is least_len_is small nearer =
+start_after n w size inside seen near near_was near_after least least_was least_after near_len least_len most some size_is inside_is least_is seen_is near_same
+    least_same near_size near_kept least_kept near_len_is least_len_is small nearer =
     let whole : inside ≡ replicate (n + 1) false = inside_is ∙ ap (λ k. replicate k false) size_is in
     let none : least_was ≡ replicate (n + 1) most = least_same ∙ least_is ∙ ap (λ k. replicate k most) size_is in
     let near_long : length near_after ≡ n + 1 = near_kept ∙ ap length near_same ∙ near_size ∙ size_is in
     let least_long : length least_after ≡ n + 1 = least_kept ∙ ap length none ∙ length-replicate (n + 1) most in
-    let begun = state_start n w seen near_was near_after least_was least_after most some (seen_is ∙ ap (λ xs. set xs 2 true) whole) near_long least_long (λ x h. none_yet n x least_was most none h) small nearer in
+    let begun = state_start n w seen near_was near_after least_was least_after most some (seen_is ∙ ap (λ xs. set xs 2 true) whole) near_long least_long
+    (λ x h. none_yet n x least_was most none h) small nearer in
     let near_back = written_back near near_after near_len (near_len_is ∙ sym (near_kept ∙ ap length near_same)) in
     let least_back = written_back least least_after least_len (least_len_is ∙ sym (least_kept ∙ ap length least_same)) in
     subst (λ (xs : List ℤ). IsState n w (set inside 2 true) (take near_len (near_after ++ drop (length near_after) near)) xs []) (sym least_back)
     (subst (λ (xs : List ℕ). IsState n w (set inside 2 true) xs least_after []) (sym near_back)
     (subst (λ (xs : List Bool). IsState n w xs near_after least_after []) seen_is begun))
 
-pub state_after : (n : ℕ) (w : ℕ → ℕ → ℤ) (inside seen : List Bool) (near near_was near_after : List ℕ) (least least_was least_after : List ℤ) (added pushed : List (ℕ × ℕ)) (v u near_len least_len : ℕ) → IsState n w inside near least added → IsNearestOutside n inside least v
+pub state_after : (n : ℕ) (w : ℕ → ℕ → ℤ) (inside seen : List Bool) (near near_was near_after : List ℕ) (least least_was least_after : List ℤ)
+    (added pushed : List (ℕ × ℕ)) (v u near_len least_len : ℕ) → IsState n w inside near least added → IsNearestOutside n inside least v
     → seen ≡ set inside v true → near_was ≡ near → least_was ≡ least → length near_after ≡ length near_was → length least_after ≡ length least_was → near_len ≡ length near → least_len ≡ length least
     → AreNearer n w seen v near_was least_was near_after least_after → u ≡ get_or near v u → pushed ≡ added ++ (u, v) ∷ []
     → IsState n w (set inside v true) (take near_len (near_after ++ drop (length near_after) near)) (take least_len (least_after ++ drop (length least_after) least)) pushed
-state_after n w inside seen near near_was near_after least least_was least_after added pushed v u near_len least_len s next seen_is near_same least_same near_kept least_kept near_len_is least_len_is nearer read push =
+state_after n w inside seen near near_was near_after least least_was least_after added pushed v u near_len least_len s next seen_is near_same least_same
+    near_kept least_kept near_len_is least_len_is nearer read push =
     let u_is : u ≡ slice_index near v = get_or_read near v u (omega (arith, s.near_len, next.inner)) read 0 in
     let own = subst (λ (xs : List ℤ). AreNearer n w (set inside v true) v near xs near_after least_after) least_same
     (subst (λ (xs : List ℕ). AreNearer n w (set inside v true) v xs least_was near_after least_after) near_same
@@ -266,12 +290,14 @@ state_after n w inside seen near near_was near_after least least_was least_after
     (subst (λ (xs : List ℕ). IsState n w (set inside v true) xs least_after pushed) (sym near_back)
     (subst (IsState n w (set inside v true) near_after least_after) (ap (λ y. added ++ (y, v) ∷ []) (sym u_is) ∙ sym push) more))
 
-pub state_after_by : (n : ℕ) (w : ℕ → ℕ → ℤ) (inside seen : List Bool) (near near_was near_after : List ℕ) (least least_was least_after : List ℤ) (added pushed : List (ℕ × ℕ)) (v u near_len least_len : ℕ) → IsState n w inside near least added → IsInner n v → is_inside inside v ≡ false
+pub state_after_by : (n : ℕ) (w : ℕ → ℕ → ℤ) (inside seen : List Bool) (near near_was near_after : List ℕ) (least least_was least_after : List ℤ)
+    (added pushed : List (ℕ × ℕ)) (v u near_len least_len : ℕ) → IsState n w inside near least added → IsInner n v → is_inside inside v ≡ false
     → IsLeastLeaving (IsInner n) w (grown_by (λ x. x == 2) added) (u, v)
     → seen ≡ set inside v true → near_was ≡ near → least_was ≡ least → length near_after ≡ length near_was → length least_after ≡ length least_was → near_len ≡ length near → least_len ≡ length least
     → AreNearer n w seen v near_was least_was near_after least_after → pushed ≡ added ++ (u, v) ∷ []
     → IsState n w (set inside v true) (take near_len (near_after ++ drop (length near_after) near)) (take least_len (least_after ++ drop (length least_after) least)) pushed
-state_after_by n w inside seen near near_was near_after least least_was least_after added pushed v u near_len least_len s inner outside leaving seen_is near_same least_same near_kept least_kept near_len_is least_len_is nearer push =
+state_after_by n w inside seen near near_was near_after least least_was least_after added pushed v u near_len least_len s inner outside leaving seen_is
+    near_same least_same near_kept least_kept near_len_is least_len_is nearer push =
     let own = subst (λ (xs : List ℤ). AreNearer n w (set inside v true) v near xs near_after least_after) least_same
     (subst (λ (xs : List ℕ). AreNearer n w (set inside v true) v xs least_was near_after least_after) near_same
     (subst (λ (xs : List Bool). AreNearer n w xs v near_was least_was near_after least_after) seen_is nearer)) in
@@ -283,7 +309,8 @@ state_after_by n w inside seen near near_was near_after least least_was least_af
     (subst (IsState n w (set inside v true) near_after least_after) (sym push) more))
 
 -- what the pass found
-pub nearest_after : (n : ℕ) (inside seen : List Bool) (least least_was least_after : List ℤ) (least_len : ℕ) (nearest : Option ℕ) → seen ≡ inside → least_was ≡ least → length least_after ≡ length least_was → least_len ≡ length least
+pub nearest_after : (n : ℕ) (inside seen : List Bool) (least least_was least_after : List ℤ) (least_len : ℕ) (nearest : Option ℕ) → seen ≡ inside
+    → least_was ≡ least → length least_after ≡ length least_was → least_len ≡ length least
     → MatchOption nearest (AllInside n seen) (λ node. IsNearestOutside n seen least_after node)
     → MatchOption nearest (AllInside n inside) (λ node. IsNearestOutside n inside (take least_len (least_after ++ drop (length least_after) least)) node)
 nearest_after n inside seen least least_was least_after least_len nearest seen_is least_same least_kept least_len_is found =

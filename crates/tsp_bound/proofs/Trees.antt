@@ -59,7 +59,8 @@ held_refit In low new_low places outside old v area len v_in twice step left rig
         | inl even ↦ left (node_at places j) (subst (λ (k : ℕ). In (area_at old k) (node_at places j)) even (held j h j_in out (omega (arith, even, twice))))
         | inr odd ↦ right (node_at places j) (subst (λ (k : ℕ). In (area_at old k) (node_at places j)) odd (held j h j_in out (omega (arith, odd, twice))))
       ])
-  | inr other ↦ subst (λ (a : Option Area). In a (node_at places j)) (sym (get_or-set_other old v (up (suc h) (length places + j)) area _ other)) (held j (suc h) j_in out (step (up (suc h) (length places + j)) from other))
+  | inr other ↦ subst (λ (a : Option Area). In a (node_at places j)) (sym (get_or-set_other old v (up (suc h) (length places + j)) area _ other))
+      (held j (suc h) j_in out (step (up (suc h) (length places + j)) from other))
 ]
 
 pub refit_keeps : (In : Option Area → ℕ → Type 0) (places : List ℕ) (outside : List Bool) (old new : List (Option Area)) (v : ℕ) → length old ≡ 2 * length places → 1 ≤ v → v < length places
@@ -84,19 +85,22 @@ pub held_leaf : (In : Option Area → ℕ → Type 0) (places : List ℕ) (outsi
 held_leaf In places outside old node area len node_in own held j h j_in out from = elim (cases_eq (up h (length places + j)) (length places + node)) [
   | inl same ↦
       let mine : j ≡ node = leaf_is places node j h j_in same in
-      let is : area_at (set old (length places + node) area) (up h (length places + j)) ≡ area = ap (area_at (set old (length places + node) area)) same ∙ get_or-set_same old (length places + node) area _ (omega (arith, len, node_in)) in
+      let is : area_at (set old (length places + node) area) (up h (length places + j)) ≡ area = ap (area_at (set old (length places + node) area)) same
+      ∙ get_or-set_same old (length places + node) area _ (omega (arith, len, node_in)) in
       subst (λ (a : Option Area). In a (node_at places j)) (sym is) (subst (λ (k : ℕ). In area (node_at places k)) (sym mine) (own (subst (λ (k : ℕ). is_outside outside k ≡ true) mine out)))
   | inr other ↦ subst (λ (a : Option Area). In a (node_at places j)) (sym (get_or-set_other old (length places + node) (up h (length places + j)) area _ other)) (held j h j_in out from)
 ]
 
 -- a leaf more
-pub leaf_more : (In : Option Area → ℕ → Type 0) (places : List ℕ) (old : List (Option Area)) (node : ℕ) (area : Option Area) → length old ≡ 2 * length places → node < length places → In area (node_at places node)
+pub leaf_more : (In : Option Area → ℕ → Type 0) (places : List ℕ) (old : List (Option Area)) (node : ℕ) (area : Option Area) → length old ≡ 2 * length places
+    → node < length places → In area (node_at places node)
     → ((j : ℕ) → j < node → In (area_at old (length places + j)) (node_at places j))
     → (j : ℕ) → j < node + 1 → In (area_at (set old (length places + node) area) (length places + j)) (node_at places j)
 leaf_more In places old node area len node_in own done j j_in = elim (cases_eq j node) [
   | inl same ↦ subst (λ (k : ℕ). In (area_at (set old (length places + node) area) (length places + k)) (node_at places k)) (sym same)
       (subst (λ (a : Option Area). In a (node_at places node)) (sym (get_or-set_same old (length places + node) area _ (omega (arith, len, node_in)))) own)
-  | inr other ↦ subst (λ (a : Option Area). In a (node_at places j)) (sym (get_or-set_other old (length places + node) (length places + j) area _ (λ e. other (omega (arith, e))))) (done j (omega (arith, other, j_in)))
+  | inr other ↦ subst (λ (a : Option Area). In a (node_at places j))
+      (sym (get_or-set_other old (length places + node) (length places + j) area _ (λ e. other (omega (arith, e))))) (done j (omega (arith, other, j_in)))
 ]
 
 outside_before : (outside : List Bool) (node j : ℕ) → is_outside (set outside node false) j ≡ true → is_outside outside j ≡ true
@@ -113,7 +117,8 @@ held_leaves In places outside areas leaves j zero j_in out from = leaves j j_in
 held_leaves In places outside areas leaves j (suc h) j_in out from = absurd (omega (arith, from, up_inner (length places) h (length places + j) (omega (arith, j_in))))
 
 -- fewer places outside
-pub held_fewer : (In : Option Area → ℕ → Type 0) (places : List ℕ) (outside : List Bool) (areas : List (Option Area)) (node : ℕ) → AreHeld In places outside areas → AreHeld In places (set outside node false) areas
+pub held_fewer : (In : Option Area → ℕ → Type 0) (places : List ℕ) (outside : List Bool) (areas : List (Option Area)) (node : ℕ)
+    → AreHeld In places outside areas → AreHeld In places (set outside node false) areas
 held_fewer In places outside areas node held j h j_in out from = held j h j_in (outside_before outside node j out) from
 
 -- ---- the search
@@ -236,7 +241,8 @@ nearest_is w places outside from best weight all found is = record {
 }
 
 -- once a node is taken in
-pub held_taken : (In : Option Area → ℕ → Type 0) (places : List ℕ) (outside : List Bool) (old new : List (Option Area)) (count node : ℕ) (area : Option Area) → count ≡ length places → length old ≡ 2 * length places
+pub held_taken : (In : Option Area → ℕ → Type 0) (places : List ℕ) (outside : List Bool) (old new : List (Option Area)) (count node : ℕ) (area : Option Area)
+    → count ≡ length places → length old ≡ 2 * length places
     → node < length places → node < length outside → Keeps In count (set old (count + node) area) new
     → AreHeld In places outside old → AreHeld In places (set outside node false) new
 held_taken In places outside old new count node area is len node_in in_marks keeps held = keeps places (set outside node false) (sym is)

@@ -30,7 +30,8 @@ area_at areas v = slice_index_or areas v None
 
 -- each node outside is in each box from `low` on that is above its leaf, which is the box length order + j
 abbrev pub AreHeldFrom : (Option Area → ℕ → Type 0) → ℕ → List ℕ → List Bool → List (Option Area) → Type 0
-AreHeldFrom In low order outside areas = (j h : ℕ) → j < length order → is_outside outside j ≡ true → low ≤ up h (length order + j)
+AreHeldFrom In low order outside areas = (j h : ℕ) → j < length order → is_outside outside j ≡ true
+    → low ≤ up h (length order + j)
     → In (area_at areas (up h (length order + j))) (node_at order j)
 
 -- in each box but 0, which is none
@@ -46,7 +47,8 @@ pub record IsRefit (In : Option Area → ℕ → Type 0) (old new : List (Option
 
 -- where the old boxes hold the nodes outside, so do the new ones
 abbrev pub Keeps : (Option Area → ℕ → Type 0) → ℕ → List (Option Area) → List (Option Area) → Type 0
-Keeps In n old new = (order : List ℕ) (outside : List Bool) → length order ≡ n → AreHeld In order outside old → AreHeld In order outside new
+Keeps In n old new = (order : List ℕ) (outside : List Bool) → length order ≡ n → AreHeld In order outside old
+    → AreHeld In order outside new
 
 -- a place whose node is outside, and the weight to it
 pub record IsFound (w : ℕ → ℕ → ℤ) (order : List ℕ) (outside : List Bool) (from : ℕ) (best : Best) : Type 0 where
@@ -66,7 +68,8 @@ pub record IsBest (w : ℕ → ℕ → ℤ) (order : List ℕ) (outside : List B
 -- the search of the box v: the new best is no worse than the old one and than each node outside below v
 pub record IsSearched (w : ℕ → ℕ → ℤ) (order : List ℕ) (outside : List Bool) (from : ℕ) (v : ℕ) (old new : Best) : Type 0 where
   pub kept : new.weight ≤ℤ old.weight
-  pub below : (j h : ℕ) → j < length order → is_outside outside j ≡ true → up h (length order + j) ≡ v → new.weight ≤ℤ w from (node_at order j)
+  pub below : (j h : ℕ) → j < length order → is_outside outside j ≡ true → up h (length order + j) ≡ v
+      → new.weight ≤ℤ w from (node_at order j)
   pub found : (new ≡ old) ⊎ IsFound w order outside from new
 
 -- ---- each has one proof at most
@@ -75,6 +78,8 @@ pub Holds-prop : (place : ℕ → Point) (numbers : List ℤ) (area : Option Are
 Holds-prop place numbers None node = ⊥_prop
 Holds-prop place numbers (Some area) node = Prim.hlevel logic.props
 
-pub AreHeld-prop : (place : ℕ → Point) (numbers : List ℤ) (order : List ℕ) (outside : List Bool) (areas : List (Option Area)) → IsProp (AreHeld (Holds place numbers) order outside areas)
+pub AreHeld-prop : (place : ℕ → Point) (numbers : List ℤ) (order : List ℕ) (outside : List Bool) (areas : List (Option Area))
+    → IsProp (AreHeld (Holds place numbers) order outside areas)
 AreHeld-prop place numbers order outside areas =
-    Π_prop λ j. Π_prop λ h. Π_prop λ _. Π_prop λ _. Π_prop λ _. Holds-prop place numbers (area_at areas (up h (length order + j))) (node_at order j)
+    Π_prop λ j. Π_prop λ h. Π_prop λ _. Π_prop λ _. Π_prop λ _. Holds-prop place numbers (area_at areas (up h (length order + j)))
+    (node_at order j)

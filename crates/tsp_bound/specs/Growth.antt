@@ -73,7 +73,8 @@ pub record IsNearestOutside (n : ℕ) (inside : List Bool) (least : List ℤ) (n
 -- once another node is inside, at this weight from it, the nearest one and the least weight are as before, or that node
 -- and that weight where it is nearer
 abbrev pub IsNearer : ℤ → ℕ → ℕ → ℤ → ℕ → ℤ → Type 0
-IsNearer weight next old_near old_least new_near new_least = ((new_near ≡ old_near) × (new_least ≡ old_least) × (old_least ≤ℤ weight))
+IsNearer weight next old_near old_least new_near new_least =
+    ((new_near ≡ old_near) × (new_least ≡ old_least) × (old_least ≤ℤ weight))
     ⊎ ((new_near ≡ next) × (new_least ≡ weight) × (weight <ℤ old_least))
 
 -- where the weight of the node's pair is lowered: the same at the lower weight, and elsewhere nothing changes
@@ -86,7 +87,8 @@ IsLowered lowerings weight next x old_near old_least new_near new_least =
 -- so for each node outside
 abbrev pub AreLowered : ℕ → (ℕ → ℕ → ℤ) → List (ℕ × ℤ) → List Bool → ℕ → List ℕ → List ℤ → List ℕ → List ℤ → Type 0
 AreLowered n w lowerings inside next old_near old_least new_near new_least = (x : ℕ) → IsInner n x → is_inside inside x ≡ false
-    → IsLowered lowerings (w next x) next x (slice_index old_near x) (least_at old_least x) (slice_index new_near x) (least_at new_least x)
+    → IsLowered lowerings (w next x) next x (slice_index old_near x) (least_at old_least x) (slice_index new_near x)
+    (least_at new_least x)
 
 abbrev pub AreNearer : ℕ → (ℕ → ℕ → ℤ) → List Bool → ℕ → List ℕ → List ℤ → List ℕ → List ℤ → Type 0
 AreNearer n w inside next old_near old_least new_near new_least = (x : ℕ) → IsInner n x → is_inside inside x ≡ false

@@ -48,7 +48,8 @@ entry_cmp x y = link_cmp y.0 x.0
 
 -- the entries bound from below all pairs that leave the node
 abbrev pub Bounds : ℕ → (ℕ → ℕ → ℤ) → (ℕ → Bool) → List (Reverse Link) → ℕ → Type 0
-Bounds n w outside entries a = (b : ℕ) → b < n → outside b ≡ true → (entry : Reverse Link) × Contains entries entry × (entry.0.from ≡ a) × (entry.0.weight ≤ℤ w a b)
+Bounds n w outside entries a = (b : ℕ) → b < n → outside b ≡ true → (entry : Reverse Link) × Contains entries entry
+    × (entry.0.from ≡ a) × (entry.0.weight ≤ℤ w a b)
 
 -- each entry is a link from inside, and each node inside but `next` has its bounds
 pub record IsHeapOf (n : ℕ) (w : ℕ → ℕ → ℤ) (outside : ℕ → Bool) (entries : List (Reverse Link)) (next : ℕ) : Type 0 where

@@ -28,7 +28,8 @@ returns-else-weight-best g t c =
     let fits : SFits w64 c.weight-weight.result = search rules in
     let best_fits : SFits w64 c.args.best.weight = search rules in
     let value : c.weight-weight.result ≡ w c.args.from (node_at c.args.order.now place) = c.weight-weight.ensures.value in
-    let below : c.args.best.weight ≤ℤ w c.args.from (node_at c.args.order.now place) = subst (λ (z : ℤ). c.args.best.weight ≤ℤ z) value (not_less_seen c.weight-weight.result c.args.best.weight fits best_fits c.if-weight-best.false) in
+    let below : c.args.best.weight ≤ℤ w c.args.from (node_at c.args.order.now place) =
+    subst (λ (z : ℤ). c.args.best.weight ≤ℤ z) value (not_less_seen c.weight-weight.result c.args.best.weight fits best_fits c.if-weight-best.false) in
     searched_none w c.args.order.now c.args.outside.now c.args.from c.args.v c.args.best (λ j h j_in out above.
     leaf_below w c.args.order.now c.args.outside.now c.args.from place c.args.best.weight (λ mine. below) j h j_in out (above ∙ at))
 
@@ -43,6 +44,7 @@ returns-then-weight-best g t c =
     let is : to_z w64 (of_z w64 c.weight-weight.result) ≡ w c.args.from (node_at c.args.order.now place) = to_z-of_z w64 c.weight-weight.result fits ∙ value in
     record {
       kept = less_seen (to_z w64 (of_z w64 c.weight-weight.result)) c.args.best.weight best_fits c.if-weight-best.true;
-      below = λ j h j_in out above. leaf_below w c.args.order.now c.args.outside.now c.args.from place (to_z w64 (of_z w64 c.weight-weight.result)) (λ mine. subst (λ (z : ℤ). z ≤ℤ w c.args.from (node_at c.args.order.now place)) (sym is) (omega (arith, ints))) j h j_in out (above ∙ at);
+      below = λ j h j_in out above. leaf_below w c.args.order.now c.args.outside.now c.args.from place (to_z w64 (of_z w64 c.weight-weight.result))
+          (λ mine. subst (λ (z : ℤ). z ≤ℤ w c.args.from (node_at c.args.order.now place)) (sym is) (omega (arith, ints))) j h j_in out (above ∙ at);
       found = inr (record { node_in = omega arith; out = c.if-not-outside-place.false; weight_is = is });
     }

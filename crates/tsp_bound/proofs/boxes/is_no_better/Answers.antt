@@ -17,9 +17,11 @@ returns g c =
     if_true (le_z (to_z w64 (of_z w64 c.args.best)) (to_z w64 (of_z w64 c.weight_with.result))) _ refl (λ so to node h.
     let own : Holds (g.C.Grouped.place c.args.c.now) (numbers_of p) (Some c.in-Some.area) to = subst (λ (o : Option Area). Holds (g.C.Grouped.place c.args.c.now) (numbers_of p) o to) c.in-Some.is h in
     let other = g.C.Costs.at c.args.c.now c.args.from to in
-    let cost_same : to_z w64 (of_z w64 c.in-Some-cost_to.cost) ≡ c.in-Some-cost_to.cost = same_64 most_weight c.in-Some-cost_to.cost (omega arith) (c.in-Some-cost_to.ensures.low, c.in-Some-cost_to.ensures.high) in
+    let cost_same : to_z w64 (of_z w64 c.in-Some-cost_to.cost) ≡ c.in-Some-cost_to.cost =
+    same_64 most_weight c.in-Some-cost_to.cost (omega arith) (c.in-Some-cost_to.ensures.low, c.in-Some-cost_to.ensures.high) in
     let least_same : to_z w64 (of_z w64 c.in-Some.area.least) ≡ c.in-Some.area.least = same_64 most_potential c.in-Some.area.least (omega arith) c.in-Some.area.size in
-    let above = weight_above (scale_of p) (to_z w64 (of_z w64 c.in-Some-cost_to.cost)) other (entry (numbers_of p) c.args.from) (to_z w64 (of_z w64 c.in-Some.area.least)) (entry (numbers_of p) to) p.are.scale_is
+    let above = weight_above (scale_of p) (to_z w64 (of_z w64 c.in-Some-cost_to.cost)) other (entry (numbers_of p) c.args.from)
+    (to_z w64 (of_z w64 c.in-Some.area.least)) (entry (numbers_of p) to) p.are.scale_is
     (subst (λ z. z ≤ℤ other) (sym cost_same) (c.in-Some-cost_to.ensures.below to node own.0)) (subst (λ z. z ≤ℤ entry (numbers_of p) to) (sym least_same) own.1) in
     let reached : c.args.best ≤ℤ c.weight_with.result = at_most_seen c.args.best c.weight_with.result fits its so in
     chained c.args.best c.weight_with.result _ _ reached c.weight_with.ensures above)

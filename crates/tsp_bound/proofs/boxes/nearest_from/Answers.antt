@@ -16,5 +16,7 @@ climb-preserved g c =
     record {
       low = omega arith;
       high = omega arith;
-      searched = searched_other (weight_under c.args.p.now (g.C.Costs.at c.args.c.now)) c.args.order.now c.args.outside.now (node_at c.args.order.now c.args.place) v other no_best c.climb.best c.search-best-in-climb.result c.climb.invariant.high which c.climb.invariant.searched c.search-best-in-climb.ensures;
+      searched = searched_other (weight_under c.args.p.now (g.C.Costs.at c.args.c.now)) c.args.order.now c.args.outside.now
+          (node_at c.args.order.now c.args.place) v other no_best c.climb.best c.search-best-in-climb.result c.climb.invariant.high which
+          c.climb.invariant.searched c.search-best-in-climb.ensures;
     }

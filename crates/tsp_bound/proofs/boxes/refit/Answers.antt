@@ -7,7 +7,8 @@ use Rattle.tsp_bound.proofs.boxes.refit.Goals as goal
 pub returns-clause-refit : goal.returns-clause-refit
 returns-clause-refit c = λ place numbers.
     let left : c.index.result.now ≡ area_at c.args.areas.now.items (2 * c.args.v) = get_or_read c.args.areas.now.items (2 * c.args.v) c.index.result.now (omega arith) c.index.ensures _ in
-    let right : c.index-2.result.now ≡ area_at c.args.areas.now.items (2 * c.args.v + 1) = get_or_read c.args.areas.now.items (2 * c.args.v + 1) c.index-2.result.now (omega arith) c.index-2.ensures _ in
+    let right : c.index-2.result.now ≡ area_at c.args.areas.now.items (2 * c.args.v + 1) =
+    get_or_read c.args.areas.now.items (2 * c.args.v + 1) c.index-2.result.now (omega arith) c.index-2.ensures _ in
     record {
       area = c.joined-area.result;
       is = refl;

@@ -32,9 +32,11 @@ nodes-preserved g c =
           let small : w c.args.next node <ℤ most_64 = omega (arith, ints, v.weight_from-weight.ensures.value, v.weight_from-weight.ensures.size.1) in
           let less : to_z w64 (of_z w64 v.take_nearer-kept.result) <ℤ to_z w64 c.nodes.best-bits = grind (arith, ints, v.if-kept-best.true) in
           rw (v.near-is, v.least-is, v.nearest-is, v.best-is)
-          (brought_nearer n w c.args.inside.now c.args.next node c.args.near.now c.args.least.now c.nodes.near _ c.nodes.least _ (to_z w64 c.nodes.best-bits) (to_z w64 (of_z w64 v.take_nearer-kept.result)) c.nodes.nearest
+          (brought_nearer n w c.args.inside.now c.args.next node c.args.near.now c.args.least.now c.nodes.near _ c.nodes.least _ (to_z w64 c.nodes.best-bits)
+          (to_z w64 (of_z w64 v.take_nearer-kept.result)) c.nodes.nearest
           c.nodes.invariant in_node v.if-not-inside-place.true
-          (taken_by_set (w c.args.next node) v.weight_from-weight.result c.args.next node c.nodes.near c.nodes.least v.take_nearer-kept.new.near v.take_nearer-kept.new.least in_near in_least weight_in v.weight_from-weight.ensures.value v.take_nearer-kept.ensures.nearer)
+          (taken_by_set (w c.args.next node) v.weight_from-weight.result c.args.next node c.nodes.near c.nodes.least v.take_nearer-kept.new.near
+          v.take_nearer-kept.new.least in_near in_least weight_in v.weight_from-weight.ensures.value v.take_nearer-kept.ensures.nearer)
           small (kept_is v.take_nearer-kept.result v.take_nearer-kept.new.least node c.nodes.least in_least kept_in v.take_nearer-kept.ensures.value) less)
       | then-not-inside-place+else-kept-best v ↦
           let weight_in : FitsSigned w64 v.weight_from-weight.result = search rules in
@@ -42,13 +44,16 @@ nodes-preserved g c =
           let small : w c.args.next node <ℤ most_64 = omega (arith, ints, v.weight_from-weight.ensures.value, v.weight_from-weight.ensures.size.1) in
           let less : to_z w64 c.nodes.best-bits ≤ℤ to_z w64 (of_z w64 v.take_nearer-kept.result) = grind (arith, ints, v.if-kept-best.false) in
           rw (v.near-is, v.least-is, v.nearest-is, v.best-is)
-          (brought_farther n w c.args.inside.now c.args.next node c.args.near.now c.args.least.now c.nodes.near _ c.nodes.least _ (to_z w64 c.nodes.best-bits) (to_z w64 (of_z w64 v.take_nearer-kept.result)) c.nodes.nearest
+          (brought_farther n w c.args.inside.now c.args.next node c.args.near.now c.args.least.now c.nodes.near _ c.nodes.least _ (to_z w64 c.nodes.best-bits)
+          (to_z w64 (of_z w64 v.take_nearer-kept.result)) c.nodes.nearest
           c.nodes.invariant
-          (taken_by_set (w c.args.next node) v.weight_from-weight.result c.args.next node c.nodes.near c.nodes.least v.take_nearer-kept.new.near v.take_nearer-kept.new.least in_near in_least weight_in v.weight_from-weight.ensures.value v.take_nearer-kept.ensures.nearer)
+          (taken_by_set (w c.args.next node) v.weight_from-weight.result c.args.next node c.nodes.near c.nodes.least v.take_nearer-kept.new.near
+          v.take_nearer-kept.new.least in_near in_least weight_in v.weight_from-weight.ensures.value v.take_nearer-kept.ensures.nearer)
           small (kept_is v.take_nearer-kept.result v.take_nearer-kept.new.least node c.nodes.least in_least kept_in v.take_nearer-kept.ensures.value) less)
       | else-not-inside-place v ↦
           rw (v.near-is, v.least-is, v.nearest-is, v.best-is)
-          (brought_inside n w c.args.inside.now c.args.next node c.args.near.now c.args.least.now c.nodes.near c.nodes.least (to_z w64 c.nodes.best-bits) c.nodes.nearest c.nodes.invariant v.if-not-inside-place.false)
+          (brought_inside n w c.args.inside.now c.args.next node c.args.near.now c.args.least.now c.nodes.near c.nodes.least (to_z w64 c.nodes.best-bits)
+          c.nodes.nearest c.nodes.invariant v.if-not-inside-place.false)
     ]
 
 pub returns : goal.returns

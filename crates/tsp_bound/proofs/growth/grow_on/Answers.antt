@@ -26,10 +26,12 @@ again-init g c =
     let near_size : length c.in_ok-near.near.items ≡ c.count.result + 1 = sym near_len ∙ c.in_ok-near.ensures.len in
     let reached = c.reach-nearest.ensures in
     record {
-      state = start_after n w (c.count.result + 1) c.in_ok-inside.inside.items c.deref.result.now c.in_ok-near.near.items c.deref_mut.result.now c.reach-nearest.new.near c.in_ok-least.least.items c.deref_mut-2.result.now c.reach-nearest.new.least
+      state = start_after n w (c.count.result + 1) c.in_ok-inside.inside.items c.deref.result.now c.in_ok-near.near.items c.deref_mut.result.now
+          c.reach-nearest.new.near c.in_ok-least.least.items c.deref_mut-2.result.now c.reach-nearest.new.least
           c.in_ok-near.near.len c.in_ok-least.least.len most_64 c.requires.some size inside least c.deref.ensures.value c.deref_mut.ensures.value c.deref_mut-2.ensures.value near_size
           c.reach-nearest.auto.near c.reach-nearest.auto.least near_len least_len reached.small reached.nearer;
-      nearest = nearest_after n (slice_set c.in_ok-inside.inside.items 2 true) c.deref.result.now c.in_ok-least.least.items c.deref_mut-2.result.now c.reach-nearest.new.least c.in_ok-least.least.len c.reach-nearest.result
+      nearest = nearest_after n (slice_set c.in_ok-inside.inside.items 2 true) c.deref.result.now c.in_ok-least.least.items c.deref_mut-2.result.now
+          c.reach-nearest.new.least c.in_ok-least.least.len c.reach-nearest.result
           c.deref.ensures.value c.deref_mut-2.ensures.value c.reach-nearest.auto.least least_len reached.nearest;
     }
 
@@ -66,10 +68,13 @@ again-preserved g c =
     let least_len : c.again.least.len ≡ length c.again.least.items = omega arith in
     let reached = c.reach-nearest-in-again.ensures in
     record {
-      state = state_after_by n w c.again.inside.items c.deref-in-again.result.now c.again.near.items c.deref_mut-in-again.result.now c.reach-nearest-in-again.new.near c.again.least.items c.deref_mut-in-again-2.result.now c.reach-nearest-in-again.new.least
+      state = state_after_by n w c.again.inside.items c.deref-in-again.result.now c.again.near.items c.deref_mut-in-again.result.now
+          c.reach-nearest-in-again.new.near c.again.least.items c.deref_mut-in-again-2.result.now c.reach-nearest-in-again.new.least
           (take i pairs) (take (i + 1) pairs) pair.1 pair.0 c.again.near.len c.again.least.len c.again.invariant.state leaving.node outside leaving
-          c.deref-in-again.ensures.value c.deref_mut-in-again.ensures.value c.deref_mut-in-again-2.ensures.value c.reach-nearest-in-again.auto.near c.reach-nearest-in-again.auto.least near_len least_len reached.nearer (take_more pairs i (0, 0) c.again-test.true);
-      nearest = nearest_after n (slice_set c.again.inside.items pair.1 true) c.deref-in-again.result.now c.again.least.items c.deref_mut-in-again-2.result.now c.reach-nearest-in-again.new.least c.again.least.len c.reach-nearest-in-again.result
+          c.deref-in-again.ensures.value c.deref_mut-in-again.ensures.value c.deref_mut-in-again-2.ensures.value c.reach-nearest-in-again.auto.near
+          c.reach-nearest-in-again.auto.least near_len least_len reached.nearer (take_more pairs i (0, 0) c.again-test.true);
+      nearest = nearest_after n (slice_set c.again.inside.items pair.1 true) c.deref-in-again.result.now c.again.least.items c.deref_mut-in-again-2.result.now
+          c.reach-nearest-in-again.new.least c.again.least.len c.reach-nearest-in-again.result
           c.deref-in-again.ensures.value c.deref_mut-in-again-2.ensures.value c.reach-nearest-in-again.auto.least least_len reached.nearest;
     }
 
@@ -77,7 +82,8 @@ pub grow-init : goal.grow-init
 grow-init g c =
     let n = g.C.Costs.nodes c.args.c.now in
     let w = weight_less c.args.p.now (triples_in c.args.m.now) (g.C.Costs.at c.args.c.now) in
-    let all : take c.again.pair-index c.deref-pair-items.result.now ≡ c.args.grown.pairs.items = take_all c.again.pair-index c.deref-pair-items.result.now (omega arith) ∙ c.deref-pair-items.ensures.value in
+    let all : take c.again.pair-index c.deref-pair-items.result.now ≡ c.args.grown.pairs.items =
+    take_all c.again.pair-index c.deref-pair-items.result.now (omega arith) ∙ c.deref-pair-items.ensures.value in
     let fits : FitsSigned w128 c.args.grown.weight = search rules in
     let back = to_z-of_z w128 c.args.grown.weight fits in
     record {
@@ -102,7 +108,8 @@ overflow_add-weight g c =
     let n = g.C.Costs.nodes c.args.c.now in
     let next : IsNearestOutside n c.grow.inside.items c.grow.least.items c.in-Some.next =
     subst (λ o. MatchOption o (AllInside n c.grow.inside.items) (λ node. IsNearestOutside n c.grow.inside.items c.grow.least.items node)) c.in-Some.is c.grow.invariant.nearest in
-    let room = room_more n (weight_less c.args.p.now (triples_in c.args.m.now) (g.C.Costs.at c.args.c.now)) c.grow.inside.items c.grow.near.items c.grow.least.items c.grow.pairs.items c.in-Some.next c.grow.invariant.state next in
+    let room = room_more n (weight_less c.args.p.now (triples_in c.args.m.now) (g.C.Costs.at c.args.c.now)) c.grow.inside.items c.grow.near.items
+    c.grow.least.items c.grow.pairs.items c.in-Some.next c.grow.invariant.state next in
     let few : length c.grow.pairs.items ≤ most_nodes = omega (arith, room, c.count.ensures.value, c.count.ensures.most) in
     let fits : FitsSigned w64 c.index-in-Some.result.now = search rules in
     sum_fits (to_z w128 c.grow.weight-bits) c.index-in-Some.result.now c.from-weight.result (length c.grow.pairs.items) few c.grow.invariant.size fits c.from-weight.ensures
@@ -123,13 +130,17 @@ grow-preserved g c =
     let few : length c.grow.pairs.items ≤ most_nodes = omega (arith, room, c.count.ensures.value, c.count.ensures.most) in
     let computed = sum_computed sum here c.from-weight.result (length c.grow.pairs.items) few c.grow.invariant.size fits c.from-weight.ensures in
     let pushed : c.push.new.self.items ≡ c.grow.pairs.items ++ (c.index.result.now, c.in-Some.next) ∷ [] = c.in_ok-push.ensures.items in
-    let more = sum_pushed n w c.grow.inside.items c.grow.near.items c.grow.least.items c.grow.pairs.items c.push.new.self.items c.in-Some.next c.index.result.now here c.grow.invariant.state next c.index.ensures c.index-in-Some.ensures pushed in
+    let more = sum_pushed n w c.grow.inside.items c.grow.near.items c.grow.least.items c.grow.pairs.items c.push.new.self.items c.in-Some.next
+    c.index.result.now here c.grow.invariant.state next c.index.ensures c.index-in-Some.ensures pushed in
     let longer : length c.push.new.self.items ≡ length c.grow.pairs.items + 1 = ap length pushed ∙ length-append c.grow.pairs.items ((c.index.result.now, c.in-Some.next) ∷ []) in
     record {
-      state = state_after n w c.grow.inside.items c.deref-in-Some.result.now c.grow.near.items c.deref_mut-in-Some.result.now c.reach-nearest-in-Some.new.near c.grow.least.items c.deref_mut-in-Some-2.result.now c.reach-nearest-in-Some.new.least
+      state = state_after n w c.grow.inside.items c.deref-in-Some.result.now c.grow.near.items c.deref_mut-in-Some.result.now c.reach-nearest-in-Some.new.near
+          c.grow.least.items c.deref_mut-in-Some-2.result.now c.reach-nearest-in-Some.new.least
           c.grow.pairs.items c.push.new.self.items c.in-Some.next c.index.result.now c.grow.near.len c.grow.least.len c.grow.invariant.state next
-          c.deref-in-Some.ensures.value c.deref_mut-in-Some.ensures.value c.deref_mut-in-Some-2.ensures.value c.reach-nearest-in-Some.auto.near c.reach-nearest-in-Some.auto.least near_len least_len reached.nearer c.index.ensures c.in_ok-push.ensures.items;
-      nearest = nearest_after n (slice_set c.grow.inside.items c.in-Some.next true) c.deref-in-Some.result.now c.grow.least.items c.deref_mut-in-Some-2.result.now c.reach-nearest-in-Some.new.least c.grow.least.len c.reach-nearest-in-Some.result
+          c.deref-in-Some.ensures.value c.deref_mut-in-Some.ensures.value c.deref_mut-in-Some-2.ensures.value c.reach-nearest-in-Some.auto.near
+          c.reach-nearest-in-Some.auto.least near_len least_len reached.nearer c.index.ensures c.in_ok-push.ensures.items;
+      nearest = nearest_after n (slice_set c.grow.inside.items c.in-Some.next true) c.deref-in-Some.result.now c.grow.least.items
+          c.deref_mut-in-Some-2.result.now c.reach-nearest-in-Some.new.least c.grow.least.len c.reach-nearest-in-Some.result
           c.deref-in-Some.ensures.value c.deref_mut-in-Some-2.ensures.value c.reach-nearest-in-Some.auto.least least_len reached.nearest;
       sum = computed ∙ ap (λ z. z +ℤ here) c.grow.invariant.sum ∙ sym more;
       size = rw (computed, longer) (sum_more sum here (length c.grow.pairs.items) c.grow.invariant.size fits);
@@ -138,8 +149,10 @@ grow-preserved g c =
 pub returns : goal.returns
 returns g c =
     let n = g.C.Costs.nodes c.args.c.now in
-    let all : AllInside n c.grow.inside.items = subst (λ o. MatchOption o (AllInside n c.grow.inside.items) (λ node. IsNearestOutside n c.grow.inside.items c.grow.least.items node)) c.in_default.is c.grow.invariant.nearest in
-    let whole = state_end n (weight_less c.args.p.now (triples_in c.args.m.now) (g.C.Costs.at c.args.c.now)) c.grow.inside.items c.grow.near.items c.grow.least.items c.grow.pairs.items c.requires.some c.grow.invariant.state all in
+    let all : AllInside n c.grow.inside.items = subst (λ o. MatchOption o (AllInside n c.grow.inside.items)
+    (λ node. IsNearestOutside n c.grow.inside.items c.grow.least.items node)) c.in_default.is c.grow.invariant.nearest in
+    let whole = state_end n (weight_less c.args.p.now (triples_in c.args.m.now) (g.C.Costs.at c.args.c.now)) c.grow.inside.items c.grow.near.items
+    c.grow.least.items c.grow.pairs.items c.requires.some c.grow.invariant.state all in
     let few : length c.grow.pairs.items ≤ most_nodes = omega (arith, whole.count, c.count.ensures.value, c.count.ensures.most) in
     let size = c.grow.invariant.size in
     record {

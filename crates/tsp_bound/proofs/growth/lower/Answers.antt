@@ -31,10 +31,13 @@ lowerings-preserved g c =
           let lower_in = lower_fits v.weight.result entry.1 v.weight.ensures.size own.1 in
           let same : lower ≡ w c.args.next entry.0 -ℤ entry.1 = lower_is v.weight.result entry.1 v.weight.ensures.size own.1 ∙ ap (λ z. z -ℤ entry.1) v.weight.ensures.value in
           rw (v.near-is, v.least-is)
-          (lowered_outside index n w c.args.lowerings.now c.args.inside.now c.args.next c.args.near.now c.args.least.now c.lowerings.near _ c.lowerings.least _ entry.0 entry.1 c.lowerings-test.true c.requires.lowerings is
-          (taken_by_set (w c.args.next entry.0 -ℤ entry.1) lower c.args.next entry.0 c.lowerings.near c.lowerings.least v.take_nearer.new.near v.take_nearer.new.least in_near in_least lower_in same v.take_nearer.ensures.nearer)
+          (lowered_outside index n w c.args.lowerings.now c.args.inside.now c.args.next c.args.near.now c.args.least.now c.lowerings.near _ c.lowerings.least _
+          entry.0 entry.1 c.lowerings-test.true c.requires.lowerings is
+          (taken_by_set (w c.args.next entry.0 -ℤ entry.1) lower c.args.next entry.0 c.lowerings.near c.lowerings.least v.take_nearer.new.near
+          v.take_nearer.new.least in_near in_least lower_in same v.take_nearer.ensures.nearer)
           c.lowerings.invariant)
       | else-not-inside-place v ↦
           rw (v.near-is, v.least-is)
-          (lowered_inside index n w c.args.lowerings.now c.args.inside.now c.args.next c.args.near.now c.args.least.now c.lowerings.near c.lowerings.least entry.0 c.lowerings-test.true (λ d. ap (λ (e : ℕ × ℤ). e.0) (is d)) v.if-not-inside-place.false c.lowerings.invariant)
+          (lowered_inside index n w c.args.lowerings.now c.args.inside.now c.args.next c.args.near.now c.args.least.now c.lowerings.near c.lowerings.least
+          entry.0 c.lowerings-test.true (λ d. ap (λ (e : ℕ × ℤ). e.0) (is d)) v.if-not-inside-place.false c.lowerings.invariant)
     ]

@@ -15,7 +15,8 @@ returns g c =
     let are : AreLowerings n lowerings = rw (← c.requires.over) c.at.ensures.are in
     let less : AreLess w v lowerings c.args.next = record { less = λ x. let sum = c.at.ensures.sums x in omega (arith, ints, sum) } in
     record {
-      nearer = reached_nearer n w v lowerings c.args.inside.now c.args.next c.args.near.now c.args.least.now c.lower.new.near c.lower.new.least c.bring.new.near c.bring.new.least are less c.lower.ensures c.bring.ensures.nearer;
+      nearer = reached_nearer n w v lowerings c.args.inside.now c.args.next c.args.near.now c.args.least.now c.lower.new.near c.lower.new.least c.bring.new.near
+          c.bring.new.least are less c.lower.ensures c.bring.ensures.nearer;
       small = reached_small n w v lowerings c.args.inside.now c.args.next are less c.bring.ensures.small;
       nearest = c.bring.ensures.nearest;
     }

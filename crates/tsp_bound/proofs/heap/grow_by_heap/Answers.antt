@@ -10,8 +10,10 @@ is_outside-requires g c =
     let n = g.O.Outside.count_of c.args.o.now in
     let w = g.O.Outside.weight_of c.args.o.now in
     let outside = g.O.Outside.outside_of c.grow.o in
-    let near = near_seen n (g.O.Outside.count_of c.grow.o) w (g.O.Outside.weight_of c.grow.o) outside c.grow.next c.in-Some.found c.grow.invariant.same_count c.grow.invariant.same_weights c.in-Some.ensures in
-    let full = heap_pushed n w outside (heap_items c.grow.links) (heap_items c.push.new.self) c.grow.next c.in-Some.found c.grow.invariant.heap near c.grow.invariant.next_in c.grow.invariant.next_inside c.in_ok-push.ensures.permutation in
+    let near = near_seen n (g.O.Outside.count_of c.grow.o) w (g.O.Outside.weight_of c.grow.o) outside c.grow.next c.in-Some.found c.grow.invariant.same_count
+    c.grow.invariant.same_weights c.in-Some.ensures in
+    let full = heap_pushed n w outside (heap_items c.grow.links) (heap_items c.push.new.self) c.grow.next c.in-Some.found c.grow.invariant.heap near
+    c.grow.invariant.next_in c.grow.invariant.next_inside c.in_ok-push.ensures.permutation in
     let link = popped_link n w outside (heap_items c.push.new.self) (heap_items c.pop.new.self) c.in-Some-pop.field-0 full c.in-Some-pop.ensures.permutation in
     subst (λ (k : ℕ). c.in-Some-pop.field-0.0.to < k) (sym c.grow.invariant.same_count) link.to_in
 
@@ -20,8 +22,10 @@ take-requires-then-is_outside g c =
     let n = g.O.Outside.count_of c.args.o.now in
     let w = g.O.Outside.weight_of c.args.o.now in
     let outside = g.O.Outside.outside_of c.grow.o in
-    let near = near_seen n (g.O.Outside.count_of c.grow.o) w (g.O.Outside.weight_of c.grow.o) outside c.grow.next c.in-Some.found c.grow.invariant.same_count c.grow.invariant.same_weights c.in-Some.ensures in
-    let full = heap_pushed n w outside (heap_items c.grow.links) (heap_items c.push.new.self) c.grow.next c.in-Some.found c.grow.invariant.heap near c.grow.invariant.next_in c.grow.invariant.next_inside c.in_ok-push.ensures.permutation in
+    let near = near_seen n (g.O.Outside.count_of c.grow.o) w (g.O.Outside.weight_of c.grow.o) outside c.grow.next c.in-Some.found c.grow.invariant.same_count
+    c.grow.invariant.same_weights c.in-Some.ensures in
+    let full = heap_pushed n w outside (heap_items c.grow.links) (heap_items c.push.new.self) c.grow.next c.in-Some.found c.grow.invariant.heap near
+    c.grow.invariant.next_in c.grow.invariant.next_inside c.in_ok-push.ensures.permutation in
     let link = popped_link n w outside (heap_items c.push.new.self) (heap_items c.pop.new.self) c.in-Some-pop.field-0 full c.in-Some-pop.ensures.permutation in
     subst (λ (k : ℕ). c.in-Some-pop.field-0.0.to < k) (sym c.grow.invariant.same_count) link.to_in
 
@@ -30,8 +34,10 @@ grow-preserved g c =
     let n = g.O.Outside.count_of c.args.o.now in
     let w = g.O.Outside.weight_of c.args.o.now in
     let outside = g.O.Outside.outside_of c.grow.o in
-    let near = near_seen n (g.O.Outside.count_of c.grow.o) w (g.O.Outside.weight_of c.grow.o) outside c.grow.next c.in-Some.found c.grow.invariant.same_count c.grow.invariant.same_weights c.in-Some.ensures in
-    let full = heap_pushed n w outside (heap_items c.grow.links) (heap_items c.push.new.self) c.grow.next c.in-Some.found c.grow.invariant.heap near c.grow.invariant.next_in c.grow.invariant.next_inside c.in_ok-push.ensures.permutation in
+    let near = near_seen n (g.O.Outside.count_of c.grow.o) w (g.O.Outside.weight_of c.grow.o) outside c.grow.next c.in-Some.found c.grow.invariant.same_count
+    c.grow.invariant.same_weights c.in-Some.ensures in
+    let full = heap_pushed n w outside (heap_items c.grow.links) (heap_items c.push.new.self) c.grow.next c.in-Some.found c.grow.invariant.heap near
+    c.grow.invariant.next_in c.grow.invariant.next_inside c.in_ok-push.ensures.permutation in
     let link = popped_link n w outside (heap_items c.push.new.self) (heap_items c.pop.new.self) c.in-Some-pop.field-0 full c.in-Some-pop.ensures.permutation in
     let ordered : IsHeap entry_cmp (heap_items c.push.new.self) = c.in_ok-push.ensures.heap_order c.grow.invariant.ordered in
     let top = c.in-Some-pop.ensures.heap_order ordered in
@@ -40,7 +46,8 @@ grow-preserved g c =
           let after = g.O.Outside.outside_of u.take-then-is_outside.new.self in
           let x = c.in-Some-pop.field-0 in
           let out : outside x.0.to ≡ true = sym u.if-is_outside.ensures in
-          let least = leaving n w outside c.args.start c.grow.added.items (heap_items c.push.new.self) (heap_items c.pop.new.self) x c.grow.invariant.growth full c.in-Some-pop.ensures.permutation top.1 out in
+          let least = leaving n w outside c.args.start c.grow.added.items (heap_items c.push.new.self) (heap_items c.pop.new.self) x c.grow.invariant.growth
+          full c.in-Some-pop.ensures.permutation top.1 out in
           let pushed : u.push-then-is_outside.new.self.items ≡ c.grow.added.items ++ (x.0.from, x.0.to) ∷ [] = u.in_ok-push-2.ensures.items in
           rw (u.o-is, u.links-is, u.added-is, u.next-is) (record {
             same_count = u.take-then-is_outside.ensures.same_count ∙ c.grow.invariant.same_count;
@@ -48,8 +55,11 @@ grow-preserved g c =
             ordered = u.in_ok-push-3.ensures.heap_order top.0;
             next_in = link.to_in;
             next_inside = taken_itself outside after x.0.to u.take-then-is_outside.ensures.taken;
-            growth = subst (λ (ps : List (ℕ × ℕ)). IsGrowth n w after c.args.start ps) (sym pushed) (growth_more n w outside after c.args.start c.grow.added.items x.0.from x.0.to c.grow.invariant.growth least u.take-then-is_outside.ensures.taken);
-            heap = heap_kept n w outside after (heap_items c.push.new.self) (heap_items c.pop.new.self) (heap_items u.push-then-is_outside-2.new.self) x full c.in-Some-pop.ensures.permutation u.in_ok-push-3.ensures.permutation u.take-then-is_outside.ensures.taken;
+            growth = subst (λ (ps : List (ℕ × ℕ)). IsGrowth n w after c.args.start ps) (sym pushed)
+                (growth_more n w outside after c.args.start c.grow.added.items x.0.from x.0.to c.grow.invariant.growth least
+                u.take-then-is_outside.ensures.taken);
+            heap = heap_kept n w outside after (heap_items c.push.new.self) (heap_items c.pop.new.self) (heap_items u.push-then-is_outside-2.new.self) x full
+                c.in-Some-pop.ensures.permutation u.in_ok-push-3.ensures.permutation u.take-then-is_outside.ensures.taken;
           })
       | else-is_outside u ↦
           rw (u.o-is, u.links-is, u.added-is, u.next-is) (record {

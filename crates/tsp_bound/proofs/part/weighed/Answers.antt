@@ -24,7 +24,8 @@ pairs-preserved g c =
     let here : ℤ = to_z w64 (of_z w64 c.weight.result) -ℤ to_z w64 (of_z w64 c.lowered_by-number.result) in
     let fits = lower_fits c.weight.result c.lowered_by-number.result c.weight.ensures.size c.lowered_by-number.ensures.size in
     let own : here ≡ w (f pair).0 (f pair).1 = lower_is c.weight.result c.lowered_by-number.result c.weight.ensures.size c.lowered_by-number.ensures.size
-    ∙ less_value (triples_in c.args.m.now) c.at.result.now raw (f pair).0 (f pair).1 c.weight.result c.lowered_by-number.result c.weight.ensures.value c.lowered_by-number.ensures.value (c.at.ensures.sums (f pair).0) in
+    ∙ less_value (triples_in c.args.m.now) c.at.result.now raw (f pair).0 (f pair).1 c.weight.result c.lowered_by-number.result c.weight.ensures.value
+    c.lowered_by-number.ensures.value (c.at.ensures.sums (f pair).0) in
     let sum : ℤ = to_z w128 c.pairs.weight-bits in
     let computed = sum_computed sum here c.from-weight.result (length named) few c.pairs.invariant.size fits c.from-weight.ensures in
     record {

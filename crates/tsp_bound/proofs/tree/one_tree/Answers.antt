@@ -30,8 +30,11 @@ returns g c =
     let least = c.least_bound-bound.result in
     let fits : FitsSigned w128 c.least_bound-bound.result = search rules in
     let bound : ℤ = to_z w128 (of_z w128 least) in
-    let rounded : IsAdjustedBoundOf p.scale p.numbers.now triples weight bound = bound_of_weight p.scale weight c.total-potentials.result c.total_of-multipliers.result (total p.numbers.now) (total_of triples) least p.are.scale_is fits
-    c.in_ok-found.ensures.size c.total-potentials.ensures.size c.total_of-multipliers.ensures.size c.total-potentials.ensures.value c.total_of-multipliers.ensures.value c.least_bound-bound.ensures.value in
+    let rounded : IsAdjustedBoundOf p.scale p.numbers.now triples weight bound =
+    bound_of_weight p.scale weight c.total-potentials.result c.total_of-multipliers.result (total p.numbers.now) (total_of triples) least p.are.scale_is
+    fits
+    c.in_ok-found.ensures.size c.total-potentials.ensures.size c.total_of-multipliers.ensures.size c.total-potentials.ensures.value
+    c.total_of-multipliers.ensures.value c.least_bound-bound.ensures.value in
     let own : IsAdjustedBound n cost p.scale p.numbers.now triples [] bound = record {
       tree = edges;
       least = found;
@@ -44,5 +47,6 @@ returns g c =
       rounded = rw same rounded;
       bound = own;
       size = rw (to_z-of_z w128 least fits) c.least_bound-bound.ensures.size;
-      walks = λ nodes walk used. c.adjusted_bounds_bound_walks.ensures.walks n cost p.scale p.numbers.now triples [] bound nodes c.requires.some (g.met.C.Symmetric.even c.args.c.now) p.are.scale_is c.requires.count own walk used (λ k d lt. absurd (omega arith));
+      walks = λ nodes walk used. c.adjusted_bounds_bound_walks.ensures.walks n cost p.scale p.numbers.now triples [] bound nodes c.requires.some
+          (g.met.C.Symmetric.even c.args.c.now) p.are.scale_is c.requires.count own walk used (λ k d lt. absurd (omega arith));
     }

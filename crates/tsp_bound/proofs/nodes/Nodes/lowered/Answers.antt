@@ -45,7 +45,8 @@ lowerings-preserved g c =
           let better : to_z w64 (of_z w64 lower) ≤ℤ best.weight = less_seen (to_z w64 (of_z w64 lower)) best.weight best_fits u.if-weight-best.true in
           let back : to_z w64 (of_z w64 lower) ≡ lower = to_z-of_z w64 lower fits in
           let found = u.in-Some.ensures in
-          rw u.best-is (lowest_taken n (nodes_in s.m.now) w v lowerings s.order.now s.places.now s.outside.items node index c.args.unlowered best _ entry.0 entry.1 places are less c.lowerings-test.true is
+          rw u.best-is (lowest_taken n (nodes_in s.m.now) w v lowerings s.order.now s.places.now s.outside.items node index c.args.unlowered best _ entry.0
+          entry.1 places are less c.lowerings-test.true is
           (subst (λ (k : ℕ). IsInner k entry.0) s.over found.0) found.1 found.2 (back ∙ value) (subst (FitsSigned w64) (sym back) fits) better c.lowerings.invariant)
       | in-Some+else-weight-best u ↦
           let lower : ℤ = to_z w64 (of_z w64 u.weight.result) -ℤ to_z w64 (of_z w64 entry.1) in

@@ -6,4 +6,5 @@ use Rattle.tsp_bound.proofs.nodes.Nodes.lowered.Given as goal
 abbrev pub invariant-lowerings : goal.invariant-lowerings
 invariant-lowerings g l =
     let s = l.self in
-    IsLowest (g.C.Costs.nodes s.c.now) (weight_under s.p (g.C.Costs.at s.c.now)) (weight_less s.p (triples_in s.m.now) (g.C.Costs.at s.c.now)) l.lowering-items s.order.now s.places.now s.outside.items l.node l.lowering-index l.fn.unlowered l.best
+    IsLowest (g.C.Costs.nodes s.c.now) (weight_under s.p (g.C.Costs.at s.c.now)) (weight_less s.p (triples_in s.m.now) (g.C.Costs.at s.c.now)) l.lowering-items
+    s.order.now s.places.now s.outside.items l.node l.lowering-index l.fn.unlowered l.best
