@@ -18,6 +18,7 @@ pub mod CombSizes
 pub mod DecidedOnce
 pub mod MovedSums
 pub mod Passes
+pub mod Judging
 pub mod Grown
 pub mod CaseWeights
 pub mod GivenBack

@@ -1,12 +1,14 @@
 -- The stack of a walk over the steps, whose last decision stands at the end of a list.
-use Rattle.std.proofs.Common.{◌≡◌, ℕ, ◌+◌, ◌-◌, ◌<◌, ◌≤◌, ◌≢◌, Bool, true, false, List, [], ◌∷◌, ◌++◌, take, length, get_or, Some, refl, ap, sym, ◌∙◌, arith}
+use Rattle.std.proofs.Common.{◌≡◌, ℕ, ◌+◌, ◌-◌, ◌<◌, ◌≤◌, ◌≢◌, Bool, true, false, List, [], ◌∷◌, ◌++◌, take, length, get_or, Some, refl, ap, sym, subst, ◌∙◌, arith}
 use Rattle.std.specs.Prelude.{reverse}
-use Rattle.std.proofs.Math.ListN.{set}
+use Rattle.std.specs.List.{All}
+use Rattle.std.proofs.Math.ListN.{set, length-set}
 use Rattle.std.proofs.Math.Seq.{take-set-lt}
 use Rattle.std.proofs.lemmas.Grind.{take-set_at}
-use Rattle.std.proofs.lemmas.List.{map-append, reverse-append, take_more, get_or-take}
+use Rattle.std.proofs.lemmas.List.{map-append, reverse-append, take_more, get_or-take, length-take-le}
+use Rattle.std.proofs.lemmas.List.Elements.{All-set, All-take}
 use Rattle.tsp_branch.specs.Cases.{next_stack}
-use Rattle.tsp_branch.specs.Decided.{decision_of, case_of, stack_of}
+use Rattle.tsp_branch.specs.Decided.{IsDecision, decision_of, case_of, stack_of}
 
 pub stack_more : (xs : List (ℕ × ℕ × Bool)) (d : ℕ × ℕ × Bool) → stack_of (xs ++ d ∷ []) ≡ decision_of d ∷ stack_of xs
 stack_more xs d = ap reverse (map-append decision_of xs (d ∷ [])) ∙ reverse-append (case_of xs) (decision_of d ∷ [])
@@ -41,3 +43,15 @@ next_by_code old kept_part kept last same some most taken part_is last_is =
     ∙ turned old k last lt (taken k last one)
     ∙ ap (λ (d : ℕ × ℕ × Bool). Some (stack_of (take k old ++ (d.0, d.1, false) ∷ []))) (sym own)
     ∙ ap (λ xs. Some (stack_of xs)) (sym new)
+
+-- no more decisions than before, and still on two nodes each
+pub next_few : (old kept_part : List (ℕ × ℕ × Bool)) (kept place : ℕ) (new : ℕ × ℕ × Bool) → kept ≤ length old → kept_part ≡ take kept old → length (set kept_part place new) ≤ length old
+next_few old kept_part kept place new most is = omega (arith, length-set kept_part place new, ap length is, length-take-le kept old most, most)
+
+pub next_pairs : (old kept_part : List (ℕ × ℕ × Bool)) (kept : ℕ) (last : ℕ × ℕ × Bool) (n : ℕ) → kept ≢ 0 → kept ≤ length old → kept_part ≡ take kept old → last ≡ get_or kept_part (kept - 1) last
+    → All (IsDecision n) old → All (IsDecision n) (set kept_part (kept - 1) (last.0, last.1, false))
+next_pairs old kept_part kept last n some most is last_is are =
+    let left : All (IsDecision n) kept_part = subst (All (IsDecision n)) (sym is) (All-take (IsDecision n) kept old are) in
+    let inside : kept - 1 < length kept_part = omega (arith, some, most, ap length is, length-take-le kept old most) in
+    let own : IsDecision n last = subst (IsDecision n) (sym last_is) (left (kept - 1) last inside) in
+    All-set (IsDecision n) kept_part (kept - 1) (last.0, last.1, false) own left

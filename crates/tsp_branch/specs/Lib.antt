@@ -11,3 +11,4 @@ pub mod Combed
 pub mod CombsOfSets
 pub mod Judged
 pub mod Listed
+pub mod Rooms

@@ -3,6 +3,7 @@
 #![tactic(auto)]
 
 mod add_sets;
+mod branch;
 mod combed;
 mod decided;
 mod examples;
@@ -14,6 +15,7 @@ mod leaf;
 mod moved;
 mod node_weights;
 mod numbers;
+mod room;
 mod scaled;
 mod sets;
 mod setting;
@@ -23,6 +25,7 @@ mod steps;
 mod tree;
 mod weights;
 
+pub use branch::branch_bound;
 pub use combed::CombedWeights;
 pub use decided::DecidedWeights;
 pub use examples::{

@@ -1,14 +1,17 @@
 //! The decisions of the case that is open, as a stack.
 
 ghost use Rattle.std.specs.Prelude.{◌≡◌, ◌≤◌, ◌+◌, ℕ, Bool, true, take, length, slice_index_or};
+ghost use Rattle.std.specs.List.{All};
 ghost use Rattle.tsp_branch.specs.Cases.{next_stack};
-ghost use Rattle.tsp_branch.specs.Decided.{IsNextStack, stack_of};
+ghost use Rattle.tsp_branch.specs.Decided.{IsDecision, IsNextStack, stack_of};
 
 /// Leaves a leaf for the next open case: what was decided after the last taken pair is dropped, and
 /// that pair is avoided. Where no pair is taken no case is open: all is dropped, and `false` is
 /// answered.
 pub fn next_case(stack: &mut Vec<(u32, u32, bool)>) -> bool
-    ensures { IsNextStack stack.old.items result stack.new.items }
+    ensures next { IsNextStack stack.old.items result stack.new.items }
+    ensures few { length stack.new.items ≤ length stack.old.items }
+    ensures pairs { (n : ℕ) → All (IsDecision n) stack.old.items → All (IsDecision n) stack.new.items }
 {
     let kept = length_to_taken(stack);
     stack.truncate(kept);
