@@ -1,3 +1,4 @@
+pub mod Fronts
 pub mod Listed
 pub mod Mapped
 pub mod Relaid

@@ -211,6 +211,14 @@ of_file P f layout n weights explicit held holds =
     let costs : listed_cost layout n weights ≡ cost f = λ t i j. cost_of_listed f layout n weights explicit held i j t in
     subst (λ k. P k (cost f)) nodes (subst (λ c. P n c) costs holds)
 
+-- and the other way round
+pub of_weights : (P : ℕ → (ℕ → ℕ → ℤ) → Type 0) (f : Fields) (layout : Layout) (n : ℕ) (weights : List ℤ) → f.weight_kind ≡ Some Explicit
+    → IsListed f layout n weights → P (nodes_in f) (cost f) → P n (listed_cost layout n weights)
+of_weights P f layout n weights explicit held holds =
+    let nodes : nodes_in f ≡ n = ap (λ o. unwrap_or o 0) held.dimension in
+    let costs : cost f ≡ listed_cost layout n weights = λ t i j. sym (cost_of_listed f layout n weights explicit held i j) t in
+    subst (λ k. P k (listed_cost layout n weights)) nodes (subst (λ c. P (nodes_in f) c) costs holds)
+
 pub has_weights : (f : Fields) (layout : Layout) (n : ℕ) (weights : List ℤ) → f.weight_kind ≡ Some Explicit → IsListed f layout n weights → HasListedWeights f
 has_weights f layout n weights explicit held = (explicit, ap is_some held.weights_are)
 

@@ -121,7 +121,7 @@ still_valid f to old weights valid stand held filled sizes =
     ap (λ (o : Option Field). option_or (option_map (λ field. BadField field) o) (option_map (λ fault. Rule fault) (end_fault (standing_of new) None))) fields
     ∙ ap (λ (o : Option EndFault). option_map (λ fault. Rule fault) o) end
 
-some_is : {A : Type 0} (o : Option A) → IsSome o → (x : A) × (o ≡ Some x)
+pub some_is : {A : Type 0} (o : Option A) → IsSome o → (x : A) × (o ≡ Some x)
 some_is None there = absurd (false≢true there)
 some_is (Some x) there = (x, refl)
 

@@ -1,18 +1,15 @@
 -- What becomes of a file whose weights are put into another layout, and which costs a layout can hold.
 -- Source: TSPLIB 95 (G. Reinelt), the values of EDGE_WEIGHT_FORMAT.
-use Rattle.std.specs.Prelude.{◌≡◌, ◌≢◌, ℕ, ◌<◌, ◌⊎◌, Bool, false, List, map, Option, None, Some, IsSome, IsTrue, unwrap_or, Result, Ok, Err, ℤ, pos}
-use Rattle.std.specs.List.{All}
+use Rattle.std.specs.Prelude.{◌≡◌, ◌≢◌, ℕ, ◌<◌, ◌⊎◌, Bool, false, List, map, Some, IsSome, IsTrue, unwrap_or, Result, Ok, Err, ℤ, pos}
 use Rattle.tsp_value.specs.declared.layout.Layout.{Layout}
 use Rattle.tsp_value.specs.declared.layout.Layout.TheVariants.{FullMatrix}
 use Rattle.tsp_value.specs.declared.kinds.WeightKind.TheVariants.{Explicit}
 use Rattle.tsp_value.specs.declared.kinds.WeightFormat.TheVariants.{Listed}
 use Rattle.tsp_value.specs.Cells.{IsNode, is_listed, cells}
-use Rattle.tsp_value.specs.Limits.{most_weight}
 use Rattle.tsp_value.specs.Even.{IsEven, IsFirstUneven}
 use Rattle.tsp_fields.specs.declared.fault.RelayoutFault.{RelayoutFault}
 use Rattle.tsp_fields.specs.declared.fault.RelayoutFault.TheVariants.{NotExplicit, NotSymmetric, DiagonalLost, OutOfMemory}
 use Rattle.tsp_fields.specs.Fields.{Fields}
-use Rattle.tsp_fields.specs.Valid.{IsWithin}
 use Rattle.tsp_fields.specs.Cost.{cost}
 
 -- ---- which costs a layout can hold
@@ -57,11 +54,6 @@ pub record CanGo (f : Fields) (to : Layout) : Type 0 where
   pub listed : HasListedWeights f
   pub pairs : HoldsPairs to (cost f)
   pub diagonal : HoldsDiagonal to (cost f)
-
--- the weights in a layout, or none where the file has them in it already
-abbrev pub AreLaidOut : Fields → Layout → Option (List ℤ) → Type 0
-AreLaidOut f to None = (f.weight_format ≡ Some (Listed to)) × (f.weights ≡ Some (costs_in to (nodes_in f) (cost f)))
-AreLaidOut f to (Some weights) = (weights ≡ costs_in to (nodes_in f) (cost f)) × All (IsWithin most_weight) weights
 
 -- Only the format and the weights are others, and every cost is as before, those from a node to itself too.
 pub record IsRelaid (old : Fields) (to : Layout) (new : Fields) : Type 0 where

@@ -2,6 +2,7 @@
 
 use crate::coords::Coords;
 use crate::fault::DraftFault;
+use crate::halves::keep_half;
 use crate::rules::end_fault;
 use crate::table::bad_field;
 use std::alloc::Global;
@@ -212,7 +213,10 @@ impl File {
     ghost use Rattle.tsp_value.specs.Limits.{most_weight};
     ghost use Rattle.tsp_fields.specs.Coords.{points_of};
     ghost use Rattle.tsp_fields.specs.Valid.{IsWithin};
-    ghost use Rattle.tsp_fields.specs.Relayout.{nodes_in, with_weights};
+    ghost use Rattle.tsp_value.specs.declared.layout.Layout.TheVariants.{FullMatrix};
+    ghost use Rattle.tsp_value.specs.declared.kinds.WeightFormat.TheVariants.{Listed};
+    ghost use Rattle.tsp_fields.specs.Cost.{cost};
+    ghost use Rattle.tsp_fields.specs.Relayout.{CanGo, nodes_in, with_weights, costs_in};
     ghost use Rattle.tsp_fields.specs.Fields.{fields_of};
     ghost use Rattle.tsp_fields.specs.Rules.{fault_of};
 
@@ -253,6 +257,25 @@ impl File {
     {
         let File { mut draft } = self;
         draft.weight_format = Some(WeightFormat::Listed(layout));
+        draft.weights = Some(weights);
+        File { draft }
+    }
+
+    /// This file, whose weights are a full matrix, with them in another layout that holds their costs.
+    pub(crate) fn with_half(self, to: Layout) -> File
+        requires full { self.weight_format ≡ Some (Listed FullMatrix) }
+        requires can_go { CanGo self to }
+        ensures { result ≡ with_weights self to (costs_in to (nodes_in self) (cost self)) }
+    {
+        let File { mut draft } = self;
+        let Some(nodes) = draft.dimension else {
+            unreachable!();
+        };
+        let Some(mut weights) = draft.weights.take() else {
+            unreachable!();
+        };
+        keep_half(to, nodes, &mut weights);
+        draft.weight_format = Some(WeightFormat::Listed(to));
         draft.weights = Some(weights);
         File { draft }
     }

@@ -5,11 +5,13 @@ mod coords;
 mod examples;
 mod fault;
 mod file;
+mod halves;
 mod laws;
 mod relayout;
 mod rules;
 mod table;
 mod validity;
+mod way;
 mod weights;
 
 pub use coords::Coords;

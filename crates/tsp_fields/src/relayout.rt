@@ -1,14 +1,15 @@
 //! The change of the layout of a file's weights.
 
 ghost use Rattle.std.specs.Prelude.{◌≡◌, Some, MatchOption, MatchResult};
-ghost use Rattle.std.specs.Option.{option_map};
 ghost use Rattle.tsp_value.specs.declared.kinds.WeightKind.TheVariants.{Explicit};
 ghost use Rattle.tsp_fields.specs.Listed.{IsListed};
-ghost use Rattle.tsp_fields.specs.Relayout.{HasListedWeights, CanGo, AreLaidOut, IsRefused, IsRelayout};
+ghost use Rattle.tsp_fields.specs.Relayout.{HasListedWeights, CanGo, IsRefused, IsRelayout};
+ghost use Rattle.tsp_fields.specs.Way.{LeadsTo};
 
 use crate::fault::RelayoutFault;
 use crate::file::File;
 use crate::laws::valid_fields_are_in_range;
+use crate::way::Way;
 use crate::weights::ListedWeights;
 use std::alloc::Global;
 use tsp_value::{Layout, WeightFormat, WeightKind};
@@ -17,7 +18,8 @@ impl File {
     /// This file with its weights in another layout, or why not and the file itself, unchanged.
     ///
     /// Every cost stays as it is, those from a node to itself too, and so does every field but
-    /// the format and the weights. A file that has the layout already is handed back as it is.
+    /// the format and the weights. A file that has the layout already is handed back as it is, and
+    /// a full matrix goes into half of one in its own room, so that no memory is taken.
     ///
     /// Errors, the first that holds: `NotExplicit` where the weight type isn't EXPLICIT or there are
     /// no weights; `NotSymmetric` with the first pair, the smaller node first, by rows, whose two
@@ -26,25 +28,25 @@ impl File {
     pub fn relayout(self, alloc: Global, to: Layout) -> Result<File, (RelayoutFault, File)>
         ensures { IsRelayout self to result }
     {
-        match self.laid_out(alloc, to) {
+        match self.way(alloc, to) {
             Err(fault) => Err((fault, self)),
-            Ok(None) => Ok(self),
-            Ok(Some(weights)) => Ok(self.with_weights(to, weights)),
+            Ok(Way::Already) => Ok(self),
+            Ok(Way::Within) => Ok(self.with_half(to)),
+            Ok(Way::Anew(weights)) => Ok(self.with_weights(to, weights)),
         }
     }
 
-    /// The weights of this file in another layout, or `None` where they have it already.
-    fn laid_out(&self, alloc: Global, to: Layout) -> Result<Option<Vec<i64>>, RelayoutFault>
+    /// How the weights of this file get into another layout.
+    fn way(&self, alloc: Global, to: Layout) -> Result<Way, RelayoutFault>
         ensures { MatchResult result
-            (λ weights. CanGo self.now to
-            × AreLaidOut self.now to (option_map (λ laid. laid.items) weights))
+            (λ way. CanGo self.now to × LeadsTo self.now to way)
             (λ fault. IsRefused self.now to fault) }
     {
         let Some(listed) = self.listed() else {
             return Err(RelayoutFault::NotExplicit);
         };
         if listed.are_in(to) {
-            return Ok(None);
+            return Ok(Way::Already);
         }
         if let Some((i, j)) = listed.lost_pair(to) {
             return Err(RelayoutFault::NotSymmetric { i, j });
@@ -52,8 +54,11 @@ impl File {
         if let Some(i) = listed.lost_diagonal(to) {
             return Err(RelayoutFault::DiagonalLost { i });
         }
+        if listed.are_in(Layout::FullMatrix) {
+            return Ok(Way::Within);
+        }
         match listed.laid_out(alloc, to) {
-            Ok(weights) => Ok(Some(weights)),
+            Ok(weights) => Ok(Way::Anew(weights)),
             Err(_) => Err(RelayoutFault::OutOfMemory),
         }
     }

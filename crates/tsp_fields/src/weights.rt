@@ -72,6 +72,17 @@ impl<'a> ListedWeights<'a> {
         0
     }
 
+    /// The same in a full matrix, where it is the weight of the pair.
+    #[inline]
+    fn weight(&self, i: u32, j: u32) -> i64
+        requires full { self.now.layout ≡ FullMatrix }
+        requires from { IsNode self.now.nodes i }
+        requires to { IsNode self.now.nodes j }
+        ensures { result ≡ costs_of self.now i j }
+    {
+        self.weights[Layout::FullMatrix.place(self.nodes, i, j)]
+    }
+
     /// The first pair, the smaller node first, by rows, whose two costs another layout can't hold
     /// both.
     pub(crate) fn lost_pair(&self, to: Layout) -> Option<(u32, u32)>
@@ -107,6 +118,7 @@ impl<'a> ListedWeights<'a> {
     /// Most matrices that come here are even, and show it by blocks: going by rows walks down a
     /// column of the whole matrix for each, so it is left to those that aren't.
     fn first_uneven(&self) -> Option<(u32, u32)>
+        requires { self.now.layout ≡ FullMatrix }
         ensures { FindsUneven self.now.nodes (costs_of self.now) result }
     {
         if self.is_even() {
@@ -129,6 +141,7 @@ impl<'a> ListedWeights<'a> {
 
     /// Whether the two costs of each pair are the same, block by block.
     fn is_even(&self) -> bool
+        requires { self.now.layout ≡ FullMatrix }
         ensures { IsTrue result ↔ ((i j : ℕ) → IsNode (self.now.nodes) i
             → IsNode (self.now.nodes) j → i < j
             → costs_of self.now i j ≡ costs_of self.now j i) }
@@ -143,7 +156,8 @@ impl<'a> ListedWeights<'a> {
 
     /// The same over a band of rows, counted from 0, from the band's block on the diagonal on.
     fn is_even_band(&self, band: u32) -> bool
-        requires { band * 64 ≤ self.now.nodes }
+        requires full { self.now.layout ≡ FullMatrix }
+        requires band { band * 64 ≤ self.now.nodes }
         ensures { IsTrue result ↔ ((i j : ℕ) → band * 64 < i → i ≤ band * 64 + 64
             → band * 64 < j → i ≤ self.now.nodes → j ≤ self.now.nodes
             → costs_of self.now i j ≡ costs_of self.now j i) }
@@ -158,6 +172,7 @@ impl<'a> ListedWeights<'a> {
 
     /// The same over the block of cells that begins with the cell (top, left).
     fn is_even_block(&self, top: u32, left: u32) -> bool
+        requires full { self.now.layout ≡ FullMatrix }
         requires top { 1 ≤ top }
         requires left { 1 ≤ left }
         requires top_most { top ≤ self.now.nodes + 1 }
@@ -178,6 +193,7 @@ impl<'a> ListedWeights<'a> {
     /// The same over the cells of a row in the block whose first column is `left`.
     #[inline]
     fn is_even_in_block(&self, i: u32, left: u32) -> bool
+        requires full { self.now.layout ≡ FullMatrix }
         requires row { IsNode (self.now.nodes) i }
         requires left { 1 ≤ left }
         requires left_most { left ≤ self.now.nodes + 1 }
@@ -187,8 +203,8 @@ impl<'a> ListedWeights<'a> {
     {
         let past = self.block_end(left);
         'columns: for j in left..past {
-            let mirrored = self.cost(j, i);
-            if self.cost(i, j) != mirrored {
+            let mirrored = self.weight(j, i);
+            if self.weight(i, j) != mirrored {
                 return false;
             }
         }

@@ -1,10 +1,11 @@
-use Rattle.std.proofs.Common.{◌≡◌, sym, ◌∙◌}
+use Rattle.std.proofs.Common.{◌≡◌, Some, sym, ap, ◌∙◌}
 use Rattle.std.proofs.lemmas.Bool.{false≢true}
+use Rattle.tsp_value.specs.declared.kinds.WeightFormat.TheVariants.{Listed}
 use Rattle.tsp_value.specs.Even.{IsFirstUneven}
 use Rattle.tsp_fields.specs.Relayout.{IsFirstOnDiagonal, costs_in}
 use Rattle.tsp_fields.proofs.Listed.{same_layout}
 use Rattle.tsp_fields.proofs.Relaid.{of_file, has_weights, pairs_held, can_go, own_layout}
-use Rattle.tsp_fields.proofs.file.File.laid_out.Goals as goal
+use Rattle.tsp_fields.proofs.file.File.way.Goals as goal
 
 pub returns-then-are_in : goal.returns-then-are_in
 returns-then-are_in c =
@@ -33,6 +34,15 @@ returns-in-Some-lost_diagonal c =
       pairs_held f w.layout w.nodes w.weights.now c.args.to held.0 held.1 c.in_default-lost_pair.ensures,
       lost.ensures.0,
       of_file (λ n cost. IsFirstOnDiagonal n cost lost.i) f w.layout w.nodes w.weights.now held.0 held.1 lost.ensures.1,
+    )
+
+pub returns-then-are_in-2 : goal.returns-then-are_in-2
+returns-then-are_in-2 c =
+    let f = c.args.self.now in
+    let w = c.in-Some.listed in
+    let held = c.in-Some.ensures in (
+      can_go f w.layout w.nodes w.weights.now c.args.to held.0 held.1 c.in_default-lost_pair.ensures c.in_default-lost_diagonal.ensures,
+      held.1.format ∙ ap (λ layout. Some (Listed layout)) (c.are_in-2.ensures.0 c.if-are_in-2.true),
     )
 
 pub returns-in-Ok : goal.returns-in-Ok

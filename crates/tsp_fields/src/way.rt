@@ -1,0 +1,12 @@
+//! How weights get into another layout.
+
+/// How the weights of a file get into another layout.
+#[derive(Debug, Drop)]
+pub(crate) enum Way {
+    /// They are in it already.
+    Already,
+    /// They are a full matrix, and what the layout lists of it goes to the front.
+    Within,
+    /// These are they, all anew.
+    Anew(Vec<i64>),
+}
