@@ -6,7 +6,7 @@ use Rattle.std.proofs.lemmas.List.{get_or-set_same, get_or-set_other}
 use Rattle.std.proofs.lemmas.Int.{ints}
 use Rattle.tsp_bound.specs.declared.area.Area.{Area}
 use Rattle.tsp_bound.specs.declared.boxes.Best.{Best}
-use Rattle.tsp_bound.specs.Boxes.{up, node_at, is_outside, area_at, AreHeldFrom, AreHeld, IsRefit, Keeps, IsFound, IsBest, IsSearched, no_best}
+use Rattle.tsp_bound.specs.Boxes.{up, node_at, is_outside, area_at, AreHeldFrom, AreHeld, IsRefit, Keeps, IsKnown, IsBoundOf, IsFound, IsBest, IsSearched, no_best}
 use Rattle.tsp_bound.specs.Heap.{IsNearest}
 
 -- ---- numbers of boxes
@@ -133,37 +133,24 @@ searched_none w places outside from v best below = record {
   found = inl refl;
 }
 
-pub searched_pruned : (In : Option Area → ℕ → Type 0) (w : ℕ → ℕ → ℤ) (places : List ℕ) (outside : List Bool) (areas : List (Option Area)) (from : ℕ) (v : ℕ) (best : Best) (low : ℤ)
-    → 1 ≤ v → AreHeld In places outside areas → ((j : ℕ) → j < length places → In (area_at areas v) (node_at places j) → low ≤ℤ w from (node_at places j)) → best.weight ≤ℤ low
-    → IsSearched w places outside from v best best
-searched_pruned In w places outside areas from v best low some held lower worse = searched_none w places outside from v best (λ j h j_in out above.
+-- a box that is left alone
+pub searched_alone : (In : Option Area → ℕ → Type 0) (IsOne : ℕ → Type 0) (w : ℕ → ℕ → ℤ) (places : List ℕ) (outside : List Bool) (areas : List (Option Area)) (from : ℕ) (v : ℕ) (best : Best)
+    (bound : ℤ) → 1 ≤ v → AreHeld In places outside areas → ((j : ℕ) → j < length places → IsOne (node_at places j)) → IsBoundOf IsOne (In (area_at areas v)) (w from) bound
+    → IsKnown bound → best.weight ≤ℤ bound → IsSearched w places outside from v best best
+searched_alone In IsOne w places outside areas from v best bound some held ones bounds known worse = searched_none w places outside from v best (λ j h j_in out above.
     let in_box = subst (λ (k : ℕ). In (area_at areas k) (node_at places j)) above (held j h j_in out (omega (arith, some, above))) in
-    let first = lower j j_in in_box in
+    let first = bounds known (node_at places j) (ones j j_in) in_box in
     omega (arith, ints, first, worse))
 
-halves_below : (w : ℕ → ℕ → ℤ) (places : List ℕ) (outside : List Bool) (from : ℕ) (v : ℕ) (old half new : Best) → v < length places
-    → IsSearched w places outside from (2 * v) old half → IsSearched w places outside from (2 * v + 1) half new
-    → (j h : ℕ) → j < length places → is_outside outside j ≡ true → up h (length places + j) ≡ v → new.weight ≤ℤ w from (node_at places j)
-halves_below w places outside from v old half new inner left right j zero j_in out above = absurd (omega (arith, inner, above))
-halves_below w places outside from v old half new inner left right j (suc h) j_in out above = elim (half_cases (up h (length places + j)) v above) [
-  | inl even ↦ let a = left.below j h j_in out even in let b = right.kept in omega (arith, ints, a, b)
-  | inr odd ↦ right.below j h j_in out odd
+found_after : (w : ℕ → ℕ → ℤ) (places : List ℕ) (outside : List Bool) (from : ℕ) (u v : ℕ) (old half new : Best)
+    → IsSearched w places outside from u old half → IsSearched w places outside from v half new → (new ≡ old) ⊎ IsFound w places outside from new
+found_after w places outside from u v old half new first second = elim second.found [
+  | inl same ↦ elim first.found [
+    | inl before ↦ inl (same ∙ before)
+    | inr found ↦ inr (subst (λ (b : Best). IsFound w places outside from b) (sym same) found)
+  ]
+  | inr found ↦ inr found
 ]
-
--- one half and then the other
-pub searched_halves : (w : ℕ → ℕ → ℤ) (places : List ℕ) (outside : List Bool) (from : ℕ) (v : ℕ) (old half new : Best) → v < length places
-    → IsSearched w places outside from (2 * v) old half → IsSearched w places outside from (2 * v + 1) half new → IsSearched w places outside from v old new
-searched_halves w places outside from v old half new inner left right = record {
-  kept = let a = left.kept in let b = right.kept in omega (arith, ints, a, b);
-  below = halves_below w places outside from v old half new inner left right;
-  found = elim right.found [
-    | inl same ↦ elim left.found [
-      | inl first ↦ inl (same ∙ first)
-      | inr found ↦ inr (subst (λ (b : Best). IsFound w places outside from b) (sym same) found)
-    ]
-    | inr found ↦ inr found
-  ];
-}
 
 -- a leaf: its place is the only one below it
 pub leaf_below : (w : ℕ → ℕ → ℤ) (places : List ℕ) (outside : List Bool) (from : ℕ) (node : ℕ) (weight : ℤ)
@@ -173,39 +160,31 @@ leaf_below w places outside from node weight own j h j_in out above =
     let mine : j ≡ node = leaf_is places node j h j_in above in
     subst (λ (k : ℕ). weight ≤ℤ w from (node_at places k)) (sym mine) (own (subst (λ (k : ℕ). is_outside outside k ≡ true) mine out))
 
-other_below : (w : ℕ → ℕ → ℤ) (places : List ℕ) (outside : List Bool) (from : ℕ) (v other : ℕ) (old half new : Best) → v < 2 * length places
-    → (other ≡ v + 1) × (2 * (v / 2) ≡ v) ⊎ (other + 1 ≡ v) × (2 * (v / 2) + 1 ≡ v)
-    → IsSearched w places outside from v old half → IsSearched w places outside from other half new
-    → (j h : ℕ) → j < length places → is_outside outside j ≡ true → up h (length places + j) ≡ v / 2 → new.weight ≤ℤ w from (node_at places j)
-other_below w places outside from v other old half new inner which first second j zero j_in out above = absurd (omega (arith, inner, above))
-other_below w places outside from v other old half new inner which first second j (suc h) j_in out above =
-    let mine : up h (length places + j) ≡ v → new.weight ≤ℤ w from (node_at places j) = λ e. let a = first.below j h j_in out e in let b = second.kept in omega (arith, ints, a, b) in
-    let its : up h (length places + j) ≡ other → new.weight ≤ℤ w from (node_at places j) = λ e. second.below j h j_in out e in
-    elim which [
-      | inl even ↦ elim (half_cases (up h (length places + j)) (v / 2) above) [
-        | inl same ↦ mine (same ∙ even.1)
-        | inr next ↦ its (omega (arith, next, even.0, even.1))
-      ]
-      | inr odd ↦ elim (half_cases (up h (length places + j)) (v / 2) above) [
-        | inl same ↦ its (omega (arith, same, odd.0, odd.1))
-        | inr next ↦ mine (next ∙ odd.1)
-      ]
-    ]
+both_below : (w : ℕ → ℕ → ℤ) (places : List ℕ) (outside : List Bool) (from : ℕ) (v near far : ℕ) (old half new : Best) → v < length places
+    → near / 2 ≡ v → far / 2 ≡ v → near ≢ far → IsSearched w places outside from near old half → IsSearched w places outside from far half new
+    → (j h : ℕ) → j < length places → is_outside outside j ≡ true → up h (length places + j) ≡ v → new.weight ≤ℤ w from (node_at places j)
+both_below w places outside from v near far old half new inner is its different first second j zero j_in out above = absurd (omega (arith, inner, above))
+both_below w places outside from v near far old half new inner is its different first second j (suc h) j_in out above = elim (cases_eq (up h (length places + j)) near) [
+  | inl mine ↦ let a = first.below j h j_in out mine in let b = second.kept in omega (arith, ints, a, b)
+  | inr other ↦ second.below j h j_in out (omega (arith, above, is, its, different, other))
+]
 
--- a box and then its other half
-pub searched_other : (w : ℕ → ℕ → ℤ) (places : List ℕ) (outside : List Bool) (from : ℕ) (v other : ℕ) (old half new : Best) → v < 2 * length places
-    → (other ≡ v + 1) × (2 * (v / 2) ≡ v) ⊎ (other + 1 ≡ v) × (2 * (v / 2) + 1 ≡ v)
-    → IsSearched w places outside from v old half → IsSearched w places outside from other half new → IsSearched w places outside from (v / 2) old new
-searched_other w places outside from v other old half new inner which first second = record {
+-- one half of a box and then the other
+pub searched_both : (w : ℕ → ℕ → ℤ) (places : List ℕ) (outside : List Bool) (from : ℕ) (v near far : ℕ) (old half new : Best) → v < length places
+    → near / 2 ≡ v → far / 2 ≡ v → near ≢ far → IsSearched w places outside from near old half → IsSearched w places outside from far half new → IsSearched w places outside from v old new
+searched_both w places outside from v near far old half new inner is its different first second = record {
   kept = let a = first.kept in let b = second.kept in omega (arith, ints, a, b);
-  below = other_below w places outside from v other old half new inner which first second;
-  found = elim second.found [
-    | inl same ↦ elim first.found [
-      | inl before ↦ inl (same ∙ before)
-      | inr found ↦ inr (subst (λ (b : Best). IsFound w places outside from b) (sym same) found)
-    ]
-    | inr found ↦ inr found
-  ];
+  below = both_below w places outside from v near far old half new inner is its different first second;
+  found = found_after w places outside from near far old half new first second;
+}
+
+-- a search that begins with the best of an earlier one
+pub searched_after : (w : ℕ → ℕ → ℤ) (places : List ℕ) (outside : List Bool) (from : ℕ) (u v : ℕ) (old half new : Best)
+    → IsSearched w places outside from u old half → IsSearched w places outside from v half new → IsSearched w places outside from v old new
+searched_after w places outside from u v old half new first second = record {
+  kept = let a = first.kept in let b = second.kept in omega (arith, ints, a, b);
+  below = second.below;
+  found = found_after w places outside from u v old half new first second;
 }
 
 -- what the search of the box 1 says of each place outside

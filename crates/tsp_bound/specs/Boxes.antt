@@ -1,5 +1,5 @@
 -- A tree of boxes over nodes in an order, its leaves one node each, and what a search of it finds.
-use Rattle.std.specs.Prelude.{◌≡◌, ℕ, zero, suc, ◌+◌, ◌*◌, ◌/◌, ◌<◌, ◌≤◌, Bool, true, false, List, Option, None, Some, length, slice_index_or, slice_set, ℤ, pos, ◌≤ℤ◌, ◌⊎◌}
+use Rattle.std.specs.Prelude.{◌≡◌, ℕ, zero, suc, ◌+◌, ◌*◌, ◌/◌, ◌<◌, ◌≤◌, Bool, true, false, List, Option, None, Some, length, slice_index_or, slice_set, ℤ, pos, neg_ℤ, ◌≤ℤ◌, ◌<ℤ◌, ◌⊎◌}
 use denote.Struct.Props as logic
 use mathlib.Core.HLevel.{Π_prop, ⊥_prop}
 use Rattle.tsp_number.specs.declared.decimal.Point.{Point}
@@ -49,6 +49,14 @@ pub record IsRefit (In : Option Area → ℕ → Type 0) (old new : List (Option
 abbrev pub Keeps : (Option Area → ℕ → Type 0) → ℕ → List (Option Area) → List (Option Area) → Type 0
 Keeps In n old new = (order : List ℕ) (outside : List Bool) → length order ≡ n → AreHeld In order outside old
     → AreHeld In order outside new
+
+-- the least number of 64 bits says nothing
+abbrev pub IsKnown : ℤ → Type 0
+IsKnown bound = neg_ℤ (pos 9223372036854775808) <ℤ bound
+
+-- no more than the weight of each node that is in
+abbrev pub IsBoundOf : (ℕ → Type 0) → (ℕ → Type 0) → (ℕ → ℤ) → ℤ → Type 0
+IsBoundOf IsOne In weight bound = IsKnown bound → (node : ℕ) → IsOne node → In node → bound ≤ℤ weight node
 
 -- a place whose node is outside, and the weight to it
 pub record IsFound (w : ℕ → ℕ → ℤ) (order : List ℕ) (outside : List Bool) (from : ℕ) (best : Best) : Type 0 where

@@ -1,13 +1,13 @@
 //! A tree of boxes over nodes in an order, and the search for the nearest node outside.
 
-ghost use Rattle.std.specs.Prelude.{◌≡◌, ◌⊎◌, ◌≤◌, ◌<◌, ◌+◌, ◌*◌, ◌^◌, ◌≤ℤ◌, ◌+ℤ◌, ◌*ℤ◌, ℕ, ℤ, pos, neg_ℤ, length, List, Bool, Some, IfOk, IfSome};
+ghost use Rattle.std.specs.Prelude.{◌≡◌, ◌≢◌, ◌⊎◌, ◌≤◌, ◌<◌, ◌+◌, ◌*◌, ◌/◌, ◌^◌, ◌≤ℤ◌, ◌+ℤ◌, ◌*ℤ◌, ℕ, ℤ, pos, neg_ℤ, length, List, Bool, Some, IfOk, IfSome};
 ghost use Rattle.std.specs.Bool.{OnTrue};
 ghost use Rattle.tsp_number.specs.declared.decimal.Point.{Point};
 ghost use Rattle.tsp_value.specs.Cells.{IsNode};
 ghost use Rattle.tsp_value.specs.Limits.{most_scale, most_weight, most_potential};
 ghost use Rattle.tsp_bound.specs.Numbers.{IsFromTo, IsScale, entry};
 ghost use Rattle.tsp_bound.specs.Potentials.{scale_of, numbers_of, weight_under};
-ghost use Rattle.tsp_bound.specs.Boxes.{Holds, AreHeld, IsRefit, Keeps, IsSearched, no_best, node_at};
+ghost use Rattle.tsp_bound.specs.Boxes.{Holds, AreHeld, IsRefit, Keeps, IsKnown, IsBoundOf, IsSearched, no_best, node_at, area_at};
 
 use crate::area::Area;
 use crate::potentials::Potentials;
@@ -105,33 +105,127 @@ fn weight_with(p: &Potentials, from: u32, cost: i64, potential: i64) -> i64
     at_scale(p.scale, cost) + both
 }
 
-/// Whether it is known that no node in the box weighs less than `best`: not the least cost to its
-/// region with its least potential.
+/// A box, and a bound of the weights of its nodes.
+#[derive(Clone, Copy, Debug)]
+struct Half {
+    v: usize,
+    bound: i64,
+}
+
+/// A number that is no more than the weight of each node in the box `v`; the least number says
+/// nothing.
+///
+/// It is the least cost to the box's region with its least potential. `steps` counts the boxes.
 #[inline]
-fn is_no_better<C: Grouped>(
+fn bound_of<C: Grouped>(
     c: &C,
     p: &Potentials,
+    areas: &[Option<Area>],
+    v: usize,
     from: u32,
-    area: &Option<Area>,
-    best: i64,
-) -> bool
+    steps: &mut u64,
+) -> i64
     requires count { length (numbers_of p.now) ≡ C.nodes c.now }
     requires from { IsNode (C.nodes c.now) from }
-    ensures { OnTrue result ((to : ℕ) → IsNode (C.nodes c.now) to
-        → Holds (C.place c.now) (numbers_of p.now) area.now to → best ≤ℤ weight_under p.now (C.at c.now) from to) }
+    requires box_in { v < length areas.now }
+    ensures { IsBoundOf (IsNode (C.nodes c.now))
+        (Holds (C.place c.now) (numbers_of p.now) (area_at areas.now v))
+        (weight_under p.now (C.at c.now) from) result }
 {
-    let Some(area) = area else {
-        return true;
+    *steps = steps.wrapping_add(1);
+    let Some(area) = &areas[v] else {
+        return i64::MAX;
     };
     let Some(cost) = c.cost_to(from, area.region) else {
-        return false;
+        return i64::MIN;
     };
-    weight_with(p, from, cost, area.least) >= best
+    weight_with(p, from, cost, area.least)
+}
+
+/// Whether it is known that no node weighs less than `best`, by a bound of the nodes' weights.
+#[inline]
+fn is_no_better(bound: i64, best: i64) -> bool
+    ensures { OnTrue result (IsKnown bound × (best ≤ℤ bound)) }
+{
+    bound > i64::MIN && bound >= best
+}
+
+/// The halves of a box, the one with the lower bound first.
+#[inline]
+fn halves<C: Grouped>(
+    c: &C,
+    p: &Potentials,
+    areas: &[Option<Area>],
+    v: usize,
+    from: u32,
+    steps: &mut u64,
+) -> (Half, Half)
+    requires count { length (numbers_of p.now) ≡ C.nodes c.now }
+    requires from { IsNode (C.nodes c.now) from }
+    requires few { length areas.now < 2 ^ 32 }
+    requires halves_in { 2 * v + 1 < length areas.now }
+    ensures first { result.0.v / 2 ≡ v }
+    ensures second { result.1.v / 2 ≡ v }
+    ensures both { result.0.v ≢ result.1.v }
+    ensures nearer { result.0.bound ≤ℤ result.1.bound }
+    ensures bound { IsBoundOf (IsNode (C.nodes c.now))
+        (Holds (C.place c.now) (numbers_of p.now) (area_at areas.now result.0.v))
+        (weight_under p.now (C.at c.now) from) result.0.bound }
+    ensures other_bound { IsBoundOf (IsNode (C.nodes c.now))
+        (Holds (C.place c.now) (numbers_of p.now) (area_at areas.now result.1.v))
+        (weight_under p.now (C.at c.now) from) result.1.bound }
+{
+    let left = bound_of(c, p, areas, 2 * v, from, steps);
+    let right = bound_of(c, p, areas, 2 * v + 1, from, steps);
+    let first = Half {
+        v: 2 * v,
+        bound: left,
+    };
+    let second = Half {
+        v: 2 * v + 1,
+        bound: right,
+    };
+    if left <= right {
+        (first, second)
+    } else {
+        (second, first)
+    }
+}
+
+/// The better of the best so far and the node at a place, where that is outside.
+#[inline]
+fn better_of<C: Grouped>(
+    c: &C,
+    p: &Potentials,
+    order: &[u32],
+    outside: &[bool],
+    place: usize,
+    from: u32,
+    best: Best,
+) -> Best
+    requires count { length (numbers_of p.now) ≡ C.nodes c.now }
+    requires from { IsNode (C.nodes c.now) from }
+    requires nodes { (j : ℕ) → j < length order.now → IsNode (C.nodes c.now) (node_at order.now j) }
+    requires as_many { length outside.now ≡ length order.now }
+    requires place { place < length order.now }
+    ensures { IsSearched (weight_under p.now (C.at c.now)) order.now outside.now from
+        (length order.now + place) best result }
+{
+    if !outside[place] {
+        return best;
+    }
+    let weight = p.weight(c, from, order[place]);
+    if weight < best.weight {
+        Best { weight, place }
+    } else {
+        best
+    }
 }
 
 /// The best of the nodes outside below the box `v` and of the best so far.
 ///
-/// A box is left alone where no node in it can be better.
+/// It goes first into the half with the lower bound, and leaves a half alone where no node in it
+/// can be better.
 fn search<C: Grouped>(
     c: &C,
     p: &Potentials,
@@ -154,28 +248,25 @@ fn search<C: Grouped>(
     requires held { AreHeld (Holds (C.place c.now) (numbers_of p.now)) order.now outside.now areas.now }
     ensures { IsSearched (weight_under p.now (C.at c.now)) order.now outside.now from v best result }
 {
-    *steps = steps.wrapping_add(1);
-    if is_no_better(c, p, from, &areas[v], best.weight) {
+    if v >= order.len() {
+        return better_of(c, p, order, outside, v - order.len(), from, best);
+    }
+    let (near, far) = halves(c, p, areas, v, from, steps);
+    if is_no_better(near.bound, best.weight) {
         return best;
     }
-    if v < order.len() {
-        let half = search(c, p, order, outside, areas, 2 * v, from, best, steps);
-        return search(c, p, order, outside, areas, 2 * v + 1, from, half, steps);
+    let half = search(c, p, order, outside, areas, near.v, from, best, steps);
+    if is_no_better(far.bound, half.weight) {
+        return half;
     }
-    let place = v - order.len();
-    if !outside[place] {
-        return best;
-    }
-    let weight = p.weight(c, from, order[place]);
-    if weight < best.weight {
-        Best { weight, place }
-    } else {
-        best
-    }
+    search(c, p, order, outside, areas, far.v, from, half, steps)
 }
 
 /// The best of all nodes outside: from the leaf of a place on, each box above it and its other
 /// half.
+///
+/// The node at the place `near` is looked at first, where it is outside: a good one leaves more
+/// boxes alone.
 pub(crate) fn nearest_from<C: Grouped>(
     c: &C,
     p: &Potentials,
@@ -183,6 +274,7 @@ pub(crate) fn nearest_from<C: Grouped>(
     outside: &[bool],
     areas: &[Option<Area>],
     place: usize,
+    near: usize,
     steps: &mut u64,
 ) -> Best
     requires count { length (numbers_of p.now) ≡ C.nodes c.now }
@@ -191,6 +283,7 @@ pub(crate) fn nearest_from<C: Grouped>(
     requires as_many { length outside.now ≡ length order.now }
     requires boxes { length areas.now ≡ 2 * length order.now }
     requires place { place < length order.now }
+    requires near { near < length order.now }
     requires held { AreHeld (Holds (C.place c.now) (numbers_of p.now)) order.now outside.now areas.now }
     ensures { IsSearched (weight_under p.now (C.at c.now)) order.now outside.now
         (node_at order.now place) 1 no_best result }
@@ -200,11 +293,15 @@ pub(crate) fn nearest_from<C: Grouped>(
         weight: i64::MAX,
         place: 0,
     };
+    let first = better_of(c, p, order, outside, near, from, none);
+    let mut best = better_of(c, p, order, outside, place, from, first);
     let mut v = order.len() + place;
-    let mut best = search(c, p, order, outside, areas, v, from, none, steps);
     'climb: while v > 1 {
         let other = if v % 2 == 0 { v + 1 } else { v - 1 };
-        best = search(c, p, order, outside, areas, other, from, best, steps);
+        let bound = bound_of(c, p, areas, other, from, steps);
+        if !is_no_better(bound, best.weight) {
+            best = search(c, p, order, outside, areas, other, from, best, steps);
+        }
         v /= 2;
     }
     best

@@ -35,11 +35,13 @@ pub(crate) fn grow_by_heap<O: Outside>(
     let mut added = Vec::new(alloc);
     o.take(start);
     let mut next = start;
+    let mut last = start;
     let mut steps = 0;
     'grow: for _ in 0..most_steps {
-        let Some(found) = o.nearest(next, &mut steps) else {
+        let Some(found) = o.nearest(next, last, &mut steps) else {
             break;
         };
+        last = found.to;
         links.push(Reverse(found))?;
         if steps > most_steps {
             break;

@@ -152,7 +152,7 @@ impl<C: Grouped> Outside for Nodes<'_, C> {
         self.outside[node as usize]
     }
 
-    fn nearest(&self, from: u32, steps: &mut u64) -> Option<Link> {
+    fn nearest(&self, from: u32, near: u32, steps: &mut u64) -> Option<Link> {
         let unlowered = nearest_from(
             self.c,
             &self.p,
@@ -160,6 +160,7 @@ impl<C: Grouped> Outside for Nodes<'_, C> {
             &self.outside,
             &self.areas,
             from as usize,
+            near as usize,
             steps,
         );
         let best = self.lowered(from, unlowered, steps);

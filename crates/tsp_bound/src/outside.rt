@@ -32,9 +32,10 @@ pub(crate) trait Outside {
         ensures { result ≡ outside_of self.now node };
 
     /// The least link from the node to one outside, or none. It adds to `steps` what the search
-    /// took.
-    fn nearest(&self, from: u32, steps: &mut u64) -> Option<Link>
-        requires { from < count_of self.now }
+    /// took, which begins at the node `near`.
+    fn nearest(&self, from: u32, near: u32, steps: &mut u64) -> Option<Link>
+        requires from { from < count_of self.now }
+        requires near { near < count_of self.now }
         ensures { IfSome result (λ link. IsNearest (count_of self.now) (weight_of self.now)
             (outside_of self.now) from link) };
 

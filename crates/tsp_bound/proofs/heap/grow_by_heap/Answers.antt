@@ -54,6 +54,7 @@ grow-preserved g c =
             same_weights = u.take-then-is_outside.ensures.same_weights ∙ c.grow.invariant.same_weights;
             ordered = u.in_ok-push-3.ensures.heap_order top.0;
             next_in = link.to_in;
+            last_in = near.to_in;
             next_inside = taken_itself outside after x.0.to u.take-then-is_outside.ensures.taken;
             growth = subst (λ (ps : List (ℕ × ℕ)). IsGrowth n w after c.args.start ps) (sym pushed)
                 (growth_more n w outside after c.args.start c.grow.added.items x.0.from x.0.to c.grow.invariant.growth least
@@ -67,6 +68,7 @@ grow-preserved g c =
             same_weights = c.grow.invariant.same_weights;
             ordered = top.0;
             next_in = link.from_in;
+            last_in = near.to_in;
             next_inside = link.from_inside;
             growth = c.grow.invariant.growth;
             heap = heap_popped n w outside (heap_items c.push.new.self) (heap_items c.pop.new.self) c.in-Some-pop.field-0 full c.in-Some-pop.ensures.permutation;

@@ -13,6 +13,7 @@ invariant-grow g l =
       same_weights : g.O.Outside.weight_of l.o ≡ w;
       ordered : IsHeap entry_cmp (heap_items l.links);
       next_in : l.next < n;
+      last_in : l.last < n;
       next_inside : outside l.next ≡ false;
       growth : IsGrowth n w outside l.start l.added.items;
       heap : IsHeapOf n w outside (heap_items l.links) l.next;
