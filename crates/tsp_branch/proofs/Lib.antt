@@ -22,3 +22,6 @@ pub mod Judging
 pub mod Grown
 pub mod CaseWeights
 pub mod GivenBack
+pub mod NodeMarks
+pub mod Teeth
+pub mod CombRuns

@@ -10,5 +10,7 @@ pub mod Sets
 pub mod Combed
 pub mod CombsOfSets
 pub mod Judged
+pub mod GoodCombs
+pub mod Marked
 pub mod Listed
 pub mod Rooms

@@ -8,10 +8,12 @@ mod combed;
 mod decided;
 mod examples;
 mod given_back;
+mod good_combs;
 mod growth;
 mod judge;
 mod laws;
 mod leaf;
+mod marks;
 mod moved;
 mod node_weights;
 mod numbers;
@@ -31,6 +33,7 @@ pub use decided::DecidedWeights;
 pub use examples::{
     examples_of_bounds, examples_of_crossings, examples_of_trees, examples_of_weights,
 };
+pub use good_combs::first_bad_comb;
 pub use laws::{
     cases_bound_walks, certificate_bounds_are_unique, certificates_bound_walks,
     decided_bounds_bound_walks, fixed_bounds_bound_tours, leaf_bounds_bound_walks,
