@@ -1,5 +1,6 @@
 pub mod BoundChecks
 pub mod Checks
 pub mod Converts
+pub mod HandedOn
 pub mod Shows
 pub mod Texts

@@ -65,10 +65,8 @@ pub fn run_bound_verdict<I: Read, S: Read, P: Read, W: Write>(
         TakesAtMost most_taken (turn_of P.remaining pot.old pot.new) (λ third.
         IsBoundVerdictCheck first second third (sink_of W.contents out.old out.new) result))) }
 {
-    match read_file(alloc, 1, inst) {
-        Err(fault) => Err(fault),
-        Ok(instance) => with_instance(alloc, instance, sol, pot, out),
-    }
+    let instance = read_file(alloc, 1, inst)?;
+    with_instance(alloc, instance, sol, pot, out)
 }
 
 /// The check of this instance, whatever reader it came from.
@@ -84,17 +82,8 @@ fn with_instance<S: Read, P: Read, W: Write>(
         (first : Turn) → IsFile first instance
         → IsBoundVerdictRun first second third (sink_of W.contents out.old out.new) result)) }
 {
-    match read_file(alloc, 2, sol) {
-        Err(fault) => {
-            drop(instance);
-            Err(fault)
-        }
-        Ok(solution) => {
-            let answer = with_solution(alloc, instance, &solution, pot, out);
-            drop(solution);
-            answer
-        }
-    }
+    let solution = read_file(alloc, 2, sol)?;
+    with_solution(alloc, instance, &solution, pot, out)
 }
 
 /// The check of this instance and this solution.
@@ -109,17 +98,8 @@ fn with_solution<P: Read, W: Write>(
         (first second : Turn) → IsFile first instance → IsFile second solution.now
         → IsBoundVerdictRun first second third (sink_of W.contents out.old out.new) result) }
 {
-    match read_file(alloc, 3, pot) {
-        Err(fault) => {
-            drop(instance);
-            Err(fault)
-        }
-        Ok(certificate) => {
-            let answer = with_certificate(alloc, instance, solution, &certificate, out);
-            drop(certificate);
-            answer
-        }
-    }
+    let certificate = read_file(alloc, 3, pot)?;
+    with_certificate(alloc, instance, solution, &certificate, out)
 }
 
 /// The check of these three files.

@@ -57,10 +57,8 @@ pub fn run_verdict<I: Read, S: Read, W: Write>(
         TakesAtMost most_taken (turn_of S.remaining sol.old sol.new) (λ second.
         IsVerdictCheck first second (sink_of W.contents out.old out.new) result)) }
 {
-    match read_file(alloc, 1, inst) {
-        Err(fault) => Err(fault),
-        Ok(instance) => with_instance(alloc, instance, sol, out),
-    }
+    let instance = read_file(alloc, 1, inst)?;
+    with_instance(alloc, instance, sol, out)
 }
 
 /// The check of this instance, whatever reader it came from.
@@ -74,17 +72,8 @@ fn with_instance<S: Read, W: Write>(
         (first : Turn) → IsFile first instance
         → IsVerdictRun first second (sink_of W.contents out.old out.new) result) }
 {
-    match read_file(alloc, 2, sol) {
-        Err(fault) => {
-            drop(instance);
-            Err(fault)
-        }
-        Ok(solution) => {
-            let answer = with_solution(alloc, instance, &solution, out);
-            drop(solution);
-            answer
-        }
-    }
+    let solution = read_file(alloc, 2, sol)?;
+    with_solution(alloc, instance, &solution, out)
 }
 
 /// The check of these two files.

@@ -31,10 +31,7 @@ pub fn run_convert<R: Read, W: Write>(
     ensures { TakesAtMost most_taken (turn_of R.remaining r.old r.new) (λ turn.
         IsConvertRun to turn (sink_of W.contents out.old out.new) result) }
 {
-    let file = match read_file(alloc, 1, r) {
-        Err(fault) => return Err(fault),
-        Ok(file) => file,
-    };
+    let file = read_file(alloc, 1, r)?;
     let converted = match in_layout(alloc, file, to) {
         Err(fault) => return Err(RunFault::Relayout(fault)),
         Ok(converted) => converted,

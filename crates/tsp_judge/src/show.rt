@@ -29,10 +29,7 @@ pub fn run_show<R: Read, W: Write>(
     ensures { TakesAtMost most_taken (turn_of R.remaining r.old r.new) (λ turn.
         IsShowRun turn (sink_of W.contents out.old out.new) result) }
 {
-    let file = match read_file(alloc, 1, r) {
-        Err(fault) => return Err(fault),
-        Ok(file) => file,
-    };
+    let file = read_file(alloc, 1, r)?;
     let Ok(text) = show_text(alloc, file) else {
         return Err(RunFault::OutOfMemory);
     };
