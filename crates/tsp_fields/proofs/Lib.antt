@@ -2,6 +2,7 @@ pub mod Fronts
 pub mod Listed
 pub mod Mapped
 pub mod Relaid
+pub mod Rows
 pub mod Types
 pub mod ValidFields
 pub mod WithWeights

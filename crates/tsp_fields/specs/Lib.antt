@@ -5,6 +5,7 @@ pub mod Halves
 pub mod Listed
 pub mod Relayout
 pub mod Rules
+pub mod Side
 pub mod Valid
 pub mod Validity
 pub mod Way

@@ -32,6 +32,9 @@ impl<'a> ListedWeights<'a> {
     ghost use Rattle.tsp_fields.specs.Fields.{Fields};
     ghost use Rattle.tsp_fields.specs.Listed.{IsListed};
     ghost use Rattle.tsp_fields.specs.Relayout.{HoldsPairs, HoldsDiagonal, lists_diagonal, IsFirstOnDiagonal, costs_in};
+    ghost use Rattle.std.specs.Prelude.{◌-◌, slice_index_or};
+    ghost use Rattle.std.specs.List.{range_with_len};
+    ghost use Rattle.tsp_fields.specs.Side.{first_own, past_own};
     ghost use Rattle.tsp_fields.specs.Weights.{costs_of};
 
     /// These weights over so many nodes in this layout.
@@ -280,10 +283,119 @@ impl<'a> ListedWeights<'a> {
         ensures { OnOk result (weights.new.items ≡ weights.old.items
             ++ map (λ cell. costs_of self.now cell.0 cell.1) (cells_of_line to self.now.nodes line)) }
     {
+        if to == Layout::FullMatrix {
+            return self.lay_row(line, weights);
+        }
         'cells: for index in 0..to.line_len(self.nodes, line) {
             let (i, j) = to.line_cell(self.nodes, line, index);
             weights.push(self.cost(i, j))?;
         }
         Ok(())
+    }
+
+    /// Adds the costs of one row: those that stand side by side are taken as they are.
+    ///
+    /// Errors: out of memory.
+    fn lay_row(&self, row: u32, weights: &mut Vec<i64>) -> Result<(), AllocError>
+        requires { IsNode self.now.nodes row }
+        ensures { OnOk result (weights.new.items ≡ weights.old.items
+            ++ map (λ cell. costs_of self.now cell.0 cell.1) (cells_of_line FullMatrix self.now.nodes row)) }
+    {
+        let (first, past) = self.own_columns(row);
+        self.lay_costs(row, 1, first, weights)?;
+        self.lay_own(row, first, past, weights)?;
+        self.lay_costs(row, past, self.nodes + 1, weights)?;
+        Ok(())
+    }
+
+    /// Adds the costs of a row that stand side by side.
+    ///
+    /// Errors: out of memory.
+    fn lay_own(
+        &self,
+        row: u32,
+        first: u32,
+        past: u32,
+        weights: &mut Vec<i64>,
+    ) -> Result<(), AllocError>
+        requires row { IsNode self.now.nodes row }
+        requires first { first ≡ first_own self.now.layout row }
+        requires past { past ≡ past_own self.now.layout self.now.nodes row }
+        ensures { OnOk result (weights.new.items ≡ weights.old.items
+            ++ map (costs_of self.now row) (range_with_len first (past - first))) }
+    {
+        if first < past {
+            weights.extend_from_slice(self.own_part(row, first, past))?;
+        }
+        Ok(())
+    }
+
+    /// Adds the costs from a node to those from one on and before another.
+    ///
+    /// Errors: out of memory.
+    fn lay_costs(
+        &self,
+        row: u32,
+        from: u32,
+        past: u32,
+        weights: &mut Vec<i64>,
+    ) -> Result<(), AllocError>
+        requires row { IsNode self.now.nodes row }
+        requires some { 1 ≤ from }
+        requires order { from ≤ past }
+        requires most { past ≤ self.now.nodes + 1 }
+        ensures { OnOk result (weights.new.items ≡ weights.old.items
+            ++ map (costs_of self.now row) (range_with_len from (past - from))) }
+    {
+        'columns: for j in from..past {
+            weights.push(self.cost(row, j))?;
+        }
+        Ok(())
+    }
+
+    /// The columns of a row whose costs stand side by side: the first, and the one past the last.
+    fn own_columns(&self, row: u32) -> (u32, u32)
+        requires { IsNode self.now.nodes row }
+        ensures first { result.0 ≡ first_own self.now.layout row }
+        ensures past { result.1 ≡ past_own self.now.layout self.now.nodes row }
+        ensures some { 1 ≤ result.0 }
+        ensures order { result.0 ≤ result.1 }
+        ensures most { result.1 ≤ self.now.nodes + 1 }
+    {
+        match self.layout {
+            Layout::FullMatrix => (1, self.nodes + 1),
+            Layout::UpperRow | Layout::LowerCol => (row + 1, self.nodes + 1),
+            Layout::UpperDiagRow | Layout::LowerDiagCol => (row, self.nodes + 1),
+            Layout::LowerRow | Layout::UpperCol => (1, row),
+            Layout::LowerDiagRow | Layout::UpperDiagCol => (1, row + 1),
+        }
+    }
+
+    /// The costs of a row from these columns, which stand side by side.
+    fn own_part(&self, row: u32, first: u32, past: u32) -> &[i64]
+        requires row { IsNode self.now.nodes row }
+        requires first { first ≡ first_own self.now.layout row }
+        requires past { past ≡ past_own self.now.layout self.now.nodes row }
+        requires some { first < past }
+        ensures { result.now ≡ map (costs_of self.now row) (range_with_len first (past - first)) }
+    {
+        let start = self.own_start(row, first, past);
+        &self.weights[start..start + (past - first) as usize]
+    }
+
+    /// The place of the first of them among the weights.
+    fn own_start(&self, row: u32, first: u32, past: u32) -> usize
+        requires row { IsNode self.now.nodes row }
+        requires first { first ≡ first_own self.now.layout row }
+        requires past { past ≡ past_own self.now.layout self.now.nodes row }
+        requires some { first < past }
+        ensures { (k : ℕ) → first + k < past → (result + k < length self.now.weights.now)
+            × (slice_index_or self.now.weights.now (result + k) (pos 0) ≡ costs_of self.now row (first + k)) }
+    {
+        if self.layout.goes_by_columns() {
+            self.layout.place(self.nodes, first, row)
+        } else {
+            self.layout.place(self.nodes, row, first)
+        }
     }
 }
