@@ -1,5 +1,6 @@
 -- Sets told comb by comb: those of one comb stand at the front, and the rest has the later combs.
 use Rattle.std.proofs.Common.{◌≡◌, ◌≢◌, ◌∙◌, ℕ, zero, suc, ◌+◌, ◌<◌, ◌≤◌, List, [], ◌∷◌, ◌++◌, take, drop, length, get_or, inl, inr, refl, ap, sym, subst, arith}
+use Rattle.std.specs.Prelude.{Option, None}
 use Rattle.std.specs.Global.{Vec}
 use Rattle.std.specs.List.{All, AllByRecursion}
 use Rattle.std.proofs.lemmas.Bool.{cases_eq, eq-eqb, ne_eqb}
@@ -10,7 +11,7 @@ use Rattle.tsp_value.specs.Cells.{IsNode}
 use Rattle.tsp_branch.specs.Sets.{AreSetsOf}
 use Rattle.tsp_branch.specs.Combed.{plain}
 use Rattle.tsp_branch.specs.CombsOfSets.{of_comb, combs_from, combs_of}
-use Rattle.tsp_branch.specs.GoodCombs.{HasEachOnce, IsGoodComb, IsFirstBadComb, AreInOrder, lists_of}
+use Rattle.tsp_branch.specs.GoodCombs.{HasEachOnce, IsGoodComb, IsFirstBadComb, AreCombsJudged, AreInOrder, lists_of}
 
 -- ---- a run at the front
 
@@ -118,3 +119,16 @@ good_more n comb sets before here other lt = elim (cases_eq other comb) [
   | inl same ↦ subst (λ (k : ℕ). IsGoodComb n (of_comb k sets)) (sym same) here
   | inr less ↦ before other (omega (arith, lt, less))
 ]
+
+-- what the bound of a tree of cases asks of the sets
+both_known : (combs : ℕ) (sets : List (ℕ × Vec ℕ)) → AllByRecursion (λ set. set.0 < combs) sets → AllByRecursion (λ set. HasEachOnce set.1) (plain sets)
+    → AllByRecursion (λ set. (set.0 < combs) × HasEachOnce set.1.items) sets
+both_known combs [] within once = tt
+both_known combs (set ∷ sets) within once = ((within.0, once.0), both_known combs sets within.1 once.1)
+
+pub sets_judged : (n combs : ℕ) (sets : List (ℕ × Vec ℕ)) (found : Option ℕ) → AreCombsJudged n combs (plain sets) found → found ≡ None → All (λ set. set.0 < combs) sets
+    → All (λ set. (set.0 < combs) × HasEachOnce set.1.items) sets
+sets_judged n combs sets found judged none within =
+    let good = subst (AreCombsJudged n combs (plain sets)) none judged in
+    All-from_recursion (λ (set : ℕ × Vec ℕ). (set.0 < combs) × HasEachOnce set.1.items) sets
+    (both_known combs sets (recursion_from_All (λ (set : ℕ × Vec ℕ). set.0 < combs) sets within) (recursion_from_All (λ (set : ℕ × List ℕ). HasEachOnce set.1) (plain sets) good.1))

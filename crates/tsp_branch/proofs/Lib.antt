@@ -25,3 +25,4 @@ pub mod GivenBack
 pub mod NodeMarks
 pub mod Teeth
 pub mod CombRuns
+pub mod BranchesOnce

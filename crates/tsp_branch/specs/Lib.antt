@@ -11,6 +11,8 @@ pub mod Combed
 pub mod CombsOfSets
 pub mod Judged
 pub mod GoodCombs
+pub mod Twice
 pub mod Marked
 pub mod Listed
+pub mod BranchVerdicts
 pub mod Rooms

@@ -25,6 +25,8 @@ mod spokes;
 mod stack;
 mod steps;
 mod tree;
+mod twice;
+mod verdict;
 mod weights;
 
 pub use branch::branch_bound;
@@ -43,6 +45,8 @@ pub use laws::{
 pub use leaf::leaf_bound;
 pub use node_weights::NodeWeights;
 pub use stack::next_case;
-pub use steps::{Judged, TreeStep};
+pub use steps::{BranchVerdict, Judged, TreeStep};
 pub use tree::least_weight;
+pub use twice::first_twice;
+pub use verdict::judge_branches;
 pub use weights::Weights;
