@@ -111,10 +111,10 @@ fn nothing<C: Costs>(alloc: Global, c: &C) -> Result<Grown, AllocError>
 }
 
 /// How many boxes a growth over so many nodes may look at before it is left to the dense way:
-/// about as much work as the dense way takes.
+/// a part of the work that the dense way takes, and about as much for a thousand nodes.
 fn most_steps(count: u32) -> u64 {
     let nodes = u64::from(count);
-    (nodes * nodes / 32).max(200 * nodes)
+    (nodes * nodes / 25).max(300 * nodes)
 }
 
 /// The pairs of the nodes at pairs of places, and the sum of their weights.
