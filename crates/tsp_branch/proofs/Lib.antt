@@ -26,3 +26,4 @@ pub mod NodeMarks
 pub mod Teeth
 pub mod CombRuns
 pub mod BranchesOnce
+pub mod SmallVerdicts

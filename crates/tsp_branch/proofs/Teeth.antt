@@ -1,5 +1,5 @@
 -- Teeth of a handle, set by set, and that they are those of a comb.
-use Rattle.std.proofs.Common.{◌≡◌, ◌∙◌, ℕ, zero, suc, ◌+◌, ◌*◌, ◌/◌, ◌%◌, ◌<◌, ◌≤◌, ◌==◌, ◌||◌, Bool, true, false, List, [], ◌∷◌, map, drop, length, get_or}
+use Rattle.std.proofs.Common.{◌≡◌, ◌∙◌, ℕ, zero, suc, ◌+◌, ◌*◌, ◌<◌, ◌≤◌, ◌==◌, ◌||◌, Bool, true, false, List, [], ◌∷◌, map, drop, length, get_or}
 use Rattle.std.proofs.Common.{inl, inr, refl, ap, sym, subst, arith, drop-cons, add-one}
 use Rattle.std.specs.Prelude.{◌↔◌}
 use Rattle.std.specs.Global.{Vec}
@@ -12,7 +12,7 @@ use Rattle.std.proofs.lemmas.List.Folds.{Any-from_list_any, list_any_at}
 use Rattle.std.proofs.lemmas.List.Kept.{AllPairs-cons}
 use Rattle.tsp_value.specs.Cells.{IsNode}
 use Rattle.tsp_branch.specs.Combs.{IsTooth, AreApart, has}
-use Rattle.tsp_branch.specs.GoodCombs.{HasEachOnce, IsGoodComb, lists_of}
+use Rattle.tsp_branch.specs.GoodCombs.{HasEachOnce, IsGoodComb, IsToothCount, lists_of}
 use Rattle.tsp_branch.specs.Marked.{AreNew, AreTeeth}
 
 -- ---- one tooth
@@ -197,6 +197,11 @@ module _ (n : ℕ) (sets : List (ℕ × Vec ℕ)) (handle : ℕ × Vec ℕ) (tee
   pub first_all : (P : ℕ → Type 0) → All (λ set. All P set.1.items) sets → All P nodes
   first_all P h = subst (All P) (sym read) (All-head (λ (set : ℕ × Vec ℕ). All P set.1.items) handle teeth (both P h))
 
+  pub counted : IsGoodComb n (lists_of sets) → IsToothCount (length teeth)
+  counted h =
+      let comb = (subst (IsGoodComb n) told h).comb in
+      (comb.half, comb.some, sym (length-map (lists_of teeth) has ∙ length-map teeth (λ set. set.1.items)) ∙ comb.odd)
+
   pub handle_new : (old : ℕ → Bool) → ((x : ℕ) → old x ≡ false) → IsGoodComb n (lists_of sets) → AreNew old nodes
   handle_new old none h = record {
     unused = λ k d lt. none (get_or nodes k d);
@@ -207,13 +212,10 @@ module _ (n : ℕ) (sets : List (ℕ × Vec ℕ)) (handle : ℕ × Vec ℕ) (tee
     own : (x : ℕ) → marked x ≡ has nodes x
     own x = marks x ∙ ap (λ b. b || has nodes x) (none x)
 
-    pub comb_found : 3 ≤ length teeth → (length teeth % 2 ≡ 0 → ⊥) → AreNew old nodes → AreTeeth n marked used (lists_of teeth) → IsGoodComb n (lists_of sets)
-    comb_found some odd new h =
-        let half : ℕ = length teeth / 2 in
+    pub comb_found : IsToothCount (length teeth) → AreNew old nodes → AreTeeth n marked used (lists_of teeth) → IsGoodComb n (lists_of sets)
+    comb_found count new h =
         let long : length (lists_of teeth) ≡ length teeth = length-map teeth (λ set. set.1.items) in
-        let twice : length teeth ≡ 2 * half + 1 = omega (arith, odd) in
-        let least : 1 ≤ half = omega (arith, some, twice) in
-        subst (IsGoodComb n) (sym told) (good_comb n half used marked nodes (lists_of teeth) (long ∙ twice) least new.once own h)
+        subst (IsGoodComb n) (sym told) (good_comb n count.0 used marked nodes (lists_of teeth) (long ∙ count.2) count.1 new.once own h)
 
     pub teeth_found : ((x : ℕ) → used x ≡ false) → IsGoodComb n (lists_of sets) → AreTeeth n marked used (lists_of teeth)
     teeth_found unused h = comb_teeth n used marked nodes (lists_of teeth) unused own (subst (IsGoodComb n) told h)

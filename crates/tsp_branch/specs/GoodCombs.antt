@@ -1,5 +1,5 @@
 -- Which comb is bad: combs are told by sets of nodes, and these need not be those of combs.
-use Rattle.std.specs.Prelude.{◌≡◌, ◌≢◌, ℕ, ◌+◌, ◌≤◌, ◌<◌, List, map, Option, None, Some}
+use Rattle.std.specs.Prelude.{◌≡◌, ◌≢◌, ℕ, ◌+◌, ◌*◌, ◌≤◌, ◌<◌, List, map, Option, None, Some}
 use Rattle.std.specs.Global.{Vec}
 use Rattle.std.specs.List.{All, AllPairs}
 use Rattle.tsp_branch.specs.Combs.{IsComb}
@@ -13,6 +13,10 @@ HasEachOnce set = AllPairs (λ a b. a ≢ b) set
 pub record IsGoodComb (n : ℕ) (sets : List (List ℕ)) : Type 0 where
   pub comb : IsComb n (comb_with sets)
   pub once : All HasEachOnce sets
+
+-- an odd number, at least three
+abbrev pub IsToothCount : ℕ → Type 0
+IsToothCount count = (half : ℕ) × (1 ≤ half) × (count ≡ 2 * half + 1)
 
 -- the first comb that isn't good, counted from 1
 pub record IsFirstBadComb (n combs : ℕ) (sets : List (ℕ × List ℕ)) (first : ℕ) : Type 0 where

@@ -15,4 +15,5 @@ pub mod Twice
 pub mod Marked
 pub mod Listed
 pub mod BranchVerdicts
+pub mod VerdictExamples
 pub mod Rooms

@@ -1,9 +1,11 @@
 //! A small comb and small trees, on which the definitions are evaluated.
 
-ghost use Rattle.std.specs.Prelude.{◌≡◌, [], ◌∷◌, pos, ◌-ℤ◌, ◌+ℤ◌};
+ghost use Rattle.std.specs.Prelude.{◌≡◌, ℕ, ℤ, [], ◌∷◌, pos, ◌-ℤ◌, ◌+ℤ◌};
+ghost use Rattle.std.specs.Global.{Vec};
 ghost use Rattle.tsp_branch.specs.Combs.{least_crossings};
 ghost use Rattle.tsp_branch.specs.Cases.{Branch, Leaf};
 ghost use Rattle.tsp_branch.specs.Examples.{small_comb, Crosses, CrossesInAll, large, no_numbers, one_at_two, WeighsAt, WeighsUnderComb, four_rows, six_rows, LengthIs, FourHave, SixHave, IsTreeOf, IsNoTree, with_pair, without_pair};
+ghost use Rattle.tsp_branch.specs.VerdictExamples.{IsBadComb, three_teeth, TwiceAt, branches, branches_apart, on_both_sides};
 
 /// How often some nodes cross the parts of a comb, and how often two walks do: the first one as
 /// often as each walk does at the least.
@@ -57,4 +59,20 @@ pub fn examples_of_trees()
     ensures nothing { IsNoTree [] }
     ensures one_leaf_missing { IsNoTree (Branch (1, 2) ∷ Leaf one_at_two ∷ []) }
     ensures one_leaf_more { IsNoTree (Leaf (no_numbers 4) ∷ Leaf (no_numbers 4) ∷ []) }
+{}
+
+/// Sets that are not those of a comb, and branches that come twice.
+pub fn examples_of_verdicts()
+    ensures no_sets { IsBadComb [] }
+    ensures one_tooth { IsBadComb ((1 ∷ 2 ∷ 3 ∷ []) ∷ (1 ∷ 4 ∷ []) ∷ []) }
+    ensures two_teeth { IsBadComb ((1 ∷ 2 ∷ 3 ∷ []) ∷ (1 ∷ 4 ∷ []) ∷ (2 ∷ 5 ∷ []) ∷ []) }
+    ensures node_twice { IsBadComb ((1 ∷ 2 ∷ 3 ∷ 1 ∷ []) ∷ three_teeth) }
+    ensures teeth_meet { IsBadComb ((1 ∷ 2 ∷ 3 ∷ []) ∷ (1 ∷ 4 ∷ []) ∷ (2 ∷ 4 ∷ []) ∷ (3 ∷ 6 ∷ []) ∷ []) }
+    ensures tooth_inside { IsBadComb ((1 ∷ 2 ∷ 3 ∷ 4 ∷ []) ∷ three_teeth) }
+    ensures tooth_outside { IsBadComb ((1 ∷ 2 ∷ []) ∷ three_teeth) }
+    ensures again { TwiceAt [] (branches 1 2 1 2) 2 }
+    ensures again_turned { TwiceAt [] (branches 1 2 2 1) 2 }
+    ensures given { TwiceAt (with_pair 3 4 ∷ []) (branches 1 2 4 3) 2 }
+    ensures without_it { (changes : Vec (ℕ × ℤ)) → TwiceAt [] (branches_apart 1 2 1 2 changes) 2 }
+    ensures sides { (changes : Vec (ℕ × ℤ)) → TwiceAt [] (on_both_sides changes) 4 }
 {}

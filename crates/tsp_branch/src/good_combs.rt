@@ -7,7 +7,7 @@ ghost use Rattle.tsp_value.specs.Cells.{IsNode};
 ghost use Rattle.tsp_branch.specs.Combs.{IsTooth, has};
 ghost use Rattle.tsp_branch.specs.Sets.{AreSetsOf};
 ghost use Rattle.tsp_branch.specs.Combed.{plain};
-ghost use Rattle.tsp_branch.specs.GoodCombs.{IsGoodComb, AreCombsJudged, AreInOrder, lists_of};
+ghost use Rattle.tsp_branch.specs.GoodCombs.{IsGoodComb, IsToothCount, AreCombsJudged, AreInOrder, lists_of};
 ghost use Rattle.tsp_branch.specs.Marked.{is_marked, AreUnmarked, HavePlaces, AddsNoOther, AreTeeth};
 
 use crate::marks::{has_node, mark_nodes};
@@ -79,13 +79,20 @@ fn is_comb(handles: &mut [u32], used: &mut [u32], mark: u32, sets: &[(u32, Vec<u
     let Some((handle, teeth)) = sets.split_first() else {
         return false;
     };
-    if teeth.len() < 3 || teeth.len() % 2 == 0 {
+    if !is_tooth_count(teeth.len()) {
         return false;
     }
     if !mark_nodes(handles, mark, &handle.1) {
         return false;
     }
     are_teeth(handles, used, mark, teeth)
+}
+
+/// Whether a comb can have so many teeth.
+fn is_tooth_count(count: usize) -> bool
+    ensures { IsTrue result ↔ IsToothCount count }
+{
+    count >= 3 && count % 2 == 1
 }
 
 /// Whether sets are teeth of the handle whose nodes have the mark, and all their nodes different

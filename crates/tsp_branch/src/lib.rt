@@ -33,7 +33,8 @@ pub use branch::branch_bound;
 pub use combed::CombedWeights;
 pub use decided::DecidedWeights;
 pub use examples::{
-    examples_of_bounds, examples_of_crossings, examples_of_trees, examples_of_weights,
+    examples_of_bounds, examples_of_crossings, examples_of_trees, examples_of_verdicts,
+    examples_of_weights,
 };
 pub use good_combs::first_bad_comb;
 pub use laws::{

@@ -4,7 +4,7 @@ use Rattle.std.specs.List.{All}
 use Rattle.std.proofs.lemmas.Bool.{both_ways, iff_false}
 use Rattle.tsp_value.specs.Cells.{IsNode}
 use Rattle.tsp_branch.specs.Marked.{is_marked}
-use Rattle.tsp_branch.proofs.Teeth.{rest_all, first_all, handle_new, comb_found, teeth_found}
+use Rattle.tsp_branch.proofs.Teeth.{rest_all, first_all, counted, handle_new, comb_found, teeth_found}
 use Rattle.tsp_branch.proofs.good_combs.is_comb.Goals as goal
 
 pub mark_nodes-requires : goal.mark_nodes-requires
@@ -17,6 +17,13 @@ returns-then-not-mark_nodes-clause-comb c = λ n are. (
   λ comb. absurd (iff_false c.mark_nodes.ensures.new c.if-not-mark_nodes.true
       (handle_new n c.args.sets.now c.in-Some.handle.now c.in-Some.teeth.now c.deref.result.now c.in-Some.ensures.cases.0 c.deref.ensures.value
       (is_marked c.args.handles.now c.args.mark) c.requires.fresh_handle comb)),
+)
+
+pub returns-then-not-is_tooth_count-clause-comb : goal.returns-then-not-is_tooth_count-clause-comb
+returns-then-not-is_tooth_count-clause-comb c = λ n are. (
+  λ impossible. absurd (both_ways false refl impossible),
+  λ comb. absurd (iff_false c.is_tooth_count.ensures c.if-not-is_tooth_count.true
+      (counted n c.args.sets.now c.in-Some.handle.now c.in-Some.teeth.now (c.in-Some.handle.now).1.items c.in-Some.ensures.cases.0 refl comb)),
 )
 
 pub are_teeth-requires-clause-handle_places : goal.are_teeth-requires-clause-handle_places
@@ -41,7 +48,7 @@ returns-clause-comb c = λ n are.
     let used : ℕ → Bool = is_marked c.args.used.now c.args.mark in
     let marks = (c.mark_nodes.ensures.marked c.if-not-mark_nodes.false).own in
     let told = c.are_teeth.ensures.teeth n (rest_all n sets c.in-Some.handle.now teeth nodes same read (IsNode n) are) in (
-      λ yes_teeth. comb_found n sets c.in-Some.handle.now teeth nodes same read old marked used c.requires.fresh_handle marks c.if-teeth-lt3.false c.if-teeth-eq0.false
+      λ yes_teeth. comb_found n sets c.in-Some.handle.now teeth nodes same read old marked used c.requires.fresh_handle marks (c.is_tooth_count.ensures.0 c.if-not-is_tooth_count.false)
           (c.mark_nodes.ensures.new.0 c.if-not-mark_nodes.false) (told.0 yes_teeth),
       λ comb. told.1 (teeth_found n sets c.in-Some.handle.now teeth nodes same read old marked used c.requires.fresh_handle marks c.requires.fresh_teeth comb),
     )
