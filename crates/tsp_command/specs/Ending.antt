@@ -62,9 +62,14 @@ line_text (lines.NoTask UnknownLayout) = ended (codes "unknown layout")
 line_text (lines.NoTask MissingPath) = ended (codes "missing path")
 line_text (lines.Fault fault) = None
 
+-- some text is written, and the end of its line
+abbrev pub EndsLine : Option (List ℕ) → Option (List ℕ) → Type 0
+EndsLine old new = (text : List ℕ) × Appends old new (text ++ 10 ∷ [])
+
 -- the ending's line is written, where it has one
 abbrev pub IsWritten : Option Line → Option (List ℕ) → Option (List ℕ) → Type 0
 IsWritten None old new = Keeps old new
+IsWritten (Some (lines.Fault fault)) old new = EndsLine old new
 IsWritten (Some line) old new = IfSome (line_text line) (Appends old new)
 
 abbrev pub Tells : Ending → Option (List ℕ) → Option (List ℕ) → Type 0

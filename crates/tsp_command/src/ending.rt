@@ -1,15 +1,19 @@
 //! How a run of the program ends.
 
 ghost use Rattle.std.specs.Prelude.{◌≡◌, OnOk};
-ghost use Rattle.tsp_command.specs.Ending.{IsLineOf, Tells, status_of, status_of_fault};
+ghost use Rattle.tsp_command.specs.Ending.{EndsLine, IsLineOf, Tells, status_of, status_of_fault};
 
 use crate::task::TaskFault;
 use crate::words::JobFault;
+use arrayvec::ArrayString;
 use clap::Error as Refusal;
-use std::fmt::{Display, Formatter};
+use std::fmt::{Display, Formatter, Write as _};
 use std::io::Write;
 use std::{fmt, io};
 use tsp_judge::{ReadFault, RelayoutFault, RunFault, Verdict, WriteFault};
+
+/// How many bytes of a fault's text are told.
+const MOST_TEXT: usize = 256;
 
 /// How a run of the program ends.
 #[derive(Drop)]
@@ -123,7 +127,19 @@ pub fn tell<W: Write>(ending: &Ending, errors: &mut W) -> io::Result<()>
     ensures { OnOk result (Tells ending.now (W.contents errors.old) (W.contents errors.new)) }
 {
     match line_of(ending) {
+        Some(Line::Fault(fault)) => tell_fault(fault, errors),
         Some(line) => write!(errors, "{line}"),
         None => Ok(()),
     }
+}
+
+/// Tells a fault, and ends its line.
+fn tell_fault<W: Write>(fault: RunFault, errors: &mut W) -> io::Result<()>
+    ensures { OnOk result (EndsLine (W.contents errors.old) (W.contents errors.new)) }
+{
+    let mut text = ArrayString::<MOST_TEXT>::new();
+    // Each fault's text is far shorter than the room; a longer one would be cut at its end.
+    let _ = write!(text, "{fault}");
+    errors.write_all(text.as_str().as_bytes())?;
+    errors.write_all(b"\n")
 }
