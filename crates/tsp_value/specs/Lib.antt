@@ -8,4 +8,5 @@ pub mod Place
 pub mod Words
 pub mod Shapes
 pub mod Space
+pub mod Steps
 pub mod Examples

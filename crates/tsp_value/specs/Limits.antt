@@ -66,6 +66,24 @@ most_multiplier = 1000000000000000
 abbrev pub most_tour_nodes : ℕ
 most_tour_nodes = 1000000
 
+-- combs, and the nodes of all of them
+abbrev pub most_combs : ℕ
+most_combs = 10000
+
+abbrev pub most_comb_nodes : ℕ
+most_comb_nodes = 1000000
+
+-- branches of a tree of cases, and the differences of all of its leaves
+abbrev pub most_branches : ℕ
+most_branches = 1000000
+
+abbrev pub most_changes : ℕ
+most_changes = 10000000
+
+-- a difference's size
+abbrev pub most_difference : ℕ
+most_difference = 2000000000000000
+
 -- bytes of a file
 abbrev pub most_file_bytes : ℕ
 most_file_bytes = 1073741824

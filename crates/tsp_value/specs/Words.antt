@@ -26,6 +26,7 @@ kind_word kind.Atsp = codes "ATSP"
 kind_word kind.Cvrp = codes "CVRP"
 kind_word kind.Tour = codes "TOUR"
 kind_word kind.Potentials = codes "POTENTIALS"
+kind_word kind.Branches = codes "BRANCHES"
 
 abbrev pub weight_kind_word : WeightKind → List ℕ
 weight_kind_word weight_kind.Explicit = codes "EXPLICIT"
@@ -75,6 +76,8 @@ field_word field.NodePotentialPart = codes "NODE_POTENTIAL_SECTION"
 field_word field.RowPotentialPart = codes "ROW_POTENTIAL_SECTION"
 field_word field.ColumnPotentialPart = codes "COLUMN_POTENTIAL_SECTION"
 field_word field.FixedPotentialPart = codes "FIXED_EDGE_POTENTIAL_SECTION"
+field_word field.CombPart = codes "COMB_SECTION"
+field_word field.BranchPart = codes "BRANCH_SECTION"
 
 -- ---- all values, each the first with its own word
 
@@ -84,7 +87,7 @@ IsFound text values value = find (λ other. bytes_eq (text value) (text other)) 
 
 -- the values of TYPE
 abbrev pub kinds : List Kind
-kinds = kind.Tsp ∷ kind.Atsp ∷ kind.Cvrp ∷ kind.Tour ∷ kind.Potentials ∷ []
+kinds = kind.Tsp ∷ kind.Atsp ∷ kind.Cvrp ∷ kind.Tour ∷ kind.Potentials ∷ kind.Branches ∷ []
 
 pub kind_found : (value : Kind) → IsFound kind_word kinds value
 kind_found kind.Tsp = refl
@@ -92,6 +95,7 @@ kind_found kind.Atsp = refl
 kind_found kind.Cvrp = refl
 kind_found kind.Tour = refl
 kind_found kind.Potentials = refl
+kind_found kind.Branches = refl
 
 -- the values of EDGE_WEIGHT_TYPE
 abbrev pub weight_kinds : List WeightKind
@@ -168,7 +172,7 @@ fields_in_order = field.NameKey ∷ field.TypeKey ∷ field.CommentKey ∷ field
     ∷ field.ScaleKey ∷ field.EdgeWeightTypeKey ∷ field.EdgeWeightFormatKey ∷ field.NodeCoordTypeKey ∷ field.DisplayDataTypeKey
     ∷ field.NodeCoordPart ∷ field.DisplayDataPart ∷ field.DemandPart ∷ field.DepotPart ∷ field.FixedEdgesPart
     ∷ field.EdgeWeightPart ∷ field.TourPart ∷ field.NodePotentialPart ∷ field.RowPotentialPart ∷ field.ColumnPotentialPart
-    ∷ field.FixedPotentialPart ∷ []
+    ∷ field.FixedPotentialPart ∷ field.CombPart ∷ field.BranchPart ∷ []
 
 pub field_found : (value : Field) → IsFound field_word fields_in_order value
 field_found field.NameKey = refl
@@ -193,3 +197,5 @@ field_found field.NodePotentialPart = refl
 field_found field.RowPotentialPart = refl
 field_found field.ColumnPotentialPart = refl
 field_found field.FixedPotentialPart = refl
+field_found field.CombPart = refl
+field_found field.BranchPart = refl

@@ -44,7 +44,9 @@ pub fn examples_of_fields()
     ensures row_potentials { StandsAt 20 fields.RowPotentialPart (codes "ROW_POTENTIAL_SECTION") }
     ensures column_potentials { StandsAt 21 fields.ColumnPotentialPart (codes "COLUMN_POTENTIAL_SECTION") }
     ensures fixed_potentials { StandsAt 22 fields.FixedPotentialPart (codes "FIXED_EDGE_POTENTIAL_SECTION") }
-    ensures no_more { length fields_in_order ≡ 22 }
+    ensures combs { StandsAt 23 fields.CombPart (codes "COMB_SECTION") }
+    ensures branches { StandsAt 24 fields.BranchPart (codes "BRANCH_SECTION") }
+    ensures no_more { length fields_in_order ≡ 24 }
 {}
 
 /// What keywords are that are no field's word, and what bytes are.
@@ -84,6 +86,7 @@ pub fn examples_of_words()
     ensures cvrp { kind_word kinds.Cvrp ≡ codes "CVRP" }
     ensures tour { kind_word kinds.Tour ≡ codes "TOUR" }
     ensures potentials { kind_word kinds.Potentials ≡ codes "POTENTIALS" }
+    ensures branches { kind_word kinds.Branches ≡ codes "BRANCHES" }
     ensures explicit { weight_kind_word weight_kinds.Explicit ≡ codes "EXPLICIT" }
     ensures euc { weight_kind_word weight_kinds.Euc2d ≡ codes "EUC_2D" }
     ensures ceil { weight_kind_word weight_kinds.Ceil2d ≡ codes "CEIL_2D" }
@@ -144,6 +147,11 @@ pub fn examples_of_limits()
     ensures depots { limits.most_depots ≡ 10 ^ 5 }
     ensures fixed { limits.most_fixed ≡ 10 ^ 5 }
     ensures tour_nodes { limits.most_tour_nodes ≡ 10 ^ 6 }
+    ensures combs { limits.most_combs ≡ 10 ^ 4 }
+    ensures comb_nodes { limits.most_comb_nodes ≡ 10 ^ 6 }
+    ensures branches { limits.most_branches ≡ 10 ^ 6 }
+    ensures changes { limits.most_changes ≡ 10 ^ 7 }
+    ensures difference { limits.most_difference ≡ 2 * 10 ^ 15 }
     ensures file_bytes { limits.most_file_bytes ≡ 2 ^ 30 }
     ensures demands_from_zero { shape_of false fields.DemandPart ≡ Some (shapes.Numbers (pos 0) (pos (10 ^ 9))) }
     ensures no_shape { shape_of true fields.ScaleKey ≡ None }

@@ -35,6 +35,8 @@ pub enum Field {
     RowPotentialPart,
     ColumnPotentialPart,
     FixedPotentialPart,
+    CombPart,
+    BranchPart,
 }
 
 /// What the words of a section are.
@@ -56,11 +58,15 @@ pub enum Shape {
     Tours,
     /// Pairs of nodes with a number each, up to a -1.
     Triples,
+    /// Combs, each of sets of nodes up to a -1, up to one more -1; a third ends the list.
+    Combs,
+    /// The steps of a tree of cases.
+    Steps,
 }
 
 impl Field {
     /// Each field, in canonical order.
-    pub const ALL: [Field; 22] = [
+    pub const ALL: [Field; 24] = [
         Field::NameKey,
         Field::TypeKey,
         Field::CommentKey,
@@ -83,6 +89,8 @@ impl Field {
         Field::RowPotentialPart,
         Field::ColumnPotentialPart,
         Field::FixedPotentialPart,
+        Field::CombPart,
+        Field::BranchPart,
     ];
 
     /// What the words of a section are, in a file that is spatial or not; nothing of a keyword.
@@ -107,6 +115,8 @@ impl Field {
                 })
             }
             Field::FixedPotentialPart => Some(Shape::Triples),
+            Field::CombPart => Some(Shape::Combs),
+            Field::BranchPart => Some(Shape::Steps),
             _ => None,
         }
     }
@@ -147,6 +157,8 @@ impl Word for Field {
             Field::RowPotentialPart => "ROW_POTENTIAL_SECTION",
             Field::ColumnPotentialPart => "COLUMN_POTENTIAL_SECTION",
             Field::FixedPotentialPart => "FIXED_EDGE_POTENTIAL_SECTION",
+            Field::CombPart => "COMB_SECTION",
+            Field::BranchPart => "BRANCH_SECTION",
         }
     }
 }

@@ -21,16 +21,19 @@ pub enum Kind {
     Tour,
     /// Potentials that certify a lower bound, this project's own kind.
     Potentials,
+    /// A tree of cases that certifies a lower bound, this project's own kind.
+    Branches,
 }
 
 impl Kind {
     /// Each value.
-    pub const ALL: [Kind; 5] = [
+    pub const ALL: [Kind; 6] = [
         Kind::Tsp,
         Kind::Atsp,
         Kind::Cvrp,
         Kind::Tour,
         Kind::Potentials,
+        Kind::Branches,
     ];
 }
 
@@ -52,6 +55,7 @@ impl Word for Kind {
             Kind::Cvrp => "CVRP",
             Kind::Tour => "TOUR",
             Kind::Potentials => "POTENTIALS",
+            Kind::Branches => "BRANCHES",
         }
     }
 }

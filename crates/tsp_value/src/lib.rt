@@ -9,6 +9,7 @@ mod kinds;
 mod layout;
 mod limits;
 mod place;
+mod steps;
 mod word;
 
 pub use bytes::{is_blank, is_keyword_byte, is_letter};
@@ -21,10 +22,12 @@ pub use keyword::Keyword;
 pub use kinds::{CoordKind, DisplayKind, Kind, WeightFormat, WeightKind, is_spatial};
 pub use layout::{Layout, cells_are_distinct, cells_are_the_listed_pairs, cells_go_line_by_line};
 pub use limits::{
-    MOST_CAPACITY, MOST_COMMENTS, MOST_COORDINATE, MOST_DEMAND, MOST_DEPOTS, MOST_FILE_BYTES,
-    MOST_FIXED, MOST_KEPT_BYTES, MOST_LINE_BYTES, MOST_MATRIX_NODES, MOST_MULTIPLIER,
-    MOST_MULTIPLIERS, MOST_NODES, MOST_OTHERS, MOST_POTENTIAL, MOST_SCALE, MOST_TOUR_NODES,
-    MOST_WEIGHT, MOST_WORD_BYTES, limits_are_those_of_the_profile,
+    MOST_BRANCHES, MOST_CAPACITY, MOST_CHANGES, MOST_COMB_NODES, MOST_COMBS, MOST_COMMENTS,
+    MOST_COORDINATE, MOST_DEMAND, MOST_DEPOTS, MOST_DIFFERENCE, MOST_FILE_BYTES, MOST_FIXED,
+    MOST_KEPT_BYTES, MOST_LINE_BYTES, MOST_MATRIX_NODES, MOST_MULTIPLIER, MOST_MULTIPLIERS,
+    MOST_NODES, MOST_OTHERS, MOST_POTENTIAL, MOST_SCALE, MOST_TOUR_NODES, MOST_WEIGHT,
+    MOST_WORD_BYTES, limits_are_those_of_the_profile,
 };
 pub use place::only_cells_have_places;
+pub use steps::TreeStep;
 pub use word::{Word, value_of};

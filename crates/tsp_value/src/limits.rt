@@ -1,8 +1,8 @@
 //! The limits of this project's profile of TSPLIB 95, each in this one place.
 
 ghost use Rattle.std.specs.Prelude.{◌≡◌, pos};
-ghost use Rattle.tsp_value.specs.declared.limits.TheConstants.{MOST_NODES, MOST_MATRIX_NODES, MOST_COORDINATE, MOST_WEIGHT, MOST_DEMAND, MOST_CAPACITY, MOST_SCALE, MOST_POTENTIAL, MOST_WORD_BYTES, MOST_LINE_BYTES, MOST_KEPT_BYTES, MOST_COMMENTS, MOST_OTHERS, MOST_DEPOTS, MOST_FIXED, MOST_MULTIPLIERS, MOST_MULTIPLIER, MOST_TOUR_NODES, MOST_FILE_BYTES};
-ghost use Rattle.tsp_value.specs.Limits.{most_nodes, most_matrix_nodes, most_coordinate, most_weight, most_demand, most_capacity, most_scale, most_potential, most_word_bytes, most_line_bytes, most_kept_bytes, most_comments, most_others, most_depots, most_fixed, most_multipliers, most_multiplier, most_tour_nodes, most_file_bytes};
+ghost use Rattle.tsp_value.specs.declared.limits.TheConstants.{MOST_NODES, MOST_MATRIX_NODES, MOST_COORDINATE, MOST_WEIGHT, MOST_DEMAND, MOST_CAPACITY, MOST_SCALE, MOST_POTENTIAL, MOST_WORD_BYTES, MOST_LINE_BYTES, MOST_KEPT_BYTES, MOST_COMMENTS, MOST_OTHERS, MOST_DEPOTS, MOST_FIXED, MOST_MULTIPLIERS, MOST_MULTIPLIER, MOST_TOUR_NODES, MOST_COMBS, MOST_COMB_NODES, MOST_BRANCHES, MOST_CHANGES, MOST_DIFFERENCE, MOST_FILE_BYTES};
+ghost use Rattle.tsp_value.specs.Limits.{most_nodes, most_matrix_nodes, most_coordinate, most_weight, most_demand, most_capacity, most_scale, most_potential, most_word_bytes, most_line_bytes, most_kept_bytes, most_comments, most_others, most_depots, most_fixed, most_multipliers, most_multiplier, most_tour_nodes, most_combs, most_comb_nodes, most_branches, most_changes, most_difference, most_file_bytes};
 
 /// The most nodes of a file: DIMENSION is from 1 to this.
 pub const MOST_NODES: u32 = 100_000;
@@ -58,6 +58,21 @@ pub const MOST_MULTIPLIER: i64 = 1_000_000_000_000_000;
 /// The most nodes of all tours of a file.
 pub const MOST_TOUR_NODES: usize = 1_000_000;
 
+/// The most combs.
+pub const MOST_COMBS: usize = 10_000;
+
+/// The most nodes of all combs of a file.
+pub const MOST_COMB_NODES: usize = 1_000_000;
+
+/// The most branches of a tree of cases.
+pub const MOST_BRANCHES: usize = 1_000_000;
+
+/// The most differences of all leaves of a tree of cases.
+pub const MOST_CHANGES: usize = 10_000_000;
+
+/// The largest size of a difference.
+pub const MOST_DIFFERENCE: i64 = 2_000_000_000_000_000;
+
 /// The most bytes of a file: 2^30.
 pub const MOST_FILE_BYTES: usize = 1_073_741_824;
 
@@ -81,5 +96,10 @@ pub fn limits_are_those_of_the_profile()
     ensures multipliers { MOST_MULTIPLIERS ≡ most_multipliers }
     ensures multiplier { MOST_MULTIPLIER ≡ pos most_multiplier }
     ensures tour_nodes { MOST_TOUR_NODES ≡ most_tour_nodes }
+    ensures combs { MOST_COMBS ≡ most_combs }
+    ensures comb_nodes { MOST_COMB_NODES ≡ most_comb_nodes }
+    ensures branches { MOST_BRANCHES ≡ most_branches }
+    ensures changes { MOST_CHANGES ≡ most_changes }
+    ensures difference { MOST_DIFFERENCE ≡ pos most_difference }
     ensures file_bytes { MOST_FILE_BYTES ≡ most_file_bytes }
 {}
