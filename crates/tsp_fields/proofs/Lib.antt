@@ -1,4 +1,5 @@
 pub mod Fronts
+mod Trees
 pub mod Listed
 pub mod Mapped
 pub mod Relaid

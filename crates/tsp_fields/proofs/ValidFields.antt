@@ -1,6 +1,6 @@
 -- What holds of every valid file.
 use Rattle.std.proofs.Common.{◌≡◌, ℕ, suc, ◌*◌, Bool, true, false, cond, List, [], ◌∷◌, length, Option, None, Some, refl, sym, ap, subst, ◌∙◌, inl, inr, arith}
-use Rattle.std.specs.Prelude.{not, ◌&&◌, ◌||◌, ◌==◌, nat_le, IsTrue, IsSome, is_some, ◌⊎◌, ℤ, pos, neg_ℤ, int_le, slice_index_or as get_or}
+use Rattle.std.specs.Prelude.{◌+◌, not, ◌&&◌, ◌||◌, ◌==◌, nat_le, IsTrue, IsSome, is_some, ◌⊎◌, ℤ, pos, neg_ℤ, int_le, slice_index_or as get_or}
 use Rattle.std.specs.Option.{option_map, option_or}
 use Rattle.std.specs.Str.{bytes_eq}
 use Rattle.std.specs.List.{All, AllByRecursion, Contains, find, list_all, sum_by}
@@ -20,14 +20,15 @@ use Rattle.tsp_value.specs.declared.kinds.Kind.TheVariants as kinds
 use Rattle.tsp_value.specs.declared.kinds.WeightFormat.{WeightFormat}
 use Rattle.tsp_value.specs.declared.kinds.WeightFormat.TheVariants.{ByFunction, Listed}
 use Rattle.tsp_value.specs.Cells.{IsNode, cells}
-use Rattle.tsp_value.specs.Limits.{most_nodes, most_matrix_nodes, most_coordinate, most_weight, most_demand, most_capacity, most_scale, most_potential, most_depots, most_fixed, most_multipliers, most_multiplier, most_tour_nodes}
+use Rattle.tsp_value.specs.Limits.{most_nodes, most_matrix_nodes, most_coordinate, most_weight, most_demand, most_capacity, most_scale, most_potential, most_depots, most_fixed, most_multipliers, most_multiplier, most_tour_nodes, most_combs, most_comb_nodes, most_branches, most_changes, most_difference}
 use Rattle.tsp_value.specs.Words.{field_word}
 use Rattle.tsp_value.specs.Words.{fields_in_order, field_found}
 use Rattle.tsp_value.specs.declared.field.Shape.TheVariants.{Points, SpacePoints}
+use Rattle.tsp_value.specs.Steps.{Step, Branch, Leaf, are_whole, branch_count, change_count}
 use Rattle.tsp_fields.specs.Fields.{Fields, spatial}
-use Rattle.tsp_fields.specs.Validity.{if_there, is_from_to, is_within, is_node, with_dimension, is_by_node, is_third, is_point, is_demand, section_fits, are_depots, is_pair, are_fixed, is_triple, are_triples, are_weights, is_tour, are_tours, fits, first_failing, bad_field}
-use Rattle.tsp_fields.specs.Rules.{standing_of, count_of, is_instance, is_routing, is_tours, is_certificate, is_explicit, is_function, lists_weights, is_there, asked_in_order, has_wrong_format, is_count, has_wrong_count, has_row_or_column, end_fault, format_or_count, fault_of}
-use Rattle.tsp_fields.specs.Valid.{IsFromTo, IsWithin, IsByNode, IsThird, IsPoint, IsDemand, IsPairOf, IsNodeList, AreDepots, AreFixed, IsTripleOf, AreTriples, AreWeights, AreTours, IsInRange, HasInstance, HasRouting, HasPotentials}
+use Rattle.tsp_fields.specs.Validity.{if_there, is_from_to, is_within, is_node, with_dimension, is_by_node, is_third, is_point, is_demand, section_fits, are_depots, is_pair, are_fixed, is_triple, are_triples, are_weights, is_tour, are_tours, is_set, is_comb, are_combs, is_change, is_step, are_steps, fits, first_failing, bad_field}
+use Rattle.tsp_fields.specs.Rules.{standing_of, count_of, is_instance, is_routing, is_tours, is_certificate, is_tree, is_explicit, is_function, lists_weights, is_there, asked_in_order, has_wrong_format, is_count, has_wrong_count, has_row_or_column, end_fault, format_or_count, fault_of}
+use Rattle.tsp_fields.specs.Valid.{IsFromTo, IsWithin, IsByNode, IsThird, IsPoint, IsDemand, IsPairOf, IsNodeList, AreDepots, AreFixed, IsTripleOf, AreTriples, AreWeights, AreTours, IsInRange, HasInstance, HasRouting, HasPotentials, IsSetOf, AreSets, AreCombs, IsChange, IsStep, AreSteps, HasBranches}
 
 -- ---- tests that hold
 
@@ -217,6 +218,58 @@ tours_in tours e =
         let two = both (nat_le 1 (length tour)) (list_all (is_node most_nodes) tour) e in
         (leb-true 1 (length tour) two.0, all_so (is_node most_nodes) (IsNode most_nodes) (node most_nodes) tour two.1)
 
+set_of : (n : ℕ) (set : List ℕ) → is_set n set ≡ true → IsSetOf n set
+set_of n set e =
+    let two = both (nat_le 1 (length set)) (list_all (is_node n) set) e in
+    (leb-true 1 (length set) two.0, all_so (is_node n) (IsNode n) (node n) set two.1)
+
+sets_of : (n : ℕ) (comb : List (List ℕ)) → is_comb n comb ≡ true → AreSets n comb
+sets_of n comb e =
+    let two = both (nat_le 1 (length comb)) (list_all (is_set n) comb) e in
+    (leb-true 1 (length comb) two.0, all_so (is_set n) (IsSetOf n) (set_of n) comb two.1)
+
+combs_in : (f : Fields) (combs : List (List (List ℕ))) → fits f fields.CombPart ≡ true → f.combs ≡ Some combs → AreCombs f combs
+combs_in f combs e stands =
+    let held = dimensioned are_combs f.dimension combs (given (with_dimension are_combs f.dimension) f.combs combs e stands) in
+    let few = nat_le (length combs) most_combs in
+    let nodes = nat_le (sum_by (sum_by length) combs) most_comb_nodes in
+    let two = both (few && list_all (is_comb held.0) combs) nodes held.2 in
+    let first = both few (list_all (is_comb held.0) combs) two.0 in
+    record {
+      n = held.0;
+      dimension = held.1;
+      few = leb-true (length combs) most_combs first.0;
+      sets = all_so (is_comb held.0) (AreSets held.0) (sets_of held.0) combs first.1;
+      few_nodes = leb-true (sum_by (sum_by length) combs) most_comb_nodes two.1;
+    }
+
+change : (n : ℕ) (entry : ℕ × ℤ) → is_change n entry ≡ true → IsChange n entry
+change n entry e =
+    let two = both (is_node (n + most_combs) entry.0) (is_within most_difference entry.1) e in
+    (node (n + most_combs) entry.0 two.0, within most_difference entry.1 two.1)
+
+step : (n : ℕ) (s : Step) → is_step n s ≡ true → IsStep n s
+step n (Branch first second) e = is_pair_of n (first, second) e
+step n (Leaf changes) e = all_so (is_change n) (IsChange n) (change n) changes e
+
+steps_in : (f : Fields) (steps : List Step) → fits f fields.BranchPart ≡ true → f.branches ≡ Some steps → AreSteps f steps
+steps_in f steps e stands =
+    let held = dimensioned are_steps f.dimension steps (given (with_dimension are_steps f.dimension) f.branches steps e stands) in
+    let few = nat_le (branch_count steps) most_branches in
+    let changes = nat_le (change_count steps) most_changes in
+    let each = list_all (is_step held.0) steps in
+    let third = both (each && few && changes) (are_whole 1 steps) held.2 in
+    let second = both (each && few) changes third.0 in
+    let first = both each few second.0 in
+    record {
+      n = held.0;
+      dimension = held.1;
+      each = all_so (is_step held.0) (IsStep held.0) (step held.0) steps first.0;
+      few = leb-true (branch_count steps) most_branches first.1;
+      few_changes = leb-true (change_count steps) most_changes second.1;
+      whole = third.1;
+    }
+
 -- the format of weights, once it is known to stand and to be no function
 listed_format : (format : Option WeightFormat) → is_some format ≡ true → is_function format ≡ false → (layout : Layout) × (format ≡ Some (Listed layout))
 listed_format None there no_function = absurd cc
@@ -273,6 +326,8 @@ in_range f valid = record {
   column_potentials = λ potentials. by_node f (is_within most_potential) (IsWithin most_potential) (within most_potential) f.column_potentials potentials
       (each_fits f valid fields.ColumnPotentialPart);
   fixed_potentials = λ triples. triples_in f triples (each_fits f valid fields.FixedPotentialPart);
+  combs = λ combs. combs_in f combs (each_fits f valid fields.CombPart);
+  branches = λ steps. steps_in f steps (each_fits f valid fields.BranchPart);
 }
 
 -- ---- what stands
@@ -284,6 +339,7 @@ instance_is_no_tours (Some kinds.Atsp) e = refl
 instance_is_no_tours (Some kinds.Cvrp) e = refl
 instance_is_no_tours (Some kinds.Tour) e = absurd cc
 instance_is_no_tours (Some kinds.Potentials) e = absurd cc
+instance_is_no_tours (Some kinds.Branches) e = absurd cc
 
 certificate_is_no_tours : (kind : Option Kind) → is_certificate kind ≡ true → not (is_tours kind) ≡ true
 certificate_is_no_tours None e = absurd cc
@@ -292,6 +348,16 @@ certificate_is_no_tours (Some kinds.Atsp) e = absurd cc
 certificate_is_no_tours (Some kinds.Cvrp) e = absurd cc
 certificate_is_no_tours (Some kinds.Tour) e = absurd cc
 certificate_is_no_tours (Some kinds.Potentials) e = refl
+certificate_is_no_tours (Some kinds.Branches) e = absurd cc
+
+tree_is_no_tours : (kind : Option Kind) → is_tree kind ≡ true → not (is_tours kind) ≡ true
+tree_is_no_tours None e = absurd cc
+tree_is_no_tours (Some kinds.Tsp) e = absurd cc
+tree_is_no_tours (Some kinds.Atsp) e = absurd cc
+tree_is_no_tours (Some kinds.Cvrp) e = absurd cc
+tree_is_no_tours (Some kinds.Tour) e = absurd cc
+tree_is_no_tours (Some kinds.Potentials) e = absurd cc
+tree_is_no_tours (Some kinds.Branches) e = refl
 
 pub has_kind : (f : Fields) → fault_of f ≡ None → IsSome f.kind
 has_kind f valid = (none_missing f valid).0
@@ -347,4 +413,12 @@ has_potentials f valid is_one =
           (λ row. asked_there (is_certificate f.kind && is_some f.row_potentials) (is_some f.column_potentials) there.1.1.1.1.1.1.1.1.1.1.1.1.0
           (and_true (is_certificate f.kind) (is_some f.row_potentials) is_one row))
           (subst (λ (b : Bool). (b && is_some f.node_potentials && has_row_or_column s) ≡ false) is_one right_format.1);
+    }
+
+pub has_branches : (f : Fields) → fault_of f ≡ None → IsTrue (is_tree f.kind) → HasBranches f
+has_branches f valid is_one =
+    let there = none_missing f valid in
+    record {
+      dimension = asked_there (not (is_tours f.kind)) (is_some f.dimension) there.1.0 (tree_is_no_tours f.kind is_one);
+      branches = asked_there (is_tree f.kind) (is_some f.branches) there.1.1.1.1.1.1.1.1.1.1.1.1.1.0 is_one;
     }

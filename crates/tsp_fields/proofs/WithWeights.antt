@@ -7,7 +7,7 @@ use Rattle.std.proofs.lemmas.Bool.{false≢true, le-leb, eq-eqb}
 use Rattle.std.proofs.lemmas.Int.{ints}
 use Rattle.std.proofs.lemmas.List.Sums.{list_all-from_AllPass}
 use Rattle.tsp_value.specs.declared.field.Field.{Field}
-use Rattle.tsp_value.specs.declared.field.Field.TheVariants.{NameKey, TypeKey, CommentKey, OtherKey, DimensionKey, CapacityKey, ScaleKey, EdgeWeightTypeKey, EdgeWeightFormatKey, NodeCoordTypeKey, DisplayDataTypeKey, NodeCoordPart, DisplayDataPart, DemandPart, DepotPart, FixedEdgesPart, EdgeWeightPart, TourPart, NodePotentialPart, RowPotentialPart, ColumnPotentialPart, FixedPotentialPart}
+use Rattle.tsp_value.specs.declared.field.Field.TheVariants.{NameKey, TypeKey, CommentKey, OtherKey, DimensionKey, CapacityKey, ScaleKey, EdgeWeightTypeKey, EdgeWeightFormatKey, NodeCoordTypeKey, DisplayDataTypeKey, NodeCoordPart, DisplayDataPart, DemandPart, DepotPart, FixedEdgesPart, EdgeWeightPart, TourPart, NodePotentialPart, RowPotentialPart, ColumnPotentialPart, FixedPotentialPart, CombPart, BranchPart}
 use Rattle.tsp_value.specs.declared.layout.Layout.{Layout}
 use Rattle.tsp_value.specs.declared.layout.Layout.TheVariants.{FullMatrix, UpperRow, LowerRow, UpperDiagRow, LowerDiagRow, UpperCol, LowerCol, UpperDiagCol, LowerDiagCol}
 use Rattle.tsp_value.specs.declared.kinds.WeightFormat.{WeightFormat}
@@ -97,6 +97,8 @@ each_fits_with f to weights valid fit NodePotentialPart = each_fits f valid Node
 each_fits_with f to weights valid fit RowPotentialPart = each_fits f valid RowPotentialPart
 each_fits_with f to weights valid fit ColumnPotentialPart = each_fits f valid ColumnPotentialPart
 each_fits_with f to weights valid fit FixedPotentialPart = each_fits f valid FixedPotentialPart
+each_fits_with f to weights valid fit CombPart = each_fits f valid CombPart
+each_fits_with f to weights valid fit BranchPart = each_fits f valid BranchPart
 
 count_right : (dimension : Option ℕ) (n : ℕ) (layout : Layout) (count : ℕ) → dimension ≡ Some n → count ≡ length (cells layout n) → not (is_count dimension (Some (Listed layout)) count) ≡ false
 count_right dimension n layout count is_n filled =

@@ -1,9 +1,10 @@
 -- What a file holds, as lists.
 use Rattle.std.specs.Prelude.{ℕ, Bool, true, List, [], map, Option, None, Some, ℤ, is_some}
 use Rattle.std.specs.Option.{option_map}
+use Rattle.std.specs.Global.{Vec}
 use Rattle.tsp_number.specs.declared.decimal.Point.{Point}
 use Rattle.tsp_value.specs.declared.field.Field.{Field}
-use Rattle.tsp_value.specs.declared.field.Field.TheVariants.{NameKey, TypeKey, CommentKey, OtherKey, DimensionKey, CapacityKey, ScaleKey, EdgeWeightTypeKey, EdgeWeightFormatKey, NodeCoordTypeKey, DisplayDataTypeKey, NodeCoordPart, DisplayDataPart, DemandPart, DepotPart, FixedEdgesPart, EdgeWeightPart, TourPart, NodePotentialPart, RowPotentialPart, ColumnPotentialPart, FixedPotentialPart}
+use Rattle.tsp_value.specs.declared.field.Field.TheVariants.{NameKey, TypeKey, CommentKey, OtherKey, DimensionKey, CapacityKey, ScaleKey, EdgeWeightTypeKey, EdgeWeightFormatKey, NodeCoordTypeKey, DisplayDataTypeKey, NodeCoordPart, DisplayDataPart, DemandPart, DepotPart, FixedEdgesPart, EdgeWeightPart, TourPart, NodePotentialPart, RowPotentialPart, ColumnPotentialPart, FixedPotentialPart, CombPart, BranchPart}
 use Rattle.tsp_fields.specs.declared.file.Draft.{Draft}
 use Rattle.tsp_fields.specs.Coords.{points_of}
 use Rattle.tsp_value.specs.declared.kinds.Kind.{Kind}
@@ -12,6 +13,7 @@ use Rattle.tsp_value.specs.declared.kinds.WeightKind.{WeightKind}
 use Rattle.tsp_value.specs.declared.kinds.WeightFormat.{WeightFormat}
 use Rattle.tsp_value.specs.declared.kinds.CoordKind.{CoordKind}
 use Rattle.tsp_value.specs.declared.kinds.DisplayKind.{DisplayKind}
+use Rattle.tsp_value.specs.Steps.{Step, steps_of}
 
 -- the fields in canonical order
 pub record Fields : Type 0 where
@@ -37,6 +39,8 @@ pub record Fields : Type 0 where
   pub row_potentials : Option (List ℤ)
   pub column_potentials : Option (List ℤ)
   pub fixed_potentials : Option (List (ℕ × ℕ × ℤ))
+  pub combs : Option (List (List (List ℕ)))
+  pub branches : Option (List Step)
 
 -- no field is set
 abbrev pub blank_fields : Fields
@@ -63,7 +67,13 @@ blank_fields = record {
   row_potentials = None;
   column_potentials = None;
   fixed_potentials = None;
+  combs = None;
+  branches = None;
 }
+
+-- combs, each as its sets
+abbrev pub combs_of : List (Vec (Vec ℕ)) → List (List (List ℕ))
+combs_of combs = map (λ comb. map (λ set. set.items) comb.items) combs
 
 -- what a draft holds
 abbrev pub fields_of : Draft → Fields
@@ -90,6 +100,8 @@ fields_of d = record {
   row_potentials = option_map (λ v. v.items) d.row_potentials;
   column_potentials = option_map (λ v. v.items) d.column_potentials;
   fixed_potentials = option_map (λ v. v.items) d.fixed_potentials;
+  combs = option_map (λ v. combs_of v.items) d.combs;
+  branches = option_map (λ v. steps_of v.items) d.branches;
 }
 
 -- its nodes have three coordinates each
@@ -120,6 +132,8 @@ stands_in f NodePotentialPart = is_some f.node_potentials
 stands_in f RowPotentialPart = is_some f.row_potentials
 stands_in f ColumnPotentialPart = is_some f.column_potentials
 stands_in f FixedPotentialPart = is_some f.fixed_potentials
+stands_in f CombPart = is_some f.combs
+stands_in f BranchPart = is_some f.branches
 
 -- ---- sections by node, by their field
 

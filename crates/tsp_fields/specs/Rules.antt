@@ -9,7 +9,7 @@ use Rattle.tsp_value.specs.declared.kinds.WeightKind.TheVariants as weight_kinds
 use Rattle.tsp_value.specs.declared.kinds.WeightFormat.{WeightFormat}
 use Rattle.tsp_value.specs.declared.kinds.WeightFormat.TheVariants as formats
 use Rattle.tsp_value.specs.declared.field.Field.{Field}
-use Rattle.tsp_value.specs.declared.field.Field.TheVariants.{TypeKey, DimensionKey, CapacityKey, EdgeWeightTypeKey, EdgeWeightFormatKey, NodeCoordPart, DemandPart, DepotPart, EdgeWeightPart, TourPart, NodePotentialPart, RowPotentialPart, ColumnPotentialPart}
+use Rattle.tsp_value.specs.declared.field.Field.TheVariants.{TypeKey, DimensionKey, CapacityKey, EdgeWeightTypeKey, EdgeWeightFormatKey, NodeCoordPart, DemandPart, DepotPart, EdgeWeightPart, TourPart, NodePotentialPart, RowPotentialPart, ColumnPotentialPart, BranchPart}
 use Rattle.tsp_fields.specs.declared.fault.EndFault.{EndFault}
 use Rattle.tsp_fields.specs.declared.fault.EndFault.TheVariants.{Missing, Incomplete, WrongFormat, WrongCount}
 use Rattle.tsp_fields.specs.declared.fault.DraftFault.{DraftFault}
@@ -52,6 +52,7 @@ is_instance (Some kinds.Atsp) = true
 is_instance (Some kinds.Cvrp) = true
 is_instance (Some kinds.Tour) = false
 is_instance (Some kinds.Potentials) = false
+is_instance (Some kinds.Branches) = false
 is_instance None = false
 
 abbrev pub is_routing : Option Kind → Bool
@@ -60,6 +61,7 @@ is_routing (Some kinds.Tsp) = false
 is_routing (Some kinds.Atsp) = false
 is_routing (Some kinds.Tour) = false
 is_routing (Some kinds.Potentials) = false
+is_routing (Some kinds.Branches) = false
 is_routing None = false
 
 abbrev pub is_tours : Option Kind → Bool
@@ -68,6 +70,7 @@ is_tours (Some kinds.Tsp) = false
 is_tours (Some kinds.Atsp) = false
 is_tours (Some kinds.Cvrp) = false
 is_tours (Some kinds.Potentials) = false
+is_tours (Some kinds.Branches) = false
 is_tours None = false
 
 abbrev pub is_certificate : Option Kind → Bool
@@ -76,7 +79,17 @@ is_certificate (Some kinds.Tsp) = false
 is_certificate (Some kinds.Atsp) = false
 is_certificate (Some kinds.Cvrp) = false
 is_certificate (Some kinds.Tour) = false
+is_certificate (Some kinds.Branches) = false
 is_certificate None = false
+
+abbrev pub is_tree : Option Kind → Bool
+is_tree (Some kinds.Branches) = true
+is_tree (Some kinds.Tsp) = false
+is_tree (Some kinds.Atsp) = false
+is_tree (Some kinds.Cvrp) = false
+is_tree (Some kinds.Tour) = false
+is_tree (Some kinds.Potentials) = false
+is_tree None = false
 
 abbrev pub is_explicit : Option WeightKind → Bool
 is_explicit (Some weight_kinds.Explicit) = true
@@ -123,6 +136,7 @@ is_asked s TourPart = is_tours s.kind
 is_asked s NodePotentialPart = is_certificate s.kind && not (has_row_or_column s)
 is_asked s RowPotentialPart = is_certificate s.kind && s.stands ColumnPotentialPart
 is_asked s ColumnPotentialPart = is_certificate s.kind && s.stands RowPotentialPart
+is_asked s BranchPart = is_tree s.kind
 is_asked s field = false
 
 -- the field isn't missing
@@ -132,7 +146,8 @@ is_there s field = not (is_asked s field) || s.stands field
 -- the fields that some file is asked for, in the order in which they are missed
 abbrev pub asked_in_order : List Field
 asked_in_order = TypeKey ∷ DimensionKey ∷ EdgeWeightTypeKey ∷ EdgeWeightFormatKey ∷ CapacityKey ∷ NodeCoordPart ∷ EdgeWeightPart
-    ∷ DemandPart ∷ DepotPart ∷ TourPart ∷ NodePotentialPart ∷ RowPotentialPart ∷ ColumnPotentialPart ∷ []
+    ∷ DemandPart ∷ DepotPart ∷ TourPart ∷ NodePotentialPart ∷ RowPotentialPart ∷ ColumnPotentialPart
+    ∷ BranchPart ∷ []
 
 -- ---- what may not go together
 

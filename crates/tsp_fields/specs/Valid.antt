@@ -1,11 +1,12 @@
 -- What holds of every valid file: its fields are in these ranges, and those stand that its kind asks for.
-use Rattle.std.specs.Prelude.{◌≡◌, ◌≢◌, ℕ, ◌≤◌, ◌⊎◌, Bool, true, false, List, length, None, Some, IsSome, ℤ, pos, neg_ℤ, ◌≤ℤ◌}
+use Rattle.std.specs.Prelude.{◌≡◌, ◌≢◌, ℕ, ◌+◌, ◌≤◌, ◌⊎◌, Bool, true, false, List, length, None, Some, IsSome, ℤ, pos, neg_ℤ, ◌≤ℤ◌}
 use Rattle.std.specs.List.{All, sum_by}
 use Rattle.tsp_number.specs.declared.decimal.Point.{Point}
 use Rattle.tsp_value.specs.declared.layout.Layout.{Layout}
 use Rattle.tsp_value.specs.declared.kinds.WeightFormat.TheVariants.{Listed}
 use Rattle.tsp_value.specs.Cells.{IsNode, cells}
-use Rattle.tsp_value.specs.Limits.{most_nodes, most_matrix_nodes, most_coordinate, most_weight, most_demand, most_capacity, most_scale, most_potential, most_depots, most_fixed, most_multipliers, most_multiplier, most_tour_nodes}
+use Rattle.tsp_value.specs.Limits.{most_nodes, most_matrix_nodes, most_coordinate, most_weight, most_demand, most_capacity, most_scale, most_potential, most_depots, most_fixed, most_multipliers, most_multiplier, most_tour_nodes, most_combs, most_comb_nodes, most_branches, most_changes, most_difference}
+use Rattle.tsp_value.specs.Steps.{Step, Branch, Leaf, are_whole, branch_count, change_count}
 use Rattle.tsp_fields.specs.Fields.{Fields, spatial}
 use Rattle.tsp_fields.specs.Rules.{is_explicit}
 
@@ -75,6 +76,39 @@ pub record AreWeights (f : Fields) (weights : List ℤ) : Type 0 where
 abbrev pub AreTours : List (List ℕ) → Type 0
 AreTours tours = All IsNodeList tours × (sum_by length tours ≤ most_tour_nodes)
 
+-- a set of nodes, not empty
+abbrev pub IsSetOf : ℕ → List ℕ → Type 0
+IsSetOf n set = (1 ≤ length set) × All (IsNode n) set
+
+-- some sets, not none
+abbrev pub AreSets : ℕ → List (List ℕ) → Type 0
+AreSets n comb = (1 ≤ length comb) × All (IsSetOf n) comb
+
+pub record AreCombs (f : Fields) (combs : List (List (List ℕ))) : Type 0 where
+  pub n : ℕ
+  pub dimension : f.dimension ≡ Some n
+  pub few : length combs ≤ most_combs
+  pub sets : All (AreSets n) combs
+  pub few_nodes : sum_by (sum_by length) combs ≤ most_comb_nodes
+
+-- the index of a node or of some comb, and a difference
+abbrev pub IsChange : ℕ → ℕ × ℤ → Type 0
+IsChange n change = IsNode (n + most_combs) change.0 × IsWithin most_difference change.1
+
+-- a branch is on two different nodes
+abbrev pub IsStep : ℕ → Step → Type 0
+IsStep n (Branch first second) = IsPairOf n (first, second)
+IsStep n (Leaf changes) = All (IsChange n) changes
+
+-- the steps of one whole tree
+pub record AreSteps (f : Fields) (steps : List Step) : Type 0 where
+  pub n : ℕ
+  pub dimension : f.dimension ≡ Some n
+  pub each : All (IsStep n) steps
+  pub few : branch_count steps ≤ most_branches
+  pub few_changes : change_count steps ≤ most_changes
+  pub whole : are_whole 1 steps ≡ true
+
 -- the fields that stand are in their ranges
 pub record IsInRange (f : Fields) : Type 0 where
   pub dimension : (n : ℕ) → f.dimension ≡ Some n → IsNode most_nodes n
@@ -94,6 +128,8 @@ pub record IsInRange (f : Fields) : Type 0 where
   pub column_potentials : (potentials : List ℤ) → f.column_potentials ≡ Some potentials
       → IsByNode (IsWithin most_potential) f potentials
   pub fixed_potentials : (triples : List (ℕ × ℕ × ℤ)) → f.fixed_potentials ≡ Some triples → AreTriples f triples
+  pub combs : (combs : List (List (List ℕ))) → f.combs ≡ Some combs → AreCombs f combs
+  pub branches : (steps : List Step) → f.branches ≡ Some steps → AreSteps f steps
 
 -- what stands in an instance: its nodes and weight type, and the weights or the coordinates that the weight type is over
 pub record HasInstance (f : Fields) : Type 0 where
@@ -113,3 +149,8 @@ pub record HasPotentials (f : Fields) : Type 0 where
   pub dimension : IsSome f.dimension
   pub sort : (IsSome f.node_potentials × (f.row_potentials ≡ None) × (f.column_potentials ≡ None))
       ⊎ ((f.node_potentials ≡ None) × IsSome f.row_potentials × IsSome f.column_potentials)
+
+-- what stands in a file of branches
+pub record HasBranches (f : Fields) : Type 0 where
+  pub dimension : IsSome f.dimension
+  pub branches : IsSome f.branches

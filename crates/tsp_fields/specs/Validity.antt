@@ -7,13 +7,14 @@ use Rattle.tsp_number.specs.declared.decimal.Point.{Point}
 use Rattle.tsp_value.specs.declared.field.Field.{Field}
 use Rattle.tsp_value.specs.declared.field.Field.TheVariants.{NameKey, CommentKey, OtherKey, DimensionKey, CapacityKey, ScaleKey}
 use Rattle.tsp_value.specs.declared.field.Shape.{Shape}
-use Rattle.tsp_value.specs.declared.field.Shape.TheVariants.{Numbers, Points, SpacePoints, Depots, Pairs, Weights, Tours, Triples}
-use Rattle.tsp_value.specs.Limits.{most_nodes, most_matrix_nodes, most_coordinate, most_weight, most_demand, most_capacity, most_scale, most_kept_bytes, most_comments, most_others, most_depots, most_fixed, most_multipliers, most_multiplier, most_tour_nodes}
+use Rattle.tsp_value.specs.declared.field.Shape.TheVariants.{Numbers, Points, SpacePoints, Depots, Pairs, Weights, Tours, Triples, Combs, Steps}
+use Rattle.tsp_value.specs.Limits.{most_nodes, most_matrix_nodes, most_coordinate, most_weight, most_demand, most_capacity, most_scale, most_kept_bytes, most_comments, most_others, most_depots, most_fixed, most_multipliers, most_multiplier, most_tour_nodes, most_combs, most_comb_nodes, most_branches, most_changes, most_difference}
 use Rattle.tsp_value.specs.Bytes.{is_blank, is_letter, is_keyword_byte}
 use Rattle.tsp_value.specs.Words.{field_word}
 use Rattle.tsp_value.specs.Keywords.{keyword_of, is_unknown}
 use Rattle.tsp_value.specs.Words.{fields_in_order}
 use Rattle.tsp_value.specs.Shapes.{shape_of}
+use Rattle.tsp_value.specs.Steps.{Step, Branch, Leaf, are_whole, branch_count, change_count}
 use Rattle.tsp_fields.specs.Fields.{Fields, spatial, numbers_in, points_in}
 
 -- a field that is missing is valid
@@ -104,6 +105,32 @@ is_tour tour = nat_le 1 (length tour) && list_all (is_node most_nodes) tour
 abbrev pub are_tours : List (List ℕ) → Bool
 are_tours tours = list_all is_tour tours && nat_le (sum_by length tours) most_tour_nodes
 
+-- a set of nodes, not empty
+abbrev pub is_set : ℕ → List ℕ → Bool
+is_set n set = nat_le 1 (length set) && list_all (is_node n) set
+
+-- some sets, the handle first; whether they are those of a comb is judged later
+abbrev pub is_comb : ℕ → List (List ℕ) → Bool
+is_comb n comb = nat_le 1 (length comb) && list_all (is_set n) comb
+
+abbrev pub are_combs : ℕ → List (List (List ℕ)) → Bool
+are_combs n combs = nat_le (length combs) most_combs && list_all (is_comb n) combs
+    && nat_le (sum_by (sum_by length) combs) most_comb_nodes
+
+-- the index of a node or of some comb, and a difference
+abbrev pub is_change : ℕ → ℕ × ℤ → Bool
+is_change n change = is_node (n + most_combs) change.0 && is_within most_difference change.1
+
+-- a branch is on two different nodes
+abbrev pub is_step : ℕ → Step → Bool
+is_step n (Branch first second) = is_pair n (first, second)
+is_step n (Leaf changes) = list_all (is_change n) changes
+
+-- the steps of one whole tree
+abbrev pub are_steps : ℕ → List Step → Bool
+are_steps n steps = list_all (is_step n) steps && nat_le (branch_count steps) most_branches
+    && nat_le (change_count steps) most_changes && are_whole 1 steps
+
 -- ---- all fields
 
 -- a section of this shape is valid
@@ -117,6 +144,8 @@ section_fits f field Pairs = if_there (with_dimension are_fixed f.dimension) f.f
 section_fits f field Weights = if_there (with_dimension are_weights f.dimension) f.weights
 section_fits f field Tours = if_there are_tours f.tours
 section_fits f field Triples = if_there (with_dimension are_triples f.dimension) f.fixed_potentials
+section_fits f field Combs = if_there (with_dimension are_combs f.dimension) f.combs
+section_fits f field Steps = if_there (with_dimension are_steps f.dimension) f.branches
 
 -- the field is valid on its own; keywords that are not named here are of types that hold nothing else
 abbrev pub fits : Fields → Field → Bool

@@ -8,7 +8,7 @@ use crate::table::bad_field;
 use std::alloc::Global;
 use std::marker::Model;
 use tsp_value::{
-    CoordKind, DisplayKind, Field, Kind, Layout, WeightFormat, WeightKind, is_spatial,
+    CoordKind, DisplayKind, Field, Kind, Layout, TreeStep, WeightFormat, WeightKind, is_spatial,
 };
 
 /// The fields of a file, in canonical order. A list by node has one entry for each node, in order.
@@ -58,6 +58,10 @@ pub struct Draft {
     pub column_potentials: Option<Vec<i64>>,
     /// FIXED_EDGE_POTENTIAL_SECTION: two nodes and the multiplier of their edge.
     pub fixed_potentials: Option<Vec<(u32, u32, i64)>>,
+    /// COMB_SECTION: combs, each as its sets of nodes, the handle first.
+    pub combs: Option<Vec<Vec<Vec<u32>>>>,
+    /// BRANCH_SECTION: the steps of one tree of cases.
+    pub branches: Option<Vec<TreeStep>>,
 }
 
 impl Draft {
@@ -93,6 +97,8 @@ impl Draft {
             row_potentials: None,
             column_potentials: None,
             fixed_potentials: None,
+            combs: None,
+            branches: None,
         }
     }
 
@@ -129,6 +135,8 @@ impl Draft {
             Field::RowPotentialPart => self.row_potentials.is_some(),
             Field::ColumnPotentialPart => self.column_potentials.is_some(),
             Field::FixedPotentialPart => self.fixed_potentials.is_some(),
+            Field::CombPart => self.combs.is_some(),
+            Field::BranchPart => self.branches.is_some(),
         }
     }
 
@@ -217,7 +225,8 @@ impl File {
     ghost use Rattle.tsp_value.specs.declared.kinds.WeightFormat.TheVariants.{Listed};
     ghost use Rattle.tsp_fields.specs.Cost.{cost};
     ghost use Rattle.tsp_fields.specs.Relayout.{CanGo, nodes_in, with_weights, costs_in};
-    ghost use Rattle.tsp_fields.specs.Fields.{fields_of};
+    ghost use Rattle.tsp_value.specs.Steps.{steps_of};
+    ghost use Rattle.tsp_fields.specs.Fields.{fields_of, combs_of};
     ghost use Rattle.tsp_fields.specs.Rules.{fault_of};
 
     /// The fields of this file, as a draft that has no fault.
@@ -454,5 +463,19 @@ impl File {
             .fixed_potentials
             .as_ref()
             .map(|entries| entries.as_slice())
+    }
+    /// COMB_SECTION: combs, each as its sets of nodes, the handle first. Whether they are combs is
+    /// for a judge to say.
+    pub fn combs(&self) -> Option<&[Vec<Vec<u32>>]>
+        ensures { option_map (λ combs. combs_of combs.now) result ≡ self.now.combs }
+    {
+        self.draft.combs.as_ref().map(|combs| combs.as_slice())
+    }
+
+    /// BRANCH_SECTION: the steps of one tree of cases.
+    pub fn branches(&self) -> Option<&[TreeStep]>
+        ensures { option_map (λ steps. steps_of steps.now) result ≡ self.now.branches }
+    {
+        self.draft.branches.as_ref().map(|steps| steps.as_slice())
     }
 }

@@ -2,8 +2,8 @@
 
 ghost use Rattle.std.specs.Prelude.{◌≡◌, None, IsTrue, IsSome};
 ghost use Rattle.tsp_fields.specs.Fields.{Fields};
-ghost use Rattle.tsp_fields.specs.Rules.{fault_of, is_instance, is_routing, is_tours, is_certificate};
-ghost use Rattle.tsp_fields.specs.Valid.{IsInRange, HasInstance, HasRouting, HasPotentials};
+ghost use Rattle.tsp_fields.specs.Rules.{fault_of, is_instance, is_routing, is_tours, is_certificate, is_tree};
+ghost use Rattle.tsp_fields.specs.Valid.{IsInRange, HasInstance, HasRouting, HasPotentials, HasBranches};
 
 /// The fields of a valid file are in their ranges: the number of nodes, the lists by node, the
 /// nodes that lists speak of, the sizes of numbers. Weights are as many as the cells of a layout.
@@ -19,4 +19,5 @@ pub fn valid_files_are_complete()
     ensures tours { (f : Fields) → fault_of f ≡ None → IsTrue (is_tours f.kind) → IsSome f.tours }
     ensures potentials { (f : Fields) → fault_of f ≡ None → IsTrue (is_certificate f.kind)
         → HasPotentials f }
+    ensures branches { (f : Fields) → fault_of f ≡ None → IsTrue (is_tree f.kind) → HasBranches f }
 {}

@@ -3,14 +3,14 @@
 ghost use Rattle.std.specs.Prelude.{◌≡◌, None};
 ghost use Rattle.tsp_fields.specs.Fields.{fields_of};
 ghost use Rattle.tsp_fields.specs.Validity.{first_failing};
-ghost use Rattle.tsp_fields.specs.Rules.{standing_of, is_instance, is_routing, is_tours, is_certificate, lists_weights, has_distances, has_row_or_column, is_asked, is_there, asked_in_order, has_wrong_format, has_wrong_count, end_fault};
+ghost use Rattle.tsp_fields.specs.Rules.{standing_of, is_instance, is_routing, is_tours, is_certificate, lists_weights, has_distances, has_row_or_column, is_tree, is_asked, is_there, asked_in_order, has_wrong_format, has_wrong_count, end_fault};
 
 use crate::fault::EndFault;
 use crate::file::Draft;
 use tsp_value::{Field, Kind, WeightFormat, WeightKind};
 
 /// The fields that some file is asked for, in the order in which they are missed.
-const ASKED: [Field; 13] = [
+const ASKED: [Field; 14] = [
     Field::TypeKey,
     Field::DimensionKey,
     Field::EdgeWeightTypeKey,
@@ -24,6 +24,7 @@ const ASKED: [Field; 13] = [
     Field::NodePotentialPart,
     Field::RowPotentialPart,
     Field::ColumnPotentialPart,
+    Field::BranchPart,
 ];
 
 /// The fault at the end of a file, by what stands in it and by its first incomplete section: the
@@ -85,6 +86,7 @@ fn is_asked(draft: &Draft, field: Field) -> bool
         Field::NodePotentialPart => is_certificate(draft) && !has_row_or_column(draft),
         Field::RowPotentialPart => is_certificate(draft) && draft.column_potentials.is_some(),
         Field::ColumnPotentialPart => is_certificate(draft) && draft.row_potentials.is_some(),
+        Field::BranchPart => is_tree(draft),
         _ => false,
     }
 }
@@ -118,6 +120,13 @@ fn is_certificate(draft: &Draft) -> bool
     ensures { result ≡ is_certificate (fields_of draft.now).kind }
 {
     matches!(draft.kind, Some(Kind::Potentials))
+}
+
+/// Whether the file holds a tree of cases.
+fn is_tree(draft: &Draft) -> bool
+    ensures { result ≡ is_tree (fields_of draft.now).kind }
+{
+    matches!(draft.kind, Some(Kind::Branches))
 }
 
 /// Whether an instance's weights are listed.

@@ -5,14 +5,15 @@ ghost use Rattle.std.specs.Option.{option_map};
 ghost use Rattle.tsp_value.specs.Limits.{most_nodes};
 ghost use Rattle.tsp_value.specs.Words.{field_word};
 ghost use Rattle.tsp_fields.specs.Coords.{points_of};
-ghost use Rattle.tsp_fields.specs.Fields.{fields_of};
-ghost use Rattle.tsp_fields.specs.Validity.{if_there, with_dimension, is_by_node, is_kept, is_node, is_from_to, is_point, are_comments, are_others, are_depots, are_fixed, are_triples, are_weights, are_tours, section_fits, fits, first_failing, bad_field};
+ghost use Rattle.tsp_value.specs.Steps.{steps_of};
+ghost use Rattle.tsp_fields.specs.Fields.{fields_of, combs_of};
+ghost use Rattle.tsp_fields.specs.Validity.{if_there, with_dimension, is_by_node, is_kept, is_node, is_from_to, is_point, are_comments, are_others, are_depots, are_fixed, are_triples, are_weights, are_tours, are_combs, are_steps, section_fits, fits, first_failing, bad_field};
 
 use crate::coords::Coords;
 use crate::file::Draft;
 use crate::validity;
 use tsp_value::{
-    Field, MOST_CAPACITY, MOST_COMMENTS, MOST_NODES, MOST_OTHERS, MOST_SCALE, Shape, Word,
+    Field, MOST_CAPACITY, MOST_COMMENTS, MOST_NODES, MOST_OTHERS, MOST_SCALE, Shape, TreeStep, Word,
 };
 
 /// Whether a field of a draft is valid on its own.
@@ -48,6 +49,8 @@ fn section_fits(draft: &Draft, field: Field, shape: Shape) -> bool
         Shape::Weights => are_weights(draft.dimension, &draft.weights),
         Shape::Tours => are_tours(&draft.tours),
         Shape::Triples => are_triples(draft.dimension, &draft.fixed_potentials),
+        Shape::Combs => are_combs(draft.dimension, &draft.combs),
+        Shape::Steps => are_steps(draft.dimension, &draft.branches),
     }
 }
 
@@ -208,5 +211,29 @@ fn are_tours(tours: &Option<Vec<Vec<u32>>>) -> bool
     match tours {
         None => true,
         Some(tours) => validity::are_tours(tours),
+    }
+}
+
+/// The combs are of nodes, and not too many.
+fn are_combs(dimension: Option<u32>, combs: &Option<Vec<Vec<Vec<u32>>>>) -> bool
+    ensures { result ≡ if_there (with_dimension are_combs dimension)
+        (option_map (λ v. combs_of v.items) combs.now) }
+{
+    match (combs, dimension) {
+        (None, _) => true,
+        (Some(_), None) => false,
+        (Some(combs), Some(nodes)) => validity::are_combs(nodes, combs),
+    }
+}
+
+/// The steps are those of one tree, and not too many.
+fn are_steps(dimension: Option<u32>, steps: &Option<Vec<TreeStep>>) -> bool
+    ensures { result ≡ if_there (with_dimension are_steps dimension)
+        (option_map (λ v. steps_of v.items) steps.now) }
+{
+    match (steps, dimension) {
+        (None, _) => true,
+        (Some(_), None) => false,
+        (Some(steps), Some(nodes)) => validity::are_steps(nodes, steps),
     }
 }

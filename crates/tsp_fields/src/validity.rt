@@ -1,20 +1,23 @@
 //! When a value of a field is valid on its own.
 
-ghost use Rattle.std.specs.Prelude.{◌≡◌, ◌-◌, ◌==◌, ◌||◌, not, ◌&&◌, length, slice_index, nat_le, pos, map};
+ghost use Rattle.std.specs.Prelude.{◌≡◌, ◌-◌, ◌==◌, ◌||◌, not, ◌&&◌, cond, Some, None, length, slice_index, nat_le, pos, map};
 ghost use Rattle.std.specs.List.{list_all, sum_by};
 ghost use Rattle.tsp_value.specs.Words.{field_word};
 ghost use Rattle.tsp_value.specs.Bytes.{is_blank, is_keyword_byte};
-ghost use Rattle.tsp_value.specs.Limits.{most_coordinate, most_potential, most_tour_nodes};
+ghost use Rattle.tsp_value.specs.Limits.{most_coordinate, most_potential, most_tour_nodes, most_comb_nodes, most_branches, most_changes};
 ghost use Rattle.tsp_number.specs.Distances.{on_plane};
+ghost use Rattle.tsp_value.specs.Steps.{step_of, steps_of, are_whole, branch_count, change_count};
 ghost use Rattle.tsp_fields.specs.Coords.{points_of};
-ghost use Rattle.tsp_fields.specs.Validity.{is_kept, is_unknown_keyword, is_other, is_from_to, is_within, is_node, is_third, is_point, is_demand, are_depots, is_pair, are_fixed, is_triple, are_triples, are_weights, is_tour};
+ghost use Rattle.tsp_fields.specs.Fields.{combs_of};
+ghost use Rattle.tsp_fields.specs.Validity.{is_kept, is_unknown_keyword, is_other, is_from_to, is_within, is_node, is_third, is_point, is_demand, are_depots, is_pair, are_fixed, is_triple, are_triples, are_weights, is_tour, is_set, is_comb, are_combs, is_change, is_step, are_steps};
 
 use crate::coords::Coords;
 use tsp_number::{Decimal, InSpace, PlanePoint, Point};
 use tsp_value::{
-    Field, Keyword, MOST_COORDINATE, MOST_DEMAND, MOST_DEPOTS, MOST_FIXED, MOST_KEPT_BYTES,
-    MOST_MATRIX_NODES, MOST_MULTIPLIER, MOST_MULTIPLIERS, MOST_NODES, MOST_POTENTIAL,
-    MOST_TOUR_NODES, MOST_WEIGHT, Word, is_blank, is_keyword_byte, is_letter,
+    Field, Keyword, MOST_BRANCHES, MOST_CHANGES, MOST_COMB_NODES, MOST_COMBS, MOST_COORDINATE,
+    MOST_DEMAND, MOST_DEPOTS, MOST_DIFFERENCE, MOST_FIXED, MOST_KEPT_BYTES, MOST_MATRIX_NODES,
+    MOST_MULTIPLIER, MOST_MULTIPLIERS, MOST_NODES, MOST_POTENTIAL, MOST_TOUR_NODES, MOST_WEIGHT,
+    TreeStep, Word, is_blank, is_keyword_byte, is_letter,
 };
 
 /// Whether no byte is a byte 10.
@@ -254,4 +257,168 @@ pub(crate) fn are_tours(tours: &[Vec<u32>]) -> bool
         && nat_le (sum_by (λ tour. length tour.items) tours.now) most_tour_nodes) }
 {
     is_each_tour(tours) && have_few_nodes(tours)
+}
+
+/// Whether a set of nodes isn't empty and has nodes of 1..n.
+fn is_set(n: u32, set: &[u32]) -> bool
+    ensures { result ≡ is_set n set.now }
+{
+    !set.is_empty() && are_nodes(n, set)
+}
+
+/// Whether there are sets, none of them empty, of nodes of 1..n.
+#[tactic(auto, using(crate::proofs::Mapped::comb_seen))]
+fn is_comb(n: u32, comb: &[Vec<u32>]) -> bool
+    ensures { result ≡ is_comb n (map (λ set. set.items) comb.now) }
+{
+    !comb.is_empty() && is_each_set(n, comb)
+}
+
+/// Whether every set is one of nodes of 1..n.
+fn is_each_set(n: u32, sets: &[Vec<u32>]) -> bool
+    ensures { result ≡ list_all (λ set. is_set n set.items) sets.now }
+{
+    sets.iter().all(|set| is_set(n, set))
+}
+
+/// Whether every comb has sets.
+fn is_each_comb(n: u32, combs: &[Vec<Vec<u32>>]) -> bool
+    ensures { result ≡ list_all (λ comb. is_comb n (map (λ set. set.items) comb.items)) combs.now }
+{
+    combs.iter().all(|comb| is_comb(n, comb))
+}
+
+/// How many nodes the sets have together, where they have at most so many.
+fn nodes_of_sets(sets: &[Vec<u32>], most: usize) -> Option<usize>
+    ensures { result ≡ cond (nat_le (sum_by (λ set. length set.items) sets.now) most)
+        (Some (sum_by (λ set. length set.items) sets.now)) None }
+{
+    let mut total = 0;
+    'sets: for set in sets {
+        if set.len() > most - total {
+            return None;
+        }
+        total += set.len();
+    }
+    Some(total)
+}
+
+/// Whether the combs have together at most `MOST_COMB_NODES` nodes.
+fn have_few_comb_nodes(combs: &[Vec<Vec<u32>>]) -> bool
+    ensures { result ≡
+        nat_le (sum_by (λ comb. sum_by (λ set. length set.items) comb.items) combs.now) most_comb_nodes }
+{
+    let mut total = 0;
+    'combs: for comb in combs {
+        let Some(nodes) = nodes_of_sets(comb, MOST_COMB_NODES - total) else {
+            return false;
+        };
+        total += nodes;
+    }
+    true
+}
+
+/// Whether the combs are of sets of nodes of 1..n, at most `MOST_COMBS` with together at most
+/// `MOST_COMB_NODES` nodes.
+#[tactic(auto, using(crate::proofs::Mapped::combs_seen))]
+pub(crate) fn are_combs(n: u32, combs: &[Vec<Vec<u32>>]) -> bool
+    ensures { result ≡ are_combs n (combs_of combs.now) }
+{
+    combs.len() <= MOST_COMBS && is_each_comb(n, combs) && have_few_comb_nodes(combs)
+}
+
+/// Whether an index is that of a node or of some comb, and a difference is of a size of at most
+/// `MOST_DIFFERENCE`.
+fn is_change(n: u32, change: (u32, i64)) -> bool
+    ensures { result ≡ is_change n change }
+{
+    1 <= change.0
+        && u64::from(change.0) <= u64::from(n) + MOST_COMBS as u64
+        && is_from_to(change.1, -MOST_DIFFERENCE, MOST_DIFFERENCE)
+}
+
+/// Whether every difference is one.
+fn are_changes(n: u32, changes: &[(u32, i64)]) -> bool
+    ensures { result ≡ list_all (is_change n) changes.now }
+{
+    changes.iter().all(|change| is_change(n, *change))
+}
+
+/// Whether a branch is on two different nodes of 1..n, or a leaf has differences.
+fn is_step(n: u32, step: &TreeStep) -> bool
+    ensures { result ≡ is_step n (step_of step.now) }
+{
+    match step {
+        TreeStep::Branch(first, second) => is_pair(n, (*first, *second)),
+        TreeStep::Leaf(changes) => are_changes(n, changes),
+    }
+}
+
+/// Whether every step is one.
+fn is_each_step(n: u32, steps: &[TreeStep]) -> bool
+    ensures { result ≡ list_all (λ step. is_step n (step_of step)) steps.now }
+{
+    steps.iter().all(|step| is_step(n, step))
+}
+
+/// Whether there are at most `MOST_BRANCHES` branches.
+fn have_few_branches(steps: &[TreeStep]) -> bool
+    ensures { result ≡ nat_le (branch_count (steps_of steps.now)) most_branches }
+{
+    let mut total: usize = 0;
+    'steps: for step in steps {
+        if let TreeStep::Branch(..) = step {
+            total += 1;
+        }
+    }
+    total <= MOST_BRANCHES
+}
+
+/// Whether the leaves have together at most `MOST_CHANGES` differences.
+fn have_few_changes(steps: &[TreeStep]) -> bool
+    ensures { result ≡ nat_le (change_count (steps_of steps.now)) most_changes }
+{
+    let mut total = 0;
+    'steps: for step in steps {
+        if let TreeStep::Leaf(changes) = step {
+            if changes.len() > MOST_CHANGES - total {
+                return false;
+            }
+            total += changes.len();
+        }
+    }
+    true
+}
+
+/// Whether there are at most `MOST_BRANCHES` branches and `MOST_CHANGES` differences.
+fn are_few(steps: &[TreeStep]) -> bool
+    ensures { result ≡ (nat_le (branch_count (steps_of steps.now)) most_branches
+        && nat_le (change_count (steps_of steps.now)) most_changes) }
+{
+    have_few_branches(steps) && have_few_changes(steps)
+}
+
+/// Whether the steps are those of one whole tree.
+fn is_whole_tree(steps: &[TreeStep]) -> bool
+    ensures { result ≡ are_whole 1 (steps_of steps.now) }
+{
+    let mut left: usize = 1;
+    'steps: for step in steps {
+        if left == 0 {
+            return false;
+        }
+        match step {
+            TreeStep::Branch(..) => left += 1,
+            TreeStep::Leaf(_) => left -= 1,
+        }
+    }
+    left == 0
+}
+
+/// Whether the steps are those of one whole tree of branches on two different nodes of 1..n, and of
+/// leaves, with at most `MOST_BRANCHES` branches and `MOST_CHANGES` differences.
+pub(crate) fn are_steps(n: u32, steps: &[TreeStep]) -> bool
+    ensures { result ≡ are_steps n (steps_of steps.now) }
+{
+    is_each_step(n, steps) && are_few(steps) && is_whole_tree(steps)
 }
