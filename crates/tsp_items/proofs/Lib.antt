@@ -12,6 +12,7 @@ pub mod TripleWords
 pub mod TripleSteps
 pub mod Pieces
 pub mod TourSteps
+pub mod TreeSteps
 pub mod Readings
 pub mod Taken
 pub mod PartSteps

@@ -1,6 +1,7 @@
 -- Small texts on which the definitions are evaluated. In them `/` stands for byte 10.
 use Rattle.std.specs.Prelude.{◌≡◌, ℕ, ◌==◌, cond, List, [], ◌∷◌, ◌++◌, map, replicate, None, Some, codes, pos, negsuc}
 use Rattle.tsp_value.specs.declared.field.Field.{Field}
+use Rattle.tsp_value.specs.Steps.{Branch, Leaf}
 use Rattle.tsp_number.specs.declared.fault.NumberFault.{NumberFault}
 use Rattle.tsp_number.specs.Distances.{on_plane}
 use Rattle.tsp_fields.specs.declared.fault.EndFault.{EndFault}
@@ -46,6 +47,16 @@ PairsAre bytes = (fault (text bytes) ≡ None) × ((spelled (part (text bytes)))
 abbrev pub TriplesAre : List ℕ → Type 0
 TriplesAre bytes = (fault (text bytes) ≡ None)
     × ((spelled (part (text bytes))).fixed_potentials ≡ Some ((1, 2, pos 5) ∷ (3, 1, pos 0) ∷ []))
+
+-- with the comb of the handle (1, 2, 3) and the teeth (1, 4), (2, 5) and (3, 6)
+abbrev pub CombIs : List ℕ → Type 0
+CombIs bytes = (fault (text bytes) ≡ None) × ((spelled (part (text bytes))).combs
+    ≡ Some (((1 ∷ 2 ∷ 3 ∷ []) ∷ (1 ∷ 4 ∷ []) ∷ (2 ∷ 5 ∷ []) ∷ (3 ∷ 6 ∷ []) ∷ []) ∷ []))
+
+-- with the tree of a branch on the pair (1, 2), a leaf that adds 1 to the number of node 2, and one that adds nothing
+abbrev pub TreeIs : List ℕ → Type 0
+TreeIs bytes = (fault (text bytes) ≡ None)
+    × ((spelled (part (text bytes))).branches ≡ Some (Branch 1 2 ∷ Leaf ((2, pos 1) ∷ []) ∷ Leaf [] ∷ []))
 
 -- the demands of the nodes 1, 2 and 3 are 5, 7 and 9
 abbrev pub DemandsAre : List ℕ → Type 0

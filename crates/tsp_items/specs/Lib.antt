@@ -8,6 +8,8 @@ pub mod Groups
 pub mod Lists
 pub mod Weights
 pub mod Tours
+pub mod Combs
+pub mod Tree
 pub mod Sections
 pub mod Rows
 pub mod FirstFault

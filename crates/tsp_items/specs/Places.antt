@@ -1,9 +1,9 @@
 -- Where a word stands in its section.
-use Rattle.std.specs.Prelude.{ℕ, ℤ, List}
+use Rattle.std.specs.Prelude.{ℕ, ℤ, Bool, List}
 
 pub data Place : Type 0 where
   -- by-node sections: a group's node, after groups of these nodes; a coordinate; a whole number of this range, which a triple
-  -- has too; past the last group
+  -- has too; past the last group, or past a whole tree
   NodeAfter : (nodes : List ℤ) → Place
   Coordinate : Place
   Amount : (low high : ℤ) → Place
@@ -19,3 +19,9 @@ pub data Place : Type 0 where
   PastWeights : Place
   -- a node of the tours, after so many, or a -1
   TourNode : (count : ℕ) → Place
+  -- combs: a node of a set, or a -1, by whether a comb has begun, after so many whole combs and so many nodes of all combs
+  SetNode : (begun : Bool) (combs count : ℕ) → Place
+  -- a tree of cases: the first word of a step, after so many branches (the second node of a branch is as that of a pair); an
+  -- index of a leaf, or its -1, after so many of all leaves (its difference is a whole number of a range)
+  StepAfter : (branches : ℕ) → Place
+  IndexAfter : (count : ℕ) → Place

@@ -1,7 +1,7 @@
 -- The rows by which a line or a word is judged. Each says when it applies to an item after the earlier items, the nearest
 -- first: to a word line, or to one word of a number line. Source: TSPLIB 95 (G. Reinelt) for what stands where; the rows and
 -- their order are this project's profile.
-use Rattle.std.specs.Prelude.{ℕ, ◌+◌, Bool, true, false, cond, not, ◌&&◌, nat_lt, nat_le, List, [], ◌∷◌, length, Option, None, Some, is_none}
+use Rattle.std.specs.Prelude.{ℕ, ◌+◌, Bool, true, false, cond, not, ◌&&◌, ◌||◌, nat_lt, nat_le, List, [], ◌∷◌, length, Option, None, Some, is_none}
 use Rattle.std.specs.Option.{option_map, option_and_then, option_map_or, option_or}
 use Rattle.std.specs.Result.{result_err}
 use Rattle.std.specs.List.{list_any}
@@ -10,7 +10,7 @@ use Rattle.tsp_number.specs.Reading.{decimal_of, whole_of}
 use Rattle.tsp_value.specs.declared.field.Field.{Field}
 use Rattle.tsp_value.specs.declared.field.Field.TheVariants.{CommentKey, OtherKey, DimensionKey, NodeCoordPart, EdgeWeightPart, TourPart}
 use Rattle.tsp_value.specs.declared.keyword.Keyword.TheVariants.{Known, EdgeDataFormat, EdgeDataSection, Eof, Unknown}
-use Rattle.tsp_value.specs.Limits.{most_nodes, most_matrix_nodes, most_weight, most_line_bytes, most_kept_bytes, most_comments, most_others, most_depots, most_fixed, most_tour_nodes}
+use Rattle.tsp_value.specs.Limits.{most_nodes, most_matrix_nodes, most_weight, most_line_bytes, most_kept_bytes, most_comments, most_others, most_depots, most_fixed, most_tour_nodes, most_combs, most_comb_nodes, most_branches, most_changes}
 use Rattle.tsp_items.specs.declared.fault.LineFault.{LineFault}
 use Rattle.tsp_items.specs.declared.fault.LineFault.TheVariants as row
 use Rattle.tsp_items.specs.Lines.{is_filled, first_word}
@@ -19,7 +19,8 @@ use Rattle.tsp_value.specs.Shapes.{is_section_field}
 use Rattle.tsp_items.specs.Earlier.{same_field, has_line, values_at, others_in, open_section}
 use Rattle.tsp_items.specs.Values.{is_refused, is_left_out, has_number, read_as, is_kept_as_is, says_space, spatial_after}
 use Rattle.tsp_items.specs.Numbers.{reads_as, node, sized, node_or_end, is_end, is_minus_one}
-use Rattle.tsp_items.specs.Places.{Place, NodeAfter, Coordinate, Amount, PastGroups, DepotAfter, FirstAfter, SecondOf, PastEnd, Weight, PastWeights, TourNode}
+use Rattle.tsp_items.specs.Places.{Place, NodeAfter, Coordinate, Amount, PastGroups, DepotAfter, FirstAfter, SecondOf, PastEnd, Weight, PastWeights, TourNode, SetNode, StepAfter, IndexAfter}
+use Rattle.tsp_items.specs.Tree.{node_or_leaf, begins_leaf, index_or_end, ends_leaf}
 use Rattle.tsp_items.specs.Sections.{nodes_of, place_of}
 
 -- a word, where a section is open, at its place and with n nodes
@@ -145,6 +146,9 @@ number_fault_at n PastEnd word = None
 number_fault_at n Weight word = result_err (sized most_weight word)
 number_fault_at n PastWeights word = None
 number_fault_at n (TourNode count) word = result_err (node_or_end most_nodes word)
+number_fault_at n (SetNode begun combs count) word = result_err (node_or_end n word)
+number_fault_at n (StepAfter branches) word = result_err (node_or_leaf n word)
+number_fault_at n (IndexAfter count) word = result_err (index_or_end n word)
 
 abbrev pub number_fault : List Item → Item → Option NumberFault
 number_fault earlier (Line (Known field) line) = option_and_then result_err (read_as field line.value)
@@ -167,7 +171,7 @@ is_repeated_node earlier (Line key line) = false
 is_repeated_node earlier (NumberWord word) = at_place is_repeated_node_at earlier word
 is_repeated_node earlier LineEnd = false
 
--- ---- SelfEdge: the second node of a fixed pair, or of one with a multiplier, that equals the first
+-- ---- SelfEdge: the second node of a fixed pair, of one with a multiplier or of a branch, that equals the first
 
 abbrev pub is_self_edge_at : ℕ → Place → List ℕ → Bool
 is_self_edge_at n (SecondOf first) word = reads_as first (node n word)
@@ -178,9 +182,14 @@ is_self_edge earlier (Line key line) = false
 is_self_edge earlier (NumberWord word) = at_place is_self_edge_at earlier word
 is_self_edge earlier LineEnd = false
 
--- ---- Surplus: a line of COMMENT or of an unknown keyword after as many as may stand; past the groups a word other than
--- `-1`; a word past the weights; a depot, a first node of a pair or a triple, or a node of the tours (no -1) after as many as
--- may stand
+-- ---- Surplus: a line of COMMENT or of an unknown keyword after as many as may stand; past the groups, or past a whole tree, a
+-- word other than `-1`; a word past the weights; a depot, a first node of a pair or a triple, a node of the tours, a node of a
+-- comb, a first node of a comb or of a branch, or an index of a leaf (no -1, and no 0 that begins a leaf) after as many as may
+-- stand
+
+-- a node of combs has no room, by whether a comb has begun, after so many combs and nodes
+abbrev pub is_past_combs : Bool → ℕ → ℕ → Bool
+is_past_combs begun combs count = nat_le most_comb_nodes count || (not begun && nat_le most_combs combs)
 
 abbrev pub is_surplus_at : ℕ → Place → List ℕ → Bool
 is_surplus_at n (NodeAfter nodes) word = false
@@ -194,6 +203,9 @@ is_surplus_at n PastEnd word = false
 is_surplus_at n Weight word = false
 is_surplus_at n PastWeights word = true
 is_surplus_at n (TourNode count) word = nat_le most_tour_nodes count && not (is_end most_nodes word)
+is_surplus_at n (SetNode begun combs count) word = is_past_combs begun combs count && not (is_end n word)
+is_surplus_at n (StepAfter branches) word = nat_le most_branches branches && not (begins_leaf n word)
+is_surplus_at n (IndexAfter count) word = nat_le most_changes count && not (ends_leaf n word)
 
 abbrev pub is_surplus : List Item → Item → Bool
 is_surplus earlier (Line (Known field) line) = same_field CommentKey field
@@ -205,7 +217,7 @@ is_surplus earlier (Line Unknown line) = nat_le most_others (length (others_in e
 is_surplus earlier (NumberWord word) = at_place is_surplus_at earlier word
 is_surplus earlier LineEnd = false
 
--- ---- AfterEnd: a word other than `-1` after the -1 that ended the list
+-- ---- AfterEnd: a word other than `-1` after the -1 that ended the list, or the combs
 
 abbrev pub is_after_end_at : ℕ → Place → List ℕ → Bool
 is_after_end_at n PastEnd word = not (is_minus_one word)

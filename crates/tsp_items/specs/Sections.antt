@@ -3,7 +3,7 @@ use Rattle.std.specs.Prelude.{ℕ, Bool, List, Option, unwrap_or}
 use Rattle.std.specs.Option.{option_map, option_map_or}
 use Rattle.tsp_value.specs.declared.field.Field.{Field}
 use Rattle.tsp_value.specs.declared.field.Shape.{Shape}
-use Rattle.tsp_value.specs.declared.field.Shape.TheVariants.{Numbers, Points, SpacePoints, Depots, Pairs, Weights, Tours, Triples}
+use Rattle.tsp_value.specs.declared.field.Shape.TheVariants.{Numbers, Points, SpacePoints, Depots, Pairs, Weights, Tours, Triples, Combs, Steps}
 use Rattle.tsp_items.specs.Items.{Item}
 use Rattle.tsp_value.specs.Shapes.{shape_of}
 use Rattle.tsp_items.specs.Earlier.{open_section, words_of}
@@ -13,6 +13,8 @@ use Rattle.tsp_items.specs.Groups.{place_of_number, place_of_point, place_of_spa
 use Rattle.tsp_items.specs.Lists.{place_of_depot, place_of_fixed, place_of_triple}
 use Rattle.tsp_items.specs.Weights.{place_of_weight}
 use Rattle.tsp_items.specs.Tours.{place_of_tour}
+use Rattle.tsp_items.specs.Combs.{place_of_comb}
+use Rattle.tsp_items.specs.Tree.{place_of_step}
 
 -- where the next word of a section of this shape stands after these words of it, with n nodes
 abbrev pub place_by : Shape → ℕ → List (List ℕ) → Place
@@ -24,6 +26,8 @@ place_by Pairs n words = place_of_fixed n words
 place_by Weights n words = place_of_weight n words
 place_by Tours n words = place_of_tour words
 place_by Triples n words = place_of_triple n words
+place_by Combs n words = place_of_comb n words
+place_by Steps n words = place_of_step n words
 
 -- the same of a section, in a spatial file or in another; no other field has words
 abbrev pub place_in : Bool → Field → ℕ → List (List ℕ) → Place

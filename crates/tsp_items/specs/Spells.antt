@@ -2,7 +2,7 @@
 use Rattle.std.specs.Prelude.{ℕ, Bool, true, false, cond, ◌&&◌, List, Option, None, Some, ℤ, pos, neg_ℤ}
 use Rattle.std.specs.List.{find, filter}
 use Rattle.tsp_value.specs.declared.field.Field.{Field}
-use Rattle.tsp_value.specs.declared.field.Field.TheVariants.{NameKey, TypeKey, CommentKey, CapacityKey, ScaleKey, EdgeWeightTypeKey, EdgeWeightFormatKey, NodeCoordTypeKey, DisplayDataTypeKey, NodeCoordPart, DisplayDataPart, DemandPart, DepotPart, FixedEdgesPart, EdgeWeightPart, TourPart, NodePotentialPart, RowPotentialPart, ColumnPotentialPart, FixedPotentialPart}
+use Rattle.tsp_value.specs.declared.field.Field.TheVariants.{NameKey, TypeKey, CommentKey, CapacityKey, ScaleKey, EdgeWeightTypeKey, EdgeWeightFormatKey, NodeCoordTypeKey, DisplayDataTypeKey, NodeCoordPart, DisplayDataPart, DemandPart, DepotPart, FixedEdgesPart, EdgeWeightPart, TourPart, NodePotentialPart, RowPotentialPart, ColumnPotentialPart, FixedPotentialPart, CombPart, BranchPart}
 use Rattle.tsp_value.specs.Limits.{most_demand, most_potential}
 use Rattle.tsp_fields.specs.declared.fault.EndFault.{EndFault}
 use Rattle.tsp_fields.specs.Fields.{Fields}
@@ -12,11 +12,13 @@ use Rattle.tsp_items.specs.Items.{Item}
 use Rattle.tsp_value.specs.Shapes.{is_section_field}
 use Rattle.tsp_items.specs.Earlier.{has_line, value_at, values_at, others_in, words_of}
 use Rattle.tsp_items.specs.Values.{kind_named, weight_kind_named, weight_format_named, coord_kind_named, display_kind_named, number_at, named_at, dimension_of, spatial_after}
-use Rattle.tsp_items.specs.Places.{Place, NodeAfter, Coordinate, Amount, PastGroups, DepotAfter, FirstAfter, SecondOf, PastEnd, Weight, PastWeights, TourNode}
+use Rattle.tsp_items.specs.Places.{Place, NodeAfter, Coordinate, Amount, PastGroups, DepotAfter, FirstAfter, SecondOf, PastEnd, Weight, PastWeights, TourNode, SetNode, StepAfter, IndexAfter}
 use Rattle.tsp_items.specs.Groups.{numbers_by_node, points_by_node, coords_by_node}
 use Rattle.tsp_items.specs.Lists.{depots_in, fixed_in, fixed_triples_in}
 use Rattle.tsp_items.specs.Weights.{weights_in}
 use Rattle.tsp_items.specs.Tours.{tours_in}
+use Rattle.tsp_items.specs.Combs.{combs_in}
+use Rattle.tsp_items.specs.Tree.{steps_in}
 use Rattle.tsp_items.specs.Sections.{place_in, nodes_of}
 
 -- ---- the fields
@@ -57,6 +59,8 @@ fields_by stands items = record {
   row_potentials = section stands (potentials_in (nodes_of items)) RowPotentialPart items;
   column_potentials = section stands (potentials_in (nodes_of items)) ColumnPotentialPart items;
   fixed_potentials = section stands (fixed_triples_in (nodes_of items)) FixedPotentialPart items;
+  combs = section stands (combs_in (nodes_of items)) CombPart items;
+  branches = section stands (steps_in (nodes_of items)) BranchPart items;
 }
 
 -- a section stands where a line opens it
@@ -68,7 +72,7 @@ spelled items = fields_by (stands items) items
 
 -- ---- the end
 
--- a group is still to come, or a pair or a triple is cut short
+-- a group is still to come, a pair, a triple or a comb is cut short, or the tree isn't whole
 abbrev pub wants_more : Place → Bool
 wants_more (NodeAfter nodes) = true
 wants_more Coordinate = true
@@ -81,6 +85,9 @@ wants_more PastEnd = false
 wants_more Weight = false
 wants_more PastWeights = false
 wants_more (TourNode count) = false
+wants_more (SetNode begun combs count) = begun
+wants_more (StepAfter branches) = true
+wants_more (IndexAfter count) = true
 
 abbrev pub is_incomplete : List Item → Field → Bool
 is_incomplete items field = has_line field items

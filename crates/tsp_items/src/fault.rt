@@ -40,13 +40,13 @@ pub enum LineFault {
     /// A group's node has an earlier group.
     #[error("RepeatedNode")]
     RepeatedNode,
-    /// The two nodes of a fixed pair, or of a triple with its multiplier, are equal.
+    /// The two nodes of a fixed pair, of a triple with its multiplier, or of a branch are equal.
     #[error("SelfEdge")]
     SelfEdge,
     /// There are more lines or words than the file can have.
     #[error("Surplus")]
     Surplus,
-    /// A word other than `-1` stands after the -1 that ended the list.
+    /// A word other than `-1` stands after the -1 that ended the list, or the combs.
     #[error("AfterEnd")]
     AfterEnd,
     /// The line says that the nodes have three coordinates, after a NODE_COORD_SECTION of two each.

@@ -5,7 +5,7 @@ ghost use Rattle.tsp_number.specs.declared.fault.NumberFault.TheVariants as numb
 ghost use Rattle.tsp_value.specs.declared.field.Field.TheVariants as fields;
 ghost use Rattle.tsp_fields.specs.declared.fault.EndFault.TheVariants as ends;
 ghost use Rattle.tsp_items.specs.declared.fault.LineFault.TheVariants as faults;
-ghost use Rattle.tsp_items.specs.Examples.{FaultAt, NumberAt, MissingAtEnd, EndsWith, OthersAre, ToursAre, PairsAre, TriplesAre, DemandsAre, InSpace, OnPlane, quad, long_line, long_word};
+ghost use Rattle.tsp_items.specs.Examples.{FaultAt, NumberAt, MissingAtEnd, EndsWith, OthersAre, ToursAre, PairsAre, TriplesAre, CombIs, TreeIs, DemandsAre, InSpace, OnPlane, quad, long_line, long_word};
 
 /// The first faults of some texts of word lines. In the texts `/` parts lines.
 #[tactic(auto, unfolding(tsp_number::specs::Reading::decimal_of, tsp_number::specs::Reading::whole_of))]
@@ -46,6 +46,17 @@ pub fn faults_of_words()
     ensures multiplier_too_large { NumberAt
         (codes "DIMENSION : 3/FIXED_EDGE_POTENTIAL_SECTION/1 2 1000000000000000 1 3 1000000000000001") 3 6 numbers.OutOfRange }
     ensures multiplier_below_zero { NumberAt (codes "DIMENSION : 3/FIXED_EDGE_POTENTIAL_SECTION/1 2 -1") 3 3 numbers.OutOfRange }
+    ensures zero_in_a_set { NumberAt (codes "DIMENSION : 3/COMB_SECTION/1 0") 3 2 numbers.OutOfRange }
+    ensures past_the_combs { FaultAt (codes "DIMENSION : 3/COMB_SECTION/1 2 -1 -1 -1 -1 3") 3 7 faults.AfterEnd }
+    ensures other_spelling_past_the_combs { FaultAt (codes "DIMENSION : 3/COMB_SECTION/-1 -1.0") 3 2 faults.AfterEnd }
+    ensures branch_of_a_node_with_itself { FaultAt (codes "DIMENSION : 4/BRANCH_SECTION/2 2") 3 2 faults.SelfEdge }
+    ensures end_in_the_second_place { NumberAt (codes "DIMENSION : 4/BRANCH_SECTION/2 -1") 3 2 numbers.OutOfRange }
+    ensures end_before_the_tree { NumberAt (codes "DIMENSION : 4/BRANCH_SECTION/1 2 0 -1 -1") 3 5 numbers.OutOfRange }
+    ensures index_zero { NumberAt (codes "DIMENSION : 4/BRANCH_SECTION/0 0") 3 2 numbers.OutOfRange }
+    ensures index_past_all_combs { NumberAt (codes "DIMENSION : 4/BRANCH_SECTION/0 10004 1 10005") 3 4 numbers.OutOfRange }
+    ensures difference_too_large { NumberAt (codes "DIMENSION : 4/BRANCH_SECTION/0 1 2000000000000000 1 2000000000000001") 3 5
+        numbers.OutOfRange }
+    ensures past_the_tree { FaultAt (codes "DIMENSION : 4/BRANCH_SECTION/0 -1 -1 0") 3 4 faults.Surplus }
     ensures repeated_node { FaultAt (codes "DIMENSION : 2/DEMAND_SECTION/1 0 1 5") 3 3 faults.RepeatedNode }
     ensures past_the_groups { FaultAt (codes "DIMENSION : 2/DEMAND_SECTION/1 0 2 5 7") 3 5 faults.Surplus }
     ensures zero_in_a_tour { NumberAt (codes "TOUR_SECTION/1 0 2") 2 2 numbers.OutOfRange }
@@ -74,6 +85,14 @@ pub fn faults_at_the_end()
         (ends.Incomplete fields.FixedPotentialPart) }
     ensures triple_of_one_word { EndsWith (codes "TYPE : TOUR/DIMENSION : 3/FIXED_EDGE_POTENTIAL_SECTION/1/TOUR_SECTION")
         (ends.Incomplete fields.FixedPotentialPart) }
+    ensures cut_set { EndsWith (codes "TYPE : TOUR/DIMENSION : 3/COMB_SECTION/1 2/TOUR_SECTION")
+        (ends.Incomplete fields.CombPart) }
+    ensures cut_comb { EndsWith (codes "TYPE : TOUR/DIMENSION : 3/COMB_SECTION/1 2 -1/TOUR_SECTION")
+        (ends.Incomplete fields.CombPart) }
+    ensures combs_alone { MissingAtEnd (codes "TYPE : BRANCHES/DIMENSION : 3/COMB_SECTION/1 2 -1 -1") fields.BranchPart }
+    ensures cut_tree { EndsWith (codes "TYPE : BRANCHES/DIMENSION : 4/BRANCH_SECTION/1 2 0 2 1 -1")
+        (ends.Incomplete fields.BranchPart) }
+    ensures no_steps { EndsWith (codes "TYPE : BRANCHES/DIMENSION : 4/BRANCH_SECTION") (ends.Incomplete fields.BranchPart) }
     ensures triples_alone { MissingAtEnd (codes "TYPE : POTENTIALS/DIMENSION : 3/FIXED_EDGE_POTENTIAL_SECTION/1 3 2 -1")
         fields.NodePotentialPart }
     ensures rows_alone { MissingAtEnd (codes "TYPE : POTENTIALS/DIMENSION : 1/ROW_POTENTIAL_SECTION/1 0")
@@ -96,6 +115,11 @@ pub fn fields_of_texts()
     ensures tours { ToursAre (codes "TYPE:TOUR/TOUR_SECTION/3 -1 -1/4 5/EOF") }
     ensures pairs { PairsAre (codes "TYPE:TOUR/DIMENSION 3/FIXED_EDGES/1 2 +3 1.0 -1/TOUR_SECTION") }
     ensures triples { TriplesAre (codes "TYPE:TOUR/DIMENSION 3/FIXED_EDGE_POTENTIAL_SECTION/1 2 5 +3/1 0 -1.0 -1/TOUR_SECTION") }
+    ensures comb { CombIs
+        (codes "TYPE:BRANCHES/DIMENSION 6/COMB_SECTION/1 2 3 -1 1 4 -1/2 5 -1 3 6 -1.0 -1 -1 -1/BRANCH_SECTION/0 -1") }
+    ensures comb_without_an_end { CombIs
+        (codes "TYPE:BRANCHES/DIMENSION 6/COMB_SECTION/1 2 3 -1 1 4 -1 2 5 -1 3 6 -1 -1/BRANCH_SECTION/0 -1") }
+    ensures tree { TreeIs (codes "TYPE:BRANCHES/DIMENSION 4/BRANCH_SECTION/1 2/0 +2 1 -1.0/0 -1 -1") }
     ensures demands { DemandsAre (codes "DIMENSION : 3/DEMAND_SECTION/2 7/3 9 1/5") }
     ensures by_its_type { InSpace (codes "DIMENSION : 1/EDGE_WEIGHT_TYPE : MAN_3D/NODE_COORD_SECTION/1 1.5 0 -2") }
     ensures by_its_coordinates { InSpace (codes "NODE_COORD_TYPE:THREED_COORDS/DIMENSION 1/NODE_COORD_SECTION/1 1.5 0/-2") }

@@ -1,19 +1,21 @@
 //! The part of a reader that takes the words of a section, whichever its shape.
 
-ghost use Rattle.std.specs.Prelude.{◌≡◌, ◌≤◌, [], ℕ, List, ◌∷◌, ◌++◌, Ok, IfOk, IfErr, true, false};
+ghost use Rattle.std.specs.Prelude.{◌≡◌, ◌≢◌, ◌≤◌, ◌<◌, ◌-◌, pos, length, slice_index_or, Some, [], ℕ, List, ◌∷◌, ◌++◌, Ok, IfOk, IfErr, true, false};
 
 use crate::fault::StepFault;
+use crate::parts::combs::CombList;
 use crate::parts::depots::DepotList;
 use crate::parts::fixed::FixedList;
 use crate::parts::numbers::NumberList;
 use crate::parts::points::PointList;
 use crate::parts::space_points::SpacePointList;
 use crate::parts::tours::TourList;
+use crate::parts::tree::TreeList;
 use crate::parts::triples::TripleList;
 use crate::parts::weights::WeightList;
 use std::alloc::{AllocError, Global};
 use tsp_number::Decimal;
-use tsp_value::{MOST_MATRIX_NODES, Shape};
+use tsp_value::{MOST_MATRIX_NODES, MOST_NODES, Shape};
 
 /// What was read of a section, by its shape.
 #[derive(Drop)]
@@ -26,6 +28,8 @@ pub enum Part {
     Weights(WeightList),
     Tours(TourList),
     Triples(TripleList),
+    Combs(CombList),
+    Steps(TreeList),
 }
 
 /// The sections whose words are read in a run, each kind in a loop of its own.
@@ -42,17 +46,18 @@ impl Part {
     ghost use Rattle.tsp_value.specs.declared.field.Shape.TheVariants as shapes;
     ghost use Rattle.tsp_items.specs.Numbers.{IsWhole};
     ghost use Rattle.tsp_items.specs.Sections.{place_by};
-    ghost use Rattle.tsp_items.specs.states.Parts.{Takes};
-    ghost use Rattle.tsp_items.specs.states.Held.{shape_by, run_of, HoldsPart, HoldsShape};
+    ghost use Rattle.tsp_items.specs.states.Parts.{Takes, IsNodeOf};
+    ghost use Rattle.tsp_items.specs.states.Held.{in_group, groups_left, marks_of, shape_by, run_of, HoldsPart, HoldsShape};
 
-    /// A section of this shape with no words so far, in a file of `n` nodes.
+    /// A section of this shape with no words so far, in a file of `n` nodes, of which there are no
+    /// more than a file may have.
     ///
     /// # Errors
     ///
     /// Memory was refused.
     pub fn open(alloc: Global, shape: Shape, n: u32) -> Result<Part, AllocError>
         requires { shape ≡ shapes.Weights → n ≤ MOST_MATRIX_NODES }
-        ensures { IfOk result (λ part. HoldsShape shape part n []) }
+        ensures { IfOk result (λ part. n ≤ MOST_NODES → HoldsShape shape part n []) }
     {
         Ok(match shape {
             Shape::Numbers { low, high } => Part::Numbers(NumberList::open(alloc, n, low, high)?),
@@ -63,6 +68,8 @@ impl Part {
             Shape::Weights => Part::Weights(WeightList::open(alloc, n)),
             Shape::Tours => Part::Tours(TourList::open(alloc)),
             Shape::Triples => Part::Triples(TripleList::open(alloc, n)),
+            Shape::Combs => Part::Combs(CombList::open(alloc, n)),
+            Shape::Steps => Part::Steps(TreeList::open(alloc, n)),
         })
     }
 
@@ -90,6 +97,8 @@ impl Part {
             Part::Weights(part) => part.push(word),
             Part::Tours(part) => part.push(alloc, word),
             Part::Triples(part) => part.push(word),
+            Part::Combs(part) => part.push(alloc, word),
+            Part::Steps(part) => part.push(alloc, word),
         }
     }
 
@@ -109,7 +118,10 @@ impl Part {
 
     /// Whether the next word is a coordinate, where the section has this run.
     #[inline(always)]
-    pub fn wants_coordinate(&self, run: Run) -> bool {
+    pub fn wants_coordinate(&self, run: Run) -> bool
+        ensures of_run { run_of self.now ≡ Some run → result ≡ in_group self.now }
+        ensures other_run { run_of self.now ≢ Some run → result ≡ false }
+    {
         match self {
             Part::Points(part) if run == Run::Points => part.wants_coordinate(),
             Part::SpacePoints(part) if run == Run::SpacePoints => part.wants_coordinate(),
@@ -128,6 +140,9 @@ impl Part {
             (HoldsShape (shape_by self.old) self.new n (words ++ word ∷ [])) (Ok tt) }
         ensures kept { result ≡ false → (n : ℕ) (words : List (List ℕ))
             → HoldsPart self.old n words → HoldsShape (shape_by self.old) self.new n words }
+        ensures refused { result ≡ false → run_of self.old ≡ Some run → 0 < groups_left self.old
+            → in_group self.old ≡ false → (k : ℕ) → number ≡ pos k → IsNodeOf (length (marks_of self.old)) k
+            → slice_index_or (marks_of self.old) (k - 1) false ≡ true }
     {
         match self {
             Part::Weights(part) if run == Run::Weights => part.push_read(number),
@@ -148,6 +163,8 @@ impl Part {
             (HoldsShape (shape_by self.old) self.new n (words ++ word ∷ [])) (Ok tt) }
         ensures kept { result ≡ false → (n : ℕ) (words : List (List ℕ))
             → HoldsPart self.old n words → HoldsShape (shape_by self.old) self.new n words }
+        ensures refused { result ≡ false → run_of self.old ≡ Some run → 0 < groups_left self.old
+            → in_group self.old ≡ false }
     {
         match self {
             Part::Points(part) if run == Run::Points => part.push_coordinate(coordinate),

@@ -12,7 +12,7 @@ use Rattle.tsp_value.specs.declared.kinds.WeightFormat.{WeightFormat}
 use Rattle.tsp_value.specs.declared.kinds.CoordKind.{CoordKind}
 use Rattle.tsp_value.specs.declared.kinds.DisplayKind.{DisplayKind}
 use Rattle.tsp_value.specs.declared.field.Field.{Field}
-use Rattle.tsp_value.specs.declared.field.Field.TheVariants.{TypeKey, DimensionKey, CapacityKey, ScaleKey, EdgeWeightTypeKey, EdgeWeightFormatKey, NodeCoordTypeKey, DisplayDataTypeKey, NodeCoordPart, DisplayDataPart, DemandPart, DepotPart, FixedEdgesPart, EdgeWeightPart, TourPart, NodePotentialPart, RowPotentialPart, ColumnPotentialPart, FixedPotentialPart}
+use Rattle.tsp_value.specs.declared.field.Field.TheVariants.{TypeKey, DimensionKey, CapacityKey, ScaleKey, EdgeWeightTypeKey, EdgeWeightFormatKey, NodeCoordTypeKey, DisplayDataTypeKey, NodeCoordPart, DisplayDataPart, DemandPart, DepotPart, FixedEdgesPart, EdgeWeightPart, TourPart, NodePotentialPart, RowPotentialPart, ColumnPotentialPart, FixedPotentialPart, CombPart, BranchPart}
 use Rattle.tsp_value.specs.declared.keyword.Keyword.TheVariants.{Known}
 use Rattle.tsp_value.specs.Limits.{most_nodes, most_capacity, most_scale, most_line_bytes}
 use Rattle.tsp_value.specs.Words.{kind_word, weight_kind_word, weight_format_word, coord_kind_word, display_kind_word, kinds, weight_kinds, weight_formats, coord_kinds, display_kinds}
@@ -313,17 +313,18 @@ dimension_field : (earlier : List Item) (line : WordLine) (n : ℕ) → whole_of
     → has_line NodeCoordPart earlier ≡ false → has_line DisplayDataPart earlier ≡ false → has_line DemandPart earlier ≡ false
     → has_line DepotPart earlier ≡ false → has_line FixedEdgesPart earlier ≡ false → has_line EdgeWeightPart earlier ≡ false
     → has_line NodePotentialPart earlier ≡ false → has_line RowPotentialPart earlier ≡ false → has_line ColumnPotentialPart earlier ≡ false
-    → has_line FixedPotentialPart earlier ≡ false
+    → has_line FixedPotentialPart earlier ≡ false → has_line CombPart earlier ≡ false → has_line BranchPart earlier ≡ false
     → (let fields = fields_by (λ field. has_line field earlier) earlier in record fields { dimension = Some n })
     ≡ fields_by (is_closed (Line (Known DimensionKey) line ∷ earlier)) (Line (Known DimensionKey) line ∷ earlier)
-dimension_field earlier line n read c0 c1 c2 c3 c4 c5 c6 c7 c8 c9 = rw (c0, c1, c2, c3, c4, c5, c6, c7, c8, c9, read) refl
+dimension_field earlier line n read c0 c1 c2 c3 c4 c5 c6 c7 c8 c9 c10 c11 = rw (c0, c1, c2, c3, c4, c5, c6, c7, c8, c9, c10, c11, read) refl
 
 dimension_first : (earlier : List Item) (line : WordLine) → has_line NodeCoordPart earlier ≡ false → has_line DisplayDataPart earlier ≡ false
     → has_line DemandPart earlier ≡ false → has_line DepotPart earlier ≡ false → has_line FixedEdgesPart earlier ≡ false
     → has_line EdgeWeightPart earlier ≡ false → has_line NodePotentialPart earlier ≡ false → has_line RowPotentialPart earlier ≡ false
     → has_line ColumnPotentialPart earlier ≡ false → has_line FixedPotentialPart earlier ≡ false
+    → has_line CombPart earlier ≡ false → has_line BranchPart earlier ≡ false
     → first_incomplete earlier ≡ find (is_closed_incomplete (Line (Known DimensionKey) line ∷ earlier)) sections_in_order
-dimension_first earlier line c0 c1 c2 c3 c4 c5 c6 c7 c8 c9 = rw (c0, c1, c2, c3, c4, c5, c6, c7, c8, c9) refl
+dimension_first earlier line c0 c1 c2 c3 c4 c5 c6 c7 c8 c9 c10 c11 = rw (c0, c1, c2, c3, c4, c5, c6, c7, c8, c9, c10, c11) refl
 
 -- no section but the tours stands before DIMENSION
 none_before : (f : Field) (earlier : List Item) → is_section_field f ≡ true → same_field TourPart f ≡ false → IsClean earlier → has_line DimensionKey earlier ≡ false
@@ -353,11 +354,11 @@ dimension_line old new line slot (Ok done) sets is same_first same_part earlier 
           ∙ dimension_field earlier line sets.2 sets.3 (none NodeCoordPart refl refl) (none DisplayDataPart refl refl) (none DemandPart refl refl)
           (none DepotPart refl refl) (none FixedEdgesPart refl refl) (none EdgeWeightPart refl refl)
           (none NodePotentialPart refl refl) (none RowPotentialPart refl refl) (none ColumnPotentialPart refl refl)
-          (none FixedPotentialPart refl refl);
+          (none FixedPotentialPart refl refl) (none CombPart refl refl) (none BranchPart refl refl);
       incomplete = same_first ∙ h.incomplete ∙ dimension_first earlier line (none NodeCoordPart refl refl) (none DisplayDataPart refl refl) (none DemandPart refl refl)
           (none DepotPart refl refl) (none FixedEdgesPart refl refl) (none EdgeWeightPart refl refl)
           (none NodePotentialPart refl refl) (none RowPotentialPart refl refl) (none ColumnPotentialPart refl refl)
-          (none FixedPotentialPart refl refl);
+          (none FixedPotentialPart refl refl) (none CombPart refl refl) (none BranchPart refl refl);
       part = still_none old new (Line (Known DimensionKey) line ∷ earlier) refl same_part h.part;
     }
 dimension_line old new line slot (Err steps.Memory) sets is same_first same_part earlier h short = tt

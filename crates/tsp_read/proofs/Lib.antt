@@ -12,6 +12,8 @@ pub mod ValidDepots
 pub mod ValidTours
 pub mod ValidFixed
 pub mod ValidTriples
+pub mod ValidCombs
+pub mod ValidTree
 pub mod ValidKeywords
 pub mod ValidCuts
 pub mod ValidItems

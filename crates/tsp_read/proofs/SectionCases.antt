@@ -4,7 +4,7 @@ use Rattle.std.specs.Prelude.{ℕ, nat_lt, is_some}
 use Rattle.std.specs.Option.{option_map_or}
 use Rattle.std.specs.List.{find}
 use Rattle.tsp_value.specs.declared.field.Field.{Field}
-use Rattle.tsp_value.specs.declared.field.Field.TheVariants.{NameKey, TypeKey, CommentKey, OtherKey, DimensionKey, CapacityKey, ScaleKey, EdgeWeightTypeKey, EdgeWeightFormatKey, NodeCoordTypeKey, DisplayDataTypeKey, NodeCoordPart, DisplayDataPart, DemandPart, DepotPart, FixedEdgesPart, EdgeWeightPart, TourPart, NodePotentialPart, RowPotentialPart, ColumnPotentialPart, FixedPotentialPart}
+use Rattle.tsp_value.specs.declared.field.Field.TheVariants.{NameKey, TypeKey, CommentKey, OtherKey, DimensionKey, CapacityKey, ScaleKey, EdgeWeightTypeKey, EdgeWeightFormatKey, NodeCoordTypeKey, DisplayDataTypeKey, NodeCoordPart, DisplayDataPart, DemandPart, DepotPart, FixedEdgesPart, EdgeWeightPart, TourPart, NodePotentialPart, RowPotentialPart, ColumnPotentialPart, FixedPotentialPart, CombPart, BranchPart}
 use Rattle.tsp_value.specs.declared.keyword.Keyword.TheVariants.{Known}
 use Rattle.tsp_value.specs.Limits.{most_line_bytes}
 use Rattle.tsp_fields.specs.Fields.{Fields, stands_in}
@@ -25,29 +25,32 @@ use Rattle.tsp_read.specs.states.Stored.{with_words, with_section}
 -- what holds of each section holds of every field that is one
 pub by_section : (P : Field → Type 0) → P NodeCoordPart → P DisplayDataPart → P DemandPart → P DepotPart → P FixedEdgesPart
     → P EdgeWeightPart → P TourPart → P NodePotentialPart → P RowPotentialPart → P ColumnPotentialPart → P FixedPotentialPart
+    → P CombPart → P BranchPart
     → (f : Field) → is_section_field f ≡ true → P f
-by_section P p0 p1 p2 p3 p4 p5 p6 p7 p8 p9 p10 NameKey e = cc
-by_section P p0 p1 p2 p3 p4 p5 p6 p7 p8 p9 p10 TypeKey e = cc
-by_section P p0 p1 p2 p3 p4 p5 p6 p7 p8 p9 p10 CommentKey e = cc
-by_section P p0 p1 p2 p3 p4 p5 p6 p7 p8 p9 p10 OtherKey e = cc
-by_section P p0 p1 p2 p3 p4 p5 p6 p7 p8 p9 p10 DimensionKey e = cc
-by_section P p0 p1 p2 p3 p4 p5 p6 p7 p8 p9 p10 CapacityKey e = cc
-by_section P p0 p1 p2 p3 p4 p5 p6 p7 p8 p9 p10 ScaleKey e = cc
-by_section P p0 p1 p2 p3 p4 p5 p6 p7 p8 p9 p10 EdgeWeightTypeKey e = cc
-by_section P p0 p1 p2 p3 p4 p5 p6 p7 p8 p9 p10 EdgeWeightFormatKey e = cc
-by_section P p0 p1 p2 p3 p4 p5 p6 p7 p8 p9 p10 NodeCoordTypeKey e = cc
-by_section P p0 p1 p2 p3 p4 p5 p6 p7 p8 p9 p10 DisplayDataTypeKey e = cc
-by_section P p0 p1 p2 p3 p4 p5 p6 p7 p8 p9 p10 NodeCoordPart e = p0
-by_section P p0 p1 p2 p3 p4 p5 p6 p7 p8 p9 p10 DisplayDataPart e = p1
-by_section P p0 p1 p2 p3 p4 p5 p6 p7 p8 p9 p10 DemandPart e = p2
-by_section P p0 p1 p2 p3 p4 p5 p6 p7 p8 p9 p10 DepotPart e = p3
-by_section P p0 p1 p2 p3 p4 p5 p6 p7 p8 p9 p10 FixedEdgesPart e = p4
-by_section P p0 p1 p2 p3 p4 p5 p6 p7 p8 p9 p10 EdgeWeightPart e = p5
-by_section P p0 p1 p2 p3 p4 p5 p6 p7 p8 p9 p10 TourPart e = p6
-by_section P p0 p1 p2 p3 p4 p5 p6 p7 p8 p9 p10 NodePotentialPart e = p7
-by_section P p0 p1 p2 p3 p4 p5 p6 p7 p8 p9 p10 RowPotentialPart e = p8
-by_section P p0 p1 p2 p3 p4 p5 p6 p7 p8 p9 p10 ColumnPotentialPart e = p9
-by_section P p0 p1 p2 p3 p4 p5 p6 p7 p8 p9 p10 FixedPotentialPart e = p10
+by_section P p0 p1 p2 p3 p4 p5 p6 p7 p8 p9 p10 p11 p12 NameKey e = cc
+by_section P p0 p1 p2 p3 p4 p5 p6 p7 p8 p9 p10 p11 p12 TypeKey e = cc
+by_section P p0 p1 p2 p3 p4 p5 p6 p7 p8 p9 p10 p11 p12 CommentKey e = cc
+by_section P p0 p1 p2 p3 p4 p5 p6 p7 p8 p9 p10 p11 p12 OtherKey e = cc
+by_section P p0 p1 p2 p3 p4 p5 p6 p7 p8 p9 p10 p11 p12 DimensionKey e = cc
+by_section P p0 p1 p2 p3 p4 p5 p6 p7 p8 p9 p10 p11 p12 CapacityKey e = cc
+by_section P p0 p1 p2 p3 p4 p5 p6 p7 p8 p9 p10 p11 p12 ScaleKey e = cc
+by_section P p0 p1 p2 p3 p4 p5 p6 p7 p8 p9 p10 p11 p12 EdgeWeightTypeKey e = cc
+by_section P p0 p1 p2 p3 p4 p5 p6 p7 p8 p9 p10 p11 p12 EdgeWeightFormatKey e = cc
+by_section P p0 p1 p2 p3 p4 p5 p6 p7 p8 p9 p10 p11 p12 NodeCoordTypeKey e = cc
+by_section P p0 p1 p2 p3 p4 p5 p6 p7 p8 p9 p10 p11 p12 DisplayDataTypeKey e = cc
+by_section P p0 p1 p2 p3 p4 p5 p6 p7 p8 p9 p10 p11 p12 NodeCoordPart e = p0
+by_section P p0 p1 p2 p3 p4 p5 p6 p7 p8 p9 p10 p11 p12 DisplayDataPart e = p1
+by_section P p0 p1 p2 p3 p4 p5 p6 p7 p8 p9 p10 p11 p12 DemandPart e = p2
+by_section P p0 p1 p2 p3 p4 p5 p6 p7 p8 p9 p10 p11 p12 DepotPart e = p3
+by_section P p0 p1 p2 p3 p4 p5 p6 p7 p8 p9 p10 p11 p12 FixedEdgesPart e = p4
+by_section P p0 p1 p2 p3 p4 p5 p6 p7 p8 p9 p10 p11 p12 EdgeWeightPart e = p5
+by_section P p0 p1 p2 p3 p4 p5 p6 p7 p8 p9 p10 p11 p12 TourPart e = p6
+by_section P p0 p1 p2 p3 p4 p5 p6 p7 p8 p9 p10 p11 p12 NodePotentialPart e = p7
+by_section P p0 p1 p2 p3 p4 p5 p6 p7 p8 p9 p10 p11 p12 RowPotentialPart e = p8
+by_section P p0 p1 p2 p3 p4 p5 p6 p7 p8 p9 p10 p11 p12 ColumnPotentialPart e = p9
+by_section P p0 p1 p2 p3 p4 p5 p6 p7 p8 p9 p10 p11 p12 FixedPotentialPart e = p10
+by_section P p0 p1 p2 p3 p4 p5 p6 p7 p8 p9 p10 p11 p12 CombPart e = p11
+by_section P p0 p1 p2 p3 p4 p5 p6 p7 p8 p9 p10 p11 p12 BranchPart e = p12
 
 -- a field with a shape is a section, in a spatial file as in another
 pub section_of : (in_space : Bool) (f : Field) (shape : Shape) → shape_of in_space f ≡ Some shape → is_section_field f ≡ true
@@ -73,6 +76,8 @@ section_of in_space NodePotentialPart shape e = refl
 section_of in_space RowPotentialPart shape e = refl
 section_of in_space ColumnPotentialPart shape e = refl
 section_of in_space FixedPotentialPart shape e = refl
+section_of in_space CombPart shape e = refl
+section_of in_space BranchPart shape e = refl
 
 -- a field that is none of the other keywords and no section
 pub unnamed : (in_space : Bool) (f : Field) → shape_of in_space f ≡ None → f ≢ NameKey → f ≢ TypeKey → f ≢ CommentKey → f ≢ DimensionKey → f ≢ CapacityKey
@@ -100,6 +105,8 @@ unnamed in_space NodePotentialPart no_shape k0 k1 k2 k3 k4 k5 k6 k7 k8 k9 = cc
 unnamed in_space RowPotentialPart no_shape k0 k1 k2 k3 k4 k5 k6 k7 k8 k9 = cc
 unnamed in_space ColumnPotentialPart no_shape k0 k1 k2 k3 k4 k5 k6 k7 k8 k9 = cc
 unnamed in_space FixedPotentialPart no_shape k0 k1 k2 k3 k4 k5 k6 k7 k8 k9 = cc
+unnamed in_space CombPart no_shape k0 k1 k2 k3 k4 k5 k6 k7 k8 k9 = cc
+unnamed in_space BranchPart no_shape k0 k1 k2 k3 k4 k5 k6 k7 k8 k9 = cc
 
 some_cond : {A : Type 0} (b : Bool) (x : A) → is_some (cond b (Some x) None) ≡ b
 some_cond true x = refl
@@ -121,7 +128,7 @@ opening in_space earlier line short = by_section (λ f. row_of earlier (Line (Kn
     ≡ option_map_or (λ shape. opening_rows shape (has_line f earlier) line.value (has_line DimensionKey earlier) (nodes_of earlier)) (shape_of in_space f) None)
     (rw short (points_open in_space (has_line NodeCoordPart earlier) (has_line DimensionKey earlier) line.value (nodes_of earlier))) (rw short refl) (rw short refl) (rw short refl) (rw short refl)
     (rw short refl) (rw short refl) (rw short refl) (rw short refl) (rw short refl)
-    (rw short refl)
+    (rw short refl) (rw short refl) (rw short refl)
 
 -- a section stands in the fields where a line opened it
 pub standing : (earlier : List Item) (f : Field) → is_section_field f ≡ true
@@ -132,7 +139,8 @@ standing earlier = by_section (λ f. stands_in (fields_by (λ field. has_line fi
     (some_cond (has_line FixedEdgesPart earlier) _) (some_cond (has_line EdgeWeightPart earlier) _)
     (some_cond (has_line TourPart earlier) _) (some_cond (has_line NodePotentialPart earlier) _)
     (some_cond (has_line RowPotentialPart earlier) _) (some_cond (has_line ColumnPotentialPart earlier) _)
-    (some_cond (has_line FixedPotentialPart earlier) _)
+    (some_cond (has_line FixedPotentialPart earlier) _) (some_cond (has_line CombPart earlier) _)
+    (some_cond (has_line BranchPart earlier) _)
 
 -- the fields of the closed sections are those from before
 pub opened_fields : (earlier : List Item) (line : WordLine) (f : Field) → is_section_field f ≡ true → has_line f earlier ≡ false
@@ -142,7 +150,7 @@ opened_fields earlier line = by_section (λ f. has_line f earlier ≡ false → 
     ≡ fields_by (is_closed (Line (Known f) line ∷ earlier)) (Line (Known f) line ∷ earlier))
     (λ none. rw none refl) (λ none. rw none refl) (λ none. rw none refl) (λ none. rw none refl) (λ none. rw none refl)
     (λ none. rw none refl) (λ none. rw none refl) (λ none. rw none refl) (λ none. rw none refl) (λ none. rw none refl)
-    (λ none. rw none refl)
+    (λ none. rw none refl) (λ none. rw none refl) (λ none. rw none refl)
 
 -- and so is the first that is incomplete
 pub opened_first : (earlier : List Item) (line : WordLine) (f : Field) → is_section_field f ≡ true → has_line f earlier ≡ false
@@ -151,7 +159,7 @@ opened_first earlier line = by_section (λ f. has_line f earlier ≡ false
     → find (is_incomplete earlier) sections_in_order ≡ find (is_closed_incomplete (Line (Known f) line ∷ earlier)) sections_in_order)
     (λ none. rw none refl) (λ none. rw none refl) (λ none. rw none refl) (λ none. rw none refl) (λ none. rw none refl)
     (λ none. rw none refl) (λ none. rw none refl) (λ none. rw none refl) (λ none. rw none refl) (λ none. rw none refl)
-    (λ none. rw none refl)
+    (λ none. rw none refl) (λ none. rw none refl) (λ none. rw none refl)
 
 -- what the keywords say stays
 pub keywords_stay : (earlier : List Item) (line : WordLine) (f : Field) → is_section_field f ≡ true
@@ -162,7 +170,7 @@ keywords_stay earlier line = by_section (λ f. (keywords_there (Line (Known f) l
     × (spatial_after (Line (Known f) line ∷ earlier) ≡ spatial_after earlier))
     (refl, refl, refl) (refl, refl, refl) (refl, refl, refl) (refl, refl, refl) (refl, refl, refl)
     (refl, refl, refl) (refl, refl, refl) (refl, refl, refl) (refl, refl, refl) (refl, refl, refl)
-    (refl, refl, refl)
+    (refl, refl, refl) (refl, refl, refl) (refl, refl, refl)
 
 -- ---- a word of the open section: the closed ones stay
 
@@ -172,7 +180,7 @@ word_fields earlier word = by_section (λ f. open_section earlier ≡ Some f
     → fields_by (is_closed (NumberWord word ∷ earlier)) (NumberWord word ∷ earlier) ≡ fields_by (is_closed earlier) earlier)
     (λ o. rw o refl) (λ o. rw o refl) (λ o. rw o refl) (λ o. rw o refl) (λ o. rw o refl)
     (λ o. rw o refl) (λ o. rw o refl) (λ o. rw o refl) (λ o. rw o refl) (λ o. rw o refl)
-    (λ o. rw o refl)
+    (λ o. rw o refl) (λ o. rw o refl) (λ o. rw o refl)
 
 pub word_first : (earlier : List Item) (word : List ℕ) (f : Field) → is_section_field f ≡ true → open_section earlier ≡ Some f
     → find (is_closed_incomplete (NumberWord word ∷ earlier)) sections_in_order ≡ find (is_closed_incomplete earlier) sections_in_order
@@ -180,7 +188,7 @@ word_first earlier word = by_section (λ f. open_section earlier ≡ Some f
     → find (is_closed_incomplete (NumberWord word ∷ earlier)) sections_in_order ≡ find (is_closed_incomplete earlier) sections_in_order)
     (λ o. rw o refl) (λ o. rw o refl) (λ o. rw o refl) (λ o. rw o refl) (λ o. rw o refl)
     (λ o. rw o refl) (λ o. rw o refl) (λ o. rw o refl) (λ o. rw o refl) (λ o. rw o refl)
-    (λ o. rw o refl)
+    (λ o. rw o refl) (λ o. rw o refl) (λ o. rw o refl)
 
 -- ---- the open section is closed
 
@@ -197,7 +205,7 @@ closed_fields earlier = by_section (λ f. open_section earlier ≡ Some f → ha
     (λ o there. points_stored (spatial_after earlier) (nodes_of earlier) (words_of NodeCoordPart earlier) (fields_by (is_closed earlier) earlier)
     ∙ rw (o, there) refl) (λ o there. rw (o, there) refl) (λ o there. rw (o, there) refl) (λ o there. rw (o, there) refl) (λ o there. rw (o, there) refl)
     (λ o there. rw (o, there) refl) (λ o there. rw (o, there) refl) (λ o there. rw (o, there) refl) (λ o there. rw (o, there) refl) (λ o there. rw (o, there) refl)
-    (λ o there. rw (o, there) refl)
+    (λ o there. rw (o, there) refl) (λ o there. rw (o, there) refl) (λ o there. rw (o, there) refl)
 
 -- what the keywords say stays
 pub stored_keywords : (in_space : Bool) (n : ℕ) (words : List (List ℕ)) (fields : Fields) (f : Field) → is_section_field f ≡ true
@@ -205,4 +213,4 @@ pub stored_keywords : (in_space : Bool) (n : ℕ) (words : List (List ℕ)) (fie
 stored_keywords in_space n words fields = by_section (λ f. fields_there (with_section in_space f n words fields) ≡ fields_there fields)
     (ap fields_there (points_stored in_space n words fields)) refl refl refl refl
     refl refl refl refl refl
-    refl
+    refl refl refl

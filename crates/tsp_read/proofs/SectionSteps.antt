@@ -1,36 +1,43 @@
 -- A section is opened by its line, and closed: its field has its value, and the rest stays.
-use Rattle.std.proofs.Common.{◌≡◌, ℕ, Bool, true, false, List, [], ◌∷◌, ◌++◌, cond, get_or, refl, sym, ap, subst, ◌∙◌, Option, Some, None, Ok, Err}
-use Rattle.std.specs.Prelude.{ℤ, nat_lt, is_some, unwrap_or, not, ◌&&◌}
+use Rattle.std.proofs.Common.{◌≡◌, ℕ, Bool, true, false, List, [], ◌∷◌, ◌++◌, ◌≤◌, cond, get_or, arith, refl, sym, ap, subst, ◌∙◌, Option, Some, None, Ok, Err}
+use Rattle.std.specs.Prelude.{ℤ, nat_le, nat_lt, is_some, unwrap_or, not, ◌&&◌}
 use Rattle.std.specs.Option.{option_map_or}
 use Rattle.std.specs.List.{find}
+use Rattle.std.proofs.lemmas.Bool.{and_parts, leb-true}
 use Rattle.tsp_value.specs.declared.field.Field.{Field}
 use Rattle.tsp_value.specs.declared.field.Field.TheVariants.{DimensionKey}
 use Rattle.tsp_value.specs.declared.keyword.Keyword.{Keyword}
 use Rattle.tsp_value.specs.declared.keyword.Keyword.TheVariants.{Known, EdgeDataFormat, EdgeDataSection, Eof, Unknown}
-use Rattle.tsp_value.specs.Limits.{most_line_bytes, most_matrix_nodes}
+use Rattle.tsp_value.specs.Limits.{most_nodes, most_line_bytes, most_matrix_nodes}
+use Rattle.tsp_value.specs.Steps.{Step}
 use Rattle.tsp_value.specs.Words.{fields_in_order}
 use Rattle.tsp_fields.specs.Fields.{Fields, fields_of, stands_in, with_numbers, spatial}
+use Rattle.tsp_fields.specs.Validity.{if_there, is_node}
 use Rattle.tsp_items.specs.declared.fault.LineFault.{LineFault}
 use Rattle.tsp_items.specs.declared.fault.LineFault.TheVariants as row
 use Rattle.tsp_value.specs.declared.field.Shape.{Shape}
-use Rattle.tsp_value.specs.declared.field.Shape.TheVariants.{Numbers, Pairs, Triples}
+use Rattle.tsp_value.specs.declared.field.Shape.TheVariants.{Numbers, Pairs, Triples, Combs, Steps}
 use Rattle.tsp_items.specs.declared.part.Part.{Part}
 use Rattle.tsp_items.specs.declared.part.Part.TheVariants as parts
 use Rattle.tsp_items.specs.declared.parts.numbers.NumberList.{NumberList}
 use Rattle.tsp_items.specs.declared.parts.fixed.FixedList.{FixedList}
 use Rattle.tsp_items.specs.declared.parts.triples.TripleList.{TripleList}
+use Rattle.tsp_items.specs.declared.parts.combs.CombList.{CombList}
+use Rattle.tsp_items.specs.declared.parts.tree.TreeList.{TreeList}
 use Rattle.tsp_items.specs.Groups.{numbers_by_node, place_of_number}
 use Rattle.tsp_items.specs.Lists.{fixed_in, place_of_fixed, fixed_triples_in, place_of_triple}
+use Rattle.tsp_items.specs.Combs.{combs_in, place_of_comb}
+use Rattle.tsp_items.specs.Tree.{steps_in, place_of_step}
 use Rattle.tsp_items.specs.Places.{PastEnd}
 use Rattle.tsp_items.specs.Lines.{is_filled}
 use Rattle.tsp_items.specs.Items.{WordLine, Item, Line, NumberWord, LineEnd}
 use Rattle.tsp_value.specs.Shapes.{shape_of, is_section_field}
 use Rattle.tsp_items.specs.Earlier.{same_field, is_key, opened_by, is_open, has_line, open_section, words_of}
-use Rattle.tsp_items.specs.Values.{spatial_after}
+use Rattle.tsp_items.specs.Values.{dimension_of, spatial_after}
 use Rattle.tsp_items.specs.Sections.{place_by, place_in, nodes_of}
 use Rattle.tsp_items.specs.Rows.{row_of, when, first_row}
 use Rattle.tsp_items.specs.states.CutLine.{needs_nodes, is_matrix, opening_rows, MayOpen}
-use Rattle.tsp_items.specs.states.Held.{HoldsNumbers, HoldsFixed, HoldsTriples, shape_by, HoldsPart, HoldsShape}
+use Rattle.tsp_items.specs.states.Held.{HoldsNumbers, HoldsFixed, HoldsTriples, HoldsCombs, HoldsTree, shape_by, HoldsPart, HoldsShape}
 use Rattle.tsp_items.specs.Spells.{wants_more, is_incomplete, sections_in_order, first_incomplete}
 use Rattle.tsp_read.specs.declared.state.reading.OpenSection.{OpenSection}
 use Rattle.tsp_read.specs.declared.state.reading.Reading.{Reading}
@@ -42,6 +49,7 @@ use Rattle.tsp_read.proofs.Clean.{clean_more}
 use Rattle.tsp_read.proofs.FirstSteps.{but, first_without, first_more}
 use Rattle.tsp_read.proofs.SectionCases.{section_of, opening, standing, opened_fields, opened_first, keywords_stay, closed_fields, stored_keywords}
 use Rattle.tsp_read.proofs.WordSteps.{same_self}
+use Rattle.tsp_read.proofs.ValidKeywords.{dimension_fits}
 
 -- ---- which section was opened
 
@@ -105,12 +113,18 @@ first_none : (b : Bool) (fault : LineFault) (rows : List (Option LineFault)) →
 first_none true fault rows e = cc
 first_none false fault rows e = refl
 
+-- a file has no more nodes than it may have
+few_nodes : (dimension : Option ℕ) → if_there (is_node most_nodes) dimension ≡ true → unwrap_or dimension 0 ≤ most_nodes
+few_nodes None e = omega arith
+few_nodes (Some n) e = leb-true n most_nodes (and_parts (nat_le 1 n) (nat_le n most_nodes) e).1
+
 pub opens : (old new : Reading) (field : Field) (shape : Shape) (line : WordLine) (n : ℕ) (section : OpenSection)
     → shape_of (spatial (fields_of old.draft)) field ≡ Some shape
-    → MayOpen shape (stands_in (fields_of old.draft) field) line.value old.draft.dimension (Ok n) → section.field ≡ field → HoldsShape shape section.part n []
+    → MayOpen shape (stands_in (fields_of old.draft) field) line.value old.draft.dimension (Ok n) → section.field ≡ field
+    → (n ≤ most_nodes → HoldsShape shape section.part n [])
     → new.draft ≡ old.draft → new.incomplete ≡ old.incomplete → new.opened ≡ Some section
     → (earlier : List Item) → Closed old earlier → nat_lt most_line_bytes line.size ≡ false → Holds new (Line (Known field) line ∷ earlier)
-opens old new field shape line n section is may of start same_draft same_first opened earlier h short =
+opens old new field shape line n section is may of begins same_draft same_first opened earlier h short =
     let kind : is_section_field field ≡ true = section_of (spatial (fields_of old.draft)) field shape is in
     let stays = keywords_stay earlier line field kind in
     let space : spatial (fields_of old.draft) ≡ spatial_after (Line (Known field) line ∷ earlier) = ap spatial h.spelled ∙ sym stays.2 in
@@ -121,6 +135,7 @@ opens old new field shape line n section is may of start same_draft same_first o
     let none : has_line field earlier ≡ false = sym (standing earlier field kind) ∙ sym (ap (λ (fields : Fields). stands_in fields field) h.spelled) ∙ absent in
     let nodes : nodes_of earlier ≡ n = sym (ap (λ (fields : Fields). unwrap_or fields.dimension 0) h.spelled) ∙ sym may.0 in
     let words : words_of field earlier ≡ [] = no_words field earlier none in
+    let start = begins (subst (λ (m : ℕ). m ≤ most_nodes) nodes (few_nodes (dimension_of earlier) (dimension_fits earlier))) in
     let held : HoldsPart section.part (nodes_of (Line (Known field) line ∷ earlier)) (words_of section.field earlier) =
     subst (λ (m : ℕ). HoldsPart section.part m (words_of section.field earlier)) (sym (stays.1 ∙ nodes))
     (subst (λ (ws : List (List ℕ)). HoldsPart section.part n ws) (sym (ap (λ f. words_of f earlier) of ∙ words)) start.1) in
@@ -230,3 +245,23 @@ triples_stored section part triples more old new is put finished in_space n word
     let got = finished n words (subst (λ (p : Part). HoldsPart p n words) is h.1) in
     stored_as section Triples old new more in_space n words (h.0 ∙ ap (λ p. Some (shape_by p)) is)
     (put ∙ ap (λ xs. record old { fixed_potentials = Some xs }) got.0) got.1
+
+pub combs_stored : (section : OpenSection) (part : CombList) (combs : List (List (List ℕ))) (more : Bool) (old new : Fields) → section.part ≡ parts.Combs part
+    → new ≡ record old { combs = Some combs }
+    → ((n : ℕ) (words : List (List ℕ)) → HoldsCombs part n words → (combs ≡ combs_in n words) × (more ≡ wants_more (place_of_comb n words)))
+    → (in_space : Bool) (n : ℕ) (words : List (List ℕ)) → HoldsSection in_space section n words
+    → (new ≡ with_section in_space section.field n words old) × (more ≡ wants_more (place_in in_space section.field n words))
+combs_stored section part combs more old new is put finished in_space n words h =
+    let got = finished n words (subst (λ (p : Part). HoldsPart p n words) is h.1) in
+    stored_as section Combs old new more in_space n words (h.0 ∙ ap (λ p. Some (shape_by p)) is)
+    (put ∙ ap (λ xs. record old { combs = Some xs }) got.0) got.1
+
+pub steps_stored : (section : OpenSection) (part : TreeList) (steps : List Step) (more : Bool) (old new : Fields) → section.part ≡ parts.Steps part
+    → new ≡ record old { branches = Some steps }
+    → ((n : ℕ) (words : List (List ℕ)) → HoldsTree part n words → (steps ≡ steps_in n words) × (more ≡ wants_more (place_of_step n words)))
+    → (in_space : Bool) (n : ℕ) (words : List (List ℕ)) → HoldsSection in_space section n words
+    → (new ≡ with_section in_space section.field n words old) × (more ≡ wants_more (place_in in_space section.field n words))
+steps_stored section part steps more old new is put finished in_space n words h =
+    let got = finished n words (subst (λ (p : Part). HoldsPart p n words) is h.1) in
+    stored_as section Steps old new more in_space n words (h.0 ∙ ap (λ p. Some (shape_by p)) is)
+    (put ∙ ap (λ xs. record old { branches = Some xs }) got.0) got.1

@@ -13,7 +13,7 @@ use Rattle.tsp_number.specs.declared.fault.NumberFault.TheVariants.{LongWord}
 use Rattle.tsp_number.specs.Scan.{numeral_in}
 use Rattle.tsp_number.specs.Reading.{whole_from, whole_of, decimal_from, decimal_of}
 use Rattle.tsp_value.specs.declared.field.Field.{Field}
-use Rattle.tsp_value.specs.Limits.{most_word_bytes, most_weight, most_nodes, most_file_bytes}
+use Rattle.tsp_value.specs.Limits.{most_word_bytes, most_weight, most_nodes, most_combs, most_file_bytes}
 use Rattle.tsp_items.specs.declared.fault.LineFault.{LineFault}
 use Rattle.tsp_items.specs.declared.fault.LineFault.TheVariants as row
 use Rattle.tsp_items.specs.declared.fault.ReadFault.{ReadFault}
@@ -21,7 +21,7 @@ use Rattle.tsp_items.specs.declared.fault.ReadFault.TheVariants as faults
 use Rattle.tsp_items.specs.Numbers.{is_minus_one}
 use Rattle.tsp_items.specs.Items.{Item, Line, NumberWord, LineEnd, items_of, settled_items, is_end_line, has_end_line, to_end_line}
 use Rattle.tsp_items.specs.Earlier.{open_section, words_of}
-use Rattle.tsp_items.specs.Places.{Place, NodeAfter, Coordinate, Amount, PastGroups, DepotAfter, FirstAfter, SecondOf, PastEnd, Weight, PastWeights, TourNode}
+use Rattle.tsp_items.specs.Places.{Place, NodeAfter, Coordinate, Amount, PastGroups, DepotAfter, FirstAfter, SecondOf, PastEnd, Weight, PastWeights, TourNode, SetNode, StepAfter, IndexAfter}
 use Rattle.tsp_items.specs.Values.{spatial_after}
 use Rattle.tsp_items.specs.Sections.{place_in, nodes_of}
 use Rattle.tsp_items.specs.Rows.{when, first_row, row_of, word_fault}
@@ -66,6 +66,9 @@ long_row PastEnd = row.AfterEnd
 long_row Weight = row.Number LongWord
 long_row PastWeights = row.Surplus
 long_row (TourNode count) = row.Number LongWord
+long_row (SetNode begun combs count) = row.Number LongWord
+long_row (StepAfter branches) = row.Number LongWord
+long_row (IndexAfter count) = row.Number LongWord
 
 pub long_fault : (n : ℕ) (place : Place) (word : List ℕ) → IsLong word → word_fault n place word ≡ Some (long_row place)
 unfolding long_row
@@ -80,6 +83,9 @@ long_fault n PastEnd word long = rw (minus_long word long) refl
 long_fault n Weight word long = rw (whole_long word (neg_ℤ (pos most_weight)) (pos most_weight) long) refl
 long_fault n PastWeights word long = refl
 long_fault n (TourNode count) word long = rw (whole_long word (negsuc 0) (pos most_nodes) long) refl
+long_fault n (SetNode begun combs count) word long = rw (whole_long word (negsuc 0) (pos n) long) refl
+long_fault n (StepAfter branches) word long = rw (whole_long word (pos 0) (pos n) long) refl
+long_fault n (IndexAfter count) word long = rw (whole_long word (negsuc 0) (pos (n + most_combs)) long) refl
 
 same_word_row : (earlier : List Item) (word next : List ℕ) (opened : Option Field) → IsLong word → IsLong next → open_section earlier ≡ opened
     → row_of earlier (NumberWord word) ≡ row_of earlier (NumberWord next)

@@ -1,5 +1,5 @@
 -- What each section's part holds, by the part itself, and what it finishes with.
-use Rattle.std.specs.Prelude.{◌≡◌, ℕ, ℤ, List, map, Option, Some, None}
+use Rattle.std.specs.Prelude.{◌≡◌, ℕ, ◌+◌, ◌≤◌, ℤ, List, [], length, map, Option, Some, None, Bool, false, is_some}
 use Rattle.tsp_number.specs.Distances.{on_plane}
 use Rattle.tsp_items.specs.declared.parts.numbers.NumberList.{NumberList}
 use Rattle.tsp_items.specs.declared.parts.points.PointList.{PointList}
@@ -9,12 +9,19 @@ use Rattle.tsp_items.specs.declared.parts.fixed.FixedList.{FixedList}
 use Rattle.tsp_items.specs.declared.parts.triples.TripleList.{TripleList}
 use Rattle.tsp_items.specs.declared.parts.weights.WeightList.{WeightList}
 use Rattle.tsp_items.specs.declared.parts.tours.TourList.{TourList}
+use Rattle.tsp_items.specs.declared.parts.combs.CombList.{CombList}
+use Rattle.tsp_items.specs.declared.parts.tree.TreeList.{TreeList}
+use Rattle.tsp_value.specs.Limits.{most_combs}
+use Rattle.tsp_value.specs.Steps.{steps_of}
+use Rattle.tsp_fields.specs.Fields.{combs_of}
+use Rattle.tsp_items.specs.Combs.{CombsSoFar, combs_after}
+use Rattle.tsp_items.specs.Tree.{TreeSoFar, tree_after}
 use Rattle.tsp_items.specs.declared.part.Part.{Part}
 use Rattle.tsp_items.specs.declared.part.Part.TheVariants as parts
 use Rattle.tsp_items.specs.declared.part.Run.{Run}
 use Rattle.tsp_items.specs.declared.part.Run.TheVariants as runs
 use Rattle.tsp_value.specs.declared.field.Shape.{Shape}
-use Rattle.tsp_value.specs.declared.field.Shape.TheVariants.{Numbers, Points, SpacePoints, Depots, Pairs, Weights, Tours, Triples}
+use Rattle.tsp_value.specs.declared.field.Shape.TheVariants.{Numbers, Points, SpacePoints, Depots, Pairs, Weights, Tours, Triples, Combs, Steps}
 use Rattle.tsp_items.specs.states.Parts.{NumbersHold, PointsHold, SpacePointsHold, DepotsHold, PairsHold, TriplesHold, WeightsHold, ToursHold, EndsRun}
 
 -- its numbers are of this range
@@ -51,6 +58,38 @@ HoldsTours part words = ToursHold (map (λ tour. tour.items) part.done.items) pa
 abbrev pub EndsRunOf : TourList → List (List ℕ) → Type 0
 EndsRunOf part words = EndsRun (map (λ tour. tour.items) part.done.items) part.run.items words
 
+-- what stands in it, as what stands after words
+abbrev pub combs_held : CombList → CombsSoFar
+combs_held part = record {
+  combs = combs_of part.combs.items;
+  sets = map (λ set. set.items) part.sets.items;
+  nodes = part.nodes.items;
+  count = part.count;
+  ended = part.ended;
+}
+
+pub record HoldsCombs (part : CombList) (n : ℕ) (words : List (List ℕ)) : Type 0 where
+  pub nodes : part.n ≡ n
+  pub read : combs_held part ≡ combs_after n words
+
+abbrev pub tree_held : TreeList → TreeSoFar
+tree_held part = record {
+  steps = steps_of part.steps.items;
+  first = part.first;
+  in_leaf = part.in_leaf;
+  leaf = part.leaf.items;
+  to_come = part.to_come;
+  branches = part.branches;
+  changes = part.changes;
+}
+
+-- no more trees are to come than so many steps can ask for
+pub record HoldsTree (part : TreeList) (n : ℕ) (words : List (List ℕ)) : Type 0 where
+  pub nodes : part.n ≡ n
+  pub indices : part.last_index ≡ n + most_combs
+  pub read : tree_held part ≡ tree_after n words
+  pub few : part.to_come ≤ length part.steps.items + 1
+
 -- ---- the part of a section, whichever its shape
 
 abbrev pub shape_by : Part → Shape
@@ -62,6 +101,8 @@ shape_by (parts.Pairs list) = Pairs
 shape_by (parts.Weights list) = Weights
 shape_by (parts.Tours list) = Tours
 shape_by (parts.Triples list) = Triples
+shape_by (parts.Combs list) = Combs
+shape_by (parts.Steps list) = Steps
 
 -- the run that its words are read in, where they are
 abbrev pub run_of : Part → Option Run
@@ -73,6 +114,46 @@ run_of (parts.Numbers list) = None
 run_of (parts.Depots list) = None
 run_of (parts.Pairs list) = None
 run_of (parts.Triples list) = None
+run_of (parts.Combs list) = None
+run_of (parts.Steps list) = None
+
+-- a group of a point has begun in it, so that its next word is a coordinate
+abbrev pub in_group : Part → Bool
+in_group (parts.Points list) = is_some list.begun
+in_group (parts.SpacePoints list) = is_some list.begun
+in_group (parts.Numbers list) = false
+in_group (parts.Depots list) = false
+in_group (parts.Pairs list) = false
+in_group (parts.Weights list) = false
+in_group (parts.Tours list) = false
+in_group (parts.Triples list) = false
+in_group (parts.Combs list) = false
+in_group (parts.Steps list) = false
+
+-- how many groups of points are still to come, and whether a node has one; a part of another shape has none to come
+abbrev pub groups_left : Part → ℕ
+groups_left (parts.Points list) = list.left
+groups_left (parts.SpacePoints list) = list.left
+groups_left (parts.Numbers list) = 0
+groups_left (parts.Depots list) = 0
+groups_left (parts.Pairs list) = 0
+groups_left (parts.Weights list) = 0
+groups_left (parts.Tours list) = 0
+groups_left (parts.Triples list) = 0
+groups_left (parts.Combs list) = 0
+groups_left (parts.Steps list) = 0
+
+abbrev pub marks_of : Part → List Bool
+marks_of (parts.Points list) = list.seen.items
+marks_of (parts.SpacePoints list) = list.seen.items
+marks_of (parts.Numbers list) = []
+marks_of (parts.Depots list) = []
+marks_of (parts.Pairs list) = []
+marks_of (parts.Weights list) = []
+marks_of (parts.Tours list) = []
+marks_of (parts.Triples list) = []
+marks_of (parts.Combs list) = []
+marks_of (parts.Steps list) = []
 
 -- the part holds these words of its section
 abbrev pub HoldsPart : Part → ℕ → List (List ℕ) → Type 0
@@ -84,6 +165,8 @@ HoldsPart (parts.Pairs list) n words = HoldsFixed list n words
 HoldsPart (parts.Weights list) n words = HoldsWeights list n words
 HoldsPart (parts.Tours list) n words = HoldsTours list words
 HoldsPart (parts.Triples list) n words = HoldsTriples list n words
+HoldsPart (parts.Combs list) n words = HoldsCombs list n words
+HoldsPart (parts.Steps list) n words = HoldsTree list n words
 
 -- and its section has this shape
 abbrev pub HoldsShape : Shape → Part → ℕ → List (List ℕ) → Type 0

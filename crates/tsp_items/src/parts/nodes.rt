@@ -1,9 +1,10 @@
 //! Nodes, as the words of a section give them.
 
-ghost use Rattle.std.specs.Prelude.{◌≡◌, ◌<◌, ◌^◌, ℕ, List, length, Ok, IfOk, IfSome};
+ghost use Rattle.std.specs.Prelude.{◌≡◌, ◌<◌, ◌-◌, ◌^◌, ℕ, pos, true, false, List, length, slice_index_or, Ok, None, IfOk, IfSome};
 ghost use Rattle.std.specs.Option.{ForSome};
 ghost use Rattle.tsp_items.specs.Numbers.{node, node_or_end, is_minus_one, IsWhole};
-ghost use Rattle.tsp_items.specs.states.Parts.{as_number, as_node_or_end, IsNodeOf, IsNewNode};
+ghost use Rattle.tsp_items.specs.Tree.{node_or_leaf};
+ghost use Rattle.tsp_items.specs.states.Parts.{as_number, as_node_or_end, as_node_or_leaf, IsNodeOf, IsNewNode};
 
 use crate::fault::LineFault;
 use tsp_number::{NumberFault, parse_whole};
@@ -25,6 +26,17 @@ pub(crate) fn read_node_or_end(word: &[u8], n: u32) -> Result<Option<u32>, Numbe
     match parse_whole(word, -1, i64::from(n))? {
         -1 => Ok(None),
         0 => Err(NumberFault::OutOfRange),
+        node => Ok(Some(node as u32)),
+    }
+}
+
+/// A node of 1..n, or `None` for the 0 that begins a leaf.
+pub(crate) fn read_node_or_leaf(word: &[u8], n: u32) -> Result<Option<u32>, NumberFault>
+    ensures read { node_or_leaf n word.now ≡ as_node_or_leaf result }
+    ensures within { IfOk result (λ found. ForSome found (λ k. IsNodeOf n k)) }
+{
+    match parse_whole(word, 0, i64::from(n))? {
+        0 => Ok(None),
         node => Ok(Some(node as u32)),
     }
 }
@@ -52,6 +64,8 @@ pub(crate) fn unmarked_node(seen: &[bool], number: i64) -> Option<u32>
     ensures new { IfSome result (λ node. (word : List ℕ) → IsWhole word number
         → IsNewNode seen.now word (Ok node)) }
     ensures within { IfSome result (λ node. IsNodeOf (length seen.now) node) }
+    ensures none { result ≡ None → (k : ℕ) → number ≡ pos k → IsNodeOf (length seen.now) k
+        → slice_index_or seen.now (k - 1) false ≡ true }
 {
     let Ok(node) = u32::try_from(number) else {
         return None;

@@ -1,6 +1,6 @@
 //! By-node sections with a point of the plane for each node.
 
-ghost use Rattle.std.specs.Prelude.{◌≡◌, ◌<◌, ◌≤◌, ◌^◌, None, Some, Ok, [], ℕ, List, length, ◌∷◌, ◌++◌, vec_len, IfOk, IfErr, Err, ◌≢◌, is_some, true, false};
+ghost use Rattle.std.specs.Prelude.{◌≡◌, ◌<◌, ◌≤◌, ◌^◌, None, Some, Ok, [], ℕ, List, length, ◌∷◌, ◌++◌, vec_len, IfOk, IfErr, Err, ◌≢◌, is_some, true, false, ◌-◌, pos, slice_index_or};
 ghost use Rattle.std.specs.Option.{ForSome};
 ghost use Rattle.tsp_fields.specs.Coords.{points_of};
 
@@ -29,7 +29,7 @@ impl PointList {
     ghost use Rattle.tsp_items.specs.Numbers.{IsWhole};
     ghost use Rattle.tsp_items.specs.Groups.{place_of_point, points_by_node};
     ghost use Rattle.tsp_items.specs.Spells.{wants_more};
-    ghost use Rattle.tsp_items.specs.states.Parts.{Takes};
+    ghost use Rattle.tsp_items.specs.states.Parts.{Takes, IsNodeOf};
     ghost use Rattle.tsp_items.specs.Rows.{word_fault};
     ghost use Rattle.tsp_items.specs.states.Held.{HoldsPoints};
 
@@ -133,6 +133,9 @@ impl PointList {
             (HoldsPoints self.new n (words ++ word ∷ [])) (Ok tt) }
         ensures kept { result ≡ false → (n : ℕ) (words : List (List ℕ))
             → HoldsPoints self.old n words → HoldsPoints self.new n words }
+        ensures refused { result ≡ false → 0 < self.old.left → self.old.begun ≡ None → (k : ℕ) → number ≡ pos k
+            → IsNodeOf (length self.old.seen.items) k
+            → slice_index_or self.old.seen.items (k - 1) false ≡ true }
     {
         match self.begun {
             None if self.left > 0 => match unmarked_node(self.seen.as_slice(), number) {
@@ -156,6 +159,7 @@ impl PointList {
             (HoldsPoints self.new n (words ++ word ∷ [])) (Ok tt) }
         ensures kept { result ≡ false → (n : ℕ) (words : List (List ℕ))
             → HoldsPoints self.old n words → HoldsPoints self.new n words }
+        ensures refused { result ≡ false → 0 < self.old.left → self.old.begun ≡ None }
     {
         match self.begun {
             Some(node) if self.left > 0 => {

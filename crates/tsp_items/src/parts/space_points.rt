@@ -1,6 +1,6 @@
 //! By-node sections with a point in space for each node.
 
-ghost use Rattle.std.specs.Prelude.{◌≡◌, ◌<◌, ◌≤◌, ◌^◌, None, Some, Ok, [], ℕ, List, length, ◌∷◌, ◌++◌, vec_len, IfOk, IfErr, Err, ◌≢◌, is_some, true, false};
+ghost use Rattle.std.specs.Prelude.{◌≡◌, ◌<◌, ◌≤◌, ◌^◌, None, Some, Ok, [], ℕ, List, length, ◌∷◌, ◌++◌, vec_len, IfOk, IfErr, Err, ◌≢◌, is_some, true, false, ◌-◌, pos, slice_index_or};
 ghost use Rattle.std.specs.Option.{ForSome};
 ghost use Rattle.tsp_fields.specs.Coords.{points_of};
 
@@ -30,7 +30,7 @@ impl SpacePointList {
     ghost use Rattle.tsp_items.specs.Numbers.{IsWhole};
     ghost use Rattle.tsp_items.specs.Groups.{place_of_space_point, space_points_by_node};
     ghost use Rattle.tsp_items.specs.Spells.{wants_more};
-    ghost use Rattle.tsp_items.specs.states.Parts.{Takes};
+    ghost use Rattle.tsp_items.specs.states.Parts.{Takes, IsNodeOf};
     ghost use Rattle.tsp_items.specs.Rows.{word_fault};
     ghost use Rattle.tsp_items.specs.states.Held.{HoldsSpacePoints};
 
@@ -147,6 +147,9 @@ impl SpacePointList {
             (HoldsSpacePoints self.new n (words ++ word ∷ [])) (Ok tt) }
         ensures kept { result ≡ false → (n : ℕ) (words : List (List ℕ))
             → HoldsSpacePoints self.old n words → HoldsSpacePoints self.new n words }
+        ensures refused { result ≡ false → 0 < self.old.left → self.old.begun ≡ None → (k : ℕ) → number ≡ pos k
+            → IsNodeOf (length self.old.seen.items) k
+            → slice_index_or self.old.seen.items (k - 1) false ≡ true }
     {
         match self.begun {
             None if self.left > 0 => match unmarked_node(self.seen.as_slice(), number) {
@@ -170,6 +173,7 @@ impl SpacePointList {
             (HoldsSpacePoints self.new n (words ++ word ∷ [])) (Ok tt) }
         ensures kept { result ≡ false → (n : ℕ) (words : List (List ℕ))
             → HoldsSpacePoints self.old n words → HoldsSpacePoints self.new n words }
+        ensures refused { result ≡ false → 0 < self.old.left → self.old.begun ≡ None }
     {
         match self.begun {
             Some(node) if self.left > 0 => {

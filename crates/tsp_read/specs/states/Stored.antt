@@ -4,11 +4,13 @@ use Rattle.std.specs.Option.{option_map_or}
 use Rattle.tsp_value.specs.declared.field.Field.{Field}
 use Rattle.tsp_fields.specs.Fields.{Fields, with_numbers, with_points}
 use Rattle.tsp_value.specs.declared.field.Shape.{Shape}
-use Rattle.tsp_value.specs.declared.field.Shape.TheVariants.{Numbers, Points, SpacePoints, Depots, Pairs, Weights, Tours, Triples}
+use Rattle.tsp_value.specs.declared.field.Shape.TheVariants.{Numbers, Points, SpacePoints, Depots, Pairs, Weights, Tours, Triples, Combs, Steps}
 use Rattle.tsp_items.specs.Groups.{numbers_by_node, points_by_node, space_points_by_node}
 use Rattle.tsp_items.specs.Lists.{depots_in, fixed_in, fixed_triples_in}
 use Rattle.tsp_value.specs.Shapes.{shape_of}
 use Rattle.tsp_items.specs.Tours.{tours_in}
+use Rattle.tsp_items.specs.Combs.{combs_in}
+use Rattle.tsp_items.specs.Tree.{steps_in}
 use Rattle.tsp_items.specs.Weights.{weights_in}
 
 -- what words of a section of this shape spell, with n nodes
@@ -21,6 +23,8 @@ with_words Pairs field n words fields = record fields { fixed = Some (fixed_in n
 with_words Weights field n words fields = record fields { weights = Some (weights_in words) }
 with_words Tours field n words fields = record fields { tours = Some (tours_in words) }
 with_words Triples field n words fields = record fields { fixed_potentials = Some (fixed_triples_in n words) }
+with_words Combs field n words fields = record fields { combs = Some (combs_in n words) }
+with_words Steps field n words fields = record fields { branches = Some (steps_in n words) }
 
 -- the same of a section of a spatial file, or of another
 abbrev pub with_section : Bool → Field → ℕ → List (List ℕ) → Fields → Fields

@@ -64,5 +64,15 @@ pub(crate) fn store(
             draft.fixed_potentials = Some(triples);
             Ok(wants_more)
         }
+        Part::Combs(part) => {
+            let (combs, wants_more) = part.finish();
+            draft.combs = Some(combs);
+            Ok(wants_more)
+        }
+        Part::Steps(part) => {
+            let (steps, wants_more) = part.finish();
+            draft.branches = Some(steps);
+            Ok(wants_more)
+        }
     }
 }

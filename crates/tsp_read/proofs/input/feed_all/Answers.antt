@@ -3,7 +3,7 @@ use Rattle.std.specs.Io.KnownBytes.{Consumes}
 use Rattle.std.proofs.lemmas.Bool.{true≢false}
 use Rattle.tsp_stream.specs.Turn.{turn_of}
 use Rattle.tsp_stream.specs.Watched.{watched}
-use Rattle.tsp_read.proofs.PieceSteps.{gathered_more, gathered_none, gathered_kept, piece_stops, fed_from, not_going}
+use Rattle.tsp_read.proofs.PieceSteps.{gathered_start, gathered_more, gathered_none, gathered_kept, piece_stops, fed_from, not_going}
 use Rattle.tsp_read.proofs.HandedOn.{handed_on}
 use Rattle.tsp_read.proofs.input.feed_all.Goals as goal
 
@@ -31,6 +31,13 @@ returns-in_err-feed g c =
     (λ given. refl) (λ given gave. gave) (λ given. (c.requires.sound, c.in-Ok.ensures.failed ∙ ap (λ b. b || false) c.pieces.invariant.sound))
     (omega (arith, c.pieces-test.true)) c.pieces.invariant.gathered (sym c.is_going.ensures ∙ c.if-not-is_going.false)
     (omega (arith, c.in-Ok.ensures.bound.0, c.in-Ok.ensures.bound.1, c.read.auto.buf)) c.in-Ok.ensures.bytes.0 c.in_err-feed.ensures.taken)
+
+pub pieces-init : goal.pieces-init
+pieces-init g c = record {
+  gathered = gathered_start (g.R.Read.remaining (watched c.args.reader.now)) c.args.feed.now c.requires.start;
+  sound = c.requires.sound;
+  few = omega arith;
+}
 
 pub pieces-preserved : goal.pieces-preserved
 pieces-preserved g c = record {

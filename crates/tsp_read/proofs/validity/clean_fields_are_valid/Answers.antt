@@ -5,7 +5,7 @@ use Rattle.tsp_read.proofs.ValidItems.{none_bad}
 use Rattle.tsp_read.proofs.validity.clean_fields_are_valid.Goals as goal
 
 pub returns-clause-of_items : goal.returns-clause-of_items
-returns-clause-of_items c = λ items cut clean. none_bad items cut clean
+returns-clause-of_items c = λ items cut clean whole. none_bad items cut clean whole
 
 pub returns-clause-of_text : goal.returns-clause-of_text
-returns-clause-of_text c = λ bytes clean. none_bad (part bytes) (part_cut bytes) clean
+returns-clause-of_text c = λ bytes clean whole. none_bad (part bytes) (part_cut bytes) clean whole

@@ -27,3 +27,23 @@ pub returns-in-Triples-clause-kept : goal.returns-in-Triples-clause-kept
 returns-in-Triples-clause-kept c =
     steps.kept_list c.args.self.now (parts.Triples c.in-Triples.part) (parts.Triples c.push-in-Triples.new.self)
     c.push-in-Triples.result c.in-Triples.is refl c.push-in-Triples.ensures.kept
+
+pub returns-in-Combs-clause-takes : goal.returns-in-Combs-clause-takes
+returns-in-Combs-clause-takes c = λ n words h.
+    steps.as_list c.args.self.now (parts.Combs c.in-Combs.part) (parts.Combs c.push-in-Combs.new.self) n words
+    c.args.word.now c.push-in-Combs.result c.in-Combs.is refl (c.push-in-Combs.ensures.takes n words) h
+
+pub returns-in-Combs-clause-kept : goal.returns-in-Combs-clause-kept
+returns-in-Combs-clause-kept c =
+    steps.kept_list c.args.self.now (parts.Combs c.in-Combs.part) (parts.Combs c.push-in-Combs.new.self)
+    c.push-in-Combs.result c.in-Combs.is refl c.push-in-Combs.ensures.kept
+
+pub returns-in-Steps-clause-takes : goal.returns-in-Steps-clause-takes
+returns-in-Steps-clause-takes c = λ n words h.
+    steps.as_list c.args.self.now (parts.Steps c.in-Steps.part) (parts.Steps c.push-in-Steps.new.self) n words
+    c.args.word.now c.push-in-Steps.result c.in-Steps.is refl (c.push-in-Steps.ensures.takes n words) h
+
+pub returns-in-Steps-clause-kept : goal.returns-in-Steps-clause-kept
+returns-in-Steps-clause-kept c =
+    steps.kept_list c.args.self.now (parts.Steps c.in-Steps.part) (parts.Steps c.push-in-Steps.new.self)
+    c.push-in-Steps.result c.in-Steps.is refl c.push-in-Steps.ensures.kept

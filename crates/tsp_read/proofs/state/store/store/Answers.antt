@@ -1,5 +1,6 @@
 use Rattle.std.proofs.Common.{refl}
-use Rattle.tsp_fields.specs.Fields.{fields_of}
+use Rattle.tsp_value.specs.Steps.{steps_of}
+use Rattle.tsp_fields.specs.Fields.{combs_of, fields_of}
 use Rattle.tsp_read.proofs.SectionSteps as steps
 use Rattle.tsp_read.proofs.state.store.store.Goals as goal
 
@@ -17,3 +18,13 @@ pub returns-in-Triples-clause-stored : goal.returns-in-Triples-clause-stored
 returns-in-Triples-clause-stored c =
     steps.triples_stored c.args.section c.in-Triples.part c.finish-triples.result.0.items c.finish-triples.result.1 (fields_of c.args.draft.now) _
     c.in-Triples.is refl c.finish-triples.ensures
+
+pub returns-in-Combs-clause-stored : goal.returns-in-Combs-clause-stored
+returns-in-Combs-clause-stored c =
+    steps.combs_stored c.args.section c.in-Combs.part (combs_of c.finish-combs.result.0.items) c.finish-combs.result.1 (fields_of c.args.draft.now) _
+    c.in-Combs.is refl c.finish-combs.ensures
+
+pub returns-in-Steps-clause-stored : goal.returns-in-Steps-clause-stored
+returns-in-Steps-clause-stored c =
+    steps.steps_stored c.args.section c.in-Steps.part (steps_of c.finish-steps.result.0.items) c.finish-steps.result.1 (fields_of c.args.draft.now) _
+    c.in-Steps.is refl c.finish-steps.ensures
