@@ -75,7 +75,7 @@ space_points_written n few i (p ∷ xs) room all =
 
 -- ---- lists that -1 ends
 
-node_plain : (n k : ℕ) → n < 2 ^ 32 → is_node n k ≡ true → is_plain_word (decimal k) ≡ true
+pub node_plain : (n k : ℕ) → n < 2 ^ 32 → is_node n k ≡ true → is_plain_word (decimal k) ≡ true
 node_plain n k few is =
     let most = leb-true k n (and_parts (nat_le 1 k) (nat_le k n) is).1 in
     decimal_plain k (omega arith)
@@ -95,7 +95,7 @@ node_lines_written n few nodes all =
     both_words (flat_map (λ node. number_line (decimal node) []) nodes) (codes "-1" ++ 10 ∷ []) (map decimal nodes) (codes "-1" ∷ []) (nodes_written n few nodes all) end_written
 
 -- one line for each pair, or triple
-lines_written : {A : Type 0} (fits : A → Bool) (line : A → List ℕ) (words : A → List (List ℕ)) → ((x : A) → fits x ≡ true → WritesWords (line x) (words x))
+pub lines_written : {A : Type 0} (fits : A → Bool) (line : A → List ℕ) (words : A → List (List ℕ)) → ((x : A) → fits x ≡ true → WritesWords (line x) (words x))
     → (xs : List A) → list_all fits xs ≡ true → WritesWords (flat_map line xs) (flat_map words xs)
 lines_written fits line words each [] all = no_words_written
 lines_written fits line words each (x ∷ xs) all =
@@ -103,7 +103,7 @@ lines_written fits line words each (x ∷ xs) all =
     both_words (line x) (flat_map line xs) (words x) (flat_map words xs) (each x both.0) (lines_written fits line words each xs both.1)
 
 -- and the line of the -1
-list_written : {A : Type 0} (fits : A → Bool) (line : A → List ℕ) (words : A → List (List ℕ)) → ((x : A) → fits x ≡ true → WritesWords (line x) (words x))
+pub list_written : {A : Type 0} (fits : A → Bool) (line : A → List ℕ) (words : A → List (List ℕ)) → ((x : A) → fits x ≡ true → WritesWords (line x) (words x))
     → (xs : List A) → list_all fits xs ≡ true → WritesWords (ended (flat_map line xs)) (flat_map words xs ++ codes "-1" ∷ [])
 list_written fits line words each xs all =
     both_words (flat_map line xs) (codes "-1" ++ 10 ∷ []) (flat_map words xs) (codes "-1" ∷ []) (lines_written fits line words each xs all) end_written
@@ -114,7 +114,7 @@ tour_written tour fits = node_lines_written most_nodes (omega arith) tour (and_p
 pub tour_lines_written : (tours : List (List ℕ)) → list_all is_tour tours ≡ true → WritesWords (flat_map node_list tours) (flat_map tour_words tours)
 tour_lines_written tours all = lines_written is_tour node_list tour_words tour_written tours all
 
-pair_written : (n : ℕ) → n < 2 ^ 32 → (pair : ℕ × ℕ) → is_pair n pair ≡ true → WritesWords (number_line (decimal pair.0) (decimal pair.1 ∷ [])) (pair_words pair)
+pub pair_written : (n : ℕ) → n < 2 ^ 32 → (pair : ℕ × ℕ) → is_pair n pair ≡ true → WritesWords (number_line (decimal pair.0) (decimal pair.1 ∷ [])) (pair_words pair)
 pair_written n few pair fits =
     let are = are_pair n pair fits in
     number_line_written (decimal pair.0) (decimal pair.1 ∷ []) (node_plain n pair.0 few are.first) (one_plain (decimal pair.1) (node_plain n pair.1 few are.second))

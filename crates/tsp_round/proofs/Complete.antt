@@ -52,7 +52,7 @@ none_found test chosen fails (field ∷ fields) = one_less (chosen field) test f
 
 -- a section has a shape in a spatial file as in another
 in_space_too : (in_space : Bool) (field : Field) → is_section_field field ≡ true → is_some (shape_of in_space field) ≡ true
-in_space_too in_space = by_section (λ g. is_some (shape_of in_space g) ≡ true) refl refl refl refl refl refl refl refl refl refl refl
+in_space_too in_space = by_section (λ g. is_some (shape_of in_space g) ≡ true) refl refl refl refl refl refl refl refl refl refl refl refl refl
 
 pub none_incomplete : NumberLaws → (f : Fields) (items : List Item) → ((g : Field) → fits f g ≡ true) → Stage f [] items → first_incomplete items ≡ None
 none_incomplete laws f items valid stage = none_found (is_incomplete items) is_section_field each fields_in_order

@@ -1,8 +1,8 @@
 -- The text of each field of a valid file, read after the texts of the fields before it.
 use Rattle.std.proofs.Common.{◌≡◌, true, cond, List, refl}
 use Rattle.tsp_value.specs.declared.field.Field.{Field}
-use Rattle.tsp_value.specs.declared.field.Field.TheVariants.{NameKey, TypeKey, CommentKey, OtherKey, DimensionKey, CapacityKey, ScaleKey, EdgeWeightTypeKey, EdgeWeightFormatKey, NodeCoordTypeKey, DisplayDataTypeKey, NodeCoordPart, DisplayDataPart, DemandPart, DepotPart, FixedEdgesPart, EdgeWeightPart, TourPart, NodePotentialPart, RowPotentialPart, ColumnPotentialPart, FixedPotentialPart}
-use Rattle.tsp_value.specs.declared.field.Shape.TheVariants.{Points, SpacePoints, Depots, Pairs, Weights, Tours, Triples}
+use Rattle.tsp_value.specs.declared.field.Field.TheVariants.{NameKey, TypeKey, CommentKey, OtherKey, DimensionKey, CapacityKey, ScaleKey, EdgeWeightTypeKey, EdgeWeightFormatKey, NodeCoordTypeKey, DisplayDataTypeKey, NodeCoordPart, DisplayDataPart, DemandPart, DepotPart, FixedEdgesPart, EdgeWeightPart, TourPart, NodePotentialPart, RowPotentialPart, ColumnPotentialPart, FixedPotentialPart, CombPart, BranchPart}
+use Rattle.tsp_value.specs.declared.field.Shape.TheVariants.{Points, SpacePoints, Depots, Pairs, Weights, Tours, Triples, Combs, Steps}
 use Rattle.tsp_fields.specs.Fields.{Fields, spatial}
 use Rattle.tsp_fields.specs.Validity.{fits}
 use Rattle.tsp_write.specs.Text.{text_of_field}
@@ -35,3 +35,5 @@ field_step laws f valid NodePotentialPart earlier ready = section_step laws f va
 field_step laws f valid RowPotentialPart earlier ready = section_step laws f valid RowPotentialPart _ refl earlier ready
 field_step laws f valid ColumnPotentialPart earlier ready = section_step laws f valid ColumnPotentialPart _ refl earlier ready
 field_step laws f valid FixedPotentialPart earlier ready = section_step laws f valid FixedPotentialPart Triples refl earlier ready
+field_step laws f valid CombPart earlier ready = section_step laws f valid CombPart Combs refl earlier ready
+field_step laws f valid BranchPart earlier ready = section_step laws f valid BranchPart Steps refl earlier ready

@@ -20,7 +20,7 @@ use Rattle.tsp_items.specs.Groups.{pairs_in, begun_pair, number_groups, entry_of
 use Rattle.tsp_items.specs.Rows.{word_fault}
 use Rattle.tsp_items.proofs.PairWords.{pairs_begin, begun_begin, pairs_end, begun_end}
 use Rattle.tsp_round.proofs.Numbers.{NumberLaws, node_back}
-use Rattle.tsp_round.proofs.Onto.{AllTaken}
+use Rattle.tsp_round.proofs.Taken.{AllTaken}
 use Rattle.tsp_round.proofs.Lists.{no_rows}
 
 -- ---- numbers apart

@@ -85,7 +85,7 @@ no_end_fault f items valid spelled_are complete =
 
 -- ---- the law
 
-pub text_spelled : NumberLaws → (f : Fields) → fault_of f ≡ None → length (text_of f) < 500000000 → Spells (text_of f) f
+pub text_spelled : NumberLaws → (f : Fields) → fault_of f ≡ None → length (text_of f) < 750000000 → Spells (text_of f) f
 text_spelled laws f valid few =
     let each = all_fit f valid in
     let whole = all_fields f (text_of_field f) (field_step laws f each) fields_in_order fields_ordered [] (first_stage f) in

@@ -1,4 +1,5 @@
 pub mod Text
+pub mod Taken
 pub mod Onto
 pub mod Lines
 pub mod Numbers
@@ -9,10 +10,13 @@ pub mod Points
 pub mod SpacePoints
 pub mod Space
 pub mod Tours
+pub mod CombWords
+pub mod TreeWords
 pub mod Words
 pub mod Keys
 pub mod Others
 pub mod Bodies
+pub mod TreeLines
 pub mod Matrix
 pub mod Shapes
 pub mod Sections

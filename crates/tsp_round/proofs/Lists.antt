@@ -22,7 +22,7 @@ use Rattle.tsp_items.specs.Rows.{when, first_row, word_fault}
 use Rattle.tsp_items.proofs.Ended.{any_push}
 use Rattle.tsp_items.proofs.PairWords.{pairs_begin, begun_begin, firsts_begin, pairs_end, begun_end, firsts_end}
 use Rattle.tsp_round.proofs.Numbers.{NumberLaws, node_back, listed_back, node_goes_on, end_read, end_ends, size_in}
-use Rattle.tsp_round.proofs.Onto.{AllTaken}
+use Rattle.tsp_round.proofs.Taken.{AllTaken}
 
 -- ---- rows of a word
 

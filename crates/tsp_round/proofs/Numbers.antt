@@ -184,7 +184,7 @@ node_back laws n k few is =
 not_same : (a b : ℤ) → (a ≡ b → ⊥) → int_eq a b ≡ false
 not_same a b differ = false_from_ne_true (int_eq a b) (λ e. differ ((Decides-int_eq a b).0 e))
 
-no_zero : (k : ℕ) → 1 ≤ k → int_eq (pos k) (pos 0) ≡ false
+pub no_zero : (k : ℕ) → 1 ≤ k → int_eq (pos k) (pos 0) ≡ false
 no_zero k some = not_same (pos k) (pos 0) (λ e. let z : k ≡ 0 = cc in absurd (omega arith))
 
 pub listed_back : NumberLaws → (n k : ℕ) → n < 2 ^ 32 → is_node n k ≡ true → node_or_end n (decimal k) ≡ Ok (pos k)

@@ -8,12 +8,12 @@ use Rattle.tsp_items.specs.Items.{Item, Line, NumberWord, LineEnd, has_end_line,
 use Rattle.tsp_items.specs.Earlier.{is_key, has_line, value_at, values_at, others_in, open_section, is_open, words_of}
 use Rattle.tsp_items.specs.Values.{spatial_after}
 use Rattle.tsp_items.specs.Sections.{place_in, nodes_of}
-use Rattle.tsp_items.specs.Places.{Place}
 use Rattle.tsp_items.specs.Rows.{row_of, word_fault}
 use Rattle.tsp_items.specs.FirstFault.{IsClean}
 use Rattle.tsp_read.proofs.Clean.{clean_more}
 use Rattle.tsp_read.proofs.WordSteps.{same_self}
 use Rattle.tsp_round.proofs.Text.{number_words, are_numbers}
+use Rattle.tsp_round.proofs.Taken.{AllTaken}
 
 -- the items in reverse, before the earlier ones
 abbrev pub onto : List Item → List Item → List Item
@@ -90,16 +90,6 @@ section_words field (NumberWord word ∷ items) earlier numbers opened =
 section_words field (LineEnd ∷ items) earlier numbers opened = section_words field items (LineEnd ∷ earlier) numbers opened
 
 -- ---- no row applies to the words
-
--- each word is taken at its place, one after the other
-abbrev pub AllTaken : ℕ → (List (List ℕ) → Place) → List (List ℕ) → List (List ℕ) → Type 0
-AllTaken n place before [] = Unit {0}
-AllTaken n place before (word ∷ words) = (word_fault n (place before) word ≡ None) × AllTaken n place (before ++ word ∷ []) words
-
-pub taken-append : (n : ℕ) (place : List (List ℕ) → Place) (before xs ys : List (List ℕ)) → AllTaken n place before xs → AllTaken n place (before ++ xs) ys → AllTaken n place before (xs ++ ys)
-taken-append n place before [] ys first second = subst (λ (ws : List (List ℕ)). AllTaken n place ws ys) (append-nil before) second
-taken-append n place before (x ∷ xs) ys first second =
-    (first.0, taken-append n place (before ++ x ∷ []) xs ys first.1 (subst (λ (ws : List (List ℕ)). AllTaken n place ws ys) (sym (append_assoc before (x ∷ []) xs)) second))
 
 word_row : (earlier : List Item) (word : List ℕ) (f : Field) → open_section earlier ≡ Some f
     → row_of earlier (NumberWord word) ≡ word_fault (nodes_of earlier) (place_in (spatial_after earlier) f (nodes_of earlier) (words_of f earlier)) word

@@ -7,7 +7,7 @@ use Rattle.std.proofs.lemmas.Bool.{false≢true}
 use Rattle.tsp_value.specs.declared.field.Field.{Field}
 use Rattle.tsp_value.specs.declared.field.Field.TheVariants.{CommentKey, OtherKey, DimensionKey, NodeCoordPart}
 use Rattle.tsp_value.specs.declared.field.Shape.{Shape}
-use Rattle.tsp_value.specs.declared.field.Shape.TheVariants.{Numbers, Points, SpacePoints, Depots, Pairs, Weights, Tours, Triples}
+use Rattle.tsp_value.specs.declared.field.Shape.TheVariants.{Numbers, Points, SpacePoints, Depots, Pairs, Weights, Tours, Triples, Combs, Steps}
 use Rattle.tsp_value.specs.declared.keyword.Keyword.TheVariants.{Known}
 use Rattle.tsp_value.specs.Limits.{most_nodes, most_matrix_nodes, most_line_bytes}
 use Rattle.tsp_value.specs.Shapes.{shape_of, is_section_field}
@@ -29,7 +29,8 @@ use Rattle.tsp_read.proofs.ValidSections.{same_field_is}
 use Rattle.tsp_read.specs.Cuts.{is_one_line}
 use Rattle.tsp_round.proofs.Text.{Writes, line_written, both_written, number_words, are_numbers}
 use Rattle.tsp_round.proofs.Numbers.{NumberLaws}
-use Rattle.tsp_round.proofs.Onto.{onto, value_kept, values_kept, others_kept, no_end_line, other_words, section_words, AllTaken, words_clean}
+use Rattle.tsp_round.proofs.Onto.{onto, value_kept, values_kept, others_kept, no_end_line, other_words, section_words, words_clean}
+use Rattle.tsp_round.proofs.Taken.{AllTaken}
 use Rattle.tsp_round.proofs.Shapes.{Entries, entries_in, are_valid, lines_for, words_for, text_for, text_by, fit_for, fits_by, is_writable, body}
 use Rattle.tsp_round.proofs.Space.{space_written}
 use Rattle.tsp_round.proofs.Sections.{has_nodes, no_line_yet}
@@ -65,13 +66,15 @@ by_shape : (f : Fields) (field : Field) → is_section_field field ≡ true → 
 by_shape f = by_section (ByShape f)
     (refl, refl, entries_there f (spatial f), points_writable (spatial f), refl, refl) (refl, refl, refl, refl, refl, refl) (refl, refl, refl, refl, refl, refl) (refl, refl, refl, refl, refl, refl)
     (refl, refl, refl, refl, refl, refl) (refl, refl, refl, refl, refl, refl) (refl, refl, refl, refl, refl, refl) (refl, refl, refl, refl, refl, refl)
-    (refl, refl, refl, refl, refl, refl) (refl, refl, refl, refl, refl, refl) (refl, refl, refl, refl, refl, refl)
+    (refl, refl, refl, refl, refl, refl) (refl, refl, refl, refl, refl, refl) (refl, refl, refl, refl, refl, refl) (refl, refl, refl, refl, refl, refl)
+    (refl, refl, refl, refl, refl, refl)
 
 is_plain : (field : Field) → is_section_field field ≡ true → IsPlain field
 is_plain = by_section IsPlain
     (refl, refl, refl, refl, refl, refl) (refl, refl, refl, refl, refl, refl) (refl, refl, refl, refl, refl, refl) (refl, refl, refl, refl, refl, refl)
     (refl, refl, refl, refl, refl, refl) (refl, refl, refl, refl, refl, refl) (refl, refl, refl, refl, refl, refl) (refl, refl, refl, refl, refl, refl)
-    (refl, refl, refl, refl, refl, refl) (refl, refl, refl, refl, refl, refl) (refl, refl, refl, refl, refl, refl)
+    (refl, refl, refl, refl, refl, refl) (refl, refl, refl, refl, refl, refl) (refl, refl, refl, refl, refl, refl) (refl, refl, refl, refl, refl, refl)
+    (refl, refl, refl, refl, refl, refl)
 
 -- what is known of a section with these entries, or without any
 pub record IsSection (f : Fields) (field : Field) (shape : Shape) (entries : Option (Entries shape)) : Type 0 where
@@ -128,6 +131,8 @@ are_right laws f Pairs xs items written one fit = counted laws f Pairs xs items 
 are_right laws f Weights xs items written one fit = counted laws f Weights xs items written one fit
 are_right laws f Tours xs items written one fit = record { valid = fit; few = λ e. absurd (false≢true e); known = λ e. absurd (false≢true e) }
 are_right laws f Triples xs items written one fit = counted laws f Triples xs items written one fit
+are_right laws f Combs xs items written one fit = counted laws f Combs xs items written one fit
+are_right laws f Steps xs items written one fit = counted laws f Steps xs items written one fit
 
 -- ---- the step
 

@@ -1,5 +1,5 @@
 -- Sections by their shape: their entries as they are written are read back, each word is taken at its place, and none is left to come.
-use Rattle.std.proofs.Common.{◌≡◌, ℕ, ◌*◌, ◌^◌, ◌<◌, ◌≤◌, Bool, true, false, cond, List, [], ◌∷◌, ◌++◌, length, map, refl, ap, arith, Option}
+use Rattle.std.proofs.Common.{◌≡◌, ℕ, ◌+◌, ◌*◌, ◌^◌, ◌<◌, ◌≤◌, Bool, true, false, cond, List, [], ◌∷◌, ◌++◌, length, map, refl, ap, arith, Option}
 use Rattle.std.specs.Prelude.{ℤ, ◌&&◌, ◌||◌, ◌==◌, nat_le, nat_lt, unsigned_abs, codes}
 use Rattle.std.specs.List.{list_all, list_any, flat_map, enumerate_from, sum_by}
 use Rattle.std.specs.Fmt.{decimal, signed_decimal}
@@ -8,29 +8,35 @@ use Rattle.std.proofs.lemmas.Int.{ints}
 use Rattle.tsp_number.specs.declared.decimal.Point.{Point}
 use Rattle.tsp_value.specs.declared.field.Field.{Field}
 use Rattle.tsp_value.specs.declared.field.Shape.{Shape}
-use Rattle.tsp_value.specs.declared.field.Shape.TheVariants.{Numbers, Points, SpacePoints, Depots, Pairs, Weights, Tours, Triples}
-use Rattle.tsp_value.specs.Limits.{most_nodes, most_matrix_nodes, most_weight, most_depots, most_fixed, most_multipliers, most_tour_nodes}
+use Rattle.tsp_value.specs.declared.field.Shape.TheVariants.{Numbers, Points, SpacePoints, Depots, Pairs, Weights, Tours, Triples, Combs, Steps}
+use Rattle.tsp_value.specs.Limits.{most_nodes, most_matrix_nodes, most_weight, most_depots, most_fixed, most_multipliers, most_tour_nodes, most_combs}
+use Rattle.tsp_value.specs.Steps.{Step}
 use Rattle.tsp_fields.specs.Fields.{Fields, numbers_in, points_in}
-use Rattle.tsp_fields.specs.Validity.{if_there, is_by_node, is_point, is_within, is_from_to, is_node, is_pair, is_triple, are_depots, are_fixed, are_triples, are_weights, is_tour, are_tours, with_dimension, section_fits}
-use Rattle.tsp_write.specs.Text.{section, by_node, node_list, pair_list, triple_list, point_numbers, whole_number, line_lens, matrix_lines, optional, text_of_section}
+use Rattle.tsp_fields.specs.Validity.{if_there, is_by_node, is_point, is_within, is_from_to, is_node, is_pair, is_triple, are_depots, are_fixed, are_triples, are_weights, is_tour, are_tours, are_combs, are_steps, with_dimension, section_fits}
+use Rattle.tsp_write.specs.Text.{section, by_node, node_list, pair_list, triple_list, comb_list, step_lines, point_numbers, whole_number, line_lens, matrix_lines, optional, text_of_section}
 use Rattle.tsp_items.specs.Numbers.{is_end}
 use Rattle.tsp_items.specs.Places.{PastGroups, PastEnd, Weight, PastWeights, Coordinate, Amount, DepotAfter}
 use Rattle.tsp_items.specs.Groups.{numbers_by_node, points_by_node, space_points_by_node, begun_pair, begun_triple, begun_four, number_groups, point_groups, space_point_groups, nodes_in, place_in_group, pairs_in, triples_in}
 use Rattle.tsp_items.specs.Lists.{depots_in, fixed_in, fixed_triples_in, place_in_pair, place_in_triple}
 use Rattle.tsp_items.specs.Weights.{weights_in}
 use Rattle.tsp_items.specs.Tours.{tours_in}
+use Rattle.tsp_items.specs.Combs.{combs_in}
+use Rattle.tsp_items.specs.Tree.{steps_in}
 use Rattle.tsp_items.specs.Sections.{place_by}
 use Rattle.tsp_items.specs.Spells.{wants_more}
 use Rattle.tsp_items.specs.states.CutLine.{needs_nodes, is_matrix}
 use Rattle.tsp_round.proofs.Text.{WritesWords}
 use Rattle.tsp_round.proofs.Numbers.{NumberLaws, end_ends}
-use Rattle.tsp_round.proofs.Onto.{AllTaken}
+use Rattle.tsp_round.proofs.Taken.{AllTaken}
 use Rattle.tsp_round.proofs.Lists.{pair_words, depots_taken, depots_back, fixed_taken, fixed_back, fixed_ended, weights_taken, weights_back}
 use Rattle.tsp_round.proofs.Triples.{triple_words, triples_taken, triples_back, triples_ended}
 use Rattle.tsp_round.proofs.Groups.{AreSmall, number_entry, numbers_taken, numbers_back, count_of_numbers}
 use Rattle.tsp_round.proofs.Points.{point_entry, points_taken, points_back, count_of_points}
 use Rattle.tsp_round.proofs.SpacePoints.{space_point_entry, space_points_taken, space_points_back, count_of_space_points}
 use Rattle.tsp_round.proofs.Tours.{tour_words, tours_taken, tours_back}
+use Rattle.tsp_round.proofs.CombWords.{combs_words, combs_taken, combs_back, combs_done}
+use Rattle.tsp_round.proofs.TreeWords.{step_words, steps_taken, steps_back, steps_done}
+use Rattle.tsp_round.proofs.TreeLines.{combs_written, steps_written}
 use Rattle.tsp_round.proofs.Bodies.{numbers_written, points_written, space_points_written, node_lines_written, tour_lines_written, pair_lines_written, triple_lines_written}
 use Rattle.tsp_round.proofs.Matrix.{matrix_lines_written}
 
@@ -45,6 +51,8 @@ Entries Pairs = List (ℕ × ℕ)
 Entries Weights = List ℤ
 Entries Tours = List (List ℕ)
 Entries Triples = List (ℕ × ℕ × ℤ)
+Entries Combs = List (List (List ℕ))
+Entries Steps = List Step
 
 -- the entries of a field, where the file has it
 abbrev pub entries_in : Fields → Field → (shape : Shape) → Option (Entries shape)
@@ -56,6 +64,8 @@ entries_in f field Pairs = f.fixed
 entries_in f field Weights = f.weights
 entries_in f field Tours = f.tours
 entries_in f field Triples = f.fixed_potentials
+entries_in f field Combs = f.combs
+entries_in f field Steps = f.branches
 
 -- what they are in a file of n nodes
 abbrev pub are_valid : (shape : Shape) → ℕ → Entries shape → Bool
@@ -67,6 +77,8 @@ are_valid Pairs n xs = are_fixed n xs
 are_valid Weights n xs = are_weights n xs
 are_valid Tours n xs = are_tours xs
 are_valid Triples n xs = are_triples n xs
+are_valid Combs n xs = are_combs n xs
+are_valid Steps n xs = are_steps n xs
 
 -- their lines; those of weights have these lengths
 abbrev pub lines_for : List ℕ → (shape : Shape) → Entries shape → List ℕ
@@ -78,6 +90,8 @@ lines_for lens Pairs xs = pair_list xs
 lines_for lens Weights xs = matrix_lines lens xs
 lines_for lens Tours xs = flat_map node_list xs
 lines_for lens Triples xs = triple_list xs
+lines_for lens Combs xs = comb_list xs
+lines_for lens Steps xs = step_lines xs
 
 -- the words of the lines
 abbrev pub words_for : (shape : Shape) → Entries shape → List (List ℕ)
@@ -89,6 +103,8 @@ words_for Pairs xs = flat_map pair_words xs ++ codes "-1" ∷ []
 words_for Weights xs = map signed_decimal xs
 words_for Tours xs = flat_map tour_words xs
 words_for Triples xs = flat_map triple_words xs ++ codes "-1" ∷ []
+words_for Combs xs = combs_words xs
+words_for Steps xs = flat_map step_words xs
 
 -- what words give
 abbrev pub read_for : (shape : Shape) → ℕ → List (List ℕ) → Entries shape
@@ -100,6 +116,8 @@ read_for Pairs n words = fixed_in n words
 read_for Weights n words = weights_in words
 read_for Tours n words = tours_in words
 read_for Triples n words = fixed_triples_in n words
+read_for Combs n words = combs_in n words
+read_for Steps n words = steps_in n words
 
 -- the text and the condition of a section, over these
 abbrev pub text_for : Fields → Field → (shape : Shape) → Option (Entries shape) → List ℕ
@@ -114,6 +132,8 @@ text_by f field Pairs = refl
 text_by f field Weights = refl
 text_by f field Tours = refl
 text_by f field Triples = refl
+text_by f field Combs = refl
+text_by f field Steps = refl
 
 abbrev pub fit_for : Fields → (shape : Shape) → Entries shape → Bool
 fit_for f shape xs = cond (needs_nodes shape) (with_dimension (are_valid shape) f.dimension xs) (are_valid shape 0 xs)
@@ -127,6 +147,8 @@ fits_by f field Pairs = refl
 fits_by f field Weights = refl
 fits_by f field Tours = refl
 fits_by f field Triples = refl
+fits_by f field Combs = refl
+fits_by f field Steps = refl
 
 -- ---- ranges of numbers that can be written
 
@@ -153,6 +175,10 @@ pub record IsBody (lens : List ℕ) (shape : Shape) (n : ℕ) (xs : Entries shap
 
 few_nodes : (n : ℕ) → n ≤ most_nodes → n < 2 ^ 32
 few_nodes n few = omega (arith, few)
+
+-- the indices of nodes and combs
+few_indices : (n : ℕ) → n ≤ most_nodes → n + most_combs < 2 ^ 32
+few_indices n few = omega (arith, few)
 
 depots_ended : NumberLaws → (n : ℕ) (nodes : List ℕ) → list_any (is_end n) (map decimal nodes ++ codes "-1" ∷ []) ≡ true
 depots_ended laws n [] = ap (λ b. b || false) (end_ends laws n)
@@ -256,5 +282,23 @@ body laws lens Triples writable n few xs fit =
       taken = triples_taken laws n most [] xs refl refl (omega (arith, leb-true (length xs) most_multipliers both.0)) both.1;
       back = triples_back laws n most xs both.1;
       done = ap (λ b. wants_more (cond b PastEnd (place_in_triple n (length (triples_in words)) (begun_triple words)))) (triples_ended laws n xs);
+      few = λ e. absurd (false≢true e);
+    }
+body laws lens Combs writable n few xs fit =
+    let most = few_nodes n (few refl) in
+    record {
+      written = combs_written n most xs fit;
+      taken = combs_taken laws n most xs fit;
+      back = combs_back laws n most xs fit;
+      done = combs_done laws n most xs fit;
+      few = λ e. absurd (false≢true e);
+    }
+body laws lens Steps writable n few xs fit =
+    let most = few_indices n (few refl) in
+    record {
+      written = steps_written n most xs fit;
+      taken = steps_taken laws n most xs fit;
+      back = steps_back laws n most xs fit;
+      done = steps_done laws n most xs fit;
       few = λ e. absurd (false≢true e);
     }

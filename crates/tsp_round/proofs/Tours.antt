@@ -16,7 +16,7 @@ use Rattle.tsp_items.specs.Numbers.{number, node_or_end, is_end}
 use Rattle.tsp_items.specs.Tours.{ends_tour, tour_node, tours_in, place_of_tour}
 use Rattle.tsp_round.proofs.Text.{split_at}
 use Rattle.tsp_round.proofs.Numbers.{NumberLaws, listed_back, node_goes_on, end_read, end_ends}
-use Rattle.tsp_round.proofs.Onto.{AllTaken, taken-append}
+use Rattle.tsp_round.proofs.Taken.{AllTaken, taken-append}
 use Rattle.tsp_round.proofs.Lists.{no_rows, has_room}
 
 abbrev pub tour_words : List ℕ → List (List ℕ)

@@ -17,7 +17,7 @@ use Rattle.tsp_items.specs.Lists.{before, fixed_triple, fixed_triples_in, triple
 use Rattle.tsp_items.specs.Rows.{word_fault}
 use Rattle.tsp_items.proofs.TripleWords.{triples_begin, begun_begin, firsts_begin, triples_middle, begun_middle, firsts_middle, triples_end, begun_end, firsts_end}
 use Rattle.tsp_round.proofs.Numbers.{NumberLaws, node_back, listed_back, node_goes_on, end_ends, size_from}
-use Rattle.tsp_round.proofs.Onto.{AllTaken}
+use Rattle.tsp_round.proofs.Taken.{AllTaken}
 use Rattle.tsp_round.proofs.Lists.{no_rows, ArePair, are_pair, still_open, end_taken, first_taken, second_taken}
 
 abbrev pub triple_words : ℕ × ℕ × ℤ → List (List ℕ)

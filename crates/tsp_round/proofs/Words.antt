@@ -29,6 +29,7 @@ kind_row earlier kinds.Atsp unseen = rw unseen refl
 kind_row earlier kinds.Cvrp unseen = rw unseen refl
 kind_row earlier kinds.Tour unseen = rw unseen refl
 kind_row earlier kinds.Potentials unseen = rw unseen refl
+kind_row earlier kinds.Branches unseen = rw unseen refl
 
 pub kind_whole : (value : Kind) → IsWhole (kind_word value)
 kind_whole kinds.Tsp = record { one_line = refl; begins_filled = refl; ends_filled = refl }
@@ -36,6 +37,7 @@ kind_whole kinds.Atsp = record { one_line = refl; begins_filled = refl; ends_fil
 kind_whole kinds.Cvrp = record { one_line = refl; begins_filled = refl; ends_filled = refl }
 kind_whole kinds.Tour = record { one_line = refl; begins_filled = refl; ends_filled = refl }
 kind_whole kinds.Potentials = record { one_line = refl; begins_filled = refl; ends_filled = refl }
+kind_whole kinds.Branches = record { one_line = refl; begins_filled = refl; ends_filled = refl }
 
 pub kind_back : (value : Kind) → kind_named (first_word (kind_word value)) ≡ Some value
 kind_back kinds.Tsp = refl
@@ -43,6 +45,7 @@ kind_back kinds.Atsp = refl
 kind_back kinds.Cvrp = refl
 kind_back kinds.Tour = refl
 kind_back kinds.Potentials = refl
+kind_back kinds.Branches = refl
 
 -- ---- EdgeWeightTypeKey
 

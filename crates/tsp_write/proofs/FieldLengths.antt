@@ -14,16 +14,17 @@ use Rattle.tsp_number.specs.Spelling.{spelling}
 use Rattle.tsp_number.proofs.Spelled.{spelling_short}
 use Rattle.tsp_value.specs.declared.field.Field.{Field}
 use Rattle.tsp_value.specs.declared.field.Shape.{Shape}
-use Rattle.tsp_value.specs.declared.field.Shape.TheVariants.{Numbers, Points, SpacePoints, Depots, Pairs, Weights, Tours, Triples}
+use Rattle.tsp_value.specs.declared.field.Shape.TheVariants.{Numbers, Points, SpacePoints, Depots, Pairs, Weights, Tours, Triples, Combs, Steps}
 use Rattle.tsp_value.specs.Shapes.{shape_of}
-use Rattle.tsp_value.specs.declared.field.Field.TheVariants.{NameKey, TypeKey, CommentKey, OtherKey, DimensionKey, CapacityKey, ScaleKey, EdgeWeightTypeKey, EdgeWeightFormatKey, NodeCoordTypeKey, DisplayDataTypeKey, NodeCoordPart, DisplayDataPart, DemandPart, DepotPart, FixedEdgesPart, EdgeWeightPart, TourPart, NodePotentialPart, RowPotentialPart, ColumnPotentialPart, FixedPotentialPart}
+use Rattle.tsp_value.specs.declared.field.Field.TheVariants.{NameKey, TypeKey, CommentKey, OtherKey, DimensionKey, CapacityKey, ScaleKey, EdgeWeightTypeKey, EdgeWeightFormatKey, NodeCoordTypeKey, DisplayDataTypeKey, NodeCoordPart, DisplayDataPart, DemandPart, DepotPart, FixedEdgesPart, EdgeWeightPart, TourPart, NodePotentialPart, RowPotentialPart, ColumnPotentialPart, FixedPotentialPart, CombPart, BranchPart}
 use Rattle.tsp_value.specs.Limits.{most_nodes, most_matrix_nodes, most_coordinate, most_weight, most_demand, most_capacity, most_scale, most_potential, most_comments, most_others, most_depots, most_fixed, most_multipliers, most_multiplier, most_tour_nodes}
 use Rattle.tsp_value.specs.Words.{field_word, kind_word, weight_kind_word, weight_format_word, coord_kind_word, display_kind_word, fields_in_order}
 use Rattle.tsp_fields.specs.Fields.{Fields, spatial, numbers_in, points_in}
-use Rattle.tsp_fields.specs.Validity.{if_there, with_dimension, is_kept, is_other, is_node, is_pair, is_triple, is_from_to, is_within, is_point, is_by_node, are_comments, are_others, are_depots, are_fixed, are_triples, are_weights, is_tour, are_tours, section_fits, fits}
+use Rattle.tsp_fields.specs.Validity.{if_there, with_dimension, is_kept, is_other, is_node, is_pair, is_triple, is_from_to, is_within, is_point, is_by_node, are_comments, are_others, are_depots, are_fixed, are_triples, are_weights, is_tour, are_tours, are_combs, are_steps, section_fits, fits}
 use Rattle.tsp_fields.specs.Rules.{fault_of}
-use Rattle.tsp_write.specs.Text.{line_end, keyword_line, other_line, number_line, section, by_node, node_list, pair_list, triple_list, point_numbers, whole_number, line_lens, matrix_lines, optional, text_of_section, text_of_field, text_of}
+use Rattle.tsp_write.specs.Text.{line_end, keyword_line, other_line, number_line, section, by_node, node_list, pair_list, triple_list, comb_list, step_lines, point_numbers, whole_number, line_lens, matrix_lines, optional, text_of_section, text_of_field, text_of}
 use Rattle.tsp_write.proofs.TextLengths.{within_abs, three_parts, positive_short, between_short, decimal_short, node_short, flat_short_of, by_node_short, pair_list_short, triple_list_short, node_list_short, tours_short, matrix_lines_short}
+use Rattle.tsp_write.proofs.TreeLengths.{combs_short, steps_short}
 use Rattle.tsp_write.proofs.KeywordLengths.{kept_short, other_short, keyword_short, keyword_line_short, kind_short, weight_kind_short, weight_format_short, coord_kind_short, display_kind_short}
 use Rattle.tsp_write.proofs.AllFit.{all_fit}
 
@@ -168,7 +169,8 @@ all_tours_short tours fits =
 
 -- ---- all fields
 
--- at most so many bytes; most of all are the weights, 15 for each of 5,000 * 5,000
+-- at most so many bytes; most of all are the weights, 15 for each of 5,000 * 5,000, and the differences of a tree, 25 for each of
+-- 10,000,000
 abbrev most_of : Shape → ℕ
 most_of (Numbers low high) = 2600029
 most_of Points = 8100029
@@ -178,6 +180,8 @@ most_of Pairs = 1900029
 most_of Weights = 375000029
 most_of Tours = 10000029
 most_of Triples = 3300029
+most_of Combs = 10030032
+most_of Steps = 269000034
 
 abbrev most_bytes : Field → ℕ
 most_bytes NameKey = 4004
@@ -202,6 +206,8 @@ shape_short f field Tours short one fit =
     optional_short are_tours (λ tours. section field (flat_map node_list tours)) 10000029
     (λ tours fits. section_short field (flat_map node_list tours) 10000000 (all_tours_short tours fits)) f.tours fit
 shape_short f field Triples short one fit = section_of_short field are_triples triple_list 3300000 triples_short f.dimension f.fixed_potentials one fit
+shape_short f field Combs short one fit = section_of_short field are_combs comb_list 10030003 combs_short f.dimension f.combs one fit
+shape_short f field Steps short one fit = section_of_short field are_steps step_lines 269000005 steps_short f.dimension f.branches one fit
 
 dimension_line_short : (n : ℕ) → is_node most_nodes n ≡ true → length (keyword_line DimensionKey (decimal n)) ≤ 60
 dimension_line_short n fits = keyword_line_short DimensionKey (decimal n) (omega (arith, decimal_short n (dimension_short n fits)))
@@ -254,9 +260,11 @@ field_short f fit NodePotentialPart = shape_short f NodePotentialPart (Numbers (
 field_short f fit RowPotentialPart = shape_short f RowPotentialPart (Numbers (neg_ℤ (pos most_potential)) (pos most_potential)) refl (fit DimensionKey) (fit RowPotentialPart)
 field_short f fit ColumnPotentialPart = shape_short f ColumnPotentialPart (Numbers (neg_ℤ (pos most_potential)) (pos most_potential)) refl (fit DimensionKey) (fit ColumnPotentialPart)
 field_short f fit FixedPotentialPart = shape_short f FixedPotentialPart Triples refl (fit DimensionKey) (fit FixedPotentialPart)
+field_short f fit CombPart = shape_short f CombPart Combs refl (fit DimensionKey) (fit CombPart)
+field_short f fit BranchPart = shape_short f BranchPart Steps refl (fit DimensionKey) (fit BranchPart)
 
-pub text_short : (f : Fields) → fault_of f ≡ None → length (text_of f) < 500000000
+pub text_short : (f : Fields) → fault_of f ≡ None → length (text_of f) < 750000000
 text_short f none =
     let fields = sum_by-le-sum_by (λ field. length (text_of_field f field)) most_bytes fields_in_order (field_short f (all_fit f none)) in
-    let total : sum_by most_bytes fields_in_order ≤ 430000000 = omega arith in
+    let total : sum_by most_bytes fields_in_order ≤ 710000000 = omega arith in
     omega (arith, length-append (flat_map (text_of_field f) fields_in_order) (codes "EOF" ++ line_end), length-flat_map (text_of_field f) fields_in_order, fields, total)

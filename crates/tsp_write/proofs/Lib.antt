@@ -3,3 +3,4 @@ pub mod FieldLengths
 pub mod KeywordLengths
 pub mod Matrices
 pub mod TextLengths
+pub mod TreeLengths

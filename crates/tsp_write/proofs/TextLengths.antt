@@ -107,7 +107,7 @@ node_list_short fits short nodes all =
     let line : ℕ → List ℕ = λ node. number_line (decimal node) [] in
     ended_short fits line 7 (λ node fit. omega (arith, length-append (decimal node) line_end, short node fit)) nodes all
 
-line_of_two_short : (a b : List ℕ) → (length a ≤ 6) × (length b ≤ 6) → length (number_line a (b ∷ [])) ≤ 14
+pub line_of_two_short : (a b : List ℕ) → (length a ≤ 6) × (length b ≤ 6) → length (number_line a (b ∷ [])) ≤ 14
 line_of_two_short a b short =
     omega (arith, length-append a (flat_map (λ (text : List ℕ). 32 ∷ text) (b ∷ []) ++ line_end), length-append (32 ∷ b) [], length-append ((32 ∷ b) ++ []) line_end, short.0, short.1)
 

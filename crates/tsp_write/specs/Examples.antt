@@ -7,6 +7,7 @@ use Rattle.tsp_value.specs.declared.kinds.CoordKind.TheVariants as coord_kinds
 use Rattle.tsp_value.specs.declared.kinds.DisplayKind.TheVariants as display_kinds
 use Rattle.tsp_value.specs.declared.layout.Layout.TheVariants.{LowerDiagRow}
 use Rattle.tsp_value.specs.declared.field.Field.{Field}
+use Rattle.tsp_value.specs.Steps.{Branch, Leaf}
 use Rattle.tsp_number.specs.Distances.{on_plane}
 use Rattle.tsp_fields.specs.Fields.{Fields, blank_fields}
 use Rattle.tsp_write.specs.Text.{text_of_field}
@@ -35,6 +36,8 @@ small = record blank_fields {
   row_potentials = Some (pos 1 ∷ pos 2 ∷ []);
   column_potentials = Some (pos 3 ∷ pos 4 ∷ []);
   fixed_potentials = Some ((1, 2, pos 7) ∷ []);
+  combs = Some (((1 ∷ 2 ∷ 3 ∷ []) ∷ (1 ∷ 4 ∷ []) ∷ []) ∷ ((2 ∷ []) ∷ []) ∷ []);
+  branches = Some (Branch 1 2 ∷ Leaf ((2, pos 1) ∷ (7, negsuc 2) ∷ []) ∷ Leaf [] ∷ []);
 }
 
 -- a node in space, which is shown on a plane
@@ -49,6 +52,10 @@ spatial_node = record blank_fields {
 -- two tours of two nodes
 abbrev pub two_tours : Fields
 two_tours = record blank_fields { kind = Some kinds.Tour; dimension = Some 2; tours = Some ((2 ∷ 1 ∷ []) ∷ (1 ∷ []) ∷ []) }
+
+-- no combs
+abbrev pub without_combs : Fields
+without_combs = record blank_fields { combs = Some [] }
 
 -- the text of the field in the small file
 abbrev pub IsWritten : Field → List ℕ → Type 0

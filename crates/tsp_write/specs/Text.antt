@@ -11,11 +11,12 @@ use Rattle.tsp_value.specs.declared.kinds.WeightFormat.TheVariants.{Listed}
 use Rattle.tsp_value.specs.declared.field.Field.{Field}
 use Rattle.tsp_value.specs.declared.field.Field.TheVariants.{NameKey, TypeKey, CommentKey, OtherKey, DimensionKey, CapacityKey, ScaleKey, EdgeWeightTypeKey, EdgeWeightFormatKey, NodeCoordTypeKey, DisplayDataTypeKey}
 use Rattle.tsp_value.specs.declared.field.Shape.{Shape}
-use Rattle.tsp_value.specs.declared.field.Shape.TheVariants.{Numbers, Points, SpacePoints, Depots, Pairs, Weights, Tours, Triples}
+use Rattle.tsp_value.specs.declared.field.Shape.TheVariants.{Numbers, Points, SpacePoints, Depots, Pairs, Weights, Tours, Triples, Combs, Steps}
 use Rattle.tsp_value.specs.Shapes.{shape_of}
 use Rattle.tsp_value.specs.Words.{field_word, kind_word, weight_kind_word, weight_format_word, coord_kind_word, display_kind_word}
 use Rattle.tsp_value.specs.Words.{fields_in_order}
 use Rattle.tsp_value.specs.Cells.{nodes_to, cells_of_line}
+use Rattle.tsp_value.specs.Steps.{Step, Branch, Leaf}
 use Rattle.tsp_fields.specs.Fields.{Fields, spatial, numbers_in, points_in}
 
 -- ---- lines
@@ -44,6 +45,14 @@ other_line other = value_line other.0 other.1
 abbrev pub number_line : List ℕ → List (List ℕ) → List ℕ
 number_line first more = first ++ (flat_map (λ word. 32 ∷ word) more ++ line_end)
 
+-- a word and the blank after it
+abbrev pub before_blank : List ℕ → List ℕ
+before_blank word = word ++ (32 ∷ [])
+
+-- some words and then -1, all in one line
+abbrev pub ended_line : List (List ℕ) → List ℕ
+ended_line words = flat_map before_blank words ++ (codes "-1" ++ line_end)
+
 -- ---- sections
 
 -- the section's line, then its number lines
@@ -70,6 +79,31 @@ pair_list pairs = ended (flat_map (λ pair. number_line (decimal pair.0) (decima
 abbrev pub triple_list : List (ℕ × ℕ × ℤ) → List ℕ
 triple_list triples =
     ended (flat_map (λ triple. number_line (decimal triple.0) (decimal triple.1 ∷ signed_decimal triple.2 ∷ [])) triples)
+
+-- the nodes of a set in one line, then -1
+abbrev pub set_line : List ℕ → List ℕ
+set_line set = ended_line (map decimal set)
+
+-- a line for each set of a comb, then the line -1
+abbrev pub comb_lines : List (List ℕ) → List ℕ
+comb_lines comb = ended (flat_map set_line comb)
+
+-- all combs, then one more line -1
+abbrev pub comb_list : List (List (List ℕ)) → List ℕ
+comb_list combs = ended (flat_map comb_lines combs)
+
+-- the index of a number, and its difference
+abbrev pub change_words : ℕ × ℤ → List (List ℕ)
+change_words change = decimal change.0 ∷ signed_decimal change.1 ∷ []
+
+-- the pair of a branch; of a leaf 0, its differences and -1
+abbrev pub step_line : Step → List ℕ
+step_line (Branch first second) = number_line (decimal first) (decimal second ∷ [])
+step_line (Leaf changes) = ended_line (codes "0" ∷ flat_map change_words changes)
+
+-- a line for each step; the tree is whole where they end, so that no -1 ends it
+abbrev pub step_lines : List Step → List ℕ
+step_lines steps = flat_map step_line steps
 
 -- the coordinates of a point, three in space and two in the plane
 abbrev pub point_numbers : Bool → Point → List (List ℕ)
@@ -114,6 +148,8 @@ text_of_section f field Weights =
     optional (λ weights. section field (matrix_lines (line_lens f.weight_format f.dimension) weights)) f.weights
 text_of_section f field Tours = optional (λ tours. section field (flat_map node_list tours)) f.tours
 text_of_section f field Triples = optional (λ triples. section field (triple_list triples)) f.fixed_potentials
+text_of_section f field Combs = optional (λ combs. section field (comb_list combs)) f.combs
+text_of_section f field Steps = optional (λ steps. section field (step_lines steps)) f.branches
 
 -- the text of a field
 abbrev pub text_of_field : Fields → Field → List ℕ

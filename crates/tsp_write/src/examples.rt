@@ -5,7 +5,7 @@ ghost use Rattle.std.specs.Prelude.{◌≡◌, [], codes};
 ghost use Rattle.tsp_value.specs.declared.field.Field.TheVariants as fields;
 ghost use Rattle.tsp_fields.specs.Fields.{blank_fields};
 ghost use Rattle.tsp_write.specs.Text.{text_of, text_of_field};
-ghost use Rattle.tsp_write.specs.Examples.{IsWritten, spatial_node, two_tours};
+ghost use Rattle.tsp_write.specs.Examples.{IsWritten, spatial_node, two_tours, without_combs};
 
 /// The lines of keywords.
 pub fn examples_of_lines()
@@ -36,6 +36,9 @@ pub fn examples_of_sections()
     ensures row_potentials { IsWritten fields.RowPotentialPart (codes "ROW_POTENTIAL_SECTION\n1 1\n2 2\n") }
     ensures column_potentials { IsWritten fields.ColumnPotentialPart (codes "COLUMN_POTENTIAL_SECTION\n1 3\n2 4\n") }
     ensures fixed_potentials { IsWritten fields.FixedPotentialPart (codes "FIXED_EDGE_POTENTIAL_SECTION\n1 2 7\n-1\n") }
+    ensures combs { IsWritten fields.CombPart (codes "COMB_SECTION\n1 2 3 -1\n1 4 -1\n-1\n2 -1\n-1\n-1\n") }
+    ensures branches { IsWritten fields.BranchPart (codes "BRANCH_SECTION\n1 2\n0 2 1 7 -3 -1\n0 -1\n") }
+    ensures no_combs { text_of_field without_combs fields.CombPart ≡ codes "COMB_SECTION\n-1\n" }
     ensures in_space { text_of_field spatial_node fields.NodeCoordPart ≡ codes "NODE_COORD_SECTION\n1 1.5 0 -2\n" }
     ensures shown { text_of_field spatial_node fields.DisplayDataPart ≡ codes "DISPLAY_DATA_SECTION\n1 0 1\n" }
     ensures missing { text_of_field blank_fields fields.TourPart ≡ [] }

@@ -5,9 +5,10 @@ ghost use Rattle.tsp_fields.specs.Fields.{Fields};
 ghost use Rattle.tsp_fields.specs.Rules.{fault_of};
 ghost use Rattle.tsp_write.specs.Text.{text_of};
 
-/// The canonical text of every valid file has fewer than 500,000,000 bytes. This follows from the
+/// The canonical text of every valid file has fewer than 750,000,000 bytes. This follows from the
 /// limits of this project's profile: the most that a file can hold is a matrix of 5,000 * 5,000
-/// weights, each of at most 14 bytes and one after it.
+/// weights, each of at most 14 bytes and one after it, and a tree with 10,000,000 differences, each
+/// with its index in at most 25 bytes.
 pub fn a_valid_text_is_short()
-    ensures { (f : Fields) → fault_of f ≡ None → length (text_of f) < 500000000 }
+    ensures { (f : Fields) → fault_of f ≡ None → length (text_of f) < 750000000 }
 {}

@@ -10,6 +10,7 @@ ghost use Rattle.tsp_write.specs.Text.{text_of, text_of_field, text_of_section};
 mod keywords;
 mod matrix;
 mod sections;
+mod tree;
 
 use crate::writer::keywords::{put_comments, put_name, put_others, put_whole, put_word};
 use crate::writer::matrix::put_weight_section;
@@ -17,6 +18,7 @@ use crate::writer::sections::{
     put_node_section, put_number_section, put_pair_section, put_point_section, put_tour_section,
     put_triple_section,
 };
+use crate::writer::tree::{put_comb_section, put_step_section};
 use std::alloc::Global;
 use std::io::Write;
 use tsp_fields::{Draft, File};
@@ -119,5 +121,7 @@ fn put_section<W: Write>(
         ),
         Shape::Tours => put_tour_section(piece, out, field, &draft.tours),
         Shape::Triples => put_triple_section(piece, out, field, &draft.fixed_potentials),
+        Shape::Combs => put_comb_section(piece, out, field, &draft.combs),
+        Shape::Steps => put_step_section(piece, out, field, &draft.branches),
     }
 }

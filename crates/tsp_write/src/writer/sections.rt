@@ -76,7 +76,12 @@ fn put_node_line<W: Write>(piece: &mut Piece, out: &mut Watched<W>, node: u32)
 }
 
 /// Adds the line of a pair of nodes.
-fn put_pair_line<W: Write>(piece: &mut Piece, out: &mut Watched<W>, first: u32, second: u32)
+pub(crate) fn put_pair_line<W: Write>(
+    piece: &mut Piece,
+    out: &mut Watched<W>,
+    first: u32,
+    second: u32,
+)
     ensures { Puts W.contents out.old piece.old out.new piece.new
         (number_line (decimal first) (decimal second ∷ [])) }
 {

@@ -48,6 +48,18 @@ pub returns-clause-fixed_potentials : goal.returns-clause-fixed_potentials
 unfolding digits decimals nodes_to cells_of_line
 returns-clause-fixed_potentials c = search rules
 
+pub returns-clause-combs : goal.returns-clause-combs
+unfolding digits decimals nodes_to cells_of_line
+returns-clause-combs c = search rules
+
+pub returns-clause-branches : goal.returns-clause-branches
+unfolding digits decimals nodes_to cells_of_line
+returns-clause-branches c = search rules
+
+pub returns-clause-no_combs : goal.returns-clause-no_combs
+unfolding digits decimals nodes_to cells_of_line
+returns-clause-no_combs c = search rules
+
 pub returns-clause-in_space : goal.returns-clause-in_space
 unfolding digits decimals nodes_to cells_of_line
 returns-clause-in_space c = search rules

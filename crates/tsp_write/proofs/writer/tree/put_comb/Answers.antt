@@ -1,0 +1,15 @@
+use Rattle.std.proofs.Common.{map, arith}
+use Rattle.std.specs.Prelude.{codes}
+use Rattle.std.specs.List.{flat_map}
+use Rattle.tsp_write.specs.Text.{set_line}
+use Rattle.tsp_stream.specs.Way.{way_of}
+use Rattle.tsp_stream.proofs.Carrying.{carried_then, carried_mapped}
+use Rattle.tsp_write.proofs.writer.tree.put_comb.Goals as goal
+
+pub returns : goal.returns
+returns g c =
+    let start = way_of g.W.Write.contents c.args.out.now c.args.piece.now.items in
+    let after_sets = way_of g.W.Write.contents c.sets.out c.sets.piece.items in
+    let last = way_of g.W.Write.contents c.put.new.out c.put.new.piece.items in
+    carried_then start after_sets last (flat_map set_line (map (λ set. set.items) c.args.comb.now)) (codes "-1\n")
+    (carried_mapped set_line (λ set. set.items) c.args.comb.now c.sets.set-index start after_sets (omega arith) c.sets.invariant) c.put.ensures
