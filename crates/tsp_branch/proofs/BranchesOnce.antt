@@ -2,16 +2,16 @@
 use Rattle.std.proofs.Common.{◌≡◌, ◌∙◌, ℕ, suc, ◌+◌, ◌<◌, ◌≤◌, ◌||◌, Bool, true, false, List, [], ◌∷◌, ◌++◌, drop, length, get_or, ℤ}
 use Rattle.std.proofs.Common.{inl, inr, refl, ap, ap₂, sym, subst, add-one}
 use Rattle.std.specs.Prelude.{reverse, None, Some}
-use Rattle.std.specs.Global.{Vec}
 use Rattle.std.specs.List.{All, AllByRecursion, list_any}
 use Rattle.std.proofs.lemmas.Bool.{both_ways, cases_Bool, or_left}
 use Rattle.std.proofs.lemmas.List.{reverse-append, drop_all}
 use Rattle.std.proofs.lemmas.List.Elements.{All-from_recursion}
 use Rattle.std.proofs.lemmas.List.Folds.{list_any-append, list_any_at}
 use Rattle.std.proofs.lemmas.List.Kept.{AllPairs-cons}
+use Rattle.tsp_value.specs.declared.steps.TreeStep.{TreeStep}
+use Rattle.tsp_value.specs.Steps as listed
+use Rattle.tsp_value.specs.Steps.{step_of, steps_of}
 use Rattle.tsp_bound.specs.Adjusted.{is_same_pair}
-use Rattle.tsp_branch.specs.declared.steps.TreeStep.{TreeStep}
-use Rattle.tsp_branch.specs.declared.steps.TreeStep.TheVariants as listed
 use Rattle.tsp_branch.specs.Decisions.{Decision, DecideOnce}
 use Rattle.tsp_branch.specs.Cases.{decide, leaves_of, cases_of, later_cases, open_cases, next_stack}
 use Rattle.tsp_branch.specs.Decided.{case_of, stack_of}
@@ -58,31 +58,35 @@ decided_as_given given stack pair on in_given is h own =
 
 -- ---- the cases of the leaves, whatever their numbers
 
-abbrev pub listed_cases : List (List Decision) → List TreeStep → List (List Decision)
+abbrev pub listed_cases : List (List Decision) → List listed.Step → List (List Decision)
 listed_cases [] steps = []
 listed_cases (case ∷ cases) [] = []
 listed_cases (case ∷ cases) (listed.Branch a b ∷ steps) = listed_cases (decide (a, b) true case ∷ decide (a, b) false case ∷ cases) steps
 listed_cases (case ∷ cases) (listed.Leaf changes ∷ steps) = case ∷ listed_cases cases steps
 
-told_cases : (n : ℕ) (numbers : List ℤ) (cases : List (List Decision)) (steps : List TreeStep) → cases_of (leaves_of cases (steps_from n numbers steps)) ≡ listed_cases cases steps
+told_cases : (n : ℕ) (numbers : List ℤ) (cases : List (List Decision)) (steps : List listed.Step) → cases_of (leaves_of cases (steps_from n numbers steps)) ≡ listed_cases cases steps
 told_cases n numbers [] steps = refl
 told_cases n numbers (case ∷ cases) [] = refl
 told_cases n numbers (case ∷ cases) (listed.Branch a b ∷ steps) = told_cases n numbers (decide (a, b) true case ∷ decide (a, b) false case ∷ cases) steps
-told_cases n numbers (case ∷ cases) (listed.Leaf changes ∷ steps) = ap (λ (cs : List (List Decision)). case ∷ cs) (told_cases n (all_grown changes.items numbers) cases steps)
+told_cases n numbers (case ∷ cases) (listed.Leaf changes ∷ steps) = ap (λ (cs : List (List Decision)). case ∷ cs) (told_cases n (all_grown changes numbers) cases steps)
 
-pub no_branch_twice : (given : List Decision) (steps : List TreeStep) → AllByRecursion DecideOnce (listed_cases (given ∷ []) steps) → AreBranchesJudged given steps None
-no_branch_twice given steps once = λ n combs. subst (All DecideOnce) (sym (told_cases n (no_numbers_of n combs) (given ∷ []) steps))
-    (All-from_recursion DecideOnce (listed_cases (given ∷ []) steps) once)
+pub no_branch_twice : (given : List Decision) (steps : List listed.Step) → ((first : ℕ) → IsFirstTwiceFrom 0 (given ∷ []) steps first → ⊥) → AllByRecursion DecideOnce (listed_cases (given ∷ []) steps)
+    → AreBranchesJudged given steps None
+no_branch_twice given steps none once = (
+  none,
+  λ n combs. subst (All DecideOnce) (sym (told_cases n (no_numbers_of n combs) (given ∷ []) steps)) (All-from_recursion DecideOnce (listed_cases (given ∷ []) steps) once),
+)
 
 -- ---- one pass
 
-pub record IsOnceSoFar (given : List Decision) (all : List TreeStep) (stack : List Decision) (branch : ℕ) (steps : List TreeStep) : Type 0 where
+pub record IsOnceSoFar (given : List Decision) (all : List listed.Step) (stack : List Decision) (branch : ℕ) (steps : List listed.Step) : Type 0 where
   pub each : AllByRecursion DecideOnce (open_cases given (Some stack))
   pub once : AllByRecursion DecideOnce (listed_cases (open_cases given (Some stack)) steps) → AllByRecursion DecideOnce (listed_cases (given ∷ []) all)
   pub twice : (first : ℕ) → IsFirstTwiceFrom branch (open_cases given (Some stack)) steps first → IsFirstTwiceFrom 0 (given ∷ []) all first
+  pub left : (first : ℕ) → IsFirstTwiceFrom 0 (given ∷ []) all first → IsFirstTwiceFrom branch (open_cases given (Some stack)) steps first
 
-pub once_at_start : (given : List Decision) (all : List TreeStep) → DecideOnce given → IsOnceSoFar given all [] 0 all
-once_at_start given all h = record { each = (h, tt); once = λ rest. rest; twice = λ first rest. rest }
+pub once_at_start : (given : List Decision) (all : List listed.Step) → DecideOnce given → IsOnceSoFar given all [] 0 all
+once_at_start given all h = record { each = (h, tt); once = λ rest. rest; twice = λ first rest. rest; left = λ first rest. rest }
 
 -- a decision more on another pair
 once_more : (case : List Decision) (pair : ℕ × ℕ) (taken : Bool) → is_decided case pair ≡ false → DecideOnce case → DecideOnce (decide pair taken case)
@@ -93,23 +97,28 @@ once_more case pair taken none h = AllPairs-cons (λ (a b : Decision). is_same_p
     ]) h
 
 pub once_next : (given : List Decision) (all : List TreeStep) (stack : List Decision) (branch index : ℕ) (step other : TreeStep) → index < length all → step ≡ get_or all index step → step ≡ other
-    → IsOnceSoFar given all stack branch (drop index all) → IsOnceSoFar given all stack branch (other ∷ drop (index + 1) all)
+    → IsOnceSoFar given (steps_of all) stack branch (steps_of (drop index all)) → IsOnceSoFar given (steps_of all) stack branch (step_of other ∷ steps_of (drop (index + 1) all))
 once_next given all stack branch index step other lt is same h =
-    subst (IsOnceSoFar given all stack branch) (left_at all index step lt is ∙ ap (λ (s : TreeStep). s ∷ drop (index + 1) all) same) h
+    subst (λ (steps : List TreeStep). IsOnceSoFar given (steps_of all) stack branch (steps_of steps))
+    (left_at all index step lt is ∙ ap (λ (s : TreeStep). s ∷ drop (index + 1) all) same) h
 
-pub once_at_branch : (given : List Decision) (all : List TreeStep) (stack : List Decision) (branch a b : ℕ) (steps : List TreeStep) → IsOnceSoFar given all stack branch (listed.Branch a b ∷ steps)
-    → is_decided (stack ++ given) (a, b) ≡ false → IsOnceSoFar given all (decide (a, b) true stack) (suc branch) steps
+pub once_at_branch : (given : List Decision) (all : List listed.Step) (stack : List Decision) (branch a b : ℕ) (steps : List listed.Step)
+    → IsOnceSoFar given all stack branch (listed.Branch a b ∷ steps) → is_decided (stack ++ given) (a, b) ≡ false → IsOnceSoFar given all (decide (a, b) true stack) (suc branch) steps
 once_at_branch given all stack branch a b steps h none = record {
   each = (once_more (stack ++ given) (a, b) true none h.each.0, (once_more (stack ++ given) (a, b) false none h.each.0, h.each.1));
   once = h.once;
   twice = λ first rest. h.twice first (inr (none, rest));
+  left = λ first all_of. elim (h.left first all_of) [
+    | inl here ↦ absurd (both_ways (is_decided (stack ++ given) (a, b)) none here.1)
+    | inr rest ↦ rest.1
+  ];
 }
 
-pub twice_here : (given : List Decision) (all : List TreeStep) (stack : List Decision) (branch a b : ℕ) (steps : List TreeStep) → IsOnceSoFar given all stack branch (listed.Branch a b ∷ steps)
-    → is_decided (stack ++ given) (a, b) ≡ true → IsFirstTwiceFrom 0 (given ∷ []) all (suc branch)
+pub twice_here : (given : List Decision) (all : List listed.Step) (stack : List Decision) (branch a b : ℕ) (steps : List listed.Step)
+    → IsOnceSoFar given all stack branch (listed.Branch a b ∷ steps) → is_decided (stack ++ given) (a, b) ≡ true → IsFirstTwiceFrom 0 (given ∷ []) all (suc branch)
 twice_here given all stack branch a b steps h is = h.twice (suc branch) (inl (refl, is))
 
-pub once_pushed : (given : List Decision) (all : List TreeStep) (items read pushed : List (ℕ × ℕ × Bool)) (branch a b : ℕ) (steps : List TreeStep) (found : Bool)
+pub once_pushed : (given : List Decision) (all : List listed.Step) (items read pushed : List (ℕ × ℕ × Bool)) (branch a b : ℕ) (steps : List listed.Step) (found : Bool)
     → IsOnceSoFar given all (stack_of items) branch (listed.Branch a b ∷ steps) → read ≡ items → found ≡ is_decided (stack_of read ++ given) (a, b) → found ≡ false
     → pushed ≡ items ++ (a, b, true) ∷ [] → IsOnceSoFar given all (stack_of pushed) (branch + 1) steps
 once_pushed given all items read pushed branch a b steps found h same is none more =
@@ -117,7 +126,7 @@ once_pushed given all items read pushed branch a b steps found h same is none mo
     subst (λ (st : List Decision). IsOnceSoFar given all st (branch + 1) steps) (sym (stack_more items (a, b, true)) ∙ ap stack_of (sym more))
     (subst (λ (k : ℕ). IsOnceSoFar given all (decide (a, b) true (stack_of items)) k steps) (sym (add-one branch)) (once_at_branch given all (stack_of items) branch a b steps h not_decided))
 
-pub twice_found : (given : List Decision) (all : List TreeStep) (items read : List (ℕ × ℕ × Bool)) (branch a b : ℕ) (steps : List TreeStep) (found : Bool)
+pub twice_found : (given : List Decision) (all : List listed.Step) (items read : List (ℕ × ℕ × Bool)) (branch a b : ℕ) (steps : List listed.Step) (found : Bool)
     → IsOnceSoFar given all (stack_of items) branch (listed.Branch a b ∷ steps) → read ≡ items → found ≡ is_decided (stack_of read ++ given) (a, b) → found ≡ true
     → IsFirstTwiceFrom 0 (given ∷ []) all (branch + 1)
 twice_found given all items read branch a b steps found h same is on =
@@ -125,7 +134,7 @@ twice_found given all items read branch a b steps found h same is on =
     (ap (λ (xs : List (ℕ × ℕ × Bool)). is_decided (stack_of xs ++ given) (a, b)) (sym same) ∙ sym is ∙ on))
 
 -- after a leaf, with a case that is open, and with none; and where no step is left
-pub once_at_leaf : (given : List Decision) (all : List TreeStep) (stack : List Decision) (branch : ℕ) (changes : Vec (ℕ × ℤ)) (steps : List TreeStep) (next : List Decision)
+pub once_at_leaf : (given : List Decision) (all : List listed.Step) (stack : List Decision) (branch : ℕ) (changes : List (ℕ × ℤ)) (steps : List listed.Step) (next : List Decision)
     → IsOnceSoFar given all stack branch (listed.Leaf changes ∷ steps) → next_stack stack ≡ Some next → IsOnceSoFar given all next branch steps
 once_at_leaf given all stack branch changes steps next h turned =
     let later : later_cases given stack ≡ open_cases given (Some next) = sym (stacks_hold_cases given stack) ∙ ap (open_cases given) turned in
@@ -133,16 +142,19 @@ once_at_leaf given all stack branch changes steps next h turned =
       each = subst (AllByRecursion DecideOnce) later h.each.1;
       once = λ rest. h.once (h.each.0, subst (λ (cs : List (List Decision)). AllByRecursion DecideOnce (listed_cases cs steps)) (sym later) rest);
       twice = λ first rest. h.twice first (subst (λ (cs : List (List Decision)). IsFirstTwiceFrom branch cs steps first) (sym later) rest);
+      left = λ first all_of. subst (λ (cs : List (List Decision)). IsFirstTwiceFrom branch cs steps first) later (h.left first all_of);
     }
 
-pub once_at_last : (given : List Decision) (all : List TreeStep) (stack : List Decision) (branch : ℕ) (changes : Vec (ℕ × ℤ)) (steps : List TreeStep)
+pub once_at_last : (given : List Decision) (all : List listed.Step) (stack : List Decision) (branch : ℕ) (changes : List (ℕ × ℤ)) (steps : List listed.Step)
     → IsOnceSoFar given all stack branch (listed.Leaf changes ∷ steps) → next_stack stack ≡ None → AreBranchesJudged given all None
 once_at_last given all stack branch changes steps h turned =
     let none : later_cases given stack ≡ [] = sym (stacks_hold_cases given stack) ∙ ap (open_cases given) turned in
-    no_branch_twice given all (h.once (h.each.0, subst (λ (cs : List (List Decision)). AllByRecursion DecideOnce (listed_cases cs steps)) (sym none) tt))
+    no_branch_twice given all (λ first all_of. subst (λ (cs : List (List Decision)). IsFirstTwiceFrom branch cs steps first) none (h.left first all_of))
+    (h.once (h.each.0, subst (λ (cs : List (List Decision)). AllByRecursion DecideOnce (listed_cases cs steps)) (sym none) tt))
 
-pub once_at_end : (given : List Decision) (all : List TreeStep) (stack : List Decision) (branch index : ℕ) → IsOnceSoFar given all stack branch (drop index all) → length all ≤ index
-    → AreBranchesJudged given all None
+pub once_at_end : (given : List Decision) (all : List TreeStep) (stack : List Decision) (branch index : ℕ) → IsOnceSoFar given (steps_of all) stack branch (steps_of (drop index all))
+    → length all ≤ index → AreBranchesJudged given (steps_of all) None
 once_at_end given all stack branch index h past =
-    let none : IsOnceSoFar given all stack branch [] = subst (IsOnceSoFar given all stack branch) (drop_all index all past) h in
-    no_branch_twice given all (none.once tt)
+    let none : IsOnceSoFar given (steps_of all) stack branch [] =
+    subst (λ (steps : List TreeStep). IsOnceSoFar given (steps_of all) stack branch (steps_of steps)) (drop_all index all past) h in
+    no_branch_twice given (steps_of all) none.left (none.once tt)

@@ -41,7 +41,8 @@ changed_by (d ∷ ds) w i j =
 pub case_weight : (w : ℕ → ℕ → ℤ) (scale : ℤ) (potentials multipliers : List ℤ) (sets : List (ℕ × List ℕ)) (given stack : List (ℕ × ℕ × Bool)) (cost : ℕ → ℕ → ℤ) (i j : ℕ)
     → All (λ set. set.0 < length multipliers) sets → w i j ≡ set_weight scale potentials multipliers sets cost i j
     → decided_twice given stack w i j
-    ≡ leaf_weight scale potentials (on_taken decided_number (stack_of stack ++ case_of given)) (on_avoided decided_number (stack_of stack ++ case_of given)) (multiplied (combs_of (length multipliers) sets) multipliers) cost i j
+    ≡ leaf_weight scale potentials (on_taken decided_number (stack_of stack ++ case_of given)) (on_avoided decided_number (stack_of stack ++ case_of given))
+    (multiplied (combs_of (length multipliers) sets) multipliers) cost i j
 case_weight w scale potentials multipliers sets given stack cost i j below is =
     let case : List Decision = stack_of stack ++ case_of given in
     let v : ℕ → ℕ → ℤ = set_weight scale potentials multipliers sets cost in
@@ -74,7 +75,8 @@ small_multipliers n combs potentials ms good =
     let own = All-from_recursion (λ m. IsFromTo (pos 0) (total ms) m) ms each k default lt in
     (own.0, let most = own.1 in let sum = good.sum in omega (arith, ints, most, sum))
 
-pub few_crossings : (n combs : ℕ) (potentials multipliers : List ℤ) (sets : List (ℕ × List ℕ)) → AreGoodNumbers n combs (numbers_of potentials multipliers) → All (IsComb n) (combs_of (length multipliers) sets)
+pub few_crossings : (n combs : ℕ) (potentials multipliers : List ℤ) (sets : List (ℕ × List ℕ)) → AreGoodNumbers n combs (numbers_of potentials multipliers) → All (IsComb n)
+    (combs_of (length multipliers) sets)
     → All (λ set. set.0 < length multipliers) sets → AreFewCrossings multipliers sets
 few_crossings n combs potentials ms sets good are below = λ i j.
     let few = combs_crossed_few n (combs_of (length ms) sets) ms i j (recursion_from_All (IsComb n) (combs_of (length ms) sets) are) (recursion_from_All (λ m. pos 0 ≤ℤ m) ms good.signs) in

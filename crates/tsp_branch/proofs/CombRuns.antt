@@ -88,8 +88,9 @@ plain_within combs [] h = tt
 plain_within combs (set ∷ sets) h = (h.0, plain_within combs sets h.1)
 
 pub all_good : (n combs : ℕ) (sets : List (ℕ × Vec ℕ)) → All (λ set. set.0 < combs) sets → ((comb : ℕ) → comb < combs → IsGoodComb n (of_comb comb (plain sets)))
-    → All (IsComb n) (combs_of combs (plain sets)) × All (λ set. HasEachOnce set.1) (plain sets)
+    → AreCombsJudged n combs (plain sets) None
 all_good n combs sets within good = (
+  good,
   All-from_recursion (IsComb n) (combs_of combs (plain sets)) (combs_all n 0 combs (plain sets) (λ comb lt. good comb (omega (arith, lt)))),
   All-from_recursion (λ (set : ℕ × List ℕ). HasEachOnce set.1) (plain sets)
       (once_all combs (plain sets) (plain_within combs sets (recursion_from_All (λ (set : ℕ × Vec ℕ). set.0 < combs) sets within)) (λ comb lt. (good comb lt).once)),
@@ -131,4 +132,4 @@ pub sets_judged : (n combs : ℕ) (sets : List (ℕ × Vec ℕ)) (found : Option
 sets_judged n combs sets found judged none within =
     let good = subst (AreCombsJudged n combs (plain sets)) none judged in
     All-from_recursion (λ (set : ℕ × Vec ℕ). (set.0 < combs) × HasEachOnce set.1.items) sets
-    (both_known combs sets (recursion_from_All (λ (set : ℕ × Vec ℕ). set.0 < combs) sets within) (recursion_from_All (λ (set : ℕ × List ℕ). HasEachOnce set.1) (plain sets) good.1))
+    (both_known combs sets (recursion_from_All (λ (set : ℕ × Vec ℕ). set.0 < combs) sets within) (recursion_from_All (λ (set : ℕ × List ℕ). HasEachOnce set.1) (plain sets) good.2))

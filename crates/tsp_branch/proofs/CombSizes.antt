@@ -76,7 +76,8 @@ three_at_most (pos m) crossed some low high =
 pub combs_crossed_few : (n : ℕ) (combs : List Comb) (multipliers : List ℤ) (i j : ℕ) → AllByRecursion (IsComb n) combs → AllByRecursion (λ multiplier. pos 0 ≤ℤ multiplier) multipliers
     → (pos 0 ≤ℤ total multipliers) × (pos 0 ≤ℤ crossings_of (multiplied combs multipliers) i j) × (crossings_of (multiplied combs multipliers) i j ≤ℤ (pos 3 *ℤ total multipliers))
 combs_crossed_few n [] [] i j are signs = (omega (arith, ints), omega (arith, ints), omega (arith, ints))
-combs_crossed_few n [] (m ∷ ms) i j are signs = let rest = combs_crossed_few n [] ms i j are signs.1 in (omega (arith, ints, rest.0, signs.0), omega (arith, ints), omega (arith, ints, rest.0, signs.0))
+combs_crossed_few n [] (m ∷ ms) i j are signs = let rest = combs_crossed_few n [] ms i j are signs.1 in
+    (omega (arith, ints, rest.0, signs.0), omega (arith, ints), omega (arith, ints, rest.0, signs.0))
 combs_crossed_few n (comb ∷ combs) [] i j are signs = (omega (arith, ints), omega (arith, ints), omega (arith, ints))
 combs_crossed_few n (comb ∷ combs) (m ∷ ms) i j are signs =
     let rest = combs_crossed_few n combs ms i j are.1 signs.1 in

@@ -82,7 +82,8 @@ pub all_summed : (g : List ℕ → ℤ) (ms : List ℤ) (sets : List (ℕ × Lis
 all_summed g ms [] h = none_summed g 0 ms
 all_summed g ms (set ∷ sets) h = one_set g 0 set.0 ms set sets (omega arith) h.0 ∙ ap (λ z. (get_or ms set.0 (pos 0) *ℤ g set.1) +ℤ z) (all_summed g ms sets h.1)
 
-combs_crossed : (first : ℕ) (ms : List ℤ) (sets : List (ℕ × List ℕ)) (i j : ℕ) → crossings_of (multiplied (combs_from first (length ms) sets) ms) i j ≡ by_comb (λ set. crossing (has set) i j) first ms sets
+combs_crossed : (first : ℕ) (ms : List ℤ) (sets : List (ℕ × List ℕ)) (i j : ℕ) → crossings_of (multiplied (combs_from first (length ms) sets) ms) i j ≡ by_comb
+    (λ set. crossing (has set) i j) first ms sets
 combs_crossed first [] sets i j = refl
 combs_crossed first (m ∷ ms) sets i j = ap₂ (λ a b. (m *ℤ a) +ℤ b) (comb_crossed (of_comb first sets) i j) (combs_crossed (suc first) ms sets i j)
 

@@ -24,7 +24,8 @@ pub sum_held : (index : ℕ) (number change from : ℤ) → index < 2 ^ 32 → I
     → to_z w128 (of_z w128 (to_z w128 (of_z w128 number) +ℤ to_z w128 (of_z w128 from))) ≡ number +ℤ change
 sum_held index number change from few h fits is = omega (arith, ints, few, h.0, h.1, fits, is)
 
-pub more_sized : (index place : ℕ) (numbers : List ℤ) (sum number change : ℤ) → AreSized index numbers → place < length numbers → number ≡ get_or numbers place (pos 0) → FitsSigned w64 change → sum ≡ number +ℤ change
+pub more_sized : (index place : ℕ) (numbers : List ℤ) (sum number change : ℤ) → AreSized index numbers → place < length numbers → number ≡ get_or numbers place (pos 0)
+    → FitsSigned w64 change → sum ≡ number +ℤ change
     → AreSized (index + 1) (set numbers place sum)
 more_sized index place numbers sum number change sized lt is fits sum_is k = elim (cases_eq k place) [
   | inl same ↦

@@ -27,3 +27,4 @@ pub mod Teeth
 pub mod CombRuns
 pub mod BranchesOnce
 pub mod SmallVerdicts
+pub mod CostRows

@@ -1,13 +1,11 @@
 -- One pass over the steps, with a stack of decisions.
 use Rattle.std.proofs.Common.{◌≡◌, ◌∙◌, ℕ, suc, Bool, true, false, List, [], ◌∷◌, ◌++◌, length, ℤ, ◌≤ℤ◌, inl, inr, refl, ap, sym, subst, arith}
 use Rattle.std.specs.Prelude.{◌⊎◌, Option, Some, None, IfSome}
-use Rattle.std.specs.Global.{Vec}
 use Rattle.std.specs.List.{All, Any, AllByRecursion}
 use Rattle.std.proofs.lemmas.Bool.{both_ways}
 use Rattle.std.proofs.lemmas.Int.{ints}
 use Rattle.std.proofs.lemmas.List.Elements.{recursion_from_All, All-from_recursion}
-use Rattle.tsp_branch.specs.declared.steps.TreeStep.{TreeStep}
-use Rattle.tsp_branch.specs.declared.steps.TreeStep.TheVariants as listed
+use Rattle.tsp_value.specs.Steps as listed
 use Rattle.tsp_branch.specs.Combs.{Comb, IsComb}
 use Rattle.tsp_branch.specs.Decisions.{Decision, DecideOnce}
 use Rattle.tsp_branch.specs.Cases.{LeafNumbers, are_trees, decide, leaves_of, cases_of, later_cases, open_cases, next_stack}
@@ -38,7 +36,8 @@ some_same a b e = ap (from_some a) e
     from_some d None = d
 
 closed : (n : ℕ) (cost : ℕ → ℕ → ℤ) (scale : ℤ) (combs : List Comb) (known : Option ℤ) (leaf : List Decision × LeafNumbers) (leaves : List (List Decision × LeafNumbers)) (own lowest bound : ℤ)
-    → IsBoundAt n cost scale decided_number combs leaf own → IsLowest known own lowest → IsLeastFrom n cost scale combs (Some lowest) leaves bound → IsLeastFrom n cost scale combs known (leaf ∷ leaves) bound
+    → IsBoundAt n cost scale decided_number combs leaf own → IsLowest known own lowest
+    → IsLeastFrom n cost scale combs (Some lowest) leaves bound → IsLeastFrom n cost scale combs known (leaf ∷ leaves) bound
 closed n cost scale combs known leaf leaves own lowest bound is low h = record {
   below = ((own, is, let most = low.at_most in let less = h.known_above in omega (arith, ints, most, less)), h.below);
   known_above = lower_still known low.below;
@@ -59,12 +58,12 @@ closed n cost scale combs known leaf leaves own lowest bound is low h = record {
 
 -- ---- at a step
 
-abbrev open_leaves : ℕ → List ℤ → List Decision → List (ℕ × ℕ × Bool) → List TreeStep → List (List Decision × LeafNumbers)
+abbrev open_leaves : ℕ → List ℤ → List Decision → List (ℕ × ℕ × Bool) → List listed.Step → List (List Decision × LeafNumbers)
 open_leaves n numbers given stack steps = leaves_of (open_cases given (Some (stack_of stack))) (steps_from n numbers steps)
 
 -- what is left to do from a step on, and that it settles the whole
-pub record IsAtStep (n : ℕ) (cost : ℕ → ℕ → ℤ) (scale : ℤ) (combs : List Comb) (count : ℕ) (given : List Decision) (all : List TreeStep) (numbers : List ℤ) (stack : List (ℕ × ℕ × Bool)) (lowest : Option ℤ)
-    (leaf : ℕ) (steps : List TreeStep) : Type 0 where
+pub record IsAtStep (n : ℕ) (cost : ℕ → ℕ → ℤ) (scale : ℤ) (combs : List Comb) (count : ℕ) (given : List Decision) (all : List listed.Step) (numbers : List ℤ)
+    (stack : List (ℕ × ℕ × Bool)) (lowest : Option ℤ) (leaf : ℕ) (steps : List listed.Step) : Type 0 where
   pub least : (bound : ℤ) → IsLeastFrom n cost scale combs lowest (open_leaves n numbers given stack steps) bound
       → IsLeastFrom n cost scale combs None (leaves_of (given ∷ []) (listed_steps n count all)) bound
   pub whole : are_trees (length (open_cases given (Some (stack_of stack)))) (steps_from n numbers steps) ≡ true
@@ -72,7 +71,7 @@ pub record IsAtStep (n : ℕ) (cost : ℕ → ℕ → ℤ) (scale : ℤ) (combs 
   pub bad : (first : ℕ) → IsFirstBadFrom n count numbers leaf steps first → IsFirstBadFrom n count (no_numbers_of n count) 0 all first
   pub once : AllByRecursion DecideOnce (cases_of (open_leaves n numbers given stack steps))
 
-pub at_start : (n : ℕ) (cost : ℕ → ℕ → ℤ) (scale : ℤ) (combs : List Comb) (count : ℕ) (given : List Decision) (all : List TreeStep) → are_trees 1 (listed_steps n count all) ≡ true
+pub at_start : (n : ℕ) (cost : ℕ → ℕ → ℤ) (scale : ℤ) (combs : List Comb) (count : ℕ) (given : List Decision) (all : List listed.Step) → are_trees 1 (listed_steps n count all) ≡ true
     → All DecideOnce (cases_of (leaves_of (given ∷ []) (listed_steps n count all)))
     → IsAtStep n cost scale combs count given all (no_numbers_of n count) [] None 0 all
 at_start n cost scale combs count given all whole once = record {
@@ -83,8 +82,8 @@ at_start n cost scale combs count given all whole once = record {
   once = recursion_from_All DecideOnce (cases_of (leaves_of (given ∷ []) (listed_steps n count all))) once;
 }
 
-pub at_branch : (n : ℕ) (cost : ℕ → ℕ → ℤ) (scale : ℤ) (combs : List Comb) (count : ℕ) (given : List Decision) (all : List TreeStep) (numbers : List ℤ) (stack : List (ℕ × ℕ × Bool)) (lowest : Option ℤ) (leaf a b : ℕ)
-    (steps : List TreeStep) → IsAtStep n cost scale combs count given all numbers stack lowest leaf (listed.Branch a b ∷ steps)
+pub at_branch : (n : ℕ) (cost : ℕ → ℕ → ℤ) (scale : ℤ) (combs : List Comb) (count : ℕ) (given : List Decision) (all : List listed.Step) (numbers : List ℤ)
+    (stack : List (ℕ × ℕ × Bool)) (lowest : Option ℤ) (leaf a b : ℕ) (steps : List listed.Step) → IsAtStep n cost scale combs count given all numbers stack lowest leaf (listed.Branch a b ∷ steps)
     → IsAtStep n cost scale combs count given all numbers (stack ++ (a, b, true) ∷ []) lowest leaf steps
 at_branch n cost scale combs count given all numbers stack lowest leaf a b steps h =
     let same = sym (stack_more stack (a, b, true)) in
@@ -97,13 +96,14 @@ at_branch n cost scale combs count given all numbers stack lowest leaf a b steps
       once = subst (λ (st : List Decision). AllByRecursion DecideOnce (cases_of (leaves_of (open_cases given (Some st)) (steps_from n numbers steps)))) same h.once;
     }
 
-pub at_leaf : (n : ℕ) (cost : ℕ → ℕ → ℤ) (scale : ℤ) (combs : List Comb) (count : ℕ) (given : List Decision) (all : List TreeStep) (numbers : List ℤ) (stack : List (ℕ × ℕ × Bool)) (lowest : Option ℤ) (leaf : ℕ)
-    (changes : Vec (ℕ × ℤ)) (steps : List TreeStep) (next : List (ℕ × ℕ × Bool)) (own new : ℤ) → IsAtStep n cost scale combs count given all numbers stack lowest leaf (listed.Leaf changes ∷ steps)
-    → IsGoodLeaf n count numbers changes.items → IsBoundAt n cost scale decided_number combs (stack_of stack ++ given, split_at n (all_grown changes.items numbers)) own → IsLowest lowest own new
-    → next_stack (stack_of stack) ≡ Some (stack_of next) → IsAtStep n cost scale combs count given all (all_grown changes.items numbers) next (Some new) (suc leaf) steps
+pub at_leaf : (n : ℕ) (cost : ℕ → ℕ → ℤ) (scale : ℤ) (combs : List Comb) (count : ℕ) (given : List Decision) (all : List listed.Step) (numbers : List ℤ)
+    (stack : List (ℕ × ℕ × Bool)) (lowest : Option ℤ) (leaf : ℕ) (changes : List (ℕ × ℤ)) (steps : List listed.Step) (next : List (ℕ × ℕ × Bool)) (own new : ℤ)
+    → IsAtStep n cost scale combs count given all numbers stack lowest leaf (listed.Leaf changes ∷ steps)
+    → IsGoodLeaf n count numbers changes → IsBoundAt n cost scale decided_number combs (stack_of stack ++ given, split_at n (all_grown changes numbers)) own → IsLowest lowest own new
+    → next_stack (stack_of stack) ≡ Some (stack_of next) → IsAtStep n cost scale combs count given all (all_grown changes numbers) next (Some new) (suc leaf) steps
 at_leaf n cost scale combs count given all numbers stack lowest leaf changes steps next own new h good is low turned =
     let later : later_cases given (stack_of stack) ≡ open_cases given (Some (stack_of next)) = sym (stacks_hold_cases given (stack_of stack)) ∙ ap (open_cases given) turned in
-    let ns : List ℤ = all_grown changes.items numbers in
+    let ns : List ℤ = all_grown changes numbers in
     record {
       least = λ bound least. h.least bound
           (closed n cost scale combs lowest (stack_of stack ++ given, split_at n ns) (leaves_of (later_cases given (stack_of stack)) (steps_from n ns steps)) own new bound is low
@@ -116,12 +116,12 @@ at_leaf n cost scale combs count given all numbers stack lowest leaf changes ste
 
 -- ---- at the last leaf
 
-none_left : (n count : ℕ) (numbers : List ℤ) (steps : List TreeStep) → are_trees 0 (steps_from n numbers steps) ≡ true → AreGoodFrom n count numbers steps
+none_left : (n count : ℕ) (numbers : List ℤ) (steps : List listed.Step) → are_trees 0 (steps_from n numbers steps) ≡ true → AreGoodFrom n count numbers steps
 none_left n count numbers [] h = tt
 none_left n count numbers (listed.Branch a b ∷ steps) h = absurd (both_ways false refl h)
 none_left n count numbers (listed.Leaf changes ∷ steps) h = absurd (both_ways false refl h)
 
-leaf_numbers : (n count : ℕ) (numbers : List ℤ) (steps : List TreeStep) (cases : List (List Decision)) → AreGoodFrom n count numbers steps
+leaf_numbers : (n count : ℕ) (numbers : List ℤ) (steps : List listed.Step) (cases : List (List Decision)) → AreGoodFrom n count numbers steps
     → AllByRecursion (λ leaf. AreLeafNumbers n leaf.1) (leaves_of cases (steps_from n numbers steps))
 leaf_numbers n count numbers steps [] good = tt
 leaf_numbers n count numbers [] (case ∷ cases) good = tt
@@ -129,18 +129,20 @@ leaf_numbers n count numbers (listed.Branch a b ∷ steps) (case ∷ cases) good
     leaf_numbers n count numbers steps (decide (a, b) true case ∷ decide (a, b) false case ∷ cases) good
 leaf_numbers n count numbers (listed.Leaf changes ∷ steps) (case ∷ cases) good = (
   record { each_node = good.0.numbers_are.each_node; signs = good.0.numbers_are.signs },
-  leaf_numbers n count (all_grown changes.items numbers) steps cases good.1,
+  leaf_numbers n count (all_grown changes numbers) steps cases good.1,
 )
 
-pub at_last : (n : ℕ) (cost : ℕ → ℕ → ℤ) (scale : ℤ) (combs : List Comb) (count : ℕ) (given : List Decision) (all : List TreeStep) (numbers : List ℤ) (stack : List (ℕ × ℕ × Bool)) (lowest : Option ℤ) (leaf : ℕ)
-    (changes : Vec (ℕ × ℤ)) (steps : List TreeStep) (own new : ℤ) → IsAtStep n cost scale combs count given all numbers stack lowest leaf (listed.Leaf changes ∷ steps)
+pub at_last : (n : ℕ) (cost : ℕ → ℕ → ℤ) (scale : ℤ) (combs : List Comb) (count : ℕ) (given : List Decision) (all : List listed.Step) (numbers : List ℤ)
+    (stack : List (ℕ × ℕ × Bool)) (lowest : Option ℤ) (leaf : ℕ) (changes : List (ℕ × ℤ)) (steps : List listed.Step) (own new : ℤ)
+    → IsAtStep n cost scale combs count given all numbers stack lowest leaf (listed.Leaf changes ∷ steps)
     → All (IsComb n) combs → are_trees 1 (listed_steps n count all) ≡ true
-    → IsGoodLeaf n count numbers changes.items → IsBoundAt n cost scale decided_number combs (stack_of stack ++ given, split_at n (all_grown changes.items numbers)) own → IsLowest lowest own new
+    → IsGoodLeaf n count numbers changes → IsBoundAt n cost scale decided_number combs (stack_of stack ++ given, split_at n (all_grown changes numbers)) own → IsLowest lowest own new
     → next_stack (stack_of stack) ≡ None
-    → IsCertificate n combs given (listed_steps n count all) × IsCertificateBound n cost scale decided_number combs given (listed_steps n count all) new × AreGoodFrom n count (no_numbers_of n count) all
+    → IsCertificate n combs given (listed_steps n count all) × IsCertificateBound n cost scale decided_number combs given (listed_steps n count all) new
+    × AreGoodFrom n count (no_numbers_of n count) all
 at_last n cost scale combs count given all numbers stack lowest leaf changes steps own new h are whole good is low turned =
     let none : later_cases given (stack_of stack) ≡ [] = sym (stacks_hold_cases given (stack_of stack)) ∙ ap (open_cases given) turned in
-    let ns : List ℤ = all_grown changes.items numbers in
+    let ns : List ℤ = all_grown changes numbers in
     let left = subst (λ (cs : List (List Decision)). are_trees (length cs) (steps_from n ns steps) ≡ true) none h.whole in
     let all_good = h.good (good, none_left n count ns steps left) in
     let leaves = leaves_of (given ∷ []) (listed_steps n count all) in

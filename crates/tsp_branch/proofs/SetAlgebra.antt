@@ -76,7 +76,8 @@ one_set false false m = omega (arith, ints)
 abbrev pub AreFrom : List (ℕ × List ℕ) → ℕ → List (ℕ × Vec ℕ) → Type 0
 AreFrom all first sets = (k : ℕ) (set : ℕ × Vec ℕ) → k < length sets → set ≡ get_or sets k set → get_or all (first + k) (0, []) ≡ (set.0, set.1.items)
 
-pub sets_come_to : (multipliers : List ℤ) (all : List (ℕ × List ℕ)) (first : ℕ) (sets : List (ℕ × Vec ℕ)) (i x : ℕ) → AreFrom all first sets → AllByRecursion (λ set. (set.0 < length multipliers) × AllPairs (λ a b. a ≢ b) set.1.items) sets
+pub sets_come_to : (multipliers : List ℤ) (all : List (ℕ × List ℕ)) (first : ℕ) (sets : List (ℕ × Vec ℕ)) (i x : ℕ) → AreFrom all first sets → AllByRecursion
+    (λ set. (set.0 < length multipliers) × AllPairs (λ a b. a ≢ b) set.1.items) sets
     → (neg_ℤ (multipliers_at multipliers (plain sets) i) +ℤ neg_ℤ (multipliers_at multipliers (plain sets) x)) +ℤ inside_both multipliers all (sets_with first sets i) x
     ≡ neg_ℤ (set_crossings multipliers (plain sets) i x)
 sets_come_to multipliers all first [] i x are once = omega (arith, ints)
@@ -121,11 +122,13 @@ times_below bound number (node ∷ nodes) x h = elim (cases_Bool (node == x)) [
 pub sets_below : (bound first : ℕ) (sets : List (ℕ × Vec ℕ)) (x : ℕ) → first + length sets ≤ bound → AllByRecursion (λ n. n < bound) (sets_with first sets x)
 sets_below bound first [] x h = tt
 sets_below bound first (set ∷ sets) x h =
-    both_all (λ n. n < bound) (times first set.1.items x) (sets_with (suc first) sets x) (times_below bound first set.1.items x (omega (arith, h))) (sets_below bound (suc first) sets x (omega (arith, h)))
+    both_all (λ n. n < bound) (times first set.1.items x) (sets_with (suc first) sets x) (times_below bound first set.1.items x (omega (arith, h)))
+    (sets_below bound (suc first) sets x (omega (arith, h)))
 
 -- ---- sums in 64 bits
 
-pub apart_is : (scaled p q a b m k both result : ℤ) → int_wrap w64 m ≡ int_wrap w64 (p +ℤ neg_ℤ a) → int_wrap w64 k ≡ int_wrap w64 (q +ℤ neg_ℤ b) → both ≡ int_wrap w64 (m +ℤ k) → result ≡ int_wrap w64 (scaled +ℤ both)
+pub apart_is : (scaled p q a b m k both result : ℤ) → int_wrap w64 m ≡ int_wrap w64 (p +ℤ neg_ℤ a) → int_wrap w64 k ≡ int_wrap w64 (q +ℤ neg_ℤ b) → both ≡ int_wrap w64 (m +ℤ k)
+    → result ≡ int_wrap w64 (scaled +ℤ both)
     → result ≡ int_wrap w64 ((scaled +ℤ (p +ℤ q)) +ℤ (neg_ℤ a +ℤ neg_ℤ b))
 apart_is scaled p q a b m k both result m_is k_is both_is result_is =
     let first : scaled +ℤ (m +ℤ k) ≡ m +ℤ (scaled +ℤ k) = omega (arith, ints) in

@@ -49,8 +49,8 @@ abbrev pub set_weight : ℤ → List ℤ → List ℤ → List (ℕ × List ℕ)
 set_weight scale potentials multipliers sets cost i j =
     weight_between scale potentials cost i j -ℤ set_crossings multipliers sets i j
 
--- how often two nodes cross the sets at most, and how large a weight is: no two teeth of a comb have a node in common, so that two
--- nodes cross three sets of each comb at most
+-- how often two nodes cross the sets at most, and how large a weight is: no two teeth of a comb have a node in common, so that
+-- two nodes cross three sets of each comb at most
 abbrev pub most_crossed : ℕ
 most_crossed = 3 * most_multiplied
 

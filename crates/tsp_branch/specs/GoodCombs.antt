@@ -27,7 +27,8 @@ pub record IsFirstBadComb (n combs : ℕ) (sets : List (ℕ × List ℕ)) (first
 
 -- Where no comb is bad, the sets are those of combs, each with its nodes once; else the first bad one is told.
 abbrev pub AreCombsJudged : ℕ → ℕ → List (ℕ × List ℕ) → Option ℕ → Type 0
-AreCombsJudged n combs sets None = All (IsComb n) (combs_of combs sets) × All (λ set. HasEachOnce set.1) sets
+AreCombsJudged n combs sets None = ((comb : ℕ) → comb < combs → IsGoodComb n (of_comb comb sets))
+    × All (IsComb n) (combs_of combs sets) × All (λ set. HasEachOnce set.1) sets
 AreCombsJudged n combs sets (Some first) = IsFirstBadComb n combs sets first
 
 -- the sets are told comb by comb

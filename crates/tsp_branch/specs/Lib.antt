@@ -11,6 +11,7 @@ pub mod Combed
 pub mod CombsOfSets
 pub mod Judged
 pub mod GoodCombs
+pub mod Tabled
 pub mod Twice
 pub mod Marked
 pub mod Listed

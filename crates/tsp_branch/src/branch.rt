@@ -1,15 +1,16 @@
 //! The bound of a certificate by branching.
 
-ghost use Rattle.std.specs.Prelude.{◌≡◌, ◌≢◌, ◌≤◌, ◌<◌, ◌^◌, ◌++◌, length, IfOk};
+ghost use Rattle.std.specs.Prelude.{◌≡◌, ◌≢◌, ◌≤◌, ◌<◌, ◌^◌, ◌++◌, length, IfOk, IfSome};
 ghost use Rattle.std.specs.List.{All, AllPairs};
-ghost use Rattle.tsp_bound.specs.Numbers.{IsScale};
+ghost use Rattle.tsp_value.specs.Steps.{steps_of};
+ghost use Rattle.tsp_bound.specs.Numbers.{IsScale, IsBoundSized};
 ghost use Rattle.tsp_branch.specs.Combs.{IsComb};
 ghost use Rattle.tsp_branch.specs.Decisions.{DecideOnce};
 ghost use Rattle.tsp_branch.specs.Sets.{AreSetsOf};
 ghost use Rattle.tsp_branch.specs.Combed.{plain};
 ghost use Rattle.tsp_branch.specs.CombsOfSets.{combs_of};
 ghost use Rattle.tsp_branch.specs.Decided.{IsDecision, case_of, stack_of};
-ghost use Rattle.tsp_branch.specs.Listed.{no_numbers_of, listed_steps, AreSteps, IsJudged, BoundsWalks, IsLowest};
+ghost use Rattle.tsp_branch.specs.Listed.{no_numbers_of, listed_steps, AreSteps, IsJudged, BoundsWalks, IsSized, IsLowest};
 ghost use Rattle.tsp_branch.specs.Rooms.{IsRoom, AreSmall, IsJudgedLeaf};
 
 use crate::judge::judge;
@@ -19,9 +20,10 @@ use crate::room::Room;
 use crate::sets::sets_by_node;
 use crate::setting::Setting;
 use crate::stack::next_case;
-use crate::steps::{Judged, TreeStep};
+use crate::steps::Judged;
 use std::alloc::{AllocError, Global};
 use tsp_cost::Symmetric;
+use tsp_value::TreeStep;
 
 /// The bound of a tree of cases: the least of the bounds of its leaves, which is at most the length
 /// of every walk that keeps the given decisions. Or the first leaf that isn't good: one with an
@@ -53,11 +55,12 @@ pub fn branch_bound<C: Symmetric>(
     requires of_combs { All (λ set. (set.0 < combs) × AllPairs (λ a b. a ≢ b) set.1.items) sets.now }
     requires are_combs { All (IsComb (C.nodes costs.now)) (combs_of combs (plain sets.now)) }
     requires given_are { All (IsDecision (C.nodes costs.now)) given.now }
-    requires steps { AreSteps (C.nodes costs.now) (case_of given.now) steps.now
-        (listed_steps (C.nodes costs.now) combs steps.now) }
+    requires steps { AreSteps (C.nodes costs.now) (case_of given.now) (steps_of steps.now)
+        (listed_steps (C.nodes costs.now) combs (steps_of steps.now)) }
     ensures judged { IfOk result (IsJudged (C.nodes costs.now) (C.at costs.now) scale
-        (combs_of combs (plain sets.now)) combs (case_of given.now) steps.now) }
+        (combs_of combs (plain sets.now)) combs (case_of given.now) (steps_of steps.now)) }
     ensures walks { IfOk result (BoundsWalks (C.nodes costs.now) (C.at costs.now) (case_of given.now)) }
+    ensures size { IfOk result IsSized }
 {
     certificates_bound_walks();
     let count = costs.count();
@@ -86,13 +89,14 @@ fn judge_leaves<C: Symmetric>(
     requires few_steps { length steps.now < 2 ^ 32 }
     requires are_combs { All (IsComb (C.nodes setting.now.costs.now))
         (combs_of setting.now.combs (plain setting.now.sets.now)) }
-    requires steps { AreSteps (C.nodes setting.now.costs.now) (case_of setting.now.given.now) steps.now
-        (listed_steps (C.nodes setting.now.costs.now) setting.now.combs steps.now) }
+    requires steps { AreSteps (C.nodes setting.now.costs.now) (case_of setting.now.given.now)
+        (steps_of steps.now) (listed_steps (C.nodes setting.now.costs.now) setting.now.combs (steps_of steps.now)) }
     requires room { IsRoom (C.nodes setting.now.costs.now) setting.now.combs room }
     requires start { room.numbers.items ≡ no_numbers_of (C.nodes setting.now.costs.now) setting.now.combs }
-    ensures { IfOk result (IsJudged (C.nodes setting.now.costs.now) (C.at setting.now.costs.now)
+    ensures judged { IfOk result (IsJudged (C.nodes setting.now.costs.now) (C.at setting.now.costs.now)
         setting.now.scale (combs_of setting.now.combs (plain setting.now.sets.now)) setting.now.combs
-        (case_of setting.now.given.now) steps.now) }
+        (case_of setting.now.given.now) (steps_of steps.now)) }
+    ensures size { IfOk result IsSized }
 {
     let mut stack: Vec<(u32, u32, bool)> = Vec::new(alloc);
     let mut lowest = None;
@@ -139,6 +143,7 @@ fn judge_leaf<C: Symmetric>(
         (stack_of decisions.now ++ case_of setting.now.given.now) room.old.numbers.items changes.now
         room.new.numbers.items) }
     ensures room { IfOk result (λ own. IsRoom (C.nodes setting.now.costs.now) setting.now.combs room.new) }
+    ensures size { IfOk result (λ own. IfSome own IsBoundSized) }
 {
     if !add_differences(&mut room.numbers, changes) {
         return Ok(None);

@@ -1,7 +1,6 @@
 //! A small comb and small trees, on which the definitions are evaluated.
 
-ghost use Rattle.std.specs.Prelude.{◌≡◌, ℕ, ℤ, [], ◌∷◌, pos, ◌-ℤ◌, ◌+ℤ◌};
-ghost use Rattle.std.specs.Global.{Vec};
+ghost use Rattle.std.specs.Prelude.{◌≡◌, ℕ, ℤ, List, [], ◌∷◌, pos, ◌-ℤ◌, ◌+ℤ◌};
 ghost use Rattle.tsp_branch.specs.Combs.{least_crossings};
 ghost use Rattle.tsp_branch.specs.Cases.{Branch, Leaf};
 ghost use Rattle.tsp_branch.specs.Examples.{small_comb, Crosses, CrossesInAll, large, no_numbers, one_at_two, WeighsAt, WeighsUnderComb, four_rows, six_rows, LengthIs, FourHave, SixHave, IsTreeOf, IsNoTree, with_pair, without_pair};
@@ -73,6 +72,6 @@ pub fn examples_of_verdicts()
     ensures again { TwiceAt [] (branches 1 2 1 2) 2 }
     ensures again_turned { TwiceAt [] (branches 1 2 2 1) 2 }
     ensures given { TwiceAt (with_pair 3 4 ∷ []) (branches 1 2 4 3) 2 }
-    ensures without_it { (changes : Vec (ℕ × ℤ)) → TwiceAt [] (branches_apart 1 2 1 2 changes) 2 }
-    ensures sides { (changes : Vec (ℕ × ℤ)) → TwiceAt [] (on_both_sides changes) 4 }
+    ensures without_it { (changes : List (ℕ × ℤ)) → TwiceAt [] (branches_apart 1 2 1 2 changes) 2 }
+    ensures sides { (changes : List (ℕ × ℤ)) → TwiceAt [] (on_both_sides changes) 4 }
 {}

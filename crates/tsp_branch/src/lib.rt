@@ -24,6 +24,7 @@ mod setting;
 mod spokes;
 mod stack;
 mod steps;
+mod table;
 mod tree;
 mod twice;
 mod verdict;
@@ -46,7 +47,8 @@ pub use laws::{
 pub use leaf::leaf_bound;
 pub use node_weights::NodeWeights;
 pub use stack::next_case;
-pub use steps::{BranchVerdict, Judged, TreeStep};
+pub use steps::{BranchVerdict, Judged};
+pub use table::CostTable;
 pub use tree::least_weight;
 pub use twice::first_twice;
 pub use verdict::judge_branches;

@@ -1,14 +1,15 @@
 //! Which branch comes twice.
 
 ghost use Rattle.std.specs.Prelude.{◌≡◌, ◌++◌, IfOk};
+ghost use Rattle.tsp_value.specs.Steps.{steps_of};
 ghost use Rattle.tsp_bound.specs.Adjusted.{is_same_pair};
 ghost use Rattle.tsp_branch.specs.Decisions.{DecideOnce};
 ghost use Rattle.tsp_branch.specs.Decided.{case_of, stack_of};
 ghost use Rattle.tsp_branch.specs.Twice.{is_decided, AreBranchesJudged};
 
 use crate::stack::next_case;
-use crate::steps::TreeStep;
 use std::alloc::{AllocError, Global};
+use tsp_value::TreeStep;
 
 /// The first branch on a pair that is decided above it or given, counted from 1. `None` where each
 /// case decides a pair at most once. A pair is the same in either order of its nodes.
@@ -22,7 +23,7 @@ pub fn first_twice(
     steps: &[TreeStep],
 ) -> Result<Option<usize>, AllocError>
     requires { DecideOnce (case_of given.now) }
-    ensures { IfOk result (AreBranchesJudged (case_of given.now) steps.now) }
+    ensures { IfOk result (AreBranchesJudged (case_of given.now) (steps_of steps.now)) }
 {
     let mut stack: Vec<(u32, u32, bool)> = Vec::new(alloc);
     let mut count = 0;

@@ -2,25 +2,28 @@
 
 ghost use Rattle.std.specs.Prelude.{◌≡◌, ◌≤◌, ◌<◌, ◌^◌, length, true, IfOk};
 ghost use Rattle.std.specs.List.{All};
+ghost use Rattle.tsp_value.specs.Steps.{steps_of, are_whole};
 ghost use Rattle.tsp_bound.specs.Numbers.{IsScale};
 ghost use Rattle.tsp_branch.specs.Decisions.{DecideOnce};
-ghost use Rattle.tsp_branch.specs.Cases.{are_trees};
 ghost use Rattle.tsp_branch.specs.Sets.{AreSetsOf};
+ghost use Rattle.tsp_branch.specs.Combed.{plain};
 ghost use Rattle.tsp_branch.specs.Decided.{IsDecision, case_of};
-ghost use Rattle.tsp_branch.specs.Listed.{listed_steps, IsStepOf};
+ghost use Rattle.tsp_branch.specs.Listed.{IsStepOf};
 ghost use Rattle.tsp_branch.specs.GoodCombs.{AreInOrder};
-ghost use Rattle.tsp_branch.specs.BranchVerdicts.{IsBranchVerdict, VerdictBoundsWalks};
+ghost use Rattle.tsp_branch.specs.BranchVerdicts.{IsBranchVerdict, VerdictBoundsWalks, IsSizedVerdict};
 
 use crate::branch::branch_bound;
 use crate::good_combs::first_bad_comb;
-use crate::steps::{BranchVerdict, Judged, TreeStep};
+use crate::steps::{BranchVerdict, Judged};
 use crate::twice::first_twice;
 use std::alloc::{AllocError, Global};
 use tsp_cost::Symmetric;
+use tsp_value::TreeStep;
 
 /// The verdict on a certificate by branching: the first comb that isn't one, or the first branch on
 /// a pair that is decided above it or given, or the first leaf that isn't good, or, where there is
-/// none of these, the bound. It is at most the length of every walk that keeps the given decisions.
+/// none of these, the bound. It is at most the length of every walk that keeps the given decisions,
+/// and sums with it fit 128 bits.
 ///
 /// The combs are told by their sets, each with the number of its comb from 0 on, comb by comb, the
 /// handle before the teeth. The caller owes three or more nodes, a scale of 1 to 1,000,000, sets and
@@ -48,11 +51,12 @@ pub fn judge_branches<C: Symmetric>(
     requires in_order { AreInOrder sets.now }
     requires given_are { All (IsDecision (C.nodes costs.now)) given.now }
     requires given_once { DecideOnce (case_of given.now) }
-    requires steps { All (IsStepOf (C.nodes costs.now)) steps.now }
-    requires whole { are_trees 1 (listed_steps (C.nodes costs.now) combs steps.now) ≡ true }
-    ensures verdict { IfOk result (IsBranchVerdict (C.nodes costs.now) (C.at costs.now) scale combs sets.now
-        (case_of given.now) steps.now) }
+    requires steps { All (IsStepOf (C.nodes costs.now)) (steps_of steps.now) }
+    requires whole { are_whole 1 (steps_of steps.now) ≡ true }
+    ensures verdict { IfOk result (IsBranchVerdict (C.nodes costs.now) (C.at costs.now) scale combs (plain sets.now)
+        (case_of given.now) (steps_of steps.now)) }
     ensures walks { IfOk result (VerdictBoundsWalks (C.nodes costs.now) (C.at costs.now) (case_of given.now)) }
+    ensures size { IfOk result IsSizedVerdict }
 {
     if let Some(comb) = first_bad_comb(alloc, costs.count(), combs, sets)? {
         return Ok(BranchVerdict::BadComb(comb));

@@ -24,11 +24,11 @@ use Rattle.tsp_verdict.specs.Certificate.{scale_in, potentials_in, rows_in, colu
 abbrev pub Same : (ℕ → ℕ → ℤ) → (ℕ → ℕ → ℤ) → Type 0
 Same v w = (i j : ℕ) → v i j ≡ w i j
 
-weights_same : (v w : ℕ → ℕ → ℤ) → Same v w → (pairs : List (ℕ × ℕ)) → weight_of v pairs ≡ weight_of w pairs
+pub weights_same : (v w : ℕ → ℕ → ℤ) → Same v w → (pairs : List (ℕ × ℕ)) → weight_of v pairs ≡ weight_of w pairs
 weights_same v w same [] = refl
 weights_same v w same (pair ∷ pairs) = ap₂ (λ a b. a +ℤ b) (same pair.0 pair.1) (weights_same v w same pairs)
 
-least_same : (n : ℕ) (v w : ℕ → ℕ → ℤ) → Same v w → (pairs : List (ℕ × ℕ)) → IsLeastOneTree n v pairs → IsLeastOneTree n w pairs
+pub least_same : (n : ℕ) (v w : ℕ → ℕ → ℤ) → Same v w → (pairs : List (ℕ × ℕ)) → IsLeastOneTree n v pairs → IsLeastOneTree n w pairs
 least_same n v w same pairs found = record {
   tree = found.tree;
   least = λ others tree. subst₂ (λ a b. a ≤ℤ b) (weights_same v w same pairs) (weights_same v w same others) (found.least others tree);

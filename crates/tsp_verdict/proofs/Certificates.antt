@@ -10,7 +10,7 @@ use Rattle.tsp_fields.specs.Fields.{Fields}
 use Rattle.tsp_fields.specs.Rules.{is_certificate}
 use Rattle.tsp_bound.specs.Adjusted.{pair_of, is_same_pair, AreOnPairs}
 use Rattle.tsp_verdict.specs.declared.verdict.Reason.{Reason}
-use Rattle.tsp_verdict.specs.declared.verdict.Reason.TheVariants.{TooFewNodes, NotPotentials, PotentialsDimension, PotentialsKind, MultiplierNotFixed, MultiplierRepeated, DualInfeasible, DepotCount, DepotDemand, FixedEdgesInRoutes, DepotInRoute, Unserved, Overload}
+use Rattle.tsp_verdict.specs.declared.verdict.Reason.TheVariants.{TooFewNodes, NotPotentials, PotentialsDimension, PotentialsKind, MultiplierNotFixed, MultiplierRepeated, DualInfeasible, DepotCount, DepotDemand, FixedEdgesInRoutes, DepotInRoute, Unserved, Overload, NotBranches, BranchesDimension, BadComb, BranchTwice, BadLeaf}
 use Rattle.tsp_verdict.specs.Multiplied.{AreListed, IsUnlisted, IsPairRepeated, pair_at}
 use Rattle.tsp_verdict.specs.Places.{IsFirstPlace}
 use Rattle.tsp_verdict.specs.Reasons.{NoneBefore, IsFirstReason}
@@ -101,7 +101,7 @@ none_of_tsp inst pot kind sort size wanted on_pairs listed =
 
 -- ---- with those against the tour
 
-tour_rank : (inst sol : Fields) (reason : Reason) → tours.StandsAgainst inst sol reason → rank_of reason < 10
+pub tour_rank : (inst sol : Fields) (reason : Reason) → tours.StandsAgainst inst sol reason → rank_of reason < 10
 tour_rank inst sol NotPotentials stands = absurd stands
 tour_rank inst sol PotentialsDimension stands = absurd stands
 tour_rank inst sol PotentialsKind stands = absurd stands
@@ -114,6 +114,11 @@ tour_rank inst sol FixedEdgesInRoutes stands = absurd stands
 tour_rank inst sol (DepotInRoute place) stands = absurd stands
 tour_rank inst sol (Unserved node) stands = absurd stands
 tour_rank inst sol (Overload route) stands = absurd stands
+tour_rank inst sol NotBranches stands = absurd stands
+tour_rank inst sol BranchesDimension stands = absurd stands
+tour_rank inst sol (BadComb index) stands = absurd stands
+tour_rank inst sol (BranchTwice index) stands = absurd stands
+tour_rank inst sol (BadLeaf index) stands = absurd stands
 tour_rank inst sol reason stands = omega arith
 
 certificate_rank : (inst pot : Fields) (reason : Reason) → StandsAgainst inst pot reason → 10 ≤ rank_of reason

@@ -1,15 +1,21 @@
 -- What valid files hold.
-use Rattle.std.proofs.Common.{◌≡◌, ℕ, suc, ◌≤◌, List, [], ◌∷◌, ◌++◌, length, map, Option, Some, refl, sym, ap, ◌∙◌, arith, length-append}
-use Rattle.std.specs.Prelude.{unwrap_or, ℤ}
+use Rattle.std.proofs.Common.{◌≡◌, ℕ, zero, suc, ◌+◌, ◌<◌, ◌≤◌, true, List, [], ◌∷◌, ◌++◌, length, map, Option, Some, refl, sym, ap, subst, ◌∙◌, arith, length-append}
+use Rattle.std.specs.Prelude.{unwrap_or, ℤ, ◌^◌}
 use Rattle.std.specs.Global.{Vec}
 use Rattle.std.specs.List.{All, AllByRecursion, concat, sum_by}
+use Rattle.std.proofs.lemmas.Bool.{false≢true}
+use Rattle.std.proofs.lemmas.List.{length-map}
 use Rattle.std.proofs.lemmas.List.Elements.{All-from_recursion, recursion_from_All}
 use Rattle.std.proofs.lemmas.List.Sums.{sum_by-cons}
 use Rattle.tsp_value.specs.Cells.{IsNode}
-use Rattle.tsp_value.specs.Limits.{most_nodes, most_tour_nodes}
+use Rattle.tsp_value.specs.Limits.{most_nodes, most_tour_nodes, most_changes}
+use Rattle.tsp_value.specs.declared.steps.TreeStep.{TreeStep}
+use Rattle.tsp_value.specs.Steps.{Step, Branch, Leaf, step_of, steps_of, are_whole, branch_count, leaf_count, change_count}
 use Rattle.tsp_fields.specs.Fields.{Fields}
-use Rattle.tsp_fields.specs.Valid.{AreTours, AreDepots, AreTriples, IsNodeList}
+use Rattle.tsp_fields.specs.Valid.{AreTours, AreDepots, AreTriples, IsNodeList, AreSets, AreCombs, IsStep, AreSteps}
 use Rattle.tsp_bound.specs.Numbers.{AreMultipliers}
+use Rattle.tsp_branch.specs.Listed.{IsStepOf}
+use Rattle.tsp_verdict.specs.Numbered.{AreSomeSets}
 use Rattle.tsp_verdict.specs.Solution.{nodes_of, tours_of, visited, nodes_in}
 use Rattle.tsp_verdict.proofs.Pieces.{nodes_in_is}
 
@@ -68,3 +74,39 @@ multiplied_nodes f triples held k d lt =
     let pair = (held.triples_of_nodes k d lt).0 in
     let same : nodes_of f ≡ held.n = ap (λ (o : Option ℕ). unwrap_or o 0) held.dimension in
     ((pair.0.0, omega (arith, pair.0.1, same)), (pair.1.0, omega (arith, pair.1.1, same)))
+
+-- ---- combs and steps
+
+pub combs_hold : (f : Fields) (combs : List (List (List ℕ))) → AreCombs f combs → AreSomeSets (nodes_of f) combs
+combs_hold f combs held =
+    let same : held.n ≡ nodes_of f = sym (ap (λ (d : Option ℕ). unwrap_or d 0) held.dimension) in
+    record { few = held.few; sets = subst (λ (n : ℕ). All (AreSets n) combs) same held.sets; few_nodes = held.few_nodes }
+
+-- a leaf's differences are some of all
+few_changes : (n most : ℕ) (steps : List Step) → most < 2 ^ 32 → AllByRecursion (IsStep n) steps → change_count steps ≤ most → AllByRecursion (IsStepOf n) steps
+few_changes n most [] low each few = tt
+few_changes n most (Branch a b ∷ steps) low each few = (each.0, few_changes n most steps low each.1 few)
+few_changes n most (Leaf changes ∷ steps) low each few = (omega (arith, low, few), few_changes n most steps low each.1 (omega (arith, few)))
+
+pub steps_hold : (f : Fields) (steps : List Step) → AreSteps f steps → All (IsStepOf (nodes_of f)) steps
+steps_hold f steps held =
+    let same : held.n ≡ nodes_of f = sym (ap (λ (d : Option ℕ). unwrap_or d 0) held.dimension) in
+    All-from_recursion (IsStepOf (nodes_of f)) steps
+    (few_changes (nodes_of f) most_changes steps (omega arith) (subst (λ (n : ℕ). AllByRecursion (IsStep n) steps) same (recursion_from_All (IsStep held.n) steps held.each)) held.few_changes)
+
+-- so many trees have so many leaves more than branches
+leaves_of_trees : (count : ℕ) (steps : List Step) → are_whole count steps ≡ true → leaf_count steps ≡ branch_count steps + count
+leaves_of_trees zero [] whole = refl
+leaves_of_trees zero (Branch a b ∷ steps) whole = absurd (false≢true whole)
+leaves_of_trees zero (Leaf changes ∷ steps) whole = absurd (false≢true whole)
+leaves_of_trees (suc count) [] whole = absurd (false≢true whole)
+leaves_of_trees (suc count) (Branch a b ∷ steps) whole = let more = leaves_of_trees (suc (suc count)) steps whole in omega (arith, more)
+leaves_of_trees (suc count) (Leaf changes ∷ steps) whole = let more = leaves_of_trees count steps whole in omega (arith, more)
+
+all_counted : (steps : List Step) → length steps ≡ branch_count steps + leaf_count steps
+all_counted [] = refl
+all_counted (Branch a b ∷ steps) = let rest = all_counted steps in omega (arith, rest)
+all_counted (Leaf changes ∷ steps) = let rest = all_counted steps in omega (arith, rest)
+
+pub steps_few : (f : Fields) (steps : List TreeStep) → AreSteps f (steps_of steps) → length steps < 2 ^ 32
+steps_few f steps held = omega (arith, length-map steps step_of, all_counted (steps_of steps), leaves_of_trees 1 (steps_of steps) held.whole, held.few)

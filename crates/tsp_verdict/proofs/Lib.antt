@@ -14,3 +14,6 @@ pub mod RouteVerdicts
 pub mod TourReasons
 pub mod TourVerdicts
 pub mod SmallPlans
+pub mod NumberedSets
+pub mod GivenPairs
+pub mod TreeReasons

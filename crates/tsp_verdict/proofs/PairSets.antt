@@ -126,7 +126,7 @@ lacks_unlisted pairs s pair has isnt is = false≢true (sym isnt ∙ has pair �
 
 -- ---- what it says of a list of triples, none of which has the pair of an earlier one
 
-same_turn : (p q : ℕ × ℕ) → is_same_pair p q ≡ is_same_pair q p
+pub same_turn : (p q : ℕ × ℕ) → is_same_pair p q ≡ is_same_pair q p
 same_turn p q = same_bool _ _ (λ h. to_same q p (sym (from_same p q h))) (λ h. to_same p q (sym (from_same q p h)))
 
 abbrev none : ℕ × ℕ × ℤ

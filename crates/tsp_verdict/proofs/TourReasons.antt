@@ -8,7 +8,7 @@ use Rattle.tsp_fields.specs.Cost.{cost}
 use Rattle.tsp_cost.specs.Costs.{IsFirstUneven}
 use Rattle.tsp_cost.specs.Tour.{is_directed}
 use Rattle.tsp_verdict.specs.declared.verdict.Reason.{Reason}
-use Rattle.tsp_verdict.specs.declared.verdict.Reason.TheVariants.{NotASolution, TooFewNodes, NotSymmetric, Dimension, TourCount, TourLength, NodeOutOfRange, RepeatedNode, FixedEdgeUnused, NotPotentials, PotentialsDimension, PotentialsKind, MultiplierNotFixed, MultiplierRepeated, DualInfeasible, DepotCount, DepotDemand, FixedEdgesInRoutes, DepotInRoute, Unserved, Overload}
+use Rattle.tsp_verdict.specs.declared.verdict.Reason.TheVariants.{NotASolution, TooFewNodes, NotSymmetric, Dimension, TourCount, TourLength, NodeOutOfRange, RepeatedNode, FixedEdgeUnused, NotPotentials, PotentialsDimension, PotentialsKind, MultiplierNotFixed, MultiplierRepeated, DualInfeasible, DepotCount, DepotDemand, FixedEdgesInRoutes, DepotInRoute, Unserved, Overload, NotBranches, BranchesDimension, BadComb, BranchTwice, BadLeaf}
 use Rattle.tsp_verdict.specs.Places.{IsFirstPlace, IsLarger, IsRepeated, IsUnused}
 use Rattle.tsp_verdict.specs.Solution.{nodes_of, fixed_of, tours_of, visited}
 use Rattle.tsp_verdict.specs.Tours.{StandsAgainst, NoneUpTo}
@@ -61,4 +61,9 @@ after_fixed inst sol before used FixedEdgesInRoutes stands = stands
 after_fixed inst sol before used (DepotInRoute place) stands = stands
 after_fixed inst sol before used (Unserved node) stands = stands
 after_fixed inst sol before used (Overload route) stands = stands
+after_fixed inst sol before used NotBranches stands = stands
+after_fixed inst sol before used BranchesDimension stands = stands
+after_fixed inst sol before used (BadComb index) stands = stands
+after_fixed inst sol before used (BranchTwice index) stands = stands
+after_fixed inst sol before used (BadLeaf index) stands = stands
 after_fixed inst sol before used reason stands = before reason (omega arith) stands

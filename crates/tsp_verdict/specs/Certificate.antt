@@ -45,6 +45,7 @@ has_wanted (Some kinds.Atsp) f = is_some f.row_potentials && is_some f.column_po
 has_wanted (Some kinds.Cvrp) f = false
 has_wanted (Some kinds.Tour) f = false
 has_wanted (Some kinds.Potentials) f = false
+has_wanted (Some kinds.Branches) f = false
 has_wanted None f = false
 
 -- ---- when a reason stands against it; reasons of tours and of routes never do
@@ -72,6 +73,7 @@ IsBoundBy (Some kinds.Atsp) inst pot bound = AreGood (nodes_of inst) (cost inst)
 IsBoundBy (Some kinds.Cvrp) inst pot bound = ⊥
 IsBoundBy (Some kinds.Tour) inst pot bound = ⊥
 IsBoundBy (Some kinds.Potentials) inst pot bound = ⊥
+IsBoundBy (Some kinds.Branches) inst pot bound = ⊥
 IsBoundBy None inst pot bound = ⊥
 
 -- Under TYPE TSP a walk uses the pairs with multipliers, in either direction; elsewhere multipliers aren't looked at.
@@ -81,6 +83,7 @@ UsesMultiplied (Some kinds.Atsp) pot nodes = Unit {0}
 UsesMultiplied (Some kinds.Cvrp) pot nodes = Unit {0}
 UsesMultiplied (Some kinds.Tour) pot nodes = Unit {0}
 UsesMultiplied (Some kinds.Potentials) pot nodes = Unit {0}
+UsesMultiplied (Some kinds.Branches) pot nodes = Unit {0}
 UsesMultiplied None pot nodes = Unit {0}
 
 -- no walk of the instance that uses the pairs with multipliers is shorter

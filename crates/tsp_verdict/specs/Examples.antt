@@ -2,6 +2,7 @@
 use Rattle.std.specs.Prelude.{ℕ, ◌<◌, List, [], ◌∷◌, Option, None, Some, ℤ, pos}
 use Rattle.tsp_value.specs.declared.kinds.Kind.{Kind}
 use Rattle.tsp_value.specs.declared.kinds.Kind.TheVariants as kinds
+use Rattle.tsp_value.specs.Steps.{Step, Leaf}
 use Rattle.tsp_fields.specs.Fields.{Fields, blank_fields}
 use Rattle.tsp_verdict.specs.declared.verdict.Reason.{Reason}
 
@@ -48,6 +49,26 @@ of_rows n = certificate n None (Some []) None
 
 abbrev pub of_both : ℕ → Fields
 of_both n = certificate n None (Some []) (Some [])
+
+-- a certificate by branching for so many nodes, with these combs and steps
+abbrev pub branching : ℕ → List (List (List ℕ)) → List Step → Fields
+branching n combs steps = record blank_fields {
+  kind = Some kinds.Branches;
+  dimension = Some n;
+  combs = Some combs;
+  branches = Some steps;
+}
+
+-- two leaves that change no number, and three
+abbrev pub two_leaves : List Step
+two_leaves = Leaf [] ∷ Leaf [] ∷ []
+
+abbrev pub three_leaves : List Step
+three_leaves = Leaf [] ∷ two_leaves
+
+-- a comb of four nodes with two teeth
+abbrev pub two_teeth : List (List ℕ)
+two_teeth = (1 ∷ 2 ∷ []) ∷ (1 ∷ 3 ∷ []) ∷ (2 ∷ 4 ∷ []) ∷ []
 
 -- lists of two, three and four nodes
 abbrev pub two : ℕ → ℕ → List ℕ

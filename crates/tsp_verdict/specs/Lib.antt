@@ -11,4 +11,7 @@ pub mod Sums
 pub mod Tours
 pub mod Certificate
 pub mod Bounded
+pub mod Numbered
+pub mod Tree
+pub mod Branched
 pub mod Examples

@@ -6,7 +6,7 @@ use Rattle.tsp_fields.specs.Fields.{Fields}
 use Rattle.tsp_fields.specs.Rules.{is_tours}
 use Rattle.tsp_fields.specs.Cost.{cost}
 use Rattle.tsp_verdict.specs.declared.verdict.Reason.{Reason}
-use Rattle.tsp_verdict.specs.declared.verdict.Reason.TheVariants.{NotASolution, TooFewNodes, NotSymmetric, Dimension, TourCount, TourLength, NodeOutOfRange, RepeatedNode, FixedEdgeUnused, NotPotentials, PotentialsDimension, PotentialsKind, MultiplierNotFixed, MultiplierRepeated, DualInfeasible, DepotCount, DepotDemand, FixedEdgesInRoutes, DepotInRoute, Unserved, Overload}
+use Rattle.tsp_verdict.specs.declared.verdict.Reason.TheVariants.{NotASolution, TooFewNodes, NotSymmetric, Dimension, TourCount, TourLength, NodeOutOfRange, RepeatedNode, FixedEdgeUnused, NotPotentials, PotentialsDimension, PotentialsKind, MultiplierNotFixed, MultiplierRepeated, DualInfeasible, DepotCount, DepotDemand, FixedEdgesInRoutes, DepotInRoute, Unserved, Overload, NotBranches, BranchesDimension, BadComb, BranchTwice, BadLeaf}
 use Rattle.tsp_verdict.specs.declared.verdict.Verdict.{Verdict}
 use Rattle.tsp_verdict.specs.declared.verdict.Verdict.TheVariants as verdicts
 use Rattle.tsp_verdict.specs.Places.{IsFirstPlace, IsLarger, IsAt, IsRepeated}
@@ -41,6 +41,11 @@ StandsAgainst inst sol PotentialsKind = ⊥
 StandsAgainst inst sol (MultiplierNotFixed index) = ⊥
 StandsAgainst inst sol (MultiplierRepeated index) = ⊥
 StandsAgainst inst sol (DualInfeasible i j) = ⊥
+StandsAgainst inst sol NotBranches = ⊥
+StandsAgainst inst sol BranchesDimension = ⊥
+StandsAgainst inst sol (BadComb index) = ⊥
+StandsAgainst inst sol (BranchTwice index) = ⊥
+StandsAgainst inst sol (BadLeaf index) = ⊥
 StandsAgainst inst sol DepotCount = length (depots_of inst) ≢ 1
 StandsAgainst inst sol DepotDemand = demand_of (demands_of inst) (depot_of inst) ≢ pos 0
 StandsAgainst inst sol FixedEdgesInRoutes = 1 ≤ length (fixed_of inst)
@@ -72,6 +77,11 @@ rank_of PotentialsKind = 12
 rank_of (MultiplierNotFixed index) = 12
 rank_of (MultiplierRepeated index) = 12
 rank_of (DualInfeasible i j) = 12
+rank_of NotBranches = 12
+rank_of BranchesDimension = 12
+rank_of (BadComb index) = 12
+rank_of (BranchTwice index) = 12
+rank_of (BadLeaf index) = 12
 
 -- no reason stands that is judged before this rank
 abbrev pub NoneUpTo : Fields → Fields → ℕ → Type 0

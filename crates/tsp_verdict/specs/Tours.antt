@@ -9,7 +9,7 @@ use Rattle.tsp_cost.specs.Costs.{IsEven, IsFirstUneven}
 use Rattle.tsp_cost.specs.Length.{length_of}
 use Rattle.tsp_cost.specs.Tour.{is_directed, IsTourOf}
 use Rattle.tsp_verdict.specs.declared.verdict.Reason.{Reason}
-use Rattle.tsp_verdict.specs.declared.verdict.Reason.TheVariants.{NotASolution, TooFewNodes, NotSymmetric, Dimension, TourCount, TourLength, NodeOutOfRange, RepeatedNode, FixedEdgeUnused, NotPotentials, PotentialsDimension, PotentialsKind, MultiplierNotFixed, MultiplierRepeated, DualInfeasible, DepotCount, DepotDemand, FixedEdgesInRoutes, DepotInRoute, Unserved, Overload}
+use Rattle.tsp_verdict.specs.declared.verdict.Reason.TheVariants.{NotASolution, TooFewNodes, NotSymmetric, Dimension, TourCount, TourLength, NodeOutOfRange, RepeatedNode, FixedEdgeUnused, NotPotentials, PotentialsDimension, PotentialsKind, MultiplierNotFixed, MultiplierRepeated, DualInfeasible, DepotCount, DepotDemand, FixedEdgesInRoutes, DepotInRoute, Unserved, Overload, NotBranches, BranchesDimension, BadComb, BranchTwice, BadLeaf}
 use Rattle.tsp_verdict.specs.declared.verdict.Verdict.{Verdict}
 use Rattle.tsp_verdict.specs.declared.verdict.Verdict.TheVariants as verdicts
 use Rattle.tsp_verdict.specs.Places.{IsFirstPlace, IsLarger, IsRepeated, IsUnused}
@@ -40,8 +40,14 @@ StandsAgainst inst sol FixedEdgesInRoutes = ⊥
 StandsAgainst inst sol (DepotInRoute place) = ⊥
 StandsAgainst inst sol (Unserved node) = ⊥
 StandsAgainst inst sol (Overload route) = ⊥
+StandsAgainst inst sol NotBranches = ⊥
+StandsAgainst inst sol BranchesDimension = ⊥
+StandsAgainst inst sol (BadComb index) = ⊥
+StandsAgainst inst sol (BranchTwice index) = ⊥
+StandsAgainst inst sol (BadLeaf index) = ⊥
 
--- the order in which the reasons against a tour, and then those against a certificate, are judged
+-- The order in which the reasons against a tour, and then those against a certificate, are judged. Reasons against potentials and
+-- those against branches never stand together.
 abbrev pub rank_of : Reason → ℕ
 rank_of NotASolution = 1
 rank_of TooFewNodes = 2
@@ -64,6 +70,11 @@ rank_of FixedEdgesInRoutes = 16
 rank_of (DepotInRoute place) = 16
 rank_of (Unserved node) = 16
 rank_of (Overload route) = 16
+rank_of NotBranches = 17
+rank_of BranchesDimension = 18
+rank_of (BadComb index) = 19
+rank_of (BranchTwice index) = 20
+rank_of (BadLeaf index) = 21
 
 -- no reason stands that is judged before this rank
 abbrev pub NoneUpTo : Fields → Fields → ℕ → Type 0

@@ -57,7 +57,7 @@ fn has_wanted(kind: Kind, pot: &File) -> bool
     match kind {
         Kind::Tsp => pot.node_potentials().is_some(),
         Kind::Atsp => pot.row_potentials().is_some() && pot.column_potentials().is_some(),
-        Kind::Cvrp | Kind::Tour | Kind::Potentials => false,
+        Kind::Cvrp | Kind::Tour | Kind::Potentials | Kind::Branches => false,
     }
 }
 

@@ -3,13 +3,17 @@
 
 ghost use Rattle.std.specs.Prelude.{◌≡◌, ℕ, ◌+◌, ◌*◌, [], ◌∷◌, pos, negsuc};
 ghost use Rattle.tsp_value.specs.declared.kinds.Kind.TheVariants as kinds;
+ghost use Rattle.tsp_value.specs.Steps.{Branch, Leaf};
+ghost use Rattle.tsp_branch.specs.Examples.{with_pair};
 ghost use Rattle.tsp_verdict.specs.declared.verdict.Reason.TheVariants as reasons;
 ghost use Rattle.tsp_verdict.specs.Plan.{IsPlanOf, IsLeast, plan_length, total_of};
 ghost use Rattle.tsp_verdict.specs.Tours as tours;
 ghost use Rattle.tsp_verdict.specs.Routes as routes;
 ghost use Rattle.tsp_verdict.specs.Certificate as certificates;
 ghost use Rattle.tsp_verdict.specs.Certificate.{scale_in};
-ghost use Rattle.tsp_verdict.specs.Examples.{of_nodes, of_rows, of_both, nodes, vehicles, carrying, solution, sized, lone, both, two, three, four, Before};
+ghost use Rattle.tsp_verdict.specs.Tree as trees;
+ghost use Rattle.tsp_verdict.specs.Tree.{given_in};
+ghost use Rattle.tsp_verdict.specs.Examples.{of_nodes, of_rows, of_both, nodes, vehicles, carrying, solution, sized, lone, both, two, three, four, branching, two_leaves, three_leaves, two_teeth, Before};
 
 /// The order in which reasons against a tour, and then against its certificate, are judged: each
 /// pair of neighbours.
@@ -28,6 +32,11 @@ pub fn examples_of_order()
     ensures not_fixed { Before tours.rank_of reasons.PotentialsKind (reasons.MultiplierNotFixed 1) }
     ensures multiplied_twice { Before tours.rank_of (reasons.MultiplierNotFixed 9) (reasons.MultiplierRepeated 1) }
     ensures duals { Before tours.rank_of (reasons.MultiplierRepeated 9) (reasons.DualInfeasible 1 2) }
+    ensures branches { Before tours.rank_of (reasons.FixedEdgeUnused 9) reasons.NotBranches }
+    ensures number_of_nodes { Before tours.rank_of reasons.NotBranches reasons.BranchesDimension }
+    ensures combs { Before tours.rank_of reasons.BranchesDimension (reasons.BadComb 1) }
+    ensures decided_twice { Before tours.rank_of (reasons.BadComb 9) (reasons.BranchTwice 1) }
+    ensures leaves { Before tours.rank_of (reasons.BranchTwice 9) (reasons.BadLeaf 1) }
 {}
 
 /// The order in which reasons against routes are judged: each pair of neighbours.
@@ -79,6 +88,25 @@ pub fn examples_against_certificates()
     ensures atsp { ¬ certificates.StandsAgainst (nodes kinds.Atsp 4 []) (of_both 4) reasons.PotentialsKind }
     ensures atsp_by_nodes { certificates.StandsAgainst (nodes kinds.Atsp 4 []) (of_nodes 4) reasons.PotentialsKind }
     ensures atsp_by_rows { certificates.StandsAgainst (nodes kinds.Atsp 4 []) (of_rows 4) reasons.PotentialsKind }
+{}
+
+/// When the reasons against a certificate by branching stand, and which pairs are decided in all of
+/// its cases.
+pub fn examples_against_trees()
+    ensures no_tree { trees.StandsAgainst (nodes kinds.Tsp 4 []) (of_nodes 4) reasons.NotBranches }
+    ensures tree { ¬ trees.StandsAgainst (nodes kinds.Tsp 4 []) (branching 4 [] (Leaf [] ∷ [])) reasons.NotBranches }
+    ensures dimension { trees.StandsAgainst (nodes kinds.Tsp 4 []) (branching 3 [] (Leaf [] ∷ [])) reasons.BranchesDimension }
+    ensures same_dimension { ¬ trees.StandsAgainst (nodes kinds.Tsp 4 [])
+        (branching 4 [] (Leaf [] ∷ [])) reasons.BranchesDimension }
+    ensures even_teeth { trees.StandsAgainst (nodes kinds.Tsp 4 [])
+        (branching 4 (two_teeth ∷ []) (Leaf [] ∷ [])) (reasons.BadComb 1) }
+    ensures again { trees.StandsAgainst (nodes kinds.Tsp 4 [])
+        (branching 4 [] (Branch 1 2 ∷ Branch 1 2 ∷ three_leaves)) (reasons.BranchTwice 2) }
+    ensures fixed { trees.StandsAgainst (nodes kinds.Tsp 4 ((2, 1) ∷ []))
+        (branching 4 [] (Branch 1 2 ∷ two_leaves)) (reasons.BranchTwice 1) }
+    ensures past_the_nodes { trees.StandsAgainst (nodes kinds.Tsp 4 [])
+        (branching 4 [] (Leaf ((5, pos 1) ∷ []) ∷ [])) (reasons.BadLeaf 1) }
+    ensures given_once { given_in (nodes kinds.Tsp 4 ((1, 2) ∷ (3, 4) ∷ (2, 1) ∷ [])) ≡ with_pair 1 2 ∷ with_pair 3 4 ∷ [] }
 {}
 
 /// When the reasons against routes stand. Node 1 is the depot.

@@ -2,23 +2,28 @@
 #![tactic(auto)]
 
 mod bounded;
+mod branched;
 mod certificate;
+mod decided;
 mod examples;
 mod files;
 mod fixed;
 mod lengths;
 mod loads;
 mod multiplied;
+mod numbered;
 mod places;
 mod routes;
 mod tour;
+mod tree;
 mod verdict;
 mod visits;
 
 pub use bounded::judge_tour_bound;
+pub use branched::judge_tour_branches;
 pub use examples::{
     examples_against_certificates, examples_against_routes, examples_against_tours,
-    examples_of_order, examples_of_order_of_routes, examples_of_plans,
+    examples_against_trees, examples_of_order, examples_of_order_of_routes, examples_of_plans,
 };
 pub use routes::judge_routes;
 pub use tour::judge_tour;

@@ -125,6 +125,6 @@ fn is_directed(kind: Kind) -> bool
 {
     match kind {
         Kind::Atsp => true,
-        Kind::Tsp | Kind::Cvrp | Kind::Tour | Kind::Potentials => false,
+        Kind::Tsp | Kind::Cvrp | Kind::Tour | Kind::Potentials | Kind::Branches => false,
     }
 }

@@ -1,9 +1,11 @@
 //! What is said of a solution of an instance.
 
-/// Why a solution is refused. Places, routes, fixed pairs and multipliers count from 1, and places through all
-/// tours of the solution, one after the other.
+/// Why a solution is refused. Places, routes, fixed pairs, multipliers, combs, branches and leaves
+/// count from 1: places through all tours of the solution, one after the other, branches and leaves
+/// through their section.
 ///
-/// The reasons of a tour are judged in the order in which they stand here, those of routes in the
+/// The reasons of a tour are judged in the order in which they stand here, up to `FixedEdgeUnused`,
+/// and then those of a certificate by potentials or of one by branching; those of routes in the
 /// order `NotASolution`, `TooFewNodes`, `Dimension`, `DepotCount`, `DepotDemand`,
 /// `FixedEdgesInRoutes`, `DepotInRoute`, `NodeOutOfRange`, `RepeatedNode`, `Unserved`, `Overload`.
 #[derive(Clone, Copy, Debug, PartialEq, Eq)]
@@ -56,12 +58,25 @@ pub enum Reason {
     Unserved { node: u32 },
     /// This route is the first one whose demands sum to more than the capacity.
     Overload { route: u32 },
+    /// The certificate is not a file of TYPE BRANCHES.
+    NotBranches,
+    /// The certificate by branching has a DIMENSION other than that of the instance.
+    BranchesDimension,
+    /// This comb is the first one that isn't one: it has an even number of teeth or fewer than
+    /// three, a node twice in a set, teeth that meet, or a tooth inside or outside of its handle.
+    BadComb { index: u32 },
+    /// This branch is the first one whose pair is decided above it or fixed, in either direction.
+    BranchTwice { index: u32 },
+    /// This leaf is the first one that isn't good: it has an index past those of the nodes and the
+    /// combs, a potential above 10^15 in size, a negative multiplier, or multipliers that sum to
+    /// more than 3 * 10^17.
+    BadLeaf { index: u32 },
 }
 
 /// The verdict on a solution: a yes with its length, or a no with the first reason against it.
 #[derive(Clone, Copy, Debug, PartialEq, Eq)]
 pub enum Verdict {
-    /// A yes: the solution is a tour of this length. Where potentials were judged too, no tour of
+    /// A yes: the solution is a tour of this length. Where a certificate was judged too, no tour of
     /// the instance is shorter than the bound.
     Tour {
         length: i64,

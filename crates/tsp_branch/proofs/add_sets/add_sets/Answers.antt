@@ -24,7 +24,8 @@ numbers-preserved c = λ x last rest.
     let twice : to_z w64 (of_z w64 (pos 2 *ℤ multiplier)) ≡ pos 2 *ℤ multiplier = omega (arith, ints, own.0, own.1) in
     let whole : to_z w64 (of_z w64 multiplier) ≡ multiplier = omega (arith, ints, own.0, own.1) in
     let same : added (to_z w64 (of_z w64 (pos 2 *ℤ to_z w64 (of_z w64 multiplier)))) c.deref.result.now x ≡ twice_in multipliers (plain sets) number x =
-    ap (λ (z : ℤ). added (to_z w64 (of_z w64 (pos 2 *ℤ z))) c.deref.result.now x) whole ∙ ap (λ (z : ℤ). added z c.deref.result.now x) twice ∙ ap (λ (ns : List ℕ). added (pos 2 *ℤ multiplier) ns x) c.deref.ensures.value ∙ sym (twice_is multipliers sets number set x inside c.index-sets-number.is) in
+    ap (λ (z : ℤ). added (to_z w64 (of_z w64 (pos 2 *ℤ z))) c.deref.result.now x) whole ∙ ap (λ (z : ℤ). added z c.deref.result.now x) twice ∙ ap
+    (λ (ns : List ℕ). added (pos 2 *ℤ multiplier) ns x) c.deref.ensures.value ∙ sym (twice_is multipliers sets number set x inside c.index-sets-number.is) in
     let step : IsMoved (twice_in multipliers (plain sets) number x) (least_at c.numbers.row x) (least_at c.add_where_any.new.row x) =
     subst (λ (z : ℤ). IsMoved z (least_at c.numbers.row x) (least_at c.add_where_any.new.row x)) same (c.add_where_any.ensures x) in
     c.numbers.invariant x last (rw (inside_left multipliers (plain sets) c.args.numbers.now c.numbers.number-index x 0 c.numbers-test.true) (moved_on _ _ _ _ _ step rest))

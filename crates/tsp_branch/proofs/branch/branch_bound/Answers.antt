@@ -2,6 +2,7 @@ use Rattle.std.proofs.Common.{ℕ, ℤ, subst, rules, FitsSigned}
 use Rattle.std.specs.Int.{w64}
 use Rattle.std.proofs.lemmas.Int.{to_z-of_z}
 use Rattle.std.proofs.lemmas.Result.{IfOk-weaker}
+use Rattle.tsp_value.specs.Steps.{steps_of}
 use Rattle.tsp_branch.specs.Combed.{plain}
 use Rattle.tsp_branch.specs.CombsOfSets.{combs_of}
 use Rattle.tsp_branch.specs.Decided.{case_of}
@@ -18,6 +19,6 @@ returns-clause-walks g c =
     let given = case_of c.args.given.now in
     let fits : FitsSigned w64 c.args.scale = search rules in
     IfOk-weaker c.judge_leaves.result _ _ (λ found is.
-    walks_of c.certificates_bound_walks.ensures.walks n cost c.args.scale combs c.args.combs given c.args.steps.now found c.requires.some (g.met.C.Symmetric.even costs) c.requires.scaled
-    (subst (λ (z : ℤ). IsJudged n cost z combs c.args.combs given c.args.steps.now found) (to_z-of_z w64 c.args.scale fits) is))
-    c.judge_leaves.ensures
+    walks_of c.certificates_bound_walks.ensures.walks n cost c.args.scale combs c.args.combs given (steps_of c.args.steps.now) found c.requires.some (g.met.C.Symmetric.even costs) c.requires.scaled
+    (subst (λ (z : ℤ). IsJudged n cost z combs c.args.combs given (steps_of c.args.steps.now) found) (to_z-of_z w64 c.args.scale fits) is))
+    c.judge_leaves.ensures.judged

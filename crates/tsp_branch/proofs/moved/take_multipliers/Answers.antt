@@ -28,7 +28,8 @@ sets-preserved c = λ x last rest.
     ap (λ (z : ℤ). added z c.deref.result.now x) whole ∙ ap (λ (ns : List ℕ). added (neg_ℤ multiplier) ns x) c.deref.ensures.value ∙ added_less multiplier set.1.items x in
     let step : IsMoved (neg_ℤ (added multiplier set.1.items x)) (least_at c.sets.row x) (least_at c.add_where_any.new.row x) =
     subst (λ (z : ℤ). IsMoved z (least_at c.sets.row x) (least_at c.add_where_any.new.row x)) same (c.add_where_any.ensures x) in
-    let left : neg_ℤ (multipliers_at multipliers (plain (drop c.sets.number sets)) x) ≡ neg_ℤ (added multiplier set.1.items x) +ℤ neg_ℤ (multipliers_at multipliers (plain (drop (c.sets.number + 1) sets)) x) =
+    let left : neg_ℤ (multipliers_at multipliers (plain (drop c.sets.number sets)) x) ≡ neg_ℤ (added multiplier set.1.items x) +ℤ neg_ℤ
+    (multipliers_at multipliers (plain (drop (c.sets.number + 1) sets)) x) =
     multipliers_left multipliers sets c.sets.number x set c.sets-test.true
     ∙ ap (λ (s : ℕ × Vec ℕ). neg_ℤ (added (get_or multipliers s.0 (pos 0)) s.1.items x) +ℤ neg_ℤ (multipliers_at multipliers (plain (drop (c.sets.number + 1) sets)) x)) (sym c.index-sets-number.is) in
     c.sets.invariant x last (rw (left) (moved_on _ _ _ _ _ step rest))

@@ -13,7 +13,8 @@ nodes-preserved c =
     record {
       count = length-set c.nodes.lists.items node c.push.new.self ∙ c.nodes.invariant.count;
       said = λ x a b below.
-          listed_more c.args.number c.args.nodes.now index node c.nodes.lists.items c.index_mut.result.now c.push.new.self x a ((get_or c.args.lists.now.items x b).items ++ times c.args.number c.args.nodes.now x)
+          listed_more c.args.number c.args.nodes.now index node c.nodes.lists.items c.index_mut.result.now c.push.new.self x a
+          ((get_or c.args.lists.now.items x b).items ++ times c.args.number c.args.nodes.now x)
           c.nodes-test.true refl inside c.index_mut.ensures.value c.in_ok-push.ensures.items (λ d. c.nodes.invariant.said x d b below);
     }
 

@@ -22,7 +22,8 @@ add_sets-requires-clause-numbers g c =
     let p = c.args.self.now in
     let sets : List (ℕ × Vec ℕ) = p.sets.now in
     let numbers_are : c.deref.result.now ≡ sets_with 0 sets c.args.from = c.deref.ensures.value ∙ p.table.said c.args.from c.index-self-from.result c.requires.from.1 in
-    subst (λ (ns : List ℕ). All (λ n. n < length sets) ns) (sym numbers_are) (All-from_recursion (λ n. n < length sets) (sets_with 0 sets c.args.from) (sets_below (length sets) 0 sets c.args.from (omega arith)))
+    subst (λ (ns : List ℕ). All (λ n. n < length sets) ns) (sym numbers_are) (All-from_recursion (λ n. n < length sets) (sets_with 0 sets c.args.from)
+    (sets_below (length sets) 0 sets c.args.from (omega arith)))
 
 pub returns : goal.returns
 returns g c =
@@ -40,7 +41,8 @@ returns g c =
     combed_size (base x) (set_crossings multipliers (plain sets) from x) (c.fill_apart.ensures.sizes x (node_in x h)) (p.crossed from x) in
     let come : (x : ℕ) → (neg_ℤ (multipliers_at multipliers (plain sets) from) +ℤ neg_ℤ (multipliers_at multipliers (plain sets) x)) +ℤ inside_both multipliers (plain sets) (sets_with 0 sets from) x
     ≡ neg_ℤ (set_crossings multipliers (plain sets) from x) = λ x.
-    sets_come_to multipliers (plain sets) 0 sets from x (λ k set lt is. let same : 0 + k ≡ k = omega arith in ap (λ i. get_or (plain sets) i (0, [])) same ∙ plain_at sets k set lt is) (recursion_from_All (λ set. (set.0 < length multipliers) × AllPairs (λ a b. a ≢ b) set.1.items) sets p.combs) in
+    sets_come_to multipliers (plain sets) 0 sets from x (λ k set lt is. let same : 0 + k ≡ k = omega arith in ap (λ i. get_or (plain sets) i (0, [])) same ∙ plain_at sets k set lt is)
+    (recursion_from_All (λ set. (set.0 < length multipliers) × AllPairs (λ a b. a ≢ b) set.1.items) sets p.combs) in
     let is : (x : ℕ) → IsInner n x → least_at row x ≡ w x = λ x h.
     let gained : IsMoved (inside_both multipliers (plain sets) (sets_with 0 sets from) x) (least_at c.fill_apart.new.row x) (least_at row x) =
     subst (λ (ns : List ℕ). IsMoved (inside_both multipliers (plain sets) ns x) (least_at c.fill_apart.new.row x) (least_at row x)) numbers_are (c.add_sets.ensures x) in

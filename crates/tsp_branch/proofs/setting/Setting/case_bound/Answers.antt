@@ -61,7 +61,8 @@ leaf_bound-requires-clause-even g c =
     let w : ℕ → ℕ → ℤ = set_weight q.scale q.potentials.now q.multipliers.now (plain q.sets.now) (g.C.Costs.at q.costs.now) in
     let below = sets_below_count p.combs (length ms) sets c.requires.numbers.each_comb p.of_combs in
     let combs : List (Comb × ℤ) = multiplied (combs_of (length ms) (plain sets)) ms in
-    let agree = λ (i j : ℕ). c.of-weights.ensures.weights i j ∙ case_weight w p.scale ps ms (plain sets) given ds cost i j below (c.of-combed.ensures.weights i j ∙ ap (λ (z : ℤ). set_weight z ps ms (plain sets) cost i j) (same_scale p.scale p.scaled)) in
+    let agree = λ (i j : ℕ). c.of-weights.ensures.weights i j ∙ case_weight w p.scale ps ms (plain sets) given ds cost i j below
+    (c.of-combed.ensures.weights i j ∙ ap (λ (z : ℤ). set_weight z ps ms (plain sets) cost i j) (same_scale p.scale p.scaled)) in
     λ i j. agree i j ∙ leaf_even p.scale ps (on_taken decided_number case) (on_avoided decided_number case) combs cost (g.met.C.Symmetric.even p.costs.now) i j ∙ sym (agree j i)
 
 pub returns-clause-bound : goal.returns-clause-bound
@@ -79,7 +80,8 @@ returns-clause-bound g c =
     let w : ℕ → ℕ → ℤ = set_weight q.scale q.potentials.now q.multipliers.now (plain q.sets.now) (g.C.Costs.at q.costs.now) in
     let below = sets_below_count p.combs (length ms) sets c.requires.numbers.each_comb p.of_combs in
     let combs : List (Comb × ℤ) = multiplied (combs_of (length ms) (plain sets)) ms in
-    let agree = λ (i j : ℕ). c.of-weights.ensures.weights i j ∙ case_weight w p.scale ps ms (plain sets) given ds cost i j below (c.of-combed.ensures.weights i j ∙ ap (λ (z : ℤ). set_weight z ps ms (plain sets) cost i j) (same_scale p.scale p.scaled)) in
+    let agree = λ (i j : ℕ). c.of-weights.ensures.weights i j ∙ case_weight w p.scale ps ms (plain sets) given ds cost i j below
+    (c.of-combed.ensures.weights i j ∙ ap (λ (z : ℤ). set_weight z ps ms (plain sets) cost i j) (same_scale p.scale p.scaled)) in
     let nodes_are = c.of-weights.ensures.nodes ∙ c.of-combed.ensures.nodes in
     let r = c.of-weights.result in
     let k : ℕ = g.C.Costs.nodes r.combed.now.costs.now in
