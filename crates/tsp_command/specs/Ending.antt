@@ -9,7 +9,7 @@ use Rattle.tsp_judge.specs.declared.fault.RunFault.{RunFault}
 use Rattle.tsp_judge.specs.declared.fault.RunFault.TheVariants.{File, Write, WrongKind, Relayout}
 use Rattle.tsp_judge.specs.declared.fault.RunFault.TheVariants as run_faults
 use Rattle.tsp_command.specs.declared.words.JobFault.TheVariants as job_faults
-use Rattle.tsp_command.specs.declared.task.TaskFault.TheVariants.{UnknownLayout, MissingPath}
+use Rattle.tsp_command.specs.declared.task.TaskFault.TheVariants.{UnknownLayout, MissingPath, TwoCertificates}
 use Rattle.tsp_command.specs.declared.ending.Ending.{Ending}
 use Rattle.tsp_command.specs.declared.ending.Ending.TheVariants.{NoJob, NoTask, Ended}
 use Rattle.tsp_command.specs.declared.ending.Line.{Line}
@@ -60,6 +60,7 @@ line_text (lines.Refusal refusal) = None
 line_text lines.OutOfMemory = ended (codes "out of memory")
 line_text (lines.NoTask UnknownLayout) = ended (codes "unknown layout")
 line_text (lines.NoTask MissingPath) = ended (codes "missing path")
+line_text (lines.NoTask TwoCertificates) = ended (codes "both potentials and branches")
 line_text (lines.Fault fault) = None
 
 -- some text is written, and the end of its line

@@ -8,10 +8,10 @@ use Rattle.tsp_judge.specs.declared.fault.RunFault.{RunFault}
 use Rattle.tsp_judge.specs.ShowRun.{IsShowRun}
 use Rattle.tsp_judge.specs.ConvertRun.{IsConvertRun}
 use Rattle.tsp_judge.specs.Yes.{IsVerdictCheck}
-use Rattle.tsp_judge.specs.BoundRun.{IsBoundVerdictCheck}
+use Rattle.tsp_judge.specs.BoundRun.{IsBoundVerdictCheck, IsBranchVerdictCheck}
 use Rattle.tsp_judge.specs.declared.Verdict.{Verdict}
 use Rattle.tsp_command.specs.declared.task.Task.{Task}
-use Rattle.tsp_command.specs.declared.task.Task.TheVariants.{Show, Convert, Check, BoundCheck}
+use Rattle.tsp_command.specs.declared.task.Task.TheVariants.{Show, Convert, Check, BoundCheck, BranchCheck}
 
 -- the answer, where what was done has no verdict
 abbrev pub counts : Result (Unit {0}) RunFault → Result (Option Verdict) RunFault
@@ -39,4 +39,9 @@ IsDone remaining (BoundCheck instance solution potentials) (BoundCheck instance_
     TakesAtMost most_taken (turn_of remaining solution solution_left) (λ second.
     TakesAtMost most_taken (turn_of remaining potentials potentials_left) (λ third.
     (ended : Result Verdict RunFault) × (answer ≡ judges ended) × IsBoundVerdictCheck first second third sink ended)))
+IsDone remaining (BranchCheck instance solution branches) (BranchCheck instance_left solution_left branches_left) sink answer =
+    TakesAtMost most_taken (turn_of remaining instance instance_left) (λ first.
+    TakesAtMost most_taken (turn_of remaining solution solution_left) (λ second.
+    TakesAtMost most_taken (turn_of remaining branches branches_left) (λ third.
+    (ended : Result Verdict RunFault) × (answer ≡ judges ended) × IsBranchVerdictCheck first second third sink ended)))
 IsDone remaining _ _ sink answer = ⊥

@@ -36,9 +36,9 @@ abbrev pub check_files : App
 check_files = with_rule (with_rule (with_rule (new_app (codes "check")) (path (codes "F"))) (path (codes "T")))
     (option (codes "P") (codes "potentials"))
 
--- check F T [--potentials P] [--explain]
+-- check F T [--potentials P] [--branches B] [--explain]
 abbrev pub check : App
-check = with_rule check_files explain
+check = with_rule (with_rule check_files (option (codes "B") (codes "branches"))) explain
 
 -- the program, whose words don't begin with its own name, and which knows its version
 abbrev pub start : App

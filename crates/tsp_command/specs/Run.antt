@@ -12,7 +12,7 @@ use Rattle.tsp_command.specs.declared.ending.Ending.TheVariants.{NoJob, NoTask, 
 use Rattle.tsp_command.specs.declared.words.Job.{Job}
 use Rattle.tsp_command.specs.declared.task.Place.{Place}
 use Rattle.tsp_command.specs.declared.task.Task.{Task}
-use Rattle.tsp_command.specs.declared.task.Task.TheVariants.{Show, Convert, Check, BoundCheck}
+use Rattle.tsp_command.specs.declared.task.Task.TheVariants.{Show, Convert, Check, BoundCheck, BranchCheck}
 use Rattle.tsp_command.specs.declared.words.JobFault.TheVariants.{OutOfMemory}
 use Rattle.tsp_command.specs.Words.{GivesJob, IsRefused}
 use Rattle.tsp_command.specs.Task.{GivesTask}
@@ -29,6 +29,7 @@ AreFresh opens (Show a) (Show x) = IsFresh opens a x
 AreFresh opens (Convert a to) (Convert x same) = IsFresh opens a x × (same ≡ to)
 AreFresh opens (Check a b) (Check x y) = IsFresh opens a x × IsFresh opens b y
 AreFresh opens (BoundCheck a b c) (BoundCheck x y z) = IsFresh opens a x × IsFresh opens b y × IsFresh opens c z
+AreFresh opens (BranchCheck a b c) (BranchCheck x y z) = IsFresh opens a x × IsFresh opens b y × IsFresh opens c z
 AreFresh opens _ _ = ⊥
 
 -- How a run ends that has this job: it is no task, and then nothing is written; or the task was done on its files, opened in

@@ -26,10 +26,11 @@ IsVerbOf word None = (verb : Verb) → word ≢ word_of verb
 abbrev pub text_in : {Z : Type 0} → Option (String Z) → Option Text
 text_in = option_map string_bytes
 
--- the job has the values of F, T, L and P, where they were found, and is to be explained where E was given
+-- the job has the values of F, T, L, P and B, where they were found, and is to be explained where E was given
 abbrev pub HasValues : List Row → Job → Type 0
 HasValues rows job = (text_in job.file ≡ first_of (codes "F") rows) × (text_in job.solution ≡ first_of (codes "T") rows)
     × (text_in job.layout ≡ first_of (codes "L") rows) × (text_in job.potentials ≡ first_of (codes "P") rows)
+    × (text_in job.branches ≡ first_of (codes "B") rows)
     × (IsTrue job.explain ↔ (first_of (codes "E") rows ≡ Some (codes "true")))
 
 -- the job is that of a subcommand with its values, or of none

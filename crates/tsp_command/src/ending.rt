@@ -50,6 +50,9 @@ impl Display for Line<'_> {
             Line::OutOfMemory => f.write_str("out of memory\n"),
             Line::NoTask(TaskFault::UnknownLayout) => f.write_str("unknown layout\n"),
             Line::NoTask(TaskFault::MissingPath) => f.write_str("missing path\n"),
+            Line::NoTask(TaskFault::TwoCertificates) => {
+                f.write_str("both potentials and branches\n")
+            }
             Line::Fault(fault) => {
                 f.write(fault)?;
                 f.write_str("\n")

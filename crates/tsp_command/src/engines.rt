@@ -8,7 +8,8 @@ use crate::task::Task;
 use std::alloc::Global;
 use std::io::{Read, Write};
 use tsp_judge::{
-    RunFault, Verdict, Watched, run_bound_verdict, run_convert, run_show, run_verdict,
+    RunFault, Verdict, Watched, run_bound_verdict, run_branch_verdict, run_convert, run_show,
+    run_verdict,
 };
 
 /// Does a task on files that are read from these readers, and writes what comes of it. The answer is
@@ -28,6 +29,9 @@ pub fn perform<R: Read, W: Write>(
         Task::Check(instance, solution) => judged(run_verdict(alloc, instance, solution, out)),
         Task::BoundCheck(instance, solution, potentials) => {
             judged(run_bound_verdict(alloc, instance, solution, potentials, out))
+        }
+        Task::BranchCheck(instance, solution, branches) => {
+            judged(run_branch_verdict(alloc, instance, solution, branches, out))
         }
     }
 }

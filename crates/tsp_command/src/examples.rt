@@ -35,6 +35,7 @@ pub fn examples_of_statuses()
     ensures memory_for_a_layout { status_of_fault (run_faults.Relayout relayout_faults.OutOfMemory) ≡ 3 }
     ensures unknown_layout { status_of (endings.NoTask task_faults.UnknownLayout) ≡ 4 }
     ensures missing_path { status_of (endings.NoTask task_faults.MissingPath) ≡ 4 }
+    ensures two_certificates { status_of (endings.NoTask task_faults.TwoCertificates) ≡ 4 }
     ensures device_in { status_of_fault (run_faults.File 2 read_faults.Device) ≡ 5 }
     ensures device_out { status_of_fault (run_faults.Write write_faults.Device) ≡ 5 }
     ensures of_fault { status_of (endings.Ended (Err run_faults.WrongKind)) ≡ 2 }

@@ -40,6 +40,7 @@ fn push_explanation<F: Read + Drop, O: Open<F>>(
     match ending {
         Ending::NoJob(_) | Ending::NoTask(TaskFault::MissingPath) => Ok(()),
         Ending::NoTask(TaskFault::UnknownLayout) => push_lines(text, LAYOUTS),
+        Ending::NoTask(TaskFault::TwoCertificates) => push_lines(text, CERTIFICATES),
         Ending::Ended(Ok(Some(Verdict::No(reason)))) => {
             push_reason(alloc, text, job, *reason, files)
         }
@@ -53,10 +54,14 @@ const LAYOUTS: &str =
     "A layout is FULL_MATRIX, UPPER_ROW, LOWER_ROW, UPPER_DIAG_ROW, LOWER_DIAG_ROW,\n\
     UPPER_COL, LOWER_COL, UPPER_DIAG_COL or LOWER_DIAG_COL, in capital letters.";
 
+/// What certifies a bound.
+const CERTIFICATES: &str =
+    "A check takes one certificate: a file of potentials, or a tree of cases. Run it once with each.";
+
 /// What the first file of a check is.
 const KINDS: &str =
-    "The first file of a check is of TYPE TSP, ATSP or CVRP, and with --potentials of TYPE TSP or ATSP.\n\
-    The second file is the solution, of TYPE TOUR.";
+    "The first file of a check is of TYPE TSP, ATSP or CVRP, with --potentials of TYPE TSP or ATSP, and\n\
+    with --branches of TYPE TSP. The second file is the solution, of TYPE TOUR.";
 
 /// Appends what explains a fault of a task.
 fn push_fault<F: Read + Drop, O: Open<F>>(
@@ -112,7 +117,7 @@ fn file_of(blamed: Blame) -> u32 {
     match blamed {
         Blame::Instance => 1,
         Blame::Solution => 2,
-        Blame::Potentials => 3,
+        Blame::Potentials | Blame::Branches => 3,
     }
 }
 
@@ -121,11 +126,19 @@ fn path_of(job: &Job, file: u32) -> Option<&str> {
     let path = match file {
         1 => &job.file,
         2 => &job.solution,
-        _ => &job.potentials,
+        _ => certificate_of(job),
     };
     match path {
         Some(path) => Some(path.as_str()),
         None => None,
+    }
+}
+
+/// The path of the certificate.
+fn certificate_of(job: &Job) -> &Option<String> {
+    match &job.potentials {
+        Some(_) => &job.potentials,
+        None => &job.branches,
     }
 }
 

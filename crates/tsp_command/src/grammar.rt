@@ -30,7 +30,8 @@ With --explain, lines after a fault or a no say where it is and what to do.
 Examples:
   tsp show a.tsp
   tsp convert a.tsp --layout UPPER_ROW > b.tsp
-  tsp check a.tsp a.tour --potentials a.potentials";
+  tsp check a.tsp a.tour --potentials a.potentials
+  tsp check a.tsp a.tour --branches a.branches";
 
 /// The end of the help of `show`.
 const SHOW_NOTES: &str = "\
@@ -57,15 +58,16 @@ Example:
 
 /// The end of the help of `check`.
 const CHECK_NOTES: &str = "\
-Prints yes with the length, or no with the first reason. With potentials a
-yes has a bound too: no tour is shorter than that.
+Prints yes with the length, or no with the first reason. With potentials or
+branches a yes has a bound too: no tour is shorter than that.
 
 Exit status: 0 yes, 1 no, 2 a fault of a file or the wrong kind,
-3 out of memory, 5 a device.
+3 out of memory, 4 both potentials and branches, 5 a device.
 
 Examples:
   tsp check a.tsp a.tour
-  tsp check a.tsp a.tour --potentials a.potentials";
+  tsp check a.tsp a.tour --potentials a.potentials
+  tsp check a.tsp a.tour --branches a.branches";
 
 /// The program's command with its three subcommands. Its words are those after the program's own
 /// name.
@@ -106,11 +108,18 @@ fn convert<'a>(alloc: Global) -> Result<Command<'a>, AllocError>
         .arg(explain(alloc))
 }
 
-/// `check F T [--potentials P] [--explain]`.
+/// `check F T [--potentials P] [--branches B] [--explain]`.
 fn check<'a>(alloc: Global) -> Result<Command<'a>, AllocError>
     ensures { IfOk result (IsCommandOf check) }
 {
-    check_files(alloc)?.arg(explain(alloc))
+    check_files(alloc)?
+        .arg(option(
+            alloc,
+            "B",
+            "branches",
+            "The path of a tree of cases: TYPE BRANCHES",
+        ))?
+        .arg(explain(alloc))
 }
 
 /// `check F T [--potentials P]`, which has the files.
@@ -118,7 +127,7 @@ fn check_files<'a>(alloc: Global) -> Result<Command<'a>, AllocError>
     ensures { IfOk result (IsCommandOf check_files) }
 {
     Command::new(alloc, "check")
-        .about("Judges a tour or routes, and with potentials bounds every tour")
+        .about("Judges a tour or routes, and with a certificate bounds every tour")
         .after_help(CHECK_NOTES)
         .arg(path(
             alloc,

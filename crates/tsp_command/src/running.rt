@@ -165,6 +165,11 @@ fn opened<F: Read + Drop, O: Open<F>>(task: Task<Place<'_>>, files: &O) -> Task<
             fresh(solution, files),
             fresh(potentials, files),
         ),
+        Task::BranchCheck(instance, solution, branches) => Task::BranchCheck(
+            fresh(instance, files),
+            fresh(solution, files),
+            fresh(branches, files),
+        ),
     }
 }
 

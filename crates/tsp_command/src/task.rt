@@ -27,6 +27,8 @@ pub enum Task<F> {
     Check(F, F),
     /// To judge the solution of an instance, and to bound every solution by potentials.
     BoundCheck(F, F, F),
+    /// To judge the solution of an instance, and to bound every solution by a tree of cases.
+    BranchCheck(F, F, F),
 }
 
 /// Why a job is no task.
@@ -36,14 +38,17 @@ pub enum TaskFault {
     UnknownLayout,
     /// A path that the job wants is missing.
     MissingPath,
+    /// Two certificates are named, potentials and branches.
+    TwoCertificates,
 }
 
 /// The task of a job. With no verb, standard input is shown.
 ///
 /// # Errors
 ///
-/// `UnknownLayout` where no layout has the word that stands for one; `MissingPath` where a path is
-/// missing, as in no job that words ask for.
+/// `UnknownLayout` where no layout has the word that stands for one; `TwoCertificates` where a check
+/// has both potentials and branches; `MissingPath` where a path is missing, as in no job that words
+/// ask for.
 pub fn task_of(job: &Job) -> Result<Task<Place<'_>>, TaskFault>
     ensures { GivesTask job.now result }
 {
@@ -56,9 +61,11 @@ pub fn task_of(job: &Job) -> Result<Task<Place<'_>>, TaskFault>
         Verb::Convert => Ok(Task::Convert(file, layout_of(&job.layout)?)),
         Verb::Check => {
             let solution = place_of(&job.solution)?;
-            match &job.potentials {
-                None => Ok(Task::Check(file, solution)),
-                Some(path) => Ok(Task::BoundCheck(file, solution, Place::Path(path))),
+            match (&job.potentials, &job.branches) {
+                (None, None) => Ok(Task::Check(file, solution)),
+                (Some(path), None) => Ok(Task::BoundCheck(file, solution, Place::Path(path))),
+                (None, Some(path)) => Ok(Task::BranchCheck(file, solution, Place::Path(path))),
+                (Some(_), Some(_)) => Err(TaskFault::TwoCertificates),
             }
         }
     }

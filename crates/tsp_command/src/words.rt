@@ -51,6 +51,8 @@ pub struct Job {
     pub layout: Option<String>,
     /// The path of the potentials.
     pub potentials: Option<String>,
+    /// The path of the tree of cases.
+    pub branches: Option<String>,
     /// Whether a fault, or a no, is to be explained.
     pub explain: bool,
 }
@@ -78,8 +80,8 @@ impl JobFault {
 }
 
 /// Reads the words of a command line, those after the program's own name: `show F`,
-/// `convert F [--layout L]`, `check F T [--potentials P]`, each with `--explain` or without, or no
-/// words at all.
+/// `convert F [--layout L]`, `check F T [--potentials P] [--branches B]`, each with `--explain` or
+/// without, or no words at all.
 ///
 /// # Errors
 ///
@@ -101,6 +103,7 @@ pub fn job_of(alloc: Global, words: &[&str]) -> Result<Job, JobFault>
             solution: None,
             layout: None,
             potentials: None,
+            branches: None,
             explain: false,
         });
     };
@@ -146,6 +149,7 @@ fn job_with(alloc: Global, verb: Option<Verb>, found: &ArgMatches<'_>) -> Result
         solution: value(alloc, found, "T")?,
         layout: value(alloc, found, "L")?,
         potentials: value(alloc, found, "P")?,
+        branches: value(alloc, found, "B")?,
         explain: is_given(found, "E"),
     })
 }

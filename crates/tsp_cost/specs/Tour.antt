@@ -2,7 +2,7 @@
 use Rattle.std.specs.Prelude.{ℕ, Bool, true, false, List, [], Option, None, Some, unwrap_or}
 use Rattle.std.specs.List.{All}
 use Rattle.tsp_value.specs.declared.kinds.Kind.{Kind}
-use Rattle.tsp_value.specs.declared.kinds.Kind.TheVariants.{Tsp, Atsp, Cvrp, Tour, Potentials}
+use Rattle.tsp_value.specs.declared.kinds.Kind.TheVariants.{Tsp, Atsp, Cvrp, Tour, Potentials, Branches}
 use Rattle.tsp_fields.specs.Fields.{Fields}
 use Rattle.tsp_cost.specs.Walk.{IsWalk, Follows, AreNeighbours}
 
@@ -13,6 +13,7 @@ is_directed (Some Tsp) = false
 is_directed (Some Cvrp) = false
 is_directed (Some Tour) = false
 is_directed (Some Potentials) = false
+is_directed (Some Branches) = false
 is_directed None = false
 
 -- a list of nodes uses a pair: from the first to the second, or in either direction

@@ -42,7 +42,7 @@ impl Instance {
 
     /// The instance that a file is, or why it is none, and the file itself, unchanged.
     ///
-    /// Errors: `NotInstance` for a file of TYPE TOUR or POTENTIALS. No memory is taken.
+    /// Errors: `NotInstance` for a file of TYPE TOUR, POTENTIALS or BRANCHES. No memory is taken.
     pub fn of(f: File) -> Result<Instance, (CostFault, File)>
         ensures { MatchResult result
             (λ inst. (inst ≡ f) × IsTrue (is_instance f.kind))
@@ -50,7 +50,7 @@ impl Instance {
     {
         match f.kind() {
             Kind::Tsp | Kind::Atsp | Kind::Cvrp => Ok(Instance { file: f }),
-            Kind::Tour | Kind::Potentials => Err((CostFault::NotInstance, f)),
+            Kind::Tour | Kind::Potentials | Kind::Branches => { Err((CostFault::NotInstance, f)) }
         }
     }
 

@@ -21,6 +21,8 @@ pub enum Blame {
     Solution,
     /// The potentials.
     Potentials,
+    /// The tree of cases.
+    Branches,
 }
 
 /// The file that a reason is about.
@@ -47,6 +49,11 @@ pub fn blamed(reason: Reason) -> Blame {
         | Reason::MultiplierNotFixed { .. }
         | Reason::MultiplierRepeated { .. }
         | Reason::DualInfeasible { .. } => Blame::Potentials,
+        Reason::NotBranches
+        | Reason::BranchesDimension
+        | Reason::BadComb { .. }
+        | Reason::BranchTwice { .. }
+        | Reason::BadLeaf { .. } => Blame::Branches,
     }
 }
 
@@ -133,7 +140,12 @@ fn push_details(
         | Reason::MultiplierNotFixed { .. }
         | Reason::MultiplierRepeated { .. }
         | Reason::DepotDemand
-        | Reason::FixedEdgesInRoutes => Ok(()),
+        | Reason::FixedEdgesInRoutes
+        | Reason::NotBranches
+        | Reason::BranchesDimension
+        | Reason::BadComb { .. }
+        | Reason::BranchTwice { .. }
+        | Reason::BadLeaf { .. } => Ok(()),
     }
 }
 

@@ -39,7 +39,7 @@ pub fn line_sentence(fault: LineFault) -> &'static str {
         LineFault::RepeatedNode => {
             "An earlier group of the section has this node. Each node from 1 to DIMENSION has one group."
         }
-        LineFault::SelfEdge => "Both nodes of this fixed edge are the same one.",
+        LineFault::SelfEdge => "Both nodes of this pair are the same one.",
         LineFault::Surplus => "This is more than the file can have.",
         LineFault::AfterEnd => {
             "The list was ended by -1 before this word. After that only words -1 may stand."
@@ -154,5 +154,22 @@ pub fn reason_sentence(reason: Reason) -> &'static str {
         }
         Reason::Unserved { node: _ } => "Every node but the depot stands in a route.",
         Reason::Overload { route: _ } => "The demands of a route sum to at most CAPACITY.",
+        Reason::NotBranches => "The third file has to be of TYPE BRANCHES.",
+        Reason::BranchesDimension => "DIMENSION of the tree of cases isn't that of the instance.",
+        Reason::BadComb { index: _ } => {
+            "This comb of COMB_SECTION is none. A comb has a handle and an odd number of teeth, 3 or more, which don't meet;\n\
+             each tooth has a node inside the handle and one outside, and no set has a node twice."
+        }
+        Reason::BranchTwice { index: _ } => {
+            "This branch of BRANCH_SECTION is on a pair that a branch above it decides, or that is a fixed edge of the instance,\n\
+             whichever node stands first."
+        }
+        Reason::BadLeaf { index: _ } => {
+            "This leaf of BRANCH_SECTION has a number that isn't taken. Indices are 1 to DIMENSION for the potentials of nodes,\n\
+             and go on from there for the multipliers of combs, one for each comb of COMB_SECTION.\n\
+             A potential is at most 1,000,000,000,000,000 in size; multipliers aren't below 0,\n\
+             and sum to at most 300,000,000,000,000,000.\n\
+             Numbers are told by their differences to those of the leaf before."
+        }
     }
 }

@@ -13,7 +13,7 @@ pub(crate) fn wanted(field: Field) -> &'static str {
             "An unknown keyword keeps its whole value, with the keyword at most 4,000 bytes. At most 1,000 lines have one."
         }
         Field::TypeKey => {
-            "TYPE is TSP, ATSP, CVRP, TOUR or POTENTIALS. Of TSPLIB 95's, tsp doesn't read HCP and SOP."
+            "TYPE is TSP, ATSP, CVRP, TOUR, POTENTIALS or BRANCHES. Of TSPLIB 95's, tsp doesn't read HCP and SOP."
         }
         Field::DimensionKey => {
             "DIMENSION is the number of nodes: a whole number from 1 to 100,000."
@@ -74,6 +74,16 @@ pub(crate) fn wanted(field: Field) -> &'static str {
             "FIXED_EDGE_POTENTIAL_SECTION lists two different nodes from 1 to DIMENSION and their multiplier,\n\
              a whole number from 0 to 1,000,000,000,000,000: at most 100,000 such triples, and -1 at its end."
         }
+        Field::CombPart => {
+            "COMB_SECTION lists combs of nodes from 1 to DIMENSION: a handle and its teeth, -1 at the end of each of these,\n\
+             one more -1 after each comb, and one after the last: at most 10,000 combs, with 1,000,000 nodes in all."
+        }
+        Field::BranchPart => {
+            "BRANCH_SECTION has one tree. Two different nodes from 1 to DIMENSION are a branch, before the tree of the tours\n\
+             that use the pair and that of the tours that don't. 0 begins a leaf: pairs of an index from 1 to DIMENSION + 10,000\n\
+             and a whole difference from -2,000,000,000,000,000 to 2,000,000,000,000,000, and -1 at its end.\n\
+             There are at most 1,000,000 branches, and 10,000,000 differences."
+        }
     }
 }
 
@@ -104,6 +114,7 @@ pub(crate) fn asked(field: Field) -> &'static str {
         Field::RowPotentialPart | Field::ColumnPotentialPart => {
             "A file of TYPE POTENTIALS with numbers of rows has them of columns too, and the other way round."
         }
+        Field::BranchPart => "A file of TYPE BRANCHES has a BRANCH_SECTION.",
         Field::NameKey
         | Field::CommentKey
         | Field::OtherKey
@@ -112,7 +123,8 @@ pub(crate) fn asked(field: Field) -> &'static str {
         | Field::DisplayDataTypeKey
         | Field::DisplayDataPart
         | Field::FixedEdgesPart
-        | Field::FixedPotentialPart => "No file needs it.",
+        | Field::FixedPotentialPart
+        | Field::CombPart => "No file needs it.",
     }
 }
 
@@ -141,6 +153,8 @@ pub(crate) fn group(field: Field, is_spatial: bool) -> Option<u64> {
         | Field::FixedEdgesPart
         | Field::EdgeWeightPart
         | Field::TourPart
-        | Field::FixedPotentialPart => None,
+        | Field::FixedPotentialPart
+        | Field::CombPart
+        | Field::BranchPart => None,
     }
 }

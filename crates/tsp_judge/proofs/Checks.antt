@@ -42,6 +42,7 @@ sized_by (Some kinds.Cvrp) instance solution (verdicts.Routes length routes leas
 sized_by (Some kinds.Cvrp) instance solution (verdicts.No reason) v = tt
 sized_by (Some kinds.Tour) instance solution verdict v = absurd v
 sized_by (Some kinds.Potentials) instance solution verdict v = absurd v
+sized_by (Some kinds.Branches) instance solution verdict v = absurd v
 sized_by None instance solution verdict v = absurd v
 
 pub sized : (instance solution : Fields) (verdict : Verdict) → IsVerdictOn instance solution verdict → IsSized verdict
@@ -85,6 +86,7 @@ a_file_of_tours (Some kinds.Atsp) not = absurd (not refl)
 a_file_of_tours (Some kinds.Cvrp) not = absurd (not refl)
 a_file_of_tours (Some kinds.Tour) not = refl
 a_file_of_tours (Some kinds.Potentials) not = absurd (not refl)
+a_file_of_tours (Some kinds.Branches) not = absurd (not refl)
 a_file_of_tours None not = absurd (not refl)
 
 -- what a yes says
@@ -137,6 +139,7 @@ yes_by (Some kinds.Cvrp) first second sink instance solution (verdicts.Routes le
 yes_by (Some kinds.Cvrp) first second sink instance solution (verdicts.No reason) same one two v is written = absurd (false≢true (sym is))
 yes_by (Some kinds.Tour) first second sink instance solution verdict same one two v is written = absurd v
 yes_by (Some kinds.Potentials) first second sink instance solution verdict same one two v is written = absurd v
+yes_by (Some kinds.Branches) first second sink instance solution verdict same one two v is written = absurd v
 yes_by None first second sink instance solution verdict same one two v is written = absurd v
 
 pub with_yes : (first second : Turn) (sink : Sink) (result : Result Bool RunFault) → IsRun first second sink result → IsCheck first second sink result

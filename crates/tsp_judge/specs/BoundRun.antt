@@ -14,67 +14,93 @@ use Rattle.tsp_verdict.specs.declared.verdict.Verdict.{Verdict}
 use Rattle.tsp_verdict.specs.declared.verdict.Verdict.TheVariants.{Tour}
 use Rattle.tsp_verdict.specs.Solution.{tours_of}
 use Rattle.tsp_verdict.specs.Certificate.{IsBoundBy}
-use Rattle.tsp_verdict.specs.Bounded.{IsVerdict, BoundsTours}
+use Rattle.tsp_verdict.specs.Bounded as by_potentials
+use Rattle.tsp_verdict.specs.Branched as by_branches
+use Rattle.tsp_verdict.specs.Tree as tree
+use Rattle.tsp_verdict.specs.Bounded.{BoundsTours}
+use Rattle.tsp_judge.specs.declared.certificate.Certificate.{Certificate}
+use Rattle.tsp_judge.specs.declared.certificate.Certificate.TheVariants.{Potentials, Branches}
 use Rattle.tsp_judge.specs.declared.fault.RunFault.{RunFault}
 use Rattle.tsp_judge.specs.declared.fault.RunFault.TheVariants.{File, WrongKind, Write, OutOfMemory, Relayout}
 use Rattle.tsp_judge.specs.Judged.{is_yes}
 use Rattle.tsp_judge.specs.Report.{report_of}
 use Rattle.tsp_judge.specs.Run.{IsSomeFile, told}
 
--- the TYPEs whose tours have a bound
-abbrev pub is_bounded : Option Kind → Bool
-is_bounded (Some kinds.Tsp) = true
-is_bounded (Some kinds.Atsp) = true
-is_bounded (Some kinds.Cvrp) = false
-is_bounded (Some kinds.Tour) = false
-is_bounded (Some kinds.Potentials) = false
-is_bounded None = false
+-- ---- by the kind of the certificate
+
+-- the TYPE of its file
+abbrev pub kind_of : Certificate → Kind
+kind_of Potentials = kinds.Potentials
+kind_of Branches = kinds.Branches
+
+-- the TYPEs whose tours have a bound by it
+abbrev pub is_bounded : Certificate → Option Kind → Bool
+is_bounded by (Some kinds.Tsp) = true
+is_bounded Potentials (Some kinds.Atsp) = true
+is_bounded Branches (Some kinds.Atsp) = false
+is_bounded by (Some kinds.Cvrp) = false
+is_bounded by (Some kinds.Tour) = false
+is_bounded by (Some kinds.Potentials) = false
+is_bounded by (Some kinds.Branches) = false
+is_bounded by None = false
+
+-- the verdict with it
+abbrev pub IsVerdictWith : Certificate → Fields → Fields → Fields → Verdict → Type 0
+IsVerdictWith Potentials instance solution certificate verdict = by_potentials.IsVerdict instance solution certificate verdict
+IsVerdictWith Branches instance solution certificate verdict = by_branches.IsVerdict instance solution certificate verdict
+
+-- the bound that it gives
+abbrev pub IsBoundOf : Certificate → Fields → Fields → ℤ → Type 0
+IsBoundOf Potentials instance certificate bound = IsBoundBy instance.kind instance certificate bound
+IsBoundOf Branches instance certificate bound = tree.IsBoundBy instance certificate bound
+
+-- ---- the run
 
 -- the turn's bytes spell a file whose tours have a bound, or one whose tours have none
-abbrev pub IsSomeBounded : Turn → Type 0
-IsSomeBounded turn = (file : Fields) × IsFile turn file × IsTrue (is_bounded file.kind)
+abbrev pub IsSomeBounded : Certificate → Turn → Type 0
+IsSomeBounded by turn = (file : Fields) × IsFile turn file × IsTrue (is_bounded by file.kind)
 
-abbrev pub IsNoBounded : Turn → Type 0
-IsNoBounded turn = (file : Fields) × IsFile turn file × (is_bounded file.kind ≡ false)
+abbrev pub IsNoBounded : Certificate → Turn → Type 0
+IsNoBounded by turn = (file : Fields) × IsFile turn file × (is_bounded by file.kind ≡ false)
 
 -- the first file is this instance, whose tours have a bound, and the verdict on the second file with the third is this one
-pub record IsJudged (first second third : Turn) (instance : Fields) (verdict : Verdict) : Type 0 where
-  pub bounded : IsTrue (is_bounded instance.kind)
+pub record IsJudged (by : Certificate) (first second third : Turn) (instance : Fields) (verdict : Verdict) : Type 0 where
+  pub bounded : IsTrue (is_bounded by instance.kind)
   pub solution : Fields
   pub certificate : Fields
   pub first_file : IsFile first instance
   pub second_file : IsFile second solution
   pub third_file : IsFile third certificate
-  pub judged : IsVerdict instance solution certificate verdict
+  pub judged : IsVerdictWith by instance solution certificate verdict
 
 -- What the check answers, as the check of two files does. The first file, in order, that isn't one decides, later ones aren't
 -- read, and then nothing is written; then the first file's TYPE decides.
-abbrev pub IsBoundRun : Turn → Turn → Turn → Sink → Result Bool RunFault → Type 0
-IsBoundRun first second third sink (Ok answer) = (instance : Fields) × (verdict : Verdict)
-    × IsJudged first second third instance verdict
+abbrev pub IsBoundRun : Certificate → Turn → Turn → Turn → Sink → Result Bool RunFault → Type 0
+IsBoundRun by first second third sink (Ok answer) = (instance : Fields) × (verdict : Verdict)
+    × IsJudged by first second third instance verdict
     × (answer ≡ is_yes verdict) × HasWritten sink (report_of instance verdict)
-IsBoundRun first second third sink (Err (File file fault)) = IsUnwritten sink
+IsBoundRun by first second third sink (Err (File file fault)) = IsUnwritten sink
     × (((file ≡ 1) × StopsAt fault first × IsUnread second × IsUnread third)
     ⊎ ((file ≡ 2) × IsSomeFile first × StopsAt fault second × IsUnread third)
     ⊎ ((file ≡ 3) × IsSomeFile first × IsSomeFile second × StopsAt fault third))
-IsBoundRun first second third sink (Err WrongKind) = IsUnwritten sink × IsNoBounded first × IsSomeFile second × IsSomeFile third
-IsBoundRun first second third sink (Err OutOfMemory) = IsUnwritten sink × IsSomeBounded first × IsSomeFile second
+IsBoundRun by first second third sink (Err WrongKind) = IsUnwritten sink × IsNoBounded by first × IsSomeFile second × IsSomeFile third
+IsBoundRun by first second third sink (Err OutOfMemory) = IsUnwritten sink × IsSomeBounded by first × IsSomeFile second
     × IsSomeFile third
-IsBoundRun first second third sink (Err (Relayout fault)) = ⊥
-IsBoundRun first second third sink (Err (Write write_faults.OutOfMemory)) = ⊥
-IsBoundRun first second third sink (Err (Write write_faults.Device)) = (instance : Fields) × (verdict : Verdict)
-    × IsJudged first second third instance verdict × HasStopped sink (report_of instance verdict)
+IsBoundRun by first second third sink (Err (Relayout fault)) = ⊥
+IsBoundRun by first second third sink (Err (Write write_faults.OutOfMemory)) = ⊥
+IsBoundRun by first second third sink (Err (Write write_faults.Device)) = (instance : Fields) × (verdict : Verdict)
+    × IsJudged by first second third instance verdict × HasStopped sink (report_of instance verdict)
 
 -- The same run, where the verdict itself is answered: at Ok it is that of these files, and the whole report on it was written.
-abbrev pub IsBoundVerdictRun : Turn → Turn → Turn → Sink → Result Verdict RunFault → Type 0
-IsBoundVerdictRun first second third sink (Ok verdict) = (instance : Fields) × IsJudged first second third instance verdict
+abbrev pub IsBoundVerdictRun : Certificate → Turn → Turn → Turn → Sink → Result Verdict RunFault → Type 0
+IsBoundVerdictRun by first second third sink (Ok verdict) = (instance : Fields) × IsJudged by first second third instance verdict
     × HasWritten sink (report_of instance verdict)
-IsBoundVerdictRun first second third sink (Err fault) = IsBoundRun first second third sink (Err fault)
+IsBoundVerdictRun by first second third sink (Err fault) = IsBoundRun by first second third sink (Err fault)
 
--- What a yes says: the second file is one of tours and the third one of potentials; the one tour visits every node of the
--- instance once and uses every fixed edge; its length and the bound of the third file are printed; and no tour of the
+-- What a yes says: the second file is one of tours and the third one of the certificate's TYPE; the one tour visits every node
+-- of the instance once and uses every fixed edge; its length and the bound of the third file are printed; and no tour of the
 -- instance is shorter than the bound, so that where the length equals it no tour is shorter than this one.
-pub record IsAYes (first second third : Turn) (sink : Sink) : Type 0 where
+pub record IsAYes (by : Certificate) (first second third : Turn) (sink : Sink) : Type 0 where
   pub instance : Fields
   pub solution : Fields
   pub certificate : Fields
@@ -82,23 +108,37 @@ pub record IsAYes (first second third : Turn) (sink : Sink) : Type 0 where
   pub second_file : IsFile second solution
   pub third_file : IsFile third certificate
   pub of_tours : solution.kind ≡ Some kinds.Tour
-  pub of_potentials : certificate.kind ≡ Some kinds.Potentials
+  pub of_type : certificate.kind ≡ Some (kind_of by)
   pub tour : List ℕ
   pub only : tours_of solution ≡ tour ∷ []
   pub tour_of : IsTourOf instance tour
   pub bound : ℤ
-  pub of_certificate : IsBoundBy instance.kind instance certificate bound
+  pub of_certificate : IsBoundOf by instance certificate bound
   pub printed : HasWritten sink (report_of instance (Tour (length_of (cost instance) tour) (Some bound)))
   pub below_tours : BoundsTours instance bound
   pub optimal : length_of (cost instance) tour ≡ bound → (other : List ℕ) → IsTourOf instance other
       → length_of (cost instance) tour ≤ℤ length_of (cost instance) other
 
 -- what the check does, and what its yes says
-abbrev pub IsBoundCheck : Turn → Turn → Turn → Sink → Result Bool RunFault → Type 0
-IsBoundCheck first second third sink result = IsBoundRun first second third sink result
-    × (result ≡ Ok true → IsAYes first second third sink)
+abbrev pub IsCheckBy : Certificate → Turn → Turn → Turn → Sink → Result Bool RunFault → Type 0
+IsCheckBy by first second third sink result = IsBoundRun by first second third sink result
+    × (result ≡ Ok true → IsAYes by first second third sink)
 
 -- the same where the verdict is answered
+abbrev pub IsVerdictCheckBy : Certificate → Turn → Turn → Turn → Sink → Result Verdict RunFault → Type 0
+IsVerdictCheckBy by first second third sink result = IsBoundVerdictRun by first second third sink result
+    × IsCheckBy by first second third sink (told result)
+
+-- ---- the two checks
+
+abbrev pub IsBoundCheck : Turn → Turn → Turn → Sink → Result Bool RunFault → Type 0
+IsBoundCheck first second third sink result = IsCheckBy Potentials first second third sink result
+
 abbrev pub IsBoundVerdictCheck : Turn → Turn → Turn → Sink → Result Verdict RunFault → Type 0
-IsBoundVerdictCheck first second third sink result = IsBoundVerdictRun first second third sink result
-    × IsBoundCheck first second third sink (told result)
+IsBoundVerdictCheck first second third sink result = IsVerdictCheckBy Potentials first second third sink result
+
+abbrev pub IsBranchCheck : Turn → Turn → Turn → Sink → Result Bool RunFault → Type 0
+IsBranchCheck first second third sink result = IsCheckBy Branches first second third sink result
+
+abbrev pub IsBranchVerdictCheck : Turn → Turn → Turn → Sink → Result Verdict RunFault → Type 0
+IsBranchVerdictCheck first second third sink result = IsVerdictCheckBy Branches first second third sink result

@@ -15,6 +15,7 @@ IsVerdictBy (Some kinds.Atsp) instance solution verdict = tours.IsVerdict instan
 IsVerdictBy (Some kinds.Cvrp) instance solution verdict = routes.IsVerdict instance solution verdict
 IsVerdictBy (Some kinds.Tour) instance solution verdict = ⊥
 IsVerdictBy (Some kinds.Potentials) instance solution verdict = ⊥
+IsVerdictBy (Some kinds.Branches) instance solution verdict = ⊥
 IsVerdictBy None instance solution verdict = ⊥
 
 abbrev pub IsVerdictOn : Fields → Fields → Verdict → Type 0

@@ -8,7 +8,7 @@ use Rattle.tsp_value.specs.declared.kinds.Kind.{Kind}
 use Rattle.tsp_value.specs.Words.{kind_word}
 use Rattle.tsp_fields.specs.Fields.{Fields}
 use Rattle.tsp_verdict.specs.declared.verdict.Reason.{Reason}
-use Rattle.tsp_verdict.specs.declared.verdict.Reason.TheVariants.{NotASolution, TooFewNodes, NotSymmetric, Dimension, TourCount, TourLength, NodeOutOfRange, RepeatedNode, FixedEdgeUnused, NotPotentials, PotentialsDimension, PotentialsKind, MultiplierNotFixed, MultiplierRepeated, DualInfeasible, DepotCount, DepotDemand, FixedEdgesInRoutes, DepotInRoute, Unserved, Overload}
+use Rattle.tsp_verdict.specs.declared.verdict.Reason.TheVariants.{NotASolution, TooFewNodes, NotSymmetric, Dimension, TourCount, TourLength, NodeOutOfRange, RepeatedNode, FixedEdgeUnused, NotPotentials, PotentialsDimension, PotentialsKind, MultiplierNotFixed, MultiplierRepeated, DualInfeasible, DepotCount, DepotDemand, FixedEdgesInRoutes, DepotInRoute, Unserved, Overload, NotBranches, BranchesDimension, BadComb, BranchTwice, BadLeaf}
 use Rattle.tsp_verdict.specs.declared.verdict.Verdict.{Verdict}
 use Rattle.tsp_verdict.specs.declared.verdict.Verdict.TheVariants.{Tour, Routes, No}
 
@@ -51,6 +51,11 @@ reason_name FixedEdgesInRoutes = codes "FixedEdgesInRoutes"
 reason_name (DepotInRoute place) = codes "DepotInRoute"
 reason_name (Unserved node) = codes "Unserved"
 reason_name (Overload route) = codes "Overload"
+reason_name NotBranches = codes "NotBranches"
+reason_name BranchesDimension = codes "BranchesDimension"
+reason_name (BadComb index) = codes "BadComb"
+reason_name (BranchTwice index) = codes "BranchTwice"
+reason_name (BadLeaf index) = codes "BadLeaf"
 
 -- its numbers, of which it has two at most
 abbrev pub reason_numbers : Reason → Option ℕ × Option ℕ
@@ -75,6 +80,11 @@ reason_numbers FixedEdgesInRoutes = (None, None)
 reason_numbers (DepotInRoute place) = (Some place, None)
 reason_numbers (Unserved node) = (Some node, None)
 reason_numbers (Overload route) = (Some route, None)
+reason_numbers NotBranches = (None, None)
+reason_numbers BranchesDimension = (None, None)
+reason_numbers (BadComb index) = (Some index, None)
+reason_numbers (BranchTwice index) = (Some index, None)
+reason_numbers (BadLeaf index) = (Some index, None)
 
 abbrev pub after_blank : Option ℕ → List ℕ
 after_blank None = []

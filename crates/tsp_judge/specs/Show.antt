@@ -4,11 +4,12 @@ use Rattle.std.specs.List.{flat_map, enumerate_from}
 use Rattle.std.specs.Option.{option_map_or}
 use Rattle.std.specs.Fmt.{signed_decimal}
 use Rattle.tsp_value.specs.declared.kinds.Kind.{Kind}
-use Rattle.tsp_value.specs.declared.kinds.Kind.TheVariants.{Tsp, Atsp, Cvrp, Tour, Potentials}
+use Rattle.tsp_value.specs.declared.kinds.Kind.TheVariants.{Tsp, Atsp, Cvrp, Tour, Potentials, Branches}
 use Rattle.tsp_value.specs.declared.kinds.WeightKind.{WeightKind}
 use Rattle.tsp_value.specs.declared.kinds.WeightFormat.{WeightFormat}
 use Rattle.tsp_value.specs.Words.{weight_kind_word, weight_format_word}
 use Rattle.tsp_value.specs.Cells.{nodes_to}
+use Rattle.tsp_value.specs.Steps.{Step, leaf_count}
 use Rattle.tsp_fields.specs.Fields.{Fields}
 use Rattle.tsp_fields.specs.Rules.{is_explicit}
 use Rattle.tsp_fields.specs.Cost.{cost}
@@ -51,7 +52,7 @@ fixed_line (Some pairs) = codes "fixed " ++ decimal (length pairs) ++ codes "\n"
 abbrev pub cost_lines : Fields → List ℕ
 cost_lines f = weights_line f.weight_kind f.weight_format ++ (canonical_line (canonical_of f) ++ fixed_line f.fixed)
 
--- ---- tours and potentials
+-- ---- tours, potentials and trees of cases
 
 -- a tour with its number
 abbrev pub tour_line : ℕ × List ℕ → List ℕ
@@ -65,6 +66,18 @@ tour_lines tours = codes "tours " ++ decimal (length tours) ++ codes "\n" ++ fla
 abbrev pub scale_line : Option ℤ → List ℕ
 scale_line scale = codes "scale " ++ signed_decimal (unwrap_or scale (pos 1)) ++ codes "\n"
 
+-- how many combs there are, where a section lists them
+abbrev pub combs_line : Option (List (List (List ℕ))) → List ℕ
+combs_line None = []
+combs_line (Some combs) = codes "combs " ++ decimal (length combs) ++ codes "\n"
+
+-- how many leaves a tree has
+abbrev pub leaves_line : List Step → List ℕ
+leaves_line steps = codes "leaves " ++ decimal (leaf_count steps) ++ codes "\n"
+
+abbrev pub tree_lines : Fields → List ℕ
+tree_lines f = scale_line f.scale ++ (combs_line f.combs ++ leaves_line (unwrap_or f.branches []))
+
 -- ---- the whole
 
 abbrev pub lines_by_type : Option Kind → Fields → List ℕ
@@ -73,6 +86,7 @@ lines_by_type (Some Atsp) f = cost_lines f
 lines_by_type (Some Cvrp) f = cost_lines f
 lines_by_type (Some Tour) f = tour_lines (unwrap_or f.tours [])
 lines_by_type (Some Potentials) f = scale_line f.scale
+lines_by_type (Some Branches) f = tree_lines f
 lines_by_type None f = []
 
 -- what is shown of a file

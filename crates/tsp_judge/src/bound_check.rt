@@ -1,22 +1,19 @@
 //! The check of an instance and a tour with a certificate of a bound, from the bytes that come in to
 //! those that go out.
 
-ghost use Rattle.std.specs.Prelude.{◌≡◌, Some};
 ghost use Rattle.tsp_stream.specs.Sink.{sink_of};
-ghost use Rattle.tsp_stream.specs.Turn.{Turn, turn_of, TakesAtMost};
-ghost use Rattle.tsp_read.specs.Reads.{IsFile, most_taken};
-ghost use Rattle.tsp_judge.specs.BoundRun.{is_bounded, IsBoundVerdictRun, IsBoundCheck, IsBoundVerdictCheck};
+ghost use Rattle.tsp_stream.specs.Turn.{turn_of, TakesAtMost};
+ghost use Rattle.tsp_read.specs.Reads.{most_taken};
+ghost use Rattle.tsp_judge.specs.BoundRun.{IsBoundCheck, IsBoundVerdictCheck};
 
-use crate::answer::{answer, told};
+use crate::answer::told;
+use crate::certificate::Certificate;
+use crate::certified::run_certified;
 use crate::fault::RunFault;
-use crate::file::read_file;
-use std::alloc::{AllocError, Global};
+use std::alloc::Global;
 use std::io::{Read, Write};
-use tsp_cost::Instance;
-use tsp_fields::File;
 use tsp_stream::Watched;
-use tsp_value::Kind;
-use tsp_verdict::{Verdict, judge_tour_bound};
+use tsp_verdict::Verdict;
 
 /// Judges a tour of an instance of TYPE TSP or ATSP with a certificate of a bound, and writes the
 /// report.
@@ -32,7 +29,7 @@ use tsp_verdict::{Verdict, judge_tour_bound};
 /// written before the verdict exists.
 ///
 /// Errors: `File` where a file is none, or can't be read; `WrongKind` where all three are files and
-/// the first is of TYPE CVRP, TOUR or POTENTIALS; `OutOfMemory` where the judgement or the report runs
+/// the first is of TYPE CVRP, TOUR, POTENTIALS or BRANCHES; `OutOfMemory` where the judgement or the report runs
 /// out of memory; `Write` where the writer fails. Of each file at most 4,096 bytes past
 /// `MOST_FILE_BYTES` are read.
 pub fn run_bound_check<I: Read, S: Read, P: Read, W: Write>(
@@ -65,95 +62,5 @@ pub fn run_bound_verdict<I: Read, S: Read, P: Read, W: Write>(
         TakesAtMost most_taken (turn_of P.remaining pot.old pot.new) (λ third.
         IsBoundVerdictCheck first second third (sink_of W.contents out.old out.new) result))) }
 {
-    let instance = read_file(alloc, 1, inst)?;
-    with_instance(alloc, instance, sol, pot, out)
-}
-
-/// The check of this instance, whatever reader it came from.
-fn with_instance<S: Read, P: Read, W: Write>(
-    alloc: Global,
-    instance: File,
-    sol: &mut Watched<S>,
-    pot: &mut Watched<P>,
-    out: &mut Watched<W>,
-) -> Result<Verdict, RunFault>
-    ensures { TakesAtMost most_taken (turn_of S.remaining sol.old sol.new) (λ second.
-        TakesAtMost most_taken (turn_of P.remaining pot.old pot.new) (λ third.
-        (first : Turn) → IsFile first instance
-        → IsBoundVerdictRun first second third (sink_of W.contents out.old out.new) result)) }
-{
-    let solution = read_file(alloc, 2, sol)?;
-    with_solution(alloc, instance, &solution, pot, out)
-}
-
-/// The check of this instance and this solution.
-fn with_solution<P: Read, W: Write>(
-    alloc: Global,
-    instance: File,
-    solution: &File,
-    pot: &mut Watched<P>,
-    out: &mut Watched<W>,
-) -> Result<Verdict, RunFault>
-    ensures { TakesAtMost most_taken (turn_of P.remaining pot.old pot.new) (λ third.
-        (first second : Turn) → IsFile first instance → IsFile second solution.now
-        → IsBoundVerdictRun first second third (sink_of W.contents out.old out.new) result) }
-{
-    let certificate = read_file(alloc, 3, pot)?;
-    with_certificate(alloc, instance, solution, &certificate, out)
-}
-
-/// The check of these three files.
-fn with_certificate<W: Write>(
-    alloc: Global,
-    instance: File,
-    solution: &File,
-    certificate: &File,
-    out: &mut Watched<W>,
-) -> Result<Verdict, RunFault>
-    ensures { (first second third : Turn) → IsFile first instance → IsFile second solution.now
-        → IsFile third certificate.now
-        → IsBoundVerdictRun first second third (sink_of W.contents out.old out.new) result }
-{
-    match Instance::of(instance) {
-        Err((_, other)) => {
-            drop(other);
-            Err(RunFault::WrongKind)
-        }
-        Ok(instance) => {
-            let answer = judged(alloc, &instance, solution, certificate, out);
-            drop(instance);
-            answer
-        }
-    }
-}
-
-/// Judges the solution with the certificate, and writes the report.
-fn judged<W: Write>(
-    alloc: Global,
-    instance: &Instance,
-    solution: &File,
-    certificate: &File,
-    out: &mut Watched<W>,
-) -> Result<Verdict, RunFault>
-    ensures { (first second third : Turn) → IsFile first instance.now → IsFile second solution.now
-        → IsFile third certificate.now
-        → IsBoundVerdictRun first second third (sink_of W.contents out.old out.new) result }
-{
-    if !is_bounded(instance.kind()) {
-        return Err(RunFault::WrongKind);
-    }
-    match judge_tour_bound(alloc, instance, solution, certificate) {
-        Err(AllocError) => Err(RunFault::OutOfMemory),
-        Ok(verdict) => answer(alloc, instance, verdict, out),
-    }
-}
-
-/// Whether tours of instances of this TYPE have a bound.
-fn is_bounded(kind: Kind) -> bool
-    ensures { result ≡ is_bounded (Some kind) }
-{
-    match kind {
-        Kind::Tsp | Kind::Atsp => true,
-        Kind::Cvrp | Kind::Tour | Kind::Potentials => false,
-    }
+    run_certified(alloc, Certificate::Potentials, inst, sol, pot, out)
 }

@@ -28,7 +28,7 @@ use tsp_verdict::{Verdict, judge_routes, judge_tour};
 /// written before the verdict exists.
 ///
 /// Errors: `File` where a file is none, or can't be read; `WrongKind` where both are files and the
-/// first is of TYPE TOUR or POTENTIALS; `OutOfMemory` where the judgement or the report runs out of
+/// first is of TYPE TOUR, POTENTIALS or BRANCHES; `OutOfMemory` where the judgement or the report runs out of
 /// memory; `Write` where the writer fails. Of each file at most 4,096 bytes past `MOST_FILE_BYTES`
 /// are read.
 pub fn run_check<I: Read, S: Read, W: Write>(
@@ -123,6 +123,6 @@ fn judge(alloc: Global, instance: &Instance, solution: &File) -> Result<Verdict,
     match instance.kind() {
         Kind::Tsp | Kind::Atsp => judge_tour(alloc, instance, solution),
         Kind::Cvrp => judge_routes(alloc, instance, solution),
-        Kind::Tour | Kind::Potentials => unreachable!(),
+        Kind::Tour | Kind::Potentials | Kind::Branches => unreachable!(),
     }
 }

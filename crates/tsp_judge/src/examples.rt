@@ -7,10 +7,11 @@ ghost use Rattle.tsp_value.specs.declared.kinds.Kind.TheVariants as kinds;
 ghost use Rattle.tsp_value.specs.declared.kinds.WeightKind.TheVariants as weight_kinds;
 ghost use Rattle.tsp_value.specs.declared.kinds.WeightFormat.TheVariants as formats;
 ghost use Rattle.tsp_value.specs.declared.layout.Layout.TheVariants as layouts;
+ghost use Rattle.tsp_value.specs.Steps.{Branch, Leaf};
 ghost use Rattle.tsp_verdict.specs.declared.verdict.Reason.TheVariants as reasons;
 ghost use Rattle.tsp_verdict.specs.declared.verdict.Verdict.TheVariants as verdicts;
 ghost use Rattle.tsp_judge.specs.Report.{not_judged, type_line, nodes_line, gap_lines, bound_lines, reason_text, verdict_lines};
-ghost use Rattle.tsp_judge.specs.Show.{name_line, weights_line, canonical_line, fixed_line, tour_lines, scale_line};
+ghost use Rattle.tsp_judge.specs.Show.{name_line, weights_line, canonical_line, fixed_line, tour_lines, scale_line, combs_line, leaves_line};
 
 /// The lines of a report.
 pub fn examples_of_reports()
@@ -51,6 +52,11 @@ pub fn examples_of_reasons()
     ensures depot { reason_text (reasons.DepotInRoute 1) ≡ codes "DepotInRoute " ++ decimal 1 }
     ensures unserved { reason_text (reasons.Unserved 4) ≡ codes "Unserved " ++ decimal 4 }
     ensures overload { reason_text (reasons.Overload 1) ≡ codes "Overload " ++ decimal 1 }
+    ensures no_tree { reason_text reasons.NotBranches ≡ codes "NotBranches" }
+    ensures its_dimension { reason_text reasons.BranchesDimension ≡ codes "BranchesDimension" }
+    ensures comb { reason_text (reasons.BadComb 1) ≡ codes "BadComb " ++ decimal 1 }
+    ensures twice { reason_text (reasons.BranchTwice 2) ≡ codes "BranchTwice " ++ decimal 2 }
+    ensures leaf { reason_text (reasons.BadLeaf 1) ≡ codes "BadLeaf " ++ decimal 1 }
 {}
 
 /// Lines of what is shown of a file.
@@ -71,4 +77,7 @@ pub fn examples_of_shown_lines()
         ++ codes "\n" }
     ensures no_scale { scale_line None ≡ codes "scale " ++ signed_decimal (pos 1) ++ codes "\n" }
     ensures scale { scale_line (Some (pos 2)) ≡ codes "scale " ++ signed_decimal (pos 2) ++ codes "\n" }
+    ensures no_combs { combs_line None ≡ [] }
+    ensures combs { combs_line (Some (((1 ∷ []) ∷ []) ∷ [])) ≡ codes "combs " ++ decimal 1 ++ codes "\n" }
+    ensures leaves { leaves_line (Branch 1 2 ∷ Leaf [] ∷ Leaf [] ∷ []) ≡ codes "leaves " ++ decimal 2 ++ codes "\n" }
 {}

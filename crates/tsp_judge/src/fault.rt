@@ -11,8 +11,8 @@ pub enum RunFault {
     /// A file, counted from 1, is none.
     #[error("file {file}: {fault}")]
     File { file: u32, fault: ReadFault },
-    /// Of the checks alone: the first file is of TYPE TOUR or POTENTIALS, or of TYPE CVRP where
-    /// potentials are given.
+    /// Of the checks alone: the first file is of TYPE TOUR, POTENTIALS or BRANCHES, or of TYPE CVRP
+    /// where a certificate is given, or of TYPE ATSP where that is a tree of cases.
     #[error("file 1: wrong kind")]
     WrongKind,
     /// The output could not be written.

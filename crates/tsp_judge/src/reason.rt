@@ -54,6 +54,11 @@ fn name_of(reason: Reason) -> &'static str
         Reason::DepotInRoute { .. } => "DepotInRoute",
         Reason::Unserved { .. } => "Unserved",
         Reason::Overload { .. } => "Overload",
+        Reason::NotBranches => "NotBranches",
+        Reason::BranchesDimension => "BranchesDimension",
+        Reason::BadComb { .. } => "BadComb",
+        Reason::BranchTwice { .. } => "BranchTwice",
+        Reason::BadLeaf { .. } => "BadLeaf",
     }
 }
 
@@ -68,7 +73,10 @@ fn numbers_of(reason: Reason) -> (Option<u32>, Option<u32>)
         | Reason::DepotInRoute { place } => (Some(place), None),
         Reason::FixedEdgeUnused { index }
         | Reason::MultiplierNotFixed { index }
-        | Reason::MultiplierRepeated { index } => (Some(index), None),
+        | Reason::MultiplierRepeated { index }
+        | Reason::BadComb { index }
+        | Reason::BranchTwice { index }
+        | Reason::BadLeaf { index } => (Some(index), None),
         Reason::Unserved { node } => (Some(node), None),
         Reason::Overload { route } => (Some(route), None),
         Reason::NotASolution
@@ -81,6 +89,8 @@ fn numbers_of(reason: Reason) -> (Option<u32>, Option<u32>)
         | Reason::PotentialsKind
         | Reason::DepotCount
         | Reason::DepotDemand
-        | Reason::FixedEdgesInRoutes => (None, None),
+        | Reason::FixedEdgesInRoutes
+        | Reason::NotBranches
+        | Reason::BranchesDimension => (None, None),
     }
 }

@@ -2,15 +2,18 @@
 
 ghost use Rattle.std.specs.Prelude.{◌≡◌, ◌++◌, [], length, map, unwrap_or, IfOk, OnOk, IsTrue, false};
 ghost use Rattle.std.specs.Option.{option_map, option_map_or};
+ghost use Rattle.tsp_value.specs.Steps.{steps_of};
+ghost use Rattle.tsp_fields.specs.Fields.{combs_of};
 ghost use Rattle.tsp_fields.specs.Rules.{is_instance};
 ghost use Rattle.tsp_judge.specs.Report.{nodes_line, not_judged};
-ghost use Rattle.tsp_judge.specs.Show.{shown, head_lines, name_line, lines_by_type, cost_lines, weights_line, layout_part, canonical_line, fixed_line, tour_lines, tour_line, scale_line};
+ghost use Rattle.tsp_judge.specs.Show.{shown, head_lines, name_line, lines_by_type, cost_lines, weights_line, layout_part, canonical_line, fixed_line, tour_lines, tour_line, scale_line, combs_line, leaves_line, tree_lines};
 
+use crate::leaves::leaves_of;
 use crate::report::{push_nodes, push_number, push_others, push_type};
 use std::alloc::{AllocError, Global};
 use tsp_cost::{Instance, canonical_length};
 use tsp_fields::File;
-use tsp_value::{Kind, WeightFormat, WeightKind, Word};
+use tsp_value::{Kind, TreeStep, WeightFormat, WeightKind, Word};
 
 /// What is shown of a file, line by line.
 pub(crate) fn show_text(alloc: Global, file: File) -> Result<Vec<u8>, AllocError>
@@ -72,7 +75,7 @@ fn push_instance_rest(text: &mut Vec<u8>, instance: &Instance) -> Result<(), All
     push_others(text, instance.file().others())
 }
 
-/// Appends the lines of tours or of potentials, and those of unknown keywords.
+/// Appends the lines of tours, of potentials or of a tree of cases, and those of unknown keywords.
 fn push_solution_rest(text: &mut Vec<u8>, file: &File) -> Result<(), AllocError>
     requires { is_instance file.now.kind ≡ false }
     ensures { OnOk result (text.new.items
@@ -178,7 +181,8 @@ fn push_fixed(text: &mut Vec<u8>, pairs: Option<&[(u32, u32)]>) -> Result<(), Al
     text.extend_from_slice(b"\n")
 }
 
-/// Appends the lines of a file that is no instance: those of tours, or the scale of potentials.
+/// Appends the lines of a file that is no instance: those of tours, the scale of potentials, or those
+/// of a tree of cases.
 fn push_solution(text: &mut Vec<u8>, file: &File) -> Result<(), AllocError>
     requires { is_instance file.now.kind ≡ false }
     ensures { OnOk result (text.new.items ≡ text.old.items ++ lines_by_type file.now.kind file.now) }
@@ -186,6 +190,7 @@ fn push_solution(text: &mut Vec<u8>, file: &File) -> Result<(), AllocError>
     match file.kind() {
         Kind::Tour => push_tours(text, file.tours().unwrap_or(&[])),
         Kind::Potentials => push_scale(text, file.scale()),
+        Kind::Branches => push_tree(text, file),
         Kind::Tsp | Kind::Atsp | Kind::Cvrp => unreachable!(),
     }
 }
@@ -220,5 +225,37 @@ fn push_scale(text: &mut Vec<u8>, scale: Option<i64>) -> Result<(), AllocError>
 {
     text.extend_from_slice(b"scale ")?;
     push_number(text, scale.unwrap_or(1))?;
+    text.extend_from_slice(b"\n")
+}
+
+/// Appends the lines of a tree of cases: its scale, and how many combs and leaves it has.
+#[tactic(auto, using(crate::proofs::Texts::three_pieces))]
+fn push_tree(text: &mut Vec<u8>, file: &File) -> Result<(), AllocError>
+    ensures { OnOk result (text.new.items ≡ text.old.items ++ tree_lines file.now) }
+{
+    push_scale(text, file.scale())?;
+    push_combs(text, file.combs())?;
+    push_leaves(text, file.branches().unwrap_or(&[]))
+}
+
+/// Appends the line of the number of combs, where a section lists them.
+fn push_combs(text: &mut Vec<u8>, combs: Option<&[Vec<Vec<u32>>]>) -> Result<(), AllocError>
+    ensures { OnOk result (text.new.items ≡ text.old.items
+        ++ combs_line (option_map (λ combs. combs_of combs.now) combs.entry)) }
+{
+    let Some(combs) = combs else {
+        return Ok(());
+    };
+    text.extend_from_slice(b"combs ")?;
+    push_number(text, combs.len())?;
+    text.extend_from_slice(b"\n")
+}
+
+/// Appends the line of the number of leaves.
+fn push_leaves(text: &mut Vec<u8>, steps: &[TreeStep]) -> Result<(), AllocError>
+    ensures { OnOk result (text.new.items ≡ text.old.items ++ leaves_line (steps_of steps.now)) }
+{
+    text.extend_from_slice(b"leaves ")?;
+    push_number(text, leaves_of(steps))?;
     text.extend_from_slice(b"\n")
 }

@@ -1,7 +1,7 @@
 use Rattle.std.proofs.Common.{sym, subst}
 use Rattle.tsp_judge.specs.Sink.{sink_of}
 use Rattle.tsp_command.specs.Engines.{IsDone}
-use Rattle.tsp_command.specs.declared.task.Task.TheVariants.{Check, BoundCheck}
+use Rattle.tsp_command.specs.declared.task.Task.TheVariants.{Check, BoundCheck, BranchCheck}
 use Rattle.tsp_command.proofs.engines.perform.Goals as goal
 
 pub returns-in-Check : goal.returns-in-Check
@@ -15,3 +15,9 @@ returns-in-BoundCheck g c = let one = c.run_bound_verdict.ensures in let two = o
     subst (λ task. IsDone g.R.Read.remaining task (BoundCheck c.run_bound_verdict.new.inst c.run_bound_verdict.new.sol c.run_bound_verdict.new.pot)
     (sink_of g.W.Write.contents c.args.out.now c.run_bound_verdict.new.out) c.judged-in-BoundCheck.result) (sym c.in-BoundCheck.is)
     (one.0, one.1, (two.0, two.1, (three.0, three.1, (c.run_bound_verdict.result, c.judged-in-BoundCheck.ensures, three.2))))
+
+pub returns-in-BranchCheck : goal.returns-in-BranchCheck
+returns-in-BranchCheck g c = let one = c.run_branch_verdict.ensures in let two = one.2 in let three = two.2 in
+    subst (λ task. IsDone g.R.Read.remaining task (BranchCheck c.run_branch_verdict.new.inst c.run_branch_verdict.new.sol c.run_branch_verdict.new.tree)
+    (sink_of g.W.Write.contents c.args.out.now c.run_branch_verdict.new.out) c.judged-in-BranchCheck.result) (sym c.in-BranchCheck.is)
+    (one.0, one.1, (two.0, two.1, (three.0, three.1, (c.run_branch_verdict.result, c.judged-in-BranchCheck.ensures, three.2))))
