@@ -1,0 +1,560 @@
+//! The check of a certificate of TYPE BRANCHES in plain Rust, by hand: exact too, over canonical files.
+//!
+//! usage: native_branches INSTANCE TOUR BRANCHES [ROUNDS]
+//!
+//! It prints what the check of a tour prints below the type and the nodes. With ROUNDS the last line
+//! is the nanoseconds that the verdict of files in memory took, the mean of so many.
+//!
+//! The weights without the potentials stand in one matrix through all leaves: a branch marks two cells
+//! of it, and a multiplier that changes changes the pairs inside a set of its comb. The crossings of a
+//! set by a pair are 1 at each end inside, less 2 where both are, so the ends go to the potentials.
+
+use std::collections::{HashMap, HashSet};
+use std::env;
+use std::fs;
+use std::hint::black_box;
+use std::process::exit;
+use std::time::Instant;
+
+const UNIT: i128 = 1_000_000_000;
+const MARK: i64 = 4_000_000_000_000_000_000;
+const MOST_POTENTIAL: i128 = 1_000_000_000_000_000;
+const MOST_MULTIPLIERS: i128 = 300_000_000_000_000_000;
+
+type Pair = (usize, usize);
+
+// ---- files
+
+/// The words of each keyword and section.
+struct Fields(HashMap<String, Vec<String>>);
+
+fn fail(text: &str) -> ! {
+    eprintln!("native_branches: {text}");
+    exit(2)
+}
+
+impl Fields {
+    fn read(path: &str) -> Fields {
+        let Ok(text) = fs::read_to_string(path) else { fail(path) };
+        let mut fields = HashMap::new();
+        let mut open = String::new();
+        for line in text.lines() {
+            if line.starts_with(|first: char| first.is_ascii_alphabetic()) {
+                let (keyword, value) = line.split_once(':').unwrap_or((line, ""));
+                open = keyword.trim().to_string();
+                if open == "EOF" {
+                    break;
+                }
+                fields.insert(open.clone(), value.split_whitespace().map(String::from).collect());
+            } else {
+                let words: &mut Vec<String> = fields.entry(open.clone()).or_default();
+                words.extend(line.split_whitespace().map(String::from));
+            }
+        }
+        Fields(fields)
+    }
+
+    fn words(&self, keyword: &str) -> &[String] {
+        self.0.get(keyword).map_or(&[], Vec::as_slice)
+    }
+
+    fn first(&self, keyword: &str) -> &str {
+        self.words(keyword).first().map_or("", String::as_str)
+    }
+
+    fn number(&self, keyword: &str) -> Option<i64> {
+        self.first(keyword).parse().ok()
+    }
+
+    fn numbers(&self, keyword: &str) -> Vec<i64> {
+        self.words(keyword).iter().map(|word| whole(word)).collect()
+    }
+}
+
+fn whole(word: &str) -> i64 {
+    word.parse().unwrap_or_else(|_| fail(word))
+}
+
+/// A decimal in counts of 10^-9.
+fn count_of(word: &str) -> i128 {
+    let (front, back) = word.split_once('.').unwrap_or((word, ""));
+    let digits = format!("{front}{back:0<9}");
+    digits.parse().unwrap_or_else(|_| fail(word))
+}
+
+// ---- instances
+
+struct Instance {
+    count: usize,
+    costs: Vec<i64>,
+    fixed: Vec<Pair>,
+}
+
+/// The least whole number from a guess on or below it that covers.
+fn least_from(guess: f64, covers: impl Fn(i128) -> bool) -> i64 {
+    let mut whole = (guess as i128).max(0);
+    while !covers(whole) {
+        whole += 1;
+    }
+    while whole > 0 && covers(whole - 1) {
+        whole -= 1;
+    }
+    whole as i64
+}
+
+fn distance(kind: &str, apart: [i128; 3]) -> i64 {
+    let [x, y, z] = apart.map(i128::abs);
+    let square = x * x + y * y + z * z;
+    let root = (square as f64).sqrt() * 1e-9;
+    let near = |length: i128| ((2 * length + UNIT) / (2 * UNIT)) as i64;
+    match kind {
+        "EUC_2D" | "EUC_3D" => least_from(root, |whole| {
+            let edge = (2 * whole + 1) * UNIT;
+            4 * square < edge * edge
+        }),
+        "CEIL_2D" => least_from(root, |whole| square <= whole * whole * UNIT * UNIT),
+        "ATT" => least_from(root / 10f64.sqrt(), |whole| square <= 10 * whole * whole * UNIT * UNIT),
+        "MAN_2D" | "MAN_3D" => near(x + y + z),
+        "MAX_2D" | "MAX_3D" => near(x.max(y).max(z)),
+        _ => fail(kind),
+    }
+}
+
+fn distances(fields: &Fields, kind: &str, count: usize) -> Vec<i64> {
+    let words = fields.words("NODE_COORD_SECTION");
+    let group = words.len() / count;
+    let axes = if kind.ends_with("_3D") { 3 } else { 2 };
+    let mut points = vec![[0i128; 3]; count];
+    for entry in words.chunks_exact(group) {
+        let node = whole(&entry[0]) as usize;
+        for axis in 0..axes {
+            points[node - 1][axis] = count_of(&entry[axis + 1]);
+        }
+    }
+    let mut costs = vec![0; count * count];
+    for i in 0..count {
+        for j in 0..i {
+            let (a, b) = (points[i], points[j]);
+            let cost = distance(kind, [a[0] - b[0], a[1] - b[1], a[2] - b[2]]);
+            costs[i * count + j] = cost;
+            costs[j * count + i] = cost;
+        }
+    }
+    costs
+}
+
+/// The cells of a layout, in its order.
+fn cells(layout: &str, count: usize) -> Vec<Pair> {
+    let full = layout == "FULL_MATRIX";
+    let diagonal = full || layout.contains("DIAG");
+    let lists = |i: usize, j: usize| full || (i != j && (i < j) == layout.starts_with("UPPER")) || i == j && diagonal;
+    let mut cells = Vec::new();
+    for outer in 0..count {
+        for inner in 0..count {
+            let cell = if layout.ends_with("COL") { (inner, outer) } else { (outer, inner) };
+            if lists(cell.0, cell.1) {
+                cells.push(cell);
+            }
+        }
+    }
+    cells
+}
+
+fn matrix(fields: &Fields, count: usize) -> Vec<i64> {
+    let layout = fields.first("EDGE_WEIGHT_FORMAT");
+    let mut costs = vec![0; count * count];
+    for ((i, j), weight) in cells(layout, count).into_iter().zip(fields.numbers("EDGE_WEIGHT_SECTION")) {
+        costs[i * count + j] = weight;
+        if layout != "FULL_MATRIX" {
+            costs[j * count + i] = weight;
+        }
+    }
+    costs
+}
+
+fn ordered(i: i64, j: i64) -> Pair {
+    (i.min(j) as usize - 1, i.max(j) as usize - 1)
+}
+
+impl Instance {
+    fn read(path: &str) -> Instance {
+        let fields = Fields::read(path);
+        if fields.first("TYPE") != "TSP" {
+            fail("wrong kind");
+        }
+        let count = fields.number("DIMENSION").unwrap_or(0) as usize;
+        let kind = fields.first("EDGE_WEIGHT_TYPE");
+        let costs = if kind == "EXPLICIT" { matrix(&fields, count) } else { distances(&fields, kind, count) };
+        let listed = fields.numbers("FIXED_EDGES_SECTION");
+        let fixed = listed.chunks_exact(2).take_while(|pair| pair[0] != -1);
+        Instance { count, costs, fixed: fixed.map(|pair| ordered(pair[0], pair[1])).collect() }
+    }
+
+    fn uneven(&self) -> Option<Pair> {
+        let differs = |i: usize, j: usize| self.costs[i * self.count + j] != self.costs[j * self.count + i];
+        (0..self.count).find_map(|i| (i + 1..self.count).find(|j| differs(i, *j)).map(|j| (i + 1, j + 1)))
+    }
+}
+
+// ---- tours
+
+/// The length of the tour in a file, or the reason against it.
+fn length_of(instance: &Instance, fields: &Fields) -> Result<i64, String> {
+    let reason = |text: &str| Err(text.to_string());
+    if fields.first("TYPE") != "TOUR" {
+        return reason("NotASolution");
+    }
+    if instance.count < 3 {
+        return reason("TooFewNodes");
+    }
+    if let Some((i, j)) = instance.uneven() {
+        return Err(format!("NotSymmetric {i} {j}"));
+    }
+    if fields.number("DIMENSION").is_some_and(|count| count != instance.count as i64) {
+        return reason("Dimension");
+    }
+    let words = fields.numbers("TOUR_SECTION");
+    let tours: Vec<&[i64]> = words.split(|node| *node == -1).filter(|tour| !tour.is_empty()).collect();
+    let [tour] = tours.as_slice() else { return reason("TourCount") };
+    if tour.len() != instance.count {
+        return reason("TourLength");
+    }
+    if let Some(place) = tour.iter().position(|node| *node > instance.count as i64) {
+        return Err(format!("NodeOutOfRange {}", place + 1));
+    }
+    let mut seen = HashSet::new();
+    if let Some(place) = tour.iter().position(|node| !seen.insert(*node)) {
+        return Err(format!("RepeatedNode {}", place + 1));
+    }
+    let next = tour.iter().cycle().skip(1);
+    let edges: Vec<Pair> = tour.iter().zip(next).map(|(i, j)| ordered(*i, *j)).collect();
+    let used: HashSet<&Pair> = edges.iter().collect();
+    if let Some(index) = instance.fixed.iter().position(|pair| !used.contains(pair)) {
+        return Err(format!("FixedEdgeUnused {}", index + 1));
+    }
+    Ok(edges.iter().map(|(i, j)| instance.costs[i * instance.count + j]).sum())
+}
+
+// ---- certificates
+
+enum Step {
+    Branch(Pair),
+    Leaf(Vec<(usize, i64)>),
+}
+
+struct Certificate {
+    scale: i64,
+    combs: Vec<Vec<Vec<usize>>>,
+    steps: Vec<Step>,
+}
+
+/// The combs in the words of a section: runs of nodes that -1 ends, and a second -1 ends a comb.
+fn combs_of(words: &[i64]) -> Vec<Vec<Vec<usize>>> {
+    let (mut combs, mut comb, mut set) = (Vec::new(), Vec::new(), Vec::new());
+    for word in words {
+        if *word != -1 {
+            set.push(*word as usize - 1);
+        } else if !set.is_empty() {
+            comb.push(std::mem::take(&mut set));
+        } else if !comb.is_empty() {
+            combs.push(std::mem::take(&mut comb));
+        } else {
+            break;
+        }
+    }
+    combs
+}
+
+/// The steps in the words of a section, up to the end of the tree.
+fn steps_of(words: &[i64]) -> Vec<Step> {
+    let (mut steps, mut words, mut open) = (Vec::new(), words.iter().copied(), 1);
+    let mut next = move || words.next().unwrap_or_else(|| fail("end: Incomplete BRANCH_SECTION"));
+    while open > 0 {
+        let word = next();
+        if word > 0 {
+            steps.push(Step::Branch(ordered(word, next())));
+            open += 1;
+            continue;
+        }
+        let mut numbers = Vec::new();
+        loop {
+            let index = next();
+            if index == -1 {
+                break;
+            }
+            numbers.push((index as usize, next()));
+        }
+        steps.push(Step::Leaf(numbers));
+        open -= 1;
+    }
+    steps
+}
+
+/// Goes along the tree: what is decided above each step, by calls at a decision and at its end.
+struct Walk {
+    path: Vec<(Pair, bool)>,
+}
+
+impl Walk {
+    fn down(&mut self, pair: Pair) {
+        self.path.push((pair, true));
+    }
+
+    /// After a leaf: the pairs whose two cases are both done, and the one whose second case begins.
+    fn back(&mut self) -> (Vec<Pair>, Option<Pair>) {
+        let mut done = Vec::new();
+        while let Some((pair, taken)) = self.path.pop() {
+            if taken {
+                self.path.push((pair, false));
+                return (done, Some(pair));
+            }
+            done.push(pair);
+        }
+        (done, None)
+    }
+}
+
+fn is_good(comb: &[Vec<usize>], count: usize) -> bool {
+    let teeth = comb.len() - 1;
+    if teeth < 3 || teeth % 2 == 0 {
+        return false;
+    }
+    let mut inside = vec![false; count];
+    for node in &comb[0] {
+        if std::mem::replace(&mut inside[*node], true) {
+            return false;
+        }
+    }
+    let mut used = vec![false; count];
+    comb[1..].iter().all(|tooth| {
+        let apart = tooth.iter().all(|node| !std::mem::replace(&mut used[*node], true));
+        let within = tooth.iter().filter(|node| inside[**node]).count();
+        apart && within > 0 && within < tooth.len()
+    })
+}
+
+/// The first branch whose pair is decided above it or fixed.
+fn branch_twice(instance: &Instance, steps: &[Step]) -> Option<usize> {
+    let mut decided: HashSet<Pair> = instance.fixed.iter().copied().collect();
+    let mut walk = Walk { path: Vec::new() };
+    let mut index = 0;
+    for step in steps {
+        let Step::Branch(pair) = step else {
+            for pair in walk.back().0 {
+                decided.remove(&pair);
+            }
+            continue;
+        };
+        index += 1;
+        if !decided.insert(*pair) {
+            return Some(index);
+        }
+        walk.down(*pair);
+    }
+    None
+}
+
+/// The first leaf with an index that is too large or a number that isn't allowed.
+fn bad_leaf(count: usize, certificate: &Certificate) -> Option<usize> {
+    let mut numbers = vec![0i128; count + certificate.combs.len()];
+    let mut sum = 0;
+    let leaves = certificate.steps.iter().filter_map(|step| match step {
+        Step::Leaf(list) => Some(list),
+        Step::Branch(_) => None,
+    });
+    for (index, list) in leaves.enumerate() {
+        for (place, difference) in list {
+            if *place > numbers.len() {
+                return Some(index + 1);
+            }
+            numbers[place - 1] += i128::from(*difference);
+            if *place > count {
+                sum += i128::from(*difference);
+            }
+        }
+        let wrong = |place: usize| match numbers[place - 1] {
+            number if place <= count => number.abs() > MOST_POTENTIAL,
+            number => number < 0,
+        };
+        if sum > MOST_MULTIPLIERS || list.iter().any(|(place, _)| wrong(*place)) {
+            return Some(index + 1);
+        }
+    }
+    None
+}
+
+// ---- the bound
+
+/// The weights of the pairs but for the numbers of the nodes, these, and what the bound adds to the
+/// weight of a 1-tree, without the taken pairs.
+struct Weights {
+    count: usize,
+    between: Vec<i64>,
+    ends: Vec<i64>,
+    added: i128,
+    taken: i128,
+}
+
+impl Weights {
+    fn new(instance: &Instance, scale: i64) -> Weights {
+        let between = instance.costs.iter().map(|cost| scale * cost).collect();
+        let ends = vec![0; instance.count];
+        let mut weights = Weights { count: instance.count, between, ends, added: 0, taken: 0 };
+        for pair in instance.fixed.iter().collect::<HashSet<_>>() {
+            weights.mark(*pair, -MARK);
+            weights.taken += 1;
+        }
+        weights
+    }
+
+    fn mark(&mut self, (i, j): Pair, change: i64) {
+        self.between[i * self.count + j] += change;
+        self.between[j * self.count + i] += change;
+    }
+
+    /// Changes a potential, or the multiplier of a comb.
+    fn change(&mut self, place: usize, difference: i64, combs: &[Vec<Vec<usize>>]) {
+        if place <= self.count {
+            self.ends[place - 1] += difference;
+            self.added -= 2 * i128::from(difference);
+            return;
+        }
+        let comb = &combs[place - self.count - 1];
+        self.added += i128::from(difference) * (3 * comb.len() as i128 - 2);
+        for set in comb {
+            for i in set {
+                self.ends[*i] -= difference;
+                let row = &mut self.between[i * self.count..][..self.count];
+                for j in set {
+                    row[*j] += 2 * difference;
+                }
+            }
+        }
+    }
+
+    /// The bound at the scale: a least 1-tree's weight with all that is added.
+    fn value(&self) -> i128 {
+        let n = self.count;
+        let mut nodes: Vec<u32> = (2..n as u32).collect();
+        let mut near = vec![i64::MAX; nodes.len()];
+        let (mut sum, mut at) = (0i128, 1);
+        while !nodes.is_empty() {
+            let row = &self.between[at * n..][..n];
+            let own = self.ends[at];
+            let (mut best, mut place) = (i64::MAX, 0);
+            for (k, (node, least)) in nodes.iter().zip(near.iter_mut()).enumerate() {
+                let node = *node as usize;
+                let weight = row[node] + self.ends[node] + own;
+                if weight < *least {
+                    *least = weight;
+                }
+                if *least < best {
+                    (best, place) = (*least, k);
+                }
+            }
+            sum += i128::from(best);
+            at = nodes.swap_remove(place) as usize;
+            near.swap_remove(place);
+        }
+        sum + self.spokes() + self.added + i128::from(MARK) * self.taken
+    }
+
+    /// The two least edges at the first node.
+    fn spokes(&self) -> i128 {
+        let (mut first, mut second) = (i64::MAX, i64::MAX);
+        for (between, end) in self.between[1..self.count].iter().zip(&self.ends[1..]) {
+            let weight = between + end + self.ends[0];
+            second = second.min(weight.max(first));
+            first = first.min(weight);
+        }
+        i128::from(first) + i128::from(second)
+    }
+}
+
+/// The least bound of the leaves.
+fn bound_of(instance: &Instance, certificate: &Certificate) -> i128 {
+    let mut weights = Weights::new(instance, certificate.scale);
+    let mut walk = Walk { path: Vec::new() };
+    let mut least = i128::MAX;
+    for step in &certificate.steps {
+        match step {
+            Step::Branch(pair) => {
+                walk.down(*pair);
+                weights.mark(*pair, -MARK);
+                weights.taken += 1;
+            }
+            Step::Leaf(numbers) => {
+                for (place, difference) in numbers {
+                    weights.change(*place, *difference, &certificate.combs);
+                }
+                least = least.min(weights.value());
+                let (done, turned) = walk.back();
+                for pair in done {
+                    weights.mark(pair, -MARK);
+                }
+                if let Some(pair) = turned {
+                    weights.mark(pair, MARK);
+                    weights.mark(pair, MARK);
+                    weights.taken -= 1;
+                }
+            }
+        }
+    }
+    -(-least).div_euclid(i128::from(certificate.scale))
+}
+
+/// The bound of a file, or the reason against it.
+fn judge(instance: &Instance, fields: &Fields) -> Result<Certificate, String> {
+    if fields.first("TYPE") != "BRANCHES" {
+        return Err("NotBranches".to_string());
+    }
+    if fields.number("DIMENSION") != Some(instance.count as i64) {
+        return Err("BranchesDimension".to_string());
+    }
+    let certificate = Certificate {
+        scale: fields.number("SCALE").unwrap_or(1),
+        combs: combs_of(&fields.numbers("COMB_SECTION")),
+        steps: steps_of(&fields.numbers("BRANCH_SECTION")),
+    };
+    if let Some(index) = certificate.combs.iter().position(|comb| !is_good(comb, instance.count)) {
+        return Err(format!("BadComb {}", index + 1));
+    }
+    if let Some(index) = branch_twice(instance, &certificate.steps) {
+        return Err(format!("BranchTwice {index}"));
+    }
+    if let Some(index) = bad_leaf(instance.count, &certificate) {
+        return Err(format!("BadLeaf {index}"));
+    }
+    Ok(certificate)
+}
+
+fn no(reason: String) -> ! {
+    println!("no {reason}");
+    exit(1)
+}
+
+fn main() {
+    let args: Vec<String> = env::args().collect();
+    let (instance, tour, branches) = match args.as_slice() {
+        [_, instance, tour, branches] | [_, instance, tour, branches, _] => (instance, tour, branches),
+        _ => fail("usage: native_branches INSTANCE TOUR BRANCHES [ROUNDS]"),
+    };
+    let instance = Instance::read(instance);
+    let (tour, branches) = (Fields::read(tour), Fields::read(branches));
+    let length = length_of(&instance, &tour).unwrap_or_else(|reason| no(reason));
+    let certificate = judge(&instance, &branches).unwrap_or_else(|reason| no(reason));
+    let bound = bound_of(&instance, &certificate);
+    println!("length {length}\nbound {bound}");
+    match i128::from(length) - bound {
+        0 => println!("optimal\nyes"),
+        gap => println!("gap {gap}\nyes"),
+    }
+    if let Some(rounds) = args.get(4).map(|word| whole(word)) {
+        let start = Instant::now();
+        for _ in 0..rounds {
+            let (instance, certificate) = black_box((&instance, &certificate));
+            black_box(bound_of(instance, certificate));
+        }
+        println!("nanoseconds {}", start.elapsed().as_nanos() / rounds.max(1) as u128);
+    }
+}
