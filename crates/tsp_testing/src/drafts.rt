@@ -4,7 +4,7 @@ use std::alloc::{AllocError, Global};
 use std::test::Fail;
 use tsp_fields::{Coords, Draft, DraftFault, EndFault, File};
 use tsp_number::{Decimal, PlanePoint};
-use tsp_value::{CoordKind, DisplayKind, Field, Kind, Layout, WeightFormat, WeightKind};
+use tsp_value::{CoordKind, DisplayKind, Field, Kind, Layout, TreeStep, WeightFormat, WeightKind};
 
 /// A file of tours without any.
 pub fn tours(alloc: Global) -> Draft {
@@ -87,7 +87,30 @@ pub fn rectangle(alloc: Global) -> Result<Draft, Fail> {
     draft.row_potentials = Some(Vec::from_slice(alloc, &[4i64, -4, 0, 0])?);
     draft.column_potentials = Some(Vec::from_slice(alloc, &[5i64, -5, 0, 0])?);
     draft.fixed_potentials = Some(Vec::from_slice(alloc, &[(1u32, 2u32, 6i64), (3, 4, 0)])?);
+    let mut combs = Vec::new(alloc);
+    combs.push(sets(alloc, &[&[1, 2], &[1, 3]])?)?;
+    combs.push(sets(alloc, &[&[4]])?)?;
+    draft.combs = Some(combs);
+    draft.branches = Some(two_leaves(alloc)?);
     Ok(draft)
+}
+
+/// Sets of nodes, as a comb has them.
+pub fn sets(alloc: Global, lists: &[&[u32]]) -> Result<Vec<Vec<u32>>, AllocError> {
+    let mut sets = Vec::new(alloc);
+    for list in lists {
+        sets.push(Vec::from_slice(alloc, list)?)?;
+    }
+    Ok(sets)
+}
+
+/// A tree with a branch on the nodes 1 and 2, a leaf with two differences, and one with none.
+pub fn two_leaves(alloc: Global) -> Result<Vec<TreeStep>, AllocError> {
+    let mut steps = Vec::new(alloc);
+    steps.push(TreeStep::Branch(1, 2))?;
+    steps.push(TreeStep::Leaf(Vec::from_slice(alloc, &[(1u32, -5i64), (6, 7)])?))?;
+    steps.push(TreeStep::Leaf(Vec::new(alloc)))?;
+    Ok(steps)
 }
 
 /// The file that a draft holds.

@@ -58,7 +58,9 @@ fn verdict_of(alloc: Global, inst: Draft, sol: Draft, pot: Draft) -> Result<Verd
 fn judged(alloc: Global, inst: &Instance, sol: &File, pot: &File) -> Result<Verdict, Fail> {
     match inst.kind() {
         Kind::Tsp | Kind::Atsp => Ok(judge_tour_bound(alloc, inst, sol, pot)?),
-        Kind::Cvrp | Kind::Tour | Kind::Potentials => Err(Fail::from("no instance of tours")),
+        Kind::Cvrp | Kind::Tour | Kind::Potentials | Kind::Branches => Err(Fail::from(
+            "no instance of tours",
+        )),
     }
 }
 

@@ -23,8 +23,8 @@ fn has_its_word<V: Word + PartialEq + Debug + Drop>(
 
 #[test]
 fn a_value_has_its_word_and_a_word_its_value(rt: HostRuntime) {
-    has_its_word(&rt, 22, Field::OtherKey, "others");
-    has_its_word(&rt, 5, Kind::Tsp, "TSP");
+    has_its_word(&rt, 24, Field::OtherKey, "others");
+    has_its_word(&rt, 6, Kind::Tsp, "TSP");
     has_its_word(&rt, 9, WeightKind::Max3d, "MAX_3D");
     has_its_word(&rt, 10, WeightFormat::ByFunction, "FUNCTION");
     has_its_word(&rt, 9, Layout::UpperRow, "UPPER_ROW");

@@ -19,7 +19,7 @@ fn judged(alloc: Global, instance: Draft, lists: &[&[u32]]) -> Result<Verdict, F
     match inst.kind() {
         Kind::Tsp | Kind::Atsp => Ok(judge_tour(alloc, &inst, &sol)?),
         Kind::Cvrp => Ok(judge_routes(alloc, &inst, &sol)?),
-        Kind::Tour | Kind::Potentials => Err(Fail::from("no instance")),
+        Kind::Tour | Kind::Potentials | Kind::Branches => Err(Fail::from("no instance")),
     }
 }
 

@@ -52,7 +52,7 @@ const WORD_LINES: [(&str, &str); 13] = [
     ),
     (
         "TYPE : HCP\n",
-        "  a.tsp, line 1:\n    TYPE : HCP\n  This is a word of TSPLIB 95 that tsp doesn't read.\n  TYPE is TSP, ATSP, CVRP, TOUR or POTENTIALS. Of TSPLIB 95's, tsp doesn't read HCP and SOP.\n",
+        "  a.tsp, line 1:\n    TYPE : HCP\n  This is a word of TSPLIB 95 that tsp doesn't read.\n  TYPE is TSP, ATSP, CVRP, TOUR, POTENTIALS or BRANCHES. Of TSPLIB 95's, tsp doesn't read HCP and SOP.\n",
     ),
     (
         "EDGE_WEIGHT_TYPE : GEO\n",
@@ -60,7 +60,7 @@ const WORD_LINES: [(&str, &str); 13] = [
     ),
     (
         "TYPE : FOO\n",
-        "  a.tsp, line 1:\n    TYPE : FOO\n  The keyword has no value here, one that it doesn't take, or one of too many bytes.\n  TYPE is TSP, ATSP, CVRP, TOUR or POTENTIALS. Of TSPLIB 95's, tsp doesn't read HCP and SOP.\n",
+        "  a.tsp, line 1:\n    TYPE : FOO\n  The keyword has no value here, one that it doesn't take, or one of too many bytes.\n  TYPE is TSP, ATSP, CVRP, TOUR, POTENTIALS or BRANCHES. Of TSPLIB 95's, tsp doesn't read HCP and SOP.\n",
     ),
     (
         "EDGE_WEIGHT_FORMAT : FOO\n",
@@ -93,7 +93,7 @@ const WORD_LINES: [(&str, &str); 13] = [
 ];
 
 /// Faults of words of number lines.
-const NUMBER_LINES: [(&str, &str); 15] = [
+const NUMBER_LINES: [(&str, &str); 17] = [
     (
         "TYPE : TSP\n1 2\n",
         "  a.tsp, line 2, word 1:\n    1 2\n    ^\n  A number stands where no section is open.\n",
@@ -144,7 +144,7 @@ const NUMBER_LINES: [(&str, &str); 15] = [
     ),
     (
         "DIMENSION : 3\nFIXED_EDGES_SECTION\n1 1\n",
-        "  a.tsp, line 3, word 2:\n    1 1\n      ^\n  Both nodes of this fixed edge are the same one.\n  FIXED_EDGES_SECTION lists pairs of different nodes from 1 to DIMENSION, at most 100,000, and -1 at its end.\n",
+        "  a.tsp, line 3, word 2:\n    1 1\n      ^\n  Both nodes of this pair are the same one.\n  FIXED_EDGES_SECTION lists pairs of different nodes from 1 to DIMENSION, at most 100,000, and -1 at its end.\n",
     ),
     (
         "DIMENSION : 1\nEDGE_WEIGHT_SECTION\n0 0\n",
@@ -154,10 +154,18 @@ const NUMBER_LINES: [(&str, &str); 15] = [
         "DIMENSION : 3\nFIXED_EDGES_SECTION\n1 2 -1 5\n",
         "  a.tsp, line 3, word 4:\n    1 2 -1 5\n           ^\n  The list was ended by -1 before this word. After that only words -1 may stand.\n  FIXED_EDGES_SECTION lists pairs of different nodes from 1 to DIMENSION, at most 100,000, and -1 at its end.\n",
     ),
+    (
+        "DIMENSION : 3\nCOMB_SECTION\n1 4\n",
+        "  a.tsp, line 3, word 2:\n    1 4\n      ^\n  The number is out of its range.\n  COMB_SECTION lists combs of nodes from 1 to DIMENSION: a handle and its teeth, -1 at the end of each of these,\n  one more -1 after each comb, and one after the last: at most 10,000 combs, with 1,000,000 nodes in all.\n",
+    ),
+    (
+        "DIMENSION : 3\nBRANCH_SECTION\n2 2\n",
+        "  a.tsp, line 3, word 2:\n    2 2\n      ^\n  Both nodes of this pair are the same one.\n  BRANCH_SECTION has one tree. Two different nodes from 1 to DIMENSION are a branch, before the tree of the tours\n  that use the pair and that of the tours that don't. 0 begins a leaf: pairs of an index from 1 to DIMENSION + 10,000\n  and a whole difference from -2,000,000,000,000,000 to 2,000,000,000,000,000, and -1 at its end.\n  There are at most 1,000,000 branches, and 10,000,000 differences.\n",
+    ),
 ];
 
 /// Faults of the end: what is missing, and what isn't whole.
-const ENDS: [(&str, &str); 17] = [
+const ENDS: [(&str, &str); 19] = [
     (
         "",
         "  a.tsp:\n  A line or a section is missing that the file has to have.\n  Every file has a line TYPE.\n",
@@ -213,6 +221,14 @@ const ENDS: [(&str, &str); 17] = [
     (
         "TYPE : POTENTIALS\nDIMENSION : 1\nROW_POTENTIAL_SECTION\n1 0\n",
         "  a.tsp:\n  A line or a section is missing that the file has to have.\n  A file of TYPE POTENTIALS with numbers of rows has them of columns too, and the other way round.\n",
+    ),
+    (
+        "TYPE : BRANCHES\nDIMENSION : 3\n",
+        "  a.tsp:\n  A line or a section is missing that the file has to have.\n  A file of TYPE BRANCHES has a BRANCH_SECTION.\n",
+    ),
+    (
+        "TYPE : BRANCHES\nDIMENSION : 3\nBRANCH_SECTION\n1 2 0 -1\n",
+        "  a.tsp:\n  A section ends before it is whole.\n  BRANCH_SECTION has one tree. Two different nodes from 1 to DIMENSION are a branch, before the tree of the tours\n  that use the pair and that of the tours that don't. 0 begins a leaf: pairs of an index from 1 to DIMENSION + 10,000\n  and a whole difference from -2,000,000,000,000,000 to 2,000,000,000,000,000, and -1 at its end.\n  There are at most 1,000,000 branches, and 10,000,000 differences.\n",
     ),
     (
         "TYPE : TSP\nDIMENSION : 5\nEDGE_WEIGHT_TYPE : EUC_2D\nNODE_COORD_SECTION\n1 0 0\n2 3 0\n3 3 4\n4 0 4\nEOF\n",

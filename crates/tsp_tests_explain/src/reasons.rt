@@ -214,6 +214,36 @@ fn reasons_have_their_rule_where_no_file_is_seen(rt: HostRuntime) -> Result<(), 
 }
 
 #[test]
+fn reasons_against_a_tree_have_their_rule(rt: HostRuntime) -> Result<(), Fail> {
+    explains_unseen(
+        &rt,
+        Reason::NotBranches,
+        "  a.tour:\n  The third file has to be of TYPE BRANCHES.\n",
+    )?;
+    explains_unseen(
+        &rt,
+        Reason::BranchesDimension,
+        "  a.tour:\n  DIMENSION of the tree of cases isn't that of the instance.\n",
+    )?;
+    explains_unseen(
+        &rt,
+        Reason::BadComb { index: 1 },
+        "  a.tour:\n  This comb of COMB_SECTION is none. A comb has a handle and an odd number of teeth, 3 or more, which don't meet;\n  each tooth has a node inside the handle and one outside, and no set has a node twice.\n",
+    )?;
+    explains_unseen(
+        &rt,
+        Reason::BranchTwice { index: 2 },
+        "  a.tour:\n  This branch of BRANCH_SECTION is on a pair that a branch above it decides, or that is a fixed edge of the instance,\n  whichever node stands first.\n",
+    )?;
+    explains_unseen(
+        &rt,
+        Reason::BadLeaf { index: 1 },
+        "  a.tour:\n  This leaf of BRANCH_SECTION has a number that isn't taken. Indices are 1 to DIMENSION for the potentials of nodes,\n  and go on from there for the multipliers of combs, one for each comb of COMB_SECTION.\n  A potential is at most 1,000,000,000,000,000 in size; multipliers aren't below 0,\n  and sum to at most 300,000,000,000,000,000.\n  Numbers are told by their differences to those of the leaf before.\n",
+    )?;
+    Ok(())
+}
+
+#[test]
 fn layouts_and_devices_have_their_sentences(rt: HostRuntime) -> Result<(), Fail> {
     same(
         &rt,

@@ -2,8 +2,8 @@
 
 use crate::asserts::{holds_at, same_at};
 use crate::files::{
-    AROUND, AROUND_REPORT, BOUND_REPORT, DUALS, POTENTIALS, RECTANGLE, RECTANGLE_SHOWN, REPORT,
-    ROUTES, STAR, THREE_NODES, TOUR, WHOLE_STAR, ZEROS,
+    AROUND, AROUND_REPORT, BOUND_REPORT, CASES, DUALS, POTENTIALS, RECTANGLE, RECTANGLE_SHOWN,
+    REPORT, ROUTES, STAR, THREE_NODES, TOUR, WHOLE_STAR, ZEROS,
 };
 use crate::runs::{Readers, Task, run};
 use std::alloc::Global;
@@ -24,6 +24,9 @@ const BOUND_CHECK: Job = (Task::BoundCheck, [THREE_NODES, TOUR, DUALS]);
 /// The same by potentials of nodes.
 const EVEN_BOUND_CHECK: Job = (Task::BoundCheck, [RECTANGLE, AROUND, ZEROS]);
 
+/// The same by a tree of cases.
+const BRANCH_CHECK: Job = (Task::BranchCheck, [RECTANGLE, AROUND, CASES]);
+
 const SHOW: Job = (Task::Show, [RECTANGLE, "", ""]);
 
 const CONVERT: Job = (Task::Convert("FULL_MATRIX"), [STAR, "", ""]);
@@ -41,6 +44,7 @@ const FILES: &[(Job, u32)] = &[
     (BOUND_CHECK, 1),
     (BOUND_CHECK, 2),
     (BOUND_CHECK, 3),
+    (BRANCH_CHECK, 3),
     (SHOW, 1),
     (CONVERT, 1),
 ];
@@ -129,6 +133,7 @@ pub(crate) const WRITTEN: &[(Job, bool, &str)] = &[
     (NO, false, "type ATSP\nnodes 3\nno TourLength\n"),
     (BOUND_CHECK, true, BOUND_REPORT),
     (EVEN_BOUND_CHECK, true, AROUND_REPORT),
+    (BRANCH_CHECK, true, AROUND_REPORT),
     (SHOW, true, RECTANGLE_SHOWN),
     (CONVERT, true, WHOLE_STAR),
 ];

@@ -36,7 +36,12 @@ pub(crate) const AROUND: &str = "TYPE : TOUR\nTOUR_SECTION\n1 2 3 4 -1\nEOF\n";
 pub(crate) const ZEROS: &str =
     "TYPE : POTENTIALS\nDIMENSION : 4\nSCALE : 1\nNODE_POTENTIAL_SECTION\n1 0\n2 0\n3 0\n4 0\nEOF\n";
 
-/// What the check reports on the rectangle, the tour around it and potentials of 0.
+/// A tree of two cases for it, one with its diagonal 1-3 and one without.
+pub(crate) const CASES: &str =
+    "TYPE : BRANCHES\nDIMENSION : 4\nBRANCH_SECTION\n1 3\n0 -1\n0 -1\nEOF\n";
+
+/// What the check reports on the rectangle, the tour around it and potentials of 0, in one case or
+/// in two.
 pub(crate) const AROUND_REPORT: &str = "type TSP\nnodes 4\nlength 14\nbound 14\noptimal\nyes\n";
 
 /// An instance of routes.

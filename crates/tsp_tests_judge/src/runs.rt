@@ -1,8 +1,8 @@
-//! Runs of the four verbs, from the bytes that come in to those that go out.
+//! Runs of the verbs, from the bytes that come in to those that go out.
 
 use std::alloc::{AllocError, Global};
 use std::io::ErrorKind;
-use tsp_judge::{RunFault, run_bound_check, run_check, run_convert, run_show};
+use tsp_judge::{RunFault, run_bound_check, run_branch_check, run_check, run_convert, run_show};
 use tsp_stream::Watched;
 use tsp_testing::devices::{Drip, Trickle};
 use tsp_value::Layout;
@@ -12,8 +12,10 @@ use tsp_value::Layout;
 pub(crate) enum Task<'a> {
     /// The first is an instance, the second its solution.
     Check,
-    /// The third is a certificate.
+    /// The third is a file of potentials.
     BoundCheck,
+    /// The third is a tree of cases.
+    BranchCheck,
     /// The first is shown.
     Show,
     /// The first is written anew, in the layout with this word, or where it is empty in its own.
@@ -81,7 +83,7 @@ fn failing(text: &str, fails_at: usize) -> Watched<Trickle<'_>> {
 }
 
 /// What a check answers. (It has no contract, which the proofs of the tests would go through; nor
-/// have the three below.)
+/// have the four below.)
 fn checked(
     alloc: Global,
     readers: &mut Readers<'_>,
@@ -96,6 +98,20 @@ fn bound_checked(
     out: &mut Watched<Drip>,
 ) -> Result<bool, RunFault> {
     run_bound_check(
+        alloc,
+        &mut readers.first,
+        &mut readers.second,
+        &mut readers.third,
+        out,
+    )
+}
+
+fn branch_checked(
+    alloc: Global,
+    readers: &mut Readers<'_>,
+    out: &mut Watched<Drip>,
+) -> Result<bool, RunFault> {
+    run_branch_check(
         alloc,
         &mut readers.first,
         &mut readers.second,
@@ -131,6 +147,7 @@ pub(crate) fn run(
     match task {
         Task::Check => checked(alloc, readers, out),
         Task::BoundCheck => bound_checked(alloc, readers, out),
+        Task::BranchCheck => branch_checked(alloc, readers, out),
         Task::Show => shown(alloc, readers, out).map(|()| true),
         Task::Convert(word) => converted(alloc, readers, word, out).map(|()| true),
     }

@@ -5,7 +5,7 @@ use std::process::Abort;
 use std::test::Fail;
 use tsp_fields::File;
 use tsp_testing::drafts::{file_of, points, rectangle, tours};
-use tsp_value::{CoordKind, DisplayKind, Kind, Layout, WeightFormat, WeightKind};
+use tsp_value::{CoordKind, DisplayKind, Kind, Layout, TreeStep, WeightFormat, WeightKind};
 
 #[test]
 fn a_file_lends_the_fields_that_it_has(rt: HostRuntime) -> Result<(), Fail> {
@@ -63,6 +63,23 @@ fn lends_sections(rt: &(impl AllocGlobal + Abort), file: &File) -> Result<(), Fa
         file.fixed_potentials(),
         Some([(1u32, 2u32, 6i64), (3, 4, 0)].as_slice()),
     );
+    lends_tree(rt, file)
+}
+
+/// Asserts that a file lends the combs and the steps of the rectangle.
+fn lends_tree(rt: &(impl AllocGlobal + Abort), file: &File) -> Result<(), Fail> {
+    let combs = file.combs().ok_or("no combs")?;
+    assert_eq!(rt; combs.len(), 2);
+    assert_eq!(rt; combs[0].len(), 2);
+    same(rt, combs[0][1].as_slice(), [1u32, 3].as_slice());
+    same(rt, combs[1].len(), 1);
+    let steps = file.branches().ok_or("no branches")?;
+    assert_eq!(rt; steps.len(), 3);
+    holds(rt, matches!(&steps[0], TreeStep::Branch(1, 2)));
+    let TreeStep::Leaf(changes) = &steps[1] else {
+        return Err(Fail::from("no leaf"));
+    };
+    same(rt, changes.as_slice(), [(1u32, -5i64), (6, 7)].as_slice());
     Ok(())
 }
 
@@ -95,5 +112,6 @@ fn a_file_lends_nothing_of_the_fields_that_it_lacks(rt: HostRuntime) -> Result<(
         &rt,
         file.column_potentials().is_none() && file.fixed_potentials().is_none(),
     );
+    holds(&rt, file.combs().is_none() && file.branches().is_none());
     Ok(())
 }

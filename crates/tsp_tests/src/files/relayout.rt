@@ -69,6 +69,16 @@ fn same_beside(rt: &impl Abort, a: &File, b: &File) {
     same(rt, a.row_potentials(), b.row_potentials());
     same(rt, a.column_potentials(), b.column_potentials());
     same(rt, a.fixed_potentials(), b.fixed_potentials());
+    same(
+        rt,
+        a.combs().map(|combs| combs.len()),
+        b.combs().map(|combs| combs.len()),
+    );
+    same(
+        rt,
+        a.branches().map(|steps| steps.len()),
+        b.branches().map(|steps| steps.len()),
+    );
 }
 
 #[test]
