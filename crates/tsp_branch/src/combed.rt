@@ -8,9 +8,9 @@ ghost use Rattle.tsp_bound.specs.Growth.{least_at};
 ghost use Rattle.tsp_branch.specs.Sets.{IsMoved, IsSetTable, AreSetsOf};
 ghost use Rattle.tsp_branch.specs.Combed.{plain, AreSmallMultipliers, AreMultipliedSets, multipliers_at, AreFewCrossings, set_weight};
 
-use crate::add_sets::{add_sets, sum_left};
+use crate::add_sets::add_sets;
 use crate::growth::weight_in;
-use crate::scaled::scaled_cost;
+use crate::scaled::scale_row;
 use crate::weights::Weights;
 use tsp_cost::Costs;
 
@@ -97,22 +97,8 @@ impl<'a, C: Costs> CombedWeights<'a, C> {
         }
     }
 
-    /// The weight between two nodes as if no set had both.
-    #[inline]
-    fn weight_apart(&self, i: u32, j: u32) -> i64
-        requires from { IsNode (C.nodes self.now.costs.now) i }
-        requires to { IsNode (C.nodes self.now.costs.now) j }
-        ensures value { IsMoved (neg_ℤ (multipliers_at self.now.multipliers.now (plain self.now.sets.now) i)
-            +ℤ neg_ℤ (multipliers_at self.now.multipliers.now (plain self.now.sets.now) j))
-            (weight_between self.now.scale self.now.potentials.now (C.at self.now.costs.now) i j) result }
-        ensures size { IsFromTo (neg_ℤ (pos most_between)) (pos most_between)
-            (weight_between self.now.scale self.now.potentials.now (C.at self.now.costs.now) i j) }
-    {
-        let both = sum_left(weight_in(self.moved, i), weight_in(self.moved, j));
-        sum_left(scaled_cost(self.costs, self.scale, i, j), both)
-    }
-
-    /// A row of these; and how large the weights between the node and others are without combs.
+    /// A row of these as if no set had two nodes; and how large the weights between the node and
+    /// others are without combs.
     fn fill_apart(&self, from: u32, row: &mut [i64])
         requires from { IsNode (C.nodes self.now.costs.now) from }
         requires room { length row.old ≡ C.nodes self.now.costs.now + 1 }
@@ -125,9 +111,8 @@ impl<'a, C: Costs> CombedWeights<'a, C> {
             → IsFromTo (neg_ℤ (pos most_between)) (pos most_between)
             (weight_between self.now.scale self.now.potentials.now (C.at self.now.costs.now) from x) }
     {
-        'nodes: for node in 1..self.costs.count() + 1 {
-            row[node as usize] = self.weight_apart(from, node);
-        }
+        self.costs.costs_from(from, row);
+        scale_row(row, self.moved, self.scale, weight_in(self.moved, from));
     }
 
     /// Writes a row as `fill` does, of weights that are at most 2 * 10^18 in size.

@@ -15,7 +15,6 @@ mod laws;
 mod leaf;
 mod marks;
 mod moved;
-mod node_weights;
 mod numbers;
 mod room;
 mod scaled;
@@ -45,7 +44,6 @@ pub use laws::{
     walks_cross_combs, walks_keep_leaves,
 };
 pub use leaf::leaf_bound;
-pub use node_weights::NodeWeights;
 pub use stack::next_case;
 pub use steps::{BranchVerdict, Judged};
 pub use table::CostTable;

@@ -1,21 +1,26 @@
 //! Costs at the scale of a certificate.
 
-ghost use Rattle.std.specs.Prelude.{◌≡◌, ◌*◌, pos, neg_ℤ, ◌*ℤ◌};
-ghost use Rattle.tsp_value.specs.Cells.{IsNode};
-ghost use Rattle.tsp_value.specs.Limits.{most_scale, most_weight};
+ghost use Rattle.std.specs.Prelude.{◌≡◌, ◌≤◌, ◌<◌, ℕ, length, pos, neg_ℤ, ◌+ℤ◌, ◌*ℤ◌};
+ghost use Rattle.std.specs.Int.{w64, int_wrap};
+ghost use Rattle.tsp_value.specs.Limits.{most_weight};
 ghost use Rattle.tsp_bound.specs.Numbers.{IsFromTo, IsScale};
+ghost use Rattle.tsp_bound.specs.Growth.{least_at};
 
-use tsp_cost::Costs;
+use crate::add_sets::sum_left;
 
-/// The cost from one node to another, as a count of 1 / scale: at most 10^18 in size.
-#[inline]
-pub(crate) fn scaled_cost<C: Costs>(c: &C, scale: i64, i: u32, j: u32) -> i64
+/// Makes the costs of a row counts of 1 / scale, and adds a number to each, and at each place the
+/// other row's: of these sums what is left in 64 bits. The place 0 stays as it is.
+///
+/// The caller owes costs of at most 10^12 in size, and rows of one length.
+pub(crate) fn scale_row(row: &mut [i64], moved: &[i64], scale: i64, number: i64)
     requires scale { IsScale scale }
-    requires from { IsNode (C.nodes c.now) i }
-    requires to { IsNode (C.nodes c.now) j }
-    ensures value { result ≡ scale *ℤ C.at c.now i j }
-    ensures size { IsFromTo (neg_ℤ (pos (most_scale * most_weight)))
-        (pos (most_scale * most_weight)) result }
+    requires long { length moved.now ≡ length row.old }
+    requires costs { (x : ℕ) → 1 ≤ x → x < length row.old
+        → IsFromTo (neg_ℤ (pos most_weight)) (pos most_weight) (least_at row.old x) }
+    ensures { (x : ℕ) → 1 ≤ x → x < length row.old → least_at row.new x
+        ≡ int_wrap w64 ((scale *ℤ least_at row.old x) +ℤ int_wrap w64 (number +ℤ least_at moved.now x)) }
 {
-    scale * c.cost(i, j)
+    'places: for place in 1..row.len() {
+        row[place] = sum_left(scale * row[place], sum_left(number, moved[place]));
+    }
 }

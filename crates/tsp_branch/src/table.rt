@@ -3,7 +3,7 @@
 ghost use Rattle.std.specs.Prelude.{◌≡◌, ◌≤◌, IfOk};
 ghost use Rattle.tsp_value.specs.Cells.{IsNode};
 ghost use Rattle.tsp_value.specs.Limits.{most_nodes};
-ghost use Rattle.tsp_branch.specs.Tabled.{IsCostRow, AreCostRows};
+ghost use Rattle.tsp_branch.specs.Tabled.{IsKeptRow, AreCostRows};
 
 use std::alloc::{AllocError, Global};
 use tsp_cost::{Costs, Symmetric};
@@ -52,7 +52,12 @@ impl<C: Costs> Costs for CostTable<'_, C> {
 
     #[inline]
     fn cost(&self, i: u32, j: u32) -> i64 {
-        self.rows[i as usize - 1][j as usize - 1]
+        self.rows[i as usize - 1][j as usize]
+    }
+
+    #[inline]
+    fn costs_from(&self, i: u32, row: &mut [i64]) {
+        row.copy_from_slice(&self.rows[i as usize - 1]);
     }
 }
 
@@ -73,16 +78,12 @@ fn cost_rows<C: Costs>(alloc: Global, costs: &C) -> Result<Vec<Vec<i64>>, AllocE
     Ok(rows)
 }
 
-/// The costs from a node to each.
-#[tactic(auto, using(crate::proofs::CostRows::row_more))]
+/// The costs from a node to each, each at the place of its node.
 fn cost_row<C: Costs>(alloc: Global, costs: &C, from: u32) -> Result<Vec<i64>, AllocError>
     requires { IsNode (C.nodes costs.now) from }
-    ensures { IfOk result (λ row. IsCostRow (C.nodes costs.now) (C.at costs.now) from row.items) }
+    ensures { IfOk result (λ row. IsKeptRow (C.nodes costs.now) (C.at costs.now from) row.items) }
 {
-    let count = costs.count();
-    let mut row = Vec::with_capacity(alloc, count as usize)?;
-    'nodes: for index in 0..count {
-        row.push(costs.cost(from, index + 1))?;
-    }
+    let mut row = vec![in alloc; 0; costs.count() as usize + 1]?;
+    costs.costs_from(from, &mut row);
     Ok(row)
 }
