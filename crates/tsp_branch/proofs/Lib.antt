@@ -17,6 +17,7 @@ pub mod CombsBySets
 pub mod CombSizes
 pub mod DecidedOnce
 pub mod MovedSums
+pub mod Passed
 pub mod Passes
 pub mod Judging
 pub mod Grown

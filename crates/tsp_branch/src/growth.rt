@@ -1,6 +1,6 @@
 //! The growth of a tree over the nodes 2..n.
 
-ghost use Rattle.std.specs.Prelude.{◌≡◌, ◌≤◌, ◌<◌, ◌+◌, ◌-◌, ◌*◌, ◌^◌, ℕ, length, false, IfOk, MatchOption, ◌<ℤ◌, pos, neg_ℤ};
+ghost use Rattle.std.specs.Prelude.{◌≡◌, ◌≤◌, ◌<◌, ◌+◌, ◌-◌, ◌*◌, ◌^◌, ℕ, length, false, if◌then◌else◌, IfOk, MatchOption, ◌<ℤ◌, pos, neg_ℤ};
 ghost use Rattle.tsp_value.specs.Cells.{IsNode};
 ghost use Rattle.tsp_value.specs.Limits.{most_nodes};
 ghost use Rattle.tsp_bound.specs.Numbers.{IsFromTo};
@@ -80,6 +80,9 @@ pub(crate) fn reach<W: Weights>(
 }
 
 /// The same by the row of `next`.
+///
+/// What is kept of the nodes inside is changed too, and means nothing: which nodes are inside is no
+/// pattern that a processor foresees, so no jump hangs on that alone.
 fn bring(
     row: &[i64],
     inside: &[bool],
@@ -101,13 +104,16 @@ fn bring(
     let mut best = i64::MAX;
     'nodes: for node in 2..row.len() as u32 {
         let place = node as usize;
-        if !inside[place] {
-            let weight = weight_in(row, node);
-            let kept = take_nearer(&mut near[place], &mut least[place], next, weight);
-            if kept < best {
-                best = kept;
-                nearest = Some(node);
-            }
+        let own = take_nearer(
+            &mut near[place],
+            &mut least[place],
+            next,
+            weight_in(row, node),
+        );
+        let kept = weight_outside(inside[place], own);
+        if kept < best {
+            best = kept;
+            nearest = Some(node);
         }
     }
     nearest
@@ -133,4 +139,12 @@ fn take_nearer(near: &mut u32, least: &mut i64, next: u32, weight: i64) -> i64
         *near = next;
     }
     *least
+}
+
+/// The weight of a node outside; the largest number of 64 bits for one inside.
+#[inline]
+fn weight_outside(is_inside: bool, weight: i64) -> i64
+    ensures { result ≡ if is_inside then i64.MAX else weight }
+{
+    if is_inside { i64::MAX } else { weight }
 }
