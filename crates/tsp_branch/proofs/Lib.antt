@@ -6,7 +6,6 @@ pub mod LeafBounds
 pub mod Numbered
 pub mod SmallBounds
 pub mod SmallTrees
-pub mod Rows
 pub mod Leaves
 pub mod Changes
 pub mod NextCases
@@ -17,8 +16,9 @@ pub mod CombsBySets
 pub mod CombSizes
 pub mod DecidedOnce
 pub mod MovedSums
-pub mod Passed
+pub mod Outside
 pub mod Passes
+pub mod GrowthStates
 pub mod Judging
 pub mod Grown
 pub mod CaseWeights

@@ -14,6 +14,7 @@ pub mod GoodCombs
 pub mod Tabled
 pub mod Twice
 pub mod Marked
+pub mod Outside
 pub mod Listed
 pub mod BranchVerdicts
 pub mod VerdictExamples

@@ -1,119 +1,92 @@
 //! The growth of a tree over the nodes 2..n.
 
-ghost use Rattle.std.specs.Prelude.{◌≡◌, ◌≤◌, ◌<◌, ◌+◌, ◌-◌, ◌*◌, ◌^◌, ℕ, length, false, if◌then◌else◌, IfOk, MatchOption, ◌<ℤ◌, pos, neg_ℤ};
+ghost use Rattle.std.specs.Prelude.{◌≡◌, ◌≤◌, ◌<◌, ◌+◌, ◌*◌, ◌^◌, ℕ, length, slice_index, IfOk, MatchOption, ◌<ℤ◌, pos, neg_ℤ};
 ghost use Rattle.tsp_value.specs.Cells.{IsNode};
 ghost use Rattle.tsp_value.specs.Limits.{most_nodes};
 ghost use Rattle.tsp_bound.specs.Numbers.{IsFromTo};
-ghost use Rattle.tsp_bound.specs.Tree.{IsInner, weight_of};
-ghost use Rattle.tsp_bound.specs.Growth.{is_inside, least_at, IsWholeGrowth, AllInside, IsNearestOutside, IsNearer, AreNearer};
+ghost use Rattle.tsp_bound.specs.Growth.{least_at};
+ghost use Rattle.tsp_branch.specs.Outside.{IsGrownWeight, AreFromThree, IsLower, AreLower, AreInner, IsLeastPlace};
 
 use crate::weights::Weights;
 use std::alloc::{AllocError, Global};
 
-/// The pairs of a growth, and the sum of their weights.
-#[derive(Drop)]
-pub(crate) struct Grown {
-    pub(crate) pairs: Vec<(u32, u32)>,
-    pub(crate) weight: i128,
-}
-
-/// Grows a tree over the nodes 2..n from node 2: each pair leads from a node inside to one
-/// outside, and no such pair weighs less.
+/// The weight of a tree over the nodes 2..n that is grown from node 2: each of its pairs leads from
+/// a node inside to one outside, and no such pair weighs less.
 ///
-/// Of each node outside it keeps the nearest node inside and the weight between the two, so that
-/// each row is asked for once. The row that is lent is written over.
+/// It lists the nodes outside, and keeps of each the least weight between it and a node inside, so
+/// that each row is asked for once. The row that is lent is written over.
 ///
 /// Errors: out of memory.
-pub(crate) fn grow<W: Weights>(alloc: Global, w: &W, row: &mut [i64]) -> Result<Grown, AllocError>
+pub(crate) fn grow<W: Weights>(alloc: Global, w: &W, row: &mut [i64]) -> Result<i128, AllocError>
     requires some { 3 ≤ W.nodes w.now }
     requires room { length row.old ≡ W.nodes w.now + 1 }
-    ensures whole { IfOk result (λ grown.
-        IsWholeGrowth (W.nodes w.now) (W.at w.now) grown.pairs.items) }
-    ensures weight { IfOk result (λ grown.
-        grown.weight ≡ weight_of (W.at w.now) grown.pairs.items) }
-    ensures size { IfOk result (λ grown. IsFromTo (neg_ℤ (pos (most_nodes * 2 ^ 63)))
-        (pos (most_nodes * 2 ^ 63)) grown.weight) }
+    ensures whole { IfOk result (IsGrownWeight (W.nodes w.now) (W.at w.now)) }
+    ensures size { IfOk result (λ weight. IsFromTo (neg_ℤ (pos (most_nodes * 2 ^ 63)))
+        (pos (most_nodes * 2 ^ 63)) weight) }
 {
-    let size = w.count() as usize + 1;
-    let mut inside = vec![in alloc; false; size]?;
-    let mut near: Vec<u32> = vec![in alloc; 2; size]?;
+    let mut outside = nodes_from_three(alloc, w.count())?;
     // Every weight is below the one that stands for none.
-    let mut least = vec![in alloc; i64::MAX; size]?;
-    let mut pairs = Vec::with_capacity(alloc, size)?;
+    let mut least = vec![in alloc; i64::MAX; outside.len()]?;
     let mut weight = 0;
-    inside[2] = true;
-    let mut nearest = reach(w, row, &inside, &mut near, &mut least, 2);
-    'grow: while let Some(next) = nearest {
-        inside[next as usize] = true;
-        pairs.push((near[next as usize], next))?;
-        weight += i128::from(least[next as usize]);
-        nearest = reach(w, row, &inside, &mut near, &mut least, next);
+    let mut nearest = reach(w, row, &outside, &mut least, 2);
+    'grow: while let Some(place) = nearest {
+        let next = outside.swap_remove(place);
+        weight += i128::from(least.swap_remove(place));
+        nearest = reach(w, row, &outside, &mut least, next);
     }
-    Ok(Grown { pairs, weight })
+    Ok(weight)
 }
 
-/// Brings what is kept of the nodes outside up to date once `next` is inside, and finds the
-/// nearest of them.
-pub(crate) fn reach<W: Weights>(
+/// The nodes from 3 on.
+fn nodes_from_three(alloc: Global, count: u32) -> Result<Vec<u32>, AllocError>
+    requires some { 2 ≤ count }
+    requires most { count ≤ most_nodes }
+    ensures { IfOk result (λ nodes. AreFromThree count nodes.items) }
+{
+    let mut nodes = Vec::with_capacity(alloc, count as usize)?;
+    'nodes: for node in 3..count + 1 {
+        nodes.push(node)?;
+    }
+    Ok(nodes)
+}
+
+/// Brings what is kept of the nodes outside up to date once `next` is inside, and finds the place of
+/// the nearest of them.
+fn reach<W: Weights>(
     w: &W,
     row: &mut [i64],
-    inside: &[bool],
-    near: &mut [u32],
+    outside: &[u32],
     least: &mut [i64],
     next: u32,
-) -> Option<u32>
-    requires few { W.nodes w.now ≤ most_nodes }
+) -> Option<usize>
     requires room { length row.old ≡ W.nodes w.now + 1 }
-    requires inside_len { length inside.now ≡ W.nodes w.now + 1 }
-    requires near_len { length near.old ≡ W.nodes w.now + 1 }
-    requires least_len { length least.old ≡ W.nodes w.now + 1 }
+    requires inner { AreInner (W.nodes w.now) outside.now }
+    requires same { length least.old ≡ length outside.now }
     requires next_in { IsNode (W.nodes w.now) next }
-    ensures nearer { AreNearer (W.nodes w.now) (W.at w.now) inside.now next
-        near.old least.old near.new least.new }
-    ensures small { (x : ℕ) → IsInner (W.nodes w.now) x → is_inside inside.now x ≡ false
-        → W.at w.now next x <ℤ i64.MAX }
-    ensures nearest { MatchOption result (AllInside (W.nodes w.now) inside.now)
-        (λ node. IsNearestOutside (W.nodes w.now) inside.now least.new node) }
+    ensures lower { AreLower (W.at w.now next) outside.now least.old least.new }
+    ensures small { (k : ℕ) → k < length outside.now → W.at w.now next (slice_index outside.now k) <ℤ i64.MAX }
+    ensures nearest { MatchOption result (length outside.now ≡ 0) (IsLeastPlace least.new) }
 {
     w.fill(next, row);
-    bring(row, inside, near, least, next)
+    bring(row, outside, least)
 }
 
-/// The same by the row of `next`.
-///
-/// What is kept of the nodes inside is changed too, and means nothing: which nodes are inside is no
-/// pattern that a processor foresees, so no jump hangs on that alone.
-fn bring(
-    row: &[i64],
-    inside: &[bool],
-    near: &mut [u32],
-    least: &mut [i64],
-    next: u32,
-) -> Option<u32>
-    requires few { length row.now < 2 ^ 32 }
-    requires inside_len { length inside.now ≡ length row.now }
-    requires near_len { length near.old ≡ length row.now }
-    requires least_len { length least.old ≡ length row.now }
-    requires small { (x : ℕ) → IsInner (length row.now - 1) x → least_at row.now x <ℤ i64.MAX }
-    ensures nearer { AreNearer (length row.now - 1) (λ i j. least_at row.now j) inside.now next
-        near.old least.old near.new least.new }
-    ensures nearest { MatchOption result (AllInside (length row.now - 1) inside.now)
-        (λ node. IsNearestOutside (length row.now - 1) inside.now least.new node) }
+/// The same by the row of the node that came inside.
+fn bring(row: &[i64], outside: &[u32], least: &mut [i64]) -> Option<usize>
+    requires same { length least.old ≡ length outside.now }
+    requires places { (k : ℕ) → k < length outside.now → slice_index outside.now k < length row.now }
+    requires small { (k : ℕ) → k < length outside.now → least_at row.now (slice_index outside.now k) <ℤ i64.MAX }
+    ensures lower { AreLower (least_at row.now) outside.now least.old least.new }
+    ensures nearest { MatchOption result (length outside.now ≡ 0) (IsLeastPlace least.new) }
 {
-    let mut nearest: Option<u32> = None;
+    let mut nearest = None;
     let mut best = i64::MAX;
-    'nodes: for node in 2..row.len() as u32 {
-        let place = node as usize;
-        let own = take_nearer(
-            &mut near[place],
-            &mut least[place],
-            next,
-            weight_in(row, node),
-        );
-        let kept = weight_outside(inside[place], own);
-        if kept < best {
-            best = kept;
-            nearest = Some(node);
+    'places: for place in 0..outside.len() {
+        let own = lower(least[place], weight_in(row, outside[place]));
+        least[place] = own;
+        if own < best {
+            best = own;
+            nearest = Some(place);
         }
     }
     nearest
@@ -128,23 +101,10 @@ pub(crate) fn weight_in(row: &[i64], node: u32) -> i64
     row[node as usize]
 }
 
-/// Takes `next` for the nearest node where it is nearer, and answers the least weight.
+/// The lower of two weights.
 #[inline]
-fn take_nearer(near: &mut u32, least: &mut i64, next: u32, weight: i64) -> i64
-    ensures nearer { IsNearer weight next near.old least.old near.new least.new }
-    ensures value { result ≡ least.new }
+fn lower(old: i64, weight: i64) -> i64
+    ensures { IsLower weight old result }
 {
-    if weight < *least {
-        *least = weight;
-        *near = next;
-    }
-    *least
-}
-
-/// The weight of a node outside; the largest number of 64 bits for one inside.
-#[inline]
-fn weight_outside(is_inside: bool, weight: i64) -> i64
-    ensures { result ≡ if is_inside then i64.MAX else weight }
-{
-    if is_inside { i64::MAX } else { weight }
+    if weight < old { weight } else { old }
 }

@@ -31,5 +31,5 @@ pub fn least_weight<W: Weights>(alloc: Global, w: &W, row: &mut [i64]) -> Result
     let (first, second) = two_spokes(w, row);
     let grown = grow(alloc, w, row)?;
     let spokes = i128::from(first.weight) + i128::from(second.weight);
-    Ok(spokes + grown.weight)
+    Ok(spokes + grown)
 }

@@ -1,100 +1,81 @@
-use Rattle.std.proofs.Common.{◌≡◌, ◌+◌, ◌++◌, ◌∷◌, [], true, false, replicate, length, length-append, ap, refl, rules, sym, subst, ◌∙◌, ◌≤◌, arith, MatchOption, FitsSigned, to_z}
-use Rattle.std.specs.Prelude.{ℤ, ◌+ℤ◌, slice_set}
+use Rattle.std.proofs.Common.{◌≡◌, ◌+◌, ◌-◌, ◌<◌, ◌≤◌, ℕ, ℤ, List, length, slice_index, take, drop, ◌++◌, replicate, MatchOption, ap, refl, sym, subst, ◌∙◌, arith, rules, FitsSigned, to_z, of_z}
 use Rattle.std.specs.Int.{w64, w128}
+use Rattle.std.specs.Prelude.{pos, ◌+ℤ◌, ◌<ℤ◌}
 use Rattle.std.proofs.lemmas.Int.{ints}
+use Rattle.std.proofs.lemmas.List.{get_or-replicate, get_or_default}
 use Rattle.tsp_value.specs.Limits.{most_nodes}
-use Rattle.tsp_bound.specs.Growth.{AllInside, IsNearestOutside}
+use Rattle.tsp_bound.specs.Growth.{least_at}
 use Rattle.tsp_bound.proofs.Nearest.{most_64}
-use Rattle.tsp_bound.proofs.Steps.{start_after, state_after, state_end, room_more, nearest_after}
-use Rattle.tsp_bound.proofs.Weights.{sum_more, sum_fits, sum_computed, sum_pushed}
+use Rattle.tsp_bound.proofs.Steps.{written_back}
+use Rattle.tsp_bound.proofs.Weights.{sum_more, sum_computed}
+use Rattle.tsp_branch.specs.Outside.{AreFromThree, AreLower, IsLeastPlace}
+use Rattle.tsp_branch.proofs.Outside.{removed_length}
+use Rattle.tsp_branch.proofs.GrowthStates.{state_start, state_more}
 use Rattle.tsp_branch.proofs.growth.grow.Goals as goal
 
 pub grow-init : goal.grow-init
 grow-init g c =
     let n = g.W.Weights.nodes c.args.w.now in
     let w = g.W.Weights.at c.args.w.now in
-    let size : c.count.result + 1 ≡ n + 1 = ap (λ k. k + 1) c.count.ensures.value in
-    let inside : c.in_ok-inside.inside.items ≡ replicate (c.count.result + 1) false = c.in_ok-inside.ensures.items_if_clones_equal (λ y h. h) in
-    let least : c.in_ok-least.least.items ≡ replicate (c.count.result + 1) most_64 = c.in_ok-least.ensures.items_if_clones_equal (λ y h. h) in
-    let near_len : c.in_ok-near.near.len ≡ length c.in_ok-near.near.items = omega arith in
-    let least_len : c.in_ok-least.least.len ≡ length c.in_ok-least.least.items = omega arith in
-    let near_size : length c.in_ok-near.near.items ≡ c.count.result + 1 = sym near_len ∙ c.in_ok-near.ensures.len in
+    let outside : List ℕ = c.in_ok-outside.outside.items in
+    let new_least : List ℤ = c.reach-nearest.new.least in
+    let items : List ℤ = c.in_ok-least.least.items in
     let reached = c.reach-nearest.ensures in
+    let seen : c.deref.result.now ≡ outside = c.deref.ensures.value in
+    let most : items ≡ replicate c.len.result most_64 = c.in_ok-least.ensures.items_if_clones_equal (λ y h. h) in
+    let least_len : c.in_ok-least.least.len ≡ length items = omega arith in
+    let was_len : length c.deref_mut.result.now ≡ length items = ap length c.deref_mut.ensures.value in
+    let size : length items ≡ length outside = omega (arith, least_len, c.in_ok-least.ensures.len, c.len.ensures) in
+    let kept = written_back items new_least c.in_ok-least.least.len (omega (arith, least_len, was_len, c.reach-nearest.auto.least)) in
+    let same : length new_least ≡ length outside = omega (arith, was_len, c.reach-nearest.auto.least, size) in
+    let lower : AreLower (w 2) outside c.deref_mut.result.now new_least =
+    subst (λ (xs : List ℕ). AreLower (w 2) xs c.deref_mut.result.now new_least) seen reached.lower in
+    let small : (k : ℕ) → k < length outside → w 2 (slice_index outside k) <ℤ most_64 =
+    subst (λ (xs : List ℕ). (k : ℕ) → k < length xs → w 2 (slice_index xs k) <ℤ most_64) seen reached.small in
+    let from_three : AreFromThree n outside = subst (λ (k : ℕ). AreFromThree k outside) c.count.ensures.value c.in_ok-outside.ensures in
     record {
-      state = rw c.in_ok-pairs.ensures.items
-          (start_after n w (c.count.result + 1) c.in_ok-inside.inside.items c.deref.result.now c.in_ok-near.near.items c.deref_mut.result.now c.reach-nearest.new.near
-          c.in_ok-least.least.items c.deref_mut-2.result.now c.reach-nearest.new.least
-          c.in_ok-near.near.len c.in_ok-least.least.len most_64 c.requires.some size inside least c.deref.ensures.value c.deref_mut.ensures.value c.deref_mut-2.ensures.value near_size
-          c.reach-nearest.auto.near c.reach-nearest.auto.least near_len least_len reached.small reached.nearer);
-      nearest = nearest_after n (slice_set c.in_ok-inside.inside.items 2 true) c.deref.result.now c.in_ok-least.least.items c.deref_mut-2.result.now c.reach-nearest.new.least
-          c.in_ok-least.least.len c.reach-nearest.result
-          c.deref.ensures.value c.deref_mut-2.ensures.value c.reach-nearest.auto.least least_len reached.nearest;
-      sum = rw c.in_ok-pairs.ensures.items refl;
-      size = rw c.in_ok-pairs.ensures.items (omega (arith, ints), omega (arith, ints));
+      state = rw kept (state_start n w outside c.deref_mut.result.now new_least from_three
+          (λ k below. ap (λ xs. least_at xs k) (c.deref_mut.ensures.value ∙ most) ∙ get_or-replicate c.len.result k most_64 (pos 0) (omega (arith, below, c.len.ensures)))
+          lower small same);
+      nearest = rw kept (subst (λ (k : ℕ). MatchOption c.reach-nearest.result (k ≡ 0) (IsLeastPlace new_least)) (ap length seen) reached.nearest);
+      size = (omega (arith, ints), omega (arith, ints));
     }
-
-pub grow-smaller : goal.grow-smaller
-grow-smaller g c =
-    let n = g.W.Weights.nodes c.args.w.now in
-    let w = g.W.Weights.at c.args.w.now in
-    let next : IsNearestOutside n c.grow.inside.items c.grow.least.items c.in-Some.next =
-    subst (λ o. MatchOption o (AllInside n c.grow.inside.items) (λ node. IsNearestOutside n c.grow.inside.items c.grow.least.items node)) c.in-Some.is c.grow.invariant.nearest in
-    let room = room_more n w c.grow.inside.items c.grow.near.items c.grow.least.items c.grow.pairs.items c.in-Some.next c.grow.invariant.state next in
-    let pushed : c.push.new.self.items ≡ c.grow.pairs.items ++ (c.index.result.now, c.in-Some.next) ∷ [] = c.in_ok-push.ensures.items in
-    omega (arith, room, ap length pushed, length-append c.grow.pairs.items ((c.index.result.now, c.in-Some.next) ∷ []))
-
-pub overflow_add-weight : goal.overflow_add-weight
-overflow_add-weight g c =
-    let n = g.W.Weights.nodes c.args.w.now in
-    let next : IsNearestOutside n c.grow.inside.items c.grow.least.items c.in-Some.next =
-    subst (λ o. MatchOption o (AllInside n c.grow.inside.items) (λ node. IsNearestOutside n c.grow.inside.items c.grow.least.items node)) c.in-Some.is c.grow.invariant.nearest in
-    let room = room_more n (g.W.Weights.at c.args.w.now) c.grow.inside.items c.grow.near.items c.grow.least.items c.grow.pairs.items c.in-Some.next c.grow.invariant.state next in
-    let few : length c.grow.pairs.items ≤ most_nodes = omega (arith, room, c.count.ensures.value, c.count.ensures.most) in
-    let fits : FitsSigned w64 c.index-in-Some.result.now = search rules in
-    sum_fits (to_z w128 c.grow.weight-bits) c.index-in-Some.result.now c.from-weight.result (length c.grow.pairs.items) few c.grow.invariant.size fits c.from-weight.ensures
 
 pub grow-preserved : goal.grow-preserved
 grow-preserved g c =
     let n = g.W.Weights.nodes c.args.w.now in
     let w = g.W.Weights.at c.args.w.now in
-    let next : IsNearestOutside n c.grow.inside.items c.grow.least.items c.in-Some.next =
-    subst (λ o. MatchOption o (AllInside n c.grow.inside.items) (λ node. IsNearestOutside n c.grow.inside.items c.grow.least.items node)) c.in-Some.is c.grow.invariant.nearest in
-    let near_len : c.grow.near.len ≡ length c.grow.near.items = omega arith in
-    let least_len : c.grow.least.len ≡ length c.grow.least.items = omega arith in
-    let reached = c.reach-nearest-in-Some.ensures in
-    let here : ℤ = c.index-in-Some.result.now in
-    let fits : FitsSigned w64 c.index-in-Some.result.now = search rules in
+    let outside : List ℕ = c.grow.outside.items in
+    let least : List ℤ = c.grow.least.items in
+    let new_outside : List ℕ = c.swap_remove-next.new.self.items in
+    let left : List ℤ = c.swap_remove.new.self.items in
+    let new_least : List ℤ = c.reach-nearest-in-Some.new.least in
+    let place : ℕ = c.in-Some.place in
+    let next : ℕ = c.swap_remove-next.result in
+    let here : ℤ = c.swap_remove.result in
     let sum : ℤ = to_z w128 c.grow.weight-bits in
-    let room = room_more n w c.grow.inside.items c.grow.near.items c.grow.least.items c.grow.pairs.items c.in-Some.next c.grow.invariant.state next in
-    let few : length c.grow.pairs.items ≤ most_nodes = omega (arith, room, c.count.ensures.value, c.count.ensures.most) in
-    let computed = sum_computed sum here c.from-weight.result (length c.grow.pairs.items) few c.grow.invariant.size fits c.from-weight.ensures in
-    let pushed : c.push.new.self.items ≡ c.grow.pairs.items ++ (c.index.result.now, c.in-Some.next) ∷ [] = c.in_ok-push.ensures.items in
-    let more = sum_pushed n w c.grow.inside.items c.grow.near.items c.grow.least.items c.grow.pairs.items c.push.new.self.items c.in-Some.next c.index.result.now here c.grow.invariant.state
-    next c.index.ensures c.index-in-Some.ensures pushed in
-    let longer : length c.push.new.self.items ≡ length c.grow.pairs.items + 1 = ap length pushed ∙ length-append c.grow.pairs.items ((c.index.result.now, c.in-Some.next) ∷ []) in
+    let s = c.grow.invariant.state in
+    let reached = c.reach-nearest-in-Some.ensures in
+    let fits : FitsSigned w64 here = search rules in
+    let is_least : IsLeastPlace least place = subst (λ o. MatchOption o (length outside ≡ 0) (IsLeastPlace least)) c.in-Some.is c.grow.invariant.nearest in
+    let inside : place < length outside = omega (arith, is_least.inside, s.same) in
+    let next_is : next ≡ slice_index outside place = c.swap_remove-next.ensures.value ∙ get_or_default outside place next 0 inside in
+    let here_is : here ≡ least_at least place = c.swap_remove.ensures.value ∙ get_or_default least place here (pos 0) is_least.inside in
+    let seen : c.deref-in-Some.result.now ≡ new_outside = c.deref-in-Some.ensures.value in
+    let was : c.deref_mut-in-Some.result.now ≡ left = c.deref_mut-in-Some.ensures.value in
+    let left_len : c.swap_remove.new.self.len ≡ length left = omega arith in
+    let same : length new_least ≡ length left = c.reach-nearest-in-Some.auto.least ∙ ap length was in
+    let kept = written_back left new_least c.swap_remove.new.self.len (left_len ∙ sym same) in
+    let lower : AreLower (w next) new_outside left new_least =
+    subst (λ (xs : List ℕ). AreLower (w next) xs left new_least) seen (subst (λ (old : List ℤ). AreLower (w next) c.deref-in-Some.result.now old new_least) was reached.lower) in
+    let shorter : length new_outside ≡ length outside - 1 = ap length c.swap_remove-next.ensures.items ∙ removed_length outside place next in
+    let index : ℕ = n - length outside in
+    let few : index ≤ most_nodes = omega (arith, c.count.ensures.value, c.count.ensures.most) in
+    let computed = sum_computed sum here c.from-weight.result index few c.grow.invariant.size fits c.from-weight.ensures in
+    let more : n - length new_outside ≡ index + 1 = omega (arith, shorter, inside, s.count) in
     record {
-      state = state_after n w c.grow.inside.items c.deref-in-Some.result.now c.grow.near.items c.deref_mut-in-Some.result.now c.reach-nearest-in-Some.new.near c.grow.least.items
-          c.deref_mut-in-Some-2.result.now c.reach-nearest-in-Some.new.least
-          c.grow.pairs.items c.push.new.self.items c.in-Some.next c.index.result.now c.grow.near.len c.grow.least.len c.grow.invariant.state next
-          c.deref-in-Some.ensures.value c.deref_mut-in-Some.ensures.value c.deref_mut-in-Some-2.ensures.value c.reach-nearest-in-Some.auto.near c.reach-nearest-in-Some.auto.least near_len
-          least_len reached.nearer c.index.ensures c.in_ok-push.ensures.items;
-      nearest = nearest_after n (slice_set c.grow.inside.items c.in-Some.next true) c.deref-in-Some.result.now c.grow.least.items c.deref_mut-in-Some-2.result.now
-          c.reach-nearest-in-Some.new.least c.grow.least.len c.reach-nearest-in-Some.result
-          c.deref-in-Some.ensures.value c.deref_mut-in-Some-2.ensures.value c.reach-nearest-in-Some.auto.least least_len reached.nearest;
-      sum = computed ∙ ap (λ z. z +ℤ here) c.grow.invariant.sum ∙ sym more;
-      size = rw (computed, longer) (sum_more sum here (length c.grow.pairs.items) c.grow.invariant.size fits);
-    }
-
-pub returns : goal.returns
-returns g c =
-    let n = g.W.Weights.nodes c.args.w.now in
-    let all : AllInside n c.grow.inside.items = subst (λ o. MatchOption o (AllInside n c.grow.inside.items) (λ node. IsNearestOutside n c.grow.inside.items c.grow.least.items node))
-    c.in_default.is c.grow.invariant.nearest in
-    let whole = state_end n (g.W.Weights.at c.args.w.now) c.grow.inside.items c.grow.near.items c.grow.least.items c.grow.pairs.items c.requires.some c.grow.invariant.state all in
-    let few : length c.grow.pairs.items ≤ most_nodes = omega (arith, whole.count, c.count.ensures.value, c.count.ensures.most) in
-    let size = c.grow.invariant.size in
-    record {
-      whole = whole;
-      weight = c.grow.invariant.sum;
-      size = (omega (arith, ints, size.0, few), omega (arith, ints, size.1, few));
+      state = rw (kept, computed) (state_more n w outside new_outside least left new_least sum place next here s is_least next_is here_is
+          c.swap_remove-next.ensures.items c.swap_remove.ensures.items lower same);
+      nearest = rw kept (subst (λ (k : ℕ). MatchOption c.reach-nearest-in-Some.result (k ≡ 0) (IsLeastPlace new_least)) (ap length seen) reached.nearest);
+      size = rw (computed, more) (sum_more sum here index c.grow.invariant.size fits);
     }
