@@ -1,8 +1,8 @@
 -- The steps of a growth that lists the nodes outside.
-use Rattle.std.proofs.Common.{◌≡◌, ◌≢◌, ℕ, ◌+◌, ◌-◌, ◌<◌, ◌≤◌, ◌==◌, Bool, true, false, List, [], ◌∷◌, ◌++◌, length, slice_index, get_or, inl, inr, refl, ap, sym, subst, ◌∙◌, arith, length-append}
+use Rattle.std.proofs.Common.{◌≡◌, ◌≢◌, ℕ, ◌+◌, ◌-◌, ◌<◌, ◌≤◌, ◌==◌, Bool, true, false, List, [], ◌∷◌, ◌++◌, length, slice_index, inl, inr, refl, ap, sym, subst, ◌∙◌, arith, length-append}
 use Rattle.std.specs.Prelude.{ℤ, pos, ◌+ℤ◌, ◌≤ℤ◌, ◌<ℤ◌, ◌⊎◌}
 use Rattle.std.specs.List.{swap_remove}
-use Rattle.std.proofs.lemmas.Bool.{cases_Bool, both_ways, or_parts, or_cases, ne_eqb, eqb-true, eqb-false}
+use Rattle.std.proofs.lemmas.Bool.{cases_Bool, or_parts, or_cases, ne_eqb, eqb-true, eqb-false}
 use Rattle.std.proofs.lemmas.Int.{ints}
 use Rattle.tsp_bound.specs.Tree.{IsInner, weight_of}
 use Rattle.tsp_bound.specs.Growth.{and_node, IsLeastLeaving, Grows, grown_by, least_at}
@@ -56,16 +56,16 @@ state_start n w outside old least from_three most lower small same = record {
   same = same;
   count = from_three.count;
   listed = λ x x_in out.
-    let other : x ≢ 2 = eqb-false x 2 out in
-    let third : 3 ≤ x = omega (arith, x_in, other) in
-    let below : x - 3 < length outside = omega (arith, x_in, from_three.count, third) in
-    (x - 3, below, from_three.each (x - 3) below ∙ omega (arith, third));
+      let other : x ≢ 2 = eqb-false x 2 out in
+      let third : 3 ≤ x = omega (arith, x_in, other) in
+      let below : x - 3 < length outside = omega (arith, x_in, from_three.count, third) in
+      (x - 3, below, from_three.each (x - 3) below ∙ omega (arith, third));
   inner = λ k below. let is = from_three.each k below in (omega (arith, is), omega (arith, is, below, from_three.count));
   free = λ k below. let is = from_three.each k below in ne_eqb (slice_index outside k) 2 (λ e. omega (arith, is, e));
   differ = λ j k j_in k_in other e. let first = from_three.each j j_in in let second = from_three.each k k_in in other (omega (arith, first, second, e));
   joined = λ k below. (2, refl, weighs k below (lower k below));
   least_is = λ k a below a_in taken. subst (λ (b : ℕ). least_at least k ≤ℤ w b (slice_index outside k)) (sym (eqb-true a 2 taken))
-    (lower_than_weight (w 2 (slice_index outside k)) (least_at old k) (least_at least k) (lower k below));
+      (lower_than_weight (w 2 (slice_index outside k)) (least_at old k) (least_at least k) (lower k below));
 }
   where
     weighs : (k : ℕ) → k < length outside → IsLower (w 2 (slice_index outside k)) (least_at old k) (least_at least k) → least_at least k ≡ w 2 (slice_index outside k)
@@ -85,17 +85,17 @@ state_more n w outside new_outside least left new_least weight place next here s
   same = same ∙ ap length left_is ∙ removed_length least place here ∙ ap (λ k. k - 1) s.same ∙ sym shorter;
   count = omega (arith, s.count, length-append s.pairs ((joint, next) ∷ []), shorter, in_list);
   listed = λ x x_in out.
-    let parts = or_parts (x == next) (part_of s.pairs x) (sym (more x) ∙ out) in
-    let was = s.listed x x_in parts.1 in
-    let other : was.0 ≢ place = λ e. eqb-false x next parts.0 (sym was.2 ∙ ap (slice_index outside) e ∙ sym next_is) in
-    let now = moved_all place last was.0 (omega (arith, in_list)) (omega (arith, was.1)) other in
-    let below : now.0 < length new_outside = omega (arith, now.1, shorter) in
-    (now.0, below, node_at now.0 below ∙ ap (slice_index outside) now.2 ∙ was.2);
+      let parts = or_parts (x == next) (part_of s.pairs x) (sym (more x) ∙ out) in
+      let was = s.listed x x_in parts.1 in
+      let other : was.0 ≢ place = λ e. eqb-false x next parts.0 (sym was.2 ∙ ap (slice_index outside) e ∙ sym next_is) in
+      let now = moved_all place last was.0 (omega (arith, in_list)) (omega (arith, was.1)) other in
+      let below : now.0 < length new_outside = omega (arith, now.1, shorter) in
+      (now.0, below, node_at now.0 below ∙ ap (slice_index outside) now.2 ∙ was.2);
   inner = λ k below. subst (IsInner n) (sym (node_at k below)) (s.inner (old_place k) (old_in k below));
   free = λ k below. more (slice_index new_outside k) ∙ subst (λ x. and_node (part_of s.pairs) next x ≡ false) (sym (node_at k below))
-    (neither (old_place k) (old_in k below) (moved_others place last k (omega (arith, in_list)) (omega (arith, below, shorter))).1);
+      (neither (old_place k) (old_in k below) (moved_others place last k (omega (arith, in_list)) (omega (arith, below, shorter))).1);
   differ = λ j k j_in k_in other e. s.differ (old_place j) (old_place k) (old_in j j_in) (old_in k k_in)
-    (moved_differ place last j k (omega (arith, j_in, shorter)) (omega (arith, k_in, shorter)) other) (sym (node_at j j_in) ∙ e ∙ node_at k k_in);
+      (moved_differ place last j k (omega (arith, j_in, shorter)) (omega (arith, k_in, shorter)) other) (sym (node_at j j_in) ∙ e ∙ node_at k k_in);
   joined = λ k below. joined_now k below (lower k below);
   least_is = λ k a below a_in taken. least_now k a below a_in (or_cases (a == next) (part_of s.pairs a) (sym (more a) ∙ taken));
 }
@@ -124,11 +124,11 @@ state_more n w outside new_outside least left new_least weight place next here s
       to = ap (part_of s.pairs) next_is ∙ s.free place in_list;
       node = subst (IsInner n) (sym next_is) (s.inner place in_list);
       least = λ a b a_in b_in a_taken b_free.
-        let at = s.listed b b_in b_free in
-        let first : least_at least place ≤ℤ least_at least at.0 = is_least.none_less at.0 (omega (arith, at.1, s.same)) in
-        let second : least_at least at.0 ≤ℤ w a b = subst (λ (x : ℕ). least_at least at.0 ≤ℤ w a x) at.2 (s.least_is at.0 a at.1 a_in a_taken) in
-        let own = joins in
-        omega (arith, ints, first, second, own, here_is);
+          let at = s.listed b b_in b_free in
+          let first : least_at least place ≤ℤ least_at least at.0 = is_least.none_less at.0 (omega (arith, at.1, s.same)) in
+          let second : least_at least at.0 ≤ℤ w a b = subst (λ (x : ℕ). least_at least at.0 ≤ℤ w a x) at.2 (s.least_is at.0 a at.1 a_in a_taken) in
+          let own = joins in
+          omega (arith, ints, first, second, own, here_is);
     }
 
     old_place : ℕ → ℕ

@@ -1,6 +1,6 @@
 -- Nodes that are listed with the least weights to them: what a pass over the list finds, and what is left once one is taken away.
-use Rattle.std.proofs.Common.{◌≡◌, ◌≢◌, ℕ, zero, suc, ◌+◌, ◌-◌, ◌<◌, ◌≤◌, ◌==◌, Bool, true, false, List, [], ◌∷◌, ◌++◌, length, slice_index, get_or, take, Option, Some, None, MatchOption, inl, inr, refl, ap, sym, subst, ◌∙◌, arith, length-append}
-use Rattle.std.specs.Prelude.{ℤ, pos, ◌≤ℤ◌, ◌<ℤ◌, ◌⊎◌, if◌then◌else◌}
+use Rattle.std.proofs.Common.{◌≡◌, ◌≢◌, ℕ, ◌+◌, ◌-◌, ◌<◌, ◌≤◌, ◌==◌, List, [], ◌∷◌, ◌++◌, length, slice_index, get_or, Option, Some, None, MatchOption, inl, inr, refl, ap, sym, subst, ◌∙◌, arith, length-append}
+use Rattle.std.specs.Prelude.{ℤ, pos, ◌≤ℤ◌, ◌<ℤ◌, if◌then◌else◌}
 use Rattle.std.specs.List.{swap_remove}
 use Rattle.std.proofs.Math.ListN.{set}
 use Rattle.std.proofs.Math.Seq.{get_or-append_seam}
@@ -9,7 +9,7 @@ use Rattle.std.proofs.lemmas.Int.{ints}
 use Rattle.std.proofs.lemmas.List.{get_or-set_same, get_or-set_other, get_or-take, get_or_default, get_or_append_left, length-take-le, length-set}
 use Rattle.tsp_bound.specs.Growth.{least_at}
 use Rattle.tsp_bound.proofs.Nearest.{most_64}
-use Rattle.tsp_branch.specs.Outside.{IsLower, AreLower, IsLeastPlace}
+use Rattle.tsp_branch.specs.Outside.{IsLower, IsLeastPlace}
 
 -- ---- the nodes from 3 on, one more
 
@@ -116,7 +116,6 @@ removed_at xs i k d e inside below = get_or-take (length xs - 1) (set xs i (get_
 
 pub removed_length : {X : Type 0} (xs : List X) (i : ℕ) (d : X) → length (swap_remove xs i d) ≡ length xs - 1
 removed_length xs i d = length-take-le (length xs - 1) (set xs i (get_or xs (length xs - 1) d)) (omega (arith, length-set xs i (get_or xs (length xs - 1) d)))
-    
 
 -- each place that is left was another than the one taken away, and all others are left
 pub moved_others : (i last k : ℕ) → i ≤ last → k < last → (moved_from i last k ≤ last) × (moved_from i last k ≢ i)
@@ -128,13 +127,13 @@ moved_others i last k inside below = elim (cases_eq k i) [
 pub moved_differ : (i last j k : ℕ) → j < last → k < last → j ≢ k → moved_from i last j ≢ moved_from i last k
 moved_differ i last j k j_in k_in differ = elim (cases_eq j i) [
   | inl j_is ↦ elim (cases_eq k i) [
-      | inl k_is ↦ absurd (differ (j_is ∙ sym k_is))
-      | inr k_other ↦ rw (eq-eqb j i j_is, ne_eqb k i k_other) (λ e. omega (arith, e, k_in))
-    ]
+    | inl k_is ↦ absurd (differ (j_is ∙ sym k_is))
+    | inr k_other ↦ rw (eq-eqb j i j_is, ne_eqb k i k_other) (λ e. omega (arith, e, k_in))
+  ]
   | inr j_other ↦ elim (cases_eq k i) [
-      | inl k_is ↦ rw (ne_eqb j i j_other, eq-eqb k i k_is) (λ e. omega (arith, e, j_in))
-      | inr k_other ↦ rw (ne_eqb j i j_other, ne_eqb k i k_other) differ
-    ]
+    | inl k_is ↦ rw (ne_eqb j i j_other, eq-eqb k i k_is) (λ e. omega (arith, e, j_in))
+    | inr k_other ↦ rw (ne_eqb j i j_other, ne_eqb k i k_other) differ
+  ]
 ]
 
 pub moved_all : (i last j : ℕ) → i ≤ last → j ≤ last → j ≢ i → (k : ℕ) × (k < last) × (moved_from i last k ≡ j)

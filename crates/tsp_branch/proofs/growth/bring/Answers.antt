@@ -1,8 +1,7 @@
-use Rattle.std.proofs.Common.{◌≡◌, ◌<◌, ℕ, ℤ, List, length, slice_index, ap, subst, ◌∙◌, sym, arith, rules, FitsSigned, to_z, of_z}
+use Rattle.std.proofs.Common.{◌<◌, ℕ, ℤ, List, length, slice_index, subst, ◌∙◌, sym, arith, rules, FitsSigned, to_z, of_z}
 use Rattle.std.specs.Int.{w64}
 use Rattle.std.specs.Prelude.{◌<ℤ◌}
 use Rattle.std.proofs.lemmas.Int.{ints, to_z-of_z}
-use Rattle.std.proofs.Math.ListN.{set}
 use Rattle.tsp_bound.specs.Growth.{least_at}
 use Rattle.tsp_bound.proofs.Nearest.{most_64}
 use Rattle.tsp_branch.specs.Outside.{IsLower}

@@ -1,6 +1,6 @@
-use Rattle.std.proofs.Common.{◌≡◌, ◌+◌, ◌-◌, ◌<◌, ◌≤◌, ℕ, ℤ, List, length, slice_index, take, drop, ◌++◌, replicate, MatchOption, ap, refl, sym, subst, ◌∙◌, arith, rules, FitsSigned, to_z, of_z}
+use Rattle.std.proofs.Common.{◌≡◌, ◌+◌, ◌-◌, ◌<◌, ◌≤◌, ℕ, ℤ, List, length, slice_index, replicate, MatchOption, ap, sym, subst, ◌∙◌, arith, rules, FitsSigned, to_z}
 use Rattle.std.specs.Int.{w64, w128}
-use Rattle.std.specs.Prelude.{pos, ◌+ℤ◌, ◌<ℤ◌}
+use Rattle.std.specs.Prelude.{pos, ◌<ℤ◌}
 use Rattle.std.proofs.lemmas.Int.{ints}
 use Rattle.std.proofs.lemmas.List.{get_or-replicate, get_or_default}
 use Rattle.tsp_value.specs.Limits.{most_nodes}

@@ -1,4 +1,4 @@
-use Rattle.std.proofs.Common.{◌≡◌, ◌+◌, ◌<◌, ◌≤◌, ℕ, ℤ, List, length, inl, inr, sym, subst, ap, ap₂, ◌∙◌, arith, rules, to_z, of_z, FitsSigned}
+use Rattle.std.proofs.Common.{◌≡◌, ◌<◌, ◌≤◌, ℕ, ℤ, List, length, inl, inr, sym, subst, ap, ap₂, ◌∙◌, arith, rules, to_z, of_z, FitsSigned}
 use Rattle.std.specs.Prelude.{pos, neg_ℤ, ◌+ℤ◌, ◌*ℤ◌}
 use Rattle.std.specs.Int.{w64, int_wrap}
 use Rattle.std.proofs.lemmas.Bool.{cases_eq}
@@ -29,7 +29,7 @@ places-preserved c =
     let outer_in : FitsSigned w64 c.sum_left-in-places.result = search rules in
     let cost_is : least_at row place ≡ cost = c.places.invariant.rest place (omega arith) in
     let product = ap (λ z. to_z w64 (of_z w64 (scale *ℤ to_z w64 (of_z w64 z)))) cost_is
-        ∙ product_is c.args.scale cost c.requires.scale size.0 size.1 ∙ ap (λ z. z *ℤ cost) (sym (same_scale c.args.scale c.requires.scale)) in
+    ∙ product_is c.args.scale cost c.requires.scale size.0 size.1 ∙ ap (λ z. z *ℤ cost) (sym (same_scale c.args.scale c.requires.scale)) in
     let sum = to_z-of_z w64 c.sum_left.result inner_in ∙ c.sum_left.ensures ∙ ap (λ z. int_wrap w64 (number +ℤ z)) (to_z-of_z w64 moved moved_in) in
     let here : value ≡ whole = to_z-of_z w64 c.sum_left-in-places.result outer_in ∙ c.sum_left-in-places.ensures ∙ ap₂ (λ a b. int_wrap w64 (a +ℤ b)) product sum in
     record {
