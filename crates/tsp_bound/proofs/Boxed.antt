@@ -3,8 +3,8 @@ use Rattle.std.proofs.Common.{◌≡◌, true, false, ℤ, pos, negsuc, ◌+ℤ�
 use Rattle.std.specs.Int.Signed.{lt_z}
 use Rattle.std.proofs.lemmas.Int.{ints, to_z-of_z}
 use Rattle.tsp_bound.specs.Boxes.{IsKnown}
-use Rattle.tsp_bound.specs.Numbers.{IsScale}
-use Rattle.tsp_bound.proofs.Division.{scaled_up}
+use Rattle.tsp_theory.specs.Numbers.{IsScale}
+use Rattle.tsp_theory.proofs.Division.{scaled_up}
 
 pub less_seen : (a b : ℤ) → SFits w64 b → lt_z a (to_z w64 (of_z w64 b)) ≡ true → a ≤ℤ b
 less_seen a b f h =

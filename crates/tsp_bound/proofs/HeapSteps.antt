@@ -11,8 +11,8 @@ use Rattle.std.proofs.lemmas.List.Sorted.{Contains-permutation, IsPermutation-sy
 use Rattle.std.proofs.lemmas.List.Elements.{All-cons, All-nil, All-contains, Contains-append_cases, Contains-append_left, Contains-append_right}
 use Rattle.std.proofs.lemmas.Int.{ints}
 use Rattle.tsp_bound.specs.declared.outside.Link.{Link}
-use Rattle.tsp_bound.proofs.Steps.{grows_more, grown_by_more}
-use Rattle.tsp_bound.specs.Growth.{IsLeastLeaving, grown_by}
+use Rattle.tsp_theory.proofs.Steps.{grows_more, grown_by_more}
+use Rattle.tsp_theory.specs.Growth.{IsLeastLeaving, grown_by}
 use Rattle.tsp_bound.specs.Heap.{IsBelow, without, IsNearest, IsGrowth, IsLink, entry_cmp, IsHeapOf, IsFullHeapOf}
 
 -- ---- the least entry

@@ -6,11 +6,11 @@ use Rattle.std.proofs.lemmas.Bool.{both_ways, cases_eq, eq-eqb, ne_eqb}
 use Rattle.std.proofs.lemmas.Int.{ints}
 use Rattle.std.proofs.lemmas.List.Elements.{recursion_from_All}
 use Rattle.tsp_value.specs.Limits.{most_multiplier}
-use Rattle.tsp_bound.specs.Numbers.{IsFromTo}
-use Rattle.tsp_bound.specs.Tree.{IsInner}
+use Rattle.tsp_theory.specs.Numbers.{IsFromTo}
+use Rattle.tsp_theory.specs.Tree.{IsInner}
 use Rattle.tsp_bound.specs.ByNode.{lowered_by, AreLowerings}
-use Rattle.tsp_bound.specs.Growth.{is_inside, least_at, IsNearer, AreNearer, IsLowered, AreLowered}
-use Rattle.tsp_bound.proofs.Nearest.{IsTaken, most_64}
+use Rattle.tsp_theory.specs.Growth.{is_inside, least_at, IsNearer, AreNearer, IsLowered, AreLowered}
+use Rattle.tsp_theory.proofs.Nearest.{IsTaken, most_64}
 
 -- ---- what a node's weight is lowered by
 

@@ -10,8 +10,8 @@ use Rattle.tsp_value.specs.Limits.{most_multiplier}
 use Rattle.tsp_bound.specs.declared.boxes.Best.{Best}
 use Rattle.tsp_bound.specs.Boxes.{node_at, is_outside, IsFound, IsBest, IsSearched, no_best}
 use Rattle.tsp_bound.specs.ByNode.{lowered_by, AreLowerings}
-use Rattle.tsp_bound.specs.Numbers.{IsFromTo}
-use Rattle.tsp_bound.specs.Tree.{IsInner}
+use Rattle.tsp_theory.specs.Numbers.{IsFromTo}
+use Rattle.tsp_theory.specs.Tree.{IsInner}
 use Rattle.tsp_bound.proofs.Lowered.{AreLess, none_lowered, one_lowered, lowered_positive}
 use Rattle.tsp_bound.proofs.Trees.{searched_all}
 

@@ -6,11 +6,11 @@ use Rattle.std.proofs.lemmas.Bool.{false≢true, false_from_ne_true, true_from_n
 use Rattle.std.proofs.lemmas.List.{get_or-set_other, length-replicate}
 use Rattle.std.proofs.lemmas.List.Elements.{All-cons, All-nil}
 use Rattle.std.proofs.lemmas.List.Sums.{sum_by-cons}
-use Rattle.tsp_bound.specs.Tree.{IsInner}
-use Rattle.tsp_bound.specs.Growth.{and_node, Grows, grown_by, is_inside, IsWholeGrowth}
+use Rattle.tsp_theory.specs.Tree.{IsInner}
+use Rattle.tsp_theory.specs.Growth.{and_node, Grows, grown_by, is_inside, IsWholeGrowth}
 use Rattle.tsp_bound.specs.Heap.{IsBelow}
-use Rattle.tsp_bound.proofs.Exchange.{and_node_all}
-use Rattle.tsp_bound.proofs.Steps.{insiders, insiders_more, insiders_few, insiders_none, none_inside, one_if, marked_more, one_start, grown_by_nodes}
+use Rattle.tsp_theory.proofs.Exchange.{and_node_all}
+use Rattle.tsp_theory.proofs.Steps.{insiders, insiders_more, insiders_few, insiders_none, none_inside, one_if, marked_more, one_start, grown_by_nodes}
 
 -- marks of the nodes that a growth reaches: one more for each pair
 pub record AreMarks (size count : ℕ) (grown : ℕ → Bool) (inside : List Bool) : Type 0 where

@@ -7,16 +7,16 @@ use Rattle.tsp_value.specs.Limits.{most_nodes}
 use Rattle.tsp_value.specs.Cells.{IsNode}
 use Rattle.tsp_bound.specs.declared.potentials.Potentials.{Potentials}
 use Rattle.tsp_bound.specs.declared.by_node.ByNode.{ByNode}
-use Rattle.tsp_bound.specs.Adjusted.{numbers_on, adjusted}
+use Rattle.tsp_theory.specs.Adjusted.{numbers_on, adjusted}
 use Rattle.tsp_bound.specs.ByNode.{lowered_by}
 use Rattle.tsp_bound.specs.Multipliers.{triples_in, weight_less}
 use Rattle.tsp_bound.specs.Boxes.{node_at}
-use Rattle.tsp_bound.specs.Growth.{Grows, IsPartGrowth}
+use Rattle.tsp_theory.specs.Growth.{Grows, IsPartGrowth}
 use Rattle.tsp_bound.specs.Heap.{IsBelow}
 use Rattle.tsp_bound.specs.Numbering.{IsNumbering, both}
-use Rattle.tsp_bound.specs.Numbers.{IsFromTo, IsSumSized}
-use Rattle.tsp_bound.specs.Tree.{IsInner, weight_of}
-use Rattle.tsp_bound.proofs.Adjustments.{numbers_turned}
+use Rattle.tsp_theory.specs.Numbers.{IsFromTo, IsSumSized}
+use Rattle.tsp_theory.specs.Tree.{IsInner, weight_of}
+use Rattle.tsp_theory.proofs.Adjustments.{numbers_turned}
 use Rattle.tsp_bound.proofs.Renaming.{growths_rename}
 
 pub map_more : (f : ℕ × ℕ → ℕ × ℕ) (xs : List (ℕ × ℕ)) (i : ℕ) (d : ℕ × ℕ) → i < length xs → map f (take (i + 1) xs) ≡ map f (take i xs) ++ f (get_or xs i d) ∷ []

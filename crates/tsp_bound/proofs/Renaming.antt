@@ -1,8 +1,8 @@
 -- A growth over places is one over nodes.
 use Rattle.std.proofs.Common.{◌≡◌, ℕ, ◌<◌, ◌==◌, ◌||◌, Bool, true, List, [], ◌∷◌, map, ℤ, ◌≤ℤ◌, inl, inr, ap, sym, ◌∙◌, subst}
 use Rattle.std.proofs.lemmas.Bool.{cases_eq, ne_eqb, eq-eqb, eqb-true, or_cases}
-use Rattle.tsp_bound.specs.Tree.{IsInner}
-use Rattle.tsp_bound.specs.Growth.{and_node, IsLeastLeaving, Grows}
+use Rattle.tsp_theory.specs.Tree.{IsInner}
+use Rattle.tsp_theory.specs.Growth.{and_node, IsLeastLeaving, Grows}
 use Rattle.tsp_bound.specs.Heap.{IsBelow}
 use Rattle.tsp_bound.specs.Numbering.{IsNumbering, both, GrowthsRename}
 

@@ -3,9 +3,9 @@ use Rattle.std.specs.Prelude.{◌≡◌, ◌≢◌, ℕ, ◌+◌, ◌≤◌, ◌
 use Rattle.std.specs.Global.{Vec}
 use Rattle.std.specs.List.{All, AllPairs}
 use Rattle.tsp_value.specs.Cells.{IsNode}
-use Rattle.tsp_cost.specs.Length.{sum_int_by}
+use Rattle.tsp_walk.specs.Length.{sum_int_by}
 use Rattle.tsp_value.specs.Limits.{most_multiplier}
-use Rattle.tsp_bound.specs.Numbers.{IsFromTo}
+use Rattle.tsp_theory.specs.Numbers.{IsFromTo}
 
 -- what a triple says of a node of its pair: the other node, and the number
 abbrev pub said_of : ℕ → ℕ × ℕ × ℤ → List (ℕ × ℤ)

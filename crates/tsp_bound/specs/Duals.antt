@@ -1,7 +1,7 @@
 -- What duals hold.
 use Rattle.std.specs.Prelude.{ℕ, List, ℤ, ◌+ℤ◌, ◌*ℤ◌}
 use Rattle.tsp_bound.specs.declared.duals.Duals.{Duals}
-use Rattle.tsp_bound.specs.Numbers.{entry}
+use Rattle.tsp_theory.specs.Numbers.{entry}
 
 abbrev pub scale_of : Duals → ℤ
 scale_of d = d.scale

@@ -5,7 +5,7 @@ use Rattle.std.specs.Ordering.{ordering_then, int_cmp, nat_cmp}
 use Rattle.std.specs.declared.cmp.Ordering.{Ordering}
 use Rattle.std.specs.declared.cmp.Reverse.{Reverse}
 use Rattle.tsp_bound.specs.declared.outside.Link.{Link}
-use Rattle.tsp_bound.specs.Growth.{Grows, grown_by}
+use Rattle.tsp_theory.specs.Growth.{Grows, grown_by}
 
 -- ---- what is outside
 

@@ -1,14 +1,7 @@
-pub mod Adjusted
-pub mod Assignment
 pub mod Boxes
 pub mod ByNode
 pub mod Duals
-pub mod Growth
 pub mod Heap
 pub mod Multipliers
-pub mod NodeBound
 pub mod Numbering
-pub mod Numbers
 pub mod Potentials
-pub mod Tree
-pub mod Examples

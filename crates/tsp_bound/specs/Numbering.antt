@@ -1,7 +1,7 @@
 -- The places of a list stand for nodes: a growth over places is one over nodes.
 use Rattle.std.specs.Prelude.{◌≡◌, ℕ, ◌==◌, ◌<◌, List, map, ℤ}
-use Rattle.tsp_bound.specs.Tree.{IsInner}
-use Rattle.tsp_bound.specs.Growth.{Grows}
+use Rattle.tsp_theory.specs.Tree.{IsInner}
+use Rattle.tsp_theory.specs.Growth.{Grows}
 use Rattle.tsp_bound.specs.Heap.{IsBelow}
 
 -- `node` and `place` are inverse to each other, between 0..n-1 and the nodes

@@ -2,9 +2,9 @@
 
 ghost use Rattle.std.specs.Prelude.{pos, neg_ℤ};
 ghost use Rattle.tsp_value.specs.Limits.{most_potential};
-ghost use Rattle.tsp_bound.specs.Numbers.{IsFromTo};
+ghost use Rattle.tsp_theory.specs.Numbers.{IsFromTo};
 
-use tsp_cost::Region;
+use tsp_walk::Region;
 
 /// A region, and a number that is at most the potential of each node in it.
 #[derive(Clone, Copy, Debug)]

@@ -2,17 +2,17 @@
 
 ghost use Rattle.std.specs.Prelude.{◌≡◌, ◌≢◌, ◌↔◌, ℕ, List, ◌≤◌, ◌<◌, length, IsTrue, IfOk, MatchOption, MatchResult, ◌≤ℤ◌, ◌<ℤ◌};
 ghost use Rattle.tsp_value.specs.Cells.{IsNode};
-ghost use Rattle.tsp_cost.specs.Walk.{IsWalk};
-ghost use Rattle.tsp_cost.specs.Length.{length_of};
-ghost use Rattle.tsp_bound.specs.Numbers.{IsBoundSized, entry};
-ghost use Rattle.tsp_bound.specs.Assignment.{AreGood, IsFirstBroken, IsDualBound};
+ghost use Rattle.tsp_walk.specs.Walk.{IsWalk};
+ghost use Rattle.tsp_walk.specs.Length.{length_of};
+ghost use Rattle.tsp_theory.specs.Numbers.{IsBoundSized, entry};
+ghost use Rattle.tsp_theory.specs.Assignment.{AreGood, IsFirstBroken, IsDualBound};
 ghost use Rattle.tsp_bound.specs.Duals.{scale_of, rows_of, columns_of, dual_of, scaled};
 
 use crate::duals::Duals;
-use crate::laws::duals_bound_walks;
 use crate::numbers::{least_bound, total};
 use crate::scaled::scaled_cost;
-use tsp_cost::Costs;
+use tsp_theory::duals_bound_walks;
+use tsp_walk::Costs;
 
 /// The first pair of different nodes, by rows, whose duals sum to more than the scaled cost.
 #[derive(Clone, Copy, Debug, PartialEq, Eq)]

@@ -5,14 +5,14 @@ ghost use Rattle.std.specs.Bool.{OnTrue};
 ghost use Rattle.tsp_number.specs.declared.decimal.Point.{Point};
 ghost use Rattle.tsp_value.specs.Cells.{IsNode};
 ghost use Rattle.tsp_value.specs.Limits.{most_scale, most_weight, most_potential};
-ghost use Rattle.tsp_bound.specs.Numbers.{IsFromTo, IsScale, entry};
+ghost use Rattle.tsp_theory.specs.Numbers.{IsFromTo, IsScale, entry};
 ghost use Rattle.tsp_bound.specs.Potentials.{scale_of, numbers_of, weight_under};
 ghost use Rattle.tsp_bound.specs.Boxes.{Holds, AreHeld, IsRefit, Keeps, IsKnown, IsBoundOf, IsSearched, no_best, node_at, area_at};
 
 use crate::area::Area;
 use crate::potentials::Potentials;
 use std::alloc::{AllocError, Global};
-use tsp_cost::Grouped;
+use tsp_walk::Grouped;
 
 /// The nearest place so far, and the weight to its node.
 #[derive(Clone, Copy, Debug)]

@@ -1,6 +1,6 @@
 //! Duals of an assignment: the certificate of a bound for costs that may differ both ways.
 
-ghost use Rattle.tsp_bound.specs.Numbers.{AreDuals};
+ghost use Rattle.tsp_theory.specs.Numbers.{AreDuals};
 
 use crate::numbers::{are_potentials, is_scale};
 

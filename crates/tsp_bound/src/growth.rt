@@ -3,17 +3,17 @@
 ghost use Rattle.std.specs.Prelude.{◌≡◌, ◌≤◌, ◌+◌, ◌*◌, ◌^◌, ℕ, length, false, IfOk, MatchOption, ◌<ℤ◌, pos, neg_ℤ};
 ghost use Rattle.tsp_value.specs.Cells.{IsNode};
 ghost use Rattle.tsp_value.specs.Limits.{most_nodes};
-ghost use Rattle.tsp_bound.specs.Numbers.{IsFromTo};
-ghost use Rattle.tsp_bound.specs.Tree.{IsInner, weight_of};
+ghost use Rattle.tsp_theory.specs.Numbers.{IsFromTo};
+ghost use Rattle.tsp_theory.specs.Tree.{IsInner, weight_of};
 ghost use Rattle.tsp_bound.specs.ByNode.{AreLowerings};
-ghost use Rattle.tsp_bound.specs.Growth.{is_inside, IsWholeGrowth, AllInside, IsNearestOutside, IsNearer, AreNearer, AreLowered, IsPartGrowth};
+ghost use Rattle.tsp_theory.specs.Growth.{is_inside, IsWholeGrowth, AllInside, IsNearestOutside, IsNearer, AreNearer, AreLowered, IsPartGrowth};
 ghost use Rattle.tsp_bound.specs.Potentials.{numbers_of, weight_under};
 ghost use Rattle.tsp_bound.specs.Multipliers.{triples_in, nodes_in, weight_less};
 
 use crate::by_node::ByNode;
 use crate::potentials::Potentials;
 use std::alloc::{AllocError, Global};
-use tsp_cost::Costs;
+use tsp_walk::Costs;
 
 /// The pairs of a growth, and the sum of their weights.
 #[derive(Drop)]

@@ -1,4 +1,5 @@
-//! Lower bounds on the length of every walk, from certificates that nobody has to trust.
+//! Lower bounds on the length of every walk, from certificates that nobody has to trust; hands on the
+//! theorems of `tsp_theory`.
 #![tactic(auto)]
 
 mod area;
@@ -6,10 +7,8 @@ mod assignment;
 mod boxes;
 mod by_node;
 mod duals;
-mod examples;
 mod growth;
 mod heap;
-mod laws;
 mod multipliers;
 mod nodes;
 mod numbering;
@@ -23,13 +22,11 @@ mod tree;
 
 pub use assignment::{Infeasible, dual_bound};
 pub use duals::Duals;
-pub use examples::{
-    examples_of_duals, examples_of_multipliers, examples_of_numbers, examples_of_trees,
-};
-pub use laws::{
-    adjusted_bounds_bound_walks, bounds_are_unique, duals_bound_walks, least_trees_are_below_walks,
-    node_bounds_bound_walks,
-};
 pub use multipliers::Multipliers;
 pub use potentials::Potentials;
 pub use tree::{OneTree, one_tree};
+pub use tsp_theory::{
+    adjusted_bounds_bound_walks, bounds_are_unique, duals_bound_walks, examples_of_duals,
+    examples_of_multipliers, examples_of_numbers, examples_of_trees, least_trees_are_below_walks,
+    node_bounds_bound_walks,
+};

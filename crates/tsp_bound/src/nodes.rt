@@ -5,7 +5,7 @@ ghost use Rattle.tsp_value.specs.Cells.{IsNode};
 ghost use Rattle.tsp_bound.specs.Multipliers.{nodes_in};
 ghost use Rattle.tsp_bound.specs.Numbering.{IsNumbering};
 ghost use Rattle.tsp_bound.specs.Potentials.{numbers_of};
-ghost use Rattle.tsp_bound.specs.Tree.{IsInner};
+ghost use Rattle.tsp_theory.specs.Tree.{IsInner};
 ghost use Rattle.tsp_bound.specs.Boxes.{Holds, AreHeld, AreHeld-prop, node_at};
 
 use crate::area::Area;
@@ -14,7 +14,7 @@ use crate::by_node::ByNode;
 use crate::outside::{Link, Outside};
 use crate::potentials::Potentials;
 use std::alloc::{AllocError, Global};
-use tsp_cost::Grouped;
+use tsp_walk::Grouped;
 
 /// Nodes in an order, and the tree of boxes over those that are outside.
 #[derive(Drop)]

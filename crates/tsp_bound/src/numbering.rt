@@ -1,7 +1,7 @@
 //! Places in a list that stand for nodes.
 
 ghost use Rattle.std.specs.Prelude.{◌≡◌, ◌<◌, ◌+◌, ◌^◌, ℕ, length, slice_index_or, IfOk, IfSome};
-ghost use Rattle.tsp_bound.specs.Tree.{IsInner};
+ghost use Rattle.tsp_theory.specs.Tree.{IsInner};
 ghost use Rattle.tsp_bound.specs.Numbering.{IsNumbering};
 
 use std::alloc::{AllocError, Global};

@@ -2,8 +2,8 @@
 
 ghost use Rattle.std.specs.Prelude.{◌≡◌, ◌↔◌, ◌≤◌, ◌*◌, ◌^◌, IsTrue, length, pos, neg_ℤ};
 ghost use Rattle.tsp_value.specs.Limits.{most_nodes, most_potential, most_multipliers, most_multiplier};
-ghost use Rattle.tsp_bound.specs.Numbers.{IsFromTo, IsScale, ArePotentials, total, IsLeastBound, IsBoundSized, AreMultipliers};
-ghost use Rattle.tsp_bound.specs.Adjusted.{total_of};
+ghost use Rattle.tsp_theory.specs.Numbers.{IsFromTo, IsScale, ArePotentials, total, IsLeastBound, IsBoundSized, AreMultipliers};
+ghost use Rattle.tsp_theory.specs.Adjusted.{total_of};
 
 use tsp_value::{MOST_POTENTIAL, MOST_SCALE};
 

@@ -5,12 +5,12 @@ ghost use Rattle.std.specs.List.{All};
 ghost use Rattle.tsp_value.specs.Cells.{IsNode};
 ghost use Rattle.tsp_value.specs.Limits.{most_nodes};
 ghost use Rattle.tsp_bound.specs.Boxes.{node_at};
-ghost use Rattle.tsp_bound.specs.Growth.{IsWholeGrowth, IsPartGrowth};
+ghost use Rattle.tsp_theory.specs.Growth.{IsWholeGrowth, IsPartGrowth};
 ghost use Rattle.tsp_bound.specs.Multipliers.{triples_in, nodes_in, weight_less};
 ghost use Rattle.tsp_bound.specs.Numbering.{both};
-ghost use Rattle.tsp_bound.specs.Numbers.{IsFromTo, IsSumSized};
+ghost use Rattle.tsp_theory.specs.Numbers.{IsFromTo, IsSumSized};
 ghost use Rattle.tsp_bound.specs.Potentials.{numbers_of};
-ghost use Rattle.tsp_bound.specs.Tree.{weight_of};
+ghost use Rattle.tsp_theory.specs.Tree.{weight_of};
 
 use crate::by_node::{ByNode, lowered_by};
 use crate::growth::{Grown, grow_on};
@@ -19,7 +19,7 @@ use crate::nodes::Nodes;
 use crate::numbering::places_in;
 use crate::potentials::Potentials;
 use std::alloc::{AllocError, Global};
-use tsp_cost::{Costs, Grouped};
+use tsp_walk::{Costs, Grouped};
 
 /// Grows a tree over the nodes 2..n from node 2: each pair leads from a node inside to one
 /// outside, and no such pair weighs less.

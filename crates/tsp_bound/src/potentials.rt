@@ -1,10 +1,10 @@
 //! Potentials of nodes: the certificate of a bound for costs that are the same both ways.
 
-ghost use Rattle.tsp_bound.specs.Numbers.{AreNodePotentials};
+ghost use Rattle.tsp_theory.specs.Numbers.{AreNodePotentials};
 
 use crate::numbers::{are_potentials, is_scale};
 use crate::scaled::scaled_cost;
-use tsp_cost::Costs;
+use tsp_walk::Costs;
 
 /// A number for each node, at a scale.
 #[derive(Clone, Copy, Debug)]
@@ -17,8 +17,9 @@ pub struct Potentials<'a> {
 impl<'a> Potentials<'a> {
     ghost use Rattle.std.specs.Prelude.{◌≡◌, length, pos, neg_ℤ, MatchOption};
     ghost use Rattle.tsp_value.specs.Cells.{IsNode};
-    ghost use Rattle.tsp_bound.specs.Numbers.{IsFromTo, entry};
-    ghost use Rattle.tsp_bound.specs.Potentials.{scale_of, numbers_of, weight_under, most_between};
+    ghost use Rattle.tsp_theory.specs.Numbers.{IsFromTo, entry};
+    ghost use Rattle.tsp_bound.specs.Potentials.{scale_of, numbers_of, weight_under};
+    ghost use Rattle.tsp_theory.specs.NodeBound.{most_between};
 
     /// The potentials of these numbers, each a count of 1 / scale.
     ///

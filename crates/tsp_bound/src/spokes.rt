@@ -1,8 +1,8 @@
 //! The two pairs at node 1.
 
 ghost use Rattle.std.specs.Prelude.{◌≡◌, ◌≤◌, ◌<◌, ◌-◌, ◌^◌, length, IfOk};
-ghost use Rattle.tsp_bound.specs.Tree.{IsInner};
-ghost use Rattle.tsp_bound.specs.Growth.{AreNearest, least_at};
+ghost use Rattle.tsp_theory.specs.Tree.{IsInner};
+ghost use Rattle.tsp_theory.specs.Growth.{AreNearest, least_at};
 ghost use Rattle.tsp_bound.specs.Potentials.{numbers_of};
 ghost use Rattle.tsp_bound.specs.Multipliers.{triples_in, nodes_in, weight_less};
 
@@ -10,7 +10,7 @@ use crate::by_node::ByNode;
 use crate::growth::reach;
 use crate::potentials::Potentials;
 use std::alloc::{AllocError, Global};
-use tsp_cost::Costs;
+use tsp_walk::Costs;
 
 /// A node of 2..n, and the weight between node 1 and it.
 #[derive(Clone, Copy)]

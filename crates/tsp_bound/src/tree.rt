@@ -2,24 +2,24 @@
 
 ghost use Rattle.std.specs.Prelude.{◌≡◌, ◌≤◌, ◌+◌, ◌*◌, ◌^◌, ℕ, [], List, length, pos, neg_ℤ, ◌≤ℤ◌, IfOk};
 ghost use Rattle.tsp_value.specs.Limits.{most_nodes};
-ghost use Rattle.tsp_cost.specs.Walk.{IsWalk};
-ghost use Rattle.tsp_cost.specs.Length.{length_of};
-ghost use Rattle.tsp_bound.specs.Numbers.{IsFromTo, IsBoundSized};
-ghost use Rattle.tsp_bound.specs.Tree.{IsOneTree, IsLeastOneTree, weight_of};
-ghost use Rattle.tsp_bound.specs.Growth.{tree_of};
-ghost use Rattle.tsp_bound.specs.Adjusted.{AreOnPairs, UsesEach, IsAdjustedBoundOf, IsAdjustedBound};
+ghost use Rattle.tsp_walk.specs.Walk.{IsWalk};
+ghost use Rattle.tsp_walk.specs.Length.{length_of};
+ghost use Rattle.tsp_theory.specs.Numbers.{IsFromTo, IsBoundSized};
+ghost use Rattle.tsp_theory.specs.Tree.{IsOneTree, IsLeastOneTree, weight_of};
+ghost use Rattle.tsp_theory.specs.Growth.{tree_of};
+ghost use Rattle.tsp_theory.specs.Adjusted.{AreOnPairs, UsesEach, IsAdjustedBoundOf, IsAdjustedBound};
 ghost use Rattle.tsp_bound.specs.Potentials.{scale_of, numbers_of};
 ghost use Rattle.tsp_bound.specs.Multipliers.{triples_of, triples_in, nodes_in, weight_less};
 
 use crate::by_node::ByNode;
-use crate::laws::adjusted_bounds_bound_walks;
 use crate::multipliers::Multipliers;
 use crate::numbers::{least_bound, total, total_of};
 use crate::part::grow;
 use crate::potentials::Potentials;
 use crate::spokes::two_spokes;
 use std::alloc::{AllocError, Global};
-use tsp_cost::{Costs, Grouped};
+use tsp_theory::adjusted_bounds_bound_walks;
+use tsp_walk::{Costs, Grouped};
 
 /// A least 1-tree, its weight, and the bound on the length of every walk.
 #[derive(Debug, Drop)]

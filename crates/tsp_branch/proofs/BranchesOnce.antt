@@ -11,7 +11,7 @@ use Rattle.std.proofs.lemmas.List.Kept.{AllPairs-cons}
 use Rattle.tsp_value.specs.declared.steps.TreeStep.{TreeStep}
 use Rattle.tsp_value.specs.Steps as listed
 use Rattle.tsp_value.specs.Steps.{step_of, steps_of}
-use Rattle.tsp_bound.specs.Adjusted.{is_same_pair}
+use Rattle.tsp_theory.specs.Adjusted.{is_same_pair}
 use Rattle.tsp_branch.specs.Decisions.{Decision, DecideOnce}
 use Rattle.tsp_branch.specs.Cases.{decide, leaves_of, cases_of, later_cases, open_cases, next_stack}
 use Rattle.tsp_branch.specs.Decided.{case_of, stack_of}

@@ -6,8 +6,8 @@ use Rattle.std.specs.Global.{Vec}
 use Rattle.std.proofs.lemmas.Bool.{cases_Bool}
 use Rattle.std.proofs.lemmas.Int.{ints}
 use Rattle.std.proofs.lemmas.List.Elements.{recursion_from_All, All-from_recursion}
-use Rattle.tsp_bound.specs.Numbers.{IsFromTo, total}
-use Rattle.tsp_bound.specs.Adjusted.{is_same_pair, adjusted}
+use Rattle.tsp_theory.specs.Numbers.{IsFromTo, total}
+use Rattle.tsp_theory.specs.Adjusted.{is_same_pair, adjusted}
 use Rattle.tsp_branch.specs.Combs.{IsComb}
 use Rattle.tsp_branch.specs.Decisions.{Decision, on_taken, on_avoided}
 use Rattle.tsp_branch.specs.LeafBound.{leaf_weight}

@@ -4,9 +4,9 @@ use Rattle.std.specs.List.{AllByRecursion}
 use Rattle.std.proofs.lemmas.Bool.{cases_Bool, both_ways}
 use Rattle.std.proofs.lemmas.Int.{ints}
 use Rattle.std.proofs.lemmas.List.Elements.{recursion_from_All, All-cons}
-use Rattle.tsp_cost.specs.Walk.{IsWalk}
-use Rattle.tsp_cost.specs.Length.{length_of}
-use Rattle.tsp_bound.proofs.Neighbours.{neighbours_or_not}
+use Rattle.tsp_walk.specs.Walk.{IsWalk}
+use Rattle.tsp_walk.specs.Length.{length_of}
+use Rattle.tsp_theory.proofs.Neighbours.{neighbours_or_not}
 use Rattle.tsp_branch.specs.Decisions.{Decision, Keeps}
 use Rattle.tsp_branch.specs.Cases.{Step, Branch, Leaf, are_trees, decide, leaves_of, cases_of, KeepsOne, WalksKeepLeaves, BoundsCase, CasesBoundWalks, BoundsButOpen, StacksHoldCases}
 

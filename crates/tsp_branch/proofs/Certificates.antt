@@ -4,9 +4,9 @@ use Rattle.std.specs.Prelude.{pos}
 use Rattle.std.specs.List.{All, AllByRecursion}
 use Rattle.std.proofs.lemmas.Int.{ints}
 use Rattle.std.proofs.lemmas.List.Elements.{recursion_from_All, All-from_recursion, All-contains}
-use Rattle.tsp_cost.specs.Costs.{IsEven}
-use Rattle.tsp_cost.specs.Walk.{AreNeighbours}
-use Rattle.tsp_bound.specs.Numbers.{IsScale}
+use Rattle.tsp_walk.specs.Costs.{IsEven}
+use Rattle.tsp_walk.specs.Walk.{AreNeighbours}
+use Rattle.tsp_theory.specs.Numbers.{IsScale}
 use Rattle.tsp_branch.specs.Combs.{Comb, IsComb}
 use Rattle.tsp_branch.specs.Decisions.{Decision, take_pairs, on_taken, on_avoided}
 use Rattle.tsp_branch.specs.LeafBound.{AreMultiplied, IsLeafBound, LeafBoundsBoundWalks}

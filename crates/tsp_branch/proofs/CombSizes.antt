@@ -6,12 +6,12 @@ use Rattle.std.specs.List.{AllByRecursion}
 use Rattle.std.proofs.Math.IntN.{*ℤ-zero}
 use Rattle.std.proofs.lemmas.Bool.{cases_Bool}
 use Rattle.std.proofs.lemmas.Int.{ints, fits_signed_from_abs}
-use Rattle.tsp_cost.specs.Length.{sum_int_by}
-use Rattle.tsp_bound.specs.Numbers.{IsFromTo, total}
-use Rattle.tsp_bound.specs.Tree.{crossing}
-use Rattle.tsp_bound.specs.Potentials.{most_between}
-use Rattle.tsp_bound.proofs.Crossings.{one_if, none_or_one}
-use Rattle.tsp_bound.proofs.Sizes.{size_of}
+use Rattle.tsp_walk.specs.Length.{sum_int_by}
+use Rattle.tsp_theory.specs.Numbers.{IsFromTo, total}
+use Rattle.tsp_theory.specs.Tree.{crossing}
+use Rattle.tsp_theory.specs.NodeBound.{most_between}
+use Rattle.tsp_theory.proofs.Crossings.{one_if, none_or_one}
+use Rattle.tsp_theory.proofs.Sizes.{size_of}
 use Rattle.tsp_branch.specs.Combs.{Comb, IsComb, AreApart, crossings}
 use Rattle.tsp_branch.specs.LeafBound.{crossings_of}
 use Rattle.tsp_branch.specs.Certificate.{multiplied}

@@ -6,14 +6,14 @@ use Rattle.std.proofs.lemmas.Bool.{cases_Bool, both_ways, and_right, and_from, a
 use Rattle.std.proofs.lemmas.Int.{ints}
 use Rattle.std.proofs.lemmas.List.Elements.{recursion_from_All}
 use Rattle.tsp_value.specs.Cells.{IsNode}
-use Rattle.tsp_cost.specs.Walk.{IsWalk, links}
-use Rattle.tsp_cost.specs.Length.{sum_int_by, length_of}
-use Rattle.tsp_bound.specs.Tree.{crosses, crossing}
-use Rattle.tsp_bound.proofs.CostLaws.{Laws}
-use Rattle.tsp_bound.proofs.Adjustments.{sum_zero}
-use Rattle.tsp_bound.proofs.Crossings.{one_if, none_or_one, evenly, twice}
-use Rattle.tsp_bound.proofs.Neighbours.{sum_below}
-use Rattle.tsp_bound.proofs.Walks.{has_node}
+use Rattle.tsp_walk.specs.Walk.{IsWalk, links}
+use Rattle.tsp_walk.specs.Length.{sum_int_by, length_of}
+use Rattle.tsp_theory.specs.Tree.{crosses, crossing}
+use Rattle.tsp_theory.proofs.CostLaws.{Laws}
+use Rattle.tsp_theory.proofs.Adjustments.{sum_zero}
+use Rattle.tsp_theory.proofs.Crossings.{one_if, none_or_one, evenly, twice}
+use Rattle.tsp_theory.proofs.Neighbours.{sum_below}
+use Rattle.tsp_theory.proofs.Walks.{has_node}
 use Rattle.tsp_branch.specs.Combs.{IsTooth, AreApart, WalksCrossCombs}
 
 -- 1 where a pair lies in the tooth and crosses the handle, else 0

@@ -3,8 +3,8 @@ use Rattle.std.proofs.Common.{ℕ, Bool, true, false, List, [], ◌∷◌, map, 
 use Rattle.std.specs.Prelude.{if◌then◌else◌}
 use Rattle.std.specs.List.{AllByRecursion}
 use Rattle.std.proofs.lemmas.List.Elements.{recursion_from_All, All-from_recursion}
-use Rattle.tsp_cost.specs.Walk.{AreNeighbours}
-use Rattle.tsp_bound.specs.Adjusted.{pair_of, UsesEach, UsesNone, AdjustedBoundsBoundWalks}
+use Rattle.tsp_walk.specs.Walk.{AreNeighbours}
+use Rattle.tsp_theory.specs.Adjusted.{pair_of, UsesEach, UsesNone, AdjustedBoundsBoundWalks}
 use Rattle.tsp_branch.specs.Decisions.{Decision, KeepsPair, Keeps, KeepsAll, take_pairs, on_taken, on_avoided, DecidedBoundsBoundWalks, FixedBoundsBoundTours}
 
 pub takes_each : (nodes : List ℕ) (number : ℤ) (decisions : List Decision) → KeepsAll nodes decisions → UsesEach (on_taken number decisions) nodes
@@ -37,7 +37,7 @@ takes_none nodes number decisions keeps = All-from_recursion Unused (on_avoided 
     each [] kept = tt
     each (d ∷ ds) kept = one_more d.taken d.pair (on_avoided number ds) kept.0 (each ds kept.1)
 
--- ---- the theorems of tsp_bound, in these words
+-- ---- the theorems of tsp_theory, in these words
 
 pub decided_bounds_bound_walks : AdjustedBoundsBoundWalks → DecidedBoundsBoundWalks
 decided_bounds_bound_walks bounds n cost scale potentials number decisions bound nodes some even scale_in long is walk keeps =

@@ -4,12 +4,12 @@ use Rattle.std.specs.Prelude.{ℤ, pos, ◌+ℤ◌, ◌≤ℤ◌, ◌<ℤ◌, �
 use Rattle.std.specs.List.{swap_remove}
 use Rattle.std.proofs.lemmas.Bool.{cases_Bool, or_parts, or_cases, ne_eqb, eqb-true, eqb-false}
 use Rattle.std.proofs.lemmas.Int.{ints}
-use Rattle.tsp_bound.specs.Tree.{IsInner, weight_of}
-use Rattle.tsp_bound.specs.Growth.{and_node, IsLeastLeaving, Grows, grown_by, least_at}
-use Rattle.tsp_bound.proofs.Exchange.{and_node_self, and_node_old}
-use Rattle.tsp_bound.proofs.Steps.{grows_more, grown_by_more}
-use Rattle.tsp_bound.proofs.Weights.{weight_added}
-use Rattle.tsp_bound.proofs.Nearest.{most_64}
+use Rattle.tsp_theory.specs.Tree.{IsInner, weight_of}
+use Rattle.tsp_theory.specs.Growth.{and_node, IsLeastLeaving, Grows, grown_by, least_at}
+use Rattle.tsp_theory.proofs.Exchange.{and_node_self, and_node_old}
+use Rattle.tsp_theory.proofs.Steps.{grows_more, grown_by_more}
+use Rattle.tsp_theory.proofs.Weights.{weight_added}
+use Rattle.tsp_theory.proofs.Nearest.{most_64}
 use Rattle.tsp_branch.specs.Outside.{IsGrownWeight, AreFromThree, IsLower, AreLower, AreInner, IsLeastPlace}
 use Rattle.tsp_branch.proofs.Outside.{moved_from, removed_at, removed_length, moved_others, moved_differ, moved_all}
 

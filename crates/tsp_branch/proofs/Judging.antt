@@ -10,8 +10,8 @@ use Rattle.tsp_value.specs.Limits.{most_potential}
 use Rattle.tsp_value.specs.declared.steps.TreeStep.{TreeStep}
 use Rattle.tsp_value.specs.Steps as listed
 use Rattle.tsp_value.specs.Steps.{step_of, steps_of, are_whole}
-use Rattle.tsp_cost.specs.Costs.{IsEven}
-use Rattle.tsp_bound.specs.Numbers.{IsFromTo, IsScale, IsBoundSized}
+use Rattle.tsp_walk.specs.Costs.{IsEven}
+use Rattle.tsp_theory.specs.Numbers.{IsFromTo, IsScale, IsBoundSized}
 use Rattle.tsp_branch.specs.declared.steps.Judged.{Judged}
 use Rattle.tsp_branch.specs.declared.steps.Judged.TheVariants as judged
 use Rattle.tsp_branch.specs.Combs.{Comb, IsComb}

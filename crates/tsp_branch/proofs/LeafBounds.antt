@@ -5,18 +5,18 @@ use Rattle.std.specs.List.{AllByRecursion}
 use Rattle.std.proofs.lemmas.Int.{ints}
 use Rattle.std.proofs.Math.IntN.{suc_ℤ-*ℤ, zero-*ℤ}
 use Rattle.std.proofs.lemmas.List.Elements.{recursion_from_All}
-use Rattle.tsp_cost.specs.Costs.{IsEven}
-use Rattle.tsp_cost.specs.Walk.{IsWalk, links}
-use Rattle.tsp_cost.specs.Length.{sum_int_by, length_of}
-use Rattle.tsp_bound.specs.Tree.{crossing, weight_of}
-use Rattle.tsp_bound.specs.NodeBound.{weight_between}
-use Rattle.tsp_bound.specs.Adjusted.{adjusted}
-use Rattle.tsp_bound.proofs.CostLaws.{Laws}
-use Rattle.tsp_bound.proofs.Weights.{weight_even}
-use Rattle.tsp_bound.proofs.Walks.{least_tree_below}
-use Rattle.tsp_bound.proofs.Exchange.{crosses_turned}
-use Rattle.tsp_bound.proofs.Crossings.{one_if}
-use Rattle.tsp_bound.proofs.Adjustments.{adjusted_even, sum_zero, difference, adjusted_walk}
+use Rattle.tsp_walk.specs.Costs.{IsEven}
+use Rattle.tsp_walk.specs.Walk.{IsWalk, links}
+use Rattle.tsp_walk.specs.Length.{sum_int_by, length_of}
+use Rattle.tsp_theory.specs.Tree.{crossing, weight_of}
+use Rattle.tsp_theory.specs.NodeBound.{weight_between}
+use Rattle.tsp_theory.specs.Adjusted.{adjusted}
+use Rattle.tsp_theory.proofs.CostLaws.{Laws}
+use Rattle.tsp_theory.proofs.Weights.{weight_even}
+use Rattle.tsp_theory.proofs.Walks.{least_tree_below}
+use Rattle.tsp_theory.proofs.Exchange.{crosses_turned}
+use Rattle.tsp_theory.proofs.Crossings.{one_if}
+use Rattle.tsp_theory.proofs.Adjustments.{adjusted_even, sum_zero, difference, adjusted_walk}
 use Rattle.tsp_branch.specs.Combs.{Comb, IsComb, crossings, least_crossings, WalksCrossCombs}
 use Rattle.tsp_branch.specs.LeafBound.{crossings_of, least_of, combed, leaf_weight, LeafBoundsBoundWalks, UncombedBoundsAreAdjustedBounds}
 

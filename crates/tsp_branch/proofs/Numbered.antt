@@ -10,10 +10,10 @@ use Rattle.std.proofs.lemmas.List.Elements.{All-from_recursion, All-contains, Al
 use Rattle.std.proofs.lemmas.List.Folds.{Any-from_list_any}
 use Rattle.std.proofs.lemmas.List.Kept.{AllPairs-cons}
 use Rattle.tsp_value.specs.Cells.{IsNode}
-use Rattle.tsp_cost.specs.Length.{sum_int_by}
-use Rattle.tsp_bound.specs.Tree.{crossing}
-use Rattle.tsp_bound.proofs.Crossings.{one_if}
-use Rattle.tsp_bound.proofs.Neighbours.{count}
+use Rattle.tsp_walk.specs.Length.{sum_int_by}
+use Rattle.tsp_theory.specs.Tree.{crossing}
+use Rattle.tsp_theory.proofs.Crossings.{one_if}
+use Rattle.tsp_theory.proofs.Neighbours.{count}
 use Rattle.tsp_branch.specs.Combs.{IsTooth, AreApart, has, one_in_tooth, NumbersTellCombs, IsNumbering, NumbersTellLists}
 
 abbrev tooth : (ℕ → ℕ) → ℕ → ℕ → Bool

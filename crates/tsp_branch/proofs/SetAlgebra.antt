@@ -10,8 +10,8 @@ use Rattle.std.proofs.lemmas.List.Elements.{recursion_from_All}
 use Rattle.std.proofs.Math.ListN.{set}
 use Rattle.std.proofs.lemmas.List.{get_or-set_same, get_or-set_other}
 use Rattle.tsp_value.specs.Cells.{IsNode}
-use Rattle.tsp_cost.specs.Length.{sum_int_by}
-use Rattle.tsp_bound.specs.Growth.{least_at}
+use Rattle.tsp_walk.specs.Length.{sum_int_by}
+use Rattle.tsp_theory.specs.Growth.{least_at}
 use Rattle.tsp_branch.specs.Combs.{has}
 use Rattle.tsp_branch.specs.Sets.{IsMoved, added, times, sets_with}
 use Rattle.tsp_branch.specs.Combed.{plain, multiplier_of, set_crossings, multipliers_at, twice_in, inside_both}

@@ -7,7 +7,7 @@ use Rattle.std.proofs.Math.ListN.{set}
 use Rattle.std.proofs.lemmas.Bool.{cases_eq, eq-eqb, ne_eqb}
 use Rattle.std.proofs.lemmas.Int.{ints, int_wrap-add_left}
 use Rattle.std.proofs.lemmas.List.{append_assoc, get_or-set_same, get_or-set_other}
-use Rattle.tsp_bound.specs.Growth.{least_at}
+use Rattle.tsp_theory.specs.Growth.{least_at}
 use Rattle.tsp_branch.specs.Sets.{IsMoved, added, times, sets_with}
 
 pub moved_on : (a b old between new : ℤ) → IsMoved a old between → IsMoved b between new → IsMoved (a +ℤ b) old new

@@ -8,10 +8,10 @@ use Rattle.std.proofs.lemmas.Int.{ints}
 use Rattle.std.proofs.lemmas.Bool.{both_ways, or_cases, eqb-true}
 use Rattle.std.proofs.lemmas.List.Elements.{All-nil, All-from_recursion}
 use Rattle.std.proofs.lemmas.List.Kept.{AllPairs-cons}
-use Rattle.tsp_cost.specs.Costs.{IsEven}
+use Rattle.tsp_walk.specs.Costs.{IsEven}
 use Rattle.tsp_value.specs.Cells.{IsNode}
-use Rattle.tsp_bound.specs.Tree.{weight_of}
-use Rattle.tsp_bound.specs.Growth.{tree_of}
+use Rattle.tsp_theory.specs.Tree.{weight_of}
+use Rattle.tsp_theory.specs.Growth.{tree_of}
 use Rattle.tsp_branch.specs.Combs.{Comb, has, AreApart, IsComb, IsTooth}
 use Rattle.tsp_branch.specs.LeafBound.{leaf_weight, IsLeafBoundOf, IsLeafBound}
 use Rattle.tsp_branch.specs.Decisions.{Decision}

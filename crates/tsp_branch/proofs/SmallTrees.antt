@@ -4,9 +4,9 @@ use Rattle.std.specs.Int.Signed.{le_z, le_z_yes}
 use Rattle.std.specs.List.{list_all, range_with_len}
 use Rattle.std.proofs.lemmas.Bool.{cases_eq, both_ways, and_parts, or_cases, leb-true, eqb-true, eqb-false}
 use Rattle.std.proofs.lemmas.Float.{T_from_true}
-use Rattle.tsp_bound.specs.Tree.{IsInner, IsLeastOneTree}
-use Rattle.tsp_bound.specs.Growth.{and_node, Grows, grown_by, AreNearest, tree_of}
-use Rattle.tsp_bound.proofs.OneTrees.{least_from_growth}
+use Rattle.tsp_theory.specs.Tree.{IsInner, IsLeastOneTree}
+use Rattle.tsp_theory.specs.Growth.{and_node, Grows, grown_by, AreNearest, tree_of}
+use Rattle.tsp_theory.proofs.OneTrees.{least_from_growth}
 
 -- ---- tests of the nodes 2..n
 

@@ -1,7 +1,7 @@
 -- The verdict on a certificate by branching: its bound, or the first reason against it.
 use Rattle.std.specs.Prelude.{ℕ, None, Some, List, ℤ}
 use Rattle.tsp_value.specs.Steps as listed
-use Rattle.tsp_bound.specs.Numbers.{IsBoundSized}
+use Rattle.tsp_theory.specs.Numbers.{IsBoundSized}
 use Rattle.tsp_branch.specs.declared.steps.Judged.{Judged}
 use Rattle.tsp_branch.specs.declared.steps.Judged.TheVariants as judged
 use Rattle.tsp_branch.specs.declared.steps.BranchVerdict.{BranchVerdict}

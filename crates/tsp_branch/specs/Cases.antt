@@ -1,8 +1,8 @@
 -- A proof by cases: each step divides the first open case by a pair, or closes it by numbers.
 use Rattle.std.specs.Prelude.{◌≡◌, ℕ, zero, suc, Bool, true, false, if◌then◌else◌, List, [], ◌∷◌, ◌++◌, map, Option, None, Some, ◌⊎◌, ℤ, ◌≤ℤ◌}
 use Rattle.std.specs.List.{All}
-use Rattle.tsp_cost.specs.Walk.{IsWalk}
-use Rattle.tsp_cost.specs.Length.{length_of}
+use Rattle.tsp_walk.specs.Walk.{IsWalk}
+use Rattle.tsp_walk.specs.Length.{length_of}
 use Rattle.tsp_branch.specs.Decisions.{Decision, KeepsAll}
 
 -- the numbers of a leaf: potentials of the nodes, and multipliers of the combs

@@ -1,10 +1,10 @@
 -- A certificate by branching: combs, and a tree of cases with numbers at its leaves.
 use Rattle.std.specs.Prelude.{◌≡◌, ℕ, ◌≤◌, true, false, List, [], ◌∷◌, length, ℤ, pos, ◌≤ℤ◌}
 use Rattle.std.specs.List.{All, Any}
-use Rattle.tsp_cost.specs.Costs.{IsEven}
-use Rattle.tsp_cost.specs.Length.{length_of}
-use Rattle.tsp_cost.specs.Tour.{IsTour}
-use Rattle.tsp_bound.specs.Numbers.{IsScale}
+use Rattle.tsp_walk.specs.Costs.{IsEven}
+use Rattle.tsp_walk.specs.Length.{length_of}
+use Rattle.tsp_walk.specs.Tour.{IsTour}
+use Rattle.tsp_theory.specs.Numbers.{IsScale}
 use Rattle.tsp_branch.specs.Combs.{Comb, IsComb}
 use Rattle.tsp_branch.specs.Decisions.{Decision, take_pairs, on_taken, on_avoided}
 use Rattle.tsp_branch.specs.LeafBound.{IsLeafBound}

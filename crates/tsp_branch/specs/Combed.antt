@@ -2,10 +2,10 @@
 use Rattle.std.specs.Prelude.{◌≢◌, ℕ, ◌*◌, ◌<◌, List, [], map, length, slice_index_or, ℤ, pos, ◌-ℤ◌, ◌*ℤ◌}
 use Rattle.std.specs.Global.{Vec}
 use Rattle.std.specs.List.{All, AllPairs}
-use Rattle.tsp_cost.specs.Length.{sum_int_by}
-use Rattle.tsp_bound.specs.Numbers.{IsFromTo}
-use Rattle.tsp_bound.specs.NodeBound.{weight_between}
-use Rattle.tsp_bound.specs.Tree.{crossing}
+use Rattle.tsp_walk.specs.Length.{sum_int_by}
+use Rattle.tsp_theory.specs.Numbers.{IsFromTo}
+use Rattle.tsp_theory.specs.NodeBound.{weight_between}
+use Rattle.tsp_theory.specs.Tree.{crossing}
 use Rattle.tsp_branch.specs.Combs.{has}
 use Rattle.tsp_branch.specs.Sets.{added}
 

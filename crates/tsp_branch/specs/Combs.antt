@@ -3,9 +3,9 @@
 use Rattle.std.specs.Prelude.{◌≡◌, ℕ, ◌+◌, ◌*◌, ◌<◌, ◌≤◌, ◌==◌, map, Bool, true, false, if◌then◌else◌, List, length, slice_index_or, ℤ, pos, ◌+ℤ◌, ◌≤ℤ◌}
 use Rattle.std.specs.List.{All, AllPairs, list_any, range_with_len}
 use Rattle.tsp_value.specs.Cells.{IsNode}
-use Rattle.tsp_cost.specs.Walk.{IsWalk}
-use Rattle.tsp_cost.specs.Length.{sum_int_by, length_of}
-use Rattle.tsp_bound.specs.Tree.{crossing}
+use Rattle.tsp_walk.specs.Walk.{IsWalk}
+use Rattle.tsp_walk.specs.Length.{sum_int_by, length_of}
+use Rattle.tsp_theory.specs.Tree.{crossing}
 
 -- a part of the nodes, the handle, and parts that reach into it, the teeth
 pub record Comb : Type 0 where

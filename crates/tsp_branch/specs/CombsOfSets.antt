@@ -1,7 +1,7 @@
 -- Combs as code has them: by their sets, of which each has the number of its comb, from 0 on, and the first one is the handle.
 use Rattle.std.specs.Prelude.{◌≡◌, ℕ, zero, suc, ◌==◌, ◌<◌, false, if◌then◌else◌, List, [], ◌∷◌, length, ℤ}
 use Rattle.std.specs.List.{All}
-use Rattle.tsp_bound.specs.Adjusted.{adjusted}
+use Rattle.tsp_theory.specs.Adjusted.{adjusted}
 use Rattle.tsp_branch.specs.Combs.{Comb, comb_of}
 use Rattle.tsp_branch.specs.LeafBound.{crossings_of, leaf_weight}
 use Rattle.tsp_branch.specs.Certificate.{multiplied}

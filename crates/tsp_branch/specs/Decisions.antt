@@ -1,12 +1,12 @@
 -- Decisions: pairs that a walk uses, and pairs that it doesn't.
 use Rattle.std.specs.Prelude.{ℕ, ◌≤◌, ◌≡◌, Bool, true, false, if◌then◌else◌, List, [], ◌∷◌, length, map, ℤ, ◌≤ℤ◌}
 use Rattle.std.specs.List.{All, AllPairs}
-use Rattle.tsp_cost.specs.Costs.{IsEven}
-use Rattle.tsp_cost.specs.Walk.{IsWalk, AreNeighbours}
-use Rattle.tsp_cost.specs.Length.{length_of}
-use Rattle.tsp_cost.specs.Tour.{IsTour}
-use Rattle.tsp_bound.specs.Numbers.{IsScale}
-use Rattle.tsp_bound.specs.Adjusted.{pair_of, is_same_pair, IsAdjustedBound}
+use Rattle.tsp_walk.specs.Costs.{IsEven}
+use Rattle.tsp_walk.specs.Walk.{IsWalk, AreNeighbours}
+use Rattle.tsp_walk.specs.Length.{length_of}
+use Rattle.tsp_walk.specs.Tour.{IsTour}
+use Rattle.tsp_theory.specs.Numbers.{IsScale}
+use Rattle.tsp_theory.specs.Adjusted.{pair_of, is_same_pair, IsAdjustedBound}
 
 -- two nodes, and whether a walk is to use them as neighbours
 pub record Decision : Type 0 where
@@ -32,7 +32,7 @@ DecideOnce decisions = AllPairs (λ a b. is_same_pair a.pair b.pair ≡ false) d
 abbrev pub take_pairs : List (ℕ × ℕ) → List Decision
 take_pairs pairs = map (λ pair. record { pair = pair; taken = true }) pairs
 
--- ---- decisions as the numbers on pairs that tsp_bound speaks of: the same number on each
+-- ---- decisions as the numbers on pairs that tsp_theory speaks of: the same number on each
 
 abbrev pub on_pair : ℤ → Decision → ℕ × ℕ × ℤ
 on_pair number decision = (decision.pair.0, decision.pair.1, number)
@@ -48,7 +48,7 @@ on_avoided number [] = []
 on_avoided number (decision ∷ decisions) =
     if decision.taken then on_avoided number decisions else (on_pair number decision ∷ on_avoided number decisions)
 
--- ---- the theorems, which are those of tsp_bound
+-- ---- the theorems, which are those of tsp_theory
 
 -- The bound of potentials and decisions is at most the length of every walk that keeps these.
 abbrev pub DecidedBoundsBoundWalks : Type 0

@@ -1,13 +1,13 @@
--- The bound of potentials, of numbers on pairs, and of combs: what the crossings of combs add to that of tsp_bound.
+-- The bound of potentials, of numbers on pairs, and of combs: what the crossings of combs add to that of tsp_theory.
 use Rattle.std.specs.Prelude.{◌≡◌, ℕ, ◌≤◌, List, [], length, ℤ, pos, ◌+ℤ◌, ◌-ℤ◌, ◌*ℤ◌, ◌≤ℤ◌}
 use Rattle.std.specs.List.{All}
-use Rattle.tsp_cost.specs.Costs.{IsEven}
-use Rattle.tsp_cost.specs.Walk.{IsWalk}
-use Rattle.tsp_cost.specs.Length.{sum_int_by, length_of}
-use Rattle.tsp_bound.specs.Numbers.{IsScale, total, IsLeastBound}
-use Rattle.tsp_bound.specs.Tree.{weight_of, IsLeastOneTree}
-use Rattle.tsp_bound.specs.NodeBound.{weight_between}
-use Rattle.tsp_bound.specs.Adjusted.{adjusted, total_of, UsesEach, UsesNone, IsAdjustedBound}
+use Rattle.tsp_walk.specs.Costs.{IsEven}
+use Rattle.tsp_walk.specs.Walk.{IsWalk}
+use Rattle.tsp_walk.specs.Length.{sum_int_by, length_of}
+use Rattle.tsp_theory.specs.Numbers.{IsScale, total, IsLeastBound}
+use Rattle.tsp_theory.specs.Tree.{weight_of, IsLeastOneTree}
+use Rattle.tsp_theory.specs.NodeBound.{weight_between}
+use Rattle.tsp_theory.specs.Adjusted.{adjusted, total_of, UsesEach, UsesNone, IsAdjustedBound}
 use Rattle.tsp_branch.specs.Combs.{Comb, IsComb, crossings, least_crossings}
 
 -- combs with a multiplier each, which isn't negative
@@ -53,7 +53,7 @@ LeafBoundsBoundWalks = (n : ℕ) (cost : ℕ → ℕ → ℤ) (scale : ℤ) (pot
     → IsLeafBound n cost scale potentials taken avoided combs bound
     → IsWalk n nodes → UsesEach taken nodes → UsesNone avoided nodes → bound ≤ℤ length_of cost nodes
 
--- With no comb it is the bound of tsp_bound.
+-- With no comb it is the bound of tsp_theory.
 abbrev pub UncombedBoundsAreAdjustedBounds : Type 0
 UncombedBoundsAreAdjustedBounds = (n : ℕ) (cost : ℕ → ℕ → ℤ) (scale : ℤ) (potentials : List ℤ) (taken avoided : List (ℕ × ℕ × ℤ))
     (bound : ℤ) → IsLeafBound n cost scale potentials taken avoided [] bound

@@ -3,7 +3,7 @@ use Rattle.std.specs.Prelude.{◌≡◌, ◌≢◌, ℕ, suc, ◌+◌, ◌-◌, 
 use Rattle.std.specs.List.{All}
 use Rattle.tsp_value.specs.Cells.{IsNode}
 use Rattle.tsp_value.specs.Steps as listed
-use Rattle.tsp_bound.specs.Numbers.{entry, IsBoundSized}
+use Rattle.tsp_theory.specs.Numbers.{entry, IsBoundSized}
 use Rattle.tsp_branch.specs.declared.steps.Judged.{Judged}
 use Rattle.tsp_branch.specs.declared.steps.Judged.TheVariants as judged
 use Rattle.tsp_branch.specs.Combs.{Comb}

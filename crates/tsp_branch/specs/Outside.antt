@@ -1,7 +1,7 @@
 -- A growth of which the nodes outside are listed, in any order, each with the least weight between it and a node inside.
 use Rattle.std.specs.Prelude.{◌≡◌, ℕ, ◌<◌, ◌+◌, List, length, slice_index, ◌⊎◌, ℤ, ◌≤ℤ◌, ◌<ℤ◌}
-use Rattle.tsp_bound.specs.Tree.{IsInner, weight_of}
-use Rattle.tsp_bound.specs.Growth.{IsWholeGrowth, least_at}
+use Rattle.tsp_theory.specs.Tree.{IsInner, weight_of}
+use Rattle.tsp_theory.specs.Growth.{IsWholeGrowth, least_at}
 
 -- what a growth from node 2 that reaches all of 2..n weighs
 pub record IsGrownWeight (n : ℕ) (w : ℕ → ℕ → ℤ) (weight : ℤ) : Type 0 where
@@ -20,7 +20,8 @@ IsLower weight old new = ((new ≡ old) × (old ≤ℤ weight)) ⊎ ((new ≡ we
 
 -- so at each listed node, by the weight of that node
 abbrev pub AreLower : (ℕ → ℤ) → List ℕ → List ℤ → List ℤ → Type 0
-AreLower weight nodes old new = (k : ℕ) → k < length nodes → IsLower (weight (slice_index nodes k)) (least_at old k) (least_at new k)
+AreLower weight nodes old new = (k : ℕ) → k < length nodes
+    → IsLower (weight (slice_index nodes k)) (least_at old k) (least_at new k)
 
 -- the listed nodes are of 2..n
 abbrev pub AreInner : ℕ → List ℕ → Type 0

@@ -1,7 +1,7 @@
 -- What a pass over the steps writes over, and what it finds of a leaf.
 use Rattle.std.specs.Prelude.{◌≡◌, ℕ, ◌+◌, ◌^◌, List, length, Option, Some, None, ℤ, pos, neg_ℤ}
 use Rattle.std.specs.List.{All}
-use Rattle.tsp_bound.specs.Numbers.{IsFromTo}
+use Rattle.tsp_theory.specs.Numbers.{IsFromTo}
 use Rattle.tsp_branch.specs.declared.room.Room.{Room}
 use Rattle.tsp_branch.specs.Combs.{Comb}
 use Rattle.tsp_branch.specs.Decisions.{Decision}

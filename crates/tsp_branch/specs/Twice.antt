@@ -2,7 +2,7 @@
 use Rattle.std.specs.Prelude.{◌≡◌, ℕ, suc, Bool, true, false, List, [], ◌∷◌, Option, None, Some, ◌⊎◌}
 use Rattle.std.specs.List.{All, list_any}
 use Rattle.tsp_value.specs.Steps as listed
-use Rattle.tsp_bound.specs.Adjusted.{is_same_pair}
+use Rattle.tsp_theory.specs.Adjusted.{is_same_pair}
 use Rattle.tsp_branch.specs.Decisions.{Decision, DecideOnce}
 use Rattle.tsp_branch.specs.Cases.{decide, leaves_of, cases_of}
 use Rattle.tsp_branch.specs.Listed.{listed_steps}

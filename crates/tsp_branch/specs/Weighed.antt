@@ -1,8 +1,8 @@
 -- What a least 1-tree weighs, and the bound that its weight gives.
 use Rattle.std.specs.Prelude.{◌≡◌, ℕ, List, ℤ, pos, ◌+ℤ◌, ◌-ℤ◌, ◌*ℤ◌}
-use Rattle.tsp_bound.specs.Numbers.{total, IsLeastBound}
-use Rattle.tsp_bound.specs.Tree.{weight_of, IsLeastOneTree}
-use Rattle.tsp_bound.specs.Adjusted.{total_of}
+use Rattle.tsp_theory.specs.Numbers.{total, IsLeastBound}
+use Rattle.tsp_theory.specs.Tree.{weight_of, IsLeastOneTree}
+use Rattle.tsp_theory.specs.Adjusted.{total_of}
 use Rattle.tsp_branch.specs.Combs.{Comb}
 use Rattle.tsp_branch.specs.LeafBound.{least_of, leaf_weight, IsLeafBound}
 

@@ -3,7 +3,7 @@
 ghost use Rattle.std.specs.Prelude.{◌≡◌, ◌≢◌, ◌≤◌, ◌<◌, ◌^◌, ◌++◌, length, IfOk, IfSome};
 ghost use Rattle.std.specs.List.{All, AllPairs};
 ghost use Rattle.tsp_value.specs.Steps.{steps_of};
-ghost use Rattle.tsp_bound.specs.Numbers.{IsScale, IsBoundSized};
+ghost use Rattle.tsp_theory.specs.Numbers.{IsScale, IsBoundSized};
 ghost use Rattle.tsp_branch.specs.Combs.{IsComb};
 ghost use Rattle.tsp_branch.specs.Decisions.{DecideOnce};
 ghost use Rattle.tsp_branch.specs.Sets.{AreSetsOf};
@@ -22,8 +22,8 @@ use crate::setting::Setting;
 use crate::stack::next_case;
 use crate::steps::Judged;
 use std::alloc::{AllocError, Global};
-use tsp_cost::Symmetric;
 use tsp_value::TreeStep;
+use tsp_walk::Symmetric;
 
 /// The bound of a tree of cases: the least of the bounds of its leaves, which is at most the length
 /// of every walk that keeps the given decisions. Or the first leaf that isn't good: one with an

@@ -3,8 +3,8 @@
 ghost use Rattle.std.specs.Prelude.{◌≡◌, ◌+◌, ◌+ℤ◌, ℕ, length, neg_ℤ};
 ghost use Rattle.std.specs.Int.{w64, int_wrap};
 ghost use Rattle.tsp_value.specs.Cells.{IsNode};
-ghost use Rattle.tsp_bound.specs.Numbers.{IsFromTo, IsScale, ArePotentials, entry};
-ghost use Rattle.tsp_bound.specs.Growth.{least_at};
+ghost use Rattle.tsp_theory.specs.Numbers.{IsFromTo, IsScale, ArePotentials, entry};
+ghost use Rattle.tsp_theory.specs.Growth.{least_at};
 ghost use Rattle.tsp_branch.specs.Sets.{IsMoved, IsSetTable, AreSetsOf};
 ghost use Rattle.tsp_branch.specs.Combed.{plain, AreSmallMultipliers, AreMultipliedSets, multipliers_at, AreFewCrossings, set_weight};
 
@@ -12,7 +12,7 @@ use crate::add_sets::add_sets;
 use crate::growth::weight_in;
 use crate::scaled::scale_row;
 use crate::weights::Weights;
-use tsp_cost::Costs;
+use tsp_walk::Costs;
 
 /// Costs, a scale, potentials, and sets of nodes with the multipliers of their combs.
 ///
@@ -46,11 +46,11 @@ impl<'a, C: Costs> CombedWeights<'a, C> {
     ghost use Rattle.std.specs.Prelude.{◌≡◌, ◌+◌, ◌+ℤ◌, ℕ, length, pos, neg_ℤ};
     ghost use Rattle.std.specs.Int.{w64, int_wrap};
     ghost use Rattle.tsp_value.specs.Cells.{IsNode};
-    ghost use Rattle.tsp_bound.specs.Numbers.{IsFromTo, IsScale, ArePotentials, entry};
-    ghost use Rattle.tsp_bound.specs.Tree.{IsInner};
-    ghost use Rattle.tsp_bound.specs.Growth.{least_at};
-    ghost use Rattle.tsp_bound.specs.NodeBound.{weight_between};
-    ghost use Rattle.tsp_bound.specs.Potentials.{most_between};
+    ghost use Rattle.tsp_theory.specs.Numbers.{IsFromTo, IsScale, ArePotentials, entry};
+    ghost use Rattle.tsp_theory.specs.Tree.{IsInner};
+    ghost use Rattle.tsp_theory.specs.Growth.{least_at};
+    ghost use Rattle.tsp_theory.specs.NodeBound.{weight_between};
+    ghost use Rattle.tsp_theory.specs.NodeBound.{most_between};
     ghost use Rattle.tsp_branch.specs.Sets.{IsMoved, IsSetTable, AreSetsOf};
     ghost use Rattle.tsp_branch.specs.Combed.{plain, AreSmallMultipliers, AreMultipliedSets, multipliers_at, AreFewCrossings, most_combed, set_weight};
 

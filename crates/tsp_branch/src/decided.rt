@@ -3,14 +3,14 @@
 ghost use Rattle.std.specs.Prelude.{◌≡◌, ◌<◌, ◌≢◌, ◌+ℤ◌, ℕ, length};
 ghost use Rattle.std.specs.Int.{w64, int_wrap};
 ghost use Rattle.std.specs.List.{All};
-ghost use Rattle.tsp_bound.specs.Growth.{least_at};
+ghost use Rattle.tsp_theory.specs.Growth.{least_at};
 ghost use Rattle.tsp_branch.specs.Sets.{IsMoved};
 ghost use Rattle.tsp_branch.specs.Decided.{IsDecision, IsChanged, AreFewChanges, changes};
 
 use crate::combed::CombedWeights;
 use crate::growth::weight_in;
 use crate::weights::Weights;
-use tsp_cost::Costs;
+use tsp_walk::Costs;
 
 /// The number on each decided pair. It cancels in the bound: any number would be sound, and this
 /// one is far above all other parts of a weight and lets weights fit 64 bits.

@@ -8,8 +8,8 @@ ghost use Rattle.tsp_branch.specs.Cases.{decide, BoundsCase, BoundsButOpen, Walk
 ghost use Rattle.tsp_branch.specs.Certificate.{CertificatesBoundWalks, CertificatesBoundTours, CertificateBoundsAreUnique};
 ghost use Rattle.tsp_branch.specs.CombsOfSets.{SetsTellCombs, SetsGiveLeaves};
 
-use tsp_bound::adjusted_bounds_bound_walks;
-use tsp_cost::{lengths_add_up, walks_are_permutations, walks_have_no_loops};
+use tsp_theory::adjusted_bounds_bound_walks;
+use tsp_walk::{lengths_add_up, walks_are_permutations, walks_have_no_loops};
 
 /// The bound of potentials and decisions is at most the length of every walk that keeps the
 /// decisions.
@@ -54,7 +54,7 @@ pub fn sets_tell_combs()
 {}
 
 /// The bound of potentials, of numbers on pairs and of combs is at most the length of every walk
-/// that uses each taken pair and no avoided one. With no comb it is the bound of tsp_bound.
+/// that uses each taken pair and no avoided one. With no comb it is the bound of tsp_theory.
 pub fn leaf_bounds_bound_walks()
     ensures walks { LeafBoundsBoundWalks }
     ensures uncombed { UncombedBoundsAreAdjustedBounds }

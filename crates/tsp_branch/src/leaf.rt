@@ -1,7 +1,7 @@
 //! The bound of a leaf.
 
 ghost use Rattle.std.specs.Prelude.{◌≡◌, ◌≤◌, ◌+◌, ◌^◌, ℕ, length, pos, neg_ℤ, IfOk};
-ghost use Rattle.tsp_bound.specs.Numbers.{IsFromTo, IsScale, IsLeastBound, IsBoundSized};
+ghost use Rattle.tsp_theory.specs.Numbers.{IsFromTo, IsScale, IsLeastBound, IsBoundSized};
 ghost use Rattle.tsp_branch.specs.Weighed.{IsBoundOfWeights, BoundsEachLeaf};
 
 use crate::tree::least_weight;

@@ -4,8 +4,8 @@ ghost use Rattle.std.specs.Prelude.{◌≡◌, ◌<◌, ◌+◌, ◌+ℤ◌, ℕ
 ghost use Rattle.std.specs.Int.{w64, int_wrap};
 ghost use Rattle.std.specs.List.{All};
 ghost use Rattle.tsp_value.specs.Cells.{IsNode};
-ghost use Rattle.tsp_bound.specs.Numbers.{entry};
-ghost use Rattle.tsp_bound.specs.Growth.{least_at};
+ghost use Rattle.tsp_theory.specs.Numbers.{entry};
+ghost use Rattle.tsp_theory.specs.Growth.{least_at};
 ghost use Rattle.tsp_branch.specs.Sets.{IsMoved, AreSetsOf};
 ghost use Rattle.tsp_branch.specs.Combed.{plain, AreSmallMultipliers, multipliers_at};
 

@@ -2,7 +2,7 @@
 
 ghost use Rattle.std.specs.Prelude.{◌<◌, ◌-◌, ◌^◌, ℕ, [], length, IfOk};
 ghost use Rattle.std.specs.List.{All};
-ghost use Rattle.tsp_bound.specs.Growth.{least_at};
+ghost use Rattle.tsp_theory.specs.Growth.{least_at};
 ghost use Rattle.tsp_branch.specs.Sets.{IsMoved, added, times, IsListed, IsSetTable, AreSetsOf};
 
 use crate::decided::add_at;

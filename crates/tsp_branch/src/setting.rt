@@ -2,7 +2,7 @@
 
 ghost use Rattle.std.specs.Prelude.{◌≡◌, ◌≢◌, ◌≤◌, ◌<◌, ◌^◌, length};
 ghost use Rattle.std.specs.List.{All, AllPairs};
-ghost use Rattle.tsp_bound.specs.Numbers.{IsScale};
+ghost use Rattle.tsp_theory.specs.Numbers.{IsScale};
 ghost use Rattle.tsp_branch.specs.Sets.{IsSetTable, AreSetsOf};
 ghost use Rattle.tsp_branch.specs.Decided.{IsDecision};
 
@@ -12,7 +12,7 @@ use crate::given_back::given_back;
 use crate::leaf::leaf_bound;
 use crate::moved::fill_moved;
 use std::alloc::{AllocError, Global};
-use tsp_cost::Symmetric;
+use tsp_walk::Symmetric;
 
 /// Costs, a scale, so many combs by their sets, each with the number of its comb, by node the
 /// numbers of its sets, and the decisions that are given for all leaves.
@@ -38,7 +38,7 @@ pub(crate) struct Setting<'a, C: Symmetric> {
 impl<C: Symmetric> Setting<'_, C> {
     ghost use Rattle.std.specs.Prelude.{◌≡◌, ◌<◌, ◌+◌, ◌^◌, ◌++◌, length, IfOk};
     ghost use Rattle.std.specs.List.{All};
-    ghost use Rattle.tsp_bound.specs.Numbers.{IsBoundSized};
+    ghost use Rattle.tsp_theory.specs.Numbers.{IsBoundSized};
     ghost use Rattle.tsp_branch.specs.Combs.{IsComb};
     ghost use Rattle.tsp_branch.specs.Decisions.{DecideOnce};
     ghost use Rattle.tsp_branch.specs.Certificate.{IsBoundAt};

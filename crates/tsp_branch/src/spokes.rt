@@ -2,7 +2,7 @@
 
 ghost use Rattle.std.specs.Prelude.{◌≡◌, ◌≤◌, ◌<◌, ◌+◌, ◌-◌, ◌^◌, length};
 ghost use Rattle.tsp_value.specs.Limits.{most_nodes};
-ghost use Rattle.tsp_bound.specs.Growth.{AreNearest, least_at};
+ghost use Rattle.tsp_theory.specs.Growth.{AreNearest, least_at};
 
 use crate::growth::weight_in;
 use crate::weights::Weights;

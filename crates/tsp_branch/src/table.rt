@@ -6,7 +6,7 @@ ghost use Rattle.tsp_value.specs.Limits.{most_nodes};
 ghost use Rattle.tsp_branch.specs.Tabled.{IsKeptRow, AreCostRows};
 
 use std::alloc::{AllocError, Global};
-use tsp_cost::{Costs, Symmetric};
+use tsp_walk::{Costs, Symmetric};
 
 /// Costs that were looked up once, and are kept for each pair of nodes: for trees with many leaves,
 /// each of which goes over all of them.

@@ -2,7 +2,7 @@
 
 ghost use Rattle.std.specs.Prelude.{◌≡◌, ◌≤◌, ◌+◌, ◌*◌, ◌^◌, ℕ, List, length, pos, neg_ℤ, IfOk};
 ghost use Rattle.tsp_value.specs.Limits.{most_nodes};
-ghost use Rattle.tsp_bound.specs.Numbers.{IsFromTo};
+ghost use Rattle.tsp_theory.specs.Numbers.{IsFromTo};
 ghost use Rattle.tsp_branch.specs.Weighed.{IsLeastWeight};
 
 use crate::growth::grow;

@@ -2,7 +2,7 @@
 
 ghost use Rattle.std.specs.Prelude.{◌≡◌, ◌++◌, IfOk};
 ghost use Rattle.tsp_value.specs.Steps.{steps_of};
-ghost use Rattle.tsp_bound.specs.Adjusted.{is_same_pair};
+ghost use Rattle.tsp_theory.specs.Adjusted.{is_same_pair};
 ghost use Rattle.tsp_branch.specs.Decisions.{DecideOnce};
 ghost use Rattle.tsp_branch.specs.Decided.{case_of, stack_of};
 ghost use Rattle.tsp_branch.specs.Twice.{is_decided, AreBranchesJudged};

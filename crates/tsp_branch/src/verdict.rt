@@ -3,7 +3,7 @@
 ghost use Rattle.std.specs.Prelude.{◌≡◌, ◌≤◌, ◌<◌, ◌^◌, length, true, IfOk};
 ghost use Rattle.std.specs.List.{All};
 ghost use Rattle.tsp_value.specs.Steps.{steps_of, are_whole};
-ghost use Rattle.tsp_bound.specs.Numbers.{IsScale};
+ghost use Rattle.tsp_theory.specs.Numbers.{IsScale};
 ghost use Rattle.tsp_branch.specs.Decisions.{DecideOnce};
 ghost use Rattle.tsp_branch.specs.Sets.{AreSetsOf};
 ghost use Rattle.tsp_branch.specs.Combed.{plain};
@@ -17,8 +17,8 @@ use crate::good_combs::first_bad_comb;
 use crate::steps::{BranchVerdict, Judged};
 use crate::twice::first_twice;
 use std::alloc::{AllocError, Global};
-use tsp_cost::Symmetric;
 use tsp_value::TreeStep;
+use tsp_walk::Symmetric;
 
 /// The verdict on a certificate by branching: the first comb that isn't one, or the first branch on
 /// a pair that is decided above it or given, or the first leaf that isn't good, or, where there is

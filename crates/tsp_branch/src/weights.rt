@@ -3,8 +3,8 @@
 ghost use Rattle.std.specs.Prelude.{◌≡◌, ◌≤◌, ◌+◌, ℕ, ℤ, length, ◌<ℤ◌};
 ghost use Rattle.tsp_value.specs.Cells.{IsNode};
 ghost use Rattle.tsp_value.specs.Limits.{most_nodes};
-ghost use Rattle.tsp_bound.specs.Tree.{IsInner};
-ghost use Rattle.tsp_bound.specs.Growth.{least_at};
+ghost use Rattle.tsp_theory.specs.Tree.{IsInner};
+ghost use Rattle.tsp_theory.specs.Growth.{least_at};
 
 /// Weights between the nodes 1 to `count`, told by rows.
 pub trait Weights {

@@ -2,9 +2,9 @@
 
 ghost use Rattle.std.specs.Prelude.{◌<◌, ◌≤◌, ◌^◌, length};
 
-use crate::region::{Region, gap};
 use std::alloc::{AllocError, Global};
-use tsp_number::{InSpace, Point};
+use tsp_number::{Decimal, InSpace, Point};
+use tsp_walk::Region;
 
 /// How many cells a grid has along each axis.
 const CELLS: u64 = 65536;
@@ -18,9 +18,9 @@ pub(crate) fn along_curve<P: InSpace>(alloc: Global, points: &[P]) -> Result<Vec
     requires few { length points.now < 2 ^ 31 }
 {
     let region = region_of(points);
-    let corner = region.corner();
-    let side = region.widest() / CELLS + 1;
-    let is_flat = region.is_flat();
+    let corner = region.low;
+    let side = widest(&region) / CELLS + 1;
+    let is_flat = gap(region.low.z, region.high.z) == 0;
     let mut keyed: Vec<(u64, u32)> = Vec::with_capacity(alloc, points.len())?;
     'points: for i in 0..points.len() {
         let point = points[i].in_space();
@@ -43,6 +43,19 @@ fn region_of<P: InSpace>(points: &[P]) -> Region
         region = region.joined(Region::of(point.in_space()));
     }
     region
+}
+
+/// The longest of the sides of a region, in counts of 10^-9.
+fn widest(region: &Region) -> u64 {
+    let across = gap(region.low.x, region.high.x);
+    let along = gap(region.low.y, region.high.y);
+    across.max(along).max(gap(region.low.z, region.high.z))
+}
+
+/// How far two numbers are apart, in counts of 10^-9.
+fn gap(a: Decimal, b: Decimal) -> u64 {
+    let way = b.count() - a.count();
+    if way < 0 { -way as u64 } else { way as u64 }
 }
 
 /// How far along the curve the cell of a point is, in the grid of such cells from the corner on.

@@ -2,9 +2,8 @@
 
 ghost use Rattle.std.specs.Prelude.{unwrap_or};
 ghost use Rattle.tsp_fields.specs.Cost.{cost};
-ghost use Rattle.tsp_cost.specs.Costs.{FindsUneven};
+ghost use Rattle.tsp_walk.specs.Costs.{FindsUneven};
 
-use crate::costs::Costs;
 use crate::fault::CostFault;
 use crate::matrix::Matrix;
 use crate::points::Points;
@@ -13,6 +12,7 @@ use crate::view::View;
 use std::marker::Model;
 use tsp_fields::{Coords, File, valid_fields_are_in_range, valid_files_are_complete};
 use tsp_value::{Kind, Layout, WeightFormat, WeightKind};
+use tsp_walk::Costs;
 
 /// A valid file of TYPE TSP, ATSP or CVRP, with the costs between its nodes.
 #[derive(Debug, Drop)]

@@ -7,10 +7,10 @@ ghost use Rattle.tsp_value.specs.Cells.{cells};
 ghost use Rattle.tsp_value.specs.Limits.{most_matrix_nodes, most_weight};
 ghost use Rattle.tsp_fields.specs.Valid.{IsWithin};
 ghost use Rattle.tsp_fields.specs.Cost.{listed_cost};
-ghost use Rattle.tsp_cost.specs.Costs.{IsEven};
+ghost use Rattle.tsp_walk.specs.Costs.{IsEven};
 
-use crate::costs::{Costs, Symmetric};
 use tsp_value::{Layout, cells_are_the_listed_pairs, only_cells_have_places};
+use tsp_walk::{Costs, Symmetric};
 
 /// How many rows and columns a block of cells has, which with its mirrored block stays in the cache.
 const BLOCK: u32 = 64;
@@ -36,7 +36,7 @@ pub struct EvenMatrix<'a> {
 impl<'a> Matrix<'a> {
     ghost use Rattle.std.specs.Prelude.{ℕ, ◌<◌, ◌+◌, ◌*◌, ◌≢◌, ◌↔◌, IsTrue, MatchResult, MatchOption};
     ghost use Rattle.tsp_value.specs.Cells.{IsNode};
-    ghost use Rattle.tsp_cost.specs.Costs.{IsFirstUneven, FindsUneven};
+    ghost use Rattle.tsp_walk.specs.Costs.{IsFirstUneven, FindsUneven};
     ghost use Rattle.tsp_cost.specs.Views.{matrix_nodes, matrix_cost, even_nodes, even_cost};
 
     /// The costs over so many nodes that these weights list.

@@ -4,13 +4,12 @@ ghost use Rattle.std.specs.Prelude.{◌≡◌, map};
 ghost use Rattle.tsp_value.specs.Cells.{IsNode};
 
 use crate::curve::along_curve;
-use crate::grouped::Grouped;
 use crate::matrix::EvenMatrix;
 use crate::points::{Points, distance};
-use crate::region::Region;
 use crate::triangle::Triangle;
 use std::alloc::{AllocError, Global};
 use tsp_number::{InSpace, Point, monotone_laws};
+use tsp_walk::{Grouped, Region};
 
 impl<P: InSpace> Points<'_, P> {
     ghost use Rattle.tsp_cost.specs.Views.{points_nodes, points_place};

@@ -6,12 +6,12 @@ ghost use Rattle.tsp_value.specs.declared.kinds.WeightKind.TheVariants.{Explicit
 ghost use Rattle.tsp_value.specs.Limits.{most_nodes};
 ghost use Rattle.tsp_fields.specs.Cost.{distance, point_of};
 
-use crate::costs::{Costs, Symmetric};
 use std::alloc::AllocError;
 use tsp_number::{
     InSpace, Point, att, ceil_2d, distance_laws, euc_2d, euc_3d, man_2d, man_3d, max_2d, max_3d,
 };
 use tsp_value::WeightKind;
+use tsp_walk::{Costs, Symmetric};
 
 /// The costs of an instance whose weight type is a distance: that of the nodes' points.
 ///

@@ -7,11 +7,11 @@ ghost use Rattle.tsp_value.specs.Cells.{is_listed, cells};
 ghost use Rattle.tsp_value.specs.Limits.{most_matrix_nodes, most_weight};
 ghost use Rattle.tsp_fields.specs.Valid.{IsWithin};
 ghost use Rattle.tsp_fields.specs.Cost.{listed_cost};
-ghost use Rattle.tsp_cost.specs.Costs.{IsEven};
+ghost use Rattle.tsp_walk.specs.Costs.{IsEven};
 ghost use Rattle.tsp_fields.specs.Listed.{IsUnlisted};
 
-use crate::costs::{Costs, Symmetric};
 use tsp_value::{Layout, cells_are_the_listed_pairs, only_cells_have_places};
+use tsp_walk::{Costs, Symmetric};
 
 /// The costs of an instance whose weights are one half of a matrix, with the diagonal or without.
 #[derive(Clone, Copy, Debug)]

@@ -5,17 +5,18 @@ use Rattle.std.specs.List.{All}
 use Rattle.std.proofs.lemmas.List.Elements.{All-contains}
 use Rattle.tsp_fields.specs.Fields.{Fields}
 use Rattle.tsp_fields.specs.Cost.{cost}
-use Rattle.tsp_cost.specs.Costs.{IsEven}
-use Rattle.tsp_cost.specs.Length.{length_of}
-use Rattle.tsp_cost.specs.Tour.{is_directed, Uses}
+use Rattle.tsp_walk.specs.Costs.{IsEven}
+use Rattle.tsp_walk.specs.Length.{length_of}
+use Rattle.tsp_walk.specs.Tour.{Uses}
+use Rattle.tsp_cost.specs.Tours.{is_directed}
 use Rattle.tsp_cost.specs.Views.{Keeps}
-use Rattle.tsp_cost.specs.Walk.{IsWalk, AreNeighbours}
+use Rattle.tsp_walk.specs.Walk.{IsWalk, AreNeighbours}
 use Rattle.tsp_value.specs.declared.kinds.Kind.TheVariants as kinds
-use Rattle.tsp_bound.specs.Numbers.{IsScale, entry, IsBoundSized}
-use Rattle.tsp_bound.specs.Tree.{weight_of, IsLeastOneTree}
-use Rattle.tsp_bound.specs.NodeBound.{weight_between}
-use Rattle.tsp_bound.specs.Adjusted.{pair_of, numbers_on, adjusted, UsesEach, IsAdjustedBoundOf, IsAdjustedBound, AdjustedBoundsBoundWalks}
-use Rattle.tsp_bound.specs.Assignment.{AreGood, IsFirstBroken, IsDualBound, DualsBoundWalks}
+use Rattle.tsp_theory.specs.Numbers.{IsScale, entry, IsBoundSized}
+use Rattle.tsp_theory.specs.Tree.{weight_of, IsLeastOneTree}
+use Rattle.tsp_theory.specs.NodeBound.{weight_between}
+use Rattle.tsp_theory.specs.Adjusted.{pair_of, numbers_on, adjusted, UsesEach, IsAdjustedBoundOf, IsAdjustedBound, AdjustedBoundsBoundWalks}
+use Rattle.tsp_theory.specs.Assignment.{AreGood, IsFirstBroken, IsDualBound, DualsBoundWalks}
 use Rattle.tsp_verdict.specs.declared.verdict.Reason.TheVariants.{DualInfeasible}
 use Rattle.tsp_verdict.specs.Multiplied.{AreListed}
 use Rattle.tsp_verdict.specs.Solution.{nodes_of, fixed_of}

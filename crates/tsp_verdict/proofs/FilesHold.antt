@@ -13,7 +13,7 @@ use Rattle.tsp_value.specs.declared.steps.TreeStep.{TreeStep}
 use Rattle.tsp_value.specs.Steps.{Step, Branch, Leaf, step_of, steps_of, are_whole, branch_count, leaf_count, change_count}
 use Rattle.tsp_fields.specs.Fields.{Fields}
 use Rattle.tsp_fields.specs.Valid.{AreTours, AreDepots, AreTriples, IsNodeList, AreSets, AreCombs, IsStep, AreSteps}
-use Rattle.tsp_bound.specs.Numbers.{AreMultipliers}
+use Rattle.tsp_theory.specs.Numbers.{AreMultipliers}
 use Rattle.tsp_branch.specs.Listed.{IsStepOf}
 use Rattle.tsp_verdict.specs.Numbered.{AreSomeSets}
 use Rattle.tsp_verdict.specs.Solution.{nodes_of, tours_of, visited, nodes_in}

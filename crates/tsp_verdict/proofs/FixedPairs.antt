@@ -5,7 +5,7 @@ use Rattle.std.specs.List.{All}
 use Rattle.std.proofs.lemmas.Bool.{eqb-true, eq-eqb, false≢true}
 use Rattle.tsp_fields.specs.Fields.{Fields}
 use Rattle.tsp_fields.specs.Valid.{IsPairOf, AreFixed}
-use Rattle.tsp_cost.specs.Tour.{Uses}
+use Rattle.tsp_walk.specs.Tour.{Uses}
 use Rattle.tsp_verdict.specs.Next.{AreNext}
 use Rattle.tsp_verdict.specs.Solution.{nodes_of}
 

@@ -9,8 +9,8 @@ use Rattle.std.proofs.lemmas.List.Elements.{All-from_recursion, recursion_from_A
 use Rattle.std.proofs.lemmas.List.Folds.{list_any-append}
 use Rattle.std.proofs.lemmas.List.Kept.{AllPairs-cons}
 use Rattle.tsp_fields.specs.Valid.{IsPairOf}
-use Rattle.tsp_cost.specs.Walk.{AreNeighbours}
-use Rattle.tsp_bound.specs.Adjusted.{is_same_pair}
+use Rattle.tsp_walk.specs.Walk.{AreNeighbours}
+use Rattle.tsp_theory.specs.Adjusted.{is_same_pair}
 use Rattle.tsp_branch.specs.Decided.{IsDecision, case_of}
 use Rattle.tsp_branch.specs.Decisions.{Decision, KeepsAll, Keeps, DecideOnce, take_pairs}
 use Rattle.tsp_verdict.specs.PairSets.{undirected, pair_cmp, HasPairs}

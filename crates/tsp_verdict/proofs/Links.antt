@@ -3,7 +3,7 @@ use Rattle.std.proofs.Common.{◌≡◌, ◌≢◌, ℕ, zero, suc, ◌+◌, ◌
 use Rattle.std.specs.Prelude.{◌⊎◌}
 use Rattle.std.specs.List.{AllPairs}
 use Rattle.std.proofs.lemmas.Bool.{cases_lt}
-use Rattle.tsp_cost.specs.Walk.{IsWalk, links_to}
+use Rattle.tsp_walk.specs.Walk.{IsWalk, links_to}
 use Rattle.tsp_verdict.specs.Next.{AreNext}
 
 -- the k-th link goes from the k-th node to the one after it

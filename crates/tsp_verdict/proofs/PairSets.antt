@@ -11,7 +11,7 @@ use Rattle.std.proofs.lemmas.Bool.{and_from, and_parts, cases_cond, cases_lt, ca
 use Rattle.std.proofs.lemmas.List.{get_or-take, get_or_default, length-take-le}
 use Rattle.std.proofs.lemmas.List.Folds.{Any-from_list_any, list_any_at, list_any_more}
 use Rattle.std.proofs.lemmas.Map.Lookups.{exact_pairs, exact_unsigned}
-use Rattle.tsp_bound.specs.Adjusted.{pair_of, is_same_pair}
+use Rattle.tsp_theory.specs.Adjusted.{pair_of, is_same_pair}
 use Rattle.tsp_verdict.specs.Multiplied.{IsListed, pair_at, IsUnlisted, IsPairRepeated}
 use Rattle.tsp_verdict.specs.PairSets.{undirected, pair_cmp, HasPairs}
 use Rattle.tsp_verdict.specs.Places.{IsFirstPlace}

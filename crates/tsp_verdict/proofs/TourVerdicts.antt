@@ -6,9 +6,10 @@ use Rattle.std.specs.List.{All, concat}
 use Rattle.std.proofs.lemmas.List.{append-nil}
 use Rattle.tsp_fields.specs.Fields.{Fields}
 use Rattle.tsp_fields.specs.Cost.{cost}
-use Rattle.tsp_cost.specs.Length.{length_of}
-use Rattle.tsp_cost.specs.Tour.{is_directed, Uses, IsTourOf}
-use Rattle.tsp_cost.specs.Walk.{IsWalk}
+use Rattle.tsp_walk.specs.Length.{length_of}
+use Rattle.tsp_walk.specs.Tour.{Uses}
+use Rattle.tsp_cost.specs.Tours.{is_directed, IsTourOf}
+use Rattle.tsp_walk.specs.Walk.{IsWalk}
 use Rattle.tsp_verdict.specs.declared.verdict.Reason.{Reason}
 use Rattle.tsp_verdict.specs.declared.verdict.Reason.TheVariants.{FixedEdgeUnused}
 use Rattle.tsp_verdict.specs.Places.{IsFirstPlace, HoldsAtNone, IsRepeated, IsUnused}

@@ -12,10 +12,11 @@ use Rattle.tsp_fields.specs.Fields.{Fields}
 use Rattle.tsp_fields.specs.Fields.{combs_of as lists_of_combs}
 use Rattle.tsp_fields.specs.Rules.{is_tree}
 use Rattle.tsp_fields.specs.Cost.{cost}
-use Rattle.tsp_cost.specs.Costs.{IsEven}
-use Rattle.tsp_cost.specs.Tour.{is_directed, Uses}
-use Rattle.tsp_bound.specs.Adjusted.{numbers_on}
-use Rattle.tsp_bound.specs.Numbers.{IsScale, entry, IsBoundSized}
+use Rattle.tsp_walk.specs.Costs.{IsEven}
+use Rattle.tsp_walk.specs.Tour.{Uses}
+use Rattle.tsp_cost.specs.Tours.{is_directed}
+use Rattle.tsp_theory.specs.Adjusted.{numbers_on}
+use Rattle.tsp_theory.specs.Numbers.{IsScale, entry, IsBoundSized}
 use Rattle.tsp_branch.specs.declared.steps.BranchVerdict.{BranchVerdict}
 use Rattle.tsp_branch.specs.declared.steps.BranchVerdict.TheVariants as found
 use Rattle.tsp_branch.specs.BranchVerdicts.{IsBranchVerdict}

@@ -2,9 +2,9 @@
 use Rattle.std.specs.Prelude.{◌≡◌, ◌⊎◌, ℕ, List, [], ◌∷◌, Option, Some, ℤ}
 use Rattle.tsp_fields.specs.Fields.{Fields}
 use Rattle.tsp_fields.specs.Cost.{cost}
-use Rattle.tsp_cost.specs.Length.{length_of}
-use Rattle.tsp_cost.specs.Tour.{IsTourOf}
-use Rattle.tsp_bound.specs.Numbers.{IsBoundSized}
+use Rattle.tsp_walk.specs.Length.{length_of}
+use Rattle.tsp_cost.specs.Tours.{IsTourOf}
+use Rattle.tsp_theory.specs.Numbers.{IsBoundSized}
 use Rattle.tsp_verdict.specs.declared.verdict.Reason.{Reason}
 use Rattle.tsp_verdict.specs.declared.verdict.Verdict.{Verdict}
 use Rattle.tsp_verdict.specs.declared.verdict.Verdict.TheVariants as verdicts

@@ -5,12 +5,12 @@ use Rattle.tsp_value.specs.declared.kinds.Kind.TheVariants as kinds
 use Rattle.tsp_fields.specs.Fields.{Fields}
 use Rattle.tsp_fields.specs.Rules.{is_certificate}
 use Rattle.tsp_fields.specs.Cost.{cost}
-use Rattle.tsp_cost.specs.Walk.{IsWalk}
-use Rattle.tsp_cost.specs.Length.{length_of}
-use Rattle.tsp_bound.specs.Numbers.{IsBoundSized}
-use Rattle.tsp_bound.specs.Assignment.{AreGood, IsFirstBroken, IsDualBound}
-use Rattle.tsp_cost.specs.Tour.{IsTourOf}
-use Rattle.tsp_bound.specs.Adjusted.{UsesEach, IsAdjustedBound}
+use Rattle.tsp_walk.specs.Walk.{IsWalk}
+use Rattle.tsp_walk.specs.Length.{length_of}
+use Rattle.tsp_theory.specs.Numbers.{IsBoundSized}
+use Rattle.tsp_theory.specs.Assignment.{AreGood, IsFirstBroken, IsDualBound}
+use Rattle.tsp_cost.specs.Tours.{IsTourOf}
+use Rattle.tsp_theory.specs.Adjusted.{UsesEach, IsAdjustedBound}
 use Rattle.tsp_verdict.specs.declared.verdict.Reason.{Reason}
 use Rattle.tsp_verdict.specs.declared.verdict.Reason.TheVariants.{NotPotentials, PotentialsDimension, PotentialsKind, MultiplierNotFixed, MultiplierRepeated, DualInfeasible}
 use Rattle.tsp_verdict.specs.Multiplied.{IsUnlisted, IsPairRepeated}

@@ -1,7 +1,7 @@
 -- Multipliers of fixed pairs: the triples whose pair isn't fixed, and those whose pair an earlier one has.
 use Rattle.std.specs.Prelude.{◌≡◌, ℕ, ◌-◌, ◌<◌, ◌≤◌, true, List, slice_index_or, ℤ, pos, ◌⊎◌}
 use Rattle.std.specs.List.{All, Contains}
-use Rattle.tsp_bound.specs.Adjusted.{pair_of, is_same_pair}
+use Rattle.tsp_theory.specs.Adjusted.{pair_of, is_same_pair}
 
 -- a pair is listed, in either direction
 abbrev pub IsListed : List (ℕ × ℕ) → ℕ × ℕ → Type 0

@@ -1,6 +1,6 @@
 -- Tables of what comes next on a walk.
 use Rattle.std.specs.Prelude.{◌≡◌, ℕ, ◌≤◌, List, slice_index}
-use Rattle.tsp_cost.specs.Walk.{Follows}
+use Rattle.tsp_walk.specs.Walk.{Follows}
 
 -- at each node of the walk the table has the one that comes next, and elsewhere no node
 pub record AreNext (walk next : List ℕ) : Type 0 where

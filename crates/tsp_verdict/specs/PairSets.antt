@@ -4,7 +4,7 @@ use Rattle.std.specs.BTreeSet.{BTreeSet, contains}
 use Rattle.std.specs.List.{list_any}
 use Rattle.std.specs.Ordering.{nat_cmp, ordering_then}
 use Rattle.std.specs.declared.cmp.Ordering.{Ordering}
-use Rattle.tsp_bound.specs.Adjusted.{is_same_pair}
+use Rattle.tsp_theory.specs.Adjusted.{is_same_pair}
 
 -- the same for both directions of a pair
 abbrev pub undirected : ℕ × ℕ → ℕ × ℕ

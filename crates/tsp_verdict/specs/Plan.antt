@@ -3,7 +3,7 @@ use Rattle.std.specs.Prelude.{◌≢◌, ℕ, ◌-◌, ◌≤◌, List, [], ◌�
 use Rattle.std.specs.List.{All, AllPairs, Contains, concat}
 use Rattle.tsp_value.specs.Cells.{IsNode, nodes_to}
 use Rattle.tsp_fields.specs.Fields.{Fields}
-use Rattle.tsp_cost.specs.Length.{sum_int_by, length_of}
+use Rattle.tsp_walk.specs.Length.{sum_int_by, length_of}
 use Rattle.tsp_verdict.specs.Solution.{nodes_of, visited}
 
 -- the demand of a node

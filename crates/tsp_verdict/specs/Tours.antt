@@ -5,9 +5,9 @@ use Rattle.tsp_value.specs.declared.kinds.Kind.TheVariants as kinds
 use Rattle.tsp_fields.specs.Fields.{Fields}
 use Rattle.tsp_fields.specs.Rules.{is_tours}
 use Rattle.tsp_fields.specs.Cost.{cost}
-use Rattle.tsp_cost.specs.Costs.{IsEven, IsFirstUneven}
-use Rattle.tsp_cost.specs.Length.{length_of}
-use Rattle.tsp_cost.specs.Tour.{is_directed, IsTourOf}
+use Rattle.tsp_walk.specs.Costs.{IsEven, IsFirstUneven}
+use Rattle.tsp_walk.specs.Length.{length_of}
+use Rattle.tsp_cost.specs.Tours.{is_directed, IsTourOf}
 use Rattle.tsp_verdict.specs.declared.verdict.Reason.{Reason}
 use Rattle.tsp_verdict.specs.declared.verdict.Reason.TheVariants.{NotASolution, TooFewNodes, NotSymmetric, Dimension, TourCount, TourLength, NodeOutOfRange, RepeatedNode, FixedEdgeUnused, NotPotentials, PotentialsDimension, PotentialsKind, MultiplierNotFixed, MultiplierRepeated, DualInfeasible, DepotCount, DepotDemand, FixedEdgesInRoutes, DepotInRoute, Unserved, Overload, NotBranches, BranchesDimension, BadComb, BranchTwice, BadLeaf}
 use Rattle.tsp_verdict.specs.declared.verdict.Verdict.{Verdict}

@@ -5,8 +5,8 @@ use Rattle.tsp_value.specs.Steps as listed
 use Rattle.tsp_fields.specs.Fields.{Fields}
 use Rattle.tsp_fields.specs.Rules.{is_tree}
 use Rattle.tsp_fields.specs.Cost.{cost}
-use Rattle.tsp_bound.specs.Adjusted.{is_same_pair}
-use Rattle.tsp_bound.specs.Numbers.{IsBoundSized}
+use Rattle.tsp_theory.specs.Adjusted.{is_same_pair}
+use Rattle.tsp_theory.specs.Numbers.{IsBoundSized}
 use Rattle.tsp_branch.specs.Combs.{Comb}
 use Rattle.tsp_branch.specs.CombsOfSets.{comb_with}
 use Rattle.tsp_branch.specs.Cases.{Step}

@@ -3,8 +3,8 @@
 ghost use Rattle.std.specs.Prelude.{◌≡◌, ◌+◌, ◌-◌, ◌^◌, ◌<◌, ◌≤◌, ℕ, List, length, vec_len, slice_index_or, IfOk, MatchOption, MatchBool};
 ghost use Rattle.std.specs.List.{All};
 ghost use Rattle.tsp_fields.specs.Valid.{IsPairOf};
-ghost use Rattle.tsp_cost.specs.Tour.{Uses};
-ghost use Rattle.tsp_cost.specs.Walk.{IsWalk};
+ghost use Rattle.tsp_walk.specs.Tour.{Uses};
+ghost use Rattle.tsp_walk.specs.Walk.{IsWalk};
 ghost use Rattle.tsp_verdict.specs.Places.{IsFirstPlace, IsUnused};
 ghost use Rattle.tsp_verdict.specs.Next.{AreNext};
 

@@ -2,7 +2,7 @@
 
 ghost use Rattle.std.specs.Prelude.{◌≡◌, ◌^◌, ◌<◌, ℕ, List, false, length, IfOk, MatchOption};
 ghost use Rattle.std.specs.List.{AllPairs};
-ghost use Rattle.tsp_bound.specs.Adjusted.{pair_of, is_same_pair};
+ghost use Rattle.tsp_theory.specs.Adjusted.{pair_of, is_same_pair};
 ghost use Rattle.tsp_verdict.specs.Multiplied.{AreListed, IsUnlisted, IsPairRepeated};
 ghost use Rattle.tsp_verdict.specs.PairSets.{undirected, HasPairs};
 ghost use Rattle.tsp_verdict.specs.Places.{IsFirstPlace};

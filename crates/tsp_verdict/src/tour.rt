@@ -3,7 +3,7 @@
 ghost use Rattle.std.specs.Prelude.{◌≡◌, ◌⊎◌, ◌<◌, ◌≤◌, [], ◌∷◌, length, Some, MatchOption, MatchResult};
 ghost use Rattle.std.specs.List.{All};
 ghost use Rattle.tsp_value.specs.declared.kinds.Kind.TheVariants as kinds;
-ghost use Rattle.tsp_cost.specs.Tour.{is_directed};
+ghost use Rattle.tsp_cost.specs.Tours.{is_directed};
 ghost use Rattle.tsp_verdict.specs.Solution.{nodes_of, tours_of};
 ghost use Rattle.tsp_verdict.specs.Tours.{NoneUpTo, IsFirstAgainst, IsEvenTsp, FindsLength, IsVerdict, NoneBeforeRepeats};
 

@@ -1,9 +1,9 @@
 use Rattle.std.proofs.Common.{rules, arith, sym, ◌∙◌, FitsSigned, to_z, of_z}
 use Rattle.std.specs.Int.{w128}
 use Rattle.std.proofs.lemmas.Int.{to_z-of_z}
-use Rattle.tsp_bound.specs.Numbers.{total}
-use Rattle.tsp_bound.specs.Assignment.{AreGood, IsDualBound}
-use Rattle.tsp_bound.proofs.Sizes.{bound_of_sums}
+use Rattle.tsp_theory.specs.Numbers.{total}
+use Rattle.tsp_theory.specs.Assignment.{AreGood, IsDualBound}
+use Rattle.tsp_theory.proofs.Sizes.{bound_of_sums}
 use Rattle.tsp_bound.proofs.assignment.dual_bound.Goals as goal
 
 pub returns : goal.returns

@@ -1,6 +1,6 @@
 use Rattle.std.proofs.Common.{◌-◌, ◌<◌, length, arith}
 use Rattle.std.specs.Prelude.{pos, slice_index_or}
-use Rattle.tsp_bound.proofs.Sizes.{fit_decided}
+use Rattle.tsp_theory.proofs.Sizes.{fit_decided}
 use Rattle.tsp_bound.proofs.assignment.fits.Goals as goal
 
 pub returns : goal.returns

@@ -1,4 +1,4 @@
-use Rattle.tsp_bound.proofs.Sizes.{product_fits, product_is, scaled_size}
+use Rattle.tsp_theory.proofs.Sizes.{product_fits, product_is, scaled_size}
 use Rattle.tsp_bound.proofs.boxes.at_scale.Goals as goal
 
 pub overflow_mul-result : goal.overflow_mul-result

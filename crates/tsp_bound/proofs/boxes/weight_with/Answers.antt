@@ -1,9 +1,9 @@
 use Rattle.std.proofs.Common.{◌≡◌, ◌-◌, ◌<◌, ℤ, length, arith, ap, ◌∙◌, w64, to_z, of_z}
 use Rattle.std.specs.Prelude.{pos, ◌+ℤ◌, ◌*ℤ◌}
 use Rattle.tsp_value.specs.Limits.{most_weight}
-use Rattle.tsp_bound.specs.Numbers.{entry}
-use Rattle.tsp_bound.proofs.Sizes.{same_64}
-use Rattle.tsp_bound.proofs.Weights.{weight_fits, weight_computed, scaled_by}
+use Rattle.tsp_theory.specs.Numbers.{entry}
+use Rattle.tsp_theory.proofs.Sizes.{same_64}
+use Rattle.tsp_theory.proofs.Weights.{weight_fits, weight_computed, scaled_by}
 use Rattle.tsp_bound.proofs.boxes.weight_with.Goals as goal
 
 pub overflow_add-result : goal.overflow_add-result

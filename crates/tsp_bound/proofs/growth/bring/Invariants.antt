@@ -1,5 +1,5 @@
 use Rattle.tsp_bound.specs.Potentials.{weight_under}
-use Rattle.tsp_bound.proofs.Nearest.{IsBrought}
+use Rattle.tsp_theory.proofs.Nearest.{IsBrought}
 use Rattle.tsp_bound.proofs.growth.bring.Given as goal
 
 abbrev pub invariant-nodes : goal.invariant-nodes

@@ -5,13 +5,13 @@ use Rattle.std.proofs.lemmas.Int.{to_z-of_z}
 use Rattle.std.proofs.lemmas.Int.{ints}
 use Rattle.std.proofs.lemmas.List.{take_more, take_all}
 use Rattle.tsp_value.specs.Limits.{most_nodes}
-use Rattle.tsp_bound.specs.Numbers.{IsSumSized}
-use Rattle.tsp_bound.specs.Growth.{AllInside, IsNearestOutside, Grows, is_inside}
-use Rattle.tsp_bound.specs.Tree.{IsInner}
+use Rattle.tsp_theory.specs.Numbers.{IsSumSized}
+use Rattle.tsp_theory.specs.Growth.{AllInside, IsNearestOutside, Grows, is_inside}
+use Rattle.tsp_theory.specs.Tree.{IsInner}
 use Rattle.tsp_bound.specs.Multipliers.{triples_in, weight_less}
-use Rattle.tsp_bound.proofs.Nearest.{most_64}
-use Rattle.tsp_bound.proofs.Steps.{start_after, state_after, state_after_by, state_end, room_more, nearest_after, grows_at, IsState}
-use Rattle.tsp_bound.proofs.Weights.{sum_more, sum_fits, sum_computed, sum_pushed}
+use Rattle.tsp_theory.proofs.Nearest.{most_64}
+use Rattle.tsp_theory.proofs.Steps.{start_after, state_after, state_after_by, state_end, room_more, nearest_after, grows_at, IsState}
+use Rattle.tsp_theory.proofs.Weights.{sum_more, sum_fits, sum_computed, sum_pushed}
 use Rattle.tsp_bound.proofs.growth.grow_on.Goals as goal
 
 pub again-init : goal.again-init

@@ -1,9 +1,9 @@
 use Rattle.std.proofs.Common.{◌≡◌, ◌-◌, take, length, MatchOption}
-use Rattle.tsp_bound.specs.Numbers.{IsSumSized}
-use Rattle.tsp_bound.specs.Tree.{weight_of}
-use Rattle.tsp_bound.specs.Growth.{AllInside, IsNearestOutside}
+use Rattle.tsp_theory.specs.Numbers.{IsSumSized}
+use Rattle.tsp_theory.specs.Tree.{weight_of}
+use Rattle.tsp_theory.specs.Growth.{AllInside, IsNearestOutside}
 use Rattle.tsp_bound.specs.Multipliers.{triples_in, weight_less}
-use Rattle.tsp_bound.proofs.Steps.{IsState}
+use Rattle.tsp_theory.proofs.Steps.{IsState}
 use Rattle.tsp_bound.proofs.growth.grow_on.Given as goal
 
 abbrev pub invariant-again : goal.invariant-again

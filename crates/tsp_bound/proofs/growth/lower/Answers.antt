@@ -3,9 +3,9 @@ use Rattle.std.specs.Prelude.{ℤ, pos, ◌-ℤ◌, slice_index_or}
 use Rattle.std.specs.Int.{w64}
 use Rattle.std.proofs.lemmas.List.{get_or_default}
 use Rattle.tsp_bound.specs.Potentials.{weight_under}
-use Rattle.tsp_bound.proofs.Nearest.{taken_by_set}
+use Rattle.tsp_theory.proofs.Nearest.{taken_by_set}
 use Rattle.tsp_bound.proofs.Lowered.{lowered_inside, lowered_outside}
-use Rattle.tsp_bound.proofs.Weights.{lower_fits, lower_is}
+use Rattle.tsp_theory.proofs.Weights.{lower_fits, lower_is}
 use Rattle.tsp_bound.proofs.growth.lower.Goals as goal
 use Rattle.tsp_bound.proofs.growth.lower.Goals.{then-not-inside-place, else-not-inside-place}
 

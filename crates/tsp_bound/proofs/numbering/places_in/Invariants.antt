@@ -1,5 +1,5 @@
 use Rattle.std.proofs.Common.{◌≡◌, ◌≤◌, ◌<◌, ◌+◌, ℕ, length, slice_index_or}
-use Rattle.tsp_bound.specs.Tree.{IsInner}
+use Rattle.tsp_theory.specs.Tree.{IsInner}
 use Rattle.tsp_bound.proofs.numbering.places_in.Given as goal
 
 abbrev pub invariant-write : goal.invariant-write

@@ -3,12 +3,12 @@ use Rattle.std.specs.List.{All}
 use Rattle.std.specs.Prelude.{ℤ}
 use Rattle.std.proofs.lemmas.List.{get_or_read}
 use Rattle.tsp_bound.specs.Boxes.{node_at}
-use Rattle.tsp_bound.specs.Growth.{Grows, IsPartGrowth}
+use Rattle.tsp_theory.specs.Growth.{Grows, IsPartGrowth}
 use Rattle.tsp_bound.specs.Heap.{IsBelow}
 use Rattle.tsp_bound.specs.Numbering.{both}
-use Rattle.tsp_bound.specs.Numbers.{IsSumSized}
+use Rattle.tsp_theory.specs.Numbers.{IsSumSized}
 use Rattle.tsp_bound.specs.Multipliers.{triples_in, weight_less}
-use Rattle.tsp_bound.specs.Tree.{weight_of}
+use Rattle.tsp_theory.specs.Tree.{weight_of}
 use Rattle.tsp_bound.specs.declared.growth.Grown.{Grown}
 use Rattle.tsp_bound.proofs.Marks.{few_pairs, ends_below}
 use Rattle.tsp_bound.proofs.Parts.{start_in, weights_seen, growth_seen, part_of, if_ok_all}

@@ -6,9 +6,9 @@ use Rattle.tsp_bound.specs.Boxes.{node_at}
 use Rattle.tsp_bound.specs.Numbering.{both}
 use Rattle.tsp_bound.specs.Multipliers.{triples_in, weight_less}
 use Rattle.tsp_bound.specs.Potentials.{weight_under}
-use Rattle.tsp_bound.specs.Tree.{weight_of}
+use Rattle.tsp_theory.specs.Tree.{weight_of}
 use Rattle.tsp_bound.proofs.Parts.{map_more, less_value}
-use Rattle.tsp_bound.proofs.Weights.{lower_fits, lower_is, sum_more, sum_computed, weight_added}
+use Rattle.tsp_theory.proofs.Weights.{lower_fits, lower_is, sum_more, sum_computed, weight_added}
 use Rattle.tsp_bound.proofs.part.weighed.Goals as goal
 
 pub pairs-preserved : goal.pairs-preserved

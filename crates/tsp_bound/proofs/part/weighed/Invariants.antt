@@ -1,9 +1,9 @@
 use Rattle.std.proofs.Common.{◌≡◌, length, map, take}
 use Rattle.tsp_bound.specs.Boxes.{node_at}
 use Rattle.tsp_bound.specs.Numbering.{both}
-use Rattle.tsp_bound.specs.Numbers.{IsSumSized}
+use Rattle.tsp_theory.specs.Numbers.{IsSumSized}
 use Rattle.tsp_bound.specs.Multipliers.{triples_in, weight_less}
-use Rattle.tsp_bound.specs.Tree.{weight_of}
+use Rattle.tsp_theory.specs.Tree.{weight_of}
 use Rattle.tsp_bound.proofs.part.weighed.Given as goal
 
 abbrev pub invariant-pairs : goal.invariant-pairs

@@ -1,6 +1,6 @@
 use Rattle.std.proofs.Common.{ap, ◌∙◌}
 use Rattle.std.specs.Prelude.{◌*ℤ◌}
-use Rattle.tsp_bound.proofs.Sizes.{product_fits, product_is, scaled_size}
+use Rattle.tsp_theory.proofs.Sizes.{product_fits, product_is, scaled_size}
 use Rattle.tsp_bound.proofs.scaled.scaled_cost.Goals as goal
 
 pub overflow_mul-result : goal.overflow_mul-result

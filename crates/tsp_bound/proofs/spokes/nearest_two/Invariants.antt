@@ -1,6 +1,6 @@
 use Rattle.std.proofs.Common.{◌-◌, length}
-use Rattle.tsp_bound.specs.Growth.{least_at}
-use Rattle.tsp_bound.proofs.TwoNearest.{AreNearestBefore}
+use Rattle.tsp_theory.specs.Growth.{least_at}
+use Rattle.tsp_theory.proofs.TwoNearest.{AreNearestBefore}
 use Rattle.tsp_bound.proofs.spokes.nearest_two.Given as goal
 
 abbrev pub invariant-nodes : goal.invariant-nodes

@@ -1,13 +1,13 @@
 use Rattle.std.proofs.Common.{◌≡◌, ◌∙◌, [], ap, ap₂, sym, rules, FitsSigned}
 use Rattle.std.specs.Prelude.{◌+ℤ◌}
 use Rattle.std.specs.Int.{w64}
-use Rattle.tsp_bound.specs.Tree.{weight_of}
-use Rattle.tsp_bound.specs.Growth.{tree_of}
+use Rattle.tsp_theory.specs.Tree.{weight_of}
+use Rattle.tsp_theory.specs.Growth.{tree_of}
 use Rattle.tsp_bound.specs.Potentials.{weight_under}
 use Rattle.tsp_bound.specs.Multipliers.{triples_in, weight_less}
-use Rattle.tsp_bound.proofs.Adjustments.{adjusted_even}
-use Rattle.tsp_bound.proofs.OneTrees.{least_from_growth}
-use Rattle.tsp_bound.proofs.Weights.{weight_even, tree_fits, tree_size, tree_computed, weight_of_tree}
+use Rattle.tsp_theory.proofs.Adjustments.{adjusted_even}
+use Rattle.tsp_theory.proofs.OneTrees.{least_from_growth}
+use Rattle.tsp_theory.proofs.Weights.{weight_even, tree_fits, tree_size, tree_computed, weight_of_tree}
 use Rattle.tsp_bound.proofs.tree.least_edges.Goals as goal
 
 pub overflow_add-result : goal.overflow_add-result

@@ -2,11 +2,11 @@ use Rattle.std.proofs.Common.{◌≡◌, ℕ, List, [], subst, ◌∙◌, arith,
 use Rattle.std.specs.Prelude.{ℤ}
 use Rattle.std.specs.Int.{w128}
 use Rattle.std.proofs.lemmas.Int.{to_z-of_z}
-use Rattle.tsp_bound.specs.Numbers.{total}
-use Rattle.tsp_bound.specs.Tree.{weight_of, IsLeastOneTree}
-use Rattle.tsp_bound.specs.Adjusted.{total_of, IsAdjustedBoundOf, IsAdjustedBound}
+use Rattle.tsp_theory.specs.Numbers.{total}
+use Rattle.tsp_theory.specs.Tree.{weight_of, IsLeastOneTree}
+use Rattle.tsp_theory.specs.Adjusted.{total_of, IsAdjustedBoundOf, IsAdjustedBound}
 use Rattle.tsp_bound.specs.Multipliers.{weight_less}
-use Rattle.tsp_bound.proofs.Weights.{sum_of_bound, bound_of_weight, tree_same}
+use Rattle.tsp_theory.proofs.Weights.{sum_of_bound, bound_of_weight, tree_same}
 use Rattle.tsp_bound.proofs.tree.one_tree.Goals as goal
 
 pub least_bound-bound-requires-clause-size : goal.least_bound-bound-requires-clause-size

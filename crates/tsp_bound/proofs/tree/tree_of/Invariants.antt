@@ -1,5 +1,5 @@
 use Rattle.std.proofs.Common.{◌≡◌, take}
-use Rattle.tsp_bound.specs.Growth.{tree_of}
+use Rattle.tsp_theory.specs.Growth.{tree_of}
 use Rattle.tsp_bound.proofs.tree.tree_of.Given as goal
 
 abbrev pub invariant-added : goal.invariant-added

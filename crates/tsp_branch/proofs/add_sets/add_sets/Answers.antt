@@ -4,7 +4,7 @@ use Rattle.std.specs.Prelude.{pos, ◌*ℤ◌}
 use Rattle.std.specs.Global.{Vec}
 use Rattle.std.proofs.lemmas.Int.{ints}
 use Rattle.std.proofs.lemmas.List.{drop_all}
-use Rattle.tsp_bound.specs.Growth.{least_at}
+use Rattle.tsp_theory.specs.Growth.{least_at}
 use Rattle.tsp_branch.specs.Sets.{IsMoved, added}
 use Rattle.tsp_branch.specs.Combed.{plain, twice_in, inside_both}
 use Rattle.tsp_branch.proofs.SetSums.{moved_on}

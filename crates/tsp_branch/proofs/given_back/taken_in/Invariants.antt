@@ -1,7 +1,7 @@
 use Rattle.std.proofs.Common.{◌≡◌, ◌*◌, drop}
 use Rattle.std.specs.Prelude.{pos, ◌+ℤ◌}
-use Rattle.tsp_bound.specs.Numbers.{IsFromTo}
-use Rattle.tsp_bound.specs.Adjusted.{total_of}
+use Rattle.tsp_theory.specs.Numbers.{IsFromTo}
+use Rattle.tsp_theory.specs.Adjusted.{total_of}
 use Rattle.tsp_branch.specs.Decisions.{on_taken}
 use Rattle.tsp_branch.specs.Decided.{decided_number, case_of}
 use Rattle.tsp_branch.proofs.given_back.taken_in.Given as goal

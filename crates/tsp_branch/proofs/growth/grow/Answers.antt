@@ -4,10 +4,10 @@ use Rattle.std.specs.Prelude.{pos, ◌<ℤ◌}
 use Rattle.std.proofs.lemmas.Int.{ints}
 use Rattle.std.proofs.lemmas.List.{get_or-replicate, get_or_default}
 use Rattle.tsp_value.specs.Limits.{most_nodes}
-use Rattle.tsp_bound.specs.Growth.{least_at}
-use Rattle.tsp_bound.proofs.Nearest.{most_64}
-use Rattle.tsp_bound.proofs.Steps.{written_back}
-use Rattle.tsp_bound.proofs.Weights.{sum_more, sum_computed}
+use Rattle.tsp_theory.specs.Growth.{least_at}
+use Rattle.tsp_theory.proofs.Nearest.{most_64}
+use Rattle.tsp_theory.proofs.Steps.{written_back}
+use Rattle.tsp_theory.proofs.Weights.{sum_more, sum_computed}
 use Rattle.tsp_branch.specs.Outside.{AreFromThree, AreLower, IsLeastPlace}
 use Rattle.tsp_branch.proofs.Outside.{removed_length}
 use Rattle.tsp_branch.proofs.GrowthStates.{state_start, state_more}

@@ -1,4 +1,4 @@
-use Rattle.tsp_bound.proofs.CostLaws.{Laws}
+use Rattle.tsp_theory.proofs.CostLaws.{Laws}
 use Rattle.tsp_branch.proofs.LeafBounds.{leaf_bounds_bound_walks, uncombed_bounds_are_adjusted_bounds}
 use Rattle.tsp_branch.proofs.laws.leaf_bounds_bound_walks.Goals as goal
 

@@ -1,4 +1,4 @@
-use Rattle.tsp_bound.proofs.Division.{least_computed}
+use Rattle.tsp_theory.proofs.Division.{least_computed}
 use Rattle.tsp_branch.proofs.leaf.rounded_up.Goals as goal
 
 pub returns : goal.returns

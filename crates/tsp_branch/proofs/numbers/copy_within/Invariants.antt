@@ -1,5 +1,5 @@
 use Rattle.std.proofs.Common.{◌≡◌, ◌<◌, ℕ, ℤ, take, length, get_or}
-use Rattle.tsp_bound.specs.Numbers.{IsFromTo}
+use Rattle.tsp_theory.specs.Numbers.{IsFromTo}
 use Rattle.tsp_branch.proofs.numbers.copy_within.Given as goal
 
 abbrev pub invariant-numbers : goal.invariant-numbers

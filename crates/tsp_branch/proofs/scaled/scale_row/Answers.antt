@@ -6,9 +6,9 @@ use Rattle.std.proofs.lemmas.Int.{to_z-of_z}
 use Rattle.std.proofs.lemmas.List.{get_or-set_same, get_or-set_other}
 use Rattle.std.proofs.Math.ListN.{set}
 use Rattle.tsp_value.specs.Limits.{most_weight}
-use Rattle.tsp_bound.specs.Numbers.{IsFromTo}
-use Rattle.tsp_bound.specs.Growth.{least_at}
-use Rattle.tsp_bound.proofs.Sizes.{product_is, same_scale}
+use Rattle.tsp_theory.specs.Numbers.{IsFromTo}
+use Rattle.tsp_theory.specs.Growth.{least_at}
+use Rattle.tsp_theory.proofs.Sizes.{product_is, same_scale}
 use Rattle.tsp_branch.proofs.scaled.scale_row.Goals as goal
 
 pub places-preserved : goal.places-preserved

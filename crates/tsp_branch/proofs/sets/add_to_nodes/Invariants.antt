@@ -1,5 +1,5 @@
 use Rattle.std.proofs.Common.{ℕ, ℤ, drop}
-use Rattle.tsp_bound.specs.Growth.{least_at}
+use Rattle.tsp_theory.specs.Growth.{least_at}
 use Rattle.tsp_branch.specs.Sets.{IsMoved, added}
 use Rattle.tsp_branch.proofs.sets.add_to_nodes.Given as goal
 

@@ -1,7 +1,7 @@
 use Rattle.std.proofs.Common.{◌≡◌, ◌∙◌, ◌-◌, ℕ, List, length, subst, arith}
 use Rattle.std.specs.Prelude.{ℤ}
-use Rattle.tsp_bound.specs.Growth.{AreNearest, least_at}
-use Rattle.tsp_bound.proofs.TwoNearest.{nearest_by_row}
+use Rattle.tsp_theory.specs.Growth.{AreNearest, least_at}
+use Rattle.tsp_theory.proofs.TwoNearest.{nearest_by_row}
 use Rattle.tsp_branch.proofs.spokes.two_spokes.Goals as goal
 
 pub nearest_two-requires-clause-some : goal.nearest_two-requires-clause-some

@@ -3,7 +3,7 @@ use Rattle.std.specs.Prelude.{MatchOption}
 use Rattle.std.specs.Int.{w128}
 use Rattle.std.proofs.lemmas.Int.{to_z-of_z}
 use Rattle.tsp_value.specs.declared.kinds.Kind.TheVariants as kinds
-use Rattle.tsp_bound.specs.Adjusted.{AreOnPairs}
+use Rattle.tsp_theory.specs.Adjusted.{AreOnPairs}
 use Rattle.tsp_verdict.specs.Certificate.{multipliers_in, StandsAgainst}
 use Rattle.tsp_verdict.specs.Multiplied.{AreListed}
 use Rattle.tsp_verdict.specs.Reasons.{IsFirstReason}

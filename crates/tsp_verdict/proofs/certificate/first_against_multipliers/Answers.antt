@@ -1,7 +1,7 @@
 use Rattle.std.proofs.Common.{◌≡◌, false, subst}
 use Rattle.std.specs.Prelude.{MatchOption}
 use Rattle.std.specs.List.{AllPairs}
-use Rattle.tsp_bound.specs.Adjusted.{pair_of, is_same_pair}
+use Rattle.tsp_theory.specs.Adjusted.{pair_of, is_same_pair}
 use Rattle.tsp_verdict.specs.Multiplied.{AreListed, IsUnlisted, IsPairRepeated}
 use Rattle.tsp_verdict.specs.Places.{IsFirstPlace}
 use Rattle.tsp_verdict.proofs.Certificates.{not_fixed, repeats, multiplied}

@@ -1,6 +1,6 @@
 use Rattle.std.proofs.Common.{◌≡◌, ◌<◌, ℕ, List}
 use Rattle.std.specs.Prelude.{slice_index_or}
-use Rattle.tsp_cost.specs.Tour.{Uses}
+use Rattle.tsp_walk.specs.Tour.{Uses}
 use Rattle.tsp_verdict.specs.Next.{AreNext}
 use Rattle.tsp_verdict.proofs.fixed.first_unused.Given as goal
 

@@ -1,7 +1,7 @@
 use Rattle.std.proofs.Common.{◌≡◌, ◌+◌, false, true, sym, subst, ◌∙◌, arith}
 use Rattle.std.specs.BTreeSet.{contains}
 use Rattle.std.specs.Prelude.{pos, slice_index_or}
-use Rattle.tsp_bound.specs.Adjusted.{pair_of}
+use Rattle.tsp_theory.specs.Adjusted.{pair_of}
 use Rattle.tsp_verdict.specs.Multiplied.{IsUnlisted}
 use Rattle.tsp_verdict.specs.PairSets.{undirected, pair_cmp}
 use Rattle.tsp_verdict.specs.Places.{IsFirstPlace}

@@ -2,7 +2,7 @@ use Rattle.std.proofs.Common.{◌≡◌, ◌+◌, false, true, sym, subst, ◌�
 use Rattle.std.specs.BTreeSet.{contains, Updates}
 use Rattle.std.specs.Prelude.{pos, slice_index_or}
 use Rattle.std.proofs.lemmas.Bool.{not-false, not-true}
-use Rattle.tsp_bound.specs.Adjusted.{pair_of}
+use Rattle.tsp_theory.specs.Adjusted.{pair_of}
 use Rattle.tsp_verdict.specs.Multiplied.{IsPairRepeated}
 use Rattle.tsp_verdict.specs.PairSets.{undirected, pair_cmp}
 use Rattle.tsp_verdict.specs.Places.{IsFirstPlace}

@@ -4,8 +4,8 @@ use Rattle.std.specs.Int.{w64}
 use Rattle.std.specs.List.{All}
 use Rattle.std.proofs.lemmas.Int.{to_z-of_z}
 use Rattle.tsp_fields.specs.Fields.{Fields}
-use Rattle.tsp_cost.specs.Tour.{is_directed}
-use Rattle.tsp_cost.specs.Walk.{IsWalk}
+use Rattle.tsp_cost.specs.Tours.{is_directed}
+use Rattle.tsp_walk.specs.Walk.{IsWalk}
 use Rattle.tsp_verdict.specs.Next.{AreNext}
 use Rattle.tsp_verdict.specs.Solution.{nodes_of}
 use Rattle.tsp_verdict.specs.Tours.{NoneUpTo}

@@ -8,7 +8,7 @@ use Rattle.tsp_value.specs.Limits.{most_fixed}
 use Rattle.tsp_value.specs.Steps.{step_of, steps_of}
 use Rattle.tsp_fields.specs.Fields.{combs_of}
 use Rattle.tsp_fields.specs.Valid.{IsPairOf}
-use Rattle.tsp_bound.specs.Numbers.{IsScale}
+use Rattle.tsp_theory.specs.Numbers.{IsScale}
 use Rattle.tsp_branch.specs.declared.steps.BranchVerdict.TheVariants as found
 use Rattle.tsp_branch.specs.BranchVerdicts.{IsBranchVerdict, IsSizedVerdict}
 use Rattle.tsp_branch.specs.Combed.{plain}

@@ -1,6 +1,6 @@
 use Rattle.std.proofs.Common.{ℕ, ap, ◌∙◌}
 use Rattle.std.proofs.lemmas.List.Elements.{recursion_from_All}
-use Rattle.tsp_bound.specs.Numbers.{IsMultiplier}
+use Rattle.tsp_theory.specs.Numbers.{IsMultiplier}
 use Rattle.tsp_bound.proofs.Tables.{are_lowerings, lowered_said}
 use Rattle.tsp_bound.proofs.by_node.ByNode.at.Goals as goal
 

@@ -6,11 +6,11 @@ use Rattle.std.proofs.lemmas.List.{get_or_default}
 use Rattle.tsp_bound.specs.Boxes.{node_at}
 use Rattle.tsp_bound.specs.Multipliers.{triples_in, nodes_in, weight_less}
 use Rattle.tsp_bound.specs.Potentials.{weight_under}
-use Rattle.tsp_bound.specs.Tree.{IsInner}
+use Rattle.tsp_theory.specs.Tree.{IsInner}
 use Rattle.tsp_bound.proofs.Boxed.{less_seen, not_less_seen}
 use Rattle.tsp_bound.proofs.Lowered.{AreLess}
 use Rattle.tsp_bound.proofs.Lowest.{ArePlaces, lowest_kept, lowest_taken, lowest_end}
-use Rattle.tsp_bound.proofs.Weights.{lower_fits, lower_is}
+use Rattle.tsp_theory.proofs.Weights.{lower_fits, lower_is}
 use Rattle.tsp_bound.proofs.nodes.Nodes.lowered.Goals as goal
 use Rattle.tsp_bound.proofs.nodes.Nodes.lowered.Goals.{in-Some+then-weight-best, in-Some+else-weight-best, in_default}
 

@@ -3,10 +3,10 @@ use Rattle.std.specs.Int.{w64, int_wrap}
 use Rattle.std.specs.Prelude.{pos, neg_ℤ, ◌+ℤ◌, ◌*ℤ◌}
 use Rattle.std.proofs.lemmas.Int.{to_z-of_z}
 use Rattle.tsp_value.specs.Limits.{most_scale, most_weight}
-use Rattle.tsp_bound.specs.Numbers.{IsFromTo, entry}
-use Rattle.tsp_bound.specs.Growth.{least_at}
-use Rattle.tsp_bound.proofs.Weights.{between_size}
-use Rattle.tsp_bound.proofs.Sizes.{same_scale, scaled_size}
+use Rattle.tsp_theory.specs.Numbers.{IsFromTo, entry}
+use Rattle.tsp_theory.specs.Growth.{least_at}
+use Rattle.tsp_theory.proofs.Weights.{between_size}
+use Rattle.tsp_theory.proofs.Sizes.{same_scale, scaled_size}
 use Rattle.tsp_branch.specs.Combed.{plain, multipliers_at}
 use Rattle.tsp_branch.proofs.SetAlgebra.{apart_is}
 use Rattle.tsp_branch.proofs.combed.CombedWeights.fill_apart.Goals as goal

@@ -5,10 +5,10 @@ use Rattle.std.specs.List.{All, AllPairs}
 use Rattle.std.proofs.lemmas.Int.{ints}
 use Rattle.std.proofs.lemmas.List.Elements.{recursion_from_All, All-from_recursion}
 use Rattle.tsp_value.specs.Cells.{IsNode}
-use Rattle.tsp_bound.specs.Numbers.{IsFromTo}
-use Rattle.tsp_bound.specs.NodeBound.{weight_between}
-use Rattle.tsp_bound.specs.Growth.{least_at}
-use Rattle.tsp_bound.specs.Tree.{IsInner}
+use Rattle.tsp_theory.specs.Numbers.{IsFromTo}
+use Rattle.tsp_theory.specs.NodeBound.{weight_between}
+use Rattle.tsp_theory.specs.Growth.{least_at}
+use Rattle.tsp_theory.specs.Tree.{IsInner}
 use Rattle.tsp_branch.specs.Sets.{IsMoved, sets_with}
 use Rattle.tsp_branch.specs.Combed.{plain, multipliers_at, inside_both, set_crossings, most_combed, set_weight}
 use Rattle.tsp_branch.proofs.CombSizes.{combed_size, combed_fits}

@@ -1,10 +1,10 @@
 use Rattle.std.proofs.Common.{◌≡◌, ℕ, ℤ, List, Bool, arith, sym, subst}
 use Rattle.std.specs.Prelude.{◌+ℤ◌, pos, neg_ℤ, ◌<ℤ◌}
 use Rattle.std.proofs.lemmas.Int.{ints}
-use Rattle.tsp_bound.specs.Numbers.{IsFromTo}
-use Rattle.tsp_bound.specs.Tree.{IsInner}
-use Rattle.tsp_bound.specs.Growth.{least_at}
-use Rattle.tsp_bound.proofs.Nearest.{most_64}
+use Rattle.tsp_theory.specs.Numbers.{IsFromTo}
+use Rattle.tsp_theory.specs.Tree.{IsInner}
+use Rattle.tsp_theory.specs.Growth.{least_at}
+use Rattle.tsp_theory.proofs.Nearest.{most_64}
 use Rattle.tsp_branch.specs.Combed.{plain, set_weight}
 use Rattle.tsp_branch.specs.Decided.{decided, decided_twice, changes}
 use Rattle.tsp_branch.proofs.Changes.{changes_are, within}

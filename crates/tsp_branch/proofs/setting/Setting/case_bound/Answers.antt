@@ -4,7 +4,7 @@ use Rattle.std.specs.Global.{Vec}
 use Rattle.std.specs.List.{All}
 use Rattle.std.proofs.lemmas.Int.{to_z-of_z}
 use Rattle.std.proofs.lemmas.Result.{IfOk-weaker}
-use Rattle.tsp_bound.proofs.Sizes.{same_scale}
+use Rattle.tsp_theory.proofs.Sizes.{same_scale}
 use Rattle.tsp_branch.specs.Combs.{Comb, IsComb}
 use Rattle.tsp_branch.specs.Decisions.{Decision, on_taken, on_avoided}
 use Rattle.tsp_branch.specs.LeafBound.{IsLeafBound}

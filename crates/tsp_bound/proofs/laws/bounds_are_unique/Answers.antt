@@ -1,5 +1,0 @@
-use Rattle.tsp_bound.proofs.Duality.{one_bound, one_node_bound}
-use Rattle.tsp_bound.proofs.laws.bounds_are_unique.Goals as goal
-
-pub returns : goal.returns
-returns c = record { sum = one_bound; potentials = one_node_bound }

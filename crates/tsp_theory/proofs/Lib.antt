@@ -1,0 +1,16 @@
+pub mod Adjustments
+pub mod CostLaws
+pub mod Crossings
+pub mod Division
+pub mod Duality
+pub mod Exchange
+pub mod Nearest
+pub mod Neighbours
+pub mod OneTrees
+pub mod Sizes
+pub mod SmallTrees
+pub mod Steps
+pub mod Tours
+pub mod TwoNearest
+pub mod Walks
+pub mod Weights

@@ -1,0 +1,16 @@
+use Rattle.tsp_theory.proofs.CostLaws.{Laws}
+use Rattle.tsp_theory.proofs.Adjustments.{adjusted_bounds_bound_walks, unadjusted_bounds_are_node_bounds}
+use Rattle.tsp_theory.proofs.laws.adjusted_bounds_bound_walks.Goals as goal
+
+pub returns : goal.returns
+returns c =
+    let laws : Laws = record {
+      permutation = c.walks_are_permutations.ensures.permutation;
+      sum_of_walk = c.walks_are_permutations.ensures.sum;
+      by_first = c.lengths_add_up.ensures.by_first;
+      by_second = c.lengths_add_up.ensures.by_second;
+      sum = c.lengths_add_up.ensures.sum;
+      scale = c.lengths_add_up.ensures.scale;
+      no_loops = c.walks_have_no_loops.ensures;
+    } in
+    record { walks = adjusted_bounds_bound_walks laws; unadjusted = unadjusted_bounds_are_node_bounds }
