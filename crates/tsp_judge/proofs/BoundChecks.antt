@@ -11,9 +11,9 @@ use Rattle.tsp_stream.specs.Sink.{Sink, IsUnwritten, HasWritten}
 use Rattle.tsp_fields.specs.Fields.{Fields}
 use Rattle.tsp_fields.specs.Rules.{is_instance, is_certificate, is_tree}
 use Rattle.tsp_fields.specs.Cost.{cost}
-use Rattle.tsp_cost.specs.Length.{length_of}
+use Rattle.tsp_walk.specs.Length.{length_of}
 use Rattle.tsp_read.specs.Reads.{IsFile}
-use Rattle.tsp_bound.specs.Numbers.{IsBoundSized as IsSmall}
+use Rattle.tsp_theory.specs.Numbers.{IsBoundSized as IsSmall}
 use Rattle.tsp_verdict.specs.declared.verdict.Reason.TheVariants.{NotASolution, NotPotentials, NotBranches}
 use Rattle.tsp_verdict.specs.declared.verdict.Verdict.{Verdict}
 use Rattle.tsp_verdict.specs.declared.verdict.Verdict.TheVariants as verdicts
@@ -22,7 +22,7 @@ use Rattle.tsp_judge.specs.declared.certificate.Certificate.TheVariants.{Potenti
 use Rattle.tsp_judge.specs.declared.fault.RunFault.{RunFault}
 use Rattle.tsp_judge.specs.declared.fault.RunFault.TheVariants.{File, WrongKind, Write, OutOfMemory, Relayout}
 use Rattle.tsp_judge.specs.Judged.{is_yes}
-use Rattle.tsp_judge.specs.Report.{report_of, IsBoundSized, IsSized}
+use Rattle.tsp_report.specs.Report.{report_of, IsBoundSized, IsSized}
 use Rattle.tsp_judge.specs.Run.{ReadsFile, Answers, told}
 use Rattle.tsp_judge.proofs.Checks.{a_file_of_tours}
 use Rattle.tsp_judge.specs.BoundRun.{is_bounded, IsVerdictWith, IsJudged, IsBoundRun, IsBoundVerdictRun, IsAYes, IsCheckBy, IsVerdictCheckBy}

@@ -18,7 +18,7 @@ use Rattle.tsp_verdict.specs.declared.verdict.Reason.TheVariants.{NotASolution}
 use Rattle.tsp_verdict.specs.Tours as tours
 use Rattle.tsp_verdict.specs.Routes as routes
 use Rattle.tsp_judge.specs.Judged.{IsVerdictBy, IsVerdictOn, is_yes}
-use Rattle.tsp_judge.specs.Report.{IsBoundSized, IsSized, report_of}
+use Rattle.tsp_report.specs.Report.{IsBoundSized, IsSized, report_of}
 use Rattle.tsp_judge.specs.Run.{ReadsFile, IsRun, IsVerdictRun, Answers, told}
 use Rattle.tsp_judge.specs.Yes.{IsATourYes, IsARoutesYes, IsCheck, IsVerdictCheck}
 

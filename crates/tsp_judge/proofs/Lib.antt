@@ -3,4 +3,3 @@ pub mod Checks
 pub mod Converts
 pub mod HandedOn
 pub mod Shows
-pub mod Texts

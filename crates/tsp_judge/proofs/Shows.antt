@@ -9,7 +9,7 @@ use Rattle.tsp_read.specs.Reads.{IsFile}
 use Rattle.tsp_judge.specs.declared.fault.RunFault.{RunFault}
 use Rattle.tsp_judge.specs.declared.fault.RunFault.TheVariants.{File, WrongKind, Write, OutOfMemory, Relayout}
 use Rattle.tsp_judge.specs.Run.{ReadsFile}
-use Rattle.tsp_judge.specs.Show.{shown}
+use Rattle.tsp_report.specs.Show.{shown}
 use Rattle.tsp_judge.specs.ShowRun.{IsShowRun}
 
 pub show_stopped : (turn : Turn) (sink : Sink) (file : Fields) (text : List ℕ) (fault : WriteFault) → IsFile turn file → text ≡ shown file

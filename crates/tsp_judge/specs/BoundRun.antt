@@ -7,8 +7,8 @@ use Rattle.tsp_stream.specs.Turn.{Turn, IsUnread}
 use Rattle.tsp_stream.specs.Sink.{Sink, IsUnwritten, HasWritten, HasStopped}
 use Rattle.tsp_fields.specs.Fields.{Fields}
 use Rattle.tsp_fields.specs.Cost.{cost}
-use Rattle.tsp_cost.specs.Length.{length_of}
-use Rattle.tsp_cost.specs.Tour.{IsTourOf}
+use Rattle.tsp_walk.specs.Length.{length_of}
+use Rattle.tsp_cost.specs.Tours.{IsTourOf}
 use Rattle.tsp_read.specs.Reads.{IsFile, StopsAt}
 use Rattle.tsp_verdict.specs.declared.verdict.Verdict.{Verdict}
 use Rattle.tsp_verdict.specs.declared.verdict.Verdict.TheVariants.{Tour}
@@ -23,7 +23,7 @@ use Rattle.tsp_judge.specs.declared.certificate.Certificate.TheVariants.{Potenti
 use Rattle.tsp_judge.specs.declared.fault.RunFault.{RunFault}
 use Rattle.tsp_judge.specs.declared.fault.RunFault.TheVariants.{File, WrongKind, Write, OutOfMemory, Relayout}
 use Rattle.tsp_judge.specs.Judged.{is_yes}
-use Rattle.tsp_judge.specs.Report.{report_of}
+use Rattle.tsp_report.specs.Report.{report_of}
 use Rattle.tsp_judge.specs.Run.{IsSomeFile, told}
 
 -- ---- by the kind of the certificate
@@ -83,7 +83,8 @@ IsBoundRun by first second third sink (Err (File file fault)) = IsUnwritten sink
     × (((file ≡ 1) × StopsAt fault first × IsUnread second × IsUnread third)
     ⊎ ((file ≡ 2) × IsSomeFile first × StopsAt fault second × IsUnread third)
     ⊎ ((file ≡ 3) × IsSomeFile first × IsSomeFile second × StopsAt fault third))
-IsBoundRun by first second third sink (Err WrongKind) = IsUnwritten sink × IsNoBounded by first × IsSomeFile second × IsSomeFile third
+IsBoundRun by first second third sink (Err WrongKind) = IsUnwritten sink × IsNoBounded by first × IsSomeFile second
+    × IsSomeFile third
 IsBoundRun by first second third sink (Err OutOfMemory) = IsUnwritten sink × IsSomeBounded by first × IsSomeFile second
     × IsSomeFile third
 IsBoundRun by first second third sink (Err (Relayout fault)) = ⊥

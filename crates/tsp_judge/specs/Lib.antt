@@ -6,8 +6,6 @@ pub use Rattle.tsp_value.specs.Layout
 pub mod BoundRun
 pub mod ConvertRun
 pub mod Judged
-pub mod Report
 pub mod Run
-pub mod Show
 pub mod ShowRun
 pub mod Yes

@@ -10,7 +10,7 @@ use Rattle.tsp_verdict.specs.declared.verdict.Verdict.{Verdict}
 use Rattle.tsp_judge.specs.declared.fault.RunFault.{RunFault}
 use Rattle.tsp_judge.specs.declared.fault.RunFault.TheVariants.{File, WrongKind, Write, OutOfMemory, Relayout}
 use Rattle.tsp_judge.specs.Judged.{IsVerdictOn, is_yes}
-use Rattle.tsp_judge.specs.Report.{report_of}
+use Rattle.tsp_report.specs.Report.{report_of}
 
 -- the turn's bytes spell a file
 abbrev pub IsSomeFile : Turn → Type 0

@@ -8,7 +8,7 @@ use Rattle.tsp_read.specs.Reads.{IsFile, StopsAt}
 use Rattle.tsp_judge.specs.declared.fault.RunFault.{RunFault}
 use Rattle.tsp_judge.specs.declared.fault.RunFault.TheVariants.{File, WrongKind, Write, OutOfMemory, Relayout}
 use Rattle.tsp_judge.specs.Run.{IsSomeFile}
-use Rattle.tsp_judge.specs.Show.{shown}
+use Rattle.tsp_report.specs.Show.{shown}
 
 -- What showing answers. At Ok all that is shown of the file was written. Where the reader gives no file, or memory runs
 -- out, nothing is written; writing itself takes no memory. Where the writer fails a front of the lines was written.

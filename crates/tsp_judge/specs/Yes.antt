@@ -5,15 +5,15 @@ use Rattle.tsp_stream.specs.Turn.{Turn}
 use Rattle.tsp_stream.specs.Sink.{Sink, HasWritten}
 use Rattle.tsp_fields.specs.Fields.{Fields}
 use Rattle.tsp_fields.specs.Cost.{cost}
-use Rattle.tsp_cost.specs.Length.{length_of}
-use Rattle.tsp_cost.specs.Tour.{IsTourOf}
+use Rattle.tsp_walk.specs.Length.{length_of}
+use Rattle.tsp_cost.specs.Tours.{IsTourOf}
 use Rattle.tsp_read.specs.Reads.{IsFile}
 use Rattle.tsp_verdict.specs.declared.verdict.Verdict.{Verdict}
 use Rattle.tsp_verdict.specs.declared.verdict.Verdict.TheVariants.{Tour, Routes}
 use Rattle.tsp_verdict.specs.Plan.{IsPlanOf, plan_length, depot_of}
 use Rattle.tsp_verdict.specs.Solution.{tours_of}
 use Rattle.tsp_judge.specs.declared.fault.RunFault.{RunFault}
-use Rattle.tsp_judge.specs.Report.{report_of}
+use Rattle.tsp_report.specs.Report.{report_of}
 use Rattle.tsp_judge.specs.Run.{IsRun, IsVerdictRun, told}
 
 -- The second file is one of tours, its one tour visits every node of the instance once and uses every fixed edge, and its

@@ -3,14 +3,14 @@
 ghost use Rattle.std.specs.Prelude.{◌≡◌, IfOk};
 ghost use Rattle.tsp_stream.specs.Sink.{sink_of};
 ghost use Rattle.tsp_judge.specs.Judged.{is_yes};
-ghost use Rattle.tsp_judge.specs.Report.{IsSized};
+ghost use Rattle.tsp_report.specs.Report.{IsSized};
 ghost use Rattle.tsp_judge.specs.Run.{Answers, told};
 
 use crate::fault::RunFault;
-use crate::report::report_text;
 use std::alloc::Global;
 use std::io::Write;
 use tsp_cost::Instance;
+use tsp_report::report_text;
 use tsp_stream::{Watched, write_text};
 use tsp_verdict::Verdict;
 

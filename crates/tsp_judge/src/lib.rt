@@ -8,24 +8,19 @@ mod certificate;
 mod certified;
 mod check;
 mod convert;
-mod examples;
 mod fault;
 mod file;
-mod leaves;
-mod reason;
-mod report;
 mod show;
-mod show_text;
 
 pub use bound_check::{run_bound_check, run_bound_verdict};
 pub use branch_check::{run_branch_check, run_branch_verdict};
 pub use check::{run_check, run_verdict};
 pub use convert::run_convert;
-pub use examples::{examples_of_reasons, examples_of_reports, examples_of_shown_lines};
 pub use fault::RunFault;
 pub use show::run_show;
 pub use tsp_fields::{EndFault, RelayoutFault};
 pub use tsp_read::{LineFault, ReadFault};
+pub use tsp_report::{examples_of_reasons, examples_of_reports, examples_of_shown_lines};
 pub use tsp_stream::{Watched, WriteFault};
 pub use tsp_value::Layout;
 pub use tsp_verdict::{

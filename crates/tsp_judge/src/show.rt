@@ -7,9 +7,9 @@ ghost use Rattle.tsp_judge.specs.ShowRun.{IsShowRun};
 
 use crate::fault::RunFault;
 use crate::file::read_file;
-use crate::show_text::show_text;
 use std::alloc::Global;
 use std::io::{Read, Write};
+use tsp_report::show_text;
 use tsp_stream::{Watched, write_text};
 
 /// Writes what a file is: its name, its TYPE and number of nodes, of an instance the weight type,

@@ -8,7 +8,17 @@ use Rattle.tsp_judge.proofs.check.run_verdict.Goals as goal
 pub returns-in_err-instance : goal.returns-in_err-instance
 returns-in_err-instance g c =
     let same : c.from_residual.result ≡ Err c.in_err-instance.field-0.0 = handed_on _ _ c.from_residual.ensures.1 in
-    let one = c.in_err-instance.ensures in rw same (one.0, one.1, ([], none_taken, with_fault _ _ _ _ (first_stops (turn_of g.I.Read.remaining c.args.inst.now c.read_file.new.reader one.0) _ _ _ one.2 (Keeps-refl _, refl) (Keeps-refl _, refl))))
+    let one = c.in_err-instance.ensures in
+    let turn = turn_of g.I.Read.remaining c.args.inst.now c.read_file.new.reader one.0 in
+    rw same (
+      one.0,
+      one.1,
+      (
+        [],
+        none_taken,
+        with_fault _ _ _ _ (first_stops turn _ _ _ one.2 (Keeps-refl _, refl) (Keeps-refl _, refl)),
+      ),
+    )
 
 pub returns : goal.returns
 returns g c = let one = c.in_ok-instance.ensures in let two = c.with_instance.ensures in

@@ -13,8 +13,8 @@ use Rattle.tsp_value.specs.Steps.{Step, leaf_count}
 use Rattle.tsp_fields.specs.Fields.{Fields}
 use Rattle.tsp_fields.specs.Rules.{is_explicit}
 use Rattle.tsp_fields.specs.Cost.{cost}
-use Rattle.tsp_cost.specs.Length.{length_of}
-use Rattle.tsp_judge.specs.Report.{type_line, nodes_line, not_judged}
+use Rattle.tsp_walk.specs.Length.{length_of}
+use Rattle.tsp_report.specs.Report.{type_line, nodes_line, not_judged}
 
 -- ---- any file
 

@@ -1,6 +1,6 @@
 use Rattle.std.proofs.Common.{◌≡◌, ◌++◌, map, drop}
-use Rattle.tsp_judge.specs.Report.{not_judged}
-use Rattle.tsp_judge.proofs.report.push_others.Given as goal
+use Rattle.tsp_report.specs.Report.{not_judged}
+use Rattle.tsp_report.proofs.report.push_others.Given as goal
 
 abbrev pub invariant-lines : goal.invariant-lines
 invariant-lines l =

@@ -1,7 +1,7 @@
 use Rattle.std.proofs.Common.{◌≡◌, ◌+◌, ◌++◌, map, drop}
 use Rattle.std.specs.List.{flat_map, enumerate_from}
-use Rattle.tsp_judge.specs.Show.{tour_line}
-use Rattle.tsp_judge.proofs.show_text.push_tours.Given as goal
+use Rattle.tsp_report.specs.Show.{tour_line}
+use Rattle.tsp_report.proofs.shown.push_tours.Given as goal
 
 abbrev pub invariant-tours : goal.invariant-tours
 invariant-tours l =

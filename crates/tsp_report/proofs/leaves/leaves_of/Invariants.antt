@@ -1,6 +1,6 @@
 use Rattle.std.proofs.Common.{◌≡◌, ◌+◌, ◌≤◌, drop}
 use Rattle.tsp_value.specs.Steps.{leaf_count, steps_of}
-use Rattle.tsp_judge.proofs.leaves.leaves_of.Given as goal
+use Rattle.tsp_report.proofs.leaves.leaves_of.Given as goal
 
 abbrev pub invariant-steps : goal.invariant-steps
 invariant-steps l = (l.leaves + leaf_count (steps_of (drop l.step-index l.steps)) ≡ leaf_count (steps_of l.steps)) × (l.leaves ≤ l.step-index)

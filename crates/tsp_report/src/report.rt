@@ -1,7 +1,7 @@
 //! The text of a report.
 
 ghost use Rattle.std.specs.Prelude.{◌≡◌, ◌++◌, ◌≤◌, ◌^◌, ◌-ℤ◌, IfOk, OnOk, Some, map, unsigned_abs};
-ghost use Rattle.tsp_judge.specs.Report.{report_of, instance_lines, type_line, nodes_line, not_judged, verdict_lines, bound_lines, gap_lines, IsBoundSized, IsSized};
+ghost use Rattle.tsp_report.specs.Report.{report_of, instance_lines, type_line, nodes_line, not_judged, verdict_lines, bound_lines, gap_lines, IsBoundSized, IsSized};
 
 use crate::reason::push_reason;
 use itoa::{Buffer, Integer};
@@ -10,12 +10,16 @@ use tsp_fields::File;
 use tsp_value::{Kind, Word};
 use tsp_verdict::Verdict;
 
-/// The report on an instance, line by line.
-pub(crate) fn report_text(
-    alloc: Global,
-    instance: &File,
-    verdict: Verdict,
-) -> Result<Vec<u8>, AllocError>
+/// The text of the report on a solution of an instance, line by line, by the verdict on it: the lines
+/// on the instance, those on the verdict, `yes` or `no`.
+///
+/// The caller owes a bound of at most 2^126 in size, so that the gap to the length fits 128 bits; a
+/// verdict's is at most 2^100.
+///
+/// # Errors
+///
+/// Out of memory.
+pub fn report_text(alloc: Global, instance: &File, verdict: Verdict) -> Result<Vec<u8>, AllocError>
     requires { IsSized verdict }
     ensures { IfOk result (λ text. text.items ≡ report_of instance.now verdict) }
 {

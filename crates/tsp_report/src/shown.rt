@@ -5,8 +5,8 @@ ghost use Rattle.std.specs.Option.{option_map, option_map_or};
 ghost use Rattle.tsp_value.specs.Steps.{steps_of};
 ghost use Rattle.tsp_fields.specs.Fields.{combs_of};
 ghost use Rattle.tsp_fields.specs.Rules.{is_instance};
-ghost use Rattle.tsp_judge.specs.Report.{nodes_line, not_judged};
-ghost use Rattle.tsp_judge.specs.Show.{shown, head_lines, name_line, lines_by_type, cost_lines, weights_line, layout_part, canonical_line, fixed_line, tour_lines, tour_line, scale_line, combs_line, leaves_line, tree_lines};
+ghost use Rattle.tsp_report.specs.Report.{nodes_line, not_judged};
+ghost use Rattle.tsp_report.specs.Show.{shown, head_lines, name_line, lines_by_type, cost_lines, weights_line, layout_part, canonical_line, fixed_line, tour_lines, tour_line, scale_line, combs_line, leaves_line, tree_lines};
 
 use crate::leaves::leaves_of;
 use crate::report::{push_nodes, push_number, push_others, push_type};
@@ -15,8 +15,13 @@ use tsp_cost::{Instance, canonical_length};
 use tsp_fields::File;
 use tsp_value::{Kind, TreeStep, WeightFormat, WeightKind, Word};
 
-/// What is shown of a file, line by line.
-pub(crate) fn show_text(alloc: Global, file: File) -> Result<Vec<u8>, AllocError>
+/// The text that is shown of a file, line by line: its NAME, its TYPE, the number of its nodes, and
+/// what else stands in it.
+///
+/// # Errors
+///
+/// Out of memory.
+pub fn show_text(alloc: Global, file: File) -> Result<Vec<u8>, AllocError>
     ensures { IfOk result (λ text. text.items ≡ shown file) }
 {
     let mut text = Vec::new(alloc);

@@ -1,7 +1,7 @@
 //! The text of a reason.
 
 ghost use Rattle.std.specs.Prelude.{◌≡◌, ◌++◌, OnOk};
-ghost use Rattle.tsp_judge.specs.Report.{reason_name, reason_numbers, after_blank, reason_text};
+ghost use Rattle.tsp_report.specs.Report.{reason_name, reason_numbers, after_blank, reason_text};
 
 use crate::report::push_number;
 use std::alloc::AllocError;

@@ -1,0 +1,12 @@
+//! The texts that the program prints: the report of a check, and what is shown of a file.
+#![tactic(auto)]
+
+mod examples;
+mod leaves;
+mod reason;
+mod report;
+mod shown;
+
+pub use examples::{examples_of_reasons, examples_of_reports, examples_of_shown_lines};
+pub use report::report_text;
+pub use shown::show_text;
