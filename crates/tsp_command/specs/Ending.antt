@@ -8,8 +8,8 @@ use Rattle.tsp_judge.specs.declared.RelayoutFault.TheVariants as relayout_faults
 use Rattle.tsp_judge.specs.declared.fault.RunFault.{RunFault}
 use Rattle.tsp_judge.specs.declared.fault.RunFault.TheVariants.{File, Write, WrongKind, Relayout}
 use Rattle.tsp_judge.specs.declared.fault.RunFault.TheVariants as run_faults
-use Rattle.tsp_command.specs.declared.words.JobFault.TheVariants as job_faults
-use Rattle.tsp_command.specs.declared.task.TaskFault.TheVariants.{UnknownLayout, MissingPath, TwoCertificates}
+use Rattle.tsp_words.specs.declared.words.JobFault.TheVariants as job_faults
+use Rattle.tsp_words.specs.declared.task.TaskFault.TheVariants.{UnknownLayout, MissingPath, TwoCertificates}
 use Rattle.tsp_command.specs.declared.ending.Ending.{Ending}
 use Rattle.tsp_command.specs.declared.ending.Ending.TheVariants.{NoJob, NoTask, Ended}
 use Rattle.tsp_command.specs.declared.ending.Line.{Line}

@@ -10,8 +10,8 @@ use Rattle.tsp_judge.specs.ConvertRun.{IsConvertRun}
 use Rattle.tsp_judge.specs.Yes.{IsVerdictCheck}
 use Rattle.tsp_judge.specs.BoundRun.{IsBoundVerdictCheck, IsBranchVerdictCheck}
 use Rattle.tsp_judge.specs.declared.Verdict.{Verdict}
-use Rattle.tsp_command.specs.declared.task.Task.{Task}
-use Rattle.tsp_command.specs.declared.task.Task.TheVariants.{Show, Convert, Check, BoundCheck, BranchCheck}
+use Rattle.tsp_words.specs.declared.task.Task.{Task}
+use Rattle.tsp_words.specs.declared.task.Task.TheVariants.{Show, Convert, Check, BoundCheck, BranchCheck}
 
 -- the answer, where what was done has no verdict
 abbrev pub counts : Result (Unit {0}) RunFault → Result (Option Verdict) RunFault

@@ -9,13 +9,13 @@ use Rattle.tsp_judge.specs.Watched.{watched, has_failed}
 use Rattle.tsp_judge.specs.Sink.{Sink, IsUnwritten}
 use Rattle.tsp_command.specs.declared.ending.Ending.{Ending}
 use Rattle.tsp_command.specs.declared.ending.Ending.TheVariants.{NoJob, NoTask, Ended}
-use Rattle.tsp_command.specs.declared.words.Job.{Job}
-use Rattle.tsp_command.specs.declared.task.Place.{Place}
-use Rattle.tsp_command.specs.declared.task.Task.{Task}
-use Rattle.tsp_command.specs.declared.task.Task.TheVariants.{Show, Convert, Check, BoundCheck, BranchCheck}
-use Rattle.tsp_command.specs.declared.words.JobFault.TheVariants.{OutOfMemory}
-use Rattle.tsp_command.specs.Words.{GivesJob, IsRefused}
-use Rattle.tsp_command.specs.Task.{GivesTask}
+use Rattle.tsp_words.specs.declared.words.Job.{Job}
+use Rattle.tsp_words.specs.declared.task.Place.{Place}
+use Rattle.tsp_words.specs.declared.task.Task.{Task}
+use Rattle.tsp_words.specs.declared.task.Task.TheVariants.{Show, Convert, Check, BoundCheck, BranchCheck}
+use Rattle.tsp_words.specs.declared.words.JobFault.TheVariants.{OutOfMemory}
+use Rattle.tsp_words.specs.Words.{GivesJob, IsRefused}
+use Rattle.tsp_words.specs.Task.{GivesTask}
 use Rattle.tsp_command.specs.Engines.{IsDone}
 use Rattle.tsp_command.specs.Ending.{status_of, TellsAll}
 

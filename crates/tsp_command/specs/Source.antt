@@ -1,7 +1,7 @@
 -- What a clause sees of a file that may be missing.
 use Rattle.std.specs.Prelude.{ℕ, Bool, true, false, List, Option, None}
-use Rattle.tsp_command.specs.declared.task.Place.{Place}
-use Rattle.tsp_command.specs.declared.task.Place.TheVariants as places
+use Rattle.tsp_words.specs.declared.task.Place.{Place}
+use Rattle.tsp_words.specs.declared.task.Place.TheVariants as places
 use Rattle.tsp_command.specs.declared.source.Source.{Source}
 use Rattle.tsp_command.specs.declared.source.Source.TheVariants.{Input, Opened, Missing}
 

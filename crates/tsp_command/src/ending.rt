@@ -3,14 +3,13 @@
 ghost use Rattle.std.specs.Prelude.{◌≡◌, OnOk};
 ghost use Rattle.tsp_command.specs.Ending.{EndsLine, IsLineOf, Tells, status_of, status_of_fault};
 
-use crate::task::TaskFault;
-use crate::words::JobFault;
 use arrayvec::ArrayString;
 use clap::Error as Refusal;
 use std::fmt::{Display, Formatter, Write as _};
 use std::io::Write;
 use std::{fmt, io};
 use tsp_judge::{ReadFault, RelayoutFault, RunFault, Verdict, WriteFault};
+use tsp_words::{JobFault, TaskFault};
 
 /// How many bytes of a fault's text are told.
 const MOST_TEXT: usize = 256;

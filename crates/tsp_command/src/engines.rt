@@ -4,13 +4,13 @@ ghost use Rattle.std.specs.Prelude.{◌≡◌};
 ghost use Rattle.tsp_judge.specs.Sink.{sink_of};
 ghost use Rattle.tsp_command.specs.Engines.{IsDone, counts, judges};
 
-use crate::task::Task;
 use std::alloc::Global;
 use std::io::{Read, Write};
 use tsp_judge::{
     RunFault, Verdict, Watched, run_bound_verdict, run_branch_verdict, run_convert, run_show,
     run_verdict,
 };
+use tsp_words::Task;
 
 /// Does a task on files that are read from these readers, and writes what comes of it. The answer is
 /// the verdict, or `None` where the task has none.

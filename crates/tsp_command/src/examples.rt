@@ -10,8 +10,8 @@ ghost use Rattle.tsp_judge.specs.declared.ReadFault.TheVariants as read_faults;
 ghost use Rattle.tsp_judge.specs.declared.WriteFault.TheVariants as write_faults;
 ghost use Rattle.tsp_judge.specs.declared.RelayoutFault.TheVariants as relayout_faults;
 ghost use Rattle.tsp_judge.specs.declared.fault.RunFault.TheVariants as run_faults;
-ghost use Rattle.tsp_command.specs.declared.words.JobFault.TheVariants as job_faults;
-ghost use Rattle.tsp_command.specs.declared.task.TaskFault.TheVariants as task_faults;
+ghost use Rattle.tsp_words.specs.declared.words.JobFault.TheVariants as job_faults;
+ghost use Rattle.tsp_words.specs.declared.task.TaskFault.TheVariants as task_faults;
 ghost use Rattle.tsp_command.specs.declared.ending.Ending.TheVariants as endings;
 ghost use Rattle.tsp_command.specs.Ending.{status_of, status_of_fault, line_text, ended};
 

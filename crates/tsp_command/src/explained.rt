@@ -2,8 +2,6 @@
 
 use crate::ending::Ending;
 use crate::source::Open;
-use crate::task::TaskFault;
-use crate::words::Job;
 use std::alloc::{AllocError, Global};
 use std::io;
 use std::io::Read;
@@ -12,6 +10,7 @@ use tsp_explain::{
     write_sentence,
 };
 use tsp_judge::{Reason, RunFault, Verdict, WriteFault};
+use tsp_words::{Job, TaskFault};
 
 /// What explains how a job ended, line by line. Files that can be are looked at once more for it;
 /// `write_error` is what the system said of a write that failed. It is cut short where there is no

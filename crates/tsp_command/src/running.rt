@@ -11,12 +11,11 @@ use crate::ending::{Ending, status_of, tell};
 use crate::engines::perform;
 use crate::explained::explanation;
 use crate::source::Open;
-use crate::task::{Place, Task, task_of};
-use crate::words::{Job, JobFault, job_of, unread};
 use std::alloc::{AllocError, Global};
 use std::io;
 use std::io::{Read, Write};
 use tsp_judge::Watched;
+use tsp_words::{Job, JobFault, Place, Task, job_of, task_of, unread};
 
 /// Does what the words of a command line ask for, of which the first is the program's own name; what
 /// comes of it goes to the writer `out`, and where there is no answer the reason to `errors`.

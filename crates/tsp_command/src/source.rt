@@ -3,12 +3,12 @@
 ghost use Rattle.std.specs.Prelude.{◌≡◌, IsTrue, IsErr, MatchResult};
 ghost use Rattle.std.specs.Io.{ReadsAtMost};
 ghost use Rattle.std.specs.Io.KnownBytes.{ReadConsumes};
-ghost use Rattle.tsp_command.specs.declared.task.Place.{Place};
+ghost use Rattle.tsp_words.specs.declared.task.Place.{Place};
 ghost use Rattle.tsp_command.specs.Source.{remaining_of, is_missing};
 
-use crate::task::Place;
 use std::io;
 use std::io::Read;
+use tsp_words::Place;
 
 /// What opens files.
 pub trait Open<F> {

@@ -1,7 +1,7 @@
 use Rattle.std.proofs.Common.{sym, subst}
 use Rattle.tsp_judge.specs.Sink.{sink_of}
 use Rattle.tsp_command.specs.Engines.{IsDone}
-use Rattle.tsp_command.specs.declared.task.Task.TheVariants.{Check, BoundCheck, BranchCheck}
+use Rattle.tsp_words.specs.declared.task.Task.TheVariants.{Check, BoundCheck, BranchCheck}
 use Rattle.tsp_command.proofs.engines.perform.Goals as goal
 
 pub returns-in-Check : goal.returns-in-Check

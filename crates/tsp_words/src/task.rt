@@ -1,10 +1,10 @@
 //! What is done with which files.
 
 ghost use Rattle.std.specs.Prelude.{◌≡◌, Some};
-ghost use Rattle.tsp_command.specs.Task.{GivesPlace, GivesLayout, GivesTask};
+ghost use Rattle.tsp_words.specs.Task.{GivesPlace, GivesLayout, GivesTask};
 
 use crate::words::{Job, Verb};
-use tsp_judge::Layout;
+use tsp_value::Layout;
 
 /// Where a file is.
 #[derive(Clone, Copy)]

@@ -1,7 +1,7 @@
 use Rattle.std.proofs.Common.{rules}
 use Rattle.clap.specs.Words.{found_of}
 use Rattle.clap.proofs.WalkLemmas.{first_value-rows}
-use Rattle.tsp_command.proofs.words.value.Goals as goal
+use Rattle.tsp_words.proofs.words.value.Goals as goal
 
 pub returns-in-None : goal.returns-in-None
 returns-in-None c =

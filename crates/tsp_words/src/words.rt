@@ -3,7 +3,7 @@
 ghost use Rattle.std.specs.Prelude.{◌≡◌, ◌≢◌, ◌↔◌, IfOk, IsTrue, Some, codes, map, option_map};
 ghost use Rattle.std.specs.IoError.{error_kind};
 ghost use Rattle.clap.specs.Words.{first_of, found_of, kind_of, rows_of};
-ghost use Rattle.tsp_command.specs.Words.{GivesJob, IsFaultOf, IsRefused, IsVerbOf, HasValues, text_in};
+ghost use Rattle.tsp_words.specs.Words.{GivesJob, IsFaultOf, IsRefused, IsVerbOf, HasValues, text_in};
 
 use crate::grammar;
 use clap::error::ErrorKind;

@@ -2,10 +2,10 @@ use Rattle.std.proofs.Common.{◌≡◌, ◌∙◌, sym, ap, subst, List, map, [
 use Rattle.clap.specs.Words.{App, Row, Text, fault_of, found_of, is_simple, rows_of, subcommand_of, subcommand_rows_of}
 use Rattle.clap.specs.Faults.{is_simple_and_free}
 use Rattle.clap.specs.declared.parser.matches.ArgMatches.TheViews.{out-ArgMatches}
-use Rattle.tsp_command.specs.Grammar.{tsp}
-use Rattle.tsp_command.specs.Words.{IsJobOf, word_of}
-use Rattle.tsp_command.proofs.Subcommands.{both, named, verb_found}
-use Rattle.tsp_command.proofs.words.job_of.Goals as goal
+use Rattle.tsp_words.specs.Grammar.{tsp}
+use Rattle.tsp_words.specs.Words.{IsJobOf, word_of}
+use Rattle.tsp_words.proofs.Subcommands.{both, named, verb_found}
+use Rattle.tsp_words.proofs.words.job_of.Goals as goal
 
 pub returns-in-Ok-job_with : goal.returns-in-Ok-job_with
 returns-in-Ok-job_with c =

@@ -1,8 +1,8 @@
 use Rattle.std.proofs.Common.{rules, ◌≡◌, ◌∙◌, ap, ap₂}
 use Rattle.std.proofs.lemmas.Result.{IfOk-weaker}
 use Rattle.clap.specs.Words.{App, app_of, with_subcommand}
-use Rattle.tsp_command.specs.Grammar.{IsCommandOf, start, show}
-use Rattle.tsp_command.proofs.grammar.tsp.Goals as goal
+use Rattle.tsp_words.specs.Grammar.{IsCommandOf, start, show}
+use Rattle.tsp_words.proofs.grammar.tsp.Goals as goal
 
 -- the three subcommands one after the other
 pub returns : goal.returns

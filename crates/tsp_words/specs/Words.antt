@@ -5,12 +5,12 @@ use Rattle.clap.specs.Words.{Row, Text, first_of, kind_of, fault_of, subcommand_
 use Rattle.clap.specs.Kinds.{IsAmong}
 use Rattle.clap.specs.declared.error.kind.ErrorKind.{ErrorKind}
 use Rattle.clap.specs.declared.error.kind.ErrorKind.TheVariants as kinds
-use Rattle.tsp_command.specs.Grammar.{tsp}
-use Rattle.tsp_command.specs.declared.words.Verb.{Verb}
-use Rattle.tsp_command.specs.declared.words.Verb.TheVariants.{Show, Convert, Check}
-use Rattle.tsp_command.specs.declared.words.Job.{Job}
-use Rattle.tsp_command.specs.declared.words.JobFault.{JobFault}
-use Rattle.tsp_command.specs.declared.words.JobFault.TheVariants.{Refused, OutOfMemory}
+use Rattle.tsp_words.specs.Grammar.{tsp}
+use Rattle.tsp_words.specs.declared.words.Verb.{Verb}
+use Rattle.tsp_words.specs.declared.words.Verb.TheVariants.{Show, Convert, Check}
+use Rattle.tsp_words.specs.declared.words.Job.{Job}
+use Rattle.tsp_words.specs.declared.words.JobFault.{JobFault}
+use Rattle.tsp_words.specs.declared.words.JobFault.TheVariants.{Refused, OutOfMemory}
 
 -- the subcommand of a verb
 abbrev pub word_of : Verb → Text

@@ -1,17 +1,17 @@
 -- What is done with which files.
 use Rattle.std.specs.Prelude.{◌≡◌, ◌≢◌, ◌⊎◌, Option, None, Some, Result, Ok, Err, String}
 use Rattle.clap.specs.Words.{Text}
-use Rattle.tsp_judge.specs.declared.Layout.{Layout}
-use Rattle.tsp_judge.specs.Layout.{layout_word}
-use Rattle.tsp_command.specs.Words.{text_in}
-use Rattle.tsp_command.specs.declared.words.Job.{Job}
-use Rattle.tsp_command.specs.declared.words.Verb.TheVariants as verbs
-use Rattle.tsp_command.specs.declared.task.Place.{Place}
-use Rattle.tsp_command.specs.declared.task.Place.TheVariants.{Input, Path}
-use Rattle.tsp_command.specs.declared.task.Task.{Task}
-use Rattle.tsp_command.specs.declared.task.Task.TheVariants.{Show, Convert, Check, BoundCheck, BranchCheck}
-use Rattle.tsp_command.specs.declared.task.TaskFault.{TaskFault}
-use Rattle.tsp_command.specs.declared.task.TaskFault.TheVariants.{UnknownLayout, MissingPath, TwoCertificates}
+use Rattle.tsp_value.specs.declared.layout.Layout.{Layout}
+use Rattle.tsp_value.specs.Layout.{layout_word}
+use Rattle.tsp_words.specs.Words.{text_in}
+use Rattle.tsp_words.specs.declared.words.Job.{Job}
+use Rattle.tsp_words.specs.declared.words.Verb.TheVariants as verbs
+use Rattle.tsp_words.specs.declared.task.Place.{Place}
+use Rattle.tsp_words.specs.declared.task.Place.TheVariants.{Input, Path}
+use Rattle.tsp_words.specs.declared.task.Task.{Task}
+use Rattle.tsp_words.specs.declared.task.Task.TheVariants.{Show, Convert, Check, BoundCheck, BranchCheck}
+use Rattle.tsp_words.specs.declared.task.TaskFault.{TaskFault}
+use Rattle.tsp_words.specs.declared.task.TaskFault.TheVariants.{UnknownLayout, MissingPath, TwoCertificates}
 
 -- the text is a path, and this is its place
 abbrev pub IsAt : {Z : Type 0} → Option (String Z) → Place → Type 0

@@ -2,7 +2,7 @@
 
 ghost use Rattle.std.specs.Prelude.{◌≡◌, IfOk, false};
 ghost use Rattle.clap.specs.Words.{rule_of};
-ghost use Rattle.tsp_command.specs.Grammar.{IsCommandOf, path, option, flag, explain, show, convert, check_files, check, tsp};
+ghost use Rattle.tsp_words.specs.Grammar.{IsCommandOf, path, option, flag, explain, show, convert, check_files, check, tsp};
 
 use clap::{Arg, ArgAction, Command};
 use std::alloc::{AllocError, Global};

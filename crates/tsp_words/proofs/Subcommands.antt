@@ -14,10 +14,10 @@ use Rattle.clap.specs.declared.error.kind.ErrorKind.TheVariants.{DisplayHelp, In
 use Rattle.clap.specs.declared.parser.matches.SubCommand.{SubCommand}
 use Rattle.clap.specs.declared.parser.matches.ArgMatches.TheViews.{out-SubCommand}
 use Rattle.clap.proofs.WalkLemmas.{walk_stopped}
-use Rattle.tsp_command.specs.Grammar.{tsp}
-use Rattle.tsp_command.specs.Words.{IsVerbOf, word_of}
-use Rattle.tsp_command.specs.declared.words.Verb.{Verb}
-use Rattle.tsp_command.specs.declared.words.Verb.TheVariants.{Show, Convert, Check}
+use Rattle.tsp_words.specs.Grammar.{tsp}
+use Rattle.tsp_words.specs.Words.{IsVerbOf, word_of}
+use Rattle.tsp_words.specs.declared.words.Verb.{Verb}
+use Rattle.tsp_words.specs.declared.words.Verb.TheVariants.{Show, Convert, Check}
 
 -- the walk hasn't met a subcommand
 abbrev GoesOn : Walk → Type 0
