@@ -1,9 +1,9 @@
 -- Eight digits in the bytes of one number, the first one lowest.
-use Rattle.std.proofs.Common.{◌≡◌, ℕ, zero, suc, ◌+◌, ◌*◌, ◌-◌, ◌/◌, ◌%◌, ◌^◌, ◌<◌, ◌≤◌, Bool, true, false, cond, List, [], ◌∷◌, ◌++◌, map, length, take, drop, get_or, replicate, refl, arith, ap, sym, ◌∙◌, subst, w64, length-append, take-append-drop, pow-add}
+use Rattle.std.proofs.Common.{◌≡◌, ℕ, zero, suc, ◌+◌, ◌*◌, ◌-◌, ◌/◌, ◌%◌, ◌^◌, ◌<◌, ◌≤◌, Bool, true, false, cond, List, [], ◌∷◌, ◌++◌, map, length, take, drop, get_or, replicate, refl, arith, ap, sym, ◌∙◌, subst, bit_and, w64, length-append, take-append-drop, pow-add}
 use Rattle.std.proofs.Math.Nat.{pow-suc, pow-zero, add-mul-mod_self_left, mod-eq_of_lt, mul-lt-mul_of_pos_right, mul-le-mul_left, one-le-pow}
 use Rattle.std.proofs.lemmas.Bool.Decides.{nat_tests}
 use Rattle.std.proofs.lemmas.List.{drop_all, length-map, length-replicate, length-take-le, replicate-append-replicate}
-use Rattle.std.proofs.lemmas.Nat.{le_bytes_8, from_le_bytes-to_le_bytes_8, mul-mod_first}
+use Rattle.std.proofs.lemmas.Nat.{le_bytes_8, from_le_bytes-to_le_bytes_8, mul-mod_first, and_block, and_mask, div-mul-add}
 use Rattle.std.proofs.lemmas.Str.{digit_value_digit}
 use Rattle.std.proofs.lemmas.Str.Parse.{digit_from_value}
 use Rattle.std.proofs.lemmas.Int.Digits.{digits_value_is}
@@ -14,41 +14,96 @@ use Rattle.std.specs.List.{prefix_len}
 use Rattle.std.specs.Str.Parse.{AllDigits, digits_value}
 use lib.Lanes.{number_l}
 
--- ---- pairs
+-- ---- every second part of a number
+
+low_byte : (a m r : ℕ) → r < 65536 → bit_and (a * 65536 + r) (m * 65536 + 255) ≡ bit_and a m * 65536 + r % 256
+low_byte a m r small = and_block 16 a m r 255 small (omega arith) ∙ ap (λ n. bit_and a m * 65536 + n) (and_mask r 8)
+
+even_bytes : (w x y z : ℕ) → w < 65536 → x < 65536 → y < 65536 → z < 65536
+    → bit_and (w + x * 65536 + y * 4294967296 + z * 281474976710656) 71777214294589695
+    ≡ w % 256 + x % 256 * 65536 + y % 256 * 4294967296 + z % 256 * 281474976710656
+even_bytes w x y z lw lx ly lz =
+    let parts : w + x * 65536 + y * 4294967296 + z * 281474976710656 ≡ ((z * 65536 + y) * 65536 + x) * 65536 + w = omega arith in
+    ap (λ n. bit_and n 71777214294589695) parts
+    ∙ low_byte ((z * 65536 + y) * 65536 + x) 1095233372415 w lw
+    ∙ ap (λ n. n * 65536 + w % 256) (low_byte (z * 65536 + y) 16711935 x lx
+    ∙ ap (λ n. n * 65536 + x % 256) (low_byte z 255 y ly
+    ∙ ap (λ n. n * 65536 + y % 256) (and_mask z 8)))
+    ∙ omega arith
+
+even_pairs : (s t : ℕ) → s < 4294967296 → bit_and (s + t * 4294967296) 281470681808895 ≡ s % 65536 + t % 65536 * 4294967296
+even_pairs s t small =
+    let parts : s + t * 4294967296 ≡ t * 4294967296 + s = omega arith in
+    ap (λ n. bit_and n 281470681808895) parts
+    ∙ and_block 32 t 65535 s 65535 small (omega arith)
+    ∙ ap (λ n. n * 4294967296 + bit_and s 65535) (and_mask t 16)
+    ∙ ap (λ n. t % 65536 * 4294967296 + n) (and_mask s 16)
+    ∙ omega arith
+
+-- ---- pairs, fours, eight
+
+-- a product without its lowest part, of which the part past the highest is lost
+without_lowest : (p q low high over : ℕ) → low < p → high * p + low < q → (high * p + low + q * over) % q / p ≡ high
+without_lowest p q low high over small fits =
+    ap (λ (n : ℕ). n / p) (add-mul-mod_self_left (high * p + low) q over ∙ mod-eq_of_lt fits) ∙ div-mul-add high p low small
 
 -- the digits in a number's bytes, and the number
 module _ (a b c d e f g h n : ℕ) (la : a < 10) (lb : b < 10) (lc : c < 10) (ld : d < 10) (le : e < 10) (lf : f < 10) (lg : g < 10) (lh : h < 10)
     (is : n ≡ a + b * 256 + c * 65536 + d * 16777216 + e * 4294967296 + f * 1099511627776 + g * 281474976710656 + h * 72057594037927936) where
-  -- the bytes of the pairs are ten times each digit and the next
-  pairs_are : 10 * n + n / 256 ≡ (10 * a + b) + (10 * b + c) * 256 + (10 * c + d) * 65536 + (10 * d + e) * 16777216 + (10 * e + f) * 4294967296
-      + (10 * f + g) * 1099511627776 + (10 * g + h) * 281474976710656 + (10 * h) * 72057594037927936
-  pairs_are = omega arith
+  pairs_in : bit_and (n * 2561 % 2 ^ 64 / 256) 71777214294589695 ≡ (10 * a + b) + (10 * c + d) * 65536 + (10 * e + f) * 4294967296 + (10 * g + h) * 281474976710656
+  pairs_in =
+      let w : ℕ = (10 * a + b) + (10 * b + c) * 256 in
+      let x : ℕ = (10 * c + d) + (10 * d + e) * 256 in
+      let y : ℕ = (10 * e + f) + (10 * f + g) * 256 in
+      let z : ℕ = 10 * g + h in
+      let high : ℕ = w + x * 65536 + y * 4294967296 + z * 281474976710656 in
+      let product : n * 2561 ≡ high * 256 + a + 2 ^ 64 * (10 * h) = omega (arith, is) in
+      ap (λ k. bit_and (k % 2 ^ 64 / 256) 71777214294589695) product
+      ∙ ap (λ k. bit_and k 71777214294589695) (without_lowest 256 (2 ^ 64) a high (10 * h) (omega arith) (omega arith))
+      ∙ even_bytes w x y z (omega arith) (omega arith) (omega arith) (omega arith)
+      ∙ omega arith
 
-  pairs_fit : 10 * n + n / 256 < 2 ^ 64
-  pairs_fit = omega (arith, pairs_are)
+fours_in : (w x y z n : ℕ) → w < 100 → x < 100 → y < 100 → z < 100 → n ≡ w + x * 65536 + y * 4294967296 + z * 281474976710656
+    → bit_and (n * 6553601 % 2 ^ 64 / 65536) 281470681808895 ≡ (100 * w + x) + (100 * y + z) * 4294967296
+fours_in w x y z n lw lx ly lz is =
+    let s : ℕ = (100 * w + x) + (100 * x + y) * 65536 in
+    let t : ℕ = 100 * y + z in
+    let product : n * 6553601 ≡ (s + t * 4294967296) * 65536 + w + 2 ^ 64 * (100 * z) = omega (arith, is) in
+    ap (λ k. bit_and (k % 2 ^ 64 / 65536) 281470681808895) product
+    ∙ ap (λ k. bit_and k 281470681808895) (without_lowest 65536 (2 ^ 64) w (s + t * 4294967296) (100 * z) (omega arith) (omega arith))
+    ∙ even_pairs s t (omega arith)
+    ∙ omega arith
 
-  pairs_read : (m : ℕ) → m ≡ 10 * n + n / 256
-      → ((m % 256 * 100 + m / 65536 % 256) * 100 + m / 4294967296 % 256) * 100 + m / 281474976710656 % 256
-      ≡ (((((((0 + a) * 10 + b) * 10 + c) * 10 + d) * 10 + e) * 10 + f) * 10 + g) * 10 + h
-  pairs_read m m_is =
-      let whole = m_is ∙ pairs_are in
-      let first : m % 256 ≡ 10 * a + b = omega (arith, whole) in
-      let second : m / 65536 % 256 ≡ 10 * c + d = omega (arith, whole) in
-      let third : m / 4294967296 % 256 ≡ 10 * e + f = omega (arith, whole) in
-      let fourth : m / 281474976710656 % 256 ≡ 10 * g + h = omega (arith, whole) in
-      omega (arith, first, second, third, fourth)
+eight_in : (s t n : ℕ) → s < 10000 → t < 10000 → n ≡ s + t * 4294967296 → n * 42949672960001 % 2 ^ 64 / 4294967296 ≡ 10000 * s + t
+eight_in s t n ls lt is =
+    let high : ℕ = 10000 * s + t in
+    let product : n * 42949672960001 ≡ high * 4294967296 + s + 2 ^ 64 * (10000 * t) = omega (arith, is) in
+    ap (λ (k : ℕ). k % 2 ^ 64 / 4294967296) product
+    ∙ without_lowest 4294967296 (2 ^ 64) s high (10000 * t) (omega arith) (omega arith)
+
+abbrev pub pairs_of : ℕ → ℕ
+pairs_of n = bit_and (n * 2561 % 2 ^ 64 / 256) 71777214294589695
+
+abbrev pub fours_of : ℕ → ℕ
+fours_of n = bit_and (pairs_of n * 6553601 % 2 ^ 64 / 65536) 281470681808895
+
+abbrev pub eight_of : ℕ → ℕ
+eight_of n = fours_of n * 42949672960001 % 2 ^ 64 / 4294967296
+
+digits_read : (a b c d e f g h n : ℕ) → a < 10 → b < 10 → c < 10 → d < 10 → e < 10 → f < 10 → g < 10 → h < 10
+    → n ≡ a + b * 256 + c * 65536 + d * 16777216 + e * 4294967296 + f * 1099511627776 + g * 281474976710656 + h * 72057594037927936
+    → eight_of n ≡ (((((((0 + a) * 10 + b) * 10 + c) * 10 + d) * 10 + e) * 10 + f) * 10 + g) * 10 + h
+digits_read a b c d e f g h n la lb lc ld le lf lg lh is =
+    let pairs = pairs_in a b c d e f g h n la lb lc ld le lf lg lh is in
+    let fours = fours_in (10 * a + b) (10 * c + d) (10 * e + f) (10 * g + h) (pairs_of n) (omega arith) (omega arith) (omega arith) (omega arith) pairs in
+    eight_in (100 * (10 * a + b) + (10 * c + d)) (100 * (10 * e + f) + (10 * g + h)) (fours_of n) (omega arith) (omega arith) fours
+    ∙ omega arith
 
 module _ (n : ℕ) (small : n < 2 ^ 64) (all : AllBelowBase 10 (to_le_bytes w64 n)) where
-  pub eight_fit : 10 * n + n / 256 < 2 ^ 64
-  eight_fit =
-      pairs_fit _ _ _ _ _ _ _ _ n all.0 all.1.0 all.1.1.0 all.1.1.1.0 all.1.1.1.1.0 all.1.1.1.1.1.0 all.1.1.1.1.1.1.0 all.1.1.1.1.1.1.1.0
-      (sym (from_le_bytes-to_le_bytes_8 n small))
-
-  pub eight_read : let m : ℕ = 10 * n + n / 256 in
-      ((m % 256 * 100 + m / 65536 % 256) * 100 + m / 4294967296 % 256) * 100 + m / 281474976710656 % 256 ≡ number_from_digits 10 (to_le_bytes w64 n)
+  pub eight_read : eight_of n ≡ number_from_digits 10 (to_le_bytes w64 n)
   eight_read =
-      pairs_read _ _ _ _ _ _ _ _ n all.0 all.1.0 all.1.1.0 all.1.1.1.0 all.1.1.1.1.0 all.1.1.1.1.1.0 all.1.1.1.1.1.1.0 all.1.1.1.1.1.1.1.0
-      (sym (from_le_bytes-to_le_bytes_8 n small)) (10 * n + n / 256) refl
+      digits_read _ _ _ _ _ _ _ _ n all.0 all.1.0 all.1.1.0 all.1.1.1.0 all.1.1.1.1.0 all.1.1.1.1.1.0 all.1.1.1.1.1.1.0 all.1.1.1.1.1.1.1.0
+      (sym (from_le_bytes-to_le_bytes_8 n small))
 
 -- ---- bytes as a number
 

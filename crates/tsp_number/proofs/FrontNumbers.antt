@@ -1,5 +1,6 @@
 -- Numbers at the front of some bytes.
-use Rattle.std.proofs.Common.{◌≡◌, ℕ, ◌+◌, ◌*◌, ◌-◌, ◌^◌, ◌<◌, ◌≤◌, Bool, true, List, [], ◌∷◌, ◌++◌, length, take, drop, get_or, ℤ, pos, ◌*ℤ◌, ◌≤ℤ◌, ◌<ℤ◌, ◌⊎◌, Ok, Err, unsigned_abs, inl, inr, refl, arith, ap, sym, ◌∙◌, subst, pow-add, add-one, append_assoc, append-nil, length-drop}
+use Rattle.std.proofs.Common.{◌≡◌, ℕ, ◌+◌, ◌*◌, ◌-◌, ◌^◌, ◌<◌, ◌≤◌, Bool, true, false, None, Some, List, [], ◌∷◌, ◌++◌, length, take, drop, get_or, ℤ, pos, ◌*ℤ◌, ◌≤ℤ◌, ◌<ℤ◌, ◌⊎◌, Ok, Err, unsigned_abs, inl, inr, refl, arith, ap, sym, ◌∙◌, subst, pow-add, add-one, append_assoc, append-nil, length-drop}
+use Rattle.std.specs.Prelude.{nat_le, nat_lt, ◌&&◌}
 use Rattle.std.proofs.Math.Nat.{pow-suc, pow-le-pow_right, mul-le-mul}
 use Rattle.std.proofs.Math.Seq.{take-add, take-suc, take-length}
 use Rattle.std.proofs.lemmas.Bool.Decides.{nat_tests}
@@ -14,7 +15,7 @@ use Rattle.std.specs.Str.Parse.{AllDigits, digits_value}
 use Rattle.tsp_number.specs.Decimal.{unit, most_count}
 use Rattle.tsp_number.specs.NumberWord.{IsShort, ReadsDecimal, ReadsWhole, point, IsSign, IsFraction, Numeral, StandsFor, IsShifted, signed, mantissa, digits_of, places}
 use Rattle.tsp_number.specs.declared.fault.NumberFault.TheVariants.{OutOfRange}
-use Rattle.tsp_number.specs.Front.{BeginsWithNumber, digit_count}
+use Rattle.tsp_number.specs.Front.{BeginsWithNumber, digit_count, few_end}
 use Rattle.tsp_number.proofs.Prefixes.{prefix_of_front, prefix_goes_on}
 use Rattle.tsp_number.proofs.Reading.{to_signed}
 use Rattle.tsp_number.proofs.Scaling.{digits_value-append}
@@ -69,6 +70,25 @@ counts_on bytes eight most count places chunk counted full more room =
     let front = ap (prefix_len is_ascii_digit) chunk.same ∙ prefix_of_front is_ascii_digit 8 bytes in
     let all : 8 ≤ prefix_len is_ascii_digit bytes = omega (arith, counted, front, full) in
     omega (arith, prefix_goes_on is_ascii_digit 8 bytes all, more, room)
+
+-- where fewer are, they are all
+pub few_digits : (bytes eight : List ℕ) (count : ℕ) → IsFirstChunk bytes eight 8 → count ≡ prefix_len is_ascii_digit eight → 0 < count → count < 8
+    → few_end bytes ≡ Some count
+few_digits bytes eight count chunk counted some few =
+    let front = ap (prefix_len is_ascii_digit) chunk.same ∙ prefix_of_front is_ascii_digit 8 bytes in
+    let all : prefix_len is_ascii_digit bytes ≡ count = omega (arith, counted, front, few) in
+    let enough = chunk.enough in
+    let test : (nat_le 8 (length bytes) && nat_lt 0 count && nat_lt count 8) ≡ true = grind (arith, nat_tests) in
+    rw (all, test) refl
+
+pub not_few : (bytes eight : List ℕ) (count : ℕ) → IsFirstChunk bytes eight 8 → count ≡ prefix_len is_ascii_digit eight → (count ≡ 0) ⊎ (count ≡ 8)
+    → few_end bytes ≡ None
+not_few bytes eight count chunk counted ends =
+    let front = ap (prefix_len is_ascii_digit) chunk.same ∙ prefix_of_front is_ascii_digit 8 bytes in
+    let size : ℕ = prefix_len is_ascii_digit bytes in
+    let other : (size ≡ 0) ⊎ (8 ≤ size) = elim ends [ inl none ↦ inl (omega (arith, counted, front, none)) | inr all ↦ inr (omega (arith, counted, front, all)) ] in
+    let test : (nat_le 8 (length bytes) && nat_lt 0 size && nat_lt size 8) ≡ false = grind (arith, nat_tests) in
+    rw test refl
 
 -- the digits after the first eight go on from theirs
 pub eight_and_more : (bytes : List ℕ) (value more places power : ℕ) → ReadsFront bytes 8 value → ReadsFront (drop 8 bytes) places more
@@ -194,6 +214,22 @@ whole_front bytes sign count whole negative has some few =
       stands = plain_stands (take (sign + count) bytes) (take sign bytes) ds [] [] negative (whole * unit) (whole_text bytes sign count)
           has.is_sign has.digits (inr (refl, refl)) tt (omega arith) (omega arith) size;
     }
+
+-- digits without a sign
+pub few_front : (bytes : List ℕ) (count value : ℕ) → ReadsFront bytes count value → 0 < count → count ≤ 8 → count ≤ length bytes
+    → BeginsWithNumber bytes count (pos (value * unit))
+few_front bytes count value read some few within =
+    let has : HasWhole bytes 0 count value false =
+    record {
+      sign_within = omega arith;
+      sign_short = omega arith;
+      is_sign = inl (refl, refl);
+      within = within;
+      digits = read.digits;
+      value_is = read.value_is;
+    } in
+    let front : 0 + count ≡ count = omega arith in
+    subst (λ n. BeginsWithNumber bytes n (pos (value * unit))) front (whole_front bytes 0 count value false has some (omega arith))
 
 pub decimal_front : (bytes : List ℕ) (sign count whole parts part : ℕ) (negative : Bool) → HasWhole bytes sign count whole negative → count ≤ 9
     → sign + count < length bytes → get_or bytes (sign + count) 0 ≡ point

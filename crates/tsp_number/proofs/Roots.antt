@@ -19,20 +19,19 @@ squared-below j k below =
     let sides : j * unit ≤ (k - 1) * unit = omega arith in
     mul-le (j * unit) (j * unit) ((k - 1) * unit) ((k - 1) * unit) sides sides
 
-pub is_euc_2d : (a b : Point) (w h k : ℕ) → w ≡ across a b → h ≡ along a b
-    → 4 * (squared w + squared h) < squared ((2 * k + 1) * unit)
-    → (0 < k → ¬ (4 * (squared w + squared h) < squared ((2 * (k - 1) + 1) * unit)))
-    → IsEuc2d a b k
-is_euc_2d a b w h k wide high enough least =
-    let same : squared w + squared h ≡ square_apart a b = cc in
-    record {
-      below_next_half = rw same at enough;
-      from_last_half = λ some.
-          let short : ¬ (4 * (squared w + squared h) < squared ((2 * (k - 1) + 1) * unit)) = least some in
-          let before : 2 * (k - 1) + 1 ≡ 2 * k - 1 = omega arith in
-          let far : ¬ (4 * square_apart a b < squared ((2 * k - 1) * unit)) = rw (before, same) at short in
-          omega arith;
-    }
+-- the squares of both ways are that of the straight distance
+pub apart_is : (a b : Point) (w h : ℕ) → w ≡ across a b → h ≡ along a b → squared w + squared h ≡ square_apart a b
+apart_is a b w h wide high = cc
+
+pub is_euc_2d : (a b : Point) (k : ℕ) → IsLeastCover Nearest (square_apart a b) k → IsEuc2d a b k
+is_euc_2d a b k is = record {
+  below_next_half = is.enough;
+  from_last_half = λ some.
+      let short : ¬ (4 * square_apart a b < squared ((2 * (k - 1) + 1) * unit)) = is.least some in
+      let before : 2 * (k - 1) + 1 ≡ 2 * k - 1 = omega arith in
+      let far : ¬ (4 * square_apart a b < squared ((2 * k - 1) * unit)) = rw before at short in
+      omega arith;
+}
 
 pub is_euc_3d : (a b : Point) (w h u k : ℕ) → w ≡ across a b → h ≡ along a b → u ≡ above a b
     → 4 * (squared w + squared h + squared u) < squared ((2 * k + 1) * unit)
@@ -49,33 +48,23 @@ is_euc_3d a b w h u k wide high up enough least =
           omega arith;
     }
 
-pub is_ceil_2d : (a b : Point) (w h k : ℕ) → w ≡ across a b → h ≡ along a b
-    → squared w + squared h ≤ squared (k * unit)
-    → (0 < k → ¬ (squared w + squared h ≤ squared ((k - 1) * unit)))
-    → IsCeil2d a b k
-is_ceil_2d a b w h k wide high enough least =
-    let same : squared w + squared h ≡ square_apart a b = cc in
-    record {
-      enough = rw same at enough;
-      none_smaller = λ j below.
-          let short : ¬ (squared w + squared h ≤ squared ((k - 1) * unit)) = least (omega arith) in
-          let sides = squared-below j k below in
-          rw (← same) (omega arith);
-    }
+pub is_ceil_2d : (a b : Point) (k : ℕ) → IsLeastCover Up (square_apart a b) k → IsCeil2d a b k
+is_ceil_2d a b k is = record {
+  enough = is.enough;
+  none_smaller = λ j below.
+      let short : ¬ (square_apart a b ≤ squared ((k - 1) * unit)) = is.least (omega arith) in
+      let sides = squared-below j k below in
+      omega arith;
+}
 
-pub is_att : (a b : Point) (w h k : ℕ) → w ≡ across a b → h ≡ along a b
-    → squared w + squared h ≤ 10 * squared (k * unit)
-    → (0 < k → ¬ (squared w + squared h ≤ 10 * squared ((k - 1) * unit)))
-    → IsAtt a b k
-is_att a b w h k wide high enough least =
-    let same : squared w + squared h ≡ square_apart a b = cc in
-    record {
-      enough = rw same at enough;
-      none_smaller = λ j below.
-          let short : ¬ (squared w + squared h ≤ 10 * squared ((k - 1) * unit)) = least (omega arith) in
-          let sides = squared-below j k below in
-          rw (← same) (omega arith);
-    }
+pub is_att : (a b : Point) (k : ℕ) → IsLeastCover TenthUp (square_apart a b) k → IsAtt a b k
+is_att a b k is = record {
+  enough = is.enough;
+  none_smaller = λ j below.
+      let short : ¬ (square_apart a b ≤ 10 * squared ((k - 1) * unit)) = is.least (omega arith) in
+      let sides = squared-below j k below in
+      omega arith;
+}
 
 -- ---- the square of a way, and numbers that are certainly its rounded root
 

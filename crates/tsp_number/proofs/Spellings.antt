@@ -63,6 +63,16 @@ decimal-thousands n from below =
     ∙ ap (λ ds. (ds ++ (48 + n / 10 % 10) ∷ []) ++ (48 + n % 10) ∷ []) (decimal_step (n / 100) (omega arith) (omega arith))
     ∙ rw (hundreds, first, second, third) (simp append_assoc)
 
+-- and one of more than six in two
+pub decimal-millions : (n : ℕ) → 1000000 ≤ n → n < 2 ^ 64
+    → decimal n ≡ decimal (n / 1000000) ++ (three_digits (n / 1000 % 1000) ++ three_digits (n % 1000))
+decimal-millions n from below =
+    let whole : n / 1000 / 1000 ≡ n / 1000000 = div-div-eq-div-mul n 1000 1000 in
+    decimal-thousands n (omega arith) below
+    ∙ ap (λ ds. ds ++ three_digits (n % 1000)) (decimal-thousands (n / 1000) (omega arith) (omega arith))
+    ∙ ap (λ m. (decimal m ++ three_digits (n / 1000 % 1000)) ++ three_digits (n % 1000)) whole
+    ∙ append_assoc (decimal (n / 1000000)) (three_digits (n / 1000 % 1000)) (three_digits (n % 1000))
+
 -- the largest whole part
 pub decimal-billion : decimal 1000000000 ≡ 49 ∷ 48 ∷ 48 ∷ 48 ∷ 48 ∷ 48 ∷ 48 ∷ 48 ∷ 48 ∷ 48 ∷ []
 decimal-billion =

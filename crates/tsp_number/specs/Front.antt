@@ -1,5 +1,5 @@
 -- Number words at the front of some bytes.
-use Rattle.std.specs.Prelude.{ℕ, ◌≤◌, ◌+◌, ◌==◌, ◌||◌, ◌&&◌, cond, nat_lt, min, List, [], ◌∷◌, length, take, drop, slice_index, Option, None, Some, ℤ}
+use Rattle.std.specs.Prelude.{ℕ, ◌≤◌, ◌+◌, ◌==◌, ◌||◌, ◌&&◌, cond, nat_le, nat_lt, min, List, [], ◌∷◌, length, take, drop, slice_index, Option, None, Some, ℤ}
 use Rattle.std.specs.Char.{is_ascii_digit}
 use Rattle.std.specs.List.{prefix_len}
 use Rattle.tsp_number.specs.NumberWord.{IsShort, StandsFor}
@@ -28,6 +28,13 @@ end_of_digits sign digits = cond (digits == 0) None (Some (sign + digits))
 -- where the whole number at the front ends, of at most 18 digits
 abbrev pub whole_end : List ℕ → Option ℕ
 whole_end bytes = end_of_digits (sign_count bytes) (digit_count 18 (drop (sign_count bytes) bytes))
+
+-- where the few digits at the front end: one to seven of them, among eight bytes at least
+abbrev pub end_of_few : ℕ → ℕ → Option ℕ
+end_of_few size digits = cond (nat_le 8 size && nat_lt 0 digits && nat_lt digits 8) (Some digits) None
+
+abbrev pub few_end : List ℕ → Option ℕ
+few_end bytes = end_of_few (length bytes) (prefix_len is_ascii_digit bytes)
 
 -- after `point` bytes, of which `whole` are digits, a point follows, and then at most nine digits
 abbrev pub end_of_places : List ℕ → ℕ → ℕ → Option ℕ

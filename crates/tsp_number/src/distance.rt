@@ -2,7 +2,9 @@
 
 ghost use Rattle.std.specs.Prelude.{◌≡◌, pos, ◌≤ℤ◌, ◌<◌, ◌≤◌, ◌-ℤ◌, ◌+◌, ◌-◌, ◌*◌, ◌^◌, unsigned_abs};
 ghost use Rattle.tsp_number.specs.Decimal.{unit};
-ghost use Rattle.tsp_number.specs.Distances.{IsEuc2d, IsCeil2d, IsMan2d, IsMax2d, IsAtt, euc_2d_of, ceil_2d_of, man_2d_of, max_2d_of, att_of};
+ghost use Rattle.tsp_number.specs.Distances.{IsEuc2d, IsCeil2d, IsMan2d, IsMax2d, IsAtt};
+ghost use Rattle.tsp_number.specs.Distances.{square_apart, euc_2d_of, ceil_2d_of, man_2d_of, max_2d_of, att_of};
+ghost use Rattle.tsp_number.specs.Rounding.{IsLeastCover};
 
 use crate::decimal::{Decimal, Point, UNIT};
 use crate::root::{Rounding, rounded_root};
@@ -37,6 +39,17 @@ pub(crate) fn nearest_whole(count: u64) -> i64
     ((count + UNIT / 2) / UNIT) as i64
 }
 
+/// The straight distance in the plane, rounded as it is said: from 0 to 2,828,427,125.
+#[inline(always)]
+fn straight(rounding: Rounding, a: Point, b: Point) -> i64
+    ensures value { IsLeastCover rounding (square_apart a b) (unsigned_abs result) }
+    ensures apart { square_apart a b ≤ 8 * 10 ^ 36 }
+    ensures low { pos 0 ≤ℤ result }
+    ensures high { result ≤ℤ pos 2828427125 }
+{
+    i64::from(rounded_root(rounding, way(a.x, b.x), way(a.y, b.y)))
+}
+
 /// The distance EUC_2D: the straight distance, rounded to the nearest whole number, a half upward.
 ///
 /// It is `nint(sqrt(dx^2 + dy^2))` of Reinelt's TSPLIB 95, over the exact coordinates: from 0 to
@@ -47,7 +60,7 @@ pub fn euc_2d(a: Point, b: Point) -> i64
     ensures low { pos 0 ≤ℤ result }
     ensures high { result ≤ℤ pos 2828427125 }
 {
-    i64::from(rounded_root(Rounding::Nearest, way(a.x, b.x), way(a.y, b.y)))
+    straight(Rounding::Nearest, a, b)
 }
 
 /// The distance CEIL_2D: the straight distance, rounded up.
@@ -60,7 +73,7 @@ pub fn ceil_2d(a: Point, b: Point) -> i64
     ensures low { pos 0 ≤ℤ result }
     ensures high { result ≤ℤ pos 2828427125 }
 {
-    i64::from(rounded_root(Rounding::Up, way(a.x, b.x), way(a.y, b.y)))
+    straight(Rounding::Up, a, b)
 }
 
 /// The distance ATT: the root of a tenth of the straight distance's square, rounded up.
@@ -73,7 +86,7 @@ pub fn att(a: Point, b: Point) -> i64
     ensures low { pos 0 ≤ℤ result }
     ensures high { result ≤ℤ pos 894427191 }
 {
-    i64::from(rounded_root(Rounding::TenthUp, way(a.x, b.x), way(a.y, b.y)))
+    straight(Rounding::TenthUp, a, b)
 }
 
 /// The distance MAN_2D: the sum of the ways along both axes, rounded to the nearest whole number,

@@ -15,6 +15,19 @@ pub(crate) const EIGHT: usize = 8;
 /// Eight bytes `0`, as a number.
 const EIGHT_ZEROS: u64 = 0x3030_3030_3030_3030;
 
+// Times one of these, and without its lowest part, a number has in each of its parts ten, a hundred or
+// ten thousand times that part and the next: in the parts of one byte, of two or of four. Every second
+// one is wanted then, and those between are masked out.
+const TENS: u64 = 0x0a01;
+
+const HUNDREDS: u64 = 0x64_0001;
+
+const TEN_THOUSANDS: u64 = 0x2710_0000_0001;
+
+const EVEN_BYTES: u64 = 0x00ff_00ff_00ff_00ff;
+
+const EVEN_PAIRS: u64 = 0x0000_ffff_0000_ffff;
+
 /// How many digits these bytes begin with.
 #[inline(always)]
 fn count_in(eight: u8x8) -> usize
@@ -35,13 +48,9 @@ fn value_of(digits: u64) -> u64
     requires { AllBelowBase 10 (to_le_bytes w64 digits) }
     ensures { result ≡ number_from_digits 10 (to_le_bytes w64 digits) }
 {
-    // Each byte times ten and the next: at most 99, so nothing is carried over.
-    let pairs = 10 * digits + digits / 0x100;
-    let first = pairs % 0x100;
-    let second = pairs / 0x1_0000 % 0x100;
-    let third = pairs / 0x1_0000_0000 % 0x100;
-    let fourth = pairs / 0x1_0000_0000_0000 % 0x100;
-    ((first * 100 + second) * 100 + third) * 100 + fourth
+    let pairs = digits.wrapping_mul(TENS) / 0x100 & EVEN_BYTES;
+    let fours = pairs.wrapping_mul(HUNDREDS) / 0x1_0000 & EVEN_PAIRS;
+    fours.wrapping_mul(TEN_THOUSANDS) / 0x1_0000_0000
 }
 
 /// The number that the first `count` of these bytes write, which are digits.

@@ -4,7 +4,7 @@
 ghost use Rattle.std.specs.Prelude.{◌≡◌, Some, None, codes, ◌++◌, pos, negsuc, replicate};
 ghost use Rattle.tsp_number.specs.declared.fault.NumberFault.TheVariants.{LongWord, BadNumber, TooFine, OutOfRange, NotWhole};
 ghost use Rattle.tsp_number.specs.Distances.{IsEuc2d, IsCeil2d, IsMan2d, IsMax2d, IsAtt, IsEuc3d, IsMan3d, IsMax3d};
-ghost use Rattle.tsp_number.specs.Front.{whole_end, decimal_end};
+ghost use Rattle.tsp_number.specs.Front.{whole_end, decimal_end, few_end};
 ghost use Rattle.tsp_number.specs.Examples.{Counts, IsRefused, WholeIs, WholeIsRefused, IsSpelled, FromZero, FromZeroToSpace, FromLeastToLargest};
 
 /// What some words are read as where a decimal is wanted, in counts of 10^-9.
@@ -127,6 +127,10 @@ pub fn examples_of_fronts()
     ensures whole_before_a_point { whole_end (codes "-12.5") ≡ Some 3 }
     ensures eighteen_digits { whole_end (replicate 19 49) ≡ Some 18 }
     ensures sign_alone { whole_end (codes "-x") ≡ None }
+    ensures seven_digits { few_end (codes "1234567 ") ≡ Some 7 }
+    ensures few_among_seven_bytes { few_end (codes "123456 ") ≡ None }
+    ensures more_than_few { few_end (codes "12345678 ") ≡ None }
+    ensures few_after_a_sign { few_end (codes "-1234567 ") ≡ None }
     ensures decimal { decimal_end (codes "-1.50 7") ≡ Some 5 }
     ensures no_digit_before_the_point { decimal_end (codes ".5") ≡ Some 2 }
     ensures no_digit_after_the_point { decimal_end (codes "5.") ≡ Some 2 }

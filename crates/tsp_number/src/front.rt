@@ -5,7 +5,7 @@ ghost use Rattle.std.specs.Option.{option_map};
 ghost use Rattle.std.specs.Str.Parse.{AllDigits, digits_value};
 ghost use Rattle.tsp_number.specs.Decimal.{unit, most_count};
 ghost use Rattle.tsp_number.specs.NumberWord.{IsSign, signed as signed_of};
-ghost use Rattle.tsp_number.specs.Front.{BeginsWithNumber, sign_count, digit_count, whole_end, decimal_end};
+ghost use Rattle.tsp_number.specs.Front.{BeginsWithNumber, sign_count, digit_count, whole_end, few_end, decimal_end};
 
 use crate::decimal::{Decimal, UNIT};
 use crate::eight::{EIGHT, front_of_eight};
@@ -111,6 +111,28 @@ pub fn front_whole(bytes: &[u8]) -> Option<(i64, usize)>
         return None;
     }
     Some((signed(negative, size), sign + count))
+}
+
+/// The whole number of one to seven digits that the bytes begin with, without a sign, and how many
+/// digits write it. `None` where they begin otherwise, or are fewer than eight.
+///
+/// It is the quick way to most words of a matrix: all digits and the byte after them are among the
+/// first eight, so these alone are looked at. What follows the digits is not judged, as of
+/// [`front_whole`].
+#[inline(always)]
+pub fn front_few(bytes: &[u8]) -> Option<(i64, usize)>
+    ensures number { IfSome result (λ found. BeginsWithNumber bytes.now found.1 (found.0 *ℤ pos unit)) }
+    ensures within { IfSome result (λ found. found.1 < length bytes.now) }
+    ensures end { option_map (λ found. found.1) result ≡ few_end bytes.now }
+{
+    let Some(eight) = bytes.first_chunk::<EIGHT>() else {
+        return None;
+    };
+    let (size, count) = front_of_eight(eight);
+    if count == 0 || count == EIGHT {
+        return None;
+    }
+    Some((signed(false, size), count))
 }
 
 /// The decimal that the bytes begin with, and how many bytes write it: an optional sign, up to

@@ -29,7 +29,7 @@ pub use examples::{
     examples_of_fronts, examples_of_spellings, examples_of_whole_numbers,
 };
 pub use fault::NumberFault;
-pub use front::{front_decimal, front_whole};
+pub use front::{front_decimal, front_few, front_whole};
 pub use laws::{distance_laws, number_word_laws, spelling_laws};
 pub use monotone::monotone_laws;
 pub use space::{euc_3d, man_3d, max_3d};

@@ -44,22 +44,6 @@ fn push_hundreds<const N: usize>(text: &mut ArrayVec<u8, N>, number: u64)
     }
 }
 
-/// Appends a number below a million, without leading zeros.
-#[inline(always)]
-fn push_thousands<const N: usize>(text: &mut ArrayVec<u8, N>, number: u64)
-    requires few { number < 10 ^ 6 }
-    requires room { array_vec_len text.old + 6 ≤ N }
-    ensures items { text.new.items ≡ text.old.items ++ decimal number }
-    ensures room { array_vec_len text.new ≤ array_vec_len text.old + 6 }
-{
-    if number < 1000 {
-        push_hundreds(text, number);
-        return;
-    }
-    push_hundreds(text, number / 1000);
-    push_group(text, number % 1000);
-}
-
 /// Appends a number below 10^9, without leading zeros.
 #[inline(always)]
 fn push_millions<const N: usize>(text: &mut ArrayVec<u8, N>, number: u64)
@@ -72,7 +56,13 @@ fn push_millions<const N: usize>(text: &mut ArrayVec<u8, N>, number: u64)
         push_hundreds(text, number);
         return;
     }
-    push_thousands(text, number / 1000);
+    if number < 1_000_000 {
+        push_hundreds(text, number / 1000);
+        push_group(text, number % 1000);
+        return;
+    }
+    push_hundreds(text, number / 1_000_000);
+    push_group(text, number / 1000 % 1000);
     push_group(text, number % 1000);
 }
 
