@@ -126,11 +126,11 @@ row_within n line full high filled =
 
 -- ---- the file
 
--- a file whose full matrix has become half of one
-pub half_of : (f : Fields) (to : Layout) (n : ℕ) (old new : List ℤ) → fault_of f ≡ None → CanGo f to → IsListed f FullMatrix n old → new ≡ costs_in to n (listed_cost FullMatrix n old)
+-- a file whose weights were put into another layout
+pub laid_of : (f : Fields) (from to : Layout) (n : ℕ) (old new : List ℤ) → fault_of f ≡ None → CanGo f to → IsListed f from n old → new ≡ costs_in to n (listed_cost from n old)
     → (fault_of (with_weights f to new) ≡ None) × (new ≡ costs_in to (nodes_in f) (cost f))
-half_of f to n old new valid can held value =
-    let f_value : new ≡ costs_in to (nodes_in f) (cost f) = of_file (λ k c. new ≡ costs_in to k c) f FullMatrix n old can.listed.0 held value in
-    let sizes : All (IsWithin most_weight) new = subst (All (IsWithin most_weight)) (sym value) (all_within to n (listed_cost FullMatrix n old) (cost_within FullMatrix n old held.sizes)) in
+laid_of f from to n old new valid can held value =
+    let f_value : new ≡ costs_in to (nodes_in f) (cost f) = of_file (λ k c. new ≡ costs_in to k c) f from n old can.listed.0 held value in
+    let sizes : All (IsWithin most_weight) new = subst (All (IsWithin most_weight)) (sym value) (all_within to n (listed_cost from n old) (cost_within from n old held.sizes)) in
     let count : length new ≡ length (cells to (nodes_in f)) = ap length f_value ∙ length-map (cells to (nodes_in f)) (λ cell. cost f cell.0 cell.1) in
     (stays_valid f to new valid can.listed.1 count sizes, f_value)

@@ -3,7 +3,7 @@ mod Trees
 pub mod Listed
 pub mod Mapped
 pub mod Relaid
-pub mod Rows
 pub mod Types
 pub mod ValidFields
 pub mod WithWeights
+pub mod Spread

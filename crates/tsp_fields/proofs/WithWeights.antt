@@ -38,7 +38,7 @@ half_less (suc n) =
     let less : suc n - 1 ≡ n = omega arith in
     subst (λ (m : ℕ). suc n * m / 2 ≤ suc n * suc n) (sym less) (omega arith)
 
-few_cells : (layout : Layout) (n : ℕ) → cell_count_of layout n ≤ n * n
+pub few_cells : (layout : Layout) (n : ℕ) → cell_count_of layout n ≤ n * n
 few_cells FullMatrix n = omega arith
 few_cells UpperRow n = half_less n
 few_cells LowerRow n = half_less n

@@ -1,5 +1,5 @@
 -- What a file holds, as lists.
-use Rattle.std.specs.Prelude.{ℕ, Bool, true, List, [], map, Option, None, Some, ℤ, is_some}
+use Rattle.std.specs.Prelude.{ℕ, Bool, true, List, [], map, Option, None, Some, ℤ, pos, nat_abs, is_some}
 use Rattle.std.specs.Option.{option_map}
 use Rattle.std.specs.Global.{Vec}
 use Rattle.tsp_number.specs.declared.decimal.Point.{Point}
@@ -134,6 +134,20 @@ stands_in f ColumnPotentialPart = is_some f.column_potentials
 stands_in f FixedPotentialPart = is_some f.fixed_potentials
 stands_in f CombPart = is_some f.combs
 stands_in f BranchPart = is_some f.branches
+
+-- ---- keywords with a number, by their field
+
+abbrev pub one_number_in : Fields → Field → Option ℤ
+one_number_in f DimensionKey = option_map pos f.dimension
+one_number_in f CapacityKey = f.capacity
+one_number_in f ScaleKey = f.scale
+one_number_in f field = None
+
+abbrev pub with_one_number : Field → ℤ → Fields → Fields
+with_one_number DimensionKey number f = record f { dimension = Some (nat_abs number) }
+with_one_number CapacityKey number f = record f { capacity = Some number }
+with_one_number ScaleKey number f = record f { scale = Some number }
+with_one_number field number f = f
 
 -- ---- sections by node, by their field
 

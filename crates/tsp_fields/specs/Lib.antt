@@ -11,3 +11,4 @@ pub mod Validity
 pub mod Way
 pub mod Weights
 pub mod Examples
+pub mod Whole

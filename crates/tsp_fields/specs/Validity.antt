@@ -5,17 +5,19 @@ use Rattle.std.specs.Ordering.{int_eq}
 use Rattle.std.specs.List.{list_all, find, sum_by}
 use Rattle.tsp_number.specs.declared.decimal.Point.{Point}
 use Rattle.tsp_value.specs.declared.field.Field.{Field}
-use Rattle.tsp_value.specs.declared.field.Field.TheVariants.{NameKey, CommentKey, OtherKey, DimensionKey, CapacityKey, ScaleKey}
+use Rattle.tsp_value.specs.declared.field.Field.TheVariants.{NameKey, CommentKey, OtherKey, DimensionKey}
 use Rattle.tsp_value.specs.declared.field.Shape.{Shape}
 use Rattle.tsp_value.specs.declared.field.Shape.TheVariants.{Numbers, Points, SpacePoints, Depots, Pairs, Weights, Tours, Triples, Combs, Steps}
-use Rattle.tsp_value.specs.Limits.{most_nodes, most_matrix_nodes, most_coordinate, most_weight, most_demand, most_capacity, most_scale, most_kept_bytes, most_comments, most_others, most_depots, most_fixed, most_multipliers, most_multiplier, most_tour_nodes, most_combs, most_comb_nodes, most_branches, most_changes, most_difference}
+use Rattle.tsp_value.specs.declared.field.ValueShape.{ValueShape}
+use Rattle.tsp_value.specs.declared.field.ValueShape.TheVariants.{Kept, KeptEach, Number, Word}
+use Rattle.tsp_value.specs.Limits.{most_nodes, most_matrix_nodes, most_coordinate, most_weight, most_demand, most_kept_bytes, most_comments, most_others, most_depots, most_fixed, most_multipliers, most_multiplier, most_tour_nodes, most_combs, most_comb_nodes, most_branches, most_changes, most_difference}
 use Rattle.tsp_value.specs.Bytes.{is_blank, is_letter, is_keyword_byte}
 use Rattle.tsp_value.specs.Words.{field_word}
 use Rattle.tsp_value.specs.Keywords.{keyword_of, is_unknown}
 use Rattle.tsp_value.specs.Words.{fields_in_order}
-use Rattle.tsp_value.specs.Shapes.{shape_of}
+use Rattle.tsp_value.specs.Shapes.{shape_of, value_shape_of}
 use Rattle.tsp_value.specs.Steps.{Step, Branch, Leaf, are_whole, branch_count, change_count}
-use Rattle.tsp_fields.specs.Fields.{Fields, spatial, numbers_in, points_in}
+use Rattle.tsp_fields.specs.Fields.{Fields, spatial, one_number_in, numbers_in, points_in}
 
 -- a field that is missing is valid
 abbrev pub if_there : {A : Type 0} → (A → Bool) → Option A → Bool
@@ -133,6 +135,14 @@ are_steps n steps = list_all (is_step n) steps && nat_le (branch_count steps) mo
 
 -- ---- all fields
 
+-- a keyword whose value is read so is valid; those with words are of types that hold nothing else
+abbrev pub value_fits : Fields → Field → Option ValueShape → Bool
+value_fits f field None = true
+value_fits f field (Some Kept) = true
+value_fits f field (Some KeptEach) = true
+value_fits f field (Some (Number low high)) = if_there (is_from_to low high) (one_number_in f field)
+value_fits f field (Some Word) = true
+
 -- a section of this shape is valid
 abbrev pub section_fits : Fields → Field → Shape → Bool
 section_fits f field (Numbers low high) =
@@ -147,15 +157,13 @@ section_fits f field Triples = if_there (with_dimension are_triples f.dimension)
 section_fits f field Combs = if_there (with_dimension are_combs f.dimension) f.combs
 section_fits f field Steps = if_there (with_dimension are_steps f.dimension) f.branches
 
--- the field is valid on its own; keywords that are not named here are of types that hold nothing else
+-- the field is valid on its own
 abbrev pub fits : Fields → Field → Bool
 fits f NameKey = if_there (is_kept (field_word NameKey)) f.name
 fits f CommentKey = are_comments f.comments
 fits f OtherKey = are_others f.others
 fits f DimensionKey = if_there (is_node most_nodes) f.dimension
-fits f CapacityKey = if_there (is_from_to (pos 1) (pos most_capacity)) f.capacity
-fits f ScaleKey = if_there (is_from_to (pos 1) (pos most_scale)) f.scale
-fits f field = option_map_or (section_fits f field) (shape_of (spatial f) field) true
+fits f field = option_map_or (section_fits f field) (shape_of (spatial f) field) (value_fits f field (value_shape_of field))
 
 -- the first field of a list that fails the test
 abbrev pub first_failing : (Field → Bool) → List Field → Option Field

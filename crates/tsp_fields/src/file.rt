@@ -5,6 +5,7 @@ use crate::fault::DraftFault;
 use crate::halves::keep_half;
 use crate::rules::end_fault;
 use crate::table::bad_field;
+use crate::whole::make_whole;
 use std::alloc::Global;
 use std::marker::Model;
 use tsp_value::{
@@ -68,7 +69,9 @@ impl Draft {
     ghost use Rattle.std.specs.Prelude.{◌≡◌};
     ghost use Rattle.std.specs.Option.{option_map};
     ghost use Rattle.tsp_fields.specs.Coords.{points_of};
-    ghost use Rattle.tsp_fields.specs.Fields.{fields_of, blank_fields, spatial, stands_in, numbers_in, with_numbers, points_in, with_points};
+    ghost use Rattle.tsp_value.specs.Shapes.{value_shape_of, IsNumberOf};
+    ghost use Rattle.tsp_fields.specs.Fields.{fields_of, blank_fields, spatial, stands_in};
+    ghost use Rattle.tsp_fields.specs.Fields.{one_number_in, with_one_number, numbers_in, with_numbers, points_in, with_points};
 
     /// A draft with no field set: each is `None` or an empty list. No memory is taken.
     pub fn new(alloc: Global) -> Draft
@@ -137,6 +140,32 @@ impl Draft {
             Field::FixedPotentialPart => self.fixed_potentials.is_some(),
             Field::CombPart => self.combs.is_some(),
             Field::BranchPart => self.branches.is_some(),
+        }
+    }
+
+    /// The number of a keyword that has one; nothing where it is missing, and of every other field.
+    pub fn number(&self, field: Field) -> Option<i64>
+        ensures { result ≡ one_number_in (fields_of self.now) field }
+    {
+        match field {
+            Field::DimensionKey => self.dimension.map(i64::from),
+            Field::CapacityKey => self.capacity,
+            Field::ScaleKey => self.scale,
+            _ => None,
+        }
+    }
+
+    /// Sets the number of a keyword that has one, which is in its range; that of another field is
+    /// dropped.
+    pub fn set_number(&mut self, field: Field, number: i64)
+        requires { IsNumberOf (value_shape_of field) number }
+        ensures { fields_of self.new ≡ with_one_number field number (fields_of self.old) }
+    {
+        match field {
+            Field::DimensionKey => self.dimension = Some(number as u32),
+            Field::CapacityKey => self.capacity = Some(number),
+            Field::ScaleKey => self.scale = Some(number),
+            _ => {}
         }
     }
 
@@ -224,6 +253,7 @@ impl File {
     ghost use Rattle.tsp_value.specs.declared.layout.Layout.TheVariants.{FullMatrix};
     ghost use Rattle.tsp_value.specs.declared.kinds.WeightFormat.TheVariants.{Listed};
     ghost use Rattle.tsp_fields.specs.Cost.{cost};
+    ghost use Rattle.tsp_fields.specs.Way.{HasHalf};
     ghost use Rattle.tsp_fields.specs.Relayout.{CanGo, nodes_in, with_weights, costs_in};
     ghost use Rattle.tsp_value.specs.Steps.{steps_of};
     ghost use Rattle.tsp_fields.specs.Fields.{fields_of, combs_of};
@@ -287,6 +317,34 @@ impl File {
         draft.weight_format = Some(WeightFormat::Listed(to));
         draft.weights = Some(weights);
         File { draft }
+    }
+
+    /// This file, whose weights are half of a matrix, with the full matrix of their costs; or the file
+    /// as it was where memory was refused.
+    pub(crate) fn with_whole(self) -> Result<File, File>
+        requires half { HasHalf self }
+        requires can_go { CanGo self FullMatrix }
+        ensures { MatchResult result
+            (λ file. file ≡ with_weights self FullMatrix (costs_in FullMatrix (nodes_in self) (cost self)))
+            (λ back. back ≡ self) }
+    {
+        let File { mut draft } = self;
+        let Some(nodes) = draft.dimension else {
+            unreachable!();
+        };
+        let Some(WeightFormat::Listed(from)) = draft.weight_format else {
+            unreachable!();
+        };
+        let Some(mut weights) = draft.weights.take() else {
+            unreachable!();
+        };
+        if make_whole(from, nodes, &mut weights).is_err() {
+            draft.weights = Some(weights);
+            return Err(File { draft });
+        }
+        draft.weight_format = Some(WeightFormat::Listed(Layout::FullMatrix));
+        draft.weights = Some(weights);
+        Ok(File { draft })
     }
 
     /// NAME, as bytes.

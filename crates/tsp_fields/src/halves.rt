@@ -34,7 +34,7 @@ pub(crate) fn keep_half(to: Layout, nodes: u32, weights: &mut Vec<i64>)
 }
 
 /// Where a line of a layout, or the row across the diagonal from it, begins in a full matrix.
-fn line_start(layout: Layout, nodes: u32, line: u32) -> usize
+pub(crate) fn line_start(layout: Layout, nodes: u32, line: u32) -> usize
     requires few { nodes ≤ most_matrix_nodes }
     requires line { IsNode nodes line }
     ensures value { result ≡ line_start_of layout nodes line }

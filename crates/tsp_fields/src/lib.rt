@@ -13,6 +13,7 @@ mod table;
 mod validity;
 mod way;
 mod weights;
+mod whole;
 
 pub use coords::Coords;
 pub use examples::{

@@ -19,7 +19,8 @@ impl File {
     ///
     /// Every cost stays as it is, those from a node to itself too, and so does every field but
     /// the format and the weights. A file that has the layout already is handed back as it is, and
-    /// a full matrix goes into half of one in its own room, so that no memory is taken.
+    /// a full matrix goes into half of one in its own room, so that no memory is taken. Half of a matrix
+    /// becomes a full one in the room of the full one alone.
     ///
     /// Errors, the first that holds: `NotExplicit` where the weight type isn't EXPLICIT or there are
     /// no weights; `NotSymmetric` with the first pair, the smaller node first, by rows, whose two
@@ -32,6 +33,10 @@ impl File {
             Err(fault) => Err((fault, self)),
             Ok(Way::Already) => Ok(self),
             Ok(Way::Within) => Ok(self.with_half(to)),
+            Ok(Way::Across) => match self.with_whole() {
+                Ok(file) => Ok(file),
+                Err(back) => Err((RelayoutFault::OutOfMemory, back)),
+            },
             Ok(Way::Anew(weights)) => Ok(self.with_weights(to, weights)),
         }
     }
@@ -56,6 +61,9 @@ impl File {
         }
         if listed.are_in(Layout::FullMatrix) {
             return Ok(Way::Within);
+        }
+        if to == Layout::FullMatrix {
+            return Ok(Way::Across);
         }
         match listed.laid_out(alloc, to) {
             Ok(weights) => Ok(Way::Anew(weights)),

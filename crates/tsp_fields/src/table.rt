@@ -1,20 +1,18 @@
 //! The table of fields: whether each is valid on its own.
 
-ghost use Rattle.std.specs.Prelude.{◌≡◌, ℕ, Bool, List, Some, MatchResult, pos, map};
+ghost use Rattle.std.specs.Prelude.{◌≡◌, ℕ, Bool, List, Some, MatchResult, map};
 ghost use Rattle.std.specs.Option.{option_map};
 ghost use Rattle.tsp_value.specs.Limits.{most_nodes};
 ghost use Rattle.tsp_value.specs.Words.{field_word};
 ghost use Rattle.tsp_fields.specs.Coords.{points_of};
 ghost use Rattle.tsp_value.specs.Steps.{steps_of};
 ghost use Rattle.tsp_fields.specs.Fields.{fields_of, combs_of};
-ghost use Rattle.tsp_fields.specs.Validity.{if_there, with_dimension, is_by_node, is_kept, is_node, is_from_to, is_point, are_comments, are_others, are_depots, are_fixed, are_triples, are_weights, are_tours, are_combs, are_steps, section_fits, fits, first_failing, bad_field};
+ghost use Rattle.tsp_fields.specs.Validity.{if_there, with_dimension, is_by_node, is_kept, is_node, is_from_to, is_point, are_comments, are_others, are_depots, are_fixed, are_triples, are_weights, are_tours, are_combs, are_steps, section_fits, value_fits, fits, first_failing, bad_field};
 
 use crate::coords::Coords;
 use crate::file::Draft;
 use crate::validity;
-use tsp_value::{
-    Field, MOST_CAPACITY, MOST_COMMENTS, MOST_NODES, MOST_OTHERS, MOST_SCALE, Shape, TreeStep, Word,
-};
+use tsp_value::{Field, MOST_COMMENTS, MOST_NODES, MOST_OTHERS, Shape, TreeStep, ValueShape, Word};
 
 /// Whether a field of a draft is valid on its own.
 pub(crate) fn fits(draft: &Draft, field: Field) -> bool
@@ -25,12 +23,20 @@ pub(crate) fn fits(draft: &Draft, field: Field) -> bool
         Field::CommentKey => are_comments(&draft.comments),
         Field::OtherKey => are_others(&draft.others),
         Field::DimensionKey => is_dimension(draft.dimension),
-        Field::CapacityKey => is_from_one(draft.capacity, MOST_CAPACITY),
-        Field::ScaleKey => is_from_one(draft.scale, MOST_SCALE),
         _ => match field.shape(draft.is_spatial()) {
             Some(shape) => section_fits(draft, field, shape),
-            None => true,
+            None => value_fits(draft, field, field.value_shape()),
         },
+    }
+}
+
+/// Whether a keyword whose value is read so is valid on its own.
+fn value_fits(draft: &Draft, field: Field, shape: Option<ValueShape>) -> bool
+    ensures { result ≡ value_fits (fields_of draft.now) field shape }
+{
+    match shape {
+        Some(ValueShape::Number { low, high }) => is_number(draft.number(field), low, high),
+        _ => true,
     }
 }
 
@@ -108,13 +114,13 @@ fn is_dimension(dimension: Option<u32>) -> bool
     }
 }
 
-/// A number is from 1 to the most.
-fn is_from_one(number: Option<i64>, most: i64) -> bool
-    ensures { result ≡ if_there (is_from_to (pos 1) most) number }
+/// A number is in its range.
+fn is_number(number: Option<i64>, low: i64, high: i64) -> bool
+    ensures { result ≡ if_there (is_from_to low high) number }
 {
     match number {
         None => true,
-        Some(number) => validity::is_from_to(number, 1, most),
+        Some(number) => validity::is_from_to(number, low, high),
     }
 }
 

@@ -4,6 +4,7 @@
 ghost use Rattle.std.specs.Prelude.{◌≡◌, ℕ, ◌*◌, ◌^◌, true, false, List, [], ◌∷◌, length, None, Some, pos, codes};
 ghost use Rattle.tsp_value.specs.declared.field.Field.TheVariants as fields;
 ghost use Rattle.tsp_value.specs.declared.field.Shape.TheVariants as shapes;
+ghost use Rattle.tsp_value.specs.declared.field.ValueShape.TheVariants as values;
 ghost use Rattle.tsp_value.specs.declared.keyword.Keyword.TheVariants as keywords;
 ghost use Rattle.tsp_value.specs.declared.kinds.Kind.TheVariants as kinds;
 ghost use Rattle.tsp_value.specs.declared.kinds.WeightKind.TheVariants as weight_kinds;
@@ -16,7 +17,7 @@ ghost use Rattle.tsp_value.specs.Even.{IsFirstUneven};
 ghost use Rattle.tsp_value.specs.Keywords.{keyword_of};
 ghost use Rattle.tsp_value.specs.Layout.{layout_word};
 ghost use Rattle.tsp_value.specs.Limits as limits;
-ghost use Rattle.tsp_value.specs.Shapes.{shape_of};
+ghost use Rattle.tsp_value.specs.Shapes.{shape_of, value_shape_of};
 ghost use Rattle.tsp_value.specs.Space.{is_spatial};
 ghost use Rattle.tsp_value.specs.Words.{kind_word, weight_kind_word, weight_format_word, coord_kind_word, display_kind_word, fields_in_order};
 ghost use Rattle.tsp_value.specs.Examples.{StandsAt, CellsAre, by_rows};
@@ -155,6 +156,13 @@ pub fn examples_of_limits()
     ensures file_bytes { limits.most_file_bytes ≡ 2 ^ 30 }
     ensures demands_from_zero { shape_of false fields.DemandPart ≡ Some (shapes.Numbers (pos 0) (pos (10 ^ 9))) }
     ensures no_shape { shape_of true fields.ScaleKey ≡ None }
+    ensures nodes_from_one { value_shape_of fields.DimensionKey ≡ Some (values.Number (pos 1) (pos (10 ^ 5))) }
+    ensures capacity_from_one { value_shape_of fields.CapacityKey ≡ Some (values.Number (pos 1) (pos (10 ^ 12))) }
+    ensures scale_from_one { value_shape_of fields.ScaleKey ≡ Some (values.Number (pos 1) (pos (10 ^ 6))) }
+    ensures one_name { value_shape_of fields.NameKey ≡ Some values.Kept }
+    ensures each_comment { value_shape_of fields.CommentKey ≡ Some values.KeptEach }
+    ensures type_by_word { value_shape_of fields.TypeKey ≡ Some values.Word }
+    ensures no_value { value_shape_of fields.DemandPart ≡ None }
 {}
 
 /// When a file is spatial, and which of its sections then has points with three coordinates.

@@ -3,9 +3,9 @@
 ghost use Rattle.std.specs.Prelude.{◌≡◌};
 ghost use Rattle.tsp_value.specs.Words.{field_word};
 ghost use Rattle.tsp_value.specs.Words.{fields_in_order, field_found};
-ghost use Rattle.tsp_value.specs.Shapes.{shape_of};
+ghost use Rattle.tsp_value.specs.Shapes.{shape_of, value_shape_of};
 
-use crate::limits::{MOST_DEMAND, MOST_POTENTIAL};
+use crate::limits::{MOST_CAPACITY, MOST_DEMAND, MOST_NODES, MOST_POTENTIAL, MOST_SCALE};
 use crate::word::Word;
 use std::fmt;
 
@@ -64,6 +64,19 @@ pub enum Shape {
     Steps,
 }
 
+/// What the value of a keyword is read as.
+#[derive(Clone, Copy, Debug, PartialEq, Eq)]
+pub enum ValueShape {
+    /// Bytes that are kept as they stand, of one line.
+    Kept,
+    /// The same of each line that has the keyword.
+    KeptEach,
+    /// A whole number from `low` to `high`: the first word.
+    Number { low: i64, high: i64 },
+    /// One of a list of words: the first word.
+    Word,
+}
+
 impl Field {
     /// Each field, in canonical order.
     pub const ALL: [Field; 24] = [
@@ -117,6 +130,34 @@ impl Field {
             Field::FixedPotentialPart => Some(Shape::Triples),
             Field::CombPart => Some(Shape::Combs),
             Field::BranchPart => Some(Shape::Steps),
+            _ => None,
+        }
+    }
+
+    /// What the value of a keyword is read as; nothing of a section, nor of the unknown keywords.
+    pub fn value_shape(self) -> Option<ValueShape>
+        ensures { result ≡ value_shape_of self }
+    {
+        match self {
+            Field::NameKey => Some(ValueShape::Kept),
+            Field::CommentKey => Some(ValueShape::KeptEach),
+            Field::DimensionKey => Some(ValueShape::Number {
+                low: 1,
+                high: i64::from(MOST_NODES),
+            }),
+            Field::CapacityKey => Some(ValueShape::Number {
+                low: 1,
+                high: MOST_CAPACITY,
+            }),
+            Field::ScaleKey => Some(ValueShape::Number {
+                low: 1,
+                high: MOST_SCALE,
+            }),
+            Field::TypeKey
+            | Field::EdgeWeightTypeKey
+            | Field::EdgeWeightFormatKey
+            | Field::NodeCoordTypeKey
+            | Field::DisplayDataTypeKey => Some(ValueShape::Word),
             _ => None,
         }
     }

@@ -17,7 +17,7 @@ pub use examples::{
     examples_of_bytes, examples_of_cells, examples_of_fields, examples_of_limits,
     examples_of_space, examples_of_uneven_costs, examples_of_words,
 };
-pub use field::{Field, Shape};
+pub use field::{Field, Shape, ValueShape};
 pub use keyword::Keyword;
 pub use kinds::{CoordKind, DisplayKind, Kind, WeightFormat, WeightKind, is_spatial};
 pub use layout::{Layout, cells_are_distinct, cells_are_the_listed_pairs, cells_go_line_by_line};

@@ -9,15 +9,17 @@ use Rattle.tsp_number.specs.Spelling.{spelling}
 use Rattle.tsp_value.specs.declared.kinds.WeightFormat.{WeightFormat}
 use Rattle.tsp_value.specs.declared.kinds.WeightFormat.TheVariants.{Listed}
 use Rattle.tsp_value.specs.declared.field.Field.{Field}
-use Rattle.tsp_value.specs.declared.field.Field.TheVariants.{NameKey, TypeKey, CommentKey, OtherKey, DimensionKey, CapacityKey, ScaleKey, EdgeWeightTypeKey, EdgeWeightFormatKey, NodeCoordTypeKey, DisplayDataTypeKey}
+use Rattle.tsp_value.specs.declared.field.Field.TheVariants.{NameKey, TypeKey, CommentKey, OtherKey, DimensionKey, EdgeWeightTypeKey, EdgeWeightFormatKey, NodeCoordTypeKey, DisplayDataTypeKey}
 use Rattle.tsp_value.specs.declared.field.Shape.{Shape}
 use Rattle.tsp_value.specs.declared.field.Shape.TheVariants.{Numbers, Points, SpacePoints, Depots, Pairs, Weights, Tours, Triples, Combs, Steps}
-use Rattle.tsp_value.specs.Shapes.{shape_of}
+use Rattle.tsp_value.specs.declared.field.ValueShape.{ValueShape}
+use Rattle.tsp_value.specs.declared.field.ValueShape.TheVariants.{Kept, KeptEach, Number, Word}
+use Rattle.tsp_value.specs.Shapes.{shape_of, value_shape_of}
 use Rattle.tsp_value.specs.Words.{field_word, kind_word, weight_kind_word, weight_format_word, coord_kind_word, display_kind_word}
 use Rattle.tsp_value.specs.Words.{fields_in_order}
 use Rattle.tsp_value.specs.Cells.{nodes_to, cells_of_line}
 use Rattle.tsp_value.specs.Steps.{Step, Branch, Leaf}
-use Rattle.tsp_fields.specs.Fields.{Fields, spatial, numbers_in, points_in}
+use Rattle.tsp_fields.specs.Fields.{Fields, spatial, one_number_in, numbers_in, points_in}
 
 -- ---- lines
 
@@ -151,6 +153,14 @@ text_of_section f field Triples = optional (λ triples. section field (triple_li
 text_of_section f field Combs = optional (λ combs. section field (comb_list combs)) f.combs
 text_of_section f field Steps = optional (λ steps. section field (step_lines steps)) f.branches
 
+-- the text of a keyword whose value is read as a number
+abbrev pub text_of_value : Fields → Field → Option ValueShape → List ℕ
+text_of_value f field None = []
+text_of_value f field (Some Kept) = []
+text_of_value f field (Some KeptEach) = []
+text_of_value f field (Some (Number low high)) = optional (λ number. keyword_line field (signed_decimal number)) (one_number_in f field)
+text_of_value f field (Some Word) = []
+
 -- the text of a field
 abbrev pub text_of_field : Fields → Field → List ℕ
 text_of_field f NameKey = optional (keyword_line NameKey) f.name
@@ -158,14 +168,13 @@ text_of_field f TypeKey = optional (λ kind. keyword_line TypeKey (kind_word kin
 text_of_field f CommentKey = flat_map (keyword_line CommentKey) f.comments
 text_of_field f OtherKey = flat_map other_line f.others
 text_of_field f DimensionKey = optional (λ n. keyword_line DimensionKey (decimal n)) f.dimension
-text_of_field f CapacityKey = optional (λ capacity. keyword_line CapacityKey (signed_decimal capacity)) f.capacity
-text_of_field f ScaleKey = optional (λ scale. keyword_line ScaleKey (signed_decimal scale)) f.scale
 text_of_field f EdgeWeightTypeKey = optional (λ kind. keyword_line EdgeWeightTypeKey (weight_kind_word kind)) f.weight_kind
 text_of_field f EdgeWeightFormatKey =
     optional (λ format. keyword_line EdgeWeightFormatKey (weight_format_word format)) f.weight_format
 text_of_field f NodeCoordTypeKey = optional (λ kind. keyword_line NodeCoordTypeKey (coord_kind_word kind)) f.coord_kind
 text_of_field f DisplayDataTypeKey = optional (λ kind. keyword_line DisplayDataTypeKey (display_kind_word kind)) f.display_kind
-text_of_field f field = option_map_or (text_of_section f field) (shape_of (spatial f) field) []
+text_of_field f field =
+    option_map_or (text_of_section f field) (shape_of (spatial f) field) (text_of_value f field (value_shape_of field))
 
 -- the canonical text
 abbrev pub text_of : Fields → List ℕ

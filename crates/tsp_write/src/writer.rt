@@ -5,7 +5,7 @@ ghost use Rattle.std.specs.List.{flat_map};
 ghost use Rattle.tsp_fields.specs.Fields.{fields_of};
 ghost use Rattle.tsp_stream.specs.Sink.{sink_of, Writes};
 ghost use Rattle.tsp_stream.specs.Way.{Puts};
-ghost use Rattle.tsp_write.specs.Text.{text_of, text_of_field, text_of_section};
+ghost use Rattle.tsp_write.specs.Text.{text_of, text_of_field, text_of_section, text_of_value};
 
 mod keywords;
 mod matrix;
@@ -23,7 +23,7 @@ use std::alloc::Global;
 use std::io::Write;
 use tsp_fields::{Draft, File};
 use tsp_stream::{Piece, Watched, WriteFault, hand_over, put};
-use tsp_value::{Field, Shape};
+use tsp_value::{Field, Shape, ValueShape};
 
 /// Writes the canonical text of a file.
 ///
@@ -81,16 +81,31 @@ fn put_field<W: Write>(piece: &mut Piece, out: &mut Watched<W>, draft: &Draft, f
         Field::CommentKey => put_comments(piece, out, &draft.comments),
         Field::OtherKey => put_others(piece, out, &draft.others),
         Field::DimensionKey => put_whole(piece, out, field, draft.dimension),
-        Field::CapacityKey => put_whole(piece, out, field, draft.capacity),
-        Field::ScaleKey => put_whole(piece, out, field, draft.scale),
         Field::EdgeWeightTypeKey => put_word(piece, out, field, draft.weight_kind),
         Field::EdgeWeightFormatKey => put_word(piece, out, field, draft.weight_format),
         Field::NodeCoordTypeKey => put_word(piece, out, field, draft.coord_kind),
         Field::DisplayDataTypeKey => put_word(piece, out, field, draft.display_kind),
         _ => match field.shape(draft.is_spatial()) {
             Some(shape) => put_section(piece, out, draft, field, shape),
-            None => {}
+            None => put_keyword(piece, out, draft, field, field.value_shape()),
         },
+    }
+}
+
+/// Adds the text of a keyword whose value is read as a number, where the draft has it.
+fn put_keyword<W: Write>(
+    piece: &mut Piece,
+    out: &mut Watched<W>,
+    draft: &Draft,
+    field: Field,
+    shape: Option<ValueShape>,
+)
+    ensures { Puts W.contents out.old piece.old out.new piece.new
+        (text_of_value (fields_of draft.now) field shape) }
+{
+    match shape {
+        Some(ValueShape::Number { .. }) => put_whole(piece, out, field, draft.number(field)),
+        _ => {}
     }
 }
 

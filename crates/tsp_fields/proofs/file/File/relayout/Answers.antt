@@ -1,6 +1,7 @@
-use Rattle.std.proofs.Common.{subst, ap, ◌∙◌}
+use Rattle.std.proofs.Common.{subst, ap, sym, ◌∙◌}
 use Rattle.tsp_fields.specs.Fields.{Fields}
-use Rattle.tsp_fields.specs.Relayout.{with_weights}
+use Rattle.tsp_fields.specs.Cost.{cost}
+use Rattle.tsp_fields.specs.Relayout.{nodes_in, with_weights, costs_in}
 use Rattle.tsp_fields.specs.Way.{LeadsTo}
 use Rattle.tsp_fields.proofs.Relaid.{relaid, already}
 use Rattle.tsp_fields.proofs.file.File.relayout.Goals as goal
@@ -19,3 +20,10 @@ returns-in-Ok-Anew c =
     let f : Fields = c.args.self in
     let laid = subst (LeadsTo f c.args.to) c.in-Ok-Anew.field-0-is c.in-Ok-Anew.ensures.1 in
     relaid f c.args.to _ c.in-Ok-Anew.ensures.0 (c.with_weights.ensures ∙ ap (with_weights f c.args.to) laid.0)
+
+pub returns-in-Ok : goal.returns-in-Ok
+returns-in-Ok c =
+    let f : Fields = c.args.self in
+    let across = subst (LeadsTo f c.args.to) c.in-Ok-Across.field-0-is c.in-Ok-Across.ensures.1 in
+    relaid f c.args.to c.in-Ok.file c.in-Ok-Across.ensures.0
+    (c.in-Ok.ensures ∙ ap (λ layout. with_weights f layout (costs_in layout (nodes_in f) (cost f))) (sym across.0))

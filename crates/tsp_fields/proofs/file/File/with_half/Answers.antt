@@ -13,7 +13,7 @@ use Rattle.tsp_fields.proofs.ValidFields.{in_range}
 use Rattle.tsp_fields.proofs.WithWeights.{some_is}
 use Rattle.tsp_fields.proofs.Listed.{lists}
 use Rattle.tsp_fields.proofs.Relaid.{of_weights}
-use Rattle.tsp_fields.proofs.Fronts.{half_of}
+use Rattle.tsp_fields.proofs.Fronts.{laid_of}
 use Rattle.tsp_fields.proofs.file.File.with_half.Goals as goal
 
 as_held : (f g : Fields) (to : Layout) → f ≡ g → CanGo g to → CanGo f to
@@ -57,7 +57,7 @@ invariant_of-result c =
     let f : Fields = fields_of c.self.inside.draft in
     let can = as_held f c.args.self c.args.to c.self.view_is c.requires.can_go in
     let stand = ap (option_map (λ w. w.items)) (sym (c.take.ensures.value) ∙ c.in-Some-take.is) in
-    (half_of f c.args.to c.in-Some.nodes c.in-Some-take.weights.items c.keep_half.new.weights.items c.self.invariant can
+    (laid_of f FullMatrix c.args.to c.in-Some.nodes c.in-Some-take.weights.items c.keep_half.new.weights.items c.self.invariant can
     (held f c.args.self c.in-Some.nodes c.in-Some-take.weights.items c.self.view_is c.self.invariant c.requires.full c.in-Some.is stand) c.keep_half.ensures).0
 
 pub returns : goal.returns
@@ -65,6 +65,6 @@ returns c =
     let f : Fields = fields_of c.self.inside.draft in
     let can = as_held f c.args.self c.args.to c.self.view_is c.requires.can_go in
     let stand = ap (option_map (λ w. w.items)) (sym (c.take.ensures.value) ∙ c.in-Some-take.is) in
-    let value = (half_of f c.args.to c.in-Some.nodes c.in-Some-take.weights.items c.keep_half.new.weights.items c.self.invariant can
+    let value = (laid_of f FullMatrix c.args.to c.in-Some.nodes c.in-Some-take.weights.items c.keep_half.new.weights.items c.self.invariant can
     (held f c.args.self c.in-Some.nodes c.in-Some-take.weights.items c.self.view_is c.self.invariant c.requires.full c.in-Some.is stand) c.keep_half.ensures).1 in
     ap (with_weights f c.args.to) value ∙ ap (λ (g : Fields). with_weights g c.args.to (costs_in c.args.to (nodes_in g) (cost g))) c.self.view_is
