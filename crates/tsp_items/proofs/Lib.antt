@@ -17,3 +17,5 @@ pub mod Readings
 pub mod Taken
 pub mod PartSteps
 pub mod NamedRows
+pub mod Scans
+pub mod NoBlanks

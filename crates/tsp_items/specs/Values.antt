@@ -1,6 +1,6 @@
--- What the value of a keyword may be, keyword by keyword. The words are those of TSPLIB 95 (G. Reinelt); which of them are
--- left out, and the ranges of numbers, are this project's profile.
-use Rattle.std.specs.Prelude.{ℕ, Bool, true, false, List, [], ◌∷◌, Option, None, Some, is_some, is_none, ℤ, pos, codes, Result, nat_abs}
+-- What the value of a keyword may be, by what it is read as. The words are those of TSPLIB 95 (G. Reinelt); which of them are
+-- left out is this project's profile.
+use Rattle.std.specs.Prelude.{ℕ, Bool, true, false, List, [], ◌∷◌, Option, None, Some, is_some, is_none, ℤ, codes, Result, nat_abs}
 use Rattle.std.specs.Option.{option_map, option_map_or, option_and_then}
 use Rattle.std.specs.Result.{result_ok}
 use Rattle.std.specs.List.{find, list_any}
@@ -13,8 +13,10 @@ use Rattle.tsp_value.specs.declared.kinds.WeightFormat.{WeightFormat}
 use Rattle.tsp_value.specs.declared.kinds.CoordKind.{CoordKind}
 use Rattle.tsp_value.specs.declared.kinds.DisplayKind.{DisplayKind}
 use Rattle.tsp_value.specs.declared.field.Field.{Field}
-use Rattle.tsp_value.specs.declared.field.Field.TheVariants.{NameKey, TypeKey, CommentKey, DimensionKey, CapacityKey, ScaleKey, EdgeWeightTypeKey, EdgeWeightFormatKey, NodeCoordTypeKey, DisplayDataTypeKey}
-use Rattle.tsp_value.specs.Limits.{most_nodes, most_capacity, most_scale}
+use Rattle.tsp_value.specs.declared.field.Field.TheVariants.{TypeKey, DimensionKey, EdgeWeightTypeKey, EdgeWeightFormatKey, NodeCoordTypeKey, DisplayDataTypeKey}
+use Rattle.tsp_value.specs.declared.field.ValueShape.{ValueShape}
+use Rattle.tsp_value.specs.declared.field.ValueShape.TheVariants.{Kept, KeptEach, Number, Word}
+use Rattle.tsp_value.specs.Shapes.{value_shape_of}
 use Rattle.tsp_value.specs.Space.{weighs_three, has_three, is_spatial}
 use Rattle.tsp_value.specs.Words.{kind_word, weight_kind_word, weight_format_word, coord_kind_word, display_kind_word}
 use Rattle.tsp_value.specs.Words.{kinds, weight_kinds, weight_formats, coord_kinds, display_kinds}
@@ -63,12 +65,15 @@ is_left_out field word = list_any (bytes_eq word) (left_out field)
 
 -- ---- keywords with a number
 
--- the range of the keyword's whole number
+-- the range of a whole number
+abbrev pub range_in : ValueShape → Option (ℤ × ℤ)
+range_in Kept = None
+range_in KeptEach = None
+range_in (Number low high) = Some (low, high)
+range_in Word = None
+
 abbrev pub range_of : Field → Option (ℤ × ℤ)
-range_of DimensionKey = Some (pos 1, pos most_nodes)
-range_of CapacityKey = Some (pos 1, pos most_capacity)
-range_of ScaleKey = Some (pos 1, pos most_scale)
-range_of field = None
+range_of field = option_and_then range_in (value_shape_of field)
 
 abbrev pub has_number : Field → Bool
 has_number field = is_some (range_of field)
@@ -79,10 +84,14 @@ read_as field value = option_map (λ range. whole_of (first_word value) range.0 
 
 -- ---- keywords whose value is kept as it is
 
+abbrev pub is_kept_value : ValueShape → Bool
+is_kept_value Kept = true
+is_kept_value KeptEach = true
+is_kept_value (Number low high) = false
+is_kept_value Word = false
+
 abbrev pub is_kept_as_is : Field → Bool
-is_kept_as_is NameKey = true
-is_kept_as_is CommentKey = true
-is_kept_as_is field = false
+is_kept_as_is field = option_map_or is_kept_value (value_shape_of field) false
 
 -- ---- the values among earlier items
 

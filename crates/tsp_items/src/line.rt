@@ -1,17 +1,20 @@
 //! A word line in its parts, and what its value is read as.
 
-ghost use Rattle.std.specs.Prelude.{◌≡◌, ◌≤ℤ◌, ℤ, IfOk};
-ghost use Rattle.std.specs.List.{position};
-ghost use Rattle.tsp_value.specs.Bytes.{is_blank};
-ghost use Rattle.tsp_items.specs.Lines.{first_word, is_filled};
+ghost use Rattle.std.specs.Prelude.{◌≡◌, cond, drop, not};
+ghost use Rattle.std.specs.List.{position, prefix_len};
+ghost use Rattle.tsp_value.specs.Bytes.{is_blank, is_keyword_byte};
+ghost use Rattle.tsp_items.specs.Lines.{first_word, keyword_in, is_colon, begins};
+ghost use Rattle.tsp_items.specs.Items.{line_item};
 ghost use Rattle.tsp_items.specs.Values.{is_left_out, says_space};
 ghost use Rattle.tsp_value.specs.declared.field.Field.TheVariants.{EdgeWeightTypeKey};
-ghost use Rattle.tsp_items.specs.states.CutLine.{NamesValue, ReadsNumber, MayOpen};
+ghost use Rattle.tsp_items.specs.states.CutLine.{cut_item, NamesValue, GivesNumber, MayOpen};
 
+use crate::blanks::{without_end, without_start};
 use crate::fault::LineFault;
 use tsp_number::parse_whole;
 use tsp_value::{
-    CoordKind, Field, Keyword, MOST_MATRIX_NODES, Shape, WeightKind, Word, is_blank, value_of,
+    CoordKind, Field, Keyword, MOST_MATRIX_NODES, Shape, WeightKind, Word, is_blank,
+    is_keyword_byte, value_of,
 };
 
 /// A word line, cut into its parts.
@@ -27,6 +30,53 @@ pub struct CutLine<'a> {
     pub has_colon: bool,
     /// The value, without blanks at either end.
     pub value: &'a [u8],
+}
+
+/// Where the keyword at the front ends.
+#[inline(always)]
+fn keyword_end(text: &[u8]) -> Option<usize>
+    ensures { result ≡ position (λ b. not (is_keyword_byte b)) text.now }
+{
+    text.iter().position(|byte| !is_keyword_byte(*byte))
+}
+
+/// The keyword at the front of a word line, and what follows it.
+fn split_keyword(text: &[u8]) -> (&[u8], &[u8])
+    ensures keyword { result.0.now ≡ keyword_in text.now }
+    ensures rest { result.1.now ≡ drop (prefix_len is_keyword_byte text.now) text.now }
+{
+    match keyword_end(text) {
+        Some(end) => text.split_at(end),
+        None => text.split_at(text.len()),
+    }
+}
+
+/// Whether a colon stands at the front, and what follows it, or all where none stands there.
+fn split_colon(text: &[u8]) -> (bool, &[u8])
+    ensures colon { result.0 ≡ begins is_colon text.now }
+    ensures rest { result.1.now ≡ drop (cond (begins is_colon text.now) 1 0) text.now }
+{
+    match text.split_first() {
+        Some((b':', rest)) => (true, rest),
+        _ => (false, text),
+    }
+}
+
+impl<'a> CutLine<'a> {
+    /// The parts of a word line: of its bytes from the first that isn't blank to its end.
+    pub fn of(text: &'a [u8]) -> CutLine<'a>
+        ensures { cut_item result ≡ line_item text.now }
+    {
+        let (keyword, rest) = split_keyword(text);
+        let (has_colon, value) = split_colon(without_start(rest));
+        CutLine {
+            size: text.len(),
+            key: Keyword::of(keyword),
+            keyword,
+            has_colon,
+            value: without_end(without_start(value)),
+        }
+    }
 }
 
 /// Where the first blank of a value is.
@@ -101,11 +151,18 @@ pub(crate) fn named<V: Word>(field: Field, value: &[u8]) -> Result<V, LineFault>
     }
 }
 
-/// The whole number from `low` to `high` that the first word of a keyword's value is.
-pub(crate) fn number(value: &[u8], low: i64, high: i64) -> Result<i64, LineFault>
-    ensures read { ReadsNumber low high value.now result }
-    ensures within { IfOk result (λ z. (low ≤ℤ z) × (z ≤ℤ high)) }
+/// The number that a line has, of a keyword that doesn't stand yet.
+///
+/// # Errors
+///
+/// The keyword stands (`Repeated`), the line has no value (`BadValue`), or its first word is no
+/// whole number from `low` to `high` (`Number`).
+pub fn number_of(stands: bool, value: &[u8], low: i64, high: i64) -> Result<i64, LineFault>
+    ensures { GivesNumber stands low high value.now result }
 {
+    if stands {
+        return Err(LineFault::Repeated);
+    }
     if value.is_empty() {
         return Err(LineFault::BadValue);
     }

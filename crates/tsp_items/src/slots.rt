@@ -3,11 +3,11 @@
 ghost use Rattle.tsp_items.specs.Lines.{first_word};
 ghost use Rattle.std.specs.Prelude.{◌≡◌, map};
 ghost use Rattle.std.specs.Option.{option_map};
-ghost use Rattle.tsp_items.specs.states.CutLine.{seen, SetsNamed, SetsNumber, SetsCount, SetsName, AddsComment, AddsOther};
+ghost use Rattle.tsp_items.specs.states.CutLine.{seen, SetsNamed, SetsName, AddsComment, AddsOther};
 ghost use Rattle.tsp_items.specs.Rows.{is_too_long_to_keep};
 
 use crate::fault::{LineFault, StepFault};
-use crate::line::{CutLine, named, number};
+use crate::line::{CutLine, named};
 use std::alloc::Global;
 use tsp_value::{Field, MOST_COMMENTS, MOST_KEPT_BYTES, MOST_OTHERS, Word};
 
@@ -32,53 +32,6 @@ pub fn set_named<V: Word + Drop>(
         Ok(_) if late => Err(StepFault::Fault(LineFault::LateSpace)),
         Ok(value) => {
             *slot = Some(value);
-            Ok(())
-        }
-        Err(fault) => Err(StepFault::Fault(fault)),
-    }
-}
-
-/// Sets the number that a line has, where none is set yet.
-///
-/// # Errors
-///
-/// `Fault`: one is set (`Repeated`), the line has no value (`BadValue`), or its first word is no
-/// number from `low` to `high` (`Number`).
-pub fn set_number(
-    slot: &mut Option<i64>,
-    value: &[u8],
-    low: i64,
-    high: i64,
-) -> Result<(), StepFault>
-    ensures { SetsNumber low high value.now slot.old slot.new result }
-{
-    if slot.is_some() {
-        return Err(StepFault::Fault(LineFault::Repeated));
-    }
-    match number(value, low, high) {
-        Ok(number) => {
-            *slot = Some(number);
-            Ok(())
-        }
-        Err(fault) => Err(StepFault::Fault(fault)),
-    }
-}
-
-/// Sets the number of nodes that a line has, at most `most`, where none is set yet.
-///
-/// # Errors
-///
-/// `Fault`: one is set (`Repeated`), the line has no value (`BadValue`), or its first word is no
-/// number from 1 to `most` (`Number`).
-pub fn set_count(slot: &mut Option<u32>, value: &[u8], most: u32) -> Result<(), StepFault>
-    ensures { SetsCount most value.now slot.old slot.new result }
-{
-    if slot.is_some() {
-        return Err(StepFault::Fault(LineFault::Repeated));
-    }
-    match number(value, 1, i64::from(most)) {
-        Ok(number) => {
-            *slot = Some(number as u32);
             Ok(())
         }
         Err(fault) => Err(StepFault::Fault(fault)),

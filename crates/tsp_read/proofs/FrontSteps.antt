@@ -167,6 +167,23 @@ no_line : (inside letter : Bool) → letter ≡ false → (not inside && letter)
 no_line true letter e = refl
 no_line false letter e = e
 
+no_blank : (b : Bool) (c : ℕ) → is_blank c ≡ b → ends_word c ≡ false → b ≡ false
+no_blank true c blank e = absurd (true≢false (sym (blank_ends c blank) ∙ e))
+no_blank false c blank e = refl
+
+filled_front : (first : ℕ) (others : List ℕ) → is_blank first ≡ false → without_start (first ∷ others) ≡ first ∷ others
+filled_front first others e = rw e refl
+
+-- no blank stands before it where the text begins with it
+pub begins_filled : (text : List ℕ) (count : ℕ) (k : ℤ) → BeginsWithNumber text count k → text ≡ without_start text
+begins_filled text count k number =
+    let spelled = number.stands.spelled in
+    let start = starts_word (take count text) number.stands.numeral spelled in
+    let free : FreeOf ends_word (start.first ∷ start.others) = subst (FreeOf ends_word) start.parts (free_word (take count text) number.stands.numeral spelled) in
+    let blank : is_blank start.first ≡ false = no_blank (is_blank start.first) start.first refl free.0 in
+    let parts : text ≡ start.first ∷ (start.others ++ drop count text) = whole_parts text count (drop count text) refl ∙ ap (λ (xs : List ℕ). xs ++ drop count text) start.parts in
+    parts ∙ sym (filled_front start.first (start.others ++ drop count text) blank) ∙ ap without_start (sym parts)
+
 -- it is the next item
 pub front_gives : (text filled : List ℕ) (count : ℕ) (k : ℤ) (rest left : List ℕ) → EndsNumber text filled count k rest left
     → (inside : Bool) → GivesNext inside text (NumberWord (front_word text)) true left

@@ -1,6 +1,6 @@
 -- A line of a keyword: the field that it gives, and its rows.
 use Rattle.std.proofs.Common.{cond, ◌≡◌, ℕ, Bool, true, false, List, ◌∷◌, set, get_or, refl, sym, ap, subst, ◌∙◌, Option, Some, None, Result, Ok, Err}
-use Rattle.std.specs.Prelude.{ℤ, pos, nat_lt, is_some, is_none, not, ◌&&◌}
+use Rattle.std.specs.Prelude.{ℤ, pos, nat_abs, nat_lt, is_some, is_none, not, ◌&&◌}
 use Rattle.std.specs.Option.{option_map}
 use Rattle.std.specs.Result.{result_ok}
 use Rattle.std.specs.List.{find}
@@ -17,7 +17,8 @@ use Rattle.tsp_value.specs.declared.keyword.Keyword.TheVariants.{Known}
 use Rattle.tsp_value.specs.Limits.{most_nodes, most_capacity, most_scale, most_line_bytes}
 use Rattle.tsp_value.specs.Words.{kind_word, weight_kind_word, weight_format_word, coord_kind_word, display_kind_word, kinds, weight_kinds, weight_formats, coord_kinds, display_kinds}
 use Rattle.tsp_number.specs.declared.decimal.Point.{Point}
-use Rattle.tsp_fields.specs.Fields.{Fields, fields_of, spatial}
+use Rattle.tsp_fields.specs.Fields.{Fields, fields_of, spatial, stands_in, with_one_number}
+use Rattle.tsp_items.specs.declared.fault.LineFault.{LineFault}
 use Rattle.tsp_items.specs.declared.fault.StepFault.{StepFault}
 use Rattle.tsp_items.specs.declared.fault.StepFault.TheVariants as steps
 use Rattle.tsp_read.specs.declared.state.reading.OpenSection.{OpenSection}
@@ -30,11 +31,13 @@ use Rattle.tsp_items.specs.Groups.{coords_by_node}
 use Rattle.tsp_items.specs.Sections.{nodes_of}
 use Rattle.tsp_items.specs.Rows.{row_of, is_late}
 use Rattle.tsp_items.specs.FirstFault.{IsClean}
-use Rattle.tsp_value.specs.Shapes.{is_section_field}
+use Rattle.tsp_value.specs.declared.field.ValueShape.TheVariants.{Number}
+use Rattle.tsp_value.specs.Shapes.{is_section_field, value_shape_of}
 use Rattle.tsp_items.specs.Spells.{fields_by, sections_in_order, first_incomplete}
-use Rattle.tsp_items.specs.states.CutLine.{named_rows, SetsNamed, numbered_rows, SetsNumber, SetsCount}
+use Rattle.tsp_items.specs.states.CutLine.{named_rows, SetsNamed, numbered_rows, GivesNumber}
 use Rattle.tsp_read.specs.states.Holds.{fields_there, is_closed, is_closed_incomplete, OpenHolds, Closed, LineAnswers}
 use Rattle.tsp_read.proofs.Clean.{clean_more}
+use Rattle.tsp_read.proofs.KeywordCases.{by_number}
 use Rattle.tsp_read.proofs.SpaceSteps.{space_kept, coords_stay, first_stays}
 use Rattle.tsp_read.proofs.ValidStanding.{after_dimension}
 
@@ -245,78 +248,85 @@ display_kind_line old new line slot (Err (steps.Fault fault)) sets is same_first
     display_kind_rows earlier line short ∙ ap (λ (b : Bool). named_rows b (is_left_out DisplayDataTypeKey (first_word line.value))
     (display_kind_named (first_word line.value)) false) (sym there) ∙ sets.1
 
--- ---- CapacityKey
+-- ---- a keyword with a number
 
-capacity_rows : (earlier : List Item) (line : WordLine) → nat_lt most_line_bytes line.size ≡ false
-    → row_of earlier (Line (Known CapacityKey) line) ≡ numbered_rows (has_line CapacityKey earlier) line.value (whole_of (first_word line.value) (pos 1) (pos most_capacity))
-capacity_rows earlier line short = rw short refl
+-- its rows
+number_rows : (earlier : List Item) (line : WordLine) → nat_lt most_line_bytes line.size ≡ false
+    → (field : Field) (low high : ℤ) → value_shape_of field ≡ Some (Number low high)
+    → row_of earlier (Line (Known field) line)
+    ≡ numbered_rows (has_line field earlier) line.value (whole_of (first_word line.value) low high)
+number_rows earlier line short = by_number (λ field low high. row_of earlier (Line (Known field) line)
+    ≡ numbered_rows (has_line field earlier) line.value (whole_of (first_word line.value) low high))
+    (rw short refl) (rw short refl) (rw short refl)
 
-pub capacity_line : (old new : Reading) (line : WordLine) (slot : Option ℤ) (r : Result (Unit {0}) StepFault)
-    → SetsNumber (pos 1) (pos most_capacity) line.value old.draft.capacity slot r
-    → fields_of new.draft ≡ (let fields = fields_of old.draft in record fields { capacity = slot }) → new.incomplete ≡ old.incomplete → new.opened ≡ old.opened
-    → LineAnswers old CapacityKey line new r
-capacity_line old new line slot (Ok done) sets is same_first same_part earlier h short =
-    let there : is_some old.draft.capacity ≡ has_line CapacityKey earlier = ap (λ (xs : List Bool). get_or xs 3 false) h.stand in
-    let filled : is_some slot ≡ true = ap (λ (o : Option ℤ). is_some o) sets.4 in
-    record {
-      clean = clean_more earlier (Line (Known CapacityKey) line) h.clean
-          (capacity_rows earlier line short ∙ numbered_none (has_line CapacityKey earlier) line.value
-          (whole_of (first_word line.value) (pos 1) (pos most_capacity)) sets.2 (sym there ∙ sets.0) sets.1 sets.3);
-      stand = ap fields_there is ∙ ap (λ (b : Bool). set (fields_there (fields_of old.draft)) 3 b) filled ∙ ap (λ (xs : List Bool). set xs 3 true) h.stand;
-      spelled = is ∙ ap (λ (fields : Fields). record fields { capacity = slot }) h.spelled
-          ∙ ap (λ (k : Option ℤ). let fields = fields_by (λ field. has_line field earlier) earlier in record fields { capacity = k })
-          (sets.4 ∙ sym (ap (λ (r : Result ℤ NumberFault). result_ok r) sets.3));
-      incomplete = same_first ∙ h.incomplete;
-      part = still_none old new (Line (Known CapacityKey) line ∷ earlier) refl same_part h.part;
-    }
-capacity_line old new line slot (Err steps.Memory) sets is same_first same_part earlier h short = tt
-capacity_line old new line slot (Err (steps.Fault fault)) sets is same_first same_part earlier h short =
-    let there : is_some old.draft.capacity ≡ has_line CapacityKey earlier = ap (λ (xs : List Bool). get_or xs 3 false) h.stand in
-    capacity_rows earlier line short ∙ ap (λ (b : Bool). numbered_rows b line.value (whole_of (first_word line.value) (pos 1) (pos most_capacity))) (sym there) ∙ sets.1
+-- it stands where an earlier line has it
+number_stands : (reading : Reading) (earlier : List Item) → Closed reading earlier
+    → (field : Field) (low high : ℤ) → value_shape_of field ≡ Some (Number low high)
+    → stands_in (fields_of reading.draft) field ≡ has_line field earlier
+number_stands reading earlier h = by_number (λ field low high. stands_in (fields_of reading.draft) field ≡ has_line field earlier)
+    (ap (λ (xs : List Bool). get_or xs 2 false) h.stand) (ap (λ (xs : List Bool). get_or xs 3 false) h.stand)
+    (ap (λ (xs : List Bool). get_or xs 4 false) h.stand)
 
--- ---- ScaleKey
+pub number_refused : (old : Reading) (field : Field) (line : WordLine) (low high : ℤ) (fault : LineFault)
+    → value_shape_of field ≡ Some (Number low high)
+    → GivesNumber (stands_in (fields_of old.draft) field) low high line.value (Err fault)
+    → LineAnswers old field line old (Err (steps.Fault fault))
+number_refused old field line low high fault is refused earlier h short =
+    number_rows earlier line short field low high is
+    ∙ ap (λ (b : Bool). numbered_rows b line.value (whole_of (first_word line.value) low high))
+    (sym (number_stands old earlier h field low high is)) ∙ refused
 
-scale_rows : (earlier : List Item) (line : WordLine) → nat_lt most_line_bytes line.size ≡ false
-    → row_of earlier (Line (Known ScaleKey) line) ≡ numbered_rows (has_line ScaleKey earlier) line.value (whole_of (first_word line.value) (pos 1) (pos most_scale))
-scale_rows earlier line short = rw short refl
+-- no row applies
+number_clean : (old : Reading) (field : Field) (line : WordLine) (low high z : ℤ) → value_shape_of field ≡ Some (Number low high)
+    → GivesNumber (stands_in (fields_of old.draft) field) low high line.value (Ok z)
+    → (earlier : List Item) → Closed old earlier → nat_lt most_line_bytes line.size ≡ false
+    → IsClean (Line (Known field) line ∷ earlier)
+number_clean old field line low high z is gives earlier h short =
+    clean_more earlier (Line (Known field) line) h.clean (number_rows earlier line short field low high is
+    ∙ numbered_none (has_line field earlier) line.value (whole_of (first_word line.value) low high) z
+    (sym (number_stands old earlier h field low high is) ∙ gives.0) gives.1 gives.2)
 
-pub scale_line : (old new : Reading) (line : WordLine) (slot : Option ℤ) (r : Result (Unit {0}) StepFault)
-    → SetsNumber (pos 1) (pos most_scale) line.value old.draft.scale slot r
-    → fields_of new.draft ≡ (let fields = fields_of old.draft in record fields { scale = slot }) → new.incomplete ≡ old.incomplete → new.opened ≡ old.opened
-    → LineAnswers old ScaleKey line new r
-scale_line old new line slot (Ok done) sets is same_first same_part earlier h short =
-    let there : is_some old.draft.scale ≡ has_line ScaleKey earlier = ap (λ (xs : List Bool). get_or xs 4 false) h.stand in
-    let filled : is_some slot ≡ true = ap (λ (o : Option ℤ). is_some o) sets.4 in
-    record {
-      clean = clean_more earlier (Line (Known ScaleKey) line) h.clean
-          (scale_rows earlier line short ∙ numbered_none (has_line ScaleKey earlier) line.value (whole_of (first_word line.value) (pos 1) (pos most_scale))
-          sets.2 (sym there ∙ sets.0) sets.1 sets.3);
-      stand = ap fields_there is ∙ ap (λ (b : Bool). set (fields_there (fields_of old.draft)) 4 b) filled ∙ ap (λ (xs : List Bool). set xs 4 true) h.stand;
-      spelled = is ∙ ap (λ (fields : Fields). record fields { scale = slot }) h.spelled
-          ∙ ap (λ (k : Option ℤ). let fields = fields_by (λ field. has_line field earlier) earlier in record fields { scale = k })
-          (sets.4 ∙ sym (ap (λ (r : Result ℤ NumberFault). result_ok r) sets.3));
-      incomplete = same_first ∙ h.incomplete;
-      part = still_none old new (Line (Known ScaleKey) line ∷ earlier) refl same_part h.part;
-    }
-scale_line old new line slot (Err steps.Memory) sets is same_first same_part earlier h short = tt
-scale_line old new line slot (Err (steps.Fault fault)) sets is same_first same_part earlier h short =
-    let there : is_some old.draft.scale ≡ has_line ScaleKey earlier = ap (λ (xs : List Bool). get_or xs 4 false) h.stand in
-    scale_rows earlier line short ∙ ap (λ (b : Bool). numbered_rows b line.value (whole_of (first_word line.value) (pos 1) (pos most_scale))) (sym there) ∙ sets.1
+-- what is said once the number is in the draft
+abbrev TakesNumber : Reading → Reading → WordLine → Field → ℤ → ℤ → Type 0
+TakesNumber old new line field low high = (z : ℤ)
+    → GivesNumber (stands_in (fields_of old.draft) field) low high line.value (Ok z)
+    → fields_of new.draft ≡ with_one_number field z (fields_of old.draft) → new.incomplete ≡ old.incomplete → new.opened ≡ old.opened
+    → LineAnswers old field line new (Ok tt)
+
+capacity_taken : (old new : Reading) (line : WordLine) → TakesNumber old new line CapacityKey (pos 1) (pos most_capacity)
+capacity_taken old new line z gives is same_first same_part earlier h short = record {
+  clean = number_clean old CapacityKey line (pos 1) (pos most_capacity) z refl gives earlier h short;
+  stand = ap fields_there is ∙ ap (λ (xs : List Bool). set xs 3 true) h.stand;
+  spelled = is ∙ ap (λ (fields : Fields). record fields { capacity = Some z }) h.spelled
+      ∙ ap (λ (k : Option ℤ). let fields = fields_by (λ field. has_line field earlier) earlier in record fields { capacity = k })
+      (sym (ap (λ (r : Result ℤ NumberFault). result_ok r) gives.2));
+  incomplete = same_first ∙ h.incomplete;
+  part = still_none old new (Line (Known CapacityKey) line ∷ earlier) refl same_part h.part;
+}
+
+scale_taken : (old new : Reading) (line : WordLine) → TakesNumber old new line ScaleKey (pos 1) (pos most_scale)
+scale_taken old new line z gives is same_first same_part earlier h short = record {
+  clean = number_clean old ScaleKey line (pos 1) (pos most_scale) z refl gives earlier h short;
+  stand = ap fields_there is ∙ ap (λ (xs : List Bool). set xs 4 true) h.stand;
+  spelled = is ∙ ap (λ (fields : Fields). record fields { scale = Some z }) h.spelled
+      ∙ ap (λ (k : Option ℤ). let fields = fields_by (λ field. has_line field earlier) earlier in record fields { scale = k })
+      (sym (ap (λ (r : Result ℤ NumberFault). result_ok r) gives.2));
+  incomplete = same_first ∙ h.incomplete;
+  part = still_none old new (Line (Known ScaleKey) line ∷ earlier) refl same_part h.part;
+}
 
 -- ---- DimensionKey: no section stands yet but the tours, which don't look at it
 
-dimension_rows : (earlier : List Item) (line : WordLine) → nat_lt most_line_bytes line.size ≡ false
-    → row_of earlier (Line (Known DimensionKey) line) ≡ numbered_rows (has_line DimensionKey earlier) line.value (whole_of (first_word line.value) (pos 1) (pos most_nodes))
-dimension_rows earlier line short = rw short refl
-
-dimension_field : (earlier : List Item) (line : WordLine) (n : ℕ) → whole_of (first_word line.value) (pos 1) (pos most_nodes) ≡ Ok (pos n)
+dimension_field : (earlier : List Item) (line : WordLine) (z : ℤ) → whole_of (first_word line.value) (pos 1) (pos most_nodes) ≡ Ok z
     → has_line NodeCoordPart earlier ≡ false → has_line DisplayDataPart earlier ≡ false → has_line DemandPart earlier ≡ false
     → has_line DepotPart earlier ≡ false → has_line FixedEdgesPart earlier ≡ false → has_line EdgeWeightPart earlier ≡ false
-    → has_line NodePotentialPart earlier ≡ false → has_line RowPotentialPart earlier ≡ false → has_line ColumnPotentialPart earlier ≡ false
-    → has_line FixedPotentialPart earlier ≡ false → has_line CombPart earlier ≡ false → has_line BranchPart earlier ≡ false
-    → (let fields = fields_by (λ field. has_line field earlier) earlier in record fields { dimension = Some n })
+    → has_line NodePotentialPart earlier ≡ false → has_line RowPotentialPart earlier ≡ false
+    → has_line ColumnPotentialPart earlier ≡ false → has_line FixedPotentialPart earlier ≡ false → has_line CombPart earlier ≡ false
+    → has_line BranchPart earlier ≡ false
+    → (let fields = fields_by (λ field. has_line field earlier) earlier in record fields { dimension = Some (nat_abs z) })
     ≡ fields_by (is_closed (Line (Known DimensionKey) line ∷ earlier)) (Line (Known DimensionKey) line ∷ earlier)
-dimension_field earlier line n read c0 c1 c2 c3 c4 c5 c6 c7 c8 c9 c10 c11 = rw (c0, c1, c2, c3, c4, c5, c6, c7, c8, c9, c10, c11, read) refl
+dimension_field earlier line z read c0 c1 c2 c3 c4 c5 c6 c7 c8 c9 c10 c11 =
+    rw (c0, c1, c2, c3, c4, c5, c6, c7, c8, c9, c10, c11, read) refl
 
 dimension_first : (earlier : List Item) (line : WordLine) → has_line NodeCoordPart earlier ≡ false → has_line DisplayDataPart earlier ≡ false
     → has_line DemandPart earlier ≡ false → has_line DepotPart earlier ≡ false → has_line FixedEdgesPart earlier ≡ false
@@ -335,33 +345,30 @@ none_before f earlier section other clean none = by_case (has_line f earlier) re
     by_case true e = sym (after_dimension f section other earlier clean e) ∙ none
     by_case false e = refl
 
-pub dimension_line : (old new : Reading) (line : WordLine) (slot : Option ℕ) (r : Result (Unit {0}) StepFault)
-    → SetsCount most_nodes line.value old.draft.dimension slot r
-    → fields_of new.draft ≡ (let fields = fields_of old.draft in record fields { dimension = slot }) → new.incomplete ≡ old.incomplete → new.opened ≡ old.opened
-    → LineAnswers old DimensionKey line new r
-dimension_line old new line slot (Ok done) sets is same_first same_part earlier h short =
-    let there : is_some old.draft.dimension ≡ has_line DimensionKey earlier = ap (λ (xs : List Bool). get_or xs 2 false) h.stand in
-    let filled : is_some slot ≡ true = ap (λ (o : Option ℕ). is_some o) sets.4 in
+dimension_taken : (old new : Reading) (line : WordLine) → TakesNumber old new line DimensionKey (pos 1) (pos most_nodes)
+dimension_taken old new line z gives is same_first same_part earlier h short =
+    let there = number_stands old earlier h DimensionKey (pos 1) (pos most_nodes) refl in
     let none : (f : Field) → is_section_field f ≡ true → same_field TourPart f ≡ false → has_line f earlier ≡ false =
-    λ f section other. none_before f earlier section other h.clean (sym there ∙ sets.0) in
+    λ f section other. none_before f earlier section other h.clean (sym there ∙ gives.0) in
     record {
-      clean = clean_more earlier (Line (Known DimensionKey) line) h.clean
-          (dimension_rows earlier line short ∙ numbered_none (has_line DimensionKey earlier) line.value
-          (whole_of (first_word line.value) (pos 1) (pos most_nodes)) (pos sets.2) (sym there ∙ sets.0) sets.1 sets.3);
-      stand = ap fields_there is ∙ ap (λ (b : Bool). set (fields_there (fields_of old.draft)) 2 b) filled ∙ ap (λ (xs : List Bool). set xs 2 true) h.stand;
-      spelled = is ∙ ap (λ (fields : Fields). record fields { dimension = slot }) h.spelled
-          ∙ ap (λ (k : Option ℕ). let fields = fields_by (λ field. has_line field earlier) earlier in record fields { dimension = k }) sets.4
-          ∙ dimension_field earlier line sets.2 sets.3 (none NodeCoordPart refl refl) (none DisplayDataPart refl refl) (none DemandPart refl refl)
-          (none DepotPart refl refl) (none FixedEdgesPart refl refl) (none EdgeWeightPart refl refl)
+      clean = number_clean old DimensionKey line (pos 1) (pos most_nodes) z refl gives earlier h short;
+      stand = ap fields_there is ∙ ap (λ (xs : List Bool). set xs 2 true) h.stand;
+      spelled = is ∙ ap (λ (fields : Fields). record fields { dimension = Some (nat_abs z) }) h.spelled
+          ∙ dimension_field earlier line z gives.2 (none NodeCoordPart refl refl) (none DisplayDataPart refl refl)
+          (none DemandPart refl refl) (none DepotPart refl refl) (none FixedEdgesPart refl refl) (none EdgeWeightPart refl refl)
           (none NodePotentialPart refl refl) (none RowPotentialPart refl refl) (none ColumnPotentialPart refl refl)
           (none FixedPotentialPart refl refl) (none CombPart refl refl) (none BranchPart refl refl);
-      incomplete = same_first ∙ h.incomplete ∙ dimension_first earlier line (none NodeCoordPart refl refl) (none DisplayDataPart refl refl) (none DemandPart refl refl)
-          (none DepotPart refl refl) (none FixedEdgesPart refl refl) (none EdgeWeightPart refl refl)
-          (none NodePotentialPart refl refl) (none RowPotentialPart refl refl) (none ColumnPotentialPart refl refl)
-          (none FixedPotentialPart refl refl) (none CombPart refl refl) (none BranchPart refl refl);
+      incomplete = same_first ∙ h.incomplete ∙ dimension_first earlier line (none NodeCoordPart refl refl)
+          (none DisplayDataPart refl refl) (none DemandPart refl refl) (none DepotPart refl refl) (none FixedEdgesPart refl refl)
+          (none EdgeWeightPart refl refl) (none NodePotentialPart refl refl) (none RowPotentialPart refl refl)
+          (none ColumnPotentialPart refl refl) (none FixedPotentialPart refl refl) (none CombPart refl refl)
+          (none BranchPart refl refl);
       part = still_none old new (Line (Known DimensionKey) line ∷ earlier) refl same_part h.part;
     }
-dimension_line old new line slot (Err steps.Memory) sets is same_first same_part earlier h short = tt
-dimension_line old new line slot (Err (steps.Fault fault)) sets is same_first same_part earlier h short =
-    let there : is_some old.draft.dimension ≡ has_line DimensionKey earlier = ap (λ (xs : List Bool). get_or xs 2 false) h.stand in
-    dimension_rows earlier line short ∙ ap (λ (b : Bool). numbered_rows b line.value (whole_of (first_word line.value) (pos 1) (pos most_nodes))) (sym there) ∙ sets.1
+
+-- ---- all three
+
+pub number_taken : (old new : Reading) (line : WordLine) (field : Field) (low high : ℤ) → value_shape_of field ≡ Some (Number low high)
+    → TakesNumber old new line field low high
+number_taken old new line = by_number (TakesNumber old new line) (dimension_taken old new line) (capacity_taken old new line)
+    (scale_taken old new line)

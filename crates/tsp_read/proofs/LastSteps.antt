@@ -1,8 +1,8 @@
 -- The end of a text that came in pieces.
-use Rattle.std.proofs.Common.{◌≡◌, ℕ, ◌<◌, Bool, true, false, List, [], ◌∷◌, ◌++◌, length, take, drop, take-append-drop, reverse, refl, sym, ap, subst, ◌∙◌, Option, Some, None, Result, Ok, Err, append-nil, arith}
+use Rattle.std.proofs.Common.{◌≡◌, ℕ, Bool, true, false, List, [], ◌∷◌, ◌++◌, length, take, drop, take-append-drop, reverse, refl, sym, ap, subst, ◌∙◌, Option, Some, None, Result, Ok, Err, append-nil}
 use Rattle.std.specs.Prelude.{not, ◌&&◌, ◌||◌, ◌==◌, is_some}
-use Rattle.std.proofs.lemmas.Bool.{true≢false, false≢true, le-ltb}
-use Rattle.tsp_value.specs.Limits.{most_word_bytes, most_line_bytes, most_file_bytes}
+use Rattle.std.proofs.lemmas.Bool.{false≢true, le-ltb}
+use Rattle.tsp_value.specs.Limits.{most_file_bytes}
 use Rattle.tsp_items.specs.declared.fault.ReadFault.{ReadFault}
 use Rattle.tsp_items.specs.declared.fault.ReadFault.TheVariants as faults
 use Rattle.tsp_read.specs.declared.state.reading.Reading.{Reading}
@@ -12,7 +12,6 @@ use Rattle.tsp_read.specs.declared.state.reading.OpenSection.{OpenSection}
 use Rattle.tsp_read.specs.declared.stage.Stage.TheVariants.{Going, Ended, Refused}
 use Rattle.tsp_read.specs.declared.feed.Feed.{Feed}
 use Rattle.tsp_fields.specs.Fields.{Fields}
-use Rattle.tsp_items.specs.Lines.{ends_line}
 use Rattle.tsp_items.specs.Earlier.{open_section}
 use Rattle.tsp_items.specs.FirstFault.{fault_in}
 use Rattle.tsp_read.specs.Cuts.{AreCut}
@@ -25,8 +24,9 @@ use Rattle.std.specs.List.{list_all}
 use Rattle.std.proofs.lemmas.List.{reverse-append}
 use Rattle.std.proofs.lemmas.List.Folds.{list_all-append}
 use Rattle.std.proofs.lemmas.Option.{none-some}
-use Rattle.tsp_items.specs.Items.{Item, Line, NumberWord, LineEnd, line_item, items_of, is_end_line, has_end_line, to_end_line}
+use Rattle.tsp_items.specs.Items.{Item, Line, NumberWord, LineEnd, items_of, is_end_line, has_end_line, to_end_line}
 use Rattle.tsp_read.specs.states.Left.{items_left, ends_word, before, from, is_settled}
+use Rattle.tsp_read.specs.states.Token.{ends, most_bytes, token_item}
 use Rattle.tsp_read.specs.states.Holds.{OpenHolds, Holds}
 use Rattle.tsp_read.specs.Walk.{Walked}
 use Rattle.tsp_read.specs.Onward.{is_bare, is_line_end}
@@ -37,7 +37,7 @@ use Rattle.tsp_read.specs.states.Paused.{IsPaused, TakesAll}
 use Rattle.tsp_read.proofs.LeftSteps.{all_items, all_settled, left_none}
 use Rattle.tsp_read.proofs.Walks.{walked_more, walked_all, walked_to_end, walked_found, line_fault, end_fault_is}
 use Rattle.tsp_read.proofs.IntakeSteps.{and_both, bare_ends, read_parts, not_bare}
-use Rattle.tsp_read.proofs.BegunSteps.{Joins, line_here, line_joins, word_here, word_joins, fed_line, fed_word, empty_rest}
+use Rattle.tsp_read.proofs.BegunSteps.{token_here, token_joins, empty_rest}
 
 -- ---- the last item
 
@@ -78,43 +78,39 @@ settled_at_end most piece [] = refl
 settled_at_end most piece (b ∷ rest) = refl
 
 -- what has begun is that item
-last_joined : (p : ℕ → Bool) (most : ℕ) (item : List ℕ → Item) (old new : Intake) (begun bytes text : List ℕ) (result : Result Bool ReadFault) → before p [] ≡ [] → from p [] ≡ []
-    → text ≡ begun → Joins p most item old.inside begun → IsReadTo old bytes (begun ++ [])
-    → ((earlier : List Item) → Stands old earlier → TakesNext earlier (item text) new result) → TakesAll bytes new.reading result
-last_joined p most item old new begun bytes text result front tail same joins read taken =
-    takes_last old new bytes (begun ++ []) (item begun) result read
-    (joins false [] (settled_at_end most (begun ++ before p []) (from p []))
-    ∙ ap (λ (xs : List ℕ). item (begun ++ xs) ∷ items_left false true (from p [])) front
-    ∙ ap (λ (xs : List ℕ). item xs ∷ items_left false true (from p [])) (append-nil begun)
-    ∙ ap (λ (xs : List ℕ). item begun ∷ items_left false true xs) tail
-    ∙ ap (λ (xs : List Item). item begun ∷ xs) (left_none false true))
-    (subst (λ (t : List ℕ). (earlier : List Item) → Stands old earlier → TakesNext earlier (item t) new result) same taken)
+pub last_token : (old new : Intake) (begun : Begun) (bytes text : List ℕ) (result : Result Bool ReadFault) → IsPaused old begun bytes
+    → (length begun.bytes.items == 0) ≡ false → text ≡ begun.bytes.items
+    → ((earlier : List Item) → Stands old earlier → TakesNext earlier (token_item begun.token text) new result)
+    → TakesAll bytes new.reading result
+last_token old new begun bytes text result h some same taken =
+    let token = begun.token in
+    let bare : List ℕ = begun.bytes.items in
+    let joins = token_joins old.inside token bare (token_here old.inside token bare some h.fed.begins) in
+    let front : before (ends token) [] ≡ [] = none_before (ends token) in
+    let tail : from (ends token) [] ≡ [] = none_from (ends token) in
+    takes_last old new bytes (bare ++ []) (token_item token bare) result h.fed.read
+    (joins false [] (settled_at_end (most_bytes token) (bare ++ before (ends token) []) (from (ends token) []))
+    ∙ ap (λ (xs : List ℕ). token_item token (bare ++ xs) ∷ items_left false true (from (ends token) [])) front
+    ∙ ap (λ (xs : List ℕ). token_item token xs ∷ items_left false true (from (ends token) [])) (append-nil bare)
+    ∙ ap (λ (xs : List ℕ). token_item token bare ∷ items_left false true xs) tail
+    ∙ ap (λ (xs : List Item). token_item token bare ∷ xs) (left_none false true))
+    (subst (λ (t : List ℕ). (earlier : List Item) → Stands old earlier → TakesNext earlier (token_item token t) new result) same taken)
+  where
+    none_before : (p : ℕ → Bool) → before p [] ≡ []
+    none_before p = refl
 
-some_in : (xs : List ℕ) → (length xs == 0) ≡ false → 0 < length xs
-some_in [] e = absurd (true≢false e)
-some_in (x ∷ xs) e = omega arith
-
-pub last_line : (old new : Intake) (begun : Begun) (bytes text : List ℕ) (result : Result Bool ReadFault) → IsPaused old begun bytes → (length begun.line.items == 0) ≡ false → text ≡ begun.line.items
-    → ((earlier : List Item) → Stands old earlier → TakesNext earlier (line_item text) new result) → TakesAll bytes new.reading result
-last_line old new begun bytes text result h some same taken =
-    let here = line_here old.inside begun.line.items begun.word.items (some_in begun.line.items some) h.fed.begins in
-    last_joined ends_line most_line_bytes line_item old new begun.line.items bytes text result refl refl same (line_joins old.inside begun.line.items here.0)
-    (fed_line old begun bytes [] h.fed here.1) taken
-
-pub last_word : (old new : Intake) (begun : Begun) (bytes text : List ℕ) (result : Result Bool ReadFault) → IsPaused old begun bytes → (length begun.word.items == 0) ≡ false → text ≡ begun.word.items
-    → ((earlier : List Item) → Stands old earlier → TakesNext earlier (NumberWord text) new result) → TakesAll bytes new.reading result
-last_word old new begun bytes text result h some same taken =
-    let here = word_here old.inside begun.line.items begun.word.items (some_in begun.word.items some) h.fed.begins in
-    last_joined ends_word most_word_bytes (λ w. NumberWord w) old new begun.word.items bytes text result refl refl same (word_joins old.inside begun.word.items here.0)
-    (fed_word old begun bytes [] h.fed here.1) taken
+    none_from : (p : ℕ → Bool) → from p [] ≡ []
+    none_from p = refl
 
 -- nothing has begun
-pub last_none : (intake : Intake) (begun : Begun) (bytes : List ℕ) → IsPaused intake begun bytes → (length begun.line.items == 0) ≡ true → (length begun.word.items == 0) ≡ true
+pub last_none : (intake : Intake) (begun : Begun) (bytes : List ℕ) → IsPaused intake begun bytes → (length begun.bytes.items == 0) ≡ true
     → TakesAll bytes intake.reading (Ok false)
-last_none intake begun bytes h l w =
-    let none : kept begun ++ [] ≡ [] = append-nil (kept begun) ∙ ap (λ (xs : List ℕ). xs ++ begun.word.items) (empty_rest begun.line.items l) ∙ empty_rest begun.word.items w in
-    let left : items_left false intake.inside (kept begun ++ []) ≡ [] = ap (items_left false intake.inside) none ∙ left_none false intake.inside in
-    let walked = subst (λ (xs : List Item). Walked (items_of bytes) h.fed.read.earlier xs) left (walked_whole intake bytes (kept begun ++ []) h.fed.read) in
+last_none intake begun bytes h empty =
+    let none : kept begun ++ [] ≡ [] = append-nil (kept begun) ∙ empty_rest begun.bytes.items empty in
+    let left : items_left false intake.inside (kept begun ++ []) ≡ [] =
+    ap (items_left false intake.inside) none ∙ left_none false intake.inside in
+    let walked = subst (λ (xs : List Item). Walked (items_of bytes) h.fed.read.earlier xs) left
+    (walked_whole intake bytes (kept begun ++ []) h.fed.read) in
     let all = walked_all (items_of bytes) h.fed.read.earlier walked in
     (subst (λ (xs : List Item). Holds intake.reading xs) (sym all) h.fed.read.stands.holds, sym (ap has_end_line all ∙ h.fed.read.going))
 

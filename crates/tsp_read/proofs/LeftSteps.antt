@@ -1,13 +1,14 @@
 -- The items of what is left of a text, after a blank, a line's end, a word line and a word.
 use Rattle.std.proofs.Common.{◌≡◌, ℕ, suc, ◌+◌, Bool, true, false, cond, List, [], ◌∷◌, ◌++◌, length, map, take, drop, refl, sym, ap, subst, ◌∙◌, arith, append-nil, take-append-drop}
 use Rattle.std.specs.Prelude.{not, ◌||◌, ◌&&◌, nat_lt}
-use Rattle.std.specs.List.{slice_split, onto_first, prefix_len, position_or_len, filter}
+use Rattle.std.specs.List.{slice_split, onto_first, position_or_len, filter}
 use Rattle.std.proofs.lemmas.Bool.{eqb-true, ne_eqb}
 use Rattle.std.proofs.lemmas.Bool.Decides.{nat_tests}
 use Rattle.tsp_value.specs.Bytes.{is_blank, is_letter}
 use Rattle.tsp_value.specs.Limits.{most_word_bytes, most_line_bytes}
 use Rattle.tsp_items.specs.Lines.{lines_of, words_in, ends_line, is_filled, without_start, begins}
 use Rattle.tsp_items.specs.Items.{Item, NumberWord, LineEnd, line_item, items_in, items_by, items_of, settled_pieces, settled_words, settled_line, settled_in, settled_items}
+use Rattle.tsp_items.proofs.NoBlanks.{start_blank, start_filled}
 use Rattle.tsp_read.specs.states.Left.{line_items, last_items, items_left_by, items_left, ends_word, before, from, is_settled}
 
 -- ---- pieces
@@ -108,14 +109,6 @@ free_of_ends (b ∷ w) free =
     ((here.0, rest.0), (here.1, rest.1))
 
 -- ---- the start of a line
-
-pub start_blank : (b : ℕ) (bytes : List ℕ) → is_blank b ≡ true → without_start (b ∷ bytes) ≡ without_start bytes
-start_blank b bytes e =
-    ap (λ c. drop (cond c (1 + prefix_len is_blank bytes) 0) (b ∷ bytes)) e
-    ∙ ap (λ n. drop n (b ∷ bytes)) (one_more (prefix_len is_blank bytes))
-
-pub start_filled : (b : ℕ) (bytes : List ℕ) → is_blank b ≡ false → without_start (b ∷ bytes) ≡ b ∷ bytes
-start_filled b bytes e = ap (λ c. drop (cond c (1 + prefix_len is_blank bytes) 0) (b ∷ bytes)) e
 
 abbrev pub Filled : List ℕ → Type 0
 Filled [] = Unit {0}

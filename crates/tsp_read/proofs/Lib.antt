@@ -17,9 +17,9 @@ pub mod ValidTree
 pub mod ValidKeywords
 pub mod ValidCuts
 pub mod ValidItems
+pub mod KeywordCases
 pub mod KeywordSteps
 pub mod TextSteps
-pub mod Scans
 pub mod LeftSteps
 pub mod NextSteps
 pub mod Onwards
@@ -34,6 +34,7 @@ pub mod ByNodeWords
 pub mod FinishSteps
 pub mod ReadSteps
 pub mod IntakeSteps
+pub mod RunSteps
 pub mod FrontSteps
 pub mod BegunSteps
 pub mod PausedSteps

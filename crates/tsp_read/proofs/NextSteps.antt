@@ -1,14 +1,17 @@
--- What the next item of a text is, and a word line's end without its blanks.
-use Rattle.std.proofs.Common.{◌≡◌, ℕ, Bool, true, false, List, [], ◌∷◌, ◌++◌, length, reverse, refl, sym, ap, subst, ◌∙◌}
+-- What the next item of a text is.
+use Rattle.std.proofs.Common.{◌≡◌, ℕ, Bool, true, false, cond, List, [], ◌∷◌, length, refl, sym, ap, subst, ◌∙◌}
 use Rattle.std.specs.Prelude.{not, ◌&&◌}
 use Rattle.std.proofs.lemmas.Bool.{ne_eqb}
-use Rattle.std.proofs.lemmas.List.{nil_from_length, reverse-append, reverse-reverse}
+use Rattle.std.proofs.lemmas.List.{nil_from_length}
 use Rattle.tsp_value.specs.Bytes.{is_blank, is_letter}
 use Rattle.tsp_value.specs.Limits.{most_word_bytes, most_line_bytes}
-use Rattle.tsp_items.specs.Lines.{ends_line, without_start, without_end}
+use Rattle.tsp_items.specs.Lines.{ends_line, without_start}
 use Rattle.tsp_items.specs.Items.{NumberWord, LineEnd, line_item}
+use Rattle.tsp_read.specs.declared.token.Token.{Token}
+use Rattle.tsp_read.specs.declared.token.Token.TheVariants.{Line, Word}
 use Rattle.tsp_read.specs.states.Left.{items_left, ends_word, before, from, is_settled}
-use Rattle.tsp_read.proofs.LeftSteps.{Filled, start_blank, start_filled, start_is_filled, left_start, left_none, left_end, line_taken, line_not_taken, word_taken, word_not_taken}
+use Rattle.tsp_read.specs.states.Token.{token_at, ends, most_bytes, token_item}
+use Rattle.tsp_read.proofs.LeftSteps.{Filled, start_is_filled, left_start, left_none, left_end, line_taken, line_not_taken, word_taken, word_not_taken}
 
 -- ---- the next item, by the text's first byte that isn't blank
 
@@ -38,7 +41,7 @@ begins_line : (inside : Bool) (first : ℕ) → (not inside && is_letter first) 
 begins_line true first e = absurd cc
 begins_line false first e = record { outside = refl; letter = e }
 
-pub line_next : (goes_on inside : Bool) (text filled : List ℕ) (first : ℕ) (after line rest : List ℕ) → filled ≡ without_start text → filled ≡ first ∷ after → (first ≡ 10 → ⊥)
+line_next : (goes_on inside : Bool) (text filled : List ℕ) (first : ℕ) (after line rest : List ℕ) → filled ≡ without_start text → filled ≡ first ∷ after → (first ≡ 10 → ⊥)
     → (not inside && is_letter first) ≡ true → line ≡ before ends_line filled → rest ≡ from ends_line filled → is_settled most_line_bytes goes_on line rest ≡ true
     → items_left goes_on inside text ≡ line_item line ∷ items_left goes_on true rest
 line_next goes_on inside text filled first after line rest e parts more begins l r settled =
@@ -48,7 +51,7 @@ line_next goes_on inside text filled first after line rest e parts more begins l
     ∙ ap (λ i. items_left goes_on i (first ∷ after)) b.outside
     ∙ line_taken goes_on first after line rest b.letter (ne_eqb first 10 more) (l ∙ ap (before ends_line) parts) (r ∙ ap (from ends_line) parts) settled
 
-pub line_missing_next : (goes_on inside : Bool) (text filled : List ℕ) (first : ℕ) (after : List ℕ) → filled ≡ without_start text → filled ≡ first ∷ after → (first ≡ 10 → ⊥)
+line_missing_next : (goes_on inside : Bool) (text filled : List ℕ) (first : ℕ) (after : List ℕ) → filled ≡ without_start text → filled ≡ first ∷ after → (first ≡ 10 → ⊥)
     → (not inside && is_letter first) ≡ true → is_settled most_line_bytes goes_on (before ends_line filled) (from ends_line filled) ≡ false
     → items_left goes_on inside text ≡ []
 line_missing_next goes_on inside text filled first after e parts more begins settled =
@@ -68,7 +71,7 @@ word_next goes_on inside text filled first after word rest e parts more begins w
     ∙ word_taken goes_on inside first after word rest (filled_first text first after (sym parts ∙ e)) (ne_eqb first 10 more) begins
     (w ∙ ap (before ends_word) parts) (r ∙ ap (from ends_word) parts) settled
 
-pub word_missing_next : (goes_on inside : Bool) (text filled : List ℕ) (first : ℕ) (after : List ℕ) → filled ≡ without_start text → filled ≡ first ∷ after → (first ≡ 10 → ⊥)
+word_missing_next : (goes_on inside : Bool) (text filled : List ℕ) (first : ℕ) (after : List ℕ) → filled ≡ without_start text → filled ≡ first ∷ after → (first ≡ 10 → ⊥)
     → (not inside && is_letter first) ≡ false → is_settled most_word_bytes goes_on (before ends_word filled) (from ends_word filled) ≡ false
     → items_left goes_on inside text ≡ []
 word_missing_next goes_on inside text filled first after e parts more begins settled =
@@ -77,20 +80,34 @@ word_missing_next goes_on inside text filled first after e parts more begins set
     ∙ word_not_taken goes_on inside first after (filled_first text first after (sym parts ∙ e)) (ne_eqb first 10 more) begins
     (ap (λ xs. is_settled most_word_bytes goes_on (before ends_word xs) (from ends_word xs)) (sym parts) ∙ settled)
 
--- ---- blanks at the end
+-- ---- a line or a word
 
-reversed : (front : List ℕ) (last : ℕ) → reverse (front ++ last ∷ []) ≡ last ∷ reverse front
-reversed front last = reverse-append front (last ∷ [])
+pub line_begins : (letter : Bool) → Line ≡ cond letter Line Word → letter ≡ true
+line_begins true is = refl
+line_begins false is = absurd cc
 
-pub end_blank : (text front : List ℕ) (last : ℕ) → text ≡ front ++ last ∷ [] → is_blank last ≡ true → without_end front ≡ without_end text
-end_blank text front last parts e =
-    sym (ap without_end parts ∙ ap (λ xs. reverse (without_start xs)) (reversed front last) ∙ ap reverse (start_blank last (reverse front) e))
+pub word_begins : (letter : Bool) → Word ≡ cond letter Line Word → letter ≡ false
+word_begins true is = absurd cc
+word_begins false is = refl
 
-pub end_filled : (text front : List ℕ) (last : ℕ) → text ≡ front ++ last ∷ [] → is_blank last ≡ false → text ≡ without_end text
-end_filled text front last parts e =
-    sym (ap (λ xs. reverse (without_start xs)) (ap reverse parts ∙ reversed front last)
-    ∙ ap reverse (start_filled last (reverse front) e ∙ sym (ap reverse parts ∙ reversed front last))
-    ∙ reverse-reverse text)
+pub token_next : (goes_on inside : Bool) (text filled : List ℕ) (first : ℕ) (after : List ℕ) (token : Token) (piece rest : List ℕ)
+    → filled ≡ without_start text → filled ≡ first ∷ after → (first ≡ 10 → ⊥) → token ≡ token_at inside first
+    → piece ≡ before (ends token) filled → rest ≡ from (ends token) filled → is_settled (most_bytes token) goes_on piece rest ≡ true
+    → items_left goes_on inside text ≡ token_item token piece ∷ items_left goes_on true rest
+token_next goes_on inside text filled first after Line piece rest e parts more is p r settled =
+    line_next goes_on inside text filled first after piece rest e parts more
+    (line_begins (not inside && is_letter first) is) p r settled
+token_next goes_on inside text filled first after Word piece rest e parts more is p r settled =
+    word_next goes_on inside text filled first after piece rest e parts more
+    (word_begins (not inside && is_letter first) is) p r settled
 
-pub end_none : (text : List ℕ) → length text ≡ 0 → text ≡ without_end text
-end_none text short = let none = nil_from_length text short in none ∙ sym (ap without_end none)
+pub token_missing_next : (goes_on inside : Bool) (text filled : List ℕ) (first : ℕ) (after : List ℕ) (token : Token)
+    → filled ≡ without_start text → filled ≡ first ∷ after → (first ≡ 10 → ⊥) → token ≡ token_at inside first
+    → is_settled (most_bytes token) goes_on (before (ends token) filled) (from (ends token) filled) ≡ false
+    → items_left goes_on inside text ≡ []
+token_missing_next goes_on inside text filled first after Line e parts more is settled =
+    line_missing_next goes_on inside text filled first after e parts more
+    (line_begins (not inside && is_letter first) is) settled
+token_missing_next goes_on inside text filled first after Word e parts more is settled =
+    word_missing_next goes_on inside text filled first after e parts more
+    (word_begins (not inside && is_letter first) is) settled

@@ -1,15 +1,19 @@
 -- The next item of a text, whatever follows the text.
-use Rattle.std.proofs.Common.{◌≡◌, ℕ, suc, ◌+◌, Bool, true, false, cond, List, [], ◌∷◌, ◌++◌, take, drop, refl, sym, ap, ◌∙◌, arith}
-use Rattle.std.specs.Prelude.{not, ◌||◌, ◌&&◌}
+use Rattle.std.proofs.Common.{◌≡◌, ℕ, suc, ◌+◌, ◌<◌, Bool, true, false, cond, List, [], ◌∷◌, ◌++◌, length, take, drop, refl, sym, ap, ◌∙◌, arith}
+use Rattle.std.specs.Prelude.{not, ◌||◌, ◌&&◌, nat_lt}
 use Rattle.std.specs.List.{position_or_len}
+use Rattle.std.proofs.lemmas.Bool.{lt-ltb}
 use Rattle.tsp_value.specs.Bytes.{is_blank, is_letter}
 use Rattle.tsp_value.specs.Limits.{most_word_bytes, most_line_bytes}
-use Rattle.tsp_items.specs.Lines.{ends_line, is_filled, without_start}
-use Rattle.tsp_items.specs.Items.{NumberWord, LineEnd, line_item}
+use Rattle.tsp_items.specs.Lines.{is_filled, without_start}
+use Rattle.tsp_items.specs.Items.{NumberWord, LineEnd}
+use Rattle.tsp_read.specs.declared.token.Token.{Token}
+use Rattle.tsp_read.specs.declared.token.Token.TheVariants.{Line, Word}
 use Rattle.tsp_read.specs.states.Left.{ends_word, before, from, is_settled}
+use Rattle.tsp_read.specs.states.Token.{token_at, ends, most_bytes, token_item}
 use Rattle.tsp_read.specs.Onward.{is_over_long, GivesNext}
-use Rattle.tsp_read.proofs.LeftSteps.{start_blank, start_filled}
-use Rattle.tsp_read.proofs.NextSteps.{end_next, line_next, word_next}
+use Rattle.tsp_items.proofs.NoBlanks.{start_blank, start_filled}
+use Rattle.tsp_read.proofs.NextSteps.{end_next, token_next}
 
 -- ---- before and from the first place that passes, where there is one
 
@@ -75,24 +79,36 @@ pub end_follows : (inside : Bool) (text filled : List ℕ) (first : ℕ) (after 
 end_follows inside text filled first after e parts ten goes_on more =
     end_next goes_on inside (text ++ more) (first ∷ (after ++ more)) first (after ++ more) (sym (starts_alike text more first after (sym e ∙ parts))) refl ten
 
-pub line_follows : (inside goes : Bool) (text filled : List ℕ) (first : ℕ) (after line rest : List ℕ) → filled ≡ without_start text → filled ≡ first ∷ after → (first ≡ 10 → ⊥)
-    → (not inside && is_letter first) ≡ true → line ≡ before ends_line filled → rest ≡ from ends_line filled → is_settled most_line_bytes goes line rest ≡ true → goes ≡ true
-    → is_over_long (line_item line) ≡ false → GivesNext inside text (line_item line) true rest
-line_follows inside true text filled first after line rest e parts more_ begins l r settled goes_is short goes_on more =
-    let tail : is_filled rest ≡ true = not_long most_line_bytes line rest _ settled short in
-    let cut = cuts_alike ends_line filled more (ap is_filled (sym r) ∙ tail) in
-    line_next goes_on inside (text ++ more) (filled ++ more) first (after ++ more) line (rest ++ more)
-    (ap (λ (ys : List ℕ). ys ++ more) parts ∙ sym (starts_alike text more first after (sym e ∙ parts))) (ap (λ (ys : List ℕ). ys ++ more) parts) more_ begins
-    (l ∙ sym cut.0) (ap (λ (ys : List ℕ). ys ++ more) r ∙ sym cut.1) (filled_settled most_line_bytes goes_on line rest more tail)
-line_follows inside false text filled first after line rest e parts more_ begins l r settled goes_is short goes_on more = absurd cc
+-- a line or a word that isn't too long, whatever follows it
+pub token_follows : (inside goes : Bool) (text filled : List ℕ) (first : ℕ) (after : List ℕ) (token : Token) (piece rest : List ℕ)
+    → filled ≡ without_start text → filled ≡ first ∷ after → (first ≡ 10 → ⊥) → token ≡ token_at inside first
+    → piece ≡ before (ends token) filled → rest ≡ from (ends token) filled → is_settled (most_bytes token) goes piece rest ≡ true
+    → goes ≡ true → nat_lt (most_bytes token) (length piece) ≡ false → GivesNext inside text (token_item token piece) true rest
+token_follows inside true text filled first after token piece rest e parts more_ is p r settled goes_is short goes_on more =
+    let tail : is_filled rest ≡ true = not_long (most_bytes token) piece rest _ settled short in
+    let cut = cuts_alike (ends token) filled more (ap is_filled (sym r) ∙ tail) in
+    let longer = ap (λ (ys : List ℕ). ys ++ more) parts in
+    token_next goes_on inside (text ++ more) (filled ++ more) first (after ++ more) token piece (rest ++ more)
+    (longer ∙ sym (starts_alike text more first after (sym e ∙ parts))) longer more_ is
+    (p ∙ sym cut.0) (ap (λ (ys : List ℕ). ys ++ more) r ∙ sym cut.1)
+    (filled_settled (most_bytes token) goes_on piece rest more tail)
+token_follows inside false text filled first after token piece rest e parts more_ is p r settled goes_is short goes_on more = absurd cc
 
-pub word_follows : (inside goes : Bool) (text filled : List ℕ) (first : ℕ) (after word rest : List ℕ) → filled ≡ without_start text → filled ≡ first ∷ after → (first ≡ 10 → ⊥)
-    → (not inside && is_letter first) ≡ false → word ≡ before ends_word filled → rest ≡ from ends_word filled → is_settled most_word_bytes goes word rest ≡ true → goes ≡ true
+-- it isn't too long where its item isn't
+pub token_short : (token : Token) (piece : List ℕ) → is_over_long (token_item token piece) ≡ false
+    → nat_lt (most_bytes token) (length piece) ≡ false
+token_short Line piece short = short
+token_short Word piece short = short
+
+pub token_long : (token : Token) (piece : List ℕ) → most_bytes token < length piece → is_over_long (token_item token piece) ≡ true
+token_long Line piece long = lt-ltb most_line_bytes (length piece) long
+token_long Word piece long = lt-ltb most_word_bytes (length piece) long
+
+-- a number word, as a run takes it
+pub word_follows : (inside goes : Bool) (text filled : List ℕ) (first : ℕ) (after word rest : List ℕ)
+    → filled ≡ without_start text → filled ≡ first ∷ after → (first ≡ 10 → ⊥) → (not inside && is_letter first) ≡ false
+    → word ≡ before ends_word filled → rest ≡ from ends_word filled → is_settled most_word_bytes goes word rest ≡ true → goes ≡ true
     → is_over_long (NumberWord word) ≡ false → GivesNext inside text (NumberWord word) true rest
-word_follows inside true text filled first after word rest e parts more_ begins l r settled goes_is short goes_on more =
-    let tail : is_filled rest ≡ true = not_long most_word_bytes word rest _ settled short in
-    let cut = cuts_alike ends_word filled more (ap is_filled (sym r) ∙ tail) in
-    word_next goes_on inside (text ++ more) (filled ++ more) first (after ++ more) word (rest ++ more)
-    (ap (λ (ys : List ℕ). ys ++ more) parts ∙ sym (starts_alike text more first after (sym e ∙ parts))) (ap (λ (ys : List ℕ). ys ++ more) parts) more_ begins
-    (l ∙ sym cut.0) (ap (λ (ys : List ℕ). ys ++ more) r ∙ sym cut.1) (filled_settled most_word_bytes goes_on word rest more tail)
-word_follows inside false text filled first after word rest e parts more_ begins l r settled goes_is short goes_on more = absurd cc
+word_follows inside goes text filled first after word rest e parts more_ begins w r settled goes_is short =
+    token_follows inside goes text filled first after Word word rest e parts more_ (ap (λ (b : Bool). cond b Line Word) (sym begins))
+    w r settled goes_is short

@@ -11,7 +11,8 @@ use Rattle.tsp_read.specs.declared.state.reading.Reading.{Reading}
 use Rattle.tsp_read.specs.states.Intake.{IsReadTo, HasEnded, ReadsOn}
 use Rattle.tsp_read.specs.states.Begun.{HasBegun, kept, IsFedTo, IsJoinedTo}
 use Rattle.tsp_read.specs.states.Paused.{IsPaused}
-use Rattle.tsp_read.proofs.LeftSteps.{start_blank, start_filled, left_blank, left_start}
+use Rattle.tsp_items.proofs.NoBlanks.{start_blank, start_filled}
+use Rattle.tsp_read.proofs.LeftSteps.{left_blank, left_start}
 
 -- ---- blanks at the start
 
@@ -57,7 +58,7 @@ joined_read intake begun bytes rest h some = subst (λ (xs : List ℕ). IsReadTo
 
 -- what is left is kept
 pub paused_kept : (intake : Intake) (begun : Begun) (bytes left : List ℕ) → IsReadTo intake bytes left → items_left true intake.inside left ≡ []
-    → HasBegun intake.inside begun.line.items begun.word.items → kept begun ≡ without_start left → IsPaused intake begun bytes
+    → HasBegun intake.inside begun.token begun.bytes.items → kept begun ≡ without_start left → IsPaused intake begun bytes
 paused_kept intake begun bytes left read none begins same = record {
   fed = record {
     read = subst (λ (xs : List ℕ). IsReadTo intake bytes xs) (sym (append-nil (kept begun) ∙ same)) (read_over intake bytes left read);

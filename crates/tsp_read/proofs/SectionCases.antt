@@ -1,5 +1,5 @@
 -- What is shown section by section: each is one row, and so is each of its cases.
-use Rattle.std.proofs.Common.{◌≡◌, ◌≢◌, Bool, true, false, cond, List, ◌∷◌, refl, ap, ◌∙◌, Some, None}
+use Rattle.std.proofs.Common.{◌≡◌, Bool, true, false, cond, List, ◌∷◌, refl, ap, ◌∙◌, Some, None}
 use Rattle.std.specs.Prelude.{ℕ, nat_lt, is_some}
 use Rattle.std.specs.Option.{option_map_or}
 use Rattle.std.specs.List.{find}
@@ -78,35 +78,6 @@ section_of in_space ColumnPotentialPart shape e = refl
 section_of in_space FixedPotentialPart shape e = refl
 section_of in_space CombPart shape e = refl
 section_of in_space BranchPart shape e = refl
-
--- a field that is none of the other keywords and no section
-pub unnamed : (in_space : Bool) (f : Field) → shape_of in_space f ≡ None → f ≢ NameKey → f ≢ TypeKey → f ≢ CommentKey → f ≢ DimensionKey → f ≢ CapacityKey
-    → f ≢ ScaleKey → f ≢ EdgeWeightTypeKey → f ≢ EdgeWeightFormatKey → f ≢ NodeCoordTypeKey → f ≢ DisplayDataTypeKey
-    → f ≡ OtherKey
-unnamed in_space NameKey no_shape k0 k1 k2 k3 k4 k5 k6 k7 k8 k9 = absurd (k0 refl)
-unnamed in_space TypeKey no_shape k0 k1 k2 k3 k4 k5 k6 k7 k8 k9 = absurd (k1 refl)
-unnamed in_space CommentKey no_shape k0 k1 k2 k3 k4 k5 k6 k7 k8 k9 = absurd (k2 refl)
-unnamed in_space DimensionKey no_shape k0 k1 k2 k3 k4 k5 k6 k7 k8 k9 = absurd (k3 refl)
-unnamed in_space CapacityKey no_shape k0 k1 k2 k3 k4 k5 k6 k7 k8 k9 = absurd (k4 refl)
-unnamed in_space ScaleKey no_shape k0 k1 k2 k3 k4 k5 k6 k7 k8 k9 = absurd (k5 refl)
-unnamed in_space EdgeWeightTypeKey no_shape k0 k1 k2 k3 k4 k5 k6 k7 k8 k9 = absurd (k6 refl)
-unnamed in_space EdgeWeightFormatKey no_shape k0 k1 k2 k3 k4 k5 k6 k7 k8 k9 = absurd (k7 refl)
-unnamed in_space NodeCoordTypeKey no_shape k0 k1 k2 k3 k4 k5 k6 k7 k8 k9 = absurd (k8 refl)
-unnamed in_space DisplayDataTypeKey no_shape k0 k1 k2 k3 k4 k5 k6 k7 k8 k9 = absurd (k9 refl)
-unnamed in_space OtherKey no_shape k0 k1 k2 k3 k4 k5 k6 k7 k8 k9 = refl
-unnamed in_space NodeCoordPart no_shape k0 k1 k2 k3 k4 k5 k6 k7 k8 k9 = cc
-unnamed in_space DisplayDataPart no_shape k0 k1 k2 k3 k4 k5 k6 k7 k8 k9 = cc
-unnamed in_space DemandPart no_shape k0 k1 k2 k3 k4 k5 k6 k7 k8 k9 = cc
-unnamed in_space DepotPart no_shape k0 k1 k2 k3 k4 k5 k6 k7 k8 k9 = cc
-unnamed in_space FixedEdgesPart no_shape k0 k1 k2 k3 k4 k5 k6 k7 k8 k9 = cc
-unnamed in_space EdgeWeightPart no_shape k0 k1 k2 k3 k4 k5 k6 k7 k8 k9 = cc
-unnamed in_space TourPart no_shape k0 k1 k2 k3 k4 k5 k6 k7 k8 k9 = cc
-unnamed in_space NodePotentialPart no_shape k0 k1 k2 k3 k4 k5 k6 k7 k8 k9 = cc
-unnamed in_space RowPotentialPart no_shape k0 k1 k2 k3 k4 k5 k6 k7 k8 k9 = cc
-unnamed in_space ColumnPotentialPart no_shape k0 k1 k2 k3 k4 k5 k6 k7 k8 k9 = cc
-unnamed in_space FixedPotentialPart no_shape k0 k1 k2 k3 k4 k5 k6 k7 k8 k9 = cc
-unnamed in_space CombPart no_shape k0 k1 k2 k3 k4 k5 k6 k7 k8 k9 = cc
-unnamed in_space BranchPart no_shape k0 k1 k2 k3 k4 k5 k6 k7 k8 k9 = cc
 
 some_cond : {A : Type 0} (b : Bool) (x : A) → is_some (cond b (Some x) None) ≡ b
 some_cond true x = refl

@@ -1,12 +1,12 @@
 -- The settled items of a text are those of every longer one: all but a last one that is longer than any may be, which may go on.
-use Rattle.std.proofs.Common.{◌≡◌, ℕ, suc, ◌+◌, Bool, true, false, cond, List, [], ◌∷◌, ◌++◌, length, map, refl, sym, ap, subst, ◌∙◌, arith, inl, inr, length-append}
+use Rattle.std.proofs.Common.{◌≡◌, ℕ, Bool, true, false, cond, List, [], ◌∷◌, ◌++◌, length, map, refl, sym, ap, subst, ◌∙◌, arith, inl, inr, length-append}
 use Rattle.std.specs.Prelude.{◌⊎◌, nat_lt}
-use Rattle.std.specs.List.{filter, slice_split, onto_first, prefix_len}
-use Rattle.std.proofs.Math.ListN.{drop}
+use Rattle.std.specs.List.{filter, slice_split, onto_first}
 use Rattle.std.proofs.lemmas.Bool.{false≢true, ltb-true, lt-ltb}
 use Rattle.tsp_value.specs.Bytes.{is_blank, is_letter}
 use Rattle.tsp_value.specs.Limits.{most_word_bytes, most_line_bytes}
 use Rattle.tsp_items.specs.Lines.{ends_line, lines_of, words_in, is_filled, without_start, begins}
+use Rattle.tsp_items.proofs.NoBlanks.{start_blank, start_filled}
 use Rattle.tsp_items.specs.Items.{Item, Line, NumberWord, LineEnd, line_item, items_in, items_by, items_of, settled_pieces, settled_words, settled_line, settled_in, settled_items}
 
 -- ---- parts of a list that goes on
@@ -132,16 +132,6 @@ pieces_settled (x ∷ next ∷ xs) (y ∷ after ∷ ys) h =
     (front_stays (is_filled x) x (filter is_filled (settled_pieces (next ∷ xs))) (filter is_filled (settled_pieces (after ∷ ys))) (pieces_settled (next ∷ xs) (after ∷ ys) h.1))
 
 -- ---- where a line begins
-
-one_more : (n : ℕ) → 1 + n ≡ suc n
-one_more n = omega arith
-
-start_blank : (b : ℕ) (bytes : List ℕ) → is_blank b ≡ true → without_start (b ∷ bytes) ≡ without_start bytes
-start_blank b bytes e =
-    ap (λ (k : Bool). drop (cond k (1 + prefix_len is_blank bytes) 0) (b ∷ bytes)) e ∙ ap (λ n. drop n (b ∷ bytes)) (one_more (prefix_len is_blank bytes))
-
-start_filled : (b : ℕ) (bytes : List ℕ) → is_blank b ≡ false → without_start (b ∷ bytes) ≡ b ∷ bytes
-start_filled b bytes e = ap (λ (k : Bool). drop (cond k (1 + prefix_len is_blank bytes) 0) (b ∷ bytes)) e
 
 empty_first : (pieces : List (List ℕ)) → filter is_filled (settled_pieces ([] ∷ pieces)) ≡ filter is_filled (settled_pieces pieces)
 empty_first [] = refl

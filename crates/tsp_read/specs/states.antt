@@ -5,4 +5,6 @@ pub mod Holds
 pub mod Intake
 pub mod Begun
 pub mod Left
+pub mod Token
 pub mod Paused
+pub mod Run

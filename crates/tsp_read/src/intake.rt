@@ -4,11 +4,13 @@ ghost use Rattle.std.specs.Prelude.{◌≡◌, ◌+◌, ◌≤◌, ◌<◌, [], 
 ghost use Rattle.tsp_value.specs.Limits.{most_file_bytes};
 ghost use Rattle.tsp_items.specs.Items.{Item, NumberWord, line_item};
 ghost use Rattle.tsp_read.specs.states.Left.{items_left, item_next, is_inside};
+ghost use Rattle.tsp_read.specs.states.Token.{token_item};
 ghost use Rattle.tsp_read.specs.Onward.{is_over_long};
 
 use crate::cut::{Next, next_item};
 use crate::item::{line_after, take, word_of};
 use crate::state::reading::Reading;
+use crate::token::Token;
 use std::alloc::Global;
 use tsp_items::{LineFault, ReadFault, StepFault};
 use tsp_number::NumberFault;
@@ -87,7 +89,7 @@ impl Intake {
     }
 
     /// The fault of a word line that is too long.
-    pub(crate) fn long_line(&self) -> ReadFault
+    fn long_line(&self) -> ReadFault
         ensures { (earlier : List Item) → Stands self.now earlier → (text : List ℕ)
             → is_over_long (line_item text) ≡ true
             → TakesNext earlier (line_item text) self.now (Err result) }
@@ -100,7 +102,7 @@ impl Intake {
     }
 
     /// The fault of a word that is too long, whatever its bytes are.
-    pub(crate) fn long_word(&mut self, alloc: Global) -> ReadFault
+    fn long_word(&mut self, alloc: Global) -> ReadFault
         requires line { self.old.line ≤ most_file_bytes }
         requires words { self.old.words < most_file_bytes }
         ensures { (earlier : List Item) → Stands self.old earlier → (word : List ℕ)
@@ -115,6 +117,20 @@ impl Intake {
                 word: self.words,
                 fault: LineFault::Number(NumberFault::LongWord),
             },
+        }
+    }
+
+    /// The fault of a line or a word that is too long, whatever its bytes are.
+    pub(crate) fn too_long(&mut self, alloc: Global, token: Token) -> ReadFault
+        requires line { self.old.line ≤ most_file_bytes }
+        requires words { self.old.words < most_file_bytes }
+        ensures { (earlier : List Item) → Stands self.old earlier → (text : List ℕ)
+            → is_over_long (token_item token text) ≡ true
+            → TakesNext earlier (token_item token text) self.new (Err result) }
+    {
+        match token {
+            Token::Line => self.long_line(),
+            Token::Word => self.long_word(alloc),
         }
     }
 
@@ -135,12 +151,12 @@ impl Intake {
             (self.new.line + length rest.now ≤ self.old.line + length piece.now)
             × (self.new.words + length rest.now ≤ self.old.words + length piece.now))) }
     {
-        let mut rest = self.take_run(piece);
+        let mut rest = self.take_run(alloc, piece);
         'items: while let Some((next, after)) = next_item(rest, self.inside, true) {
             if self.take_next(alloc, &next)? {
                 return Ok(None);
             }
-            rest = self.take_run(after);
+            rest = self.take_run(alloc, after);
         }
         Ok(Some(rest))
     }

@@ -8,10 +8,10 @@ ghost use Rattle.tsp_read.specs.Onward.{is_line_end};
 ghost use Rattle.tsp_read.specs.states.Holds.{Holds};
 ghost use Rattle.tsp_read.specs.Reads.{TakesItem};
 
-use crate::cut::{Next, cut_line};
+use crate::cut::Next;
 use crate::state::reading::Reading;
 use std::alloc::Global;
-use tsp_items::StepFault;
+use tsp_items::{CutLine, StepFault};
 use tsp_value::Keyword;
 
 /// Takes an item. The answer is whether it is an end line.
@@ -49,7 +49,7 @@ fn take_line(reading: &mut Reading, alloc: Global, text: &[u8]) -> Result<bool, 
     ensures { (earlier : List Item) → Holds reading.old earlier
         → TakesItem earlier (line_item text.now) reading.new result }
 {
-    let line = cut_line(text);
+    let line = CutLine::of(text);
     reading.line(alloc, &line)?;
     Ok(is_end(line.key))
 }

@@ -4,6 +4,7 @@
 mod answers;
 mod begun;
 mod by_node;
+mod count;
 mod cut;
 mod feed;
 mod input;
@@ -14,6 +15,7 @@ mod run;
 mod settled;
 mod stage;
 mod state;
+mod token;
 mod validity;
 
 pub use answers::{first_faults, texts_have_one_answer};

@@ -1,25 +1,33 @@
 //! A run of numbers: the words of a matrix, of tours or of points, each looked at once.
 //!
-//! Most words there are plain numbers. Such a word is read here where its end is found, so that it
-//! is not searched for first. Every other word, and whatever else stands in a text but the ends of
-//! these lines, is left to `Intake::take_next`.
+//! Most words there are plain numbers, and most of a matrix have a few digits. Such a word is read here
+//! where its end is found, so that it is not searched for first. Every other word, and whatever else
+//! stands in a text but the ends of these lines, is left to `Intake::take_next`.
+//!
+//! Which list takes the words is found out once for a run. The loop over them is one for all lists, and
+//! has its counts in a place of their own.
 
-ghost use Rattle.std.specs.Prelude.{◌≡◌, ◌+◌, ◌≤◌, ◌<◌, ◌∷◌, List, ℕ, Bool, length, IfSome, MatchOption, Ok, true, false};
+ghost use Rattle.std.specs.Prelude.{◌≡◌, ◌+◌, ◌≤◌, ◌<◌, Bool, length, IfSome, MatchOption, Ok, true};
 ghost use Rattle.tsp_value.specs.Limits.{most_file_bytes};
 ghost use Rattle.tsp_number.specs.Reading.{decimal_of};
 ghost use Rattle.tsp_items.specs.Numbers.{IsWhole};
-ghost use Rattle.tsp_items.specs.Items.{Item, NumberWord};
+ghost use Rattle.tsp_items.specs.Items.{NumberWord};
+ghost use Rattle.tsp_items.specs.declared.part.Part.{Part};
+ghost use Rattle.tsp_items.specs.declared.part.Part.TheVariants as parts;
 ghost use Rattle.tsp_read.specs.Onward.{GivesNext};
 ghost use Rattle.tsp_read.specs.Front.{front_word, LeavesEnd};
-ghost use Rattle.tsp_read.specs.states.Intake.{IsReadTo};
-ghost use Rattle.tsp_read.specs.states.Holds.{Holds};
+ghost use Rattle.tsp_read.specs.states.Run.{RunsTo};
 
+use crate::count::Count;
 use crate::cut::without_start;
 use crate::intake::Intake;
 use crate::state::reading::Reading;
-use tsp_items::Run;
-use tsp_number::{Decimal, front_decimal, front_whole};
+use std::alloc::Global;
+use tsp_items::{Gathered, Part, RunList, WeightList};
+use tsp_number::{Decimal, front_decimal, front_few, front_whole};
 use tsp_value::is_blank;
+
+// ---- a number at the front of a text
 
 /// What is left where a word has ended: without the blank that ended it, or from byte 10 on.
 /// Nothing where no word ends here.
@@ -35,9 +43,28 @@ fn past_end(rest: &[u8]) -> Option<&[u8]>
     }
 }
 
+/// The whole number of a few digits that a text begins with, and what follows its word and the blank
+/// that ends it; or nothing where no such word stands there whose end has come.
+#[inline(always)]
+pub(crate) fn few_number(text: &[u8]) -> Option<(i64, &[u8])>
+    ensures word { IfSome result (λ found. (inside : Bool)
+        → GivesNext inside text.now (NumberWord (front_word text.now)) true found.1.now) }
+    ensures number { IfSome result (λ found. IsWhole (front_word text.now) found.0) }
+    ensures shorter { IfSome result (λ found. length found.1.now < length text.now) }
+{
+    let Some((number, end)) = front_few(text) else {
+        return None;
+    };
+    let rest = text.split_at(end).1;
+    match past_end(rest) {
+        Some(left) => Some((number, left)),
+        None => None,
+    }
+}
+
 /// The whole number at the front of a text, and what follows its word and the blank that ends it; or
 /// nothing where no word of at most 18 digits stands there whose end has come.
-#[inline(always)]
+#[inline(never)]
 pub(crate) fn front_number(text: &[u8]) -> Option<(i64, &[u8])>
     ensures word { IfSome result (λ found. (inside : Bool)
         → GivesNext inside text.now (NumberWord (front_word text.now)) true found.1.now) }
@@ -76,202 +103,227 @@ pub(crate) fn front_coordinate(text: &[u8]) -> Option<(Decimal, &[u8])>
     }
 }
 
+// ---- one item, taken
+
+/// Takes the number of a few digits that a text begins with, where the list takes it, and gives what
+/// follows it.
+#[inline(always)]
+fn take_few<'a, L: RunList>(list: &mut L, count: &mut Count, text: &'a [u8]) -> Option<&'a [u8]>
+    requires { count.old.words + length text.now ≤ most_file_bytes }
+    ensures run { MatchOption result
+        (RunsTo (L.part list.old) count.old text.now (L.part list.new) count.new text.now)
+        (λ rest. RunsTo (L.part list.old) count.old text.now (L.part list.new) count.new rest.now) }
+    ensures shorter { IfSome result (λ rest. length rest.now < length text.now) }
+{
+    let Some((number, rest)) = few_number(text) else {
+        return None;
+    };
+    if !list.take_whole(number) {
+        return None;
+    }
+    count.words += 1;
+    count.inside = true;
+    Some(rest)
+}
+
+/// The same for any number that a run has.
+#[inline(always)]
+fn take_number<'a, L: RunList>(list: &mut L, count: &mut Count, text: &'a [u8]) -> Option<&'a [u8]>
+    requires { count.old.words + length text.now ≤ most_file_bytes }
+    ensures run { MatchOption result
+        (RunsTo (L.part list.old) count.old text.now (L.part list.new) count.new text.now)
+        (λ rest. RunsTo (L.part list.old) count.old text.now (L.part list.new) count.new rest.now) }
+    ensures shorter { IfSome result (λ rest. length rest.now < length text.now) }
+{
+    let Some((number, rest)) = front_number(text) else {
+        return None;
+    };
+    if !list.take_whole(number) {
+        return None;
+    }
+    count.words += 1;
+    count.inside = true;
+    Some(rest)
+}
+
+/// The same for a coordinate.
+#[inline(always)]
+fn take_coordinate<'a, L: RunList>(
+    list: &mut L,
+    count: &mut Count,
+    text: &'a [u8],
+) -> Option<&'a [u8]>
+    requires { count.old.words + length text.now ≤ most_file_bytes }
+    ensures run { MatchOption result
+        (RunsTo (L.part list.old) count.old text.now (L.part list.new) count.new text.now)
+        (λ rest. RunsTo (L.part list.old) count.old text.now (L.part list.new) count.new rest.now) }
+    ensures shorter { IfSome result (λ rest. length rest.now < length text.now) }
+{
+    let Some(found) = front_coordinate(text) else {
+        return None;
+    };
+    if !list.take_coordinate(found.0) {
+        return None;
+    }
+    count.words += 1;
+    count.inside = true;
+    Some(found.1)
+}
+
+/// Counts the line's end that a text begins with, and gives what follows it.
+#[inline(always)]
+fn take_line_end<'a>(count: &mut Count, text: &'a [u8]) -> Option<&'a [u8]>
+    requires { count.old.line + length text.now ≤ most_file_bytes + 1 }
+    ensures run { (part : Part) → MatchOption result
+        (RunsTo part count.old text.now part count.new text.now)
+        (λ rest. RunsTo part count.old text.now part count.new rest.now) }
+    ensures shorter { IfSome result (λ rest. length rest.now < length text.now) }
+{
+    match text.split_first() {
+        Some((b'\n', rest)) => {
+            count.line += 1;
+            count.words = 0;
+            count.inside = false;
+            Some(rest)
+        }
+        _ => None,
+    }
+}
+
+/// Takes the line's end or the number that a text begins with, where it is no number of a few digits.
+#[inline(always)]
+fn take_other<'a, L: RunList>(list: &mut L, count: &mut Count, text: &'a [u8]) -> Option<&'a [u8]>
+    requires line { count.old.line + length text.now ≤ most_file_bytes + 1 }
+    requires words { count.old.words + length text.now ≤ most_file_bytes }
+    ensures run { MatchOption result
+        (RunsTo (L.part list.old) count.old text.now (L.part list.new) count.new text.now)
+        (λ rest. RunsTo (L.part list.old) count.old text.now (L.part list.new) count.new rest.now) }
+    ensures shorter { IfSome result (λ rest. length rest.now < length text.now) }
+{
+    match take_line_end(count, text) {
+        Some(rest) => Some(rest),
+        None => take_number(list, count, text),
+    }
+}
+
+/// Takes the word or the line's end that a text begins with, where the list takes it, and gives what
+/// follows it.
+#[inline(always)]
+fn take_one<'a, L: RunList>(list: &mut L, count: &mut Count, text: &'a [u8]) -> Option<&'a [u8]>
+    requires line { count.old.line + length text.now ≤ most_file_bytes + 1 }
+    requires words { count.old.words + length text.now ≤ most_file_bytes }
+    ensures run { MatchOption result
+        (RunsTo (L.part list.old) count.old text.now (L.part list.new) count.new text.now)
+        (λ rest. RunsTo (L.part list.old) count.old text.now (L.part list.new) count.new rest.now) }
+    ensures shorter { IfSome result (λ rest. length rest.now < length text.now) }
+{
+    if list.awaits_coordinate() {
+        return take_coordinate(list, count, text);
+    }
+    match take_few(list, count, text) {
+        Some(rest) => Some(rest),
+        None => take_other(list, count, text),
+    }
+}
+
+// ---- a run
+
+/// Takes the words and line ends at the front of a text, as many as the list takes. What they count to
+/// and what is left of the text is the answer.
+#[inline(always)]
+fn take_all<'a, L: RunList>(list: &mut L, count: Count, text: &'a [u8]) -> (Count, &'a [u8])
+    requires line { count.line + length text.now ≤ most_file_bytes + 1 }
+    requires words { count.words + length text.now ≤ most_file_bytes }
+    ensures { RunsTo (L.part list.old) count text.now (L.part list.new) result.0 result.1.now }
+{
+    let mut counted = count;
+    let mut rest = text;
+    'run: while let Some(after) = take_one(list, &mut counted, rest) {
+        rest = after;
+    }
+    (counted, rest)
+}
+
+/// The same over the weights of a matrix, which come and go by value.
+// (so that all that changes in the loop can stay in registers)
+#[inline(never)]
+fn take_gathered<'a>(
+    gathered: Gathered,
+    count: Count,
+    text: &'a [u8],
+) -> (Gathered, Count, &'a [u8])
+    requires line { count.line + length text.now ≤ most_file_bytes + 1 }
+    requires words { count.words + length text.now ≤ most_file_bytes }
+    ensures { RunsTo (parts.Weights gathered.list) count text.now
+        (parts.Weights result.0.list) result.1 result.2.now }
+{
+    let mut own = gathered;
+    let (counted, rest) = take_all(&mut own, count, text);
+    (own, counted, rest)
+}
+
+/// The same, over a list that is asked to make room first: a word and its end are two bytes at least.
+fn take_weights<'a>(
+    list: &mut WeightList,
+    alloc: Global,
+    count: Count,
+    text: &'a [u8],
+) -> (Count, &'a [u8])
+    requires line { count.line + length text.now ≤ most_file_bytes + 1 }
+    requires words { count.words + length text.now ≤ most_file_bytes }
+    ensures { RunsTo (parts.Weights list.old) count text.now
+        (parts.Weights list.new) result.0 result.1.now }
+{
+    let gathered = list.gather(alloc, text.len() / 2);
+    let (gathered, counted, rest) = take_gathered(gathered, count, text);
+    list.put_back(gathered);
+    (counted, rest)
+}
+
+/// The same for the part of any section; of one whose words come in no run all is left.
+fn take_part<'a>(part: &mut Part, alloc: Global, count: Count, text: &'a [u8]) -> (Count, &'a [u8])
+    requires line { count.line + length text.now ≤ most_file_bytes + 1 }
+    requires words { count.words + length text.now ≤ most_file_bytes }
+    ensures { RunsTo part.old count text.now part.new result.0 result.1.now }
+{
+    match part {
+        Part::Weights(list) => take_weights(list, alloc, count, text),
+        Part::Tours(list) => take_all(list, count, text),
+        Part::Points(list) => take_all(list, count, text),
+        Part::SpacePoints(list) => take_all(list, count, text),
+        _ => (count, text),
+    }
+}
+
 impl Reading {
-    /// Whether the next word is a coordinate.
-    #[inline(always)]
-    fn wants_coordinate(&self, run: Run) -> bool {
-        match &self.opened {
-            Some(section) => section.part.wants_coordinate(run),
-            None => false,
-        }
-    }
+    ghost use Rattle.std.specs.Prelude.{ℕ, List};
+    ghost use Rattle.tsp_read.specs.states.Intake.{IsReadTo};
+    ghost use Rattle.tsp_read.specs.states.Run.{counted};
 
-    /// Takes the coordinate of a word that was read, where a group of the open section has begun.
-    /// The answer is whether it was taken.
-    #[inline(always)]
-    fn push_coordinate(&mut self, run: Run, coordinate: Decimal) -> bool
-        ensures taken { result ≡ true → (earlier : List Item) (word : List ℕ)
-            → decimal_of word ≡ Ok coordinate → Holds self.old earlier
-            → Holds self.new (NumberWord word ∷ earlier) }
-        ensures kept { result ≡ false → (earlier : List Item) → Holds self.old earlier
-            → Holds self.new earlier }
+    /// The same for the section that is open, if one is.
+    fn take_run<'a>(&mut self, alloc: Global, count: Count, text: &'a [u8]) -> (Count, &'a [u8])
+        requires line { count.line + length text.now ≤ most_file_bytes + 1 }
+        requires words { count.words + length text.now ≤ most_file_bytes }
+        ensures read { (bytes : List ℕ) → IsReadTo (counted self.old count) bytes text.now
+            → IsReadTo (counted self.new result.0) bytes result.1.now }
+        ensures line { result.0.line + length result.1.now ≤ count.line + length text.now }
+        ensures words { result.0.words + length result.1.now ≤ count.words + length text.now }
+        ensures shorter { length result.1.now ≤ length text.now }
     {
         match &mut self.opened {
-            Some(section) => section.part.push_coordinate(run, coordinate),
-            None => false,
-        }
-    }
-
-    /// Takes the whole number of a word that was read, where the open section is of weights, tours
-    /// or points and has room for it. The answer is whether it was taken.
-    #[inline(always)]
-    fn push_read(&mut self, run: Run, number: i64) -> bool
-        ensures taken { result ≡ true → (earlier : List Item) (word : List ℕ)
-            → IsWhole word number → Holds self.old earlier
-            → Holds self.new (NumberWord word ∷ earlier) }
-        ensures kept { result ≡ false → (earlier : List Item) → Holds self.old earlier
-            → Holds self.new earlier }
-    {
-        match &mut self.opened {
-            Some(section) => section.part.push_read(run, number),
-            None => false,
+            Some(section) => take_part(&mut section.part, alloc, count, text),
+            None => (count, text),
         }
     }
 }
 
 impl Intake {
-    /// Takes the number at the front of a text, where one can be taken, and gives what follows it.
-    #[inline(always)]
-    fn take_number<'a>(&mut self, run: Run, text: &'a [u8]) -> Option<&'a [u8]>
-        requires { self.old.words + length text.now ≤ most_file_bytes }
-        ensures read { MatchOption result
-            ((bytes : List ℕ) → IsReadTo self.old bytes text.now → IsReadTo self.new bytes text.now)
-            (λ rest. (bytes : List ℕ) → IsReadTo self.old bytes text.now → IsReadTo self.new bytes rest.now) }
-        ensures line { self.new.line ≡ self.old.line }
-        ensures words { MatchOption result (self.new.words ≡ self.old.words)
-            (λ rest. self.new.words + length rest.now ≤ self.old.words + length text.now) }
-        ensures shorter { IfSome result (λ rest. length rest.now < length text.now) }
-    {
-        let Some((number, rest)) = front_number(text) else {
-            return None;
-        };
-        if !self.reading.push_read(run, number) {
-            return None;
-        }
-        self.words += 1;
-        self.inside = true;
-        Some(rest)
-    }
-
-    /// Takes the coordinate at the front of a text, where one can be taken, and gives what follows it.
-    #[inline(always)]
-    fn take_coordinate<'a>(&mut self, run: Run, text: &'a [u8]) -> Option<&'a [u8]>
-        requires { self.old.words + length text.now ≤ most_file_bytes }
-        ensures read { MatchOption result
-            ((bytes : List ℕ) → IsReadTo self.old bytes text.now → IsReadTo self.new bytes text.now)
-            (λ rest. (bytes : List ℕ) → IsReadTo self.old bytes text.now → IsReadTo self.new bytes rest.now) }
-        ensures line { self.new.line ≡ self.old.line }
-        ensures words { MatchOption result (self.new.words ≡ self.old.words)
-            (λ rest. self.new.words + length rest.now ≤ self.old.words + length text.now) }
-        ensures shorter { IfSome result (λ rest. length rest.now < length text.now) }
-    {
-        let Some(found) = front_coordinate(text) else {
-            return None;
-        };
-        if !self.reading.push_coordinate(run, found.0) {
-            return None;
-        }
-        self.words += 1;
-        self.inside = true;
-        Some(found.1)
-    }
-
-    /// Takes the line's end at the front of a text, where one stands there, and gives what follows it.
-    #[inline(always)]
-    fn take_line_end<'a>(&mut self, text: &'a [u8]) -> Option<&'a [u8]>
-        requires { self.old.line + length text.now ≤ most_file_bytes + 1 }
-        ensures read { MatchOption result
-            ((bytes : List ℕ) → IsReadTo self.old bytes text.now → IsReadTo self.new bytes text.now)
-            (λ rest. (bytes : List ℕ) → IsReadTo self.old bytes text.now → IsReadTo self.new bytes rest.now) }
-        ensures line { MatchOption result (self.new.line ≡ self.old.line)
-            (λ rest. self.new.line + length rest.now ≤ self.old.line + length text.now) }
-        ensures words { self.new.words ≤ self.old.words }
-        ensures shorter { IfSome result (λ rest. length rest.now < length text.now) }
-    {
-        match text.split_first() {
-            Some((b'\n', rest)) => {
-                self.line += 1;
-                self.words = 0;
-                self.inside = false;
-                Some(rest)
-            }
-            _ => None,
-        }
-    }
-
-    /// Takes the line's end or the number at the front of a text, where one can be taken, and gives
-    /// what follows it.
-    #[inline(always)]
-    fn take_front<'a>(&mut self, run: Run, text: &'a [u8]) -> Option<&'a [u8]>
-        requires line { self.old.line + length text.now ≤ most_file_bytes + 1 }
-        requires words { self.old.words + length text.now ≤ most_file_bytes }
-        ensures read { MatchOption result
-            ((bytes : List ℕ) → IsReadTo self.old bytes text.now → IsReadTo self.new bytes text.now)
-            (λ rest. (bytes : List ℕ) → IsReadTo self.old bytes text.now → IsReadTo self.new bytes rest.now) }
-        ensures line { MatchOption result (self.new.line ≤ self.old.line)
-            (λ rest. self.new.line + length rest.now ≤ self.old.line + length text.now) }
-        ensures words { MatchOption result (self.new.words ≤ self.old.words)
-            (λ rest. self.new.words + length rest.now ≤ self.old.words + length text.now) }
-        ensures shorter { IfSome result (λ rest. length rest.now < length text.now) }
-    {
-        match self.take_line_end(text) {
-            Some(rest) => Some(rest),
-            None => self.take_number(run, text),
-        }
-    }
-
-    /// Takes the line's end, the node or the coordinate at the front of a text, where one can be
-    /// taken, and gives what follows it.
-    #[inline(always)]
-    fn take_point_front<'a>(&mut self, run: Run, text: &'a [u8]) -> Option<&'a [u8]>
-        requires line { self.old.line + length text.now ≤ most_file_bytes + 1 }
-        requires words { self.old.words + length text.now ≤ most_file_bytes }
-        ensures read { MatchOption result
-            ((bytes : List ℕ) → IsReadTo self.old bytes text.now → IsReadTo self.new bytes text.now)
-            (λ rest. (bytes : List ℕ) → IsReadTo self.old bytes text.now → IsReadTo self.new bytes rest.now) }
-        ensures line { MatchOption result (self.new.line ≤ self.old.line)
-            (λ rest. self.new.line + length rest.now ≤ self.old.line + length text.now) }
-        ensures words { MatchOption result (self.new.words ≤ self.old.words)
-            (λ rest. self.new.words + length rest.now ≤ self.old.words + length text.now) }
-        ensures shorter { IfSome result (λ rest. length rest.now < length text.now) }
-    {
-        if self.reading.wants_coordinate(run) {
-            return self.take_coordinate(run, text);
-        }
-        self.take_front(run, text)
-    }
-
-    /// Takes the numbers and line ends at the front of a text, as many as can be taken, and gives
-    /// what is left of it.
-    #[inline(always)]
-    fn take_numbers<'a>(&mut self, run: Run, text: &'a [u8]) -> &'a [u8]
-        requires line { self.old.line + length text.now ≤ most_file_bytes + 1 }
-        requires words { self.old.words + length text.now ≤ most_file_bytes }
-        ensures read { (bytes : List ℕ) → IsReadTo self.old bytes text.now
-            → IsReadTo self.new bytes result.now }
-        ensures line { self.new.line + length result.now ≤ self.old.line + length text.now }
-        ensures words { self.new.words + length result.now ≤ self.old.words + length text.now }
-        ensures shorter { length result.now ≤ length text.now }
-    {
-        let mut rest = text;
-        'run: while let Some(after) = self.take_front(run, rest) {
-            rest = after;
-        }
-        rest
-    }
-
-    /// Takes the nodes, coordinates and line ends at the front of a text, as many as can be taken,
-    /// and gives what is left of it.
-    #[inline(always)]
-    fn take_points<'a>(&mut self, run: Run, text: &'a [u8]) -> &'a [u8]
-        requires line { self.old.line + length text.now ≤ most_file_bytes + 1 }
-        requires words { self.old.words + length text.now ≤ most_file_bytes }
-        ensures read { (bytes : List ℕ) → IsReadTo self.old bytes text.now
-            → IsReadTo self.new bytes result.now }
-        ensures line { self.new.line + length result.now ≤ self.old.line + length text.now }
-        ensures words { self.new.words + length result.now ≤ self.old.words + length text.now }
-        ensures shorter { length result.now ≤ length text.now }
-    {
-        let mut rest = text;
-        'run: while let Some(after) = self.take_point_front(run, rest) {
-            rest = after;
-        }
-        rest
-    }
+    ghost use Rattle.std.specs.Prelude.{ℕ, List};
+    ghost use Rattle.tsp_read.specs.states.Intake.{IsReadTo};
 
     /// Takes what can be taken so at the front of a text, where the open section is of weights,
     /// tours or points, and gives what is left of it.
-    pub(crate) fn take_run<'a>(&mut self, text: &'a [u8]) -> &'a [u8]
+    pub(crate) fn take_run<'a>(&mut self, alloc: Global, text: &'a [u8]) -> &'a [u8]
         requires line { self.old.line + length text.now ≤ most_file_bytes + 1 }
         requires words { self.old.words + length text.now ≤ most_file_bytes }
         ensures read { (bytes : List ℕ) → IsReadTo self.old bytes text.now
@@ -280,15 +332,15 @@ impl Intake {
         ensures words { self.new.words + length result.now ≤ self.old.words + length text.now }
         ensures shorter { length result.now ≤ length text.now }
     {
-        let Some(section) = &self.reading.opened else {
-            return text;
+        let count = Count {
+            line: self.line,
+            words: self.words,
+            inside: self.inside,
         };
-        match section.part.run() {
-            Some(Run::Weights) => self.take_numbers(Run::Weights, text),
-            Some(Run::Tours) => self.take_numbers(Run::Tours, text),
-            Some(Run::Points) => self.take_points(Run::Points, text),
-            Some(Run::SpacePoints) => self.take_points(Run::SpacePoints, text),
-            None => text,
-        }
+        let (counted, rest) = self.reading.take_run(alloc, count, text);
+        self.line = counted.line;
+        self.words = counted.words;
+        self.inside = counted.inside;
+        rest
     }
 }

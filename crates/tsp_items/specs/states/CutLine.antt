@@ -1,5 +1,5 @@
 -- A word line that is cut into its parts, and the rows of its value alone.
-use Rattle.std.specs.Prelude.{◌≡◌, ℕ, ℤ, Bool, true, false, not, ◌&&◌, List, [], ◌∷◌, Option, None, Some, is_none, is_some, unwrap_or, Result, Ok, Err, pos, length, ◌++◌, nat_le, nat_lt}
+use Rattle.std.specs.Prelude.{◌≡◌, ℕ, ℤ, Bool, true, false, not, ◌&&◌, List, [], ◌∷◌, Option, None, Some, is_none, is_some, unwrap_or, Result, Ok, Err, ◌≤ℤ◌, length, ◌++◌, nat_le, nat_lt}
 use Rattle.std.specs.Option.{option_map}
 use Rattle.std.specs.Result.{result_err}
 use Rattle.tsp_number.specs.Reading.{whole_of}
@@ -32,15 +32,6 @@ word_rows text values field word =
 abbrev pub NamesValue : {V : Type 0} → (V → List ℕ) → List V → Field → List ℕ → Result V LineFault → Type 0
 NamesValue text values field word (Ok v) = (is_left_out field word ≡ false) × (named text values word ≡ Some v)
 NamesValue text values field word (Err fault) = word_rows text values field word ≡ Some fault
-
--- the rows of a keyword with a number
-abbrev pub number_rows : ℤ → ℤ → List ℕ → Option LineFault
-number_rows low high value = first_row (when (not (is_filled value)) row.BadValue
-    ∷ option_map (λ fault. row.Number fault) (result_err (whole_of (first_word value) low high)) ∷ [])
-
-abbrev pub ReadsNumber : ℤ → ℤ → List ℕ → Result ℤ LineFault → Type 0
-ReadsNumber low high value (Ok z) = (is_filled value ≡ true) × (whole_of (first_word value) low high ≡ Ok z)
-ReadsNumber low high value (Err fault) = number_rows low high value ≡ Some fault
 
 -- ---- a line that opens a section
 
@@ -98,25 +89,17 @@ SetsNamed text values field word late old new (Err steps.Memory) = ⊥
 SetsNamed text values field word late old new (Err (steps.Fault fault)) = (new ≡ old)
     × (named_rows (is_some old) (is_left_out field word) (named text values word) late ≡ Some fault)
 
+-- the rows of a keyword with a number
 abbrev pub numbered_rows : Bool → List ℕ → Result ℤ NumberFault → Option LineFault
 numbered_rows stands value reading = first_row (when stands row.Repeated ∷ when (not (is_filled value)) row.BadValue
     ∷ option_map (λ fault. row.Number fault) (result_err reading) ∷ [])
 
--- the number that is read is there now, or the fault of the line
-abbrev pub SetsNumber : ℤ → ℤ → List ℕ → Option ℤ → Option ℤ → Result (Unit {0}) StepFault → Type 0
-SetsNumber low high value old new (Ok done) = (is_some old ≡ false) × (is_filled value ≡ true) × (z : ℤ)
-    × (whole_of (first_word value) low high ≡ Ok z) × (new ≡ Some z)
-SetsNumber low high value old new (Err steps.Memory) = ⊥
-SetsNumber low high value old new (Err (steps.Fault fault)) = (new ≡ old)
-    × (numbered_rows (is_some old) value (whole_of (first_word value) low high) ≡ Some fault)
-
--- the same of a number of nodes
-abbrev pub SetsCount : ℕ → List ℕ → Option ℕ → Option ℕ → Result (Unit {0}) StepFault → Type 0
-SetsCount most value old new (Ok done) = (is_some old ≡ false) × (is_filled value ≡ true) × (n : ℕ)
-    × (whole_of (first_word value) (pos 1) (pos most) ≡ Ok (pos n)) × (new ≡ Some n)
-SetsCount most value old new (Err steps.Memory) = ⊥
-SetsCount most value old new (Err (steps.Fault fault)) = (new ≡ old)
-    × (numbered_rows (is_some old) value (whole_of (first_word value) (pos 1) (pos most)) ≡ Some fault)
+-- the number of a keyword that doesn't stand yet, or the fault of its line
+abbrev pub GivesNumber : Bool → ℤ → ℤ → List ℕ → Result ℤ LineFault → Type 0
+GivesNumber stands low high value (Ok z) = (stands ≡ false) × (is_filled value ≡ true)
+    × (whole_of (first_word value) low high ≡ Ok z) × (low ≤ℤ z) × (z ≤ℤ high)
+GivesNumber stands low high value (Err fault) =
+    numbered_rows stands value (whole_of (first_word value) low high) ≡ Some fault
 
 -- the name is there now, or the fault of the line
 abbrev pub SetsName : WordLine → Option (List ℕ) → Option (List ℕ) → Result (Unit {0}) StepFault → Type 0

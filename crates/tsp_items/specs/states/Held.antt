@@ -1,5 +1,5 @@
 -- What each section's part holds, by the part itself, and what it finishes with.
-use Rattle.std.specs.Prelude.{◌≡◌, ℕ, ◌+◌, ◌≤◌, ℤ, List, [], length, map, Option, Some, None, Bool, false, is_some}
+use Rattle.std.specs.Prelude.{◌≡◌, ℕ, ◌+◌, ◌≤◌, ℤ, List, length, map}
 use Rattle.tsp_number.specs.Distances.{on_plane}
 use Rattle.tsp_items.specs.declared.parts.numbers.NumberList.{NumberList}
 use Rattle.tsp_items.specs.declared.parts.points.PointList.{PointList}
@@ -18,8 +18,6 @@ use Rattle.tsp_items.specs.Combs.{CombsSoFar, combs_after}
 use Rattle.tsp_items.specs.Tree.{TreeSoFar, tree_after}
 use Rattle.tsp_items.specs.declared.part.Part.{Part}
 use Rattle.tsp_items.specs.declared.part.Part.TheVariants as parts
-use Rattle.tsp_items.specs.declared.part.Run.{Run}
-use Rattle.tsp_items.specs.declared.part.Run.TheVariants as runs
 use Rattle.tsp_value.specs.declared.field.Shape.{Shape}
 use Rattle.tsp_value.specs.declared.field.Shape.TheVariants.{Numbers, Points, SpacePoints, Depots, Pairs, Weights, Tours, Triples, Combs, Steps}
 use Rattle.tsp_items.specs.states.Parts.{NumbersHold, PointsHold, SpacePointsHold, DepotsHold, PairsHold, TriplesHold, WeightsHold, ToursHold, EndsRun}
@@ -103,57 +101,6 @@ shape_by (parts.Tours list) = Tours
 shape_by (parts.Triples list) = Triples
 shape_by (parts.Combs list) = Combs
 shape_by (parts.Steps list) = Steps
-
--- the run that its words are read in, where they are
-abbrev pub run_of : Part → Option Run
-run_of (parts.Weights list) = Some runs.Weights
-run_of (parts.Tours list) = Some runs.Tours
-run_of (parts.Points list) = Some runs.Points
-run_of (parts.SpacePoints list) = Some runs.SpacePoints
-run_of (parts.Numbers list) = None
-run_of (parts.Depots list) = None
-run_of (parts.Pairs list) = None
-run_of (parts.Triples list) = None
-run_of (parts.Combs list) = None
-run_of (parts.Steps list) = None
-
--- a group of a point has begun in it, so that its next word is a coordinate
-abbrev pub in_group : Part → Bool
-in_group (parts.Points list) = is_some list.begun
-in_group (parts.SpacePoints list) = is_some list.begun
-in_group (parts.Numbers list) = false
-in_group (parts.Depots list) = false
-in_group (parts.Pairs list) = false
-in_group (parts.Weights list) = false
-in_group (parts.Tours list) = false
-in_group (parts.Triples list) = false
-in_group (parts.Combs list) = false
-in_group (parts.Steps list) = false
-
--- how many groups of points are still to come, and whether a node has one; a part of another shape has none to come
-abbrev pub groups_left : Part → ℕ
-groups_left (parts.Points list) = list.left
-groups_left (parts.SpacePoints list) = list.left
-groups_left (parts.Numbers list) = 0
-groups_left (parts.Depots list) = 0
-groups_left (parts.Pairs list) = 0
-groups_left (parts.Weights list) = 0
-groups_left (parts.Tours list) = 0
-groups_left (parts.Triples list) = 0
-groups_left (parts.Combs list) = 0
-groups_left (parts.Steps list) = 0
-
-abbrev pub marks_of : Part → List Bool
-marks_of (parts.Points list) = list.seen.items
-marks_of (parts.SpacePoints list) = list.seen.items
-marks_of (parts.Numbers list) = []
-marks_of (parts.Depots list) = []
-marks_of (parts.Pairs list) = []
-marks_of (parts.Weights list) = []
-marks_of (parts.Tours list) = []
-marks_of (parts.Triples list) = []
-marks_of (parts.Combs list) = []
-marks_of (parts.Steps list) = []
 
 -- the part holds these words of its section
 abbrev pub HoldsPart : Part → ℕ → List (List ℕ) → Type 0

@@ -1,10 +1,11 @@
 //! The weights of a matrix.
 
-ghost use Rattle.std.specs.Prelude.{◌≡◌, ◌≤◌, [], ℕ, List, ◌∷◌, ◌++◌, Ok, IfErr, true, false};
+ghost use Rattle.std.specs.Prelude.{◌≡◌, ◌+◌, ◌≤◌, [], ℕ, List, ◌∷◌, ◌++◌, Ok, IfErr, vec_len, vec_capacity, true, false};
 ghost use Rattle.tsp_items.specs.Numbers.{IsWhole};
 
 use crate::fault::{LineFault, StepFault};
 use std::alloc::Global;
+use std::mem;
 use tsp_number::parse_whole;
 use tsp_value::{MOST_MATRIX_NODES, MOST_WEIGHT};
 
@@ -13,6 +14,7 @@ use tsp_value::{MOST_MATRIX_NODES, MOST_WEIGHT};
 pub struct WeightList {
     weights: Vec<i64>,
     most: usize,
+    ghost few: { vec_len weights ≤ most },
 }
 
 impl WeightList {
@@ -58,21 +60,28 @@ impl WeightList {
         }
     }
 
-    /// Takes the number of a word that was read, where it is a weight and there is room. The answer
-    /// is whether it was taken.
+    /// The list for a run of words: it has room for so many more weights, or for all that the matrix
+    /// has left; for none where memory was refused.
     #[inline(always)]
-    pub fn push_read(&mut self, weight: i64) -> bool
-        ensures taken { result ≡ true → (n : ℕ) (words : List (List ℕ)) (word : List ℕ)
-            → IsWhole word weight → HoldsWeights self.old n words
-            → Takes n (place_of_weight n words) word
-            (HoldsWeights self.new n (words ++ word ∷ [])) (Ok tt) }
-        ensures kept { result ≡ false → (n : ℕ) (words : List (List ℕ))
-            → HoldsWeights self.old n words → HoldsWeights self.new n words }
+    pub fn gather(&mut self, alloc: Global, more: usize) -> Gathered
+        ensures { (n : ℕ) (words : List (List ℕ)) → HoldsWeights self.old n words
+            → HoldsWeights result.list n words }
     {
-        if weight < -MOST_WEIGHT || weight > MOST_WEIGHT {
-            return false;
-        }
-        self.weights.len() < self.most && self.weights.push(weight).is_ok()
+        let empty = WeightList {
+            weights: Vec::new(alloc),
+            most: 0,
+        };
+        Gathered::of(mem::replace(self, empty), more)
+    }
+
+    /// Goes on with the list of a run.
+    #[inline(always)]
+    pub fn put_back(&mut self, gathered: Gathered)
+        ensures { self.new ≡ gathered.list }
+    {
+        let Gathered { list, room: _ } = gathered;
+        let before = mem::replace(self, list);
+        drop(before);
     }
 
     /// The weights.
@@ -81,5 +90,64 @@ impl WeightList {
             → result.items ≡ weights_in words }
     {
         self.weights
+    }
+}
+
+/// The weights in a run of words, which has asked for the room of many at once.
+///
+/// By value its vector is in no other place, so a push is a store and two counts.
+#[derive(Drop)]
+pub struct Gathered {
+    list: WeightList,
+    /// How many more weights there is room for, in memory and in the matrix.
+    room: usize,
+    ghost reserved: { vec_len list.weights + room ≤ vec_capacity list.weights },
+    ghost within: { vec_len list.weights + room ≤ list.most },
+}
+
+impl Gathered {
+    ghost use Rattle.tsp_items.specs.Weights.{place_of_weight};
+    ghost use Rattle.tsp_items.specs.states.Parts.{Takes};
+    ghost use Rattle.tsp_items.specs.states.Held.{HoldsWeights};
+
+    /// A list with room for so many more weights, or for all that the matrix has left; for none where
+    /// memory was refused.
+    ///
+    /// Where it grows, it doubles, and never past what the matrix has. So what is asked for goes by the
+    /// weights that have come and by `more`, and not by the dimension alone.
+    #[inline(always)]
+    fn of(mut list: WeightList, more: usize) -> Gathered
+        ensures { (n : ℕ) (words : List (List ℕ)) → HoldsWeights list n words
+            → HoldsWeights result.list n words }
+    {
+        let len = list.weights.len();
+        let left = list.most.saturating_sub(len);
+        let room = more.min(left);
+        if list.weights.capacity() < len + room {
+            let growth = room.max(len.min(left));
+            if list.weights.reserve_exact(growth).is_err() {
+                return Gathered { list, room: 0 };
+            }
+        }
+        Gathered { list, room }
+    }
+
+    /// Takes the number of a word that was read, where it is a weight and there is room. The answer
+    /// is whether it was taken.
+    #[inline(always)]
+    pub fn push_read(&mut self, weight: i64) -> bool
+        ensures taken { result ≡ true → (n : ℕ) (words : List (List ℕ)) (word : List ℕ)
+            → IsWhole word weight → HoldsWeights self.old.list n words
+            → Takes n (place_of_weight n words) word
+            (HoldsWeights self.new.list n (words ++ word ∷ [])) (Ok tt) }
+        ensures kept { result ≡ false → (n : ℕ) (words : List (List ℕ))
+            → HoldsWeights self.old.list n words → HoldsWeights self.new.list n words }
+    {
+        if self.room == 0 || weight < -MOST_WEIGHT || weight > MOST_WEIGHT {
+            return false;
+        }
+        self.room -= 1;
+        self.list.weights.push_reserved(weight);
+        true
     }
 }

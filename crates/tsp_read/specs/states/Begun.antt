@@ -1,43 +1,34 @@
 -- A line or a word that has begun in one piece of a text, and ends in another.
-use Rattle.std.specs.Prelude.{◌≡◌, ℕ, ◌+◌, ◌≤◌, Bool, true, false, not, ◌&&◌, List, [], ◌∷◌, ◌++◌, length}
-use Rattle.tsp_value.specs.Bytes.{is_letter}
+use Rattle.std.specs.Prelude.{◌≡◌, ℕ, ◌+◌, ◌≤◌, Bool, true, false, List, [], ◌∷◌, ◌++◌, length}
 use Rattle.tsp_read.specs.declared.intake.Intake.{Intake}
+use Rattle.tsp_read.specs.declared.token.Token.{Token}
 use Rattle.tsp_read.specs.declared.begun.Begun.{Begun}
-use Rattle.tsp_items.specs.Lines.{ends_line, is_filled}
-use Rattle.tsp_read.specs.states.Left.{ends_word, from, items_left}
+use Rattle.tsp_items.specs.Lines.{is_filled}
+use Rattle.tsp_read.specs.states.Left.{from, items_left}
+use Rattle.tsp_read.specs.states.Token.{token_at, ends}
 use Rattle.tsp_read.specs.states.Intake.{IsReadTo}
 
--- a word line, from its first byte that isn't blank on, whose end has not come
-pub record HasBegunLine (inside : Bool) (line : List ℕ) : Type 0 where
+-- a line or a word, from its first byte that isn't blank on, whose end has not come
+pub record HasBegunToken (inside : Bool) (token : Token) (bytes : List ℕ) : Type 0 where
   pub first : ℕ
   pub others : List ℕ
-  pub parts : line ≡ first ∷ others
-  pub letter : (not inside && is_letter first) ≡ true
-  pub no_end : from ends_line line ≡ []
+  pub parts : bytes ≡ first ∷ others
+  pub token_is : token ≡ token_at inside first
+  pub no_end : from (ends token) bytes ≡ []
 
--- a word of a number line whose end has not come
-pub record HasBegunWord (inside : Bool) (word : List ℕ) : Type 0 where
-  pub first : ℕ
-  pub others : List ℕ
-  pub parts : word ≡ first ∷ others
-  pub no_letter : (not inside && is_letter first) ≡ false
-  pub no_end : from ends_word word ≡ []
-
--- nothing has begun, or a line, or a word
-abbrev pub HasBegun : Bool → List ℕ → List ℕ → Type 0
-HasBegun inside [] [] = Unit {0}
-HasBegun inside (b ∷ line) [] = HasBegunLine inside (b ∷ line)
-HasBegun inside [] (b ∷ word) = HasBegunWord inside (b ∷ word)
-HasBegun inside (b ∷ line) (c ∷ word) = ⊥
+-- nothing has begun, or this
+abbrev pub HasBegun : Bool → Token → List ℕ → Type 0
+HasBegun inside token [] = Unit {0}
+HasBegun inside token (b ∷ bytes) = HasBegunToken inside token (b ∷ bytes)
 
 -- the bytes that are kept of it
 abbrev pub kept : Begun → List ℕ
-kept begun = begun.line.items ++ begun.word.items
+kept begun = begun.bytes.items
 
 -- Of the bytes so far the items up to a place were taken. There the line or word has begun that is kept, and then this is left.
 pub record IsFedTo (intake : Intake) (begun : Begun) (bytes rest : List ℕ) : Type 0 where
   pub read : IsReadTo intake bytes (kept begun ++ rest)
-  pub begins : HasBegun intake.inside begun.line.items begun.word.items
+  pub begins : HasBegun intake.inside begun.token begun.bytes.items
 
 -- The same; and while something is kept nothing is left, and the end of what is kept hasn't come.
 pub record IsJoinedTo (intake : Intake) (begun : Begun) (bytes rest : List ℕ) : Type 0 where

@@ -3,14 +3,15 @@
 use crate::state::reading::Reading;
 use std::alloc::Global;
 use tsp_items::{
-    CutLine, LineFault, StepFault, add_comment, add_other, says_space, set_count, set_name,
-    set_named, set_number,
+    CutLine, LineFault, StepFault, add_comment, add_other, number_of, says_space, set_name,
+    set_named,
 };
-use tsp_value::{Field, Keyword, MOST_CAPACITY, MOST_LINE_BYTES, MOST_NODES, MOST_SCALE};
+use tsp_value::{Field, Keyword, MOST_LINE_BYTES, ValueShape};
 
 impl Reading {
-    ghost use Rattle.std.specs.Prelude.{◌≡◌, ◌&&◌, not, is_some, None, List};
-    ghost use Rattle.tsp_value.specs.Shapes.{shape_of};
+    ghost use Rattle.std.specs.Prelude.{◌≡◌, ◌&&◌, not, is_some, Some, None, List};
+    ghost use Rattle.tsp_value.specs.declared.field.ValueShape.TheVariants.{Number, Word};
+    ghost use Rattle.tsp_value.specs.Shapes.{shape_of, value_shape_of};
     ghost use Rattle.tsp_fields.specs.Fields.{fields_of, spatial};
     ghost use Rattle.tsp_items.specs.Lines.{first_word};
     ghost use Rattle.tsp_items.specs.Values.{says_space};
@@ -52,53 +53,51 @@ impl Reading {
         requires { shape_of (spatial (fields_of self.old.draft)) field ≡ None }
         ensures { LineAnswers self.old field (seen line.now) self.new result }
     {
+        match field.value_shape() {
+            Some(ValueShape::Kept) => set_name(alloc, &mut self.draft.name, line),
+            Some(ValueShape::KeptEach) => add_comment(alloc, &mut self.draft.comments, line),
+            Some(ValueShape::Number { low, high }) => self.number(field, low, high, line),
+            Some(ValueShape::Word) => self.named(field, line),
+            None => Ok(()),
+        }
+    }
+
+    /// Takes the line of a keyword with a number from `low` to `high`, where no section is open.
+    fn number(
+        &mut self,
+        field: Field,
+        low: i64,
+        high: i64,
+        line: &CutLine<'_>,
+    ) -> Result<(), StepFault>
+        requires { value_shape_of field ≡ Some (Number low high) }
+        ensures { LineAnswers self.old field (seen line.now) self.new result }
+    {
+        match number_of(self.draft.stands(field), line.value, low, high) {
+            Ok(number) => {
+                self.draft.set_number(field, number);
+                Ok(())
+            }
+            Err(fault) => Err(StepFault::Fault(fault)),
+        }
+    }
+
+    /// Takes the line of a keyword with one of a list of words, where no section is open. Each such
+    /// keyword has a type of its own.
+    fn named(&mut self, field: Field, line: &CutLine<'_>) -> Result<(), StepFault>
+        requires { value_shape_of field ≡ Some Word }
+        ensures { LineAnswers self.old field (seen line.now) self.new result }
+    {
+        let value = line.value;
+        let late = self.is_late(field, value);
+        let draft = &mut self.draft;
         match field {
-            Field::NameKey => set_name(alloc, &mut self.draft.name, line),
-            Field::TypeKey => set_named(&mut self.draft.kind, Field::TypeKey, line.value, false),
-            Field::CommentKey => add_comment(alloc, &mut self.draft.comments, line),
-            Field::DimensionKey => set_count(&mut self.draft.dimension, line.value, MOST_NODES),
-            Field::CapacityKey => set_number(
-                &mut self.draft.capacity,
-                line.value,
-                1,
-                MOST_CAPACITY,
-            ),
-            Field::ScaleKey => set_number(&mut self.draft.scale, line.value, 1, MOST_SCALE),
-            Field::EdgeWeightTypeKey => {
-                let late = self.is_late(Field::EdgeWeightTypeKey, line.value);
-                set_named(
-                    &mut self.draft.weight_kind,
-                    Field::EdgeWeightTypeKey,
-                    line.value,
-                    late,
-                )
-            }
-            Field::EdgeWeightFormatKey => {
-                set_named(
-                    &mut self.draft.weight_format,
-                    Field::EdgeWeightFormatKey,
-                    line.value,
-                    false,
-                )
-            }
-            Field::NodeCoordTypeKey => {
-                let late = self.is_late(Field::NodeCoordTypeKey, line.value);
-                set_named(
-                    &mut self.draft.coord_kind,
-                    Field::NodeCoordTypeKey,
-                    line.value,
-                    late,
-                )
-            }
-            Field::DisplayDataTypeKey => {
-                set_named(
-                    &mut self.draft.display_kind,
-                    Field::DisplayDataTypeKey,
-                    line.value,
-                    false,
-                )
-            }
-            _ => Ok(()),
+            Field::TypeKey => set_named(&mut draft.kind, field, value, late),
+            Field::EdgeWeightTypeKey => set_named(&mut draft.weight_kind, field, value, late),
+            Field::EdgeWeightFormatKey => set_named(&mut draft.weight_format, field, value, late),
+            Field::NodeCoordTypeKey => set_named(&mut draft.coord_kind, field, value, late),
+            Field::DisplayDataTypeKey => set_named(&mut draft.display_kind, field, value, late),
+            _ => unreachable!(),
         }
     }
 }
