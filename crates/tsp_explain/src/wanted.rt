@@ -1,6 +1,6 @@
 //! What each keyword and each section takes, with its numbers.
 
-use tsp_value::Field;
+use tsp_value::{Field, Shape};
 
 /// What a keyword or a section takes.
 pub(crate) fn wanted(field: Field) -> &'static str {
@@ -131,30 +131,10 @@ pub(crate) fn asked(field: Field) -> &'static str {
 /// How many words a group of a section has, in a spatial file or in another, or `None` where it has
 /// no groups.
 pub(crate) fn group(field: Field, is_spatial: bool) -> Option<u64> {
-    match field {
-        Field::NodeCoordPart if is_spatial => Some(4),
-        Field::NodeCoordPart | Field::DisplayDataPart => Some(3),
-        Field::DemandPart
-        | Field::NodePotentialPart
-        | Field::RowPotentialPart
-        | Field::ColumnPotentialPart => Some(2),
-        Field::NameKey
-        | Field::TypeKey
-        | Field::CommentKey
-        | Field::OtherKey
-        | Field::DimensionKey
-        | Field::CapacityKey
-        | Field::ScaleKey
-        | Field::EdgeWeightTypeKey
-        | Field::EdgeWeightFormatKey
-        | Field::NodeCoordTypeKey
-        | Field::DisplayDataTypeKey
-        | Field::DepotPart
-        | Field::FixedEdgesPart
-        | Field::EdgeWeightPart
-        | Field::TourPart
-        | Field::FixedPotentialPart
-        | Field::CombPart
-        | Field::BranchPart => None,
+    match field.shape(is_spatial) {
+        Some(Shape::SpacePoints) => Some(4),
+        Some(Shape::Points) => Some(3),
+        Some(Shape::Numbers { low: _, high: _ }) => Some(2),
+        _ => None,
     }
 }

@@ -39,7 +39,8 @@ KeepsCosts cost n old new = (i j : ℕ) → IsNode n i → IsNode n j → HasCos
 abbrev pub HasLines : Layout → ℕ → ℕ → List ℤ → List ℤ → Type 0
 HasLines from n line half full = (l k : ℕ) → line < l → l ≤ n → k < line_len_of from n l
     → slice_index_or full (line_start_of from n l + k) (pos 0)
-    ≡ listed_cost from n half (slice_index_or (cells_of_line from n l) k (0, 0)).0 (slice_index_or (cells_of_line from n l) k (0, 0)).1
+    ≡ listed_cost from n half (slice_index_or (cells_of_line from n l) k (0, 0)).0
+    (slice_index_or (cells_of_line from n l) k (0, 0)).1
 
 -- What a loop has done: what had its cost has it, and so have the cells of a kind.
 abbrev pub Fills : (ℕ → ℕ → ℤ) → ℕ → List ℤ → List ℤ → (ℕ → ℕ → Type 0) → Type 0

@@ -98,7 +98,8 @@ pub fn faults_at_the_end()
     ensures rows_alone { MissingAtEnd (codes "TYPE : POTENTIALS/DIMENSION : 1/ROW_POTENTIAL_SECTION/1 0")
         fields.ColumnPotentialPart }
     ensures space_said_again { MissingAtEnd
-        (codes "DIMENSION : 1/EDGE_WEIGHT_TYPE : MAX_3D/NODE_COORD_SECTION/1 0 0 5/NODE_COORD_TYPE : THREED_COORDS") fields.TypeKey }
+        (codes "DIMENSION : 1/EDGE_WEIGHT_TYPE : MAX_3D/NODE_COORD_SECTION/1 0 0 5/NODE_COORD_TYPE : THREED_COORDS")
+        fields.TypeKey }
     ensures two_of_three { EndsWith (codes "TYPE : TSP/DIMENSION : 1/EDGE_WEIGHT_TYPE : EUC_3D/NODE_COORD_SECTION/1 0 0")
         (ends.Incomplete fields.NodeCoordPart) }
     ensures too_few { EndsWith (quad (codes "UPPER_ROW") (codes "1 2 3 4 5")) ends.WrongCount }

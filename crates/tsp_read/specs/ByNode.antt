@@ -1,33 +1,33 @@
 -- Sections by node: the nodes of a section's groups, and that each node has one group.
-use Rattle.std.specs.Prelude.{ℕ, Bool, true, false, cond, List, [], map, ℤ, pos, neg_ℤ}
+use Rattle.std.specs.Prelude.{ℕ, Bool, true, false, List, [], map, Option, None, Some, ℤ, pos}
 use Rattle.std.specs.List.Sorted.{IsPermutation}
 use Rattle.tsp_value.specs.declared.field.Field.{Field}
-use Rattle.tsp_value.specs.declared.field.Field.TheVariants.{NodeCoordPart, DisplayDataPart, DemandPart, NodePotentialPart, RowPotentialPart, ColumnPotentialPart}
+use Rattle.tsp_value.specs.declared.field.Shape.{Shape}
+use Rattle.tsp_value.specs.declared.field.Shape.TheVariants.{Numbers, Points, SpacePoints}
+use Rattle.tsp_value.specs.Shapes.{shape_of}
 use Rattle.tsp_value.specs.Cells.{nodes_to}
-use Rattle.tsp_value.specs.Limits.{most_demand, most_potential}
 use Rattle.tsp_items.specs.Groups.{number_groups, point_groups, space_point_groups, nodes_in}
 
-abbrev pub is_by_node_field : Field → Bool
-is_by_node_field NodeCoordPart = true
-is_by_node_field DisplayDataPart = true
-is_by_node_field DemandPart = true
-is_by_node_field NodePotentialPart = true
-is_by_node_field RowPotentialPart = true
-is_by_node_field ColumnPotentialPart = true
-is_by_node_field field = false
+-- a section of this shape has a group for each node
+abbrev pub has_groups : Option Shape → Bool
+has_groups (Some (Numbers low high)) = true
+has_groups (Some Points) = true
+has_groups (Some SpacePoints) = true
+has_groups shape = false
 
--- the nodes of the section's groups with n nodes, as they are read
+abbrev pub is_by_node_field : Field → Bool
+is_by_node_field field = has_groups (shape_of false field)
+
+-- the nodes of the groups of such a section with n nodes, as they are read
+abbrev pub nodes_by : Option Shape → ℕ → List (List ℕ) → List ℤ
+nodes_by (Some (Numbers low high)) n words = nodes_in (number_groups low high n words)
+nodes_by (Some Points) n words = nodes_in (point_groups n words)
+nodes_by (Some SpacePoints) n words = nodes_in (space_point_groups n words)
+nodes_by shape n words = []
+
+-- the same of a section, in a spatial file or in another
 abbrev pub group_nodes : Bool → Field → ℕ → List (List ℕ) → List ℤ
-group_nodes in_space NodeCoordPart n words =
-    cond in_space (nodes_in (space_point_groups n words)) (nodes_in (point_groups n words))
-group_nodes in_space DisplayDataPart n words = nodes_in (point_groups n words)
-group_nodes in_space DemandPart n words = nodes_in (number_groups (pos 0) (pos most_demand) n words)
-group_nodes in_space NodePotentialPart n words =
-    nodes_in (number_groups (neg_ℤ (pos most_potential)) (pos most_potential) n words)
-group_nodes in_space RowPotentialPart n words = nodes_in (number_groups (neg_ℤ (pos most_potential)) (pos most_potential) n words)
-group_nodes in_space ColumnPotentialPart n words =
-    nodes_in (number_groups (neg_ℤ (pos most_potential)) (pos most_potential) n words)
-group_nodes in_space field n words = []
+group_nodes in_space field n words = nodes_by (shape_of in_space field) n words
 
 -- the nodes are 1..n, each once, in any order
 abbrev pub HasEachOnce : ℕ → List ℤ → Type 0

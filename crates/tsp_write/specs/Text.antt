@@ -158,7 +158,8 @@ abbrev pub text_of_value : Fields → Field → Option ValueShape → List ℕ
 text_of_value f field None = []
 text_of_value f field (Some Kept) = []
 text_of_value f field (Some KeptEach) = []
-text_of_value f field (Some (Number low high)) = optional (λ number. keyword_line field (signed_decimal number)) (one_number_in f field)
+text_of_value f field (Some (Number low high)) =
+    optional (λ number. keyword_line field (signed_decimal number)) (one_number_in f field)
 text_of_value f field (Some Word) = []
 
 -- the text of a field

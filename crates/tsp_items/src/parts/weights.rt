@@ -106,6 +106,8 @@ pub struct Gathered {
 }
 
 impl Gathered {
+    ghost use Rattle.std.specs.Prelude.{◌<◌, unsigned_abs};
+    ghost use Rattle.tsp_value.specs.Limits.{most_weight};
     ghost use Rattle.tsp_items.specs.Weights.{place_of_weight};
     ghost use Rattle.tsp_items.specs.states.Parts.{Takes};
     ghost use Rattle.tsp_items.specs.states.Held.{HoldsWeights};
@@ -142,6 +144,7 @@ impl Gathered {
             (HoldsWeights self.new.list n (words ++ word ∷ [])) (Ok tt) }
         ensures kept { result ≡ false → (n : ℕ) (words : List (List ℕ))
             → HoldsWeights self.old.list n words → HoldsWeights self.new.list n words }
+        ensures refused { result ≡ false → 0 < self.old.room → most_weight < unsigned_abs weight }
     {
         if self.room == 0 || weight < -MOST_WEIGHT || weight > MOST_WEIGHT {
             return false;

@@ -21,7 +21,8 @@ in_run draft incomplete field part count =
 -- are read on with the new ones, and `rest` is left.
 abbrev pub ReadsOn : Part → Count → List ℕ → Part → Count → List ℕ → Type 0
 ReadsOn old before text new after rest = (draft : Draft) (incomplete : Option Field) (field : Field) (bytes : List ℕ)
-    → IsReadTo (in_run draft incomplete field old before) bytes text → IsReadTo (in_run draft incomplete field new after) bytes rest
+    → IsReadTo (in_run draft incomplete field old before) bytes text
+    → IsReadTo (in_run draft incomplete field new after) bytes rest
 
 -- a run from a text to what is left of it, in which no more lines and words are counted than bytes are read
 pub record RunsTo (old : Part) (before : Count) (text : List ℕ) (new : Part) (after : Count) (rest : List ℕ) : Type 0 where

@@ -10,7 +10,8 @@ use Rattle.tsp_branch.proofs.sets.add_to_nodes.Goals as goal
 pub nodes-preserved : goal.nodes-preserved
 nodes-preserved c = λ x last rest.
     c.nodes.invariant x last (rw (added_left (to_z w64 (of_z w64 c.args.number)) c.args.nodes.now c.nodes.node-index x 0 c.nodes-test.true)
-    (moved_on _ _ _ _ _ (node_moved (to_z w64 (of_z w64 c.args.number)) (get_or c.args.nodes.now c.nodes.node-index 0) x c.nodes.row c.add_at.new.row c.add_at.ensures.here c.add_at.ensures.others) rest))
+    (moved_on _ _ _ _ _ (node_moved (to_z w64 (of_z w64 c.args.number)) (get_or c.args.nodes.now c.nodes.node-index 0) x
+    c.nodes.row c.add_at.new.row c.add_at.ensures.here c.add_at.ensures.others) rest))
 
 pub returns : goal.returns
 returns c = λ x.
