@@ -1,6 +1,9 @@
 //! What always holds of the definitions, as contracts of functions that do nothing.
 
-ghost use Rattle.std.specs.Prelude.{codes, ◌++◌, IsTrue, true};
+ghost use Rattle.std.specs.Prelude.{codes, ◌≡◌, ◌≤◌, ◌++◌, ℕ, List, length, IsTrue, true};
+ghost use Rattle.tsp_number.specs.Decimal.{most_count};
+ghost use Rattle.tsp_number.specs.NumberWord.{IsShort};
+ghost use Rattle.tsp_value.specs.Limits.{most_coordinate, most_word_bytes};
 ghost use Rattle.tsp_number.specs.declared.fault.NumberFault.TheVariants as numbers;
 ghost use Rattle.tsp_value.specs.declared.field.Field.TheVariants as fields;
 ghost use Rattle.tsp_fields.specs.declared.fault.EndFault.TheVariants as ends;
@@ -125,4 +128,12 @@ pub fn fields_of_texts()
     ensures by_its_type { InSpace (codes "DIMENSION : 1/EDGE_WEIGHT_TYPE : MAN_3D/NODE_COORD_SECTION/1 1.5 0 -2") }
     ensures by_its_coordinates { InSpace (codes "NODE_COORD_TYPE:THREED_COORDS/DIMENSION 1/NODE_COORD_SECTION/1 1.5 0/-2") }
     ensures on_plane { OnPlane (codes "DIMENSION : 1/EDGE_WEIGHT_TYPE : MAN_2D/NODE_COORD_SECTION/1 1.5 -2") }
+{}
+
+/// What tsp_number says of itself are the limits of a file: the most bytes of a number word, and the
+/// largest coordinate.
+pub fn limits_agree()
+    ensures coordinate { most_count ≡ most_coordinate }
+    ensures no_more_bytes { (word : List ℕ) → IsShort word → length word ≤ most_word_bytes }
+    ensures no_fewer_bytes { (word : List ℕ) → length word ≤ most_word_bytes → IsShort word }
 {}

@@ -24,6 +24,7 @@ pub use feed::Feed;
 pub use read::{read_bytes, read_from};
 pub use settled::{settled_ends_stay, settled_faults_stay};
 pub use tsp_items::{
-    LineFault, ReadFault, faults_at_the_end, faults_of_word_lines, faults_of_words, fields_of_texts,
+    LineFault, ReadFault, faults_at_the_end, faults_of_word_lines, faults_of_words,
+    fields_of_texts, limits_agree,
 };
 pub use validity::{clean_fields_are_valid, spelled_files_are_valid};
