@@ -1,3 +1,4 @@
+pub mod Script
 pub mod Sink
 pub mod Turn
 pub mod Watched

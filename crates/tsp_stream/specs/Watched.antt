@@ -1,5 +1,7 @@
 -- What a clause sees of a watched reader or writer.
-use Rattle.std.specs.Prelude.{ℕ, Bool, true, List, length, Result, Ok, Err, ◌&&◌, ◌==◌, nat_lt}
+use Rattle.std.specs.Prelude.{◌≡◌, ℕ, Bool, true, List, length, Result, Ok, Err, ◌&&◌, ◌==◌, nat_lt}
+use denote.Ref.{MutBor}
+use denote.Param.Members.{Once}
 use Rattle.tsp_stream.specs.declared.watched.Watched.{Watched}
 
 -- the reader or writer inside
@@ -14,3 +16,14 @@ has_failed w = w.failed
 abbrev pub write_fails : {E : Type 0} → Result ℕ E → List ℕ → Bool
 write_fails (Ok count) text = (count == 0) && nat_lt 0 (length text)
 write_fails (Err e) text = true
+
+-- one call at a `&mut` to x and one to y, which may give r and leave x' and y' there
+pub record Calls {F T B R : Type 0} (g : Once F (MutBor T × (MutBor B × Unit {0})) (R × (MutBor T × (MutBor B × Unit {0}))))
+    (f : F) (x : T) (y : B) (r : R) (x' : T) (y' : B) : Type 0 where
+  pub first : MutBor T
+  pub second : MutBor B
+  pub shows : (first.now ≡ x) × (second.now ≡ y)
+  pub first_left : MutBor T
+  pub second_left : MutBor B
+  pub met : g.post f (first, (second, tt)) (r, (first_left, (second_left, tt)))
+  pub leaves : (first_left.now ≡ x') × (second_left.now ≡ y')

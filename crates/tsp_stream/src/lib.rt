@@ -3,8 +3,10 @@
 
 mod output;
 mod piece;
+mod script;
 mod watched;
 
 pub use output::{WriteFault, send, write_text};
 pub use piece::{PIECE, Piece, hand_over, make_room, put, put_next_number, put_number};
+pub use script::{Script, answers_go_through};
 pub use watched::Watched;

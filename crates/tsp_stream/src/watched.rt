@@ -1,9 +1,9 @@
 //! A reader or a writer that remembers whether it has failed.
 
-ghost use Rattle.std.specs.Prelude.{◌≡◌, false, is_err, ◌||◌};
+ghost use Rattle.std.specs.Prelude.{◌≡◌, Bool, false, is_err, ◌||◌};
 ghost use Rattle.std.specs.Io.{ReadsAtMost, WritesAtMost};
 ghost use Rattle.std.specs.Io.KnownBytes.{ReadConsumes, WriteAppends, Keeps};
-ghost use Rattle.tsp_stream.specs.Watched.{watched, has_failed, write_fails};
+ghost use Rattle.tsp_stream.specs.Watched.{watched, has_failed, write_fails, Calls};
 
 use std::io;
 use std::io::{Read, Write};
@@ -68,14 +68,18 @@ impl<T> Watched<T> {
         self.error = Some(error);
     }
 
-    /// Hands on what a call of the inner value answered, as it is, and remembers a failure: an
-    /// error, or a write that took nothing of what it could have taken.
-    fn hand_on<A>(&mut self, outcome: io::Result<A>, took_nothing: bool) -> io::Result<A>
-        ensures outcome { result ≡ outcome }
-        ensures inner { watched self.new ≡ watched self.old }
-        ensures failed { has_failed self.new ≡
-            (has_failed self.old || is_err outcome || took_nothing) }
+    /// Asks the inner value once, with room for what it gives, hands on what it answers, as it is, and
+    /// remembers a failure: an error, or an answer of which the call says that it took nothing of what
+    /// it could have taken.
+    pub(crate) fn ask<A, F>(&mut self, room: &mut [u8], call: F) -> io::Result<A>
+    where
+        F: FnOnce(&mut T, &mut [u8]) -> (io::Result<A>, bool),
+        requires { F.IsAlwaysCallable call }
+        ensures asked { (took_nothing : Bool) × Calls F.FnOnce call (watched self.old) room.old
+            (result, took_nothing) (watched self.new) room.new
+            × (has_failed self.new ≡ (has_failed self.old || is_err result || took_nothing)) }
     {
+        let (outcome, took_nothing) = call(&mut self.inner, room);
         self.failed = self.failed || outcome.is_err() || took_nothing;
         outcome
     }
@@ -90,8 +94,7 @@ impl<R: Read> Read for Watched<R> {
             result buf.new }
         ensures failed { has_failed self.new ≡ (has_failed self.old || is_err result) }
     {
-        let outcome = self.inner.read(buf);
-        self.hand_on(outcome, false)
+        self.ask(buf, |inner, room| (inner.read(room), false))
     }
 }
 
@@ -104,16 +107,17 @@ impl<W: Write> Write for Watched<W> {
             result buf.now }
         ensures failed { has_failed self.new ≡ (has_failed self.old || write_fails result buf.now) }
     {
-        let outcome = self.inner.write(buf);
-        let took_nothing = matches!(outcome, Ok(0)) && !buf.is_empty();
-        self.hand_on(outcome, took_nothing)
+        self.ask(&mut [], |inner, _| {
+            let outcome = inner.write(buf);
+            let took_nothing = matches!(outcome, Ok(0)) && !buf.is_empty();
+            (outcome, took_nothing)
+        })
     }
 
     fn flush(&mut self) -> io::Result<()>
         ensures bytes { Keeps (W.contents (watched self.old)) (W.contents (watched self.new)) }
         ensures failed { has_failed self.new ≡ (has_failed self.old || is_err result) }
     {
-        let outcome = self.inner.flush();
-        self.hand_on(outcome, false)
+        self.ask(&mut [], |inner, _| (inner.flush(), false))
     }
 }
