@@ -30,7 +30,7 @@ use Rattle.tsp_read.specs.states.Paused.{IsPaused, FeedsOn, stage_after, outcome
 use Rattle.tsp_read.specs.Feed.{IsGoing, IsEnded, HasSettled, HasTakenBy, HasTaken, refused_by, refusal, Feeds, ComesTo}
 use Rattle.tsp_read.proofs.IntakeSteps.{walked_so_far}
 use Rattle.tsp_read.proofs.Walks.{walked_all}
-use Rattle.tsp_read.proofs.SettledFaults.{settled_kept, ended_stays}
+use Rattle.tsp_text.proofs.SettledFaults.{settled_kept, ended_stays}
 
 -- ---- the same with a piece more
 

@@ -7,12 +7,12 @@ use Rattle.tsp_fields.specs.Rules.{standing_of, end_fault, fault_of}
 use Rattle.tsp_read.specs.declared.state.reading.Reading.{Reading}
 use Rattle.tsp_items.specs.Items.{Item}
 use Rattle.tsp_items.specs.Spells.{spelled, fault_at_end}
-use Rattle.tsp_read.specs.Cuts.{AreCut}
+use Rattle.tsp_text.specs.Cuts.{AreCut}
 use Rattle.tsp_read.specs.states.Holds.{Closed}
 use Rattle.tsp_read.specs.declared.state.finish.FinishFault.{FinishFault}
 use Rattle.tsp_read.specs.declared.state.finish.FinishFault.TheVariants as finishes
 use Rattle.tsp_read.specs.Finishes.{Finishes, FileOf}
-use Rattle.tsp_read.proofs.ValidItems.{is_file}
+use Rattle.tsp_text.proofs.ValidItems.{is_file}
 
 -- the end table over the draft is that over the items
 pub end_is : (reading : Reading) (items : List Item) → Closed reading items → end_fault (standing_of (fields_of reading.draft)) reading.incomplete ≡ fault_at_end items

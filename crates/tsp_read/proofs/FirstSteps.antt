@@ -6,8 +6,8 @@ use Rattle.std.specs.List.{find, filter}
 use Rattle.tsp_value.specs.declared.field.Field.{Field}
 use Rattle.tsp_items.specs.Earlier.{same_field}
 use Rattle.tsp_read.specs.states.Incomplete.{is_it, first_of}
-use Rattle.tsp_read.proofs.ValidSections.{same_field_is}
-use Rattle.tsp_read.proofs.WordSteps.{same_self}
+use Rattle.tsp_text.proofs.ValidSections.{same_field_is}
+use Rattle.tsp_text.proofs.ItemRows.{same_self}
 
 -- what is found passes
 found_passes : {A : Type 0} (p : A → Bool) (xs : List A) (y : A) → find p xs ≡ Some y → p y ≡ true

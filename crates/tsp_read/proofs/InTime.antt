@@ -16,7 +16,7 @@ use Rattle.tsp_read.specs.Reads.{Reads, ReadsFrom, most_taken, StopsAt}
 use Rattle.tsp_read.specs.Onward.{is_bare}
 use Rattle.tsp_read.specs.Feed.{IsEnded, HasTaken, Feeds}
 use Rattle.tsp_read.specs.Timely.{is_going, IsFedFrom, ReadsInTime}
-use Rattle.tsp_read.proofs.SettledFaults.{part_kept, ended_kept}
+use Rattle.tsp_text.proofs.SettledFaults.{part_kept, ended_kept}
 use Rattle.tsp_read.proofs.FeedSteps.{taken_at, not_refused}
 use Rattle.tsp_read.proofs.LastSteps.{settled_reads}
 

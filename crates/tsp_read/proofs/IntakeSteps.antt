@@ -25,10 +25,9 @@ use Rattle.tsp_read.specs.Walk.{Walked}
 use Rattle.tsp_read.specs.Onward.{is_bare, is_line_end, is_over_long, GivesNext, GoesOn}
 use Rattle.tsp_read.specs.states.Intake.{Stands, TakesNext, IsReadTo, settled_so_far, HasEnded, StopsAt}
 use Rattle.tsp_read.proofs.LeftSteps.{all_settled, left_blank, left_end, left_none}
-use Rattle.tsp_read.proofs.TextSteps.{long_line}
-use Rattle.tsp_read.proofs.WordSteps.{word_rows}
-use Rattle.tsp_read.proofs.ValidRows.{clean_parts}
-use Rattle.tsp_read.proofs.SettledFaults.{long_row, long_fault, same_fault}
+use Rattle.tsp_text.proofs.ItemRows.{word_rows, long_line}
+use Rattle.tsp_text.proofs.ValidRows.{clean_parts}
+use Rattle.tsp_text.proofs.SettledFaults.{long_row, long_fault, same_fault}
 use Rattle.tsp_read.proofs.Walks.{walked_to_end, walked_found}
 
 -- ---- an item that is too long has a row

@@ -36,10 +36,10 @@ use Rattle.tsp_value.specs.Shapes.{is_section_field, value_shape_of}
 use Rattle.tsp_items.specs.Spells.{fields_by, sections_in_order, first_incomplete}
 use Rattle.tsp_items.specs.states.CutLine.{named_rows, SetsNamed, numbered_rows, GivesNumber}
 use Rattle.tsp_read.specs.states.Holds.{fields_there, is_closed, is_closed_incomplete, OpenHolds, Closed, LineAnswers}
-use Rattle.tsp_read.proofs.Clean.{clean_more}
+use Rattle.tsp_text.proofs.Clean.{clean_more}
 use Rattle.tsp_read.proofs.KeywordCases.{by_number}
-use Rattle.tsp_read.proofs.SpaceSteps.{space_kept, coords_stay, first_stays}
-use Rattle.tsp_read.proofs.ValidStanding.{after_dimension}
+use Rattle.tsp_text.proofs.SpaceSteps.{space_kept, coords_stay, first_stays}
+use Rattle.tsp_text.proofs.ValidStanding.{after_dimension}
 
 -- no section is open after a line that opens none
 pub still_none : (old new : Reading) (items : List Item) → open_section items ≡ None → new.opened ≡ old.opened → old.opened ≡ None → OpenHolds new.opened items

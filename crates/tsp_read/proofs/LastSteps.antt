@@ -14,11 +14,11 @@ use Rattle.tsp_read.specs.declared.feed.Feed.{Feed}
 use Rattle.tsp_fields.specs.Fields.{Fields}
 use Rattle.tsp_items.specs.Earlier.{open_section}
 use Rattle.tsp_items.specs.FirstFault.{fault_in}
-use Rattle.tsp_read.specs.Cuts.{AreCut}
+use Rattle.tsp_text.specs.Cuts.{AreCut}
 use Rattle.tsp_items.specs.Text.{is_too_long, part, fault, settled_part}
 use Rattle.tsp_read.specs.Feed.{IsGoing, IsEnded, HasSettled, HasTaken, IsWhole, Ends}
-use Rattle.tsp_read.proofs.ValidCuts.{part_cut}
-use Rattle.tsp_read.proofs.SettledFaults.{part_long, part_short, part_kept, fault_kept}
+use Rattle.tsp_text.proofs.ValidCuts.{part_cut}
+use Rattle.tsp_text.proofs.SettledFaults.{part_long, part_short, part_kept, fault_kept}
 use Rattle.tsp_read.proofs.FeedSteps.{taken_at}
 use Rattle.std.specs.List.{list_all}
 use Rattle.std.proofs.lemmas.List.{reverse-append}

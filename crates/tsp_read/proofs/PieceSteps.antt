@@ -21,7 +21,7 @@ use Rattle.tsp_read.specs.Reads.{most_taken, StopsAt}
 use Rattle.tsp_read.specs.Onward.{is_bare}
 use Rattle.tsp_read.specs.Feed.{IsGoing, HasTaken, Feeds}
 use Rattle.tsp_read.specs.Timely.{IsTimely, HasCause, is_going, IsFedFrom}
-use Rattle.tsp_read.proofs.SettledFaults.{fault_kept, settled_kept, ended_stays}
+use Rattle.tsp_text.proofs.SettledFaults.{fault_kept, settled_kept, ended_stays}
 use Rattle.tsp_read.proofs.FeedSteps.{taken_at, going_on}
 
 -- what was gathered: these bytes were given and fed, without a settled fault

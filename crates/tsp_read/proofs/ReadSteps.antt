@@ -12,7 +12,7 @@ use Rattle.tsp_read.specs.states.Left.{item_next}
 use Rattle.tsp_read.specs.declared.state.reading.OpenSection.{OpenSection}
 use Rattle.tsp_read.specs.states.Holds.{OpenHolds, Holds, Answers}
 use Rattle.tsp_read.specs.Reads.{TakesItem}
-use Rattle.tsp_read.proofs.Clean.{clean_more}
+use Rattle.tsp_text.proofs.Clean.{clean_more}
 
 -- ---- one item
 

@@ -1,13 +1,12 @@
 -- A section is opened by its line, and closed: its field has its value, and the rest stays.
-use Rattle.std.proofs.Common.{◌≡◌, ℕ, Bool, true, false, List, [], ◌∷◌, ◌++◌, ◌≤◌, cond, get_or, arith, refl, sym, ap, subst, ◌∙◌, Option, Some, None, Ok, Err}
+use Rattle.std.proofs.Common.{◌≡◌, ℕ, Bool, true, false, List, [], ◌∷◌, ◌≤◌, cond, get_or, arith, refl, sym, ap, subst, ◌∙◌, Option, Some, None, Ok, Err}
 use Rattle.std.specs.Prelude.{ℤ, nat_le, nat_lt, is_some, unwrap_or, not, ◌&&◌}
 use Rattle.std.specs.Option.{option_map_or}
 use Rattle.std.specs.List.{find}
 use Rattle.std.proofs.lemmas.Bool.{and_parts, leb-true}
 use Rattle.tsp_value.specs.declared.field.Field.{Field}
 use Rattle.tsp_value.specs.declared.field.Field.TheVariants.{DimensionKey}
-use Rattle.tsp_value.specs.declared.keyword.Keyword.{Keyword}
-use Rattle.tsp_value.specs.declared.keyword.Keyword.TheVariants.{Known, EdgeDataFormat, EdgeDataSection, Eof, Unknown}
+use Rattle.tsp_value.specs.declared.keyword.Keyword.TheVariants.{Known}
 use Rattle.tsp_value.specs.Limits.{most_nodes, most_line_bytes, most_matrix_nodes}
 use Rattle.tsp_value.specs.Steps.{Step}
 use Rattle.tsp_value.specs.Words.{fields_in_order}
@@ -30,9 +29,9 @@ use Rattle.tsp_items.specs.Combs.{combs_in, place_of_comb}
 use Rattle.tsp_items.specs.Tree.{steps_in, place_of_step}
 use Rattle.tsp_items.specs.Places.{PastEnd}
 use Rattle.tsp_items.specs.Lines.{is_filled}
-use Rattle.tsp_items.specs.Items.{WordLine, Item, Line, NumberWord, LineEnd}
+use Rattle.tsp_items.specs.Items.{WordLine, Item, Line}
 use Rattle.tsp_value.specs.Shapes.{shape_of, is_section_field}
-use Rattle.tsp_items.specs.Earlier.{same_field, is_key, opened_by, is_open, has_line, open_section, words_of}
+use Rattle.tsp_items.specs.Earlier.{is_open, has_line, open_section, words_of}
 use Rattle.tsp_items.specs.Values.{dimension_of, spatial_after}
 use Rattle.tsp_items.specs.Sections.{place_by, place_in, nodes_of}
 use Rattle.tsp_items.specs.Rows.{row_of, when, first_row}
@@ -45,50 +44,12 @@ use Rattle.tsp_read.specs.states.Open.{HoldsSection}
 use Rattle.tsp_read.specs.states.Stored.{with_words, with_section}
 use Rattle.tsp_read.specs.states.Incomplete.{first_of}
 use Rattle.tsp_read.specs.states.Holds.{fields_there, OpenHolds, Holds, Closed}
-use Rattle.tsp_read.proofs.Clean.{clean_more}
+use Rattle.tsp_text.proofs.Clean.{clean_more}
 use Rattle.tsp_read.proofs.FirstSteps.{but, first_without, first_more}
-use Rattle.tsp_read.proofs.SectionCases.{section_of, opening, standing, opened_fields, opened_first, keywords_stay, closed_fields, stored_keywords}
-use Rattle.tsp_read.proofs.WordSteps.{same_self}
-use Rattle.tsp_read.proofs.ValidKeywords.{dimension_fits}
-
--- ---- which section was opened
-
--- a section that is open was opened
-open_key : (f : Field) (key : Keyword) → is_open f (opened_by key) ≡ true → is_key f key ≡ true
-open_key f (Known g) e = by_kind (is_section_field g) e
-  where
-    by_kind : (b : Bool) → is_open f (cond b (Some g) None) ≡ true → same_field f g ≡ true
-    by_kind true e = e
-    by_kind false e = cc
-open_key f EdgeDataFormat e = cc
-open_key f EdgeDataSection e = cc
-open_key f Eof e = cc
-open_key f Unknown e = cc
-
-open_there : (f : Field) (earlier : List Item) → is_open f (open_section earlier) ≡ true → has_line f earlier ≡ true
-open_there f [] e = cc
-open_there f (Line key line ∷ earlier) e = rw (open_key f key e) refl
-open_there f (NumberWord word ∷ earlier) e = open_there f earlier e
-open_there f (LineEnd ∷ earlier) e = open_there f earlier e
-
-pub was_opened : (earlier : List Item) (f : Field) → open_section earlier ≡ Some f → has_line f earlier ≡ true
-was_opened earlier f e = open_there f earlier (ap (is_open f) e ∙ same_self f)
-
-past : (a b : Bool) → cond a true b ≡ false → b ≡ false
-past true b e = cc
-past false b e = e
-
-word_case : (f : Field) (word : List ℕ) (earlier : List Item) (b : Bool) → is_open f (open_section earlier) ≡ b → has_line f earlier ≡ false → words_of f earlier ≡ []
-    → cond b (words_of f earlier ++ word ∷ []) (words_of f earlier) ≡ []
-word_case f word earlier true e none ih = let there = open_there f earlier e in cc
-word_case f word earlier false e none ih = ih
-
--- a section that wasn't opened has no words
-no_words : (f : Field) (earlier : List Item) → has_line f earlier ≡ false → words_of f earlier ≡ []
-no_words f [] none = refl
-no_words f (Line key line ∷ earlier) none = no_words f earlier (past (is_key f key) (has_line f earlier) none)
-no_words f (NumberWord word ∷ earlier) none = word_case f word earlier (is_open f (open_section earlier)) refl none (no_words f earlier none)
-no_words f (LineEnd ∷ earlier) none = no_words f earlier none
+use Rattle.tsp_text.proofs.Opened.{was_opened, no_words}
+use Rattle.tsp_text.proofs.Sections.{section_of, opening, standing, nodes_stay}
+use Rattle.tsp_read.proofs.SectionCases.{opened_fields, opened_first, keywords_stay, closed_fields, stored_keywords}
+use Rattle.tsp_text.proofs.ValidKeywords.{dimension_fits}
 
 -- ---- a line opens a section
 
@@ -126,8 +87,8 @@ pub opens : (old new : Reading) (field : Field) (shape : Shape) (line : WordLine
     → (earlier : List Item) → Closed old earlier → nat_lt most_line_bytes line.size ≡ false → Holds new (Line (Known field) line ∷ earlier)
 opens old new field shape line n section is may of begins same_draft same_first opened earlier h short =
     let kind : is_section_field field ≡ true = section_of (spatial (fields_of old.draft)) field shape is in
-    let stays = keywords_stay earlier line field kind in
-    let space : spatial (fields_of old.draft) ≡ spatial_after (Line (Known field) line ∷ earlier) = ap spatial h.spelled ∙ sym stays.2 in
+    let stays = nodes_stay earlier line field kind in
+    let space : spatial (fields_of old.draft) ≡ spatial_after (Line (Known field) line ∷ earlier) = ap spatial h.spelled ∙ sym stays.1 in
     let rows = ap (λ (m : ℕ). opening_rows shape (stands_in (fields_of old.draft) field) line.value (is_some old.draft.dimension) m) (sym may.0) ∙ may.1 in
     let absent : stands_in (fields_of old.draft) field ≡ false = first_none (stands_in (fields_of old.draft) field) row.Repeated
     (when (is_filled line.value) row.SectionValue ∷ when (needs_nodes shape && not (is_some old.draft.dimension)) row.SectionEarly
@@ -137,12 +98,12 @@ opens old new field shape line n section is may of begins same_draft same_first 
     let words : words_of field earlier ≡ [] = no_words field earlier none in
     let start = begins (subst (λ (m : ℕ). m ≤ most_nodes) nodes (few_nodes (dimension_of earlier) (dimension_fits earlier))) in
     let held : HoldsPart section.part (nodes_of (Line (Known field) line ∷ earlier)) (words_of section.field earlier) =
-    subst (λ (m : ℕ). HoldsPart section.part m (words_of section.field earlier)) (sym (stays.1 ∙ nodes))
+    subst (λ (m : ℕ). HoldsPart section.part m (words_of section.field earlier)) (sym (stays.0 ∙ nodes))
     (subst (λ (ws : List (List ℕ)). HoldsPart section.part n ws) (sym (ap (λ f. words_of f earlier) of ∙ words)) start.1) in
     let open_now : open_section (Line (Known field) line ∷ earlier) ≡ Some field = ap (λ b. cond b (Some field) None) kind in
     record {
       clean = clean_more earlier (Line (Known field) line) h.clean (rows_are old field shape line earlier is h short ∙ rows);
-      stand = ap (λ d. fields_there (fields_of d)) same_draft ∙ h.stand ∙ sym stays.0;
+      stand = ap (λ d. fields_there (fields_of d)) same_draft ∙ h.stand ∙ sym (keywords_stay earlier line field kind);
       spelled = ap fields_of same_draft ∙ h.spelled ∙ opened_fields earlier line field kind none;
       incomplete = same_first ∙ h.incomplete ∙ opened_first earlier line field kind none;
       part = subst (λ (o : Option OpenSection). OpenHolds o (Line (Known field) line ∷ earlier)) (sym opened) (

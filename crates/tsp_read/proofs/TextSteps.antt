@@ -4,7 +4,6 @@ use Rattle.std.specs.Prelude.{nat_lt, nat_le, is_some, not}
 use Rattle.std.specs.Option.{option_map}
 use Rattle.tsp_value.specs.declared.field.Field.{Field}
 use Rattle.tsp_value.specs.declared.field.Field.TheVariants.{NameKey, CommentKey, OtherKey}
-use Rattle.tsp_value.specs.declared.keyword.Keyword.{Keyword}
 use Rattle.tsp_value.specs.declared.keyword.Keyword.TheVariants.{Known, EdgeDataFormat, EdgeDataSection, Eof, Unknown}
 use Rattle.tsp_value.specs.Limits.{most_line_bytes, most_comments, most_others}
 use Rattle.tsp_fields.specs.Fields.{Fields, fields_of}
@@ -19,7 +18,7 @@ use Rattle.tsp_items.specs.Rows.{row_of, when, first_row, is_too_long_to_keep}
 use Rattle.tsp_items.specs.Spells.{fields_by}
 use Rattle.tsp_items.specs.states.CutLine.{SetsName, AddsComment, AddsOther}
 use Rattle.tsp_read.specs.states.Holds.{fields_there, Holds, Closed, LineAnswers, OtherAnswers}
-use Rattle.tsp_read.proofs.Clean.{clean_more}
+use Rattle.tsp_text.proofs.Clean.{clean_more}
 use Rattle.tsp_read.proofs.KeywordSteps.{still_none}
 
 -- two rows and three rows that don't apply
@@ -151,6 +150,3 @@ format_line line earlier short = rw short refl
 
 pub data_line : (line : WordLine) (earlier : List Item) → nat_lt most_line_bytes line.size ≡ false → row_of earlier (Line EdgeDataSection line) ≡ Some row.Outside
 data_line line earlier short = rw short refl
-
-pub long_line : (key : Keyword) (line : WordLine) (earlier : List Item) → nat_lt most_line_bytes line.size ≡ true → row_of earlier (Line key line) ≡ Some row.LongLine
-long_line key line earlier long = rw long refl

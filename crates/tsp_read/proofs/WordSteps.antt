@@ -1,59 +1,26 @@
 -- A word of the open section: nothing changes but the words of that section.
-use Rattle.std.proofs.Common.{Bool, subst, ◌≡◌, ℕ, true, List, [], ◌∷◌, ◌++◌, refl, sym, ap, ◌∙◌, Some, Result, Ok, Err}
+use Rattle.std.proofs.Common.{Bool, subst, ◌≡◌, ℕ, true, List, [], ◌∷◌, ◌++◌, sym, ap, ◌∙◌, Some, Result, Ok, Err}
 use Rattle.tsp_value.specs.declared.field.Field.{Field}
-use Rattle.tsp_value.specs.declared.field.Field.TheVariants.{NameKey, TypeKey, CommentKey, OtherKey, DimensionKey, CapacityKey, ScaleKey, EdgeWeightTypeKey, EdgeWeightFormatKey, NodeCoordTypeKey, DisplayDataTypeKey, NodeCoordPart, DisplayDataPart, DemandPart, DepotPart, FixedEdgesPart, EdgeWeightPart, TourPart, NodePotentialPart, RowPotentialPart, ColumnPotentialPart, FixedPotentialPart, CombPart, BranchPart}
 use Rattle.tsp_items.specs.declared.fault.StepFault.{StepFault}
 use Rattle.tsp_items.specs.declared.fault.StepFault.TheVariants as steps
 use Rattle.tsp_value.specs.declared.field.Shape.{Shape}
 use Rattle.tsp_read.specs.declared.state.reading.OpenSection.{OpenSection}
 use Rattle.tsp_read.specs.declared.state.reading.Reading.{Reading}
 use Rattle.tsp_items.specs.Items.{Item, NumberWord}
-use Rattle.tsp_items.specs.Earlier.{same_field, open_section, words_of}
+use Rattle.tsp_items.specs.Earlier.{open_section, words_of}
 use Rattle.tsp_value.specs.Shapes.{shape_of, is_section_field}
 use Rattle.tsp_items.specs.Places.{PastEnd}
 use Rattle.tsp_items.specs.Values.{spatial_after}
 use Rattle.tsp_items.specs.Sections.{place_by, place_in, nodes_of}
-use Rattle.tsp_items.specs.Rows.{row_of, word_fault}
+use Rattle.tsp_items.specs.Rows.{word_fault}
 use Rattle.tsp_items.specs.states.Parts.{Takes}
 use Rattle.tsp_items.specs.states.Held.{shape_by, HoldsPart, HoldsShape}
 use Rattle.std.specs.Option.{option_map_or}
 use Rattle.tsp_read.specs.states.Holds.{OpenHolds, Holds, Answers}
-use Rattle.tsp_read.proofs.SectionCases.{section_of, word_fields, word_first}
-use Rattle.tsp_read.proofs.Clean.{clean_more}
-
-pub same_self : (f : Field) → same_field f f ≡ true
-same_self NameKey = refl
-same_self TypeKey = refl
-same_self CommentKey = refl
-same_self OtherKey = refl
-same_self DimensionKey = refl
-same_self CapacityKey = refl
-same_self ScaleKey = refl
-same_self EdgeWeightTypeKey = refl
-same_self EdgeWeightFormatKey = refl
-same_self NodeCoordTypeKey = refl
-same_self DisplayDataTypeKey = refl
-same_self NodeCoordPart = refl
-same_self DisplayDataPart = refl
-same_self DemandPart = refl
-same_self DepotPart = refl
-same_self FixedEdgesPart = refl
-same_self EdgeWeightPart = refl
-same_self TourPart = refl
-same_self NodePotentialPart = refl
-same_self RowPotentialPart = refl
-same_self ColumnPotentialPart = refl
-same_self FixedPotentialPart = refl
-same_self CombPart = refl
-same_self BranchPart = refl
-
--- the rows of a word are those of its place
-pub word_rows : (earlier : List Item) (word : List ℕ) (f : Field) → open_section earlier ≡ Some f
-    → row_of earlier (NumberWord word) ≡ word_fault (nodes_of earlier) (place_in (spatial_after earlier) f (nodes_of earlier) (words_of f earlier)) word
-word_rows earlier word f o = rw o refl
-
-words_more : (earlier : List Item) (word : List ℕ) (f : Field) → open_section earlier ≡ Some f → words_of f (NumberWord word ∷ earlier) ≡ words_of f earlier ++ word ∷ []
-words_more earlier word f o = rw (o, same_self f) refl
+use Rattle.tsp_text.proofs.Sections.{section_of}
+use Rattle.tsp_read.proofs.SectionCases.{word_fields, word_first}
+use Rattle.tsp_text.proofs.ItemRows.{word_rows, words_more}
+use Rattle.tsp_text.proofs.Clean.{clean_more}
 
 -- the open section after the word
 open_more : (section after : OpenSection) (earlier : List Item) (word : List ℕ) → open_section earlier ≡ Some section.field

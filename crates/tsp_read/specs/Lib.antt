@@ -1,10 +1,7 @@
 pub mod states
-pub mod Cuts
 pub mod Onward
 pub mod Front
 pub mod Walk
-pub mod Answering
-pub mod ByNode
 pub mod Finishes
 pub mod Reads
 pub mod Feed

@@ -1,9 +1,7 @@
 //! Which file the bytes of a text spell, or the first fault and its place.
 #![tactic(auto)]
 
-mod answers;
 mod begun;
-mod by_node;
 mod count;
 mod cut;
 mod feed;
@@ -12,19 +10,17 @@ mod intake;
 mod item;
 mod read;
 mod run;
-mod settled;
 mod stage;
 mod state;
 mod token;
-mod validity;
 
-pub use answers::{first_faults, texts_have_one_answer};
-pub use by_node::each_node_has_one_group;
 pub use feed::Feed;
 pub use read::{read_bytes, read_from};
-pub use settled::{settled_ends_stay, settled_faults_stay};
 pub use tsp_items::{
     LineFault, ReadFault, faults_at_the_end, faults_of_word_lines, faults_of_words,
     fields_of_texts, limits_agree,
 };
-pub use validity::{clean_fields_are_valid, spelled_files_are_valid};
+pub use tsp_text::{
+    clean_fields_are_valid, each_node_has_one_group, first_faults, settled_ends_stay,
+    settled_faults_stay, spelled_files_are_valid, texts_have_one_answer,
+};

@@ -20,7 +20,7 @@ use Rattle.tsp_items.specs.Spells.{wants_more, is_incomplete, first_incomplete}
 use Rattle.tsp_round.proofs.Numbers.{NumberLaws}
 use Rattle.tsp_round.proofs.Onto.{has_value}
 use Rattle.tsp_round.proofs.Shapes.{Entries, entries_in, words_for, body}
-use Rattle.tsp_read.proofs.SectionCases.{by_section}
+use Rattle.tsp_text.proofs.Sections.{by_section}
 use Rattle.tsp_round.proofs.Space.{space_written}
 use Rattle.tsp_round.proofs.SectionFields.{IsSection, is_section, are_right}
 use Rattle.tsp_round.proofs.Stages.{Stage}

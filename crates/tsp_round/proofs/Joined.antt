@@ -23,7 +23,7 @@ use Rattle.tsp_items.specs.Rows.{when, first_row}
 use Rattle.tsp_items.specs.FirstFault.{fault_in, IsClean}
 use Rattle.tsp_items.specs.Spells.{spelled, first_incomplete, fault_at_end}
 use Rattle.tsp_items.specs.Text.{is_too_long, part, fault, Spells}
-use Rattle.tsp_read.proofs.Clean.{clean_more}
+use Rattle.tsp_text.proofs.Clean.{clean_more}
 use Rattle.tsp_round.proofs.Numbers.{NumberLaws}
 use Rattle.tsp_round.proofs.Onto.{onto, onto_reversed, ended_at}
 use Rattle.tsp_round.proofs.Stages.{Stage, all_fields, fields_ordered, first_stage}

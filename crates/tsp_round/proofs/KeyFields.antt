@@ -23,7 +23,7 @@ use Rattle.tsp_items.specs.Lines.{is_filled, first_word}
 use Rattle.tsp_items.specs.Items.{Item, Line}
 use Rattle.tsp_items.specs.Earlier.{same_field, value_at, values_at, others_in, words_of}
 use Rattle.tsp_items.specs.Rows.{may_repeat, row_of}
-use Rattle.tsp_read.proofs.ValidSections.{same_field_is}
+use Rattle.tsp_text.proofs.ValidSections.{same_field_is}
 use Rattle.tsp_round.proofs.Text.{is_plain, is_plain_word, no_blank, one_line_word}
 use Rattle.tsp_round.proofs.Lines.{IsWhole, IsKeyword, written_line, value_text}
 use Rattle.tsp_round.proofs.Numbers.{NumberLaws, signed_plain, short_signed, size_from}

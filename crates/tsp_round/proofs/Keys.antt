@@ -19,8 +19,8 @@ use Rattle.tsp_items.specs.Earlier.{same_field, has_line, value_at, values_at, o
 use Rattle.tsp_items.specs.Values.{read_as}
 use Rattle.tsp_items.specs.Rows.{may_repeat, row_of, is_too_long_to_keep}
 use Rattle.tsp_items.specs.FirstFault.{IsClean}
-use Rattle.tsp_read.proofs.Clean.{clean_more}
-use Rattle.tsp_read.proofs.ValidSections.{same_field_is}
+use Rattle.tsp_text.proofs.Clean.{clean_more}
+use Rattle.tsp_text.proofs.ValidSections.{same_field_is}
 use Rattle.tsp_round.proofs.Text.{Writes, nothing_written, both_written}
 use Rattle.tsp_round.proofs.Lines.{IsWhole, IsKeyword, written_line, value_text, value_written}
 use Rattle.tsp_round.proofs.Onto.{onto}

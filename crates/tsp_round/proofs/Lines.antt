@@ -12,7 +12,7 @@ use Rattle.tsp_value.specs.Keywords.{keyword_of}
 use Rattle.tsp_write.specs.Text.{after_blank, value_line}
 use Rattle.tsp_items.specs.Lines.{ends_line, without_start, without_end, begins, is_word_line, keyword_in, after_keyword, is_colon, has_colon, value_in, words_in}
 use Rattle.tsp_items.specs.Items.{WordLine, Item, Line, NumberWord, LineEnd, word_line, line_item, items_in, items_of}
-use Rattle.tsp_read.specs.Cuts.{is_one_line}
+use Rattle.tsp_text.specs.Cuts.{is_one_line}
 use Rattle.tsp_round.proofs.Text.{Writes, line_written, all_such}
 
 -- ---- blanks

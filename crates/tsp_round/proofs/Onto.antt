@@ -10,8 +10,8 @@ use Rattle.tsp_items.specs.Values.{spatial_after}
 use Rattle.tsp_items.specs.Sections.{place_in, nodes_of}
 use Rattle.tsp_items.specs.Rows.{row_of, word_fault}
 use Rattle.tsp_items.specs.FirstFault.{IsClean}
-use Rattle.tsp_read.proofs.Clean.{clean_more}
-use Rattle.tsp_read.proofs.WordSteps.{same_self}
+use Rattle.tsp_text.proofs.Clean.{clean_more}
+use Rattle.tsp_text.proofs.ItemRows.{same_self}
 use Rattle.tsp_round.proofs.Text.{number_words, are_numbers}
 use Rattle.tsp_round.proofs.Taken.{AllTaken}
 

@@ -16,7 +16,7 @@ use Rattle.tsp_items.specs.Items.{WordLine, Item, Line, LineEnd, items_of, has_e
 use Rattle.tsp_items.specs.Earlier.{value_at, values_at, others_in, words_of}
 use Rattle.tsp_items.specs.Rows.{row_of, is_too_long_to_keep}
 use Rattle.tsp_items.specs.FirstFault.{IsClean}
-use Rattle.tsp_read.proofs.Clean.{clean_more}
+use Rattle.tsp_text.proofs.Clean.{clean_more}
 use Rattle.tsp_round.proofs.Text.{Writes, nothing_written, both_written}
 use Rattle.tsp_round.proofs.Lines.{IsKeyword, written_line, value_written}
 use Rattle.tsp_round.proofs.Keys.{kept}

@@ -23,10 +23,10 @@ use Rattle.tsp_items.specs.Places.{PastEnd}
 use Rattle.tsp_items.specs.Rows.{may_repeat, row_of}
 use Rattle.tsp_items.specs.FirstFault.{IsClean}
 use Rattle.tsp_items.specs.states.CutLine.{needs_nodes, is_matrix, opening_rows}
-use Rattle.tsp_read.proofs.Clean.{clean_more}
-use Rattle.tsp_read.proofs.SectionCases.{by_section, section_of, opening, keywords_stay}
-use Rattle.tsp_read.proofs.ValidSections.{same_field_is}
-use Rattle.tsp_read.specs.Cuts.{is_one_line}
+use Rattle.tsp_text.proofs.Clean.{clean_more}
+use Rattle.tsp_text.proofs.Sections.{by_section, section_of, opening, nodes_stay}
+use Rattle.tsp_text.proofs.ValidSections.{same_field_is}
+use Rattle.tsp_text.specs.Cuts.{is_one_line}
 use Rattle.tsp_round.proofs.Text.{Writes, line_written, both_written, number_words, are_numbers}
 use Rattle.tsp_round.proofs.Numbers.{NumberLaws}
 use Rattle.tsp_round.proofs.Onto.{onto, value_kept, values_kept, others_kept, no_end_line, other_words, section_words, words_clean}
@@ -188,7 +188,7 @@ step_of laws f field shape (Some xs) earlier one is ready =
     let row = section_row (spatial f) field shape earlier is.shape_is is.part (no_line_yet f field earlier ready is.once) right.known lines.few in
     let clean : IsClean start = clean_more (Line (Known field) line ∷ earlier) LineEnd (clean_more earlier (Line (Known field) line) ready.clean row) refl in
     let opened : open_section start ≡ Some field = ap (λ b. cond b (Some field) None) is.part in
-    let space : spatial_after start ≡ spatial f = (keywords_stay earlier line field is.part).2 ∙ space_written f earlier (ready.coords is.part) (ready.weights is.part) in
+    let space : spatial_after start ≡ spatial f = (nodes_stay earlier line field is.part).1 ∙ space_written f earlier (ready.coords is.part) (ready.weights is.part) in
     let taken : AllTaken n (place_in (spatial f) field n) [] (words_for shape xs) =
     subst (λ (o : Option Shape). AllTaken n (λ words. option_map_or (λ s. place_by s n words) o PastEnd) [] (words_for shape xs)) (sym is.shape_is) lines.taken in
     let taken_after : AllTaken n (place_in (spatial_after start) field n) (words_of field earlier) (number_words items) =

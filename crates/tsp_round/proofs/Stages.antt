@@ -15,8 +15,8 @@ use Rattle.tsp_value.specs.Shapes.{shape_of, is_section_field}
 use Rattle.tsp_items.specs.Earlier.{same_field, value_at, values_at, others_in, words_of}
 use Rattle.tsp_items.specs.Rows.{may_repeat}
 use Rattle.tsp_items.specs.FirstFault.{IsClean}
-use Rattle.tsp_read.proofs.ValidSections.{same_field_is}
-use Rattle.tsp_read.proofs.WordSteps.{same_self}
+use Rattle.tsp_text.proofs.ValidSections.{same_field_is}
+use Rattle.tsp_text.proofs.ItemRows.{same_self}
 use Rattle.tsp_round.proofs.Text.{Writes, nothing_written, both_written}
 use Rattle.tsp_round.proofs.Onto.{onto, onto-append}
 use Rattle.tsp_round.proofs.Shapes.{entries_in, words_for}

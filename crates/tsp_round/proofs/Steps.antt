@@ -10,8 +10,8 @@ use Rattle.tsp_write.specs.Text.{keyword_line}
 use Rattle.tsp_items.specs.Items.{WordLine, Item, Line, LineEnd, word_line, items_of}
 use Rattle.tsp_items.specs.Earlier.{same_field, value_at, values_at, others_in, words_of}
 use Rattle.tsp_items.specs.Rows.{may_repeat, row_of}
-use Rattle.tsp_read.proofs.Clean.{clean_more}
-use Rattle.tsp_read.proofs.ValidSections.{same_field_is}
+use Rattle.tsp_text.proofs.Clean.{clean_more}
+use Rattle.tsp_text.proofs.ValidSections.{same_field_is}
 use Rattle.tsp_round.proofs.Lines.{IsWhole, IsKeyword, written_line, value_written}
 use Rattle.tsp_round.proofs.Stages.{value_of, words_written, Ready, Step}
 

@@ -9,7 +9,7 @@ use Rattle.tsp_value.specs.Bytes.{is_blank, is_letter}
 use Rattle.tsp_write.specs.Text.{number_line}
 use Rattle.tsp_items.specs.Lines.{ends_line, lines_of, is_filled, words_in, without_start, is_word_line}
 use Rattle.tsp_items.specs.Items.{Item, Line, NumberWord, LineEnd, line_item, items_in, items_by, items_of}
-use Rattle.tsp_read.specs.Cuts.{is_one_line}
+use Rattle.tsp_text.specs.Cuts.{is_one_line}
 
 -- ---- pieces
 

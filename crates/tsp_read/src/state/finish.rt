@@ -4,7 +4,7 @@ ghost use Rattle.std.specs.Prelude.{◌≡◌, List, Err, is_some, true};
 ghost use Rattle.tsp_items.specs.declared.fault.ReadFault.TheVariants.{OutOfMemory};
 ghost use Rattle.tsp_items.specs.Items.{Item};
 ghost use Rattle.tsp_read.specs.states.Holds.{Holds};
-ghost use Rattle.tsp_read.specs.Cuts.{AreCut};
+ghost use Rattle.tsp_text.specs.Cuts.{AreCut};
 ghost use Rattle.tsp_read.specs.Reads.{Completes};
 ghost use Rattle.tsp_fields.specs.Fields.{fields_of};
 ghost use Rattle.tsp_read.specs.Finishes.{FileOf};

@@ -1,0 +1,19 @@
+//! What always holds of the sections by node.
+
+ghost use Rattle.std.specs.Prelude.{◌≡◌, List, true, false};
+ghost use Rattle.tsp_value.specs.declared.field.Field.{Field};
+ghost use Rattle.tsp_items.specs.Items.{Item};
+ghost use Rattle.tsp_items.specs.Earlier.{has_line, words_of};
+ghost use Rattle.tsp_items.specs.Values.{spatial_after};
+ghost use Rattle.tsp_items.specs.Sections.{nodes_of};
+ghost use Rattle.tsp_items.specs.FirstFault.{IsClean};
+ghost use Rattle.tsp_items.specs.Spells.{is_incomplete};
+ghost use Rattle.tsp_text.specs.ByNode.{is_by_node_field, group_nodes, HasEachOnce};
+
+/// A section by node that stands, has no fault and isn't incomplete has one group for each node.
+pub fn each_node_has_one_group()
+    ensures { (items : List Item) (field : Field)
+        → IsClean items → is_by_node_field field ≡ true
+        → has_line field items ≡ true → is_incomplete items field ≡ false
+        → HasEachOnce (nodes_of items) (group_nodes (spatial_after items) field (nodes_of items) (words_of field items)) }
+{}
