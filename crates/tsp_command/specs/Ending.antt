@@ -1,5 +1,6 @@
 -- How a run of the program ends: its exit status, and what goes to standard error.
-use Rattle.std.specs.Prelude.{◌≡◌, ℕ, Bool, List, [], ◌++◌, ◌∷◌, true, false, Option, None, Some, Ok, Err, IfSome, codes}
+use Rattle.std.specs.Prelude.{◌≡◌, ℕ, Bool, List, [], ◌++◌, ◌∷◌, true, false, Option, None, Some, Ok, Err, IfSome, codes, not, ◌==◌}
+use Rattle.std.specs.List.{list_all}
 use Rattle.std.specs.Io.KnownBytes.{Appends, Keeps}
 use Rattle.tsp_judge.specs.declared.Verdict.TheVariants.{Tour, Routes, No}
 use Rattle.tsp_judge.specs.declared.ReadFault.TheVariants as read_faults
@@ -63,9 +64,13 @@ line_text (lines.NoTask MissingPath) = ended (codes "missing path")
 line_text (lines.NoTask TwoCertificates) = ended (codes "both potentials and branches")
 line_text (lines.Fault fault) = None
 
--- some text is written, and the end of its line
+-- no byte ends a line
+abbrev pub is_one_line : List ℕ → Bool
+is_one_line text = list_all (λ b. not (b == 10)) text
+
+-- one line is written, some text with its end
 abbrev pub EndsLine : Option (List ℕ) → Option (List ℕ) → Type 0
-EndsLine old new = (text : List ℕ) × Appends old new (text ++ 10 ∷ [])
+EndsLine old new = (text : List ℕ) × (is_one_line text ≡ true) × Appends old new (text ++ 10 ∷ [])
 
 -- the ending's line is written, where it has one
 abbrev pub IsWritten : Option Line → Option (List ℕ) → Option (List ℕ) → Type 0

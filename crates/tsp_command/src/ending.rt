@@ -1,7 +1,8 @@
 //! How a run of the program ends.
 
-ghost use Rattle.std.specs.Prelude.{◌≡◌, OnOk};
-ghost use Rattle.tsp_command.specs.Ending.{EndsLine, IsLineOf, Tells, status_of, status_of_fault};
+ghost use Rattle.std.specs.Prelude.{◌≡◌, ◌==◌, OnOk, IfSome, take, true};
+ghost use Rattle.std.specs.List.{position};
+ghost use Rattle.tsp_command.specs.Ending.{is_one_line, EndsLine, IsLineOf, Tells, status_of, status_of_fault};
 
 use arrayvec::ArrayString;
 use clap::Error as Refusal;
@@ -142,6 +143,17 @@ fn tell_fault<W: Write>(fault: RunFault, errors: &mut W) -> io::Result<()>
     let mut text = ArrayString::<MOST_TEXT>::new();
     // Each fault's text is far shorter than the room; a longer one would be cut at its end.
     let _ = write!(text, "{fault}");
-    errors.write_all(text.as_str().as_bytes())?;
+    errors.write_all(first_line(text.as_str().as_bytes()))?;
     errors.write_all(b"\n")
+}
+
+/// A text up to its first line's end.
+fn first_line(text: &[u8]) -> &[u8]
+    ensures one_line { is_one_line result.now ≡ true }
+    ensures front { IfSome (position (λ b. b == 10) text.now) (λ end. result.now ≡ take end text.now) }
+{
+    match text.iter().position(|byte| *byte == b'\n') {
+        Some(end) => text.split_at(end).0,
+        None => text,
+    }
 }

@@ -80,12 +80,10 @@ pub enum ReadFault {
 }
 
 /// Why a line or a word isn't taken.
-#[derive(Clone, Copy, Debug, PartialEq, Eq, Error)]
+#[derive(Clone, Copy, Debug, PartialEq, Eq)]
 pub enum StepFault {
     /// Memory was refused.
-    #[error("out of memory")]
     Memory,
     /// It has this fault.
-    #[error("{0}")]
     Fault(LineFault),
 }

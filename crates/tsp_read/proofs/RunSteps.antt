@@ -1,5 +1,5 @@
 -- A run of words: one step, and one after another.
-use Rattle.std.proofs.Common.{◌≡◌, ℕ, ◌+◌, ◌<◌, Bool, true, false, List, ◌∷◌, length, refl, ap, subst, ◌∙◌, Option, Some, Ok, arith}
+use Rattle.std.proofs.Common.{◌≡◌, ℕ, ◌+◌, ◌<◌, Bool, true, false, List, ◌∷◌, length, refl, ap, subst, ◌∙◌, Option, None, Some, Ok, arith}
 use Rattle.tsp_items.specs.declared.part.Part.{Part}
 use Rattle.tsp_items.specs.Items.{NumberWord, LineEnd}
 use Rattle.tsp_items.specs.states.Run.{TakesRead, Keeps}
@@ -9,7 +9,7 @@ use Rattle.tsp_read.specs.declared.state.reading.OpenSection.{OpenSection}
 use Rattle.tsp_read.specs.declared.state.reading.Reading.{Reading}
 use Rattle.tsp_read.specs.Onward.{GivesNext}
 use Rattle.tsp_read.specs.states.Intake.{IsReadTo}
-use Rattle.tsp_read.specs.states.Run.{counted, in_run, RunsTo}
+use Rattle.tsp_read.specs.states.Run.{counted, in_run, RunsTo, StepsTo}
 use Rattle.tsp_read.proofs.FrontSteps.{end_gives}
 use Rattle.tsp_read.proofs.IntakeSteps.{read_further}
 use Rattle.tsp_read.proofs.ReadSteps.{line_ends}
@@ -94,6 +94,12 @@ run_then old mid new before between after text middle rest first then = record {
   words = omega (arith, first.words, then.words);
   shorter = omega (arith, first.shorter, then.shorter);
 }
+
+-- and a step after a try that took nothing
+pub step_then : (old mid new : Part) (before between after : Count) (text : List ℕ) (found : Option (List ℕ)) → RunsTo old before text mid between text
+    → StepsTo mid between text new after found → StepsTo old before text new after found
+step_then old mid new before between after text None first then = run_then old mid new before between after text text text first then
+step_then old mid new before between after text (Some rest) first then = (run_then old mid new before between after text text rest first then.0, then.1)
 
 -- a text whose open section is this one
 pub opened_run : (reading : Reading) (section : OpenSection) (count : Count) (bytes text : List ℕ) → reading.opened ≡ Some section → IsReadTo (counted reading count) bytes text

@@ -7,16 +7,15 @@
 //! Which list takes the words is found out once for a run. The loop over them is one for all lists, and
 //! has its counts in a place of their own.
 
-ghost use Rattle.std.specs.Prelude.{◌≡◌, ◌+◌, ◌≤◌, ◌<◌, Bool, length, IfSome, MatchOption, Ok, true};
+ghost use Rattle.std.specs.Prelude.{◌≡◌, ◌+◌, ◌≤◌, length, IfSome, Ok};
+ghost use Rattle.std.specs.Option.{option_map};
 ghost use Rattle.tsp_value.specs.Limits.{most_file_bytes};
 ghost use Rattle.tsp_number.specs.Reading.{decimal_of};
 ghost use Rattle.tsp_items.specs.Numbers.{IsWhole};
-ghost use Rattle.tsp_items.specs.Items.{NumberWord};
 ghost use Rattle.tsp_items.specs.declared.part.Part.{Part};
 ghost use Rattle.tsp_items.specs.declared.part.Part.TheVariants as parts;
-ghost use Rattle.tsp_read.specs.Onward.{GivesNext};
-ghost use Rattle.tsp_read.specs.Front.{front_word, LeavesEnd};
-ghost use Rattle.tsp_read.specs.states.Run.{RunsTo};
+ghost use Rattle.tsp_read.specs.Front.{front_word, IsFound, LeavesEnd};
+ghost use Rattle.tsp_read.specs.states.Run.{RunsTo, StepsTo};
 
 use crate::count::Count;
 use crate::cut::without_start;
@@ -47,10 +46,7 @@ fn past_end(rest: &[u8]) -> Option<&[u8]>
 /// that ends it; or nothing where no such word stands there whose end has come.
 #[inline(always)]
 pub(crate) fn few_number(text: &[u8]) -> Option<(i64, &[u8])>
-    ensures word { IfSome result (λ found. (inside : Bool)
-        → GivesNext inside text.now (NumberWord (front_word text.now)) true found.1.now) }
-    ensures number { IfSome result (λ found. IsWhole (front_word text.now) found.0) }
-    ensures shorter { IfSome result (λ found. length found.1.now < length text.now) }
+    ensures { IfSome result (λ found. IsFound text.now (IsWhole (front_word text.now) found.0) found.1.now) }
 {
     let Some((number, end)) = front_few(text) else {
         return None;
@@ -66,10 +62,7 @@ pub(crate) fn few_number(text: &[u8]) -> Option<(i64, &[u8])>
 /// nothing where no word of at most 18 digits stands there whose end has come.
 #[inline(never)]
 pub(crate) fn front_number(text: &[u8]) -> Option<(i64, &[u8])>
-    ensures word { IfSome result (λ found. (inside : Bool)
-        → GivesNext inside text.now (NumberWord (front_word text.now)) true found.1.now) }
-    ensures number { IfSome result (λ found. IsWhole (front_word text.now) found.0) }
-    ensures shorter { IfSome result (λ found. length found.1.now < length text.now) }
+    ensures { IfSome result (λ found. IsFound text.now (IsWhole (front_word text.now) found.0) found.1.now) }
 {
     let filled = without_start(text);
     let Some((number, end)) = front_whole(filled) else {
@@ -87,10 +80,7 @@ pub(crate) fn front_number(text: &[u8]) -> Option<(i64, &[u8])>
 /// come.
 #[inline(always)]
 pub(crate) fn front_coordinate(text: &[u8]) -> Option<(Decimal, &[u8])>
-    ensures word { IfSome result (λ found. (inside : Bool)
-        → GivesNext inside text.now (NumberWord (front_word text.now)) true found.1.now) }
-    ensures coordinate { IfSome result (λ found. decimal_of (front_word text.now) ≡ Ok found.0) }
-    ensures shorter { IfSome result (λ found. length found.1.now < length text.now) }
+    ensures { IfSome result (λ found. IsFound text.now (decimal_of (front_word text.now) ≡ Ok found.0) found.1.now) }
 {
     let filled = without_start(text);
     let Some(found) = front_decimal(filled) else {
@@ -105,17 +95,21 @@ pub(crate) fn front_coordinate(text: &[u8]) -> Option<(Decimal, &[u8])>
 
 // ---- one item, taken
 
-/// Takes the number of a few digits that a text begins with, where the list takes it, and gives what
-/// follows it.
+/// Takes the whole number that was found at the front of a text, if one was, where the list takes it,
+/// and gives what follows it.
 #[inline(always)]
-fn take_few<'a, L: RunList>(list: &mut L, count: &mut Count, text: &'a [u8]) -> Option<&'a [u8]>
-    requires { count.old.words + length text.now ≤ most_file_bytes }
-    ensures run { MatchOption result
-        (RunsTo (L.part list.old) count.old text.now (L.part list.new) count.new text.now)
-        (λ rest. RunsTo (L.part list.old) count.old text.now (L.part list.new) count.new rest.now) }
-    ensures shorter { IfSome result (λ rest. length rest.now < length text.now) }
+fn take_number<'a, L: RunList>(
+    list: &mut L,
+    count: &mut Count,
+    text: &'a [u8],
+    found: Option<(i64, &'a [u8])>,
+) -> Option<&'a [u8]>
+    requires count { count.old.words + length text.now ≤ most_file_bytes }
+    requires found { IfSome found (λ found. IsFound text.now (IsWhole (front_word text.now) found.0) found.1.now) }
+    ensures { StepsTo (L.part list.old) count.old text.now (L.part list.new) count.new
+        (option_map (λ rest. rest.now) result) }
 {
-    let Some((number, rest)) = few_number(text) else {
+    let Some((number, rest)) = found else {
         return None;
     };
     if !list.take_whole(number) {
@@ -126,27 +120,7 @@ fn take_few<'a, L: RunList>(list: &mut L, count: &mut Count, text: &'a [u8]) -> 
     Some(rest)
 }
 
-/// The same for any number that a run has.
-#[inline(always)]
-fn take_number<'a, L: RunList>(list: &mut L, count: &mut Count, text: &'a [u8]) -> Option<&'a [u8]>
-    requires { count.old.words + length text.now ≤ most_file_bytes }
-    ensures run { MatchOption result
-        (RunsTo (L.part list.old) count.old text.now (L.part list.new) count.new text.now)
-        (λ rest. RunsTo (L.part list.old) count.old text.now (L.part list.new) count.new rest.now) }
-    ensures shorter { IfSome result (λ rest. length rest.now < length text.now) }
-{
-    let Some((number, rest)) = front_number(text) else {
-        return None;
-    };
-    if !list.take_whole(number) {
-        return None;
-    }
-    count.words += 1;
-    count.inside = true;
-    Some(rest)
-}
-
-/// The same for a coordinate.
+/// Takes the coordinate that a text begins with, where the list takes it, and gives what follows it.
 #[inline(always)]
 fn take_coordinate<'a, L: RunList>(
     list: &mut L,
@@ -154,10 +128,8 @@ fn take_coordinate<'a, L: RunList>(
     text: &'a [u8],
 ) -> Option<&'a [u8]>
     requires { count.old.words + length text.now ≤ most_file_bytes }
-    ensures run { MatchOption result
-        (RunsTo (L.part list.old) count.old text.now (L.part list.new) count.new text.now)
-        (λ rest. RunsTo (L.part list.old) count.old text.now (L.part list.new) count.new rest.now) }
-    ensures shorter { IfSome result (λ rest. length rest.now < length text.now) }
+    ensures { StepsTo (L.part list.old) count.old text.now (L.part list.new) count.new
+        (option_map (λ rest. rest.now) result) }
 {
     let Some(found) = front_coordinate(text) else {
         return None;
@@ -174,10 +146,8 @@ fn take_coordinate<'a, L: RunList>(
 #[inline(always)]
 fn take_line_end<'a>(count: &mut Count, text: &'a [u8]) -> Option<&'a [u8]>
     requires { count.old.line + length text.now ≤ most_file_bytes + 1 }
-    ensures run { (part : Part) → MatchOption result
-        (RunsTo part count.old text.now part count.new text.now)
-        (λ rest. RunsTo part count.old text.now part count.new rest.now) }
-    ensures shorter { IfSome result (λ rest. length rest.now < length text.now) }
+    ensures { (part : Part) → StepsTo part count.old text.now part count.new
+        (option_map (λ rest. rest.now) result) }
 {
     match text.split_first() {
         Some((b'\n', rest)) => {
@@ -195,14 +165,12 @@ fn take_line_end<'a>(count: &mut Count, text: &'a [u8]) -> Option<&'a [u8]>
 fn take_other<'a, L: RunList>(list: &mut L, count: &mut Count, text: &'a [u8]) -> Option<&'a [u8]>
     requires line { count.old.line + length text.now ≤ most_file_bytes + 1 }
     requires words { count.old.words + length text.now ≤ most_file_bytes }
-    ensures run { MatchOption result
-        (RunsTo (L.part list.old) count.old text.now (L.part list.new) count.new text.now)
-        (λ rest. RunsTo (L.part list.old) count.old text.now (L.part list.new) count.new rest.now) }
-    ensures shorter { IfSome result (λ rest. length rest.now < length text.now) }
+    ensures { StepsTo (L.part list.old) count.old text.now (L.part list.new) count.new
+        (option_map (λ rest. rest.now) result) }
 {
     match take_line_end(count, text) {
         Some(rest) => Some(rest),
-        None => take_number(list, count, text),
+        None => take_number(list, count, text, front_number(text)),
     }
 }
 
@@ -212,15 +180,13 @@ fn take_other<'a, L: RunList>(list: &mut L, count: &mut Count, text: &'a [u8]) -
 fn take_one<'a, L: RunList>(list: &mut L, count: &mut Count, text: &'a [u8]) -> Option<&'a [u8]>
     requires line { count.old.line + length text.now ≤ most_file_bytes + 1 }
     requires words { count.old.words + length text.now ≤ most_file_bytes }
-    ensures run { MatchOption result
-        (RunsTo (L.part list.old) count.old text.now (L.part list.new) count.new text.now)
-        (λ rest. RunsTo (L.part list.old) count.old text.now (L.part list.new) count.new rest.now) }
-    ensures shorter { IfSome result (λ rest. length rest.now < length text.now) }
+    ensures { StepsTo (L.part list.old) count.old text.now (L.part list.new) count.new
+        (option_map (λ rest. rest.now) result) }
 {
     if list.awaits_coordinate() {
         return take_coordinate(list, count, text);
     }
-    match take_few(list, count, text) {
+    match take_number(list, count, text, few_number(text)) {
         Some(rest) => Some(rest),
         None => take_other(list, count, text),
     }

@@ -1,6 +1,6 @@
 //! The verdict on a tour with a certificate of a bound.
 
-ghost use Rattle.std.specs.Prelude.{◌≡◌, ◌⊎◌, ◌≤◌, Some, IfOk, MatchResult};
+ghost use Rattle.std.specs.Prelude.{◌≡◌, ◌⊎◌, ◌≤◌, Some, IfOk, IsOk, MatchResult};
 ghost use Rattle.tsp_value.specs.declared.kinds.Kind.TheVariants as kinds;
 ghost use Rattle.tsp_verdict.specs.Solution.{nodes_of};
 ghost use Rattle.tsp_verdict.specs.Tours.{IsEvenTsp, NoneBeforeRepeats};
@@ -51,12 +51,13 @@ pub fn judge_tour_bound(
     }
 }
 
-/// The bound that a certificate gives, or the first reason against it.
+/// The bound that a certificate gives, or the first reason against it. Under TYPE ATSP no memory is taken.
 fn bound_of(alloc: Global, inst: &Instance, pot: &File) -> Result<Result<i128, Reason>, AllocError>
     requires kind { (inst.now.kind ≡ Some kinds.Tsp) ⊎ (inst.now.kind ≡ Some kinds.Atsp) }
     requires some { 3 ≤ nodes_of inst.now }
     requires even { IsEvenTsp inst.now }
-    ensures { IfOk result (λ found. FindsBound inst.now pot.now found) }
+    ensures found { IfOk result (λ found. FindsBound inst.now pot.now found) }
+    ensures memory { inst.now.kind ≡ Some kinds.Atsp → IsOk result }
 {
     if let Some(reason) = first_against_certificate(inst, pot) {
         return Ok(Err(reason));

@@ -11,7 +11,6 @@ use clap::{ArgMatches, Error as Refusal};
 use std::alloc::{AllocError, Global};
 use std::io;
 use std::io::ErrorKind as IoKind;
-use thiserror::Error;
 
 /// What the program does with its files.
 #[derive(Clone, Copy)]
@@ -58,13 +57,11 @@ pub struct Job {
 }
 
 /// Why words ask for nothing.
-#[derive(Debug, Drop, Error)]
+#[derive(Debug, Drop)]
 pub enum JobFault {
     /// The command line is refused, or asks for help or the version. The text is that of `clap`.
-    #[error("{0}")]
     Refused(Refusal),
     /// Out of memory.
-    #[error("out of memory")]
     OutOfMemory,
 }
 

@@ -12,7 +12,7 @@ use Rattle.tsp_items.specs.declared.fault.StepFault.{StepFault}
 use Rattle.tsp_items.specs.declared.fault.StepFault.TheVariants as steps
 use Rattle.tsp_items.specs.declared.line.CutLine.{CutLine}
 use Rattle.tsp_value.specs.declared.field.Shape.{Shape}
-use Rattle.tsp_value.specs.declared.field.Shape.TheVariants.{Numbers, Points, SpacePoints, Depots, Pairs, Weights, Tours, Triples, Combs, Steps}
+use Rattle.tsp_value.specs.declared.field.Shape.TheVariants.{Weights, Tours}
 use Rattle.tsp_items.specs.Lines.{is_filled, first_word}
 use Rattle.tsp_items.specs.Items.{WordLine, Item, Line}
 use Rattle.tsp_items.specs.Values.{named, is_left_out}
@@ -37,28 +37,12 @@ NamesValue text values field word (Err fault) = word_rows text values field word
 
 -- all sections but the tours need DIMENSION
 abbrev pub needs_nodes : Shape → Bool
-needs_nodes (Numbers low high) = true
-needs_nodes Points = true
-needs_nodes SpacePoints = true
-needs_nodes Depots = true
-needs_nodes Pairs = true
-needs_nodes Weights = true
 needs_nodes Tours = false
-needs_nodes Triples = true
-needs_nodes Combs = true
-needs_nodes Steps = true
+needs_nodes shape = true
 
 abbrev pub is_matrix : Shape → Bool
-is_matrix (Numbers low high) = false
-is_matrix Points = false
-is_matrix SpacePoints = false
-is_matrix Depots = false
-is_matrix Pairs = false
 is_matrix Weights = true
-is_matrix Tours = false
-is_matrix Triples = false
-is_matrix Combs = false
-is_matrix Steps = false
+is_matrix shape = false
 
 -- The rows of a line that opens a section: whether an earlier line has it, the line's value, whether DIMENSION stands, and n,
 -- its value.

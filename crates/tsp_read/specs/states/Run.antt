@@ -1,5 +1,5 @@
 -- A run of words: the open section's part and the counts change, and nothing else does.
-use Rattle.std.specs.Prelude.{ℕ, ◌+◌, ◌≤◌, List, length, Option, Some}
+use Rattle.std.specs.Prelude.{ℕ, ◌+◌, ◌≤◌, ◌<◌, List, length, Option, None, Some}
 use Rattle.tsp_value.specs.declared.field.Field.{Field}
 use Rattle.tsp_fields.specs.declared.file.Draft.{Draft}
 use Rattle.tsp_items.specs.declared.part.Part.{Part}
@@ -30,3 +30,9 @@ pub record RunsTo (old : Part) (before : Count) (text : List ℕ) (new : Part) (
   pub line : after.line + length rest ≤ before.line + length text
   pub words : after.words + length rest ≤ before.words + length text
   pub shorter : length rest ≤ length text
+
+-- One step of a run, which gives what is left of the text; or nothing where none is taken, and all is left. What is left after a
+-- step is shorter.
+abbrev pub StepsTo : Part → Count → List ℕ → Part → Count → Option (List ℕ) → Type 0
+StepsTo old before text new after None = RunsTo old before text new after text
+StepsTo old before text new after (Some rest) = RunsTo old before text new after rest × (length rest < length text)

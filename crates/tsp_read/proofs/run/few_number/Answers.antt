@@ -1,4 +1,5 @@
-use Rattle.std.proofs.Common.{rules, FitsSigned, w64}
+use Rattle.std.proofs.Common.{rules, arith, FitsSigned, w64}
+use Rattle.std.proofs.lemmas.Grind.{common_steps}
 use Rattle.std.specs.Prelude.{pos, ◌*ℤ◌}
 use Rattle.std.proofs.lemmas.Int.{to_z-of_z}
 use Rattle.tsp_number.specs.Decimal.{unit}
@@ -14,10 +15,11 @@ number_at_front c = record {
   leaves = c.in-Some-past_end.ensures.left;
 }
 
-pub returns-in-Some-past_end-clause-word : goal.returns-in-Some-past_end-clause-word
-returns-in-Some-past_end-clause-word c = front_gives _ _ _ _ _ _ (number_at_front c)
-
-pub returns-in-Some-past_end-clause-number : goal.returns-in-Some-past_end-clause-number
-returns-in-Some-past_end-clause-number c =
+pub returns-in-Some-past_end : goal.returns-in-Some-past_end
+returns-in-Some-past_end c =
     let fits : FitsSigned w64 c.in-Some.number = search rules in
-    rw (to_z-of_z w64 c.in-Some.number fits) (front_reads _ _ _ _ _ _ (number_at_front c))
+    record {
+      word = front_gives _ _ _ _ _ _ (number_at_front c);
+      reads = rw (to_z-of_z w64 c.in-Some.number fits) (front_reads _ _ _ _ _ _ (number_at_front c));
+      shorter = grind (arith, common_steps);
+    }

@@ -1,3 +1,5 @@
+use Rattle.std.proofs.Common.{arith}
+use Rattle.std.proofs.lemmas.Grind.{common_steps}
 use Rattle.tsp_read.proofs.FrontSteps.{EndsNumber, front_gives, front_reads_decimal}
 use Rattle.tsp_read.proofs.run.front_coordinate.Goals as goal
 
@@ -9,8 +11,9 @@ number_at_front c = record {
   leaves = c.in-Some-past_end.ensures.left;
 }
 
-pub returns-in-Some-past_end-clause-word : goal.returns-in-Some-past_end-clause-word
-returns-in-Some-past_end-clause-word c = front_gives _ _ _ _ _ _ (number_at_front c)
-
-pub returns-in-Some-past_end-clause-coordinate : goal.returns-in-Some-past_end-clause-coordinate
-returns-in-Some-past_end-clause-coordinate c = front_reads_decimal _ _ _ _ _ _ (number_at_front c) c.in-Some.ensures.size
+pub returns-in-Some-past_end : goal.returns-in-Some-past_end
+returns-in-Some-past_end c = record {
+  word = front_gives _ _ _ _ _ _ (number_at_front c);
+  reads = front_reads_decimal _ _ _ _ _ _ (number_at_front c) c.in-Some.ensures.size;
+  shorter = grind (arith, common_steps);
+}

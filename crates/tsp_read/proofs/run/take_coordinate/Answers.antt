@@ -3,9 +3,11 @@ use Rattle.tsp_read.specs.Front.{front_word}
 use Rattle.tsp_read.proofs.RunSteps.{word_runs}
 use Rattle.tsp_read.proofs.run.take_coordinate.Goals as goal
 
-pub returns-clause-run : goal.returns-clause-run
-returns-clause-run g c =
+pub returns : goal.returns
+returns g c =
     let word = front_word c.args.text.now in
-    word_runs _ _ c.args.count.now _ c.args.text.now c.in-Some.found.1.now word
-    (c.take_coordinate.ensures.taken c.if-not-take_coordinate.false word c.in-Some.ensures.coordinate)
-    c.in-Some.ensures.word refl refl refl c.in-Some.ensures.shorter
+    let found = c.in-Some.ensures in (
+      word_runs _ _ c.args.count.now _ c.args.text.now c.in-Some.found.1.now word
+          (c.take_coordinate.ensures.taken c.if-not-take_coordinate.false word found.reads) found.word refl refl refl found.shorter,
+      found.shorter,
+    )

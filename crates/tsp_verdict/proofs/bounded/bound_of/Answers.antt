@@ -12,8 +12,8 @@ use Rattle.tsp_verdict.specs.Tours.{rank_of}
 use Rattle.tsp_verdict.proofs.Certificates.{none_of_tsp}
 use Rattle.tsp_verdict.proofs.bounded.bound_of.Goals as goal
 
-pub returns-in_ok-bound_of_potentials-in-Tsp : goal.returns-in_ok-bound_of_potentials-in-Tsp
-returns-in_ok-bound_of_potentials-in-Tsp c =
+pub returns-in_ok-bound_of_potentials-in-Tsp-clause-found : goal.returns-in_ok-bound_of_potentials-in-Tsp-clause-found
+returns-in_ok-bound_of_potentials-in-Tsp-clause-found c =
     let inst = c.args.inst.now in
     let pot = c.args.pot.now in
     let kind : inst.kind ≡ Some kinds.Tsp = search rules in
