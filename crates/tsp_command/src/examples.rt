@@ -33,6 +33,7 @@ pub fn examples_of_statuses()
     ensures memory_for_a_verdict { status_of_fault run_faults.OutOfMemory ≡ 3 }
     ensures memory_for_a_text { status_of_fault (run_faults.Write write_faults.OutOfMemory) ≡ 3 }
     ensures memory_for_a_layout { status_of_fault (run_faults.Relayout relayout_faults.OutOfMemory) ≡ 3 }
+    ensures refused { (refusal : Error) → status_of (endings.NoJob (job_faults.Refused refusal)) ≡ 4 }
     ensures unknown_layout { status_of (endings.NoTask task_faults.UnknownLayout) ≡ 4 }
     ensures missing_path { status_of (endings.NoTask task_faults.MissingPath) ≡ 4 }
     ensures two_certificates { status_of (endings.NoTask task_faults.TwoCertificates) ≡ 4 }
