@@ -158,8 +158,7 @@ pub answered : (by : Certificate) (first second third : Turn) (instance solution
 answered by first second third instance solution certificate sink verdict (Ok answer) is v a same one two three =
     subst (λ w. IsBoundVerdictRun by first second third sink (Ok w)) (sym same)
     (instance, judged by first second third instance solution certificate verdict is v one two three, a.1)
-answered by first second third instance solution certificate sink verdict (Err OutOfMemory) is v a same one two three =
-    (a, (instance, one, is), (solution, two), (certificate, three))
+answered by first second third instance solution certificate sink verdict (Err OutOfMemory) is v a same one two three = absurd a
 answered by first second third instance solution certificate sink verdict (Err (Write write_faults.Device)) is v a same one two three =
     (instance, verdict, judged by first second third instance solution certificate verdict is v one two three, a)
 answered by first second third instance solution certificate sink verdict (Err (Write write_faults.OutOfMemory)) is v a same one two three = absurd a

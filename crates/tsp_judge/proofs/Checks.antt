@@ -54,7 +54,7 @@ pub answered : (first second : Turn) (instance solution : Fields) (sink : Sink) 
     → IfOk result (λ answer. answer ≡ verdict) → IsFile first instance → IsFile second solution → IsVerdictRun first second sink result
 answered first second instance solution sink verdict (Ok answer) is v a same one two = subst (λ w. IsVerdictRun first second sink (Ok w)) (sym same)
     (instance, record { solution = solution; first_file = one; second_file = two; judged = v }, a.1)
-answered first second instance solution sink verdict (Err OutOfMemory) is v a same one two = (a, (instance, one, is), (solution, two))
+answered first second instance solution sink verdict (Err OutOfMemory) is v a same one two = absurd a
 answered first second instance solution sink verdict (Err (Write faults.Device)) is v a same one two =
     (instance, verdict, record { solution = solution; first_file = one; second_file = two; judged = v }, a)
 answered first second instance solution sink verdict (Err (Write faults.OutOfMemory)) is v a same one two = absurd a

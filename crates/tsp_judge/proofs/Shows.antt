@@ -1,9 +1,9 @@
 -- Showing a file, put together from its parts.
-use Rattle.std.proofs.Common.{◌≡◌, ℕ, List, Err, subst}
+use Rattle.std.proofs.Common.{Err}
 use Rattle.tsp_stream.specs.declared.output.WriteFault.{WriteFault}
 use Rattle.tsp_stream.specs.declared.output.WriteFault.TheVariants as faults
 use Rattle.tsp_stream.specs.Turn.{Turn}
-use Rattle.tsp_stream.specs.Sink.{Sink, IsUnwritten, Writes, HasStopped}
+use Rattle.tsp_stream.specs.Sink.{Sink, IsUnwritten, Writes}
 use Rattle.tsp_fields.specs.Fields.{Fields}
 use Rattle.tsp_read.specs.Reads.{IsFile}
 use Rattle.tsp_judge.specs.declared.fault.RunFault.{RunFault}
@@ -12,10 +12,10 @@ use Rattle.tsp_judge.specs.Run.{ReadsFile}
 use Rattle.tsp_report.specs.Show.{shown}
 use Rattle.tsp_judge.specs.ShowRun.{IsShowRun}
 
-pub show_stopped : (turn : Turn) (sink : Sink) (file : Fields) (text : List ℕ) (fault : WriteFault) → IsFile turn file → text ≡ shown file
-    → Writes sink text (Err fault) → IsShowRun turn sink (Err (Write fault))
-show_stopped turn sink file text faults.Device whole e w = (file, whole, subst (HasStopped sink) e w)
-show_stopped turn sink file text faults.OutOfMemory whole e w = absurd w
+pub show_stopped : (turn : Turn) (sink : Sink) (file : Fields) (fault : WriteFault) → IsFile turn file → Writes sink (shown file) (Err fault)
+    → IsShowRun turn sink (Err (Write fault))
+show_stopped turn sink file faults.Device whole w = (file, whole, w)
+show_stopped turn sink file faults.OutOfMemory whole w = absurd w
 
 -- a run that stops at its file
 pub show_stops : (turn : Turn) (sink : Sink) (fault : RunFault) → ReadsFile 1 turn (Err fault) → IsUnwritten sink → IsShowRun turn sink (Err fault)

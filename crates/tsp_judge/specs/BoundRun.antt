@@ -17,6 +17,7 @@ use Rattle.tsp_verdict.specs.Certificate.{IsBoundBy}
 use Rattle.tsp_verdict.specs.Bounded as by_potentials
 use Rattle.tsp_verdict.specs.Branched as by_branches
 use Rattle.tsp_verdict.specs.Tree as tree
+use Rattle.tsp_verdict.specs.Tours.{NoneBeforeRepeats}
 use Rattle.tsp_verdict.specs.Bounded.{BoundsTours}
 use Rattle.tsp_judge.specs.declared.certificate.Certificate.{Certificate}
 use Rattle.tsp_judge.specs.declared.certificate.Certificate.TheVariants.{Potentials, Branches}
@@ -56,10 +57,7 @@ IsBoundOf Branches instance certificate bound = tree.IsBoundBy instance certific
 
 -- ---- the run
 
--- the turn's bytes spell a file whose tours have a bound, or one whose tours have none
-abbrev pub IsSomeBounded : Certificate → Turn → Type 0
-IsSomeBounded by turn = (file : Fields) × IsFile turn file × IsTrue (is_bounded by file.kind)
-
+-- the turn's bytes spell a file whose tours have no bound
 abbrev pub IsNoBounded : Certificate → Turn → Type 0
 IsNoBounded by turn = (file : Fields) × IsFile turn file × (is_bounded by file.kind ≡ false)
 
@@ -73,6 +71,18 @@ pub record IsJudged (by : Certificate) (first second third : Turn) (instance : F
   pub third_file : IsFile third certificate
   pub judged : IsVerdictWith by instance solution certificate verdict
 
+-- The tours of the first file have a bound, and no reason stands against the second one of those that are told without memory:
+-- what else is said of them needs memory.
+pub record NeedsMemory (by : Certificate) (first second third : Turn) : Type 0 where
+  pub instance : Fields
+  pub solution : Fields
+  pub certificate : Fields
+  pub first_file : IsFile first instance
+  pub second_file : IsFile second solution
+  pub third_file : IsFile third certificate
+  pub bounded : IsTrue (is_bounded by instance.kind)
+  pub none_before : NoneBeforeRepeats instance solution
+
 -- What the check answers, as the check of two files does. The first file, in order, that isn't one decides, later ones aren't
 -- read, and then nothing is written; then the first file's TYPE decides.
 abbrev pub IsBoundRun : Certificate → Turn → Turn → Turn → Sink → Result Bool RunFault → Type 0
@@ -85,8 +95,7 @@ IsBoundRun by first second third sink (Err (File file fault)) = IsUnwritten sink
     ⊎ ((file ≡ 3) × IsSomeFile first × IsSomeFile second × StopsAt fault third))
 IsBoundRun by first second third sink (Err WrongKind) = IsUnwritten sink × IsNoBounded by first × IsSomeFile second
     × IsSomeFile third
-IsBoundRun by first second third sink (Err OutOfMemory) = IsUnwritten sink × IsSomeBounded by first × IsSomeFile second
-    × IsSomeFile third
+IsBoundRun by first second third sink (Err OutOfMemory) = IsUnwritten sink × NeedsMemory by first second third
 IsBoundRun by first second third sink (Err (Relayout fault)) = ⊥
 IsBoundRun by first second third sink (Err (Write write_faults.OutOfMemory)) = ⊥
 IsBoundRun by first second third sink (Err (Write write_faults.Device)) = (instance : Fields) × (verdict : Verdict)

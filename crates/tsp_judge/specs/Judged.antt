@@ -21,6 +21,20 @@ IsVerdictBy None instance solution verdict = ⊥
 abbrev pub IsVerdictOn : Fields → Fields → Verdict → Type 0
 IsVerdictOn instance solution verdict = IsVerdictBy instance.kind instance solution verdict
 
+-- No reason stands, in the order that goes with the TYPE of the instance, that is judged before a node twice: those are told
+-- without memory.
+abbrev pub NoneBeforeRepeatsBy : Option Kind → Fields → Fields → Type 0
+NoneBeforeRepeatsBy (Some kinds.Tsp) instance solution = tours.NoneBeforeRepeats instance solution
+NoneBeforeRepeatsBy (Some kinds.Atsp) instance solution = tours.NoneBeforeRepeats instance solution
+NoneBeforeRepeatsBy (Some kinds.Cvrp) instance solution = routes.NoneBeforeRepeats instance solution
+NoneBeforeRepeatsBy (Some kinds.Tour) instance solution = ⊥
+NoneBeforeRepeatsBy (Some kinds.Potentials) instance solution = ⊥
+NoneBeforeRepeatsBy (Some kinds.Branches) instance solution = ⊥
+NoneBeforeRepeatsBy None instance solution = ⊥
+
+abbrev pub NoneBeforeRepeatsOn : Fields → Fields → Type 0
+NoneBeforeRepeatsOn instance solution = NoneBeforeRepeatsBy instance.kind instance solution
+
 abbrev pub is_yes : Verdict → Bool
 is_yes (Tour length bound) = true
 is_yes (Routes length routes least) = true

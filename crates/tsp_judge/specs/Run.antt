@@ -9,7 +9,7 @@ use Rattle.tsp_read.specs.Reads.{IsFile, StopsAt}
 use Rattle.tsp_verdict.specs.declared.verdict.Verdict.{Verdict}
 use Rattle.tsp_judge.specs.declared.fault.RunFault.{RunFault}
 use Rattle.tsp_judge.specs.declared.fault.RunFault.TheVariants.{File, WrongKind, Write, OutOfMemory, Relayout}
-use Rattle.tsp_judge.specs.Judged.{IsVerdictOn, is_yes}
+use Rattle.tsp_judge.specs.Judged.{IsVerdictOn, NoneBeforeRepeatsOn, is_yes}
 use Rattle.tsp_report.specs.Report.{report_of}
 
 -- the turn's bytes spell a file
@@ -25,10 +25,7 @@ ReadsFile number turn (Err (Write fault)) = ⊥
 ReadsFile number turn (Err OutOfMemory) = ⊥
 ReadsFile number turn (Err (Relayout fault)) = ⊥
 
--- they spell a file that is an instance, or one that is none
-abbrev pub IsSomeInstance : Turn → Type 0
-IsSomeInstance turn = (file : Fields) × IsFile turn file × IsTrue (is_instance file.kind)
-
+-- they spell a file that is no instance
 abbrev pub IsNoInstance : Turn → Type 0
 IsNoInstance turn = (file : Fields) × IsFile turn file × (is_instance file.kind ≡ false)
 
@@ -39,11 +36,21 @@ pub record IsJudged (first second : Turn) (instance : Fields) (verdict : Verdict
   pub second_file : IsFile second solution
   pub judged : IsVerdictOn instance solution verdict
 
--- How a check ends that has its verdict. At Ok the whole report was written, and the answer is whether the verdict is a yes. Out
--- of memory, nothing was written; writing itself takes no memory. Where the writer fails a front of the report was written.
+-- The first file is an instance, and no reason stands against the second one of those that are told without memory: what
+-- else is said of them needs memory.
+pub record NeedsMemory (first second : Turn) : Type 0 where
+  pub instance : Fields
+  pub solution : Fields
+  pub first_file : IsFile first instance
+  pub second_file : IsFile second solution
+  pub of_type : IsTrue (is_instance instance.kind)
+  pub none_before : NoneBeforeRepeatsOn instance solution
+
+-- How a check ends that has its verdict. At Ok the whole report was written, and the answer is whether the verdict is a yes.
+-- Where the writer fails a front of the report was written. Writing takes no memory.
 abbrev pub Answers : Sink → Fields → Verdict → Result Bool RunFault → Type 0
 Answers sink instance verdict (Ok answer) = (answer ≡ is_yes verdict) × HasWritten sink (report_of instance verdict)
-Answers sink instance verdict (Err OutOfMemory) = IsUnwritten sink
+Answers sink instance verdict (Err OutOfMemory) = ⊥
 Answers sink instance verdict (Err (Write write_faults.Device)) = HasStopped sink (report_of instance verdict)
 Answers sink instance verdict (Err (Write write_faults.OutOfMemory)) = ⊥
 Answers sink instance verdict (Err (File file fault)) = ⊥
@@ -52,8 +59,8 @@ Answers sink instance verdict (Err (Relayout fault)) = ⊥
 
 -- What the check answers. At Ok the whole report was written, and the answer is whether the verdict is a yes. The first
 -- file, in order, that isn't one decides, later ones aren't read, and then nothing is written; then the first file's TYPE
--- decides. Out of memory, both are files and nothing was written; writing itself takes no memory. Where the writer fails
--- a front of the report was written.
+-- decides. Out of memory, no reason stands of those that are told without memory, and nothing was written; writing takes
+-- none. Where the writer fails a front of the report was written.
 abbrev pub IsRun : Turn → Turn → Sink → Result Bool RunFault → Type 0
 IsRun first second sink (Ok answer) = (instance : Fields) × (verdict : Verdict) × IsJudged first second instance verdict
     × (answer ≡ is_yes verdict) × HasWritten sink (report_of instance verdict)
@@ -61,7 +68,7 @@ IsRun first second sink (Err (File file fault)) = IsUnwritten sink
     × (((file ≡ 1) × StopsAt fault first × IsUnread second)
     ⊎ ((file ≡ 2) × IsSomeFile first × StopsAt fault second))
 IsRun first second sink (Err WrongKind) = IsUnwritten sink × IsNoInstance first × IsSomeFile second
-IsRun first second sink (Err OutOfMemory) = IsUnwritten sink × IsSomeInstance first × IsSomeFile second
+IsRun first second sink (Err OutOfMemory) = IsUnwritten sink × NeedsMemory first second
 IsRun first second sink (Err (Relayout fault)) = ⊥
 IsRun first second sink (Err (Write write_faults.OutOfMemory)) = ⊥
 IsRun first second sink (Err (Write write_faults.Device)) = (instance : Fields) × (verdict : Verdict)

@@ -7,16 +7,15 @@ use Rattle.tsp_fields.specs.Fields.{Fields}
 use Rattle.tsp_read.specs.Reads.{IsFile, StopsAt}
 use Rattle.tsp_judge.specs.declared.fault.RunFault.{RunFault}
 use Rattle.tsp_judge.specs.declared.fault.RunFault.TheVariants.{File, WrongKind, Write, OutOfMemory, Relayout}
-use Rattle.tsp_judge.specs.Run.{IsSomeFile}
 use Rattle.tsp_report.specs.Show.{shown}
 
--- What showing answers. At Ok all that is shown of the file was written. Where the reader gives no file, or memory runs
--- out, nothing is written; writing itself takes no memory. Where the writer fails a front of the lines was written.
+-- What showing answers. At Ok all that is shown of the file was written. Where the reader gives no file nothing is written.
+-- Where the writer fails a front of the lines was written. Want of memory is that of the reading; writing takes none.
 abbrev pub IsShowRun : Turn → Sink → Result (Unit {0}) RunFault → Type 0
 IsShowRun turn sink (Ok done) = (file : Fields) × IsFile turn file × HasWritten sink (shown file)
 IsShowRun turn sink (Err (File place fault)) = (place ≡ 1) × StopsAt fault turn × IsUnwritten sink
 IsShowRun turn sink (Err WrongKind) = ⊥
-IsShowRun turn sink (Err OutOfMemory) = IsSomeFile turn × IsUnwritten sink
+IsShowRun turn sink (Err OutOfMemory) = ⊥
 IsShowRun turn sink (Err (Relayout fault)) = ⊥
 IsShowRun turn sink (Err (Write write_faults.OutOfMemory)) = ⊥
 IsShowRun turn sink (Err (Write write_faults.Device)) = (file : Fields) × IsFile turn file × HasStopped sink (shown file)

@@ -7,19 +7,16 @@ ghost use Rattle.tsp_report.specs.Report.{IsSized};
 ghost use Rattle.tsp_judge.specs.Run.{Answers, told};
 
 use crate::fault::RunFault;
-use std::alloc::Global;
 use std::io::Write;
 use tsp_cost::Instance;
-use tsp_report::report_text;
-use tsp_stream::{Watched, write_text};
+use tsp_report::write_report;
+use tsp_stream::Watched;
 use tsp_verdict::Verdict;
 
-/// Writes the report on an instance, and answers the verdict that it is of.
+/// Writes the report on an instance, and answers the verdict that it is of. It takes no memory.
 ///
-/// Errors: `OutOfMemory` where the report runs out of memory, and then nothing was written; `Write`
-/// where the writer fails.
+/// Errors: `Write` where the writer fails.
 pub(crate) fn answer<W: Write>(
-    alloc: Global,
     instance: &Instance,
     verdict: Verdict,
     out: &mut Watched<W>,
@@ -28,10 +25,7 @@ pub(crate) fn answer<W: Write>(
     ensures report { Answers (sink_of W.contents out.old out.new) instance.now verdict (told result) }
     ensures same { IfOk result (λ answer. answer ≡ verdict) }
 {
-    let Ok(report) = report_text(alloc, instance.file(), verdict) else {
-        return Err(RunFault::OutOfMemory);
-    };
-    match write_text(out, &report) {
+    match write_report(instance.file(), verdict, out) {
         Err(fault) => Err(RunFault::Write(fault)),
         Ok(()) => Ok(verdict),
     }

@@ -29,9 +29,9 @@ use tsp_verdict::Verdict;
 /// written before the verdict exists.
 ///
 /// Errors: `File` where a file is none, or can't be read; `WrongKind` where all three are files and
-/// the first is of TYPE CVRP, TOUR, POTENTIALS or BRANCHES; `OutOfMemory` where the judgement or the report runs
-/// out of memory; `Write` where the writer fails. Of each file at most 4,096 bytes past
-/// `MOST_FILE_BYTES` are read.
+/// the first is of TYPE CVRP, TOUR, POTENTIALS or BRANCHES; `OutOfMemory` where the judgement runs out of
+/// memory, and then no reason up to `NodeOutOfRange` stands against the tour; `Write` where the writer
+/// fails. Of each file at most 4,096 bytes past `MOST_FILE_BYTES` are read.
 pub fn run_bound_check<I: Read, S: Read, P: Read, W: Write>(
     alloc: Global,
     inst: &mut Watched<I>,

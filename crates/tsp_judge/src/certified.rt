@@ -1,9 +1,10 @@
 //! The check of an instance and a tour with a certificate of either kind.
 
-ghost use Rattle.std.specs.Prelude.{◌≡◌, IfOk, IsTrue, Some};
+ghost use Rattle.std.specs.Prelude.{◌≡◌, IsTrue, MatchResult, Some};
 ghost use Rattle.tsp_stream.specs.Sink.{sink_of};
 ghost use Rattle.tsp_stream.specs.Turn.{Turn, turn_of, TakesAtMost};
 ghost use Rattle.tsp_read.specs.Reads.{IsFile, most_taken};
+ghost use Rattle.tsp_verdict.specs.Tours.{NoneBeforeRepeats};
 ghost use Rattle.tsp_judge.specs.BoundRun.{is_bounded, IsVerdictWith, IsBoundVerdictRun, IsVerdictCheckBy};
 
 use crate::answer::answer;
@@ -25,9 +26,9 @@ use tsp_verdict::{Verdict, judge_tour_bound, judge_tour_branches};
 /// written before the verdict exists.
 ///
 /// Errors: `File` where a file is none, or can't be read; `WrongKind` where all three are files and
-/// tours of the first one's TYPE have no bound by this kind; `OutOfMemory` where the judgement or the
-/// report runs out of memory; `Write` where the writer fails. Of each file at most 4,096 bytes past
-/// `MOST_FILE_BYTES` are read.
+/// tours of the first one's TYPE have no bound by this kind; `OutOfMemory` where the judgement runs out
+/// of memory, and then no reason up to `NodeOutOfRange` stands against the tour; `Write` where the
+/// writer fails. Of each file at most 4,096 bytes past `MOST_FILE_BYTES` are read.
 pub(crate) fn run_certified<I: Read, S: Read, C: Read, W: Write>(
     alloc: Global,
     by: Certificate,
@@ -124,11 +125,12 @@ fn judged<W: Write>(
     }
     match judge(alloc, by, instance, solution, certificate) {
         Err(AllocError) => Err(RunFault::OutOfMemory),
-        Ok(verdict) => answer(alloc, instance, verdict, out),
+        Ok(verdict) => answer(instance, verdict, out),
     }
 }
 
-/// The verdict on the solution with a certificate of this kind.
+/// The verdict on the solution with a certificate of this kind. Out of memory, no reason stands of
+/// those that are told without memory.
 fn judge(
     alloc: Global,
     by: Certificate,
@@ -137,7 +139,9 @@ fn judge(
     certificate: &File,
 ) -> Result<Verdict, AllocError>
     requires { IsTrue (is_bounded by instance.now.kind) }
-    ensures { IfOk result (λ verdict. IsVerdictWith by instance.now solution.now certificate.now verdict) }
+    ensures { MatchResult result
+        (λ verdict. IsVerdictWith by instance.now solution.now certificate.now verdict)
+        (λ refused. NoneBeforeRepeats instance.now solution.now) }
 {
     match by {
         Certificate::Potentials => judge_tour_bound(alloc, instance, solution, certificate),

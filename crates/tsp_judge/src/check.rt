@@ -1,11 +1,11 @@
 //! The check of an instance and a solution, from the bytes that come in to those that go out.
 
-ghost use Rattle.std.specs.Prelude.{IfOk, IsTrue};
+ghost use Rattle.std.specs.Prelude.{IsTrue, MatchResult};
 ghost use Rattle.tsp_stream.specs.Sink.{sink_of};
 ghost use Rattle.tsp_stream.specs.Turn.{Turn, turn_of, TakesAtMost};
 ghost use Rattle.tsp_read.specs.Reads.{IsFile, most_taken};
 ghost use Rattle.tsp_fields.specs.Rules.{is_instance};
-ghost use Rattle.tsp_judge.specs.Judged.{IsVerdictOn};
+ghost use Rattle.tsp_judge.specs.Judged.{IsVerdictOn, NoneBeforeRepeatsOn};
 ghost use Rattle.tsp_judge.specs.Run.{IsVerdictRun};
 ghost use Rattle.tsp_judge.specs.Yes.{IsCheck, IsVerdictCheck};
 
@@ -28,9 +28,9 @@ use tsp_verdict::{Verdict, judge_routes, judge_tour};
 /// written before the verdict exists.
 ///
 /// Errors: `File` where a file is none, or can't be read; `WrongKind` where both are files and the
-/// first is of TYPE TOUR, POTENTIALS or BRANCHES; `OutOfMemory` where the judgement or the report runs out of
-/// memory; `Write` where the writer fails. Of each file at most 4,096 bytes past `MOST_FILE_BYTES`
-/// are read.
+/// first is of TYPE TOUR, POTENTIALS or BRANCHES; `OutOfMemory` where the judgement runs out of memory,
+/// and then no reason up to `NodeOutOfRange`, in the order of its TYPE, stands against the second;
+/// `Write` where the writer fails. Of each file at most 4,096 bytes past `MOST_FILE_BYTES` are read.
 pub fn run_check<I: Read, S: Read, W: Write>(
     alloc: Global,
     inst: &mut Watched<I>,
@@ -112,13 +112,16 @@ fn judged<W: Write>(
 {
     match judge(alloc, instance, solution) {
         Err(AllocError) => Err(RunFault::OutOfMemory),
-        Ok(verdict) => answer(alloc, instance, verdict, out),
+        Ok(verdict) => answer(instance, verdict, out),
     }
 }
 
-/// The verdict on a solution: on its tour, or for TYPE CVRP on its routes.
+/// The verdict on a solution: on its tour, or for TYPE CVRP on its routes. Out of memory, no reason
+/// stands of those that are told without memory.
 fn judge(alloc: Global, instance: &Instance, solution: &File) -> Result<Verdict, AllocError>
-    ensures { IfOk result (λ verdict. IsVerdictOn instance.now solution.now verdict) }
+    ensures { MatchResult result
+        (λ verdict. IsVerdictOn instance.now solution.now verdict)
+        (λ refused. NoneBeforeRepeatsOn instance.now solution.now) }
 {
     match instance.kind() {
         Kind::Tsp | Kind::Atsp => judge_tour(alloc, instance, solution),

@@ -18,7 +18,7 @@ pub enum RunFault {
     /// The output could not be written.
     #[error("output: {0}")]
     Write(WriteFault),
-    /// Out of memory for the judgement, for the report, or for what is shown.
+    /// Of the checks alone: out of memory for the judgement.
     #[error("out of memory")]
     OutOfMemory,
     /// Of converting alone: the weights of the file can't go into the layout that is wanted, or

@@ -9,19 +9,18 @@ use crate::fault::RunFault;
 use crate::file::read_file;
 use std::alloc::Global;
 use std::io::{Read, Write};
-use tsp_report::show_text;
-use tsp_stream::{Watched, write_text};
+use tsp_report::write_shown;
+use tsp_stream::Watched;
 
 /// Writes what a file is: its name, its TYPE and number of nodes, of an instance the weight type,
 /// the length of the list 1, 2, .., n and the number of fixed pairs, of tours how many nodes each
 /// has, of potentials their scale, of a tree of cases its scale and how many combs and leaves it has,
 /// and the unknown keywords.
 ///
-/// The file is read whole before anything is written.
+/// The file is read whole before anything is written, and writing takes no memory.
 ///
-/// Errors: `File` where the bytes are no file, or can't be read; `OutOfMemory` where there is no
-/// memory for the lines; `Write` where the writer fails. At most 4,096 bytes past `MOST_FILE_BYTES`
-/// are read.
+/// Errors: `File` where the bytes are no file, or can't be read; `Write` where the writer fails. At
+/// most 4,096 bytes past `MOST_FILE_BYTES` are read.
 pub fn run_show<R: Read, W: Write>(
     alloc: Global,
     r: &mut Watched<R>,
@@ -31,10 +30,7 @@ pub fn run_show<R: Read, W: Write>(
         IsShowRun turn (sink_of W.contents out.old out.new) result) }
 {
     let file = read_file(alloc, 1, r)?;
-    let Ok(text) = show_text(alloc, file) else {
-        return Err(RunFault::OutOfMemory);
-    };
-    match write_text(out, &text) {
+    match write_shown(file, out) {
         Err(fault) => Err(RunFault::Write(fault)),
         Ok(()) => Ok(()),
     }

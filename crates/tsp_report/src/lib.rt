@@ -8,5 +8,5 @@ mod report;
 mod shown;
 
 pub use examples::{examples_of_reasons, examples_of_reports, examples_of_shown_lines};
-pub use report::report_text;
-pub use shown::show_text;
+pub use report::write_report;
+pub use shown::write_shown;

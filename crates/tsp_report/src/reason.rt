@@ -1,31 +1,30 @@
 //! The text of a reason.
 
-ghost use Rattle.std.specs.Prelude.{◌≡◌, ◌++◌, OnOk};
+ghost use Rattle.std.specs.Prelude.{◌≡◌};
+ghost use Rattle.tsp_stream.specs.Way.{Puts};
 ghost use Rattle.tsp_report.specs.Report.{reason_name, reason_numbers, after_blank, reason_text};
 
-use crate::report::push_number;
-use std::alloc::AllocError;
+use std::io::Write;
+use tsp_stream::{Piece, Watched, put, put_next_number};
 use tsp_verdict::Reason;
 
-/// Appends the name of a reason, and its numbers.
-pub(crate) fn push_reason(text: &mut Vec<u8>, reason: Reason) -> Result<(), AllocError>
-    ensures { OnOk result (text.new.items ≡ text.old.items ++ reason_text reason) }
+/// Adds the name of a reason, and its numbers.
+pub(crate) fn put_reason<W: Write>(piece: &mut Piece, out: &mut Watched<W>, reason: Reason)
+    ensures { Puts W.contents out.old piece.old out.new piece.new (reason_text reason) }
 {
     let (first, second) = numbers_of(reason);
-    text.extend_from_slice(name_of(reason).as_bytes())?;
-    push_after_blank(text, first)?;
-    push_after_blank(text, second)
+    put(piece, out, name_of(reason).as_bytes());
+    put_after_blank(piece, out, first);
+    put_after_blank(piece, out, second);
 }
 
-/// Appends a blank and a number, where there is one.
-fn push_after_blank(text: &mut Vec<u8>, number: Option<u32>) -> Result<(), AllocError>
-    ensures { OnOk result (text.new.items ≡ text.old.items ++ after_blank number) }
+/// Adds a blank and a number, where there is one.
+fn put_after_blank<W: Write>(piece: &mut Piece, out: &mut Watched<W>, number: Option<u32>)
+    ensures { Puts W.contents out.old piece.old out.new piece.new (after_blank number) }
 {
-    let Some(number) = number else {
-        return Ok(());
-    };
-    text.extend_from_slice(b" ")?;
-    push_number(text, number)
+    if let Some(number) = number {
+        put_next_number(piece, out, number);
+    }
 }
 
 /// The name of a reason.

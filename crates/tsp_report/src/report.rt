@@ -1,139 +1,149 @@
-//! The text of a report.
+//! The text of a report, and its way to a writer.
 
-ghost use Rattle.std.specs.Prelude.{◌≡◌, ◌++◌, ◌≤◌, ◌^◌, ◌-ℤ◌, IfOk, OnOk, Some, map, unsigned_abs};
+ghost use Rattle.std.specs.Prelude.{◌≡◌, ◌++◌, ◌≤◌, ◌^◌, ◌-ℤ◌, Some, map, codes, unsigned_abs};
+ghost use Rattle.tsp_stream.specs.Sink.{sink_of, Writes};
+ghost use Rattle.tsp_stream.specs.Way.{Puts};
 ghost use Rattle.tsp_report.specs.Report.{report_of, instance_lines, type_line, nodes_line, not_judged, verdict_lines, bound_lines, gap_lines, IsBoundSized, IsSized};
 
-use crate::reason::push_reason;
-use itoa::{Buffer, Integer};
-use std::alloc::{AllocError, Global};
+use crate::reason::put_reason;
+use itoa::Integer;
+use std::io::Write;
 use tsp_fields::File;
+use tsp_stream::{Piece, Watched, WriteFault, hand_over, put, put_number};
 use tsp_value::{Kind, Word};
 use tsp_verdict::Verdict;
 
-/// The text of the report on a solution of an instance, line by line, by the verdict on it: the lines
-/// on the instance, those on the verdict, `yes` or `no`.
+/// Writes the report on a solution of an instance, line by line, by the verdict on it: the lines on
+/// the instance, those on the verdict, `yes` or `no`.
 ///
 /// The caller owes a bound of at most 2^126 in size, so that the gap to the length fits 128 bits; a
 /// verdict's is at most 2^100.
 ///
-/// # Errors
-///
-/// Out of memory.
-pub fn report_text(alloc: Global, instance: &File, verdict: Verdict) -> Result<Vec<u8>, AllocError>
+/// At `Device` a front of the report was written, and nothing else; a writer that was handed in as
+/// failed gets nothing. No memory is taken, and `OutOfMemory` is never answered.
+pub fn write_report<W: Write>(
+    instance: &File,
+    verdict: Verdict,
+    out: &mut Watched<W>,
+) -> Result<(), WriteFault>
     requires { IsSized verdict }
-    ensures { IfOk result (λ text. text.items ≡ report_of instance.now verdict) }
+    ensures { Writes (sink_of W.contents out.old out.new) (report_of instance.now verdict) result }
 {
-    let mut text = Vec::new(alloc);
-    push_instance(&mut text, instance)?;
-    push_verdict(&mut text, verdict)?;
-    Ok(text)
+    if out.failed() {
+        return Err(WriteFault::Device);
+    }
+    let mut piece = Piece::new();
+    put_instance(&mut piece, out, instance);
+    put_verdict(&mut piece, out, verdict);
+    hand_over(&mut piece, out);
+    if out.failed() {
+        Err(WriteFault::Device)
+    } else {
+        Ok(())
+    }
 }
 
-/// Appends the lines on an instance.
-fn push_instance(text: &mut Vec<u8>, instance: &File) -> Result<(), AllocError>
-    ensures { OnOk result (text.new.items ≡ text.old.items ++ instance_lines instance.now) }
+/// Adds the lines on an instance.
+fn put_instance<W: Write>(piece: &mut Piece, out: &mut Watched<W>, instance: &File)
+    ensures { Puts W.contents out.old piece.old out.new piece.new (instance_lines instance.now) }
 {
-    push_type(text, instance.kind())?;
-    push_nodes(text, instance.dimension().unwrap_or(0))?;
-    push_others(text, instance.others())
+    put_type(piece, out, instance.kind());
+    put_nodes(piece, out, instance.dimension().unwrap_or(0));
+    put_others(piece, out, instance.others());
 }
 
-/// Appends the line of TYPE.
-pub(crate) fn push_type(text: &mut Vec<u8>, kind: Kind) -> Result<(), AllocError>
-    ensures { OnOk result (text.new.items ≡ text.old.items ++ type_line (Some kind)) }
+/// Adds the line of TYPE.
+pub(crate) fn put_type<W: Write>(piece: &mut Piece, out: &mut Watched<W>, kind: Kind)
+    ensures { Puts W.contents out.old piece.old out.new piece.new (type_line (Some kind)) }
 {
-    text.extend_from_slice(b"type ")?;
-    text.extend_from_slice(kind.word().as_bytes())?;
-    text.extend_from_slice(b"\n")
+    put(piece, out, b"type ");
+    put(piece, out, kind.word().as_bytes());
+    put(piece, out, b"\n");
 }
 
-/// Appends the line of a number of nodes.
-pub(crate) fn push_nodes(text: &mut Vec<u8>, nodes: u32) -> Result<(), AllocError>
-    ensures { OnOk result (text.new.items ≡ text.old.items ++ nodes_line nodes) }
+/// Adds the line of a number of nodes.
+pub(crate) fn put_nodes<W: Write>(piece: &mut Piece, out: &mut Watched<W>, nodes: u32)
+    ensures { Puts W.contents out.old piece.old out.new piece.new (nodes_line nodes) }
 {
-    text.extend_from_slice(b"nodes ")?;
-    push_number(text, nodes)?;
-    text.extend_from_slice(b"\n")
+    put_named(piece, out, b"nodes ", nodes);
+    put(piece, out, b"\n");
 }
 
-/// Appends a line for each line of an unknown keyword.
-pub(crate) fn push_others(
-    text: &mut Vec<u8>,
+/// Adds a line for each line of an unknown keyword.
+pub(crate) fn put_others<W: Write>(
+    piece: &mut Piece,
+    out: &mut Watched<W>,
     others: &[(Vec<u8>, Vec<u8>)],
-) -> Result<(), AllocError>
-    ensures { OnOk result (text.new.items ≡ text.old.items
-        ++ not_judged (map (λ line. (line.0.items, line.1.items)) others.now)) }
+)
+    ensures { Puts W.contents out.old piece.old out.new piece.new
+        (not_judged (map (λ line. (line.0.items, line.1.items)) others.now)) }
 {
     'lines: for (keyword, _) in others {
-        text.extend_from_slice(b"not judged ")?;
-        text.extend_from_slice(keyword)?;
-        text.extend_from_slice(b"\n")?;
+        put_other(piece, out, keyword);
     }
-    Ok(())
 }
 
-/// Appends the lines on a verdict.
-fn push_verdict(text: &mut Vec<u8>, verdict: Verdict) -> Result<(), AllocError>
+/// Adds the line of an unknown keyword.
+fn put_other<W: Write>(piece: &mut Piece, out: &mut Watched<W>, keyword: &[u8])
+    ensures { Puts W.contents out.old piece.old out.new piece.new (codes "not judged " ++ keyword.now ++ codes "\n") }
+{
+    put(piece, out, b"not judged ");
+    put(piece, out, keyword);
+    put(piece, out, b"\n");
+}
+
+/// Adds some words and the digits of a number.
+pub(crate) fn put_named<W: Write, N: Integer>(
+    piece: &mut Piece,
+    out: &mut Watched<W>,
+    words: &[u8],
+    number: N,
+)
+    ensures { Puts W.contents out.old piece.old out.new piece.new (words.now ++ N.text number) }
+{
+    put(piece, out, words);
+    put_number(piece, out, number);
+}
+
+/// Adds the lines on a verdict.
+fn put_verdict<W: Write>(piece: &mut Piece, out: &mut Watched<W>, verdict: Verdict)
     requires { IsSized verdict }
-    ensures { OnOk result (text.new.items ≡ text.old.items ++ verdict_lines verdict) }
+    ensures { Puts W.contents out.old piece.old out.new piece.new (verdict_lines verdict) }
 {
     match verdict {
         Verdict::Tour { length, bound } => {
-            text.extend_from_slice(b"length ")?;
-            push_number(text, length)?;
-            text.extend_from_slice(b"\n")?;
-            push_bound(text, length, bound)?;
-            text.extend_from_slice(b"yes\n")
+            put_named(piece, out, b"length ", length);
+            put(piece, out, b"\n");
+            put_bound(piece, out, length, bound);
+            put(piece, out, b"yes\n");
         }
         Verdict::Routes {
             length,
             routes,
             least,
         } => {
-            text.extend_from_slice(b"routes ")?;
-            push_number(text, routes)?;
-            text.extend_from_slice(b"\nleast ")?;
-            push_number(text, least)?;
-            text.extend_from_slice(b"\nlength ")?;
-            push_number(text, length)?;
-            text.extend_from_slice(b"\nyes\n")
+            put_named(piece, out, b"routes ", routes);
+            put_named(piece, out, b"\nleast ", least);
+            put_named(piece, out, b"\nlength ", length);
+            put(piece, out, b"\nyes\n");
         }
         Verdict::No(reason) => {
-            text.extend_from_slice(b"no ")?;
-            push_reason(text, reason)?;
-            text.extend_from_slice(b"\n")
+            put(piece, out, b"no ");
+            put_reason(piece, out, reason);
+            put(piece, out, b"\n");
         }
     }
 }
 
-/// Appends the digits of a number.
-pub(crate) fn push_number<N: Integer>(text: &mut Vec<u8>, number: N) -> Result<(), AllocError>
-    ensures { OnOk result (text.new.items ≡ text.old.items ++ N.text number) }
-{
-    let mut buffer = Buffer::new();
-    text.extend_from_slice(buffer.format(number).as_bytes())
-}
-
-/// Appends the line of a bound and the line after it, where there is one.
-fn push_bound(text: &mut Vec<u8>, length: i64, bound: Option<i128>) -> Result<(), AllocError>
+/// Adds the line of a bound and the line after it, where there is one.
+fn put_bound<W: Write>(piece: &mut Piece, out: &mut Watched<W>, length: i64, bound: Option<i128>)
     requires { IsBoundSized bound }
-    ensures { OnOk result (text.new.items ≡ text.old.items ++ bound_lines length bound) }
+    ensures { Puts W.contents out.old piece.old out.new piece.new (bound_lines length bound) }
 {
-    match bound {
-        None => Ok(()),
-        Some(bound) => push_bound_and_gap(text, length, bound),
+    if let Some(bound) = bound {
+        put_named(piece, out, b"bound ", bound);
+        put_gap(piece, out, gap_of(length, bound));
     }
-}
-
-/// Appends the line of a bound and the line after it.
-#[tactic(auto, using(crate::proofs::Texts::three_pieces))]
-fn push_bound_and_gap(text: &mut Vec<u8>, length: i64, bound: i128) -> Result<(), AllocError>
-    requires { unsigned_abs bound ≤ 2 ^ 126 }
-    ensures { OnOk result (text.new.items ≡ text.old.items ++ bound_lines length (Some bound)) }
-{
-    text.extend_from_slice(b"bound ")?;
-    push_number(text, bound)?;
-    push_gap(text, gap_of(length, bound))
 }
 
 /// By how much a length is more than a bound.
@@ -144,14 +154,14 @@ fn gap_of(length: i64, bound: i128) -> i128
     i128::from(length) - bound
 }
 
-/// Appends by how much a length is more than a bound.
-fn push_gap(text: &mut Vec<u8>, gap: i128) -> Result<(), AllocError>
-    ensures { OnOk result (text.new.items ≡ text.old.items ++ gap_lines gap) }
+/// Adds by how much a length is more than a bound.
+fn put_gap<W: Write>(piece: &mut Piece, out: &mut Watched<W>, gap: i128)
+    ensures { Puts W.contents out.old piece.old out.new piece.new (gap_lines gap) }
 {
     if gap == 0 {
-        return text.extend_from_slice(b"\noptimal\n");
+        put(piece, out, b"\noptimal\n");
+        return;
     }
-    text.extend_from_slice(b"\ngap ")?;
-    push_number(text, gap)?;
-    text.extend_from_slice(b"\n")
+    put_named(piece, out, b"\ngap ", gap);
+    put(piece, out, b"\n");
 }

@@ -16,8 +16,19 @@ judge-requires g c = ap (is_bounded c.args.by) (sym c.kind.ensures.value) ∙ sy
 
 pub returns-in-Err : goal.returns-in-Err
 returns-in-Err g c = λ first second third one two three.
-    let is : IsTrue (is_bounded c.args.by c.args.instance.now.kind) = ap (is_bounded c.args.by) (sym c.kind.ensures.value) ∙ sym c.is_bounded.ensures ∙ c.if-not-is_bounded.false in
-    ((Keeps-refl _, refl), (c.args.instance.now, one, is), (c.args.solution.now, two), (c.args.certificate.now, three))
+    let is : IsTrue (is_bounded c.args.by c.args.instance.now.kind) = ap (is_bounded c.args.by) (sym c.kind.ensures.value) ∙ sym c.is_bounded.ensures ∙ c.if-not-is_bounded.false in (
+      (Keeps-refl _, refl),
+      record {
+        instance = c.args.instance.now;
+        solution = c.args.solution.now;
+        certificate = c.args.certificate.now;
+        first_file = one;
+        second_file = two;
+        third_file = three;
+        bounded = is;
+        none_before = c.in-Err.ensures;
+      },
+    )
 
 pub answer-requires : goal.answer-requires
 answer-requires g c = sized c.args.by c.args.instance.now c.args.solution.now c.args.certificate.now c.in-Ok.verdict c.in-Ok.ensures

@@ -5,7 +5,17 @@ use Rattle.tsp_judge.proofs.Checks.{sized, answered}
 use Rattle.tsp_judge.proofs.check.judged.Goals as goal
 
 pub returns-in-Err : goal.returns-in-Err
-returns-in-Err g c = λ first second one two. ((Keeps-refl _, refl), (c.args.instance.now, one, c.requires), (c.args.solution.now, two))
+returns-in-Err g c = λ first second one two. (
+  (Keeps-refl _, refl),
+  record {
+    instance = c.args.instance.now;
+    solution = c.args.solution.now;
+    first_file = one;
+    second_file = two;
+    of_type = c.requires;
+    none_before = c.in-Err.ensures;
+  },
+)
 
 pub answer-requires : goal.answer-requires
 answer-requires g c = sized c.args.instance.now c.args.solution.now c.in-Ok.verdict c.in-Ok.ensures
