@@ -25,6 +25,6 @@ pub use read::{read_bytes, read_from};
 pub use settled::{settled_ends_stay, settled_faults_stay};
 pub use tsp_items::{
     LineFault, ReadFault, faults_at_the_end, faults_of_word_lines, faults_of_words,
-    fields_of_texts, limits_agree,
+    fields_of_texts, limits_agree, limits_of_lines, limits_of_sections,
 };
 pub use validity::{clean_fields_are_valid, spelled_files_are_valid};
