@@ -34,3 +34,11 @@ directed = record blank_fields {
 -- points
 abbrev pub plane : Fields
 plane = record blank_fields { kind = Some Tsp; dimension = Some 3; weight_kind = Some Euc2d }
+
+-- no nodes at all, which is not valid and goes before what is missing
+abbrev pub no_nodes : Fields
+no_nodes = record blank_fields { dimension = Some 0 }
+
+-- one weight in the place of nine
+abbrev pub one_weight : Fields
+one_weight = record directed { weights = Some (pos 1 ∷ []) }

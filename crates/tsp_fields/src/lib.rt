@@ -17,7 +17,8 @@ mod whole;
 
 pub use coords::Coords;
 pub use examples::{
-    examples_of_costs, examples_of_distances_by_type, examples_of_lost_costs, examples_of_relayouts,
+    examples_of_costs, examples_of_distances_by_type, examples_of_faults, examples_of_lost_costs,
+    examples_of_relayouts, examples_of_validity,
 };
 pub use fault::{DraftFault, EndFault, RelayoutFault};
 pub use file::{Draft, File};

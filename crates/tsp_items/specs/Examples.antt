@@ -1,5 +1,5 @@
 -- Small texts on which the definitions are evaluated. In them `/` stands for byte 10.
-use Rattle.std.specs.Prelude.{◌≡◌, ℕ, ◌==◌, cond, List, [], ◌∷◌, ◌++◌, map, replicate, None, Some, codes, pos, negsuc}
+use Rattle.std.specs.Prelude.{◌≡◌, ℕ, ◌==◌, true, false, cond, List, [], ◌∷◌, ◌++◌, map, replicate, None, Some, codes, pos, negsuc}
 use Rattle.tsp_value.specs.declared.field.Field.{Field}
 use Rattle.tsp_value.specs.Steps.{Branch, Leaf}
 use Rattle.tsp_number.specs.declared.fault.NumberFault.{NumberFault}
@@ -9,6 +9,9 @@ use Rattle.tsp_fields.specs.declared.fault.EndFault.TheVariants.{Missing}
 use Rattle.tsp_items.specs.declared.fault.LineFault.{LineFault}
 use Rattle.tsp_items.specs.declared.fault.LineFault.TheVariants.{Number}
 use Rattle.tsp_items.specs.declared.fault.ReadFault.TheVariants as faults
+use Rattle.tsp_items.specs.Items.{line_item}
+use Rattle.tsp_items.specs.Places.{Place}
+use Rattle.tsp_items.specs.Rows.{is_surplus, is_surplus_at}
 use Rattle.tsp_items.specs.Spells.{spelled}
 use Rattle.tsp_items.specs.Text.{part, fault}
 
@@ -75,9 +78,25 @@ abbrev pub quad : List ℕ → List ℕ → List ℕ
 quad format weights = codes "TYPE:TSP/DIMENSION:4/EDGE_WEIGHT_TYPE:EXPLICIT/EDGE_WEIGHT_FORMAT:" ++ format
     ++ codes "/EDGE_WEIGHT_SECTION/" ++ weights
 
--- a word line of 4097 bytes, and a word of 65 digits
+-- a word line of 4096 bytes, one of 4097, and a word of 65 digits
+abbrev pub longest_line : List ℕ
+longest_line = codes "COMMENT" ++ replicate 4089 32
+
 abbrev pub long_line : List ℕ
 long_line = codes "COMMENT" ++ replicate 4090 32
 
 abbrev pub long_word : List ℕ
 long_word = replicate 65 49
+
+-- the line of an unknown keyword of three bytes, and so many bytes of its value
+abbrev pub other_line : ℕ → List ℕ
+other_line count = codes "FOO:" ++ replicate count 120
+
+-- after so many lines with this text one more is one too many, and not after so many
+abbrev pub IsLimitOfLines : ℕ → ℕ → List ℕ → Type 0
+IsLimitOfLines past last line = (is_surplus (replicate past (line_item line)) (line_item line) ≡ true)
+    × (is_surplus (replicate last (line_item line)) (line_item line) ≡ false)
+
+-- the word of a file with three nodes is one too many at the first place, and none at the second
+abbrev pub IsLimit : Place → Place → List ℕ → Type 0
+IsLimit past last word = (is_surplus_at 3 past word ≡ true) × (is_surplus_at 3 last word ≡ false)

@@ -1,6 +1,6 @@
 //! What always holds of the definitions, as contracts of functions that do nothing.
 
-ghost use Rattle.std.specs.Prelude.{codes, ◌≡◌, ◌≤◌, ◌++◌, ℕ, List, length, IsTrue, true};
+ghost use Rattle.std.specs.Prelude.{codes, ◌≡◌, ◌≤◌, ◌++◌, ℕ, List, length, IsTrue, true, false};
 ghost use Rattle.tsp_number.specs.Decimal.{most_count};
 ghost use Rattle.tsp_number.specs.NumberWord.{IsShort};
 ghost use Rattle.tsp_value.specs.Limits.{most_coordinate, most_word_bytes};
@@ -8,7 +8,9 @@ ghost use Rattle.tsp_number.specs.declared.fault.NumberFault.TheVariants as numb
 ghost use Rattle.tsp_value.specs.declared.field.Field.TheVariants as fields;
 ghost use Rattle.tsp_fields.specs.declared.fault.EndFault.TheVariants as ends;
 ghost use Rattle.tsp_items.specs.declared.fault.LineFault.TheVariants as faults;
-ghost use Rattle.tsp_items.specs.Examples.{FaultAt, NumberAt, MissingAtEnd, EndsWith, OthersAre, ToursAre, PairsAre, TriplesAre, CombIs, TreeIs, DemandsAre, InSpace, OnPlane, quad, long_line, long_word};
+ghost use Rattle.tsp_items.specs.Examples.{FaultAt, NumberAt, MissingAtEnd, EndsWith, OthersAre, ToursAre, PairsAre, TriplesAre, CombIs, TreeIs, DemandsAre, InSpace, OnPlane, quad, longest_line, long_line, long_word, other_line, IsLimit, IsLimitOfLines};
+ghost use Rattle.tsp_items.specs.Rows.{is_surplus_at};
+ghost use Rattle.tsp_items.specs.Places.{DepotAfter, FirstAfter, TourNode, SetNode, StepAfter, IndexAfter};
 
 /// The first faults of some texts of word lines. In the texts `/` parts lines.
 #[tactic(auto, unfolding(tsp_number::specs::Reading::decimal_of, tsp_number::specs::Reading::whole_of))]
@@ -108,6 +110,42 @@ pub fn faults_at_the_end()
     ensures too_few { EndsWith (quad (codes "UPPER_ROW") (codes "1 2 3 4 5")) ends.WrongCount }
     ensures too_many { EndsWith (quad (codes "UPPER_ROW") (codes "1 2 3 4 5 6 7")) ends.WrongCount }
     ensures by_function { EndsWith (quad (codes "FUNCTION") (codes "1 2 3 4 5")) ends.WrongFormat }
+{}
+
+/// Numbers and lines at their limits, and past them by one.
+#[tactic(auto, unfolding(tsp_number::specs::Reading::decimal_of, tsp_number::specs::Reading::whole_of, tsp_value::specs::Cells::cells, tsp_value::specs::Cells::nodes_to))]
+pub fn limits_of_lines()
+    ensures most_nodes { MissingAtEnd (codes "DIMENSION : 100000") fields.TypeKey }
+    ensures more_nodes { NumberAt (codes "DIMENSION : 100001") 1 0 numbers.OutOfRange }
+    ensures most_nodes_of_a_matrix { MissingAtEnd (codes "DIMENSION : 5000/EDGE_WEIGHT_SECTION") fields.TypeKey }
+    ensures more_nodes_of_a_matrix { FaultAt (codes "DIMENSION : 5001/EDGE_WEIGHT_SECTION") 2 0 faults.TooManyNodes }
+    ensures largest_weights { EndsWith (quad (codes "UPPER_ROW") (codes "1000000000000 -1000000000000")) ends.WrongCount }
+    ensures larger_weight { NumberAt (quad (codes "UPPER_ROW") (codes "1 1000000000001")) 6 2 numbers.OutOfRange }
+    ensures smaller_weight { NumberAt (quad (codes "UPPER_ROW") (codes "1 2 -1000000000001")) 6 3 numbers.OutOfRange }
+    ensures longest { MissingAtEnd longest_line fields.TypeKey }
+    ensures longest_kept { MissingAtEnd (other_line 3997) fields.TypeKey }
+    ensures longer { FaultAt (other_line 3998) 1 0 faults.BadValue }
+    ensures comments { IsLimitOfLines 1000 999 (codes "COMMENT : x") }
+    ensures others { IsLimitOfLines 1000 999 (codes "FOO : x") }
+{}
+
+/// The last word of a list that has room, and the first that has none.
+#[tactic(auto, unfolding(tsp_number::specs::Reading::decimal_of, tsp_number::specs::Reading::whole_of))]
+pub fn limits_of_sections()
+    ensures depots { IsLimit (DepotAfter 100000) (DepotAfter 99999) (codes "1") }
+    ensures pairs { IsLimit (FirstAfter 100000) (FirstAfter 99999) (codes "1") }
+    ensures nodes_of_tours { IsLimit (TourNode 1000000) (TourNode 999999) (codes "1") }
+    ensures nodes_of_combs { IsLimit (SetNode true 1 1000000) (SetNode true 1 999999) (codes "1") }
+    ensures combs { IsLimit (SetNode false 10000 5) (SetNode false 9999 5) (codes "1") }
+    ensures branches { IsLimit (StepAfter 1000000) (StepAfter 999999) (codes "1") }
+    ensures indices { IsLimit (IndexAfter 10000000) (IndexAfter 9999999) (codes "1") }
+    ensures end_of_depots { is_surplus_at 3 (DepotAfter 100000) (codes "-1") ≡ false }
+    ensures end_of_pairs { is_surplus_at 3 (FirstAfter 100000) (codes "-1") ≡ false }
+    ensures end_of_tours { is_surplus_at 3 (TourNode 1000000) (codes "-1") ≡ false }
+    ensures end_of_combs { is_surplus_at 3 (SetNode false 10000 1000000) (codes "-1") ≡ false }
+    ensures last_comb { is_surplus_at 3 (SetNode true 10000 5) (codes "1") ≡ false }
+    ensures leaf { is_surplus_at 3 (StepAfter 1000000) (codes "0") ≡ false }
+    ensures end_of_leaf { is_surplus_at 3 (IndexAfter 10000000) (codes "-1") ≡ false }
 {}
 
 /// What some texts spell.

@@ -15,6 +15,7 @@ pub use blanks::without_start;
 pub use fault::{LineFault, ReadFault, StepFault};
 pub use laws::{
     faults_at_the_end, faults_of_word_lines, faults_of_words, fields_of_texts, limits_agree,
+    limits_of_lines, limits_of_sections,
 };
 pub use line::{CutLine, may_open, number_of, says_space};
 pub use part::Part;

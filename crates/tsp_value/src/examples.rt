@@ -1,7 +1,7 @@
 //! Words, bytes, cells and limits, on which the definitions are evaluated. No body is looked at
 //! here: a definition that is changed together with its code is refused by its examples.
 
-ghost use Rattle.std.specs.Prelude.{◌≡◌, ℕ, ◌*◌, ◌^◌, true, false, List, [], ◌∷◌, length, None, Some, pos, codes};
+ghost use Rattle.std.specs.Prelude.{◌≡◌, ℕ, ◌-◌, ◌*◌, ◌^◌, true, false, List, [], ◌∷◌, length, None, Some, pos, negsuc, codes};
 ghost use Rattle.tsp_value.specs.declared.field.Field.TheVariants as fields;
 ghost use Rattle.tsp_value.specs.declared.field.Shape.TheVariants as shapes;
 ghost use Rattle.tsp_value.specs.declared.field.ValueShape.TheVariants as values;
@@ -19,7 +19,7 @@ ghost use Rattle.tsp_value.specs.Layout.{layout_word};
 ghost use Rattle.tsp_value.specs.Limits as limits;
 ghost use Rattle.tsp_value.specs.Shapes.{shape_of, value_shape_of};
 ghost use Rattle.tsp_value.specs.Space.{is_spatial};
-ghost use Rattle.tsp_value.specs.Words.{kind_word, weight_kind_word, weight_format_word, coord_kind_word, display_kind_word, fields_in_order};
+ghost use Rattle.tsp_value.specs.Words.{field_word, kind_word, weight_kind_word, weight_format_word, coord_kind_word, display_kind_word, fields_in_order};
 ghost use Rattle.tsp_value.specs.Examples.{StandsAt, CellsAre, by_rows};
 
 /// The fields in canonical order, and their words.
@@ -27,6 +27,7 @@ pub fn examples_of_fields()
     ensures name { StandsAt 1 fields.NameKey (codes "NAME") }
     ensures kind { StandsAt 2 fields.TypeKey (codes "TYPE") }
     ensures comment { StandsAt 3 fields.CommentKey (codes "COMMENT") }
+    ensures others { field_word fields.OtherKey ≡ codes "others" }
     ensures dimension { StandsAt 5 fields.DimensionKey (codes "DIMENSION") }
     ensures capacity { StandsAt 6 fields.CapacityKey (codes "CAPACITY") }
     ensures scale { StandsAt 7 fields.ScaleKey (codes "SCALE") }
@@ -147,6 +148,8 @@ pub fn examples_of_limits()
     ensures others { limits.most_others ≡ 10 ^ 3 }
     ensures depots { limits.most_depots ≡ 10 ^ 5 }
     ensures fixed { limits.most_fixed ≡ 10 ^ 5 }
+    ensures multipliers { limits.most_multipliers ≡ 10 ^ 5 }
+    ensures multiplier { limits.most_multiplier ≡ 10 ^ 15 }
     ensures tour_nodes { limits.most_tour_nodes ≡ 10 ^ 6 }
     ensures combs { limits.most_combs ≡ 10 ^ 4 }
     ensures comb_nodes { limits.most_comb_nodes ≡ 10 ^ 6 }
@@ -155,6 +158,12 @@ pub fn examples_of_limits()
     ensures difference { limits.most_difference ≡ 2 * 10 ^ 15 }
     ensures file_bytes { limits.most_file_bytes ≡ 2 ^ 30 }
     ensures demands_from_zero { shape_of false fields.DemandPart ≡ Some (shapes.Numbers (pos 0) (pos (10 ^ 9))) }
+    ensures potentials_both_ways { shape_of false fields.NodePotentialPart
+        ≡ Some (shapes.Numbers (negsuc (10 ^ 15 - 1)) (pos (10 ^ 15))) }
+    ensures rows_both_ways { shape_of false fields.RowPotentialPart
+        ≡ Some (shapes.Numbers (negsuc (10 ^ 15 - 1)) (pos (10 ^ 15))) }
+    ensures columns_both_ways { shape_of false fields.ColumnPotentialPart
+        ≡ Some (shapes.Numbers (negsuc (10 ^ 15 - 1)) (pos (10 ^ 15))) }
     ensures no_shape { shape_of true fields.ScaleKey ≡ None }
     ensures nodes_from_one { value_shape_of fields.DimensionKey ≡ Some (values.Number (pos 1) (pos (10 ^ 5))) }
     ensures capacity_from_one { value_shape_of fields.CapacityKey ≡ Some (values.Number (pos 1) (pos (10 ^ 12))) }

@@ -4,9 +4,11 @@
 //! on files (`task`).
 #![tactic(auto)]
 
+mod examples;
 mod grammar;
 mod task;
 mod words;
 
+pub use examples::examples_of_verbs;
 pub use task::{Place, Task, TaskFault, task_of};
 pub use words::{Job, JobFault, Verb, job_of, unread};

@@ -1,5 +1,5 @@
 -- A small file with all sorts of fields, on which the definitions are evaluated. No valid file has all of them.
-use Rattle.std.specs.Prelude.{◌≡◌, ℕ, List, [], ◌∷◌, Some, pos, negsuc, codes}
+use Rattle.std.specs.Prelude.{◌≡◌, ℕ, List, [], ◌∷◌, ◌++◌, Some, pos, negsuc, codes}
 use Rattle.tsp_value.specs.declared.kinds.Kind.TheVariants as kinds
 use Rattle.tsp_value.specs.declared.kinds.WeightKind.TheVariants as weight_kinds
 use Rattle.tsp_value.specs.declared.kinds.WeightFormat.TheVariants.{Listed}
@@ -39,6 +39,19 @@ small = record blank_fields {
   combs = Some (((1 ∷ 2 ∷ 3 ∷ []) ∷ (1 ∷ 4 ∷ []) ∷ []) ∷ ((2 ∷ []) ∷ []) ∷ []);
   branches = Some (Branch 1 2 ∷ Leaf ((2, pos 1) ∷ (7, negsuc 2) ∷ []) ∷ Leaf [] ∷ []);
 }
+
+-- its whole text
+abbrev pub small_text : List ℕ
+small_text = codes "NAME : x y\n" ++ codes "TYPE : TSP\n" ++ codes "COMMENT : a\nCOMMENT :\n" ++ codes "FOO : BAR\n"
+    ++ codes "DIMENSION : 2\n" ++ codes "CAPACITY : 8\n" ++ codes "SCALE : 3\n" ++ codes "EDGE_WEIGHT_TYPE : EXPLICIT\n"
+    ++ codes "EDGE_WEIGHT_FORMAT : LOWER_DIAG_ROW\n" ++ codes "NODE_COORD_TYPE : TWOD_COORDS\n"
+    ++ codes "DISPLAY_DATA_TYPE : TWOD_DISPLAY\n" ++ codes "NODE_COORD_SECTION\n1 1.5 0\n2 -0.000000001 4\n"
+    ++ codes "DISPLAY_DATA_SECTION\n1 0 0\n2 0 1\n" ++ codes "DEMAND_SECTION\n1 0\n2 5\n" ++ codes "DEPOT_SECTION\n1\n-1\n"
+    ++ codes "FIXED_EDGES_SECTION\n1 2\n-1\n" ++ codes "EDGE_WEIGHT_SECTION\n0\n-7 9\n"
+    ++ codes "TOUR_SECTION\n2\n1\n-1\n1\n-1\n" ++ codes "NODE_POTENTIAL_SECTION\n1 0\n2 -2\n"
+    ++ codes "ROW_POTENTIAL_SECTION\n1 1\n2 2\n" ++ codes "COLUMN_POTENTIAL_SECTION\n1 3\n2 4\n"
+    ++ codes "FIXED_EDGE_POTENTIAL_SECTION\n1 2 7\n-1\n" ++ codes "COMB_SECTION\n1 2 3 -1\n1 4 -1\n-1\n2 -1\n-1\n-1\n"
+    ++ codes "BRANCH_SECTION\n1 2\n0 2 1 7 -3 -1\n0 -1\n" ++ codes "EOF\n"
 
 -- a node in space, which is shown on a plane
 abbrev pub spatial_node : Fields

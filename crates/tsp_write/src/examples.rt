@@ -5,7 +5,7 @@ ghost use Rattle.std.specs.Prelude.{◌≡◌, [], codes};
 ghost use Rattle.tsp_value.specs.declared.field.Field.TheVariants as fields;
 ghost use Rattle.tsp_fields.specs.Fields.{blank_fields};
 ghost use Rattle.tsp_write.specs.Text.{text_of, text_of_field};
-ghost use Rattle.tsp_write.specs.Examples.{IsWritten, spatial_node, two_tours, without_combs};
+ghost use Rattle.tsp_write.specs.Examples.{IsWritten, small, small_text, spatial_node, two_tours, without_combs};
 
 /// The lines of keywords.
 pub fn examples_of_lines()
@@ -43,5 +43,6 @@ pub fn examples_of_sections()
     ensures shown { text_of_field spatial_node fields.DisplayDataPart ≡ codes "DISPLAY_DATA_SECTION\n1 0 1\n" }
     ensures missing { text_of_field blank_fields fields.TourPart ≡ [] }
     ensures whole { text_of two_tours ≡ codes "TYPE : TOUR\nDIMENSION : 2\nTOUR_SECTION\n2\n1\n-1\n1\n-1\nEOF\n" }
+    ensures all_fields { text_of small ≡ small_text }
     ensures nothing { text_of blank_fields ≡ codes "EOF\n" }
 {}

@@ -1,4 +1,4 @@
-use Rattle.std.proofs.Common.{rules}
+use Rattle.std.proofs.Common.{rules, refl}
 use Rattle.std.specs.Fmt.{digits}
 use Rattle.tsp_number.specs.Spelling.{decimals}
 use Rattle.tsp_value.specs.Cells.{nodes_to, cells_of_line}
@@ -71,3 +71,7 @@ returns-clause-shown c = search rules
 pub returns-clause-whole : goal.returns-clause-whole
 unfolding digits decimals nodes_to cells_of_line
 returns-clause-whole c = search rules
+
+pub returns-clause-all_fields : goal.returns-clause-all_fields
+unfolding digits decimals nodes_to cells_of_line
+returns-clause-all_fields c = refl
