@@ -1,6 +1,6 @@
 //! How a run of the program ends.
 
-ghost use Rattle.std.specs.Prelude.{◌≡◌, ◌==◌, OnOk, IfSome, take, true};
+ghost use Rattle.std.specs.Prelude.{◌≡◌, ◌==◌, OnOk, MatchOption, take, true};
 ghost use Rattle.std.specs.List.{position};
 ghost use Rattle.tsp_command.specs.Ending.{is_one_line, EndsLine, IsLineOf, Tells, status_of, status_of_fault};
 
@@ -150,7 +150,8 @@ fn tell_fault<W: Write>(fault: RunFault, errors: &mut W) -> io::Result<()>
 /// A text up to its first line's end.
 fn first_line(text: &[u8]) -> &[u8]
     ensures one_line { is_one_line result.now ≡ true }
-    ensures front { IfSome (position (λ b. b == 10) text.now) (λ end. result.now ≡ take end text.now) }
+    ensures front { MatchOption (position (λ b. b == 10) text.now) (result.now ≡ text.now)
+        (λ end. result.now ≡ take end text.now) }
 {
     match text.iter().position(|byte| *byte == b'\n') {
         Some(end) => text.split_at(end).0,

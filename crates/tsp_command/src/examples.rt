@@ -2,6 +2,7 @@
 //! with its code is refused by its examples.
 
 ghost use Rattle.std.specs.Prelude.{◌≡◌, ℕ, None, Some, Ok, Err, pos, codes};
+ghost use Rattle.clap.specs.declared.error.Error.{Error};
 ghost use Rattle.tsp_judge.specs.declared.Verdict.TheVariants as verdicts;
 ghost use Rattle.tsp_judge.specs.declared.Reason.TheVariants as reasons;
 ghost use Rattle.tsp_judge.specs.declared.EndFault.TheVariants as end_faults;
