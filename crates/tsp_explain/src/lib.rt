@@ -5,6 +5,7 @@
 #![tactic(auto)]
 
 mod cause;
+mod examples;
 mod excerpt;
 mod file;
 mod look;
@@ -14,6 +15,7 @@ mod solution;
 mod text;
 mod wanted;
 
+pub use examples::examples_of_shown_bytes;
 pub use file::{explain_file, push_error};
 pub use refusal::{Blame, blamed, explain_reason};
 pub use sentences::{

@@ -117,14 +117,25 @@ pub fn faults_at_the_end()
 pub fn limits_of_lines()
     ensures most_nodes { MissingAtEnd (codes "DIMENSION : 100000") fields.TypeKey }
     ensures more_nodes { NumberAt (codes "DIMENSION : 100001") 1 0 numbers.OutOfRange }
+    ensures no_nodes { NumberAt (codes "DIMENSION : 0") 1 0 numbers.OutOfRange }
     ensures most_nodes_of_a_matrix { MissingAtEnd (codes "DIMENSION : 5000/EDGE_WEIGHT_SECTION") fields.TypeKey }
     ensures more_nodes_of_a_matrix { FaultAt (codes "DIMENSION : 5001/EDGE_WEIGHT_SECTION") 2 0 faults.TooManyNodes }
+    ensures largest_capacity { MissingAtEnd (codes "CAPACITY : 1000000000000") fields.TypeKey }
+    ensures larger_capacity { NumberAt (codes "CAPACITY : 1000000000001") 1 0 numbers.OutOfRange }
+    ensures largest_scale { MissingAtEnd (codes "SCALE : 1000000") fields.TypeKey }
+    ensures larger_scale { NumberAt (codes "SCALE : 1000001") 1 0 numbers.OutOfRange }
+    ensures largest_coordinates { MissingAtEnd (codes "DIMENSION : 1/NODE_COORD_SECTION/1 1000000000 -1000000000")
+        fields.TypeKey }
+    ensures larger_coordinate { NumberAt (codes "DIMENSION : 1/NODE_COORD_SECTION/1 0 1000000000.000000001") 3 3
+        numbers.OutOfRange }
+    ensures largest_demand { MissingAtEnd (codes "DIMENSION : 1/DEMAND_SECTION/1 1000000000") fields.TypeKey }
+    ensures larger_demand { NumberAt (codes "DIMENSION : 1/DEMAND_SECTION/1 1000000001") 3 2 numbers.OutOfRange }
     ensures largest_weights { EndsWith (quad (codes "UPPER_ROW") (codes "1000000000000 -1000000000000")) ends.WrongCount }
     ensures larger_weight { NumberAt (quad (codes "UPPER_ROW") (codes "1 1000000000001")) 6 2 numbers.OutOfRange }
     ensures smaller_weight { NumberAt (quad (codes "UPPER_ROW") (codes "1 2 -1000000000001")) 6 3 numbers.OutOfRange }
     ensures longest { MissingAtEnd longest_line fields.TypeKey }
     ensures longest_kept { MissingAtEnd (other_line 3997) fields.TypeKey }
-    ensures longer { FaultAt (other_line 3998) 1 0 faults.BadValue }
+    ensures longer_kept { FaultAt (other_line 3998) 1 0 faults.BadValue }
     ensures comments { IsLimitOfLines 1000 999 (codes "COMMENT : x") }
     ensures others { IsLimitOfLines 1000 999 (codes "FOO : x") }
 {}

@@ -45,6 +45,8 @@ pub fn examples_of_reasons()
     ensures no_potentials { reason_text reasons.NotPotentials ≡ codes "NotPotentials" }
     ensures their_dimension { reason_text reasons.PotentialsDimension ≡ codes "PotentialsDimension" }
     ensures their_kind { reason_text reasons.PotentialsKind ≡ codes "PotentialsKind" }
+    ensures not_fixed { reason_text (reasons.MultiplierNotFixed 2) ≡ codes "MultiplierNotFixed " ++ decimal 2 }
+    ensures fixed_twice { reason_text (reasons.MultiplierRepeated 3) ≡ codes "MultiplierRepeated " ++ decimal 3 }
     ensures duals { reason_text (reasons.DualInfeasible 1 2) ≡ codes "DualInfeasible " ++ decimal 1 ++ codes " " ++ decimal 2 }
     ensures depots { reason_text reasons.DepotCount ≡ codes "DepotCount" }
     ensures demand { reason_text reasons.DepotDemand ≡ codes "DepotDemand" }
