@@ -51,9 +51,12 @@ fn a_write_or_flush_that_fails_is_handed_on_and_remembered(rt: HostRuntime) {
         holds(&rt, writer.failed());
         same(&rt, outcome(writer.write(b"cd")), Ok(1));
         holds_at(&rt, "a later success doesn't undo it", writer.failed());
+        same(&rt, outcome(writer.flush()), Err(kind));
+        holds(&rt, writer.failed());
         let drip = writer.into_inner();
         same(&rt, drip.held(), b"ac".as_slice());
         same_at(&rt, "each call is one", drip.calls(), 3);
+        same_at(&rt, "no write flushes", drip.flushes(), 1);
         let mut broken = Watched::new(Drip::new(rt.alloc(), 1, NEVER, Refusal::Error(kind)));
         same(&rt, outcome(broken.flush()), Err(kind));
         holds(&rt, broken.failed());
@@ -78,7 +81,10 @@ fn a_write_that_takes_nothing_of_a_text_is_a_failure(rt: HostRuntime) {
     holds(&rt, writer.failed());
     same(&rt, outcome(writer.write(b"")), Ok(0));
     holds(&rt, writer.failed());
+    same(&rt, outcome(writer.flush()), Ok(()));
+    holds_at(&rt, "a flush doesn't undo it", writer.failed());
     let drip = writer.into_inner();
     same(&rt, drip.held(), b"a".as_slice());
     same(&rt, drip.calls(), 4);
+    same_at(&rt, "no write flushes", drip.flushes(), 1);
 }

@@ -8,7 +8,7 @@ use std::test::Fail;
 use tsp_fields::Draft;
 use tsp_stream::{Watched, WriteFault};
 use tsp_testing::devices::{Drip, NEVER, Refusal, outcome};
-use tsp_testing::drafts::{file_of, rectangle, two_tours};
+use tsp_testing::drafts::{file_of, rectangle, two_tours, upper_row};
 use tsp_write::write_file;
 
 /// The text of the draft `rectangle`.
@@ -85,5 +85,34 @@ fn a_long_text_goes_out_in_few_pieces_and_stops_at_a_failure(rt: HostRuntime) ->
         holds(&rt, wanted.as_slice().starts_with(drip.held()));
         same_at(&rt, "it isn't written again", drip.calls(), fails_at + 1);
     }
+    Ok(())
+}
+
+/// The text of a matrix of 100 nodes by the upper rows, all of whose weights are 0: 99 lines with 9,900
+/// bytes.
+fn zero_rows(alloc: Global) -> Result<Vec<u8>, Fail> {
+    let mut text = Vec::from_slice(
+        alloc,
+        b"TYPE : TSP\nDIMENSION : 100\nEDGE_WEIGHT_TYPE : EXPLICIT\nEDGE_WEIGHT_FORMAT : UPPER_ROW\nEDGE_WEIGHT_SECTION\n",
+    )?;
+    for row in 1..100u8 {
+        text.extend_from_slice(b"0")?;
+        for _ in row + 1..100u8 {
+            text.extend_from_slice(b" 0")?;
+        }
+        text.extend_from_slice(b"\n")?;
+    }
+    text.extend_from_slice(b"EOF\n")?;
+    Ok(text)
+}
+
+#[test]
+fn a_matrix_goes_out_in_few_pieces(rt: HostRuntime) -> Result<(), Fail> {
+    let file = file_of(upper_row(rt.alloc(), 100, 4_950)?)?;
+    let mut out = Watched::new(Drip::sound(rt.alloc()));
+    same(&rt, write_file(rt.alloc(), &file, &mut out), Ok(()));
+    let drip = out.into_inner();
+    same(&rt, drip.held(), zero_rows(rt.alloc())?.as_slice());
+    holds_at(&rt, drip.calls(), drip.calls() <= 4);
     Ok(())
 }
