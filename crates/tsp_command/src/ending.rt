@@ -1,8 +1,8 @@
 //! How a run of the program ends.
 
-ghost use Rattle.std.specs.Prelude.{◌≡◌, ◌==◌, OnOk, MatchOption, take, true};
-ghost use Rattle.std.specs.List.{position};
-ghost use Rattle.tsp_command.specs.Ending.{is_one_line, EndsLine, IsLineOf, Tells, status_of, status_of_fault};
+ghost use Rattle.std.specs.Prelude.{◌≡◌, ◌==◌, OnOk};
+ghost use Rattle.std.specs.List.{position, before_first};
+ghost use Rattle.tsp_command.specs.Ending.{EndsLine, IsLineOf, Tells, status_of, status_of_fault};
 
 use arrayvec::ArrayString;
 use clap::Error as Refusal;
@@ -143,17 +143,23 @@ fn tell_fault<W: Write>(fault: RunFault, errors: &mut W) -> io::Result<()>
     let mut text = ArrayString::<MOST_TEXT>::new();
     // Each fault's text is far shorter than the room; a longer one would be cut at its end.
     let _ = write!(text, "{fault}");
-    errors.write_all(first_line(text.as_str().as_bytes()))?;
+    let bytes = text.as_str().as_bytes();
+    errors.write_all(first_line(bytes))?;
     errors.write_all(b"\n")
 }
 
-/// A text up to its first line's end.
-fn first_line(text: &[u8]) -> &[u8]
-    ensures one_line { is_one_line result.now ≡ true }
-    ensures front { MatchOption (position (λ b. b == 10) text.now) (result.now ≡ text.now)
-        (λ end. result.now ≡ take end text.now) }
+/// Where the first line of a text ends.
+fn line_end(text: &[u8]) -> Option<usize>
+    ensures { result ≡ position (λ b. b == 10) text.now }
 {
-    match text.iter().position(|byte| *byte == b'\n') {
+    text.iter().position(|byte| *byte == b'\n')
+}
+
+/// A text up to the end of its first line.
+fn first_line(text: &[u8]) -> &[u8]
+    ensures { result.now ≡ before_first (λ b. b == 10) text.now }
+{
+    match line_end(text) {
         Some(end) => text.split_at(end).0,
         None => text,
     }

@@ -3,6 +3,7 @@ use Rattle.std.specs.Prelude.{Option, OnOk}
 use Rattle.std.specs.Io.KnownBytes.{Appends}
 use Rattle.std.proofs.KnownBytes.{Appends-trans}
 use Rattle.tsp_command.specs.Ending.{is_one_line, EndsLine}
+use Rattle.tsp_command.proofs.FirstLines.{one_line}
 use Rattle.tsp_command.proofs.ending.tell_fault.Goals as goal
 
 line_ended : {E : Type 0} (result : Result (Unit {0}) E) (old between new : Option (List ℕ)) (text : List ℕ) → is_one_line text ≡ true
@@ -11,4 +12,4 @@ line_ended (Ok done) old between new text one told end = (text, one, Appends-tra
 line_ended (Err error) old between new text one told end = tt
 
 pub returns : goal.returns
-returns g c = line_ended c.write_all-2.result _ _ _ _ c.first_line.ensures.one_line c.in_ok-write_all.ensures.bytes c.write_all-2.ensures.bytes
+returns g c = line_ended c.write_all-2.result _ _ _ _ (one_line c.as_bytes-bytes.result.now _ c.first_line.ensures) c.in_ok-write_all.ensures.bytes c.write_all-2.ensures.bytes
