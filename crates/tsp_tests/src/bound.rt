@@ -6,11 +6,11 @@ use crate::asserts::{holds, same};
 use std::alloc::Global;
 use std::cell::Cell;
 use std::test::Fail;
-use tsp_bound::{Duals, Infeasible, Multipliers, OneTree, Potentials, dual_bound, one_tree};
+use tsp_bound::{Duals, Multipliers, OneTree, Potentials, one_tree};
 use tsp_cost::{Costs, Grouped, Instance, Symmetric, View};
 use tsp_fields::Draft;
-use tsp_testing::drafts::{file_of, points, upper_row};
-use tsp_value::{Kind, Layout, WeightFormat, WeightKind};
+use tsp_testing::drafts::{file_of, points};
+use tsp_value::{Kind, WeightKind};
 
 /// The instance that a draft holds.
 fn instance_of(draft: Draft) -> Result<Instance, Fail> {
@@ -65,47 +65,6 @@ fn tree_with(alloc: Global, numbers: &[i64], triple: (u32, u32, i64)) -> Result<
         return Err(Fail::from("no nodes"));
     }
     Ok(one_tree(alloc, &points, &potentials, &multipliers)?)
-}
-
-/// What the duals of an instance give, where there is one for each node.
-fn dual_of(
-    instance: &Instance,
-    scale: i64,
-    rows: &[i64],
-    columns: &[i64],
-) -> Result<Result<i128, Infeasible>, Fail> {
-    let duals = Duals::new(scale, rows, columns).ok_or("no duals")?;
-    if rows.len() != instance.count() as usize {
-        return Err(Fail::from("no dual for each node"));
-    }
-    Ok(dual_bound(instance, &duals))
-}
-
-#[test]
-fn a_tree_of_the_star_rounds_up(rt: HostRuntime) -> Result<(), Fail> {
-    let mut draft = upper_row(rt.alloc(), 4, 0)?;
-    draft.weights = Some(Vec::from_slice(rt.alloc(), &[1i64, 2, 2, 1, 1, 2])?);
-    let star = instance_of(draft)?;
-    let View::Triangle(triangle) = star.view() else {
-        return Err(Fail::from("no triangle"));
-    };
-    let tree = tree_under(rt.alloc(), &triangle, 2, &[0, 1, 0, 0])?;
-    same(&rt, (tree.weight, tree.bound), (13, 6));
-    Ok(())
-}
-
-#[test]
-fn duals_of_three_nodes_round_up_or_fail_at_a_pair(rt: HostRuntime) -> Result<(), Fail> {
-    let mut draft = upper_row(rt.alloc(), 3, 0)?;
-    draft.kind = Some(Kind::Atsp);
-    draft.weight_format = Some(WeightFormat::Listed(Layout::FullMatrix));
-    draft.weights = Some(Vec::from_slice(rt.alloc(), &[9999, 1, 10, 10, 9999, 2, 3, 10, 9999])?);
-    let instance = instance_of(draft)?;
-    let none = [0i64, 0, 0];
-    same(&rt, dual_of(&instance, 2, &[2, 4, 5], &none)?, Ok(6));
-    let infeasible = Err(Infeasible { i: 3, j: 1 });
-    same(&rt, dual_of(&instance, 1, &[1, 2, 4], &none)?, infeasible);
-    Ok(())
 }
 
 #[test]

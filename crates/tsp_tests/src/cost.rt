@@ -92,22 +92,6 @@ fn an_uneven_matrix_has_a_first_uneven_pair(rt: HostRuntime) -> Result<(), Fail>
     Ok(())
 }
 
-#[test]
-fn an_even_matrix_keeps_its_costs(rt: HostRuntime) -> Result<(), Fail> {
-    let instance = instance_of(full_matrix(rt.alloc(), 3, &[7, 1, 3, 1, 8, 2, 3, 2, 9])?)?;
-    same(&rt, symmetric_fault(&instance), None);
-    let View::Matrix(matrix) = instance.view() else {
-        return Err(Fail::from("no matrix"));
-    };
-    let Ok(even) = matrix.even() else {
-        return Err(Fail::from("not even"));
-    };
-    same(&rt, cost_of(&even, 1, 2), Some(1));
-    same(&rt, cost_of(&even, 3, 2), Some(2));
-    same(&rt, cost_of(&even, 2, 2), Some(8));
-    Ok(())
-}
-
 /// Which cells a layout lists: those above the diagonal, on it and below it; and whether it goes by
 /// columns.
 const LISTED: &[(Layout, bool, bool, bool, bool)] = &[

@@ -1,5 +1,4 @@
-//! Which drafts are files, and what a file lends.
+//! Which drafts are files, and what comes back of a file that is refused.
 
-mod lends;
 mod relayout;
 mod rules;
