@@ -3,7 +3,7 @@ use Rattle.std.specs.Prelude.{ℕ, List}
 use Rattle.tsp_fields.specs.Fields.{Fields}
 use Rattle.tsp_items.specs.Text.{Spells}
 use Rattle.tsp_verdict.specs.declared.verdict.Verdict.{Verdict}
-use Rattle.tsp_verdict.specs.Tours.{IsVerdict}
+use Rattle.tsp_verdict.specs.Tours.{IsTourVerdict}
 
 -- the texts spell files, and this is the verdict on the second one's tour of the first one's instance
 pub record IsVerdictOnTexts (instance_text solution_text : List ℕ) (verdict : Verdict) : Type 0 where
@@ -11,4 +11,4 @@ pub record IsVerdictOnTexts (instance_text solution_text : List ℕ) (verdict : 
   pub solution : Fields
   pub first_file : Spells instance_text instance
   pub second_file : Spells solution_text solution
-  pub judged : IsVerdict instance solution verdict
+  pub judged : IsTourVerdict instance solution verdict

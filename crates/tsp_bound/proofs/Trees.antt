@@ -6,7 +6,7 @@ use Rattle.std.proofs.lemmas.List.{get_or-set_same, get_or-set_other}
 use Rattle.std.proofs.lemmas.Int.{ints}
 use Rattle.tsp_bound.specs.declared.area.Area.{Area}
 use Rattle.tsp_bound.specs.declared.boxes.Best.{Best}
-use Rattle.tsp_bound.specs.Boxes.{up, node_at, is_outside, area_at, AreHeldFrom, AreHeld, IsRefit, Keeps, IsKnown, IsBoundOf, IsFound, IsBest, IsSearched, no_best}
+use Rattle.tsp_bound.specs.Boxes.{up, node_at, is_outside, area_at, AreHeldFrom, AreHeld, IsRefit, KeepsHeld, IsKnown, IsBoundOf, IsFound, IsBest, IsSearched, no_best}
 use Rattle.tsp_bound.specs.Heap.{IsNearest}
 
 -- ---- numbers of boxes
@@ -222,7 +222,7 @@ nearest_is w places outside from best weight all found is = record {
 -- once a node is taken in
 pub held_taken : (In : Option Area → ℕ → Type 0) (places : List ℕ) (outside : List Bool) (old new : List (Option Area)) (count node : ℕ) (area : Option Area)
     → count ≡ length places → length old ≡ 2 * length places
-    → node < length places → node < length outside → Keeps In count (set old (count + node) area) new
+    → node < length places → node < length outside → KeepsHeld In count (set old (count + node) area) new
     → AreHeld In places outside old → AreHeld In places (set outside node false) new
 held_taken In places outside old new count node area is len node_in in_marks keeps held = keeps places (set outside node false) (sym is)
     (subst (λ (k : ℕ). AreHeld In places (set outside node false) (set old (k + node) area)) (sym is)

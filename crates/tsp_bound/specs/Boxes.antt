@@ -9,9 +9,9 @@ use Rattle.tsp_bound.specs.declared.area.Area.{Area}
 use Rattle.tsp_bound.specs.declared.boxes.Best.{Best}
 
 -- the node's place lies in the box, and its potential is no less than the box's least
-abbrev pub Holds : (ℕ → Point) → List ℤ → Option Area → ℕ → Type 0
-Holds place numbers None node = ⊥
-Holds place numbers (Some area) node = IsIn area.region (place node) × (area.least ≤ℤ entry numbers node)
+abbrev pub HoldsNode : (ℕ → Point) → List ℤ → Option Area → ℕ → Type 0
+HoldsNode place numbers None node = ⊥
+HoldsNode place numbers (Some area) node = IsIn area.region (place node) × (area.least ≤ℤ entry numbers node)
 
 -- the box h levels above the box v: 2 * v and 2 * v + 1 are the halves of v
 abbrev pub up : ℕ → ℕ → ℕ
@@ -46,8 +46,8 @@ pub record IsRefit (In : Option Area → ℕ → Type 0) (old new : List (Option
   pub right : (p : ℕ) → In (area_at old (2 * v + 1)) p → In area p
 
 -- where the old boxes hold the nodes outside, so do the new ones
-abbrev pub Keeps : (Option Area → ℕ → Type 0) → ℕ → List (Option Area) → List (Option Area) → Type 0
-Keeps In n old new = (order : List ℕ) (outside : List Bool) → length order ≡ n → AreHeld In order outside old
+abbrev pub KeepsHeld : (Option Area → ℕ → Type 0) → ℕ → List (Option Area) → List (Option Area) → Type 0
+KeepsHeld In n old new = (order : List ℕ) (outside : List Bool) → length order ≡ n → AreHeld In order outside old
     → AreHeld In order outside new
 
 -- the least number of 64 bits says nothing
@@ -82,12 +82,13 @@ pub record IsSearched (w : ℕ → ℕ → ℤ) (order : List ℕ) (outside : Li
 
 -- ---- each has one proof at most
 
-pub Holds-prop : (place : ℕ → Point) (numbers : List ℤ) (area : Option Area) (node : ℕ) → IsProp (Holds place numbers area node)
-Holds-prop place numbers None node = ⊥_prop
-Holds-prop place numbers (Some area) node = Prim.hlevel logic.props
+pub HoldsNode-prop : (place : ℕ → Point) (numbers : List ℤ) (area : Option Area) (node : ℕ)
+    → IsProp (HoldsNode place numbers area node)
+HoldsNode-prop place numbers None node = ⊥_prop
+HoldsNode-prop place numbers (Some area) node = Prim.hlevel logic.props
 
 pub AreHeld-prop : (place : ℕ → Point) (numbers : List ℤ) (order : List ℕ) (outside : List Bool) (areas : List (Option Area))
-    → IsProp (AreHeld (Holds place numbers) order outside areas)
+    → IsProp (AreHeld (HoldsNode place numbers) order outside areas)
 AreHeld-prop place numbers order outside areas =
-    Π_prop λ j. Π_prop λ h. Π_prop λ _. Π_prop λ _. Π_prop λ _. Holds-prop place numbers (area_at areas (up h (length order + j)))
-    (node_at order j)
+    Π_prop λ j. Π_prop λ h. Π_prop λ _. Π_prop λ _. Π_prop λ _.
+    HoldsNode-prop place numbers (area_at areas (up h (length order + j))) (node_at order j)

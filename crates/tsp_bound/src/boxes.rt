@@ -7,7 +7,7 @@ ghost use Rattle.tsp_value.specs.Cells.{IsNode};
 ghost use Rattle.tsp_value.specs.Limits.{most_scale, most_weight, most_potential};
 ghost use Rattle.tsp_theory.specs.Numbers.{IsFromTo, IsScale, entry};
 ghost use Rattle.tsp_bound.specs.Potentials.{scale_of, numbers_of, weight_under};
-ghost use Rattle.tsp_bound.specs.Boxes.{Holds, AreHeld, IsRefit, Keeps, IsKnown, IsBoundOf, IsSearched, no_best, node_at, area_at};
+ghost use Rattle.tsp_bound.specs.Boxes.{HoldsNode, AreHeld, IsRefit, KeepsHeld, IsKnown, IsBoundOf, IsSearched, no_best, node_at, area_at};
 
 use crate::area::Area;
 use crate::potentials::Potentials;
@@ -34,10 +34,10 @@ fn lesser(a: i64, b: i64) -> i64
 /// A box that holds what either box holds.
 #[inline]
 fn joined(first: &Option<Area>, second: &Option<Area>) -> Option<Area>
-    ensures left { (place : ℕ → Point) (numbers : List ℤ) (node : ℕ) → Holds place numbers first.now node
-        → Holds place numbers result node }
-    ensures right { (place : ℕ → Point) (numbers : List ℤ) (node : ℕ) → Holds place numbers second.now node
-        → Holds place numbers result node }
+    ensures left { (place : ℕ → Point) (numbers : List ℤ) (node : ℕ) → HoldsNode place numbers first.now node
+        → HoldsNode place numbers result node }
+    ensures right { (place : ℕ → Point) (numbers : List ℤ) (node : ℕ) → HoldsNode place numbers second.now node
+        → HoldsNode place numbers result node }
 {
     match first {
         None => *second,
@@ -58,7 +58,7 @@ fn refit(areas: &mut Vec<Option<Area>>, count: usize, v: usize)
     requires len { length areas.old.items ≡ 2 * count }
     ensures len { length areas.new.items ≡ 2 * count }
     ensures refit { (place : ℕ → Point) (numbers : List ℤ)
-        → IsRefit (Holds place numbers) areas.old.items areas.new.items v }
+        → IsRefit (HoldsNode place numbers) areas.old.items areas.new.items v }
 {
     let area = joined(&areas[2 * v], &areas[2 * v + 1]);
     areas[v] = area;
@@ -70,7 +70,7 @@ pub(crate) fn raise(areas: &mut Vec<Option<Area>>, count: usize, leaf: usize)
     requires len { length areas.old.items ≡ 2 * count }
     ensures len { length areas.new.items ≡ 2 * count }
     ensures keeps { (place : ℕ → Point) (numbers : List ℤ)
-        → Keeps (Holds place numbers) count areas.old.items areas.new.items }
+        → KeepsHeld (HoldsNode place numbers) count areas.old.items areas.new.items }
 {
     let mut v = leaf / 2;
     'raise: while v > 0 {
@@ -129,7 +129,7 @@ fn bound_of<C: Grouped>(
     requires from { IsNode (C.nodes c.now) from }
     requires box_in { v < length areas.now }
     ensures { IsBoundOf (IsNode (C.nodes c.now))
-        (Holds (C.place c.now) (numbers_of p.now) (area_at areas.now v))
+        (HoldsNode (C.place c.now) (numbers_of p.now) (area_at areas.now v))
         (weight_under p.now (C.at c.now) from) result }
 {
     *steps = steps.wrapping_add(1);
@@ -169,10 +169,10 @@ fn halves<C: Grouped>(
     ensures both { result.0.v ≢ result.1.v }
     ensures nearer { result.0.bound ≤ℤ result.1.bound }
     ensures bound { IsBoundOf (IsNode (C.nodes c.now))
-        (Holds (C.place c.now) (numbers_of p.now) (area_at areas.now result.0.v))
+        (HoldsNode (C.place c.now) (numbers_of p.now) (area_at areas.now result.0.v))
         (weight_under p.now (C.at c.now) from) result.0.bound }
     ensures other_bound { IsBoundOf (IsNode (C.nodes c.now))
-        (Holds (C.place c.now) (numbers_of p.now) (area_at areas.now result.1.v))
+        (HoldsNode (C.place c.now) (numbers_of p.now) (area_at areas.now result.1.v))
         (weight_under p.now (C.at c.now) from) result.1.bound }
 {
     let left = bound_of(c, p, areas, 2 * v, from, steps);
@@ -245,7 +245,7 @@ fn search<C: Grouped>(
     requires boxes { length areas.now ≡ 2 * length order.now }
     requires low { 1 ≤ v }
     requires high { v < 2 * length order.now }
-    requires held { AreHeld (Holds (C.place c.now) (numbers_of p.now)) order.now outside.now areas.now }
+    requires held { AreHeld (HoldsNode (C.place c.now) (numbers_of p.now)) order.now outside.now areas.now }
     ensures { IsSearched (weight_under p.now (C.at c.now)) order.now outside.now from v best result }
 {
     if v >= order.len() {
@@ -284,7 +284,7 @@ pub(crate) fn nearest_from<C: Grouped>(
     requires boxes { length areas.now ≡ 2 * length order.now }
     requires place { place < length order.now }
     requires near { near < length order.now }
-    requires held { AreHeld (Holds (C.place c.now) (numbers_of p.now)) order.now outside.now areas.now }
+    requires held { AreHeld (HoldsNode (C.place c.now) (numbers_of p.now)) order.now outside.now areas.now }
     ensures { IsSearched (weight_under p.now (C.at c.now)) order.now outside.now
         (node_at order.now place) 1 no_best result }
 {
@@ -311,7 +311,7 @@ pub(crate) fn nearest_from<C: Grouped>(
 fn area_of<C: Grouped>(c: &C, p: &Potentials, node: u32) -> Option<Area>
     requires count { length (numbers_of p.now) ≡ C.nodes c.now }
     requires node { IsNode (C.nodes c.now) node }
-    ensures { IfSome result (λ area. Holds (C.place c.now) (numbers_of p.now) (Some area) node) }
+    ensures { IfSome result (λ area. HoldsNode (C.place c.now) (numbers_of p.now) (Some area) node) }
 {
     match c.region(node) {
         None => None,
@@ -336,7 +336,7 @@ pub(crate) fn boxes_of<C: Grouped>(
     requires few { length order.now < 2 ^ 31 }
     ensures len { IfOk result (λ made. IfSome made (λ areas. length areas.items ≡ 2 * length order.now)) }
     ensures held { IfOk result (λ made. IfSome made (λ areas. (outside : List Bool)
-        → AreHeld (Holds (C.place c.now) (numbers_of p.now)) order.now outside areas.items)) }
+        → AreHeld (HoldsNode (C.place c.now) (numbers_of p.now)) order.now outside areas.items)) }
 {
     let count = order.len();
     let mut areas: Vec<Option<Area>> = vec![in alloc; None; 2 * count]?;

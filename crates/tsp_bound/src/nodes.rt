@@ -6,7 +6,7 @@ ghost use Rattle.tsp_bound.specs.Multipliers.{nodes_in};
 ghost use Rattle.tsp_bound.specs.Numbering.{IsNumbering};
 ghost use Rattle.tsp_bound.specs.Potentials.{numbers_of};
 ghost use Rattle.tsp_theory.specs.Tree.{IsInner};
-ghost use Rattle.tsp_bound.specs.Boxes.{Holds, AreHeld, AreHeld-prop, node_at};
+ghost use Rattle.tsp_bound.specs.Boxes.{HoldsNode, AreHeld, AreHeld-prop, node_at};
 
 use crate::area::Area;
 use crate::boxes::{Best, boxes_of, nearest_from, raise};
@@ -37,7 +37,7 @@ pub(crate) struct Nodes<'a, C: Grouped> {
     ghost few: { length order.now < 2 ^ 31 },
     ghost as_many: { length outside.items ≡ length order.now },
     ghost boxes: { length areas.items ≡ 2 * length order.now },
-    ghost held: { AreHeld (Holds (C.place c.now) (numbers_of p)) order.now outside.items areas.items } by { AreHeld-prop (C.place c.now) (numbers_of p) order.now outside.items areas.items },
+    ghost held: { AreHeld (HoldsNode (C.place c.now) (numbers_of p)) order.now outside.items areas.items } by { AreHeld-prop (C.place c.now) (numbers_of p) order.now outside.items areas.items },
 }
 
 impl<'a, C: Grouped> Nodes<'a, C> {

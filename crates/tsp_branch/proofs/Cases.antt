@@ -7,7 +7,7 @@ use Rattle.std.proofs.lemmas.List.Elements.{recursion_from_All, All-cons}
 use Rattle.tsp_walk.specs.Walk.{IsWalk}
 use Rattle.tsp_walk.specs.Length.{length_of}
 use Rattle.tsp_theory.proofs.Neighbours.{neighbours_or_not}
-use Rattle.tsp_branch.specs.Decisions.{Decision, Keeps}
+use Rattle.tsp_branch.specs.Decisions.{Decision, KeepsDecision}
 use Rattle.tsp_branch.specs.Cases.{Step, Branch, Leaf, are_trees, decide, leaves_of, cases_of, KeepsOne, WalksKeepLeaves, BoundsCase, CasesBoundWalks, BoundsButOpen, StacksHoldCases}
 
 -- ---- the tree
@@ -17,8 +17,8 @@ branched : (nodes : List ℕ) (pair : ℕ × ℕ) (case : List Decision) (cases 
     → KeepsOne nodes (decide pair true case ∷ decide pair false case ∷ cases)
 branched nodes pair case cases (inr later) = inr (inr later)
 branched nodes pair case cases (inl here) = elim (neighbours_or_not nodes pair) [
-  | inl used ↦ inl (All-cons (Keeps nodes) (record { pair = pair; taken = true }) case used here)
-  | inr unused ↦ inr (inl (All-cons (Keeps nodes) (record { pair = pair; taken = false }) case unused here))
+  | inl used ↦ inl (All-cons (KeepsDecision nodes) (record { pair = pair; taken = true }) case used here)
+  | inr unused ↦ inr (inl (All-cons (KeepsDecision nodes) (record { pair = pair; taken = false }) case unused here))
 ]
 
 kept : (nodes : List ℕ) (cases : List (List Decision)) (steps : List Step) → are_trees (length cases) steps ≡ true → KeepsOne nodes cases → KeepsOne nodes (cases_of (leaves_of cases steps))

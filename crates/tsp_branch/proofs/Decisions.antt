@@ -5,10 +5,10 @@ use Rattle.std.specs.List.{AllByRecursion}
 use Rattle.std.proofs.lemmas.List.Elements.{recursion_from_All, All-from_recursion}
 use Rattle.tsp_walk.specs.Walk.{AreNeighbours}
 use Rattle.tsp_theory.specs.Adjusted.{pair_of, UsesEach, UsesNone, AdjustedBoundsBoundWalks}
-use Rattle.tsp_branch.specs.Decisions.{Decision, KeepsPair, Keeps, KeepsAll, take_pairs, on_taken, on_avoided, DecidedBoundsBoundWalks, FixedBoundsBoundTours}
+use Rattle.tsp_branch.specs.Decisions.{Decision, KeepsPair, KeepsDecision, KeepsAll, take_pairs, on_taken, on_avoided, DecidedBoundsBoundWalks, FixedBoundsBoundTours}
 
 pub takes_each : (nodes : List ℕ) (number : ℤ) (decisions : List Decision) → KeepsAll nodes decisions → UsesEach (on_taken number decisions) nodes
-takes_each nodes number decisions keeps = All-from_recursion Used (on_taken number decisions) (each decisions (recursion_from_All (Keeps nodes) decisions keeps))
+takes_each nodes number decisions keeps = All-from_recursion Used (on_taken number decisions) (each decisions (recursion_from_All (KeepsDecision nodes) decisions keeps))
   where
     Used : ℕ × ℕ × ℤ → Type 0
     Used triple = AreNeighbours nodes (pair_of triple)
@@ -18,12 +18,12 @@ takes_each nodes number decisions keeps = All-from_recursion Used (on_taken numb
     one_more true pair triples kept used = (kept, used)
     one_more false pair triples kept used = used
 
-    each : (decisions : List Decision) → AllByRecursion (Keeps nodes) decisions → AllByRecursion Used (on_taken number decisions)
+    each : (decisions : List Decision) → AllByRecursion (KeepsDecision nodes) decisions → AllByRecursion Used (on_taken number decisions)
     each [] kept = tt
     each (d ∷ ds) kept = one_more d.taken d.pair (on_taken number ds) kept.0 (each ds kept.1)
 
 pub takes_none : (nodes : List ℕ) (number : ℤ) (decisions : List Decision) → KeepsAll nodes decisions → UsesNone (on_avoided number decisions) nodes
-takes_none nodes number decisions keeps = All-from_recursion Unused (on_avoided number decisions) (each decisions (recursion_from_All (Keeps nodes) decisions keeps))
+takes_none nodes number decisions keeps = All-from_recursion Unused (on_avoided number decisions) (each decisions (recursion_from_All (KeepsDecision nodes) decisions keeps))
   where
     Unused : ℕ × ℕ × ℤ → Type 0
     Unused triple = AreNeighbours nodes (pair_of triple) → ⊥
@@ -33,7 +33,7 @@ takes_none nodes number decisions keeps = All-from_recursion Unused (on_avoided 
     one_more true pair triples kept unused = unused
     one_more false pair triples kept unused = (kept, unused)
 
-    each : (decisions : List Decision) → AllByRecursion (Keeps nodes) decisions → AllByRecursion Unused (on_avoided number decisions)
+    each : (decisions : List Decision) → AllByRecursion (KeepsDecision nodes) decisions → AllByRecursion Unused (on_avoided number decisions)
     each [] kept = tt
     each (d ∷ ds) kept = one_more d.taken d.pair (on_avoided number ds) kept.0 (each ds kept.1)
 
@@ -56,8 +56,8 @@ fixed_bounds_bound_tours bounds n cost scale potentials fixed bound nodes some e
 
 -- a tour takes the fixed pairs
 pub tours_keep_fixed : (nodes : List ℕ) (fixed : List (ℕ × ℕ)) → AllByRecursion (AreNeighbours nodes) fixed → KeepsAll nodes (take_pairs fixed)
-tours_keep_fixed nodes fixed used = All-from_recursion (Keeps nodes) (take_pairs fixed) (each fixed used)
+tours_keep_fixed nodes fixed used = All-from_recursion (KeepsDecision nodes) (take_pairs fixed) (each fixed used)
   where
-    each : (pairs : List (ℕ × ℕ)) → AllByRecursion (AreNeighbours nodes) pairs → AllByRecursion (Keeps nodes) (take_pairs pairs)
+    each : (pairs : List (ℕ × ℕ)) → AllByRecursion (AreNeighbours nodes) pairs → AllByRecursion (KeepsDecision nodes) (take_pairs pairs)
     each [] used = tt
     each (pair ∷ pairs) used = (used.0, each pairs used.1)

@@ -18,11 +18,11 @@ KeepsPair nodes true pair = AreNeighbours nodes pair
 KeepsPair nodes false pair = AreNeighbours nodes pair → ⊥
 
 -- a walk keeps a decision: the two nodes are neighbours on it, in either direction, exactly if the pair is taken
-abbrev pub Keeps : List ℕ → Decision → Type 0
-Keeps nodes decision = KeepsPair nodes decision.taken decision.pair
+abbrev pub KeepsDecision : List ℕ → Decision → Type 0
+KeepsDecision nodes decision = KeepsPair nodes decision.taken decision.pair
 
 abbrev pub KeepsAll : List ℕ → List Decision → Type 0
-KeepsAll nodes decisions = All (Keeps nodes) decisions
+KeepsAll nodes decisions = All (KeepsDecision nodes) decisions
 
 -- no two decisions are on the same two nodes
 abbrev pub DecideOnce : List Decision → Type 0

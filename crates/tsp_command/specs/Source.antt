@@ -1,5 +1,10 @@
 -- What a clause sees of a file that may be missing.
-use Rattle.std.specs.Prelude.{ℕ, Bool, true, false, List, Option, None}
+use Rattle.std.specs.Prelude.{◌≡◌, ℕ, ℤ, Bool, true, false, List, Option, None, Some, Result, Ok, Err}
+use Rattle.std.specs.IoError.{error_kind, raw_os_error}
+use Rattle.std.specs.declared.io.Error.{Error}
+use denote.Ref.{MutBor}
+use denote.Param.Members.{Once}
+use Rattle.tsp_stream.specs.Watched.{Calls}
 use Rattle.tsp_words.specs.declared.task.Place.{Place}
 use Rattle.tsp_words.specs.declared.task.Place.TheVariants as places
 use Rattle.tsp_command.specs.declared.source.Source.{Source}
@@ -24,3 +29,27 @@ IsSourceOf places.Input (Missing error) = ⊥
 IsSourceOf (places.Path path) (Input input) = ⊥
 IsSourceOf (places.Path path) (Opened file) = Unit {0}
 IsSourceOf (places.Path path) (Missing error) = Unit {0}
+
+-- ---- what a read does
+
+-- of the error's number of the system, which a second error has too; where it has none, they are of the same kind
+abbrev pub HasNumber : Option ℤ → Error → Error → Type 0
+HasNumber (Some code) error other = raw_os_error other ≡ Some code
+HasNumber None error other = error_kind other ≡ error_kind error
+
+abbrev pub IsSameError : Error → Error → Type 0
+IsSameError error other = HasNumber (raw_os_error error) error other
+
+-- a call of a reader at a `&mut` to it, and one to the room for what it gives, which answers an R
+abbrev pub Asking : Type 0 → Type 0 → Type 0 → Type 0 → Type 1
+Asking Call T B R = Once Call (MutBor T × (MutBor B × Unit {0})) (R × (MutBor T × (MutBor B × Unit {0})))
+
+-- Standard input or the file is asked by its call, once, and its answer is this one, as it is. A missing file answers an error
+-- that is the same as its own.
+abbrev pub IsAsked : {I F B A Call Other : Type 0} → Asking Call I B (Result A Error) → Call
+    → Asking Other F B (Result A Error) → Other → Source I F → B → Result A Error → Source I F → B → Type 0
+IsAsked asks call puts other (Input old) room answer (Input new) filled = Calls asks call old room answer new filled
+IsAsked asks call puts other (Opened old) room answer (Opened new) filled = Calls puts other old room answer new filled
+IsAsked asks call puts other (Missing error) room (Err found) (Missing left) filled = IsSameError error found
+    × (left ≡ error) × (filled ≡ room)
+IsAsked asks call puts other old room answer new filled = ⊥

@@ -4,7 +4,7 @@ ghost use Rattle.std.specs.Prelude.{◌≡◌, IsTrue, IsErr, MatchResult};
 ghost use Rattle.std.specs.Io.{ReadsAtMost};
 ghost use Rattle.std.specs.Io.KnownBytes.{ReadConsumes};
 ghost use Rattle.tsp_words.specs.declared.task.Place.{Place};
-ghost use Rattle.tsp_command.specs.Source.{remaining_of, is_missing};
+ghost use Rattle.tsp_command.specs.Source.{remaining_of, is_missing, IsAsked, IsSameError};
 
 use std::io;
 use std::io::Read;
@@ -44,6 +44,30 @@ impl<I, F> Source<I, F> {
     }
 }
 
+impl<I, F> Source<I, F> {
+    /// Asks standard input or the file once, with room for what it gives, and hands on what it answers,
+    /// as it is. A missing file answers its error, and nothing is asked.
+    fn ask<A, OfInput, OfFile>(
+        &mut self,
+        room: &mut [u8],
+        of_input: OfInput,
+        of_file: OfFile,
+    ) -> io::Result<A>
+    where
+        OfInput: FnOnce(&mut I, &mut [u8]) -> io::Result<A> + Drop,
+        OfFile: FnOnce(&mut F, &mut [u8]) -> io::Result<A> + Drop,
+        requires { OfInput.IsAlwaysCallable of_input }
+        requires { OfFile.IsAlwaysCallable of_file }
+        ensures asked { IsAsked OfInput.FnOnce of_input OfFile.FnOnce of_file self.old room.old result self.new room.new }
+    {
+        match self {
+            Source::Input(input) => of_input(input, room),
+            Source::Opened(file) => of_file(file, room),
+            Source::Missing(error) => Err(same_error(error)),
+        }
+    }
+}
+
 impl<I: Read, F: Read> Read for Source<I, F> {
     ghost remaining = { remaining_of I.remaining F.remaining };
 
@@ -53,16 +77,14 @@ impl<I: Read, F: Read> Read for Source<I, F> {
             (remaining_of I.remaining F.remaining self.new) result buf.new }
         ensures missing { IsTrue (is_missing self.old) → IsErr result }
     {
-        match self {
-            Source::Input(input) => input.read(buf),
-            Source::Opened(file) => file.read(buf),
-            Source::Missing(error) => Err(same_error(error)),
-        }
+        self.ask(buf, |input, room| input.read(room), |file, room| file.read(room))
     }
 }
 
-/// An error of the same kind, with the number that the system gave it.
-fn same_error(error: &io::Error) -> io::Error {
+/// An error with the same number of the system, or, where it has none, of the same kind.
+fn same_error(error: &io::Error) -> io::Error
+    ensures { IsSameError error.now result }
+{
     match error.raw_os_error() {
         Some(code) => io::Error::from_raw_os_error(code),
         None => io::Error::from(error.kind()),

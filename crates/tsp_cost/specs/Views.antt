@@ -44,16 +44,16 @@ abbrev pub triangle_cost : Triangle → ℕ → ℕ → ℤ
 triangle_cost t i j = listed_cost t.layout t.nodes t.weights.now i j
 
 -- a view keeps the number of nodes and every cost
-pub record Keeps (f : Fields) (nodes : ℕ) (costs : ℕ → ℕ → ℤ) : Type 0 where
+pub record HasCosts (f : Fields) (nodes : ℕ) (costs : ℕ → ℕ → ℤ) : Type 0 where
   pub count : f.dimension ≡ Some nodes
   pub every : (i j : ℕ) → costs i j ≡ cost f i j
 
 -- points where the weights are distances, a matrix where all are listed, a triangle where half of them are
 abbrev pub Shows : Fields → View → Type 0
 Shows f (views.Plane p) = (is_explicit f.weight_kind ≡ false)
-    × Keeps f (points_nodes p) (points_cost (λ point. on_plane point.x point.y) p)
-Shows f (views.Space p) = (is_explicit f.weight_kind ≡ false) × Keeps f (points_nodes p) (points_cost (λ point. point) p)
+    × HasCosts f (points_nodes p) (points_cost (λ point. on_plane point.x point.y) p)
+Shows f (views.Space p) = (is_explicit f.weight_kind ≡ false) × HasCosts f (points_nodes p) (points_cost (λ point. point) p)
 Shows f (views.Matrix m) = (is_explicit f.weight_kind ≡ true) × (f.weight_format ≡ Some (Listed FullMatrix))
-    × Keeps f (matrix_nodes m) (matrix_cost m)
+    × HasCosts f (matrix_nodes m) (matrix_cost m)
 Shows f (views.Triangle t) = (is_explicit f.weight_kind ≡ true) × (f.weight_format ≢ Some (Listed FullMatrix))
-    × Keeps f (triangle_nodes t) (triangle_cost t)
+    × HasCosts f (triangle_nodes t) (triangle_cost t)

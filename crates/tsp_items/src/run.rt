@@ -6,7 +6,7 @@ ghost use Rattle.tsp_items.specs.Numbers.{IsWhole};
 ghost use Rattle.tsp_items.specs.declared.part.Part.{Part};
 ghost use Rattle.tsp_items.specs.declared.part.Part.TheVariants as parts;
 ghost use Rattle.tsp_items.specs.states.Parts.{IsNodeOf};
-ghost use Rattle.tsp_items.specs.states.Run.{in_group, groups_left, marks_of, TakesRead, Keeps};
+ghost use Rattle.tsp_items.specs.states.Run.{in_group, groups_left, marks_of, TakesRead, KeepsWords};
 
 use crate::parts::points::PointList;
 use crate::parts::space_points::SpacePointList;
@@ -28,7 +28,7 @@ pub trait RunList {
     fn take_whole(&mut self, number: i64) -> bool
         ensures taken { result ≡ true → (word : List ℕ) → IsWhole word number
             → TakesRead (part self.old) (part self.new) word }
-        ensures kept { result ≡ false → Keeps (part self.old) (part self.new) }
+        ensures kept { result ≡ false → KeepsWords (part self.old) (part self.new) }
         ensures refused { result ≡ false → 0 < groups_left (part self.old)
             → in_group (part self.old) ≡ false → (k : ℕ) → number ≡ pos k
             → IsNodeOf (length (marks_of (part self.old))) k
@@ -39,7 +39,7 @@ pub trait RunList {
     fn take_coordinate(&mut self, coordinate: Decimal) -> bool
         ensures taken { result ≡ true → (word : List ℕ) → decimal_of word ≡ Ok coordinate
             → TakesRead (part self.old) (part self.new) word }
-        ensures kept { result ≡ false → Keeps (part self.old) (part self.new) }
+        ensures kept { result ≡ false → KeepsWords (part self.old) (part self.new) }
         ensures refused { result ≡ false → 0 < groups_left (part self.old)
             → in_group (part self.old) ≡ false };
 }

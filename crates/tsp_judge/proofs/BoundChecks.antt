@@ -25,7 +25,7 @@ use Rattle.tsp_judge.specs.Judged.{is_yes}
 use Rattle.tsp_report.specs.Report.{report_of, IsBoundSized, IsSized}
 use Rattle.tsp_judge.specs.Run.{ReadsFile, Answers, told}
 use Rattle.tsp_judge.proofs.Checks.{a_file_of_tours}
-use Rattle.tsp_judge.specs.BoundRun.{is_bounded, IsVerdictWith, IsJudged, IsBoundRun, IsBoundVerdictRun, IsAYes, IsCheckBy, IsVerdictCheckBy}
+use Rattle.tsp_judge.specs.BoundRun.{is_bounded, IsVerdictWith, AreJudgedWith, IsBoundRun, IsBoundVerdictRun, IsAYes, IsCheckBy, IsVerdictCheckBy}
 
 -- ---- by the kind of the certificate
 
@@ -88,7 +88,7 @@ tree (Some kinds.Branches) not = refl
 tree None not = absurd (not refl)
 
 -- what a yes says
-a_yes : (by : Certificate) (first second third : Turn) (sink : Sink) (instance : Fields) (verdict : Verdict) → IsJudged by first second third instance verdict
+a_yes : (by : Certificate) (first second third : Turn) (sink : Sink) (instance : Fields) (verdict : Verdict) → AreJudgedWith by first second third instance verdict
     → true ≡ is_yes verdict → HasWritten sink (report_of instance verdict) → IsAYes by first second third sink
 a_yes Potentials first second third sink instance (verdicts.Tour length bound) j accepted written =
     let b = j.judged.1 in
@@ -139,7 +139,7 @@ a_yes Branches first second third sink instance (verdicts.No reason) j accepted 
 
 judged : (by : Certificate) (first second third : Turn) (instance solution certificate : Fields) (verdict : Verdict) → IsTrue (is_bounded by instance.kind)
     → IsVerdictWith by instance solution certificate verdict → IsFile first instance → IsFile second solution → IsFile third certificate
-    → IsJudged by first second third instance verdict
+    → AreJudgedWith by first second third instance verdict
 judged by first second third instance solution certificate verdict is v one two three = record {
   bounded = is;
   solution = solution;

@@ -15,8 +15,8 @@ use Rattle.tsp_verdict.specs.declared.verdict.Verdict.TheVariants as verdicts
 use Rattle.tsp_judge.specs.declared.fault.RunFault.{RunFault}
 use Rattle.tsp_judge.specs.declared.fault.RunFault.TheVariants.{File, WrongKind, Write, OutOfMemory, Relayout}
 use Rattle.tsp_verdict.specs.declared.verdict.Reason.TheVariants.{NotASolution}
-use Rattle.tsp_verdict.specs.Tours as tours
-use Rattle.tsp_verdict.specs.Routes as routes
+use Rattle.tsp_verdict.specs.Tours.{IsTourVerdict}
+use Rattle.tsp_verdict.specs.Routes.{IsRoutesVerdict}
 use Rattle.tsp_judge.specs.Judged.{IsVerdictBy, IsVerdictOn, is_yes}
 use Rattle.tsp_report.specs.Report.{IsBoundSized, IsSized, report_of}
 use Rattle.tsp_judge.specs.Run.{ReadsFile, IsRun, IsVerdictRun, Answers, told}
@@ -91,7 +91,7 @@ a_file_of_tours None not = absurd (not refl)
 
 -- what a yes says
 a_tour_yes : (first second : Turn) (sink : Sink) (instance solution : Fields) (length : ℤ) (bound : Option ℤ) → IsFile first instance → IsFile second solution
-    → (instance.kind ≡ Some kinds.Tsp) ⊎ (instance.kind ≡ Some kinds.Atsp) → tours.IsVerdict instance solution (verdicts.Tour length bound)
+    → (instance.kind ≡ Some kinds.Tsp) ⊎ (instance.kind ≡ Some kinds.Atsp) → IsTourVerdict instance solution (verdicts.Tour length bound)
     → HasWritten sink (report_of instance (verdicts.Tour length bound)) → IsATourYes first second sink
 a_tour_yes first second sink instance solution length bound one two type v written = record {
   instance = instance;
@@ -107,7 +107,7 @@ a_tour_yes first second sink instance solution length bound one two type v writt
 }
 
 a_routes_yes : (first second : Turn) (sink : Sink) (instance solution : Fields) (length_is : ℤ) (count least : ℕ) → IsFile first instance → IsFile second solution
-    → instance.kind ≡ Some kinds.Cvrp → routes.IsVerdict instance solution (verdicts.Routes length_is count least)
+    → instance.kind ≡ Some kinds.Cvrp → IsRoutesVerdict instance solution (verdicts.Routes length_is count least)
     → HasWritten sink (report_of instance (verdicts.Routes length_is count least)) → IsARoutesYes first second sink
 a_routes_yes first second sink instance solution length_is count least one two type v written = record {
   instance = instance;

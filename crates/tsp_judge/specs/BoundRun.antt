@@ -13,11 +13,11 @@ use Rattle.tsp_read.specs.Reads.{IsFile, StopsAt}
 use Rattle.tsp_verdict.specs.declared.verdict.Verdict.{Verdict}
 use Rattle.tsp_verdict.specs.declared.verdict.Verdict.TheVariants.{Tour}
 use Rattle.tsp_verdict.specs.Solution.{tours_of}
-use Rattle.tsp_verdict.specs.Certificate.{IsBoundBy}
-use Rattle.tsp_verdict.specs.Bounded as by_potentials
-use Rattle.tsp_verdict.specs.Branched as by_branches
-use Rattle.tsp_verdict.specs.Tree as tree
-use Rattle.tsp_verdict.specs.Tours.{NoneBeforeRepeats}
+use Rattle.tsp_verdict.specs.Certificate.{IsBoundByPotentials}
+use Rattle.tsp_verdict.specs.Bounded.{IsBoundedVerdict}
+use Rattle.tsp_verdict.specs.Branched.{IsBranchedVerdict}
+use Rattle.tsp_verdict.specs.Tree.{IsBoundByTree}
+use Rattle.tsp_verdict.specs.Tours.{NoneOfTourBeforeRepeats}
 use Rattle.tsp_verdict.specs.Bounded.{BoundsTours}
 use Rattle.tsp_judge.specs.declared.certificate.Certificate.{Certificate}
 use Rattle.tsp_judge.specs.declared.certificate.Certificate.TheVariants.{Potentials, Branches}
@@ -47,13 +47,13 @@ is_bounded by None = false
 
 -- the verdict with it
 abbrev pub IsVerdictWith : Certificate → Fields → Fields → Fields → Verdict → Type 0
-IsVerdictWith Potentials instance solution certificate verdict = by_potentials.IsVerdict instance solution certificate verdict
-IsVerdictWith Branches instance solution certificate verdict = by_branches.IsVerdict instance solution certificate verdict
+IsVerdictWith Potentials instance solution certificate verdict = IsBoundedVerdict instance solution certificate verdict
+IsVerdictWith Branches instance solution certificate verdict = IsBranchedVerdict instance solution certificate verdict
 
 -- the bound that it gives
 abbrev pub IsBoundOf : Certificate → Fields → Fields → ℤ → Type 0
-IsBoundOf Potentials instance certificate bound = IsBoundBy instance.kind instance certificate bound
-IsBoundOf Branches instance certificate bound = tree.IsBoundBy instance certificate bound
+IsBoundOf Potentials instance certificate bound = IsBoundByPotentials instance.kind instance certificate bound
+IsBoundOf Branches instance certificate bound = IsBoundByTree instance certificate bound
 
 -- ---- the run
 
@@ -62,7 +62,7 @@ abbrev pub IsNoBounded : Certificate → Turn → Type 0
 IsNoBounded by turn = (file : Fields) × IsFile turn file × (is_bounded by file.kind ≡ false)
 
 -- the first file is this instance, whose tours have a bound, and the verdict on the second file with the third is this one
-pub record IsJudged (by : Certificate) (first second third : Turn) (instance : Fields) (verdict : Verdict) : Type 0 where
+pub record AreJudgedWith (by : Certificate) (first second third : Turn) (instance : Fields) (verdict : Verdict) : Type 0 where
   pub bounded : IsTrue (is_bounded by instance.kind)
   pub solution : Fields
   pub certificate : Fields
@@ -73,7 +73,7 @@ pub record IsJudged (by : Certificate) (first second third : Turn) (instance : F
 
 -- The tours of the first file have a bound, and no reason stands against the second one of those that are told without memory:
 -- what else is said of them needs memory.
-pub record NeedsMemory (by : Certificate) (first second third : Turn) : Type 0 where
+pub record NeedsMemoryWith (by : Certificate) (first second third : Turn) : Type 0 where
   pub instance : Fields
   pub solution : Fields
   pub certificate : Fields
@@ -81,13 +81,13 @@ pub record NeedsMemory (by : Certificate) (first second third : Turn) : Type 0 w
   pub second_file : IsFile second solution
   pub third_file : IsFile third certificate
   pub bounded : IsTrue (is_bounded by instance.kind)
-  pub none_before : NoneBeforeRepeats instance solution
+  pub none_before : NoneOfTourBeforeRepeats instance solution
 
 -- What the check answers, as the check of two files does. The first file, in order, that isn't one decides, later ones aren't
 -- read, and then nothing is written; then the first file's TYPE decides.
 abbrev pub IsBoundRun : Certificate → Turn → Turn → Turn → Sink → Result Bool RunFault → Type 0
 IsBoundRun by first second third sink (Ok answer) = (instance : Fields) × (verdict : Verdict)
-    × IsJudged by first second third instance verdict
+    × AreJudgedWith by first second third instance verdict
     × (answer ≡ is_yes verdict) × HasWritten sink (report_of instance verdict)
 IsBoundRun by first second third sink (Err (File file fault)) = IsUnwritten sink
     × (((file ≡ 1) × StopsAt fault first × IsUnread second × IsUnread third)
@@ -95,16 +95,16 @@ IsBoundRun by first second third sink (Err (File file fault)) = IsUnwritten sink
     ⊎ ((file ≡ 3) × IsSomeFile first × IsSomeFile second × StopsAt fault third))
 IsBoundRun by first second third sink (Err WrongKind) = IsUnwritten sink × IsNoBounded by first × IsSomeFile second
     × IsSomeFile third
-IsBoundRun by first second third sink (Err OutOfMemory) = IsUnwritten sink × NeedsMemory by first second third
+IsBoundRun by first second third sink (Err OutOfMemory) = IsUnwritten sink × NeedsMemoryWith by first second third
 IsBoundRun by first second third sink (Err (Relayout fault)) = ⊥
 IsBoundRun by first second third sink (Err (Write write_faults.OutOfMemory)) = ⊥
 IsBoundRun by first second third sink (Err (Write write_faults.Device)) = (instance : Fields) × (verdict : Verdict)
-    × IsJudged by first second third instance verdict × HasStopped sink (report_of instance verdict)
+    × AreJudgedWith by first second third instance verdict × HasStopped sink (report_of instance verdict)
 
 -- The same run, where the verdict itself is answered: at Ok it is that of these files, and the whole report on it was written.
 abbrev pub IsBoundVerdictRun : Certificate → Turn → Turn → Turn → Sink → Result Verdict RunFault → Type 0
-IsBoundVerdictRun by first second third sink (Ok verdict) = (instance : Fields) × IsJudged by first second third instance verdict
-    × HasWritten sink (report_of instance verdict)
+IsBoundVerdictRun by first second third sink (Ok verdict) = (instance : Fields)
+    × AreJudgedWith by first second third instance verdict × HasWritten sink (report_of instance verdict)
 IsBoundVerdictRun by first second third sink (Err fault) = IsBoundRun by first second third sink (Err fault)
 
 -- What a yes says: the second file is one of tours and the third one of the certificate's TYPE; the one tour visits every node

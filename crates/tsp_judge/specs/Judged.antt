@@ -5,14 +5,14 @@ use Rattle.tsp_value.specs.declared.kinds.Kind.TheVariants as kinds
 use Rattle.tsp_fields.specs.Fields.{Fields}
 use Rattle.tsp_verdict.specs.declared.verdict.Verdict.{Verdict}
 use Rattle.tsp_verdict.specs.declared.verdict.Verdict.TheVariants.{Tour, Routes, No}
-use Rattle.tsp_verdict.specs.Tours as tours
-use Rattle.tsp_verdict.specs.Routes as routes
+use Rattle.tsp_verdict.specs.Tours.{IsTourVerdict, NoneOfTourBeforeRepeats}
+use Rattle.tsp_verdict.specs.Routes.{IsRoutesVerdict, NoneOfRoutesBeforeRepeats}
 
 -- the verdict on a solution, by the TYPE of the instance
 abbrev pub IsVerdictBy : Option Kind → Fields → Fields → Verdict → Type 0
-IsVerdictBy (Some kinds.Tsp) instance solution verdict = tours.IsVerdict instance solution verdict
-IsVerdictBy (Some kinds.Atsp) instance solution verdict = tours.IsVerdict instance solution verdict
-IsVerdictBy (Some kinds.Cvrp) instance solution verdict = routes.IsVerdict instance solution verdict
+IsVerdictBy (Some kinds.Tsp) instance solution verdict = IsTourVerdict instance solution verdict
+IsVerdictBy (Some kinds.Atsp) instance solution verdict = IsTourVerdict instance solution verdict
+IsVerdictBy (Some kinds.Cvrp) instance solution verdict = IsRoutesVerdict instance solution verdict
 IsVerdictBy (Some kinds.Tour) instance solution verdict = ⊥
 IsVerdictBy (Some kinds.Potentials) instance solution verdict = ⊥
 IsVerdictBy (Some kinds.Branches) instance solution verdict = ⊥
@@ -24,9 +24,9 @@ IsVerdictOn instance solution verdict = IsVerdictBy instance.kind instance solut
 -- No reason stands, in the order that goes with the TYPE of the instance, that is judged before a node twice: those are told
 -- without memory.
 abbrev pub NoneBeforeRepeatsBy : Option Kind → Fields → Fields → Type 0
-NoneBeforeRepeatsBy (Some kinds.Tsp) instance solution = tours.NoneBeforeRepeats instance solution
-NoneBeforeRepeatsBy (Some kinds.Atsp) instance solution = tours.NoneBeforeRepeats instance solution
-NoneBeforeRepeatsBy (Some kinds.Cvrp) instance solution = routes.NoneBeforeRepeats instance solution
+NoneBeforeRepeatsBy (Some kinds.Tsp) instance solution = NoneOfTourBeforeRepeats instance solution
+NoneBeforeRepeatsBy (Some kinds.Atsp) instance solution = NoneOfTourBeforeRepeats instance solution
+NoneBeforeRepeatsBy (Some kinds.Cvrp) instance solution = NoneOfRoutesBeforeRepeats instance solution
 NoneBeforeRepeatsBy (Some kinds.Tour) instance solution = ⊥
 NoneBeforeRepeatsBy (Some kinds.Potentials) instance solution = ⊥
 NoneBeforeRepeatsBy (Some kinds.Branches) instance solution = ⊥

@@ -30,7 +30,7 @@ abbrev pub IsNoInstance : Turn → Type 0
 IsNoInstance turn = (file : Fields) × IsFile turn file × (is_instance file.kind ≡ false)
 
 -- the first file is this instance, and the verdict on the second file is this one
-pub record IsJudged (first second : Turn) (instance : Fields) (verdict : Verdict) : Type 0 where
+pub record AreJudged (first second : Turn) (instance : Fields) (verdict : Verdict) : Type 0 where
   pub solution : Fields
   pub first_file : IsFile first instance
   pub second_file : IsFile second solution
@@ -62,7 +62,7 @@ Answers sink instance verdict (Err (Relayout fault)) = ⊥
 -- decides. Out of memory, no reason stands of those that are told without memory, and nothing was written; writing takes
 -- none. Where the writer fails a front of the report was written.
 abbrev pub IsRun : Turn → Turn → Sink → Result Bool RunFault → Type 0
-IsRun first second sink (Ok answer) = (instance : Fields) × (verdict : Verdict) × IsJudged first second instance verdict
+IsRun first second sink (Ok answer) = (instance : Fields) × (verdict : Verdict) × AreJudged first second instance verdict
     × (answer ≡ is_yes verdict) × HasWritten sink (report_of instance verdict)
 IsRun first second sink (Err (File file fault)) = IsUnwritten sink
     × (((file ≡ 1) × StopsAt fault first × IsUnread second)
@@ -72,7 +72,7 @@ IsRun first second sink (Err OutOfMemory) = IsUnwritten sink × NeedsMemory firs
 IsRun first second sink (Err (Relayout fault)) = ⊥
 IsRun first second sink (Err (Write write_faults.OutOfMemory)) = ⊥
 IsRun first second sink (Err (Write write_faults.Device)) = (instance : Fields) × (verdict : Verdict)
-    × IsJudged first second instance verdict × HasStopped sink (report_of instance verdict)
+    × AreJudged first second instance verdict × HasStopped sink (report_of instance verdict)
 
 -- whether it is a yes, where there is a verdict
 abbrev pub told : Result Verdict RunFault → Result Bool RunFault
@@ -81,6 +81,6 @@ told (Err fault) = Err fault
 
 -- The same run, where the verdict itself is answered: at Ok it is that of these files, and the whole report on it was written.
 abbrev pub IsVerdictRun : Turn → Turn → Sink → Result Verdict RunFault → Type 0
-IsVerdictRun first second sink (Ok verdict) = (instance : Fields) × IsJudged first second instance verdict
+IsVerdictRun first second sink (Ok verdict) = (instance : Fields) × AreJudged first second instance verdict
     × HasWritten sink (report_of instance verdict)
 IsVerdictRun first second sink (Err fault) = IsRun first second sink (Err fault)

@@ -4,7 +4,7 @@ ghost use Rattle.std.specs.Prelude.{◌≡◌, IsTrue, MatchResult, Some};
 ghost use Rattle.tsp_stream.specs.Sink.{sink_of};
 ghost use Rattle.tsp_stream.specs.Turn.{Turn, turn_of, TakesAtMost};
 ghost use Rattle.tsp_read.specs.Reads.{IsFile, most_taken};
-ghost use Rattle.tsp_verdict.specs.Tours.{NoneBeforeRepeats};
+ghost use Rattle.tsp_verdict.specs.Tours.{NoneOfTourBeforeRepeats};
 ghost use Rattle.tsp_judge.specs.BoundRun.{is_bounded, IsVerdictWith, IsBoundVerdictRun, IsVerdictCheckBy};
 
 use crate::answer::answer;
@@ -141,7 +141,7 @@ fn judge(
     requires { IsTrue (is_bounded by instance.now.kind) }
     ensures { MatchResult result
         (λ verdict. IsVerdictWith by instance.now solution.now certificate.now verdict)
-        (λ refused. NoneBeforeRepeats instance.now solution.now) }
+        (λ refused. NoneOfTourBeforeRepeats instance.now solution.now) }
 {
     match by {
         Certificate::Potentials => judge_tour_bound(alloc, instance, solution, certificate),

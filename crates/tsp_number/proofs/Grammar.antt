@@ -6,7 +6,7 @@ use Rattle.std.proofs.lemmas.Str.Parse.{digit_from_value}
 use Rattle.std.specs.Char.{digit_value, is_ascii_digit}
 use Rattle.std.specs.Option.{option_map}
 use Rattle.std.specs.Str.Parse.{AllDigits, digits_value}
-use Rattle.tsp_number.specs.NumberWord.{plus, minus, point, lower_e, upper_e, IsSign, IsFraction, WritesExponent, IsExponent, signed, Numeral, Spells}
+use Rattle.tsp_number.specs.NumberWord.{plus, minus, point, lower_e, upper_e, IsSign, IsFraction, WritesExponent, IsExponent, signed, Numeral, SpellsNumeral}
 use Rattle.tsp_number.specs.Scan.{has_minus, after_sign, after_point, front_digits, after_digits, are_digits, exponent_in, whole_in, past_point, fraction_in, past_mantissa, numeral_with, numeral_in}
 use Rattle.tsp_number.proofs.Scanning.{AllDigits-front_digits, if_above_zero}
 use Rattle.tsp_number.proofs.Scaling.{front_digits-all}
@@ -129,14 +129,14 @@ chosen_option : {A : Type 0} (b : Bool) (x : Option A) (y : A) → (if b then x 
 chosen_option true x y same = (refl, same)
 chosen_option false x y same = cc
 
-pub spells_in : (word : List ℕ) (n : Numeral) → numeral_in word ≡ Some n → Spells word n
+pub spells_in : (word : List ℕ) (n : Numeral) → numeral_in word ≡ Some n → SpellsNumeral word n
 spells_in word n same =
     let some = chosen_option (nat_lt 0 (length (whole_in word) + length (fraction_in word))) (option_map (numeral_with word) (exponent_in (past_mantissa word))) n same in
     let test = some.0 in
     let mapped = from_mapped word (exponent_in (past_mantissa word)) n some.1 in
     let sign = splits_sign word in
     let fraction = splits_fraction (after_digits (after_sign word)) (no_digit_after (after_sign word)) in
-    let P : Numeral → Type 0 = λ m. Spells word m in
+    let P : Numeral → Type 0 = λ m. SpellsNumeral word m in
     subst P mapped.2 (record {
       sign = sign.sign;
       fraction_text = fraction.text;
@@ -246,7 +246,7 @@ same_numeral : (negative : Bool) (whole fraction : List ℕ) (n : Numeral) → n
     → (let m : Numeral = record { negative = negative; whole = whole; fraction = fraction; exponent = n.exponent } in m ≡ n)
 same_numeral negative whole fraction n first second third = rw (first, second, third) refl
 
-pub found : (word : List ℕ) (n : Numeral) → Spells word n → numeral_in word ≡ Some n
+pub found : (word : List ℕ) (n : Numeral) → SpellsNumeral word n → numeral_in word ≡ Some n
 found word n s =
     let ends = ends_mantissa s.exponent_text n.exponent s.is_exponent in
     let plain = mantissa_unsigned n.whole s.fraction_text n.fraction s.exponent_text s.whole_digits s.is_fraction s.some_digit in

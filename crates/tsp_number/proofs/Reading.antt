@@ -6,7 +6,7 @@ use Rattle.tsp_number.specs.declared.scan.Written.{Written}
 use Rattle.tsp_number.specs.Decimal.{unit, most_count}
 use Rattle.tsp_number.specs.NumberWord.{Numeral, IsNumberWord, StandsFor, IsShifted, signed, mantissa, digits_of, places}
 use Rattle.tsp_number.specs.Scan.{numeral_in, saturated}
-use Rattle.tsp_number.specs.Written.{Keeps, Holds, IsShiftedSize, ShiftsTo}
+use Rattle.tsp_number.specs.Written.{KeepsNumeral, HoldsWord, IsShiftedSize, ShiftsTo}
 use Rattle.tsp_number.proofs.Grammar.{spells_in, found}
 use Rattle.tsp_number.proofs.Scaling.{pow_above_zero}
 
@@ -69,14 +69,14 @@ size_by word n j is_in stands =
     let P : Numeral → Type 0 = λ m. IsShifted (mantissa m) (places 9 m) j in
     from_signed n.negative (digits_of n) (places 9 n) j (subst P same stands.shifted)
 
-pub too_fine : (word : List ℕ) (w : Written) → Holds word w → ((n : Numeral) → Keeps w n → ShiftsTo (digits_of n) (places 9 n) None)
+pub too_fine : (word : List ℕ) (w : Written) → HoldsWord word w → ((n : Numeral) → KeepsNumeral w n → ShiftsTo (digits_of n) (places 9 n) None)
     → IsNumberWord word × ((j : ℤ) → ¬ StandsFor word j)
 too_fine word w holds none = (
   (holds.numeral, spells_in word holds.numeral holds.is_in),
   λ j stands. let k = size_by word holds.numeral j holds.is_in stands in none holds.numeral holds.keeps k.0 k.1,
 )
 
-pub stands : (word : List ℕ) (w : Written) (size : ℕ) → Holds word w → ((n : Numeral) → Keeps w n → ShiftsTo (digits_of n) (places 9 n) (Some size))
+pub stands : (word : List ℕ) (w : Written) (size : ℕ) → HoldsWord word w → ((n : Numeral) → KeepsNumeral w n → ShiftsTo (digits_of n) (places 9 n) (Some size))
     → (k : ℕ) × StandsFor word (signed w.negative k) × (size ≡ saturated k)
 stands word w size holds some =
     let k = some holds.numeral holds.keeps in
@@ -126,7 +126,7 @@ unit_down m k (negsuc down) (negsuc down') same shifted =
     let power : 10 ^ (down + 1) ≡ 10 ^ (down' + 1) * 10 ^ 9 = ap (λ n. 10 ^ n) far ∙ pow-add 10 (down' + 1) 9 in
     rw power (omega (arith, shifted))
 
-pub whole_stands : (word : List ℕ) (w : Written) (size : ℕ) → Holds word w → ((n : Numeral) → Keeps w n → ShiftsTo (digits_of n) (places 0 n) (Some size))
+pub whole_stands : (word : List ℕ) (w : Written) (size : ℕ) → HoldsWord word w → ((n : Numeral) → KeepsNumeral w n → ShiftsTo (digits_of n) (places 0 n) (Some size))
     → (k : ℕ) × StandsFor word (signed w.negative k *ℤ pos unit) × (size ≡ saturated k)
 whole_stands word w size holds some =
     let n = holds.numeral in
@@ -138,8 +138,8 @@ whole_stands word w size holds some =
     ap (λ b. signed b (k.0 * unit)) (sym holds.keeps.negative) ∙ sym (signed-mul w.negative k.0 unit) in
     (k.0, subst P sign here, k.2)
 
-pub not_whole : (word : List ℕ) (w : Written) (size : ℕ) → Holds word w → ((n : Numeral) → Keeps w n → ShiftsTo (digits_of n) (places 9 n) (Some size))
-    → ((n : Numeral) → Keeps w n → ShiftsTo (digits_of n) (places 0 n) None)
+pub not_whole : (word : List ℕ) (w : Written) (size : ℕ) → HoldsWord word w → ((n : Numeral) → KeepsNumeral w n → ShiftsTo (digits_of n) (places 9 n) (Some size))
+    → ((n : Numeral) → KeepsNumeral w n → ShiftsTo (digits_of n) (places 0 n) None)
     → (j : ℤ) × StandsFor word j × ((i : ℤ) → j ≢ i *ℤ pos unit)
 not_whole word w size holds some none =
     let n = holds.numeral in

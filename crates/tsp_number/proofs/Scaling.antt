@@ -13,7 +13,7 @@ use Rattle.std.specs.Char.{digit_value, is_ascii_digit}
 use Rattle.std.specs.List.{list_all}
 use Rattle.std.specs.Str.Parse.{AllDigits, digits_value, digits_value_after}
 use Rattle.tsp_number.specs.Scan.{front_digits, saturated, clamped}
-use Rattle.tsp_number.specs.Written.{DropsZeros, ShiftsTo, Keeps}
+use Rattle.tsp_number.specs.Written.{DropsZeros, ShiftsTo, KeepsNumeral}
 use Rattle.tsp_number.specs.NumberWord.{Numeral, digits_of}
 use Rattle.tsp_number.specs.declared.scan.Written.{Written}
 use Rattle.tsp_number.proofs.Scanning.{digits_value_after-append}
@@ -287,10 +287,10 @@ fraction_cut_rest whole fraction front back count kept cut all rest =
 
 -- ---- what is kept of a number word
 
-pub few_in_fraction : (w : Written) (n : Numeral) → Keeps w n → length n.fraction ≤ 64
+pub few_in_fraction : (w : Written) (n : Numeral) → KeepsNumeral w n → length n.fraction ≤ 64
 few_in_fraction w n keeps = omega (arith, length-append n.whole n.fraction, keeps.few_digits)
 
-pub digits_of-lt : (w : Written) (n : Numeral) → Keeps w n → digits_of n < 10 ^ 64
+pub digits_of-lt : (w : Written) (n : Numeral) → KeepsNumeral w n → digits_of n < 10 ^ 64
 digits_of-lt w n keeps =
     let power : 10 ^ length (n.whole ++ n.fraction) ≤ 10 ^ 64 = pow-le-pow_right (omega arith) keeps.few_digits in
     let small = digits_value-lt 10 (n.whole ++ n.fraction) keeps.all_digits in

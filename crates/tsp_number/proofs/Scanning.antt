@@ -8,7 +8,7 @@ use Rattle.std.specs.Str.Parse.{AllDigits, digits_value, digits_value_after}
 use Rattle.tsp_number.specs.declared.scan.Written.{Written}
 use Rattle.tsp_number.specs.Scan.{has_minus, after_sign, after_point, past_point, front_digits, after_digits, whole_in, fraction_in, past_mantissa, exponent_in, numeral_with, saturated, clamped}
 use Rattle.tsp_number.specs.NumberWord.{plus, minus, point}
-use Rattle.tsp_number.specs.Written.{Holds}
+use Rattle.tsp_number.specs.Written.{HoldsWord}
 
 -- the first `end` bytes are digits, and what is left gives the rest of the digits and of their value
 pub record HasRead (bytes : List ℕ) (before end value : ℕ) : Type 0 where
@@ -86,7 +86,7 @@ pub holds : (word : List ℕ) (w : Written)
     → 0 < length (whole_in word) + length (fraction_in word)
     → w.size ≡ saturated (digits_value_after 10 (digits_value 10 (whole_in word)) (fraction_in word))
     → option_map clamped (exponent_in (past_mantissa word)) ≡ Some w.exponent
-    → Holds word w
+    → HoldsWord word w
 holds word w short negative whole fraction some_digit size exponent =
     let e = unclamped (exponent_in (past_mantissa word)) w.exponent exponent in
     record {

@@ -59,7 +59,7 @@ pub record Numeral : Type 0 where
   pub exponent : ℤ
 
 -- the word is written so, with at least one digit before its exponent
-pub record Spells (word : List ℕ) (n : Numeral) : Type 0 where
+pub record SpellsNumeral (word : List ℕ) (n : Numeral) : Type 0 where
   pub sign : List ℕ
   pub fraction_text : List ℕ
   pub exponent_text : List ℕ
@@ -72,7 +72,7 @@ pub record Spells (word : List ℕ) (n : Numeral) : Type 0 where
   pub is_exponent : IsExponent exponent_text n.exponent
 
 abbrev pub IsNumberWord : List ℕ → Type 0
-IsNumberWord word = (n : Numeral) × Spells word n
+IsNumberWord word = (n : Numeral) × SpellsNumeral word n
 
 -- all digits of the mantissa as one whole number, and the same with its sign
 abbrev pub digits_of : Numeral → ℕ
@@ -93,7 +93,7 @@ IsShifted m (negsuc down) k = k *ℤ pos (10 ^ (down + 1)) ≡ m
 -- the word stands for k counts of 10^-9
 pub record StandsFor (word : List ℕ) (k : ℤ) : Type 0 where
   pub numeral : Numeral
-  pub spelled : Spells word numeral
+  pub spelled : SpellsNumeral word numeral
   pub shifted : IsShifted (mantissa numeral) (places 9 numeral) k
 
 -- no more bytes than a number word may have

@@ -6,7 +6,7 @@ use Rattle.tsp_number.specs.NumberWord.{Numeral, digits_of}
 use Rattle.tsp_number.specs.Scan.{numeral_in, saturated, clamped}
 
 -- the parts are those of the numeral, which has at most 64 digits
-pub record Keeps (w : Written) (n : Numeral) : Type 0 where
+pub record KeepsNumeral (w : Written) (n : Numeral) : Type 0 where
   pub negative : w.negative ≡ n.negative
   pub whole : w.whole.now ≡ n.whole
   pub fraction : w.fraction.now ≡ n.fraction
@@ -16,10 +16,10 @@ pub record Keeps (w : Written) (n : Numeral) : Type 0 where
   pub few_digits : length (n.whole ++ n.fraction) ≤ 64
 
 -- the parts are those of the word
-pub record Holds (word : List ℕ) (w : Written) : Type 0 where
+pub record HoldsWord (word : List ℕ) (w : Written) : Type 0 where
   pub numeral : Numeral
   pub is_in : numeral_in word ≡ Some numeral
-  pub keeps : Keeps w numeral
+  pub keeps : KeepsNumeral w numeral
 
 -- k is m shifted by so many places, as `IsShifted` without a sign
 abbrev pub IsShiftedSize : ℕ → ℤ → ℕ → Type 0

@@ -5,7 +5,7 @@ ghost use Rattle.std.specs.List.{list_all};
 ghost use Rattle.std.specs.Str.Parse.{AllDigits, digits_value};
 ghost use Rattle.tsp_number.specs.NumberWord.{Numeral, digits_of, places as places_of};
 ghost use Rattle.tsp_number.specs.Scan.{saturated, clamped};
-ghost use Rattle.tsp_number.specs.Written.{Keeps, ShiftsTo, DropsZeros};
+ghost use Rattle.tsp_number.specs.Written.{KeepsNumeral, ShiftsTo, DropsZeros};
 
 use crate::scan::{Written, split_digits};
 
@@ -112,8 +112,8 @@ fn drop_long_zeros(whole: &[u8], fraction: &[u8], count: u64) -> Option<u64>
 #[inline(always)]
 fn places(written: &Written<'_>, scale: u32) -> i64
     requires scale { scale ≤ 9 }
-    requires parts { (n : Numeral) × Keeps written.now n }
-    ensures { (n : Numeral) → Keeps written.now n
+    requires parts { (n : Numeral) × KeepsNumeral written.now n }
+    ensures { (n : Numeral) → KeepsNumeral written.now n
         → result ≡ pos scale +ℤ clamped n.exponent -ℤ pos (length n.fraction) }
 {
     i64::from(scale) + written.exponent - written.fraction.len() as i64
@@ -124,8 +124,8 @@ fn places(written: &Written<'_>, scale: u32) -> i64
 #[inline(always)]
 pub(crate) fn shifted(written: &Written<'_>, scale: u32) -> Option<u64>
     requires scale { scale ≤ 9 }
-    requires parts { (n : Numeral) × Keeps written.now n }
-    ensures { (n : Numeral) → Keeps written.now n → ShiftsTo (digits_of n) (places_of scale n) result }
+    requires parts { (n : Numeral) × KeepsNumeral written.now n }
+    ensures { (n : Numeral) → KeepsNumeral written.now n → ShiftsTo (digits_of n) (places_of scale n) result }
 {
     let places = places(written, scale);
     let count = places.unsigned_abs();

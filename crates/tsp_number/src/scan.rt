@@ -4,7 +4,7 @@ ghost use Rattle.std.specs.Prelude.{◌≡◌, ◌+◌, ◌<◌, ◌≤◌, leng
 ghost use Rattle.std.specs.Option.{option_map};
 ghost use Rattle.std.specs.Str.Parse.{digits_value_after};
 ghost use Rattle.tsp_number.specs.Scan.{has_minus, after_sign, after_point, front_digits, after_digits, exponent_in, numeral_in, saturated, clamped};
-ghost use Rattle.tsp_number.specs.Written.{Holds};
+ghost use Rattle.tsp_number.specs.Written.{HoldsWord};
 
 /// The largest size of an exponent that is told from larger ones. With a larger one a number word
 /// of at most 64 bytes stands for 0, or for nothing that is fine or small enough, all the same.
@@ -108,7 +108,7 @@ fn exponent_of(bytes: &[u8]) -> Option<i64>
 #[inline(always)]
 pub(crate) fn split_word(word: &[u8]) -> Option<Written<'_>>
     requires { length word.now ≤ 64 }
-    ensures { MatchOption result (numeral_in word.now ≡ None) (Holds word.now) }
+    ensures { MatchOption result (numeral_in word.now ≡ None) (HoldsWord word.now) }
 {
     let (negative, unsigned) = split_sign(word);
     let whole = split_digits(unsigned, 0);

@@ -15,7 +15,7 @@ use Rattle.tsp_items.specs.Items.{Item, LineEnd}
 use Rattle.tsp_read.specs.states.Left.{items_left, ends_word, before, from, is_settled}
 use Rattle.tsp_read.specs.states.Token.{token_at, ends, most_bytes, token_item}
 use Rattle.tsp_read.specs.Onward.{GivesNext}
-use Rattle.tsp_read.specs.states.Intake.{Stands, TakesNext, IsReadTo, HasEnded, StopsAt}
+use Rattle.tsp_read.specs.states.Intake.{Stands, TakesNext, IsReadTo, HasEnded, IsStoppedBy}
 use Rattle.tsp_read.specs.states.Begun.{HasBegunToken, HasBegun, kept, IsFedTo, IsJoinedTo}
 use Rattle.tsp_read.proofs.IntakeSteps.{read_further, read_to_end, read_to_fault}
 use Rattle.tsp_items.proofs.NoBlanks.{start_filled}
@@ -221,7 +221,7 @@ pub joined_fault : (token : Token) (old new : Intake) (begun piece bytes text : 
     → text ≡ begun ++ before (ends token) piece
     → is_settled (most_bytes token) true (begun ++ before (ends token) piece) (from (ends token) piece) ≡ true
     → Joins token old.inside begun → IsReadTo old bytes (begun ++ piece)
-    → ((earlier : List Item) → Stands old earlier → TakesNext earlier (token_item token text) new (Err found)) → StopsAt bytes found
+    → ((earlier : List Item) → Stands old earlier → TakesNext earlier (token_item token text) new (Err found)) → IsStoppedBy bytes found
 joined_fault token old new begun piece bytes text found same settled joins read taken =
     read_to_fault old new bytes (begun ++ piece) (token_item token (begun ++ before (ends token) piece))
     (items_left true true (from (ends token) piece)) found read (joins true piece settled)

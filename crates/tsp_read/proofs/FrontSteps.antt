@@ -6,7 +6,7 @@ use Rattle.std.proofs.lemmas.Bool.{true≢false, le-ltb}
 use Rattle.std.proofs.lemmas.Bool.Decides.{nat_tests}
 use Rattle.std.proofs.lemmas.Str.Parse.{digit_from_value}
 use Rattle.tsp_number.specs.Decimal.{unit, most_count}
-use Rattle.tsp_number.specs.NumberWord.{plus, minus, point, lower_e, upper_e, IsSign, IsFraction, IsExponent, Numeral, Spells, ReadsWhole, ReadsDecimal}
+use Rattle.tsp_number.specs.NumberWord.{plus, minus, point, lower_e, upper_e, IsSign, IsFraction, IsExponent, Numeral, SpellsNumeral, ReadsWhole, ReadsDecimal}
 use Rattle.tsp_number.specs.Front.{BeginsWithNumber}
 use Rattle.tsp_number.specs.Reading.{whole_of, decimal_of}
 use Rattle.tsp_number.proofs.WordLaws.{whole_once, whole_of-reads, decimal_once, decimal_of-reads}
@@ -64,7 +64,7 @@ free_exponent text exponent (inr h) =
     subst (FreeOf ends_word) (sym h.text_is)
     (mark_inside h.mark h.is_mark, free_join ends_word h.sign h.digits (free_sign h.sign h.negative h.is_sign) (free_digits h.digits h.all_digits))
 
-free_word : (word : List ℕ) (n : Numeral) → Spells word n → FreeOf ends_word word
+free_word : (word : List ℕ) (n : Numeral) → SpellsNumeral word n → FreeOf ends_word word
 free_word word n h =
     subst (FreeOf ends_word) (sym h.text_is)
     (free_join ends_word h.sign (n.whole ++ (h.fraction_text ++ h.exponent_text)) (free_sign h.sign n.negative h.is_sign)
@@ -101,7 +101,7 @@ starts_sign sign rest negative (inl is) h = subst (λ (xs : List ℕ). StartsNum
 starts_sign sign rest negative (inr (inl is)) h = starts_here (sign ++ rest) plus rest (ap (λ (xs : List ℕ). xs ++ rest) is.0) refl
 starts_sign sign rest negative (inr (inr is)) h = starts_here (sign ++ rest) minus rest (ap (λ (xs : List ℕ). xs ++ rest) is.0) refl
 
-starts_word : (word : List ℕ) (n : Numeral) → Spells word n → StartsNumber word
+starts_word : (word : List ℕ) (n : Numeral) → SpellsNumeral word n → StartsNumber word
 starts_word word n h =
     subst StartsNumber (sym h.text_is)
     (starts_sign h.sign (n.whole ++ (h.fraction_text ++ h.exponent_text)) n.negative h.is_sign

@@ -23,7 +23,7 @@ use Rattle.tsp_read.specs.states.Holds.{Holds}
 use Rattle.tsp_read.specs.states.Left.{items_left, ends_word}
 use Rattle.tsp_read.specs.Walk.{Walked}
 use Rattle.tsp_read.specs.Onward.{is_bare, is_line_end, is_over_long, GivesNext, GoesOn}
-use Rattle.tsp_read.specs.states.Intake.{Stands, TakesNext, IsReadTo, settled_so_far, HasEnded, StopsAt}
+use Rattle.tsp_read.specs.states.Intake.{Stands, TakesNext, IsReadTo, settled_so_far, HasEnded, IsStoppedBy}
 use Rattle.tsp_read.proofs.LeftSteps.{all_settled, left_blank, left_end, left_none}
 use Rattle.tsp_text.proofs.ItemRows.{word_rows, long_line}
 use Rattle.tsp_text.proofs.ValidRows.{clean_parts}
@@ -149,7 +149,7 @@ read_to_end old new bytes rest item later ended ends h next taken =
 
 -- the item has a fault, or wants memory
 pub read_to_fault : (old new : Intake) (bytes rest : List ℕ) (item : Item) (later : List Item) (found : ReadFault) → IsReadTo old bytes rest
-    → items_left true old.inside rest ≡ item ∷ later → ((earlier : List Item) → Stands old earlier → TakesNext earlier item new (Err found)) → StopsAt bytes found
+    → items_left true old.inside rest ≡ item ∷ later → ((earlier : List Item) → Stands old earlier → TakesNext earlier item new (Err found)) → IsStoppedBy bytes found
 read_to_fault old new bytes rest item later (faults.Line line word fault) h next taken =
     let walked = subst (λ (xs : List Item). Walked (settled_items bytes) h.earlier xs) next (walked_so_far old bytes rest h) in
     walked_found (settled_items bytes) h.earlier later item (faults.Line line word fault) walked (taken h.earlier h.stands)

@@ -16,7 +16,7 @@ use Rattle.tsp_items.specs.Earlier.{open_section}
 use Rattle.tsp_items.specs.FirstFault.{fault_in}
 use Rattle.tsp_text.specs.Cuts.{AreCut}
 use Rattle.tsp_items.specs.Text.{is_too_long, part, fault, settled_part}
-use Rattle.tsp_read.specs.Feed.{IsGoing, IsEnded, HasSettled, HasTaken, IsWhole, Ends}
+use Rattle.tsp_read.specs.Feed.{IsGoing, IsEnded, HasSettled, HasTaken, SpellsWhole, Ends}
 use Rattle.tsp_text.proofs.ValidCuts.{part_cut}
 use Rattle.tsp_text.proofs.SettledFaults.{part_long, part_short, part_kept, fault_kept}
 use Rattle.tsp_read.proofs.FeedSteps.{taken_at}
@@ -129,7 +129,7 @@ whole_by bytes reading (Err faults.OutOfMemory) h short finish = tt
 whole_by bytes reading (Err faults.Device) h short finish = finish (part bytes) h (part_cut bytes)
 whole_by bytes reading (Err faults.TooLong) h short finish = absurd (finish (part bytes) h (part_cut bytes))
 
-pub whole_answer : (bytes : List ℕ) (reading : Reading) (result : Result Fields ReadFault) → IsWhole reading bytes
+pub whole_answer : (bytes : List ℕ) (reading : Reading) (result : Result Fields ReadFault) → SpellsWhole reading bytes
     → ((earlier : List Item) → Holds reading earlier → AreCut earlier → Completes earlier result) → Reads bytes result
 whole_answer bytes reading result h finish = whole_by bytes reading result h.holds h.short finish
 
@@ -179,7 +179,7 @@ stands_open None items h some none = false≢true some
 stands_open (Some p) items h some none = none-some p.field (sym none ∙ h.0)
 
 -- where a section stood open, there was more than blanks and line ends
-pub open_not_bare : (bytes : List ℕ) (reading : Reading) → IsWhole reading bytes → is_some reading.opened ≡ true → is_bare bytes ≡ false
+pub open_not_bare : (bytes : List ℕ) (reading : Reading) → SpellsWhole reading bytes → is_some reading.opened ≡ true → is_bare bytes ≡ false
 open_not_bare bytes reading h some = by_case (is_bare bytes) refl
   where
     by_case : (b : Bool) → is_bare bytes ≡ b → is_bare bytes ≡ false
@@ -192,7 +192,7 @@ and_none : (b : Bool) → (b && false) ≡ false
 and_none true = refl
 and_none false = refl
 
-pub ended_whole : (feed : Feed) (bytes : List ℕ) → feed.stage ≡ Ended → HasTaken feed bytes → IsWhole feed.intake.reading bytes
+pub ended_whole : (feed : Feed) (bytes : List ℕ) → feed.stage ≡ Ended → HasTaken feed bytes → SpellsWhole feed.intake.reading bytes
 ended_whole feed bytes e taken =
     let h : IsEnded feed.intake.reading bytes = taken_at feed bytes Ended e taken in
     let same : part bytes ≡ settled_part bytes = ap part (sym (append-nil bytes)) ∙ part_kept bytes [] h.holds.clean h.ended in
@@ -205,7 +205,7 @@ short_text : (feed : Feed) (bytes : List ℕ) → IsGoing feed bytes → is_too_
 short_text feed bytes h = le-ltb most_file_bytes (length bytes) h.short
 
 pub taken_whole : (feed : Feed) (bytes : List ℕ) (reading : Reading) (ended : Bool) → feed.stage ≡ Going → HasTaken feed bytes
-    → (IsPaused feed.intake feed.begun bytes → TakesAll bytes reading (Ok ended)) → IsWhole reading bytes
+    → (IsPaused feed.intake feed.begun bytes → TakesAll bytes reading (Ok ended)) → SpellsWhole reading bytes
 taken_whole feed bytes reading ended e taken last =
     let h : IsGoing feed bytes = taken_at feed bytes Going e taken in
     let short = short_text feed bytes h in

@@ -10,7 +10,7 @@ use Rattle.tsp_items.specs.Rows.{row_of}
 use Rattle.tsp_items.specs.Text.{part, fault}
 use Rattle.tsp_read.specs.states.Left.{item_next}
 use Rattle.tsp_read.specs.declared.state.reading.OpenSection.{OpenSection}
-use Rattle.tsp_read.specs.states.Holds.{OpenHolds, Holds, Answers}
+use Rattle.tsp_read.specs.states.Holds.{OpenHolds, Holds, AnswersItem}
 use Rattle.tsp_read.specs.Reads.{TakesItem}
 use Rattle.tsp_text.proofs.Clean.{clean_more}
 
@@ -42,7 +42,7 @@ word_taken new earlier item word is h = let P : Item → Type 0 = λ i. TakesIte
 pub takes_ok : (earlier : List Item) (cut item : Item) (new : Reading) (ended : Bool) → cut ≡ item → Holds new (cut ∷ earlier) → ended ≡ is_end_line cut → TakesItem earlier item new (Ok ended)
 takes_ok earlier cut item new ended same h e = let P : Item → Type 0 = λ i. TakesItem earlier i new (Ok ended) in subst P same (h, e)
 
-pub takes_err : (earlier : List Item) (cut item : Item) (new : Reading) (fault : StepFault) → cut ≡ item → Answers earlier cut new (Err fault) → TakesItem earlier item new (Err fault)
+pub takes_err : (earlier : List Item) (cut item : Item) (new : Reading) (fault : StepFault) → cut ≡ item → AnswersItem earlier cut new (Err fault) → TakesItem earlier item new (Err fault)
 takes_err earlier cut item new steps.Memory same h = tt
 takes_err earlier cut item new (steps.Fault fault) same h = let P : Item → Type 0 = λ i. row_of earlier i ≡ Some fault in subst P same h
 

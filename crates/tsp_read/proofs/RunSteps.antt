@@ -2,7 +2,7 @@
 use Rattle.std.proofs.Common.{◌≡◌, ℕ, ◌+◌, ◌<◌, Bool, true, false, List, ◌∷◌, length, refl, ap, subst, ◌∙◌, Option, None, Some, Ok, arith}
 use Rattle.tsp_items.specs.declared.part.Part.{Part}
 use Rattle.tsp_items.specs.Items.{NumberWord, LineEnd}
-use Rattle.tsp_items.specs.states.Run.{TakesRead, Keeps}
+use Rattle.tsp_items.specs.states.Run.{TakesRead, KeepsWords}
 use Rattle.tsp_read.specs.declared.count.Count.{Count}
 use Rattle.tsp_read.specs.declared.intake.Intake.{Intake}
 use Rattle.tsp_read.specs.declared.state.reading.OpenSection.{OpenSection}
@@ -38,7 +38,7 @@ word_runs old new before after text rest word takes gives line words inside shor
 }
 
 -- a part that holds what it held
-pub keeps_run : (old new : Part) (count : Count) (text : List ℕ) → Keeps old new → RunsTo old count text new count text
+pub keeps_run : (old new : Part) (count : Count) (text : List ℕ) → KeepsWords old new → RunsTo old count text new count text
 keeps_run old new count text keeps = record {
   read = λ draft incomplete field bytes h.
       let was : Intake = in_run draft incomplete field old count in

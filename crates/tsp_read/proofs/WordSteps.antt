@@ -16,7 +16,7 @@ use Rattle.tsp_items.specs.Rows.{word_fault}
 use Rattle.tsp_items.specs.states.Parts.{Takes}
 use Rattle.tsp_items.specs.states.Held.{shape_by, HoldsPart, HoldsShape}
 use Rattle.std.specs.Option.{option_map_or}
-use Rattle.tsp_read.specs.states.Holds.{OpenHolds, Holds, Answers}
+use Rattle.tsp_read.specs.states.Holds.{OpenHolds, Holds, AnswersItem}
 use Rattle.tsp_text.proofs.Sections.{section_of}
 use Rattle.tsp_read.proofs.SectionCases.{word_fields, word_first}
 use Rattle.tsp_text.proofs.ItemRows.{word_rows, words_more}
@@ -45,7 +45,7 @@ place_is in_space field shape n words is = ap (λ o. option_map_or (λ shape. pl
 -- What the part answers is what the reader answers. The new state is the old one with the part after the word.
 pub word_answer : (old new : Reading) (section after : OpenSection) (word : List ℕ) (r : Result (Unit {0}) StepFault) (earlier : List Item)
     → old.opened ≡ Some section → after.field ≡ section.field → new.draft ≡ old.draft → new.incomplete ≡ old.incomplete → new.opened ≡ Some after
-    → SectionTakes section after word r → Holds old earlier → Answers earlier (NumberWord word) new r
+    → SectionTakes section after word r → Holds old earlier → AnswersItem earlier (NumberWord word) new r
 word_answer old new section after word (Ok done) earlier there same same_draft same_first is step h =
     let held : OpenHolds (Some section) earlier = rw there at h.part in
     let f = section.field in

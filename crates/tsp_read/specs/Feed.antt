@@ -72,7 +72,7 @@ ComesTo (Refused faults.Device) new bytes = ⊥
 ComesTo (Refused faults.TooLong) new bytes = HasSettled faults.TooLong bytes
 
 -- of all that counts of a text everything was taken
-pub record IsWhole (reading : Reading) (bytes : List ℕ) : Type 0 where
+pub record SpellsWhole (reading : Reading) (bytes : List ℕ) : Type 0 where
   pub holds : Holds reading (part bytes)
   pub short : (is_too_long bytes && not (has_end_line (part bytes))) ≡ false
 
@@ -83,5 +83,5 @@ EndsClosed (Err found) = ⊥
 
 -- the same at the end of the text, or its answer is this fault
 abbrev pub Ends : List ℕ → Result Reading ReadFault → Type 0
-Ends bytes (Ok reading) = IsWhole reading bytes
+Ends bytes (Ok reading) = SpellsWhole reading bytes
 Ends bytes (Err found) = Reads bytes (Err found) × (found ≡ faults.OutOfMemory → is_bare bytes ≡ false)

@@ -8,5 +8,5 @@ abbrev pub answers_of : Script → List (Result ℕ Error)
 answers_of script = script.answers.items
 
 -- an answer is the next one, and the others are left; where none is left a text has ended
-abbrev pub GivesNext : List (Result ℕ Error) → Result ℕ Error → List (Result ℕ Error) → Type 0
-GivesNext old answer new = (old ≡ new ++ answer ∷ []) ⊎ ((old ≡ []) × (new ≡ []) × (answer ≡ Ok 0))
+abbrev pub AnswersNext : List (Result ℕ Error) → Result ℕ Error → List (Result ℕ Error) → Type 0
+AnswersNext old answer new = (old ≡ new ++ answer ∷ []) ⊎ ((old ≡ []) × (new ≡ []) × (answer ≡ Ok 0))

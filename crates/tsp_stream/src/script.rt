@@ -4,7 +4,7 @@
 
 ghost use Rattle.std.specs.Prelude.{◌≡◌, is_err, ◌||◌};
 ghost use Rattle.tsp_stream.specs.Watched.{watched, has_failed};
-ghost use Rattle.tsp_stream.specs.Script.{answers_of, GivesNext};
+ghost use Rattle.tsp_stream.specs.Script.{answers_of, AnswersNext};
 
 use crate::watched::Watched;
 use std::io;
@@ -18,7 +18,7 @@ pub struct Script {
 impl Script {
     /// The next answer.
     fn next(&mut self) -> io::Result<usize>
-        ensures { GivesNext (answers_of self.old) result (answers_of self.new) }
+        ensures { AnswersNext (answers_of self.old) result (answers_of self.new) }
     {
         match self.answers.pop() {
             Some(answer) => answer,
@@ -31,7 +31,7 @@ impl Script {
 /// answers that come out of it, call by call, are those that went in, one for one. It is asked by `ask`,
 /// as each reader and writer is.
 pub fn answers_go_through(script: &mut Watched<Script>) -> io::Result<usize>
-    ensures next { GivesNext (answers_of (watched script.old)) result (answers_of (watched script.new)) }
+    ensures next { AnswersNext (answers_of (watched script.old)) result (answers_of (watched script.new)) }
     ensures failed { has_failed script.new ≡ (has_failed script.old || is_err result) }
 {
     script.ask(&mut [], |inner, _| (inner.next(), false))

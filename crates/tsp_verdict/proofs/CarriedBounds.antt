@@ -9,7 +9,7 @@ use Rattle.tsp_walk.specs.Costs.{IsEven}
 use Rattle.tsp_walk.specs.Length.{length_of}
 use Rattle.tsp_walk.specs.Tour.{Uses}
 use Rattle.tsp_cost.specs.Tours.{is_directed}
-use Rattle.tsp_cost.specs.Views.{Keeps}
+use Rattle.tsp_cost.specs.Views.{HasCosts}
 use Rattle.tsp_walk.specs.Walk.{IsWalk, AreNeighbours}
 use Rattle.tsp_value.specs.declared.kinds.Kind.TheVariants as kinds
 use Rattle.tsp_theory.specs.Numbers.{IsScale, entry, IsBoundSized}
@@ -20,7 +20,7 @@ use Rattle.tsp_theory.specs.Assignment.{AreGood, IsFirstBroken, IsDualBound, Dua
 use Rattle.tsp_verdict.specs.declared.verdict.Reason.TheVariants.{DualInfeasible}
 use Rattle.tsp_verdict.specs.Multiplied.{AreListed}
 use Rattle.tsp_verdict.specs.Solution.{nodes_of, fixed_of}
-use Rattle.tsp_verdict.specs.Certificate.{scale_in, potentials_in, rows_in, columns_in, multipliers_in, StandsAgainst, IsBoundBy, UsesMultiplied, IsCertified}
+use Rattle.tsp_verdict.specs.Certificate.{scale_in, potentials_in, rows_in, columns_in, multipliers_in, StandsAgainstPotentials, IsBoundByPotentials, UsesMultiplied, IsCertifiedByPotentials}
 
 abbrev pub Same : (ℕ → ℕ → ℤ) → (ℕ → ℕ → ℤ) → Type 0
 Same v w = (i j : ℕ) → v i j ≡ w i j
@@ -59,7 +59,7 @@ listed_used nodes pairs triples used listed k d lt = elim (listed k d lt) [
     turned (inr next) = inl next
 
 -- costs that are the same as those that an instance keeps
-pub keeps_on : (f : Fields) (m n : ℕ) (a b : ℕ → ℕ → ℤ) → m ≡ n → Same a b → Keeps f n b → Keeps f m a
+pub keeps_on : (f : Fields) (m n : ℕ) (a b : ℕ → ℕ → ℤ) → m ≡ n → Same a b → HasCosts f n b → HasCosts f m a
 keeps_on f m n a b same_count same keeps = record {
   count = keeps.count ∙ ap Some (sym same_count);
   every = λ i j. same i j ∙ keeps.every i j;
@@ -69,7 +69,7 @@ keeps_on f m n a b same_count same keeps = record {
 pub certified : (inst pot : Fields) (n : ℕ) (costs : ℕ → ℕ → ℤ) (scale : ℤ) (potentials : List ℤ) (triples : List (ℕ × ℕ × ℤ)) (bound : ℤ) → AdjustedBoundsBoundWalks
     → triples ≡ multipliers_in pot → AreListed (fixed_of inst) (multipliers_in pot) → inst.kind ≡ Some kinds.Tsp → IsEven (cost inst) → 3 ≤ nodes_of inst
     → IsScale scale → scale ≡ scale_in pot → potentials ≡ potentials_in pot → length potentials ≡ nodes_of inst
-    → Keeps inst n costs → IsAdjustedBound n costs scale potentials triples [] bound × IsBoundSized bound → IsCertified inst pot bound
+    → HasCosts inst n costs → IsAdjustedBound n costs scale potentials triples [] bound × IsBoundSized bound → IsCertifiedByPotentials inst pot bound
 certified inst pot n costs scale potentials triples bound law triples_are listed kind even some scale_is scale_in_is potentials_are count keeps found =
     let same : nodes_of inst ≡ n = ap (λ o. unwrap_or o 0) keeps.count in
     let here : IsAdjustedBound (nodes_of inst) (cost inst) scale potentials triples [] bound =
@@ -81,7 +81,7 @@ certified inst pot n costs scale potentials triples bound law triples_are listed
     let walks : (nodes : List ℕ) → IsWalk (nodes_of inst) nodes → UsesEach (multipliers_in pot) nodes → bound ≤ℤ length_of (cost inst) nodes = λ nodes walk used.
     law (nodes_of inst) (cost inst) scale potentials triples [] bound nodes some even scale_is count here walk
     (subst (λ ts. UsesEach ts nodes) (sym triples_are) used) (λ k d lt. absurd (omega arith)) in (
-      subst (λ k. IsBoundBy k inst pot bound) (sym kind) by_certificate,
+      subst (λ k. IsBoundByPotentials k inst pot bound) (sym kind) by_certificate,
       λ nodes walk used. walks nodes walk (subst (λ k. UsesMultiplied k pot nodes) kind used),
       λ nodes tour. walks nodes tour.walk (listed_used nodes (fixed_of inst) (multipliers_in pot) (subst (λ k. All (Uses (is_directed k) nodes) (fixed_of inst)) kind tour.fixed_used) listed),
       found.1,
@@ -110,8 +110,8 @@ pub record AreOf (pot : Fields) (scale : ℤ) (rows columns : List ℤ) : Type 0
 
 -- the bound that a view's costs give is that of the certificate
 pub assigned : (inst pot : Fields) (n : ℕ) (costs : ℕ → ℕ → ℤ) (scale : ℤ) (rows columns : List ℤ) (bound : ℤ) → DualsBoundWalks → inst.kind ≡ Some kinds.Atsp → 3 ≤ nodes_of inst → IsScale scale
-    → AreOf pot scale rows columns → length rows ≡ nodes_of inst → length columns ≡ nodes_of inst → Keeps inst n costs
-    → AreGood n costs scale rows columns × IsDualBound scale rows columns bound → IsBoundSized bound → IsCertified inst pot bound
+    → AreOf pot scale rows columns → length rows ≡ nodes_of inst → length columns ≡ nodes_of inst → HasCosts inst n costs
+    → AreGood n costs scale rows columns × IsDualBound scale rows columns bound → IsBoundSized bound → IsCertifiedByPotentials inst pot bound
 assigned inst pot n costs scale rows columns bound law kind some scaled are as_rows as_columns keeps found small =
     let nodes : nodes_of inst ≡ n = ap (λ o. unwrap_or o 0) keeps.count in
     let good : AreGood (nodes_of inst) (cost inst) scale rows columns =
@@ -119,7 +119,7 @@ assigned inst pot n costs scale rows columns bound law kind some scaled are as_r
     let by_certificate : AreGood (nodes_of inst) (cost inst) (scale_in pot) (rows_in pot) (columns_in pot) × IsDualBound (scale_in pot) (rows_in pot) (columns_in pot) bound =
     subst (λ s. AreGood (nodes_of inst) (cost inst) s (rows_in pot) (columns_in pot) × IsDualBound s (rows_in pot) (columns_in pot) bound) are.scale_is
     (subst₂ (λ r c. AreGood (nodes_of inst) (cost inst) scale r c × IsDualBound scale r c bound) are.rows_are are.columns_are (good, found.1)) in (
-      subst (λ k. IsBoundBy k inst pot bound) (sym kind) by_certificate,
+      subst (λ k. IsBoundByPotentials k inst pot bound) (sym kind) by_certificate,
       λ walk is used. law (nodes_of inst) (cost inst) scale rows columns bound walk (omega (arith, some)) scaled as_rows as_columns good found.1 is,
       λ walk tour. law (nodes_of inst) (cost inst) scale rows columns bound walk (omega (arith, some)) scaled as_rows as_columns good found.1 tour.walk,
       small,
@@ -127,7 +127,7 @@ assigned inst pot n costs scale rows columns bound law kind some scaled are as_r
 
 -- and so is the first pair that breaks them
 pub broken_stands : (inst pot : Fields) (n : ℕ) (costs : ℕ → ℕ → ℤ) (scale : ℤ) (rows columns : List ℤ) (i j : ℕ) → inst.kind ≡ Some kinds.Atsp
-    → AreOf pot scale rows columns → Keeps inst n costs → IsFirstBroken n costs scale rows columns i j → StandsAgainst inst pot (DualInfeasible i j)
+    → AreOf pot scale rows columns → HasCosts inst n costs → IsFirstBroken n costs scale rows columns i j → StandsAgainstPotentials inst pot (DualInfeasible i j)
 broken_stands inst pot n costs scale rows columns i j kind are keeps pair =
     let nodes : nodes_of inst ≡ n = ap (λ o. unwrap_or o 0) keeps.count in
     let here : IsFirstBroken (nodes_of inst) (cost inst) scale rows columns i j =

@@ -15,18 +15,18 @@ use Rattle.tsp_verdict.specs.Multiplied.{AreListed, IsUnlisted, IsPairRepeated, 
 use Rattle.tsp_verdict.specs.Places.{IsFirstPlace}
 use Rattle.tsp_verdict.specs.Reasons.{NoneBefore, IsFirstReason}
 use Rattle.tsp_verdict.specs.Solution.{nodes_of, fixed_of}
-use Rattle.tsp_verdict.specs.Tours.{rank_of}
-use Rattle.tsp_verdict.specs.Tours as tours
-use Rattle.tsp_verdict.specs.Certificate.{has_wanted, multipliers_in, StandsAgainst}
-use Rattle.tsp_verdict.specs.Bounded as bounded
+use Rattle.tsp_verdict.specs.Tours.{rank_of_tours}
+use Rattle.tsp_verdict.specs.Tours.{IsFirstAgainstTour, StandsAgainstTour}
+use Rattle.tsp_verdict.specs.Certificate.{has_wanted, multipliers_in, StandsAgainstPotentials}
+use Rattle.tsp_verdict.specs.Bounded.{IsFirstAgainstBounded, StandsAgainstBounded}
 
 -- ---- against the certificate alone
 
 -- what is known before a rank rules out the reasons before it
 pub none_before : (inst pot : Fields) (rank : ℕ) → (10 < rank → is_certificate pot.kind ≡ true) → (11 < rank → nodes_of pot ≡ nodes_of inst)
-    → (12 < rank → has_wanted inst.kind pot ≡ true) → (13 < rank → (index : ℕ) → StandsAgainst inst pot (MultiplierNotFixed index) → ⊥)
-    → (14 < rank → (index : ℕ) → StandsAgainst inst pot (MultiplierRepeated index) → ⊥)
-    → (15 < rank → (i j : ℕ) → StandsAgainst inst pot (DualInfeasible i j) → ⊥) → NoneBefore (StandsAgainst inst pot) rank_of rank
+    → (12 < rank → has_wanted inst.kind pot ≡ true) → (13 < rank → (index : ℕ) → StandsAgainstPotentials inst pot (MultiplierNotFixed index) → ⊥)
+    → (14 < rank → (index : ℕ) → StandsAgainstPotentials inst pot (MultiplierRepeated index) → ⊥)
+    → (15 < rank → (i j : ℕ) → StandsAgainstPotentials inst pot (DualInfeasible i j) → ⊥) → NoneBefore (StandsAgainstPotentials inst pot) rank_of_tours rank
 none_before inst pot rank sort size wanted fixed once good NotPotentials low stands = false≢true (sym stands ∙ sort low)
 none_before inst pot rank sort size wanted fixed once good PotentialsDimension low stands = stands (size low)
 none_before inst pot rank sort size wanted fixed once good PotentialsKind low stands = false≢true (sym stands ∙ wanted low)
@@ -37,8 +37,8 @@ none_before inst pot rank sort size wanted fixed once good reason low stands = s
 
 -- all six are ruled out
 pub none_stands : (inst pot : Fields) → is_certificate pot.kind ≡ true → nodes_of pot ≡ nodes_of inst → has_wanted inst.kind pot ≡ true
-    → ((index : ℕ) → StandsAgainst inst pot (MultiplierNotFixed index) → ⊥) → ((index : ℕ) → StandsAgainst inst pot (MultiplierRepeated index) → ⊥)
-    → ((i j : ℕ) → StandsAgainst inst pot (DualInfeasible i j) → ⊥) → (reason : Reason) → StandsAgainst inst pot reason → ⊥
+    → ((index : ℕ) → StandsAgainstPotentials inst pot (MultiplierNotFixed index) → ⊥) → ((index : ℕ) → StandsAgainstPotentials inst pot (MultiplierRepeated index) → ⊥)
+    → ((i j : ℕ) → StandsAgainstPotentials inst pot (DualInfeasible i j) → ⊥) → (reason : Reason) → StandsAgainstPotentials inst pot reason → ⊥
 none_stands inst pot sort size wanted fixed once good NotPotentials stands = false≢true (sym stands ∙ sort)
 none_stands inst pot sort size wanted fixed once good PotentialsDimension stands = stands size
 none_stands inst pot sort size wanted fixed once good PotentialsKind stands = false≢true (sym stands ∙ wanted)
@@ -48,11 +48,11 @@ none_stands inst pot sort size wanted fixed once good (DualInfeasible i j) stand
 none_stands inst pot sort size wanted fixed once good reason stands = stands
 
 -- each multiplier is on a fixed pair
-pub none_unlisted : (inst pot : Fields) → AreListed (fixed_of inst) (multipliers_in pot) → (index : ℕ) → StandsAgainst inst pot (MultiplierNotFixed index) → ⊥
+pub none_unlisted : (inst pot : Fields) → AreListed (fixed_of inst) (multipliers_in pot) → (index : ℕ) → StandsAgainstPotentials inst pot (MultiplierNotFixed index) → ⊥
 none_unlisted inst pot listed index stands = stands.1.holds (listed (index - 1) (0, 0, pos 0) (omega (arith, stands.1.here.0, stands.1.here.1)))
 
 -- no two are on the same
-pub none_repeated : (n : ℕ) (inst pot : Fields) → AreOnPairs n (multipliers_in pot) → (index : ℕ) → StandsAgainst inst pot (MultiplierRepeated index) → ⊥
+pub none_repeated : (n : ℕ) (inst pot : Fields) → AreOnPairs n (multipliers_in pot) → (index : ℕ) → StandsAgainstPotentials inst pot (MultiplierRepeated index) → ⊥
 none_repeated n inst pot are index stands =
     let again = stands.1.holds in
     let apart : is_same_pair (pair_at (multipliers_in pot) again.0) (pair_at (multipliers_in pot) index) ≡ false =
@@ -63,7 +63,7 @@ none_repeated n inst pot are index stands =
 pub not_fixed : (inst pot : Fields) (fixed : List (ℕ × ℕ)) (triples : List (ℕ × ℕ × ℤ)) (index : ℕ) → fixed ≡ fixed_of inst → triples ≡ multipliers_in pot
     → inst.kind ≡ Some kinds.Tsp → is_certificate pot.kind ≡ true
     → nodes_of pot ≡ nodes_of inst → has_wanted (Some kinds.Tsp) pot ≡ true → IsFirstPlace (IsUnlisted fixed triples) triples index
-    → IsFirstReason (StandsAgainst inst pot) rank_of (MultiplierNotFixed index)
+    → IsFirstReason (StandsAgainstPotentials inst pot) rank_of_tours (MultiplierNotFixed index)
 not_fixed inst pot fixed triples index fixed_are triples_are kind sort size wanted first = record {
   stands = (kind, subst₂ (λ fs ts. IsFirstPlace (IsUnlisted fs ts) ts index) fixed_are triples_are first);
   none_before = none_before inst pot 13 (λ low. sort) (λ low. size) (λ low. rw kind wanted) (λ low. absurd (omega (arith, low)))
@@ -74,7 +74,7 @@ not_fixed inst pot fixed triples index fixed_are triples_are kind sort size want
 pub repeats : (inst pot : Fields) (fixed : List (ℕ × ℕ)) (triples : List (ℕ × ℕ × ℤ)) (index : ℕ) → fixed ≡ fixed_of inst → triples ≡ multipliers_in pot
     → inst.kind ≡ Some kinds.Tsp → is_certificate pot.kind ≡ true
     → nodes_of pot ≡ nodes_of inst → has_wanted (Some kinds.Tsp) pot ≡ true → AreListed fixed triples → IsFirstPlace (IsPairRepeated triples) triples index
-    → IsFirstReason (StandsAgainst inst pot) rank_of (MultiplierRepeated index)
+    → IsFirstReason (StandsAgainstPotentials inst pot) rank_of_tours (MultiplierRepeated index)
 repeats inst pot fixed triples index fixed_are triples_are kind sort size wanted listed first = record {
   stands = (kind, subst (λ ts. IsFirstPlace (IsPairRepeated ts) ts index) triples_are first);
   none_before = none_before inst pot 14 (λ low. sort) (λ low. size) (λ low. rw kind wanted)
@@ -92,7 +92,7 @@ multiplied inst pot fixed triples fixed_are triples_are size nodes listed apart 
 
 -- no reason stands against a certificate of a TSP whose multipliers are on different fixed pairs
 pub none_of_tsp : (inst pot : Fields) → inst.kind ≡ Some kinds.Tsp → is_certificate pot.kind ≡ true → nodes_of pot ≡ nodes_of inst → has_wanted inst.kind pot ≡ true
-    → AreOnPairs (nodes_of inst) (multipliers_in pot) → AreListed (fixed_of inst) (multipliers_in pot) → (reason : Reason) → StandsAgainst inst pot reason → ⊥
+    → AreOnPairs (nodes_of inst) (multipliers_in pot) → AreListed (fixed_of inst) (multipliers_in pot) → (reason : Reason) → StandsAgainstPotentials inst pot reason → ⊥
 none_of_tsp inst pot kind sort size wanted on_pairs listed =
     none_stands inst pot sort size wanted (none_unlisted inst pot listed) (none_repeated (nodes_of inst) inst pot on_pairs) (λ i j stands. other (sym kind ∙ stands.0))
   where
@@ -101,7 +101,7 @@ none_of_tsp inst pot kind sort size wanted on_pairs listed =
 
 -- ---- with those against the tour
 
-pub tour_rank : (inst sol : Fields) (reason : Reason) → tours.StandsAgainst inst sol reason → rank_of reason < 10
+pub tour_rank : (inst sol : Fields) (reason : Reason) → StandsAgainstTour inst sol reason → rank_of_tours reason < 10
 tour_rank inst sol NotPotentials stands = absurd stands
 tour_rank inst sol PotentialsDimension stands = absurd stands
 tour_rank inst sol PotentialsKind stands = absurd stands
@@ -121,7 +121,7 @@ tour_rank inst sol (BranchTwice index) stands = absurd stands
 tour_rank inst sol (BadLeaf index) stands = absurd stands
 tour_rank inst sol reason stands = omega arith
 
-certificate_rank : (inst pot : Fields) (reason : Reason) → StandsAgainst inst pot reason → 10 ≤ rank_of reason
+certificate_rank : (inst pot : Fields) (reason : Reason) → StandsAgainstPotentials inst pot reason → 10 ≤ rank_of_tours reason
 certificate_rank inst pot NotPotentials stands = omega arith
 certificate_rank inst pot PotentialsDimension stands = omega arith
 certificate_rank inst pot PotentialsKind stands = omega arith
@@ -131,32 +131,32 @@ certificate_rank inst pot (DualInfeasible i j) stands = omega arith
 certificate_rank inst pot reason stands = absurd stands
 
 -- the first reason against the tour is the first of all
-pub tour_first : (inst sol pot : Fields) (reason : Reason) → tours.IsFirstAgainst inst sol reason → bounded.IsFirstAgainst inst sol pot reason
+pub tour_first : (inst sol pot : Fields) (reason : Reason) → IsFirstAgainstTour inst sol reason → IsFirstAgainstBounded inst sol pot reason
 tour_first inst sol pot reason first = record {
   stands = inl first.stands;
   none_before = λ other low stands. by_side other low stands;
 }
   where
-    by_side : (other : Reason) → rank_of other < rank_of reason → tours.StandsAgainst inst sol other ⊎ StandsAgainst inst pot other → ⊥
+    by_side : (other : Reason) → rank_of_tours other < rank_of_tours reason → StandsAgainstTour inst sol other ⊎ StandsAgainstPotentials inst pot other → ⊥
     by_side other low (inl stands) = first.none_before other low stands
     by_side other low (inr stands) = omega (arith, low, tour_rank inst sol reason first.stands, certificate_rank inst pot other stands)
 
 -- where none stands against the tour, the first against the certificate is the first of all
-pub certificate_first : (inst sol pot : Fields) (reason : Reason) → ((other : Reason) → tours.StandsAgainst inst sol other → ⊥)
-    → IsFirstReason (StandsAgainst inst pot) rank_of reason → bounded.IsFirstAgainst inst sol pot reason
+pub certificate_first : (inst sol pot : Fields) (reason : Reason) → ((other : Reason) → StandsAgainstTour inst sol other → ⊥)
+    → IsFirstReason (StandsAgainstPotentials inst pot) rank_of_tours reason → IsFirstAgainstBounded inst sol pot reason
 certificate_first inst sol pot reason none first = record {
   stands = inr first.stands;
   none_before = λ other low stands. by_side other low stands;
 }
   where
-    by_side : (other : Reason) → rank_of other < rank_of reason → tours.StandsAgainst inst sol other ⊎ StandsAgainst inst pot other → ⊥
+    by_side : (other : Reason) → rank_of_tours other < rank_of_tours reason → StandsAgainstTour inst sol other ⊎ StandsAgainstPotentials inst pot other → ⊥
     by_side other low (inl stands) = none other stands
     by_side other low (inr stands) = first.none_before other low stands
 
-pub none_at_all : (inst sol pot : Fields) → ((other : Reason) → tours.StandsAgainst inst sol other → ⊥) → ((other : Reason) → StandsAgainst inst pot other → ⊥)
-    → (reason : Reason) → bounded.StandsAgainst inst sol pot reason → ⊥
+pub none_at_all : (inst sol pot : Fields) → ((other : Reason) → StandsAgainstTour inst sol other → ⊥) → ((other : Reason) → StandsAgainstPotentials inst pot other → ⊥)
+    → (reason : Reason) → StandsAgainstBounded inst sol pot reason → ⊥
 none_at_all inst sol pot tour certificate reason (inl stands) = tour reason stands
 none_at_all inst sol pot tour certificate reason (inr stands) = certificate reason stands
 
-pub enough : (inst sol : Fields) → ((reason : Reason) → tours.StandsAgainst inst sol reason → ⊥) → 3 ≤ nodes_of inst
+pub enough : (inst sol : Fields) → ((reason : Reason) → StandsAgainstTour inst sol reason → ⊥) → 3 ≤ nodes_of inst
 enough inst sol none = omega (arith, lt_of_not-le (λ (few : nodes_of inst ≤ 2). none TooFewNodes (omega (arith, few))))

@@ -13,7 +13,7 @@ use Rattle.tsp_verdict.specs.declared.verdict.Reason.TheVariants.{DepotInRoute, 
 use Rattle.tsp_verdict.specs.Marks.{Marked}
 use Rattle.tsp_verdict.specs.Places.{IsFirstPlace, IsLarger, IsAt, IsRepeated}
 use Rattle.tsp_verdict.specs.Plan.{demand_of, load_of, IsCustomer, plan_length, IsLeast, depot_of, demands_of, capacity_of, total_of, AreCustomers}
-use Rattle.tsp_verdict.specs.Routes.{IsOverloaded, StandsAgainst, NoneUpTo, IsFirstAgainst, IsPlanned}
+use Rattle.tsp_verdict.specs.Routes.{IsOverloaded, StandsAgainstRoutes, NoneOfRoutesUpTo, IsFirstAgainstRoutes, IsPlanned}
 use Rattle.tsp_verdict.specs.Solution.{nodes_of, tours_of, visited}
 use Rattle.tsp_verdict.proofs.MarkedNodes.{all_apart, marked_there, there_marked}
 use Rattle.tsp_verdict.proofs.PlanBounds.{demand_low, none_fewer}
@@ -21,27 +21,28 @@ use Rattle.tsp_verdict.proofs.RouteReasons.{after_depot, after_range, after_repe
 
 -- ---- places
 
-pub depot_first : (inst sol : Fields) (nodes : List ℕ) (depot place : ℕ) → nodes ≡ visited sol → depot ≡ depot_of inst → NoneUpTo inst sol 7
-    → IsFirstPlace (IsAt depot nodes) nodes place → IsFirstAgainst inst sol (DepotInRoute place)
+pub depot_first : (inst sol : Fields) (nodes : List ℕ) (depot place : ℕ) → nodes ≡ visited sol → depot ≡ depot_of inst → NoneOfRoutesUpTo inst sol 7
+    → IsFirstPlace (IsAt depot nodes) nodes place → IsFirstAgainstRoutes inst sol (DepotInRoute place)
 depot_first inst sol nodes depot place are is none first = record {
   stands = subst (λ d. IsFirstPlace (IsAt d (visited sol)) (visited sol) place) is (subst (λ (xs : List ℕ). IsFirstPlace (IsAt depot xs) xs place) are first);
   none_before = none;
 }
 
-pub no_depot : (inst sol : Fields) (nodes : List ℕ) (depot : ℕ) → nodes ≡ visited sol → depot ≡ depot_of inst → NoneUpTo inst sol 7 → All (λ node. node ≢ depot) nodes → NoneUpTo inst sol 8
+pub no_depot : (inst sol : Fields) (nodes : List ℕ) (depot : ℕ) → nodes ≡ visited sol → depot ≡ depot_of inst
+    → NoneOfRoutesUpTo inst sol 7 → All (λ node. node ≢ depot) nodes → NoneOfRoutesUpTo inst sol 8
 no_depot inst sol nodes depot are is none others =
     let all : All (λ node. node ≢ depot_of inst) (visited sol) = subst (λ d. All (λ node. node ≢ d) (visited sol)) is (subst (λ (xs : List ℕ). All (λ node. node ≢ depot) xs) are others) in
     after_depot inst sol none (λ place first. all (place - 1) 0 (omega (arith, first.here.0, first.here.1)) first.holds)
 
-pub larger_first : (inst sol : Fields) (nodes : List ℕ) (n place : ℕ) → nodes ≡ visited sol → n ≡ nodes_of inst → NoneUpTo inst sol 8
-    → IsFirstPlace (IsLarger n nodes) nodes place → IsFirstAgainst inst sol (NodeOutOfRange place)
+pub larger_first : (inst sol : Fields) (nodes : List ℕ) (n place : ℕ) → nodes ≡ visited sol → n ≡ nodes_of inst → NoneOfRoutesUpTo inst sol 8
+    → IsFirstPlace (IsLarger n nodes) nodes place → IsFirstAgainstRoutes inst sol (NodeOutOfRange place)
 larger_first inst sol nodes n place are is none first = record {
   stands = subst (λ m. IsFirstPlace (IsLarger m (visited sol)) (visited sol) place) is (subst (λ (xs : List ℕ). IsFirstPlace (IsLarger n xs) xs place) are first);
   none_before = none;
 }
 
-pub customers : (inst sol : Fields) (nodes : List ℕ) (n depot : ℕ) → nodes ≡ visited sol → n ≡ nodes_of inst → depot ≡ depot_of inst → NoneUpTo inst sol 8
-    → All (λ node. 1 ≤ node) nodes → All (λ node. node ≢ depot) nodes → All (λ node. node ≤ n) nodes → AreCustomers inst sol × NoneUpTo inst sol 9
+pub customers : (inst sol : Fields) (nodes : List ℕ) (n depot : ℕ) → nodes ≡ visited sol → n ≡ nodes_of inst → depot ≡ depot_of inst → NoneOfRoutesUpTo inst sol 8
+    → All (λ node. 1 ≤ node) nodes → All (λ node. node ≢ depot) nodes → All (λ node. node ≤ n) nodes → AreCustomers inst sol × NoneOfRoutesUpTo inst sol 9
 customers inst sol nodes n depot are n_is depot_is none low other high =
     let all : All (IsCustomer n depot) nodes = λ k d lt. ((low k d lt, high k d lt), other k d lt) in
     let there : AreCustomers inst sol =
@@ -56,8 +57,8 @@ pub customers_in : (inst sol : Fields) (nodes : List ℕ) (n : ℕ) → nodes �
 customers_in inst sol nodes n are is all =
     subst (λ m. All (IsNode m) nodes) (sym is) (subst (λ (xs : List ℕ). All (IsNode (nodes_of inst)) xs) (sym are) (λ k d lt. (all k d lt).0))
 
-pub repeated_first : (inst sol : Fields) (nodes : List ℕ) (place : ℕ) → nodes ≡ visited sol → NoneUpTo inst sol 9 → IsFirstPlace (IsRepeated nodes) nodes place
-    → IsFirstAgainst inst sol (RepeatedNode place)
+pub repeated_first : (inst sol : Fields) (nodes : List ℕ) (place : ℕ) → nodes ≡ visited sol → NoneOfRoutesUpTo inst sol 9 → IsFirstPlace (IsRepeated nodes) nodes place
+    → IsFirstAgainstRoutes inst sol (RepeatedNode place)
 repeated_first inst sol nodes place are none first = record {
   stands = subst (λ (xs : List ℕ). IsFirstPlace (IsRepeated xs) xs place) are first;
   none_before = none;
@@ -69,9 +70,9 @@ repeated_first inst sol nodes place are none first = record {
 pub record IsMarked (inst sol : Fields) (seen : List Bool) (size : ℕ) : Type 0 where
   pub marks : Marked (visited sol) seen (length (visited sol))
   pub wide : size ≡ nodes_of inst + 1
-  pub none : NoneUpTo inst sol 10
+  pub none : NoneOfRoutesUpTo inst sol 10
 
-pub is_marked : (inst sol : Fields) (nodes : List ℕ) (seen : List Bool) (size : ℕ) → nodes ≡ visited sol → size ≡ nodes_of inst + 1 → NoneUpTo inst sol 9
+pub is_marked : (inst sol : Fields) (nodes : List ℕ) (seen : List Bool) (size : ℕ) → nodes ≡ visited sol → size ≡ nodes_of inst + 1 → NoneOfRoutesUpTo inst sol 9
     → Marked nodes seen (length nodes) → IsMarked inst sol seen size
 is_marked inst sol nodes seen size are wide none m =
     let there : Marked (visited sol) seen (length (visited sol)) = subst (λ (xs : List ℕ). Marked xs seen (length xs)) are m in
@@ -79,7 +80,7 @@ is_marked inst sol nodes seen size are wide none m =
 
 pub unserved_first : (inst sol : Fields) (seen : List Bool) (size depot node : ℕ) → IsMarked inst sol seen size → depot ≡ depot_of inst
     → (1 ≤ node) × (node < size) × (node ≢ depot) × (slice_index_or seen node false ≡ false) × ((other : ℕ) → 1 ≤ other → other < node → other ≢ depot → slice_index_or seen other false ≡ true)
-    → IsFirstAgainst inst sol (Unserved node)
+    → IsFirstAgainstRoutes inst sol (Unserved node)
 unserved_first inst sol seen size depot node m is found = record {
   stands = record {
     customer = ((found.0, omega (arith, found.1, m.wide)), λ same. found.2 (same ∙ sym is));
@@ -95,13 +96,13 @@ pub all_served : (inst sol : Fields) (seen : List Bool) (size depot : ℕ) → I
 all_served inst sol seen size depot m is all node customer =
     marked_there (visited sol) seen node m.marks (all node customer.0.0 (omega (arith, customer.0.1, m.wide)) (λ same. customer.1 (same ∙ is)))
 
-pub none_unserved : (inst sol : Fields) → NoneUpTo inst sol 10 → ((node : ℕ) → IsCustomer (nodes_of inst) (depot_of inst) node → Contains (visited sol) node) → NoneUpTo inst sol 11
+pub none_unserved : (inst sol : Fields) → NoneOfRoutesUpTo inst sol 10 → ((node : ℕ) → IsCustomer (nodes_of inst) (depot_of inst) node → Contains (visited sol) node) → NoneOfRoutesUpTo inst sol 11
 none_unserved inst sol none served = after_served inst sol none (λ node first. first.unserved (served node first.customer))
 
 -- ---- what is carried
 
 pub overload_first : (inst sol : Fields) (routes : List (List ℕ)) (demands : List ℤ) (capacity : ℤ) (place : ℕ) → routes ≡ tours_of sol → demands ≡ demands_of inst → capacity ≡ capacity_of inst
-    → NoneUpTo inst sol 11 → IsFirstPlace (IsOverloaded demands capacity routes) routes place → IsFirstAgainst inst sol (Overload place)
+    → NoneOfRoutesUpTo inst sol 11 → IsFirstPlace (IsOverloaded demands capacity routes) routes place → IsFirstAgainstRoutes inst sol (Overload place)
 overload_first inst sol routes demands capacity place are demands_are capacity_is none first = record {
   stands = subst (λ (z : ℤ). IsFirstPlace (IsOverloaded (demands_of inst) z (tours_of sol)) (tours_of sol) place) capacity_is
       (subst (λ (ds : List ℤ). IsFirstPlace (IsOverloaded ds capacity (tours_of sol)) (tours_of sol) place) demands_are
@@ -116,7 +117,7 @@ pub is_planned : (inst sol : Fields) (seen : List Bool) (size : ℕ) (routes : L
     → All IsDemand demands → demand_of (demands_of inst) depot ≡ pos 0
     → All (λ route. load_of demands route ≤ℤ capacity) routes → measured ≡ plan_length (cost inst) depot routes → count ≡ length routes
     → IsLeast (load_of demands (nodes_to (length demands))) capacity least
-    → ((reason : Reason) → StandsAgainst inst sol reason → ⊥) × IsPlanned inst (tours_of sol) measured count least
+    → ((reason : Reason) → StandsAgainstRoutes inst sol reason → ⊥) × IsPlanned inst (tours_of sol) measured count least
 is_planned inst sol seen size routes demands capacity depot measured count least are demands_are each capacity_is depot_is all m served range empty within long counted is_least =
     let carried : All (λ route. load_of (demands_of inst) route ≤ℤ capacity_of inst) (tours_of sol) =
     subst (λ (z : ℤ). All (λ route. load_of (demands_of inst) route ≤ℤ z) (tours_of sol)) capacity_is

@@ -11,43 +11,43 @@ use Rattle.tsp_verdict.specs.declared.verdict.Reason.{Reason}
 use Rattle.tsp_verdict.specs.declared.verdict.Reason.TheVariants.{NotASolution, TooFewNodes, NotSymmetric, Dimension, TourCount, TourLength, NodeOutOfRange, RepeatedNode, FixedEdgeUnused, NotPotentials, PotentialsDimension, PotentialsKind, MultiplierNotFixed, MultiplierRepeated, DualInfeasible, DepotCount, DepotDemand, FixedEdgesInRoutes, DepotInRoute, Unserved, Overload, NotBranches, BranchesDimension, BadComb, BranchTwice, BadLeaf}
 use Rattle.tsp_verdict.specs.Places.{IsFirstPlace, IsLarger, IsRepeated, IsUnused}
 use Rattle.tsp_verdict.specs.Solution.{nodes_of, fixed_of, tours_of, visited}
-use Rattle.tsp_verdict.specs.Tours.{StandsAgainst, NoneUpTo}
+use Rattle.tsp_verdict.specs.Tours.{StandsAgainstTour, NoneOfTourUpTo}
 
-pub after_solution : (inst sol : Fields) → is_tours sol.kind ≡ true → NoneUpTo inst sol 2
+pub after_solution : (inst sol : Fields) → is_tours sol.kind ≡ true → NoneOfTourUpTo inst sol 2
 after_solution inst sol is NotASolution low stands = false≢true (sym stands ∙ is)
 after_solution inst sol is reason low stands = absurd (omega (arith, low))
 
-pub after_nodes : (inst sol : Fields) → NoneUpTo inst sol 2 → 3 ≤ nodes_of inst → NoneUpTo inst sol 3
+pub after_nodes : (inst sol : Fields) → NoneOfTourUpTo inst sol 2 → 3 ≤ nodes_of inst → NoneOfTourUpTo inst sol 3
 after_nodes inst sol before enough TooFewNodes low stands = omega (arith, enough, stands)
 after_nodes inst sol before enough reason low stands = before reason (omega (arith, low)) stands
 
-pub after_symmetry : (inst sol : Fields) → NoneUpTo inst sol 3 → (inst.kind ≡ Some kinds.Tsp → (i j : ℕ) → IsFirstUneven (nodes_of inst) (cost inst) (i, j) → ⊥) → NoneUpTo inst sol 4
+pub after_symmetry : (inst sol : Fields) → NoneOfTourUpTo inst sol 3 → (inst.kind ≡ Some kinds.Tsp → (i j : ℕ) → IsFirstUneven (nodes_of inst) (cost inst) (i, j) → ⊥) → NoneOfTourUpTo inst sol 4
 after_symmetry inst sol before even (NotSymmetric i j) low stands = even stands.0 i j stands.1
 after_symmetry inst sol before even reason low stands = before reason (omega (arith, low)) stands
 
-pub after_dimension : (inst sol : Fields) → NoneUpTo inst sol 4 → ((n : ℕ) → sol.dimension ≡ Some n → n ≡ nodes_of inst) → NoneUpTo inst sol 5
+pub after_dimension : (inst sol : Fields) → NoneOfTourUpTo inst sol 4 → ((n : ℕ) → sol.dimension ≡ Some n → n ≡ nodes_of inst) → NoneOfTourUpTo inst sol 5
 after_dimension inst sol before same Dimension low stands = stands.2 (same stands.0 stands.1)
 after_dimension inst sol before same reason low stands = before reason (omega (arith, low)) stands
 
-pub after_count : (inst sol : Fields) → NoneUpTo inst sol 5 → length (tours_of sol) ≡ 1 → NoneUpTo inst sol 6
+pub after_count : (inst sol : Fields) → NoneOfTourUpTo inst sol 5 → length (tours_of sol) ≡ 1 → NoneOfTourUpTo inst sol 6
 after_count inst sol before one TourCount low stands = stands one
 after_count inst sol before one reason low stands = before reason (omega (arith, low)) stands
 
-pub after_length : (inst sol : Fields) → NoneUpTo inst sol 6 → length (visited sol) ≡ nodes_of inst → NoneUpTo inst sol 7
+pub after_length : (inst sol : Fields) → NoneOfTourUpTo inst sol 6 → length (visited sol) ≡ nodes_of inst → NoneOfTourUpTo inst sol 7
 after_length inst sol before full TourLength low stands = stands full
 after_length inst sol before full reason low stands = before reason (omega (arith, low)) stands
 
-pub after_range : (inst sol : Fields) → NoneUpTo inst sol 7 → ((place : ℕ) → IsFirstPlace (IsLarger (nodes_of inst) (visited sol)) (visited sol) place → ⊥) → NoneUpTo inst sol 8
+pub after_range : (inst sol : Fields) → NoneOfTourUpTo inst sol 7 → ((place : ℕ) → IsFirstPlace (IsLarger (nodes_of inst) (visited sol)) (visited sol) place → ⊥) → NoneOfTourUpTo inst sol 8
 after_range inst sol before inside (NodeOutOfRange place) low stands = inside place stands
 after_range inst sol before inside reason low stands = before reason (omega (arith, low)) stands
 
-pub after_repeats : (inst sol : Fields) → NoneUpTo inst sol 8 → ((place : ℕ) → IsFirstPlace (IsRepeated (visited sol)) (visited sol) place → ⊥) → NoneUpTo inst sol 9
+pub after_repeats : (inst sol : Fields) → NoneOfTourUpTo inst sol 8 → ((place : ℕ) → IsFirstPlace (IsRepeated (visited sol)) (visited sol) place → ⊥) → NoneOfTourUpTo inst sol 9
 after_repeats inst sol before once (RepeatedNode place) low stands = once place stands
 after_repeats inst sol before once reason low stands = before reason (omega (arith, low)) stands
 
-pub after_fixed : (inst sol : Fields) → NoneUpTo inst sol 9 → ((index : ℕ)
+pub after_fixed : (inst sol : Fields) → NoneOfTourUpTo inst sol 9 → ((index : ℕ)
     → IsFirstPlace (IsUnused (is_directed inst.kind) (visited sol) (fixed_of inst)) (fixed_of inst) index → ⊥) → (reason : Reason)
-    → StandsAgainst inst sol reason → ⊥
+    → StandsAgainstTour inst sol reason → ⊥
 after_fixed inst sol before used (FixedEdgeUnused index) stands = used index stands
 after_fixed inst sol before used NotPotentials stands = stands
 after_fixed inst sol before used PotentialsDimension stands = stands

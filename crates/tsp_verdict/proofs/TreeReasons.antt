@@ -37,10 +37,10 @@ use Rattle.tsp_verdict.specs.Numbered.{numbered_from}
 use Rattle.tsp_verdict.specs.Places.{IsFirstPlace}
 use Rattle.tsp_verdict.specs.Reasons.{NoneBefore, IsFirstReason}
 use Rattle.tsp_verdict.specs.Solution.{nodes_of, fixed_of}
-use Rattle.tsp_verdict.specs.Tours.{rank_of}
-use Rattle.tsp_verdict.specs.Tours as tours
-use Rattle.tsp_verdict.specs.Tree.{combs_in, steps_in, each_once, given_in, tree_in, told_combs, IsBadComb, StandsAgainst, IsCertified}
-use Rattle.tsp_verdict.specs.Branched as branched
+use Rattle.tsp_verdict.specs.Tours.{rank_of_tours}
+use Rattle.tsp_verdict.specs.Tours.{IsFirstAgainstTour, StandsAgainstTour}
+use Rattle.tsp_verdict.specs.Tree.{combs_in, steps_in, each_once, given_in, tree_in, told_combs, IsBadComb, StandsAgainstTree, IsCertifiedByTree}
+use Rattle.tsp_verdict.specs.Branched.{IsFirstAgainstBranched, StandsAgainstBranched}
 use Rattle.tsp_verdict.proofs.CarriedBounds.{Same, weights_same, least_same}
 use Rattle.tsp_verdict.proofs.Certificates.{tour_rank}
 use Rattle.tsp_verdict.proofs.GivenPairs.{keeps_given}
@@ -117,7 +117,7 @@ bad_comb inst tree index bad = record {
 
 -- where all combs are good, none is bad
 no_bad_comb : (inst tree : Fields) → ((comb : ℕ) → comb < length (combs_in tree) → IsGoodComb (nodes_of inst) (of_comb comb (numbered_from 0 (combs_in tree))))
-    → (index : ℕ) → StandsAgainst inst tree (BadComb index) → ⊥
+    → (index : ℕ) → StandsAgainstTree inst tree (BadComb index) → ⊥
 no_bad_comb inst tree good index stands =
     stands.holds (subst (IsGoodComb (nodes_of inst)) (own_comb tree (index - 1)) (good (index - 1) (omega (arith, stands.here.0, stands.here.1))))
 
@@ -129,8 +129,8 @@ no_bad_from n combs numbers leaf (listed.Leaf changes ∷ steps) bad good (inr l
 
 -- what is known before a rank rules out the reasons before it
 none_before : (inst tree : Fields) (rank : ℕ) → (17 < rank → is_tree tree.kind ≡ true) → (18 < rank → nodes_of tree ≡ nodes_of inst)
-    → (19 < rank → (index : ℕ) → StandsAgainst inst tree (BadComb index) → ⊥) → (20 < rank → (index : ℕ) → StandsAgainst inst tree (BranchTwice index) → ⊥)
-    → (21 < rank → (index : ℕ) → StandsAgainst inst tree (BadLeaf index) → ⊥) → NoneBefore (StandsAgainst inst tree) rank_of rank
+    → (19 < rank → (index : ℕ) → StandsAgainstTree inst tree (BadComb index) → ⊥) → (20 < rank → (index : ℕ) → StandsAgainstTree inst tree (BranchTwice index) → ⊥)
+    → (21 < rank → (index : ℕ) → StandsAgainstTree inst tree (BadLeaf index) → ⊥) → NoneBefore (StandsAgainstTree inst tree) rank_of_tours rank
 none_before inst tree rank sort size combs once leaves NotBranches low stands = false≢true (sym stands ∙ sort low)
 none_before inst tree rank sort size combs once leaves BranchesDimension low stands = stands (size low)
 none_before inst tree rank sort size combs once leaves (BadComb index) low stands = combs low index stands
@@ -139,28 +139,28 @@ none_before inst tree rank sort size combs once leaves (BadLeaf index) low stand
 none_before inst tree rank sort size combs once leaves reason low stands = stands
 
 pub comb_first : (inst tree : Fields) (costs : ℕ → ℕ → ℤ) (index : ℕ) → is_tree tree.kind ≡ true → nodes_of tree ≡ nodes_of inst → IsTold inst tree costs (found.BadComb index)
-    → IsFirstReason (StandsAgainst inst tree) rank_of (BadComb index)
+    → IsFirstReason (StandsAgainstTree inst tree) rank_of_tours (BadComb index)
 comb_first inst tree costs index sort size is = record {
   stands = bad_comb inst tree index is;
   none_before = none_before inst tree 19 (λ low. sort) (λ low. size) (λ low. absurd (omega (arith, low))) (λ low. absurd (omega (arith, low))) (λ low. absurd (omega (arith, low)));
 }
 
 pub twice_first : (inst tree : Fields) (costs : ℕ → ℕ → ℤ) (index : ℕ) → is_tree tree.kind ≡ true → nodes_of tree ≡ nodes_of inst → IsTold inst tree costs (found.BranchTwice index)
-    → IsFirstReason (StandsAgainst inst tree) rank_of (BranchTwice index)
+    → IsFirstReason (StandsAgainstTree inst tree) rank_of_tours (BranchTwice index)
 twice_first inst tree costs index sort size is = record {
   stands = is.1;
   none_before = none_before inst tree 20 (λ low. sort) (λ low. size) (λ low. no_bad_comb inst tree is.0.0) (λ low. absurd (omega (arith, low))) (λ low. absurd (omega (arith, low)));
 }
 
 pub leaf_first : (inst tree : Fields) (costs : ℕ → ℕ → ℤ) (index : ℕ) → is_tree tree.kind ≡ true → nodes_of tree ≡ nodes_of inst → IsTold inst tree costs (found.BadLeaf index)
-    → IsFirstReason (StandsAgainst inst tree) rank_of (BadLeaf index)
+    → IsFirstReason (StandsAgainstTree inst tree) rank_of_tours (BadLeaf index)
 leaf_first inst tree costs index sort size is = record {
   stands = is.leaves;
   none_before = none_before inst tree 21 (λ low. sort) (λ low. size) (λ low. no_bad_comb inst tree is.are_combs.0) (λ low. is.are_once.0) (λ low. absurd (omega (arith, low)));
 }
 
 pub none_stands : (inst tree : Fields) (costs : ℕ → ℕ → ℤ) (bound : ℤ) → is_tree tree.kind ≡ true → nodes_of tree ≡ nodes_of inst → IsTold inst tree costs (found.Bound bound)
-    → (reason : Reason) → StandsAgainst inst tree reason → ⊥
+    → (reason : Reason) → StandsAgainstTree inst tree reason → ⊥
 none_stands inst tree costs bound sort size is NotBranches stands = false≢true (sym stands ∙ sort)
 none_stands inst tree costs bound sort size is BranchesDimension stands = stands size
 none_stands inst tree costs bound sort size is (BadComb index) stands = no_bad_comb inst tree is.are_combs.0 index stands
@@ -202,7 +202,7 @@ module _ (n : ℕ) (a b : ℕ → ℕ → ℤ) (scale number : ℤ) (combs : Lis
 
 -- the bound that a view's costs give is that of the certificate
 pub certified : (inst tree : Fields) (costs : ℕ → ℕ → ℤ) (bound : ℤ) → CertificatesBoundWalks → inst.kind ≡ Some kinds.Tsp → 3 ≤ nodes_of inst → IsEven (cost inst) → IsScale (scale_in tree)
-    → Same costs (cost inst) → IsBoundSized bound → IsTold inst tree costs (found.Bound bound) → IsCertified inst tree bound
+    → Same costs (cost inst) → IsBoundSized bound → IsTold inst tree costs (found.Bound bound) → IsCertifiedByTree inst tree bound
 certified inst tree costs bound law kind some even scaled same sized is =
     let n : ℕ = nodes_of inst in
     let combs_are = combs_told (combs_in tree) in
@@ -219,7 +219,7 @@ certified inst tree costs bound law kind some even scaled same sized is =
 
 -- ---- with those against the tour
 
-tree_rank : (inst tree : Fields) (reason : Reason) → StandsAgainst inst tree reason → 10 ≤ rank_of reason
+tree_rank : (inst tree : Fields) (reason : Reason) → StandsAgainstTree inst tree reason → 10 ≤ rank_of_tours reason
 tree_rank inst tree NotBranches stands = omega arith
 tree_rank inst tree BranchesDimension stands = omega arith
 tree_rank inst tree (BadComb index) stands = omega arith
@@ -228,29 +228,29 @@ tree_rank inst tree (BadLeaf index) stands = omega arith
 tree_rank inst tree reason stands = absurd stands
 
 -- the first reason against the tour is the first of all
-pub tour_first : (inst sol tree : Fields) (reason : Reason) → tours.IsFirstAgainst inst sol reason → branched.IsFirstAgainst inst sol tree reason
+pub tour_first : (inst sol tree : Fields) (reason : Reason) → IsFirstAgainstTour inst sol reason → IsFirstAgainstBranched inst sol tree reason
 tour_first inst sol tree reason first = record {
   stands = inl first.stands;
   none_before = λ other low stands. by_side other low stands;
 }
   where
-    by_side : (other : Reason) → rank_of other < rank_of reason → tours.StandsAgainst inst sol other ⊎ StandsAgainst inst tree other → ⊥
+    by_side : (other : Reason) → rank_of_tours other < rank_of_tours reason → StandsAgainstTour inst sol other ⊎ StandsAgainstTree inst tree other → ⊥
     by_side other low (inl stands) = first.none_before other low stands
     by_side other low (inr stands) = omega (arith, low, tour_rank inst sol reason first.stands, tree_rank inst tree other stands)
 
 -- where none stands against the tour, the first against the certificate is the first of all
-pub tree_first : (inst sol tree : Fields) (reason : Reason) → ((other : Reason) → tours.StandsAgainst inst sol other → ⊥)
-    → IsFirstReason (StandsAgainst inst tree) rank_of reason → branched.IsFirstAgainst inst sol tree reason
+pub tree_first : (inst sol tree : Fields) (reason : Reason) → ((other : Reason) → StandsAgainstTour inst sol other → ⊥)
+    → IsFirstReason (StandsAgainstTree inst tree) rank_of_tours reason → IsFirstAgainstBranched inst sol tree reason
 tree_first inst sol tree reason none first = record {
   stands = inr first.stands;
   none_before = λ other low stands. by_side other low stands;
 }
   where
-    by_side : (other : Reason) → rank_of other < rank_of reason → tours.StandsAgainst inst sol other ⊎ StandsAgainst inst tree other → ⊥
+    by_side : (other : Reason) → rank_of_tours other < rank_of_tours reason → StandsAgainstTour inst sol other ⊎ StandsAgainstTree inst tree other → ⊥
     by_side other low (inl stands) = none other stands
     by_side other low (inr stands) = first.none_before other low stands
 
-pub none_at_all : (inst sol tree : Fields) → ((other : Reason) → tours.StandsAgainst inst sol other → ⊥) → ((other : Reason) → StandsAgainst inst tree other → ⊥)
-    → (reason : Reason) → branched.StandsAgainst inst sol tree reason → ⊥
+pub none_at_all : (inst sol tree : Fields) → ((other : Reason) → StandsAgainstTour inst sol other → ⊥) → ((other : Reason) → StandsAgainstTree inst tree other → ⊥)
+    → (reason : Reason) → StandsAgainstBranched inst sol tree reason → ⊥
 none_at_all inst sol tree tour certificate reason (inl stands) = tour reason stands
 none_at_all inst sol tree tour certificate reason (inr stands) = certificate reason stands

@@ -17,7 +17,7 @@ use Rattle.tsp_verdict.specs.Multiplied.{IsUnlisted, IsPairRepeated}
 use Rattle.tsp_verdict.specs.Places.{IsFirstPlace}
 use Rattle.tsp_verdict.specs.Reasons.{IsFirstReason}
 use Rattle.tsp_verdict.specs.Solution.{nodes_of, fixed_of}
-use Rattle.tsp_verdict.specs.Tours.{rank_of}
+use Rattle.tsp_verdict.specs.Tours.{rank_of_tours}
 
 -- ---- what is read of it
 
@@ -50,31 +50,32 @@ has_wanted None f = false
 
 -- ---- when a reason stands against it; reasons of tours and of routes never do
 
-abbrev pub StandsAgainst : Fields → Fields → Reason → Type 0
-StandsAgainst inst pot NotPotentials = is_certificate pot.kind ≡ false
-StandsAgainst inst pot PotentialsDimension = nodes_of pot ≢ nodes_of inst
-StandsAgainst inst pot PotentialsKind = has_wanted inst.kind pot ≡ false
-StandsAgainst inst pot (MultiplierNotFixed index) = (inst.kind ≡ Some kinds.Tsp)
+abbrev pub StandsAgainstPotentials : Fields → Fields → Reason → Type 0
+StandsAgainstPotentials inst pot NotPotentials = is_certificate pot.kind ≡ false
+StandsAgainstPotentials inst pot PotentialsDimension = nodes_of pot ≢ nodes_of inst
+StandsAgainstPotentials inst pot PotentialsKind = has_wanted inst.kind pot ≡ false
+StandsAgainstPotentials inst pot (MultiplierNotFixed index) = (inst.kind ≡ Some kinds.Tsp)
     × IsFirstPlace (IsUnlisted (fixed_of inst) (multipliers_in pot)) (multipliers_in pot) index
-StandsAgainst inst pot (MultiplierRepeated index) = (inst.kind ≡ Some kinds.Tsp)
+StandsAgainstPotentials inst pot (MultiplierRepeated index) = (inst.kind ≡ Some kinds.Tsp)
     × IsFirstPlace (IsPairRepeated (multipliers_in pot)) (multipliers_in pot) index
-StandsAgainst inst pot (DualInfeasible i j) = (inst.kind ≡ Some kinds.Atsp)
+StandsAgainstPotentials inst pot (DualInfeasible i j) = (inst.kind ≡ Some kinds.Atsp)
     × IsFirstBroken (nodes_of inst) (cost inst) (scale_in pot) (rows_in pot) (columns_in pot) i j
-StandsAgainst inst pot reason = ⊥
+StandsAgainstPotentials inst pot reason = ⊥
 
 -- ---- its bound
 
 -- the bound of a least 1-tree under TYPE TSP, that of duals under TYPE ATSP
-abbrev pub IsBoundBy : Option Kind → Fields → Fields → ℤ → Type 0
-IsBoundBy (Some kinds.Tsp) inst pot bound =
+abbrev pub IsBoundByPotentials : Option Kind → Fields → Fields → ℤ → Type 0
+IsBoundByPotentials (Some kinds.Tsp) inst pot bound =
     IsAdjustedBound (nodes_of inst) (cost inst) (scale_in pot) (potentials_in pot) (multipliers_in pot) [] bound
-IsBoundBy (Some kinds.Atsp) inst pot bound = AreGood (nodes_of inst) (cost inst) (scale_in pot) (rows_in pot) (columns_in pot)
+IsBoundByPotentials (Some kinds.Atsp) inst pot bound =
+    AreGood (nodes_of inst) (cost inst) (scale_in pot) (rows_in pot) (columns_in pot)
     × IsDualBound (scale_in pot) (rows_in pot) (columns_in pot) bound
-IsBoundBy (Some kinds.Cvrp) inst pot bound = ⊥
-IsBoundBy (Some kinds.Tour) inst pot bound = ⊥
-IsBoundBy (Some kinds.Potentials) inst pot bound = ⊥
-IsBoundBy (Some kinds.Branches) inst pot bound = ⊥
-IsBoundBy None inst pot bound = ⊥
+IsBoundByPotentials (Some kinds.Cvrp) inst pot bound = ⊥
+IsBoundByPotentials (Some kinds.Tour) inst pot bound = ⊥
+IsBoundByPotentials (Some kinds.Potentials) inst pot bound = ⊥
+IsBoundByPotentials (Some kinds.Branches) inst pot bound = ⊥
+IsBoundByPotentials None inst pot bound = ⊥
 
 -- Under TYPE TSP a walk uses the pairs with multipliers, in either direction; elsewhere multipliers aren't looked at.
 abbrev pub UsesMultiplied : Option Kind → Fields → List ℕ → Type 0
@@ -96,11 +97,12 @@ abbrev pub BoundsTours : Fields → ℤ → Type 0
 BoundsTours inst bound = (other : List ℕ) → IsTourOf inst other → bound ≤ℤ length_of (cost inst) other
 
 -- the bound that the certificate gives, which no such walk and no tour is below, and sums with which fit 128 bits
-abbrev pub IsCertified : Fields → Fields → ℤ → Type 0
-IsCertified inst pot bound = IsBoundBy inst.kind inst pot bound × BoundsWalks inst pot bound
+abbrev pub IsCertifiedByPotentials : Fields → Fields → ℤ → Type 0
+IsCertifiedByPotentials inst pot bound = IsBoundByPotentials inst.kind inst pot bound × BoundsWalks inst pot bound
     × BoundsTours inst bound × IsBoundSized bound
 
 -- the bound of a certificate against which no reason stands, or the first reason that does
-abbrev pub FindsBound : Fields → Fields → Result ℤ Reason → Type 0
-FindsBound inst pot (Ok bound) = ((reason : Reason) → StandsAgainst inst pot reason → ⊥) × IsCertified inst pot bound
-FindsBound inst pot (Err reason) = IsFirstReason (StandsAgainst inst pot) rank_of reason
+abbrev pub FindsBoundByPotentials : Fields → Fields → Result ℤ Reason → Type 0
+FindsBoundByPotentials inst pot (Ok bound) =
+    ((reason : Reason) → StandsAgainstPotentials inst pot reason → ⊥) × IsCertifiedByPotentials inst pot bound
+FindsBoundByPotentials inst pot (Err reason) = IsFirstReason (StandsAgainstPotentials inst pot) rank_of_tours reason

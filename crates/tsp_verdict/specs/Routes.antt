@@ -25,71 +25,71 @@ abbrev pub IsOverloaded : List ℤ → ℤ → List (List ℕ) → ℕ → Type 
 IsOverloaded demands capacity routes place = capacity <ℤ load_of demands (slice_index_or routes (place - 1) [])
 
 -- When a reason stands against routes. Reasons of tours alone and of certificates never do.
-abbrev pub StandsAgainst : Fields → Fields → Reason → Type 0
-StandsAgainst inst sol NotASolution = is_tours sol.kind ≡ false
-StandsAgainst inst sol TooFewNodes = nodes_of inst < 2
-StandsAgainst inst sol (NotSymmetric i j) = ⊥
-StandsAgainst inst sol Dimension = (n : ℕ) × (sol.dimension ≡ Some n) × (n ≢ nodes_of inst)
-StandsAgainst inst sol TourCount = ⊥
-StandsAgainst inst sol TourLength = ⊥
-StandsAgainst inst sol (NodeOutOfRange place) = IsFirstPlace (IsLarger (nodes_of inst) (visited sol)) (visited sol) place
-StandsAgainst inst sol (RepeatedNode place) = IsFirstPlace (IsRepeated (visited sol)) (visited sol) place
-StandsAgainst inst sol (FixedEdgeUnused index) = ⊥
-StandsAgainst inst sol NotPotentials = ⊥
-StandsAgainst inst sol PotentialsDimension = ⊥
-StandsAgainst inst sol PotentialsKind = ⊥
-StandsAgainst inst sol (MultiplierNotFixed index) = ⊥
-StandsAgainst inst sol (MultiplierRepeated index) = ⊥
-StandsAgainst inst sol (DualInfeasible i j) = ⊥
-StandsAgainst inst sol NotBranches = ⊥
-StandsAgainst inst sol BranchesDimension = ⊥
-StandsAgainst inst sol (BadComb index) = ⊥
-StandsAgainst inst sol (BranchTwice index) = ⊥
-StandsAgainst inst sol (BadLeaf index) = ⊥
-StandsAgainst inst sol DepotCount = length (depots_of inst) ≢ 1
-StandsAgainst inst sol DepotDemand = demand_of (demands_of inst) (depot_of inst) ≢ pos 0
-StandsAgainst inst sol FixedEdgesInRoutes = 1 ≤ length (fixed_of inst)
-StandsAgainst inst sol (DepotInRoute place) = IsFirstPlace (IsAt (depot_of inst) (visited sol)) (visited sol) place
-StandsAgainst inst sol (Unserved node) = IsFirstUnserved (nodes_of inst) (depot_of inst) (visited sol) node
-StandsAgainst inst sol (Overload route) =
+abbrev pub StandsAgainstRoutes : Fields → Fields → Reason → Type 0
+StandsAgainstRoutes inst sol NotASolution = is_tours sol.kind ≡ false
+StandsAgainstRoutes inst sol TooFewNodes = nodes_of inst < 2
+StandsAgainstRoutes inst sol (NotSymmetric i j) = ⊥
+StandsAgainstRoutes inst sol Dimension = (n : ℕ) × (sol.dimension ≡ Some n) × (n ≢ nodes_of inst)
+StandsAgainstRoutes inst sol TourCount = ⊥
+StandsAgainstRoutes inst sol TourLength = ⊥
+StandsAgainstRoutes inst sol (NodeOutOfRange place) = IsFirstPlace (IsLarger (nodes_of inst) (visited sol)) (visited sol) place
+StandsAgainstRoutes inst sol (RepeatedNode place) = IsFirstPlace (IsRepeated (visited sol)) (visited sol) place
+StandsAgainstRoutes inst sol (FixedEdgeUnused index) = ⊥
+StandsAgainstRoutes inst sol NotPotentials = ⊥
+StandsAgainstRoutes inst sol PotentialsDimension = ⊥
+StandsAgainstRoutes inst sol PotentialsKind = ⊥
+StandsAgainstRoutes inst sol (MultiplierNotFixed index) = ⊥
+StandsAgainstRoutes inst sol (MultiplierRepeated index) = ⊥
+StandsAgainstRoutes inst sol (DualInfeasible i j) = ⊥
+StandsAgainstRoutes inst sol NotBranches = ⊥
+StandsAgainstRoutes inst sol BranchesDimension = ⊥
+StandsAgainstRoutes inst sol (BadComb index) = ⊥
+StandsAgainstRoutes inst sol (BranchTwice index) = ⊥
+StandsAgainstRoutes inst sol (BadLeaf index) = ⊥
+StandsAgainstRoutes inst sol DepotCount = length (depots_of inst) ≢ 1
+StandsAgainstRoutes inst sol DepotDemand = demand_of (demands_of inst) (depot_of inst) ≢ pos 0
+StandsAgainstRoutes inst sol FixedEdgesInRoutes = 1 ≤ length (fixed_of inst)
+StandsAgainstRoutes inst sol (DepotInRoute place) = IsFirstPlace (IsAt (depot_of inst) (visited sol)) (visited sol) place
+StandsAgainstRoutes inst sol (Unserved node) = IsFirstUnserved (nodes_of inst) (depot_of inst) (visited sol) node
+StandsAgainstRoutes inst sol (Overload route) =
     IsFirstPlace (IsOverloaded (demands_of inst) (capacity_of inst) (tours_of sol)) (tours_of sol) route
 
 -- the order in which the reasons against routes are judged
-abbrev pub rank_of : Reason → ℕ
-rank_of NotASolution = 1
-rank_of TooFewNodes = 2
-rank_of Dimension = 3
-rank_of DepotCount = 4
-rank_of DepotDemand = 5
-rank_of FixedEdgesInRoutes = 6
-rank_of (DepotInRoute place) = 7
-rank_of (NodeOutOfRange place) = 8
-rank_of (RepeatedNode place) = 9
-rank_of (Unserved node) = 10
-rank_of (Overload route) = 11
-rank_of (NotSymmetric i j) = 12
-rank_of TourCount = 12
-rank_of TourLength = 12
-rank_of (FixedEdgeUnused index) = 12
-rank_of NotPotentials = 12
-rank_of PotentialsDimension = 12
-rank_of PotentialsKind = 12
-rank_of (MultiplierNotFixed index) = 12
-rank_of (MultiplierRepeated index) = 12
-rank_of (DualInfeasible i j) = 12
-rank_of NotBranches = 12
-rank_of BranchesDimension = 12
-rank_of (BadComb index) = 12
-rank_of (BranchTwice index) = 12
-rank_of (BadLeaf index) = 12
+abbrev pub rank_of_routes : Reason → ℕ
+rank_of_routes NotASolution = 1
+rank_of_routes TooFewNodes = 2
+rank_of_routes Dimension = 3
+rank_of_routes DepotCount = 4
+rank_of_routes DepotDemand = 5
+rank_of_routes FixedEdgesInRoutes = 6
+rank_of_routes (DepotInRoute place) = 7
+rank_of_routes (NodeOutOfRange place) = 8
+rank_of_routes (RepeatedNode place) = 9
+rank_of_routes (Unserved node) = 10
+rank_of_routes (Overload route) = 11
+rank_of_routes (NotSymmetric i j) = 12
+rank_of_routes TourCount = 12
+rank_of_routes TourLength = 12
+rank_of_routes (FixedEdgeUnused index) = 12
+rank_of_routes NotPotentials = 12
+rank_of_routes PotentialsDimension = 12
+rank_of_routes PotentialsKind = 12
+rank_of_routes (MultiplierNotFixed index) = 12
+rank_of_routes (MultiplierRepeated index) = 12
+rank_of_routes (DualInfeasible i j) = 12
+rank_of_routes NotBranches = 12
+rank_of_routes BranchesDimension = 12
+rank_of_routes (BadComb index) = 12
+rank_of_routes (BranchTwice index) = 12
+rank_of_routes (BadLeaf index) = 12
 
 -- no reason stands that is judged before this rank
-abbrev pub NoneUpTo : Fields → Fields → ℕ → Type 0
-NoneUpTo inst sol rank = NoneBefore (StandsAgainst inst sol) rank_of rank
+abbrev pub NoneOfRoutesUpTo : Fields → Fields → ℕ → Type 0
+NoneOfRoutesUpTo inst sol rank = NoneBefore (StandsAgainstRoutes inst sol) rank_of_routes rank
 
 -- the reason is the first one that stands
-abbrev pub IsFirstAgainst : Fields → Fields → Reason → Type 0
-IsFirstAgainst inst sol reason = IsFirstReason (StandsAgainst inst sol) rank_of reason
+abbrev pub IsFirstAgainstRoutes : Fields → Fields → Reason → Type 0
+IsFirstAgainstRoutes inst sol reason = IsFirstReason (StandsAgainstRoutes inst sol) rank_of_routes reason
 
 -- What a yes on routes says: they are a plan of the instance, of this length and so many, and no plan at all has fewer
 -- routes than the least number that carries all demands.
@@ -101,12 +101,12 @@ pub record IsPlanned (inst : Fields) (plan : List (List ℕ)) (length_is : ℤ) 
   pub none_fewer : (other : List (List ℕ)) → IsPlanOf inst other → least ≤ length other
 
 -- A no: the reason is the first one that stands. A yes: none stands, and the tours of the solution are planned so.
-abbrev pub IsVerdict : Fields → Fields → Verdict → Type 0
-IsVerdict inst sol (verdicts.No reason) = IsFirstAgainst inst sol reason
-IsVerdict inst sol (verdicts.Routes length_is routes least) = ((reason : Reason) → StandsAgainst inst sol reason → ⊥)
+abbrev pub IsRoutesVerdict : Fields → Fields → Verdict → Type 0
+IsRoutesVerdict inst sol (verdicts.No reason) = IsFirstAgainstRoutes inst sol reason
+IsRoutesVerdict inst sol (verdicts.Routes length_is routes least) = ((reason : Reason) → StandsAgainstRoutes inst sol reason → ⊥)
     × IsPlanned inst (tours_of sol) length_is routes least
-IsVerdict inst sol (verdicts.Tour length_is bound) = ⊥
+IsRoutesVerdict inst sol (verdicts.Tour length_is bound) = ⊥
 
 -- No reason stands of those that are found without memory.
-abbrev pub NoneBeforeRepeats : Fields → Fields → Type 0
-NoneBeforeRepeats inst sol = (place : ℕ) → NoneUpTo inst sol (rank_of (RepeatedNode place))
+abbrev pub NoneOfRoutesBeforeRepeats : Fields → Fields → Type 0
+NoneOfRoutesBeforeRepeats inst sol = (place : ℕ) → NoneOfRoutesUpTo inst sol (rank_of_routes (RepeatedNode place))

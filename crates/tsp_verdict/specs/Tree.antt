@@ -22,7 +22,7 @@ use Rattle.tsp_verdict.specs.Certificate.{scale_in, BoundsTours}
 use Rattle.tsp_verdict.specs.Places.{IsFirstPlace}
 use Rattle.tsp_verdict.specs.Reasons.{IsFirstReason}
 use Rattle.tsp_verdict.specs.Solution.{nodes_of, fixed_of}
-use Rattle.tsp_verdict.specs.Tours.{rank_of}
+use Rattle.tsp_verdict.specs.Tours.{rank_of_tours}
 
 -- ---- what is read of it, and of the instance
 
@@ -60,27 +60,28 @@ IsBadComb n combs place = IsGoodComb n (slice_index_or combs (place - 1) []) →
 abbrev pub IsFirstBadLeaf : ℕ → ℕ → List listed.Step → ℕ → Type 0
 IsFirstBadLeaf n combs steps index = IsFirstBadFrom n combs (no_numbers_of n combs) 0 steps index
 
-abbrev pub StandsAgainst : Fields → Fields → Reason → Type 0
-StandsAgainst inst tree NotBranches = is_tree tree.kind ≡ false
-StandsAgainst inst tree BranchesDimension = nodes_of tree ≢ nodes_of inst
-StandsAgainst inst tree (BadComb index) = IsFirstPlace (IsBadComb (nodes_of inst) (combs_in tree)) (combs_in tree) index
-StandsAgainst inst tree (BranchTwice index) = IsFirstTwiceFrom 0 (given_in inst ∷ []) (steps_in tree) index
-StandsAgainst inst tree (BadLeaf index) = IsFirstBadLeaf (nodes_of inst) (length (combs_in tree)) (steps_in tree) index
-StandsAgainst inst tree reason = ⊥
+abbrev pub StandsAgainstTree : Fields → Fields → Reason → Type 0
+StandsAgainstTree inst tree NotBranches = is_tree tree.kind ≡ false
+StandsAgainstTree inst tree BranchesDimension = nodes_of tree ≢ nodes_of inst
+StandsAgainstTree inst tree (BadComb index) = IsFirstPlace (IsBadComb (nodes_of inst) (combs_in tree)) (combs_in tree) index
+StandsAgainstTree inst tree (BranchTwice index) = IsFirstTwiceFrom 0 (given_in inst ∷ []) (steps_in tree) index
+StandsAgainstTree inst tree (BadLeaf index) = IsFirstBadLeaf (nodes_of inst) (length (combs_in tree)) (steps_in tree) index
+StandsAgainstTree inst tree reason = ⊥
 
 -- ---- its bound
 
 -- combs, a whole tree and good numbers at its leaves, and the least of the bounds of these
-abbrev pub IsBoundBy : Fields → Fields → ℤ → Type 0
-IsBoundBy inst tree bound = IsCertificate (nodes_of inst) (told_combs tree) (given_in inst) (tree_in inst tree)
+abbrev pub IsBoundByTree : Fields → Fields → ℤ → Type 0
+IsBoundByTree inst tree bound = IsCertificate (nodes_of inst) (told_combs tree) (given_in inst) (tree_in inst tree)
     × IsCertificateBound (nodes_of inst) (cost inst) (scale_in tree) decided_number (told_combs tree) (given_in inst)
     (tree_in inst tree) bound
 
 -- the bound that the certificate gives, which no tour is below, and sums with which fit 128 bits
-abbrev pub IsCertified : Fields → Fields → ℤ → Type 0
-IsCertified inst tree bound = IsBoundBy inst tree bound × BoundsTours inst bound × IsBoundSized bound
+abbrev pub IsCertifiedByTree : Fields → Fields → ℤ → Type 0
+IsCertifiedByTree inst tree bound = IsBoundByTree inst tree bound × BoundsTours inst bound × IsBoundSized bound
 
 -- the bound of a certificate against which no reason stands, or the first reason that does
-abbrev pub FindsBound : Fields → Fields → Result ℤ Reason → Type 0
-FindsBound inst tree (Ok bound) = ((reason : Reason) → StandsAgainst inst tree reason → ⊥) × IsCertified inst tree bound
-FindsBound inst tree (Err reason) = IsFirstReason (StandsAgainst inst tree) rank_of reason
+abbrev pub FindsBoundByTree : Fields → Fields → Result ℤ Reason → Type 0
+FindsBoundByTree inst tree (Ok bound) =
+    ((reason : Reason) → StandsAgainstTree inst tree reason → ⊥) × IsCertifiedByTree inst tree bound
+FindsBoundByTree inst tree (Err reason) = IsFirstReason (StandsAgainstTree inst tree) rank_of_tours reason

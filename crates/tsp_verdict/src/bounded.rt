@@ -3,9 +3,9 @@
 ghost use Rattle.std.specs.Prelude.{◌≡◌, ◌⊎◌, ◌≤◌, Some, IfOk, IsOk, MatchResult};
 ghost use Rattle.tsp_value.specs.declared.kinds.Kind.TheVariants as kinds;
 ghost use Rattle.tsp_verdict.specs.Solution.{nodes_of};
-ghost use Rattle.tsp_verdict.specs.Tours.{IsEvenTsp, NoneBeforeRepeats};
-ghost use Rattle.tsp_verdict.specs.Bounded.{IsVerdict};
-ghost use Rattle.tsp_verdict.specs.Certificate.{FindsBound};
+ghost use Rattle.tsp_verdict.specs.Tours.{IsEvenTsp, NoneOfTourBeforeRepeats};
+ghost use Rattle.tsp_verdict.specs.Bounded.{IsBoundedVerdict};
+ghost use Rattle.tsp_verdict.specs.Certificate.{FindsBoundByPotentials};
 
 use crate::certificate::{
     bound_of_duals, bound_of_potentials, first_against_certificate, first_against_multipliers,
@@ -35,8 +35,8 @@ pub fn judge_tour_bound(
 ) -> Result<Verdict, AllocError>
     requires { (inst.now.kind ≡ Some kinds.Tsp) ⊎ (inst.now.kind ≡ Some kinds.Atsp) }
     ensures { MatchResult result
-        (λ verdict. IsVerdict inst.now sol.now pot.now verdict)
-        (λ refused. NoneBeforeRepeats inst.now sol.now) }
+        (λ verdict. IsBoundedVerdict inst.now sol.now pot.now verdict)
+        (λ refused. NoneOfTourBeforeRepeats inst.now sol.now) }
 {
     let length = match length_of_tour(alloc, inst, sol)? {
         Ok(length) => length,
@@ -56,7 +56,7 @@ fn bound_of(alloc: Global, inst: &Instance, pot: &File) -> Result<Result<i128, R
     requires kind { (inst.now.kind ≡ Some kinds.Tsp) ⊎ (inst.now.kind ≡ Some kinds.Atsp) }
     requires some { 3 ≤ nodes_of inst.now }
     requires even { IsEvenTsp inst.now }
-    ensures found { IfOk result (λ found. FindsBound inst.now pot.now found) }
+    ensures found { IfOk result (λ found. FindsBoundByPotentials inst.now pot.now found) }
     ensures memory { inst.now.kind ≡ Some kinds.Atsp → IsOk result }
 {
     if let Some(reason) = first_against_certificate(inst, pot) {

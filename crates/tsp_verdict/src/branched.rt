@@ -3,9 +3,9 @@
 ghost use Rattle.std.specs.Prelude.{◌≡◌, ◌≤◌, Some, IfOk, MatchResult};
 ghost use Rattle.tsp_value.specs.declared.kinds.Kind.TheVariants as kinds;
 ghost use Rattle.tsp_verdict.specs.Solution.{nodes_of};
-ghost use Rattle.tsp_verdict.specs.Tours.{IsEvenTsp, NoneBeforeRepeats};
-ghost use Rattle.tsp_verdict.specs.Branched.{IsVerdict};
-ghost use Rattle.tsp_verdict.specs.Tree.{FindsBound};
+ghost use Rattle.tsp_verdict.specs.Tours.{IsEvenTsp, NoneOfTourBeforeRepeats};
+ghost use Rattle.tsp_verdict.specs.Branched.{IsBranchedVerdict};
+ghost use Rattle.tsp_verdict.specs.Tree.{FindsBoundByTree};
 
 use crate::tour::length_of_tour;
 use crate::tree::bound_of_tree;
@@ -32,8 +32,8 @@ pub fn judge_tour_branches(
 ) -> Result<Verdict, AllocError>
     requires { instance.now.kind ≡ Some kinds.Tsp }
     ensures { MatchResult result
-        (λ verdict. IsVerdict instance.now solution.now branches.now verdict)
-        (λ refused. NoneBeforeRepeats instance.now solution.now) }
+        (λ verdict. IsBranchedVerdict instance.now solution.now branches.now verdict)
+        (λ refused. NoneOfTourBeforeRepeats instance.now solution.now) }
 {
     let length = match length_of_tour(alloc, instance, solution)? {
         Ok(length) => length,

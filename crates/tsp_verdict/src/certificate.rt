@@ -7,7 +7,7 @@ ghost use Rattle.tsp_value.specs.declared.kinds.Kind.TheVariants as kinds;
 ghost use Rattle.tsp_fields.specs.Rules.{is_certificate};
 ghost use Rattle.tsp_fields.specs.Cost.{cost};
 ghost use Rattle.tsp_walk.specs.Costs.{IsEven};
-ghost use Rattle.tsp_cost.specs.Views.{Keeps};
+ghost use Rattle.tsp_cost.specs.Views.{HasCosts};
 ghost use Rattle.tsp_theory.specs.Numbers.{IsScale, AreMultipliers};
 ghost use Rattle.tsp_theory.specs.Adjusted.{AreOnPairs};
 ghost use Rattle.tsp_bound.specs.Duals.{scale_of as scale_of_duals, rows_of, columns_of};
@@ -15,8 +15,8 @@ ghost use Rattle.tsp_bound.specs.Multipliers.{triples_of};
 ghost use Rattle.tsp_bound.specs.Potentials.{scale_of, numbers_of};
 ghost use Rattle.tsp_verdict.specs.Reasons.{IsFirstReason};
 ghost use Rattle.tsp_verdict.specs.Solution.{nodes_of, fixed_of};
-ghost use Rattle.tsp_verdict.specs.Tours.{rank_of};
-ghost use Rattle.tsp_verdict.specs.Certificate.{has_wanted, scale_in, potentials_in, rows_in, columns_in, multipliers_in, StandsAgainst, IsCertified};
+ghost use Rattle.tsp_verdict.specs.Tours.{rank_of_tours};
+ghost use Rattle.tsp_verdict.specs.Certificate.{has_wanted, scale_in, potentials_in, rows_in, columns_in, multipliers_in, StandsAgainstPotentials, IsCertifiedByPotentials};
 ghost use Rattle.tsp_verdict.specs.Multiplied.{AreListed};
 
 use crate::files::fixed_pairs;
@@ -36,7 +36,7 @@ pub(crate) fn first_against_certificate(inst: &Instance, pot: &File) -> Option<R
     ensures { MatchOption result
         ((is_certificate pot.now.kind ≡ true) × (nodes_of pot.now ≡ nodes_of inst.now)
         × (has_wanted inst.now.kind pot.now ≡ true))
-        (λ reason. IsFirstReason (StandsAgainst inst.now pot.now) rank_of reason) }
+        (λ reason. IsFirstReason (StandsAgainstPotentials inst.now pot.now) rank_of_tours reason) }
 {
     if pot.kind() != Kind::Potentials {
         return Some(Reason::NotPotentials);
@@ -144,7 +144,7 @@ pub(crate) fn first_against_multipliers(
     ensures { IfOk result (λ found. MatchOption found
         (AreOnPairs (nodes_of inst.now) (multipliers_in pot.now)
         × AreListed (fixed_of inst.now) (multipliers_in pot.now))
-        (λ reason. IsFirstReason (StandsAgainst inst.now pot.now) rank_of reason)) }
+        (λ reason. IsFirstReason (StandsAgainstPotentials inst.now pot.now) rank_of_tours reason)) }
 {
     let triples = multipliers_in(pot);
     if triples.is_empty() {
@@ -167,8 +167,8 @@ pub(crate) fn bound_of_duals(inst: &Instance, pot: &File) -> Result<i128, Reason
     requires count { nodes_of pot.now ≡ nodes_of inst.now }
     requires wanted { has_wanted (Some kinds.Atsp) pot.now ≡ true }
     ensures { MatchResult result
-        (λ bound. IsCertified inst.now pot.now bound)
-        (λ reason. StandsAgainst inst.now pot.now reason × (rank_of reason ≡ 15)) }
+        (λ bound. IsCertifiedByPotentials inst.now pot.now bound)
+        (λ reason. StandsAgainstPotentials inst.now pot.now reason × (rank_of_tours reason ≡ 15)) }
 {
     // A view has found once and for all where the costs are.
     match inst.view() {
@@ -181,14 +181,14 @@ pub(crate) fn bound_of_duals(inst: &Instance, pot: &File) -> Result<i128, Reason
 
 /// The same over the costs of a view.
 fn assignment_bound<C: Costs>(inst: &Instance, pot: &File, c: &C) -> Result<i128, Reason>
-    requires keeps { Keeps inst.now (C.nodes c.now) (C.at c.now) }
+    requires keeps { HasCosts inst.now (C.nodes c.now) (C.at c.now) }
     requires kind { inst.now.kind ≡ Some kinds.Atsp }
     requires some { 3 ≤ nodes_of inst.now }
     requires count { nodes_of pot.now ≡ nodes_of inst.now }
     requires wanted { has_wanted (Some kinds.Atsp) pot.now ≡ true }
     ensures { MatchResult result
-        (λ bound. IsCertified inst.now pot.now bound)
-        (λ reason. StandsAgainst inst.now pot.now reason × (rank_of reason ≡ 15)) }
+        (λ bound. IsCertifiedByPotentials inst.now pot.now bound)
+        (λ reason. StandsAgainstPotentials inst.now pot.now reason × (rank_of_tours reason ≡ 15)) }
 {
     duals_bound_walks();
     match dual_bound(c, &duals_of(pot)) {
@@ -213,7 +213,7 @@ pub(crate) fn bound_of_potentials(
     requires even { IsEven (cost inst.now) }
     requires on_pairs { AreOnPairs (nodes_of inst.now) (multipliers_in pot.now) }
     requires listed { AreListed (fixed_of inst.now) (multipliers_in pot.now) }
-    ensures { IfOk result (λ bound. IsCertified inst.now pot.now bound) }
+    ensures { IfOk result (λ bound. IsCertifiedByPotentials inst.now pot.now bound) }
 {
     match inst.view() {
         View::Plane(points) => tree_bound(alloc, inst, pot, &points),
@@ -233,7 +233,7 @@ fn tree_bound<C: Grouped>(
     pot: &File,
     c: &C,
 ) -> Result<i128, AllocError>
-    requires keeps { Keeps inst.now (C.nodes c.now) (C.at c.now) }
+    requires keeps { HasCosts inst.now (C.nodes c.now) (C.at c.now) }
     requires kind { inst.now.kind ≡ Some kinds.Tsp }
     requires some { 3 ≤ nodes_of inst.now }
     requires count { nodes_of pot.now ≡ nodes_of inst.now }
@@ -241,7 +241,7 @@ fn tree_bound<C: Grouped>(
     requires even { IsEven (cost inst.now) }
     requires on_pairs { AreOnPairs (nodes_of inst.now) (multipliers_in pot.now) }
     requires listed { AreListed (fixed_of inst.now) (multipliers_in pot.now) }
-    ensures { IfOk result (λ bound. IsCertified inst.now pot.now bound) }
+    ensures { IfOk result (λ bound. IsCertifiedByPotentials inst.now pot.now bound) }
 {
     adjusted_bounds_bound_walks();
     match one_tree(alloc, c, &potentials_of(pot), &multipliers_of(pot)) {

@@ -7,123 +7,123 @@ ghost use Rattle.tsp_value.specs.Steps.{Branch, Leaf};
 ghost use Rattle.tsp_branch.specs.Examples.{with_pair};
 ghost use Rattle.tsp_verdict.specs.declared.verdict.Reason.TheVariants as reasons;
 ghost use Rattle.tsp_verdict.specs.Plan.{IsPlanOf, IsLeast, plan_length, total_of};
-ghost use Rattle.tsp_verdict.specs.Tours as tours;
-ghost use Rattle.tsp_verdict.specs.Routes as routes;
-ghost use Rattle.tsp_verdict.specs.Certificate as certificates;
+ghost use Rattle.tsp_verdict.specs.Tours.{StandsAgainstTour, rank_of_tours};
+ghost use Rattle.tsp_verdict.specs.Routes.{StandsAgainstRoutes, rank_of_routes};
+ghost use Rattle.tsp_verdict.specs.Certificate.{StandsAgainstPotentials};
 ghost use Rattle.tsp_verdict.specs.Certificate.{scale_in};
-ghost use Rattle.tsp_verdict.specs.Tree as trees;
+ghost use Rattle.tsp_verdict.specs.Tree.{StandsAgainstTree};
 ghost use Rattle.tsp_verdict.specs.Tree.{given_in};
 ghost use Rattle.tsp_verdict.specs.Examples.{of_nodes, of_rows, of_both, nodes, vehicles, carrying, solution, sized, lone, both, two, three, four, branching, two_leaves, three_leaves, two_teeth, Before};
 
 /// The order in which reasons against a tour, and then against its certificate, are judged: each
 /// pair of neighbours.
 pub fn examples_of_order()
-    ensures nodes { Before tours.rank_of reasons.NotASolution reasons.TooFewNodes }
-    ensures even { Before tours.rank_of reasons.TooFewNodes (reasons.NotSymmetric 1 2) }
-    ensures dimension { Before tours.rank_of (reasons.NotSymmetric 1 2) reasons.Dimension }
-    ensures count { Before tours.rank_of reasons.Dimension reasons.TourCount }
-    ensures length { Before tours.rank_of reasons.TourCount reasons.TourLength }
-    ensures range { Before tours.rank_of reasons.TourLength (reasons.NodeOutOfRange 1) }
-    ensures repeated { Before tours.rank_of (reasons.NodeOutOfRange 9) (reasons.RepeatedNode 1) }
-    ensures fixed { Before tours.rank_of (reasons.RepeatedNode 9) (reasons.FixedEdgeUnused 1) }
-    ensures potentials { Before tours.rank_of (reasons.FixedEdgeUnused 9) reasons.NotPotentials }
-    ensures their_dimension { Before tours.rank_of reasons.NotPotentials reasons.PotentialsDimension }
-    ensures their_kind { Before tours.rank_of reasons.PotentialsDimension reasons.PotentialsKind }
-    ensures not_fixed { Before tours.rank_of reasons.PotentialsKind (reasons.MultiplierNotFixed 1) }
-    ensures multiplied_twice { Before tours.rank_of (reasons.MultiplierNotFixed 9) (reasons.MultiplierRepeated 1) }
-    ensures duals { Before tours.rank_of (reasons.MultiplierRepeated 9) (reasons.DualInfeasible 1 2) }
-    ensures branches { Before tours.rank_of (reasons.FixedEdgeUnused 9) reasons.NotBranches }
-    ensures number_of_nodes { Before tours.rank_of reasons.NotBranches reasons.BranchesDimension }
-    ensures combs { Before tours.rank_of reasons.BranchesDimension (reasons.BadComb 1) }
-    ensures decided_twice { Before tours.rank_of (reasons.BadComb 9) (reasons.BranchTwice 1) }
-    ensures leaves { Before tours.rank_of (reasons.BranchTwice 9) (reasons.BadLeaf 1) }
+    ensures nodes { Before rank_of_tours reasons.NotASolution reasons.TooFewNodes }
+    ensures even { Before rank_of_tours reasons.TooFewNodes (reasons.NotSymmetric 1 2) }
+    ensures dimension { Before rank_of_tours (reasons.NotSymmetric 1 2) reasons.Dimension }
+    ensures count { Before rank_of_tours reasons.Dimension reasons.TourCount }
+    ensures length { Before rank_of_tours reasons.TourCount reasons.TourLength }
+    ensures range { Before rank_of_tours reasons.TourLength (reasons.NodeOutOfRange 1) }
+    ensures repeated { Before rank_of_tours (reasons.NodeOutOfRange 9) (reasons.RepeatedNode 1) }
+    ensures fixed { Before rank_of_tours (reasons.RepeatedNode 9) (reasons.FixedEdgeUnused 1) }
+    ensures potentials { Before rank_of_tours (reasons.FixedEdgeUnused 9) reasons.NotPotentials }
+    ensures their_dimension { Before rank_of_tours reasons.NotPotentials reasons.PotentialsDimension }
+    ensures their_kind { Before rank_of_tours reasons.PotentialsDimension reasons.PotentialsKind }
+    ensures not_fixed { Before rank_of_tours reasons.PotentialsKind (reasons.MultiplierNotFixed 1) }
+    ensures multiplied_twice { Before rank_of_tours (reasons.MultiplierNotFixed 9) (reasons.MultiplierRepeated 1) }
+    ensures duals { Before rank_of_tours (reasons.MultiplierRepeated 9) (reasons.DualInfeasible 1 2) }
+    ensures branches { Before rank_of_tours (reasons.FixedEdgeUnused 9) reasons.NotBranches }
+    ensures number_of_nodes { Before rank_of_tours reasons.NotBranches reasons.BranchesDimension }
+    ensures combs { Before rank_of_tours reasons.BranchesDimension (reasons.BadComb 1) }
+    ensures decided_twice { Before rank_of_tours (reasons.BadComb 9) (reasons.BranchTwice 1) }
+    ensures leaves { Before rank_of_tours (reasons.BranchTwice 9) (reasons.BadLeaf 1) }
 {}
 
 /// The order in which reasons against routes are judged: each pair of neighbours.
 pub fn examples_of_order_of_routes()
-    ensures nodes { Before routes.rank_of reasons.NotASolution reasons.TooFewNodes }
-    ensures dimension { Before routes.rank_of reasons.TooFewNodes reasons.Dimension }
-    ensures depots { Before routes.rank_of reasons.Dimension reasons.DepotCount }
-    ensures demand { Before routes.rank_of reasons.DepotCount reasons.DepotDemand }
-    ensures fixed { Before routes.rank_of reasons.DepotDemand reasons.FixedEdgesInRoutes }
-    ensures depot { Before routes.rank_of reasons.FixedEdgesInRoutes (reasons.DepotInRoute 1) }
-    ensures range { Before routes.rank_of (reasons.DepotInRoute 9) (reasons.NodeOutOfRange 1) }
-    ensures repeated { Before routes.rank_of (reasons.NodeOutOfRange 9) (reasons.RepeatedNode 1) }
-    ensures unserved { Before routes.rank_of (reasons.RepeatedNode 9) (reasons.Unserved 2) }
-    ensures overload { Before routes.rank_of (reasons.Unserved 9) (reasons.Overload 1) }
+    ensures nodes { Before rank_of_routes reasons.NotASolution reasons.TooFewNodes }
+    ensures dimension { Before rank_of_routes reasons.TooFewNodes reasons.Dimension }
+    ensures depots { Before rank_of_routes reasons.Dimension reasons.DepotCount }
+    ensures demand { Before rank_of_routes reasons.DepotCount reasons.DepotDemand }
+    ensures fixed { Before rank_of_routes reasons.DepotDemand reasons.FixedEdgesInRoutes }
+    ensures depot { Before rank_of_routes reasons.FixedEdgesInRoutes (reasons.DepotInRoute 1) }
+    ensures range { Before rank_of_routes (reasons.DepotInRoute 9) (reasons.NodeOutOfRange 1) }
+    ensures repeated { Before rank_of_routes (reasons.NodeOutOfRange 9) (reasons.RepeatedNode 1) }
+    ensures unserved { Before rank_of_routes (reasons.RepeatedNode 9) (reasons.Unserved 2) }
+    ensures overload { Before rank_of_routes (reasons.Unserved 9) (reasons.Overload 1) }
 {}
 
 /// When the reasons against a tour stand.
 pub fn examples_against_tours()
-    ensures no_solution { tours.StandsAgainst (nodes kinds.Tsp 4 []) (nodes kinds.Potentials 4 []) reasons.NotASolution }
-    ensures two_nodes { tours.StandsAgainst (nodes kinds.Tsp 2 []) (lone (two 1 2)) reasons.TooFewNodes }
-    ensures three_nodes { ¬ tours.StandsAgainst (nodes kinds.Tsp 3 []) (lone (two 1 2)) reasons.TooFewNodes }
-    ensures dimension { tours.StandsAgainst (nodes kinds.Tsp 4 []) (sized 5 []) reasons.Dimension }
-    ensures same_dimension { ¬ tours.StandsAgainst (nodes kinds.Tsp 4 []) (sized 4 []) reasons.Dimension }
-    ensures no_dimension { ¬ tours.StandsAgainst (nodes kinds.Tsp 4 []) (solution []) reasons.Dimension }
-    ensures no_tour { tours.StandsAgainst (nodes kinds.Tsp 4 []) (solution []) reasons.TourCount }
-    ensures two_tours { tours.StandsAgainst (nodes kinds.Tsp 4 []) (both (two 1 2) (two 3 4)) reasons.TourCount }
-    ensures one_tour { ¬ tours.StandsAgainst (nodes kinds.Tsp 4 []) (lone (two 1 2)) reasons.TourCount }
-    ensures short { tours.StandsAgainst (nodes kinds.Tsp 4 []) (lone (three 1 2 3)) reasons.TourLength }
-    ensures past_the_last { tours.StandsAgainst (nodes kinds.Tsp 4 []) (lone (four 1 2 3 5)) (reasons.NodeOutOfRange 4) }
-    ensures the_last { ¬ tours.StandsAgainst (nodes kinds.Tsp 4 []) (lone (four 1 2 3 4)) (reasons.NodeOutOfRange 4) }
-    ensures first_past { ¬ tours.StandsAgainst (nodes kinds.Tsp 4 []) (lone (four 1 2 5 6)) (reasons.NodeOutOfRange 4) }
-    ensures repeated { tours.StandsAgainst (nodes kinds.Tsp 4 []) (lone (four 1 2 2 3)) (reasons.RepeatedNode 3) }
-    ensures first_repeated { tours.StandsAgainst (nodes kinds.Tsp 4 []) (lone (four 1 1 4 4)) (reasons.RepeatedNode 2) }
-    ensures not_the_second { ¬ tours.StandsAgainst (nodes kinds.Tsp 4 []) (lone (four 1 1 4 4)) (reasons.RepeatedNode 4) }
-    ensures unused { tours.StandsAgainst (nodes kinds.Tsp 4 ((1, 3) ∷ [])) (lone (four 1 2 3 4)) (reasons.FixedEdgeUnused 1) }
-    ensures arc { tours.StandsAgainst (nodes kinds.Atsp 3 ((2, 1) ∷ [])) (lone (three 1 2 3)) (reasons.FixedEdgeUnused 1) }
-    ensures no_arc { ¬ tours.StandsAgainst (nodes kinds.Tsp 3 ((2, 1) ∷ [])) (lone (three 1 2 3)) (reasons.FixedEdgeUnused 1) }
+    ensures no_solution { StandsAgainstTour (nodes kinds.Tsp 4 []) (nodes kinds.Potentials 4 []) reasons.NotASolution }
+    ensures two_nodes { StandsAgainstTour (nodes kinds.Tsp 2 []) (lone (two 1 2)) reasons.TooFewNodes }
+    ensures three_nodes { ¬ StandsAgainstTour (nodes kinds.Tsp 3 []) (lone (two 1 2)) reasons.TooFewNodes }
+    ensures dimension { StandsAgainstTour (nodes kinds.Tsp 4 []) (sized 5 []) reasons.Dimension }
+    ensures same_dimension { ¬ StandsAgainstTour (nodes kinds.Tsp 4 []) (sized 4 []) reasons.Dimension }
+    ensures no_dimension { ¬ StandsAgainstTour (nodes kinds.Tsp 4 []) (solution []) reasons.Dimension }
+    ensures no_tour { StandsAgainstTour (nodes kinds.Tsp 4 []) (solution []) reasons.TourCount }
+    ensures two_tours { StandsAgainstTour (nodes kinds.Tsp 4 []) (both (two 1 2) (two 3 4)) reasons.TourCount }
+    ensures one_tour { ¬ StandsAgainstTour (nodes kinds.Tsp 4 []) (lone (two 1 2)) reasons.TourCount }
+    ensures short { StandsAgainstTour (nodes kinds.Tsp 4 []) (lone (three 1 2 3)) reasons.TourLength }
+    ensures past_the_last { StandsAgainstTour (nodes kinds.Tsp 4 []) (lone (four 1 2 3 5)) (reasons.NodeOutOfRange 4) }
+    ensures the_last { ¬ StandsAgainstTour (nodes kinds.Tsp 4 []) (lone (four 1 2 3 4)) (reasons.NodeOutOfRange 4) }
+    ensures first_past { ¬ StandsAgainstTour (nodes kinds.Tsp 4 []) (lone (four 1 2 5 6)) (reasons.NodeOutOfRange 4) }
+    ensures repeated { StandsAgainstTour (nodes kinds.Tsp 4 []) (lone (four 1 2 2 3)) (reasons.RepeatedNode 3) }
+    ensures first_repeated { StandsAgainstTour (nodes kinds.Tsp 4 []) (lone (four 1 1 4 4)) (reasons.RepeatedNode 2) }
+    ensures not_the_second { ¬ StandsAgainstTour (nodes kinds.Tsp 4 []) (lone (four 1 1 4 4)) (reasons.RepeatedNode 4) }
+    ensures unused { StandsAgainstTour (nodes kinds.Tsp 4 ((1, 3) ∷ [])) (lone (four 1 2 3 4)) (reasons.FixedEdgeUnused 1) }
+    ensures arc { StandsAgainstTour (nodes kinds.Atsp 3 ((2, 1) ∷ [])) (lone (three 1 2 3)) (reasons.FixedEdgeUnused 1) }
+    ensures no_arc { ¬ StandsAgainstTour (nodes kinds.Tsp 3 ((2, 1) ∷ [])) (lone (three 1 2 3)) (reasons.FixedEdgeUnused 1) }
 {}
 
 /// When the reasons against a certificate stand. None is broken here by its numbers.
 pub fn examples_against_certificates()
     ensures scale { scale_in (of_nodes 4) ≡ pos 1 }
-    ensures no_potentials { certificates.StandsAgainst (nodes kinds.Tsp 4 []) (solution []) reasons.NotPotentials }
-    ensures potentials { ¬ certificates.StandsAgainst (nodes kinds.Tsp 4 []) (of_nodes 4) reasons.NotPotentials }
-    ensures dimension { certificates.StandsAgainst (nodes kinds.Tsp 4 []) (of_nodes 3) reasons.PotentialsDimension }
-    ensures same_dimension { ¬ certificates.StandsAgainst (nodes kinds.Tsp 4 []) (of_nodes 4) reasons.PotentialsDimension }
-    ensures tsp { ¬ certificates.StandsAgainst (nodes kinds.Tsp 4 []) (of_nodes 4) reasons.PotentialsKind }
-    ensures tsp_by_rows { certificates.StandsAgainst (nodes kinds.Tsp 4 []) (of_both 4) reasons.PotentialsKind }
-    ensures atsp { ¬ certificates.StandsAgainst (nodes kinds.Atsp 4 []) (of_both 4) reasons.PotentialsKind }
-    ensures atsp_by_nodes { certificates.StandsAgainst (nodes kinds.Atsp 4 []) (of_nodes 4) reasons.PotentialsKind }
-    ensures atsp_by_rows { certificates.StandsAgainst (nodes kinds.Atsp 4 []) (of_rows 4) reasons.PotentialsKind }
+    ensures no_potentials { StandsAgainstPotentials (nodes kinds.Tsp 4 []) (solution []) reasons.NotPotentials }
+    ensures potentials { ¬ StandsAgainstPotentials (nodes kinds.Tsp 4 []) (of_nodes 4) reasons.NotPotentials }
+    ensures dimension { StandsAgainstPotentials (nodes kinds.Tsp 4 []) (of_nodes 3) reasons.PotentialsDimension }
+    ensures same_dimension { ¬ StandsAgainstPotentials (nodes kinds.Tsp 4 []) (of_nodes 4) reasons.PotentialsDimension }
+    ensures tsp { ¬ StandsAgainstPotentials (nodes kinds.Tsp 4 []) (of_nodes 4) reasons.PotentialsKind }
+    ensures tsp_by_rows { StandsAgainstPotentials (nodes kinds.Tsp 4 []) (of_both 4) reasons.PotentialsKind }
+    ensures atsp { ¬ StandsAgainstPotentials (nodes kinds.Atsp 4 []) (of_both 4) reasons.PotentialsKind }
+    ensures atsp_by_nodes { StandsAgainstPotentials (nodes kinds.Atsp 4 []) (of_nodes 4) reasons.PotentialsKind }
+    ensures atsp_by_rows { StandsAgainstPotentials (nodes kinds.Atsp 4 []) (of_rows 4) reasons.PotentialsKind }
 {}
 
 /// When the reasons against a certificate by branching stand, and which pairs are decided in all of
 /// its cases.
 pub fn examples_against_trees()
-    ensures no_tree { trees.StandsAgainst (nodes kinds.Tsp 4 []) (of_nodes 4) reasons.NotBranches }
-    ensures tree { ¬ trees.StandsAgainst (nodes kinds.Tsp 4 []) (branching 4 [] (Leaf [] ∷ [])) reasons.NotBranches }
-    ensures dimension { trees.StandsAgainst (nodes kinds.Tsp 4 []) (branching 3 [] (Leaf [] ∷ [])) reasons.BranchesDimension }
-    ensures same_dimension { ¬ trees.StandsAgainst (nodes kinds.Tsp 4 [])
+    ensures no_tree { StandsAgainstTree (nodes kinds.Tsp 4 []) (of_nodes 4) reasons.NotBranches }
+    ensures tree { ¬ StandsAgainstTree (nodes kinds.Tsp 4 []) (branching 4 [] (Leaf [] ∷ [])) reasons.NotBranches }
+    ensures dimension { StandsAgainstTree (nodes kinds.Tsp 4 []) (branching 3 [] (Leaf [] ∷ [])) reasons.BranchesDimension }
+    ensures same_dimension { ¬ StandsAgainstTree (nodes kinds.Tsp 4 [])
         (branching 4 [] (Leaf [] ∷ [])) reasons.BranchesDimension }
-    ensures even_teeth { trees.StandsAgainst (nodes kinds.Tsp 4 [])
+    ensures even_teeth { StandsAgainstTree (nodes kinds.Tsp 4 [])
         (branching 4 (two_teeth ∷ []) (Leaf [] ∷ [])) (reasons.BadComb 1) }
-    ensures again { trees.StandsAgainst (nodes kinds.Tsp 4 [])
+    ensures again { StandsAgainstTree (nodes kinds.Tsp 4 [])
         (branching 4 [] (Branch 1 2 ∷ Branch 1 2 ∷ three_leaves)) (reasons.BranchTwice 2) }
-    ensures fixed { trees.StandsAgainst (nodes kinds.Tsp 4 ((2, 1) ∷ []))
+    ensures fixed { StandsAgainstTree (nodes kinds.Tsp 4 ((2, 1) ∷ []))
         (branching 4 [] (Branch 1 2 ∷ two_leaves)) (reasons.BranchTwice 1) }
-    ensures past_the_nodes { trees.StandsAgainst (nodes kinds.Tsp 4 [])
+    ensures past_the_nodes { StandsAgainstTree (nodes kinds.Tsp 4 [])
         (branching 4 [] (Leaf ((5, pos 1) ∷ []) ∷ [])) (reasons.BadLeaf 1) }
     ensures given_once { given_in (nodes kinds.Tsp 4 ((1, 2) ∷ (3, 4) ∷ (2, 1) ∷ [])) ≡ with_pair 1 2 ∷ with_pair 3 4 ∷ [] }
 {}
 
 /// When the reasons against routes stand. Node 1 is the depot.
 pub fn examples_against_routes()
-    ensures one_node { routes.StandsAgainst (nodes kinds.Cvrp 1 []) (solution []) reasons.TooFewNodes }
-    ensures two_nodes { ¬ routes.StandsAgainst (nodes kinds.Cvrp 2 []) (solution []) reasons.TooFewNodes }
-    ensures no_depot { routes.StandsAgainst (vehicles [] (pos 0) (pos 4) (pos 8)) (solution []) reasons.DepotCount }
-    ensures two_depots { routes.StandsAgainst (vehicles (two 1 1) (pos 0) (pos 4) (pos 8)) (solution []) reasons.DepotCount }
-    ensures one_depot { ¬ routes.StandsAgainst (carrying (pos 8)) (solution []) reasons.DepotCount }
-    ensures demand { routes.StandsAgainst (vehicles (1 ∷ []) (pos 1) (pos 4) (pos 8)) (solution []) reasons.DepotDemand }
-    ensures no_demand { ¬ routes.StandsAgainst (carrying (pos 8)) (solution []) reasons.DepotDemand }
-    ensures fixed { routes.StandsAgainst (nodes kinds.Cvrp 4 ((2, 3) ∷ [])) (solution []) reasons.FixedEdgesInRoutes }
-    ensures depot { routes.StandsAgainst (carrying (pos 8)) (lone (three 2 1 3)) (reasons.DepotInRoute 2) }
-    ensures repeated { routes.StandsAgainst (carrying (pos 8)) (both (two 2 3) (3 ∷ [])) (reasons.RepeatedNode 3) }
-    ensures unserved { routes.StandsAgainst (carrying (pos 8)) (lone (two 2 3)) (reasons.Unserved 4) }
-    ensures past_capacity { routes.StandsAgainst (carrying (pos 7)) (both (two 2 3) (4 ∷ [])) (reasons.Overload 1) }
-    ensures at_capacity { ¬ routes.StandsAgainst (carrying (pos 8)) (both (two 2 3) (4 ∷ [])) (reasons.Overload 1) }
+    ensures one_node { StandsAgainstRoutes (nodes kinds.Cvrp 1 []) (solution []) reasons.TooFewNodes }
+    ensures two_nodes { ¬ StandsAgainstRoutes (nodes kinds.Cvrp 2 []) (solution []) reasons.TooFewNodes }
+    ensures no_depot { StandsAgainstRoutes (vehicles [] (pos 0) (pos 4) (pos 8)) (solution []) reasons.DepotCount }
+    ensures two_depots { StandsAgainstRoutes (vehicles (two 1 1) (pos 0) (pos 4) (pos 8)) (solution []) reasons.DepotCount }
+    ensures one_depot { ¬ StandsAgainstRoutes (carrying (pos 8)) (solution []) reasons.DepotCount }
+    ensures demand { StandsAgainstRoutes (vehicles (1 ∷ []) (pos 1) (pos 4) (pos 8)) (solution []) reasons.DepotDemand }
+    ensures no_demand { ¬ StandsAgainstRoutes (carrying (pos 8)) (solution []) reasons.DepotDemand }
+    ensures fixed { StandsAgainstRoutes (nodes kinds.Cvrp 4 ((2, 3) ∷ [])) (solution []) reasons.FixedEdgesInRoutes }
+    ensures depot { StandsAgainstRoutes (carrying (pos 8)) (lone (three 2 1 3)) (reasons.DepotInRoute 2) }
+    ensures repeated { StandsAgainstRoutes (carrying (pos 8)) (both (two 2 3) (3 ∷ [])) (reasons.RepeatedNode 3) }
+    ensures unserved { StandsAgainstRoutes (carrying (pos 8)) (lone (two 2 3)) (reasons.Unserved 4) }
+    ensures past_capacity { StandsAgainstRoutes (carrying (pos 7)) (both (two 2 3) (4 ∷ [])) (reasons.Overload 1) }
+    ensures at_capacity { ¬ StandsAgainstRoutes (carrying (pos 8)) (both (two 2 3) (4 ∷ [])) (reasons.Overload 1) }
 {}
 
 /// What plans are, how long they are, how many routes are the least.

@@ -4,7 +4,7 @@ ghost use Rattle.std.specs.Prelude.{◌≡◌, pos, Some, MatchOption, MatchResu
 ghost use Rattle.tsp_value.specs.declared.kinds.Kind.TheVariants as kinds;
 ghost use Rattle.tsp_value.specs.Cells.{IsNode};
 ghost use Rattle.tsp_verdict.specs.Plan.{demand_of, depot_of, demands_of, AreCustomers};
-ghost use Rattle.tsp_verdict.specs.Routes.{NoneUpTo, IsFirstAgainst, IsVerdict, NoneBeforeRepeats};
+ghost use Rattle.tsp_verdict.specs.Routes.{NoneOfRoutesUpTo, IsFirstAgainstRoutes, IsRoutesVerdict, NoneOfRoutesBeforeRepeats};
 ghost use Rattle.tsp_verdict.specs.Solution.{nodes_of};
 
 use crate::files::{capacity, demands, depots, fixed_pairs, solution_tours};
@@ -34,8 +34,8 @@ const FEWEST_NODES: u32 = 2;
 pub fn judge_routes(alloc: Global, inst: &Instance, sol: &File) -> Result<Verdict, AllocError>
     requires { inst.now.kind ≡ Some kinds.Cvrp }
     ensures { MatchResult result
-        (λ verdict. IsVerdict inst.now sol.now verdict)
-        (λ refused. NoneBeforeRepeats inst.now sol.now) }
+        (λ verdict. IsRoutesVerdict inst.now sol.now verdict)
+        (λ refused. NoneOfRoutesBeforeRepeats inst.now sol.now) }
 {
     let depot = match the_depot(inst, sol) {
         Ok(depot) => depot,
@@ -69,8 +69,8 @@ fn the_depot(inst: &Instance, sol: &File) -> Result<u32, Reason>
     requires { inst.now.kind ≡ Some kinds.Cvrp }
     ensures { MatchResult result
         (λ depot. (depot ≡ depot_of inst.now) × IsNode (nodes_of inst.now) depot
-        × (demand_of (demands_of inst.now) depot ≡ pos 0) × NoneUpTo inst.now sol.now 7)
-        (λ reason. IsFirstAgainst inst.now sol.now reason) }
+        × (demand_of (demands_of inst.now) depot ≡ pos 0) × NoneOfRoutesUpTo inst.now sol.now 7)
+        (λ reason. IsFirstAgainstRoutes inst.now sol.now reason) }
 {
     if let Some(reason) = first_against_files(inst, sol) {
         return Err(reason);
@@ -90,8 +90,8 @@ fn the_depot(inst: &Instance, sol: &File) -> Result<u32, Reason>
 /// The first reason that needs no look at the depot.
 fn first_against_files(inst: &Instance, sol: &File) -> Option<Reason>
     ensures { MatchOption result
-        (NoneUpTo inst.now sol.now 4)
-        (λ reason. IsFirstAgainst inst.now sol.now reason) }
+        (NoneOfRoutesUpTo inst.now sol.now 4)
+        (λ reason. IsFirstAgainstRoutes inst.now sol.now reason) }
 {
     let nodes = inst.count();
     if sol.kind() != Kind::Tour {
@@ -109,10 +109,10 @@ fn first_against_files(inst: &Instance, sol: &File) -> Option<Reason>
 /// The first reason that one node alone shows: the depot, or a node that is too large.
 fn first_against_places(inst: &Instance, depot: u32, sol: &File) -> Option<Reason>
     requires depot { depot ≡ depot_of inst.now }
-    requires before { NoneUpTo inst.now sol.now 7 }
+    requires before { NoneOfRoutesUpTo inst.now sol.now 7 }
     ensures { MatchOption result
-        (AreCustomers inst.now sol.now × NoneUpTo inst.now sol.now 9)
-        (λ reason. IsFirstAgainst inst.now sol.now reason) }
+        (AreCustomers inst.now sol.now × NoneOfRoutesUpTo inst.now sol.now 9)
+        (λ reason. IsFirstAgainstRoutes inst.now sol.now reason) }
 {
     let routes = solution_tours(sol);
     if let Some(place) = first_of_in(routes, depot) {

@@ -5,7 +5,7 @@ ghost use Rattle.std.specs.List.{All};
 ghost use Rattle.tsp_value.specs.declared.kinds.Kind.TheVariants as kinds;
 ghost use Rattle.tsp_cost.specs.Tours.{is_directed};
 ghost use Rattle.tsp_verdict.specs.Solution.{nodes_of, tours_of};
-ghost use Rattle.tsp_verdict.specs.Tours.{NoneUpTo, IsFirstAgainst, IsEvenTsp, FindsLength, IsVerdict, NoneBeforeRepeats};
+ghost use Rattle.tsp_verdict.specs.Tours.{NoneOfTourUpTo, IsFirstAgainstTour, IsEvenTsp, FindsLength, IsTourVerdict, NoneOfTourBeforeRepeats};
 
 use crate::files::{fixed_pairs, solution_tours};
 use crate::fixed::{first_unused, next_nodes};
@@ -32,8 +32,8 @@ const FEWEST_NODES: u32 = 3;
 pub fn judge_tour(alloc: Global, inst: &Instance, sol: &File) -> Result<Verdict, AllocError>
     requires { (inst.now.kind ≡ Some kinds.Tsp) ⊎ (inst.now.kind ≡ Some kinds.Atsp) }
     ensures { MatchResult result
-        (λ verdict. IsVerdict inst.now sol.now verdict)
-        (λ refused. NoneBeforeRepeats inst.now sol.now) }
+        (λ verdict. IsTourVerdict inst.now sol.now verdict)
+        (λ refused. NoneOfTourBeforeRepeats inst.now sol.now) }
 {
     match length_of_tour(alloc, inst, sol)? {
         Ok(length) => Ok(Verdict::Tour {
@@ -53,7 +53,7 @@ pub(crate) fn length_of_tour(
     requires { (inst.now.kind ≡ Some kinds.Tsp) ⊎ (inst.now.kind ≡ Some kinds.Atsp) }
     ensures { MatchResult result
         (λ found. FindsLength inst.now sol.now found)
-        (λ refused. NoneBeforeRepeats inst.now sol.now) }
+        (λ refused. NoneOfTourBeforeRepeats inst.now sol.now) }
 {
     let tour = match the_tour(inst, sol) {
         Ok(tour) => tour,
@@ -79,9 +79,9 @@ pub(crate) fn length_of_tour(
 fn the_tour<'a>(inst: &Instance, sol: &'a File) -> Result<&'a [u32], Reason>
     ensures { MatchResult result
         (λ tour. (tours_of sol.now ≡ tour.now ∷ []) × (length tour.now ≡ nodes_of inst.now)
-        × All (λ node. 1 ≤ node) tour.now × NoneUpTo inst.now sol.now 7
+        × All (λ node. 1 ≤ node) tour.now × NoneOfTourUpTo inst.now sol.now 7
         × IsEvenTsp inst.now)
-        (λ reason. IsFirstAgainst inst.now sol.now reason) }
+        (λ reason. IsFirstAgainstTour inst.now sol.now reason) }
 {
     if let Some(reason) = first_against_files(inst, sol) {
         return Err(reason);
@@ -98,8 +98,8 @@ fn the_tour<'a>(inst: &Instance, sol: &'a File) -> Result<&'a [u32], Reason>
 /// The first reason that needs no look at the tours.
 fn first_against_files(inst: &Instance, sol: &File) -> Option<Reason>
     ensures { MatchOption result
-        (NoneUpTo inst.now sol.now 5 × IsEvenTsp inst.now)
-        (λ reason. IsFirstAgainst inst.now sol.now reason) }
+        (NoneOfTourUpTo inst.now sol.now 5 × IsEvenTsp inst.now)
+        (λ reason. IsFirstAgainstTour inst.now sol.now reason) }
 {
     let nodes = inst.count();
     if sol.kind() != Kind::Tour {

@@ -8,14 +8,14 @@ ghost use Rattle.tsp_fields.specs.Fields.{combs_of};
 ghost use Rattle.tsp_fields.specs.Rules.{is_tree};
 ghost use Rattle.tsp_fields.specs.Cost.{cost};
 ghost use Rattle.tsp_walk.specs.Costs.{IsEven};
-ghost use Rattle.tsp_cost.specs.Views.{Keeps};
+ghost use Rattle.tsp_cost.specs.Views.{HasCosts};
 ghost use Rattle.tsp_theory.specs.Numbers.{IsScale};
 ghost use Rattle.tsp_branch.specs.Listed.{IsStepOf};
 ghost use Rattle.tsp_verdict.specs.Certificate.{scale_in};
 ghost use Rattle.tsp_verdict.specs.Reasons.{IsFirstReason};
 ghost use Rattle.tsp_verdict.specs.Solution.{nodes_of};
-ghost use Rattle.tsp_verdict.specs.Tours.{rank_of};
-ghost use Rattle.tsp_verdict.specs.Tree.{combs_in, steps_in, StandsAgainst, FindsBound};
+ghost use Rattle.tsp_verdict.specs.Tours.{rank_of_tours};
+ghost use Rattle.tsp_verdict.specs.Tree.{combs_in, steps_in, StandsAgainstTree, FindsBoundByTree};
 ghost use Rattle.tsp_verdict.specs.Numbered.{AreSomeSets};
 
 use crate::decided::taken_once;
@@ -43,7 +43,7 @@ pub(crate) fn bound_of_tree(
     requires kind { instance.now.kind ≡ Some kinds.Tsp }
     requires some { 3 ≤ nodes_of instance.now }
     requires even { IsEven (cost instance.now) }
-    ensures { IfOk result (λ found. FindsBound instance.now branches.now found) }
+    ensures { IfOk result (λ found. FindsBoundByTree instance.now branches.now found) }
 {
     if let Some(reason) = first_against_file(instance, branches) {
         return Ok(Err(reason));
@@ -64,7 +64,7 @@ pub(crate) fn bound_of_tree(
 fn first_against_file(instance: &Instance, branches: &File) -> Option<Reason>
     ensures { MatchOption result
         ((is_tree branches.now.kind ≡ true) × (nodes_of branches.now ≡ nodes_of instance.now))
-        (λ reason. IsFirstReason (StandsAgainst instance.now branches.now) rank_of reason) }
+        (λ reason. IsFirstReason (StandsAgainstTree instance.now branches.now) rank_of_tours reason) }
 {
     if branches.kind() != Kind::Branches {
         return Some(Reason::NotBranches);
@@ -85,13 +85,13 @@ fn judge_distances<C: Symmetric>(
     branches: &File,
     costs: &C,
 ) -> Result<Result<i128, Reason>, AllocError>
-    requires keeps { Keeps instance.now (C.nodes costs.now) (C.at costs.now) }
+    requires keeps { HasCosts instance.now (C.nodes costs.now) (C.at costs.now) }
     requires kind { instance.now.kind ≡ Some kinds.Tsp }
     requires some { 3 ≤ nodes_of instance.now }
     requires even { IsEven (cost instance.now) }
     requires sort { is_tree branches.now.kind ≡ true }
     requires count { nodes_of branches.now ≡ nodes_of instance.now }
-    ensures { IfOk result (λ found. FindsBound instance.now branches.now found) }
+    ensures { IfOk result (λ found. FindsBoundByTree instance.now branches.now found) }
 {
     if costs.count() > MOST_TABLED || steps_of_tree(branches).len() == 1 {
         return judge_tree(alloc, instance, branches, costs);
@@ -112,13 +112,13 @@ fn judge_tree<C: Symmetric>(
     branches: &File,
     costs: &C,
 ) -> Result<Result<i128, Reason>, AllocError>
-    requires keeps { Keeps instance.now (C.nodes costs.now) (C.at costs.now) }
+    requires keeps { HasCosts instance.now (C.nodes costs.now) (C.at costs.now) }
     requires kind { instance.now.kind ≡ Some kinds.Tsp }
     requires some { 3 ≤ nodes_of instance.now }
     requires even { IsEven (cost instance.now) }
     requires sort { is_tree branches.now.kind ≡ true }
     requires count { nodes_of branches.now ≡ nodes_of instance.now }
-    ensures { IfOk result (λ found. FindsBound instance.now branches.now found) }
+    ensures { IfOk result (λ found. FindsBoundByTree instance.now branches.now found) }
 {
     certificates_bound_walks();
     let given = taken_once(alloc, fixed_pairs(instance))?;

@@ -12,8 +12,8 @@ TakesRead old new word = (n : ℕ) (words : List (List ℕ)) → HoldsPart old n
     → Takes n (place_by (shape_by old) n words) word (HoldsShape (shape_by old) new n (words ++ word ∷ [])) (Ok tt)
 
 -- a part holds the words that it held
-abbrev pub Keeps : Part → Part → Type 0
-Keeps old new = (n : ℕ) (words : List (List ℕ)) → HoldsPart old n words → HoldsShape (shape_by old) new n words
+abbrev pub KeepsWords : Part → Part → Type 0
+KeepsWords old new = (n : ℕ) (words : List (List ℕ)) → HoldsPart old n words → HoldsShape (shape_by old) new n words
 
 -- a group of a point has begun in it, so that its next word is a coordinate
 abbrev pub in_group : Part → Bool

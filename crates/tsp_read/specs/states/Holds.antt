@@ -64,16 +64,16 @@ pub record Closed (reading : Reading) (earlier : List Item) : Type 0 where
   pub part : reading.opened ≡ None
 
 -- What a step answers for an item: its fault, or none and the state holds that item too.
-abbrev pub Answers : List Item → Item → Reading → Result (Unit {0}) StepFault → Type 0
-Answers earlier item new (Ok done) = Holds new (item ∷ earlier)
-Answers earlier item new (Err steps.Memory) = Unit {0}
-Answers earlier item new (Err (steps.Fault fault)) = row_of earlier item ≡ Some fault
+abbrev pub AnswersItem : List Item → Item → Reading → Result (Unit {0}) StepFault → Type 0
+AnswersItem earlier item new (Ok done) = Holds new (item ∷ earlier)
+AnswersItem earlier item new (Err steps.Memory) = Unit {0}
+AnswersItem earlier item new (Err (steps.Fault fault)) = row_of earlier item ≡ Some fault
 
 -- the same from a state where no section is open, for a line that isn't too long
 abbrev pub LineAnswers : Reading → Field → WordLine → Reading → Result (Unit {0}) StepFault → Type 0
 LineAnswers old field line new result = (earlier : List Item) → Closed old earlier → nat_lt most_line_bytes line.size ≡ false
-    → Answers earlier (Line (Known field) line) new result
+    → AnswersItem earlier (Line (Known field) line) new result
 
 abbrev pub OtherAnswers : Reading → WordLine → Reading → Result (Unit {0}) StepFault → Type 0
 OtherAnswers old line new result = (earlier : List Item) → Closed old earlier → nat_lt most_line_bytes line.size ≡ false
-    → Answers earlier (Line Unknown line) new result
+    → AnswersItem earlier (Line Unknown line) new result

@@ -41,15 +41,15 @@ pub record HasEnded (reading : Reading) (bytes : List ℕ) : Type 0 where
   pub ended : has_end_line (settled_so_far bytes) ≡ true
 
 -- the first fault is settled; or memory is wanted, which blanks and line ends never do
-abbrev pub StopsAt : List ℕ → ReadFault → Type 0
-StopsAt bytes (faults.Line line word found) = fault_in (settled_so_far bytes) ≡ Some (faults.Line line word found)
-StopsAt bytes (faults.End found) = ⊥
-StopsAt bytes faults.OutOfMemory = is_bare bytes ≡ false
-StopsAt bytes faults.Device = ⊥
-StopsAt bytes faults.TooLong = ⊥
+abbrev pub IsStoppedBy : List ℕ → ReadFault → Type 0
+IsStoppedBy bytes (faults.Line line word found) = fault_in (settled_so_far bytes) ≡ Some (faults.Line line word found)
+IsStoppedBy bytes (faults.End found) = ⊥
+IsStoppedBy bytes faults.OutOfMemory = is_bare bytes ≡ false
+IsStoppedBy bytes faults.Device = ⊥
+IsStoppedBy bytes faults.TooLong = ⊥
 
 -- the bytes so far are read on: to an end line, to a place with P, or to a fault
 abbrev pub ReadsOn : {X : Type 0} → List ℕ → Reading → (X → Type 0) → Result (Option X) ReadFault → Type 0
 ReadsOn bytes reading P (Ok None) = HasEnded reading bytes
 ReadsOn bytes reading P (Ok (Some x)) = P x
-ReadsOn bytes reading P (Err found) = StopsAt bytes found
+ReadsOn bytes reading P (Err found) = IsStoppedBy bytes found

@@ -11,7 +11,7 @@ use Rattle.tsp_items.specs.Items.{items_of}
 use Rattle.tsp_read.specs.states.Left.{items_left}
 use Rattle.tsp_read.specs.Onward.{is_bare}
 use Rattle.tsp_read.specs.Reads.{ReadsItems}
-use Rattle.tsp_read.specs.states.Intake.{HasEnded, StopsAt}
+use Rattle.tsp_read.specs.states.Intake.{HasEnded, IsStoppedBy}
 use Rattle.tsp_read.specs.states.Begun.{kept, IsFedTo, most_lines, most_words}
 
 -- of the bytes so far all that is settled was taken, and what is not is kept
@@ -23,7 +23,7 @@ pub record IsPaused (intake : Intake) (begun : Begun) (bytes : List ℕ) : Type 
 abbrev pub FeedsOn : List ℕ → Intake → Begun → Result Bool ReadFault → Type 0
 FeedsOn bytes intake begun (Ok true) = HasEnded intake.reading bytes
 FeedsOn bytes intake begun (Ok false) = IsPaused intake begun bytes
-FeedsOn bytes intake begun (Err found) = StopsAt bytes found
+FeedsOn bytes intake begun (Err found) = IsStoppedBy bytes found
 
 -- the text has ended: all its items were taken, and whether an end line is among them; or they have this first fault
 abbrev pub TakesAll : List ℕ → Reading → Result Bool ReadFault → Type 0

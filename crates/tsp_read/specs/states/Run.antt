@@ -19,14 +19,14 @@ in_run draft incomplete field part count =
 
 -- Whatever the fields and the bytes so far are: where these were read with the old part and counts, and `text` is left, they
 -- are read on with the new ones, and `rest` is left.
-abbrev pub ReadsOn : Part → Count → List ℕ → Part → Count → List ℕ → Type 0
-ReadsOn old before text new after rest = (draft : Draft) (incomplete : Option Field) (field : Field) (bytes : List ℕ)
+abbrev pub TakesRun : Part → Count → List ℕ → Part → Count → List ℕ → Type 0
+TakesRun old before text new after rest = (draft : Draft) (incomplete : Option Field) (field : Field) (bytes : List ℕ)
     → IsReadTo (in_run draft incomplete field old before) bytes text
     → IsReadTo (in_run draft incomplete field new after) bytes rest
 
 -- a run from a text to what is left of it, in which no more lines and words are counted than bytes are read
 pub record RunsTo (old : Part) (before : Count) (text : List ℕ) (new : Part) (after : Count) (rest : List ℕ) : Type 0 where
-  pub read : ReadsOn old before text new after rest
+  pub read : TakesRun old before text new after rest
   pub line : after.line + length rest ≤ before.line + length text
   pub words : after.words + length rest ≤ before.words + length text
   pub shorter : length rest ≤ length text

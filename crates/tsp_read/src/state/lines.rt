@@ -17,12 +17,12 @@ impl Reading {
     ghost use Rattle.tsp_items.specs.Values.{says_space};
     ghost use Rattle.tsp_items.specs.Items.{Item};
     ghost use Rattle.tsp_items.specs.states.CutLine.{seen, cut_item};
-    ghost use Rattle.tsp_read.specs.states.Holds.{Holds, Answers, LineAnswers};
+    ghost use Rattle.tsp_read.specs.states.Holds.{Holds, AnswersItem, LineAnswers};
 
     /// Takes a word line.
     pub(crate) fn line(&mut self, alloc: Global, line: &CutLine<'_>) -> Result<(), StepFault>
         ensures { (earlier : List Item) → Holds self.old earlier
-            → Answers earlier (cut_item line.now) self.new result }
+            → AnswersItem earlier (cut_item line.now) self.new result }
     {
         if line.size > MOST_LINE_BYTES {
             return Err(StepFault::Fault(LineFault::LongLine));

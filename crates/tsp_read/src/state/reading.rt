@@ -65,7 +65,7 @@ fn is_same(field: Field, other: Field) -> bool
 }
 
 impl Reading {
-    ghost use Rattle.tsp_read.specs.states.Holds.{Holds, Closed, Answers};
+    ghost use Rattle.tsp_read.specs.states.Holds.{Holds, Closed, AnswersItem};
     ghost use Rattle.tsp_items.specs.declared.fault.StepFault.TheVariants.{Memory};
 
     /// Nothing so far.
@@ -92,7 +92,7 @@ impl Reading {
     /// Takes a word of a number line.
     pub(crate) fn word(&mut self, alloc: Global, word: &[u8]) -> Result<(), StepFault>
         ensures { (earlier : List Item) → Holds self.old earlier
-            → Answers earlier (NumberWord word.now) self.new result }
+            → AnswersItem earlier (NumberWord word.now) self.new result }
     {
         match &mut self.opened {
             None => Err(StepFault::Fault(LineFault::StrayNumber)),

@@ -2,7 +2,7 @@ use Rattle.std.proofs.Common.{ℕ, ◌≤◌, ◌≤ℤ◌, ℤ, Option, arith, 
 use Rattle.tsp_value.specs.Cells.{IsNode}
 use Rattle.tsp_bound.specs.Potentials.{numbers_of, weight_under}
 use Rattle.tsp_bound.specs.declared.area.Area.{Area}
-use Rattle.tsp_bound.specs.Boxes.{Holds, IsKnown, IsBoundOf, IsSearched, area_at}
+use Rattle.tsp_bound.specs.Boxes.{HoldsNode, IsKnown, IsBoundOf, IsSearched, area_at}
 use Rattle.tsp_bound.proofs.Boxed.{known_64, known_further}
 use Rattle.tsp_bound.proofs.Trees.{searched_alone, searched_both}
 use Rattle.tsp_bound.proofs.boxes.+search.Goals as goal
@@ -12,7 +12,7 @@ returns-then-is_no_better g t c =
     let w = weight_under c.args.p.now (g.C.Costs.at c.args.c.now) in
     let near = c.halves.result.0 in
     let far = c.halves.result.1 in
-    let In : Option Area → ℕ → Type 0 = Holds (g.C.Grouped.place c.args.c.now) (numbers_of c.args.p.now) in
+    let In : Option Area → ℕ → Type 0 = HoldsNode (g.C.Grouped.place c.args.c.now) (numbers_of c.args.p.now) in
     let bound_fits : SFits w64 near.bound = search rules in
     let best_fits : SFits w64 c.args.best.weight = search rules in
     let known = known_64 near.bound c.args.best.weight bound_fits best_fits c.if-is_no_better.ensures in
@@ -32,7 +32,7 @@ returns-then-is_no_better-2 g t c =
     let near = c.halves.result.0 in
     let far = c.halves.result.1 in
     let half = c.search-half.result in
-    let In : Option Area → ℕ → Type 0 = Holds (g.C.Grouped.place c.args.c.now) (numbers_of c.args.p.now) in
+    let In : Option Area → ℕ → Type 0 = HoldsNode (g.C.Grouped.place c.args.c.now) (numbers_of c.args.p.now) in
     let bound_fits : SFits w64 far.bound = search rules in
     let best_fits : SFits w64 half.weight = search rules in
     let known = known_64 far.bound half.weight bound_fits best_fits c.if-is_no_better-2.ensures in

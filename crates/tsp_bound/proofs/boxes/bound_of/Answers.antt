@@ -5,7 +5,7 @@ use Rattle.tsp_theory.specs.Numbers.{entry}
 use Rattle.tsp_theory.proofs.Sizes.{same_64}
 use Rattle.tsp_bound.specs.Potentials.{scale_of, numbers_of}
 use Rattle.tsp_bound.specs.declared.area.Area.{Area}
-use Rattle.tsp_bound.specs.Boxes.{Holds, area_at}
+use Rattle.tsp_bound.specs.Boxes.{HoldsNode, area_at}
 use Rattle.tsp_bound.proofs.Boxed.{weight_above, chained_64}
 use Rattle.tsp_bound.proofs.boxes.bound_of.Goals as goal
 
@@ -15,7 +15,7 @@ returns g c = λ known to node h.
     let its : SFits w64 c.weight_with.result = search rules in
     let read : c.index-areas-v.result ≡ area_at c.args.areas.now c.args.v = get_or_read c.args.areas.now c.args.v c.index-areas-v.result c.requires.box_in c.index-areas-v.is _ in
     let is : area_at c.args.areas.now c.args.v ≡ Some c.in-Some.area = sym read ∙ c.in-Some.is in
-    let own : Holds (g.C.Grouped.place c.args.c.now) (numbers_of p) (Some c.in-Some.area) to = subst (λ (o : Option Area). Holds (g.C.Grouped.place c.args.c.now) (numbers_of p) o to) is h in
+    let own : HoldsNode (g.C.Grouped.place c.args.c.now) (numbers_of p) (Some c.in-Some.area) to = subst (λ (o : Option Area). HoldsNode (g.C.Grouped.place c.args.c.now) (numbers_of p) o to) is h in
     let other = g.C.Costs.at c.args.c.now c.args.from to in
     let cost_same : to_z w64 (of_z w64 c.in-Some-cost_to.cost) ≡ c.in-Some-cost_to.cost =
     same_64 most_weight c.in-Some-cost_to.cost (omega arith) (c.in-Some-cost_to.ensures.low, c.in-Some-cost_to.ensures.high) in

@@ -2,7 +2,7 @@ use Rattle.std.proofs.Common.{ℕ, ◌≡◌, ◌≢◌, ◌/◌, Option, arith,
 use Rattle.tsp_value.specs.Cells.{IsNode}
 use Rattle.tsp_bound.specs.Potentials.{numbers_of, weight_under}
 use Rattle.tsp_bound.specs.declared.area.Area.{Area}
-use Rattle.tsp_bound.specs.Boxes.{Holds, IsSearched, no_best, node_at}
+use Rattle.tsp_bound.specs.Boxes.{HoldsNode, IsSearched, no_best, node_at}
 use Rattle.tsp_bound.proofs.Boxed.{known_64}
 use Rattle.tsp_bound.proofs.Trees.{searched_alone, searched_both}
 use Rattle.tsp_bound.proofs.boxes.nearest_from.Goals as goal
@@ -11,7 +11,7 @@ use Rattle.tsp_bound.proofs.boxes.nearest_from.Goals.{then-v-eq0, else-v-eq0, th
 pub climb-preserved : goal.climb-preserved
 climb-preserved g c =
     let w = weight_under c.args.p.now (g.C.Costs.at c.args.c.now) in
-    let In : Option Area → ℕ → Type 0 = Holds (g.C.Grouped.place c.args.c.now) (numbers_of c.args.p.now) in
+    let In : Option Area → ℕ → Type 0 = HoldsNode (g.C.Grouped.place c.args.c.now) (numbers_of c.args.p.now) in
     let v = c.climb.v in
     let other = c.if-v-eq0.other in
     let from : ℕ = node_at c.args.order.now c.args.place in

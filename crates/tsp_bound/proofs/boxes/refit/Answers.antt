@@ -1,7 +1,7 @@
 use Rattle.std.proofs.Common.{◌≡◌, ◌*◌, ◌+◌, Option, arith, sym, subst, refl}
 use Rattle.std.proofs.lemmas.List.{get_or_read}
 use Rattle.tsp_bound.specs.declared.area.Area.{Area}
-use Rattle.tsp_bound.specs.Boxes.{Holds, area_at}
+use Rattle.tsp_bound.specs.Boxes.{HoldsNode, area_at}
 use Rattle.tsp_bound.proofs.boxes.refit.Goals as goal
 
 pub returns-clause-refit : goal.returns-clause-refit
@@ -12,6 +12,6 @@ returns-clause-refit c = λ place numbers.
     record {
       area = c.joined-area.result;
       is = refl;
-      left = λ p h. c.joined-area.ensures.left place numbers p (subst (λ (a : Option Area). Holds place numbers a p) (sym left) h);
-      right = λ p h. c.joined-area.ensures.right place numbers p (subst (λ (a : Option Area). Holds place numbers a p) (sym right) h);
+      left = λ p h. c.joined-area.ensures.left place numbers p (subst (λ (a : Option Area). HoldsNode place numbers a p) (sym left) h);
+      right = λ p h. c.joined-area.ensures.right place numbers p (subst (λ (a : Option Area). HoldsNode place numbers a p) (sym right) h);
     }

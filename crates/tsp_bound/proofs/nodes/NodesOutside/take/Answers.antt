@@ -1,7 +1,7 @@
 use Rattle.std.proofs.Common.{None, ◌∙◌, length, refl, arith}
 use Rattle.std.proofs.Math.ListN.{length-set}
 use Rattle.tsp_bound.specs.Potentials.{numbers_of}
-use Rattle.tsp_bound.specs.Boxes.{Holds}
+use Rattle.tsp_bound.specs.Boxes.{HoldsNode}
 use Rattle.tsp_bound.proofs.Trees.{held_taken}
 use Rattle.tsp_bound.proofs.nodes.NodesOutside.take.Goals as goal
 
@@ -20,7 +20,7 @@ invariant_of-self g c =
       few = s.few;
       as_many = length-set s.outside.items c.args.node _ ∙ s.as_many;
       boxes = c.raise.ensures.len;
-      held = held_taken (Holds (g.C.Grouped.place s.c.now) (numbers_of s.p)) s.order.now s.outside.items s.areas.items c.raise.new.areas.items
+      held = held_taken (HoldsNode (g.C.Grouped.place s.c.now) (numbers_of s.p)) s.order.now s.outside.items s.areas.items c.raise.new.areas.items
           (length s.order.now) c.args.node None refl s.boxes c.requires
           (omega (arith, s.as_many, c.requires)) (c.raise.ensures.keeps (g.C.Grouped.place s.c.now) (numbers_of s.p)) s.held;
     }
