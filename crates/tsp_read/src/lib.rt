@@ -4,6 +4,7 @@
 mod begun;
 mod count;
 mod cut;
+mod examples;
 mod feed;
 mod input;
 mod intake;
@@ -14,6 +15,7 @@ mod stage;
 mod state;
 mod token;
 
+pub use examples::examples_of_reading;
 pub use feed::Feed;
 pub use read::{read_bytes, read_from};
 pub use tsp_items::{
