@@ -56,8 +56,8 @@ impl<I, F> Source<I, F> {
     where
         OfInput: FnOnce(&mut I, &mut [u8]) -> io::Result<A> + Drop,
         OfFile: FnOnce(&mut F, &mut [u8]) -> io::Result<A> + Drop,
-        requires { OfInput.IsAlwaysCallable of_input }
-        requires { OfFile.IsAlwaysCallable of_file }
+        requires input { OfInput.IsAlwaysCallable of_input }
+        requires file { OfFile.IsAlwaysCallable of_file }
         ensures asked { IsAsked OfInput.FnOnce of_input OfFile.FnOnce of_file self.old room.old result self.new room.new }
     {
         match self {
