@@ -77,7 +77,11 @@ impl<I: Read, F: Read> Read for Source<I, F> {
             (remaining_of I.remaining F.remaining self.new) result buf.new }
         ensures missing { IsTrue (is_missing self.old) → IsErr result }
     {
-        self.ask(buf, |input, room| input.read(room), |file, room| file.read(room))
+        self.ask(
+            buf,
+            |input, room| input.read(room),
+            |file, room| file.read(room),
+        )
     }
 }
 
