@@ -1,10 +1,10 @@
-//! Drafts by hand, and their faults.
+//! Drafts by hand.
 
 use std::alloc::{AllocError, Global};
 use std::test::Fail;
-use tsp_fields::{Coords, Draft, DraftFault, EndFault, File};
+use tsp_fields::{Coords, Draft, File};
 use tsp_number::{Decimal, PlanePoint};
-use tsp_value::{CoordKind, DisplayKind, Field, Kind, Layout, TreeStep, WeightFormat, WeightKind};
+use tsp_value::{CoordKind, DisplayKind, Kind, Layout, TreeStep, WeightFormat, WeightKind};
 
 /// A file of tours without any.
 pub fn tours(alloc: Global) -> Draft {
@@ -35,18 +35,6 @@ pub fn upper_row(alloc: Global, n: u32, count: usize) -> Result<Draft, AllocErro
     draft.weight_kind = Some(WeightKind::Explicit);
     draft.weight_format = Some(WeightFormat::Listed(Layout::UpperRow));
     draft.weights = Some(vec![in alloc; 0; count]?);
-    Ok(draft)
-}
-
-/// An instance of four nodes under a layout, with the weights from 1 on.
-pub fn four_nodes(alloc: Global, layout: Layout, count: u8) -> Result<Draft, AllocError> {
-    let mut draft = upper_row(alloc, 4, 0)?;
-    draft.weight_format = Some(WeightFormat::Listed(layout));
-    let mut weights = Vec::new(alloc);
-    for weight in 0..count {
-        weights.push(i64::from(weight) + 1)?;
-    }
-    draft.weights = Some(weights);
     Ok(draft)
 }
 
@@ -96,7 +84,7 @@ pub fn rectangle(alloc: Global) -> Result<Draft, Fail> {
 }
 
 /// Sets of nodes, as a comb has them.
-pub fn sets(alloc: Global, lists: &[&[u32]]) -> Result<Vec<Vec<u32>>, AllocError> {
+fn sets(alloc: Global, lists: &[&[u32]]) -> Result<Vec<Vec<u32>>, AllocError> {
     let mut sets = Vec::new(alloc);
     for list in lists {
         sets.push(Vec::from_slice(alloc, list)?)?;
@@ -105,7 +93,7 @@ pub fn sets(alloc: Global, lists: &[&[u32]]) -> Result<Vec<Vec<u32>>, AllocError
 }
 
 /// A tree with a branch on the nodes 1 and 2, a leaf with two differences, and one with none.
-pub fn two_leaves(alloc: Global) -> Result<Vec<TreeStep>, AllocError> {
+fn two_leaves(alloc: Global) -> Result<Vec<TreeStep>, AllocError> {
     let mut steps = Vec::new(alloc);
     steps.push(TreeStep::Branch(1, 2))?;
     steps.push(TreeStep::Leaf(Vec::from_slice(alloc, &[(1u32, -5i64), (6, 7)])?))?;
@@ -120,23 +108,3 @@ pub fn file_of(draft: Draft) -> Result<File, Fail> {
         Err(_) => Err(Fail::from("no file")),
     }
 }
-
-/// The first fault of a draft, if it has one.
-pub fn fault(draft: Draft) -> Option<DraftFault> {
-    match File::of(draft) {
-        Ok(_) => None,
-        Err((fault, _)) => Some(fault),
-    }
-}
-
-pub fn bad(field: Field) -> Option<DraftFault> {
-    Some(DraftFault::BadField(field))
-}
-
-pub fn missing(field: Field) -> Option<DraftFault> {
-    Some(DraftFault::Rule(EndFault::Missing(field)))
-}
-
-pub const WRONG_FORMAT: Option<DraftFault> = Some(DraftFault::Rule(EndFault::WrongFormat));
-
-pub const WRONG_COUNT: Option<DraftFault> = Some(DraftFault::Rule(EndFault::WrongCount));

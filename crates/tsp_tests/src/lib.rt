@@ -1,9 +1,9 @@
 //! The tests of the libraries, over their public calls: what no contract says, and no run of the program
 //! shows (see `tests/tables`).
 //!
-//! They show that calls succeed where memory is ample, that bounds are below all tours, and what readers
-//! and writers meet that fail or do little at a time. They stand in a crate of their own, since a crate
-//! with tests is proved twice.
+//! They show that calls succeed where memory is ample, how often a cost is asked for, and what readers and
+//! writers meet that fail or do little at a time. They stand in a crate of their own, since a crate with
+//! tests is proved twice.
 #![tactic(auto)]
 
 #[cfg(test)]
@@ -11,15 +11,9 @@ mod asserts;
 #[cfg(test)]
 mod bound;
 #[cfg(test)]
-mod bounded;
-#[cfg(test)]
 mod cost;
 #[cfg(test)]
 mod files;
-#[cfg(test)]
-mod number;
-#[cfg(test)]
-mod values;
 #[cfg(test)]
 mod verdicts;
 #[cfg(test)]
