@@ -4,7 +4,7 @@ use crate::asserts::same;
 use std::alloc::{AllocError, Global};
 use std::test::Fail;
 use tsp_cost::{
-    CostFault, Instance, View, canonical_length, symmetric_fault, tour_length, trace_tours,
+    CostFault, Costs, Instance, View, canonical_length, symmetric_fault, tour_length, trace_tours,
 };
 use tsp_fields::Draft;
 use tsp_testing::drafts::{file_of, rectangle, two_tours, upper_row};
