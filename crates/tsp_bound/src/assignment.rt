@@ -28,7 +28,9 @@ pub struct Infeasible {
 /// looked at. The caller owes as many duals as nodes. No memory is taken. Source: the dual of the
 /// assignment problem, H. W. Kuhn, The Hungarian method for the assignment problem, 1955.
 ///
-/// Errors: the first pair i, j, by rows, whose duals sum to more than the cost.
+/// # Errors
+///
+/// The first pair i, j, by rows, whose duals sum to more than the cost.
 pub fn dual_bound<C: Costs>(c: &C, d: &Duals) -> Result<i128, Infeasible>
     requires { length (rows_of d.now) ≡ C.nodes c.now }
     ensures value { MatchResult result

@@ -324,7 +324,9 @@ fn area_of<C: Grouped>(c: &C, p: &Potentials, node: u32) -> Option<Area>
 
 /// The boxes of nodes that are all outside; none where a node has no place.
 ///
-/// Errors: out of memory.
+/// # Errors
+///
+/// Out of memory.
 pub(crate) fn boxes_of<C: Grouped>(
     alloc: Global,
     c: &C,

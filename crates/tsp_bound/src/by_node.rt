@@ -30,7 +30,9 @@ impl<'a> ByNode<'a> {
 
     /// The multipliers of different pairs of the nodes 1 to `nodes`, by node.
     ///
-    /// Errors: out of memory, of which it takes some for each node and each pair.
+    /// # Errors
+    ///
+    /// Out of memory, of which it takes some for each node and each pair.
     pub(crate) fn of(
         alloc: Global,
         nodes: u32,

@@ -28,7 +28,9 @@ pub(crate) struct Grown {
 /// over the part that is there, so that each cost is asked for once, and once more for each
 /// multiplier.
 ///
-/// Errors: out of memory.
+/// # Errors
+///
+/// Out of memory.
 pub(crate) fn grow_on<C: Costs>(
     alloc: Global,
     c: &C,

@@ -17,7 +17,9 @@ use std::collections::BinaryHeap;
 /// its least one, as of when it was searched for. The least of all is a least leaving pair where
 /// it still leads outside; else its node is searched for again.
 ///
-/// Errors: out of memory.
+/// # Errors
+///
+/// Out of memory.
 pub(crate) fn grow_by_heap<O: Outside>(
     alloc: Global,
     o: &mut O,

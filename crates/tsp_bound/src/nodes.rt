@@ -49,7 +49,9 @@ impl<'a, C: Grouped> Nodes<'a, C> {
     /// Nodes that are all outside, with the place of each in the order; none where the costs have
     /// no place for one.
     ///
-    /// Errors: out of memory.
+    /// # Errors
+    ///
+    /// Out of memory.
     pub(crate) fn new(
         alloc: Global,
         c: &'a C,

@@ -9,7 +9,9 @@ use std::alloc::{AllocError, Global};
 /// The place of each node of 2..last in the list; none where the list doesn't have each of them
 /// just once. How the list was put in order needs no proof then.
 ///
-/// Errors: out of memory.
+/// # Errors
+///
+/// Out of memory.
 pub(crate) fn places_in(
     alloc: Global,
     order: &[u32],

@@ -24,7 +24,9 @@ use tsp_walk::{Costs, Grouped};
 /// Grows a tree over the nodes 2..n from node 2: each pair leads from a node inside to one
 /// outside, and no such pair weighs less.
 ///
-/// Errors: out of memory.
+/// # Errors
+///
+/// Out of memory.
 pub(crate) fn grow<C: Grouped>(
     alloc: Global,
     c: &C,
@@ -52,7 +54,9 @@ pub(crate) fn grow<C: Grouped>(
 ///
 /// It is empty where a node has no place, or the order isn't one of all the nodes.
 ///
-/// Errors: out of memory.
+/// # Errors
+///
+/// Out of memory.
 fn grown_part<C: Grouped>(
     alloc: Global,
     c: &C,
@@ -101,7 +105,9 @@ fn grown_over<C: Grouped>(
 
 /// No pair yet, with room for those of a tree: a part of any growth.
 ///
-/// Errors: out of memory.
+/// # Errors
+///
+/// Out of memory.
 fn nothing<C: Costs>(alloc: Global, c: &C) -> Result<Grown, AllocError>
     ensures { IfOk result (λ grown. (n : ℕ) (w : ℕ → ℕ → ℤ)
         → IsPartGrowth n w grown.pairs.items grown.weight) }
@@ -119,7 +125,9 @@ fn most_steps(count: u32) -> u64 {
 
 /// The pairs of the nodes at pairs of places, and the sum of their weights.
 ///
-/// Errors: out of memory.
+/// # Errors
+///
+/// Out of memory.
 fn weighed<C: Costs>(
     alloc: Global,
     c: &C,

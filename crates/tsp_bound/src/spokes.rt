@@ -22,7 +22,9 @@ pub(crate) struct Spoke {
 /// The two nodes of 2..n that are nearest to node 1: where nothing is inside, reaching from node 1
 /// gives the weights of all its pairs.
 ///
-/// Errors: out of memory.
+/// # Errors
+///
+/// Out of memory.
 pub(crate) fn two_spokes<C: Costs>(
     alloc: Global,
     c: &C,

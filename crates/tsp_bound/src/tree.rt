@@ -44,7 +44,9 @@ pub struct OneTree {
 /// and no walk is shorter. Source: M. Held and R. M. Karp, The traveling-salesman problem and
 /// minimum spanning trees, 1970; the tree is grown as R. C. Prim's, 1957.
 ///
-/// Errors: out of memory, of which it takes some for each node and for each multiplier.
+/// # Errors
+///
+/// Out of memory, of which it takes some for each node and for each multiplier.
 pub fn one_tree<C: Grouped>(
     alloc: Global,
     c: &C,

@@ -34,7 +34,9 @@ use tsp_walk::Symmetric;
 /// the teeth. The caller owes three or more nodes, a scale of 1 to 1,000,000, combs, sets and
 /// decisions of nodes, one whole tree of branches, and that no case decides a pair twice.
 ///
-/// Errors: out of memory, of which it takes some for each node, each comb, each node of a set, and
+/// # Errors
+///
+/// Out of memory, of which it takes some for each node, each comb, each node of a set, and
 /// each decision of a case.
 pub fn branch_bound<C: Symmetric>(
     alloc: Global,
@@ -79,7 +81,9 @@ pub fn branch_bound<C: Symmetric>(
 
 /// The least of the bounds of the leaves, or the first leaf that isn't good.
 ///
-/// Errors: out of memory.
+/// # Errors
+///
+/// Out of memory.
 fn judge_leaves<C: Symmetric>(
     alloc: Global,
     setting: &Setting<C>,
@@ -122,7 +126,9 @@ fn judge_leaves<C: Symmetric>(
 
 /// The bound of a leaf, whose numbers are kept; `None` where it isn't good.
 ///
-/// Errors: out of memory.
+/// # Errors
+///
+/// Out of memory.
 fn judge_leaf<C: Symmetric>(
     alloc: Global,
     setting: &Setting<C>,

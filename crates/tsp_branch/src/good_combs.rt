@@ -20,7 +20,9 @@ use std::alloc::{AllocError, Global};
 /// The combs are told by their sets, each with the number of its comb from 0 on, comb by comb, the
 /// handle before the teeth. The caller owes sets of nodes.
 ///
-/// Errors: out of memory, of which it takes some for each node.
+/// # Errors
+///
+/// Out of memory, of which it takes some for each node.
 pub fn first_bad_comb(
     alloc: Global,
     nodes: u32,

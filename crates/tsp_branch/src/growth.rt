@@ -16,7 +16,9 @@ use std::alloc::{AllocError, Global};
 /// It lists the nodes outside, and keeps of each the least weight between it and a node inside, so
 /// that each row is asked for once. The row that is lent is written over.
 ///
-/// Errors: out of memory.
+/// # Errors
+///
+/// Out of memory.
 pub(crate) fn grow<W: Weights>(alloc: Global, w: &W, row: &mut [i64]) -> Result<i128, AllocError>
     requires some { 3 ≤ W.nodes w.now }
     requires room { length row.old ≡ W.nodes w.now + 1 }

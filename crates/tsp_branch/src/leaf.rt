@@ -17,7 +17,9 @@ use std::alloc::{AllocError, Global};
 /// of at most 2^99 in size, and a row of one place more than there are nodes, which is written
 /// over.
 ///
-/// Errors: out of memory, of which it takes some for each node.
+/// # Errors
+///
+/// Out of memory, of which it takes some for each node.
 pub fn leaf_bound<W: Weights>(
     alloc: Global,
     w: &W,

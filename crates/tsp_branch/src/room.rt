@@ -19,7 +19,9 @@ impl Room {
 
     /// Room for so many nodes and combs, where all numbers are 0.
     ///
-    /// Errors: out of memory.
+    /// # Errors
+    ///
+    /// Out of memory.
     pub(crate) fn new(alloc: Global, nodes: usize, combs: usize) -> Result<Room, AllocError>
         requires few_nodes { nodes < 2 ^ 32 }
         requires few_combs { combs < 2 ^ 32 }

@@ -22,7 +22,9 @@ pub(crate) fn add_to_nodes(row: &mut [i64], nodes: &[u32], number: i64)
 
 /// Of each node from 0 to `count` the numbers of the sets that have it, from 0 on.
 ///
-/// Errors: out of memory, of which it takes some for each node and for each node of a set.
+/// # Errors
+///
+/// Out of memory, of which it takes some for each node and for each node of a set.
 pub(crate) fn sets_by_node(
     alloc: Global,
     count: u32,

@@ -50,7 +50,9 @@ impl<C: Symmetric> Setting<'_, C> {
     /// The bound of the leaf with these numbers and decisions. Two rows are lent, which are written
     /// over. The caller owes that the sets are those of combs.
     ///
-    /// Errors: out of memory.
+    /// # Errors
+    ///
+    /// Out of memory.
     pub(crate) fn case_bound(
         &self,
         alloc: Global,

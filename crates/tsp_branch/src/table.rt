@@ -26,7 +26,9 @@ impl<'a, C: Costs> CostTable<'a, C> {
 
     /// The costs between these nodes.
     ///
-    /// Errors: out of memory, of which it takes some for each pair of nodes.
+    /// # Errors
+    ///
+    /// Out of memory, of which it takes some for each pair of nodes.
     pub fn of(alloc: Global, costs: &'a C) -> Result<CostTable<'a, C>, AllocError>
         ensures nodes { IfOk result (λ table. C.nodes table.costs.now ≡ C.nodes costs.now) }
         ensures costs { IfOk result (λ table. C.at table.costs.now ≡ C.at costs.now) }

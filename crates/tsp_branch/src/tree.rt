@@ -17,7 +17,9 @@ use std::alloc::{AllocError, Global};
 /// Source: M. Held and R. M. Karp, The traveling-salesman problem and minimum spanning trees,
 /// 1970; the tree is grown as R. C. Prim's, 1957.
 ///
-/// Errors: out of memory, of which it takes some for each node.
+/// # Errors
+///
+/// Out of memory, of which it takes some for each node.
 pub fn least_weight<W: Weights>(alloc: Global, w: &W, row: &mut [i64]) -> Result<i128, AllocError>
     requires some { 3 ≤ W.nodes w.now }
     requires room { length row.old ≡ W.nodes w.now + 1 }

@@ -16,7 +16,9 @@ use tsp_value::TreeStep;
 ///
 /// The caller owes that no pair is given twice.
 ///
-/// Errors: out of memory, of which it takes some for each decision of a case.
+/// # Errors
+///
+/// Out of memory, of which it takes some for each decision of a case.
 pub fn first_twice(
     alloc: Global,
     given: &[(u32, u32, bool)],

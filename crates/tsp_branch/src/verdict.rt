@@ -29,7 +29,9 @@ use tsp_walk::Symmetric;
 /// handle before the teeth. The caller owes three or more nodes, a scale of 1 to 1,000,000, sets and
 /// decisions of nodes, no pair that is given twice, and one whole tree of branches.
 ///
-/// Errors: out of memory, of which it takes some for each node, each comb, each node of a set, and
+/// # Errors
+///
+/// Out of memory, of which it takes some for each node, each comb, each node of a set, and
 /// each decision of a case.
 pub fn judge_branches<C: Symmetric>(
     alloc: Global,

@@ -15,7 +15,9 @@ use tsp_words::Task;
 /// Does a task on files that are read from these readers, and writes what comes of it. The answer is
 /// the verdict, or `None` where the task has none.
 ///
-/// Errors: those of the call of the task's verb.
+/// # Errors
+///
+/// Those of the call of the task's verb.
 pub fn perform<R: Read, W: Write>(
     alloc: Global,
     task: &mut Task<Watched<R>>,

@@ -12,7 +12,9 @@ const CELLS: u64 = 65536;
 /// The nodes, of which node i has the point i - 1, along a curve that fills the plane or space: by
 /// D. Hilbert, 1891, where the points lie in a plane, else by G. M. Morton, 1966.
 ///
-/// Errors: out of memory.
+/// # Errors
+///
+/// Out of memory.
 pub(crate) fn along_curve<P: InSpace>(alloc: Global, points: &[P]) -> Result<Vec<u32>, AllocError>
     requires some { 1 ≤ length points.now }
     requires few { length points.now < 2 ^ 31 }

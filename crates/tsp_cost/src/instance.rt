@@ -42,7 +42,9 @@ impl Instance {
 
     /// The instance that a file is, or why it is none, and the file itself, unchanged.
     ///
-    /// Errors: `NotInstance` for a file of TYPE TOUR, POTENTIALS or BRANCHES. No memory is taken.
+    /// # Errors
+    ///
+    /// `NotInstance` for a file of TYPE TOUR, POTENTIALS or BRANCHES. No memory is taken.
     pub fn of(f: File) -> Result<Instance, (CostFault, File)>
         ensures { MatchResult result
             (λ inst. (inst ≡ f) × IsTrue (is_instance f.kind))

@@ -16,7 +16,9 @@ use tsp_value::Field;
 /// more, where it can be; at most as much of it is read as the first time. What stands at the fault
 /// is shown as far as that look shows it.
 ///
-/// Errors: out of memory; part of the explanation may be appended then.
+/// # Errors
+///
+/// Out of memory; part of the explanation may be appended then.
 pub fn explain_file<R: Read + Drop>(
     alloc: Global,
     text: &mut Vec<u8>,

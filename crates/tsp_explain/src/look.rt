@@ -67,7 +67,9 @@ pub(crate) struct Look {
 
 /// Looks at a file, up to what is sought or to its line `EOF`; no further than it is read.
 ///
-/// Errors: those of the reader.
+/// # Errors
+///
+/// Those of the reader.
 pub(crate) fn look_for<R: Read>(reader: &mut R, sought: Sought) -> io::Result<Look> {
     let mut look = Look::new(sought);
     let mut taken = 0usize;

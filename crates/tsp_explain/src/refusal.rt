@@ -61,7 +61,9 @@ pub fn blamed(reason: Reason) -> Blame {
 /// file is given as opened once more, where it can be, and is read as the first time. The nodes and
 /// numbers are told as far as that shows them.
 ///
-/// Errors: out of memory; part of the explanation may be appended then.
+/// # Errors
+///
+/// Out of memory; part of the explanation may be appended then.
 pub fn explain_reason<R: Read + Drop>(
     alloc: Global,
     text: &mut Vec<u8>,

@@ -269,7 +269,9 @@ impl File {
 
     /// The file that a draft holds, or the draft's first fault and the draft itself, unchanged.
     ///
-    /// Errors: `BadField` with the first field, in canonical order, that isn't valid on
+    /// # Errors
+    ///
+    /// `BadField` with the first field, in canonical order, that isn't valid on
     /// its own; else `Rule` with the first rule over several fields that fails. No memory is taken.
     pub fn of(d: Draft) -> Result<File, (DraftFault, Draft)>
         ensures { MatchResult result

@@ -262,7 +262,9 @@ impl<'a> ListedWeights<'a> {
 
     /// The costs of the cells of another layout, in their order.
     ///
-    /// Errors: out of memory.
+    /// # Errors
+    ///
+    /// Out of memory.
     pub(crate) fn laid_out(&self, alloc: Global, to: Layout) -> Result<Vec<i64>, AllocError>
         ensures value { IfOk result (λ weights.
             weights.items ≡ costs_in to self.now.nodes (costs_of self.now)) }
@@ -277,7 +279,9 @@ impl<'a> ListedWeights<'a> {
 
     /// Adds the costs of the cells of one line of another layout.
     ///
-    /// Errors: out of memory.
+    /// # Errors
+    ///
+    /// Out of memory.
     fn lay_line(&self, to: Layout, line: u32, weights: &mut Vec<i64>) -> Result<(), AllocError>
         requires { IsNode self.now.nodes line }
         ensures { OnOk result (weights.new.items ≡ weights.old.items

@@ -19,7 +19,9 @@ const BAND: u32 = 64;
 /// Makes the full matrix of what a layout lists of one: the lines go to their rows, from the last to
 /// the first, and then the costs across the diagonal are filled in.
 ///
-/// Errors: out of memory, and then the weights are as they were. No more room is taken than the full
+/// # Errors
+///
+/// Out of memory, and then the weights are as they were. No more room is taken than the full
 /// matrix needs.
 pub(crate) fn make_whole(from: Layout, nodes: u32, weights: &mut Vec<i64>) -> Result<(), AllocError>
     requires few { nodes ≤ most_matrix_nodes }

@@ -15,7 +15,9 @@ use tsp_verdict::Verdict;
 
 /// Writes the report on an instance, and answers the verdict that it is of. It takes no memory.
 ///
-/// Errors: `Write` where the writer fails.
+/// # Errors
+///
+/// `Write` where the writer fails.
 pub(crate) fn answer<W: Write>(
     instance: &Instance,
     verdict: Verdict,

@@ -28,7 +28,9 @@ use tsp_verdict::Verdict;
 /// Each file is read whole before the next, and the first file that is none decides. Nothing is
 /// written before the verdict exists.
 ///
-/// Errors: `File` where a file is none, or can't be read; `WrongKind` where all three are files and
+/// # Errors
+///
+/// `File` where a file is none, or can't be read; `WrongKind` where all three are files and
 /// the first is of TYPE CVRP, TOUR, POTENTIALS or BRANCHES; `OutOfMemory` where the judgement runs out of
 /// memory, and then no reason up to `NodeOutOfRange` stands against the tour; `Write` where the writer
 /// fails. Of each file at most 4,096 bytes past `MOST_FILE_BYTES` are read.
@@ -49,7 +51,9 @@ pub fn run_bound_check<I: Read, S: Read, P: Read, W: Write>(
 
 /// Does what `run_bound_check` does, and answers the verdict itself: at `Ok` the one of the report.
 ///
-/// Errors: those of `run_bound_check`.
+/// # Errors
+///
+/// Those of `run_bound_check`.
 pub fn run_bound_verdict<I: Read, S: Read, P: Read, W: Write>(
     alloc: Global,
     inst: &mut Watched<I>,

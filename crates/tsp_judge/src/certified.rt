@@ -25,7 +25,9 @@ use tsp_verdict::{Verdict, judge_tour_bound, judge_tour_branches};
 /// Each file is read whole before the next, and the first file that is none decides. Nothing is
 /// written before the verdict exists.
 ///
-/// Errors: `File` where a file is none, or can't be read; `WrongKind` where all three are files and
+/// # Errors
+///
+/// `File` where a file is none, or can't be read; `WrongKind` where all three are files and
 /// tours of the first one's TYPE have no bound by this kind; `OutOfMemory` where the judgement runs out
 /// of memory, and then no reason up to `NodeOutOfRange` stands against the tour; `Write` where the
 /// writer fails. Of each file at most 4,096 bytes past `MOST_FILE_BYTES` are read.

@@ -27,7 +27,9 @@ use tsp_verdict::{Verdict, judge_routes, judge_tour};
 /// then. Each file is read whole before the next, and the first file that is none decides. Nothing is
 /// written before the verdict exists.
 ///
-/// Errors: `File` where a file is none, or can't be read; `WrongKind` where both are files and the
+/// # Errors
+///
+/// `File` where a file is none, or can't be read; `WrongKind` where both are files and the
 /// first is of TYPE TOUR, POTENTIALS or BRANCHES; `OutOfMemory` where the judgement runs out of memory,
 /// and then no reason up to `NodeOutOfRange`, in the order of its TYPE, stands against the second;
 /// `Write` where the writer fails. Of each file at most 4,096 bytes past `MOST_FILE_BYTES` are read.
@@ -46,7 +48,9 @@ pub fn run_check<I: Read, S: Read, W: Write>(
 
 /// Does what `run_check` does, and answers the verdict itself: at `Ok` the one of the report.
 ///
-/// Errors: those of `run_check`.
+/// # Errors
+///
+/// Those of `run_check`.
 pub fn run_verdict<I: Read, S: Read, W: Write>(
     alloc: Global,
     inst: &mut Watched<I>,

@@ -19,7 +19,9 @@ use tsp_write::write_file;
 /// The file is read whole, and the weights are in their layout, before anything is written. The
 /// text isn't held in memory as a whole.
 ///
-/// Errors: `File` where the bytes are no file, or can't be read; `Relayout` where the weights can't
+/// # Errors
+///
+/// `File` where the bytes are no file, or can't be read; `Relayout` where the weights can't
 /// go into the layout, or there is no memory for that; `Write` where the writer fails.
 /// `OutOfMemory` is never answered. At most 4,096 bytes past `MOST_FILE_BYTES` are read.
 pub fn run_convert<R: Read, W: Write>(

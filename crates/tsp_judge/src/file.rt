@@ -13,7 +13,9 @@ use tsp_stream::Watched;
 
 /// Reads the file with this number, counted from 1, of those that a run is given.
 ///
-/// Errors: `File` with this number, where the file is none, or can't be read.
+/// # Errors
+///
+/// `File` with this number, where the file is none, or can't be read.
 pub(crate) fn read_file<R: Read>(
     alloc: Global,
     number: u32,

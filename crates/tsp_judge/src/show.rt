@@ -19,7 +19,9 @@ use tsp_stream::Watched;
 ///
 /// The file is read whole before anything is written, and writing takes no memory.
 ///
-/// Errors: `File` where the bytes are no file, or can't be read; `Write` where the writer fails. At
+/// # Errors
+///
+/// `File` where the bytes are no file, or can't be read; `Write` where the writer fails. At
 /// most 4,096 bytes past `MOST_FILE_BYTES` are read.
 pub fn run_show<R: Read, W: Write>(
     alloc: Global,

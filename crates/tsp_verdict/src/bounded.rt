@@ -26,7 +26,9 @@ use tsp_value::Kind;
 /// multipliers of fixed pairs, under TYPE ATSP that of duals of the assignment problem. The caller
 /// owes an instance of TYPE TSP or ATSP.
 ///
-/// Errors: out of memory, and then no reason up to `NodeOutOfRange` stands.
+/// # Errors
+///
+/// Out of memory, and then no reason up to `NodeOutOfRange` stands.
 pub fn judge_tour_bound(
     alloc: Global,
     inst: &Instance,

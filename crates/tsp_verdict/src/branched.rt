@@ -23,7 +23,9 @@ use tsp_fields::File;
 /// 1-tree under the leaf's potentials, its multipliers of combs, and what is decided above it. The
 /// fixed pairs are taken in all cases. The caller owes an instance of TYPE TSP.
 ///
-/// Errors: out of memory, and then no reason up to `NodeOutOfRange` stands.
+/// # Errors
+///
+/// Out of memory, and then no reason up to `NodeOutOfRange` stands.
 pub fn judge_tour_branches(
     alloc: Global,
     instance: &Instance,

@@ -130,7 +130,9 @@ fn multipliers_of(pot: &File) -> Multipliers<'_>
 /// The first reason against the multipliers of a certificate of an instance of TYPE TSP. Where no
 /// reason stands against them, they are on different pairs, each of which is fixed.
 ///
-/// Errors: out of memory for the fixed pairs and for those of the multipliers; none is taken where
+/// # Errors
+///
+/// Out of memory for the fixed pairs and for those of the multipliers; none is taken where
 /// there are no multipliers.
 pub(crate) fn first_against_multipliers(
     alloc: Global,

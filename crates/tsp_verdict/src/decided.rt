@@ -12,7 +12,9 @@ use std::collections::BTreeSet;
 /// Pairs as decisions that take them, each once: without those that are an earlier one, in either
 /// direction.
 ///
-/// Errors: out of memory for the pairs.
+/// # Errors
+///
+/// Out of memory for the pairs.
 pub(crate) fn taken_once(
     alloc: Global,
     pairs: &[(u32, u32)],

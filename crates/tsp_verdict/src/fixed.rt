@@ -12,7 +12,9 @@ use std::alloc::{AllocError, Global};
 
 /// For each node of a walk of n nodes the one that comes next, the first one after the last.
 ///
-/// Errors: out of memory for a number for each node.
+/// # Errors
+///
+/// Out of memory for a number for each node.
 pub(crate) fn next_nodes(alloc: Global, walk: &[u32], n: u32) -> Result<Vec<u32>, AllocError>
     requires { IsWalk n walk.now }
     ensures { IfOk result (λ next. (vec_len next ≡ n + 1) × AreNext walk.now next.items) }

@@ -12,7 +12,9 @@ use std::collections::BTreeSet;
 
 /// The first triple, counted from 1, whose pair isn't among the fixed ones, in either direction.
 ///
-/// Errors: out of memory for the fixed pairs.
+/// # Errors
+///
+/// Out of memory for the fixed pairs.
 pub(crate) fn first_unlisted(
     alloc: Global,
     fixed: &[(u32, u32)],
@@ -29,7 +31,9 @@ pub(crate) fn first_unlisted(
 
 /// The first triple, counted from 1, whose pair an earlier one has, in either direction.
 ///
-/// Errors: out of memory for the pairs.
+/// # Errors
+///
+/// Out of memory for the pairs.
 pub(crate) fn first_repeated_pair(
     alloc: Global,
     triples: &[(u32, u32, i64)],

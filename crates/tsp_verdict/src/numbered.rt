@@ -10,7 +10,9 @@ use std::alloc::{AllocError, Global};
 
 /// The sets of combs, comb by comb, each with the number of its comb from 0 on.
 ///
-/// Errors: out of memory, of which it takes some for each set and each of its nodes.
+/// # Errors
+///
+/// Out of memory, of which it takes some for each set and each of its nodes.
 pub(crate) fn numbered_sets(
     alloc: Global,
     combs: &[Vec<Vec<u32>>],
@@ -29,7 +31,9 @@ pub(crate) fn numbered_sets(
 
 /// Adds the sets of a comb, each with a number.
 ///
-/// Errors: out of memory.
+/// # Errors
+///
+/// Out of memory.
 fn add_sets(
     alloc: Global,
     sets: &mut Vec<(u32, Vec<u32>)>,

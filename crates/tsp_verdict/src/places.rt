@@ -43,7 +43,9 @@ pub(crate) fn first_of(nodes: &[u32], sought: u32) -> Option<u32>
 
 /// The first place whose node stands at an earlier place too.
 ///
-/// Errors: out of memory for a mark for each node.
+/// # Errors
+///
+/// Out of memory for a mark for each node.
 pub(crate) fn first_repeated(
     alloc: Global,
     nodes: &[u32],

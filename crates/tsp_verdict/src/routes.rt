@@ -29,7 +29,9 @@ const FEWEST_NODES: u32 = 2;
 /// no plan has fewer routes. The reasons are judged in the order that [`Reason`] says. The caller
 /// owes an instance of TYPE CVRP.
 ///
-/// Errors: out of memory for a mark for each node, and then no reason up to `NodeOutOfRange` in
+/// # Errors
+///
+/// Out of memory for a mark for each node, and then no reason up to `NodeOutOfRange` in
 /// that order stands: those are found without memory.
 pub fn judge_routes(alloc: Global, inst: &Instance, sol: &File) -> Result<Verdict, AllocError>
     requires { inst.now.kind ≡ Some kinds.Cvrp }

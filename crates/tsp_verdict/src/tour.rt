@@ -27,7 +27,9 @@ const FEWEST_NODES: u32 = 3;
 /// judged in the order of [`Reason`], up to `FixedEdgeUnused`. The bound is `None`. The caller
 /// owes an instance of TYPE TSP or ATSP.
 ///
-/// Errors: out of memory for a mark and a number for each node, and then no reason up to
+/// # Errors
+///
+/// Out of memory for a mark and a number for each node, and then no reason up to
 /// `NodeOutOfRange` stands: those are found without memory.
 pub fn judge_tour(alloc: Global, inst: &Instance, sol: &File) -> Result<Verdict, AllocError>
     requires { (inst.now.kind ≡ Some kinds.Tsp) ⊎ (inst.now.kind ≡ Some kinds.Atsp) }

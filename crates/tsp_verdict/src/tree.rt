@@ -34,7 +34,9 @@ const MOST_TABLED: u32 = 2_000;
 /// The bound that a certificate by branching gives an instance of TYPE TSP, or the first reason
 /// against it.
 ///
-/// Errors: out of memory.
+/// # Errors
+///
+/// Out of memory.
 pub(crate) fn bound_of_tree(
     alloc: Global,
     instance: &Instance,
@@ -78,7 +80,9 @@ fn first_against_file(instance: &Instance, branches: &File) -> Option<Reason>
 /// The bound over distances, which are looked up once where the tree has several leaves and memory
 /// is given for them.
 ///
-/// Errors: out of memory.
+/// # Errors
+///
+/// Out of memory.
 fn judge_distances<C: Symmetric>(
     alloc: Global,
     instance: &Instance,
@@ -105,7 +109,9 @@ fn judge_distances<C: Symmetric>(
 /// The bound over the costs of a view, or the first reason against the combs, the branches or the
 /// leaves.
 ///
-/// Errors: out of memory.
+/// # Errors
+///
+/// Out of memory.
 fn judge_tree<C: Symmetric>(
     alloc: Global,
     instance: &Instance,

@@ -18,7 +18,9 @@ pub trait Grouped: Symmetric {
     /// The nodes in an order in which neighbours are near each other, as a help alone: nothing is
     /// promised of it.
     ///
-    /// Errors: out of memory.
+    /// # Errors
+    ///
+    /// Out of memory.
     fn order(&self, alloc: Global) -> Result<Vec<u32>, AllocError> {
         Ok(Vec::new(alloc))
     }

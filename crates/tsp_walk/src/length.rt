@@ -45,7 +45,9 @@ pub fn canonical_length<C: Costs>(c: &C) -> i64
 
 /// The length of each of several lists of nodes, as [`tour_length`] gives it.
 ///
-/// Errors: out of memory for the vector of lengths; nothing else takes memory.
+/// # Errors
+///
+/// Out of memory for the vector of lengths; nothing else takes memory.
 pub fn trace_tours<C: Costs>(
     alloc: Global,
     c: &C,
