@@ -20,9 +20,10 @@ fn instance_of(draft: Draft) -> Result<Instance, Fail> {
 
 /// An instance with this many nodes and a full matrix of these weights.
 fn full_matrix(alloc: Global, nodes: u32, weights: &[i64]) -> Result<Draft, AllocError> {
+    let weights = Vec::from_slice(alloc, weights)?;
     let mut draft = upper_row(alloc, nodes, 0)?;
     draft.weight_format = Some(WeightFormat::Listed(Layout::FullMatrix));
-    draft.weights = Some(Vec::from_slice(alloc, weights)?);
+    draft.weights = Some(weights);
     Ok(draft)
 }
 

@@ -25,20 +25,21 @@ fn judged(alloc: Global, instance: Draft, lists: &[&[u32]]) -> Result<Verdict, F
 
 /// A file of tours.
 fn solution(alloc: Global, lists: &[&[u32]]) -> Result<Draft, AllocError> {
-    let mut draft = tours(alloc);
     let mut held = Vec::new(alloc);
     for list in lists {
         held.push(Vec::from_slice(alloc, *list)?)?;
     }
+    let mut draft = tours(alloc);
     draft.tours = Some(held);
     Ok(draft)
 }
 
 /// The rectangle as a TSP with these fixed edges.
 fn rectangle_with(alloc: Global, fixed: &[(u32, u32)]) -> Result<Draft, Fail> {
+    let fixed = Vec::from_slice(alloc, fixed)?;
     let mut draft = rectangle(alloc)?;
     draft.kind = Some(Kind::Tsp);
-    draft.fixed = Some(Vec::from_slice(alloc, fixed)?);
+    draft.fixed = Some(fixed);
     Ok(draft)
 }
 

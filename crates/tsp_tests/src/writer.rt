@@ -51,16 +51,17 @@ fn a_failure_leaves_a_front_and_ends_the_writing(rt: HostRuntime) -> Result<(), 
 
 /// Three comments of 3,990 bytes, which are 4,001 with their keyword and byte 10, and their lines.
 fn long_comments(alloc: Global) -> Result<(Draft, Vec<u8>), Fail> {
-    let mut draft = two_tours(alloc)?;
-    draft.comments = Vec::new(alloc);
+    let mut comments = Vec::new(alloc);
     let mut lines = Vec::new(alloc);
     for _ in 0..3u8 {
         let long = vec![in alloc; b'x'; 3_990]?;
         lines.extend_from_slice(b"COMMENT : ")?;
         lines.extend_from_slice(long.as_slice())?;
         lines.extend_from_slice(b"\n")?;
-        draft.comments.push(long)?;
+        comments.push(long)?;
     }
+    let mut draft = two_tours(alloc)?;
+    draft.comments = comments;
     Ok((draft, lines))
 }
 

@@ -10,9 +10,10 @@ use tsp_value::{Layout, WeightFormat};
 
 /// An instance of so many nodes with these weights in a layout.
 fn explicit(alloc: Global, nodes: u32, layout: Layout, weights: &[i64]) -> Result<Draft, Fail> {
+    let weights = Vec::from_slice(alloc, weights)?;
     let mut draft = upper_row(alloc, nodes, 0)?;
     draft.weight_format = Some(WeightFormat::Listed(layout));
-    draft.weights = Some(Vec::from_slice(alloc, weights)?);
+    draft.weights = Some(weights);
     Ok(draft)
 }
 
