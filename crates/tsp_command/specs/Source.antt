@@ -46,10 +46,12 @@ Asking Call T B R = Once Call (MutBor T × (MutBor B × Unit {0})) (R × (MutBor
 
 -- Standard input or the file is asked by its call, once, and its answer is this one, as it is. A missing file answers an error
 -- that is the same as its own.
-abbrev pub IsAsked : {I F B A Call Other : Type 0} → Asking Call I B (Result A Error) → Call
-    → Asking Other F B (Result A Error) → Other → Source I F → B → Result A Error → Source I F → B → Type 0
-IsAsked asks call puts other (Input old) room answer (Input new) filled = Calls asks call old room answer new filled
-IsAsked asks call puts other (Opened old) room answer (Opened new) filled = Calls puts other old room answer new filled
-IsAsked asks call puts other (Missing error) room (Err found) (Missing left) filled = IsSameError error found
+abbrev pub IsAsked : {I F B A OfInput OfFile : Type 0} → Asking OfInput I B (Result A Error) → OfInput
+    → Asking OfFile F B (Result A Error) → OfFile → Source I F → B → Result A Error → Source I F → B → Type 0
+IsAsked asks_input of_input asks_file of_file (Input old) room answer (Input new) filled =
+    Calls asks_input of_input old room answer new filled
+IsAsked asks_input of_input asks_file of_file (Opened old) room answer (Opened new) filled =
+    Calls asks_file of_file old room answer new filled
+IsAsked asks_input of_input asks_file of_file (Missing error) room (Err found) (Missing left) filled = IsSameError error found
     × (left ≡ error) × (filled ≡ room)
-IsAsked asks call puts other old room answer new filled = ⊥
+IsAsked asks_input of_input asks_file of_file old room answer new filled = ⊥
