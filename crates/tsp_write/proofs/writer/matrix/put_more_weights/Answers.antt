@@ -4,8 +4,11 @@ use Rattle.std.specs.Int.{w64}
 use Rattle.std.proofs.lemmas.Int.{to_z-of_z}
 use Rattle.std.specs.Fmt.{signed_decimal}
 use Rattle.tsp_stream.specs.Way.{way_of}
-use Rattle.tsp_stream.proofs.Carrying.{carried_next_or, carried_mapped}
+use Rattle.tsp_stream.proofs.Carrying.{carried_next_or, carried_mapped, carried_none}
 use Rattle.tsp_write.proofs.writer.matrix.put_more_weights.Goals as goal
+
+pub weights-init : goal.weights-init
+weights-init g c = carried_none (way_of g.W.Write.contents c.args.out.now c.args.piece.now.items)
 
 pub weights-preserved : goal.weights-preserved
 weights-preserved g c =

@@ -4,8 +4,19 @@ use Rattle.std.specs.List.{flat_map}
 use Rattle.tsp_fields.specs.Fields.{combs_of}
 use Rattle.tsp_write.specs.Text.{comb_lines}
 use Rattle.tsp_stream.specs.Way.{way_of}
-use Rattle.tsp_stream.proofs.Carrying.{carried_then, carried_mapped}
+use Rattle.tsp_stream.proofs.Carrying.{carried_then, carried_mapped, carried_none, carried_next}
 use Rattle.tsp_write.proofs.writer.tree.put_combs.Goals as goal
+
+pub combs-init : goal.combs-init
+combs-init g c = carried_none (way_of g.W.Write.contents c.args.out.now c.args.piece.now.items)
+
+pub combs-preserved : goal.combs-preserved
+combs-preserved g c =
+    let start = way_of g.W.Write.contents c.args.out.now c.args.piece.now.items in
+    let before = way_of g.W.Write.contents c.combs.out c.combs.piece.items in
+    let after = way_of g.W.Write.contents c.put_comb.new.out c.put_comb.new.piece.items in
+    let text = rw c.deref.ensures.value at c.put_comb.ensures in
+    carried_next (λ comb. comb_lines (map (λ set. set.items) comb.items)) c.args.combs.now c.combs.comb-index c.comb-item.result start before after c.combs-test.true c.comb-item.is c.combs.invariant text
 
 pub returns : goal.returns
 returns g c =
