@@ -14,7 +14,8 @@ loop-comment-preserved g c =
     let before = way_of g.W.Write.contents c.loop-comment.out c.loop-comment.piece.items in
     let after = way_of g.W.Write.contents c.put_value.new.out c.put_value.new.piece.items in
     let text = rw (c.as_bytes.ensures.value, c.word.ensures, c.deref.ensures.value) at c.put_value.ensures in
-    carried_next (λ v. keyword_line CommentKey v.items) c.args.comments.now c.loop-comment.comment-index c.comment-item.result start before after c.loop-comment-test.true c.comment-item.is c.loop-comment.invariant text
+    carried_next (λ v. keyword_line CommentKey v.items) c.args.comments.now c.loop-comment.comment-index c.comment-item.result
+    start before after c.loop-comment-test.true c.comment-item.is c.loop-comment.invariant text
 
 pub returns : goal.returns
 returns g c = carried_mapped (keyword_line CommentKey) (λ v. v.items) c.args.comments.now c.loop-comment.comment-index

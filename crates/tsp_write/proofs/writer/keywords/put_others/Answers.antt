@@ -13,7 +13,8 @@ loop-keyword-preserved g c =
     let before = way_of g.W.Write.contents c.loop-keyword.out c.loop-keyword.piece.items in
     let after = way_of g.W.Write.contents c.put_value.new.out c.put_value.new.piece.items in
     let text = rw (c.deref.ensures.value, c.deref-in-loop-keyword.ensures.value) at c.put_value.ensures in
-    carried_next (λ p. value_line p.0.items p.1.items) c.args.others.now c.loop-keyword.keyword-index c.loop-keyword-item.result start before after c.loop-keyword-test.true c.loop-keyword-item.is c.loop-keyword.invariant text
+    carried_next (λ p. value_line p.0.items p.1.items) c.args.others.now c.loop-keyword.keyword-index c.loop-keyword-item.result
+    start before after c.loop-keyword-test.true c.loop-keyword-item.is c.loop-keyword.invariant text
 
 pub returns : goal.returns
 returns g c = carried_mapped other_line (λ p. (p.0.items, p.1.items)) c.args.others.now c.loop-keyword.keyword-index

@@ -19,7 +19,8 @@ triples-preserved g c =
     let start = way_of g.W.Write.contents c.args.out.now c.args.piece.now.items in
     let before = way_of g.W.Write.contents c.triples.out c.triples.piece.items in
     let after = way_of g.W.Write.contents c.put_triple_line.new.out c.put_triple_line.new.piece.items in
-    carried_next_or (λ (triple : ℕ × ℕ × ℤ). number_line (decimal triple.0) (decimal triple.1 ∷ signed_decimal triple.2 ∷ [])) c.args.triples.now c.triples.first-index (0, 0, pos 0) start before after c.triples-test.true c.triples.invariant line
+    carried_next_or (λ (triple : ℕ × ℕ × ℤ). number_line (decimal triple.0) (decimal triple.1 ∷ signed_decimal triple.2 ∷ [])) c.args.triples.now c.triples.first-index (0, 0, pos 0)
+    start before after c.triples-test.true c.triples.invariant line
 
 pub returns : goal.returns
 returns g c =

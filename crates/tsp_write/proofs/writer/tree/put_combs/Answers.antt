@@ -16,7 +16,8 @@ combs-preserved g c =
     let before = way_of g.W.Write.contents c.combs.out c.combs.piece.items in
     let after = way_of g.W.Write.contents c.put_comb.new.out c.put_comb.new.piece.items in
     let text = rw c.deref.ensures.value at c.put_comb.ensures in
-    carried_next (λ comb. comb_lines (map (λ set. set.items) comb.items)) c.args.combs.now c.combs.comb-index c.comb-item.result start before after c.combs-test.true c.comb-item.is c.combs.invariant text
+    carried_next (λ comb. comb_lines (map (λ set. set.items) comb.items)) c.args.combs.now c.combs.comb-index c.comb-item.result
+    start before after c.combs-test.true c.comb-item.is c.combs.invariant text
 
 pub returns : goal.returns
 returns g c =
