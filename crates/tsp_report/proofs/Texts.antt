@@ -1,5 +1,5 @@
 -- The way of a text in two parts, and lines that are listed.
-use Rattle.std.proofs.Common.{◌≡◌, ℕ, ◌+◌, ◌<◌, List, [], ◌∷◌, ◌++◌, length, take, map, get_or, false, Some, refl, sym, ap, subst, ◌∙◌, append-nil, arith}
+use Rattle.std.proofs.Common.{◌≡◌, ℕ, ◌+◌, ◌<◌, List, [], ◌∷◌, ◌++◌, length, take, map, get_or, false, Some, refl, sym, ap, subst, ◌∙◌, append-nil, append_assoc, arith}
 use Rattle.std.proofs.lemmas.List.{length-map, get_or-map}
 use Rattle.std.specs.Prelude.{codes, ◌==◌}
 use Rattle.std.specs.List.{flat_map, enumerate_from}
@@ -32,3 +32,7 @@ not_judged_each (other ∷ others) = ap (λ t. unknown_line other ++ t) (not_jud
 pub named : (name : List ℕ) → (length name == 0) ≡ false → codes "name " ++ name ++ codes "\n" ≡ name_line (Some name)
 named [] none = absurd cc
 named (first ∷ rest) none = refl
+
+-- a text, some words and a number
+pub then_named : (a b c : Way) (x words number : List ℕ) → Carried a b x → Carried b c (words ++ number) → Carried a c (x ++ words ++ number)
+then_named a b c x words number h k = subst (Carried a c) (sym (append_assoc x words number)) (carried_then a b c x (words ++ number) h k)
