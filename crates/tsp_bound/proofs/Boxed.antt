@@ -1,6 +1,6 @@
 -- Orders on numbers of 64 bits as code shows them, and the weights that a box bounds.
 use Rattle.std.proofs.Common.{◌≡◌, true, false, ℤ, pos, negsuc, ◌+ℤ◌, ◌*ℤ◌, ◌≤ℤ◌, w64, to_z, of_z, SFits, subst, arith}
-use Rattle.std.specs.Int.Signed.{lt_z}
+use Rattle.std.specs.Int.Signed.{lt_z, le_z}
 use Rattle.std.proofs.lemmas.Int.{ints, to_z-of_z}
 use Rattle.tsp_bound.specs.Boxes.{IsKnown}
 use Rattle.tsp_theory.specs.Numbers.{IsScale}
@@ -15,6 +15,12 @@ pub not_less_seen : (a b : ℤ) → SFits w64 a → SFits w64 b → lt_z (to_z w
 not_less_seen a b f g h =
     let k : lt_z a b ≡ false = simp to_z-of_z at h in
     grind (arith, ints)
+
+pub at_most_seen : (a b : ℤ) → le_z a b ≡ true → a ≤ℤ b
+at_most_seen a b h = grind (arith, ints)
+
+pub not_at_most_seen : (a b : ℤ) → le_z a b ≡ false → b ≤ℤ a
+not_at_most_seen a b h = grind (arith, ints)
 
 sum_above : (a b q r s : ℤ) → a ≤ℤ b → r ≤ℤ s → (a +ℤ (q +ℤ r)) ≤ℤ (b +ℤ (q +ℤ s))
 sum_above a b q r s h k = omega (arith, ints, h, k)

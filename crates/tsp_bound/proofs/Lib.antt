@@ -4,6 +4,7 @@ pub mod Lowered
 pub mod Lowest
 pub mod Marks
 pub mod Parts
+pub mod Passed
 pub mod Renaming
 pub mod Tables
 pub mod Trees

@@ -1,10 +1,10 @@
-use Rattle.std.proofs.Common.{◌≡◌, ◌<◌, ℕ, length, arith, ap, ◌∙◌, to_z, of_z}
+use Rattle.std.proofs.Common.{◌≡◌, ◌<◌, ℕ, length, arith, ap, inl, refl, ◌∙◌, to_z, of_z}
 use Rattle.std.specs.Prelude.{ℤ, pos, ◌-ℤ◌, slice_index_or}
 use Rattle.std.specs.Int.{w64}
 use Rattle.std.proofs.lemmas.List.{get_or_default}
 use Rattle.tsp_bound.specs.Potentials.{weight_under}
 use Rattle.tsp_theory.proofs.Nearest.{taken_by_set}
-use Rattle.tsp_bound.proofs.Lowered.{lowered_inside, lowered_outside}
+use Rattle.tsp_bound.proofs.Lowered.{lowered_inside, lowered_outside, all_lowered}
 use Rattle.tsp_theory.proofs.Weights.{lower_fits, lower_is}
 use Rattle.tsp_bound.proofs.growth.lower.Goals as goal
 use Rattle.tsp_bound.proofs.growth.lower.Goals.{then-not-inside-place, else-not-inside-place}
@@ -41,3 +41,28 @@ lowerings-preserved g c =
           (lowered_inside index n w c.args.lowerings.now c.args.inside.now c.args.next c.args.near.now c.args.least.now c.lowerings.near c.lowerings.least
           entry.0 c.lowerings-test.true (λ d. ap (λ (e : ℕ × ℤ). e.0) (is d)) v.if-not-inside-place.false c.lowerings.invariant)
     ]
+
+pub lowerings-init : goal.lowerings-init
+lowerings-init g c = λ x inner free. inl (λ k d below. absurd (omega (arith, below)), refl, refl)
+
+pub bounds-inside-place : goal.bounds-inside-place
+bounds-inside-place g c =
+    let own = c.requires.lowerings.each c.lowerings.lowering-index (0, pos 0) c.lowerings-test.true in
+    omega (arith, c.requires.inside_len, own.0.1)
+
+pub bounds-near-place : goal.bounds-near-place
+bounds-near-place g c =
+    let own = c.requires.lowerings.each c.lowerings.lowering-index (0, pos 0) c.lowerings-test.true in
+    omega (arith, c.lowerings.auto.near, c.requires.near_len, own.0.1)
+
+pub bounds-least-place : goal.bounds-least-place
+bounds-least-place g c =
+    let own = c.requires.lowerings.each c.lowerings.lowering-index (0, pos 0) c.lowerings-test.true in
+    omega (arith, c.lowerings.auto.least, c.requires.least_len, own.0.1)
+
+pub weight-requires-clause-to : goal.weight-requires-clause-to
+weight-requires-clause-to g c = (c.requires.lowerings.each c.lowerings.lowering-index (0, pos 0) c.lowerings-test.true).0
+
+pub returns : goal.returns
+returns g c = all_lowered (g.C.Costs.nodes c.args.c.now) (weight_under c.args.p.now (g.C.Costs.at c.args.c.now)) c.args.lowerings.now c.args.inside.now c.args.next
+    c.args.near.now c.args.least.now c.lowerings.near c.lowerings.least c.lowerings.lowering-index (omega arith) c.lowerings.invariant
