@@ -1,13 +1,13 @@
 -- By-node sections: the marks and entries of the nodes, a node and an entry more.
 use Rattle.std.proofs.Common.{◌≡◌, ◌≢◌, ℕ, ◌+◌, ◌-◌, ◌<◌, ◌≤◌, Bool, true, false, cond, ◌||◌, List, [], ◌∷◌, ◌++◌, length, set, refl, sym, ap, ◌∙◌, Option, None, Some, Ok, Err, inl, inr, arith, rules, get_or-set_other, get_or-set_same}
 use Rattle.std.specs.Int.{FitsUnsignedBits}
-use Rattle.std.specs.Prelude.{ℤ, pos, negsuc, nat_abs, ◌⊎◌, slice_index_or, is_some, unwrap_or}
+use Rattle.std.specs.Prelude.{ℤ, pos, negsuc, nat_abs, ◌⊎◌, replicate, slice_index_or, is_some, unwrap_or}
 use Rattle.std.specs.List.{list_any}
 use Rattle.std.specs.Ordering.{int_eq}
 use Rattle.std.proofs.lemmas.Bool.{false_from_ne_true}
 use Rattle.std.proofs.lemmas.Bool.Decides.{Decides-int_eq, same_from_decides}
 use Rattle.std.proofs.lemmas.Int.{ints}
-use Rattle.std.proofs.lemmas.List.{length-set, length_push, ext_get_or}
+use Rattle.std.proofs.lemmas.List.{length-set, length_push, length-replicate, get_or-replicate, ext_get_or}
 use Rattle.std.proofs.lemmas.List.FromFn.{length-map-range_with_len, get_or-map-range_with_len}
 use Rattle.tsp_number.specs.declared.fault.NumberFault.{NumberFault}
 use Rattle.tsp_number.specs.Reading.{whole_of}
@@ -78,6 +78,20 @@ unmarked seen z k word whole from some within free =
     let is : z ≡ pos k = natural z from.0 ∙ ap (λ (j : ℕ). pos j) (sym from.1) in
     let read : whole_of word (pos 1) (pos (length seen)) ≡ Ok z = whole (pos 1) (pos (length seen)) (omega (arith, ints, is, some)) (omega (arith, ints, is, within)) in
     (read ∙ ap (λ (y : ℤ). Ok y) is, (some, within), free)
+
+-- ---- no groups so far
+
+pub nodes_unmarked : {X : Type 0} (missing : X) (seen : List Bool) (entries : List X) (n : ℕ) → seen ≡ replicate n false → entries ≡ replicate n missing
+    → NodesHold missing seen entries n None n []
+nodes_unmarked missing seen entries n unseen empty = record {
+  wide = ap length unseen ∙ length-replicate n false;
+  sized = ap length empty ∙ length-replicate n missing;
+  to_come = omega arith;
+  within = λ k e. cc;
+  fresh = λ k e. cc;
+  marks = λ i lt. ap (λ xs. slice_index_or xs i false) unseen ∙ get_or-replicate n i false false lt;
+  filled = λ i lt. ap (λ xs. slice_index_or xs i missing) empty ∙ get_or-replicate n i missing missing lt;
+}
 
 -- ---- the node of a new group
 

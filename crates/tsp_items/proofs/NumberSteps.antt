@@ -1,21 +1,21 @@
 -- One word more of a by-node section with a whole number for each node.
 use Rattle.std.proofs.Common.{◌≡◌, ℕ, zero, suc, ◌+◌, ◌-◌, ◌*◌, ◌<◌, ◌≤◌, Bool, true, false, List, [], ◌∷◌, ◌++◌, length, map, set, refl, sym, ap, ◌∙◌, Option, None, Some, Ok, Err, arith}
-use Rattle.std.specs.Prelude.{ℤ, pos, nat_le, nat_lt}
-use Rattle.std.proofs.lemmas.List.{map_push, length_push, length-map, take_all}
+use Rattle.std.specs.Prelude.{ℤ, pos, nat_le, nat_lt, replicate}
+use Rattle.std.proofs.lemmas.List.{map_push, length_push, length-map, take_all, take-append-le}
 use Rattle.std.proofs.lemmas.Bool.Decides.{nat_tests}
 use Rattle.tsp_number.specs.declared.fault.NumberFault.{NumberFault}
 use Rattle.tsp_number.specs.Reading.{whole_of}
 use Rattle.tsp_items.specs.declared.fault.LineFault.{LineFault}
 use Rattle.tsp_items.specs.declared.fault.LineFault.TheVariants as row
-use Rattle.tsp_items.specs.Numbers.{number, node}
-use Rattle.tsp_items.specs.Places.{NodeAfter, Amount}
+use Rattle.tsp_items.specs.Numbers.{number, node, is_minus_one}
+use Rattle.tsp_items.specs.Places.{NodeAfter, Amount, PastGroups}
 use Rattle.tsp_items.specs.Groups.{pairs_in, begun_pair, number_groups, nodes_in, place_of_number, numbers_by_node}
 use Rattle.tsp_items.specs.Spells.{wants_more}
 use Rattle.tsp_items.specs.states.Parts.{readings, IsNewNode, NodesHold, NumbersHold}
 use Rattle.tsp_items.specs.Rows.{word_fault}
 use Rattle.tsp_items.proofs.Readings.{none_read, one_read}
 use Rattle.tsp_items.proofs.PairWords.{length_pairs, pairs_begin, begun_begin, pairs_end, begun_end}
-use Rattle.tsp_items.proofs.NodeGroups.{node_begins, node_faulty, entry_fills, entries_by_node, wants_in_group}
+use Rattle.tsp_items.proofs.NodeGroups.{nodes_unmarked, node_begins, node_faulty, entry_fills, entries_by_node, wants_in_group}
 
 -- ---- the groups so far
 
@@ -32,6 +32,16 @@ words_so_far : (low high : ℤ) (n left : ℕ) (words : List (List ℕ)) → len
 words_so_far low high n left words short to_come =
     let count = ap length (all_groups low high n words (omega arith)) ∙ length-map (pairs_in words) (group_of low high n) in
     omega (arith, count, length_pairs words)
+
+-- no words so far
+pub no_numbers : (seen : List Bool) (entries : List ℤ) (low high : ℤ) (n : ℕ) → seen ≡ replicate n false → entries ≡ replicate n (pos 0)
+    → NumbersHold seen entries n None low high n []
+no_numbers seen entries low high n unseen zeros = record {
+  nodes = rw (all_groups low high n [] (omega arith)) (nodes_unmarked (pos 0) seen entries n unseen zeros);
+  cut = λ yet. refl;
+  open_ended = λ yet. omega (arith, yet);
+  full = λ done. omega (arith, done);
+}
 
 -- ---- where the next word stands
 
@@ -123,6 +133,38 @@ number_more seen entries left begun low high n words word k z some is read h =
         full = λ done. omega (arith, more, so_far, odd, done);
       },
     )
+
+-- ---- past the groups
+
+past_numbers : (seen : List Bool) (entries : List ℤ) (left : ℕ) (begun : Option ℕ) (low high : ℤ) (n : ℕ) (words : List (List ℕ)) → left ≡ 0
+    → NumbersHold seen entries left begun low high n words → place_of_number low high n words ≡ PastGroups
+past_numbers seen entries left begun low high n words none h =
+    let full = h.full none in
+    let past : nat_le (2 * n) (length words) ≡ true = grind (arith, nat_tests) in
+    rw past refl
+
+-- a -1 may end the section
+pub numbers_ended : (seen : List Bool) (entries : List ℤ) (left : ℕ) (begun : Option ℕ) (low high : ℤ) (n : ℕ) (words : List (List ℕ)) (word : List ℕ) → left ≡ 0 → is_minus_one word ≡ true
+    → NumbersHold seen entries left begun low high n words
+    → (word_fault n (place_of_number low high n words) word ≡ None) × NumbersHold seen entries left begun low high n (words ++ word ∷ [])
+numbers_ended seen entries left begun low high n words word none end h =
+    let full = h.full none in
+    let more = length_push words word in
+    let same : number_groups low high n (words ++ word ∷ []) ≡ number_groups low high n words =
+    ap (λ ws. map (group_of low high n) (pairs_in ws)) (take-append-le (2 * n) words (word ∷ []) full) in (
+      rw (past_numbers seen entries left begun low high n words none h, end) refl,
+      record {
+        nodes = rw same h.nodes;
+        cut = λ yet. absurd (omega (arith, yet, none));
+        open_ended = λ yet. absurd (omega (arith, yet, none));
+        full = λ done. omega (arith, more, full);
+      },
+    )
+
+-- any other word is one too many
+pub numbers_surplus : (seen : List Bool) (entries : List ℤ) (left : ℕ) (begun : Option ℕ) (low high : ℤ) (n : ℕ) (words : List (List ℕ)) (word : List ℕ) → left ≡ 0 → is_minus_one word ≡ false
+    → NumbersHold seen entries left begun low high n words → word_fault n (place_of_number low high n words) word ≡ Some row.Surplus
+numbers_surplus seen entries left begun low high n words word none other h = rw (past_numbers seen entries left begun low high n words none h, other) refl
 
 -- ---- the end
 

@@ -1,7 +1,7 @@
 -- One word more of a by-node section with a point for each node.
 use Rattle.std.proofs.Common.{◌≡◌, ℕ, zero, suc, ◌+◌, ◌-◌, ◌*◌, ◌<◌, ◌≤◌, Bool, true, false, List, [], ◌∷◌, ◌++◌, length, map, set, refl, sym, ap, ◌∙◌, Option, None, Some, Ok, Err, arith}
-use Rattle.std.specs.Prelude.{ℤ, pos, nat_le, nat_lt, replicate, slice_index_or, is_some, unwrap_or}
-use Rattle.std.proofs.lemmas.List.{map_push, length_push, length-map, take_all, length-replicate, get_or-replicate}
+use Rattle.std.specs.Prelude.{ℤ, pos, nat_le, nat_lt, replicate}
+use Rattle.std.proofs.lemmas.List.{map_push, length_push, length-map, take_all, take-append-le}
 use Rattle.std.proofs.lemmas.Bool.Decides.{nat_tests}
 use Rattle.tsp_number.specs.declared.decimal.Point.{Point}
 use Rattle.tsp_number.specs.declared.decimal.PlanePoint.{PlanePoint}
@@ -11,14 +11,14 @@ use Rattle.tsp_number.specs.declared.fault.NumberFault.{NumberFault}
 use Rattle.tsp_number.specs.Reading.{decimal_of}
 use Rattle.tsp_items.specs.declared.fault.LineFault.{LineFault}
 use Rattle.tsp_items.specs.declared.fault.LineFault.TheVariants as row
-use Rattle.tsp_items.specs.Numbers.{number, node}
-use Rattle.tsp_items.specs.Places.{NodeAfter, Coordinate}
-use Rattle.tsp_items.specs.Groups.{triples_in, begun_triple, point_of, point_groups, entry_of, nodes_in, place_of_point, points_by_node}
+use Rattle.tsp_items.specs.Numbers.{number, node, is_minus_one}
+use Rattle.tsp_items.specs.Places.{NodeAfter, Coordinate, PastGroups}
+use Rattle.tsp_items.specs.Groups.{triples_in, begun_triple, point_of, point_groups, nodes_in, place_of_point, points_by_node}
 use Rattle.tsp_items.specs.Spells.{wants_more}
 use Rattle.tsp_items.specs.states.Parts.{BeginsPoint, IsNewNode, NodesHold, PointsHold}
 use Rattle.tsp_items.specs.Rows.{word_fault}
 use Rattle.tsp_items.proofs.TripleWords.{length_triples, triples_begin, begun_begin, triples_middle, begun_middle, triples_end, begun_end}
-use Rattle.tsp_items.proofs.NodeGroups.{node_begins, node_faulty, entry_fills, entries_by_node, wants_in_group}
+use Rattle.tsp_items.proofs.NodeGroups.{nodes_unmarked, node_begins, node_faulty, entry_fills, entries_by_node, wants_in_group}
 
 -- ---- the points as they are kept
 
@@ -50,20 +50,12 @@ groups_kept n words word short same =
 -- no words so far
 pub none_so_far : (seen : List Bool) (entries : List Point) (n : ℕ) → seen ≡ replicate n false → entries ≡ replicate n origin
     → PointsHold seen entries n None None n []
-none_so_far seen entries n unseen at_origin =
-    let none : length (point_groups n []) ≡ 0 = ap length (all_groups n [] (omega arith)) in
-    let nodes : NodesHold origin seen entries n None n (point_groups n []) = record {
-      wide = ap length unseen ∙ length-replicate n false;
-      sized = ap length at_origin ∙ length-replicate n origin;
-      to_come = omega (arith, none);
-      within = λ k e. cc;
-      fresh = λ k e. cc;
-      marks = λ i lt. ap (λ xs. slice_index_or xs i false) unseen ∙ get_or-replicate n i false false lt
-          ∙ ap (λ (groups : List (ℤ × Point)). is_some (entry_of groups (pos (i + 1)))) (sym (all_groups n [] (omega arith)));
-      filled = λ i lt. ap (λ xs. slice_index_or xs i origin) at_origin ∙ get_or-replicate n i origin origin lt
-          ∙ ap (λ (groups : List (ℤ × Point)). unwrap_or (entry_of groups (pos (i + 1))) origin) (sym (all_groups n [] (omega arith)));
-    } in
-    record { nodes = nodes; cut = λ yet. refl; open_ended = λ yet. omega (arith, yet); full = λ done. omega (arith, done) }
+none_so_far seen entries n unseen at_origin = record {
+  nodes = rw (all_groups n [] (omega arith)) (nodes_unmarked origin seen entries n unseen at_origin);
+  cut = λ yet. refl;
+  open_ended = λ yet. omega (arith, yet);
+  full = λ done. omega (arith, done);
+}
 
 -- ---- the words of a group that has begun
 
@@ -197,6 +189,38 @@ point_more seen entries left begun x n words word k y z some is also read h =
         full = λ done. omega (arith, more, so_far, size, done);
       },
     )
+
+-- ---- past the groups
+
+past_points : (seen : List Bool) (entries : List Point) (left : ℕ) (begun : Option ℕ) (x : Option ℤ) (n : ℕ) (words : List (List ℕ)) → left ≡ 0
+    → PointsHold seen entries left begun x n words → place_of_point n words ≡ PastGroups
+past_points seen entries left begun x n words none h =
+    let full = h.full none in
+    let past : nat_le (3 * n) (length words) ≡ true = grind (arith, nat_tests) in
+    rw past refl
+
+-- a -1 may end the section
+pub points_ended : (seen : List Bool) (entries : List Point) (left : ℕ) (begun : Option ℕ) (x : Option ℤ) (n : ℕ) (words : List (List ℕ)) (word : List ℕ) → left ≡ 0 → is_minus_one word ≡ true
+    → PointsHold seen entries left begun x n words
+    → (word_fault n (place_of_point n words) word ≡ None) × PointsHold seen entries left begun x n (words ++ word ∷ [])
+points_ended seen entries left begun x n words word none end h =
+    let full = h.full none in
+    let more = length_push words word in
+    let same : point_groups n (words ++ word ∷ []) ≡ point_groups n words =
+    ap (λ ws. map (group_of n) (triples_in ws)) (take-append-le (3 * n) words (word ∷ []) full) in (
+      rw (past_points seen entries left begun x n words none h, end) refl,
+      record {
+        nodes = rw same h.nodes;
+        cut = λ yet. absurd (omega (arith, yet, none));
+        open_ended = λ yet. absurd (omega (arith, yet, none));
+        full = λ done. omega (arith, more, full);
+      },
+    )
+
+-- any other word is one too many
+pub points_surplus : (seen : List Bool) (entries : List Point) (left : ℕ) (begun : Option ℕ) (x : Option ℤ) (n : ℕ) (words : List (List ℕ)) (word : List ℕ) → left ≡ 0 → is_minus_one word ≡ false
+    → PointsHold seen entries left begun x n words → word_fault n (place_of_point n words) word ≡ Some row.Surplus
+points_surplus seen entries left begun x n words word none other h = rw (past_points seen entries left begun x n words none h, other) refl
 
 -- ---- the end
 

@@ -1,7 +1,7 @@
 -- One word more of a by-node section with a point in space for each node.
 use Rattle.std.proofs.Common.{◌≡◌, ℕ, zero, suc, ◌+◌, ◌-◌, ◌*◌, ◌<◌, ◌≤◌, Bool, true, false, List, [], ◌∷◌, ◌++◌, length, map, set, refl, sym, ap, ◌∙◌, Option, None, Some, Ok, Err, arith}
-use Rattle.std.specs.Prelude.{ℤ, pos, nat_le, nat_lt}
-use Rattle.std.proofs.lemmas.List.{map_push, length_push, length-map, take_all}
+use Rattle.std.specs.Prelude.{ℤ, pos, nat_le, nat_lt, replicate}
+use Rattle.std.proofs.lemmas.List.{map_push, length_push, length-map, take_all, take-append-le}
 use Rattle.std.proofs.lemmas.Bool.Decides.{nat_tests}
 use Rattle.tsp_number.specs.declared.decimal.Point.{Point}
 use Rattle.tsp_fields.specs.Coords.{origin}
@@ -9,14 +9,14 @@ use Rattle.tsp_number.specs.declared.fault.NumberFault.{NumberFault}
 use Rattle.tsp_number.specs.Reading.{decimal_of}
 use Rattle.tsp_items.specs.declared.fault.LineFault.{LineFault}
 use Rattle.tsp_items.specs.declared.fault.LineFault.TheVariants as row
-use Rattle.tsp_items.specs.Numbers.{number, node}
-use Rattle.tsp_items.specs.Places.{NodeAfter, Coordinate}
+use Rattle.tsp_items.specs.Numbers.{number, node, is_minus_one}
+use Rattle.tsp_items.specs.Places.{NodeAfter, Coordinate, PastGroups}
 use Rattle.tsp_items.specs.Groups.{fours_in, begun_four, space_point_of, space_point_groups, nodes_in, place_of_space_point, space_points_by_node}
 use Rattle.tsp_items.specs.Spells.{wants_more}
 use Rattle.tsp_items.specs.states.Parts.{BeginsSpacePoint, IsNewNode, NodesHold, SpacePointsHold}
 use Rattle.tsp_items.specs.Rows.{word_fault}
 use Rattle.tsp_items.proofs.FourWords.{length_fours, fours_begin, begun_begin, fours_second, begun_second, fours_third, begun_third, fours_end, begun_end}
-use Rattle.tsp_items.proofs.NodeGroups.{node_begins, node_faulty, entry_fills, entries_by_node, wants_in_group}
+use Rattle.tsp_items.proofs.NodeGroups.{nodes_unmarked, node_begins, node_faulty, entry_fills, entries_by_node, wants_in_group}
 
 -- ---- the groups so far
 
@@ -39,6 +39,16 @@ groups_kept : (n : ℕ) (words : List (List ℕ)) (word : List ℕ) → length w
     → space_point_groups n (words ++ word ∷ []) ≡ space_point_groups n words
 groups_kept n words word short same =
     all_groups n (words ++ word ∷ []) (omega (arith, length_push words word)) ∙ ap (map (group_of n)) same ∙ sym (all_groups n words (omega arith))
+
+-- no words so far
+pub no_space_points : (seen : List Bool) (entries : List Point) (n : ℕ) → seen ≡ replicate n false → entries ≡ replicate n origin
+    → SpacePointsHold seen entries n None None None n []
+no_space_points seen entries n unseen at_origin = record {
+  nodes = rw (all_groups n [] (omega arith)) (nodes_unmarked origin seen entries n unseen at_origin);
+  cut = λ yet. (refl, refl);
+  open_ended = λ yet. omega (arith, yet);
+  full = λ done. omega (arith, done);
+}
 
 -- ---- the words of a group that has begun
 
@@ -209,6 +219,38 @@ space_third seen entries left begun x y n words word k v w z some is also too re
         full = λ done. omega (arith, more, so_far, size, done);
       },
     )
+
+-- ---- past the groups
+
+past_space : (seen : List Bool) (entries : List Point) (left : ℕ) (begun : Option ℕ) (x y : Option ℤ) (n : ℕ) (words : List (List ℕ)) → left ≡ 0
+    → SpacePointsHold seen entries left begun x y n words → place_of_space_point n words ≡ PastGroups
+past_space seen entries left begun x y n words none h =
+    let full = h.full none in
+    let past : nat_le (4 * n) (length words) ≡ true = grind (arith, nat_tests) in
+    rw past refl
+
+-- a -1 may end the section
+pub space_ended : (seen : List Bool) (entries : List Point) (left : ℕ) (begun : Option ℕ) (x y : Option ℤ) (n : ℕ) (words : List (List ℕ)) (word : List ℕ) → left ≡ 0 → is_minus_one word ≡ true
+    → SpacePointsHold seen entries left begun x y n words
+    → (word_fault n (place_of_space_point n words) word ≡ None) × SpacePointsHold seen entries left begun x y n (words ++ word ∷ [])
+space_ended seen entries left begun x y n words word none end h =
+    let full = h.full none in
+    let more = length_push words word in
+    let same : space_point_groups n (words ++ word ∷ []) ≡ space_point_groups n words =
+    ap (λ ws. map (group_of n) (fours_in ws)) (take-append-le (4 * n) words (word ∷ []) full) in (
+      rw (past_space seen entries left begun x y n words none h, end) refl,
+      record {
+        nodes = rw same h.nodes;
+        cut = λ yet. absurd (omega (arith, yet, none));
+        open_ended = λ yet. absurd (omega (arith, yet, none));
+        full = λ done. omega (arith, more, full);
+      },
+    )
+
+-- any other word is one too many
+pub space_surplus : (seen : List Bool) (entries : List Point) (left : ℕ) (begun : Option ℕ) (x y : Option ℤ) (n : ℕ) (words : List (List ℕ)) (word : List ℕ) → left ≡ 0 → is_minus_one word ≡ false
+    → SpacePointsHold seen entries left begun x y n words → word_fault n (place_of_space_point n words) word ≡ Some row.Surplus
+space_surplus seen entries left begun x y n words word none other h = rw (past_space seen entries left begun x y n words none h, other) refl
 
 -- ---- the end
 

@@ -3,8 +3,35 @@ use mir.Val.{SFits}
 use Rattle.std.proofs.lemmas.Int.{to_z-of_z}
 use Rattle.tsp_number.specs.Reading.{whole_of}
 use Rattle.tsp_items.specs.states.Parts.{IsNewNode}
-use Rattle.tsp_items.proofs.NumberSteps.{number_node_faulty, number_bad, number_node, number_more}
+use Rattle.tsp_items.proofs.NumberSteps.{numbers_ended, numbers_surplus, number_node_faulty, number_bad, number_node, number_more}
 use Rattle.tsp_items.proofs.parts.numbers.NumberList.push.Goals as goal
+
+pub returns-then-is_minus_one-clause-takes : goal.returns-then-is_minus_one-clause-takes
+returns-then-is_minus_one-clause-takes c = λ low high n words h.
+    let s = c.args.self.now in
+    let next = numbers_ended s.seen.items s.entries.items s.left s.begun low high n words c.args.word.now c.if-self-eq0.true (sym c.is_minus_one.ensures ∙ c.if-is_minus_one.true) h.read in
+    (next.0, record { from = h.from; to = h.to; read = next.1 })
+
+pub returns-then-self-eq0-clause-takes : goal.returns-then-self-eq0-clause-takes
+returns-then-self-eq0-clause-takes c = λ low high n words h.
+    let s = c.args.self.now in
+    numbers_surplus s.seen.items s.entries.items s.left s.begun low high n words c.args.word.now c.if-self-eq0.true (sym c.is_minus_one.ensures ∙ c.if-is_minus_one.false) h.read
+
+pub overflow_sub-node : goal.overflow_sub-node
+overflow_sub-node c = (c.args.self.now.within c.in-Some.node c.in-Some.is).0
+
+pub index_mut-requires : goal.index_mut-requires
+index_mut-requires c =
+    let place = c.args.self.now.within c.in-Some.node c.in-Some.is in
+    omega (arith, place.0, place.1)
+
+pub overflow_sub-node-in-Ok-parse_whole : goal.overflow_sub-node-in-Ok-parse_whole
+overflow_sub-node-in-Ok-parse_whole c = (c.args.self.now.within c.in-Some.node c.in-Some.is).0
+
+pub index_mut-requires-in-Ok-parse_whole : goal.index_mut-requires-in-Ok-parse_whole
+index_mut-requires-in-Ok-parse_whole c =
+    let place = c.args.self.now.within c.in-Some.node c.in-Some.is in
+    omega (arith, c.args.self.now.same, place.0, place.1)
 
 pub returns-in-Ok-clause-takes : goal.returns-in-Ok-clause-takes
 returns-in-Ok-clause-takes c = λ low high n words h.

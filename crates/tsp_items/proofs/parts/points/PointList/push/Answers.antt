@@ -1,8 +1,18 @@
 use Rattle.std.proofs.Common.{◌∙◌, sym, subst, Err, arith}
 use Rattle.tsp_items.proofs.PointSteps.{plane_points}
 use Rattle.tsp_items.specs.states.Parts.{IsNewNode}
-use Rattle.tsp_items.proofs.PointSteps.{point_node_faulty, point_bad, point_node}
+use Rattle.tsp_items.proofs.PointSteps.{points_ended, points_surplus, point_node_faulty, point_bad, point_node}
 use Rattle.tsp_items.proofs.parts.points.PointList.push.Goals as goal
+
+pub returns-then-is_minus_one-clause-takes : goal.returns-then-is_minus_one-clause-takes
+returns-then-is_minus_one-clause-takes c = λ n words h.
+    let s = c.args.self.now in
+    points_ended s.seen.items (plane_points s.entries.items) s.left s.begun s.x n words c.args.word.now c.if-self-eq0.true (sym c.is_minus_one.ensures ∙ c.if-is_minus_one.true) h
+
+pub returns-then-self-eq0-clause-takes : goal.returns-then-self-eq0-clause-takes
+returns-then-self-eq0-clause-takes c = λ n words h.
+    let s = c.args.self.now in
+    points_surplus s.seen.items (plane_points s.entries.items) s.left s.begun s.x n words c.args.word.now c.if-self-eq0.true (sym c.is_minus_one.ensures ∙ c.if-is_minus_one.false) h
 
 pub returns-in-Ok-clause-takes : goal.returns-in-Ok-clause-takes
 returns-in-Ok-clause-takes c = λ n words h.

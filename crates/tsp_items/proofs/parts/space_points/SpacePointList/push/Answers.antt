@@ -1,7 +1,17 @@
 use Rattle.std.proofs.Common.{◌∙◌, sym, subst, Err, arith}
 use Rattle.tsp_items.specs.states.Parts.{IsNewNode}
-use Rattle.tsp_items.proofs.SpacePointSteps.{space_node_faulty, space_point_bad, space_node}
+use Rattle.tsp_items.proofs.SpacePointSteps.{space_ended, space_surplus, space_node_faulty, space_point_bad, space_node}
 use Rattle.tsp_items.proofs.parts.space_points.SpacePointList.push.Goals as goal
+
+pub returns-then-is_minus_one-clause-takes : goal.returns-then-is_minus_one-clause-takes
+returns-then-is_minus_one-clause-takes c = λ n words h.
+    let s = c.args.self.now in
+    space_ended s.seen.items s.entries.items s.left s.begun s.x s.y n words c.args.word.now c.if-self-eq0.true (sym c.is_minus_one.ensures ∙ c.if-is_minus_one.true) h
+
+pub returns-then-self-eq0-clause-takes : goal.returns-then-self-eq0-clause-takes
+returns-then-self-eq0-clause-takes c = λ n words h.
+    let s = c.args.self.now in
+    space_surplus s.seen.items s.entries.items s.left s.begun s.x s.y n words c.args.word.now c.if-self-eq0.true (sym c.is_minus_one.ensures ∙ c.if-is_minus_one.false) h
 
 pub returns-in-Ok-clause-takes : goal.returns-in-Ok-clause-takes
 returns-in-Ok-clause-takes c = λ n words h.

@@ -1,5 +1,22 @@
+use Rattle.std.proofs.Common.{arith}
 use Rattle.tsp_items.proofs.SpacePointSteps.{space_first, space_second, space_third}
 use Rattle.tsp_items.proofs.parts.space_points.SpacePointList.put.Goals as goal
+
+pub overflow_sub-node : goal.overflow_sub-node
+overflow_sub-node c = (c.args.self.now.within c.args.node c.requires.begun).0
+
+pub index_mut-requires : goal.index_mut-requires
+index_mut-requires c =
+    let place = c.args.self.now.within c.args.node c.requires.begun in
+    omega (arith, place.0, place.1)
+
+pub overflow_sub-node-2 : goal.overflow_sub-node-2
+overflow_sub-node-2 c = (c.args.self.now.within c.args.node c.requires.begun).0
+
+pub index_mut-requires-2 : goal.index_mut-requires-2
+index_mut-requires-2 c =
+    let place = c.args.self.now.within c.args.node c.requires.begun in
+    omega (arith, c.args.self.now.same, place.0, place.1)
 
 pub returns-in_default : goal.returns-in_default
 returns-in_default c = λ n words word h read.
