@@ -36,7 +36,8 @@ chained_64 a b c fits is h =
     let same = to_z-of_z w64 a fits in
     omega (arith, ints, same, is, h)
 
-pub known_64 : (bound best : ℤ) → SFits w64 bound → SFits w64 best → IsKnown (to_z w64 (of_z w64 bound)) × (to_z w64 (of_z w64 best) ≤ℤ to_z w64 (of_z w64 bound)) → IsKnown bound × (best ≤ℤ bound)
+pub known_64 : (bound best : ℤ) → SFits w64 bound → SFits w64 best
+    → IsKnown (to_z w64 (of_z w64 bound)) × (to_z w64 (of_z w64 best) ≤ℤ to_z w64 (of_z w64 bound)) → IsKnown bound × (best ≤ℤ bound)
 known_64 bound best f g h =
     let same = to_z-of_z w64 bound f in
     let other = to_z-of_z w64 best g in

@@ -48,4 +48,5 @@ returns-in-No g c =
     let after_reason = way_of g.W.Write.contents c.put_reason.new.out c.put_reason.new.piece.items in
     let last = way_of g.W.Write.contents c.put-in-No-2.new.out c.put-in-No-2.new.piece.items in
     let text = reason_text c.in-No.reason in
-    rw c.in-No.is (carried_then start after_reason last (codes "no " ++ text) (codes "\n") (carried_then start begun after_reason (codes "no ") text c.put-in-No.ensures c.put_reason.ensures) c.put-in-No-2.ensures)
+    rw c.in-No.is (carried_then start after_reason last (codes "no " ++ text) (codes "\n")
+    (carried_then start begun after_reason (codes "no ") text c.put-in-No.ensures c.put_reason.ensures) c.put-in-No-2.ensures)
