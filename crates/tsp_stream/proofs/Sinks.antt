@@ -1,5 +1,6 @@
 -- What a writer holds after one part and the next.
-use Rattle.std.proofs.Common.{◌≡◌, ℕ, List, ◌++◌, length, take, drop, Option, sym, ap, subst, ◌∙◌, append_assoc, take-append-drop}
+use Rattle.std.proofs.Common.{◌≡◌, ℕ, ◌==◌, ◌<◌, true, false, List, [], ◌∷◌, ◌++◌, length, take, drop, Option, sym, ap, subst, ◌∙◌, append_assoc, append-nil, take-append-drop, arith}
+use Rattle.std.proofs.lemmas.Bool.Decides.{nat_tests}
 use Rattle.std.specs.Io.KnownBytes.{Appends}
 use Rattle.std.proofs.KnownBytes.{Appends-trans}
 use Rattle.std.proofs.Math.Seq.{take-append_seam}
@@ -23,3 +24,13 @@ pub sent_front : (a b : Option (List ℕ)) (text rest : List ℕ) → Sent a b t
 sent_front a b text rest h =
     let front : take (length h.front) text ≡ h.front = ap (λ (t : List ℕ). take (length h.front) t) (sym h.parts) ∙ take-append_seam h.front rest in
     (length h.front, subst (λ t. Appends a b t) (sym front) h.written)
+
+-- nothing of the rest is left: the text was sent
+pub sent_all : (a b : Option (List ℕ)) (text rest : List ℕ) → (length rest == 0) ≡ true → Sent a b text rest → Appends a b text
+sent_all a b text [] empty h = subst (λ t. Appends a b t) (sym (append-nil h.front) ∙ h.parts) h.written
+sent_all a b text (x ∷ rest) empty h = absurd (grind (arith, nat_tests))
+
+-- something of the rest is left
+pub some_left : (rest : List ℕ) → (length rest == 0) ≡ false → 0 < length rest
+some_left [] full = absurd (cc)
+some_left (x ∷ rest) full = omega arith
