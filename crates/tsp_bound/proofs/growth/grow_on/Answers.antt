@@ -3,6 +3,7 @@ use Rattle.std.specs.Prelude.{ℤ, ◌+ℤ◌, slice_set}
 use Rattle.std.specs.Int.{w64, w128}
 use Rattle.std.proofs.lemmas.Int.{to_z-of_z}
 use Rattle.std.proofs.lemmas.Int.{ints}
+use Rattle.std.proofs.Math.ListN.{length-set}
 use Rattle.std.proofs.lemmas.List.{take_more, take_all}
 use Rattle.tsp_value.specs.Limits.{most_nodes}
 use Rattle.tsp_theory.specs.Numbers.{IsSumSized}
@@ -160,3 +161,40 @@ returns g c =
       weight = c.grow.invariant.sum;
       size = (omega (arith, ints, size.0, few), omega (arith, ints, size.1, few));
     }
+
+pub reach-nearest-requires : goal.reach-nearest-requires
+reach-nearest-requires g c =
+    let n = g.C.Costs.nodes c.args.c.now in
+    let size : c.count.result + 1 ≡ n + 1 = ap (λ k. k + 1) c.count.ensures.value in
+    let inside_len : c.in_ok-inside.inside.len ≡ length c.in_ok-inside.inside.items = omega arith in
+    let near_len : c.in_ok-near.near.len ≡ length c.in_ok-near.near.items = omega arith in
+    let least_len : c.in_ok-least.least.len ≡ length c.in_ok-least.least.items = omega arith in
+    record {
+      count = c.requires.count;
+      over = c.requires.over;
+      inside_len = ap length c.deref.ensures.value ∙ length-set c.in_ok-inside.inside.items 2 true ∙ sym inside_len ∙ c.in_ok-inside.ensures.len ∙ size;
+      near_len = ap length c.deref_mut.ensures.value ∙ sym near_len ∙ c.in_ok-near.ensures.len ∙ size;
+      least_len = ap length c.deref_mut-2.ensures.value ∙ sym least_len ∙ c.in_ok-least.ensures.len ∙ size;
+      next_in = (omega arith, omega (arith, c.requires.some));
+    }
+
+pub reach-nearest-requires-in-again-clause-inside_len : goal.reach-nearest-requires-in-again-clause-inside_len
+reach-nearest-requires-in-again-clause-inside_len g c =
+    let pair : ℕ × ℕ = get_or c.deref-pair-items.result.now c.again.pair-index (0, 0) in
+    ap length c.deref-in-again.ensures.value ∙ length-set c.again.inside.items pair.1 true ∙ c.again.invariant.state.inside_len
+
+pub reach-nearest-requires-in-again-clause-near_len : goal.reach-nearest-requires-in-again-clause-near_len
+reach-nearest-requires-in-again-clause-near_len g c = ap length c.deref_mut-in-again.ensures.value ∙ c.again.invariant.state.near_len
+
+pub reach-nearest-requires-in-again-clause-least_len : goal.reach-nearest-requires-in-again-clause-least_len
+reach-nearest-requires-in-again-clause-least_len g c = ap length c.deref_mut-in-again-2.ensures.value ∙ c.again.invariant.state.least_len
+
+pub reach-nearest-requires-in-Some-clause-inside_len : goal.reach-nearest-requires-in-Some-clause-inside_len
+reach-nearest-requires-in-Some-clause-inside_len g c =
+    ap length c.deref-in-Some.ensures.value ∙ length-set c.grow.inside.items c.in-Some.next true ∙ c.grow.invariant.state.inside_len
+
+pub reach-nearest-requires-in-Some-clause-near_len : goal.reach-nearest-requires-in-Some-clause-near_len
+reach-nearest-requires-in-Some-clause-near_len g c = ap length c.deref_mut-in-Some.ensures.value ∙ c.grow.invariant.state.near_len
+
+pub reach-nearest-requires-in-Some-clause-least_len : goal.reach-nearest-requires-in-Some-clause-least_len
+reach-nearest-requires-in-Some-clause-least_len g c = ap length c.deref_mut-in-Some-2.ensures.value ∙ c.grow.invariant.state.least_len
