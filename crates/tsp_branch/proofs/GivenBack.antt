@@ -30,10 +30,6 @@ pub computed_of_64 : (sum number from : ℤ) (index : ℕ) → index < 2 ^ 32 �
     → to_z w128 (of_z w128 (sum +ℤ to_z w128 (of_z w128 from))) ≡ sum +ℤ number
 computed_of_64 sum number from index few s fits is = omega (arith, ints, few, s.0, s.1, fits, is)
 
-pub fits_of_64 : (sum number from : ℤ) (index : ℕ) → index < 2 ^ 32 → IsFromTo (neg_ℤ (pos (index * 2 ^ 63))) (pos (index * 2 ^ 63)) sum → FitsSigned w64 number → from ≡ number
-    → FitsSigned w128 (sum +ℤ to_z w128 (of_z w128 from))
-fits_of_64 sum number from index few s fits is = omega (arith, ints, few, s.0, s.1, fits, is)
-
 pub total_left : (numbers : List ℤ) (index : ℕ) (default : ℤ) → index < length numbers → total (drop index numbers) ≡ get_or numbers index default +ℤ total (drop (index + 1) numbers)
 total_left numbers index default lt = ap total (drop-cons numbers index default lt) ∙ rw (add-one index) refl
 
@@ -137,10 +133,6 @@ more_multiplied sum number index s p = (omega (arith, ints, s.0, p.0), omega (ar
 pub computed_multiplied : (sum number from : ℤ) (index : ℕ) → index < 2 ^ 32 → IsFromTo (pos 0) (pos (index * most_multiplied)) sum → IsFromTo (pos 0) (pos most_multiplied) number → from ≡ number
     → to_z w128 (of_z w128 (sum +ℤ to_z w128 (of_z w128 from))) ≡ sum +ℤ number
 computed_multiplied sum number from index few s p is = omega (arith, ints, few, s.0, s.1, p.0, p.1, is)
-
-pub fits_multiplied : (sum number from : ℤ) (index : ℕ) → index < 2 ^ 32 → IsFromTo (pos 0) (pos (index * most_multiplied)) sum → IsFromTo (pos 0) (pos most_multiplied) number → from ≡ number
-    → FitsSigned w128 (sum +ℤ to_z w128 (of_z w128 from))
-fits_multiplied sum number from index few s p is = omega (arith, ints, few, s.0, s.1, p.0, p.1, is)
 
 pub below_from_sets : (k : ℕ) (sets : List (ℕ × Vec ℕ)) → All (λ set. set.0 < k) sets → AllByRecursion (λ set. set.0 < k) (plain sets)
 below_from_sets k sets h = by sets (recursion_from_All (λ set. set.0 < k) sets h)

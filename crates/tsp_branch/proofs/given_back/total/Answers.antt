@@ -4,7 +4,7 @@ use Rattle.std.specs.Int.{w64, w128}
 use Rattle.std.proofs.Math.IntN.{+ℤ_assoc}
 use Rattle.std.proofs.lemmas.Int.{to_z-of_z}
 use Rattle.tsp_theory.specs.Numbers.{total}
-use Rattle.tsp_branch.proofs.GivenBack.{more_of_64, computed_of_64, fits_of_64, total_left}
+use Rattle.tsp_branch.proofs.GivenBack.{more_of_64, computed_of_64, total_left}
 use Rattle.tsp_branch.proofs.given_back.total.Goals as goal
 
 pub numbers-preserved : goal.numbers-preserved
@@ -21,11 +21,3 @@ numbers-preserved c =
       size = rw is (more_of_64 sum number index c.numbers.invariant.size fits);
       so_far = rw is (+ℤ_assoc sum number (total (drop (index + 1) xs)) ∙ ap (λ z. sum +ℤ z) (sym parts) ∙ c.numbers.invariant.so_far);
     }
-
-pub overflow_add-sum : goal.overflow_add-sum
-overflow_add-sum c =
-    let index : ℕ = c.numbers.number-index in
-    let number : ℤ = get_or c.args.numbers.now index (pos 0) in
-    let few : index < 2 ^ 32 = omega (arith, c.requires, c.numbers-test.true) in
-    let fits : FitsSigned w64 (get_or c.args.numbers.now index (pos 0)) = search rules in
-    fits_of_64 (to_z w128 c.numbers.sum-bits) number c.from-sum.result index few c.numbers.invariant.size fits (c.from-sum.ensures ∙ to_z-of_z w64 number fits)
