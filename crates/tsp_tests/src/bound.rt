@@ -3,30 +3,24 @@
 ghost use Rattle.std.specs.Prelude.{refl, pos};
 
 use crate::asserts::{holds, same};
+use crate::instances::instance_of;
 use std::alloc::Global;
 use std::cell::Cell;
 use std::test::Fail;
 use tsp_bound::{Multipliers, OneTree, Potentials, one_tree};
 use tsp_cost::{Costs, Grouped, Instance, Symmetric, View};
 use tsp_fields::Draft;
-use tsp_testing::drafts::{file_of, points};
+use tsp_testing::drafts::points;
 use tsp_value::{Kind, WeightKind};
-
-/// The instance that a draft holds.
-fn instance_of(draft: Draft) -> Result<Instance, Fail> {
-    match Instance::of(file_of(draft)?) {
-        Ok(instance) => Ok(instance),
-        Err(_) => Err(Fail::from("no instance")),
-    }
-}
 
 /// The rectangle with the sides 3 and 4, in halves.
 fn rectangle(alloc: Global) -> Result<Instance, Fail> {
+    let coords = points(alloc, &[(0, 0), (6, 0), (6, 8), (0, 8)])?;
     let mut draft = Draft::new(alloc);
     draft.kind = Some(Kind::Tsp);
     draft.dimension = Some(4);
     draft.weight_kind = Some(WeightKind::Euc2d);
-    draft.coords = Some(points(alloc, &[(0, 0), (6, 0), (6, 8), (0, 8)])?);
+    draft.coords = Some(coords);
     instance_of(draft)
 }
 
@@ -46,17 +40,18 @@ fn tree_under<C: Grouped>(
     Ok(one_tree(alloc, costs, &potentials, &none)?)
 }
 
-/// The 1-tree of the rectangle with the sides 6 and 8 under potentials and a multiplier of one
-/// pair.
-fn tree_with(alloc: Global, numbers: &[i64], triple: (u32, u32, i64)) -> Result<OneTree, Fail> {
-    let instance = rectangle(alloc)?;
-    let View::Plane(points) = instance.view() else {
-        return Err(Fail::from("no points"));
-    };
+/// The 1-tree under potentials and a multiplier of one pair, where there is a potential for each of three
+/// or more nodes.
+fn tree_with<C: Grouped>(
+    alloc: Global,
+    costs: &C,
+    numbers: &[i64],
+    triple: (u32, u32, i64),
+) -> Result<OneTree, Fail> {
     let potentials = Potentials::new(1, numbers).ok_or("no potentials")?;
     let triples = [triple];
     let multipliers = Multipliers::new(&triples).ok_or("no multipliers")?;
-    let count = points.count();
+    let count = costs.count();
     let (a, b, _) = triple;
     if count < 3 || numbers.len() != count as usize {
         return Err(Fail::from("no potential for each node"));
@@ -64,7 +59,33 @@ fn tree_with(alloc: Global, numbers: &[i64], triple: (u32, u32, i64)) -> Result<
     if a < 1 || count < a || b < 1 || count < b {
         return Err(Fail::from("no nodes"));
     }
-    Ok(one_tree(alloc, &points, &potentials, &multipliers)?)
+    Ok(one_tree(alloc, costs, &potentials, &multipliers)?)
+}
+
+/// The 1-tree of an instance with points of the plane, under potentials and a multiplier of one pair.
+fn plane_tree(
+    alloc: Global,
+    instance: &Instance,
+    numbers: &[i64],
+    triple: (u32, u32, i64),
+) -> Result<OneTree, Fail> {
+    match instance.view() {
+        View::Plane(points) => tree_with(alloc, &points, numbers, triple),
+        _ => Err(Fail::from("no points")),
+    }
+}
+
+/// The 1-tree of the rectangle with the sides 6 and 8 under potentials and a multiplier of one
+/// pair.
+///
+/// The instance is lent to a function of its own, so that no early end has to drop it.
+fn rectangle_tree(
+    alloc: Global,
+    numbers: &[i64],
+    triple: (u32, u32, i64),
+) -> Result<OneTree, Fail> {
+    let instance = rectangle(alloc)?;
+    plane_tree(alloc, &instance, numbers, triple)
 }
 
 #[test]
@@ -78,7 +99,7 @@ fn a_multiplier_lowers_its_pair_and_is_given_back(rt: HostRuntime) -> Result<(),
         ((1, 3, 0), 14),
         ((1, 2, 0), 14),
     ] {
-        let tree = tree_with(rt.alloc(), &numbers, triple)?;
+        let tree = rectangle_tree(rt.alloc(), &numbers, triple)?;
         same(&rt, tree.bound, bound);
     }
     Ok(())

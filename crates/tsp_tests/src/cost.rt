@@ -1,41 +1,37 @@
 //! Instances, lengths of lists and uneven costs: examples worked by hand.
 
-use crate::asserts::same;
-use std::alloc::{AllocError, Global};
+use crate::asserts::{same, same_at};
+use crate::instances::instance_of;
+use std::alloc::Global;
 use std::test::Fail;
 use tsp_cost::{
     CostFault, Costs, Instance, View, canonical_length, symmetric_fault, tour_length, trace_tours,
 };
-use tsp_fields::Draft;
-use tsp_testing::drafts::{file_of, rectangle, two_tours, upper_row};
-use tsp_value::{Kind, Layout, WeightFormat};
+use tsp_fields::File;
+use tsp_testing::drafts::{explicit, file_of, rectangle, two_tours};
+use tsp_value::{Kind, Layout};
 
-/// The instance that a draft holds.
-fn instance_of(draft: Draft) -> Result<Instance, Fail> {
-    match Instance::of(file_of(draft)?) {
-        Ok(instance) => Ok(instance),
-        Err(_) => Err(Fail::from("no instance")),
+/// The file of two tours, which comes back since it is no instance, and why.
+fn refused(alloc: Global) -> Result<(CostFault, File), Fail> {
+    match Instance::of(file_of(two_tours(alloc)?)?) {
+        Ok(_) => Err(Fail::from("an instance")),
+        Err(refused) => Ok(refused),
     }
 }
 
-/// An instance with this many nodes and a full matrix of these weights.
-fn full_matrix(alloc: Global, nodes: u32, weights: &[i64]) -> Result<Draft, AllocError> {
-    let weights = Vec::from_slice(alloc, weights)?;
-    let mut draft = upper_row(alloc, nodes, 0)?;
-    draft.weight_format = Some(WeightFormat::Listed(Layout::FullMatrix));
-    draft.weights = Some(weights);
-    Ok(draft)
+#[test]
+fn a_file_that_is_no_instance_comes_back(rt: HostRuntime) -> Result<(), Fail> {
+    let (fault, file) = refused(rt.alloc())?;
+    same(&rt, fault, CostFault::NotInstance);
+    same(&rt, file.kind(), Kind::Tour);
+    same(&rt, file.name(), Some(b"a".as_slice()));
+    drop(file);
+    same(&rt, fault.to_string(rt.alloc())?.as_str(), "NotInstance");
+    Ok(())
 }
 
 #[test]
-fn a_file_is_an_instance_or_comes_back(rt: HostRuntime) -> Result<(), Fail> {
-    let Err((fault, file)) = Instance::of(file_of(two_tours(rt.alloc())?)?) else {
-        return Err(Fail::from("an instance"));
-    };
-    same(&rt, fault, CostFault::NotInstance);
-    same(&rt, fault.to_string(rt.alloc())?.as_str(), "NotInstance");
-    same(&rt, file.kind(), Kind::Tour);
-    same(&rt, file.name(), Some(b"a".as_slice()));
+fn an_instance_is_its_file(rt: HostRuntime) -> Result<(), Fail> {
     let instance = instance_of(rectangle(rt.alloc())?)?;
     same(&rt, instance.kind(), Kind::Cvrp);
     assert_eq!(rt; instance.count(), 4);
@@ -46,28 +42,31 @@ fn a_file_is_an_instance_or_comes_back(rt: HostRuntime) -> Result<(), Fail> {
 
 #[test]
 fn lengths_on_the_rectangle_go_around_each_list(rt: HostRuntime) -> Result<(), Fail> {
-    let instance = instance_of(rectangle(rt.alloc())?)?;
-    assert_eq!(rt; instance.count(), 4);
-    same(&rt, canonical_length(&instance), 14);
-    same(&rt, tour_length(&instance, &[1, 3]), 10);
-    same(&rt, symmetric_fault(&instance), None);
     let mut tours = Vec::new(rt.alloc());
     tours.push(Vec::from_slice(rt.alloc(), &[1u32, 2, 3, 4])?)?;
     tours.push(Vec::from_slice(rt.alloc(), &[1u32, 3])?)?;
     tours.push(Vec::from_slice(rt.alloc(), &[1u32])?)?;
     tours.push(Vec::new(rt.alloc()))?;
-    let lengths = trace_tours(rt.alloc(), &instance, tours.as_slice())?;
-    same(&rt, lengths.as_slice(), [14i64, 10, 0, 0].as_slice());
+    let instance = instance_of(rectangle(rt.alloc())?)?;
+    assert_eq!(rt; instance.count(), 4);
+    same(&rt, canonical_length(&instance), 14);
+    same(&rt, tour_length(&instance, &[1, 3]), 10);
+    same(&rt, symmetric_fault(&instance), None);
+    let traced = trace_tours(rt.alloc(), &instance, tours.as_slice());
+    drop(instance);
+    same(&rt, traced?.as_slice(), [14i64, 10, 0, 0].as_slice());
     Ok(())
 }
 
 #[test]
 fn an_uneven_matrix_has_a_first_uneven_pair(rt: HostRuntime) -> Result<(), Fail> {
-    let instance = instance_of(full_matrix(rt.alloc(), 3, &[0, 1, 3, 2, 0, 3, 3, 3, 0])?)?;
+    let weights = Vec::from_slice(rt.alloc(), &[0i64, 1, 3, 2, 0, 3, 3, 3, 0])?;
+    let instance = instance_of(explicit(rt.alloc(), 3, Layout::FullMatrix, weights))?;
     same(&rt, symmetric_fault(&instance), Some((1, 2)));
-    let View::Matrix(matrix) = instance.view() else {
-        return Err(Fail::from("no matrix"));
+    let pair = match instance.view() {
+        View::Matrix(matrix) => matrix.even().err(),
+        _ => None,
     };
-    same(&rt, matrix.even().err(), Some((1, 2)));
+    same_at(&rt, "as a matrix", pair, Some((1, 2)));
     Ok(())
 }

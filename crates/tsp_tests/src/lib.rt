@@ -15,6 +15,8 @@ mod cost;
 #[cfg(test)]
 mod files;
 #[cfg(test)]
+mod instances;
+#[cfg(test)]
 mod verdicts;
 #[cfg(test)]
 mod watched;

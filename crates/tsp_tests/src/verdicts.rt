@@ -2,36 +2,36 @@
 //! is in the tables of runs of the program.)
 
 use crate::asserts::same;
-use std::alloc::{AllocError, Global};
+use crate::instances::instance_of;
+use std::alloc::Global;
 use std::test::Fail;
 use tsp_cost::Instance;
-use tsp_fields::Draft;
+use tsp_fields::{Draft, File};
 use tsp_testing::drafts::{file_of, rectangle, tours};
 use tsp_value::Kind;
 use tsp_verdict::{Reason, Verdict, judge_routes, judge_tour};
 
-/// The verdict on tours, or routes, of an instance that a draft holds.
-fn judged(alloc: Global, instance: Draft, lists: &[&[u32]]) -> Result<Verdict, Fail> {
-    let sol = file_of(solution(alloc, lists)?)?;
-    let Ok(inst) = Instance::of(file_of(instance)?) else {
-        return Err(Fail::from("no instance"));
-    };
+/// The verdict on tours, or routes, of an instance.
+fn verdict_on(alloc: Global, inst: &Instance, sol: &File) -> Result<Verdict, Fail> {
     match inst.kind() {
-        Kind::Tsp | Kind::Atsp => Ok(judge_tour(alloc, &inst, &sol)?),
-        Kind::Cvrp => Ok(judge_routes(alloc, &inst, &sol)?),
+        Kind::Tsp | Kind::Atsp => Ok(judge_tour(alloc, inst, sol)?),
+        Kind::Cvrp => Ok(judge_routes(alloc, inst, sol)?),
         Kind::Tour | Kind::Potentials | Kind::Branches => Err(Fail::from("no instance")),
     }
 }
 
-/// A file of tours.
-fn solution(alloc: Global, lists: &[&[u32]]) -> Result<Draft, AllocError> {
-    let mut held = Vec::new(alloc);
-    for list in lists {
-        held.push(Vec::from_slice(alloc, *list)?)?;
-    }
-    let mut draft = tours(alloc);
-    draft.tours = Some(held);
-    Ok(draft)
+/// The verdict on tours, or routes, that are given as lists.
+fn judged_on(alloc: Global, inst: &Instance, lists: &[&[u32]]) -> Result<Verdict, Fail> {
+    let sol = file_of(tours(alloc, lists)?)?;
+    verdict_on(alloc, inst, &sol)
+}
+
+/// The verdict on tours, or routes, of an instance that a draft holds.
+///
+/// It is cut into these three, so that no `?` has a file or an instance to drop.
+fn judged(alloc: Global, instance: Draft, lists: &[&[u32]]) -> Result<Verdict, Fail> {
+    let inst = instance_of(instance)?;
+    judged_on(alloc, &inst, lists)
 }
 
 /// The rectangle as a TSP with these fixed edges.

@@ -2,118 +2,151 @@
 //! the tables of runs of the program.)
 
 use crate::asserts::{holds, holds_at, same, same_at};
-use std::alloc::Global;
+use std::alloc::{AllocError, Global};
 use std::io::{ErrorKind, Write};
+use std::process::Abort;
 use std::test::Fail;
-use tsp_fields::Draft;
+use tsp_fields::File;
 use tsp_stream::{Watched, WriteFault};
 use tsp_testing::devices::{Drip, NEVER, Refusal, outcome};
 use tsp_testing::drafts::{file_of, rectangle, two_tours, upper_row};
 use tsp_write::write_file;
 
-/// The text of the draft `rectangle`.
+/// The text of the draft `rectangle`. (It is handed out by a function, so that proofs don't carry its
+/// bytes.)
+fn rectangle_text() -> &'static [u8] {
+    RECTANGLE
+}
+
 const RECTANGLE: &[u8] =
     b"NAME : a\nTYPE : CVRP\nCOMMENT :\nDISTANCE : 9\nDIMENSION : 4\nCAPACITY : 8\nSCALE : 7\nEDGE_WEIGHT_TYPE : EUC_2D\nEDGE_WEIGHT_FORMAT : UPPER_ROW\nNODE_COORD_TYPE : TWOD_COORDS\nDISPLAY_DATA_TYPE : TWOD_DISPLAY\nNODE_COORD_SECTION\n1 0 0\n2 3 0\n3 3 4\n4 0 4\nDISPLAY_DATA_SECTION\n1 0 0\n2 1.5 0\n3 1.5 -2\n4 0 -2\nDEMAND_SECTION\n1 0\n2 4\n3 4\n4 4\nDEPOT_SECTION\n1\n-1\nFIXED_EDGES_SECTION\n1 2\n4 3\n-1\nEDGE_WEIGHT_SECTION\n3 5 4\n-1 0\n1000000000000\nTOUR_SECTION\n1\n2\n-1\n3\n-1\nNODE_POTENTIAL_SECTION\n1 3\n2 -3\n3 0\n4 0\nROW_POTENTIAL_SECTION\n1 4\n2 -4\n3 0\n4 0\nCOLUMN_POTENTIAL_SECTION\n1 5\n2 -5\n3 0\n4 0\nFIXED_EDGE_POTENTIAL_SECTION\n1 2 6\n3 4 0\n-1\nCOMB_SECTION\n1 2 -1\n1 3 -1\n-1\n4 -1\n-1\n-1\nBRANCH_SECTION\n1 2\n0 1 -5 6 7 -1\n0 -1\nEOF\n";
+
+/// Asserts that a writer of one byte a call gets this whole text.
+fn gets_the_whole(rt: &(impl AllocGlobal + Abort), file: &File, text: &[u8]) {
+    let mut out = Watched::new(Drip::new(rt.alloc(), 1, NEVER, Refusal::Nothing));
+    same(rt, write_file(rt.alloc(), file, &mut out), Ok(()));
+    holds(rt, !out.failed());
+    same(rt, out.into_inner().held(), text);
+}
+
+/// Asserts that a writer that had failed gets nothing.
+fn gets_nothing(rt: &(impl AllocGlobal + Abort), file: &File) {
+    let mut out = Watched::new(Drip::new(rt.alloc(), 1, 0, Refusal::Nothing));
+    same(rt, outcome(out.write(b"x")), Ok(0));
+    let written = write_file(rt.alloc(), file, &mut out);
+    same(rt, written, Err(WriteFault::Device));
+    same(rt, out.into_inner().calls(), 1);
+}
 
 #[test]
 fn one_byte_a_call_gets_the_whole_text_and_a_failed_writer_none(
     rt: HostRuntime,
 ) -> Result<(), Fail> {
     let file = file_of(rectangle(rt.alloc())?)?;
-    let mut out = Watched::new(Drip::new(rt.alloc(), 1, NEVER, Refusal::Nothing));
-    same(&rt, write_file(rt.alloc(), &file, &mut out), Ok(()));
-    holds(&rt, !out.failed());
-    same(&rt, out.into_inner().held(), RECTANGLE);
-    let mut out = Watched::new(Drip::new(rt.alloc(), 1, 0, Refusal::Nothing));
-    same(&rt, outcome(out.write(b"x")), Ok(0));
-    let written = write_file(rt.alloc(), &file, &mut out);
-    same(&rt, written, Err(WriteFault::Device));
-    same(&rt, out.into_inner().calls(), 1);
+    gets_the_whole(&rt, &file, rectangle_text());
+    gets_nothing(&rt, &file);
     Ok(())
+}
+
+/// A writer that took a file until it failed, at this call, in this way.
+fn failed_at(
+    rt: &(impl AllocGlobal + Abort),
+    file: &File,
+    most: usize,
+    fails_at: usize,
+    refusal: Refusal,
+) -> Drip {
+    let mut out = Watched::new(Drip::new(rt.alloc(), most, fails_at, refusal));
+    let written = write_file(rt.alloc(), file, &mut out);
+    same(rt, written, Err(WriteFault::Device));
+    holds(rt, out.failed());
+    let drip = out.into_inner();
+    let calls = fails_at.saturating_add(1);
+    same_at(rt, "it isn't written again", drip.calls(), calls);
+    drip
 }
 
 #[test]
 fn a_failure_leaves_a_front_and_ends_the_writing(rt: HostRuntime) -> Result<(), Fail> {
     let file = file_of(rectangle(rt.alloc())?)?;
+    let text = rectangle_text();
     for refusal in [Refusal::Nothing, Refusal::Error(ErrorKind::Interrupted)] {
-        for fails_at in 0..RECTANGLE.len() {
-            let mut out = Watched::new(Drip::new(rt.alloc(), 1, fails_at, refusal));
-            let written = write_file(rt.alloc(), &file, &mut out);
-            same(&rt, written, Err(WriteFault::Device));
-            holds(&rt, out.failed());
-            let drip = out.into_inner();
-            same(&rt, drip.held(), &RECTANGLE[..fails_at]);
-            same_at(&rt, "it isn't written again", drip.calls(), fails_at + 1);
+        for fails_at in 0..text.len() {
+            let drip = failed_at(&rt, &file, 1, fails_at, refusal);
+            same(&rt, drip.held(), &text[..fails_at]);
         }
     }
     Ok(())
 }
 
-/// Three comments of 3,990 bytes, which are 4,001 with their keyword and byte 10, and their lines.
-fn long_comments(alloc: Global) -> Result<(Draft, Vec<u8>), Fail> {
+/// Three comments of 3,990 bytes, which are 4,001 with their keyword and byte 10.
+fn long_comments(alloc: Global) -> Result<Vec<Vec<u8>>, AllocError> {
     let mut comments = Vec::new(alloc);
-    let mut lines = Vec::new(alloc);
     for _ in 0..3u8 {
-        let long = vec![in alloc; b'x'; 3_990]?;
-        lines.extend_from_slice(b"COMMENT : ")?;
-        lines.extend_from_slice(long.as_slice())?;
-        lines.extend_from_slice(b"\n")?;
-        comments.push(long)?;
+        comments.push(vec![in alloc; b'x'; 3_990]?)?;
     }
+    Ok(comments)
+}
+
+/// Two tours with the long comments.
+fn long_file(alloc: Global) -> Result<File, Fail> {
+    let comments = long_comments(alloc)?;
     let mut draft = two_tours(alloc)?;
     draft.comments = comments;
-    Ok((draft, lines))
+    file_of(draft)
+}
+
+/// The text of that file.
+fn long_text(alloc: Global) -> Result<String, AllocError> {
+    let comment = "x".repeat(alloc, 3_990)?;
+    let line = format!(in alloc; "COMMENT : {comment}\n")?;
+    format!(in alloc;
+        "NAME : a\nTYPE : TOUR\n{line}{line}{line}TOUR_SECTION\n1\n2\n-1\n3\n-1\nEOF\n"
+    )
 }
 
 #[test]
 fn a_long_text_goes_out_in_few_pieces_and_stops_at_a_failure(rt: HostRuntime) -> Result<(), Fail> {
-    let (draft, lines) = long_comments(rt.alloc())?;
-    let mut wanted = Vec::from_slice(rt.alloc(), b"NAME : a\nTYPE : TOUR\n")?;
-    wanted.extend_from_slice(lines.as_slice())?;
-    wanted.extend_from_slice(b"TOUR_SECTION\n1\n2\n-1\n3\n-1\nEOF\n")?;
-    let file = file_of(draft)?;
+    let text = long_text(rt.alloc())?;
+    let wanted = text.as_bytes();
+    let file = long_file(rt.alloc())?;
     let mut out = Watched::new(Drip::sound(rt.alloc()));
     same(&rt, write_file(rt.alloc(), &file, &mut out), Ok(()));
     let drip = out.into_inner();
-    same(&rt, drip.held(), wanted.as_slice());
+    same(&rt, drip.held(), wanted);
     holds_at(&rt, drip.calls(), drip.calls() <= 6);
     for fails_at in 0..3usize {
         let refusal = Refusal::Error(ErrorKind::Other);
-        let mut out = Watched::new(Drip::new(rt.alloc(), usize::MAX, fails_at, refusal));
-        let written = write_file(rt.alloc(), &file, &mut out);
-        same(&rt, written, Err(WriteFault::Device));
-        let drip = out.into_inner();
-        holds(&rt, wanted.as_slice().starts_with(drip.held()));
-        same_at(&rt, "it isn't written again", drip.calls(), fails_at + 1);
+        let drip = failed_at(&rt, &file, usize::MAX, fails_at, refusal);
+        holds(&rt, wanted.starts_with(drip.held()));
     }
     Ok(())
 }
 
 /// The text of a matrix of 100 nodes by the upper rows, all of whose weights are 0: 99 lines with 9,900
 /// bytes.
-fn zero_rows(alloc: Global) -> Result<Vec<u8>, Fail> {
-    let mut text = Vec::from_slice(
+fn zero_rows(alloc: Global) -> Result<String, AllocError> {
+    let mut text = String::from_str(
         alloc,
-        b"TYPE : TSP\nDIMENSION : 100\nEDGE_WEIGHT_TYPE : EXPLICIT\nEDGE_WEIGHT_FORMAT : UPPER_ROW\nEDGE_WEIGHT_SECTION\n",
+        "TYPE : TSP\nDIMENSION : 100\nEDGE_WEIGHT_TYPE : EXPLICIT\nEDGE_WEIGHT_FORMAT : UPPER_ROW\nEDGE_WEIGHT_SECTION\n",
     )?;
-    for row in 1..100u8 {
-        text.extend_from_slice(b"0")?;
-        for _ in row + 1..100u8 {
-            text.extend_from_slice(b" 0")?;
-        }
-        text.extend_from_slice(b"\n")?;
+    for row in 1..100usize {
+        let others = " 0".repeat(alloc, 99 - row)?;
+        let line = format!(in alloc; "0{others}\n")?;
+        text.push_str(line.as_str())?;
     }
-    text.extend_from_slice(b"EOF\n")?;
+    text.push_str("EOF\n")?;
     Ok(text)
 }
 
 #[test]
 fn a_matrix_goes_out_in_few_pieces(rt: HostRuntime) -> Result<(), Fail> {
+    let text = zero_rows(rt.alloc())?;
     let file = file_of(upper_row(rt.alloc(), 100, 4_950)?)?;
     let mut out = Watched::new(Drip::sound(rt.alloc()));
     same(&rt, write_file(rt.alloc(), &file, &mut out), Ok(()));
     let drip = out.into_inner();
-    same(&rt, drip.held(), zero_rows(rt.alloc())?.as_slice());
+    same(&rt, drip.held(), text.as_bytes());
     holds_at(&rt, drip.calls(), drip.calls() <= 4);
     Ok(())
 }
