@@ -1,5 +1,5 @@
 -- The command line, in clap's own words.
-use Rattle.std.specs.Prelude.{◌≡◌, true, false, Some, codes}
+use Rattle.std.specs.Prelude.{◌≡◌, Bool, true, false, Some, codes}
 use Rattle.clap.specs.Words.{App, Rule, Text, app_of, new_app, new_rule, with_rule, with_subcommand}
 use Rattle.clap.specs.Simple.{on_top}
 use Rattle.clap.specs.declared.builder.action.ArgAction.TheVariants.{SetTrue}
@@ -48,6 +48,10 @@ start = on_top (λ top. record top { no_binary_name = true; has_version = true }
 abbrev pub tsp : App
 tsp = with_subcommand (with_subcommand (with_subcommand start show.top) convert.top) check.top
 
+-- an argument of the command counts in its subcommands too
+abbrev pub has_globals : Command → Bool
+has_globals command = (out-Command command).has_globals
+
 -- the command reads words as this one does
 abbrev pub IsCommandOf : App → Command → Type 0
-IsCommandOf app command = (app_of command ≡ app) × ((out-Command command).has_globals ≡ false)
+IsCommandOf app command = (app_of command ≡ app) × (has_globals command ≡ false)

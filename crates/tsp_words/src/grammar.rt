@@ -1,8 +1,8 @@
 //! The command line as `clap` knows it: three subcommands, what each takes, and the texts of help.
 
 ghost use Rattle.std.specs.Prelude.{◌≡◌, IfOk, false};
-ghost use Rattle.clap.specs.Words.{rule_of};
-ghost use Rattle.tsp_words.specs.Grammar.{IsCommandOf, path, option, flag, explain, show, convert, check_files, check, tsp};
+ghost use Rattle.clap.specs.Words.{app_of, new_app, rule_of, shape_of, with_rule, with_subcommand};
+ghost use Rattle.tsp_words.specs.Grammar.{IsCommandOf, has_globals, path, option, flag, explain, show, convert, check_files, check, start, tsp};
 
 use clap::{Arg, ArgAction, Command};
 use std::alloc::{AllocError, Global};
@@ -74,73 +74,91 @@ Examples:
 pub(crate) fn tsp<'a>(alloc: Global) -> Result<Command<'a>, AllocError>
     ensures { IfOk result (IsCommandOf tsp) }
 {
-    Command::new(alloc, "tsp")
+    let one = with_command(top(alloc)?, show(alloc)?)?;
+    let two = with_command(one, convert(alloc)?)?;
+    with_command(two, check(alloc)?)
+}
+
+/// The program's command without its subcommands.
+fn top<'a>(alloc: Global) -> Result<Command<'a>, AllocError>
+    ensures { IfOk result (IsCommandOf start) }
+{
+    command(alloc, "tsp", ABOUT, NOTES)
         .no_binary_name(true)
-        .bin_name("tsp")?
         .version(VERSION)
-        .about(ABOUT)
-        .after_help(NOTES)
-        .subcommand(show(alloc)?)?
-        .subcommand(convert(alloc)?)?
-        .subcommand(check(alloc)?)
+        .bin_name("tsp")
 }
 
 /// `show F [--explain]`.
 fn show<'a>(alloc: Global) -> Result<Command<'a>, AllocError>
     ensures { IfOk result (IsCommandOf show) }
 {
-    Command::new(alloc, "show")
-        .about("Says what stands in a file")
-        .after_help(SHOW_NOTES)
-        .arg(path(alloc, "F", "The path of a TSPLIB 95 file"))?
-        .arg(explain(alloc))
+    let bare = command(alloc, "show", "Says what stands in a file", SHOW_NOTES);
+    let one = with(bare, path(alloc, "F", "The path of a TSPLIB 95 file"))?;
+    with(one, explain(alloc))
 }
 
 /// `convert F [--layout L] [--explain]`.
 fn convert<'a>(alloc: Global) -> Result<Command<'a>, AllocError>
     ensures { IfOk result (IsCommandOf convert) }
 {
-    Command::new(alloc, "convert")
-        .about("Writes a file anew, on request with its matrix in another layout")
-        .after_help(CONVERT_NOTES)
-        .arg(path(alloc, "F", "The path of a TSPLIB 95 file"))?
-        .arg(option(alloc, "L", "layout", "The layout that the matrix gets"))?
-        .arg(explain(alloc))
+    let about = "Writes a file anew, on request with its matrix in another layout";
+    let bare = command(alloc, "convert", about, CONVERT_NOTES);
+    let one = with(bare, path(alloc, "F", "The path of a TSPLIB 95 file"))?;
+    let layout = option(alloc, "L", "layout", "The layout that the matrix gets");
+    let two = with(one, layout)?;
+    with(two, explain(alloc))
 }
 
 /// `check F T [--potentials P] [--branches B] [--explain]`.
 fn check<'a>(alloc: Global) -> Result<Command<'a>, AllocError>
     ensures { IfOk result (IsCommandOf check) }
 {
-    check_files(alloc)?
-        .arg(option(
-            alloc,
-            "B",
-            "branches",
-            "The path of a tree of cases: TYPE BRANCHES",
-        ))?
-        .arg(explain(alloc))
+    let files = check_files(alloc)?;
+    let help = "The path of a tree of cases: TYPE BRANCHES";
+    let one = with(files, option(alloc, "B", "branches", help))?;
+    with(one, explain(alloc))
 }
 
 /// `check F T [--potentials P]`, which has the files.
 fn check_files<'a>(alloc: Global) -> Result<Command<'a>, AllocError>
     ensures { IfOk result (IsCommandOf check_files) }
 {
-    Command::new(alloc, "check")
-        .about("Judges a tour or routes, and with a certificate bounds every tour")
-        .after_help(CHECK_NOTES)
-        .arg(path(
-            alloc,
-            "F",
-            "The path of the instance: TYPE TSP, ATSP or CVRP",
-        ))?
-        .arg(path(alloc, "T", "The path of the solution: TYPE TOUR"))?
-        .arg(option(
-            alloc,
-            "P",
-            "potentials",
-            "The path of the potentials: TYPE POTENTIALS",
-        ))
+    let about = "Judges a tour or routes, and with a certificate bounds every tour";
+    let bare = command(alloc, "check", about, CHECK_NOTES);
+    let instance = "The path of the instance: TYPE TSP, ATSP or CVRP";
+    let one = with(bare, path(alloc, "F", instance))?;
+    let two = with(one, path(alloc, "T", "The path of the solution: TYPE TOUR"))?;
+    let help = "The path of the potentials: TYPE POTENTIALS";
+    with(two, option(alloc, "P", "potentials", help))
+}
+
+/// A command without arguments, with the texts of its help.
+fn command<'a>(alloc: Global, name: &'a str, about: &'a str, notes: &'a str) -> Command<'a>
+    ensures { IsCommandOf (new_app name.now) result }
+{
+    Command::new(alloc, name).about(about).after_help(notes)
+}
+
+/// A command with one argument more.
+fn with<'a>(command: Command<'a>, arg: Arg<'a>) -> Result<Command<'a>, AllocError>
+    requires local { arg.global ≡ false }
+    requires globals { has_globals command ≡ false }
+    ensures { IfOk result (IsCommandOf (with_rule (app_of command.entry) (rule_of arg.entry))) }
+{
+    command.arg(arg)
+}
+
+/// A command with one subcommand more.
+fn with_command<'a>(
+    command: Command<'a>,
+    subcommand: Command<'a>,
+) -> Result<Command<'a>, AllocError>
+    requires globals { has_globals command ≡ false }
+    requires sub { has_globals subcommand ≡ false }
+    ensures { IfOk result (IsCommandOf (with_subcommand (app_of command.entry) (shape_of subcommand.entry))) }
+{
+    command.subcommand(subcommand)
 }
 
 /// A path that has to stand among the words.
