@@ -1,15 +1,22 @@
-//! Instances, lengths of lists and uneven costs: examples worked by hand.
+//! Instances, and lengths of lists: examples worked by hand.
 
-use crate::asserts::{same, same_at};
-use crate::instances::instance_of;
+use crate::asserts::same;
 use std::alloc::Global;
 use std::test::Fail;
 use tsp_cost::{
-    CostFault, Costs, Instance, View, canonical_length, symmetric_fault, tour_length, trace_tours,
+    CostFault, Costs, Instance, canonical_length, symmetric_fault, tour_length, trace_tours,
 };
-use tsp_fields::File;
-use tsp_testing::drafts::{explicit, file_of, rectangle, two_tours};
-use tsp_value::{Kind, Layout};
+use tsp_fields::{Draft, File};
+use tsp_testing::drafts::{file_of, rectangle, two_tours};
+use tsp_value::Kind;
+
+/// The instance that a draft holds.
+fn instance_of(draft: Draft) -> Result<Instance, Fail> {
+    match Instance::of(file_of(draft)?) {
+        Ok(instance) => Ok(instance),
+        Err(_) => Err(Fail::from("no instance")),
+    }
+}
 
 /// The file of two tours, which comes back since it is no instance, and why.
 fn refused(alloc: Global) -> Result<(CostFault, File), Fail> {
@@ -55,18 +62,5 @@ fn lengths_on_the_rectangle_go_around_each_list(rt: HostRuntime) -> Result<(), F
     let traced = trace_tours(rt.alloc(), &instance, tours.as_slice());
     drop(instance);
     same(&rt, traced?.as_slice(), [14i64, 10, 0, 0].as_slice());
-    Ok(())
-}
-
-#[test]
-fn an_uneven_matrix_has_a_first_uneven_pair(rt: HostRuntime) -> Result<(), Fail> {
-    let weights = Vec::from_slice(rt.alloc(), &[0i64, 1, 3, 2, 0, 3, 3, 3, 0])?;
-    let instance = instance_of(explicit(rt.alloc(), 3, Layout::FullMatrix, weights))?;
-    same(&rt, symmetric_fault(&instance), Some((1, 2)));
-    let pair = match instance.view() {
-        View::Matrix(matrix) => matrix.even().err(),
-        _ => None,
-    };
-    same_at(&rt, "as a matrix", pair, Some((1, 2)));
     Ok(())
 }

@@ -15,10 +15,6 @@ mod cost;
 #[cfg(test)]
 mod files;
 #[cfg(test)]
-mod instances;
-#[cfg(test)]
-mod verdicts;
-#[cfg(test)]
 mod watched;
 #[cfg(test)]
 mod writer;

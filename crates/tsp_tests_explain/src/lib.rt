@@ -1,9 +1,5 @@
-//! The tests of what explains a fault or a no: the sentences, and what is shown of a file.
+//! The tests of what explains a fault, where no run of the program shows it.
 #![tactic(auto)]
 
 #[cfg(test)]
-mod asserts;
-#[cfg(test)]
-mod files;
-#[cfg(test)]
-mod reasons;
+mod sentences;

@@ -37,10 +37,21 @@ pub(crate) fn answer_from<R: Read>(alloc: Global, reader: &mut Watched<R>) -> Re
     answer(alloc, read_from(alloc, reader))
 }
 
+/// What is answered for a piece. (It has no contract, which the proofs of the tests would go through;
+/// nor has the next one.)
+pub(crate) fn fed(feed: &mut Feed, piece: &[u8]) -> Result<(), ReadFault> {
+    feed.feed(piece)
+}
+
+/// The fault at the end of the pieces, if there is one.
+pub(crate) fn fault_at_end(feed: Feed) -> Option<ReadFault> {
+    feed.finish().err()
+}
+
 /// What is answered for pieces, up to the first refusal.
 pub(crate) fn feed_all(feed: &mut Feed, pieces: &[&[u8]]) -> Result<(), ReadFault> {
     for piece in pieces {
-        feed.feed(piece)?;
+        fed(feed, piece)?;
     }
     Ok(())
 }
@@ -55,4 +66,13 @@ pub(crate) fn answer_in(alloc: Global, pieces: &[&[u8]]) -> Result<Answer, Fail>
             Ok(Err(fault))
         }
     }
+}
+
+/// A file of tours in more than 4,096 bytes, with its canonical text.
+pub(crate) fn long_file(alloc: Global) -> Result<(String, String), Fail> {
+    let words = "1 22 \t 333\r\n 4444 -1\n".repeat(alloc, 300)?;
+    let lines = "1\n22\n333\n4444\n-1\n".repeat(alloc, 300)?;
+    let text = format!(in alloc; "NAME: x\r\nTYPE: TOUR\r\nTOUR_SECTION\r\n{words}")?;
+    let canonical = format!(in alloc; "NAME : x\nTYPE : TOUR\nTOUR_SECTION\n{lines}EOF\n")?;
+    Ok((text, canonical))
 }

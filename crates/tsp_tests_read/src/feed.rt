@@ -5,7 +5,7 @@ mod limits;
 mod pieces;
 mod readers;
 
-use crate::answers::{Answer, answer};
+use crate::answers::{Answer, answer, fed};
 use std::alloc::Global;
 use std::test::Fail;
 use tsp_fields::EndFault;
@@ -17,7 +17,7 @@ use tsp_value::Field;
 fn answer_by_bytes(alloc: Global, text: &[u8]) -> Result<Answer, Fail> {
     let mut feed = Feed::new(alloc);
     for byte in text {
-        if let Err(fault) = feed.feed(&[*byte]) {
+        if let Err(fault) = fed(&mut feed, &[*byte]) {
             return Ok(Err(fault));
         }
     }

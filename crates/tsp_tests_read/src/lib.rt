@@ -1,5 +1,4 @@
-//! The tests of the reader, over its public calls: texts that are files, and texts that have a
-//! fault.
+//! The tests of the reader: texts in pieces, and readers that do little at a time, fail or never end.
 #![tactic(auto)]
 
 #[cfg(test)]

@@ -1,7 +1,7 @@
 //! Lines, words and texts at their limits, in pieces.
 
 use super::{at, file};
-use crate::answers::{answer_in, feed_all};
+use crate::answers::{answer_in, fault_at_end, fed, feed_all};
 use crate::asserts::{same, same_at};
 use std::alloc::Global;
 use std::test::Fail;
@@ -55,14 +55,14 @@ fn a_line_of_4_097_bytes_is_refused_before_its_end(rt: HostRuntime) -> Result<()
     for cut in CUTS {
         let (front, back) = cut_at(line.as_str(), *cut);
         let mut feed = Feed::new(alloc);
-        same_at(&rt, cut, feed.feed(front), Ok(()));
-        same_at(&rt, cut, feed.feed(back), Err(fault));
-        same_at(&rt, cut, feed.feed(b"\n"), Err(fault));
-        same_at(&rt, cut, feed.finish().err(), Some(fault));
+        same_at(&rt, cut, fed(&mut feed, front), Ok(()));
+        same_at(&rt, cut, fed(&mut feed, back), Err(fault));
+        same_at(&rt, cut, fed(&mut feed, b"\n"), Err(fault));
+        same_at(&rt, cut, fault_at_end(feed), Some(fault));
     }
     let mut feed = Feed::new(alloc);
-    same(&rt, feed.feed(&[b'K'; 4_096]), Ok(()));
-    same(&rt, feed.feed(b"K"), Err(fault));
+    same(&rt, fed(&mut feed, &[b'K'; 4_096]), Ok(()));
+    same(&rt, fed(&mut feed, b"K"), Err(fault));
     Ok(())
 }
 
@@ -99,8 +99,8 @@ fn a_word_of_65_bytes_cut_anywhere_is_refused(rt: HostRuntime) -> Result<(), Fai
             feed_all(&mut feed, &[BEFORE, front, back]),
             Ok(()),
         );
-        same_at(&rt, cut, feed.feed(b"0"), Err(fault));
-        same_at(&rt, cut, feed.feed(b"\n"), Err(fault));
+        same_at(&rt, cut, fed(&mut feed, b"0"), Err(fault));
+        same_at(&rt, cut, fed(&mut feed, b"\n"), Err(fault));
     }
     Ok(())
 }
@@ -110,47 +110,60 @@ const UNIT: usize = 1_048_576;
 
 const UNITS: usize = 1_024;
 
-/// Feeds blanks, so many bytes fewer than a file may have.
-fn feed_blanks_but(feed: &mut Feed, alloc: Global, fewer: usize) -> Result<(), Fail> {
-    let blanks = " ".repeat(alloc, UNIT)?;
+/// Feeds a unit of blanks again and again, until so many bytes are left of those that a file may have.
+fn feed_blanks_but(feed: &mut Feed, blanks: &[u8], fewer: usize) -> Result<(), ReadFault> {
     for _ in 1..UNITS {
-        feed.feed(blanks.as_bytes())?;
+        fed(feed, blanks)?;
     }
-    let last = " ".repeat(alloc, UNIT.saturating_sub(fewer))?;
-    feed.feed(last.as_bytes())?;
-    Ok(())
+    let (_, last) = blanks.split_at(fewer.min(blanks.len()));
+    fed(feed, last)
 }
 
 #[test]
 fn a_byte_past_the_limit_is_refused(rt: HostRuntime) -> Result<(), Fail> {
+    let blanks = " ".repeat(rt.alloc(), UNIT)?;
     let mut feed = Feed::new(rt.alloc());
-    feed_blanks_but(&mut feed, rt.alloc(), 1)?;
-    same(&rt, feed.feed(b"\n"), Ok(()));
-    same(&rt, feed.feed(b""), Ok(()));
-    same(&rt, feed.feed(b" "), Err(ReadFault::TooLong));
-    same(&rt, feed.feed(b"EOF\n"), Err(ReadFault::TooLong));
-    same(&rt, feed.finish().err(), Some(ReadFault::TooLong));
+    same(
+        &rt,
+        feed_blanks_but(&mut feed, blanks.as_bytes(), 1),
+        Ok(()),
+    );
+    same(&rt, fed(&mut feed, b"\n"), Ok(()));
+    same(&rt, fed(&mut feed, b""), Ok(()));
+    same(&rt, fed(&mut feed, b" "), Err(ReadFault::TooLong));
+    same(&rt, fed(&mut feed, b"EOF\n"), Err(ReadFault::TooLong));
+    same(&rt, fault_at_end(feed), Some(ReadFault::TooLong));
     Ok(())
 }
 
 #[test]
 fn a_line_eof_that_ends_at_the_limit_counts(rt: HostRuntime) -> Result<(), Fail> {
+    let blanks = " ".repeat(rt.alloc(), UNIT)?;
     let mut feed = Feed::new(rt.alloc());
-    feed_blanks_but(&mut feed, rt.alloc(), 4)?;
-    same(&rt, feed.feed(b"EO"), Ok(()));
-    same(&rt, feed.feed(b"F\n### "), Ok(()));
-    same(&rt, feed.feed(b"1 x\n"), Ok(()));
+    same(
+        &rt,
+        feed_blanks_but(&mut feed, blanks.as_bytes(), 4),
+        Ok(()),
+    );
+    same(&rt, fed(&mut feed, b"EO"), Ok(()));
+    same(&rt, fed(&mut feed, b"F\n### "), Ok(()));
+    same(&rt, fed(&mut feed, b"1 x\n"), Ok(()));
     let missing = EndFault::Missing(Field::TypeKey);
-    same(&rt, feed.finish().err(), Some(ReadFault::End(missing)));
+    same(&rt, fault_at_end(feed), Some(ReadFault::End(missing)));
     Ok(())
 }
 
 #[test]
 fn a_line_eof_that_ends_past_the_limit_does_not_count(rt: HostRuntime) -> Result<(), Fail> {
+    let blanks = " ".repeat(rt.alloc(), UNIT)?;
     let mut feed = Feed::new(rt.alloc());
-    feed_blanks_but(&mut feed, rt.alloc(), 3)?;
-    same(&rt, feed.feed(b"EOF"), Ok(()));
-    same(&rt, feed.feed(b"\n"), Err(ReadFault::TooLong));
-    same(&rt, feed.finish().err(), Some(ReadFault::TooLong));
+    same(
+        &rt,
+        feed_blanks_but(&mut feed, blanks.as_bytes(), 3),
+        Ok(()),
+    );
+    same(&rt, fed(&mut feed, b"EOF"), Ok(()));
+    same(&rt, fed(&mut feed, b"\n"), Err(ReadFault::TooLong));
+    same(&rt, fault_at_end(feed), Some(ReadFault::TooLong));
     Ok(())
 }

@@ -1,7 +1,7 @@
 //! What is answered at each piece.
 
 use super::{CANONICAL_TOUR, TOUR, answer_by_bytes, file};
-use crate::answers::{answer, answer_of};
+use crate::answers::{answer, answer_of, fault_at_end, fed, long_file};
 use crate::asserts::{same, same_at};
 use std::test::Fail;
 use tsp_fields::EndFault;
@@ -28,7 +28,7 @@ const LATER: &[&str] = &[
 /// What is answered for pieces, up to the first refusal.
 fn feed_texts(feed: &mut Feed, pieces: &[&'static str]) -> Result<(), ReadFault> {
     for piece in pieces {
-        feed.feed(piece.as_bytes())?;
+        fed(feed, piece.as_bytes())?;
     }
     Ok(())
 }
@@ -77,11 +77,16 @@ fn a_refusal_comes_as_soon_as_it_is_settled_and_stays(rt: HostRuntime) {
         };
         let mut feed = Feed::new(rt.alloc());
         same_at(&rt, piece, feed_texts(&mut feed, before), Ok(()));
-        same_at(&rt, piece, feed.feed(piece.as_bytes()), Err(fault));
+        same_at(&rt, piece, fed(&mut feed, piece.as_bytes()), Err(fault));
         for later in LATER {
-            same_at(&rt, (piece, later), feed.feed(later.as_bytes()), Err(fault));
+            same_at(
+                &rt,
+                (piece, later),
+                fed(&mut feed, later.as_bytes()),
+                Err(fault),
+            );
         }
-        same_at(&rt, piece, feed.finish().err(), Some(fault));
+        same_at(&rt, piece, fault_at_end(feed), Some(fault));
     }
 }
 
@@ -169,9 +174,9 @@ fn after_the_line_eof_words_and_lines_of_any_length_are_accepted(
 ) -> Result<(), Fail> {
     let alloc = rt.alloc();
     let mut feed = Feed::new(alloc);
-    same(&rt, feed.feed(TOUR.as_bytes()), Ok(()));
-    same(&rt, feed.feed(&[b'1'; 5_000]), Ok(()));
-    same(&rt, feed.feed(&[b'K'; 5_000]), Ok(()));
+    same(&rt, fed(&mut feed, TOUR.as_bytes()), Ok(()));
+    same(&rt, fed(&mut feed, &[b'1'; 5_000]), Ok(()));
+    same(&rt, fed(&mut feed, &[b'K'; 5_000]), Ok(()));
     let found = answer(alloc, feed.finish())?;
     same(&rt, found, file(alloc, &Ok(CANONICAL_TOUR))?);
     Ok(())
@@ -181,18 +186,15 @@ fn after_the_line_eof_words_and_lines_of_any_length_are_accepted(
 fn a_thousand_line_ends_need_no_memory(rt: HostRuntime) {
     let mut feed = Feed::new(rt.alloc());
     for call in 0..1_000 {
-        same_at(&rt, call, feed.feed(b"\n"), Ok(()));
+        same_at(&rt, call, fed(&mut feed, b"\n"), Ok(()));
     }
-    same(&rt, feed.finish().err(), Some(NO_TYPE));
+    same(&rt, fault_at_end(feed), Some(NO_TYPE));
 }
 
 #[test]
 fn a_long_text_byte_by_byte_has_its_answer(rt: HostRuntime) -> Result<(), Fail> {
     let alloc = rt.alloc();
-    let words = "1 22 \t 333\r\n 4444 -1\n".repeat(alloc, 300)?;
-    let lines = "1\n22\n333\n4444\n-1\n".repeat(alloc, 300)?;
-    let text = format!(in alloc; "TYPE: TOUR\r\nTOUR_SECTION\r\n{words}")?;
-    let canonical = format!(in alloc; "TYPE : TOUR\nTOUR_SECTION\n{lines}EOF\n")?;
+    let (text, canonical) = long_file(alloc)?;
     let found = answer_by_bytes(alloc, text.as_bytes())?;
     same(&rt, found, file(alloc, &Ok(canonical.as_str()))?);
     let found = answer_of(alloc, text.as_bytes())?;
