@@ -13,8 +13,6 @@ mod bound;
 #[cfg(test)]
 mod cost;
 #[cfg(test)]
-mod files;
-#[cfg(test)]
 mod watched;
 #[cfg(test)]
 mod writer;

@@ -1,4 +1,0 @@
-//! Which drafts are files, and what comes back of a file that is refused.
-
-mod relayout;
-mod rules;
