@@ -1,4 +1,4 @@
-//! The tests of what explains a fault, where no run of the program shows it.
+//! The tests of what explains a fault, where the tables of runs don't have it.
 #![tactic(auto)]
 
 #[cfg(test)]

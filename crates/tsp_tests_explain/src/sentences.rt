@@ -1,4 +1,4 @@
-//! Sentences that no run of the program shows, or only one whose device fails.
+//! The sentences for a file that isn't seen a second time, for a refused layout and for a failed write.
 
 use std::alloc::AllocError;
 use std::process::Abort;
