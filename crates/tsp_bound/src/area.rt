@@ -7,7 +7,7 @@ ghost use Rattle.tsp_theory.specs.Numbers.{IsFromTo};
 use tsp_walk::Region;
 
 /// A region, and a number that is at most the potential of each node in it.
-#[derive(Clone, Copy, Debug)]
+#[derive(Clone, Copy)]
 pub(crate) struct Area {
     pub(crate) region: Region,
     pub(crate) least: i64,

@@ -15,7 +15,7 @@ use std::alloc::{AllocError, Global};
 use tsp_walk::Grouped;
 
 /// The nearest place so far, and the weight to its node.
-#[derive(Clone, Copy, Debug)]
+#[derive(Clone, Copy)]
 pub(crate) struct Best {
     pub(crate) weight: i64,
     pub(crate) place: usize,
@@ -106,7 +106,7 @@ fn weight_with(p: &Potentials, from: u32, cost: i64, potential: i64) -> i64
 }
 
 /// A box, and a bound of the weights of its nodes.
-#[derive(Clone, Copy, Debug)]
+#[derive(Clone, Copy)]
 struct Half {
     v: usize,
     bound: i64,

@@ -4,7 +4,7 @@ ghost use Rattle.std.specs.Prelude.{◌≡◌, ◌<◌, ℕ, ℤ, Bool, IfSome};
 ghost use Rattle.tsp_bound.specs.Heap.{without, IsNearest};
 
 /// A link from a node inside to another node, with its weight.
-#[derive(Clone, Copy, Debug, PartialEq, Eq, PartialOrd, Ord, Drop)]
+#[derive(Clone, Copy, PartialEq, Eq, PartialOrd, Ord, Drop)]
 pub(crate) struct Link {
     /// The weight between the two.
     pub(crate) weight: i64,

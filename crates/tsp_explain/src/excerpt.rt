@@ -5,7 +5,7 @@ use arrayvec::ArrayVec;
 use std::alloc::AllocError;
 
 /// The part of a line that is shown: what the fault is said of, and some bytes before and after it.
-#[derive(Clone, Debug, Drop)]
+#[derive(Drop)]
 pub(crate) struct Excerpt {
     before: ArrayVec<u8, 40>,
     marked: ArrayVec<u8, 72>,

@@ -16,7 +16,7 @@ use tsp_value::{
 const MOST_AT_ONCE: usize = 4_096;
 
 /// What is looked for in a file.
-#[derive(Clone, Copy, Debug)]
+#[derive(Clone, Copy)]
 pub(crate) enum Sought {
     /// A line, counted from 1, and a word of it, counted from 1, or the whole line where it is 0.
     Place { line: u32, word: u32 },
@@ -27,7 +27,7 @@ pub(crate) enum Sought {
 }
 
 /// The line that is being read.
-#[derive(Clone, Debug, Drop)]
+#[derive(Drop)]
 struct Line {
     /// Its number, counted from 1.
     number: u32,
@@ -40,7 +40,7 @@ struct Line {
 }
 
 /// What was seen of a file.
-#[derive(Clone, Debug, Drop)]
+#[derive(Drop)]
 pub(crate) struct Look {
     sought: Sought,
     line: Line,

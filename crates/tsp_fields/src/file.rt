@@ -13,7 +13,7 @@ use tsp_value::{
 };
 
 /// The fields of a file, in canonical order. A list by node has one entry for each node, in order.
-#[derive(Debug, Drop)]
+#[derive(Debug)]
 pub struct Draft {
     /// NAME: bytes as they stand.
     pub name: Option<Vec<u8>>,
@@ -63,6 +63,38 @@ pub struct Draft {
     pub combs: Option<Vec<Vec<Vec<u32>>>>,
     /// BRANCH_SECTION: the steps of one tree of cases.
     pub branches: Option<Vec<TreeStep>>,
+}
+
+/// As a derive would do it; what lets go of a draft calls this, and doesn't go through every field.
+impl Drop for Draft {
+    fn drop(self) {
+        let Draft {
+            name: _,
+            kind: _,
+            comments: _,
+            others: _,
+            dimension: _,
+            capacity: _,
+            scale: _,
+            weight_kind: _,
+            weight_format: _,
+            coord_kind: _,
+            display_kind: _,
+            coords: _,
+            display: _,
+            demands: _,
+            depots: _,
+            fixed: _,
+            weights: _,
+            tours: _,
+            node_potentials: _,
+            row_potentials: _,
+            column_potentials: _,
+            fixed_potentials: _,
+            combs: _,
+            branches: _,
+        } = self;
+    }
 }
 
 impl Draft {
@@ -225,9 +257,16 @@ impl Draft {
 ///
 /// It is made from a draft by [`File::of`], which says what is valid. Each field has a call of its
 /// own that lends it.
-#[derive(Debug, Drop)]
+#[derive(Debug)]
 pub struct File {
     draft: Draft,
+}
+
+/// As a derive would do it.
+impl Drop for File {
+    fn drop(self) {
+        let File { draft: _ } = self;
+    }
 }
 
 impl Model for File {

@@ -1,7 +1,7 @@
 //! How weights get into another layout.
 
 /// How the weights of a file get into another layout.
-#[derive(Debug, Drop)]
+#[derive(Drop)]
 pub(crate) enum Way {
     /// They are in it already.
     Already,

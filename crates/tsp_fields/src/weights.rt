@@ -13,7 +13,7 @@ use tsp_value::Layout;
 const BLOCK: u32 = 64;
 
 /// The weights of a matrix over some nodes, as a layout lists them.
-#[derive(Clone, Copy, Debug)]
+#[derive(Clone, Copy)]
 pub(crate) struct ListedWeights<'a> {
     layout: Layout,
     nodes: u32,

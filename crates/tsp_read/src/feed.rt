@@ -93,7 +93,6 @@ fn outcome(stage: Stage) -> Result<(), ReadFault>
 /// }
 /// let file = feed.finish()?;
 /// ```
-#[derive(Drop)]
 pub struct Feed {
     alloc: Global,
     intake: Intake,
@@ -103,6 +102,19 @@ pub struct Feed {
     stage: Stage,
     ghost short: { count ≤ most_file_bytes },
     ghost room: { HasRoom stage intake begun count },
+}
+
+/// As a derive would do it; what lets go of a feed calls this.
+impl Drop for Feed {
+    fn drop(self) {
+        let Feed {
+            alloc: _,
+            intake: _,
+            begun: _,
+            count: _,
+            stage: _,
+        } = self;
+    }
 }
 
 impl Feed {

@@ -3,7 +3,7 @@
 use tsp_items::ReadFault;
 
 /// How far a text is: it goes on, its end line was taken, or it was refused.
-#[derive(Clone, Copy, Debug)]
+#[derive(Clone, Copy)]
 pub(crate) enum Stage {
     Going,
     Ended,

@@ -16,7 +16,7 @@ use tsp_items::ReadFault;
 use tsp_value::Field;
 
 /// Why what was read is no file.
-#[derive(Clone, Copy, Debug)]
+#[derive(Clone, Copy)]
 pub(crate) enum FinishFault {
     /// Memory was refused.
     Memory,
@@ -68,11 +68,7 @@ impl Reading {
                 return Err(FinishFault::Memory);
             }
         }
-        let Reading {
-            draft,
-            incomplete,
-            opened: _,
-        } = self;
+        let (draft, incomplete) = self.into_draft();
         file_of(draft, incomplete)
     }
 }

@@ -21,11 +21,21 @@ pub(crate) struct OpenSection {
 
 /// What was read so far: the fields of the lines and of the sections that are closed, the first of
 /// these in canonical order that is incomplete, and the section that is open.
-#[derive(Drop)]
 pub(crate) struct Reading {
     pub(crate) draft: Draft,
     pub(crate) incomplete: Option<Field>,
     pub(crate) opened: Option<OpenSection>,
+}
+
+/// As a derive would do it; what lets go of a reading calls this.
+impl Drop for Reading {
+    fn drop(self) {
+        let Reading {
+            draft: _,
+            incomplete: _,
+            opened: _,
+        } = self;
+    }
 }
 
 /// The one of a section and another, if there is another, that stands first in canonical order.
@@ -77,6 +87,18 @@ impl Reading {
             incomplete: None,
             opened: None,
         }
+    }
+
+    /// The fields of what was read, and the first section that is incomplete, of those that are closed.
+    pub(crate) fn into_draft(self) -> (Draft, Option<Field>)
+        ensures { result ≡ (self.draft, self.incomplete) }
+    {
+        let Reading {
+            draft,
+            incomplete,
+            opened: _,
+        } = self;
+        (draft, incomplete)
     }
 
     /// Begins with a section that a line opens. The one before it was closed.
