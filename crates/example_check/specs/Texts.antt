@@ -2,7 +2,7 @@
 use Rattle.std.specs.Prelude.{ℕ, List}
 use Rattle.tsp_fields.specs.Fields.{Fields}
 use Rattle.tsp_items.specs.Text.{Spells}
-use Rattle.tsp_verdict.specs.declared.verdict.Verdict.{Verdict}
+use Rattle.tsp_reason.specs.declared.verdict.Verdict.{Verdict}
 use Rattle.tsp_verdict.specs.Tours.{IsTourVerdict}
 
 -- the texts spell files, and this is the verdict on the second one's tour of the first one's instance

@@ -5,11 +5,14 @@ use crate::source::Open;
 use std::alloc::{AllocError, Global};
 use std::io;
 use std::io::Read;
+use tsp_cost::Instance;
 use tsp_explain::{
-    Blame, blamed, explain_file, explain_reason, push_error, push_lines, relayout_sentence,
-    write_sentence,
+    Blame, blamed, explain_file, explain_reason, push_details, push_error, push_lines,
+    relayout_sentence, write_sentence,
 };
-use tsp_judge::{Reason, RunFault, Verdict, WriteFault};
+use tsp_file::File;
+use tsp_judge::{Reason, RunFault, Verdict, Watched, WriteFault};
+use tsp_read::read_from;
 use tsp_words::{Job, TaskFault};
 
 /// What explains how a job ended, line by line. Files that can be are looked at once more for it;
@@ -97,7 +100,8 @@ fn push_write_fault(
     }
 }
 
-/// Appends what explains a no.
+/// Appends what explains a no. The nodes and numbers are told as far as a second reading of the
+/// instance and the solution shows them.
 fn push_reason<F: Read + Drop, O: Open<F>>(
     alloc: Global,
     text: &mut Vec<u8>,
@@ -106,9 +110,32 @@ fn push_reason<F: Read + Drop, O: Open<F>>(
     files: &O,
 ) -> Result<(), AllocError> {
     let name = name_of(path_of(job, file_of(blamed(reason))));
-    let instance = again(path_of(job, 1), files);
-    let solution = again(path_of(job, 2), files);
-    explain_reason(alloc, text, name, reason, instance, solution)
+    explain_reason(text, name, reason)?;
+    let instance = weighed_again(alloc, path_of(job, 1), files);
+    let solution = read_again(alloc, path_of(job, 2), files);
+    match (&instance, &solution) {
+        (Some(instance), Some(solution)) => push_details(text, reason, instance, solution),
+        _ => Ok(()),
+    }
+}
+
+/// The file that is read a second time, as the first time, or `None` where it can't be.
+fn read_again<F: Read + Drop, O: Open<F>>(
+    alloc: Global,
+    path: Option<&str>,
+    files: &O,
+) -> Option<File> {
+    let mut reader = Watched::new(again(path, files)?);
+    read_from(alloc, &mut reader).ok()
+}
+
+/// The instance that is read a second time, or `None` where it can't be.
+fn weighed_again<F: Read + Drop, O: Open<F>>(
+    alloc: Global,
+    path: Option<&str>,
+    files: &O,
+) -> Option<Instance> {
+    Instance::of(read_again(alloc, path, files)?).ok()
 }
 
 /// The number of the file that a reason is about.

@@ -1,12 +1,12 @@
 -- What instances hold.
 use Rattle.std.proofs.Common.{◌≡◌, ◌≢◌, ℕ, false, List, [], Option, Some, refl, sym, ap, ◌∙◌}
 use Rattle.std.specs.Prelude.{unwrap_or}
-use Rattle.tsp_number.specs.declared.decimal.Point.{Point}
+use Rattle.tsp_distance.specs.declared.decimal.Point.{Point}
 use Rattle.tsp_value.specs.declared.kinds.WeightKind.{WeightKind}
 use Rattle.tsp_value.specs.declared.kinds.WeightKind.TheVariants.{Explicit, Euc2d, Ceil2d, Man2d, Max2d, Att, Euc3d, Man3d, Max3d}
 use Rattle.tsp_fields.specs.Fields.{Fields}
 use Rattle.tsp_fields.specs.Rules.{is_explicit}
-use Rattle.tsp_fields.specs.Cost.{distance, point_of, cost_by, cost}
+use Rattle.tsp_file.specs.Cost.{distance, point_of, cost_by, cost}
 
 -- the cost from the coordinates
 by_distance : (kind : WeightKind) (f : Fields) (i j : ℕ) → kind ≢ Explicit → cost_by (Some kind) f i j ≡ distance kind (point_of (unwrap_or f.coords []) i) (point_of (unwrap_or f.coords []) j)

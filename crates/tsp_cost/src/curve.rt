@@ -3,7 +3,7 @@
 ghost use Rattle.std.specs.Prelude.{◌<◌, ◌≤◌, ◌^◌, length};
 
 use std::alloc::{AllocError, Global};
-use tsp_number::{Decimal, InSpace, Point};
+use tsp_distance::{Decimal, InSpace, Point};
 use tsp_walk::Region;
 
 /// How many cells a grid has along each axis.

@@ -1,7 +1,7 @@
 //! Instances: files that have costs.
 
 ghost use Rattle.std.specs.Prelude.{unwrap_or};
-ghost use Rattle.tsp_fields.specs.Cost.{cost};
+ghost use Rattle.tsp_file.specs.Cost.{cost};
 ghost use Rattle.tsp_walk.specs.Costs.{FindsUneven};
 
 use crate::fault::CostFault;
@@ -10,7 +10,8 @@ use crate::points::Points;
 use crate::triangle::Triangle;
 use crate::view::View;
 use std::marker::Model;
-use tsp_fields::{Coords, File, valid_fields_are_in_range, valid_files_are_complete};
+use tsp_fields::{Coords, valid_fields_are_in_range, valid_files_are_complete};
+use tsp_file::File;
 use tsp_value::{Kind, Layout, WeightFormat, WeightKind};
 use tsp_walk::Costs;
 
@@ -37,7 +38,7 @@ impl Instance {
     ghost use Rattle.tsp_fields.specs.Rules.{is_instance};
     ghost use Rattle.tsp_value.specs.declared.kinds.WeightKind.TheVariants.{Explicit};
     ghost use Rattle.tsp_cost.specs.declared.fault.CostFault.TheVariants.{NotInstance};
-    ghost use Rattle.tsp_fields.specs.Listed.{IsListed};
+    ghost use Rattle.tsp_file.specs.Listed.{IsListed};
     ghost use Rattle.tsp_cost.specs.Views.{Shows};
 
     /// The instance that a file is, or why it is none, and the file itself, unchanged.
@@ -155,7 +156,7 @@ impl Instance {
 
 impl Costs for Instance {
     ghost use Rattle.std.specs.Prelude.{unwrap_or};
-    ghost use Rattle.tsp_fields.specs.Cost.{cost};
+    ghost use Rattle.tsp_file.specs.Cost.{cost};
 
     ghost nodes = { λ f. unwrap_or f.dimension 0 };
 

@@ -6,7 +6,7 @@ ghost use Rattle.tsp_value.specs.declared.layout.Layout.TheVariants.{FullMatrix}
 ghost use Rattle.tsp_value.specs.Cells.{cells};
 ghost use Rattle.tsp_value.specs.Limits.{most_matrix_nodes, most_weight};
 ghost use Rattle.tsp_fields.specs.Valid.{IsWithin};
-ghost use Rattle.tsp_fields.specs.Cost.{listed_cost};
+ghost use Rattle.tsp_file.specs.Cost.{listed_cost};
 ghost use Rattle.tsp_walk.specs.Costs.{IsEven};
 
 use tsp_value::{Layout, cells_are_the_listed_pairs, only_cells_have_places};

@@ -8,7 +8,7 @@ use crate::matrix::EvenMatrix;
 use crate::points::{Points, distance};
 use crate::triangle::Triangle;
 use std::alloc::{AllocError, Global};
-use tsp_number::{InSpace, Point, monotone_laws};
+use tsp_distance::{InSpace, Point, monotone_laws};
 use tsp_walk::{Grouped, Region};
 
 impl<P: InSpace> Points<'_, P> {

@@ -1,13 +1,13 @@
 //! Costs that are distances of points.
 
 ghost use Rattle.std.specs.Prelude.{◌≡◌, ◌≢◌, ◌≤◌, ◌-◌, ℕ, length, map, pos, ◌≤ℤ◌};
-ghost use Rattle.tsp_number.specs.declared.decimal.Point.{Point};
+ghost use Rattle.tsp_distance.specs.declared.decimal.Point.{Point};
 ghost use Rattle.tsp_value.specs.declared.kinds.WeightKind.TheVariants.{Explicit};
 ghost use Rattle.tsp_value.specs.Limits.{most_nodes};
-ghost use Rattle.tsp_fields.specs.Cost.{distance, point_of};
+ghost use Rattle.tsp_file.specs.Cost.{distance, point_of};
 
 use std::alloc::AllocError;
-use tsp_number::{
+use tsp_distance::{
     InSpace, Point, att, ceil_2d, distance_laws, euc_2d, euc_3d, man_2d, man_3d, max_2d, max_3d,
 };
 use tsp_value::WeightKind;
@@ -86,7 +86,7 @@ impl<P: InSpace> Symmetric for Points<'_, P> {
 /// The distance of two points by a weight type that is a distance.
 // (as a call of its own it cost 65 instructions a pair)
 #[inline(always)]
-#[tactic(auto, unfolding(tsp_fields::specs::Cost::distance))]
+#[tactic(auto, unfolding(tsp_file::specs::Cost::distance))]
 pub(crate) fn distance(kind: WeightKind, a: Point, b: Point) -> i64
     requires { kind ≢ Explicit }
     ensures value { result ≡ distance kind a b }

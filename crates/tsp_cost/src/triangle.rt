@@ -6,9 +6,9 @@ ghost use Rattle.tsp_value.specs.declared.layout.Layout.TheVariants.{FullMatrix}
 ghost use Rattle.tsp_value.specs.Cells.{is_listed, cells};
 ghost use Rattle.tsp_value.specs.Limits.{most_matrix_nodes, most_weight};
 ghost use Rattle.tsp_fields.specs.Valid.{IsWithin};
-ghost use Rattle.tsp_fields.specs.Cost.{listed_cost};
+ghost use Rattle.tsp_file.specs.Cost.{listed_cost};
 ghost use Rattle.tsp_walk.specs.Costs.{IsEven};
-ghost use Rattle.tsp_fields.specs.Listed.{IsUnlisted};
+ghost use Rattle.tsp_file.specs.Listed.{IsUnlisted};
 
 use tsp_value::{Layout, cells_are_the_listed_pairs, only_cells_have_places};
 use tsp_walk::{Costs, Symmetric};

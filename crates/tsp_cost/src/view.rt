@@ -3,7 +3,7 @@
 use crate::matrix::Matrix;
 use crate::points::Points;
 use crate::triangle::Triangle;
-use tsp_number::{PlanePoint, Point};
+use tsp_distance::{PlanePoint, Point};
 
 /// What the costs of an instance are taken from.
 #[derive(Clone, Copy, Debug)]

@@ -17,7 +17,7 @@ mod wanted;
 
 pub use examples::examples_of_shown_bytes;
 pub use file::{explain_file, push_error};
-pub use refusal::{Blame, blamed, explain_reason};
+pub use refusal::{Blame, blamed, explain_reason, push_details};
 pub use sentences::{
     end_sentence, line_sentence, number_sentence, reason_sentence, relayout_sentence,
     write_sentence,

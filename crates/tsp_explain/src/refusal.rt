@@ -3,14 +3,11 @@
 use crate::sentences::reason_sentence;
 use crate::solution::{count_at_place, first_place_of, node_at, sum_of};
 use crate::text::{begin, end, push, push_lines, push_number};
-use std::alloc::{AllocError, Global};
-use std::io::Read;
+use std::alloc::AllocError;
 use tsp_cost::{Costs, Instance};
-use tsp_fields::File;
-use tsp_read::read_from;
-use tsp_stream::Watched;
+use tsp_file::File;
+use tsp_reason::Reason;
 use tsp_value::Word;
-use tsp_verdict::Reason;
 
 /// Which file a reason is about.
 #[derive(Clone, Copy, Debug, PartialEq, Eq)]
@@ -57,55 +54,26 @@ pub fn blamed(reason: Reason) -> Blame {
     }
 }
 
-/// Appends why a solution is refused. `name` is what the user calls the file that is to blame; each
-/// file is given as opened once more, where it can be, and is read as the first time. The nodes and
-/// numbers are told as far as that shows them.
+/// Appends why a solution is refused. `name` is what the user calls the file that is to blame.
 ///
 /// # Errors
 ///
 /// Out of memory; part of the explanation may be appended then.
-pub fn explain_reason<R: Read + Drop>(
-    alloc: Global,
-    text: &mut Vec<u8>,
-    name: &str,
-    reason: Reason,
-    instance: Option<R>,
-    solution: Option<R>,
-) -> Result<(), AllocError> {
+pub fn explain_reason(text: &mut Vec<u8>, name: &str, reason: Reason) -> Result<(), AllocError> {
     begin(text)?;
     push(text, name)?;
     push(text, ":")?;
     end(text)?;
-    push_lines(text, reason_sentence(reason))?;
-    let instance = weighed_again(alloc, instance);
-    let solution = read_again(alloc, solution);
-    let answer = match (&instance, &solution) {
-        (Some(instance), Some(solution)) => push_details(text, reason, instance, solution),
-        _ => Ok(()),
-    };
-    drop(instance);
-    drop(solution);
-    answer
+    push_lines(text, reason_sentence(reason))
 }
 
-/// The file that is read a second time, or `None` where there is none.
-fn read_again<R: Read + Drop>(alloc: Global, again: Option<R>) -> Option<File> {
-    match again {
-        None => None,
-        Some(reader) => {
-            let mut reader = Watched::new(reader);
-            read_from(alloc, &mut reader).ok()
-        }
-    }
-}
-
-/// The instance that is read a second time, or `None` where there is none.
-fn weighed_again<R: Read + Drop>(alloc: Global, again: Option<R>) -> Option<Instance> {
-    Instance::of(read_again(alloc, again)?).ok()
-}
-
-/// Appends the nodes and numbers that the reason is about.
-fn push_details(
+/// Appends the nodes and numbers that a reason is about, as the instance and the solution show them.
+/// The caller may have read both a second time, so they may be others than those that were judged.
+///
+/// # Errors
+///
+/// Out of memory; part of the lines may be appended then.
+pub fn push_details(
     text: &mut Vec<u8>,
     reason: Reason,
     weighed: &Instance,

@@ -2,11 +2,12 @@
 //!
 //! Each is a `match` that names every variant, so that a new one needs its sentence.
 
-use tsp_fields::{EndFault, RelayoutFault};
+use tsp_fields::EndFault;
+use tsp_file::RelayoutFault;
 use tsp_items::LineFault;
 use tsp_number::NumberFault;
+use tsp_reason::Reason;
 use tsp_stream::WriteFault;
-use tsp_verdict::Reason;
 
 /// What is wrong with a line.
 pub fn line_sentence(fault: LineFault) -> &'static str {

@@ -1,7 +1,7 @@
 -- Points in the lists that hold them.
 use Rattle.std.specs.Prelude.{List, map, pos}
-use Rattle.tsp_number.specs.declared.decimal.Point.{Point}
-use Rattle.tsp_number.specs.Distances.{on_plane}
+use Rattle.tsp_distance.specs.declared.decimal.Point.{Point}
+use Rattle.tsp_distance.specs.Distances.{on_plane}
 use Rattle.tsp_fields.specs.declared.coords.Coords.{Coords}
 use Rattle.tsp_fields.specs.declared.coords.Coords.TheVariants.{Plane, Space}
 

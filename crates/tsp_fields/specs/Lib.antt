@@ -1,14 +1,6 @@
 pub mod Coords
-pub mod Cost
 pub mod Fields
-pub mod Halves
-pub mod Listed
-pub mod Relayout
 pub mod Rules
-pub mod Side
 pub mod Valid
 pub mod Validity
-pub mod Way
-pub mod Weights
 pub mod Examples
-pub mod Whole

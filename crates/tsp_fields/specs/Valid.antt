@@ -1,7 +1,7 @@
 -- What holds of every valid file: its fields are in these ranges, and those stand that its kind asks for.
 use Rattle.std.specs.Prelude.{◌≡◌, ◌≢◌, ℕ, ◌+◌, ◌≤◌, ◌⊎◌, Bool, true, false, List, length, None, Some, IsSome, ℤ, pos, neg_ℤ, ◌≤ℤ◌}
 use Rattle.std.specs.List.{All, sum_by}
-use Rattle.tsp_number.specs.declared.decimal.Point.{Point}
+use Rattle.tsp_distance.specs.declared.decimal.Point.{Point}
 use Rattle.tsp_value.specs.declared.layout.Layout.{Layout}
 use Rattle.tsp_value.specs.declared.kinds.WeightFormat.TheVariants.{Listed}
 use Rattle.tsp_value.specs.Cells.{IsNode, cells}

@@ -3,7 +3,7 @@
 ghost use Rattle.std.specs.Prelude.{◌≡◌, length, slice_index_or, ◌<◌, SomeIff};
 ghost use Rattle.tsp_fields.specs.Coords.{points_of, origin};
 
-use tsp_number::{InSpace, PlanePoint, Point};
+use tsp_distance::{InSpace, PlanePoint, Point};
 
 /// A point for each node, in order.
 #[derive(Debug, Drop, PartialEq, Eq)]

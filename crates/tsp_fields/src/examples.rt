@@ -1,73 +1,15 @@
-//! Small matrices and files, on which the definitions are evaluated. No body is looked at here: a
+//! Small values and drafts, on which the definitions are evaluated. No body is looked at here: a
 //! definition that is changed together with its code is refused by its examples.
 
 ghost use Rattle.std.specs.Prelude.{◌≡◌, ◌+◌, ◌-◌, ◌*◌, ◌^◌, true, false, [], ◌∷◌, None, Some, pos, negsuc, codes, replicate};
-ghost use Rattle.tsp_number.specs.declared.decimal.Point.{Point};
-ghost use Rattle.tsp_number.specs.Distances.{euc_2d_of, ceil_2d_of, man_2d_of, max_2d_of, att_of, euc_3d_of, man_3d_of, max_3d_of};
-ghost use Rattle.tsp_value.specs.declared.kinds.WeightKind.TheVariants as weight_kinds;
-ghost use Rattle.tsp_value.specs.declared.layout.Layout.TheVariants as layouts;
 ghost use Rattle.tsp_value.specs.declared.field.Field.TheVariants as fields;
 ghost use Rattle.tsp_value.specs.Limits.{most_coordinate};
-ghost use Rattle.tsp_fields.specs.declared.fault.RelayoutFault.TheVariants as faults;
 ghost use Rattle.tsp_fields.specs.declared.fault.EndFault.TheVariants as ends;
 ghost use Rattle.tsp_fields.specs.declared.fault.DraftFault.TheVariants as drafts;
 ghost use Rattle.tsp_fields.specs.Fields.{blank_fields};
-ghost use Rattle.tsp_fields.specs.Relayout.{lists_diagonal, IsFirstOnDiagonal, IsRefused};
-ghost use Rattle.tsp_fields.specs.Cost.{cost, distance};
 ghost use Rattle.tsp_fields.specs.Validity.{is_kept, are_comments, are_others, is_within, is_demand, is_node, is_pair, are_weights, are_depots, are_fixed, is_triple, are_triples, is_change};
 ghost use Rattle.tsp_fields.specs.Rules.{fault_of};
-ghost use Rattle.tsp_fields.specs.Examples.{CostIs, Becomes, six, directed, plane, no_nodes, one_weight};
-
-/// The costs of two nodes under the layouts, and which layouts list the diagonal.
-#[tactic(auto, unfolding(crate::specs::Cost::listed_cost, tsp_value::specs::Place::place_of, tsp_value::specs::Cells::cells, tsp_value::specs::Cells::nodes_to))]
-pub fn examples_of_costs()
-    ensures upper_row { CostIs layouts.UpperRow 1 4 (pos 3) }
-    ensures lower_row { CostIs layouts.LowerRow 1 4 (pos 4) }
-    ensures upper_col { CostIs layouts.UpperCol 1 4 (pos 4) }
-    ensures lower_col { CostIs layouts.LowerCol 1 4 (pos 3) }
-    ensures other_half { CostIs layouts.UpperRow 4 1 (pos 3) }
-    ensures itself { CostIs layouts.UpperRow 2 2 (pos 0) }
-    ensures diagonal_of_rows { CostIs layouts.LowerDiagRow 2 2 (pos 3) }
-    ensures diagonal_of_columns { CostIs layouts.LowerDiagCol 2 2 (pos 5) }
-    ensures full { lists_diagonal layouts.FullMatrix ≡ true }
-    ensures with_diagonal { lists_diagonal layouts.UpperDiagCol ≡ true }
-    ensures without { lists_diagonal layouts.UpperCol ≡ false }
-{}
-
-/// The weights in another layout.
-#[tactic(auto, unfolding(crate::specs::Cost::listed_cost, tsp_value::specs::Place::place_of, tsp_value::specs::Cells::cells, tsp_value::specs::Cells::nodes_to))]
-pub fn examples_of_relayouts()
-    ensures the_same { Becomes layouts.UpperDiagRow layouts.UpperDiagRow (six (pos 1) (pos 2) (pos 3) (pos 4) (pos 5) (pos 6)) }
-    ensures diagonal { Becomes layouts.UpperDiagRow layouts.LowerDiagRow (six (pos 1) (pos 2) (pos 4) (pos 3) (pos 5) (pos 6)) }
-    ensures by_columns { Becomes layouts.UpperDiagRow layouts.UpperDiagCol (six (pos 1) (pos 2) (pos 4) (pos 3) (pos 5) (pos 6)) }
-    ensures without_diagonal { Becomes layouts.UpperDiagRow layouts.LowerCol (pos 2 ∷ pos 3 ∷ pos 5 ∷ []) }
-    ensures zeros { Becomes layouts.UpperRow layouts.LowerDiagRow (six (pos 0) (pos 1) (pos 0) (pos 2) (pos 3) (pos 0)) }
-{}
-
-/// Why weights aren't put into another layout.
-#[tactic(auto, unfolding(crate::specs::Cost::cost, crate::specs::Cost::listed_cost, tsp_value::specs::Place::place_of, tsp_value::specs::Cells::cells, tsp_value::specs::Cells::nodes_to))]
-pub fn examples_of_lost_costs()
-    ensures uneven { IsRefused directed layouts.UpperRow (faults.NotSymmetric 1 2) }
-    ensures not_listed { IsRefused plane layouts.UpperRow faults.NotExplicit }
-    ensures diagonal { IsFirstOnDiagonal 3 (cost directed) 1 }
-    ensures onward { cost directed 2 3 ≡ pos 2 }
-    ensures backward { cost directed 3 2 ≡ pos 10 }
-    ensures itself { cost directed 2 2 ≡ pos 9999 }
-{}
-
-/// Which distance each weight type stands for.
-#[tactic(auto, unfolding(crate::specs::Cost::distance))]
-pub fn examples_of_distances_by_type()
-    ensures euc { (a b : Point) → distance weight_kinds.Euc2d a b ≡ pos (euc_2d_of a b) }
-    ensures ceil { (a b : Point) → distance weight_kinds.Ceil2d a b ≡ pos (ceil_2d_of a b) }
-    ensures man { (a b : Point) → distance weight_kinds.Man2d a b ≡ pos (man_2d_of a b) }
-    ensures max { (a b : Point) → distance weight_kinds.Max2d a b ≡ pos (max_2d_of a b) }
-    ensures att { (a b : Point) → distance weight_kinds.Att a b ≡ pos (att_of a b) }
-    ensures euc_in_space { (a b : Point) → distance weight_kinds.Euc3d a b ≡ pos (euc_3d_of a b) }
-    ensures man_in_space { (a b : Point) → distance weight_kinds.Man3d a b ≡ pos (man_3d_of a b) }
-    ensures max_in_space { (a b : Point) → distance weight_kinds.Max3d a b ≡ pos (max_3d_of a b) }
-    ensures explicit { (a b : Point) → distance weight_kinds.Explicit a b ≡ pos 0 }
-{}
+ghost use Rattle.tsp_fields.specs.Examples.{directed, plane, no_nodes, one_weight};
 
 /// Values at their limits, and past them by one.
 pub fn examples_of_validity()

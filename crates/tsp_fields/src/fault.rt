@@ -10,7 +10,7 @@ pub enum EndFault {
     #[error("Missing {0}")]
     Missing(Field),
     /// A section has fewer places than it needs. Readers find this; a draft's lists are whole, so
-    /// [`File::of`](crate::File::of) never answers it.
+    /// no file is refused for it.
     #[error("Incomplete {0}")]
     Incomplete(Field),
     /// The format doesn't go with the weights, or node potentials stand beside others.
@@ -30,23 +30,4 @@ pub enum DraftFault {
     /// The first rule over several fields that fails.
     #[error("{0}")]
     Rule(EndFault),
-}
-
-/// Why the weights of a file aren't put into another layout, in the order in which it is judged.
-#[derive(Clone, Copy, Debug, PartialEq, Eq, Error)]
-pub enum RelayoutFault {
-    /// The weight type isn't EXPLICIT, or there are no weights.
-    #[error("NotExplicit")]
-    NotExplicit,
-    /// The layout lists half of a matrix, and the costs between these two nodes differ: the first
-    /// such pair, the smaller node first, by rows.
-    #[error("NotSymmetric {i} {j}")]
-    NotSymmetric { i: u32, j: u32 },
-    /// The layout lists no diagonal, and the cost from this node to itself isn't 0: the first such
-    /// node.
-    #[error("DiagonalLost {i}")]
-    DiagonalLost { i: u32 },
-    /// Memory was refused.
-    #[error("OutOfMemory")]
-    OutOfMemory,
 }

@@ -5,8 +5,8 @@ ghost use Rattle.tsp_fields.specs.Fields.{fields_of};
 ghost use Rattle.tsp_fields.specs.Validity.{first_failing};
 ghost use Rattle.tsp_fields.specs.Rules.{standing_of, is_instance, is_routing, is_tours, is_certificate, lists_weights, has_distances, has_row_or_column, is_tree, is_asked, is_there, asked_in_order, has_wrong_format, has_wrong_count, end_fault};
 
+use crate::draft::Draft;
 use crate::fault::EndFault;
-use crate::file::Draft;
 use tsp_value::{Field, Kind, WeightFormat, WeightKind};
 
 /// The fields that some file is asked for, in the order in which they are missed.

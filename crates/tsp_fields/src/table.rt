@@ -10,7 +10,7 @@ ghost use Rattle.tsp_fields.specs.Fields.{fields_of, combs_of};
 ghost use Rattle.tsp_fields.specs.Validity.{if_there, with_dimension, is_by_node, is_kept, is_node, is_from_to, is_point, are_comments, are_others, are_depots, are_fixed, are_triples, are_weights, are_tours, are_combs, are_steps, section_fits, value_fits, fits, first_failing, bad_field};
 
 use crate::coords::Coords;
-use crate::file::Draft;
+use crate::draft::Draft;
 use crate::validity;
 use tsp_value::{Field, MOST_COMMENTS, MOST_NODES, MOST_OTHERS, Shape, TreeStep, ValueShape, Word};
 
@@ -61,7 +61,7 @@ fn section_fits(draft: &Draft, field: Field, shape: Shape) -> bool
 }
 
 /// The first field, in canonical order, that is not valid on its own.
-pub(crate) fn bad_field(draft: &Draft) -> Option<Field>
+pub fn bad_field(draft: &Draft) -> Option<Field>
     ensures { result ≡ bad_field (fields_of draft.now) }
 {
     first_bad(draft, &Field::ALL)

@@ -5,14 +5,14 @@ ghost use Rattle.std.specs.List.{list_all, sum_by};
 ghost use Rattle.tsp_value.specs.Words.{field_word};
 ghost use Rattle.tsp_value.specs.Bytes.{is_blank, is_keyword_byte};
 ghost use Rattle.tsp_value.specs.Limits.{most_coordinate, most_potential, most_tour_nodes, most_comb_nodes, most_branches, most_changes};
-ghost use Rattle.tsp_number.specs.Distances.{on_plane};
+ghost use Rattle.tsp_distance.specs.Distances.{on_plane};
 ghost use Rattle.tsp_value.specs.Steps.{step_of, steps_of, are_whole, branch_count, change_count};
 ghost use Rattle.tsp_fields.specs.Coords.{points_of};
 ghost use Rattle.tsp_fields.specs.Fields.{combs_of};
 ghost use Rattle.tsp_fields.specs.Validity.{is_kept, is_unknown_keyword, is_other, is_from_to, is_within, is_node, is_third, is_point, is_demand, are_depots, is_pair, are_fixed, is_triple, are_triples, are_weights, is_tour, is_set, is_comb, are_combs, is_change, is_step, are_steps};
 
 use crate::coords::Coords;
-use tsp_number::{Decimal, InSpace, PlanePoint, Point};
+use tsp_distance::{Decimal, InSpace, PlanePoint, Point};
 use tsp_value::{
     Field, Keyword, MOST_BRANCHES, MOST_CHANGES, MOST_COMB_NODES, MOST_COMBS, MOST_COORDINATE,
     MOST_DEMAND, MOST_DEPOTS, MOST_DIFFERENCE, MOST_FIXED, MOST_KEPT_BYTES, MOST_MATRIX_NODES,

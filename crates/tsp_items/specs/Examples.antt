@@ -3,7 +3,7 @@ use Rattle.std.specs.Prelude.{◌≡◌, ℕ, ◌==◌, true, false, cond, List,
 use Rattle.tsp_value.specs.declared.field.Field.{Field}
 use Rattle.tsp_value.specs.Steps.{Branch, Leaf}
 use Rattle.tsp_number.specs.declared.fault.NumberFault.{NumberFault}
-use Rattle.tsp_number.specs.Distances.{on_plane}
+use Rattle.tsp_distance.specs.Distances.{on_plane}
 use Rattle.tsp_fields.specs.declared.fault.EndFault.{EndFault}
 use Rattle.tsp_fields.specs.declared.fault.EndFault.TheVariants.{Missing}
 use Rattle.tsp_items.specs.declared.fault.LineFault.{LineFault}

@@ -1,7 +1,7 @@
 //! What always holds of the definitions, as contracts of functions that do nothing.
 
 ghost use Rattle.std.specs.Prelude.{codes, ◌≡◌, ◌≤◌, ◌++◌, ℕ, List, length, IsTrue, true, false};
-ghost use Rattle.tsp_number.specs.Decimal.{most_count};
+ghost use Rattle.tsp_distance.specs.Decimal.{most_count};
 ghost use Rattle.tsp_number.specs.NumberWord.{IsShort};
 ghost use Rattle.tsp_value.specs.Limits.{most_coordinate, most_word_bytes};
 ghost use Rattle.tsp_number.specs.declared.fault.NumberFault.TheVariants as numbers;

@@ -12,7 +12,7 @@ use crate::parts::points::PointList;
 use crate::parts::space_points::SpacePointList;
 use crate::parts::tours::TourList;
 use crate::parts::weights::Gathered;
-use tsp_number::Decimal;
+use tsp_distance::Decimal;
 
 /// A list that takes the numbers of a run of words, each read already.
 pub trait RunList {

@@ -10,13 +10,13 @@ use Rattle.tsp_stream.specs.Turn.{Turn, IsUnread}
 use Rattle.tsp_stream.specs.Sink.{Sink, IsUnwritten, HasWritten}
 use Rattle.tsp_fields.specs.Fields.{Fields}
 use Rattle.tsp_fields.specs.Rules.{is_instance, is_certificate, is_tree}
-use Rattle.tsp_fields.specs.Cost.{cost}
+use Rattle.tsp_file.specs.Cost.{cost}
 use Rattle.tsp_walk.specs.Length.{length_of}
 use Rattle.tsp_read.specs.Reads.{IsFile}
 use Rattle.tsp_theory.specs.Numbers.{IsBoundSized as IsSmall}
-use Rattle.tsp_verdict.specs.declared.verdict.Reason.TheVariants.{NotASolution, NotPotentials, NotBranches}
-use Rattle.tsp_verdict.specs.declared.verdict.Verdict.{Verdict}
-use Rattle.tsp_verdict.specs.declared.verdict.Verdict.TheVariants as verdicts
+use Rattle.tsp_reason.specs.declared.verdict.Reason.TheVariants.{NotASolution, NotPotentials, NotBranches}
+use Rattle.tsp_reason.specs.declared.verdict.Verdict.{Verdict}
+use Rattle.tsp_reason.specs.declared.verdict.Verdict.TheVariants as verdicts
 use Rattle.tsp_judge.specs.declared.certificate.Certificate.{Certificate}
 use Rattle.tsp_judge.specs.declared.certificate.Certificate.TheVariants.{Potentials, Branches}
 use Rattle.tsp_judge.specs.declared.fault.RunFault.{RunFault}

@@ -10,11 +10,11 @@ use Rattle.tsp_stream.specs.declared.output.WriteFault.TheVariants as faults
 use Rattle.tsp_stream.specs.Turn.{Turn, IsUnread}
 use Rattle.tsp_stream.specs.Sink.{Sink, IsUnwritten, HasWritten}
 use Rattle.tsp_read.specs.Reads.{IsFile, most_taken}
-use Rattle.tsp_verdict.specs.declared.verdict.Verdict.{Verdict}
-use Rattle.tsp_verdict.specs.declared.verdict.Verdict.TheVariants as verdicts
+use Rattle.tsp_reason.specs.declared.verdict.Verdict.{Verdict}
+use Rattle.tsp_reason.specs.declared.verdict.Verdict.TheVariants as verdicts
 use Rattle.tsp_judge.specs.declared.fault.RunFault.{RunFault}
 use Rattle.tsp_judge.specs.declared.fault.RunFault.TheVariants.{File, WrongKind, Write, OutOfMemory, Relayout}
-use Rattle.tsp_verdict.specs.declared.verdict.Reason.TheVariants.{NotASolution}
+use Rattle.tsp_reason.specs.declared.verdict.Reason.TheVariants.{NotASolution}
 use Rattle.tsp_verdict.specs.Tours.{IsTourVerdict}
 use Rattle.tsp_verdict.specs.Routes.{IsRoutesVerdict}
 use Rattle.tsp_judge.specs.Judged.{IsVerdictBy, IsVerdictOn, is_yes}

@@ -6,12 +6,12 @@ use Rattle.tsp_stream.specs.declared.output.WriteFault.TheVariants as write_faul
 use Rattle.tsp_stream.specs.Turn.{Turn, IsUnread}
 use Rattle.tsp_stream.specs.Sink.{Sink, IsUnwritten, HasWritten, HasStopped}
 use Rattle.tsp_fields.specs.Fields.{Fields}
-use Rattle.tsp_fields.specs.Cost.{cost}
+use Rattle.tsp_file.specs.Cost.{cost}
 use Rattle.tsp_walk.specs.Length.{length_of}
 use Rattle.tsp_cost.specs.Tours.{IsTourOf}
 use Rattle.tsp_read.specs.Reads.{IsFile, StopsAt}
-use Rattle.tsp_verdict.specs.declared.verdict.Verdict.{Verdict}
-use Rattle.tsp_verdict.specs.declared.verdict.Verdict.TheVariants.{Tour}
+use Rattle.tsp_reason.specs.declared.verdict.Verdict.{Verdict}
+use Rattle.tsp_reason.specs.declared.verdict.Verdict.TheVariants.{Tour}
 use Rattle.tsp_verdict.specs.Solution.{tours_of}
 use Rattle.tsp_verdict.specs.Certificate.{IsBoundByPotentials}
 use Rattle.tsp_verdict.specs.Bounded.{IsBoundedVerdict}

@@ -4,10 +4,10 @@ use Rattle.tsp_value.specs.declared.layout.Layout.{Layout}
 use Rattle.tsp_stream.specs.declared.output.WriteFault.TheVariants as write_faults
 use Rattle.tsp_stream.specs.Turn.{Turn}
 use Rattle.tsp_stream.specs.Sink.{Sink, IsUnwritten, HasWritten, HasStopped}
-use Rattle.tsp_fields.specs.declared.fault.RelayoutFault.{RelayoutFault}
+use Rattle.tsp_file.specs.declared.fault.RelayoutFault.{RelayoutFault}
 use Rattle.tsp_fields.specs.Fields.{Fields}
 use Rattle.tsp_fields.specs.Rules.{fault_of}
-use Rattle.tsp_fields.specs.Relayout.{IsRelaid, IsRefused}
+use Rattle.tsp_file.specs.Relayout.{IsRelaid, IsRefused}
 use Rattle.tsp_write.specs.Text.{text_of}
 use Rattle.tsp_read.specs.Reads.{IsFile, StopsAt}
 use Rattle.tsp_judge.specs.declared.fault.RunFault.{RunFault}

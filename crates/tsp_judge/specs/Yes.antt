@@ -4,12 +4,12 @@ use Rattle.tsp_value.specs.declared.kinds.Kind.TheVariants as kinds
 use Rattle.tsp_stream.specs.Turn.{Turn}
 use Rattle.tsp_stream.specs.Sink.{Sink, HasWritten}
 use Rattle.tsp_fields.specs.Fields.{Fields}
-use Rattle.tsp_fields.specs.Cost.{cost}
+use Rattle.tsp_file.specs.Cost.{cost}
 use Rattle.tsp_walk.specs.Length.{length_of}
 use Rattle.tsp_cost.specs.Tours.{IsTourOf}
 use Rattle.tsp_read.specs.Reads.{IsFile}
-use Rattle.tsp_verdict.specs.declared.verdict.Verdict.{Verdict}
-use Rattle.tsp_verdict.specs.declared.verdict.Verdict.TheVariants.{Tour, Routes}
+use Rattle.tsp_reason.specs.declared.verdict.Verdict.{Verdict}
+use Rattle.tsp_reason.specs.declared.verdict.Verdict.TheVariants.{Tour, Routes}
 use Rattle.tsp_verdict.specs.Plan.{IsPlanOf, plan_length, depot_of}
 use Rattle.tsp_verdict.specs.Solution.{tours_of}
 use Rattle.tsp_judge.specs.declared.fault.RunFault.{RunFault}

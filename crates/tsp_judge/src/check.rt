@@ -15,7 +15,7 @@ use crate::file::read_file;
 use std::alloc::{AllocError, Global};
 use std::io::{Read, Write};
 use tsp_cost::Instance;
-use tsp_fields::File;
+use tsp_file::File;
 use tsp_stream::Watched;
 use tsp_value::Kind;
 use tsp_verdict::{Verdict, judge_routes, judge_tour};

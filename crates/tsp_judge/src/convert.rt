@@ -9,7 +9,7 @@ use crate::fault::RunFault;
 use crate::file::read_file;
 use std::alloc::Global;
 use std::io::{Read, Write};
-use tsp_fields::{File, RelayoutFault};
+use tsp_file::{File, RelayoutFault};
 use tsp_stream::Watched;
 use tsp_value::Layout;
 use tsp_write::write_file;

@@ -3,8 +3,8 @@
 
 ghost use Rattle.std.specs.Prelude.{◌≡◌, true, false, None, Some, pos};
 ghost use Rattle.tsp_value.specs.declared.kinds.Kind.TheVariants as kinds;
-ghost use Rattle.tsp_verdict.specs.declared.verdict.Reason.TheVariants as reasons;
-ghost use Rattle.tsp_verdict.specs.declared.verdict.Verdict.TheVariants as verdicts;
+ghost use Rattle.tsp_reason.specs.declared.verdict.Reason.TheVariants as reasons;
+ghost use Rattle.tsp_reason.specs.declared.verdict.Verdict.TheVariants as verdicts;
 ghost use Rattle.tsp_judge.specs.declared.certificate.Certificate.TheVariants as certificates;
 ghost use Rattle.tsp_judge.specs.Judged.{is_yes};
 ghost use Rattle.tsp_judge.specs.BoundRun.{kind_of, is_bounded};

@@ -1,7 +1,7 @@
 //! The faults of a run.
 
 use thiserror::Error;
-use tsp_fields::RelayoutFault;
+use tsp_file::RelayoutFault;
 use tsp_read::ReadFault;
 use tsp_stream::WriteFault;
 

@@ -7,7 +7,7 @@ ghost use Rattle.tsp_judge.specs.Run.{ReadsFile};
 use crate::fault::RunFault;
 use std::alloc::Global;
 use std::io::Read;
-use tsp_fields::File;
+use tsp_file::File;
 use tsp_read::read_from;
 use tsp_stream::Watched;
 

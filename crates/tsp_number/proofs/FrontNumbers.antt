@@ -12,7 +12,7 @@ use Rattle.std.specs.Array.{IsFirstChunk}
 use Rattle.std.specs.Char.{is_ascii_digit}
 use Rattle.std.specs.List.{prefix_len}
 use Rattle.std.specs.Str.Parse.{AllDigits, digits_value}
-use Rattle.tsp_number.specs.Decimal.{unit, most_count}
+use Rattle.tsp_distance.specs.Decimal.{unit, most_count}
 use Rattle.tsp_number.specs.NumberWord.{IsShort, ReadsDecimal, ReadsWhole, point, IsSign, IsFraction, Numeral, StandsFor, IsShifted, signed, mantissa, digits_of, places}
 use Rattle.tsp_number.specs.declared.fault.NumberFault.TheVariants.{OutOfRange}
 use Rattle.tsp_number.specs.Front.{BeginsWithNumber, digit_count, few_end}

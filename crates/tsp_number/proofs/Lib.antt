@@ -1,9 +1,5 @@
 pub mod Grammar
-pub mod DistanceLaws
-pub mod SpaceLaws
-pub mod MonotoneLaws
 pub mod Reading
-pub mod Roots
 pub mod Scaling
 pub mod Scanning
 pub mod Spellings

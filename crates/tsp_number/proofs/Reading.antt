@@ -3,7 +3,7 @@ use Rattle.std.proofs.Common.{◌≡◌, ◌≢◌, ℕ, ◌+◌, ◌*◌, ◌^�
 use Rattle.std.proofs.Math.Nat.{mul-le-mul, eq_of_mul-eq-mul_right}
 use Rattle.std.proofs.lemmas.Int.{ints}
 use Rattle.tsp_number.specs.declared.scan.Written.{Written}
-use Rattle.tsp_number.specs.Decimal.{unit, most_count}
+use Rattle.tsp_distance.specs.Decimal.{unit, most_count}
 use Rattle.tsp_number.specs.NumberWord.{Numeral, IsNumberWord, StandsFor, IsShifted, signed, mantissa, digits_of, places}
 use Rattle.tsp_number.specs.Scan.{numeral_in, saturated}
 use Rattle.tsp_number.specs.Written.{KeepsNumeral, HoldsWord, IsShiftedSize, ShiftsTo}

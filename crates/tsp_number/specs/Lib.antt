@@ -1,7 +1,3 @@
-pub mod Decimal
-pub mod Distances
-pub mod Monotone
-pub mod Rounding
 pub mod NumberWord
 pub mod Scan
 pub mod Written

@@ -3,7 +3,7 @@ use Rattle.std.specs.Prelude.{◌≡◌, ◌≢◌, ℕ, ◌+◌, ◌^◌, ◌<�
 use Rattle.std.specs.Str.Parse.{AllDigits, digits_value}
 use Rattle.tsp_number.specs.declared.fault.NumberFault.{NumberFault}
 use Rattle.tsp_number.specs.declared.fault.NumberFault.TheVariants.{LongWord, BadNumber, TooFine, OutOfRange, NotWhole}
-use Rattle.tsp_number.specs.Decimal.{unit, most_count}
+use Rattle.tsp_distance.specs.Decimal.{unit, most_count}
 
 -- the bytes of `+`, `-`, `.`, `e` and `E`
 abbrev pub plus : ℕ

@@ -3,7 +3,7 @@ use Rattle.std.specs.Prelude.{ℕ, ◌+◌, ◌*◌, ◌/◌, ◌%◌, ◌^◌, 
 use Rattle.std.specs.Option.{option_map}
 use Rattle.tsp_number.specs.declared.fault.NumberFault.{NumberFault}
 use Rattle.tsp_number.specs.declared.fault.NumberFault.TheVariants.{LongWord, BadNumber, TooFine, OutOfRange, NotWhole}
-use Rattle.tsp_number.specs.Decimal.{most_count}
+use Rattle.tsp_distance.specs.Decimal.{most_count}
 use Rattle.tsp_number.specs.NumberWord.{Numeral, signed, digits_of, places}
 use Rattle.tsp_number.specs.Scan.{numeral_in}
 

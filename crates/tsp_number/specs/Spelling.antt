@@ -1,7 +1,7 @@
 -- How a decimal is spelled.
 use Rattle.std.specs.Prelude.{ℕ, zero, suc, ◌+◌, ◌/◌, ◌%◌, ◌^◌, ◌==◌, List, [], ◌∷◌, ◌++◌, if◌then◌else◌, ℤ, pos, negsuc}
 use Rattle.std.specs.Fmt.{decimal}
-use Rattle.tsp_number.specs.Decimal.{unit}
+use Rattle.tsp_distance.specs.Decimal.{unit}
 use Rattle.tsp_number.specs.NumberWord.{minus, point}
 
 -- the decimals of `rest` parts of 10^places: one digit after the other, as long as something is left

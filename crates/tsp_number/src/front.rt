@@ -3,13 +3,13 @@
 ghost use Rattle.std.specs.Prelude.{◌≡◌, ◌+◌, ◌*◌, ◌^◌, ◌<◌, ◌≤◌, ◌*ℤ◌, pos, length, take, unsigned_abs, IfSome};
 ghost use Rattle.std.specs.Option.{option_map};
 ghost use Rattle.std.specs.Str.Parse.{AllDigits, digits_value};
-ghost use Rattle.tsp_number.specs.Decimal.{unit, most_count};
+ghost use Rattle.tsp_distance.specs.Decimal.{unit, most_count};
 ghost use Rattle.tsp_number.specs.NumberWord.{IsSign, signed as signed_of};
 ghost use Rattle.tsp_number.specs.Front.{BeginsWithNumber, sign_count, digit_count, whole_end, few_end, decimal_end};
 
-use crate::decimal::{Decimal, UNIT};
 use crate::eight::{EIGHT, front_of_eight};
 use crate::scale::power_of_ten;
+use tsp_distance::{Decimal, UNIT};
 
 /// The most digits that are read before or after the point of a decimal: nine places are all.
 const MOST_PLACES: usize = 9;

@@ -3,12 +3,12 @@
 ghost use Rattle.std.specs.Prelude.{◌≡◌, ◌+◌, ◌*◌, ◌^◌, ◌<◌, ◌≤◌, ◌++◌, length, unsigned_abs};
 ghost use Rattle.std.specs.Fmt.{decimal};
 ghost use Rattle.arrayvec.specs.ArrayVec.{array_vec_len};
-ghost use Rattle.tsp_number.specs.Decimal.{unit, most_count};
+ghost use Rattle.tsp_distance.specs.Decimal.{unit, most_count};
 ghost use Rattle.tsp_number.specs.NumberWord.{StandsFor};
 ghost use Rattle.tsp_number.specs.Spelling.{decimals, three_digits, fraction_spelling, size_spelling, spelling};
 
-use crate::decimal::{Decimal, UNIT};
 use arrayvec::ArrayVec;
+use tsp_distance::{Decimal, UNIT};
 
 /// Appends the three digits of a number below 1000, also those that are zeros at its front.
 #[inline(always)]

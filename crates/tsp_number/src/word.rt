@@ -4,11 +4,11 @@ ghost use Rattle.std.specs.Prelude.{◌≡◌, ◌≤ℤ◌, SomeIff};
 ghost use Rattle.tsp_number.specs.Reading.{decimal_of, whole_of};
 ghost use Rattle.tsp_number.specs.NumberWord.{ReadsDecimal, ReadsWhole, signed as signed_of};
 
-use crate::decimal::Decimal;
 use crate::fault::NumberFault;
 use crate::front::{front_decimal, front_whole};
 use crate::scale::shifted;
 use crate::scan::split_word;
+use tsp_distance::Decimal;
 
 /// The most bytes that a number word has.
 const MOST_BYTES: usize = 64;

@@ -12,7 +12,7 @@ use crate::stage::Stage;
 use crate::state::finish::completed;
 use crate::state::reading::Reading;
 use std::alloc::Global;
-use tsp_fields::File;
+use tsp_file::File;
 use tsp_items::ReadFault;
 use tsp_value::MOST_FILE_BYTES;
 

@@ -11,7 +11,7 @@ use crate::feed::Feed;
 use crate::input::feed_all;
 use std::alloc::Global;
 use std::io::Read;
-use tsp_fields::File;
+use tsp_file::File;
 use tsp_items::ReadFault;
 use tsp_stream::Watched;
 

@@ -22,8 +22,9 @@ use crate::cut::without_start;
 use crate::intake::Intake;
 use crate::state::reading::Reading;
 use std::alloc::Global;
+use tsp_distance::Decimal;
 use tsp_items::{Gathered, Part, RunList, WeightList};
-use tsp_number::{Decimal, front_decimal, front_few, front_whole};
+use tsp_number::{front_decimal, front_few, front_whole};
 use tsp_value::is_blank;
 
 // ---- a number at the front of a text

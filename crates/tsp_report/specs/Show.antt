@@ -12,7 +12,7 @@ use Rattle.tsp_value.specs.Cells.{nodes_to}
 use Rattle.tsp_value.specs.Steps.{Step, leaf_count}
 use Rattle.tsp_fields.specs.Fields.{Fields}
 use Rattle.tsp_fields.specs.Rules.{is_explicit}
-use Rattle.tsp_fields.specs.Cost.{cost}
+use Rattle.tsp_file.specs.Cost.{cost}
 use Rattle.tsp_walk.specs.Length.{length_of}
 use Rattle.tsp_report.specs.Report.{type_line, nodes_line, not_judged}
 

@@ -8,8 +8,8 @@ ghost use Rattle.tsp_value.specs.declared.kinds.WeightKind.TheVariants as weight
 ghost use Rattle.tsp_value.specs.declared.kinds.WeightFormat.TheVariants as formats;
 ghost use Rattle.tsp_value.specs.declared.layout.Layout.TheVariants as layouts;
 ghost use Rattle.tsp_value.specs.Steps.{Branch, Leaf};
-ghost use Rattle.tsp_verdict.specs.declared.verdict.Reason.TheVariants as reasons;
-ghost use Rattle.tsp_verdict.specs.declared.verdict.Verdict.TheVariants as verdicts;
+ghost use Rattle.tsp_reason.specs.declared.verdict.Reason.TheVariants as reasons;
+ghost use Rattle.tsp_reason.specs.declared.verdict.Verdict.TheVariants as verdicts;
 ghost use Rattle.tsp_report.specs.Report.{not_judged, type_line, nodes_line, gap_lines, bound_lines, reason_text, verdict_lines};
 ghost use Rattle.tsp_report.specs.Show.{name_line, weights_line, canonical_line, fixed_line, tour_lines, scale_line, combs_line, leaves_line};
 

@@ -5,8 +5,8 @@ ghost use Rattle.tsp_stream.specs.Way.{Puts};
 ghost use Rattle.tsp_report.specs.Report.{reason_name, reason_numbers, after_blank, reason_text};
 
 use std::io::Write;
+use tsp_reason::Reason;
 use tsp_stream::{Piece, Watched, put, put_next_number};
-use tsp_verdict::Reason;
 
 /// Adds the name of a reason, and its numbers.
 pub(crate) fn put_reason<W: Write>(piece: &mut Piece, out: &mut Watched<W>, reason: Reason)

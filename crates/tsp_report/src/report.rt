@@ -8,10 +8,10 @@ ghost use Rattle.tsp_report.specs.Report.{report_of, instance_lines, type_line, 
 use crate::reason::put_reason;
 use itoa::Integer;
 use std::io::Write;
-use tsp_fields::File;
+use tsp_file::File;
+use tsp_reason::Verdict;
 use tsp_stream::{Piece, Watched, WriteFault, hand_over, put, put_number};
 use tsp_value::{Kind, Word};
-use tsp_verdict::Verdict;
 
 /// Writes the report on a solution of an instance, line by line, by the verdict on it: the lines on
 /// the instance, those on the verdict, `yes` or `no`.

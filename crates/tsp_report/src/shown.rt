@@ -15,7 +15,7 @@ use crate::leaves::leaves_of;
 use crate::report::{put_named, put_nodes, put_others, put_type};
 use std::io::Write;
 use tsp_cost::{Instance, canonical_length};
-use tsp_fields::File;
+use tsp_file::File;
 use tsp_stream::{Piece, Watched, WriteFault, hand_over, put};
 use tsp_value::{Kind, TreeStep, WeightFormat, WeightKind, Word};
 

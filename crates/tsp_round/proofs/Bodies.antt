@@ -5,7 +5,7 @@ use Rattle.std.specs.List.{list_all, flat_map, enumerate_from}
 use Rattle.std.specs.Ordering.{int_eq}
 use Rattle.std.specs.Fmt.{decimal, signed_decimal}
 use Rattle.std.proofs.lemmas.Bool.{and_from, and_parts, leb-true}
-use Rattle.tsp_number.specs.declared.decimal.Point.{Point}
+use Rattle.tsp_distance.specs.declared.decimal.Point.{Point}
 use Rattle.tsp_number.specs.Spelling.{spelling}
 use Rattle.tsp_value.specs.Limits.{most_nodes, most_weight, most_multiplier, most_coordinate}
 use Rattle.tsp_fields.specs.Validity.{is_from_to, is_within, is_node, is_pair, is_triple, is_point, is_tour}

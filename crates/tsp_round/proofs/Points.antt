@@ -11,8 +11,8 @@ use Rattle.std.proofs.lemmas.Bool.Decides.{Decides-int_eq}
 use Rattle.std.proofs.lemmas.List.{length_push, take_all, map-append}
 use Rattle.std.proofs.lemmas.List.FromFn.{map-range_with_len_more}
 use Rattle.tsp_number.specs.declared.fault.NumberFault.{NumberFault}
-use Rattle.tsp_number.specs.declared.decimal.Point.{Point}
-use Rattle.tsp_number.specs.Distances.{on_plane}
+use Rattle.tsp_distance.specs.declared.decimal.Point.{Point}
+use Rattle.tsp_distance.specs.Distances.{on_plane}
 use Rattle.tsp_number.specs.Reading.{decimal_of}
 use Rattle.tsp_number.specs.Spelling.{spelling}
 use Rattle.tsp_value.specs.Limits.{most_coordinate}

@@ -5,7 +5,7 @@ use Rattle.std.specs.List.{list_all, list_any, flat_map, enumerate_from, sum_by}
 use Rattle.std.specs.Fmt.{decimal, signed_decimal}
 use Rattle.std.proofs.lemmas.Bool.{false≢true, and_parts, or_right, leb-true, ltb-true, eqb-true, le-leb, le-ltb}
 use Rattle.std.proofs.lemmas.Int.{ints}
-use Rattle.tsp_number.specs.declared.decimal.Point.{Point}
+use Rattle.tsp_distance.specs.declared.decimal.Point.{Point}
 use Rattle.tsp_value.specs.declared.field.Field.{Field}
 use Rattle.tsp_value.specs.declared.field.Shape.{Shape}
 use Rattle.tsp_value.specs.declared.field.Shape.TheVariants.{Numbers, Points, SpacePoints, Depots, Pairs, Weights, Tours, Triples, Combs, Steps}

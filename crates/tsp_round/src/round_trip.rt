@@ -2,7 +2,7 @@
 
 ghost use Rattle.std.specs.Prelude.{◌≡◌, ◌≤◌, ◌<◌, ◌^◌, ℕ, ℤ, List, true, None, Result, Ok, unsigned_abs};
 ghost use Rattle.std.specs.Fmt.{signed_decimal};
-ghost use Rattle.tsp_number.specs.Decimal.{most_count};
+ghost use Rattle.tsp_distance.specs.Decimal.{most_count};
 ghost use Rattle.tsp_number.specs.Reading.{decimal_of, whole_of};
 ghost use Rattle.tsp_number.specs.Spelling.{spelling};
 ghost use Rattle.tsp_fields.specs.Fields.{Fields};

@@ -3,7 +3,8 @@
 use std::alloc::Global;
 use tsp_bound::{Duals, dual_bound};
 use tsp_cost::{Costs, Instance, View, canonical_length, symmetric_fault, tour_length};
-use tsp_fields::{Draft, DraftFault, EndFault, File};
+use tsp_fields::{Draft, DraftFault, EndFault};
+use tsp_file::File;
 use tsp_read::{Feed, ReadFault};
 use tsp_value::{Field, Kind, Layout, WeightFormat, WeightKind};
 

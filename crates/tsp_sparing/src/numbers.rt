@@ -1,9 +1,9 @@
 //! Number words, distances, values, streams and the numbers of certificates.
 
 use tsp_bound::{Duals, Multipliers, Potentials};
+use tsp_distance::{Decimal, InSpace, PlanePoint, att, ceil_2d, euc_2d, man_2d, max_2d};
 use tsp_number::{
-    Decimal, InSpace, NumberFault, PlanePoint, att, ceil_2d, euc_2d, front_decimal, front_whole,
-    man_2d, max_2d, parse_decimal, parse_whole, write_decimal,
+    NumberFault, front_decimal, front_whole, parse_decimal, parse_whole, write_decimal,
 };
 use tsp_stream::Watched;
 use tsp_value::Layout;

@@ -2,7 +2,8 @@
 
 use std::alloc::{AllocError, Global};
 use tsp_cost::{Costs, Instance, trace_tours};
-use tsp_fields::{Draft, File};
+use tsp_fields::Draft;
+use tsp_file::File;
 use tsp_value::{Kind, Layout, WeightFormat, WeightKind};
 
 /// Whether three tours have the lengths that are wanted.

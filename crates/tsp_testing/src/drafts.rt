@@ -2,8 +2,9 @@
 
 use std::alloc::{AllocError, Global};
 use std::test::Fail;
-use tsp_fields::{Coords, Draft, File};
-use tsp_number::{Decimal, PlanePoint};
+use tsp_distance::{Decimal, PlanePoint};
+use tsp_fields::{Coords, Draft};
+use tsp_file::File;
 use tsp_value::{CoordKind, DisplayKind, Kind, Layout, TreeStep, WeightFormat, WeightKind};
 
 /// A file of tours.

@@ -6,7 +6,8 @@ use std::test::Fail;
 use tsp_cost::{
     CostFault, Costs, Instance, canonical_length, symmetric_fault, tour_length, trace_tours,
 };
-use tsp_fields::{Draft, File};
+use tsp_fields::Draft;
+use tsp_file::File;
 use tsp_testing::drafts::{file_of, rectangle, two_tours};
 use tsp_value::Kind;
 

@@ -6,7 +6,7 @@ use std::alloc::{AllocError, Global};
 use std::io::{ErrorKind, Write};
 use std::process::Abort;
 use std::test::Fail;
-use tsp_fields::File;
+use tsp_file::File;
 use tsp_stream::{Watched, WriteFault};
 use tsp_testing::devices::{Drip, NEVER, Refusal, outcome};
 use tsp_testing::drafts::{file_of, rectangle, two_tours, upper_row};

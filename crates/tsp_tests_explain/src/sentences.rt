@@ -4,7 +4,7 @@ use std::alloc::AllocError;
 use std::process::Abort;
 use std::test::Fail;
 use tsp_explain::{explain_file, relayout_sentence, write_sentence};
-use tsp_fields::RelayoutFault;
+use tsp_file::RelayoutFault;
 use tsp_items::{LineFault, ReadFault};
 use tsp_stream::WriteFault;
 

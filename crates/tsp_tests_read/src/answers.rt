@@ -3,7 +3,7 @@
 use std::alloc::Global;
 use std::io::Read;
 use std::test::Fail;
-use tsp_fields::File;
+use tsp_file::File;
 use tsp_read::{Feed, ReadFault, read_bytes, read_from};
 use tsp_stream::Watched;
 use tsp_testing::devices::Drip;

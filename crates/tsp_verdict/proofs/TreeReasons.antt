@@ -11,7 +11,7 @@ use Rattle.tsp_value.specs.Steps as listed
 use Rattle.tsp_fields.specs.Fields.{Fields}
 use Rattle.tsp_fields.specs.Fields.{combs_of as lists_of_combs}
 use Rattle.tsp_fields.specs.Rules.{is_tree}
-use Rattle.tsp_fields.specs.Cost.{cost}
+use Rattle.tsp_file.specs.Cost.{cost}
 use Rattle.tsp_walk.specs.Costs.{IsEven}
 use Rattle.tsp_walk.specs.Tour.{Uses}
 use Rattle.tsp_cost.specs.Tours.{is_directed}
@@ -30,8 +30,8 @@ use Rattle.tsp_branch.specs.GoodCombs.{IsGoodComb, IsFirstBadComb}
 use Rattle.tsp_branch.specs.LeafBound.{crossings_of, leaf_weight, IsLeafBoundOf, IsLeafBound}
 use Rattle.tsp_branch.specs.Listed.{all_grown, no_numbers_of, AreGoodFrom, IsFirstBadFrom}
 use Rattle.tsp_branch.specs.Twice.{IsFirstTwiceFrom}
-use Rattle.tsp_verdict.specs.declared.verdict.Reason.{Reason}
-use Rattle.tsp_verdict.specs.declared.verdict.Reason.TheVariants.{NotBranches, BranchesDimension, BadComb, BranchTwice, BadLeaf}
+use Rattle.tsp_reason.specs.declared.verdict.Reason.{Reason}
+use Rattle.tsp_reason.specs.declared.verdict.Reason.TheVariants.{NotBranches, BranchesDimension, BadComb, BranchTwice, BadLeaf}
 use Rattle.tsp_verdict.specs.Certificate.{scale_in}
 use Rattle.tsp_verdict.specs.Numbered.{numbered_from}
 use Rattle.tsp_verdict.specs.Places.{IsFirstPlace}

@@ -4,15 +4,15 @@ use Rattle.tsp_value.specs.declared.kinds.Kind.{Kind}
 use Rattle.tsp_value.specs.declared.kinds.Kind.TheVariants as kinds
 use Rattle.tsp_fields.specs.Fields.{Fields}
 use Rattle.tsp_fields.specs.Rules.{is_certificate}
-use Rattle.tsp_fields.specs.Cost.{cost}
+use Rattle.tsp_file.specs.Cost.{cost}
 use Rattle.tsp_walk.specs.Walk.{IsWalk}
 use Rattle.tsp_walk.specs.Length.{length_of}
 use Rattle.tsp_theory.specs.Numbers.{IsBoundSized}
 use Rattle.tsp_theory.specs.Assignment.{AreGood, IsFirstBroken, IsDualBound}
 use Rattle.tsp_cost.specs.Tours.{IsTourOf}
 use Rattle.tsp_theory.specs.Adjusted.{UsesEach, IsAdjustedBound}
-use Rattle.tsp_verdict.specs.declared.verdict.Reason.{Reason}
-use Rattle.tsp_verdict.specs.declared.verdict.Reason.TheVariants.{NotPotentials, PotentialsDimension, PotentialsKind, MultiplierNotFixed, MultiplierRepeated, DualInfeasible}
+use Rattle.tsp_reason.specs.declared.verdict.Reason.{Reason}
+use Rattle.tsp_reason.specs.declared.verdict.Reason.TheVariants.{NotPotentials, PotentialsDimension, PotentialsKind, MultiplierNotFixed, MultiplierRepeated, DualInfeasible}
 use Rattle.tsp_verdict.specs.Multiplied.{IsUnlisted, IsPairRepeated}
 use Rattle.tsp_verdict.specs.Places.{IsFirstPlace}
 use Rattle.tsp_verdict.specs.Reasons.{IsFirstReason}

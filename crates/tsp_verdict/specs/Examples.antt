@@ -4,7 +4,7 @@ use Rattle.tsp_value.specs.declared.kinds.Kind.{Kind}
 use Rattle.tsp_value.specs.declared.kinds.Kind.TheVariants as kinds
 use Rattle.tsp_value.specs.Steps.{Step, Leaf}
 use Rattle.tsp_fields.specs.Fields.{Fields, blank_fields}
-use Rattle.tsp_verdict.specs.declared.verdict.Reason.{Reason}
+use Rattle.tsp_reason.specs.declared.verdict.Reason.{Reason}
 
 -- an instance with so many nodes and these fixed pairs
 abbrev pub nodes : Kind → ℕ → List (ℕ × ℕ) → Fields

@@ -1,6 +1,6 @@
 -- The first of several reasons, by the order in which they are judged.
 use Rattle.std.specs.Prelude.{ℕ, ◌<◌}
-use Rattle.tsp_verdict.specs.declared.verdict.Reason.{Reason}
+use Rattle.tsp_reason.specs.declared.verdict.Reason.{Reason}
 
 -- no reason stands that is judged before this rank
 abbrev pub NoneBefore : (Reason → Type 0) → (Reason → ℕ) → ℕ → Type 0

@@ -4,11 +4,11 @@ use Rattle.std.specs.Prelude.{◌≡◌, ◌≢◌, ℕ, ◌-◌, ◌<◌, ◌�
 use Rattle.std.specs.List.{Contains}
 use Rattle.tsp_fields.specs.Fields.{Fields}
 use Rattle.tsp_fields.specs.Rules.{is_tours}
-use Rattle.tsp_fields.specs.Cost.{cost}
-use Rattle.tsp_verdict.specs.declared.verdict.Reason.{Reason}
-use Rattle.tsp_verdict.specs.declared.verdict.Reason.TheVariants.{NotASolution, TooFewNodes, NotSymmetric, Dimension, TourCount, TourLength, NodeOutOfRange, RepeatedNode, FixedEdgeUnused, NotPotentials, PotentialsDimension, PotentialsKind, MultiplierNotFixed, MultiplierRepeated, DualInfeasible, DepotCount, DepotDemand, FixedEdgesInRoutes, DepotInRoute, Unserved, Overload, NotBranches, BranchesDimension, BadComb, BranchTwice, BadLeaf}
-use Rattle.tsp_verdict.specs.declared.verdict.Verdict.{Verdict}
-use Rattle.tsp_verdict.specs.declared.verdict.Verdict.TheVariants as verdicts
+use Rattle.tsp_file.specs.Cost.{cost}
+use Rattle.tsp_reason.specs.declared.verdict.Reason.{Reason}
+use Rattle.tsp_reason.specs.declared.verdict.Reason.TheVariants.{NotASolution, TooFewNodes, NotSymmetric, Dimension, TourCount, TourLength, NodeOutOfRange, RepeatedNode, FixedEdgeUnused, NotPotentials, PotentialsDimension, PotentialsKind, MultiplierNotFixed, MultiplierRepeated, DualInfeasible, DepotCount, DepotDemand, FixedEdgesInRoutes, DepotInRoute, Unserved, Overload, NotBranches, BranchesDimension, BadComb, BranchTwice, BadLeaf}
+use Rattle.tsp_reason.specs.declared.verdict.Verdict.{Verdict}
+use Rattle.tsp_reason.specs.declared.verdict.Verdict.TheVariants as verdicts
 use Rattle.tsp_verdict.specs.Places.{IsFirstPlace, IsLarger, IsAt, IsRepeated}
 use Rattle.tsp_verdict.specs.Plan.{demand_of, load_of, IsCustomer, plan_length, IsLeast, depots_of, depot_of, demands_of, capacity_of, total_of, IsPlanOf}
 use Rattle.tsp_verdict.specs.Reasons.{NoneBefore, IsFirstReason}

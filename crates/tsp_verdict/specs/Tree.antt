@@ -4,7 +4,7 @@ use Rattle.std.specs.List.{list_any}
 use Rattle.tsp_value.specs.Steps as listed
 use Rattle.tsp_fields.specs.Fields.{Fields}
 use Rattle.tsp_fields.specs.Rules.{is_tree}
-use Rattle.tsp_fields.specs.Cost.{cost}
+use Rattle.tsp_file.specs.Cost.{cost}
 use Rattle.tsp_theory.specs.Adjusted.{is_same_pair}
 use Rattle.tsp_theory.specs.Numbers.{IsBoundSized}
 use Rattle.tsp_branch.specs.Combs.{Comb}
@@ -16,8 +16,8 @@ use Rattle.tsp_branch.specs.Decisions.{Decision, take_pairs}
 use Rattle.tsp_branch.specs.GoodCombs.{IsGoodComb}
 use Rattle.tsp_branch.specs.Listed.{no_numbers_of, listed_steps, IsFirstBadFrom}
 use Rattle.tsp_branch.specs.Twice.{IsFirstTwiceFrom}
-use Rattle.tsp_verdict.specs.declared.verdict.Reason.{Reason}
-use Rattle.tsp_verdict.specs.declared.verdict.Reason.TheVariants.{NotBranches, BranchesDimension, BadComb, BranchTwice, BadLeaf}
+use Rattle.tsp_reason.specs.declared.verdict.Reason.{Reason}
+use Rattle.tsp_reason.specs.declared.verdict.Reason.TheVariants.{NotBranches, BranchesDimension, BadComb, BranchTwice, BadLeaf}
 use Rattle.tsp_verdict.specs.Certificate.{scale_in, BoundsTours}
 use Rattle.tsp_verdict.specs.Places.{IsFirstPlace}
 use Rattle.tsp_verdict.specs.Reasons.{IsFirstReason}

@@ -11,10 +11,10 @@ use crate::certificate::{
     bound_of_duals, bound_of_potentials, first_against_certificate, first_against_multipliers,
 };
 use crate::tour::length_of_tour;
-use crate::verdict::{Reason, Verdict};
 use std::alloc::{AllocError, Global};
 use tsp_cost::Instance;
-use tsp_fields::File;
+use tsp_file::File;
+use tsp_reason::{Reason, Verdict};
 use tsp_value::Kind;
 
 /// The verdict on a solution of an instance of TYPE TSP or ATSP with a certificate: a no with the

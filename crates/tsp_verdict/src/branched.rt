@@ -9,10 +9,10 @@ ghost use Rattle.tsp_verdict.specs.Tree.{FindsBoundByTree};
 
 use crate::tour::length_of_tour;
 use crate::tree::bound_of_tree;
-use crate::verdict::Verdict;
 use std::alloc::{AllocError, Global};
 use tsp_cost::Instance;
-use tsp_fields::File;
+use tsp_file::File;
+use tsp_reason::Verdict;
 
 /// The verdict on a solution of an instance of TYPE TSP with a certificate by branching: a no with
 /// the first reason against either, or a yes with the tour's length and a bound that no tour of the

@@ -5,7 +5,7 @@ ghost use Rattle.std.specs.List.{All};
 ghost use Rattle.tsp_value.specs.Cells.{IsNode};
 ghost use Rattle.tsp_value.specs.declared.kinds.Kind.TheVariants as kinds;
 ghost use Rattle.tsp_fields.specs.Rules.{is_certificate};
-ghost use Rattle.tsp_fields.specs.Cost.{cost};
+ghost use Rattle.tsp_file.specs.Cost.{cost};
 ghost use Rattle.tsp_walk.specs.Costs.{IsEven};
 ghost use Rattle.tsp_cost.specs.Views.{HasCosts};
 ghost use Rattle.tsp_theory.specs.Numbers.{IsScale, AreMultipliers};
@@ -21,14 +21,15 @@ ghost use Rattle.tsp_verdict.specs.Multiplied.{AreListed};
 
 use crate::files::fixed_pairs;
 use crate::multiplied::{first_repeated_pair, first_unlisted};
-use crate::verdict::Reason;
 use std::alloc::{AllocError, Global};
 use tsp_bound::{
     Duals, Multipliers, Potentials, adjusted_bounds_bound_walks, dual_bound, duals_bound_walks,
     one_tree,
 };
 use tsp_cost::{Costs, Grouped, Instance, View};
-use tsp_fields::{File, valid_fields_are_in_range};
+use tsp_fields::valid_fields_are_in_range;
+use tsp_file::File;
+use tsp_reason::Reason;
 use tsp_value::Kind;
 
 /// The first reason against a certificate that needs no look at its numbers.

@@ -5,7 +5,7 @@ ghost use Rattle.std.specs.Prelude.{◌≡◌, ℕ, ◌+◌, ◌*◌, [], ◌∷
 ghost use Rattle.tsp_value.specs.declared.kinds.Kind.TheVariants as kinds;
 ghost use Rattle.tsp_value.specs.Steps.{Branch, Leaf};
 ghost use Rattle.tsp_branch.specs.Examples.{with_pair};
-ghost use Rattle.tsp_verdict.specs.declared.verdict.Reason.TheVariants as reasons;
+ghost use Rattle.tsp_reason.specs.declared.verdict.Reason.TheVariants as reasons;
 ghost use Rattle.tsp_verdict.specs.Plan.{IsPlanOf, IsLeast, plan_length, total_of};
 ghost use Rattle.tsp_verdict.specs.Tours.{StandsAgainstTour, rank_of_tours};
 ghost use Rattle.tsp_verdict.specs.Routes.{StandsAgainstRoutes, rank_of_routes};

@@ -10,7 +10,8 @@ ghost use Rattle.tsp_verdict.specs.Plan.{depots_of, demands_of, capacity_of};
 ghost use Rattle.tsp_verdict.specs.Solution.{nodes_of, fixed_of, tours_of, visited, nodes_in};
 
 use tsp_cost::Instance;
-use tsp_fields::{File, valid_fields_are_in_range, valid_files_are_complete};
+use tsp_fields::{valid_fields_are_in_range, valid_files_are_complete};
+use tsp_file::File;
 
 /// The tours of a solution, none where it has no TOUR_SECTION.
 pub(crate) fn solution_tours(sol: &File) -> &[Vec<u32>]

@@ -16,7 +16,6 @@ mod places;
 mod routes;
 mod tour;
 mod tree;
-mod verdict;
 mod visits;
 
 pub use bounded::judge_tour_bound;
@@ -27,4 +26,4 @@ pub use examples::{
 };
 pub use routes::judge_routes;
 pub use tour::judge_tour;
-pub use verdict::{Reason, Verdict};
+pub use tsp_reason::{Reason, Verdict};

@@ -10,11 +10,11 @@ ghost use Rattle.tsp_verdict.specs.Solution.{nodes_of};
 use crate::files::{capacity, demands, depots, fixed_pairs, solution_tours};
 use crate::lengths::plan_length;
 use crate::loads::{first_overload, least_routes};
-use crate::verdict::{Reason, Verdict};
 use crate::visits::{first_larger_in, first_of_in, first_unmarked, mark_all};
 use std::alloc::{AllocError, Global};
 use tsp_cost::{Costs, Instance};
-use tsp_fields::File;
+use tsp_file::File;
+use tsp_reason::{Reason, Verdict};
 use tsp_value::Kind;
 
 /// The fewest nodes of an instance whose routes are judged.

@@ -10,10 +10,10 @@ ghost use Rattle.tsp_verdict.specs.Tours.{NoneOfTourUpTo, IsFirstAgainstTour, Is
 use crate::files::{fixed_pairs, solution_tours};
 use crate::fixed::{first_unused, next_nodes};
 use crate::places::{first_larger, first_repeated};
-use crate::verdict::{Reason, Verdict};
 use std::alloc::{AllocError, Global};
 use tsp_cost::{Costs, Instance, symmetric_fault, tour_length};
-use tsp_fields::File;
+use tsp_file::File;
+use tsp_reason::{Reason, Verdict};
 use tsp_value::Kind;
 
 /// The fewest nodes of an instance whose tours are judged.

@@ -6,7 +6,7 @@ ghost use Rattle.tsp_value.specs.declared.kinds.Kind.TheVariants as kinds;
 ghost use Rattle.tsp_value.specs.Steps.{steps_of, are_whole};
 ghost use Rattle.tsp_fields.specs.Fields.{combs_of};
 ghost use Rattle.tsp_fields.specs.Rules.{is_tree};
-ghost use Rattle.tsp_fields.specs.Cost.{cost};
+ghost use Rattle.tsp_file.specs.Cost.{cost};
 ghost use Rattle.tsp_walk.specs.Costs.{IsEven};
 ghost use Rattle.tsp_cost.specs.Views.{HasCosts};
 ghost use Rattle.tsp_theory.specs.Numbers.{IsScale};
@@ -21,11 +21,12 @@ ghost use Rattle.tsp_verdict.specs.Numbered.{AreSomeSets};
 use crate::decided::taken_once;
 use crate::files::fixed_pairs;
 use crate::numbered::numbered_sets;
-use crate::verdict::Reason;
 use std::alloc::{AllocError, Global};
 use tsp_branch::{BranchVerdict, CostTable, certificates_bound_walks, judge_branches};
 use tsp_cost::{Costs, Instance, Symmetric, View};
-use tsp_fields::{File, valid_fields_are_in_range, valid_files_are_complete};
+use tsp_fields::{valid_fields_are_in_range, valid_files_are_complete};
+use tsp_file::File;
+use tsp_reason::Reason;
 use tsp_value::{Kind, TreeStep};
 
 /// The most nodes of which distances are kept for each pair, in 32 MB.

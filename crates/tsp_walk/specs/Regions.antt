@@ -1,6 +1,6 @@
 -- Regions of space: boxes along the axes.
 use Rattle.std.specs.Prelude.{◌≤ℤ◌}
-use Rattle.tsp_number.specs.declared.decimal.Point.{Point}
+use Rattle.tsp_distance.specs.declared.decimal.Point.{Point}
 use Rattle.tsp_walk.specs.declared.region.Region.{Region}
 
 -- the point lies in the region

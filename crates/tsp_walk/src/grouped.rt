@@ -1,7 +1,7 @@
 //! Costs with a bound of those from a node to all nodes of a region.
 
 ghost use Rattle.std.specs.Prelude.{ℕ, pos, neg_ℤ, ◌≤ℤ◌, IfSome};
-ghost use Rattle.tsp_number.specs.declared.decimal.Point.{Point};
+ghost use Rattle.tsp_distance.specs.declared.decimal.Point.{Point};
 ghost use Rattle.tsp_value.specs.Cells.{IsNode};
 ghost use Rattle.tsp_value.specs.Limits.{most_weight};
 ghost use Rattle.tsp_walk.specs.Regions.{IsIn};

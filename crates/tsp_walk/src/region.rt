@@ -2,7 +2,7 @@
 
 ghost use Rattle.std.specs.Prelude.{◌≤◌, ◌≤ℤ◌, ◌-ℤ◌, ℤ, unsigned_abs};
 
-use tsp_number::{Decimal, Point};
+use tsp_distance::{Decimal, Point};
 
 /// A box in space, by the corners with its lowest and with its highest coordinates.
 #[derive(Clone, Copy, Debug)]
@@ -14,8 +14,8 @@ pub struct Region {
 }
 
 impl Region {
-    ghost use Rattle.tsp_number.specs.declared.decimal.Point.{Point};
-    ghost use Rattle.tsp_number.specs.Distances.{across, along, above};
+    ghost use Rattle.tsp_distance.specs.declared.decimal.Point.{Point};
+    ghost use Rattle.tsp_distance.specs.Distances.{across, along, above};
     ghost use Rattle.tsp_walk.specs.Regions.{IsIn};
 
     /// The region of a single point.

@@ -8,7 +8,7 @@ use Rattle.tsp_value.specs.declared.kinds.DisplayKind.TheVariants as display_kin
 use Rattle.tsp_value.specs.declared.layout.Layout.TheVariants.{LowerDiagRow}
 use Rattle.tsp_value.specs.declared.field.Field.{Field}
 use Rattle.tsp_value.specs.Steps.{Branch, Leaf}
-use Rattle.tsp_number.specs.Distances.{on_plane}
+use Rattle.tsp_distance.specs.Distances.{on_plane}
 use Rattle.tsp_fields.specs.Fields.{Fields, blank_fields}
 use Rattle.tsp_write.specs.Text.{text_of_field}
 

@@ -4,7 +4,7 @@ use Rattle.std.specs.Prelude.{ℕ, Bool, true, false, cond, List, [], ◌∷◌,
 use Rattle.std.specs.Option.{option_map_or}
 use Rattle.std.specs.List.{flat_map, enumerate_from}
 use Rattle.std.specs.Fmt.{decimal, signed_decimal}
-use Rattle.tsp_number.specs.declared.decimal.Point.{Point}
+use Rattle.tsp_distance.specs.declared.decimal.Point.{Point}
 use Rattle.tsp_number.specs.Spelling.{spelling}
 use Rattle.tsp_value.specs.declared.kinds.WeightFormat.{WeightFormat}
 use Rattle.tsp_value.specs.declared.kinds.WeightFormat.TheVariants.{Listed}

@@ -7,9 +7,8 @@ mod writer;
 
 pub use examples::{examples_of_lines, examples_of_sections};
 pub use laws::a_valid_text_is_short;
-pub use tsp_fields::{
-    Coords, Draft, DraftFault, EndFault, File, RelayoutFault, end_fault, is_kept,
-};
+pub use tsp_fields::{Coords, Draft, DraftFault, EndFault, end_fault, is_kept};
+pub use tsp_file::{File, RelayoutFault};
 pub use tsp_stream::{Watched, WriteFault, write_text};
 pub use tsp_value::{
     CoordKind, DisplayKind, Field, Keyword, Kind, Layout, WeightFormat, WeightKind, Word,

@@ -21,7 +21,8 @@ use crate::writer::sections::{
 use crate::writer::tree::{put_comb_section, put_step_section};
 use std::alloc::Global;
 use std::io::Write;
-use tsp_fields::{Draft, File};
+use tsp_fields::Draft;
+use tsp_file::File;
 use tsp_stream::{Piece, Watched, WriteFault, hand_over, put};
 use tsp_value::{Field, Shape, ValueShape};
 

@@ -1,6 +1,6 @@
 -- What each section's part holds, by the part itself, and what it finishes with.
 use Rattle.std.specs.Prelude.{◌≡◌, ℕ, ◌+◌, ◌≤◌, ℤ, List, length, map}
-use Rattle.tsp_number.specs.Distances.{on_plane}
+use Rattle.tsp_distance.specs.Distances.{on_plane}
 use Rattle.tsp_items.specs.declared.parts.numbers.NumberList.{NumberList}
 use Rattle.tsp_items.specs.declared.parts.points.PointList.{PointList}
 use Rattle.tsp_items.specs.declared.parts.space_points.SpacePointList.{SpacePointList}

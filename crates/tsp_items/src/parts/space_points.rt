@@ -7,8 +7,9 @@ ghost use Rattle.tsp_fields.specs.Coords.{points_of};
 use crate::fault::{LineFault, StepFault};
 use crate::parts::nodes::{is_minus_one, new_node, unmarked_node};
 use std::alloc::{AllocError, Global};
+use tsp_distance::{Decimal, Point};
 use tsp_fields::Coords;
-use tsp_number::{Decimal, Point, parse_decimal};
+use tsp_number::parse_decimal;
 
 /// What was read of a section of groups of a node and its three coordinates.
 #[derive(Drop)]

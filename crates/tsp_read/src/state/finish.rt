@@ -11,7 +11,8 @@ ghost use Rattle.tsp_read.specs.Finishes.{FileOf};
 
 use crate::state::reading::Reading;
 use std::alloc::Global;
-use tsp_fields::{Draft, DraftFault, EndFault, File, end_fault};
+use tsp_fields::{Draft, DraftFault, EndFault, end_fault};
+use tsp_file::File;
 use tsp_items::ReadFault;
 use tsp_value::Field;
 

@@ -11,8 +11,9 @@ ghost use Rattle.tsp_write.specs.Text.{line_end, number_line, section, by_node, 
 ghost use Rattle.tsp_stream.specs.Way.{Puts};
 
 use std::io::Write;
+use tsp_distance::{Decimal, Point};
 use tsp_fields::Coords;
-use tsp_number::{Decimal, Point, push_decimal};
+use tsp_number::push_decimal;
 use tsp_stream::{Piece, Watched, make_room, put, put_next_number, put_number};
 use tsp_value::{Field, Word};
 

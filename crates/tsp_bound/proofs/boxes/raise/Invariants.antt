@@ -1,5 +1,5 @@
 use Rattle.std.proofs.Common.{◌≡◌, ◌<◌, ◌*◌, ℕ, ℤ, List, length}
-use Rattle.tsp_number.specs.declared.decimal.Point.{Point}
+use Rattle.tsp_distance.specs.declared.decimal.Point.{Point}
 use Rattle.tsp_bound.specs.Boxes.{HoldsNode, KeepsHeld}
 use Rattle.tsp_bound.proofs.boxes.raise.Given as goal
 

@@ -1,7 +1,7 @@
 use Rattle.std.proofs.Common.{◌≡◌, ◌*◌, pos, ◌*ℤ◌, ℤ, arith, rules, ap, ◌∙◌, FitsSigned, w64, to_z, of_z}
 use Rattle.std.proofs.lemmas.Int.{to_z-of_z}
 use Rattle.std.proofs.lemmas.List.{take_rest}
-use Rattle.tsp_number.specs.Decimal.{unit}
+use Rattle.tsp_distance.specs.Decimal.{unit}
 use Rattle.tsp_number.specs.NumberWord.{signed}
 use Rattle.tsp_number.proofs.FrontNumbers.{HasWhole, whole_front, small_whole}
 use Rattle.tsp_number.proofs.Reading.{signed-mul}

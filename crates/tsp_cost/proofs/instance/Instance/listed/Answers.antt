@@ -4,7 +4,7 @@ use Rattle.tsp_value.specs.declared.layout.Layout.{Layout}
 use Rattle.tsp_value.specs.declared.kinds.WeightFormat.TheVariants.{Listed}
 use Rattle.tsp_fields.specs.Fields.{Fields}
 use Rattle.tsp_fields.specs.Valid.{AreWeights}
-use Rattle.tsp_fields.proofs.Listed.{lists, not_by_function, not_missing}
+use Rattle.tsp_file.proofs.Listed.{lists, not_by_function, not_missing}
 use Rattle.tsp_cost.proofs.instance.Instance.listed.Goals as goal
 
 pub unreachable-requires-in-Some-ByFunction : goal.unreachable-requires-in-Some-ByFunction

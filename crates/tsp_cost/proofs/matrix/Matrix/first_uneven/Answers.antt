@@ -1,6 +1,6 @@
 use Rattle.std.proofs.Common.{◌<◌, arith}
 use Rattle.tsp_value.specs.declared.layout.Layout.TheVariants.{FullMatrix}
-use Rattle.tsp_fields.proofs.Listed.{outside_has_no_place, even_between_nodes}
+use Rattle.tsp_file.proofs.Listed.{outside_has_no_place, even_between_nodes}
 use Rattle.tsp_cost.proofs.matrix.Matrix.first_uneven.Goals as goal
 
 pub returns-then-is_even : goal.returns-then-is_even

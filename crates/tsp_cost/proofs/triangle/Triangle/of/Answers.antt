@@ -1,5 +1,5 @@
-use Rattle.tsp_fields.specs.Listed.{IsUnlisted}
-use Rattle.tsp_fields.proofs.Listed.{unlisted_has_no_place, triangle_even}
+use Rattle.tsp_file.specs.Listed.{IsUnlisted}
+use Rattle.tsp_file.proofs.Listed.{unlisted_has_no_place, triangle_even}
 use Rattle.tsp_cost.proofs.triangle.Triangle.of.Goals as goal
 
 pub invariant_of-result : goal.invariant_of-result

@@ -1,5 +1,5 @@
 use Rattle.std.proofs.Common.{ℕ, ◌+◌, List, get_or, subst, arith}
-use Rattle.tsp_number.specs.declared.decimal.Point.{Point}
+use Rattle.tsp_distance.specs.declared.decimal.Point.{Point}
 use Rattle.std.specs.Fmt.{decimal}
 use Rattle.tsp_fields.specs.Coords.{points_of, origin}
 use Rattle.tsp_write.specs.Text.{number_line, point_numbers}

@@ -1,8 +1,8 @@
 use Rattle.std.proofs.Common.{◌≡◌, map, ap, ◌∙◌}
 use Rattle.std.specs.Prelude.{replicate}
-use Rattle.tsp_number.specs.declared.decimal.PlanePoint.{PlanePoint}
-use Rattle.tsp_number.specs.declared.decimal.Point.{Point}
-use Rattle.tsp_number.specs.Distances.{on_plane}
+use Rattle.tsp_distance.specs.declared.decimal.PlanePoint.{PlanePoint}
+use Rattle.tsp_distance.specs.declared.decimal.Point.{Point}
+use Rattle.tsp_distance.specs.Distances.{on_plane}
 use Rattle.tsp_fields.specs.Coords.{origin}
 use Rattle.tsp_fields.proofs.Mapped.{map_replicate}
 use Rattle.tsp_items.proofs.PointSteps.{none_so_far}

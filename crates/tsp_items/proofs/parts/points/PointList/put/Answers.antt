@@ -1,8 +1,8 @@
 use Rattle.std.proofs.Common.{◌-◌, arith}
 use Rattle.std.proofs.lemmas.List.{map-set}
-use Rattle.tsp_number.specs.declared.decimal.PlanePoint.{PlanePoint}
-use Rattle.tsp_number.specs.declared.decimal.Point.{Point}
-use Rattle.tsp_number.specs.Distances.{on_plane}
+use Rattle.tsp_distance.specs.declared.decimal.PlanePoint.{PlanePoint}
+use Rattle.tsp_distance.specs.declared.decimal.Point.{Point}
+use Rattle.tsp_distance.specs.Distances.{on_plane}
 use Rattle.tsp_items.proofs.PointSteps.{plane_points, point_middle, point_more}
 use Rattle.tsp_items.proofs.parts.points.PointList.put.Goals as goal
 

@@ -1,5 +1,5 @@
 use Rattle.std.proofs.Common.{Option, subst}
-use Rattle.tsp_fields.specs.declared.file.Draft.{Draft}
+use Rattle.tsp_fields.specs.declared.draft.Draft.{Draft}
 use Rattle.tsp_fields.specs.Fields.{fields_of}
 use Rattle.tsp_value.specs.declared.field.Field.{Field}
 use Rattle.tsp_read.specs.Finishes.{FileOf}

@@ -1,6 +1,0 @@
-use Rattle.std.proofs.Common.{ap}
-use Rattle.tsp_fields.specs.Fields.{Fields}
-use Rattle.tsp_fields.proofs.file.File.others.Goals as goal
-
-pub returns : goal.returns
-returns c = rw c.as_slice.ensures.value (ap (λ (f : Fields). f.others) c.self.view_is)

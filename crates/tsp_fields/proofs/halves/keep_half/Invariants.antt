@@ -1,5 +1,0 @@
-use Rattle.tsp_fields.proofs.Fronts.{HasKept}
-use Rattle.tsp_fields.proofs.halves.keep_half.Given as goal
-
-abbrev pub invariant-lines : goal.invariant-lines
-invariant-lines l = HasKept l.to l.nodes l.line l.kept l.initial.weights.items l.weights.items

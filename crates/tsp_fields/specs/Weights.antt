@@ -1,8 +1,0 @@
--- What weights that a file lists say of costs.
-use Rattle.std.specs.Prelude.{ℕ, ℤ}
-use Rattle.tsp_fields.specs.declared.weights.ListedWeights.{ListedWeights}
-use Rattle.tsp_fields.specs.Cost.{listed_cost}
-
--- the cost from one node to another
-abbrev pub costs_of : ListedWeights → ℕ → ℕ → ℤ
-costs_of w i j = listed_cost w.layout w.nodes w.weights.now i j
