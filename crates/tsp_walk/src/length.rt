@@ -1,6 +1,6 @@
 //! The lengths of lists of nodes.
 
-ghost use Rattle.std.specs.Prelude.{◌≡◌, ◌≤◌, map, length, vec_len, IfOk};
+ghost use Rattle.std.specs.Prelude.{◌≡◌, ◌≤◌, ◌++◌, ◌∷◌, [], map, length, vec_len, IfOk, OnOk};
 ghost use Rattle.std.specs.List.{All};
 ghost use Rattle.tsp_value.specs.Cells.{IsNode, nodes_to};
 ghost use Rattle.tsp_value.specs.Limits.{most_tour_nodes};
@@ -60,7 +60,22 @@ pub fn trace_tours<C: Costs>(
 {
     let mut lengths = Vec::with_capacity(alloc, tours.len())?;
     'tours: for tour in tours {
-        lengths.push(tour_length(c, tour.as_slice()))?;
+        push_length(c, tour, &mut lengths)?;
     }
     Ok(lengths)
+}
+
+/// Adds the length of one list of nodes.
+///
+/// # Errors
+///
+/// Out of memory.
+fn push_length<C: Costs>(c: &C, tour: &[u32], lengths: &mut Vec<i64>) -> Result<(), AllocError>
+    requires range { All (IsNode (C.nodes c.now)) tour.now }
+    requires size { length tour.now ≤ most_tour_nodes }
+    ensures { OnOk result (lengths.new.items
+        ≡ lengths.old.items ++ length_of (C.at c.now) tour.now ∷ []) }
+{
+    lengths.push(tour_length(c, tour))?;
+    Ok(())
 }
