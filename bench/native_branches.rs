@@ -291,11 +291,11 @@ fn steps_of(words: &[i64]) -> Vec<Step> {
 }
 
 /// Goes along the tree: what is decided above each step, by calls at a decision and at its end.
-struct Walk {
+struct Cycle {
     path: Vec<(Pair, bool)>,
 }
 
-impl Walk {
+impl Cycle {
     fn down(&mut self, pair: Pair) {
         self.path.push((pair, true));
     }
@@ -336,11 +336,11 @@ fn is_good(comb: &[Vec<usize>], count: usize) -> bool {
 /// The first branch whose pair is decided above it or fixed.
 fn branch_twice(instance: &Instance, steps: &[Step]) -> Option<usize> {
     let mut decided: HashSet<Pair> = instance.fixed.iter().copied().collect();
-    let mut walk = Walk { path: Vec::new() };
+    let mut cycle = Cycle { path: Vec::new() };
     let mut index = 0;
     for step in steps {
         let Step::Branch(pair) = step else {
-            for pair in walk.back().0 {
+            for pair in cycle.back().0 {
                 decided.remove(&pair);
             }
             continue;
@@ -349,7 +349,7 @@ fn branch_twice(instance: &Instance, steps: &[Step]) -> Option<usize> {
         if !decided.insert(*pair) {
             return Some(index);
         }
-        walk.down(*pair);
+        cycle.down(*pair);
     }
     None
 }
@@ -474,12 +474,12 @@ impl Weights {
 /// The least bound of the leaves.
 fn bound_of(instance: &Instance, certificate: &Certificate) -> i128 {
     let mut weights = Weights::new(instance, certificate.scale);
-    let mut walk = Walk { path: Vec::new() };
+    let mut cycle = Cycle { path: Vec::new() };
     let mut least = i128::MAX;
     for step in &certificate.steps {
         match step {
             Step::Branch(pair) => {
-                walk.down(*pair);
+                cycle.down(*pair);
                 weights.mark(*pair, -MARK);
                 weights.taken += 1;
             }
@@ -488,7 +488,7 @@ fn bound_of(instance: &Instance, certificate: &Certificate) -> i128 {
                     weights.change(*place, *difference, &certificate.combs);
                 }
                 least = least.min(weights.value());
-                let (done, turned) = walk.back();
+                let (done, turned) = cycle.back();
                 for pair in done {
                     weights.mark(pair, -MARK);
                 }

@@ -21,7 +21,7 @@ fn weight(a: usize, b: usize) -> i64 {
     (state.wrapping_mul(6_364_136_223_846_793_005) >> 51) as i64 + 100
 }
 
-fn is_even_block(weights: &[i64], top: usize, left: usize) -> bool {
+fn is_symmetric_block(weights: &[i64], top: usize, left: usize) -> bool {
     for i in top..(top + BLOCK).min(NODES) {
         let row = &weights[i * NODES..(i + 1) * NODES];
         for j in left..(left + BLOCK).min(NODES) {
@@ -33,9 +33,9 @@ fn is_even_block(weights: &[i64], top: usize, left: usize) -> bool {
     true
 }
 
-fn is_even(weights: &[i64]) -> bool {
+fn is_symmetric(weights: &[i64]) -> bool {
     let blocks = || (0..NODES).step_by(BLOCK);
-    blocks().all(|top| blocks().filter(|left| *left >= top).all(|left| is_even_block(weights, top, left)))
+    blocks().all(|top| blocks().filter(|left| *left >= top).all(|left| is_symmetric_block(weights, top, left)))
 }
 
 /// Which places of a row the half has.
@@ -46,7 +46,7 @@ fn part(half: Half, row: usize) -> std::ops::Range<usize> {
 
 #[inline(never)]
 fn to_half(weights: &mut Vec<i64>, half: Half) {
-    assert!(is_even(weights));
+    assert!(is_symmetric(weights));
     assert!(half.diagonal || (0..NODES).all(|node| weights[node * NODES + node] == 0));
     let mut kept = 0;
     for row in 0..NODES {

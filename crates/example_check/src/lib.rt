@@ -7,8 +7,8 @@ ghost use Rattle.example_check.specs.Texts.{IsVerdictOnTexts};
 use std::alloc::{AllocError, Global};
 use thiserror::Error;
 use tsp_cost::Instance;
+use tsp_format::Kind;
 use tsp_read::{ReadFault, read_bytes};
-use tsp_value::Kind;
 use tsp_verdict::{Verdict, judge_tour};
 
 /// Why there is no verdict.

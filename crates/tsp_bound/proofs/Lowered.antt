@@ -5,7 +5,7 @@ use Rattle.std.specs.List.{AllPairs, AllByRecursion}
 use Rattle.std.proofs.lemmas.Bool.{both_ways, cases_eq, eq-eqb, ne_eqb}
 use Rattle.std.proofs.lemmas.Int.{ints}
 use Rattle.std.proofs.lemmas.List.Elements.{recursion_from_All}
-use Rattle.tsp_value.specs.Limits.{most_multiplier}
+use Rattle.tsp_format.specs.Limits.{most_multiplier}
 use Rattle.tsp_theory.specs.Numbers.{IsFromTo}
 use Rattle.tsp_theory.specs.Tree.{IsInner}
 use Rattle.tsp_bound.specs.ByNode.{lowered_by, AreLowerings}

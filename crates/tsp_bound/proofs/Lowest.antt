@@ -6,7 +6,7 @@ use Rattle.std.specs.List.{AllByRecursion}
 use Rattle.std.proofs.lemmas.Bool.{cases_eq}
 use Rattle.std.proofs.lemmas.Int.{ints}
 use Rattle.std.proofs.lemmas.List.Elements.{recursion_from_All}
-use Rattle.tsp_value.specs.Limits.{most_multiplier}
+use Rattle.tsp_format.specs.Limits.{most_multiplier}
 use Rattle.tsp_bound.specs.declared.boxes.Best.{Best}
 use Rattle.tsp_bound.specs.Boxes.{node_at, is_outside, IsFound, IsBest, IsSearched, no_best}
 use Rattle.tsp_bound.specs.ByNode.{lowered_by, AreLowerings}

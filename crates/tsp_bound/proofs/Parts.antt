@@ -3,8 +3,8 @@ use Rattle.std.proofs.Common.{◌≡◌, ℕ, ◌+◌, ◌*◌, ◌^◌, ◌<◌
 use Rattle.std.specs.Prelude.{pos, neg_ℤ, ◌-ℤ◌, slice_index_or}
 use Rattle.std.proofs.lemmas.Int.{ints}
 use Rattle.std.proofs.lemmas.List.{take_more, map-append}
-use Rattle.tsp_value.specs.Limits.{most_nodes}
-use Rattle.tsp_value.specs.Cells.{IsNode}
+use Rattle.tsp_format.specs.Limits.{most_nodes}
+use Rattle.tsp_format.specs.Cells.{IsNode}
 use Rattle.tsp_bound.specs.declared.potentials.Potentials.{Potentials}
 use Rattle.tsp_bound.specs.declared.by_node.ByNode.{ByNode}
 use Rattle.tsp_theory.specs.Adjusted.{numbers_on, adjusted}

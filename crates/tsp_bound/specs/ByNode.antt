@@ -2,9 +2,9 @@
 use Rattle.std.specs.Prelude.{◌≡◌, ◌≢◌, ℕ, ◌+◌, ◌≤◌, ◌==◌, if◌then◌else◌, List, [], ◌∷◌, ◌++◌, length, slice_index_or, ℤ, pos}
 use Rattle.std.specs.Global.{Vec}
 use Rattle.std.specs.List.{All, AllPairs}
-use Rattle.tsp_value.specs.Cells.{IsNode}
-use Rattle.tsp_walk.specs.Length.{sum_int_by}
-use Rattle.tsp_value.specs.Limits.{most_multiplier}
+use Rattle.tsp_format.specs.Cells.{IsNode}
+use Rattle.tsp_theory.specs.Length.{sum_int_by}
+use Rattle.tsp_format.specs.Limits.{most_multiplier}
 use Rattle.tsp_theory.specs.Numbers.{IsFromTo}
 
 -- what a triple says of a node of its pair: the other node, and the number

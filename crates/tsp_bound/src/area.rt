@@ -1,10 +1,10 @@
 //! Regions with nodes in them, and the least potential there.
 
 ghost use Rattle.std.specs.Prelude.{pos, neg_ℤ};
-ghost use Rattle.tsp_value.specs.Limits.{most_potential};
+ghost use Rattle.tsp_format.specs.Limits.{most_potential};
 ghost use Rattle.tsp_theory.specs.Numbers.{IsFromTo};
 
-use tsp_walk::Region;
+use tsp_theory::Region;
 
 /// A region, and a number that is at most the potential of each node in it.
 #[derive(Clone, Copy)]

@@ -1,9 +1,9 @@
-//! The bound of duals on the length of every walk.
+//! The bound of duals on the length of every cycle.
 
 ghost use Rattle.std.specs.Prelude.{◌≡◌, ◌≢◌, ◌↔◌, ℕ, List, ◌≤◌, ◌<◌, length, IsTrue, IfOk, MatchOption, MatchResult, ◌≤ℤ◌, ◌<ℤ◌};
-ghost use Rattle.tsp_value.specs.Cells.{IsNode};
-ghost use Rattle.tsp_walk.specs.Walk.{IsWalk};
-ghost use Rattle.tsp_walk.specs.Length.{length_of};
+ghost use Rattle.tsp_format.specs.Cells.{IsNode};
+ghost use Rattle.tsp_theory.specs.Cycle.{IsCycle};
+ghost use Rattle.tsp_theory.specs.Length.{length_of};
 ghost use Rattle.tsp_theory.specs.Numbers.{IsBoundSized, entry};
 ghost use Rattle.tsp_theory.specs.Assignment.{AreGood, IsFirstBroken, IsDualBound};
 ghost use Rattle.tsp_bound.specs.Duals.{scale_of, rows_of, columns_of, dual_of, scaled};
@@ -11,8 +11,7 @@ ghost use Rattle.tsp_bound.specs.Duals.{scale_of, rows_of, columns_of, dual_of, 
 use crate::duals::Duals;
 use crate::numbers::{least_bound, total};
 use crate::scaled::scaled_cost;
-use tsp_theory::duals_bound_walks;
-use tsp_walk::Costs;
+use tsp_theory::{Costs, duals_bound_cycles};
 
 /// The first pair of different nodes, by rows, whose duals sum to more than the scaled cost.
 #[derive(Clone, Copy, Debug, PartialEq, Eq)]
@@ -24,7 +23,7 @@ pub struct Infeasible {
 /// The least whole number that at the duals' scale is no less than the sum of them all, where row
 /// i and column j sum to at most the cost from i to j for all different nodes.
 ///
-/// With two or more nodes no walk is shorter than it. The costs from a node to itself aren't
+/// With two or more nodes no cycle is shorter than it. The costs from a node to itself aren't
 /// looked at. The caller owes as many duals as nodes. No memory is taken. Source: the dual of the
 /// assignment problem, H. W. Kuhn, The Hungarian method for the assignment problem, 1955.
 ///
@@ -40,15 +39,15 @@ pub fn dual_bound<C: Costs>(c: &C, d: &Duals) -> Result<i128, Infeasible>
         (λ e. IsFirstBroken (C.nodes c.now) (C.at c.now)
         (scale_of d.now) (rows_of d.now) (columns_of d.now) e.i e.j) }
     ensures size { IfOk result IsBoundSized }
-    ensures walks { IfOk result (λ bound. 2 ≤ C.nodes c.now
-        → (nodes : List ℕ) → IsWalk (C.nodes c.now) nodes → bound ≤ℤ length_of (C.at c.now) nodes) }
+    ensures cycles { IfOk result (λ bound. 2 ≤ C.nodes c.now
+        → (nodes : List ℕ) → IsCycle (C.nodes c.now) nodes → bound ≤ℤ length_of (C.at c.now) nodes) }
 {
     'rows: for i in 1..c.count() + 1 {
         if let Some(j) = first_broken_of_row(c, d, i) {
             return Err(Infeasible { i, j });
         }
     }
-    duals_bound_walks();
+    duals_bound_cycles();
     let rows = total(d.rows);
     let columns = total(d.columns);
     Ok(least_bound(d.scale, rows + columns))

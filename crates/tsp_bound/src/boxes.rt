@@ -3,8 +3,8 @@
 ghost use Rattle.std.specs.Prelude.{◌≡◌, ◌≢◌, ◌⊎◌, ◌≤◌, ◌<◌, ◌+◌, ◌*◌, ◌/◌, ◌^◌, ◌≤ℤ◌, ◌+ℤ◌, ◌*ℤ◌, ℕ, ℤ, pos, neg_ℤ, length, List, Bool, Some, IfOk, IfSome};
 ghost use Rattle.std.specs.Bool.{OnTrue};
 ghost use Rattle.tsp_distance.specs.declared.decimal.Point.{Point};
-ghost use Rattle.tsp_value.specs.Cells.{IsNode};
-ghost use Rattle.tsp_value.specs.Limits.{most_scale, most_weight, most_potential};
+ghost use Rattle.tsp_format.specs.Cells.{IsNode};
+ghost use Rattle.tsp_format.specs.Limits.{most_scale, most_weight, most_potential};
 ghost use Rattle.tsp_theory.specs.Numbers.{IsFromTo, IsScale, entry};
 ghost use Rattle.tsp_bound.specs.Potentials.{scale_of, numbers_of, weight_under};
 ghost use Rattle.tsp_bound.specs.Boxes.{HoldsNode, AreHeld, IsRefit, KeepsHeld, IsKnown, IsBoundOf, IsSearched, no_best, node_at, area_at};
@@ -12,7 +12,7 @@ ghost use Rattle.tsp_bound.specs.Boxes.{HoldsNode, AreHeld, IsRefit, KeepsHeld, 
 use crate::area::Area;
 use crate::potentials::Potentials;
 use std::alloc::{AllocError, Global};
-use tsp_walk::Grouped;
+use tsp_theory::Grouped;
 
 /// The nearest place so far, and the weight to its node.
 #[derive(Clone, Copy)]

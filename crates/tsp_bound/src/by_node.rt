@@ -2,7 +2,7 @@
 
 ghost use Rattle.std.specs.Prelude.{◌≡◌, ◌≢◌, ◌-◌, ◌<◌, ◌^◌, [], pos, IfOk};
 ghost use Rattle.std.specs.List.{All, AllPairs};
-ghost use Rattle.tsp_value.specs.Limits.{most_multiplier};
+ghost use Rattle.tsp_format.specs.Limits.{most_multiplier};
 ghost use Rattle.tsp_theory.specs.Numbers.{IsFromTo, IsMultiplier, AreMultipliers};
 ghost use Rattle.tsp_theory.specs.Adjusted.{AreOnPairs};
 ghost use Rattle.tsp_bound.specs.ByNode.{IsTable, lowered_by};
@@ -23,7 +23,7 @@ pub(crate) struct ByNode<'a> {
 
 impl<'a> ByNode<'a> {
     ghost use Rattle.std.specs.Prelude.{ℕ};
-    ghost use Rattle.tsp_value.specs.Cells.{IsNode};
+    ghost use Rattle.tsp_format.specs.Cells.{IsNode};
     ghost use Rattle.tsp_theory.specs.Adjusted.{numbers_on};
     ghost use Rattle.tsp_bound.specs.ByNode.{AreLowerings};
     ghost use Rattle.tsp_bound.specs.Multipliers.{triples_of, triples_in, nodes_in};

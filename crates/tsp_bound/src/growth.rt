@@ -1,8 +1,8 @@
 //! The growth of a tree over the nodes 2..n.
 
 ghost use Rattle.std.specs.Prelude.{◌≡◌, ◌≤◌, ◌+◌, ◌*◌, ◌^◌, ℕ, length, false, IfOk, MatchOption, ◌<ℤ◌, pos, neg_ℤ};
-ghost use Rattle.tsp_value.specs.Cells.{IsNode};
-ghost use Rattle.tsp_value.specs.Limits.{most_nodes};
+ghost use Rattle.tsp_format.specs.Cells.{IsNode};
+ghost use Rattle.tsp_format.specs.Limits.{most_nodes};
 ghost use Rattle.tsp_theory.specs.Numbers.{IsFromTo};
 ghost use Rattle.tsp_theory.specs.Tree.{IsInner, weight_of};
 ghost use Rattle.tsp_bound.specs.ByNode.{AreLowerings};
@@ -13,7 +13,7 @@ ghost use Rattle.tsp_bound.specs.Multipliers.{triples_in, nodes_in, weight_less}
 use crate::by_node::ByNode;
 use crate::potentials::Potentials;
 use std::alloc::{AllocError, Global};
-use tsp_walk::Costs;
+use tsp_theory::Costs;
 
 /// The pairs of a growth, and the sum of their weights.
 #[derive(Drop)]

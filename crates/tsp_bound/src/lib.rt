@@ -1,4 +1,4 @@
-//! Lower bounds on the length of every walk, from certificates that nobody has to trust; hands on the
+//! Lower bounds on the length of every cycle, from certificates that nobody has to trust; hands on the
 //! theorems of `tsp_theory`.
 #![tactic(auto)]
 
@@ -26,7 +26,7 @@ pub use multipliers::Multipliers;
 pub use potentials::Potentials;
 pub use tree::{OneTree, one_tree};
 pub use tsp_theory::{
-    adjusted_bounds_bound_walks, bounds_are_unique, duals_bound_walks, examples_of_duals,
-    examples_of_multipliers, examples_of_numbers, examples_of_trees, least_trees_are_below_walks,
-    node_bounds_bound_walks,
+    adjusted_bounds_bound_cycles, bounds_are_unique, duals_bound_cycles, examples_of_duals,
+    examples_of_multipliers, examples_of_numbers, examples_of_trees, least_trees_are_below_cycles,
+    node_bounds_bound_cycles,
 };

@@ -1,10 +1,10 @@
-//! Multipliers of pairs: the certificate of a bound on the walks that use these pairs.
+//! Multipliers of pairs: the certificate of a bound on the cycles that use these pairs.
 
 ghost use Rattle.std.specs.Prelude.{◌↔◌, IsTrue};
 ghost use Rattle.std.specs.List.{All};
 ghost use Rattle.tsp_theory.specs.Numbers.{IsMultiplier, AreMultipliers};
 
-use tsp_value::{MOST_MULTIPLIER, MOST_MULTIPLIERS};
+use tsp_format::{MOST_MULTIPLIER, MOST_MULTIPLIERS};
 
 /// A number for each of some pairs of nodes, as triples of two nodes and the number.
 #[derive(Clone, Copy, Debug)]

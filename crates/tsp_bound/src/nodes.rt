@@ -1,7 +1,7 @@
 //! Nodes in an order, of which some are outside a part that grows.
 
 ghost use Rattle.std.specs.Prelude.{◌≡◌, ◌<◌, ◌+◌, ◌*◌, ◌^◌, ℕ, length, slice_index_or};
-ghost use Rattle.tsp_value.specs.Cells.{IsNode};
+ghost use Rattle.tsp_format.specs.Cells.{IsNode};
 ghost use Rattle.tsp_bound.specs.Multipliers.{nodes_in};
 ghost use Rattle.tsp_bound.specs.Numbering.{IsNumbering};
 ghost use Rattle.tsp_bound.specs.Potentials.{numbers_of};
@@ -14,7 +14,7 @@ use crate::by_node::ByNode;
 use crate::outside::{Link, Outside};
 use crate::potentials::Potentials;
 use std::alloc::{AllocError, Global};
-use tsp_walk::Grouped;
+use tsp_theory::Grouped;
 
 /// Nodes in an order, and the tree of boxes over those that are outside.
 #[derive(Drop)]

@@ -1,11 +1,11 @@
 //! The numbers of a certificate: their ranges, their sums, and the least bound of a sum.
 
 ghost use Rattle.std.specs.Prelude.{◌≡◌, ◌↔◌, ◌≤◌, ◌*◌, ◌^◌, IsTrue, length, pos, neg_ℤ};
-ghost use Rattle.tsp_value.specs.Limits.{most_nodes, most_potential, most_multipliers, most_multiplier};
+ghost use Rattle.tsp_format.specs.Limits.{most_nodes, most_potential, most_multipliers, most_multiplier};
 ghost use Rattle.tsp_theory.specs.Numbers.{IsFromTo, IsScale, ArePotentials, total, IsLeastBound, IsBoundSized, AreMultipliers};
 ghost use Rattle.tsp_theory.specs.Adjusted.{total_of};
 
-use tsp_value::{MOST_POTENTIAL, MOST_SCALE};
+use tsp_format::{MOST_POTENTIAL, MOST_SCALE};
 
 /// Whether a certificate may have this scale.
 pub(crate) fn is_scale(scale: i64) -> bool

@@ -2,8 +2,8 @@
 
 ghost use Rattle.std.specs.Prelude.{◌≡◌, ◌≤◌, ◌<◌, ◌*◌, ◌^◌, ℕ, ℤ, length, map, pos, neg_ℤ, IfOk};
 ghost use Rattle.std.specs.List.{All};
-ghost use Rattle.tsp_value.specs.Cells.{IsNode};
-ghost use Rattle.tsp_value.specs.Limits.{most_nodes};
+ghost use Rattle.tsp_format.specs.Cells.{IsNode};
+ghost use Rattle.tsp_format.specs.Limits.{most_nodes};
 ghost use Rattle.tsp_bound.specs.Boxes.{node_at};
 ghost use Rattle.tsp_theory.specs.Growth.{IsWholeGrowth, IsPartGrowth};
 ghost use Rattle.tsp_bound.specs.Multipliers.{triples_in, nodes_in, weight_less};
@@ -19,7 +19,7 @@ use crate::nodes::Nodes;
 use crate::numbering::places_in;
 use crate::potentials::Potentials;
 use std::alloc::{AllocError, Global};
-use tsp_walk::{Costs, Grouped};
+use tsp_theory::{Costs, Grouped};
 
 /// Grows a tree over the nodes 2..n from node 2: each pair leads from a node inside to one
 /// outside, and no such pair weighs less.

@@ -4,7 +4,7 @@ ghost use Rattle.tsp_theory.specs.Numbers.{AreNodePotentials};
 
 use crate::numbers::{are_potentials, is_scale};
 use crate::scaled::scaled_cost;
-use tsp_walk::Costs;
+use tsp_theory::Costs;
 
 /// A number for each node, at a scale.
 #[derive(Clone, Copy, Debug)]
@@ -16,7 +16,7 @@ pub struct Potentials<'a> {
 
 impl<'a> Potentials<'a> {
     ghost use Rattle.std.specs.Prelude.{◌≡◌, length, pos, neg_ℤ, MatchOption};
-    ghost use Rattle.tsp_value.specs.Cells.{IsNode};
+    ghost use Rattle.tsp_format.specs.Cells.{IsNode};
     ghost use Rattle.tsp_theory.specs.Numbers.{IsFromTo, entry};
     ghost use Rattle.tsp_bound.specs.Potentials.{scale_of, numbers_of, weight_under};
     ghost use Rattle.tsp_theory.specs.NodeBound.{most_between};

@@ -1,11 +1,11 @@
 //! Costs at the scale of a certificate.
 
 ghost use Rattle.std.specs.Prelude.{◌≡◌, ◌*◌, pos, neg_ℤ, ◌*ℤ◌};
-ghost use Rattle.tsp_value.specs.Cells.{IsNode};
-ghost use Rattle.tsp_value.specs.Limits.{most_scale, most_weight};
+ghost use Rattle.tsp_format.specs.Cells.{IsNode};
+ghost use Rattle.tsp_format.specs.Limits.{most_scale, most_weight};
 ghost use Rattle.tsp_theory.specs.Numbers.{IsFromTo, IsScale};
 
-use tsp_walk::Costs;
+use tsp_theory::Costs;
 
 /// The cost from one node to another, as a count of 1 / scale: at most 10^18 in size.
 #[inline]

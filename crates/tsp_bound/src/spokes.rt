@@ -10,7 +10,7 @@ use crate::by_node::ByNode;
 use crate::growth::reach;
 use crate::potentials::Potentials;
 use std::alloc::{AllocError, Global};
-use tsp_walk::Costs;
+use tsp_theory::Costs;
 
 /// A node of 2..n, and the weight between node 1 and it.
 #[derive(Clone, Copy)]

@@ -1,9 +1,9 @@
-//! Least 1-trees, and their bound on the length of every walk.
+//! Least 1-trees, and their bound on the length of every cycle.
 
 ghost use Rattle.std.specs.Prelude.{◌≡◌, ◌≤◌, ◌+◌, ◌*◌, ◌^◌, ℕ, [], List, length, pos, neg_ℤ, ◌≤ℤ◌, IfOk};
-ghost use Rattle.tsp_value.specs.Limits.{most_nodes};
-ghost use Rattle.tsp_walk.specs.Walk.{IsWalk};
-ghost use Rattle.tsp_walk.specs.Length.{length_of};
+ghost use Rattle.tsp_format.specs.Limits.{most_nodes};
+ghost use Rattle.tsp_theory.specs.Cycle.{IsCycle};
+ghost use Rattle.tsp_theory.specs.Length.{length_of};
 ghost use Rattle.tsp_theory.specs.Numbers.{IsFromTo, IsBoundSized};
 ghost use Rattle.tsp_theory.specs.Tree.{IsOneTree, IsLeastOneTree, weight_of};
 ghost use Rattle.tsp_theory.specs.Growth.{tree_of};
@@ -18,10 +18,9 @@ use crate::part::grow;
 use crate::potentials::Potentials;
 use crate::spokes::two_spokes;
 use std::alloc::{AllocError, Global};
-use tsp_theory::adjusted_bounds_bound_walks;
-use tsp_walk::{Costs, Grouped};
+use tsp_theory::{Costs, Grouped, adjusted_bounds_bound_cycles};
 
-/// A least 1-tree, its weight, and the bound on the length of every walk.
+/// A least 1-tree, its weight, and the bound on the length of every cycle.
 #[derive(Debug, Drop)]
 pub struct OneTree {
     /// The pairs, each with the smaller node first.
@@ -35,13 +34,13 @@ pub struct OneTree {
 
 /// A 1-tree than which none weighs less, where the weight between two nodes is the cost at the
 /// scale of the potentials and the potentials of both, less the multiplier of the pair, and its
-/// bound: no walk that uses each pair with a multiplier, in either direction, is shorter.
+/// bound: no cycle that uses each pair with a multiplier, in either direction, is shorter.
 ///
 /// A 1-tree is a tree over the nodes 2..n and two different edges at node 1. Which of several
 /// least ones is given, and in what order its edges stand, is free. The caller owes three or more
 /// nodes, as many potentials, and multipliers of pairs of these nodes, no two of which are the
 /// same pair, in either direction. With no multipliers the bound is that of the potentials alone,
-/// and no walk is shorter. Source: M. Held and R. M. Karp, The traveling-salesman problem and
+/// and no cycle is shorter. Source: M. Held and R. M. Karp, The traveling-salesman problem and
 /// minimum spanning trees, 1970; the tree is grown as R. C. Prim's, 1957.
 ///
 /// # Errors
@@ -66,7 +65,7 @@ pub fn one_tree<C: Grouped>(
     ensures bound { IfOk result (λ found. IsAdjustedBound (C.nodes c.now) (C.at c.now)
         (scale_of p.now) (numbers_of p.now) (triples_of m.now) [] found.bound) }
     ensures size { IfOk result (λ found. IsBoundSized found.bound) }
-    ensures walks { IfOk result (λ found. (nodes : List ℕ) → IsWalk (C.nodes c.now) nodes
+    ensures cycles { IfOk result (λ found. (nodes : List ℕ) → IsCycle (C.nodes c.now) nodes
         → UsesEach (triples_of m.now) nodes → found.bound ≤ℤ length_of (C.at c.now) nodes) }
 {
     let by_node = ByNode::of(alloc, c.count(), m)?;
@@ -75,7 +74,7 @@ pub fn one_tree<C: Grouped>(
     let potentials = total(p.numbers);
     let multipliers = total_of(m.triples);
     let bound = least_bound(p.scale, found.weight - 2 * potentials + multipliers);
-    adjusted_bounds_bound_walks();
+    adjusted_bounds_bound_cycles();
     Ok(OneTree {
         edges: found.edges,
         weight: found.weight,

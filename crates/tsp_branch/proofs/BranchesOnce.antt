@@ -8,9 +8,9 @@ use Rattle.std.proofs.lemmas.List.{reverse-append, drop_all}
 use Rattle.std.proofs.lemmas.List.Elements.{All-from_recursion}
 use Rattle.std.proofs.lemmas.List.Folds.{list_any-append, list_any_at}
 use Rattle.std.proofs.lemmas.List.Kept.{AllPairs-cons}
-use Rattle.tsp_value.specs.declared.steps.TreeStep.{TreeStep}
-use Rattle.tsp_value.specs.Steps as listed
-use Rattle.tsp_value.specs.Steps.{step_of, steps_of}
+use Rattle.tsp_format.specs.declared.steps.TreeStep.{TreeStep}
+use Rattle.tsp_format.specs.Steps as listed
+use Rattle.tsp_format.specs.Steps.{step_of, steps_of}
 use Rattle.tsp_theory.specs.Adjusted.{is_same_pair}
 use Rattle.tsp_branch.specs.Decisions.{Decision, DecideOnce}
 use Rattle.tsp_branch.specs.Cases.{decide, leaves_of, cases_of, later_cases, open_cases, next_stack}

@@ -6,7 +6,7 @@ use Rattle.std.specs.List.{AllByRecursion}
 use Rattle.std.proofs.Math.IntN.{*ℤ-zero}
 use Rattle.std.proofs.lemmas.Bool.{cases_Bool}
 use Rattle.std.proofs.lemmas.Int.{ints, fits_signed_from_abs}
-use Rattle.tsp_walk.specs.Length.{sum_int_by}
+use Rattle.tsp_theory.specs.Length.{sum_int_by}
 use Rattle.tsp_theory.specs.Numbers.{IsFromTo, total}
 use Rattle.tsp_theory.specs.Tree.{crossing}
 use Rattle.tsp_theory.specs.NodeBound.{most_between}

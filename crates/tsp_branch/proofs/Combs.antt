@@ -1,20 +1,20 @@
--- A walk crosses a comb of k teeth at least 3k + 1 times: each tooth three times, counting what crosses the handle inside it, and in all an even number of times.
+-- A cycle crosses a comb of k teeth at least 3k + 1 times: each tooth three times, counting what crosses the handle inside it, and in all an even number of times.
 use Rattle.std.proofs.Common.{◌≡◌, ℕ, zero, suc, ◌*◌, ◌≤◌, ◌&&◌, Bool, true, false, not, cond, List, [], ◌∷◌, length, ℤ, ◌+ℤ◌, ◌≤ℤ◌, inl, inr, refl, arith, ap}
 use Rattle.std.specs.Prelude.{pos}
 use Rattle.std.specs.List.{AllPairs, AllByRecursion}
 use Rattle.std.proofs.lemmas.Bool.{cases_Bool, both_ways, and_right, and_from, and_parts, false_from_ne_true}
 use Rattle.std.proofs.lemmas.Int.{ints}
 use Rattle.std.proofs.lemmas.List.Elements.{recursion_from_All}
-use Rattle.tsp_value.specs.Cells.{IsNode}
-use Rattle.tsp_walk.specs.Walk.{IsWalk, links}
-use Rattle.tsp_walk.specs.Length.{sum_int_by, length_of}
+use Rattle.tsp_format.specs.Cells.{IsNode}
+use Rattle.tsp_theory.specs.Cycle.{IsCycle, links}
+use Rattle.tsp_theory.specs.Length.{sum_int_by, length_of}
 use Rattle.tsp_theory.specs.Tree.{crosses, crossing}
 use Rattle.tsp_theory.proofs.CostLaws.{Laws}
 use Rattle.tsp_theory.proofs.Adjustments.{sum_zero}
 use Rattle.tsp_theory.proofs.Crossings.{one_if, none_or_one, evenly, twice}
 use Rattle.tsp_theory.proofs.Neighbours.{sum_below}
-use Rattle.tsp_theory.proofs.Walks.{has_node}
-use Rattle.tsp_branch.specs.Combs.{IsTooth, AreApart, WalksCrossCombs}
+use Rattle.tsp_theory.proofs.Cycles.{has_node}
+use Rattle.tsp_branch.specs.Combs.{IsTooth, AreApart, CyclesCrossCombs}
 
 -- 1 where a pair lies in the tooth and crosses the handle, else 0
 abbrev within : (ℕ → Bool) → (ℕ → Bool) → ℕ → ℕ → ℤ
@@ -47,17 +47,17 @@ of_link true true false false = omega (arith, ints)
 abbrev Leaves : ℕ → (ℕ → Bool) → Type 0
 Leaves n tooth = (x : ℕ) × IsNode n x × (tooth x ≡ false)
 
-of_tooth : (n : ℕ) (nodes : List ℕ) (handle tooth : ℕ → Bool) → Laws → IsWalk n nodes → IsTooth n handle tooth → Leaves n tooth
+of_tooth : (n : ℕ) (nodes : List ℕ) (handle tooth : ℕ → Bool) → Laws → IsCycle n nodes → IsTooth n handle tooth → Leaves n tooth
     → pos 3 ≤ℤ (length_of (crossing tooth) nodes +ℤ length_of (within handle tooth) nodes)
-of_tooth n nodes handle tooth laws walk t off =
-    let in_nodes = has_node n nodes t.inside laws walk t.inside_node in
-    let out_nodes = has_node n nodes t.outside laws walk t.outside_node in
+of_tooth n nodes handle tooth laws cycle t off =
+    let in_nodes = has_node n nodes t.inside laws cycle t.inside_node in
+    let out_nodes = has_node n nodes t.outside laws cycle t.outside_node in
     let in_outer : outer handle tooth t.inside ≡ false = and_right (tooth t.inside) (not (handle t.inside)) (ap not t.in_handle) in
     let out_outer : outer handle tooth t.outside ≡ true = and_from (tooth t.outside) (not (handle t.outside)) t.outside_tooth (ap not t.off_handle) in
     let one = twice (inner handle tooth) nodes t.inside t.outside in_nodes out_nodes
     (and_from (tooth t.inside) (handle t.inside) t.inside_tooth t.in_handle) (and_right (tooth t.outside) (handle t.outside) t.off_handle) in
     let two = twice (outer handle tooth) nodes t.outside t.inside out_nodes in_nodes out_outer in_outer in
-    let all = twice tooth nodes t.inside off.0 in_nodes (has_node n nodes off.0 laws walk off.1) t.inside_tooth off.2 in
+    let all = twice tooth nodes t.inside off.0 in_nodes (has_node n nodes off.0 laws cycle off.1) t.inside_tooth off.2 in
     let below = sum_below (λ (link : ℕ × ℕ). crossing (inner handle tooth) link.0 link.1 +ℤ crossing (outer handle tooth) link.0 link.1)
     (λ (link : ℕ × ℕ). crossing tooth link.0 link.1 +ℤ (within handle tooth link.0 link.1 +ℤ within handle tooth link.0 link.1)) (links nodes)
     (λ link. of_link (tooth link.0) (tooth link.1) (handle link.0) (handle link.1)) in
@@ -91,12 +91,12 @@ within_below handle i j (t ∷ ts) apart = elim (cases_Bool (t i && t j)) [
     none [] h k = refl
     none (o ∷ os) h k = omega (arith, ints, ap (λ b. one_if ((b && o j) && crosses handle (i, j))) (k.0 i h), none os h k.1)
 
-teeth_crossed : (n : ℕ) (nodes : List ℕ) (handle : ℕ → Bool) (teeth : List (ℕ → Bool)) → Laws → IsWalk n nodes → AllByRecursion (IsTooth n handle) teeth → AllByRecursion (Leaves n) teeth
+teeth_crossed : (n : ℕ) (nodes : List ℕ) (handle : ℕ → Bool) (teeth : List (ℕ → Bool)) → Laws → IsCycle n nodes → AllByRecursion (IsTooth n handle) teeth → AllByRecursion (Leaves n) teeth
     → pos (3 * length teeth) ≤ℤ (length_of (λ i j. sum_int_by (λ tooth. crossing tooth i j) teeth) nodes +ℤ length_of (λ i j. sum_int_by (λ tooth. within handle tooth i j) teeth) nodes)
-teeth_crossed n nodes handle [] laws walk reach off = omega (arith, ints, sum_zero (links nodes))
-teeth_crossed n nodes handle (t ∷ ts) laws walk reach off =
-    let one = of_tooth n nodes handle t laws walk reach.0 off.0 in
-    let rest = teeth_crossed n nodes handle ts laws walk reach.1 off.1 in
+teeth_crossed n nodes handle [] laws cycle reach off = omega (arith, ints, sum_zero (links nodes))
+teeth_crossed n nodes handle (t ∷ ts) laws cycle reach off =
+    let one = of_tooth n nodes handle t laws cycle reach.0 off.0 in
+    let rest = teeth_crossed n nodes handle ts laws cycle reach.1 off.1 in
     let first = laws.sum (crossing t) (λ i j. sum_int_by (λ tooth. crossing tooth i j) ts) nodes in
     let second = laws.sum (within handle t) (λ i j. sum_int_by (λ tooth. within handle tooth i j) ts) nodes in
     omega (arith, ints, one, rest, first, second)
@@ -124,11 +124,11 @@ teeth_leave n handle (t ∷ u ∷ us) more reach apart =
     others [] x node h apart = tt
     others (o ∷ os) x node h apart = ((x, node, apart.0 x h), others os x node h apart.1)
 
-pub walks_cross_combs : Laws → WalksCrossCombs
-walks_cross_combs laws n comb nodes is walk =
+pub cycles_cross_combs : Laws → CyclesCrossCombs
+cycles_cross_combs laws n comb nodes is cycle =
     let apart = apart_from_pairs comb.teeth is.apart in
     let reach = recursion_from_All (IsTooth n comb.handle) comb.teeth is.reach in
-    let crossed = teeth_crossed n nodes comb.handle comb.teeth laws walk reach (teeth_leave n comb.handle comb.teeth (omega (arith, is.odd, is.some)) reach apart) in
+    let crossed = teeth_crossed n nodes comb.handle comb.teeth laws cycle reach (teeth_leave n comb.handle comb.teeth (omega (arith, is.odd, is.some)) reach apart) in
     let below = sum_below (λ (link : ℕ × ℕ). sum_int_by (λ tooth. within comb.handle tooth link.0 link.1) comb.teeth) (λ (link : ℕ × ℕ). crossing comb.handle link.0 link.1) (links nodes)
     (λ link. within_below comb.handle link.0 link.1 comb.teeth apart) in
     let split = laws.sum (crossing comb.handle) (λ i j. sum_int_by (λ tooth. crossing tooth i j) comb.teeth) nodes in

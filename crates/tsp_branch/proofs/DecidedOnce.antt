@@ -7,7 +7,7 @@ use Rattle.std.proofs.lemmas.Int.{ints}
 use Rattle.std.proofs.lemmas.List.{reverse-append}
 use Rattle.std.proofs.lemmas.List.Elements.{recursion_from_All}
 use Rattle.tsp_theory.specs.Numbers.{IsFromTo}
-use Rattle.tsp_walk.specs.Length.{sum_int_by}
+use Rattle.tsp_theory.specs.Length.{sum_int_by}
 use Rattle.tsp_theory.specs.Adjusted.{is_same_pair}
 use Rattle.tsp_branch.specs.Decisions.{Decision, DecideOnce}
 use Rattle.tsp_branch.specs.Decided.{decided_number, case_of, stack_of, signed, change_of, changes, AreFewChanges}

@@ -1,11 +1,11 @@
--- A walk that keeps decisions uses the taken pairs and none of the avoided.
+-- A cycle that keeps decisions uses the taken pairs and none of the avoided.
 use Rattle.std.proofs.Common.{ℕ, Bool, true, false, List, [], ◌∷◌, map, ℤ}
 use Rattle.std.specs.Prelude.{if◌then◌else◌}
 use Rattle.std.specs.List.{AllByRecursion}
 use Rattle.std.proofs.lemmas.List.Elements.{recursion_from_All, All-from_recursion}
-use Rattle.tsp_walk.specs.Walk.{AreNeighbours}
-use Rattle.tsp_theory.specs.Adjusted.{pair_of, UsesEach, UsesNone, AdjustedBoundsBoundWalks}
-use Rattle.tsp_branch.specs.Decisions.{Decision, KeepsPair, KeepsDecision, KeepsAll, take_pairs, on_taken, on_avoided, DecidedBoundsBoundWalks, FixedBoundsBoundTours}
+use Rattle.tsp_theory.specs.Cycle.{AreNeighbours}
+use Rattle.tsp_theory.specs.Adjusted.{pair_of, UsesEach, UsesNone, AdjustedBoundsBoundCycles}
+use Rattle.tsp_branch.specs.Decisions.{Decision, KeepsPair, KeepsDecision, KeepsAll, take_pairs, on_taken, on_avoided, DecidedBoundsBoundCycles, FixedBoundsBoundTours}
 
 pub takes_each : (nodes : List ℕ) (number : ℤ) (decisions : List Decision) → KeepsAll nodes decisions → UsesEach (on_taken number decisions) nodes
 takes_each nodes number decisions keeps = All-from_recursion Used (on_taken number decisions) (each decisions (recursion_from_All (KeepsDecision nodes) decisions keeps))
@@ -39,14 +39,14 @@ takes_none nodes number decisions keeps = All-from_recursion Unused (on_avoided 
 
 -- ---- the theorems of tsp_theory, in these words
 
-pub decided_bounds_bound_walks : AdjustedBoundsBoundWalks → DecidedBoundsBoundWalks
-decided_bounds_bound_walks bounds n cost scale potentials number decisions bound nodes some even scale_in long is walk keeps =
-    bounds n cost scale potentials (on_taken number decisions) (on_avoided number decisions) bound nodes some even scale_in long is walk
+pub decided_bounds_bound_cycles : AdjustedBoundsBoundCycles → DecidedBoundsBoundCycles
+decided_bounds_bound_cycles bounds n cost scale potentials number decisions bound nodes some even scale_in long is cycle keeps =
+    bounds n cost scale potentials (on_taken number decisions) (on_avoided number decisions) bound nodes some even scale_in long is cycle
     (takes_each nodes number decisions keeps) (takes_none nodes number decisions keeps)
 
-pub fixed_bounds_bound_tours : AdjustedBoundsBoundWalks → FixedBoundsBoundTours
+pub fixed_bounds_bound_tours : AdjustedBoundsBoundCycles → FixedBoundsBoundTours
 fixed_bounds_bound_tours bounds n cost scale potentials fixed bound nodes some even scale_in long is tour =
-    bounds n cost scale potentials fixed [] bound nodes some even scale_in long is tour.walk
+    bounds n cost scale potentials fixed [] bound nodes some even scale_in long is tour.cycle
     (All-from_recursion (λ triple. AreNeighbours nodes (pair_of triple)) fixed (each fixed (recursion_from_All (AreNeighbours nodes) (map pair_of fixed) tour.fixed_used)))
     (All-from_recursion (λ triple. AreNeighbours nodes (pair_of triple) → ⊥) [] tt)
   where

@@ -5,23 +5,23 @@ use Rattle.std.specs.List.{All}
 use Rattle.std.proofs.lemmas.Int.{ints}
 use Rattle.std.proofs.lemmas.List.{get_or-map, length-map, take-append-drop, take-append-le, take_all}
 use Rattle.std.proofs.lemmas.List.Elements.{All-append, All-weaker}
-use Rattle.tsp_value.specs.Cells.{IsNode}
-use Rattle.tsp_value.specs.Limits.{most_potential}
-use Rattle.tsp_value.specs.declared.steps.TreeStep.{TreeStep}
-use Rattle.tsp_value.specs.Steps as listed
-use Rattle.tsp_value.specs.Steps.{step_of, steps_of, are_whole}
-use Rattle.tsp_walk.specs.Costs.{IsEven}
+use Rattle.tsp_format.specs.Cells.{IsNode}
+use Rattle.tsp_format.specs.Limits.{most_potential}
+use Rattle.tsp_format.specs.declared.steps.TreeStep.{TreeStep}
+use Rattle.tsp_format.specs.Steps as listed
+use Rattle.tsp_format.specs.Steps.{step_of, steps_of, are_whole}
+use Rattle.tsp_theory.specs.Costs.{IsSymmetric}
 use Rattle.tsp_theory.specs.Numbers.{IsFromTo, IsScale, IsBoundSized}
 use Rattle.tsp_branch.specs.declared.steps.Judged.{Judged}
 use Rattle.tsp_branch.specs.declared.steps.Judged.TheVariants as judged
 use Rattle.tsp_branch.specs.Combs.{Comb, IsComb}
 use Rattle.tsp_branch.specs.Decisions.{Decision, DecideOnce}
 use Rattle.tsp_branch.specs.Cases.{are_trees, next_stack}
-use Rattle.tsp_branch.specs.Certificate.{IsBoundAt, IsCertificate, IsCertificateBound, CertificatesBoundWalks}
+use Rattle.tsp_branch.specs.Certificate.{IsBoundAt, IsCertificate, IsCertificateBound, CertificatesBoundCycles}
 use Rattle.tsp_branch.specs.Combed.{most_multiplied}
 use Rattle.tsp_branch.specs.Decided.{decided_number, stack_of}
 use Rattle.tsp_branch.specs.Judged.{AreGoodNumbers, numbers_of}
-use Rattle.tsp_branch.specs.Listed.{all_grown, split_at, steps_from, no_numbers_of, listed_steps, IsStepOf, AreSteps, AreGoodFrom, IsFirstBadFrom, IsJudged, BoundsWalks, IsLowest}
+use Rattle.tsp_branch.specs.Listed.{all_grown, split_at, steps_from, no_numbers_of, listed_steps, IsStepOf, AreSteps, AreGoodFrom, IsFirstBadFrom, IsJudged, BoundsCycles, IsLowest}
 use Rattle.tsp_branch.specs.Twice.{AreBranchesJudged}
 use Rattle.tsp_branch.specs.Rooms.{AreSmall, IsJudgedLeaf}
 use Rattle.tsp_branch.proofs.CaseWeights.{small_multipliers}
@@ -171,8 +171,8 @@ low_sized lowest found own own_kept low low_kept before here some same lower kep
 
 -- ---- the whole
 
-pub walks_of : CertificatesBoundWalks → (n : ℕ) (cost : ℕ → ℕ → ℤ) (scale : ℤ) (combs : List Comb) (count : ℕ) (given : List Decision) (steps : List listed.Step) (found : Judged)
-    → 3 ≤ n → IsEven cost → IsScale scale → IsJudged n cost scale combs count given steps found → BoundsWalks n cost given found
-walks_of bounds n cost scale combs count given steps (judged.Bound bound) some even scale_in is = bounds n cost scale decided_number combs given
+pub cycles_of : CertificatesBoundCycles → (n : ℕ) (cost : ℕ → ℕ → ℤ) (scale : ℤ) (combs : List Comb) (count : ℕ) (given : List Decision) (steps : List listed.Step) (found : Judged)
+    → 3 ≤ n → IsSymmetric cost → IsScale scale → IsJudged n cost scale combs count given steps found → BoundsCycles n cost given found
+cycles_of bounds n cost scale combs count given steps (judged.Bound bound) some even scale_in is = bounds n cost scale decided_number combs given
     (listed_steps n count steps) bound some even scale_in is.0 is.1
-walks_of bounds n cost scale combs count given steps (judged.BadLeaf leaf) some even scale_in is = tt
+cycles_of bounds n cost scale combs count given steps (judged.BadLeaf leaf) some even scale_in is = tt

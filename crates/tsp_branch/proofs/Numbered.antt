@@ -9,8 +9,8 @@ use Rattle.std.proofs.lemmas.List.FromFn.{length-range_with_len}
 use Rattle.std.proofs.lemmas.List.Elements.{All-from_recursion, All-contains, All-get_or}
 use Rattle.std.proofs.lemmas.List.Folds.{Any-from_list_any}
 use Rattle.std.proofs.lemmas.List.Kept.{AllPairs-cons}
-use Rattle.tsp_value.specs.Cells.{IsNode}
-use Rattle.tsp_walk.specs.Length.{sum_int_by}
+use Rattle.tsp_format.specs.Cells.{IsNode}
+use Rattle.tsp_theory.specs.Length.{sum_int_by}
 use Rattle.tsp_theory.specs.Tree.{crossing}
 use Rattle.tsp_theory.proofs.Crossings.{one_if}
 use Rattle.tsp_theory.proofs.Neighbours.{count}

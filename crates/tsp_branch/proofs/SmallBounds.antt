@@ -8,8 +8,8 @@ use Rattle.std.proofs.lemmas.Int.{ints}
 use Rattle.std.proofs.lemmas.Bool.{both_ways, or_cases, eqb-true}
 use Rattle.std.proofs.lemmas.List.Elements.{All-nil, All-from_recursion}
 use Rattle.std.proofs.lemmas.List.Kept.{AllPairs-cons}
-use Rattle.tsp_walk.specs.Costs.{IsEven}
-use Rattle.tsp_value.specs.Cells.{IsNode}
+use Rattle.tsp_theory.specs.Costs.{IsSymmetric}
+use Rattle.tsp_format.specs.Cells.{IsNode}
 use Rattle.tsp_theory.specs.Tree.{weight_of}
 use Rattle.tsp_theory.specs.Growth.{tree_of}
 use Rattle.tsp_branch.specs.Combs.{Comb, has, AreApart, IsComb, IsTooth}
@@ -21,7 +21,7 @@ use Rattle.tsp_branch.specs.Examples.{small_comb, cost_in, four_rows, six_rows, 
 use Rattle.tsp_branch.proofs.LeafBounds.{leaf_even}
 use Rattle.tsp_branch.proofs.SmallTrees.{near_one, grows_well, least_tree}
 
-costs_even : (rows : List (List ℕ)) → IsEven (cost_in rows)
+costs_even : (rows : List (List ℕ)) → IsSymmetric (cost_in rows)
 costs_even rows = λ i j other. ap₂ (λ a b. pos (slice_index (slice_index_or rows (a - 1) []) (b - a - 1))) (min_comm i j) (max_comm i j)
 
 -- the bound of a leaf, by a growth that is tested

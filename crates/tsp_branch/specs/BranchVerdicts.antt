@@ -1,6 +1,6 @@
 -- The verdict on a certificate by branching: its bound, or the first reason against it.
 use Rattle.std.specs.Prelude.{ℕ, None, Some, List, ℤ}
-use Rattle.tsp_value.specs.Steps as listed
+use Rattle.tsp_format.specs.Steps as listed
 use Rattle.tsp_theory.specs.Numbers.{IsBoundSized}
 use Rattle.tsp_branch.specs.declared.steps.Judged.{Judged}
 use Rattle.tsp_branch.specs.declared.steps.Judged.TheVariants as judged
@@ -32,12 +32,12 @@ IsBranchVerdict n cost scale combs sets given steps (verdict.BranchTwice branch)
 IsBranchVerdict n cost scale combs sets given steps (verdict.BadLeaf leaf) =
     AreLeavesJudged n cost scale combs sets given steps (judged.BadLeaf leaf)
 
--- A bound is at most the length of every walk that keeps the given decisions.
-abbrev pub VerdictBoundsWalks : ℕ → (ℕ → ℕ → ℤ) → List Decision → BranchVerdict → Type 0
-VerdictBoundsWalks n cost given (verdict.Bound bound) = BoundsCase n cost bound given
-VerdictBoundsWalks n cost given (verdict.BadComb comb) = Unit {0}
-VerdictBoundsWalks n cost given (verdict.BranchTwice branch) = Unit {0}
-VerdictBoundsWalks n cost given (verdict.BadLeaf leaf) = Unit {0}
+-- A bound is at most the length of every cycle that keeps the given decisions.
+abbrev pub VerdictBoundsCycles : ℕ → (ℕ → ℕ → ℤ) → List Decision → BranchVerdict → Type 0
+VerdictBoundsCycles n cost given (verdict.Bound bound) = BoundsCase n cost bound given
+VerdictBoundsCycles n cost given (verdict.BadComb comb) = Unit {0}
+VerdictBoundsCycles n cost given (verdict.BranchTwice branch) = Unit {0}
+VerdictBoundsCycles n cost given (verdict.BadLeaf leaf) = Unit {0}
 
 -- Sums with it fit 128 bits.
 abbrev pub IsSizedVerdict : BranchVerdict → Type 0

@@ -1,8 +1,8 @@
 -- A proof by cases: each step divides the first open case by a pair, or closes it by numbers.
 use Rattle.std.specs.Prelude.{◌≡◌, ℕ, zero, suc, Bool, true, false, if◌then◌else◌, List, [], ◌∷◌, ◌++◌, map, Option, None, Some, ◌⊎◌, ℤ, ◌≤ℤ◌}
 use Rattle.std.specs.List.{All}
-use Rattle.tsp_walk.specs.Walk.{IsWalk}
-use Rattle.tsp_walk.specs.Length.{length_of}
+use Rattle.tsp_theory.specs.Cycle.{IsCycle}
+use Rattle.tsp_theory.specs.Length.{length_of}
 use Rattle.tsp_branch.specs.Decisions.{Decision, KeepsAll}
 
 -- the numbers of a leaf: potentials of the nodes, and multipliers of the combs
@@ -23,11 +23,11 @@ are_trees (suc count) [] = false
 are_trees (suc count) (Branch pair ∷ steps) = are_trees (suc (suc count)) steps
 are_trees (suc count) (Leaf numbers ∷ steps) = are_trees count steps
 
--- a case is a list of decisions, the last one first: it stands for the walks that keep them; a case with one decision more
+-- a case is a list of decisions, the last one first: it stands for the cycles that keep them; a case with one decision more
 abbrev pub decide : ℕ × ℕ → Bool → List Decision → List Decision
 decide pair taken case = record { pair = pair; taken = taken } ∷ case
 
--- Each leaf with its case. A branch puts two cases in the place of the first open one: the walks with the pair, and then those
+-- Each leaf with its case. A branch puts two cases in the place of the first open one: the cycles with the pair, and then those
 -- without.
 abbrev pub leaves_of : List (List Decision) → List Step → List (List Decision × LeafNumbers)
 leaves_of [] steps = []
@@ -40,37 +40,37 @@ cases_of leaves = map (λ leaf. leaf.0) leaves
 
 -- ---- the theorems
 
--- a walk keeps the decisions of one of the cases
+-- a cycle keeps the decisions of one of the cases
 abbrev pub KeepsOne : List ℕ → List (List Decision) → Type 0
 KeepsOne nodes [] = ⊥
 KeepsOne nodes (case ∷ cases) = KeepsAll nodes case ⊎ KeepsOne nodes cases
 
--- Each walk that keeps the given decisions keeps those of a leaf of the tree that begins with them.
-abbrev pub WalksKeepLeaves : Type 0
-WalksKeepLeaves = (given : List Decision) (steps : List Step) (nodes : List ℕ)
+-- Each cycle that keeps the given decisions keeps those of a leaf of the tree that begins with them.
+abbrev pub CyclesKeepLeaves : Type 0
+CyclesKeepLeaves = (given : List Decision) (steps : List Step) (nodes : List ℕ)
     → are_trees 1 steps ≡ true → KeepsAll nodes given → KeepsOne nodes (cases_of (leaves_of (given ∷ []) steps))
 
--- a bound is at most the length of every walk of the case
+-- a bound is at most the length of every cycle of the case
 abbrev pub BoundsCase : ℕ → (ℕ → ℕ → ℤ) → ℤ → List Decision → Type 0
-BoundsCase n cost bound case = (nodes : List ℕ) → IsWalk n nodes → KeepsAll nodes case → bound ≤ℤ length_of cost nodes
+BoundsCase n cost bound case = (nodes : List ℕ) → IsCycle n nodes → KeepsAll nodes case → bound ≤ℤ length_of cost nodes
 
--- So a bound that is at most the length of every walk of each leaf's case is at most the length of every walk that keeps the
+-- So a bound that is at most the length of every cycle of each leaf's case is at most the length of every cycle that keeps the
 -- given decisions.
-abbrev pub CasesBoundWalks : Type 0
-CasesBoundWalks = (n : ℕ) (cost : ℕ → ℕ → ℤ) (bound : ℤ) (given : List Decision) (steps : List Step)
+abbrev pub CasesBoundCycles : Type 0
+CasesBoundCycles = (n : ℕ) (cost : ℕ → ℕ → ℤ) (bound : ℤ) (given : List Decision) (steps : List Step)
     → are_trees 1 steps ≡ true → All (BoundsCase n cost bound) (cases_of (leaves_of (given ∷ []) steps))
     → BoundsCase n cost bound given
 
 -- ---- step by step
 
--- each walk that keeps the given decisions is no shorter than the bound, or is one of an open case
+-- each cycle that keeps the given decisions is no shorter than the bound, or is one of an open case
 abbrev pub BoundsButOpen : ℕ → (ℕ → ℕ → ℤ) → List Decision → ℤ → List (List Decision) → Type 0
 BoundsButOpen n cost given bound cases =
-    (nodes : List ℕ) → IsWalk n nodes → KeepsAll nodes given → (bound ≤ℤ length_of cost nodes) ⊎ KeepsOne nodes cases
+    (nodes : List ℕ) → IsCycle n nodes → KeepsAll nodes given → (bound ≤ℤ length_of cost nodes) ⊎ KeepsOne nodes cases
 
 -- ---- the open cases as a stack of decisions has them, the last one first
 
--- the cases after that of the stack: for each taken pair of it the walks without that pair
+-- the cases after that of the stack: for each taken pair of it the cycles without that pair
 abbrev pub later_cases : List Decision → List Decision → List (List Decision)
 later_cases given [] = []
 later_cases given (decision ∷ stack) =

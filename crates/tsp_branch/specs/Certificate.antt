@@ -1,9 +1,9 @@
 -- A certificate by branching: combs, and a tree of cases with numbers at its leaves.
 use Rattle.std.specs.Prelude.{◌≡◌, ℕ, ◌≤◌, true, false, List, [], ◌∷◌, length, ℤ, pos, ◌≤ℤ◌}
 use Rattle.std.specs.List.{All, Any}
-use Rattle.tsp_walk.specs.Costs.{IsEven}
-use Rattle.tsp_walk.specs.Length.{length_of}
-use Rattle.tsp_walk.specs.Tour.{IsTour}
+use Rattle.tsp_theory.specs.Costs.{IsSymmetric}
+use Rattle.tsp_theory.specs.Length.{length_of}
+use Rattle.tsp_theory.specs.Tour.{IsTour}
 use Rattle.tsp_theory.specs.Numbers.{IsScale}
 use Rattle.tsp_branch.specs.Combs.{Comb, IsComb}
 use Rattle.tsp_branch.specs.Decisions.{Decision, take_pairs, on_taken, on_avoided}
@@ -40,17 +40,17 @@ pub record IsCertificateBound (n : ℕ) (cost : ℕ → ℕ → ℤ) (scale numb
       (leaves_of (given ∷ []) steps)
   pub reached : Any (λ leaf. IsBoundAt n cost scale number combs leaf bound) (leaves_of (given ∷ []) steps)
 
--- It is at most the length of every walk that keeps the given decisions.
-abbrev pub CertificatesBoundWalks : Type 0
-CertificatesBoundWalks = (n : ℕ) (cost : ℕ → ℕ → ℤ) (scale number : ℤ) (combs : List Comb) (given : List Decision)
-    (steps : List Step) (bound : ℤ) → 3 ≤ n → IsEven cost → IsScale scale → IsCertificate n combs given steps
+-- It is at most the length of every cycle that keeps the given decisions.
+abbrev pub CertificatesBoundCycles : Type 0
+CertificatesBoundCycles = (n : ℕ) (cost : ℕ → ℕ → ℤ) (scale number : ℤ) (combs : List Comb) (given : List Decision)
+    (steps : List Step) (bound : ℤ) → 3 ≤ n → IsSymmetric cost → IsScale scale → IsCertificate n combs given steps
     → IsCertificateBound n cost scale number combs given steps bound → BoundsCase n cost bound given
 
 -- Where the fixed pairs are given, it is at most the length of every tour.
 abbrev pub CertificatesBoundTours : Type 0
 CertificatesBoundTours = (n : ℕ) (cost : ℕ → ℕ → ℤ) (scale number : ℤ) (combs : List Comb) (fixed : List (ℕ × ℕ))
     (steps : List Step) (bound : ℤ) (nodes : List ℕ)
-    → 3 ≤ n → IsEven cost → IsScale scale → IsCertificate n combs (take_pairs fixed) steps
+    → 3 ≤ n → IsSymmetric cost → IsScale scale → IsCertificate n combs (take_pairs fixed) steps
     → IsCertificateBound n cost scale number combs (take_pairs fixed) steps bound
     → IsTour false n fixed nodes → bound ≤ℤ length_of cost nodes
 

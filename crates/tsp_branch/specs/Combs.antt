@@ -1,10 +1,10 @@
--- Combs: parts of the nodes that every walk crosses often.
+-- Combs: parts of the nodes that every cycle crosses often.
 -- Source: M. Grötschel and M. W. Padberg, On the symmetric travelling salesman problem, 1979.
 use Rattle.std.specs.Prelude.{◌≡◌, ℕ, ◌+◌, ◌*◌, ◌<◌, ◌≤◌, ◌==◌, map, Bool, true, false, if◌then◌else◌, List, length, slice_index_or, ℤ, pos, ◌+ℤ◌, ◌≤ℤ◌}
 use Rattle.std.specs.List.{All, AllPairs, list_any, range_with_len}
-use Rattle.tsp_value.specs.Cells.{IsNode}
-use Rattle.tsp_walk.specs.Walk.{IsWalk}
-use Rattle.tsp_walk.specs.Length.{sum_int_by, length_of}
+use Rattle.tsp_format.specs.Cells.{IsNode}
+use Rattle.tsp_theory.specs.Cycle.{IsCycle}
+use Rattle.tsp_theory.specs.Length.{sum_int_by, length_of}
 use Rattle.tsp_theory.specs.Tree.{crossing}
 
 -- a part of the nodes, the handle, and parts that reach into it, the teeth
@@ -39,14 +39,14 @@ pub record IsComb (n : ℕ) (comb : Comb) : Type 0 where
 abbrev pub crossings : Comb → ℕ → ℕ → ℤ
 crossings comb i j = crossing comb.handle i j +ℤ sum_int_by (λ tooth. crossing tooth i j) comb.teeth
 
--- how often a walk crosses them at the least
+-- how often a cycle crosses them at the least
 abbrev pub least_crossings : Comb → ℤ
 least_crossings comb = pos (3 * length comb.teeth + 1)
 
--- Each walk crosses the parts of a comb of k teeth at least 3k + 1 times.
-abbrev pub WalksCrossCombs : Type 0
-WalksCrossCombs = (n : ℕ) (comb : Comb) (nodes : List ℕ)
-    → IsComb n comb → IsWalk n nodes → least_crossings comb ≤ℤ length_of (crossings comb) nodes
+-- Each cycle crosses the parts of a comb of k teeth at least 3k + 1 times.
+abbrev pub CyclesCrossCombs : Type 0
+CyclesCrossCombs = (n : ℕ) (comb : Comb) (nodes : List ℕ)
+    → IsComb n comb → IsCycle n nodes → least_crossings comb ≤ℤ length_of (crossings comb) nodes
 
 -- ---- combs by lists of nodes
 

@@ -1,8 +1,8 @@
 -- Decisions as code has them: two nodes, and whether the pair is taken. Each changes the weight of its pair by the same number.
 use Rattle.std.specs.Prelude.{◌≡◌, ◌≢◌, ℕ, Bool, true, false, if◌then◌else◌, List, [], map, reverse, Some, None, ℤ, pos, neg_ℤ, ◌+ℤ◌, ◌⊎◌}
 use Rattle.std.specs.Int.{w64, int_wrap}
-use Rattle.tsp_value.specs.Cells.{IsNode}
-use Rattle.tsp_walk.specs.Length.{sum_int_by}
+use Rattle.tsp_format.specs.Cells.{IsNode}
+use Rattle.tsp_theory.specs.Length.{sum_int_by}
 use Rattle.tsp_theory.specs.Numbers.{IsFromTo}
 use Rattle.tsp_theory.specs.Adjusted.{is_same_pair, adjusted}
 use Rattle.tsp_branch.specs.Decisions.{Decision, on_taken, on_avoided}

@@ -1,14 +1,14 @@
--- Decisions: pairs that a walk uses, and pairs that it doesn't.
+-- Decisions: pairs that a cycle uses, and pairs that it doesn't.
 use Rattle.std.specs.Prelude.{ℕ, ◌≤◌, ◌≡◌, Bool, true, false, if◌then◌else◌, List, [], ◌∷◌, length, map, ℤ, ◌≤ℤ◌}
 use Rattle.std.specs.List.{All, AllPairs}
-use Rattle.tsp_walk.specs.Costs.{IsEven}
-use Rattle.tsp_walk.specs.Walk.{IsWalk, AreNeighbours}
-use Rattle.tsp_walk.specs.Length.{length_of}
-use Rattle.tsp_walk.specs.Tour.{IsTour}
+use Rattle.tsp_theory.specs.Costs.{IsSymmetric}
+use Rattle.tsp_theory.specs.Cycle.{IsCycle, AreNeighbours}
+use Rattle.tsp_theory.specs.Length.{length_of}
+use Rattle.tsp_theory.specs.Tour.{IsTour}
 use Rattle.tsp_theory.specs.Numbers.{IsScale}
 use Rattle.tsp_theory.specs.Adjusted.{pair_of, is_same_pair, IsAdjustedBound}
 
--- two nodes, and whether a walk is to use them as neighbours
+-- two nodes, and whether a cycle is to use them as neighbours
 pub record Decision : Type 0 where
   pub pair : ℕ × ℕ
   pub taken : Bool
@@ -17,7 +17,7 @@ abbrev pub KeepsPair : List ℕ → Bool → ℕ × ℕ → Type 0
 KeepsPair nodes true pair = AreNeighbours nodes pair
 KeepsPair nodes false pair = AreNeighbours nodes pair → ⊥
 
--- a walk keeps a decision: the two nodes are neighbours on it, in either direction, exactly if the pair is taken
+-- a cycle keeps a decision: the two nodes are neighbours on it, in either direction, exactly if the pair is taken
 abbrev pub KeepsDecision : List ℕ → Decision → Type 0
 KeepsDecision nodes decision = KeepsPair nodes decision.taken decision.pair
 
@@ -50,16 +50,16 @@ on_avoided number (decision ∷ decisions) =
 
 -- ---- the theorems, which are those of tsp_theory
 
--- The bound of potentials and decisions is at most the length of every walk that keeps these.
-abbrev pub DecidedBoundsBoundWalks : Type 0
-DecidedBoundsBoundWalks = (n : ℕ) (cost : ℕ → ℕ → ℤ) (scale : ℤ) (potentials : List ℤ) (number : ℤ) (decisions : List Decision)
-    (bound : ℤ) (nodes : List ℕ) → 3 ≤ n → IsEven cost → IsScale scale → length potentials ≡ n
+-- The bound of potentials and decisions is at most the length of every cycle that keeps these.
+abbrev pub DecidedBoundsBoundCycles : Type 0
+DecidedBoundsBoundCycles = (n : ℕ) (cost : ℕ → ℕ → ℤ) (scale : ℤ) (potentials : List ℤ) (number : ℤ) (decisions : List Decision)
+    (bound : ℤ) (nodes : List ℕ) → 3 ≤ n → IsSymmetric cost → IsScale scale → length potentials ≡ n
     → IsAdjustedBound n cost scale potentials (on_taken number decisions) (on_avoided number decisions) bound
-    → IsWalk n nodes → KeepsAll nodes decisions → bound ≤ℤ length_of cost nodes
+    → IsCycle n nodes → KeepsAll nodes decisions → bound ≤ℤ length_of cost nodes
 
 -- The bound of potentials and of numbers on fixed pairs is at most the length of every tour.
 abbrev pub FixedBoundsBoundTours : Type 0
 FixedBoundsBoundTours = (n : ℕ) (cost : ℕ → ℕ → ℤ) (scale : ℤ) (potentials : List ℤ) (fixed : List (ℕ × ℕ × ℤ)) (bound : ℤ)
-    (nodes : List ℕ) → 3 ≤ n → IsEven cost → IsScale scale → length potentials ≡ n
+    (nodes : List ℕ) → 3 ≤ n → IsSymmetric cost → IsScale scale → length potentials ≡ n
     → IsAdjustedBound n cost scale potentials fixed [] bound → IsTour false n (map pair_of fixed) nodes
     → bound ≤ℤ length_of cost nodes

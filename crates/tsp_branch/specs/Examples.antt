@@ -1,6 +1,6 @@
 -- A small comb, small costs and small trees on which the definitions are evaluated.
 use Rattle.std.specs.Prelude.{◌≡◌, ℕ, ◌-◌, true, false, List, [], ◌∷◌, replicate, min, max, slice_index, slice_index_or, ℤ, pos}
-use Rattle.tsp_walk.specs.Length.{length_of}
+use Rattle.tsp_theory.specs.Length.{length_of}
 use Rattle.tsp_branch.specs.Combs.{Comb, comb_of, crossings}
 use Rattle.tsp_branch.specs.Decisions.{Decision, on_taken, on_avoided}
 use Rattle.tsp_branch.specs.LeafBound.{leaf_weight}

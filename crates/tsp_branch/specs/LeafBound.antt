@@ -1,9 +1,9 @@
 -- The bound of potentials, of numbers on pairs, and of combs: what the crossings of combs add to that of tsp_theory.
 use Rattle.std.specs.Prelude.{◌≡◌, ℕ, ◌≤◌, List, [], length, ℤ, pos, ◌+ℤ◌, ◌-ℤ◌, ◌*ℤ◌, ◌≤ℤ◌}
 use Rattle.std.specs.List.{All}
-use Rattle.tsp_walk.specs.Costs.{IsEven}
-use Rattle.tsp_walk.specs.Walk.{IsWalk}
-use Rattle.tsp_walk.specs.Length.{sum_int_by, length_of}
+use Rattle.tsp_theory.specs.Costs.{IsSymmetric}
+use Rattle.tsp_theory.specs.Cycle.{IsCycle}
+use Rattle.tsp_theory.specs.Length.{sum_int_by, length_of}
 use Rattle.tsp_theory.specs.Numbers.{IsScale, total, IsLeastBound}
 use Rattle.tsp_theory.specs.Tree.{weight_of, IsLeastOneTree}
 use Rattle.tsp_theory.specs.NodeBound.{weight_between}
@@ -14,7 +14,7 @@ use Rattle.tsp_branch.specs.Combs.{Comb, IsComb, crossings, least_crossings}
 abbrev pub AreMultiplied : ℕ → List (Comb × ℤ) → Type 0
 AreMultiplied n combs = All (λ multiplied. IsComb n multiplied.0 × (pos 0 ≤ℤ multiplied.1)) combs
 
--- the crossings of two nodes, each times the multiplier of its comb; the same of the least crossings of a walk
+-- the crossings of two nodes, each times the multiplier of its comb; the same of the least crossings of a cycle
 abbrev pub crossings_of : List (Comb × ℤ) → ℕ → ℕ → ℤ
 crossings_of combs i j = sum_int_by (λ multiplied. multiplied.1 *ℤ crossings multiplied.0 i j) combs
 
@@ -32,7 +32,7 @@ leaf_weight scale potentials taken avoided combs cost =
     combed combs (adjusted taken avoided (weight_between scale potentials cost))
 
 -- the bound of a 1-tree of this weight: each potential is taken off twice, and what the numbers of taken pairs and the combs take
--- off every walk is given back
+-- off every cycle is given back
 abbrev pub IsLeafBoundOf : ℤ → List ℤ → List (ℕ × ℕ × ℤ) → List (Comb × ℤ) → ℤ → ℤ → Type 0
 IsLeafBoundOf scale potentials taken combs weight bound =
     IsLeastBound scale (((weight -ℤ (pos 2 *ℤ total potentials)) +ℤ total_of taken) +ℤ least_of combs) bound
@@ -45,13 +45,13 @@ pub record IsLeafBound (n : ℕ) (cost : ℕ → ℕ → ℤ) (scale : ℤ) (pot
   pub bound_is : IsLeafBoundOf scale potentials taken combs
       (weight_of (leaf_weight scale potentials taken avoided combs cost) tree) bound
 
--- It is at most the length of every walk that uses the taken pairs and none of the avoided.
-abbrev pub LeafBoundsBoundWalks : Type 0
-LeafBoundsBoundWalks = (n : ℕ) (cost : ℕ → ℕ → ℤ) (scale : ℤ) (potentials : List ℤ) (taken avoided : List (ℕ × ℕ × ℤ))
+-- It is at most the length of every cycle that uses the taken pairs and none of the avoided.
+abbrev pub LeafBoundsBoundCycles : Type 0
+LeafBoundsBoundCycles = (n : ℕ) (cost : ℕ → ℕ → ℤ) (scale : ℤ) (potentials : List ℤ) (taken avoided : List (ℕ × ℕ × ℤ))
     (combs : List (Comb × ℤ)) (bound : ℤ) (nodes : List ℕ)
-    → 3 ≤ n → IsEven cost → IsScale scale → length potentials ≡ n → AreMultiplied n combs
+    → 3 ≤ n → IsSymmetric cost → IsScale scale → length potentials ≡ n → AreMultiplied n combs
     → IsLeafBound n cost scale potentials taken avoided combs bound
-    → IsWalk n nodes → UsesEach taken nodes → UsesNone avoided nodes → bound ≤ℤ length_of cost nodes
+    → IsCycle n nodes → UsesEach taken nodes → UsesNone avoided nodes → bound ≤ℤ length_of cost nodes
 
 -- With no comb it is the bound of tsp_theory.
 abbrev pub UncombedBoundsAreAdjustedBounds : Type 0

@@ -1,8 +1,8 @@
 -- A certificate as it is listed: each leaf by what changes since the leaf before it.
 use Rattle.std.specs.Prelude.{◌≡◌, ◌≢◌, ℕ, suc, ◌+◌, ◌-◌, ◌^◌, ◌<◌, length, true, List, [], ◌∷◌, take, drop, replicate, slice_set, Option, Some, IfSome, ◌⊎◌, ℤ, pos, ◌+ℤ◌, ◌≤ℤ◌}
 use Rattle.std.specs.List.{All}
-use Rattle.tsp_value.specs.Cells.{IsNode}
-use Rattle.tsp_value.specs.Steps as listed
+use Rattle.tsp_format.specs.Cells.{IsNode}
+use Rattle.tsp_format.specs.Steps as listed
 use Rattle.tsp_theory.specs.Numbers.{entry, IsBoundSized}
 use Rattle.tsp_branch.specs.declared.steps.Judged.{Judged}
 use Rattle.tsp_branch.specs.declared.steps.Judged.TheVariants as judged
@@ -79,10 +79,10 @@ IsJudged n cost scale combs count given steps (judged.Bound bound) = IsCertifica
     × AreGoodFrom n count (no_numbers_of n count) steps
 IsJudged n cost scale combs count given steps (judged.BadLeaf leaf) = IsFirstBadFrom n count (no_numbers_of n count) 0 steps leaf
 
--- Then the bound is at most the length of every walk that keeps the given decisions.
-abbrev pub BoundsWalks : ℕ → (ℕ → ℕ → ℤ) → List Decision → Judged → Type 0
-BoundsWalks n cost given (judged.Bound bound) = BoundsCase n cost bound given
-BoundsWalks n cost given (judged.BadLeaf leaf) = Unit {0}
+-- Then the bound is at most the length of every cycle that keeps the given decisions.
+abbrev pub BoundsCycles : ℕ → (ℕ → ℕ → ℤ) → List Decision → Judged → Type 0
+BoundsCycles n cost given (judged.Bound bound) = BoundsCase n cost bound given
+BoundsCycles n cost given (judged.BadLeaf leaf) = Unit {0}
 
 -- Sums with it fit 128 bits.
 abbrev pub IsSized : Judged → Type 0

@@ -3,8 +3,8 @@ use Rattle.std.specs.Prelude.{◌≡◌, ℕ, suc, ◌==◌, ◌+◌, ◌++◌, 
 use Rattle.std.specs.Int.{w64, int_wrap}
 use Rattle.std.specs.Global.{Vec}
 use Rattle.std.specs.List.{All}
-use Rattle.tsp_value.specs.Cells.{IsNode}
-use Rattle.tsp_walk.specs.Length.{sum_int_by}
+use Rattle.tsp_format.specs.Cells.{IsNode}
+use Rattle.tsp_theory.specs.Length.{sum_int_by}
 
 -- a value as it was, where nothing is added; else what is left of the sum in 64 bits
 abbrev pub IsMoved : ℤ → ℤ → ℤ → Type 0

@@ -1,7 +1,7 @@
 -- Costs that were looked up once, row by row.
 use Rattle.std.specs.Prelude.{◌≡◌, ℕ, ◌+◌, ◌<◌, List, length, slice_index_or, ℤ}
 use Rattle.std.specs.Global.{Vec}
-use Rattle.tsp_walk.specs.Costs.{IsCostRow}
+use Rattle.tsp_theory.specs.Costs.{IsCostRow}
 
 -- the row of a node, with a place for 0 and for each node
 pub record IsKeptRow (n : ℕ) (cost : ℕ → ℤ) (row : List ℤ) : Type 0 where

@@ -1,7 +1,7 @@
 -- Which branch comes twice: on a pair that is decided above it.
 use Rattle.std.specs.Prelude.{◌≡◌, ℕ, suc, Bool, true, false, List, [], ◌∷◌, Option, None, Some, ◌⊎◌}
 use Rattle.std.specs.List.{All, list_any}
-use Rattle.tsp_value.specs.Steps as listed
+use Rattle.tsp_format.specs.Steps as listed
 use Rattle.tsp_theory.specs.Adjusted.{is_same_pair}
 use Rattle.tsp_branch.specs.Decisions.{Decision, DecideOnce}
 use Rattle.tsp_branch.specs.Cases.{decide, leaves_of, cases_of}

@@ -1,6 +1,6 @@
 -- Small combs that are bad, and small trees with a branch that comes twice.
 use Rattle.std.specs.Prelude.{ℕ, List, [], ◌∷◌, ℤ}
-use Rattle.tsp_value.specs.Steps as listed
+use Rattle.tsp_format.specs.Steps as listed
 use Rattle.tsp_branch.specs.Decisions.{Decision}
 use Rattle.tsp_branch.specs.GoodCombs.{IsGoodComb}
 use Rattle.tsp_branch.specs.Twice.{IsFirstTwiceFrom}

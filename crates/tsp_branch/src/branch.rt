@@ -2,7 +2,7 @@
 
 ghost use Rattle.std.specs.Prelude.{◌≡◌, ◌≢◌, ◌≤◌, ◌<◌, ◌^◌, ◌++◌, length, IfOk, IfSome};
 ghost use Rattle.std.specs.List.{All, AllPairs};
-ghost use Rattle.tsp_value.specs.Steps.{steps_of};
+ghost use Rattle.tsp_format.specs.Steps.{steps_of};
 ghost use Rattle.tsp_theory.specs.Numbers.{IsScale, IsBoundSized};
 ghost use Rattle.tsp_branch.specs.Combs.{IsComb};
 ghost use Rattle.tsp_branch.specs.Decisions.{DecideOnce};
@@ -10,11 +10,11 @@ ghost use Rattle.tsp_branch.specs.Sets.{AreSetsOf};
 ghost use Rattle.tsp_branch.specs.Combed.{plain};
 ghost use Rattle.tsp_branch.specs.CombsOfSets.{combs_of};
 ghost use Rattle.tsp_branch.specs.Decided.{IsDecision, case_of, stack_of};
-ghost use Rattle.tsp_branch.specs.Listed.{no_numbers_of, listed_steps, AreSteps, IsJudged, BoundsWalks, IsSized, IsLowest};
+ghost use Rattle.tsp_branch.specs.Listed.{no_numbers_of, listed_steps, AreSteps, IsJudged, BoundsCycles, IsSized, IsLowest};
 ghost use Rattle.tsp_branch.specs.Rooms.{IsRoom, AreSmall, IsJudgedLeaf};
 
 use crate::judge::judge;
-use crate::laws::certificates_bound_walks;
+use crate::laws::certificates_bound_cycles;
 use crate::numbers::add_differences;
 use crate::room::Room;
 use crate::sets::sets_by_node;
@@ -22,11 +22,11 @@ use crate::setting::Setting;
 use crate::stack::next_case;
 use crate::steps::Judged;
 use std::alloc::{AllocError, Global};
-use tsp_value::TreeStep;
-use tsp_walk::Symmetric;
+use tsp_format::TreeStep;
+use tsp_theory::Symmetric;
 
 /// The bound of a tree of cases: the least of the bounds of its leaves, which is at most the length
-/// of every walk that keeps the given decisions. Or the first leaf that isn't good: one with an
+/// of every cycle that keeps the given decisions. Or the first leaf that isn't good: one with an
 /// index past those of the nodes and the combs, with a potential above 10^15 in size, with a
 /// negative multiplier, or with multipliers that sum to more than 3 * 10^17.
 ///
@@ -61,10 +61,10 @@ pub fn branch_bound<C: Symmetric>(
         (listed_steps (C.nodes costs.now) combs (steps_of steps.now)) }
     ensures judged { IfOk result (IsJudged (C.nodes costs.now) (C.at costs.now) scale
         (combs_of combs (plain sets.now)) combs (case_of given.now) (steps_of steps.now)) }
-    ensures walks { IfOk result (BoundsWalks (C.nodes costs.now) (C.at costs.now) (case_of given.now)) }
+    ensures cycles { IfOk result (BoundsCycles (C.nodes costs.now) (C.at costs.now) (case_of given.now)) }
     ensures size { IfOk result IsSized }
 {
-    certificates_bound_walks();
+    certificates_bound_cycles();
     let count = costs.count();
     let by_node = sets_by_node(alloc, count, sets)?;
     let room = Room::new(alloc, count as usize, combs)?;

@@ -2,7 +2,7 @@
 
 ghost use Rattle.std.specs.Prelude.{◌≡◌, ◌+◌, ◌+ℤ◌, ℕ, length, neg_ℤ};
 ghost use Rattle.std.specs.Int.{w64, int_wrap};
-ghost use Rattle.tsp_value.specs.Cells.{IsNode};
+ghost use Rattle.tsp_format.specs.Cells.{IsNode};
 ghost use Rattle.tsp_theory.specs.Numbers.{IsFromTo, IsScale, ArePotentials, entry};
 ghost use Rattle.tsp_theory.specs.Growth.{least_at};
 ghost use Rattle.tsp_branch.specs.Sets.{IsMoved, IsSetTable, AreSetsOf};
@@ -12,7 +12,7 @@ use crate::add_sets::add_sets;
 use crate::growth::weight_in;
 use crate::scaled::scale_row;
 use crate::weights::Weights;
-use tsp_walk::Costs;
+use tsp_theory::Costs;
 
 /// Costs, a scale, potentials, and sets of nodes with the multipliers of their combs.
 ///
@@ -45,7 +45,7 @@ pub struct CombedWeights<'a, C: Costs> {
 impl<'a, C: Costs> CombedWeights<'a, C> {
     ghost use Rattle.std.specs.Prelude.{◌≡◌, ◌+◌, ◌+ℤ◌, ℕ, length, pos, neg_ℤ};
     ghost use Rattle.std.specs.Int.{w64, int_wrap};
-    ghost use Rattle.tsp_value.specs.Cells.{IsNode};
+    ghost use Rattle.tsp_format.specs.Cells.{IsNode};
     ghost use Rattle.tsp_theory.specs.Numbers.{IsFromTo, IsScale, ArePotentials, entry};
     ghost use Rattle.tsp_theory.specs.Tree.{IsInner};
     ghost use Rattle.tsp_theory.specs.Growth.{least_at};

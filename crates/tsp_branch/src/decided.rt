@@ -10,7 +10,7 @@ ghost use Rattle.tsp_branch.specs.Decided.{IsDecision, IsChanged, AreFewChanges,
 use crate::combed::CombedWeights;
 use crate::growth::weight_in;
 use crate::weights::Weights;
-use tsp_walk::Costs;
+use tsp_theory::Costs;
 
 /// The number on each decided pair. It cancels in the bound: any number would be sound, and this
 /// one is far above all other parts of a weight and lets weights fit 64 bits.
@@ -35,7 +35,7 @@ impl<'a, C: Costs> DecidedWeights<'a, C> {
     ghost use Rattle.tsp_branch.specs.Combed.{plain, set_weight};
     ghost use Rattle.tsp_branch.specs.Decided.{IsDecision, AreFewChanges, decided_twice};
 
-    /// The weights under decisions: two nodes, and whether a walk is to use them as neighbours.
+    /// The weights under decisions: two nodes, and whether a cycle is to use them as neighbours.
     ///
     /// The caller owes pairs of different nodes, no two of which are the same pair.
     pub fn of(

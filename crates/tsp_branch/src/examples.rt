@@ -6,8 +6,8 @@ ghost use Rattle.tsp_branch.specs.Cases.{Branch, Leaf};
 ghost use Rattle.tsp_branch.specs.Examples.{small_comb, Crosses, CrossesInAll, large, no_numbers, one_at_two, WeighsAt, WeighsUnderComb, four_rows, six_rows, LengthIs, FourHave, SixHave, IsTreeOf, IsNoTree, with_pair, without_pair};
 ghost use Rattle.tsp_branch.specs.VerdictExamples.{IsBadComb, three_teeth, TwiceAt, branches, branches_apart, on_both_sides};
 
-/// How often some nodes cross the parts of a comb, and how often two walks do: the first one as
-/// often as each walk does at the least.
+/// How often some nodes cross the parts of a comb, and how often two cycles do: the first one as
+/// often as each cycle does at the least.
 pub fn examples_of_crossings()
     ensures least { least_crossings small_comb ≡ pos 10 }
     ensures itself { Crosses 1 1 0 }
@@ -19,8 +19,8 @@ pub fn examples_of_crossings()
     ensures outside_all { Crosses 7 8 0 }
     ensures handle_and_tooth { Crosses 1 7 2 }
     ensures tooth_alone { Crosses 4 7 1 }
-    ensures best_walk { CrossesInAll (1 ∷ 2 ∷ 3 ∷ 6 ∷ 5 ∷ 4 ∷ []) 10 }
-    ensures other_walk { CrossesInAll (1 ∷ 2 ∷ 3 ∷ 4 ∷ 5 ∷ 6 ∷ []) 14 }
+    ensures best_cycle { CrossesInAll (1 ∷ 2 ∷ 3 ∷ 6 ∷ 5 ∷ 4 ∷ []) 10 }
+    ensures other_cycle { CrossesInAll (1 ∷ 2 ∷ 3 ∷ 4 ∷ 5 ∷ 6 ∷ []) 14 }
 {}
 
 /// What some pairs weigh at the leaves of two certificates.

@@ -2,7 +2,7 @@
 
 ghost use Rattle.std.specs.Prelude.{◌≡◌, ◌<◌, ◌^◌, ◌++◌, ℕ, length, pos, neg_ℤ};
 ghost use Rattle.std.specs.List.{All};
-ghost use Rattle.tsp_walk.specs.Length.{sum_int_by};
+ghost use Rattle.tsp_theory.specs.Length.{sum_int_by};
 ghost use Rattle.tsp_theory.specs.Numbers.{IsFromTo, total};
 ghost use Rattle.tsp_theory.specs.Adjusted.{total_of};
 ghost use Rattle.tsp_branch.specs.Combs.{IsComb};

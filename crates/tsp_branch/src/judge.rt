@@ -5,7 +5,7 @@ ghost use Rattle.tsp_branch.specs.Judged.{AreGoodNumbers, numbers_of};
 
 use crate::given_back::total;
 use crate::numbers::copy_within;
-use tsp_value::MOST_POTENTIAL;
+use tsp_format::MOST_POTENTIAL;
 
 /// What the multipliers of all combs of a leaf sum to at most.
 const MOST_MULTIPLIED: i64 = 300_000_000_000_000_000;

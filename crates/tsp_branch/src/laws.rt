@@ -1,38 +1,39 @@
 //! What always holds of bounds by branching, as contracts of functions that do nothing.
 
 ghost use Rattle.std.specs.Prelude.{ℕ, ℤ, List, [], ◌∷◌, ◌≤ℤ◌, true, false};
-ghost use Rattle.tsp_branch.specs.Combs.{WalksCrossCombs, NumbersTellCombs, NumbersTellLists};
-ghost use Rattle.tsp_branch.specs.Decisions.{Decision, DecidedBoundsBoundWalks, FixedBoundsBoundTours};
-ghost use Rattle.tsp_branch.specs.LeafBound.{LeafBoundsBoundWalks, UncombedBoundsAreAdjustedBounds};
-ghost use Rattle.tsp_branch.specs.Cases.{decide, BoundsCase, BoundsButOpen, WalksKeepLeaves, CasesBoundWalks, StacksBegin, StacksBranch, StacksHoldCases};
-ghost use Rattle.tsp_branch.specs.Certificate.{CertificatesBoundWalks, CertificatesBoundTours, CertificateBoundsAreUnique};
+ghost use Rattle.tsp_branch.specs.Combs.{CyclesCrossCombs, NumbersTellCombs, NumbersTellLists};
+ghost use Rattle.tsp_branch.specs.Decisions.{Decision, DecidedBoundsBoundCycles, FixedBoundsBoundTours};
+ghost use Rattle.tsp_branch.specs.LeafBound.{LeafBoundsBoundCycles, UncombedBoundsAreAdjustedBounds};
+ghost use Rattle.tsp_branch.specs.Cases.{decide, BoundsCase, BoundsButOpen, CyclesKeepLeaves, CasesBoundCycles, StacksBegin, StacksBranch, StacksHoldCases};
+ghost use Rattle.tsp_branch.specs.Certificate.{CertificatesBoundCycles, CertificatesBoundTours, CertificateBoundsAreUnique};
 ghost use Rattle.tsp_branch.specs.CombsOfSets.{SetsTellCombs, SetsGiveLeaves};
 
-use tsp_theory::adjusted_bounds_bound_walks;
-use tsp_walk::{lengths_add_up, walks_are_permutations, walks_have_no_loops};
+use tsp_theory::{
+    adjusted_bounds_bound_cycles, cycles_are_permutations, cycles_have_no_loops, lengths_add_up,
+};
 
-/// The bound of potentials and decisions is at most the length of every walk that keeps the
+/// The bound of potentials and decisions is at most the length of every cycle that keeps the
 /// decisions.
-pub fn decided_bounds_bound_walks()
-    ensures { DecidedBoundsBoundWalks }
+pub fn decided_bounds_bound_cycles()
+    ensures { DecidedBoundsBoundCycles }
 {
-    adjusted_bounds_bound_walks();
+    adjusted_bounds_bound_cycles();
 }
 
 /// The bound of potentials and of numbers on fixed pairs is at most the length of every tour.
 pub fn fixed_bounds_bound_tours()
     ensures { FixedBoundsBoundTours }
 {
-    adjusted_bounds_bound_walks();
+    adjusted_bounds_bound_cycles();
 }
 
-/// Each walk crosses a comb of k teeth at least 3k + 1 times.
-pub fn walks_cross_combs()
-    ensures { WalksCrossCombs }
+/// Each cycle crosses a comb of k teeth at least 3k + 1 times.
+pub fn cycles_cross_combs()
+    ensures { CyclesCrossCombs }
 {
-    walks_are_permutations();
+    cycles_are_permutations();
     lengths_add_up();
-    walks_have_no_loops();
+    cycles_have_no_loops();
 }
 
 /// Where each node has the number of its tooth, these numbers give a comb, and tell how many of its
@@ -53,30 +54,30 @@ pub fn sets_tell_combs()
     ensures leaves { SetsGiveLeaves }
 {}
 
-/// The bound of potentials, of numbers on pairs and of combs is at most the length of every walk
+/// The bound of potentials, of numbers on pairs and of combs is at most the length of every cycle
 /// that uses each taken pair and no avoided one. With no comb it is the bound of tsp_theory.
-pub fn leaf_bounds_bound_walks()
-    ensures walks { LeafBoundsBoundWalks }
+pub fn leaf_bounds_bound_cycles()
+    ensures cycles { LeafBoundsBoundCycles }
     ensures uncombed { UncombedBoundsAreAdjustedBounds }
 {
-    walks_are_permutations();
+    cycles_are_permutations();
     lengths_add_up();
-    walks_have_no_loops();
-    walks_cross_combs();
+    cycles_have_no_loops();
+    cycles_cross_combs();
 }
 
-/// Each walk that keeps the given decisions keeps those of a leaf.
-pub fn walks_keep_leaves()
-    ensures { WalksKeepLeaves }
+/// Each cycle that keeps the given decisions keeps those of a leaf.
+pub fn cycles_keep_leaves()
+    ensures { CyclesKeepLeaves }
 {}
 
-/// A bound that is at most the length of every walk of each leaf's case is at most the length of
-/// every walk that keeps the given decisions.
-pub fn cases_bound_walks()
-    ensures { CasesBoundWalks }
+/// A bound that is at most the length of every cycle of each leaf's case is at most the length of
+/// every cycle that keeps the given decisions.
+pub fn cases_bound_cycles()
+    ensures { CasesBoundCycles }
 {}
 
-/// How a bound of all walks but those of the open cases goes from step to step.
+/// How a bound of all cycles but those of the open cases goes from step to step.
 pub fn steps_leave_cases()
     ensures start { (n : ℕ) (cost : ℕ → ℕ → ℤ) (given : List Decision) (bound : ℤ)
         → BoundsButOpen n cost given bound (given ∷ []) }
@@ -100,14 +101,14 @@ pub fn stacks_hold_cases()
     ensures leaf { StacksHoldCases }
 {}
 
-/// The bound of a certificate is at most the length of every walk that keeps the given decisions,
+/// The bound of a certificate is at most the length of every cycle that keeps the given decisions,
 /// and of every tour where the fixed pairs are given.
-pub fn certificates_bound_walks()
-    ensures walks { CertificatesBoundWalks }
+pub fn certificates_bound_cycles()
+    ensures cycles { CertificatesBoundCycles }
     ensures tours { CertificatesBoundTours }
 {
-    leaf_bounds_bound_walks();
-    cases_bound_walks();
+    leaf_bounds_bound_cycles();
+    cases_bound_cycles();
 }
 
 /// A certificate has one bound, whichever least 1-trees are found.

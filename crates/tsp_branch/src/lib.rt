@@ -38,10 +38,10 @@ pub use examples::{
 };
 pub use good_combs::first_bad_comb;
 pub use laws::{
-    cases_bound_walks, certificate_bounds_are_unique, certificates_bound_walks,
-    decided_bounds_bound_walks, fixed_bounds_bound_tours, leaf_bounds_bound_walks,
-    numbers_tell_combs, numbers_tell_lists, sets_tell_combs, stacks_hold_cases, steps_leave_cases,
-    walks_cross_combs, walks_keep_leaves,
+    cases_bound_cycles, certificate_bounds_are_unique, certificates_bound_cycles,
+    cycles_cross_combs, cycles_keep_leaves, decided_bounds_bound_cycles, fixed_bounds_bound_tours,
+    leaf_bounds_bound_cycles, numbers_tell_combs, numbers_tell_lists, sets_tell_combs,
+    stacks_hold_cases, steps_leave_cases,
 };
 pub use leaf::leaf_bound;
 pub use stack::next_case;

@@ -3,7 +3,7 @@
 ghost use Rattle.std.specs.Prelude.{◌≡◌, ◌<◌, ◌+◌, ◌+ℤ◌, ℕ, length, neg_ℤ};
 ghost use Rattle.std.specs.Int.{w64, int_wrap};
 ghost use Rattle.std.specs.List.{All};
-ghost use Rattle.tsp_value.specs.Cells.{IsNode};
+ghost use Rattle.tsp_format.specs.Cells.{IsNode};
 ghost use Rattle.tsp_theory.specs.Numbers.{entry};
 ghost use Rattle.tsp_theory.specs.Growth.{least_at};
 ghost use Rattle.tsp_branch.specs.Sets.{IsMoved, AreSetsOf};

@@ -2,7 +2,7 @@
 
 ghost use Rattle.std.specs.Prelude.{◌≡◌, ◌≤◌, ◌<◌, ℕ, length, pos, neg_ℤ, ◌+ℤ◌, ◌*ℤ◌};
 ghost use Rattle.std.specs.Int.{w64, int_wrap};
-ghost use Rattle.tsp_value.specs.Limits.{most_weight};
+ghost use Rattle.tsp_format.specs.Limits.{most_weight};
 ghost use Rattle.tsp_theory.specs.Numbers.{IsFromTo, IsScale};
 ghost use Rattle.tsp_theory.specs.Growth.{least_at};
 

@@ -12,7 +12,7 @@ use crate::given_back::given_back;
 use crate::leaf::leaf_bound;
 use crate::moved::fill_moved;
 use std::alloc::{AllocError, Global};
-use tsp_walk::Symmetric;
+use tsp_theory::Symmetric;
 
 /// Costs, a scale, so many combs by their sets, each with the number of its comb, by node the
 /// numbers of its sets, and the decisions that are given for all leaves.

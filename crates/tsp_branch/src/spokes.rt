@@ -1,7 +1,7 @@
 //! The two pairs at node 1.
 
 ghost use Rattle.std.specs.Prelude.{◌≡◌, ◌≤◌, ◌<◌, ◌+◌, ◌-◌, ◌^◌, length};
-ghost use Rattle.tsp_value.specs.Limits.{most_nodes};
+ghost use Rattle.tsp_format.specs.Limits.{most_nodes};
 ghost use Rattle.tsp_theory.specs.Growth.{AreNearest, least_at};
 
 use crate::growth::weight_in;

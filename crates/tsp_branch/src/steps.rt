@@ -3,7 +3,7 @@
 /// What is judged of a certificate.
 #[derive(Drop)]
 pub enum Judged {
-    /// The bound: no walk that keeps the given decisions is shorter.
+    /// The bound: no cycle that keeps the given decisions is shorter.
     Bound(i128),
     /// The first leaf that isn't good, counted from 1.
     BadLeaf(usize),
@@ -12,7 +12,7 @@ pub enum Judged {
 /// The verdict on a certificate by branching.
 #[derive(Drop)]
 pub enum BranchVerdict {
-    /// The bound: no walk that keeps the given decisions is shorter.
+    /// The bound: no cycle that keeps the given decisions is shorter.
     Bound(i128),
     /// The first comb that isn't one, counted from 1.
     BadComb(usize),

@@ -1,12 +1,12 @@
 //! Costs that were looked up once.
 
 ghost use Rattle.std.specs.Prelude.{◌≡◌, ◌≤◌, IfOk};
-ghost use Rattle.tsp_value.specs.Cells.{IsNode};
-ghost use Rattle.tsp_value.specs.Limits.{most_nodes};
+ghost use Rattle.tsp_format.specs.Cells.{IsNode};
+ghost use Rattle.tsp_format.specs.Limits.{most_nodes};
 ghost use Rattle.tsp_branch.specs.Tabled.{IsKeptRow, AreCostRows};
 
 use std::alloc::{AllocError, Global};
-use tsp_walk::{Costs, Symmetric};
+use tsp_theory::{Costs, Symmetric};
 
 /// Costs that were looked up once, and are kept for each pair of nodes: for trees with many leaves,
 /// each of which goes over all of them.

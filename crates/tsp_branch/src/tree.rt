@@ -1,7 +1,7 @@
 //! Least 1-trees under weights that are told by rows.
 
 ghost use Rattle.std.specs.Prelude.{◌≡◌, ◌≤◌, ◌+◌, ◌*◌, ◌^◌, ℕ, List, length, pos, neg_ℤ, IfOk};
-ghost use Rattle.tsp_value.specs.Limits.{most_nodes};
+ghost use Rattle.tsp_format.specs.Limits.{most_nodes};
 ghost use Rattle.tsp_theory.specs.Numbers.{IsFromTo};
 ghost use Rattle.tsp_branch.specs.Weighed.{IsLeastWeight};
 

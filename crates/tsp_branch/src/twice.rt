@@ -1,7 +1,7 @@
 //! Which branch comes twice.
 
 ghost use Rattle.std.specs.Prelude.{◌≡◌, ◌++◌, IfOk};
-ghost use Rattle.tsp_value.specs.Steps.{steps_of};
+ghost use Rattle.tsp_format.specs.Steps.{steps_of};
 ghost use Rattle.tsp_theory.specs.Adjusted.{is_same_pair};
 ghost use Rattle.tsp_branch.specs.Decisions.{DecideOnce};
 ghost use Rattle.tsp_branch.specs.Decided.{case_of, stack_of};
@@ -9,7 +9,7 @@ ghost use Rattle.tsp_branch.specs.Twice.{is_decided, AreBranchesJudged};
 
 use crate::stack::next_case;
 use std::alloc::{AllocError, Global};
-use tsp_value::TreeStep;
+use tsp_format::TreeStep;
 
 /// The first branch on a pair that is decided above it or given, counted from 1. `None` where each
 /// case decides a pair at most once. A pair is the same in either order of its nodes.

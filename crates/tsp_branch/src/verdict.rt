@@ -2,7 +2,7 @@
 
 ghost use Rattle.std.specs.Prelude.{◌≡◌, ◌≤◌, ◌<◌, ◌^◌, length, true, IfOk};
 ghost use Rattle.std.specs.List.{All};
-ghost use Rattle.tsp_value.specs.Steps.{steps_of, are_whole};
+ghost use Rattle.tsp_format.specs.Steps.{steps_of, are_whole};
 ghost use Rattle.tsp_theory.specs.Numbers.{IsScale};
 ghost use Rattle.tsp_branch.specs.Decisions.{DecideOnce};
 ghost use Rattle.tsp_branch.specs.Sets.{AreSetsOf};
@@ -10,19 +10,19 @@ ghost use Rattle.tsp_branch.specs.Combed.{plain};
 ghost use Rattle.tsp_branch.specs.Decided.{IsDecision, case_of};
 ghost use Rattle.tsp_branch.specs.Listed.{IsStepOf};
 ghost use Rattle.tsp_branch.specs.GoodCombs.{AreInOrder};
-ghost use Rattle.tsp_branch.specs.BranchVerdicts.{IsBranchVerdict, VerdictBoundsWalks, IsSizedVerdict};
+ghost use Rattle.tsp_branch.specs.BranchVerdicts.{IsBranchVerdict, VerdictBoundsCycles, IsSizedVerdict};
 
 use crate::branch::branch_bound;
 use crate::good_combs::first_bad_comb;
 use crate::steps::{BranchVerdict, Judged};
 use crate::twice::first_twice;
 use std::alloc::{AllocError, Global};
-use tsp_value::TreeStep;
-use tsp_walk::Symmetric;
+use tsp_format::TreeStep;
+use tsp_theory::Symmetric;
 
 /// The verdict on a certificate by branching: the first comb that isn't one, or the first branch on
 /// a pair that is decided above it or given, or the first leaf that isn't good, or, where there is
-/// none of these, the bound. It is at most the length of every walk that keeps the given decisions,
+/// none of these, the bound. It is at most the length of every cycle that keeps the given decisions,
 /// and sums with it fit 128 bits.
 ///
 /// The combs are told by their sets, each with the number of its comb from 0 on, comb by comb, the
@@ -57,7 +57,7 @@ pub fn judge_branches<C: Symmetric>(
     requires whole { are_whole 1 (steps_of steps.now) ≡ true }
     ensures verdict { IfOk result (IsBranchVerdict (C.nodes costs.now) (C.at costs.now) scale combs (plain sets.now)
         (case_of given.now) (steps_of steps.now)) }
-    ensures walks { IfOk result (VerdictBoundsWalks (C.nodes costs.now) (C.at costs.now) (case_of given.now)) }
+    ensures cycles { IfOk result (VerdictBoundsCycles (C.nodes costs.now) (C.at costs.now) (case_of given.now)) }
     ensures size { IfOk result IsSizedVerdict }
 {
     if let Some(comb) = first_bad_comb(alloc, costs.count(), combs, sets)? {

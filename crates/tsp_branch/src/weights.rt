@@ -1,8 +1,8 @@
 //! What holds of the weights of pairs of nodes, however they are made.
 
 ghost use Rattle.std.specs.Prelude.{◌≡◌, ◌≤◌, ◌+◌, ℕ, ℤ, length, ◌<ℤ◌};
-ghost use Rattle.tsp_value.specs.Cells.{IsNode};
-ghost use Rattle.tsp_value.specs.Limits.{most_nodes};
+ghost use Rattle.tsp_format.specs.Cells.{IsNode};
+ghost use Rattle.tsp_format.specs.Limits.{most_nodes};
 ghost use Rattle.tsp_theory.specs.Tree.{IsInner};
 ghost use Rattle.tsp_theory.specs.Growth.{least_at};
 

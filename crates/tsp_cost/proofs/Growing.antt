@@ -5,8 +5,8 @@ use Rattle.std.proofs.lemmas.Int.{ints}
 use Rattle.tsp_distance.specs.declared.decimal.Point.{Point}
 use Rattle.tsp_distance.specs.Distances.{across, along, above, euc_2d_of, ceil_2d_of, man_2d_of, max_2d_of, att_of, euc_3d_of, man_3d_of, max_3d_of}
 use Rattle.tsp_distance.specs.Monotone.{IsMonotone}
-use Rattle.tsp_value.specs.declared.kinds.WeightKind.{WeightKind}
-use Rattle.tsp_value.specs.declared.kinds.WeightKind.TheVariants.{Explicit, Euc2d, Euc3d, Ceil2d, Man2d, Man3d, Max2d, Max3d, Att}
+use Rattle.tsp_format.specs.declared.kinds.WeightKind.{WeightKind}
+use Rattle.tsp_format.specs.declared.kinds.WeightKind.TheVariants.{Explicit, Euc2d, Euc3d, Ceil2d, Man2d, Man3d, Max2d, Max3d, Att}
 use Rattle.tsp_file.specs.Cost.{distance}
 
 whole-le : (m n : ℕ) → m ≤ n → pos m ≤ℤ pos n

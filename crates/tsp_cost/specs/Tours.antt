@@ -1,9 +1,9 @@
--- The tours of an instance: walks that use every fixed pair. Source: TSPLIB 95 (G. Reinelt), FIXED_EDGES_SECTION.
+-- The tours of an instance: cycles that use every fixed pair. Source: TSPLIB 95 (G. Reinelt), FIXED_EDGES_SECTION.
 use Rattle.std.specs.Prelude.{ℕ, Bool, true, false, List, [], Option, None, Some, unwrap_or}
-use Rattle.tsp_value.specs.declared.kinds.Kind.{Kind}
-use Rattle.tsp_value.specs.declared.kinds.Kind.TheVariants.{Tsp, Atsp, Cvrp, Tour, Potentials, Branches}
-use Rattle.tsp_fields.specs.Fields.{Fields}
-use Rattle.tsp_walk.specs.Tour.{IsTour}
+use Rattle.tsp_format.specs.declared.kinds.Kind.{Kind}
+use Rattle.tsp_format.specs.declared.kinds.Kind.TheVariants.{Tsp, Atsp, Cvrp, Tour, Potentials, Branches}
+use Rattle.tsp_draft.specs.Fields.{Fields}
+use Rattle.tsp_theory.specs.Tour.{IsTour}
 
 -- whether pairs have a direction
 abbrev pub is_directed : Option Kind → Bool

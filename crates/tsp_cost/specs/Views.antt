@@ -2,10 +2,10 @@
 use Rattle.std.specs.Prelude.{◌≡◌, ◌≢◌, ℕ, true, false, length, map, Some, ℤ}
 use Rattle.tsp_distance.specs.declared.decimal.Point.{Point}
 use Rattle.tsp_distance.specs.Distances.{on_plane}
-use Rattle.tsp_value.specs.declared.layout.Layout.TheVariants.{FullMatrix}
-use Rattle.tsp_value.specs.declared.kinds.WeightFormat.TheVariants.{Listed}
-use Rattle.tsp_fields.specs.Fields.{Fields}
-use Rattle.tsp_fields.specs.Rules.{is_explicit}
+use Rattle.tsp_format.specs.declared.layout.Layout.TheVariants.{FullMatrix}
+use Rattle.tsp_format.specs.declared.kinds.WeightFormat.TheVariants.{Listed}
+use Rattle.tsp_draft.specs.Fields.{Fields}
+use Rattle.tsp_draft.specs.Rules.{is_explicit}
 use Rattle.tsp_file.specs.Cost.{listed_cost, distance, point_of, cost}
 use Rattle.tsp_cost.specs.declared.points.Points.{Points}
 use Rattle.tsp_cost.specs.declared.matrix.Matrix.{Matrix}

@@ -4,7 +4,7 @@ ghost use Rattle.std.specs.Prelude.{◌<◌, ◌≤◌, ◌^◌, length};
 
 use std::alloc::{AllocError, Global};
 use tsp_distance::{Decimal, InSpace, Point};
-use tsp_walk::Region;
+use tsp_theory::Region;
 
 /// How many cells a grid has along each axis.
 const CELLS: u64 = 65536;

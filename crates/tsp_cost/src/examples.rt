@@ -2,12 +2,12 @@
 //! that is changed together with its code is refused by its examples.
 
 ghost use Rattle.std.specs.Prelude.{[], ◌∷◌};
-ghost use Rattle.tsp_value.specs.declared.kinds.Kind.TheVariants as kinds;
-ghost use Rattle.tsp_walk.specs.Examples.{three, four};
+ghost use Rattle.tsp_format.specs.declared.kinds.Kind.TheVariants as kinds;
+ghost use Rattle.tsp_theory.specs.CycleExamples.{three, four};
 ghost use Rattle.tsp_cost.specs.Tours.{IsTourOf};
 ghost use Rattle.tsp_cost.specs.Examples.{with_fixed};
 
-/// Which walks use a fixed pair: under ATSP from its first to its second node, else either way.
+/// Which cycles use a fixed pair: under ATSP from its first to its second node, else either way.
 pub fn examples_of_tours()
     ensures arc { IsTourOf (with_fixed kinds.Atsp 3 ((2, 1) ∷ [])) (three 1 3 2) }
     ensures arc_in_reverse { ¬ IsTourOf (with_fixed kinds.Atsp 3 ((2, 1) ∷ [])) (three 1 2 3) }

@@ -2,7 +2,7 @@
 
 ghost use Rattle.std.specs.Prelude.{unwrap_or};
 ghost use Rattle.tsp_file.specs.Cost.{cost};
-ghost use Rattle.tsp_walk.specs.Costs.{FindsUneven};
+ghost use Rattle.tsp_theory.specs.Costs.{FindsAsymmetric};
 
 use crate::fault::CostFault;
 use crate::matrix::Matrix;
@@ -10,10 +10,10 @@ use crate::points::Points;
 use crate::triangle::Triangle;
 use crate::view::View;
 use std::marker::Model;
-use tsp_fields::{Coords, valid_fields_are_in_range, valid_files_are_complete};
+use tsp_draft::{Coords, valid_fields_are_in_range, valid_files_are_complete};
 use tsp_file::File;
-use tsp_value::{Kind, Layout, WeightFormat, WeightKind};
-use tsp_walk::Costs;
+use tsp_format::{Kind, Layout, WeightFormat, WeightKind};
+use tsp_theory::Costs;
 
 /// A valid file of TYPE TSP, ATSP or CVRP, with the costs between its nodes.
 #[derive(Debug, Drop)]
@@ -23,8 +23,8 @@ pub struct Instance {
 
 impl Model for Instance {
     ghost use Rattle.std.specs.Prelude.{IsTrue};
-    ghost use Rattle.tsp_fields.specs.Fields.{Fields};
-    ghost use Rattle.tsp_fields.specs.Rules.{is_instance};
+    ghost use Rattle.tsp_draft.specs.Fields.{Fields};
+    ghost use Rattle.tsp_draft.specs.Rules.{is_instance};
 
     ghost Value = { Fields };
 
@@ -35,8 +35,8 @@ impl Model for Instance {
 
 impl Instance {
     ghost use Rattle.std.specs.Prelude.{◌≡◌, ◌≢◌, false, Some, IsTrue, MatchResult};
-    ghost use Rattle.tsp_fields.specs.Rules.{is_instance};
-    ghost use Rattle.tsp_value.specs.declared.kinds.WeightKind.TheVariants.{Explicit};
+    ghost use Rattle.tsp_draft.specs.Rules.{is_instance};
+    ghost use Rattle.tsp_format.specs.declared.kinds.WeightKind.TheVariants.{Explicit};
     ghost use Rattle.tsp_cost.specs.declared.fault.CostFault.TheVariants.{NotInstance};
     ghost use Rattle.tsp_file.specs.Listed.{IsListed};
     ghost use Rattle.tsp_cost.specs.Views.{Shows};
@@ -186,10 +186,10 @@ impl Costs for Instance {
 ///
 /// Costs from a node to itself aren't compared. No pair is looked at under a distance or a triangle.
 pub fn symmetric_fault(inst: &Instance) -> Option<(u32, u32)>
-    ensures { FindsUneven (unwrap_or inst.now.dimension 0) (cost inst.now) result }
+    ensures { FindsAsymmetric (unwrap_or inst.now.dimension 0) (cost inst.now) result }
 {
     match inst.view() {
-        View::Matrix(matrix) => matrix.first_uneven(),
+        View::Matrix(matrix) => matrix.first_asymmetric(),
         View::Plane(_) | View::Space(_) | View::Triangle(_) => None,
     }
 }

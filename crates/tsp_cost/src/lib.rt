@@ -1,4 +1,4 @@
-//! Costs between the nodes of an instance, and the lengths of tours; hands on the names of `tsp_walk`.
+//! Costs between the nodes of an instance, and the lengths of tours; hands on the names of `tsp_theory`.
 #![tactic(auto)]
 
 mod curve;
@@ -17,8 +17,8 @@ pub use instance::{Instance, symmetric_fault};
 pub use matrix::{EvenMatrix, Matrix};
 pub use points::Points;
 pub use triangle::Triangle;
-pub use tsp_walk::{
-    Costs, Grouped, Region, Symmetric, canonical_length, examples_of_walks, lengths_add_up,
-    tour_length, trace_tours, walks_are_permutations, walks_have_no_loops,
+pub use tsp_theory::{
+    Costs, Grouped, Region, Symmetric, canonical_length, cycles_are_permutations,
+    cycles_have_no_loops, examples_of_cycles, lengths_add_up, tour_length, trace_tours,
 };
 pub use view::View;

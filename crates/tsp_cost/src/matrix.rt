@@ -2,15 +2,15 @@
 
 ghost use Rattle.std.specs.Prelude.{◌≡◌, ◌≤◌, length};
 ghost use Rattle.std.specs.List.{All};
-ghost use Rattle.tsp_value.specs.declared.layout.Layout.TheVariants.{FullMatrix};
-ghost use Rattle.tsp_value.specs.Cells.{cells};
-ghost use Rattle.tsp_value.specs.Limits.{most_matrix_nodes, most_weight};
-ghost use Rattle.tsp_fields.specs.Valid.{IsWithin};
+ghost use Rattle.tsp_format.specs.declared.layout.Layout.TheVariants.{FullMatrix};
+ghost use Rattle.tsp_format.specs.Cells.{cells};
+ghost use Rattle.tsp_format.specs.Limits.{most_matrix_nodes, most_weight};
+ghost use Rattle.tsp_draft.specs.Valid.{IsWithin};
 ghost use Rattle.tsp_file.specs.Cost.{listed_cost};
-ghost use Rattle.tsp_walk.specs.Costs.{IsEven};
+ghost use Rattle.tsp_theory.specs.Costs.{IsSymmetric};
 
-use tsp_value::{Layout, cells_are_the_listed_pairs, only_cells_have_places};
-use tsp_walk::{Costs, Symmetric};
+use tsp_format::{Layout, cells_are_the_listed_pairs, only_cells_have_places};
+use tsp_theory::{Costs, Symmetric};
 
 /// How many rows and columns a block of cells has, which with its mirrored block stays in the cache.
 const BLOCK: u32 = 64;
@@ -30,13 +30,13 @@ pub struct Matrix<'a> {
 #[derive(Clone, Copy, Debug)]
 pub struct EvenMatrix<'a> {
     matrix: Matrix<'a>,
-    ghost even: { IsEven (λ i j. listed_cost FullMatrix matrix.nodes matrix.weights.now i j) },
+    ghost even: { IsSymmetric (λ i j. listed_cost FullMatrix matrix.nodes matrix.weights.now i j) },
 }
 
 impl<'a> Matrix<'a> {
     ghost use Rattle.std.specs.Prelude.{ℕ, ◌<◌, ◌+◌, ◌*◌, ◌≢◌, ◌↔◌, IsTrue, MatchResult, MatchOption};
-    ghost use Rattle.tsp_value.specs.Cells.{IsNode};
-    ghost use Rattle.tsp_walk.specs.Costs.{IsFirstUneven, FindsUneven};
+    ghost use Rattle.tsp_format.specs.Cells.{IsNode};
+    ghost use Rattle.tsp_theory.specs.Costs.{IsFirstAsymmetric, FindsAsymmetric};
     ghost use Rattle.tsp_cost.specs.Views.{matrix_nodes, matrix_cost, even_nodes, even_cost};
 
     /// The costs over so many nodes that these weights list.
@@ -60,10 +60,10 @@ impl<'a> Matrix<'a> {
         ensures { MatchResult result
             (λ even. (even_nodes even ≡ matrix_nodes self.entry)
             × ((i j : ℕ) → even_cost even i j ≡ matrix_cost self.entry i j)
-            × IsEven (matrix_cost self.entry))
-            (λ pair. IsFirstUneven (matrix_nodes self.entry) (matrix_cost self.entry) pair) }
+            × IsSymmetric (matrix_cost self.entry))
+            (λ pair. IsFirstAsymmetric (matrix_nodes self.entry) (matrix_cost self.entry) pair) }
     {
-        match self.first_uneven() {
+        match self.first_asymmetric() {
             Some(pair) => Err(pair),
             None => Ok(EvenMatrix { matrix: self }),
         }
@@ -71,18 +71,18 @@ impl<'a> Matrix<'a> {
 
     /// The first pair, the smaller node first, by rows, whose two costs differ.
     ///
-    /// Most matrices that come here are even, and show it by blocks: going by rows walks down a
+    /// Most matrices that come here are even, and show it by blocks: going by rows cycles down a
     /// column of the whole matrix for each, so it is left to those that aren't.
-    pub(crate) fn first_uneven(&self) -> Option<(u32, u32)>
-        ensures { FindsUneven (matrix_nodes self.now) (matrix_cost self.now) result }
+    pub(crate) fn first_asymmetric(&self) -> Option<(u32, u32)>
+        ensures { FindsAsymmetric (matrix_nodes self.now) (matrix_cost self.now) result }
     {
         cells_are_the_listed_pairs();
         only_cells_have_places();
-        if self.is_even() {
+        if self.is_symmetric() {
             return None;
         }
         'rows: for i in 1..self.nodes {
-            if let Some(j) = self.first_uneven_of_row(i) {
+            if let Some(j) = self.first_asymmetric_of_row(i) {
                 return Some((i, j));
             }
         }
@@ -90,13 +90,13 @@ impl<'a> Matrix<'a> {
     }
 
     /// Whether the two costs of each pair are the same, block by block.
-    fn is_even(&self) -> bool
+    fn is_symmetric(&self) -> bool
         ensures { IsTrue result ↔ ((i j : ℕ) → IsNode (matrix_nodes self.now) i
             → IsNode (matrix_nodes self.now) j → i < j
             → matrix_cost self.now i j ≡ matrix_cost self.now j i) }
     {
         'bands: for band in 0..self.nodes / BLOCK + 1 {
-            if !self.is_even_band(band) {
+            if !self.is_symmetric_band(band) {
                 return false;
             }
         }
@@ -104,14 +104,14 @@ impl<'a> Matrix<'a> {
     }
 
     /// The same over a band of rows, counted from 0, from the band's block on the diagonal on.
-    fn is_even_band(&self, band: u32) -> bool
+    fn is_symmetric_band(&self, band: u32) -> bool
         requires { band * 64 ≤ matrix_nodes self.now }
         ensures { IsTrue result ↔ ((i j : ℕ) → band * 64 < i → i ≤ band * 64 + 64
             → band * 64 < j → i ≤ matrix_nodes self.now → j ≤ matrix_nodes self.now
             → matrix_cost self.now i j ≡ matrix_cost self.now j i) }
     {
         'across: for block in band..self.nodes / BLOCK + 1 {
-            if !self.is_even_block(band * BLOCK + 1, block * BLOCK + 1) {
+            if !self.is_symmetric_block(band * BLOCK + 1, block * BLOCK + 1) {
                 return false;
             }
         }
@@ -119,7 +119,7 @@ impl<'a> Matrix<'a> {
     }
 
     /// The same over the block of cells that begins with the cell (top, left).
-    fn is_even_block(&self, top: u32, left: u32) -> bool
+    fn is_symmetric_block(&self, top: u32, left: u32) -> bool
         requires top { 1 ≤ top }
         requires left { 1 ≤ left }
         requires top_most { top ≤ matrix_nodes self.now + 1 }
@@ -130,7 +130,7 @@ impl<'a> Matrix<'a> {
     {
         let past = self.block_end(top);
         'rows: for i in top..past {
-            if !self.is_even_in_block(i, left) {
+            if !self.is_symmetric_in_block(i, left) {
                 return false;
             }
         }
@@ -139,7 +139,7 @@ impl<'a> Matrix<'a> {
 
     /// The same over the cells of a row in the block whose first column is `left`.
     #[inline]
-    fn is_even_in_block(&self, i: u32, left: u32) -> bool
+    fn is_symmetric_in_block(&self, i: u32, left: u32) -> bool
         requires row { IsNode (matrix_nodes self.now) i }
         requires left { 1 ≤ left }
         requires left_most { left ≤ matrix_nodes self.now + 1 }
@@ -173,7 +173,7 @@ impl<'a> Matrix<'a> {
     }
 
     /// The first node past i whose two costs with i differ.
-    fn first_uneven_of_row(&self, i: u32) -> Option<u32>
+    fn first_asymmetric_of_row(&self, i: u32) -> Option<u32>
         requires { IsNode (matrix_nodes self.now) i }
         ensures { MatchOption result
             ((j : ℕ) → i < j → j ≤ matrix_nodes self.now

@@ -1,7 +1,7 @@
 //! The places of nodes: those of points, whose distances grow with the ways along the axes.
 
 ghost use Rattle.std.specs.Prelude.{◌≡◌, map};
-ghost use Rattle.tsp_value.specs.Cells.{IsNode};
+ghost use Rattle.tsp_format.specs.Cells.{IsNode};
 
 use crate::curve::along_curve;
 use crate::matrix::EvenMatrix;
@@ -9,7 +9,7 @@ use crate::points::{Points, distance};
 use crate::triangle::Triangle;
 use std::alloc::{AllocError, Global};
 use tsp_distance::{InSpace, Point, monotone_laws};
-use tsp_walk::{Grouped, Region};
+use tsp_theory::{Grouped, Region};
 
 impl<P: InSpace> Points<'_, P> {
     ghost use Rattle.tsp_cost.specs.Views.{points_nodes, points_place};
@@ -48,13 +48,13 @@ impl<P: InSpace> Grouped for Points<'_, P> {
 }
 
 impl Grouped for EvenMatrix<'_> {
-    ghost use Rattle.tsp_fields.specs.Coords.{origin};
+    ghost use Rattle.tsp_draft.specs.Coords.{origin};
 
     ghost place = { λ _ _. origin };
 }
 
 impl Grouped for Triangle<'_> {
-    ghost use Rattle.tsp_fields.specs.Coords.{origin};
+    ghost use Rattle.tsp_draft.specs.Coords.{origin};
 
     ghost place = { λ _ _. origin };
 }

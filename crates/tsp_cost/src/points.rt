@@ -2,16 +2,16 @@
 
 ghost use Rattle.std.specs.Prelude.{◌≡◌, ◌≢◌, ◌≤◌, ◌-◌, ℕ, length, map, pos, ◌≤ℤ◌};
 ghost use Rattle.tsp_distance.specs.declared.decimal.Point.{Point};
-ghost use Rattle.tsp_value.specs.declared.kinds.WeightKind.TheVariants.{Explicit};
-ghost use Rattle.tsp_value.specs.Limits.{most_nodes};
+ghost use Rattle.tsp_format.specs.declared.kinds.WeightKind.TheVariants.{Explicit};
+ghost use Rattle.tsp_format.specs.Limits.{most_nodes};
 ghost use Rattle.tsp_file.specs.Cost.{distance, point_of};
 
 use std::alloc::AllocError;
 use tsp_distance::{
     InSpace, Point, att, ceil_2d, distance_laws, euc_2d, euc_3d, man_2d, man_3d, max_2d, max_3d,
 };
-use tsp_value::WeightKind;
-use tsp_walk::{Costs, Symmetric};
+use tsp_format::WeightKind;
+use tsp_theory::{Costs, Symmetric};
 
 /// The costs of an instance whose weight type is a distance: that of the nodes' points.
 ///

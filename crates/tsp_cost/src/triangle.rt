@@ -2,16 +2,16 @@
 
 ghost use Rattle.std.specs.Prelude.{◌≡◌, ◌≢◌, ◌≤◌, ◌⊎◌, IsTrue, length};
 ghost use Rattle.std.specs.List.{All};
-ghost use Rattle.tsp_value.specs.declared.layout.Layout.TheVariants.{FullMatrix};
-ghost use Rattle.tsp_value.specs.Cells.{is_listed, cells};
-ghost use Rattle.tsp_value.specs.Limits.{most_matrix_nodes, most_weight};
-ghost use Rattle.tsp_fields.specs.Valid.{IsWithin};
+ghost use Rattle.tsp_format.specs.declared.layout.Layout.TheVariants.{FullMatrix};
+ghost use Rattle.tsp_format.specs.Cells.{is_listed, cells};
+ghost use Rattle.tsp_format.specs.Limits.{most_matrix_nodes, most_weight};
+ghost use Rattle.tsp_draft.specs.Valid.{IsWithin};
 ghost use Rattle.tsp_file.specs.Cost.{listed_cost};
-ghost use Rattle.tsp_walk.specs.Costs.{IsEven};
+ghost use Rattle.tsp_theory.specs.Costs.{IsSymmetric};
 ghost use Rattle.tsp_file.specs.Listed.{IsUnlisted};
 
-use tsp_value::{Layout, cells_are_the_listed_pairs, only_cells_have_places};
-use tsp_walk::{Costs, Symmetric};
+use tsp_format::{Layout, cells_are_the_listed_pairs, only_cells_have_places};
+use tsp_theory::{Costs, Symmetric};
 
 /// The costs of an instance whose weights are one half of a matrix, with the diagonal or without.
 #[derive(Clone, Copy, Debug)]
@@ -29,7 +29,7 @@ pub struct Triangle<'a> {
     ghost upper_is: { upper ≡ is_listed layout (1, 2) },
     ghost diagonal_is: { diagonal ≡ is_listed layout (1, 1) },
     ghost unlisted: { IsUnlisted layout nodes },
-    ghost even: { IsEven (λ i j. listed_cost layout nodes weights.now i j) },
+    ghost even: { IsSymmetric (λ i j. listed_cost layout nodes weights.now i j) },
 }
 
 impl<'a> Triangle<'a> {

@@ -1,10 +1,10 @@
 //! Likely causes of a fault, as far as what was seen of the file shows one.
 
 use crate::look::Look;
-use tsp_fields::EndFault;
+use tsp_draft::EndFault;
+use tsp_format::{Field, is_blank, is_letter};
 use tsp_items::{LineFault, ReadFault};
 use tsp_number::NumberFault;
-use tsp_value::{Field, is_blank, is_letter};
 
 /// The likely cause of a fault, where one is known.
 pub(crate) fn cause(look: &Look, fault: ReadFault) -> Option<&'static str> {

@@ -8,9 +8,9 @@ use crate::wanted::{asked, group, wanted};
 use std::alloc::{AllocError, Global};
 use std::io;
 use std::io::Read;
-use tsp_fields::EndFault;
+use tsp_draft::EndFault;
+use tsp_format::Field;
 use tsp_items::{LineFault, ReadFault};
-use tsp_value::Field;
 
 /// Appends why a file isn't read. `name` is what the user calls it, and `again` the file opened once
 /// more, where it can be; at most as much of it is read as the first time. What stands at the fault

@@ -6,11 +6,11 @@ use crate::excerpt::Excerpt;
 use arrayvec::ArrayVec;
 use std::io;
 use std::io::Read;
-use tsp_items::says_space;
-use tsp_number::parse_whole;
-use tsp_value::{
+use tsp_format::{
     Field, Keyword, MOST_FILE_BYTES, MOST_NODES, Word, is_blank, is_keyword_byte, is_letter,
 };
+use tsp_items::says_space;
+use tsp_number::parse_whole;
 
 /// The most bytes that the reader is asked for at once.
 const MOST_AT_ONCE: usize = 4_096;

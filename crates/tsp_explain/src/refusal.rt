@@ -6,8 +6,8 @@ use crate::text::{begin, end, push, push_lines, push_number};
 use std::alloc::AllocError;
 use tsp_cost::{Costs, Instance};
 use tsp_file::File;
+use tsp_format::Word;
 use tsp_reason::Reason;
-use tsp_value::Word;
 
 /// Which file a reason is about.
 #[derive(Clone, Copy, Debug, PartialEq, Eq)]

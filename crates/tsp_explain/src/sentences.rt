@@ -2,7 +2,7 @@
 //!
 //! Each is a `match` that names every variant, so that a new one needs its sentence.
 
-use tsp_fields::EndFault;
+use tsp_draft::EndFault;
 use tsp_file::RelayoutFault;
 use tsp_items::LineFault;
 use tsp_number::NumberFault;

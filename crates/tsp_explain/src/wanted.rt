@@ -1,6 +1,6 @@
 //! What each keyword and each section takes, with its numbers.
 
-use tsp_value::{Field, Shape};
+use tsp_format::{Field, Shape};
 
 /// What a keyword or a section takes.
 pub(crate) fn wanted(field: Field) -> &'static str {

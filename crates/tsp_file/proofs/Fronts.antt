@@ -5,16 +5,16 @@ use Rattle.std.specs.List.{All, flat_map, CopiedTo, SameBelow, SameFrom}
 use Rattle.std.proofs.lemmas.Bool.{cases_lt}
 use Rattle.std.proofs.lemmas.Nat.{mul-le}
 use Rattle.std.proofs.lemmas.List.{length-map, get_or-map, length-append, get_or_append_left, get_or-append_right, ext_get_or, length-take-le, get_or-take}
-use Rattle.tsp_value.specs.declared.layout.Layout.{Layout}
-use Rattle.tsp_value.specs.declared.layout.Layout.TheVariants.{FullMatrix, UpperRow, LowerRow, UpperDiagRow, LowerDiagRow, UpperCol, LowerCol, UpperDiagCol, LowerDiagCol}
-use Rattle.tsp_value.specs.Cells.{IsNode, nodes_to, cells, cells_of_line, line_len_of}
-use Rattle.tsp_value.specs.Even.{IsEven}
-use Rattle.tsp_value.proofs.Counts.{line_counted, cells_counted}
-use Rattle.tsp_value.proofs.Places.{placed, line_at}
-use Rattle.tsp_value.specs.Limits.{most_weight}
-use Rattle.tsp_fields.specs.Fields.{Fields}
-use Rattle.tsp_fields.specs.Valid.{IsWithin}
-use Rattle.tsp_fields.specs.Rules.{fault_of}
+use Rattle.tsp_format.specs.declared.layout.Layout.{Layout}
+use Rattle.tsp_format.specs.declared.layout.Layout.TheVariants.{FullMatrix, UpperRow, LowerRow, UpperDiagRow, LowerDiagRow, UpperCol, LowerCol, UpperDiagCol, LowerDiagCol}
+use Rattle.tsp_format.specs.Cells.{IsNode, nodes_to, cells, cells_of_line, line_len_of}
+use Rattle.tsp_format.specs.Symmetry.{IsSymmetric}
+use Rattle.tsp_format.proofs.Counts.{line_counted, cells_counted}
+use Rattle.tsp_format.proofs.Places.{placed, line_at}
+use Rattle.tsp_format.specs.Limits.{most_weight}
+use Rattle.tsp_draft.specs.Fields.{Fields}
+use Rattle.tsp_draft.specs.Valid.{IsWithin}
+use Rattle.tsp_draft.specs.Rules.{fault_of}
 use Rattle.tsp_file.specs.Cost.{listed_cost, cost}
 use Rattle.tsp_file.specs.Listed.{IsListed}
 use Rattle.tsp_file.specs.Relayout.{HoldsPairs, CanGo, nodes_in, with_weights, costs_in}
@@ -34,10 +34,10 @@ module _ (n : ℕ) (full : List ℤ) where
   at_place i j place row column same = cost_of_cell FullMatrix n full i j place (placed FullMatrix n i j row column refl ∙ ap (λ k. Some k) same)
 
   -- or by that across the diagonal
-  across : (i j place : ℕ) → IsEven (listed_cost FullMatrix n full) → IsNode n i → IsNode n j → (j - 1) * n + (i - 1) ≡ place → between (i, j) ≡ get_or full place (pos 0)
+  across : (i j place : ℕ) → IsSymmetric (listed_cost FullMatrix n full) → IsNode n i → IsNode n j → (j - 1) * n + (i - 1) ≡ place → between (i, j) ≡ get_or full place (pos 0)
   across i j place even row column same = turned (listed_cost FullMatrix n full) even j i ∙ at_place j i place column row same
 
-  even_held : (to : Layout) → to ≢ FullMatrix → HoldsPairs to (listed_cost FullMatrix n full) → IsEven (listed_cost FullMatrix n full)
+  even_held : (to : Layout) → to ≢ FullMatrix → HoldsPairs to (listed_cost FullMatrix n full) → IsSymmetric (listed_cost FullMatrix n full)
   even_held to half holds = ⊎_elim (λ same. absurd (half same)) (λ even. even) holds
 
   -- a cell of a line

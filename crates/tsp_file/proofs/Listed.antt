@@ -6,18 +6,18 @@ use Rattle.std.specs.List.{Contains}
 use Rattle.std.specs.Int.{w64}
 use Rattle.std.proofs.lemmas.Int.{ints}
 use Rattle.std.proofs.lemmas.Bool.{cases_lt, le-ltb, lt-leb, false≢true}
-use Rattle.tsp_value.specs.declared.layout.Layout.{Layout}
-use Rattle.tsp_value.specs.declared.layout.Layout.TheVariants.{FullMatrix, UpperRow, LowerRow, UpperDiagRow, LowerDiagRow, UpperCol, LowerCol, UpperDiagCol, LowerDiagCol}
-use Rattle.tsp_value.specs.declared.kinds.WeightKind.TheVariants.{Explicit}
-use Rattle.tsp_value.specs.declared.kinds.WeightFormat.{WeightFormat}
-use Rattle.tsp_value.specs.declared.kinds.WeightFormat.TheVariants.{ByFunction, Listed}
-use Rattle.tsp_value.specs.Cells.{IsNode, is_listed, cells}
-use Rattle.tsp_value.specs.Place.{place_of}
-use Rattle.tsp_value.specs.Limits.{most_weight}
-use Rattle.tsp_fields.specs.Fields.{Fields}
-use Rattle.tsp_fields.specs.Valid.{IsWithin, IsInRange}
+use Rattle.tsp_format.specs.declared.layout.Layout.{Layout}
+use Rattle.tsp_format.specs.declared.layout.Layout.TheVariants.{FullMatrix, UpperRow, LowerRow, UpperDiagRow, LowerDiagRow, UpperCol, LowerCol, UpperDiagCol, LowerDiagCol}
+use Rattle.tsp_format.specs.declared.kinds.WeightKind.TheVariants.{Explicit}
+use Rattle.tsp_format.specs.declared.kinds.WeightFormat.{WeightFormat}
+use Rattle.tsp_format.specs.declared.kinds.WeightFormat.TheVariants.{ByFunction, Listed}
+use Rattle.tsp_format.specs.Cells.{IsNode, is_listed, cells}
+use Rattle.tsp_format.specs.Place.{place_of}
+use Rattle.tsp_format.specs.Limits.{most_weight}
+use Rattle.tsp_draft.specs.Fields.{Fields}
+use Rattle.tsp_draft.specs.Valid.{IsWithin, IsInRange}
 use Rattle.tsp_file.specs.Cost.{weight_at, listed_cost, layout_of, cost_by, cost}
-use Rattle.tsp_value.specs.Even.{IsEven}
+use Rattle.tsp_format.specs.Symmetry.{IsSymmetric}
 use Rattle.tsp_file.specs.Listed.{IsListed, IsUnlisted}
 
 -- the cost of a cell is the weight at its place
@@ -77,14 +77,14 @@ diagonal_unlisted UpperDiagCol i e = absurd (false≢true (sym e))
 diagonal_unlisted LowerDiagCol i e = absurd (false≢true (sym e))
 
 -- even costs of a pair or of the mirrored one
-pub turned : (cost : ℕ → ℕ → ℤ) → IsEven cost → (i j : ℕ) → cost j i ≡ cost i j
+pub turned : (cost : ℕ → ℕ → ℤ) → IsSymmetric cost → (i j : ℕ) → cost j i ≡ cost i j
 turned cost even i j = ⊎_elim
     (λ below. even j i (λ same. absurd (omega (arith, below, same))))
     (λ le. ⊎_elim (λ above. even j i (λ same. absurd (omega (arith, above, same))))
     (λ ge. let same : i ≡ j = omega (arith, le, ge) in ap (λ k. cost k i) (sym same) ∙ ap (λ k. cost i k) same) (cases_lt j i))
     (cases_lt i j)
 
-pub either_way : (cost : ℕ → ℕ → ℤ) → IsEven cost → (i j : ℕ) (pair : ℕ × ℕ) → (pair ≡ (i, j)) ⊎ (pair ≡ (j, i)) → cost pair.0 pair.1 ≡ cost i j
+pub either_way : (cost : ℕ → ℕ → ℤ) → IsSymmetric cost → (i j : ℕ) (pair : ℕ × ℕ) → (pair ≡ (i, j)) ⊎ (pair ≡ (j, i)) → cost pair.0 pair.1 ≡ cost i j
 either_way cost even i j pair one = ⊎_elim (λ e. ap (λ p. cost p.0 p.1) e) (λ e. ap (λ p. cost p.0 p.1) e ∙ turned cost even i j) one
 
 swapped : (a b : Option ℤ) → (a ≡ None) ⊎ (b ≡ None) → unwrap_or (option_or a b) (pos 0) ≡ unwrap_or (option_or b a) (pos 0)
@@ -96,7 +96,7 @@ swapped (Some a) (Some b) one = ⊎_elim (λ e. absurd cc) (λ e. absurd cc) one
 no_weight : (layout : Layout) (n : ℕ) (weights : List ℤ) (i j : ℕ) → place_of layout n (i, j) ≡ None → weight_at layout n weights (i, j) ≡ None
 no_weight layout n weights i j out = ap (option_map (λ at. slice_index_or weights at (pos 0))) out
 
-pub triangle_even : (layout : Layout) (n : ℕ) (weights : List ℤ) → layout ≢ FullMatrix → IsUnlisted layout n → IsEven (listed_cost layout n weights)
+pub triangle_even : (layout : Layout) (n : ℕ) (weights : List ℤ) → layout ≢ FullMatrix → IsUnlisted layout n → IsSymmetric (listed_cost layout n weights)
 unfolding listed_cost
 triangle_even layout n weights half unlisted i j other = swapped (weight_at layout n weights (i, j)) (weight_at layout n weights (j, i))
     (⊎_elim (λ out. inl (no_weight layout n weights i j (unlisted i j out))) (λ out. inr (no_weight layout n weights j i (unlisted j i out))) (one_half layout i j half other))
@@ -115,7 +115,7 @@ nodes_or_not n i j = ⊎_elim (λ out. inl (λ h. out h.0))
 
 -- costs are even where those between nodes are
 pub even_between_nodes : (layout : Layout) (n : ℕ) (weights : List ℤ) → ((i j : ℕ) → ¬ (IsNode n i × IsNode n j) → place_of layout n (i, j) ≡ None)
-    → ((i j : ℕ) → IsNode n i → IsNode n j → i < j → listed_cost layout n weights i j ≡ listed_cost layout n weights j i) → IsEven (listed_cost layout n weights)
+    → ((i j : ℕ) → IsNode n i → IsNode n j → i < j → listed_cost layout n weights i j ≡ listed_cost layout n weights j i) → IsSymmetric (listed_cost layout n weights)
 even_between_nodes layout n weights out inside i j other = ⊎_elim
     (λ outside. cost_unlisted layout n weights i j (out i j outside) (out j i (λ nodes. outside (nodes.1, nodes.0)))
     ∙ sym (cost_unlisted layout n weights j i (out j i (λ nodes. outside (nodes.1, nodes.0))) (out i j outside)))

@@ -9,20 +9,20 @@ use Rattle.std.proofs.lemmas.Bool.Decides.{nat_tests}
 use Rattle.std.proofs.lemmas.List.{take_more, take_all, append_assoc, map-append, length-map, get_or-map, get_or_past, get_or_default, flat_map_more, ext_get_or}
 use Rattle.std.proofs.lemmas.List.Elements.{All-map}
 use Rattle.std.proofs.lemmas.List.FromFn.{length-range_with_len, get_or-range_with_len}
-use Rattle.tsp_value.specs.declared.layout.Layout.{Layout}
-use Rattle.tsp_value.specs.declared.layout.Layout.TheVariants.{FullMatrix, UpperRow, LowerRow, UpperDiagRow, LowerDiagRow, UpperCol, LowerCol, UpperDiagCol, LowerDiagCol}
-use Rattle.tsp_value.specs.Cells.{IsNode, nodes_to, is_listed, cells, cells_of_line}
-use Rattle.tsp_value.specs.Place.{place_of, place_by_table}
-use Rattle.tsp_value.specs.Limits.{most_weight}
-use Rattle.tsp_value.specs.Even.{IsEven}
-use Rattle.tsp_value.proofs.Lines.{cells-lines}
-use Rattle.tsp_value.proofs.Pairs.{cell_is}
-use Rattle.tsp_value.proofs.Places.{placed, place_within, place_from, stands_at, no_place}
-use Rattle.tsp_value.specs.declared.kinds.WeightKind.TheVariants.{Explicit}
-use Rattle.tsp_value.specs.declared.kinds.WeightFormat.{WeightFormat}
-use Rattle.tsp_value.specs.declared.kinds.WeightFormat.TheVariants.{Listed}
-use Rattle.tsp_fields.specs.Fields.{Fields}
-use Rattle.tsp_fields.specs.Valid.{IsWithin}
+use Rattle.tsp_format.specs.declared.layout.Layout.{Layout}
+use Rattle.tsp_format.specs.declared.layout.Layout.TheVariants.{FullMatrix, UpperRow, LowerRow, UpperDiagRow, LowerDiagRow, UpperCol, LowerCol, UpperDiagCol, LowerDiagCol}
+use Rattle.tsp_format.specs.Cells.{IsNode, nodes_to, is_listed, cells, cells_of_line}
+use Rattle.tsp_format.specs.Place.{place_of, place_by_table}
+use Rattle.tsp_format.specs.Limits.{most_weight}
+use Rattle.tsp_format.specs.Symmetry.{IsSymmetric}
+use Rattle.tsp_format.proofs.Lines.{cells-lines}
+use Rattle.tsp_format.proofs.Pairs.{cell_is}
+use Rattle.tsp_format.proofs.Places.{placed, place_within, place_from, stands_at, no_place}
+use Rattle.tsp_format.specs.declared.kinds.WeightKind.TheVariants.{Explicit}
+use Rattle.tsp_format.specs.declared.kinds.WeightFormat.{WeightFormat}
+use Rattle.tsp_format.specs.declared.kinds.WeightFormat.TheVariants.{Listed}
+use Rattle.tsp_draft.specs.Fields.{Fields}
+use Rattle.tsp_draft.specs.Valid.{IsWithin}
 use Rattle.tsp_file.specs.Cost.{listed_cost, layout_of, cost_by, cost}
 use Rattle.tsp_file.specs.Listed.{IsListed}
 use Rattle.tsp_file.specs.Relayout.{HoldsPairs, HoldsDiagonal, lists_diagonal, HasListedWeights, nodes_in, with_weights, costs_in, CanGo, IsRelaid}
@@ -186,7 +186,7 @@ full_or_not UpperDiagCol = inr (λ e. absurd cc)
 full_or_not LowerDiagCol = inr (λ e. absurd cc)
 
 -- the costs of a triangle are even, and its own layout holds the costs of any weights
-pub triangle_holds : (layout : Layout) (n : ℕ) (weights : List ℤ) → layout ≢ FullMatrix → IsEven (listed_cost layout n weights)
+pub triangle_holds : (layout : Layout) (n : ℕ) (weights : List ℤ) → layout ≢ FullMatrix → IsSymmetric (listed_cost layout n weights)
 triangle_holds layout n weights half = triangle_even layout n weights half (no_cell layout n)
 
 pub own_pairs : (layout : Layout) (n : ℕ) (weights : List ℤ) → HoldsPairs layout (listed_cost layout n weights)

@@ -6,13 +6,13 @@ use Rattle.std.proofs.lemmas.Bool.{cases_lt, cases_eq, leb-true}
 use Rattle.std.proofs.lemmas.Nat.{mul-le}
 use Rattle.std.proofs.lemmas.List.{length-map, get_or-map, get_or_default, length-append, get_or_append_left, get_or-append_right, get_or-set_same, get_or-set_other, ext_get_or, length-take-le, get_or-take}
 use Rattle.std.proofs.lemmas.Option.{none-some}
-use Rattle.tsp_value.specs.declared.layout.Layout.{Layout}
-use Rattle.tsp_value.specs.declared.layout.Layout.TheVariants.{FullMatrix, UpperRow, LowerRow, UpperDiagRow, LowerDiagRow, UpperCol, LowerCol, UpperDiagCol, LowerDiagCol}
-use Rattle.tsp_value.specs.Cells.{IsNode, nodes_to, is_listed, cells, cells_of_line, line_len_of}
-use Rattle.tsp_value.specs.Place.{place_of}
-use Rattle.tsp_value.specs.Even.{IsEven}
-use Rattle.tsp_value.proofs.Counts.{line_counted, cells_counted}
-use Rattle.tsp_value.proofs.Places.{placed, place_from, stands_at, line_at}
+use Rattle.tsp_format.specs.declared.layout.Layout.{Layout}
+use Rattle.tsp_format.specs.declared.layout.Layout.TheVariants.{FullMatrix, UpperRow, LowerRow, UpperDiagRow, LowerDiagRow, UpperCol, LowerCol, UpperDiagCol, LowerDiagCol}
+use Rattle.tsp_format.specs.Cells.{IsNode, nodes_to, is_listed, cells, cells_of_line, line_len_of}
+use Rattle.tsp_format.specs.Place.{place_of}
+use Rattle.tsp_format.specs.Symmetry.{IsSymmetric}
+use Rattle.tsp_format.proofs.Counts.{line_counted, cells_counted}
+use Rattle.tsp_format.proofs.Places.{placed, place_from, stands_at, line_at}
 use Rattle.tsp_file.specs.Cost.{listed_cost}
 use Rattle.tsp_file.specs.Relayout.{costs_in}
 use Rattle.tsp_file.specs.Side.{first_own, past_own}
@@ -152,7 +152,7 @@ count_is UpperDiagCol n i node = omega arith
 count_is LowerDiagCol n i node = omega (arith, node.1)
 
 -- a cell of a line has the cost of its row and column
-cell_cost : (cost : ℕ → ℕ → ℤ) (layout : Layout) (n i k : ℕ) → IsEven cost → IsNode n i → k < line_len_of layout n i
+cell_cost : (cost : ℕ → ℕ → ℤ) (layout : Layout) (n i k : ℕ) → IsSymmetric cost → IsNode n i → k < line_len_of layout n i
     → cost (get_or (cells_of_line layout n i) k (0, 0)).0 (get_or (cells_of_line layout n i) k (0, 0)).1 ≡ cost i (first_own layout i + k)
 cell_cost cost FullMatrix n i k even node lt = ap (λ (cell : ℕ × ℕ). cost cell.0 cell.1) (line_at FullMatrix n i k (0, 0) node.0 node.1 lt)
 cell_cost cost UpperRow n i k even node lt = ap (λ (cell : ℕ × ℕ). cost cell.0 cell.1) (line_at UpperRow n i k (0, 0) node.0 node.1 lt)
@@ -164,7 +164,7 @@ cell_cost cost LowerCol n i k even node lt = ap (λ (cell : ℕ × ℕ). cost ce
 cell_cost cost UpperDiagCol n i k even node lt = ap (λ (cell : ℕ × ℕ). cost cell.0 cell.1) (line_at UpperDiagCol n i k (0, 0) node.0 node.1 lt) ∙ turned cost even i (1 + k)
 cell_cost cost LowerDiagCol n i k even node lt = ap (λ (cell : ℕ × ℕ). cost cell.0 cell.1) (line_at LowerDiagCol n i k (0, 0) node.0 node.1 lt) ∙ turned cost even i (i + k)
 
-own_cost : (from : Layout) (n : ℕ) (half full : List ℤ) → IsEven (listed_cost from n half) → HasLines from n 0 half full → (i j : ℕ) → IsNode n i → first_own from i ≤ j → j < past_own from n i
+own_cost : (from : Layout) (n : ℕ) (half full : List ℤ) → IsSymmetric (listed_cost from n half) → HasLines from n 0 half full → (i j : ℕ) → IsNode n i → first_own from i ≤ j → j < past_own from n i
     → HasCost (listed_cost from n half) n full i j
 own_cost from n half full even lines i j node low high =
     let first = first_is from n i node in
@@ -195,7 +195,7 @@ on_side UpperDiagCol n i j half row column side = let low = leb-true j i side in
 on_side LowerDiagCol n i j half row column side = let low = leb-true i j side in inl (omega (arith, low), omega (arith, column.1))
 
 -- all cells on the side, once the diagonal is cleared
-pub side_filled : (from : Layout) (n : ℕ) (half full : List ℤ) → from ≢ FullMatrix → IsEven (listed_cost from n half) → HasLines from n 0 half full
+pub side_filled : (from : Layout) (n : ℕ) (half full : List ℤ) → from ≢ FullMatrix → IsSymmetric (listed_cost from n half) → HasLines from n 0 half full
     → (new : List ℤ) → KeepsCosts (listed_cost from n half) n full new → (is_listed from (1, 1) ≡ false → (i : ℕ) → IsNode n i → HasCost (listed_cost from n half) n new i i)
     → HasSide (goes_above from) (listed_cost from n half) n new
 side_filled from n half full partly even lines new keeps diagonal i j row column side =
@@ -286,7 +286,7 @@ diagonal_more cost n node place old items nothing here is inside so_far =
     )
 
 -- one cell of a row more
-pub column_more : (above : Bool) (cost : ℕ → ℕ → ℤ) (n row first j place : ℕ) (value : ℤ) (old items : List ℤ) → IsEven cost → HasSide above cost n old → IsNode n row → IsNode n j
+pub column_more : (above : Bool) (cost : ℕ → ℕ → ℤ) (n row first j place : ℕ) (value : ℤ) (old items : List ℤ) → IsSymmetric cost → HasSide above cost n old → IsNode n row → IsNode n j
     → is_on_side above j row ≡ true → value ≡ get_or items ((j - 1) * n + (row - 1)) (pos 0) → place ≡ (row - 1) * n + (j - 1) → place < length items
     → Fills cost n old items (λ i k. (i ≡ row) × (first ≤ k) × (k < j))
     → Fills cost n old (slice_set items place value) (λ i k. (i ≡ row) × (first ≤ k) × (k < j + 1))

@@ -2,15 +2,15 @@
 use Rattle.std.proofs.Common.{◌≡◌, cond, Option, None, Some, refl, sym, ap, ◌∙◌}
 use Rattle.std.specs.Prelude.{is_some, not}
 use Rattle.std.specs.Option.{option_map, option_or}
-use Rattle.tsp_value.specs.declared.kinds.Kind.{Kind}
-use Rattle.tsp_value.specs.declared.field.Field.{Field}
-use Rattle.tsp_value.specs.declared.field.Field.TheVariants.{TypeKey}
-use Rattle.tsp_fields.specs.declared.fault.EndFault.{EndFault}
-use Rattle.tsp_fields.specs.declared.fault.EndFault.TheVariants.{Missing}
-use Rattle.tsp_fields.specs.declared.fault.DraftFault.TheVariants.{BadField, Rule}
-use Rattle.tsp_fields.specs.Fields.{Fields}
-use Rattle.tsp_fields.specs.Validity.{first_failing, bad_field}
-use Rattle.tsp_fields.specs.Rules.{standing_of, is_there, asked_in_order, format_or_count, end_fault, fault_of}
+use Rattle.tsp_format.specs.declared.kinds.Kind.{Kind}
+use Rattle.tsp_format.specs.declared.field.Field.{Field}
+use Rattle.tsp_format.specs.declared.field.Field.TheVariants.{TypeKey}
+use Rattle.tsp_draft.specs.declared.fault.EndFault.{EndFault}
+use Rattle.tsp_draft.specs.declared.fault.EndFault.TheVariants.{Missing}
+use Rattle.tsp_draft.specs.declared.fault.DraftFault.TheVariants.{BadField, Rule}
+use Rattle.tsp_draft.specs.Fields.{Fields}
+use Rattle.tsp_draft.specs.Validity.{first_failing, bad_field}
+use Rattle.tsp_draft.specs.Rules.{standing_of, is_there, asked_in_order, format_or_count, end_fault, fault_of}
 
 -- a rule that fails is a fault, whatever the fields are on their own
 a_fault : (field : Option Field) (rule : Option EndFault) → option_or (option_map (λ f. BadField f) field) (option_map (λ r. Rule r) rule) ≡ None → rule ≡ None

@@ -6,25 +6,25 @@ use Rattle.std.specs.List.{All, list_all}
 use Rattle.std.proofs.lemmas.Bool.{false≢true, le-leb, eq-eqb}
 use Rattle.std.proofs.lemmas.Int.{ints}
 use Rattle.std.proofs.lemmas.List.Sums.{list_all-from_AllPass}
-use Rattle.tsp_value.specs.declared.field.Field.{Field}
-use Rattle.tsp_value.specs.declared.field.Field.TheVariants.{NameKey, TypeKey, CommentKey, OtherKey, DimensionKey, CapacityKey, ScaleKey, EdgeWeightTypeKey, EdgeWeightFormatKey, NodeCoordTypeKey, DisplayDataTypeKey, NodeCoordPart, DisplayDataPart, DemandPart, DepotPart, FixedEdgesPart, EdgeWeightPart, TourPart, NodePotentialPart, RowPotentialPart, ColumnPotentialPart, FixedPotentialPart, CombPart, BranchPart}
-use Rattle.tsp_value.specs.declared.layout.Layout.{Layout}
-use Rattle.tsp_value.specs.declared.layout.Layout.TheVariants.{FullMatrix, UpperRow, LowerRow, UpperDiagRow, LowerDiagRow, UpperCol, LowerCol, UpperDiagCol, LowerDiagCol}
-use Rattle.tsp_value.specs.declared.kinds.WeightFormat.{WeightFormat}
-use Rattle.tsp_value.specs.declared.kinds.WeightFormat.TheVariants.{Listed}
-use Rattle.tsp_value.specs.Cells.{cells, cell_count_of}
-use Rattle.tsp_value.specs.Limits.{most_matrix_nodes, most_weight}
-use Rattle.tsp_value.specs.Words.{fields_in_order}
-use Rattle.tsp_value.proofs.Counts.{cells_counted}
-use Rattle.tsp_fields.specs.declared.fault.EndFault.{EndFault}
-use Rattle.tsp_fields.specs.declared.fault.EndFault.TheVariants.{Missing, WrongFormat, WrongCount}
-use Rattle.tsp_fields.specs.declared.fault.DraftFault.TheVariants.{BadField, Rule}
-use Rattle.tsp_fields.specs.Fields.{Fields, spatial}
-use Rattle.tsp_fields.specs.Validity.{is_within, with_dimension, are_weights, fits, first_failing, bad_field}
-use Rattle.tsp_fields.specs.Rules.{standing_of, is_there, asked_in_order, is_count, has_wrong_format, has_wrong_count, end_fault, format_or_count, fault_of}
-use Rattle.tsp_fields.specs.Valid.{IsWithin, AreWeights}
+use Rattle.tsp_format.specs.declared.field.Field.{Field}
+use Rattle.tsp_format.specs.declared.field.Field.TheVariants.{NameKey, TypeKey, CommentKey, OtherKey, DimensionKey, CapacityKey, ScaleKey, EdgeWeightTypeKey, EdgeWeightFormatKey, NodeCoordTypeKey, DisplayDataTypeKey, NodeCoordPart, DisplayDataPart, DemandPart, DepotPart, FixedEdgesPart, EdgeWeightPart, TourPart, NodePotentialPart, RowPotentialPart, ColumnPotentialPart, FixedPotentialPart, CombPart, BranchPart}
+use Rattle.tsp_format.specs.declared.layout.Layout.{Layout}
+use Rattle.tsp_format.specs.declared.layout.Layout.TheVariants.{FullMatrix, UpperRow, LowerRow, UpperDiagRow, LowerDiagRow, UpperCol, LowerCol, UpperDiagCol, LowerDiagCol}
+use Rattle.tsp_format.specs.declared.kinds.WeightFormat.{WeightFormat}
+use Rattle.tsp_format.specs.declared.kinds.WeightFormat.TheVariants.{Listed}
+use Rattle.tsp_format.specs.Cells.{cells, cell_count_of}
+use Rattle.tsp_format.specs.Limits.{most_matrix_nodes, most_weight}
+use Rattle.tsp_format.specs.Words.{fields_in_order}
+use Rattle.tsp_format.proofs.Counts.{cells_counted}
+use Rattle.tsp_draft.specs.declared.fault.EndFault.{EndFault}
+use Rattle.tsp_draft.specs.declared.fault.EndFault.TheVariants.{Missing, WrongFormat, WrongCount}
+use Rattle.tsp_draft.specs.declared.fault.DraftFault.TheVariants.{BadField, Rule}
+use Rattle.tsp_draft.specs.Fields.{Fields, spatial}
+use Rattle.tsp_draft.specs.Validity.{is_within, with_dimension, are_weights, fits, first_failing, bad_field}
+use Rattle.tsp_draft.specs.Rules.{standing_of, is_there, asked_in_order, is_count, has_wrong_format, has_wrong_count, end_fault, format_or_count, fault_of}
+use Rattle.tsp_draft.specs.Valid.{IsWithin, AreWeights}
 use Rattle.tsp_file.specs.Relayout.{nodes_in, with_weights}
-use Rattle.tsp_fields.proofs.ValidFields.{in_range, each_fits, nodes_fit, no_field_missing, format_and_count, and_true}
+use Rattle.tsp_draft.proofs.ValidFields.{in_range, each_fits, nodes_fit, no_field_missing, format_and_count, and_true}
 
 -- ---- no more cells than pairs
 

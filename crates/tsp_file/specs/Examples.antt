@@ -1,6 +1,6 @@
 -- Small matrices on which the definitions are evaluated.
 use Rattle.std.specs.Prelude.{◌≡◌, ℕ, List, [], ◌∷◌, ℤ, pos}
-use Rattle.tsp_value.specs.declared.layout.Layout.{Layout}
+use Rattle.tsp_format.specs.declared.layout.Layout.{Layout}
 use Rattle.tsp_file.specs.Cost.{listed_cost}
 use Rattle.tsp_file.specs.Relayout.{costs_in}
 

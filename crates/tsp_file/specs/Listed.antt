@@ -1,13 +1,13 @@
 -- Weights that are listed in a layout.
 use Rattle.std.specs.Prelude.{◌≡◌, ℕ, ◌≤◌, false, List, length, Some, None, ℤ}
 use Rattle.std.specs.List.{All}
-use Rattle.tsp_value.specs.declared.layout.Layout.{Layout}
-use Rattle.tsp_value.specs.declared.kinds.WeightFormat.TheVariants.{Listed}
-use Rattle.tsp_value.specs.Limits.{most_matrix_nodes, most_weight}
-use Rattle.tsp_value.specs.Cells.{is_listed, cells}
-use Rattle.tsp_value.specs.Place.{place_of}
-use Rattle.tsp_fields.specs.Fields.{Fields}
-use Rattle.tsp_fields.specs.Valid.{IsWithin}
+use Rattle.tsp_format.specs.declared.layout.Layout.{Layout}
+use Rattle.tsp_format.specs.declared.kinds.WeightFormat.TheVariants.{Listed}
+use Rattle.tsp_format.specs.Limits.{most_matrix_nodes, most_weight}
+use Rattle.tsp_format.specs.Cells.{is_listed, cells}
+use Rattle.tsp_format.specs.Place.{place_of}
+use Rattle.tsp_draft.specs.Fields.{Fields}
+use Rattle.tsp_draft.specs.Valid.{IsWithin}
 
 -- the file lists these weights over n nodes in this layout
 pub record IsListed (f : Fields) (layout : Layout) (n : ℕ) (weights : List ℤ) : Type 0 where

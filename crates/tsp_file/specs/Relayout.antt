@@ -1,22 +1,22 @@
 -- What becomes of a file whose weights are put into another layout, and which costs a layout can hold.
 -- Source: TSPLIB 95 (G. Reinelt), the values of EDGE_WEIGHT_FORMAT.
 use Rattle.std.specs.Prelude.{◌≡◌, ◌≢◌, ℕ, ◌<◌, ◌⊎◌, Bool, false, List, map, Some, IsSome, IsTrue, unwrap_or, Result, Ok, Err, ℤ, pos}
-use Rattle.tsp_value.specs.declared.layout.Layout.{Layout}
-use Rattle.tsp_value.specs.declared.layout.Layout.TheVariants.{FullMatrix}
-use Rattle.tsp_value.specs.declared.kinds.WeightKind.TheVariants.{Explicit}
-use Rattle.tsp_value.specs.declared.kinds.WeightFormat.TheVariants.{Listed}
-use Rattle.tsp_value.specs.Cells.{IsNode, is_listed, cells}
-use Rattle.tsp_value.specs.Even.{IsEven, IsFirstUneven}
+use Rattle.tsp_format.specs.declared.layout.Layout.{Layout}
+use Rattle.tsp_format.specs.declared.layout.Layout.TheVariants.{FullMatrix}
+use Rattle.tsp_format.specs.declared.kinds.WeightKind.TheVariants.{Explicit}
+use Rattle.tsp_format.specs.declared.kinds.WeightFormat.TheVariants.{Listed}
+use Rattle.tsp_format.specs.Cells.{IsNode, is_listed, cells}
+use Rattle.tsp_format.specs.Symmetry.{IsSymmetric, IsFirstAsymmetric}
 use Rattle.tsp_file.specs.declared.fault.RelayoutFault.{RelayoutFault}
 use Rattle.tsp_file.specs.declared.fault.RelayoutFault.TheVariants.{NotExplicit, NotSymmetric, DiagonalLost, OutOfMemory}
-use Rattle.tsp_fields.specs.Fields.{Fields}
+use Rattle.tsp_draft.specs.Fields.{Fields}
 use Rattle.tsp_file.specs.Cost.{cost}
 
 -- ---- which costs a layout can hold
 
 -- A full matrix holds any costs between different nodes, half of one those that are the same both ways.
 abbrev pub HoldsPairs : Layout → (ℕ → ℕ → ℤ) → Type 0
-HoldsPairs layout cost = (layout ≡ FullMatrix) ⊎ IsEven cost
+HoldsPairs layout cost = (layout ≡ FullMatrix) ⊎ IsSymmetric cost
 
 -- whether the diagonal is listed: with one of its pairs all are
 abbrev pub lists_diagonal : Layout → Bool
@@ -64,7 +64,7 @@ pub record IsRelaid (old : Fields) (to : Layout) (new : Fields) : Type 0 where
 -- Why it isn't done: the first of these that holds. Of memory there can't be a want where the layout is that of the file.
 abbrev pub IsRefused : Fields → Layout → RelayoutFault → Type 0
 IsRefused f to NotExplicit = ¬ HasListedWeights f
-IsRefused f to (NotSymmetric i j) = HasListedWeights f × (to ≢ FullMatrix) × IsFirstUneven (nodes_in f) (cost f) (i, j)
+IsRefused f to (NotSymmetric i j) = HasListedWeights f × (to ≢ FullMatrix) × IsFirstAsymmetric (nodes_in f) (cost f) (i, j)
 IsRefused f to (DiagonalLost i) = HasListedWeights f × HoldsPairs to (cost f)
     × (lists_diagonal to ≡ false) × IsFirstOnDiagonal (nodes_in f) (cost f) i
 IsRefused f to OutOfMemory = CanGo f to × (f.weight_format ≢ Some (Listed to))

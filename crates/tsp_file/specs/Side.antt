@@ -1,7 +1,7 @@
 -- Which costs of a row stand side by side among the weights of a layout. It is no part of the meaning.
 use Rattle.std.specs.Prelude.{ℕ, ◌+◌}
-use Rattle.tsp_value.specs.declared.layout.Layout.{Layout}
-use Rattle.tsp_value.specs.declared.layout.Layout.TheVariants.{FullMatrix, UpperRow, LowerRow, UpperDiagRow, LowerDiagRow, UpperCol, LowerCol, UpperDiagCol, LowerDiagCol}
+use Rattle.tsp_format.specs.declared.layout.Layout.{Layout}
+use Rattle.tsp_format.specs.declared.layout.Layout.TheVariants.{FullMatrix, UpperRow, LowerRow, UpperDiagRow, LowerDiagRow, UpperCol, LowerCol, UpperDiagCol, LowerDiagCol}
 
 -- their first column, and the one past the last
 abbrev pub first_own : Layout → ℕ → ℕ

@@ -1,8 +1,8 @@
 -- What a full matrix holds while it is made of half of one. It is no part of the meaning.
 use Rattle.std.specs.Prelude.{◌≡◌, ℕ, ◌+◌, ◌-◌, ◌*◌, ◌<◌, ◌≤◌, Bool, true, false, nat_le, List, slice_index_or, ℤ, pos}
-use Rattle.tsp_value.specs.declared.layout.Layout.{Layout}
-use Rattle.tsp_value.specs.declared.layout.Layout.TheVariants.{FullMatrix, UpperRow, LowerRow, UpperDiagRow, LowerDiagRow, UpperCol, LowerCol, UpperDiagCol, LowerDiagCol}
-use Rattle.tsp_value.specs.Cells.{IsNode, cells_of_line, line_len_of}
+use Rattle.tsp_format.specs.declared.layout.Layout.{Layout}
+use Rattle.tsp_format.specs.declared.layout.Layout.TheVariants.{FullMatrix, UpperRow, LowerRow, UpperDiagRow, LowerDiagRow, UpperCol, LowerCol, UpperDiagCol, LowerDiagCol}
+use Rattle.tsp_format.specs.Cells.{IsNode, cells_of_line, line_len_of}
 use Rattle.tsp_file.specs.Cost.{listed_cost}
 use Rattle.tsp_file.specs.Halves.{line_start_of}
 

@@ -4,16 +4,16 @@
 ghost use Rattle.std.specs.Prelude.{◌≡◌, true, false, [], ◌∷◌, pos};
 ghost use Rattle.tsp_distance.specs.declared.decimal.Point.{Point};
 ghost use Rattle.tsp_distance.specs.Distances.{euc_2d_of, ceil_2d_of, man_2d_of, max_2d_of, att_of, euc_3d_of, man_3d_of, max_3d_of};
-ghost use Rattle.tsp_value.specs.declared.kinds.WeightKind.TheVariants as weight_kinds;
-ghost use Rattle.tsp_value.specs.declared.layout.Layout.TheVariants as layouts;
-ghost use Rattle.tsp_fields.specs.Examples.{directed, plane};
+ghost use Rattle.tsp_format.specs.declared.kinds.WeightKind.TheVariants as weight_kinds;
+ghost use Rattle.tsp_format.specs.declared.layout.Layout.TheVariants as layouts;
+ghost use Rattle.tsp_draft.specs.Examples.{directed, plane};
 ghost use Rattle.tsp_file.specs.declared.fault.RelayoutFault.TheVariants as faults;
 ghost use Rattle.tsp_file.specs.Relayout.{lists_diagonal, IsFirstOnDiagonal, IsRefused};
 ghost use Rattle.tsp_file.specs.Cost.{cost, distance};
 ghost use Rattle.tsp_file.specs.Examples.{CostIs, Becomes, six};
 
 /// The costs of two nodes under the layouts, and which layouts list the diagonal.
-#[tactic(auto, unfolding(crate::specs::Cost::listed_cost, tsp_value::specs::Place::place_of, tsp_value::specs::Cells::cells, tsp_value::specs::Cells::nodes_to))]
+#[tactic(auto, unfolding(crate::specs::Cost::listed_cost, tsp_format::specs::Place::place_of, tsp_format::specs::Cells::cells, tsp_format::specs::Cells::nodes_to))]
 pub fn examples_of_costs()
     ensures upper_row { CostIs layouts.UpperRow 1 4 (pos 3) }
     ensures lower_row { CostIs layouts.LowerRow 1 4 (pos 4) }
@@ -29,7 +29,7 @@ pub fn examples_of_costs()
 {}
 
 /// The weights in another layout.
-#[tactic(auto, unfolding(crate::specs::Cost::listed_cost, tsp_value::specs::Place::place_of, tsp_value::specs::Cells::cells, tsp_value::specs::Cells::nodes_to))]
+#[tactic(auto, unfolding(crate::specs::Cost::listed_cost, tsp_format::specs::Place::place_of, tsp_format::specs::Cells::cells, tsp_format::specs::Cells::nodes_to))]
 pub fn examples_of_relayouts()
     ensures the_same { Becomes layouts.UpperDiagRow layouts.UpperDiagRow (six (pos 1) (pos 2) (pos 3) (pos 4) (pos 5) (pos 6)) }
     ensures diagonal { Becomes layouts.UpperDiagRow layouts.LowerDiagRow (six (pos 1) (pos 2) (pos 4) (pos 3) (pos 5) (pos 6)) }
@@ -39,7 +39,7 @@ pub fn examples_of_relayouts()
 {}
 
 /// Why weights aren't put into another layout.
-#[tactic(auto, unfolding(crate::specs::Cost::cost, crate::specs::Cost::listed_cost, tsp_value::specs::Place::place_of, tsp_value::specs::Cells::cells, tsp_value::specs::Cells::nodes_to))]
+#[tactic(auto, unfolding(crate::specs::Cost::cost, crate::specs::Cost::listed_cost, tsp_format::specs::Place::place_of, tsp_format::specs::Cells::cells, tsp_format::specs::Cells::nodes_to))]
 pub fn examples_of_lost_costs()
     ensures uneven { IsRefused directed layouts.UpperRow (faults.NotSymmetric 1 2) }
     ensures not_listed { IsRefused plane layouts.UpperRow faults.NotExplicit }

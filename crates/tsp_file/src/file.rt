@@ -3,8 +3,8 @@
 use crate::halves::keep_half;
 use crate::whole::make_whole;
 use std::marker::Model;
-use tsp_fields::{Coords, Draft, DraftFault, bad_field, end_fault};
-use tsp_value::{CoordKind, DisplayKind, Kind, Layout, TreeStep, WeightFormat, WeightKind};
+use tsp_draft::{Coords, Draft, DraftFault, bad_field, end_fault};
+use tsp_format::{CoordKind, DisplayKind, Kind, Layout, TreeStep, WeightFormat, WeightKind};
 
 /// What a valid file holds.
 ///
@@ -24,8 +24,8 @@ impl Drop for File {
 
 impl Model for File {
     ghost use Rattle.std.specs.Prelude.{◌≡◌, None};
-    ghost use Rattle.tsp_fields.specs.Fields.{Fields, fields_of};
-    ghost use Rattle.tsp_fields.specs.Rules.{fault_of};
+    ghost use Rattle.tsp_draft.specs.Fields.{Fields, fields_of};
+    ghost use Rattle.tsp_draft.specs.Rules.{fault_of};
 
     ghost Value = { Fields };
 
@@ -38,18 +38,18 @@ impl File {
     ghost use Rattle.std.specs.Prelude.{◌≡◌, Some, None, IsSome, length, map, MatchResult};
     ghost use Rattle.std.specs.List.{All};
     ghost use Rattle.std.specs.Option.{option_map};
-    ghost use Rattle.tsp_value.specs.Cells.{cells};
-    ghost use Rattle.tsp_value.specs.Limits.{most_weight};
-    ghost use Rattle.tsp_fields.specs.Coords.{points_of};
-    ghost use Rattle.tsp_fields.specs.Valid.{IsWithin};
-    ghost use Rattle.tsp_value.specs.declared.layout.Layout.TheVariants.{FullMatrix};
-    ghost use Rattle.tsp_value.specs.declared.kinds.WeightFormat.TheVariants.{Listed};
+    ghost use Rattle.tsp_format.specs.Cells.{cells};
+    ghost use Rattle.tsp_format.specs.Limits.{most_weight};
+    ghost use Rattle.tsp_draft.specs.Coords.{points_of};
+    ghost use Rattle.tsp_draft.specs.Valid.{IsWithin};
+    ghost use Rattle.tsp_format.specs.declared.layout.Layout.TheVariants.{FullMatrix};
+    ghost use Rattle.tsp_format.specs.declared.kinds.WeightFormat.TheVariants.{Listed};
     ghost use Rattle.tsp_file.specs.Cost.{cost};
     ghost use Rattle.tsp_file.specs.Way.{HasHalf};
     ghost use Rattle.tsp_file.specs.Relayout.{CanGo, nodes_in, with_weights, costs_in};
-    ghost use Rattle.tsp_value.specs.Steps.{steps_of};
-    ghost use Rattle.tsp_fields.specs.Fields.{fields_of, combs_of};
-    ghost use Rattle.tsp_fields.specs.Rules.{fault_of};
+    ghost use Rattle.tsp_format.specs.Steps.{steps_of};
+    ghost use Rattle.tsp_draft.specs.Fields.{fields_of, combs_of};
+    ghost use Rattle.tsp_draft.specs.Rules.{fault_of};
 
     /// The fields of this file, as a draft that has no fault.
     pub fn fields(&self) -> &Draft

@@ -1,14 +1,14 @@
 //! Half of a full matrix, in the room of the whole.
 
 ghost use Rattle.std.specs.Prelude.{◌≡◌, ◌≤◌, ◌+◌, ◌-◌, ◌*◌, length};
-ghost use Rattle.tsp_value.specs.declared.layout.Layout.TheVariants.{FullMatrix};
-ghost use Rattle.tsp_value.specs.Cells.{IsNode, cells, line_len_of};
-ghost use Rattle.tsp_value.specs.Limits.{most_matrix_nodes};
+ghost use Rattle.tsp_format.specs.declared.layout.Layout.TheVariants.{FullMatrix};
+ghost use Rattle.tsp_format.specs.Cells.{IsNode, cells, line_len_of};
+ghost use Rattle.tsp_format.specs.Limits.{most_matrix_nodes};
 ghost use Rattle.tsp_file.specs.Cost.{listed_cost};
 ghost use Rattle.tsp_file.specs.Relayout.{HoldsPairs, costs_in};
 ghost use Rattle.tsp_file.specs.Halves.{line_start_of};
 
-use tsp_value::Layout;
+use tsp_format::Layout;
 
 /// Moves what a layout lists of a full matrix to its front, in the layout's order, and drops the
 /// rest.

@@ -15,7 +15,7 @@ pub use examples::{
 };
 pub use fault::RelayoutFault;
 pub use file::File;
-pub use tsp_fields::{
+pub use tsp_draft::{
     Coords, Draft, DraftFault, EndFault, bad_field, end_fault, is_kept, valid_fields_are_in_range,
     valid_files_are_complete,
 };

@@ -1,7 +1,7 @@
 //! The change of the layout of a file's weights.
 
 ghost use Rattle.std.specs.Prelude.{◌≡◌, Some, MatchOption, MatchResult};
-ghost use Rattle.tsp_value.specs.declared.kinds.WeightKind.TheVariants.{Explicit};
+ghost use Rattle.tsp_format.specs.declared.kinds.WeightKind.TheVariants.{Explicit};
 ghost use Rattle.tsp_file.specs.Listed.{IsListed};
 ghost use Rattle.tsp_file.specs.Relayout.{HasListedWeights, CanGo, IsRefused, IsRelayout};
 ghost use Rattle.tsp_file.specs.Way.{LeadsTo};
@@ -11,8 +11,8 @@ use crate::file::File;
 use crate::way::Way;
 use crate::weights::ListedWeights;
 use std::alloc::Global;
-use tsp_fields::valid_fields_are_in_range;
-use tsp_value::{Layout, WeightFormat, WeightKind};
+use tsp_draft::valid_fields_are_in_range;
+use tsp_format::{Layout, WeightFormat, WeightKind};
 
 impl File {
     /// This file with its weights in another layout, or why not and the file itself, unchanged.

@@ -2,12 +2,12 @@
 
 ghost use Rattle.std.specs.Prelude.{◌≡◌, ◌≤◌, length};
 ghost use Rattle.std.specs.List.{All};
-ghost use Rattle.tsp_value.specs.Cells.{cells};
-ghost use Rattle.tsp_value.specs.Limits.{most_matrix_nodes, most_weight};
-ghost use Rattle.tsp_fields.specs.Valid.{IsWithin};
+ghost use Rattle.tsp_format.specs.Cells.{cells};
+ghost use Rattle.tsp_format.specs.Limits.{most_matrix_nodes, most_weight};
+ghost use Rattle.tsp_draft.specs.Valid.{IsWithin};
 
 use std::alloc::{AllocError, Global};
-use tsp_value::Layout;
+use tsp_format::Layout;
 
 /// How many rows and columns a block of cells has, which with its mirrored block stays in the cache.
 const BLOCK: u32 = 64;
@@ -26,10 +26,10 @@ pub(crate) struct ListedWeights<'a> {
 
 impl<'a> ListedWeights<'a> {
     ghost use Rattle.std.specs.Prelude.{ℕ, ◌<◌, ◌+◌, ◌*◌, ◌≢◌, ◌++◌, false, map, pos, ◌↔◌, IsTrue, MatchOption, IfOk, OnOk};
-    ghost use Rattle.tsp_value.specs.declared.layout.Layout.TheVariants.{FullMatrix};
-    ghost use Rattle.tsp_value.specs.Cells.{IsNode, cells_of_line};
-    ghost use Rattle.tsp_value.specs.Even.{IsFirstUneven, FindsUneven};
-    ghost use Rattle.tsp_fields.specs.Fields.{Fields};
+    ghost use Rattle.tsp_format.specs.declared.layout.Layout.TheVariants.{FullMatrix};
+    ghost use Rattle.tsp_format.specs.Cells.{IsNode, cells_of_line};
+    ghost use Rattle.tsp_format.specs.Symmetry.{IsFirstAsymmetric, FindsAsymmetric};
+    ghost use Rattle.tsp_draft.specs.Fields.{Fields};
     ghost use Rattle.tsp_file.specs.Listed.{IsListed};
     ghost use Rattle.tsp_file.specs.Relayout.{HoldsPairs, HoldsDiagonal, lists_diagonal, IsFirstOnDiagonal, costs_in};
     ghost use Rattle.std.specs.Prelude.{◌-◌, slice_index_or};
@@ -91,13 +91,13 @@ impl<'a> ListedWeights<'a> {
     pub(crate) fn lost_pair(&self, to: Layout) -> Option<(u32, u32)>
         ensures { MatchOption result
             (HoldsPairs to (costs_of self.now))
-            (λ pair. (to ≢ FullMatrix) × IsFirstUneven self.now.nodes (costs_of self.now) pair) }
+            (λ pair. (to ≢ FullMatrix) × IsFirstAsymmetric self.now.nodes (costs_of self.now) pair) }
     {
         if to == Layout::FullMatrix {
             return None;
         }
         match self.layout {
-            Layout::FullMatrix => self.first_uneven(),
+            Layout::FullMatrix => self.first_asymmetric(),
             // The costs of half a matrix are the same both ways.
             _ => None,
         }
@@ -118,24 +118,24 @@ impl<'a> ListedWeights<'a> {
 
     /// The first pair, the smaller node first, by rows, whose two costs differ.
     ///
-    /// Most matrices that come here are even, and show it by blocks: going by rows walks down a
+    /// Most matrices that come here are even, and show it by blocks: going by rows cycles down a
     /// column of the whole matrix for each, so it is left to those that aren't.
-    fn first_uneven(&self) -> Option<(u32, u32)>
+    fn first_asymmetric(&self) -> Option<(u32, u32)>
         requires { self.now.layout ≡ FullMatrix }
-        ensures { FindsUneven self.now.nodes (costs_of self.now) result }
+        ensures { FindsAsymmetric self.now.nodes (costs_of self.now) result }
     {
-        if self.is_even() {
+        if self.is_symmetric() {
             return None;
         }
-        self.first_uneven_by_rows()
+        self.first_asymmetric_by_rows()
     }
 
     /// The same, pair by pair.
-    fn first_uneven_by_rows(&self) -> Option<(u32, u32)>
-        ensures { FindsUneven self.now.nodes (costs_of self.now) result }
+    fn first_asymmetric_by_rows(&self) -> Option<(u32, u32)>
+        ensures { FindsAsymmetric self.now.nodes (costs_of self.now) result }
     {
         'rows: for i in 1..self.nodes {
-            if let Some(j) = self.first_uneven_of_row(i) {
+            if let Some(j) = self.first_asymmetric_of_row(i) {
                 return Some((i, j));
             }
         }
@@ -143,14 +143,14 @@ impl<'a> ListedWeights<'a> {
     }
 
     /// Whether the two costs of each pair are the same, block by block.
-    fn is_even(&self) -> bool
+    fn is_symmetric(&self) -> bool
         requires { self.now.layout ≡ FullMatrix }
         ensures { IsTrue result ↔ ((i j : ℕ) → IsNode (self.now.nodes) i
             → IsNode (self.now.nodes) j → i < j
             → costs_of self.now i j ≡ costs_of self.now j i) }
     {
         'bands: for band in 0..self.nodes / BLOCK + 1 {
-            if !self.is_even_band(band) {
+            if !self.is_symmetric_band(band) {
                 return false;
             }
         }
@@ -158,7 +158,7 @@ impl<'a> ListedWeights<'a> {
     }
 
     /// The same over a band of rows, counted from 0, from the band's block on the diagonal on.
-    fn is_even_band(&self, band: u32) -> bool
+    fn is_symmetric_band(&self, band: u32) -> bool
         requires full { self.now.layout ≡ FullMatrix }
         requires band { band * 64 ≤ self.now.nodes }
         ensures { IsTrue result ↔ ((i j : ℕ) → band * 64 < i → i ≤ band * 64 + 64
@@ -166,7 +166,7 @@ impl<'a> ListedWeights<'a> {
             → costs_of self.now i j ≡ costs_of self.now j i) }
     {
         'across: for block in band..self.nodes / BLOCK + 1 {
-            if !self.is_even_block(band * BLOCK + 1, block * BLOCK + 1) {
+            if !self.is_symmetric_block(band * BLOCK + 1, block * BLOCK + 1) {
                 return false;
             }
         }
@@ -174,7 +174,7 @@ impl<'a> ListedWeights<'a> {
     }
 
     /// The same over the block of cells that begins with the cell (top, left).
-    fn is_even_block(&self, top: u32, left: u32) -> bool
+    fn is_symmetric_block(&self, top: u32, left: u32) -> bool
         requires full { self.now.layout ≡ FullMatrix }
         requires top { 1 ≤ top }
         requires left { 1 ≤ left }
@@ -186,7 +186,7 @@ impl<'a> ListedWeights<'a> {
     {
         let past = self.block_end(top);
         'rows: for i in top..past {
-            if !self.is_even_in_block(i, left) {
+            if !self.is_symmetric_in_block(i, left) {
                 return false;
             }
         }
@@ -195,7 +195,7 @@ impl<'a> ListedWeights<'a> {
 
     /// The same over the cells of a row in the block whose first column is `left`.
     #[inline]
-    fn is_even_in_block(&self, i: u32, left: u32) -> bool
+    fn is_symmetric_in_block(&self, i: u32, left: u32) -> bool
         requires full { self.now.layout ≡ FullMatrix }
         requires row { IsNode (self.now.nodes) i }
         requires left { 1 ≤ left }
@@ -230,7 +230,7 @@ impl<'a> ListedWeights<'a> {
     }
 
     /// The first node past i whose two costs with i differ.
-    fn first_uneven_of_row(&self, i: u32) -> Option<u32>
+    fn first_asymmetric_of_row(&self, i: u32) -> Option<u32>
         requires { IsNode self.now.nodes i }
         ensures { MatchOption result
             ((j : ℕ) → i < j → j ≤ self.now.nodes → costs_of self.now i j ≡ costs_of self.now j i)

@@ -1,17 +1,17 @@
 //! A full matrix of half of one, in the room of the whole.
 
 ghost use Rattle.std.specs.Prelude.{◌≡◌, ◌≢◌, ◌≤◌, ◌<◌, ◌+◌, ◌*◌, Bool, ℕ, ℤ, List, length, take, true, ◌⊎◌, OnErr, OnOk};
-ghost use Rattle.tsp_value.specs.declared.layout.Layout.TheVariants.{FullMatrix};
-ghost use Rattle.tsp_value.specs.Cells.{IsNode, cells};
-ghost use Rattle.tsp_value.specs.Even.{IsEven};
-ghost use Rattle.tsp_value.specs.Limits.{most_matrix_nodes};
+ghost use Rattle.tsp_format.specs.declared.layout.Layout.TheVariants.{FullMatrix};
+ghost use Rattle.tsp_format.specs.Cells.{IsNode, cells};
+ghost use Rattle.tsp_format.specs.Symmetry.{IsSymmetric};
+ghost use Rattle.tsp_format.specs.Limits.{most_matrix_nodes};
 ghost use Rattle.tsp_file.specs.Cost.{listed_cost};
 ghost use Rattle.tsp_file.specs.Relayout.{costs_in};
 ghost use Rattle.tsp_file.specs.Whole.{goes_above, is_on_side, HasCost, HasLines, HasSide, Fills};
 
 use crate::halves::line_start;
 use std::alloc::AllocError;
-use tsp_value::Layout;
+use tsp_format::Layout;
 
 /// How many columns are filled at a time, so that what is read across the diagonal stays in the cache.
 const BAND: u32 = 64;
@@ -94,7 +94,7 @@ fn fill_across(above: bool, nodes: u32, weights: &mut Vec<i64>)
     requires few { nodes ≤ most_matrix_nodes }
     requires size { length weights.old.items ≡ nodes * nodes }
     ensures size { length weights.new.items ≡ nodes * nodes }
-    ensures costs { (cost : ℕ → ℕ → ℤ) → IsEven cost → HasSide above cost nodes weights.old.items
+    ensures costs { (cost : ℕ → ℕ → ℤ) → IsSymmetric cost → HasSide above cost nodes weights.old.items
         → (i j : ℕ) → IsNode nodes i → IsNode nodes j → HasCost cost nodes weights.new.items i j }
 {
     'bands: for band in 0..nodes / BAND + 1 {
@@ -109,7 +109,7 @@ fn fill_band(above: bool, nodes: u32, weights: &mut Vec<i64>, left: u32)
     requires left_most { left ≤ nodes + 1 }
     requires size { length weights.old.items ≡ nodes * nodes }
     ensures size { length weights.new.items ≡ nodes * nodes }
-    ensures costs { (cost : ℕ → ℕ → ℤ) → IsEven cost → HasSide above cost nodes weights.old.items
+    ensures costs { (cost : ℕ → ℕ → ℤ) → IsSymmetric cost → HasSide above cost nodes weights.old.items
         → Fills cost nodes weights.old.items weights.new.items (λ _ j. (left ≤ j) × (j < left + 64)) }
 {
     'rows: for row in 1..nodes + 1 {
@@ -152,7 +152,7 @@ fn fill_in_band(above: bool, nodes: u32, weights: &mut Vec<i64>, row: u32, left:
     requires left_most { left ≤ nodes + 1 }
     requires size { length weights.old.items ≡ nodes * nodes }
     ensures size { length weights.new.items ≡ nodes * nodes }
-    ensures costs { (cost : ℕ → ℕ → ℤ) → IsEven cost → HasSide above cost nodes weights.old.items
+    ensures costs { (cost : ℕ → ℕ → ℤ) → IsSymmetric cost → HasSide above cost nodes weights.old.items
         → Fills cost nodes weights.old.items weights.new.items
         (λ i j. (i ≡ row) × (left ≤ j) × (j < left + 64)) }
 {

@@ -4,7 +4,7 @@ use Rattle.std.specs.Prelude.{pos, negsuc, nat_abs, nat_le}
 use Rattle.std.specs.List.{list_any}
 use Rattle.std.proofs.lemmas.List.{map_push, length_push}
 use Rattle.std.proofs.lemmas.Bool.Decides.{nat_tests}
-use Rattle.tsp_value.specs.Limits.{most_depots}
+use Rattle.tsp_format.specs.Limits.{most_depots}
 use Rattle.tsp_items.specs.Numbers.{number, node_or_end, is_end, is_minus_one}
 use Rattle.tsp_items.specs.Places.{Place, PastEnd, DepotAfter}
 use Rattle.tsp_items.specs.Lists.{place_of_depot}

@@ -7,7 +7,7 @@ use Rattle.std.proofs.lemmas.List.{map_push, length_push}
 use Rattle.std.proofs.lemmas.Bool.{false_from_ne_true}
 use Rattle.std.proofs.lemmas.Bool.Decides.{nat_tests, Decides-int_eq}
 use Rattle.tsp_number.specs.declared.fault.NumberFault.{NumberFault}
-use Rattle.tsp_value.specs.Limits.{most_fixed}
+use Rattle.tsp_format.specs.Limits.{most_fixed}
 use Rattle.tsp_items.specs.declared.fault.LineFault.TheVariants as row
 use Rattle.tsp_items.specs.Numbers.{number, node, node_or_end, is_end, is_minus_one}
 use Rattle.tsp_items.specs.Places.{PastEnd, FirstAfter, SecondOf}

@@ -2,7 +2,7 @@
 use Rattle.std.proofs.Common.{◌≡◌, ℕ, suc, ◌+◌, true, false, cond, List, [], ◌∷◌, ◌++◌, length, drop, reverse, sym, ap, ◌∙◌, arith}
 use Rattle.std.specs.List.{prefix_len}
 use Rattle.std.proofs.lemmas.List.{nil_from_length, reverse-append, reverse-reverse}
-use Rattle.tsp_value.specs.Bytes.{is_blank}
+use Rattle.tsp_format.specs.Bytes.{is_blank}
 use Rattle.tsp_items.specs.Lines.{without_start, without_end}
 
 -- ---- at the start

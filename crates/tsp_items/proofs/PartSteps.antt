@@ -4,7 +4,7 @@ use Rattle.tsp_items.specs.declared.fault.StepFault.{StepFault}
 use Rattle.tsp_items.specs.declared.part.Part.{Part}
 use Rattle.tsp_items.specs.declared.part.Part.TheVariants as parts
 use Rattle.tsp_items.specs.declared.parts.numbers.NumberList.{NumberList}
-use Rattle.tsp_value.specs.declared.field.Shape.TheVariants.{Numbers}
+use Rattle.tsp_format.specs.declared.field.Shape.TheVariants.{Numbers}
 use Rattle.tsp_items.specs.Groups.{place_of_number}
 use Rattle.tsp_items.specs.Sections.{place_by}
 use Rattle.tsp_items.specs.states.Parts.{Takes}

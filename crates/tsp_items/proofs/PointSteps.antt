@@ -6,7 +6,7 @@ use Rattle.std.proofs.lemmas.Bool.Decides.{nat_tests}
 use Rattle.tsp_distance.specs.declared.decimal.Point.{Point}
 use Rattle.tsp_distance.specs.declared.decimal.PlanePoint.{PlanePoint}
 use Rattle.tsp_distance.specs.Distances.{on_plane}
-use Rattle.tsp_fields.specs.Coords.{origin}
+use Rattle.tsp_draft.specs.Coords.{origin}
 use Rattle.tsp_number.specs.declared.fault.NumberFault.{NumberFault}
 use Rattle.tsp_number.specs.Reading.{decimal_of}
 use Rattle.tsp_items.specs.declared.fault.LineFault.{LineFault}

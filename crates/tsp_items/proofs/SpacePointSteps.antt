@@ -4,7 +4,7 @@ use Rattle.std.specs.Prelude.{ℤ, pos, nat_le, nat_lt, replicate}
 use Rattle.std.proofs.lemmas.List.{map_push, length_push, length-map, take_all, take-append-le}
 use Rattle.std.proofs.lemmas.Bool.Decides.{nat_tests}
 use Rattle.tsp_distance.specs.declared.decimal.Point.{Point}
-use Rattle.tsp_fields.specs.Coords.{origin}
+use Rattle.tsp_draft.specs.Coords.{origin}
 use Rattle.tsp_number.specs.declared.fault.NumberFault.{NumberFault}
 use Rattle.tsp_number.specs.Reading.{decimal_of}
 use Rattle.tsp_items.specs.declared.fault.LineFault.{LineFault}

@@ -6,7 +6,7 @@ use Rattle.std.specs.List.{slice_split, filter}
 use Rattle.std.specs.Ordering.{int_eq}
 use Rattle.std.proofs.lemmas.Int.{ints}
 use Rattle.std.proofs.lemmas.List.{map_push}
-use Rattle.tsp_value.specs.Limits.{most_nodes, most_tour_nodes}
+use Rattle.tsp_format.specs.Limits.{most_nodes, most_tour_nodes}
 use Rattle.tsp_items.specs.declared.fault.StepFault.{StepFault}
 use Rattle.tsp_items.specs.declared.fault.StepFault.TheVariants as steps
 use Rattle.tsp_items.specs.declared.parts.tours.TourList.{TourList}

@@ -4,7 +4,7 @@ use Rattle.std.specs.Prelude.{◌==◌, ℤ, pos, neg_ℤ}
 use Rattle.std.proofs.lemmas.List.Sums.{fold-append}
 use Rattle.std.proofs.lemmas.Bool.Decides.{nat_tests}
 use Rattle.tsp_number.specs.Reading.{whole_of}
-use Rattle.tsp_value.specs.Limits.{most_difference}
+use Rattle.tsp_format.specs.Limits.{most_difference}
 use Rattle.tsp_items.specs.Tree.{TreeSoFar, no_steps, with_tree_word, tree_after, place_in_tree, place_of_step}
 use Rattle.tsp_items.specs.Rows.{word_fault}
 

@@ -8,7 +8,7 @@ use Rattle.std.proofs.lemmas.Bool.{false_from_ne_true}
 use Rattle.std.proofs.lemmas.Bool.Decides.{nat_tests, Decides-int_eq}
 use Rattle.tsp_number.specs.declared.fault.NumberFault.{NumberFault}
 use Rattle.tsp_number.specs.Reading.{whole_of}
-use Rattle.tsp_value.specs.Limits.{most_fixed, most_multiplier}
+use Rattle.tsp_format.specs.Limits.{most_fixed, most_multiplier}
 use Rattle.tsp_items.specs.declared.fault.LineFault.TheVariants as row
 use Rattle.tsp_items.specs.Numbers.{node, node_or_end, is_end, is_minus_one}
 use Rattle.tsp_items.specs.Places.{Amount, PastEnd, FirstAfter, SecondOf}

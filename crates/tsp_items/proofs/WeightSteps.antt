@@ -3,7 +3,7 @@ use Rattle.std.proofs.Common.{◌≡◌, ℕ, ◌*◌, ◌<◌, false, List, [],
 use Rattle.std.specs.Prelude.{ℤ, nat_le}
 use Rattle.std.proofs.lemmas.List.{map_push, length_push, length-map}
 use Rattle.std.proofs.lemmas.Bool.Decides.{nat_tests}
-use Rattle.tsp_value.specs.Limits.{most_weight}
+use Rattle.tsp_format.specs.Limits.{most_weight}
 use Rattle.tsp_items.specs.Numbers.{number, sized}
 use Rattle.tsp_items.specs.Places.{Weight}
 use Rattle.tsp_items.specs.Weights.{place_of_weight}

@@ -1,11 +1,11 @@
 -- Small texts on which the definitions are evaluated. In them `/` stands for byte 10.
 use Rattle.std.specs.Prelude.{◌≡◌, ℕ, ◌==◌, true, false, cond, List, [], ◌∷◌, ◌++◌, map, replicate, None, Some, codes, pos, negsuc}
-use Rattle.tsp_value.specs.declared.field.Field.{Field}
-use Rattle.tsp_value.specs.Steps.{Branch, Leaf}
+use Rattle.tsp_format.specs.declared.field.Field.{Field}
+use Rattle.tsp_format.specs.Steps.{Branch, Leaf}
 use Rattle.tsp_number.specs.declared.fault.NumberFault.{NumberFault}
 use Rattle.tsp_distance.specs.Distances.{on_plane}
-use Rattle.tsp_fields.specs.declared.fault.EndFault.{EndFault}
-use Rattle.tsp_fields.specs.declared.fault.EndFault.TheVariants.{Missing}
+use Rattle.tsp_draft.specs.declared.fault.EndFault.{EndFault}
+use Rattle.tsp_draft.specs.declared.fault.EndFault.TheVariants.{Missing}
 use Rattle.tsp_items.specs.declared.fault.LineFault.{LineFault}
 use Rattle.tsp_items.specs.declared.fault.LineFault.TheVariants.{Number}
 use Rattle.tsp_items.specs.declared.fault.ReadFault.TheVariants as faults

@@ -4,9 +4,9 @@ use Rattle.std.specs.Prelude.{ℕ, ◌*◌, Bool, cond, nat_le, List, [], ◌∷
 use Rattle.std.specs.Ordering.{int_eq}
 use Rattle.tsp_distance.specs.declared.decimal.Point.{Point}
 use Rattle.tsp_distance.specs.Distances.{on_plane}
-use Rattle.tsp_fields.specs.Coords.{origin}
+use Rattle.tsp_draft.specs.Coords.{origin}
 use Rattle.tsp_number.specs.Reading.{decimal_of, whole_of}
-use Rattle.tsp_value.specs.Cells.{nodes_to}
+use Rattle.tsp_format.specs.Cells.{nodes_to}
 use Rattle.tsp_items.specs.Numbers.{number, node}
 use Rattle.tsp_items.specs.Places.{Place, NodeAfter, Coordinate, Amount, PastGroups}
 

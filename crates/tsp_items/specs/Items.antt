@@ -2,11 +2,11 @@
 -- settled is this project's profile.
 use Rattle.std.specs.Prelude.{ℕ, ◌+◌, Bool, true, false, cond, nat_lt, List, [], ◌∷◌, ◌++◌, length, map}
 use Rattle.std.specs.List.{filter, slice_split, list_any}
-use Rattle.tsp_value.specs.declared.keyword.Keyword.{Keyword}
-use Rattle.tsp_value.specs.declared.keyword.Keyword.TheVariants.{Known, EdgeDataFormat, EdgeDataSection, Eof, Unknown}
-use Rattle.tsp_value.specs.Bytes.{is_blank}
-use Rattle.tsp_value.specs.Keywords.{keyword_of}
-use Rattle.tsp_value.specs.Limits.{most_word_bytes, most_line_bytes}
+use Rattle.tsp_format.specs.declared.keyword.Keyword.{Keyword}
+use Rattle.tsp_format.specs.declared.keyword.Keyword.TheVariants.{Known, EdgeDataFormat, EdgeDataSection, Eof, Unknown}
+use Rattle.tsp_format.specs.Bytes.{is_blank}
+use Rattle.tsp_format.specs.Keywords.{keyword_of}
+use Rattle.tsp_format.specs.Limits.{most_word_bytes, most_line_bytes}
 use Rattle.tsp_items.specs.Lines.{lines_of, words_in, is_filled, without_start, is_word_line, keyword_in, has_colon, value_in}
 
 -- a word line: how many bytes it has from the first that isn't blank, its keyword, whether a colon follows, and its value

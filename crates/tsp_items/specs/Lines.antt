@@ -2,7 +2,7 @@
 -- parts words and begins a keyword is this project's profile.
 use Rattle.std.specs.Prelude.{ℕ, Bool, true, false, cond, ◌==◌, List, [], ◌∷◌, drop, reverse}
 use Rattle.std.specs.List.{filter, slice_split, prefix_len, take_while, before_first}
-use Rattle.tsp_value.specs.Bytes.{is_blank, is_letter, is_keyword_byte}
+use Rattle.tsp_format.specs.Bytes.{is_blank, is_letter, is_keyword_byte}
 
 -- byte 10 ends a line
 abbrev pub ends_line : ℕ → Bool

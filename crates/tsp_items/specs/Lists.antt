@@ -3,7 +3,7 @@
 use Rattle.std.specs.Prelude.{ℕ, ℤ, pos, Bool, cond, List, [], ◌∷◌, length, map, nat_abs}
 use Rattle.std.specs.List.{list_any}
 use Rattle.tsp_number.specs.Reading.{whole_of}
-use Rattle.tsp_value.specs.Limits.{most_multiplier}
+use Rattle.tsp_format.specs.Limits.{most_multiplier}
 use Rattle.tsp_items.specs.Numbers.{number, node, node_or_end, is_end}
 use Rattle.tsp_items.specs.Places.{Place, Amount, DepotAfter, FirstAfter, SecondOf, PastEnd}
 use Rattle.tsp_items.specs.Groups.{pairs_in, begun_pair, triples_in, begun_triple}

@@ -7,15 +7,15 @@ use Rattle.std.specs.Result.{result_err}
 use Rattle.std.specs.List.{list_any}
 use Rattle.tsp_number.specs.declared.fault.NumberFault.{NumberFault}
 use Rattle.tsp_number.specs.Reading.{decimal_of, whole_of}
-use Rattle.tsp_value.specs.declared.field.Field.{Field}
-use Rattle.tsp_value.specs.declared.field.Field.TheVariants.{CommentKey, OtherKey, DimensionKey, NodeCoordPart, EdgeWeightPart, TourPart}
-use Rattle.tsp_value.specs.declared.keyword.Keyword.TheVariants.{Known, EdgeDataFormat, EdgeDataSection, Eof, Unknown}
-use Rattle.tsp_value.specs.Limits.{most_nodes, most_matrix_nodes, most_weight, most_line_bytes, most_kept_bytes, most_comments, most_others, most_depots, most_fixed, most_tour_nodes, most_combs, most_comb_nodes, most_branches, most_changes}
+use Rattle.tsp_format.specs.declared.field.Field.{Field}
+use Rattle.tsp_format.specs.declared.field.Field.TheVariants.{CommentKey, OtherKey, DimensionKey, NodeCoordPart, EdgeWeightPart, TourPart}
+use Rattle.tsp_format.specs.declared.keyword.Keyword.TheVariants.{Known, EdgeDataFormat, EdgeDataSection, Eof, Unknown}
+use Rattle.tsp_format.specs.Limits.{most_nodes, most_matrix_nodes, most_weight, most_line_bytes, most_kept_bytes, most_comments, most_others, most_depots, most_fixed, most_tour_nodes, most_combs, most_comb_nodes, most_branches, most_changes}
 use Rattle.tsp_items.specs.declared.fault.LineFault.{LineFault}
 use Rattle.tsp_items.specs.declared.fault.LineFault.TheVariants as row
 use Rattle.tsp_items.specs.Lines.{is_filled, first_word}
 use Rattle.tsp_items.specs.Items.{WordLine, Item, Line, NumberWord, LineEnd}
-use Rattle.tsp_value.specs.Shapes.{is_section_field}
+use Rattle.tsp_format.specs.Shapes.{is_section_field}
 use Rattle.tsp_items.specs.Earlier.{same_field, has_line, values_at, others_in, open_section}
 use Rattle.tsp_items.specs.Values.{is_refused, is_left_out, has_number, read_as, is_kept_as_is, says_space, spatial_after}
 use Rattle.tsp_items.specs.Numbers.{reads_as, node, sized, node_or_end, is_end, is_minus_one}

@@ -1,11 +1,11 @@
 -- Each section's words: where the next one stands. Source: TSPLIB 95 (G. Reinelt).
 use Rattle.std.specs.Prelude.{ℕ, Bool, List, Option, unwrap_or}
 use Rattle.std.specs.Option.{option_map, option_map_or}
-use Rattle.tsp_value.specs.declared.field.Field.{Field}
-use Rattle.tsp_value.specs.declared.field.Shape.{Shape}
-use Rattle.tsp_value.specs.declared.field.Shape.TheVariants.{Numbers, Points, SpacePoints, Depots, Pairs, Weights, Tours, Triples, Combs, Steps}
+use Rattle.tsp_format.specs.declared.field.Field.{Field}
+use Rattle.tsp_format.specs.declared.field.Shape.{Shape}
+use Rattle.tsp_format.specs.declared.field.Shape.TheVariants.{Numbers, Points, SpacePoints, Depots, Pairs, Weights, Tours, Triples, Combs, Steps}
 use Rattle.tsp_items.specs.Items.{Item}
-use Rattle.tsp_value.specs.Shapes.{shape_of}
+use Rattle.tsp_format.specs.Shapes.{shape_of}
 use Rattle.tsp_items.specs.Earlier.{open_section, words_of}
 use Rattle.tsp_items.specs.Values.{dimension_of, spatial_after}
 use Rattle.tsp_items.specs.Places.{Place, PastEnd}

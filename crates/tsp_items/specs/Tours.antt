@@ -2,7 +2,7 @@
 -- profile.
 use Rattle.std.specs.Prelude.{ℕ, Bool, not, List, length, map, nat_abs}
 use Rattle.std.specs.List.{slice_split, filter}
-use Rattle.tsp_value.specs.Limits.{most_nodes}
+use Rattle.tsp_format.specs.Limits.{most_nodes}
 use Rattle.tsp_items.specs.Lines.{is_filled}
 use Rattle.tsp_items.specs.Numbers.{number, node_or_end, is_end}
 use Rattle.tsp_items.specs.Places.{Place, TourNode}

@@ -5,8 +5,8 @@ use Rattle.std.specs.Prelude.{ℕ, ◌+◌, ◌-◌, ◌==◌, Bool, true, false
 use Rattle.std.specs.List.{fold}
 use Rattle.tsp_number.specs.declared.fault.NumberFault.{NumberFault}
 use Rattle.tsp_number.specs.Reading.{whole_of}
-use Rattle.tsp_value.specs.Limits.{most_combs, most_difference}
-use Rattle.tsp_value.specs.Steps.{Step, Branch, Leaf}
+use Rattle.tsp_format.specs.Limits.{most_combs, most_difference}
+use Rattle.tsp_format.specs.Steps.{Step, Branch, Leaf}
 use Rattle.tsp_items.specs.Numbers.{number, reads_as, node, sized, node_or_end, is_end}
 use Rattle.tsp_items.specs.Places.{Place, StepAfter, SecondOf, IndexAfter, Amount, PastGroups}
 

@@ -7,19 +7,19 @@ use Rattle.std.specs.List.{find, list_any}
 use Rattle.std.specs.Str.{bytes_eq}
 use Rattle.tsp_number.specs.declared.fault.NumberFault.{NumberFault}
 use Rattle.tsp_number.specs.Reading.{whole_of}
-use Rattle.tsp_value.specs.declared.kinds.Kind.{Kind}
-use Rattle.tsp_value.specs.declared.kinds.WeightKind.{WeightKind}
-use Rattle.tsp_value.specs.declared.kinds.WeightFormat.{WeightFormat}
-use Rattle.tsp_value.specs.declared.kinds.CoordKind.{CoordKind}
-use Rattle.tsp_value.specs.declared.kinds.DisplayKind.{DisplayKind}
-use Rattle.tsp_value.specs.declared.field.Field.{Field}
-use Rattle.tsp_value.specs.declared.field.Field.TheVariants.{TypeKey, DimensionKey, EdgeWeightTypeKey, EdgeWeightFormatKey, NodeCoordTypeKey, DisplayDataTypeKey}
-use Rattle.tsp_value.specs.declared.field.ValueShape.{ValueShape}
-use Rattle.tsp_value.specs.declared.field.ValueShape.TheVariants.{Kept, KeptEach, Number, Word}
-use Rattle.tsp_value.specs.Shapes.{value_shape_of}
-use Rattle.tsp_value.specs.Space.{weighs_three, has_three, is_spatial}
-use Rattle.tsp_value.specs.Words.{kind_word, weight_kind_word, weight_format_word, coord_kind_word, display_kind_word}
-use Rattle.tsp_value.specs.Words.{kinds, weight_kinds, weight_formats, coord_kinds, display_kinds}
+use Rattle.tsp_format.specs.declared.kinds.Kind.{Kind}
+use Rattle.tsp_format.specs.declared.kinds.WeightKind.{WeightKind}
+use Rattle.tsp_format.specs.declared.kinds.WeightFormat.{WeightFormat}
+use Rattle.tsp_format.specs.declared.kinds.CoordKind.{CoordKind}
+use Rattle.tsp_format.specs.declared.kinds.DisplayKind.{DisplayKind}
+use Rattle.tsp_format.specs.declared.field.Field.{Field}
+use Rattle.tsp_format.specs.declared.field.Field.TheVariants.{TypeKey, DimensionKey, EdgeWeightTypeKey, EdgeWeightFormatKey, NodeCoordTypeKey, DisplayDataTypeKey}
+use Rattle.tsp_format.specs.declared.field.ValueShape.{ValueShape}
+use Rattle.tsp_format.specs.declared.field.ValueShape.TheVariants.{Kept, KeptEach, Number, Word}
+use Rattle.tsp_format.specs.Shapes.{value_shape_of}
+use Rattle.tsp_format.specs.Space.{weighs_three, has_three, is_spatial}
+use Rattle.tsp_format.specs.Words.{kind_word, weight_kind_word, weight_format_word, coord_kind_word, display_kind_word}
+use Rattle.tsp_format.specs.Words.{kinds, weight_kinds, weight_formats, coord_kinds, display_kinds}
 use Rattle.tsp_items.specs.Lines.{first_word}
 use Rattle.tsp_items.specs.Items.{Item}
 use Rattle.tsp_items.specs.Earlier.{value_at}

@@ -1,6 +1,6 @@
 -- The weights of a matrix. TSPLIB 95 (G. Reinelt): EDGE_WEIGHT_SECTION.
 use Rattle.std.specs.Prelude.{ℕ, ◌*◌, cond, nat_le, List, length, map, ℤ}
-use Rattle.tsp_value.specs.Limits.{most_weight}
+use Rattle.tsp_format.specs.Limits.{most_weight}
 use Rattle.tsp_items.specs.Numbers.{number, sized}
 use Rattle.tsp_items.specs.Places.{Place, Weight, PastWeights}
 

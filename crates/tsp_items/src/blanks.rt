@@ -2,10 +2,10 @@
 
 ghost use Rattle.std.specs.Prelude.{◌≡◌, not};
 ghost use Rattle.std.specs.List.{position};
-ghost use Rattle.tsp_value.specs.Bytes.{is_blank};
+ghost use Rattle.tsp_format.specs.Bytes.{is_blank};
 ghost use Rattle.tsp_items.specs.Lines.{without_start, without_end};
 
-use tsp_value::is_blank;
+use tsp_format::is_blank;
 
 /// Where the first byte is that isn't blank.
 #[inline(always)]

@@ -1,7 +1,7 @@
 //! Why bytes are no file.
 
 use thiserror::Error;
-use tsp_fields::EndFault;
+use tsp_draft::EndFault;
 use tsp_number::NumberFault;
 
 /// What is wrong with a line, in the order of the rows in which it is judged.

@@ -3,10 +3,10 @@
 ghost use Rattle.std.specs.Prelude.{codes, ◌≡◌, ◌≤◌, ◌++◌, ℕ, List, length, IsTrue, true, false};
 ghost use Rattle.tsp_distance.specs.Decimal.{most_count};
 ghost use Rattle.tsp_number.specs.NumberWord.{IsShort};
-ghost use Rattle.tsp_value.specs.Limits.{most_coordinate, most_word_bytes};
+ghost use Rattle.tsp_format.specs.Limits.{most_coordinate, most_word_bytes};
 ghost use Rattle.tsp_number.specs.declared.fault.NumberFault.TheVariants as numbers;
-ghost use Rattle.tsp_value.specs.declared.field.Field.TheVariants as fields;
-ghost use Rattle.tsp_fields.specs.declared.fault.EndFault.TheVariants as ends;
+ghost use Rattle.tsp_format.specs.declared.field.Field.TheVariants as fields;
+ghost use Rattle.tsp_draft.specs.declared.fault.EndFault.TheVariants as ends;
 ghost use Rattle.tsp_items.specs.declared.fault.LineFault.TheVariants as faults;
 ghost use Rattle.tsp_items.specs.Examples.{FaultAt, NumberAt, MissingAtEnd, EndsWith, OthersAre, ToursAre, PairsAre, TriplesAre, CombIs, TreeIs, DemandsAre, InSpace, OnPlane, quad, longest_line, long_line, long_word, other_line, IsLimit, IsLimitOfLines};
 ghost use Rattle.tsp_items.specs.Rows.{is_surplus_at};
@@ -76,7 +76,7 @@ pub fn faults_of_words()
 {}
 
 /// The faults at the end of some texts.
-#[tactic(auto, unfolding(tsp_number::specs::Reading::decimal_of, tsp_number::specs::Reading::whole_of, tsp_value::specs::Cells::cells, tsp_value::specs::Cells::nodes_to))]
+#[tactic(auto, unfolding(tsp_number::specs::Reading::decimal_of, tsp_number::specs::Reading::whole_of, tsp_format::specs::Cells::cells, tsp_format::specs::Cells::nodes_to))]
 pub fn faults_at_the_end()
     ensures no_type { MissingAtEnd (codes "DIMENSION 3") fields.TypeKey }
     ensures small_letters { MissingAtEnd (codes "dimension : 3") fields.TypeKey }
@@ -113,7 +113,7 @@ pub fn faults_at_the_end()
 {}
 
 /// Numbers and lines at their limits, and past them by one.
-#[tactic(auto, unfolding(tsp_number::specs::Reading::decimal_of, tsp_number::specs::Reading::whole_of, tsp_value::specs::Cells::cells, tsp_value::specs::Cells::nodes_to))]
+#[tactic(auto, unfolding(tsp_number::specs::Reading::decimal_of, tsp_number::specs::Reading::whole_of, tsp_format::specs::Cells::cells, tsp_format::specs::Cells::nodes_to))]
 pub fn limits_of_lines()
     ensures most_nodes { MissingAtEnd (codes "DIMENSION : 100000") fields.TypeKey }
     ensures more_nodes { NumberAt (codes "DIMENSION : 100001") 1 0 numbers.OutOfRange }
@@ -160,7 +160,7 @@ pub fn limits_of_sections()
 {}
 
 /// What some texts spell.
-#[tactic(auto, unfolding(tsp_number::specs::Reading::decimal_of, tsp_number::specs::Reading::whole_of, tsp_value::specs::Cells::nodes_to))]
+#[tactic(auto, unfolding(tsp_number::specs::Reading::decimal_of, tsp_number::specs::Reading::whole_of, tsp_format::specs::Cells::nodes_to))]
 pub fn fields_of_texts()
     ensures value { OthersAre (codes "FOO : BAR") (codes "FOO") (codes "BAR") }
     ensures no_value { OthersAre (codes "FOO: ") (codes "FOO") (codes "") }

@@ -2,20 +2,20 @@
 
 ghost use Rattle.std.specs.Prelude.{◌≡◌, cond, drop, not};
 ghost use Rattle.std.specs.List.{position, prefix_len};
-ghost use Rattle.tsp_value.specs.Bytes.{is_blank, is_keyword_byte};
+ghost use Rattle.tsp_format.specs.Bytes.{is_blank, is_keyword_byte};
 ghost use Rattle.tsp_items.specs.Lines.{first_word, keyword_in, is_colon, begins};
 ghost use Rattle.tsp_items.specs.Items.{line_item};
 ghost use Rattle.tsp_items.specs.Values.{is_left_out, says_space};
-ghost use Rattle.tsp_value.specs.declared.field.Field.TheVariants.{EdgeWeightTypeKey};
+ghost use Rattle.tsp_format.specs.declared.field.Field.TheVariants.{EdgeWeightTypeKey};
 ghost use Rattle.tsp_items.specs.states.CutLine.{cut_item, NamesValue, GivesNumber, MayOpen};
 
 use crate::blanks::{without_end, without_start};
 use crate::fault::LineFault;
-use tsp_number::parse_whole;
-use tsp_value::{
+use tsp_format::{
     CoordKind, Field, Keyword, MOST_MATRIX_NODES, Shape, WeightKind, Word, is_blank,
     is_keyword_byte, value_of,
 };
+use tsp_number::parse_whole;
 
 /// A word line, cut into its parts.
 #[derive(Clone, Copy)]

@@ -14,7 +14,7 @@ use crate::parts::tree::TreeList;
 use crate::parts::triples::TripleList;
 use crate::parts::weights::WeightList;
 use std::alloc::{AllocError, Global};
-use tsp_value::{MOST_MATRIX_NODES, MOST_NODES, Shape};
+use tsp_format::{MOST_MATRIX_NODES, MOST_NODES, Shape};
 
 /// What was read of a section, by its shape.
 #[derive(Drop)]
@@ -32,7 +32,7 @@ pub enum Part {
 }
 
 impl Part {
-    ghost use Rattle.tsp_value.specs.declared.field.Shape.TheVariants as shapes;
+    ghost use Rattle.tsp_format.specs.declared.field.Shape.TheVariants as shapes;
     ghost use Rattle.tsp_items.specs.Sections.{place_by};
     ghost use Rattle.tsp_items.specs.states.Parts.{Takes};
     ghost use Rattle.tsp_items.specs.states.Held.{shape_by, HoldsPart, HoldsShape};

@@ -9,7 +9,7 @@ ghost use Rattle.tsp_items.specs.Rows.{is_too_long_to_keep};
 use crate::fault::{LineFault, StepFault};
 use crate::line::{CutLine, named};
 use std::alloc::Global;
-use tsp_value::{Field, MOST_COMMENTS, MOST_KEPT_BYTES, MOST_OTHERS, Word};
+use tsp_format::{Field, MOST_COMMENTS, MOST_KEPT_BYTES, MOST_OTHERS, Word};
 
 /// Sets the value that a line names, where none is set yet; `late` is whether it comes too late.
 ///

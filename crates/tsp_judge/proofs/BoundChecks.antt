@@ -3,15 +3,15 @@ use Rattle.std.specs.Prelude.{ℤ, pos, negsuc, ◌⊎◌, ◌≤◌, ◌^◌, u
 use Rattle.std.proofs.Common.{◌≡◌, Bool, true, false, Option, Some, None, Result, Ok, Err, refl, sym, subst, subst₂, inl, inr, arith}
 use Rattle.std.proofs.lemmas.Int.{ints}
 use Rattle.std.proofs.lemmas.Bool.{false≢true}
-use Rattle.tsp_value.specs.declared.kinds.Kind.{Kind}
-use Rattle.tsp_value.specs.declared.kinds.Kind.TheVariants as kinds
+use Rattle.tsp_format.specs.declared.kinds.Kind.{Kind}
+use Rattle.tsp_format.specs.declared.kinds.Kind.TheVariants as kinds
 use Rattle.tsp_stream.specs.declared.output.WriteFault.TheVariants as write_faults
 use Rattle.tsp_stream.specs.Turn.{Turn, IsUnread}
 use Rattle.tsp_stream.specs.Sink.{Sink, IsUnwritten, HasWritten}
-use Rattle.tsp_fields.specs.Fields.{Fields}
-use Rattle.tsp_fields.specs.Rules.{is_instance, is_certificate, is_tree}
+use Rattle.tsp_draft.specs.Fields.{Fields}
+use Rattle.tsp_draft.specs.Rules.{is_instance, is_certificate, is_tree}
 use Rattle.tsp_file.specs.Cost.{cost}
-use Rattle.tsp_walk.specs.Length.{length_of}
+use Rattle.tsp_theory.specs.Length.{length_of}
 use Rattle.tsp_read.specs.Reads.{IsFile}
 use Rattle.tsp_theory.specs.Numbers.{IsBoundSized as IsSmall}
 use Rattle.tsp_reason.specs.declared.verdict.Reason.TheVariants.{NotASolution, NotPotentials, NotBranches}

@@ -2,10 +2,10 @@
 use Rattle.std.specs.Prelude.{ℤ, IsTrue, IfOk, ◌⊎◌}
 use Rattle.std.proofs.lemmas.Bool.{false≢true}
 use Rattle.std.proofs.Common.{◌≡◌, ℕ, ◌≤◌, [], length, Bool, Option, Some, None, Result, Ok, Err, true, false, inl, inr, refl, sym, subst, subst₂, arith}
-use Rattle.tsp_value.specs.declared.kinds.Kind.{Kind}
-use Rattle.tsp_value.specs.declared.kinds.Kind.TheVariants as kinds
-use Rattle.tsp_fields.specs.Fields.{Fields}
-use Rattle.tsp_fields.specs.Rules.{is_instance, is_tours}
+use Rattle.tsp_format.specs.declared.kinds.Kind.{Kind}
+use Rattle.tsp_format.specs.declared.kinds.Kind.TheVariants as kinds
+use Rattle.tsp_draft.specs.Fields.{Fields}
+use Rattle.tsp_draft.specs.Rules.{is_instance, is_tours}
 use Rattle.tsp_stream.specs.declared.output.WriteFault.TheVariants as faults
 use Rattle.tsp_stream.specs.Turn.{Turn, IsUnread}
 use Rattle.tsp_stream.specs.Sink.{Sink, IsUnwritten, HasWritten}

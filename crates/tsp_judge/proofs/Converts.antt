@@ -1,12 +1,12 @@
 -- Converting a file, put together from its parts.
 use Rattle.std.proofs.Common.{◌≡◌, Option, None, Ok, Err}
-use Rattle.tsp_value.specs.declared.layout.Layout.{Layout}
+use Rattle.tsp_format.specs.declared.layout.Layout.{Layout}
 use Rattle.tsp_stream.specs.declared.output.WriteFault.{WriteFault}
 use Rattle.tsp_stream.specs.declared.output.WriteFault.TheVariants as faults
 use Rattle.tsp_stream.specs.Turn.{Turn}
 use Rattle.tsp_stream.specs.Sink.{Sink, IsUnwritten, Writes}
-use Rattle.tsp_fields.specs.Fields.{Fields}
-use Rattle.tsp_fields.specs.Rules.{fault_of}
+use Rattle.tsp_draft.specs.Fields.{Fields}
+use Rattle.tsp_draft.specs.Rules.{fault_of}
 use Rattle.tsp_write.specs.Text.{text_of}
 use Rattle.tsp_read.specs.Reads.{IsFile}
 use Rattle.tsp_judge.specs.declared.fault.RunFault.{RunFault}

@@ -2,7 +2,7 @@ pub use Rattle.tsp_read.specs.Reads
 pub use Rattle.tsp_stream.specs.Sink
 pub use Rattle.tsp_stream.specs.Turn
 pub use Rattle.tsp_stream.specs.Watched
-pub use Rattle.tsp_value.specs.Layout
+pub use Rattle.tsp_format.specs.Layout
 pub mod BoundRun
 pub mod ConvertRun
 pub mod Judged

@@ -3,7 +3,7 @@ use Rattle.std.specs.Prelude.{◌≡◌, Result, Ok, Err}
 use Rattle.tsp_stream.specs.declared.output.WriteFault.TheVariants as write_faults
 use Rattle.tsp_stream.specs.Turn.{Turn}
 use Rattle.tsp_stream.specs.Sink.{Sink, IsUnwritten, HasWritten, HasStopped}
-use Rattle.tsp_fields.specs.Fields.{Fields}
+use Rattle.tsp_draft.specs.Fields.{Fields}
 use Rattle.tsp_read.specs.Reads.{IsFile, StopsAt}
 use Rattle.tsp_judge.specs.declared.fault.RunFault.{RunFault}
 use Rattle.tsp_judge.specs.declared.fault.RunFault.TheVariants.{File, WrongKind, Write, OutOfMemory, Relayout}

@@ -15,8 +15,8 @@ use std::alloc::{AllocError, Global};
 use std::io::{Read, Write};
 use tsp_cost::Instance;
 use tsp_file::File;
+use tsp_format::Kind;
 use tsp_stream::Watched;
-use tsp_value::Kind;
 use tsp_verdict::{Verdict, judge_tour_bound, judge_tour_branches};
 
 /// Judges a tour of an instance with a certificate of this kind, writes the report, and answers the

@@ -4,7 +4,7 @@ ghost use Rattle.std.specs.Prelude.{IsTrue, MatchResult};
 ghost use Rattle.tsp_stream.specs.Sink.{sink_of};
 ghost use Rattle.tsp_stream.specs.Turn.{Turn, turn_of, TakesAtMost};
 ghost use Rattle.tsp_read.specs.Reads.{IsFile, most_taken};
-ghost use Rattle.tsp_fields.specs.Rules.{is_instance};
+ghost use Rattle.tsp_draft.specs.Rules.{is_instance};
 ghost use Rattle.tsp_judge.specs.Judged.{IsVerdictOn, NoneBeforeRepeatsOn};
 ghost use Rattle.tsp_judge.specs.Run.{IsVerdictRun};
 ghost use Rattle.tsp_judge.specs.Yes.{IsCheck, IsVerdictCheck};
@@ -16,8 +16,8 @@ use std::alloc::{AllocError, Global};
 use std::io::{Read, Write};
 use tsp_cost::Instance;
 use tsp_file::File;
+use tsp_format::Kind;
 use tsp_stream::Watched;
-use tsp_value::Kind;
 use tsp_verdict::{Verdict, judge_routes, judge_tour};
 
 /// Judges a solution of an instance, and writes the report.

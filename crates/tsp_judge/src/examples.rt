@@ -2,7 +2,7 @@
 //! definition that is changed together with its code is refused by its examples.
 
 ghost use Rattle.std.specs.Prelude.{◌≡◌, true, false, None, Some, pos};
-ghost use Rattle.tsp_value.specs.declared.kinds.Kind.TheVariants as kinds;
+ghost use Rattle.tsp_format.specs.declared.kinds.Kind.TheVariants as kinds;
 ghost use Rattle.tsp_reason.specs.declared.verdict.Reason.TheVariants as reasons;
 ghost use Rattle.tsp_reason.specs.declared.verdict.Verdict.TheVariants as verdicts;
 ghost use Rattle.tsp_judge.specs.declared.certificate.Certificate.TheVariants as certificates;

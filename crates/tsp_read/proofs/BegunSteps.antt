@@ -3,8 +3,8 @@ use Rattle.std.proofs.Common.{◌≡◌, ℕ, ◌+◌, ◌<◌, ◌≤◌, Bool,
 use Rattle.std.specs.Prelude.{not, ◌&&◌, ◌||◌, nat_lt, ◌↔◌, ◌==◌, IsOk, OnOk}
 use Rattle.std.proofs.lemmas.Bool.{true≢false, false≢true, ltb-false, lt-ltb, le-ltb, eqb-true}
 use Rattle.std.proofs.lemmas.List.{nil_from_length}
-use Rattle.tsp_value.specs.Bytes.{is_blank, is_letter}
-use Rattle.tsp_value.specs.Limits.{most_line_bytes}
+use Rattle.tsp_format.specs.Bytes.{is_blank, is_letter}
+use Rattle.tsp_format.specs.Limits.{most_line_bytes}
 use Rattle.tsp_items.specs.declared.fault.ReadFault.{ReadFault}
 use Rattle.tsp_read.specs.declared.intake.Intake.{Intake}
 use Rattle.tsp_read.specs.declared.token.Token.{Token}

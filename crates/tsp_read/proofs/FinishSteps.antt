@@ -1,9 +1,9 @@
 -- The end: the first incomplete section by the flags, and the end table over the draft.
 use Rattle.std.proofs.Common.{◌≡◌, List, sym, ap, ◌∙◌, Option, Some, None, Result, Ok, Err, inl, inr}
-use Rattle.tsp_value.specs.declared.field.Field.{Field}
-use Rattle.tsp_fields.specs.declared.fault.DraftFault.{DraftFault}
-use Rattle.tsp_fields.specs.Fields.{Fields, fields_of}
-use Rattle.tsp_fields.specs.Rules.{standing_of, end_fault, fault_of}
+use Rattle.tsp_format.specs.declared.field.Field.{Field}
+use Rattle.tsp_draft.specs.declared.fault.DraftFault.{DraftFault}
+use Rattle.tsp_draft.specs.Fields.{Fields, fields_of}
+use Rattle.tsp_draft.specs.Rules.{standing_of, end_fault, fault_of}
 use Rattle.tsp_read.specs.declared.state.reading.Reading.{Reading}
 use Rattle.tsp_items.specs.Items.{Item}
 use Rattle.tsp_items.specs.Spells.{spelled, fault_at_end}

@@ -10,8 +10,8 @@ use Rattle.tsp_number.specs.NumberWord.{plus, minus, point, lower_e, upper_e, Is
 use Rattle.tsp_number.specs.Front.{BeginsWithNumber}
 use Rattle.tsp_number.specs.Reading.{whole_of, decimal_of}
 use Rattle.tsp_number.proofs.WordLaws.{whole_once, whole_of-reads, decimal_once, decimal_of-reads}
-use Rattle.tsp_value.specs.Bytes.{is_blank, is_letter}
-use Rattle.tsp_value.specs.Limits.{most_word_bytes}
+use Rattle.tsp_format.specs.Bytes.{is_blank, is_letter}
+use Rattle.tsp_format.specs.Limits.{most_word_bytes}
 use Rattle.tsp_items.specs.Numbers.{IsWhole}
 use Rattle.tsp_items.specs.Lines.{ends_line, is_filled, without_start}
 use Rattle.tsp_items.specs.Items.{Item, NumberWord, LineEnd}

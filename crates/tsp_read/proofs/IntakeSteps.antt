@@ -5,8 +5,8 @@ use Rattle.std.specs.Prelude.{◌&&◌, ◌||◌}
 use Rattle.std.proofs.lemmas.Bool.{true≢false, false≢true, eqb-true}
 use Rattle.std.proofs.lemmas.List.{reverse-append}
 use Rattle.std.proofs.lemmas.Option.{none-some}
-use Rattle.tsp_value.specs.Bytes.{is_blank}
-use Rattle.tsp_value.specs.declared.field.Field.{Field}
+use Rattle.tsp_format.specs.Bytes.{is_blank}
+use Rattle.tsp_format.specs.declared.field.Field.{Field}
 use Rattle.tsp_items.specs.declared.fault.LineFault.{LineFault}
 use Rattle.tsp_items.specs.declared.fault.LineFault.TheVariants as row
 use Rattle.tsp_items.specs.declared.fault.ReadFault.{ReadFault}

@@ -1,12 +1,12 @@
 -- What is shown keyword by keyword: each is one row, and so is each of its cases.
 use Rattle.std.proofs.Common.{◌≡◌, ◌≢◌, Bool, refl, subst, Some, None}
 use Rattle.std.specs.Prelude.{ℤ, pos}
-use Rattle.tsp_value.specs.declared.field.Field.{Field}
-use Rattle.tsp_value.specs.declared.field.Field.TheVariants.{NameKey, TypeKey, CommentKey, OtherKey, DimensionKey, CapacityKey, ScaleKey, EdgeWeightTypeKey, EdgeWeightFormatKey, NodeCoordTypeKey, DisplayDataTypeKey, NodeCoordPart, DisplayDataPart, DemandPart, DepotPart, FixedEdgesPart, EdgeWeightPart, TourPart, NodePotentialPart, RowPotentialPart, ColumnPotentialPart, FixedPotentialPart, CombPart, BranchPart}
-use Rattle.tsp_value.specs.declared.field.ValueShape.{ValueShape}
-use Rattle.tsp_value.specs.declared.field.ValueShape.TheVariants.{Kept, KeptEach, Number, Word}
-use Rattle.tsp_value.specs.Limits.{most_nodes, most_capacity, most_scale}
-use Rattle.tsp_value.specs.Shapes.{shape_of, value_shape_of}
+use Rattle.tsp_format.specs.declared.field.Field.{Field}
+use Rattle.tsp_format.specs.declared.field.Field.TheVariants.{NameKey, TypeKey, CommentKey, OtherKey, DimensionKey, CapacityKey, ScaleKey, EdgeWeightTypeKey, EdgeWeightFormatKey, NodeCoordTypeKey, DisplayDataTypeKey, NodeCoordPart, DisplayDataPart, DemandPart, DepotPart, FixedEdgesPart, EdgeWeightPart, TourPart, NodePotentialPart, RowPotentialPart, ColumnPotentialPart, FixedPotentialPart, CombPart, BranchPart}
+use Rattle.tsp_format.specs.declared.field.ValueShape.{ValueShape}
+use Rattle.tsp_format.specs.declared.field.ValueShape.TheVariants.{Kept, KeptEach, Number, Word}
+use Rattle.tsp_format.specs.Limits.{most_nodes, most_capacity, most_scale}
+use Rattle.tsp_format.specs.Shapes.{shape_of, value_shape_of}
 
 shaped : (P : ValueShape → Type 0) (a b : ValueShape) → P a → Some a ≡ Some b → P b
 shaped P a b p is = let same : a ≡ b = cc in subst P same p

@@ -6,18 +6,18 @@ use Rattle.std.specs.Result.{result_ok}
 use Rattle.std.specs.List.{find}
 use Rattle.tsp_number.specs.declared.fault.NumberFault.{NumberFault}
 use Rattle.tsp_number.specs.Reading.{whole_of}
-use Rattle.tsp_value.specs.declared.kinds.Kind.{Kind}
-use Rattle.tsp_value.specs.declared.kinds.WeightKind.{WeightKind}
-use Rattle.tsp_value.specs.declared.kinds.WeightFormat.{WeightFormat}
-use Rattle.tsp_value.specs.declared.kinds.CoordKind.{CoordKind}
-use Rattle.tsp_value.specs.declared.kinds.DisplayKind.{DisplayKind}
-use Rattle.tsp_value.specs.declared.field.Field.{Field}
-use Rattle.tsp_value.specs.declared.field.Field.TheVariants.{TypeKey, DimensionKey, CapacityKey, ScaleKey, EdgeWeightTypeKey, EdgeWeightFormatKey, NodeCoordTypeKey, DisplayDataTypeKey, NodeCoordPart, DisplayDataPart, DemandPart, DepotPart, FixedEdgesPart, EdgeWeightPart, TourPart, NodePotentialPart, RowPotentialPart, ColumnPotentialPart, FixedPotentialPart, CombPart, BranchPart}
-use Rattle.tsp_value.specs.declared.keyword.Keyword.TheVariants.{Known}
-use Rattle.tsp_value.specs.Limits.{most_nodes, most_capacity, most_scale, most_line_bytes}
-use Rattle.tsp_value.specs.Words.{kind_word, weight_kind_word, weight_format_word, coord_kind_word, display_kind_word, kinds, weight_kinds, weight_formats, coord_kinds, display_kinds}
+use Rattle.tsp_format.specs.declared.kinds.Kind.{Kind}
+use Rattle.tsp_format.specs.declared.kinds.WeightKind.{WeightKind}
+use Rattle.tsp_format.specs.declared.kinds.WeightFormat.{WeightFormat}
+use Rattle.tsp_format.specs.declared.kinds.CoordKind.{CoordKind}
+use Rattle.tsp_format.specs.declared.kinds.DisplayKind.{DisplayKind}
+use Rattle.tsp_format.specs.declared.field.Field.{Field}
+use Rattle.tsp_format.specs.declared.field.Field.TheVariants.{TypeKey, DimensionKey, CapacityKey, ScaleKey, EdgeWeightTypeKey, EdgeWeightFormatKey, NodeCoordTypeKey, DisplayDataTypeKey, NodeCoordPart, DisplayDataPart, DemandPart, DepotPart, FixedEdgesPart, EdgeWeightPart, TourPart, NodePotentialPart, RowPotentialPart, ColumnPotentialPart, FixedPotentialPart, CombPart, BranchPart}
+use Rattle.tsp_format.specs.declared.keyword.Keyword.TheVariants.{Known}
+use Rattle.tsp_format.specs.Limits.{most_nodes, most_capacity, most_scale, most_line_bytes}
+use Rattle.tsp_format.specs.Words.{kind_word, weight_kind_word, weight_format_word, coord_kind_word, display_kind_word, kinds, weight_kinds, weight_formats, coord_kinds, display_kinds}
 use Rattle.tsp_distance.specs.declared.decimal.Point.{Point}
-use Rattle.tsp_fields.specs.Fields.{Fields, fields_of, spatial, stands_in, with_one_number}
+use Rattle.tsp_draft.specs.Fields.{Fields, fields_of, spatial, stands_in, with_one_number}
 use Rattle.tsp_items.specs.declared.fault.LineFault.{LineFault}
 use Rattle.tsp_items.specs.declared.fault.StepFault.{StepFault}
 use Rattle.tsp_items.specs.declared.fault.StepFault.TheVariants as steps
@@ -31,8 +31,8 @@ use Rattle.tsp_items.specs.Groups.{coords_by_node}
 use Rattle.tsp_items.specs.Sections.{nodes_of}
 use Rattle.tsp_items.specs.Rows.{row_of, is_late}
 use Rattle.tsp_items.specs.FirstFault.{IsClean}
-use Rattle.tsp_value.specs.declared.field.ValueShape.TheVariants.{Number}
-use Rattle.tsp_value.specs.Shapes.{is_section_field, value_shape_of}
+use Rattle.tsp_format.specs.declared.field.ValueShape.TheVariants.{Number}
+use Rattle.tsp_format.specs.Shapes.{is_section_field, value_shape_of}
 use Rattle.tsp_items.specs.Spells.{fields_by, sections_in_order, first_incomplete}
 use Rattle.tsp_items.specs.states.CutLine.{named_rows, SetsNamed, numbered_rows, GivesNumber}
 use Rattle.tsp_read.specs.states.Holds.{fields_there, is_closed, is_closed_incomplete, OpenHolds, Closed, LineAnswers}

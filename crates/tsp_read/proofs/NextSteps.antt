@@ -3,8 +3,8 @@ use Rattle.std.proofs.Common.{◌≡◌, ℕ, Bool, true, false, cond, List, [],
 use Rattle.std.specs.Prelude.{not, ◌&&◌}
 use Rattle.std.proofs.lemmas.Bool.{ne_eqb}
 use Rattle.std.proofs.lemmas.List.{nil_from_length}
-use Rattle.tsp_value.specs.Bytes.{is_blank, is_letter}
-use Rattle.tsp_value.specs.Limits.{most_word_bytes, most_line_bytes}
+use Rattle.tsp_format.specs.Bytes.{is_blank, is_letter}
+use Rattle.tsp_format.specs.Limits.{most_word_bytes, most_line_bytes}
 use Rattle.tsp_items.specs.Lines.{ends_line, without_start}
 use Rattle.tsp_items.specs.Items.{NumberWord, LineEnd, line_item}
 use Rattle.tsp_read.specs.declared.token.Token.{Token}

@@ -3,8 +3,8 @@ use Rattle.std.proofs.Common.{◌≡◌, ℕ, suc, ◌+◌, ◌<◌, Bool, true,
 use Rattle.std.specs.Prelude.{not, ◌||◌, ◌&&◌, nat_lt}
 use Rattle.std.specs.List.{position_or_len}
 use Rattle.std.proofs.lemmas.Bool.{lt-ltb}
-use Rattle.tsp_value.specs.Bytes.{is_blank, is_letter}
-use Rattle.tsp_value.specs.Limits.{most_word_bytes, most_line_bytes}
+use Rattle.tsp_format.specs.Bytes.{is_blank, is_letter}
+use Rattle.tsp_format.specs.Limits.{most_word_bytes, most_line_bytes}
 use Rattle.tsp_items.specs.Lines.{is_filled, without_start}
 use Rattle.tsp_items.specs.Items.{NumberWord, LineEnd}
 use Rattle.tsp_read.specs.declared.token.Token.{Token}

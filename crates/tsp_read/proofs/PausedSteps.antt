@@ -1,7 +1,7 @@
 -- A text that goes on after a piece: what is kept, and what of it is settled.
 use Rattle.std.proofs.Common.{◌≡◌, ℕ, ◌≤◌, Bool, true, false, List, [], ◌∷◌, ◌++◌, length, refl, sym, ap, subst, ◌∙◌, arith, append-nil, Option, None, Some, Ok}
 use Rattle.std.specs.Prelude.{reverse, IfSome}
-use Rattle.tsp_value.specs.Bytes.{is_blank}
+use Rattle.tsp_format.specs.Bytes.{is_blank}
 use Rattle.tsp_read.specs.declared.intake.Intake.{Intake}
 use Rattle.tsp_read.specs.declared.begun.Begun.{Begun}
 use Rattle.tsp_items.specs.Lines.{is_filled, without_start}

@@ -6,7 +6,7 @@ use Rattle.std.proofs.KnownBytes.{Consumes-nil, Consumes-trans, Consumes-kept}
 use Rattle.std.proofs.lemmas.Bool.{true≢false, false≢true}
 use Rattle.std.proofs.lemmas.List.{take-append-le}
 use Rattle.std.proofs.lemmas.Option.{none-some}
-use Rattle.tsp_value.specs.Limits.{most_file_bytes}
+use Rattle.tsp_format.specs.Limits.{most_file_bytes}
 use Rattle.tsp_stream.specs.Turn.{Turn, Gave, IsSound, GaveAll, TakesAtMost}
 use Rattle.tsp_items.specs.declared.fault.ReadFault.{ReadFault}
 use Rattle.tsp_items.specs.declared.fault.ReadFault.TheVariants as faults

@@ -2,14 +2,14 @@
 use Rattle.std.proofs.Common.{◌≡◌, Bool, true, false, cond, List, ◌∷◌, refl, ap, ◌∙◌, Some}
 use Rattle.std.specs.Prelude.{ℕ}
 use Rattle.std.specs.List.{find}
-use Rattle.tsp_value.specs.declared.field.Field.{Field}
-use Rattle.tsp_value.specs.declared.field.Field.TheVariants.{NodeCoordPart}
-use Rattle.tsp_value.specs.declared.keyword.Keyword.TheVariants.{Known}
-use Rattle.tsp_fields.specs.Fields.{Fields}
+use Rattle.tsp_format.specs.declared.field.Field.{Field}
+use Rattle.tsp_format.specs.declared.field.Field.TheVariants.{NodeCoordPart}
+use Rattle.tsp_format.specs.declared.keyword.Keyword.TheVariants.{Known}
+use Rattle.tsp_draft.specs.Fields.{Fields}
 use Rattle.tsp_items.specs.Items.{WordLine, Item, Line, NumberWord}
-use Rattle.tsp_value.specs.Shapes.{is_section_field}
+use Rattle.tsp_format.specs.Shapes.{is_section_field}
 use Rattle.tsp_items.specs.Earlier.{has_line, open_section, words_of}
-use Rattle.tsp_value.specs.declared.field.Shape.TheVariants.{Points, SpacePoints}
+use Rattle.tsp_format.specs.declared.field.Shape.TheVariants.{Points, SpacePoints}
 use Rattle.tsp_items.specs.Values.{spatial_after}
 use Rattle.tsp_items.specs.Groups.{coords_by_node}
 use Rattle.tsp_items.specs.Sections.{nodes_of}

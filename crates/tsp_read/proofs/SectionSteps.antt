@@ -4,18 +4,18 @@ use Rattle.std.specs.Prelude.{ℤ, nat_le, nat_lt, is_some, unwrap_or, not, ◌&
 use Rattle.std.specs.Option.{option_map_or}
 use Rattle.std.specs.List.{find}
 use Rattle.std.proofs.lemmas.Bool.{and_parts, leb-true}
-use Rattle.tsp_value.specs.declared.field.Field.{Field}
-use Rattle.tsp_value.specs.declared.field.Field.TheVariants.{DimensionKey}
-use Rattle.tsp_value.specs.declared.keyword.Keyword.TheVariants.{Known}
-use Rattle.tsp_value.specs.Limits.{most_nodes, most_line_bytes, most_matrix_nodes}
-use Rattle.tsp_value.specs.Steps.{Step}
-use Rattle.tsp_value.specs.Words.{fields_in_order}
-use Rattle.tsp_fields.specs.Fields.{Fields, fields_of, stands_in, with_numbers, spatial}
-use Rattle.tsp_fields.specs.Validity.{if_there, is_node}
+use Rattle.tsp_format.specs.declared.field.Field.{Field}
+use Rattle.tsp_format.specs.declared.field.Field.TheVariants.{DimensionKey}
+use Rattle.tsp_format.specs.declared.keyword.Keyword.TheVariants.{Known}
+use Rattle.tsp_format.specs.Limits.{most_nodes, most_line_bytes, most_matrix_nodes}
+use Rattle.tsp_format.specs.Steps.{Step}
+use Rattle.tsp_format.specs.Words.{fields_in_order}
+use Rattle.tsp_draft.specs.Fields.{Fields, fields_of, stands_in, with_numbers, spatial}
+use Rattle.tsp_draft.specs.Validity.{if_there, is_node}
 use Rattle.tsp_items.specs.declared.fault.LineFault.{LineFault}
 use Rattle.tsp_items.specs.declared.fault.LineFault.TheVariants as row
-use Rattle.tsp_value.specs.declared.field.Shape.{Shape}
-use Rattle.tsp_value.specs.declared.field.Shape.TheVariants.{Numbers, Pairs, Triples, Combs, Steps}
+use Rattle.tsp_format.specs.declared.field.Shape.{Shape}
+use Rattle.tsp_format.specs.declared.field.Shape.TheVariants.{Numbers, Pairs, Triples, Combs, Steps}
 use Rattle.tsp_items.specs.declared.part.Part.{Part}
 use Rattle.tsp_items.specs.declared.part.Part.TheVariants as parts
 use Rattle.tsp_items.specs.declared.parts.numbers.NumberList.{NumberList}
@@ -30,7 +30,7 @@ use Rattle.tsp_items.specs.Tree.{steps_in, place_of_step}
 use Rattle.tsp_items.specs.Places.{PastEnd}
 use Rattle.tsp_items.specs.Lines.{is_filled}
 use Rattle.tsp_items.specs.Items.{WordLine, Item, Line}
-use Rattle.tsp_value.specs.Shapes.{shape_of, is_section_field}
+use Rattle.tsp_format.specs.Shapes.{shape_of, is_section_field}
 use Rattle.tsp_items.specs.Earlier.{is_open, has_line, open_section, words_of}
 use Rattle.tsp_items.specs.Values.{dimension_of, spatial_after}
 use Rattle.tsp_items.specs.Sections.{place_by, place_in, nodes_of}

@@ -2,11 +2,11 @@
 use Rattle.std.proofs.Common.{◌≡◌, ℕ, Bool, true, false, List, [], ◌∷◌, ◌++◌, set, get_or, refl, sym, ap, subst, ◌∙◌, Option, Some, None, Result, Ok, Err, length}
 use Rattle.std.specs.Prelude.{nat_lt, nat_le, is_some, not}
 use Rattle.std.specs.Option.{option_map}
-use Rattle.tsp_value.specs.declared.field.Field.{Field}
-use Rattle.tsp_value.specs.declared.field.Field.TheVariants.{NameKey, CommentKey, OtherKey}
-use Rattle.tsp_value.specs.declared.keyword.Keyword.TheVariants.{Known, EdgeDataFormat, EdgeDataSection, Eof, Unknown}
-use Rattle.tsp_value.specs.Limits.{most_line_bytes, most_comments, most_others}
-use Rattle.tsp_fields.specs.Fields.{Fields, fields_of}
+use Rattle.tsp_format.specs.declared.field.Field.{Field}
+use Rattle.tsp_format.specs.declared.field.Field.TheVariants.{NameKey, CommentKey, OtherKey}
+use Rattle.tsp_format.specs.declared.keyword.Keyword.TheVariants.{Known, EdgeDataFormat, EdgeDataSection, Eof, Unknown}
+use Rattle.tsp_format.specs.Limits.{most_line_bytes, most_comments, most_others}
+use Rattle.tsp_draft.specs.Fields.{Fields, fields_of}
 use Rattle.tsp_items.specs.declared.fault.LineFault.{LineFault}
 use Rattle.tsp_items.specs.declared.fault.LineFault.TheVariants as row
 use Rattle.tsp_items.specs.declared.fault.StepFault.{StepFault}

@@ -1,6 +1,6 @@
 -- A file that is read in pieces: which bytes have come so far, and what is answered for them.
 use Rattle.std.specs.Prelude.{◌≡◌, ℕ, ◌≤◌, true, false, not, ◌&&◌, List, length, Option, None, Some, is_some, Result, Ok, Err}
-use Rattle.tsp_value.specs.Limits.{most_file_bytes}
+use Rattle.tsp_format.specs.Limits.{most_file_bytes}
 use Rattle.tsp_items.specs.declared.fault.ReadFault.{ReadFault}
 use Rattle.tsp_items.specs.declared.fault.ReadFault.TheVariants as faults
 use Rattle.tsp_read.specs.declared.state.reading.Reading.{Reading}

@@ -1,9 +1,9 @@
 -- What the reader answers at the end of the items (nearest first).
 use Rattle.std.specs.Prelude.{◌≡◌, List, Option, None, Some, Result, Ok, Err, ◌⊎◌}
-use Rattle.tsp_value.specs.declared.field.Field.{Field}
-use Rattle.tsp_fields.specs.declared.fault.DraftFault.{DraftFault}
-use Rattle.tsp_fields.specs.Fields.{Fields}
-use Rattle.tsp_fields.specs.Rules.{standing_of, end_fault, fault_of}
+use Rattle.tsp_format.specs.declared.field.Field.{Field}
+use Rattle.tsp_draft.specs.declared.fault.DraftFault.{DraftFault}
+use Rattle.tsp_draft.specs.Fields.{Fields}
+use Rattle.tsp_draft.specs.Rules.{standing_of, end_fault, fault_of}
 use Rattle.tsp_read.specs.declared.state.finish.FinishFault.{FinishFault}
 use Rattle.tsp_read.specs.declared.state.finish.FinishFault.TheVariants as faults
 use Rattle.tsp_items.specs.Items.{Item}

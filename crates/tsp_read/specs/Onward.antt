@@ -1,7 +1,7 @@
 -- A text that goes on: what is told of its items whatever bytes follow.
 use Rattle.std.specs.Prelude.{◌≡◌, ℕ, Bool, true, false, nat_lt, List, ◌∷◌, ◌++◌, length, reverse}
 use Rattle.std.specs.List.{list_all}
-use Rattle.tsp_value.specs.Limits.{most_word_bytes, most_line_bytes}
+use Rattle.tsp_format.specs.Limits.{most_word_bytes, most_line_bytes}
 use Rattle.tsp_items.specs.Items.{Item, Line, NumberWord, LineEnd}
 use Rattle.tsp_read.specs.states.Left.{items_left, ends_word}
 

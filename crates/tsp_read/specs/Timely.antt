@@ -2,7 +2,7 @@
 use Rattle.std.specs.Prelude.{◌≡◌, ℕ, ◌-◌, Bool, true, false, List, length, take, None, Result, Ok, Err, ◌⊎◌}
 use Rattle.std.specs.Io.KnownBytes.{IsAtEnd}
 use Rattle.tsp_stream.specs.Turn.{Turn, Gave, IsSound, TakesAtMost}
-use Rattle.tsp_fields.specs.Fields.{Fields}
+use Rattle.tsp_draft.specs.Fields.{Fields}
 use Rattle.tsp_items.specs.declared.fault.ReadFault.{ReadFault}
 use Rattle.tsp_items.specs.declared.fault.ReadFault.TheVariants as faults
 use Rattle.tsp_read.specs.declared.stage.Stage.{Stage}

@@ -1,7 +1,7 @@
 //! A line or a word that a piece of a text has cut.
 
 ghost use Rattle.std.specs.Prelude.{◌≡◌, ◌+◌, ◌≤◌, [], List, ℕ, length, IfOk, IfSome, true};
-ghost use Rattle.tsp_value.specs.Limits.{most_file_bytes};
+ghost use Rattle.tsp_format.specs.Limits.{most_file_bytes};
 ghost use Rattle.tsp_items.specs.Lines.{without_start};
 ghost use Rattle.tsp_read.specs.states.Left.{items_left};
 ghost use Rattle.tsp_read.specs.states.Intake.{ReadsOn};
@@ -11,8 +11,8 @@ use crate::intake::Intake;
 use crate::token::Token;
 use arrayvec::ArrayVec;
 use std::alloc::Global;
+use tsp_format::MOST_LINE_BYTES;
 use tsp_items::ReadFault;
-use tsp_value::MOST_LINE_BYTES;
 
 /// The bytes so far of a word line or of a word whose end has not come, from the first that isn't
 /// blank on; none where nothing has begun.

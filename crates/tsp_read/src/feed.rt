@@ -1,7 +1,7 @@
 //! A file that is read in pieces.
 
 ghost use Rattle.std.specs.Prelude.{◌≡◌, ◌+◌, ◌≤◌, ◌++◌, [], List, ℕ, length, Ok, true, false};
-ghost use Rattle.tsp_value.specs.Limits.{most_file_bytes};
+ghost use Rattle.tsp_format.specs.Limits.{most_file_bytes};
 ghost use Rattle.tsp_read.specs.states.Begun.{IsFedTo, most_lines, most_words, KeepRoom};
 ghost use Rattle.tsp_items.specs.Lines.{is_filled};
 ghost use Rattle.tsp_read.specs.states.Paused.{FeedsOn, HasRoom, stage_after, outcome_of};
@@ -13,8 +13,8 @@ use crate::state::finish::completed;
 use crate::state::reading::Reading;
 use std::alloc::Global;
 use tsp_file::File;
+use tsp_format::MOST_FILE_BYTES;
 use tsp_items::ReadFault;
-use tsp_value::MOST_FILE_BYTES;
 
 /// Reads on with a piece that the limit of a file's bytes doesn't cut: all that what follows can't
 /// change. What hasn't ended in it is kept. The answer is whether an end line was taken.

@@ -9,7 +9,7 @@
 
 ghost use Rattle.std.specs.Prelude.{◌≡◌, ◌+◌, ◌≤◌, length, IfSome, Ok};
 ghost use Rattle.std.specs.Option.{option_map};
-ghost use Rattle.tsp_value.specs.Limits.{most_file_bytes};
+ghost use Rattle.tsp_format.specs.Limits.{most_file_bytes};
 ghost use Rattle.tsp_number.specs.Reading.{decimal_of};
 ghost use Rattle.tsp_items.specs.Numbers.{IsWhole};
 ghost use Rattle.tsp_items.specs.declared.part.Part.{Part};
@@ -23,9 +23,9 @@ use crate::intake::Intake;
 use crate::state::reading::Reading;
 use std::alloc::Global;
 use tsp_distance::Decimal;
+use tsp_format::is_blank;
 use tsp_items::{Gathered, Part, RunList, WeightList};
 use tsp_number::{front_decimal, front_few, front_whole};
-use tsp_value::is_blank;
 
 // ---- a number at the front of a text
 

@@ -5,7 +5,7 @@ ghost use Rattle.std.specs.List.{position};
 ghost use Rattle.tsp_read.specs.states.Left.{before, from, is_settled};
 ghost use Rattle.tsp_read.specs.states.Token.{token_at, ends, most_bytes};
 
-use tsp_value::{MOST_LINE_BYTES, MOST_WORD_BYTES, is_blank, is_letter};
+use tsp_format::{MOST_LINE_BYTES, MOST_WORD_BYTES, is_blank, is_letter};
 
 /// What a text has besides blanks and line ends.
 #[derive(Clone, Copy)]

@@ -2,10 +2,10 @@
 use Rattle.std.proofs.Common.{◌≡◌, ℕ, List, ◌++◌, Option, Some, None, refl, sym, ap, subst, ◌∙◌}
 use Rattle.std.specs.Prelude.{IsTrue}
 use Rattle.std.proofs.lemmas.Bool.{false≢true}
-use Rattle.tsp_value.specs.declared.kinds.Kind.{Kind}
-use Rattle.tsp_value.specs.declared.kinds.Kind.TheVariants as kinds
-use Rattle.tsp_fields.specs.Fields.{Fields}
-use Rattle.tsp_fields.specs.Rules.{is_instance}
+use Rattle.tsp_format.specs.declared.kinds.Kind.{Kind}
+use Rattle.tsp_format.specs.declared.kinds.Kind.TheVariants as kinds
+use Rattle.tsp_draft.specs.Fields.{Fields}
+use Rattle.tsp_draft.specs.Rules.{is_instance}
 use Rattle.tsp_stream.specs.Way.{Way, Carried}
 use Rattle.tsp_stream.proofs.Carrying.{carried_then}
 use Rattle.tsp_report.specs.Report.{not_judged}

@@ -3,17 +3,17 @@ use Rattle.std.specs.Prelude.{ℕ, List, [], ◌∷◌, ◌++◌, length, codes,
 use Rattle.std.specs.List.{flat_map, enumerate_from}
 use Rattle.std.specs.Option.{option_map_or}
 use Rattle.std.specs.Fmt.{signed_decimal}
-use Rattle.tsp_value.specs.declared.kinds.Kind.{Kind}
-use Rattle.tsp_value.specs.declared.kinds.Kind.TheVariants.{Tsp, Atsp, Cvrp, Tour, Potentials, Branches}
-use Rattle.tsp_value.specs.declared.kinds.WeightKind.{WeightKind}
-use Rattle.tsp_value.specs.declared.kinds.WeightFormat.{WeightFormat}
-use Rattle.tsp_value.specs.Words.{weight_kind_word, weight_format_word}
-use Rattle.tsp_value.specs.Cells.{nodes_to}
-use Rattle.tsp_value.specs.Steps.{Step, leaf_count}
-use Rattle.tsp_fields.specs.Fields.{Fields}
-use Rattle.tsp_fields.specs.Rules.{is_explicit}
+use Rattle.tsp_format.specs.declared.kinds.Kind.{Kind}
+use Rattle.tsp_format.specs.declared.kinds.Kind.TheVariants.{Tsp, Atsp, Cvrp, Tour, Potentials, Branches}
+use Rattle.tsp_format.specs.declared.kinds.WeightKind.{WeightKind}
+use Rattle.tsp_format.specs.declared.kinds.WeightFormat.{WeightFormat}
+use Rattle.tsp_format.specs.Words.{weight_kind_word, weight_format_word}
+use Rattle.tsp_format.specs.Cells.{nodes_to}
+use Rattle.tsp_format.specs.Steps.{Step, leaf_count}
+use Rattle.tsp_draft.specs.Fields.{Fields}
+use Rattle.tsp_draft.specs.Rules.{is_explicit}
 use Rattle.tsp_file.specs.Cost.{cost}
-use Rattle.tsp_walk.specs.Length.{length_of}
+use Rattle.tsp_theory.specs.Length.{length_of}
 use Rattle.tsp_report.specs.Report.{type_line, nodes_line, not_judged}
 
 -- ---- any file

@@ -3,11 +3,11 @@
 
 ghost use Rattle.std.specs.Prelude.{◌≡◌, ℕ, List, [], ◌∷◌, ◌++◌, None, Some, pos, negsuc, codes, decimal};
 ghost use Rattle.std.specs.Fmt.{signed_decimal};
-ghost use Rattle.tsp_value.specs.declared.kinds.Kind.TheVariants as kinds;
-ghost use Rattle.tsp_value.specs.declared.kinds.WeightKind.TheVariants as weight_kinds;
-ghost use Rattle.tsp_value.specs.declared.kinds.WeightFormat.TheVariants as formats;
-ghost use Rattle.tsp_value.specs.declared.layout.Layout.TheVariants as layouts;
-ghost use Rattle.tsp_value.specs.Steps.{Branch, Leaf};
+ghost use Rattle.tsp_format.specs.declared.kinds.Kind.TheVariants as kinds;
+ghost use Rattle.tsp_format.specs.declared.kinds.WeightKind.TheVariants as weight_kinds;
+ghost use Rattle.tsp_format.specs.declared.kinds.WeightFormat.TheVariants as formats;
+ghost use Rattle.tsp_format.specs.declared.layout.Layout.TheVariants as layouts;
+ghost use Rattle.tsp_format.specs.Steps.{Branch, Leaf};
 ghost use Rattle.tsp_reason.specs.declared.verdict.Reason.TheVariants as reasons;
 ghost use Rattle.tsp_reason.specs.declared.verdict.Verdict.TheVariants as verdicts;
 ghost use Rattle.tsp_report.specs.Report.{not_judged, type_line, nodes_line, gap_lines, bound_lines, reason_text, verdict_lines};

@@ -1,9 +1,9 @@
 //! How many leaves a tree of cases has.
 
 ghost use Rattle.std.specs.Prelude.{◌≡◌};
-ghost use Rattle.tsp_value.specs.Steps.{leaf_count, steps_of};
+ghost use Rattle.tsp_format.specs.Steps.{leaf_count, steps_of};
 
-use tsp_value::TreeStep;
+use tsp_format::TreeStep;
 
 /// How many of the steps of a tree are leaves.
 pub(crate) fn leaves_of(steps: &[TreeStep]) -> usize

@@ -9,9 +9,9 @@ use crate::reason::put_reason;
 use itoa::Integer;
 use std::io::Write;
 use tsp_file::File;
+use tsp_format::{Kind, Word};
 use tsp_reason::Verdict;
 use tsp_stream::{Piece, Watched, WriteFault, hand_over, put, put_number};
-use tsp_value::{Kind, Word};
 
 /// Writes the report on a solution of an instance, line by line, by the verdict on it: the lines on
 /// the instance, those on the verdict, `yes` or `no`.

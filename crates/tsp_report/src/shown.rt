@@ -3,9 +3,9 @@
 ghost use Rattle.std.specs.Prelude.{◌≡◌, ◌++◌, [], map, false};
 ghost use Rattle.std.specs.List.{flat_map, enumerate_from};
 ghost use Rattle.std.specs.Option.{option_map, option_map_or};
-ghost use Rattle.tsp_value.specs.Steps.{steps_of};
-ghost use Rattle.tsp_fields.specs.Fields.{combs_of};
-ghost use Rattle.tsp_fields.specs.Rules.{is_instance};
+ghost use Rattle.tsp_format.specs.Steps.{steps_of};
+ghost use Rattle.tsp_draft.specs.Fields.{combs_of};
+ghost use Rattle.tsp_draft.specs.Rules.{is_instance};
 ghost use Rattle.tsp_stream.specs.Sink.{sink_of, Writes};
 ghost use Rattle.tsp_stream.specs.Way.{Puts};
 ghost use Rattle.tsp_report.specs.Report.{nodes_line, not_judged};
@@ -16,8 +16,8 @@ use crate::report::{put_named, put_nodes, put_others, put_type};
 use std::io::Write;
 use tsp_cost::{Instance, canonical_length};
 use tsp_file::File;
+use tsp_format::{Kind, TreeStep, WeightFormat, WeightKind, Word};
 use tsp_stream::{Piece, Watched, WriteFault, hand_over, put};
-use tsp_value::{Kind, TreeStep, WeightFormat, WeightKind, Word};
 
 /// Writes what is shown of a file, line by line: its NAME, its TYPE, the number of its nodes, and
 /// what else stands in it.

@@ -8,8 +8,8 @@ use Rattle.std.proofs.lemmas.Bool.{and_parts, and_left, and_right, leb-true, not
 use Rattle.std.proofs.lemmas.List.{length-append}
 use Rattle.std.proofs.lemmas.List.Sums.{sum_by-cons}
 use Rattle.tsp_number.specs.declared.fault.NumberFault.{NumberFault}
-use Rattle.tsp_value.specs.Limits.{most_combs, most_comb_nodes}
-use Rattle.tsp_fields.specs.Validity.{is_node, is_set, is_comb, are_combs}
+use Rattle.tsp_format.specs.Limits.{most_combs, most_comb_nodes}
+use Rattle.tsp_draft.specs.Validity.{is_node, is_set, is_comb, are_combs}
 use Rattle.tsp_items.specs.Lines.{is_filled}
 use Rattle.tsp_items.specs.Numbers.{number, node_or_end, is_end}
 use Rattle.tsp_items.specs.Places.{SetNode}

@@ -1,10 +1,10 @@
 -- The text of each field of a valid file, read after the texts of the fields before it.
 use Rattle.std.proofs.Common.{◌≡◌, true, cond, List, refl}
-use Rattle.tsp_value.specs.declared.field.Field.{Field}
-use Rattle.tsp_value.specs.declared.field.Field.TheVariants.{NameKey, TypeKey, CommentKey, OtherKey, DimensionKey, CapacityKey, ScaleKey, EdgeWeightTypeKey, EdgeWeightFormatKey, NodeCoordTypeKey, DisplayDataTypeKey, NodeCoordPart, DisplayDataPart, DemandPart, DepotPart, FixedEdgesPart, EdgeWeightPart, TourPart, NodePotentialPart, RowPotentialPart, ColumnPotentialPart, FixedPotentialPart, CombPart, BranchPart}
-use Rattle.tsp_value.specs.declared.field.Shape.TheVariants.{Points, SpacePoints, Depots, Pairs, Weights, Tours, Triples, Combs, Steps}
-use Rattle.tsp_fields.specs.Fields.{Fields, spatial}
-use Rattle.tsp_fields.specs.Validity.{fits}
+use Rattle.tsp_format.specs.declared.field.Field.{Field}
+use Rattle.tsp_format.specs.declared.field.Field.TheVariants.{NameKey, TypeKey, CommentKey, OtherKey, DimensionKey, CapacityKey, ScaleKey, EdgeWeightTypeKey, EdgeWeightFormatKey, NodeCoordTypeKey, DisplayDataTypeKey, NodeCoordPart, DisplayDataPart, DemandPart, DepotPart, FixedEdgesPart, EdgeWeightPart, TourPart, NodePotentialPart, RowPotentialPart, ColumnPotentialPart, FixedPotentialPart, CombPart, BranchPart}
+use Rattle.tsp_format.specs.declared.field.Shape.TheVariants.{Points, SpacePoints, Depots, Pairs, Weights, Tours, Triples, Combs, Steps}
+use Rattle.tsp_draft.specs.Fields.{Fields, spatial}
+use Rattle.tsp_draft.specs.Validity.{fits}
 use Rattle.tsp_write.specs.Text.{text_of_field}
 use Rattle.tsp_items.specs.Items.{Item}
 use Rattle.tsp_round.proofs.Numbers.{NumberLaws}

@@ -12,8 +12,8 @@ use Rattle.std.proofs.lemmas.List.{length_push, take_all, map-append}
 use Rattle.std.proofs.lemmas.List.FromFn.{map-range_with_len_more}
 use Rattle.tsp_number.specs.declared.fault.NumberFault.{NumberFault}
 use Rattle.tsp_number.specs.Reading.{whole_of}
-use Rattle.tsp_value.specs.Cells.{nodes_to}
-use Rattle.tsp_fields.specs.Validity.{is_from_to, is_node}
+use Rattle.tsp_format.specs.Cells.{nodes_to}
+use Rattle.tsp_draft.specs.Validity.{is_from_to, is_node}
 use Rattle.tsp_items.specs.Numbers.{number, node, reads_as}
 use Rattle.tsp_items.specs.Places.{NodeAfter, Amount, PastGroups}
 use Rattle.tsp_items.specs.Groups.{pairs_in, begun_pair, number_groups, entry_of, by_node, numbers_by_node, place_in_group, nodes_in, place_of_number}

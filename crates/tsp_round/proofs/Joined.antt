@@ -5,15 +5,15 @@ use Rattle.std.specs.Option.{option_map, option_or}
 use Rattle.std.proofs.lemmas.Bool.{le-ltb}
 use Rattle.std.proofs.lemmas.List.{reverse-append}
 use Rattle.std.proofs.lemmas.Option.{none-some}
-use Rattle.tsp_value.specs.declared.field.Field.{Field}
-use Rattle.tsp_value.specs.declared.keyword.Keyword.TheVariants.{Eof}
-use Rattle.tsp_value.specs.Words.{fields_in_order}
-use Rattle.tsp_value.specs.Limits.{most_file_bytes}
-use Rattle.tsp_fields.specs.declared.fault.EndFault.{EndFault}
-use Rattle.tsp_fields.specs.declared.fault.DraftFault.TheVariants.{BadField, Rule}
-use Rattle.tsp_fields.specs.Fields.{Fields}
-use Rattle.tsp_fields.specs.Validity.{bad_field}
-use Rattle.tsp_fields.specs.Rules.{standing_of, end_fault, fault_of}
+use Rattle.tsp_format.specs.declared.field.Field.{Field}
+use Rattle.tsp_format.specs.declared.keyword.Keyword.TheVariants.{Eof}
+use Rattle.tsp_format.specs.Words.{fields_in_order}
+use Rattle.tsp_format.specs.Limits.{most_file_bytes}
+use Rattle.tsp_draft.specs.declared.fault.EndFault.{EndFault}
+use Rattle.tsp_draft.specs.declared.fault.DraftFault.TheVariants.{BadField, Rule}
+use Rattle.tsp_draft.specs.Fields.{Fields}
+use Rattle.tsp_draft.specs.Validity.{bad_field}
+use Rattle.tsp_draft.specs.Rules.{standing_of, end_fault, fault_of}
 use Rattle.tsp_write.specs.Text.{text_of_field, text_of}
 use Rattle.tsp_write.proofs.AllFit.{all_fit}
 use Rattle.tsp_items.specs.declared.fault.ReadFault.{ReadFault}

@@ -5,13 +5,13 @@ use Rattle.std.specs.Option.{option_and_then}
 use Rattle.std.specs.Result.{result_err}
 use Rattle.std.specs.List.{list_all, flat_map}
 use Rattle.std.proofs.lemmas.Bool.{true≢false, and_parts, leb-true, le-ltb, lt-leb, not-true, false_from_ne_true}
-use Rattle.tsp_value.specs.declared.field.Field.{Field}
-use Rattle.tsp_value.specs.declared.field.Field.TheVariants.{NameKey, CommentKey, DimensionKey, CapacityKey, ScaleKey}
-use Rattle.tsp_value.specs.declared.keyword.Keyword.TheVariants.{Known}
-use Rattle.tsp_value.specs.Bytes.{is_blank}
-use Rattle.tsp_value.specs.Words.{field_word}
-use Rattle.tsp_value.specs.Limits.{most_line_bytes, most_kept_bytes, most_comments}
-use Rattle.tsp_fields.specs.Validity.{is_kept}
+use Rattle.tsp_format.specs.declared.field.Field.{Field}
+use Rattle.tsp_format.specs.declared.field.Field.TheVariants.{NameKey, CommentKey, DimensionKey, CapacityKey, ScaleKey}
+use Rattle.tsp_format.specs.declared.keyword.Keyword.TheVariants.{Known}
+use Rattle.tsp_format.specs.Bytes.{is_blank}
+use Rattle.tsp_format.specs.Words.{field_word}
+use Rattle.tsp_format.specs.Limits.{most_line_bytes, most_kept_bytes, most_comments}
+use Rattle.tsp_draft.specs.Validity.{is_kept}
 use Rattle.tsp_write.specs.Text.{after_blank, keyword_line}
 use Rattle.tsp_items.specs.Lines.{is_filled}
 use Rattle.tsp_items.specs.Items.{WordLine, Item, Line, LineEnd, has_end_line}

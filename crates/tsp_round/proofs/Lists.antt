@@ -10,8 +10,8 @@ use Rattle.std.proofs.lemmas.Bool.{true≢false, and_parts, lt-leb, eq-eqb, or_r
 use Rattle.std.proofs.lemmas.Bool.Decides.{Decides-int_eq}
 use Rattle.std.proofs.lemmas.List.{length_push}
 use Rattle.tsp_number.specs.declared.fault.NumberFault.{NumberFault}
-use Rattle.tsp_value.specs.Limits.{most_weight, most_depots, most_fixed}
-use Rattle.tsp_fields.specs.Validity.{is_within, is_node, is_pair}
+use Rattle.tsp_format.specs.Limits.{most_weight, most_depots, most_fixed}
+use Rattle.tsp_draft.specs.Validity.{is_within, is_node, is_pair}
 use Rattle.tsp_items.specs.declared.fault.LineFault.TheVariants as row
 use Rattle.tsp_items.specs.Numbers.{number, node, node_or_end, is_end, sized, reads_as}
 use Rattle.tsp_items.specs.Places.{DepotAfter, FirstAfter, SecondOf, PastEnd, Weight, PastWeights}

@@ -6,13 +6,13 @@ use Rattle.std.specs.Fmt.{decimal, signed_decimal}
 use Rattle.std.proofs.lemmas.Bool.{false≢true, and_parts, or_right, leb-true, ltb-true, eqb-true, le-leb, le-ltb}
 use Rattle.std.proofs.lemmas.Int.{ints}
 use Rattle.tsp_distance.specs.declared.decimal.Point.{Point}
-use Rattle.tsp_value.specs.declared.field.Field.{Field}
-use Rattle.tsp_value.specs.declared.field.Shape.{Shape}
-use Rattle.tsp_value.specs.declared.field.Shape.TheVariants.{Numbers, Points, SpacePoints, Depots, Pairs, Weights, Tours, Triples, Combs, Steps}
-use Rattle.tsp_value.specs.Limits.{most_nodes, most_matrix_nodes, most_weight, most_depots, most_fixed, most_multipliers, most_tour_nodes, most_combs}
-use Rattle.tsp_value.specs.Steps.{Step}
-use Rattle.tsp_fields.specs.Fields.{Fields, numbers_in, points_in}
-use Rattle.tsp_fields.specs.Validity.{if_there, is_by_node, is_point, is_within, is_from_to, is_node, is_pair, is_triple, are_depots, are_fixed, are_triples, are_weights, is_tour, are_tours, are_combs, are_steps, with_dimension, section_fits}
+use Rattle.tsp_format.specs.declared.field.Field.{Field}
+use Rattle.tsp_format.specs.declared.field.Shape.{Shape}
+use Rattle.tsp_format.specs.declared.field.Shape.TheVariants.{Numbers, Points, SpacePoints, Depots, Pairs, Weights, Tours, Triples, Combs, Steps}
+use Rattle.tsp_format.specs.Limits.{most_nodes, most_matrix_nodes, most_weight, most_depots, most_fixed, most_multipliers, most_tour_nodes, most_combs}
+use Rattle.tsp_format.specs.Steps.{Step}
+use Rattle.tsp_draft.specs.Fields.{Fields, numbers_in, points_in}
+use Rattle.tsp_draft.specs.Validity.{if_there, is_by_node, is_point, is_within, is_from_to, is_node, is_pair, is_triple, are_depots, are_fixed, are_triples, are_weights, is_tour, are_tours, are_combs, are_steps, with_dimension, section_fits}
 use Rattle.tsp_write.specs.Text.{section, by_node, node_list, pair_list, triple_list, comb_list, step_lines, point_numbers, whole_number, line_lens, matrix_lines, optional, text_of_section}
 use Rattle.tsp_items.specs.Numbers.{is_end}
 use Rattle.tsp_items.specs.Places.{PastGroups, PastEnd, Weight, PastWeights, Coordinate, Amount, DepotAfter}

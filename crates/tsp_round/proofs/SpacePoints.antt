@@ -12,9 +12,9 @@ use Rattle.tsp_number.specs.declared.fault.NumberFault.{NumberFault}
 use Rattle.tsp_distance.specs.declared.decimal.Point.{Point}
 use Rattle.tsp_number.specs.Reading.{decimal_of}
 use Rattle.tsp_number.specs.Spelling.{spelling}
-use Rattle.tsp_value.specs.Limits.{most_coordinate}
-use Rattle.tsp_fields.specs.Coords.{origin}
-use Rattle.tsp_fields.specs.Validity.{is_within, is_point}
+use Rattle.tsp_format.specs.Limits.{most_coordinate}
+use Rattle.tsp_draft.specs.Coords.{origin}
+use Rattle.tsp_draft.specs.Validity.{is_within, is_point}
 use Rattle.tsp_items.specs.Numbers.{number, node, reads_as}
 use Rattle.tsp_items.specs.Places.{NodeAfter, Coordinate, PastGroups}
 use Rattle.tsp_items.specs.Groups.{fours_in, begun_four, space_point_of, space_point_groups, space_points_by_node, place_in_group, nodes_in, place_of_space_point}

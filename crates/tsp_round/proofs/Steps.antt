@@ -1,11 +1,11 @@
 -- The text of one field: a field that is missing, a keyword's line, and a section with its words.
 use Rattle.std.proofs.Common.{◌≡◌, ℕ, Bool, true, false, cond, List, [], ◌∷◌, ◌++◌, refl, sym, ap, ◌∙◌, Option, Some, None}
-use Rattle.tsp_value.specs.declared.field.Field.{Field}
-use Rattle.tsp_value.specs.declared.field.Field.TheVariants.{CommentKey, OtherKey}
-use Rattle.tsp_value.specs.declared.keyword.Keyword.TheVariants.{Known}
-use Rattle.tsp_value.specs.Words.{field_word}
-use Rattle.tsp_value.specs.Keywords.{keyword_of}
-use Rattle.tsp_fields.specs.Fields.{Fields}
+use Rattle.tsp_format.specs.declared.field.Field.{Field}
+use Rattle.tsp_format.specs.declared.field.Field.TheVariants.{CommentKey, OtherKey}
+use Rattle.tsp_format.specs.declared.keyword.Keyword.TheVariants.{Known}
+use Rattle.tsp_format.specs.Words.{field_word}
+use Rattle.tsp_format.specs.Keywords.{keyword_of}
+use Rattle.tsp_draft.specs.Fields.{Fields}
 use Rattle.tsp_write.specs.Text.{keyword_line}
 use Rattle.tsp_items.specs.Items.{WordLine, Item, Line, LineEnd, word_line, items_of}
 use Rattle.tsp_items.specs.Earlier.{same_field, value_at, values_at, others_in, words_of}

@@ -9,8 +9,8 @@ use Rattle.std.proofs.lemmas.List.{length-append}
 use Rattle.std.proofs.lemmas.List.Elements.{filter-append}
 use Rattle.std.proofs.lemmas.List.Sums.{sum_by-cons}
 use Rattle.tsp_number.specs.declared.fault.NumberFault.{NumberFault}
-use Rattle.tsp_value.specs.Limits.{most_nodes, most_tour_nodes}
-use Rattle.tsp_fields.specs.Validity.{is_node, is_tour}
+use Rattle.tsp_format.specs.Limits.{most_nodes, most_tour_nodes}
+use Rattle.tsp_draft.specs.Validity.{is_node, is_tour}
 use Rattle.tsp_items.specs.Lines.{is_filled}
 use Rattle.tsp_items.specs.Numbers.{number, node_or_end, is_end}
 use Rattle.tsp_items.specs.Tours.{ends_tour, tour_node, tours_in, place_of_tour}

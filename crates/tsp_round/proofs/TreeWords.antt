@@ -8,9 +8,9 @@ use Rattle.std.proofs.lemmas.Bool.{and_from, and_parts, and_left, and_right, leb
 use Rattle.std.proofs.lemmas.Fmt.{decimal_digit}
 use Rattle.tsp_number.specs.declared.fault.NumberFault.{NumberFault}
 use Rattle.tsp_number.specs.Reading.{whole_of}
-use Rattle.tsp_value.specs.Limits.{most_combs, most_branches, most_changes, most_difference}
-use Rattle.tsp_value.specs.Steps.{Step, Branch, Leaf, are_whole, branch_count, change_count}
-use Rattle.tsp_fields.specs.Validity.{is_within, is_node, is_pair, is_change, is_step, are_steps}
+use Rattle.tsp_format.specs.Limits.{most_combs, most_branches, most_changes, most_difference}
+use Rattle.tsp_format.specs.Steps.{Step, Branch, Leaf, are_whole, branch_count, change_count}
+use Rattle.tsp_draft.specs.Validity.{is_within, is_node, is_pair, is_change, is_step, are_steps}
 use Rattle.tsp_write.specs.Text.{change_words}
 use Rattle.tsp_items.specs.Numbers.{number, reads_as, sized}
 use Rattle.tsp_items.specs.Places.{StepAfter, IndexAfter, Amount, PastGroups}

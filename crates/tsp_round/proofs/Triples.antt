@@ -8,8 +8,8 @@ use Rattle.std.proofs.lemmas.Bool.{and_parts, or_right}
 use Rattle.std.proofs.lemmas.List.{length_push}
 use Rattle.tsp_number.specs.declared.fault.NumberFault.{NumberFault}
 use Rattle.tsp_number.specs.Reading.{whole_of}
-use Rattle.tsp_value.specs.Limits.{most_fixed, most_multiplier}
-use Rattle.tsp_fields.specs.Validity.{is_from_to, is_pair, is_triple}
+use Rattle.tsp_format.specs.Limits.{most_fixed, most_multiplier}
+use Rattle.tsp_draft.specs.Validity.{is_from_to, is_pair, is_triple}
 use Rattle.tsp_items.specs.Numbers.{number, node, is_end}
 use Rattle.tsp_items.specs.Places.{Amount, SecondOf}
 use Rattle.tsp_items.specs.Groups.{triples_in, begun_triple}

@@ -1,19 +1,19 @@
 -- Keywords with a list of accepted words, as they are written: no row applies to the line, and the value is read back.
 use Rattle.std.proofs.Common.{◌≡◌, false, List, refl, Some, None}
-use Rattle.tsp_value.specs.declared.kinds.Kind.{Kind}
-use Rattle.tsp_value.specs.declared.kinds.Kind.TheVariants as kinds
-use Rattle.tsp_value.specs.declared.kinds.WeightKind.{WeightKind}
-use Rattle.tsp_value.specs.declared.kinds.WeightKind.TheVariants as weight_kinds
-use Rattle.tsp_value.specs.declared.kinds.WeightFormat.{WeightFormat}
-use Rattle.tsp_value.specs.declared.kinds.WeightFormat.TheVariants as formats
-use Rattle.tsp_value.specs.declared.kinds.CoordKind.{CoordKind}
-use Rattle.tsp_value.specs.declared.kinds.CoordKind.TheVariants as coord_kinds
-use Rattle.tsp_value.specs.declared.kinds.DisplayKind.{DisplayKind}
-use Rattle.tsp_value.specs.declared.kinds.DisplayKind.TheVariants as display_kinds
-use Rattle.tsp_value.specs.declared.layout.Layout.TheVariants as layouts
-use Rattle.tsp_value.specs.declared.field.Field.TheVariants.{NodeCoordPart, TypeKey, EdgeWeightTypeKey, EdgeWeightFormatKey, NodeCoordTypeKey, DisplayDataTypeKey}
-use Rattle.tsp_value.specs.declared.keyword.Keyword.TheVariants.{Known}
-use Rattle.tsp_value.specs.Words.{field_word, kind_word, weight_kind_word, weight_format_word, coord_kind_word, display_kind_word}
+use Rattle.tsp_format.specs.declared.kinds.Kind.{Kind}
+use Rattle.tsp_format.specs.declared.kinds.Kind.TheVariants as kinds
+use Rattle.tsp_format.specs.declared.kinds.WeightKind.{WeightKind}
+use Rattle.tsp_format.specs.declared.kinds.WeightKind.TheVariants as weight_kinds
+use Rattle.tsp_format.specs.declared.kinds.WeightFormat.{WeightFormat}
+use Rattle.tsp_format.specs.declared.kinds.WeightFormat.TheVariants as formats
+use Rattle.tsp_format.specs.declared.kinds.CoordKind.{CoordKind}
+use Rattle.tsp_format.specs.declared.kinds.CoordKind.TheVariants as coord_kinds
+use Rattle.tsp_format.specs.declared.kinds.DisplayKind.{DisplayKind}
+use Rattle.tsp_format.specs.declared.kinds.DisplayKind.TheVariants as display_kinds
+use Rattle.tsp_format.specs.declared.layout.Layout.TheVariants as layouts
+use Rattle.tsp_format.specs.declared.field.Field.TheVariants.{NodeCoordPart, TypeKey, EdgeWeightTypeKey, EdgeWeightFormatKey, NodeCoordTypeKey, DisplayDataTypeKey}
+use Rattle.tsp_format.specs.declared.keyword.Keyword.TheVariants.{Known}
+use Rattle.tsp_format.specs.Words.{field_word, kind_word, weight_kind_word, weight_format_word, coord_kind_word, display_kind_word}
 use Rattle.tsp_items.specs.Lines.{first_word}
 use Rattle.tsp_items.specs.Items.{Item, Line}
 use Rattle.tsp_items.specs.Earlier.{has_line}

@@ -1,6 +1,6 @@
 -- What reading the canonical text of a file may answer.
 use Rattle.std.specs.Prelude.{◌≡◌, Result, Ok, Err}
-use Rattle.tsp_fields.specs.Fields.{Fields}
+use Rattle.tsp_draft.specs.Fields.{Fields}
 use Rattle.tsp_items.specs.declared.fault.ReadFault.{ReadFault}
 use Rattle.tsp_items.specs.declared.fault.ReadFault.TheVariants as faults
 

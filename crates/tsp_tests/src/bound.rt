@@ -1,4 +1,4 @@
-//! How often a bound on the lengths of walks asks for a cost.
+//! How often a bound on the lengths of cycles asks for a cost.
 
 ghost use Rattle.std.specs.Prelude.{refl, pos};
 
@@ -51,7 +51,7 @@ impl Symmetric for Counted {
 }
 
 impl Grouped for Counted {
-    ghost use Rattle.tsp_fields.specs.Coords.{origin};
+    ghost use Rattle.tsp_draft.specs.Coords.{origin};
 
     ghost place = { λ _ _. origin };
 }

@@ -6,10 +6,10 @@ use std::test::Fail;
 use tsp_cost::{
     CostFault, Costs, Instance, canonical_length, symmetric_fault, tour_length, trace_tours,
 };
-use tsp_fields::Draft;
+use tsp_draft::Draft;
 use tsp_file::File;
-use tsp_testing::drafts::{file_of, rectangle, two_tours};
-use tsp_value::Kind;
+use tsp_format::Kind;
+use tsp_tests_support::drafts::{file_of, rectangle, two_tours};
 
 /// The instance that a draft holds.
 fn instance_of(draft: Draft) -> Result<Instance, Fail> {

@@ -4,7 +4,7 @@ use crate::asserts::{holds, holds_at, same, same_at};
 use std::io::{ErrorKind, Read, Write};
 use std::process::Abort;
 use tsp_stream::Watched;
-use tsp_testing::devices::{Drip, NEVER, Refusal, Trickle, outcome};
+use tsp_tests_support::devices::{Drip, NEVER, Refusal, Trickle, outcome};
 
 /// Kinds of errors, an interruption among them, which is an error like any other.
 const KINDS: [ErrorKind; 4] = [

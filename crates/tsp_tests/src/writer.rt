@@ -8,8 +8,8 @@ use std::process::Abort;
 use std::test::Fail;
 use tsp_file::File;
 use tsp_stream::{Watched, WriteFault};
-use tsp_testing::devices::{Drip, NEVER, Refusal, outcome};
-use tsp_testing::drafts::{file_of, rectangle, two_tours, upper_row};
+use tsp_tests_support::devices::{Drip, NEVER, Refusal, outcome};
+use tsp_tests_support::drafts::{file_of, rectangle, two_tours, upper_row};
 use tsp_write::write_file;
 
 /// The text of the draft `rectangle`. (It is handed out by a function, so that proofs don't carry its

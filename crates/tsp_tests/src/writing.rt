@@ -7,7 +7,7 @@ use tsp_stream::{
     PIECE, Piece, Watched, WriteFault, hand_over, put, put_next_number, put_number, send,
     write_text,
 };
-use tsp_testing::devices::{Drip, Refusal, outcome};
+use tsp_tests_support::devices::{Drip, Refusal, outcome};
 
 #[test]
 fn a_text_goes_out_in_parts_until_the_writer_fails(rt: HostRuntime) {

@@ -8,7 +8,7 @@ use std::alloc::{AllocError, Global};
 use std::test::Fail;
 use tsp_judge::{RunFault, run_bound_check};
 use tsp_stream::Watched;
-use tsp_testing::devices::{Drip, Flood};
+use tsp_tests_support::devices::{Drip, Flood};
 
 /// The most bytes that are taken from a reader that gives all that it is asked for.
 const MOST_TAKEN: u64 = 1_073_741_824 + 4_096;

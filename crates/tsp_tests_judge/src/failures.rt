@@ -9,10 +9,10 @@ use crate::runs::{Readers, Task, run};
 use std::alloc::Global;
 use std::io::{ErrorKind, Read, Write};
 use std::process::Abort;
+use tsp_format::Field;
 use tsp_judge::{EndFault, ReadFault, RelayoutFault, RunFault};
 use tsp_stream::{Watched, WriteFault};
-use tsp_testing::devices::{Drip, NEVER, Refusal, outcome};
-use tsp_value::Field;
+use tsp_tests_support::devices::{Drip, NEVER, Refusal, outcome};
 
 /// A task and the texts of its files. What it doesn't read is empty.
 pub(crate) type Job = (Task<'static>, [&'static str; 3]);

@@ -7,7 +7,7 @@ use std::io::Read;
 use std::test::Fail;
 use tsp_judge::{LineFault, ReadFault, RunFault, run_check};
 use tsp_stream::Watched;
-use tsp_testing::devices::{Flood, Repeats};
+use tsp_tests_support::devices::{Flood, Repeats};
 
 /// How many bytes of a file count.
 const LIMIT: usize = 1_073_741_824;

@@ -8,7 +8,7 @@ use std::alloc::AllocError;
 use std::process::Abort;
 use std::test::Fail;
 use tsp_stream::Watched;
-use tsp_testing::devices::{Drip, NEVER, Refusal};
+use tsp_tests_support::devices::{Drip, NEVER, Refusal};
 
 /// How many bytes a call hands out or takes.
 const SIZES: [usize; 6] = [1, 2, 3, 7, 64, 4_096];

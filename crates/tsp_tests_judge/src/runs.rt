@@ -2,10 +2,10 @@
 
 use std::alloc::{AllocError, Global};
 use std::io::ErrorKind;
+use tsp_format::Layout;
 use tsp_judge::{RunFault, run_bound_check, run_branch_check, run_check, run_convert, run_show};
 use tsp_stream::Watched;
-use tsp_testing::devices::{Drip, Trickle};
-use tsp_value::Layout;
+use tsp_tests_support::devices::{Drip, Trickle};
 
 /// What is done with the files.
 #[derive(Clone, Copy, Debug)]

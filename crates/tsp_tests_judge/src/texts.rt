@@ -5,12 +5,12 @@ use std::alloc::AllocError;
 use std::fmt::Display;
 use std::process::Abort;
 use std::test::Fail;
-use tsp_fields::{DraftFault, EndFault};
+use tsp_draft::{DraftFault, EndFault};
 use tsp_file::RelayoutFault;
+use tsp_format::Field;
 use tsp_judge::{ReadFault, RunFault};
 use tsp_number::NumberFault;
 use tsp_stream::WriteFault;
-use tsp_value::Field;
 
 /// Asserts what faults print.
 fn print<F: Display>(

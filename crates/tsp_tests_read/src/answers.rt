@@ -6,7 +6,7 @@ use std::test::Fail;
 use tsp_file::File;
 use tsp_read::{Feed, ReadFault, read_bytes, read_from};
 use tsp_stream::Watched;
-use tsp_testing::devices::Drip;
+use tsp_tests_support::devices::Drip;
 use tsp_write::write_file;
 
 /// What a reading answers: the canonical text of its file, or its fault.

@@ -8,10 +8,10 @@ mod readers;
 use crate::answers::{Answer, answer, fed};
 use std::alloc::Global;
 use std::test::Fail;
-use tsp_fields::EndFault;
+use tsp_draft::EndFault;
+use tsp_format::Field;
 use tsp_number::NumberFault;
 use tsp_read::{Feed, LineFault, ReadFault};
-use tsp_value::Field;
 
 /// The answer for a text in pieces of one byte.
 fn answer_by_bytes(alloc: Global, text: &[u8]) -> Result<Answer, Fail> {

@@ -6,7 +6,7 @@ use std::io::{ErrorKind, Read};
 use std::test::Fail;
 use tsp_read::{ReadFault, read_from};
 use tsp_stream::Watched;
-use tsp_testing::devices::{Flood, Trickle, outcome};
+use tsp_tests_support::devices::{Flood, Trickle, outcome};
 
 /// Three points, the second of which has a coordinate that is no number.
 const BAD_NUMBER: &str =

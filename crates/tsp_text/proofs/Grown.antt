@@ -1,9 +1,9 @@
 -- What stays true of the words of a section, as they came: each followed the earlier ones of its section without a fault.
 use Rattle.std.proofs.Common.{◌≡◌, ℕ, Bool, true, false, cond, List, [], ◌∷◌, ◌++◌, refl, sym, ap, subst, ◌∙◌, Option, Some, None}
 use Rattle.std.proofs.lemmas.Bool.{true≢false}
-use Rattle.tsp_value.specs.declared.field.Field.{Field}
-use Rattle.tsp_value.specs.declared.field.Field.TheVariants.{DimensionKey, NodeCoordPart, TourPart}
-use Rattle.tsp_value.specs.declared.keyword.Keyword.{Keyword}
+use Rattle.tsp_format.specs.declared.field.Field.{Field}
+use Rattle.tsp_format.specs.declared.field.Field.TheVariants.{DimensionKey, NodeCoordPart, TourPart}
+use Rattle.tsp_format.specs.declared.keyword.Keyword.{Keyword}
 use Rattle.tsp_items.specs.Items.{WordLine, Item, Line, NumberWord, LineEnd}
 use Rattle.tsp_items.specs.Earlier.{same_field, is_key, has_line, open_section, words_of}
 use Rattle.tsp_items.specs.Values.{spatial_after}

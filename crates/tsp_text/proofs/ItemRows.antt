@@ -1,10 +1,10 @@
 -- The rows of an item that hold whatever came before: of a word those of its place, of a line that is too long the first.
 use Rattle.std.proofs.Common.{◌≡◌, ℕ, true, List, [], ◌∷◌, ◌++◌, refl, Some}
 use Rattle.std.specs.Prelude.{nat_lt}
-use Rattle.tsp_value.specs.declared.field.Field.{Field}
-use Rattle.tsp_value.specs.declared.field.Field.TheVariants.{NameKey, TypeKey, CommentKey, OtherKey, DimensionKey, CapacityKey, ScaleKey, EdgeWeightTypeKey, EdgeWeightFormatKey, NodeCoordTypeKey, DisplayDataTypeKey, NodeCoordPart, DisplayDataPart, DemandPart, DepotPart, FixedEdgesPart, EdgeWeightPart, TourPart, NodePotentialPart, RowPotentialPart, ColumnPotentialPart, FixedPotentialPart, CombPart, BranchPart}
-use Rattle.tsp_value.specs.declared.keyword.Keyword.{Keyword}
-use Rattle.tsp_value.specs.Limits.{most_line_bytes}
+use Rattle.tsp_format.specs.declared.field.Field.{Field}
+use Rattle.tsp_format.specs.declared.field.Field.TheVariants.{NameKey, TypeKey, CommentKey, OtherKey, DimensionKey, CapacityKey, ScaleKey, EdgeWeightTypeKey, EdgeWeightFormatKey, NodeCoordTypeKey, DisplayDataTypeKey, NodeCoordPart, DisplayDataPart, DemandPart, DepotPart, FixedEdgesPart, EdgeWeightPart, TourPart, NodePotentialPart, RowPotentialPart, ColumnPotentialPart, FixedPotentialPart, CombPart, BranchPart}
+use Rattle.tsp_format.specs.declared.keyword.Keyword.{Keyword}
+use Rattle.tsp_format.specs.Limits.{most_line_bytes}
 use Rattle.tsp_items.specs.declared.fault.LineFault.TheVariants as row
 use Rattle.tsp_items.specs.Items.{WordLine, Item, Line, NumberWord}
 use Rattle.tsp_items.specs.Earlier.{same_field, open_section, words_of}

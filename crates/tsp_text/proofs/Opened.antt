@@ -1,9 +1,9 @@
 -- A section that is open was opened, and one that wasn't has no words.
 use Rattle.std.proofs.Common.{◌≡◌, ℕ, Bool, true, false, cond, List, [], ◌∷◌, ◌++◌, refl, ap, ◌∙◌, Some, None}
-use Rattle.tsp_value.specs.declared.field.Field.{Field}
-use Rattle.tsp_value.specs.declared.keyword.Keyword.{Keyword}
-use Rattle.tsp_value.specs.declared.keyword.Keyword.TheVariants.{Known, EdgeDataFormat, EdgeDataSection, Eof, Unknown}
-use Rattle.tsp_value.specs.Shapes.{is_section_field}
+use Rattle.tsp_format.specs.declared.field.Field.{Field}
+use Rattle.tsp_format.specs.declared.keyword.Keyword.{Keyword}
+use Rattle.tsp_format.specs.declared.keyword.Keyword.TheVariants.{Known, EdgeDataFormat, EdgeDataSection, Eof, Unknown}
+use Rattle.tsp_format.specs.Shapes.{is_section_field}
 use Rattle.tsp_items.specs.Items.{Item, Line, NumberWord, LineEnd}
 use Rattle.tsp_items.specs.Earlier.{same_field, is_key, opened_by, is_open, has_line, open_section, words_of}
 use Rattle.tsp_text.proofs.ItemRows.{same_self}

@@ -12,8 +12,8 @@ use Rattle.std.proofs.lemmas.Slice.Eq.{bytes_eq-Decides}
 use Rattle.tsp_number.specs.declared.fault.NumberFault.TheVariants.{LongWord}
 use Rattle.tsp_number.specs.Scan.{numeral_in}
 use Rattle.tsp_number.specs.Reading.{whole_from, whole_of, decimal_from, decimal_of}
-use Rattle.tsp_value.specs.declared.field.Field.{Field}
-use Rattle.tsp_value.specs.Limits.{most_word_bytes, most_weight, most_nodes, most_combs, most_file_bytes}
+use Rattle.tsp_format.specs.declared.field.Field.{Field}
+use Rattle.tsp_format.specs.Limits.{most_word_bytes, most_weight, most_nodes, most_combs, most_file_bytes}
 use Rattle.tsp_items.specs.declared.fault.LineFault.{LineFault}
 use Rattle.tsp_items.specs.declared.fault.LineFault.TheVariants as row
 use Rattle.tsp_items.specs.declared.fault.ReadFault.{ReadFault}

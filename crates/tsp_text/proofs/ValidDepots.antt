@@ -4,9 +4,9 @@ use Rattle.std.specs.Prelude.{nat_le, nat_abs}
 use Rattle.std.specs.List.{list_any}
 use Rattle.std.proofs.lemmas.Bool.{false≢true}
 use Rattle.std.proofs.lemmas.List.{length-map, map_push}
-use Rattle.tsp_value.specs.declared.field.Field.TheVariants.{DepotPart}
-use Rattle.tsp_value.specs.Limits.{most_depots}
-use Rattle.tsp_fields.specs.Validity.{is_node, are_depots}
+use Rattle.tsp_format.specs.declared.field.Field.TheVariants.{DepotPart}
+use Rattle.tsp_format.specs.Limits.{most_depots}
+use Rattle.tsp_draft.specs.Validity.{is_node, are_depots}
 use Rattle.tsp_items.specs.Items.{Item}
 use Rattle.tsp_items.specs.Earlier.{words_of}
 use Rattle.tsp_items.specs.Numbers.{number, node_or_end, is_end}

@@ -5,9 +5,9 @@ use Rattle.std.specs.List.{list_any}
 use Rattle.std.specs.Result.{result_err}
 use Rattle.std.proofs.lemmas.Bool.{true≢false, false≢true, and_from, not_from_false}
 use Rattle.std.proofs.lemmas.List.{length-map, map_push}
-use Rattle.tsp_value.specs.declared.field.Field.TheVariants.{FixedEdgesPart}
-use Rattle.tsp_value.specs.Limits.{most_fixed}
-use Rattle.tsp_fields.specs.Validity.{is_node, is_pair, are_fixed}
+use Rattle.tsp_format.specs.declared.field.Field.TheVariants.{FixedEdgesPart}
+use Rattle.tsp_format.specs.Limits.{most_fixed}
+use Rattle.tsp_draft.specs.Validity.{is_node, is_pair, are_fixed}
 use Rattle.tsp_items.specs.Items.{Item}
 use Rattle.tsp_items.specs.Earlier.{words_of}
 use Rattle.tsp_items.specs.Numbers.{number, reads_as, node, node_or_end, is_end}

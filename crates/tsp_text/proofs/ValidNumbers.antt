@@ -16,10 +16,10 @@ use Rattle.tsp_distance.specs.Decimal.{most_count}
 use Rattle.tsp_number.specs.NumberWord.{Numeral}
 use Rattle.tsp_number.specs.Scan.{numeral_in}
 use Rattle.tsp_number.specs.Reading.{number_in, decimal_within, decimal_from, decimal_of, whole_within, whole_from, whole_of}
-use Rattle.tsp_value.specs.Cells.{nodes_to}
-use Rattle.tsp_value.specs.Limits.{most_coordinate}
-use Rattle.tsp_fields.specs.Coords.{origin}
-use Rattle.tsp_fields.specs.Validity.{is_from_to, is_within, is_node, is_by_node, is_point}
+use Rattle.tsp_format.specs.Cells.{nodes_to}
+use Rattle.tsp_format.specs.Limits.{most_coordinate}
+use Rattle.tsp_draft.specs.Coords.{origin}
+use Rattle.tsp_draft.specs.Validity.{is_from_to, is_within, is_node, is_by_node, is_point}
 use Rattle.tsp_items.specs.Numbers.{number, reads_as, node, not_zero, node_or_end, is_end}
 use Rattle.tsp_items.specs.Groups.{pairs_in, triples_in, number_groups, point_of, point_groups, entry_of, by_node, numbers_by_node, points_by_node, fours_in, space_point_of, space_point_groups, space_points_by_node, coords_by_node}
 use Rattle.std.proofs.Math.ListN.{take}

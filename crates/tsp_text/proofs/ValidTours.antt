@@ -7,9 +7,9 @@ use Rattle.std.proofs.lemmas.List.{length-map, length_push, append-nil}
 use Rattle.std.proofs.lemmas.List.Folds.{list_all-append, list_all-map}
 use Rattle.std.proofs.lemmas.List.Sums.{sum_by-cons}
 use Rattle.std.proofs.lemmas.List.Elements.{filter-append}
-use Rattle.tsp_value.specs.declared.field.Field.TheVariants.{TourPart}
-use Rattle.tsp_value.specs.Limits.{most_nodes, most_tour_nodes}
-use Rattle.tsp_fields.specs.Validity.{is_node, is_tour, are_tours}
+use Rattle.tsp_format.specs.declared.field.Field.TheVariants.{TourPart}
+use Rattle.tsp_format.specs.Limits.{most_nodes, most_tour_nodes}
+use Rattle.tsp_draft.specs.Validity.{is_node, is_tour, are_tours}
 use Rattle.tsp_items.specs.Lines.{is_filled}
 use Rattle.tsp_items.specs.Items.{Item}
 use Rattle.tsp_items.specs.Earlier.{words_of}

@@ -11,10 +11,10 @@ use Rattle.std.proofs.lemmas.List.{append_assoc, append-nil, length_push}
 use Rattle.std.proofs.lemmas.List.Folds.{list_all-append}
 use Rattle.std.proofs.lemmas.List.Sums.{fold-append}
 use Rattle.tsp_number.specs.declared.fault.NumberFault.{NumberFault}
-use Rattle.tsp_value.specs.declared.field.Field.TheVariants.{BranchPart}
-use Rattle.tsp_value.specs.Limits.{most_combs, most_branches, most_changes, most_difference}
-use Rattle.tsp_value.specs.Steps.{Step, Branch, Leaf, are_whole, branch_count, change_count}
-use Rattle.tsp_fields.specs.Validity.{is_from_to, is_within, is_node, is_pair, is_change, is_step, are_steps}
+use Rattle.tsp_format.specs.declared.field.Field.TheVariants.{BranchPart}
+use Rattle.tsp_format.specs.Limits.{most_combs, most_branches, most_changes, most_difference}
+use Rattle.tsp_format.specs.Steps.{Step, Branch, Leaf, are_whole, branch_count, change_count}
+use Rattle.tsp_draft.specs.Validity.{is_from_to, is_within, is_node, is_pair, is_change, is_step, are_steps}
 use Rattle.tsp_items.specs.Items.{Item}
 use Rattle.tsp_items.specs.Earlier.{words_of}
 use Rattle.tsp_items.specs.Numbers.{number, reads_as, node, sized}

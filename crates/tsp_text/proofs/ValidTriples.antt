@@ -6,9 +6,9 @@ use Rattle.std.specs.Result.{result_err}
 use Rattle.std.proofs.lemmas.Bool.{true≢false, false≢true, and_from}
 use Rattle.std.proofs.lemmas.List.{length-map, map_push}
 use Rattle.tsp_number.specs.Reading.{whole_of}
-use Rattle.tsp_value.specs.declared.field.Field.TheVariants.{FixedPotentialPart}
-use Rattle.tsp_value.specs.Limits.{most_fixed, most_multipliers, most_multiplier}
-use Rattle.tsp_fields.specs.Validity.{is_from_to, is_pair, is_triple, are_triples}
+use Rattle.tsp_format.specs.declared.field.Field.TheVariants.{FixedPotentialPart}
+use Rattle.tsp_format.specs.Limits.{most_fixed, most_multipliers, most_multiplier}
+use Rattle.tsp_draft.specs.Validity.{is_from_to, is_pair, is_triple, are_triples}
 use Rattle.tsp_items.specs.Items.{Item}
 use Rattle.tsp_items.specs.Earlier.{words_of}
 use Rattle.tsp_items.specs.Numbers.{number, node_or_end, is_end}

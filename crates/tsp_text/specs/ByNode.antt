@@ -1,11 +1,11 @@
 -- Sections by node: the nodes of a section's groups, and that each node has one group.
 use Rattle.std.specs.Prelude.{ℕ, Bool, true, false, List, [], map, Option, Some, ℤ, pos}
 use Rattle.std.specs.List.Sorted.{IsPermutation}
-use Rattle.tsp_value.specs.declared.field.Field.{Field}
-use Rattle.tsp_value.specs.declared.field.Shape.{Shape}
-use Rattle.tsp_value.specs.declared.field.Shape.TheVariants.{Numbers, Points, SpacePoints}
-use Rattle.tsp_value.specs.Shapes.{shape_of}
-use Rattle.tsp_value.specs.Cells.{nodes_to}
+use Rattle.tsp_format.specs.declared.field.Field.{Field}
+use Rattle.tsp_format.specs.declared.field.Shape.{Shape}
+use Rattle.tsp_format.specs.declared.field.Shape.TheVariants.{Numbers, Points, SpacePoints}
+use Rattle.tsp_format.specs.Shapes.{shape_of}
+use Rattle.tsp_format.specs.Cells.{nodes_to}
 use Rattle.tsp_items.specs.Groups.{number_groups, point_groups, space_point_groups, nodes_in}
 
 -- a section of this shape has a group for each node

@@ -1,9 +1,9 @@
 -- What every item has that is cut from a text: which bytes the keyword and the value of a word line can have.
 use Rattle.std.specs.Prelude.{◌≡◌, ℕ, ◌-◌, Bool, true, false, not, List, length, slice_index}
 use Rattle.std.specs.List.{list_all, AllByRecursion}
-use Rattle.tsp_value.specs.declared.keyword.Keyword.{Keyword}
-use Rattle.tsp_value.specs.Bytes.{is_blank, is_letter, is_keyword_byte}
-use Rattle.tsp_value.specs.Keywords.{keyword_of}
+use Rattle.tsp_format.specs.declared.keyword.Keyword.{Keyword}
+use Rattle.tsp_format.specs.Bytes.{is_blank, is_letter, is_keyword_byte}
+use Rattle.tsp_format.specs.Keywords.{keyword_of}
 use Rattle.tsp_items.specs.Lines.{ends_line}
 use Rattle.tsp_items.specs.Items.{WordLine, Item, Line, NumberWord, LineEnd}
 

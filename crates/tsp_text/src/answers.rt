@@ -1,7 +1,7 @@
 //! What always holds of the answer for a text: its file, or its first fault.
 
 ghost use Rattle.std.specs.Prelude.{◌≡◌, ◌≢◌, ℕ, List, Some, true};
-ghost use Rattle.tsp_fields.specs.Fields.{Fields};
+ghost use Rattle.tsp_draft.specs.Fields.{Fields};
 ghost use Rattle.tsp_items.specs.declared.fault.ReadFault.{ReadFault};
 ghost use Rattle.tsp_items.specs.Items.{Item};
 ghost use Rattle.tsp_items.specs.FirstFault.{fault_in, IsClean, IsFirstFault};

@@ -1,7 +1,7 @@
 //! What always holds of the sections by node.
 
 ghost use Rattle.std.specs.Prelude.{◌≡◌, List, true, false};
-ghost use Rattle.tsp_value.specs.declared.field.Field.{Field};
+ghost use Rattle.tsp_format.specs.declared.field.Field.{Field};
 ghost use Rattle.tsp_items.specs.Items.{Item};
 ghost use Rattle.tsp_items.specs.Earlier.{has_line, words_of};
 ghost use Rattle.tsp_items.specs.Values.{spatial_after};

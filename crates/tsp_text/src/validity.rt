@@ -1,10 +1,10 @@
 //! What always holds of the fields that a text spells.
 
 ghost use Rattle.std.specs.Prelude.{◌≡◌, ℕ, List, None, false};
-ghost use Rattle.tsp_value.specs.declared.field.Field.TheVariants.{BranchPart};
-ghost use Rattle.tsp_fields.specs.Fields.{Fields};
-ghost use Rattle.tsp_fields.specs.Validity.{bad_field};
-ghost use Rattle.tsp_fields.specs.Rules.{fault_of};
+ghost use Rattle.tsp_format.specs.declared.field.Field.TheVariants.{BranchPart};
+ghost use Rattle.tsp_draft.specs.Fields.{Fields};
+ghost use Rattle.tsp_draft.specs.Validity.{bad_field};
+ghost use Rattle.tsp_draft.specs.Rules.{fault_of};
 ghost use Rattle.tsp_items.specs.Items.{Item};
 ghost use Rattle.tsp_text.specs.Cuts.{AreCut};
 ghost use Rattle.tsp_items.specs.FirstFault.{IsClean};

@@ -4,16 +4,16 @@ use Rattle.std.specs.Prelude.{pos, ◌-ℤ◌, ◌*ℤ◌, if◌then◌else◌}
 use Rattle.std.specs.List.{AllByRecursion}
 use Rattle.std.proofs.lemmas.Int.{ints}
 use Rattle.std.proofs.lemmas.List.Elements.{recursion_from_All}
-use Rattle.tsp_walk.specs.Walk.{IsWalk, links, AreNeighbours}
-use Rattle.tsp_walk.specs.Length.{sum_int_by, length_of}
+use Rattle.tsp_theory.specs.Cycle.{IsCycle, links, AreNeighbours}
+use Rattle.tsp_theory.specs.Length.{sum_int_by, length_of}
 use Rattle.tsp_theory.specs.Numbers.{IsScale, entry, total}
 use Rattle.tsp_theory.specs.Tree.{weight_of}
 use Rattle.tsp_theory.specs.NodeBound.{weight_between}
-use Rattle.tsp_theory.specs.Adjusted.{pair_of, is_same_pair, number_on, numbers_on, total_of, adjusted, UsesEach, UsesNone, AdjustedBoundsBoundWalks, UnadjustedBoundsAreNodeBounds}
+use Rattle.tsp_theory.specs.Adjusted.{pair_of, is_same_pair, number_on, numbers_on, total_of, adjusted, UsesEach, UsesNone, AdjustedBoundsBoundCycles, UnadjustedBoundsAreNodeBounds}
 use Rattle.tsp_theory.proofs.CostLaws.{Laws, entries_of_links}
 use Rattle.tsp_theory.proofs.Duality.{scaled_length}
 use Rattle.tsp_theory.proofs.Weights.{weight_even}
-use Rattle.tsp_theory.proofs.Walks.{least_tree_below}
+use Rattle.tsp_theory.proofs.Cycles.{least_tree_below}
 use Rattle.tsp_theory.proofs.Neighbours.{sum_counted, count_neighbours, count_others}
 
 -- ---- adjusted weights are the same both ways
@@ -45,20 +45,20 @@ numbers_turned (t ∷ ts) i j =
 pub adjusted_even : (taken avoided : List (ℕ × ℕ × ℤ)) (w : ℕ → ℕ → ℤ) → ((i j : ℕ) → w i j ≡ w j i) → (i j : ℕ) → adjusted taken avoided w i j ≡ adjusted taken avoided w j i
 adjusted_even taken avoided w even i j = ap₂ (λ a b. a +ℤ b) (ap₂ (λ a b. a -ℤ b) (even i j) (numbers_turned taken i j)) (numbers_turned avoided i j)
 
--- ---- the numbers along a walk
+-- ---- the numbers along a cycle
 
 pub sum_zero : {X : Type 0} (xs : List X) → sum_int_by (λ x. pos 0) xs ≡ pos 0
 sum_zero [] = refl
 sum_zero (x ∷ xs) = omega (arith, ints, sum_zero xs)
 
 -- of pairs that it uses, all of them
-numbers_of_used : (n : ℕ) (nodes : List ℕ) (triples : List (ℕ × ℕ × ℤ)) → Laws → 3 ≤ n → IsWalk n nodes
+numbers_of_used : (n : ℕ) (nodes : List ℕ) (triples : List (ℕ × ℕ × ℤ)) → Laws → 3 ≤ n → IsCycle n nodes
     → AllByRecursion (λ t. AreNeighbours nodes (pair_of t)) triples → length_of (numbers_on triples) nodes ≡ total_of triples
-numbers_of_used n nodes [] laws some walk used = sum_zero (links nodes)
-numbers_of_used n nodes (t ∷ ts) laws some walk used =
+numbers_of_used n nodes [] laws some cycle used = sum_zero (links nodes)
+numbers_of_used n nodes (t ∷ ts) laws some cycle used =
     let split = laws.sum (number_on t) (numbers_on ts) nodes in
-    let first = (sum_counted (is_same_pair (pair_of t)) t.2 (links nodes)).1 (count_neighbours n nodes (pair_of t) laws some walk used.0) in
-    let rest = numbers_of_used n nodes ts laws some walk used.1 in
+    let first = (sum_counted (is_same_pair (pair_of t)) t.2 (links nodes)).1 (count_neighbours n nodes (pair_of t) laws some cycle used.0) in
+    let rest = numbers_of_used n nodes ts laws some cycle used.1 in
     omega (arith, ints, split, first, rest)
 
 -- of pairs that it doesn't use, none
@@ -82,24 +82,24 @@ adjusted_length taken avoided w nodes laws =
     let inner = difference (λ (link : ℕ × ℕ). w link.0 link.1) (λ (link : ℕ × ℕ). numbers_on taken link.0 link.1) (links nodes) in
     omega (arith, ints, outer, inner)
 
--- what a walk weighs that uses each taken pair and no avoided one
-pub adjusted_walk : (n : ℕ) (cost : ℕ → ℕ → ℤ) (scale : ℤ) (potentials : List ℤ) (taken avoided : List (ℕ × ℕ × ℤ)) (nodes : List ℕ) → Laws → 3 ≤ n → IsScale scale → length potentials ≡ n
-    → IsWalk n nodes → UsesEach taken nodes → UsesNone avoided nodes
+-- what a cycle weighs that uses each taken pair and no avoided one
+pub adjusted_cycle : (n : ℕ) (cost : ℕ → ℕ → ℤ) (scale : ℤ) (potentials : List ℤ) (taken avoided : List (ℕ × ℕ × ℤ)) (nodes : List ℕ) → Laws → 3 ≤ n → IsScale scale → length potentials ≡ n
+    → IsCycle n nodes → UsesEach taken nodes → UsesNone avoided nodes
     → length_of (adjusted taken avoided (weight_between scale potentials cost)) nodes ≡ ((scale *ℤ length_of cost nodes) +ℤ (pos 2 *ℤ total potentials)) -ℤ total_of taken
-adjusted_walk n cost scale potentials taken avoided nodes laws some scale_in long walk used unused =
+adjusted_cycle n cost scale potentials taken avoided nodes laws some scale_in long cycle used unused =
     let own = adjusted_length taken avoided (weight_between scale potentials cost) nodes laws in
-    let less = numbers_of_used n nodes taken laws some walk (recursion_from_All (λ t. AreNeighbours nodes (pair_of t)) taken used) in
+    let less = numbers_of_used n nodes taken laws some cycle (recursion_from_All (λ t. AreNeighbours nodes (pair_of t)) taken used) in
     let more = numbers_of_unused nodes avoided laws (recursion_from_All (λ t. AreNeighbours nodes (pair_of t) → ⊥) avoided unused) in
     let split = laws.sum (λ i j. scale *ℤ cost i j) (λ i j. entry potentials i +ℤ entry potentials j) nodes in
-    let sums = entries_of_links n nodes potentials potentials laws long long walk in
+    let sums = entries_of_links n nodes potentials potentials laws long long cycle in
     let whole = scaled_length scale cost nodes laws scale_in in
     omega (arith, ints, own, less, more, split, sums, whole)
 
-pub adjusted_bounds_bound_walks : Laws → AdjustedBoundsBoundWalks
-adjusted_bounds_bound_walks laws n cost scale potentials taken avoided bound nodes some even scale_in long is walk used unused =
+pub adjusted_bounds_bound_cycles : Laws → AdjustedBoundsBoundCycles
+adjusted_bounds_bound_cycles laws n cost scale potentials taken avoided bound nodes some even scale_in long is cycle used unused =
     let w = weight_between scale potentials cost in
-    let below = least_tree_below laws n (adjusted taken avoided w) is.tree nodes some (adjusted_even taken avoided w (weight_even scale potentials cost even)) is.least walk in
-    let own = adjusted_walk n cost scale potentials taken avoided nodes laws some scale_in long walk used unused in
+    let below = least_tree_below laws n (adjusted taken avoided w) is.tree nodes some (adjusted_even taken avoided w (weight_even scale potentials cost even)) is.least cycle in
+    let own = adjusted_cycle n cost scale potentials taken avoided nodes laws some scale_in long cycle used unused in
     is.bound_is.least (length_of cost nodes) (omega (arith, ints, below, own))
 
 -- ---- nothing taken or avoided

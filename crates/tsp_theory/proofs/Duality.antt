@@ -1,10 +1,10 @@
--- Weak duality: good duals bound the length of every walk.
+-- Weak duality: good duals bound the length of every cycle.
 use Rattle.std.proofs.Common.{◌≡◌, ℕ, List, subst, arith}
 use Rattle.std.specs.Prelude.{ℤ, pos, negsuc, ◌+ℤ◌, ◌-ℤ◌, ◌*ℤ◌}
 use Rattle.std.proofs.lemmas.Int.{ints}
-use Rattle.tsp_walk.specs.Length.{length_of}
+use Rattle.tsp_theory.specs.Length.{length_of}
 use Rattle.tsp_theory.specs.Numbers.{IsScale, entry, total, IsLeastBound}
-use Rattle.tsp_theory.specs.Assignment.{DualsBoundWalks}
+use Rattle.tsp_theory.specs.Assignment.{DualsBoundCycles}
 use Rattle.tsp_theory.specs.Tree.{weight_of}
 use Rattle.tsp_theory.specs.NodeBound.{weight_between, IsNodeBound}
 use Rattle.tsp_theory.proofs.CostLaws.{Laws, entries_of_links}
@@ -14,10 +14,10 @@ pub scaled_length : (scale : ℤ) (cost : ℕ → ℕ → ℤ) (nodes : List ℕ
 scaled_length (pos m) cost nodes laws scale_in = laws.scale m cost nodes
 scaled_length (negsuc m) cost nodes laws scale_in = absurd (omega (arith, ints, scale_in.0))
 
-pub duals_bound_walks : Laws → DualsBoundWalks
-duals_bound_walks laws n cost scale rows columns bound nodes more scale_in row_count column_count good least walk =
-    let below = laws.no_loops n nodes (λ i j. entry rows i +ℤ entry columns j) (λ i j. scale *ℤ cost i j) more walk good in
-    let sums = entries_of_links n nodes rows columns laws row_count column_count walk in
+pub duals_bound_cycles : Laws → DualsBoundCycles
+duals_bound_cycles laws n cost scale rows columns bound nodes more scale_in row_count column_count good least cycle =
+    let below = laws.no_loops n nodes (λ i j. entry rows i +ℤ entry columns j) (λ i j. scale *ℤ cost i j) more cycle good in
+    let sums = entries_of_links n nodes rows columns laws row_count column_count cycle in
     let whole = scaled_length scale cost nodes laws scale_in in
     least.least (length_of cost nodes) (omega (arith, ints, below, sums, whole))
 

@@ -1,4 +1,4 @@
--- A walk of three nodes or more has each two neighbours in one of its links.
+-- A cycle of three nodes or more has each two neighbours in one of its links.
 use Rattle.std.proofs.Common.{◌≡◌, ◌≢◌, ℕ, zero, suc, ◌≤◌, ◌==◌, ◌&&◌, ◌||◌, Bool, true, false, not, cond, List, [], ◌∷◌, ℤ, ◌+ℤ◌, ◌≤ℤ◌, ◌⊎◌, inl, inr, refl, arith, ap, sym, ◌∙◌, subst}
 use Rattle.std.specs.Prelude.{pos, if◌then◌else◌}
 use Rattle.std.specs.List.{AllPairs, AllByRecursion, Contains, list_any}
@@ -7,13 +7,13 @@ use Rattle.std.proofs.lemmas.Bool.Decides.{nat_tests}
 use Rattle.std.proofs.lemmas.Int.{ints}
 use Rattle.std.proofs.lemmas.List.Elements.{recursion_from_All}
 use Rattle.std.proofs.lemmas.List.Folds.{Any-from_list_any, list_any_at}
-use Rattle.tsp_walk.specs.Walk.{IsWalk, links, AreNeighbours}
-use Rattle.tsp_walk.specs.Length.{sum_int_by, length_of}
+use Rattle.tsp_theory.specs.Cycle.{IsCycle, links, AreNeighbours}
+use Rattle.tsp_theory.specs.Length.{sum_int_by, length_of}
 use Rattle.tsp_theory.specs.Tree.{crosses, crossing}
 use Rattle.tsp_theory.specs.Adjusted.{is_same_pair}
 use Rattle.tsp_theory.proofs.CostLaws.{Laws}
 use Rattle.tsp_theory.proofs.Crossings.{one_if, none_or_one, twice}
-use Rattle.tsp_theory.proofs.Walks.{has_node}
+use Rattle.tsp_theory.proofs.Cycles.{has_node}
 
 -- ---- sums and counts
 
@@ -104,7 +104,7 @@ neighbours_or_not nodes pair = elim (cases_Bool (list_any (is_same_pair pair) (l
   | inr f ↦ inr (λ h. both_ways (list_any (is_same_pair pair) (links nodes)) f (found_neighbours nodes pair h))
 ]
 
--- ---- one link at most: a walk crosses the part of the two nodes at least twice, and each of the two ends two links
+-- ---- one link at most: a cycle crosses the part of the two nodes at least twice, and each of the two ends two links
 
 abbrev either : ℕ × ℕ → ℕ → Bool
 either pair x = (pair.0 == x) || (pair.1 == x)
@@ -154,25 +154,25 @@ third a b = elim (cases_Bool ((a == 1) || (b == 1))) [
   ]
 ]
 
-neighbours_once : (n : ℕ) (nodes : List ℕ) (pair : ℕ × ℕ) → Laws → 3 ≤ n → IsWalk n nodes → count (is_same_pair pair) (links nodes) ≤ℤ pos 1
-neighbours_once n nodes pair laws some walk =
+neighbours_once : (n : ℕ) (nodes : List ℕ) (pair : ℕ × ℕ) → Laws → 3 ≤ n → IsCycle n nodes → count (is_same_pair pair) (links nodes) ≤ℤ pos 1
+neighbours_once n nodes pair laws some cycle =
     let ends = degrees nodes pair laws in
-    let one = once pair.0 nodes walk.once in
-    let other = once pair.1 nodes walk.once in
+    let one = once pair.0 nodes cycle.once in
+    let other = once pair.1 nodes cycle.once in
     elim (cases_Bool (list_any (λ x. pair.0 == x) nodes)) [
       | inr f ↦ omega (arith, ints, ends, other, count_none (λ x. pair.0 == x) nodes f, count_positive (λ (link : ℕ × ℕ). crosses (either pair) link) (links nodes))
       | inl t ↦
           let found = Any-from_list_any (λ x. pair.0 == x) nodes t in
           let here : Contains nodes found.1 = (found.0, found.2, found.3) in
           let out = third pair.0 pair.1 in
-          let away : Contains nodes out.0 = has_node n nodes out.0 laws walk (omega (arith, out.1), omega (arith, out.2, some)) in
+          let away : Contains nodes out.0 = has_node n nodes out.0 laws cycle (omega (arith, out.1), omega (arith, out.2, some)) in
           let more = twice (either pair) nodes found.1 out.0 here away (or_left (pair.0 == found.1) (pair.1 == found.1) found.4) out.3 in
           omega (arith, ints, ends, one, other, more)
     ]
 
-pub count_neighbours : (n : ℕ) (nodes : List ℕ) (pair : ℕ × ℕ) → Laws → 3 ≤ n → IsWalk n nodes → AreNeighbours nodes pair → count (is_same_pair pair) (links nodes) ≡ pos 1
-count_neighbours n nodes pair laws some walk h =
-    let most = neighbours_once n nodes pair laws some walk in
+pub count_neighbours : (n : ℕ) (nodes : List ℕ) (pair : ℕ × ℕ) → Laws → 3 ≤ n → IsCycle n nodes → AreNeighbours nodes pair → count (is_same_pair pair) (links nodes) ≡ pos 1
+count_neighbours n nodes pair laws some cycle h =
+    let most = neighbours_once n nodes pair laws some cycle in
     let least = count_any (is_same_pair pair) (links nodes) (found_neighbours nodes pair h) in
     omega (arith, ints, most, least)
 

@@ -4,7 +4,7 @@ use Rattle.std.specs.Int.{w64, w128}
 use Rattle.std.specs.Prelude.{ℤ, pos, negsuc, neg_ℤ, ◌+ℤ◌, ◌*ℤ◌, ◌≤ℤ◌, ◌↔◌, IsTrue, int_le, unsigned_abs, FitsSigned}
 use Rattle.std.proofs.lemmas.Int.{ints, unsigned_abs-mul, fits_signed_mul, to_z-of_z}
 use Rattle.std.proofs.Math.Nat.{mul-le-mul}
-use Rattle.tsp_value.specs.Limits.{most_nodes, most_scale, most_weight, most_potential}
+use Rattle.tsp_format.specs.Limits.{most_nodes, most_scale, most_weight, most_potential}
 use Rattle.tsp_theory.specs.Numbers.{IsFromTo, IsScale, IsLeastBound}
 
 -- ---- sizes

@@ -5,8 +5,8 @@ use Rattle.std.specs.Prelude.{ℤ, pos, neg_ℤ, ◌+ℤ◌, ◌-ℤ◌, ◌*ℤ
 use Rattle.std.proofs.lemmas.Bool.{cases_eq}
 use Rattle.std.proofs.lemmas.Int.{ints, to_z-of_z, fits_signed_from_abs}
 use Rattle.std.proofs.lemmas.List.{get_or_default}
-use Rattle.tsp_value.specs.Limits.{most_nodes, most_scale, most_weight, most_potential, most_multipliers, most_multiplier}
-use Rattle.tsp_walk.specs.Costs.{IsEven}
+use Rattle.tsp_format.specs.Limits.{most_nodes, most_scale, most_weight, most_potential, most_multipliers, most_multiplier}
+use Rattle.tsp_theory.specs.Costs.{IsSymmetric}
 use Rattle.tsp_theory.specs.Numbers.{IsFromTo, IsScale, IsLeastBound, entry}
 use Rattle.tsp_theory.specs.Tree.{weight_of}
 use Rattle.tsp_theory.specs.NodeBound.{weight_between}
@@ -46,7 +46,7 @@ pub scaled_by : (scale cost scaled both : ℤ) → IsScale scale → scaled ≡ 
 scaled_by scale cost scaled both s is = ap (λ z. z +ℤ both) (is ∙ ap (λ z. z *ℤ cost) (same_scale scale s))
 
 -- the weight is the same both ways
-pub weight_even : (scale : ℤ) (potentials : List ℤ) (cost : ℕ → ℕ → ℤ) → IsEven cost → (i j : ℕ) → weight_between scale potentials cost i j ≡ weight_between scale potentials cost j i
+pub weight_even : (scale : ℤ) (potentials : List ℤ) (cost : ℕ → ℕ → ℤ) → IsSymmetric cost → (i j : ℕ) → weight_between scale potentials cost i j ≡ weight_between scale potentials cost j i
 weight_even scale potentials cost even i j = elim (cases_eq i j) [
   | inl same ↦ ap (λ k. weight_between scale potentials cost k j) same ∙ ap (λ k. weight_between scale potentials cost j k) (sym same)
   | inr other ↦ let turned : cost i j ≡ cost j i = even i j other in

@@ -1,12 +1,12 @@
--- Weights with numbers on pairs of nodes: the cut argument for the walks that use some pairs and avoid others.
+-- Weights with numbers on pairs of nodes: the cut argument for the cycles that use some pairs and avoid others.
 -- Source: M. Held and R. M. Karp, The traveling-salesman problem and minimum spanning trees, 1970, with a multiplier for each
 -- pair besides those of the nodes.
 use Rattle.std.specs.Prelude.{◌≡◌, ℕ, ◌≤◌, ◌==◌, ◌&&◌, ◌||◌, Bool, false, if◌then◌else◌, List, [], length, ℤ, pos, ◌+ℤ◌, ◌-ℤ◌, ◌*ℤ◌, ◌≤ℤ◌}
 use Rattle.std.specs.List.{All, AllPairs}
-use Rattle.tsp_value.specs.Cells.{IsNode}
-use Rattle.tsp_walk.specs.Costs.{IsEven}
-use Rattle.tsp_walk.specs.Walk.{IsWalk, AreNeighbours}
-use Rattle.tsp_walk.specs.Length.{sum_int_by, length_of}
+use Rattle.tsp_format.specs.Cells.{IsNode}
+use Rattle.tsp_theory.specs.Costs.{IsSymmetric}
+use Rattle.tsp_theory.specs.Cycle.{IsCycle, AreNeighbours}
+use Rattle.tsp_theory.specs.Length.{sum_int_by, length_of}
 use Rattle.tsp_theory.specs.Numbers.{IsScale, total, IsLeastBound}
 use Rattle.tsp_theory.specs.Tree.{weight_of, IsLeastOneTree}
 use Rattle.tsp_theory.specs.NodeBound.{weight_between, IsNodeBound}
@@ -42,7 +42,7 @@ pub record AreOnPairs (n : ℕ) (triples : List (ℕ × ℕ × ℤ)) : Type 0 wh
 abbrev pub adjusted : List (ℕ × ℕ × ℤ) → List (ℕ × ℕ × ℤ) → (ℕ → ℕ → ℤ) → ℕ → ℕ → ℤ
 adjusted taken avoided w i j = (w i j -ℤ numbers_on taken i j) +ℤ numbers_on avoided i j
 
--- a walk has the two nodes of each triple as neighbours, in either direction; of none
+-- a cycle has the two nodes of each triple as neighbours, in either direction; of none
 abbrev pub UsesEach : List (ℕ × ℕ × ℤ) → List ℕ → Type 0
 UsesEach triples nodes = All (λ triple. AreNeighbours nodes (pair_of triple)) triples
 
@@ -50,7 +50,7 @@ abbrev pub UsesNone : List (ℕ × ℕ × ℤ) → List ℕ → Type 0
 UsesNone triples nodes = All (λ triple. AreNeighbours nodes (pair_of triple) → ⊥) triples
 
 -- the bound of an adjusted 1-tree of this weight: each potential is taken off twice, and the numbers of the taken pairs are
--- given back, since a walk has each node in two of its links and each taken pair in one
+-- given back, since a cycle has each node in two of its links and each taken pair in one
 abbrev pub IsAdjustedBoundOf : ℤ → List ℤ → List (ℕ × ℕ × ℤ) → ℤ → ℤ → Type 0
 IsAdjustedBoundOf scale potentials taken weight bound =
     IsLeastBound scale ((weight -ℤ (pos 2 *ℤ total potentials)) +ℤ total_of taken) bound
@@ -65,17 +65,17 @@ pub record IsAdjustedBound (n : ℕ) (cost : ℕ → ℕ → ℤ) (scale : ℤ) 
 
 -- ---- the theorems
 
--- Under weights that are the same both ways a least 1-tree weighs no more than a walk: the walk's links are a 1-tree.
-abbrev pub LeastTreesAreBelowWalks : Type 0
-LeastTreesAreBelowWalks = (n : ℕ) (w : ℕ → ℕ → ℤ) (tree : List (ℕ × ℕ)) (nodes : List ℕ)
-    → 3 ≤ n → ((i j : ℕ) → w i j ≡ w j i) → IsLeastOneTree n w tree → IsWalk n nodes → weight_of w tree ≤ℤ length_of w nodes
+-- Under weights that are the same both ways a least 1-tree weighs no more than a cycle: the cycle's links are a 1-tree.
+abbrev pub LeastTreesAreBelowCycles : Type 0
+LeastTreesAreBelowCycles = (n : ℕ) (w : ℕ → ℕ → ℤ) (tree : List (ℕ × ℕ)) (nodes : List ℕ)
+    → 3 ≤ n → ((i j : ℕ) → w i j ≡ w j i) → IsLeastOneTree n w tree → IsCycle n nodes → weight_of w tree ≤ℤ length_of w nodes
 
--- The bound of potentials and numbers is at most the length of every walk that uses the taken pairs and none of the avoided.
-abbrev pub AdjustedBoundsBoundWalks : Type 0
-AdjustedBoundsBoundWalks = (n : ℕ) (cost : ℕ → ℕ → ℤ) (scale : ℤ) (potentials : List ℤ)
+-- The bound of potentials and numbers is at most the length of every cycle that uses the taken pairs and none of the avoided.
+abbrev pub AdjustedBoundsBoundCycles : Type 0
+AdjustedBoundsBoundCycles = (n : ℕ) (cost : ℕ → ℕ → ℤ) (scale : ℤ) (potentials : List ℤ)
     (taken avoided : List (ℕ × ℕ × ℤ)) (bound : ℤ) (nodes : List ℕ)
-    → 3 ≤ n → IsEven cost → IsScale scale → length potentials ≡ n → IsAdjustedBound n cost scale potentials taken avoided bound
-    → IsWalk n nodes → UsesEach taken nodes → UsesNone avoided nodes → bound ≤ℤ length_of cost nodes
+    → 3 ≤ n → IsSymmetric cost → IsScale scale → length potentials ≡ n → IsAdjustedBound n cost scale potentials taken avoided bound
+    → IsCycle n nodes → UsesEach taken nodes → UsesNone avoided nodes → bound ≤ℤ length_of cost nodes
 
 -- With no pair taken or avoided it is the bound of the potentials.
 abbrev pub UnadjustedBoundsAreNodeBounds : Type 0

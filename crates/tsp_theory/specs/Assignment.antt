@@ -1,10 +1,10 @@
 -- Duals: numbers of rows and of columns which at a scale are below the costs. Source: the dual of the assignment problem,
--- H. W. Kuhn, The Hungarian method for the assignment problem, 1955; a walk assigns to each node the next one.
+-- H. W. Kuhn, The Hungarian method for the assignment problem, 1955; a cycle assigns to each node the next one.
 use Rattle.std.specs.Prelude.{◌≡◌, ◌≢◌, ℕ, ◌≤◌, List, length, ℤ, ◌+ℤ◌, ◌*ℤ◌, ◌≤ℤ◌, ◌<ℤ◌}
-use Rattle.tsp_value.specs.Cells.{IsNode}
-use Rattle.tsp_walk.specs.Costs.{IsBefore}
-use Rattle.tsp_walk.specs.Walk.{IsWalk}
-use Rattle.tsp_walk.specs.Length.{length_of}
+use Rattle.tsp_format.specs.Cells.{IsNode}
+use Rattle.tsp_theory.specs.Costs.{IsBefore}
+use Rattle.tsp_theory.specs.Cycle.{IsCycle}
+use Rattle.tsp_theory.specs.Length.{length_of}
 use Rattle.tsp_theory.specs.Numbers.{IsScale, entry, total, IsLeastBound}
 
 -- good duals: for different nodes i and j of 1..n the sum of row i and column j is at most the cost from i to j at the scale
@@ -25,8 +25,8 @@ pub record IsFirstBroken (n : ℕ) (cost : ℕ → ℕ → ℤ) (scale : ℤ) (r
 abbrev pub IsDualBound : ℤ → List ℤ → List ℤ → ℤ → Type 0
 IsDualBound scale rows columns bound = IsLeastBound scale (total rows +ℤ total columns) bound
 
--- The bound of good duals is at most the length of every walk: each node has one link out and one in.
-abbrev pub DualsBoundWalks : Type 0
-DualsBoundWalks = (n : ℕ) (cost : ℕ → ℕ → ℤ) (scale : ℤ) (rows columns : List ℤ) (bound : ℤ) (nodes : List ℕ)
+-- The bound of good duals is at most the length of every cycle: each node has one link out and one in.
+abbrev pub DualsBoundCycles : Type 0
+DualsBoundCycles = (n : ℕ) (cost : ℕ → ℕ → ℤ) (scale : ℤ) (rows columns : List ℤ) (bound : ℤ) (nodes : List ℕ)
     → 2 ≤ n → IsScale scale → length rows ≡ n → length columns ≡ n → AreGood n cost scale rows columns
-    → IsDualBound scale rows columns bound → IsWalk n nodes → bound ≤ℤ length_of cost nodes
+    → IsDualBound scale rows columns bound → IsCycle n nodes → bound ≤ℤ length_of cost nodes

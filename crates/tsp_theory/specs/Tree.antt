@@ -2,7 +2,7 @@
 -- Source: M. Held and R. M. Karp, The traveling-salesman problem and minimum spanning trees, 1970.
 use Rattle.std.specs.Prelude.{◌≡◌, ◌≢◌, ℕ, ◌==◌, ◌<◌, ◌≤◌, Bool, true, false, not, if◌then◌else◌, List, [], ◌∷◌, length, ℤ, pos, ◌≤ℤ◌}
 use Rattle.std.specs.List.{All, list_any, filter}
-use Rattle.tsp_walk.specs.Length.{sum_int_by}
+use Rattle.tsp_theory.specs.Length.{sum_int_by}
 
 -- a pair of nodes of 1..n, the smaller one first
 abbrev pub IsPair : ℕ → ℕ × ℕ → Type 0

@@ -54,7 +54,7 @@ pub fn examples_of_trees()
     ensures below_zero_at_a_half { IsNodeBound 4 star_below_zero (pos 2) one_on_two (negsuc 33) }
 {}
 
-/// Weights with numbers on the diagonals of the rectangle, which walks use them, and the bound.
+/// Weights with numbers on the diagonals of the rectangle, which cycles use them, and the bound.
 pub fn examples_of_multipliers()
     ensures taken { adjusted (on_diagonals (pos 2) (pos 1)) [] rectangle 1 3 ≡ pos 3 }
     ensures taken_in_reverse { adjusted (on_diagonals (pos 2) (pos 1)) [] rectangle 2 4 ≡ pos 4 }

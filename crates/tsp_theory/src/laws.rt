@@ -2,50 +2,50 @@
 
 ghost use Rattle.std.specs.Prelude.{◌≡◌, ℕ, ℤ, List};
 ghost use Rattle.tsp_theory.specs.Numbers.{IsLeastBound};
-ghost use Rattle.tsp_theory.specs.Assignment.{DualsBoundWalks};
-ghost use Rattle.tsp_theory.specs.NodeBound.{IsNodeBound, NodeBoundsBoundWalks};
-ghost use Rattle.tsp_theory.specs.Adjusted.{LeastTreesAreBelowWalks, AdjustedBoundsBoundWalks, UnadjustedBoundsAreNodeBounds};
+ghost use Rattle.tsp_theory.specs.Assignment.{DualsBoundCycles};
+ghost use Rattle.tsp_theory.specs.NodeBound.{IsNodeBound, NodeBoundsBoundCycles};
+ghost use Rattle.tsp_theory.specs.Adjusted.{LeastTreesAreBelowCycles, AdjustedBoundsBoundCycles, UnadjustedBoundsAreNodeBounds};
 
-use tsp_walk::{lengths_add_up, walks_are_permutations, walks_have_no_loops};
+use tsp_theory::{cycles_are_permutations, cycles_have_no_loops, lengths_add_up};
 
-/// The bound of good duals is at most the length of every walk of two or more nodes.
-pub fn duals_bound_walks()
-    ensures { DualsBoundWalks }
+/// The bound of good duals is at most the length of every cycle of two or more nodes.
+pub fn duals_bound_cycles()
+    ensures { DualsBoundCycles }
 {
-    walks_are_permutations();
+    cycles_are_permutations();
     lengths_add_up();
-    walks_have_no_loops();
+    cycles_have_no_loops();
 }
 
-/// The bound of potentials is at most the length of every walk of three or more nodes.
-pub fn node_bounds_bound_walks()
-    ensures { NodeBoundsBoundWalks }
+/// The bound of potentials is at most the length of every cycle of three or more nodes.
+pub fn node_bounds_bound_cycles()
+    ensures { NodeBoundsBoundCycles }
 {
-    walks_are_permutations();
+    cycles_are_permutations();
     lengths_add_up();
-    walks_have_no_loops();
+    cycles_have_no_loops();
 }
 
 /// The cut argument: under weights that are the same both ways a least 1-tree weighs no more than
-/// a walk of three or more nodes.
-pub fn least_trees_are_below_walks()
-    ensures { LeastTreesAreBelowWalks }
+/// a cycle of three or more nodes.
+pub fn least_trees_are_below_cycles()
+    ensures { LeastTreesAreBelowCycles }
 {
-    walks_are_permutations();
+    cycles_are_permutations();
     lengths_add_up();
-    walks_have_no_loops();
+    cycles_have_no_loops();
 }
 
 /// The bound of potentials and of numbers on taken and avoided pairs is at most the length of every
-/// walk of three or more nodes that uses each taken pair and no avoided one. With neither it is the
+/// cycle of three or more nodes that uses each taken pair and no avoided one. With neither it is the
 /// bound of the potentials.
-pub fn adjusted_bounds_bound_walks()
-    ensures walks { AdjustedBoundsBoundWalks }
+pub fn adjusted_bounds_bound_cycles()
+    ensures cycles { AdjustedBoundsBoundCycles }
     ensures unadjusted { UnadjustedBoundsAreNodeBounds }
 {
-    walks_are_permutations();
+    cycles_are_permutations();
     lengths_add_up();
-    walks_have_no_loops();
+    cycles_have_no_loops();
 }
 
 /// A sum has one bound at a scale, and potentials have one bound.

@@ -1,17 +1,17 @@
 //! The program `tsp`, which shows, converts and checks TSPLIB 95 files.
 //!
 //! It has the calls of the host alone: the words of the command line, the opening of files, and the
-//! streams. All else is tsp_command's. What a task writes goes to standard output.
+//! streams. All else is tsp_run's. What a task writes goes to standard output.
 #![tactic(auto)]
 
-ghost use Rattle.tsp_command.specs.Source.{IsSourceOf};
+ghost use Rattle.tsp_run.specs.Source.{IsSourceOf};
 
 use std::fs::File;
 use std::io::IsTerminal;
 use std::process::ExitCode;
 use std::rt::Stdin;
 use std::{env, fs, io};
-use tsp_command::{Open, Place, Source, Watched, run, tell_unread};
+use tsp_run::{Open, Place, Source, Watched, run, tell_unread};
 
 fn main(rt: HostRuntime) -> ExitCode {
     let mut out = Watched::new(rt.stdout());

@@ -3,20 +3,20 @@ use Rattle.std.proofs.Common.{◌≡◌, ℕ, List, [], ◌∷◌, get_or, inl, 
 use Rattle.std.specs.Prelude.{Some, ◌≤◌, length, unwrap_or, ℤ, ◌+ℤ◌, ◌-ℤ◌, ◌*ℤ◌, ◌≤ℤ◌, ◌<ℤ◌}
 use Rattle.std.specs.List.{All}
 use Rattle.std.proofs.lemmas.List.Elements.{All-contains}
-use Rattle.tsp_fields.specs.Fields.{Fields}
+use Rattle.tsp_draft.specs.Fields.{Fields}
 use Rattle.tsp_file.specs.Cost.{cost}
-use Rattle.tsp_walk.specs.Costs.{IsEven}
-use Rattle.tsp_walk.specs.Length.{length_of}
-use Rattle.tsp_walk.specs.Tour.{Uses}
+use Rattle.tsp_theory.specs.Costs.{IsSymmetric}
+use Rattle.tsp_theory.specs.Length.{length_of}
+use Rattle.tsp_theory.specs.Tour.{Uses}
 use Rattle.tsp_cost.specs.Tours.{is_directed}
 use Rattle.tsp_cost.specs.Views.{HasCosts}
-use Rattle.tsp_walk.specs.Walk.{IsWalk, AreNeighbours}
-use Rattle.tsp_value.specs.declared.kinds.Kind.TheVariants as kinds
+use Rattle.tsp_theory.specs.Cycle.{IsCycle, AreNeighbours}
+use Rattle.tsp_format.specs.declared.kinds.Kind.TheVariants as kinds
 use Rattle.tsp_theory.specs.Numbers.{IsScale, entry, IsBoundSized}
 use Rattle.tsp_theory.specs.Tree.{weight_of, IsLeastOneTree}
 use Rattle.tsp_theory.specs.NodeBound.{weight_between}
-use Rattle.tsp_theory.specs.Adjusted.{pair_of, numbers_on, adjusted, UsesEach, IsAdjustedBoundOf, IsAdjustedBound, AdjustedBoundsBoundWalks}
-use Rattle.tsp_theory.specs.Assignment.{AreGood, IsFirstBroken, IsDualBound, DualsBoundWalks}
+use Rattle.tsp_theory.specs.Adjusted.{pair_of, numbers_on, adjusted, UsesEach, IsAdjustedBoundOf, IsAdjustedBound, AdjustedBoundsBoundCycles}
+use Rattle.tsp_theory.specs.Assignment.{AreGood, IsFirstBroken, IsDualBound, DualsBoundCycles}
 use Rattle.tsp_reason.specs.declared.verdict.Reason.TheVariants.{DualInfeasible}
 use Rattle.tsp_verdict.specs.Multiplied.{AreListed}
 use Rattle.tsp_verdict.specs.Solution.{nodes_of, fixed_of}
@@ -66,8 +66,8 @@ keeps_on f m n a b same_count same keeps = record {
 }
 
 -- the bound that a view's costs give is that of the certificate
-pub certified : (inst pot : Fields) (n : ℕ) (costs : ℕ → ℕ → ℤ) (scale : ℤ) (potentials : List ℤ) (triples : List (ℕ × ℕ × ℤ)) (bound : ℤ) → AdjustedBoundsBoundWalks
-    → triples ≡ multipliers_in pot → AreListed (fixed_of inst) (multipliers_in pot) → inst.kind ≡ Some kinds.Tsp → IsEven (cost inst) → 3 ≤ nodes_of inst
+pub certified : (inst pot : Fields) (n : ℕ) (costs : ℕ → ℕ → ℤ) (scale : ℤ) (potentials : List ℤ) (triples : List (ℕ × ℕ × ℤ)) (bound : ℤ) → AdjustedBoundsBoundCycles
+    → triples ≡ multipliers_in pot → AreListed (fixed_of inst) (multipliers_in pot) → inst.kind ≡ Some kinds.Tsp → IsSymmetric (cost inst) → 3 ≤ nodes_of inst
     → IsScale scale → scale ≡ scale_in pot → potentials ≡ potentials_in pot → length potentials ≡ nodes_of inst
     → HasCosts inst n costs → IsAdjustedBound n costs scale potentials triples [] bound × IsBoundSized bound → IsCertifiedByPotentials inst pot bound
 certified inst pot n costs scale potentials triples bound law triples_are listed kind even some scale_is scale_in_is potentials_are count keeps found =
@@ -78,12 +78,12 @@ certified inst pot n costs scale potentials triples bound law triples_are listed
     subst₂ (λ s p. IsAdjustedBound (nodes_of inst) (cost inst) s p triples [] bound) scale_in_is potentials_are here in
     let by_certificate : IsAdjustedBound (nodes_of inst) (cost inst) (scale_in pot) (potentials_in pot) (multipliers_in pot) [] bound =
     subst (λ ts. IsAdjustedBound (nodes_of inst) (cost inst) (scale_in pot) (potentials_in pot) ts [] bound) triples_are by_numbers in
-    let walks : (nodes : List ℕ) → IsWalk (nodes_of inst) nodes → UsesEach (multipliers_in pot) nodes → bound ≤ℤ length_of (cost inst) nodes = λ nodes walk used.
-    law (nodes_of inst) (cost inst) scale potentials triples [] bound nodes some even scale_is count here walk
+    let cycles : (nodes : List ℕ) → IsCycle (nodes_of inst) nodes → UsesEach (multipliers_in pot) nodes → bound ≤ℤ length_of (cost inst) nodes = λ nodes cycle used.
+    law (nodes_of inst) (cost inst) scale potentials triples [] bound nodes some even scale_is count here cycle
     (subst (λ ts. UsesEach ts nodes) (sym triples_are) used) (λ k d lt. absurd (omega arith)) in (
       subst (λ k. IsBoundByPotentials k inst pot bound) (sym kind) by_certificate,
-      λ nodes walk used. walks nodes walk (subst (λ k. UsesMultiplied k pot nodes) kind used),
-      λ nodes tour. walks nodes tour.walk (listed_used nodes (fixed_of inst) (multipliers_in pot) (subst (λ k. All (Uses (is_directed k) nodes) (fixed_of inst)) kind tour.fixed_used) listed),
+      λ nodes cycle used. cycles nodes cycle (subst (λ k. UsesMultiplied k pot nodes) kind used),
+      λ nodes tour. cycles nodes tour.cycle (listed_used nodes (fixed_of inst) (multipliers_in pot) (subst (λ k. All (Uses (is_directed k) nodes) (fixed_of inst)) kind tour.fixed_used) listed),
       found.1,
     )
 
@@ -109,7 +109,7 @@ pub record AreOf (pot : Fields) (scale : ℤ) (rows columns : List ℤ) : Type 0
   pub columns_are : columns ≡ columns_in pot
 
 -- the bound that a view's costs give is that of the certificate
-pub assigned : (inst pot : Fields) (n : ℕ) (costs : ℕ → ℕ → ℤ) (scale : ℤ) (rows columns : List ℤ) (bound : ℤ) → DualsBoundWalks → inst.kind ≡ Some kinds.Atsp → 3 ≤ nodes_of inst → IsScale scale
+pub assigned : (inst pot : Fields) (n : ℕ) (costs : ℕ → ℕ → ℤ) (scale : ℤ) (rows columns : List ℤ) (bound : ℤ) → DualsBoundCycles → inst.kind ≡ Some kinds.Atsp → 3 ≤ nodes_of inst → IsScale scale
     → AreOf pot scale rows columns → length rows ≡ nodes_of inst → length columns ≡ nodes_of inst → HasCosts inst n costs
     → AreGood n costs scale rows columns × IsDualBound scale rows columns bound → IsBoundSized bound → IsCertifiedByPotentials inst pot bound
 assigned inst pot n costs scale rows columns bound law kind some scaled are as_rows as_columns keeps found small =
@@ -120,8 +120,8 @@ assigned inst pot n costs scale rows columns bound law kind some scaled are as_r
     subst (λ s. AreGood (nodes_of inst) (cost inst) s (rows_in pot) (columns_in pot) × IsDualBound s (rows_in pot) (columns_in pot) bound) are.scale_is
     (subst₂ (λ r c. AreGood (nodes_of inst) (cost inst) scale r c × IsDualBound scale r c bound) are.rows_are are.columns_are (good, found.1)) in (
       subst (λ k. IsBoundByPotentials k inst pot bound) (sym kind) by_certificate,
-      λ walk is used. law (nodes_of inst) (cost inst) scale rows columns bound walk (omega (arith, some)) scaled as_rows as_columns good found.1 is,
-      λ walk tour. law (nodes_of inst) (cost inst) scale rows columns bound walk (omega (arith, some)) scaled as_rows as_columns good found.1 tour.walk,
+      λ cycle is used. law (nodes_of inst) (cost inst) scale rows columns bound cycle (omega (arith, some)) scaled as_rows as_columns good found.1 is,
+      λ cycle tour. law (nodes_of inst) (cost inst) scale rows columns bound cycle (omega (arith, some)) scaled as_rows as_columns good found.1 tour.cycle,
       small,
     )
 

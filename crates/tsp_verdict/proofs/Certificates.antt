@@ -4,10 +4,10 @@ use Rattle.std.specs.Prelude.{◌⊎◌, ℤ, pos}
 use Rattle.std.specs.List.{All, AllPairs}
 use Rattle.std.proofs.lemmas.Bool.{false≢true}
 use Rattle.std.proofs.Math.Nat.{lt_of_not-le}
-use Rattle.tsp_value.specs.Cells.{IsNode}
-use Rattle.tsp_value.specs.declared.kinds.Kind.TheVariants as kinds
-use Rattle.tsp_fields.specs.Fields.{Fields}
-use Rattle.tsp_fields.specs.Rules.{is_certificate}
+use Rattle.tsp_format.specs.Cells.{IsNode}
+use Rattle.tsp_format.specs.declared.kinds.Kind.TheVariants as kinds
+use Rattle.tsp_draft.specs.Fields.{Fields}
+use Rattle.tsp_draft.specs.Rules.{is_certificate}
 use Rattle.tsp_theory.specs.Adjusted.{pair_of, is_same_pair, AreOnPairs}
 use Rattle.tsp_reason.specs.declared.verdict.Reason.{Reason}
 use Rattle.tsp_reason.specs.declared.verdict.Reason.TheVariants.{TooFewNodes, NotPotentials, PotentialsDimension, PotentialsKind, MultiplierNotFixed, MultiplierRepeated, DualInfeasible, DepotCount, DepotDemand, FixedEdgesInRoutes, DepotInRoute, Unserved, Overload, NotBranches, BranchesDimension, BadComb, BranchTwice, BadLeaf}

@@ -7,12 +7,12 @@ use Rattle.std.proofs.lemmas.Bool.{false≢true}
 use Rattle.std.proofs.lemmas.List.{length-map}
 use Rattle.std.proofs.lemmas.List.Elements.{All-from_recursion, recursion_from_All}
 use Rattle.std.proofs.lemmas.List.Sums.{sum_by-cons}
-use Rattle.tsp_value.specs.Cells.{IsNode}
-use Rattle.tsp_value.specs.Limits.{most_nodes, most_tour_nodes, most_changes}
-use Rattle.tsp_value.specs.declared.steps.TreeStep.{TreeStep}
-use Rattle.tsp_value.specs.Steps.{Step, Branch, Leaf, step_of, steps_of, are_whole, branch_count, leaf_count, change_count}
-use Rattle.tsp_fields.specs.Fields.{Fields}
-use Rattle.tsp_fields.specs.Valid.{AreTours, AreDepots, AreTriples, IsNodeList, AreSets, AreCombs, IsStep, AreSteps}
+use Rattle.tsp_format.specs.Cells.{IsNode}
+use Rattle.tsp_format.specs.Limits.{most_nodes, most_tour_nodes, most_changes}
+use Rattle.tsp_format.specs.declared.steps.TreeStep.{TreeStep}
+use Rattle.tsp_format.specs.Steps.{Step, Branch, Leaf, step_of, steps_of, are_whole, branch_count, leaf_count, change_count}
+use Rattle.tsp_draft.specs.Fields.{Fields}
+use Rattle.tsp_draft.specs.Valid.{AreTours, AreDepots, AreTriples, IsNodeList, AreSets, AreCombs, IsStep, AreSteps}
 use Rattle.tsp_theory.specs.Numbers.{AreMultipliers}
 use Rattle.tsp_branch.specs.Listed.{IsStepOf}
 use Rattle.tsp_verdict.specs.Numbered.{AreSomeSets}

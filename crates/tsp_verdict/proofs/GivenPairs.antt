@@ -8,8 +8,8 @@ use Rattle.std.proofs.lemmas.List.{append_assoc, drop_all, append-nil, length-ma
 use Rattle.std.proofs.lemmas.List.Elements.{All-from_recursion, recursion_from_All}
 use Rattle.std.proofs.lemmas.List.Folds.{list_any-append}
 use Rattle.std.proofs.lemmas.List.Kept.{AllPairs-cons}
-use Rattle.tsp_fields.specs.Valid.{IsPairOf}
-use Rattle.tsp_walk.specs.Walk.{AreNeighbours}
+use Rattle.tsp_draft.specs.Valid.{IsPairOf}
+use Rattle.tsp_theory.specs.Cycle.{AreNeighbours}
 use Rattle.tsp_theory.specs.Adjusted.{is_same_pair}
 use Rattle.tsp_branch.specs.Decided.{IsDecision, case_of}
 use Rattle.tsp_branch.specs.Decisions.{Decision, KeepsAll, KeepsDecision, DecideOnce, take_pairs}

@@ -1,9 +1,9 @@
--- What comes next on a walk, link by link.
+-- What comes next on a cycle, link by link.
 use Rattle.std.proofs.Common.{◌≡◌, ◌≢◌, ℕ, zero, suc, ◌+◌, ◌<◌, ◌≤◌, List, [], ◌∷◌, ◌++◌, length, get_or, set, refl, sym, ap, subst, ◌∙◌, inl, inr, arith, add-one}
 use Rattle.std.specs.Prelude.{◌⊎◌}
 use Rattle.std.specs.List.{AllPairs}
 use Rattle.std.proofs.lemmas.Bool.{cases_lt}
-use Rattle.tsp_walk.specs.Walk.{IsWalk, links_to}
+use Rattle.tsp_theory.specs.Cycle.{IsCycle, links_to}
 use Rattle.tsp_verdict.specs.Next.{AreNext}
 
 -- the k-th link goes from the k-th node to the one after it
@@ -90,8 +90,8 @@ are_next first others next m = record {
 
 -- ---- in the code's terms
 
-pub from_in : (n first : ℕ) (others : List ℕ) (index from size : ℕ) → IsWalk n (first ∷ others) → index < suc (length others) → from ≡ get_or (first ∷ others) index 0 → size ≡ n + 1 → from < size
-from_in n first others index from size walk lt is wide = omega (arith, (walk.range index 0 lt).1, is, wide)
+pub from_in : (n first : ℕ) (others : List ℕ) (index from size : ℕ) → IsCycle n (first ∷ others) → index < suc (length others) → from ≡ get_or (first ∷ others) index 0 → size ≡ n + 1 → from < size
+from_in n first others index from size cycle lt is wide = omega (arith, (cycle.range index 0 lt).1, is, wide)
 
 pub further : (first : ℕ) (others : List ℕ) (index : ℕ) → get_or others index 0 ≡ get_or (first ∷ others) (index + 1) 0
 further first others index = ap (λ k. get_or (first ∷ others) k 0) (sym (add-one index))
@@ -105,11 +105,11 @@ pub last_at : (first : ℕ) (others : List ℕ) → first ≡ get_or (others ++ 
 last_at first [] = refl
 last_at first (x ∷ others) = last_at first others
 
-pub set_next : (n first : ℕ) (others next : List ℕ) (index from value : ℕ) → IsWalk n (first ∷ others) → index < suc (length others) → length next ≡ n + 1
+pub set_next : (n first : ℕ) (others next : List ℕ) (index from value : ℕ) → IsCycle n (first ∷ others) → index < suc (length others) → length next ≡ n + 1
     → from ≡ get_or (first ∷ others) index 0 → value ≡ get_or (others ++ first ∷ []) index 0
     → SetUpTo (first ∷ others) (others ++ first ∷ []) next index → SetUpTo (first ∷ others) (others ++ first ∷ []) (set next from value) (index + 1)
-set_next n first others next index from value walk lt wide from_is value_is m =
-    let fits : get_or (first ∷ others) index 0 < length next = from_in n first others index (get_or (first ∷ others) index 0) (length next) walk lt refl wide in
+set_next n first others next index from value cycle lt wide from_is value_is m =
+    let fits : get_or (first ∷ others) index 0 < length next = from_in n first others index (get_or (first ∷ others) index 0) (length next) cycle lt refl wide in
     subst (λ (v : ℕ). SetUpTo (first ∷ others) (others ++ first ∷ []) (set next v value) (index + 1)) (sym from_is)
     (subst (λ (v : ℕ). SetUpTo (first ∷ others) (others ++ first ∷ []) (set next (get_or (first ∷ others) index 0) v) (index + 1)) (sym value_is)
-    (set_more (first ∷ others) (others ++ first ∷ []) next index lt fits walk.once m))
+    (set_more (first ∷ others) (others ++ first ∷ []) next index lt fits cycle.once m))

@@ -8,9 +8,9 @@ use Rattle.std.proofs.lemmas.List.{append-nil, append_assoc, drop_all, get_or-ma
 use Rattle.std.proofs.lemmas.List.Elements.{All-append, All-map, All-head, All-tail, All-weaker, All-from_recursion, recursion_from_All}
 use Rattle.std.proofs.lemmas.List.Kept.{AllPairs-cons}
 use Rattle.std.proofs.lemmas.List.Sums.{sum_by-cons}
-use Rattle.tsp_value.specs.Cells.{IsNode}
-use Rattle.tsp_fields.specs.Fields.{combs_of as lists_of_combs}
-use Rattle.tsp_fields.specs.Valid.{IsSetOf, AreSets}
+use Rattle.tsp_format.specs.Cells.{IsNode}
+use Rattle.tsp_draft.specs.Fields.{combs_of as lists_of_combs}
+use Rattle.tsp_draft.specs.Valid.{IsSetOf, AreSets}
 use Rattle.tsp_branch.specs.Sets.{AreSetsOf}
 use Rattle.tsp_branch.specs.Combed.{plain}
 use Rattle.tsp_branch.specs.CombsOfSets.{comb_with, of_comb, combs_from, combs_of}

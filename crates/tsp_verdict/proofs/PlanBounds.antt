@@ -10,8 +10,8 @@ use Rattle.std.proofs.lemmas.List.{get_or_past}
 use Rattle.std.proofs.lemmas.List.Elements.{recursion_from_All}
 use Rattle.std.proofs.lemmas.List.Sorted.{IsPermutation-remove, Contains-permutation}
 use Rattle.std.proofs.Math.IntN.{suc_ℤ-*ℤ, zero-*ℤ}
-use Rattle.tsp_value.specs.Cells.{nodes_to}
-use Rattle.tsp_walk.specs.Length.{sum_int_by}
+use Rattle.tsp_format.specs.Cells.{nodes_to}
+use Rattle.tsp_theory.specs.Length.{sum_int_by}
 use Rattle.tsp_verdict.specs.Plan.{demand_of, load_of, IsPlan, IsLeast}
 
 -- ---- sums

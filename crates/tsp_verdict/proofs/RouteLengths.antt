@@ -6,9 +6,9 @@ use Rattle.std.specs.Global.{Vec}
 use Rattle.std.proofs.lemmas.Int.{ints}
 use Rattle.std.proofs.lemmas.List.{drop_all}
 use Rattle.std.proofs.Math.IntN.{+ℤ_assoc, +ℤ_idr}
-use Rattle.tsp_value.specs.Limits.{most_weight}
-use Rattle.tsp_walk.specs.Walk.{links_to}
-use Rattle.tsp_walk.specs.Length.{sum_int_by, length_of}
+use Rattle.tsp_format.specs.Limits.{most_weight}
+use Rattle.tsp_theory.specs.Cycle.{links_to}
+use Rattle.tsp_theory.specs.Length.{sum_int_by, length_of}
 use Rattle.tsp_verdict.specs.Plan.{plan_length}
 use Rattle.tsp_verdict.specs.Sums.{IsSumOf}
 

@@ -8,9 +8,9 @@ use Rattle.std.proofs.lemmas.Bool.{cases_lt}
 use Rattle.std.proofs.lemmas.Int.{ints}
 use Rattle.std.proofs.Math.IntN.{+ℤ_assoc, +ℤ_idr}
 use Rattle.std.proofs.Math.Nat.{div-mul-le_self, lt-div-mul-add, mul-le-mul_right}
-use Rattle.tsp_value.specs.Limits.{most_demand}
-use Rattle.tsp_fields.specs.Valid.{IsDemand}
-use Rattle.tsp_walk.specs.Length.{sum_int_by}
+use Rattle.tsp_format.specs.Limits.{most_demand}
+use Rattle.tsp_draft.specs.Valid.{IsDemand}
+use Rattle.tsp_theory.specs.Length.{sum_int_by}
 use Rattle.tsp_verdict.specs.Plan.{load_of, demand_of, IsLeast}
 
 -- of the size of so many demands

@@ -4,9 +4,9 @@ use Rattle.std.specs.Prelude.{slice_index_or, ℤ, pos, ◌≤ℤ◌}
 use Rattle.std.specs.List.{All, Contains}
 use Rattle.std.proofs.lemmas.Int.{ints}
 use Rattle.std.proofs.lemmas.Bool.{false≢true}
-use Rattle.tsp_value.specs.Cells.{IsNode, nodes_to}
-use Rattle.tsp_fields.specs.Fields.{Fields}
-use Rattle.tsp_fields.specs.Valid.{IsDemand}
+use Rattle.tsp_format.specs.Cells.{IsNode, nodes_to}
+use Rattle.tsp_draft.specs.Fields.{Fields}
+use Rattle.tsp_draft.specs.Valid.{IsDemand}
 use Rattle.tsp_file.specs.Cost.{cost}
 use Rattle.tsp_reason.specs.declared.verdict.Reason.{Reason}
 use Rattle.tsp_reason.specs.declared.verdict.Reason.TheVariants.{DepotInRoute, NodeOutOfRange, RepeatedNode, Unserved, Overload}

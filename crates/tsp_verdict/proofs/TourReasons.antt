@@ -1,11 +1,11 @@
 -- The reasons against a tour, ruled out one by one.
 use Rattle.std.proofs.Common.{◌≡◌, ℕ, ◌≤◌, true, length, Some, sym, ◌∙◌, arith}
 use Rattle.std.proofs.lemmas.Bool.{false≢true}
-use Rattle.tsp_value.specs.declared.kinds.Kind.TheVariants as kinds
-use Rattle.tsp_fields.specs.Fields.{Fields}
-use Rattle.tsp_fields.specs.Rules.{is_tours}
+use Rattle.tsp_format.specs.declared.kinds.Kind.TheVariants as kinds
+use Rattle.tsp_draft.specs.Fields.{Fields}
+use Rattle.tsp_draft.specs.Rules.{is_tours}
 use Rattle.tsp_file.specs.Cost.{cost}
-use Rattle.tsp_walk.specs.Costs.{IsFirstUneven}
+use Rattle.tsp_theory.specs.Costs.{IsFirstAsymmetric}
 use Rattle.tsp_cost.specs.Tours.{is_directed}
 use Rattle.tsp_reason.specs.declared.verdict.Reason.{Reason}
 use Rattle.tsp_reason.specs.declared.verdict.Reason.TheVariants.{NotASolution, TooFewNodes, NotSymmetric, Dimension, TourCount, TourLength, NodeOutOfRange, RepeatedNode, FixedEdgeUnused, NotPotentials, PotentialsDimension, PotentialsKind, MultiplierNotFixed, MultiplierRepeated, DualInfeasible, DepotCount, DepotDemand, FixedEdgesInRoutes, DepotInRoute, Unserved, Overload, NotBranches, BranchesDimension, BadComb, BranchTwice, BadLeaf}
@@ -21,7 +21,7 @@ pub after_nodes : (inst sol : Fields) → NoneOfTourUpTo inst sol 2 → 3 ≤ no
 after_nodes inst sol before enough TooFewNodes low stands = omega (arith, enough, stands)
 after_nodes inst sol before enough reason low stands = before reason (omega (arith, low)) stands
 
-pub after_symmetry : (inst sol : Fields) → NoneOfTourUpTo inst sol 3 → (inst.kind ≡ Some kinds.Tsp → (i j : ℕ) → IsFirstUneven (nodes_of inst) (cost inst) (i, j) → ⊥) → NoneOfTourUpTo inst sol 4
+pub after_symmetry : (inst sol : Fields) → NoneOfTourUpTo inst sol 3 → (inst.kind ≡ Some kinds.Tsp → (i j : ℕ) → IsFirstAsymmetric (nodes_of inst) (cost inst) (i, j) → ⊥) → NoneOfTourUpTo inst sol 4
 after_symmetry inst sol before even (NotSymmetric i j) low stands = even stands.0 i j stands.1
 after_symmetry inst sol before even reason low stands = before reason (omega (arith, low)) stands
 

@@ -4,12 +4,12 @@ use Rattle.std.specs.Prelude.{ℤ}
 use Rattle.std.specs.Global.{Vec}
 use Rattle.std.specs.List.{All, concat}
 use Rattle.std.proofs.lemmas.List.{append-nil}
-use Rattle.tsp_fields.specs.Fields.{Fields}
+use Rattle.tsp_draft.specs.Fields.{Fields}
 use Rattle.tsp_file.specs.Cost.{cost}
-use Rattle.tsp_walk.specs.Length.{length_of}
-use Rattle.tsp_walk.specs.Tour.{Uses}
+use Rattle.tsp_theory.specs.Length.{length_of}
+use Rattle.tsp_theory.specs.Tour.{Uses}
 use Rattle.tsp_cost.specs.Tours.{is_directed, IsTourOf}
-use Rattle.tsp_walk.specs.Walk.{IsWalk}
+use Rattle.tsp_theory.specs.Cycle.{IsCycle}
 use Rattle.tsp_reason.specs.declared.verdict.Reason.{Reason}
 use Rattle.tsp_reason.specs.declared.verdict.Reason.TheVariants.{FixedEdgeUnused}
 use Rattle.tsp_verdict.specs.Places.{IsFirstPlace, HoldsAtNone, IsRepeated, IsUnused}
@@ -34,9 +34,9 @@ tour_found inst sol tour only full low none =
     let low_all : All (λ node. 1 ≤ node) tour = subst (λ (xs : List ℕ). All (λ node. 1 ≤ node) xs) (visited_is sol tour only) low in
     (only, full, low_all, after_length inst sol (after_count inst sol none (ap length only)) (ap length (visited_is sol tour only) ∙ full))
 
--- nodes of 1..n, as many as n and none repeated, are a walk
-pub is_walk : (n : ℕ) (tour : List ℕ) → length tour ≡ n → All (λ node. 1 ≤ node) tour → All (λ node. node ≤ n) tour → HoldsAtNone (IsRepeated tour) (length tour) → IsWalk n tour
-is_walk n tour full low high once = record {
+-- nodes of 1..n, as many as n and none repeated, are a cycle
+pub is_cycle : (n : ℕ) (tour : List ℕ) → length tour ≡ n → All (λ node. 1 ≤ node) tour → All (λ node. node ≤ n) tour → HoldsAtNone (IsRepeated tour) (length tour) → IsCycle n tour
+is_cycle n tour full low high once = record {
   count = full;
   range = λ k d lt. (low k d lt, high k d lt);
   once = all_apart tour once;
@@ -65,13 +65,13 @@ unused_first inst sol tour directed pairs index only way listed none first = rec
 
 -- where every fixed pair is used it is a yes
 pub is_yes : (inst sol : Fields) (tour : List ℕ) (directed : Bool) (pairs : List (ℕ × ℕ)) (size : ℤ) → tours_of sol ≡ tour ∷ [] → directed ≡ is_directed inst.kind → pairs ≡ fixed_of inst
-    → NoneOfTourUpTo inst sol 9 → IsWalk (nodes_of inst) tour → All (Uses directed tour) pairs → size ≡ length_of (cost inst) tour
-    → ((reason : Reason) → StandsAgainstTour inst sol reason → ⊥) × ((walk : List ℕ) × (tours_of sol ≡ walk ∷ []) × IsTourOf inst walk × (size ≡ length_of (cost inst) walk))
-is_yes inst sol tour directed pairs size only way listed none walk used measured =
+    → NoneOfTourUpTo inst sol 9 → IsCycle (nodes_of inst) tour → All (Uses directed tour) pairs → size ≡ length_of (cost inst) tour
+    → ((reason : Reason) → StandsAgainstTour inst sol reason → ⊥) × ((cycle : List ℕ) × (tours_of sol ≡ cycle ∷ []) × IsTourOf inst cycle × (size ≡ length_of (cost inst) cycle))
+is_yes inst sol tour directed pairs size only way listed none cycle used measured =
     let used_all : All (Uses (is_directed inst.kind) tour) (fixed_of inst) =
     subst (λ (ps : List (ℕ × ℕ)). All (Uses (is_directed inst.kind) tour) ps) listed (subst (λ (b : Bool). All (Uses b tour) pairs) way used) in
     let is : tour ≡ visited sol = sym (visited_is sol tour only) in
     let used_there : All (Uses (is_directed inst.kind) (visited sol)) (fixed_of inst) = subst (λ (xs : List ℕ). All (Uses (is_directed inst.kind) xs) (fixed_of inst)) is used_all in (
       after_fixed inst sol none (λ index first. first.holds (used_there (index - 1) (0, 0) (omega (arith, first.here.0, first.here.1)))),
-      (tour, only, record { walk = walk; fixed_used = used_all }, measured),
+      (tour, only, record { cycle = cycle; fixed_used = used_all }, measured),
     )

@@ -6,14 +6,14 @@ use Rattle.std.specs.List.{All, Any}
 use Rattle.std.proofs.lemmas.Bool.{false≢true}
 use Rattle.std.proofs.lemmas.List.{length-map}
 use Rattle.std.proofs.lemmas.List.Elements.{All-weaker}
-use Rattle.tsp_value.specs.declared.kinds.Kind.TheVariants as kinds
-use Rattle.tsp_value.specs.Steps as listed
-use Rattle.tsp_fields.specs.Fields.{Fields}
-use Rattle.tsp_fields.specs.Fields.{combs_of as lists_of_combs}
-use Rattle.tsp_fields.specs.Rules.{is_tree}
+use Rattle.tsp_format.specs.declared.kinds.Kind.TheVariants as kinds
+use Rattle.tsp_format.specs.Steps as listed
+use Rattle.tsp_draft.specs.Fields.{Fields}
+use Rattle.tsp_draft.specs.Fields.{combs_of as lists_of_combs}
+use Rattle.tsp_draft.specs.Rules.{is_tree}
 use Rattle.tsp_file.specs.Cost.{cost}
-use Rattle.tsp_walk.specs.Costs.{IsEven}
-use Rattle.tsp_walk.specs.Tour.{Uses}
+use Rattle.tsp_theory.specs.Costs.{IsSymmetric}
+use Rattle.tsp_theory.specs.Tour.{Uses}
 use Rattle.tsp_cost.specs.Tours.{is_directed}
 use Rattle.tsp_theory.specs.Adjusted.{numbers_on}
 use Rattle.tsp_theory.specs.Numbers.{IsScale, entry, IsBoundSized}
@@ -21,7 +21,7 @@ use Rattle.tsp_branch.specs.declared.steps.BranchVerdict.{BranchVerdict}
 use Rattle.tsp_branch.specs.declared.steps.BranchVerdict.TheVariants as found
 use Rattle.tsp_branch.specs.BranchVerdicts.{IsBranchVerdict}
 use Rattle.tsp_branch.specs.Cases.{LeafNumbers, Step, decide, leaves_of}
-use Rattle.tsp_branch.specs.Certificate.{multiplied, IsBoundAt, IsCertificate, IsCertificateBound, CertificatesBoundWalks}
+use Rattle.tsp_branch.specs.Certificate.{multiplied, IsBoundAt, IsCertificate, IsCertificateBound, CertificatesBoundCycles}
 use Rattle.tsp_branch.specs.Combs.{Comb}
 use Rattle.tsp_branch.specs.CombsOfSets.{of_comb}
 use Rattle.tsp_branch.specs.Decided.{decided_number}
@@ -201,7 +201,7 @@ module _ (n : ℕ) (a b : ℕ → ℕ → ℤ) (scale number : ℤ) (combs : Lis
       reach at = (at.0, at.1, at.2, at.3, at_same at.1 bound at.4)
 
 -- the bound that a view's costs give is that of the certificate
-pub certified : (inst tree : Fields) (costs : ℕ → ℕ → ℤ) (bound : ℤ) → CertificatesBoundWalks → inst.kind ≡ Some kinds.Tsp → 3 ≤ nodes_of inst → IsEven (cost inst) → IsScale (scale_in tree)
+pub certified : (inst tree : Fields) (costs : ℕ → ℕ → ℤ) (bound : ℤ) → CertificatesBoundCycles → inst.kind ≡ Some kinds.Tsp → 3 ≤ nodes_of inst → IsSymmetric (cost inst) → IsScale (scale_in tree)
     → Same costs (cost inst) → IsBoundSized bound → IsTold inst tree costs (found.Bound bound) → IsCertifiedByTree inst tree bound
 certified inst tree costs bound law kind some even scaled same sized is =
     let n : ℕ = nodes_of inst in
@@ -212,7 +212,7 @@ certified inst tree costs bound law kind some even scaled same sized is =
     bound_carried n costs (cost inst) (scale_in tree) decided_number (told_combs tree) same (given_in inst) (tree_in inst tree) bound
     (subst (λ (cs : List Comb). IsCertificateBound n costs (scale_in tree) decided_number cs (given_in inst) (tree_in inst tree) bound) combs_are is.leaves.1) in (
       (certificate, bound_by),
-      λ nodes tour. law n (cost inst) (scale_in tree) decided_number (told_combs tree) (given_in inst) (tree_in inst tree) bound some even scaled certificate bound_by nodes tour.walk
+      λ nodes tour. law n (cost inst) (scale_in tree) decided_number (told_combs tree) (given_in inst) (tree_in inst tree) bound some even scaled certificate bound_by nodes tour.cycle
           (keeps_given nodes (fixed_of inst) (subst (λ k. All (Uses (is_directed k) nodes) (fixed_of inst)) kind tour.fixed_used)),
       sized,
     )

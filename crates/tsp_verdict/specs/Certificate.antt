@@ -1,12 +1,12 @@
 -- A certificate of a bound: a file of potentials, when it stands against a verdict, and the bound that it gives.
 use Rattle.std.specs.Prelude.{◌≡◌, ◌≢◌, ℕ, Bool, false, ◌&&◌, List, [], Option, None, Some, is_some, unwrap_or, Result, Ok, Err, ℤ, pos, ◌≤ℤ◌}
-use Rattle.tsp_value.specs.declared.kinds.Kind.{Kind}
-use Rattle.tsp_value.specs.declared.kinds.Kind.TheVariants as kinds
-use Rattle.tsp_fields.specs.Fields.{Fields}
-use Rattle.tsp_fields.specs.Rules.{is_certificate}
+use Rattle.tsp_format.specs.declared.kinds.Kind.{Kind}
+use Rattle.tsp_format.specs.declared.kinds.Kind.TheVariants as kinds
+use Rattle.tsp_draft.specs.Fields.{Fields}
+use Rattle.tsp_draft.specs.Rules.{is_certificate}
 use Rattle.tsp_file.specs.Cost.{cost}
-use Rattle.tsp_walk.specs.Walk.{IsWalk}
-use Rattle.tsp_walk.specs.Length.{length_of}
+use Rattle.tsp_theory.specs.Cycle.{IsCycle}
+use Rattle.tsp_theory.specs.Length.{length_of}
 use Rattle.tsp_theory.specs.Numbers.{IsBoundSized}
 use Rattle.tsp_theory.specs.Assignment.{AreGood, IsFirstBroken, IsDualBound}
 use Rattle.tsp_cost.specs.Tours.{IsTourOf}
@@ -77,7 +77,7 @@ IsBoundByPotentials (Some kinds.Potentials) inst pot bound = ⊥
 IsBoundByPotentials (Some kinds.Branches) inst pot bound = ⊥
 IsBoundByPotentials None inst pot bound = ⊥
 
--- Under TYPE TSP a walk uses the pairs with multipliers, in either direction; elsewhere multipliers aren't looked at.
+-- Under TYPE TSP a cycle uses the pairs with multipliers, in either direction; elsewhere multipliers aren't looked at.
 abbrev pub UsesMultiplied : Option Kind → Fields → List ℕ → Type 0
 UsesMultiplied (Some kinds.Tsp) pot nodes = UsesEach (multipliers_in pot) nodes
 UsesMultiplied (Some kinds.Atsp) pot nodes = Unit {0}
@@ -87,18 +87,18 @@ UsesMultiplied (Some kinds.Potentials) pot nodes = Unit {0}
 UsesMultiplied (Some kinds.Branches) pot nodes = Unit {0}
 UsesMultiplied None pot nodes = Unit {0}
 
--- no walk of the instance that uses the pairs with multipliers is shorter
-abbrev pub BoundsWalks : Fields → Fields → ℤ → Type 0
-BoundsWalks inst pot bound = (nodes : List ℕ) → IsWalk (nodes_of inst) nodes → UsesMultiplied inst.kind pot nodes
+-- no cycle of the instance that uses the pairs with multipliers is shorter
+abbrev pub BoundsCycles : Fields → Fields → ℤ → Type 0
+BoundsCycles inst pot bound = (nodes : List ℕ) → IsCycle (nodes_of inst) nodes → UsesMultiplied inst.kind pot nodes
     → bound ≤ℤ length_of (cost inst) nodes
 
 -- no tour of the instance is shorter
 abbrev pub BoundsTours : Fields → ℤ → Type 0
 BoundsTours inst bound = (other : List ℕ) → IsTourOf inst other → bound ≤ℤ length_of (cost inst) other
 
--- the bound that the certificate gives, which no such walk and no tour is below, and sums with which fit 128 bits
+-- the bound that the certificate gives, which no such cycle and no tour is below, and sums with which fit 128 bits
 abbrev pub IsCertifiedByPotentials : Fields → Fields → ℤ → Type 0
-IsCertifiedByPotentials inst pot bound = IsBoundByPotentials inst.kind inst pot bound × BoundsWalks inst pot bound
+IsCertifiedByPotentials inst pot bound = IsBoundByPotentials inst.kind inst pot bound × BoundsCycles inst pot bound
     × BoundsTours inst bound × IsBoundSized bound
 
 -- the bound of a certificate against which no reason stands, or the first reason that does

@@ -1,9 +1,9 @@
 -- Small instances and solutions on which the definitions are evaluated.
 use Rattle.std.specs.Prelude.{ℕ, ◌<◌, List, [], ◌∷◌, Option, None, Some, ℤ, pos}
-use Rattle.tsp_value.specs.declared.kinds.Kind.{Kind}
-use Rattle.tsp_value.specs.declared.kinds.Kind.TheVariants as kinds
-use Rattle.tsp_value.specs.Steps.{Step, Leaf}
-use Rattle.tsp_fields.specs.Fields.{Fields, blank_fields}
+use Rattle.tsp_format.specs.declared.kinds.Kind.{Kind}
+use Rattle.tsp_format.specs.declared.kinds.Kind.TheVariants as kinds
+use Rattle.tsp_format.specs.Steps.{Step, Leaf}
+use Rattle.tsp_draft.specs.Fields.{Fields, blank_fields}
 use Rattle.tsp_reason.specs.declared.verdict.Reason.{Reason}
 
 -- an instance with so many nodes and these fixed pairs

@@ -1,8 +1,8 @@
 -- The sets of combs in one list, each with the number of its comb.
 use Rattle.std.specs.Prelude.{ℕ, suc, ◌≤◌, List, [], ◌∷◌, ◌++◌, map, length}
 use Rattle.std.specs.List.{All, sum_by}
-use Rattle.tsp_value.specs.Limits.{most_combs, most_comb_nodes}
-use Rattle.tsp_fields.specs.Valid.{AreSets}
+use Rattle.tsp_format.specs.Limits.{most_combs, most_comb_nodes}
+use Rattle.tsp_draft.specs.Valid.{AreSets}
 
 abbrev pub with_number : ℕ → List (List ℕ) → List (ℕ × List ℕ)
 with_number number sets = map (λ set. (number, set)) sets

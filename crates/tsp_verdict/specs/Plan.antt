@@ -1,9 +1,9 @@
 -- Plans of routes. Source: TSPLIB 95 (G. Reinelt), capacitated vehicle routing: CAPACITY, DEMAND_SECTION, DEPOT_SECTION.
 use Rattle.std.specs.Prelude.{◌≢◌, ℕ, ◌-◌, ◌≤◌, List, [], ◌∷◌, slice_index, slice_index_or, unwrap_or, ℤ, pos, ◌*ℤ◌, ◌≤ℤ◌}
 use Rattle.std.specs.List.{All, AllPairs, Contains, concat}
-use Rattle.tsp_value.specs.Cells.{IsNode, nodes_to}
-use Rattle.tsp_fields.specs.Fields.{Fields}
-use Rattle.tsp_walk.specs.Length.{sum_int_by, length_of}
+use Rattle.tsp_format.specs.Cells.{IsNode, nodes_to}
+use Rattle.tsp_draft.specs.Fields.{Fields}
+use Rattle.tsp_theory.specs.Length.{sum_int_by, length_of}
 use Rattle.tsp_verdict.specs.Solution.{nodes_of, visited}
 
 -- the demand of a node

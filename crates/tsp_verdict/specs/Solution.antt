@@ -2,7 +2,7 @@
 use Rattle.std.specs.Prelude.{ℕ, List, [], unwrap_or}
 use Rattle.std.specs.Global.{Vec}
 use Rattle.std.specs.List.{concat, flat_map}
-use Rattle.tsp_fields.specs.Fields.{Fields}
+use Rattle.tsp_draft.specs.Fields.{Fields}
 
 -- the number of nodes of an instance
 abbrev pub nodes_of : Fields → ℕ

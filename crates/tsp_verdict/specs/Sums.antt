@@ -1,6 +1,6 @@
 -- Sums of costs.
 use Rattle.std.specs.Prelude.{ℕ, ◌*◌, ℤ, pos, ◌+ℤ◌, ◌≤ℤ◌}
-use Rattle.tsp_value.specs.Limits.{most_weight}
+use Rattle.tsp_format.specs.Limits.{most_weight}
 
 -- of the size of so many costs
 pub record IsSumOf (count : ℕ) (sum : ℤ) : Type 0 where

@@ -1,12 +1,12 @@
 -- The verdict on a tour: the first reason against it, or a tour of the instance and its length.
 -- Source: TSPLIB 95 (G. Reinelt), TOUR_SECTION and FIXED_EDGES_SECTION; the reasons and their order are this project's.
 use Rattle.std.specs.Prelude.{◌≡◌, ◌≢◌, ℕ, ◌<◌, false, List, [], ◌∷◌, length, None, Some, Result, Ok, Err, ℤ}
-use Rattle.tsp_value.specs.declared.kinds.Kind.TheVariants as kinds
-use Rattle.tsp_fields.specs.Fields.{Fields}
-use Rattle.tsp_fields.specs.Rules.{is_tours}
+use Rattle.tsp_format.specs.declared.kinds.Kind.TheVariants as kinds
+use Rattle.tsp_draft.specs.Fields.{Fields}
+use Rattle.tsp_draft.specs.Rules.{is_tours}
 use Rattle.tsp_file.specs.Cost.{cost}
-use Rattle.tsp_walk.specs.Costs.{IsEven, IsFirstUneven}
-use Rattle.tsp_walk.specs.Length.{length_of}
+use Rattle.tsp_theory.specs.Costs.{IsSymmetric, IsFirstAsymmetric}
+use Rattle.tsp_theory.specs.Length.{length_of}
 use Rattle.tsp_cost.specs.Tours.{is_directed, IsTourOf}
 use Rattle.tsp_reason.specs.declared.verdict.Reason.{Reason}
 use Rattle.tsp_reason.specs.declared.verdict.Reason.TheVariants.{NotASolution, TooFewNodes, NotSymmetric, Dimension, TourCount, TourLength, NodeOutOfRange, RepeatedNode, FixedEdgeUnused, NotPotentials, PotentialsDimension, PotentialsKind, MultiplierNotFixed, MultiplierRepeated, DualInfeasible, DepotCount, DepotDemand, FixedEdgesInRoutes, DepotInRoute, Unserved, Overload, NotBranches, BranchesDimension, BadComb, BranchTwice, BadLeaf}
@@ -20,7 +20,7 @@ use Rattle.tsp_verdict.specs.Solution.{nodes_of, fixed_of, tours_of, visited}
 abbrev pub StandsAgainstTour : Fields → Fields → Reason → Type 0
 StandsAgainstTour inst sol NotASolution = is_tours sol.kind ≡ false
 StandsAgainstTour inst sol TooFewNodes = nodes_of inst < 3
-StandsAgainstTour inst sol (NotSymmetric i j) = (inst.kind ≡ Some kinds.Tsp) × IsFirstUneven (nodes_of inst) (cost inst) (i, j)
+StandsAgainstTour inst sol (NotSymmetric i j) = (inst.kind ≡ Some kinds.Tsp) × IsFirstAsymmetric (nodes_of inst) (cost inst) (i, j)
 StandsAgainstTour inst sol Dimension = (n : ℕ) × (sol.dimension ≡ Some n) × (n ≢ nodes_of inst)
 StandsAgainstTour inst sol TourCount = length (tours_of sol) ≢ 1
 StandsAgainstTour inst sol TourLength = length (visited sol) ≢ nodes_of inst
@@ -94,12 +94,12 @@ IsTourVerdict inst sol (verdicts.Tour length bound) = ((reason : Reason) → Sta
 IsTourVerdict inst sol (verdicts.Routes length routes least) = ⊥
 
 -- under TYPE TSP the costs are the same both ways
-abbrev pub IsEvenTsp : Fields → Type 0
-IsEvenTsp inst = inst.kind ≡ Some kinds.Tsp → IsEven (cost inst)
+abbrev pub IsSymmetricTsp : Fields → Type 0
+IsSymmetricTsp inst = inst.kind ≡ Some kinds.Tsp → IsSymmetric (cost inst)
 
 -- the length of the one tour, where no reason stands, or the first reason
 abbrev pub FindsLength : Fields → Fields → Result ℤ Reason → Type 0
-FindsLength inst sol (Ok length) = IsTourVerdict inst sol (verdicts.Tour length None) × IsEvenTsp inst
+FindsLength inst sol (Ok length) = IsTourVerdict inst sol (verdicts.Tour length None) × IsSymmetricTsp inst
 FindsLength inst sol (Err reason) = IsFirstAgainstTour inst sol reason
 
 -- Reasons 1 to 7 don't stand: they are found without memory.

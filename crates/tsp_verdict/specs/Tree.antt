@@ -1,9 +1,9 @@
 -- A certificate by branching: a file of branches, when it stands against a verdict, and the bound that it gives.
 use Rattle.std.specs.Prelude.{◌≡◌, ◌≢◌, ℕ, ◌-◌, false, if◌then◌else◌, List, [], ◌∷◌, ◌++◌, length, map, slice_index_or, unwrap_or, Result, Ok, Err, ℤ}
 use Rattle.std.specs.List.{list_any}
-use Rattle.tsp_value.specs.Steps as listed
-use Rattle.tsp_fields.specs.Fields.{Fields}
-use Rattle.tsp_fields.specs.Rules.{is_tree}
+use Rattle.tsp_format.specs.Steps as listed
+use Rattle.tsp_draft.specs.Fields.{Fields}
+use Rattle.tsp_draft.specs.Rules.{is_tree}
 use Rattle.tsp_file.specs.Cost.{cost}
 use Rattle.tsp_theory.specs.Adjusted.{is_same_pair}
 use Rattle.tsp_theory.specs.Numbers.{IsBoundSized}

@@ -1,9 +1,9 @@
 //! The verdict on a tour with a certificate of a bound.
 
 ghost use Rattle.std.specs.Prelude.{◌≡◌, ◌⊎◌, ◌≤◌, Some, IfOk, IsOk, MatchResult};
-ghost use Rattle.tsp_value.specs.declared.kinds.Kind.TheVariants as kinds;
+ghost use Rattle.tsp_format.specs.declared.kinds.Kind.TheVariants as kinds;
 ghost use Rattle.tsp_verdict.specs.Solution.{nodes_of};
-ghost use Rattle.tsp_verdict.specs.Tours.{IsEvenTsp, NoneOfTourBeforeRepeats};
+ghost use Rattle.tsp_verdict.specs.Tours.{IsSymmetricTsp, NoneOfTourBeforeRepeats};
 ghost use Rattle.tsp_verdict.specs.Bounded.{IsBoundedVerdict};
 ghost use Rattle.tsp_verdict.specs.Certificate.{FindsBoundByPotentials};
 
@@ -14,8 +14,8 @@ use crate::tour::length_of_tour;
 use std::alloc::{AllocError, Global};
 use tsp_cost::Instance;
 use tsp_file::File;
+use tsp_format::Kind;
 use tsp_reason::{Reason, Verdict};
-use tsp_value::Kind;
 
 /// The verdict on a solution of an instance of TYPE TSP or ATSP with a certificate: a no with the
 /// first reason against either, or a yes with the tour's length and a bound that no tour of the
@@ -57,7 +57,7 @@ pub fn judge_tour_bound(
 fn bound_of(alloc: Global, inst: &Instance, pot: &File) -> Result<Result<i128, Reason>, AllocError>
     requires kind { (inst.now.kind ≡ Some kinds.Tsp) ⊎ (inst.now.kind ≡ Some kinds.Atsp) }
     requires some { 3 ≤ nodes_of inst.now }
-    requires even { IsEvenTsp inst.now }
+    requires even { IsSymmetricTsp inst.now }
     ensures found { IfOk result (λ found. FindsBoundByPotentials inst.now pot.now found) }
     ensures memory { inst.now.kind ≡ Some kinds.Atsp → IsOk result }
 {

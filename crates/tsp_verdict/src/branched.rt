@@ -1,9 +1,9 @@
 //! The verdict on a tour with a certificate by branching.
 
 ghost use Rattle.std.specs.Prelude.{◌≡◌, ◌≤◌, Some, IfOk, MatchResult};
-ghost use Rattle.tsp_value.specs.declared.kinds.Kind.TheVariants as kinds;
+ghost use Rattle.tsp_format.specs.declared.kinds.Kind.TheVariants as kinds;
 ghost use Rattle.tsp_verdict.specs.Solution.{nodes_of};
-ghost use Rattle.tsp_verdict.specs.Tours.{IsEvenTsp, NoneOfTourBeforeRepeats};
+ghost use Rattle.tsp_verdict.specs.Tours.{IsSymmetricTsp, NoneOfTourBeforeRepeats};
 ghost use Rattle.tsp_verdict.specs.Branched.{IsBranchedVerdict};
 ghost use Rattle.tsp_verdict.specs.Tree.{FindsBoundByTree};
 

@@ -2,11 +2,11 @@
 
 ghost use Rattle.std.specs.Prelude.{◌≡◌, ◌⊎◌, ◌≤◌, true, length, Some, IfOk, MatchOption, MatchResult};
 ghost use Rattle.std.specs.List.{All};
-ghost use Rattle.tsp_value.specs.Cells.{IsNode};
-ghost use Rattle.tsp_value.specs.declared.kinds.Kind.TheVariants as kinds;
-ghost use Rattle.tsp_fields.specs.Rules.{is_certificate};
+ghost use Rattle.tsp_format.specs.Cells.{IsNode};
+ghost use Rattle.tsp_format.specs.declared.kinds.Kind.TheVariants as kinds;
+ghost use Rattle.tsp_draft.specs.Rules.{is_certificate};
 ghost use Rattle.tsp_file.specs.Cost.{cost};
-ghost use Rattle.tsp_walk.specs.Costs.{IsEven};
+ghost use Rattle.tsp_theory.specs.Costs.{IsSymmetric};
 ghost use Rattle.tsp_cost.specs.Views.{HasCosts};
 ghost use Rattle.tsp_theory.specs.Numbers.{IsScale, AreMultipliers};
 ghost use Rattle.tsp_theory.specs.Adjusted.{AreOnPairs};
@@ -23,14 +23,14 @@ use crate::files::fixed_pairs;
 use crate::multiplied::{first_repeated_pair, first_unlisted};
 use std::alloc::{AllocError, Global};
 use tsp_bound::{
-    Duals, Multipliers, Potentials, adjusted_bounds_bound_walks, dual_bound, duals_bound_walks,
+    Duals, Multipliers, Potentials, adjusted_bounds_bound_cycles, dual_bound, duals_bound_cycles,
     one_tree,
 };
 use tsp_cost::{Costs, Grouped, Instance, View};
-use tsp_fields::valid_fields_are_in_range;
+use tsp_draft::valid_fields_are_in_range;
 use tsp_file::File;
+use tsp_format::Kind;
 use tsp_reason::Reason;
-use tsp_value::Kind;
 
 /// The first reason against a certificate that needs no look at its numbers.
 pub(crate) fn first_against_certificate(inst: &Instance, pot: &File) -> Option<Reason>
@@ -193,7 +193,7 @@ fn assignment_bound<C: Costs>(inst: &Instance, pot: &File, c: &C) -> Result<i128
         (λ bound. IsCertifiedByPotentials inst.now pot.now bound)
         (λ reason. StandsAgainstPotentials inst.now pot.now reason × (rank_of_tours reason ≡ 15)) }
 {
-    duals_bound_walks();
+    duals_bound_cycles();
     match dual_bound(c, &duals_of(pot)) {
         Ok(bound) => Ok(bound),
         Err(pair) => Err(Reason::DualInfeasible {
@@ -213,7 +213,7 @@ pub(crate) fn bound_of_potentials(
     requires some { 3 ≤ nodes_of inst.now }
     requires count { nodes_of pot.now ≡ nodes_of inst.now }
     requires wanted { has_wanted (Some kinds.Tsp) pot.now ≡ true }
-    requires even { IsEven (cost inst.now) }
+    requires even { IsSymmetric (cost inst.now) }
     requires on_pairs { AreOnPairs (nodes_of inst.now) (multipliers_in pot.now) }
     requires listed { AreListed (fixed_of inst.now) (multipliers_in pot.now) }
     ensures { IfOk result (λ bound. IsCertifiedByPotentials inst.now pot.now bound) }
@@ -241,12 +241,12 @@ fn tree_bound<C: Grouped>(
     requires some { 3 ≤ nodes_of inst.now }
     requires count { nodes_of pot.now ≡ nodes_of inst.now }
     requires wanted { has_wanted (Some kinds.Tsp) pot.now ≡ true }
-    requires even { IsEven (cost inst.now) }
+    requires even { IsSymmetric (cost inst.now) }
     requires on_pairs { AreOnPairs (nodes_of inst.now) (multipliers_in pot.now) }
     requires listed { AreListed (fixed_of inst.now) (multipliers_in pot.now) }
     ensures { IfOk result (λ bound. IsCertifiedByPotentials inst.now pot.now bound) }
 {
-    adjusted_bounds_bound_walks();
+    adjusted_bounds_bound_cycles();
     match one_tree(alloc, c, &potentials_of(pot), &multipliers_of(pot)) {
         Ok(found) => Ok(found.bound),
         Err(refused) => Err(refused),

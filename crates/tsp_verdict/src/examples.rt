@@ -2,8 +2,8 @@
 //! here: a definition that is changed together with its code is refused by its examples.
 
 ghost use Rattle.std.specs.Prelude.{◌≡◌, ℕ, ◌+◌, ◌*◌, [], ◌∷◌, pos, negsuc};
-ghost use Rattle.tsp_value.specs.declared.kinds.Kind.TheVariants as kinds;
-ghost use Rattle.tsp_value.specs.Steps.{Branch, Leaf};
+ghost use Rattle.tsp_format.specs.declared.kinds.Kind.TheVariants as kinds;
+ghost use Rattle.tsp_format.specs.Steps.{Branch, Leaf};
 ghost use Rattle.tsp_branch.specs.Examples.{with_pair};
 ghost use Rattle.tsp_reason.specs.declared.verdict.Reason.TheVariants as reasons;
 ghost use Rattle.tsp_verdict.specs.Plan.{IsPlanOf, IsLeast, plan_length, total_of};
@@ -127,7 +127,7 @@ pub fn examples_against_routes()
 {}
 
 /// What plans are, how long they are, how many routes are the least.
-#[tactic(auto, unfolding(tsp_value::specs::Cells::nodes_to))]
+#[tactic(auto, unfolding(tsp_format::specs::Cells::nodes_to))]
 pub fn examples_of_plans()
     ensures at_capacity { IsPlanOf (carrying (pos 8)) (two 2 3 ∷ (4 ∷ []) ∷ []) }
     ensures past_capacity { ¬ IsPlanOf (carrying (pos 7)) (two 2 3 ∷ (4 ∷ []) ∷ []) }

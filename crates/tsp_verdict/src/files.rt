@@ -2,15 +2,15 @@
 
 ghost use Rattle.std.specs.Prelude.{◌≡◌, ◌≤◌, map, length, pos, Some};
 ghost use Rattle.std.specs.List.{All};
-ghost use Rattle.tsp_value.specs.declared.kinds.Kind.TheVariants as kinds;
-ghost use Rattle.tsp_value.specs.Cells.{IsNode};
-ghost use Rattle.tsp_value.specs.Limits.{most_fixed, most_capacity, most_tour_nodes};
-ghost use Rattle.tsp_fields.specs.Valid.{IsPairOf, IsDemand, IsFromTo};
+ghost use Rattle.tsp_format.specs.declared.kinds.Kind.TheVariants as kinds;
+ghost use Rattle.tsp_format.specs.Cells.{IsNode};
+ghost use Rattle.tsp_format.specs.Limits.{most_fixed, most_capacity, most_tour_nodes};
+ghost use Rattle.tsp_draft.specs.Valid.{IsPairOf, IsDemand, IsFromTo};
 ghost use Rattle.tsp_verdict.specs.Plan.{depots_of, demands_of, capacity_of};
 ghost use Rattle.tsp_verdict.specs.Solution.{nodes_of, fixed_of, tours_of, visited, nodes_in};
 
 use tsp_cost::Instance;
-use tsp_fields::{valid_fields_are_in_range, valid_files_are_complete};
+use tsp_draft::{valid_fields_are_in_range, valid_files_are_complete};
 use tsp_file::File;
 
 /// The tours of a solution, none where it has no TOUR_SECTION.

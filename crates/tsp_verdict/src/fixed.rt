@@ -2,25 +2,25 @@
 
 ghost use Rattle.std.specs.Prelude.{◌≡◌, ◌+◌, ◌-◌, ◌^◌, ◌<◌, ◌≤◌, ℕ, List, length, vec_len, slice_index_or, IfOk, MatchOption, MatchBool};
 ghost use Rattle.std.specs.List.{All};
-ghost use Rattle.tsp_fields.specs.Valid.{IsPairOf};
-ghost use Rattle.tsp_walk.specs.Tour.{Uses};
-ghost use Rattle.tsp_walk.specs.Walk.{IsWalk};
+ghost use Rattle.tsp_draft.specs.Valid.{IsPairOf};
+ghost use Rattle.tsp_theory.specs.Tour.{Uses};
+ghost use Rattle.tsp_theory.specs.Cycle.{IsCycle};
 ghost use Rattle.tsp_verdict.specs.Places.{IsFirstPlace, IsUnused};
 ghost use Rattle.tsp_verdict.specs.Next.{AreNext};
 
 use std::alloc::{AllocError, Global};
 
-/// For each node of a walk of n nodes the one that comes next, the first one after the last.
+/// For each node of a cycle of n nodes the one that comes next, the first one after the last.
 ///
 /// # Errors
 ///
 /// Out of memory for a number for each node.
-pub(crate) fn next_nodes(alloc: Global, walk: &[u32], n: u32) -> Result<Vec<u32>, AllocError>
-    requires { IsWalk n walk.now }
-    ensures { IfOk result (λ next. (vec_len next ≡ n + 1) × AreNext walk.now next.items) }
+pub(crate) fn next_nodes(alloc: Global, cycle: &[u32], n: u32) -> Result<Vec<u32>, AllocError>
+    requires { IsCycle n cycle.now }
+    ensures { IfOk result (λ next. (vec_len next ≡ n + 1) × AreNext cycle.now next.items) }
 {
     let mut next = vec![in alloc; 0; n as usize + 1]?;
-    let Some((first, others)) = walk.split_first() else {
+    let Some((first, others)) = cycle.split_first() else {
         return Ok(next);
     };
     let mut from = *first;
@@ -32,14 +32,14 @@ pub(crate) fn next_nodes(alloc: Global, walk: &[u32], n: u32) -> Result<Vec<u32>
     Ok(next)
 }
 
-/// The first fixed pair, counted from 1, that a walk of n nodes doesn't use: as neighbours in
+/// The first fixed pair, counted from 1, that a cycle of n nodes doesn't use: as neighbours in
 /// either direction, or from its first to its second node alone.
 pub(crate) fn first_unused(fixed: &[(u32, u32)], next: &[u32], directed: bool) -> Option<u32>
     requires size { length fixed.now < 2 ^ 32 }
     requires range { All (IsPairOf (length next.now - 1)) fixed.now }
-    ensures { (walk : List ℕ) → AreNext walk next.now → MatchOption result
-        (All (Uses directed walk) fixed.now)
-        (λ index. IsFirstPlace (IsUnused directed walk fixed.now) fixed.now index) }
+    ensures { (cycle : List ℕ) → AreNext cycle next.now → MatchOption result
+        (All (Uses directed cycle) fixed.now)
+        (λ index. IsFirstPlace (IsUnused directed cycle fixed.now) fixed.now index) }
 {
     let mut index = 0;
     'pairs: for pair in fixed {
@@ -54,8 +54,8 @@ pub(crate) fn first_unused(fixed: &[(u32, u32)], next: &[u32], directed: bool) -
 /// Whether a pair is used.
 fn is_used(pair: (u32, u32), next: &[u32], directed: bool) -> bool
     requires { IsPairOf (length next.now - 1) pair }
-    ensures { (walk : List ℕ) → AreNext walk next.now
-        → MatchBool result (Uses directed walk pair) (Uses directed walk pair → ⊥) }
+    ensures { (cycle : List ℕ) → AreNext cycle next.now
+        → MatchBool result (Uses directed cycle pair) (Uses directed cycle pair → ⊥) }
 {
     if next[pair.0 as usize] == pair.1 {
         return true;

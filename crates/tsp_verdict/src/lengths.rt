@@ -2,10 +2,10 @@
 
 ghost use Rattle.std.specs.Prelude.{◌≡◌, ◌+◌, ◌≤◌, ◌∷◌, map, length};
 ghost use Rattle.std.specs.List.{All};
-ghost use Rattle.tsp_value.specs.Cells.{IsNode};
-ghost use Rattle.tsp_value.specs.Limits.{most_tour_nodes};
+ghost use Rattle.tsp_format.specs.Cells.{IsNode};
+ghost use Rattle.tsp_format.specs.Limits.{most_tour_nodes};
 ghost use Rattle.tsp_file.specs.Cost.{cost};
-ghost use Rattle.tsp_walk.specs.Length.{length_of};
+ghost use Rattle.tsp_theory.specs.Length.{length_of};
 ghost use Rattle.tsp_verdict.specs.Plan.{plan_length};
 ghost use Rattle.tsp_verdict.specs.Solution.{nodes_of, nodes_in};
 ghost use Rattle.tsp_verdict.specs.Sums.{IsSumOf};

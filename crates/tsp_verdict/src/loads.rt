@@ -2,9 +2,9 @@
 
 ghost use Rattle.std.specs.Prelude.{◌≡◌, ◌^◌, ◌<◌, ◌≤◌, map, length, pos, ◌≤ℤ◌, MatchOption};
 ghost use Rattle.std.specs.List.{All};
-ghost use Rattle.tsp_value.specs.Cells.{IsNode, nodes_to};
-ghost use Rattle.tsp_value.specs.Limits.{most_nodes, most_tour_nodes, most_capacity};
-ghost use Rattle.tsp_fields.specs.Valid.{IsDemand, IsFromTo};
+ghost use Rattle.tsp_format.specs.Cells.{IsNode, nodes_to};
+ghost use Rattle.tsp_format.specs.Limits.{most_nodes, most_tour_nodes, most_capacity};
+ghost use Rattle.tsp_draft.specs.Valid.{IsDemand, IsFromTo};
 ghost use Rattle.tsp_verdict.specs.Places.{IsFirstPlace};
 ghost use Rattle.tsp_verdict.specs.Plan.{load_of, IsLeast};
 ghost use Rattle.tsp_verdict.specs.Routes.{IsOverloaded};

@@ -1,8 +1,8 @@
 //! The verdict on routes.
 
 ghost use Rattle.std.specs.Prelude.{◌≡◌, pos, Some, MatchOption, MatchResult};
-ghost use Rattle.tsp_value.specs.declared.kinds.Kind.TheVariants as kinds;
-ghost use Rattle.tsp_value.specs.Cells.{IsNode};
+ghost use Rattle.tsp_format.specs.declared.kinds.Kind.TheVariants as kinds;
+ghost use Rattle.tsp_format.specs.Cells.{IsNode};
 ghost use Rattle.tsp_verdict.specs.Plan.{demand_of, depot_of, demands_of, AreCustomers};
 ghost use Rattle.tsp_verdict.specs.Routes.{NoneOfRoutesUpTo, IsFirstAgainstRoutes, IsRoutesVerdict, NoneOfRoutesBeforeRepeats};
 ghost use Rattle.tsp_verdict.specs.Solution.{nodes_of};
@@ -14,8 +14,8 @@ use crate::visits::{first_larger_in, first_of_in, first_unmarked, mark_all};
 use std::alloc::{AllocError, Global};
 use tsp_cost::{Costs, Instance};
 use tsp_file::File;
+use tsp_format::Kind;
 use tsp_reason::{Reason, Verdict};
-use tsp_value::Kind;
 
 /// The fewest nodes of an instance whose routes are judged.
 const FEWEST_NODES: u32 = 2;

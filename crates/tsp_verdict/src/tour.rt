@@ -2,10 +2,10 @@
 
 ghost use Rattle.std.specs.Prelude.{◌≡◌, ◌⊎◌, ◌<◌, ◌≤◌, [], ◌∷◌, length, Some, MatchOption, MatchResult};
 ghost use Rattle.std.specs.List.{All};
-ghost use Rattle.tsp_value.specs.declared.kinds.Kind.TheVariants as kinds;
+ghost use Rattle.tsp_format.specs.declared.kinds.Kind.TheVariants as kinds;
 ghost use Rattle.tsp_cost.specs.Tours.{is_directed};
 ghost use Rattle.tsp_verdict.specs.Solution.{nodes_of, tours_of};
-ghost use Rattle.tsp_verdict.specs.Tours.{NoneOfTourUpTo, IsFirstAgainstTour, IsEvenTsp, FindsLength, IsTourVerdict, NoneOfTourBeforeRepeats};
+ghost use Rattle.tsp_verdict.specs.Tours.{NoneOfTourUpTo, IsFirstAgainstTour, IsSymmetricTsp, FindsLength, IsTourVerdict, NoneOfTourBeforeRepeats};
 
 use crate::files::{fixed_pairs, solution_tours};
 use crate::fixed::{first_unused, next_nodes};
@@ -13,8 +13,8 @@ use crate::places::{first_larger, first_repeated};
 use std::alloc::{AllocError, Global};
 use tsp_cost::{Costs, Instance, symmetric_fault, tour_length};
 use tsp_file::File;
+use tsp_format::Kind;
 use tsp_reason::{Reason, Verdict};
-use tsp_value::Kind;
 
 /// The fewest nodes of an instance whose tours are judged.
 const FEWEST_NODES: u32 = 3;
@@ -82,7 +82,7 @@ fn the_tour<'a>(inst: &Instance, sol: &'a File) -> Result<&'a [u32], Reason>
     ensures { MatchResult result
         (λ tour. (tours_of sol.now ≡ tour.now ∷ []) × (length tour.now ≡ nodes_of inst.now)
         × All (λ node. 1 ≤ node) tour.now × NoneOfTourUpTo inst.now sol.now 7
-        × IsEvenTsp inst.now)
+        × IsSymmetricTsp inst.now)
         (λ reason. IsFirstAgainstTour inst.now sol.now reason) }
 {
     if let Some(reason) = first_against_files(inst, sol) {
@@ -100,7 +100,7 @@ fn the_tour<'a>(inst: &Instance, sol: &'a File) -> Result<&'a [u32], Reason>
 /// The first reason that needs no look at the tours.
 fn first_against_files(inst: &Instance, sol: &File) -> Option<Reason>
     ensures { MatchOption result
-        (NoneOfTourUpTo inst.now sol.now 5 × IsEvenTsp inst.now)
+        (NoneOfTourUpTo inst.now sol.now 5 × IsSymmetricTsp inst.now)
         (λ reason. IsFirstAgainstTour inst.now sol.now reason) }
 {
     let nodes = inst.count();

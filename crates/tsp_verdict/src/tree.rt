@@ -2,12 +2,12 @@
 
 ghost use Rattle.std.specs.Prelude.{◌≡◌, ◌≤◌, ◌<◌, ◌^◌, true, length, Some, IfOk, MatchOption};
 ghost use Rattle.std.specs.List.{All};
-ghost use Rattle.tsp_value.specs.declared.kinds.Kind.TheVariants as kinds;
-ghost use Rattle.tsp_value.specs.Steps.{steps_of, are_whole};
-ghost use Rattle.tsp_fields.specs.Fields.{combs_of};
-ghost use Rattle.tsp_fields.specs.Rules.{is_tree};
+ghost use Rattle.tsp_format.specs.declared.kinds.Kind.TheVariants as kinds;
+ghost use Rattle.tsp_format.specs.Steps.{steps_of, are_whole};
+ghost use Rattle.tsp_draft.specs.Fields.{combs_of};
+ghost use Rattle.tsp_draft.specs.Rules.{is_tree};
 ghost use Rattle.tsp_file.specs.Cost.{cost};
-ghost use Rattle.tsp_walk.specs.Costs.{IsEven};
+ghost use Rattle.tsp_theory.specs.Costs.{IsSymmetric};
 ghost use Rattle.tsp_cost.specs.Views.{HasCosts};
 ghost use Rattle.tsp_theory.specs.Numbers.{IsScale};
 ghost use Rattle.tsp_branch.specs.Listed.{IsStepOf};
@@ -22,12 +22,12 @@ use crate::decided::taken_once;
 use crate::files::fixed_pairs;
 use crate::numbered::numbered_sets;
 use std::alloc::{AllocError, Global};
-use tsp_branch::{BranchVerdict, CostTable, certificates_bound_walks, judge_branches};
+use tsp_branch::{BranchVerdict, CostTable, certificates_bound_cycles, judge_branches};
 use tsp_cost::{Costs, Instance, Symmetric, View};
-use tsp_fields::{valid_fields_are_in_range, valid_files_are_complete};
+use tsp_draft::{valid_fields_are_in_range, valid_files_are_complete};
 use tsp_file::File;
+use tsp_format::{Kind, TreeStep};
 use tsp_reason::Reason;
-use tsp_value::{Kind, TreeStep};
 
 /// The most nodes of which distances are kept for each pair, in 32 MB.
 const MOST_TABLED: u32 = 2_000;
@@ -45,7 +45,7 @@ pub(crate) fn bound_of_tree(
 ) -> Result<Result<i128, Reason>, AllocError>
     requires kind { instance.now.kind ≡ Some kinds.Tsp }
     requires some { 3 ≤ nodes_of instance.now }
-    requires even { IsEven (cost instance.now) }
+    requires even { IsSymmetric (cost instance.now) }
     ensures { IfOk result (λ found. FindsBoundByTree instance.now branches.now found) }
 {
     if let Some(reason) = first_against_file(instance, branches) {
@@ -93,7 +93,7 @@ fn judge_distances<C: Symmetric>(
     requires keeps { HasCosts instance.now (C.nodes costs.now) (C.at costs.now) }
     requires kind { instance.now.kind ≡ Some kinds.Tsp }
     requires some { 3 ≤ nodes_of instance.now }
-    requires even { IsEven (cost instance.now) }
+    requires even { IsSymmetric (cost instance.now) }
     requires sort { is_tree branches.now.kind ≡ true }
     requires count { nodes_of branches.now ≡ nodes_of instance.now }
     ensures { IfOk result (λ found. FindsBoundByTree instance.now branches.now found) }
@@ -122,12 +122,12 @@ fn judge_tree<C: Symmetric>(
     requires keeps { HasCosts instance.now (C.nodes costs.now) (C.at costs.now) }
     requires kind { instance.now.kind ≡ Some kinds.Tsp }
     requires some { 3 ≤ nodes_of instance.now }
-    requires even { IsEven (cost instance.now) }
+    requires even { IsSymmetric (cost instance.now) }
     requires sort { is_tree branches.now.kind ≡ true }
     requires count { nodes_of branches.now ≡ nodes_of instance.now }
     ensures { IfOk result (λ found. FindsBoundByTree instance.now branches.now found) }
 {
-    certificates_bound_walks();
+    certificates_bound_cycles();
     let given = taken_once(alloc, fixed_pairs(instance))?;
     let combs = combs_of_tree(branches);
     let sets = numbered_sets(alloc, combs)?;

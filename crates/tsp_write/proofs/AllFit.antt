@@ -6,13 +6,13 @@ use Rattle.std.specs.Option.{option_map, option_or}
 use Rattle.std.specs.Str.{bytes_eq}
 use Rattle.std.proofs.lemmas.Bool.{and_parts}
 use Rattle.std.proofs.lemmas.Option.{none-some, same_Some}
-use Rattle.tsp_value.specs.declared.field.Field.{Field}
-use Rattle.tsp_value.specs.Words.{field_word, fields_in_order, field_found}
-use Rattle.tsp_fields.specs.declared.fault.DraftFault.{DraftFault}
-use Rattle.tsp_fields.specs.declared.fault.DraftFault.TheVariants.{BadField, Rule}
-use Rattle.tsp_fields.specs.Fields.{Fields}
-use Rattle.tsp_fields.specs.Validity.{fits, first_failing, bad_field}
-use Rattle.tsp_fields.specs.Rules.{standing_of, end_fault, fault_of}
+use Rattle.tsp_format.specs.declared.field.Field.{Field}
+use Rattle.tsp_format.specs.Words.{field_word, fields_in_order, field_found}
+use Rattle.tsp_draft.specs.declared.fault.DraftFault.{DraftFault}
+use Rattle.tsp_draft.specs.declared.fault.DraftFault.TheVariants.{BadField, Rule}
+use Rattle.tsp_draft.specs.Fields.{Fields}
+use Rattle.tsp_draft.specs.Validity.{fits, first_failing, bad_field}
+use Rattle.tsp_draft.specs.Rules.{standing_of, end_fault, fault_of}
 
 -- one value more
 found_more : {V : Type 0} (test : V → Bool) (is_it others_pass : Bool) (value first : V) (found : Option V) → (test first && others_pass) ≡ true → cond is_it (Some first) found ≡ Some value

@@ -12,16 +12,16 @@ use Rattle.std.proofs.Math.Nat.{mul-le-mul}
 use Rattle.tsp_distance.specs.declared.decimal.Point.{Point}
 use Rattle.tsp_number.specs.Spelling.{spelling}
 use Rattle.tsp_number.proofs.Spelled.{spelling_short}
-use Rattle.tsp_value.specs.declared.field.Field.{Field}
-use Rattle.tsp_value.specs.declared.field.Shape.{Shape}
-use Rattle.tsp_value.specs.declared.field.Shape.TheVariants.{Numbers, Points, SpacePoints, Depots, Pairs, Weights, Tours, Triples, Combs, Steps}
-use Rattle.tsp_value.specs.Shapes.{shape_of}
-use Rattle.tsp_value.specs.declared.field.Field.TheVariants.{NameKey, TypeKey, CommentKey, OtherKey, DimensionKey, CapacityKey, ScaleKey, EdgeWeightTypeKey, EdgeWeightFormatKey, NodeCoordTypeKey, DisplayDataTypeKey, NodeCoordPart, DisplayDataPart, DemandPart, DepotPart, FixedEdgesPart, EdgeWeightPart, TourPart, NodePotentialPart, RowPotentialPart, ColumnPotentialPart, FixedPotentialPart, CombPart, BranchPart}
-use Rattle.tsp_value.specs.Limits.{most_nodes, most_matrix_nodes, most_coordinate, most_weight, most_demand, most_capacity, most_scale, most_potential, most_comments, most_others, most_depots, most_fixed, most_multipliers, most_multiplier, most_tour_nodes}
-use Rattle.tsp_value.specs.Words.{field_word, kind_word, weight_kind_word, weight_format_word, coord_kind_word, display_kind_word, fields_in_order}
-use Rattle.tsp_fields.specs.Fields.{Fields, spatial, numbers_in, points_in}
-use Rattle.tsp_fields.specs.Validity.{if_there, with_dimension, is_kept, is_other, is_node, is_pair, is_triple, is_from_to, is_within, is_point, is_by_node, are_comments, are_others, are_depots, are_fixed, are_triples, are_weights, is_tour, are_tours, are_combs, are_steps, section_fits, fits}
-use Rattle.tsp_fields.specs.Rules.{fault_of}
+use Rattle.tsp_format.specs.declared.field.Field.{Field}
+use Rattle.tsp_format.specs.declared.field.Shape.{Shape}
+use Rattle.tsp_format.specs.declared.field.Shape.TheVariants.{Numbers, Points, SpacePoints, Depots, Pairs, Weights, Tours, Triples, Combs, Steps}
+use Rattle.tsp_format.specs.Shapes.{shape_of}
+use Rattle.tsp_format.specs.declared.field.Field.TheVariants.{NameKey, TypeKey, CommentKey, OtherKey, DimensionKey, CapacityKey, ScaleKey, EdgeWeightTypeKey, EdgeWeightFormatKey, NodeCoordTypeKey, DisplayDataTypeKey, NodeCoordPart, DisplayDataPart, DemandPart, DepotPart, FixedEdgesPart, EdgeWeightPart, TourPart, NodePotentialPart, RowPotentialPart, ColumnPotentialPart, FixedPotentialPart, CombPart, BranchPart}
+use Rattle.tsp_format.specs.Limits.{most_nodes, most_matrix_nodes, most_coordinate, most_weight, most_demand, most_capacity, most_scale, most_potential, most_comments, most_others, most_depots, most_fixed, most_multipliers, most_multiplier, most_tour_nodes}
+use Rattle.tsp_format.specs.Words.{field_word, kind_word, weight_kind_word, weight_format_word, coord_kind_word, display_kind_word, fields_in_order}
+use Rattle.tsp_draft.specs.Fields.{Fields, spatial, numbers_in, points_in}
+use Rattle.tsp_draft.specs.Validity.{if_there, with_dimension, is_kept, is_other, is_node, is_pair, is_triple, is_from_to, is_within, is_point, is_by_node, are_comments, are_others, are_depots, are_fixed, are_triples, are_weights, is_tour, are_tours, are_combs, are_steps, section_fits, fits}
+use Rattle.tsp_draft.specs.Rules.{fault_of}
 use Rattle.tsp_write.specs.Text.{line_end, keyword_line, other_line, number_line, section, by_node, node_list, pair_list, triple_list, comb_list, step_lines, point_numbers, whole_number, line_lens, matrix_lines, optional, text_of_section, text_of_field, text_of}
 use Rattle.tsp_write.proofs.TextLengths.{within_abs, three_parts, positive_short, between_short, decimal_short, node_short, flat_short_of, by_node_short, pair_list_short, triple_list_short, node_list_short, tours_short, matrix_lines_short}
 use Rattle.tsp_write.proofs.TreeLengths.{combs_short, steps_short}

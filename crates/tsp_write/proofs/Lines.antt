@@ -4,8 +4,8 @@ use Rattle.std.proofs.lemmas.Bool.Decides.{nat_tests}
 use Rattle.std.specs.Prelude.{ℤ}
 use Rattle.std.specs.List.{flat_map}
 use Rattle.std.specs.Fmt.{signed_decimal}
-use Rattle.tsp_value.specs.declared.field.Field.{Field}
-use Rattle.tsp_value.specs.Words.{field_word}
+use Rattle.tsp_format.specs.declared.field.Field.{Field}
+use Rattle.tsp_format.specs.Words.{field_word}
 use Rattle.tsp_stream.specs.Way.{Way, Carried}
 use Rattle.tsp_stream.proofs.Carrying.{carried_none, carried_then}
 use Rattle.tsp_write.specs.Text.{after_blank, line_end, number_line, section, weight_line}

@@ -10,8 +10,8 @@ use Rattle.std.proofs.lemmas.Int.{ints}
 use Rattle.std.proofs.lemmas.List.{take-append-drop}
 use Rattle.std.proofs.lemmas.List.Folds.{list_all-append, flat_map-map}
 use Rattle.std.proofs.lemmas.List.Sums.{sum_by-cons}
-use Rattle.tsp_value.specs.Limits.{most_nodes, most_weight}
-use Rattle.tsp_fields.specs.Validity.{is_from_to, is_within, is_node, is_tour}
+use Rattle.tsp_format.specs.Limits.{most_nodes, most_weight}
+use Rattle.tsp_draft.specs.Validity.{is_from_to, is_within, is_node, is_tour}
 use Rattle.tsp_write.specs.Text.{line_end, number_line, by_node, ended, node_list, pair_list, triple_list, weight_line, matrix_lines}
 
 -- what three tests that pass together say

@@ -1,15 +1,15 @@
 -- A small file with all sorts of fields, on which the definitions are evaluated. No valid file has all of them.
 use Rattle.std.specs.Prelude.{◌≡◌, ℕ, List, [], ◌∷◌, ◌++◌, Some, pos, negsuc, codes}
-use Rattle.tsp_value.specs.declared.kinds.Kind.TheVariants as kinds
-use Rattle.tsp_value.specs.declared.kinds.WeightKind.TheVariants as weight_kinds
-use Rattle.tsp_value.specs.declared.kinds.WeightFormat.TheVariants.{Listed}
-use Rattle.tsp_value.specs.declared.kinds.CoordKind.TheVariants as coord_kinds
-use Rattle.tsp_value.specs.declared.kinds.DisplayKind.TheVariants as display_kinds
-use Rattle.tsp_value.specs.declared.layout.Layout.TheVariants.{LowerDiagRow}
-use Rattle.tsp_value.specs.declared.field.Field.{Field}
-use Rattle.tsp_value.specs.Steps.{Branch, Leaf}
+use Rattle.tsp_format.specs.declared.kinds.Kind.TheVariants as kinds
+use Rattle.tsp_format.specs.declared.kinds.WeightKind.TheVariants as weight_kinds
+use Rattle.tsp_format.specs.declared.kinds.WeightFormat.TheVariants.{Listed}
+use Rattle.tsp_format.specs.declared.kinds.CoordKind.TheVariants as coord_kinds
+use Rattle.tsp_format.specs.declared.kinds.DisplayKind.TheVariants as display_kinds
+use Rattle.tsp_format.specs.declared.layout.Layout.TheVariants.{LowerDiagRow}
+use Rattle.tsp_format.specs.declared.field.Field.{Field}
+use Rattle.tsp_format.specs.Steps.{Branch, Leaf}
 use Rattle.tsp_distance.specs.Distances.{on_plane}
-use Rattle.tsp_fields.specs.Fields.{Fields, blank_fields}
+use Rattle.tsp_draft.specs.Fields.{Fields, blank_fields}
 use Rattle.tsp_write.specs.Text.{text_of_field}
 
 abbrev pub small : Fields

@@ -6,20 +6,20 @@ use Rattle.std.specs.List.{flat_map, enumerate_from}
 use Rattle.std.specs.Fmt.{decimal, signed_decimal}
 use Rattle.tsp_distance.specs.declared.decimal.Point.{Point}
 use Rattle.tsp_number.specs.Spelling.{spelling}
-use Rattle.tsp_value.specs.declared.kinds.WeightFormat.{WeightFormat}
-use Rattle.tsp_value.specs.declared.kinds.WeightFormat.TheVariants.{Listed}
-use Rattle.tsp_value.specs.declared.field.Field.{Field}
-use Rattle.tsp_value.specs.declared.field.Field.TheVariants.{NameKey, TypeKey, CommentKey, OtherKey, DimensionKey, EdgeWeightTypeKey, EdgeWeightFormatKey, NodeCoordTypeKey, DisplayDataTypeKey}
-use Rattle.tsp_value.specs.declared.field.Shape.{Shape}
-use Rattle.tsp_value.specs.declared.field.Shape.TheVariants.{Numbers, Points, SpacePoints, Depots, Pairs, Weights, Tours, Triples, Combs, Steps}
-use Rattle.tsp_value.specs.declared.field.ValueShape.{ValueShape}
-use Rattle.tsp_value.specs.declared.field.ValueShape.TheVariants.{Kept, KeptEach, Number, Word}
-use Rattle.tsp_value.specs.Shapes.{shape_of, value_shape_of}
-use Rattle.tsp_value.specs.Words.{field_word, kind_word, weight_kind_word, weight_format_word, coord_kind_word, display_kind_word}
-use Rattle.tsp_value.specs.Words.{fields_in_order}
-use Rattle.tsp_value.specs.Cells.{nodes_to, cells_of_line}
-use Rattle.tsp_value.specs.Steps.{Step, Branch, Leaf}
-use Rattle.tsp_fields.specs.Fields.{Fields, spatial, one_number_in, numbers_in, points_in}
+use Rattle.tsp_format.specs.declared.kinds.WeightFormat.{WeightFormat}
+use Rattle.tsp_format.specs.declared.kinds.WeightFormat.TheVariants.{Listed}
+use Rattle.tsp_format.specs.declared.field.Field.{Field}
+use Rattle.tsp_format.specs.declared.field.Field.TheVariants.{NameKey, TypeKey, CommentKey, OtherKey, DimensionKey, EdgeWeightTypeKey, EdgeWeightFormatKey, NodeCoordTypeKey, DisplayDataTypeKey}
+use Rattle.tsp_format.specs.declared.field.Shape.{Shape}
+use Rattle.tsp_format.specs.declared.field.Shape.TheVariants.{Numbers, Points, SpacePoints, Depots, Pairs, Weights, Tours, Triples, Combs, Steps}
+use Rattle.tsp_format.specs.declared.field.ValueShape.{ValueShape}
+use Rattle.tsp_format.specs.declared.field.ValueShape.TheVariants.{Kept, KeptEach, Number, Word}
+use Rattle.tsp_format.specs.Shapes.{shape_of, value_shape_of}
+use Rattle.tsp_format.specs.Words.{field_word, kind_word, weight_kind_word, weight_format_word, coord_kind_word, display_kind_word}
+use Rattle.tsp_format.specs.Words.{fields_in_order}
+use Rattle.tsp_format.specs.Cells.{nodes_to, cells_of_line}
+use Rattle.tsp_format.specs.Steps.{Step, Branch, Leaf}
+use Rattle.tsp_draft.specs.Fields.{Fields, spatial, one_number_in, numbers_in, points_in}
 
 -- ---- lines
 

@@ -2,8 +2,8 @@
 //! is changed together with its code is refused by its examples.
 
 ghost use Rattle.std.specs.Prelude.{◌≡◌, [], codes};
-ghost use Rattle.tsp_value.specs.declared.field.Field.TheVariants as fields;
-ghost use Rattle.tsp_fields.specs.Fields.{blank_fields};
+ghost use Rattle.tsp_format.specs.declared.field.Field.TheVariants as fields;
+ghost use Rattle.tsp_draft.specs.Fields.{blank_fields};
 ghost use Rattle.tsp_write.specs.Text.{text_of, text_of_field};
 ghost use Rattle.tsp_write.specs.Examples.{IsWritten, small, small_text, spatial_node, two_tours, without_combs};
 

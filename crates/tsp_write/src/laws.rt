@@ -1,8 +1,8 @@
 //! What always holds of the canonical text, as contracts of functions that do nothing.
 
 ghost use Rattle.std.specs.Prelude.{◌≡◌, ◌<◌, length, None};
-ghost use Rattle.tsp_fields.specs.Fields.{Fields};
-ghost use Rattle.tsp_fields.specs.Rules.{fault_of};
+ghost use Rattle.tsp_draft.specs.Fields.{Fields};
+ghost use Rattle.tsp_draft.specs.Rules.{fault_of};
 ghost use Rattle.tsp_write.specs.Text.{text_of};
 
 /// The canonical text of every valid file has fewer than 750,000,000 bytes. This follows from the

@@ -2,7 +2,7 @@
 
 ghost use Rattle.std.specs.Prelude.{◌≡◌};
 ghost use Rattle.std.specs.List.{flat_map};
-ghost use Rattle.tsp_fields.specs.Fields.{fields_of};
+ghost use Rattle.tsp_draft.specs.Fields.{fields_of};
 ghost use Rattle.tsp_stream.specs.Sink.{sink_of, Writes};
 ghost use Rattle.tsp_stream.specs.Way.{Puts};
 ghost use Rattle.tsp_write.specs.Text.{text_of, text_of_field, text_of_section, text_of_value};
@@ -21,10 +21,10 @@ use crate::writer::sections::{
 use crate::writer::tree::{put_comb_section, put_step_section};
 use std::alloc::Global;
 use std::io::Write;
-use tsp_fields::Draft;
+use tsp_draft::Draft;
 use tsp_file::File;
+use tsp_format::{Field, Shape, ValueShape};
 use tsp_stream::{Piece, Watched, WriteFault, hand_over, put};
-use tsp_value::{Field, Shape, ValueShape};
 
 /// Writes the canonical text of a file.
 ///

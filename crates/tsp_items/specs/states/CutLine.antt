@@ -3,16 +3,16 @@ use Rattle.std.specs.Prelude.{◌≡◌, ℕ, ℤ, Bool, true, false, not, ◌&&
 use Rattle.std.specs.Option.{option_map}
 use Rattle.std.specs.Result.{result_err}
 use Rattle.tsp_number.specs.Reading.{whole_of}
-use Rattle.tsp_value.specs.Limits.{most_matrix_nodes, most_comments, most_others}
-use Rattle.tsp_value.specs.declared.field.Field.{Field}
+use Rattle.tsp_format.specs.Limits.{most_matrix_nodes, most_comments, most_others}
+use Rattle.tsp_format.specs.declared.field.Field.{Field}
 use Rattle.tsp_items.specs.declared.fault.LineFault.{LineFault}
 use Rattle.tsp_items.specs.declared.fault.LineFault.TheVariants as row
 use Rattle.tsp_number.specs.declared.fault.NumberFault.{NumberFault}
 use Rattle.tsp_items.specs.declared.fault.StepFault.{StepFault}
 use Rattle.tsp_items.specs.declared.fault.StepFault.TheVariants as steps
 use Rattle.tsp_items.specs.declared.line.CutLine.{CutLine}
-use Rattle.tsp_value.specs.declared.field.Shape.{Shape}
-use Rattle.tsp_value.specs.declared.field.Shape.TheVariants.{Weights, Tours}
+use Rattle.tsp_format.specs.declared.field.Shape.{Shape}
+use Rattle.tsp_format.specs.declared.field.Shape.TheVariants.{Weights, Tours}
 use Rattle.tsp_items.specs.Lines.{is_filled, first_word}
 use Rattle.tsp_items.specs.Items.{WordLine, Item, Line}
 use Rattle.tsp_items.specs.Values.{named, is_left_out}

@@ -11,15 +11,15 @@ use Rattle.tsp_items.specs.declared.parts.weights.WeightList.{WeightList}
 use Rattle.tsp_items.specs.declared.parts.tours.TourList.{TourList}
 use Rattle.tsp_items.specs.declared.parts.combs.CombList.{CombList}
 use Rattle.tsp_items.specs.declared.parts.tree.TreeList.{TreeList}
-use Rattle.tsp_value.specs.Limits.{most_combs}
-use Rattle.tsp_value.specs.Steps.{steps_of}
-use Rattle.tsp_fields.specs.Fields.{combs_of}
+use Rattle.tsp_format.specs.Limits.{most_combs}
+use Rattle.tsp_format.specs.Steps.{steps_of}
+use Rattle.tsp_draft.specs.Fields.{combs_of}
 use Rattle.tsp_items.specs.Combs.{CombsSoFar, combs_after}
 use Rattle.tsp_items.specs.Tree.{TreeSoFar, tree_after}
 use Rattle.tsp_items.specs.declared.part.Part.{Part}
 use Rattle.tsp_items.specs.declared.part.Part.TheVariants as parts
-use Rattle.tsp_value.specs.declared.field.Shape.{Shape}
-use Rattle.tsp_value.specs.declared.field.Shape.TheVariants.{Numbers, Points, SpacePoints, Depots, Pairs, Weights, Tours, Triples, Combs, Steps}
+use Rattle.tsp_format.specs.declared.field.Shape.{Shape}
+use Rattle.tsp_format.specs.declared.field.Shape.TheVariants.{Numbers, Points, SpacePoints, Depots, Pairs, Weights, Tours, Triples, Combs, Steps}
 use Rattle.tsp_items.specs.states.Parts.{NumbersHold, PointsHold, SpacePointsHold, DepotsHold, PairsHold, TriplesHold, WeightsHold, ToursHold, EndsRun}
 
 -- its numbers are of this range

@@ -4,7 +4,7 @@ use Rattle.std.specs.List.{filter, slice_split, list_any}
 use Rattle.tsp_distance.specs.declared.decimal.Point.{Point}
 use Rattle.tsp_number.specs.declared.fault.NumberFault.{NumberFault}
 use Rattle.tsp_number.specs.Reading.{decimal_of}
-use Rattle.tsp_fields.specs.Coords.{origin}
+use Rattle.tsp_draft.specs.Coords.{origin}
 use Rattle.tsp_items.specs.declared.fault.LineFault.{LineFault}
 use Rattle.tsp_items.specs.declared.fault.LineFault.TheVariants as row
 use Rattle.tsp_items.specs.declared.fault.StepFault.{StepFault}

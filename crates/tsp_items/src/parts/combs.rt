@@ -6,7 +6,7 @@ use crate::fault::{LineFault, StepFault};
 use crate::parts::nodes::{is_minus_one, read_node_or_end};
 use std::alloc::Global;
 use std::mem;
-use tsp_value::{MOST_COMB_NODES, MOST_COMBS};
+use tsp_format::{MOST_COMB_NODES, MOST_COMBS};
 
 /// What was read of the combs: those that are whole, of a comb that has begun the whole sets, of a
 /// set that has begun the nodes, and how many nodes came in all.
@@ -22,7 +22,7 @@ pub struct CombList {
 
 impl CombList {
     ghost use Rattle.tsp_items.specs.declared.fault.StepFault.TheVariants.{Memory};
-    ghost use Rattle.tsp_fields.specs.Fields.{combs_of};
+    ghost use Rattle.tsp_draft.specs.Fields.{combs_of};
     ghost use Rattle.tsp_items.specs.Combs.{combs_in, with_set, with_comb, with_end, has_begun_comb, place_of_comb};
     ghost use Rattle.tsp_items.specs.Rows.{is_past_combs};
     ghost use Rattle.tsp_items.specs.Spells.{wants_more};

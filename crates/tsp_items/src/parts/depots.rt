@@ -5,7 +5,7 @@ ghost use Rattle.std.specs.Prelude.{◌≡◌, [], ℕ, List, ◌∷◌, ◌++�
 use crate::fault::{LineFault, StepFault};
 use crate::parts::nodes::{is_minus_one, read_node_or_end};
 use std::alloc::Global;
-use tsp_value::MOST_DEPOTS;
+use tsp_format::MOST_DEPOTS;
 
 /// What was read of the depots.
 #[derive(Drop)]

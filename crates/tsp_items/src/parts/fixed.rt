@@ -5,7 +5,7 @@ ghost use Rattle.std.specs.Prelude.{◌≡◌, false, None, Some, [], ℕ, List,
 use crate::fault::{LineFault, StepFault};
 use crate::parts::nodes::{is_minus_one, read_node, read_node_or_end};
 use std::alloc::Global;
-use tsp_value::MOST_FIXED;
+use tsp_format::MOST_FIXED;
 
 /// What was read of the fixed pairs.
 #[derive(Drop)]

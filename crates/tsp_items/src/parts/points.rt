@@ -2,13 +2,13 @@
 
 ghost use Rattle.std.specs.Prelude.{◌≡◌, ◌<◌, ◌≤◌, ◌^◌, None, Some, Ok, [], ℕ, List, length, ◌∷◌, ◌++◌, vec_len, IfOk, IfErr, Err, ◌≢◌, is_some, true, false, ◌-◌, pos, slice_index_or};
 ghost use Rattle.std.specs.Option.{ForSome};
-ghost use Rattle.tsp_fields.specs.Coords.{points_of};
+ghost use Rattle.tsp_draft.specs.Coords.{points_of};
 
 use crate::fault::{LineFault, StepFault};
 use crate::parts::nodes::{is_minus_one, new_node, unmarked_node};
 use std::alloc::{AllocError, Global};
 use tsp_distance::{Decimal, PlanePoint};
-use tsp_fields::Coords;
+use tsp_draft::Coords;
 use tsp_number::parse_decimal;
 
 /// What was read of a section of groups of a node and its two coordinates.

@@ -7,7 +7,7 @@ use crate::fault::{LineFault, StepFault};
 use crate::parts::nodes::read_node_or_end;
 use std::alloc::Global;
 use std::mem;
-use tsp_value::{MOST_NODES, MOST_TOUR_NODES};
+use tsp_format::{MOST_NODES, MOST_TOUR_NODES};
 
 /// What was read of the tours: those that are done, the run of nodes that is open, and how many
 /// nodes came in all.

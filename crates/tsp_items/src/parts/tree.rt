@@ -6,8 +6,8 @@ use crate::fault::{LineFault, StepFault};
 use crate::parts::nodes::{is_minus_one, read_node, read_node_or_end, read_node_or_leaf};
 use std::alloc::Global;
 use std::mem;
+use tsp_format::{MOST_BRANCHES, MOST_CHANGES, MOST_COMBS, MOST_DIFFERENCE, MOST_NODES, TreeStep};
 use tsp_number::parse_whole;
-use tsp_value::{MOST_BRANCHES, MOST_CHANGES, MOST_COMBS, MOST_DIFFERENCE, MOST_NODES, TreeStep};
 
 /// What was read of a tree: its whole steps, the first number of a branch or of a difference that
 /// has begun, whether a leaf has begun and its whole differences, how many trees are still to come,
@@ -27,7 +27,7 @@ pub struct TreeList {
 
 impl TreeList {
     ghost use Rattle.tsp_items.specs.declared.fault.StepFault.TheVariants.{Memory};
-    ghost use Rattle.tsp_value.specs.Steps.{steps_of};
+    ghost use Rattle.tsp_format.specs.Steps.{steps_of};
     ghost use Rattle.tsp_items.specs.Tree.{steps_in, with_leaf, place_of_step};
     ghost use Rattle.tsp_items.specs.Spells.{wants_more};
     ghost use Rattle.tsp_items.specs.states.Parts.{Takes};

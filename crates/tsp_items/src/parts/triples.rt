@@ -5,8 +5,8 @@ ghost use Rattle.std.specs.Prelude.{◌≡◌, false, None, Some, [], ℕ, List,
 use crate::fault::{LineFault, StepFault};
 use crate::parts::nodes::{is_minus_one, read_node, read_node_or_end};
 use std::alloc::Global;
+use tsp_format::{MOST_MULTIPLIER, MOST_MULTIPLIERS};
 use tsp_number::parse_whole;
-use tsp_value::{MOST_MULTIPLIER, MOST_MULTIPLIERS};
 
 /// What was read of the multipliers: triples of two nodes and the multiplier of their edge.
 #[derive(Drop)]

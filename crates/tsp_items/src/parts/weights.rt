@@ -6,8 +6,8 @@ ghost use Rattle.tsp_items.specs.Numbers.{IsWhole};
 use crate::fault::{LineFault, StepFault};
 use std::alloc::Global;
 use std::mem;
+use tsp_format::{MOST_MATRIX_NODES, MOST_WEIGHT};
 use tsp_number::parse_whole;
-use tsp_value::{MOST_MATRIX_NODES, MOST_WEIGHT};
 
 /// What was read of the weights.
 #[derive(Drop)]
@@ -107,7 +107,7 @@ pub struct Gathered {
 
 impl Gathered {
     ghost use Rattle.std.specs.Prelude.{◌<◌, unsigned_abs};
-    ghost use Rattle.tsp_value.specs.Limits.{most_weight};
+    ghost use Rattle.tsp_format.specs.Limits.{most_weight};
     ghost use Rattle.tsp_items.specs.Weights.{place_of_weight};
     ghost use Rattle.tsp_items.specs.states.Parts.{Takes};
     ghost use Rattle.tsp_items.specs.states.Held.{HoldsWeights};

@@ -1,15 +1,15 @@
 -- What the state of the reader holds of the items so far (nearest first).
 use Rattle.std.specs.Prelude.{◌≡◌, Bool, false, not, ◌&&◌, List, [], ◌∷◌, Option, None, Some, is_some, Result, Ok, Err, nat_lt}
 use Rattle.std.specs.List.{find}
-use Rattle.tsp_value.specs.declared.field.Field.{Field}
-use Rattle.tsp_value.specs.declared.field.Field.TheVariants.{NameKey, TypeKey, DimensionKey, CapacityKey, ScaleKey, EdgeWeightTypeKey, EdgeWeightFormatKey, NodeCoordTypeKey, DisplayDataTypeKey}
-use Rattle.tsp_fields.specs.Fields.{Fields, fields_of}
+use Rattle.tsp_format.specs.declared.field.Field.{Field}
+use Rattle.tsp_format.specs.declared.field.Field.TheVariants.{NameKey, TypeKey, DimensionKey, CapacityKey, ScaleKey, EdgeWeightTypeKey, EdgeWeightFormatKey, NodeCoordTypeKey, DisplayDataTypeKey}
+use Rattle.tsp_draft.specs.Fields.{Fields, fields_of}
 use Rattle.tsp_items.specs.declared.fault.StepFault.{StepFault}
 use Rattle.tsp_items.specs.declared.fault.StepFault.TheVariants as steps
 use Rattle.tsp_read.specs.declared.state.reading.OpenSection.{OpenSection}
 use Rattle.tsp_read.specs.declared.state.reading.Reading.{Reading}
-use Rattle.tsp_value.specs.declared.keyword.Keyword.TheVariants.{Known, Unknown}
-use Rattle.tsp_value.specs.Limits.{most_line_bytes}
+use Rattle.tsp_format.specs.declared.keyword.Keyword.TheVariants.{Known, Unknown}
+use Rattle.tsp_format.specs.Limits.{most_line_bytes}
 use Rattle.tsp_items.specs.Items.{WordLine, Item, Line}
 use Rattle.tsp_items.specs.Earlier.{has_line, open_section, is_open, words_of}
 use Rattle.tsp_items.specs.Values.{spatial_after}

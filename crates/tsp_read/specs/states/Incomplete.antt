@@ -1,7 +1,7 @@
 -- The first of the closed sections that is incomplete.
 use Rattle.std.specs.Prelude.{Bool, false, ◌||◌, List, Option, None, Some}
 use Rattle.std.specs.List.{find}
-use Rattle.tsp_value.specs.declared.field.Field.{Field}
+use Rattle.tsp_format.specs.declared.field.Field.{Field}
 use Rattle.tsp_items.specs.Earlier.{same_field}
 
 abbrev pub is_it : Field → Option Field → Bool

@@ -1,7 +1,7 @@
 -- A text that is taken item by item: the items of what is left of it, and where its next line or word ends.
 use Rattle.std.specs.Prelude.{ℕ, Bool, true, false, not, ◌||◌, nat_lt, List, [], ◌∷◌, ◌++◌, length, map, take, drop}
 use Rattle.std.specs.List.{position_or_len}
-use Rattle.tsp_value.specs.Bytes.{is_blank}
+use Rattle.tsp_format.specs.Bytes.{is_blank}
 use Rattle.tsp_read.specs.declared.cut.Next.{Next}
 use Rattle.tsp_read.specs.declared.cut.Next.TheVariants as next
 use Rattle.tsp_items.specs.Lines.{lines_of, words_in, ends_line, is_filled}

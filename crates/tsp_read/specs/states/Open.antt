@@ -1,6 +1,6 @@
 -- What the section that is open holds.
 use Rattle.std.specs.Prelude.{◌≡◌, ℕ, Bool, List, Some}
-use Rattle.tsp_value.specs.Shapes.{shape_of}
+use Rattle.tsp_format.specs.Shapes.{shape_of}
 use Rattle.tsp_items.specs.states.Held.{shape_by, HoldsPart}
 use Rattle.tsp_read.specs.declared.state.reading.OpenSection.{OpenSection}
 

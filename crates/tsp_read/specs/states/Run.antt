@@ -1,7 +1,7 @@
 -- A run of words: the open section's part and the counts change, and nothing else does.
 use Rattle.std.specs.Prelude.{ℕ, ◌+◌, ◌≤◌, ◌<◌, List, length, Option, None, Some}
-use Rattle.tsp_value.specs.declared.field.Field.{Field}
-use Rattle.tsp_fields.specs.declared.draft.Draft.{Draft}
+use Rattle.tsp_format.specs.declared.field.Field.{Field}
+use Rattle.tsp_draft.specs.declared.draft.Draft.{Draft}
 use Rattle.tsp_items.specs.declared.part.Part.{Part}
 use Rattle.tsp_read.specs.declared.count.Count.{Count}
 use Rattle.tsp_read.specs.declared.intake.Intake.{Intake}

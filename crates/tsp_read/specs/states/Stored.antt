@@ -1,13 +1,13 @@
 -- The fields of a draft with that of one section.
 use Rattle.std.specs.Prelude.{ℕ, Bool, List, Some}
 use Rattle.std.specs.Option.{option_map_or}
-use Rattle.tsp_value.specs.declared.field.Field.{Field}
-use Rattle.tsp_fields.specs.Fields.{Fields, with_numbers, with_points}
-use Rattle.tsp_value.specs.declared.field.Shape.{Shape}
-use Rattle.tsp_value.specs.declared.field.Shape.TheVariants.{Numbers, Points, SpacePoints, Depots, Pairs, Weights, Tours, Triples, Combs, Steps}
+use Rattle.tsp_format.specs.declared.field.Field.{Field}
+use Rattle.tsp_draft.specs.Fields.{Fields, with_numbers, with_points}
+use Rattle.tsp_format.specs.declared.field.Shape.{Shape}
+use Rattle.tsp_format.specs.declared.field.Shape.TheVariants.{Numbers, Points, SpacePoints, Depots, Pairs, Weights, Tours, Triples, Combs, Steps}
 use Rattle.tsp_items.specs.Groups.{numbers_by_node, points_by_node, space_points_by_node}
 use Rattle.tsp_items.specs.Lists.{depots_in, fixed_in, fixed_triples_in}
-use Rattle.tsp_value.specs.Shapes.{shape_of}
+use Rattle.tsp_format.specs.Shapes.{shape_of}
 use Rattle.tsp_items.specs.Tours.{tours_in}
 use Rattle.tsp_items.specs.Combs.{combs_in}
 use Rattle.tsp_items.specs.Tree.{steps_in}

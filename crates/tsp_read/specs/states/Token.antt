@@ -1,7 +1,7 @@
 -- A word line or a word of a number line: what begins it, where it ends, how long it may be, and the item that it is.
 use Rattle.std.specs.Prelude.{ℕ, Bool, not, ◌&&◌, cond, List}
-use Rattle.tsp_value.specs.Bytes.{is_letter}
-use Rattle.tsp_value.specs.Limits.{most_word_bytes, most_line_bytes}
+use Rattle.tsp_format.specs.Bytes.{is_letter}
+use Rattle.tsp_format.specs.Limits.{most_word_bytes, most_line_bytes}
 use Rattle.tsp_items.specs.Lines.{ends_line}
 use Rattle.tsp_items.specs.Items.{Item, NumberWord, line_item}
 use Rattle.tsp_read.specs.declared.token.Token.{Token}

@@ -6,15 +6,15 @@ ghost use Rattle.tsp_items.specs.Items.{Item};
 ghost use Rattle.tsp_read.specs.states.Holds.{Holds};
 ghost use Rattle.tsp_text.specs.Cuts.{AreCut};
 ghost use Rattle.tsp_read.specs.Reads.{Completes};
-ghost use Rattle.tsp_fields.specs.Fields.{fields_of};
+ghost use Rattle.tsp_draft.specs.Fields.{fields_of};
 ghost use Rattle.tsp_read.specs.Finishes.{FileOf};
 
 use crate::state::reading::Reading;
 use std::alloc::Global;
-use tsp_fields::{Draft, DraftFault, EndFault, end_fault};
+use tsp_draft::{Draft, DraftFault, EndFault, end_fault};
 use tsp_file::File;
+use tsp_format::Field;
 use tsp_items::ReadFault;
-use tsp_value::Field;
 
 /// Why what was read is no file.
 #[derive(Clone, Copy)]

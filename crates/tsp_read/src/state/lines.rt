@@ -2,17 +2,17 @@
 
 use crate::state::reading::Reading;
 use std::alloc::Global;
+use tsp_format::{Field, Keyword, MOST_LINE_BYTES, ValueShape};
 use tsp_items::{
     CutLine, LineFault, StepFault, add_comment, add_other, number_of, says_space, set_name,
     set_named,
 };
-use tsp_value::{Field, Keyword, MOST_LINE_BYTES, ValueShape};
 
 impl Reading {
     ghost use Rattle.std.specs.Prelude.{◌≡◌, ◌&&◌, not, is_some, Some, None, List};
-    ghost use Rattle.tsp_value.specs.declared.field.ValueShape.TheVariants.{Number, Word};
-    ghost use Rattle.tsp_value.specs.Shapes.{shape_of, value_shape_of};
-    ghost use Rattle.tsp_fields.specs.Fields.{fields_of, spatial};
+    ghost use Rattle.tsp_format.specs.declared.field.ValueShape.TheVariants.{Number, Word};
+    ghost use Rattle.tsp_format.specs.Shapes.{shape_of, value_shape_of};
+    ghost use Rattle.tsp_draft.specs.Fields.{fields_of, spatial};
     ghost use Rattle.tsp_items.specs.Lines.{first_word};
     ghost use Rattle.tsp_items.specs.Values.{says_space};
     ghost use Rattle.tsp_items.specs.Items.{Item};

@@ -1,16 +1,16 @@
 //! The state of the reader: what the lines and words so far spell.
 
 ghost use Rattle.std.specs.Prelude.{[], List, Some, IfErr, OnOk, ◌≡◌, is_some, true};
-ghost use Rattle.tsp_value.specs.Words.{fields_in_order};
+ghost use Rattle.tsp_format.specs.Words.{fields_in_order};
 ghost use Rattle.tsp_items.specs.Items.{Item, NumberWord};
 ghost use Rattle.tsp_items.specs.Earlier.{same_field};
 ghost use Rattle.tsp_read.specs.states.Incomplete.{is_either, first_of};
 
 use crate::state::store::store;
 use std::alloc::Global;
-use tsp_fields::Draft;
+use tsp_draft::Draft;
+use tsp_format::Field;
 use tsp_items::{LineFault, Part, StepFault};
-use tsp_value::Field;
 
 /// The section that is open, and the part that takes its words.
 #[derive(Drop)]

@@ -1,7 +1,7 @@
 //! What a section has read goes into its field of the draft.
 
 ghost use Rattle.std.specs.Prelude.{◌≡◌, ℕ, Bool, List, IfOk, IfErr};
-ghost use Rattle.tsp_fields.specs.Fields.{fields_of};
+ghost use Rattle.tsp_draft.specs.Fields.{fields_of};
 ghost use Rattle.tsp_items.specs.declared.fault.StepFault.TheVariants.{Memory};
 ghost use Rattle.tsp_items.specs.Sections.{place_in};
 ghost use Rattle.tsp_items.specs.Spells.{wants_more};
@@ -10,7 +10,7 @@ ghost use Rattle.tsp_read.specs.states.Stored.{with_section};
 
 use crate::state::reading::OpenSection;
 use std::alloc::Global;
-use tsp_fields::Draft;
+use tsp_draft::Draft;
 use tsp_items::{Part, StepFault};
 
 /// Stores what a section has. The answer is whether it is incomplete.

@@ -5,11 +5,11 @@ use crate::answers::{answer_in, fault_at_end, fed, feed_all};
 use crate::asserts::{same, same_at};
 use std::alloc::Global;
 use std::test::Fail;
-use tsp_fields::EndFault;
+use tsp_draft::EndFault;
+use tsp_format::Field;
 use tsp_number::NumberFault::LongWord;
 use tsp_read::LineFault::{LongLine, Number};
 use tsp_read::{Feed, ReadFault};
-use tsp_value::Field;
 
 /// A line of so many bytes, most of them blanks at its end.
 fn line_of(alloc: Global, size: usize) -> Result<String, Fail> {

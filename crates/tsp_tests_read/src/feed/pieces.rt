@@ -4,11 +4,11 @@ use super::{CANONICAL_TOUR, TOUR, answer_by_bytes, file};
 use crate::answers::{answer, answer_of, fault_at_end, fed, long_file};
 use crate::asserts::{same, same_at};
 use std::test::Fail;
-use tsp_fields::EndFault;
+use tsp_draft::EndFault;
+use tsp_format::Field;
 use tsp_number::NumberFault::{BadNumber, LongWord};
 use tsp_read::LineFault::{Number, Outside, UnknownLine};
 use tsp_read::{Feed, LineFault, ReadFault};
-use tsp_value::Field;
 
 /// The fault of a text without a line TYPE.
 const NO_TYPE: ReadFault = ReadFault::End(EndFault::Missing(Field::TypeKey));

@@ -9,7 +9,7 @@ use tsp_number::NumberFault::BadNumber;
 use tsp_read::LineFault::{Number, Outside, UnknownLine};
 use tsp_read::{ReadFault, read_from};
 use tsp_stream::Watched;
-use tsp_testing::devices::{Flood, Trickle};
+use tsp_tests_support::devices::{Flood, Trickle};
 
 /// A reader that hands out all that it has at its first read, and fails at the next.
 #[derive(Drop)]

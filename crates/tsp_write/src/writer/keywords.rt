@@ -8,8 +8,8 @@ ghost use Rattle.tsp_stream.specs.Way.{Puts};
 
 use itoa::{Buffer, Integer};
 use std::io::Write;
+use tsp_format::{Field, Word};
 use tsp_stream::{Piece, Watched, put};
-use tsp_value::{Field, Word};
 
 /// Adds the line of a keyword and its value.
 fn put_value<W: Write>(piece: &mut Piece, out: &mut Watched<W>, keyword: &[u8], value: &[u8])

@@ -4,14 +4,14 @@ ghost use Rattle.std.specs.Prelude.{◌≡◌, ℕ, ◌∷◌, length, map};
 ghost use Rattle.std.specs.List.{flat_map};
 ghost use Rattle.std.specs.Fmt.{signed_decimal};
 ghost use Rattle.std.specs.Option.{option_map};
-ghost use Rattle.tsp_value.specs.Cells.{nodes_to, cells_of_line};
+ghost use Rattle.tsp_format.specs.Cells.{nodes_to, cells_of_line};
 ghost use Rattle.tsp_write.specs.Text.{weight_line, matrix_lines, line_lens, section, optional};
 ghost use Rattle.tsp_stream.specs.Way.{Puts};
 
 use crate::writer::sections::put_opening;
 use std::io::Write;
+use tsp_format::{Field, Layout, WeightFormat};
 use tsp_stream::{Piece, Watched, put, put_next_number, put_number};
-use tsp_value::{Field, Layout, WeightFormat};
 
 /// Adds weights, each after a blank.
 fn put_more_weights<W: Write>(piece: &mut Piece, out: &mut Watched<W>, weights: &[i64])

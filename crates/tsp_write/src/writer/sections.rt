@@ -5,17 +5,17 @@ ghost use Rattle.std.specs.List.{flat_map};
 ghost use Rattle.std.specs.Fmt.{decimal, signed_decimal};
 ghost use Rattle.std.specs.Option.{option_map};
 ghost use Rattle.tsp_number.specs.Spelling.{spelling};
-ghost use Rattle.tsp_value.specs.Words.{field_word};
-ghost use Rattle.tsp_fields.specs.Coords.{points_of};
+ghost use Rattle.tsp_format.specs.Words.{field_word};
+ghost use Rattle.tsp_draft.specs.Coords.{points_of};
 ghost use Rattle.tsp_write.specs.Text.{line_end, number_line, section, by_node, node_list, pair_list, triple_list, point_numbers, whole_number, optional};
 ghost use Rattle.tsp_stream.specs.Way.{Puts};
 
 use std::io::Write;
 use tsp_distance::{Decimal, Point};
-use tsp_fields::Coords;
+use tsp_draft::Coords;
+use tsp_format::{Field, Word};
 use tsp_number::push_decimal;
 use tsp_stream::{Piece, Watched, make_room, put, put_next_number, put_number};
-use tsp_value::{Field, Word};
 
 /// Adds the line that opens a section.
 pub(crate) fn put_opening<W: Write>(piece: &mut Piece, out: &mut Watched<W>, field: Field)

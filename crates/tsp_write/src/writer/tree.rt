@@ -3,16 +3,16 @@
 ghost use Rattle.std.specs.Prelude.{◌≡◌, ℕ, [], map};
 ghost use Rattle.std.specs.List.{flat_map};
 ghost use Rattle.std.specs.Option.{option_map};
-ghost use Rattle.tsp_value.specs.Steps.{Step, Leaf, step_of, steps_of};
-ghost use Rattle.tsp_fields.specs.Fields.{combs_of};
+ghost use Rattle.tsp_format.specs.Steps.{Step, Leaf, step_of, steps_of};
+ghost use Rattle.tsp_draft.specs.Fields.{combs_of};
 ghost use Rattle.tsp_stream.specs.Way.{Puts};
 ghost use Rattle.tsp_write.specs.Text.{before_blank, set_line, comb_lines, comb_list, change_words, step_line, step_lines, section, optional};
 
 use crate::writer::sections::{put_opening, put_pair_line};
 use itoa::Integer;
 use std::io::Write;
+use tsp_format::{Field, TreeStep};
 use tsp_stream::{Piece, Watched, put, put_number};
-use tsp_value::{Field, TreeStep};
 
 /// Adds the digits of a whole number and a blank.
 fn put_before_blank<W: Write, N: Integer>(piece: &mut Piece, out: &mut Watched<W>, number: N)

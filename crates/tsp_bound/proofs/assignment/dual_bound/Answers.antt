@@ -2,7 +2,7 @@ use Rattle.std.proofs.Common.{◌≡◌, ℕ, ◌*◌, ◌^◌, rules, arith, sy
 use Rattle.std.specs.Prelude.{ℤ, pos, neg_ℤ, ◌+ℤ◌, ◌≤ℤ◌}
 use Rattle.std.specs.Int.{w128}
 use Rattle.std.proofs.lemmas.Int.{ints, to_z-of_z, fits_signed_from_abs}
-use Rattle.tsp_value.specs.Limits.{most_nodes, most_potential}
+use Rattle.tsp_format.specs.Limits.{most_nodes, most_potential}
 use Rattle.tsp_theory.specs.Numbers.{IsFromTo, total}
 use Rattle.tsp_theory.specs.Assignment.{AreGood, IsDualBound}
 use Rattle.tsp_theory.proofs.Sizes.{size_of, bound_of_sums}
@@ -61,7 +61,7 @@ returns-in-Some g c =
         ];
       };
       size = tt;
-      walks = tt;
+      cycles = tt;
     }
 
 pub returns : goal.returns
@@ -78,6 +78,6 @@ returns g c =
     record {
       value = (good, bound);
       size = rw (to_z-of_z w128 least fits) c.least_bound.ensures.size;
-      walks = λ more nodes walk. c.duals_bound_walks.ensures n cost d.scale d.rows.now d.columns.now (to_z w128 (of_z w128 least)) nodes more d.are.scale_is
-          c.requires (sym d.are.as_many ∙ c.requires) good bound walk;
+      cycles = λ more nodes cycle. c.duals_bound_cycles.ensures n cost d.scale d.rows.now d.columns.now (to_z w128 (of_z w128 least)) nodes more d.are.scale_is
+          c.requires (sym d.are.as_many ∙ c.requires) good bound cycle;
     }

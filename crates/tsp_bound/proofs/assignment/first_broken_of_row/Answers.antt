@@ -1,7 +1,7 @@
 use Rattle.std.proofs.Common.{ℕ, ◌-◌, ◌<◌, length, refl, arith}
 use Rattle.std.specs.Prelude.{pos, ◌≤ℤ◌, slice_index_or}
 use Rattle.std.proofs.lemmas.Bool.{false≢true}
-use Rattle.tsp_value.specs.Limits.{most_potential}
+use Rattle.tsp_format.specs.Limits.{most_potential}
 use Rattle.tsp_theory.proofs.Sizes.{same_64}
 use Rattle.tsp_bound.specs.Duals.{dual_of, scaled}
 use Rattle.tsp_bound.proofs.Passed.{columns_passed, above_where_not}

@@ -1,5 +1,5 @@
 use Rattle.std.proofs.Common.{ℕ, ◌≤◌, ◌≤ℤ◌, ℤ, Option, arith, rules, w64, SFits}
-use Rattle.tsp_value.specs.Cells.{IsNode}
+use Rattle.tsp_format.specs.Cells.{IsNode}
 use Rattle.tsp_bound.specs.Potentials.{numbers_of, weight_under}
 use Rattle.tsp_bound.specs.declared.area.Area.{Area}
 use Rattle.tsp_bound.specs.Boxes.{HoldsNode, IsKnown, IsBoundOf, IsSearched, area_at}

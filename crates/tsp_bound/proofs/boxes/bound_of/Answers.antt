@@ -1,6 +1,6 @@
 use Rattle.std.proofs.Common.{Option, Some, ◌≡◌, ◌≤ℤ◌, rules, sym, arith, w64, to_z, of_z, SFits, subst, ◌∙◌}
 use Rattle.std.proofs.lemmas.List.{get_or_read}
-use Rattle.tsp_value.specs.Limits.{most_weight, most_potential}
+use Rattle.tsp_format.specs.Limits.{most_weight, most_potential}
 use Rattle.tsp_theory.specs.Numbers.{entry}
 use Rattle.tsp_theory.proofs.Sizes.{same_64}
 use Rattle.tsp_bound.specs.Potentials.{scale_of, numbers_of}

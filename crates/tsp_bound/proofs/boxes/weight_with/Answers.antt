@@ -1,6 +1,6 @@
 use Rattle.std.proofs.Common.{◌≡◌, ◌-◌, ◌<◌, ℤ, length, arith, ap, ◌∙◌, w64, to_z, of_z}
 use Rattle.std.specs.Prelude.{pos, ◌+ℤ◌, ◌*ℤ◌}
-use Rattle.tsp_value.specs.Limits.{most_weight}
+use Rattle.tsp_format.specs.Limits.{most_weight}
 use Rattle.tsp_theory.specs.Numbers.{entry}
 use Rattle.tsp_theory.proofs.Sizes.{same_64}
 use Rattle.tsp_theory.proofs.Weights.{weight_fits, weight_computed, scaled_by}

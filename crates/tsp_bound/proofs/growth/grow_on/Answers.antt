@@ -5,7 +5,7 @@ use Rattle.std.proofs.lemmas.Int.{to_z-of_z}
 use Rattle.std.proofs.lemmas.Int.{ints}
 use Rattle.std.proofs.Math.ListN.{length-set}
 use Rattle.std.proofs.lemmas.List.{take_more, take_all}
-use Rattle.tsp_value.specs.Limits.{most_nodes}
+use Rattle.tsp_format.specs.Limits.{most_nodes}
 use Rattle.tsp_theory.specs.Numbers.{IsSumSized}
 use Rattle.tsp_theory.specs.Growth.{AllInside, IsNearestOutside, Grows, is_inside}
 use Rattle.tsp_theory.specs.Tree.{IsInner}

@@ -3,7 +3,7 @@ use Rattle.std.specs.Prelude.{ℤ, pos, neg_ℤ, ◌+ℤ◌, slice_index_or}
 use Rattle.std.specs.Int.{w64, w128}
 use Rattle.std.proofs.Math.IntN.{+ℤ_assoc}
 use Rattle.std.proofs.lemmas.Int.{ints, to_z-of_z, fits_signed_from_abs}
-use Rattle.tsp_value.specs.Limits.{most_multipliers, most_multiplier}
+use Rattle.tsp_format.specs.Limits.{most_multipliers, most_multiplier}
 use Rattle.tsp_theory.specs.Numbers.{IsFromTo}
 use Rattle.tsp_theory.specs.Adjusted.{total_of}
 use Rattle.tsp_theory.proofs.Sizes.{size_of}

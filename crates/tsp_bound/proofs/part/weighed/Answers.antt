@@ -1,7 +1,7 @@
 use Rattle.std.proofs.Common.{◌≡◌, ◌≤◌, ◌+◌, ◌++◌, ◌∷◌, [], ℕ, List, length, get_or, length-append, arith, ap, sym, ◌∙◌, to_z, of_z}
 use Rattle.std.specs.Prelude.{ℤ, ◌+ℤ◌, ◌-ℤ◌}
 use Rattle.std.specs.Int.{w64, w128}
-use Rattle.tsp_value.specs.Limits.{most_nodes}
+use Rattle.tsp_format.specs.Limits.{most_nodes}
 use Rattle.tsp_bound.specs.Boxes.{node_at}
 use Rattle.tsp_bound.specs.Numbering.{both}
 use Rattle.tsp_bound.specs.Multipliers.{triples_in, weight_less}

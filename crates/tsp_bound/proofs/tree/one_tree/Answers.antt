@@ -47,6 +47,6 @@ returns g c =
       rounded = rw same rounded;
       bound = own;
       size = rw (to_z-of_z w128 least fits) c.least_bound-bound.ensures.size;
-      walks = λ nodes walk used. c.adjusted_bounds_bound_walks.ensures.walks n cost p.scale p.numbers.now triples [] bound nodes c.requires.some
-          (g.met.C.Symmetric.even c.args.c.now) p.are.scale_is c.requires.count own walk used (λ k d lt. absurd (omega arith));
+      cycles = λ nodes cycle used. c.adjusted_bounds_bound_cycles.ensures.cycles n cost p.scale p.numbers.now triples [] bound nodes c.requires.some
+          (g.met.C.Symmetric.even c.args.c.now) p.are.scale_is c.requires.count own cycle used (λ k d lt. absurd (omega arith));
     }

@@ -2,16 +2,16 @@ use Rattle.std.proofs.Common.{ℕ, ℤ, subst, rules, FitsSigned}
 use Rattle.std.specs.Int.{w64}
 use Rattle.std.proofs.lemmas.Int.{to_z-of_z}
 use Rattle.std.proofs.lemmas.Result.{IfOk-weaker}
-use Rattle.tsp_value.specs.Steps.{steps_of}
+use Rattle.tsp_format.specs.Steps.{steps_of}
 use Rattle.tsp_branch.specs.Combed.{plain}
 use Rattle.tsp_branch.specs.CombsOfSets.{combs_of}
 use Rattle.tsp_branch.specs.Decided.{case_of}
 use Rattle.tsp_branch.specs.Listed.{IsJudged}
-use Rattle.tsp_branch.proofs.Judging.{walks_of}
+use Rattle.tsp_branch.proofs.Judging.{cycles_of}
 use Rattle.tsp_branch.proofs.branch.branch_bound.Goals as goal
 
-pub returns-clause-walks : goal.returns-clause-walks
-returns-clause-walks g c =
+pub returns-clause-cycles : goal.returns-clause-cycles
+returns-clause-cycles g c =
     let costs = c.args.costs.now in
     let n : ℕ = g.C.Costs.nodes costs in
     let cost = g.C.Costs.at costs in
@@ -19,6 +19,6 @@ returns-clause-walks g c =
     let given = case_of c.args.given.now in
     let fits : FitsSigned w64 c.args.scale = search rules in
     IfOk-weaker c.judge_leaves.result _ _ (λ found is.
-    walks_of c.certificates_bound_walks.ensures.walks n cost c.args.scale combs c.args.combs given (steps_of c.args.steps.now) found c.requires.some (g.met.C.Symmetric.even costs) c.requires.scaled
+    cycles_of c.certificates_bound_cycles.ensures.cycles n cost c.args.scale combs c.args.combs given (steps_of c.args.steps.now) found c.requires.some (g.met.C.Symmetric.even costs) c.requires.scaled
     (subst (λ (z : ℤ). IsJudged n cost z combs c.args.combs given (steps_of c.args.steps.now) found) (to_z-of_z w64 c.args.scale fits) is))
     c.judge_leaves.ensures.judged

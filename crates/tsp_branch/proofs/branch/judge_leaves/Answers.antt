@@ -4,10 +4,10 @@ use Rattle.std.specs.List.{All}
 use Rattle.std.proofs.lemmas.Int.{to_z-of_z}
 use Rattle.std.proofs.lemmas.List.{length_push}
 use Rattle.std.proofs.lemmas.List.Elements.{All-push}
-use Rattle.tsp_value.specs.declared.steps.TreeStep.{TreeStep}
-use Rattle.tsp_value.specs.declared.steps.TreeStep.TheVariants as code
-use Rattle.tsp_value.specs.Steps as listed
-use Rattle.tsp_value.specs.Steps.{steps_of}
+use Rattle.tsp_format.specs.declared.steps.TreeStep.{TreeStep}
+use Rattle.tsp_format.specs.declared.steps.TreeStep.TheVariants as code
+use Rattle.tsp_format.specs.Steps as listed
+use Rattle.tsp_format.specs.Steps.{steps_of}
 use Rattle.tsp_branch.specs.Combed.{plain}
 use Rattle.tsp_branch.specs.CombsOfSets.{combs_of}
 use Rattle.tsp_branch.specs.Decisions.{DecideOnce}

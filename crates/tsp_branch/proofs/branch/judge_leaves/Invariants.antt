@@ -1,7 +1,7 @@
 use Rattle.std.proofs.Common.{◌≤◌, ℕ, length, drop}
 use Rattle.std.specs.Prelude.{IfSome}
 use Rattle.std.specs.List.{All}
-use Rattle.tsp_value.specs.Steps.{steps_of}
+use Rattle.tsp_format.specs.Steps.{steps_of}
 use Rattle.tsp_theory.specs.Numbers.{IsBoundSized}
 use Rattle.tsp_branch.specs.Combed.{plain}
 use Rattle.tsp_branch.specs.CombsOfSets.{combs_of}

@@ -4,7 +4,7 @@ use Rattle.std.specs.Global.{Vec}
 use Rattle.std.specs.Int.{w128}
 use Rattle.std.proofs.Math.IntN.{+ℤ_assoc}
 use Rattle.std.proofs.lemmas.Int.{ints}
-use Rattle.tsp_walk.specs.Length.{sum_int_by}
+use Rattle.tsp_theory.specs.Length.{sum_int_by}
 use Rattle.tsp_theory.specs.Numbers.{IsFromTo}
 use Rattle.tsp_branch.specs.Combed.{plain, multiplier_of, most_multiplied}
 use Rattle.tsp_branch.proofs.GivenBack.{multiplied_left, more_multiplied, computed_multiplied}

@@ -1,6 +1,6 @@
 use Rattle.std.proofs.Common.{◌≡◌, ◌*◌, drop}
 use Rattle.std.specs.Prelude.{pos, ◌+ℤ◌}
-use Rattle.tsp_walk.specs.Length.{sum_int_by}
+use Rattle.tsp_theory.specs.Length.{sum_int_by}
 use Rattle.tsp_theory.specs.Numbers.{IsFromTo}
 use Rattle.tsp_branch.specs.Combed.{plain, multiplier_of, most_multiplied}
 use Rattle.tsp_branch.proofs.given_back.multiplied_sets.Given as goal

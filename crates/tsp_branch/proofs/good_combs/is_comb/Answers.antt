@@ -2,7 +2,7 @@ use Rattle.std.proofs.Common.{◌<◌, ℕ, Bool, List, length, subst, sym, refl
 use Rattle.std.specs.Global.{Vec}
 use Rattle.std.specs.List.{All}
 use Rattle.std.proofs.lemmas.Bool.{both_ways, iff_false}
-use Rattle.tsp_value.specs.Cells.{IsNode}
+use Rattle.tsp_format.specs.Cells.{IsNode}
 use Rattle.tsp_branch.specs.Marked.{is_marked}
 use Rattle.tsp_branch.proofs.Teeth.{rest_all, first_all, counted, handle_new, comb_found, teeth_found}
 use Rattle.tsp_branch.proofs.good_combs.is_comb.Goals as goal

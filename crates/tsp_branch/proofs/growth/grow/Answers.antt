@@ -3,7 +3,7 @@ use Rattle.std.specs.Int.{w64, w128}
 use Rattle.std.specs.Prelude.{pos, ◌<ℤ◌}
 use Rattle.std.proofs.lemmas.Int.{ints}
 use Rattle.std.proofs.lemmas.List.{get_or-replicate, get_or_default}
-use Rattle.tsp_value.specs.Limits.{most_nodes}
+use Rattle.tsp_format.specs.Limits.{most_nodes}
 use Rattle.tsp_theory.specs.Growth.{least_at}
 use Rattle.tsp_theory.proofs.Nearest.{most_64}
 use Rattle.tsp_theory.proofs.Steps.{written_back}

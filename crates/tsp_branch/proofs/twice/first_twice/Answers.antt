@@ -1,8 +1,8 @@
 use Rattle.std.proofs.Common.{◌+◌, List, drop, arith}
-use Rattle.tsp_value.specs.declared.steps.TreeStep.{TreeStep}
-use Rattle.tsp_value.specs.declared.steps.TreeStep.TheVariants as code
-use Rattle.tsp_value.specs.Steps as listed
-use Rattle.tsp_value.specs.Steps.{steps_of}
+use Rattle.tsp_format.specs.declared.steps.TreeStep.{TreeStep}
+use Rattle.tsp_format.specs.declared.steps.TreeStep.TheVariants as code
+use Rattle.tsp_format.specs.Steps as listed
+use Rattle.tsp_format.specs.Steps.{steps_of}
 use Rattle.tsp_branch.specs.Decisions.{Decision}
 use Rattle.tsp_branch.specs.Decided.{case_of, stack_of}
 use Rattle.tsp_branch.proofs.BranchesOnce.{once_next, once_pushed, twice_found, once_at_leaf, once_at_last, once_at_end}

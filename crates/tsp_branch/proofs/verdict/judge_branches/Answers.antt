@@ -1,13 +1,13 @@
 use Rattle.std.proofs.Common.{None, ℕ, ℤ, sym, subst, rules, FitsSigned}
 use Rattle.std.specs.Int.{w64, w128}
 use Rattle.std.proofs.lemmas.Int.{to_z-of_z}
-use Rattle.tsp_value.specs.Steps.{steps_of}
+use Rattle.tsp_format.specs.Steps.{steps_of}
 use Rattle.tsp_branch.specs.Cases.{BoundsCase}
 use Rattle.tsp_branch.specs.Combed.{plain}
 use Rattle.tsp_branch.specs.CombsOfSets.{combs_of}
 use Rattle.tsp_branch.specs.GoodCombs.{AreCombsJudged}
 use Rattle.tsp_branch.specs.Decided.{case_of}
-use Rattle.tsp_branch.specs.Listed.{IsJudged, BoundsWalks}
+use Rattle.tsp_branch.specs.Listed.{IsJudged, BoundsCycles}
 use Rattle.tsp_branch.specs.Twice.{AreBranchesJudged}
 use Rattle.tsp_branch.specs.declared.steps.Judged.TheVariants as judged
 use Rattle.tsp_branch.proofs.CombRuns.{sets_judged}
@@ -40,11 +40,11 @@ returns-in-Bound-clause-verdict g c =
       leaves = subst (λ (z : ℤ). IsJudged n (g.C.Costs.at c.args.costs.now) c.args.scale combs c.args.combs given steps (judged.Bound z)) (sym (to_z-of_z w128 c.in-Bound.bound fits)) at_scale;
     }
 
-pub returns-in-Bound-clause-walks : goal.returns-in-Bound-clause-walks
-returns-in-Bound-clause-walks g c =
+pub returns-in-Bound-clause-cycles : goal.returns-in-Bound-clause-cycles
+returns-in-Bound-clause-cycles g c =
     let n : ℕ = g.C.Costs.nodes c.args.costs.now in
     let cost = g.C.Costs.at c.args.costs.now in
     let given = case_of c.args.given.now in
     let fits : FitsSigned w128 c.in-Bound.bound = search rules in
-    let walks = subst (BoundsWalks n cost given) c.in-Bound.is c.in_ok-bound.ensures.walks in
-    subst (λ (z : ℤ). BoundsCase n cost z given) (sym (to_z-of_z w128 c.in-Bound.bound fits)) walks
+    let cycles = subst (BoundsCycles n cost given) c.in-Bound.is c.in_ok-bound.ensures.cycles in
+    subst (λ (z : ℤ). BoundsCase n cost z given) (sym (to_z-of_z w128 c.in-Bound.bound fits)) cycles

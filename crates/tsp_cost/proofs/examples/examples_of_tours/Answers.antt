@@ -1,7 +1,7 @@
 use Rattle.std.proofs.Common.{◌≡◌, ℕ, zero, suc, ◌<◌, inl, inr, arith, ap}
 use Rattle.std.specs.Prelude.{slice_index_or}
-use Rattle.tsp_walk.specs.Walk.{links, Follows, AreNeighbours}
-use Rattle.tsp_walk.specs.Examples.{three, four}
+use Rattle.tsp_theory.specs.Cycle.{links, Follows, AreNeighbours}
+use Rattle.tsp_theory.specs.CycleExamples.{three, four}
 use Rattle.tsp_cost.proofs.examples.examples_of_tours.Goals as goal
 
 -- no link of 1 2 3 goes from 2 to 1, and none of 1 2 3 4 from 1 to 3 or back

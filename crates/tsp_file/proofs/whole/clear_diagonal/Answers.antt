@@ -1,9 +1,9 @@
 use Rattle.std.proofs.Common.{◌∙◌, refl, sym, arith, pos}
 use Rattle.std.proofs.lemmas.Bool.{false≢true}
 use Rattle.std.proofs.lemmas.List.{length-set}
-use Rattle.tsp_value.specs.Cells.{IsNode}
-use Rattle.tsp_value.specs.declared.layout.Layout.TheVariants.{FullMatrix}
-use Rattle.tsp_value.proofs.Counts.{cells_counted}
+use Rattle.tsp_format.specs.Cells.{IsNode}
+use Rattle.tsp_format.specs.declared.layout.Layout.TheVariants.{FullMatrix}
+use Rattle.tsp_format.proofs.Counts.{cells_counted}
 use Rattle.tsp_file.specs.Cost.{listed_cost}
 use Rattle.tsp_file.proofs.Relaid.{triangle_holds}
 use Rattle.tsp_file.proofs.Spread.{side_filled, zero_diagonal, diagonal_more}

@@ -1,7 +1,7 @@
 use Rattle.std.proofs.Common.{◌≡◌, ◌*◌, ◌≤◌, length, take, ap, sym, subst, ◌∙◌, arith}
 use Rattle.std.proofs.Math.Seq.{take-append_seam}
 use Rattle.std.proofs.lemmas.List.{take_all}
-use Rattle.tsp_value.proofs.Counts.{cells_counted}
+use Rattle.tsp_format.proofs.Counts.{cells_counted}
 use Rattle.tsp_file.specs.Cost.{listed_cost}
 use Rattle.tsp_file.specs.Whole.{HasSide}
 use Rattle.tsp_file.proofs.Relaid.{triangle_holds}

@@ -1,6 +1,6 @@
 use Rattle.std.proofs.Common.{◌≡◌, ◌+◌, ◌-◌, sym, ◌∙◌, arith}
 use Rattle.std.proofs.lemmas.Nat.{mul-le}
-use Rattle.tsp_value.specs.Cells.{IsNode}
+use Rattle.tsp_format.specs.Cells.{IsNode}
 use Rattle.tsp_file.proofs.Spread.{all_before, kept_less, spread_begins, spread_more}
 use Rattle.tsp_file.proofs.whole.spread_lines.Goals as goal
 

@@ -1,5 +1,5 @@
 use Rattle.std.proofs.Common.{◌≡◌, ◌+◌, ◌≤◌, drop}
-use Rattle.tsp_value.specs.Steps.{leaf_count, steps_of}
+use Rattle.tsp_format.specs.Steps.{leaf_count, steps_of}
 use Rattle.tsp_report.proofs.leaves.leaves_of.Given as goal
 
 abbrev pub invariant-steps : goal.invariant-steps

@@ -3,7 +3,7 @@ use Rattle.std.specs.Prelude.{unwrap_or}
 use Rattle.tsp_stream.specs.Way.{Carried, way_of}
 use Rattle.tsp_stream.proofs.Carrying.{carried_then}
 use Rattle.tsp_report.specs.Report.{type_line, nodes_line, not_judged}
-use Rattle.tsp_value.specs.declared.kinds.Kind.{Kind}
+use Rattle.tsp_format.specs.declared.kinds.Kind.{Kind}
 use Rattle.tsp_report.proofs.report.put_instance.Goals as goal
 
 pub returns : goal.returns

@@ -5,7 +5,7 @@ use Rattle.tsp_stream.proofs.Carrying.{carried_then}
 use Rattle.std.specs.Fmt.{decimal}
 use Rattle.std.proofs.Common.{length, ℕ, subst, sym, map}
 use Rattle.std.proofs.lemmas.List.{length-map}
-use Rattle.tsp_fields.specs.Fields.{combs_of}
+use Rattle.tsp_draft.specs.Fields.{combs_of}
 use Rattle.tsp_stream.proofs.Carrying.{carried_none}
 use Rattle.tsp_report.proofs.shown.put_combs.Goals as goal
 

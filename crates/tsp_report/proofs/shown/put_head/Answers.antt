@@ -4,7 +4,7 @@ use Rattle.tsp_stream.specs.Way.{Carried, way_of}
 use Rattle.tsp_stream.proofs.Carrying.{carried_then}
 use Rattle.tsp_report.specs.Report.{type_line, nodes_line}
 use Rattle.tsp_report.specs.Show.{name_line}
-use Rattle.tsp_value.specs.declared.kinds.Kind.{Kind}
+use Rattle.tsp_format.specs.declared.kinds.Kind.{Kind}
 use Rattle.tsp_report.proofs.shown.put_head.Goals as goal
 
 pub returns : goal.returns

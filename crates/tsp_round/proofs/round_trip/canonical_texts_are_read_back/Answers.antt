@@ -1,7 +1,7 @@
 -- The canonical text of a valid file spells that file, and no other: from the one answer of every text.
 use Rattle.std.proofs.Common.{ℕ, List, sym, subst, ◌∙◌, Result, Ok, Err}
 use Rattle.std.proofs.lemmas.Option.{none-some}
-use Rattle.tsp_fields.specs.Fields.{Fields}
+use Rattle.tsp_draft.specs.Fields.{Fields}
 use Rattle.tsp_write.specs.Text.{text_of}
 use Rattle.tsp_items.specs.declared.fault.ReadFault.{ReadFault}
 use Rattle.tsp_items.specs.declared.fault.ReadFault.TheVariants as faults

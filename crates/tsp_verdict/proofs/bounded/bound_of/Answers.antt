@@ -2,7 +2,7 @@ use Rattle.std.proofs.Common.{◌≡◌, Some, subst, rules, FitsSigned}
 use Rattle.std.specs.Prelude.{MatchOption}
 use Rattle.std.specs.Int.{w128}
 use Rattle.std.proofs.lemmas.Int.{to_z-of_z}
-use Rattle.tsp_value.specs.declared.kinds.Kind.TheVariants as kinds
+use Rattle.tsp_format.specs.declared.kinds.Kind.TheVariants as kinds
 use Rattle.tsp_theory.specs.Adjusted.{AreOnPairs}
 use Rattle.tsp_verdict.specs.Certificate.{multipliers_in, StandsAgainstPotentials}
 use Rattle.tsp_verdict.specs.Multiplied.{AreListed}

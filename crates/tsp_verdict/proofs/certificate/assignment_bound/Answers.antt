@@ -12,7 +12,7 @@ returns-in-Ok g c =
     let fits : FitsSigned w128 c.in-Ok.bound = search rules in
     rw (to_z-of_z w128 c.in-Ok.bound fits) (assigned c.args.inst.now c.args.pot.now (g.C.Costs.nodes c.args.c.now) (g.C.Costs.at c.args.c.now)
     duals.result.scale duals.result.rows.now duals.result.columns.now c.in-Ok.bound
-    c.duals_bound_walks.ensures c.requires.kind c.requires.some duals.ensures.scaled are (duals.ensures.count ∙ c.requires.count)
+    c.duals_bound_cycles.ensures c.requires.kind c.requires.some duals.ensures.scaled are (duals.ensures.count ∙ c.requires.count)
     (duals.ensures.as_many ∙ duals.ensures.count ∙ c.requires.count) c.requires.keeps c.in-Ok.ensures.value c.in-Ok.ensures.size)
 
 pub returns-in-Err : goal.returns-in-Err

@@ -10,6 +10,6 @@ returns-in-Ok g c =
     let fits : FitsSigned w128 c.in-Ok.found.bound = search rules in
     rw (to_z-of_z w128 c.in-Ok.found.bound fits) (certified c.args.inst.now c.args.pot.now (g.C.Costs.nodes c.args.c.now) (g.C.Costs.at c.args.c.now)
     potentials.result.scale potentials.result.numbers.now c.multipliers_of.result.triples.now c.in-Ok.found.bound
-    c.adjusted_bounds_bound_walks.ensures.walks c.multipliers_of.ensures c.requires.listed c.requires.kind c.requires.even c.requires.some
+    c.adjusted_bounds_bound_cycles.ensures.cycles c.multipliers_of.ensures c.requires.listed c.requires.kind c.requires.even c.requires.some
     potentials.ensures.scaled potentials.ensures.scale potentials.ensures.numbers (potentials.ensures.count ∙ c.requires.count) c.requires.keeps
     (c.in-Ok.ensures.bound, c.in-Ok.ensures.size))

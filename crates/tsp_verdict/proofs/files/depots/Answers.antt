@@ -1,6 +1,6 @@
 use Rattle.std.proofs.Common.{List, ℕ, sym}
-use Rattle.tsp_fields.specs.Fields.{Fields}
-use Rattle.tsp_fields.specs.Valid.{AreDepots}
+use Rattle.tsp_draft.specs.Fields.{Fields}
+use Rattle.tsp_draft.specs.Valid.{AreDepots}
 use Rattle.tsp_verdict.proofs.FilesHold.{depots_in}
 use Rattle.tsp_verdict.proofs.files.depots.Goals as goal
 

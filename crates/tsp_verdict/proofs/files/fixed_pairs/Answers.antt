@@ -1,6 +1,6 @@
 use Rattle.std.proofs.Common.{List, ℕ, sym}
-use Rattle.tsp_fields.specs.Fields.{Fields}
-use Rattle.tsp_fields.specs.Valid.{AreFixed}
+use Rattle.tsp_draft.specs.Fields.{Fields}
+use Rattle.tsp_draft.specs.Valid.{AreFixed}
 use Rattle.tsp_verdict.proofs.FixedPairs.{pairs_of}
 use Rattle.tsp_verdict.proofs.files.fixed_pairs.Goals as goal
 

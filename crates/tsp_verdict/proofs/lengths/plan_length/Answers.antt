@@ -2,9 +2,9 @@ use Rattle.std.proofs.Common.{◌≡◌, ◌≤◌, ◌+◌, ◌∷◌, ℕ, Lis
 use Rattle.std.specs.Prelude.{ℤ, ◌+ℤ◌}
 use Rattle.std.specs.Int.{w64}
 use Rattle.std.proofs.lemmas.Int.{ints}
-use Rattle.tsp_value.specs.Cells.{IsNode}
+use Rattle.tsp_format.specs.Cells.{IsNode}
 use Rattle.tsp_file.specs.Cost.{cost}
-use Rattle.tsp_walk.specs.Length.{length_of}
+use Rattle.tsp_theory.specs.Length.{length_of}
 use Rattle.tsp_verdict.specs.Marks.{StandsAfter}
 use Rattle.tsp_verdict.specs.Solution.{nodes_in, nodes_of}
 use Rattle.tsp_verdict.specs.Sums.{IsSumOf}

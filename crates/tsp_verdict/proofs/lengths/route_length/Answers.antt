@@ -3,7 +3,7 @@ use Rattle.std.specs.Prelude.{ℤ, ◌+ℤ◌}
 use Rattle.std.specs.Int.{w64}
 use Rattle.std.proofs.lemmas.Int.{ints}
 use Rattle.std.proofs.lemmas.List.{drop_all}
-use Rattle.tsp_value.specs.Cells.{IsNode}
+use Rattle.tsp_format.specs.Cells.{IsNode}
 use Rattle.tsp_file.specs.Cost.{cost}
 use Rattle.tsp_verdict.specs.Solution.{nodes_of}
 use Rattle.tsp_verdict.specs.Sums.{IsSumOf}

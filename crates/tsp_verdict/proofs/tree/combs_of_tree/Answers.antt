@@ -1,5 +1,5 @@
 use Rattle.std.proofs.Common.{sym}
-use Rattle.tsp_fields.specs.Fields.{combs_of}
+use Rattle.tsp_draft.specs.Fields.{combs_of}
 use Rattle.tsp_verdict.proofs.FilesHold.{combs_hold}
 use Rattle.tsp_verdict.proofs.tree.combs_of_tree.Goals as goal
 

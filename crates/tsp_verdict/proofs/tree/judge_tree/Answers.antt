@@ -4,10 +4,10 @@ use Rattle.std.specs.Prelude.{Option, unwrap_or}
 use Rattle.std.specs.List.{All}
 use Rattle.std.proofs.lemmas.Int.{to_z-of_z}
 use Rattle.std.proofs.lemmas.List.{length-map}
-use Rattle.tsp_value.specs.Limits.{most_fixed}
-use Rattle.tsp_value.specs.Steps.{step_of, steps_of}
-use Rattle.tsp_fields.specs.Fields.{combs_of}
-use Rattle.tsp_fields.specs.Valid.{IsPairOf}
+use Rattle.tsp_format.specs.Limits.{most_fixed}
+use Rattle.tsp_format.specs.Steps.{step_of, steps_of}
+use Rattle.tsp_draft.specs.Fields.{combs_of}
+use Rattle.tsp_draft.specs.Valid.{IsPairOf}
 use Rattle.tsp_theory.specs.Numbers.{IsScale}
 use Rattle.tsp_branch.specs.declared.steps.BranchVerdict.TheVariants as found
 use Rattle.tsp_branch.specs.BranchVerdicts.{IsBranchVerdict, IsSizedVerdict}
@@ -75,7 +75,7 @@ returns-in-Bound g c =
     let all_told = told inst tree n costs _ (length combs) sets given steps (found.Bound bound) are is in
     rw (to_z-of_z w128 bound fits) (
       none_stands inst tree costs bound c.requires.sort c.requires.count all_told,
-      certified inst tree costs bound c.certificates_bound_walks.ensures.walks c.requires.kind c.requires.some c.requires.even
+      certified inst tree costs bound c.certificates_bound_cycles.ensures.cycles c.requires.kind c.requires.some c.requires.even
           (subst IsScale c.scale_of_tree-scale.ensures.value c.scale_of_tree-scale.ensures.scaled) c.requires.keeps.every
           (subst IsSizedVerdict c.in-Bound.is c.in_ok-bound.ensures.size) all_told,
     )

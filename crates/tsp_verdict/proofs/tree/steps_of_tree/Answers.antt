@@ -1,5 +1,5 @@
 use Rattle.std.proofs.Common.{sym}
-use Rattle.tsp_value.specs.Steps.{steps_of}
+use Rattle.tsp_format.specs.Steps.{steps_of}
 use Rattle.tsp_verdict.proofs.FilesHold.{steps_hold, steps_few}
 use Rattle.tsp_verdict.proofs.tree.steps_of_tree.Goals as goal
 

@@ -1,5 +1,5 @@
 use Rattle.std.proofs.Common.{arith}
-use Rattle.tsp_fields.specs.Fields.{fields_of}
+use Rattle.tsp_draft.specs.Fields.{fields_of}
 use Rattle.tsp_write.specs.Text.{text_of_field}
 use Rattle.tsp_stream.specs.Way.{way_of}
 use Rattle.tsp_stream.proofs.Carrying.{carried_all, carried_none, carried_next_or}

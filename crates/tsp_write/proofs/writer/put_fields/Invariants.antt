@@ -1,6 +1,6 @@
 use Rattle.std.proofs.Common.{take}
 use Rattle.std.specs.List.{flat_map}
-use Rattle.tsp_fields.specs.Fields.{fields_of}
+use Rattle.tsp_draft.specs.Fields.{fields_of}
 use Rattle.tsp_write.specs.Text.{text_of_field}
 use Rattle.tsp_stream.specs.Way.{way_of, Carried}
 use Rattle.tsp_write.proofs.writer.put_fields.Given as goal

@@ -3,9 +3,9 @@ use Rattle.std.proofs.lemmas.List.{length-map, map-id}
 use Rattle.tsp_distance.specs.declared.decimal.Point.{Point}
 use Rattle.tsp_distance.specs.declared.decimal.PlanePoint.{PlanePoint}
 use Rattle.tsp_distance.specs.Distances.{on_plane}
-use Rattle.tsp_fields.specs.Coords.{points_of}
-use Rattle.tsp_fields.specs.Fields.{Fields}
-use Rattle.tsp_fields.specs.Rules.{fault_of}
+use Rattle.tsp_draft.specs.Coords.{points_of}
+use Rattle.tsp_draft.specs.Fields.{Fields}
+use Rattle.tsp_draft.specs.Rules.{fault_of}
 use Rattle.tsp_file.specs.Cost.{distance, point_of}
 use Rattle.tsp_cost.proofs.Instances.{cost_of_points, not_explicit}
 use Rattle.tsp_cost.proofs.instance.Instance.distance_view.Goals as goal

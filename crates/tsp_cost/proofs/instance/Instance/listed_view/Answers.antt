@@ -1,7 +1,7 @@
 use Rattle.std.proofs.Common.{Some, ap, sym, ◌∙◌}
-use Rattle.tsp_value.specs.declared.layout.Layout.TheVariants.{FullMatrix}
-use Rattle.tsp_value.specs.declared.kinds.WeightFormat.TheVariants.{Listed}
-use Rattle.tsp_fields.specs.Rules.{is_explicit}
+use Rattle.tsp_format.specs.declared.layout.Layout.TheVariants.{FullMatrix}
+use Rattle.tsp_format.specs.declared.kinds.WeightFormat.TheVariants.{Listed}
+use Rattle.tsp_draft.specs.Rules.{is_explicit}
 use Rattle.tsp_file.specs.Cost.{listed_cost}
 use Rattle.tsp_file.proofs.Listed.{cost_of_listed, same_layout}
 use Rattle.tsp_cost.proofs.instance.Instance.listed_view.Goals as goal

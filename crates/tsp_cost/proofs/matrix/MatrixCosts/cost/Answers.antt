@@ -1,6 +1,6 @@
 use Rattle.std.proofs.Common.{◌<◌, length, sym, ◌∙◌, arith}
 use Rattle.std.specs.Prelude.{pos, slice_index_or}
-use Rattle.tsp_value.specs.declared.layout.Layout.TheVariants.{FullMatrix}
+use Rattle.tsp_format.specs.declared.layout.Layout.TheVariants.{FullMatrix}
 use Rattle.tsp_file.proofs.Listed.{cost_of_cell, weight_read}
 use Rattle.tsp_cost.proofs.matrix.MatrixCosts.cost.Goals as goal
 

@@ -1,6 +1,6 @@
 use Rattle.std.proofs.Common.{◌≡◌, ◌<◌, ℕ, length, false, ap, sym, ◌∙◌, arith}
 use Rattle.std.specs.Prelude.{pos, slice_index_or}
-use Rattle.tsp_value.specs.Cells.{is_listed}
+use Rattle.tsp_format.specs.Cells.{is_listed}
 use Rattle.tsp_file.specs.Cost.{listed_cost}
 use Rattle.tsp_file.proofs.Listed.{cost_of_cell, cost_unlisted, diagonal_unlisted, either_way, weight_read}
 use Rattle.tsp_cost.proofs.triangle.TriangleCosts.cost.Goals as goal

@@ -1,5 +1,5 @@
 use Rattle.std.proofs.Common.{ap}
-use Rattle.tsp_fields.specs.Fields.{Fields}
+use Rattle.tsp_draft.specs.Fields.{Fields}
 use Rattle.tsp_file.proofs.file.File.others.Goals as goal
 
 pub returns : goal.returns

@@ -1,5 +1,5 @@
 use Rattle.std.proofs.Common.{subst, ap, sym, ◌∙◌}
-use Rattle.tsp_fields.specs.Fields.{Fields}
+use Rattle.tsp_draft.specs.Fields.{Fields}
 use Rattle.tsp_file.specs.Cost.{cost}
 use Rattle.tsp_file.specs.Relayout.{nodes_in, with_weights, costs_in}
 use Rattle.tsp_file.specs.Way.{LeadsTo}

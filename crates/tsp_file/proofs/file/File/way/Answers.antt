@@ -1,7 +1,7 @@
 use Rattle.std.proofs.Common.{◌≡◌, Some, sym, ap, ◌∙◌}
 use Rattle.std.proofs.lemmas.Bool.{false≢true}
-use Rattle.tsp_value.specs.declared.kinds.WeightFormat.TheVariants.{Listed}
-use Rattle.tsp_value.specs.Even.{IsFirstUneven}
+use Rattle.tsp_format.specs.declared.kinds.WeightFormat.TheVariants.{Listed}
+use Rattle.tsp_format.specs.Symmetry.{IsFirstAsymmetric}
 use Rattle.tsp_file.specs.Relayout.{IsFirstOnDiagonal, costs_in}
 use Rattle.tsp_file.proofs.Listed.{same_layout}
 use Rattle.tsp_file.proofs.Relaid.{of_file, has_weights, pairs_held, can_go, own_layout}
@@ -21,7 +21,7 @@ returns-in-Some-lost_pair c =
     let lost = c.in-Some-lost_pair in (
       has_weights f w.layout w.nodes w.weights.now held.0 held.1,
       lost.ensures.0,
-      of_file (λ n cost. IsFirstUneven n cost (lost.i, lost.j)) f w.layout w.nodes w.weights.now held.0 held.1 lost.ensures.1,
+      of_file (λ n cost. IsFirstAsymmetric n cost (lost.i, lost.j)) f w.layout w.nodes w.weights.now held.0 held.1 lost.ensures.1,
     )
 
 pub returns-in-Some-lost_diagonal : goal.returns-in-Some-lost_diagonal

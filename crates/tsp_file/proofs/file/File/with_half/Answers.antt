@@ -1,15 +1,15 @@
 use Rattle.std.proofs.Common.{◌≡◌, ℕ, List, Some, None, sym, ap, subst, ◌∙◌}
 use Rattle.std.specs.Prelude.{ℤ}
 use Rattle.std.specs.Option.{option_map}
-use Rattle.tsp_value.specs.declared.layout.Layout.{Layout}
-use Rattle.tsp_value.specs.declared.layout.Layout.TheVariants.{FullMatrix}
-use Rattle.tsp_value.specs.declared.kinds.WeightFormat.TheVariants.{Listed}
-use Rattle.tsp_fields.specs.Fields.{Fields, fields_of}
-use Rattle.tsp_fields.specs.Rules.{fault_of}
+use Rattle.tsp_format.specs.declared.layout.Layout.{Layout}
+use Rattle.tsp_format.specs.declared.layout.Layout.TheVariants.{FullMatrix}
+use Rattle.tsp_format.specs.declared.kinds.WeightFormat.TheVariants.{Listed}
+use Rattle.tsp_draft.specs.Fields.{Fields, fields_of}
+use Rattle.tsp_draft.specs.Rules.{fault_of}
 use Rattle.tsp_file.specs.Cost.{cost}
 use Rattle.tsp_file.specs.Listed.{IsListed}
 use Rattle.tsp_file.specs.Relayout.{HoldsPairs, CanGo, nodes_in, with_weights, costs_in}
-use Rattle.tsp_fields.proofs.ValidFields.{in_range}
+use Rattle.tsp_draft.proofs.ValidFields.{in_range}
 use Rattle.tsp_file.proofs.WithWeights.{some_is}
 use Rattle.tsp_file.proofs.Listed.{lists}
 use Rattle.tsp_file.proofs.Relaid.{of_weights}

@@ -1,6 +1,6 @@
 use Rattle.std.proofs.Common.{◌≡◌, None, sym, subst}
-use Rattle.tsp_fields.specs.Fields.{Fields}
-use Rattle.tsp_fields.specs.Rules.{fault_of}
+use Rattle.tsp_draft.specs.Fields.{Fields}
+use Rattle.tsp_draft.specs.Rules.{fault_of}
 use Rattle.tsp_file.specs.Relayout.{with_weights}
 use Rattle.tsp_file.proofs.WithWeights.{stays_valid}
 use Rattle.tsp_file.proofs.file.File.with_weights.Goals as goal

@@ -2,12 +2,12 @@ use Rattle.std.proofs.Common.{◌≡◌, rules, false, Result, Ok, Err, Some, sy
 use Rattle.std.specs.Prelude.{OnOk}
 use Rattle.std.specs.Option.{option_map}
 use Rattle.std.specs.Result.{is_err}
-use Rattle.tsp_value.specs.declared.layout.Layout.TheVariants.{FullMatrix}
-use Rattle.tsp_value.specs.declared.kinds.WeightFormat.TheVariants.{Listed}
-use Rattle.tsp_fields.specs.Fields.{Fields, fields_of}
+use Rattle.tsp_format.specs.declared.layout.Layout.TheVariants.{FullMatrix}
+use Rattle.tsp_format.specs.declared.kinds.WeightFormat.TheVariants.{Listed}
+use Rattle.tsp_draft.specs.Fields.{Fields, fields_of}
 use Rattle.tsp_file.specs.Cost.{cost}
 use Rattle.tsp_file.specs.Relayout.{CanGo, nodes_in, with_weights, costs_in}
-use Rattle.tsp_fields.proofs.ValidFields.{in_range}
+use Rattle.tsp_draft.proofs.ValidFields.{in_range}
 use Rattle.tsp_file.proofs.WithWeights.{some_is}
 use Rattle.tsp_file.proofs.Listed.{lists}
 use Rattle.tsp_file.proofs.Fronts.{laid_of}

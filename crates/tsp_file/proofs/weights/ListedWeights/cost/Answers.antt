@@ -1,6 +1,6 @@
 use Rattle.std.proofs.Common.{◌≡◌, ◌<◌, None, length, sym, ◌∙◌, arith}
 use Rattle.std.specs.Prelude.{pos, slice_index_or}
-use Rattle.tsp_value.specs.Place.{place_of}
+use Rattle.tsp_format.specs.Place.{place_of}
 use Rattle.tsp_file.proofs.Listed.{cost_of_cell, cost_mirrored, cost_unlisted, weight_read}
 use Rattle.tsp_file.proofs.Relaid.{no_cell}
 use Rattle.tsp_file.proofs.weights.ListedWeights.cost.Goals as goal

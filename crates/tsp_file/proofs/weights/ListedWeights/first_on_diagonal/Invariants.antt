@@ -1,6 +1,6 @@
 use Rattle.std.proofs.Common.{◌≡◌, ℕ, ◌<◌}
 use Rattle.std.specs.Prelude.{pos}
-use Rattle.tsp_value.specs.Cells.{IsNode}
+use Rattle.tsp_format.specs.Cells.{IsNode}
 use Rattle.tsp_file.specs.Weights.{costs_of}
 use Rattle.tsp_file.proofs.weights.ListedWeights.first_on_diagonal.Given as goal
 

@@ -1,6 +1,6 @@
 use Rattle.std.proofs.Common.{◌≡◌, ◌-◌, map, take}
 use Rattle.std.specs.List.{flat_map}
-use Rattle.tsp_value.specs.Cells.{nodes_to, cells_of_line}
+use Rattle.tsp_format.specs.Cells.{nodes_to, cells_of_line}
 use Rattle.tsp_file.specs.Weights.{costs_of}
 use Rattle.tsp_file.proofs.weights.ListedWeights.laid_out.Given as goal
 

@@ -1,9 +1,9 @@
 use Rattle.std.proofs.Common.{◌<◌, List, ◌++◌, length, map, ap, sym, subst, ◌∙◌, arith}
 use Rattle.std.specs.Prelude.{ℤ}
 use Rattle.std.proofs.lemmas.List.{take_all}
-use Rattle.tsp_value.specs.Cells.{cells_of_line}
-use Rattle.tsp_value.specs.Limits.{most_weight}
-use Rattle.tsp_fields.specs.Valid.{IsWithin}
+use Rattle.tsp_format.specs.Cells.{cells_of_line}
+use Rattle.tsp_format.specs.Limits.{most_weight}
+use Rattle.tsp_draft.specs.Valid.{IsWithin}
 use Rattle.tsp_file.specs.Weights.{costs_of}
 use Rattle.tsp_file.proofs.Listed.{weight_read}
 use Rattle.tsp_file.proofs.Relaid.{cell_more, cost_within}

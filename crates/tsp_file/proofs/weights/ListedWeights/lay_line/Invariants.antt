@@ -1,5 +1,5 @@
 use Rattle.std.proofs.Common.{◌≡◌, ◌++◌, map, take}
-use Rattle.tsp_value.specs.Cells.{cells_of_line}
+use Rattle.tsp_format.specs.Cells.{cells_of_line}
 use Rattle.tsp_file.specs.Weights.{costs_of}
 use Rattle.tsp_file.proofs.weights.ListedWeights.lay_line.Given as goal
 

@@ -1,7 +1,7 @@
 use Rattle.std.proofs.Common.{◌≡◌, ◌<◌, Some, length, sym, ap, ◌∙◌, arith}
 use Rattle.std.specs.Prelude.{pos, slice_index_or}
-use Rattle.tsp_value.specs.Place.{place_of}
-use Rattle.tsp_value.specs.Cells.{cells}
+use Rattle.tsp_format.specs.Place.{place_of}
+use Rattle.tsp_format.specs.Cells.{cells}
 use Rattle.tsp_file.proofs.Listed.{cost_of_cell, weight_read}
 use Rattle.tsp_file.proofs.weights.ListedWeights.weight.Goals as goal
 

@@ -1,6 +1,6 @@
 use Rattle.std.proofs.Common.{refl}
-use Rattle.tsp_value.specs.Steps.{steps_of}
-use Rattle.tsp_fields.specs.Fields.{combs_of, fields_of}
+use Rattle.tsp_format.specs.Steps.{steps_of}
+use Rattle.tsp_draft.specs.Fields.{combs_of, fields_of}
 use Rattle.tsp_read.proofs.SectionSteps as steps
 use Rattle.tsp_read.proofs.state.store.store.Goals as goal
 

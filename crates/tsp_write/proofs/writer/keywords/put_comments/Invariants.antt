@@ -1,6 +1,6 @@
 use Rattle.std.proofs.Common.{take}
 use Rattle.std.specs.List.{flat_map}
-use Rattle.tsp_value.specs.declared.field.Field.TheVariants.{CommentKey}
+use Rattle.tsp_format.specs.declared.field.Field.TheVariants.{CommentKey}
 use Rattle.tsp_write.specs.Text.{keyword_line}
 use Rattle.tsp_stream.specs.Way.{way_of, Carried}
 use Rattle.tsp_write.proofs.writer.keywords.put_comments.Given as goal

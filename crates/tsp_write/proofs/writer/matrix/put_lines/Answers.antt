@@ -1,5 +1,5 @@
 use Rattle.std.proofs.Common.{◌≡◌, ◌∙◌, sym, length, map, min, arith}
-use Rattle.tsp_value.specs.Cells.{nodes_to, cells_of_line}
+use Rattle.tsp_format.specs.Cells.{nodes_to, cells_of_line}
 use Rattle.tsp_write.specs.Text.{matrix_lines}
 use Rattle.tsp_stream.specs.Way.{way_of}
 use Rattle.tsp_write.proofs.Matrices.{comes_begins, comes_next, comes_last, comes_failed}

@@ -1,4 +1,4 @@
-use Rattle.tsp_value.specs.Words.{field_word}
+use Rattle.tsp_format.specs.Words.{field_word}
 use Rattle.tsp_stream.specs.Way.{way_of}
 use Rattle.tsp_stream.proofs.Carrying.{carried_then}
 use Rattle.tsp_write.specs.Text.{line_end}

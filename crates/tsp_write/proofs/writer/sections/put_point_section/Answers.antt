@@ -1,4 +1,4 @@
-use Rattle.tsp_fields.specs.Coords.{points_of}
+use Rattle.tsp_draft.specs.Coords.{points_of}
 use Rattle.tsp_write.specs.Text.{by_node, point_numbers}
 use Rattle.tsp_stream.specs.Way.{way_of}
 use Rattle.tsp_stream.proofs.Carrying.{carried_none}

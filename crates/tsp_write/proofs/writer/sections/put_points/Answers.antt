@@ -1,7 +1,7 @@
 use Rattle.std.proofs.Common.{ℕ, ◌+◌, List, get_or, subst, arith}
 use Rattle.tsp_distance.specs.declared.decimal.Point.{Point}
 use Rattle.std.specs.Fmt.{decimal}
-use Rattle.tsp_fields.specs.Coords.{points_of, origin}
+use Rattle.tsp_draft.specs.Coords.{points_of, origin}
 use Rattle.tsp_write.specs.Text.{number_line, point_numbers}
 use Rattle.tsp_stream.specs.Way.{Way, Carried, way_of}
 use Rattle.tsp_stream.proofs.Carrying.{carried_node_or, carried_nodes}

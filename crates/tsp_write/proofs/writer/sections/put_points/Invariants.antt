@@ -2,7 +2,7 @@ use Rattle.std.proofs.Common.{take}
 use Rattle.std.specs.List.{flat_map, enumerate_from}
 use Rattle.std.specs.Fmt.{decimal}
 use Rattle.tsp_write.specs.Text.{number_line, point_numbers}
-use Rattle.tsp_fields.specs.Coords.{points_of}
+use Rattle.tsp_draft.specs.Coords.{points_of}
 use Rattle.tsp_stream.specs.Way.{way_of, Carried}
 use Rattle.tsp_write.proofs.writer.sections.put_points.Given as goal
 

@@ -1,5 +1,5 @@
 use Rattle.std.proofs.Common.{arith}
-use Rattle.tsp_value.specs.Steps.{step_of}
+use Rattle.tsp_format.specs.Steps.{step_of}
 use Rattle.tsp_write.specs.Text.{step_line}
 use Rattle.tsp_stream.specs.Way.{way_of}
 use Rattle.tsp_stream.proofs.Carrying.{carried_mapped, carried_none, carried_next}

@@ -1,6 +1,6 @@
 use Rattle.std.proofs.Common.{take}
 use Rattle.std.specs.List.{flat_map}
-use Rattle.tsp_value.specs.Steps.{step_of}
+use Rattle.tsp_format.specs.Steps.{step_of}
 use Rattle.tsp_write.specs.Text.{step_line}
 use Rattle.tsp_stream.specs.Way.{way_of, Carried}
 use Rattle.tsp_write.proofs.writer.tree.put_steps.Given as goal

@@ -3,8 +3,8 @@ use Rattle.std.specs.Prelude.{replicate}
 use Rattle.tsp_distance.specs.declared.decimal.PlanePoint.{PlanePoint}
 use Rattle.tsp_distance.specs.declared.decimal.Point.{Point}
 use Rattle.tsp_distance.specs.Distances.{on_plane}
-use Rattle.tsp_fields.specs.Coords.{origin}
-use Rattle.tsp_fields.proofs.Mapped.{map_replicate}
+use Rattle.tsp_draft.specs.Coords.{origin}
+use Rattle.tsp_draft.proofs.Mapped.{map_replicate}
 use Rattle.tsp_items.proofs.PointSteps.{none_so_far}
 use Rattle.tsp_items.proofs.parts.points.PointList.open.Goals as goal
 

@@ -1,6 +1,6 @@
 use Rattle.std.proofs.Common.{◌≡◌, ap, ◌∙◌}
 use Rattle.std.specs.Prelude.{replicate}
-use Rattle.tsp_fields.specs.Coords.{origin}
+use Rattle.tsp_draft.specs.Coords.{origin}
 use Rattle.tsp_items.proofs.SpacePointSteps.{no_space_points}
 use Rattle.tsp_items.proofs.parts.space_points.SpacePointList.open.Goals as goal
 

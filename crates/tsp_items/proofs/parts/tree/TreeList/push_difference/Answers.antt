@@ -2,7 +2,7 @@ use Rattle.std.proofs.Common.{◌≡◌, ◌∙◌, sym, Ok, FitsSigned, rules, 
 use Rattle.std.specs.Prelude.{pos, neg_ℤ}
 use Rattle.std.proofs.lemmas.Int.{to_z-of_z}
 use Rattle.tsp_number.specs.Reading.{whole_of}
-use Rattle.tsp_value.specs.Limits.{most_difference}
+use Rattle.tsp_format.specs.Limits.{most_difference}
 use Rattle.tsp_items.specs.states.Held.{tree_held}
 use Rattle.tsp_items.proofs.TreeSteps.{difference_taken}
 use Rattle.tsp_items.proofs.parts.tree.TreeList.push_difference.Goals as goal

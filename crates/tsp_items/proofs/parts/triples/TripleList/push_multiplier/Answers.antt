@@ -2,7 +2,7 @@ use Rattle.std.proofs.Common.{◌≡◌, ◌∙◌, sym, Ok, Err, FitsSigned, ru
 use Rattle.std.specs.Prelude.{pos}
 use Rattle.std.proofs.lemmas.Int.{to_z-of_z}
 use Rattle.tsp_number.specs.Reading.{whole_of}
-use Rattle.tsp_value.specs.Limits.{most_multiplier}
+use Rattle.tsp_format.specs.Limits.{most_multiplier}
 use Rattle.tsp_items.proofs.TripleSteps.{multiplier_bad, triple_ends}
 use Rattle.tsp_items.proofs.parts.triples.TripleList.push_multiplier.Goals as goal
 

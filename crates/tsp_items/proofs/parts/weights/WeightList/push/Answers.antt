@@ -1,7 +1,7 @@
 use Rattle.std.proofs.Common.{◌≡◌, ◌∙◌, sym, Ok, arith, w64}
 use mir.Val.{SFits}
 use Rattle.std.proofs.lemmas.Int.{ints, to_z-of_z}
-use Rattle.tsp_value.specs.Limits.{most_weight}
+use Rattle.tsp_format.specs.Limits.{most_weight}
 use Rattle.tsp_items.specs.Numbers.{sized}
 use Rattle.tsp_items.proofs.WeightSteps.{weight_more}
 use Rattle.tsp_items.proofs.parts.weights.WeightList.push.Goals as goal

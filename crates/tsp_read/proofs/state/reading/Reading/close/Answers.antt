@@ -1,5 +1,5 @@
 use Rattle.std.proofs.Common.{Bool, cond, sym, ap, ◌∙◌}
-use Rattle.tsp_value.specs.Words.{fields_in_order}
+use Rattle.tsp_format.specs.Words.{fields_in_order}
 use Rattle.tsp_read.specs.states.Incomplete.{first_of}
 use Rattle.tsp_read.proofs.SectionSteps as steps
 use Rattle.tsp_read.proofs.state.reading.Reading.close.Goals as goal

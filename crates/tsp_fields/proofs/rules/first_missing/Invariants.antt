@@ -1,9 +1,0 @@
-use Rattle.std.proofs.Common.{◌≡◌, drop}
-use Rattle.tsp_fields.specs.Fields.{fields_of}
-use Rattle.tsp_fields.specs.Validity.{first_failing}
-use Rattle.tsp_fields.specs.Rules.{standing_of, is_there}
-use Rattle.tsp_fields.proofs.rules.first_missing.Given as goal
-
--- the answer is that of what is left
-abbrev pub invariant-loop-field : goal.invariant-loop-field
-invariant-loop-field l = first_failing (is_there (standing_of (fields_of l.draft))) (drop l.field-index l.fields) ≡ first_failing (is_there (standing_of (fields_of l.draft))) l.fields

@@ -1,8 +1,0 @@
-use Rattle.std.proofs.Common.{◌≡◌, drop}
-use Rattle.tsp_fields.specs.Fields.{fields_of}
-use Rattle.tsp_fields.specs.Validity.{fits, first_failing}
-use Rattle.tsp_fields.proofs.table.first_bad.Given as goal
-
--- the answer is that of what is left
-abbrev pub invariant-loop-field : goal.invariant-loop-field
-invariant-loop-field l = first_failing (fits (fields_of l.draft)) (drop l.field-index l.fields) ≡ first_failing (fits (fields_of l.draft)) l.fields

@@ -1,7 +1,0 @@
-use Rattle.std.proofs.Common.{◌≡◌, ◌≤◌, length, take}
-use Rattle.std.specs.List.{sum_by}
-use Rattle.tsp_value.specs.Limits.{most_tour_nodes}
-use Rattle.tsp_fields.proofs.validity.have_few_nodes.Given as goal
-
-abbrev pub invariant-tours : goal.invariant-tours
-invariant-tours l = (l.total ≡ sum_by (λ tour. length tour.items) (take l.tour-index l.tours)) × (l.total ≤ most_tour_nodes)

@@ -1,6 +1,0 @@
-use Rattle.std.proofs.Common.{◌≡◌, ◌+◌, ◌≤◌, drop}
-use Rattle.tsp_value.specs.Steps.{are_whole, steps_of}
-use Rattle.tsp_fields.proofs.validity.is_whole_tree.Given as goal
-
-abbrev pub invariant-steps : goal.invariant-steps
-invariant-steps l = (are_whole l.left (steps_of (drop l.step-index l.steps)) ≡ are_whole 1 (steps_of l.steps)) × (l.left ≤ l.step-index + 1)

@@ -1,0 +1,166 @@
+//! How a run of the program ends.
+
+ghost use Rattle.std.specs.Prelude.{◌≡◌, ◌==◌, OnOk};
+ghost use Rattle.std.specs.List.{position, before_first};
+ghost use Rattle.tsp_run.specs.Ending.{EndsLine, IsLineOf, Tells, status_of, status_of_fault};
+
+use arrayvec::ArrayString;
+use clap::Error as Refusal;
+use std::fmt::{Display, Formatter, Write as _};
+use std::io::Write;
+use std::{fmt, io};
+use tsp_cli::{JobFault, TaskFault};
+use tsp_judge::{ReadFault, RelayoutFault, RunFault, Verdict, WriteFault};
+
+/// How many bytes of a fault's text are told.
+const MOST_TEXT: usize = 256;
+
+/// How a run of the program ends.
+#[derive(Drop)]
+pub enum Ending {
+    /// The words of the command line ask for nothing.
+    NoJob(JobFault),
+    /// What they ask for can't be begun.
+    NoTask(TaskFault),
+    /// A task was done, with this verdict, where it has one.
+    Ended(Result<Option<Verdict>, RunFault>),
+}
+
+/// What goes to standard error.
+#[derive(Drop)]
+pub enum Line<'a> {
+    /// Why `clap` refuses the words, or the help that they ask for.
+    Refusal(&'a Refusal),
+    /// Out of memory for the words of the command line.
+    OutOfMemory,
+    /// Why no task was begun.
+    NoTask(TaskFault),
+    /// Why a task gave no answer.
+    Fault(RunFault),
+}
+
+impl Display for Line<'_> {
+    ghost use Rattle.tsp_run.specs.Ending.{line_text};
+
+    ghost output = { line_text };
+
+    fn fmt<W: fmt::Write>(&self, f: &mut Formatter<W>) -> fmt::Result {
+        match self {
+            Line::Refusal(refusal) => f.write(*refusal),
+            Line::OutOfMemory => f.write_str("out of memory\n"),
+            Line::NoTask(TaskFault::UnknownLayout) => f.write_str("unknown layout\n"),
+            Line::NoTask(TaskFault::MissingPath) => f.write_str("missing path\n"),
+            Line::NoTask(TaskFault::TwoCertificates) => {
+                f.write_str("both potentials and branches\n")
+            }
+            Line::Fault(fault) => {
+                f.write(fault)?;
+                f.write_str("\n")
+            }
+        }
+    }
+}
+
+/// Done, and no verdict is a no.
+const YES: u8 = 0;
+
+/// The verdict is a no, or a file's weights can't go into the layout.
+const NO: u8 = 1;
+
+/// A file has a fault, or the first is of the wrong kind.
+const NOT_JUDGED: u8 = 2;
+
+/// Out of memory, anywhere.
+const OUT_OF_MEMORY: u8 = 3;
+
+/// The command line is refused.
+const REFUSED: u8 = 4;
+
+/// A device failed, in or out.
+const DEVICE: u8 = 5;
+
+/// The exit status.
+pub fn status_of(ending: &Ending) -> u8
+    ensures { result ≡ status_of ending.now }
+{
+    match ending {
+        Ending::NoJob(JobFault::Refused(_)) | Ending::NoTask(_) => REFUSED,
+        Ending::NoJob(JobFault::OutOfMemory) => OUT_OF_MEMORY,
+        Ending::Ended(Ok(None)) => YES,
+        Ending::Ended(Ok(Some(Verdict::Tour { .. } | Verdict::Routes { .. }))) => YES,
+        Ending::Ended(Ok(Some(Verdict::No(_)))) => NO,
+        Ending::Ended(Err(fault)) => status_of_fault(*fault),
+    }
+}
+
+/// The exit status of a task without an answer.
+fn status_of_fault(fault: RunFault) -> u8
+    ensures { result ≡ status_of_fault fault }
+{
+    match fault {
+        RunFault::File { file: _, fault } => match fault {
+            ReadFault::Line { .. } | ReadFault::End(_) | ReadFault::TooLong => NOT_JUDGED,
+            ReadFault::OutOfMemory => OUT_OF_MEMORY,
+            ReadFault::Device => DEVICE,
+        },
+        RunFault::WrongKind => NOT_JUDGED,
+        RunFault::OutOfMemory => OUT_OF_MEMORY,
+        RunFault::Write(WriteFault::OutOfMemory) => OUT_OF_MEMORY,
+        RunFault::Write(WriteFault::Device) => DEVICE,
+        RunFault::Relayout(RelayoutFault::OutOfMemory) => OUT_OF_MEMORY,
+        RunFault::Relayout(_) => NO,
+    }
+}
+
+/// What goes to standard error, or `None` where nothing goes there.
+pub fn line_of(ending: &Ending) -> Option<Line<'_>>
+    ensures { IsLineOf ending.now result }
+{
+    match ending {
+        Ending::NoJob(JobFault::Refused(refusal)) => Some(Line::Refusal(refusal)),
+        Ending::NoJob(JobFault::OutOfMemory) => Some(Line::OutOfMemory),
+        Ending::NoTask(fault) => Some(Line::NoTask(*fault)),
+        Ending::Ended(Ok(_)) => None,
+        Ending::Ended(Err(fault)) => Some(Line::Fault(*fault)),
+    }
+}
+
+/// Tells how a run ended, where that wants a line.
+pub fn tell<W: Write>(ending: &Ending, errors: &mut W) -> io::Result<()>
+    ensures { OnOk result (Tells ending.now (W.contents errors.old) (W.contents errors.new)) }
+{
+    match line_of(ending) {
+        Some(Line::Fault(fault)) => tell_fault(fault, errors),
+        Some(line) => write!(errors, "{line}"),
+        None => Ok(()),
+    }
+}
+
+/// Tells a fault, and ends its line.
+fn tell_fault<W: Write>(fault: RunFault, errors: &mut W) -> io::Result<()>
+    ensures { OnOk result (EndsLine (W.contents errors.old) (W.contents errors.new)) }
+{
+    let mut text = ArrayString::<MOST_TEXT>::new();
+    // Each fault's text is far shorter than the room; a longer one would be cut at its end.
+    let _ = write!(text, "{fault}");
+    let bytes = text.as_str().as_bytes();
+    errors.write_all(first_line(bytes))?;
+    errors.write_all(b"\n")
+}
+
+/// Where the first line of a text ends.
+fn line_end(text: &[u8]) -> Option<usize>
+    ensures { result ≡ position (λ b. b == 10) text.now }
+{
+    text.iter().position(|byte| *byte == b'\n')
+}
+
+/// A text up to the end of its first line.
+fn first_line(text: &[u8]) -> &[u8]
+    ensures { result.now ≡ before_first (λ b. b == 10) text.now }
+{
+    match line_end(text) {
+        Some(end) => text.split_at(end).0,
+        None => text,
+    }
+}

@@ -1,5 +1,0 @@
-use Rattle.tsp_value.proofs.Pairs.{cells_differ}
-use Rattle.tsp_value.proofs.layout.cells_are_distinct.Goals as goal
-
-pub returns : goal.returns
-returns c = cells_differ

@@ -1,5 +1,0 @@
-use Rattle.tsp_value.proofs.Pairs.{cell_is}
-use Rattle.tsp_value.proofs.layout.cells_are_the_listed_pairs.Goals as goal
-
-pub returns : goal.returns
-returns c = cell_is

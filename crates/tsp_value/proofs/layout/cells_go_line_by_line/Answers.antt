@@ -1,5 +1,0 @@
-use Rattle.tsp_value.proofs.Lines.{cells-lines}
-use Rattle.tsp_value.proofs.layout.cells_go_line_by_line.Goals as goal
-
-pub returns : goal.returns
-returns c = cells-lines

@@ -1,5 +1,0 @@
-use Rattle.tsp_value.proofs.Places.{no_place}
-use Rattle.tsp_value.proofs.place.only_cells_have_places.Goals as goal
-
-pub returns : goal.returns
-returns c = no_place

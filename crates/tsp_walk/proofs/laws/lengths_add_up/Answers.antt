@@ -1,5 +1,0 @@
-use Rattle.tsp_walk.proofs.Walks.{length_by_first, length_by_second, length_of_sum, length_scaled}
-use Rattle.tsp_walk.proofs.laws.lengths_add_up.Goals as goal
-
-pub returns : goal.returns
-returns c = record { by_first = length_by_first; by_second = length_by_second; sum = length_of_sum; scale = length_scaled }
