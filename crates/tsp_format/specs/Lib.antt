@@ -1,6 +1,6 @@
 pub mod Bytes
 pub mod Cells
-pub mod Even
+pub mod Symmetry
 pub mod Keywords
 pub mod Layout
 pub mod Limits

@@ -6,7 +6,7 @@ ghost use Rattle.tsp_theory.specs.Assignment.{DualsBoundCycles};
 ghost use Rattle.tsp_theory.specs.NodeBound.{IsNodeBound, NodeBoundsBoundCycles};
 ghost use Rattle.tsp_theory.specs.Adjusted.{LeastTreesAreBelowCycles, AdjustedBoundsBoundCycles, UnadjustedBoundsAreNodeBounds};
 
-use tsp_theory::{cycles_are_permutations, cycles_have_no_loops, lengths_add_up};
+use crate::cycle_laws::{cycles_are_permutations, cycles_have_no_loops, lengths_add_up};
 
 /// The bound of good duals is at most the length of every cycle of two or more nodes.
 pub fn duals_bound_cycles()
