@@ -27,7 +27,7 @@ use Rattle.tsp_format.specs.declared.field.Shape.TheVariants.{Points, SpacePoint
 use Rattle.tsp_format.specs.Steps.{Step, Branch, Leaf, are_whole, branch_count, change_count}
 use Rattle.tsp_draft.specs.Fields.{Fields, spatial}
 use Rattle.tsp_draft.specs.Validity.{if_there, is_from_to, is_within, is_node, with_dimension, is_by_node, is_third, is_point, is_demand, section_fits, are_depots, is_pair, are_fixed, is_triple, are_triples, are_weights, is_tour, are_tours, is_set, is_comb, are_combs, is_change, is_step, are_steps, fits, first_failing, bad_field}
-use Rattle.tsp_draft.specs.Rules.{standing_of, count_of, is_instance, is_routing, is_tours, is_certificate, is_tree, is_explicit, is_function, lists_weights, is_there, asked_in_order, has_wrong_format, is_count, has_wrong_count, has_row_or_column, end_fault, format_or_count, fault_of}
+use Rattle.tsp_draft.specs.Rules.{standing_of, count_of, is_instance, is_routing, is_tours, is_certificate, is_tree, is_explicit, is_function, lists_weights, is_there, asked_in_order, has_wrong_format, is_count, has_wrong_count, has_row_or_column, has_node_or_multiplier, end_fault, format_or_count, fault_of}
 use Rattle.tsp_draft.specs.Valid.{IsFromTo, IsWithin, IsByNode, IsThird, IsPoint, IsDemand, IsPairOf, IsNodeList, AreDepots, AreFixed, IsTripleOf, AreTriples, AreWeights, AreTours, IsInRange, HasInstance, HasRouting, HasPotentials, IsSetOf, AreSets, AreCombs, IsChange, IsStep, AreSteps, HasBranches}
 
 -- ---- tests that hold
@@ -195,7 +195,7 @@ fixed_in f pairs e stands =
     let two = both (nat_le (length pairs) most_fixed) (list_all (is_pair held.0) pairs) held.2 in
     record { n = held.0; dimension = held.1; few = leb-true (length pairs) most_fixed two.0; pairs_of_nodes = all_so (is_pair held.0) (IsPairOf held.0) (is_pair_of held.0) pairs two.1 }
 
-triples_in : (f : Fields) (triples : List (ℕ × ℕ × ℤ)) → fits f fields.FixedPotentialPart ≡ true → f.fixed_potentials ≡ Some triples
+triples_in : (f : Fields) (triples : List (ℕ × ℕ × ℤ)) → fits f fields.FixedEdgePotentialPart ≡ true → f.fixed_potentials ≡ Some triples
     → AreTriples f triples
 triples_in f triples e stands =
     let given_so = given (with_dimension are_triples f.dimension) f.fixed_potentials triples e stands in
@@ -294,7 +294,7 @@ weights_in f weights valid stands =
     let asked : (lists_weights s || is_some f.weights) ≡ true = or_true (lists_weights s) (is_some f.weights) there in
     let has_format : is_some f.weight_format ≡ true = asked_there (lists_weights s || is_some f.weights) (is_some f.weight_format) (none_missing f valid).1.1.1.0 asked in
     let rules = format_and_count f valid in
-    let right_format = neither (is_function f.weight_format && (lists_weights s || is_some f.weights)) (is_certificate f.kind && is_some f.node_potentials && has_row_or_column s) rules.0 in
+    let right_format = neither (is_function f.weight_format && (lists_weights s || is_some f.weights)) (is_certificate f.kind && has_node_or_multiplier s && has_row_or_column s) rules.0 in
     let format = listed_format f.weight_format has_format (first_false (is_function f.weight_format) (lists_weights s || is_some f.weights) right_format.0 asked) in
     let right_count = not_false (is_count f.dimension f.weight_format (count_of f.weights))
     (second_false (is_some f.weights) (not (is_count f.dimension f.weight_format (count_of f.weights))) rules.1 there) in
@@ -325,7 +325,7 @@ in_range f valid = record {
   row_potentials = λ potentials. by_node f (is_within most_potential) (IsWithin most_potential) (within most_potential) f.row_potentials potentials (each_fits f valid fields.RowPotentialPart);
   column_potentials = λ potentials. by_node f (is_within most_potential) (IsWithin most_potential) (within most_potential) f.column_potentials potentials
       (each_fits f valid fields.ColumnPotentialPart);
-  fixed_potentials = λ triples. triples_in f triples (each_fits f valid fields.FixedPotentialPart);
+  fixed_potentials = λ triples. triples_in f triples (each_fits f valid fields.FixedEdgePotentialPart);
   combs = λ combs. combs_in f combs (each_fits f valid fields.CombPart);
   branches = λ steps. steps_in f steps (each_fits f valid fields.BranchPart);
 }
@@ -388,14 +388,16 @@ pub has_tours : (f : Fields) → fault_of f ≡ None → IsTrue (is_tours f.kind
 has_tours f valid is_one = asked_there (is_tours f.kind) (is_some f.tours) (none_missing f valid).1.1.1.1.1.1.1.1.1.0 is_one
 
 -- potentials of one sort
-one_sort : (nodal row column : Option (List ℤ)) → (not (is_some row || is_some column) ≡ true → is_some nodal ≡ true)
-    → (is_some column ≡ true → is_some row ≡ true) → (is_some row ≡ true → is_some column ≡ true) → (is_some nodal && (is_some row || is_some column)) ≡ false
-    → (IsSome nodal × (row ≡ None) × (column ≡ None)) ⊎ ((nodal ≡ None) × IsSome row × IsSome column)
-one_sort nodal None None nodes rows columns one = inl (nodes refl, refl, refl)
-one_sort nodal None (Some c) nodes rows columns one = absurd (false≢true (rows refl))
-one_sort nodal (Some r) None nodes rows columns one = absurd (false≢true (columns refl))
-one_sort None (Some r) (Some c) nodes rows columns one = inr (refl, refl, refl)
-one_sort (Some p) (Some r) (Some c) nodes rows columns one = absurd (false≢true (sym one))
+one_sort : (nodal : Option (List ℤ)) (multipliers : Option (List (ℕ × ℕ × ℤ))) (row column : Option (List ℤ)) → (not (is_some row || is_some column) ≡ true → is_some nodal ≡ true)
+    → (is_some column ≡ true → is_some row ≡ true) → (is_some row ≡ true → is_some column ≡ true)
+    → ((is_some nodal || is_some multipliers) && (is_some row || is_some column)) ≡ false
+    → (IsSome nodal × (row ≡ None) × (column ≡ None)) ⊎ ((nodal ≡ None) × (multipliers ≡ None) × IsSome row × IsSome column)
+one_sort nodal multipliers None None nodes rows columns one = inl (nodes refl, refl, refl)
+one_sort nodal multipliers None (Some c) nodes rows columns one = absurd (false≢true (rows refl))
+one_sort nodal multipliers (Some r) None nodes rows columns one = absurd (false≢true (columns refl))
+one_sort None None (Some r) (Some c) nodes rows columns one = inr (refl, refl, refl, refl)
+one_sort None (Some m) (Some r) (Some c) nodes rows columns one = absurd (false≢true (sym one))
+one_sort (Some p) multipliers (Some r) (Some c) nodes rows columns one = absurd (false≢true (sym one))
 
 pub has_potentials : (f : Fields) → fault_of f ≡ None → IsTrue (is_certificate f.kind) → HasPotentials f
 has_potentials f valid is_one =
@@ -403,16 +405,16 @@ has_potentials f valid is_one =
     let s = standing_of f in
     let no_node = not (is_some f.row_potentials || is_some f.column_potentials) in
     let right_format = neither (is_function f.weight_format && (lists_weights s || is_some f.weights))
-    (is_certificate f.kind && is_some f.node_potentials && has_row_or_column s) (format_and_count f valid).0 in
+    (is_certificate f.kind && has_node_or_multiplier s && has_row_or_column s) (format_and_count f valid).0 in
     record {
       dimension = asked_there (not (is_tours f.kind)) (is_some f.dimension) there.1.0 (certificate_is_no_tours f.kind is_one);
-      sort = one_sort f.node_potentials f.row_potentials f.column_potentials
+      sort = one_sort f.node_potentials f.fixed_potentials f.row_potentials f.column_potentials
           (λ none. asked_there (is_certificate f.kind && no_node) (is_some f.node_potentials) there.1.1.1.1.1.1.1.1.1.1.0 (and_true (is_certificate f.kind) no_node is_one none))
           (λ column. asked_there (is_certificate f.kind && is_some f.column_potentials) (is_some f.row_potentials) there.1.1.1.1.1.1.1.1.1.1.1.0
           (and_true (is_certificate f.kind) (is_some f.column_potentials) is_one column))
           (λ row. asked_there (is_certificate f.kind && is_some f.row_potentials) (is_some f.column_potentials) there.1.1.1.1.1.1.1.1.1.1.1.1.0
           (and_true (is_certificate f.kind) (is_some f.row_potentials) is_one row))
-          (subst (λ (b : Bool). (b && is_some f.node_potentials && has_row_or_column s) ≡ false) is_one right_format.1);
+          (subst (λ (b : Bool). (b && has_node_or_multiplier s && has_row_or_column s) ≡ false) is_one right_format.1);
     }
 
 pub has_branches : (f : Fields) → fault_of f ≡ None → IsTrue (is_tree f.kind) → HasBranches f

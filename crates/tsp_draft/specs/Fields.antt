@@ -4,7 +4,7 @@ use Rattle.std.specs.Option.{option_map}
 use Rattle.std.specs.Global.{Vec}
 use Rattle.tsp_distance.specs.declared.decimal.Point.{Point}
 use Rattle.tsp_format.specs.declared.field.Field.{Field}
-use Rattle.tsp_format.specs.declared.field.Field.TheVariants.{NameKey, TypeKey, CommentKey, OtherKey, DimensionKey, CapacityKey, ScaleKey, EdgeWeightTypeKey, EdgeWeightFormatKey, NodeCoordTypeKey, DisplayDataTypeKey, NodeCoordPart, DisplayDataPart, DemandPart, DepotPart, FixedEdgesPart, EdgeWeightPart, TourPart, NodePotentialPart, RowPotentialPart, ColumnPotentialPart, FixedPotentialPart, CombPart, BranchPart}
+use Rattle.tsp_format.specs.declared.field.Field.TheVariants.{NameKey, TypeKey, CommentKey, OtherKey, DimensionKey, CapacityKey, ScaleKey, EdgeWeightTypeKey, EdgeWeightFormatKey, NodeCoordTypeKey, DisplayDataTypeKey, NodeCoordPart, DisplayDataPart, DemandPart, DepotPart, FixedEdgesPart, EdgeWeightPart, TourPart, NodePotentialPart, RowPotentialPart, ColumnPotentialPart, FixedEdgePotentialPart, CombPart, BranchPart}
 use Rattle.tsp_draft.specs.declared.draft.Draft.{Draft}
 use Rattle.tsp_draft.specs.Coords.{points_of}
 use Rattle.tsp_format.specs.declared.kinds.Kind.{Kind}
@@ -131,7 +131,7 @@ stands_in f TourPart = is_some f.tours
 stands_in f NodePotentialPart = is_some f.node_potentials
 stands_in f RowPotentialPart = is_some f.row_potentials
 stands_in f ColumnPotentialPart = is_some f.column_potentials
-stands_in f FixedPotentialPart = is_some f.fixed_potentials
+stands_in f FixedEdgePotentialPart = is_some f.fixed_potentials
 stands_in f CombPart = is_some f.combs
 stands_in f BranchPart = is_some f.branches
 

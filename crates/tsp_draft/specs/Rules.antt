@@ -9,7 +9,7 @@ use Rattle.tsp_format.specs.declared.kinds.WeightKind.TheVariants as weight_kind
 use Rattle.tsp_format.specs.declared.kinds.WeightFormat.{WeightFormat}
 use Rattle.tsp_format.specs.declared.kinds.WeightFormat.TheVariants as formats
 use Rattle.tsp_format.specs.declared.field.Field.{Field}
-use Rattle.tsp_format.specs.declared.field.Field.TheVariants.{TypeKey, DimensionKey, CapacityKey, EdgeWeightTypeKey, EdgeWeightFormatKey, NodeCoordPart, DemandPart, DepotPart, EdgeWeightPart, TourPart, NodePotentialPart, RowPotentialPart, ColumnPotentialPart, BranchPart}
+use Rattle.tsp_format.specs.declared.field.Field.TheVariants.{TypeKey, DimensionKey, CapacityKey, EdgeWeightTypeKey, EdgeWeightFormatKey, NodeCoordPart, DemandPart, DepotPart, EdgeWeightPart, TourPart, NodePotentialPart, RowPotentialPart, ColumnPotentialPart, FixedEdgePotentialPart, BranchPart}
 use Rattle.tsp_draft.specs.declared.fault.EndFault.{EndFault}
 use Rattle.tsp_draft.specs.declared.fault.EndFault.TheVariants.{Missing, Incomplete, WrongFormat, WrongCount}
 use Rattle.tsp_draft.specs.declared.fault.DraftFault.{DraftFault}
@@ -151,10 +151,14 @@ asked_in_order = TypeKey ∷ DimensionKey ∷ EdgeWeightTypeKey ∷ EdgeWeightFo
 
 -- ---- what may not go together
 
--- a function in the place of listed weights, or potentials of both sorts
+-- numbers that belong to a TSP: potentials of nodes, or multipliers of fixed edges
+abbrev pub has_node_or_multiplier : Standing → Bool
+has_node_or_multiplier s = s.stands NodePotentialPart || s.stands FixedEdgePotentialPart
+
+-- a function in the place of listed weights, or numbers of both sorts of certificates
 abbrev pub has_wrong_format : Standing → Bool
 has_wrong_format s = (is_function s.weight_format && (lists_weights s || s.stands EdgeWeightPart))
-    || (is_certificate s.kind && s.stands NodePotentialPart && has_row_or_column s)
+    || (is_certificate s.kind && has_node_or_multiplier s && has_row_or_column s)
 
 -- so many weights are as many as the cells of the layout
 abbrev pub is_count : Option ℕ → Option WeightFormat → ℕ → Bool

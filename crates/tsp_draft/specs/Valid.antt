@@ -144,11 +144,11 @@ pub record HasRouting (f : Fields) : Type 0 where
   pub demands : IsSome f.demands
   pub depots : IsSome f.depots
 
--- what stands in a file of potentials: those of nodes, or those of rows and of columns
+-- what stands in a file of potentials: those of nodes, or those of rows and of columns without multipliers of fixed edges
 pub record HasPotentials (f : Fields) : Type 0 where
   pub dimension : IsSome f.dimension
   pub sort : (IsSome f.node_potentials × (f.row_potentials ≡ None) × (f.column_potentials ≡ None))
-      ⊎ ((f.node_potentials ≡ None) × IsSome f.row_potentials × IsSome f.column_potentials)
+      ⊎ ((f.node_potentials ≡ None) × (f.fixed_potentials ≡ None) × IsSome f.row_potentials × IsSome f.column_potentials)
 
 -- what stands in a file of branches
 pub record HasBranches (f : Fields) : Type 0 where

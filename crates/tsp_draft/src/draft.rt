@@ -163,7 +163,7 @@ impl Draft {
             Field::NodePotentialPart => self.node_potentials.is_some(),
             Field::RowPotentialPart => self.row_potentials.is_some(),
             Field::ColumnPotentialPart => self.column_potentials.is_some(),
-            Field::FixedPotentialPart => self.fixed_potentials.is_some(),
+            Field::FixedEdgePotentialPart => self.fixed_potentials.is_some(),
             Field::CombPart => self.combs.is_some(),
             Field::BranchPart => self.branches.is_some(),
         }

@@ -3,7 +3,7 @@
 ghost use Rattle.std.specs.Prelude.{◌≡◌, None};
 ghost use Rattle.tsp_draft.specs.Fields.{fields_of};
 ghost use Rattle.tsp_draft.specs.Validity.{first_failing};
-ghost use Rattle.tsp_draft.specs.Rules.{standing_of, is_instance, is_routing, is_tours, is_certificate, lists_weights, has_distances, has_row_or_column, is_tree, is_asked, is_there, asked_in_order, has_wrong_format, has_wrong_count, end_fault};
+ghost use Rattle.tsp_draft.specs.Rules.{standing_of, is_instance, is_routing, is_tours, is_certificate, lists_weights, has_distances, has_row_or_column, has_node_or_multiplier, is_tree, is_asked, is_there, asked_in_order, has_wrong_format, has_wrong_count, end_fault};
 
 use crate::draft::Draft;
 use crate::fault::EndFault;
@@ -152,13 +152,21 @@ fn has_row_or_column(draft: &Draft) -> bool
     draft.row_potentials.is_some() || draft.column_potentials.is_some()
 }
 
-/// Whether a function stands in the place of listed weights, or potentials of both sorts stand.
+/// Whether potentials of nodes or multipliers of fixed edges are there.
+fn has_node_or_multiplier(draft: &Draft) -> bool
+    ensures { result ≡ has_node_or_multiplier (standing_of (fields_of draft.now)) }
+{
+    draft.node_potentials.is_some() || draft.fixed_potentials.is_some()
+}
+
+/// Whether the format is FUNCTION where weights are listed, or the file has numbers for a TSP beside
+/// those of rows or columns, which are for an ATSP.
 fn has_wrong_format(draft: &Draft) -> bool
     ensures { result ≡ has_wrong_format (standing_of (fields_of draft.now)) }
 {
     let by_function = matches!(draft.weight_format, Some(WeightFormat::ByFunction));
     (by_function && (lists_weights(draft) || draft.weights.is_some()))
-        || (is_certificate(draft) && draft.node_potentials.is_some() && has_row_or_column(draft))
+        || (is_certificate(draft) && has_node_or_multiplier(draft) && has_row_or_column(draft))
 }
 
 /// Whether the weights are not as many as the cells of their layout.

@@ -75,7 +75,8 @@ pub fn end_sentence(fault: EndFault) -> &'static str {
         EndFault::Incomplete(_) => "A section ends before it is whole.",
         EndFault::WrongFormat => {
             "EDGE_WEIGHT_FORMAT is FUNCTION, and the weights are EXPLICIT or listed: tsp reads listed weights alone.\n\
-             In a file of TYPE POTENTIALS: numbers of nodes stand beside those of rows or columns."
+             In a file of TYPE POTENTIALS: NODE_POTENTIAL_SECTION or FIXED_EDGE_POTENTIAL_SECTION, which are for a TSP,\n\
+             is in the same file as ROW_POTENTIAL_SECTION or COLUMN_POTENTIAL_SECTION, which are for an ATSP."
         }
         EndFault::WrongCount => {
             "The number of weights isn't that of the layout. With n nodes FULL_MATRIX lists n * n,\n\

@@ -70,7 +70,7 @@ pub(crate) fn wanted(field: Field) -> &'static str {
             "COLUMN_POTENTIAL_SECTION has for each node from 1 to DIMENSION a group: the node and its number,\n\
              a whole number from -1,000,000,000,000,000 to 1,000,000,000,000,000."
         }
-        Field::FixedPotentialPart => {
+        Field::FixedEdgePotentialPart => {
             "FIXED_EDGE_POTENTIAL_SECTION lists two different nodes from 1 to DIMENSION and their multiplier,\n\
              a whole number from 0 to 1,000,000,000,000,000: at most 100,000 such triples, and -1 at its end."
         }
@@ -123,7 +123,7 @@ pub(crate) fn asked(field: Field) -> &'static str {
         | Field::DisplayDataTypeKey
         | Field::DisplayDataPart
         | Field::FixedEdgesPart
-        | Field::FixedPotentialPart
+        | Field::FixedEdgePotentialPart
         | Field::CombPart => "No file needs it.",
     }
 }

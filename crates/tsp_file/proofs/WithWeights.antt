@@ -7,7 +7,7 @@ use Rattle.std.proofs.lemmas.Bool.{false≢true, le-leb, eq-eqb}
 use Rattle.std.proofs.lemmas.Int.{ints}
 use Rattle.std.proofs.lemmas.List.Sums.{list_all-from_AllPass}
 use Rattle.tsp_format.specs.declared.field.Field.{Field}
-use Rattle.tsp_format.specs.declared.field.Field.TheVariants.{NameKey, TypeKey, CommentKey, OtherKey, DimensionKey, CapacityKey, ScaleKey, EdgeWeightTypeKey, EdgeWeightFormatKey, NodeCoordTypeKey, DisplayDataTypeKey, NodeCoordPart, DisplayDataPart, DemandPart, DepotPart, FixedEdgesPart, EdgeWeightPart, TourPart, NodePotentialPart, RowPotentialPart, ColumnPotentialPart, FixedPotentialPart, CombPart, BranchPart}
+use Rattle.tsp_format.specs.declared.field.Field.TheVariants.{NameKey, TypeKey, CommentKey, OtherKey, DimensionKey, CapacityKey, ScaleKey, EdgeWeightTypeKey, EdgeWeightFormatKey, NodeCoordTypeKey, DisplayDataTypeKey, NodeCoordPart, DisplayDataPart, DemandPart, DepotPart, FixedEdgesPart, EdgeWeightPart, TourPart, NodePotentialPart, RowPotentialPart, ColumnPotentialPart, FixedEdgePotentialPart, CombPart, BranchPart}
 use Rattle.tsp_format.specs.declared.layout.Layout.{Layout}
 use Rattle.tsp_format.specs.declared.layout.Layout.TheVariants.{FullMatrix, UpperRow, LowerRow, UpperDiagRow, LowerDiagRow, UpperCol, LowerCol, UpperDiagCol, LowerDiagCol}
 use Rattle.tsp_format.specs.declared.kinds.WeightFormat.{WeightFormat}
@@ -96,7 +96,7 @@ each_fits_with f to weights valid fit TourPart = each_fits f valid TourPart
 each_fits_with f to weights valid fit NodePotentialPart = each_fits f valid NodePotentialPart
 each_fits_with f to weights valid fit RowPotentialPart = each_fits f valid RowPotentialPart
 each_fits_with f to weights valid fit ColumnPotentialPart = each_fits f valid ColumnPotentialPart
-each_fits_with f to weights valid fit FixedPotentialPart = each_fits f valid FixedPotentialPart
+each_fits_with f to weights valid fit FixedEdgePotentialPart = each_fits f valid FixedEdgePotentialPart
 each_fits_with f to weights valid fit CombPart = each_fits f valid CombPart
 each_fits_with f to weights valid fit BranchPart = each_fits f valid BranchPart
 

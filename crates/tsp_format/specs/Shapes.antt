@@ -4,7 +4,7 @@ use Rattle.std.specs.Prelude.{Bool, false, cond, Option, None, Some, is_some, �
 use Rattle.tsp_format.specs.declared.field.Field.{Field}
 use Rattle.tsp_format.specs.declared.field.Field.TheVariants.{NameKey, TypeKey, CommentKey, DimensionKey, CapacityKey, ScaleKey}
 use Rattle.tsp_format.specs.declared.field.Field.TheVariants.{EdgeWeightTypeKey, EdgeWeightFormatKey, NodeCoordTypeKey, DisplayDataTypeKey}
-use Rattle.tsp_format.specs.declared.field.Field.TheVariants.{NodeCoordPart, DisplayDataPart, DemandPart, DepotPart, FixedEdgesPart, EdgeWeightPart, TourPart, NodePotentialPart, RowPotentialPart, ColumnPotentialPart, FixedPotentialPart, CombPart, BranchPart}
+use Rattle.tsp_format.specs.declared.field.Field.TheVariants.{NodeCoordPart, DisplayDataPart, DemandPart, DepotPart, FixedEdgesPart, EdgeWeightPart, TourPart, NodePotentialPart, RowPotentialPart, ColumnPotentialPart, FixedEdgePotentialPart, CombPart, BranchPart}
 use Rattle.tsp_format.specs.Limits.{most_nodes, most_capacity, most_scale, most_demand, most_potential}
 use Rattle.tsp_format.specs.declared.field.Shape.{Shape}
 use Rattle.tsp_format.specs.declared.field.Shape.TheVariants.{Numbers, Points, SpacePoints, Depots, Pairs, Weights, Tours, Triples, Combs, Steps}
@@ -23,7 +23,7 @@ shape_of spatial TourPart = Some Tours
 shape_of spatial NodePotentialPart = Some (Numbers (neg_ℤ (pos most_potential)) (pos most_potential))
 shape_of spatial RowPotentialPart = Some (Numbers (neg_ℤ (pos most_potential)) (pos most_potential))
 shape_of spatial ColumnPotentialPart = Some (Numbers (neg_ℤ (pos most_potential)) (pos most_potential))
-shape_of spatial FixedPotentialPart = Some Triples
+shape_of spatial FixedEdgePotentialPart = Some Triples
 shape_of spatial CombPart = Some Combs
 shape_of spatial BranchPart = Some Steps
 shape_of spatial field = None

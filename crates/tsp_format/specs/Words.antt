@@ -75,7 +75,7 @@ field_word field.TourPart = codes "TOUR_SECTION"
 field_word field.NodePotentialPart = codes "NODE_POTENTIAL_SECTION"
 field_word field.RowPotentialPart = codes "ROW_POTENTIAL_SECTION"
 field_word field.ColumnPotentialPart = codes "COLUMN_POTENTIAL_SECTION"
-field_word field.FixedPotentialPart = codes "FIXED_EDGE_POTENTIAL_SECTION"
+field_word field.FixedEdgePotentialPart = codes "FIXED_EDGE_POTENTIAL_SECTION"
 field_word field.CombPart = codes "COMB_SECTION"
 field_word field.BranchPart = codes "BRANCH_SECTION"
 
@@ -172,7 +172,7 @@ fields_in_order = field.NameKey ∷ field.TypeKey ∷ field.CommentKey ∷ field
     ∷ field.ScaleKey ∷ field.EdgeWeightTypeKey ∷ field.EdgeWeightFormatKey ∷ field.NodeCoordTypeKey ∷ field.DisplayDataTypeKey
     ∷ field.NodeCoordPart ∷ field.DisplayDataPart ∷ field.DemandPart ∷ field.DepotPart ∷ field.FixedEdgesPart
     ∷ field.EdgeWeightPart ∷ field.TourPart ∷ field.NodePotentialPart ∷ field.RowPotentialPart ∷ field.ColumnPotentialPart
-    ∷ field.FixedPotentialPart ∷ field.CombPart ∷ field.BranchPart ∷ []
+    ∷ field.FixedEdgePotentialPart ∷ field.CombPart ∷ field.BranchPart ∷ []
 
 pub field_found : (value : Field) → IsFound field_word fields_in_order value
 field_found field.NameKey = refl
@@ -196,6 +196,6 @@ field_found field.TourPart = refl
 field_found field.NodePotentialPart = refl
 field_found field.RowPotentialPart = refl
 field_found field.ColumnPotentialPart = refl
-field_found field.FixedPotentialPart = refl
+field_found field.FixedEdgePotentialPart = refl
 field_found field.CombPart = refl
 field_found field.BranchPart = refl

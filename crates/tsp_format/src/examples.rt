@@ -45,7 +45,7 @@ pub fn examples_of_fields()
     ensures node_potentials { StandsAt 19 fields.NodePotentialPart (codes "NODE_POTENTIAL_SECTION") }
     ensures row_potentials { StandsAt 20 fields.RowPotentialPart (codes "ROW_POTENTIAL_SECTION") }
     ensures column_potentials { StandsAt 21 fields.ColumnPotentialPart (codes "COLUMN_POTENTIAL_SECTION") }
-    ensures fixed_potentials { StandsAt 22 fields.FixedPotentialPart (codes "FIXED_EDGE_POTENTIAL_SECTION") }
+    ensures fixed_potentials { StandsAt 22 fields.FixedEdgePotentialPart (codes "FIXED_EDGE_POTENTIAL_SECTION") }
     ensures combs { StandsAt 23 fields.CombPart (codes "COMB_SECTION") }
     ensures branches { StandsAt 24 fields.BranchPart (codes "BRANCH_SECTION") }
     ensures no_more { length fields_in_order ≡ 24 }

@@ -34,7 +34,7 @@ pub enum Field {
     NodePotentialPart,
     RowPotentialPart,
     ColumnPotentialPart,
-    FixedPotentialPart,
+    FixedEdgePotentialPart,
     CombPart,
     BranchPart,
 }
@@ -101,7 +101,7 @@ impl Field {
         Field::NodePotentialPart,
         Field::RowPotentialPart,
         Field::ColumnPotentialPart,
-        Field::FixedPotentialPart,
+        Field::FixedEdgePotentialPart,
         Field::CombPart,
         Field::BranchPart,
     ];
@@ -127,7 +127,7 @@ impl Field {
                     high: MOST_POTENTIAL,
                 })
             }
-            Field::FixedPotentialPart => Some(Shape::Triples),
+            Field::FixedEdgePotentialPart => Some(Shape::Triples),
             Field::CombPart => Some(Shape::Combs),
             Field::BranchPart => Some(Shape::Steps),
             _ => None,
@@ -197,7 +197,7 @@ impl Word for Field {
             Field::NodePotentialPart => "NODE_POTENTIAL_SECTION",
             Field::RowPotentialPart => "ROW_POTENTIAL_SECTION",
             Field::ColumnPotentialPart => "COLUMN_POTENTIAL_SECTION",
-            Field::FixedPotentialPart => "FIXED_EDGE_POTENTIAL_SECTION",
+            Field::FixedEdgePotentialPart => "FIXED_EDGE_POTENTIAL_SECTION",
             Field::CombPart => "COMB_SECTION",
             Field::BranchPart => "BRANCH_SECTION",
         }

@@ -2,7 +2,7 @@
 use Rattle.std.specs.Prelude.{ℕ, Bool, true, false, cond, ◌&&◌, List, Option, None, Some, ℤ, pos, neg_ℤ}
 use Rattle.std.specs.List.{find, filter}
 use Rattle.tsp_format.specs.declared.field.Field.{Field}
-use Rattle.tsp_format.specs.declared.field.Field.TheVariants.{NameKey, TypeKey, CommentKey, CapacityKey, ScaleKey, EdgeWeightTypeKey, EdgeWeightFormatKey, NodeCoordTypeKey, DisplayDataTypeKey, NodeCoordPart, DisplayDataPart, DemandPart, DepotPart, FixedEdgesPart, EdgeWeightPart, TourPart, NodePotentialPart, RowPotentialPart, ColumnPotentialPart, FixedPotentialPart, CombPart, BranchPart}
+use Rattle.tsp_format.specs.declared.field.Field.TheVariants.{NameKey, TypeKey, CommentKey, CapacityKey, ScaleKey, EdgeWeightTypeKey, EdgeWeightFormatKey, NodeCoordTypeKey, DisplayDataTypeKey, NodeCoordPart, DisplayDataPart, DemandPart, DepotPart, FixedEdgesPart, EdgeWeightPart, TourPart, NodePotentialPart, RowPotentialPart, ColumnPotentialPart, FixedEdgePotentialPart, CombPart, BranchPart}
 use Rattle.tsp_format.specs.Limits.{most_demand, most_potential}
 use Rattle.tsp_draft.specs.declared.fault.EndFault.{EndFault}
 use Rattle.tsp_draft.specs.Fields.{Fields}
@@ -58,7 +58,7 @@ fields_by stands items = record {
   node_potentials = section stands (potentials_in (nodes_of items)) NodePotentialPart items;
   row_potentials = section stands (potentials_in (nodes_of items)) RowPotentialPart items;
   column_potentials = section stands (potentials_in (nodes_of items)) ColumnPotentialPart items;
-  fixed_potentials = section stands (fixed_triples_in (nodes_of items)) FixedPotentialPart items;
+  fixed_potentials = section stands (fixed_triples_in (nodes_of items)) FixedEdgePotentialPart items;
   combs = section stands (combs_in (nodes_of items)) CombPart items;
   branches = section stands (steps_in (nodes_of items)) BranchPart items;
 }

@@ -87,9 +87,9 @@ pub fn faults_at_the_end()
     ensures cut_pair { EndsWith (codes "TYPE : TOUR/DIMENSION : 3/FIXED_EDGES_SECTION/1 2 3/TOUR_SECTION")
         (ends.Incomplete fields.FixedEdgesPart) }
     ensures cut_triple { EndsWith (codes "TYPE : TOUR/DIMENSION : 3/FIXED_EDGE_POTENTIAL_SECTION/1 2 5 3 1/TOUR_SECTION")
-        (ends.Incomplete fields.FixedPotentialPart) }
+        (ends.Incomplete fields.FixedEdgePotentialPart) }
     ensures triple_of_one_word { EndsWith (codes "TYPE : TOUR/DIMENSION : 3/FIXED_EDGE_POTENTIAL_SECTION/1/TOUR_SECTION")
-        (ends.Incomplete fields.FixedPotentialPart) }
+        (ends.Incomplete fields.FixedEdgePotentialPart) }
     ensures cut_set { EndsWith (codes "TYPE : TOUR/DIMENSION : 3/COMB_SECTION/1 2/TOUR_SECTION")
         (ends.Incomplete fields.CombPart) }
     ensures cut_comb { EndsWith (codes "TYPE : TOUR/DIMENSION : 3/COMB_SECTION/1 2 -1/TOUR_SECTION")
@@ -100,6 +100,11 @@ pub fn faults_at_the_end()
     ensures no_steps { EndsWith (codes "TYPE : BRANCHES/DIMENSION : 4/BRANCH_SECTION") (ends.Incomplete fields.BranchPart) }
     ensures triples_alone { MissingAtEnd (codes "TYPE : POTENTIALS/DIMENSION : 3/FIXED_EDGE_POTENTIAL_SECTION/1 3 2 -1")
         fields.NodePotentialPart }
+    ensures triples_with_rows { MissingAtEnd
+        (codes "TYPE : POTENTIALS/DIMENSION : 1/ROW_POTENTIAL_SECTION/1 0/FIXED_EDGE_POTENTIAL_SECTION") fields.ColumnPotentialPart }
+    ensures triples_with_duals { EndsWith
+        (codes "TYPE : POTENTIALS/DIMENSION : 1/ROW_POTENTIAL_SECTION/1 0/COLUMN_POTENTIAL_SECTION/1 0/FIXED_EDGE_POTENTIAL_SECTION")
+        ends.WrongFormat }
     ensures rows_alone { MissingAtEnd (codes "TYPE : POTENTIALS/DIMENSION : 1/ROW_POTENTIAL_SECTION/1 0")
         fields.ColumnPotentialPart }
     ensures space_said_again { MissingAtEnd

@@ -2,7 +2,7 @@
 use Rattle.std.proofs.Common.{◌≡◌, ◌≢◌, Bool, refl, subst, Some, None}
 use Rattle.std.specs.Prelude.{ℤ, pos}
 use Rattle.tsp_format.specs.declared.field.Field.{Field}
-use Rattle.tsp_format.specs.declared.field.Field.TheVariants.{NameKey, TypeKey, CommentKey, OtherKey, DimensionKey, CapacityKey, ScaleKey, EdgeWeightTypeKey, EdgeWeightFormatKey, NodeCoordTypeKey, DisplayDataTypeKey, NodeCoordPart, DisplayDataPart, DemandPart, DepotPart, FixedEdgesPart, EdgeWeightPart, TourPart, NodePotentialPart, RowPotentialPart, ColumnPotentialPart, FixedPotentialPart, CombPart, BranchPart}
+use Rattle.tsp_format.specs.declared.field.Field.TheVariants.{NameKey, TypeKey, CommentKey, OtherKey, DimensionKey, CapacityKey, ScaleKey, EdgeWeightTypeKey, EdgeWeightFormatKey, NodeCoordTypeKey, DisplayDataTypeKey, NodeCoordPart, DisplayDataPart, DemandPart, DepotPart, FixedEdgesPart, EdgeWeightPart, TourPart, NodePotentialPart, RowPotentialPart, ColumnPotentialPart, FixedEdgePotentialPart, CombPart, BranchPart}
 use Rattle.tsp_format.specs.declared.field.ValueShape.{ValueShape}
 use Rattle.tsp_format.specs.declared.field.ValueShape.TheVariants.{Kept, KeptEach, Number, Word}
 use Rattle.tsp_format.specs.Limits.{most_nodes, most_capacity, most_scale}
@@ -38,7 +38,7 @@ by_keyword P p0 p1 p2 p3 p4 p5 p6 p7 p8 p9 TourPart shape e = absurd cc
 by_keyword P p0 p1 p2 p3 p4 p5 p6 p7 p8 p9 NodePotentialPart shape e = absurd cc
 by_keyword P p0 p1 p2 p3 p4 p5 p6 p7 p8 p9 RowPotentialPart shape e = absurd cc
 by_keyword P p0 p1 p2 p3 p4 p5 p6 p7 p8 p9 ColumnPotentialPart shape e = absurd cc
-by_keyword P p0 p1 p2 p3 p4 p5 p6 p7 p8 p9 FixedPotentialPart shape e = absurd cc
+by_keyword P p0 p1 p2 p3 p4 p5 p6 p7 p8 p9 FixedEdgePotentialPart shape e = absurd cc
 by_keyword P p0 p1 p2 p3 p4 p5 p6 p7 p8 p9 CombPart shape e = absurd cc
 by_keyword P p0 p1 p2 p3 p4 p5 p6 p7 p8 p9 BranchPart shape e = absurd cc
 
@@ -99,6 +99,6 @@ unnamed in_space TourPart no_shape no_value = cc
 unnamed in_space NodePotentialPart no_shape no_value = cc
 unnamed in_space RowPotentialPart no_shape no_value = cc
 unnamed in_space ColumnPotentialPart no_shape no_value = cc
-unnamed in_space FixedPotentialPart no_shape no_value = cc
+unnamed in_space FixedEdgePotentialPart no_shape no_value = cc
 unnamed in_space CombPart no_shape no_value = cc
 unnamed in_space BranchPart no_shape no_value = cc

@@ -12,7 +12,7 @@ use Rattle.tsp_format.specs.declared.kinds.WeightFormat.{WeightFormat}
 use Rattle.tsp_format.specs.declared.kinds.CoordKind.{CoordKind}
 use Rattle.tsp_format.specs.declared.kinds.DisplayKind.{DisplayKind}
 use Rattle.tsp_format.specs.declared.field.Field.{Field}
-use Rattle.tsp_format.specs.declared.field.Field.TheVariants.{TypeKey, DimensionKey, CapacityKey, ScaleKey, EdgeWeightTypeKey, EdgeWeightFormatKey, NodeCoordTypeKey, DisplayDataTypeKey, NodeCoordPart, DisplayDataPart, DemandPart, DepotPart, FixedEdgesPart, EdgeWeightPart, TourPart, NodePotentialPart, RowPotentialPart, ColumnPotentialPart, FixedPotentialPart, CombPart, BranchPart}
+use Rattle.tsp_format.specs.declared.field.Field.TheVariants.{TypeKey, DimensionKey, CapacityKey, ScaleKey, EdgeWeightTypeKey, EdgeWeightFormatKey, NodeCoordTypeKey, DisplayDataTypeKey, NodeCoordPart, DisplayDataPart, DemandPart, DepotPart, FixedEdgesPart, EdgeWeightPart, TourPart, NodePotentialPart, RowPotentialPart, ColumnPotentialPart, FixedEdgePotentialPart, CombPart, BranchPart}
 use Rattle.tsp_format.specs.declared.keyword.Keyword.TheVariants.{Known}
 use Rattle.tsp_format.specs.Limits.{most_nodes, most_capacity, most_scale, most_line_bytes}
 use Rattle.tsp_format.specs.Words.{kind_word, weight_kind_word, weight_format_word, coord_kind_word, display_kind_word, kinds, weight_kinds, weight_formats, coord_kinds, display_kinds}
@@ -321,7 +321,7 @@ dimension_field : (earlier : List Item) (line : WordLine) (z : ℤ) → whole_of
     → has_line NodeCoordPart earlier ≡ false → has_line DisplayDataPart earlier ≡ false → has_line DemandPart earlier ≡ false
     → has_line DepotPart earlier ≡ false → has_line FixedEdgesPart earlier ≡ false → has_line EdgeWeightPart earlier ≡ false
     → has_line NodePotentialPart earlier ≡ false → has_line RowPotentialPart earlier ≡ false
-    → has_line ColumnPotentialPart earlier ≡ false → has_line FixedPotentialPart earlier ≡ false → has_line CombPart earlier ≡ false
+    → has_line ColumnPotentialPart earlier ≡ false → has_line FixedEdgePotentialPart earlier ≡ false → has_line CombPart earlier ≡ false
     → has_line BranchPart earlier ≡ false
     → (let fields = fields_by (λ field. has_line field earlier) earlier in record fields { dimension = Some (nat_abs z) })
     ≡ fields_by (is_closed (Line (Known DimensionKey) line ∷ earlier)) (Line (Known DimensionKey) line ∷ earlier)
@@ -331,7 +331,7 @@ dimension_field earlier line z read c0 c1 c2 c3 c4 c5 c6 c7 c8 c9 c10 c11 =
 dimension_first : (earlier : List Item) (line : WordLine) → has_line NodeCoordPart earlier ≡ false → has_line DisplayDataPart earlier ≡ false
     → has_line DemandPart earlier ≡ false → has_line DepotPart earlier ≡ false → has_line FixedEdgesPart earlier ≡ false
     → has_line EdgeWeightPart earlier ≡ false → has_line NodePotentialPart earlier ≡ false → has_line RowPotentialPart earlier ≡ false
-    → has_line ColumnPotentialPart earlier ≡ false → has_line FixedPotentialPart earlier ≡ false
+    → has_line ColumnPotentialPart earlier ≡ false → has_line FixedEdgePotentialPart earlier ≡ false
     → has_line CombPart earlier ≡ false → has_line BranchPart earlier ≡ false
     → first_incomplete earlier ≡ find (is_closed_incomplete (Line (Known DimensionKey) line ∷ earlier)) sections_in_order
 dimension_first earlier line c0 c1 c2 c3 c4 c5 c6 c7 c8 c9 c10 c11 = rw (c0, c1, c2, c3, c4, c5, c6, c7, c8, c9, c10, c11) refl
@@ -357,11 +357,11 @@ dimension_taken old new line z gives is same_first same_part earlier h short =
           ∙ dimension_field earlier line z gives.2 (none NodeCoordPart refl refl) (none DisplayDataPart refl refl)
           (none DemandPart refl refl) (none DepotPart refl refl) (none FixedEdgesPart refl refl) (none EdgeWeightPart refl refl)
           (none NodePotentialPart refl refl) (none RowPotentialPart refl refl) (none ColumnPotentialPart refl refl)
-          (none FixedPotentialPart refl refl) (none CombPart refl refl) (none BranchPart refl refl);
+          (none FixedEdgePotentialPart refl refl) (none CombPart refl refl) (none BranchPart refl refl);
       incomplete = same_first ∙ h.incomplete ∙ dimension_first earlier line (none NodeCoordPart refl refl)
           (none DisplayDataPart refl refl) (none DemandPart refl refl) (none DepotPart refl refl) (none FixedEdgesPart refl refl)
           (none EdgeWeightPart refl refl) (none NodePotentialPart refl refl) (none RowPotentialPart refl refl)
-          (none ColumnPotentialPart refl refl) (none FixedPotentialPart refl refl) (none CombPart refl refl)
+          (none ColumnPotentialPart refl refl) (none FixedEdgePotentialPart refl refl) (none CombPart refl refl)
           (none BranchPart refl refl);
       part = still_none old new (Line (Known DimensionKey) line ∷ earlier) refl same_part h.part;
     }

@@ -1,7 +1,7 @@
 -- The text of each field of a valid file, read after the texts of the fields before it.
 use Rattle.std.proofs.Common.{◌≡◌, true, cond, List, refl}
 use Rattle.tsp_format.specs.declared.field.Field.{Field}
-use Rattle.tsp_format.specs.declared.field.Field.TheVariants.{NameKey, TypeKey, CommentKey, OtherKey, DimensionKey, CapacityKey, ScaleKey, EdgeWeightTypeKey, EdgeWeightFormatKey, NodeCoordTypeKey, DisplayDataTypeKey, NodeCoordPart, DisplayDataPart, DemandPart, DepotPart, FixedEdgesPart, EdgeWeightPart, TourPart, NodePotentialPart, RowPotentialPart, ColumnPotentialPart, FixedPotentialPart, CombPart, BranchPart}
+use Rattle.tsp_format.specs.declared.field.Field.TheVariants.{NameKey, TypeKey, CommentKey, OtherKey, DimensionKey, CapacityKey, ScaleKey, EdgeWeightTypeKey, EdgeWeightFormatKey, NodeCoordTypeKey, DisplayDataTypeKey, NodeCoordPart, DisplayDataPart, DemandPart, DepotPart, FixedEdgesPart, EdgeWeightPart, TourPart, NodePotentialPart, RowPotentialPart, ColumnPotentialPart, FixedEdgePotentialPart, CombPart, BranchPart}
 use Rattle.tsp_format.specs.declared.field.Shape.TheVariants.{Points, SpacePoints, Depots, Pairs, Weights, Tours, Triples, Combs, Steps}
 use Rattle.tsp_draft.specs.Fields.{Fields, spatial}
 use Rattle.tsp_draft.specs.Validity.{fits}
@@ -34,6 +34,6 @@ field_step laws f valid TourPart earlier ready = section_step laws f valid TourP
 field_step laws f valid NodePotentialPart earlier ready = section_step laws f valid NodePotentialPart _ refl earlier ready
 field_step laws f valid RowPotentialPart earlier ready = section_step laws f valid RowPotentialPart _ refl earlier ready
 field_step laws f valid ColumnPotentialPart earlier ready = section_step laws f valid ColumnPotentialPart _ refl earlier ready
-field_step laws f valid FixedPotentialPart earlier ready = section_step laws f valid FixedPotentialPart Triples refl earlier ready
+field_step laws f valid FixedEdgePotentialPart earlier ready = section_step laws f valid FixedEdgePotentialPart Triples refl earlier ready
 field_step laws f valid CombPart earlier ready = section_step laws f valid CombPart Combs refl earlier ready
 field_step laws f valid BranchPart earlier ready = section_step laws f valid BranchPart Steps refl earlier ready

@@ -8,7 +8,7 @@ use Rattle.std.proofs.lemmas.Bool.{true≢false, false≢true, le-leb, leb-true,
 use Rattle.std.proofs.lemmas.List.{length_push, length-map, length-take-le, take_all, take-append-le, map_push}
 use Rattle.tsp_number.specs.Reading.{whole_of}
 use Rattle.tsp_format.specs.declared.field.Field.{Field}
-use Rattle.tsp_format.specs.declared.field.Field.TheVariants.{NameKey, TypeKey, CommentKey, OtherKey, DimensionKey, CapacityKey, ScaleKey, EdgeWeightTypeKey, EdgeWeightFormatKey, NodeCoordTypeKey, DisplayDataTypeKey, NodeCoordPart, DisplayDataPart, DemandPart, DepotPart, FixedEdgesPart, EdgeWeightPart, TourPart, NodePotentialPart, RowPotentialPart, ColumnPotentialPart, FixedPotentialPart, CombPart, BranchPart}
+use Rattle.tsp_format.specs.declared.field.Field.TheVariants.{NameKey, TypeKey, CommentKey, OtherKey, DimensionKey, CapacityKey, ScaleKey, EdgeWeightTypeKey, EdgeWeightFormatKey, NodeCoordTypeKey, DisplayDataTypeKey, NodeCoordPart, DisplayDataPart, DemandPart, DepotPart, FixedEdgesPart, EdgeWeightPart, TourPart, NodePotentialPart, RowPotentialPart, ColumnPotentialPart, FixedEdgePotentialPart, CombPart, BranchPart}
 use Rattle.tsp_format.specs.Limits.{most_demand, most_potential}
 use Rattle.tsp_items.specs.declared.fault.LineFault.TheVariants as row
 use Rattle.tsp_items.specs.Numbers.{number, node}
@@ -299,6 +299,6 @@ each_once items TourPart clean by_node = absurd (false≢true by_node)
 each_once items NodePotentialPart clean by_node = numbers_once items NodePotentialPart (neg_ℤ (pos most_potential)) (pos most_potential) refl refl (λ b n words. refl) clean
 each_once items RowPotentialPart clean by_node = numbers_once items RowPotentialPart (neg_ℤ (pos most_potential)) (pos most_potential) refl refl (λ b n words. refl) clean
 each_once items ColumnPotentialPart clean by_node = numbers_once items ColumnPotentialPart (neg_ℤ (pos most_potential)) (pos most_potential) refl refl (λ b n words. refl) clean
-each_once items FixedPotentialPart clean by_node = absurd (false≢true by_node)
+each_once items FixedEdgePotentialPart clean by_node = absurd (false≢true by_node)
 each_once items CombPart clean by_node = absurd (false≢true by_node)
 each_once items BranchPart clean by_node = absurd (false≢true by_node)

@@ -3,7 +3,7 @@ use Rattle.std.proofs.Common.{◌≡◌, Bool, true, false, cond, List, ◌∷�
 use Rattle.std.specs.Prelude.{ℕ, nat_lt, is_some}
 use Rattle.std.specs.Option.{option_map_or}
 use Rattle.tsp_format.specs.declared.field.Field.{Field}
-use Rattle.tsp_format.specs.declared.field.Field.TheVariants.{NameKey, TypeKey, CommentKey, OtherKey, DimensionKey, CapacityKey, ScaleKey, EdgeWeightTypeKey, EdgeWeightFormatKey, NodeCoordTypeKey, DisplayDataTypeKey, NodeCoordPart, DisplayDataPart, DemandPart, DepotPart, FixedEdgesPart, EdgeWeightPart, TourPart, NodePotentialPart, RowPotentialPart, ColumnPotentialPart, FixedPotentialPart, CombPart, BranchPart}
+use Rattle.tsp_format.specs.declared.field.Field.TheVariants.{NameKey, TypeKey, CommentKey, OtherKey, DimensionKey, CapacityKey, ScaleKey, EdgeWeightTypeKey, EdgeWeightFormatKey, NodeCoordTypeKey, DisplayDataTypeKey, NodeCoordPart, DisplayDataPart, DemandPart, DepotPart, FixedEdgesPart, EdgeWeightPart, TourPart, NodePotentialPart, RowPotentialPart, ColumnPotentialPart, FixedEdgePotentialPart, CombPart, BranchPart}
 use Rattle.tsp_format.specs.declared.keyword.Keyword.TheVariants.{Known}
 use Rattle.tsp_format.specs.declared.field.Shape.{Shape}
 use Rattle.tsp_format.specs.declared.field.Shape.TheVariants.{Points, SpacePoints}
@@ -20,7 +20,7 @@ use Rattle.tsp_items.specs.Spells.{fields_by}
 
 -- what holds of each section holds of every field that is one
 pub by_section : (P : Field → Type 0) → P NodeCoordPart → P DisplayDataPart → P DemandPart → P DepotPart → P FixedEdgesPart
-    → P EdgeWeightPart → P TourPart → P NodePotentialPart → P RowPotentialPart → P ColumnPotentialPart → P FixedPotentialPart
+    → P EdgeWeightPart → P TourPart → P NodePotentialPart → P RowPotentialPart → P ColumnPotentialPart → P FixedEdgePotentialPart
     → P CombPart → P BranchPart
     → (f : Field) → is_section_field f ≡ true → P f
 by_section P p0 p1 p2 p3 p4 p5 p6 p7 p8 p9 p10 p11 p12 NameKey e = cc
@@ -44,7 +44,7 @@ by_section P p0 p1 p2 p3 p4 p5 p6 p7 p8 p9 p10 p11 p12 TourPart e = p6
 by_section P p0 p1 p2 p3 p4 p5 p6 p7 p8 p9 p10 p11 p12 NodePotentialPart e = p7
 by_section P p0 p1 p2 p3 p4 p5 p6 p7 p8 p9 p10 p11 p12 RowPotentialPart e = p8
 by_section P p0 p1 p2 p3 p4 p5 p6 p7 p8 p9 p10 p11 p12 ColumnPotentialPart e = p9
-by_section P p0 p1 p2 p3 p4 p5 p6 p7 p8 p9 p10 p11 p12 FixedPotentialPart e = p10
+by_section P p0 p1 p2 p3 p4 p5 p6 p7 p8 p9 p10 p11 p12 FixedEdgePotentialPart e = p10
 by_section P p0 p1 p2 p3 p4 p5 p6 p7 p8 p9 p10 p11 p12 CombPart e = p11
 by_section P p0 p1 p2 p3 p4 p5 p6 p7 p8 p9 p10 p11 p12 BranchPart e = p12
 
@@ -71,7 +71,7 @@ section_of in_space TourPart shape e = refl
 section_of in_space NodePotentialPart shape e = refl
 section_of in_space RowPotentialPart shape e = refl
 section_of in_space ColumnPotentialPart shape e = refl
-section_of in_space FixedPotentialPart shape e = refl
+section_of in_space FixedEdgePotentialPart shape e = refl
 section_of in_space CombPart shape e = refl
 section_of in_space BranchPart shape e = refl
 
@@ -106,7 +106,7 @@ standing earlier = by_section (λ f. stands_in (fields_by (λ field. has_line fi
     (some_cond (has_line FixedEdgesPart earlier) _) (some_cond (has_line EdgeWeightPart earlier) _)
     (some_cond (has_line TourPart earlier) _) (some_cond (has_line NodePotentialPart earlier) _)
     (some_cond (has_line RowPotentialPart earlier) _) (some_cond (has_line ColumnPotentialPart earlier) _)
-    (some_cond (has_line FixedPotentialPart earlier) _) (some_cond (has_line CombPart earlier) _)
+    (some_cond (has_line FixedEdgePotentialPart earlier) _) (some_cond (has_line CombPart earlier) _)
     (some_cond (has_line BranchPart earlier) _)
 
 -- the number of nodes stays, and whether the file is spatial

@@ -2,7 +2,7 @@
 use Rattle.std.proofs.Common.{◌≡◌, ℕ, Bool, true, false, cond, List, [], ◌∷◌, refl, ap, ◌∙◌, Option, Some, None}
 use Rattle.std.specs.Prelude.{not, ◌&&◌, ◌||◌, pos, neg_ℤ}
 use Rattle.tsp_format.specs.declared.field.Field.{Field}
-use Rattle.tsp_format.specs.declared.field.Field.TheVariants.{NameKey, TypeKey, CommentKey, OtherKey, DimensionKey, CapacityKey, ScaleKey, EdgeWeightTypeKey, EdgeWeightFormatKey, NodeCoordTypeKey, DisplayDataTypeKey, NodeCoordPart, DisplayDataPart, DemandPart, DepotPart, FixedEdgesPart, EdgeWeightPart, TourPart, NodePotentialPart, RowPotentialPart, ColumnPotentialPart, FixedPotentialPart, CombPart, BranchPart}
+use Rattle.tsp_format.specs.declared.field.Field.TheVariants.{NameKey, TypeKey, CommentKey, OtherKey, DimensionKey, CapacityKey, ScaleKey, EdgeWeightTypeKey, EdgeWeightFormatKey, NodeCoordTypeKey, DisplayDataTypeKey, NodeCoordPart, DisplayDataPart, DemandPart, DepotPart, FixedEdgesPart, EdgeWeightPart, TourPart, NodePotentialPart, RowPotentialPart, ColumnPotentialPart, FixedEdgePotentialPart, CombPart, BranchPart}
 use Rattle.tsp_format.specs.Limits.{most_demand, most_potential}
 use Rattle.tsp_format.specs.Words.{fields_in_order}
 use Rattle.std.specs.Option.{option_or, option_map}
@@ -88,7 +88,7 @@ each_fits items cut clean whole RowPotentialPart = section_fits (is_by_node (is_
     items clean (λ there. potentials_fit (nodes_of items) (words_of RowPotentialPart items))
 each_fits items cut clean whole ColumnPotentialPart = section_fits (is_by_node (is_within most_potential)) (potentials_in (nodes_of items)) ColumnPotentialPart refl
     refl items clean (λ there. potentials_fit (nodes_of items) (words_of ColumnPotentialPart items))
-each_fits items cut clean whole FixedPotentialPart = section_fits are_triples (fixed_triples_in (nodes_of items)) FixedPotentialPart refl refl items clean (λ there. triples_fit items clean)
+each_fits items cut clean whole FixedEdgePotentialPart = section_fits are_triples (fixed_triples_in (nodes_of items)) FixedEdgePotentialPart refl refl items clean (λ there. triples_fit items clean)
 each_fits items cut clean whole CombPart = section_fits are_combs (combs_in (nodes_of items)) CombPart refl refl items clean (λ there. combs_fit items clean)
 each_fits items cut clean whole BranchPart = section_fits are_steps (steps_in (nodes_of items)) BranchPart refl refl items clean
     (λ there. steps_fit items clean (wants_none (has_line BranchPart items) (wants_more (place_of_step (nodes_of items) (words_of BranchPart items))) there whole))

@@ -6,7 +6,7 @@ use Rattle.std.specs.Result.{result_err}
 use Rattle.std.proofs.lemmas.Bool.{true≢false, false≢true, and_from}
 use Rattle.std.proofs.lemmas.List.{length-map, map_push}
 use Rattle.tsp_number.specs.Reading.{whole_of}
-use Rattle.tsp_format.specs.declared.field.Field.TheVariants.{FixedPotentialPart}
+use Rattle.tsp_format.specs.declared.field.Field.TheVariants.{FixedEdgePotentialPart}
 use Rattle.tsp_format.specs.Limits.{most_fixed, most_multipliers, most_multiplier}
 use Rattle.tsp_draft.specs.Validity.{is_from_to, is_pair, is_triple, are_triples}
 use Rattle.tsp_items.specs.Items.{Item}
@@ -136,14 +136,14 @@ taken n words word false (first ∷ second ∷ third ∷ rest) e is row held = a
 nothing_begun : (first : List ℕ) (rest : List (List ℕ)) → (let none : List (List ℕ) = [] in none ≡ first ∷ rest) → ⊥
 nothing_begun first rest e = cc
 
-all_taken : Grows false FixedPotentialPart AreTripled
+all_taken : Grows false FixedEdgePotentialPart AreTripled
 all_taken = record {
   none = λ n. record { triples = refl; begun = λ none first rest e. absurd (nothing_begun first rest e) };
   more = λ b same n words word held row. taken n words word (list_any (is_end n) (triple_firsts_in words)) (begun_triple words) refl refl row held;
   any_nodes = λ n m words tours held. absurd (false≢true tours);
 }
 
-pub triples_fit : (items : List Item) → IsClean items → are_triples (nodes_of items) (fixed_triples_in (nodes_of items) (words_of FixedPotentialPart items)) ≡ true
+pub triples_fit : (items : List Item) → IsClean items → are_triples (nodes_of items) (fixed_triples_in (nodes_of items) (words_of FixedEdgePotentialPart items)) ≡ true
 triples_fit items clean =
-    let held : AreTripled (nodes_of items) (words_of FixedPotentialPart items) = grown FixedPotentialPart AreTripled refl all_taken items clean in
+    let held : AreTripled (nodes_of items) (words_of FixedEdgePotentialPart items) = grown FixedEdgePotentialPart AreTripled refl all_taken items clean in
     held.triples

@@ -16,7 +16,7 @@ use Rattle.tsp_format.specs.declared.field.Field.{Field}
 use Rattle.tsp_format.specs.declared.field.Shape.{Shape}
 use Rattle.tsp_format.specs.declared.field.Shape.TheVariants.{Numbers, Points, SpacePoints, Depots, Pairs, Weights, Tours, Triples, Combs, Steps}
 use Rattle.tsp_format.specs.Shapes.{shape_of}
-use Rattle.tsp_format.specs.declared.field.Field.TheVariants.{NameKey, TypeKey, CommentKey, OtherKey, DimensionKey, CapacityKey, ScaleKey, EdgeWeightTypeKey, EdgeWeightFormatKey, NodeCoordTypeKey, DisplayDataTypeKey, NodeCoordPart, DisplayDataPart, DemandPart, DepotPart, FixedEdgesPart, EdgeWeightPart, TourPart, NodePotentialPart, RowPotentialPart, ColumnPotentialPart, FixedPotentialPart, CombPart, BranchPart}
+use Rattle.tsp_format.specs.declared.field.Field.TheVariants.{NameKey, TypeKey, CommentKey, OtherKey, DimensionKey, CapacityKey, ScaleKey, EdgeWeightTypeKey, EdgeWeightFormatKey, NodeCoordTypeKey, DisplayDataTypeKey, NodeCoordPart, DisplayDataPart, DemandPart, DepotPart, FixedEdgesPart, EdgeWeightPart, TourPart, NodePotentialPart, RowPotentialPart, ColumnPotentialPart, FixedEdgePotentialPart, CombPart, BranchPart}
 use Rattle.tsp_format.specs.Limits.{most_nodes, most_matrix_nodes, most_coordinate, most_weight, most_demand, most_capacity, most_scale, most_potential, most_comments, most_others, most_depots, most_fixed, most_multipliers, most_multiplier, most_tour_nodes}
 use Rattle.tsp_format.specs.Words.{field_word, kind_word, weight_kind_word, weight_format_word, coord_kind_word, display_kind_word, fields_in_order}
 use Rattle.tsp_draft.specs.Fields.{Fields, spatial, numbers_in, points_in}
@@ -259,7 +259,7 @@ field_short f fit TourPart = shape_short f TourPart Tours refl (fit DimensionKey
 field_short f fit NodePotentialPart = shape_short f NodePotentialPart (Numbers (neg_ℤ (pos most_potential)) (pos most_potential)) refl (fit DimensionKey) (fit NodePotentialPart)
 field_short f fit RowPotentialPart = shape_short f RowPotentialPart (Numbers (neg_ℤ (pos most_potential)) (pos most_potential)) refl (fit DimensionKey) (fit RowPotentialPart)
 field_short f fit ColumnPotentialPart = shape_short f ColumnPotentialPart (Numbers (neg_ℤ (pos most_potential)) (pos most_potential)) refl (fit DimensionKey) (fit ColumnPotentialPart)
-field_short f fit FixedPotentialPart = shape_short f FixedPotentialPart Triples refl (fit DimensionKey) (fit FixedPotentialPart)
+field_short f fit FixedEdgePotentialPart = shape_short f FixedEdgePotentialPart Triples refl (fit DimensionKey) (fit FixedEdgePotentialPart)
 field_short f fit CombPart = shape_short f CombPart Combs refl (fit DimensionKey) (fit CombPart)
 field_short f fit BranchPart = shape_short f BranchPart Steps refl (fit DimensionKey) (fit BranchPart)
 

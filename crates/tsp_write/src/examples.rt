@@ -35,7 +35,7 @@ pub fn examples_of_sections()
     ensures node_potentials { IsWritten fields.NodePotentialPart (codes "NODE_POTENTIAL_SECTION\n1 0\n2 -2\n") }
     ensures row_potentials { IsWritten fields.RowPotentialPart (codes "ROW_POTENTIAL_SECTION\n1 1\n2 2\n") }
     ensures column_potentials { IsWritten fields.ColumnPotentialPart (codes "COLUMN_POTENTIAL_SECTION\n1 3\n2 4\n") }
-    ensures fixed_potentials { IsWritten fields.FixedPotentialPart (codes "FIXED_EDGE_POTENTIAL_SECTION\n1 2 7\n-1\n") }
+    ensures fixed_potentials { IsWritten fields.FixedEdgePotentialPart (codes "FIXED_EDGE_POTENTIAL_SECTION\n1 2 7\n-1\n") }
     ensures combs { IsWritten fields.CombPart (codes "COMB_SECTION\n1 2 3 -1\n1 4 -1\n-1\n2 -1\n-1\n-1\n") }
     ensures branches { IsWritten fields.BranchPart (codes "BRANCH_SECTION\n1 2\n0 2 1 7 -3 -1\n0 -1\n") }
     ensures no_combs { text_of_field without_combs fields.CombPart ≡ codes "COMB_SECTION\n-1\n" }
