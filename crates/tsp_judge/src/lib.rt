@@ -12,6 +12,7 @@ mod examples;
 mod fault;
 mod file;
 mod show;
+mod status;
 
 pub use bound_check::{run_bound_check, run_bound_verdict};
 pub use branch_check::{run_branch_check, run_branch_verdict};
@@ -20,6 +21,7 @@ pub use convert::run_convert;
 pub use examples::{examples_of_answers, examples_of_certificates};
 pub use fault::RunFault;
 pub use show::run_show;
+pub use status::status_of;
 pub use tsp_draft::EndFault;
 pub use tsp_file::RelayoutFault;
 pub use tsp_format::Layout;

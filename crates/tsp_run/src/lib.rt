@@ -12,7 +12,7 @@ mod explained;
 mod running;
 mod source;
 
-pub use ending::{Ending, Line, line_of, status_of, tell};
+pub use ending::{Ending, Line, line_of, status_of_ending, tell};
 pub use engines::perform;
 pub use examples::examples_of_statuses;
 pub use running::{run, tell_unread};
