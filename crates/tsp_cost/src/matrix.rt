@@ -71,7 +71,7 @@ impl<'a> Matrix<'a> {
 
     /// The first pair, the smaller node first, by rows, whose two costs differ.
     ///
-    /// Most matrices that come here are even, and show it by blocks: going by rows cycles down a
+    /// Most matrices that come here are even, and show it by blocks: going by rows steps down a
     /// column of the whole matrix for each, so it is left to those that aren't.
     pub(crate) fn first_asymmetric(&self) -> Option<(u32, u32)>
         ensures { FindsAsymmetric (matrix_nodes self.now) (matrix_cost self.now) result }

@@ -118,7 +118,7 @@ impl<'a> ListedWeights<'a> {
 
     /// The first pair, the smaller node first, by rows, whose two costs differ.
     ///
-    /// Most matrices that come here are even, and show it by blocks: going by rows cycles down a
+    /// Most matrices that come here are even, and show it by blocks: going by rows steps down a
     /// column of the whole matrix for each, so it is left to those that aren't.
     fn first_asymmetric(&self) -> Option<(u32, u32)>
         requires { self.now.layout ≡ FullMatrix }

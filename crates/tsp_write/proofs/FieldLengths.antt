@@ -1,11 +1,12 @@
 -- How long the text of each field of a valid file is at most, and all of it.
-use Rattle.std.proofs.Common.{◌≡◌, ℕ, ◌+◌, ◌*◌, ◌<◌, ◌≤◌, Bool, true, false, cond, List, [], ◌∷◌, ◌++◌, length, Option, None, Some, arith, refl, ℤ, pos, length-append}
+use Rattle.std.proofs.Common.{sym, ◌≡◌, ℕ, ◌+◌, ◌*◌, ◌<◌, ◌≤◌, Bool, true, false, cond, List, [], ◌∷◌, ◌++◌, length, Option, None, Some, arith, refl, ℤ, pos, length-append}
 use Rattle.std.specs.Prelude.{not, ◌==◌, ◌&&◌, nat_le, neg_ℤ, unsigned_abs, codes}
 use Rattle.std.specs.List.{flat_map, list_all, sum_by}
 use Rattle.std.specs.Option.{option_map_or}
 use Rattle.std.specs.Ordering.{int_eq}
 use Rattle.std.specs.Fmt.{decimal, signed_decimal}
 use Rattle.std.proofs.lemmas.Bool.{and_parts, leb-true, eqb-true, false≢true}
+use Rattle.std.proofs.lemmas.Option.{none-some}
 use Rattle.std.proofs.lemmas.List.Concat.{length-flat_map}
 use Rattle.std.proofs.lemmas.List.Sums.{sum_by-le-sum_by}
 use Rattle.std.proofs.Math.Nat.{mul-le-mul}
@@ -267,4 +268,49 @@ pub text_short : (f : Fields) → fault_of f ≡ None → length (text_of f) < 7
 text_short f none =
     let fields = sum_by-le-sum_by (λ field. length (text_of_field f field)) most_bytes fields_in_order (field_short f (all_fit f none)) in
     let total : sum_by most_bytes fields_in_order ≤ 710000000 = omega arith in
+    omega (arith, length-append (flat_map (text_of_field f) fields_in_order) (codes "EOF" ++ line_end), length-flat_map (text_of_field f) fields_in_order, fields, total)
+
+-- ---- a file without combs and branches
+
+abbrev most_without_trees : Field → ℕ
+most_without_trees CombPart = 0
+most_without_trees BranchPart = 0
+most_without_trees field = most_bytes field
+
+absent_short : {A : Type 0} (text : A → List ℕ) (value : Option A) → value ≡ None → length (optional text value) ≤ 0
+absent_short text None none = omega arith
+absent_short {A = A} text (Some _) none = absurd (none-some _ (sym none))
+
+field_short_without_trees : (f : Fields) → ((field : Field) → fits f field ≡ true) → f.combs ≡ None → f.branches ≡ None → (field : Field)
+    → length (text_of_field f field) ≤ most_without_trees field
+field_short_without_trees f fit combs branches CombPart = absent_short (λ combs. section CombPart (comb_list combs)) f.combs combs
+field_short_without_trees f fit combs branches BranchPart = absent_short (λ steps. section BranchPart (step_lines steps)) f.branches branches
+field_short_without_trees f fit combs branches NameKey = field_short f fit NameKey
+field_short_without_trees f fit combs branches TypeKey = field_short f fit TypeKey
+field_short_without_trees f fit combs branches CommentKey = field_short f fit CommentKey
+field_short_without_trees f fit combs branches OtherKey = field_short f fit OtherKey
+field_short_without_trees f fit combs branches DimensionKey = field_short f fit DimensionKey
+field_short_without_trees f fit combs branches CapacityKey = field_short f fit CapacityKey
+field_short_without_trees f fit combs branches ScaleKey = field_short f fit ScaleKey
+field_short_without_trees f fit combs branches EdgeWeightTypeKey = field_short f fit EdgeWeightTypeKey
+field_short_without_trees f fit combs branches EdgeWeightFormatKey = field_short f fit EdgeWeightFormatKey
+field_short_without_trees f fit combs branches NodeCoordTypeKey = field_short f fit NodeCoordTypeKey
+field_short_without_trees f fit combs branches DisplayDataTypeKey = field_short f fit DisplayDataTypeKey
+field_short_without_trees f fit combs branches NodeCoordPart = field_short f fit NodeCoordPart
+field_short_without_trees f fit combs branches DisplayDataPart = field_short f fit DisplayDataPart
+field_short_without_trees f fit combs branches DemandPart = field_short f fit DemandPart
+field_short_without_trees f fit combs branches DepotPart = field_short f fit DepotPart
+field_short_without_trees f fit combs branches FixedEdgesPart = field_short f fit FixedEdgesPart
+field_short_without_trees f fit combs branches EdgeWeightPart = field_short f fit EdgeWeightPart
+field_short_without_trees f fit combs branches TourPart = field_short f fit TourPart
+field_short_without_trees f fit combs branches NodePotentialPart = field_short f fit NodePotentialPart
+field_short_without_trees f fit combs branches RowPotentialPart = field_short f fit RowPotentialPart
+field_short_without_trees f fit combs branches ColumnPotentialPart = field_short f fit ColumnPotentialPart
+field_short_without_trees f fit combs branches FixedEdgePotentialPart = field_short f fit FixedEdgePotentialPart
+
+pub text_short_without_trees : (f : Fields) → fault_of f ≡ None → f.combs ≡ None → f.branches ≡ None → length (text_of f) < 500000000
+text_short_without_trees f none combs branches =
+    let fields = sum_by-le-sum_by (λ field. length (text_of_field f field)) most_without_trees fields_in_order
+    (field_short_without_trees f (all_fit f none) combs branches) in
+    let total : sum_by most_without_trees fields_in_order ≤ 440000000 = omega arith in
     omega (arith, length-append (flat_map (text_of_field f) fields_in_order) (codes "EOF" ++ line_end), length-flat_map (text_of_field f) fields_in_order, fields, total)

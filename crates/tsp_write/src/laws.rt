@@ -8,7 +8,9 @@ ghost use Rattle.tsp_write.specs.Text.{text_of};
 /// The canonical text of every valid file has fewer than 750,000,000 bytes. This follows from the
 /// limits of this project's profile: the most that a file can hold is a matrix of 5,000 * 5,000
 /// weights, each of at most 14 bytes and one after it, and a tree with 10,000,000 differences, each
-/// with its index in at most 25 bytes.
+/// with its index in at most 25 bytes. Without combs and branches it has fewer than 500,000,000.
 pub fn a_valid_text_is_short()
-    ensures { (f : Fields) → fault_of f ≡ None → length (text_of f) < 750000000 }
+    ensures whole { (f : Fields) → fault_of f ≡ None → length (text_of f) < 750000000 }
+    ensures without_trees { (f : Fields) → fault_of f ≡ None → f.combs ≡ None → f.branches ≡ None
+        → length (text_of f) < 500000000 }
 {}

@@ -16,7 +16,7 @@ pub returns-clause-spelled : goal.returns-clause-spelled
 returns-clause-spelled c =
     let numbers = c.written_numbers_are_read_back.ensures in
     let laws : NumberLaws = record { whole_back = numbers.whole; decimal_back = numbers.coordinate } in
-    λ f valid. text_spelled laws f valid (c.a_valid_text_is_short.ensures f valid)
+    λ f valid. text_spelled laws f valid (c.a_valid_text_is_short.ensures.whole f valid)
 
 pub returns-clause-alone : goal.returns-clause-alone
 returns-clause-alone c =
