@@ -19,3 +19,4 @@ pub use tsp_draft::{
     Coords, Draft, DraftFault, EndFault, bad_field, end_fault, is_kept, valid_fields_are_in_range,
     valid_files_are_complete,
 };
+pub use weights::first_asymmetric;

@@ -24,7 +24,7 @@ use crate::multiplied::{first_repeated_pair, first_unlisted};
 use std::alloc::{AllocError, Global};
 use tsp_bound::{
     Duals, Multipliers, Potentials, adjusted_bounds_bound_cycles, dual_bound, duals_bound_cycles,
-    one_tree,
+    one_tree_in_space,
 };
 use tsp_cost::{Costs, Grouped, Instance, View};
 use tsp_draft::valid_fields_are_in_range;
@@ -247,7 +247,7 @@ fn tree_bound<C: Grouped>(
     ensures { IfOk result (λ bound. IsCertifiedByPotentials inst.now pot.now bound) }
 {
     adjusted_bounds_bound_cycles();
-    match one_tree(alloc, c, &potentials_of(pot), &multipliers_of(pot)) {
+    match one_tree_in_space(alloc, c, &potentials_of(pot), &multipliers_of(pot)) {
         Ok(found) => Ok(found.bound),
         Err(refused) => Err(refused),
     }

@@ -7,7 +7,7 @@ use Rattle.tsp_theory.specs.Tree.{weight_of, IsLeastOneTree}
 use Rattle.tsp_theory.specs.Adjusted.{total_of, IsAdjustedBoundOf, IsAdjustedBound}
 use Rattle.tsp_bound.specs.Multipliers.{weight_less}
 use Rattle.tsp_theory.proofs.Weights.{sum_of_bound, bound_of_weight, tree_same}
-use Rattle.tsp_bound.proofs.tree.one_tree.Goals as goal
+use Rattle.tsp_bound.proofs.tree.one_tree_in_space.Goals as goal
 
 pub least_bound-bound-requires-clause-size : goal.least_bound-bound-requires-clause-size
 least_bound-bound-requires-clause-size g c =
