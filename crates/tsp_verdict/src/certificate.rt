@@ -244,11 +244,7 @@ fn assignment_bound<C: Costs>(inst: &Instance, pot: &File, c: &C) -> Result<i128
 }
 
 /// The bound that the potentials of a certificate give an instance of TYPE TSP.
-fn bound_of_potentials(
-    alloc: Global,
-    inst: &Instance,
-    pot: &File,
-) -> Result<i128, AllocError>
+fn bound_of_potentials(alloc: Global, inst: &Instance, pot: &File) -> Result<i128, AllocError>
     requires kind { inst.now.kind ≡ Some kinds.Tsp }
     requires some { 3 ≤ nodes_of inst.now }
     requires count { nodes_of pot.now ≡ nodes_of inst.now }

@@ -1,4 +1,5 @@
-use Rattle.std.proofs.Common.{◌≡◌, Err, [], refl}
+use Rattle.std.proofs.Common.{◌≡◌, Err, [], refl, sym, subst}
+use Rattle.tsp_read.specs.Reads.{IsFile}
 use Rattle.std.proofs.KnownBytes.{Keeps-refl}
 use Rattle.tsp_stream.specs.Turn.{turn_of}
 use Rattle.tsp_judge.proofs.HandedOn.{handed_on}
@@ -27,7 +28,7 @@ returns-in_err-instance g c =
 
 pub returns-in_err-solution : goal.returns-in_err-solution
 returns-in_err-solution g c =
-    let same : c.from_residual-2.result ≡ Err c.in_err-solution.field-0.0 = handed_on _ _ c.from_residual-2.ensures.1 in
+    let same : c.from_residual-in_err-solution.result ≡ Err c.in_err-solution.field-0.0 = handed_on _ _ c.from_residual-in_err-solution.ensures.1 in
     let one = c.in_ok-instance.ensures in
     let two = c.in_err-solution.ensures in rw same (
       one.0,
@@ -47,7 +48,7 @@ returns-in_err-solution g c =
 
 pub returns-in_err-certificate : goal.returns-in_err-certificate
 returns-in_err-certificate g c =
-    let same : c.from_residual-3.result ≡ Err c.in_err-certificate.field-0.0 = handed_on _ _ c.from_residual-3.ensures.1 in
+    let same : c.from_residual-in_err-certificate.result ≡ Err c.in_err-certificate.field-0.0 = handed_on _ _ c.from_residual-in_err-certificate.ensures.1 in
     let one = c.in_ok-instance.ensures in
     let two = c.in_ok-solution.ensures in
     let three = c.in_err-certificate.ensures in rw same (
@@ -68,4 +69,27 @@ returns-in_err-certificate g c =
 
 pub returns : goal.returns
 returns g c = let one = c.in_ok-instance.ensures in let two = c.in_ok-solution.ensures in let three = c.in_ok-certificate.ensures in
-    (one.0, one.1, (two.0, two.1, (three.0, three.1, with_verdict _ _ _ _ _ _ (c.judged.ensures _ _ _ one.2 two.2 three.2))))
+    (one.0, one.1, (two.0, two.1, (three.0, three.1, with_verdict _ _ _ _ _ _ (c.judged.ensures _ _ _ (subst (IsFile _) (sym c.in-Ok.ensures.0) one.2) two.2 three.2))))
+
+pub returns-in_default : goal.returns-in_default
+returns-in_default g c =
+    let one = c.in_ok-instance.ensures in
+    let two = c.in_ok-solution.ensures in
+    let three = c.in_ok-certificate.ensures in (
+      one.0,
+      one.1,
+      (
+        two.0,
+        two.1,
+        (
+          three.0,
+          three.1,
+          with_fault _ _ _ _ _ _ (
+            (Keeps-refl _, refl),
+            (c.in_ok-instance.instance, one.2, none_bounded c.args.by _ c.in_default.ensures.2),
+            (c.in_ok-solution.solution, two.2),
+            (c.in_ok-certificate.certificate, three.2),
+          ),
+        ),
+      ),
+    )
