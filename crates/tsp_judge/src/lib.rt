@@ -4,7 +4,6 @@
 mod answer;
 mod bound_check;
 mod branch_check;
-mod certificate;
 mod certified;
 mod check;
 mod convert;
@@ -29,5 +28,5 @@ pub use tsp_read::{LineFault, ReadFault};
 pub use tsp_report::{examples_of_reasons, examples_of_reports, examples_of_shown_lines};
 pub use tsp_stream::{Watched, WriteFault};
 pub use tsp_verdict::{
-    Reason, Verdict, judge_routes, judge_tour, judge_tour_bound, judge_tour_branches,
+    Certificate, Reason, Verdict, judge_routes, judge_tour, judge_tour_bound, judge_tour_branches,
 };

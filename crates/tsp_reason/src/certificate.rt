@@ -1,8 +1,8 @@
 //! What certifies a bound.
 
-/// What the third file of a check has to hold.
+/// What a file that certifies a bound on the tours of an instance holds.
 #[derive(Clone, Copy, Debug, PartialEq, Eq)]
-pub(crate) enum Certificate {
+pub enum Certificate {
     /// Potentials of nodes and of fixed edges for a TSP, or of rows and columns for an ATSP.
     Potentials,
     /// A tree of cases, with combs and the potentials of each leaf, for a TSP.
