@@ -9,9 +9,9 @@ ghost use Rattle.tsp_draft.specs.Fields.{Fields};
 ghost use Rattle.tsp_draft.specs.Rules.{fault_of};
 ghost use Rattle.tsp_draft.specs.Validity.{is_from_to};
 ghost use Rattle.tsp_write.specs.Text.{text_of};
-ghost use Rattle.tsp_items.specs.declared.fault.ReadFault.{ReadFault};
+ghost use Rattle.tsp_text.specs.declared.fault.ReadFault.{ReadFault};
 ghost use Rattle.tsp_read.specs.Reads.{Reads};
-ghost use Rattle.tsp_items.specs.Text.{Spells};
+ghost use Rattle.tsp_text.specs.Text.{Spells};
 ghost use Rattle.tsp_round.specs.Answers.{IsThisFile};
 
 use tsp_number::{number_word_laws, spelling_laws};
