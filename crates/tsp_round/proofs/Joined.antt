@@ -14,8 +14,8 @@ use Rattle.tsp_draft.specs.declared.fault.DraftFault.TheVariants.{BadField, Rule
 use Rattle.tsp_draft.specs.Fields.{Fields}
 use Rattle.tsp_draft.specs.Validity.{bad_field}
 use Rattle.tsp_draft.specs.Rules.{standing_of, end_fault, fault_of}
-use Rattle.tsp_write.specs.Text.{text_of_field, text_of}
-use Rattle.tsp_write.proofs.AllFit.{all_fit}
+use Rattle.tsp_file.specs.Text.{text_of_field, text_of}
+use Rattle.tsp_file.proofs.AllFit.{all_fit}
 use Rattle.tsp_text.specs.declared.fault.ReadFault.{ReadFault}
 use Rattle.tsp_text.specs.declared.fault.ReadFault.TheVariants as faults
 use Rattle.tsp_text.specs.Items.{Item, Line, LineEnd, word_line, items_of, settled_items, to_end_line, has_end_line}

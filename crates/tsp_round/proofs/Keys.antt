@@ -12,7 +12,7 @@ use Rattle.tsp_format.specs.Bytes.{is_blank}
 use Rattle.tsp_format.specs.Words.{field_word}
 use Rattle.tsp_format.specs.Limits.{most_line_bytes, most_kept_bytes, most_comments}
 use Rattle.tsp_draft.specs.Validity.{is_kept}
-use Rattle.tsp_write.specs.Text.{after_blank, keyword_line}
+use Rattle.tsp_file.specs.Text.{after_blank, keyword_line}
 use Rattle.tsp_text.specs.Lines.{is_filled}
 use Rattle.tsp_text.specs.Items.{WordLine, Item, Line, LineEnd, has_end_line}
 use Rattle.tsp_text.specs.Earlier.{same_field, has_line, value_at, values_at, others_in, words_of}

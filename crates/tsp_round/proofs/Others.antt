@@ -11,7 +11,7 @@ use Rattle.tsp_format.specs.Bytes.{is_letter, is_keyword_byte}
 use Rattle.tsp_format.specs.Keywords.{keyword_of, is_unknown}
 use Rattle.tsp_format.specs.Limits.{most_line_bytes, most_others}
 use Rattle.tsp_draft.specs.Validity.{is_kept, is_unknown_keyword, is_other}
-use Rattle.tsp_write.specs.Text.{other_line}
+use Rattle.tsp_file.specs.Text.{other_line}
 use Rattle.tsp_text.specs.Items.{WordLine, Item, Line, LineEnd, items_of, has_end_line}
 use Rattle.tsp_text.specs.Earlier.{value_at, values_at, others_in, words_of}
 use Rattle.tsp_text.specs.Rows.{row_of, is_too_long_to_keep}

@@ -6,7 +6,7 @@ use Rattle.tsp_format.specs.declared.keyword.Keyword.TheVariants.{Known}
 use Rattle.tsp_format.specs.Words.{field_word}
 use Rattle.tsp_format.specs.Keywords.{keyword_of}
 use Rattle.tsp_draft.specs.Fields.{Fields}
-use Rattle.tsp_write.specs.Text.{keyword_line}
+use Rattle.tsp_file.specs.Text.{keyword_line}
 use Rattle.tsp_text.specs.Items.{WordLine, Item, Line, LineEnd, word_line, items_of}
 use Rattle.tsp_text.specs.Earlier.{same_field, value_at, values_at, others_in, words_of}
 use Rattle.tsp_text.specs.Rows.{may_repeat, row_of}

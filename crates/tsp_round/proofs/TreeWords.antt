@@ -11,7 +11,7 @@ use Rattle.tsp_number.specs.Reading.{whole_of}
 use Rattle.tsp_format.specs.Limits.{most_combs, most_branches, most_changes, most_difference}
 use Rattle.tsp_format.specs.Steps.{Step, Branch, Leaf, are_whole, branch_count, change_count}
 use Rattle.tsp_draft.specs.Validity.{is_within, is_node, is_pair, is_change, is_step, are_steps}
-use Rattle.tsp_write.specs.Text.{change_words}
+use Rattle.tsp_file.specs.Text.{change_words}
 use Rattle.tsp_text.specs.Numbers.{number, reads_as, sized}
 use Rattle.tsp_text.specs.Places.{StepAfter, IndexAfter, Amount, PastGroups}
 use Rattle.tsp_text.specs.Rows.{word_fault}
