@@ -25,7 +25,6 @@ pub use tsp_draft::EndFault;
 pub use tsp_file::RelayoutFault;
 pub use tsp_format::Layout;
 pub use tsp_read::{LineFault, ReadFault};
-pub use tsp_report::{examples_of_reasons, examples_of_reports, examples_of_shown_lines};
 pub use tsp_stream::{Watched, WriteFault};
 pub use tsp_verdict::{
     Certificate, Reason, Verdict, judge_routes, judge_tour, judge_tour_bound, judge_tour_branches,

@@ -17,5 +17,5 @@ pub use engines::perform;
 pub use examples::examples_of_statuses;
 pub use running::{run, tell_unread};
 pub use source::{Open, Source};
-pub use tsp_cli::{Job, JobFault, Place, Task, TaskFault, Verb, job_of, task_of, unread};
+pub use tsp_cli::{JobFault, Place, Task, TaskFault};
 pub use tsp_judge::Watched;

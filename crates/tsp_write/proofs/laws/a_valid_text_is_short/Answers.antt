@@ -1,8 +1,0 @@
-use Rattle.tsp_write.proofs.FieldLengths.{text_short, text_short_without_trees}
-use Rattle.tsp_write.proofs.laws.a_valid_text_is_short.Goals as goal
-
-pub returns-clause-whole : goal.returns-clause-whole
-returns-clause-whole c = text_short
-
-pub returns-clause-without_trees : goal.returns-clause-without_trees
-returns-clause-without_trees c = text_short_without_trees
