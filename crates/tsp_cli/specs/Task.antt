@@ -14,9 +14,9 @@ use Rattle.tsp_cli.specs.declared.task.TaskFault.{TaskFault}
 use Rattle.tsp_cli.specs.declared.task.TaskFault.TheVariants.{UnknownLayout, MissingPath, TwoCertificates}
 
 -- the text is a path, and this is its place
-abbrev pub IsAt : {Z : Type 0} → Option (String Z) → Place → Type 0
-IsAt path Input = ⊥
-IsAt path (Path text) = text_in path ≡ Some text.now
+abbrev pub IsPlaceOf : {Z : Type 0} → Option (String Z) → Place → Type 0
+IsPlaceOf path Input = ⊥
+IsPlaceOf path (Path text) = text_in path ≡ Some text.now
 
 -- the text is that of this layout; no layout where there is no text
 abbrev pub IsLayout : {Z : Type 0} → Option (String Z) → Option Layout → Type 0
@@ -28,7 +28,7 @@ abbrev pub IsNoLayout : {Z : Type 0} → Option (String Z) → Type 0
 IsNoLayout word = (text : Text) × (text_in word ≡ Some text) × ((layout : Layout) → text ≢ layout_word layout)
 
 abbrev pub GivesPlace : {Z : Type 0} → Option (String Z) → Result Place TaskFault → Type 0
-GivesPlace path (Ok place) = IsAt path place
+GivesPlace path (Ok place) = IsPlaceOf path place
 GivesPlace path (Err MissingPath) = path ≡ None
 GivesPlace path (Err UnknownLayout) = ⊥
 GivesPlace path (Err TwoCertificates) = ⊥
@@ -42,14 +42,14 @@ GivesLayout word (Err TwoCertificates) = ⊥
 -- the verb's task, with the files in the order F, T, and P or B; standard input is shown where there is no verb
 abbrev pub IsTask : Job → Task Place → Type 0
 IsTask job (Show Input) = job.verb ≡ None
-IsTask job (Show (Path path)) = (job.verb ≡ Some verbs.Show) × IsAt job.file (Path path)
-IsTask job (Convert file to) = (job.verb ≡ Some verbs.Convert) × IsAt job.file file × IsLayout job.layout to
-IsTask job (Check instance solution) = (job.verb ≡ Some verbs.Check) × IsAt job.file instance × IsAt job.solution solution
+IsTask job (Show (Path path)) = (job.verb ≡ Some verbs.Show) × IsPlaceOf job.file (Path path)
+IsTask job (Convert file to) = (job.verb ≡ Some verbs.Convert) × IsPlaceOf job.file file × IsLayout job.layout to
+IsTask job (Check instance solution) = (job.verb ≡ Some verbs.Check) × IsPlaceOf job.file instance × IsPlaceOf job.solution solution
     × (job.potentials ≡ None) × (job.branches ≡ None)
-IsTask job (BoundCheck instance solution potentials) = (job.verb ≡ Some verbs.Check) × IsAt job.file instance
-    × IsAt job.solution solution × IsAt job.potentials potentials × (job.branches ≡ None)
-IsTask job (BranchCheck instance solution branches) = (job.verb ≡ Some verbs.Check) × IsAt job.file instance
-    × IsAt job.solution solution × (job.potentials ≡ None) × IsAt job.branches branches
+IsTask job (BoundCheck instance solution potentials) = (job.verb ≡ Some verbs.Check) × IsPlaceOf job.file instance
+    × IsPlaceOf job.solution solution × IsPlaceOf job.potentials potentials × (job.branches ≡ None)
+IsTask job (BranchCheck instance solution branches) = (job.verb ≡ Some verbs.Check) × IsPlaceOf job.file instance
+    × IsPlaceOf job.solution solution × (job.potentials ≡ None) × IsPlaceOf job.branches branches
 
 abbrev pub GivesTask : Job → Result (Task Place) TaskFault → Type 0
 GivesTask job (Ok task) = IsTask job task

@@ -44,9 +44,9 @@ IsFaultOf kind (Refused refusal) = (kind_of refusal ≡ kind) × (kind ≢ kinds
 IsFaultOf kind OutOfMemory = kind ≡ kinds.OutOfMemory
 
 -- the words are refused for another cause; out of memory may stand in its place
-abbrev pub IsRefused : JobFault → Type 0
-IsRefused (Refused refusal) = kind_of refusal ≢ kinds.OutOfMemory
-IsRefused OutOfMemory = ⊤
+abbrev pub IsOtherRefusal : JobFault → Type 0
+IsOtherRefusal (Refused refusal) = kind_of refusal ≢ kinds.OutOfMemory
+IsOtherRefusal OutOfMemory = ⊤
 
 -- what clap states of these words: with no fault a job, and else one of the first faults. Out of memory may stand in place of
 -- either.

@@ -3,7 +3,7 @@
 ghost use Rattle.std.specs.Prelude.{◌≡◌, ◌≢◌, ◌↔◌, IfOk, IsTrue, Some, codes, map, option_map};
 ghost use Rattle.std.specs.IoError.{error_kind};
 ghost use Rattle.clap.specs.Words.{first_of, found_of, kind_of, rows_of};
-ghost use Rattle.tsp_cli.specs.Words.{GivesJob, IsFaultOf, IsRefused, IsVerbOf, HasValues, text_in};
+ghost use Rattle.tsp_cli.specs.Words.{GivesJob, IsFaultOf, IsOtherRefusal, IsVerbOf, HasValues, text_in};
 
 use crate::grammar;
 use clap::error::ErrorKind;
@@ -114,7 +114,7 @@ pub fn job_of(alloc: Global, words: &[&str]) -> Result<Job, JobFault>
 /// `clap` tells that words are refused.
 pub fn unread(alloc: Global, error: &io::Error) -> JobFault
     ensures memory { error_kind error.now ≡ IoKind.OutOfMemory → result ≡ JobFault.OutOfMemory }
-    ensures no_text { error_kind error.now ≢ IoKind.OutOfMemory → IsRefused result }
+    ensures no_text { error_kind error.now ≢ IoKind.OutOfMemory → IsOtherRefusal result }
 {
     if let IoKind::OutOfMemory = error.kind() {
         return JobFault::OutOfMemory;

@@ -38,7 +38,7 @@ impl Instance {
     ghost use Rattle.tsp_draft.specs.Rules.{is_instance};
     ghost use Rattle.tsp_format.specs.declared.kinds.WeightKind.TheVariants.{Explicit};
     ghost use Rattle.tsp_cost.specs.declared.fault.CostFault.TheVariants.{NotInstance};
-    ghost use Rattle.tsp_file.specs.Listed.{IsListed};
+    ghost use Rattle.tsp_file.specs.Listed.{ListsWeights};
     ghost use Rattle.tsp_cost.specs.Views.{Shows};
 
     /// The instance that a file is, or why it is none, and the file itself, unchanged.
@@ -135,7 +135,7 @@ impl Instance {
     #[inline]
     fn listed(&self) -> (Layout, u32, &[i64])
         requires { self.now.weight_kind ≡ Some Explicit }
-        ensures { IsListed self.now result.0 result.1 result.2.now }
+        ensures { ListsWeights self.now result.0 result.1 result.2.now }
     {
         let _valid = self.file.fields();
         valid_fields_are_in_range();

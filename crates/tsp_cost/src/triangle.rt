@@ -8,7 +8,7 @@ ghost use Rattle.tsp_format.specs.Limits.{most_matrix_nodes, most_weight};
 ghost use Rattle.tsp_draft.specs.Valid.{IsWithin};
 ghost use Rattle.tsp_file.specs.Cost.{listed_cost};
 ghost use Rattle.tsp_theory.specs.Costs.{IsSymmetric};
-ghost use Rattle.tsp_file.specs.Listed.{IsUnlisted};
+ghost use Rattle.tsp_file.specs.Listed.{UnlistedHaveNoPlace};
 
 use tsp_format::{Layout, cells_are_the_listed_pairs, only_cells_have_places};
 use tsp_theory::{Costs, Symmetric};
@@ -28,7 +28,7 @@ pub struct Triangle<'a> {
     ghost sizes: { All (IsWithin most_weight) weights.now },
     ghost upper_is: { upper ≡ is_listed layout (1, 2) },
     ghost diagonal_is: { diagonal ≡ is_listed layout (1, 1) },
-    ghost unlisted: { IsUnlisted layout nodes },
+    ghost unlisted: { UnlistedHaveNoPlace layout nodes },
     ghost even: { IsSymmetric (λ i j. listed_cost layout nodes weights.now i j) },
 }
 

@@ -26,9 +26,9 @@ use Rattle.tsp_format.specs.Words.{fields_in_order, field_found}
 use Rattle.tsp_format.specs.declared.field.Shape.TheVariants.{Points, SpacePoints}
 use Rattle.tsp_format.specs.Steps.{Step, Branch, Leaf, are_whole, branch_count, change_count}
 use Rattle.tsp_draft.specs.Fields.{Fields, spatial}
-use Rattle.tsp_draft.specs.Validity.{if_there, is_from_to, is_within, is_node, with_dimension, is_by_node, is_third, is_point, is_demand, section_fits, are_depots, is_pair, are_fixed, is_triple, are_triples, are_weights, is_tour, are_tours, is_set, is_comb, are_combs, is_change, is_step, are_steps, fits, first_failing, bad_field}
+use Rattle.tsp_draft.specs.Validity.{if_there, is_from_to, is_within, is_node, with_dimension, is_by_node, is_third, is_point, is_demand, section_fits, are_depots, is_node_pair, are_fixed, is_triple, are_triples, are_weights, is_tour, are_tours, is_set, is_comb, are_combs, is_change, is_step, are_steps, fits, first_failing, bad_field}
 use Rattle.tsp_draft.specs.Rules.{standing_of, count_of, is_instance, is_routing, is_tours, is_certificate, is_tree, is_explicit, is_function, lists_weights, is_there, asked_in_order, has_wrong_format, is_count, has_wrong_count, has_row_or_column, has_node_or_multiplier, end_fault, format_or_count, fault_of}
-use Rattle.tsp_draft.specs.Valid.{IsFromTo, IsWithin, IsByNode, IsThird, IsPoint, IsDemand, IsPairOf, IsNodeList, AreDepots, AreFixed, IsTripleOf, AreTriples, AreWeights, AreTours, IsInRange, HasInstance, HasRouting, HasPotentials, IsSetOf, AreSets, AreCombs, IsChange, IsStep, AreSteps, HasBranches}
+use Rattle.tsp_draft.specs.Valid.{IsFromTo, IsWithin, IsByNode, IsThird, IsPoint, IsDemand, IsPairOf, IsNodeList, AreDepots, AreFixed, IsTripleOf, AreTriples, AreWeights, AreTours, IsInRange, HasInstance, HasRouting, HasPotentials, IsSetOf, AreSets, AreCombs, IsChange, IsStep, AreTreeSteps, HasBranches}
 
 -- ---- tests that hold
 
@@ -140,7 +140,7 @@ node n i e = let two = both (nat_le 1 i) (nat_le i n) e in (leb-true 1 i two.0, 
 all_so : {A : Type 0} (test : A → Bool) (P : A → Type 0) → ((x : A) → test x ≡ true → P x) → (xs : List A) → list_all test xs ≡ true → All P xs
 all_so test P so xs e = λ k d lt. so (get_or xs k d) (AllPass-from_list_all test xs e k d lt)
 
-is_pair_of : (n : ℕ) (pair : ℕ × ℕ) → is_pair n pair ≡ true → IsPairOf n pair
+is_pair_of : (n : ℕ) (pair : ℕ × ℕ) → is_node_pair n pair ≡ true → IsPairOf n pair
 is_pair_of n pair e =
     let first = both (is_node n pair.0 && is_node n pair.1) (not (pair.0 == pair.1)) e in
     let nodes = both (is_node n pair.0) (is_node n pair.1) first.0 in
@@ -148,7 +148,7 @@ is_pair_of n pair e =
 
 is_triple_of : (n : ℕ) (triple : ℕ × ℕ × ℤ) → is_triple n triple ≡ true → IsTripleOf n triple
 is_triple_of n triple e =
-    let two = both (is_pair n (triple.0, triple.1)) (is_from_to (pos 0) (pos most_multiplier) triple.2) e in
+    let two = both (is_node_pair n (triple.0, triple.1)) (is_from_to (pos 0) (pos most_multiplier) triple.2) e in
     (is_pair_of n (triple.0, triple.1) two.0, from_to (pos 0) (pos most_multiplier) triple.2 two.1)
 
 third : (in_space : Bool) (z : ℤ) → is_third in_space z ≡ true → IsThird in_space z
@@ -192,8 +192,8 @@ depots_in f depots e stands =
 fixed_in : (f : Fields) (pairs : List (ℕ × ℕ)) → fits f fields.FixedEdgesPart ≡ true → f.fixed ≡ Some pairs → AreFixed f pairs
 fixed_in f pairs e stands =
     let held = dimensioned are_fixed f.dimension pairs (given (with_dimension are_fixed f.dimension) f.fixed pairs e stands) in
-    let two = both (nat_le (length pairs) most_fixed) (list_all (is_pair held.0) pairs) held.2 in
-    record { n = held.0; dimension = held.1; few = leb-true (length pairs) most_fixed two.0; pairs_of_nodes = all_so (is_pair held.0) (IsPairOf held.0) (is_pair_of held.0) pairs two.1 }
+    let two = both (nat_le (length pairs) most_fixed) (list_all (is_node_pair held.0) pairs) held.2 in
+    record { n = held.0; dimension = held.1; few = leb-true (length pairs) most_fixed two.0; pairs_of_nodes = all_so (is_node_pair held.0) (IsPairOf held.0) (is_pair_of held.0) pairs two.1 }
 
 triples_in : (f : Fields) (triples : List (ℕ × ℕ × ℤ)) → fits f fields.FixedEdgePotentialPart ≡ true → f.fixed_potentials ≡ Some triples
     → AreTriples f triples
@@ -252,7 +252,7 @@ step : (n : ℕ) (s : Step) → is_step n s ≡ true → IsStep n s
 step n (Branch first second) e = is_pair_of n (first, second) e
 step n (Leaf changes) e = all_so (is_change n) (IsChange n) (change n) changes e
 
-steps_in : (f : Fields) (steps : List Step) → fits f fields.BranchPart ≡ true → f.branches ≡ Some steps → AreSteps f steps
+steps_in : (f : Fields) (steps : List Step) → fits f fields.BranchPart ≡ true → f.branches ≡ Some steps → AreTreeSteps f steps
 steps_in f steps e stands =
     let held = dimensioned are_steps f.dimension steps (given (with_dimension are_steps f.dimension) f.branches steps e stands) in
     let few = nat_le (branch_count steps) most_branches in

@@ -7,8 +7,8 @@ use Rattle.tsp_format.specs.declared.layout.Layout.TheVariants.{FullMatrix}
 use Rattle.tsp_draft.specs.Fields.{Fields, blank_fields}
 
 -- three nodes whose costs depend on the direction, and which aren't at 0 from themselves
-abbrev pub directed : Fields
-directed = record blank_fields {
+abbrev pub directed_matrix : Fields
+directed_matrix = record blank_fields {
   kind = Some Atsp;
   dimension = Some 3;
   weight_kind = Some Explicit;
@@ -26,4 +26,4 @@ no_nodes = record blank_fields { dimension = Some 0 }
 
 -- one weight in the place of nine
 abbrev pub one_weight : Fields
-one_weight = record directed { weights = Some (pos 1 ∷ []) }
+one_weight = record directed_matrix { weights = Some (pos 1 ∷ []) }

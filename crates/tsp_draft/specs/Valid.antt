@@ -101,7 +101,7 @@ IsStep n (Branch first second) = IsPairOf n (first, second)
 IsStep n (Leaf changes) = All (IsChange n) changes
 
 -- the steps of one whole tree
-pub record AreSteps (f : Fields) (steps : List Step) : Type 0 where
+pub record AreTreeSteps (f : Fields) (steps : List Step) : Type 0 where
   pub n : ℕ
   pub dimension : f.dimension ≡ Some n
   pub each : All (IsStep n) steps
@@ -129,7 +129,7 @@ pub record IsInRange (f : Fields) : Type 0 where
       → IsByNode (IsWithin most_potential) f potentials
   pub fixed_potentials : (triples : List (ℕ × ℕ × ℤ)) → f.fixed_potentials ≡ Some triples → AreTriples f triples
   pub combs : (combs : List (List (List ℕ))) → f.combs ≡ Some combs → AreCombs f combs
-  pub branches : (steps : List Step) → f.branches ≡ Some steps → AreSteps f steps
+  pub branches : (steps : List Step) → f.branches ≡ Some steps → AreTreeSteps f steps
 
 -- what stands in an instance: its nodes and weight type, and the weights or the coordinates that the weight type is over
 pub record HasInstance (f : Fields) : Type 0 where

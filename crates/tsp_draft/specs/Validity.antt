@@ -84,15 +84,15 @@ abbrev pub are_depots : ℕ → List ℕ → Bool
 are_depots n depots = nat_le (length depots) most_depots && list_all (is_node n) depots
 
 -- two different nodes
-abbrev pub is_pair : ℕ → ℕ × ℕ → Bool
-is_pair n pair = is_node n pair.0 && is_node n pair.1 && not (pair.0 == pair.1)
+abbrev pub is_node_pair : ℕ → ℕ × ℕ → Bool
+is_node_pair n pair = is_node n pair.0 && is_node n pair.1 && not (pair.0 == pair.1)
 
 abbrev pub are_fixed : ℕ → List (ℕ × ℕ) → Bool
-are_fixed n pairs = nat_le (length pairs) most_fixed && list_all (is_pair n) pairs
+are_fixed n pairs = nat_le (length pairs) most_fixed && list_all (is_node_pair n) pairs
 
 -- two different nodes, and a number that a multiplier may have
 abbrev pub is_triple : ℕ → ℕ × ℕ × ℤ → Bool
-is_triple n triple = is_pair n (triple.0, triple.1) && is_from_to (pos 0) (pos most_multiplier) triple.2
+is_triple n triple = is_node_pair n (triple.0, triple.1) && is_from_to (pos 0) (pos most_multiplier) triple.2
 
 abbrev pub are_triples : ℕ → List (ℕ × ℕ × ℤ) → Bool
 are_triples n triples = nat_le (length triples) most_multipliers && list_all (is_triple n) triples
@@ -125,7 +125,7 @@ is_change n change = is_node (n + most_combs) change.0 && is_within most_differe
 
 -- a branch is on two different nodes
 abbrev pub is_step : ℕ → Step → Bool
-is_step n (Branch first second) = is_pair n (first, second)
+is_step n (Branch first second) = is_node_pair n (first, second)
 is_step n (Leaf changes) = list_all (is_change n) changes
 
 -- the steps of one whole tree

@@ -7,9 +7,9 @@ ghost use Rattle.tsp_format.specs.Limits.{most_coordinate};
 ghost use Rattle.tsp_draft.specs.declared.fault.EndFault.TheVariants as ends;
 ghost use Rattle.tsp_draft.specs.declared.fault.DraftFault.TheVariants as drafts;
 ghost use Rattle.tsp_draft.specs.Fields.{blank_fields};
-ghost use Rattle.tsp_draft.specs.Validity.{is_kept, are_comments, are_others, is_within, is_demand, is_node, is_pair, are_weights, are_depots, are_fixed, is_triple, are_triples, is_change};
+ghost use Rattle.tsp_draft.specs.Validity.{is_kept, are_comments, are_others, is_within, is_demand, is_node, is_node_pair, are_weights, are_depots, are_fixed, is_triple, are_triples, is_change};
 ghost use Rattle.tsp_draft.specs.Rules.{fault_of};
-ghost use Rattle.tsp_draft.specs.Examples.{directed, plane, no_nodes, one_weight};
+ghost use Rattle.tsp_draft.specs.Examples.{directed_matrix, plane, no_nodes, one_weight};
 
 /// Values at their limits, and past them by one.
 pub fn examples_of_validity()
@@ -51,13 +51,13 @@ pub fn examples_of_validity()
     ensures last_node { is_node 3 3 ≡ true }
     ensures past_the_nodes { is_node 3 4 ≡ false }
     ensures node_zero { is_node 3 0 ≡ false }
-    ensures node_with_itself { is_pair 3 (2, 2) ≡ false }
+    ensures node_with_itself { is_node_pair 3 (2, 2) ≡ false }
 {}
 
 /// The first faults of small files.
 #[tactic(auto, unfolding(tsp_format::specs::Cells::cells, tsp_format::specs::Cells::nodes_to))]
 pub fn examples_of_faults()
-    ensures valid { fault_of directed ≡ None }
+    ensures valid { fault_of directed_matrix ≡ None }
     ensures nothing { fault_of blank_fields ≡ Some (drafts.Rule (ends.Missing fields.TypeKey)) }
     ensures no_points { fault_of plane ≡ Some (drafts.Rule (ends.Missing fields.NodeCoordPart)) }
     ensures no_nodes { fault_of no_nodes ≡ Some (drafts.BadField fields.DimensionKey) }

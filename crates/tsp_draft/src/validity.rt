@@ -9,7 +9,7 @@ ghost use Rattle.tsp_distance.specs.Distances.{on_plane};
 ghost use Rattle.tsp_format.specs.Steps.{step_of, steps_of, are_whole, branch_count, change_count};
 ghost use Rattle.tsp_draft.specs.Coords.{points_of};
 ghost use Rattle.tsp_draft.specs.Fields.{combs_of};
-ghost use Rattle.tsp_draft.specs.Validity.{is_kept, is_unknown_keyword, is_other, is_from_to, is_within, is_node, is_third, is_point, is_demand, are_depots, is_pair, are_fixed, is_triple, are_triples, are_weights, is_tour, is_set, is_comb, are_combs, is_change, is_step, are_steps};
+ghost use Rattle.tsp_draft.specs.Validity.{is_kept, is_unknown_keyword, is_other, is_from_to, is_within, is_node, is_third, is_point, is_demand, are_depots, is_node_pair, are_fixed, is_triple, are_triples, are_weights, is_tour, is_set, is_comb, are_combs, is_change, is_step, are_steps};
 
 use crate::coords::Coords;
 use tsp_distance::{Decimal, InSpace, PlanePoint, Point};
@@ -172,14 +172,14 @@ pub(crate) fn are_depots(n: u32, depots: &[u32]) -> bool
 
 /// Whether a pair is of two different nodes of 1..n.
 fn is_pair(n: u32, pair: (u32, u32)) -> bool
-    ensures { result ≡ is_pair n pair }
+    ensures { result ≡ is_node_pair n pair }
 {
     is_node(n, pair.0) && is_node(n, pair.1) && pair.0 != pair.1
 }
 
 /// Whether every pair is of two different nodes of 1..n.
 fn are_pairs(n: u32, pairs: &[(u32, u32)]) -> bool
-    ensures { result ≡ list_all (is_pair n) pairs.now }
+    ensures { result ≡ list_all (is_node_pair n) pairs.now }
 {
     pairs.iter().all(|pair| is_pair(n, *pair))
 }

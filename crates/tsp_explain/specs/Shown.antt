@@ -11,9 +11,9 @@ shown_low byte = cond (byte == 9) (byte ∷ [])
 abbrev pub shown_high : ℕ → List ℕ
 shown_high low = codes "M-" ++ cond (low == 9) (codes "^I") (shown_low low)
 
-abbrev pub shown : ℕ → List ℕ
-shown byte = cond (nat_lt byte 128) (shown_low byte) (shown_high (byte - 128))
+abbrev pub shown_byte : ℕ → List ℕ
+shown_byte byte = cond (nat_lt byte 128) (shown_low byte) (shown_high (byte - 128))
 
 -- the bytes one after the other
 abbrev pub all_shown : List ℕ → List ℕ
-all_shown bytes = concat (map shown bytes)
+all_shown bytes = concat (map shown_byte bytes)

@@ -1,7 +1,7 @@
 //! The lines of an explanation. Each is indented by two blanks.
 
 ghost use Rattle.std.specs.Prelude.{◌≡◌, ◌++◌, ◌≤◌, ◌<◌, OnOk};
-ghost use Rattle.tsp_explain.specs.Shown.{shown, shown_low, shown_high, all_shown};
+ghost use Rattle.tsp_explain.specs.Shown.{shown_byte, shown_low, shown_high, all_shown};
 
 use itoa::{Buffer, Integer};
 use std::alloc::AllocError;
@@ -59,7 +59,7 @@ pub(crate) fn push_shown(text: &mut Vec<u8>, bytes: &[u8]) -> Result<(), AllocEr
 
 /// Appends a byte as it is shown.
 fn push_byte(text: &mut Vec<u8>, byte: u8) -> Result<(), AllocError>
-    ensures { OnOk result (text.new.items ≡ text.old.items ++ shown byte) }
+    ensures { OnOk result (text.new.items ≡ text.old.items ++ shown_byte byte) }
 {
     if byte < 128 {
         push_low(text, byte)

@@ -21,9 +21,9 @@ use Rattle.tsp_format.specs.declared.field.Field.TheVariants.{NameKey, TypeKey, 
 use Rattle.tsp_format.specs.Limits.{most_nodes, most_matrix_nodes, most_coordinate, most_weight, most_demand, most_capacity, most_scale, most_potential, most_comments, most_others, most_depots, most_fixed, most_multipliers, most_multiplier, most_tour_nodes}
 use Rattle.tsp_format.specs.Words.{field_word, kind_word, weight_kind_word, weight_format_word, coord_kind_word, display_kind_word, fields_in_order}
 use Rattle.tsp_draft.specs.Fields.{Fields, spatial, numbers_in, points_in}
-use Rattle.tsp_draft.specs.Validity.{if_there, with_dimension, is_kept, is_other, is_node, is_pair, is_triple, is_from_to, is_within, is_point, is_by_node, are_comments, are_others, are_depots, are_fixed, are_triples, are_weights, is_tour, are_tours, are_combs, are_steps, section_fits, fits}
+use Rattle.tsp_draft.specs.Validity.{if_there, with_dimension, is_kept, is_other, is_node, is_node_pair, is_triple, is_from_to, is_within, is_point, is_by_node, are_comments, are_others, are_depots, are_fixed, are_triples, are_weights, is_tour, are_tours, are_combs, are_steps, section_fits, fits}
 use Rattle.tsp_draft.specs.Rules.{fault_of}
-use Rattle.tsp_file.specs.Text.{line_end, keyword_line, other_line, number_line, section, by_node, node_list, pair_list, triple_list, comb_list, step_lines, point_numbers, whole_number, line_lens, matrix_lines, optional, text_of_section, text_of_field, text_of}
+use Rattle.tsp_file.specs.Text.{line_end, keyword_line, other_line, number_line, section_text, lines_by_node, node_list, pair_list, triple_list, comb_list, step_lines, point_numbers, whole_number, line_lens, matrix_lines, optional, text_of_section, text_of_field, text_of}
 use Rattle.tsp_file.proofs.TextLengths.{within_abs, three_parts, positive_short, between_short, decimal_short, node_short, flat_short_of, by_node_short, pair_list_short, triple_list_short, node_list_short, tours_short, matrix_lines_short}
 use Rattle.tsp_file.proofs.TreeLengths.{combs_short, steps_short}
 use Rattle.tsp_file.proofs.KeywordLengths.{kept_short, other_short, keyword_short, keyword_line_short, kind_short, weight_kind_short, weight_format_short, coord_kind_short, display_kind_short}
@@ -43,7 +43,7 @@ word_line_short field word each None = omega arith
 word_line_short field word each (Some x) = keyword_line_short field (word x) (each x)
 
 -- the section's line has at most 29 bytes
-section_short : (field : Field) (lines : List ℕ) (k : ℕ) → length lines ≤ k → length (section field lines) ≤ 29 + k
+section_short : (field : Field) (lines : List ℕ) (k : ℕ) → length lines ≤ k → length (section_text field lines) ≤ 29 + k
 section_short field lines k short =
     omega (arith, length-append (field_word field) (line_end ++ lines), keyword_short field, short)
 
@@ -53,7 +53,7 @@ dimension_short n fits = leb-true n most_nodes (and_parts (nat_le 1 n) (nat_le n
 -- a section that the number of nodes is known for
 section_of_short : {A : Type 0} (field : Field) (fits : ℕ → A → Bool) (lines : A → List ℕ) (k : ℕ) → ((n : ℕ) (x : A) → n ≤ most_nodes → fits n x ≡ true → length (lines x) ≤ k)
     → (dimension : Option ℕ) (value : Option A) → if_there (is_node most_nodes) dimension ≡ true → if_there (with_dimension fits dimension) value ≡ true
-    → length (optional (λ x. section field (lines x)) value) ≤ 29 + k
+    → length (optional (λ x. section_text field (lines x)) value) ≤ 29 + k
 section_of_short field fits lines k each dimension None nodes there = omega arith
 section_of_short field fits lines k each None (Some x) nodes there = absurd (false≢true there)
 section_of_short field fits lines k each (Some n) (Some x) nodes there = section_short field (lines x) k (each n x (dimension_short n nodes) there)
@@ -61,13 +61,13 @@ section_of_short field fits lines k each (Some n) (Some x) nodes there = section
 -- one line for each node, with at most k bytes after the node
 by_node_section_short : {A : Type 0} (field : Field) (fits : A → Bool) (numbers : A → List (List ℕ)) (k : ℕ) → ((x : A) → fits x ≡ true → length (number_line [] (numbers x)) ≤ k)
     → (dimension : Option ℕ) (value : Option (List A)) → if_there (is_node most_nodes) dimension ≡ true → if_there (with_dimension (is_by_node fits) dimension) value ≡ true
-    → length (optional (λ xs. section field (by_node numbers xs)) value) ≤ 29 + (6 + k) * most_nodes
+    → length (optional (λ xs. section_text field (lines_by_node numbers xs)) value) ≤ 29 + (6 + k) * most_nodes
 by_node_section_short {A} field fits numbers k each dimension value nodes there =
-    let lines : (n : ℕ) (xs : List A) → n ≤ most_nodes → is_by_node fits n xs ≡ true → length (by_node numbers xs) ≤ (6 + k) * most_nodes = λ n xs most by_nodes.
+    let lines : (n : ℕ) (xs : List A) → n ≤ most_nodes → is_by_node fits n xs ≡ true → length (lines_by_node numbers xs) ≤ (6 + k) * most_nodes = λ n xs most by_nodes.
     let parts = and_parts (length xs == n) (list_all fits xs) by_nodes in
     let count = eqb-true (length xs) n parts.0 in
     by_node_short fits numbers k each xs (omega (arith, count, most)) parts.1 in
-    section_of_short field (is_by_node fits) (by_node numbers) ((6 + k) * most_nodes) lines dimension value nodes there
+    section_of_short field (is_by_node fits) (lines_by_node numbers) ((6 + k) * most_nodes) lines dimension value nodes there
 
 -- ---- entries
 
@@ -130,21 +130,21 @@ depots_short n depots most fits =
     let few = leb-true (length depots) most_depots parts.0 in
     omega (arith, few, node_list_short (is_node n) (λ node fit. node_short n node most fit) depots parts.1)
 
-is_pair_short : (n : ℕ) (pair : ℕ × ℕ) → n ≤ most_nodes → is_pair n pair ≡ true → (length (decimal pair.0) ≤ 6) × (length (decimal pair.1) ≤ 6)
+is_pair_short : (n : ℕ) (pair : ℕ × ℕ) → n ≤ most_nodes → is_node_pair n pair ≡ true → (length (decimal pair.0) ≤ 6) × (length (decimal pair.1) ≤ 6)
 is_pair_short n pair most fits =
     let parts = three_parts (is_node n pair.0) (is_node n pair.1) (not (pair.0 == pair.1)) fits in
     (node_short n pair.0 most parts.0, node_short n pair.1 most parts.1)
 
 fixed_short : (n : ℕ) (pairs : List (ℕ × ℕ)) → n ≤ most_nodes → are_fixed n pairs ≡ true → length (pair_list pairs) ≤ 1900000
 fixed_short n pairs most fits =
-    let parts = and_parts (nat_le (length pairs) most_fixed) (list_all (is_pair n) pairs) fits in
+    let parts = and_parts (nat_le (length pairs) most_fixed) (list_all (is_node_pair n) pairs) fits in
     let few = leb-true (length pairs) most_fixed parts.0 in
-    omega (arith, few, pair_list_short (is_pair n) (λ pair fit. is_pair_short n pair most fit) pairs parts.1)
+    omega (arith, few, pair_list_short (is_node_pair n) (λ pair fit. is_pair_short n pair most fit) pairs parts.1)
 
 is_triple_short : (n : ℕ) (triple : ℕ × ℕ × ℤ) → n ≤ most_nodes → is_triple n triple ≡ true
     → (length (decimal triple.0) ≤ 6) × (length (decimal triple.1) ≤ 6) × (length (signed_decimal triple.2) ≤ 17)
 is_triple_short n triple most fits =
-    let parts = and_parts (is_pair n (triple.0, triple.1)) (is_from_to (pos 0) (pos most_multiplier) triple.2) fits in
+    let parts = and_parts (is_node_pair n (triple.0, triple.1)) (is_from_to (pos 0) (pos most_multiplier) triple.2) fits in
     let nodes = is_pair_short n (triple.0, triple.1) most parts.0 in
     (nodes.0, nodes.1, positive_short 16 0 most_multiplier triple.2 (omega arith) (omega arith) parts.1)
 
@@ -204,7 +204,7 @@ shape_short f field Weights short one fit =
     let lens = line_lens f.weight_format f.dimension in
     section_of_short field are_weights (matrix_lines lens) 375000000 (λ n weights most fits. weights_short lens n weights fits) f.dimension f.weights one fit
 shape_short f field Tours short one fit =
-    optional_short are_tours (λ tours. section field (flat_map node_list tours)) 10000029
+    optional_short are_tours (λ tours. section_text field (flat_map node_list tours)) 10000029
     (λ tours fits. section_short field (flat_map node_list tours) 10000000 (all_tours_short tours fits)) f.tours fit
 shape_short f field Triples short one fit = section_of_short field are_triples triple_list 3300000 triples_short f.dimension f.fixed_potentials one fit
 shape_short f field Combs short one fit = section_of_short field are_combs comb_list 10030003 combs_short f.dimension f.combs one fit

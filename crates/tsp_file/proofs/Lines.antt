@@ -8,15 +8,15 @@ use Rattle.tsp_format.specs.declared.field.Field.{Field}
 use Rattle.tsp_format.specs.Words.{field_word}
 use Rattle.tsp_stream.specs.Way.{Way, Carried}
 use Rattle.tsp_stream.proofs.Carrying.{carried_none, carried_then}
-use Rattle.tsp_file.specs.Text.{after_blank, line_end, number_line, section, weight_line}
+use Rattle.tsp_file.specs.Text.{blank_before, line_end, number_line, section_text, weight_line}
 
 -- no value, and no blank before it
-pub no_value : (a b : Way) (value : List ℕ) → (length value == 0) ≡ true → Carried a b [] → Carried a b (after_blank value)
+pub no_value : (a b : Way) (value : List ℕ) → (length value == 0) ≡ true → Carried a b [] → Carried a b (blank_before value)
 no_value a b [] empty h = h
 no_value a b (x ∷ value) empty h = absurd (grind (arith, nat_tests))
 
 -- a blank and the value
-pub some_value : (a b : Way) (value : List ℕ) → (length value == 0) ≡ false → Carried a b (32 ∷ value) → Carried a b (after_blank value)
+pub some_value : (a b : Way) (value : List ℕ) → (length value == 0) ≡ false → Carried a b (32 ∷ value) → Carried a b (blank_before value)
 some_value a b [] full h = absurd (cc)
 some_value a b (x ∷ value) full h = h
 
@@ -58,6 +58,6 @@ some_weights a b c d weights first rest is h k end =
     (carried_then b c d (flat_map (λ word. 32 ∷ word) (map signed_decimal rest)) line_end k end))
 
 -- a section's line, then its lines
-pub opened : (a b c : Way) (field : Field) (lines : List ℕ) → Carried a b (field_word field ++ line_end) → Carried b c lines → Carried a c (section field lines)
+pub opened : (a b c : Way) (field : Field) (lines : List ℕ) → Carried a b (field_word field ++ line_end) → Carried b c lines → Carried a c (section_text field lines)
 opened a b c field lines h k =
     subst (λ t. Carried a c t) (append_assoc (field_word field) line_end lines) (carried_then a b c (field_word field ++ line_end) lines h k)

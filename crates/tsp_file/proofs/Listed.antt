@@ -18,7 +18,7 @@ use Rattle.tsp_draft.specs.Fields.{Fields}
 use Rattle.tsp_draft.specs.Valid.{IsWithin, IsInRange}
 use Rattle.tsp_file.specs.Cost.{weight_at, listed_cost, layout_of, cost_by, cost}
 use Rattle.tsp_format.specs.Symmetry.{IsSymmetric}
-use Rattle.tsp_file.specs.Listed.{IsListed, IsUnlisted}
+use Rattle.tsp_file.specs.Listed.{ListsWeights, UnlistedHaveNoPlace}
 
 -- the cost of a cell is the weight at its place
 pub cost_of_cell : (layout : Layout) (n : ℕ) (weights : List ℤ) (i j place : ℕ) → place_of layout n (i, j) ≡ Some place → listed_cost layout n weights i j ≡ slice_index_or weights place (pos 0)
@@ -96,7 +96,7 @@ swapped (Some a) (Some b) one = ⊎_elim (λ e. absurd cc) (λ e. absurd cc) one
 no_weight : (layout : Layout) (n : ℕ) (weights : List ℤ) (i j : ℕ) → place_of layout n (i, j) ≡ None → weight_at layout n weights (i, j) ≡ None
 no_weight layout n weights i j out = ap (option_map (λ at. slice_index_or weights at (pos 0))) out
 
-pub triangle_even : (layout : Layout) (n : ℕ) (weights : List ℤ) → layout ≢ FullMatrix → IsUnlisted layout n → IsSymmetric (listed_cost layout n weights)
+pub triangle_even : (layout : Layout) (n : ℕ) (weights : List ℤ) → layout ≢ FullMatrix → UnlistedHaveNoPlace layout n → IsSymmetric (listed_cost layout n weights)
 unfolding listed_cost
 triangle_even layout n weights half unlisted i j other = swapped (weight_at layout n weights (i, j)) (weight_at layout n weights (j, i))
     (⊎_elim (λ out. inl (no_weight layout n weights i j (unlisted i j out))) (λ out. inr (no_weight layout n weights j i (unlisted j i out))) (one_half layout i j half other))
@@ -131,7 +131,7 @@ CellsAreListed = (layout : Layout) (n i j : ℕ) → Contains (cells layout n) (
 abbrev pub OnlyCellsHavePlaces : Type 0
 OnlyCellsHavePlaces = (layout : Layout) (n : ℕ) (pair : ℕ × ℕ) → ¬ Contains (cells layout n) pair → place_of layout n pair ≡ None
 
-pub unlisted_has_no_place : CellsAreListed → OnlyCellsHavePlaces → (layout : Layout) (n : ℕ) → IsUnlisted layout n
+pub unlisted_has_no_place : CellsAreListed → OnlyCellsHavePlaces → (layout : Layout) (n : ℕ) → UnlistedHaveNoPlace layout n
 unlisted_has_no_place listed places layout n i j out = places layout n (i, j) (λ h. false≢true (sym out ∙ ((listed layout n i j).0 h).2))
 
 pub outside_has_no_place : CellsAreListed → OnlyCellsHavePlaces → (layout : Layout) (n i j : ℕ) → ¬ (IsNode n i × IsNode n j) → place_of layout n (i, j) ≡ None
@@ -141,7 +141,7 @@ outside_has_no_place listed places layout n i j out = places layout n (i, j) (λ
 
 -- what a valid file lists
 pub lists : (f : Fields) (layout : Layout) (n : ℕ) (weights : List ℤ) → IsInRange f → f.weight_format ≡ Some (Listed layout) → f.dimension ≡ Some n
-    → f.weights ≡ Some weights → IsListed f layout n weights
+    → f.weights ≡ Some weights → ListsWeights f layout n weights
 lists f layout n weights range format dimension stand =
     let held = range.weights weights stand in
     let same_n : held.n ≡ n = cc in
@@ -157,7 +157,7 @@ lists f layout n weights range format dimension stand =
     }
 
 -- the cost from the weights
-pub cost_of_listed : (f : Fields) (layout : Layout) (n : ℕ) (weights : List ℤ) → f.weight_kind ≡ Some Explicit → IsListed f layout n weights → (i j : ℕ) → listed_cost layout n weights i j ≡ cost f i j
+pub cost_of_listed : (f : Fields) (layout : Layout) (n : ℕ) (weights : List ℤ) → f.weight_kind ≡ Some Explicit → ListsWeights f layout n weights → (i j : ℕ) → listed_cost layout n weights i j ≡ cost f i j
 unfolding cost
 cost_of_listed f layout n weights kind held i j = sym (
     ap (λ k. cost_by k f i j) kind

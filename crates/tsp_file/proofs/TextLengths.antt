@@ -12,7 +12,7 @@ use Rattle.std.proofs.lemmas.List.Folds.{list_all-append, flat_map-map}
 use Rattle.std.proofs.lemmas.List.Sums.{sum_by-cons}
 use Rattle.tsp_format.specs.Limits.{most_nodes, most_weight}
 use Rattle.tsp_draft.specs.Validity.{is_from_to, is_within, is_node, is_tour}
-use Rattle.tsp_file.specs.Text.{line_end, number_line, by_node, ended, node_list, pair_list, triple_list, weight_line, matrix_lines}
+use Rattle.tsp_file.specs.Text.{line_end, number_line, lines_by_node, ended_by_mark, node_list, pair_list, triple_list, weight_line, matrix_lines}
 
 -- what three tests that pass together say
 pub three_parts : (a b c : Bool) → (a && b && c) ≡ true → (a ≡ true) × (b ≡ true) × (c ≡ true)
@@ -89,7 +89,7 @@ numbered_short {A} fits numbers k each start (x ∷ xs) few all =
     omega (arith, first, node, each x parts.0, both, others)
 
 pub by_node_short : {A : Type 0} (fits : A → Bool) (numbers : A → List (List ℕ)) (k : ℕ) → ((x : A) → fits x ≡ true → length (number_line [] (numbers x)) ≤ k) → (xs : List A)
-    → length xs ≤ most_nodes → list_all fits xs ≡ true → length (by_node numbers xs) ≤ (6 + k) * most_nodes
+    → length xs ≤ most_nodes → list_all fits xs ≡ true → length (lines_by_node numbers xs) ≤ (6 + k) * most_nodes
 by_node_short fits numbers k each xs few all =
     let all_lines = numbered_short fits numbers k each 1 xs (omega arith) all in
     grind (arith, all_lines, few)
@@ -98,7 +98,7 @@ by_node_short fits numbers k each xs few all =
 
 -- lines of at most k bytes, and the line of the -1
 ended_short : {A : Type 0} (fits : A → Bool) (line : A → List ℕ) (k : ℕ) → ((x : A) → fits x ≡ true → length (line x) ≤ k) → (xs : List A) → list_all fits xs ≡ true
-    → length (ended (flat_map line xs)) ≤ k * length xs + 3
+    → length (ended_by_mark (flat_map line xs)) ≤ k * length xs + 3
 ended_short fits line k each xs all = grind (arith, length-append (flat_map line xs) (codes "-1" ++ line_end), flat_short fits line k each xs all)
 
 pub node_list_short : (fits : ℕ → Bool) → ((node : ℕ) → fits node ≡ true → length (decimal node) ≤ 6) → (nodes : List ℕ) → list_all fits nodes ≡ true

@@ -12,6 +12,6 @@ abbrev pub CostIs : Layout → ℕ → ℕ → ℤ → Type 0
 CostIs layout i j cost = listed_cost layout 4 (six (pos 1) (pos 2) (pos 3) (pos 4) (pos 5) (pos 6)) i j ≡ cost
 
 -- three nodes with the weights 1 to 6 in a layout: those in another one
-abbrev pub Becomes : Layout → Layout → List ℤ → Type 0
-Becomes from to weights =
+abbrev pub LaysOutAs : Layout → Layout → List ℤ → Type 0
+LaysOutAs from to weights =
     costs_in to 3 (listed_cost from 3 (six (pos 1) (pos 2) (pos 3) (pos 4) (pos 5) (pos 6))) ≡ weights

@@ -10,7 +10,7 @@ use Rattle.tsp_draft.specs.Fields.{Fields}
 use Rattle.tsp_draft.specs.Valid.{IsWithin}
 
 -- the file lists these weights over n nodes in this layout
-pub record IsListed (f : Fields) (layout : Layout) (n : ℕ) (weights : List ℤ) : Type 0 where
+pub record ListsWeights (f : Fields) (layout : Layout) (n : ℕ) (weights : List ℤ) : Type 0 where
   pub format : f.weight_format ≡ Some (Listed layout)
   pub dimension : f.dimension ≡ Some n
   pub weights_are : f.weights ≡ Some weights
@@ -20,5 +20,5 @@ pub record IsListed (f : Fields) (layout : Layout) (n : ℕ) (weights : List ℤ
   pub sizes : All (IsWithin most_weight) weights
 
 -- pairs that the layout doesn't list have no place among its cells
-abbrev pub IsUnlisted : Layout → ℕ → Type 0
-IsUnlisted layout n = (i j : ℕ) → is_listed layout (i, j) ≡ false → place_of layout n (i, j) ≡ None
+abbrev pub UnlistedHaveNoPlace : Layout → ℕ → Type 0
+UnlistedHaveNoPlace layout n = (i j : ℕ) → is_listed layout (i, j) ≡ false → place_of layout n (i, j) ≡ None

@@ -38,8 +38,8 @@ pub record IsFirstOnDiagonal (n : ℕ) (cost : ℕ → ℕ → ℤ) (i : ℕ) : 
 abbrev pub HasListedWeights : Fields → Type 0
 HasListedWeights f = (f.weight_kind ≡ Some Explicit) × IsSome f.weights
 
-abbrev pub nodes_in : Fields → ℕ
-nodes_in f = unwrap_or f.dimension 0
+abbrev pub file_nodes : Fields → ℕ
+file_nodes f = unwrap_or f.dimension 0
 
 -- the same fields but for these weights, in this layout
 abbrev pub with_weights : Fields → Layout → List ℤ → Fields
@@ -58,15 +58,15 @@ pub record CanGo (f : Fields) (to : Layout) : Type 0 where
 -- Only the format and the weights are others, and every cost is as before, those from a node to itself too.
 pub record IsRelaid (old : Fields) (to : Layout) (new : Fields) : Type 0 where
   pub can_go : CanGo old to
-  pub fields : new ≡ with_weights old to (costs_in to (nodes_in old) (cost old))
+  pub fields : new ≡ with_weights old to (costs_in to (file_nodes old) (cost old))
   pub costs : (i j : ℕ) → cost new i j ≡ cost old i j
 
 -- Why it isn't done: the first of these that holds. Of memory there can't be a want where the layout is that of the file.
 abbrev pub IsRefused : Fields → Layout → RelayoutFault → Type 0
 IsRefused f to NotExplicit = ¬ HasListedWeights f
-IsRefused f to (NotSymmetric i j) = HasListedWeights f × (to ≢ FullMatrix) × IsFirstAsymmetric (nodes_in f) (cost f) (i, j)
+IsRefused f to (NotSymmetric i j) = HasListedWeights f × (to ≢ FullMatrix) × IsFirstAsymmetric (file_nodes f) (cost f) (i, j)
 IsRefused f to (DiagonalLost i) = HasListedWeights f × HoldsPairs to (cost f)
-    × (lists_diagonal to ≡ false) × IsFirstOnDiagonal (nodes_in f) (cost f) i
+    × (lists_diagonal to ≡ false) × IsFirstOnDiagonal (file_nodes f) (cost f) i
 IsRefused f to OutOfMemory = CanGo f to × (f.weight_format ≢ Some (Listed to))
 
 -- the file in the new layout, or why not and the same file

@@ -28,13 +28,13 @@ abbrev pub line_end : List ℕ
 line_end = 10 ∷ []
 
 -- a blank before a text that isn't empty
-abbrev pub after_blank : List ℕ → List ℕ
-after_blank [] = []
-after_blank (first ∷ rest) = 32 ∷ first ∷ rest
+abbrev pub blank_before : List ℕ → List ℕ
+blank_before [] = []
+blank_before (first ∷ rest) = 32 ∷ first ∷ rest
 
 -- a keyword, a blank, a colon and the value
 abbrev pub value_line : List ℕ → List ℕ → List ℕ
-value_line keyword value = keyword ++ (codes " :" ++ (after_blank value ++ line_end))
+value_line keyword value = keyword ++ (codes " :" ++ (blank_before value ++ line_end))
 
 abbrev pub keyword_line : Field → List ℕ → List ℕ
 keyword_line field value = value_line (field_word field) value
@@ -58,29 +58,29 @@ ended_line words = flat_map before_blank words ++ (codes "-1" ++ line_end)
 -- ---- sections
 
 -- the section's line, then its number lines
-abbrev pub section : Field → List ℕ → List ℕ
-section field lines = field_word field ++ (line_end ++ lines)
+abbrev pub section_text : Field → List ℕ → List ℕ
+section_text field lines = field_word field ++ (line_end ++ lines)
 
 -- one line for each node in rising order: the node and its numbers
-abbrev pub by_node : {A : Type 0} → (A → List (List ℕ)) → List A → List ℕ
-by_node numbers entries = flat_map (λ entry. number_line (decimal entry.0) (numbers entry.1)) (enumerate_from 1 entries)
+abbrev pub lines_by_node : {A : Type 0} → (A → List (List ℕ)) → List A → List ℕ
+lines_by_node numbers entries = flat_map (λ entry. number_line (decimal entry.0) (numbers entry.1)) (enumerate_from 1 entries)
 
 -- lines that -1 ends
-abbrev pub ended : List ℕ → List ℕ
-ended lines = lines ++ (codes "-1" ++ line_end)
+abbrev pub ended_by_mark : List ℕ → List ℕ
+ended_by_mark lines = lines ++ (codes "-1" ++ line_end)
 
 -- one node per line, then -1
 abbrev pub node_list : List ℕ → List ℕ
-node_list nodes = ended (flat_map (λ node. number_line (decimal node) []) nodes)
+node_list nodes = ended_by_mark (flat_map (λ node. number_line (decimal node) []) nodes)
 
 -- one pair per line, then -1
 abbrev pub pair_list : List (ℕ × ℕ) → List ℕ
-pair_list pairs = ended (flat_map (λ pair. number_line (decimal pair.0) (decimal pair.1 ∷ [])) pairs)
+pair_list pairs = ended_by_mark (flat_map (λ pair. number_line (decimal pair.0) (decimal pair.1 ∷ [])) pairs)
 
 -- one pair with its number per line, then -1
 abbrev pub triple_list : List (ℕ × ℕ × ℤ) → List ℕ
 triple_list triples =
-    ended (flat_map (λ triple. number_line (decimal triple.0) (decimal triple.1 ∷ signed_decimal triple.2 ∷ [])) triples)
+    ended_by_mark (flat_map (λ triple. number_line (decimal triple.0) (decimal triple.1 ∷ signed_decimal triple.2 ∷ [])) triples)
 
 -- the nodes of a set in one line, then -1
 abbrev pub set_line : List ℕ → List ℕ
@@ -88,11 +88,11 @@ set_line set = ended_line (map decimal set)
 
 -- a line for each set of a comb, then the line -1
 abbrev pub comb_lines : List (List ℕ) → List ℕ
-comb_lines comb = ended (flat_map set_line comb)
+comb_lines comb = ended_by_mark (flat_map set_line comb)
 
 -- all combs, then one more line -1
 abbrev pub comb_list : List (List (List ℕ)) → List ℕ
-comb_list combs = ended (flat_map comb_lines combs)
+comb_list combs = ended_by_mark (flat_map comb_lines combs)
 
 -- the index of a number, and its difference
 abbrev pub change_words : ℕ × ℤ → List (List ℕ)
@@ -141,17 +141,17 @@ optional text (Some value) = text value
 -- the text of a section of this shape
 abbrev pub text_of_section : Fields → Field → Shape → List ℕ
 text_of_section f field (Numbers low high) =
-    optional (λ numbers. section field (by_node whole_number numbers)) (numbers_in f field)
-text_of_section f field Points = optional (λ points. section field (by_node (point_numbers false) points)) (points_in f field)
-text_of_section f field SpacePoints = optional (λ points. section field (by_node (point_numbers true) points)) (points_in f field)
-text_of_section f field Depots = optional (λ depots. section field (node_list depots)) f.depots
-text_of_section f field Pairs = optional (λ pairs. section field (pair_list pairs)) f.fixed
+    optional (λ numbers. section_text field (lines_by_node whole_number numbers)) (numbers_in f field)
+text_of_section f field Points = optional (λ points. section_text field (lines_by_node (point_numbers false) points)) (points_in f field)
+text_of_section f field SpacePoints = optional (λ points. section_text field (lines_by_node (point_numbers true) points)) (points_in f field)
+text_of_section f field Depots = optional (λ depots. section_text field (node_list depots)) f.depots
+text_of_section f field Pairs = optional (λ pairs. section_text field (pair_list pairs)) f.fixed
 text_of_section f field Weights =
-    optional (λ weights. section field (matrix_lines (line_lens f.weight_format f.dimension) weights)) f.weights
-text_of_section f field Tours = optional (λ tours. section field (flat_map node_list tours)) f.tours
-text_of_section f field Triples = optional (λ triples. section field (triple_list triples)) f.fixed_potentials
-text_of_section f field Combs = optional (λ combs. section field (comb_list combs)) f.combs
-text_of_section f field Steps = optional (λ steps. section field (step_lines steps)) f.branches
+    optional (λ weights. section_text field (matrix_lines (line_lens f.weight_format f.dimension) weights)) f.weights
+text_of_section f field Tours = optional (λ tours. section_text field (flat_map node_list tours)) f.tours
+text_of_section f field Triples = optional (λ triples. section_text field (triple_list triples)) f.fixed_potentials
+text_of_section f field Combs = optional (λ combs. section_text field (comb_list combs)) f.combs
+text_of_section f field Steps = optional (λ steps. section_text field (step_lines steps)) f.branches
 
 -- the text of a keyword whose value is read as a number
 abbrev pub text_of_value : Fields → Field → Option ValueShape → List ℕ

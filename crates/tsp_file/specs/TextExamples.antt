@@ -71,5 +71,5 @@ abbrev pub without_combs : Fields
 without_combs = record blank_fields { combs = Some [] }
 
 -- the text of the field in the small file
-abbrev pub IsWritten : Field → List ℕ → Type 0
-IsWritten field text = text_of_field small field ≡ text
+abbrev pub IsSmallText : Field → List ℕ → Type 0
+IsSmallText field text = text_of_field small field ≡ text

@@ -6,11 +6,11 @@ ghost use Rattle.tsp_distance.specs.declared.decimal.Point.{Point};
 ghost use Rattle.tsp_distance.specs.Distances.{euc_2d_of, ceil_2d_of, man_2d_of, max_2d_of, att_of, euc_3d_of, man_3d_of, max_3d_of};
 ghost use Rattle.tsp_format.specs.declared.kinds.WeightKind.TheVariants as weight_kinds;
 ghost use Rattle.tsp_format.specs.declared.layout.Layout.TheVariants as layouts;
-ghost use Rattle.tsp_draft.specs.Examples.{directed, plane};
+ghost use Rattle.tsp_draft.specs.Examples.{directed_matrix, plane};
 ghost use Rattle.tsp_file.specs.declared.fault.RelayoutFault.TheVariants as faults;
 ghost use Rattle.tsp_file.specs.Relayout.{lists_diagonal, IsFirstOnDiagonal, IsRefused};
 ghost use Rattle.tsp_file.specs.Cost.{cost, distance};
-ghost use Rattle.tsp_file.specs.Examples.{CostIs, Becomes, six};
+ghost use Rattle.tsp_file.specs.Examples.{CostIs, LaysOutAs, six};
 
 /// The costs of two nodes under the layouts, and which layouts list the diagonal.
 #[tactic(auto, unfolding(crate::specs::Cost::listed_cost, tsp_format::specs::Place::place_of, tsp_format::specs::Cells::cells, tsp_format::specs::Cells::nodes_to))]
@@ -31,22 +31,22 @@ pub fn examples_of_costs()
 /// The weights in another layout.
 #[tactic(auto, unfolding(crate::specs::Cost::listed_cost, tsp_format::specs::Place::place_of, tsp_format::specs::Cells::cells, tsp_format::specs::Cells::nodes_to))]
 pub fn examples_of_relayouts()
-    ensures the_same { Becomes layouts.UpperDiagRow layouts.UpperDiagRow (six (pos 1) (pos 2) (pos 3) (pos 4) (pos 5) (pos 6)) }
-    ensures diagonal { Becomes layouts.UpperDiagRow layouts.LowerDiagRow (six (pos 1) (pos 2) (pos 4) (pos 3) (pos 5) (pos 6)) }
-    ensures by_columns { Becomes layouts.UpperDiagRow layouts.UpperDiagCol (six (pos 1) (pos 2) (pos 4) (pos 3) (pos 5) (pos 6)) }
-    ensures without_diagonal { Becomes layouts.UpperDiagRow layouts.LowerCol (pos 2 ∷ pos 3 ∷ pos 5 ∷ []) }
-    ensures zeros { Becomes layouts.UpperRow layouts.LowerDiagRow (six (pos 0) (pos 1) (pos 0) (pos 2) (pos 3) (pos 0)) }
+    ensures the_same { LaysOutAs layouts.UpperDiagRow layouts.UpperDiagRow (six (pos 1) (pos 2) (pos 3) (pos 4) (pos 5) (pos 6)) }
+    ensures diagonal { LaysOutAs layouts.UpperDiagRow layouts.LowerDiagRow (six (pos 1) (pos 2) (pos 4) (pos 3) (pos 5) (pos 6)) }
+    ensures by_columns { LaysOutAs layouts.UpperDiagRow layouts.UpperDiagCol (six (pos 1) (pos 2) (pos 4) (pos 3) (pos 5) (pos 6)) }
+    ensures without_diagonal { LaysOutAs layouts.UpperDiagRow layouts.LowerCol (pos 2 ∷ pos 3 ∷ pos 5 ∷ []) }
+    ensures zeros { LaysOutAs layouts.UpperRow layouts.LowerDiagRow (six (pos 0) (pos 1) (pos 0) (pos 2) (pos 3) (pos 0)) }
 {}
 
 /// Why weights aren't put into another layout.
 #[tactic(auto, unfolding(crate::specs::Cost::cost, crate::specs::Cost::listed_cost, tsp_format::specs::Place::place_of, tsp_format::specs::Cells::cells, tsp_format::specs::Cells::nodes_to))]
 pub fn examples_of_lost_costs()
-    ensures uneven { IsRefused directed layouts.UpperRow (faults.NotSymmetric 1 2) }
+    ensures uneven { IsRefused directed_matrix layouts.UpperRow (faults.NotSymmetric 1 2) }
     ensures not_listed { IsRefused plane layouts.UpperRow faults.NotExplicit }
-    ensures diagonal { IsFirstOnDiagonal 3 (cost directed) 1 }
-    ensures onward { cost directed 2 3 ≡ pos 2 }
-    ensures backward { cost directed 3 2 ≡ pos 10 }
-    ensures itself { cost directed 2 2 ≡ pos 9999 }
+    ensures diagonal { IsFirstOnDiagonal 3 (cost directed_matrix) 1 }
+    ensures onward { cost directed_matrix 2 3 ≡ pos 2 }
+    ensures backward { cost directed_matrix 3 2 ≡ pos 10 }
+    ensures itself { cost directed_matrix 2 2 ≡ pos 9999 }
 {}
 
 /// Which distance each weight type stands for.

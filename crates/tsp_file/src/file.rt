@@ -46,7 +46,7 @@ impl File {
     ghost use Rattle.tsp_format.specs.declared.kinds.WeightFormat.TheVariants.{Listed};
     ghost use Rattle.tsp_file.specs.Cost.{cost};
     ghost use Rattle.tsp_file.specs.Way.{HasHalf};
-    ghost use Rattle.tsp_file.specs.Relayout.{CanGo, nodes_in, with_weights, costs_in};
+    ghost use Rattle.tsp_file.specs.Relayout.{CanGo, file_nodes, with_weights, costs_in};
     ghost use Rattle.tsp_format.specs.Steps.{steps_of};
     ghost use Rattle.tsp_draft.specs.Fields.{fields_of, combs_of};
     ghost use Rattle.tsp_draft.specs.Rules.{fault_of};
@@ -84,7 +84,7 @@ impl File {
     /// The caller owes as many weights as the layout has cells, and a file that has weights.
     pub(crate) fn with_weights(self, layout: Layout, weights: Vec<i64>) -> File
         requires stand { IsSome self.weights }
-        requires count { length weights.items ≡ length (cells layout (nodes_in self)) }
+        requires count { length weights.items ≡ length (cells layout (file_nodes self)) }
         requires sizes { All (IsWithin most_weight) weights.items }
         ensures { result ≡ with_weights self layout weights.items }
     {
@@ -98,7 +98,7 @@ impl File {
     pub(crate) fn with_half(self, to: Layout) -> File
         requires full { self.weight_format ≡ Some (Listed FullMatrix) }
         requires can_go { CanGo self to }
-        ensures { result ≡ with_weights self to (costs_in to (nodes_in self) (cost self)) }
+        ensures { result ≡ with_weights self to (costs_in to (file_nodes self) (cost self)) }
     {
         let File { mut draft } = self;
         let Some(nodes) = draft.dimension else {
@@ -119,7 +119,7 @@ impl File {
         requires half { HasHalf self }
         requires can_go { CanGo self FullMatrix }
         ensures { MatchResult result
-            (λ file. file ≡ with_weights self FullMatrix (costs_in FullMatrix (nodes_in self) (cost self)))
+            (λ file. file ≡ with_weights self FullMatrix (costs_in FullMatrix (file_nodes self) (cost self)))
             (λ back. back ≡ self) }
     {
         let File { mut draft } = self;

@@ -2,7 +2,7 @@
 
 ghost use Rattle.std.specs.Prelude.{◌≡◌, Some, MatchOption, MatchResult};
 ghost use Rattle.tsp_format.specs.declared.kinds.WeightKind.TheVariants.{Explicit};
-ghost use Rattle.tsp_file.specs.Listed.{IsListed};
+ghost use Rattle.tsp_file.specs.Listed.{ListsWeights};
 ghost use Rattle.tsp_file.specs.Relayout.{HasListedWeights, CanGo, IsRefused, IsRelayout};
 ghost use Rattle.tsp_file.specs.Way.{LeadsTo};
 
@@ -75,7 +75,7 @@ impl File {
     fn listed(&self) -> Option<ListedWeights<'_>>
         ensures { MatchOption result (¬ HasListedWeights self.now)
             (λ listed. (self.now.weight_kind ≡ Some Explicit)
-            × IsListed self.now listed.layout listed.nodes listed.weights.now) }
+            × ListsWeights self.now listed.layout listed.nodes listed.weights.now) }
     {
         let _valid = self.fields();
         valid_fields_are_in_range();

@@ -51,7 +51,7 @@ impl<'a> ListedWeights<'a> {
     ghost use Rattle.tsp_format.specs.Cells.{IsNode, cells_of_line};
     ghost use Rattle.tsp_format.specs.Symmetry.{IsFirstAsymmetric};
     ghost use Rattle.tsp_draft.specs.Fields.{Fields};
-    ghost use Rattle.tsp_file.specs.Listed.{IsListed};
+    ghost use Rattle.tsp_file.specs.Listed.{ListsWeights};
     ghost use Rattle.tsp_file.specs.Relayout.{HoldsPairs, HoldsDiagonal, lists_diagonal, IsFirstOnDiagonal, costs_in};
     ghost use Rattle.std.specs.Prelude.{◌-◌, slice_index_or};
     ghost use Rattle.std.specs.List.{range_with_len};
@@ -60,7 +60,7 @@ impl<'a> ListedWeights<'a> {
 
     /// These weights over so many nodes in this layout.
     pub(crate) fn of(layout: Layout, nodes: u32, weights: &'a [i64]) -> ListedWeights<'a>
-        requires { (f : Fields) × IsListed f layout nodes weights.now }
+        requires { (f : Fields) × ListsWeights f layout nodes weights.now }
         ensures layout { result.layout ≡ layout }
         ensures nodes { result.nodes ≡ nodes }
         ensures weights { result.weights.now ≡ weights.now }

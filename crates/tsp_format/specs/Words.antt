@@ -82,14 +82,14 @@ field_word field.BranchPart = codes "BRANCH_SECTION"
 -- ---- all values, each the first with its own word
 
 -- the value is the first of the list with its word
-abbrev pub IsFound : {V : Type 0} → (V → List ℕ) → List V → V → Type 0
-IsFound text values value = find (λ other. bytes_eq (text value) (text other)) values ≡ Some value
+abbrev pub IsFirstWithWord : {V : Type 0} → (V → List ℕ) → List V → V → Type 0
+IsFirstWithWord text values value = find (λ other. bytes_eq (text value) (text other)) values ≡ Some value
 
 -- the values of TYPE
 abbrev pub kinds : List Kind
 kinds = kind.Tsp ∷ kind.Atsp ∷ kind.Cvrp ∷ kind.Tour ∷ kind.Potentials ∷ kind.Branches ∷ []
 
-pub kind_found : (value : Kind) → IsFound kind_word kinds value
+pub kind_found : (value : Kind) → IsFirstWithWord kind_word kinds value
 kind_found kind.Tsp = refl
 kind_found kind.Atsp = refl
 kind_found kind.Cvrp = refl
@@ -102,7 +102,7 @@ abbrev pub weight_kinds : List WeightKind
 weight_kinds = weight_kind.Explicit ∷ weight_kind.Euc2d ∷ weight_kind.Ceil2d ∷ weight_kind.Man2d ∷ weight_kind.Max2d
     ∷ weight_kind.Att ∷ weight_kind.Euc3d ∷ weight_kind.Man3d ∷ weight_kind.Max3d ∷ []
 
-pub weight_kind_found : (value : WeightKind) → IsFound weight_kind_word weight_kinds value
+pub weight_kind_found : (value : WeightKind) → IsFirstWithWord weight_kind_word weight_kinds value
 weight_kind_found weight_kind.Explicit = refl
 weight_kind_found weight_kind.Euc2d = refl
 weight_kind_found weight_kind.Ceil2d = refl
@@ -118,7 +118,7 @@ abbrev pub layouts : List Layout
 layouts = layout.FullMatrix ∷ layout.UpperRow ∷ layout.LowerRow ∷ layout.UpperDiagRow ∷ layout.LowerDiagRow ∷ layout.UpperCol
     ∷ layout.LowerCol ∷ layout.UpperDiagCol ∷ layout.LowerDiagCol ∷ []
 
-pub layout_found : (value : Layout) → IsFound layout_word layouts value
+pub layout_found : (value : Layout) → IsFirstWithWord layout_word layouts value
 layout_found layout.FullMatrix = refl
 layout_found layout.UpperRow = refl
 layout_found layout.LowerRow = refl
@@ -136,7 +136,7 @@ weight_formats = format.ByFunction ∷ (format.Listed layout.FullMatrix) ∷ (fo
     ∷ (format.Listed layout.UpperCol) ∷ (format.Listed layout.LowerCol) ∷ (format.Listed layout.UpperDiagCol)
     ∷ (format.Listed layout.LowerDiagCol) ∷ []
 
-pub weight_format_found : (value : WeightFormat) → IsFound weight_format_word weight_formats value
+pub weight_format_found : (value : WeightFormat) → IsFirstWithWord weight_format_word weight_formats value
 weight_format_found format.ByFunction = refl
 weight_format_found (format.Listed layout.FullMatrix) = refl
 weight_format_found (format.Listed layout.UpperRow) = refl
@@ -152,7 +152,7 @@ weight_format_found (format.Listed layout.LowerDiagCol) = refl
 abbrev pub coord_kinds : List CoordKind
 coord_kinds = coord_kind.TwoD ∷ coord_kind.ThreeD ∷ coord_kind.NoCoords ∷ []
 
-pub coord_kind_found : (value : CoordKind) → IsFound coord_kind_word coord_kinds value
+pub coord_kind_found : (value : CoordKind) → IsFirstWithWord coord_kind_word coord_kinds value
 coord_kind_found coord_kind.TwoD = refl
 coord_kind_found coord_kind.ThreeD = refl
 coord_kind_found coord_kind.NoCoords = refl
@@ -161,7 +161,7 @@ coord_kind_found coord_kind.NoCoords = refl
 abbrev pub display_kinds : List DisplayKind
 display_kinds = display_kind.Coord ∷ display_kind.TwoD ∷ display_kind.NoDisplay ∷ []
 
-pub display_kind_found : (value : DisplayKind) → IsFound display_kind_word display_kinds value
+pub display_kind_found : (value : DisplayKind) → IsFirstWithWord display_kind_word display_kinds value
 display_kind_found display_kind.Coord = refl
 display_kind_found display_kind.TwoD = refl
 display_kind_found display_kind.NoDisplay = refl
@@ -174,7 +174,7 @@ fields_in_order = field.NameKey ∷ field.TypeKey ∷ field.CommentKey ∷ field
     ∷ field.EdgeWeightPart ∷ field.TourPart ∷ field.NodePotentialPart ∷ field.RowPotentialPart ∷ field.ColumnPotentialPart
     ∷ field.FixedEdgePotentialPart ∷ field.CombPart ∷ field.BranchPart ∷ []
 
-pub field_found : (value : Field) → IsFound field_word fields_in_order value
+pub field_found : (value : Field) → IsFirstWithWord field_word fields_in_order value
 field_found field.NameKey = refl
 field_found field.TypeKey = refl
 field_found field.CommentKey = refl

@@ -13,7 +13,7 @@ use Rattle.std.specs.Char.{is_ascii_digit}
 use Rattle.std.specs.List.{prefix_len}
 use Rattle.std.specs.Str.Parse.{AllDigits, digits_value}
 use Rattle.tsp_distance.specs.Decimal.{unit, most_count}
-use Rattle.tsp_number.specs.NumberWord.{IsShort, ReadsDecimal, ReadsWhole, point, IsSign, IsFraction, Numeral, StandsFor, IsShifted, signed, mantissa, digits_of, places}
+use Rattle.tsp_number.specs.NumberWord.{IsShort, ReadsDecimal, ReadsWhole, point, IsSign, IsFraction, Numeral, StandsFor, IsShifted, with_sign, mantissa, digits_of, places}
 use Rattle.tsp_number.specs.declared.fault.NumberFault.TheVariants.{OutOfRange}
 use Rattle.tsp_number.specs.Front.{BeginsWithNumber, digit_count, few_end}
 use Rattle.tsp_number.proofs.Prefixes.{prefix_of_front, prefix_goes_on}
@@ -168,11 +168,11 @@ plain_stands : (word sign whole fraction_text fraction : List ℕ) (negative : B
     → IsSign sign negative → AllDigits 10 whole → IsFraction fraction_text fraction → AllDigits 10 fraction
     → 0 < length whole + length fraction → length fraction ≤ 9
     → size ≡ digits_value 10 (whole ++ fraction) * 10 ^ (9 - length fraction)
-    → StandsFor word (signed negative size)
+    → StandsFor word (with_sign negative size)
 plain_stands word sign whole fraction_text fraction negative size text is_sign whole_digits is_fraction fraction_digits some few is =
     let n : Numeral = record { negative = negative; whole = whole; fraction = fraction; exponent = pos 0 } in
     let place : places 9 n ≡ pos (9 - length fraction) = omega (arith, ints) in
-    let P : ℤ → Type 0 = λ z. IsShifted (mantissa n) z (signed negative size) in
+    let P : ℤ → Type 0 = λ z. IsShifted (mantissa n) z (with_sign negative size) in
     record {
       numeral = n;
       spelled = record {
@@ -200,7 +200,7 @@ pub record HasWhole (bytes : List ℕ) (sign count whole : ℕ) (negative : Bool
   pub value_is : whole ≡ digits_value 10 (take count (drop sign bytes))
 
 pub whole_front : (bytes : List ℕ) (sign count whole : ℕ) (negative : Bool) → HasWhole bytes sign count whole negative → 0 < count → count ≤ 18
-    → BeginsWithNumber bytes (sign + count) (signed negative (whole * unit))
+    → BeginsWithNumber bytes (sign + count) (with_sign negative (whole * unit))
 whole_front bytes sign count whole negative has some few =
     let ds : List ℕ = take count (drop sign bytes) in
     let long : length ds ≡ count = length-take-le count (drop sign bytes) has.within in
@@ -235,7 +235,7 @@ pub decimal_front : (bytes : List ℕ) (sign count whole parts part : ℕ) (nega
     → sign + count < length bytes → get_or bytes (sign + count) 0 ≡ point
     → parts ≤ length (drop (sign + count + 1) bytes) → parts ≤ 9 → AllDigits 10 (take parts (drop (sign + count + 1) bytes))
     → part ≡ digits_value 10 (take parts (drop (sign + count + 1) bytes)) → 0 < count + parts
-    → BeginsWithNumber bytes (sign + count + 1 + parts) (signed negative (whole * unit + part * 10 ^ (9 - parts)))
+    → BeginsWithNumber bytes (sign + count + 1 + parts) (with_sign negative (whole * unit + part * 10 ^ (9 - parts)))
 decimal_front bytes sign count whole parts part negative has few before is_point within' few' digits' part_is some =
     let ds : List ℕ = take count (drop sign bytes) in
     let fs : List ℕ = take parts (drop (sign + count + 1) bytes) in

@@ -6,7 +6,7 @@ use Rattle.std.proofs.lemmas.Str.Parse.{digit_from_value}
 use Rattle.std.specs.Char.{digit_value, is_ascii_digit}
 use Rattle.std.specs.Option.{option_map}
 use Rattle.std.specs.Str.Parse.{AllDigits, digits_value}
-use Rattle.tsp_number.specs.NumberWord.{plus, minus, point, lower_e, upper_e, IsSign, IsFraction, WritesExponent, IsExponent, signed, Numeral, SpellsNumeral}
+use Rattle.tsp_number.specs.NumberWord.{plus, minus, point, lower_e, upper_e, IsSign, IsFraction, WritesExponent, IsExponent, with_sign, Numeral, SpellsNumeral}
 use Rattle.tsp_number.specs.Scan.{has_minus, after_sign, after_point, front_digits, after_digits, are_digits, exponent_in, whole_in, past_point, fraction_in, past_mantissa, numeral_with, numeral_in}
 use Rattle.tsp_number.proofs.Scanning.{AllDigits-front_digits, if_above_zero}
 use Rattle.tsp_number.proofs.Scaling.{front_digits-all}
@@ -88,7 +88,7 @@ nil_from_test [] empty = refl
 nil_from_test (c ∷ cs) empty = absurd (grind (arith, nat_tests))
 
 writes_exponent : (c : ℕ) (cs : List ℕ) → (c == lower_e || c == upper_e) ≡ true → are_digits (after_sign cs) ≡ true
-    → WritesExponent (c ∷ cs) (signed (has_minus cs) (digits_value 10 (front_digits (after_sign cs))))
+    → WritesExponent (c ∷ cs) (with_sign (has_minus cs) (digits_value 10 (front_digits (after_sign cs))))
 writes_exponent c cs mark digits =
     let split = splits_sign cs in
     let empty : after_digits (after_sign cs) ≡ [] = nil_from_test (after_digits (after_sign cs)) (grind (arith, nat_tests)) in
@@ -114,7 +114,7 @@ chosen false x y same = cc
 is_exponent_in : (bytes : List ℕ) (e : ℤ) → exponent_in bytes ≡ Some e → IsExponent bytes e
 is_exponent_in [] e same = inl (refl, cc)
 is_exponent_in (c ∷ cs) e same =
-    let both = chosen ((c == lower_e || c == upper_e) && are_digits (after_sign cs)) (signed (has_minus cs) (digits_value 10 (front_digits (after_sign cs)))) e same in
+    let both = chosen ((c == lower_e || c == upper_e) && are_digits (after_sign cs)) (with_sign (has_minus cs) (digits_value 10 (front_digits (after_sign cs)))) e same in
     let test = both.0 in
     let mark : (c == lower_e || c == upper_e) ≡ true = grind (arith, nat_tests) in
     let digits : are_digits (after_sign cs) ≡ true = grind (arith, nat_tests) in
@@ -207,7 +207,7 @@ after_digits-all ds all =
     ap after_digits (sym (append-nil ds)) ∙ (front_of ds [] all (record { no_front = refl; all_after = refl })).1
 
 exponent_with : (c : ℕ) (cs ds : List ℕ) (negative : Bool) → (c ≡ lower_e) ⊎ (c ≡ upper_e) → after_sign cs ≡ ds → has_minus cs ≡ negative
-    → AllDigits 10 ds → 0 < length ds → exponent_in (c ∷ cs) ≡ Some (signed negative (digits_value 10 ds))
+    → AllDigits 10 ds → 0 < length ds → exponent_in (c ∷ cs) ≡ Some (with_sign negative (digits_value 10 ds))
 exponent_with c cs ds negative is_mark rest sign all some =
     let mark : (c == lower_e || c == upper_e) ≡ true = grind (arith, nat_tests) in
     let above : nat_lt 0 (length ds) ≡ true = grind (arith, nat_tests) in

@@ -4,7 +4,7 @@ use Rattle.std.proofs.Math.Nat.{mul-le-mul, eq_of_mul-eq-mul_right}
 use Rattle.std.proofs.lemmas.Int.{ints}
 use Rattle.tsp_number.specs.declared.scan.Written.{Written}
 use Rattle.tsp_distance.specs.Decimal.{unit, most_count}
-use Rattle.tsp_number.specs.NumberWord.{Numeral, IsNumberWord, StandsFor, IsShifted, signed, mantissa, digits_of, places}
+use Rattle.tsp_number.specs.NumberWord.{Numeral, IsNumberWord, StandsFor, IsShifted, with_sign, mantissa, digits_of, places}
 use Rattle.tsp_number.specs.Scan.{numeral_in, saturated}
 use Rattle.tsp_number.specs.Written.{KeepsNumeral, HoldsWord, IsShiftedSize, ShiftsTo}
 use Rattle.tsp_number.proofs.Grammar.{spells_in, found}
@@ -12,22 +12,22 @@ use Rattle.tsp_number.proofs.Scaling.{pow_above_zero}
 
 -- ---- signs
 
-pub signed-mul : (negative : Bool) (m p : ℕ) → signed negative m *ℤ pos p ≡ signed negative (m * p)
+pub signed-mul : (negative : Bool) (m p : ℕ) → with_sign negative m *ℤ pos p ≡ with_sign negative (m * p)
 signed-mul false m p = refl
 signed-mul true zero p = omega (arith, ints)
 signed-mul true (suc m) p = refl
 
-pub unsigned_abs-signed : (negative : Bool) (m : ℕ) → unsigned_abs (signed negative m) ≡ m
+pub unsigned_abs-signed : (negative : Bool) (m : ℕ) → unsigned_abs (with_sign negative m) ≡ m
 unsigned_abs-signed false m = refl
 unsigned_abs-signed true zero = refl
 unsigned_abs-signed true (suc m) = refl
 
-pub to_signed : (negative : Bool) (m k : ℕ) (z : ℤ) → IsShiftedSize m z k → IsShifted (signed negative m) z (signed negative k)
-to_signed negative m k (pos up) shifted = ap (signed negative) shifted ∙ sym (signed-mul negative m (10 ^ up))
-to_signed negative m k (negsuc down) shifted = signed-mul negative k (10 ^ (down + 1)) ∙ ap (signed negative) shifted
+pub to_signed : (negative : Bool) (m k : ℕ) (z : ℤ) → IsShiftedSize m z k → IsShifted (with_sign negative m) z (with_sign negative k)
+to_signed negative m k (pos up) shifted = ap (with_sign negative) shifted ∙ sym (signed-mul negative m (10 ^ up))
+to_signed negative m k (negsuc down) shifted = signed-mul negative k (10 ^ (down + 1)) ∙ ap (with_sign negative) shifted
 
 -- a number whose product with one above 0 has a sign has that sign
-pub divided : (negative : Bool) (m p : ℕ) (j : ℤ) → 0 < p → j *ℤ pos p ≡ signed negative m → (k : ℕ) × (k * p ≡ m) × (j ≡ signed negative k)
+pub divided : (negative : Bool) (m p : ℕ) (j : ℤ) → 0 < p → j *ℤ pos p ≡ with_sign negative m → (k : ℕ) × (k * p ≡ m) × (j ≡ with_sign negative k)
 divided false m p (pos a) above same = (a, cc, refl)
 divided false m p (negsuc a) above same =
     let some : 1 ≤ suc a = omega arith in
@@ -42,7 +42,7 @@ divided true m p (pos (suc a)) above same =
     absurd (omega (arith, ints))
 divided true m p (negsuc a) above same = (suc a, omega (arith, ints), refl)
 
-from_signed : (negative : Bool) (m : ℕ) (z j : ℤ) → IsShifted (signed negative m) z j → (k : ℕ) × IsShiftedSize m z k × (j ≡ signed negative k)
+from_signed : (negative : Bool) (m : ℕ) (z j : ℤ) → IsShifted (with_sign negative m) z j → (k : ℕ) × IsShiftedSize m z k × (j ≡ with_sign negative k)
 from_signed negative m (pos up) j shifted = (m * 10 ^ up, refl, shifted ∙ signed-mul negative m (10 ^ up))
 from_signed negative m (negsuc down) j shifted = divided negative m (10 ^ (down + 1)) j (pow_above_zero (down + 1)) shifted
 
@@ -56,14 +56,14 @@ bad_number word none spelled =
     let some = found word spelled.0 spelled.1 in
     cc
 
-pub stands_by : (word : List ℕ) (n : Numeral) (k : ℕ) → numeral_in word ≡ Some n → IsShiftedSize (digits_of n) (places 9 n) k → StandsFor word (signed n.negative k)
+pub stands_by : (word : List ℕ) (n : Numeral) (k : ℕ) → numeral_in word ≡ Some n → IsShiftedSize (digits_of n) (places 9 n) k → StandsFor word (with_sign n.negative k)
 stands_by word n k is_in shifted = record {
   numeral = n;
   spelled = spells_in word n is_in;
   shifted = to_signed n.negative (digits_of n) k (places 9 n) shifted;
 }
 
-pub size_by : (word : List ℕ) (n : Numeral) (j : ℤ) → numeral_in word ≡ Some n → StandsFor word j → (k : ℕ) × IsShiftedSize (digits_of n) (places 9 n) k × (j ≡ signed n.negative k)
+pub size_by : (word : List ℕ) (n : Numeral) (j : ℤ) → numeral_in word ≡ Some n → StandsFor word j → (k : ℕ) × IsShiftedSize (digits_of n) (places 9 n) k × (j ≡ with_sign n.negative k)
 size_by word n j is_in stands =
     let same : stands.numeral ≡ n = same_some (numeral_in word) stands.numeral n (found word stands.numeral stands.spelled) is_in in
     let P : Numeral → Type 0 = λ m. IsShifted (mantissa m) (places 9 m) j in
@@ -77,10 +77,10 @@ too_fine word w holds none = (
 )
 
 pub stands : (word : List ℕ) (w : Written) (size : ℕ) → HoldsWord word w → ((n : Numeral) → KeepsNumeral w n → ShiftsTo (digits_of n) (places 9 n) (Some size))
-    → (k : ℕ) × StandsFor word (signed w.negative k) × (size ≡ saturated k)
+    → (k : ℕ) × StandsFor word (with_sign w.negative k) × (size ≡ saturated k)
 stands word w size holds some =
     let k = some holds.numeral holds.keeps in
-    let P : Bool → Type 0 = λ b. StandsFor word (signed b k.0) in
+    let P : Bool → Type 0 = λ b. StandsFor word (with_sign b k.0) in
     (k.0, subst P (sym holds.keeps.negative) (stands_by word holds.numeral k.0 holds.is_in k.1), k.2)
 
 -- ---- whole numbers
@@ -127,15 +127,15 @@ unit_down m k (negsuc down) (negsuc down') same shifted =
     rw power (omega (arith, shifted))
 
 pub whole_stands : (word : List ℕ) (w : Written) (size : ℕ) → HoldsWord word w → ((n : Numeral) → KeepsNumeral w n → ShiftsTo (digits_of n) (places 0 n) (Some size))
-    → (k : ℕ) × StandsFor word (signed w.negative k *ℤ pos unit) × (size ≡ saturated k)
+    → (k : ℕ) × StandsFor word (with_sign w.negative k *ℤ pos unit) × (size ≡ saturated k)
 whole_stands word w size holds some =
     let n = holds.numeral in
     let k = some n holds.keeps in
     let counted = unit_up (digits_of n) k.0 (places 0 n) (places 9 n) (unit_places n) k.1 in
     let P : ℤ → Type 0 = λ j. StandsFor word j in
     let here = stands_by word n (k.0 * unit) holds.is_in counted in
-    let sign : signed n.negative (k.0 * unit) ≡ signed w.negative k.0 *ℤ pos unit =
-    ap (λ b. signed b (k.0 * unit)) (sym holds.keeps.negative) ∙ sym (signed-mul w.negative k.0 unit) in
+    let sign : with_sign n.negative (k.0 * unit) ≡ with_sign w.negative k.0 *ℤ pos unit =
+    ap (λ b. with_sign b (k.0 * unit)) (sym holds.keeps.negative) ∙ sym (signed-mul w.negative k.0 unit) in
     (k.0, subst P sign here, k.2)
 
 pub not_whole : (word : List ℕ) (w : Written) (size : ℕ) → HoldsWord word w → ((n : Numeral) → KeepsNumeral w n → ShiftsTo (digits_of n) (places 9 n) (Some size))
@@ -144,7 +144,7 @@ pub not_whole : (word : List ℕ) (w : Written) (size : ℕ) → HoldsWord word 
 not_whole word w size holds some none =
     let n = holds.numeral in
     let k = some n holds.keeps in (
-      signed n.negative k.0,
+      with_sign n.negative k.0,
       stands_by word n k.0 holds.is_in k.1,
       λ i same.
           let part = divided n.negative k.0 unit i (omega arith) (sym same) in
@@ -155,39 +155,39 @@ not_whole word w size holds some none =
 -- ---- sizes against the limits
 
 -- a size within the limit is exact
-pub decimal_within : (negative : Bool) (size k : ℕ) (d : ℤ) → size ≡ saturated k → d ≡ signed negative size → unsigned_abs d ≤ most_count → signed negative k ≡ d
+pub decimal_within : (negative : Bool) (size k : ℕ) (d : ℤ) → size ≡ saturated k → d ≡ with_sign negative size → unsigned_abs d ≤ most_count → with_sign negative k ≡ d
 decimal_within negative size k d kept is within =
     let size_is : unsigned_abs d ≡ size = ap unsigned_abs is ∙ unsigned_abs-signed negative size in
     let exact : k ≡ size = omega arith in
-    ap (signed negative) exact ∙ sym is
+    ap (with_sign negative) exact ∙ sym is
 
 -- a size past the limit is of a number past it
-pub decimal_past : (negative : Bool) (size k : ℕ) (d : ℤ) → size ≡ saturated k → d ≡ signed negative size → ¬ (unsigned_abs d ≤ most_count) → most_count < unsigned_abs (signed negative k)
+pub decimal_past : (negative : Bool) (size k : ℕ) (d : ℤ) → size ≡ saturated k → d ≡ with_sign negative size → ¬ (unsigned_abs d ≤ most_count) → most_count < unsigned_abs (with_sign negative k)
 decimal_past negative size k d kept is past =
     let size_is : unsigned_abs d ≡ size = ap unsigned_abs is ∙ unsigned_abs-signed negative size in
     rw (unsigned_abs-signed negative k) (omega arith)
 
 -- a size of 64 bits with a sign is exact
-pub whole_within : (negative : Bool) (size k : ℕ) (v : ℤ) → size ≡ saturated k → v ≡ signed negative size → FitsSigned w64 v → signed negative k ≡ v
+pub whole_within : (negative : Bool) (size k : ℕ) (v : ℤ) → size ≡ saturated k → v ≡ with_sign negative size → FitsSigned w64 v → with_sign negative k ≡ v
 whole_within false size k v kept is fits =
     let P : ℤ → Type 0 = λ z. FitsSigned w64 z in
     let here : FitsSigned w64 (pos size) = subst P is fits in
     let small : size < 2 ^ 63 = here.sfits in
     let exact : k ≡ size = omega arith in
-    ap (signed false) exact ∙ sym is
+    ap (with_sign false) exact ∙ sym is
 whole_within true zero k v kept is fits =
     let exact : k ≡ 0 = omega arith in
-    ap (signed true) exact ∙ sym is
+    ap (with_sign true) exact ∙ sym is
 whole_within true (suc size) k v kept is fits =
     let P : ℤ → Type 0 = λ z. FitsSigned w64 z in
     let here : FitsSigned w64 (negsuc size) = subst P is fits in
     let small : size < 2 ^ 63 = here.sfits in
     let exact : k ≡ suc size = omega arith in
-    ap (signed true) exact ∙ sym is
+    ap (with_sign true) exact ∙ sym is
 
 -- a size outside a range of 64 bits is of a number outside it
-pub whole_past : (negative : Bool) (size k : ℕ) (v low high : ℤ) → size ≡ saturated k → v ≡ signed negative size → FitsSigned w64 low → FitsSigned w64 high
-    → (v <ℤ low) ⊎ (high <ℤ v) → (signed negative k <ℤ low) ⊎ (high <ℤ signed negative k)
+pub whole_past : (negative : Bool) (size k : ℕ) (v low high : ℤ) → size ≡ saturated k → v ≡ with_sign negative size → FitsSigned w64 low → FitsSigned w64 high
+    → (v <ℤ low) ⊎ (high <ℤ v) → (with_sign negative k <ℤ low) ⊎ (high <ℤ with_sign negative k)
 whole_past false size k v (pos low) high kept is fits fits' (inl below) =
     let small : low < 2 ^ 63 = fits.sfits in
     inl (omega (arith, ints))

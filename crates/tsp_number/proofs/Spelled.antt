@@ -12,7 +12,7 @@ use Rattle.std.specs.Fmt.{decimal}
 use Rattle.std.specs.Str.Parse.{AllDigits, digits_value}
 use Rattle.tsp_number.specs.declared.fault.NumberFault.{NumberFault}
 use Rattle.tsp_distance.specs.Decimal.{unit, most_count}
-use Rattle.tsp_number.specs.NumberWord.{minus, point, IsSign, IsFraction, Numeral, StandsFor, IsShifted, signed, mantissa, digits_of, places, ReadsDecimal}
+use Rattle.tsp_number.specs.NumberWord.{minus, point, IsSign, IsFraction, Numeral, StandsFor, IsShifted, with_sign, mantissa, digits_of, places, ReadsDecimal}
 use Rattle.tsp_number.specs.Spelling.{decimals, fraction_spelling, size_spelling, spelling}
 use Rattle.tsp_number.proofs.Reading.{to_signed}
 use Rattle.tsp_number.proofs.Scaling.{digits_value_after-is, digits_value-append, pow_above_zero}
@@ -112,7 +112,7 @@ is_sign : (negative : Bool) → IsSign (sign_text negative) negative
 is_sign false = inl (refl, refl)
 is_sign true = inr (inr (refl, refl))
 
-stands_spelled : (negative : Bool) (size : ℕ) → size ≤ most_count → StandsFor (sign_text negative ++ size_spelling size) (signed negative size)
+stands_spelled : (negative : Bool) (size : ℕ) → size ≤ most_count → StandsFor (sign_text negative ++ size_spelling size) (with_sign negative size)
 stands_spelled negative size most =
     let f = fraction_of (size % unit) (mod_below size unit (omega arith)) in
     let whole = decimal_is_IsNumeral (size / unit) (omega arith) in
@@ -125,7 +125,7 @@ stands_spelled negative size most =
     let high = ap (λ k. k * 10 ^ f.left) value in
     let shifted = ap (λ k. size / unit * k) power in
     let size_is : size ≡ digits_of n * 10 ^ f.left = omega (arith, f.worth, div-add-mod' size unit) in
-    let P : ℤ → Type 0 = λ z. IsShifted (mantissa n) z (signed negative size) in
+    let P : ℤ → Type 0 = λ z. IsShifted (mantissa n) z (with_sign negative size) in
     record {
       numeral = n;
       spelled = record {

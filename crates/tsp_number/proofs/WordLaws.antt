@@ -9,7 +9,7 @@ use Rattle.std.specs.Option.{option_map}
 use Rattle.tsp_number.specs.declared.fault.NumberFault.{NumberFault}
 use Rattle.tsp_number.specs.declared.fault.NumberFault.TheVariants.{LongWord, BadNumber, TooFine, OutOfRange, NotWhole}
 use Rattle.tsp_distance.specs.Decimal.{unit, most_count}
-use Rattle.tsp_number.specs.NumberWord.{Numeral, IsNumberWord, StandsFor, IsShort, signed, digits_of, places, ReadsDecimal, ReadsWhole}
+use Rattle.tsp_number.specs.NumberWord.{Numeral, IsNumberWord, StandsFor, IsShort, with_sign, digits_of, places, ReadsDecimal, ReadsWhole}
 use Rattle.tsp_number.specs.Reading.{shifted_size, number_in, decimal_within, decimal_from, decimal_of, whole_within, whole_from, whole_of}
 use Rattle.tsp_number.specs.Scan.{numeral_in}
 use Rattle.tsp_number.specs.Written.{IsShiftedSize}
@@ -30,7 +30,7 @@ stands_once word j k first second =
     let is_in = found word first.numeral first.spelled in
     let j' = size_by word first.numeral j is_in first in
     let k' = size_by word first.numeral k is_in second in
-    j'.2 ∙ ap (signed first.numeral.negative) (same_size (digits_of first.numeral) j'.0 k'.0 (places 9 first.numeral) j'.1 k'.1) ∙ sym k'.2
+    j'.2 ∙ ap (with_sign first.numeral.negative) (same_size (digits_of first.numeral) j'.0 k'.0 (places 9 first.numeral) j'.1 k'.1) ∙ sym k'.2
 
 times_unit : (j k : ℤ) → j *ℤ pos unit ≡ k *ℤ pos unit → j ≡ k
 times_unit j k same = omega (arith, ints)
@@ -160,7 +160,7 @@ Counted word None = (j : ℤ) → ¬ StandsFor word j
 Counted word (Some k) = StandsFor word k
 
 counted : (word : List ℕ) (n : Numeral) (o : Option ℕ) → numeral_in word ≡ Some n → Shifts (digits_of n) (places 9 n) o
-    → Counted word (option_map (signed n.negative) o)
+    → Counted word (option_map (with_sign n.negative) o)
 counted word n None is_in none = λ j stands.
     let k = size_by word n j is_in stands in
     none k.0 k.1
@@ -172,7 +172,7 @@ WholeCounted word None = (j : ℤ) → StandsFor word j → (i : ℤ) → j ≢ 
 WholeCounted word (Some n) = StandsFor word (n *ℤ pos unit)
 
 whole_counted : (word : List ℕ) (n : Numeral) (o : Option ℕ) → numeral_in word ≡ Some n → Shifts (digits_of n) (places 0 n) o
-    → WholeCounted word (option_map (signed n.negative) o)
+    → WholeCounted word (option_map (with_sign n.negative) o)
 whole_counted word n None is_in none = λ j stands i same.
     let k = size_by word n j is_in stands in
     let part = divided n.negative k.0 unit i (omega arith) (sym same ∙ k.2) in

@@ -8,8 +8,8 @@ use Rattle.tsp_number.specs.Spelling.{spelling}
 abbrev pub Counts : List ℕ → ℤ → Type 0
 Counts word count = decimal_of word ≡ Ok count
 
-abbrev pub IsRefused : List ℕ → NumberFault → Type 0
-IsRefused word found = decimal_of word ≡ Err found
+abbrev pub IsNoDecimal : List ℕ → NumberFault → Type 0
+IsNoDecimal word found = decimal_of word ≡ Err found
 
 -- where a whole number from -2 to 12 is wanted, the word has this number, or this fault
 abbrev pub WholeIs : List ℕ → ℤ → Type 0

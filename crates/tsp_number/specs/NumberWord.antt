@@ -27,8 +27,8 @@ IsSign sign negative = ((sign ≡ []) × (negative ≡ false)) ⊎ ((sign ≡ pl
     ⊎ ((sign ≡ minus ∷ []) × (negative ≡ true))
 
 -- the number of this size
-abbrev pub signed : Bool → ℕ → ℤ
-signed negative size = if negative then neg_ℤ (pos size) else pos size
+abbrev pub with_sign : Bool → ℕ → ℤ
+with_sign negative size = if negative then neg_ℤ (pos size) else pos size
 
 -- the part after the whole digits: a point and digits, or nothing
 abbrev pub IsFraction : List ℕ → List ℕ → Type 0
@@ -45,7 +45,7 @@ pub record WritesExponent (text : List ℕ) (exponent : ℤ) : Type 0 where
   pub is_sign : IsSign sign negative
   pub all_digits : AllDigits 10 digits
   pub some_digit : 0 < length digits
-  pub exponent_is : exponent ≡ signed negative (digits_value 10 digits)
+  pub exponent_is : exponent ≡ with_sign negative (digits_value 10 digits)
 
 -- the part after the mantissa: an exponent, or nothing, which is the exponent 0
 abbrev pub IsExponent : List ℕ → ℤ → Type 0
@@ -79,7 +79,7 @@ abbrev pub digits_of : Numeral → ℕ
 digits_of n = digits_value 10 (n.whole ++ n.fraction)
 
 abbrev pub mantissa : Numeral → ℤ
-mantissa n = signed n.negative (digits_of n)
+mantissa n = with_sign n.negative (digits_of n)
 
 -- by how many places the mantissa is to be shifted to the left, to count in the unit 10^-scale
 abbrev pub places : ℕ → Numeral → ℤ

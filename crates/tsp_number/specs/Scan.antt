@@ -3,7 +3,7 @@ use Rattle.std.specs.Prelude.{ℕ, ◌+◌, ◌-◌, ◌^◌, Bool, false, List,
 use Rattle.std.specs.Option.{option_map}
 use Rattle.std.specs.Char.{is_ascii_digit}
 use Rattle.std.specs.Str.Parse.{digits_value}
-use Rattle.tsp_number.specs.NumberWord.{plus, minus, point, lower_e, upper_e, signed, Numeral}
+use Rattle.tsp_number.specs.NumberWord.{plus, minus, point, lower_e, upper_e, with_sign, Numeral}
 
 abbrev pub has_minus : List ℕ → Bool
 has_minus [] = false
@@ -34,7 +34,7 @@ abbrev pub exponent_in : List ℕ → Option ℤ
 exponent_in [] = Some (pos 0)
 exponent_in (c ∷ cs) =
     if ((c == lower_e || c == upper_e) && are_digits (after_sign cs))
-    then Some (signed (has_minus cs) (digits_value 10 (front_digits (after_sign cs))))
+    then Some (with_sign (has_minus cs) (digits_value 10 (front_digits (after_sign cs))))
     else None
 
 -- the digits before the point, what follows them without the point, the digits after the point, and what follows those

@@ -4,7 +4,7 @@
 ghost use Rattle.std.specs.Prelude.{◌≡◌, Some, None, codes, ◌++◌, pos, negsuc, replicate};
 ghost use Rattle.tsp_number.specs.declared.fault.NumberFault.TheVariants.{LongWord, BadNumber, TooFine, OutOfRange, NotWhole};
 ghost use Rattle.tsp_number.specs.Front.{whole_end, decimal_end, few_end};
-ghost use Rattle.tsp_number.specs.Examples.{Counts, IsRefused, WholeIs, WholeIsRefused, IsSpelled};
+ghost use Rattle.tsp_number.specs.Examples.{Counts, IsNoDecimal, WholeIs, WholeIsRefused, IsSpelled};
 
 /// What some words are read as where a decimal is wanted, in counts of 10^-9.
 #[tactic(auto, unfolding(crate::specs::Reading::decimal_of))]
@@ -21,20 +21,20 @@ pub fn examples_of_decimals()
     ensures zero_far_up { Counts (codes "0e999") (pos 0) }
     ensures finest { Counts (codes "1e-9") (pos 1) }
     ensures finest_of_ten { Counts (codes "10e-10") (pos 1) }
-    ensures too_fine { IsRefused (codes "1e-10") TooFine }
+    ensures too_fine { IsNoDecimal (codes "1e-10") TooFine }
     ensures largest { Counts (codes "1000000000") (pos 1000000000000000000) }
     ensures least { Counts (codes "-1e9") (negsuc 999999999999999999) }
-    ensures past_the_largest { IsRefused (codes "1000000000.000000001") OutOfRange }
-    ensures past_the_least { IsRefused (codes "-1000000000.000000001") OutOfRange }
-    ensures other_mark { IsRefused (codes "1D3") BadNumber }
-    ensures two_points { IsRefused (codes "1.2.3") BadNumber }
-    ensures two_signs { IsRefused (codes "+-1") BadNumber }
-    ensures point_alone { IsRefused (codes ".") BadNumber }
-    ensures empty { IsRefused (codes "") BadNumber }
-    ensures no_exponent { IsRefused (codes "1e") BadNumber }
-    ensures point_in_the_exponent { IsRefused (codes "1e1.") BadNumber }
+    ensures past_the_largest { IsNoDecimal (codes "1000000000.000000001") OutOfRange }
+    ensures past_the_least { IsNoDecimal (codes "-1000000000.000000001") OutOfRange }
+    ensures other_mark { IsNoDecimal (codes "1D3") BadNumber }
+    ensures two_points { IsNoDecimal (codes "1.2.3") BadNumber }
+    ensures two_signs { IsNoDecimal (codes "+-1") BadNumber }
+    ensures point_alone { IsNoDecimal (codes ".") BadNumber }
+    ensures empty { IsNoDecimal (codes "") BadNumber }
+    ensures no_exponent { IsNoDecimal (codes "1e") BadNumber }
+    ensures point_in_the_exponent { IsNoDecimal (codes "1e1.") BadNumber }
     ensures longest { Counts (replicate 62 48 ++ codes "12") (pos 12000000000) }
-    ensures too_long { IsRefused (replicate 63 48 ++ codes "12") LongWord }
+    ensures too_long { IsNoDecimal (replicate 63 48 ++ codes "12") LongWord }
 {}
 
 /// What some words are read as where a whole number from -2 to 12 is wanted.

@@ -2,7 +2,7 @@
 
 ghost use Rattle.std.specs.Prelude.{◌≡◌, ◌≤ℤ◌, SomeIff};
 ghost use Rattle.tsp_number.specs.Reading.{decimal_of, whole_of};
-ghost use Rattle.tsp_number.specs.NumberWord.{ReadsDecimal, ReadsWhole, signed as signed_of};
+ghost use Rattle.tsp_number.specs.NumberWord.{ReadsDecimal, ReadsWhole, with_sign as signed_of};
 
 use crate::fault::NumberFault;
 use crate::front::{front_decimal, front_whole};

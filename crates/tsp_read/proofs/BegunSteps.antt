@@ -12,9 +12,9 @@ use Rattle.tsp_read.specs.declared.token.Token.TheVariants.{Line, Word}
 use Rattle.tsp_read.specs.declared.begun.Begun.{Begun}
 use Rattle.tsp_text.specs.Lines.{ends_line, is_filled, without_start}
 use Rattle.tsp_text.specs.Items.{Item, LineEnd}
-use Rattle.tsp_read.specs.states.Left.{items_left, ends_word, before, from, is_settled}
+use Rattle.tsp_read.specs.states.Left.{items_left, ends_word, up_to_first, from, is_settled}
 use Rattle.tsp_read.specs.states.Token.{token_at, ends, most_bytes, token_item}
-use Rattle.tsp_read.specs.Onward.{GivesNext}
+use Rattle.tsp_read.specs.states.Onward.{GivesNext}
 use Rattle.tsp_read.specs.states.Intake.{Stands, TakesNext, IsReadTo, HasEnded, IsStoppedBy}
 use Rattle.tsp_read.specs.states.Begun.{HasBegunToken, HasBegun, kept, IsFedTo, IsJoinedTo}
 use Rattle.tsp_read.proofs.IntakeSteps.{read_further, read_to_end, read_to_fault}
@@ -26,7 +26,7 @@ use Rattle.tsp_read.proofs.Onwards.{on_before, on_from, at_from, cuts_alike}
 -- ---- a list in which none passes, and more behind it
 
 abbrev GoesInto : (ℕ → Bool) → List ℕ → List ℕ → Type 0
-GoesInto p xs more = (before p (xs ++ more) ≡ xs ++ before p more) × (from p (xs ++ more) ≡ from p more)
+GoesInto p xs more = (up_to_first p (xs ++ more) ≡ xs ++ up_to_first p more) × (from p (xs ++ more) ≡ from p more)
 
 into_by : (p : ℕ → Bool) (x : ℕ) (xs more : List ℕ) (b : Bool) → p x ≡ b → (from p xs ≡ [] → GoesInto p xs more) → from p (x ∷ xs) ≡ [] → GoesInto p (x ∷ xs) more
 into_by p x xs more true e rest none = absurd (let f : x ∷ xs ≡ [] = sym (at_from p x xs e) ∙ none in cc)
@@ -38,8 +38,8 @@ goes_into : (p : ℕ → Bool) (xs more : List ℕ) → from p xs ≡ [] → Goe
 goes_into p [] more none = (refl, refl)
 goes_into p (x ∷ xs) more none = into_by p x xs more (p x) refl (goes_into p xs more) none
 
-whole : (p : ℕ → Bool) (xs : List ℕ) → from p xs ≡ [] → before p xs ≡ xs
-whole p xs none = ap (before p) (sym (append-nil xs)) ∙ (goes_into p xs [] none).0 ∙ append-nil xs
+whole : (p : ℕ → Bool) (xs : List ℕ) → from p xs ≡ [] → up_to_first p xs ≡ xs
+whole p xs none = ap (up_to_first p) (sym (append-nil xs)) ∙ (goes_into p xs [] none).0 ∙ append-nil xs
 
 first_fails : (p : ℕ → Bool) (x : ℕ) (xs : List ℕ) → from p (x ∷ xs) ≡ [] → p x ≡ false
 first_fails p x xs none = by_case (p x) refl
@@ -76,9 +76,9 @@ not_blank inside Line b is e = letter_filled b (and_second (not inside) (is_lett
 not_blank inside Word b is e = (or_false (is_blank b) (ends_line b) e).0
 
 open_still : (token : Token) (xs : List ℕ) → from (ends token) xs ≡ [] → length xs ≤ most_bytes token
-    → is_settled (most_bytes token) true (before (ends token) xs) (from (ends token) xs) ≡ false
+    → is_settled (most_bytes token) true (up_to_first (ends token) xs) (from (ends token) xs) ≡ false
 open_still token xs none short =
-    ap (λ (ys : List ℕ). is_settled (most_bytes token) true (before (ends token) xs) ys) none
+    ap (λ (ys : List ℕ). is_settled (most_bytes token) true (up_to_first (ends token) xs) ys) none
     ∙ ap (λ (ys : List ℕ). nat_lt (most_bytes token) (length ys)) (whole (ends token) xs none) ∙ le-ltb (most_bytes token) (length xs) short
 
 -- ---- what has begun is the next item, once its end has come, or it is too long
@@ -98,15 +98,15 @@ starts_at inside token bytes more h =
 -- before any piece
 abbrev pub Joins : Token → Bool → List ℕ → Type 0
 Joins token inside begun = (goes_on : Bool) (piece : List ℕ)
-    → is_settled (most_bytes token) goes_on (begun ++ before (ends token) piece) (from (ends token) piece) ≡ true
+    → is_settled (most_bytes token) goes_on (begun ++ up_to_first (ends token) piece) (from (ends token) piece) ≡ true
     → items_left goes_on inside (begun ++ piece)
-    ≡ token_item token (begun ++ before (ends token) piece) ∷ items_left goes_on true (from (ends token) piece)
+    ≡ token_item token (begun ++ up_to_first (ends token) piece) ∷ items_left goes_on true (from (ends token) piece)
 
 pub token_joins : (inside : Bool) (token : Token) (begun : List ℕ) → HasBegunToken inside token begun → Joins token inside begun
 token_joins inside token begun h goes_on piece settled =
     let cut = goes_into (ends token) begun piece h.no_end in
     token_next goes_on inside (begun ++ piece) (begun ++ piece) h.first (h.others ++ piece) token
-    (begun ++ before (ends token) piece) (from (ends token) piece) (starts_at inside token begun piece h)
+    (begun ++ up_to_first (ends token) piece) (from (ends token) piece) (starts_at inside token begun piece h)
     (ap (λ (xs : List ℕ). xs ++ piece) h.parts) (not_ten token h.first (first_open inside token begun h)) h.token_is
     (sym cut.0) (sym cut.1) settled
 
@@ -125,15 +125,15 @@ settled_long most goes_on piece rest long = by_two (is_filled rest) (not goes_on
 -- whatever follows the end
 pub joined_gives : (token : Token) (inside : Bool) (begun piece : List ℕ) → Joins token inside begun
     → is_filled (from (ends token) piece) ≡ true
-    → GivesNext inside (begun ++ piece) (token_item token (begun ++ before (ends token) piece)) true (from (ends token) piece)
+    → GivesNext inside (begun ++ piece) (token_item token (begun ++ up_to_first (ends token) piece)) true (from (ends token) piece)
 joined_gives token inside begun piece joins ended goes_on more =
     let cut = cuts_alike (ends token) piece more ended in
     let tail : is_filled (from (ends token) (piece ++ more)) ≡ true = ap is_filled cut.1 ∙ filled_more (from (ends token) piece) ended in
     ap (items_left goes_on inside) (append_assoc begun piece more)
-    ∙ joins goes_on (piece ++ more) (settled_filled (most_bytes token) goes_on (begun ++ before (ends token) (piece ++ more))
+    ∙ joins goes_on (piece ++ more) (settled_filled (most_bytes token) goes_on (begun ++ up_to_first (ends token) (piece ++ more))
     (from (ends token) (piece ++ more)) tail)
     ∙ ap (λ (xs : List ℕ). token_item token (begun ++ xs) ∷ items_left goes_on true (from (ends token) (piece ++ more))) cut.0
-    ∙ ap (λ (xs : List ℕ). token_item token (begun ++ before (ends token) piece) ∷ items_left goes_on true xs) cut.1
+    ∙ ap (λ (xs : List ℕ). token_item token (begun ++ up_to_first (ends token) piece) ∷ items_left goes_on true xs) cut.1
   where
     filled_more : (xs : List ℕ) → is_filled xs ≡ true → is_filled (xs ++ more) ≡ true
     filled_more [] e = absurd cc
@@ -165,9 +165,9 @@ pub record IsOpen (token : Token) (filled : List ℕ) : Type 0 where
   pub short : length filled ≤ most_bytes token
 
 open_by : (token : Token) (filled : List ℕ)
-    → is_settled (most_bytes token) true (before (ends token) filled) (from (ends token) filled) ≡ false → IsOpen token filled
+    → is_settled (most_bytes token) true (up_to_first (ends token) filled) (from (ends token) filled) ≡ false → IsOpen token filled
 open_by token filled e =
-    let piece = before (ends token) filled in
+    let piece = up_to_first (ends token) filled in
     let both = unsettled (most_bytes token) (is_filled (from (ends token) filled)) (nat_lt (most_bytes token) (length piece)) e in
     let none = not_filled (from (ends token) filled) both.0 in
     record {
@@ -179,19 +179,19 @@ open_by token filled e =
 pub open_token : (inside : Bool) (text filled : List ℕ) (first : ℕ) (after : List ℕ) (token : Token) → filled ≡ without_start text
     → filled ≡ first ∷ after → token ≡ token_at inside first → items_left true inside text ≡ [] → IsOpen token filled
 open_token inside text filled first after token e parts is none =
-    open_by token filled (by_case (is_settled (most_bytes token) true (before (ends token) filled) (from (ends token) filled)) refl)
+    open_by token filled (by_case (is_settled (most_bytes token) true (up_to_first (ends token) filled) (from (ends token) filled)) refl)
   where
     no_ten : first ≡ 10 → ⊥
     no_ten ten =
         let next = end_next true inside text filled first after e parts ten in
         let f : LineEnd ∷ items_left true false after ≡ [] = sym next ∙ none in absurd cc
 
-    by_case : (b : Bool) → is_settled (most_bytes token) true (before (ends token) filled) (from (ends token) filled) ≡ b
-        → is_settled (most_bytes token) true (before (ends token) filled) (from (ends token) filled) ≡ false
+    by_case : (b : Bool) → is_settled (most_bytes token) true (up_to_first (ends token) filled) (from (ends token) filled) ≡ b
+        → is_settled (most_bytes token) true (up_to_first (ends token) filled) (from (ends token) filled) ≡ false
     by_case true s =
-        let next = token_next true inside text filled first after token (before (ends token) filled) (from (ends token) filled)
+        let next = token_next true inside text filled first after token (up_to_first (ends token) filled) (from (ends token) filled)
         e parts no_ten is refl refl s in
-        let f : token_item token (before (ends token) filled) ∷ items_left true true (from (ends token) filled) ≡ [] =
+        let f : token_item token (up_to_first (ends token) filled) ∷ items_left true true (from (ends token) filled) ≡ [] =
         sym next ∙ none in
         absurd cc
     by_case false s = s
@@ -218,37 +218,37 @@ token_here inside token (b ∷ bytes) some h = h
 
 -- it has a fault, or wants memory
 pub joined_fault : (token : Token) (old new : Intake) (begun piece bytes text : List ℕ) (found : ReadFault)
-    → text ≡ begun ++ before (ends token) piece
-    → is_settled (most_bytes token) true (begun ++ before (ends token) piece) (from (ends token) piece) ≡ true
+    → text ≡ begun ++ up_to_first (ends token) piece
+    → is_settled (most_bytes token) true (begun ++ up_to_first (ends token) piece) (from (ends token) piece) ≡ true
     → Joins token old.inside begun → IsReadTo old bytes (begun ++ piece)
     → ((earlier : List Item) → Stands old earlier → TakesNext earlier (token_item token text) new (Err found)) → IsStoppedBy bytes found
 joined_fault token old new begun piece bytes text found same settled joins read taken =
-    read_to_fault old new bytes (begun ++ piece) (token_item token (begun ++ before (ends token) piece))
+    read_to_fault old new bytes (begun ++ piece) (token_item token (begun ++ up_to_first (ends token) piece))
     (items_left true true (from (ends token) piece)) found read (joins true piece settled)
     (subst (λ (t : List ℕ). (earlier : List Item) → Stands old earlier → TakesNext earlier (token_item token t) new (Err found))
     same taken)
 
 -- it is an end line
 pub joined_end : (token : Token) (old new : Intake) (begun piece bytes text : List ℕ) (ended : Bool) → ended ≡ true
-    → text ≡ begun ++ before (ends token) piece → is_filled (from (ends token) piece) ≡ true
+    → text ≡ begun ++ up_to_first (ends token) piece → is_filled (from (ends token) piece) ≡ true
     → Joins token old.inside begun → IsReadTo old bytes (begun ++ piece)
     → ((earlier : List Item) → Stands old earlier → TakesNext earlier (token_item token text) new (Ok ended))
     → HasEnded new.reading bytes
 joined_end token old new begun piece bytes text ended is_end same tail joins read taken =
-    read_to_end old new bytes (begun ++ piece) (token_item token (begun ++ before (ends token) piece))
+    read_to_end old new bytes (begun ++ piece) (token_item token (begun ++ up_to_first (ends token) piece))
     (items_left true true (from (ends token) piece)) ended is_end read
-    (joins true piece (settled_filled (most_bytes token) true (begun ++ before (ends token) piece) (from (ends token) piece) tail))
+    (joins true piece (settled_filled (most_bytes token) true (begun ++ up_to_first (ends token) piece) (from (ends token) piece) tail))
     (subst (λ (t : List ℕ). (earlier : List Item) → Stands old earlier → TakesNext earlier (token_item token t) new (Ok ended))
     same taken)
 
 -- it is taken, and what follows it is left
 pub joined_more : (token : Token) (old new : Intake) (begun piece bytes text : List ℕ) (ended : Bool) → ended ≡ false
-    → text ≡ begun ++ before (ends token) piece → is_filled (from (ends token) piece) ≡ true
+    → text ≡ begun ++ up_to_first (ends token) piece → is_filled (from (ends token) piece) ≡ true
     → Joins token old.inside begun → IsReadTo old bytes (begun ++ piece) → new.inside ≡ true
     → ((earlier : List Item) → Stands old earlier → TakesNext earlier (token_item token text) new (Ok ended))
     → IsReadTo new bytes (from (ends token) piece)
 joined_more token old new begun piece bytes text ended goes same tail joins read inside taken =
-    read_further old new bytes (begun ++ piece) (from (ends token) piece) (token_item token (begun ++ before (ends token) piece))
+    read_further old new bytes (begun ++ piece) (from (ends token) piece) (token_item token (begun ++ up_to_first (ends token) piece))
     true ended goes read
     (subst (λ (t : List ℕ). (earlier : List Item) → Stands old earlier → TakesNext earlier (token_item token t) new (Ok ended))
     same taken)
@@ -297,8 +297,8 @@ longer inside token begun piece h none = record {
 
 pub fed_longer : (intake : Intake) (old new : Begun) (bytes piece rest : List ℕ) → IsFedTo intake old bytes piece
     → (length old.bytes.items == 0) ≡ false → new.token ≡ old.token
-    → new.bytes.items ≡ old.bytes.items ++ before (ends old.token) piece → rest ≡ from (ends old.token) piece → rest ≡ []
-    → length old.bytes.items + length (before (ends old.token) piece) ≤ most_bytes old.token → IsJoinedTo intake new bytes rest
+    → new.bytes.items ≡ old.bytes.items ++ up_to_first (ends old.token) piece → rest ≡ from (ends old.token) piece → rest ≡ []
+    → length old.bytes.items + length (up_to_first (ends old.token) piece) ≤ most_bytes old.token → IsJoinedTo intake new bytes rest
 fed_longer intake old new bytes piece rest h some same_token added r none short =
     let begun : List ℕ = old.bytes.items in
     let here = token_here intake.inside old.token begun some h.begins in

@@ -22,8 +22,8 @@ use Rattle.tsp_text.specs.FirstFault.{fault_in, IsClean}
 use Rattle.tsp_read.specs.states.Left.{items_left, ends_word}
 use Rattle.tsp_read.specs.states.Holds.{Holds}
 use Rattle.tsp_text.specs.Text.{is_too_long, settled_part, settled_fault}
-use Rattle.tsp_read.specs.Walk.{Walked}
-use Rattle.tsp_read.specs.Onward.{is_bare}
+use Rattle.tsp_read.specs.states.Walk.{Walked}
+use Rattle.tsp_read.specs.states.Onward.{is_bare}
 use Rattle.tsp_read.specs.states.Intake.{IsReadTo, settled_so_far}
 use Rattle.tsp_read.specs.states.Begun.{kept, IsFedTo}
 use Rattle.tsp_read.specs.states.Paused.{IsPaused, FeedsOn, stage_after, outcome_of}

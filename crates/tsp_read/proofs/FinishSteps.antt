@@ -11,7 +11,7 @@ use Rattle.tsp_text.specs.Cuts.{AreCut}
 use Rattle.tsp_read.specs.states.Holds.{Closed}
 use Rattle.tsp_read.specs.declared.state.finish.FinishFault.{FinishFault}
 use Rattle.tsp_read.specs.declared.state.finish.FinishFault.TheVariants as finishes
-use Rattle.tsp_read.specs.Finishes.{Finishes, FileOf}
+use Rattle.tsp_read.specs.states.Finishes.{Finishes, FileOf}
 use Rattle.tsp_text.proofs.ValidItems.{is_file}
 
 -- the end table over the draft is that over the items

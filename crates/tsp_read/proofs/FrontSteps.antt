@@ -15,16 +15,16 @@ use Rattle.tsp_format.specs.Limits.{most_word_bytes}
 use Rattle.tsp_text.specs.Numbers.{IsWhole}
 use Rattle.tsp_text.specs.Lines.{ends_line, is_filled, without_start}
 use Rattle.tsp_text.specs.Items.{Item, NumberWord, LineEnd}
-use Rattle.tsp_read.specs.states.Left.{items_left, ends_word, before, from}
-use Rattle.tsp_read.specs.Onward.{is_over_long, GivesNext}
-use Rattle.tsp_read.specs.Front.{front_word, LeavesEnd}
+use Rattle.tsp_read.specs.states.Left.{items_left, ends_word, up_to_first, from}
+use Rattle.tsp_read.specs.states.Onward.{is_over_long, GivesNext}
+use Rattle.tsp_read.specs.states.Front.{front_word, LeavesEnd}
 use Rattle.tsp_read.proofs.LeftSteps.{FreeOf, left_blank, left_end}
 use Rattle.tsp_read.proofs.Onwards.{on_before, on_from, at_before, at_from, word_follows}
 use Rattle.tsp_read.proofs.BegunSteps.{settled_filled}
 
 -- ---- a list in which none passes, and one behind it that does
 
-free_cut : (p : ℕ → Bool) (w : List ℕ) (x : ℕ) (rest : List ℕ) → FreeOf p w → p x ≡ true → (before p (w ++ x ∷ rest) ≡ w) × (from p (w ++ x ∷ rest) ≡ x ∷ rest)
+free_cut : (p : ℕ → Bool) (w : List ℕ) (x : ℕ) (rest : List ℕ) → FreeOf p w → p x ≡ true → (up_to_first p (w ++ x ∷ rest) ≡ w) × (from p (w ++ x ∷ rest) ≡ x ∷ rest)
 free_cut p [] x rest free e = (at_before p x rest e, at_from p x rest e)
 free_cut p (y ∷ w) x rest free e =
     let h = free_cut p w x rest free.1 e in
@@ -152,16 +152,16 @@ whole_parts : (filled : List ℕ) (count : ℕ) (rest : List ℕ) → rest ≡ d
 whole_parts filled count rest e = sym (take-append-drop count filled) ∙ ap (λ (xs : List ℕ). take count filled ++ xs) (sym e)
 
 cut_at_end : (text filled : List ℕ) (count : ℕ) (k : ℤ) (rest left : List ℕ) → EndsNumber text filled count k rest left
-    → (before ends_word filled ≡ take count filled) × (from ends_word filled ≡ rest)
+    → (up_to_first ends_word filled ≡ take count filled) × (from ends_word filled ≡ rest)
 cut_at_end text filled count k rest left h =
     let word : List ℕ = take count filled in
     let by = ends_by rest left h.leaves in
     let all : filled ≡ word ++ by.end ∷ by.later = whole_parts filled count rest h.rest_is ∙ ap (λ (xs : List ℕ). word ++ xs) by.parts in
     let cut = free_cut ends_word word by.end by.later (free_word word h.number.stands.numeral h.number.stands.spelled) by.ends in
-    (ap (before ends_word) all ∙ cut.0, ap (from ends_word) all ∙ cut.1 ∙ sym by.parts)
+    (ap (up_to_first ends_word) all ∙ cut.0, ap (from ends_word) all ∙ cut.1 ∙ sym by.parts)
 
 front_is : (text filled : List ℕ) (count : ℕ) (k : ℤ) (rest left : List ℕ) → EndsNumber text filled count k rest left → front_word text ≡ take count filled
-front_is text filled count k rest left h = ap (before ends_word) (sym h.filled_is) ∙ (cut_at_end text filled count k rest left h).0
+front_is text filled count k rest left h = ap (up_to_first ends_word) (sym h.filled_is) ∙ (cut_at_end text filled count k rest left h).0
 
 no_line : (inside letter : Bool) → letter ≡ false → (not inside && letter) ≡ false
 no_line true letter e = refl
@@ -197,7 +197,7 @@ front_gives text filled count k rest left h inside goes_on more =
     let not_ten : start.first ≡ 10 → ⊥ = λ ten. true≢false (sym (ap ends_word ten) ∙ free.0) in
     let short : is_over_long (NumberWord word) ≡ false = le-ltb most_word_bytes (length word) h.number.short in
     word_follows inside true text filled start.first (start.others ++ rest) (front_word text) rest h.filled_is parts not_ten (no_line inside (is_letter start.first) start.no_letter)
-    (ap (before ends_word) (sym h.filled_is)) (sym (cut_at_end text filled count k rest left h).1)
+    (ap (up_to_first ends_word) (sym h.filled_is)) (sym (cut_at_end text filled count k rest left h).1)
     (settled_filled most_word_bytes true (front_word text) rest (ap is_filled by.parts)) refl
     (ap (λ (xs : List ℕ). is_over_long (NumberWord xs)) (front_is text filled count k rest left h) ∙ short) goes_on more
     ∙ ap (λ (items : List Item). NumberWord (front_word text) ∷ items) (by.left_is goes_on more)

@@ -13,7 +13,7 @@ use Rattle.tsp_read.specs.declared.feed.Feed.{Feed}
 use Rattle.tsp_text.specs.Spells.{spelled}
 use Rattle.tsp_text.specs.Text.{part, fault, settled_fault, Spells}
 use Rattle.tsp_read.specs.Reads.{Reads, ReadsFrom, most_taken, StopsAt}
-use Rattle.tsp_read.specs.Onward.{is_bare}
+use Rattle.tsp_read.specs.states.Onward.{is_bare}
 use Rattle.tsp_read.specs.Feed.{IsEnded, HasTaken, Feeds}
 use Rattle.tsp_read.specs.Timely.{is_going, IsFedFrom, ReadsInTime}
 use Rattle.tsp_text.proofs.SettledFaults.{part_kept, ended_kept}

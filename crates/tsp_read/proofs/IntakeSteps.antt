@@ -16,13 +16,13 @@ use Rattle.tsp_text.specs.Lines.{ends_line}
 use Rattle.tsp_text.specs.Items.{Item, Line, NumberWord, LineEnd, settled_items, is_end_line, has_end_line}
 use Rattle.tsp_text.specs.Earlier.{open_section, words_of}
 use Rattle.tsp_text.specs.Values.{spatial_after}
-use Rattle.tsp_text.specs.Sections.{place_in, nodes_of}
+use Rattle.tsp_text.specs.Sections.{place_in, dimension_in}
 use Rattle.tsp_text.specs.Rows.{row_of}
 use Rattle.tsp_text.specs.FirstFault.{IsClean}
 use Rattle.tsp_read.specs.states.Holds.{Holds}
 use Rattle.tsp_read.specs.states.Left.{items_left, ends_word}
-use Rattle.tsp_read.specs.Walk.{Walked}
-use Rattle.tsp_read.specs.Onward.{is_bare, is_line_end, is_over_long, GivesNext, GoesOn}
+use Rattle.tsp_read.specs.states.Walk.{Walked}
+use Rattle.tsp_read.specs.states.Onward.{is_bare, is_line_end, is_over_long, GivesNext, GoesOn}
 use Rattle.tsp_read.specs.states.Intake.{Stands, TakesNext, IsReadTo, settled_so_far, HasEnded, IsStoppedBy}
 use Rattle.tsp_read.proofs.LeftSteps.{all_settled, left_blank, left_end, left_none}
 use Rattle.tsp_text.proofs.ItemRows.{word_rows, long_line}
@@ -38,8 +38,8 @@ HasRow earlier item = (fault : LineFault) × (row_of earlier item ≡ Some fault
 long_word_row : (earlier : List Item) (word : List ℕ) (opened : Option Field) → open_section earlier ≡ opened → is_over_long (NumberWord word) ≡ true → HasRow earlier (NumberWord word)
 long_word_row earlier word None e long = (row.StrayNumber, rw e refl)
 long_word_row earlier word (Some f) e long =
-    let place = place_in (spatial_after earlier) f (nodes_of earlier) (words_of f earlier) in
-    (long_row place, word_rows earlier word f e ∙ long_fault (nodes_of earlier) place word long)
+    let place = place_in (spatial_after earlier) f (dimension_in earlier) (words_of f earlier) in
+    (long_row place, word_rows earlier word f e ∙ long_fault (dimension_in earlier) place word long)
 
 long_has_row : (earlier : List Item) (item : Item) → is_over_long item ≡ true → HasRow earlier item
 long_has_row earlier (Line key line) long = (row.LongLine, long_line key line earlier long)

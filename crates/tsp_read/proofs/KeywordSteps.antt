@@ -28,7 +28,7 @@ use Rattle.tsp_text.specs.Items.{WordLine, Item, Line}
 use Rattle.tsp_text.specs.Earlier.{same_field, has_line, open_section, words_of}
 use Rattle.tsp_text.specs.Values.{kind_named, weight_kind_named, weight_format_named, coord_kind_named, display_kind_named, is_left_out, says_space, spatial_after}
 use Rattle.tsp_text.specs.Groups.{coords_by_node}
-use Rattle.tsp_text.specs.Sections.{nodes_of}
+use Rattle.tsp_text.specs.Sections.{dimension_in}
 use Rattle.tsp_text.specs.Rows.{row_of, is_late}
 use Rattle.tsp_text.specs.FirstFault.{IsClean}
 use Rattle.tsp_format.specs.declared.field.ValueShape.TheVariants.{Number}
@@ -76,7 +76,7 @@ late_by : (old : Reading) (field : Field) (line : WordLine) (earlier : List Item
     → is_late_in old field line ≡ is_late earlier (Line (Known field) line)
 late_by old field line earlier h =
     let says = says_space field (first_word line.value) in
-    let points = coords_by_node (spatial_after earlier) (nodes_of earlier) (words_of NodeCoordPart earlier) in
+    let points = coords_by_node (spatial_after earlier) (dimension_in earlier) (words_of NodeCoordPart earlier) in
     ap (λ (fields : Fields). says && is_some fields.coords && not (spatial fields)) h.spelled
     ∙ ap (λ (b : Bool). says && b && not (spatial_after earlier)) (some_points (has_line NodeCoordPart earlier) points)
 
@@ -135,8 +135,8 @@ weight_kind_line old new line slot (Ok done) sets is same_first same_part earlie
           ∙ ap (λ (k : Option WeightKind). let fields = fields_by (λ field. has_line field earlier) earlier in record fields { weight_kind = k }) (sym sets.2)
           ∙ ap (λ (points : Option (List Point)). let fields = fields_by (λ field. has_line field earlier) earlier in
           record fields { weight_kind = (weight_kind_named (first_word line.value)); coords = points }) (coords_stay (has_line NodeCoordPart earlier) (spatial_after earlier)
-          (spatial_after (Line (Known EdgeWeightTypeKey) line ∷ earlier)) (nodes_of earlier) (words_of NodeCoordPart earlier) space);
-      incomplete = same_first ∙ h.incomplete ∙ first_stays earlier (nodes_of earlier) (spatial_after earlier)
+          (spatial_after (Line (Known EdgeWeightTypeKey) line ∷ earlier)) (dimension_in earlier) (words_of NodeCoordPart earlier) space);
+      incomplete = same_first ∙ h.incomplete ∙ first_stays earlier (dimension_in earlier) (spatial_after earlier)
           (spatial_after (Line (Known EdgeWeightTypeKey) line ∷ earlier)) (has_line NodeCoordPart earlier) refl space;
       part = still_none old new (Line (Known EdgeWeightTypeKey) line ∷ earlier) refl same_part h.part;
     }
@@ -205,8 +205,8 @@ coord_kind_line old new line slot (Ok done) sets is same_first same_part earlier
           ∙ ap (λ (k : Option CoordKind). let fields = fields_by (λ field. has_line field earlier) earlier in record fields { coord_kind = k }) (sym sets.2)
           ∙ ap (λ (points : Option (List Point)). let fields = fields_by (λ field. has_line field earlier) earlier in
           record fields { coord_kind = (coord_kind_named (first_word line.value)); coords = points }) (coords_stay (has_line NodeCoordPart earlier) (spatial_after earlier)
-          (spatial_after (Line (Known NodeCoordTypeKey) line ∷ earlier)) (nodes_of earlier) (words_of NodeCoordPart earlier) space);
-      incomplete = same_first ∙ h.incomplete ∙ first_stays earlier (nodes_of earlier) (spatial_after earlier)
+          (spatial_after (Line (Known NodeCoordTypeKey) line ∷ earlier)) (dimension_in earlier) (words_of NodeCoordPart earlier) space);
+      incomplete = same_first ∙ h.incomplete ∙ first_stays earlier (dimension_in earlier) (spatial_after earlier)
           (spatial_after (Line (Known NodeCoordTypeKey) line ∷ earlier)) (has_line NodeCoordPart earlier) refl space;
       part = still_none old new (Line (Known NodeCoordTypeKey) line ∷ earlier) refl same_part h.part;
     }

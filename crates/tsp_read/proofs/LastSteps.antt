@@ -16,7 +16,7 @@ use Rattle.tsp_text.specs.Earlier.{open_section}
 use Rattle.tsp_text.specs.FirstFault.{fault_in}
 use Rattle.tsp_text.specs.Cuts.{AreCut}
 use Rattle.tsp_text.specs.Text.{is_too_long, part, fault, settled_part}
-use Rattle.tsp_read.specs.Feed.{IsGoing, IsEnded, HasSettled, HasTaken, SpellsWhole, Ends}
+use Rattle.tsp_read.specs.Feed.{IsGoing, IsEnded, HasSettled, HasTaken, SpellsWhole, EndsReading}
 use Rattle.tsp_text.proofs.ValidCuts.{part_cut}
 use Rattle.tsp_text.proofs.SettledFaults.{part_long, part_short, part_kept, fault_kept}
 use Rattle.tsp_read.proofs.FeedSteps.{taken_at}
@@ -25,11 +25,11 @@ use Rattle.std.proofs.lemmas.List.{reverse-append}
 use Rattle.std.proofs.lemmas.List.Folds.{list_all-append}
 use Rattle.std.proofs.lemmas.Option.{none-some}
 use Rattle.tsp_text.specs.Items.{Item, Line, NumberWord, LineEnd, items_of, is_end_line, has_end_line, to_end_line}
-use Rattle.tsp_read.specs.states.Left.{items_left, ends_word, before, from, is_settled}
+use Rattle.tsp_read.specs.states.Left.{items_left, ends_word, up_to_first, from, is_settled}
 use Rattle.tsp_read.specs.states.Token.{ends, most_bytes, token_item}
 use Rattle.tsp_read.specs.states.Holds.{OpenHolds, Holds}
-use Rattle.tsp_read.specs.Walk.{Walked}
-use Rattle.tsp_read.specs.Onward.{is_bare, is_line_end}
+use Rattle.tsp_read.specs.states.Walk.{Walked}
+use Rattle.tsp_read.specs.states.Onward.{is_bare, is_line_end}
 use Rattle.tsp_read.specs.Reads.{Reads, Completes}
 use Rattle.tsp_read.specs.states.Intake.{Stands, TakesNext, IsReadTo}
 use Rattle.tsp_read.specs.states.Begun.{kept}
@@ -86,17 +86,17 @@ last_token old new begun bytes text result h some same taken =
     let token = begun.token in
     let bare : List ℕ = begun.bytes.items in
     let joins = token_joins old.inside token bare (token_here old.inside token bare some h.fed.begins) in
-    let front : before (ends token) [] ≡ [] = none_before (ends token) in
+    let front : up_to_first (ends token) [] ≡ [] = none_before (ends token) in
     let tail : from (ends token) [] ≡ [] = none_from (ends token) in
     takes_last old new bytes (bare ++ []) (token_item token bare) result h.fed.read
-    (joins false [] (settled_at_end (most_bytes token) (bare ++ before (ends token) []) (from (ends token) []))
+    (joins false [] (settled_at_end (most_bytes token) (bare ++ up_to_first (ends token) []) (from (ends token) []))
     ∙ ap (λ (xs : List ℕ). token_item token (bare ++ xs) ∷ items_left false true (from (ends token) [])) front
     ∙ ap (λ (xs : List ℕ). token_item token xs ∷ items_left false true (from (ends token) [])) (append-nil bare)
     ∙ ap (λ (xs : List ℕ). token_item token bare ∷ items_left false true xs) tail
     ∙ ap (λ (xs : List Item). token_item token bare ∷ xs) (left_none false true))
     (subst (λ (t : List ℕ). (earlier : List Item) → Stands old earlier → TakesNext earlier (token_item token t) new result) same taken)
   where
-    none_before : (p : ℕ → Bool) → before p [] ≡ []
+    none_before : (p : ℕ → Bool) → up_to_first p [] ≡ []
     none_before p = refl
 
     none_from : (p : ℕ → Bool) → from p [] ≡ []
@@ -222,7 +222,7 @@ last_fault bytes reading faults.Device short h = h
 last_fault bytes reading faults.TooLong short h = absurd h
 
 pub taken_fault : (feed : Feed) (bytes : List ℕ) (reading : Reading) (found : ReadFault) → feed.stage ≡ Going → HasTaken feed bytes
-    → (IsPaused feed.intake feed.begun bytes → TakesAll bytes reading (Err found)) → Ends bytes (Err found)
+    → (IsPaused feed.intake feed.begun bytes → TakesAll bytes reading (Err found)) → EndsReading bytes (Err found)
 taken_fault feed bytes reading found e taken last =
     let h : IsGoing feed bytes = taken_at feed bytes Going e taken in
     (last_fault bytes reading found (short_text feed bytes h) (last h.paused), λ same. subst (λ (f : ReadFault). TakesAll bytes reading (Err f)) same (last h.paused))
@@ -234,7 +234,7 @@ settled_reads faults.OutOfMemory bytes h = tt
 settled_reads faults.Device bytes h = h
 settled_reads faults.TooLong bytes h = ap fault (sym (append-nil bytes)) ∙ fault_kept bytes [] faults.TooLong h
 
-pub refused_fault : (feed : Feed) (bytes : List ℕ) (found : ReadFault) → feed.stage ≡ Refused found → HasTaken feed bytes → Ends bytes (Err found)
+pub refused_fault : (feed : Feed) (bytes : List ℕ) (found : ReadFault) → feed.stage ≡ Refused found → HasTaken feed bytes → EndsReading bytes (Err found)
 refused_fault feed bytes found e taken =
     let h = taken_at feed bytes (Refused found) e taken in
     (settled_reads found bytes h, λ same. absurd (subst (λ (f : ReadFault). HasSettled f bytes) same h))

@@ -9,7 +9,7 @@ use Rattle.tsp_format.specs.Limits.{most_word_bytes, most_line_bytes}
 use Rattle.tsp_text.specs.Lines.{lines_of, words_in, ends_line, is_filled, without_start, begins}
 use Rattle.tsp_text.specs.Items.{Item, NumberWord, LineEnd, line_item, items_in, items_by, items_of, settled_pieces, settled_words, settled_line, settled_in, settled_items}
 use Rattle.tsp_text.proofs.NoBlanks.{start_blank, start_filled}
-use Rattle.tsp_read.specs.states.Left.{line_items, last_items, items_left_by, items_left, ends_word, before, from, is_settled}
+use Rattle.tsp_read.specs.states.Left.{line_items, last_items, items_left_by, items_left, ends_word, up_to_first, from, is_settled}
 
 -- ---- pieces
 
@@ -333,7 +333,7 @@ left_inside goes_on false b bytes filled more other =
 
 -- ---- by what stands before the end of a line or a word, and from it on
 
-before_on : (test : ℕ → Bool) (b : ℕ) (bytes : List ℕ) → test b ≡ false → before test (b ∷ bytes) ≡ b ∷ before test bytes
+before_on : (test : ℕ → Bool) (b : ℕ) (bytes : List ℕ) → test b ≡ false → up_to_first test (b ∷ bytes) ≡ b ∷ up_to_first test bytes
 before_on test b bytes e =
     ap (λ n. take n (b ∷ bytes)) (not_cond_no (test b) (1 + position_or_len test bytes) e ∙ one_more (position_or_len test bytes))
 
@@ -341,57 +341,57 @@ from_on : (test : ℕ → Bool) (b : ℕ) (bytes : List ℕ) → test b ≡ fals
 from_on test b bytes e =
     ap (λ n. drop n (b ∷ bytes)) (not_cond_no (test b) (1 + position_or_len test bytes) e ∙ one_more (position_or_len test bytes))
 
-cut_here : (test : ℕ → Bool) (b : ℕ) (bytes : List ℕ) → b ∷ bytes ≡ (b ∷ before test bytes) ++ from test bytes
+cut_here : (test : ℕ → Bool) (b : ℕ) (bytes : List ℕ) → b ∷ bytes ≡ (b ∷ up_to_first test bytes) ++ from test bytes
 cut_here test b bytes = ap (λ xs. b ∷ xs) (sym (take-append-drop (position_or_len test bytes) bytes))
 
-pub line_taken : (goes_on : Bool) (b : ℕ) (bytes piece rest : List ℕ) → is_letter b ≡ true → ends_line b ≡ false → piece ≡ before ends_line (b ∷ bytes) → rest ≡ from ends_line (b ∷ bytes)
+pub line_taken : (goes_on : Bool) (b : ℕ) (bytes piece rest : List ℕ) → is_letter b ≡ true → ends_line b ≡ false → piece ≡ up_to_first ends_line (b ∷ bytes) → rest ≡ from ends_line (b ∷ bytes)
     → is_settled most_line_bytes goes_on piece rest ≡ true → items_left goes_on false (b ∷ bytes) ≡ line_item piece ∷ items_left goes_on true rest
 line_taken goes_on b bytes piece rest letter more p r settled =
-    let piece_is : piece ≡ b ∷ before ends_line bytes = p ∙ before_on ends_line b bytes more in
+    let piece_is : piece ≡ b ∷ up_to_first ends_line bytes = p ∙ before_on ends_line b bytes more in
     let rest_is : rest ≡ from ends_line bytes = r ∙ from_on ends_line b bytes more in
-    let whole : is_settled most_line_bytes goes_on (b ∷ before ends_line bytes) (from ends_line bytes) ≡ true =
+    let whole : is_settled most_line_bytes goes_on (b ∷ up_to_first ends_line bytes) (from ends_line bytes) ≡ true =
     ap (λ xs. is_settled most_line_bytes goes_on xs (from ends_line bytes)) (sym piece_is) ∙ ap (is_settled most_line_bytes goes_on piece) (sym rest_is) ∙ settled in
     ap (items_left goes_on false) (cut_here ends_line b bytes)
-    ∙ line_found goes_on b (before ends_line bytes) (from ends_line bytes) letter (more, free ends_line bytes) (stops ends_line bytes) whole
+    ∙ line_found goes_on b (up_to_first ends_line bytes) (from ends_line bytes) letter (more, free ends_line bytes) (stops ends_line bytes) whole
     ∙ ap (λ xs. line_item xs ∷ items_left goes_on true (from ends_line bytes)) (sym piece_is)
     ∙ ap (λ xs. line_item piece ∷ items_left goes_on true xs) (sym rest_is)
 
 pub line_not_taken : (goes_on : Bool) (b : ℕ) (bytes : List ℕ) → is_letter b ≡ true → ends_line b ≡ false
-    → is_settled most_line_bytes goes_on (before ends_line (b ∷ bytes)) (from ends_line (b ∷ bytes)) ≡ false → items_left goes_on false (b ∷ bytes) ≡ []
+    → is_settled most_line_bytes goes_on (up_to_first ends_line (b ∷ bytes)) (from ends_line (b ∷ bytes)) ≡ false → items_left goes_on false (b ∷ bytes) ≡ []
 line_not_taken goes_on b bytes letter more settled =
-    let whole : is_settled most_line_bytes goes_on (b ∷ before ends_line bytes) (from ends_line bytes) ≡ false =
+    let whole : is_settled most_line_bytes goes_on (b ∷ up_to_first ends_line bytes) (from ends_line bytes) ≡ false =
     ap (λ xs. is_settled most_line_bytes goes_on xs (from ends_line bytes)) (sym (before_on ends_line b bytes more))
-    ∙ ap (is_settled most_line_bytes goes_on (before ends_line (b ∷ bytes))) (sym (from_on ends_line b bytes more)) ∙ settled in
+    ∙ ap (is_settled most_line_bytes goes_on (up_to_first ends_line (b ∷ bytes))) (sym (from_on ends_line b bytes more)) ∙ settled in
     ap (items_left goes_on false) (cut_here ends_line b bytes)
-    ∙ line_missing goes_on b (before ends_line bytes) (from ends_line bytes) letter (more, free ends_line bytes) whole
+    ∙ line_missing goes_on b (up_to_first ends_line bytes) (from ends_line bytes) letter (more, free ends_line bytes) whole
 
 pub word_taken : (goes_on inside : Bool) (b : ℕ) (bytes piece rest : List ℕ) → is_blank b ≡ false → ends_line b ≡ false → (not inside && is_letter b) ≡ false
-    → piece ≡ before ends_word (b ∷ bytes) → rest ≡ from ends_word (b ∷ bytes)
+    → piece ≡ up_to_first ends_word (b ∷ bytes) → rest ≡ from ends_word (b ∷ bytes)
     → is_settled most_word_bytes goes_on piece rest ≡ true → items_left goes_on inside (b ∷ bytes) ≡ NumberWord piece ∷ items_left goes_on true rest
 word_taken goes_on inside b bytes piece rest filled more other p r settled =
     let on : ends_word b ≡ false = ap (λ t. t || ends_line b) filled ∙ more in
-    let piece_is : piece ≡ b ∷ before ends_word bytes = p ∙ before_on ends_word b bytes on in
+    let piece_is : piece ≡ b ∷ up_to_first ends_word bytes = p ∙ before_on ends_word b bytes on in
     let rest_is : rest ≡ from ends_word bytes = r ∙ from_on ends_word b bytes on in
-    let frees = free_of_ends (b ∷ before ends_word bytes) (on, free ends_word bytes) in
-    let whole : is_settled most_word_bytes goes_on (b ∷ before ends_word bytes) (from ends_word bytes) ≡ true =
+    let frees = free_of_ends (b ∷ up_to_first ends_word bytes) (on, free ends_word bytes) in
+    let whole : is_settled most_word_bytes goes_on (b ∷ up_to_first ends_word bytes) (from ends_word bytes) ≡ true =
     ap (λ xs. is_settled most_word_bytes goes_on xs (from ends_word bytes)) (sym piece_is) ∙ ap (is_settled most_word_bytes goes_on piece) (sym rest_is) ∙ settled in
     left_inside goes_on inside b bytes filled more other
     ∙ ap (items_left goes_on true) (cut_here ends_word b bytes)
-    ∙ word_found goes_on b (before ends_word bytes) (from ends_word bytes) frees.0 frees.1 (stops ends_word bytes) whole
+    ∙ word_found goes_on b (up_to_first ends_word bytes) (from ends_word bytes) frees.0 frees.1 (stops ends_word bytes) whole
     ∙ ap (λ xs. NumberWord xs ∷ items_left goes_on true (from ends_word bytes)) (sym piece_is)
     ∙ ap (λ xs. NumberWord piece ∷ items_left goes_on true xs) (sym rest_is)
 
 pub word_not_taken : (goes_on inside : Bool) (b : ℕ) (bytes : List ℕ) → is_blank b ≡ false → ends_line b ≡ false → (not inside && is_letter b) ≡ false
-    → is_settled most_word_bytes goes_on (before ends_word (b ∷ bytes)) (from ends_word (b ∷ bytes)) ≡ false → items_left goes_on inside (b ∷ bytes) ≡ []
+    → is_settled most_word_bytes goes_on (up_to_first ends_word (b ∷ bytes)) (from ends_word (b ∷ bytes)) ≡ false → items_left goes_on inside (b ∷ bytes) ≡ []
 word_not_taken goes_on inside b bytes filled more other settled =
     let on : ends_word b ≡ false = ap (λ t. t || ends_line b) filled ∙ more in
-    let frees = free_of_ends (b ∷ before ends_word bytes) (on, free ends_word bytes) in
-    let whole : is_settled most_word_bytes goes_on (b ∷ before ends_word bytes) (from ends_word bytes) ≡ false =
+    let frees = free_of_ends (b ∷ up_to_first ends_word bytes) (on, free ends_word bytes) in
+    let whole : is_settled most_word_bytes goes_on (b ∷ up_to_first ends_word bytes) (from ends_word bytes) ≡ false =
     ap (λ xs. is_settled most_word_bytes goes_on xs (from ends_word bytes)) (sym (before_on ends_word b bytes on))
-    ∙ ap (is_settled most_word_bytes goes_on (before ends_word (b ∷ bytes))) (sym (from_on ends_word b bytes on)) ∙ settled in
+    ∙ ap (is_settled most_word_bytes goes_on (up_to_first ends_word (b ∷ bytes))) (sym (from_on ends_word b bytes on)) ∙ settled in
     left_inside goes_on inside b bytes filled more other
     ∙ ap (items_left goes_on true) (cut_here ends_word b bytes)
-    ∙ word_missing goes_on b (before ends_word bytes) (from ends_word bytes) frees.0 frees.1 whole
+    ∙ word_missing goes_on b (up_to_first ends_word bytes) (from ends_word bytes) frees.0 frees.1 whole
 
 -- ---- the laws: a whole text, and the settled items
 

@@ -9,7 +9,7 @@ use Rattle.tsp_text.specs.Lines.{ends_line, without_start}
 use Rattle.tsp_text.specs.Items.{NumberWord, LineEnd, line_item}
 use Rattle.tsp_read.specs.declared.token.Token.{Token}
 use Rattle.tsp_read.specs.declared.token.Token.TheVariants.{Line, Word}
-use Rattle.tsp_read.specs.states.Left.{items_left, ends_word, before, from, is_settled}
+use Rattle.tsp_read.specs.states.Left.{items_left, ends_word, up_to_first, from, is_settled}
 use Rattle.tsp_read.specs.states.Token.{token_at, ends, most_bytes, token_item}
 use Rattle.tsp_read.proofs.LeftSteps.{Filled, start_is_filled, left_start, left_none, left_end, line_taken, line_not_taken, word_taken, word_not_taken}
 
@@ -42,17 +42,17 @@ begins_line true first e = absurd cc
 begins_line false first e = record { outside = refl; letter = e }
 
 line_next : (goes_on inside : Bool) (text filled : List ℕ) (first : ℕ) (after line rest : List ℕ) → filled ≡ without_start text → filled ≡ first ∷ after → (first ≡ 10 → ⊥)
-    → (not inside && is_letter first) ≡ true → line ≡ before ends_line filled → rest ≡ from ends_line filled → is_settled most_line_bytes goes_on line rest ≡ true
+    → (not inside && is_letter first) ≡ true → line ≡ up_to_first ends_line filled → rest ≡ from ends_line filled → is_settled most_line_bytes goes_on line rest ≡ true
     → items_left goes_on inside text ≡ line_item line ∷ items_left goes_on true rest
 line_next goes_on inside text filled first after line rest e parts more begins l r settled =
     let b = begins_line inside first begins in
     at_start goes_on inside text filled e
     ∙ ap (items_left goes_on inside) parts
     ∙ ap (λ i. items_left goes_on i (first ∷ after)) b.outside
-    ∙ line_taken goes_on first after line rest b.letter (ne_eqb first 10 more) (l ∙ ap (before ends_line) parts) (r ∙ ap (from ends_line) parts) settled
+    ∙ line_taken goes_on first after line rest b.letter (ne_eqb first 10 more) (l ∙ ap (up_to_first ends_line) parts) (r ∙ ap (from ends_line) parts) settled
 
 line_missing_next : (goes_on inside : Bool) (text filled : List ℕ) (first : ℕ) (after : List ℕ) → filled ≡ without_start text → filled ≡ first ∷ after → (first ≡ 10 → ⊥)
-    → (not inside && is_letter first) ≡ true → is_settled most_line_bytes goes_on (before ends_line filled) (from ends_line filled) ≡ false
+    → (not inside && is_letter first) ≡ true → is_settled most_line_bytes goes_on (up_to_first ends_line filled) (from ends_line filled) ≡ false
     → items_left goes_on inside text ≡ []
 line_missing_next goes_on inside text filled first after e parts more begins settled =
     let b = begins_line inside first begins in
@@ -60,25 +60,25 @@ line_missing_next goes_on inside text filled first after e parts more begins set
     ∙ ap (items_left goes_on inside) parts
     ∙ ap (λ i. items_left goes_on i (first ∷ after)) b.outside
     ∙ line_not_taken goes_on first after b.letter (ne_eqb first 10 more)
-    (ap (λ xs. is_settled most_line_bytes goes_on (before ends_line xs) (from ends_line xs)) (sym parts) ∙ settled)
+    (ap (λ xs. is_settled most_line_bytes goes_on (up_to_first ends_line xs) (from ends_line xs)) (sym parts) ∙ settled)
 
 pub word_next : (goes_on inside : Bool) (text filled : List ℕ) (first : ℕ) (after word rest : List ℕ) → filled ≡ without_start text → filled ≡ first ∷ after → (first ≡ 10 → ⊥)
-    → (not inside && is_letter first) ≡ false → word ≡ before ends_word filled → rest ≡ from ends_word filled → is_settled most_word_bytes goes_on word rest ≡ true
+    → (not inside && is_letter first) ≡ false → word ≡ up_to_first ends_word filled → rest ≡ from ends_word filled → is_settled most_word_bytes goes_on word rest ≡ true
     → items_left goes_on inside text ≡ NumberWord word ∷ items_left goes_on true rest
 word_next goes_on inside text filled first after word rest e parts more begins w r settled =
     at_start goes_on inside text filled e
     ∙ ap (items_left goes_on inside) parts
     ∙ word_taken goes_on inside first after word rest (filled_first text first after (sym parts ∙ e)) (ne_eqb first 10 more) begins
-    (w ∙ ap (before ends_word) parts) (r ∙ ap (from ends_word) parts) settled
+    (w ∙ ap (up_to_first ends_word) parts) (r ∙ ap (from ends_word) parts) settled
 
 word_missing_next : (goes_on inside : Bool) (text filled : List ℕ) (first : ℕ) (after : List ℕ) → filled ≡ without_start text → filled ≡ first ∷ after → (first ≡ 10 → ⊥)
-    → (not inside && is_letter first) ≡ false → is_settled most_word_bytes goes_on (before ends_word filled) (from ends_word filled) ≡ false
+    → (not inside && is_letter first) ≡ false → is_settled most_word_bytes goes_on (up_to_first ends_word filled) (from ends_word filled) ≡ false
     → items_left goes_on inside text ≡ []
 word_missing_next goes_on inside text filled first after e parts more begins settled =
     at_start goes_on inside text filled e
     ∙ ap (items_left goes_on inside) parts
     ∙ word_not_taken goes_on inside first after (filled_first text first after (sym parts ∙ e)) (ne_eqb first 10 more) begins
-    (ap (λ xs. is_settled most_word_bytes goes_on (before ends_word xs) (from ends_word xs)) (sym parts) ∙ settled)
+    (ap (λ xs. is_settled most_word_bytes goes_on (up_to_first ends_word xs) (from ends_word xs)) (sym parts) ∙ settled)
 
 -- ---- a line or a word
 
@@ -92,7 +92,7 @@ word_begins false is = refl
 
 pub token_next : (goes_on inside : Bool) (text filled : List ℕ) (first : ℕ) (after : List ℕ) (token : Token) (piece rest : List ℕ)
     → filled ≡ without_start text → filled ≡ first ∷ after → (first ≡ 10 → ⊥) → token ≡ token_at inside first
-    → piece ≡ before (ends token) filled → rest ≡ from (ends token) filled → is_settled (most_bytes token) goes_on piece rest ≡ true
+    → piece ≡ up_to_first (ends token) filled → rest ≡ from (ends token) filled → is_settled (most_bytes token) goes_on piece rest ≡ true
     → items_left goes_on inside text ≡ token_item token piece ∷ items_left goes_on true rest
 token_next goes_on inside text filled first after Line piece rest e parts more is p r settled =
     line_next goes_on inside text filled first after piece rest e parts more
@@ -103,7 +103,7 @@ token_next goes_on inside text filled first after Word piece rest e parts more i
 
 pub token_missing_next : (goes_on inside : Bool) (text filled : List ℕ) (first : ℕ) (after : List ℕ) (token : Token)
     → filled ≡ without_start text → filled ≡ first ∷ after → (first ≡ 10 → ⊥) → token ≡ token_at inside first
-    → is_settled (most_bytes token) goes_on (before (ends token) filled) (from (ends token) filled) ≡ false
+    → is_settled (most_bytes token) goes_on (up_to_first (ends token) filled) (from (ends token) filled) ≡ false
     → items_left goes_on inside text ≡ []
 token_missing_next goes_on inside text filled first after Line e parts more is settled =
     line_missing_next goes_on inside text filled first after e parts more

@@ -9,9 +9,9 @@ use Rattle.tsp_text.specs.Lines.{is_filled, without_start}
 use Rattle.tsp_text.specs.Items.{NumberWord, LineEnd}
 use Rattle.tsp_read.specs.declared.token.Token.{Token}
 use Rattle.tsp_read.specs.declared.token.Token.TheVariants.{Line, Word}
-use Rattle.tsp_read.specs.states.Left.{ends_word, before, from, is_settled}
+use Rattle.tsp_read.specs.states.Left.{ends_word, up_to_first, from, is_settled}
 use Rattle.tsp_read.specs.states.Token.{token_at, ends, most_bytes, token_item}
-use Rattle.tsp_read.specs.Onward.{is_over_long, GivesNext}
+use Rattle.tsp_read.specs.states.Onward.{is_over_long, GivesNext}
 use Rattle.tsp_text.proofs.NoBlanks.{start_blank, start_filled}
 use Rattle.tsp_read.proofs.NextSteps.{end_next, token_next}
 
@@ -21,15 +21,15 @@ one_more : (n : ℕ) → 1 + n ≡ suc n
 one_more n = omega arith
 
 abbrev pub CutsAlike : (ℕ → Bool) → List ℕ → List ℕ → Type 0
-CutsAlike p xs more = (before p (xs ++ more) ≡ before p xs) × (from p (xs ++ more) ≡ from p xs ++ more)
+CutsAlike p xs more = (up_to_first p (xs ++ more) ≡ up_to_first p xs) × (from p (xs ++ more) ≡ from p xs ++ more)
 
-pub on_before : (p : ℕ → Bool) (x : ℕ) (xs : List ℕ) → p x ≡ false → before p (x ∷ xs) ≡ x ∷ before p xs
+pub on_before : (p : ℕ → Bool) (x : ℕ) (xs : List ℕ) → p x ≡ false → up_to_first p (x ∷ xs) ≡ x ∷ up_to_first p xs
 on_before p x xs e = ap (λ b. take (cond (not b) (1 + position_or_len p xs) 0) (x ∷ xs)) e ∙ ap (λ n. take n (x ∷ xs)) (one_more (position_or_len p xs))
 
 pub on_from : (p : ℕ → Bool) (x : ℕ) (xs : List ℕ) → p x ≡ false → from p (x ∷ xs) ≡ from p xs
 on_from p x xs e = ap (λ b. drop (cond (not b) (1 + position_or_len p xs) 0) (x ∷ xs)) e ∙ ap (λ n. drop n (x ∷ xs)) (one_more (position_or_len p xs))
 
-pub at_before : (p : ℕ → Bool) (x : ℕ) (xs : List ℕ) → p x ≡ true → before p (x ∷ xs) ≡ []
+pub at_before : (p : ℕ → Bool) (x : ℕ) (xs : List ℕ) → p x ≡ true → up_to_first p (x ∷ xs) ≡ []
 at_before p x xs e = ap (λ b. take (cond (not b) (1 + position_or_len p xs) 0) (x ∷ xs)) e
 
 pub at_from : (p : ℕ → Bool) (x : ℕ) (xs : List ℕ) → p x ≡ true → from p (x ∷ xs) ≡ x ∷ xs
@@ -82,7 +82,7 @@ end_follows inside text filled first after e parts ten goes_on more =
 -- a line or a word that isn't too long, whatever follows it
 pub token_follows : (inside goes : Bool) (text filled : List ℕ) (first : ℕ) (after : List ℕ) (token : Token) (piece rest : List ℕ)
     → filled ≡ without_start text → filled ≡ first ∷ after → (first ≡ 10 → ⊥) → token ≡ token_at inside first
-    → piece ≡ before (ends token) filled → rest ≡ from (ends token) filled → is_settled (most_bytes token) goes piece rest ≡ true
+    → piece ≡ up_to_first (ends token) filled → rest ≡ from (ends token) filled → is_settled (most_bytes token) goes piece rest ≡ true
     → goes ≡ true → nat_lt (most_bytes token) (length piece) ≡ false → GivesNext inside text (token_item token piece) true rest
 token_follows inside true text filled first after token piece rest e parts more_ is p r settled goes_is short goes_on more =
     let tail : is_filled rest ≡ true = not_long (most_bytes token) piece rest _ settled short in
@@ -107,7 +107,7 @@ token_long Word piece long = lt-ltb most_word_bytes (length piece) long
 -- a number word, as a run takes it
 pub word_follows : (inside goes : Bool) (text filled : List ℕ) (first : ℕ) (after word rest : List ℕ)
     → filled ≡ without_start text → filled ≡ first ∷ after → (first ≡ 10 → ⊥) → (not inside && is_letter first) ≡ false
-    → word ≡ before ends_word filled → rest ≡ from ends_word filled → is_settled most_word_bytes goes word rest ≡ true → goes ≡ true
+    → word ≡ up_to_first ends_word filled → rest ≡ from ends_word filled → is_settled most_word_bytes goes word rest ≡ true → goes ≡ true
     → is_over_long (NumberWord word) ≡ false → GivesNext inside text (NumberWord word) true rest
 word_follows inside goes text filled first after word rest e parts more_ begins w r settled goes_is short =
     token_follows inside goes text filled first after Word word rest e parts more_ (ap (λ (b : Bool). cond b Line Word) (sym begins))

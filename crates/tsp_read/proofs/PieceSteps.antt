@@ -18,7 +18,7 @@ use Rattle.tsp_text.specs.Rows.{when, first_row}
 use Rattle.tsp_text.specs.FirstFault.{fault_in, IsClean}
 use Rattle.tsp_text.specs.Text.{is_too_long, settled_part, settled_fault, fault}
 use Rattle.tsp_read.specs.Reads.{most_taken, StopsAt}
-use Rattle.tsp_read.specs.Onward.{is_bare}
+use Rattle.tsp_read.specs.states.Onward.{is_bare}
 use Rattle.tsp_read.specs.Feed.{IsGoing, HasTaken, Feeds}
 use Rattle.tsp_read.specs.Timely.{IsTimely, HasCause, is_going, IsFedFrom}
 use Rattle.tsp_text.proofs.SettledFaults.{fault_kept, settled_kept, ended_stays}

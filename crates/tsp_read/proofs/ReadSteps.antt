@@ -11,7 +11,7 @@ use Rattle.tsp_text.specs.Text.{part, fault}
 use Rattle.tsp_read.specs.states.Left.{item_next}
 use Rattle.tsp_read.specs.declared.state.reading.OpenSection.{OpenSection}
 use Rattle.tsp_read.specs.states.Holds.{OpenHolds, Holds, AnswersItem}
-use Rattle.tsp_read.specs.Reads.{TakesItem}
+use Rattle.tsp_read.specs.states.Taken.{TakesItem}
 use Rattle.tsp_text.proofs.Clean.{clean_more}
 
 -- ---- one item

@@ -7,7 +7,7 @@ use Rattle.tsp_read.specs.declared.count.Count.{Count}
 use Rattle.tsp_read.specs.declared.intake.Intake.{Intake}
 use Rattle.tsp_read.specs.declared.state.reading.OpenSection.{OpenSection}
 use Rattle.tsp_read.specs.declared.state.reading.Reading.{Reading}
-use Rattle.tsp_read.specs.Onward.{GivesNext}
+use Rattle.tsp_read.specs.states.Onward.{GivesNext}
 use Rattle.tsp_read.specs.states.Intake.{IsReadTo}
 use Rattle.tsp_read.specs.states.Run.{counted, in_run, RunsTo, StepsTo}
 use Rattle.tsp_read.proofs.FrontSteps.{end_gives}

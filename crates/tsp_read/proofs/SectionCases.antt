@@ -12,7 +12,7 @@ use Rattle.tsp_text.specs.Earlier.{has_line, open_section, words_of}
 use Rattle.tsp_format.specs.declared.field.Shape.TheVariants.{Points, SpacePoints}
 use Rattle.tsp_text.specs.Values.{spatial_after}
 use Rattle.tsp_text.specs.Groups.{coords_by_node}
-use Rattle.tsp_text.specs.Sections.{nodes_of}
+use Rattle.tsp_text.specs.Sections.{dimension_in}
 use Rattle.tsp_text.specs.Spells.{fields_by, is_incomplete, sections_in_order}
 use Rattle.tsp_text.proofs.Sections.{by_section}
 use Rattle.tsp_read.specs.states.Holds.{is_closed, is_closed_incomplete, fields_there, keywords_there}
@@ -72,10 +72,10 @@ points_stored true n words fields = refl
 points_stored false n words fields = refl
 
 pub closed_fields : (earlier : List Item) (f : Field) → is_section_field f ≡ true → open_section earlier ≡ Some f → has_line f earlier ≡ true
-    → with_section (spatial_after earlier) f (nodes_of earlier) (words_of f earlier) (fields_by (is_closed earlier) earlier) ≡ fields_by (λ field. has_line field earlier) earlier
+    → with_section (spatial_after earlier) f (dimension_in earlier) (words_of f earlier) (fields_by (is_closed earlier) earlier) ≡ fields_by (λ field. has_line field earlier) earlier
 closed_fields earlier = by_section (λ f. open_section earlier ≡ Some f → has_line f earlier ≡ true
-    → with_section (spatial_after earlier) f (nodes_of earlier) (words_of f earlier) (fields_by (is_closed earlier) earlier) ≡ fields_by (λ field. has_line field earlier) earlier)
-    (λ o there. points_stored (spatial_after earlier) (nodes_of earlier) (words_of NodeCoordPart earlier) (fields_by (is_closed earlier) earlier)
+    → with_section (spatial_after earlier) f (dimension_in earlier) (words_of f earlier) (fields_by (is_closed earlier) earlier) ≡ fields_by (λ field. has_line field earlier) earlier)
+    (λ o there. points_stored (spatial_after earlier) (dimension_in earlier) (words_of NodeCoordPart earlier) (fields_by (is_closed earlier) earlier)
     ∙ rw (o, there) refl) (λ o there. rw (o, there) refl) (λ o there. rw (o, there) refl) (λ o there. rw (o, there) refl) (λ o there. rw (o, there) refl)
     (λ o there. rw (o, there) refl) (λ o there. rw (o, there) refl) (λ o there. rw (o, there) refl) (λ o there. rw (o, there) refl) (λ o there. rw (o, there) refl)
     (λ o there. rw (o, there) refl) (λ o there. rw (o, there) refl) (λ o there. rw (o, there) refl)

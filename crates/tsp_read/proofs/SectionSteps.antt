@@ -25,15 +25,15 @@ use Rattle.tsp_section.specs.declared.parts.combs.CombList.{CombList}
 use Rattle.tsp_section.specs.declared.parts.tree.TreeList.{TreeList}
 use Rattle.tsp_text.specs.Groups.{numbers_by_node, place_of_number}
 use Rattle.tsp_text.specs.Lists.{fixed_in, place_of_fixed, fixed_triples_in, place_of_triple}
-use Rattle.tsp_text.specs.Combs.{combs_in, place_of_comb}
-use Rattle.tsp_text.specs.Tree.{steps_in, place_of_step}
+use Rattle.tsp_text.specs.Combs.{whole_combs, place_of_comb}
+use Rattle.tsp_text.specs.Tree.{whole_steps, place_of_step}
 use Rattle.tsp_text.specs.Places.{PastEnd}
 use Rattle.tsp_text.specs.Lines.{is_filled}
 use Rattle.tsp_text.specs.Items.{WordLine, Item, Line}
 use Rattle.tsp_format.specs.Shapes.{shape_of, is_section_field}
 use Rattle.tsp_text.specs.Earlier.{is_open, has_line, open_section, words_of}
 use Rattle.tsp_text.specs.Values.{dimension_of, spatial_after}
-use Rattle.tsp_text.specs.Sections.{place_by, place_in, nodes_of}
+use Rattle.tsp_text.specs.Sections.{place_by, place_in, dimension_in}
 use Rattle.tsp_text.specs.Rows.{row_of, when, first_row}
 use Rattle.tsp_section.specs.states.CutLine.{MayOpen}
 use Rattle.tsp_text.specs.Opening.{needs_nodes, is_matrix, opening_rows}
@@ -64,11 +64,11 @@ rows_are old field shape line earlier is h short =
     let section : is_section_field field ≡ true = section_of (spatial (fields_of old.draft)) field shape is in
     let there : stands_in (fields_of old.draft) field ≡ has_line field earlier = ap (λ (fields : Fields). stands_in fields field) h.spelled ∙ standing earlier field section in
     let dimension : is_some old.draft.dimension ≡ has_line DimensionKey earlier = ap (λ (xs : List Bool). get_or xs 2 false) h.stand in
-    let nodes : unwrap_or old.draft.dimension 0 ≡ nodes_of earlier = ap (λ (fields : Fields). unwrap_or fields.dimension 0) h.spelled in
+    let nodes : unwrap_or old.draft.dimension 0 ≡ dimension_in earlier = ap (λ (fields : Fields). unwrap_or fields.dimension 0) h.spelled in
     opening (spatial (fields_of old.draft)) earlier line short field section
-    ∙ ap (λ o. option_map_or (λ shape. opening_rows shape (has_line field earlier) line.value (has_line DimensionKey earlier) (nodes_of earlier)) o None) is
-    ∙ ap (λ (b : Bool). opening_rows shape b line.value (has_line DimensionKey earlier) (nodes_of earlier)) (sym there)
-    ∙ ap (λ (b : Bool). opening_rows shape (stands_in (fields_of old.draft) field) line.value b (nodes_of earlier)) (sym dimension)
+    ∙ ap (λ o. option_map_or (λ shape. opening_rows shape (has_line field earlier) line.value (has_line DimensionKey earlier) (dimension_in earlier)) o None) is
+    ∙ ap (λ (b : Bool). opening_rows shape b line.value (has_line DimensionKey earlier) (dimension_in earlier)) (sym there)
+    ∙ ap (λ (b : Bool). opening_rows shape (stands_in (fields_of old.draft) field) line.value b (dimension_in earlier)) (sym dimension)
     ∙ ap (λ (n : ℕ). opening_rows shape (stands_in (fields_of old.draft) field) line.value (is_some old.draft.dimension) n) (sym nodes)
 
 first_none : (b : Bool) (fault : LineFault) (rows : List (Option LineFault)) → first_row (when b fault ∷ rows) ≡ None → b ≡ false
@@ -95,10 +95,10 @@ opens old new field shape line n section is may of begins same_draft same_first 
     (when (is_filled line.value) row.SectionValue ∷ when (needs_nodes shape && not (is_some old.draft.dimension)) row.SectionEarly
     ∷ when (is_matrix shape && nat_lt most_matrix_nodes (unwrap_or old.draft.dimension 0)) row.TooManyNodes ∷ []) rows in
     let none : has_line field earlier ≡ false = sym (standing earlier field kind) ∙ sym (ap (λ (fields : Fields). stands_in fields field) h.spelled) ∙ absent in
-    let nodes : nodes_of earlier ≡ n = sym (ap (λ (fields : Fields). unwrap_or fields.dimension 0) h.spelled) ∙ sym may.0 in
+    let nodes : dimension_in earlier ≡ n = sym (ap (λ (fields : Fields). unwrap_or fields.dimension 0) h.spelled) ∙ sym may.0 in
     let words : words_of field earlier ≡ [] = no_words field earlier none in
     let start = begins (subst (λ (m : ℕ). m ≤ most_nodes) nodes (few_nodes (dimension_of earlier) (dimension_fits earlier))) in
-    let held : HoldsPart section.part (nodes_of (Line (Known field) line ∷ earlier)) (words_of section.field earlier) =
+    let held : HoldsPart section.part (dimension_in (Line (Known field) line ∷ earlier)) (words_of section.field earlier) =
     subst (λ (m : ℕ). HoldsPart section.part m (words_of section.field earlier)) (sym (stays.0 ∙ nodes))
     (subst (λ (ws : List (List ℕ)). HoldsPart section.part n ws) (sym (ap (λ f. words_of f earlier) of ∙ words)) start.1) in
     let open_now : open_section (Line (Known field) line ∷ earlier) ≡ Some field = ap (λ b. cond b (Some field) None) kind in
@@ -155,14 +155,14 @@ closes old new section more there stored first none earlier h =
     let space = spatial_after earlier in
     let kind : is_section_field f ≡ true = section_of space f (shape_by section.part) held.1.0 in
     let stands : has_line f earlier ≡ true = was_opened earlier f held.0 in
-    let got = stored space (nodes_of earlier) (words_of f earlier) held.1 in
+    let got = stored space (dimension_in earlier) (words_of f earlier) held.1 in
     let others : find (but f (is_incomplete earlier)) sections_in_order ≡ old.incomplete =
     ap (λ o. find (λ x. not (is_open x o) && is_incomplete earlier x) sections_in_order) (sym held.0) ∙ sym h.incomplete in
-    let wants : is_incomplete earlier f ≡ more = ap (λ b. b && wants_more (place_in (spatial_after earlier) f (nodes_of earlier) (words_of f earlier))) stands ∙ sym got.1 in
+    let wants : is_incomplete earlier f ≡ more = ap (λ b. b && wants_more (place_in (spatial_after earlier) f (dimension_in earlier) (words_of f earlier))) stands ∙ sym got.1 in
     record {
       clean = h.clean;
-      stand = ap fields_there got.0 ∙ stored_keywords space (nodes_of earlier) (words_of f earlier) (fields_of old.draft) f kind ∙ h.stand;
-      spelled = got.0 ∙ ap (with_section space f (nodes_of earlier) (words_of f earlier)) h.spelled ∙ closed_fields earlier f kind held.0 stands;
+      stand = ap fields_there got.0 ∙ stored_keywords space (dimension_in earlier) (words_of f earlier) (fields_of old.draft) f kind ∙ h.stand;
+      spelled = got.0 ∙ ap (with_section space f (dimension_in earlier) (words_of f earlier)) h.spelled ∙ closed_fields earlier f kind held.0 stands;
       incomplete = first ∙ first_now earlier f more old.incomplete kind others wants;
       part = none;
     }
@@ -210,7 +210,7 @@ triples_stored section part triples more old new is put finished in_space n word
 
 pub combs_stored : (section : OpenSection) (part : CombList) (combs : List (List (List ℕ))) (more : Bool) (old new : Fields) → section.part ≡ parts.Combs part
     → new ≡ record old { combs = Some combs }
-    → ((n : ℕ) (words : List (List ℕ)) → HoldsCombs part n words → (combs ≡ combs_in n words) × (more ≡ wants_more (place_of_comb n words)))
+    → ((n : ℕ) (words : List (List ℕ)) → HoldsCombs part n words → (combs ≡ whole_combs n words) × (more ≡ wants_more (place_of_comb n words)))
     → (in_space : Bool) (n : ℕ) (words : List (List ℕ)) → HoldsSection in_space section n words
     → (new ≡ with_section in_space section.field n words old) × (more ≡ wants_more (place_in in_space section.field n words))
 combs_stored section part combs more old new is put finished in_space n words h =
@@ -220,7 +220,7 @@ combs_stored section part combs more old new is put finished in_space n words h 
 
 pub steps_stored : (section : OpenSection) (part : TreeList) (steps : List Step) (more : Bool) (old new : Fields) → section.part ≡ parts.Steps part
     → new ≡ record old { branches = Some steps }
-    → ((n : ℕ) (words : List (List ℕ)) → HoldsTree part n words → (steps ≡ steps_in n words) × (more ≡ wants_more (place_of_step n words)))
+    → ((n : ℕ) (words : List (List ℕ)) → HoldsTree part n words → (steps ≡ whole_steps n words) × (more ≡ wants_more (place_of_step n words)))
     → (in_space : Bool) (n : ℕ) (words : List (List ℕ)) → HoldsSection in_space section n words
     → (new ≡ with_section in_space section.field n words old) × (more ≡ wants_more (place_in in_space section.field n words))
 steps_stored section part steps more old new is put finished in_space n words h =

@@ -11,7 +11,7 @@ use Rattle.tsp_text.specs.Rows.{row_of, when, first_row}
 use Rattle.tsp_text.specs.FirstFault.{fault_here, fault_in, IsClean}
 use Rattle.tsp_text.specs.Spells.{fault_at_end}
 use Rattle.tsp_text.specs.Text.{is_too_long, part, fault}
-use Rattle.tsp_read.specs.Walk.{Walked}
+use Rattle.tsp_read.specs.states.Walk.{Walked}
 
 -- ---- items with no end line
 

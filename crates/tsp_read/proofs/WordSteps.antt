@@ -11,7 +11,7 @@ use Rattle.tsp_text.specs.Earlier.{open_section, words_of}
 use Rattle.tsp_format.specs.Shapes.{shape_of, is_section_field}
 use Rattle.tsp_text.specs.Places.{PastEnd}
 use Rattle.tsp_text.specs.Values.{spatial_after}
-use Rattle.tsp_text.specs.Sections.{place_by, place_in, nodes_of}
+use Rattle.tsp_text.specs.Sections.{place_by, place_in, dimension_in}
 use Rattle.tsp_text.specs.Rows.{word_fault}
 use Rattle.tsp_section.specs.states.Parts.{Takes}
 use Rattle.tsp_section.specs.states.Held.{shape_by, HoldsPart, HoldsShape}
@@ -25,12 +25,12 @@ use Rattle.tsp_text.proofs.Clean.{clean_more}
 -- the open section after the word
 open_more : (section after : OpenSection) (earlier : List Item) (word : List ℕ) → open_section earlier ≡ Some section.field
     → shape_of (spatial_after earlier) section.field ≡ Some (shape_by section.part) → after.field ≡ section.field
-    → HoldsShape (shape_by section.part) after.part (nodes_of earlier) (words_of section.field earlier ++ word ∷ []) → OpenHolds (Some after) (NumberWord word ∷ earlier)
+    → HoldsShape (shape_by section.part) after.part (dimension_in earlier) (words_of section.field earlier ++ word ∷ []) → OpenHolds (Some after) (NumberWord word ∷ earlier)
 open_more section after earlier word o shape same h =
     let words : words_of after.field (NumberWord word ∷ earlier) ≡ words_of section.field earlier ++ word ∷ [] =
     ap (λ f. words_of f (NumberWord word ∷ earlier)) same ∙ words_more earlier word section.field o in (
       o ∙ ap (λ f. Some f) (sym same),
-      (ap (shape_of (spatial_after earlier)) same ∙ shape ∙ ap (λ s. Some s) (sym h.0), subst (λ (ws : List (List ℕ)). HoldsPart after.part (nodes_of earlier) ws) (sym words) h.1),
+      (ap (shape_of (spatial_after earlier)) same ∙ shape ∙ ap (λ s. Some s) (sym h.0), subst (λ (ws : List (List ℕ)). HoldsPart after.part (dimension_in earlier) ws) (sym words) h.1),
     )
 
 -- what the part of the open section answers
@@ -50,10 +50,10 @@ word_answer old new section after word (Ok done) earlier there same same_draft s
     let held : OpenHolds (Some section) earlier = rw there at h.part in
     let f = section.field in
     let kind : is_section_field f ≡ true = section_of (spatial_after earlier) f (shape_by section.part) held.1.0 in
-    let next = step (nodes_of earlier) (words_of f earlier) held.1.1 in
+    let next = step (dimension_in earlier) (words_of f earlier) held.1.1 in
     record {
       clean = clean_more earlier (NumberWord word) h.clean (word_rows earlier word f held.0
-          ∙ ap (λ p. word_fault (nodes_of earlier) p word) (place_is (spatial_after earlier) f (shape_by section.part) (nodes_of earlier) (words_of f earlier) held.1.0) ∙ next.0);
+          ∙ ap (λ p. word_fault (dimension_in earlier) p word) (place_is (spatial_after earlier) f (shape_by section.part) (dimension_in earlier) (words_of f earlier) held.1.0) ∙ next.0);
       stand = rw same_draft h.stand;
       spelled = rw same_draft (h.spelled ∙ sym (word_fields earlier word f kind held.0));
       incomplete = same_first ∙ h.incomplete ∙ sym (word_first earlier word f kind held.0);
@@ -63,8 +63,8 @@ word_answer old new section after word (Err steps.Memory) earlier there same sam
 word_answer old new section after word (Err (steps.Fault fault)) earlier there same same_draft same_first is step h =
     let held : OpenHolds (Some section) earlier = rw there at h.part in
     word_rows earlier word section.field held.0
-    ∙ ap (λ p. word_fault (nodes_of earlier) p word) (place_is (spatial_after earlier) section.field (shape_by section.part) (nodes_of earlier) (words_of section.field earlier) held.1.0)
-    ∙ step (nodes_of earlier) (words_of section.field earlier) held.1.1
+    ∙ ap (λ p. word_fault (dimension_in earlier) p word) (place_is (spatial_after earlier) section.field (shape_by section.part) (dimension_in earlier) (words_of section.field earlier) held.1.0)
+    ∙ step (dimension_in earlier) (words_of section.field earlier) held.1.1
 
 -- nothing changes where a word isn't taken
 pub kept_answer : (old new : Reading) (section after : OpenSection) (earlier : List Item)
@@ -72,7 +72,7 @@ pub kept_answer : (old new : Reading) (section after : OpenSection) (earlier : L
     → ((n : ℕ) (words : List (List ℕ)) → HoldsPart section.part n words → HoldsShape (shape_by section.part) after.part n words) → Holds old earlier → Holds new earlier
 kept_answer old new section after earlier there same same_draft same_first is step h =
     let held : OpenHolds (Some section) earlier = rw there at h.part in
-    let kept = step (nodes_of earlier) (words_of section.field earlier) held.1.1 in
+    let kept = step (dimension_in earlier) (words_of section.field earlier) held.1.1 in
     record {
       clean = h.clean;
       stand = rw same_draft h.stand;
@@ -82,7 +82,7 @@ kept_answer old new section after earlier there same same_draft same_first is st
         held.0 ∙ ap (λ f. Some f) (sym same),
         (
           ap (shape_of (spatial_after earlier)) same ∙ held.1.0 ∙ ap (λ s. Some s) (sym kept.0),
-          subst (λ f. HoldsPart after.part (nodes_of earlier) (words_of f earlier)) (sym same) kept.1,
+          subst (λ f. HoldsPart after.part (dimension_in earlier) (words_of f earlier)) (sym same) kept.1,
         ),
       );
     }

@@ -11,7 +11,7 @@ use Rattle.tsp_text.specs.Items.{has_end_line}
 use Rattle.tsp_text.specs.Text.{is_too_long, part, settled_part, settled_fault}
 use Rattle.tsp_read.specs.Reads.{Reads}
 use Rattle.tsp_read.specs.states.Holds.{Holds}
-use Rattle.tsp_read.specs.Onward.{is_bare}
+use Rattle.tsp_read.specs.states.Onward.{is_bare}
 use Rattle.tsp_read.specs.states.Paused.{IsPaused}
 
 -- the text goes on: of these bytes all that is settled was taken, and it has neither a fault nor an end line
@@ -82,6 +82,6 @@ EndsClosed (Ok reading) = is_some reading.opened ≡ false
 EndsClosed (Err found) = ⊥
 
 -- the same at the end of the text, or its answer is this fault
-abbrev pub Ends : List ℕ → Result Reading ReadFault → Type 0
-Ends bytes (Ok reading) = SpellsWhole reading bytes
-Ends bytes (Err found) = Reads bytes (Err found) × (found ≡ faults.OutOfMemory → is_bare bytes ≡ false)
+abbrev pub EndsReading : List ℕ → Result Reading ReadFault → Type 0
+EndsReading bytes (Ok reading) = SpellsWhole reading bytes
+EndsReading bytes (Err found) = Reads bytes (Err found) × (found ≡ faults.OutOfMemory → is_bare bytes ≡ false)

@@ -11,7 +11,7 @@ use Rattle.tsp_read.specs.declared.feed.Feed.{Feed}
 use Rattle.tsp_text.specs.Items.{has_end_line}
 use Rattle.tsp_text.specs.Text.{settled_part, settled_fault}
 use Rattle.tsp_read.specs.Reads.{most_taken, IsFile, StopsAt}
-use Rattle.tsp_read.specs.Onward.{is_bare}
+use Rattle.tsp_read.specs.states.Onward.{is_bare}
 use Rattle.tsp_read.specs.Feed.{HasTaken}
 
 -- all but the last piece that is taken at once

@@ -8,3 +8,8 @@ pub mod Left
 pub mod Token
 pub mod Paused
 pub mod Run
+pub mod Walk
+pub mod Front
+pub mod Onward
+pub mod Finishes
+pub mod Taken

@@ -2,9 +2,9 @@
 //! once, or twice where a line is a word line, and nothing is copied.
 
 ghost use Rattle.std.specs.Prelude.{◌≡◌, ◌∷◌, ◌<◌, [], length, IfSome, MatchOption, false, true};
-ghost use Rattle.tsp_read.specs.states.Left.{items_left, item_next, is_inside};
+ghost use Rattle.tsp_read.specs.states.Left.{items_left, item_next, is_in_line};
 ghost use Rattle.tsp_read.specs.states.Token.{token_item};
-ghost use Rattle.tsp_read.specs.Onward.{is_over_long, GivesNext};
+ghost use Rattle.tsp_read.specs.states.Onward.{is_over_long, GivesNext};
 
 use crate::token::Token;
 pub(crate) use tsp_section::without_start;
@@ -25,7 +25,7 @@ impl<'a> Next<'a> {
     #[inline(always)]
     pub(crate) fn of(token: Token, text: &'a [u8]) -> Next<'a>
         ensures item { item_next result ≡ token_item token text.now }
-        ensures inside { is_inside result ≡ true }
+        ensures inside { is_in_line result ≡ true }
     {
         match token {
             Token::Line => Next::Line(text),
@@ -36,7 +36,7 @@ impl<'a> Next<'a> {
     /// Whether what follows is of the same line.
     #[inline(always)]
     pub(crate) fn is_inside(&self) -> bool
-        ensures { result ≡ is_inside self.now }
+        ensures { result ≡ is_in_line self.now }
     {
         match self {
             Next::Line(_) | Next::Word(_) => true,
@@ -54,9 +54,9 @@ impl<'a> Next<'a> {
 pub(crate) fn next_item(text: &[u8], inside: bool, goes_on: bool) -> Option<(Next<'_>, &[u8])>
     ensures items { MatchOption result (items_left goes_on inside text.now ≡ [])
         (λ found. items_left goes_on inside text.now
-        ≡ item_next found.0 ∷ items_left goes_on (is_inside found.0) found.1.now) }
+        ≡ item_next found.0 ∷ items_left goes_on (is_in_line found.0) found.1.now) }
     ensures follows { IfSome result (λ found. goes_on ≡ true → is_over_long (item_next found.0) ≡ false
-        → GivesNext inside text.now (item_next found.0) (is_inside found.0) found.1.now) }
+        → GivesNext inside text.now (item_next found.0) (is_in_line found.0) found.1.now) }
     ensures shorter { IfSome result (λ found. length found.1.now < length text.now) }
 {
     let filled = without_start(text);

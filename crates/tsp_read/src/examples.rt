@@ -2,7 +2,7 @@
 //! definition that is changed together with its code is refused by its examples.
 
 ghost use Rattle.std.specs.Prelude.{◌≡◌, ◌+◌, ◌^◌, true, false, [], ◌∷◌, replicate};
-ghost use Rattle.tsp_read.specs.Onward.{is_bare};
+ghost use Rattle.tsp_read.specs.states.Onward.{is_bare};
 ghost use Rattle.tsp_read.specs.Reads.{most_taken};
 ghost use Rattle.tsp_read.specs.Timely.{before_last};
 

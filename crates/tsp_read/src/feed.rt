@@ -124,10 +124,10 @@ impl Feed {
     ghost use Rattle.tsp_text.specs.Items.{has_end_line};
     ghost use Rattle.tsp_text.specs.Text.{settled_part, settled_fault};
     ghost use Rattle.tsp_text.specs.declared.fault.ReadFault.TheVariants.{OutOfMemory};
-    ghost use Rattle.tsp_read.specs.Onward.{is_bare};
+    ghost use Rattle.tsp_read.specs.states.Onward.{is_bare};
     ghost use Rattle.tsp_read.specs.Reads.{Reads};
     ghost use Rattle.tsp_read.specs.Timely.{is_going};
-    ghost use Rattle.tsp_read.specs.Feed.{IsGoing, HasTaken, refusal, Feeds, ComesTo, Ends, EndsClosed};
+    ghost use Rattle.tsp_read.specs.Feed.{IsGoing, HasTaken, refusal, Feeds, ComesTo, EndsReading, EndsClosed};
 
     /// The start of a file. It takes no memory.
     pub fn new(alloc: Global) -> Feed
@@ -191,7 +191,7 @@ impl Feed {
     }
     /// All that was read, once the line or word that has begun is taken as the last.
     fn end(self) -> Result<Reading, ReadFault>
-        ensures ends { (bytes : List ℕ) → HasTaken self bytes → Ends bytes result }
+        ensures ends { (bytes : List ℕ) → HasTaken self bytes → EndsReading bytes result }
         ensures again { (found : ReadFault) → refusal self ≡ Some found → result ≡ Err found }
         ensures ended { (bytes : List ℕ) → HasTaken self bytes → settled_fault bytes ≡ None
             → has_end_line (settled_part bytes) ≡ true → EndsClosed result }

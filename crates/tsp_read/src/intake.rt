@@ -3,9 +3,9 @@
 ghost use Rattle.std.specs.Prelude.{◌≡◌, ◌+◌, ◌≤◌, ◌<◌, [], List, ℕ, length, IfOk, IfSome, Err, true};
 ghost use Rattle.tsp_format.specs.Limits.{most_file_bytes};
 ghost use Rattle.tsp_text.specs.Items.{Item, NumberWord, line_item};
-ghost use Rattle.tsp_read.specs.states.Left.{items_left, item_next, is_inside};
+ghost use Rattle.tsp_read.specs.states.Left.{items_left, item_next, is_in_line};
 ghost use Rattle.tsp_read.specs.states.Token.{token_item};
-ghost use Rattle.tsp_read.specs.Onward.{is_over_long};
+ghost use Rattle.tsp_read.specs.states.Onward.{is_over_long};
 
 use crate::cut::{Next, next_item};
 use crate::item::{line_after, take, word_of};
@@ -69,7 +69,7 @@ impl Intake {
         requires words { self.old.words < most_file_bytes }
         ensures item { (earlier : List Item) → Stands self.old earlier
             → TakesNext earlier (item_next next.now) self.new result }
-        ensures inside { IfOk result (λ _. self.new.inside ≡ is_inside next.now) }
+        ensures inside { IfOk result (λ _. self.new.inside ≡ is_in_line next.now) }
         ensures line { self.new.line ≤ self.old.line + 1 }
         ensures words { self.new.words ≤ self.old.words + 1 }
     {

@@ -4,9 +4,9 @@ ghost use Rattle.std.specs.Prelude.{◌≡◌, ◌+◌, ◌≤◌, ◌∷◌, Li
 ghost use Rattle.tsp_format.specs.Limits.{most_file_bytes};
 ghost use Rattle.tsp_text.specs.Items.{Item, WordLine, Line, is_end_line, line_item, line_number, words_before, word_number};
 ghost use Rattle.tsp_read.specs.states.Left.{item_next};
-ghost use Rattle.tsp_read.specs.Onward.{is_line_end};
+ghost use Rattle.tsp_read.specs.states.Onward.{is_line_end};
 ghost use Rattle.tsp_read.specs.states.Holds.{Holds};
-ghost use Rattle.tsp_read.specs.Reads.{TakesItem};
+ghost use Rattle.tsp_read.specs.states.Taken.{TakesItem};
 
 use crate::cut::Next;
 use crate::state::reading::Reading;

@@ -3,7 +3,7 @@
 ghost use Rattle.std.specs.Prelude.{◌≡◌, Err, false};
 ghost use Rattle.tsp_stream.specs.Turn.{turn_of};
 ghost use Rattle.tsp_text.specs.declared.fault.ReadFault.TheVariants.{OutOfMemory};
-ghost use Rattle.tsp_read.specs.Onward.{is_bare};
+ghost use Rattle.tsp_read.specs.states.Onward.{is_bare};
 ghost use Rattle.tsp_read.specs.Reads.{Reads, ReadsFrom};
 ghost use Rattle.tsp_read.specs.Timely.{ReadsInTime};
 

@@ -14,7 +14,7 @@ ghost use Rattle.tsp_number.specs.Reading.{decimal_of};
 ghost use Rattle.tsp_text.specs.Numbers.{IsWhole};
 ghost use Rattle.tsp_section.specs.declared.part.Part.{Part};
 ghost use Rattle.tsp_section.specs.declared.part.Part.TheVariants as parts;
-ghost use Rattle.tsp_read.specs.Front.{front_word, IsFound, LeavesEnd};
+ghost use Rattle.tsp_read.specs.states.Front.{front_word, IsFrontWord, LeavesEnd};
 ghost use Rattle.tsp_read.specs.states.Run.{RunsTo, StepsTo};
 
 use crate::count::Count;
@@ -47,7 +47,7 @@ fn past_end(rest: &[u8]) -> Option<&[u8]>
 /// that ends it; or nothing where no such word stands there whose end has come.
 #[inline(always)]
 pub(crate) fn few_number(text: &[u8]) -> Option<(i64, &[u8])>
-    ensures { IfSome result (λ found. IsFound text.now (IsWhole (front_word text.now) found.0) found.1.now) }
+    ensures { IfSome result (λ found. IsFrontWord text.now (IsWhole (front_word text.now) found.0) found.1.now) }
 {
     let Some((number, end)) = front_few(text) else {
         return None;
@@ -63,7 +63,7 @@ pub(crate) fn few_number(text: &[u8]) -> Option<(i64, &[u8])>
 /// nothing where no word of at most 18 digits stands there whose end has come.
 #[inline(never)]
 pub(crate) fn front_number(text: &[u8]) -> Option<(i64, &[u8])>
-    ensures { IfSome result (λ found. IsFound text.now (IsWhole (front_word text.now) found.0) found.1.now) }
+    ensures { IfSome result (λ found. IsFrontWord text.now (IsWhole (front_word text.now) found.0) found.1.now) }
 {
     let filled = without_start(text);
     let Some((number, end)) = front_whole(filled) else {
@@ -81,7 +81,7 @@ pub(crate) fn front_number(text: &[u8]) -> Option<(i64, &[u8])>
 /// come.
 #[inline(always)]
 pub(crate) fn front_coordinate(text: &[u8]) -> Option<(Decimal, &[u8])>
-    ensures { IfSome result (λ found. IsFound text.now (decimal_of (front_word text.now) ≡ Ok found.0) found.1.now) }
+    ensures { IfSome result (λ found. IsFrontWord text.now (decimal_of (front_word text.now) ≡ Ok found.0) found.1.now) }
 {
     let filled = without_start(text);
     let Some(found) = front_decimal(filled) else {
@@ -106,7 +106,7 @@ fn take_number<'a, L: RunList>(
     found: Option<(i64, &'a [u8])>,
 ) -> Option<&'a [u8]>
     requires count { count.old.words + length text.now ≤ most_file_bytes }
-    requires found { IfSome found (λ found. IsFound text.now (IsWhole (front_word text.now) found.0) found.1.now) }
+    requires found { IfSome found (λ found. IsFrontWord text.now (IsWhole (front_word text.now) found.0) found.1.now) }
     ensures { StepsTo (L.part list.old) count.old text.now (L.part list.new) count.new
         (option_map (λ rest. rest.now) result) }
 {

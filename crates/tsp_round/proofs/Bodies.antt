@@ -8,8 +8,8 @@ use Rattle.std.proofs.lemmas.Bool.{and_from, and_parts, leb-true}
 use Rattle.tsp_distance.specs.declared.decimal.Point.{Point}
 use Rattle.tsp_number.specs.Spelling.{spelling}
 use Rattle.tsp_format.specs.Limits.{most_nodes, most_weight, most_multiplier, most_coordinate}
-use Rattle.tsp_draft.specs.Validity.{is_from_to, is_within, is_node, is_pair, is_triple, is_point, is_tour}
-use Rattle.tsp_file.specs.Text.{number_line, ended, node_list, pair_list, triple_list}
+use Rattle.tsp_draft.specs.Validity.{is_from_to, is_within, is_node, is_node_pair, is_triple, is_point, is_tour}
+use Rattle.tsp_file.specs.Text.{number_line, ended_by_mark, node_list, pair_list, triple_list}
 use Rattle.tsp_round.proofs.Text.{is_plain_word, WritesWords, no_words_written, both_words, number_line_written}
 use Rattle.tsp_round.proofs.Numbers.{decimal_plain, signed_plain, spelling_plain, size_in, size_from}
 use Rattle.tsp_round.proofs.Groups.{AreSmall, number_entry}
@@ -104,7 +104,7 @@ lines_written fits line words each (x ∷ xs) all =
 
 -- and the line of the -1
 pub list_written : {A : Type 0} (fits : A → Bool) (line : A → List ℕ) (words : A → List (List ℕ)) → ((x : A) → fits x ≡ true → WritesWords (line x) (words x))
-    → (xs : List A) → list_all fits xs ≡ true → WritesWords (ended (flat_map line xs)) (flat_map words xs ++ codes "-1" ∷ [])
+    → (xs : List A) → list_all fits xs ≡ true → WritesWords (ended_by_mark (flat_map line xs)) (flat_map words xs ++ codes "-1" ∷ [])
 list_written fits line words each xs all =
     both_words (flat_map line xs) (codes "-1" ++ 10 ∷ []) (flat_map words xs) (codes "-1" ∷ []) (lines_written fits line words each xs all) end_written
 
@@ -114,14 +114,14 @@ tour_written tour fits = node_lines_written most_nodes (omega arith) tour (and_p
 pub tour_lines_written : (tours : List (List ℕ)) → list_all is_tour tours ≡ true → WritesWords (flat_map node_list tours) (flat_map tour_words tours)
 tour_lines_written tours all = lines_written is_tour node_list tour_words tour_written tours all
 
-pub pair_written : (n : ℕ) → n < 2 ^ 32 → (pair : ℕ × ℕ) → is_pair n pair ≡ true → WritesWords (number_line (decimal pair.0) (decimal pair.1 ∷ [])) (pair_words pair)
+pub pair_written : (n : ℕ) → n < 2 ^ 32 → (pair : ℕ × ℕ) → is_node_pair n pair ≡ true → WritesWords (number_line (decimal pair.0) (decimal pair.1 ∷ [])) (pair_words pair)
 pair_written n few pair fits =
     let are = are_pair n pair fits in
     number_line_written (decimal pair.0) (decimal pair.1 ∷ []) (node_plain n pair.0 few are.first) (one_plain (decimal pair.1) (node_plain n pair.1 few are.second))
 
-pub pair_lines_written : (n : ℕ) → n < 2 ^ 32 → (pairs : List (ℕ × ℕ)) → list_all (is_pair n) pairs ≡ true → WritesWords (pair_list pairs) (flat_map pair_words pairs ++ codes "-1" ∷ [])
+pub pair_lines_written : (n : ℕ) → n < 2 ^ 32 → (pairs : List (ℕ × ℕ)) → list_all (is_node_pair n) pairs ≡ true → WritesWords (pair_list pairs) (flat_map pair_words pairs ++ codes "-1" ∷ [])
 pair_lines_written n few pairs all =
-    list_written (is_pair n) (λ (pair : ℕ × ℕ). number_line (decimal pair.0) (decimal pair.1 ∷ [])) pair_words (pair_written n few) pairs all
+    list_written (is_node_pair n) (λ (pair : ℕ × ℕ). number_line (decimal pair.0) (decimal pair.1 ∷ [])) pair_words (pair_written n few) pairs all
 
 triple_written : (n : ℕ) → n < 2 ^ 32 → (triple : ℕ × ℕ × ℤ) → is_triple n triple ≡ true
     → WritesWords (number_line (decimal triple.0) (decimal triple.1 ∷ signed_decimal triple.2 ∷ [])) (triple_words triple)

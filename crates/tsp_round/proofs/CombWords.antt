@@ -15,7 +15,7 @@ use Rattle.tsp_text.specs.Numbers.{number, node_or_end, is_end}
 use Rattle.tsp_text.specs.Places.{SetNode}
 use Rattle.tsp_text.specs.Rows.{word_fault, is_past_combs}
 use Rattle.tsp_text.specs.Spells.{wants_more}
-use Rattle.tsp_text.specs.Combs.{CombsSoFar, no_combs, with_node, with_end, with_comb_word, combs_in, place_in_combs, place_of_comb}
+use Rattle.tsp_text.specs.Combs.{CombsSoFar, no_combs, with_node, with_end, with_comb_word, whole_combs, place_in_combs, place_of_comb}
 use Rattle.tsp_round.proofs.Numbers.{NumberLaws, listed_back, node_goes_on, end_read, end_ends}
 use Rattle.tsp_round.proofs.Taken.{AllTaken, Runs, runs_none, runs_one, runs_then, all_taken}
 use Rattle.tsp_round.proofs.Lists.{no_rows, has_room}
@@ -188,7 +188,7 @@ all_run laws n few combs fits =
 pub combs_taken : NumberLaws → (n : ℕ) → n < 2 ^ 32 → (combs : List (List (List ℕ))) → are_combs n combs ≡ true → AllTaken n (place_of_comb n) [] (combs_words combs)
 combs_taken laws n few combs fits = all_taken n (with_comb_word n) place_in_combs no_combs [] (combs_words combs) (all_run laws n few combs fits).taken
 
-pub combs_back : NumberLaws → (n : ℕ) → n < 2 ^ 32 → (combs : List (List (List ℕ))) → are_combs n combs ≡ true → combs_in n (combs_words combs) ≡ combs
+pub combs_back : NumberLaws → (n : ℕ) → n < 2 ^ 32 → (combs : List (List (List ℕ))) → are_combs n combs ≡ true → whole_combs n (combs_words combs) ≡ combs
 combs_back laws n few combs fits = ap (λ (s : CombsSoFar). s.combs) (all_run laws n few combs fits).gives
 
 pub combs_done : NumberLaws → (n : ℕ) → n < 2 ^ 32 → (combs : List (List (List ℕ))) → are_combs n combs ≡ true → wants_more (place_of_comb n (combs_words combs)) ≡ false

@@ -15,7 +15,7 @@ use Rattle.tsp_text.specs.Items.{Item}
 use Rattle.tsp_text.specs.Earlier.{has_line, words_of}
 use Rattle.tsp_text.specs.Places.{PastEnd}
 use Rattle.tsp_text.specs.Values.{spatial_after}
-use Rattle.tsp_text.specs.Sections.{place_by, place_in, nodes_of}
+use Rattle.tsp_text.specs.Sections.{place_by, place_in, dimension_in}
 use Rattle.tsp_text.specs.Spells.{wants_more, is_incomplete, first_incomplete}
 use Rattle.tsp_round.proofs.Numbers.{NumberLaws}
 use Rattle.tsp_round.proofs.Onto.{has_value}
@@ -30,15 +30,15 @@ part_done : NumberLaws → (f : Fields) (items : List Item) → Stage f [] items
     → is_incomplete items field ≡ false
 part_done laws f items stage one field shape None is =
     let has : has_line field items ≡ false = has_value field items ∙ ap (λ (v : Option (List ℕ)). is_some v) (stage.values field is.once ∙ is.value_is) in
-    and_left (has_line field items) (wants_more (place_in (spatial_after items) field (nodes_of items) (words_of field items))) has
+    and_left (has_line field items) (wants_more (place_in (spatial_after items) field (dimension_in items) (words_of field items))) has
 part_done laws f items stage one field shape (Some xs) is =
     let right = are_right laws f shape xs items (stage.values DimensionKey refl) one is.fit in
     let space = space_written f items (stage.values NodeCoordTypeKey refl) (stage.values EdgeWeightTypeKey refl) in
-    and_right (has_line field items) (wants_more (place_in (spatial_after items) field (nodes_of items) (words_of field items)))
-    (ap (λ (words : List (List ℕ)). wants_more (place_in (spatial_after items) field (nodes_of items) words)) (stage.words field ∙ is.words_are)
-    ∙ ap (λ (b : Bool). wants_more (place_in b field (nodes_of items) (words_for shape xs))) space
-    ∙ ap (λ (o : Option Shape). wants_more (option_map_or (λ s. place_by s (nodes_of items) (words_for shape xs)) o PastEnd)) is.shape_is
-    ∙ (body laws [] shape is.writable (nodes_of items) right.few xs right.valid).done)
+    and_right (has_line field items) (wants_more (place_in (spatial_after items) field (dimension_in items) (words_of field items)))
+    (ap (λ (words : List (List ℕ)). wants_more (place_in (spatial_after items) field (dimension_in items) words)) (stage.words field ∙ is.words_are)
+    ∙ ap (λ (b : Bool). wants_more (place_in b field (dimension_in items) (words_for shape xs))) space
+    ∙ ap (λ (o : Option Shape). wants_more (option_map_or (λ s. place_by s (dimension_in items) (words_for shape xs)) o PastEnd)) is.shape_is
+    ∙ (body laws [] shape is.writable (dimension_in items) right.few xs right.valid).done)
 
 -- a search of some fields that finds none
 one_less : (chosen : Bool) (test : Field → Bool) (field : Field) (others : List Field) → (chosen ≡ true → test field ≡ false) → find test others ≡ None

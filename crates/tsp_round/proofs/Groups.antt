@@ -16,7 +16,7 @@ use Rattle.tsp_format.specs.Cells.{nodes_to}
 use Rattle.tsp_draft.specs.Validity.{is_from_to, is_node}
 use Rattle.tsp_text.specs.Numbers.{number, node, reads_as}
 use Rattle.tsp_text.specs.Places.{NodeAfter, Amount, PastGroups}
-use Rattle.tsp_text.specs.Groups.{pairs_in, begun_pair, number_groups, entry_of, by_node, numbers_by_node, place_in_group, nodes_in, place_of_number}
+use Rattle.tsp_text.specs.Groups.{pairs_in, begun_pair, number_groups, entry_of, by_node, numbers_by_node, place_in_group, nodes_of_groups, place_of_number}
 use Rattle.tsp_text.specs.Rows.{word_fault}
 use Rattle.tsp_text.proofs.PairWords.{pairs_begin, begun_begin, pairs_end, begun_end}
 use Rattle.tsp_round.proofs.Numbers.{NumberLaws, node_back}
@@ -83,7 +83,7 @@ number_entry entry = decimal entry.0 ∷ signed_decimal entry.1 ∷ []
 abbrev pub AreSmall : ℤ → ℤ → Type 0
 AreSmall low high = (z : ℤ) → is_from_to low high z ≡ true → unsigned_abs z < 2 ^ 63
 
-nodes_are : (low high : ℤ) (n : ℕ) (words : List (List ℕ)) → length words ≤ 2 * n → nodes_in (number_groups low high n words) ≡ map (λ pair. number (node n pair.0)) (pairs_in words)
+nodes_are : (low high : ℤ) (n : ℕ) (words : List (List ℕ)) → length words ≤ 2 * n → nodes_of_groups (number_groups low high n words) ≡ map (λ pair. number (node n pair.0)) (pairs_in words)
 nodes_are low high n words few =
     fused (λ group. group.0) (λ group. (number (node n group.0), number (whole_of group.1 low high))) (pairs_in (take (2 * n) words))
     ∙ ap (λ (ws : List (List ℕ)). map (λ (pair : List ℕ × List ℕ). number (node n pair.0)) (pairs_in ws)) (take_all (2 * n) words few)
@@ -101,15 +101,15 @@ numbers_taken laws low high small n few earlier i (z ∷ xs) whole nodes count r
     let b = signed_decimal z in
     let is = one_node n i (omega arith) in
     let here : place_of_number low high n earlier ≡ NodeAfter (map pos (range_with_len 1 i)) =
-    ap (λ t. cond t PastGroups (place_in_group (Amount low high) (nodes_in (number_groups low high n earlier)) (begun_pair earlier))) (lt-leb (2 * n) (length earlier) (omega arith))
-    ∙ ap (place_in_group (Amount low high) (nodes_in (number_groups low high n earlier))) whole ∙ ap NodeAfter (nodes_are low high n earlier (omega arith) ∙ nodes) in
+    ap (λ t. cond t PastGroups (place_in_group (Amount low high) (nodes_of_groups (number_groups low high n earlier)) (begun_pair earlier))) (lt-leb (2 * n) (length earlier) (omega arith))
+    ∙ ap (place_in_group (Amount low high) (nodes_of_groups (number_groups low high n earlier))) whole ∙ ap NodeAfter (nodes_are low high n earlier (omega arith) ∙ nodes) in
     let first = begun_begin earlier a whole in
     let one = length_push earlier a in
     let two = length_push (earlier ++ a ∷ []) b in
     let next : place_of_number low high n (earlier ++ a ∷ []) ≡ Amount low high =
-    ap (λ t. cond t PastGroups (place_in_group (Amount low high) (nodes_in (number_groups low high n (earlier ++ a ∷ []))) (begun_pair (earlier ++ a ∷ []))))
+    ap (λ t. cond t PastGroups (place_in_group (Amount low high) (nodes_of_groups (number_groups low high n (earlier ++ a ∷ []))) (begun_pair (earlier ++ a ∷ []))))
     (lt-leb (2 * n) (length (earlier ++ a ∷ [])) (omega arith))
-    ∙ ap (place_in_group (Amount low high) (nodes_in (number_groups low high n (earlier ++ a ∷ [])))) first in
+    ∙ ap (place_in_group (Amount low high) (nodes_of_groups (number_groups low high n (earlier ++ a ∷ [])))) first in
     let f : List ℕ × List ℕ → ℤ = λ pair. number (node n pair.0) in
     let nodes_more : map f (pairs_in ((earlier ++ a ∷ []) ++ b ∷ [])) ≡ map pos (range_with_len 1 (i + 1)) =
     ap (map f) (pairs_end (earlier ++ a ∷ []) a b first ∙ ap (λ (ps : List (List ℕ × List ℕ)). ps ++ (a, b) ∷ []) (pairs_begin earlier a whole)) ∙ map-append f (pairs_in earlier) ((a, b) ∷ [])

@@ -12,7 +12,7 @@ use Rattle.tsp_format.specs.Bytes.{is_blank}
 use Rattle.tsp_format.specs.Words.{field_word}
 use Rattle.tsp_format.specs.Limits.{most_line_bytes, most_kept_bytes, most_comments}
 use Rattle.tsp_draft.specs.Validity.{is_kept}
-use Rattle.tsp_file.specs.Text.{after_blank, keyword_line}
+use Rattle.tsp_file.specs.Text.{blank_before, keyword_line}
 use Rattle.tsp_text.specs.Lines.{is_filled}
 use Rattle.tsp_text.specs.Items.{WordLine, Item, Line, LineEnd, has_end_line}
 use Rattle.tsp_text.specs.Earlier.{same_field, has_line, value_at, values_at, others_in, words_of}
@@ -33,13 +33,13 @@ pub record Kept (keyword value : List ℕ) : Type 0 where
   pub short : nat_lt most_line_bytes (length (value_text keyword value)) ≡ false
   pub room : nat_lt most_kept_bytes (length keyword + length value) ≡ false
 
-after_length : (value : List ℕ) → length (after_blank value) ≤ length value + 1
+after_length : (value : List ℕ) → length (blank_before value) ≤ length value + 1
 after_length [] = omega arith
 after_length (b ∷ value) = omega arith
 
 pub text_length : (keyword value : List ℕ) (most : ℕ) → length keyword + length value ≤ most → most ≤ 4000 → nat_lt most_line_bytes (length (value_text keyword value)) ≡ false
 text_length keyword value most few limit =
-    le-ltb most_line_bytes (length (value_text keyword value)) (omega (arith, length-append keyword (32 ∷ 58 ∷ after_blank value), after_length value))
+    le-ltb most_line_bytes (length (value_text keyword value)) (omega (arith, length-append keyword (32 ∷ 58 ∷ blank_before value), after_length value))
 
 pub kept : (keyword value : List ℕ) → is_kept keyword value ≡ true → Kept keyword value
 kept keyword value e =

@@ -9,10 +9,10 @@ use Rattle.std.proofs.lemmas.List.{take_at, drop_at, reverse-reverse, get_or-rev
 use Rattle.std.proofs.lemmas.List.Folds.{list_all-append}
 use Rattle.tsp_format.specs.Bytes.{is_blank, is_letter, is_keyword_byte}
 use Rattle.tsp_format.specs.Keywords.{keyword_of}
-use Rattle.tsp_file.specs.Text.{after_blank, value_line}
+use Rattle.tsp_file.specs.Text.{blank_before, value_line}
 use Rattle.tsp_text.specs.Lines.{ends_line, without_start, without_end, begins, is_word_line, keyword_in, after_keyword, is_colon, has_colon, value_in, words_in}
 use Rattle.tsp_text.specs.Items.{WordLine, Item, Line, NumberWord, LineEnd, word_line, line_item, items_in, items_of}
-use Rattle.tsp_text.specs.Cuts.{is_one_line}
+use Rattle.tsp_text.specs.Cuts.{has_no_line_end}
 use Rattle.tsp_round.proofs.Text.{Writes, line_written, all_such}
 
 -- ---- blanks
@@ -28,7 +28,7 @@ last_first (b ∷ bytes) = get_or-reverse (b ∷ bytes) 0 0 (omega arith) ∙ ap
 end_kept : (bytes : List ℕ) → is_blank (slice_index bytes (length bytes - 1)) ≡ false → without_end bytes ≡ bytes
 end_kept bytes e = ap reverse (start_kept (reverse bytes) (ap is_blank (last_first bytes) ∙ e)) ∙ reverse-reverse bytes
 
-blank_gone : (value : List ℕ) → is_blank (slice_index value 0) ≡ false → without_start (after_blank value) ≡ value
+blank_gone : (value : List ℕ) → is_blank (slice_index value 0) ≡ false → without_start (blank_before value) ≡ value
 blank_gone [] e = refl
 blank_gone (b ∷ value) e = ap (λ blank. drop (1 + cond blank (1 + prefix_len is_blank value) 0) (32 ∷ b ∷ value)) e
 
@@ -45,20 +45,20 @@ prefix_is p (x ∷ front) y rest all e =
 
 -- the text of a keyword and its value
 abbrev pub value_text : List ℕ → List ℕ → List ℕ
-value_text keyword value = keyword ++ 32 ∷ 58 ∷ after_blank value
+value_text keyword value = keyword ++ 32 ∷ 58 ∷ blank_before value
 
 keyword_is : (keyword value : List ℕ) → list_all is_keyword_byte keyword ≡ true → keyword_in (value_text keyword value) ≡ keyword
 keyword_is keyword value all =
-    ap (λ n. take n (value_text keyword value)) (prefix_is is_keyword_byte keyword 32 (58 ∷ after_blank value) all refl) ∙ take_at keyword (32 ∷ 58 ∷ after_blank value) (length keyword) refl
+    ap (λ n. take n (value_text keyword value)) (prefix_is is_keyword_byte keyword 32 (58 ∷ blank_before value) all refl) ∙ take_at keyword (32 ∷ 58 ∷ blank_before value) (length keyword) refl
 
-after_is : (keyword value : List ℕ) → list_all is_keyword_byte keyword ≡ true → after_keyword (value_text keyword value) ≡ 58 ∷ after_blank value
+after_is : (keyword value : List ℕ) → list_all is_keyword_byte keyword ≡ true → after_keyword (value_text keyword value) ≡ 58 ∷ blank_before value
 after_is keyword value all =
-    ap without_start (ap (λ n. drop n (value_text keyword value)) (prefix_is is_keyword_byte keyword 32 (58 ∷ after_blank value) all refl)
-    ∙ drop_at keyword (32 ∷ 58 ∷ after_blank value) (length keyword) refl)
+    ap without_start (ap (λ n. drop n (value_text keyword value)) (prefix_is is_keyword_byte keyword 32 (58 ∷ blank_before value) all refl)
+    ∙ drop_at keyword (32 ∷ 58 ∷ blank_before value) (length keyword) refl)
 
 -- a value that is kept as it is written
 pub record IsWhole (value : List ℕ) : Type 0 where
-  pub one_line : is_one_line value ≡ true
+  pub one_line : has_no_line_end value ≡ true
   pub begins_filled : is_blank (slice_index value 0) ≡ false
   pub ends_filled : is_blank (slice_index value (length value - 1)) ≡ false
 
@@ -70,7 +70,7 @@ pub record IsKeyword (keyword : List ℕ) : Type 0 where
 abbrev pub written_line : List ℕ → List ℕ → WordLine
 written_line keyword value = record { size = length (value_text keyword value); keyword = keyword; has_colon = true; value = value }
 
-value_found : (text value : List ℕ) → after_keyword text ≡ 58 ∷ after_blank value → IsWhole value → value_in text ≡ value
+value_found : (text value : List ℕ) → after_keyword text ≡ 58 ∷ blank_before value → IsWhole value → value_in text ≡ value
 value_found text value after whole =
     ap (λ (rest : List ℕ). without_end (without_start (drop (cond (begins is_colon rest) 1 0) rest))) after
     ∙ ap without_end (blank_gone value whole.begins_filled) ∙ end_kept value whole.ends_filled
@@ -83,7 +83,7 @@ line_found : (keyword value : List ℕ) → IsKeyword keyword → IsWhole value 
 line_found keyword value key whole =
     let text = value_text keyword value in
     let found : keyword_in text ≡ keyword = keyword_is keyword value key.bytes in
-    let after : after_keyword text ≡ 58 ∷ after_blank value = after_is keyword value key.bytes in
+    let after : after_keyword text ≡ 58 ∷ blank_before value = after_is keyword value key.bytes in
     let colon : has_colon text ≡ true = ap (begins is_colon) after in
     let line : word_line text ≡ written_line keyword value =
     same_line (length text) (keyword_in text) keyword (has_colon text) (value_in text) value found colon (value_found text value after whole) in
@@ -99,14 +99,14 @@ first_letter (b ∷ keyword) rest e = (start_kept (b ∷ (keyword ++ rest)) (let
 key_line : (b : ℕ) → is_keyword_byte b ≡ true → not (ends_line b) ≡ true
 key_line b e = grind (arith, nat_tests)
 
-one_line_after : (value : List ℕ) → is_one_line value ≡ true → is_one_line (after_blank value) ≡ true
+one_line_after : (value : List ℕ) → has_no_line_end value ≡ true → has_no_line_end (blank_before value) ≡ true
 one_line_after [] one = refl
 one_line_after (b ∷ value) one = one
 
 items_of_value : (keyword value : List ℕ) → IsKeyword keyword → IsWhole value → items_in (value_text keyword value) ≡ Line (keyword_of keyword) (written_line keyword value) ∷ []
 items_of_value keyword value key whole =
     let text = value_text keyword value in
-    let start = first_letter keyword (32 ∷ 58 ∷ after_blank value) key.letter_first in
+    let start = first_letter keyword (32 ∷ 58 ∷ blank_before value) key.letter_first in
     let word : is_word_line text ≡ true = ap (begins is_letter) start.0 ∙ start.1 in
     ap (λ b. cond b (line_item (without_start text) ∷ []) (map (λ w. NumberWord w) (words_in text))) word
     ∙ ap (λ (t : List ℕ). line_item t ∷ []) start.0 ∙ ap (λ (item : Item). item ∷ []) (line_found keyword value key whole)
@@ -115,9 +115,9 @@ pub value_written : (keyword value : List ℕ) → IsKeyword keyword → IsWhole
     → Writes (value_line keyword value) (Line (keyword_of keyword) (written_line keyword value) ∷ LineEnd ∷ [])
 value_written keyword value key whole rest =
     let text = value_text keyword value in
-    let one : is_one_line text ≡ true =
-    list_all-append (λ b. not (ends_line b)) keyword (32 ∷ 58 ∷ after_blank value)
-    ∙ and_from (is_one_line keyword) (is_one_line (after_blank value)) (all_such is_keyword_byte (λ b. not (ends_line b)) key_line keyword key.bytes) (one_line_after value whole.one_line) in
-    ap (λ (t : List ℕ). items_of (t ++ rest)) (sym (append_assoc keyword (32 ∷ 58 ∷ after_blank value) (10 ∷ [])))
+    let one : has_no_line_end text ≡ true =
+    list_all-append (λ b. not (ends_line b)) keyword (32 ∷ 58 ∷ blank_before value)
+    ∙ and_from (has_no_line_end keyword) (has_no_line_end (blank_before value)) (all_such is_keyword_byte (λ b. not (ends_line b)) key_line keyword key.bytes) (one_line_after value whole.one_line) in
+    ap (λ (t : List ℕ). items_of (t ++ rest)) (sym (append_assoc keyword (32 ∷ 58 ∷ blank_before value) (10 ∷ [])))
     ∙ line_written text one rest
     ∙ ap (λ (items : List Item). (items ++ LineEnd ∷ []) ++ items_of rest) (items_of_value keyword value key whole)

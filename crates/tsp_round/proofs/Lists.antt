@@ -11,9 +11,9 @@ use Rattle.std.proofs.lemmas.Bool.Decides.{Decides-int_eq}
 use Rattle.std.proofs.lemmas.List.{length_push}
 use Rattle.tsp_number.specs.declared.fault.NumberFault.{NumberFault}
 use Rattle.tsp_format.specs.Limits.{most_weight, most_depots, most_fixed}
-use Rattle.tsp_draft.specs.Validity.{is_within, is_node, is_pair}
+use Rattle.tsp_draft.specs.Validity.{is_within, is_node, is_node_pair}
 use Rattle.tsp_text.specs.declared.fault.LineFault.TheVariants as row
-use Rattle.tsp_text.specs.Numbers.{number, node, node_or_end, is_end, sized, reads_as}
+use Rattle.tsp_text.specs.Numbers.{number, node, node_or_end, is_end, whole_of_size, reads_as}
 use Rattle.tsp_text.specs.Places.{DepotAfter, FirstAfter, SecondOf, PastEnd, Weight, PastWeights}
 use Rattle.tsp_text.specs.Groups.{pairs_in, begun_pair}
 use Rattle.tsp_text.specs.Lists.{before, firsts_in, depots_in, place_of_depot, fixed_in, place_in_pair, place_of_fixed}
@@ -104,7 +104,7 @@ pub record ArePair (n a b : ℕ) : Type 0 where
   pub second : is_node n b ≡ true
   pub differ : (a == b) ≡ false
 
-pub are_pair : (n : ℕ) (pair : ℕ × ℕ) → is_pair n pair ≡ true → ArePair n pair.0 pair.1
+pub are_pair : (n : ℕ) (pair : ℕ × ℕ) → is_node_pair n pair ≡ true → ArePair n pair.0 pair.1
 are_pair n pair fits =
     let parts = and_parts (is_node n pair.0 && is_node n pair.1) (not (pair.0 == pair.1)) fits in
     let each = and_parts (is_node n pair.0) (is_node n pair.1) parts.0 in
@@ -119,10 +119,10 @@ pair_place : (n : ℕ) (words begun : List (List ℕ)) → list_any (is_end n) (
 pair_place n words begun unended whole = rw (unended, whole) refl
 
 pub fixed_taken : NumberLaws → (n : ℕ) → n < 2 ^ 32 → (earlier : List (List ℕ)) (pairs : List (ℕ × ℕ)) → list_any (is_end n) (firsts_in earlier) ≡ false → begun_pair earlier ≡ []
-    → length (pairs_in earlier) + length pairs ≤ most_fixed → list_all (is_pair n) pairs ≡ true → AllTaken n (place_of_fixed n) earlier (flat_map pair_words pairs ++ codes "-1" ∷ [])
+    → length (pairs_in earlier) + length pairs ≤ most_fixed → list_all (is_node_pair n) pairs ≡ true → AllTaken n (place_of_fixed n) earlier (flat_map pair_words pairs ++ codes "-1" ∷ [])
 fixed_taken laws n few earlier [] unended whole room all = (ap (λ p. word_fault n p (codes "-1")) (pair_place n earlier [] unended whole) ∙ end_taken laws n (length (pairs_in earlier)), tt)
 fixed_taken laws n few earlier (pair ∷ pairs) unended whole room all =
-    let both = and_parts (is_pair n pair) (list_all (is_pair n) pairs) all in
+    let both = and_parts (is_node_pair n pair) (list_all (is_node_pair n) pairs) all in
     let are = are_pair n pair both.0 in
     let a = decimal pair.0 in
     let b = decimal pair.1 in
@@ -140,10 +140,10 @@ fixed_taken laws n few earlier (pair ∷ pairs) unended whole room all =
       ),
     )
 
-pub fixed_back : NumberLaws → (n : ℕ) → n < 2 ^ 32 → (pairs : List (ℕ × ℕ)) → list_all (is_pair n) pairs ≡ true → fixed_in n (flat_map pair_words pairs ++ codes "-1" ∷ []) ≡ pairs
+pub fixed_back : NumberLaws → (n : ℕ) → n < 2 ^ 32 → (pairs : List (ℕ × ℕ)) → list_all (is_node_pair n) pairs ≡ true → fixed_in n (flat_map pair_words pairs ++ codes "-1" ∷ []) ≡ pairs
 fixed_back laws n few [] all = refl
 fixed_back laws n few (pair ∷ pairs) all =
-    let both = and_parts (is_pair n pair) (list_all (is_pair n) pairs) all in
+    let both = and_parts (is_node_pair n pair) (list_all (is_node_pair n) pairs) all in
     let are = are_pair n pair both.0 in
     let more = flat_map pair_words pairs ++ codes "-1" ∷ [] in
     let read : List ℕ × List ℕ → ℕ × ℕ = λ p. (nat_abs (number (node_or_end n p.0)), nat_abs (number (node n p.1))) in
@@ -158,7 +158,7 @@ fixed_ended laws n (pair ∷ pairs) = or_right (is_end n (decimal pair.0)) (list
 
 -- ---- weights
 
-weight_back : NumberLaws → (z : ℤ) → is_within most_weight z ≡ true → sized most_weight (signed_decimal z) ≡ Ok z
+weight_back : NumberLaws → (z : ℤ) → is_within most_weight z ≡ true → whole_of_size most_weight (signed_decimal z) ≡ Ok z
 weight_back laws z inside =
     let small = size_in most_weight z inside in
     laws.whole_back z _ _ (omega (arith, small)) inside
@@ -171,7 +171,7 @@ weights_taken laws n earlier (z ∷ weights) room all =
     let place : place_of_weight n earlier ≡ Weight = ap (λ b. cond b PastWeights Weight) (has_room (n * n) (length earlier) (length weights) room) in
     let count = length_push earlier (signed_decimal z) in (
       ap (λ p. word_fault n p (signed_decimal z)) place
-          ∙ no_rows (result_err (sized most_weight (signed_decimal z))) false false false false (ap (λ (r : Result ℤ NumberFault). result_err r) (weight_back laws z both.0)) refl refl refl refl,
+          ∙ no_rows (result_err (whole_of_size most_weight (signed_decimal z))) false false false false (ap (λ (r : Result ℤ NumberFault). result_err r) (weight_back laws z both.0)) refl refl refl refl,
       weights_taken laws n (earlier ++ signed_decimal z ∷ []) weights (omega arith) both.1,
     )
 

@@ -17,7 +17,7 @@ use Rattle.std.specs.Char.{digit_value}
 use Rattle.tsp_number.specs.declared.fault.NumberFault.{NumberFault}
 use Rattle.tsp_number.specs.declared.fault.NumberFault.TheVariants.{OutOfRange}
 use Rattle.tsp_distance.specs.Decimal.{unit, most_count}
-use Rattle.tsp_number.specs.NumberWord.{minus, point, IsSign, Numeral, signed, places, StandsFor, ReadsDecimal, ReadsWhole}
+use Rattle.tsp_number.specs.NumberWord.{minus, point, IsSign, Numeral, with_sign, places, StandsFor, ReadsDecimal, ReadsWhole}
 use Rattle.tsp_number.specs.Reading.{decimal_of, whole_of}
 use Rattle.tsp_number.specs.Spelling.{decimals, fraction_spelling, size_spelling, spelling}
 use Rattle.tsp_draft.specs.Validity.{is_from_to, is_within, is_node}
@@ -119,7 +119,7 @@ unfolding sign_text
 is_sign false = inl (refl, refl)
 is_sign true = inr (inr (refl, refl))
 
-stands_whole : (negative : Bool) (size : ℕ) → size < 2 ^ 63 → StandsFor (sign_text negative ++ decimal size) (signed negative size *ℤ pos unit)
+stands_whole : (negative : Bool) (size : ℕ) → size < 2 ^ 63 → StandsFor (sign_text negative ++ decimal size) (with_sign negative size *ℤ pos unit)
 stands_whole negative size small =
     let whole = decimal_is_IsNumeral size (omega arith) in
     let n : Numeral = record { negative = negative; whole = decimal size; fraction = []; exponent = pos 0 } in
@@ -138,7 +138,7 @@ stands_whole negative size small =
         some_digit = omega (arith, whole.0.0);
         is_exponent = inl (refl, refl);
       };
-      shifted = ap (λ m. signed negative m *ℤ pos unit) (sym value);
+      shifted = ap (λ m. with_sign negative m *ℤ pos unit) (sym value);
     }
 
 stands_signed : (z : ℤ) → unsigned_abs z < 2 ^ 63 → StandsFor (signed_decimal z) (z *ℤ pos unit)

@@ -7,7 +7,7 @@ use Rattle.tsp_format.specs.declared.field.Field.{Field}
 use Rattle.tsp_text.specs.Items.{Item, Line, NumberWord, LineEnd, has_end_line, to_end_line, is_end_line}
 use Rattle.tsp_text.specs.Earlier.{is_key, has_line, value_at, values_at, others_in, open_section, is_open, words_of}
 use Rattle.tsp_text.specs.Values.{spatial_after}
-use Rattle.tsp_text.specs.Sections.{place_in, nodes_of}
+use Rattle.tsp_text.specs.Sections.{place_in, dimension_in}
 use Rattle.tsp_text.specs.Rows.{row_of, word_fault}
 use Rattle.tsp_text.specs.FirstFault.{IsClean}
 use Rattle.tsp_text.proofs.Clean.{clean_more}
@@ -92,10 +92,10 @@ section_words field (LineEnd ∷ items) earlier numbers opened = section_words f
 -- ---- no row applies to the words
 
 word_row : (earlier : List Item) (word : List ℕ) (f : Field) → open_section earlier ≡ Some f
-    → row_of earlier (NumberWord word) ≡ word_fault (nodes_of earlier) (place_in (spatial_after earlier) f (nodes_of earlier) (words_of f earlier)) word
+    → row_of earlier (NumberWord word) ≡ word_fault (dimension_in earlier) (place_in (spatial_after earlier) f (dimension_in earlier) (words_of f earlier)) word
 word_row earlier word f opened = rw opened refl
 
-pub words_clean : (field : Field) (n : ℕ) (items earlier : List Item) → are_numbers items ≡ true → IsClean earlier → open_section earlier ≡ Some field → nodes_of earlier ≡ n
+pub words_clean : (field : Field) (n : ℕ) (items earlier : List Item) → are_numbers items ≡ true → IsClean earlier → open_section earlier ≡ Some field → dimension_in earlier ≡ n
     → AllTaken n (place_in (spatial_after earlier) field n) (words_of field earlier) (number_words items) → IsClean (onto items earlier)
 words_clean field n [] earlier numbers clean opened nodes taken = clean
 words_clean field n (Line key line ∷ items) earlier numbers clean opened nodes taken = absurd (false≢true numbers)

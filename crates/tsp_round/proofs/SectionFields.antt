@@ -18,7 +18,7 @@ use Rattle.tsp_file.specs.Text.{line_lens, text_of_section, text_of_field}
 use Rattle.tsp_text.specs.Items.{WordLine, Item, Line, LineEnd, items_in, items_of}
 use Rattle.tsp_text.specs.Earlier.{same_field, is_open, has_line, value_at, values_at, others_in, open_section, words_of}
 use Rattle.tsp_text.specs.Values.{spatial_after}
-use Rattle.tsp_text.specs.Sections.{place_by, place_in, nodes_of}
+use Rattle.tsp_text.specs.Sections.{place_by, place_in, dimension_in}
 use Rattle.tsp_text.specs.Places.{PastEnd}
 use Rattle.tsp_text.specs.Rows.{may_repeat, row_of}
 use Rattle.tsp_text.specs.FirstFault.{IsClean}
@@ -26,7 +26,7 @@ use Rattle.tsp_text.specs.Opening.{needs_nodes, is_matrix, opening_rows}
 use Rattle.tsp_text.proofs.Clean.{clean_more}
 use Rattle.tsp_text.proofs.Sections.{by_section, section_of, opening, nodes_stay}
 use Rattle.tsp_text.proofs.ValidSections.{same_field_is}
-use Rattle.tsp_text.specs.Cuts.{is_one_line}
+use Rattle.tsp_text.specs.Cuts.{has_no_line_end}
 use Rattle.tsp_round.proofs.Text.{Writes, line_written, both_written, number_words, are_numbers}
 use Rattle.tsp_round.proofs.Numbers.{NumberLaws}
 use Rattle.tsp_round.proofs.Onto.{onto, value_kept, values_kept, others_kept, no_end_line, other_words, section_words, words_clean}
@@ -45,7 +45,7 @@ ByShape f g = (text_of_field f g ≡ option_map_or (text_of_section f g) (shape_
     × (fits f g ≡ option_map_or (section_fits f g) (shape_of (spatial f) g) true)
     × (value_of f g ≡ option_map_or (λ shape. empty_line (is_some (entries_in f g shape))) (shape_of (spatial f) g) None)
     × (option_map_or is_writable (shape_of (spatial f) g) true ≡ true)
-    × (is_one_line (field_word g) ≡ true) × (items_in (field_word g) ≡ Line (Known g) (section_line g) ∷ [])
+    × (has_no_line_end (field_word g) ≡ true) × (items_in (field_word g) ≡ Line (Known g) (section_line g) ∷ [])
 
 -- it is none of the keywords that differ from it, and its line has no value and is no long one
 abbrev IsPlain : Field → Type 0
@@ -107,8 +107,8 @@ is_section f valid field shape e =
 
 -- the entries are those of a file with so many nodes as the items say
 pub record AreRight (shape : Shape) (xs : Entries shape) (items : List Item) : Type 0 where
-  pub valid : are_valid shape (nodes_of items) xs ≡ true
-  pub few : needs_nodes shape ≡ true → nodes_of items ≤ most_nodes
+  pub valid : are_valid shape (dimension_in items) xs ≡ true
+  pub few : needs_nodes shape ≡ true → dimension_in items ≤ most_nodes
   pub known : needs_nodes shape ≡ true → has_line DimensionKey items ≡ true
 
 counted : NumberLaws → (f : Fields) (shape : Shape) (xs : Entries shape) (items : List Item) → value_at DimensionKey items ≡ option_map decimal f.dimension → fits f DimensionKey ≡ true
@@ -142,14 +142,14 @@ both_false false b h = refl
 
 -- no row applies to a section's line
 section_row : (in_space : Bool) (field : Field) (shape : Shape) (earlier : List Item) → shape_of in_space field ≡ Some shape → is_section_field field ≡ true → has_line field earlier ≡ false
-    → (needs_nodes shape ≡ true → has_line DimensionKey earlier ≡ true) → (is_matrix shape ≡ true → nat_lt most_matrix_nodes (nodes_of earlier) ≡ false)
+    → (needs_nodes shape ≡ true → has_line DimensionKey earlier ≡ true) → (is_matrix shape ≡ true → nat_lt most_matrix_nodes (dimension_in earlier) ≡ false)
     → row_of earlier (Line (Known field) (section_line field)) ≡ None
 section_row in_space field shape earlier e part unseen known few =
     let plain = is_plain field part in
     let early = both_false (needs_nodes shape) (not (has_line DimensionKey earlier)) (λ needs. ap not (known needs)) in
-    let many = both_false (is_matrix shape) (nat_lt most_matrix_nodes (nodes_of earlier)) few in
+    let many = both_false (is_matrix shape) (nat_lt most_matrix_nodes (dimension_in earlier)) few in
     opening in_space earlier (section_line field) plain.5 field part
-    ∙ ap (λ (o : Option Shape). option_map_or (λ s. opening_rows s (has_line field earlier) (section_line field).value (has_line DimensionKey earlier) (nodes_of earlier)) o None) e
+    ∙ ap (λ (o : Option Shape). option_map_or (λ s. opening_rows s (has_line field earlier) (section_line field).value (has_line DimensionKey earlier) (dimension_in earlier)) o None) e
     ∙ rw (unseen, plain.4, early, many) refl
 
 -- the words that its lines add
@@ -174,7 +174,7 @@ step_of laws f field shape (Some xs) earlier one is ready =
     let plain = is_plain field is.part in
     let facts = by_shape f field is.part in
     let right = are_right laws f shape xs earlier (ready.dimension is.part) one is.fit in
-    let n = nodes_of earlier in
+    let n = dimension_in earlier in
     let lens = line_lens f.weight_format f.dimension in
     let lines = body laws lens shape is.writable n right.few xs right.valid in
     let text = lines_for lens shape xs in
@@ -211,7 +211,7 @@ step_of laws f field shape (Some xs) earlier one is ready =
       };
     }
   where
-    nodes_after : (field : Field) (line : WordLine) (earlier : List Item) → same_field DimensionKey field ≡ false → nodes_of (LineEnd ∷ Line (Known field) line ∷ earlier) ≡ nodes_of earlier
+    nodes_after : (field : Field) (line : WordLine) (earlier : List Item) → same_field DimensionKey field ≡ false → dimension_in (LineEnd ∷ Line (Known field) line ∷ earlier) ≡ dimension_in earlier
     nodes_after field line earlier other = rw other refl
 
 pub section_step : NumberLaws → (f : Fields) → ((g : Field) → fits f g ≡ true) → (field : Field) (shape : Shape)

@@ -19,7 +19,7 @@ use Rattle.tsp_text.specs.Lines.{first_word}
 use Rattle.tsp_text.specs.Items.{Item}
 use Rattle.tsp_text.specs.Earlier.{has_line, value_at}
 use Rattle.tsp_text.specs.Values.{read_as}
-use Rattle.tsp_text.specs.Sections.{nodes_of}
+use Rattle.tsp_text.specs.Sections.{dimension_in}
 use Rattle.tsp_text.specs.Rows.{may_repeat}
 use Rattle.tsp_round.proofs.Text.{is_plain_word, unblank}
 use Rattle.tsp_round.proofs.Numbers.{NumberLaws, decimal_plain}
@@ -50,7 +50,7 @@ pub record HasNodes {A : Type 0} (f : Fields) (fits : ℕ → A → Bool) (x : A
   pub dimension : f.dimension ≡ Some n
   pub fitting : fits n x ≡ true
   pub few : n ≤ most_nodes
-  pub nodes : nodes_of earlier ≡ n
+  pub nodes : dimension_in earlier ≡ n
   pub known : has_line DimensionKey earlier ≡ true
 
 with_nodes : {A : Type 0} (fits : ℕ → A → Bool) (o : Option ℕ) (x : A) → with_dimension fits o x ≡ true → (n : ℕ) × (o ≡ Some n) × (fits n x ≡ true)

@@ -12,16 +12,16 @@ use Rattle.tsp_format.specs.declared.field.Shape.TheVariants.{Numbers, Points, S
 use Rattle.tsp_format.specs.Limits.{most_nodes, most_matrix_nodes, most_weight, most_depots, most_fixed, most_multipliers, most_tour_nodes, most_combs}
 use Rattle.tsp_format.specs.Steps.{Step}
 use Rattle.tsp_draft.specs.Fields.{Fields, numbers_in, points_in}
-use Rattle.tsp_draft.specs.Validity.{if_there, is_by_node, is_point, is_within, is_from_to, is_node, is_pair, is_triple, are_depots, are_fixed, are_triples, are_weights, is_tour, are_tours, are_combs, are_steps, with_dimension, section_fits}
-use Rattle.tsp_file.specs.Text.{section, by_node, node_list, pair_list, triple_list, comb_list, step_lines, point_numbers, whole_number, line_lens, matrix_lines, optional, text_of_section}
+use Rattle.tsp_draft.specs.Validity.{if_there, is_by_node, is_point, is_within, is_from_to, is_node, is_node_pair, is_triple, are_depots, are_fixed, are_triples, are_weights, is_tour, are_tours, are_combs, are_steps, with_dimension, section_fits}
+use Rattle.tsp_file.specs.Text.{section_text, lines_by_node, node_list, pair_list, triple_list, comb_list, step_lines, point_numbers, whole_number, line_lens, matrix_lines, optional, text_of_section}
 use Rattle.tsp_text.specs.Numbers.{is_end}
 use Rattle.tsp_text.specs.Places.{PastGroups, PastEnd, Weight, PastWeights, Coordinate, Amount, DepotAfter}
-use Rattle.tsp_text.specs.Groups.{numbers_by_node, points_by_node, space_points_by_node, begun_pair, begun_triple, begun_four, number_groups, point_groups, space_point_groups, nodes_in, place_in_group, pairs_in, triples_in}
+use Rattle.tsp_text.specs.Groups.{numbers_by_node, points_by_node, space_points_by_node, begun_pair, begun_triple, begun_four, number_groups, point_groups, space_point_groups, nodes_of_groups, place_in_group, pairs_in, threes_in}
 use Rattle.tsp_text.specs.Lists.{depots_in, fixed_in, fixed_triples_in, place_in_pair, place_in_triple}
 use Rattle.tsp_text.specs.Weights.{weights_in}
 use Rattle.tsp_text.specs.Tours.{tours_in}
-use Rattle.tsp_text.specs.Combs.{combs_in}
-use Rattle.tsp_text.specs.Tree.{steps_in}
+use Rattle.tsp_text.specs.Combs.{whole_combs}
+use Rattle.tsp_text.specs.Tree.{whole_steps}
 use Rattle.tsp_text.specs.Sections.{place_by}
 use Rattle.tsp_text.specs.Spells.{wants_more}
 use Rattle.tsp_text.specs.Opening.{needs_nodes, is_matrix}
@@ -82,9 +82,9 @@ are_valid Steps n xs = are_steps n xs
 
 -- their lines; those of weights have these lengths
 abbrev pub lines_for : List ℕ → (shape : Shape) → Entries shape → List ℕ
-lines_for lens (Numbers low high) xs = by_node whole_number xs
-lines_for lens Points xs = by_node (point_numbers false) xs
-lines_for lens SpacePoints xs = by_node (point_numbers true) xs
+lines_for lens (Numbers low high) xs = lines_by_node whole_number xs
+lines_for lens Points xs = lines_by_node (point_numbers false) xs
+lines_for lens SpacePoints xs = lines_by_node (point_numbers true) xs
 lines_for lens Depots xs = node_list xs
 lines_for lens Pairs xs = pair_list xs
 lines_for lens Weights xs = matrix_lines lens xs
@@ -116,12 +116,12 @@ read_for Pairs n words = fixed_in n words
 read_for Weights n words = weights_in words
 read_for Tours n words = tours_in words
 read_for Triples n words = fixed_triples_in n words
-read_for Combs n words = combs_in n words
-read_for Steps n words = steps_in n words
+read_for Combs n words = whole_combs n words
+read_for Steps n words = whole_steps n words
 
 -- the text and the condition of a section, over these
 abbrev pub text_for : Fields → Field → (shape : Shape) → Option (Entries shape) → List ℕ
-text_for f field shape xs = optional (λ entries. section field (lines_for (line_lens f.weight_format f.dimension) shape entries)) xs
+text_for f field shape xs = optional (λ entries. section_text field (lines_for (line_lens f.weight_format f.dimension) shape entries)) xs
 
 pub text_by : (f : Fields) (field : Field) (shape : Shape) → text_of_section f field shape ≡ text_for f field shape (entries_in f field shape)
 text_by f field (Numbers low high) = refl
@@ -203,7 +203,7 @@ body laws lens (Numbers low high) writable n few xs fit =
       written = numbers_written low high small n most 0 xs (omega (arith, count)) both.1;
       taken = numbers_taken laws low high small n most [] 0 xs refl refl refl (omega (arith, count)) both.1;
       back = numbers_back laws low high small n most xs count both.1;
-      done = ap (λ b. wants_more (cond b PastGroups (place_in_group (Amount low high) (nodes_in (number_groups low high n words)) (begun_pair words))))
+      done = ap (λ b. wants_more (cond b PastGroups (place_in_group (Amount low high) (nodes_of_groups (number_groups low high n words)) (begun_pair words))))
           (le-leb (2 * n) (length words) (omega (arith, count, count_of_numbers 1 xs)));
       few = λ e. absurd (false≢true e);
     }
@@ -216,7 +216,7 @@ body laws lens Points writable n few xs fit =
       written = points_written n most 0 xs (omega (arith, count)) both.1;
       taken = points_taken laws n most [] 0 xs refl refl refl (omega (arith, count)) both.1;
       back = points_back laws n most xs count both.1;
-      done = ap (λ b. wants_more (cond b PastGroups (place_in_group Coordinate (nodes_in (point_groups n words)) (begun_triple words))))
+      done = ap (λ b. wants_more (cond b PastGroups (place_in_group Coordinate (nodes_of_groups (point_groups n words)) (begun_triple words))))
           (le-leb (3 * n) (length words) (omega (arith, count, count_of_points 1 xs)));
       few = λ e. absurd (false≢true e);
     }
@@ -229,7 +229,7 @@ body laws lens SpacePoints writable n few xs fit =
       written = space_points_written n most 0 xs (omega (arith, count)) both.1;
       taken = space_points_taken laws n most [] 0 xs refl refl refl (omega (arith, count)) both.1;
       back = space_points_back laws n most xs count both.1;
-      done = ap (λ b. wants_more (cond b PastGroups (place_in_group Coordinate (nodes_in (space_point_groups n words)) (begun_four words))))
+      done = ap (λ b. wants_more (cond b PastGroups (place_in_group Coordinate (nodes_of_groups (space_point_groups n words)) (begun_four words))))
           (le-leb (4 * n) (length words) (omega (arith, count, count_of_space_points 1 xs)));
       few = λ e. absurd (false≢true e);
     }
@@ -244,7 +244,7 @@ body laws lens Depots writable n few xs fit =
       few = λ e. absurd (false≢true e);
     }
 body laws lens Pairs writable n few xs fit =
-    let both = and_parts (nat_le (length xs) most_fixed) (list_all (is_pair n) xs) fit in
+    let both = and_parts (nat_le (length xs) most_fixed) (list_all (is_node_pair n) xs) fit in
     let most = few_nodes n (few refl) in
     let words = flat_map pair_words xs ++ codes "-1" ∷ [] in
     record {
@@ -281,7 +281,7 @@ body laws lens Triples writable n few xs fit =
       written = triple_lines_written n most xs both.1;
       taken = triples_taken laws n most [] xs refl refl (omega (arith, leb-true (length xs) most_multipliers both.0)) both.1;
       back = triples_back laws n most xs both.1;
-      done = ap (λ b. wants_more (cond b PastEnd (place_in_triple n (length (triples_in words)) (begun_triple words)))) (triples_ended laws n xs);
+      done = ap (λ b. wants_more (cond b PastEnd (place_in_triple n (length (threes_in words)) (begun_triple words)))) (triples_ended laws n xs);
       few = λ e. absurd (false≢true e);
     }
 body laws lens Combs writable n few xs fit =

@@ -9,7 +9,7 @@ use Rattle.tsp_format.specs.Bytes.{is_blank, is_letter}
 use Rattle.tsp_file.specs.Text.{number_line}
 use Rattle.tsp_text.specs.Lines.{ends_line, lines_of, is_filled, words_in, without_start, is_word_line}
 use Rattle.tsp_text.specs.Items.{Item, Line, NumberWord, LineEnd, line_item, items_in, items_by, items_of}
-use Rattle.tsp_text.specs.Cuts.{is_one_line}
+use Rattle.tsp_text.specs.Cuts.{has_no_line_end}
 
 -- ---- pieces
 
@@ -48,7 +48,7 @@ line_then : (line : List ℕ) (lines : List (List ℕ)) → is_filled lines ≡ 
 line_then line [] there = absurd (false≢true there)
 line_then line (next ∷ lines) there = refl
 
-pub line_written : (line : List ℕ) → is_one_line line ≡ true → Writes (line ++ 10 ∷ []) (items_in line ++ LineEnd ∷ [])
+pub line_written : (line : List ℕ) → has_no_line_end line ≡ true → Writes (line ++ 10 ∷ []) (items_in line ++ LineEnd ∷ [])
 line_written line one rest =
     ap items_of (append_assoc line (10 ∷ []) rest)
     ∙ ap (items_by items_in) (split_at ends_line line 10 rest one refl)
@@ -174,15 +174,15 @@ no_word_line (b ∷ first) rest plain =
     let filled : is_blank b ≡ false = not-true (is_blank b) (no_blank b byte) in
     rw filled (no_letter b byte)
 
-pub one_line_word : (word : List ℕ) → is_plain_word word ≡ true → is_one_line word ≡ true
+pub one_line_word : (word : List ℕ) → is_plain_word word ≡ true → has_no_line_end word ≡ true
 one_line_word word plain = all_such is_plain (λ b. not (ends_line b)) no_end word (and_parts (is_filled word) (list_all is_plain word) plain).1
 
-one_line_more : (more : List (List ℕ)) → list_all is_plain_word more ≡ true → is_one_line (flat_map (λ word. 32 ∷ word) more) ≡ true
+one_line_more : (more : List (List ℕ)) → list_all is_plain_word more ≡ true → has_no_line_end (flat_map (λ word. 32 ∷ word) more) ≡ true
 one_line_more [] all = refl
 one_line_more (word ∷ more) all =
     let both = and_parts (is_plain_word word) (list_all is_plain_word more) all in
     list_all-append (λ b. not (ends_line b)) word (flat_map (λ w. 32 ∷ w) more)
-    ∙ and_from (is_one_line word) (is_one_line (flat_map (λ w. 32 ∷ w) more)) (one_line_word word both.0) (one_line_more more both.1)
+    ∙ and_from (has_no_line_end word) (has_no_line_end (flat_map (λ w. 32 ∷ w) more)) (one_line_word word both.0) (one_line_more more both.1)
 
 number_items : (first : List ℕ) (more : List (List ℕ)) → is_plain_word first ≡ true → list_all is_plain_word more ≡ true
     → items_in (line_text first more) ≡ map (λ word. NumberWord word) (first ∷ more)
@@ -193,9 +193,9 @@ number_items first more plain all =
 pub number_line_written : (first : List ℕ) (more : List (List ℕ)) → is_plain_word first ≡ true → list_all is_plain_word more ≡ true
     → WritesWords (number_line first more) (first ∷ more)
 number_line_written first more plain all =
-    let one : is_one_line (line_text first more) ≡ true =
+    let one : has_no_line_end (line_text first more) ≡ true =
     list_all-append (λ b. not (ends_line b)) first (flat_map (λ w. 32 ∷ w) more)
-    ∙ and_from (is_one_line first) (is_one_line (flat_map (λ w. 32 ∷ w) more)) (one_line_word first plain) (one_line_more more all) in
+    ∙ and_from (has_no_line_end first) (has_no_line_end (flat_map (λ w. 32 ∷ w) more)) (one_line_word first plain) (one_line_more more all) in
     let words = map (λ word. NumberWord word) (first ∷ more) in
     record {
       items = words ++ LineEnd ∷ [];

@@ -10,13 +10,13 @@ use Rattle.tsp_number.specs.declared.fault.NumberFault.{NumberFault}
 use Rattle.tsp_number.specs.Reading.{whole_of}
 use Rattle.tsp_format.specs.Limits.{most_combs, most_branches, most_changes, most_difference}
 use Rattle.tsp_format.specs.Steps.{Step, Branch, Leaf, are_whole, branch_count, change_count}
-use Rattle.tsp_draft.specs.Validity.{is_within, is_node, is_pair, is_change, is_step, are_steps}
+use Rattle.tsp_draft.specs.Validity.{is_within, is_node, is_node_pair, is_change, is_step, are_steps}
 use Rattle.tsp_file.specs.Text.{change_words}
-use Rattle.tsp_text.specs.Numbers.{number, reads_as, sized}
+use Rattle.tsp_text.specs.Numbers.{number, reads_as, whole_of_size}
 use Rattle.tsp_text.specs.Places.{StepAfter, IndexAfter, Amount, PastGroups}
 use Rattle.tsp_text.specs.Rows.{word_fault}
 use Rattle.tsp_text.specs.Spells.{wants_more}
-use Rattle.tsp_text.specs.Tree.{TreeSoFar, no_steps, node_or_leaf, begins_leaf, index_or_end, ends_leaf, with_leaf, with_word_of, with_tree_word, steps_in, place_in_step, place_in_tree, place_of_step}
+use Rattle.tsp_text.specs.Tree.{TreeSoFar, no_steps, node_or_leaf, begins_leaf, index_or_end, ends_leaf, with_leaf, with_word_of, with_tree_word, whole_steps, place_in_step, place_in_tree, place_of_step}
 use Rattle.tsp_round.proofs.Numbers.{NumberLaws, node_back, listed_back, node_goes_on, end_read, end_ends, no_zero, size_in}
 use Rattle.tsp_round.proofs.Taken.{AllTaken, Runs, runs_none, runs_one, runs_then, all_taken}
 use Rattle.tsp_round.proofs.Lists.{no_rows, has_room, second_taken, are_pair}
@@ -78,7 +78,7 @@ first_taken laws n branches k few room is =
     (ap (λ (r : Result ℤ NumberFault). result_err r) (first_back laws n k few is)) refl refl
     (and_left (nat_le most_branches branches) (not (begins_leaf n (decimal k))) room) refl
 
-branch_runs : NumberLaws → (n : ℕ) → n < 2 ^ 32 → (steps : List Step) (a b to_come branches changes : ℕ) → (to_come == 0) ≡ false → nat_le most_branches branches ≡ false → is_pair n (a, b) ≡ true
+branch_runs : NumberLaws → (n : ℕ) → n < 2 ^ 32 → (steps : List Step) (a b to_come branches changes : ℕ) → (to_come == 0) ≡ false → nat_le most_branches branches ≡ false → is_node_pair n (a, b) ≡ true
     → TreeRuns n (between steps to_come branches changes) (step_words (Branch a b)) (between (steps ++ Branch a b ∷ []) (to_come + 1) (branches + 1) changes)
 branch_runs laws n few steps a b to_come branches changes still room fits =
     let are = are_pair n (a, b) fits in
@@ -120,14 +120,14 @@ end_taken laws n changes =
     (ap (λ (r : Result ℤ NumberFault). result_err r) (end_read laws (n + most_combs))) refl refl
     (and_right (nat_le most_changes changes) (not (ends_leaf n (codes "-1"))) (not_from_true (ends_leaf n (codes "-1")) (end_ends laws (n + most_combs)))) refl
 
-difference_back : NumberLaws → (z : ℤ) → is_within most_difference z ≡ true → sized most_difference (signed_decimal z) ≡ Ok z
+difference_back : NumberLaws → (z : ℤ) → is_within most_difference z ≡ true → whole_of_size most_difference (signed_decimal z) ≡ Ok z
 difference_back laws z inside =
     let small = size_in most_difference z inside in
     laws.whole_back z _ _ (omega (arith, small)) inside
 
 difference_taken : NumberLaws → (n : ℕ) (z : ℤ) → is_within most_difference z ≡ true → word_fault n (Amount (neg_ℤ (pos most_difference)) (pos most_difference)) (signed_decimal z) ≡ None
 difference_taken laws n z inside =
-    no_rows (result_err (sized most_difference (signed_decimal z))) false false false false
+    no_rows (result_err (whole_of_size most_difference (signed_decimal z))) false false false false
     (ap (λ (r : Result ℤ NumberFault). result_err r) (difference_back laws z inside)) refl refl refl refl
 
 change_runs : NumberLaws → (n : ℕ) → n + most_combs < 2 ^ 32 → (steps : List Step) (leaf : List (ℕ × ℤ)) (change : ℕ × ℤ) (to_come branches changes : ℕ) → (to_come == 0) ≡ false
@@ -251,7 +251,7 @@ all_run laws n few steps fits =
 pub steps_taken : NumberLaws → (n : ℕ) → n + most_combs < 2 ^ 32 → (steps : List Step) → are_steps n steps ≡ true → AllTaken n (place_of_step n) [] (flat_map step_words steps)
 steps_taken laws n few steps fits = all_taken n (with_tree_word n) place_in_tree no_steps [] (flat_map step_words steps) (all_run laws n few steps fits).taken
 
-pub steps_back : NumberLaws → (n : ℕ) → n + most_combs < 2 ^ 32 → (steps : List Step) → are_steps n steps ≡ true → steps_in n (flat_map step_words steps) ≡ steps
+pub steps_back : NumberLaws → (n : ℕ) → n + most_combs < 2 ^ 32 → (steps : List Step) → are_steps n steps ≡ true → whole_steps n (flat_map step_words steps) ≡ steps
 steps_back laws n few steps fits = ap (λ (s : TreeSoFar). s.steps) (all_run laws n few steps fits).gives
 
 pub steps_done : NumberLaws → (n : ℕ) → n + most_combs < 2 ^ 32 → (steps : List Step) → are_steps n steps ≡ true → wants_more (place_of_step n (flat_map step_words steps)) ≡ false

@@ -9,10 +9,10 @@ use Rattle.std.proofs.lemmas.List.{length_push}
 use Rattle.tsp_number.specs.declared.fault.NumberFault.{NumberFault}
 use Rattle.tsp_number.specs.Reading.{whole_of}
 use Rattle.tsp_format.specs.Limits.{most_fixed, most_multiplier}
-use Rattle.tsp_draft.specs.Validity.{is_from_to, is_pair, is_triple}
+use Rattle.tsp_draft.specs.Validity.{is_from_to, is_node_pair, is_triple}
 use Rattle.tsp_text.specs.Numbers.{number, node, is_end}
 use Rattle.tsp_text.specs.Places.{Amount, SecondOf}
-use Rattle.tsp_text.specs.Groups.{triples_in, begun_triple}
+use Rattle.tsp_text.specs.Groups.{threes_in, begun_triple}
 use Rattle.tsp_text.specs.Lists.{before, fixed_triple, fixed_triples_in, triple_firsts_in, place_in_triple, place_of_triple}
 use Rattle.tsp_text.specs.Rows.{word_fault}
 use Rattle.tsp_text.proofs.TripleWords.{triples_begin, begun_begin, firsts_begin, triples_middle, begun_middle, firsts_middle, triples_end, begun_end, firsts_end}
@@ -26,7 +26,7 @@ triple_words triple = decimal triple.0 ∷ decimal triple.1 ∷ signed_decimal t
 -- two different nodes, and a multiplier
 pub are_triple : (n : ℕ) (triple : ℕ × ℕ × ℤ) → is_triple n triple ≡ true → ArePair n triple.0 triple.1 × (is_from_to (pos 0) (pos most_multiplier) triple.2 ≡ true)
 are_triple n triple fits =
-    let parts = and_parts (is_pair n (triple.0, triple.1)) (is_from_to (pos 0) (pos most_multiplier) triple.2) fits in
+    let parts = and_parts (is_node_pair n (triple.0, triple.1)) (is_from_to (pos 0) (pos most_multiplier) triple.2) fits in
     (are_pair n (triple.0, triple.1) parts.0, parts.1)
 
 multiplier_back : NumberLaws → (z : ℤ) → is_from_to (pos 0) (pos most_multiplier) z ≡ true → whole_of (signed_decimal z) (pos 0) (pos most_multiplier) ≡ Ok z
@@ -41,12 +41,12 @@ multiplier_taken laws n z inside =
 
 -- where the next word stands, before the -1
 triple_place : (n : ℕ) (words begun : List (List ℕ)) → list_any (is_end n) (triple_firsts_in words) ≡ false → begun_triple words ≡ begun
-    → place_of_triple n words ≡ place_in_triple n (length (triples_in words)) begun
+    → place_of_triple n words ≡ place_in_triple n (length (threes_in words)) begun
 triple_place n words begun unended whole = rw (unended, whole) refl
 
 pub triples_taken : NumberLaws → (n : ℕ) → n < 2 ^ 32 → (earlier : List (List ℕ)) (triples : List (ℕ × ℕ × ℤ)) → list_any (is_end n) (triple_firsts_in earlier) ≡ false → begun_triple earlier ≡ []
-    → length (triples_in earlier) + length triples ≤ most_fixed → list_all (is_triple n) triples ≡ true → AllTaken n (place_of_triple n) earlier (flat_map triple_words triples ++ codes "-1" ∷ [])
-triples_taken laws n few earlier [] unended whole room all = (ap (λ p. word_fault n p (codes "-1")) (triple_place n earlier [] unended whole) ∙ end_taken laws n (length (triples_in earlier)), tt)
+    → length (threes_in earlier) + length triples ≤ most_fixed → list_all (is_triple n) triples ≡ true → AllTaken n (place_of_triple n) earlier (flat_map triple_words triples ++ codes "-1" ∷ [])
+triples_taken laws n few earlier [] unended whole room all = (ap (λ p. word_fault n p (codes "-1")) (triple_place n earlier [] unended whole) ∙ end_taken laws n (length (threes_in earlier)), tt)
 triples_taken laws n few earlier (triple ∷ triples) unended whole room all =
     let both = and_parts (is_triple n triple) (list_all (is_triple n) triples) all in
     let are = are_triple n triple both.0 in
@@ -61,10 +61,10 @@ triples_taken laws n few earlier (triple ∷ triples) unended whole room all =
     let unended_one : list_any (is_end n) (triple_firsts_in w1) ≡ false =
     ap (list_any (is_end n)) (firsts_begin earlier a whole) ∙ still_open laws n triple.0 (triple_firsts_in earlier) few are.0.first unended in
     let unended_two : list_any (is_end n) (triple_firsts_in w2) ≡ false = ap (list_any (is_end n)) (firsts_middle w1 a b one) ∙ unended_one in
-    let count : length (triples_in w3) ≡ length (triples_in earlier) + 1 =
-    ap length (triples_end w2 a b c two) ∙ length_push (triples_in w2) (a, b, c)
+    let count : length (threes_in w3) ≡ length (threes_in earlier) + 1 =
+    ap length (triples_end w2 a b c two) ∙ length_push (threes_in w2) (a, b, c)
     ∙ ap (λ (ts : List (List ℕ × List ℕ × List ℕ)). length ts + 1) (triples_middle w1 a b one ∙ triples_begin earlier a whole) in (
-      ap (λ p. word_fault n p a) (triple_place n earlier [] unended whole) ∙ first_taken laws n (length (triples_in earlier)) (length triples) triple.0 few room are.0.first,
+      ap (λ p. word_fault n p a) (triple_place n earlier [] unended whole) ∙ first_taken laws n (length (threes_in earlier)) (length triples) triple.0 few room are.0.first,
       (
         ap (λ p. word_fault n p b) (triple_place n w1 (a ∷ []) unended_one one ∙ ap (λ r. SecondOf (number r)) (listed_back laws n triple.0 few are.0.first))
             ∙ second_taken laws n triple.0 triple.1 few are.0.second are.0.differ,
@@ -84,7 +84,7 @@ triples_back laws n few (triple ∷ triples) all =
     let words : List ℕ × List ℕ × List ℕ = (decimal triple.0, decimal triple.1, signed_decimal triple.2) in
     let more = flat_map triple_words triples ++ codes "-1" ∷ [] in
     let rest = fixed_triples_in n more in
-    ap (λ t. map (fixed_triple n) (cond t [] (words ∷ before (λ p. is_end n p.0) (triples_in more)))) (node_goes_on laws n triple.0 few are.0.first)
+    ap (λ t. map (fixed_triple n) (cond t [] (words ∷ before (λ p. is_end n p.0) (threes_in more)))) (node_goes_on laws n triple.0 few are.0.first)
     ∙ ap (λ r. (nat_abs (number r), nat_abs (number (node n words.1)), number (whole_of words.2 (pos 0) (pos most_multiplier))) ∷ rest) (listed_back laws n triple.0 few are.0.first)
     ∙ ap (λ r. (triple.0, nat_abs (number r), number (whole_of words.2 (pos 0) (pos most_multiplier))) ∷ rest) (node_back laws n triple.1 few are.0.second)
     ∙ ap (λ r. (triple.0, triple.1, number r) ∷ rest) (multiplier_back laws triple.2 are.1)

@@ -16,7 +16,7 @@ use Rattle.tsp_text.specs.Items.{Item}
 use Rattle.tsp_text.specs.Earlier.{has_line, value_at, words_of}
 use Rattle.tsp_text.specs.Values.{kind_named, weight_kind_named, weight_format_named, coord_kind_named, display_kind_named, read_as}
 use Rattle.tsp_text.specs.Groups.{coords_by_node}
-use Rattle.tsp_text.specs.Sections.{nodes_of}
+use Rattle.tsp_text.specs.Sections.{dimension_in}
 use Rattle.tsp_text.specs.Rows.{may_repeat}
 use Rattle.tsp_text.specs.Spells.{spelled}
 use Rattle.tsp_round.proofs.Numbers.{NumberLaws}
@@ -30,16 +30,16 @@ use Rattle.tsp_round.proofs.Spelled.{named_back, dimension_whole, capacity_whole
 
 -- what the words of a section give is what the file holds
 section_is : NumberLaws → (f : Fields) (items : List Item) → Stage f [] items → fits f DimensionKey ≡ true → (field : Field) (shape : Shape) (o : Option (Entries shape)) → IsSection f field shape o
-    → cond (has_line field items) (Some (read_for shape (nodes_of items) (words_of field items))) None ≡ o
+    → cond (has_line field items) (Some (read_for shape (dimension_in items) (words_of field items))) None ≡ o
 section_is laws f items stage one field shape None is =
     let has : has_line field items ≡ false = has_value field items ∙ ap (λ (v : Option (List ℕ)). is_some v) (stage.values field is.once ∙ is.value_is) in
-    ap (λ b. cond b (Some (read_for shape (nodes_of items) (words_of field items))) None) has
+    ap (λ b. cond b (Some (read_for shape (dimension_in items) (words_of field items))) None) has
 section_is laws f items stage one field shape (Some xs) is =
     let has : has_line field items ≡ true = has_value field items ∙ ap (λ (v : Option (List ℕ)). is_some v) (stage.values field is.once ∙ is.value_is) in
     let right = are_right laws f shape xs items (stage.values DimensionKey refl) one is.fit in
-    ap (λ b. cond b (Some (read_for shape (nodes_of items) (words_of field items))) None) has
-    ∙ ap (λ (words : List (List ℕ)). Some (read_for shape (nodes_of items) words)) (stage.words field ∙ is.words_are)
-    ∙ ap (λ (entries : Entries shape). Some entries) (body laws [] shape is.writable (nodes_of items) right.few xs right.valid).back
+    ap (λ b. cond b (Some (read_for shape (dimension_in items) (words_of field items))) None) has
+    ∙ ap (λ (words : List (List ℕ)). Some (read_for shape (dimension_in items) words)) (stage.words field ∙ is.words_are)
+    ∙ ap (λ (entries : Entries shape). Some entries) (body laws [] shape is.writable (dimension_in items) right.few xs right.valid).back
 
 -- what the line of a keyword with a word names is what the file holds
 named_is : {V : Type 0} (f : Fields) (items : List Item) → Stage f [] items → (field : Field) → may_repeat field ≡ false → (text : V → List ℕ) (by_word : List ℕ → Option V)
@@ -54,8 +54,8 @@ number_from field v = option_and_then (λ value. option_and_then result_ok (read
 -- the points of nodes, in space or in the plane
 points_read : (f : Fields) (items : List Item) (in_space : Bool)
     → ((shape : Shape) → Some (cond in_space SpacePoints Points) ≡ Some shape
-    → cond (has_line NodeCoordPart items) (Some (read_for shape (nodes_of items) (words_of NodeCoordPart items))) None ≡ entries_in f NodeCoordPart shape)
-    → cond (has_line NodeCoordPart items) (Some (coords_by_node in_space (nodes_of items) (words_of NodeCoordPart items))) None ≡ f.coords
+    → cond (has_line NodeCoordPart items) (Some (read_for shape (dimension_in items) (words_of NodeCoordPart items))) None ≡ entries_in f NodeCoordPart shape)
+    → cond (has_line NodeCoordPart items) (Some (coords_by_node in_space (dimension_in items) (words_of NodeCoordPart items))) None ≡ f.coords
 points_read f items true read = read SpacePoints refl
 points_read f items false read = read Points refl
 
@@ -64,11 +64,11 @@ pub spelled_is : NumberLaws → (f : Fields) (items : List Item) → ((g : Field
 spelled_is laws f items valid stage =
     let one = valid DimensionKey in
     let read : (field : Field) (shape : Shape) → shape_of (spatial f) field ≡ Some shape
-    → cond (has_line field items) (Some (read_for shape (nodes_of items) (words_of field items))) None ≡ entries_in f field shape =
+    → cond (has_line field items) (Some (read_for shape (dimension_in items) (words_of field items))) None ≡ entries_in f field shape =
     λ field shape e. section_is laws f items stage one field shape (entries_in f field shape) (is_section f valid field shape e) in
     let space = space_written f items (stage.values NodeCoordTypeKey refl) (stage.values EdgeWeightTypeKey refl) in
     let coords_read : (in_space : Bool) → spatial f ≡ in_space
-    → cond (has_line NodeCoordPart items) (Some (coords_by_node in_space (nodes_of items) (words_of NodeCoordPart items))) None ≡ f.coords =
+    → cond (has_line NodeCoordPart items) (Some (coords_by_node in_space (dimension_in items) (words_of NodeCoordPart items))) None ≡ f.coords =
     λ in_space e. points_read f items in_space (λ shape is. read NodeCoordPart shape (ap (λ b. Some (cond b SpacePoints Points)) e ∙ is)) in
     λ i. record {
       name = stage.values NameKey refl i;
@@ -82,7 +82,7 @@ spelled_is laws f items valid stage =
       weight_format = named_is f items stage EdgeWeightFormatKey refl weight_format_word weight_format_named weight_format_back f.weight_format refl i;
       coord_kind = named_is f items stage NodeCoordTypeKey refl coord_kind_word coord_kind_named coord_kind_back f.coord_kind refl i;
       display_kind = named_is f items stage DisplayDataTypeKey refl display_kind_word display_kind_named display_kind_back f.display_kind refl i;
-      coords = (ap (λ (b : Bool). cond (has_line NodeCoordPart items) (Some (coords_by_node b (nodes_of items) (words_of NodeCoordPart items))) None) space
+      coords = (ap (λ (b : Bool). cond (has_line NodeCoordPart items) (Some (coords_by_node b (dimension_in items) (words_of NodeCoordPart items))) None) space
           ∙ coords_read (spatial f) refl) i;
       display = read DisplayDataPart Points refl i;
       demands = read DemandPart _ refl i;

@@ -14,7 +14,7 @@ use Rattle.tsp_cli.specs.declared.task.Place.{Place}
 use Rattle.tsp_cli.specs.declared.task.Task.{Task}
 use Rattle.tsp_cli.specs.declared.task.Task.TheVariants.{Show, Convert, Check, BoundCheck, BranchCheck}
 use Rattle.tsp_cli.specs.declared.words.JobFault.TheVariants.{OutOfMemory}
-use Rattle.tsp_cli.specs.Words.{GivesJob, IsRefused}
+use Rattle.tsp_cli.specs.Words.{GivesJob, IsOtherRefusal}
 use Rattle.tsp_cli.specs.Task.{GivesTask}
 use Rattle.tsp_run.specs.Engines.{IsDone}
 use Rattle.tsp_run.specs.Ending.{status_of_ending, TellsAll}
@@ -53,11 +53,11 @@ Ends remaining opens on_terminal words sink explained (Ended answer) = (job : Jo
     × EndsWith remaining opens job sink (Ended answer) × (explained ≡ (job.explain || on_terminal))
 
 -- the end where the words can't be had: out of memory, or a word is no text, which is told as refused words are
-abbrev pub IsUnread : ErrorKind → Bool → Ending → Type 0
-IsUnread kind explained (NoJob fault) = (kind ≡ io_kinds.OutOfMemory → fault ≡ OutOfMemory)
-    × (kind ≢ io_kinds.OutOfMemory → IsRefused fault) × (explained ≡ false)
-IsUnread kind explained (NoTask fault) = ⊥
-IsUnread kind explained (Ended answer) = ⊥
+abbrev pub HasNoWords : ErrorKind → Bool → Ending → Type 0
+HasNoWords kind explained (NoJob fault) = (kind ≡ io_kinds.OutOfMemory → fault ≡ OutOfMemory)
+    × (kind ≢ io_kinds.OutOfMemory → IsOtherRefusal fault) × (explained ≡ false)
+HasNoWords kind explained (NoTask fault) = ⊥
+HasNoWords kind explained (Ended answer) = ⊥
 
 -- the exit status is that of an ending with Q, whose line is told, and more where it is explained
 abbrev pub RunsJob : (Ending → Type 0) → Bool → Option (List ℕ) → Option (List ℕ) → ℕ × Result (Unit {0}) Error → Type 0

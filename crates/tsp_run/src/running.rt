@@ -5,7 +5,7 @@ ghost use Rattle.std.specs.IoError.{error_kind};
 ghost use Rattle.std.specs.String.{string_bytes};
 ghost use Rattle.tsp_judge.specs.Sink.{sink_of};
 ghost use Rattle.tsp_run.specs.Ending.{status_of_ending, Tells, TellsAll};
-ghost use Rattle.tsp_run.specs.Run.{AreFresh, IsFresh, Ends, EndsWith, IsUnread, Runs, RunsJob};
+ghost use Rattle.tsp_run.specs.Run.{AreFresh, IsFresh, Ends, EndsWith, HasNoWords, Runs, RunsJob};
 
 use crate::ending::{Ending, status_of_ending, tell};
 use crate::engines::perform;
@@ -54,7 +54,7 @@ pub fn tell_unread<E: Write>(
     error: &io::Error,
     errors: &mut E,
 ) -> (u8, io::Result<()>)
-    ensures { Runs (IsUnread (error_kind error.now)) (E.contents errors.old) (E.contents errors.new) result }
+    ensures { Runs (HasNoWords (error_kind error.now)) (E.contents errors.old) (E.contents errors.new) result }
 {
     end(&Ending::NoJob(unread(alloc, error)), errors)
 }

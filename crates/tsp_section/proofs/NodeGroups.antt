@@ -16,7 +16,7 @@ use Rattle.tsp_text.specs.declared.fault.LineFault.{LineFault}
 use Rattle.tsp_text.specs.declared.fault.LineFault.TheVariants as row
 use Rattle.tsp_text.specs.Numbers.{node, reads_as, IsWhole}
 use Rattle.tsp_text.specs.Places.{Place, NodeAfter}
-use Rattle.tsp_text.specs.Groups.{entry_of, nodes_in, by_node, place_in_group}
+use Rattle.tsp_text.specs.Groups.{entry_of, nodes_of_groups, by_node, place_in_group}
 use Rattle.tsp_text.specs.Spells.{wants_more}
 use Rattle.tsp_section.specs.states.Parts.{IsNodeOf, IsNewNode, NodesHold}
 use Rattle.tsp_text.specs.Rows.{word_fault}
@@ -34,7 +34,7 @@ found_step true x o = refl
 found_step false x o = refl
 
 -- an earlier group has the node exactly where the node has an entry
-is_entry : {X : Type 0} (groups : List (ℤ × X)) (z : ℤ) → list_any (λ earlier. reads_as earlier (Ok z)) (nodes_in groups) ≡ is_some (entry_of groups z)
+is_entry : {X : Type 0} (groups : List (ℤ × X)) (z : ℤ) → list_any (λ earlier. reads_as earlier (Ok z)) (nodes_of_groups groups) ≡ is_some (entry_of groups z)
 is_entry [] z = refl
 is_entry (group ∷ groups) z =
     rw (int_eq_turned z group.0) (ap (λ b. int_eq group.0 z || b) (is_entry groups z) ∙ sym (found_step (int_eq group.0 z) group.1 (entry_of groups z)))
@@ -97,14 +97,14 @@ nodes_unmarked missing seen entries n unseen empty = record {
 
 -- it has no fault, and the group has begun
 pub node_begins : {X : Type 0} (missing : X) (seen : List Bool) (entries : List X) (left : ℕ) (begun : Option ℕ) (n k : ℕ) (groups : List (ℤ × X)) (place : Place)
-    (word : List ℕ) → place ≡ NodeAfter (nodes_in groups) → IsNewNode seen word (Ok k) → NodesHold missing seen entries left begun n groups
+    (word : List ℕ) → place ≡ NodeAfter (nodes_of_groups groups) → IsNewNode seen word (Ok k) → NodesHold missing seen entries left begun n groups
     → (word_fault n place word ≡ None) × (node n word ≡ Ok (pos k)) × NodesHold missing seen entries left (Some k) n groups
 node_begins missing seen entries left begun n k groups place word is new h =
     let read : node n word ≡ Ok (pos k) = ap (λ i. node i word) (sym h.wide) ∙ new.0 in
     let within : IsNodeOf n k = (new.1.0, omega (arith, new.1.1, h.wide)) in
     let none : entry_of groups (pos k) ≡ None =
     none_of (entry_of groups (pos k)) (sym (mark_is_entry missing seen entries left begun n k groups within h) ∙ new.2) in
-    let any : list_any (λ earlier. reads_as earlier (Ok (pos k))) (nodes_in groups) ≡ false = is_entry groups (pos k) ∙ ap is_some none in (
+    let any : list_any (λ earlier. reads_as earlier (Ok (pos k))) (nodes_of_groups groups) ≡ false = is_entry groups (pos k) ∙ ap is_some none in (
       rw (is, read, any) refl,
       read,
       record {
@@ -124,18 +124,18 @@ node_bad : (n : ℕ) (nodes : List ℤ) (place : Place) (word : List ℕ) (fault
 node_bad n nodes place word fault is read = rw (is, read) refl
 
 -- an earlier group has it
-node_repeats : {X : Type 0} (n k : ℕ) (groups : List (ℤ × X)) (place : Place) (word : List ℕ) → place ≡ NodeAfter (nodes_in groups) → node n word ≡ Ok (pos k)
+node_repeats : {X : Type 0} (n k : ℕ) (groups : List (ℤ × X)) (place : Place) (word : List ℕ) → place ≡ NodeAfter (nodes_of_groups groups) → node n word ≡ Ok (pos k)
     → is_some (entry_of groups (pos k)) ≡ true → word_fault n place word ≡ Some row.RepeatedNode
 node_repeats n k groups place word is read found =
-    let any : list_any (λ earlier. reads_as earlier (Ok (pos k))) (nodes_in groups) ≡ true = is_entry groups (pos k) ∙ found in
+    let any : list_any (λ earlier. reads_as earlier (Ok (pos k))) (nodes_of_groups groups) ≡ true = is_entry groups (pos k) ∙ found in
     rw (is, read, any) refl
 
 -- its fault
 pub node_faulty : {X : Type 0} (missing : X) (seen : List Bool) (entries : List X) (left : ℕ) (begun : Option ℕ) (n : ℕ) (groups : List (ℤ × X)) (place : Place)
-    (word : List ℕ) (fault : LineFault) → place ≡ NodeAfter (nodes_in groups) → IsNewNode seen word (Err fault)
+    (word : List ℕ) (fault : LineFault) → place ≡ NodeAfter (nodes_of_groups groups) → IsNewNode seen word (Err fault)
     → NodesHold missing seen entries left begun n groups → word_fault n place word ≡ Some fault
 node_faulty missing seen entries left begun n groups place word (row.Number fault) is new h =
-    node_bad n (nodes_in groups) place word fault is (ap (λ i. node i word) (sym h.wide) ∙ new)
+    node_bad n (nodes_of_groups groups) place word fault is (ap (λ i. node i word) (sym h.wide) ∙ new)
 node_faulty missing seen entries left begun n groups place word row.RepeatedNode is new h =
     let k = new.0 in
     let within : IsNodeOf n k = (new.2.0, omega (arith, new.2.1, h.wide)) in

@@ -9,7 +9,7 @@ use Rattle.tsp_text.specs.declared.fault.LineFault.{LineFault}
 use Rattle.tsp_text.specs.declared.fault.LineFault.TheVariants as row
 use Rattle.tsp_text.specs.Numbers.{number, node, is_minus_one}
 use Rattle.tsp_text.specs.Places.{NodeAfter, Amount, PastGroups}
-use Rattle.tsp_text.specs.Groups.{pairs_in, begun_pair, number_groups, nodes_in, place_of_number, numbers_by_node}
+use Rattle.tsp_text.specs.Groups.{pairs_in, begun_pair, number_groups, nodes_of_groups, place_of_number, numbers_by_node}
 use Rattle.tsp_text.specs.Spells.{wants_more}
 use Rattle.tsp_section.specs.states.Parts.{readings, IsNewNode, NodesHold, NumbersHold}
 use Rattle.tsp_text.specs.Rows.{word_fault}
@@ -54,7 +54,7 @@ one_begun : (seen : List Bool) (entries : List ℤ) (left : ℕ) (begun : Option
 one_begun seen entries left begun low high n words k some is h = one_read (node n) (begun_pair words) (Ok (pos k)) (h.cut some ∙ ap readings is)
 
 place_of_node : (seen : List Bool) (entries : List ℤ) (left : ℕ) (begun : Option ℕ) (low high : ℤ) (n : ℕ) (words : List (List ℕ)) → 0 < left → begun ≡ None
-    → NumbersHold seen entries left begun low high n words → place_of_number low high n words ≡ NodeAfter (nodes_in (number_groups low high n words))
+    → NumbersHold seen entries left begun low high n words → place_of_number low high n words ≡ NodeAfter (nodes_of_groups (number_groups low high n words))
 place_of_node seen entries left begun low high n words some is h =
     let short = h.open_ended some in
     let few : nat_le (2 * n) (length words) ≡ false = grind (arith, nat_tests) in
@@ -183,4 +183,4 @@ numbers_to_come seen entries (suc left) begun low high n words h =
     let short = h.open_ended (omega arith) in
     let few : nat_le (2 * n) (length words) ≡ false = grind (arith, nat_tests) in
     let some : nat_lt 0 (suc left) ≡ true = grind (arith, nat_tests) in
-    rw (some, few) (sym (wants_in_group (Amount low high) (nodes_in (number_groups low high n words)) (begun_pair words) refl))
+    rw (some, few) (sym (wants_in_group (Amount low high) (nodes_of_groups (number_groups low high n words)) (begun_pair words) refl))

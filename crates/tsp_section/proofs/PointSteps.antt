@@ -13,7 +13,7 @@ use Rattle.tsp_text.specs.declared.fault.LineFault.{LineFault}
 use Rattle.tsp_text.specs.declared.fault.LineFault.TheVariants as row
 use Rattle.tsp_text.specs.Numbers.{number, node, is_minus_one}
 use Rattle.tsp_text.specs.Places.{NodeAfter, Coordinate, PastGroups}
-use Rattle.tsp_text.specs.Groups.{triples_in, begun_triple, point_of, point_groups, nodes_in, place_of_point, points_by_node}
+use Rattle.tsp_text.specs.Groups.{threes_in, begun_triple, point_in_words, point_groups, nodes_of_groups, place_of_point, points_by_node}
 use Rattle.tsp_text.specs.Spells.{wants_more}
 use Rattle.tsp_section.specs.states.Parts.{BeginsPoint, IsNewNode, NodesHold, PointsHold}
 use Rattle.tsp_text.specs.Rows.{word_fault}
@@ -28,21 +28,21 @@ plane_points points = map (λ point. on_plane point.x point.y) points
 -- ---- the groups so far
 
 abbrev group_of : ℕ → List ℕ × List ℕ × List ℕ → ℤ × Point
-group_of n = λ group. (number (node n group.0), point_of group.1 group.2)
+group_of n = λ group. (number (node n group.0), point_in_words group.1 group.2)
 
 -- where no words stand past the groups
-all_groups : (n : ℕ) (words : List (List ℕ)) → length words ≤ 3 * n → point_groups n words ≡ map (group_of n) (triples_in words)
-all_groups n words few = ap (λ ws. map (group_of n) (triples_in ws)) (take_all (3 * n) words few)
+all_groups : (n : ℕ) (words : List (List ℕ)) → length words ≤ 3 * n → point_groups n words ≡ map (group_of n) (threes_in words)
+all_groups n words few = ap (λ ws. map (group_of n) (threes_in ws)) (take_all (3 * n) words few)
 
 -- as many words as groups want
 words_so_far : (n left : ℕ) (words : List (List ℕ)) → length words < 3 * n → length (point_groups n words) + left ≡ n
     → length words + 3 * left ≡ 3 * n + length (begun_triple words)
 words_so_far n left words short to_come =
-    let count = ap length (all_groups n words (omega arith)) ∙ length-map (triples_in words) (group_of n) in
+    let count = ap length (all_groups n words (omega arith)) ∙ length-map (threes_in words) (group_of n) in
     omega (arith, count, length_triples words)
 
 -- a word more that ends no group leaves the groups alone
-groups_kept : (n : ℕ) (words : List (List ℕ)) (word : List ℕ) → length words < 3 * n → triples_in (words ++ word ∷ []) ≡ triples_in words
+groups_kept : (n : ℕ) (words : List (List ℕ)) (word : List ℕ) → length words < 3 * n → threes_in (words ++ word ∷ []) ≡ threes_in words
     → point_groups n (words ++ word ∷ []) ≡ point_groups n words
 groups_kept n words word short same =
     all_groups n (words ++ word ∷ []) (omega (arith, length_push words word)) ∙ ap (map (group_of n)) same ∙ sym (all_groups n words (omega arith))
@@ -90,7 +90,7 @@ begins left begun o x y seen entries n words some is also h = rw (← is, ← al
 -- ---- where the next word stands
 
 place_of_node : (seen : List Bool) (entries : List Point) (left : ℕ) (begun : Option ℕ) (x : Option ℤ) (n : ℕ) (words : List (List ℕ)) → 0 < left → begun ≡ None
-    → PointsHold seen entries left begun x n words → place_of_point n words ≡ NodeAfter (nodes_in (point_groups n words))
+    → PointsHold seen entries left begun x n words → place_of_point n words ≡ NodeAfter (nodes_of_groups (point_groups n words))
 place_of_node seen entries left begun x n words some is h =
     let short = h.open_ended some in
     let few : nat_le (3 * n) (length words) ≡ false = grind (arith, nat_tests) in
@@ -178,7 +178,7 @@ point_more seen entries left begun x n words word k y z some is also read h =
     let group : f (first.0, first.1, word) ≡ (pos k, point) = rw (first.3, first.4, read) refl in
     let groups : point_groups n (words ++ word ∷ []) ≡ point_groups n words ++ (pos k, point) ∷ [] =
     all_groups n (words ++ word ∷ []) (omega arith) ∙ ap (map f) (triples_end words first.0 first.1 word first.2)
-    ∙ map_push f (triples_in words) (first.0, first.1, word) ∙ ap (λ g. map f (triples_in words) ++ g ∷ []) group
+    ∙ map_push f (threes_in words) (first.0, first.1, word) ∙ ap (λ g. map f (threes_in words) ++ g ∷ []) group
     ∙ ap (λ gs. gs ++ (pos k, point) ∷ []) (sym (all_groups n words (omega arith))) in
     let held : NodesHold origin seen entries left (Some k) n (point_groups n words) = rw (← is) h.nodes in (
       rw (place_of_coordinate seen entries left begun x n words k some is h, read) refl,
@@ -207,7 +207,7 @@ points_ended seen entries left begun x n words word none end h =
     let full = h.full none in
     let more = length_push words word in
     let same : point_groups n (words ++ word ∷ []) ≡ point_groups n words =
-    ap (λ ws. map (group_of n) (triples_in ws)) (take-append-le (3 * n) words (word ∷ []) full) in (
+    ap (λ ws. map (group_of n) (threes_in ws)) (take-append-le (3 * n) words (word ∷ []) full) in (
       rw (past_points seen entries left begun x n words none h, end) refl,
       record {
         nodes = rw same h.nodes;
@@ -239,4 +239,4 @@ points_to_come seen entries (suc left) begun x n words h =
     let short = h.open_ended (omega arith) in
     let few : nat_le (3 * n) (length words) ≡ false = grind (arith, nat_tests) in
     let some : nat_lt 0 (suc left) ≡ true = grind (arith, nat_tests) in
-    rw (some, few) (sym (wants_in_group Coordinate (nodes_in (point_groups n words)) (begun_triple words) refl))
+    rw (some, few) (sym (wants_in_group Coordinate (nodes_of_groups (point_groups n words)) (begun_triple words) refl))

@@ -11,7 +11,7 @@ use Rattle.tsp_text.specs.declared.fault.LineFault.{LineFault}
 use Rattle.tsp_text.specs.declared.fault.LineFault.TheVariants as row
 use Rattle.tsp_text.specs.Numbers.{number, node, is_minus_one}
 use Rattle.tsp_text.specs.Places.{NodeAfter, Coordinate, PastGroups}
-use Rattle.tsp_text.specs.Groups.{fours_in, begun_four, space_point_of, space_point_groups, nodes_in, place_of_space_point, space_points_by_node}
+use Rattle.tsp_text.specs.Groups.{fours_in, begun_four, space_point_of, space_point_groups, nodes_of_groups, place_of_space_point, space_points_by_node}
 use Rattle.tsp_text.specs.Spells.{wants_more}
 use Rattle.tsp_section.specs.states.Parts.{BeginsSpacePoint, IsNewNode, NodesHold, SpacePointsHold}
 use Rattle.tsp_text.specs.Rows.{word_fault}
@@ -100,7 +100,7 @@ begins left begun o x p y q seen entries n words some is also too h = rw (← is
 -- ---- where the next word stands
 
 place_of_node : (seen : List Bool) (entries : List Point) (left : ℕ) (begun : Option ℕ) (x y : Option ℤ) (n : ℕ) (words : List (List ℕ)) → 0 < left → begun ≡ None
-    → SpacePointsHold seen entries left begun x y n words → place_of_space_point n words ≡ NodeAfter (nodes_in (space_point_groups n words))
+    → SpacePointsHold seen entries left begun x y n words → place_of_space_point n words ≡ NodeAfter (nodes_of_groups (space_point_groups n words))
 place_of_node seen entries left begun x y n words some is h =
     let short = h.open_ended some in
     let few : nat_le (4 * n) (length words) ≡ false = grind (arith, nat_tests) in
@@ -269,4 +269,4 @@ space_points_to_come seen entries (suc left) begun x y n words h =
     let short = h.open_ended (omega arith) in
     let few : nat_le (4 * n) (length words) ≡ false = grind (arith, nat_tests) in
     let some : nat_lt 0 (suc left) ≡ true = grind (arith, nat_tests) in
-    rw (some, few) (sym (wants_in_group Coordinate (nodes_in (space_point_groups n words)) (begun_four words) refl))
+    rw (some, few) (sym (wants_in_group Coordinate (nodes_of_groups (space_point_groups n words)) (begun_four words) refl))

@@ -12,7 +12,7 @@ use Rattle.tsp_format.specs.Limits.{most_fixed, most_multiplier}
 use Rattle.tsp_text.specs.declared.fault.LineFault.TheVariants as row
 use Rattle.tsp_text.specs.Numbers.{node, node_or_end, is_end, is_minus_one}
 use Rattle.tsp_text.specs.Places.{Amount, PastEnd, FirstAfter, SecondOf}
-use Rattle.tsp_text.specs.Groups.{triples_in, begun_triple}
+use Rattle.tsp_text.specs.Groups.{threes_in, begun_triple}
 use Rattle.tsp_text.specs.Lists.{fixed_triple, triple_firsts_in, place_of_triple}
 use Rattle.tsp_text.specs.Spells.{wants_more}
 use Rattle.tsp_section.specs.states.Parts.{BeginsTriple, TriplesHold}
@@ -192,12 +192,12 @@ triple_ends triples first second ended n words word i j l e is also read h =
       rw (place_of_multiplier triples first second ended n words i j e is also h, read) refl,
       record {
         list = ap (λ ts. ts ++ (i, j, l) ∷ []) (h.list ∙ ap (map f) (triples_none (is_end n) words none))
-            ∙ ap (λ t. map f (triples_in words) ++ t ∷ []) (sym triple) ∙ sym (map_push f (triples_in words) (begun.0, begun.1, word))
+            ∙ ap (λ t. map f (threes_in words) ++ t ∷ []) (sym triple) ∙ sym (map_push f (threes_in words) (begun.0, begun.1, word))
             ∙ ap (map f) (sym (triples_none (is_end n) (words ++ word ∷ []) still ∙ more));
         closed = e ∙ sym still;
         cut = λ open_ended. rw (begun_end words begun.0 begun.1 word begun.2) refl;
         count = λ open_ended. length_push triples (i, j, l) ∙ ap (λ k. k + 1) (h.count open_ended)
-            ∙ sym (length_push (triples_in words) (begun.0, begun.1, word)) ∙ ap length (sym more);
+            ∙ sym (length_push (threes_in words) (begun.0, begun.1, word)) ∙ ap length (sym more);
         whole = λ closed. refl;
       },
     )

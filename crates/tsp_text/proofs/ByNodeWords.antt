@@ -15,13 +15,13 @@ use Rattle.tsp_text.specs.Numbers.{number, node}
 use Rattle.tsp_text.specs.Items.{Item}
 use Rattle.tsp_text.specs.Earlier.{same_field, has_line, words_of}
 use Rattle.tsp_text.specs.Places.{Place, NodeAfter, Coordinate, Amount, PastGroups}
-use Rattle.tsp_text.specs.Groups.{pairs_in, triples_in, fours_in, begun_pair, begun_triple, begun_four, place_of_number, place_of_point, number_groups, point_of, point_groups, space_point_of, space_point_groups, place_in_group, nodes_in}
+use Rattle.tsp_text.specs.Groups.{pairs_in, threes_in, fours_in, begun_pair, begun_triple, begun_four, place_of_number, place_of_point, number_groups, point_in_words, point_groups, space_point_of, space_point_groups, place_in_group, nodes_of_groups}
 use Rattle.tsp_text.specs.Values.{spatial_after}
-use Rattle.tsp_text.specs.Sections.{place_in, nodes_of}
+use Rattle.tsp_text.specs.Sections.{place_in, dimension_in}
 use Rattle.tsp_text.specs.Rows.{when, number_fault_at, is_repeated_node_at, is_self_edge_at, is_surplus_at, is_after_end_at, word_fault}
 use Rattle.tsp_text.specs.FirstFault.{IsClean}
 use Rattle.tsp_text.specs.Spells.{wants_more, is_incomplete}
-use Rattle.tsp_text.specs.ByNode.{is_by_node_field, group_nodes, HasEachOnce}
+use Rattle.tsp_text.specs.ByNode.{is_by_node_field, group_nodes, HasEachNodeOnce}
 use Rattle.tsp_text.proofs.ValidRows.{when_none, map_none, none_applies}
 use Rattle.tsp_text.proofs.Grown.{Grows, grown, grown_in}
 use Rattle.tsp_text.proofs.EachOnce.{AreOnce, IsFree, once_more, all_once}
@@ -142,7 +142,7 @@ full_end false number_place nodes [] more e = absurd (true≢false e)
 full_end false number_place nodes (word ∷ begun) more e = absurd (true≢false (sym more ∙ e))
 
 all_there : (size : ℕ) (firsts begun : Words → Words) → IsShape size firsts begun → (n : ℕ) (words : Words) (nodes : List ℤ) → nodes ≡ nodes_by firsts (size * n) n words
-    → nat_le (size * n) (length words) ≡ true → NodesHold firsts begun (size * n) n words → HasEachOnce n nodes
+    → nat_le (size * n) (length words) ≡ true → NodesHold firsts begun (size * n) n words → HasEachNodeOnce n nodes
 all_there size firsts begun s n words nodes is full h =
     let front = take (size * n) words in
     let count : length (firsts front) ≡ n = s.counted n front (length-take-le (size * n) words (leb-true (size * n) (length words) full)) in
@@ -151,17 +151,17 @@ all_there size firsts begun s n words nodes is full h =
 -- ---- numbers by node, and points
 
 number_nodes : (low high : ℤ) (n : ℕ) (pairs : List (List ℕ × List ℕ))
-    → nodes_in (map (λ (group : List ℕ × List ℕ). (number (node n group.0), number (whole_of group.1 low high))) pairs) ≡ nodes_read n (map (λ (group : List ℕ × List ℕ). group.0) pairs)
+    → nodes_of_groups (map (λ (group : List ℕ × List ℕ). (number (node n group.0), number (whole_of group.1 low high))) pairs) ≡ nodes_read n (map (λ (group : List ℕ × List ℕ). group.0) pairs)
 number_nodes low high n [] = refl
 number_nodes low high n (pair ∷ pairs) = ap (λ (nodes : List ℤ). number (node n pair.0) ∷ nodes) (number_nodes low high n pairs)
 
 point_nodes : (n : ℕ) (triples : List (List ℕ × List ℕ × List ℕ))
-    → nodes_in (map (λ (group : List ℕ × List ℕ × List ℕ). (number (node n group.0), point_of group.1 group.2)) triples) ≡ nodes_read n (map (λ (group : List ℕ × List ℕ × List ℕ). group.0) triples)
+    → nodes_of_groups (map (λ (group : List ℕ × List ℕ × List ℕ). (number (node n group.0), point_in_words group.1 group.2)) triples) ≡ nodes_read n (map (λ (group : List ℕ × List ℕ × List ℕ). group.0) triples)
 point_nodes n [] = refl
 point_nodes n (triple ∷ triples) = ap (λ (nodes : List ℤ). number (node n triple.0) ∷ nodes) (point_nodes n triples)
 
 space_point_nodes : (n : ℕ) (fours : List (List ℕ × List ℕ × List ℕ × List ℕ))
-    → nodes_in (map (λ (group : List ℕ × List ℕ × List ℕ × List ℕ). (number (node n group.0), space_point_of group.1 group.2 group.3)) fours)
+    → nodes_of_groups (map (λ (group : List ℕ × List ℕ × List ℕ × List ℕ). (number (node n group.0), space_point_of group.1 group.2 group.3)) fours)
     ≡ nodes_read n (map (λ (group : List ℕ × List ℕ × List ℕ × List ℕ). group.0) fours)
 space_point_nodes n [] = refl
 space_point_nodes n (four ∷ fours) = ap (λ (nodes : List ℤ). number (node n four.0) ∷ nodes) (space_point_nodes n fours)
@@ -176,24 +176,24 @@ abbrev SpacePointsHold : ℕ → Words → Type 0
 SpacePointsHold n words = NodesHold four_firsts begun_four (4 * n) n words
 
 numbers_more : (low high : ℤ) (n : ℕ) (words : Words) (word : List ℕ) → NumbersHold n words
-    → word_fault n (cond (nat_le (2 * n) (length words)) PastGroups (place_in_group (Amount low high) (nodes_in (number_groups low high n words)) (begun_pair words))) word ≡ None
+    → word_fault n (cond (nat_le (2 * n) (length words)) PastGroups (place_in_group (Amount low high) (nodes_of_groups (number_groups low high n words)) (begun_pair words))) word ≡ None
     → NumbersHold n (words ++ word ∷ [])
 numbers_more low high n words word h none =
-    more_hold 2 pair_firsts begun_pair pair_shape (2 * n) n words word (Amount low high) (nodes_in (number_groups low high n words)) (nat_le (2 * n) (length words)) refl
+    more_hold 2 pair_firsts begun_pair pair_shape (2 * n) n words word (Amount low high) (nodes_of_groups (number_groups low high n words)) (nat_le (2 * n) (length words)) refl
     (number_nodes low high n (pairs_in (take (2 * n) words))) h none
 
 points_more : (n : ℕ) (words : Words) (word : List ℕ) → PointsHold n words
-    → word_fault n (cond (nat_le (3 * n) (length words)) PastGroups (place_in_group Coordinate (nodes_in (point_groups n words)) (begun_triple words))) word ≡ None
+    → word_fault n (cond (nat_le (3 * n) (length words)) PastGroups (place_in_group Coordinate (nodes_of_groups (point_groups n words)) (begun_triple words))) word ≡ None
     → PointsHold n (words ++ word ∷ [])
 points_more n words word h none =
-    more_hold 3 triple_firsts begun_triple triple_shape (3 * n) n words word Coordinate (nodes_in (point_groups n words)) (nat_le (3 * n) (length words)) refl
-    (point_nodes n (triples_in (take (3 * n) words))) h none
+    more_hold 3 triple_firsts begun_triple triple_shape (3 * n) n words word Coordinate (nodes_of_groups (point_groups n words)) (nat_le (3 * n) (length words)) refl
+    (point_nodes n (threes_in (take (3 * n) words))) h none
 
 space_points_more : (n : ℕ) (words : Words) (word : List ℕ) → SpacePointsHold n words
-    → word_fault n (cond (nat_le (4 * n) (length words)) PastGroups (place_in_group Coordinate (nodes_in (space_point_groups n words)) (begun_four words))) word ≡ None
+    → word_fault n (cond (nat_le (4 * n) (length words)) PastGroups (place_in_group Coordinate (nodes_of_groups (space_point_groups n words)) (begun_four words))) word ≡ None
     → SpacePointsHold n (words ++ word ∷ [])
 space_points_more n words word h none =
-    more_hold 4 four_firsts begun_four four_shape (4 * n) n words word Coordinate (nodes_in (space_point_groups n words)) (nat_le (4 * n) (length words)) refl
+    more_hold 4 four_firsts begun_four four_shape (4 * n) n words word Coordinate (nodes_of_groups (space_point_groups n words)) (nat_le (4 * n) (length words)) refl
     (space_point_nodes n (fours_in (take (4 * n) words))) h none
 
 -- where the next word of a section stands, whether the file is spatial or not
@@ -236,47 +236,47 @@ complete false wants e f = absurd (false≢true e)
 
 numbers_once : (items : List Item) (field : Field) (low high : ℤ) → same_field TourPart field ≡ false → same_field NodeCoordPart field ≡ false
     → StandsAt field (place_of_number low high)
-    → IsClean items → has_line field items ≡ true → is_incomplete items field ≡ false → HasEachOnce (nodes_of items) (nodes_in (number_groups low high (nodes_of items) (words_of field items)))
+    → IsClean items → has_line field items ≡ true → is_incomplete items field ≡ false → HasEachNodeOnce (dimension_in items) (nodes_of_groups (number_groups low high (dimension_in items) (words_of field items)))
 numbers_once items field low high other flat at clean stands whole =
-    let n = nodes_of items in
+    let n = dimension_in items in
     let words = words_of field items in
-    let nodes = nodes_in (number_groups low high n words) in
+    let nodes = nodes_of_groups (number_groups low high n words) in
     let ended = complete (has_line field items) (wants_more (place_in (spatial_after items) field n words)) stands whole in
     let full = full_end (nat_le (2 * n) (length words)) (Amount low high) nodes (begun_pair words) refl (ap wants_more (sym (at (spatial_after items) n words)) ∙ ended) in
     all_there 2 pair_firsts begun_pair pair_shape n words nodes (number_nodes low high n (pairs_in (take (2 * n) words))) full
     (grown field NumbersHold flat (numbers_grow field low high other at) items clean)
 
 -- points of the plane
-points_once : (n : ℕ) (words : Words) → wants_more (place_of_point n words) ≡ false → PointsHold n words → HasEachOnce n (nodes_in (point_groups n words))
+points_once : (n : ℕ) (words : Words) → wants_more (place_of_point n words) ≡ false → PointsHold n words → HasEachNodeOnce n (nodes_of_groups (point_groups n words))
 points_once n words ended held =
-    let nodes = nodes_in (point_groups n words) in
+    let nodes = nodes_of_groups (point_groups n words) in
     let full = full_end (nat_le (3 * n) (length words)) Coordinate nodes (begun_triple words) refl ended in
-    all_there 3 triple_firsts begun_triple triple_shape n words nodes (point_nodes n (triples_in (take (3 * n) words))) full held
+    all_there 3 triple_firsts begun_triple triple_shape n words nodes (point_nodes n (threes_in (take (3 * n) words))) full held
 
 display_once : (items : List Item) → IsClean items → has_line DisplayDataPart items ≡ true → is_incomplete items DisplayDataPart ≡ false
-    → HasEachOnce (nodes_of items) (nodes_in (point_groups (nodes_of items) (words_of DisplayDataPart items)))
+    → HasEachNodeOnce (dimension_in items) (nodes_of_groups (point_groups (dimension_in items) (words_of DisplayDataPart items)))
 display_once items clean stands whole =
-    let n = nodes_of items in
+    let n = dimension_in items in
     let words = words_of DisplayDataPart items in
     points_once n words (complete (has_line DisplayDataPart items) (wants_more (place_of_point n words)) stands whole)
     (grown DisplayDataPart PointsHold refl display_grows items clean)
 
 coords_once : (items : List Item) (in_space : Bool) → spatial_after items ≡ in_space → IsClean items → has_line NodeCoordPart items ≡ true
-    → wants_more (place_in in_space NodeCoordPart (nodes_of items) (words_of NodeCoordPart items)) ≡ false
-    → HasEachOnce (nodes_of items) (group_nodes in_space NodeCoordPart (nodes_of items) (words_of NodeCoordPart items))
+    → wants_more (place_in in_space NodeCoordPart (dimension_in items) (words_of NodeCoordPart items)) ≡ false
+    → HasEachNodeOnce (dimension_in items) (group_nodes in_space NodeCoordPart (dimension_in items) (words_of NodeCoordPart items))
 coords_once items false is clean stands ended =
-    points_once (nodes_of items) (words_of NodeCoordPart items) ended
+    points_once (dimension_in items) (words_of NodeCoordPart items) ended
     (grown_in false NodeCoordPart PointsHold points_grow items clean (λ coords there. is))
 coords_once items true is clean stands ended =
-    let n = nodes_of items in
+    let n = dimension_in items in
     let words = words_of NodeCoordPart items in
-    let nodes = nodes_in (space_point_groups n words) in
+    let nodes = nodes_of_groups (space_point_groups n words) in
     let full = full_end (nat_le (4 * n) (length words)) Coordinate nodes (begun_four words) refl ended in
     all_there 4 four_firsts begun_four four_shape n words nodes (space_point_nodes n (fours_in (take (4 * n) words))) full
     (grown_in true NodeCoordPart SpacePointsHold space_points_grow items clean (λ coords there. is))
 
 pub each_once : (items : List Item) (field : Field) → IsClean items → is_by_node_field field ≡ true → has_line field items ≡ true → is_incomplete items field ≡ false
-    → HasEachOnce (nodes_of items) (group_nodes (spatial_after items) field (nodes_of items) (words_of field items))
+    → HasEachNodeOnce (dimension_in items) (group_nodes (spatial_after items) field (dimension_in items) (words_of field items))
 each_once items NameKey clean by_node = absurd (false≢true by_node)
 each_once items TypeKey clean by_node = absurd (false≢true by_node)
 each_once items CommentKey clean by_node = absurd (false≢true by_node)
@@ -289,7 +289,7 @@ each_once items EdgeWeightFormatKey clean by_node = absurd (false≢true by_node
 each_once items NodeCoordTypeKey clean by_node = absurd (false≢true by_node)
 each_once items DisplayDataTypeKey clean by_node = absurd (false≢true by_node)
 each_once items NodeCoordPart clean by_node = λ stands whole. coords_once items (spatial_after items) refl clean stands
-    (complete (has_line NodeCoordPart items) (wants_more (place_in (spatial_after items) NodeCoordPart (nodes_of items) (words_of NodeCoordPart items))) stands whole)
+    (complete (has_line NodeCoordPart items) (wants_more (place_in (spatial_after items) NodeCoordPart (dimension_in items) (words_of NodeCoordPart items))) stands whole)
 each_once items DisplayDataPart clean by_node = display_once items clean
 each_once items DemandPart clean by_node = numbers_once items DemandPart (pos 0) (pos most_demand) refl refl (λ b n words. refl) clean
 each_once items DepotPart clean by_node = absurd (false≢true by_node)

@@ -12,7 +12,7 @@ use Rattle.std.proofs.lemmas.List.Sorted.{IsPermutation-refl, IsPermutation-remo
 use Rattle.tsp_format.specs.Cells.{nodes_to}
 use Rattle.tsp_draft.specs.Validity.{is_node}
 use Rattle.tsp_text.specs.Numbers.{number, reads_as, node}
-use Rattle.tsp_text.specs.ByNode.{HasEachOnce}
+use Rattle.tsp_text.specs.ByNode.{HasEachNodeOnce}
 use Rattle.tsp_text.proofs.ValidNumbers.{read_node}
 
 -- ---- different elements
@@ -85,7 +85,7 @@ once_more n nodes word once free =
     subst (λ (z : ℤ). AreOnce n (nodes ++ z ∷ [])) (sym is)
     (apart_more nodes (pos read.0) once.0 others, all_more (Contains (map (λ k. pos k) (nodes_to n))) nodes (pos read.0) once.1 (node_inside n read.0 read.2))
 
-pub all_once : (n : ℕ) (nodes : List ℤ) → AreOnce n nodes → length nodes ≡ n → HasEachOnce n nodes
+pub all_once : (n : ℕ) (nodes : List ℤ) → AreOnce n nodes → length nodes ≡ n → HasEachNodeOnce n nodes
 unfolding nodes_to
 all_once n nodes once count =
     let long = length-map-range_with_len (λ (i : ℕ). pos i) 1 n in

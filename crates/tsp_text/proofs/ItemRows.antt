@@ -9,7 +9,7 @@ use Rattle.tsp_text.specs.declared.fault.LineFault.TheVariants as row
 use Rattle.tsp_text.specs.Items.{WordLine, Item, Line, NumberWord}
 use Rattle.tsp_text.specs.Earlier.{same_field, open_section, words_of}
 use Rattle.tsp_text.specs.Values.{spatial_after}
-use Rattle.tsp_text.specs.Sections.{place_in, nodes_of}
+use Rattle.tsp_text.specs.Sections.{place_in, dimension_in}
 use Rattle.tsp_text.specs.Rows.{row_of, word_fault}
 
 pub same_self : (f : Field) → same_field f f ≡ true
@@ -40,7 +40,7 @@ same_self BranchPart = refl
 
 -- the rows of a word are those of its place
 pub word_rows : (earlier : List Item) (word : List ℕ) (f : Field) → open_section earlier ≡ Some f
-    → row_of earlier (NumberWord word) ≡ word_fault (nodes_of earlier) (place_in (spatial_after earlier) f (nodes_of earlier) (words_of f earlier)) word
+    → row_of earlier (NumberWord word) ≡ word_fault (dimension_in earlier) (place_in (spatial_after earlier) f (dimension_in earlier) (words_of f earlier)) word
 word_rows earlier word f o = rw o refl
 
 pub words_more : (earlier : List Item) (word : List ℕ) (f : Field) → open_section earlier ≡ Some f → words_of f (NumberWord word ∷ earlier) ≡ words_of f earlier ++ word ∷ []

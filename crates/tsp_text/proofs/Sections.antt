@@ -13,7 +13,7 @@ use Rattle.tsp_draft.specs.Fields.{stands_in}
 use Rattle.tsp_text.specs.Items.{WordLine, Item, Line}
 use Rattle.tsp_text.specs.Earlier.{has_line}
 use Rattle.tsp_text.specs.Values.{spatial_after}
-use Rattle.tsp_text.specs.Sections.{nodes_of}
+use Rattle.tsp_text.specs.Sections.{dimension_in}
 use Rattle.tsp_text.specs.Rows.{row_of}
 use Rattle.tsp_text.specs.Opening.{opening_rows}
 use Rattle.tsp_text.specs.Spells.{fields_by}
@@ -90,10 +90,10 @@ points_open false stands known value n = refl
 -- its rows
 pub opening : (in_space : Bool) (earlier : List Item) (line : WordLine) → nat_lt most_line_bytes line.size ≡ false → (f : Field) → is_section_field f ≡ true
     → row_of earlier (Line (Known f) line)
-    ≡ option_map_or (λ shape. opening_rows shape (has_line f earlier) line.value (has_line DimensionKey earlier) (nodes_of earlier)) (shape_of in_space f) None
+    ≡ option_map_or (λ shape. opening_rows shape (has_line f earlier) line.value (has_line DimensionKey earlier) (dimension_in earlier)) (shape_of in_space f) None
 opening in_space earlier line short = by_section (λ f. row_of earlier (Line (Known f) line)
-    ≡ option_map_or (λ shape. opening_rows shape (has_line f earlier) line.value (has_line DimensionKey earlier) (nodes_of earlier)) (shape_of in_space f) None)
-    (rw short (points_open in_space (has_line NodeCoordPart earlier) (has_line DimensionKey earlier) line.value (nodes_of earlier))) (rw short refl) (rw short refl) (rw short refl) (rw short refl)
+    ≡ option_map_or (λ shape. opening_rows shape (has_line f earlier) line.value (has_line DimensionKey earlier) (dimension_in earlier)) (shape_of in_space f) None)
+    (rw short (points_open in_space (has_line NodeCoordPart earlier) (has_line DimensionKey earlier) line.value (dimension_in earlier))) (rw short refl) (rw short refl) (rw short refl) (rw short refl)
     (rw short refl) (rw short refl) (rw short refl) (rw short refl) (rw short refl)
     (rw short refl) (rw short refl) (rw short refl)
 
@@ -111,8 +111,8 @@ standing earlier = by_section (λ f. stands_in (fields_by (λ field. has_line fi
 
 -- the number of nodes stays, and whether the file is spatial
 pub nodes_stay : (earlier : List Item) (line : WordLine) (f : Field) → is_section_field f ≡ true
-    → (nodes_of (Line (Known f) line ∷ earlier) ≡ nodes_of earlier) × (spatial_after (Line (Known f) line ∷ earlier) ≡ spatial_after earlier)
-nodes_stay earlier line = by_section (λ f. (nodes_of (Line (Known f) line ∷ earlier) ≡ nodes_of earlier)
+    → (dimension_in (Line (Known f) line ∷ earlier) ≡ dimension_in earlier) × (spatial_after (Line (Known f) line ∷ earlier) ≡ spatial_after earlier)
+nodes_stay earlier line = by_section (λ f. (dimension_in (Line (Known f) line ∷ earlier) ≡ dimension_in earlier)
     × (spatial_after (Line (Known f) line ∷ earlier) ≡ spatial_after earlier))
     (refl, refl) (refl, refl) (refl, refl) (refl, refl) (refl, refl) (refl, refl) (refl, refl) (refl, refl)
     (refl, refl) (refl, refl) (refl, refl) (refl, refl) (refl, refl)

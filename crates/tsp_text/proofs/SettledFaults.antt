@@ -23,7 +23,7 @@ use Rattle.tsp_text.specs.Items.{Item, Line, NumberWord, LineEnd, items_of, sett
 use Rattle.tsp_text.specs.Earlier.{open_section, words_of}
 use Rattle.tsp_text.specs.Places.{Place, NodeAfter, Coordinate, Amount, PastGroups, DepotAfter, FirstAfter, SecondOf, PastEnd, Weight, PastWeights, TourNode, SetNode, StepAfter, IndexAfter}
 use Rattle.tsp_text.specs.Values.{spatial_after}
-use Rattle.tsp_text.specs.Sections.{place_in, nodes_of}
+use Rattle.tsp_text.specs.Sections.{place_in, dimension_in}
 use Rattle.tsp_text.specs.Rows.{when, first_row, row_of, word_fault}
 use Rattle.tsp_text.specs.FirstFault.{fault_here, fault_in, IsClean}
 use Rattle.tsp_text.specs.Spells.{fault_at_end}
@@ -90,7 +90,7 @@ same_word_row : (earlier : List Item) (word next : List ℕ) (opened : Option Fi
     → row_of earlier (NumberWord word) ≡ row_of earlier (NumberWord next)
 same_word_row earlier word next None long also e = rw e refl
 same_word_row earlier word next (Some f) long also e =
-    let n = nodes_of earlier in
+    let n = dimension_in earlier in
     let place = place_in (spatial_after earlier) f n (words_of f earlier) in
     word_rows earlier word f e ∙ long_fault n place word long ∙ sym (word_rows earlier next f e ∙ long_fault n place next also)
 

@@ -2,7 +2,7 @@
 use Rattle.std.proofs.Common.{◌≡◌, ℕ, ◌-◌, ◌*◌, List, [], ◌∷◌, ◌++◌, length, map, refl, ap, ◌∙◌, arith, inl, inr}
 use Rattle.std.specs.Prelude.{◌⊎◌}
 use Rattle.std.proofs.lemmas.List.{map_push}
-use Rattle.tsp_text.specs.Groups.{pairs_in, triples_in, fours_in, begun_pair, begun_triple, begun_four}
+use Rattle.tsp_text.specs.Groups.{pairs_in, threes_in, fours_in, begun_pair, begun_triple, begun_four}
 use Rattle.tsp_text.proofs.TripleWords.{triples_begin, begun_begin}
 use Rattle.tsp_text.proofs.FourWords.{fours_begin, begun_begin as begun_begin_four}
 use Rattle.tsp_text.proofs.ValidLists.{pair_begins, pair_ends, begun_short}
@@ -52,7 +52,7 @@ pair_shape = record { no_firsts = refl; none_begun = refl; starts = pair_starts;
 -- ---- threes
 
 abbrev pub triple_firsts : Words → Words
-triple_firsts words = map (λ group. group.0) (triples_in words)
+triple_firsts words = map (λ group. group.0) (threes_in words)
 
 triple_starts : (words : Words) (word : List ℕ) → begun_triple words ≡ [] → (triple_firsts (words ++ word ∷ []) ≡ triple_firsts words) × (begun_triple (words ++ word ∷ []) ≡ word ∷ [])
 triple_starts words word e =

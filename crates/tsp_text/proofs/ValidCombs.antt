@@ -14,8 +14,8 @@ use Rattle.tsp_text.specs.Items.{Item}
 use Rattle.tsp_text.specs.Earlier.{words_of}
 use Rattle.tsp_text.specs.Numbers.{number, is_end}
 use Rattle.tsp_text.specs.Places.{SetNode, PastEnd}
-use Rattle.tsp_text.specs.Combs.{CombsSoFar, no_combs, comb_node, with_end, with_comb_word, combs_after, combs_in, has_begun_comb, place_in_combs}
-use Rattle.tsp_text.specs.Sections.{nodes_of}
+use Rattle.tsp_text.specs.Combs.{CombsSoFar, no_combs, comb_node, with_end, with_comb_word, combs_after, whole_combs, has_begun_comb, place_in_combs}
+use Rattle.tsp_text.specs.Sections.{dimension_in}
 use Rattle.tsp_text.specs.FirstFault.{IsClean}
 use Rattle.tsp_text.specs.Rows.{is_past_combs, word_fault}
 use Rattle.tsp_text.proofs.ValidRows.{is_taken}
@@ -127,10 +127,10 @@ all_taken = record {
   any_nodes = λ n m words tours held. absurd (false≢true tours);
 }
 
-pub combs_fit : (items : List Item) → IsClean items → are_combs (nodes_of items) (combs_in (nodes_of items) (words_of CombPart items)) ≡ true
+pub combs_fit : (items : List Item) → IsClean items → are_combs (dimension_in items) (whole_combs (dimension_in items) (words_of CombPart items)) ≡ true
 combs_fit items clean =
-    let n = nodes_of items in
-    let combs = combs_in n (words_of CombPart items) in
+    let n = dimension_in items in
+    let combs = whole_combs n (words_of CombPart items) in
     let h : AreSoFar n (combs_after n (words_of CombPart items)) = grown CombPart (λ n words. AreSoFar n (combs_after n words)) refl all_taken items clean in
     and_from (nat_le (length combs) most_combs && list_all (is_comb n) combs) (nat_le (sum_by (sum_by length) combs) most_comb_nodes)
     (and_from (nat_le (length combs) most_combs) (list_all (is_comb n) combs) (le-leb (length combs) most_combs h.few) h.all_combs)

@@ -11,7 +11,7 @@ use Rattle.tsp_format.specs.Bytes.{is_blank, is_letter, is_keyword_byte}
 use Rattle.tsp_format.specs.Limits.{most_line_bytes, most_file_bytes}
 use Rattle.tsp_text.specs.Lines.{ends_line, lines_of, words_in, without_start, without_end, begins, is_word_line, keyword_in, after_keyword, has_colon, value_in}
 use Rattle.tsp_text.specs.Items.{Item, NumberWord, LineEnd, line_item, items_in, items_by, items_of, settled_words, settled_in, settled_items, is_end_line, to_end_line}
-use Rattle.tsp_text.specs.Cuts.{is_one_line, IsCut, AreCut}
+use Rattle.tsp_text.specs.Cuts.{has_no_line_end, IsCut, AreCut}
 use Rattle.tsp_text.specs.Text.{part, is_too_long}
 use Rattle.tsp_text.proofs.ValidNumbers.{all_pass}
 use Rattle.tsp_text.proofs.ValidTours.{pieces_pass}
@@ -86,18 +86,18 @@ last_of_reverse (b ∷ bytes) =
 end_filled : (bytes : List ℕ) → is_blank (slice_index (without_end bytes) (length (without_end bytes) - 1)) ≡ false
 end_filled bytes = ap is_blank (last_of_reverse (without_start (reverse bytes))) ∙ start_filled (reverse bytes)
 
-one_line_value : (text : List ℕ) → is_one_line text ≡ true → is_one_line (value_in text) ≡ true
+one_line_value : (text : List ℕ) → has_no_line_end text ≡ true → has_no_line_end (value_in text) ≡ true
 one_line_value text one =
     let test : ℕ → Bool = λ b. not (ends_line b) in
-    let after : is_one_line (after_keyword text) ≡ true = drop_passes test _ (drop (prefix_len is_keyword_byte text) text) (drop_passes test (prefix_len is_keyword_byte text) text one) in
+    let after : has_no_line_end (after_keyword text) ≡ true = drop_passes test _ (drop (prefix_len is_keyword_byte text) text) (drop_passes test (prefix_len is_keyword_byte text) text one) in
     let rest = drop (cond (has_colon text) 1 0) (after_keyword text) in
-    let value : is_one_line (without_start rest) ≡ true = drop_passes test (prefix_len is_blank rest) rest (drop_passes test (cond (has_colon text) 1 0) (after_keyword text) after) in
+    let value : has_no_line_end (without_start rest) ≡ true = drop_passes test (prefix_len is_blank rest) rest (drop_passes test (cond (has_colon text) 1 0) (after_keyword text) after) in
     reverse_passes test (without_start (reverse (without_start rest)))
     (drop_passes test (prefix_len is_blank (reverse (without_start rest))) (reverse (without_start rest)) (reverse_passes test (without_start rest) value))
 
 -- ---- items
 
-pub line_cut : (text : List ℕ) → begins is_letter text ≡ true → is_one_line text ≡ true → IsCut (line_item text)
+pub line_cut : (text : List ℕ) → begins is_letter text ≡ true → has_no_line_end text ≡ true → IsCut (line_item text)
 line_cut text letter one =
     let start = without_start (drop (cond (has_colon text) 1 0) (after_keyword text)) in
     record {
@@ -119,32 +119,32 @@ append_cut [] more cut rest = rest
 append_cut (item ∷ items) more cut rest = (cut.0, append_cut items more cut.1 rest)
 
 -- a word line's text
-text_cut : (line : List ℕ) → is_word_line line ≡ true → is_one_line line ≡ true → IsCut (line_item (without_start line))
+text_cut : (line : List ℕ) → is_word_line line ≡ true → has_no_line_end line ≡ true → IsCut (line_item (without_start line))
 text_cut line word one = line_cut (without_start line) word (drop_passes (λ b. not (ends_line b)) (prefix_len is_blank line) line one)
 
-in_line_cut : (line : List ℕ) (b : Bool) → is_word_line line ≡ b → is_one_line line ≡ true → AreCut (cond b (line_item (without_start line) ∷ []) (map (λ word. NumberWord word) (words_in line)))
+in_line_cut : (line : List ℕ) (b : Bool) → is_word_line line ≡ b → has_no_line_end line ≡ true → AreCut (cond b (line_item (without_start line) ∷ []) (map (λ word. NumberWord word) (words_in line)))
 in_line_cut line true word one = (text_cut line word one, tt)
 in_line_cut line false word one = words_cut (words_in line)
 
-settled_cut : (line : List ℕ) (b long : Bool) → is_word_line line ≡ b → is_one_line line ≡ true
+settled_cut : (line : List ℕ) (b long : Bool) → is_word_line line ≡ b → has_no_line_end line ≡ true
     → AreCut (cond b (cond long (line_item (without_start line) ∷ []) []) (map (λ word. NumberWord word) (settled_words line)))
 settled_cut line true true word one = (text_cut line word one, tt)
 settled_cut line true false word one = tt
 settled_cut line false long word one = words_cut (settled_words line)
 
-by_lines_cut : (last : List ℕ → List Item) → ((line : List ℕ) → is_one_line line ≡ true → AreCut (last line)) → (lines : List (List ℕ))
-    → list_all is_one_line lines ≡ true → AreCut (items_by last lines)
+by_lines_cut : (last : List ℕ → List Item) → ((line : List ℕ) → has_no_line_end line ≡ true → AreCut (last line)) → (lines : List (List ℕ))
+    → list_all has_no_line_end lines ≡ true → AreCut (items_by last lines)
 by_lines_cut last each [] one = tt
-by_lines_cut last each (line ∷ []) one = each line (and_parts (is_one_line line) true one).0
+by_lines_cut last each (line ∷ []) one = each line (and_parts (has_no_line_end line) true one).0
 by_lines_cut last each (line ∷ next ∷ lines) one =
-    let both = and_parts (is_one_line line) (list_all is_one_line (next ∷ lines)) one in
+    let both = and_parts (has_no_line_end line) (list_all has_no_line_end (next ∷ lines)) one in
     append_cut (items_in line) (LineEnd ∷ items_by last (next ∷ lines)) (in_line_cut line (is_word_line line) refl both.0) (tt, by_lines_cut last each (next ∷ lines) both.1)
 
 ends_or_not : (b : Bool) → (b || not b) ≡ true
 ends_or_not true = refl
 ends_or_not false = refl
 
-lines_one : (bytes : List ℕ) → list_all is_one_line (lines_of bytes) ≡ true
+lines_one : (bytes : List ℕ) → list_all has_no_line_end (lines_of bytes) ≡ true
 lines_one bytes = pieces_pass ends_line (λ b. not (ends_line b)) bytes (all_pass (λ b. ends_line b || not (ends_line b)) bytes (λ b. ends_or_not (ends_line b)))
 
 pub items_cut : (bytes : List ℕ) → AreCut (items_of bytes)

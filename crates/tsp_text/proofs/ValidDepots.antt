@@ -12,7 +12,7 @@ use Rattle.tsp_text.specs.Earlier.{words_of}
 use Rattle.tsp_text.specs.Numbers.{number, node_or_end, is_end}
 use Rattle.tsp_text.specs.Places.{DepotAfter, PastEnd}
 use Rattle.tsp_text.specs.Lists.{before, depots_in}
-use Rattle.tsp_text.specs.Sections.{nodes_of}
+use Rattle.tsp_text.specs.Sections.{dimension_in}
 use Rattle.tsp_text.specs.FirstFault.{IsClean}
 use Rattle.tsp_text.specs.Rows.{word_fault}
 use Rattle.tsp_text.proofs.Ended.{before_kept, before_none, before_end, before_push}
@@ -56,5 +56,5 @@ all_taken = record {
   any_nodes = λ n m words tours held. absurd (false≢true tours);
 }
 
-pub depots_fit : (items : List Item) → IsClean items → are_depots (nodes_of items) (depots_in (nodes_of items) (words_of DepotPart items)) ≡ true
+pub depots_fit : (items : List Item) → IsClean items → are_depots (dimension_in items) (depots_in (dimension_in items) (words_of DepotPart items)) ≡ true
 depots_fit items clean = grown DepotPart AreListed refl all_taken items clean

@@ -17,19 +17,19 @@ use Rattle.tsp_draft.specs.Validity.{if_there, is_by_node, is_point, is_demand, 
 use Rattle.tsp_text.specs.Items.{Item, has_end_line}
 use Rattle.tsp_text.specs.Earlier.{same_field, has_line, words_of}
 use Rattle.tsp_text.specs.Cuts.{AreCut}
-use Rattle.tsp_text.specs.Sections.{nodes_of}
+use Rattle.tsp_text.specs.Sections.{dimension_in}
 use Rattle.tsp_text.specs.Values.{spatial_after}
 use Rattle.tsp_text.specs.Groups.{points_by_node, coords_by_node}
 use Rattle.tsp_draft.proofs.ValidFields.{nodes_fit}
 use Rattle.tsp_text.specs.Lists.{depots_in, fixed_in, fixed_triples_in}
 use Rattle.tsp_text.specs.Weights.{weights_in}
 use Rattle.tsp_text.specs.Tours.{tours_in}
-use Rattle.tsp_text.specs.Combs.{combs_in}
-use Rattle.tsp_text.specs.Tree.{steps_in, place_of_step}
+use Rattle.tsp_text.specs.Combs.{whole_combs}
+use Rattle.tsp_text.specs.Tree.{whole_steps, place_of_step}
 use Rattle.tsp_text.specs.FirstFault.{fault_in, IsClean}
 use Rattle.tsp_text.specs.declared.fault.ReadFault.TheVariants as faults
 use Rattle.tsp_text.specs.Rows.{when}
-use Rattle.tsp_text.specs.Spells.{potentials_in, demands_in, spelled, wants_more, is_incomplete, sections_in_order, first_incomplete, fault_at_end}
+use Rattle.tsp_text.specs.Spells.{potentials_by_node, demands_in, spelled, wants_more, is_incomplete, sections_in_order, first_incomplete, fault_at_end}
 use Rattle.tsp_text.specs.Text.{is_too_long, part, Spells}
 use Rattle.tsp_text.proofs.ValidRows.{none_applies, map_none}
 use Rattle.tsp_text.proofs.ValidCuts.{part_cut}
@@ -49,7 +49,7 @@ tours_there : (items : List Item) (b : Bool) → IsClean items → if_there are_
 tours_there items true clean = tours_fit items clean
 tours_there items false clean = refl
 
-potentials_fit : (n : ℕ) (words : List (List ℕ)) → is_by_node (is_within most_potential) n (potentials_in n words) ≡ true
+potentials_fit : (n : ℕ) (words : List (List ℕ)) → is_by_node (is_within most_potential) n (potentials_by_node n words) ≡ true
 potentials_fit n words = numbers_fit (neg_ℤ (pos most_potential)) (pos most_potential) n words refl
 
 -- a section that isn't incomplete wants no more words
@@ -72,26 +72,26 @@ each_fits items cut clean whole NodeCoordTypeKey = refl
 each_fits items cut clean whole DisplayDataTypeKey = refl
 each_fits items cut clean whole NodeCoordPart =
     let in_space = spatial_after items in
-    nodes_fit (spelled items) in_space ∙ section_fits (is_by_node (is_point in_space)) (coords_by_node in_space (nodes_of items)) NodeCoordPart refl refl items clean
-    (λ there. coords_fit in_space (nodes_of items) (words_of NodeCoordPart items))
-each_fits items cut clean whole DisplayDataPart = section_fits (is_by_node (is_point false)) (points_by_node (nodes_of items)) DisplayDataPart refl refl items clean
-    (λ there. points_fit (nodes_of items) (words_of DisplayDataPart items))
-each_fits items cut clean whole DemandPart = section_fits (is_by_node is_demand) (demands_in (nodes_of items)) DemandPart refl refl items clean
-    (λ there. numbers_fit (pos 0) (pos most_demand) (nodes_of items) (words_of DemandPart items) refl)
-each_fits items cut clean whole DepotPart = section_fits are_depots (depots_in (nodes_of items)) DepotPart refl refl items clean (λ there. depots_fit items clean)
-each_fits items cut clean whole FixedEdgesPart = section_fits are_fixed (fixed_in (nodes_of items)) FixedEdgesPart refl refl items clean (λ there. fixed_fit items clean)
+    nodes_fit (spelled items) in_space ∙ section_fits (is_by_node (is_point in_space)) (coords_by_node in_space (dimension_in items)) NodeCoordPart refl refl items clean
+    (λ there. coords_fit in_space (dimension_in items) (words_of NodeCoordPart items))
+each_fits items cut clean whole DisplayDataPart = section_fits (is_by_node (is_point false)) (points_by_node (dimension_in items)) DisplayDataPart refl refl items clean
+    (λ there. points_fit (dimension_in items) (words_of DisplayDataPart items))
+each_fits items cut clean whole DemandPart = section_fits (is_by_node is_demand) (demands_in (dimension_in items)) DemandPart refl refl items clean
+    (λ there. numbers_fit (pos 0) (pos most_demand) (dimension_in items) (words_of DemandPart items) refl)
+each_fits items cut clean whole DepotPart = section_fits are_depots (depots_in (dimension_in items)) DepotPart refl refl items clean (λ there. depots_fit items clean)
+each_fits items cut clean whole FixedEdgesPart = section_fits are_fixed (fixed_in (dimension_in items)) FixedEdgesPart refl refl items clean (λ there. fixed_fit items clean)
 each_fits items cut clean whole EdgeWeightPart = section_fits are_weights weights_in EdgeWeightPart refl refl items clean (λ there. weights_fit items clean there)
 each_fits items cut clean whole TourPart = tours_there items (has_line TourPart items) clean
-each_fits items cut clean whole NodePotentialPart = section_fits (is_by_node (is_within most_potential)) (potentials_in (nodes_of items)) NodePotentialPart refl refl
-    items clean (λ there. potentials_fit (nodes_of items) (words_of NodePotentialPart items))
-each_fits items cut clean whole RowPotentialPart = section_fits (is_by_node (is_within most_potential)) (potentials_in (nodes_of items)) RowPotentialPart refl refl
-    items clean (λ there. potentials_fit (nodes_of items) (words_of RowPotentialPart items))
-each_fits items cut clean whole ColumnPotentialPart = section_fits (is_by_node (is_within most_potential)) (potentials_in (nodes_of items)) ColumnPotentialPart refl
-    refl items clean (λ there. potentials_fit (nodes_of items) (words_of ColumnPotentialPart items))
-each_fits items cut clean whole FixedEdgePotentialPart = section_fits are_triples (fixed_triples_in (nodes_of items)) FixedEdgePotentialPart refl refl items clean (λ there. triples_fit items clean)
-each_fits items cut clean whole CombPart = section_fits are_combs (combs_in (nodes_of items)) CombPart refl refl items clean (λ there. combs_fit items clean)
-each_fits items cut clean whole BranchPart = section_fits are_steps (steps_in (nodes_of items)) BranchPart refl refl items clean
-    (λ there. steps_fit items clean (wants_none (has_line BranchPart items) (wants_more (place_of_step (nodes_of items) (words_of BranchPart items))) there whole))
+each_fits items cut clean whole NodePotentialPart = section_fits (is_by_node (is_within most_potential)) (potentials_by_node (dimension_in items)) NodePotentialPart refl refl
+    items clean (λ there. potentials_fit (dimension_in items) (words_of NodePotentialPart items))
+each_fits items cut clean whole RowPotentialPart = section_fits (is_by_node (is_within most_potential)) (potentials_by_node (dimension_in items)) RowPotentialPart refl refl
+    items clean (λ there. potentials_fit (dimension_in items) (words_of RowPotentialPart items))
+each_fits items cut clean whole ColumnPotentialPart = section_fits (is_by_node (is_within most_potential)) (potentials_by_node (dimension_in items)) ColumnPotentialPart refl
+    refl items clean (λ there. potentials_fit (dimension_in items) (words_of ColumnPotentialPart items))
+each_fits items cut clean whole FixedEdgePotentialPart = section_fits are_triples (fixed_triples_in (dimension_in items)) FixedEdgePotentialPart refl refl items clean (λ there. triples_fit items clean)
+each_fits items cut clean whole CombPart = section_fits are_combs (whole_combs (dimension_in items)) CombPart refl refl items clean (λ there. combs_fit items clean)
+each_fits items cut clean whole BranchPart = section_fits are_steps (whole_steps (dimension_in items)) BranchPart refl refl items clean
+    (λ there. steps_fit items clean (wants_none (has_line BranchPart items) (wants_more (place_of_step (dimension_in items) (words_of BranchPart items))) there whole))
 
 none_fails : (test : Field → Bool) (fields : List Field) → ((field : Field) → test field ≡ true) → first_failing test fields ≡ None
 none_fails test [] each = refl

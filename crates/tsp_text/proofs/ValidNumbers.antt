@@ -21,7 +21,7 @@ use Rattle.tsp_format.specs.Limits.{most_coordinate}
 use Rattle.tsp_draft.specs.Coords.{origin}
 use Rattle.tsp_draft.specs.Validity.{is_from_to, is_within, is_node, is_by_node, is_point}
 use Rattle.tsp_text.specs.Numbers.{number, reads_as, node, not_zero, node_or_end, is_end}
-use Rattle.tsp_text.specs.Groups.{pairs_in, triples_in, number_groups, point_of, point_groups, entry_of, by_node, numbers_by_node, points_by_node, fours_in, space_point_of, space_point_groups, space_points_by_node, coords_by_node}
+use Rattle.tsp_text.specs.Groups.{pairs_in, threes_in, number_groups, point_in_words, point_groups, entry_of, by_node, numbers_by_node, points_by_node, fours_in, space_point_of, space_point_groups, space_points_by_node, coords_by_node}
 use Rattle.std.proofs.Math.ListN.{take}
 
 -- ---- tests of lists
@@ -115,14 +115,14 @@ numbers_fit low high n words zero_passes = by_node_fits (is_from_to low high) (p
     (list_all-map (λ (group : ℤ × ℤ). is_from_to low high group.1) (λ (group : List ℕ × List ℕ). (number (node n group.0), number (whole_of group.1 low high))) (pairs_in (take (2 * n) words))
     ∙ all_pass (λ (group : List ℕ × List ℕ). is_from_to low high (number (whole_of group.1 low high))) (pairs_in (take (2 * n) words)) (λ group. whole_passes low high group.1 zero_passes))
 
-point_fits : (x y : List ℕ) → is_point false (point_of x y) ≡ true
+point_fits : (x y : List ℕ) → is_point false (point_in_words x y) ≡ true
 point_fits x y = and_from (is_within most_coordinate (number (decimal_of x)) && is_within most_coordinate (number (decimal_of y))) true
     (and_from (is_within most_coordinate (number (decimal_of x))) (is_within most_coordinate (number (decimal_of y))) (decimal_passes x) (decimal_passes y)) refl
 
 pub points_fit : (n : ℕ) (words : List (List ℕ)) → is_by_node (is_point false) n (points_by_node n words) ≡ true
 points_fit n words = by_node_fits (is_point false) origin n (point_groups n words) refl
-    (list_all-map (λ (group : ℤ × Point). is_point false group.1) (λ (group : List ℕ × List ℕ × List ℕ). (number (node n group.0), point_of group.1 group.2)) (triples_in (take (3 * n) words))
-    ∙ all_pass (λ (group : List ℕ × List ℕ × List ℕ). is_point false (point_of group.1 group.2)) (triples_in (take (3 * n) words)) (λ group. point_fits group.1 group.2))
+    (list_all-map (λ (group : ℤ × Point). is_point false group.1) (λ (group : List ℕ × List ℕ × List ℕ). (number (node n group.0), point_in_words group.1 group.2)) (threes_in (take (3 * n) words))
+    ∙ all_pass (λ (group : List ℕ × List ℕ × List ℕ). is_point false (point_in_words group.1 group.2)) (threes_in (take (3 * n) words)) (λ group. point_fits group.1 group.2))
 
 -- with three coordinates each
 space_point_fits : (x y z : List ℕ) → is_point true (space_point_of x y z) ≡ true

@@ -17,7 +17,7 @@ use Rattle.tsp_text.specs.Items.{WordLine, Item, Line, NumberWord, LineEnd}
 use Rattle.tsp_format.specs.Shapes.{is_section_field}
 use Rattle.tsp_text.specs.Earlier.{same_field, has_line, open_section, words_of}
 use Rattle.tsp_text.specs.Values.{read_as, dimension_of}
-use Rattle.tsp_text.specs.Sections.{nodes_of}
+use Rattle.tsp_text.specs.Sections.{dimension_in}
 use Rattle.tsp_text.specs.Rows.{row_of, may_repeat, is_repeated}
 use Rattle.tsp_text.specs.FirstFault.{IsClean}
 use Rattle.tsp_text.proofs.ValidRows.{clean_parts, no_row}
@@ -58,13 +58,13 @@ opened_late (Line Unknown line ∷ earlier) clean g opened other = absurd (none-
 
 -- once DIMENSION stands, the number of nodes stays
 known_nodes : (f : Field) (line : WordLine) (earlier : List Item) (b : Bool) → same_field DimensionKey f ≡ b → has_line DimensionKey earlier ≡ true
-    → is_repeated earlier (Line (Known f) line) ≡ false → nodes_of (Line (Known f) line ∷ earlier) ≡ nodes_of earlier
+    → is_repeated earlier (Line (Known f) line) ≡ false → dimension_in (Line (Known f) line ∷ earlier) ≡ dimension_in earlier
 known_nodes f line earlier false e known first = rw e refl
 known_nodes f line earlier true e known first =
     let again : has_line DimensionKey earlier ≡ false = subst (λ (g : Field). (not (may_repeat g) && has_line g earlier) ≡ false) (sym (same_field_is DimensionKey f e)) first in
     absurd (true≢false (sym known ∙ again))
 
-pub nodes_kept : (earlier : List Item) (item : Item) → has_line DimensionKey earlier ≡ true → row_of earlier item ≡ None → nodes_of (item ∷ earlier) ≡ nodes_of earlier
+pub nodes_kept : (earlier : List Item) (item : Item) → has_line DimensionKey earlier ≡ true → row_of earlier item ≡ None → dimension_in (item ∷ earlier) ≡ dimension_in earlier
 nodes_kept earlier (NumberWord word) known row = refl
 nodes_kept earlier LineEnd known row = refl
 nodes_kept earlier (Line (Known f) line) known row = known_nodes f line earlier (same_field DimensionKey f) refl known (no_row earlier (Line (Known f) line) row).first_time
@@ -103,7 +103,7 @@ there : (o : Option ℕ) → is_some o ≡ true → o ≡ Some (unwrap_or o 0)
 there None e = absurd (false≢true e)
 there (Some n) e = refl
 
-pub dimension_there : (items : List Item) → IsClean items → has_line DimensionKey items ≡ true → dimension_of items ≡ Some (nodes_of items)
+pub dimension_there : (items : List Item) → IsClean items → has_line DimensionKey items ≡ true → dimension_of items ≡ Some (dimension_in items)
 dimension_there items clean known = there (dimension_of items) (some_dimension items clean known)
 
 -- ---- a section's words

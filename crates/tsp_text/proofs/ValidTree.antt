@@ -14,13 +14,13 @@ use Rattle.tsp_number.specs.declared.fault.NumberFault.{NumberFault}
 use Rattle.tsp_format.specs.declared.field.Field.TheVariants.{BranchPart}
 use Rattle.tsp_format.specs.Limits.{most_combs, most_branches, most_changes, most_difference}
 use Rattle.tsp_format.specs.Steps.{Step, Branch, Leaf, are_whole, branch_count, change_count}
-use Rattle.tsp_draft.specs.Validity.{is_from_to, is_within, is_node, is_pair, is_change, is_step, are_steps}
+use Rattle.tsp_draft.specs.Validity.{is_from_to, is_within, is_node, is_node_pair, is_change, is_step, are_steps}
 use Rattle.tsp_text.specs.Items.{Item}
 use Rattle.tsp_text.specs.Earlier.{words_of}
-use Rattle.tsp_text.specs.Numbers.{number, reads_as, node, sized}
+use Rattle.tsp_text.specs.Numbers.{number, reads_as, node, whole_of_size}
 use Rattle.tsp_text.specs.Places.{StepAfter, SecondOf, IndexAfter, PastGroups}
-use Rattle.tsp_text.specs.Tree.{TreeSoFar, no_steps, node_or_leaf, begins_leaf, index_or_end, ends_leaf, with_word_of, with_tree_word, tree_after, steps_in, place_in_step, place_in_tree, place_of_step}
-use Rattle.tsp_text.specs.Sections.{nodes_of}
+use Rattle.tsp_text.specs.Tree.{TreeSoFar, no_steps, node_or_leaf, begins_leaf, index_or_end, ends_leaf, with_word_of, with_tree_word, tree_after, whole_steps, place_in_step, place_in_tree, place_of_step}
+use Rattle.tsp_text.specs.Sections.{dimension_in}
 use Rattle.tsp_text.specs.FirstFault.{IsClean}
 use Rattle.tsp_text.specs.Rows.{word_fault}
 use Rattle.tsp_text.specs.Spells.{wants_more}
@@ -138,7 +138,7 @@ second_holds n s word first left some row h out =
     let apart = differ first found.0 (rw found.1 at t.other_node) in
     let second = nat_abs (number (node n word)) in
     let is : second ≡ found.0 = ap (λ r. nat_abs (number r)) found.1 in
-    let pair : is_pair n (first, second) ≡ true = rw is (and_from (is_node n first && is_node n found.0) (not (first == found.0))
+    let pair : is_node_pair n (first, second) ≡ true = rw is (and_from (is_node n first && is_node n found.0) (not (first == found.0))
     (and_from (is_node n first) (is_node n found.0) h.begun found.2) (not_from_false (first == found.0) apart)) in
     let one_more : s.to_come + 1 ≡ suc (suc left) = omega (arith, some) in
     let held : StepsHold n (s.steps ++ Branch first second ∷ []) None false s.leaf (s.to_come + 1) s.branches s.changes = record {
@@ -190,7 +190,7 @@ index_holds n s word left false some is row h none inside =
 difference_holds : (n : ℕ) (s : TreeSoFar) (word : List ℕ) (index : ℕ) → StepsHold n s.steps (Some index) true s.leaf s.to_come s.branches s.changes → s.in_leaf ≡ true
     → AreSoFar n (with_word_of n true (Some index) s word)
 difference_holds n s word index h inside =
-    let z = number (sized most_difference word) in
+    let z = number (whole_of_size most_difference word) in
     let one : ℕ × ℤ = (index, z) in
     let change : is_change n one ≡ true = and_from (is_node (n + most_combs) index) (is_within most_difference z) h.begun
     (whole_passes (neg_ℤ (pos most_difference)) (pos most_difference) word refl) in
@@ -259,10 +259,10 @@ none_to_come : (count : ℕ) → (count == 0) ≡ true → count ≡ 0
 none_to_come zero e = refl
 none_to_come (suc count) e = grind (arith, nat_tests)
 
-pub steps_fit : (items : List Item) → IsClean items → wants_more (place_of_step (nodes_of items) (words_of BranchPart items)) ≡ false
-    → are_steps (nodes_of items) (steps_in (nodes_of items) (words_of BranchPart items)) ≡ true
+pub steps_fit : (items : List Item) → IsClean items → wants_more (place_of_step (dimension_in items) (words_of BranchPart items)) ≡ false
+    → are_steps (dimension_in items) (whole_steps (dimension_in items) (words_of BranchPart items)) ≡ true
 steps_fit items clean ended =
-    let n = nodes_of items in
+    let n = dimension_in items in
     let s = tree_after n (words_of BranchPart items) in
     let h : AreSoFar n s = grown BranchPart (λ n words. AreSoFar n (tree_after n words)) refl all_taken items clean in
     let none = none_to_come s.to_come (whole_at_end (s.to_come == 0) s.in_leaf s.first s ended) in

@@ -8,14 +8,14 @@ use Rattle.std.proofs.lemmas.List.{length-map, map_push}
 use Rattle.tsp_number.specs.Reading.{whole_of}
 use Rattle.tsp_format.specs.declared.field.Field.TheVariants.{FixedEdgePotentialPart}
 use Rattle.tsp_format.specs.Limits.{most_fixed, most_multipliers, most_multiplier}
-use Rattle.tsp_draft.specs.Validity.{is_from_to, is_pair, is_triple, are_triples}
+use Rattle.tsp_draft.specs.Validity.{is_from_to, is_node_pair, is_triple, are_triples}
 use Rattle.tsp_text.specs.Items.{Item}
 use Rattle.tsp_text.specs.Earlier.{words_of}
 use Rattle.tsp_text.specs.Numbers.{number, node_or_end, is_end}
 use Rattle.tsp_text.specs.Places.{FirstAfter, SecondOf, PastEnd}
-use Rattle.tsp_text.specs.Groups.{triples_in, begun_triple}
+use Rattle.tsp_text.specs.Groups.{threes_in, begun_triple}
 use Rattle.tsp_text.specs.Lists.{before, fixed_triple, fixed_triples_in, triple_firsts_in, place_in_triple}
-use Rattle.tsp_text.specs.Sections.{nodes_of}
+use Rattle.tsp_text.specs.Sections.{dimension_in}
 use Rattle.tsp_text.specs.FirstFault.{IsClean}
 use Rattle.tsp_text.specs.Rows.{word_fault}
 use Rattle.tsp_text.proofs.Ended.{any_push}
@@ -33,15 +33,15 @@ ends_triples n triple = is_end n triple.0
 -- the words of a triple that has begun: a node, or two different ones
 abbrev IsBegun : ℕ → List ℕ → List (List ℕ) → Type 0
 IsBegun n first [] = (result_err (node_or_end n first) ≡ None) × (is_end n first ≡ false)
-IsBegun n first (second ∷ rest) = is_pair n (pair_of n (first, second)) ≡ true
+IsBegun n first (second ∷ rest) = is_node_pair n (pair_of n (first, second)) ≡ true
 
 -- the whole triples are valid, and so are the words of one that has begun, with room for the triple
 pub record AreTripled (n : ℕ) (words : List (List ℕ)) : Type 0 where
   pub triples : are_triples n (fixed_triples_in n words) ≡ true
   pub begun : list_any (is_end n) (triple_firsts_in words) ≡ false → (first : List ℕ) (rest : List (List ℕ)) → begun_triple words ≡ first ∷ rest
-      → IsBegun n first rest × (nat_le most_fixed (length (triples_in words)) ≡ false)
+      → IsBegun n first rest × (nat_le most_fixed (length (threes_in words)) ≡ false)
 
-same_triples : (n : ℕ) (words more : List (List ℕ)) → before (ends_triples n) (triples_in more) ≡ before (ends_triples n) (triples_in words)
+same_triples : (n : ℕ) (words more : List (List ℕ)) → before (ends_triples n) (threes_in more) ≡ before (ends_triples n) (threes_in words)
     → are_triples n (fixed_triples_in n words) ≡ true → are_triples n (fixed_triples_in n more) ≡ true
 same_triples n words more same held = ap (λ (triples : List (List ℕ × List ℕ × List ℕ)). are_triples n (map (fixed_triple n) triples)) same ∙ held
 
@@ -62,9 +62,9 @@ past_end n words word ended held = record {
 
 -- the first node
 begins : (n : ℕ) (words : List (List ℕ)) (word : List ℕ) → list_any (is_end n) (triple_firsts_in words) ≡ false → begun_triple words ≡ []
-    → word_fault n (FirstAfter (length (triples_in words))) word ≡ None → AreTripled n words → AreTripled n (words ++ word ∷ [])
+    → word_fault n (FirstAfter (length (threes_in words))) word ≡ None → AreTripled n words → AreTripled n (words ++ word ∷ [])
 begins n words word open_ended is row held =
-    let t = is_taken n (FirstAfter (length (triples_in words))) word row in
+    let t = is_taken n (FirstAfter (length (threes_in words))) word row in
     let same = triples_begin words word is in
     let end = sym (any_push (is_end n) (triple_firsts_in words) word open_ended) ∙ sym (ap (list_any (is_end n)) (firsts_begin words word is)) in
     record {
@@ -72,7 +72,7 @@ begins n words word open_ended is row held =
       begun = λ none first rest e. (
         same_begun n (begun_triple (words ++ word ∷ [])) word first [] rest (begun_begin words word is) e (t.is_read, end ∙ none),
         ap (λ (triples : List (List ℕ × List ℕ × List ℕ)). nat_le most_fixed (length triples)) same
-            ∙ first_of_both (nat_le most_fixed (length (triples_in words))) (is_end n word) t.has_room (end ∙ none),
+            ∙ first_of_both (nat_le most_fixed (length (threes_in words))) (is_end n word) t.has_room (end ∙ none),
       );
     }
 
@@ -102,12 +102,12 @@ ends : (n : ℕ) (words : List (List ℕ)) (first second word : List ℕ) → li
 ends n words first second word open_ended is held =
     let begun = held.begun open_ended first (second ∷ []) is in
     let f = fixed_triple n in
-    let triples = triples_in words in
+    let triples = threes_in words in
     let one : List ℕ × List ℕ × List ℕ = (first, second, word) in
     let still : list_any (is_end n) (triple_firsts_in (words ++ word ∷ [])) ≡ false = ap (list_any (is_end n)) (firsts_end words first second word is) ∙ open_ended in
-    let more : before (ends_triples n) (triples_in (words ++ word ∷ [])) ≡ triples ++ one ∷ [] =
+    let more : before (ends_triples n) (threes_in (words ++ word ∷ [])) ≡ triples ++ one ∷ [] =
     triples_none (is_end n) (words ++ word ∷ []) still ∙ triples_end words first second word is in
-    let triple : is_triple n (f one) ≡ true = and_from (is_pair n (pair_of n (first, second))) (is_from_to (pos 0) (pos most_multiplier) (number (whole_of word (pos 0) (pos most_multiplier))))
+    let triple : is_triple n (f one) ≡ true = and_from (is_node_pair n (pair_of n (first, second))) (is_from_to (pos 0) (pos most_multiplier) (number (whole_of word (pos 0) (pos most_multiplier))))
     begun.0 (whole_passes (pos 0) (pos most_multiplier) word refl) in
     let so_far : are_triples n (map f triples) ≡ true =
     ap (λ (ts : List (List ℕ × List ℕ × List ℕ)). are_triples n (map f ts)) (sym (triples_none (is_end n) words open_ended)) ∙ held.triples in
@@ -125,7 +125,7 @@ begun_short (a ∷ b ∷ []) first second third rest e = absurd cc
 begun_short (a ∷ b ∷ c ∷ words) first second third rest e = begun_short words first second third rest e
 
 taken : (n : ℕ) (words : List (List ℕ)) (word : List ℕ) (ended : Bool) (begun : List (List ℕ)) → list_any (is_end n) (triple_firsts_in words) ≡ ended
-    → begun_triple words ≡ begun → word_fault n (cond ended PastEnd (place_in_triple n (length (triples_in words)) begun)) word ≡ None
+    → begun_triple words ≡ begun → word_fault n (cond ended PastEnd (place_in_triple n (length (threes_in words)) begun)) word ≡ None
     → AreTripled n words → AreTripled n (words ++ word ∷ [])
 taken n words word true begun e is row held = past_end n words word e held
 taken n words word false [] e is row held = begins n words word e is row held
@@ -143,7 +143,7 @@ all_taken = record {
   any_nodes = λ n m words tours held. absurd (false≢true tours);
 }
 
-pub triples_fit : (items : List Item) → IsClean items → are_triples (nodes_of items) (fixed_triples_in (nodes_of items) (words_of FixedEdgePotentialPart items)) ≡ true
+pub triples_fit : (items : List Item) → IsClean items → are_triples (dimension_in items) (fixed_triples_in (dimension_in items) (words_of FixedEdgePotentialPart items)) ≡ true
 triples_fit items clean =
-    let held : AreTripled (nodes_of items) (words_of FixedEdgePotentialPart items) = grown FixedEdgePotentialPart AreTripled refl all_taken items clean in
+    let held : AreTripled (dimension_in items) (words_of FixedEdgePotentialPart items) = grown FixedEdgePotentialPart AreTripled refl all_taken items clean in
     held.triples

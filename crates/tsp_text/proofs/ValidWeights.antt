@@ -12,10 +12,10 @@ use Rattle.tsp_format.specs.Limits.{most_matrix_nodes, most_weight}
 use Rattle.tsp_draft.specs.Validity.{is_within, are_weights}
 use Rattle.tsp_text.specs.Items.{WordLine, Item, Line, NumberWord, LineEnd}
 use Rattle.tsp_text.specs.Earlier.{same_field, has_line, words_of}
-use Rattle.tsp_text.specs.Numbers.{number, sized}
+use Rattle.tsp_text.specs.Numbers.{number, whole_of_size}
 use Rattle.tsp_text.specs.Places.{Weight, PastWeights}
 use Rattle.tsp_text.specs.Weights.{weights_in}
-use Rattle.tsp_text.specs.Sections.{nodes_of}
+use Rattle.tsp_text.specs.Sections.{dimension_in}
 use Rattle.tsp_text.specs.Rows.{row_of, word_fault}
 use Rattle.tsp_text.specs.FirstFault.{IsClean}
 use Rattle.tsp_text.proofs.ValidRows.{clean_parts, no_row, is_taken}
@@ -41,19 +41,19 @@ few_weights = record {
 -- ---- no more nodes than a matrix may have
 
 few_at : (f : Field) (line : WordLine) (earlier : List Item) (b : Bool) → same_field EdgeWeightPart f ≡ b → IsClean earlier → row_of earlier (Line (Known f) line) ≡ None
-    → (has_line EdgeWeightPart earlier ≡ true → nat_le (nodes_of earlier) most_matrix_nodes ≡ true) → cond b true (has_line EdgeWeightPart earlier) ≡ true
-    → nat_le (nodes_of (Line (Known f) line ∷ earlier)) most_matrix_nodes ≡ true
+    → (has_line EdgeWeightPart earlier ≡ true → nat_le (dimension_in earlier) most_matrix_nodes ≡ true) → cond b true (has_line EdgeWeightPart earlier) ≡ true
+    → nat_le (dimension_in (Line (Known f) line ∷ earlier)) most_matrix_nodes ≡ true
 few_at f line earlier false e clean row before stands =
     let kept = nodes_kept earlier (Line (Known f) line) (after_dimension EdgeWeightPart refl refl earlier clean stands) row in
     ap (λ n. nat_le n most_matrix_nodes) kept ∙ before stands
 few_at f line earlier true e clean row before stands =
     let same = same_field_is EdgeWeightPart f e in
-    let few : (same_field EdgeWeightPart EdgeWeightPart && nat_lt most_matrix_nodes (nodes_of earlier)) ≡ false =
-    subst (λ (g : Field). (same_field EdgeWeightPart g && nat_lt most_matrix_nodes (nodes_of earlier)) ≡ false) (sym same) (no_row earlier (Line (Known f) line) row).few_nodes in
-    subst (λ (g : Field). nat_le (nodes_of (Line (Known g) line ∷ earlier)) most_matrix_nodes ≡ true) same
-    (le-leb (nodes_of earlier) most_matrix_nodes (ltb-false most_matrix_nodes (nodes_of earlier) few))
+    let few : (same_field EdgeWeightPart EdgeWeightPart && nat_lt most_matrix_nodes (dimension_in earlier)) ≡ false =
+    subst (λ (g : Field). (same_field EdgeWeightPart g && nat_lt most_matrix_nodes (dimension_in earlier)) ≡ false) (sym same) (no_row earlier (Line (Known f) line) row).few_nodes in
+    subst (λ (g : Field). nat_le (dimension_in (Line (Known g) line ∷ earlier)) most_matrix_nodes ≡ true) same
+    (le-leb (dimension_in earlier) most_matrix_nodes (ltb-false most_matrix_nodes (dimension_in earlier) few))
 
-few_nodes : (items : List Item) → IsClean items → has_line EdgeWeightPart items ≡ true → nat_le (nodes_of items) most_matrix_nodes ≡ true
+few_nodes : (items : List Item) → IsClean items → has_line EdgeWeightPart items ≡ true → nat_le (dimension_in items) most_matrix_nodes ≡ true
 few_nodes [] clean stands = absurd (false≢true stands)
 few_nodes (NumberWord word ∷ earlier) clean stands = few_nodes earlier (clean_parts earlier (NumberWord word) clean).0 stands
 few_nodes (LineEnd ∷ earlier) clean stands = few_nodes earlier (clean_parts earlier LineEnd clean).0 stands
@@ -68,14 +68,14 @@ few_nodes (Line Unknown line ∷ earlier) clean stands = few_nodes earlier (clea
 -- ---- together
 
 weights_sized : (words : List (List ℕ)) → list_all (is_within most_weight) (weights_in words) ≡ true
-weights_sized words = list_all-map (is_within most_weight) (λ word. number (sized most_weight word)) words
-    ∙ all_pass (λ word. is_within most_weight (number (sized most_weight word))) words (λ word. whole_passes (neg_ℤ (pos most_weight)) (pos most_weight) word refl)
+weights_sized words = list_all-map (is_within most_weight) (λ word. number (whole_of_size most_weight word)) words
+    ∙ all_pass (λ word. is_within most_weight (number (whole_of_size most_weight word))) words (λ word. whole_passes (neg_ℤ (pos most_weight)) (pos most_weight) word refl)
 
-pub weights_fit : (items : List Item) → IsClean items → has_line EdgeWeightPart items ≡ true → are_weights (nodes_of items) (weights_in (words_of EdgeWeightPart items)) ≡ true
+pub weights_fit : (items : List Item) → IsClean items → has_line EdgeWeightPart items ≡ true → are_weights (dimension_in items) (weights_in (words_of EdgeWeightPart items)) ≡ true
 weights_fit items clean stands =
-    let n = nodes_of items in
+    let n = dimension_in items in
     let words = words_of EdgeWeightPart items in
     let room : nat_le (length words) (n * n) ≡ true = grown EdgeWeightPart (λ n words. nat_le (length words) (n * n) ≡ true) refl few_weights items clean in
-    let size : nat_le (length (weights_in words)) (n * n) ≡ true = ap (λ k. nat_le k (n * n)) (length-map words (λ word. number (sized most_weight word))) ∙ room in
+    let size : nat_le (length (weights_in words)) (n * n) ≡ true = ap (λ k. nat_le k (n * n)) (length-map words (λ word. number (whole_of_size most_weight word))) ∙ room in
     and_from (nat_le n most_matrix_nodes && nat_le (length (weights_in words)) (n * n)) (list_all (is_within most_weight) (weights_in words))
     (and_from (nat_le n most_matrix_nodes) (nat_le (length (weights_in words)) (n * n)) (few_nodes items clean stands) size) (weights_sized words)

@@ -54,8 +54,8 @@ abbrev pub combs_after : ℕ → List (List ℕ) → CombsSoFar
 combs_after n words = fold (with_comb_word n) no_combs words
 
 -- the combs that are whole
-abbrev pub combs_in : ℕ → List (List ℕ) → List (List (List ℕ))
-combs_in n words = (combs_after n words).combs
+abbrev pub whole_combs : ℕ → List (List ℕ) → List (List (List ℕ))
+whole_combs n words = (combs_after n words).combs
 
 -- ---- where the next word stands
 

@@ -8,15 +8,15 @@ use Rattle.tsp_text.specs.Lines.{ends_line}
 use Rattle.tsp_text.specs.Items.{WordLine, Item, Line, NumberWord, LineEnd}
 
 -- no byte ends a line
-abbrev pub is_one_line : List ℕ → Bool
-is_one_line bytes = list_all (λ b. not (ends_line b)) bytes
+abbrev pub has_no_line_end : List ℕ → Bool
+has_no_line_end bytes = list_all (λ b. not (ends_line b)) bytes
 
 -- the keyword begins with a letter, and the value has no byte 10 and no blank at either end
 pub record IsCutLine (key : Keyword) (line : WordLine) : Type 0 where
   pub of_keyword : key ≡ keyword_of line.keyword
   pub letter_first : is_letter (slice_index line.keyword 0) ≡ true
   pub keyword_bytes : list_all is_keyword_byte line.keyword ≡ true
-  pub one_line : is_one_line line.value ≡ true
+  pub one_line : has_no_line_end line.value ≡ true
   pub begins_filled : is_blank (slice_index line.value 0) ≡ false
   pub ends_filled : is_blank (slice_index line.value (length line.value - 1)) ≡ false
 

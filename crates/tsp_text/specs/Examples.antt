@@ -29,11 +29,11 @@ abbrev pub NumberAt : List ℕ → ℕ → ℕ → NumberFault → Type 0
 NumberAt bytes line word found = FaultAt bytes line word (Number found)
 
 -- no line has a fault, and this one is found at the end
-abbrev pub EndsWith : List ℕ → EndFault → Type 0
-EndsWith bytes found = fault (text bytes) ≡ Some (faults.End found)
+abbrev pub FaultAtEnd : List ℕ → EndFault → Type 0
+FaultAtEnd bytes found = fault (text bytes) ≡ Some (faults.End found)
 
 abbrev pub MissingAtEnd : List ℕ → Field → Type 0
-MissingAtEnd bytes field = EndsWith bytes (Missing field)
+MissingAtEnd bytes field = FaultAtEnd bytes (Missing field)
 
 -- the text has this one line of an unknown keyword
 abbrev pub OthersAre : List ℕ → List ℕ → List ℕ → Type 0
@@ -89,8 +89,8 @@ abbrev pub long_word : List ℕ
 long_word = replicate 65 49
 
 -- the line of an unknown keyword of three bytes, and so many bytes of its value
-abbrev pub other_line : ℕ → List ℕ
-other_line count = codes "FOO:" ++ replicate count 120
+abbrev pub filled_line : ℕ → List ℕ
+filled_line count = codes "FOO:" ++ replicate count 120
 
 -- after so many lines with this text one more is one too many, and not after so many
 abbrev pub IsLimitOfLines : ℕ → ℕ → List ℕ → Type 0

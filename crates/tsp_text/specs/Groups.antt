@@ -18,11 +18,11 @@ pairs_in [] = []
 pairs_in (a ∷ []) = []
 pairs_in (a ∷ b ∷ words) = (a, b) ∷ pairs_in words
 
-abbrev pub triples_in : {A : Type 0} → List A → List (A × A × A)
-triples_in [] = []
-triples_in (a ∷ []) = []
-triples_in (a ∷ b ∷ []) = []
-triples_in (a ∷ b ∷ c ∷ words) = (a, b, c) ∷ triples_in words
+abbrev pub threes_in : {A : Type 0} → List A → List (A × A × A)
+threes_in [] = []
+threes_in (a ∷ []) = []
+threes_in (a ∷ b ∷ []) = []
+threes_in (a ∷ b ∷ c ∷ words) = (a, b, c) ∷ threes_in words
 
 abbrev pub fours_in : {A : Type 0} → List A → List (A × A × A × A)
 fours_in [] = []
@@ -57,12 +57,12 @@ abbrev pub number_groups : ℤ → ℤ → ℕ → List (List ℕ) → List (ℤ
 number_groups low high n words =
     map (λ group. (number (node n group.0), number (whole_of group.1 low high))) (pairs_in (take (2 * n) words))
 
-abbrev pub point_of : List ℕ → List ℕ → Point
-point_of x y = on_plane (number (decimal_of x)) (number (decimal_of y))
+abbrev pub point_in_words : List ℕ → List ℕ → Point
+point_in_words x y = on_plane (number (decimal_of x)) (number (decimal_of y))
 
 -- the n groups of a node and its coordinates
 abbrev pub point_groups : ℕ → List (List ℕ) → List (ℤ × Point)
-point_groups n words = map (λ group. (number (node n group.0), point_of group.1 group.2)) (triples_in (take (3 * n) words))
+point_groups n words = map (λ group. (number (node n group.0), point_in_words group.1 group.2)) (threes_in (take (3 * n) words))
 
 abbrev pub space_point_of : List ℕ → List ℕ → List ℕ → Point
 space_point_of x y z = record { x = number (decimal_of x); y = number (decimal_of y); z = number (decimal_of z) }
@@ -102,17 +102,17 @@ abbrev pub place_in_group : Place → List ℤ → List (List ℕ) → Place
 place_in_group number_place nodes [] = NodeAfter nodes
 place_in_group number_place nodes (word ∷ begun) = number_place
 
-abbrev pub nodes_in : {X : Type 0} → List (ℤ × X) → List ℤ
-nodes_in groups = map (λ group. group.0) groups
+abbrev pub nodes_of_groups : {X : Type 0} → List (ℤ × X) → List ℤ
+nodes_of_groups groups = map (λ group. group.0) groups
 
 abbrev pub place_of_number : ℤ → ℤ → ℕ → List (List ℕ) → Place
 place_of_number low high n words = cond (nat_le (2 * n) (length words)) PastGroups
-    (place_in_group (Amount low high) (nodes_in (number_groups low high n words)) (begun_pair words))
+    (place_in_group (Amount low high) (nodes_of_groups (number_groups low high n words)) (begun_pair words))
 
 abbrev pub place_of_point : ℕ → List (List ℕ) → Place
 place_of_point n words = cond (nat_le (3 * n) (length words)) PastGroups
-    (place_in_group Coordinate (nodes_in (point_groups n words)) (begun_triple words))
+    (place_in_group Coordinate (nodes_of_groups (point_groups n words)) (begun_triple words))
 
 abbrev pub place_of_space_point : ℕ → List (List ℕ) → Place
 place_of_space_point n words = cond (nat_le (4 * n) (length words)) PastGroups
-    (place_in_group Coordinate (nodes_in (space_point_groups n words)) (begun_four words))
+    (place_in_group Coordinate (nodes_of_groups (space_point_groups n words)) (begun_four words))

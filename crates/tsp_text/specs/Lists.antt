@@ -6,7 +6,7 @@ use Rattle.tsp_number.specs.Reading.{whole_of}
 use Rattle.tsp_format.specs.Limits.{most_multiplier}
 use Rattle.tsp_text.specs.Numbers.{number, node, node_or_end, is_end}
 use Rattle.tsp_text.specs.Places.{Place, Amount, DepotAfter, FirstAfter, SecondOf, PastEnd}
-use Rattle.tsp_text.specs.Groups.{pairs_in, begun_pair, triples_in, begun_triple}
+use Rattle.tsp_text.specs.Groups.{pairs_in, begun_pair, threes_in, begun_triple}
 
 -- what stands before the first that passes
 abbrev pub before : {A : Type 0} → (A → Bool) → List A → List A
@@ -56,7 +56,7 @@ fixed_triple n words = (
 
 -- the triples before the first whose first word stands for -1
 abbrev pub fixed_triples_in : ℕ → List (List ℕ) → List (ℕ × ℕ × ℤ)
-fixed_triples_in n words = map (fixed_triple n) (before (λ triple. is_end n triple.0) (triples_in words))
+fixed_triples_in n words = map (fixed_triple n) (before (λ triple. is_end n triple.0) (threes_in words))
 
 -- the words in the first place of a triple
 abbrev pub triple_firsts_in : {A : Type 0} → List A → List A
@@ -73,4 +73,4 @@ place_in_triple n count (first ∷ second ∷ begun) = Amount (pos 0) (pos most_
 
 abbrev pub place_of_triple : ℕ → List (List ℕ) → Place
 place_of_triple n words = cond (list_any (is_end n) (triple_firsts_in words)) PastEnd
-    (place_in_triple n (length (triples_in words)) (begun_triple words))
+    (place_in_triple n (length (threes_in words)) (begun_triple words))

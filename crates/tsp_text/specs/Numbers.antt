@@ -24,8 +24,8 @@ abbrev pub node : ℕ → List ℕ → Result ℤ NumberFault
 node n word = whole_of word (pos 1) (pos n)
 
 -- a whole number of at most this size
-abbrev pub sized : ℕ → List ℕ → Result ℤ NumberFault
-sized most word = whole_of word (neg_ℤ (pos most)) (pos most)
+abbrev pub whole_of_size : ℕ → List ℕ → Result ℤ NumberFault
+whole_of_size most word = whole_of word (neg_ℤ (pos most)) (pos most)
 
 abbrev pub not_zero : Result ℤ NumberFault → Result ℤ NumberFault
 not_zero (Ok z) = cond (int_eq z (pos 0)) (Err OutOfRange) (Ok z)

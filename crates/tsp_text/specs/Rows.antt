@@ -18,14 +18,14 @@ use Rattle.tsp_text.specs.Items.{WordLine, Item, Line, NumberWord, LineEnd}
 use Rattle.tsp_format.specs.Shapes.{is_section_field}
 use Rattle.tsp_text.specs.Earlier.{same_field, has_line, values_at, others_in, open_section}
 use Rattle.tsp_text.specs.Values.{is_refused, is_left_out, has_number, read_as, is_kept_as_is, says_space, spatial_after}
-use Rattle.tsp_text.specs.Numbers.{reads_as, node, sized, node_or_end, is_end, is_minus_one}
+use Rattle.tsp_text.specs.Numbers.{reads_as, node, whole_of_size, node_or_end, is_end, is_minus_one}
 use Rattle.tsp_text.specs.Places.{Place, NodeAfter, Coordinate, Amount, PastGroups, DepotAfter, FirstAfter, SecondOf, PastEnd, Weight, PastWeights, TourNode, SetNode, StepAfter, IndexAfter}
 use Rattle.tsp_text.specs.Tree.{node_or_leaf, begins_leaf, index_or_end, ends_leaf}
-use Rattle.tsp_text.specs.Sections.{nodes_of, place_of}
+use Rattle.tsp_text.specs.Sections.{dimension_in, next_place}
 
 -- a word, where a section is open, at its place and with n nodes
 abbrev pub at_place : (ℕ → Place → List ℕ → Bool) → List Item → List ℕ → Bool
-at_place test earlier word = option_map_or (λ place. test (nodes_of earlier) place word) (place_of earlier) false
+at_place test earlier word = option_map_or (λ place. test (dimension_in earlier) place word) (next_place earlier) false
 
 -- ---- LongLine: a word line has more bytes than it may have
 
@@ -64,14 +64,14 @@ is_repeated earlier LineEnd = false
 
 -- ---- Outside: EDGE_DATA_FORMAT, EDGE_DATA_SECTION, or a first word that is left out
 
-abbrev pub is_outside : List Item → Item → Bool
-is_outside earlier (Line (Known field) line) = is_left_out field (first_word line.value)
-is_outside earlier (Line EdgeDataFormat line) = true
-is_outside earlier (Line EdgeDataSection line) = true
-is_outside earlier (Line Eof line) = false
-is_outside earlier (Line Unknown line) = false
-is_outside earlier (NumberWord word) = false
-is_outside earlier LineEnd = false
+abbrev pub says_left_out : List Item → Item → Bool
+says_left_out earlier (Line (Known field) line) = is_left_out field (first_word line.value)
+says_left_out earlier (Line EdgeDataFormat line) = true
+says_left_out earlier (Line EdgeDataSection line) = true
+says_left_out earlier (Line Eof line) = false
+says_left_out earlier (Line Unknown line) = false
+says_left_out earlier (NumberWord word) = false
+says_left_out earlier LineEnd = false
 
 -- ---- BadValue: a first word that the keyword doesn't accept, or none; a number keyword without a value; too many bytes to
 -- be kept
@@ -116,7 +116,7 @@ is_early earlier LineEnd = false
 
 abbrev pub has_too_many_nodes : List Item → Item → Bool
 has_too_many_nodes earlier (Line (Known field) line) = same_field EdgeWeightPart field
-    && nat_lt most_matrix_nodes (nodes_of earlier)
+    && nat_lt most_matrix_nodes (dimension_in earlier)
 has_too_many_nodes earlier (Line EdgeDataFormat line) = false
 has_too_many_nodes earlier (Line EdgeDataSection line) = false
 has_too_many_nodes earlier (Line Eof line) = false
@@ -143,7 +143,7 @@ number_fault_at n (DepotAfter count) word = result_err (node_or_end n word)
 number_fault_at n (FirstAfter count) word = result_err (node_or_end n word)
 number_fault_at n (SecondOf first) word = result_err (node n word)
 number_fault_at n PastEnd word = None
-number_fault_at n Weight word = result_err (sized most_weight word)
+number_fault_at n Weight word = result_err (whole_of_size most_weight word)
 number_fault_at n PastWeights word = None
 number_fault_at n (TourNode count) word = result_err (node_or_end most_nodes word)
 number_fault_at n (SetNode begun combs count) word = result_err (node_or_end n word)
@@ -157,7 +157,7 @@ number_fault earlier (Line EdgeDataSection line) = None
 number_fault earlier (Line Eof line) = None
 number_fault earlier (Line Unknown line) = None
 number_fault earlier (NumberWord word) =
-    option_and_then (λ place. number_fault_at (nodes_of earlier) place word) (place_of earlier)
+    option_and_then (λ place. number_fault_at (dimension_in earlier) place word) (next_place earlier)
 number_fault earlier LineEnd = None
 
 -- ---- RepeatedNode: a group's node that an earlier group of the section has
@@ -250,7 +250,7 @@ abbrev pub table : List Item → Item → List (Option LineFault)
 table earlier item = when (is_long earlier item) row.LongLine
     ∷ when (is_unknown_line earlier item) row.UnknownLine
     ∷ when (is_repeated earlier item) row.Repeated
-    ∷ when (is_outside earlier item) row.Outside
+    ∷ when (says_left_out earlier item) row.Outside
     ∷ when (has_bad_value earlier item) row.BadValue
     ∷ when (has_section_value earlier item) row.SectionValue
     ∷ when (is_early earlier item) row.SectionEarly

@@ -34,10 +34,10 @@ abbrev pub place_in : Bool → Field → ℕ → List (List ℕ) → Place
 place_in in_space field n words = option_map_or (λ shape. place_by shape n words) (shape_of in_space field) PastEnd
 
 -- n, the value of DIMENSION; 0 where there is none (a section other than the tours is then a fault)
-abbrev pub nodes_of : List Item → ℕ
-nodes_of earlier = unwrap_or (dimension_of earlier) 0
+abbrev pub dimension_in : List Item → ℕ
+dimension_in earlier = unwrap_or (dimension_of earlier) 0
 
 -- where a word after these items stands, if a section is open
-abbrev pub place_of : List Item → Option Place
-place_of earlier = option_map (λ field. place_in (spatial_after earlier) field (nodes_of earlier) (words_of field earlier))
+abbrev pub next_place : List Item → Option Place
+next_place earlier = option_map (λ field. place_in (spatial_after earlier) field (dimension_in earlier) (words_of field earlier))
     (open_section earlier)

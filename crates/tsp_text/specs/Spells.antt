@@ -17,22 +17,22 @@ use Rattle.tsp_text.specs.Groups.{numbers_by_node, points_by_node, coords_by_nod
 use Rattle.tsp_text.specs.Lists.{depots_in, fixed_in, fixed_triples_in}
 use Rattle.tsp_text.specs.Weights.{weights_in}
 use Rattle.tsp_text.specs.Tours.{tours_in}
-use Rattle.tsp_text.specs.Combs.{combs_in}
-use Rattle.tsp_text.specs.Tree.{steps_in}
-use Rattle.tsp_text.specs.Sections.{place_in, nodes_of}
+use Rattle.tsp_text.specs.Combs.{whole_combs}
+use Rattle.tsp_text.specs.Tree.{whole_steps}
+use Rattle.tsp_text.specs.Sections.{place_in, dimension_in}
 
 -- ---- the fields
 
-abbrev pub potentials_in : ℕ → List (List ℕ) → List ℤ
-potentials_in n words = numbers_by_node (neg_ℤ (pos most_potential)) (pos most_potential) n words
+abbrev pub potentials_by_node : ℕ → List (List ℕ) → List ℤ
+potentials_by_node n words = numbers_by_node (neg_ℤ (pos most_potential)) (pos most_potential) n words
 
 abbrev pub demands_in : ℕ → List (List ℕ) → List ℤ
 demands_in n words = numbers_by_node (pos 0) (pos most_demand) n words
 
 -- the value of a section, by its words; without words a section that stands gives the value of no words, and one that doesn't
 -- none
-abbrev pub section : {A : Type 0} → (Field → Bool) → (List (List ℕ) → A) → Field → List Item → Option A
-section stands value field items = cond (stands field) (Some (value (words_of field items))) None
+abbrev pub section_value : {A : Type 0} → (Field → Bool) → (List (List ℕ) → A) → Field → List Item → Option A
+section_value stands value field items = cond (stands field) (Some (value (words_of field items))) None
 
 -- the fields, of sections those that pass the test
 abbrev pub fields_by : (Field → Bool) → List Item → Fields
@@ -48,19 +48,19 @@ fields_by stands items = record {
   weight_format = named_at weight_format_named EdgeWeightFormatKey items;
   coord_kind = named_at coord_kind_named NodeCoordTypeKey items;
   display_kind = named_at display_kind_named DisplayDataTypeKey items;
-  coords = section stands (coords_by_node (spatial_after items) (nodes_of items)) NodeCoordPart items;
-  display = section stands (points_by_node (nodes_of items)) DisplayDataPart items;
-  demands = section stands (demands_in (nodes_of items)) DemandPart items;
-  depots = section stands (depots_in (nodes_of items)) DepotPart items;
-  fixed = section stands (fixed_in (nodes_of items)) FixedEdgesPart items;
-  weights = section stands weights_in EdgeWeightPart items;
-  tours = section stands tours_in TourPart items;
-  node_potentials = section stands (potentials_in (nodes_of items)) NodePotentialPart items;
-  row_potentials = section stands (potentials_in (nodes_of items)) RowPotentialPart items;
-  column_potentials = section stands (potentials_in (nodes_of items)) ColumnPotentialPart items;
-  fixed_potentials = section stands (fixed_triples_in (nodes_of items)) FixedEdgePotentialPart items;
-  combs = section stands (combs_in (nodes_of items)) CombPart items;
-  branches = section stands (steps_in (nodes_of items)) BranchPart items;
+  coords = section_value stands (coords_by_node (spatial_after items) (dimension_in items)) NodeCoordPart items;
+  display = section_value stands (points_by_node (dimension_in items)) DisplayDataPart items;
+  demands = section_value stands (demands_in (dimension_in items)) DemandPart items;
+  depots = section_value stands (depots_in (dimension_in items)) DepotPart items;
+  fixed = section_value stands (fixed_in (dimension_in items)) FixedEdgesPart items;
+  weights = section_value stands weights_in EdgeWeightPart items;
+  tours = section_value stands tours_in TourPart items;
+  node_potentials = section_value stands (potentials_by_node (dimension_in items)) NodePotentialPart items;
+  row_potentials = section_value stands (potentials_by_node (dimension_in items)) RowPotentialPart items;
+  column_potentials = section_value stands (potentials_by_node (dimension_in items)) ColumnPotentialPart items;
+  fixed_potentials = section_value stands (fixed_triples_in (dimension_in items)) FixedEdgePotentialPart items;
+  combs = section_value stands (whole_combs (dimension_in items)) CombPart items;
+  branches = section_value stands (whole_steps (dimension_in items)) BranchPart items;
 }
 
 -- a section stands where a line opens it
@@ -91,7 +91,7 @@ wants_more (IndexAfter count) = true
 
 abbrev pub is_incomplete : List Item → Field → Bool
 is_incomplete items field = has_line field items
-    && wants_more (place_in (spatial_after items) field (nodes_of items) (words_of field items))
+    && wants_more (place_in (spatial_after items) field (dimension_in items) (words_of field items))
 
 -- the sections, in canonical order
 abbrev pub sections_in_order : List Field

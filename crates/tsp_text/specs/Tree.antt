@@ -7,7 +7,7 @@ use Rattle.tsp_number.specs.declared.fault.NumberFault.{NumberFault}
 use Rattle.tsp_number.specs.Reading.{whole_of}
 use Rattle.tsp_format.specs.Limits.{most_combs, most_difference}
 use Rattle.tsp_format.specs.Steps.{Step, Branch, Leaf}
-use Rattle.tsp_text.specs.Numbers.{number, reads_as, node, sized, node_or_end, is_end}
+use Rattle.tsp_text.specs.Numbers.{number, reads_as, node, whole_of_size, node_or_end, is_end}
 use Rattle.tsp_text.specs.Places.{Place, StepAfter, SecondOf, IndexAfter, Amount, PastGroups}
 
 -- what stands after some words of the section
@@ -72,7 +72,7 @@ with_index n so_far word = cond (ends_leaf n word) (with_leaf so_far)
 -- the difference of an index
 abbrev pub with_difference : TreeSoFar → ℕ → List ℕ → TreeSoFar
 with_difference so_far index word =
-    record so_far { leaf = so_far.leaf ++ (index, number (sized most_difference word)) ∷ []; first = None }
+    record so_far { leaf = so_far.leaf ++ (index, number (whole_of_size most_difference word)) ∷ []; first = None }
 
 -- by whether a leaf has begun, and what else has
 abbrev pub with_word_of : ℕ → Bool → Option ℕ → TreeSoFar → List ℕ → TreeSoFar
@@ -91,8 +91,8 @@ abbrev pub tree_after : ℕ → List (List ℕ) → TreeSoFar
 tree_after n words = fold (with_tree_word n) no_steps words
 
 -- the steps that are whole
-abbrev pub steps_in : ℕ → List (List ℕ) → List Step
-steps_in n words = (tree_after n words).steps
+abbrev pub whole_steps : ℕ → List (List ℕ) → List Step
+whole_steps n words = (tree_after n words).steps
 
 -- ---- where the next word stands
 

@@ -8,7 +8,7 @@ ghost use Rattle.tsp_number.specs.declared.fault.NumberFault.TheVariants as numb
 ghost use Rattle.tsp_format.specs.declared.field.Field.TheVariants as fields;
 ghost use Rattle.tsp_draft.specs.declared.fault.EndFault.TheVariants as ends;
 ghost use Rattle.tsp_text.specs.declared.fault.LineFault.TheVariants as faults;
-ghost use Rattle.tsp_text.specs.Examples.{FaultAt, NumberAt, MissingAtEnd, EndsWith, OthersAre, ToursAre, PairsAre, TriplesAre, CombIs, TreeIs, DemandsAre, InSpace, OnPlane, quad, longest_line, long_line, long_word, other_line, IsLimit, IsLimitOfLines};
+ghost use Rattle.tsp_text.specs.Examples.{FaultAt, NumberAt, MissingAtEnd, FaultAtEnd, OthersAre, ToursAre, PairsAre, TriplesAre, CombIs, TreeIs, DemandsAre, InSpace, OnPlane, quad, longest_line, long_line, long_word, filled_line, IsLimit, IsLimitOfLines};
 ghost use Rattle.tsp_text.specs.Rows.{is_surplus_at};
 ghost use Rattle.tsp_text.specs.Places.{DepotAfter, FirstAfter, TourNode, SetNode, StepAfter, IndexAfter};
 
@@ -84,20 +84,20 @@ pub fn faults_at_the_end()
     ensures ignored_words { MissingAtEnd (codes "DIMENSION : 2/DEMAND_SECTION/1 0 2 5 -1") fields.TypeKey }
     ensures after_the_end_line { MissingAtEnd (codes "TYPE : TSP/EOF/FOO") fields.DimensionKey }
     ensures end_line_with_a_value { MissingAtEnd (codes " EOF : x/FOO") fields.TypeKey }
-    ensures cut_pair { EndsWith (codes "TYPE : TOUR/DIMENSION : 3/FIXED_EDGES_SECTION/1 2 3/TOUR_SECTION")
+    ensures cut_pair { FaultAtEnd (codes "TYPE : TOUR/DIMENSION : 3/FIXED_EDGES_SECTION/1 2 3/TOUR_SECTION")
         (ends.Incomplete fields.FixedEdgesPart) }
-    ensures cut_triple { EndsWith (codes "TYPE : TOUR/DIMENSION : 3/FIXED_EDGE_POTENTIAL_SECTION/1 2 5 3 1/TOUR_SECTION")
+    ensures cut_triple { FaultAtEnd (codes "TYPE : TOUR/DIMENSION : 3/FIXED_EDGE_POTENTIAL_SECTION/1 2 5 3 1/TOUR_SECTION")
         (ends.Incomplete fields.FixedEdgePotentialPart) }
-    ensures triple_of_one_word { EndsWith (codes "TYPE : TOUR/DIMENSION : 3/FIXED_EDGE_POTENTIAL_SECTION/1/TOUR_SECTION")
+    ensures triple_of_one_word { FaultAtEnd (codes "TYPE : TOUR/DIMENSION : 3/FIXED_EDGE_POTENTIAL_SECTION/1/TOUR_SECTION")
         (ends.Incomplete fields.FixedEdgePotentialPart) }
-    ensures cut_set { EndsWith (codes "TYPE : TOUR/DIMENSION : 3/COMB_SECTION/1 2/TOUR_SECTION")
+    ensures cut_set { FaultAtEnd (codes "TYPE : TOUR/DIMENSION : 3/COMB_SECTION/1 2/TOUR_SECTION")
         (ends.Incomplete fields.CombPart) }
-    ensures cut_comb { EndsWith (codes "TYPE : TOUR/DIMENSION : 3/COMB_SECTION/1 2 -1/TOUR_SECTION")
+    ensures cut_comb { FaultAtEnd (codes "TYPE : TOUR/DIMENSION : 3/COMB_SECTION/1 2 -1/TOUR_SECTION")
         (ends.Incomplete fields.CombPart) }
     ensures combs_alone { MissingAtEnd (codes "TYPE : BRANCHES/DIMENSION : 3/COMB_SECTION/1 2 -1 -1") fields.BranchPart }
-    ensures cut_tree { EndsWith (codes "TYPE : BRANCHES/DIMENSION : 4/BRANCH_SECTION/1 2 0 2 1 -1")
+    ensures cut_tree { FaultAtEnd (codes "TYPE : BRANCHES/DIMENSION : 4/BRANCH_SECTION/1 2 0 2 1 -1")
         (ends.Incomplete fields.BranchPart) }
-    ensures no_steps { EndsWith (codes "TYPE : BRANCHES/DIMENSION : 4/BRANCH_SECTION") (ends.Incomplete fields.BranchPart) }
+    ensures no_steps { FaultAtEnd (codes "TYPE : BRANCHES/DIMENSION : 4/BRANCH_SECTION") (ends.Incomplete fields.BranchPart) }
     ensures triples_alone { MissingAtEnd (codes "TYPE : POTENTIALS/DIMENSION : 3/FIXED_EDGE_POTENTIAL_SECTION/1 3 2 -1")
         fields.NodePotentialPart }
     ensures triples_with_rows { MissingAtEnd
@@ -110,11 +110,11 @@ pub fn faults_at_the_end()
     ensures space_said_again { MissingAtEnd
         (codes "DIMENSION : 1/EDGE_WEIGHT_TYPE : MAX_3D/NODE_COORD_SECTION/1 0 0 5/NODE_COORD_TYPE : THREED_COORDS")
         fields.TypeKey }
-    ensures two_of_three { EndsWith (codes "TYPE : TSP/DIMENSION : 1/EDGE_WEIGHT_TYPE : EUC_3D/NODE_COORD_SECTION/1 0 0")
+    ensures two_of_three { FaultAtEnd (codes "TYPE : TSP/DIMENSION : 1/EDGE_WEIGHT_TYPE : EUC_3D/NODE_COORD_SECTION/1 0 0")
         (ends.Incomplete fields.NodeCoordPart) }
-    ensures too_few { EndsWith (quad (codes "UPPER_ROW") (codes "1 2 3 4 5")) ends.WrongCount }
-    ensures too_many { EndsWith (quad (codes "UPPER_ROW") (codes "1 2 3 4 5 6 7")) ends.WrongCount }
-    ensures by_function { EndsWith (quad (codes "FUNCTION") (codes "1 2 3 4 5")) ends.WrongFormat }
+    ensures too_few { FaultAtEnd (quad (codes "UPPER_ROW") (codes "1 2 3 4 5")) ends.WrongCount }
+    ensures too_many { FaultAtEnd (quad (codes "UPPER_ROW") (codes "1 2 3 4 5 6 7")) ends.WrongCount }
+    ensures by_function { FaultAtEnd (quad (codes "FUNCTION") (codes "1 2 3 4 5")) ends.WrongFormat }
 {}
 
 /// Numbers and lines at their limits, and past them by one.
@@ -135,12 +135,12 @@ pub fn limits_of_lines()
         numbers.OutOfRange }
     ensures largest_demand { MissingAtEnd (codes "DIMENSION : 1/DEMAND_SECTION/1 1000000000") fields.TypeKey }
     ensures larger_demand { NumberAt (codes "DIMENSION : 1/DEMAND_SECTION/1 1000000001") 3 2 numbers.OutOfRange }
-    ensures largest_weights { EndsWith (quad (codes "UPPER_ROW") (codes "1000000000000 -1000000000000")) ends.WrongCount }
+    ensures largest_weights { FaultAtEnd (quad (codes "UPPER_ROW") (codes "1000000000000 -1000000000000")) ends.WrongCount }
     ensures larger_weight { NumberAt (quad (codes "UPPER_ROW") (codes "1 1000000000001")) 6 2 numbers.OutOfRange }
     ensures smaller_weight { NumberAt (quad (codes "UPPER_ROW") (codes "1 2 -1000000000001")) 6 3 numbers.OutOfRange }
     ensures longest { MissingAtEnd longest_line fields.TypeKey }
-    ensures longest_kept { MissingAtEnd (other_line 3997) fields.TypeKey }
-    ensures longer_kept { FaultAt (other_line 3998) 1 0 faults.BadValue }
+    ensures longest_kept { MissingAtEnd (filled_line 3997) fields.TypeKey }
+    ensures longer_kept { FaultAt (filled_line 3998) 1 0 faults.BadValue }
     ensures comments { IsLimitOfLines 1000 999 (codes "COMMENT : x") }
     ensures others { IsLimitOfLines 1000 999 (codes "FOO : x") }
 {}

@@ -12,7 +12,7 @@ use Rattle.tsp_format.specs.Limits.{most_nodes, most_tour_nodes, most_changes}
 use Rattle.tsp_format.specs.declared.steps.TreeStep.{TreeStep}
 use Rattle.tsp_format.specs.Steps.{Step, Branch, Leaf, step_of, steps_of, are_whole, branch_count, leaf_count, change_count}
 use Rattle.tsp_draft.specs.Fields.{Fields}
-use Rattle.tsp_draft.specs.Valid.{AreTours, AreDepots, AreTriples, IsNodeList, AreSets, AreCombs, IsStep, AreSteps}
+use Rattle.tsp_draft.specs.Valid.{AreTours, AreDepots, AreTriples, IsNodeList, AreSets, AreCombs, IsStep, AreTreeSteps}
 use Rattle.tsp_theory.specs.Numbers.{AreMultipliers}
 use Rattle.tsp_branch.specs.Listed.{IsStepOf}
 use Rattle.tsp_verdict.specs.Numbered.{AreSomeSets}
@@ -88,7 +88,7 @@ few_changes n most [] low each few = tt
 few_changes n most (Branch a b ∷ steps) low each few = (each.0, few_changes n most steps low each.1 few)
 few_changes n most (Leaf changes ∷ steps) low each few = (omega (arith, low, few), few_changes n most steps low each.1 (omega (arith, few)))
 
-pub steps_hold : (f : Fields) (steps : List Step) → AreSteps f steps → All (IsStepOf (nodes_of f)) steps
+pub steps_hold : (f : Fields) (steps : List Step) → AreTreeSteps f steps → All (IsStepOf (nodes_of f)) steps
 steps_hold f steps held =
     let same : held.n ≡ nodes_of f = sym (ap (λ (d : Option ℕ). unwrap_or d 0) held.dimension) in
     All-from_recursion (IsStepOf (nodes_of f)) steps
@@ -108,5 +108,5 @@ all_counted [] = refl
 all_counted (Branch a b ∷ steps) = let rest = all_counted steps in omega (arith, rest)
 all_counted (Leaf changes ∷ steps) = let rest = all_counted steps in omega (arith, rest)
 
-pub steps_few : (f : Fields) (steps : List TreeStep) → AreSteps f (steps_of steps) → length steps < 2 ^ 32
+pub steps_few : (f : Fields) (steps : List TreeStep) → AreTreeSteps f (steps_of steps) → length steps < 2 ^ 32
 steps_few f steps held = omega (arith, length-map steps step_of, all_counted (steps_of steps), leaves_of_trees 1 (steps_of steps) held.whole, held.few)

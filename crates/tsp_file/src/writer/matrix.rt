@@ -5,7 +5,7 @@ ghost use Rattle.std.specs.List.{flat_map};
 ghost use Rattle.std.specs.Fmt.{signed_decimal};
 ghost use Rattle.std.specs.Option.{option_map};
 ghost use Rattle.tsp_format.specs.Cells.{nodes_to, cells_of_line};
-ghost use Rattle.tsp_file.specs.Text.{weight_line, matrix_lines, line_lens, section, optional};
+ghost use Rattle.tsp_file.specs.Text.{weight_line, matrix_lines, line_lens, section_text, optional};
 ghost use Rattle.tsp_stream.specs.Way.{Puts};
 
 use crate::writer::sections::put_opening;
@@ -94,7 +94,7 @@ pub(crate) fn put_weight_section<W: Write>(
     weights: &Option<Vec<i64>>,
 )
     ensures { Puts W.contents out.old piece.old out.new piece.new
-        (optional (λ weights. section field (matrix_lines (line_lens format dimension) weights))
+        (optional (λ weights. section_text field (matrix_lines (line_lens format dimension) weights))
         (option_map (λ v. v.items) weights.now)) }
 {
     if let Some(weights) = weights {

@@ -7,7 +7,7 @@ ghost use Rattle.std.specs.Option.{option_map};
 ghost use Rattle.tsp_number.specs.Spelling.{spelling};
 ghost use Rattle.tsp_format.specs.Words.{field_word};
 ghost use Rattle.tsp_draft.specs.Coords.{points_of};
-ghost use Rattle.tsp_file.specs.Text.{line_end, number_line, section, by_node, node_list, pair_list, triple_list, point_numbers, whole_number, optional};
+ghost use Rattle.tsp_file.specs.Text.{line_end, number_line, section_text, lines_by_node, node_list, pair_list, triple_list, point_numbers, whole_number, optional};
 ghost use Rattle.tsp_stream.specs.Way.{Puts};
 
 use std::io::Write;
@@ -111,7 +111,7 @@ fn put_triple_line<W: Write>(
 /// Adds a line for each node, in rising order, with its number.
 fn put_numbers<W: Write>(piece: &mut Piece, out: &mut Watched<W>, numbers: &[i64])
     ensures { Puts W.contents out.old piece.old out.new piece.new
-        (by_node whole_number numbers.now) }
+        (lines_by_node whole_number numbers.now) }
 {
     'nodes: for (index, number) in numbers.iter().enumerate() {
         put_number_line(piece, out, index + 1, *number);
@@ -121,7 +121,7 @@ fn put_numbers<W: Write>(piece: &mut Piece, out: &mut Watched<W>, numbers: &[i64
 /// Adds a line for each node, in rising order, with its coordinates.
 fn put_points<W: Write>(piece: &mut Piece, out: &mut Watched<W>, points: &Coords, spatial: bool)
     ensures { Puts W.contents out.old piece.old out.new piece.new
-        (by_node (point_numbers spatial) (points_of points.now)) }
+        (lines_by_node (point_numbers spatial) (points_of points.now)) }
 {
     'nodes: for index in 0..points.len() {
         let Some(point) = points.get(index) else {
@@ -179,7 +179,7 @@ pub(crate) fn put_number_section<W: Write>(
     numbers: Option<&[i64]>,
 )
     ensures { Puts W.contents out.old piece.old out.new piece.new
-        (optional (λ numbers. section field (by_node whole_number numbers)) (option_map (λ entries. entries.now) numbers.entry)) }
+        (optional (λ numbers. section_text field (lines_by_node whole_number numbers)) (option_map (λ entries. entries.now) numbers.entry)) }
 {
     if let Some(numbers) = numbers {
         put_opening(piece, out, field);
@@ -197,7 +197,7 @@ pub(crate) fn put_point_section<W: Write>(
     spatial: bool,
 )
     ensures { Puts W.contents out.old piece.old out.new piece.new
-        (optional (λ points. section field (by_node (point_numbers spatial) points))
+        (optional (λ points. section_text field (lines_by_node (point_numbers spatial) points))
         (option_map (λ points. points_of points.now) points.entry)) }
 {
     if let Some(points) = points {
@@ -214,7 +214,7 @@ pub(crate) fn put_node_section<W: Write>(
     depots: &Option<Vec<u32>>,
 )
     ensures { Puts W.contents out.old piece.old out.new piece.new
-        (optional (λ depots. section field (node_list depots)) (option_map (λ v. v.items) depots.now)) }
+        (optional (λ depots. section_text field (node_list depots)) (option_map (λ v. v.items) depots.now)) }
 {
     if let Some(depots) = depots {
         put_opening(piece, out, field);
@@ -230,7 +230,7 @@ pub(crate) fn put_pair_section<W: Write>(
     pairs: &Option<Vec<(u32, u32)>>,
 )
     ensures { Puts W.contents out.old piece.old out.new piece.new
-        (optional (λ pairs. section field (pair_list pairs)) (option_map (λ v. v.items) pairs.now)) }
+        (optional (λ pairs. section_text field (pair_list pairs)) (option_map (λ v. v.items) pairs.now)) }
 {
     if let Some(pairs) = pairs {
         put_opening(piece, out, field);
@@ -246,7 +246,7 @@ pub(crate) fn put_triple_section<W: Write>(
     triples: &Option<Vec<(u32, u32, i64)>>,
 )
     ensures { Puts W.contents out.old piece.old out.new piece.new
-        (optional (λ triples. section field (triple_list triples)) (option_map (λ v. v.items) triples.now)) }
+        (optional (λ triples. section_text field (triple_list triples)) (option_map (λ v. v.items) triples.now)) }
 {
     if let Some(triples) = triples {
         put_opening(piece, out, field);
@@ -262,7 +262,7 @@ pub(crate) fn put_tour_section<W: Write>(
     tours: &Option<Vec<Vec<u32>>>,
 )
     ensures { Puts W.contents out.old piece.old out.new piece.new
-        (optional (λ tours. section field (flat_map node_list tours)) (option_map (λ v. map (λ t. t.items) v.items) tours.now)) }
+        (optional (λ tours. section_text field (flat_map node_list tours)) (option_map (λ v. map (λ t. t.items) v.items) tours.now)) }
 {
     if let Some(tours) = tours {
         put_opening(piece, out, field);

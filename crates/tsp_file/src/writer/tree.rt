@@ -6,7 +6,7 @@ ghost use Rattle.std.specs.Option.{option_map};
 ghost use Rattle.tsp_format.specs.Steps.{Step, Leaf, step_of, steps_of};
 ghost use Rattle.tsp_draft.specs.Fields.{combs_of};
 ghost use Rattle.tsp_stream.specs.Way.{Puts};
-ghost use Rattle.tsp_file.specs.Text.{before_blank, set_line, comb_lines, comb_list, change_words, step_line, step_lines, section, optional};
+ghost use Rattle.tsp_file.specs.Text.{before_blank, set_line, comb_lines, comb_list, change_words, step_line, step_lines, section_text, optional};
 
 use crate::writer::sections::{put_opening, put_pair_line};
 use itoa::Integer;
@@ -108,7 +108,7 @@ pub(crate) fn put_comb_section<W: Write>(
     combs: &Option<Vec<Vec<Vec<u32>>>>,
 )
     ensures { Puts W.contents out.old piece.old out.new piece.new
-        (optional (λ combs. section field (comb_list combs)) (option_map (λ v. combs_of v.items) combs.now)) }
+        (optional (λ combs. section_text field (comb_list combs)) (option_map (λ v. combs_of v.items) combs.now)) }
 {
     if let Some(combs) = combs {
         put_opening(piece, out, field);
@@ -124,7 +124,7 @@ pub(crate) fn put_step_section<W: Write>(
     steps: &Option<Vec<TreeStep>>,
 )
     ensures { Puts W.contents out.old piece.old out.new piece.new
-        (optional (λ steps. section field (step_lines steps)) (option_map (λ v. steps_of v.items) steps.now)) }
+        (optional (λ steps. section_text field (step_lines steps)) (option_map (λ v. steps_of v.items) steps.now)) }
 {
     if let Some(steps) = steps {
         put_opening(piece, out, field);

@@ -13,7 +13,7 @@ use Rattle.tsp_format.specs.Limits.{most_line_bytes}
 use Rattle.tsp_text.specs.Items.{WordLine, Item, Line}
 use Rattle.tsp_text.specs.Earlier.{has_line, open_section, is_open, words_of}
 use Rattle.tsp_text.specs.Values.{spatial_after}
-use Rattle.tsp_text.specs.Sections.{nodes_of}
+use Rattle.tsp_text.specs.Sections.{dimension_in}
 use Rattle.tsp_text.specs.Rows.{row_of}
 use Rattle.tsp_text.specs.FirstFault.{IsClean}
 use Rattle.tsp_text.specs.Spells.{fields_by, is_incomplete, sections_in_order, first_incomplete}
@@ -45,7 +45,7 @@ KeywordsStand fields earlier = fields_there fields ≡ keywords_there earlier
 abbrev pub OpenHolds : Option OpenSection → List Item → Type 0
 OpenHolds None earlier = open_section earlier ≡ None
 OpenHolds (Some section) earlier = (open_section earlier ≡ Some section.field)
-    × HoldsSection (spatial_after earlier) section (nodes_of earlier) (words_of section.field earlier)
+    × HoldsSection (spatial_after earlier) section (dimension_in earlier) (words_of section.field earlier)
 
 -- no item has a fault, and the state has what the items spell but for the section that is open, and that section's words
 pub record Holds (reading : Reading) (earlier : List Item) : Type 0 where

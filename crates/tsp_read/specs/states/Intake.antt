@@ -7,7 +7,7 @@ use Rattle.tsp_read.specs.declared.intake.Intake.{Intake}
 use Rattle.tsp_text.specs.Items.{Item, settled_items, is_end_line, has_end_line, to_end_line, line_number, words_before}
 use Rattle.tsp_text.specs.FirstFault.{fault_in}
 use Rattle.tsp_read.specs.states.Holds.{Holds}
-use Rattle.tsp_read.specs.Onward.{is_bare, is_line_end, GoesOn}
+use Rattle.tsp_read.specs.states.Onward.{is_bare, is_line_end, GoesOn}
 
 -- these items were taken (nearest first), and the next one is counted on from them
 pub record Stands (intake : Intake) (earlier : List Item) : Type 0 where

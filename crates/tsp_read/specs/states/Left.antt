@@ -40,10 +40,10 @@ item_next (next.Word word) = NumberWord word.now
 item_next next.LineEnd = LineEnd
 
 -- whether what follows is of the same line
-abbrev pub is_inside : Next → Bool
-is_inside (next.Line text) = true
-is_inside (next.Word word) = true
-is_inside next.LineEnd = false
+abbrev pub is_in_line : Next → Bool
+is_in_line (next.Line text) = true
+is_in_line (next.Word word) = true
+is_in_line next.LineEnd = false
 
 -- ---- where a line and a word end
 
@@ -51,8 +51,8 @@ is_inside next.LineEnd = false
 abbrev pub ends_word : ℕ → Bool
 ends_word b = is_blank b || ends_line b
 
-abbrev pub before : (ℕ → Bool) → List ℕ → List ℕ
-before test text = take (position_or_len test text) text
+abbrev pub up_to_first : (ℕ → Bool) → List ℕ → List ℕ
+up_to_first test text = take (position_or_len test text) text
 
 abbrev pub from : (ℕ → Bool) → List ℕ → List ℕ
 from test text = drop (position_or_len test text) text

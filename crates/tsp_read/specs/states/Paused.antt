@@ -9,8 +9,8 @@ use Rattle.tsp_read.specs.declared.stage.Stage.{Stage}
 use Rattle.tsp_read.specs.declared.stage.Stage.TheVariants.{Going, Ended, Refused}
 use Rattle.tsp_text.specs.Items.{items_of}
 use Rattle.tsp_read.specs.states.Left.{items_left}
-use Rattle.tsp_read.specs.Onward.{is_bare}
-use Rattle.tsp_read.specs.Reads.{ReadsItems}
+use Rattle.tsp_read.specs.states.Onward.{is_bare}
+use Rattle.tsp_read.specs.states.Taken.{ReadsItems}
 use Rattle.tsp_read.specs.states.Intake.{HasEnded, IsStoppedBy}
 use Rattle.tsp_read.specs.states.Begun.{kept, IsFedTo, most_lines, most_words}
 

@@ -9,8 +9,8 @@ use Rattle.tsp_text.specs.Groups.{numbers_by_node, points_by_node, space_points_
 use Rattle.tsp_text.specs.Lists.{depots_in, fixed_in, fixed_triples_in}
 use Rattle.tsp_format.specs.Shapes.{shape_of}
 use Rattle.tsp_text.specs.Tours.{tours_in}
-use Rattle.tsp_text.specs.Combs.{combs_in}
-use Rattle.tsp_text.specs.Tree.{steps_in}
+use Rattle.tsp_text.specs.Combs.{whole_combs}
+use Rattle.tsp_text.specs.Tree.{whole_steps}
 use Rattle.tsp_text.specs.Weights.{weights_in}
 
 -- what words of a section of this shape spell, with n nodes
@@ -23,8 +23,8 @@ with_words Pairs field n words fields = record fields { fixed = Some (fixed_in n
 with_words Weights field n words fields = record fields { weights = Some (weights_in words) }
 with_words Tours field n words fields = record fields { tours = Some (tours_in words) }
 with_words Triples field n words fields = record fields { fixed_potentials = Some (fixed_triples_in n words) }
-with_words Combs field n words fields = record fields { combs = Some (combs_in n words) }
-with_words Steps field n words fields = record fields { branches = Some (steps_in n words) }
+with_words Combs field n words fields = record fields { combs = Some (whole_combs n words) }
+with_words Steps field n words fields = record fields { branches = Some (whole_steps n words) }
 
 -- the same of a section of a spatial file, or of another
 abbrev pub with_section : Bool → Field → ℕ → List (List ℕ) → Fields → Fields

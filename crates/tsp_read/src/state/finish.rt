@@ -7,7 +7,7 @@ ghost use Rattle.tsp_read.specs.states.Holds.{Holds};
 ghost use Rattle.tsp_text.specs.Cuts.{AreCut};
 ghost use Rattle.tsp_read.specs.Reads.{Completes};
 ghost use Rattle.tsp_draft.specs.Fields.{fields_of};
-ghost use Rattle.tsp_read.specs.Finishes.{FileOf};
+ghost use Rattle.tsp_read.specs.states.Finishes.{FileOf};
 
 use crate::state::reading::Reading;
 use std::alloc::Global;
@@ -54,7 +54,7 @@ fn file_of(draft: Draft, incomplete: Option<Field>) -> Result<File, FinishFault>
 
 impl Reading {
     ghost use Rattle.tsp_read.specs.declared.state.finish.FinishFault.TheVariants.{Memory};
-    ghost use Rattle.tsp_read.specs.Finishes.{Finishes};
+    ghost use Rattle.tsp_read.specs.states.Finishes.{Finishes};
 
     /// The file that was read, or the fault of its end.
     pub(crate) fn finish(mut self, alloc: Global) -> Result<File, FinishFault>

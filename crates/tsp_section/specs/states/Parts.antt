@@ -12,7 +12,7 @@ use Rattle.tsp_section.specs.declared.fault.StepFault.TheVariants as steps
 use Rattle.tsp_text.specs.Lines.{is_filled}
 use Rattle.tsp_text.specs.Numbers.{node, node_or_end, is_end}
 use Rattle.tsp_text.specs.Places.{Place}
-use Rattle.tsp_text.specs.Groups.{pairs_in, triples_in, begun_pair, begun_triple, begun_four, number_groups, point_groups, space_point_groups, entry_of}
+use Rattle.tsp_text.specs.Groups.{pairs_in, threes_in, begun_pair, begun_triple, begun_four, number_groups, point_groups, space_point_groups, entry_of}
 use Rattle.tsp_text.specs.Lists.{depots_in, fixed_in, firsts_in, fixed_triples_in, triple_firsts_in}
 use Rattle.tsp_text.specs.Weights.{weights_in}
 use Rattle.tsp_text.specs.Tours.{ends_tour, tour_node, tours_in}
@@ -139,7 +139,7 @@ pub record TriplesHold (triples : List (ℕ × ℕ × ℤ)) (first second : Opti
   pub list : triples ≡ fixed_triples_in n words
   pub closed : ended ≡ list_any (is_end n) (triple_firsts_in words)
   pub cut : ended ≡ false → BeginsTriple n first second (begun_triple words)
-  pub count : ended ≡ false → length triples ≡ length (triples_in words)
+  pub count : ended ≡ false → length triples ≡ length (threes_in words)
   pub whole : ended ≡ true → first ≡ None
 
 -- ---- weights

@@ -24,7 +24,7 @@ pub struct CombList {
 impl CombList {
     ghost use Rattle.tsp_section.specs.declared.fault.StepFault.TheVariants.{Memory};
     ghost use Rattle.tsp_draft.specs.Fields.{combs_of};
-    ghost use Rattle.tsp_text.specs.Combs.{combs_in, with_set, with_comb, with_end, has_begun_comb, place_of_comb};
+    ghost use Rattle.tsp_text.specs.Combs.{whole_combs, with_set, with_comb, with_end, has_begun_comb, place_of_comb};
     ghost use Rattle.tsp_text.specs.Rows.{is_past_combs};
     ghost use Rattle.tsp_text.specs.Spells.{wants_more};
     ghost use Rattle.tsp_section.specs.states.Parts.{Takes};
@@ -151,7 +151,7 @@ impl CombList {
     /// The combs, and whether one is cut short.
     pub fn finish(self) -> (Vec<Vec<Vec<u32>>>, bool)
         ensures { (n : ℕ) (words : List (List ℕ)) → HoldsCombs self n words
-            → (combs_of result.0.items ≡ combs_in n words)
+            → (combs_of result.0.items ≡ whole_combs n words)
             × (result.1 ≡ wants_more (place_of_comb n words)) }
     {
         let wants_more = !self.ended && self.has_begun();

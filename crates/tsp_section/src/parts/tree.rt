@@ -29,7 +29,7 @@ pub struct TreeList {
 impl TreeList {
     ghost use Rattle.tsp_section.specs.declared.fault.StepFault.TheVariants.{Memory};
     ghost use Rattle.tsp_format.specs.Steps.{steps_of};
-    ghost use Rattle.tsp_text.specs.Tree.{steps_in, with_leaf, place_of_step};
+    ghost use Rattle.tsp_text.specs.Tree.{whole_steps, with_leaf, place_of_step};
     ghost use Rattle.tsp_text.specs.Spells.{wants_more};
     ghost use Rattle.tsp_section.specs.states.Parts.{Takes};
     ghost use Rattle.tsp_section.specs.states.Held.{tree_held, HoldsTree};
@@ -204,7 +204,7 @@ impl TreeList {
     /// The steps, and whether the tree isn't whole.
     pub fn finish(self) -> (Vec<TreeStep>, bool)
         ensures { (n : ℕ) (words : List (List ℕ)) → HoldsTree self n words
-            → (steps_of result.0.items ≡ steps_in n words)
+            → (steps_of result.0.items ≡ whole_steps n words)
             × (result.1 ≡ wants_more (place_of_step n words)) }
     {
         let wants_more = self.to_come != 0;

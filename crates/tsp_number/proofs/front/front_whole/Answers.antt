@@ -2,7 +2,7 @@ use Rattle.std.proofs.Common.{◌≡◌, ◌*◌, pos, ◌*ℤ◌, ℤ, arith, r
 use Rattle.std.proofs.lemmas.Int.{to_z-of_z}
 use Rattle.std.proofs.lemmas.List.{take_rest}
 use Rattle.tsp_distance.specs.Decimal.{unit}
-use Rattle.tsp_number.specs.NumberWord.{signed}
+use Rattle.tsp_number.specs.NumberWord.{with_sign}
 use Rattle.tsp_number.proofs.FrontNumbers.{HasWhole, whole_front, small_whole}
 use Rattle.tsp_number.proofs.Reading.{signed-mul}
 use Rattle.tsp_number.proofs.front.front_whole.Goals as goal
@@ -22,6 +22,6 @@ returns-clause-number c =
       value_is = rw take_rest at c.front_digits-size.ensures.value;
     } in
     let fits : FitsSigned w64 c.signed.result = search rules in
-    let value : to_z w64 (of_z w64 c.signed.result) *ℤ pos unit ≡ signed c.front_sign-negative.result.0 (c.front_digits-size.result.0 * unit) =
+    let value : to_z w64 (of_z w64 c.signed.result) *ℤ pos unit ≡ with_sign c.front_sign-negative.result.0 (c.front_digits-size.result.0 * unit) =
     ap (λ (z : ℤ). z *ℤ pos unit) (to_z-of_z w64 c.signed.result fits ∙ c.signed.ensures) ∙ signed-mul c.front_sign-negative.result.0 c.front_digits-size.result.0 unit in
     rw value (whole_front _ _ _ _ _ has (omega arith) c.front_digits-size.ensures.few)

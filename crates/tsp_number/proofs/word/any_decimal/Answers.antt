@@ -3,7 +3,7 @@ use Rattle.std.specs.Int.{w128}
 use Rattle.std.proofs.lemmas.Int.{to_z-of_z}
 use Rattle.tsp_number.proofs.Reading.{bad_number, too_fine, stands, decimal_within, decimal_past}
 use Rattle.tsp_distance.specs.Decimal.{most_count}
-use Rattle.tsp_number.specs.NumberWord.{StandsFor, ReadsDecimal, signed}
+use Rattle.tsp_number.specs.NumberWord.{StandsFor, ReadsDecimal, with_sign}
 use Rattle.std.specs.Prelude.{Ok, Err}
 use Rattle.tsp_number.specs.declared.fault.NumberFault.TheVariants.{LongWord, BadNumber, TooFine, OutOfRange}
 use Rattle.tsp_number.proofs.WordLaws.{decimal_once, decimal_of-reads}
@@ -29,7 +29,7 @@ pub returns-in-Some-of_count : goal.returns-in-Some-of_count
 returns-in-Some-of_count c =
     let k = stands c.args.word.now c.in-Some.written c.in-Some-shifted.size c.in-Some.ensures c.in-Some-shifted.ensures in
     let fits : FitsSigned w128 c.signed.result = search rules in
-    let is : c.in-Some-of_count.decimal ≡ signed c.in-Some.written.negative c.in-Some-shifted.size =
+    let is : c.in-Some-of_count.decimal ≡ with_sign c.in-Some.written.negative c.in-Some-shifted.size =
     c.in-Some-of_count.ensures.1 ∙ to_z-of_z w128 c.signed.result fits ∙ c.signed.ensures in
     let within : unsigned_abs c.in-Some-of_count.decimal ≤ most_count = rw c.in-Some-of_count.ensures.1 c.in-Some-of_count.ensures.0 in
     let P : ℤ → Type 0 = λ z. StandsFor c.args.word.now z in
@@ -45,7 +45,7 @@ returns-in-None c =
     let reads : ReadsDecimal c.args.word.now (Err OutOfRange) = (
       omega arith,
       (
-        signed c.in-Some.written.negative k.0,
+        with_sign c.in-Some.written.negative k.0,
         k.1,
         decimal_past c.in-Some.written.negative c.in-Some-shifted.size k.0 c.signed.result k.2 c.signed.ensures past,
       ),

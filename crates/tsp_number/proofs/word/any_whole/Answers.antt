@@ -3,7 +3,7 @@ use Rattle.std.specs.Int.{w128}
 use Rattle.std.proofs.lemmas.Int.{ints, to_z-of_z, by_lt_z}
 use Rattle.tsp_number.proofs.Reading.{bad_number, too_fine, not_whole, whole_stands, whole_within, whole_past}
 use Rattle.tsp_distance.specs.Decimal.{unit}
-use Rattle.tsp_number.specs.NumberWord.{StandsFor, ReadsWhole, signed}
+use Rattle.tsp_number.specs.NumberWord.{StandsFor, ReadsWhole, with_sign}
 use Rattle.std.specs.Prelude.{Ok, Err}
 use Rattle.tsp_number.specs.declared.fault.NumberFault.TheVariants.{LongWord, BadNumber, TooFine, OutOfRange, NotWhole}
 use Rattle.tsp_number.proofs.WordLaws.{whole_once, whole_of-reads}
@@ -57,5 +57,5 @@ returns-in-None-within c =
     rw (to_z-of_z w128 c.signed.result fits, to_z-of_z w64 c.args.low c.ranges.low, to_z-of_z w64 c.args.high c.ranges.high) at c.in-None-within.ensures in
     let past = whole_past c.in-Some.written.negative c.in-Some-shifted.size k.0 c.signed.result c.args.low c.args.high k.2 c.signed.ensures c.ranges.low c.ranges.high
     (outside c.signed.result c.args.low c.args.high not_within) in
-    let reads : ReadsWhole c.args.word.now c.args.low c.args.high (Err OutOfRange) = (omega arith, (signed c.in-Some.written.negative k.0, k.1, past)) in
+    let reads : ReadsWhole c.args.word.now c.args.low c.args.high (Err OutOfRange) = (omega arith, (with_sign c.in-Some.written.negative k.0, k.1, past)) in
     record { reads = reads; computed = whole_once _ _ _ _ _ reads (whole_of-reads c.args.word.now c.args.low c.args.high) }

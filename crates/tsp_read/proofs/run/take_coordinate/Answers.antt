@@ -1,5 +1,5 @@
 use Rattle.std.proofs.Common.{refl}
-use Rattle.tsp_read.specs.Front.{front_word}
+use Rattle.tsp_read.specs.states.Front.{front_word}
 use Rattle.tsp_read.proofs.RunSteps.{word_runs}
 use Rattle.tsp_read.proofs.run.take_coordinate.Goals as goal
 

@@ -7,8 +7,8 @@ use Rattle.tsp_format.specs.declared.kinds.WeightFormat.TheVariants.{Listed}
 use Rattle.tsp_draft.specs.Fields.{Fields, fields_of}
 use Rattle.tsp_draft.specs.Rules.{fault_of}
 use Rattle.tsp_file.specs.Cost.{cost}
-use Rattle.tsp_file.specs.Listed.{IsListed}
-use Rattle.tsp_file.specs.Relayout.{HoldsPairs, CanGo, nodes_in, with_weights, costs_in}
+use Rattle.tsp_file.specs.Listed.{ListsWeights}
+use Rattle.tsp_file.specs.Relayout.{HoldsPairs, CanGo, file_nodes, with_weights, costs_in}
 use Rattle.tsp_draft.proofs.ValidFields.{in_range}
 use Rattle.tsp_file.proofs.WithWeights.{some_is}
 use Rattle.tsp_file.proofs.Listed.{lists}
@@ -20,7 +20,7 @@ as_held : (f g : Fields) (to : Layout) → f ≡ g → CanGo g to → CanGo f to
 as_held f g to same can = subst (λ (h : Fields). CanGo h to) (sym same) can
 
 held : (f g : Fields) (n : ℕ) (weights : List ℤ) → f ≡ g → fault_of f ≡ None → g.weight_format ≡ Some (Listed FullMatrix) → f.dimension ≡ Some n
-    → f.weights ≡ Some weights → IsListed f FullMatrix n weights
+    → f.weights ≡ Some weights → ListsWeights f FullMatrix n weights
 held f g n weights same valid full dimension stand =
     lists f FullMatrix n weights (in_range f valid) (subst (λ (h : Fields). h.weight_format ≡ Some (Listed FullMatrix)) (sym same) full) dimension stand
 
@@ -67,4 +67,4 @@ returns c =
     let stand = ap (option_map (λ w. w.items)) (sym (c.take.ensures.value) ∙ c.in-Some-take.is) in
     let value = (laid_of f FullMatrix c.args.to c.in-Some.nodes c.in-Some-take.weights.items c.keep_half.new.weights.items c.self.invariant can
     (held f c.args.self c.in-Some.nodes c.in-Some-take.weights.items c.self.view_is c.self.invariant c.requires.full c.in-Some.is stand) c.keep_half.ensures).1 in
-    ap (with_weights f c.args.to) value ∙ ap (λ (g : Fields). with_weights g c.args.to (costs_in c.args.to (nodes_in g) (cost g))) c.self.view_is
+    ap (with_weights f c.args.to) value ∙ ap (λ (g : Fields). with_weights g c.args.to (costs_in c.args.to (file_nodes g) (cost g))) c.self.view_is

@@ -2,7 +2,7 @@ use Rattle.std.proofs.Common.{◌≡◌, Ok, Err, true, sym, ap, ◌∙◌, ◌<
 use Rattle.tsp_text.specs.Lines.{is_filled}
 use Rattle.tsp_text.specs.Items.{Item}
 use Rattle.tsp_read.specs.declared.token.Token.{Token}
-use Rattle.tsp_read.specs.states.Left.{before, from}
+use Rattle.tsp_read.specs.states.Left.{up_to_first, from}
 use Rattle.tsp_read.specs.states.Token.{ends, most_bytes}
 use Rattle.tsp_read.specs.states.Intake.{Stands, TakesNext, IsReadTo}
 use Rattle.tsp_read.proofs.BegunSteps.{token_here, token_joins, fed_longer, fed_none, joined_none, joined_fault, joined_end, joined_more, settled_filled, settled_long, has_taken, empty_rest, filled_rest}
@@ -23,12 +23,12 @@ returns-then-len-front-clause-joined c = λ bytes h.
     let joins = token_joins c.args.intake.now.inside token begun (token_here c.args.intake.now.inside token begun some h.begins) in
     let long : most_bytes token < length begun + length c.cut.result.0.now =
     omega (arith, c.if-len-front.true, c.len.ensures.value, c.most_bytes.ensures) in
-    let over : most_bytes token < length (begun ++ before (ends token) piece) =
+    let over : most_bytes token < length (begun ++ up_to_first (ends token) piece) =
     subst (λ (n : ℕ). most_bytes token < n) (ap (λ (xs : List ℕ). length begun + length xs) c.cut.ensures.before
-    ∙ sym (length-append begun (before (ends token) piece))) long in
-    joined_fault token c.args.intake.now c.too_long.new.self begun piece bytes (begun ++ before (ends token) piece) c.too_long.result refl
-    (settled_long (most_bytes token) true (begun ++ before (ends token) piece) (from (ends token) piece) over) joins h.read
-    (λ earlier s. c.too_long.ensures earlier s (begun ++ before (ends token) piece) (token_long token _ over))
+    ∙ sym (length-append begun (up_to_first (ends token) piece))) long in
+    joined_fault token c.args.intake.now c.too_long.new.self begun piece bytes (begun ++ up_to_first (ends token) piece) c.too_long.result refl
+    (settled_long (most_bytes token) true (begun ++ up_to_first (ends token) piece) (from (ends token) piece) over) joins h.read
+    (λ earlier s. c.too_long.ensures earlier s (begun ++ up_to_first (ends token) piece) (token_long token _ over))
 
 pub returns-then-is_empty-2-clause-joined : goal.returns-then-is_empty-2-clause-joined
 returns-then-is_empty-2-clause-joined c = λ bytes h.
@@ -38,7 +38,7 @@ returns-then-is_empty-2-clause-joined c = λ bytes h.
     let some = sym c.is_empty.ensures ∙ c.if-is_empty.false in
     let short : length begun + length c.cut.result.0.now ≤ most_bytes token =
     omega (arith, c.if-len-front.false, c.len.ensures.value, c.most_bytes.ensures) in
-    let added : c.try_extend_from_slice.new.self.items ≡ begun ++ before (ends token) piece =
+    let added : c.try_extend_from_slice.new.self.items ≡ begun ++ up_to_first (ends token) piece =
     has_taken c.try_extend_from_slice.result token begun _ c.cut.result.0.now c.try_extend_from_slice.ensures.variant
     c.try_extend_from_slice.ensures.ok short ∙ ap (λ (xs : List ℕ). begun ++ xs) c.cut.ensures.before in
     fed_longer c.args.intake.now c.args.self.now _ bytes piece c.cut.result.1.now h some refl added c.cut.ensures.from
@@ -54,7 +54,7 @@ returns-in_err-take_next-clause-joined c = λ bytes h.
     let joins = token_joins c.args.intake.now.inside token begun (token_here c.args.intake.now.inside token begun some h.begins) in
     let short : length begun + length c.cut.result.0.now ≤ most_bytes token =
     omega (arith, c.if-len-front.false, c.len.ensures.value, c.most_bytes.ensures) in
-    let added : c.try_extend_from_slice.new.self.items ≡ begun ++ before (ends token) piece =
+    let added : c.try_extend_from_slice.new.self.items ≡ begun ++ up_to_first (ends token) piece =
     has_taken c.try_extend_from_slice.result token begun _ c.cut.result.0.now c.try_extend_from_slice.ensures.variant
     c.try_extend_from_slice.ensures.ok short ∙ ap (λ (xs : List ℕ). begun ++ xs) c.cut.ensures.before in
     let tail : is_filled (from (ends token) piece) ≡ true =
@@ -62,7 +62,7 @@ returns-in_err-take_next-clause-joined c = λ bytes h.
     let same : c.from_residual.result ≡ Err c.in_err-take_next.field-0.0 = handed_on _ _ c.from_residual.ensures.1 in
     rw same (joined_fault token c.args.intake.now c.take_next.new.self begun piece bytes c.as_slice.result.now
     c.in_err-take_next.field-0.0 (c.as_slice.ensures.value ∙ added)
-    (settled_filled (most_bytes token) true (begun ++ before (ends token) piece) (from (ends token) piece) tail) joins h.read
+    (settled_filled (most_bytes token) true (begun ++ up_to_first (ends token) piece) (from (ends token) piece) tail) joins h.read
     (subst (λ (item : Item). (earlier : List Item) → Stands c.args.intake.now earlier
     → TakesNext earlier item c.take_next.new.self (Err c.in_err-take_next.field-0.0)) c.of.ensures.item c.in_err-take_next.ensures.item))
 
@@ -75,7 +75,7 @@ returns-then-branch-clause-joined c = λ bytes h.
     let joins = token_joins c.args.intake.now.inside token begun (token_here c.args.intake.now.inside token begun some h.begins) in
     let short : length begun + length c.cut.result.0.now ≤ most_bytes token =
     omega (arith, c.if-len-front.false, c.len.ensures.value, c.most_bytes.ensures) in
-    let added : c.try_extend_from_slice.new.self.items ≡ begun ++ before (ends token) piece =
+    let added : c.try_extend_from_slice.new.self.items ≡ begun ++ up_to_first (ends token) piece =
     has_taken c.try_extend_from_slice.result token begun _ c.cut.result.0.now c.try_extend_from_slice.ensures.variant
     c.try_extend_from_slice.ensures.ok short ∙ ap (λ (xs : List ℕ). begun ++ xs) c.cut.ensures.before in
     let tail : is_filled (from (ends token) piece) ≡ true =
@@ -94,7 +94,7 @@ returns-clause-joined c = λ bytes h.
     let joins = token_joins c.args.intake.now.inside token begun (token_here c.args.intake.now.inside token begun some h.begins) in
     let short : length begun + length c.cut.result.0.now ≤ most_bytes token =
     omega (arith, c.if-len-front.false, c.len.ensures.value, c.most_bytes.ensures) in
-    let added : c.try_extend_from_slice.new.self.items ≡ begun ++ before (ends token) piece =
+    let added : c.try_extend_from_slice.new.self.items ≡ begun ++ up_to_first (ends token) piece =
     has_taken c.try_extend_from_slice.result token begun _ c.cut.result.0.now c.try_extend_from_slice.ensures.variant
     c.try_extend_from_slice.ensures.ok short ∙ ap (λ (xs : List ℕ). begun ++ xs) c.cut.ensures.before in
     let tail : is_filled (from (ends token) piece) ≡ true =
