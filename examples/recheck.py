@@ -48,6 +48,8 @@ def fields_of(path: str) -> Fields:
             if keyword == "EOF":
                 break
             keyword = "FIXED_EDGES_SECTION" if keyword == "FIXED_EDGES" else keyword
+            if keyword in fields and (keyword in KNOWN - {"COMMENT"} or keyword.endswith("_SECTION")):
+                refuse(f"{path}: {keyword} comes twice")
             section = fields.setdefault(keyword, []) if keyword.endswith("_SECTION") else None
             if section is None:
                 fields[keyword] = value.split()
@@ -71,6 +73,17 @@ def wholes(fields: Fields, name: str) -> list[int]:
     return [whole(word) for word in fields.get(name, [])]
 
 
+def need(right: bool) -> None:
+    if not right:
+        raise ValueError
+
+
+def scale_of(file: Fields) -> int:
+    scale = (wholes(file, "SCALE") or [1])[0]
+    need(1 <= scale <= 10**6)
+    return scale
+
+
 def ended(numbers: list[int], group: int) -> list[tuple[int, ...]]:
     """The groups of a list that -1 in the place of a group's first number ends."""
     starts = range(0, len(numbers), group)
@@ -81,6 +94,7 @@ def ended(numbers: list[int], group: int) -> list[tuple[int, ...]]:
 def by_node(fields: Fields, name: str, count: int) -> list[int]:
     """A number for each node, from node 1 on; the place 0 isn't used."""
     numbers, words = [0] * (count + 1), wholes(fields, name)
+    need(sorted(words[0 : 2 * count : 2]) == list(range(1, count + 1)))
     for node, number in zip(words[0 : 2 * count : 2], words[1 : 2 * count : 2]):
         numbers[node] = number
     return numbers
@@ -146,6 +160,7 @@ def tour_of(instance: Fields, solution: Fields, cost: Weight, count: int) -> lis
     if len(tours) != 1:
         raise No("TourCount")
     tour = [int(word) for word in tours[0]]
+    need(min(tour) >= 1)
     if len(tour) != count:
         raise No("TourLength")
     for place, node in enumerate(tour, 1):
@@ -178,7 +193,7 @@ def bound_by_potentials(instance: Fields, file: Fields, cost: Weight, count: int
         raise No("NotPotentials")
     if wholes(file, "DIMENSION")[0] != count:
         raise No("PotentialsDimension")
-    scale, nodes = (wholes(file, "SCALE") or [1])[0], range(1, count + 1)
+    scale, nodes = scale_of(file), range(1, count + 1)
     directed = instance["TYPE"][0] == "ATSP"
     if ("ROW_POTENTIAL_SECTION" if directed else "NODE_POTENTIAL_SECTION") not in file:
         raise No("PotentialsKind")
@@ -256,6 +271,7 @@ def bound_by_branches(instance: Fields, file: Fields, cost: Weight, count: int) 
         raise No("BranchesDimension")
     combs = combs_of(wholes(file, "COMB_SECTION"))
     for number, comb in enumerate(combs, 1):
+        need(all(1 <= node <= count for nodes in comb for node in nodes))
         if not is_comb(*comb):
             raise No(f"BadComb {number}")
     fixed = ended(wholes(instance, "FIXED_EDGES_SECTION"), 2)
@@ -269,13 +285,15 @@ def bound_by_branches(instance: Fields, file: Fields, cost: Weight, count: int) 
             continue
         branches += 1
         pair = frozenset(step)
+        need(len(pair) == 2 and 1 <= min(pair) and max(pair) <= count)
         if pair in case:
             raise No(f"BranchTwice {branches}")
         open_cases += [{**case, pair: False}, {**case, pair: True}]
-    scale, sets = (wholes(file, "SCALE") or [1])[0], [[set(nodes) for nodes in comb] for comb in combs]
+    scale, sets = scale_of(file), [[set(nodes) for nodes in comb] for comb in combs]
     numbers, bounds = [0] * (count + len(combs) + 1), []
     for leaf, (step, case) in enumerate(leaves, 1):
         for index, difference in zip(step[1::2], step[2::2]):
+            need(index >= 1)
             if index >= len(numbers):
                 raise No(f"BadLeaf {leaf}")
             numbers[index] += difference
