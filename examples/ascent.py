@@ -1,6 +1,9 @@
 #!/usr/bin/env python3
 """Finds potentials of an instance: examples/ascent.py INSTANCE > FILE
 
+The program is the one after `--tsp`, or `tsp` on the PATH. Ctrl-C writes the best numbers so far, with
+status 130.
+
 For a TSP they are numbers of the nodes, by the steps of Held and Karp: up for a node with too many
 edges in a least 1-tree, down for one with too few. For an ATSP they are duals of the assignment
 problem, by the Hungarian method. Nothing here is proved, and nothing has to be trusted: `tsp check`
@@ -9,14 +12,30 @@ says what the numbers are worth. It needs Python 3.8 or later, and the program t
 
 import argparse
 import re
+import shutil
 import subprocess
 import sys
 from decimal import Decimal
 from math import inf, isqrt
-from pathlib import Path
 
 SCALE = 100  # of the potentials; the rows of costs are at this scale too
 UNIT = 10**9  # coordinates are counts of 10^-9
+INTERRUPTED = 130
+
+
+def show(words):
+    """Shows the progress on a terminal, in place of the line before."""
+    if sys.stderr.isatty():
+        print(f"\r{words:40}", end="\r" if not words else "", file=sys.stderr, flush=True)
+
+
+def program(given):
+    """The path of the program."""
+    found = shutil.which(given or "tsp")
+    if found is None:
+        where = f"at {given}" if given else "tsp on the PATH: name it by --tsp"
+        sys.exit(f"ascent: there is no program {where}")
+    return found
 
 
 def canonical(tsp, *words):
@@ -82,28 +101,34 @@ def one_tree(rows, potentials):
 
 def ascend(rows, upper):
     """What no tour is shorter than, and the potentials of the nodes that show it."""
-    upper = nearest_neighbours(rows) if upper is None else SCALE * upper
-    potentials, best = [0] * len(rows), -inf
-    reach = 2 * (upper - one_tree(rows, potentials)[0])
-    for step in range(max(200, min(500, 250_000 // len(rows)))):
-        bound, degrees = one_tree(rows, potentials)
-        if bound > best:
-            best, kept = bound, potentials
-        if sys.stderr.isatty():
-            print(f"step {step}: {best / SCALE:.2f}", end="\r", file=sys.stderr, flush=True)
-        squares = sum((degree - 2) ** 2 for degree in degrees)
-        if squares == 0 or best > upper - SCALE:
-            break  # the 1-tree is a tour, or the bound rounded up is the length of one
-        size = reach * 0.97**step / squares
-        potentials = [old + round(size * (degree - 2)) for old, degree in zip(potentials, degrees)]
-    return best, {"NODE": kept}
+    best, interrupted = (-inf, [0] * len(rows)), False
+    try:
+        upper = nearest_neighbours(rows) if upper is None else SCALE * upper
+        potentials = best[1]
+        reach = 2 * (upper - one_tree(rows, potentials)[0])
+        for step in range(max(200, min(500, 250_000 // len(rows)))):
+            bound, degrees = one_tree(rows, potentials)
+            if bound > best[0]:
+                best = bound, potentials
+            show(f"step {step}: {best[0] / SCALE:.2f}")
+            squares = sum((degree - 2) ** 2 for degree in degrees)
+            if squares == 0 or best[0] > upper - SCALE:
+                break  # the 1-tree is a tour, or the bound rounded up is the length of one
+            size = reach * 0.97**step / squares
+            potentials = [old + round(size * (degree - 2)) for old, degree in zip(potentials, degrees)]
+    except KeyboardInterrupt:
+        interrupted = True
+    if best[0] == -inf:
+        best = one_tree(rows, best[1])[0], best[1]
+    return best[0], {"NODE": best[1]}, interrupted
 
 
-def assign(rows):
-    """What no tour is shorter than, and the duals of the rows and columns that show it."""
+def assigned(rows):
+    """The numbers of the columns after each row of the Hungarian method."""
     count = len(rows)
     u, v, row_of = [0] * count, [0] * (count + 1), [None] * (count + 1)  # one column more, to start at
     for start in range(count):
+        show(f"row {start + 1} of {count}")
         # the shortest ways to the columns, up to one that no row has; no node goes to itself
         column, row_of[count] = count, start
         ends, far, outside = [count] * count, [inf] * count + [0], set(range(count))
@@ -120,22 +145,42 @@ def assign(rows):
             v[inside] -= far[column] - far[inside]
         while column != count:
             row_of[column], column = row_of[ends[column]], ends[column]
-    return sum(u) + sum(v[:count]), {"ROW": u, "COLUMN": v[:count]}
+        yield v[:count]
+
+
+def assign(rows):
+    """What no tour is shorter than, and the duals of the rows and columns that show it."""
+    columns, interrupted = [0] * len(rows), False
+    try:
+        for columns in assigned(rows):
+            pass
+    except KeyboardInterrupt:
+        interrupted = True
+    # with any numbers of columns these are the largest numbers of rows
+    u = [min(c - v for j, (c, v) in enumerate(zip(row, columns)) if j != i) for i, row in enumerate(rows)]
+    return sum(u) + sum(columns), {"ROW": u, "COLUMN": columns}, interrupted
 
 
 def main():
     words = argparse.ArgumentParser(description="Finds potentials of a TSP or an ATSP, for tsp check.")
     words.add_argument("instance")
-    words.add_argument("--tsp", default=Path(__file__).resolve().parents[1] / "tsp", help="the program")
+    words.add_argument("--tsp", help="the program; else tsp on the PATH")
     words.add_argument("--upper", type=int, help="the length of a tour, the shorter the better")
     given = words.parse_args()
-    fields = canonical(given.tsp, given.instance)
-    if fields[b"TYPE"][-1] not in (b"TSP", b"ATSP") or int(fields[b"DIMENSION"][-1]) < 3:
-        sys.exit("ascent: this is no TSP or ATSP with three or more nodes")
+    tsp = program(given.tsp)
+    fields = canonical(tsp, given.instance)
+    kind = fields[b"TYPE"][-1]
+    if kind not in (b"TSP", b"ATSP"):
+        way = "check routes without a certificate" if kind == b"CVRP" else "name the instance of it"
+        sys.exit(f"ascent: a file of TYPE {kind.decode()} has no potentials: {way}")
+    if int(fields[b"DIMENSION"][-1]) < 3:
+        sys.exit("ascent: there are no tours of fewer than three nodes")
     if fields[b"EDGE_WEIGHT_TYPE"][-1] == b"EXPLICIT":
-        fields = canonical(given.tsp, given.instance, "--layout", "FULL_MATRIX")
+        fields = canonical(tsp, given.instance, "--layout", "FULL_MATRIX")
     rows = costs_of(fields)
-    bound, sections = assign(rows) if fields[b"TYPE"][-1] == b"ATSP" else ascend(rows, given.upper)
+    find = assign(rows) if kind == b"ATSP" else ascend(rows, given.upper)
+    bound, sections, interrupted = find
+    show("")
     print(f"TYPE : POTENTIALS\nCOMMENT : Bound = {-(-bound // SCALE)}")
     print(f"DIMENSION : {len(rows)}\nSCALE : {SCALE}")
     for name, numbers in sections.items():
@@ -143,7 +188,14 @@ def main():
         for node, number in enumerate(numbers, 1):
             print(node, number)
     print("EOF")
+    if interrupted:
+        print("ascent: interrupted; these are the best numbers so far", file=sys.stderr)
+        sys.exit(INTERRUPTED)
 
 
 if __name__ == "__main__":
-    main()
+    try:
+        main()
+    except KeyboardInterrupt:
+        print("ascent: interrupted before there were numbers", file=sys.stderr)
+        sys.exit(INTERRUPTED)

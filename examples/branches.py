@@ -5,7 +5,8 @@ A certificate shows how short no tour of a TSP can be: by potentials of the node
 combs, and by branches on pairs of nodes that are neighbours in a tour or aren't. This script finds
 one whose bound is the length of a tour where the time allows. A linear program over degrees, cuts
 and combs gives the numbers, and where a gap stays, a pair is branched on. Without a tour it finds a
-good one first, and `--tour` says where that is written. `--help` tells of all the words.
+good one first, and `--tour` says where that is written. `--help` tells of all the words. Ctrl-C ends
+the search: the best certificate so far is written, with status 130. A second Ctrl-C ends the script.
 
 Nothing here is proved, and nothing has to be trusted: `tsp check INSTANCE TOUR --branches OUT` says
 what the certificate is worth.
@@ -19,6 +20,7 @@ and Ubuntu this one command installs it, for /usr/bin/python3:
 import argparse
 import random
 import re
+import signal
 import sys
 import time
 from dataclasses import dataclass, field
@@ -41,6 +43,7 @@ except ImportError as missing:
     sys.exit(2)
 
 UNIT = 10**9  # coordinates are counts of 10^-9
+INTERRUPTED = 130
 MARK = 4 * 10**18  # off the weight of a taken pair, and onto that of an avoided one
 FAR = np.iinfo(np.int64).max
 MOST_POTENTIAL = 10**15
@@ -154,8 +157,13 @@ def costs_of(fields):
 def read_instance(path):
     """The instance in a file."""
     fields = fields_of(path)
-    if (fields.get(b"TYPE") or [b""])[0] != b"TSP":
-        sys.exit(f"branches: {path}: this is no file of TYPE TSP")
+    kind = (fields.get(b"TYPE") or [b"none"])[0].decode(errors="replace")
+    if kind != "TSP":
+        ways = {"ATSP": "take examples/ascent.py", "CVRP": "check routes without a certificate"}
+        sys.exit(f"branches: {path}: its TYPE is {kind}: {ways.get(kind, 'name an instance of TYPE TSP')}")
+    weights = (fields.get(b"EDGE_WEIGHT_TYPE") or [b"none"])[0]
+    if weights == b"GEO":
+        sys.exit(f"branches: {path}: convert GEO by examples/geo.py first")
     try:
         instance = Instance(costs_of(fields), pairs_of(fields.get(b"FIXED_EDGES_SECTION", [])))
     except (LookupError, ValueError, ArithmeticError):
@@ -938,7 +946,12 @@ class Search:
         self.tour, self.length = tour, instance.length(tour)
         self.bounds, self.used = Bounds(instance, scale), set()
         self.relaxation = Relaxation(instance, tour)
-        self.progress = Progress()
+        self.progress, self.interrupted = Progress(), False
+
+    def interrupt(self, *_):
+        """Ends the search as if the time were over; the next signal ends the script."""
+        self.until, self.interrupted = -inf, True
+        signal.signal(signal.SIGINT, signal.default_int_handler)
 
     def goal(self):
         """The least value whose bound, rounded up, is the tour's length."""
@@ -1266,15 +1279,24 @@ def main():
         tour = read_tour(given.given, instance)
     search = Search(instance, tour, given.scale, start + 0.9 * given.seconds, chance)
     first = search.length
+    signal.signal(signal.SIGINT, search.interrupt)
     steps = search.steps()
     search.progress.done()
     bound = search.bounds.bound(least_value(steps))
-    steps, scale = coarse(thin(steps, search.bounds, given.seconds / 20), given.scale)
+    seconds = 0 if search.interrupted else given.seconds / 20
+    steps, scale = coarse(thin(steps, search.bounds, seconds), given.scale)
     size = write_branches(given.branches, steps, bound, scale)
     if given.tour is not None:
         write_tour(given.tour, search.tour)
     report(search, first, bound, size)
+    if search.interrupted:
+        print("branches: interrupted; this is the best certificate so far", file=sys.stderr)
+        sys.exit(INTERRUPTED)
 
 
 if __name__ == "__main__":
-    main()
+    try:
+        main()
+    except KeyboardInterrupt:
+        print("branches: interrupted before there was a certificate", file=sys.stderr)
+        sys.exit(INTERRUPTED)

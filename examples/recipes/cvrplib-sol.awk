@@ -1,8 +1,27 @@
 # CVRPLIB's routes to a file of TYPE TOUR; customer 1 is node 2
-BEGIN { print "TYPE : TOUR\nTOUR_SECTION" }
-sub(/^ *Route[^:]*:/, "") {
-    for (k = 1; k <= NF; k++)
-        print $k + 1
-    print -1
+function fail(words) {
+    print "cvrplib-sol: " words | "cat 1>&2"
+    exit status = 1
 }
-END { print "EOF" }
+sub(/^[ \t]*[Rr]oute[^:]*:/, "") {
+    routes++
+    for (k = 1; k <= NF; k++) {
+        if ($k !~ /^[0-9]+$/ || $k + 0 == 0)
+            fail("line " NR ": customers are 1, 2, .., and this is none: " $k)
+        text = text $k + 1 "\n"
+    }
+    text = text "-1\n"
+    next
+}
+tolower($1) == "cost" { cost = $2; next }
+NF { fail("line " NR ": neither a route nor the cost: " $0) }
+END {
+    if (status)
+        exit status
+    if (!routes)
+        fail("there is no line that begins with Route")
+    print "TYPE : TOUR"
+    if (cost != "")
+        print "COMMENT : Cost " cost
+    printf "TOUR_SECTION\n%sEOF\n", text
+}

@@ -1,0 +1,58 @@
+#!/usr/bin/env python3
+"""Writes an instance of type GEO with its distances as weights: geo.py F > OUT
+
+The program doesn't read EDGE_WEIGHT_TYPE GEO, whose distances need cosines. This script computes them
+by the formula of TSPLIB 95 in doubles, with PI = 3.141592. The conversion isn't proved: a yes on OUT
+speaks of the weights in OUT. It needs Python 3.9 and its standard library alone.
+"""
+from __future__ import annotations
+
+import sys
+from math import acos, cos
+
+from recheck import fields_of, whole
+
+PI = 3.141592
+RADIUS = 6378.388
+
+
+def radians(word: str) -> float:
+    """The angle of a coordinate DDD.MM, degrees and minutes."""
+    number = float(word)
+    degrees = int(number)
+    return PI * (degrees + 5.0 * (number - degrees) / 3.0) / 180.0
+
+
+def distance(a: tuple[float, float], b: tuple[float, float]) -> int:
+    """The distance in kilometres of two points, each a latitude and a longitude."""
+    q1, q2, q3 = cos(a[1] - b[1]), cos(a[0] - b[0]), cos(a[0] + b[0])
+    return int(RADIUS * acos(0.5 * ((1.0 + q1) * q2 - (1.0 - q1) * q3)) + 1.0)
+
+
+def main() -> None:
+    if len(sys.argv) != 2 or sys.argv[1].startswith("-"):
+        sys.exit("geo: usage: geo.py F > OUT")
+    try:
+        fields = fields_of(sys.argv[1])
+        kind = (fields.get("EDGE_WEIGHT_TYPE") or ["none"])[0]
+        if kind != "GEO":
+            sys.exit(f"geo: {sys.argv[1]}: its EDGE_WEIGHT_TYPE has to be GEO, and is {kind}")
+        count, words = whole(fields["DIMENSION"][0]), fields["NODE_COORD_SECTION"]
+        nodes = [whole(word) for word in words[0 : 3 * count : 3]]
+        if sorted(nodes) != list(range(1, count + 1)):
+            sys.exit(f"geo: {sys.argv[1]}: NODE_COORD_SECTION has to list each node from 1 to {count} once")
+        points = {node: (radians(x), radians(y)) for node, x, y in zip(nodes, words[1::3], words[2::3])}
+        rows = [[distance(points[i], points[j]) for j in range(i + 1, count + 1)] for i in range(1, count)]
+        lines = [f"TYPE : {fields['TYPE'][0]}", "COMMENT : Weights computed from GEO in doubles, not proved"]
+    except OSError as fault:
+        sys.exit(f"geo: {sys.argv[1]}: {fault.strerror}")
+    except (LookupError, ValueError):
+        sys.exit(f"geo: {sys.argv[1]}: this isn't an instance with points")
+    lines += [f"DIMENSION : {count}", "EDGE_WEIGHT_TYPE : EXPLICIT", "EDGE_WEIGHT_FORMAT : UPPER_ROW"]
+    print("\n".join([*lines, "EDGE_WEIGHT_SECTION", *(" ".join(map(str, row)) for row in rows)]))
+    fixed = fields.get("FIXED_EDGES_SECTION")
+    print("\n".join((["FIXED_EDGES_SECTION", " ".join(fixed)] if fixed else []) + ["EOF"]))
+
+
+if __name__ == "__main__":
+    main()

@@ -1,0 +1,15 @@
+# Completion of tsp for fish: copy this file to ~/.config/fish/completions.
+complete -c tsp -n __fish_use_subcommand -f -a show -d 'Says what stands in a file'
+complete -c tsp -n __fish_use_subcommand -f -a convert -d 'Writes a file anew'
+complete -c tsp -n __fish_use_subcommand -f -a check -d 'Judges a tour or routes'
+complete -c tsp -n __fish_use_subcommand -f -a help -d 'Print help'
+complete -c tsp -n __fish_use_subcommand -f -s V -l version -d 'Print version'
+complete -c tsp -s h -l help -d 'Print help'
+complete -c tsp -n '__fish_seen_subcommand_from help' -f -a 'show convert check help'
+complete -c tsp -n '__fish_seen_subcommand_from show' -l explain -d 'Say more of a fault'
+complete -c tsp -n '__fish_seen_subcommand_from convert' -l explain -d 'Say more of a fault'
+complete -c tsp -n '__fish_seen_subcommand_from convert' -l layout -x -d 'The layout of the matrix' \
+    -a 'FULL_MATRIX UPPER_ROW LOWER_ROW UPPER_DIAG_ROW LOWER_DIAG_ROW UPPER_COL LOWER_COL UPPER_DIAG_COL LOWER_DIAG_COL'
+complete -c tsp -n '__fish_seen_subcommand_from check' -l explain -d 'Say more of a fault, or of a no'
+complete -c tsp -n '__fish_seen_subcommand_from check' -l potentials -r -F -d 'The file of potentials'
+complete -c tsp -n '__fish_seen_subcommand_from check' -l branches -r -F -d 'The file of branches'
