@@ -283,8 +283,8 @@ absent_short {A = A} text (Some _) none = absurd (none-some _ (sym none))
 
 field_short_without_trees : (f : Fields) → ((field : Field) → fits f field ≡ true) → f.combs ≡ None → f.branches ≡ None → (field : Field)
     → length (text_of_field f field) ≤ most_without_trees field
-field_short_without_trees f fit combs branches CombPart = absent_short (λ combs. section CombPart (comb_list combs)) f.combs combs
-field_short_without_trees f fit combs branches BranchPart = absent_short (λ steps. section BranchPart (step_lines steps)) f.branches branches
+field_short_without_trees f fit combs branches CombPart = absent_short (λ combs. section_text CombPart (comb_list combs)) f.combs combs
+field_short_without_trees f fit combs branches BranchPart = absent_short (λ steps. section_text BranchPart (step_lines steps)) f.branches branches
 field_short_without_trees f fit combs branches NameKey = field_short f fit NameKey
 field_short_without_trees f fit combs branches TypeKey = field_short f fit TypeKey
 field_short_without_trees f fit combs branches CommentKey = field_short f fit CommentKey

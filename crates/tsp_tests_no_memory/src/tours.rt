@@ -1,7 +1,7 @@
 //! Instances of points and of a matrix: their calls that take no memory, and tours, whose lengths take some.
 
 use std::alloc::{AllocError, Global};
-use tsp_cost::{Costs, Instance, View, trace_tours};
+use tsp_cost::{Costs, Instance, View, tour_length, trace_tours};
 use tsp_distance::{Decimal, PlanePoint};
 use tsp_draft::{Coords, Draft};
 use tsp_file::File;
@@ -111,7 +111,7 @@ fn have_lengths(alloc: Global, instance: &Instance) -> Result<bool, AllocError> 
         Vec::from_slice(alloc, &[1u32])?,
     ];
     let lengths = trace_tours(alloc, instance, tours.as_slice())?;
-    Ok(lengths.as_slice() == [6i64, 30, 9].as_slice())
+    Ok(lengths.as_slice() == [6i64, 30, 9].as_slice() && tour_length(instance, &[1]) == 9)
 }
 
 /// Whether the lists 1 2 3 4, 1 3, 2 and the empty one have the lengths 14, 10, 0 and 0.
