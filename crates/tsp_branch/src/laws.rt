@@ -1,6 +1,6 @@
 //! What always holds of bounds by branching, as contracts of functions that do nothing.
 
-ghost use Rattle.std.specs.Prelude.{ℕ, ℤ, List, [], ◌∷◌, ◌≤ℤ◌, true, false};
+ghost use Rattle.std.specs.Prelude.{ℕ, ℤ, List, [], ◌∷◌, ◌≤ℤ◌, Bool, true, false};
 ghost use Rattle.tsp_branch.specs.Combs.{CyclesCrossCombs, NumbersTellCombs, NumbersTellLists};
 ghost use Rattle.tsp_branch.specs.Decisions.{Decision, DecidedBoundsBoundCycles, FixedBoundsBoundTours};
 ghost use Rattle.tsp_branch.specs.LeafBound.{LeafBoundsBoundCycles, UncombedBoundsAreAdjustedBounds};
@@ -79,18 +79,18 @@ pub fn cases_bound_cycles()
 
 /// How a bound of all cycles but those of the open cases goes from step to step.
 pub fn steps_leave_cases()
-    ensures start { (n : ℕ) (cost : ℕ → ℕ → ℤ) (given : List Decision) (bound : ℤ)
-        → BoundsButOpen n cost given bound (given ∷ []) }
-    ensures branch { (n : ℕ) (cost : ℕ → ℕ → ℤ) (given : List Decision) (bound : ℤ) (pair : ℕ × ℕ)
+    ensures start { (directed : Bool) (n : ℕ) (cost : ℕ → ℕ → ℤ) (given : List Decision) (bound : ℤ)
+        → BoundsButOpen directed n cost given bound (given ∷ []) }
+    ensures branch { (directed : Bool) (n : ℕ) (cost : ℕ → ℕ → ℤ) (given : List Decision) (bound : ℤ) (pair : ℕ × ℕ)
         (case : List Decision) (cases : List (List Decision))
-        → BoundsButOpen n cost given bound (case ∷ cases)
-        → BoundsButOpen n cost given bound (decide pair true case ∷ decide pair false case ∷ cases) }
-    ensures leaf { (n : ℕ) (cost : ℕ → ℕ → ℤ) (given : List Decision) (bound own lower : ℤ)
+        → BoundsButOpen directed n cost given bound (case ∷ cases)
+        → BoundsButOpen directed n cost given bound (decide pair true case ∷ decide pair false case ∷ cases) }
+    ensures leaf { (directed : Bool) (n : ℕ) (cost : ℕ → ℕ → ℤ) (given : List Decision) (bound own lower : ℤ)
         (case : List Decision) (cases : List (List Decision)) → lower ≤ℤ bound → lower ≤ℤ own
-        → BoundsCase n cost own case → BoundsButOpen n cost given bound (case ∷ cases)
-        → BoundsButOpen n cost given lower cases }
-    ensures end { (n : ℕ) (cost : ℕ → ℕ → ℤ) (given : List Decision) (bound : ℤ)
-        → BoundsButOpen n cost given bound [] → BoundsCase n cost bound given }
+        → BoundsCase directed n cost own case → BoundsButOpen directed n cost given bound (case ∷ cases)
+        → BoundsButOpen directed n cost given lower cases }
+    ensures end { (directed : Bool) (n : ℕ) (cost : ℕ → ℕ → ℤ) (given : List Decision) (bound : ℤ)
+        → BoundsButOpen directed n cost given bound [] → BoundsCase directed n cost bound given }
 {}
 
 /// A stack of decisions has the open cases: the given one at first, after a branch two in the place
