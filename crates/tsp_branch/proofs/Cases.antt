@@ -11,7 +11,7 @@ use Rattle.tsp_theory.specs.Length.{length_of}
 use Rattle.tsp_theory.proofs.Neighbours.{neighbours_or_not}
 use Rattle.tsp_branch.specs.Decisions.{Decision, KeepsDecision}
 use Rattle.tsp_branch.specs.Cases.{Step, Branch, Leaf, are_trees, decide, leaves_of, cases_of}
-use Rattle.tsp_branch.specs.Cases.{KeepsOne, CyclesKeepLeaves, BoundsCase, BoundsButOpen, CasesBoundCycles, StacksHoldCases}
+use Rattle.tsp_branch.specs.Cases.{KeepsOne, CyclesKeepLeaves, BoundsCase, HasNoCycle, BoundsButOpen, CasesBoundCycles, CasesHaveNoCycle, StacksHoldCases}
 
 -- ---- whether a pair is used
 
@@ -75,6 +75,13 @@ cases_bound_cycles directed n cost bound given steps whole bounds = λ nodes cyc
     (recursion_from_All (λ case. IsCycle n nodes → All (KeepsDecision directed nodes) case → bound ≤ℤ length_of cost nodes) cases (λ k d lt. bounds k d lt nodes))
     cycle (cycles_keep_leaves directed given steps nodes whole keeps)
 
+pub cases_have_no_cycle : CasesHaveNoCycle
+cases_have_no_cycle directed n given steps whole none = λ nodes cycle keeps.
+    let cases = cases_of (leaves_of (given ∷ []) steps) in
+    of_one directed n nodes ⊥ cases
+    (recursion_from_All (λ case. IsCycle n nodes → All (KeepsDecision directed nodes) case → ⊥) cases (λ k d lt. none k d lt nodes))
+    cycle (cycles_keep_leaves directed given steps nodes whole keeps)
+
 -- ---- step by step
 
 pub open_start : (directed : Bool) (n : ℕ) (cost : ℕ → ℕ → ℤ) (given : List Decision) (bound : ℤ) → BoundsButOpen directed n cost given bound (given ∷ [])
@@ -92,6 +99,15 @@ pub open_leaf : (directed : Bool) (n : ℕ) (cost : ℕ → ℕ → ℤ) (given 
 open_leaf directed n cost given bound own lower case cases p q leaf h = λ nodes cycle keeps. elim (h nodes cycle keeps) [
   | inl long ↦ inl (omega (arith, ints, long, p))
   | inr (inl here) ↦ let long = leaf nodes cycle here in inl (omega (arith, ints, long, q))
+  | inr (inr later) ↦ inr later
+]
+
+-- a leaf without a cycle
+pub open_none : (directed : Bool) (n : ℕ) (cost : ℕ → ℕ → ℤ) (given : List Decision) (bound : ℤ) (case : List Decision) (cases : List (List Decision))
+    → HasNoCycle directed n case → BoundsButOpen directed n cost given bound (case ∷ cases) → BoundsButOpen directed n cost given bound cases
+open_none directed n cost given bound case cases none h = λ nodes cycle keeps. elim (h nodes cycle keeps) [
+  | inl long ↦ inl long
+  | inr (inl here) ↦ absurd (none nodes cycle here)
   | inr (inr later) ↦ inr later
 ]
 

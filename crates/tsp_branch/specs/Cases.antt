@@ -62,6 +62,15 @@ CasesBoundCycles = (directed : Bool) (n : ℕ) (cost : ℕ → ℕ → ℤ) (bou
     → are_trees 1 steps ≡ true → All (BoundsCase directed n cost bound) (cases_of (leaves_of (given ∷ []) steps))
     → BoundsCase directed n cost bound given
 
+-- no cycle keeps the decisions of the case; and where that holds of each leaf's, none keeps the given ones
+abbrev pub HasNoCycle : Bool → ℕ → List Decision → Type 0
+HasNoCycle directed n case = (nodes : List ℕ) → IsCycle n nodes → KeepsAll directed nodes case → ⊥
+
+abbrev pub CasesHaveNoCycle : Type 0
+CasesHaveNoCycle = (directed : Bool) (n : ℕ) (given : List Decision) (steps : List Step)
+    → are_trees 1 steps ≡ true → All (HasNoCycle directed n) (cases_of (leaves_of (given ∷ []) steps))
+    → HasNoCycle directed n given
+
 -- ---- step by step
 
 -- each cycle that keeps the given decisions is no shorter than the bound, or is one of an open case

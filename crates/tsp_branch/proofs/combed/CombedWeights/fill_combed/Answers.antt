@@ -8,7 +8,6 @@ use Rattle.tsp_format.specs.Cells.{IsNode}
 use Rattle.tsp_theory.specs.Numbers.{IsFromTo}
 use Rattle.tsp_theory.specs.NodeBound.{weight_between}
 use Rattle.tsp_theory.specs.Growth.{least_at}
-use Rattle.tsp_theory.specs.Tree.{crossing}
 use Rattle.tsp_branch.specs.Sets.{IsMoved, sets_with}
 use Rattle.tsp_branch.specs.Combed.{plain, multipliers_at, inside_both, set_crossings, most_combed, set_weight}
 use Rattle.tsp_branch.proofs.CombSizes.{combed_size, combed_fits}
