@@ -1,7 +1,7 @@
 -- The verdict on two texts.
 use Rattle.std.specs.Prelude.{ℕ, List}
 use Rattle.tsp_draft.specs.Fields.{Fields}
-use Rattle.tsp_items.specs.Text.{Spells}
+use Rattle.tsp_text.specs.Text.{Spells}
 use Rattle.tsp_reason.specs.declared.verdict.Verdict.{Verdict}
 use Rattle.tsp_verdict.specs.Tours.{IsTourVerdict}
 

@@ -19,14 +19,11 @@ mod potentials;
 mod scaled;
 mod spokes;
 mod tree;
+mod unplaced;
 
 pub use assignment::{Infeasible, dual_bound};
 pub use duals::Duals;
 pub use multipliers::Multipliers;
 pub use potentials::Potentials;
-pub use tree::{OneTree, one_tree};
-pub use tsp_theory::{
-    adjusted_bounds_bound_cycles, bounds_are_unique, duals_bound_cycles, examples_of_duals,
-    examples_of_multipliers, examples_of_numbers, examples_of_trees, least_trees_are_below_cycles,
-    node_bounds_bound_cycles,
-};
+pub use tree::{OneTree, one_tree, one_tree_in_space};
+pub use tsp_theory::{adjusted_bounds_bound_cycles, duals_bound_cycles};

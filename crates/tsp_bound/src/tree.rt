@@ -17,8 +17,9 @@ use crate::numbers::{least_bound, total, total_of};
 use crate::part::grow;
 use crate::potentials::Potentials;
 use crate::spokes::two_spokes;
+use crate::unplaced::Unplaced;
 use std::alloc::{AllocError, Global};
-use tsp_theory::{Costs, Grouped, adjusted_bounds_bound_cycles};
+use tsp_theory::{Costs, Grouped, Symmetric, adjusted_bounds_bound_cycles};
 
 /// A least 1-tree, its weight, and the bound on the length of every cycle.
 #[derive(Debug, Drop)]
@@ -46,7 +47,38 @@ pub struct OneTree {
 /// # Errors
 ///
 /// Out of memory, of which it takes some for each node and for each multiplier.
-pub fn one_tree<C: Grouped>(
+pub fn one_tree<C: Symmetric>(
+    alloc: Global,
+    c: &C,
+    p: &Potentials,
+    m: &Multipliers,
+) -> Result<OneTree, AllocError>
+    requires some { 3 ≤ C.nodes c.now }
+    requires count { length (numbers_of p.now) ≡ C.nodes c.now }
+    requires on_pairs { AreOnPairs (C.nodes c.now) (triples_of m.now) }
+    ensures tree { IfOk result (λ found. IsOneTree (C.nodes c.now) found.edges.items) }
+    ensures weight { IfOk result (λ found. found.weight
+        ≡ weight_of (weight_less p.now (triples_of m.now) (C.at c.now)) found.edges.items) }
+    ensures least { IfOk result (λ found. (others : List (ℕ × ℕ)) → IsOneTree (C.nodes c.now) others
+        → found.weight ≤ℤ weight_of (weight_less p.now (triples_of m.now) (C.at c.now)) others) }
+    ensures rounded { IfOk result (λ found. IsAdjustedBoundOf (scale_of p.now) (numbers_of p.now)
+        (triples_of m.now) found.weight found.bound) }
+    ensures bound { IfOk result (λ found. IsAdjustedBound (C.nodes c.now) (C.at c.now)
+        (scale_of p.now) (numbers_of p.now) (triples_of m.now) [] found.bound) }
+    ensures size { IfOk result (λ found. IsBoundSized found.bound) }
+    ensures cycles { IfOk result (λ found. (nodes : List ℕ) → IsCycle (C.nodes c.now) nodes
+        → UsesEach (triples_of m.now) nodes → found.bound ≤ℤ length_of (C.at c.now) nodes) }
+{
+    one_tree_in_space(alloc, &Unplaced { costs: c }, p, m)
+}
+
+/// What [`one_tree`] returns, over costs whose nodes may have places in space: regions of them then
+/// take the place of most pairs, so that it asks for far fewer costs.
+///
+/// # Errors
+///
+/// Out of memory, of which it takes some for each node and for each multiplier.
+pub fn one_tree_in_space<C: Grouped>(
     alloc: Global,
     c: &C,
     p: &Potentials,

@@ -18,7 +18,6 @@ pub use matrix::{EvenMatrix, Matrix};
 pub use points::Points;
 pub use triangle::Triangle;
 pub use tsp_theory::{
-    Costs, Grouped, Region, Symmetric, canonical_length, cycles_are_permutations,
-    cycles_have_no_loops, examples_of_cycles, lengths_add_up, tour_length, trace_tours,
+    Costs, Grouped, Region, Symmetric, canonical_length, tour_length, trace_tours,
 };
 pub use view::View;

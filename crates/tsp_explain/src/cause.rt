@@ -3,8 +3,8 @@
 use crate::look::Look;
 use tsp_draft::EndFault;
 use tsp_format::{Field, is_blank, is_letter};
-use tsp_items::{LineFault, ReadFault};
 use tsp_number::NumberFault;
+use tsp_text::{LineFault, ReadFault};
 
 /// The likely cause of a fault, where one is known.
 pub(crate) fn cause(look: &Look, fault: ReadFault) -> Option<&'static str> {

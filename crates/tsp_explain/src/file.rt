@@ -10,7 +10,7 @@ use std::io;
 use std::io::Read;
 use tsp_draft::EndFault;
 use tsp_format::Field;
-use tsp_items::{LineFault, ReadFault};
+use tsp_text::{LineFault, ReadFault};
 
 /// Appends why a file isn't read. `name` is what the user calls it, and `again` the file opened once
 /// more, where it can be; at most as much of it is read as the first time. What stands at the fault

@@ -9,8 +9,8 @@ use std::io::Read;
 use tsp_format::{
     Field, Keyword, MOST_FILE_BYTES, MOST_NODES, Word, is_blank, is_keyword_byte, is_letter,
 };
-use tsp_items::says_space;
 use tsp_number::parse_whole;
+use tsp_section::says_space;
 
 /// The most bytes that the reader is asked for at once.
 const MOST_AT_ONCE: usize = 4_096;

@@ -4,10 +4,10 @@
 
 use tsp_draft::EndFault;
 use tsp_file::RelayoutFault;
-use tsp_items::LineFault;
 use tsp_number::NumberFault;
 use tsp_reason::Reason;
 use tsp_stream::WriteFault;
+use tsp_text::LineFault;
 
 /// What is wrong with a line.
 pub fn line_sentence(fault: LineFault) -> &'static str {

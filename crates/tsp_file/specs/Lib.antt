@@ -7,3 +7,5 @@ pub mod Way
 pub mod Weights
 pub mod Examples
 pub mod Whole
+pub mod Text
+pub mod TextExamples

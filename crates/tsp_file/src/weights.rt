@@ -2,15 +2,37 @@
 
 ghost use Rattle.std.specs.Prelude.{◌≡◌, ◌≤◌, length};
 ghost use Rattle.std.specs.List.{All};
+ghost use Rattle.tsp_format.specs.declared.layout.Layout.TheVariants.{FullMatrix};
 ghost use Rattle.tsp_format.specs.Cells.{cells};
 ghost use Rattle.tsp_format.specs.Limits.{most_matrix_nodes, most_weight};
+ghost use Rattle.tsp_format.specs.Symmetry.{FindsAsymmetric};
 ghost use Rattle.tsp_draft.specs.Valid.{IsWithin};
+ghost use Rattle.tsp_file.specs.Cost.{listed_cost};
 
 use std::alloc::{AllocError, Global};
 use tsp_format::Layout;
 
 /// How many rows and columns a block of cells has, which with its mirrored block stays in the cache.
 const BLOCK: u32 = 64;
+
+/// The first pair of a full matrix, the smaller node first, by rows, whose two costs differ.
+///
+/// It requires 1 to 5,000 nodes and the weights of a full matrix over them, each in its range. No
+/// memory is taken.
+pub fn first_asymmetric(nodes: u32, weights: &[i64]) -> Option<(u32, u32)>
+    requires some { 1 ≤ nodes }
+    requires most { nodes ≤ most_matrix_nodes }
+    requires filled { length weights.now ≡ length (cells FullMatrix nodes) }
+    requires sizes { All (IsWithin most_weight) weights.now }
+    ensures { FindsAsymmetric nodes (λ i j. listed_cost FullMatrix nodes weights.now i j) result }
+{
+    let full = ListedWeights {
+        layout: Layout::FullMatrix,
+        nodes,
+        weights,
+    };
+    full.first_asymmetric()
+}
 
 /// The weights of a matrix over some nodes, as a layout lists them.
 #[derive(Clone, Copy)]
@@ -26,9 +48,8 @@ pub(crate) struct ListedWeights<'a> {
 
 impl<'a> ListedWeights<'a> {
     ghost use Rattle.std.specs.Prelude.{ℕ, ◌<◌, ◌+◌, ◌*◌, ◌≢◌, ◌++◌, false, map, pos, ◌↔◌, IsTrue, MatchOption, IfOk, OnOk};
-    ghost use Rattle.tsp_format.specs.declared.layout.Layout.TheVariants.{FullMatrix};
     ghost use Rattle.tsp_format.specs.Cells.{IsNode, cells_of_line};
-    ghost use Rattle.tsp_format.specs.Symmetry.{IsFirstAsymmetric, FindsAsymmetric};
+    ghost use Rattle.tsp_format.specs.Symmetry.{IsFirstAsymmetric};
     ghost use Rattle.tsp_draft.specs.Fields.{Fields};
     ghost use Rattle.tsp_file.specs.Listed.{IsListed};
     ghost use Rattle.tsp_file.specs.Relayout.{HoldsPairs, HoldsDiagonal, lists_diagonal, IsFirstOnDiagonal, costs_in};
@@ -118,7 +139,7 @@ impl<'a> ListedWeights<'a> {
 
     /// The first pair, the smaller node first, by rows, whose two costs differ.
     ///
-    /// Most matrices that come here are even, and show it by blocks: going by rows cycles down a
+    /// Most matrices that come here are even, and show it by blocks: going by rows steps down a
     /// column of the whole matrix for each, so it is left to those that aren't.
     fn first_asymmetric(&self) -> Option<(u32, u32)>
         requires { self.now.layout ≡ FullMatrix }
@@ -205,13 +226,11 @@ impl<'a> ListedWeights<'a> {
             → costs_of self.now i j ≡ costs_of self.now j i) }
     {
         let past = self.block_end(left);
+        let mut same = true;
         'columns: for j in left..past {
-            let mirrored = self.weight(j, i);
-            if self.weight(i, j) != mirrored {
-                return false;
-            }
+            same &= self.weight(i, j) == self.weight(j, i);
         }
-        true
+        same
     }
 
     /// The first row or column past the block that begins with this one.

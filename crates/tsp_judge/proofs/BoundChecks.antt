@@ -14,38 +14,22 @@ use Rattle.tsp_file.specs.Cost.{cost}
 use Rattle.tsp_theory.specs.Length.{length_of}
 use Rattle.tsp_read.specs.Reads.{IsFile}
 use Rattle.tsp_theory.specs.Numbers.{IsBoundSized as IsSmall}
+use Rattle.tsp_reason.specs.declared.verdict.Reason.{Reason}
 use Rattle.tsp_reason.specs.declared.verdict.Reason.TheVariants.{NotASolution, NotPotentials, NotBranches}
 use Rattle.tsp_reason.specs.declared.verdict.Verdict.{Verdict}
 use Rattle.tsp_reason.specs.declared.verdict.Verdict.TheVariants as verdicts
-use Rattle.tsp_judge.specs.declared.certificate.Certificate.{Certificate}
-use Rattle.tsp_judge.specs.declared.certificate.Certificate.TheVariants.{Potentials, Branches}
+use Rattle.tsp_reason.specs.declared.certificate.Certificate.{Certificate}
+use Rattle.tsp_reason.specs.declared.certificate.Certificate.TheVariants.{Potentials, Branches}
 use Rattle.tsp_judge.specs.declared.fault.RunFault.{RunFault}
 use Rattle.tsp_judge.specs.declared.fault.RunFault.TheVariants.{File, WrongKind, Write, OutOfMemory, Relayout}
 use Rattle.tsp_judge.specs.Judged.{is_yes}
 use Rattle.tsp_report.specs.Report.{report_of, IsBoundSized, IsSized}
 use Rattle.tsp_judge.specs.Run.{ReadsFile, Answers, told}
 use Rattle.tsp_judge.proofs.Checks.{a_file_of_tours}
-use Rattle.tsp_judge.specs.BoundRun.{is_bounded, IsVerdictWith, AreJudgedWith, IsBoundRun, IsBoundVerdictRun, IsAYes, IsCheckBy, IsVerdictCheckBy}
+use Rattle.tsp_verdict.specs.Certified.{kind_of, is_bounded, StandsAgainstCertified, IsCertifiedVerdict}
+use Rattle.tsp_judge.specs.BoundRun.{AreJudgedWith, IsBoundRun, IsBoundVerdictRun, IsAYes, IsCheckBy, IsVerdictCheckBy}
 
 -- ---- by the kind of the certificate
-
-pub kind_by_potentials : (kind : Option Kind) → IsTrue (is_bounded Potentials kind) → (kind ≡ Some kinds.Tsp) ⊎ (kind ≡ Some kinds.Atsp)
-kind_by_potentials (Some kinds.Tsp) is = inl refl
-kind_by_potentials (Some kinds.Atsp) is = inr refl
-kind_by_potentials (Some kinds.Cvrp) is = absurd (false≢true is)
-kind_by_potentials (Some kinds.Tour) is = absurd (false≢true is)
-kind_by_potentials (Some kinds.Potentials) is = absurd (false≢true is)
-kind_by_potentials (Some kinds.Branches) is = absurd (false≢true is)
-kind_by_potentials None is = absurd (false≢true is)
-
-pub kind_by_branches : (kind : Option Kind) → IsTrue (is_bounded Branches kind) → kind ≡ Some kinds.Tsp
-kind_by_branches (Some kinds.Tsp) is = refl
-kind_by_branches (Some kinds.Atsp) is = absurd (false≢true is)
-kind_by_branches (Some kinds.Cvrp) is = absurd (false≢true is)
-kind_by_branches (Some kinds.Tour) is = absurd (false≢true is)
-kind_by_branches (Some kinds.Potentials) is = absurd (false≢true is)
-kind_by_branches (Some kinds.Branches) is = absurd (false≢true is)
-kind_by_branches None is = absurd (false≢true is)
 
 pub none_bounded : (by : Certificate) (kind : Option Kind) → is_instance kind ≡ false → is_bounded by kind ≡ false
 none_bounded by (Some kinds.Tsp) none = absurd (false≢true (sym none))
@@ -61,13 +45,10 @@ few (pos n) small = omega (arith, ints, small.0, small.1)
 few (negsuc n) small = omega (arith, ints, small.0, small.1)
 
 -- the bound of a yes fits
-pub sized : (by : Certificate) (instance solution certificate : Fields) (verdict : Verdict) → IsVerdictWith by instance solution certificate verdict → IsSized verdict
-sized Potentials instance solution certificate (verdicts.Tour length bound) v = subst IsBoundSized (sym v.1.bound_is) (few v.1.least v.1.sized)
-sized Potentials instance solution certificate (verdicts.Routes length routes least) v = tt
-sized Potentials instance solution certificate (verdicts.No reason) v = tt
-sized Branches instance solution certificate (verdicts.Tour length bound) v = subst IsBoundSized (sym v.1.bound_is) (few v.1.least v.1.sized)
-sized Branches instance solution certificate (verdicts.Routes length routes least) v = tt
-sized Branches instance solution certificate (verdicts.No reason) v = tt
+pub sized : (by : Certificate) (instance solution certificate : Fields) (verdict : Verdict) → IsCertifiedVerdict by instance solution certificate verdict → IsSized verdict
+sized by instance solution certificate (verdicts.Tour length bound) v = subst IsBoundSized (sym v.1.bound_is) (few v.1.least v.1.sized)
+sized by instance solution certificate (verdicts.Routes length routes least) v = tt
+sized by instance solution certificate (verdicts.No reason) v = tt
 
 potentials : (kind : Option Kind) → (is_certificate kind ≡ false → ⊥) → kind ≡ Some kinds.Potentials
 potentials (Some kinds.Tsp) not = absurd (not refl)
@@ -87,10 +68,15 @@ tree (Some kinds.Potentials) not = absurd (not refl)
 tree (Some kinds.Branches) not = refl
 tree None not = absurd (not refl)
 
+of_type : (by : Certificate) (instance solution certificate : Fields) → ((reason : Reason) → StandsAgainstCertified by instance solution certificate reason → ⊥)
+    → certificate.kind ≡ Some (kind_of by)
+of_type Potentials instance solution certificate none = potentials certificate.kind (λ other. none NotPotentials (inr other))
+of_type Branches instance solution certificate none = tree certificate.kind (λ other. none NotBranches (inr other))
+
 -- what a yes says
 a_yes : (by : Certificate) (first second third : Turn) (sink : Sink) (instance : Fields) (verdict : Verdict) → AreJudgedWith by first second third instance verdict
     → true ≡ is_yes verdict → HasWritten sink (report_of instance verdict) → IsAYes by first second third sink
-a_yes Potentials first second third sink instance (verdicts.Tour length bound) j accepted written =
+a_yes by first second third sink instance (verdicts.Tour length bound) j accepted written =
     let b = j.judged.1 in
     record {
       instance = instance;
@@ -100,7 +86,7 @@ a_yes Potentials first second third sink instance (verdicts.Tour length bound) j
       second_file = j.second_file;
       third_file = j.third_file;
       of_tours = a_file_of_tours j.solution.kind (λ other. j.judged.0 NotASolution (inl other));
-      of_type = potentials j.certificate.kind (λ other. j.judged.0 NotPotentials (inr other));
+      of_type = of_type by instance j.solution j.certificate j.judged.0;
       tour = b.tour;
       only = b.only;
       tour_of = b.tour_of;
@@ -110,35 +96,13 @@ a_yes Potentials first second third sink instance (verdicts.Tour length bound) j
       below_tours = b.below_tours;
       optimal = λ same other is. subst (λ l. l ≤ℤ length_of (cost instance) other) (sym same) (b.below_tours other is);
     }
-a_yes Branches first second third sink instance (verdicts.Tour length bound) j accepted written =
-    let b = j.judged.1 in
-    record {
-      instance = instance;
-      solution = j.solution;
-      certificate = j.certificate;
-      first_file = j.first_file;
-      second_file = j.second_file;
-      third_file = j.third_file;
-      of_tours = a_file_of_tours j.solution.kind (λ other. j.judged.0 NotASolution (inl other));
-      of_type = tree j.certificate.kind (λ other. j.judged.0 NotBranches (inr other));
-      tour = b.tour;
-      only = b.only;
-      tour_of = b.tour_of;
-      bound = b.least;
-      of_certificate = b.of_tree;
-      printed = subst₂ (λ l o. HasWritten sink (report_of instance (verdicts.Tour l o))) b.measured b.bound_is written;
-      below_tours = b.below_tours;
-      optimal = λ same other is. subst (λ l. l ≤ℤ length_of (cost instance) other) (sym same) (b.below_tours other is);
-    }
-a_yes Potentials first second third sink instance (verdicts.Routes length routes least) j accepted written = absurd j.judged
-a_yes Potentials first second third sink instance (verdicts.No reason) j accepted written = absurd (false≢true (sym accepted))
-a_yes Branches first second third sink instance (verdicts.Routes length routes least) j accepted written = absurd j.judged
-a_yes Branches first second third sink instance (verdicts.No reason) j accepted written = absurd (false≢true (sym accepted))
+a_yes by first second third sink instance (verdicts.Routes length routes least) j accepted written = absurd j.judged
+a_yes by first second third sink instance (verdicts.No reason) j accepted written = absurd (false≢true (sym accepted))
 
 -- ---- the run
 
 judged : (by : Certificate) (first second third : Turn) (instance solution certificate : Fields) (verdict : Verdict) → IsTrue (is_bounded by instance.kind)
-    → IsVerdictWith by instance solution certificate verdict → IsFile first instance → IsFile second solution → IsFile third certificate
+    → IsCertifiedVerdict by instance solution certificate verdict → IsFile first instance → IsFile second solution → IsFile third certificate
     → AreJudgedWith by first second third instance verdict
 judged by first second third instance solution certificate verdict is v one two three = record {
   bounded = is;
@@ -152,7 +116,7 @@ judged by first second third instance solution certificate verdict is v one two 
 
 -- what a check answers that has its verdict
 pub answered : (by : Certificate) (first second third : Turn) (instance solution certificate : Fields) (sink : Sink) (verdict : Verdict) (result : Result Verdict RunFault)
-    → IsTrue (is_bounded by instance.kind) → IsVerdictWith by instance solution certificate verdict → Answers sink instance verdict (told result)
+    → IsTrue (is_bounded by instance.kind) → IsCertifiedVerdict by instance solution certificate verdict → Answers sink instance verdict (told result)
     → IfOk result (λ answer. answer ≡ verdict) → IsFile first instance → IsFile second solution → IsFile third certificate
     → IsBoundVerdictRun by first second third sink result
 answered by first second third instance solution certificate sink verdict (Ok answer) is v a same one two three =

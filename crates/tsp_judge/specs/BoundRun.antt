@@ -1,6 +1,5 @@
 -- What a check with a certificate of a bound does to its readers and its writer, and what it answers.
 use Rattle.std.specs.Prelude.{◌≡◌, ℕ, ◌⊎◌, Bool, true, false, List, [], ◌∷◌, Option, None, Some, Result, Ok, Err, IsTrue, ℤ, ◌≤ℤ◌}
-use Rattle.tsp_format.specs.declared.kinds.Kind.{Kind}
 use Rattle.tsp_format.specs.declared.kinds.Kind.TheVariants as kinds
 use Rattle.tsp_stream.specs.declared.output.WriteFault.TheVariants as write_faults
 use Rattle.tsp_stream.specs.Turn.{Turn, IsUnread}
@@ -13,49 +12,14 @@ use Rattle.tsp_read.specs.Reads.{IsFile, StopsAt}
 use Rattle.tsp_reason.specs.declared.verdict.Verdict.{Verdict}
 use Rattle.tsp_reason.specs.declared.verdict.Verdict.TheVariants.{Tour}
 use Rattle.tsp_verdict.specs.Solution.{tours_of}
-use Rattle.tsp_verdict.specs.Certificate.{IsBoundByPotentials}
-use Rattle.tsp_verdict.specs.Bounded.{IsBoundedVerdict}
-use Rattle.tsp_verdict.specs.Branched.{IsBranchedVerdict}
-use Rattle.tsp_verdict.specs.Tree.{IsBoundByTree}
 use Rattle.tsp_verdict.specs.Tours.{NoneOfTourBeforeRepeats}
-use Rattle.tsp_verdict.specs.Bounded.{BoundsTours}
-use Rattle.tsp_judge.specs.declared.certificate.Certificate.{Certificate}
-use Rattle.tsp_judge.specs.declared.certificate.Certificate.TheVariants.{Potentials, Branches}
+use Rattle.tsp_verdict.specs.Certified.{kind_of, is_bounded, IsBoundOf, BoundsTours, IsCertifiedVerdict}
+use Rattle.tsp_reason.specs.declared.certificate.Certificate.{Certificate}
 use Rattle.tsp_judge.specs.declared.fault.RunFault.{RunFault}
 use Rattle.tsp_judge.specs.declared.fault.RunFault.TheVariants.{File, WrongKind, Write, OutOfMemory, Relayout}
 use Rattle.tsp_judge.specs.Judged.{is_yes}
 use Rattle.tsp_report.specs.Report.{report_of}
 use Rattle.tsp_judge.specs.Run.{IsSomeFile, told}
-
--- ---- by the kind of the certificate
-
--- the TYPE of its file
-abbrev pub kind_of : Certificate → Kind
-kind_of Potentials = kinds.Potentials
-kind_of Branches = kinds.Branches
-
--- the TYPEs whose tours have a bound by it
-abbrev pub is_bounded : Certificate → Option Kind → Bool
-is_bounded by (Some kinds.Tsp) = true
-is_bounded Potentials (Some kinds.Atsp) = true
-is_bounded Branches (Some kinds.Atsp) = false
-is_bounded by (Some kinds.Cvrp) = false
-is_bounded by (Some kinds.Tour) = false
-is_bounded by (Some kinds.Potentials) = false
-is_bounded by (Some kinds.Branches) = false
-is_bounded by None = false
-
--- the verdict with it
-abbrev pub IsVerdictWith : Certificate → Fields → Fields → Fields → Verdict → Type 0
-IsVerdictWith Potentials instance solution certificate verdict = IsBoundedVerdict instance solution certificate verdict
-IsVerdictWith Branches instance solution certificate verdict = IsBranchedVerdict instance solution certificate verdict
-
--- the bound that it gives
-abbrev pub IsBoundOf : Certificate → Fields → Fields → ℤ → Type 0
-IsBoundOf Potentials instance certificate bound = IsBoundByPotentials instance.kind instance certificate bound
-IsBoundOf Branches instance certificate bound = IsBoundByTree instance certificate bound
-
--- ---- the run
 
 -- the turn's bytes spell a file whose tours have no bound
 abbrev pub IsNoBounded : Certificate → Turn → Type 0
@@ -69,7 +33,7 @@ pub record AreJudgedWith (by : Certificate) (first second third : Turn) (instanc
   pub first_file : IsFile first instance
   pub second_file : IsFile second solution
   pub third_file : IsFile third certificate
-  pub judged : IsVerdictWith by instance solution certificate verdict
+  pub judged : IsCertifiedVerdict by instance solution certificate verdict
 
 -- The tours of the first file have a bound, and no reason stands against the second one of those that are told without memory:
 -- what else is said of them needs memory.
@@ -138,17 +102,3 @@ IsCheckBy by first second third sink result = IsBoundRun by first second third s
 abbrev pub IsVerdictCheckBy : Certificate → Turn → Turn → Turn → Sink → Result Verdict RunFault → Type 0
 IsVerdictCheckBy by first second third sink result = IsBoundVerdictRun by first second third sink result
     × IsCheckBy by first second third sink (told result)
-
--- ---- the two checks
-
-abbrev pub IsBoundCheck : Turn → Turn → Turn → Sink → Result Bool RunFault → Type 0
-IsBoundCheck first second third sink result = IsCheckBy Potentials first second third sink result
-
-abbrev pub IsBoundVerdictCheck : Turn → Turn → Turn → Sink → Result Verdict RunFault → Type 0
-IsBoundVerdictCheck first second third sink result = IsVerdictCheckBy Potentials first second third sink result
-
-abbrev pub IsBranchCheck : Turn → Turn → Turn → Sink → Result Bool RunFault → Type 0
-IsBranchCheck first second third sink result = IsCheckBy Branches first second third sink result
-
-abbrev pub IsBranchVerdictCheck : Turn → Turn → Turn → Sink → Result Verdict RunFault → Type 0
-IsBranchVerdictCheck first second third sink result = IsVerdictCheckBy Branches first second third sink result

@@ -8,4 +8,5 @@ pub mod ConvertRun
 pub mod Judged
 pub mod Run
 pub mod ShowRun
+pub mod Status
 pub mod Yes

@@ -4,16 +4,16 @@
 ghost use Rattle.tsp_stream.specs.Sink.{sink_of};
 ghost use Rattle.tsp_stream.specs.Turn.{turn_of, TakesAtMost};
 ghost use Rattle.tsp_read.specs.Reads.{most_taken};
-ghost use Rattle.tsp_judge.specs.BoundRun.{IsBranchCheck, IsBranchVerdictCheck};
+ghost use Rattle.tsp_reason.specs.declared.certificate.Certificate.TheVariants as certificates;
+ghost use Rattle.tsp_judge.specs.BoundRun.{IsCheckBy, IsVerdictCheckBy};
 
 use crate::answer::told;
-use crate::certificate::Certificate;
 use crate::certified::run_certified;
 use crate::fault::RunFault;
 use std::alloc::Global;
 use std::io::{Read, Write};
 use tsp_stream::Watched;
-use tsp_verdict::Verdict;
+use tsp_verdict::{Certificate, Verdict};
 
 /// Judges a tour of an instance of TYPE TSP with a tree of cases, and writes the report.
 ///
@@ -44,7 +44,7 @@ pub fn run_branch_check<I: Read, S: Read, B: Read, W: Write>(
     ensures { TakesAtMost most_taken (turn_of I.remaining inst.old inst.new) (λ first.
         TakesAtMost most_taken (turn_of S.remaining sol.old sol.new) (λ second.
         TakesAtMost most_taken (turn_of B.remaining tree.old tree.new) (λ third.
-        IsBranchCheck first second third (sink_of W.contents out.old out.new) result))) }
+        IsCheckBy certificates.Branches first second third (sink_of W.contents out.old out.new) result))) }
 {
     told(run_branch_verdict(alloc, inst, sol, tree, out))
 }
@@ -64,7 +64,7 @@ pub fn run_branch_verdict<I: Read, S: Read, B: Read, W: Write>(
     ensures { TakesAtMost most_taken (turn_of I.remaining inst.old inst.new) (λ first.
         TakesAtMost most_taken (turn_of S.remaining sol.old sol.new) (λ second.
         TakesAtMost most_taken (turn_of B.remaining tree.old tree.new) (λ third.
-        IsBranchVerdictCheck first second third (sink_of W.contents out.old out.new) result))) }
+        IsVerdictCheckBy certificates.Branches first second third (sink_of W.contents out.old out.new) result))) }
 {
     run_certified(alloc, Certificate::Branches, inst, sol, tree, out)
 }

@@ -9,10 +9,9 @@ use crate::fault::RunFault;
 use crate::file::read_file;
 use std::alloc::Global;
 use std::io::{Read, Write};
-use tsp_file::{File, RelayoutFault};
+use tsp_file::{File, RelayoutFault, write_file};
 use tsp_format::Layout;
 use tsp_stream::Watched;
-use tsp_write::write_file;
 
 /// Writes the canonical text of a file, with its weights in the layout `to` where one is given.
 ///

@@ -4,7 +4,6 @@
 mod answer;
 mod bound_check;
 mod branch_check;
-mod certificate;
 mod certified;
 mod check;
 mod convert;
@@ -12,6 +11,7 @@ mod examples;
 mod fault;
 mod file;
 mod show;
+mod status;
 
 pub use bound_check::{run_bound_check, run_bound_verdict};
 pub use branch_check::{run_branch_check, run_branch_verdict};
@@ -20,12 +20,12 @@ pub use convert::run_convert;
 pub use examples::{examples_of_answers, examples_of_certificates};
 pub use fault::RunFault;
 pub use show::run_show;
+pub use status::status_of;
 pub use tsp_draft::EndFault;
 pub use tsp_file::RelayoutFault;
 pub use tsp_format::Layout;
 pub use tsp_read::{LineFault, ReadFault};
-pub use tsp_report::{examples_of_reasons, examples_of_reports, examples_of_shown_lines};
 pub use tsp_stream::{Watched, WriteFault};
 pub use tsp_verdict::{
-    Reason, Verdict, judge_routes, judge_tour, judge_tour_bound, judge_tour_branches,
+    Certificate, Reason, Verdict, judge_routes, judge_tour, judge_tour_bound, judge_tour_branches,
 };

@@ -5,20 +5,20 @@ use Rattle.std.proofs.lemmas.Bool.{true≢false, false≢true, ltb-false, lt-ltb
 use Rattle.std.proofs.lemmas.List.{nil_from_length}
 use Rattle.tsp_format.specs.Bytes.{is_blank, is_letter}
 use Rattle.tsp_format.specs.Limits.{most_line_bytes}
-use Rattle.tsp_items.specs.declared.fault.ReadFault.{ReadFault}
+use Rattle.tsp_text.specs.declared.fault.ReadFault.{ReadFault}
 use Rattle.tsp_read.specs.declared.intake.Intake.{Intake}
 use Rattle.tsp_read.specs.declared.token.Token.{Token}
 use Rattle.tsp_read.specs.declared.token.Token.TheVariants.{Line, Word}
 use Rattle.tsp_read.specs.declared.begun.Begun.{Begun}
-use Rattle.tsp_items.specs.Lines.{ends_line, is_filled, without_start}
-use Rattle.tsp_items.specs.Items.{Item, LineEnd}
+use Rattle.tsp_text.specs.Lines.{ends_line, is_filled, without_start}
+use Rattle.tsp_text.specs.Items.{Item, LineEnd}
 use Rattle.tsp_read.specs.states.Left.{items_left, ends_word, before, from, is_settled}
 use Rattle.tsp_read.specs.states.Token.{token_at, ends, most_bytes, token_item}
 use Rattle.tsp_read.specs.Onward.{GivesNext}
 use Rattle.tsp_read.specs.states.Intake.{Stands, TakesNext, IsReadTo, HasEnded, IsStoppedBy}
 use Rattle.tsp_read.specs.states.Begun.{HasBegunToken, HasBegun, kept, IsFedTo, IsJoinedTo}
 use Rattle.tsp_read.proofs.IntakeSteps.{read_further, read_to_end, read_to_fault}
-use Rattle.tsp_items.proofs.NoBlanks.{start_filled}
+use Rattle.tsp_text.proofs.NoBlanks.{start_filled}
 use Rattle.tsp_read.proofs.LeftSteps.{letter_filled, left_none}
 use Rattle.tsp_read.proofs.NextSteps.{end_next, line_begins, token_next, token_missing_next}
 use Rattle.tsp_read.proofs.Onwards.{on_before, on_from, at_from, cuts_alike}

@@ -5,10 +5,10 @@ use Rattle.std.proofs.lemmas.Bool.{false≢true}
 use Rattle.std.proofs.lemmas.List.{reverse-append}
 use Rattle.std.proofs.lemmas.Option.{none-some}
 use Rattle.tsp_format.specs.declared.keyword.Keyword.TheVariants.{Known, EdgeDataFormat, EdgeDataSection, Eof, Unknown}
-use Rattle.tsp_items.specs.Items.{Item, Line, NumberWord, LineEnd, is_end_line, has_end_line, to_end_line, settled_items}
-use Rattle.tsp_items.specs.Earlier.{open_section}
+use Rattle.tsp_text.specs.Items.{Item, Line, NumberWord, LineEnd, is_end_line, has_end_line, to_end_line, settled_items}
+use Rattle.tsp_text.specs.Earlier.{open_section}
 use Rattle.tsp_format.specs.Limits.{most_file_bytes}
-use Rattle.tsp_items.specs.Text.{settled_part}
+use Rattle.tsp_text.specs.Text.{settled_part}
 use Rattle.tsp_read.specs.declared.state.reading.OpenSection.{OpenSection}
 use Rattle.tsp_read.specs.declared.state.reading.Reading.{Reading}
 use Rattle.tsp_read.specs.states.Holds.{OpenHolds}

@@ -7,21 +7,21 @@ use Rattle.std.proofs.lemmas.List.{take_all, nil_from_length}
 use Rattle.std.proofs.lemmas.List.Folds.{list_all-append}
 use Rattle.std.proofs.lemmas.Option.{none-some}
 use Rattle.tsp_format.specs.Limits.{most_file_bytes}
-use Rattle.tsp_items.specs.declared.fault.ReadFault.{ReadFault}
-use Rattle.tsp_items.specs.declared.fault.ReadFault.TheVariants as faults
+use Rattle.tsp_text.specs.declared.fault.ReadFault.{ReadFault}
+use Rattle.tsp_text.specs.declared.fault.ReadFault.TheVariants as faults
 use Rattle.tsp_read.specs.declared.state.reading.Reading.{Reading}
 use Rattle.tsp_read.specs.declared.intake.Intake.{Intake}
 use Rattle.tsp_read.specs.declared.begun.Begun.{Begun}
 use Rattle.tsp_read.specs.declared.stage.Stage.{Stage}
 use Rattle.tsp_read.specs.declared.stage.Stage.TheVariants.{Going, Ended, Refused}
 use Rattle.tsp_read.specs.declared.feed.Feed.{Feed}
-use Rattle.tsp_items.specs.Lines.{is_filled}
-use Rattle.tsp_items.specs.Items.{Item, settled_items, has_end_line}
-use Rattle.tsp_items.specs.Rows.{when, first_row}
-use Rattle.tsp_items.specs.FirstFault.{fault_in, IsClean}
+use Rattle.tsp_text.specs.Lines.{is_filled}
+use Rattle.tsp_text.specs.Items.{Item, settled_items, has_end_line}
+use Rattle.tsp_text.specs.Rows.{when, first_row}
+use Rattle.tsp_text.specs.FirstFault.{fault_in, IsClean}
 use Rattle.tsp_read.specs.states.Left.{items_left, ends_word}
 use Rattle.tsp_read.specs.states.Holds.{Holds}
-use Rattle.tsp_items.specs.Text.{is_too_long, settled_part, settled_fault}
+use Rattle.tsp_text.specs.Text.{is_too_long, settled_part, settled_fault}
 use Rattle.tsp_read.specs.Walk.{Walked}
 use Rattle.tsp_read.specs.Onward.{is_bare}
 use Rattle.tsp_read.specs.states.Intake.{IsReadTo, settled_so_far}

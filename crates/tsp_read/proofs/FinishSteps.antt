@@ -5,8 +5,8 @@ use Rattle.tsp_draft.specs.declared.fault.DraftFault.{DraftFault}
 use Rattle.tsp_draft.specs.Fields.{Fields, fields_of}
 use Rattle.tsp_draft.specs.Rules.{standing_of, end_fault, fault_of}
 use Rattle.tsp_read.specs.declared.state.reading.Reading.{Reading}
-use Rattle.tsp_items.specs.Items.{Item}
-use Rattle.tsp_items.specs.Spells.{spelled, fault_at_end}
+use Rattle.tsp_text.specs.Items.{Item}
+use Rattle.tsp_text.specs.Spells.{spelled, fault_at_end}
 use Rattle.tsp_text.specs.Cuts.{AreCut}
 use Rattle.tsp_read.specs.states.Holds.{Closed}
 use Rattle.tsp_read.specs.declared.state.finish.FinishFault.{FinishFault}

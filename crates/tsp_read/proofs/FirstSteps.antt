@@ -4,7 +4,7 @@ use Rattle.std.proofs.lemmas.Bool.{false≢true}
 use Rattle.std.specs.Prelude.{not, ◌&&◌, ◌||◌}
 use Rattle.std.specs.List.{find, filter}
 use Rattle.tsp_format.specs.declared.field.Field.{Field}
-use Rattle.tsp_items.specs.Earlier.{same_field}
+use Rattle.tsp_text.specs.Earlier.{same_field}
 use Rattle.tsp_read.specs.states.Incomplete.{is_it, first_of}
 use Rattle.tsp_text.proofs.ValidSections.{same_field_is}
 use Rattle.tsp_text.proofs.ItemRows.{same_self}

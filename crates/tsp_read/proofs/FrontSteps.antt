@@ -12,9 +12,9 @@ use Rattle.tsp_number.specs.Reading.{whole_of, decimal_of}
 use Rattle.tsp_number.proofs.WordLaws.{whole_once, whole_of-reads, decimal_once, decimal_of-reads}
 use Rattle.tsp_format.specs.Bytes.{is_blank, is_letter}
 use Rattle.tsp_format.specs.Limits.{most_word_bytes}
-use Rattle.tsp_items.specs.Numbers.{IsWhole}
-use Rattle.tsp_items.specs.Lines.{ends_line, is_filled, without_start}
-use Rattle.tsp_items.specs.Items.{Item, NumberWord, LineEnd}
+use Rattle.tsp_text.specs.Numbers.{IsWhole}
+use Rattle.tsp_text.specs.Lines.{ends_line, is_filled, without_start}
+use Rattle.tsp_text.specs.Items.{Item, NumberWord, LineEnd}
 use Rattle.tsp_read.specs.states.Left.{items_left, ends_word, before, from}
 use Rattle.tsp_read.specs.Onward.{is_over_long, GivesNext}
 use Rattle.tsp_read.specs.Front.{front_word, LeavesEnd}

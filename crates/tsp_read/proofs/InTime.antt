@@ -5,13 +5,13 @@ use Rattle.std.specs.Io.KnownBytes.{Consumes, IsAtEnd}
 use Rattle.std.proofs.lemmas.Bool.{true≢false}
 use Rattle.tsp_stream.specs.Turn.{Turn, GaveAll, TakesAtMost}
 use Rattle.tsp_draft.specs.Fields.{Fields}
-use Rattle.tsp_items.specs.declared.fault.ReadFault.{ReadFault}
-use Rattle.tsp_items.specs.declared.fault.ReadFault.TheVariants as faults
+use Rattle.tsp_text.specs.declared.fault.ReadFault.{ReadFault}
+use Rattle.tsp_text.specs.declared.fault.ReadFault.TheVariants as faults
 use Rattle.tsp_read.specs.declared.stage.Stage.{Stage}
 use Rattle.tsp_read.specs.declared.stage.Stage.TheVariants.{Going, Ended, Refused}
 use Rattle.tsp_read.specs.declared.feed.Feed.{Feed}
-use Rattle.tsp_items.specs.Spells.{spelled}
-use Rattle.tsp_items.specs.Text.{part, fault, settled_fault, Spells}
+use Rattle.tsp_text.specs.Spells.{spelled}
+use Rattle.tsp_text.specs.Text.{part, fault, settled_fault, Spells}
 use Rattle.tsp_read.specs.Reads.{Reads, ReadsFrom, most_taken, StopsAt}
 use Rattle.tsp_read.specs.Onward.{is_bare}
 use Rattle.tsp_read.specs.Feed.{IsEnded, HasTaken, Feeds}

@@ -7,18 +7,18 @@ use Rattle.std.proofs.lemmas.List.{reverse-append}
 use Rattle.std.proofs.lemmas.Option.{none-some}
 use Rattle.tsp_format.specs.Bytes.{is_blank}
 use Rattle.tsp_format.specs.declared.field.Field.{Field}
-use Rattle.tsp_items.specs.declared.fault.LineFault.{LineFault}
-use Rattle.tsp_items.specs.declared.fault.LineFault.TheVariants as row
-use Rattle.tsp_items.specs.declared.fault.ReadFault.{ReadFault}
-use Rattle.tsp_items.specs.declared.fault.ReadFault.TheVariants as faults
+use Rattle.tsp_text.specs.declared.fault.LineFault.{LineFault}
+use Rattle.tsp_text.specs.declared.fault.LineFault.TheVariants as row
+use Rattle.tsp_text.specs.declared.fault.ReadFault.{ReadFault}
+use Rattle.tsp_text.specs.declared.fault.ReadFault.TheVariants as faults
 use Rattle.tsp_read.specs.declared.intake.Intake.{Intake}
-use Rattle.tsp_items.specs.Lines.{ends_line}
-use Rattle.tsp_items.specs.Items.{Item, Line, NumberWord, LineEnd, settled_items, is_end_line, has_end_line}
-use Rattle.tsp_items.specs.Earlier.{open_section, words_of}
-use Rattle.tsp_items.specs.Values.{spatial_after}
-use Rattle.tsp_items.specs.Sections.{place_in, nodes_of}
-use Rattle.tsp_items.specs.Rows.{row_of}
-use Rattle.tsp_items.specs.FirstFault.{IsClean}
+use Rattle.tsp_text.specs.Lines.{ends_line}
+use Rattle.tsp_text.specs.Items.{Item, Line, NumberWord, LineEnd, settled_items, is_end_line, has_end_line}
+use Rattle.tsp_text.specs.Earlier.{open_section, words_of}
+use Rattle.tsp_text.specs.Values.{spatial_after}
+use Rattle.tsp_text.specs.Sections.{place_in, nodes_of}
+use Rattle.tsp_text.specs.Rows.{row_of}
+use Rattle.tsp_text.specs.FirstFault.{IsClean}
 use Rattle.tsp_read.specs.states.Holds.{Holds}
 use Rattle.tsp_read.specs.states.Left.{items_left, ends_word}
 use Rattle.tsp_read.specs.Walk.{Walked}

@@ -18,23 +18,23 @@ use Rattle.tsp_format.specs.Limits.{most_nodes, most_capacity, most_scale, most_
 use Rattle.tsp_format.specs.Words.{kind_word, weight_kind_word, weight_format_word, coord_kind_word, display_kind_word, kinds, weight_kinds, weight_formats, coord_kinds, display_kinds}
 use Rattle.tsp_distance.specs.declared.decimal.Point.{Point}
 use Rattle.tsp_draft.specs.Fields.{Fields, fields_of, spatial, stands_in, with_one_number}
-use Rattle.tsp_items.specs.declared.fault.LineFault.{LineFault}
-use Rattle.tsp_items.specs.declared.fault.StepFault.{StepFault}
-use Rattle.tsp_items.specs.declared.fault.StepFault.TheVariants as steps
+use Rattle.tsp_text.specs.declared.fault.LineFault.{LineFault}
+use Rattle.tsp_section.specs.declared.fault.StepFault.{StepFault}
+use Rattle.tsp_section.specs.declared.fault.StepFault.TheVariants as steps
 use Rattle.tsp_read.specs.declared.state.reading.OpenSection.{OpenSection}
 use Rattle.tsp_read.specs.declared.state.reading.Reading.{Reading}
-use Rattle.tsp_items.specs.Lines.{is_filled, first_word}
-use Rattle.tsp_items.specs.Items.{WordLine, Item, Line}
-use Rattle.tsp_items.specs.Earlier.{same_field, has_line, open_section, words_of}
-use Rattle.tsp_items.specs.Values.{kind_named, weight_kind_named, weight_format_named, coord_kind_named, display_kind_named, is_left_out, says_space, spatial_after}
-use Rattle.tsp_items.specs.Groups.{coords_by_node}
-use Rattle.tsp_items.specs.Sections.{nodes_of}
-use Rattle.tsp_items.specs.Rows.{row_of, is_late}
-use Rattle.tsp_items.specs.FirstFault.{IsClean}
+use Rattle.tsp_text.specs.Lines.{is_filled, first_word}
+use Rattle.tsp_text.specs.Items.{WordLine, Item, Line}
+use Rattle.tsp_text.specs.Earlier.{same_field, has_line, open_section, words_of}
+use Rattle.tsp_text.specs.Values.{kind_named, weight_kind_named, weight_format_named, coord_kind_named, display_kind_named, is_left_out, says_space, spatial_after}
+use Rattle.tsp_text.specs.Groups.{coords_by_node}
+use Rattle.tsp_text.specs.Sections.{nodes_of}
+use Rattle.tsp_text.specs.Rows.{row_of, is_late}
+use Rattle.tsp_text.specs.FirstFault.{IsClean}
 use Rattle.tsp_format.specs.declared.field.ValueShape.TheVariants.{Number}
 use Rattle.tsp_format.specs.Shapes.{is_section_field, value_shape_of}
-use Rattle.tsp_items.specs.Spells.{fields_by, sections_in_order, first_incomplete}
-use Rattle.tsp_items.specs.states.CutLine.{named_rows, SetsNamed, numbered_rows, GivesNumber}
+use Rattle.tsp_text.specs.Spells.{fields_by, sections_in_order, first_incomplete}
+use Rattle.tsp_section.specs.states.CutLine.{named_rows, SetsNamed, numbered_rows, GivesNumber}
 use Rattle.tsp_read.specs.states.Holds.{fields_there, is_closed, is_closed_incomplete, OpenHolds, Closed, LineAnswers}
 use Rattle.tsp_text.proofs.Clean.{clean_more}
 use Rattle.tsp_read.proofs.KeywordCases.{by_number}

@@ -3,8 +3,8 @@ use Rattle.std.proofs.Common.{◌≡◌, ℕ, Bool, true, false, List, [], ◌�
 use Rattle.std.specs.Prelude.{not, ◌&&◌, ◌||◌, ◌==◌, is_some}
 use Rattle.std.proofs.lemmas.Bool.{false≢true, le-ltb}
 use Rattle.tsp_format.specs.Limits.{most_file_bytes}
-use Rattle.tsp_items.specs.declared.fault.ReadFault.{ReadFault}
-use Rattle.tsp_items.specs.declared.fault.ReadFault.TheVariants as faults
+use Rattle.tsp_text.specs.declared.fault.ReadFault.{ReadFault}
+use Rattle.tsp_text.specs.declared.fault.ReadFault.TheVariants as faults
 use Rattle.tsp_read.specs.declared.state.reading.Reading.{Reading}
 use Rattle.tsp_read.specs.declared.intake.Intake.{Intake}
 use Rattle.tsp_read.specs.declared.begun.Begun.{Begun}
@@ -12,10 +12,10 @@ use Rattle.tsp_read.specs.declared.state.reading.OpenSection.{OpenSection}
 use Rattle.tsp_read.specs.declared.stage.Stage.TheVariants.{Going, Ended, Refused}
 use Rattle.tsp_read.specs.declared.feed.Feed.{Feed}
 use Rattle.tsp_draft.specs.Fields.{Fields}
-use Rattle.tsp_items.specs.Earlier.{open_section}
-use Rattle.tsp_items.specs.FirstFault.{fault_in}
+use Rattle.tsp_text.specs.Earlier.{open_section}
+use Rattle.tsp_text.specs.FirstFault.{fault_in}
 use Rattle.tsp_text.specs.Cuts.{AreCut}
-use Rattle.tsp_items.specs.Text.{is_too_long, part, fault, settled_part}
+use Rattle.tsp_text.specs.Text.{is_too_long, part, fault, settled_part}
 use Rattle.tsp_read.specs.Feed.{IsGoing, IsEnded, HasSettled, HasTaken, SpellsWhole, Ends}
 use Rattle.tsp_text.proofs.ValidCuts.{part_cut}
 use Rattle.tsp_text.proofs.SettledFaults.{part_long, part_short, part_kept, fault_kept}
@@ -24,7 +24,7 @@ use Rattle.std.specs.List.{list_all}
 use Rattle.std.proofs.lemmas.List.{reverse-append}
 use Rattle.std.proofs.lemmas.List.Folds.{list_all-append}
 use Rattle.std.proofs.lemmas.Option.{none-some}
-use Rattle.tsp_items.specs.Items.{Item, Line, NumberWord, LineEnd, items_of, is_end_line, has_end_line, to_end_line}
+use Rattle.tsp_text.specs.Items.{Item, Line, NumberWord, LineEnd, items_of, is_end_line, has_end_line, to_end_line}
 use Rattle.tsp_read.specs.states.Left.{items_left, ends_word, before, from, is_settled}
 use Rattle.tsp_read.specs.states.Token.{ends, most_bytes, token_item}
 use Rattle.tsp_read.specs.states.Holds.{OpenHolds, Holds}

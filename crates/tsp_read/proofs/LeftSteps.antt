@@ -6,9 +6,9 @@ use Rattle.std.proofs.lemmas.Bool.{eqb-true, ne_eqb}
 use Rattle.std.proofs.lemmas.Bool.Decides.{nat_tests}
 use Rattle.tsp_format.specs.Bytes.{is_blank, is_letter}
 use Rattle.tsp_format.specs.Limits.{most_word_bytes, most_line_bytes}
-use Rattle.tsp_items.specs.Lines.{lines_of, words_in, ends_line, is_filled, without_start, begins}
-use Rattle.tsp_items.specs.Items.{Item, NumberWord, LineEnd, line_item, items_in, items_by, items_of, settled_pieces, settled_words, settled_line, settled_in, settled_items}
-use Rattle.tsp_items.proofs.NoBlanks.{start_blank, start_filled}
+use Rattle.tsp_text.specs.Lines.{lines_of, words_in, ends_line, is_filled, without_start, begins}
+use Rattle.tsp_text.specs.Items.{Item, NumberWord, LineEnd, line_item, items_in, items_by, items_of, settled_pieces, settled_words, settled_line, settled_in, settled_items}
+use Rattle.tsp_text.proofs.NoBlanks.{start_blank, start_filled}
 use Rattle.tsp_read.specs.states.Left.{line_items, last_items, items_left_by, items_left, ends_word, before, from, is_settled}
 
 -- ---- pieces

@@ -5,8 +5,8 @@ use Rattle.std.proofs.lemmas.Bool.{ne_eqb}
 use Rattle.std.proofs.lemmas.List.{nil_from_length}
 use Rattle.tsp_format.specs.Bytes.{is_blank, is_letter}
 use Rattle.tsp_format.specs.Limits.{most_word_bytes, most_line_bytes}
-use Rattle.tsp_items.specs.Lines.{ends_line, without_start}
-use Rattle.tsp_items.specs.Items.{NumberWord, LineEnd, line_item}
+use Rattle.tsp_text.specs.Lines.{ends_line, without_start}
+use Rattle.tsp_text.specs.Items.{NumberWord, LineEnd, line_item}
 use Rattle.tsp_read.specs.declared.token.Token.{Token}
 use Rattle.tsp_read.specs.declared.token.Token.TheVariants.{Line, Word}
 use Rattle.tsp_read.specs.states.Left.{items_left, ends_word, before, from, is_settled}

@@ -5,14 +5,14 @@ use Rattle.std.specs.List.{position_or_len}
 use Rattle.std.proofs.lemmas.Bool.{lt-ltb}
 use Rattle.tsp_format.specs.Bytes.{is_blank, is_letter}
 use Rattle.tsp_format.specs.Limits.{most_word_bytes, most_line_bytes}
-use Rattle.tsp_items.specs.Lines.{is_filled, without_start}
-use Rattle.tsp_items.specs.Items.{NumberWord, LineEnd}
+use Rattle.tsp_text.specs.Lines.{is_filled, without_start}
+use Rattle.tsp_text.specs.Items.{NumberWord, LineEnd}
 use Rattle.tsp_read.specs.declared.token.Token.{Token}
 use Rattle.tsp_read.specs.declared.token.Token.TheVariants.{Line, Word}
 use Rattle.tsp_read.specs.states.Left.{ends_word, before, from, is_settled}
 use Rattle.tsp_read.specs.states.Token.{token_at, ends, most_bytes, token_item}
 use Rattle.tsp_read.specs.Onward.{is_over_long, GivesNext}
-use Rattle.tsp_items.proofs.NoBlanks.{start_blank, start_filled}
+use Rattle.tsp_text.proofs.NoBlanks.{start_blank, start_filled}
 use Rattle.tsp_read.proofs.NextSteps.{end_next, token_next}
 
 -- ---- before and from the first place that passes, where there is one

@@ -4,14 +4,14 @@ use Rattle.std.specs.Prelude.{reverse, IfSome}
 use Rattle.tsp_format.specs.Bytes.{is_blank}
 use Rattle.tsp_read.specs.declared.intake.Intake.{Intake}
 use Rattle.tsp_read.specs.declared.begun.Begun.{Begun}
-use Rattle.tsp_items.specs.Lines.{is_filled, without_start}
-use Rattle.tsp_items.specs.Items.{Item}
+use Rattle.tsp_text.specs.Lines.{is_filled, without_start}
+use Rattle.tsp_text.specs.Items.{Item}
 use Rattle.tsp_read.specs.states.Left.{items_left}
 use Rattle.tsp_read.specs.declared.state.reading.Reading.{Reading}
 use Rattle.tsp_read.specs.states.Intake.{IsReadTo, HasEnded, ReadsOn}
 use Rattle.tsp_read.specs.states.Begun.{HasBegun, kept, IsFedTo, IsJoinedTo}
 use Rattle.tsp_read.specs.states.Paused.{IsPaused}
-use Rattle.tsp_items.proofs.NoBlanks.{start_blank, start_filled}
+use Rattle.tsp_text.proofs.NoBlanks.{start_blank, start_filled}
 use Rattle.tsp_read.proofs.LeftSteps.{left_blank, left_start}
 
 -- ---- blanks at the start

@@ -8,15 +8,15 @@ use Rattle.std.proofs.lemmas.List.{take-append-le}
 use Rattle.std.proofs.lemmas.Option.{none-some}
 use Rattle.tsp_format.specs.Limits.{most_file_bytes}
 use Rattle.tsp_stream.specs.Turn.{Turn, Gave, IsSound, GaveAll, TakesAtMost}
-use Rattle.tsp_items.specs.declared.fault.ReadFault.{ReadFault}
-use Rattle.tsp_items.specs.declared.fault.ReadFault.TheVariants as faults
+use Rattle.tsp_text.specs.declared.fault.ReadFault.{ReadFault}
+use Rattle.tsp_text.specs.declared.fault.ReadFault.TheVariants as faults
 use Rattle.tsp_read.specs.declared.stage.Stage.{Stage}
 use Rattle.tsp_read.specs.declared.stage.Stage.TheVariants.{Going, Ended, Refused}
 use Rattle.tsp_read.specs.declared.feed.Feed.{Feed}
-use Rattle.tsp_items.specs.Items.{has_end_line}
-use Rattle.tsp_items.specs.Rows.{when, first_row}
-use Rattle.tsp_items.specs.FirstFault.{fault_in, IsClean}
-use Rattle.tsp_items.specs.Text.{is_too_long, settled_part, settled_fault, fault}
+use Rattle.tsp_text.specs.Items.{has_end_line}
+use Rattle.tsp_text.specs.Rows.{when, first_row}
+use Rattle.tsp_text.specs.FirstFault.{fault_in, IsClean}
+use Rattle.tsp_text.specs.Text.{is_too_long, settled_part, settled_fault, fault}
 use Rattle.tsp_read.specs.Reads.{most_taken, StopsAt}
 use Rattle.tsp_read.specs.Onward.{is_bare}
 use Rattle.tsp_read.specs.Feed.{IsGoing, HasTaken, Feeds}

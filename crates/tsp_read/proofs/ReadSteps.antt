@@ -1,13 +1,13 @@
 -- Reading a text: item by item, and the answer for the whole.
 use Rattle.std.proofs.Common.{◌≡◌, ℕ, Bool, false, List, ◌∷◌, refl, sym, subst, Option, Some, None, Ok, Err}
-use Rattle.tsp_items.specs.declared.fault.StepFault.{StepFault}
-use Rattle.tsp_items.specs.declared.fault.StepFault.TheVariants as steps
+use Rattle.tsp_section.specs.declared.fault.StepFault.{StepFault}
+use Rattle.tsp_section.specs.declared.fault.StepFault.TheVariants as steps
 use Rattle.tsp_read.specs.declared.state.reading.Reading.{Reading}
 use Rattle.tsp_read.specs.declared.cut.Next.{Next}
 use Rattle.tsp_read.specs.declared.cut.Next.TheVariants as next
-use Rattle.tsp_items.specs.Items.{Item, LineEnd, NumberWord, Line, is_end_line, words_before, word_number}
-use Rattle.tsp_items.specs.Rows.{row_of}
-use Rattle.tsp_items.specs.Text.{part, fault}
+use Rattle.tsp_text.specs.Items.{Item, LineEnd, NumberWord, Line, is_end_line, words_before, word_number}
+use Rattle.tsp_text.specs.Rows.{row_of}
+use Rattle.tsp_text.specs.Text.{part, fault}
 use Rattle.tsp_read.specs.states.Left.{item_next}
 use Rattle.tsp_read.specs.declared.state.reading.OpenSection.{OpenSection}
 use Rattle.tsp_read.specs.states.Holds.{OpenHolds, Holds, AnswersItem}

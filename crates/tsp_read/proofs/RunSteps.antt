@@ -1,8 +1,8 @@
 -- A run of words: one step, and one after another.
 use Rattle.std.proofs.Common.{◌≡◌, ℕ, ◌+◌, ◌<◌, Bool, true, false, List, ◌∷◌, length, refl, ap, subst, ◌∙◌, Option, None, Some, Ok, arith}
-use Rattle.tsp_items.specs.declared.part.Part.{Part}
-use Rattle.tsp_items.specs.Items.{NumberWord, LineEnd}
-use Rattle.tsp_items.specs.states.Run.{TakesRead, KeepsWords}
+use Rattle.tsp_section.specs.declared.part.Part.{Part}
+use Rattle.tsp_text.specs.Items.{NumberWord, LineEnd}
+use Rattle.tsp_section.specs.states.Run.{TakesRead, KeepsWords}
 use Rattle.tsp_read.specs.declared.count.Count.{Count}
 use Rattle.tsp_read.specs.declared.intake.Intake.{Intake}
 use Rattle.tsp_read.specs.declared.state.reading.OpenSection.{OpenSection}

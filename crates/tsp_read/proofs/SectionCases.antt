@@ -6,14 +6,14 @@ use Rattle.tsp_format.specs.declared.field.Field.{Field}
 use Rattle.tsp_format.specs.declared.field.Field.TheVariants.{NodeCoordPart}
 use Rattle.tsp_format.specs.declared.keyword.Keyword.TheVariants.{Known}
 use Rattle.tsp_draft.specs.Fields.{Fields}
-use Rattle.tsp_items.specs.Items.{WordLine, Item, Line, NumberWord}
+use Rattle.tsp_text.specs.Items.{WordLine, Item, Line, NumberWord}
 use Rattle.tsp_format.specs.Shapes.{is_section_field}
-use Rattle.tsp_items.specs.Earlier.{has_line, open_section, words_of}
+use Rattle.tsp_text.specs.Earlier.{has_line, open_section, words_of}
 use Rattle.tsp_format.specs.declared.field.Shape.TheVariants.{Points, SpacePoints}
-use Rattle.tsp_items.specs.Values.{spatial_after}
-use Rattle.tsp_items.specs.Groups.{coords_by_node}
-use Rattle.tsp_items.specs.Sections.{nodes_of}
-use Rattle.tsp_items.specs.Spells.{fields_by, is_incomplete, sections_in_order}
+use Rattle.tsp_text.specs.Values.{spatial_after}
+use Rattle.tsp_text.specs.Groups.{coords_by_node}
+use Rattle.tsp_text.specs.Sections.{nodes_of}
+use Rattle.tsp_text.specs.Spells.{fields_by, is_incomplete, sections_in_order}
 use Rattle.tsp_text.proofs.Sections.{by_section}
 use Rattle.tsp_read.specs.states.Holds.{is_closed, is_closed_incomplete, fields_there, keywords_there}
 use Rattle.tsp_read.specs.states.Stored.{with_words, with_section}

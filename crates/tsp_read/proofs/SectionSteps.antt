@@ -12,32 +12,33 @@ use Rattle.tsp_format.specs.Steps.{Step}
 use Rattle.tsp_format.specs.Words.{fields_in_order}
 use Rattle.tsp_draft.specs.Fields.{Fields, fields_of, stands_in, with_numbers, spatial}
 use Rattle.tsp_draft.specs.Validity.{if_there, is_node}
-use Rattle.tsp_items.specs.declared.fault.LineFault.{LineFault}
-use Rattle.tsp_items.specs.declared.fault.LineFault.TheVariants as row
+use Rattle.tsp_text.specs.declared.fault.LineFault.{LineFault}
+use Rattle.tsp_text.specs.declared.fault.LineFault.TheVariants as row
 use Rattle.tsp_format.specs.declared.field.Shape.{Shape}
 use Rattle.tsp_format.specs.declared.field.Shape.TheVariants.{Numbers, Pairs, Triples, Combs, Steps}
-use Rattle.tsp_items.specs.declared.part.Part.{Part}
-use Rattle.tsp_items.specs.declared.part.Part.TheVariants as parts
-use Rattle.tsp_items.specs.declared.parts.numbers.NumberList.{NumberList}
-use Rattle.tsp_items.specs.declared.parts.fixed.FixedList.{FixedList}
-use Rattle.tsp_items.specs.declared.parts.triples.TripleList.{TripleList}
-use Rattle.tsp_items.specs.declared.parts.combs.CombList.{CombList}
-use Rattle.tsp_items.specs.declared.parts.tree.TreeList.{TreeList}
-use Rattle.tsp_items.specs.Groups.{numbers_by_node, place_of_number}
-use Rattle.tsp_items.specs.Lists.{fixed_in, place_of_fixed, fixed_triples_in, place_of_triple}
-use Rattle.tsp_items.specs.Combs.{combs_in, place_of_comb}
-use Rattle.tsp_items.specs.Tree.{steps_in, place_of_step}
-use Rattle.tsp_items.specs.Places.{PastEnd}
-use Rattle.tsp_items.specs.Lines.{is_filled}
-use Rattle.tsp_items.specs.Items.{WordLine, Item, Line}
+use Rattle.tsp_section.specs.declared.part.Part.{Part}
+use Rattle.tsp_section.specs.declared.part.Part.TheVariants as parts
+use Rattle.tsp_section.specs.declared.parts.numbers.NumberList.{NumberList}
+use Rattle.tsp_section.specs.declared.parts.fixed.FixedList.{FixedList}
+use Rattle.tsp_section.specs.declared.parts.triples.TripleList.{TripleList}
+use Rattle.tsp_section.specs.declared.parts.combs.CombList.{CombList}
+use Rattle.tsp_section.specs.declared.parts.tree.TreeList.{TreeList}
+use Rattle.tsp_text.specs.Groups.{numbers_by_node, place_of_number}
+use Rattle.tsp_text.specs.Lists.{fixed_in, place_of_fixed, fixed_triples_in, place_of_triple}
+use Rattle.tsp_text.specs.Combs.{combs_in, place_of_comb}
+use Rattle.tsp_text.specs.Tree.{steps_in, place_of_step}
+use Rattle.tsp_text.specs.Places.{PastEnd}
+use Rattle.tsp_text.specs.Lines.{is_filled}
+use Rattle.tsp_text.specs.Items.{WordLine, Item, Line}
 use Rattle.tsp_format.specs.Shapes.{shape_of, is_section_field}
-use Rattle.tsp_items.specs.Earlier.{is_open, has_line, open_section, words_of}
-use Rattle.tsp_items.specs.Values.{dimension_of, spatial_after}
-use Rattle.tsp_items.specs.Sections.{place_by, place_in, nodes_of}
-use Rattle.tsp_items.specs.Rows.{row_of, when, first_row}
-use Rattle.tsp_items.specs.states.CutLine.{needs_nodes, is_matrix, opening_rows, MayOpen}
-use Rattle.tsp_items.specs.states.Held.{HoldsNumbers, HoldsFixed, HoldsTriples, HoldsCombs, HoldsTree, shape_by, HoldsPart, HoldsShape}
-use Rattle.tsp_items.specs.Spells.{wants_more, is_incomplete, sections_in_order, first_incomplete}
+use Rattle.tsp_text.specs.Earlier.{is_open, has_line, open_section, words_of}
+use Rattle.tsp_text.specs.Values.{dimension_of, spatial_after}
+use Rattle.tsp_text.specs.Sections.{place_by, place_in, nodes_of}
+use Rattle.tsp_text.specs.Rows.{row_of, when, first_row}
+use Rattle.tsp_section.specs.states.CutLine.{MayOpen}
+use Rattle.tsp_text.specs.Opening.{needs_nodes, is_matrix, opening_rows}
+use Rattle.tsp_section.specs.states.Held.{HoldsNumbers, HoldsFixed, HoldsTriples, HoldsCombs, HoldsTree, shape_by, HoldsPart, HoldsShape}
+use Rattle.tsp_text.specs.Spells.{wants_more, is_incomplete, sections_in_order, first_incomplete}
 use Rattle.tsp_read.specs.declared.state.reading.OpenSection.{OpenSection}
 use Rattle.tsp_read.specs.declared.state.reading.Reading.{Reading}
 use Rattle.tsp_read.specs.states.Open.{HoldsSection}

@@ -7,16 +7,16 @@ use Rattle.tsp_format.specs.declared.field.Field.TheVariants.{NameKey, CommentKe
 use Rattle.tsp_format.specs.declared.keyword.Keyword.TheVariants.{Known, EdgeDataFormat, EdgeDataSection, Eof, Unknown}
 use Rattle.tsp_format.specs.Limits.{most_line_bytes, most_comments, most_others}
 use Rattle.tsp_draft.specs.Fields.{Fields, fields_of}
-use Rattle.tsp_items.specs.declared.fault.LineFault.{LineFault}
-use Rattle.tsp_items.specs.declared.fault.LineFault.TheVariants as row
-use Rattle.tsp_items.specs.declared.fault.StepFault.{StepFault}
-use Rattle.tsp_items.specs.declared.fault.StepFault.TheVariants as steps
+use Rattle.tsp_text.specs.declared.fault.LineFault.{LineFault}
+use Rattle.tsp_text.specs.declared.fault.LineFault.TheVariants as row
+use Rattle.tsp_section.specs.declared.fault.StepFault.{StepFault}
+use Rattle.tsp_section.specs.declared.fault.StepFault.TheVariants as steps
 use Rattle.tsp_read.specs.declared.state.reading.Reading.{Reading}
-use Rattle.tsp_items.specs.Items.{WordLine, Item, Line}
-use Rattle.tsp_items.specs.Earlier.{has_line, values_at, others_in}
-use Rattle.tsp_items.specs.Rows.{row_of, when, first_row, is_too_long_to_keep}
-use Rattle.tsp_items.specs.Spells.{fields_by}
-use Rattle.tsp_items.specs.states.CutLine.{SetsName, AddsComment, AddsOther}
+use Rattle.tsp_text.specs.Items.{WordLine, Item, Line}
+use Rattle.tsp_text.specs.Earlier.{has_line, values_at, others_in}
+use Rattle.tsp_text.specs.Rows.{row_of, when, first_row, is_too_long_to_keep}
+use Rattle.tsp_text.specs.Spells.{fields_by}
+use Rattle.tsp_section.specs.states.CutLine.{SetsName, AddsComment, AddsOther}
 use Rattle.tsp_read.specs.states.Holds.{fields_there, Holds, Closed, LineAnswers, OtherAnswers}
 use Rattle.tsp_text.proofs.Clean.{clean_more}
 use Rattle.tsp_read.proofs.KeywordSteps.{still_none}

@@ -4,13 +4,13 @@ use Rattle.std.specs.Prelude.{not, ◌||◌, ◌&&◌}
 use Rattle.std.specs.Option.{option_or, option_map}
 use Rattle.std.proofs.lemmas.List.{reverse-append, reverse-reverse}
 use Rattle.tsp_draft.specs.declared.fault.EndFault.{EndFault}
-use Rattle.tsp_items.specs.declared.fault.ReadFault.{ReadFault}
-use Rattle.tsp_items.specs.declared.fault.ReadFault.TheVariants as faults
-use Rattle.tsp_items.specs.Items.{Item, is_end_line, has_end_line, to_end_line}
-use Rattle.tsp_items.specs.Rows.{row_of, when, first_row}
-use Rattle.tsp_items.specs.FirstFault.{fault_here, fault_in, IsClean}
-use Rattle.tsp_items.specs.Spells.{fault_at_end}
-use Rattle.tsp_items.specs.Text.{is_too_long, part, fault}
+use Rattle.tsp_text.specs.declared.fault.ReadFault.{ReadFault}
+use Rattle.tsp_text.specs.declared.fault.ReadFault.TheVariants as faults
+use Rattle.tsp_text.specs.Items.{Item, is_end_line, has_end_line, to_end_line}
+use Rattle.tsp_text.specs.Rows.{row_of, when, first_row}
+use Rattle.tsp_text.specs.FirstFault.{fault_here, fault_in, IsClean}
+use Rattle.tsp_text.specs.Spells.{fault_at_end}
+use Rattle.tsp_text.specs.Text.{is_too_long, part, fault}
 use Rattle.tsp_read.specs.Walk.{Walked}
 
 -- ---- items with no end line

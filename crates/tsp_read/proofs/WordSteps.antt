@@ -1,20 +1,20 @@
 -- A word of the open section: nothing changes but the words of that section.
 use Rattle.std.proofs.Common.{Bool, subst, ◌≡◌, ℕ, true, List, [], ◌∷◌, ◌++◌, sym, ap, ◌∙◌, Some, Result, Ok, Err}
 use Rattle.tsp_format.specs.declared.field.Field.{Field}
-use Rattle.tsp_items.specs.declared.fault.StepFault.{StepFault}
-use Rattle.tsp_items.specs.declared.fault.StepFault.TheVariants as steps
+use Rattle.tsp_section.specs.declared.fault.StepFault.{StepFault}
+use Rattle.tsp_section.specs.declared.fault.StepFault.TheVariants as steps
 use Rattle.tsp_format.specs.declared.field.Shape.{Shape}
 use Rattle.tsp_read.specs.declared.state.reading.OpenSection.{OpenSection}
 use Rattle.tsp_read.specs.declared.state.reading.Reading.{Reading}
-use Rattle.tsp_items.specs.Items.{Item, NumberWord}
-use Rattle.tsp_items.specs.Earlier.{open_section, words_of}
+use Rattle.tsp_text.specs.Items.{Item, NumberWord}
+use Rattle.tsp_text.specs.Earlier.{open_section, words_of}
 use Rattle.tsp_format.specs.Shapes.{shape_of, is_section_field}
-use Rattle.tsp_items.specs.Places.{PastEnd}
-use Rattle.tsp_items.specs.Values.{spatial_after}
-use Rattle.tsp_items.specs.Sections.{place_by, place_in, nodes_of}
-use Rattle.tsp_items.specs.Rows.{word_fault}
-use Rattle.tsp_items.specs.states.Parts.{Takes}
-use Rattle.tsp_items.specs.states.Held.{shape_by, HoldsPart, HoldsShape}
+use Rattle.tsp_text.specs.Places.{PastEnd}
+use Rattle.tsp_text.specs.Values.{spatial_after}
+use Rattle.tsp_text.specs.Sections.{place_by, place_in, nodes_of}
+use Rattle.tsp_text.specs.Rows.{word_fault}
+use Rattle.tsp_section.specs.states.Parts.{Takes}
+use Rattle.tsp_section.specs.states.Held.{shape_by, HoldsPart, HoldsShape}
 use Rattle.std.specs.Option.{option_map_or}
 use Rattle.tsp_read.specs.states.Holds.{OpenHolds, Holds, AnswersItem}
 use Rattle.tsp_text.proofs.Sections.{section_of}

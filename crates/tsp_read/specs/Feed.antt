@@ -1,14 +1,14 @@
 -- A file that is read in pieces: which bytes have come so far, and what is answered for them.
 use Rattle.std.specs.Prelude.{◌≡◌, ℕ, ◌≤◌, true, false, not, ◌&&◌, List, length, Option, None, Some, is_some, Result, Ok, Err}
 use Rattle.tsp_format.specs.Limits.{most_file_bytes}
-use Rattle.tsp_items.specs.declared.fault.ReadFault.{ReadFault}
-use Rattle.tsp_items.specs.declared.fault.ReadFault.TheVariants as faults
+use Rattle.tsp_text.specs.declared.fault.ReadFault.{ReadFault}
+use Rattle.tsp_text.specs.declared.fault.ReadFault.TheVariants as faults
 use Rattle.tsp_read.specs.declared.state.reading.Reading.{Reading}
 use Rattle.tsp_read.specs.declared.stage.Stage.{Stage}
 use Rattle.tsp_read.specs.declared.stage.Stage.TheVariants.{Going, Ended, Refused}
 use Rattle.tsp_read.specs.declared.feed.Feed.{Feed}
-use Rattle.tsp_items.specs.Items.{has_end_line}
-use Rattle.tsp_items.specs.Text.{is_too_long, part, settled_part, settled_fault}
+use Rattle.tsp_text.specs.Items.{has_end_line}
+use Rattle.tsp_text.specs.Text.{is_too_long, part, settled_part, settled_fault}
 use Rattle.tsp_read.specs.Reads.{Reads}
 use Rattle.tsp_read.specs.states.Holds.{Holds}
 use Rattle.tsp_read.specs.Onward.{is_bare}

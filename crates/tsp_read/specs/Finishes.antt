@@ -6,9 +6,9 @@ use Rattle.tsp_draft.specs.Fields.{Fields}
 use Rattle.tsp_draft.specs.Rules.{standing_of, end_fault, fault_of}
 use Rattle.tsp_read.specs.declared.state.finish.FinishFault.{FinishFault}
 use Rattle.tsp_read.specs.declared.state.finish.FinishFault.TheVariants as faults
-use Rattle.tsp_items.specs.Items.{Item}
-use Rattle.tsp_items.specs.FirstFault.{IsClean}
-use Rattle.tsp_items.specs.Spells.{spelled, fault_at_end}
+use Rattle.tsp_text.specs.Items.{Item}
+use Rattle.tsp_text.specs.FirstFault.{IsClean}
+use Rattle.tsp_text.specs.Spells.{spelled, fault_at_end}
 
 abbrev pub Finishes : List Item → Result Fields FinishFault → Type 0
 Finishes items (Ok file) = IsClean items × (fault_at_end items ≡ None) × (file ≡ spelled items)

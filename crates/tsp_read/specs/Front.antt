@@ -1,8 +1,8 @@
 -- The word at the front of a text.
 use Rattle.std.specs.Prelude.{◌≡◌, ◌<◌, ℕ, Bool, true, List, [], ◌∷◌, length, ◌⊎◌}
 use Rattle.tsp_format.specs.Bytes.{is_blank}
-use Rattle.tsp_items.specs.Lines.{ends_line, without_start}
-use Rattle.tsp_items.specs.Items.{NumberWord}
+use Rattle.tsp_text.specs.Lines.{ends_line, without_start}
+use Rattle.tsp_text.specs.Items.{NumberWord}
 use Rattle.tsp_read.specs.states.Left.{ends_word, before}
 use Rattle.tsp_read.specs.Onward.{GivesNext}
 

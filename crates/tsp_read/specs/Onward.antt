@@ -2,7 +2,7 @@
 use Rattle.std.specs.Prelude.{◌≡◌, ℕ, Bool, true, false, nat_lt, List, ◌∷◌, ◌++◌, length, reverse}
 use Rattle.std.specs.List.{list_all}
 use Rattle.tsp_format.specs.Limits.{most_word_bytes, most_line_bytes}
-use Rattle.tsp_items.specs.Items.{Item, Line, NumberWord, LineEnd}
+use Rattle.tsp_text.specs.Items.{Item, Line, NumberWord, LineEnd}
 use Rattle.tsp_read.specs.states.Left.{items_left, ends_word}
 
 -- blanks and line ends alone

@@ -3,15 +3,15 @@ use Rattle.std.specs.Prelude.{◌≡◌, ℕ, ◌+◌, Bool, List, ◌∷◌, re
 use Rattle.tsp_format.specs.Limits.{most_file_bytes}
 use Rattle.tsp_stream.specs.Turn.{Turn, Gave, IsSound, GaveAll, HasBrokenOff, TakesAtMost}
 use Rattle.tsp_draft.specs.Fields.{Fields}
-use Rattle.tsp_items.specs.declared.fault.StepFault.{StepFault}
-use Rattle.tsp_items.specs.declared.fault.StepFault.TheVariants as steps
-use Rattle.tsp_items.specs.declared.fault.ReadFault.{ReadFault}
-use Rattle.tsp_items.specs.declared.fault.ReadFault.TheVariants as faults
+use Rattle.tsp_section.specs.declared.fault.StepFault.{StepFault}
+use Rattle.tsp_section.specs.declared.fault.StepFault.TheVariants as steps
+use Rattle.tsp_text.specs.declared.fault.ReadFault.{ReadFault}
+use Rattle.tsp_text.specs.declared.fault.ReadFault.TheVariants as faults
 use Rattle.tsp_read.specs.declared.state.reading.Reading.{Reading}
-use Rattle.tsp_items.specs.Items.{Item, is_end_line, has_end_line, to_end_line}
-use Rattle.tsp_items.specs.Rows.{row_of}
-use Rattle.tsp_items.specs.FirstFault.{fault_in}
-use Rattle.tsp_items.specs.Text.{fault, Spells}
+use Rattle.tsp_text.specs.Items.{Item, is_end_line, has_end_line, to_end_line}
+use Rattle.tsp_text.specs.Rows.{row_of}
+use Rattle.tsp_text.specs.FirstFault.{fault_in}
+use Rattle.tsp_text.specs.Text.{fault, Spells}
 use Rattle.tsp_read.specs.states.Holds.{Holds}
 use Rattle.tsp_read.specs.declared.state.finish.FinishFault.TheVariants as finishes
 use Rattle.tsp_read.specs.Finishes.{Finishes}

@@ -3,13 +3,13 @@ use Rattle.std.specs.Prelude.{◌≡◌, ℕ, ◌-◌, Bool, true, false, List, 
 use Rattle.std.specs.Io.KnownBytes.{IsAtEnd}
 use Rattle.tsp_stream.specs.Turn.{Turn, Gave, IsSound, TakesAtMost}
 use Rattle.tsp_draft.specs.Fields.{Fields}
-use Rattle.tsp_items.specs.declared.fault.ReadFault.{ReadFault}
-use Rattle.tsp_items.specs.declared.fault.ReadFault.TheVariants as faults
+use Rattle.tsp_text.specs.declared.fault.ReadFault.{ReadFault}
+use Rattle.tsp_text.specs.declared.fault.ReadFault.TheVariants as faults
 use Rattle.tsp_read.specs.declared.stage.Stage.{Stage}
 use Rattle.tsp_read.specs.declared.stage.Stage.TheVariants.{Going, Ended, Refused}
 use Rattle.tsp_read.specs.declared.feed.Feed.{Feed}
-use Rattle.tsp_items.specs.Items.{has_end_line}
-use Rattle.tsp_items.specs.Text.{settled_part, settled_fault}
+use Rattle.tsp_text.specs.Items.{has_end_line}
+use Rattle.tsp_text.specs.Text.{settled_part, settled_fault}
 use Rattle.tsp_read.specs.Reads.{most_taken, IsFile, StopsAt}
 use Rattle.tsp_read.specs.Onward.{is_bare}
 use Rattle.tsp_read.specs.Feed.{HasTaken}

@@ -1,6 +1,6 @@
 -- What is said of items on the way through them.
 use Rattle.std.specs.Prelude.{◌≡◌, false, List, ◌++◌, reverse}
-use Rattle.tsp_items.specs.Items.{Item, has_end_line}
+use Rattle.tsp_text.specs.Items.{Item, has_end_line}
 
 -- Of these items those were taken, nearest first, and these are left. No end line was taken.
 pub record Walked (items earlier later : List Item) : Type 0 where

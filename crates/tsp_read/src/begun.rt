@@ -2,7 +2,7 @@
 
 ghost use Rattle.std.specs.Prelude.{◌≡◌, ◌+◌, ◌≤◌, [], List, ℕ, length, IfOk, IfSome, true};
 ghost use Rattle.tsp_format.specs.Limits.{most_file_bytes};
-ghost use Rattle.tsp_items.specs.Lines.{without_start};
+ghost use Rattle.tsp_text.specs.Lines.{without_start};
 ghost use Rattle.tsp_read.specs.states.Left.{items_left};
 ghost use Rattle.tsp_read.specs.states.Intake.{ReadsOn};
 
@@ -12,7 +12,7 @@ use crate::token::Token;
 use arrayvec::ArrayVec;
 use std::alloc::Global;
 use tsp_format::MOST_LINE_BYTES;
-use tsp_items::ReadFault;
+use tsp_text::ReadFault;
 
 /// The bytes so far of a word line or of a word whose end has not come, from the first that isn't
 /// blank on; none where nothing has begun.

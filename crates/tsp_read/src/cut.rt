@@ -7,7 +7,7 @@ ghost use Rattle.tsp_read.specs.states.Token.{token_item};
 ghost use Rattle.tsp_read.specs.Onward.{is_over_long, GivesNext};
 
 use crate::token::Token;
-pub(crate) use tsp_items::without_start;
+pub(crate) use tsp_section::without_start;
 
 /// What stands next in a text.
 #[derive(Clone, Copy)]

@@ -3,7 +3,7 @@
 ghost use Rattle.std.specs.Prelude.{◌≡◌, ◌+◌, ◌≤◌, ◌++◌, [], List, ℕ, length, Ok, true, false};
 ghost use Rattle.tsp_format.specs.Limits.{most_file_bytes};
 ghost use Rattle.tsp_read.specs.states.Begun.{IsFedTo, most_lines, most_words, KeepRoom};
-ghost use Rattle.tsp_items.specs.Lines.{is_filled};
+ghost use Rattle.tsp_text.specs.Lines.{is_filled};
 ghost use Rattle.tsp_read.specs.states.Paused.{FeedsOn, HasRoom, stage_after, outcome_of};
 
 use crate::begun::Begun;
@@ -14,7 +14,7 @@ use crate::state::reading::Reading;
 use std::alloc::Global;
 use tsp_file::File;
 use tsp_format::MOST_FILE_BYTES;
-use tsp_items::ReadFault;
+use tsp_text::ReadFault;
 
 /// Reads on with a piece that the limit of a file's bytes doesn't cut: all that what follows can't
 /// change. What hasn't ended in it is kept. The answer is whether an end line was taken.
@@ -119,11 +119,11 @@ impl Drop for Feed {
 
 impl Feed {
     ghost use Rattle.std.specs.Prelude.{Some, None, Err, IfErr, ◌≢◌};
-    ghost use Rattle.tsp_items.specs.declared.fault.ReadFault.{ReadFault};
+    ghost use Rattle.tsp_text.specs.declared.fault.ReadFault.{ReadFault};
     ghost use Rattle.tsp_read.specs.declared.stage.Stage.TheVariants.{Going};
-    ghost use Rattle.tsp_items.specs.Items.{has_end_line};
-    ghost use Rattle.tsp_items.specs.Text.{settled_part, settled_fault};
-    ghost use Rattle.tsp_items.specs.declared.fault.ReadFault.TheVariants.{OutOfMemory};
+    ghost use Rattle.tsp_text.specs.Items.{has_end_line};
+    ghost use Rattle.tsp_text.specs.Text.{settled_part, settled_fault};
+    ghost use Rattle.tsp_text.specs.declared.fault.ReadFault.TheVariants.{OutOfMemory};
     ghost use Rattle.tsp_read.specs.Onward.{is_bare};
     ghost use Rattle.tsp_read.specs.Reads.{Reads};
     ghost use Rattle.tsp_read.specs.Timely.{is_going};

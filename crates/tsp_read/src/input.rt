@@ -9,8 +9,8 @@ ghost use Rattle.tsp_read.specs.Timely.{FeedsAll};
 use crate::feed::Feed;
 use std::io::Read;
 use tsp_format::MOST_FILE_BYTES;
-use tsp_items::ReadFault;
 use tsp_stream::Watched;
+use tsp_text::ReadFault;
 
 /// The most bytes that a reader is asked for at once.
 const MOST_AT_ONCE: usize = 4_096;

@@ -2,7 +2,7 @@
 
 ghost use Rattle.std.specs.Prelude.{◌≡◌, ◌+◌, ◌≤◌, ◌<◌, [], List, ℕ, length, IfOk, IfSome, Err, true};
 ghost use Rattle.tsp_format.specs.Limits.{most_file_bytes};
-ghost use Rattle.tsp_items.specs.Items.{Item, NumberWord, line_item};
+ghost use Rattle.tsp_text.specs.Items.{Item, NumberWord, line_item};
 ghost use Rattle.tsp_read.specs.states.Left.{items_left, item_next, is_inside};
 ghost use Rattle.tsp_read.specs.states.Token.{token_item};
 ghost use Rattle.tsp_read.specs.Onward.{is_over_long};
@@ -13,8 +13,9 @@ use crate::state::reading::Reading;
 use crate::token::Token;
 use std::alloc::Global;
 use tsp_format::MOST_WORD_BYTES;
-use tsp_items::{LineFault, ReadFault, StepFault};
 use tsp_number::NumberFault;
+use tsp_section::StepFault;
+use tsp_text::{LineFault, ReadFault};
 
 /// A word that is too long.
 const LONG_WORD: [u8; MOST_WORD_BYTES + 1] = [b'1'; MOST_WORD_BYTES + 1];

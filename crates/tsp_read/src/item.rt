@@ -2,7 +2,7 @@
 
 ghost use Rattle.std.specs.Prelude.{◌≡◌, ◌+◌, ◌≤◌, ◌∷◌, List, IsTrue, Ok, false};
 ghost use Rattle.tsp_format.specs.Limits.{most_file_bytes};
-ghost use Rattle.tsp_items.specs.Items.{Item, WordLine, Line, is_end_line, line_item, line_number, words_before, word_number};
+ghost use Rattle.tsp_text.specs.Items.{Item, WordLine, Line, is_end_line, line_item, line_number, words_before, word_number};
 ghost use Rattle.tsp_read.specs.states.Left.{item_next};
 ghost use Rattle.tsp_read.specs.Onward.{is_line_end};
 ghost use Rattle.tsp_read.specs.states.Holds.{Holds};
@@ -12,7 +12,7 @@ use crate::cut::Next;
 use crate::state::reading::Reading;
 use std::alloc::Global;
 use tsp_format::Keyword;
-use tsp_items::{CutLine, StepFault};
+use tsp_section::{CutLine, StepFault};
 
 /// Takes an item. The answer is whether it is an end line.
 pub(crate) fn take(reading: &mut Reading, alloc: Global, next: &Next<'_>) -> Result<bool, StepFault>

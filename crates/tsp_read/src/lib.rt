@@ -18,11 +18,5 @@ mod token;
 pub use examples::examples_of_reading;
 pub use feed::Feed;
 pub use read::{read_bytes, read_from};
-pub use tsp_items::{
-    LineFault, ReadFault, faults_at_the_end, faults_of_word_lines, faults_of_words,
-    fields_of_texts, limits_agree, limits_of_lines, limits_of_sections,
-};
-pub use tsp_text::{
-    clean_fields_are_valid, each_node_has_one_group, first_faults, settled_ends_stay,
-    settled_faults_stay, spelled_files_are_valid, texts_have_one_answer,
-};
+pub use tsp_draft::EndFault;
+pub use tsp_text::{LineFault, ReadFault};

@@ -2,7 +2,7 @@
 
 ghost use Rattle.std.specs.Prelude.{◌≡◌, Err, false};
 ghost use Rattle.tsp_stream.specs.Turn.{turn_of};
-ghost use Rattle.tsp_items.specs.declared.fault.ReadFault.TheVariants.{OutOfMemory};
+ghost use Rattle.tsp_text.specs.declared.fault.ReadFault.TheVariants.{OutOfMemory};
 ghost use Rattle.tsp_read.specs.Onward.{is_bare};
 ghost use Rattle.tsp_read.specs.Reads.{Reads, ReadsFrom};
 ghost use Rattle.tsp_read.specs.Timely.{ReadsInTime};
@@ -12,8 +12,8 @@ use crate::input::feed_all;
 use std::alloc::Global;
 use std::io::Read;
 use tsp_file::File;
-use tsp_items::ReadFault;
 use tsp_stream::Watched;
+use tsp_text::ReadFault;
 
 /// Reads a file from the bytes of a text.
 ///

@@ -11,9 +11,9 @@ ghost use Rattle.std.specs.Prelude.{◌≡◌, ◌+◌, ◌≤◌, length, IfSom
 ghost use Rattle.std.specs.Option.{option_map};
 ghost use Rattle.tsp_format.specs.Limits.{most_file_bytes};
 ghost use Rattle.tsp_number.specs.Reading.{decimal_of};
-ghost use Rattle.tsp_items.specs.Numbers.{IsWhole};
-ghost use Rattle.tsp_items.specs.declared.part.Part.{Part};
-ghost use Rattle.tsp_items.specs.declared.part.Part.TheVariants as parts;
+ghost use Rattle.tsp_text.specs.Numbers.{IsWhole};
+ghost use Rattle.tsp_section.specs.declared.part.Part.{Part};
+ghost use Rattle.tsp_section.specs.declared.part.Part.TheVariants as parts;
 ghost use Rattle.tsp_read.specs.Front.{front_word, IsFound, LeavesEnd};
 ghost use Rattle.tsp_read.specs.states.Run.{RunsTo, StepsTo};
 
@@ -24,8 +24,8 @@ use crate::state::reading::Reading;
 use std::alloc::Global;
 use tsp_distance::Decimal;
 use tsp_format::is_blank;
-use tsp_items::{Gathered, Part, RunList, WeightList};
 use tsp_number::{front_decimal, front_few, front_whole};
+use tsp_section::{Gathered, Part, RunList, WeightList};
 
 // ---- a number at the front of a text
 

@@ -1,6 +1,6 @@
 //! How far a text is that comes in pieces.
 
-use tsp_items::ReadFault;
+use tsp_text::ReadFault;
 
 /// How far a text is: it goes on, its end line was taken, or it was refused.
 #[derive(Clone, Copy)]

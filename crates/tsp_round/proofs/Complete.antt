@@ -11,12 +11,12 @@ use Rattle.tsp_format.specs.Shapes.{shape_of, is_section_field}
 use Rattle.tsp_format.specs.Words.{fields_in_order}
 use Rattle.tsp_draft.specs.Fields.{Fields, spatial}
 use Rattle.tsp_draft.specs.Validity.{fits}
-use Rattle.tsp_items.specs.Items.{Item}
-use Rattle.tsp_items.specs.Earlier.{has_line, words_of}
-use Rattle.tsp_items.specs.Places.{PastEnd}
-use Rattle.tsp_items.specs.Values.{spatial_after}
-use Rattle.tsp_items.specs.Sections.{place_by, place_in, nodes_of}
-use Rattle.tsp_items.specs.Spells.{wants_more, is_incomplete, first_incomplete}
+use Rattle.tsp_text.specs.Items.{Item}
+use Rattle.tsp_text.specs.Earlier.{has_line, words_of}
+use Rattle.tsp_text.specs.Places.{PastEnd}
+use Rattle.tsp_text.specs.Values.{spatial_after}
+use Rattle.tsp_text.specs.Sections.{place_by, place_in, nodes_of}
+use Rattle.tsp_text.specs.Spells.{wants_more, is_incomplete, first_incomplete}
 use Rattle.tsp_round.proofs.Numbers.{NumberLaws}
 use Rattle.tsp_round.proofs.Onto.{has_value}
 use Rattle.tsp_round.proofs.Shapes.{Entries, entries_in, words_for, body}

@@ -14,15 +14,15 @@ use Rattle.tsp_draft.specs.declared.fault.DraftFault.TheVariants.{BadField, Rule
 use Rattle.tsp_draft.specs.Fields.{Fields}
 use Rattle.tsp_draft.specs.Validity.{bad_field}
 use Rattle.tsp_draft.specs.Rules.{standing_of, end_fault, fault_of}
-use Rattle.tsp_write.specs.Text.{text_of_field, text_of}
-use Rattle.tsp_write.proofs.AllFit.{all_fit}
-use Rattle.tsp_items.specs.declared.fault.ReadFault.{ReadFault}
-use Rattle.tsp_items.specs.declared.fault.ReadFault.TheVariants as faults
-use Rattle.tsp_items.specs.Items.{Item, Line, LineEnd, word_line, items_of, settled_items, to_end_line, has_end_line}
-use Rattle.tsp_items.specs.Rows.{when, first_row}
-use Rattle.tsp_items.specs.FirstFault.{fault_in, IsClean}
-use Rattle.tsp_items.specs.Spells.{spelled, first_incomplete, fault_at_end}
-use Rattle.tsp_items.specs.Text.{is_too_long, part, fault, Spells}
+use Rattle.tsp_file.specs.Text.{text_of_field, text_of}
+use Rattle.tsp_file.proofs.AllFit.{all_fit}
+use Rattle.tsp_text.specs.declared.fault.ReadFault.{ReadFault}
+use Rattle.tsp_text.specs.declared.fault.ReadFault.TheVariants as faults
+use Rattle.tsp_text.specs.Items.{Item, Line, LineEnd, word_line, items_of, settled_items, to_end_line, has_end_line}
+use Rattle.tsp_text.specs.Rows.{when, first_row}
+use Rattle.tsp_text.specs.FirstFault.{fault_in, IsClean}
+use Rattle.tsp_text.specs.Spells.{spelled, first_incomplete, fault_at_end}
+use Rattle.tsp_text.specs.Text.{is_too_long, part, fault, Spells}
 use Rattle.tsp_text.proofs.Clean.{clean_more}
 use Rattle.tsp_round.proofs.Numbers.{NumberLaws}
 use Rattle.tsp_round.proofs.Onto.{onto, onto_reversed, ended_at}

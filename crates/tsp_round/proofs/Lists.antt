@@ -12,15 +12,15 @@ use Rattle.std.proofs.lemmas.List.{length_push}
 use Rattle.tsp_number.specs.declared.fault.NumberFault.{NumberFault}
 use Rattle.tsp_format.specs.Limits.{most_weight, most_depots, most_fixed}
 use Rattle.tsp_draft.specs.Validity.{is_within, is_node, is_pair}
-use Rattle.tsp_items.specs.declared.fault.LineFault.TheVariants as row
-use Rattle.tsp_items.specs.Numbers.{number, node, node_or_end, is_end, sized, reads_as}
-use Rattle.tsp_items.specs.Places.{DepotAfter, FirstAfter, SecondOf, PastEnd, Weight, PastWeights}
-use Rattle.tsp_items.specs.Groups.{pairs_in, begun_pair}
-use Rattle.tsp_items.specs.Lists.{before, firsts_in, depots_in, place_of_depot, fixed_in, place_in_pair, place_of_fixed}
-use Rattle.tsp_items.specs.Weights.{weights_in, place_of_weight}
-use Rattle.tsp_items.specs.Rows.{when, first_row, word_fault}
-use Rattle.tsp_items.proofs.Ended.{any_push}
-use Rattle.tsp_items.proofs.PairWords.{pairs_begin, begun_begin, firsts_begin, pairs_end, begun_end, firsts_end}
+use Rattle.tsp_text.specs.declared.fault.LineFault.TheVariants as row
+use Rattle.tsp_text.specs.Numbers.{number, node, node_or_end, is_end, sized, reads_as}
+use Rattle.tsp_text.specs.Places.{DepotAfter, FirstAfter, SecondOf, PastEnd, Weight, PastWeights}
+use Rattle.tsp_text.specs.Groups.{pairs_in, begun_pair}
+use Rattle.tsp_text.specs.Lists.{before, firsts_in, depots_in, place_of_depot, fixed_in, place_in_pair, place_of_fixed}
+use Rattle.tsp_text.specs.Weights.{weights_in, place_of_weight}
+use Rattle.tsp_text.specs.Rows.{when, first_row, word_fault}
+use Rattle.tsp_text.proofs.Ended.{any_push}
+use Rattle.tsp_text.proofs.PairWords.{pairs_begin, begun_begin, firsts_begin, pairs_end, begun_end, firsts_end}
 use Rattle.tsp_round.proofs.Numbers.{NumberLaws, node_back, listed_back, node_goes_on, end_read, end_ends, size_in}
 use Rattle.tsp_round.proofs.Taken.{AllTaken}
 

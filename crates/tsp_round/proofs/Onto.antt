@@ -4,12 +4,12 @@ use Rattle.std.specs.Prelude.{is_some, ◌||◌}
 use Rattle.std.proofs.lemmas.Bool.{false≢true}
 use Rattle.std.proofs.lemmas.List.{reverse-append}
 use Rattle.tsp_format.specs.declared.field.Field.{Field}
-use Rattle.tsp_items.specs.Items.{Item, Line, NumberWord, LineEnd, has_end_line, to_end_line, is_end_line}
-use Rattle.tsp_items.specs.Earlier.{is_key, has_line, value_at, values_at, others_in, open_section, is_open, words_of}
-use Rattle.tsp_items.specs.Values.{spatial_after}
-use Rattle.tsp_items.specs.Sections.{place_in, nodes_of}
-use Rattle.tsp_items.specs.Rows.{row_of, word_fault}
-use Rattle.tsp_items.specs.FirstFault.{IsClean}
+use Rattle.tsp_text.specs.Items.{Item, Line, NumberWord, LineEnd, has_end_line, to_end_line, is_end_line}
+use Rattle.tsp_text.specs.Earlier.{is_key, has_line, value_at, values_at, others_in, open_section, is_open, words_of}
+use Rattle.tsp_text.specs.Values.{spatial_after}
+use Rattle.tsp_text.specs.Sections.{place_in, nodes_of}
+use Rattle.tsp_text.specs.Rows.{row_of, word_fault}
+use Rattle.tsp_text.specs.FirstFault.{IsClean}
 use Rattle.tsp_text.proofs.Clean.{clean_more}
 use Rattle.tsp_text.proofs.ItemRows.{same_self}
 use Rattle.tsp_round.proofs.Text.{number_words, are_numbers}

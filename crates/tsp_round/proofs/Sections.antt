@@ -15,12 +15,12 @@ use Rattle.tsp_format.specs.Bytes.{is_blank}
 use Rattle.tsp_format.specs.Limits.{most_nodes}
 use Rattle.tsp_draft.specs.Fields.{Fields}
 use Rattle.tsp_draft.specs.Validity.{with_dimension, if_there, is_node}
-use Rattle.tsp_items.specs.Lines.{first_word}
-use Rattle.tsp_items.specs.Items.{Item}
-use Rattle.tsp_items.specs.Earlier.{has_line, value_at}
-use Rattle.tsp_items.specs.Values.{read_as}
-use Rattle.tsp_items.specs.Sections.{nodes_of}
-use Rattle.tsp_items.specs.Rows.{may_repeat}
+use Rattle.tsp_text.specs.Lines.{first_word}
+use Rattle.tsp_text.specs.Items.{Item}
+use Rattle.tsp_text.specs.Earlier.{has_line, value_at}
+use Rattle.tsp_text.specs.Values.{read_as}
+use Rattle.tsp_text.specs.Sections.{nodes_of}
+use Rattle.tsp_text.specs.Rows.{may_repeat}
 use Rattle.tsp_round.proofs.Text.{is_plain_word, unblank}
 use Rattle.tsp_round.proofs.Numbers.{NumberLaws, decimal_plain}
 use Rattle.tsp_round.proofs.Onto.{has_value}

@@ -7,10 +7,10 @@ use Rattle.tsp_format.specs.declared.field.Field.TheVariants.{NodeCoordTypeKey, 
 use Rattle.tsp_format.specs.Space.{is_spatial}
 use Rattle.tsp_format.specs.Words.{coord_kind_word, weight_kind_word}
 use Rattle.tsp_draft.specs.Fields.{Fields, spatial}
-use Rattle.tsp_items.specs.Items.{Item}
-use Rattle.tsp_items.specs.Lines.{first_word}
-use Rattle.tsp_items.specs.Earlier.{value_at}
-use Rattle.tsp_items.specs.Values.{named_at, coord_kind_named, weight_kind_named, spatial_after}
+use Rattle.tsp_text.specs.Items.{Item}
+use Rattle.tsp_text.specs.Lines.{first_word}
+use Rattle.tsp_text.specs.Earlier.{value_at}
+use Rattle.tsp_text.specs.Values.{named_at, coord_kind_named, weight_kind_named, spatial_after}
 use Rattle.tsp_round.proofs.Spelled.{named_back}
 use Rattle.tsp_round.proofs.Words.{coord_kind_back, weight_kind_back}
 

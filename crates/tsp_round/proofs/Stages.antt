@@ -10,11 +10,11 @@ use Rattle.tsp_format.specs.declared.field.Field.{Field}
 use Rattle.tsp_format.specs.declared.field.Field.TheVariants.{NameKey, TypeKey, CommentKey, OtherKey, DimensionKey, CapacityKey, ScaleKey, EdgeWeightTypeKey, EdgeWeightFormatKey, NodeCoordTypeKey, DisplayDataTypeKey, NodeCoordPart}
 use Rattle.tsp_format.specs.Words.{kind_word, weight_kind_word, weight_format_word, coord_kind_word, display_kind_word, fields_in_order, field_found}
 use Rattle.tsp_draft.specs.Fields.{Fields, spatial, stands_in}
-use Rattle.tsp_items.specs.Items.{Item, has_end_line, is_end_line}
+use Rattle.tsp_text.specs.Items.{Item, has_end_line, is_end_line}
 use Rattle.tsp_format.specs.Shapes.{shape_of, is_section_field}
-use Rattle.tsp_items.specs.Earlier.{same_field, value_at, values_at, others_in, words_of}
-use Rattle.tsp_items.specs.Rows.{may_repeat}
-use Rattle.tsp_items.specs.FirstFault.{IsClean}
+use Rattle.tsp_text.specs.Earlier.{same_field, value_at, values_at, others_in, words_of}
+use Rattle.tsp_text.specs.Rows.{may_repeat}
+use Rattle.tsp_text.specs.FirstFault.{IsClean}
 use Rattle.tsp_text.proofs.ValidSections.{same_field_is}
 use Rattle.tsp_text.proofs.ItemRows.{same_self}
 use Rattle.tsp_round.proofs.Text.{Writes, nothing_written, both_written}

@@ -14,11 +14,11 @@ use Rattle.tsp_format.specs.declared.layout.Layout.TheVariants as layouts
 use Rattle.tsp_format.specs.declared.field.Field.TheVariants.{NodeCoordPart, TypeKey, EdgeWeightTypeKey, EdgeWeightFormatKey, NodeCoordTypeKey, DisplayDataTypeKey}
 use Rattle.tsp_format.specs.declared.keyword.Keyword.TheVariants.{Known}
 use Rattle.tsp_format.specs.Words.{field_word, kind_word, weight_kind_word, weight_format_word, coord_kind_word, display_kind_word}
-use Rattle.tsp_items.specs.Lines.{first_word}
-use Rattle.tsp_items.specs.Items.{Item, Line}
-use Rattle.tsp_items.specs.Earlier.{has_line}
-use Rattle.tsp_items.specs.Values.{kind_named, weight_kind_named, weight_format_named, coord_kind_named, display_kind_named}
-use Rattle.tsp_items.specs.Rows.{row_of}
+use Rattle.tsp_text.specs.Lines.{first_word}
+use Rattle.tsp_text.specs.Items.{Item, Line}
+use Rattle.tsp_text.specs.Earlier.{has_line}
+use Rattle.tsp_text.specs.Values.{kind_named, weight_kind_named, weight_format_named, coord_kind_named, display_kind_named}
+use Rattle.tsp_text.specs.Rows.{row_of}
 use Rattle.tsp_round.proofs.Lines.{IsWhole, written_line}
 
 -- ---- TypeKey

@@ -1,8 +1,8 @@
 -- What reading the canonical text of a file may answer.
 use Rattle.std.specs.Prelude.{◌≡◌, Result, Ok, Err}
 use Rattle.tsp_draft.specs.Fields.{Fields}
-use Rattle.tsp_items.specs.declared.fault.ReadFault.{ReadFault}
-use Rattle.tsp_items.specs.declared.fault.ReadFault.TheVariants as faults
+use Rattle.tsp_text.specs.declared.fault.ReadFault.{ReadFault}
+use Rattle.tsp_text.specs.declared.fault.ReadFault.TheVariants as faults
 
 -- this file, or that memory was refused
 abbrev pub IsThisFile : Fields → Result Fields ReadFault → Type 0

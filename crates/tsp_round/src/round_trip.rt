@@ -8,15 +8,15 @@ ghost use Rattle.tsp_number.specs.Spelling.{spelling};
 ghost use Rattle.tsp_draft.specs.Fields.{Fields};
 ghost use Rattle.tsp_draft.specs.Rules.{fault_of};
 ghost use Rattle.tsp_draft.specs.Validity.{is_from_to};
-ghost use Rattle.tsp_write.specs.Text.{text_of};
-ghost use Rattle.tsp_items.specs.declared.fault.ReadFault.{ReadFault};
+ghost use Rattle.tsp_file.specs.Text.{text_of};
+ghost use Rattle.tsp_text.specs.declared.fault.ReadFault.{ReadFault};
 ghost use Rattle.tsp_read.specs.Reads.{Reads};
-ghost use Rattle.tsp_items.specs.Text.{Spells};
+ghost use Rattle.tsp_text.specs.Text.{Spells};
 ghost use Rattle.tsp_round.specs.Answers.{IsThisFile};
 
+use tsp_file::a_valid_text_is_short;
 use tsp_number::{number_word_laws, spelling_laws};
-use tsp_read::{spelled_files_are_valid, texts_have_one_answer};
-use tsp_write::a_valid_text_is_short;
+use tsp_text::{spelled_files_are_valid, texts_have_one_answer};
 
 /// Each number that the canonical text writes is read back: a whole number of less than 2^63 in
 /// size where one of its range is wanted, and a coordinate of at most 10^18 counts of 10^-9.

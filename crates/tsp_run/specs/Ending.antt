@@ -3,12 +3,7 @@ use Rattle.std.specs.Prelude.{◌≡◌, ℕ, Bool, List, [], ◌++◌, ◌∷�
 use Rattle.std.specs.List.{list_all}
 use Rattle.std.specs.Io.KnownBytes.{Appends, Keeps}
 use Rattle.tsp_judge.specs.declared.Verdict.TheVariants.{Tour, Routes, No}
-use Rattle.tsp_judge.specs.declared.ReadFault.TheVariants as read_faults
-use Rattle.tsp_judge.specs.declared.WriteFault.TheVariants as write_faults
-use Rattle.tsp_judge.specs.declared.RelayoutFault.TheVariants as relayout_faults
-use Rattle.tsp_judge.specs.declared.fault.RunFault.{RunFault}
-use Rattle.tsp_judge.specs.declared.fault.RunFault.TheVariants.{File, Write, WrongKind, Relayout}
-use Rattle.tsp_judge.specs.declared.fault.RunFault.TheVariants as run_faults
+use Rattle.tsp_judge.specs.Status.{status_of}
 use Rattle.tsp_cli.specs.declared.words.JobFault.TheVariants as job_faults
 use Rattle.tsp_cli.specs.declared.task.TaskFault.TheVariants.{UnknownLayout, MissingPath, TwoCertificates}
 use Rattle.tsp_run.specs.declared.ending.Ending.{Ending}
@@ -16,31 +11,16 @@ use Rattle.tsp_run.specs.declared.ending.Ending.TheVariants.{NoJob, NoTask, Ende
 use Rattle.tsp_run.specs.declared.ending.Line.{Line}
 use Rattle.tsp_run.specs.declared.ending.Line.TheVariants as lines
 
--- 1 is a file whose weights can't go into the layout, 2 a file with a fault, or of the wrong kind, 3 out of memory, and 5 a
--- device's failure
-abbrev pub status_of_fault : RunFault → ℕ
-status_of_fault (File file (read_faults.Line line word fault)) = 2
-status_of_fault (File file (read_faults.End fault)) = 2
-status_of_fault (File file read_faults.TooLong) = 2
-status_of_fault (File file read_faults.OutOfMemory) = 3
-status_of_fault (File file read_faults.Device) = 5
-status_of_fault WrongKind = 2
-status_of_fault run_faults.OutOfMemory = 3
-status_of_fault (Write write_faults.OutOfMemory) = 3
-status_of_fault (Write write_faults.Device) = 5
-status_of_fault (Relayout relayout_faults.OutOfMemory) = 3
-status_of_fault (Relayout fault) = 1
-
--- 0 is a yes, or done, and 1 a no; 4 is a command line that is refused
-abbrev pub status_of : Ending → ℕ
-status_of (NoJob (job_faults.Refused refusal)) = 4
-status_of (NoJob job_faults.OutOfMemory) = 3
-status_of (NoTask fault) = 4
-status_of (Ended (Ok None)) = 0
-status_of (Ended (Ok (Some (Tour length bound)))) = 0
-status_of (Ended (Ok (Some (Routes length routes least)))) = 0
-status_of (Ended (Ok (Some (No reason)))) = 1
-status_of (Ended (Err fault)) = status_of_fault fault
+-- 3 is out of memory for the words, 4 a command line that is refused; a task has the status of its answer
+abbrev pub status_of_ending : Ending → ℕ
+status_of_ending (NoJob (job_faults.Refused refusal)) = 4
+status_of_ending (NoJob job_faults.OutOfMemory) = 3
+status_of_ending (NoTask fault) = 4
+status_of_ending (Ended (Ok None)) = status_of (Ok true)
+status_of_ending (Ended (Ok (Some (Tour length bound)))) = status_of (Ok true)
+status_of_ending (Ended (Ok (Some (Routes length routes least)))) = status_of (Ok true)
+status_of_ending (Ended (Ok (Some (No reason)))) = status_of (Ok false)
+status_of_ending (Ended (Err fault)) = status_of (Err fault)
 
 -- the line of an ending; an answer has none, since what it says is on standard output
 abbrev pub IsLineOf : Ending → Option Line → Type 0

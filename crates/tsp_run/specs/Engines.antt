@@ -8,7 +8,8 @@ use Rattle.tsp_judge.specs.declared.fault.RunFault.{RunFault}
 use Rattle.tsp_judge.specs.ShowRun.{IsShowRun}
 use Rattle.tsp_judge.specs.ConvertRun.{IsConvertRun}
 use Rattle.tsp_judge.specs.Yes.{IsVerdictCheck}
-use Rattle.tsp_judge.specs.BoundRun.{IsBoundVerdictCheck, IsBranchVerdictCheck}
+use Rattle.tsp_judge.specs.BoundRun.{IsVerdictCheckBy}
+use Rattle.tsp_judge.specs.declared.Certificate.TheVariants.{Potentials, Branches}
 use Rattle.tsp_judge.specs.declared.Verdict.{Verdict}
 use Rattle.tsp_cli.specs.declared.task.Task.{Task}
 use Rattle.tsp_cli.specs.declared.task.Task.TheVariants.{Show, Convert, Check, BoundCheck, BranchCheck}
@@ -38,10 +39,10 @@ IsDone remaining (BoundCheck instance solution potentials) (BoundCheck instance_
     TakesAtMost most_taken (turn_of remaining instance instance_left) (λ first.
     TakesAtMost most_taken (turn_of remaining solution solution_left) (λ second.
     TakesAtMost most_taken (turn_of remaining potentials potentials_left) (λ third.
-    (ended : Result Verdict RunFault) × (answer ≡ judges ended) × IsBoundVerdictCheck first second third sink ended)))
+    (ended : Result Verdict RunFault) × (answer ≡ judges ended) × IsVerdictCheckBy Potentials first second third sink ended)))
 IsDone remaining (BranchCheck instance solution branches) (BranchCheck instance_left solution_left branches_left) sink answer =
     TakesAtMost most_taken (turn_of remaining instance instance_left) (λ first.
     TakesAtMost most_taken (turn_of remaining solution solution_left) (λ second.
     TakesAtMost most_taken (turn_of remaining branches branches_left) (λ third.
-    (ended : Result Verdict RunFault) × (answer ≡ judges ended) × IsBranchVerdictCheck first second third sink ended)))
+    (ended : Result Verdict RunFault) × (answer ≡ judges ended) × IsVerdictCheckBy Branches first second third sink ended)))
 IsDone remaining _ _ sink answer = ⊥

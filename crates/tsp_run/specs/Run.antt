@@ -17,7 +17,7 @@ use Rattle.tsp_cli.specs.declared.words.JobFault.TheVariants.{OutOfMemory}
 use Rattle.tsp_cli.specs.Words.{GivesJob, IsRefused}
 use Rattle.tsp_cli.specs.Task.{GivesTask}
 use Rattle.tsp_run.specs.Engines.{IsDone}
-use Rattle.tsp_run.specs.Ending.{status_of, TellsAll}
+use Rattle.tsp_run.specs.Ending.{status_of_ending, TellsAll}
 
 -- the reader is that of the opened place, and hasn't failed
 abbrev pub IsFresh : {F : Type 0} → (Place → F → Type 0) → Place → Watched F → Type 0
@@ -61,11 +61,11 @@ IsUnread kind explained (Ended answer) = ⊥
 
 -- the exit status is that of an ending with Q, whose line is told, and more where it is explained
 abbrev pub RunsJob : (Ending → Type 0) → Bool → Option (List ℕ) → Option (List ℕ) → ℕ × Result (Unit {0}) Error → Type 0
-RunsJob Q explained old new answer = (ending : Ending) × Q ending × (answer.0 ≡ status_of ending)
+RunsJob Q explained old new answer = (ending : Ending) × Q ending × (answer.0 ≡ status_of_ending ending)
     × OnOk answer.1 (TellsAll explained ending old new)
 
 -- the exit status is that of an ending with Q, and its line is told, where that could be written; more follows the line where
 -- the ending is explained
 abbrev pub Runs : (Bool → Ending → Type 0) → Option (List ℕ) → Option (List ℕ) → ℕ × Result (Unit {0}) Error → Type 0
-Runs Q old new answer = (explained : Bool) × (ending : Ending) × Q explained ending × (answer.0 ≡ status_of ending)
+Runs Q old new answer = (explained : Bool) × (ending : Ending) × Q explained ending × (answer.0 ≡ status_of_ending ending)
     × OnOk answer.1 (TellsAll explained ending old new)

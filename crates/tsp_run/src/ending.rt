@@ -2,7 +2,8 @@
 
 ghost use Rattle.std.specs.Prelude.{◌≡◌, ◌==◌, OnOk};
 ghost use Rattle.std.specs.List.{position, before_first};
-ghost use Rattle.tsp_run.specs.Ending.{EndsLine, IsLineOf, Tells, status_of, status_of_fault};
+ghost use Rattle.tsp_run.specs.Ending.{EndsLine, IsLineOf, Tells, status_of_ending};
+ghost use Rattle.tsp_judge.specs.Status.{status_of};
 
 use arrayvec::ArrayString;
 use clap::Error as Refusal;
@@ -10,7 +11,7 @@ use std::fmt::{Display, Formatter, Write as _};
 use std::io::Write;
 use std::{fmt, io};
 use tsp_cli::{JobFault, TaskFault};
-use tsp_judge::{ReadFault, RelayoutFault, RunFault, Verdict, WriteFault};
+use tsp_judge::{RunFault, Verdict, status_of};
 
 /// How many bytes of a fault's text are told.
 const MOST_TEXT: usize = 256;
@@ -61,54 +62,25 @@ impl Display for Line<'_> {
     }
 }
 
-/// Done, and no verdict is a no.
-const YES: u8 = 0;
-
-/// The verdict is a no, or a file's weights can't go into the layout.
-const NO: u8 = 1;
-
-/// A file has a fault, or the first is of the wrong kind.
-const NOT_JUDGED: u8 = 2;
-
-/// Out of memory, anywhere.
+/// Out of memory for the words of the command line.
 const OUT_OF_MEMORY: u8 = 3;
 
 /// The command line is refused.
 const REFUSED: u8 = 4;
 
-/// A device failed, in or out.
-const DEVICE: u8 = 5;
-
-/// The exit status.
-pub fn status_of(ending: &Ending) -> u8
-    ensures { result ≡ status_of ending.now }
+/// The exit status of a run of the program.
+pub fn status_of_ending(ending: &Ending) -> u8
+    ensures { result ≡ status_of_ending ending.now }
 {
     match ending {
         Ending::NoJob(JobFault::Refused(_)) | Ending::NoTask(_) => REFUSED,
         Ending::NoJob(JobFault::OutOfMemory) => OUT_OF_MEMORY,
-        Ending::Ended(Ok(None)) => YES,
-        Ending::Ended(Ok(Some(Verdict::Tour { .. } | Verdict::Routes { .. }))) => YES,
-        Ending::Ended(Ok(Some(Verdict::No(_)))) => NO,
-        Ending::Ended(Err(fault)) => status_of_fault(*fault),
-    }
-}
-
-/// The exit status of a task without an answer.
-fn status_of_fault(fault: RunFault) -> u8
-    ensures { result ≡ status_of_fault fault }
-{
-    match fault {
-        RunFault::File { file: _, fault } => match fault {
-            ReadFault::Line { .. } | ReadFault::End(_) | ReadFault::TooLong => NOT_JUDGED,
-            ReadFault::OutOfMemory => OUT_OF_MEMORY,
-            ReadFault::Device => DEVICE,
-        },
-        RunFault::WrongKind => NOT_JUDGED,
-        RunFault::OutOfMemory => OUT_OF_MEMORY,
-        RunFault::Write(WriteFault::OutOfMemory) => OUT_OF_MEMORY,
-        RunFault::Write(WriteFault::Device) => DEVICE,
-        RunFault::Relayout(RelayoutFault::OutOfMemory) => OUT_OF_MEMORY,
-        RunFault::Relayout(_) => NO,
+        Ending::Ended(Ok(None)) => status_of(&Ok(true)),
+        Ending::Ended(Ok(Some(Verdict::Tour { .. } | Verdict::Routes { .. }))) => {
+            status_of(&Ok(true))
+        }
+        Ending::Ended(Ok(Some(Verdict::No(_)))) => status_of(&Ok(false)),
+        Ending::Ended(Err(fault)) => status_of(&Err(*fault)),
     }
 }
 

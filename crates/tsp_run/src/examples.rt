@@ -14,14 +14,15 @@ ghost use Rattle.tsp_judge.specs.declared.fault.RunFault.TheVariants as run_faul
 ghost use Rattle.tsp_cli.specs.declared.words.JobFault.TheVariants as job_faults;
 ghost use Rattle.tsp_cli.specs.declared.task.TaskFault.TheVariants as task_faults;
 ghost use Rattle.tsp_run.specs.declared.ending.Ending.TheVariants as endings;
-ghost use Rattle.tsp_run.specs.Ending.{status_of, status_of_fault, line_text, ended};
+ghost use Rattle.tsp_judge.specs.Status.{status_of_fault};
+ghost use Rattle.tsp_run.specs.Ending.{status_of_ending, line_text, ended};
 
 /// The exit status of each ending.
 pub fn examples_of_statuses()
-    ensures done { status_of (endings.Ended (Ok None)) ≡ 0 }
-    ensures tour { status_of (endings.Ended (Ok (Some (verdicts.Tour (pos 14) None)))) ≡ 0 }
-    ensures routes { status_of (endings.Ended (Ok (Some (verdicts.Routes (pos 20) 2 2)))) ≡ 0 }
-    ensures no { status_of (endings.Ended (Ok (Some (verdicts.No reasons.TourCount)))) ≡ 1 }
+    ensures done { status_of_ending (endings.Ended (Ok None)) ≡ 0 }
+    ensures tour { status_of_ending (endings.Ended (Ok (Some (verdicts.Tour (pos 14) None)))) ≡ 0 }
+    ensures routes { status_of_ending (endings.Ended (Ok (Some (verdicts.Routes (pos 20) 2 2)))) ≡ 0 }
+    ensures no { status_of_ending (endings.Ended (Ok (Some (verdicts.No reasons.TourCount)))) ≡ 1 }
     ensures not_explicit { status_of_fault (run_faults.Relayout relayout_faults.NotExplicit) ≡ 1 }
     ensures not_symmetric { status_of_fault (run_faults.Relayout (relayout_faults.NotSymmetric 1 2)) ≡ 1 }
     ensures diagonal_lost { status_of_fault (run_faults.Relayout (relayout_faults.DiagonalLost 1)) ≡ 1 }
@@ -29,17 +30,17 @@ pub fn examples_of_statuses()
     ensures end_fault { status_of_fault (run_faults.File 1 (read_faults.End end_faults.WrongCount)) ≡ 2 }
     ensures too_long { status_of_fault (run_faults.File 1 read_faults.TooLong) ≡ 2 }
     ensures wrong_kind { status_of_fault run_faults.WrongKind ≡ 2 }
-    ensures memory_for_words { status_of (endings.NoJob job_faults.OutOfMemory) ≡ 3 }
+    ensures memory_for_words { status_of_ending (endings.NoJob job_faults.OutOfMemory) ≡ 3 }
     ensures memory_for_a_file { status_of_fault (run_faults.File 1 read_faults.OutOfMemory) ≡ 3 }
     ensures memory_for_a_verdict { status_of_fault run_faults.OutOfMemory ≡ 3 }
     ensures memory_for_a_text { status_of_fault (run_faults.Write write_faults.OutOfMemory) ≡ 3 }
     ensures memory_for_a_layout { status_of_fault (run_faults.Relayout relayout_faults.OutOfMemory) ≡ 3 }
-    ensures refused { (refusal : Error) → status_of (endings.NoJob (job_faults.Refused refusal)) ≡ 4 }
-    ensures unknown_layout { status_of (endings.NoTask task_faults.UnknownLayout) ≡ 4 }
-    ensures missing_path { status_of (endings.NoTask task_faults.MissingPath) ≡ 4 }
-    ensures two_certificates { status_of (endings.NoTask task_faults.TwoCertificates) ≡ 4 }
+    ensures refused { (refusal : Error) → status_of_ending (endings.NoJob (job_faults.Refused refusal)) ≡ 4 }
+    ensures unknown_layout { status_of_ending (endings.NoTask task_faults.UnknownLayout) ≡ 4 }
+    ensures missing_path { status_of_ending (endings.NoTask task_faults.MissingPath) ≡ 4 }
+    ensures two_certificates { status_of_ending (endings.NoTask task_faults.TwoCertificates) ≡ 4 }
     ensures device_in { status_of_fault (run_faults.File 2 read_faults.Device) ≡ 5 }
     ensures device_out { status_of_fault (run_faults.Write write_faults.Device) ≡ 5 }
-    ensures of_fault { status_of (endings.Ended (Err run_faults.WrongKind)) ≡ 2 }
+    ensures of_fault { status_of_ending (endings.Ended (Err run_faults.WrongKind)) ≡ 2 }
     ensures line { ended (codes "missing path") ≡ Some (codes "missing path\n") }
 {}

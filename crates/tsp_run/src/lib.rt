@@ -12,10 +12,10 @@ mod explained;
 mod running;
 mod source;
 
-pub use ending::{Ending, Line, line_of, status_of, tell};
+pub use ending::{Ending, Line, line_of, status_of_ending, tell};
 pub use engines::perform;
 pub use examples::examples_of_statuses;
 pub use running::{run, tell_unread};
 pub use source::{Open, Source};
-pub use tsp_cli::{Job, JobFault, Place, Task, TaskFault, Verb, job_of, task_of, unread};
+pub use tsp_cli::{JobFault, Place, Task, TaskFault};
 pub use tsp_judge::Watched;

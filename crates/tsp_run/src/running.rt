@@ -4,10 +4,10 @@ ghost use Rattle.std.specs.Prelude.{◌≡◌, IfOk, OnOk, drop, map};
 ghost use Rattle.std.specs.IoError.{error_kind};
 ghost use Rattle.std.specs.String.{string_bytes};
 ghost use Rattle.tsp_judge.specs.Sink.{sink_of};
-ghost use Rattle.tsp_run.specs.Ending.{status_of, Tells, TellsAll};
+ghost use Rattle.tsp_run.specs.Ending.{status_of_ending, Tells, TellsAll};
 ghost use Rattle.tsp_run.specs.Run.{AreFresh, IsFresh, Ends, EndsWith, IsUnread, Runs, RunsJob};
 
-use crate::ending::{Ending, status_of, tell};
+use crate::ending::{Ending, status_of_ending, tell};
 use crate::engines::perform;
 use crate::explained::explanation;
 use crate::source::Open;
@@ -61,11 +61,11 @@ pub fn tell_unread<E: Write>(
 
 /// The exit status of an ending, and whether its line could be told.
 fn end<E: Write>(ending: &Ending, errors: &mut E) -> (u8, io::Result<()>)
-    ensures status { result.0 ≡ status_of ending.now }
+    ensures status { result.0 ≡ status_of_ending ending.now }
     ensures told { OnOk result.1 (Tells ending.now (E.contents errors.old) (E.contents errors.new)) }
 {
     let told = tell(ending, errors);
-    (status_of(ending), told)
+    (status_of_ending(ending), told)
 }
 
 /// Does the job, and tells how that ended, with its explanation where that is wanted. The answer is as
@@ -83,7 +83,7 @@ fn run_job<F: Read + Drop, O: Open<F>, W: Write, E: Write>(
 {
     let ending = ended_with(alloc, job, files, out);
     let told = tell_all(alloc, job, &ending, files, out.error(), errors, explain);
-    (status_of(&ending), told)
+    (status_of_ending(&ending), told)
 }
 
 /// Tells how a job ended, and explains it where that is wanted, with what the system said of a write

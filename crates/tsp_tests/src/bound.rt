@@ -7,10 +7,10 @@ use std::alloc::Global;
 use std::cell::Cell;
 use std::test::Fail;
 use tsp_bound::{Multipliers, OneTree, Potentials, one_tree};
-use tsp_cost::{Costs, Grouped, Symmetric};
+use tsp_cost::{Costs, Symmetric};
 
 /// The 1-tree under potentials, where there is one for each of three or more nodes.
-fn tree_under<C: Grouped>(
+fn tree_under<C: Symmetric>(
     alloc: Global,
     costs: &C,
     scale: i64,
@@ -48,12 +48,6 @@ impl Costs for Counted {
 
 impl Symmetric for Counted {
     ghost even = { λ c i j other. refl };
-}
-
-impl Grouped for Counted {
-    ghost use Rattle.tsp_draft.specs.Coords.{origin};
-
-    ghost place = { λ _ _. origin };
 }
 
 #[test]

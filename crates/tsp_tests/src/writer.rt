@@ -6,11 +6,10 @@ use std::alloc::{AllocError, Global};
 use std::io::{ErrorKind, Write};
 use std::process::Abort;
 use std::test::Fail;
-use tsp_file::File;
+use tsp_file::{File, write_file};
 use tsp_stream::{Watched, WriteFault};
 use tsp_tests_support::devices::{Drip, NEVER, Refusal, outcome};
 use tsp_tests_support::drafts::{file_of, rectangle, two_tours, upper_row};
-use tsp_write::write_file;
 
 /// The text of the draft `rectangle`. (It is handed out by a function, so that proofs don't carry its
 /// bytes.)

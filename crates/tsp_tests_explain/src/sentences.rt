@@ -5,8 +5,8 @@ use std::process::Abort;
 use std::test::Fail;
 use tsp_explain::{explain_file, relayout_sentence, write_sentence};
 use tsp_file::RelayoutFault;
-use tsp_items::{LineFault, ReadFault};
 use tsp_stream::WriteFault;
+use tsp_text::{LineFault, ReadFault};
 
 /// Asserts that a text is the wanted one.
 fn same(rt: &impl Abort, found: &str, wanted: &str) {

@@ -10,7 +10,11 @@ use tsp_read::{Feed, ReadFault};
 
 /// Whether each call has the answer that is wanted.
 pub(crate) fn are_right(alloc: Global) -> bool {
-    is_refused(alloc) && is_no_instance(alloc) && is_instance(alloc) && has_no_type(alloc)
+    is_refused(alloc)
+        && is_no_instance(alloc)
+        && is_instance(alloc)
+        && has_no_type(alloc)
+        && blanks_have_no_type(alloc)
 }
 
 /// An empty draft is refused, and handed back.
@@ -125,6 +129,23 @@ fn has_no_costs(instance: &Instance) -> bool {
         && canonical_length(instance) == 0
         && symmetric_fault(instance).is_none()
         && dual_bound(instance, &duals) == Ok(0)
+}
+
+/// A thousand line ends, one in each piece, are no file.
+fn blanks_have_no_type(alloc: Global) -> bool {
+    let mut feed = Feed::new(alloc);
+    let mut fed = true;
+    for _ in 0..1000 {
+        fed = feed.feed(b"\n").is_ok() && fed;
+    }
+    let right = match feed.finish() {
+        Ok(file) => {
+            drop(file);
+            false
+        }
+        Err(fault) => fault == ReadFault::End(EndFault::Missing(Field::TypeKey)),
+    };
+    fed && right
 }
 
 /// Line ends and blanks are no file.

@@ -1,6 +1,6 @@
 //! A program that tests/refusals runs while requests for memory are refused.
 //!
-//! First it makes each call that takes no memory, which has to succeed though every request is
+//! First it makes the calls that take no memory, which have to succeed though every request is
 //! refused; then it traces tours, which takes some. The exit status is 0 where each answer is the
 //! one that is wanted, 1 where one isn't, and 3 where there was no memory for the tours.
 #![tactic(auto)]

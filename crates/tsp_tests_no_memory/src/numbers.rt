@@ -1,8 +1,12 @@
 //! Number words, distances, values, streams and the numbers of certificates.
 
 use tsp_bound::{Duals, Multipliers, Potentials};
-use tsp_distance::{Decimal, InSpace, PlanePoint, att, ceil_2d, euc_2d, man_2d, max_2d};
+use tsp_distance::{
+    Decimal, InSpace, PlanePoint, Point, att, ceil_2d, euc_2d, euc_3d, man_2d, man_3d, max_2d,
+    max_3d,
+};
 use tsp_format::Layout;
+use tsp_judge::{ReadFault, RunFault, WriteFault, status_of};
 use tsp_number::{
     NumberFault, front_decimal, front_whole, parse_decimal, parse_whole, write_decimal,
 };
@@ -10,7 +14,7 @@ use tsp_stream::Watched;
 
 /// Whether each call has the answer that is wanted.
 pub(crate) fn are_right() -> bool {
-    are_words() && are_distances() && are_others()
+    are_words() && are_distances() && are_distances_in_space() && are_others() && are_statuses()
 }
 
 /// The calls for number words.
@@ -44,6 +48,44 @@ fn are_distances() -> bool {
         && att(ends[0], ends[1]) == 2
         && man_2d(ends[0], ends[1]) == 7
         && max_2d(ends[0], ends[1]) == 4
+}
+
+/// The three distances in space between two ends of a box with the sides 2, 3 and 6.
+fn are_distances_in_space() -> bool {
+    let (Some(zero), Some(two), Some(three), Some(six)) = (
+        Decimal::of_count(0),
+        Decimal::of_count(2_000_000_000),
+        Decimal::of_count(3_000_000_000),
+        Decimal::of_count(6_000_000_000),
+    ) else {
+        return false;
+    };
+    let ends = [
+        Point {
+            x: zero,
+            y: zero,
+            z: zero,
+        },
+        Point {
+            x: two,
+            y: three,
+            z: six,
+        },
+    ];
+    euc_3d(ends[0], ends[1]) == 7 && man_3d(ends[0], ends[1]) == 11 && max_3d(ends[0], ends[1]) == 6
+}
+
+/// The exit statuses of a yes, a no, a device's failure and the want of memory.
+fn are_statuses() -> bool {
+    status_of(&Ok(true)) == 0
+        && status_of(&Ok(false)) == 1
+        && status_of(&Err(RunFault::WrongKind)) == 2
+        && status_of(&Err(RunFault::OutOfMemory)) == 3
+        && status_of(&Err(RunFault::Write(WriteFault::Device))) == 5
+        && status_of(&Err(RunFault::File {
+            file: 1,
+            fault: ReadFault::TooLong,
+        })) == 2
 }
 
 /// Values, streams and certificates.

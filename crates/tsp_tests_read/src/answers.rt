@@ -3,11 +3,10 @@
 use std::alloc::Global;
 use std::io::Read;
 use std::test::Fail;
-use tsp_file::File;
+use tsp_file::{File, write_file};
 use tsp_read::{Feed, ReadFault, read_bytes, read_from};
 use tsp_stream::Watched;
 use tsp_tests_support::devices::Drip;
-use tsp_write::write_file;
 
 /// What a reading answers: the canonical text of its file, or its fault.
 pub(crate) type Answer = Result<Vec<u8>, ReadFault>;

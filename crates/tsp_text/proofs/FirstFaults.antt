@@ -2,11 +2,11 @@
 use Rattle.std.proofs.Common.{◌≡◌, List, [], ◌∷◌, ◌++◌, refl, sym, ap, ◌∙◌, Option, Some, None}
 use Rattle.std.specs.Option.{option_or, option_map}
 use Rattle.std.proofs.lemmas.Option.{none-some, same_Some}
-use Rattle.tsp_items.specs.declared.fault.LineFault.{LineFault}
-use Rattle.tsp_items.specs.declared.fault.ReadFault.{ReadFault}
-use Rattle.tsp_items.specs.Items.{Item}
-use Rattle.tsp_items.specs.Rows.{row_of}
-use Rattle.tsp_items.specs.FirstFault.{fault_here, fault_in, IsClean, IsFirstFault}
+use Rattle.tsp_text.specs.declared.fault.LineFault.{LineFault}
+use Rattle.tsp_text.specs.declared.fault.ReadFault.{ReadFault}
+use Rattle.tsp_text.specs.Items.{Item}
+use Rattle.tsp_text.specs.Rows.{row_of}
+use Rattle.tsp_text.specs.FirstFault.{fault_here, fault_in, IsClean, IsFirstFault}
 use Rattle.tsp_text.specs.Answering.{NoneHasRow}
 use Rattle.tsp_text.proofs.Clean.{clean_more}
 use Rattle.tsp_text.proofs.ValidRows.{clean_parts}

@@ -4,12 +4,12 @@ use Rattle.std.proofs.lemmas.Bool.{true≢false}
 use Rattle.tsp_format.specs.declared.field.Field.{Field}
 use Rattle.tsp_format.specs.declared.field.Field.TheVariants.{DimensionKey, NodeCoordPart, TourPart}
 use Rattle.tsp_format.specs.declared.keyword.Keyword.{Keyword}
-use Rattle.tsp_items.specs.Items.{WordLine, Item, Line, NumberWord, LineEnd}
-use Rattle.tsp_items.specs.Earlier.{same_field, is_key, has_line, open_section, words_of}
-use Rattle.tsp_items.specs.Values.{spatial_after}
-use Rattle.tsp_items.specs.Sections.{place_in, nodes_of}
-use Rattle.tsp_items.specs.Rows.{row_of, word_fault}
-use Rattle.tsp_items.specs.FirstFault.{IsClean}
+use Rattle.tsp_text.specs.Items.{WordLine, Item, Line, NumberWord, LineEnd}
+use Rattle.tsp_text.specs.Earlier.{same_field, is_key, has_line, open_section, words_of}
+use Rattle.tsp_text.specs.Values.{spatial_after}
+use Rattle.tsp_text.specs.Sections.{place_in, nodes_of}
+use Rattle.tsp_text.specs.Rows.{row_of, word_fault}
+use Rattle.tsp_text.specs.FirstFault.{IsClean}
 use Rattle.tsp_text.proofs.ValidRows.{clean_parts}
 use Rattle.tsp_text.proofs.ValidSections.{same_field_is, nodes_kept, no_words}
 use Rattle.tsp_text.proofs.Opened.{was_opened}

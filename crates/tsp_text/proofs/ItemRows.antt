@@ -5,12 +5,12 @@ use Rattle.tsp_format.specs.declared.field.Field.{Field}
 use Rattle.tsp_format.specs.declared.field.Field.TheVariants.{NameKey, TypeKey, CommentKey, OtherKey, DimensionKey, CapacityKey, ScaleKey, EdgeWeightTypeKey, EdgeWeightFormatKey, NodeCoordTypeKey, DisplayDataTypeKey, NodeCoordPart, DisplayDataPart, DemandPart, DepotPart, FixedEdgesPart, EdgeWeightPart, TourPart, NodePotentialPart, RowPotentialPart, ColumnPotentialPart, FixedEdgePotentialPart, CombPart, BranchPart}
 use Rattle.tsp_format.specs.declared.keyword.Keyword.{Keyword}
 use Rattle.tsp_format.specs.Limits.{most_line_bytes}
-use Rattle.tsp_items.specs.declared.fault.LineFault.TheVariants as row
-use Rattle.tsp_items.specs.Items.{WordLine, Item, Line, NumberWord}
-use Rattle.tsp_items.specs.Earlier.{same_field, open_section, words_of}
-use Rattle.tsp_items.specs.Values.{spatial_after}
-use Rattle.tsp_items.specs.Sections.{place_in, nodes_of}
-use Rattle.tsp_items.specs.Rows.{row_of, word_fault}
+use Rattle.tsp_text.specs.declared.fault.LineFault.TheVariants as row
+use Rattle.tsp_text.specs.Items.{WordLine, Item, Line, NumberWord}
+use Rattle.tsp_text.specs.Earlier.{same_field, open_section, words_of}
+use Rattle.tsp_text.specs.Values.{spatial_after}
+use Rattle.tsp_text.specs.Sections.{place_in, nodes_of}
+use Rattle.tsp_text.specs.Rows.{row_of, word_fault}
 
 pub same_self : (f : Field) → same_field f f ≡ true
 same_self NameKey = refl

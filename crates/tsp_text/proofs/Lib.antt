@@ -1,3 +1,8 @@
+pub mod Ended
+pub mod FourWords
+pub mod NoBlanks
+pub mod PairWords
+pub mod TripleWords
 pub mod Clean
 pub mod ItemRows
 pub mod Opened

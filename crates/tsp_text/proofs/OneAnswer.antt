@@ -4,14 +4,14 @@ use Rattle.std.specs.Option.{option_or, option_map}
 use Rattle.std.proofs.lemmas.Option.{none-some, same_Some}
 use Rattle.tsp_draft.specs.declared.fault.EndFault.{EndFault}
 use Rattle.tsp_draft.specs.Fields.{Fields}
-use Rattle.tsp_items.specs.declared.fault.LineFault.{LineFault}
-use Rattle.tsp_items.specs.declared.fault.ReadFault.{ReadFault}
-use Rattle.tsp_items.specs.declared.fault.ReadFault.TheVariants as faults
-use Rattle.tsp_items.specs.Items.{Item}
-use Rattle.tsp_items.specs.Rows.{when, first_row, row_of}
-use Rattle.tsp_items.specs.FirstFault.{fault_here, fault_in}
-use Rattle.tsp_items.specs.Spells.{spelled, fault_at_end}
-use Rattle.tsp_items.specs.Text.{part, fault, Spells}
+use Rattle.tsp_text.specs.declared.fault.LineFault.{LineFault}
+use Rattle.tsp_text.specs.declared.fault.ReadFault.{ReadFault}
+use Rattle.tsp_text.specs.declared.fault.ReadFault.TheVariants as faults
+use Rattle.tsp_text.specs.Items.{Item}
+use Rattle.tsp_text.specs.Rows.{when, first_row, row_of}
+use Rattle.tsp_text.specs.FirstFault.{fault_here, fault_in}
+use Rattle.tsp_text.specs.Spells.{spelled, fault_at_end}
+use Rattle.tsp_text.specs.Text.{part, fault, Spells}
 use Rattle.tsp_text.specs.Answering.{IsAnswer, HasOneAnswer, is_of_text}
 
 only_file : (bytes : List ℕ) (other : Result Fields ReadFault) → fault bytes ≡ None → IsAnswer bytes other → other ≡ Ok (spelled (part bytes))

@@ -4,8 +4,8 @@ use Rattle.tsp_format.specs.declared.field.Field.{Field}
 use Rattle.tsp_format.specs.declared.keyword.Keyword.{Keyword}
 use Rattle.tsp_format.specs.declared.keyword.Keyword.TheVariants.{Known, EdgeDataFormat, EdgeDataSection, Eof, Unknown}
 use Rattle.tsp_format.specs.Shapes.{is_section_field}
-use Rattle.tsp_items.specs.Items.{Item, Line, NumberWord, LineEnd}
-use Rattle.tsp_items.specs.Earlier.{same_field, is_key, opened_by, is_open, has_line, open_section, words_of}
+use Rattle.tsp_text.specs.Items.{Item, Line, NumberWord, LineEnd}
+use Rattle.tsp_text.specs.Earlier.{same_field, is_key, opened_by, is_open, has_line, open_section, words_of}
 use Rattle.tsp_text.proofs.ItemRows.{same_self}
 
 -- a section that is open was opened

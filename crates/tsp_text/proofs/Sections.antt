@@ -10,13 +10,13 @@ use Rattle.tsp_format.specs.declared.field.Shape.TheVariants.{Points, SpacePoint
 use Rattle.tsp_format.specs.Limits.{most_line_bytes}
 use Rattle.tsp_format.specs.Shapes.{shape_of, is_section_field}
 use Rattle.tsp_draft.specs.Fields.{stands_in}
-use Rattle.tsp_items.specs.Items.{WordLine, Item, Line}
-use Rattle.tsp_items.specs.Earlier.{has_line}
-use Rattle.tsp_items.specs.Values.{spatial_after}
-use Rattle.tsp_items.specs.Sections.{nodes_of}
-use Rattle.tsp_items.specs.Rows.{row_of}
-use Rattle.tsp_items.specs.states.CutLine.{opening_rows}
-use Rattle.tsp_items.specs.Spells.{fields_by}
+use Rattle.tsp_text.specs.Items.{WordLine, Item, Line}
+use Rattle.tsp_text.specs.Earlier.{has_line}
+use Rattle.tsp_text.specs.Values.{spatial_after}
+use Rattle.tsp_text.specs.Sections.{nodes_of}
+use Rattle.tsp_text.specs.Rows.{row_of}
+use Rattle.tsp_text.specs.Opening.{opening_rows}
+use Rattle.tsp_text.specs.Spells.{fields_by}
 
 -- what holds of each section holds of every field that is one
 pub by_section : (P : Field → Type 0) → P NodeCoordPart → P DisplayDataPart → P DemandPart → P DepotPart → P FixedEdgesPart

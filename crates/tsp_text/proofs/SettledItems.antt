@@ -5,9 +5,9 @@ use Rattle.std.specs.List.{filter, slice_split, onto_first}
 use Rattle.std.proofs.lemmas.Bool.{false≢true, ltb-true, lt-ltb}
 use Rattle.tsp_format.specs.Bytes.{is_blank, is_letter}
 use Rattle.tsp_format.specs.Limits.{most_word_bytes, most_line_bytes}
-use Rattle.tsp_items.specs.Lines.{ends_line, lines_of, words_in, is_filled, without_start, begins}
-use Rattle.tsp_items.proofs.NoBlanks.{start_blank, start_filled}
-use Rattle.tsp_items.specs.Items.{Item, Line, NumberWord, LineEnd, line_item, items_in, items_by, items_of, settled_pieces, settled_words, settled_line, settled_in, settled_items}
+use Rattle.tsp_text.specs.Lines.{ends_line, lines_of, words_in, is_filled, without_start, begins}
+use Rattle.tsp_text.proofs.NoBlanks.{start_blank, start_filled}
+use Rattle.tsp_text.specs.Items.{Item, Line, NumberWord, LineEnd, line_item, items_in, items_by, items_of, settled_pieces, settled_words, settled_line, settled_in, settled_items}
 
 -- ---- parts of a list that goes on
 

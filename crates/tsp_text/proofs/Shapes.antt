@@ -2,9 +2,9 @@
 use Rattle.std.proofs.Common.{◌≡◌, ℕ, ◌-◌, ◌*◌, List, [], ◌∷◌, ◌++◌, length, map, refl, ap, ◌∙◌, arith, inl, inr}
 use Rattle.std.specs.Prelude.{◌⊎◌}
 use Rattle.std.proofs.lemmas.List.{map_push}
-use Rattle.tsp_items.specs.Groups.{pairs_in, triples_in, fours_in, begun_pair, begun_triple, begun_four}
-use Rattle.tsp_items.proofs.TripleWords.{triples_begin, begun_begin}
-use Rattle.tsp_items.proofs.FourWords.{fours_begin, begun_begin as begun_begin_four}
+use Rattle.tsp_text.specs.Groups.{pairs_in, triples_in, fours_in, begun_pair, begun_triple, begun_four}
+use Rattle.tsp_text.proofs.TripleWords.{triples_begin, begun_begin}
+use Rattle.tsp_text.proofs.FourWords.{fours_begin, begun_begin as begun_begin_four}
 use Rattle.tsp_text.proofs.ValidLists.{pair_begins, pair_ends, begun_short}
 
 abbrev pub Words : Type 0

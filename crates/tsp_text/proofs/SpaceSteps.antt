@@ -7,15 +7,15 @@ use Rattle.std.proofs.lemmas.Bool.{true≢false, false≢true}
 use Rattle.tsp_format.specs.declared.field.Field.{Field}
 use Rattle.tsp_format.specs.declared.field.Field.TheVariants.{NodeCoordPart, EdgeWeightTypeKey, NodeCoordTypeKey}
 use Rattle.tsp_format.specs.declared.keyword.Keyword.TheVariants.{Known, EdgeDataFormat, EdgeDataSection, Eof, Unknown}
-use Rattle.tsp_items.specs.Items.{WordLine, Item, Line, NumberWord, LineEnd}
-use Rattle.tsp_items.specs.Lines.{first_word}
-use Rattle.tsp_items.specs.Earlier.{same_field, is_key, has_line, value_at, words_of}
+use Rattle.tsp_text.specs.Items.{WordLine, Item, Line, NumberWord, LineEnd}
+use Rattle.tsp_text.specs.Lines.{first_word}
+use Rattle.tsp_text.specs.Earlier.{same_field, is_key, has_line, value_at, words_of}
 use Rattle.tsp_format.specs.Space.{weighs_three, has_three}
-use Rattle.tsp_items.specs.Values.{named_at, coord_kind_named, weight_kind_named, says_space, spatial_after}
-use Rattle.tsp_items.specs.Groups.{coords_by_node}
-use Rattle.tsp_items.specs.Sections.{place_in}
-use Rattle.tsp_items.specs.Rows.{row_of, is_repeated, is_late}
-use Rattle.tsp_items.specs.Spells.{wants_more, sections_in_order}
+use Rattle.tsp_text.specs.Values.{named_at, coord_kind_named, weight_kind_named, says_space, spatial_after}
+use Rattle.tsp_text.specs.Groups.{coords_by_node}
+use Rattle.tsp_text.specs.Sections.{place_in}
+use Rattle.tsp_text.specs.Rows.{row_of, is_repeated, is_late}
+use Rattle.tsp_text.specs.Spells.{wants_more, sections_in_order}
 use Rattle.tsp_text.proofs.ValidRows.{no_row}
 use Rattle.tsp_text.proofs.ValidSections.{same_field_is}
 

@@ -9,15 +9,15 @@ use Rattle.std.proofs.lemmas.List.Sums.{fold-append, sum_by_push}
 use Rattle.tsp_format.specs.declared.field.Field.TheVariants.{CombPart}
 use Rattle.tsp_format.specs.Limits.{most_combs, most_comb_nodes}
 use Rattle.tsp_draft.specs.Validity.{is_node, is_set, is_comb, are_combs}
-use Rattle.tsp_items.specs.Lines.{is_filled}
-use Rattle.tsp_items.specs.Items.{Item}
-use Rattle.tsp_items.specs.Earlier.{words_of}
-use Rattle.tsp_items.specs.Numbers.{number, is_end}
-use Rattle.tsp_items.specs.Places.{SetNode, PastEnd}
-use Rattle.tsp_items.specs.Combs.{CombsSoFar, no_combs, comb_node, with_end, with_comb_word, combs_after, combs_in, has_begun_comb, place_in_combs}
-use Rattle.tsp_items.specs.Sections.{nodes_of}
-use Rattle.tsp_items.specs.FirstFault.{IsClean}
-use Rattle.tsp_items.specs.Rows.{is_past_combs, word_fault}
+use Rattle.tsp_text.specs.Lines.{is_filled}
+use Rattle.tsp_text.specs.Items.{Item}
+use Rattle.tsp_text.specs.Earlier.{words_of}
+use Rattle.tsp_text.specs.Numbers.{number, is_end}
+use Rattle.tsp_text.specs.Places.{SetNode, PastEnd}
+use Rattle.tsp_text.specs.Combs.{CombsSoFar, no_combs, comb_node, with_end, with_comb_word, combs_after, combs_in, has_begun_comb, place_in_combs}
+use Rattle.tsp_text.specs.Sections.{nodes_of}
+use Rattle.tsp_text.specs.FirstFault.{IsClean}
+use Rattle.tsp_text.specs.Rows.{is_past_combs, word_fault}
 use Rattle.tsp_text.proofs.ValidRows.{is_taken}
 use Rattle.tsp_text.proofs.Grown.{Grows, grown}
 use Rattle.tsp_text.proofs.ValidNumbers.{read_listed}

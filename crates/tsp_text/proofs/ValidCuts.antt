@@ -9,10 +9,10 @@ use Rattle.std.proofs.lemmas.List.{reverse-append, reverse-reverse, take-append-
 use Rattle.std.proofs.lemmas.List.Folds.{list_all-append}
 use Rattle.tsp_format.specs.Bytes.{is_blank, is_letter, is_keyword_byte}
 use Rattle.tsp_format.specs.Limits.{most_line_bytes, most_file_bytes}
-use Rattle.tsp_items.specs.Lines.{ends_line, lines_of, words_in, without_start, without_end, begins, is_word_line, keyword_in, after_keyword, has_colon, value_in}
-use Rattle.tsp_items.specs.Items.{Item, NumberWord, LineEnd, line_item, items_in, items_by, items_of, settled_words, settled_in, settled_items, is_end_line, to_end_line}
+use Rattle.tsp_text.specs.Lines.{ends_line, lines_of, words_in, without_start, without_end, begins, is_word_line, keyword_in, after_keyword, has_colon, value_in}
+use Rattle.tsp_text.specs.Items.{Item, NumberWord, LineEnd, line_item, items_in, items_by, items_of, settled_words, settled_in, settled_items, is_end_line, to_end_line}
 use Rattle.tsp_text.specs.Cuts.{is_one_line, IsCut, AreCut}
-use Rattle.tsp_items.specs.Text.{part, is_too_long}
+use Rattle.tsp_text.specs.Text.{part, is_too_long}
 use Rattle.tsp_text.proofs.ValidNumbers.{all_pass}
 use Rattle.tsp_text.proofs.ValidTours.{pieces_pass}
 

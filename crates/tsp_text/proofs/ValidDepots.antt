@@ -7,15 +7,15 @@ use Rattle.std.proofs.lemmas.List.{length-map, map_push}
 use Rattle.tsp_format.specs.declared.field.Field.TheVariants.{DepotPart}
 use Rattle.tsp_format.specs.Limits.{most_depots}
 use Rattle.tsp_draft.specs.Validity.{is_node, are_depots}
-use Rattle.tsp_items.specs.Items.{Item}
-use Rattle.tsp_items.specs.Earlier.{words_of}
-use Rattle.tsp_items.specs.Numbers.{number, node_or_end, is_end}
-use Rattle.tsp_items.specs.Places.{DepotAfter, PastEnd}
-use Rattle.tsp_items.specs.Lists.{before, depots_in}
-use Rattle.tsp_items.specs.Sections.{nodes_of}
-use Rattle.tsp_items.specs.FirstFault.{IsClean}
-use Rattle.tsp_items.specs.Rows.{word_fault}
-use Rattle.tsp_items.proofs.Ended.{before_kept, before_none, before_end, before_push}
+use Rattle.tsp_text.specs.Items.{Item}
+use Rattle.tsp_text.specs.Earlier.{words_of}
+use Rattle.tsp_text.specs.Numbers.{number, node_or_end, is_end}
+use Rattle.tsp_text.specs.Places.{DepotAfter, PastEnd}
+use Rattle.tsp_text.specs.Lists.{before, depots_in}
+use Rattle.tsp_text.specs.Sections.{nodes_of}
+use Rattle.tsp_text.specs.FirstFault.{IsClean}
+use Rattle.tsp_text.specs.Rows.{word_fault}
+use Rattle.tsp_text.proofs.Ended.{before_kept, before_none, before_end, before_push}
 use Rattle.tsp_text.proofs.ValidRows.{is_taken}
 use Rattle.tsp_text.proofs.Grown.{Grows, grown}
 use Rattle.tsp_text.proofs.ValidNumbers.{read_listed}

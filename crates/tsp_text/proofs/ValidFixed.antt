@@ -8,17 +8,17 @@ use Rattle.std.proofs.lemmas.List.{length-map, map_push}
 use Rattle.tsp_format.specs.declared.field.Field.TheVariants.{FixedEdgesPart}
 use Rattle.tsp_format.specs.Limits.{most_fixed}
 use Rattle.tsp_draft.specs.Validity.{is_node, is_pair, are_fixed}
-use Rattle.tsp_items.specs.Items.{Item}
-use Rattle.tsp_items.specs.Earlier.{words_of}
-use Rattle.tsp_items.specs.Numbers.{number, reads_as, node, node_or_end, is_end}
-use Rattle.tsp_items.specs.Places.{FirstAfter, SecondOf, PastEnd}
-use Rattle.tsp_items.specs.Groups.{pairs_in, begun_pair}
-use Rattle.tsp_items.specs.Lists.{before, fixed_in, firsts_in, place_in_pair}
-use Rattle.tsp_items.specs.Sections.{nodes_of}
-use Rattle.tsp_items.specs.FirstFault.{IsClean}
-use Rattle.tsp_items.specs.Rows.{word_fault}
-use Rattle.tsp_items.proofs.Ended.{any_push}
-use Rattle.tsp_items.proofs.PairWords.{pairs_begin, begun_begin, firsts_begin, pairs_end, begun_end, firsts_end, firsts_kept, pairs_kept, pairs_none}
+use Rattle.tsp_text.specs.Items.{Item}
+use Rattle.tsp_text.specs.Earlier.{words_of}
+use Rattle.tsp_text.specs.Numbers.{number, reads_as, node, node_or_end, is_end}
+use Rattle.tsp_text.specs.Places.{FirstAfter, SecondOf, PastEnd}
+use Rattle.tsp_text.specs.Groups.{pairs_in, begun_pair}
+use Rattle.tsp_text.specs.Lists.{before, fixed_in, firsts_in, place_in_pair}
+use Rattle.tsp_text.specs.Sections.{nodes_of}
+use Rattle.tsp_text.specs.FirstFault.{IsClean}
+use Rattle.tsp_text.specs.Rows.{word_fault}
+use Rattle.tsp_text.proofs.Ended.{any_push}
+use Rattle.tsp_text.proofs.PairWords.{pairs_begin, begun_begin, firsts_begin, pairs_end, begun_end, firsts_end, firsts_kept, pairs_kept, pairs_none}
 use Rattle.tsp_text.proofs.ValidRows.{is_taken}
 use Rattle.tsp_text.proofs.Grown.{Grows, grown}
 use Rattle.tsp_text.proofs.ValidNumbers.{read_node, read_listed, differ}

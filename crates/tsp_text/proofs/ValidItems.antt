@@ -14,23 +14,23 @@ use Rattle.tsp_draft.specs.declared.fault.DraftFault.TheVariants.{BadField, Rule
 use Rattle.tsp_draft.specs.Fields.{Fields}
 use Rattle.tsp_draft.specs.Rules.{standing_of, is_there, asked_in_order, format_or_count, end_fault, fault_of}
 use Rattle.tsp_draft.specs.Validity.{if_there, is_by_node, is_point, is_demand, is_within, are_depots, are_fixed, are_triples, are_weights, are_tours, are_combs, are_steps, fits, first_failing, bad_field}
-use Rattle.tsp_items.specs.Items.{Item, has_end_line}
-use Rattle.tsp_items.specs.Earlier.{same_field, has_line, words_of}
+use Rattle.tsp_text.specs.Items.{Item, has_end_line}
+use Rattle.tsp_text.specs.Earlier.{same_field, has_line, words_of}
 use Rattle.tsp_text.specs.Cuts.{AreCut}
-use Rattle.tsp_items.specs.Sections.{nodes_of}
-use Rattle.tsp_items.specs.Values.{spatial_after}
-use Rattle.tsp_items.specs.Groups.{points_by_node, coords_by_node}
+use Rattle.tsp_text.specs.Sections.{nodes_of}
+use Rattle.tsp_text.specs.Values.{spatial_after}
+use Rattle.tsp_text.specs.Groups.{points_by_node, coords_by_node}
 use Rattle.tsp_draft.proofs.ValidFields.{nodes_fit}
-use Rattle.tsp_items.specs.Lists.{depots_in, fixed_in, fixed_triples_in}
-use Rattle.tsp_items.specs.Weights.{weights_in}
-use Rattle.tsp_items.specs.Tours.{tours_in}
-use Rattle.tsp_items.specs.Combs.{combs_in}
-use Rattle.tsp_items.specs.Tree.{steps_in, place_of_step}
-use Rattle.tsp_items.specs.FirstFault.{fault_in, IsClean}
-use Rattle.tsp_items.specs.declared.fault.ReadFault.TheVariants as faults
-use Rattle.tsp_items.specs.Rows.{when}
-use Rattle.tsp_items.specs.Spells.{potentials_in, demands_in, spelled, wants_more, is_incomplete, sections_in_order, first_incomplete, fault_at_end}
-use Rattle.tsp_items.specs.Text.{is_too_long, part, Spells}
+use Rattle.tsp_text.specs.Lists.{depots_in, fixed_in, fixed_triples_in}
+use Rattle.tsp_text.specs.Weights.{weights_in}
+use Rattle.tsp_text.specs.Tours.{tours_in}
+use Rattle.tsp_text.specs.Combs.{combs_in}
+use Rattle.tsp_text.specs.Tree.{steps_in, place_of_step}
+use Rattle.tsp_text.specs.FirstFault.{fault_in, IsClean}
+use Rattle.tsp_text.specs.declared.fault.ReadFault.TheVariants as faults
+use Rattle.tsp_text.specs.Rows.{when}
+use Rattle.tsp_text.specs.Spells.{potentials_in, demands_in, spelled, wants_more, is_incomplete, sections_in_order, first_incomplete, fault_at_end}
+use Rattle.tsp_text.specs.Text.{is_too_long, part, Spells}
 use Rattle.tsp_text.proofs.ValidRows.{none_applies, map_none}
 use Rattle.tsp_text.proofs.ValidCuts.{part_cut}
 use Rattle.tsp_text.proofs.ValidKeywords.{name_fits, comments_fit, others_fit, dimension_fits, capacity_fits, scale_fits}

@@ -19,13 +19,13 @@ use Rattle.tsp_format.specs.Words.{field_word, fields_in_order}
 use Rattle.tsp_format.specs.Keywords.{is_others, field_of, known_or_not, keyword_of, is_unknown}
 use Rattle.tsp_format.specs.Limits.{most_nodes, most_capacity, most_scale, most_kept_bytes, most_comments, most_others}
 use Rattle.tsp_draft.specs.Validity.{if_there, is_kept, is_unknown_keyword, is_other, are_comments, are_others, is_from_to, is_node}
-use Rattle.tsp_items.specs.Lines.{first_word}
-use Rattle.tsp_items.specs.Items.{WordLine, Item, Line, NumberWord, LineEnd}
-use Rattle.tsp_items.specs.Earlier.{same_field, is_key, value_at, values_at, others_in}
-use Rattle.tsp_items.specs.Values.{number_at, dimension_of}
+use Rattle.tsp_text.specs.Lines.{first_word}
+use Rattle.tsp_text.specs.Items.{WordLine, Item, Line, NumberWord, LineEnd}
+use Rattle.tsp_text.specs.Earlier.{same_field, is_key, value_at, values_at, others_in}
+use Rattle.tsp_text.specs.Values.{number_at, dimension_of}
 use Rattle.tsp_text.specs.Cuts.{IsCutLine, AreCut}
-use Rattle.tsp_items.specs.Rows.{is_too_long_to_keep, has_bad_value, row_of}
-use Rattle.tsp_items.specs.FirstFault.{IsClean}
+use Rattle.tsp_text.specs.Rows.{is_too_long_to_keep, has_bad_value, row_of}
+use Rattle.tsp_text.specs.FirstFault.{IsClean}
 use Rattle.tsp_text.proofs.ValidRows.{clean_parts, no_row}
 use Rattle.tsp_text.proofs.ValidSections.{same_field_is}
 use Rattle.tsp_text.proofs.ValidNumbers.{whole_in_range, node_read}

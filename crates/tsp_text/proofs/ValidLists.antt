@@ -5,8 +5,8 @@ use Rattle.std.specs.List.{list_all}
 use Rattle.std.proofs.lemmas.Bool.{true≢false, and_from, and_parts, le-leb, leb-false}
 use Rattle.std.proofs.lemmas.List.{length_push}
 use Rattle.std.proofs.lemmas.List.Folds.{list_all-append}
-use Rattle.tsp_items.specs.Groups.{pairs_in, begun_pair}
-use Rattle.tsp_items.specs.Lists.{firsts_in}
+use Rattle.tsp_text.specs.Groups.{pairs_in, begun_pair}
+use Rattle.tsp_text.specs.Lists.{firsts_in}
 
 -- one more of a list with room, that passes too
 pub few_more : {A : Type 0} (most : ℕ) (test : A → Bool) (xs : List A) (x : A) → (nat_le (length xs) most && list_all test xs) ≡ true → nat_le most (length xs) ≡ false → test x ≡ true

@@ -13,13 +13,13 @@ use Rattle.tsp_format.specs.declared.field.Field.{Field}
 use Rattle.tsp_format.specs.declared.field.Field.TheVariants.{DimensionKey, TourPart}
 use Rattle.tsp_format.specs.declared.keyword.Keyword.TheVariants.{Known, EdgeDataFormat, EdgeDataSection, Eof, Unknown}
 use Rattle.tsp_format.specs.Words.{field_word, fields_in_order, field_found}
-use Rattle.tsp_items.specs.Items.{WordLine, Item, Line, NumberWord, LineEnd}
+use Rattle.tsp_text.specs.Items.{WordLine, Item, Line, NumberWord, LineEnd}
 use Rattle.tsp_format.specs.Shapes.{is_section_field}
-use Rattle.tsp_items.specs.Earlier.{same_field, has_line, open_section, words_of}
-use Rattle.tsp_items.specs.Values.{read_as, dimension_of}
-use Rattle.tsp_items.specs.Sections.{nodes_of}
-use Rattle.tsp_items.specs.Rows.{row_of, may_repeat, is_repeated}
-use Rattle.tsp_items.specs.FirstFault.{IsClean}
+use Rattle.tsp_text.specs.Earlier.{same_field, has_line, open_section, words_of}
+use Rattle.tsp_text.specs.Values.{read_as, dimension_of}
+use Rattle.tsp_text.specs.Sections.{nodes_of}
+use Rattle.tsp_text.specs.Rows.{row_of, may_repeat, is_repeated}
+use Rattle.tsp_text.specs.FirstFault.{IsClean}
 use Rattle.tsp_text.proofs.ValidRows.{clean_parts, no_row}
 
 -- ---- fields

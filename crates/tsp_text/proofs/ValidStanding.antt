@@ -5,14 +5,14 @@ use Rattle.tsp_format.specs.declared.field.Field.{Field}
 use Rattle.tsp_format.specs.declared.field.Field.TheVariants.{DimensionKey, TourPart}
 use Rattle.tsp_format.specs.declared.keyword.Keyword.TheVariants.{Known, EdgeDataFormat, EdgeDataSection, Eof, Unknown}
 use Rattle.tsp_draft.specs.Validity.{if_there, with_dimension}
-use Rattle.tsp_items.specs.Items.{WordLine, Item, Line, NumberWord, LineEnd}
+use Rattle.tsp_text.specs.Items.{WordLine, Item, Line, NumberWord, LineEnd}
 use Rattle.tsp_format.specs.Shapes.{is_section_field}
-use Rattle.tsp_items.specs.Earlier.{same_field, has_line, words_of}
-use Rattle.tsp_items.specs.Values.{dimension_of}
-use Rattle.tsp_items.specs.Sections.{nodes_of}
-use Rattle.tsp_items.specs.Rows.{is_early}
-use Rattle.tsp_items.specs.FirstFault.{IsClean}
-use Rattle.tsp_items.specs.Spells.{section, stands}
+use Rattle.tsp_text.specs.Earlier.{same_field, has_line, words_of}
+use Rattle.tsp_text.specs.Values.{dimension_of}
+use Rattle.tsp_text.specs.Sections.{nodes_of}
+use Rattle.tsp_text.specs.Rows.{is_early}
+use Rattle.tsp_text.specs.FirstFault.{IsClean}
+use Rattle.tsp_text.specs.Spells.{section, stands}
 use Rattle.tsp_text.proofs.ValidRows.{clean_parts, no_row}
 use Rattle.tsp_text.proofs.ValidSections.{same_field_is, late, dimension_there}
 

@@ -10,14 +10,14 @@ use Rattle.std.proofs.lemmas.List.Elements.{filter-append}
 use Rattle.tsp_format.specs.declared.field.Field.TheVariants.{TourPart}
 use Rattle.tsp_format.specs.Limits.{most_nodes, most_tour_nodes}
 use Rattle.tsp_draft.specs.Validity.{is_node, is_tour, are_tours}
-use Rattle.tsp_items.specs.Lines.{is_filled}
-use Rattle.tsp_items.specs.Items.{Item}
-use Rattle.tsp_items.specs.Earlier.{words_of}
-use Rattle.tsp_items.specs.Numbers.{number}
-use Rattle.tsp_items.specs.Places.{TourNode}
-use Rattle.tsp_items.specs.Tours.{ends_tour, tour_node, tours_in}
-use Rattle.tsp_items.specs.FirstFault.{IsClean}
-use Rattle.tsp_items.specs.Rows.{word_fault}
+use Rattle.tsp_text.specs.Lines.{is_filled}
+use Rattle.tsp_text.specs.Items.{Item}
+use Rattle.tsp_text.specs.Earlier.{words_of}
+use Rattle.tsp_text.specs.Numbers.{number}
+use Rattle.tsp_text.specs.Places.{TourNode}
+use Rattle.tsp_text.specs.Tours.{ends_tour, tour_node, tours_in}
+use Rattle.tsp_text.specs.FirstFault.{IsClean}
+use Rattle.tsp_text.specs.Rows.{word_fault}
 use Rattle.tsp_text.proofs.ValidRows.{is_taken}
 use Rattle.tsp_text.proofs.Grown.{Grows, grown}
 use Rattle.tsp_text.proofs.ValidNumbers.{read_listed}

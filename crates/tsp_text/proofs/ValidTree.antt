@@ -15,15 +15,15 @@ use Rattle.tsp_format.specs.declared.field.Field.TheVariants.{BranchPart}
 use Rattle.tsp_format.specs.Limits.{most_combs, most_branches, most_changes, most_difference}
 use Rattle.tsp_format.specs.Steps.{Step, Branch, Leaf, are_whole, branch_count, change_count}
 use Rattle.tsp_draft.specs.Validity.{is_from_to, is_within, is_node, is_pair, is_change, is_step, are_steps}
-use Rattle.tsp_items.specs.Items.{Item}
-use Rattle.tsp_items.specs.Earlier.{words_of}
-use Rattle.tsp_items.specs.Numbers.{number, reads_as, node, sized}
-use Rattle.tsp_items.specs.Places.{StepAfter, SecondOf, IndexAfter, PastGroups}
-use Rattle.tsp_items.specs.Tree.{TreeSoFar, no_steps, node_or_leaf, begins_leaf, index_or_end, ends_leaf, with_word_of, with_tree_word, tree_after, steps_in, place_in_step, place_in_tree, place_of_step}
-use Rattle.tsp_items.specs.Sections.{nodes_of}
-use Rattle.tsp_items.specs.FirstFault.{IsClean}
-use Rattle.tsp_items.specs.Rows.{word_fault}
-use Rattle.tsp_items.specs.Spells.{wants_more}
+use Rattle.tsp_text.specs.Items.{Item}
+use Rattle.tsp_text.specs.Earlier.{words_of}
+use Rattle.tsp_text.specs.Numbers.{number, reads_as, node, sized}
+use Rattle.tsp_text.specs.Places.{StepAfter, SecondOf, IndexAfter, PastGroups}
+use Rattle.tsp_text.specs.Tree.{TreeSoFar, no_steps, node_or_leaf, begins_leaf, index_or_end, ends_leaf, with_word_of, with_tree_word, tree_after, steps_in, place_in_step, place_in_tree, place_of_step}
+use Rattle.tsp_text.specs.Sections.{nodes_of}
+use Rattle.tsp_text.specs.FirstFault.{IsClean}
+use Rattle.tsp_text.specs.Rows.{word_fault}
+use Rattle.tsp_text.specs.Spells.{wants_more}
 use Rattle.tsp_text.proofs.ValidRows.{is_taken}
 use Rattle.tsp_text.proofs.Grown.{Grows, grown}
 use Rattle.tsp_text.proofs.ValidNumbers.{whole_in_range, whole_passes, read_node, read_listed, differ}

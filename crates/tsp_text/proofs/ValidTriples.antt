@@ -9,17 +9,17 @@ use Rattle.tsp_number.specs.Reading.{whole_of}
 use Rattle.tsp_format.specs.declared.field.Field.TheVariants.{FixedEdgePotentialPart}
 use Rattle.tsp_format.specs.Limits.{most_fixed, most_multipliers, most_multiplier}
 use Rattle.tsp_draft.specs.Validity.{is_from_to, is_pair, is_triple, are_triples}
-use Rattle.tsp_items.specs.Items.{Item}
-use Rattle.tsp_items.specs.Earlier.{words_of}
-use Rattle.tsp_items.specs.Numbers.{number, node_or_end, is_end}
-use Rattle.tsp_items.specs.Places.{FirstAfter, SecondOf, PastEnd}
-use Rattle.tsp_items.specs.Groups.{triples_in, begun_triple}
-use Rattle.tsp_items.specs.Lists.{before, fixed_triple, fixed_triples_in, triple_firsts_in, place_in_triple}
-use Rattle.tsp_items.specs.Sections.{nodes_of}
-use Rattle.tsp_items.specs.FirstFault.{IsClean}
-use Rattle.tsp_items.specs.Rows.{word_fault}
-use Rattle.tsp_items.proofs.Ended.{any_push}
-use Rattle.tsp_items.proofs.TripleWords.{triples_begin, begun_begin, firsts_begin, triples_middle, begun_middle, triples_end, begun_end, firsts_end, firsts_kept, triples_kept, triples_none}
+use Rattle.tsp_text.specs.Items.{Item}
+use Rattle.tsp_text.specs.Earlier.{words_of}
+use Rattle.tsp_text.specs.Numbers.{number, node_or_end, is_end}
+use Rattle.tsp_text.specs.Places.{FirstAfter, SecondOf, PastEnd}
+use Rattle.tsp_text.specs.Groups.{triples_in, begun_triple}
+use Rattle.tsp_text.specs.Lists.{before, fixed_triple, fixed_triples_in, triple_firsts_in, place_in_triple}
+use Rattle.tsp_text.specs.Sections.{nodes_of}
+use Rattle.tsp_text.specs.FirstFault.{IsClean}
+use Rattle.tsp_text.specs.Rows.{word_fault}
+use Rattle.tsp_text.proofs.Ended.{any_push}
+use Rattle.tsp_text.proofs.TripleWords.{triples_begin, begun_begin, firsts_begin, triples_middle, begun_middle, triples_end, begun_end, firsts_end, firsts_kept, triples_kept, triples_none}
 use Rattle.tsp_text.proofs.ValidRows.{is_taken}
 use Rattle.tsp_text.proofs.Grown.{Grows, grown}
 use Rattle.tsp_text.proofs.ValidNumbers.{whole_passes}

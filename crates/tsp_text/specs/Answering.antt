@@ -1,11 +1,11 @@
 -- What a text is answered with, and which items have no row: the words of the laws on answers.
 use Rattle.std.specs.Prelude.{◌≡◌, ℕ, Bool, true, false, List, ◌∷◌, ◌++◌, None, Some, Result, Ok, Err}
 use Rattle.tsp_draft.specs.Fields.{Fields}
-use Rattle.tsp_items.specs.declared.fault.ReadFault.{ReadFault}
-use Rattle.tsp_items.specs.declared.fault.ReadFault.TheVariants as faults
-use Rattle.tsp_items.specs.Items.{Item}
-use Rattle.tsp_items.specs.Rows.{row_of}
-use Rattle.tsp_items.specs.Text.{fault, Spells}
+use Rattle.tsp_text.specs.declared.fault.ReadFault.{ReadFault}
+use Rattle.tsp_text.specs.declared.fault.ReadFault.TheVariants as faults
+use Rattle.tsp_text.specs.Items.{Item}
+use Rattle.tsp_text.specs.Rows.{row_of}
+use Rattle.tsp_text.specs.Text.{fault, Spells}
 
 -- no row applies to any of these items, each after those before it (nearest first)
 abbrev pub NoneHasRow : List Item → Type 0

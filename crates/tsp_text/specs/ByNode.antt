@@ -6,7 +6,7 @@ use Rattle.tsp_format.specs.declared.field.Shape.{Shape}
 use Rattle.tsp_format.specs.declared.field.Shape.TheVariants.{Numbers, Points, SpacePoints}
 use Rattle.tsp_format.specs.Shapes.{shape_of}
 use Rattle.tsp_format.specs.Cells.{nodes_to}
-use Rattle.tsp_items.specs.Groups.{number_groups, point_groups, space_point_groups, nodes_in}
+use Rattle.tsp_text.specs.Groups.{number_groups, point_groups, space_point_groups, nodes_in}
 
 -- a section of this shape has a group for each node
 abbrev pub has_groups : Option Shape → Bool

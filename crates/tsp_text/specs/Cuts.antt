@@ -4,8 +4,8 @@ use Rattle.std.specs.List.{list_all, AllByRecursion}
 use Rattle.tsp_format.specs.declared.keyword.Keyword.{Keyword}
 use Rattle.tsp_format.specs.Bytes.{is_blank, is_letter, is_keyword_byte}
 use Rattle.tsp_format.specs.Keywords.{keyword_of}
-use Rattle.tsp_items.specs.Lines.{ends_line}
-use Rattle.tsp_items.specs.Items.{WordLine, Item, Line, NumberWord, LineEnd}
+use Rattle.tsp_text.specs.Lines.{ends_line}
+use Rattle.tsp_text.specs.Items.{WordLine, Item, Line, NumberWord, LineEnd}
 
 -- no byte ends a line
 abbrev pub is_one_line : List ℕ → Bool

@@ -2,10 +2,10 @@
 
 ghost use Rattle.std.specs.Prelude.{◌≡◌, ◌≢◌, ℕ, List, Some, true};
 ghost use Rattle.tsp_draft.specs.Fields.{Fields};
-ghost use Rattle.tsp_items.specs.declared.fault.ReadFault.{ReadFault};
-ghost use Rattle.tsp_items.specs.Items.{Item};
-ghost use Rattle.tsp_items.specs.FirstFault.{fault_in, IsClean, IsFirstFault};
-ghost use Rattle.tsp_items.specs.Text.{fault, Spells};
+ghost use Rattle.tsp_text.specs.declared.fault.ReadFault.{ReadFault};
+ghost use Rattle.tsp_text.specs.Items.{Item};
+ghost use Rattle.tsp_text.specs.FirstFault.{fault_in, IsClean, IsFirstFault};
+ghost use Rattle.tsp_text.specs.Text.{fault, Spells};
 ghost use Rattle.tsp_text.specs.Answering.{NoneHasRow, HasOneAnswer, is_of_text};
 
 /// The first fault of items is that of the first item to which a row applies, and of its first row.

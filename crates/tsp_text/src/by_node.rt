@@ -2,12 +2,12 @@
 
 ghost use Rattle.std.specs.Prelude.{◌≡◌, List, true, false};
 ghost use Rattle.tsp_format.specs.declared.field.Field.{Field};
-ghost use Rattle.tsp_items.specs.Items.{Item};
-ghost use Rattle.tsp_items.specs.Earlier.{has_line, words_of};
-ghost use Rattle.tsp_items.specs.Values.{spatial_after};
-ghost use Rattle.tsp_items.specs.Sections.{nodes_of};
-ghost use Rattle.tsp_items.specs.FirstFault.{IsClean};
-ghost use Rattle.tsp_items.specs.Spells.{is_incomplete};
+ghost use Rattle.tsp_text.specs.Items.{Item};
+ghost use Rattle.tsp_text.specs.Earlier.{has_line, words_of};
+ghost use Rattle.tsp_text.specs.Values.{spatial_after};
+ghost use Rattle.tsp_text.specs.Sections.{nodes_of};
+ghost use Rattle.tsp_text.specs.FirstFault.{IsClean};
+ghost use Rattle.tsp_text.specs.Spells.{is_incomplete};
 ghost use Rattle.tsp_text.specs.ByNode.{is_by_node_field, group_nodes, HasEachOnce};
 
 /// A section by node that stands, has no fault and isn't incomplete has one group for each node.

@@ -5,11 +5,11 @@ ghost use Rattle.tsp_format.specs.declared.field.Field.TheVariants.{BranchPart};
 ghost use Rattle.tsp_draft.specs.Fields.{Fields};
 ghost use Rattle.tsp_draft.specs.Validity.{bad_field};
 ghost use Rattle.tsp_draft.specs.Rules.{fault_of};
-ghost use Rattle.tsp_items.specs.Items.{Item};
+ghost use Rattle.tsp_text.specs.Items.{Item};
 ghost use Rattle.tsp_text.specs.Cuts.{AreCut};
-ghost use Rattle.tsp_items.specs.FirstFault.{IsClean};
-ghost use Rattle.tsp_items.specs.Spells.{spelled, is_incomplete, fault_at_end};
-ghost use Rattle.tsp_items.specs.Text.{part, Spells};
+ghost use Rattle.tsp_text.specs.FirstFault.{IsClean};
+ghost use Rattle.tsp_text.specs.Spells.{spelled, is_incomplete, fault_at_end};
+ghost use Rattle.tsp_text.specs.Text.{part, Spells};
 
 /// What items without a fault spell is valid, field by field, where the tree of cases, if one stands,
 /// is whole.

@@ -20,7 +20,9 @@ use Rattle.tsp_theory.specs.Assignment.{AreGood, IsFirstBroken, IsDualBound, Dua
 use Rattle.tsp_reason.specs.declared.verdict.Reason.TheVariants.{DualInfeasible}
 use Rattle.tsp_verdict.specs.Multiplied.{AreListed}
 use Rattle.tsp_verdict.specs.Solution.{nodes_of, fixed_of}
-use Rattle.tsp_verdict.specs.Certificate.{scale_in, potentials_in, rows_in, columns_in, multipliers_in, StandsAgainstPotentials, IsBoundByPotentials, UsesMultiplied, IsCertifiedByPotentials}
+use Rattle.tsp_verdict.specs.Certificate.{scale_in, potentials_in, rows_in, columns_in, multipliers_in, StandsAgainstPotentials}
+use Rattle.tsp_verdict.specs.Certified.{IsBoundBy, IsCertified}
+use Rattle.tsp_reason.specs.declared.certificate.Certificate.TheVariants.{Potentials}
 
 abbrev pub Same : (ℕ → ℕ → ℤ) → (ℕ → ℕ → ℤ) → Type 0
 Same v w = (i j : ℕ) → v i j ≡ w i j
@@ -69,7 +71,7 @@ keeps_on f m n a b same_count same keeps = record {
 pub certified : (inst pot : Fields) (n : ℕ) (costs : ℕ → ℕ → ℤ) (scale : ℤ) (potentials : List ℤ) (triples : List (ℕ × ℕ × ℤ)) (bound : ℤ) → AdjustedBoundsBoundCycles
     → triples ≡ multipliers_in pot → AreListed (fixed_of inst) (multipliers_in pot) → inst.kind ≡ Some kinds.Tsp → IsSymmetric (cost inst) → 3 ≤ nodes_of inst
     → IsScale scale → scale ≡ scale_in pot → potentials ≡ potentials_in pot → length potentials ≡ nodes_of inst
-    → HasCosts inst n costs → IsAdjustedBound n costs scale potentials triples [] bound × IsBoundSized bound → IsCertifiedByPotentials inst pot bound
+    → HasCosts inst n costs → IsAdjustedBound n costs scale potentials triples [] bound × IsBoundSized bound → IsCertified Potentials inst pot bound
 certified inst pot n costs scale potentials triples bound law triples_are listed kind even some scale_is scale_in_is potentials_are count keeps found =
     let same : nodes_of inst ≡ n = ap (λ o. unwrap_or o 0) keeps.count in
     let here : IsAdjustedBound (nodes_of inst) (cost inst) scale potentials triples [] bound =
@@ -81,8 +83,7 @@ certified inst pot n costs scale potentials triples bound law triples_are listed
     let cycles : (nodes : List ℕ) → IsCycle (nodes_of inst) nodes → UsesEach (multipliers_in pot) nodes → bound ≤ℤ length_of (cost inst) nodes = λ nodes cycle used.
     law (nodes_of inst) (cost inst) scale potentials triples [] bound nodes some even scale_is count here cycle
     (subst (λ ts. UsesEach ts nodes) (sym triples_are) used) (λ k d lt. absurd (omega arith)) in (
-      subst (λ k. IsBoundByPotentials k inst pot bound) (sym kind) by_certificate,
-      λ nodes cycle used. cycles nodes cycle (subst (λ k. UsesMultiplied k pot nodes) kind used),
+      subst (λ k. IsBoundBy Potentials k inst pot bound) (sym kind) by_certificate,
       λ nodes tour. cycles nodes tour.cycle (listed_used nodes (fixed_of inst) (multipliers_in pot) (subst (λ k. All (Uses (is_directed k) nodes) (fixed_of inst)) kind tour.fixed_used) listed),
       found.1,
     )
@@ -111,7 +112,7 @@ pub record AreOf (pot : Fields) (scale : ℤ) (rows columns : List ℤ) : Type 0
 -- the bound that a view's costs give is that of the certificate
 pub assigned : (inst pot : Fields) (n : ℕ) (costs : ℕ → ℕ → ℤ) (scale : ℤ) (rows columns : List ℤ) (bound : ℤ) → DualsBoundCycles → inst.kind ≡ Some kinds.Atsp → 3 ≤ nodes_of inst → IsScale scale
     → AreOf pot scale rows columns → length rows ≡ nodes_of inst → length columns ≡ nodes_of inst → HasCosts inst n costs
-    → AreGood n costs scale rows columns × IsDualBound scale rows columns bound → IsBoundSized bound → IsCertifiedByPotentials inst pot bound
+    → AreGood n costs scale rows columns × IsDualBound scale rows columns bound → IsBoundSized bound → IsCertified Potentials inst pot bound
 assigned inst pot n costs scale rows columns bound law kind some scaled are as_rows as_columns keeps found small =
     let nodes : nodes_of inst ≡ n = ap (λ o. unwrap_or o 0) keeps.count in
     let good : AreGood (nodes_of inst) (cost inst) scale rows columns =
@@ -119,8 +120,7 @@ assigned inst pot n costs scale rows columns bound law kind some scaled are as_r
     let by_certificate : AreGood (nodes_of inst) (cost inst) (scale_in pot) (rows_in pot) (columns_in pot) × IsDualBound (scale_in pot) (rows_in pot) (columns_in pot) bound =
     subst (λ s. AreGood (nodes_of inst) (cost inst) s (rows_in pot) (columns_in pot) × IsDualBound s (rows_in pot) (columns_in pot) bound) are.scale_is
     (subst₂ (λ r c. AreGood (nodes_of inst) (cost inst) scale r c × IsDualBound scale r c bound) are.rows_are are.columns_are (good, found.1)) in (
-      subst (λ k. IsBoundByPotentials k inst pot bound) (sym kind) by_certificate,
-      λ cycle is used. law (nodes_of inst) (cost inst) scale rows columns bound cycle (omega (arith, some)) scaled as_rows as_columns good found.1 is,
+      subst (λ k. IsBoundBy Potentials k inst pot bound) (sym kind) by_certificate,
       λ cycle tour. law (nodes_of inst) (cost inst) scale rows columns bound cycle (omega (arith, some)) scaled as_rows as_columns good found.1 tour.cycle,
       small,
     )

@@ -1,6 +1,6 @@
 -- Reasons against a certificate, ruled out one by one, and how they join those against the tour.
-use Rattle.std.proofs.Common.{◌≡◌, ℕ, ◌-◌, ◌<◌, ◌≤◌, true, false, List, Some, sym, subst, subst₂, ◌∙◌, arith, inl, inr}
-use Rattle.std.specs.Prelude.{◌⊎◌, ℤ, pos}
+use Rattle.std.proofs.Common.{◌≡◌, ℕ, ◌-◌, ◌<◌, ◌≤◌, true, false, List, Option, None, Some, refl, ap, sym, subst, subst₂, ◌∙◌, arith, inl, inr}
+use Rattle.std.specs.Prelude.{◌⊎◌, ℤ, pos, IsTrue}
 use Rattle.std.specs.List.{All, AllPairs}
 use Rattle.std.proofs.lemmas.Bool.{false≢true}
 use Rattle.std.proofs.Math.Nat.{lt_of_not-le}
@@ -18,7 +18,11 @@ use Rattle.tsp_verdict.specs.Solution.{nodes_of, fixed_of}
 use Rattle.tsp_verdict.specs.Tours.{rank_of_tours}
 use Rattle.tsp_verdict.specs.Tours.{IsFirstAgainstTour, StandsAgainstTour}
 use Rattle.tsp_verdict.specs.Certificate.{has_wanted, multipliers_in, StandsAgainstPotentials}
-use Rattle.tsp_verdict.specs.Bounded.{IsFirstAgainstBounded, StandsAgainstBounded}
+use Rattle.tsp_verdict.specs.Certified.{is_bounded, IsBoundBy, StandsAgainstCertificate, StandsAgainstCertified, IsFirstAgainstCertified}
+use Rattle.tsp_verdict.specs.Tree.{IsBoundByTree}
+use Rattle.tsp_reason.specs.declared.certificate.Certificate.{Certificate}
+use Rattle.tsp_reason.specs.declared.certificate.Certificate.TheVariants.{Potentials, Branches}
+use Rattle.tsp_format.specs.declared.kinds.Kind.{Kind}
 
 -- ---- against the certificate alone
 
@@ -121,42 +125,75 @@ tour_rank inst sol (BranchTwice index) stands = absurd stands
 tour_rank inst sol (BadLeaf index) stands = absurd stands
 tour_rank inst sol reason stands = omega arith
 
-certificate_rank : (inst pot : Fields) (reason : Reason) → StandsAgainstPotentials inst pot reason → 10 ≤ rank_of_tours reason
-certificate_rank inst pot NotPotentials stands = omega arith
-certificate_rank inst pot PotentialsDimension stands = omega arith
-certificate_rank inst pot PotentialsKind stands = omega arith
-certificate_rank inst pot (MultiplierNotFixed index) stands = omega arith
-certificate_rank inst pot (MultiplierRepeated index) stands = omega arith
-certificate_rank inst pot (DualInfeasible i j) stands = omega arith
-certificate_rank inst pot reason stands = absurd stands
+certificate_rank : (by : Certificate) (inst cert : Fields) (reason : Reason) → StandsAgainstCertificate by inst cert reason → 10 ≤ rank_of_tours reason
+certificate_rank Potentials inst cert NotPotentials stands = omega arith
+certificate_rank Potentials inst cert PotentialsDimension stands = omega arith
+certificate_rank Potentials inst cert PotentialsKind stands = omega arith
+certificate_rank Potentials inst cert (MultiplierNotFixed index) stands = omega arith
+certificate_rank Potentials inst cert (MultiplierRepeated index) stands = omega arith
+certificate_rank Potentials inst cert (DualInfeasible i j) stands = omega arith
+certificate_rank Potentials inst cert reason stands = absurd stands
+certificate_rank Branches inst cert NotBranches stands = omega arith
+certificate_rank Branches inst cert BranchesDimension stands = omega arith
+certificate_rank Branches inst cert (BadComb index) stands = omega arith
+certificate_rank Branches inst cert (BranchTwice index) stands = omega arith
+certificate_rank Branches inst cert (BadLeaf index) stands = omega arith
+certificate_rank Branches inst cert reason stands = absurd stands
 
 -- the first reason against the tour is the first of all
-pub tour_first : (inst sol pot : Fields) (reason : Reason) → IsFirstAgainstTour inst sol reason → IsFirstAgainstBounded inst sol pot reason
-tour_first inst sol pot reason first = record {
+pub tour_first : (by : Certificate) (inst sol cert : Fields) (reason : Reason) → IsFirstAgainstTour inst sol reason → IsFirstAgainstCertified by inst sol cert reason
+tour_first by inst sol cert reason first = record {
   stands = inl first.stands;
   none_before = λ other low stands. by_side other low stands;
 }
   where
-    by_side : (other : Reason) → rank_of_tours other < rank_of_tours reason → StandsAgainstTour inst sol other ⊎ StandsAgainstPotentials inst pot other → ⊥
+    by_side : (other : Reason) → rank_of_tours other < rank_of_tours reason → StandsAgainstTour inst sol other ⊎ StandsAgainstCertificate by inst cert other → ⊥
     by_side other low (inl stands) = first.none_before other low stands
-    by_side other low (inr stands) = omega (arith, low, tour_rank inst sol reason first.stands, certificate_rank inst pot other stands)
+    by_side other low (inr stands) = omega (arith, low, tour_rank inst sol reason first.stands, certificate_rank by inst cert other stands)
 
 -- where none stands against the tour, the first against the certificate is the first of all
-pub certificate_first : (inst sol pot : Fields) (reason : Reason) → ((other : Reason) → StandsAgainstTour inst sol other → ⊥)
-    → IsFirstReason (StandsAgainstPotentials inst pot) rank_of_tours reason → IsFirstAgainstBounded inst sol pot reason
-certificate_first inst sol pot reason none first = record {
+pub certificate_first : (by : Certificate) (inst sol cert : Fields) (reason : Reason) → ((other : Reason) → StandsAgainstTour inst sol other → ⊥)
+    → IsFirstReason (StandsAgainstCertificate by inst cert) rank_of_tours reason → IsFirstAgainstCertified by inst sol cert reason
+certificate_first by inst sol cert reason none first = record {
   stands = inr first.stands;
   none_before = λ other low stands. by_side other low stands;
 }
   where
-    by_side : (other : Reason) → rank_of_tours other < rank_of_tours reason → StandsAgainstTour inst sol other ⊎ StandsAgainstPotentials inst pot other → ⊥
+    by_side : (other : Reason) → rank_of_tours other < rank_of_tours reason → StandsAgainstTour inst sol other ⊎ StandsAgainstCertificate by inst cert other → ⊥
     by_side other low (inl stands) = none other stands
     by_side other low (inr stands) = first.none_before other low stands
 
-pub none_at_all : (inst sol pot : Fields) → ((other : Reason) → StandsAgainstTour inst sol other → ⊥) → ((other : Reason) → StandsAgainstPotentials inst pot other → ⊥)
-    → (reason : Reason) → StandsAgainstBounded inst sol pot reason → ⊥
-none_at_all inst sol pot tour certificate reason (inl stands) = tour reason stands
-none_at_all inst sol pot tour certificate reason (inr stands) = certificate reason stands
+pub none_at_all : (by : Certificate) (inst sol cert : Fields) → ((other : Reason) → StandsAgainstTour inst sol other → ⊥) → ((other : Reason) → StandsAgainstCertificate by inst cert other → ⊥)
+    → (reason : Reason) → StandsAgainstCertified by inst sol cert reason → ⊥
+none_at_all by inst sol cert tour certificate reason (inl stands) = tour reason stands
+none_at_all by inst sol cert tour certificate reason (inr stands) = certificate reason stands
 
 pub enough : (inst sol : Fields) → ((reason : Reason) → StandsAgainstTour inst sol reason → ⊥) → 3 ≤ nodes_of inst
 enough inst sol none = omega (arith, lt_of_not-le (λ (few : nodes_of inst ≤ 2). none TooFewNodes (omega (arith, few))))
+
+-- ---- by the certificate, and by the TYPE of the instance
+
+pub kinds_by_potentials : (kind : Option Kind) → (kind ≡ Some kinds.Tsp) ⊎ (kind ≡ Some kinds.Atsp) → IsTrue (is_bounded Potentials kind)
+kinds_by_potentials kind (inl tsp) = ap (is_bounded Potentials) tsp
+kinds_by_potentials kind (inr atsp) = ap (is_bounded Potentials) atsp
+
+pub kinds_bounded : (by : Certificate) (kind : Option Kind) → IsTrue (is_bounded by kind) → (kind ≡ Some kinds.Tsp) ⊎ (kind ≡ Some kinds.Atsp)
+kinds_bounded Potentials (Some kinds.Tsp) is = inl refl
+kinds_bounded Potentials (Some kinds.Atsp) is = inr refl
+kinds_bounded Branches (Some kinds.Tsp) is = inl refl
+kinds_bounded Branches (Some kinds.Atsp) is = absurd (false≢true is)
+kinds_bounded by (Some kinds.Cvrp) is = absurd (false≢true is)
+kinds_bounded by (Some kinds.Tour) is = absurd (false≢true is)
+kinds_bounded by (Some kinds.Potentials) is = absurd (false≢true is)
+kinds_bounded by (Some kinds.Branches) is = absurd (false≢true is)
+kinds_bounded by None is = absurd (false≢true is)
+
+-- a bound by branches is that of a tree of cases
+pub of_tree : (kind : Option Kind) (inst tree : Fields) (bound : ℤ) → IsBoundBy Branches kind inst tree bound → IsBoundByTree inst tree bound
+of_tree (Some kinds.Tsp) inst tree bound is = is
+of_tree (Some kinds.Atsp) inst tree bound is = absurd is
+of_tree (Some kinds.Cvrp) inst tree bound is = absurd is
+of_tree (Some kinds.Tour) inst tree bound is = absurd is
+of_tree (Some kinds.Potentials) inst tree bound is = absurd is
+of_tree (Some kinds.Branches) inst tree bound is = absurd is
+of_tree None inst tree bound is = absurd is

@@ -1,4 +1,4 @@
--- Reasons against a certificate by branching, ruled out one by one, its bound, and how they join those against the tour.
+-- Reasons against a certificate by branching, ruled out one by one, and its bound.
 use Rattle.std.proofs.Common.{◌≡◌, ◌∙◌, ℕ, suc, ◌+◌, ◌-◌, ◌<◌, ◌≤◌, true, false, List, [], ◌∷◌, get_or, length, inl, inr, sym, ap, subst, arith}
 use Rattle.std.specs.Prelude.{◌⊎◌, Option, Some, unwrap_or, ℤ, ◌+ℤ◌, ◌-ℤ◌, ◌*ℤ◌, ◌≤ℤ◌}
 use Rattle.std.specs.Global.{Vec}
@@ -38,11 +38,10 @@ use Rattle.tsp_verdict.specs.Places.{IsFirstPlace}
 use Rattle.tsp_verdict.specs.Reasons.{NoneBefore, IsFirstReason}
 use Rattle.tsp_verdict.specs.Solution.{nodes_of, fixed_of}
 use Rattle.tsp_verdict.specs.Tours.{rank_of_tours}
-use Rattle.tsp_verdict.specs.Tours.{IsFirstAgainstTour, StandsAgainstTour}
-use Rattle.tsp_verdict.specs.Tree.{combs_in, steps_in, each_once, given_in, tree_in, told_combs, IsBadComb, StandsAgainstTree, IsCertifiedByTree}
-use Rattle.tsp_verdict.specs.Branched.{IsFirstAgainstBranched, StandsAgainstBranched}
+use Rattle.tsp_verdict.specs.Tree.{combs_in, steps_in, each_once, given_in, tree_in, told_combs, IsBadComb, StandsAgainstTree}
+use Rattle.tsp_verdict.specs.Certified.{IsBoundBy, IsCertified}
+use Rattle.tsp_reason.specs.declared.certificate.Certificate.TheVariants.{Branches}
 use Rattle.tsp_verdict.proofs.CarriedBounds.{Same, weights_same, least_same}
-use Rattle.tsp_verdict.proofs.Certificates.{tour_rank}
 use Rattle.tsp_verdict.proofs.GivenPairs.{keeps_given}
 use Rattle.tsp_verdict.proofs.NumberedSets.{own_sets, combs_told}
 
@@ -202,7 +201,7 @@ module _ (n : ℕ) (a b : ℕ → ℕ → ℤ) (scale number : ℤ) (combs : Lis
 
 -- the bound that a view's costs give is that of the certificate
 pub certified : (inst tree : Fields) (costs : ℕ → ℕ → ℤ) (bound : ℤ) → CertificatesBoundCycles → inst.kind ≡ Some kinds.Tsp → 3 ≤ nodes_of inst → IsSymmetric (cost inst) → IsScale (scale_in tree)
-    → Same costs (cost inst) → IsBoundSized bound → IsTold inst tree costs (found.Bound bound) → IsCertifiedByTree inst tree bound
+    → Same costs (cost inst) → IsBoundSized bound → IsTold inst tree costs (found.Bound bound) → IsCertified Branches inst tree bound
 certified inst tree costs bound law kind some even scaled same sized is =
     let n : ℕ = nodes_of inst in
     let combs_are = combs_told (combs_in tree) in
@@ -211,46 +210,8 @@ certified inst tree costs bound law kind some even scaled same sized is =
     let bound_by : IsCertificateBound n (cost inst) (scale_in tree) decided_number (told_combs tree) (given_in inst) (tree_in inst tree) bound =
     bound_carried n costs (cost inst) (scale_in tree) decided_number (told_combs tree) same (given_in inst) (tree_in inst tree) bound
     (subst (λ (cs : List Comb). IsCertificateBound n costs (scale_in tree) decided_number cs (given_in inst) (tree_in inst tree) bound) combs_are is.leaves.1) in (
-      (certificate, bound_by),
+      subst (λ k. IsBoundBy Branches k inst tree bound) (sym kind) (certificate, bound_by),
       λ nodes tour. law n (cost inst) (scale_in tree) decided_number (told_combs tree) (given_in inst) (tree_in inst tree) bound some even scaled certificate bound_by nodes tour.cycle
           (keeps_given nodes (fixed_of inst) (subst (λ k. All (Uses (is_directed k) nodes) (fixed_of inst)) kind tour.fixed_used)),
       sized,
     )
-
--- ---- with those against the tour
-
-tree_rank : (inst tree : Fields) (reason : Reason) → StandsAgainstTree inst tree reason → 10 ≤ rank_of_tours reason
-tree_rank inst tree NotBranches stands = omega arith
-tree_rank inst tree BranchesDimension stands = omega arith
-tree_rank inst tree (BadComb index) stands = omega arith
-tree_rank inst tree (BranchTwice index) stands = omega arith
-tree_rank inst tree (BadLeaf index) stands = omega arith
-tree_rank inst tree reason stands = absurd stands
-
--- the first reason against the tour is the first of all
-pub tour_first : (inst sol tree : Fields) (reason : Reason) → IsFirstAgainstTour inst sol reason → IsFirstAgainstBranched inst sol tree reason
-tour_first inst sol tree reason first = record {
-  stands = inl first.stands;
-  none_before = λ other low stands. by_side other low stands;
-}
-  where
-    by_side : (other : Reason) → rank_of_tours other < rank_of_tours reason → StandsAgainstTour inst sol other ⊎ StandsAgainstTree inst tree other → ⊥
-    by_side other low (inl stands) = first.none_before other low stands
-    by_side other low (inr stands) = omega (arith, low, tour_rank inst sol reason first.stands, tree_rank inst tree other stands)
-
--- where none stands against the tour, the first against the certificate is the first of all
-pub tree_first : (inst sol tree : Fields) (reason : Reason) → ((other : Reason) → StandsAgainstTour inst sol other → ⊥)
-    → IsFirstReason (StandsAgainstTree inst tree) rank_of_tours reason → IsFirstAgainstBranched inst sol tree reason
-tree_first inst sol tree reason none first = record {
-  stands = inr first.stands;
-  none_before = λ other low stands. by_side other low stands;
-}
-  where
-    by_side : (other : Reason) → rank_of_tours other < rank_of_tours reason → StandsAgainstTour inst sol other ⊎ StandsAgainstTree inst tree other → ⊥
-    by_side other low (inl stands) = none other stands
-    by_side other low (inr stands) = first.none_before other low stands
-
-pub none_at_all : (inst sol tree : Fields) → ((other : Reason) → StandsAgainstTour inst sol other → ⊥) → ((other : Reason) → StandsAgainstTree inst tree other → ⊥)
-    → (reason : Reason) → StandsAgainstBranched inst sol tree reason → ⊥
-none_at_all inst sol tree tour certificate reason (inl stands) = tour reason stands
-none_at_all inst sol tree tour certificate reason (inr stands) = certificate reason stands

@@ -1,4 +1,4 @@
--- A certificate of a bound: a file of potentials, when it stands against a verdict, and the bound that it gives.
+-- A certificate by potentials: its file, when a reason stands against it, and the bound that it gives.
 use Rattle.std.specs.Prelude.{◌≡◌, ◌≢◌, ℕ, Bool, false, ◌&&◌, List, [], Option, None, Some, is_some, unwrap_or, Result, Ok, Err, ℤ, pos, ◌≤ℤ◌}
 use Rattle.tsp_format.specs.declared.kinds.Kind.{Kind}
 use Rattle.tsp_format.specs.declared.kinds.Kind.TheVariants as kinds
@@ -64,45 +64,12 @@ StandsAgainstPotentials inst pot reason = ⊥
 
 -- ---- its bound
 
--- the bound of a least 1-tree under TYPE TSP, that of duals under TYPE ATSP
-abbrev pub IsBoundByPotentials : Option Kind → Fields → Fields → ℤ → Type 0
-IsBoundByPotentials (Some kinds.Tsp) inst pot bound =
+-- that of a least 1-tree, for a TSP
+abbrev pub IsBoundByNodes : Fields → Fields → ℤ → Type 0
+IsBoundByNodes inst pot bound =
     IsAdjustedBound (nodes_of inst) (cost inst) (scale_in pot) (potentials_in pot) (multipliers_in pot) [] bound
-IsBoundByPotentials (Some kinds.Atsp) inst pot bound =
-    AreGood (nodes_of inst) (cost inst) (scale_in pot) (rows_in pot) (columns_in pot)
+
+-- that of duals of the assignment problem, for an ATSP
+abbrev pub IsBoundByDuals : Fields → Fields → ℤ → Type 0
+IsBoundByDuals inst pot bound = AreGood (nodes_of inst) (cost inst) (scale_in pot) (rows_in pot) (columns_in pot)
     × IsDualBound (scale_in pot) (rows_in pot) (columns_in pot) bound
-IsBoundByPotentials (Some kinds.Cvrp) inst pot bound = ⊥
-IsBoundByPotentials (Some kinds.Tour) inst pot bound = ⊥
-IsBoundByPotentials (Some kinds.Potentials) inst pot bound = ⊥
-IsBoundByPotentials (Some kinds.Branches) inst pot bound = ⊥
-IsBoundByPotentials None inst pot bound = ⊥
-
--- Under TYPE TSP a cycle uses the pairs with multipliers, in either direction; elsewhere multipliers aren't looked at.
-abbrev pub UsesMultiplied : Option Kind → Fields → List ℕ → Type 0
-UsesMultiplied (Some kinds.Tsp) pot nodes = UsesEach (multipliers_in pot) nodes
-UsesMultiplied (Some kinds.Atsp) pot nodes = Unit {0}
-UsesMultiplied (Some kinds.Cvrp) pot nodes = Unit {0}
-UsesMultiplied (Some kinds.Tour) pot nodes = Unit {0}
-UsesMultiplied (Some kinds.Potentials) pot nodes = Unit {0}
-UsesMultiplied (Some kinds.Branches) pot nodes = Unit {0}
-UsesMultiplied None pot nodes = Unit {0}
-
--- no cycle of the instance that uses the pairs with multipliers is shorter
-abbrev pub BoundsCycles : Fields → Fields → ℤ → Type 0
-BoundsCycles inst pot bound = (nodes : List ℕ) → IsCycle (nodes_of inst) nodes → UsesMultiplied inst.kind pot nodes
-    → bound ≤ℤ length_of (cost inst) nodes
-
--- no tour of the instance is shorter
-abbrev pub BoundsTours : Fields → ℤ → Type 0
-BoundsTours inst bound = (other : List ℕ) → IsTourOf inst other → bound ≤ℤ length_of (cost inst) other
-
--- the bound that the certificate gives, which no such cycle and no tour is below, and sums with which fit 128 bits
-abbrev pub IsCertifiedByPotentials : Fields → Fields → ℤ → Type 0
-IsCertifiedByPotentials inst pot bound = IsBoundByPotentials inst.kind inst pot bound × BoundsCycles inst pot bound
-    × BoundsTours inst bound × IsBoundSized bound
-
--- the bound of a certificate against which no reason stands, or the first reason that does
-abbrev pub FindsBoundByPotentials : Fields → Fields → Result ℤ Reason → Type 0
-FindsBoundByPotentials inst pot (Ok bound) =
-    ((reason : Reason) → StandsAgainstPotentials inst pot reason → ⊥) × IsCertifiedByPotentials inst pot bound
-FindsBoundByPotentials inst pot (Err reason) = IsFirstReason (StandsAgainstPotentials inst pot) rank_of_tours reason

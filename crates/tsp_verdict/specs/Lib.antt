@@ -10,8 +10,7 @@ pub mod Solution
 pub mod Sums
 pub mod Tours
 pub mod Certificate
-pub mod Bounded
 pub mod Numbered
 pub mod Tree
-pub mod Branched
+pub mod Certified
 pub mod Examples

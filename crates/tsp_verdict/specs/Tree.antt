@@ -18,7 +18,7 @@ use Rattle.tsp_branch.specs.Listed.{no_numbers_of, listed_steps, IsFirstBadFrom}
 use Rattle.tsp_branch.specs.Twice.{IsFirstTwiceFrom}
 use Rattle.tsp_reason.specs.declared.verdict.Reason.{Reason}
 use Rattle.tsp_reason.specs.declared.verdict.Reason.TheVariants.{NotBranches, BranchesDimension, BadComb, BranchTwice, BadLeaf}
-use Rattle.tsp_verdict.specs.Certificate.{scale_in, BoundsTours}
+use Rattle.tsp_verdict.specs.Certificate.{scale_in}
 use Rattle.tsp_verdict.specs.Places.{IsFirstPlace}
 use Rattle.tsp_verdict.specs.Reasons.{IsFirstReason}
 use Rattle.tsp_verdict.specs.Solution.{nodes_of, fixed_of}
@@ -75,13 +75,3 @@ abbrev pub IsBoundByTree : Fields → Fields → ℤ → Type 0
 IsBoundByTree inst tree bound = IsCertificate (nodes_of inst) (told_combs tree) (given_in inst) (tree_in inst tree)
     × IsCertificateBound (nodes_of inst) (cost inst) (scale_in tree) decided_number (told_combs tree) (given_in inst)
     (tree_in inst tree) bound
-
--- the bound that the certificate gives, which no tour is below, and sums with which fit 128 bits
-abbrev pub IsCertifiedByTree : Fields → Fields → ℤ → Type 0
-IsCertifiedByTree inst tree bound = IsBoundByTree inst tree bound × BoundsTours inst bound × IsBoundSized bound
-
--- the bound of a certificate against which no reason stands, or the first reason that does
-abbrev pub FindsBoundByTree : Fields → Fields → Result ℤ Reason → Type 0
-FindsBoundByTree inst tree (Ok bound) =
-    ((reason : Reason) → StandsAgainstTree inst tree reason → ⊥) × IsCertifiedByTree inst tree bound
-FindsBoundByTree inst tree (Err reason) = IsFirstReason (StandsAgainstTree inst tree) rank_of_tours reason

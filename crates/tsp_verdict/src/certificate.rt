@@ -1,4 +1,4 @@
-//! The bound that a certificate gives, or the first reason against it.
+//! The bound that a file of potentials gives, or the first reason against it.
 
 ghost use Rattle.std.specs.Prelude.{◌≡◌, ◌⊎◌, ◌≤◌, true, length, Some, IfOk, MatchOption, MatchResult};
 ghost use Rattle.std.specs.List.{All};
@@ -16,7 +16,9 @@ ghost use Rattle.tsp_bound.specs.Potentials.{scale_of, numbers_of};
 ghost use Rattle.tsp_verdict.specs.Reasons.{IsFirstReason};
 ghost use Rattle.tsp_verdict.specs.Solution.{nodes_of, fixed_of};
 ghost use Rattle.tsp_verdict.specs.Tours.{rank_of_tours};
-ghost use Rattle.tsp_verdict.specs.Certificate.{has_wanted, scale_in, potentials_in, rows_in, columns_in, multipliers_in, StandsAgainstPotentials, IsCertifiedByPotentials};
+ghost use Rattle.tsp_verdict.specs.Certificate.{has_wanted, scale_in, potentials_in, rows_in, columns_in, multipliers_in, StandsAgainstPotentials};
+ghost use Rattle.tsp_reason.specs.declared.certificate.Certificate.TheVariants as certificates;
+ghost use Rattle.tsp_verdict.specs.Certified.{IsCertified, FindsBound};
 ghost use Rattle.tsp_verdict.specs.Multiplied.{AreListed};
 
 use crate::files::fixed_pairs;
@@ -24,7 +26,7 @@ use crate::multiplied::{first_repeated_pair, first_unlisted};
 use std::alloc::{AllocError, Global};
 use tsp_bound::{
     Duals, Multipliers, Potentials, adjusted_bounds_bound_cycles, dual_bound, duals_bound_cycles,
-    one_tree,
+    one_tree_in_space,
 };
 use tsp_cost::{Costs, Grouped, Instance, View};
 use tsp_draft::valid_fields_are_in_range;
@@ -32,8 +34,46 @@ use tsp_file::File;
 use tsp_format::Kind;
 use tsp_reason::Reason;
 
+/// The bound that the potentials of nodes give an instance of TYPE TSP, or the first reason against
+/// the certificate.
+///
+/// # Errors
+///
+/// Out of memory.
+pub(crate) fn bound_by_nodes(
+    alloc: Global,
+    inst: &Instance,
+    pot: &File,
+) -> Result<Result<i128, Reason>, AllocError>
+    requires kind { inst.now.kind ≡ Some kinds.Tsp }
+    requires some { 3 ≤ nodes_of inst.now }
+    requires even { IsSymmetric (cost inst.now) }
+    ensures { IfOk result (λ found. FindsBound certificates.Potentials inst.now pot.now found) }
+{
+    if let Some(reason) = first_against_certificate(inst, pot) {
+        return Ok(Err(reason));
+    }
+    if let Some(reason) = first_against_multipliers(alloc, inst, pot)? {
+        return Ok(Err(reason));
+    }
+    Ok(Ok(bound_of_potentials(alloc, inst, pot)?))
+}
+
+/// The bound that the potentials of rows and columns give an instance of TYPE ATSP, or the first
+/// reason against the certificate.
+pub(crate) fn bound_by_duals(inst: &Instance, pot: &File) -> Result<i128, Reason>
+    requires kind { inst.now.kind ≡ Some kinds.Atsp }
+    requires some { 3 ≤ nodes_of inst.now }
+    ensures { FindsBound certificates.Potentials inst.now pot.now result }
+{
+    if let Some(reason) = first_against_certificate(inst, pot) {
+        return Err(reason);
+    }
+    bound_of_duals(inst, pot)
+}
+
 /// The first reason against a certificate that needs no look at its numbers.
-pub(crate) fn first_against_certificate(inst: &Instance, pot: &File) -> Option<Reason>
+fn first_against_certificate(inst: &Instance, pot: &File) -> Option<Reason>
     ensures { MatchOption result
         ((is_certificate pot.now.kind ≡ true) × (nodes_of pot.now ≡ nodes_of inst.now)
         × (has_wanted inst.now.kind pot.now ≡ true))
@@ -135,7 +175,7 @@ fn multipliers_of(pot: &File) -> Multipliers<'_>
 ///
 /// Out of memory for the fixed pairs and for those of the multipliers; none is taken where
 /// there are no multipliers.
-pub(crate) fn first_against_multipliers(
+fn first_against_multipliers(
     alloc: Global,
     inst: &Instance,
     pot: &File,
@@ -164,13 +204,13 @@ pub(crate) fn first_against_multipliers(
 
 /// The bound that the duals of a certificate give an instance of TYPE ATSP, or the first pair that
 /// breaks them.
-pub(crate) fn bound_of_duals(inst: &Instance, pot: &File) -> Result<i128, Reason>
+fn bound_of_duals(inst: &Instance, pot: &File) -> Result<i128, Reason>
     requires kind { inst.now.kind ≡ Some kinds.Atsp }
     requires some { 3 ≤ nodes_of inst.now }
     requires count { nodes_of pot.now ≡ nodes_of inst.now }
     requires wanted { has_wanted (Some kinds.Atsp) pot.now ≡ true }
     ensures { MatchResult result
-        (λ bound. IsCertifiedByPotentials inst.now pot.now bound)
+        (λ bound. IsCertified certificates.Potentials inst.now pot.now bound)
         (λ reason. StandsAgainstPotentials inst.now pot.now reason × (rank_of_tours reason ≡ 15)) }
 {
     // A view has found once and for all where the costs are.
@@ -190,7 +230,7 @@ fn assignment_bound<C: Costs>(inst: &Instance, pot: &File, c: &C) -> Result<i128
     requires count { nodes_of pot.now ≡ nodes_of inst.now }
     requires wanted { has_wanted (Some kinds.Atsp) pot.now ≡ true }
     ensures { MatchResult result
-        (λ bound. IsCertifiedByPotentials inst.now pot.now bound)
+        (λ bound. IsCertified certificates.Potentials inst.now pot.now bound)
         (λ reason. StandsAgainstPotentials inst.now pot.now reason × (rank_of_tours reason ≡ 15)) }
 {
     duals_bound_cycles();
@@ -204,11 +244,7 @@ fn assignment_bound<C: Costs>(inst: &Instance, pot: &File, c: &C) -> Result<i128
 }
 
 /// The bound that the potentials of a certificate give an instance of TYPE TSP.
-pub(crate) fn bound_of_potentials(
-    alloc: Global,
-    inst: &Instance,
-    pot: &File,
-) -> Result<i128, AllocError>
+fn bound_of_potentials(alloc: Global, inst: &Instance, pot: &File) -> Result<i128, AllocError>
     requires kind { inst.now.kind ≡ Some kinds.Tsp }
     requires some { 3 ≤ nodes_of inst.now }
     requires count { nodes_of pot.now ≡ nodes_of inst.now }
@@ -216,7 +252,7 @@ pub(crate) fn bound_of_potentials(
     requires even { IsSymmetric (cost inst.now) }
     requires on_pairs { AreOnPairs (nodes_of inst.now) (multipliers_in pot.now) }
     requires listed { AreListed (fixed_of inst.now) (multipliers_in pot.now) }
-    ensures { IfOk result (λ bound. IsCertifiedByPotentials inst.now pot.now bound) }
+    ensures { IfOk result (λ bound. IsCertified certificates.Potentials inst.now pot.now bound) }
 {
     match inst.view() {
         View::Plane(points) => tree_bound(alloc, inst, pot, &points),
@@ -244,10 +280,10 @@ fn tree_bound<C: Grouped>(
     requires even { IsSymmetric (cost inst.now) }
     requires on_pairs { AreOnPairs (nodes_of inst.now) (multipliers_in pot.now) }
     requires listed { AreListed (fixed_of inst.now) (multipliers_in pot.now) }
-    ensures { IfOk result (λ bound. IsCertifiedByPotentials inst.now pot.now bound) }
+    ensures { IfOk result (λ bound. IsCertified certificates.Potentials inst.now pot.now bound) }
 {
     adjusted_bounds_bound_cycles();
-    match one_tree(alloc, c, &potentials_of(pot), &multipliers_of(pot)) {
+    match one_tree_in_space(alloc, c, &potentials_of(pot), &multipliers_of(pot)) {
         Ok(found) => Ok(found.bound),
         Err(refused) => Err(refused),
     }

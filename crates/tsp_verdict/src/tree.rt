@@ -15,7 +15,9 @@ ghost use Rattle.tsp_verdict.specs.Certificate.{scale_in};
 ghost use Rattle.tsp_verdict.specs.Reasons.{IsFirstReason};
 ghost use Rattle.tsp_verdict.specs.Solution.{nodes_of};
 ghost use Rattle.tsp_verdict.specs.Tours.{rank_of_tours};
-ghost use Rattle.tsp_verdict.specs.Tree.{combs_in, steps_in, StandsAgainstTree, FindsBoundByTree};
+ghost use Rattle.tsp_verdict.specs.Tree.{combs_in, steps_in, StandsAgainstTree};
+ghost use Rattle.tsp_reason.specs.declared.certificate.Certificate.TheVariants as certificates;
+ghost use Rattle.tsp_verdict.specs.Certified.{FindsBound};
 ghost use Rattle.tsp_verdict.specs.Numbered.{AreSomeSets};
 
 use crate::decided::taken_once;
@@ -46,7 +48,7 @@ pub(crate) fn bound_of_tree(
     requires kind { instance.now.kind ≡ Some kinds.Tsp }
     requires some { 3 ≤ nodes_of instance.now }
     requires even { IsSymmetric (cost instance.now) }
-    ensures { IfOk result (λ found. FindsBoundByTree instance.now branches.now found) }
+    ensures { IfOk result (λ found. FindsBound certificates.Branches instance.now branches.now found) }
 {
     if let Some(reason) = first_against_file(instance, branches) {
         return Ok(Err(reason));
@@ -96,7 +98,7 @@ fn judge_distances<C: Symmetric>(
     requires even { IsSymmetric (cost instance.now) }
     requires sort { is_tree branches.now.kind ≡ true }
     requires count { nodes_of branches.now ≡ nodes_of instance.now }
-    ensures { IfOk result (λ found. FindsBoundByTree instance.now branches.now found) }
+    ensures { IfOk result (λ found. FindsBound certificates.Branches instance.now branches.now found) }
 {
     if costs.count() > MOST_TABLED || steps_of_tree(branches).len() == 1 {
         return judge_tree(alloc, instance, branches, costs);
@@ -125,7 +127,7 @@ fn judge_tree<C: Symmetric>(
     requires even { IsSymmetric (cost instance.now) }
     requires sort { is_tree branches.now.kind ≡ true }
     requires count { nodes_of branches.now ≡ nodes_of instance.now }
-    ensures { IfOk result (λ found. FindsBoundByTree instance.now branches.now found) }
+    ensures { IfOk result (λ found. FindsBound certificates.Branches instance.now branches.now found) }
 {
     certificates_bound_cycles();
     let given = taken_once(alloc, fixed_pairs(instance))?;

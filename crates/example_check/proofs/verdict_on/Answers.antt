@@ -1,5 +1,5 @@
 use Rattle.std.proofs.Common.{sym, subst}
-use Rattle.tsp_items.specs.Text.{Spells}
+use Rattle.tsp_text.specs.Text.{Spells}
 use Rattle.example_check.proofs.verdict_on.Goals as goal
 
 pub returns : goal.returns

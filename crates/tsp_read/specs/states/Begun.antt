@@ -3,7 +3,7 @@ use Rattle.std.specs.Prelude.{◌≡◌, ℕ, ◌+◌, ◌≤◌, Bool, true, fa
 use Rattle.tsp_read.specs.declared.intake.Intake.{Intake}
 use Rattle.tsp_read.specs.declared.token.Token.{Token}
 use Rattle.tsp_read.specs.declared.begun.Begun.{Begun}
-use Rattle.tsp_items.specs.Lines.{is_filled}
+use Rattle.tsp_text.specs.Lines.{is_filled}
 use Rattle.tsp_read.specs.states.Left.{from, items_left}
 use Rattle.tsp_read.specs.states.Token.{token_at, ends}
 use Rattle.tsp_read.specs.states.Intake.{IsReadTo}

@@ -4,19 +4,19 @@ use Rattle.std.specs.List.{find}
 use Rattle.tsp_format.specs.declared.field.Field.{Field}
 use Rattle.tsp_format.specs.declared.field.Field.TheVariants.{NameKey, TypeKey, DimensionKey, CapacityKey, ScaleKey, EdgeWeightTypeKey, EdgeWeightFormatKey, NodeCoordTypeKey, DisplayDataTypeKey}
 use Rattle.tsp_draft.specs.Fields.{Fields, fields_of}
-use Rattle.tsp_items.specs.declared.fault.StepFault.{StepFault}
-use Rattle.tsp_items.specs.declared.fault.StepFault.TheVariants as steps
+use Rattle.tsp_section.specs.declared.fault.StepFault.{StepFault}
+use Rattle.tsp_section.specs.declared.fault.StepFault.TheVariants as steps
 use Rattle.tsp_read.specs.declared.state.reading.OpenSection.{OpenSection}
 use Rattle.tsp_read.specs.declared.state.reading.Reading.{Reading}
 use Rattle.tsp_format.specs.declared.keyword.Keyword.TheVariants.{Known, Unknown}
 use Rattle.tsp_format.specs.Limits.{most_line_bytes}
-use Rattle.tsp_items.specs.Items.{WordLine, Item, Line}
-use Rattle.tsp_items.specs.Earlier.{has_line, open_section, is_open, words_of}
-use Rattle.tsp_items.specs.Values.{spatial_after}
-use Rattle.tsp_items.specs.Sections.{nodes_of}
-use Rattle.tsp_items.specs.Rows.{row_of}
-use Rattle.tsp_items.specs.FirstFault.{IsClean}
-use Rattle.tsp_items.specs.Spells.{fields_by, is_incomplete, sections_in_order, first_incomplete}
+use Rattle.tsp_text.specs.Items.{WordLine, Item, Line}
+use Rattle.tsp_text.specs.Earlier.{has_line, open_section, is_open, words_of}
+use Rattle.tsp_text.specs.Values.{spatial_after}
+use Rattle.tsp_text.specs.Sections.{nodes_of}
+use Rattle.tsp_text.specs.Rows.{row_of}
+use Rattle.tsp_text.specs.FirstFault.{IsClean}
+use Rattle.tsp_text.specs.Spells.{fields_by, is_incomplete, sections_in_order, first_incomplete}
 use Rattle.tsp_read.specs.states.Open.{HoldsSection}
 
 -- the section stands and no longer takes words

@@ -2,7 +2,7 @@
 use Rattle.std.specs.Prelude.{Bool, false, ◌||◌, List, Option, None, Some}
 use Rattle.std.specs.List.{find}
 use Rattle.tsp_format.specs.declared.field.Field.{Field}
-use Rattle.tsp_items.specs.Earlier.{same_field}
+use Rattle.tsp_text.specs.Earlier.{same_field}
 
 abbrev pub is_it : Field → Option Field → Bool
 is_it field None = false

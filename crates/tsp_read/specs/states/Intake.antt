@@ -1,11 +1,11 @@
 -- A text that is read while it comes: what is held of the bytes so far, and what is answered for them.
 use Rattle.std.specs.Prelude.{◌≡◌, ℕ, Bool, true, false, List, ◌∷◌, reverse, Option, None, Some, Result, Ok, Err}
-use Rattle.tsp_items.specs.declared.fault.ReadFault.{ReadFault}
-use Rattle.tsp_items.specs.declared.fault.ReadFault.TheVariants as faults
+use Rattle.tsp_text.specs.declared.fault.ReadFault.{ReadFault}
+use Rattle.tsp_text.specs.declared.fault.ReadFault.TheVariants as faults
 use Rattle.tsp_read.specs.declared.state.reading.Reading.{Reading}
 use Rattle.tsp_read.specs.declared.intake.Intake.{Intake}
-use Rattle.tsp_items.specs.Items.{Item, settled_items, is_end_line, has_end_line, to_end_line, line_number, words_before}
-use Rattle.tsp_items.specs.FirstFault.{fault_in}
+use Rattle.tsp_text.specs.Items.{Item, settled_items, is_end_line, has_end_line, to_end_line, line_number, words_before}
+use Rattle.tsp_text.specs.FirstFault.{fault_in}
 use Rattle.tsp_read.specs.states.Holds.{Holds}
 use Rattle.tsp_read.specs.Onward.{is_bare, is_line_end, GoesOn}
 

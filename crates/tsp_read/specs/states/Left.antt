@@ -4,8 +4,8 @@ use Rattle.std.specs.List.{position_or_len}
 use Rattle.tsp_format.specs.Bytes.{is_blank}
 use Rattle.tsp_read.specs.declared.cut.Next.{Next}
 use Rattle.tsp_read.specs.declared.cut.Next.TheVariants as next
-use Rattle.tsp_items.specs.Lines.{lines_of, words_in, ends_line, is_filled}
-use Rattle.tsp_items.specs.Items.{Item, NumberWord, LineEnd, line_item, items_in, items_by, settled_words, settled_in}
+use Rattle.tsp_text.specs.Lines.{lines_of, words_in, ends_line, is_filled}
+use Rattle.tsp_text.specs.Items.{Item, NumberWord, LineEnd, line_item, items_in, items_by, settled_words, settled_in}
 
 -- ---- what is left
 

@@ -1,13 +1,13 @@
 -- A text that goes on after a piece.
 use Rattle.std.specs.Prelude.{◌≡◌, ℕ, ◌+◌, ◌≤◌, Bool, true, false, List, [], Result, Ok, Err}
-use Rattle.tsp_items.specs.declared.fault.ReadFault.{ReadFault}
-use Rattle.tsp_items.specs.declared.fault.ReadFault.TheVariants as faults
+use Rattle.tsp_text.specs.declared.fault.ReadFault.{ReadFault}
+use Rattle.tsp_text.specs.declared.fault.ReadFault.TheVariants as faults
 use Rattle.tsp_read.specs.declared.state.reading.Reading.{Reading}
 use Rattle.tsp_read.specs.declared.intake.Intake.{Intake}
 use Rattle.tsp_read.specs.declared.begun.Begun.{Begun}
 use Rattle.tsp_read.specs.declared.stage.Stage.{Stage}
 use Rattle.tsp_read.specs.declared.stage.Stage.TheVariants.{Going, Ended, Refused}
-use Rattle.tsp_items.specs.Items.{items_of}
+use Rattle.tsp_text.specs.Items.{items_of}
 use Rattle.tsp_read.specs.states.Left.{items_left}
 use Rattle.tsp_read.specs.Onward.{is_bare}
 use Rattle.tsp_read.specs.Reads.{ReadsItems}

@@ -2,7 +2,7 @@
 use Rattle.std.specs.Prelude.{ℕ, ◌+◌, ◌≤◌, ◌<◌, List, length, Option, None, Some}
 use Rattle.tsp_format.specs.declared.field.Field.{Field}
 use Rattle.tsp_draft.specs.declared.draft.Draft.{Draft}
-use Rattle.tsp_items.specs.declared.part.Part.{Part}
+use Rattle.tsp_section.specs.declared.part.Part.{Part}
 use Rattle.tsp_read.specs.declared.count.Count.{Count}
 use Rattle.tsp_read.specs.declared.intake.Intake.{Intake}
 use Rattle.tsp_read.specs.declared.state.reading.Reading.{Reading}

@@ -5,13 +5,13 @@ use Rattle.tsp_format.specs.declared.field.Field.{Field}
 use Rattle.tsp_draft.specs.Fields.{Fields, with_numbers, with_points}
 use Rattle.tsp_format.specs.declared.field.Shape.{Shape}
 use Rattle.tsp_format.specs.declared.field.Shape.TheVariants.{Numbers, Points, SpacePoints, Depots, Pairs, Weights, Tours, Triples, Combs, Steps}
-use Rattle.tsp_items.specs.Groups.{numbers_by_node, points_by_node, space_points_by_node}
-use Rattle.tsp_items.specs.Lists.{depots_in, fixed_in, fixed_triples_in}
+use Rattle.tsp_text.specs.Groups.{numbers_by_node, points_by_node, space_points_by_node}
+use Rattle.tsp_text.specs.Lists.{depots_in, fixed_in, fixed_triples_in}
 use Rattle.tsp_format.specs.Shapes.{shape_of}
-use Rattle.tsp_items.specs.Tours.{tours_in}
-use Rattle.tsp_items.specs.Combs.{combs_in}
-use Rattle.tsp_items.specs.Tree.{steps_in}
-use Rattle.tsp_items.specs.Weights.{weights_in}
+use Rattle.tsp_text.specs.Tours.{tours_in}
+use Rattle.tsp_text.specs.Combs.{combs_in}
+use Rattle.tsp_text.specs.Tree.{steps_in}
+use Rattle.tsp_text.specs.Weights.{weights_in}
 
 -- what words of a section of this shape spell, with n nodes
 abbrev pub with_words : Shape → Field → ℕ → List (List ℕ) → Fields → Fields

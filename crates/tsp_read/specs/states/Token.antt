@@ -2,8 +2,8 @@
 use Rattle.std.specs.Prelude.{ℕ, Bool, not, ◌&&◌, cond, List}
 use Rattle.tsp_format.specs.Bytes.{is_letter}
 use Rattle.tsp_format.specs.Limits.{most_word_bytes, most_line_bytes}
-use Rattle.tsp_items.specs.Lines.{ends_line}
-use Rattle.tsp_items.specs.Items.{Item, NumberWord, line_item}
+use Rattle.tsp_text.specs.Lines.{ends_line}
+use Rattle.tsp_text.specs.Items.{Item, NumberWord, line_item}
 use Rattle.tsp_read.specs.declared.token.Token.{Token}
 use Rattle.tsp_read.specs.declared.token.Token.TheVariants.{Line, Word}
 use Rattle.tsp_read.specs.states.Left.{ends_word}

@@ -1,8 +1,8 @@
 //! The end of the text.
 
 ghost use Rattle.std.specs.Prelude.{◌≡◌, List, Err, is_some, true};
-ghost use Rattle.tsp_items.specs.declared.fault.ReadFault.TheVariants.{OutOfMemory};
-ghost use Rattle.tsp_items.specs.Items.{Item};
+ghost use Rattle.tsp_text.specs.declared.fault.ReadFault.TheVariants.{OutOfMemory};
+ghost use Rattle.tsp_text.specs.Items.{Item};
 ghost use Rattle.tsp_read.specs.states.Holds.{Holds};
 ghost use Rattle.tsp_text.specs.Cuts.{AreCut};
 ghost use Rattle.tsp_read.specs.Reads.{Completes};
@@ -14,7 +14,7 @@ use std::alloc::Global;
 use tsp_draft::{Draft, DraftFault, EndFault, end_fault};
 use tsp_file::File;
 use tsp_format::Field;
-use tsp_items::ReadFault;
+use tsp_text::ReadFault;
 
 /// Why what was read is no file.
 #[derive(Clone, Copy)]

@@ -3,20 +3,20 @@
 use crate::state::reading::Reading;
 use std::alloc::Global;
 use tsp_format::{Field, Keyword, MOST_LINE_BYTES, ValueShape};
-use tsp_items::{
-    CutLine, LineFault, StepFault, add_comment, add_other, number_of, says_space, set_name,
-    set_named,
+use tsp_section::{
+    CutLine, StepFault, add_comment, add_other, number_of, says_space, set_name, set_named,
 };
+use tsp_text::LineFault;
 
 impl Reading {
     ghost use Rattle.std.specs.Prelude.{◌≡◌, ◌&&◌, not, is_some, Some, None, List};
     ghost use Rattle.tsp_format.specs.declared.field.ValueShape.TheVariants.{Number, Word};
     ghost use Rattle.tsp_format.specs.Shapes.{shape_of, value_shape_of};
     ghost use Rattle.tsp_draft.specs.Fields.{fields_of, spatial};
-    ghost use Rattle.tsp_items.specs.Lines.{first_word};
-    ghost use Rattle.tsp_items.specs.Values.{says_space};
-    ghost use Rattle.tsp_items.specs.Items.{Item};
-    ghost use Rattle.tsp_items.specs.states.CutLine.{seen, cut_item};
+    ghost use Rattle.tsp_text.specs.Lines.{first_word};
+    ghost use Rattle.tsp_text.specs.Values.{says_space};
+    ghost use Rattle.tsp_text.specs.Items.{Item};
+    ghost use Rattle.tsp_section.specs.states.CutLine.{seen, cut_item};
     ghost use Rattle.tsp_read.specs.states.Holds.{Holds, AnswersItem, LineAnswers};
 
     /// Takes a word line.

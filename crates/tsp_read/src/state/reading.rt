@@ -2,15 +2,16 @@
 
 ghost use Rattle.std.specs.Prelude.{[], List, Some, IfErr, OnOk, ◌≡◌, is_some, true};
 ghost use Rattle.tsp_format.specs.Words.{fields_in_order};
-ghost use Rattle.tsp_items.specs.Items.{Item, NumberWord};
-ghost use Rattle.tsp_items.specs.Earlier.{same_field};
+ghost use Rattle.tsp_text.specs.Items.{Item, NumberWord};
+ghost use Rattle.tsp_text.specs.Earlier.{same_field};
 ghost use Rattle.tsp_read.specs.states.Incomplete.{is_either, first_of};
 
 use crate::state::store::store;
 use std::alloc::Global;
 use tsp_draft::Draft;
 use tsp_format::Field;
-use tsp_items::{LineFault, Part, StepFault};
+use tsp_section::{Part, StepFault};
+use tsp_text::LineFault;
 
 /// The section that is open, and the part that takes its words.
 #[derive(Drop)]
@@ -76,7 +77,7 @@ fn is_same(field: Field, other: Field) -> bool
 
 impl Reading {
     ghost use Rattle.tsp_read.specs.states.Holds.{Holds, Closed, AnswersItem};
-    ghost use Rattle.tsp_items.specs.declared.fault.StepFault.TheVariants.{Memory};
+    ghost use Rattle.tsp_section.specs.declared.fault.StepFault.TheVariants.{Memory};
 
     /// Nothing so far.
     pub(crate) fn new(alloc: Global) -> Reading

@@ -3,13 +3,13 @@
 ghost use Rattle.std.specs.Prelude.{◌≡◌, Some};
 ghost use Rattle.tsp_format.specs.Shapes.{shape_of};
 ghost use Rattle.tsp_draft.specs.Fields.{fields_of, spatial};
-ghost use Rattle.tsp_items.specs.states.CutLine.{seen};
+ghost use Rattle.tsp_section.specs.states.CutLine.{seen};
 ghost use Rattle.tsp_read.specs.states.Holds.{LineAnswers};
 
 use crate::state::reading::{OpenSection, Reading};
 use std::alloc::Global;
 use tsp_format::{Field, Shape};
-use tsp_items::{CutLine, Part, StepFault, may_open};
+use tsp_section::{CutLine, Part, StepFault, may_open};
 
 impl Reading {
     /// Opens the section of a field, which has this shape, where no section is open.

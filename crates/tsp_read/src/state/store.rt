@@ -2,16 +2,16 @@
 
 ghost use Rattle.std.specs.Prelude.{◌≡◌, ℕ, Bool, List, IfOk, IfErr};
 ghost use Rattle.tsp_draft.specs.Fields.{fields_of};
-ghost use Rattle.tsp_items.specs.declared.fault.StepFault.TheVariants.{Memory};
-ghost use Rattle.tsp_items.specs.Sections.{place_in};
-ghost use Rattle.tsp_items.specs.Spells.{wants_more};
+ghost use Rattle.tsp_section.specs.declared.fault.StepFault.TheVariants.{Memory};
+ghost use Rattle.tsp_text.specs.Sections.{place_in};
+ghost use Rattle.tsp_text.specs.Spells.{wants_more};
 ghost use Rattle.tsp_read.specs.states.Open.{HoldsSection};
 ghost use Rattle.tsp_read.specs.states.Stored.{with_section};
 
 use crate::state::reading::OpenSection;
 use std::alloc::Global;
 use tsp_draft::Draft;
-use tsp_items::{Part, StepFault};
+use tsp_section::{Part, StepFault};
 
 /// Stores what a section has. The answer is whether it is incomplete.
 pub(crate) fn store(

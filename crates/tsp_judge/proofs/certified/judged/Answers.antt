@@ -2,7 +2,7 @@ use Rattle.std.proofs.Common.{◌≡◌, false, refl, sym, ◌∙◌, ap}
 use Rattle.std.proofs.KnownBytes.{Keeps-refl}
 use Rattle.std.specs.Prelude.{IsTrue}
 use Rattle.tsp_stream.specs.Sink.{sink_of}
-use Rattle.tsp_judge.specs.BoundRun.{is_bounded}
+use Rattle.tsp_verdict.specs.Certified.{is_bounded}
 use Rattle.tsp_judge.proofs.BoundChecks.{sized, answered}
 use Rattle.tsp_judge.proofs.certified.judged.Goals as goal
 
@@ -11,8 +11,8 @@ returns-then-not-is_bounded g c = λ first second third one two three.
     let none : is_bounded c.args.by c.args.instance.now.kind ≡ false = ap (is_bounded c.args.by) (sym c.kind.ensures.value) ∙ sym c.is_bounded.ensures ∙ c.if-not-is_bounded.true in
     ((Keeps-refl _, refl), (c.args.instance.now, one, none), (c.args.solution.now, two), (c.args.certificate.now, three))
 
-pub judge-requires : goal.judge-requires
-judge-requires g c = ap (is_bounded c.args.by) (sym c.kind.ensures.value) ∙ sym c.is_bounded.ensures ∙ c.if-not-is_bounded.false
+pub judge_certified-requires : goal.judge_certified-requires
+judge_certified-requires g c = ap (is_bounded c.args.by) (sym c.kind.ensures.value) ∙ sym c.is_bounded.ensures ∙ c.if-not-is_bounded.false
 
 pub returns-in-Err : goal.returns-in-Err
 returns-in-Err g c = λ first second third one two three.

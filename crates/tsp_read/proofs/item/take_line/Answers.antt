@@ -1,5 +1,5 @@
-use Rattle.tsp_items.specs.Items.{line_item}
-use Rattle.tsp_items.specs.states.CutLine.{seen, cut_item}
+use Rattle.tsp_text.specs.Items.{line_item}
+use Rattle.tsp_section.specs.states.CutLine.{seen, cut_item}
 use Rattle.tsp_read.proofs.ReadSteps.{takes_ok}
 use Rattle.tsp_read.proofs.item.take_line.Goals as goal
 

@@ -1,6 +1,6 @@
 use Rattle.std.proofs.Common.{refl, rules, FitsSigned, w64}
 use Rattle.std.proofs.lemmas.Int.{to_z-of_z}
-use Rattle.tsp_items.specs.Numbers.{IsWhole}
+use Rattle.tsp_text.specs.Numbers.{IsWhole}
 use Rattle.tsp_read.specs.Front.{front_word, IsFound}
 use Rattle.tsp_read.proofs.RunSteps.{word_runs}
 use Rattle.tsp_read.proofs.run.take_number.Goals as goal

@@ -2,11 +2,11 @@
 use Rattle.std.proofs.Common.{ℕ, List, sym, subst, ◌∙◌, Result, Ok, Err}
 use Rattle.std.proofs.lemmas.Option.{none-some}
 use Rattle.tsp_draft.specs.Fields.{Fields}
-use Rattle.tsp_write.specs.Text.{text_of}
-use Rattle.tsp_items.specs.declared.fault.ReadFault.{ReadFault}
-use Rattle.tsp_items.specs.declared.fault.ReadFault.TheVariants as faults
+use Rattle.tsp_file.specs.Text.{text_of}
+use Rattle.tsp_text.specs.declared.fault.ReadFault.{ReadFault}
+use Rattle.tsp_text.specs.declared.fault.ReadFault.TheVariants as faults
 use Rattle.tsp_read.specs.Reads.{Reads}
-use Rattle.tsp_items.specs.Text.{Spells}
+use Rattle.tsp_text.specs.Text.{Spells}
 use Rattle.tsp_round.specs.Answers.{IsThisFile}
 use Rattle.tsp_round.proofs.Numbers.{NumberLaws}
 use Rattle.tsp_round.proofs.Joined.{text_spelled}
@@ -16,7 +16,7 @@ pub returns-clause-spelled : goal.returns-clause-spelled
 returns-clause-spelled c =
     let numbers = c.written_numbers_are_read_back.ensures in
     let laws : NumberLaws = record { whole_back = numbers.whole; decimal_back = numbers.coordinate } in
-    λ f valid. text_spelled laws f valid (c.a_valid_text_is_short.ensures f valid)
+    λ f valid. text_spelled laws f valid (c.a_valid_text_is_short.ensures.whole f valid)
 
 pub returns-clause-alone : goal.returns-clause-alone
 returns-clause-alone c =

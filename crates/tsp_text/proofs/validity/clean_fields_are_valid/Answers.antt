@@ -1,5 +1,5 @@
 -- What items without a fault spell is valid, field by field.
-use Rattle.tsp_items.specs.Text.{part}
+use Rattle.tsp_text.specs.Text.{part}
 use Rattle.tsp_text.proofs.ValidCuts.{part_cut}
 use Rattle.tsp_text.proofs.ValidItems.{none_bad}
 use Rattle.tsp_text.proofs.validity.clean_fields_are_valid.Goals as goal

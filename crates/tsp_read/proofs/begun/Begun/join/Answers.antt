@@ -1,6 +1,6 @@
 use Rattle.std.proofs.Common.{◌≡◌, Ok, Err, true, sym, ap, ◌∙◌, ◌<◌, ◌≤◌, ◌+◌, ◌++◌, List, ℕ, length, subst, length-append, refl, arith}
-use Rattle.tsp_items.specs.Lines.{is_filled}
-use Rattle.tsp_items.specs.Items.{Item}
+use Rattle.tsp_text.specs.Lines.{is_filled}
+use Rattle.tsp_text.specs.Items.{Item}
 use Rattle.tsp_read.specs.declared.token.Token.{Token}
 use Rattle.tsp_read.specs.states.Left.{before, from}
 use Rattle.tsp_read.specs.states.Token.{ends, most_bytes}

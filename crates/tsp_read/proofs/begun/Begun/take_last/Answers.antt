@@ -1,5 +1,5 @@
 use Rattle.std.proofs.Common.{sym, ◌∙◌, subst, List}
-use Rattle.tsp_items.specs.Items.{Item}
+use Rattle.tsp_text.specs.Items.{Item}
 use Rattle.tsp_read.specs.states.Intake.{Stands, TakesNext}
 use Rattle.tsp_read.proofs.LastSteps.{last_token, last_none}
 use Rattle.tsp_read.proofs.begun.Begun.take_last.Goals as goal

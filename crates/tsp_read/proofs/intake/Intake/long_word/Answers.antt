@@ -1,5 +1,5 @@
 use Rattle.std.proofs.Common.{refl}
-use Rattle.tsp_items.specs.Items.{NumberWord}
+use Rattle.tsp_text.specs.Items.{NumberWord}
 use Rattle.tsp_read.proofs.IntakeSteps.{same_long, never_long}
 use Rattle.tsp_read.proofs.intake.Intake.long_word.Goals as goal
 

@@ -1,6 +1,6 @@
 use Rattle.std.proofs.Common.{◌≡◌, false, refl, map, tests, rules}
 use Rattle.std.specs.Prelude.{nat_lt}
-use Rattle.tsp_items.specs.states.CutLine.{seen}
+use Rattle.tsp_section.specs.states.CutLine.{seen}
 use Rattle.tsp_read.proofs.TextSteps as texts
 use Rattle.tsp_read.proofs.state.reading.Reading.line.Goals as goal
 

@@ -1,5 +1,5 @@
 use Rattle.std.proofs.Common.{refl}
-use Rattle.tsp_items.specs.states.CutLine.{seen}
+use Rattle.tsp_section.specs.states.CutLine.{seen}
 use Rattle.tsp_read.proofs.KeywordSteps as keywords
 use Rattle.tsp_read.proofs.state.reading.Reading.named.Goals as goal
 

@@ -1,6 +1,6 @@
 use Rattle.std.proofs.Common.{refl, FitsSigned, rules, w64}
 use Rattle.std.proofs.lemmas.Int.{to_z-of_z}
-use Rattle.tsp_items.specs.states.CutLine.{seen}
+use Rattle.tsp_section.specs.states.CutLine.{seen}
 use Rattle.tsp_read.proofs.KeywordSteps.{number_taken, number_refused}
 use Rattle.tsp_read.proofs.state.reading.Reading.number.Goals as goal
 

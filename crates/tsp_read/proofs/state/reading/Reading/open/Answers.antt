@@ -1,5 +1,5 @@
 use Rattle.std.proofs.Common.{refl}
-use Rattle.tsp_items.specs.states.CutLine.{seen}
+use Rattle.tsp_section.specs.states.CutLine.{seen}
 use Rattle.tsp_read.proofs.SectionSteps as steps
 use Rattle.tsp_read.proofs.state.reading.Reading.open.Goals as goal
 

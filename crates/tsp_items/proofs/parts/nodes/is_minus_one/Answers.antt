@@ -1,6 +1,0 @@
-use Rattle.std.proofs.Common.{◌∙◌, ap}
-use Rattle.std.specs.Str.{bytes_eq}
-use Rattle.tsp_items.proofs.parts.nodes.is_minus_one.Goals as goal
-
-pub returns : goal.returns
-returns c = c.eq.ensures ∙ ap (bytes_eq c.args.word.now) c.as_slice.ensures
