@@ -1,5 +1,5 @@
 -- What a certificate's leaves show holds of every cycle that keeps the given decisions.
-use Rattle.std.proofs.Common.{◌≡◌, ℕ, ◌≤◌, List, [], ◌∷◌, ℤ, ◌≤ℤ◌, arith}
+use Rattle.std.proofs.Common.{false, ◌≡◌, ℕ, ◌≤◌, List, [], ◌∷◌, ℤ, ◌≤ℤ◌, arith}
 use Rattle.std.specs.Prelude.{pos}
 use Rattle.std.specs.List.{All, AllByRecursion}
 use Rattle.std.proofs.lemmas.Int.{ints}
@@ -21,7 +21,7 @@ combs_with n (comb ∷ combs) [] are signs = tt
 combs_with n (comb ∷ combs) (multiplier ∷ multipliers) are signs = ((are.0, signs.0), combs_with n combs multipliers are.1 signs.1)
 
 leaf_bounds_case : (n : ℕ) (cost : ℕ → ℕ → ℤ) (scale number : ℤ) (combs : List Comb) (leaf : List Decision × LeafNumbers) (own : ℤ) → LeafBoundsBoundCycles → 3 ≤ n → IsSymmetric cost → IsScale scale
-    → All (IsComb n) combs → AreLeafNumbers n leaf.1 → IsBoundAt n cost scale number combs leaf own → BoundsCase n cost own leaf.0
+    → All (IsComb n) combs → AreLeafNumbers n leaf.1 → IsBoundAt n cost scale number combs leaf own → BoundsCase false n cost own leaf.0
 leaf_bounds_case n cost scale number combs leaf own bounds some even scale_in are numbers is = λ nodes cycle keeps.
     let multipliers = leaf.1.multipliers in
     let with_combs = multiplied combs multipliers in
@@ -33,13 +33,13 @@ leaf_bounds_case n cost scale number combs leaf own bounds some even scale_in ar
 pub certificates_bound_cycles : LeafBoundsBoundCycles → CasesBoundCycles → CertificatesBoundCycles
 certificates_bound_cycles bounds_leaves bounds_cases n cost scale number combs given steps bound some even scale_in certificate is =
     let leaves = leaves_of (given ∷ []) steps in
-    bounds_cases n cost bound given steps certificate.whole
-    (All-from_recursion (BoundsCase n cost bound) (cases_of leaves)
+    bounds_cases false n cost bound given steps certificate.whole
+    (All-from_recursion (BoundsCase false n cost bound) (cases_of leaves)
     (each leaves (recursion_from_All (λ leaf. AreLeafNumbers n leaf.1) leaves certificate.numbers_are)
     (recursion_from_All (λ leaf. (own : ℤ) × IsBoundAt n cost scale number combs leaf own × (bound ≤ℤ own)) leaves is.below)))
   where
     each : (leaves : List (List Decision × LeafNumbers)) → AllByRecursion (λ leaf. AreLeafNumbers n leaf.1) leaves
-        → AllByRecursion (λ leaf. (own : ℤ) × IsBoundAt n cost scale number combs leaf own × (bound ≤ℤ own)) leaves → AllByRecursion (BoundsCase n cost bound) (cases_of leaves)
+        → AllByRecursion (λ leaf. (own : ℤ) × IsBoundAt n cost scale number combs leaf own × (bound ≤ℤ own)) leaves → AllByRecursion (BoundsCase false n cost bound) (cases_of leaves)
     each [] numbers bounds = tt
     each (leaf ∷ leaves) numbers bounds = (
       λ nodes cycle keeps.

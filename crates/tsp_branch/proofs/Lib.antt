@@ -29,3 +29,9 @@ pub mod CombRuns
 pub mod BranchesOnce
 pub mod SmallVerdicts
 pub mod CostRows
+pub mod Links
+pub mod LeastLinks
+pub mod Families
+pub mod Closed
+pub mod OpenRows
+pub mod Sums

@@ -1,5 +1,5 @@
 -- The verdict on a certificate by branching: its bound, or the first reason against it.
-use Rattle.std.specs.Prelude.{ℕ, None, Some, List, ℤ}
+use Rattle.std.specs.Prelude.{false, ℕ, None, Some, List, ℤ}
 use Rattle.tsp_format.specs.Steps as listed
 use Rattle.tsp_theory.specs.Numbers.{IsBoundSized}
 use Rattle.tsp_branch.specs.declared.steps.Judged.{Judged}
@@ -34,7 +34,7 @@ IsBranchVerdict n cost scale combs sets given steps (verdict.BadLeaf leaf) =
 
 -- A bound is at most the length of every cycle that keeps the given decisions.
 abbrev pub VerdictBoundsCycles : ℕ → (ℕ → ℕ → ℤ) → List Decision → BranchVerdict → Type 0
-VerdictBoundsCycles n cost given (verdict.Bound bound) = BoundsCase n cost bound given
+VerdictBoundsCycles n cost given (verdict.Bound bound) = BoundsCase false n cost bound given
 VerdictBoundsCycles n cost given (verdict.BadComb comb) = Unit {0}
 VerdictBoundsCycles n cost given (verdict.BranchTwice branch) = Unit {0}
 VerdictBoundsCycles n cost given (verdict.BadLeaf leaf) = Unit {0}

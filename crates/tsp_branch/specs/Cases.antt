@@ -41,32 +41,42 @@ cases_of leaves = map (λ leaf. leaf.0) leaves
 -- ---- the theorems
 
 -- a cycle keeps the decisions of one of the cases
-abbrev pub KeepsOne : List ℕ → List (List Decision) → Type 0
-KeepsOne nodes [] = ⊥
-KeepsOne nodes (case ∷ cases) = KeepsAll nodes case ⊎ KeepsOne nodes cases
+abbrev pub KeepsOne : Bool → List ℕ → List (List Decision) → Type 0
+KeepsOne directed nodes [] = ⊥
+KeepsOne directed nodes (case ∷ cases) = KeepsAll directed nodes case ⊎ KeepsOne directed nodes cases
 
 -- Each cycle that keeps the given decisions keeps those of a leaf of the tree that begins with them.
 abbrev pub CyclesKeepLeaves : Type 0
-CyclesKeepLeaves = (given : List Decision) (steps : List Step) (nodes : List ℕ)
-    → are_trees 1 steps ≡ true → KeepsAll nodes given → KeepsOne nodes (cases_of (leaves_of (given ∷ []) steps))
+CyclesKeepLeaves = (directed : Bool) (given : List Decision) (steps : List Step) (nodes : List ℕ)
+    → are_trees 1 steps ≡ true → KeepsAll directed nodes given → KeepsOne directed nodes (cases_of (leaves_of (given ∷ []) steps))
 
 -- a bound is at most the length of every cycle of the case
-abbrev pub BoundsCase : ℕ → (ℕ → ℕ → ℤ) → ℤ → List Decision → Type 0
-BoundsCase n cost bound case = (nodes : List ℕ) → IsCycle n nodes → KeepsAll nodes case → bound ≤ℤ length_of cost nodes
+abbrev pub BoundsCase : Bool → ℕ → (ℕ → ℕ → ℤ) → ℤ → List Decision → Type 0
+BoundsCase directed n cost bound case =
+    (nodes : List ℕ) → IsCycle n nodes → KeepsAll directed nodes case → bound ≤ℤ length_of cost nodes
 
 -- So a bound that is at most the length of every cycle of each leaf's case is at most the length of every cycle that keeps the
 -- given decisions.
 abbrev pub CasesBoundCycles : Type 0
-CasesBoundCycles = (n : ℕ) (cost : ℕ → ℕ → ℤ) (bound : ℤ) (given : List Decision) (steps : List Step)
-    → are_trees 1 steps ≡ true → All (BoundsCase n cost bound) (cases_of (leaves_of (given ∷ []) steps))
-    → BoundsCase n cost bound given
+CasesBoundCycles = (directed : Bool) (n : ℕ) (cost : ℕ → ℕ → ℤ) (bound : ℤ) (given : List Decision) (steps : List Step)
+    → are_trees 1 steps ≡ true → All (BoundsCase directed n cost bound) (cases_of (leaves_of (given ∷ []) steps))
+    → BoundsCase directed n cost bound given
+
+-- no cycle keeps the decisions of the case; and where that holds of each leaf's, none keeps the given ones
+abbrev pub HasNoCycle : Bool → ℕ → List Decision → Type 0
+HasNoCycle directed n case = (nodes : List ℕ) → IsCycle n nodes → KeepsAll directed nodes case → ⊥
+
+abbrev pub CasesHaveNoCycle : Type 0
+CasesHaveNoCycle = (directed : Bool) (n : ℕ) (given : List Decision) (steps : List Step)
+    → are_trees 1 steps ≡ true → All (HasNoCycle directed n) (cases_of (leaves_of (given ∷ []) steps))
+    → HasNoCycle directed n given
 
 -- ---- step by step
 
 -- each cycle that keeps the given decisions is no shorter than the bound, or is one of an open case
-abbrev pub BoundsButOpen : ℕ → (ℕ → ℕ → ℤ) → List Decision → ℤ → List (List Decision) → Type 0
-BoundsButOpen n cost given bound cases =
-    (nodes : List ℕ) → IsCycle n nodes → KeepsAll nodes given → (bound ≤ℤ length_of cost nodes) ⊎ KeepsOne nodes cases
+abbrev pub BoundsButOpen : Bool → ℕ → (ℕ → ℕ → ℤ) → List Decision → ℤ → List (List Decision) → Type 0
+BoundsButOpen directed n cost given bound cases = (nodes : List ℕ) → IsCycle n nodes → KeepsAll directed nodes given
+    → (bound ≤ℤ length_of cost nodes) ⊎ KeepsOne directed nodes cases
 
 -- ---- the open cases as a stack of decisions has them, the last one first
 

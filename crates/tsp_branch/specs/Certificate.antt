@@ -44,7 +44,7 @@ pub record IsCertificateBound (n : ℕ) (cost : ℕ → ℕ → ℤ) (scale numb
 abbrev pub CertificatesBoundCycles : Type 0
 CertificatesBoundCycles = (n : ℕ) (cost : ℕ → ℕ → ℤ) (scale number : ℤ) (combs : List Comb) (given : List Decision)
     (steps : List Step) (bound : ℤ) → 3 ≤ n → IsSymmetric cost → IsScale scale → IsCertificate n combs given steps
-    → IsCertificateBound n cost scale number combs given steps bound → BoundsCase n cost bound given
+    → IsCertificateBound n cost scale number combs given steps bound → BoundsCase false n cost bound given
 
 -- Where the fixed pairs are given, it is at most the length of every tour.
 abbrev pub CertificatesBoundTours : Type 0

@@ -2,9 +2,9 @@
 use Rattle.std.specs.Prelude.{ℕ, ◌≤◌, ◌≡◌, Bool, true, false, if◌then◌else◌, List, [], ◌∷◌, length, map, ℤ, ◌≤ℤ◌}
 use Rattle.std.specs.List.{All, AllPairs}
 use Rattle.tsp_theory.specs.Costs.{IsSymmetric}
-use Rattle.tsp_theory.specs.Cycle.{IsCycle, AreNeighbours}
+use Rattle.tsp_theory.specs.Cycle.{IsCycle}
 use Rattle.tsp_theory.specs.Length.{length_of}
-use Rattle.tsp_theory.specs.Tour.{IsTour}
+use Rattle.tsp_theory.specs.Tour.{IsTour, Uses}
 use Rattle.tsp_theory.specs.Numbers.{IsScale}
 use Rattle.tsp_theory.specs.Adjusted.{pair_of, is_same_pair, IsAdjustedBound}
 
@@ -13,16 +13,17 @@ pub record Decision : Type 0 where
   pub pair : ℕ × ℕ
   pub taken : Bool
 
-abbrev pub KeepsPair : List ℕ → Bool → ℕ × ℕ → Type 0
-KeepsPair nodes true pair = AreNeighbours nodes pair
-KeepsPair nodes false pair = AreNeighbours nodes pair → ⊥
+-- directed: from the first node to the second; else in either direction
+abbrev pub KeepsPair : Bool → List ℕ → Bool → ℕ × ℕ → Type 0
+KeepsPair directed nodes true pair = Uses directed nodes pair
+KeepsPair directed nodes false pair = Uses directed nodes pair → ⊥
 
--- a cycle keeps a decision: the two nodes are neighbours on it, in either direction, exactly if the pair is taken
-abbrev pub KeepsDecision : List ℕ → Decision → Type 0
-KeepsDecision nodes decision = KeepsPair nodes decision.taken decision.pair
+-- a cycle keeps a decision: it uses the pair exactly if that is taken
+abbrev pub KeepsDecision : Bool → List ℕ → Decision → Type 0
+KeepsDecision directed nodes decision = KeepsPair directed nodes decision.taken decision.pair
 
-abbrev pub KeepsAll : List ℕ → List Decision → Type 0
-KeepsAll nodes decisions = All (KeepsDecision nodes) decisions
+abbrev pub KeepsAll : Bool → List ℕ → List Decision → Type 0
+KeepsAll directed nodes decisions = All (KeepsDecision directed nodes) decisions
 
 -- no two decisions are on the same two nodes
 abbrev pub DecideOnce : List Decision → Type 0
@@ -55,7 +56,7 @@ abbrev pub DecidedBoundsBoundCycles : Type 0
 DecidedBoundsBoundCycles = (n : ℕ) (cost : ℕ → ℕ → ℤ) (scale : ℤ) (potentials : List ℤ) (number : ℤ) (decisions : List Decision)
     (bound : ℤ) (nodes : List ℕ) → 3 ≤ n → IsSymmetric cost → IsScale scale → length potentials ≡ n
     → IsAdjustedBound n cost scale potentials (on_taken number decisions) (on_avoided number decisions) bound
-    → IsCycle n nodes → KeepsAll nodes decisions → bound ≤ℤ length_of cost nodes
+    → IsCycle n nodes → KeepsAll false nodes decisions → bound ≤ℤ length_of cost nodes
 
 -- The bound of potentials and of numbers on fixed pairs is at most the length of every tour.
 abbrev pub FixedBoundsBoundTours : Type 0

@@ -19,3 +19,6 @@ pub mod Listed
 pub mod BranchVerdicts
 pub mod VerdictExamples
 pub mod Rooms
+pub mod Rows
+pub mod Families
+pub mod Closed

@@ -1,5 +1,5 @@
 -- A certificate as it is listed: each leaf by what changes since the leaf before it.
-use Rattle.std.specs.Prelude.{◌≡◌, ◌≢◌, ℕ, suc, ◌+◌, ◌-◌, ◌^◌, ◌<◌, length, true, List, [], ◌∷◌, take, drop, replicate, slice_set, Option, Some, IfSome, ◌⊎◌, ℤ, pos, ◌+ℤ◌, ◌≤ℤ◌}
+use Rattle.std.specs.Prelude.{false, ◌≡◌, ◌≢◌, ℕ, suc, ◌+◌, ◌-◌, ◌^◌, ◌<◌, length, true, List, [], ◌∷◌, take, drop, replicate, slice_set, Option, Some, IfSome, ◌⊎◌, ℤ, pos, ◌+ℤ◌, ◌≤ℤ◌}
 use Rattle.std.specs.List.{All}
 use Rattle.tsp_format.specs.Cells.{IsNode}
 use Rattle.tsp_format.specs.Steps as listed
@@ -81,7 +81,7 @@ IsJudged n cost scale combs count given steps (judged.BadLeaf leaf) = IsFirstBad
 
 -- Then the bound is at most the length of every cycle that keeps the given decisions.
 abbrev pub BoundsCycles : ℕ → (ℕ → ℕ → ℤ) → List Decision → Judged → Type 0
-BoundsCycles n cost given (judged.Bound bound) = BoundsCase n cost bound given
+BoundsCycles n cost given (judged.Bound bound) = BoundsCase false n cost bound given
 BoundsCycles n cost given (judged.BadLeaf leaf) = Unit {0}
 
 -- Sums with it fit 128 bits.

@@ -47,7 +47,6 @@ impl<'a, C: Costs> CombedWeights<'a, C> {
     ghost use Rattle.std.specs.Int.{w64, int_wrap};
     ghost use Rattle.tsp_format.specs.Cells.{IsNode};
     ghost use Rattle.tsp_theory.specs.Numbers.{IsFromTo, IsScale, ArePotentials, entry};
-    ghost use Rattle.tsp_theory.specs.Tree.{IsInner};
     ghost use Rattle.tsp_theory.specs.Growth.{least_at};
     ghost use Rattle.tsp_theory.specs.NodeBound.{weight_between};
     ghost use Rattle.tsp_theory.specs.NodeBound.{most_between};
@@ -119,10 +118,10 @@ impl<'a, C: Costs> CombedWeights<'a, C> {
     pub(crate) fn fill_combed(&self, from: u32, row: &mut [i64])
         requires from { IsNode (C.nodes self.now.costs.now) from }
         requires room { length row.old ≡ C.nodes self.now.costs.now + 1 }
-        ensures values { (x : ℕ) → IsInner (C.nodes self.now.costs.now) x → least_at row.new x
+        ensures values { (x : ℕ) → IsNode (C.nodes self.now.costs.now) x → least_at row.new x
             ≡ set_weight self.now.scale self.now.potentials.now self.now.multipliers.now
             (plain self.now.sets.now) (C.at self.now.costs.now) from x }
-        ensures sizes { (x : ℕ) → IsInner (C.nodes self.now.costs.now) x
+        ensures sizes { (x : ℕ) → IsNode (C.nodes self.now.costs.now) x
             → IsFromTo (neg_ℤ (pos most_combed)) (pos most_combed) (least_at row.new x) }
     {
         self.fill_apart(from, row);

@@ -43,7 +43,7 @@ pub fn leaf_bound<W: Weights>(
 }
 
 /// The least whole number that at a scale is no less than a sum.
-fn rounded_up(scale: i64, sum: i128) -> i128
+pub(crate) fn rounded_up(scale: i64, sum: i128) -> i128
     requires scale { IsScale scale }
     requires size { IsFromTo (neg_ℤ (pos (2 ^ 100))) (pos (2 ^ 100)) sum }
     ensures value { IsLeastBound scale sum result }

@@ -4,6 +4,7 @@
 
 mod add_sets;
 mod branch;
+mod closing;
 mod combed;
 mod decided;
 mod examples;
@@ -17,6 +18,7 @@ mod marks;
 mod moved;
 mod numbers;
 mod room;
+mod rows;
 mod scaled;
 mod sets;
 mod setting;
@@ -38,12 +40,14 @@ pub use examples::{
 };
 pub use good_combs::first_bad_comb;
 pub use laws::{
-    cases_bound_cycles, certificate_bounds_are_unique, certificates_bound_cycles,
-    cycles_cross_combs, cycles_keep_leaves, decided_bounds_bound_cycles, fixed_bounds_bound_tours,
-    leaf_bounds_bound_cycles, numbers_tell_combs, numbers_tell_lists, sets_tell_combs,
-    stacks_hold_cases, steps_leave_cases,
+    cases_bound_cycles, cases_have_no_cycle, certificate_bounds_are_unique,
+    certificates_bound_cycles, cycles_cross_combs, cycles_keep_leaves, decided_bounds_bound_cycles,
+    fixed_bounds_bound_tours, leaf_bounds_bound_cycles, links_are_allowed, numbers_tell_combs,
+    numbers_tell_lists, row_leaf_bounds_bound_cycles, sets_tell_combs, stacks_hold_cases,
+    steps_leave_cases, sums_are_below_cycles,
 };
 pub use leaf::leaf_bound;
+pub use rows::row_bound;
 pub use stack::next_case;
 pub use steps::{BranchVerdict, Judged};
 pub use table::CostTable;

@@ -30,13 +30,13 @@ taken_hold : (P : ℕ × ℕ → Type 0) (pairs : List (ℕ × ℕ)) → AllByRe
 taken_hold P [] h = tt
 taken_hold P (pair ∷ pairs) h = (h.0, taken_hold P pairs h.1)
 
-keeps_taken : (nodes : List ℕ) (pairs : List (ℕ × ℕ)) → AllByRecursion (AreNeighbours nodes) pairs → AllByRecursion (KeepsDecision nodes) (take_pairs pairs)
+keeps_taken : (nodes : List ℕ) (pairs : List (ℕ × ℕ)) → AllByRecursion (AreNeighbours nodes) pairs → AllByRecursion (KeepsDecision false nodes) (take_pairs pairs)
 keeps_taken nodes [] h = tt
 keeps_taken nodes (pair ∷ pairs) h = (h.0, keeps_taken nodes pairs h.1)
 
 -- what uses all pairs keeps the decisions
-pub keeps_given : (nodes : List ℕ) (pairs : List (ℕ × ℕ)) → All (AreNeighbours nodes) pairs → KeepsAll nodes (take_pairs (each_once [] pairs))
-keeps_given nodes pairs used = All-from_recursion (KeepsDecision nodes) (take_pairs (each_once [] pairs))
+pub keeps_given : (nodes : List ℕ) (pairs : List (ℕ × ℕ)) → All (AreNeighbours nodes) pairs → KeepsAll false nodes (take_pairs (each_once [] pairs))
+keeps_given nodes pairs used = All-from_recursion (KeepsDecision false nodes) (take_pairs (each_once [] pairs))
     (keeps_taken nodes (each_once [] pairs) (each_holds (AreNeighbours nodes) [] pairs (recursion_from_All (AreNeighbours nodes) pairs used)))
 
 -- ---- no pair comes twice

@@ -1,4 +1,4 @@
-use Rattle.std.proofs.Common.{None, ℕ, ℤ, sym, subst, rules, FitsSigned}
+use Rattle.std.proofs.Common.{false, None, ℕ, ℤ, sym, subst, rules, FitsSigned}
 use Rattle.std.specs.Int.{w64, w128}
 use Rattle.std.proofs.lemmas.Int.{to_z-of_z}
 use Rattle.tsp_format.specs.Steps.{steps_of}
@@ -47,4 +47,4 @@ returns-in-Bound-clause-cycles g c =
     let given = case_of c.args.given.now in
     let fits : FitsSigned w128 c.in-Bound.bound = search rules in
     let cycles = subst (BoundsCycles n cost given) c.in-Bound.is c.in_ok-bound.ensures.cycles in
-    subst (λ (z : ℤ). BoundsCase n cost z given) (sym (to_z-of_z w128 c.in-Bound.bound fits)) cycles
+    subst (λ (z : ℤ). BoundsCase false n cost z given) (sym (to_z-of_z w128 c.in-Bound.bound fits)) cycles

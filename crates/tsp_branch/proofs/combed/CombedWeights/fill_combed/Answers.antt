@@ -8,7 +8,6 @@ use Rattle.tsp_format.specs.Cells.{IsNode}
 use Rattle.tsp_theory.specs.Numbers.{IsFromTo}
 use Rattle.tsp_theory.specs.NodeBound.{weight_between}
 use Rattle.tsp_theory.specs.Growth.{least_at}
-use Rattle.tsp_theory.specs.Tree.{IsInner}
 use Rattle.tsp_branch.specs.Sets.{IsMoved, sets_with}
 use Rattle.tsp_branch.specs.Combed.{plain, multipliers_at, inside_both, set_crossings, most_combed, set_weight}
 use Rattle.tsp_branch.proofs.CombSizes.{combed_size, combed_fits}
@@ -36,14 +35,14 @@ returns g c =
     let base : ℕ → ℤ = λ x. weight_between p.scale p.potentials.now (g.C.Costs.at p.costs.now) from x in
     let w : ℕ → ℤ = λ x. set_weight p.scale p.potentials.now multipliers (plain sets) (g.C.Costs.at p.costs.now) from x in
     let numbers_are : c.deref.result.now ≡ sets_with 0 sets from = c.deref.ensures.value ∙ p.table.said from c.index-self-from.result c.requires.from.1 in
-    let node_in : (x : ℕ) → IsInner n x → IsNode n x = λ x h. (omega (arith, h.0), h.1) in
-    let size : (x : ℕ) → IsInner n x → IsFromTo (neg_ℤ (pos most_combed)) (pos most_combed) (w x) = λ x h.
+    let node_in : (x : ℕ) → IsNode n x → IsNode n x = λ x h. h in
+    let size : (x : ℕ) → IsNode n x → IsFromTo (neg_ℤ (pos most_combed)) (pos most_combed) (w x) = λ x h.
     combed_size (base x) (set_crossings multipliers (plain sets) from x) (c.fill_apart.ensures.sizes x (node_in x h)) (p.crossed from x) in
     let come : (x : ℕ) → (neg_ℤ (multipliers_at multipliers (plain sets) from) +ℤ neg_ℤ (multipliers_at multipliers (plain sets) x)) +ℤ inside_both multipliers (plain sets) (sets_with 0 sets from) x
     ≡ neg_ℤ (set_crossings multipliers (plain sets) from x) = λ x.
     sets_come_to multipliers (plain sets) 0 sets from x (λ k set lt is. let same : 0 + k ≡ k = omega arith in ap (λ i. get_or (plain sets) i (0, [])) same ∙ plain_at sets k set lt is)
     (recursion_from_All (λ set. (set.0 < length multipliers) × AllPairs (λ a b. a ≢ b) set.1.items) sets p.combs) in
-    let is : (x : ℕ) → IsInner n x → least_at row x ≡ w x = λ x h.
+    let is : (x : ℕ) → IsNode n x → least_at row x ≡ w x = λ x h.
     let gained : IsMoved (inside_both multipliers (plain sets) (sets_with 0 sets from) x) (least_at c.fill_apart.new.row x) (least_at row x) =
     subst (λ (ns : List ℕ). IsMoved (inside_both multipliers (plain sets) ns x) (least_at c.fill_apart.new.row x) (least_at row x)) numbers_are (c.add_sets.ensures x) in
     moved_to (neg_ℤ (set_crossings multipliers (plain sets) from x)) (base x) (least_at row x) (w x) (omega (arith, ints)) (combed_fits (w x) (size x h))
