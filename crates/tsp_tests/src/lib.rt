@@ -13,6 +13,8 @@ mod bound;
 #[cfg(test)]
 mod cost;
 #[cfg(test)]
+mod drafts;
+#[cfg(test)]
 mod file_names;
 #[cfg(test)]
 mod watched;

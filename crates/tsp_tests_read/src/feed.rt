@@ -80,6 +80,13 @@ const EXAMPLES: &[Example] = &[
     ),
     (TOUR, Ok(CANONICAL_TOUR)),
     (RECTANGLE, Ok(RECTANGLE)),
+    // Three points in space.
+    (
+        "TYPE : TSP\nDIMENSION : 3\nEDGE_WEIGHT_TYPE : EUC_3D\nNODE_COORD_SECTION\n1 0 0 0\n2 2.50 3e0 -6\n3 .5 -1 4\nEOF\n",
+        Ok(
+            "TYPE : TSP\nDIMENSION : 3\nEDGE_WEIGHT_TYPE : EUC_3D\nNODE_COORD_SECTION\n1 0 0 0\n2 2.5 3 -6\n3 0.5 -1 4\nEOF\n",
+        ),
+    ),
     // What follows the line EOF isn't looked at.
     (
         "TYPE : TOUR\nTOUR_SECTION\n1 2 3\n-1\nEOF\n###\n1 x",
