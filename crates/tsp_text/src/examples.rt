@@ -102,7 +102,7 @@ pub fn faults_at_the_end()
         fields.NodePotentialPart }
     ensures triples_with_rows { MissingAtEnd
         (codes "TYPE : POTENTIALS/DIMENSION : 1/ROW_POTENTIAL_SECTION/1 0/FIXED_EDGE_POTENTIAL_SECTION") fields.ColumnPotentialPart }
-    ensures triples_with_duals { EndsWith
+    ensures triples_with_duals { FaultAtEnd
         (codes "TYPE : POTENTIALS/DIMENSION : 1/ROW_POTENTIAL_SECTION/1 0/COLUMN_POTENTIAL_SECTION/1 0/FIXED_EDGE_POTENTIAL_SECTION")
         ends.WrongFormat }
     ensures rows_alone { MissingAtEnd (codes "TYPE : POTENTIALS/DIMENSION : 1/ROW_POTENTIAL_SECTION/1 0")
