@@ -72,7 +72,6 @@ class Eax {
  private:
   Tour random_tour();
   void add_member(const Tour& tour);
-  std::vector<Cycle> cycles_between(const Links& a, const Links& b);
   void cross(int a, int b);
   double entropy_change(const Crossover& crossover) const;
   void count_edges(const std::vector<Pair>& edges, int by);
