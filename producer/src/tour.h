@@ -16,6 +16,7 @@ class Matrix {
   explicit Matrix(int nodes) : nodes_(nodes), cells_(static_cast<std::size_t>(nodes) * nodes, 0) {}
   int nodes() const { return nodes_; }
   const Weight* row(int i) const { return &cells_[static_cast<std::size_t>(i) * nodes_]; }
+  Weight* mutable_row(int i) { return &cells_[static_cast<std::size_t>(i) * nodes_]; }
   Weight operator()(int i, int j) const { return row(i)[j]; }
   void set(int i, int j, Weight weight) {
     cells_[static_cast<std::size_t>(i) * nodes_ + j] = weight;
