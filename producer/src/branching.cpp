@@ -29,7 +29,8 @@ std::vector<int> Branching::candidates(const Relaxation& relaxation, double targ
     }
   }
   std::sort(known.begin(), known.end());
-  for (std::size_t k = 0; k < std::min(known.size(), kCandidates / 2); k++) columns.push_back(known[k].second);
+  for (std::size_t k = 0; k < std::min(known.size(), kCandidates / 2); k++)
+    columns.push_back(known[k].second);
   return columns;
 }
 

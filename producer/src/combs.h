@@ -41,7 +41,8 @@ class Handle {
 
 class CombSearch {
  public:
-  CombSearch(const Graph& graph, const CutPool& pool, const Runs& runs, Random& random, double least_violation);
+  CombSearch(const Graph& graph, const CutPool& pool, const Runs& runs, Random& random,
+             double least_violation);
   // Known sets are handles to begin with. The best handles so far are climbed from, this many.
   std::vector<FoundComb> find(const std::vector<NodeSet>& known, int climbs, int growths);
 

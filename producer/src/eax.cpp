@@ -286,7 +286,8 @@ bool Crossover::join_smallest() {
   change_ += join.change;
   set_link(join.v, join.after_v, join.w), set_link(join.w, join.after_w, join.v);
   set_link(join.after_v, join.v, join.after_w), set_link(join.after_w, join.w, join.after_v);
-  removed_.push_back(std::minmax(join.v, join.after_v)), removed_.push_back(std::minmax(join.w, join.after_w));
+  removed_.push_back(std::minmax(join.v, join.after_v)),
+      removed_.push_back(std::minmax(join.w, join.after_w));
   added_.push_back(std::minmax(join.v, join.w)), added_.push_back(std::minmax(join.after_v, join.after_w));
   for (const int segment : segments_of_[part]) {
     part_of_[segment] = join.part;

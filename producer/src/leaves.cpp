@@ -87,7 +87,8 @@ bool Leaves::ascend(Numbers& numbers, const std::vector<Decision>& decisions, We
     const Value value = bound_.value(now, decisions);
     if (value > best) best = value, numbers = now;
     if (best >= goal(target)) return true;
-    const double missing = static_cast<double>(goal(target) - value) + static_cast<double>(bound_.scale()) / 2;
+    const double missing =
+        static_cast<double>(goal(target) - value) + static_cast<double>(bound_.scale()) / 2;
     if (value == ExactBound::nothing() || !step(now, missing * shrink)) return false;
   }
   return false;

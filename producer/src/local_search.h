@@ -5,7 +5,8 @@
 
 class LocalSearch {
  public:
-  LocalSearch(const Matrix& costs, const Neighbours& near) : costs_(costs), near_(near), place_(costs.nodes()) {}
+  LocalSearch(const Matrix& costs, const Neighbours& near)
+      : costs_(costs), near_(near), place_(costs.nodes()) {}
   void improve(Tour& tour);
 
  private:

@@ -39,9 +39,11 @@ Start find_tours(const Instance& instance, const Options& options, const Clock& 
     return start;
   }
   Eax eax(costs, instance.fixed, options.tour.empty() ? kPopulation : kSmallPopulation, options.seed);
-  start.tour = eax.run([&] { return clock.over(kPartForTours); }, [&](Weight) {
-    progress.show("seconds " + std::to_string(static_cast<int>(Clock::now())) + " looking for a tour");
-  });
+  start.tour = eax.run(
+      [&] { return clock.over(kPartForTours); },
+      [&](Weight) {
+        progress.show("seconds " + std::to_string(static_cast<int>(Clock::now())) + " looking for a tour");
+      });
   start.further = eax.snapshots();
   start.edges = eax.edges();
   return start;
@@ -50,7 +52,8 @@ Start find_tours(const Instance& instance, const Options& options, const Clock& 
 // Tells what was written, and how much is left open by its own reckoning.
 void report(const Options& options, const Search& search, const Instance& instance, Weight given) {
   const Weight length = length_of(instance.weights, search.tour()), bound = std::min(search.bound(), length);
-  std::fprintf(stderr, "tsp-certify: length %lld, bound %lld as reckoned here, leaves %d, processor seconds %.1f\n",
+  std::fprintf(stderr,
+               "tsp-certify: length %lld, bound %lld as reckoned here, leaves %d, processor seconds %.1f\n",
                static_cast<long long>(length), static_cast<long long>(bound), search.leaves(), Clock::now());
   if (bound < length) {
     std::fprintf(stderr, "tsp-certify: a gap of %lld is left\n", static_cast<long long>(length - bound));

@@ -33,7 +33,8 @@ double number_of(const std::string& name, const std::string& word) {
   } catch (const std::logic_error&) {
     end = 0;
   }
-  if (end == 0 || end != word.size() || !std::isfinite(number)) throw Refusal(name + ": this is no number: " + word);
+  if (end == 0 || end != word.size() || !std::isfinite(number))
+    throw Refusal(name + ": this is no number: " + word);
   return number;
 }
 
@@ -66,7 +67,8 @@ Options parse_options(int count, char** words) {
       {"--tour-out", [&](auto&, auto& word) { options.tour_out = word; }},
       {"--tsp", [&](auto&, auto& word) { options.tsp = word; }},
       {"--seconds", [&](auto& name, auto& word) { options.seconds = number_of(name, word); }},
-      {"--seed", [&](auto& name, auto& word) { options.seed = static_cast<std::uint64_t>(whole_of(name, word)); }},
+      {"--seed",
+       [&](auto& name, auto& word) { options.seed = static_cast<std::uint64_t>(whole_of(name, word)); }},
       {"--upper", [&](auto& name, auto& word) { options.upper = whole_of(name, word); }}};
   for (int k = 1; k < count; k++) {
     const std::string word = words[k];

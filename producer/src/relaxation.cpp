@@ -12,16 +12,17 @@ constexpr double kTiny = 1e-6;
 
 Relaxation::Relaxation(const Matrix& weights, const CutPool& pool, const Tour& tour)
     : weights_(weights), pool_(pool), nodes_(weights.nodes()), adjacent_(nodes_), present_(0) {
-  Weight least = weights(0, 1), most = least;
+  least_ = weights(0, 1);
+  Weight most = least_;
   for (int i = 0; i < nodes_; i++) {
     for (int j = 0; j < i; j++) {
-      least = std::min(least, weights(i, j));
+      least_ = std::min(least_, weights(i, j));
       most = std::max(most, weights(i, j));
     }
   }
-  const double above = static_cast<double>(length_of(weights, tour)) - static_cast<double>(least) * nodes_;
+  const double above = static_cast<double>(length_of(weights, tour)) - static_cast<double>(least_) * nodes_;
   unit_ = std::max(1.0, above / nodes_ / 1000);
-  penalty_ = (20 * above + 4 * static_cast<double>(most - least) + 1) / unit_;
+  penalty_ = (20 * above + 4 * static_cast<double>(most - least_) + 1) / unit_;
   present_.assign(static_cast<std::size_t>(nodes_) * nodes_, 0);
   begin();
 }
@@ -88,7 +89,7 @@ void Relaxation::add_edges(const std::vector<Pair>& edges) {
       last = set.first;
     }
     starts.push_back(static_cast<CoinBigIndex>(rows.size()));
-    objective.push_back(static_cast<double>(weights_(i, j)) / unit_);
+    objective.push_back(static_cast<double>(weights_(i, j) - least_) / unit_);
   }
   const std::vector<double> low(objective.size(), 0), high(objective.size(), 1);
   if (objective.empty()) return;
@@ -169,7 +170,7 @@ void Relaxation::optimize() {
     program_.allSlackBasis();
     program_.dual(0);
   }
-  value_ = program_.objectiveValue() * unit_;
+  value_ = program_.objectiveValue() * unit_ + offset();
 }
 
 void Relaxation::read_duals() {
@@ -186,7 +187,7 @@ std::vector<Pair> Relaxation::missing_edges(
   for (int i = 0; i < nodes_; i++) {
     const Weight* row = weights_.row(i);
     for (int j = i + 1; j < nodes_; j++) {
-      double cost = static_cast<double>(row[j]) / unit_ - node_duals_[i] - node_duals_[j];
+      double cost = static_cast<double>(row[j] - least_) / unit_ - node_duals_[i] - node_duals_[j];
       if (cost > -kTiny || present_[static_cast<std::size_t>(i) * nodes_ + j]) continue;
       auto a = sets[i].begin(), b = sets[j].begin();
       while (a != sets[i].end() && b != sets[j].end()) {
@@ -234,7 +235,8 @@ void Relaxation::read_solution() {
     const auto [i, j] = edges_[column];
     support_[i].push_back({j, value}), support_[j].push_back({i, value});
   }
-  for (std::size_t row = 0; row < cuts_.size(); row++) ages_[row] = cut_duals_[row] > 1e-7 ? 0 : ages_[row] + 1;
+  for (std::size_t row = 0; row < cuts_.size(); row++)
+    ages_[row] = cut_duals_[row] > 1e-7 ? 0 : ages_[row] + 1;
 }
 
 void Relaxation::solve() {
@@ -259,7 +261,7 @@ std::vector<std::array<double, 2>> Relaxation::try_branches(const std::vector<in
     for (int side = 0; side < 2; side++) {
       program_.setColumnBounds(column + kElastic, side, side);
       program_.dual(0);
-      gain[side] = std::max(0.0, program_.objectiveValue() * unit_ - value_);
+      gain[side] = std::max(0.0, program_.objectiveValue() * unit_ + offset() - value_);
       program_.setColumnBounds(column + kElastic, 0, 1);
       std::copy(status.begin(), status.end(), program_.statusArray());
       double* const now[] = {program_.primalColumnSolution(), program_.primalRowSolution(),

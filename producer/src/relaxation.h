@@ -31,7 +31,7 @@ class Relaxation {
   bool has(int cut) const { return row_of_.count(cut) > 0; }
   const std::vector<int>& cuts() const { return cuts_; }
   // Duals at the weights' own unit: of the degrees, and of the cuts in their order, from 0 on.
-  double node_dual(int node) const { return node_duals_[node] * unit_; }
+  double node_dual(int node) const { return node_duals_[node] * unit_ + static_cast<double>(least_) / 2; }
   double cut_dual(std::size_t row) const { return cut_duals_[row] * unit_; }
 
   int columns() const { return static_cast<int>(edges_.size()); }
@@ -41,6 +41,8 @@ class Relaxation {
   std::vector<std::array<double, 2>> try_branches(const std::vector<int>& columns, int iterations);
 
  private:
+  // The program takes the weights less the least one. A tour has as many edges as nodes.
+  double offset() const { return static_cast<double>(least_) * nodes_; }
   struct Place {
     int node, column;
   };
@@ -56,7 +58,8 @@ class Relaxation {
   const Matrix& weights_;
   const CutPool& pool_;
   int nodes_;
-  double unit_, penalty_;
+  Weight least_ = 0;
+  double unit_ = 1, penalty_ = 1;
   ClpSimplex program_;
   std::vector<Pair> edges_;
   std::vector<std::vector<Place>> adjacent_;

@@ -155,7 +155,8 @@ void Search::explore(const Best& above) {
     const Value kept = bound_.value(above.numbers, decisions_);
     if (kept >= best.value) best = {above.numbers, kept};
   }
-  const Pair pair = clock_.over() ? Pair(-1, -1) : branching_.choose(relaxation_, static_cast<double>(target_));
+  const Pair pair =
+      clock_.over() ? Pair(-1, -1) : branching_.choose(relaxation_, static_cast<double>(target_));
   if (pair.first < 0) {
     end_leaf(best.numbers, best.value);
   } else {

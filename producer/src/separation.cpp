@@ -33,7 +33,8 @@ int Separation::from_pool(Round& round) {
     if (by > 0.02) missed.emplace_back(-by, cut);
   }
   std::sort(missed.begin(), missed.end());
-  for (std::size_t k = 0; k < std::min(missed.size(), kMostFromPool); k++) round.cuts.push_back(missed[k].second);
+  for (std::size_t k = 0; k < std::min(missed.size(), kMostFromPool); k++)
+    round.cuts.push_back(missed[k].second);
   return static_cast<int>(missed.size());
 }
 
@@ -64,7 +65,8 @@ std::vector<NodeSet> Separation::known_handles() const {
 // A tour along the edges of the solution, by chance.
 Tour Separation::guided_tour() {
   const Graph& support = relaxation_.support();
-  const double average = static_cast<double>(std::abs(length_of(costs_, best_))) / static_cast<double>(best_.size());
+  const double average =
+      static_cast<double>(std::abs(length_of(costs_, best_))) / static_cast<double>(best_.size());
   std::vector<std::pair<Pair, Weight>> changed;
   Neighbours near = near_;
   for (int v = 0; v < costs_.nodes(); v++) {
@@ -95,8 +97,8 @@ void Separation::take_combs(Round& round, const std::vector<FoundComb>& found, c
   for (const FoundComb& comb : found) {
     if (round.combs >= effort.most_cuts) return;
     const NodeSet& handle = comb.sets[0];
-    const bool crowded = std::any_of(handle.begin(), handle.end(),
-                                     [&](int v) { return round.uses[v] >= kMostHandlesOfNode; });
+    const bool crowded =
+        std::any_of(handle.begin(), handle.end(), [&](int v) { return round.uses[v] >= kMostHandlesOfNode; });
     if (crowded || !pool_.is_comb(comb.sets)) continue;
     const int cut = pool_.add_comb(comb.sets);
     if (relaxation_.has(cut)) continue;

@@ -48,7 +48,8 @@ class BlockFinder {
       Visit& visit = visits_.back();
       if (visit.next < graph_[visit.node].size()) {
         const Edge& edge = graph_[visit.node][visit.next++];
-        if (edge.value > above_ && edge.value < below_ && edge.to != visit.parent) follow(visit.node, edge.to);
+        if (edge.value > above_ && edge.value < below_ && edge.to != visit.parent)
+          follow(visit.node, edge.to);
       } else {
         const Visit left = visit;
         visits_.pop_back();

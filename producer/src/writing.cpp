@@ -51,7 +51,8 @@ std::string comb_text(const CutPool& pool, const std::vector<int>& combs) {
 }
 
 // A leaf by the differences of its numbers to those of the leaf before.
-std::string leaf_text(const Numbers& numbers, const Numbers& before, const std::map<int, int>& combs, Weight divisor) {
+std::string leaf_text(const Numbers& numbers, const Numbers& before, const std::map<int, int>& combs,
+                      Weight divisor) {
   std::string text = "0";
   const auto add = [&](std::size_t index, Weight difference) {
     if (difference == 0) return;
