@@ -1,0 +1,93 @@
+// Looks for combs that a solution of the linear program crosses too little. For a handle the best
+// teeth among the runs of a tour are found exactly, by an interval programme with parity, or a
+// greedy choice of edges as teeth; handles come from parts of the support graph, from growth, and by
+// hill climbing over single nodes and paths of whole edges.
+// Sources: M. Padberg and S. Hong (1980); D. Applegate, R. Bixby, V. Chvatal and W. Cook (2006).
+#pragma once
+#include <cstdint>
+#include <unordered_map>
+
+#include "cut_pool.h"
+#include "random.h"
+#include "runs.h"
+
+struct FoundComb {
+  double violation;
+  std::vector<NodeSet> sets;
+};
+
+// A handle that changes node by node, with what the solution crosses it.
+class Handle {
+ public:
+  Handle(const Graph& graph, const CutPool& pool)
+      : graph_(graph), pool_(pool), inside_(graph.size(), 0), where_(graph.size(), -1) {}
+  void flip(int node);
+  void clear();
+  void set(const NodeSet& nodes);
+  bool has(int node) const { return inside_[node] != 0; }
+  const NodeSet& nodes() const { return nodes_; }
+  double crossings() const { return crossings_; }
+  std::uint64_t hash() const { return hash_; }
+
+ private:
+  const Graph& graph_;
+  const CutPool& pool_;
+  std::vector<char> inside_;
+  NodeSet nodes_;
+  std::vector<int> where_;
+  double crossings_ = 0;
+  std::uint64_t hash_ = 0;
+};
+
+class CombSearch {
+ public:
+  CombSearch(const Graph& graph, const CutPool& pool, const Runs& runs, Random& random,
+             double least_violation);
+  // Known sets are handles to begin with. The best handles so far are climbed from, this many.
+  std::vector<FoundComb> find(const std::vector<NodeSet>& known, int climbs, int growths);
+
+ private:
+  struct Interval {
+    int left, right;  // places from the base on
+    double gain;
+    Run run;
+  };
+  struct Spoke {
+    double value;
+    int inside, outside;
+  };
+  struct Step {
+    double violation = -8;
+    int node = -1;
+    bool path = false;
+  };
+  double with_runs();
+  double best_runs();
+  double with_edges();
+  std::vector<Spoke> choose_spokes(double& gain);
+  bool list_intervals(double& most);
+  void keep(double violation, const std::vector<int>& chosen);
+  void seed(const NodeSet& set);
+  void seed_parts();
+  void seed_without_ends(const NodeSet& part, double margin);
+  void grow(int start, bool by_chance);
+  void climb(const NodeSet& start);
+  Step best_step();
+  void flip_path(int node, bool inside);
+  bool fractional(int node) const;
+
+  const Graph& graph_;
+  const Runs& runs_;
+  Random& random_;
+  double least_;
+  int count_;
+  Handle handle_;
+  std::vector<NodeSet> paths_;  // of whole edges
+  std::vector<int> path_of_;
+  std::unordered_map<std::uint64_t, double> seen_;  // handles by their hash
+  std::vector<std::pair<double, NodeSet>> seeds_;
+  std::vector<FoundComb> found_;
+  std::vector<Interval> intervals_;
+  std::vector<char> used_;
+  std::vector<double> back_;
+};

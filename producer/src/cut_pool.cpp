@@ -1,0 +1,83 @@
+#include "cut_pool.h"
+
+#include <algorithm>
+
+#include "random.h"
+
+double violation(const Cut& cut, const Graph& graph, std::vector<char>& scratch) {
+  double inside = 0;
+  for (const NodeSet& set : cut.sets) {
+    for (const int v : set) scratch[v] = 1;
+    for (const int v : set) {
+      for (const Edge& edge : graph[v]) {
+        if (edge.to > v && scratch[edge.to]) inside += edge.value;
+      }
+    }
+    for (const int v : set) scratch[v] = 0;
+  }
+  return 2 * (inside - cut.most_inside);
+}
+
+CutPool::CutPool(int nodes) : nodes_(nodes) {
+  Random random(12345);
+  for (int v = 0; v < nodes; v++) keys_.push_back(random.next());
+}
+
+NodeSet CutPool::smaller_side(NodeSet set) const {
+  std::sort(set.begin(), set.end());
+  const std::size_t nodes = static_cast<std::size_t>(nodes_);
+  if (2 * set.size() < nodes || (2 * set.size() == nodes && set[0] == 0)) return set;
+  NodeSet others;
+  std::size_t next = 0;
+  for (int v = 0; v < nodes_; v++) {
+    if (next < set.size() && set[next] == v) {
+      next++;
+    } else {
+      others.push_back(v);
+    }
+  }
+  return others;
+}
+
+std::uint64_t CutPool::hash_of(const NodeSet& set) const {
+  std::uint64_t hash = 0;
+  for (const int v : set) hash += keys_[v];
+  return (hash * 0x9E3779B97F4A7C15ull) ^ (hash >> 29);
+}
+
+bool CutPool::is_comb(const std::vector<NodeSet>& sets) const {
+  if (sets.size() < 4 || sets.size() % 2 != 0) return false;
+  std::vector<char> handle(nodes_, 0), tooth(nodes_, 0);
+  for (const int v : sets[0]) handle[v] = 1;
+  for (std::size_t k = 1; k < sets.size(); k++) {
+    int inside = 0, outside = 0;
+    for (const int v : sets[k]) {
+      if (tooth[v]) return false;
+      tooth[v] = 1;
+      (handle[v] ? inside : outside)++;
+    }
+    if (inside == 0 || outside == 0) return false;
+  }
+  return true;
+}
+
+int CutPool::add(bool comb, std::vector<NodeSet> sets) {
+  sets[0] = smaller_side(sets[0]);
+  for (NodeSet& set : sets) std::sort(set.begin(), set.end());
+  std::sort(sets.begin() + 1, sets.end());
+  std::uint64_t hash = comb ? 1 : 0;
+  double nodes = 0;
+  for (const NodeSet& set : sets) {
+    hash = hash * 31 + hash_of(set);
+    nodes += static_cast<double>(set.size());
+  }
+  const auto [first, last] = by_hash_.equal_range(hash);
+  for (auto known = first; known != last; ++known) {
+    if (cuts_[known->second].comb == comb && cuts_[known->second].sets == sets) return known->second;
+  }
+  Cut cut{comb, std::move(sets), 0};
+  cut.most_inside = nodes - cut.crossings() / 2.0;
+  by_hash_.emplace(hash, size());
+  cuts_.push_back(std::move(cut));
+  return size() - 1;
+}

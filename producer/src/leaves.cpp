@@ -1,0 +1,175 @@
+#include "leaves.h"
+
+#include <algorithm>
+#include <cmath>
+#include <cstdlib>
+#include <set>
+
+namespace {
+constexpr Weight kLargestGrid = 1000000;
+constexpr int kTrials = 60;  // of exact bounds for a leaf that is made like the last
+constexpr double kSurplus = 0.005;
+
+Weight rounded(double number, Weight grid) {
+  return static_cast<Weight>(std::llround(number / static_cast<double>(grid))) * grid;
+}
+}  // namespace
+
+// The dual of a set is given by potentials alone: a tree over the nodes 1.. keeps those of sets
+// without node 0 by itself, and a set with node 0 is turned into the other side. That of a comb is
+// the multiplier, halved since each crossing counts.
+Numbers Leaves::extract(const Relaxation& relaxation, Weight grid) {
+  Numbers numbers;
+  const int nodes = static_cast<int>(relaxation.support().size());
+  const double scale = static_cast<double>(bound_.scale());
+  std::vector<double> potentials(nodes);
+  for (int v = 0; v < nodes; v++) potentials[v] = -relaxation.node_dual(v) * scale;
+  for (std::size_t row = 0; row < relaxation.cuts().size(); row++) {
+    const double dual = relaxation.cut_dual(row) * scale;
+    const Cut& cut = pool_[relaxation.cuts()[row]];
+    if (cut.comb) {
+      const Weight multiplier = rounded(dual / 2, grid);
+      if (multiplier <= 0) continue;
+      numbers.multipliers[relaxation.cuts()[row]] = multiplier;
+      for (const NodeSet& set : cut.sets) {
+        for (const int v : set) potentials[v] += static_cast<double>(multiplier);
+      }
+    } else if (cut.sets[0][0] == 0) {
+      for (double& potential : potentials) potential -= dual / 2;
+      for (const int v : cut.sets[0]) potentials[v] += dual;
+    }
+  }
+  for (const double potential : potentials) numbers.potentials.push_back(rounded(potential, grid));
+  if (!has_shift_) {  // small numbers make a short file
+    std::vector<Weight> sorted = numbers.potentials;
+    std::nth_element(sorted.begin(), sorted.begin() + nodes / 2, sorted.end());
+    shift_ = sorted[nodes / 2] / kLargestGrid * kLargestGrid;
+    has_shift_ = true;
+  }
+  for (Weight& potential : numbers.potentials) potential -= shift_;
+  return numbers;
+}
+
+// One step of subgradient ascent. False where the tree is a tour that crosses each cut as often.
+bool Leaves::step(Numbers& numbers, double length_times_square) const {
+  const std::vector<Pair>& tree = bound_.tree();
+  std::vector<int> degree(numbers.potentials.size(), -2);
+  for (auto [i, j] : tree) degree[i]++, degree[j]++;
+  double square = 0;
+  for (const int d : degree) square += static_cast<double>(d) * d;
+  std::vector<char> mark(degree.size(), 0);
+  std::map<int, int> lacking;
+  for (const auto& [cut, multiplier] : numbers.multipliers) {
+    int lack = pool_[cut].crossings();
+    for (const NodeSet& set : pool_[cut].sets) {
+      for (const int v : set) mark[v] = 1;
+      for (auto [i, j] : tree) lack -= mark[i] != mark[j] ? 1 : 0;
+      for (const int v : set) mark[v] = 0;
+    }
+    lacking[cut] = lack;
+    square += static_cast<double>(lack) * lack;
+  }
+  if (square == 0) return false;
+  const double length = std::max(1.0, length_times_square / square);
+  for (std::size_t v = 0; v < degree.size(); v++) numbers.potentials[v] += std::llround(length * degree[v]);
+  for (auto [cut, lack] : lacking) {
+    Weight& multiplier = numbers.multipliers[cut];
+    multiplier = std::max<Weight>(0, multiplier + std::llround(length * lack));
+  }
+  return true;
+}
+
+bool Leaves::ascend(Numbers& numbers, const std::vector<Decision>& decisions, Weight target, int tries) {
+  Numbers now = numbers;
+  Value best = ExactBound::nothing();
+  double shrink = 1;
+  for (int k = 0; k < tries; k++, shrink *= 0.97) {
+    const Value value = bound_.value(now, decisions);
+    if (value > best) best = value, numbers = now;
+    if (best >= goal(target)) return true;
+    const double missing =
+        static_cast<double>(goal(target) - value) + static_cast<double>(bound_.scale()) / 2;
+    if (value == ExactBound::nothing() || !step(now, missing * shrink)) return false;
+  }
+  return false;
+}
+
+bool Leaves::reach(const Relaxation& relaxation, const std::vector<Decision>& decisions, Weight target,
+                   Numbers& numbers) {
+  const double surplus = relaxation.value() - static_cast<double>(target - 1);
+  if (surplus <= kSurplus) return false;
+  const double nodes = static_cast<double>(relaxation.support().size());
+  Weight grid = 1;
+  while (static_cast<double>(grid) * 10 <= surplus * static_cast<double>(bound_.scale()) * 50 / nodes) {
+    if (grid >= kLargestGrid) break;
+    grid *= 10;
+  }
+  for (; grid > 1; grid /= 10) {
+    numbers = extract(relaxation, grid);
+    if (bound_.value(numbers, decisions) >= goal(target)) return true;
+  }
+  numbers = extract(relaxation, 1);
+  return ascend(numbers, decisions, target, surplus > 0.02 ? 20 : 60);
+}
+
+// A place is a node, or behind the nodes a cut.
+Weight Leaves::at(const Numbers& numbers, int place) const {
+  const int nodes = static_cast<int>(numbers.potentials.size());
+  if (place < nodes) return numbers.potentials[place];
+  const auto found = numbers.multipliers.find(place - nodes);
+  return found == numbers.multipliers.end() ? 0 : found->second;
+}
+
+void Leaves::put(Numbers& numbers, int place, Weight number) const {
+  const int nodes = static_cast<int>(numbers.potentials.size());
+  if (place < nodes) {
+    numbers.potentials[place] = number;
+  } else if (number != 0) {
+    numbers.multipliers[place - nodes] = number;
+  } else {
+    numbers.multipliers.erase(place - nodes);
+  }
+}
+
+std::vector<int> Leaves::differing_places(const Numbers& numbers) const {
+  const int nodes = static_cast<int>(numbers.potentials.size());
+  std::set<int> places;
+  for (int v = 0; v < nodes; v++) places.insert(v);
+  for (const Numbers* each : {&numbers, &last_}) {
+    for (const auto& [cut, multiplier] : each->multipliers) places.insert(nodes + cut);
+  }
+  std::vector<std::pair<Weight, int>> differing;
+  for (const int place : places) {
+    const Weight difference = std::abs(at(numbers, place) - at(last_, place));
+    if (difference > 0) differing.emplace_back(difference, place);
+  }
+  std::sort(differing.begin(), differing.end());
+  std::vector<int> sorted;
+  for (const auto& [difference, place] : differing) sorted.push_back(place);
+  return sorted;
+}
+
+// Gives these places the numbers of the last leaf where the goal is still reached, else halves of them.
+void Leaves::keep_last(Numbers& numbers, const std::vector<int>& places, std::size_t from, std::size_t to,
+                       const std::vector<Decision>& decisions, Value goal, int& budget) {
+  if (from >= to || budget <= 0) return;
+  Numbers trial = numbers;
+  for (std::size_t k = from; k < to; k++) put(trial, places[k], at(last_, places[k]));
+  budget--;
+  if (bound_.value(trial, decisions) >= goal) {
+    numbers = std::move(trial);
+  } else if (to - from > 4) {
+    const std::size_t middle = (from + to) / 2;
+    keep_last(numbers, places, from, middle, decisions, goal, budget);
+    keep_last(numbers, places, middle, to, decisions, goal, budget);
+  }
+}
+
+Numbers Leaves::near_last(Numbers numbers, const std::vector<Decision>& decisions, Weight target) {
+  if (last_.potentials.empty()) return numbers;
+  if (bound_.value(last_, decisions) >= goal(target)) return last_;
+  int budget = kTrials;
+  const std::vector<int> places = differing_places(numbers);
+  keep_last(numbers, places, 0, places.size(), decisions, goal(target), budget);
+  return numbers;
+}

@@ -1,0 +1,34 @@
+// The numbers of leaves: duals of the linear program, rounded at the scale, mended by steps along
+// exact 1-trees, and kept as the leaf before has them where the bound holds.
+// Source: M. Held and R. Karp, The traveling-salesman problem and minimum spanning trees II (1971).
+#pragma once
+#include "exact_bound.h"
+
+class Leaves {
+ public:
+  Leaves(ExactBound& bound, const CutPool& pool) : bound_(bound), pool_(pool) {}
+  // The duals of the solution, as multiples of a grid.
+  Numbers extract(const Relaxation& relaxation, Weight grid);
+  // Numbers that reach the goal under the decisions. False where none were found.
+  bool reach(const Relaxation& relaxation, const std::vector<Decision>& decisions, Weight target,
+             Numbers& numbers);
+  // The numbers of a leaf that reaches the target, near those of the leaf before.
+  Numbers near_last(Numbers numbers, const std::vector<Decision>& decisions, Weight target);
+  Value goal(Weight target) const { return static_cast<Value>(bound_.scale()) * (target - 1) + 1; }
+  void set_last(const Numbers& numbers) { last_ = numbers; }
+
+ private:
+  bool ascend(Numbers& numbers, const std::vector<Decision>& decisions, Weight target, int tries);
+  bool step(Numbers& numbers, double length_times_square) const;
+  std::vector<int> differing_places(const Numbers& numbers) const;
+  void keep_last(Numbers& numbers, const std::vector<int>& places, std::size_t from, std::size_t to,
+                 const std::vector<Decision>& decisions, Value goal, int& budget);
+  Weight at(const Numbers& numbers, int place) const;
+  void put(Numbers& numbers, int place, Weight number) const;
+
+  ExactBound& bound_;
+  const CutPool& pool_;
+  bool has_shift_ = false;
+  Weight shift_ = 0;
+  Numbers last_;
+};

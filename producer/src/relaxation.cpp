@@ -1,0 +1,275 @@
+#include "relaxation.h"
+
+#include <algorithm>
+#include <array>
+#include <climits>
+#include <cmath>
+
+namespace {
+constexpr int kElastic = 3;  // the first columns
+constexpr double kTiny = 1e-6;
+}  // namespace
+
+Relaxation::Relaxation(const Matrix& weights, const CutPool& pool, const Tour& tour)
+    : weights_(weights), pool_(pool), nodes_(weights.nodes()), adjacent_(nodes_), present_(0) {
+  least_ = weights(0, 1);
+  Weight most = least_;
+  for (int i = 0; i < nodes_; i++) {
+    for (int j = 0; j < i; j++) {
+      least_ = std::min(least_, weights(i, j));
+      most = std::max(most, weights(i, j));
+    }
+  }
+  const double above = static_cast<double>(length_of(weights, tour)) - static_cast<double>(least_) * nodes_;
+  unit_ = std::max(1.0, above / nodes_ / 1000);
+  penalty_ = (20 * above + 4 * static_cast<double>(most - least_) + 1) / unit_;
+  present_.assign(static_cast<std::size_t>(nodes_) * nodes_, 0);
+  begin();
+}
+
+// The rows of degrees, and the elastic columns: one for all cuts, and two for all degrees.
+void Relaxation::begin() {
+  program_.setLogLevel(0);
+  program_.scaling(0);
+  program_.resize(0, kElastic);
+  for (int k = 0; k < kElastic; k++) {
+    program_.setColumnBounds(k, 0, COIN_DBL_MAX);
+    program_.setObjectiveCoefficient(k, penalty_);
+  }
+  const std::vector<double> degree(nodes_, 2);
+  std::vector<CoinBigIndex> starts{0};
+  std::vector<int> columns;
+  std::vector<double> elements;
+  for (int v = 0; v < nodes_; v++) {
+    columns.insert(columns.end(), {1, 2});
+    elements.insert(elements.end(), {1, -1});
+    starts.push_back(static_cast<CoinBigIndex>(columns.size()));
+  }
+  program_.addRows(nodes_, degree.data(), degree.data(), starts.data(), columns.data(), elements.data());
+}
+
+// For each node the rows and sets that it is in, as pairs of row and place of the set.
+std::vector<std::vector<Pair>> Relaxation::memberships() const {
+  std::vector<std::vector<Pair>> sets(nodes_);
+  for (std::size_t row = 0; row < cuts_.size(); row++) {
+    const Cut& cut = pool_[cuts_[row]];
+    for (std::size_t k = 0; k < cut.sets.size(); k++) {
+      for (const int v : cut.sets[k]) sets[v].emplace_back(row, k);
+    }
+  }
+  return sets;
+}
+
+void Relaxation::add_edges(const std::vector<Pair>& edges) {
+  std::vector<CoinBigIndex> starts{0};
+  std::vector<int> rows;
+  std::vector<double> elements, objective;
+  const std::vector<std::vector<Pair>> sets = memberships();
+  std::vector<Pair> common;
+  for (const Pair& edge : edges) {
+    const auto [i, j] = std::minmax(edge.first, edge.second);
+    char& present = present_[static_cast<std::size_t>(i) * nodes_ + j];
+    if (present) continue;
+    present = 1;
+    const int column = columns();
+    edges_.emplace_back(i, j);
+    adjacent_[i].push_back({j, column}), adjacent_[j].push_back({i, column});
+    rows.insert(rows.end(), {i, j});
+    elements.insert(elements.end(), {1, 1});
+    common.clear();
+    std::set_intersection(sets[i].begin(), sets[i].end(), sets[j].begin(), sets[j].end(),
+                          std::back_inserter(common));
+    int last = -1;
+    for (const Pair& set : common) {
+      if (set.first == last) {
+        elements.back() += 1;
+        continue;
+      }
+      rows.push_back(nodes_ + set.first), elements.push_back(1);
+      last = set.first;
+    }
+    starts.push_back(static_cast<CoinBigIndex>(rows.size()));
+    objective.push_back(static_cast<double>(weights_(i, j) - least_) / unit_);
+  }
+  const std::vector<double> low(objective.size(), 0), high(objective.size(), 1);
+  if (objective.empty()) return;
+  program_.addColumns(static_cast<int>(objective.size()), low.data(), high.data(), objective.data(),
+                      starts.data(), rows.data(), elements.data());
+}
+
+void Relaxation::add_cuts(const std::vector<int>& cuts) {
+  std::vector<CoinBigIndex> starts{0};
+  std::vector<int> columns, touched;
+  std::vector<double> elements, low, high, inside(edges_.size(), 0);
+  std::vector<char> mark(nodes_, 0);
+  for (const int cut : cuts) {
+    if (has(cut)) continue;
+    touched.clear();
+    for (const NodeSet& set : pool_[cut].sets) {
+      for (const int v : set) mark[v] = 1;
+      for (const int v : set) {
+        for (const Place& place : adjacent_[v]) {
+          if (place.node < v || !mark[place.node]) continue;
+          if (inside[place.column] == 0) touched.push_back(place.column);
+          inside[place.column] += 1;
+        }
+      }
+      for (const int v : set) mark[v] = 0;
+    }
+    columns.push_back(0), elements.push_back(-1);
+    for (const int column : touched) {
+      columns.push_back(column + kElastic), elements.push_back(inside[column]);
+      inside[column] = 0;
+    }
+    starts.push_back(static_cast<CoinBigIndex>(columns.size()));
+    low.push_back(-COIN_DBL_MAX), high.push_back(pool_[cut].most_inside);
+    row_of_[cut] = static_cast<int>(cuts_.size());
+    cuts_.push_back(cut), ages_.push_back(0);
+  }
+  if (low.empty()) return;
+  program_.addRows(static_cast<int>(low.size()), low.data(), high.data(), starts.data(), columns.data(),
+                   elements.data());
+}
+
+void Relaxation::set_bounds(const Pair& pair, double low, double high) {
+  add_edges({pair});
+  for (const Place& place : adjacent_[pair.first]) {
+    if (place.node == pair.second) program_.setColumnBounds(place.column + kElastic, low, high);
+  }
+}
+
+void Relaxation::decide(const Decision& decision) {
+  const double value = decision.used ? 1 : 0;
+  set_bounds(decision.pair, value, value);
+}
+
+void Relaxation::release(const Pair& pair) { set_bounds(pair, 0, 1); }
+
+void Relaxation::purge(int age) {
+  std::vector<int> dropped, cuts, ages;
+  for (std::size_t row = 0; row < cuts_.size(); row++) {
+    const int place = nodes_ + static_cast<int>(row);
+    if (ages_[row] > age && program_.getRowStatus(place) == ClpSimplex::basic) {
+      dropped.push_back(place);
+    } else {
+      cuts.push_back(cuts_[row]), ages.push_back(ages_[row]);
+    }
+  }
+  if (dropped.empty()) return;
+  program_.deleteRows(static_cast<int>(dropped.size()), dropped.data());
+  cuts_ = cuts, ages_ = ages;
+  row_of_.clear();
+  for (std::size_t row = 0; row < cuts_.size(); row++) row_of_[cuts_[row]] = static_cast<int>(row);
+  read_duals();
+}
+
+void Relaxation::optimize() {
+  program_.dual(0);
+  if (program_.status() != 0) program_.primal(0);
+  if (program_.status() != 0) {
+    program_.allSlackBasis();
+    program_.dual(0);
+  }
+  value_ = program_.objectiveValue() * unit_ + offset();
+}
+
+void Relaxation::read_duals() {
+  const double* duals = program_.getRowPrice();
+  node_duals_.assign(duals, duals + nodes_);
+  cut_duals_.resize(cuts_.size());
+  for (std::size_t row = 0; row < cuts_.size(); row++) cut_duals_[row] = std::max(0.0, -duals[nodes_ + row]);
+}
+
+// The absent edges with a negative reduced cost, the least first.
+std::vector<Pair> Relaxation::missing_edges(
+    const std::vector<std::vector<std::pair<int, double>>>& sets) const {
+  std::vector<std::pair<double, Pair>> missing;
+  for (int i = 0; i < nodes_; i++) {
+    const Weight* row = weights_.row(i);
+    for (int j = i + 1; j < nodes_; j++) {
+      double cost = static_cast<double>(row[j] - least_) / unit_ - node_duals_[i] - node_duals_[j];
+      if (cost > -kTiny || present_[static_cast<std::size_t>(i) * nodes_ + j]) continue;
+      auto a = sets[i].begin(), b = sets[j].begin();
+      while (a != sets[i].end() && b != sets[j].end()) {
+        if (a->first == b->first) {
+          cost += a->second;
+          ++a, ++b;
+        } else {
+          a->first < b->first ? ++a : ++b;
+        }
+      }
+      if (cost < -kTiny) missing.emplace_back(cost, Pair(i, j));
+    }
+  }
+  std::sort(missing.begin(), missing.end());
+  missing.resize(std::min(missing.size(), static_cast<std::size_t>(2 * nodes_)));
+  std::vector<Pair> edges;
+  for (const auto& [cost, edge] : missing) edges.push_back(edge);
+  return edges;
+}
+
+// Prices all pairs. How many edges joined.
+int Relaxation::price() {
+  read_duals();
+  std::vector<std::vector<std::pair<int, double>>> sets(nodes_);
+  int number = 0;
+  for (std::size_t row = 0; row < cuts_.size(); row++) {
+    if (cut_duals_[row] < 1e-9) continue;
+    for (const NodeSet& set : pool_[cuts_[row]].sets) {
+      for (const int v : set) sets[v].emplace_back(number, cut_duals_[row]);
+      number++;
+    }
+  }
+  const std::vector<Pair> edges = missing_edges(sets);
+  add_edges(edges);
+  return static_cast<int>(edges.size());
+}
+
+void Relaxation::read_solution() {
+  const double* values = program_.getColSolution();
+  solution_.assign(values + kElastic, values + kElastic + columns());
+  support_.assign(nodes_, {});
+  for (int column = 0; column < columns(); column++) {
+    if (solution_[column] <= 1e-7) continue;
+    const double value = solution_[column] > 1 - 1e-7 ? 1 : solution_[column];
+    const auto [i, j] = edges_[column];
+    support_[i].push_back({j, value}), support_[j].push_back({i, value});
+  }
+  for (std::size_t row = 0; row < cuts_.size(); row++)
+    ages_[row] = cut_duals_[row] > 1e-7 ? 0 : ages_[row] + 1;
+}
+
+void Relaxation::solve() {
+  do {
+    optimize();
+  } while (price() > 0);
+  read_solution();
+}
+
+std::vector<std::array<double, 2>> Relaxation::try_branches(const std::vector<int>& tried, int iterations) {
+  const int rows = program_.numberRows(), all = program_.numberColumns();
+  const std::vector<unsigned char> status(program_.statusArray(), program_.statusArray() + rows + all);
+  double* const places[] = {program_.primalColumnSolution(), program_.primalRowSolution(),
+                            program_.dualColumnSolution(), program_.dualRowSolution()};
+  const int sizes[] = {all, rows, all, rows};
+  std::vector<std::vector<double>> saved;
+  for (int k = 0; k < 4; k++) saved.emplace_back(places[k], places[k] + sizes[k]);
+  std::vector<std::array<double, 2>> gains;
+  program_.setMaximumIterations(iterations);
+  for (const int column : tried) {
+    std::array<double, 2> gain{};
+    for (int side = 0; side < 2; side++) {
+      program_.setColumnBounds(column + kElastic, side, side);
+      program_.dual(0);
+      gain[side] = std::max(0.0, program_.objectiveValue() * unit_ + offset() - value_);
+      program_.setColumnBounds(column + kElastic, 0, 1);
+      std::copy(status.begin(), status.end(), program_.statusArray());
+      double* const now[] = {program_.primalColumnSolution(), program_.primalRowSolution(),
+                             program_.dualColumnSolution(), program_.dualRowSolution()};
+      for (int k = 0; k < 4; k++) std::copy(saved[k].begin(), saved[k].end(), now[k]);
+    }
+    gains.push_back(gain);
+  }
+  program_.setMaximumIterations(INT_MAX);
+  return gains;
+}

@@ -1,0 +1,72 @@
+// The linear program over the edges: degrees of 2, and the rows of cuts in inner form. Edges join by
+// exact pricing over all pairs, rows that have long been slack are dropped, and elastic columns keep
+// it feasible. Clp solves it.
+// Source: D. Applegate, R. Bixby, V. Chvatal and W. Cook, The Traveling Salesman Problem (2006).
+#pragma once
+#include <array>
+#include <coin/ClpSimplex.hpp>
+#include <unordered_map>
+
+#include "cut_pool.h"
+
+// A pair of nodes that is used, or isn't.
+struct Decision {
+  Pair pair;
+  bool used;
+};
+
+class Relaxation {
+ public:
+  Relaxation(const Matrix& weights, const CutPool& pool, const Tour& tour);
+  void add_edges(const std::vector<Pair>& edges);
+  void add_cuts(const std::vector<int>& cuts);
+  void decide(const Decision& decision);
+  void release(const Pair& pair);
+  // Drops the slack rows that were slack in more solutions than this in a row.
+  void purge(int age);
+  void solve();
+
+  double value() const { return value_; }
+  const Graph& support() const { return support_; }
+  bool has(int cut) const { return row_of_.count(cut) > 0; }
+  const std::vector<int>& cuts() const { return cuts_; }
+  // Duals at the weights' own unit: of the degrees, and of the cuts in their order, from 0 on.
+  double node_dual(int node) const { return node_duals_[node] * unit_ + static_cast<double>(least_) / 2; }
+  double cut_dual(std::size_t row) const { return cut_duals_[row] * unit_; }
+
+  int columns() const { return static_cast<int>(edges_.size()); }
+  const Pair& edge(int column) const { return edges_[column]; }
+  double solution(int column) const { return solution_[column]; }
+  // What each direction of a branch on a column brings, by at most so many dual iterations.
+  std::vector<std::array<double, 2>> try_branches(const std::vector<int>& columns, int iterations);
+
+ private:
+  // The program takes the weights less the least one. A tour has as many edges as nodes.
+  double offset() const { return static_cast<double>(least_) * nodes_; }
+  struct Place {
+    int node, column;
+  };
+  void begin();
+  void optimize();
+  int price();
+  void read_duals();
+  void read_solution();
+  void set_bounds(const Pair& pair, double low, double high);
+  std::vector<std::vector<Pair>> memberships() const;
+  std::vector<Pair> missing_edges(const std::vector<std::vector<std::pair<int, double>>>& sets) const;
+
+  const Matrix& weights_;
+  const CutPool& pool_;
+  int nodes_;
+  Weight least_ = 0;
+  double unit_ = 1, penalty_ = 1;
+  ClpSimplex program_;
+  std::vector<Pair> edges_;
+  std::vector<std::vector<Place>> adjacent_;
+  std::vector<char> present_;
+  std::vector<int> cuts_, ages_;
+  std::unordered_map<int, int> row_of_;
+  std::vector<double> solution_, node_duals_, cut_duals_;
+  Graph support_;
+  double value_ = 0;
+};

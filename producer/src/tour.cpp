@@ -1,0 +1,43 @@
+#include "tour.h"
+
+#include <algorithm>
+#include <set>
+
+Weight length_of(const Matrix& weights, const Tour& tour) {
+  Weight sum = 0;
+  for (auto [i, j] : edges_of(tour)) sum += weights(i, j);
+  return sum;
+}
+
+std::vector<Pair> edges_of(const Tour& tour) {
+  std::vector<Pair> edges;
+  edges.reserve(tour.size());
+  for (std::size_t k = 0; k < tour.size(); k++) {
+    edges.push_back(std::minmax(tour[k], tour[k + 1 == tour.size() ? 0 : k + 1]));
+  }
+  return edges;
+}
+
+bool uses(const Tour& tour, const std::vector<Pair>& pairs) {
+  const std::vector<Pair> edges = edges_of(tour);
+  const std::set<Pair> used(edges.begin(), edges.end());
+  return std::all_of(pairs.begin(), pairs.end(), [&](const Pair& pair) { return used.count(pair) > 0; });
+}
+
+Neighbours nearest(const Matrix& weights, int count) {
+  const int nodes = weights.nodes();
+  count = std::min(count, nodes - 1);
+  Neighbours lists(nodes);
+  std::vector<int> others;
+  for (int i = 0; i < nodes; i++) {
+    others.clear();
+    for (int j = 0; j < nodes; j++) {
+      if (j != i) others.push_back(j);
+    }
+    const Weight* row = weights.row(i);
+    std::partial_sort(others.begin(), others.begin() + count, others.end(),
+                      [&](int a, int b) { return row[a] != row[b] ? row[a] < row[b] : a < b; });
+    lists[i].assign(others.begin(), others.begin() + count);
+  }
+  return lists;
+}

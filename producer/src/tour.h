@@ -1,0 +1,35 @@
+// Weights between nodes, tours, and the nearest neighbours of each node. Nodes count from 0.
+#pragma once
+#include <cstdint>
+#include <utility>
+#include <vector>
+
+using Weight = std::int64_t;
+using Tour = std::vector<int>;
+using NodeSet = std::vector<int>;
+using Pair = std::pair<int, int>;
+using Neighbours = std::vector<std::vector<int>>;
+
+// A symmetric matrix of weights.
+class Matrix {
+ public:
+  explicit Matrix(int nodes) : nodes_(nodes), cells_(static_cast<std::size_t>(nodes) * nodes, 0) {}
+  int nodes() const { return nodes_; }
+  const Weight* row(int i) const { return &cells_[static_cast<std::size_t>(i) * nodes_]; }
+  Weight* mutable_row(int i) { return &cells_[static_cast<std::size_t>(i) * nodes_]; }
+  Weight operator()(int i, int j) const { return row(i)[j]; }
+  void set(int i, int j, Weight weight) {
+    cells_[static_cast<std::size_t>(i) * nodes_ + j] = weight;
+    cells_[static_cast<std::size_t>(j) * nodes_ + i] = weight;
+  }
+
+ private:
+  int nodes_;
+  std::vector<Weight> cells_;
+};
+
+Weight length_of(const Matrix& weights, const Tour& tour);
+std::vector<Pair> edges_of(const Tour& tour);
+// Whether a tour uses all these pairs.
+bool uses(const Tour& tour, const std::vector<Pair>& pairs);
+Neighbours nearest(const Matrix& weights, int count);

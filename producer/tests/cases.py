@@ -1,0 +1,242 @@
+#!/usr/bin/env python3
+"""Runs one case of the producer's tests: cases.py CASE TSP_CERTIFY TSP
+
+The proved program TSP judges each certificate. A wrong answer ends the case with status 1.
+"""
+
+import os
+import random
+import shutil
+import signal
+import subprocess
+import sys
+import tempfile
+import time
+from itertools import permutations
+from pathlib import Path
+
+CERTIFY, TSP = (os.path.abspath(path) for path in sys.argv[2:4])
+POINTS = ["EUC_2D", "CEIL_2D", "MAN_2D", "MAX_2D", "ATT"]
+SPACE = ["EUC_3D", "MAN_3D", "MAX_3D"]
+
+
+def need(holds, what):
+    if not holds:
+        sys.exit(f"FAILED: {what}")
+
+
+def certify(*words, status=0):
+    """What tsp-certify writes on standard error; it has to end with this status."""
+    done = subprocess.run([CERTIFY, *words, "--tsp", TSP], capture_output=True, text=True, timeout=250)
+    need(done.returncode == status, f"{words}: status {done.returncode} and not {status}: {done.stderr}")
+    return done.stderr
+
+
+def judged(instance, tour="out.tour", certificate="out.branches"):
+    """The lines of the report as a dictionary."""
+    words = [TSP, "check", instance, tour, "--branches", certificate]
+    done = subprocess.run(words, capture_output=True, text=True, timeout=60)
+    need(done.returncode == 0, f"tsp check {instance}: {done.stdout}{done.stderr}")
+    return {line.partition(" ")[0]: line.partition(" ")[2] for line in done.stdout.splitlines()}
+
+
+def need_optimal(instance, *words):
+    certify(instance, "-o", "out.branches", "--tour-out", "out.tour", *words)
+    report = judged(instance)
+    need("optimal" in report, f"{instance}: not optimal: {report}")
+    return int(report["length"])
+
+
+def write(name, kind, lines):
+    text = ["TYPE : TSP", f"DIMENSION : {lines[0]}", f"EDGE_WEIGHT_TYPE : {kind}", *lines[1:], "EOF"]
+    Path(name).write_text("\n".join(map(str, text)) + "\n")
+
+
+def write_points(name, kind, nodes, chance, *more, side=1000, places=0):
+    axes = 3 if kind.endswith("3D") else 2
+    rows = [
+        f"{v} " + " ".join(f"{chance.uniform(0, side):.{places}f}" for _ in range(axes)) for v in range(1, nodes + 1)
+    ]
+    write(name, kind, [nodes, "NODE_COORD_SECTION", *rows, *more])
+
+
+def write_matrix(name, layout, nodes, chance, low, high):
+    """Writes a symmetric matrix, and returns it."""
+    matrix = [[0] * nodes for _ in range(nodes)]
+    for i in range(nodes):
+        for j in range(i):
+            matrix[i][j] = matrix[j][i] = chance.randint(low, high)
+    rows = {
+        "FULL_MATRIX": matrix,
+        "UPPER_ROW": [row[i + 1 :] for i, row in enumerate(matrix)],
+        "LOWER_DIAG_ROW": [row[: i + 1] for i, row in enumerate(matrix)],
+        "UPPER_COL": [row[:i] for i, row in enumerate(matrix)],
+    }[layout]
+    lines = [" ".join(map(str, row)) for row in rows if row]
+    write(name, "EXPLICIT", [nodes, f"EDGE_WEIGHT_FORMAT : {layout}", "EDGE_WEIGHT_SECTION", *lines])
+    return matrix
+
+
+def weights():
+    for kind in POINTS + SPACE:
+        for nodes, places in ((10, 9), (35, 3), (60, 0)):
+            write_points("a.tsp", kind, nodes, random.Random(f"{kind} {nodes}"), places=places)
+            need_optimal("a.tsp")
+
+
+def fixed():
+    chance = random.Random(5)
+    for nodes in (10, 30, 50):
+        order = chance.sample(range(1, nodes + 1), nodes)
+        pairs = [f"{a} {b}" for a, b in zip(order[: nodes // 2 : 3], order[1 : nodes // 2 : 3])]
+        write_points("a.tsp", "EUC_2D", nodes, chance, "FIXED_EDGES_SECTION", *pairs, pairs[0], "-1")
+        need_optimal("a.tsp")
+    every = [f"{a} {a % 12 + 1}" for a in range(1, 13)]
+    write_points("a.tsp", "EUC_2D", 12, chance, "FIXED_EDGES_SECTION", *every, "-1")
+    need_optimal("a.tsp")
+
+
+def small():
+    """Against all orders of the nodes."""
+    for nodes in range(3, 10):
+        matrix = write_matrix("a.tsp", "FULL_MATRIX", nodes, random.Random(nodes), -50, 50)
+        tours = ((0, *order) for order in permutations(range(1, nodes)))
+        least = min(sum(matrix[tour[k - 1]][tour[k]] for k in range(nodes)) for tour in tours)
+        need(need_optimal("a.tsp") == least, f"{nodes} nodes: another length than {least}")
+
+
+def matrix():
+    ranges = [(1, 10**6), (0, 3), (-(10**6), 10**6), (10**12 - 1000, 10**12)]
+    for layout, (low, high) in zip(["FULL_MATRIX", "UPPER_ROW", "LOWER_DIAG_ROW", "UPPER_COL"], ranges):
+        write_matrix("a.tsp", layout, 40, random.Random(layout), low, high)
+        need_optimal("a.tsp")
+    write_matrix("a.tsp", "UPPER_ROW", 20, random.Random(1), 7, 7)
+    need_optimal("a.tsp")
+
+
+def random_points():
+    chance = random.Random(77)
+    for nodes in (10, 20, 40, 60, 100, 150):
+        write_points("a.tsp", "EUC_2D", nodes, chance, side=10**6)
+        need_optimal("a.tsp")
+    write_points("a.tsp", "EUC_2D", 50, chance, side=3)  # many points at one place
+    need_optimal("a.tsp")
+
+
+def named_tour():
+    """A bad tour that is named is made shorter, and without --tour-out it is bounded."""
+    write_points("a.tsp", "EUC_2D", 40, random.Random(8))
+    Path("bad.tour").write_text("TYPE : TOUR\nTOUR_SECTION\n" + "\n".join(map(str, range(1, 41))) + "\n-1\nEOF\n")
+    certify("a.tsp", "bad.tour", "-o", "out.branches", "--tour-out", "out.tour")
+    report, bad = judged("a.tsp"), judged("a.tsp", "bad.tour")
+    need("optimal" in report, f"not optimal: {report}")
+    need(bad["bound"] == report["length"] and int(bad["gap"]) > 0, f"no bound of the bad tour: {bad}")
+    said = certify("a.tsp", "bad.tour", "-o", "out.branches")
+    need("a shorter tour" in said, f"nothing is said of the shorter tour: {said}")
+    certify("a.tsp", "out.tour", "-o", "again.branches")
+    need("optimal" in judged("a.tsp", "out.tour", "again.branches"), "the optimal tour isn't kept")
+
+
+def upper():
+    """A bound that is asked for is reached."""
+    write_points("a.tsp", "EUC_2D", 60, random.Random(9))
+    length = need_optimal("a.tsp")
+    certify("a.tsp", "out.tour", "-o", "out.branches", "--upper", str(length - 20))
+    need(length - 20 <= int(judged("a.tsp")["bound"]) <= length, "the bound that was asked for isn't reached")
+
+
+def time_limit():
+    """A second is too short, and the file has a bound all the same."""
+    write_points("a.tsp", "EUC_2D", 400, random.Random(10), side=10**6)
+    said = certify("a.tsp", "-o", "out.branches", "--tour-out", "out.tour", "--seconds", "1")
+    report = judged("a.tsp")
+    need("a gap of" in said and report.get("gap", "0") in said, f"the gap isn't told: {said}")
+    need(int(report["bound"]) > 0.9 * int(report["length"]), f"a poor bound: {report}")
+
+
+def same_bytes():
+    write_points("a.tsp", "EUC_2D", 120, random.Random(11), side=10**6)
+    texts = []
+    for name in ("one", "two"):
+        certify("a.tsp", "-o", f"{name}.branches", "--tour-out", f"{name}.tour", "--seconds", "0", "--seed", "4")
+        texts.append((Path(f"{name}.branches").read_bytes(), Path(f"{name}.tour").read_bytes()))
+    need(texts[0] == texts[1], "the same seed gives other bytes")
+
+
+def interrupt():
+    write_points("a.tsp", "EUC_2D", 700, random.Random(12), side=10**6)
+    words = [CERTIFY, "a.tsp", "-o", "out.branches", "--tour-out", "out.tour", "--seconds", "0", "--tsp", TSP]
+    with subprocess.Popen(words, stderr=subprocess.PIPE) as process:
+        time.sleep(3)
+        process.send_signal(signal.SIGINT)
+        process.communicate(timeout=120)
+    need(process.returncode == 130, f"status {process.returncode} after SIGINT")
+    need("bound" in judged("a.tsp"), "no bound after SIGINT")
+
+
+def bad_input():
+    chance = random.Random(13)
+    write_points("a.tsp", "EUC_2D", 12, chance)
+    text = Path("a.tsp").read_text()
+    Path("rows.atsp").write_text(
+        "TYPE:ATSP\nDIMENSION:3\nEDGE_WEIGHT_TYPE:EXPLICIT\nEDGE_WEIGHT_FORMAT:FULL_MATRIX\n"
+        "EDGE_WEIGHT_SECTION\n0 1 2 3 0 4 5 6 0\nEOF\n"
+    )
+    Path("odd.tsp").write_text(Path("rows.atsp").read_text().replace("ATSP", "TSP"))
+    Path("cut.tsp").write_text(text[: len(text) // 2])
+    Path("star.tsp").write_text(text.replace("EOF", "FIXED_EDGES_SECTION\n1 2\n1 3\n1 4\n-1\nEOF"))
+    Path("ring.tsp").write_text(text.replace("EOF", "FIXED_EDGES_SECTION\n1 2\n2 3\n3 1\n-1\nEOF"))
+    Path("two.tsp").write_text("TYPE:TSP\nDIMENSION:2\nEDGE_WEIGHT_TYPE:EUC_2D\nNODE_COORD_SECTION\n1 0 0\n2 1 1\nEOF\n")
+    Path("short.tour").write_text("TYPE : TOUR\nTOUR_SECTION\n1 2 3 -1\nEOF\n")
+    out = ["-o", "out.branches"]
+    both = [*out, "--tour-out", "out.tour"]
+    faults = [
+        (["rows.atsp", *both], "ATSP"),
+        (["odd.tsp", *both], "symmetric"),
+        (["cut.tsp", *both], "convert"),
+        (["none.tsp", *both], "convert"),
+        (["star.tsp", *both], "no tour uses all fixed edges"),
+        (["ring.tsp", *both], "no tour uses all fixed edges"),
+        (["two.tsp", *both], "three nodes"),
+        (["a.tsp", "short.tour", *out], "no tour of the instance"),
+        (["a.tsp", "a.tsp", *out], "TYPE TOUR"),
+        (["a.tsp", *out], "--tour-out"),
+        (["a.tsp"], "-o"),
+        ([], "instance"),
+        (["a.tsp", *both, "--seconds", "x"], "number"),
+        (["a.tsp", *both, "--wrong"], "--wrong"),
+        (["a.tsp", "-o", "no/folder/out", "--tour-out", "out.tour"], "no/folder/out"),
+    ]
+    for words, part in faults:
+        need(part in certify(*words, status=2), f"{words}: the fault doesn't tell of {part}")
+
+
+def finding_tsp():
+    """tsp is looked for on PATH, and in the folders above the program."""
+    write_points("a.tsp", "EUC_2D", 12, random.Random(14))
+    os.makedirs("above/here")
+    shutil.copy(CERTIFY, "above/here")
+    words = [os.path.abspath("above/here/tsp-certify"), "a.tsp", "-o", "out.branches", "--tour-out", "out.tour"]
+    for place, path in ((None, "/nowhere"), ("above", "/nowhere"), ("on-path", os.path.abspath("on-path"))):
+        if place:
+            os.makedirs(place, exist_ok=True)
+            os.symlink(TSP, f"{place}/tsp")
+        done = subprocess.run(words, capture_output=True, text=True, env={"PATH": path}, timeout=100)
+        need(done.returncode == (0 if place else 2), f"tsp in {place}: {done.stderr}")
+        need(place or "--tsp" in done.stderr, f"no word of a missing tsp: {done.stderr}")
+        if place:
+            os.remove(f"{place}/tsp")
+
+
+CASES = [weights, fixed, small, matrix, named_tour, upper, time_limit, same_bytes, interrupt, bad_input, finding_tsp]
+
+
+def main():
+    cases = {case.__name__: case for case in CASES} | {"random": random_points}
+    with tempfile.TemporaryDirectory() as folder:
+        os.chdir(folder)
+        cases[sys.argv[1]]()
+
+
+if __name__ == "__main__":
+    main()
