@@ -62,6 +62,9 @@ KNOWN = {"NAME", "COMMENT", "TYPE", "DIMENSION", "CAPACITY", "SCALE", "EDGE_WEIG
 KNOWN |= {"EDGE_WEIGHT_FORMAT", "NODE_COORD_TYPE", "DISPLAY_DATA_TYPE"}
 
 
+DISTANCES = {"EUC_2D", "CEIL_2D", "MAN_2D", "MAX_2D", "ATT", "EUC_3D", "MAN_3D", "MAX_3D"}
+
+
 def whole(word: str) -> int:
     number = Fraction(word)
     if number.denominator != 1:
@@ -133,11 +136,13 @@ def costs_of(fields: Fields, count: int) -> Weight:
         if next(listed, None) is not None:
             refuse("more weights than the layout has")
         return lambda i, j: matrix[i, j] if (i, j) in matrix else matrix.get((j, i), 0)
+    need(kind in DISTANCES)
     axes = 3 if kind.endswith("_3D") else 2
     group = 4 if axes == 3 or fields.get("NODE_COORD_TYPE", [""])[0] == "THREED_COORDS" else 3
     words, points = fields["NODE_COORD_SECTION"][: group * count], {}
     for at in range(0, group * count, group):
         exact = [Fraction(word) * BILLION for word in words[at + 1 : at + 1 + axes]]
+        need(all(number.denominator == 1 for number in exact))
         points[whole(words[at])] = [int(number) for number in exact]
     return lambda i, j: rounded(kind, [abs(a - b) for a, b in zip(points[i], points[j])])
 
