@@ -105,6 +105,9 @@ fn cause_of_line(look: &Look, line: u32, fault: LineFault) -> Option<&'static st
         LineFault::StrayNumber if line == 1 && has_comma(look.excerpt.marked()) => Some(
             "This looks like CSV. A file of TSPLIB begins with lines as TYPE : TSP, and has blanks between numbers.",
         ),
+        LineFault::StrayNumber if line == 1 && words_in(look.excerpt.after()) == 2 => Some(
+            "This looks like points without keywords. A file of TSPLIB begins with lines as TYPE : TSP.",
+        ),
         LineFault::StrayNumber if line == 1 => Some(
             "This may be a list of nodes without keywords, as Concorde writes a tour (.sol):\n\
              docs/certificates.md has a recipe.",
@@ -124,6 +127,19 @@ fn cause_of_line(look: &Look, line: u32, fault: LineFault) -> Option<&'static st
             ),
         _ => None,
     }
+}
+
+/// How many words a text has.
+fn words_in(text: &[u8]) -> u32 {
+    let mut count = 0u32;
+    let mut is_in_word = false;
+    'bytes: for byte in text {
+        if !is_blank(*byte) && !is_in_word {
+            count = count.saturating_add(1);
+        }
+        is_in_word = !is_blank(*byte);
+    }
+    count
 }
 
 /// Whether a word has a comma.

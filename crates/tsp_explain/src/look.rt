@@ -188,7 +188,9 @@ impl Look {
             Keyword::EdgeDataFormat | Keyword::EdgeDataSection => self.field = None,
             Keyword::Unknown => {
                 self.field = None;
-                if self.near.is_empty() && is_near(keyword, sought_word(self.sought)) {
+                let word = sought_word(self.sought);
+                let is_meant = is_near(keyword, word) || is_in_other_letters(keyword, word);
+                if self.near.is_empty() && is_meant {
                     self.near_line = self.line.number;
                     let _ = self.near.try_extend_from_slice(keyword);
                 }
