@@ -43,6 +43,24 @@ fn kind_of(head: &[u8]) -> Option<&'static str> {
             "The file begins with a byte order mark, the bytes 239 187 191. Take it off: tail -c +4 FILE.",
         );
     }
+    if head.starts_with(b"{") || head.starts_with(b"[") {
+        return Some(
+            "The file begins as JSON does. A file of TSPLIB begins with lines as TYPE : TSP.",
+        );
+    }
+    if head.starts_with(b"<!") || head.starts_with(b"<html") || head.starts_with(b"<HTML") {
+        return Some(
+            "The file begins as HTML does: a download may have failed. A file of TSPLIB begins with lines as TYPE : TSP.",
+        );
+    }
+    if head.starts_with(b"<") {
+        return Some(
+            "The file begins as XML does. A file of TSPLIB begins with lines as TYPE : TSP.",
+        );
+    }
+    if head.starts_with(b"#") {
+        return Some("TSPLIB has no comments with #. Write a line COMMENT : .. instead.");
+    }
     match head.first() {
         Some(byte) if !is_usual(*byte) => {
             Some("The file's first byte is no letter, digit or blank. Is it a text?")
@@ -80,6 +98,16 @@ fn cause_of_line(look: &Look, line: u32, fault: LineFault) -> Option<&'static st
             "This is how CVRPLIB writes routes. They leave the depot out and count customers from 1:\n\
              docs/certificates.md has a recipe.",
         ),
+        LineFault::StrayNumber if line == 1 && look.excerpt.after().starts_with(b" ->") => Some(
+            "This looks like the routes of OR-Tools, whose nodes count from 0.\n\
+             A file of TSPLIB begins with lines as TYPE : TOUR, and its nodes count from 1.",
+        ),
+        LineFault::StrayNumber if line == 1 && has_comma(look.excerpt.marked()) => Some(
+            "This looks like CSV. A file of TSPLIB begins with lines as TYPE : TSP, and has blanks between numbers.",
+        ),
+        LineFault::StrayNumber if line == 1 && words_in(look.excerpt.after()) == 2 => Some(
+            "This looks like points without keywords. A file of TSPLIB begins with lines as TYPE : TSP.",
+        ),
         LineFault::StrayNumber if line == 1 => Some(
             "This may be a list of nodes without keywords, as Concorde writes a tour (.sol):\n\
              docs/certificates.md has a recipe.",
@@ -88,8 +116,40 @@ fn cause_of_line(look: &Look, line: u32, fault: LineFault) -> Option<&'static st
             if look.excerpt.marked() == b"0".as_slice() && look.field == Some(Field::TourPart) => {
             Some("Nodes count from 1. Some programs count them from 0: add 1 to each node then.")
         }
+        LineFault::Number(NumberFault::TooFine) if look.field == Some(Field::NodeCoordPart) => Some(
+            "Write the coordinates with 9 decimals, or multiply all of them by a power of 10.\n\
+             Both change the instance, so say so in a COMMENT.",
+        ),
+        LineFault::Number(NumberFault::NotWhole) if look.field == Some(Field::EdgeWeightPart) =>
+            Some(
+                "Round the weights, or multiply all of them by a power of 10.\n\
+             Both change the instance, so say so in a COMMENT.",
+            ),
         _ => None,
     }
+}
+
+/// How many words a text has.
+fn words_in(text: &[u8]) -> u32 {
+    let mut count = 0u32;
+    let mut is_in_word = false;
+    'bytes: for byte in text {
+        if !is_blank(*byte) && !is_in_word {
+            count = count.saturating_add(1);
+        }
+        is_in_word = !is_blank(*byte);
+    }
+    count
+}
+
+/// Whether a word has a comma.
+fn has_comma(word: &[u8]) -> bool {
+    'bytes: for byte in word {
+        if *byte == b',' {
+            return true;
+        }
+    }
+    false
 }
 
 /// Whether a line is one of CVRPLIB's.

@@ -50,6 +50,11 @@ impl Excerpt {
         self.marked.as_slice()
     }
 
+    /// The bytes after the marked ones.
+    pub(crate) fn after(&self) -> &[u8] {
+        self.after.as_slice()
+    }
+
     /// Appends the line's text, and below it marks under a word.
     pub(crate) fn push_to(&self, text: &mut Vec<u8>, is_word: bool) -> Result<(), AllocError> {
         begin(text)?;

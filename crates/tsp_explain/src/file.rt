@@ -1,15 +1,16 @@
 //! Why a file isn't read: the place, the rule, and a likely cause.
 
 use crate::cause::cause;
+use crate::guess::{guess_at, push_guess};
 use crate::look::{Look, Sought, look_for};
 use crate::sentences::{end_sentence, line_sentence};
-use crate::text::{begin, end, push, push_lines, push_number};
+use crate::text::{begin, end, push, push_lines, push_number, push_shown};
 use crate::wanted::{asked, group, wanted};
 use std::alloc::{AllocError, Global};
 use std::io;
 use std::io::Read;
 use tsp_draft::EndFault;
-use tsp_format::Field;
+use tsp_format::{Field, Word};
 use tsp_text::{LineFault, ReadFault};
 
 /// Appends why a file isn't read. `name` is what the user calls it, and `again` the file opened once
@@ -74,12 +75,59 @@ fn explain_seen(
     {
         seen.excerpt.push_to(text, word > 0)?;
     }
+    let cause = cause(seen, fault);
+    match (cause, guess_at(seen, fault), fault) {
+        (
+            None,
+            Some(guess),
+            ReadFault::Line {
+                line: _,
+                word: _,
+                fault,
+            },
+        ) => push_guess(text, guess, seen, fault),
+        _ => push_rules(text, seen, fault, cause),
+    }
+}
+
+/// Appends the rule that is broken, what is counted, and the likely cause.
+fn push_rules(
+    text: &mut Vec<u8>,
+    seen: &Look,
+    fault: ReadFault,
+    cause: Option<&'static str>,
+) -> Result<(), AllocError> {
     push_rule(text, fault, seen.field)?;
     push_counts(text, seen, fault)?;
-    match cause(seen, fault) {
+    match cause {
         Some(cause) => push_lines(text, cause),
-        None => Ok(()),
+        None => push_near(text, seen, fault),
     }
+}
+
+/// Appends which unknown keyword may have been meant as the one that is missing.
+fn push_near(text: &mut Vec<u8>, seen: &Look, fault: ReadFault) -> Result<(), AllocError> {
+    let field = match fault {
+        ReadFault::Line {
+            line: _,
+            word: _,
+            fault: LineFault::SectionEarly,
+        } => Field::DimensionKey,
+        ReadFault::End(EndFault::Missing(field)) => field,
+        _ => return Ok(()),
+    };
+    if seen.near.is_empty() {
+        return Ok(());
+    }
+    begin(text)?;
+    push(text, "Line ")?;
+    push_number(text, seen.near_line)?;
+    push(text, " has ")?;
+    push_shown(text, seen.near.as_slice())?;
+    push(text, ": did you mean ")?;
+    push(text, field.word())?;
+    push(text, "?")?;
+    end(text)
 }
 
 /// Appends the explanation of a file that can't be read a second time, with what the system says.
@@ -195,9 +243,33 @@ fn push_counts(text: &mut Vec<u8>, seen: &Look, fault: ReadFault) -> Result<(), 
             begin(text)?;
             push(text, "There are ")?;
             push_number(text, seen.words)?;
-            push_nodes(text, " weights, and n is ", nodes)
+            push_nodes(text, " weights, and n is ", nodes)?;
+            push_layouts(text, seen.words, nodes)
         }
         _ => Ok(()),
+    }
+}
+
+/// Appends which layouts list so many weights of so many nodes.
+fn push_layouts(text: &mut Vec<u8>, weights: u64, nodes: i64) -> Result<(), AllocError> {
+    match layouts_with(i64::try_from(weights).unwrap_or(i64::MAX), nodes) {
+        Some(layouts) => push_lines(text, layouts),
+        None => Ok(()),
+    }
+}
+
+/// The layouts that list so many weights of so many nodes, where there are some.
+fn layouts_with(weights: i64, nodes: i64) -> Option<&'static str> {
+    let all = nodes.saturating_mul(nodes);
+    let twice = weights.saturating_mul(2);
+    if weights == all {
+        Some("FULL_MATRIX has as many.")
+    } else if twice == all.saturating_sub(nodes) {
+        Some("UPPER_ROW, LOWER_ROW, UPPER_COL and LOWER_COL have as many.")
+    } else if twice == all.saturating_add(nodes) {
+        Some("UPPER_DIAG_ROW, LOWER_DIAG_ROW, UPPER_DIAG_COL and LOWER_DIAG_COL have as many.")
+    } else {
+        None
     }
 }
 

@@ -3,6 +3,7 @@
 ghost use Rattle.std.specs.Prelude.{◌≤◌, length};
 
 use crate::excerpt::Excerpt;
+use crate::near::{is_in_other_letters, is_near};
 use arrayvec::ArrayVec;
 use std::io;
 use std::io::Read;
@@ -50,6 +51,8 @@ pub(crate) struct Look {
     pub(crate) excerpt: Excerpt,
     /// The field of the last word line, up to the line that was looked for and with it.
     pub(crate) field: Option<Field>,
+    /// The field before the last word line.
+    pub(crate) open: Option<Field>,
     /// The value of DIMENSION, where such a line was seen.
     pub(crate) dimension: Option<i64>,
     /// Whether a line says that each node has three coordinates.
@@ -58,6 +61,10 @@ pub(crate) struct Look {
     pub(crate) words: u64,
     /// Whether the keyword that was looked for stands there in other letters, as `type`.
     pub(crate) has_small_letters: bool,
+    /// The first unknown keyword that is near the one that is missing.
+    pub(crate) near: ArrayVec<u8, 40>,
+    /// The line that has it.
+    pub(crate) near_line: u32,
     /// Whether a byte 13 stands anywhere but before a byte 10 or at the end.
     pub(crate) has_returns: bool,
     /// The last byte.
@@ -102,10 +109,13 @@ impl Look {
             head: ArrayVec::new(),
             excerpt: Excerpt::new(),
             field: None,
+            open: None,
             dimension: None,
             is_spatial: false,
             words: 0,
             has_small_letters: false,
+            near: ArrayVec::new(),
+            near_line: 0,
             has_returns: false,
             last: b'\n',
             is_done: false,
@@ -164,6 +174,7 @@ impl Look {
     /// Takes the line's keyword, and its value where it is that of DIMENSION.
     fn take_keyword(&mut self) {
         let (keyword, rest) = first_run(self.line.front.as_slice());
+        self.open = self.field;
         match Keyword::of(keyword) {
             Keyword::Eof => self.is_done = true,
             Keyword::Known(field) => {
@@ -174,8 +185,15 @@ impl Look {
                     self.dimension = parse_whole(value, 1, i64::from(MOST_NODES)).ok();
                 }
             }
-            Keyword::EdgeDataFormat | Keyword::EdgeDataSection | Keyword::Unknown => {
+            Keyword::EdgeDataFormat | Keyword::EdgeDataSection => self.field = None,
+            Keyword::Unknown => {
                 self.field = None;
+                let word = sought_word(self.sought);
+                let is_meant = is_near(keyword, word) || is_in_other_letters(keyword, word);
+                if self.near.is_empty() && is_meant {
+                    self.near_line = self.line.number;
+                    let _ = self.near.try_extend_from_slice(keyword);
+                }
             }
         }
         if let Sought::Field(field) = self.sought {
@@ -230,8 +248,18 @@ impl Line {
     }
 }
 
+/// The keyword that may be missing where something is sought. At a place it is DIMENSION, which a
+/// section may come before.
+fn sought_word(sought: Sought) -> &'static [u8] {
+    match sought {
+        Sought::Field(field) => field.word().as_bytes(),
+        Sought::Place { line: _, word: _ } => b"DIMENSION",
+        Sought::Nothing => &[],
+    }
+}
+
 /// The first bytes that may stand in a keyword, and what follows them.
-fn first_run(text: &[u8]) -> (&[u8], &[u8]) {
+pub(crate) fn first_run(text: &[u8]) -> (&[u8], &[u8]) {
     'bytes: for (index, byte) in text.iter().enumerate() {
         if !is_keyword_byte(*byte) {
             return text.split_at(index);
@@ -248,9 +276,4 @@ fn after_colon(text: &[u8]) -> &[u8] {
         }
     }
     &[]
-}
-
-/// Whether the two words are the same but for small and capital letters.
-fn is_in_other_letters(left: &[u8], right: &[u8]) -> bool {
-    left.eq_ignore_ascii_case(right)
 }

@@ -1,12 +1,14 @@
 //! Why a solution is refused: the rule, and the nodes and numbers that the reason is about.
 
 use crate::sentences::reason_sentence;
-use crate::solution::{count_at_place, first_place_of, node_at, sum_of};
+use crate::solution::{
+    count_at_place, first_place_of, first_repeated, least_missing, node_at, sum_of,
+};
 use crate::text::{begin, end, push, push_lines, push_number};
 use std::alloc::AllocError;
 use tsp_cost::{Costs, Instance};
 use tsp_file::File;
-use tsp_format::Word;
+use tsp_format::{Kind, Word};
 use tsp_reason::Reason;
 
 /// Which file a reason is about.
@@ -89,11 +91,14 @@ pub fn push_details(
         ),
         Reason::TourLength => push_lengths(text, instance, solution),
         Reason::NodeOutOfRange { place } => push_node(text, place, instance, solution),
-        Reason::RepeatedNode { place } => push_repeated(text, place, solution),
-        Reason::DepotInRoute { place } => push_node(text, place, instance, solution),
+        Reason::RepeatedNode { place } => {
+            push_repeated(text, place, solution)?;
+            push_missing(text, instance, solution)
+        }
+        Reason::DepotInRoute { place } => push_depot(text, place, instance, solution),
         Reason::FixedEdgeUnused { index } => push_pair(text, index, instance),
         Reason::Overload { route } => push_load(text, route, instance, solution),
-        Reason::Unserved { node } => push_unserved(text, node),
+        Reason::Unserved { node } => say(text, &[("No route has node ", i64::from(node))]),
         Reason::TooFewNodes => say(text, &[("DIMENSION is ", nodes_of(instance))]),
         Reason::DepotCount => say(
             text,
@@ -191,8 +196,7 @@ fn push_dimensions(text: &mut Vec<u8>, instance: &File, solution: &File) -> Resu
     )
 }
 
-/// Appends how many nodes the tour has and how many the instance, and whether the tour lists its
-/// first node at its end again.
+/// Appends how many nodes the tour has and how many the instance, and which are missing or repeated.
 fn push_lengths(text: &mut Vec<u8>, instance: &File, solution: &File) -> Result<(), AllocError> {
     let Some(tour) = solution.tours().unwrap_or(&[]).first() else {
         return Ok(());
@@ -204,13 +208,77 @@ fn push_lengths(text: &mut Vec<u8>, instance: &File, solution: &File) -> Result<
             (" nodes, and DIMENSION is ", nodes_of(instance)),
         ],
     )?;
-    if tour.len() > 1 && tour.first() == tour.last() {
+    let nodes = nodes_of(instance);
+    if count_of(tour.len()) < nodes {
+        push_missing(text, instance, solution)
+    } else if tour.len() > 1
+        && count_of(tour.len()) == nodes.saturating_add(1)
+        && tour.first() == tour.last()
+    {
         push_lines(
             text,
             "Its first node stands at its end again: leave it out there.",
         )
     } else {
-        Ok(())
+        match first_repeated(tour) {
+            Some(place) => push_repeated(text, place, solution),
+            None => Ok(()),
+        }
+    }
+}
+
+/// Appends the least node of the instance that the tours don't have. The depot isn't missing.
+fn push_missing(text: &mut Vec<u8>, instance: &File, solution: &File) -> Result<(), AllocError> {
+    let tours = solution.tours().unwrap_or(&[]);
+    let nodes = instance.dimension().unwrap_or(0);
+    match least_missing(tours, nodes, depot_of(instance)) {
+        None => Ok(()),
+        Some(node) => push_of_node(text, node, " is missing."),
+    }
+}
+
+/// The depot of an instance of routes.
+fn depot_of(instance: &File) -> Option<u32> {
+    match instance.kind() {
+        Kind::Cvrp => instance.depots().unwrap_or(&[]).first().copied(),
+        _ => None,
+    }
+}
+
+/// Appends a line with a node and what is so of it.
+fn push_of_node(text: &mut Vec<u8>, node: u32, words: &str) -> Result<(), AllocError> {
+    begin(text)?;
+    push(text, "Node ")?;
+    push_number(text, node)?;
+    push(text, words)?;
+    end(text)
+}
+
+/// Appends the place of a route that has the depot, and that customers may be counted from 1. No
+/// route has the last node then.
+fn push_depot(
+    text: &mut Vec<u8>,
+    place: u32,
+    instance: &File,
+    solution: &File,
+) -> Result<(), AllocError> {
+    let tours = solution.tours().unwrap_or(&[]);
+    let Some(node) = node_at(tours, place) else {
+        return Ok(());
+    };
+    say(
+        text,
+        &[("Place ", i64::from(place)), (" is node ", i64::from(node))],
+    )?;
+    let last = instance.dimension().unwrap_or(0);
+    if node == 1 && first_place_of(tours, last).is_none() {
+        push_of_node(
+            text,
+            node,
+            " is the depot. CVRPLIB counts customers from 1 without the depot: add 1 to each.",
+        )
+    } else {
+        push_of_node(text, node, " is the depot.")
     }
 }
 
@@ -290,13 +358,4 @@ fn push_load(
             ],
         ),
     }
-}
-
-/// Appends the node that no route serves.
-fn push_unserved(text: &mut Vec<u8>, node: u32) -> Result<(), AllocError> {
-    say(text, &[("No route has node ", i64::from(node))])?;
-    push_lines(
-        text,
-        "Routes of CVRPLIB count customers from 1 without the depot: add 1 to each node then.",
-    )
 }

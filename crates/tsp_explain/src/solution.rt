@@ -1,5 +1,10 @@
 //! Nodes and places of the tours of a file.
 
+use tsp_format::MOST_NODES;
+
+/// One mark for each node of the largest instance, and one for 0.
+const MARKS: usize = MOST_NODES as usize + 1;
+
 /// The element with this number, counted from 1.
 pub(crate) fn count_at_place<T: Copy>(items: &[T], number: u32) -> Option<T> {
     let index = (number as usize).checked_sub(1)?;
@@ -55,4 +60,48 @@ pub(crate) fn sum_of(tours: &[Vec<u32>], route: u32, demands: &[i64]) -> Option<
         sum = sum.saturating_add(count_at_place(demands, *node).unwrap_or(0));
     }
     Some(sum)
+}
+
+/// The least node from 1 to `nodes` that no tour has and that isn't the depot.
+pub(crate) fn least_missing(tours: &[Vec<u32>], nodes: u32, depot: Option<u32>) -> Option<u32> {
+    let mut marks = [false; MARKS];
+    'tours: for tour in tours {
+        mark(&mut marks, tour);
+    }
+    first_unmarked(&marks, nodes, depot)
+}
+
+/// Marks the nodes of a tour.
+fn mark(marks: &mut [bool], tour: &[u32]) {
+    'nodes: for node in tour {
+        if let Some(is_marked) = marks.get_mut(*node as usize) {
+            *is_marked = true;
+        }
+    }
+}
+
+/// The least node from 1 to `nodes` without a mark that isn't the depot.
+fn first_unmarked(marks: &[bool], nodes: u32, depot: Option<u32>) -> Option<u32> {
+    'nodes: for node in 1..=nodes {
+        if marks.get(node as usize).copied() == Some(false) && depot != Some(node) {
+            return Some(node);
+        }
+    }
+    None
+}
+
+/// The first place of a tour, counted from 1, whose node stands at an earlier place too.
+pub(crate) fn first_repeated(tour: &[u32]) -> Option<u32> {
+    let mut marks = [false; MARKS];
+    let mut place = 0u32;
+    'nodes: for node in tour {
+        place = place.saturating_add(1);
+        if let Some(is_marked) = marks.get_mut(*node as usize) {
+            if *is_marked {
+                return Some(place);
+            }
+            *is_marked = true;
+        }
+    }
+    None
 }
