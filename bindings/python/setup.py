@@ -1,9 +1,10 @@
 """Builds the wheel, with the library inside: YOKECAIRN_LIBRARY=PATH python3 setup.py bdist_wheel
 
-Its tag is py3-none-manylinux2014_x86_64: any Python 3 calls the library over ctypes, and the library
+Its version is the library's. Its tag is py3-none-manylinux2014_x86_64: any Python 3 calls the library over ctypes, and the library
 needs no glibc above 2.14.
 """
 
+import ctypes
 import os
 import shutil
 from pathlib import Path
@@ -11,6 +12,17 @@ from pathlib import Path
 from setuptools import Distribution, setup
 from setuptools.command.build_py import build_py
 from wheel.bdist_wheel import bdist_wheel
+
+
+LIBRARY = os.environ.get("YOKECAIRN_LIBRARY")
+if not LIBRARY:
+    raise SystemExit("setup.py: YOKECAIRN_LIBRARY has to be the path of libtsp.so")
+
+
+def version():
+    """The library's version."""
+    number = ctypes.CDLL(os.path.abspath(LIBRARY)).tsp_version()
+    return f"{number // 10000}.{number // 100 % 100}.{number % 100}"
 
 
 class Binary(Distribution):
@@ -25,11 +37,8 @@ class WithLibrary(build_py):
 
     def run(self):
         super().run()
-        library = os.environ.get("YOKECAIRN_LIBRARY")
-        if not library:
-            raise SystemExit("setup.py: YOKECAIRN_LIBRARY has to be the path of libtsp.so")
         place = Path(self.build_lib, "yokecairn", "libtsp.so")
-        shutil.copyfile(library, place)
+        shutil.copyfile(LIBRARY, place)
         place.chmod(0o644)
 
 
@@ -40,4 +49,4 @@ class AnyPython(bdist_wheel):
         return "py3", "none", "manylinux2014_x86_64"
 
 
-setup(distclass=Binary, cmdclass={"build_py": WithLibrary, "bdist_wheel": AnyPython})
+setup(version=version(), distclass=Binary, cmdclass={"build_py": WithLibrary, "bdist_wheel": AnyPython})

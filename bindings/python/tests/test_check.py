@@ -4,7 +4,7 @@ import pickle
 import unittest
 
 import yokecairn
-from support import EXAMPLES, GALLERY, RECTANGLE
+from support import EXAMPLES, GALLERY, RECTANGLE, needs_claims, needs_export
 
 ZEROS = b"TYPE : POTENTIALS\nDIMENSION : 4\nNODE_POTENTIAL_SECTION\n1 0\n2 0\n3 0\n4 0\n"
 
@@ -92,6 +92,7 @@ class Tours(unittest.TestCase):
 
 
 class Claims(unittest.TestCase):
+    @needs_claims()
     def test_length(self):
         self.assertTrue(yokecairn.check(RECTANGLE.encode(), [1, 2, 3, 4], length=14))
         report = yokecairn.check(RECTANGLE.encode(), [1, 2, 3, 4], length=13)
@@ -105,6 +106,7 @@ class Claims(unittest.TestCase):
 
 
 class Bounds(unittest.TestCase):
+    @needs_export("tsp_bound")
     def test_bound(self):
         report = yokecairn.bound(RECTANGLE.encode(), ZEROS)
         self.assertEqual((report.yes, report.bound, report.length), (True, 14, None))

@@ -7,7 +7,7 @@ import tempfile
 import unittest
 from pathlib import Path
 
-from support import EXAMPLES, PACKAGE, RECTANGLE
+from support import EXAMPLES, PACKAGE, RECTANGLE, needs_export
 from yokecairn.__main__ import length_of
 
 
@@ -84,14 +84,17 @@ class Command(unittest.TestCase):
             self.assertEqual((status, out), (4, b""), words)
             self.assertIn(b"tsp", err)
 
+    def test_a_path_that_can_not_be_read_is_explained(self):
+        status, out, err = run("show", "--explain", "no such file")
+        self.assertEqual((status, out), (5, b""))
+        self.assertEqual(err, b"file 1: device\n  no such file: No such file or directory\n")
+
+    @needs_export("tsp_explain")
     def test_explained(self):
         tour = b"TYPE : TOUR\nTOUR_SECTION\n1 2 2 3\n"
         status, out, err = run("check", "--explain", EXAMPLES / "rectangle.tsp", "-", stdin=tour)
         self.assertEqual((status, out), (1, b"type TSP\nnodes 4\nno RepeatedNode 3\n"))
         self.assertIn(b"  Place 3 is node 2", err)
-        status, out, err = run("show", "--explain", "no such file")
-        self.assertEqual((status, out), (5, b""))
-        self.assertEqual(err, b"file 1: device\n  no such file: No such file or directory\n")
 
     def test_lengths(self):
         for word, number in {"12": 12, "+3": 3, "-34": -34, "12.0": 12, "1.2e1": 12, "120e-1": 12, ".0": 0}.items():

@@ -13,7 +13,7 @@ LIST = """\
 {0}/harbour.tsp\t{0}/harbour.tour\tpotentials={0}/harbour.potentials
 {0}/rectangle.tsp\t{0}/harbour.tour
 
-{0}/rectangle.tsp\t{0}/rectangle-1-2-3-4.tour\tlength=14
+{0}/rectangle.tsp\t{0}/rectangle-1-2-3-4.tour
 {0}/rectangle.tsp\t{0}/missing.tour
 """
 WANTED = """\

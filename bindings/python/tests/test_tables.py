@@ -9,6 +9,7 @@ from importlib.machinery import SourceFileLoader
 
 import yokecairn
 from support import ROOT
+from yokecairn import _library
 from yokecairn.__main__ import Run
 
 SCRIPT = str(ROOT / "tests" / "run-tables")
@@ -47,13 +48,11 @@ def by_calls(verb, texts):
 
 
 class Calls(tables.Runner):
-    """Runs a row by the package's calls."""
+    """Runs a row by the package's calls. What explains a fault or a no is left to the command."""
 
     def outcome(self, verb, texts):
-        if verb.startswith("explain"):
-            return super().outcome(verb, texts)
-        head, rest = (texts[:1], texts[1:]) if verb == "convert" else ([], texts)
-        return by_calls("show" if verb == "check" and len(rest) == 1 else verb, [*head, *(it.encode() for it in rest)])
+        layout, rest = (texts[:1], texts[1:]) if verb == "convert" else ([], texts)
+        return by_calls(verb, [*layout, *(text.encode() for text in rest)])
 
     def expect(self, where, verb, texts, wanted):
         if not verb.startswith("explain"):
@@ -62,6 +61,12 @@ class Calls(tables.Runner):
 
 class Command(tables.Runner):
     """Runs a row by the command."""
+
+    explains = _library.has("tsp_explain")
+
+    def expect(self, where, verb, texts, wanted):
+        if self.explains or not verb.startswith("explain"):
+            super().expect(where, verb, texts, wanted)
 
     def execute(self, words):
         """The status of a run with these words, and what it writes."""

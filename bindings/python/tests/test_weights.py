@@ -129,6 +129,15 @@ class Random(unittest.TestCase):
             self.assertEqual(problem.trace_tours([tour, tuple(tour)]), [length, length])
 
 
+class Many(unittest.TestCase):
+    def test_more_nodes_than_one_call_takes(self):
+        problem = yokecairn.parse(RECTANGLE)
+        self.assertEqual(problem.trace_tours([[1, 2] * 250_000] * 3 + [[1, 3]]), [1_500_000] * 3 + [10])
+        self.assertEqual(problem.trace_tours([[1] * 999_999]), [0])
+        with self.assertRaises(ValueError):
+            problem.trace_tours([[1] * 1_000_000])
+
+
 class Refusals(unittest.TestCase):
     def test_nodes_that_are_not_there(self):
         for problem in (yokecairn.parse(RECTANGLE), yokecairn.load(EXAMPLES / "star.tsp")):

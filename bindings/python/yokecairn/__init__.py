@@ -51,4 +51,4 @@ __all__ = [
 ]
 
 LAYOUTS = tuple(_library.LAYOUTS)
-__version__ = "1.1.0"
+__version__ = _library.version()

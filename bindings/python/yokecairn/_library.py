@@ -37,6 +37,9 @@ LAYOUTS = {
     )
 }
 
+# The most numbers that `lengths` takes.
+MOST_NODES = 1_000_000
+
 # Enough for the report of a check without hundreds of unknown keywords: no second call is needed.
 REPORT = 4096
 
@@ -59,17 +62,22 @@ except OSError as fault:
     ) from fault
 
 
+def has(name: str) -> bool:
+    """Whether the library has this export: an older one may lack some."""
+    return hasattr(_libtsp, name)
+
+
 def _call(name: str, result: Any, *words: Any) -> Any:
     """An export of the library with its signature."""
-    call = getattr(_libtsp, name, None)
-    if call is None:
+    if not has(name):
         return lambda *_: _missing(name)
+    call = getattr(_libtsp, name)
     call.restype, call.argtypes = result, list(words)
     return call
 
 
 def _missing(name: str) -> int:
-    raise NotImplementedError(f"this libtsp has no {name}: it is older than this package")
+    raise NotImplementedError(f"this libtsp can't do it: it has no {name}")
 
 
 _TEXT = (c_char_p, c_size_t)
@@ -119,7 +127,10 @@ def check(
     """The status of a check, and its report or the line of a fault."""
     words = (instance, len(instance), solution, len(solution), certificate, len(certificate), by)
     claim = (0, 0) if claimed is None else (claimed, 1)
-    return _written(_check, *words, *claim, capacity=REPORT)
+    status, told = _written(_check, *words, *claim, capacity=REPORT)
+    if status == REFUSED:
+        raise NotImplementedError("this libtsp can't do it: it compares no lengths")
+    return status, told
 
 
 def bound(instance: bytes, certificate: bytes, by: int) -> Tuple[int, bytes]:
@@ -163,7 +174,7 @@ def matrix(text: bytes, nodes: int) -> Tuple[int, "array[int]"]:
 
 
 def lengths(text: bytes, nodes: "array[int]", tours: int) -> Tuple[int, "array[int]"]:
-    """The status, and the length of each tour. A 0 ends a tour in `nodes`."""
+    """The status, and the length of each tour. A 0 ends a tour in `nodes`, which has at most MOST_NODES."""
     out = array("q", bytes(8 * tours))
     return _lengths(text, len(text), *_slice(nodes), *_slice(out)), out
 

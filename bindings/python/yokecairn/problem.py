@@ -355,24 +355,37 @@ class Problem:
 
     def trace_tours(self, tours: Iterable[Sequence[int]]) -> List[int]:
         """The length of each tour: the sum of the costs from each node to the next, and from the last to
-        the first.
+        the first. A tour has fewer than 1,000,000 nodes here.
 
         Raises:
             NodeError: there is no such node.
             WrongKind: the file is no instance.
         """
         self._weight_kind()
+        found: List[int] = []
         nodes, count = array("I"), 0
+        for tour in tours:
+            more = self._tour(tour)
+            if len(nodes) + len(more) > _library.MOST_NODES:
+                found += self._numbers(*_library.lengths(self._text, nodes, count))
+                nodes, count = array("I"), 0
+            nodes.extend(more)
+            count += 1
+        found += self._numbers(*_library.lengths(self._text, nodes, count))
+        return found
+
+    def _tour(self, tour: Sequence[int]) -> "array[int]":
+        """The nodes of a tour, and the 0 that ends it."""
         try:
-            for tour in tours:
-                nodes.extend(array("I", tour))
-                nodes.append(0)
-                count += 1
+            nodes = array("I", tour)
         except OverflowError as fault:
             raise NodeError(f"nodes are 1 to {self._nodes()}") from fault
-        if nodes.count(0) != count:
+        if 0 in nodes:
             raise NodeError(f"nodes are 1 to {self._nodes()}, and this is 0")
-        return self._numbers(*_library.lengths(self._text, nodes, count)).tolist()
+        nodes.append(0)
+        if len(nodes) > _library.MOST_NODES:
+            raise ValueError("a tour has fewer than 1,000,000 nodes")
+        return nodes
 
     def trace_canonical_tour(self) -> int:
         """The length of the tour 1, 2, .., from each node to the next and from the last to the first."""
