@@ -478,19 +478,34 @@ def kicked(improver, chance, until):
     return best
 
 
+def first_tours(instance, improver, chance, seconds):
+    """Tours to begin with."""
+    if not instance.directed:
+        starts = 3 if instance.count > 7 else 1
+        return [nearest_tour(improver.rows, chance.randrange(instance.count)) for _ in range(starts)]
+    tours = [patched(improver.costs, cheapest(improver.costs))]
+    if not instance.fixed and not lopsided(instance.costs):
+        both = Instance(instance.costs + instance.costs.T, frozenset())
+        tour = find_tour(both, chance, seconds)
+        tours = [min(tour, tour[::-1], key=instance.length)]
+    return tours
+
+
+def lopsided(costs):
+    """Whether the costs in the two directions differ by more than a small part of their spread."""
+    return np.abs(costs - costs.T).mean() > 0.3 * np.abs(costs - costs.mean()).mean()
+
+
 def find_tour(instance, chance, seconds):
     """A good tour, by a few starts with kicks after each."""
-    starts = 3 if instance.count > 7 else 1
     best, length = None, inf
     improver = (ArcImprover if instance.directed else Improver)(instance, range(instance.count))
-    for _ in range(starts):
-        if instance.directed and best is None:
-            improver.tour = patched(improver.costs, cheapest(improver.costs))
-        else:
-            improver.tour = nearest_tour(improver.rows, chance.randrange(instance.count))
+    tours = first_tours(instance, improver, chance, seconds / 2)
+    for tour in tours:
+        improver.tour = tour
         improver.place_all()
         improver.improve(improver.tour)
-        tour = kicked(improver, chance, time.monotonic() + seconds / starts)
+        tour = kicked(improver, chance, time.monotonic() + seconds / (2 if instance.directed else len(tours)))
         if instance.keeps(tour) and instance.length(tour) < length:
             best, length = tour, instance.length(tour)
     if best is None:
@@ -1276,7 +1291,8 @@ class Search:
         if len(cuts) < 5 and self.is_lopsided:  # combs bring little there
             cuts += combs.first()[:40]
         elif len(cuts) < 5:
-            seeds = 30 if len(decisions) == len(self.instance.fixed) else 8
+            is_first = len(decisions) == len(self.instance.fixed)
+            seeds = 30 if is_first and not self.instance.directed else 8
             tight = [cut for cut, dual in zip(solution.cuts, solution.cut_duals) if dual > TINY]
             known = [cut.members[0].astype(bool) for cut in tight]
             cuts += combs.search(self.until, seeds, known, self.chance)[:40]
@@ -1355,11 +1371,6 @@ class Search:
             if score > best:
                 best, chosen = score, pair
         return chosen
-
-
-def lopsided(costs):
-    """Whether the costs in the two directions differ by more than a small part of their spread."""
-    return np.abs(costs - costs.T).mean() > 0.3 * np.abs(costs - costs.mean()).mean()
 
 
 class Progress:
@@ -1501,8 +1512,8 @@ SCALE_HELP = "of the numbers, 1 to 1000000 (2520); the file has a part of it whe
 def command():
     """The words of the command line."""
     parser = argparse.ArgumentParser(
-        description="Makes a certificate of TYPE BRANCHES for a TSP or an ATSP, and a tour. Only the check decides: "
-        "tsp check INSTANCE TOUR --branches OUT"
+        description="Makes a certificate of TYPE BRANCHES for a TSP or an ATSP, and a tour. Only the "
+        "check decides: tsp check INSTANCE TOUR --branches OUT"
     )
     parser.add_argument("instance", help="a file of TYPE TSP or ATSP")
     parser.add_argument("given", nargs="?", metavar="tour", help="a tour of it; else one is looked for")
@@ -1522,7 +1533,8 @@ def command():
 def report(search, first, bound, size):
     """Says what should come out, on standard error."""
     combs, leaves = size
-    say = [f"combs {combs}, leaves {leaves}", f"length {search.length}, bound {bound} as reckoned here"]
+    families = "sets and combs" if search.instance.directed else "combs"
+    say = [f"{families} {combs}, leaves {leaves}", f"length {search.length}, bound {bound} as reckoned here"]
     if search.length < first:
         say.append(f"a shorter tour than the first one was found, which is {first} long")
     if bound < search.length:
