@@ -1,4 +1,4 @@
-"""Verdicts: the worked examples of docs/examples.md."""
+"""Verdicts: the worked examples of docs/proof.md."""
 
 import pickle
 import unittest
