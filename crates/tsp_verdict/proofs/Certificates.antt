@@ -3,6 +3,7 @@ use Rattle.std.proofs.Common.{◌≡◌, ℕ, ◌-◌, ◌<◌, ◌≤◌, true,
 use Rattle.std.specs.Prelude.{◌⊎◌, ℤ, pos, IsTrue}
 use Rattle.std.specs.List.{All, AllPairs}
 use Rattle.std.proofs.lemmas.Bool.{false≢true}
+use Rattle.std.proofs.lemmas.Int.{ints}
 use Rattle.std.proofs.Math.Nat.{lt_of_not-le}
 use Rattle.tsp_format.specs.Cells.{IsNode}
 use Rattle.tsp_format.specs.declared.kinds.Kind.TheVariants as kinds
@@ -17,8 +18,10 @@ use Rattle.tsp_verdict.specs.Reasons.{NoneBefore, IsFirstReason}
 use Rattle.tsp_verdict.specs.Solution.{nodes_of, fixed_of}
 use Rattle.tsp_verdict.specs.Tours.{rank_of_tours}
 use Rattle.tsp_verdict.specs.Tours.{IsFirstAgainstTour, StandsAgainstTour}
-use Rattle.tsp_verdict.specs.Certificate.{has_wanted, multipliers_in, StandsAgainstPotentials}
-use Rattle.tsp_verdict.specs.Certified.{is_bounded, IsBoundBy, StandsAgainstCertificate, StandsAgainstCertified, IsFirstAgainstCertified}
+use Rattle.tsp_file.specs.Cost.{cost}
+use Rattle.tsp_theory.specs.Assignment.{IsFirstBroken}
+use Rattle.tsp_verdict.specs.Certificate.{has_wanted, scale_in, rows_in, columns_in, multipliers_in, StandsAgainstPotentials, IsBoundByDuals}
+use Rattle.tsp_verdict.specs.Certified.{is_bounded, IsBoundBy, IsCertified, StandsAgainstCertificate, StandsAgainstCertified, IsFirstAgainstCertified}
 use Rattle.tsp_verdict.specs.Tree.{IsBoundByTree}
 use Rattle.tsp_reason.specs.declared.certificate.Certificate.{Certificate}
 use Rattle.tsp_reason.specs.declared.certificate.Certificate.TheVariants.{Potentials, Branches}
@@ -102,6 +105,36 @@ none_of_tsp inst pot kind sort size wanted on_pairs listed =
   where
     other : Some kinds.Tsp ≡ Some kinds.Atsp → ⊥
     other e = cc
+
+-- potentials of another sort than the TYPE of the instance wants
+pub kind_first : (inst pot : Fields) → is_certificate pot.kind ≡ true → nodes_of pot ≡ nodes_of inst → has_wanted inst.kind pot ≡ false
+    → IsFirstReason (StandsAgainstPotentials inst pot) rank_of_tours PotentialsKind
+kind_first inst pot sort size other = record {
+  stands = other;
+  none_before = none_before inst pot 12 (λ low. sort) (λ low. size) (λ low. absurd (omega (arith, low))) (λ low. absurd (omega (arith, low)))
+      (λ low. absurd (omega (arith, low))) (λ low. absurd (omega (arith, low)));
+}
+
+not_undirected : (kind : Option Kind) → kind ≡ Some kinds.Atsp → kind ≡ Some kinds.Tsp → ⊥
+not_undirected kind atsp tsp = cc
+
+-- the first pair that breaks the duals of an ATSP is the first reason
+pub broken_first : (inst pot : Fields) (i j : ℕ) → inst.kind ≡ Some kinds.Atsp → is_certificate pot.kind ≡ true → nodes_of pot ≡ nodes_of inst
+    → has_wanted (Some kinds.Atsp) pot ≡ true → IsFirstBroken (nodes_of inst) (cost inst) (scale_in pot) (rows_in pot) (columns_in pot) i j
+    → IsFirstReason (StandsAgainstPotentials inst pot) rank_of_tours (DualInfeasible i j)
+broken_first inst pot i j kind sort size wanted broken = record {
+  stands = (kind, broken);
+  none_before = none_before inst pot 15 (λ low. sort) (λ low. size) (λ low. rw kind wanted) (λ low index stands. not_undirected inst.kind kind stands.0)
+      (λ low index stands. not_undirected inst.kind kind stands.0) (λ low. absurd (omega (arith, low)));
+}
+
+-- no reason stands against duals that give a bound
+pub none_of_atsp : (inst pot : Fields) (bound : ℤ) → inst.kind ≡ Some kinds.Atsp → is_certificate pot.kind ≡ true → nodes_of pot ≡ nodes_of inst
+    → has_wanted (Some kinds.Atsp) pot ≡ true → IsCertified Potentials inst pot bound → (reason : Reason) → StandsAgainstPotentials inst pot reason → ⊥
+none_of_atsp inst pot bound kind sort size wanted certified =
+    let by_duals : IsBoundByDuals inst pot bound = subst (λ k. IsBoundBy Potentials k inst pot bound) kind certified.0 in
+    none_stands inst pot sort size (rw kind wanted) (λ index stands. not_undirected inst.kind kind stands.0) (λ index stands. not_undirected inst.kind kind stands.0)
+    (λ i j stands. let pair = stands.1 in omega (arith, ints, pair.broken, by_duals.0 i j pair.row pair.column pair.other))
 
 -- ---- with those against the tour
 

@@ -1,3 +1,4 @@
+pub mod states
 pub mod Marks
 pub mod Multiplied
 pub mod Next

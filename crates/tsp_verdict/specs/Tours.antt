@@ -1,11 +1,11 @@
 -- The verdict on a tour: the first reason against it, or a tour of the instance and its length.
 -- Source: TSPLIB 95 (G. Reinelt), TOUR_SECTION and FIXED_EDGES_SECTION; the reasons and their order are this project's.
-use Rattle.std.specs.Prelude.{◌≡◌, ◌≢◌, ℕ, ◌<◌, false, List, [], ◌∷◌, length, None, Some, Result, Ok, Err, ℤ}
+use Rattle.std.specs.Prelude.{◌≡◌, ◌≢◌, ℕ, ◌<◌, false, List, [], ◌∷◌, length, None, Some}
 use Rattle.tsp_format.specs.declared.kinds.Kind.TheVariants as kinds
 use Rattle.tsp_draft.specs.Fields.{Fields}
 use Rattle.tsp_draft.specs.Rules.{is_tours}
 use Rattle.tsp_file.specs.Cost.{cost}
-use Rattle.tsp_theory.specs.Costs.{IsSymmetric, IsFirstAsymmetric}
+use Rattle.tsp_theory.specs.Costs.{IsFirstAsymmetric}
 use Rattle.tsp_theory.specs.Length.{length_of}
 use Rattle.tsp_cost.specs.Tours.{is_directed, IsTourOf}
 use Rattle.tsp_reason.specs.declared.verdict.Reason.{Reason}
@@ -92,15 +92,6 @@ IsTourVerdict inst sol (verdicts.Tour length bound) = ((reason : Reason) → Sta
     × ((tour : List ℕ) × (tours_of sol ≡ tour ∷ []) × IsTourOf inst tour × (length ≡ length_of (cost inst) tour))
     × (bound ≡ None)
 IsTourVerdict inst sol (verdicts.Routes length routes least) = ⊥
-
--- under TYPE TSP the costs are the same both ways
-abbrev pub IsSymmetricTsp : Fields → Type 0
-IsSymmetricTsp inst = inst.kind ≡ Some kinds.Tsp → IsSymmetric (cost inst)
-
--- the length of the one tour, where no reason stands, or the first reason
-abbrev pub FindsLength : Fields → Fields → Result ℤ Reason → Type 0
-FindsLength inst sol (Ok length) = IsTourVerdict inst sol (verdicts.Tour length None) × IsSymmetricTsp inst
-FindsLength inst sol (Err reason) = IsFirstAgainstTour inst sol reason
 
 -- Reasons 1 to 7 don't stand: they are found without memory.
 abbrev pub NoneOfTourBeforeRepeats : Fields → Fields → Type 0

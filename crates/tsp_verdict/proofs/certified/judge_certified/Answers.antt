@@ -1,5 +1,5 @@
 use Rattle.std.proofs.Common.{subst}
-use Rattle.tsp_verdict.specs.Tours.{FindsLength}
+use Rattle.tsp_verdict.specs.states.Costs.{FindsLength}
 use Rattle.tsp_verdict.proofs.Certificates.{enough}
 use Rattle.tsp_verdict.proofs.certified.judge_certified.Goals as goal
 

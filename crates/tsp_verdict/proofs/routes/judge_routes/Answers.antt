@@ -27,10 +27,10 @@ returns-in-Some-first_overload c =
     let marked : IsMarked inst sol seen (vec_len c.mark_all.new.seen) =
     is_marked inst sol _ seen _ c.solution_tours-routes.ensures.nodes wide c.in_default.ensures.1 c.in_default-mark_all.ensures.marks in
     let served = all_served inst sol seen (vec_len c.mark_all.new.seen) c.in-Ok.depot marked c.in-Ok.ensures.0 c.in_default-first_unmarked.ensures in
-    let fits : FitsSigned w64 c.capacity-capacity.result = search rules in
+    let fits : FitsSigned w64 c.routing-routing.result.capacity = search rules in
     let first = simp to_z-of_z at c.in-Some-first_overload.ensures in
-    overload_first inst sol _ c.demands-demands.result.now c.capacity-capacity.result c.in-Some-first_overload.route c.solution_tours-routes.ensures.value
-    c.demands-demands.ensures.value c.capacity-capacity.ensures.value
+    overload_first inst sol _ c.routing-routing.result.demands.now c.routing-routing.result.capacity c.in-Some-first_overload.route c.solution_tours-routes.ensures.value
+    c.routing-routing.ensures.demands c.routing-routing.ensures.capacity
     (none_unserved inst sol marked.none served) first
 
 pub returns : goal.returns
@@ -42,13 +42,13 @@ returns c =
     let marked : IsMarked inst sol seen (vec_len c.mark_all.new.seen) =
     is_marked inst sol _ seen _ c.solution_tours-routes.ensures.nodes wide c.in_default.ensures.1 c.in_default-mark_all.ensures.marks in
     let served = all_served inst sol seen (vec_len c.mark_all.new.seen) c.in-Ok.depot marked c.in-Ok.ensures.0 c.in_default-first_unmarked.ensures in
-    let capacity_fits : FitsSigned w64 c.capacity-capacity.result = search rules in
+    let capacity_fits : FitsSigned w64 c.routing-routing.result.capacity = search rules in
     let length_fits : FitsSigned w64 c.plan_length.result = search rules in
     let within = simp to_z-of_z at c.in_default-first_overload.ensures in
     let least = simp to_z-of_z at c.least_routes.ensures in
     simp to_z-of_z (is_planned inst sol seen (vec_len c.mark_all.new.seen) (map (λ route. route.items) c.solution_tours-routes.result.now)
-    c.demands-demands.result.now c.capacity-capacity.result c.in-Ok.depot c.plan_length.result (length c.solution_tours-routes.result.now)
+    c.routing-routing.result.demands.now c.routing-routing.result.capacity c.in-Ok.depot c.plan_length.result (length c.solution_tours-routes.result.now)
     c.least_routes.result
-    c.solution_tours-routes.ensures.value c.demands-demands.ensures.value c.demands-demands.ensures.each c.capacity-capacity.ensures.value c.in-Ok.ensures.0
-    c.in_default.ensures.0 marked served c.demands-demands.ensures.range c.in-Ok.ensures.2
+    c.solution_tours-routes.ensures.value c.routing-routing.ensures.demands c.routing-routing.ensures.each c.routing-routing.ensures.capacity c.in-Ok.ensures.0
+    c.in_default.ensures.0 marked served c.routing-routing.ensures.each_demand c.in-Ok.ensures.2
     within c.plan_length.ensures (sym (as_many c.solution_tours-routes.result.now)) least)

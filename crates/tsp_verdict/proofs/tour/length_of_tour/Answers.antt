@@ -15,13 +15,13 @@ use Rattle.tsp_verdict.proofs.tour.length_of_tour.Goals as goal
 pub next_nodes-requires : goal.next_nodes-requires
 next_nodes-requires c =
     let once = rw c.in_default-2.is at c.in_ok-place.ensures in
-    is_cycle c.count-nodes.result c.in-Ok.tour.now (c.in-Ok.ensures.1 ∙ sym c.count-nodes.ensures.value) c.in-Ok.ensures.2 c.in_default.ensures once
+    is_cycle c.count-nodes.result c.in-Ok.found.0.now (c.in-Ok.ensures.1 ∙ sym c.count-nodes.ensures.value) c.in-Ok.ensures.2 c.in_default.ensures once
 
 pub returns-in-Some-first_unused : goal.returns-in-Some-first_unused
 returns-in-Some-first_unused c =
     let inst : Fields = c.args.inst.now in
     let sol : Fields = c.args.sol.now in
-    let tour : List ℕ = c.in-Ok.tour.now in
+    let tour : List ℕ = c.in-Ok.found.0.now in
     let once = rw c.in_default-2.is at c.in_ok-place.ensures in
     let high : All (λ node. node ≤ nodes_of inst) tour = subst (λ n. All (λ node. node ≤ n) tour) c.count-nodes.ensures.value c.in_default.ensures in
     let none : NoneOfTourUpTo inst sol 9 = none_up_to_fixed inst sol tour c.in-Ok.ensures.0 c.in-Ok.ensures.3 high once in
@@ -34,7 +34,7 @@ pub returns : goal.returns
 returns c =
     let inst : Fields = c.args.inst.now in
     let sol : Fields = c.args.sol.now in
-    let tour : List ℕ = c.in-Ok.tour.now in
+    let tour : List ℕ = c.in-Ok.found.0.now in
     let fits : FitsSigned w64 c.tour_length.result = search rules in
     let once = rw c.in_default-2.is at c.in_ok-place.ensures in
     let high : All (λ node. node ≤ nodes_of inst) tour = subst (λ n. All (λ node. node ≤ n) tour) c.count-nodes.ensures.value c.in_default.ensures in
