@@ -29,7 +29,7 @@ visited_is sol tour only = ap concat only ∙ append-nil tour
 
 -- one tour that has so many nodes
 pub tour_found : (inst sol : Fields) (tour : List ℕ) → tours_of sol ≡ tour ∷ [] → length tour ≡ nodes_of inst → All (λ node. 1 ≤ node) (visited sol) → NoneOfTourUpTo inst sol 5
-    → (tours_of sol ≡ tour ∷ []) × (length tour ≡ nodes_of inst) × All (λ node. 1 ≤ node) tour × NoneOfTourUpTo inst sol 7
+    → (tours_of sol ≡ tour ∷ []) × (length tour ≡ nodes_of inst) × All (λ node. 1 ≤ node) tour × NoneOfTourUpTo inst sol 11
 tour_found inst sol tour only full low none =
     let low_all : All (λ node. 1 ≤ node) tour = subst (λ (xs : List ℕ). All (λ node. 1 ≤ node) xs) (visited_is sol tour only) low in
     (only, full, low_all, after_length inst sol (after_count inst sol none (ap length only)) (ap length (visited_is sol tour only) ∙ full))
@@ -43,8 +43,8 @@ is_cycle n tour full low high once = record {
 }
 
 -- reasons 1 to 8 are ruled out
-pub none_up_to_fixed : (inst sol : Fields) (tour : List ℕ) → tours_of sol ≡ tour ∷ [] → NoneOfTourUpTo inst sol 7 → All (λ node. node ≤ nodes_of inst) tour
-    → HoldsAtNone (IsRepeated tour) (length tour) → NoneOfTourUpTo inst sol 9
+pub none_up_to_fixed : (inst sol : Fields) (tour : List ℕ) → tours_of sol ≡ tour ∷ [] → NoneOfTourUpTo inst sol 11 → All (λ node. node ≤ nodes_of inst) tour
+    → HoldsAtNone (IsRepeated tour) (length tour) → NoneOfTourUpTo inst sol 13
 none_up_to_fixed inst sol tour only none high once =
     let is : tour ≡ visited sol = sym (visited_is sol tour only) in
     let high_all : All (λ node. node ≤ nodes_of inst) (visited sol) = subst (λ (xs : List ℕ). All (λ node. node ≤ nodes_of inst) xs) is high in
@@ -55,7 +55,7 @@ none_up_to_fixed inst sol tour only none high once =
 
 -- the first fixed pair that isn't used
 pub unused_first : (inst sol : Fields) (tour : List ℕ) (directed : Bool) (pairs : List (ℕ × ℕ)) (index : ℕ) → tours_of sol ≡ tour ∷ [] → directed ≡ is_directed inst.kind → pairs ≡ fixed_of inst
-    → NoneOfTourUpTo inst sol 9 → IsFirstPlace (IsUnused directed tour pairs) pairs index → IsFirstAgainstTour inst sol (FixedEdgeUnused index)
+    → NoneOfTourUpTo inst sol 13 → IsFirstPlace (IsUnused directed tour pairs) pairs index → IsFirstAgainstTour inst sol (FixedEdgeUnused index)
 unused_first inst sol tour directed pairs index only way listed none first = record {
   stands = subst (λ (xs : List ℕ). IsFirstPlace (IsUnused (is_directed inst.kind) xs (fixed_of inst)) (fixed_of inst) index) (sym (visited_is sol tour only))
       (subst (λ (ps : List (ℕ × ℕ)). IsFirstPlace (IsUnused (is_directed inst.kind) tour ps) ps index) listed
@@ -65,7 +65,7 @@ unused_first inst sol tour directed pairs index only way listed none first = rec
 
 -- where every fixed pair is used it is a yes
 pub is_yes : (inst sol : Fields) (tour : List ℕ) (directed : Bool) (pairs : List (ℕ × ℕ)) (size : ℤ) → tours_of sol ≡ tour ∷ [] → directed ≡ is_directed inst.kind → pairs ≡ fixed_of inst
-    → NoneOfTourUpTo inst sol 9 → IsCycle (nodes_of inst) tour → All (Uses directed tour) pairs → size ≡ length_of (cost inst) tour
+    → NoneOfTourUpTo inst sol 13 → IsCycle (nodes_of inst) tour → All (Uses directed tour) pairs → size ≡ length_of (cost inst) tour
     → ((reason : Reason) → StandsAgainstTour inst sol reason → ⊥) × ((cycle : List ℕ) × (tours_of sol ≡ cycle ∷ []) × IsTourOf inst cycle × (size ≡ length_of (cost inst) cycle))
 is_yes inst sol tour directed pairs size only way listed none cycle used measured =
     let used_all : All (Uses (is_directed inst.kind) tour) (fixed_of inst) =

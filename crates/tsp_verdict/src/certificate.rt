@@ -17,7 +17,6 @@ ghost use Rattle.tsp_bound.specs.Multipliers.{triples_of};
 ghost use Rattle.tsp_bound.specs.Potentials.{scale_of, numbers_of};
 ghost use Rattle.tsp_verdict.specs.Reasons.{IsFirstReason};
 ghost use Rattle.tsp_verdict.specs.Solution.{nodes_of, fixed_of};
-ghost use Rattle.tsp_verdict.specs.Tours.{rank_of_tours};
 ghost use Rattle.tsp_verdict.specs.Certificate.{has_wanted, scale_in, rows_in, columns_in, multipliers_in, StandsAgainstPotentials};
 ghost use Rattle.tsp_reason.specs.declared.certificate.Certificate.TheVariants as certificates;
 ghost use Rattle.tsp_verdict.specs.Certified.{IsCertified, FindsBound};
@@ -102,7 +101,7 @@ fn first_against_file(inst: &Instance, pot: &File) -> Option<Reason>
     ensures { MatchOption result
         ((is_certificate pot.now.kind ≡ true) × (pot.now.kind ≡ Some kinds.Potentials)
         × (nodes_of pot.now ≡ nodes_of inst.now))
-        (λ reason. IsFirstReason (StandsAgainstPotentials inst.now pot.now) rank_of_tours reason) }
+        (λ reason. IsFirstReason (StandsAgainstPotentials inst.now pot.now) reason) }
 {
     if pot.kind() != Kind::Potentials {
         return Some(Reason::NotPotentials);
@@ -166,7 +165,7 @@ fn first_against_multipliers(
     ensures { IfOk result (λ found. MatchOption found
         (AreOnPairs (nodes_of inst.now) (multipliers_in pot.now)
         × AreListed (fixed_of inst.now) (multipliers_in pot.now))
-        (λ reason. IsFirstReason (StandsAgainstPotentials inst.now pot.now) rank_of_tours reason)) }
+        (λ reason. IsFirstReason (StandsAgainstPotentials inst.now pot.now) reason)) }
 {
     if triples.is_empty() {
         return Ok(None);

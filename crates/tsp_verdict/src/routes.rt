@@ -5,7 +5,9 @@ ghost use Rattle.std.specs.List.{All};
 ghost use Rattle.tsp_format.specs.declared.kinds.Kind.TheVariants as kinds;
 ghost use Rattle.tsp_format.specs.Cells.{IsNode};
 ghost use Rattle.tsp_verdict.specs.Plan.{demand_of, depot_of, demands_of, depots_of, AreCustomers};
-ghost use Rattle.tsp_verdict.specs.Routes.{NoneOfRoutesUpTo, IsFirstAgainstRoutes, IsRoutesVerdict, NoneOfRoutesBeforeRepeats};
+ghost use Rattle.tsp_verdict.specs.Routes.{NoneOfRoutesUpTo, NoneOfRoutesBeforePlaces, IsFirstAgainstRoutes, IsRoutesVerdict, NoneOfRoutesBeforeRepeats};
+ghost use Rattle.tsp_reason.specs.declared.verdict.Reason.TheVariants.{DepotCount};
+ghost use Rattle.tsp_verdict.specs.Reasons.{rank_of};
 ghost use Rattle.tsp_verdict.specs.Solution.{nodes_of};
 
 use crate::files::{fixed_pairs, routing, solution_tours};
@@ -74,7 +76,7 @@ fn the_depot(inst: &Instance, routing: &RoutingData<'_>, sol: &File) -> Result<u
     requires each_depot { All (IsNode (nodes_of inst.now)) routing.now.depots.now }
     ensures { MatchResult result
         (λ depot. (depot ≡ depot_of inst.now) × IsNode (nodes_of inst.now) depot
-        × (demand_of (demands_of inst.now) depot ≡ pos 0) × NoneOfRoutesUpTo inst.now sol.now 7)
+        × (demand_of (demands_of inst.now) depot ≡ pos 0) × NoneOfRoutesBeforePlaces inst.now sol.now)
         (λ reason. IsFirstAgainstRoutes inst.now sol.now reason) }
 {
     if let Some(reason) = first_against_files(inst, sol) {
@@ -95,7 +97,7 @@ fn the_depot(inst: &Instance, routing: &RoutingData<'_>, sol: &File) -> Result<u
 /// The first reason that needs no look at the depot.
 fn first_against_files(inst: &Instance, sol: &File) -> Option<Reason>
     ensures { MatchOption result
-        (NoneOfRoutesUpTo inst.now sol.now 4)
+        (NoneOfRoutesUpTo inst.now sol.now (rank_of DepotCount))
         (λ reason. IsFirstAgainstRoutes inst.now sol.now reason) }
 {
     let nodes = inst.count();
@@ -114,9 +116,9 @@ fn first_against_files(inst: &Instance, sol: &File) -> Option<Reason>
 /// The first reason that one node alone shows: the depot, or a node that is too large.
 fn first_against_places(inst: &Instance, depot: u32, sol: &File) -> Option<Reason>
     requires depot { depot ≡ depot_of inst.now }
-    requires before { NoneOfRoutesUpTo inst.now sol.now 7 }
+    requires before { NoneOfRoutesBeforePlaces inst.now sol.now }
     ensures { MatchOption result
-        (AreCustomers inst.now sol.now × NoneOfRoutesUpTo inst.now sol.now 9)
+        (AreCustomers inst.now sol.now × NoneOfRoutesBeforeRepeats inst.now sol.now)
         (λ reason. IsFirstAgainstRoutes inst.now sol.now reason) }
 {
     let routes = solution_tours(sol);

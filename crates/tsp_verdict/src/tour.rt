@@ -4,8 +4,10 @@ ghost use Rattle.std.specs.Prelude.{◌≡◌, ◌⊎◌, ◌<◌, ◌≤◌, []
 ghost use Rattle.std.specs.List.{All};
 ghost use Rattle.tsp_format.specs.declared.kinds.Kind.TheVariants as kinds;
 ghost use Rattle.tsp_cost.specs.Tours.{is_directed};
+ghost use Rattle.tsp_reason.specs.declared.verdict.Reason.TheVariants.{TourCount};
+ghost use Rattle.tsp_verdict.specs.Reasons.{rank_of};
 ghost use Rattle.tsp_verdict.specs.Solution.{nodes_of, tours_of};
-ghost use Rattle.tsp_verdict.specs.Tours.{NoneOfTourUpTo, IsFirstAgainstTour, IsTourVerdict, NoneOfTourBeforeRepeats};
+ghost use Rattle.tsp_verdict.specs.Tours.{NoneOfTourUpTo, NoneOfTourBeforeNodes, IsFirstAgainstTour, IsTourVerdict, NoneOfTourBeforeRepeats};
 ghost use Rattle.tsp_file.specs.Cost.{cost};
 ghost use Rattle.tsp_theory.specs.Costs.{IsFirstAsymmetric};
 ghost use Rattle.tsp_verdict.specs.states.Costs.{AreTourCosts, FindsLength};
@@ -94,7 +96,7 @@ fn the_tour<'a, 'b>(inst: &'a Instance, sol: &'b File) -> Result<(&'b [u32], Tou
     requires { (inst.now.kind ≡ Some kinds.Tsp) ⊎ (inst.now.kind ≡ Some kinds.Atsp) }
     ensures { MatchResult result
         (λ found. (tours_of sol.now ≡ found.0.now ∷ []) × (length found.0.now ≡ nodes_of inst.now)
-        × All (λ node. 1 ≤ node) found.0.now × NoneOfTourUpTo inst.now sol.now 7
+        × All (λ node. 1 ≤ node) found.0.now × NoneOfTourBeforeNodes inst.now sol.now
         × AreTourCosts inst.now found.1)
         (λ reason. IsFirstAgainstTour inst.now sol.now reason) }
 {
@@ -115,7 +117,7 @@ fn the_tour<'a, 'b>(inst: &'a Instance, sol: &'b File) -> Result<(&'b [u32], Tou
 fn first_against_files<'a>(inst: &'a Instance, sol: &File) -> Result<TourCosts<'a>, Reason>
     requires { (inst.now.kind ≡ Some kinds.Tsp) ⊎ (inst.now.kind ≡ Some kinds.Atsp) }
     ensures { MatchResult result
-        (λ costs. NoneOfTourUpTo inst.now sol.now 5 × AreTourCosts inst.now costs)
+        (λ costs. NoneOfTourUpTo inst.now sol.now (rank_of TourCount) × AreTourCosts inst.now costs)
         (λ reason. IsFirstAgainstTour inst.now sol.now reason) }
 {
     let nodes = inst.count();

@@ -11,7 +11,6 @@ ghost use Rattle.tsp_theory.specs.Costs.{IsSymmetric};
 ghost use Rattle.tsp_cost.specs.Views.{HasCosts, ShowsEven};
 ghost use Rattle.tsp_verdict.specs.Reasons.{IsFirstReason};
 ghost use Rattle.tsp_verdict.specs.Solution.{nodes_of};
-ghost use Rattle.tsp_verdict.specs.Tours.{rank_of_tours};
 ghost use Rattle.tsp_verdict.specs.Tree.{StandsAgainstTree};
 ghost use Rattle.tsp_reason.specs.declared.certificate.Certificate.TheVariants as certificates;
 ghost use Rattle.tsp_verdict.specs.Certified.{FindsBound};
@@ -64,7 +63,7 @@ fn tree_of<'a>(instance: &Instance, branches: &'a File) -> Result<TreeData<'a>, 
     ensures { MatchResult result
         (λ tree. (is_tree branches.now.kind ≡ true) × (nodes_of branches.now ≡ nodes_of instance.now)
         × HoldsTree branches.now tree.scale (combs_of tree.combs.now) (steps_of tree.steps.now))
-        (λ reason. IsFirstReason (StandsAgainstTree instance.now branches.now) rank_of_tours reason) }
+        (λ reason. IsFirstReason (StandsAgainstTree instance.now branches.now) reason) }
 {
     let Some(tree) = branches.as_tree() else {
         return Err(Reason::NotBranches);

@@ -15,7 +15,7 @@ returns-in-Some-first_unmarked c =
     let seen : List Bool = c.mark_all.new.seen.items in
     let wide : vec_len c.mark_all.new.seen ≡ nodes_of inst + 1 = omega (arith, c.in_default-mark_all.ensures.len, c.in_ok-seen.ensures.len, c.count.ensures.value) in
     let marked : IsMarked inst sol seen (vec_len c.mark_all.new.seen) =
-    is_marked inst sol _ seen _ c.solution_tours-routes.ensures.nodes wide c.in_default.ensures.1 c.in_default-mark_all.ensures.marks in
+    is_marked inst sol _ seen _ c.solution_tours-routes.ensures.nodes wide (c.in_default.ensures.1 0) c.in_default-mark_all.ensures.marks in
     unserved_first inst sol seen (vec_len c.mark_all.new.seen) c.in-Ok.depot c.in-Some-first_unmarked.node marked c.in-Ok.ensures.0 c.in-Some-first_unmarked.ensures
 
 pub returns-in-Some-first_overload : goal.returns-in-Some-first_overload
@@ -25,7 +25,7 @@ returns-in-Some-first_overload c =
     let seen : List Bool = c.mark_all.new.seen.items in
     let wide : vec_len c.mark_all.new.seen ≡ nodes_of inst + 1 = omega (arith, c.in_default-mark_all.ensures.len, c.in_ok-seen.ensures.len, c.count.ensures.value) in
     let marked : IsMarked inst sol seen (vec_len c.mark_all.new.seen) =
-    is_marked inst sol _ seen _ c.solution_tours-routes.ensures.nodes wide c.in_default.ensures.1 c.in_default-mark_all.ensures.marks in
+    is_marked inst sol _ seen _ c.solution_tours-routes.ensures.nodes wide (c.in_default.ensures.1 0) c.in_default-mark_all.ensures.marks in
     let served = all_served inst sol seen (vec_len c.mark_all.new.seen) c.in-Ok.depot marked c.in-Ok.ensures.0 c.in_default-first_unmarked.ensures in
     let fits : FitsSigned w64 c.routing-routing.result.capacity = search rules in
     let first = simp to_z-of_z at c.in-Some-first_overload.ensures in
@@ -40,7 +40,7 @@ returns c =
     let seen : List Bool = c.mark_all.new.seen.items in
     let wide : vec_len c.mark_all.new.seen ≡ nodes_of inst + 1 = omega (arith, c.in_default-mark_all.ensures.len, c.in_ok-seen.ensures.len, c.count.ensures.value) in
     let marked : IsMarked inst sol seen (vec_len c.mark_all.new.seen) =
-    is_marked inst sol _ seen _ c.solution_tours-routes.ensures.nodes wide c.in_default.ensures.1 c.in_default-mark_all.ensures.marks in
+    is_marked inst sol _ seen _ c.solution_tours-routes.ensures.nodes wide (c.in_default.ensures.1 0) c.in_default-mark_all.ensures.marks in
     let served = all_served inst sol seen (vec_len c.mark_all.new.seen) c.in-Ok.depot marked c.in-Ok.ensures.0 c.in_default-first_unmarked.ensures in
     let capacity_fits : FitsSigned w64 c.routing-routing.result.capacity = search rules in
     let length_fits : FitsSigned w64 c.plan_length.result = search rules in
