@@ -16,7 +16,7 @@ use Rattle.tsp_branch.specs.Combed.{plain}
 use Rattle.tsp_branch.specs.CombsOfSets.{comb_with, of_comb, combs_from, combs_of}
 use Rattle.tsp_branch.specs.GoodCombs.{AreInOrder}
 use Rattle.tsp_file.specs.Typed.{AreSomeSets}
-use Rattle.tsp_verdict.specs.Numbered.{with_number, numbered_from}
+use Rattle.tsp_verdict.specs.states.Numbered.{with_number, numbered_from}
 
 -- ---- the sets of one comb
 

@@ -10,7 +10,7 @@ use Rattle.tsp_draft.specs.Valid.{IsDemand}
 use Rattle.tsp_file.specs.Cost.{cost}
 use Rattle.tsp_reason.specs.declared.verdict.Reason.{Reason}
 use Rattle.tsp_reason.specs.declared.verdict.Reason.TheVariants.{DepotInRoute, NodeOutOfRange, RepeatedNode, Unserved, Overload}
-use Rattle.tsp_verdict.specs.Marks.{Marked}
+use Rattle.tsp_verdict.specs.states.Marks.{Marked}
 use Rattle.tsp_verdict.specs.Places.{IsFirstPlace, IsLarger, IsAt, IsRepeated}
 use Rattle.tsp_verdict.specs.Plan.{demand_of, load_of, IsCustomer, plan_length, IsLeast, depot_of, demands_of, capacity_of, total_of, AreCustomers}
 use Rattle.tsp_verdict.specs.Routes.{IsOverloaded, StandsAgainstRoutes, NoneOfRoutesUpTo, IsFirstAgainstRoutes, IsPlanned}

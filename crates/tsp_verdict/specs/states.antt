@@ -1,1 +1,6 @@
 pub mod Costs
+pub mod Marks
+pub mod Next
+pub mod Numbered
+pub mod PairSets
+pub mod Sums

@@ -6,7 +6,7 @@ use Rattle.std.proofs.lemmas.Int.{to_z-of_z}
 use Rattle.tsp_draft.specs.Fields.{Fields}
 use Rattle.tsp_cost.specs.Tours.{is_directed}
 use Rattle.tsp_theory.specs.Cycle.{IsCycle}
-use Rattle.tsp_verdict.specs.Next.{AreNext}
+use Rattle.tsp_verdict.specs.states.Next.{AreNext}
 use Rattle.tsp_verdict.specs.Solution.{nodes_of}
 use Rattle.tsp_verdict.specs.Tours.{NoneOfTourUpTo}
 use Rattle.tsp_verdict.proofs.TourVerdicts.{is_cycle, none_up_to_fixed, unused_first, is_yes}
