@@ -50,7 +50,7 @@ pub record AreSomeSets (n : ℕ) (combs : List (List (List ℕ))) : Type 0 where
   pub few_nodes : sum_by (sum_by length) combs ≤ most_comb_nodes
 
 -- a tree of cases, with combs, which are none where no section lists them
-pub record HoldsTree (f : Fields) (scale : ℤ) (combs : List (List (List ℕ))) (steps : List Step) : Type 0 where
+pub record HoldsCases (f : Fields) (scale : ℤ) (combs : List (List (List ℕ))) (steps : List Step) : Type 0 where
   pub kind : f.kind ≡ Some kinds.Branches
   pub scale_is : scale ≡ unwrap_or f.scale (pos 1)
   pub combs_are : combs ≡ unwrap_or f.combs []

@@ -59,7 +59,7 @@ impl File {
     ghost use Rattle.tsp_draft.specs.Valid.{IsFromTo, AreTours};
     ghost use Rattle.tsp_file.specs.Listed.{ListsWeights};
     ghost use Rattle.tsp_file.specs.Relayout.{HasListedWeights, file_nodes};
-    ghost use Rattle.tsp_file.specs.Typed.{HoldsRouting, HoldsNodeNumbers, HoldsDuals, HoldsTree, AreMultipliersIn, AreSomeSets};
+    ghost use Rattle.tsp_file.specs.Typed.{HoldsRouting, HoldsNodeNumbers, HoldsDuals, HoldsCases, AreMultipliersIn, AreSomeSets};
 
     /// The weights of this file with their layout; none where its weights aren't listed.
     #[inline]
@@ -162,7 +162,7 @@ impl File {
     /// What a file of TYPE BRANCHES holds; none of every other file.
     pub fn as_tree(&self) -> Option<TreeData<'_>>
         ensures { MatchOption result (self.now.kind ≢ Some kinds.Branches)
-            (λ held. HoldsTree self.now held.scale (combs_of held.combs.now) (steps_of held.steps.now)) }
+            (λ held. HoldsCases self.now held.scale (combs_of held.combs.now) (steps_of held.steps.now)) }
     {
         let _valid = self.fields();
         valid_fields_are_in_range();

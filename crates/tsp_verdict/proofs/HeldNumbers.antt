@@ -4,7 +4,7 @@ use Rattle.std.specs.Prelude.{◌⊎◌, ℤ, pos, is_some, IsSome, unwrap_or}
 use Rattle.std.specs.List.{All}
 use Rattle.tsp_format.specs.Cells.{IsNode}
 use Rattle.tsp_draft.specs.Fields.{Fields}
-use Rattle.tsp_file.specs.Typed.{AreMultipliersIn, HoldsRouting, HoldsNodeNumbers, HoldsDuals, HoldsTree}
+use Rattle.tsp_file.specs.Typed.{AreMultipliersIn, HoldsRouting, HoldsNodeNumbers, HoldsDuals, HoldsCases}
 use Rattle.tsp_theory.specs.Numbers.{AreDuals, AreNodePotentials, AreMultipliers}
 use Rattle.tsp_verdict.specs.Certificate.{potentials_in}
 use Rattle.tsp_verdict.specs.Plan.{depots_of, demands_of, capacity_of}
@@ -62,7 +62,7 @@ are_duals pot scale rows columns held = record {
 
 -- ---- a tree of cases
 
-pub steps_are : (tree : Fields) (scale : ℤ) (combs : List (List (List ℕ))) (steps : List Step) → HoldsTree tree scale combs steps → steps ≡ steps_in tree
+pub steps_are : (tree : Fields) (scale : ℤ) (combs : List (List (List ℕ))) (steps : List Step) → HoldsCases tree scale combs steps → steps ≡ steps_in tree
 steps_are tree scale combs steps held = sym (ap (λ (o : Option (List Step)). unwrap_or o []) held.steps_are)
 
 -- ---- a routing problem

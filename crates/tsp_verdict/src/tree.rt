@@ -6,7 +6,7 @@ ghost use Rattle.tsp_format.specs.Steps.{steps_of};
 ghost use Rattle.tsp_draft.specs.Fields.{combs_of};
 ghost use Rattle.tsp_draft.specs.Rules.{is_tree};
 ghost use Rattle.tsp_file.specs.Cost.{cost};
-ghost use Rattle.tsp_file.specs.Typed.{HoldsTree};
+ghost use Rattle.tsp_file.specs.Typed.{HoldsCases};
 ghost use Rattle.tsp_theory.specs.Costs.{IsSymmetric};
 ghost use Rattle.tsp_cost.specs.Views.{HasCosts, ShowsEven};
 ghost use Rattle.tsp_verdict.specs.Reasons.{IsFirstReason};
@@ -62,7 +62,7 @@ pub(crate) fn bound_of_tree(
 fn tree_of<'a>(instance: &Instance, branches: &'a File) -> Result<TreeData<'a>, Reason>
     ensures { MatchResult result
         (λ tree. (is_tree branches.now.kind ≡ true) × (nodes_of branches.now ≡ nodes_of instance.now)
-        × HoldsTree branches.now tree.scale (combs_of tree.combs.now) (steps_of tree.steps.now))
+        × HoldsCases branches.now tree.scale (combs_of tree.combs.now) (steps_of tree.steps.now))
         (λ reason. IsFirstReason (StandsAgainstTree instance.now branches.now) reason) }
 {
     let Some(tree) = branches.as_tree() else {
@@ -93,7 +93,7 @@ fn judge_distances<C: Symmetric>(
     requires even { IsSymmetric (cost instance.now) }
     requires sort { is_tree branches.now.kind ≡ true }
     requires count { nodes_of branches.now ≡ nodes_of instance.now }
-    requires held { HoldsTree branches.now tree.now.scale (combs_of tree.now.combs.now) (steps_of tree.now.steps.now) }
+    requires held { HoldsCases branches.now tree.now.scale (combs_of tree.now.combs.now) (steps_of tree.now.steps.now) }
     ensures { IfOk result (λ found. FindsBound certificates.Branches instance.now branches.now found) }
 {
     if costs.count() > MOST_TABLED || tree.steps.len() == 1 {
@@ -124,7 +124,7 @@ fn judge_tree<C: Symmetric>(
     requires even { IsSymmetric (cost instance.now) }
     requires sort { is_tree branches.now.kind ≡ true }
     requires count { nodes_of branches.now ≡ nodes_of instance.now }
-    requires held { HoldsTree branches.now tree.now.scale (combs_of tree.now.combs.now) (steps_of tree.now.steps.now) }
+    requires held { HoldsCases branches.now tree.now.scale (combs_of tree.now.combs.now) (steps_of tree.now.steps.now) }
     ensures { IfOk result (λ found. FindsBound certificates.Branches instance.now branches.now found) }
 {
     certificates_bound_cycles();
