@@ -1,6 +1,6 @@
 -- What instances hold.
 use Rattle.std.proofs.Common.{◌≡◌, ◌≢◌, ℕ, Bool, true, false, List, [], Option, None, Some, refl, sym, ap, subst, ◌∙◌}
-use Rattle.std.specs.Prelude.{unwrap_or, ℤ}
+use Rattle.std.specs.Prelude.{unwrap_or}
 use Rattle.std.proofs.lemmas.Bool.{false≢true}
 use Rattle.tsp_distance.specs.declared.decimal.Point.{Point}
 use Rattle.tsp_format.specs.declared.kinds.WeightKind.{WeightKind}
@@ -10,8 +10,6 @@ use Rattle.tsp_draft.specs.Rules.{is_explicit}
 use Rattle.tsp_draft.specs.Valid.{HasInstance}
 use Rattle.tsp_file.specs.Cost.{distance, point_of, cost_by, cost}
 use Rattle.tsp_file.specs.Relayout.{HasListedWeights}
-use Rattle.tsp_theory.specs.Costs.{IsSymmetric}
-use Rattle.tsp_cost.specs.Views.{HasCosts}
 
 -- the cost from the coordinates
 by_distance : (kind : WeightKind) (f : Fields) (i j : ℕ) → kind ≢ Explicit → cost_by (Some kind) f i j ≡ distance kind (point_of (unwrap_or f.coords []) i) (point_of (unwrap_or f.coords []) j)
@@ -69,7 +67,3 @@ by_distances f held unlisted = by_test (is_explicit f.weight_kind) refl
 
 pub distance_kind : (f : Fields) (kind : WeightKind) → is_explicit f.weight_kind ≡ false → f.weight_kind ≡ Some kind → kind ≢ Explicit
 distance_kind f kind other is explicit = false≢true (sym other ∙ ap is_explicit (is ∙ ap (λ k. Some k) explicit))
-
--- what is symmetric in a view is symmetric in the instance
-pub even_shown : (f : Fields) (n : ℕ) (costs : ℕ → ℕ → ℤ) → HasCosts f n costs → IsSymmetric costs → IsSymmetric (cost f)
-even_shown f n costs keeps even i j other = sym (keeps.every i j) ∙ even i j other ∙ keeps.every j i
