@@ -13,7 +13,7 @@ use Rattle.tsp_theory.specs.Cycle.{AreNeighbours}
 use Rattle.tsp_theory.specs.Adjusted.{is_same_pair}
 use Rattle.tsp_branch.specs.Decided.{IsDecision, case_of}
 use Rattle.tsp_branch.specs.Decisions.{Decision, KeepsAll, KeepsDecision, DecideOnce, take_pairs}
-use Rattle.tsp_verdict.specs.states.PairSets.{undirected, pair_cmp, HasPairs}
+use Rattle.tsp_verdict.specs.PairSets.{undirected, pair_cmp, HasPairs}
 use Rattle.tsp_verdict.specs.Tree.{each_once}
 use Rattle.tsp_verdict.proofs.EachOnce.{each_once_after, each_once_is}
 use Rattle.tsp_verdict.proofs.PairSets.{same_turn}

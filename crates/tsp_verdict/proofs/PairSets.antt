@@ -13,7 +13,7 @@ use Rattle.std.proofs.lemmas.List.Folds.{Any-from_list_any, list_any_at, list_an
 use Rattle.std.proofs.lemmas.Map.Lookups.{exact_pairs, exact_unsigned}
 use Rattle.tsp_theory.specs.Adjusted.{pair_of, is_same_pair}
 use Rattle.tsp_verdict.specs.Multiplied.{IsListed, pair_at, IsUnlisted, IsPairRepeated}
-use Rattle.tsp_verdict.specs.states.PairSets.{undirected, pair_cmp, HasPairs}
+use Rattle.tsp_verdict.specs.PairSets.{undirected, pair_cmp, HasPairs}
 use Rattle.tsp_verdict.specs.Places.{IsFirstPlace}
 
 -- ---- the two directions of a pair

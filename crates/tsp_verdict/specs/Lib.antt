@@ -1,5 +1,6 @@
 pub mod states
 pub mod Multiplied
+pub mod PairSets
 pub mod Places
 pub mod Plan
 pub mod Reasons

@@ -2,5 +2,4 @@ pub mod Costs
 pub mod Marks
 pub mod Next
 pub mod Numbered
-pub mod PairSets
 pub mod Sums
