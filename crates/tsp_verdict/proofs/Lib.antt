@@ -16,6 +16,5 @@ pub mod TourReasons
 pub mod TourVerdicts
 pub mod SmallPlans
 pub mod NumberedSets
-pub mod EachOnce
 pub mod GivenPairs
 pub mod TreeReasons

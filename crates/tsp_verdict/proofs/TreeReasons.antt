@@ -80,13 +80,13 @@ pub record AreOf (inst tree : Fields) (n : ℕ) (scale : ℤ) (count : ℕ) (set
 
 pub are_of : (inst tree : Fields) (n : ℕ) (scale : ℤ) (combs : List (Vec (Vec ℕ))) (sets : List (ℕ × List ℕ)) (fixed : List (ℕ × ℕ)) (given : List Decision) (steps : List listed.Step)
     → inst.dimension ≡ Some n → scale ≡ scale_in tree → lists_of_combs combs ≡ combs_in tree → sets ≡ numbered_from 0 (lists_of_combs combs) → fixed ≡ fixed_of inst
-    → given ≡ take_pairs (each_once fixed) → steps ≡ steps_in tree → AreOf inst tree n scale (length combs) sets given steps
+    → given ≡ take_pairs (each_once [] fixed) → steps ≡ steps_in tree → AreOf inst tree n scale (length combs) sets given steps
 are_of inst tree n scale combs sets fixed given steps count scale_is combs_are sets_are fixed_are given_is steps_are = record {
   nodes_are = sym (ap (λ (d : Option ℕ). unwrap_or d 0) count);
   scale_is = scale_is;
   count_is = sym (length-map combs _) ∙ ap length combs_are;
   sets_are = sets_are ∙ ap (numbered_from 0) combs_are;
-  given_is = given_is ∙ ap (λ (pairs : List (ℕ × ℕ)). take_pairs (each_once pairs)) fixed_are;
+  given_is = given_is ∙ ap (λ (pairs : List (ℕ × ℕ)). take_pairs (each_once [] pairs)) fixed_are;
   steps_are = steps_are;
 }
 

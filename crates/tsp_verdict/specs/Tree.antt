@@ -1,6 +1,6 @@
 -- A certificate by branching: a file of branches, when it stands against a verdict, and the bound that it gives.
-use Rattle.std.specs.Prelude.{◌≡◌, ◌≢◌, ℕ, ◌-◌, false, not, List, [], ◌∷◌, length, map, slice_index_or, unwrap_or, Result, Ok, Err, ℤ}
-use Rattle.std.specs.List.{filter}
+use Rattle.std.specs.Prelude.{◌≡◌, ◌≢◌, ℕ, ◌-◌, false, if◌then◌else◌, List, [], ◌∷◌, ◌++◌, length, map, slice_index_or, unwrap_or, Result, Ok, Err, ℤ}
+use Rattle.std.specs.List.{list_any}
 use Rattle.tsp_format.specs.Steps as listed
 use Rattle.tsp_draft.specs.Fields.{Fields}
 use Rattle.tsp_draft.specs.Rules.{is_tree}
@@ -32,14 +32,15 @@ combs_in f = unwrap_or f.combs []
 abbrev pub steps_in : Fields → List listed.Step
 steps_in f = unwrap_or f.branches []
 
--- pairs, each once: after each one, without those that are the same, in either direction
-abbrev pub each_once : List (ℕ × ℕ) → List (ℕ × ℕ)
-each_once [] = []
-each_once (pair ∷ pairs) = pair ∷ filter (λ other. not (is_same_pair pair other)) (each_once pairs)
+-- pairs, each once: without those that are an earlier one, in either direction
+abbrev pub each_once : List (ℕ × ℕ) → List (ℕ × ℕ) → List (ℕ × ℕ)
+each_once earlier [] = []
+each_once earlier (pair ∷ pairs) = if list_any (is_same_pair pair) earlier then each_once (earlier ++ pair ∷ []) pairs
+    else (pair ∷ each_once (earlier ++ pair ∷ []) pairs)
 
 -- what is decided in all cases: the fixed pairs are taken
 abbrev pub given_in : Fields → List Decision
-given_in inst = take_pairs (each_once (fixed_of inst))
+given_in inst = take_pairs (each_once [] (fixed_of inst))
 
 -- the steps of its tree, with the potentials and the multipliers of each leaf; the combs
 abbrev pub tree_in : Fields → Fields → List Step
