@@ -5,8 +5,12 @@ use Rattle.std.proofs.lemmas.Int.{to_z-of_z}
 use Rattle.tsp_draft.specs.Fields.{Fields}
 use Rattle.tsp_verdict.specs.Solution.{nodes_of}
 use Rattle.tsp_verdict.proofs.FilesHold.{as_many}
-use Rattle.tsp_verdict.proofs.RouteVerdicts.{IsMarked, is_marked, unserved_first, all_served, none_unserved, overload_first, is_planned}
+use Rattle.tsp_verdict.proofs.RouteVerdicts.{IsMarked, is_marked, repeated_first, unserved_first, all_served, none_unserved, overload_first, is_planned}
 use Rattle.tsp_verdict.proofs.routes.judge_routes.Goals as goal
+
+pub returns-in-Some-mark_all : goal.returns-in-Some-mark_all
+returns-in-Some-mark_all c = repeated_first c.args.inst.now c.args.sol.now _ c.in-Some-mark_all.place c.solution_tours-routes.ensures.nodes
+    (c.in_default.ensures.1 0) c.in-Some-mark_all.ensures.marks
 
 pub returns-in-Some-first_unmarked : goal.returns-in-Some-first_unmarked
 returns-in-Some-first_unmarked c =

@@ -8,9 +8,40 @@ use Rattle.tsp_cost.specs.Tours.{is_directed}
 use Rattle.tsp_theory.specs.Cycle.{IsCycle}
 use Rattle.tsp_verdict.specs.states.Next.{AreNext}
 use Rattle.tsp_verdict.specs.Solution.{nodes_of}
-use Rattle.tsp_verdict.specs.Tours.{NoneOfTourUpTo}
-use Rattle.tsp_verdict.proofs.TourVerdicts.{is_cycle, none_up_to_fixed, unused_first, is_yes}
+use Rattle.tsp_verdict.specs.Tours.{NoneOfTourUpTo, NoneOfTourBeforeRepeats}
+use Rattle.tsp_verdict.proofs.TourVerdicts.{is_cycle, larger_first, none_up_to_repeats, repeated_first, none_up_to_fixed, unused_first, is_yes}
 use Rattle.tsp_verdict.proofs.tour.length_of_tour.Goals as goal
+
+pub returns-in-Some : goal.returns-in-Some
+returns-in-Some c = larger_first c.args.inst.now c.args.sol.now c.in-Ok.found.0.now c.count-nodes.result c.in-Some.place c.in-Ok.ensures.0
+    c.count-nodes.ensures.value (c.in-Ok.ensures.3 0) c.in-Some.ensures
+
+pub returns-in_err-place : goal.returns-in_err-place
+returns-in_err-place c =
+    let inst : Fields = c.args.inst.now in
+    let sol : Fields = c.args.sol.now in
+    let tour : List ℕ = c.in-Ok.found.0.now in
+    let high : All (λ node. node ≤ nodes_of inst) tour = subst (λ n. All (λ node. node ≤ n) tour) c.count-nodes.ensures.value c.in_default.ensures in
+    let none : NoneOfTourBeforeRepeats inst sol = λ place. none_up_to_repeats inst sol tour c.in-Ok.ensures.0 (c.in-Ok.ensures.3 0) high in
+    search (rules, none)
+
+pub returns-in-Some-2 : goal.returns-in-Some-2
+returns-in-Some-2 c =
+    let inst : Fields = c.args.inst.now in
+    let sol : Fields = c.args.sol.now in
+    let tour : List ℕ = c.in-Ok.found.0.now in
+    let high : All (λ node. node ≤ nodes_of inst) tour = subst (λ n. All (λ node. node ≤ n) tour) c.count-nodes.ensures.value c.in_default.ensures in
+    let first = rw c.in-Some-2.is at c.in_ok-place.ensures in
+    repeated_first inst sol tour c.in-Some-2.place c.in-Ok.ensures.0 (none_up_to_repeats inst sol tour c.in-Ok.ensures.0 (c.in-Ok.ensures.3 0) high) first
+
+pub returns-in_err-next : goal.returns-in_err-next
+returns-in_err-next c =
+    let inst : Fields = c.args.inst.now in
+    let sol : Fields = c.args.sol.now in
+    let tour : List ℕ = c.in-Ok.found.0.now in
+    let high : All (λ node. node ≤ nodes_of inst) tour = subst (λ n. All (λ node. node ≤ n) tour) c.count-nodes.ensures.value c.in_default.ensures in
+    let none : NoneOfTourBeforeRepeats inst sol = λ place. none_up_to_repeats inst sol tour c.in-Ok.ensures.0 (c.in-Ok.ensures.3 0) high in
+    search (rules, none)
 
 pub next_nodes-requires : goal.next_nodes-requires
 next_nodes-requires c =

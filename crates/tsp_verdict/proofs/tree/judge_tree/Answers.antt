@@ -13,10 +13,10 @@ use Rattle.tsp_branch.specs.declared.steps.BranchVerdict.TheVariants as found
 use Rattle.tsp_branch.specs.BranchVerdicts.{IsBranchVerdict, IsSizedVerdict}
 use Rattle.tsp_branch.specs.Combed.{plain}
 use Rattle.tsp_branch.specs.Decided.{case_of}
-use Rattle.tsp_branch.specs.Listed.{no_numbers_of}
+use Rattle.tsp_branch.specs.Listed.{no_numbers_of, IsStepOf}
 use Rattle.tsp_branch.specs.Sets.{AreSetsOf}
 use Rattle.tsp_verdict.specs.Solution.{nodes_of}
-use Rattle.tsp_verdict.proofs.FilesHold.{steps_few}
+use Rattle.tsp_verdict.proofs.FilesHold.{steps_hold, steps_few}
 use Rattle.tsp_verdict.proofs.HeldNumbers.{steps_are}
 use Rattle.tsp_verdict.proofs.GivenPairs.{given_once, given_are, given_few}
 use Rattle.tsp_verdict.proofs.NumberedSets.{sets_of_nodes, sets_of_combs, sets_in_order, sets_few}
@@ -46,6 +46,15 @@ judge_branches-requires-clause-of_combs g c = λ k d lt.
 
 pub judge_branches-requires-clause-in_order : goal.judge_branches-requires-clause-in_order
 judge_branches-requires-clause-in_order g c = sets_in_order c.deref.result.now (combs_of c.args.tree.now.combs.now) (ap plain c.deref.ensures.value ∙ c.in_ok-sets.ensures)
+
+pub judge_branches-requires-clause-few_steps : goal.judge_branches-requires-clause-few_steps
+judge_branches-requires-clause-few_steps g c = steps_few c.args.branches.now c.args.tree.now.steps.now c.requires.held.each_step
+
+pub judge_branches-requires-clause-steps : goal.judge_branches-requires-clause-steps
+judge_branches-requires-clause-steps g c =
+    let same : nodes_of c.args.branches.now ≡ g.C.Costs.nodes c.args.costs.now = c.requires.count ∙ ap (λ (d : Option ℕ). unwrap_or d 0) c.requires.keeps.count in
+    subst (λ (n : ℕ). All (IsStepOf n) (steps_of c.args.tree.now.steps.now)) same
+    (steps_hold c.args.branches.now (steps_of c.args.tree.now.steps.now) c.requires.held.each_step)
 
 pub judge_branches-requires-clause-given_are : goal.judge_branches-requires-clause-given_are
 judge_branches-requires-clause-given_are g c =
