@@ -1,5 +1,5 @@
 -- What a certificate's leaves show holds of every cycle that keeps the given decisions.
-use Rattle.std.proofs.Common.{◌≡◌, ℕ, ◌≤◌, Bool, true, false, List, [], ◌∷◌, Option, None, Some, ℤ, ◌≤ℤ◌, inl, inr, refl, ap, arith}
+use Rattle.std.proofs.Common.{◌≡◌, ℕ, Bool, true, false, List, [], ◌∷◌, Option, None, Some, ℤ, ◌≤ℤ◌, inl, inr, refl, ap, arith}
 use Rattle.std.specs.Prelude.{pos}
 use Rattle.std.specs.List.{All, AllByRecursion}
 use Rattle.std.proofs.lemmas.Int.{ints}

@@ -181,7 +181,7 @@ pub kinds_bounded : (by : Certificate) (kind : Option Kind) → IsTrue (is_bound
 kinds_bounded Potentials (Some kinds.Tsp) is = inl refl
 kinds_bounded Potentials (Some kinds.Atsp) is = inr refl
 kinds_bounded Branches (Some kinds.Tsp) is = inl refl
-kinds_bounded Branches (Some kinds.Atsp) is = absurd (false≢true is)
+kinds_bounded Branches (Some kinds.Atsp) is = inr refl
 kinds_bounded by (Some kinds.Cvrp) is = absurd (false≢true is)
 kinds_bounded by (Some kinds.Tour) is = absurd (false≢true is)
 kinds_bounded by (Some kinds.Potentials) is = absurd (false≢true is)
@@ -191,7 +191,7 @@ kinds_bounded by None is = absurd (false≢true is)
 -- a bound by branches is that of a tree of cases
 pub of_tree : (kind : Option Kind) (inst tree : Fields) (bound : ℤ) → IsBoundBy Branches kind inst tree bound → IsBoundByTree inst tree bound
 of_tree (Some kinds.Tsp) inst tree bound is = is
-of_tree (Some kinds.Atsp) inst tree bound is = absurd is
+of_tree (Some kinds.Atsp) inst tree bound is = is
 of_tree (Some kinds.Cvrp) inst tree bound is = absurd is
 of_tree (Some kinds.Tour) inst tree bound is = absurd is
 of_tree (Some kinds.Potentials) inst tree bound is = absurd is

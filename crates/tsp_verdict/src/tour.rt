@@ -122,7 +122,7 @@ fn first_against_files(inst: &Instance, sol: &File) -> Option<Reason>
 }
 
 /// Whether fixed pairs have a direction.
-fn is_directed(kind: Kind) -> bool
+pub(crate) fn is_directed(kind: Kind) -> bool
     ensures { result ≡ is_directed (Some kind) }
 {
     match kind {

@@ -1,20 +1,19 @@
 //! The bound that a tree of cases gives, or the first reason against it.
 
-ghost use Rattle.std.specs.Prelude.{◌≡◌, ◌≤◌, ◌<◌, ◌^◌, true, length, Some, IfOk, MatchOption};
+ghost use Rattle.std.specs.Prelude.{◌≡◌, ◌⊎◌, ℕ, List, ◌≤◌, ◌<◌, ◌^◌, true, length, Some, IfOk, MatchOption};
 ghost use Rattle.std.specs.List.{All};
 ghost use Rattle.tsp_format.specs.declared.kinds.Kind.TheVariants as kinds;
 ghost use Rattle.tsp_format.specs.Steps.{steps_of, are_whole};
 ghost use Rattle.tsp_draft.specs.Fields.{combs_of};
 ghost use Rattle.tsp_draft.specs.Rules.{is_tree};
-ghost use Rattle.tsp_file.specs.Cost.{cost};
-ghost use Rattle.tsp_theory.specs.Costs.{IsSymmetric};
+ghost use Rattle.tsp_cost.specs.Tours.{IsTourOf};
 ghost use Rattle.tsp_cost.specs.Views.{HasCosts};
 ghost use Rattle.tsp_theory.specs.Numbers.{IsScale};
 ghost use Rattle.tsp_branch.specs.Listed.{IsStepOf};
 ghost use Rattle.tsp_verdict.specs.Certificate.{scale_in};
 ghost use Rattle.tsp_verdict.specs.Reasons.{IsFirstReason};
 ghost use Rattle.tsp_verdict.specs.Solution.{nodes_of};
-ghost use Rattle.tsp_verdict.specs.Tours.{rank_of_tours};
+ghost use Rattle.tsp_verdict.specs.Tours.{rank_of_tours, IsSymmetricTsp};
 ghost use Rattle.tsp_verdict.specs.Tree.{combs_in, steps_in, StandsAgainstTree};
 ghost use Rattle.tsp_reason.specs.declared.certificate.Certificate.TheVariants as certificates;
 ghost use Rattle.tsp_verdict.specs.Certified.{FindsBound};
@@ -23,9 +22,10 @@ ghost use Rattle.tsp_verdict.specs.Numbered.{AreSomeSets};
 use crate::decided::taken_once;
 use crate::files::fixed_pairs;
 use crate::numbered::numbered_sets;
+use crate::tour::is_directed;
 use std::alloc::{AllocError, Global};
 use tsp_branch::{BranchVerdict, CostTable, certificates_bound_cycles, judge_branches};
-use tsp_cost::{Costs, Instance, Symmetric, View};
+use tsp_cost::{Costs, Instance, View};
 use tsp_draft::{valid_fields_are_in_range, valid_files_are_complete};
 use tsp_file::File;
 use tsp_format::{Kind, TreeStep};
@@ -34,8 +34,8 @@ use tsp_reason::Reason;
 /// The most nodes of which distances are kept for each pair, in 32 MB.
 const MOST_TABLED: u32 = 2_000;
 
-/// The bound that a certificate by branching gives an instance of TYPE TSP, or the first reason
-/// against it.
+/// The bound that a certificate by branching gives an instance of TYPE TSP or ATSP that has a tour,
+/// or the first reason against it.
 ///
 /// # Errors
 ///
@@ -45,9 +45,10 @@ pub(crate) fn bound_of_tree(
     instance: &Instance,
     branches: &File,
 ) -> Result<Result<i128, Reason>, AllocError>
-    requires kind { instance.now.kind ≡ Some kinds.Tsp }
+    requires kind { (instance.now.kind ≡ Some kinds.Tsp) ⊎ (instance.now.kind ≡ Some kinds.Atsp) }
     requires some { 3 ≤ nodes_of instance.now }
-    requires even { IsSymmetric (cost instance.now) }
+    requires even { IsSymmetricTsp instance.now }
+    requires toured { (tour : List ℕ) × IsTourOf instance.now tour }
     ensures { IfOk result (λ found. FindsBound certificates.Branches instance.now branches.now found) }
 {
     if let Some(reason) = first_against_file(instance, branches) {
@@ -58,10 +59,7 @@ pub(crate) fn bound_of_tree(
         View::Plane(points) => judge_distances(alloc, instance, branches, &points),
         View::Space(points) => judge_distances(alloc, instance, branches, &points),
         View::Triangle(triangle) => judge_tree(alloc, instance, branches, &triangle),
-        View::Matrix(matrix) => match matrix.even() {
-            Ok(even) => judge_tree(alloc, instance, branches, &even),
-            Err(_) => unreachable!(),
-        },
+        View::Matrix(matrix) => judge_tree(alloc, instance, branches, &matrix),
     }
 }
 
@@ -86,16 +84,17 @@ fn first_against_file(instance: &Instance, branches: &File) -> Option<Reason>
 /// # Errors
 ///
 /// Out of memory.
-fn judge_distances<C: Symmetric>(
+fn judge_distances<C: Costs>(
     alloc: Global,
     instance: &Instance,
     branches: &File,
     costs: &C,
 ) -> Result<Result<i128, Reason>, AllocError>
     requires keeps { HasCosts instance.now (C.nodes costs.now) (C.at costs.now) }
-    requires kind { instance.now.kind ≡ Some kinds.Tsp }
+    requires kind { (instance.now.kind ≡ Some kinds.Tsp) ⊎ (instance.now.kind ≡ Some kinds.Atsp) }
     requires some { 3 ≤ nodes_of instance.now }
-    requires even { IsSymmetric (cost instance.now) }
+    requires even { IsSymmetricTsp instance.now }
+    requires toured { (tour : List ℕ) × IsTourOf instance.now tour }
     requires sort { is_tree branches.now.kind ≡ true }
     requires count { nodes_of branches.now ≡ nodes_of instance.now }
     ensures { IfOk result (λ found. FindsBound certificates.Branches instance.now branches.now found) }
@@ -109,34 +108,47 @@ fn judge_distances<C: Symmetric>(
     }
 }
 
-/// The bound over the costs of a view, or the first reason against the combs, the branches or the
+/// The bound over the costs of a view, or the first reason against the families, the branches or the
 /// leaves.
 ///
 /// # Errors
 ///
 /// Out of memory.
-fn judge_tree<C: Symmetric>(
+fn judge_tree<C: Costs>(
     alloc: Global,
     instance: &Instance,
     branches: &File,
     costs: &C,
 ) -> Result<Result<i128, Reason>, AllocError>
     requires keeps { HasCosts instance.now (C.nodes costs.now) (C.at costs.now) }
-    requires kind { instance.now.kind ≡ Some kinds.Tsp }
+    requires kind { (instance.now.kind ≡ Some kinds.Tsp) ⊎ (instance.now.kind ≡ Some kinds.Atsp) }
     requires some { 3 ≤ nodes_of instance.now }
-    requires even { IsSymmetric (cost instance.now) }
+    requires even { IsSymmetricTsp instance.now }
+    requires toured { (tour : List ℕ) × IsTourOf instance.now tour }
     requires sort { is_tree branches.now.kind ≡ true }
     requires count { nodes_of branches.now ≡ nodes_of instance.now }
     ensures { IfOk result (λ found. FindsBound certificates.Branches instance.now branches.now found) }
 {
     certificates_bound_cycles();
-    let given = taken_once(alloc, fixed_pairs(instance))?;
+    let directed = is_directed(instance.kind());
+    let given = taken_once(alloc, directed, fixed_pairs(instance))?;
     let combs = combs_of_tree(branches);
     let sets = numbered_sets(alloc, combs)?;
     let steps = steps_of_tree(branches);
     let scale = scale_of_tree(branches);
-    match judge_branches(alloc, costs, scale, combs.len(), &sets, &given, steps)? {
-        BranchVerdict::Bound(bound) => Ok(Ok(bound)),
+    match judge_branches(
+        alloc,
+        costs,
+        directed,
+        scale,
+        combs.len(),
+        &sets,
+        &given,
+        steps,
+    )? {
+        BranchVerdict::Bound(Some(bound)) => Ok(Ok(bound)),
+        // The judged tour keeps what is given, so some leaf has a bound.
+        BranchVerdict::Bound(None) => unreachable!(),
         BranchVerdict::BadComb(index) => Ok(Err(Reason::BadComb {
             index: index as u32,
         })),
@@ -159,7 +171,7 @@ fn scale_of_tree(branches: &File) -> i64
     branches.scale().unwrap_or(1)
 }
 
-/// The combs of a certificate by branching: none where it has no COMB_SECTION.
+/// The families of a certificate by branching: none where it has no COMB_SECTION.
 fn combs_of_tree(branches: &File) -> &[Vec<Vec<u32>>]
     ensures value { combs_of result.now ≡ combs_in branches.now }
     ensures sets { AreSomeSets (nodes_of branches.now) (combs_of result.now) }

@@ -1,6 +1,5 @@
 use Rattle.std.proofs.Common.{◌∙◌, ℤ, List, length, ap, sym}
 use Rattle.std.specs.Prelude.{pos, ◌-ℤ◌, ◌*ℤ◌}
-use Rattle.tsp_theory.specs.Numbers.{total}
 use Rattle.tsp_branch.specs.LeafBound.{least_of}
 use Rattle.tsp_branch.specs.Certificate.{multiplied}
 use Rattle.tsp_branch.specs.CombsOfSets.{combs_of}

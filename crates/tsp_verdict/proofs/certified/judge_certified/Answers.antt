@@ -7,3 +7,8 @@ pub bound_of-requires-clause-some : goal.bound_of-requires-clause-some
 bound_of-requires-clause-some c =
     let found = subst (λ found. FindsLength c.args.instance.now c.args.solution.now found) c.in-Ok.is c.in_ok-length.ensures in
     enough c.args.instance.now c.args.solution.now found.0.0
+
+pub bound_of-requires-clause-toured : goal.bound_of-requires-clause-toured
+bound_of-requires-clause-toured c =
+    let found = subst (λ found. FindsLength c.args.instance.now c.args.solution.now found) c.in-Ok.is c.in_ok-length.ensures in
+    (found.0.1.0, found.0.1.2)

@@ -1,5 +1,5 @@
-use Rattle.std.proofs.Common.{◌≡◌, ◌∙◌, ◌++◌, true, ℕ, ℤ, List, Option, None, Some, length, ap, sym, subst, rules, FitsSigned, to_z, of_z}
-use Rattle.std.specs.Prelude.{MatchOption, pos, ◌-ℤ◌, ◌*ℤ◌}
+use Rattle.std.proofs.Common.{◌≡◌, ◌∙◌, ◌++◌, ℕ, ℤ, List, length, ap, sym, subst, rules, FitsSigned, to_z, of_z}
+use Rattle.std.specs.Prelude.{pos, ◌-ℤ◌, ◌*ℤ◌}
 use Rattle.std.specs.Int.{w128}
 use Rattle.std.specs.Global.{Vec}
 use Rattle.std.specs.List.{All}
@@ -11,12 +11,10 @@ use Rattle.tsp_branch.specs.Combs.{Comb}
 use Rattle.tsp_branch.specs.Families.{IsFamily}
 use Rattle.tsp_branch.specs.Decisions.{Decision}
 use Rattle.tsp_branch.specs.LeafBound.{combed, least_of}
-use Rattle.tsp_branch.specs.Certificate.{multiplied, IsFoundAt}
+use Rattle.tsp_branch.specs.Certificate.{multiplied}
 use Rattle.tsp_branch.specs.Combed.{plain, set_weight}
 use Rattle.tsp_branch.specs.CombsOfSets.{combs_of, AreSetCounts}
 use Rattle.tsp_branch.specs.Decided.{decided_number, case_of, stack_of}
-use Rattle.tsp_branch.specs.Judged.{numbers_of}
-use Rattle.tsp_branch.specs.Rows.{HasNoLink, IsRowBound}
 use Rattle.tsp_branch.proofs.CaseWeights.{small_multipliers, few_crossings, sets_below_count, row_weight, found_by_rows}
 use Rattle.tsp_branch.proofs.setting.Setting.bound_by_rows.Goals as goal
 
