@@ -1,6 +1,6 @@
 -- The weights of code at a leaf are those of its case.
-use Rattle.std.proofs.Common.{◌≡◌, ◌≢◌, ℕ, ◌<◌, Bool, List, [], ◌∷◌, ◌++◌, length, ℤ, ◌≤ℤ◌, inl, inr, arith}
-use Rattle.std.specs.Prelude.{pos, ◌+ℤ◌}
+use Rattle.std.proofs.Common.{◌≡◌, ◌≢◌, ℕ, ◌<◌, Bool, List, [], ◌∷◌, ◌++◌, length, Option, None, Some, true, ℤ, ◌≤ℤ◌, ◌∙◌, inl, inr, ap, sym, subst, arith}
+use Rattle.std.specs.Prelude.{pos, ◌+ℤ◌, ◌-ℤ◌, ◌*ℤ◌, MatchOption}
 use Rattle.std.specs.List.{All, AllPairs, AllByRecursion}
 use Rattle.std.specs.Global.{Vec}
 use Rattle.std.proofs.lemmas.Bool.{cases_Bool}
@@ -8,10 +8,13 @@ use Rattle.std.proofs.lemmas.Int.{ints}
 use Rattle.std.proofs.lemmas.List.Elements.{recursion_from_All, All-from_recursion}
 use Rattle.tsp_theory.specs.Numbers.{IsFromTo, total}
 use Rattle.tsp_theory.specs.Adjusted.{is_same_pair, adjusted}
-use Rattle.tsp_branch.specs.Combs.{IsComb}
+use Rattle.tsp_branch.specs.Families.{IsFamily}
 use Rattle.tsp_branch.specs.Decisions.{Decision, on_taken, on_avoided}
-use Rattle.tsp_branch.specs.LeafBound.{leaf_weight}
-use Rattle.tsp_branch.specs.Certificate.{multiplied}
+use Rattle.tsp_theory.specs.NodeBound.{weight_between}
+use Rattle.tsp_branch.specs.Combs.{Comb}
+use Rattle.tsp_branch.specs.LeafBound.{combed, least_of, leaf_weight}
+use Rattle.tsp_branch.specs.Rows.{HasNoLink, IsRowBound}
+use Rattle.tsp_branch.specs.Certificate.{multiplied, IsFoundAt}
 use Rattle.tsp_branch.specs.Combed.{plain, AreSmallMultipliers, AreFewCrossings, set_weight}
 use Rattle.tsp_branch.specs.CombsOfSets.{combs_of}
 use Rattle.tsp_branch.specs.Decided.{decided_number, case_of, stack_of, decided, decided_twice}
@@ -20,6 +23,7 @@ use Rattle.tsp_branch.proofs.Changes.{changes_are}
 use Rattle.tsp_branch.proofs.CombSizes.{combs_crossed_few}
 use Rattle.tsp_branch.proofs.CombsBySets.{sets_tell_combs, sets_give_leaves}
 use Rattle.tsp_branch.proofs.GivenBack.{below_from_sets}
+use Rattle.tsp_branch.proofs.RowLeaves.{agreed_rows}
 use Rattle.tsp_branch.proofs.DecidedOnce.{changes_by, changes_told, changes_both, changes_turned}
 
 changed_by : (ds : List Decision) (w : ℕ → ℕ → ℤ) (i j : ℕ) → adjusted (on_taken decided_number ds) (on_avoided decided_number ds) w i j ≡ w i j +ℤ changes_by ds i j
@@ -75,11 +79,11 @@ small_multipliers n combs potentials ms good =
     let own = All-from_recursion (λ m. IsFromTo (pos 0) (total ms) m) ms each k default lt in
     (own.0, let most = own.1 in let sum = good.sum in omega (arith, ints, most, sum))
 
-pub few_crossings : (n combs : ℕ) (potentials multipliers : List ℤ) (sets : List (ℕ × List ℕ)) → AreGoodNumbers n combs (numbers_of potentials multipliers) → All (IsComb n)
+pub few_crossings : (n combs : ℕ) (potentials multipliers : List ℤ) (sets : List (ℕ × List ℕ)) → AreGoodNumbers n combs (numbers_of potentials multipliers) → All (IsFamily n)
     (combs_of (length multipliers) sets)
     → All (λ set. set.0 < length multipliers) sets → AreFewCrossings multipliers sets
 few_crossings n combs potentials ms sets good are below = λ i j.
-    let few = combs_crossed_few n (combs_of (length ms) sets) ms i j (recursion_from_All (IsComb n) (combs_of (length ms) sets) are) (recursion_from_All (λ m. pos 0 ≤ℤ m) ms good.signs) in
+    let few = combs_crossed_few n (combs_of (length ms) sets) ms i j (recursion_from_All (IsFamily n) (combs_of (length ms) sets) are) (recursion_from_All (λ m. pos 0 ≤ℤ m) ms good.signs) in
     let same = sets_tell_combs ms sets i j below in
     let sum = good.sum in
     (let low = few.1 in omega (arith, ints, low, same), let high = few.2 in omega (arith, ints, high, same, sum))
@@ -89,3 +93,32 @@ few_crossings n combs potentials ms sets good are below = λ i j.
 pub sets_below_count : (count combs : ℕ) (sets : List (ℕ × Vec ℕ)) → combs ≡ count → All (λ set. (set.0 < count) × AllPairs (λ a b. a ≢ b) set.1.items) sets → All (λ set. set.0 < combs) (plain sets)
 sets_below_count count combs sets same h =
     All-from_recursion (λ set. set.0 < combs) (plain sets) (below_from_sets combs sets (λ k default lt. let own = (h k default lt).0 in omega (arith, own, same)))
+
+-- ---- the least links from each node
+
+-- weights that are those by sets are those of a leaf by rows
+pub row_weight : (combs : ℕ) (scale : ℤ) (potentials multipliers : List ℤ) (sets : List (ℕ × List ℕ)) (cost : ℕ → ℕ → ℤ) (i j : ℕ) → length multipliers ≡ combs
+    → All (λ set. set.0 < length multipliers) sets
+    → set_weight scale potentials multipliers sets cost i j ≡ combed (multiplied (combs_of combs sets) multipliers) (weight_between scale potentials cost) i j
+row_weight combs scale ps ms sets cost i j same below =
+    ap (λ (z : ℤ). weight_between scale ps cost i j -ℤ z) (sym (sets_tell_combs ms sets i j below))
+    ∙ ap (λ (k : ℕ). combed (multiplied (combs_of k sets) ms) (weight_between scale ps cost) i j) same
+
+-- what the code finds by rows is what is found of the leaf
+pub found_by_rows : (n k : ℕ) (cost : ℕ → ℕ → ℤ) (scale held number : ℤ) (families : List Comb) (case : List Decision) (potentials multipliers : List ℤ) (w : ℕ → ℕ → ℤ) (back : ℤ)
+    (found : Option ℤ) → k ≡ n → held ≡ scale
+    → ((i j : ℕ) → w i j ≡ combed (multiplied families multipliers) (weight_between scale potentials cost) i j)
+    → back ≡ least_of (multiplied families multipliers) -ℤ (pos 2 *ℤ total potentials)
+    → MatchOption found (HasNoLink k case) (λ bound. IsRowBound k w case held back bound)
+    → IsFoundAt true n cost scale number families (case, numbers_of potentials multipliers) found
+found_by_rows n k cost scale held number families case ps ms w back None nodes_are scale_is agree back_is none = subst (λ (m : ℕ). HasNoLink m case) nodes_are none
+found_by_rows n k cost scale held number families case ps ms w back (Some bound) nodes_are scale_is agree back_is is =
+    let v : ℕ → ℕ → ℤ = combed (multiplied families ms) (weight_between scale ps cost) in
+    subst (λ (z : ℤ). IsRowBound n v case scale z bound) back_is
+    (agreed_rows n w v case scale back bound agree
+    (subst (λ (m : ℕ). IsRowBound m w case scale back bound) nodes_are
+    (subst (λ (z : ℤ). IsRowBound k w case z back bound) scale_is is)))
+
+-- what a leaf gives back, as the code sums it
+pub back_of : (taken less taken_sum least_sum twice : ℤ) → taken ≡ taken_sum → less ≡ least_sum -ℤ twice → taken +ℤ less ≡ (taken_sum +ℤ least_sum) -ℤ twice
+back_of taken less taken_sum least_sum twice p q = omega (arith, ints, p, q)

@@ -1,83 +1,134 @@
 -- What a certificate's leaves show holds of every cycle that keeps the given decisions.
-use Rattle.std.proofs.Common.{false, ◌≡◌, ℕ, ◌≤◌, List, [], ◌∷◌, ℤ, ◌≤ℤ◌, arith}
+use Rattle.std.proofs.Common.{◌≡◌, ℕ, Bool, true, false, List, [], ◌∷◌, Option, None, Some, ℤ, ◌≤ℤ◌, inl, inr, refl, ap, arith}
 use Rattle.std.specs.Prelude.{pos}
 use Rattle.std.specs.List.{All, AllByRecursion}
 use Rattle.std.proofs.lemmas.Int.{ints}
 use Rattle.std.proofs.lemmas.List.Elements.{recursion_from_All, All-from_recursion, All-contains}
-use Rattle.tsp_theory.specs.Costs.{IsSymmetric}
-use Rattle.tsp_theory.specs.Cycle.{AreNeighbours}
 use Rattle.tsp_theory.specs.Numbers.{IsScale}
-use Rattle.tsp_branch.specs.Combs.{Comb, IsComb}
+use Rattle.tsp_branch.specs.Combs.{Comb}
+use Rattle.tsp_branch.specs.Families.{IsFamily}
 use Rattle.tsp_branch.specs.Decisions.{Decision, take_pairs, on_taken, on_avoided}
 use Rattle.tsp_branch.specs.LeafBound.{AreMultiplied, IsLeafBound, LeafBoundsBoundCycles}
-use Rattle.tsp_branch.specs.Cases.{LeafNumbers, Step, leaves_of, cases_of, BoundsCase, CasesBoundCycles}
-use Rattle.tsp_branch.specs.Certificate.{multiplied, AreLeafNumbers, IsBoundAt, IsCertificateBound, CertificatesBoundCycles, CertificatesBoundTours, CertificateBoundsAreUnique}
+use Rattle.tsp_branch.specs.RowLeaves.{RowLeafBoundsBoundCycles}
+use Rattle.tsp_branch.specs.Rows.{NoLinkNoCycle}
+use Rattle.tsp_branch.specs.Cases.{LeafNumbers, Step, leaves_of, cases_of, BoundsCase, HasNoCycle, CasesBoundCycles, CasesHaveNoCycle}
+use Rattle.tsp_branch.specs.Certificate.{multiplied, AreLeafNumbers, IsFoundAt, IsAbove, IsCertificateBound, AreCostsFor, CertificatesBoundCycles, CertificatesBoundTours, NoBoundNoTour, CertificateBoundsAreUnique}
 use Rattle.tsp_branch.proofs.Decisions.{takes_each, takes_none, tours_keep_fixed}
+use Rattle.tsp_branch.proofs.RowLeaves.{one_bound, has_no_bound}
 
-combs_with : (n : ℕ) (combs : List Comb) (multipliers : List ℤ) → AllByRecursion (IsComb n) combs → AllByRecursion (λ multiplier. pos 0 ≤ℤ multiplier) multipliers
-    → AllByRecursion (λ c. IsComb n c.0 × (pos 0 ≤ℤ c.1)) (multiplied combs multipliers)
-combs_with n [] multipliers are signs = tt
-combs_with n (comb ∷ combs) [] are signs = tt
-combs_with n (comb ∷ combs) (multiplier ∷ multipliers) are signs = ((are.0, signs.0), combs_with n combs multipliers are.1 signs.1)
+families_with : (n : ℕ) (families : List Comb) (multipliers : List ℤ) → AllByRecursion (IsFamily n) families → AllByRecursion (λ multiplier. pos 0 ≤ℤ multiplier) multipliers
+    → AllByRecursion (λ f. IsFamily n f.0 × (pos 0 ≤ℤ f.1)) (multiplied families multipliers)
+families_with n [] multipliers are signs = tt
+families_with n (family ∷ families) [] are signs = tt
+families_with n (family ∷ families) (multiplier ∷ multipliers) are signs = ((are.0, signs.0), families_with n families multipliers are.1 signs.1)
 
-leaf_bounds_case : (n : ℕ) (cost : ℕ → ℕ → ℤ) (scale number : ℤ) (combs : List Comb) (leaf : List Decision × LeafNumbers) (own : ℤ) → LeafBoundsBoundCycles → 3 ≤ n → IsSymmetric cost → IsScale scale
-    → All (IsComb n) combs → AreLeafNumbers n leaf.1 → IsBoundAt n cost scale number combs leaf own → BoundsCase false n cost own leaf.0
-leaf_bounds_case n cost scale number combs leaf own bounds some even scale_in are numbers is = λ nodes cycle keeps.
-    let multipliers = leaf.1.multipliers in
-    let with_combs = multiplied combs multipliers in
-    let each : AreMultiplied n with_combs = All-from_recursion (λ c. IsComb n c.0 × (pos 0 ≤ℤ c.1)) with_combs
-    (combs_with n combs multipliers (recursion_from_All (IsComb n) combs are) (recursion_from_All (λ multiplier. pos 0 ≤ℤ multiplier) multipliers numbers.signs)) in
-    bounds n cost scale leaf.1.potentials (on_taken number leaf.0) (on_avoided number leaf.0) with_combs own nodes some even scale_in numbers.each_node each is cycle
-    (takes_each nodes number leaf.0 keeps) (takes_none nodes number leaf.0 keeps)
+are_multiplied : (n : ℕ) (families : List Comb) (multipliers : List ℤ) → All (IsFamily n) families → All (λ multiplier. pos 0 ≤ℤ multiplier) multipliers → AreMultiplied n (multiplied families multipliers)
+are_multiplied n families multipliers are signs = All-from_recursion (λ f. IsFamily n f.0 × (pos 0 ≤ℤ f.1)) (multiplied families multipliers)
+    (families_with n families multipliers (recursion_from_All (IsFamily n) families are) (recursion_from_All (λ multiplier. pos 0 ≤ℤ multiplier) multipliers signs))
 
-pub certificates_bound_cycles : LeafBoundsBoundCycles → CasesBoundCycles → CertificatesBoundCycles
-certificates_bound_cycles bounds_leaves bounds_cases n cost scale number combs given steps bound some even scale_in certificate is =
+-- the theorems on a leaf
+pub record LeafLaws : Type 0 where
+  pub trees : LeafBoundsBoundCycles
+  pub rows : RowLeafBoundsBoundCycles
+  pub no_link : NoLinkNoCycle
+
+-- a leaf's bound, and that it has none
+leaf_bounds_case : (directed : Bool) (n : ℕ) (cost : ℕ → ℕ → ℤ) (scale number : ℤ) (families : List Comb) (leaf : List Decision × LeafNumbers) (own : ℤ) → LeafLaws → AreCostsFor directed n cost → IsScale scale
+    → All (IsFamily n) families → AreLeafNumbers n leaf.1 → IsFoundAt directed n cost scale number families leaf (Some own) → BoundsCase directed n cost own leaf.0
+leaf_bounds_case false n cost scale number families leaf own laws costs_are scale_in are numbers is = λ nodes cycle keeps.
+    laws.trees n cost scale leaf.1.potentials (on_taken number leaf.0) (on_avoided number leaf.0) (multiplied families leaf.1.multipliers) own nodes costs_are.0 costs_are.1 scale_in numbers.each_node
+    (are_multiplied n families leaf.1.multipliers are numbers.signs) is cycle (takes_each nodes number leaf.0 keeps) (takes_none nodes number leaf.0 keeps)
+leaf_bounds_case true n cost scale number families leaf own laws costs_are scale_in are numbers is =
+    laws.rows n cost scale leaf.1.potentials (multiplied families leaf.1.multipliers) leaf.0 own costs_are scale_in numbers.each_node (are_multiplied n families leaf.1.multipliers are numbers.signs) is
+
+leaf_has_none : (directed : Bool) (n : ℕ) (cost : ℕ → ℕ → ℤ) (scale number : ℤ) (families : List Comb) (leaf : List Decision × LeafNumbers) → LeafLaws → AreCostsFor directed n cost
+    → IsFoundAt directed n cost scale number families leaf None → HasNoCycle directed n leaf.0
+leaf_has_none false n cost scale number families leaf laws costs_are none = absurd none
+leaf_has_none true n cost scale number families leaf laws costs_are none = laws.no_link n leaf.0 costs_are none
+
+pub certificates_bound_cycles : LeafLaws → CasesBoundCycles → CasesHaveNoCycle → CertificatesBoundCycles
+certificates_bound_cycles laws bounds_cases no_cases directed n cost scale number families given steps (Some bound) costs_are scale_in certificate is =
     let leaves = leaves_of (given ∷ []) steps in
-    bounds_cases false n cost bound given steps certificate.whole
-    (All-from_recursion (BoundsCase false n cost bound) (cases_of leaves)
-    (each leaves (recursion_from_All (λ leaf. AreLeafNumbers n leaf.1) leaves certificate.numbers_are)
-    (recursion_from_All (λ leaf. (own : ℤ) × IsBoundAt n cost scale number combs leaf own × (bound ≤ℤ own)) leaves is.below)))
+    let found : List Decision × LeafNumbers → Option ℤ → Type 0 = IsFoundAt directed n cost scale number families in
+    bounds_cases directed n cost bound given steps certificate.whole
+    (All-from_recursion (BoundsCase directed n cost bound) (cases_of leaves)
+    (each leaves (recursion_from_All (λ leaf. AreLeafNumbers n leaf.1) leaves certificate.numbers_are) (recursion_from_All (IsAbove found bound) leaves is.0)))
   where
     each : (leaves : List (List Decision × LeafNumbers)) → AllByRecursion (λ leaf. AreLeafNumbers n leaf.1) leaves
-        → AllByRecursion (λ leaf. (own : ℤ) × IsBoundAt n cost scale number combs leaf own × (bound ≤ℤ own)) leaves → AllByRecursion (BoundsCase false n cost bound) (cases_of leaves)
+        → AllByRecursion (IsAbove (IsFoundAt directed n cost scale number families) bound) leaves → AllByRecursion (BoundsCase directed n cost bound) (cases_of leaves)
     each [] numbers bounds = tt
-    each (leaf ∷ leaves) numbers bounds = (
+    each (leaf ∷ leaves) numbers (inl none, bounds) =
+        (λ nodes cycle keeps. absurd (leaf_has_none directed n cost scale number families leaf laws costs_are none nodes cycle keeps), each leaves numbers.1 bounds)
+    each (leaf ∷ leaves) numbers (inr has, bounds) = (
       λ nodes cycle keeps.
-          let own = leaf_bounds_case n cost scale number combs leaf bounds.0.0 bounds_leaves some even scale_in certificate.combs_are numbers.0 bounds.0.1 nodes cycle keeps in
-          omega (arith, ints, own, bounds.0.2),
-      each leaves numbers.1 bounds.1,
+          let own = leaf_bounds_case directed n cost scale number families leaf has.0 laws costs_are scale_in certificate.families_are numbers.0 has.1 nodes cycle keeps in
+          omega (arith, ints, own, has.2),
+      each leaves numbers.1 bounds,
     )
+certificates_bound_cycles laws bounds_cases no_cases directed n cost scale number families given steps None costs_are scale_in certificate is =
+    let leaves = leaves_of (given ∷ []) steps in
+    no_cases directed n given steps certificate.whole (All-from_recursion (HasNoCycle directed n) (cases_of leaves)
+    (each leaves (recursion_from_All (λ leaf. IsFoundAt directed n cost scale number families leaf None) leaves is)))
+  where
+    each : (leaves : List (List Decision × LeafNumbers)) → AllByRecursion (λ leaf. IsFoundAt directed n cost scale number families leaf None) leaves → AllByRecursion (HasNoCycle directed n) (cases_of leaves)
+    each [] none = tt
+    each (leaf ∷ leaves) none = (leaf_has_none directed n cost scale number families leaf laws costs_are none.0, each leaves none.1)
 
 pub certificates_bound_tours : CertificatesBoundCycles → CertificatesBoundTours
-certificates_bound_tours bounds n cost scale number combs fixed steps bound nodes some even scale_in certificate is tour =
-    bounds n cost scale number combs (take_pairs fixed) steps bound some even scale_in certificate is nodes tour.cycle
-    (tours_keep_fixed nodes fixed (recursion_from_All (AreNeighbours nodes) fixed tour.fixed_used))
+certificates_bound_tours bounds directed n cost scale number families fixed steps bound nodes costs_are scale_in certificate is tour =
+    bounds directed n cost scale number families (take_pairs fixed) steps (Some bound) costs_are scale_in certificate is nodes tour.cycle (tours_keep_fixed directed nodes fixed tour.fixed_used)
 
--- ---- one bound
+pub no_bound_no_tour : CertificatesBoundCycles → NoBoundNoTour
+no_bound_no_tour bounds directed n cost scale number families fixed steps nodes costs_are scale_in certificate is tour =
+    bounds directed n cost scale number families (take_pairs fixed) steps None costs_are scale_in certificate is nodes tour.cycle (tours_keep_fixed directed nodes fixed tour.fixed_used)
+
+-- ---- one bound, or none
 
 -- two least 1-trees weigh the same
-one_leaf_bound : (n : ℕ) (cost : ℕ → ℕ → ℤ) (scale : ℤ) (potentials : List ℤ) (taken avoided : List (ℕ × ℕ × ℤ)) (combs : List (Comb × ℤ)) (a b : ℤ)
-    → IsLeafBound n cost scale potentials taken avoided combs a → IsLeafBound n cost scale potentials taken avoided combs b → a ≡ b
-one_leaf_bound n cost scale potentials taken avoided combs a b one other =
+one_leaf_bound : (n : ℕ) (cost : ℕ → ℕ → ℤ) (scale : ℤ) (potentials : List ℤ) (taken avoided : List (ℕ × ℕ × ℤ)) (families : List (Comb × ℤ)) (a b : ℤ)
+    → IsLeafBound n cost scale potentials taken avoided families a → IsLeafBound n cost scale potentials taken avoided families b → a ≡ b
+one_leaf_bound n cost scale potentials taken avoided families a b one other =
     let below = one.least.least other.tree other.least.tree in
     let above = other.least.least one.tree one.least.tree in
     let first = one.bound_is.least b (let own = other.bound_is.above in omega (arith, ints, own, below)) in
     let second = other.bound_is.least a (let own = one.bound_is.above in omega (arith, ints, own, above)) in
     omega (arith, ints, first, second)
 
+one_found : (directed : Bool) (n : ℕ) (cost : ℕ → ℕ → ℤ) (scale number : ℤ) (families : List Comb) (leaf : List Decision × LeafNumbers) (a b : ℤ) → IsFoundAt directed n cost scale number families leaf (Some a)
+    → IsFoundAt directed n cost scale number families leaf (Some b) → a ≡ b
+one_found false n cost scale number families leaf a b one other =
+    one_leaf_bound n cost scale leaf.1.potentials (on_taken number leaf.0) (on_avoided number leaf.0) (multiplied families leaf.1.multipliers) a b one other
+one_found true n cost scale number families leaf a b one other = one_bound n _ leaf.0 scale _ a b one other
+
+some_or_none : (directed : Bool) (n : ℕ) (cost : ℕ → ℕ → ℤ) (scale number : ℤ) (families : List Comb) (leaf : List Decision × LeafNumbers) (a : ℤ) → IsFoundAt directed n cost scale number families leaf (Some a)
+    → IsFoundAt directed n cost scale number families leaf None → ⊥
+some_or_none false n cost scale number families leaf a one none = none
+some_or_none true n cost scale number families leaf a one none = has_no_bound n _ leaf.0 scale _ a none one
+
 -- what is at most the bound of each leaf is at most that of one of them
-at_most : (n : ℕ) (cost : ℕ → ℕ → ℤ) (scale number : ℤ) (combs : List Comb) (given : List Decision) (steps : List Step) (a b : ℤ)
-    → IsCertificateBound n cost scale number combs given steps a → IsCertificateBound n cost scale number combs given steps b → a ≤ℤ b
-at_most n cost scale number combs given steps a b one other =
+at_most : (directed : Bool) (n : ℕ) (cost : ℕ → ℕ → ℤ) (scale number : ℤ) (families : List Comb) (given : List Decision) (steps : List Step) (a b : ℤ)
+    → IsCertificateBound directed n cost scale number families given steps (Some a) → IsCertificateBound directed n cost scale number families given steps (Some b) → a ≤ℤ b
+at_most directed n cost scale number families given steps a b one other =
     let leaves = leaves_of (given ∷ []) steps in
-    let there = other.reached in
+    let there = other.1 in
     let leaf = there.1 in
-    let own = All-contains (λ leaf. (own : ℤ) × IsBoundAt n cost scale number combs leaf own × (a ≤ℤ own)) leaves leaf one.below (there.0, there.2, there.3) in
-    let same = one_leaf_bound n cost scale leaf.1.potentials (on_taken number leaf.0) (on_avoided number leaf.0) (multiplied combs leaf.1.multipliers) own.0 b own.1 there.4 in
-    omega (arith, ints, own.2, same)
+    elim (All-contains (IsAbove (IsFoundAt directed n cost scale number families) a) leaves leaf one.0 (there.0, there.2, there.3)) [
+      | inl none ↦ absurd (some_or_none directed n cost scale number families leaf b there.4 none)
+      | inr own ↦ let same = one_found directed n cost scale number families leaf own.0 b own.1 there.4 in omega (arith, ints, own.2, same)
+    ]
+
+never_both : (directed : Bool) (n : ℕ) (cost : ℕ → ℕ → ℤ) (scale number : ℤ) (families : List Comb) (given : List Decision) (steps : List Step) (a : ℤ)
+    → IsCertificateBound directed n cost scale number families given steps (Some a) → IsCertificateBound directed n cost scale number families given steps None → ⊥
+never_both directed n cost scale number families given steps a one none =
+    let there = one.1 in
+    some_or_none directed n cost scale number families there.1 a there.4
+    (All-contains (λ leaf. IsFoundAt directed n cost scale number families leaf None) (leaves_of (given ∷ []) steps) there.1 none (there.0, there.2, there.3))
 
 pub certificate_bounds_are_unique : CertificateBoundsAreUnique
-certificate_bounds_are_unique n cost scale number combs given steps a b one other =
-    let below = at_most n cost scale number combs given steps a b one other in
-    let above = at_most n cost scale number combs given steps b a other one in
-    omega (arith, ints, below, above)
+certificate_bounds_are_unique directed n cost scale number families given steps (Some a) (Some b) one other =
+    let below = at_most directed n cost scale number families given steps a b one other in
+    let above = at_most directed n cost scale number families given steps b a other one in
+    ap (λ (z : ℤ). Some z) (omega (arith, ints, below, above))
+certificate_bounds_are_unique directed n cost scale number families given steps (Some a) None one other = absurd (never_both directed n cost scale number families given steps a one other)
+certificate_bounds_are_unique directed n cost scale number families given steps None (Some b) one other = absurd (never_both directed n cost scale number families given steps b other one)
+certificate_bounds_are_unique directed n cost scale number families given steps None None one other = refl

@@ -6,7 +6,7 @@ use Rattle.std.specs.List.{All, AllByRecursion}
 use Rattle.std.proofs.lemmas.Bool.{cases_eq, eq-eqb, ne_eqb}
 use Rattle.std.proofs.lemmas.List.{take-append-drop, get_or-drop, length-drop}
 use Rattle.std.proofs.lemmas.List.Elements.{All-head, All-tail, All-take, All-from_recursion, recursion_from_All}
-use Rattle.tsp_branch.specs.Combs.{IsComb}
+use Rattle.tsp_branch.specs.Families.{IsFamily}
 use Rattle.tsp_format.specs.Cells.{IsNode}
 use Rattle.tsp_branch.specs.Sets.{AreSetsOf}
 use Rattle.tsp_branch.specs.Combed.{plain}
@@ -65,9 +65,9 @@ module _ (comb count : ℕ) (sets : List (ℕ × Vec ℕ)) (order : AreInOrder s
 
 -- ---- all combs
 
-combs_all : (n first count : ℕ) (sets : List (ℕ × List ℕ)) → ((comb : ℕ) → comb < first + count → IsGoodComb n (of_comb comb sets)) → AllByRecursion (IsComb n) (combs_from first count sets)
+combs_all : (n first count : ℕ) (sets : List (ℕ × List ℕ)) → ((comb : ℕ) → comb < first + count → IsGoodComb n (of_comb comb sets)) → AllByRecursion (IsFamily n) (combs_from first count sets)
 combs_all n first zero sets h = tt
-combs_all n first (suc count) sets h = ((h first (omega arith)).comb, combs_all n (suc first) count sets (λ comb lt. h comb (omega (arith, lt))))
+combs_all n first (suc count) sets h = ((h first (omega arith)).family, combs_all n (suc first) count sets (λ comb lt. h comb (omega (arith, lt))))
 
 once_all : (combs : ℕ) (sets : List (ℕ × List ℕ)) → AllByRecursion (λ set. set.0 < combs) sets → ((comb : ℕ) → comb < combs → All HasEachOnce (of_comb comb sets))
     → AllByRecursion (λ set. HasEachOnce set.1) sets
@@ -91,7 +91,7 @@ pub all_good : (n combs : ℕ) (sets : List (ℕ × Vec ℕ)) → All (λ set. s
     → AreCombsJudged n combs (plain sets) None
 all_good n combs sets within good = (
   good,
-  All-from_recursion (IsComb n) (combs_of combs (plain sets)) (combs_all n 0 combs (plain sets) (λ comb lt. good comb (omega (arith, lt)))),
+  All-from_recursion (IsFamily n) (combs_of combs (plain sets)) (combs_all n 0 combs (plain sets) (λ comb lt. good comb (omega (arith, lt)))),
   All-from_recursion (λ (set : ℕ × List ℕ). HasEachOnce set.1) (plain sets)
       (once_all combs (plain sets) (plain_within combs sets (recursion_from_All (λ (set : ℕ × Vec ℕ). set.0 < combs) sets within)) (λ comb lt. (good comb lt).once)),
 )

@@ -1,5 +1,5 @@
 -- How large crossings and multipliers make a weight at most: two nodes cross three sets of a comb at most, since a node is in one tooth at most.
-use Rattle.std.proofs.Common.{◌≡◌, ℕ, Bool, true, false, List, [], ◌∷◌, ℤ, ◌≤ℤ◌, FitsSigned, cond, not, inl, inr, refl, ap, arith}
+use Rattle.std.proofs.Common.{◌≡◌, ℕ, Bool, true, false, List, [], ◌∷◌, ℤ, ◌≤ℤ◌, FitsSigned, cond, not, inl, inr, refl, ap, sym, subst, arith}
 use Rattle.std.specs.Prelude.{pos, negsuc, neg_ℤ, ◌+ℤ◌, ◌-ℤ◌, ◌*ℤ◌}
 use Rattle.std.specs.Int.{w64}
 use Rattle.std.specs.List.{AllByRecursion}
@@ -12,7 +12,8 @@ use Rattle.tsp_theory.specs.Tree.{crossing}
 use Rattle.tsp_theory.specs.NodeBound.{most_between}
 use Rattle.tsp_theory.proofs.Crossings.{one_if, none_or_one}
 use Rattle.tsp_theory.proofs.Sizes.{size_of}
-use Rattle.tsp_branch.specs.Combs.{Comb, IsComb, AreApart, crossings}
+use Rattle.tsp_branch.specs.Combs.{Comb, AreApart, crossings}
+use Rattle.tsp_branch.specs.Families.{IsFamily}
 use Rattle.tsp_branch.specs.LeafBound.{crossings_of}
 use Rattle.tsp_branch.specs.Certificate.{multiplied}
 use Rattle.tsp_branch.specs.Combed.{most_crossed, most_combed}
@@ -54,9 +55,14 @@ teeth_crossed_few i j (t ∷ ts) =
     let link = of_link (t i) (t j) in
     (omega (arith, ints, rest.0, own.0), omega (arith, ints, rest.1, link))
 
-comb_crossed_few : (n : ℕ) (comb : Comb) (i j : ℕ) → IsComb n comb → (pos 0 ≤ℤ crossings comb i j) × (crossings comb i j ≤ℤ pos 3)
+-- no two teeth of a family have a node in common
+apart_teeth : (n : ℕ) (family : Comb) → IsFamily n family → Apart family.teeth
+apart_teeth n family (inl lone) = subst Apart (sym lone.alone) tt
+apart_teeth n family (inr comb) = apart_from_pairs family.teeth comb.apart
+
+comb_crossed_few : (n : ℕ) (comb : Comb) (i j : ℕ) → IsFamily n comb → (pos 0 ≤ℤ crossings comb i j) × (crossings comb i j ≤ℤ pos 3)
 comb_crossed_few n comb i j is =
-    let apart = apart_from_pairs comb.teeth is.apart in
+    let apart = apart_teeth n comb is in
     let teeth = teeth_crossed_few i j comb.teeth in
     let handle = none_or_one (cond (comb.handle i) (not (comb.handle j)) (comb.handle j)) in
     let one = in_one i comb.teeth apart in
@@ -73,7 +79,7 @@ three_at_most (pos m) crossed some low high =
     let most = product_below m crossed (pos 3) high in
     (omega (arith, ints, none, least), omega (arith, ints, most))
 
-pub combs_crossed_few : (n : ℕ) (combs : List Comb) (multipliers : List ℤ) (i j : ℕ) → AllByRecursion (IsComb n) combs → AllByRecursion (λ multiplier. pos 0 ≤ℤ multiplier) multipliers
+pub combs_crossed_few : (n : ℕ) (combs : List Comb) (multipliers : List ℤ) (i j : ℕ) → AllByRecursion (IsFamily n) combs → AllByRecursion (λ multiplier. pos 0 ≤ℤ multiplier) multipliers
     → (pos 0 ≤ℤ total multipliers) × (pos 0 ≤ℤ crossings_of (multiplied combs multipliers) i j) × (crossings_of (multiplied combs multipliers) i j ≤ℤ (pos 3 *ℤ total multipliers))
 combs_crossed_few n [] [] i j are signs = (omega (arith, ints), omega (arith, ints), omega (arith, ints))
 combs_crossed_few n [] (m ∷ ms) i j are signs = let rest = combs_crossed_few n [] ms i j are signs.1 in

@@ -62,7 +62,7 @@ abbrev Apart : List Decision → Type 0
 Apart [] = Unit {0}
 Apart (d ∷ ds) = AllByRecursion (λ e. is_same_pair d.pair e.pair ≡ false) ds × Apart ds
 
-apart : (ds : List Decision) → DecideOnce ds → Apart ds
+apart : (ds : List Decision) → DecideOnce false ds → Apart ds
 apart [] h = tt
 apart (d ∷ ds) h = (
   recursion_from_All (λ e. is_same_pair d.pair e.pair ≡ false) ds (λ k e lt. h zero (suc k) e (omega arith) (omega arith)),
@@ -94,7 +94,7 @@ changed_once (d ∷ ds) i j h = elim (cases_Bool (is_same_pair d.pair (i, j))) [
       rw other (omega (arith, ints, rest.0), omega (arith, ints, rest.1))
 ]
 
-pub few_changes : (given stack : List (ℕ × ℕ × Bool)) → DecideOnce (stack_of stack ++ case_of given) → AreFewChanges given stack
+pub few_changes : (given stack : List (ℕ × ℕ × Bool)) → DecideOnce false (stack_of stack ++ case_of given) → AreFewChanges given stack
 few_changes given stack once i j =
     let all = changed_once (stack_of stack ++ case_of given) i j (apart (stack_of stack ++ case_of given) once) in
     let split = changes_both (stack_of stack) (case_of given) i j in

@@ -1,9 +1,10 @@
 -- A cycle that keeps decisions uses the taken pairs and none of the avoided.
 use Rattle.std.proofs.Common.{ℕ, Bool, true, false, List, [], ◌∷◌, map, ℤ}
 use Rattle.std.specs.Prelude.{if◌then◌else◌}
-use Rattle.std.specs.List.{AllByRecursion}
+use Rattle.std.specs.List.{All, AllByRecursion}
 use Rattle.std.proofs.lemmas.List.Elements.{recursion_from_All, All-from_recursion}
 use Rattle.tsp_theory.specs.Cycle.{AreNeighbours}
+use Rattle.tsp_theory.specs.Tour.{Uses}
 use Rattle.tsp_theory.specs.Adjusted.{pair_of, UsesEach, UsesNone, AdjustedBoundsBoundCycles}
 use Rattle.tsp_branch.specs.Decisions.{Decision, KeepsPair, KeepsDecision, KeepsAll, take_pairs, on_taken, on_avoided, DecidedBoundsBoundCycles, FixedBoundsBoundTours}
 
@@ -55,9 +56,9 @@ fixed_bounds_bound_tours bounds n cost scale potentials fixed bound nodes some e
     each (triple ∷ triples) used = (used.0, each triples used.1)
 
 -- a tour takes the fixed pairs
-pub tours_keep_fixed : (nodes : List ℕ) (fixed : List (ℕ × ℕ)) → AllByRecursion (AreNeighbours nodes) fixed → KeepsAll false nodes (take_pairs fixed)
-tours_keep_fixed nodes fixed used = All-from_recursion (KeepsDecision false nodes) (take_pairs fixed) (each fixed used)
+pub tours_keep_fixed : (directed : Bool) (nodes : List ℕ) (fixed : List (ℕ × ℕ)) → All (Uses directed nodes) fixed → KeepsAll directed nodes (take_pairs fixed)
+tours_keep_fixed directed nodes fixed used = All-from_recursion (KeepsDecision directed nodes) (take_pairs fixed) (each fixed (recursion_from_All (Uses directed nodes) fixed used))
   where
-    each : (pairs : List (ℕ × ℕ)) → AllByRecursion (AreNeighbours nodes) pairs → AllByRecursion (KeepsDecision false nodes) (take_pairs pairs)
+    each : (pairs : List (ℕ × ℕ)) → AllByRecursion (Uses directed nodes) pairs → AllByRecursion (KeepsDecision directed nodes) (take_pairs pairs)
     each [] used = tt
     each (pair ∷ pairs) used = (used.0, each pairs used.1)

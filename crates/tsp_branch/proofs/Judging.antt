@@ -1,5 +1,5 @@
 -- What is found of a leaf, from what the code has in its room.
-use Rattle.std.proofs.Common.{◌≡◌, ◌∙◌, ℕ, zero, suc, ◌+◌, ◌^◌, ◌<◌, ◌≤◌, Bool, true, List, [], ◌∷◌, ◌++◌, length, take, drop, get_or, ℤ, inl, inr, refl, sym, ap, subst, arith, drop-cons, add-one}
+use Rattle.std.proofs.Common.{◌≡◌, ◌∙◌, ℕ, zero, suc, ◌+◌, ◌^◌, ◌<◌, ◌≤◌, Bool, true, false, List, [], ◌∷◌, ◌++◌, length, take, drop, get_or, ℤ, inl, inr, refl, sym, ap, subst, arith, drop-cons, add-one}
 use Rattle.std.specs.Prelude.{Option, None, Some, IfSome, pos, neg_ℤ}
 use Rattle.std.specs.List.{All}
 use Rattle.std.proofs.lemmas.Int.{ints}
@@ -14,16 +14,19 @@ use Rattle.tsp_theory.specs.Costs.{IsSymmetric}
 use Rattle.tsp_theory.specs.Numbers.{IsFromTo, IsScale, IsBoundSized}
 use Rattle.tsp_branch.specs.declared.steps.Judged.{Judged}
 use Rattle.tsp_branch.specs.declared.steps.Judged.TheVariants as judged
-use Rattle.tsp_branch.specs.Combs.{Comb, IsComb}
+use Rattle.tsp_branch.specs.Combs.{Comb}
+use Rattle.tsp_branch.specs.Families.{IsFamily}
 use Rattle.tsp_branch.specs.Decisions.{Decision, DecideOnce}
-use Rattle.tsp_branch.specs.Cases.{are_trees, next_stack}
-use Rattle.tsp_branch.specs.Certificate.{IsBoundAt, IsCertificate, IsCertificateBound, CertificatesBoundCycles}
+use Rattle.tsp_branch.specs.declared.steps.JudgedLeaf.{JudgedLeaf}
+use Rattle.tsp_branch.specs.declared.steps.JudgedLeaf.TheVariants as leaves
+use Rattle.tsp_branch.specs.Cases.{LeafNumbers, are_trees, leaves_of, next_stack}
+use Rattle.tsp_branch.specs.Certificate.{IsCertificate, IsLeastFound, AreCostsFor, CertificatesBoundCycles}
 use Rattle.tsp_branch.specs.Combed.{most_multiplied}
 use Rattle.tsp_branch.specs.Decided.{decided_number, stack_of}
 use Rattle.tsp_branch.specs.Judged.{AreGoodNumbers, numbers_of}
 use Rattle.tsp_branch.specs.Listed.{all_grown, split_at, steps_from, no_numbers_of, listed_steps, IsStepOf, AreSteps, AreGoodFrom, IsFirstBadFrom, IsJudged, BoundsCycles, IsLowest}
 use Rattle.tsp_branch.specs.Twice.{AreBranchesJudged}
-use Rattle.tsp_branch.specs.Rooms.{AreSmall, IsJudgedLeaf}
+use Rattle.tsp_branch.specs.Rooms.{AreSmall, IsJudgedLeaf, IsSizedLeaf}
 use Rattle.tsp_branch.proofs.CaseWeights.{small_multipliers}
 use Rattle.tsp_branch.proofs.Passes.{IsAtStep, at_leaf, at_last}
 
@@ -40,22 +43,20 @@ good_are_small n count numbers good =
     (All-weaker (IsFromTo (pos 0) (pos most_multiplied)) (IsFromTo (neg_ℤ (pos (2 ^ 64))) (pos (2 ^ 64)))
     (λ z is. (omega (arith, ints, is.0), omega (arith, ints, is.1))) (drop n numbers) (small_multipliers n count (take n numbers) (drop n numbers) good)))
 
-pub judged_leaf : (n : ℕ) (cost : ℕ → ℕ → ℤ) (scale : ℤ) (combs : List Comb) (count : ℕ) (case : List Decision) (old : List ℤ) (changes : List (ℕ × ℤ)) (new potentials multipliers : List ℤ)
-    (bound shown : ℤ)
+pub judged_leaf : (Found : List Decision × LeafNumbers → Option ℤ → Type 0) (n count : ℕ) (case : List Decision) (old : List ℤ) (changes : List (ℕ × ℤ)) (new potentials multipliers : List ℤ) (own : Option ℤ)
     → length old ≡ n + count → All (λ change. IsNode (length old) change.0) changes → new ≡ all_grown changes old → AreGoodNumbers n count (split_at n new)
-    → potentials ≡ take n new → multipliers ≡ drop n new → IsBoundAt n cost scale decided_number combs (case, numbers_of potentials multipliers) bound → shown ≡ bound
-    → IsJudgedLeaf n cost scale combs count case old changes new (Some shown)
-judged_leaf n cost scale combs count case old changes new potentials multipliers bound shown long inside grown good of_nodes of_combs is same = (
+    → potentials ≡ take n new → multipliers ≡ drop n new → Found (case, numbers_of potentials multipliers) own
+    → IsJudgedLeaf Found n count case old changes new (leaves.Found own)
+judged_leaf Found n count case old changes new potentials multipliers own long inside grown good of_nodes of_combs is = (
   record {
     indexes = subst (λ (k : ℕ). All (λ change. IsNode k change.0) changes) long inside;
     numbers_are = subst (λ (zs : List ℤ). AreGoodNumbers n count (split_at n zs)) grown good;
   },
   grown,
   good_are_small n count new good,
-  subst (λ (zs : List ℤ). IsBoundAt n cost scale decided_number combs (case, split_at n zs) shown) grown
-      (subst (λ (z : ℤ). IsBoundAt n cost scale decided_number combs (case, split_at n new) z) (sym same)
-      (subst (λ (zs : List ℤ). IsBoundAt n cost scale decided_number combs (case, numbers_of (take n new) zs) bound) of_combs
-      (subst (λ (zs : List ℤ). IsBoundAt n cost scale decided_number combs (case, numbers_of zs multipliers) bound) of_nodes is))),
+  subst (λ (zs : List ℤ). Found (case, split_at n zs) own) grown
+      (subst (λ (zs : List ℤ). Found (case, numbers_of (take n new) zs) own) of_combs
+      (subst (λ (zs : List ℤ). Found (case, numbers_of zs multipliers) own) of_nodes is)),
 )
 
 -- good numbers, as they are read
@@ -78,12 +79,12 @@ whole_trees n numbers (suc count) (listed.Branch a b ∷ steps) = whole_trees n 
 whole_trees n numbers (suc count) (listed.Leaf changes ∷ steps) = whole_trees n (all_grown changes numbers) count steps
 
 -- what the bound of a tree of cases asks of the steps
-pub steps_judged : (n combs : ℕ) (given : List Decision) (steps : List listed.Step) (found : Option ℕ) → All (IsStepOf n) steps → are_whole 1 steps ≡ true
-    → AreBranchesJudged given steps found → found ≡ None → AreSteps n given steps (listed_steps n combs steps)
-steps_judged n combs given steps found each whole judged none = record {
+pub steps_judged : (directed : Bool) (n combs : ℕ) (given : List Decision) (steps : List listed.Step) (found : Option ℕ) → All (IsStepOf n) steps → are_whole 1 steps ≡ true
+    → AreBranchesJudged directed given steps found → found ≡ None → AreSteps directed n given steps (listed_steps n combs steps)
+steps_judged directed n combs given steps found each whole judged none = record {
   each = each;
   whole = sym (whole_trees n (no_numbers_of n combs) 1 steps) ∙ whole;
-  once = (subst (AreBranchesJudged given steps) none judged).1 n combs;
+  once = (subst (AreBranchesJudged directed given steps) none judged).1 n combs;
 }
 
 -- ---- the step that is next
@@ -98,81 +99,74 @@ own_step n steps index step other each lt is same =
     subst (λ (s : TreeStep). IsStepOf n (step_of s)) (sym is ∙ same)
     (subst (IsStepOf n) (get_or-map step_of steps index step (step_of step) lt) (each index (step_of step) (subst (λ (k : ℕ). index < k) (sym (length-map steps step_of)) lt)))
 
-pub at_next : (n : ℕ) (cost : ℕ → ℕ → ℤ) (scale : ℤ) (combs : List Comb) (count : ℕ) (given : List Decision) (all : List TreeStep) (numbers : List ℤ) (stack : List (ℕ × ℕ × Bool)) (lowest : Option ℤ)
-    (leaf index : ℕ) (step other : TreeStep) → index < length all → step ≡ get_or all index step → step ≡ other
-    → IsAtStep n cost scale combs count given (steps_of all) numbers stack lowest leaf (steps_of (drop index all))
-    → IsAtStep n cost scale combs count given (steps_of all) numbers stack lowest leaf (step_of other ∷ steps_of (drop (index + 1) all))
-at_next n cost scale combs count given all numbers stack lowest leaf index step other lt is same at =
-    subst (λ (steps : List TreeStep). IsAtStep n cost scale combs count given (steps_of all) numbers stack lowest leaf (steps_of steps))
-    (left_at all index step lt is ∙ ap (λ (s : TreeStep). s ∷ drop (index + 1) all) same) at
+module _ (Found : List Decision × LeafNumbers → Option ℤ → Type 0) (directed : Bool) (n count : ℕ) (given : List Decision) where
+  pub at_next : (all : List TreeStep) (numbers : List ℤ) (stack : List (ℕ × ℕ × Bool)) (lowest : Option ℤ)
+      (leaf index : ℕ) (step other : TreeStep) → index < length all → step ≡ get_or all index step → step ≡ other
+      → IsAtStep Found directed n count given (steps_of all) numbers stack lowest leaf (steps_of (drop index all))
+      → IsAtStep Found directed n count given (steps_of all) numbers stack lowest leaf (step_of other ∷ steps_of (drop (index + 1) all))
+  at_next all numbers stack lowest leaf index step other lt is same at =
+      subst (λ (steps : List TreeStep). IsAtStep Found directed n count given (steps_of all) numbers stack lowest leaf (steps_of steps))
+      (left_at all index step lt is ∙ ap (λ (s : TreeStep). s ∷ drop (index + 1) all) same) at
 
-module _ (n : ℕ) (cost : ℕ → ℕ → ℤ) (scale : ℤ) (combs : List Comb) (count : ℕ) (given : List Decision) (all : List listed.Step) where
+module _ (Found : List Decision × LeafNumbers → Option ℤ → Type 0) (directed : Bool) (n count : ℕ) (given : List Decision) (all : List listed.Step) where
   abbrev pub AtNext : List ℤ → List (ℕ × ℕ × Bool) → Option ℤ → ℕ → List listed.Step → Type 0
-  AtNext numbers stack lowest leaf steps = IsAtStep n cost scale combs count given all numbers stack lowest leaf steps
+  AtNext numbers stack lowest leaf steps = IsAtStep Found directed n count given all numbers stack lowest leaf steps
 
-  pub bad_here : (numbers : List ℤ) (stack : List (ℕ × ℕ × Bool)) (lowest : Option ℤ) (leaf : ℕ) (changes : List (ℕ × ℤ)) (rest : List listed.Step) (new : List ℤ) (found : Option ℤ)
-      → AtNext numbers stack lowest leaf (listed.Leaf changes ∷ rest) → IsJudgedLeaf n cost scale combs count (stack_of stack ++ given) numbers changes new found → found ≡ None
+  abbrev JudgedAs : List ℤ → List (ℕ × ℕ × Bool) → List (ℕ × ℤ) → List ℤ → JudgedLeaf → Type 0
+  JudgedAs numbers stack changes new found = IsJudgedLeaf Found n count (stack_of stack ++ given) numbers changes new found
+
+  pub bad_here : (numbers : List ℤ) (stack : List (ℕ × ℕ × Bool)) (lowest : Option ℤ) (leaf : ℕ) (changes : List (ℕ × ℤ)) (rest : List listed.Step) (new : List ℤ) (found : JudgedLeaf)
+      → AtNext numbers stack lowest leaf (listed.Leaf changes ∷ rest) → JudgedAs numbers stack changes new found → found ≡ leaves.Bad
       → IsFirstBadFrom n count (no_numbers_of n count) 0 all (leaf + 1)
   bad_here numbers stack lowest leaf changes rest new found at judged none =
-      at.bad (leaf + 1) (inl (add-one leaf, subst (IsJudgedLeaf n cost scale combs count (stack_of stack ++ given) numbers changes new) none judged))
+      at.bad (leaf + 1) (inl (add-one leaf, subst (JudgedAs numbers stack changes new) none judged))
 
-  last_leaf : (numbers : List ℤ) (stack : List (ℕ × ℕ × Bool)) (lowest : Option ℤ) (leaf : ℕ) (changes : List (ℕ × ℤ)) (rest : List listed.Step) (new : List ℤ) (own low : ℤ)
-      → AtNext numbers stack lowest leaf (listed.Leaf changes ∷ rest) → All (IsComb n) combs → are_trees 1 (listed_steps n count all) ≡ true
-      → IsJudgedLeaf n cost scale combs count (stack_of stack ++ given) numbers changes new (Some own) → IsLowest lowest own low → next_stack (stack_of stack) ≡ None
-      → IsCertificate n combs given (listed_steps n count all) × IsCertificateBound n cost scale decided_number combs given (listed_steps n count all) low
+  pub last_found : (families : List Comb) (numbers : List ℤ) (stack : List (ℕ × ℕ × Bool)) (lowest : Option ℤ) (leaf : ℕ) (changes : List (ℕ × ℤ)) (rest : List listed.Step) (new : List ℤ)
+      (found : JudgedLeaf) (own lower : Option ℤ)
+      → AtNext numbers stack lowest leaf (listed.Leaf changes ∷ rest) → All (IsFamily n) families → are_trees 1 (listed_steps n count all) ≡ true
+      → JudgedAs numbers stack changes new found → found ≡ leaves.Found own → IsLowest lowest own lower → next_stack (stack_of stack) ≡ None
+      → IsCertificate n families given (listed_steps n count all) × IsLeastFound Found (leaves_of (given ∷ []) (listed_steps n count all)) lower
       × AreGoodFrom n count (no_numbers_of n count) all
-  last_leaf numbers stack lowest leaf changes rest new own low at are whole judged lower turned =
-      at_last n cost scale combs count given all numbers stack lowest leaf changes rest own low at are whole judged.0 judged.3 lower turned
-
-  more_leaves : (numbers : List ℤ) (stack : List (ℕ × ℕ × Bool)) (lowest : Option ℤ) (leaf : ℕ) (changes : List (ℕ × ℤ)) (rest : List listed.Step) (new : List ℤ)
-      (next : List (ℕ × ℕ × Bool)) (own low : ℤ) → AtNext numbers stack lowest leaf (listed.Leaf changes ∷ rest)
-      → IsJudgedLeaf n cost scale combs count (stack_of stack ++ given) numbers changes new (Some own) → IsLowest lowest own low → next_stack (stack_of stack) ≡ Some (stack_of next)
-      → AtNext new next (Some low) (leaf + 1) rest
-  more_leaves numbers stack lowest leaf changes rest new next own low at judged lower turned =
-      subst (λ (k : ℕ). AtNext new next (Some low) k rest) (sym (add-one leaf))
-      (subst (λ (ns : List ℤ). AtNext ns next (Some low) (suc leaf) rest) (sym judged.1)
-      (at_leaf n cost scale combs count given all numbers stack lowest leaf changes rest next own low at judged.0 judged.3 lower turned))
-
-  -- the same by what the code found, and by numbers as they come out of 128 bits
-  pub last_found : (numbers : List ℤ) (stack : List (ℕ × ℕ × Bool)) (lowest : Option ℤ) (leaf : ℕ) (changes : List (ℕ × ℤ)) (rest : List listed.Step) (new : List ℤ) (found : Option ℤ)
-      (own own_kept low low_kept : ℤ)
-      → AtNext numbers stack lowest leaf (listed.Leaf changes ∷ rest) → All (IsComb n) combs → are_trees 1 (listed_steps n count all) ≡ true
-      → IsJudgedLeaf n cost scale combs count (stack_of stack ++ given) numbers changes new found → found ≡ Some own → own_kept ≡ own → IsLowest lowest own_kept low → low_kept ≡ low
-      → next_stack (stack_of stack) ≡ None
-      → IsCertificate n combs given (listed_steps n count all) × IsCertificateBound n cost scale decided_number combs given (listed_steps n count all) low_kept
-      × AreGoodFrom n count (no_numbers_of n count) all
-  last_found numbers stack lowest leaf changes rest new found own own_kept low low_kept at are whole judged some same lower kept turned =
-      last_leaf numbers stack lowest leaf changes rest new own low_kept at are whole
-      (subst (IsJudgedLeaf n cost scale combs count (stack_of stack ++ given) numbers changes new) some judged)
-      (subst (IsLowest lowest own) (sym kept) (subst (λ (z : ℤ). IsLowest lowest z low) same lower)) turned
+  last_found families numbers stack lowest leaf changes rest new found own lower at are whole judged some low turned =
+      let is = subst (JudgedAs numbers stack changes new) some judged in
+      at_last Found directed n count given all families numbers stack lowest leaf changes rest own lower at are whole is.0 is.3 low turned
 
   pub more_found : (numbers : List ℤ) (stack : List (ℕ × ℕ × Bool)) (lowest : Option ℤ) (leaf : ℕ) (changes : List (ℕ × ℤ)) (rest : List listed.Step) (new : List ℤ) (next : List (ℕ × ℕ × Bool))
-      (found : Option ℤ)
-      (own own_kept low low_kept : ℤ) → AtNext numbers stack lowest leaf (listed.Leaf changes ∷ rest)
-      → IsJudgedLeaf n cost scale combs count (stack_of stack ++ given) numbers changes new found → found ≡ Some own → own_kept ≡ own → IsLowest lowest own_kept low → low_kept ≡ low
-      → next_stack (stack_of stack) ≡ Some (stack_of next)
-      → AtNext new next (Some low_kept) (leaf + 1) rest × AreSmall new
-  more_found numbers stack lowest leaf changes rest new next found own own_kept low low_kept at judged some same lower kept turned =
-      let is = subst (IsJudgedLeaf n cost scale combs count (stack_of stack ++ given) numbers changes new) some judged in
-      (more_leaves numbers stack lowest leaf changes rest new next own low_kept at is (subst (IsLowest lowest own) (sym kept) (subst (λ (z : ℤ). IsLowest lowest z low) same lower)) turned, is.2)
+      (found : JudgedLeaf) (own lower : Option ℤ) → AtNext numbers stack lowest leaf (listed.Leaf changes ∷ rest)
+      → JudgedAs numbers stack changes new found → found ≡ leaves.Found own → IsLowest lowest own lower → next_stack (stack_of stack) ≡ Some (stack_of next)
+      → AtNext new next lower (leaf + 1) rest × AreSmall new
+  more_found numbers stack lowest leaf changes rest new next found own lower at judged some low turned =
+      let is = subst (JudgedAs numbers stack changes new) some judged in (
+        subst (λ (k : ℕ). AtNext new next lower k rest) (sym (add-one leaf))
+            (subst (λ (ns : List ℤ). AtNext ns next lower (suc leaf) rest) (sym is.1)
+            (at_leaf Found directed n count given all numbers stack lowest leaf changes rest next own lower at is.0 is.3 low turned)),
+        is.2,
+      )
 
   -- the case of a leaf decides each pair once
   pub once_here : (numbers : List ℤ) (stack : List (ℕ × ℕ × Bool)) (lowest : Option ℤ) (leaf : ℕ) (changes : List (ℕ × ℤ)) (rest : List listed.Step)
-      → AtNext numbers stack lowest leaf (listed.Leaf changes ∷ rest) → DecideOnce (stack_of stack ++ given)
+      → AtNext numbers stack lowest leaf (listed.Leaf changes ∷ rest) → DecideOnce directed (stack_of stack ++ given)
   once_here numbers stack lowest leaf changes rest at = at.once.0
 
--- the lowest bound so far is as small as each, as the numbers come out of 128 bits
-pub low_sized : (lowest found : Option ℤ) (own own_kept low low_kept : ℤ) → IfSome lowest IsBoundSized → IfSome found IsBoundSized → found ≡ Some own → own_kept ≡ own → IsLowest lowest own_kept low
-    → low_kept ≡ low → IsBoundSized low_kept
-low_sized lowest found own own_kept low low_kept before here some same lower kept = subst IsBoundSized (sym kept) (elim lower.one [
-  | inl is ↦ subst IsBoundSized (sym (is ∙ same)) (subst (λ (o : Option ℤ). IfSome o IsBoundSized) some here)
-  | inr is ↦ subst (λ (o : Option ℤ). IfSome o IsBoundSized) is before
-])
+-- the lowest bound so far is as small as each
+pub low_sized : (lowest own lower : Option ℤ) (found : JudgedLeaf) → IfSome lowest IsBoundSized → IsSizedLeaf found → found ≡ leaves.Found own → IsLowest lowest own lower → IfSome lower IsBoundSized
+low_sized lowest own lower found before here some is = sized lowest own before (subst IsSizedLeaf some here) is
+  where
+    sized : (lowest own : Option ℤ) → IfSome lowest IsBoundSized → IfSome own IsBoundSized → IsLowest lowest own lower → IfSome lower IsBoundSized
+    sized None own p q is = subst (λ (o : Option ℤ). IfSome o IsBoundSized) (sym is) q
+    sized (Some low) None p q is = subst (λ (o : Option ℤ). IfSome o IsBoundSized) (sym is) p
+    sized (Some low) (Some own) p q (inl is) = subst (λ (o : Option ℤ). IfSome o IsBoundSized) (sym is.0) p
+    sized (Some low) (Some own) p q (inr is) = subst (λ (o : Option ℤ). IfSome o IsBoundSized) (sym is.0) q
 
 -- ---- the whole
 
-pub cycles_of : CertificatesBoundCycles → (n : ℕ) (cost : ℕ → ℕ → ℤ) (scale : ℤ) (combs : List Comb) (count : ℕ) (given : List Decision) (steps : List listed.Step) (found : Judged)
-    → 3 ≤ n → IsSymmetric cost → IsScale scale → IsJudged n cost scale combs count given steps found → BoundsCycles n cost given found
-cycles_of bounds n cost scale combs count given steps (judged.Bound bound) some even scale_in is = bounds n cost scale decided_number combs given
-    (listed_steps n count steps) bound some even scale_in is.0 is.1
-cycles_of bounds n cost scale combs count given steps (judged.BadLeaf leaf) some even scale_in is = tt
+pub cycles_of : CertificatesBoundCycles → (directed : Bool) (n : ℕ) (cost : ℕ → ℕ → ℤ) (scale : ℤ) (families : List Comb) (count : ℕ) (given : List Decision) (steps : List listed.Step) (found : Judged)
+    → AreCostsFor directed n cost → IsScale scale → IsJudged directed n cost scale families count given steps found → BoundsCycles directed n cost given found
+cycles_of bounds directed n cost scale families count given steps (judged.Bound found) costs_are scale_in is =
+    bounds directed n cost scale decided_number families given (listed_steps n count steps) found costs_are scale_in is.0 is.1
+cycles_of bounds directed n cost scale families count given steps (judged.BadLeaf leaf) costs_are scale_in is = tt
+
+-- three nodes, and costs that are the same in both directions where pairs have none
+pub costs_for : (directed : Bool) (n : ℕ) (cost : ℕ → ℕ → ℤ) → 3 ≤ n → (directed ≡ false → IsSymmetric cost) → AreCostsFor directed n cost
+costs_for false n cost some even = (some, even refl)
+costs_for true n cost some even = omega (arith, some)

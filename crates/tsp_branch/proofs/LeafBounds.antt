@@ -1,5 +1,5 @@
--- The bound of a least 1-tree under weights less the crossings of combs.
-use Rattle.std.proofs.Common.{◌≡◌, ℕ, zero, suc, List, [], ◌∷◌, ℤ, ◌≤ℤ◌, refl, arith, ap, ap₂, subst₂}
+-- The bound of a least 1-tree under weights less the crossings of families.
+use Rattle.std.proofs.Common.{◌≡◌, ℕ, zero, suc, List, [], ◌∷◌, length, ℤ, ◌≤ℤ◌, refl, arith, ap, ap₂, subst₂}
 use Rattle.std.specs.Prelude.{pos, negsuc, ◌*ℤ◌, ◌-ℤ◌, ◌+ℤ◌, Bool}
 use Rattle.std.specs.List.{AllByRecursion}
 use Rattle.std.proofs.lemmas.Int.{ints}
@@ -17,7 +17,8 @@ use Rattle.tsp_theory.proofs.Cycles.{least_tree_below}
 use Rattle.tsp_theory.proofs.Exchange.{crosses_turned}
 use Rattle.tsp_theory.proofs.Crossings.{one_if}
 use Rattle.tsp_theory.proofs.Adjustments.{adjusted_even, sum_zero, difference, adjusted_cycle}
-use Rattle.tsp_branch.specs.Combs.{Comb, IsComb, crossings, least_crossings, CyclesCrossCombs}
+use Rattle.tsp_branch.specs.Combs.{Comb, crossings}
+use Rattle.tsp_branch.specs.Families.{IsFamily, least_crossings_of, CyclesCrossFamilies}
 use Rattle.tsp_branch.specs.LeafBound.{crossings_of, least_of, combed, leaf_weight, LeafBoundsBoundCycles, UncombedBoundsAreAdjustedBounds}
 
 -- ---- crossings are the same both ways
@@ -38,21 +39,21 @@ pub leaf_even : (scale : ℤ) (potentials : List ℤ) (taken avoided : List (ℕ
 leaf_even scale potentials taken avoided combs cost even i j =
     ap₂ (λ a b. a -ℤ b) (adjusted_even taken avoided (weight_between scale potentials cost) (weight_even scale potentials cost even) i j) (combs_even combs i j)
 
--- ---- what the combs take off a cycle
+-- ---- what the families take off a cycle
 
 pub product_below : (m : ℕ) (a b : ℤ) → a ≤ℤ b → (pos m *ℤ a) ≤ℤ (pos m *ℤ b)
 product_below zero a b h = let first = zero-*ℤ a in let second = zero-*ℤ b in omega (arith, ints, first, second)
 product_below (suc m) a b h = omega (arith, ints, h, product_below m a b h, suc_ℤ-*ℤ (pos m) a, suc_ℤ-*ℤ (pos m) b)
 
-comb_of_cycle : (n : ℕ) (nodes : List ℕ) (comb : Comb) (multiplier : ℤ) → Laws → CyclesCrossCombs → IsCycle n nodes → IsComb n comb → pos 0 ≤ℤ multiplier
-    → (multiplier *ℤ least_crossings comb) ≤ℤ length_of (λ i j. multiplier *ℤ crossings comb i j) nodes
+comb_of_cycle : (n : ℕ) (nodes : List ℕ) (comb : Comb) (multiplier : ℤ) → Laws → CyclesCrossFamilies → IsCycle n nodes → IsFamily n comb → pos 0 ≤ℤ multiplier
+    → (multiplier *ℤ pos (least_crossings_of (length comb.teeth))) ≤ℤ length_of (λ i j. multiplier *ℤ crossings comb i j) nodes
 comb_of_cycle n nodes comb (pos m) laws crossed cycle is some =
     let scaled = laws.scale m (crossings comb) nodes in
-    let below = product_below m (least_crossings comb) (length_of (crossings comb) nodes) (crossed n comb nodes is cycle) in
+    let below = product_below m (pos (least_crossings_of (length comb.teeth))) (length_of (crossings comb) nodes) (crossed n comb nodes is cycle) in
     omega (arith, ints, scaled, below)
 comb_of_cycle n nodes comb (negsuc m) laws crossed cycle is some = absurd (omega (arith, ints, some))
 
-combs_of_cycle : (n : ℕ) (nodes : List ℕ) (combs : List (Comb × ℤ)) → Laws → CyclesCrossCombs → IsCycle n nodes → AllByRecursion (λ c. IsComb n c.0 × (pos 0 ≤ℤ c.1)) combs
+pub combs_of_cycle : (n : ℕ) (nodes : List ℕ) (combs : List (Comb × ℤ)) → Laws → CyclesCrossFamilies → IsCycle n nodes → AllByRecursion (λ c. IsFamily n c.0 × (pos 0 ≤ℤ c.1)) combs
     → least_of combs ≤ℤ length_of (crossings_of combs) nodes
 combs_of_cycle n nodes [] laws crossed cycle are = omega (arith, ints, sum_zero (links nodes))
 combs_of_cycle n nodes (c ∷ cs) laws crossed cycle are =
@@ -60,16 +61,16 @@ combs_of_cycle n nodes (c ∷ cs) laws crossed cycle are =
     let split = laws.sum (λ i j. c.1 *ℤ crossings c.0 i j) (crossings_of cs) nodes in
     omega (arith, ints, first, split, combs_of_cycle n nodes cs laws crossed cycle are.1)
 
-pub leaf_bounds_bound_cycles : Laws → CyclesCrossCombs → LeafBoundsBoundCycles
+pub leaf_bounds_bound_cycles : Laws → CyclesCrossFamilies → LeafBoundsBoundCycles
 leaf_bounds_bound_cycles laws crossed n cost scale potentials taken avoided combs bound nodes some even scale_in long are is cycle used unused =
     let w = adjusted taken avoided (weight_between scale potentials cost) in
     let below = least_tree_below laws n (combed combs w) is.tree nodes some (leaf_even scale potentials taken avoided combs cost even) is.least cycle in
     let split = difference (λ (link : ℕ × ℕ). w link.0 link.1) (λ (link : ℕ × ℕ). crossings_of combs link.0 link.1) (links nodes) in
     let own = adjusted_cycle n cost scale potentials taken avoided nodes laws some scale_in long cycle used unused in
-    let less = combs_of_cycle n nodes combs laws crossed cycle (recursion_from_All (λ c. IsComb n c.0 × (pos 0 ≤ℤ c.1)) combs are) in
+    let less = combs_of_cycle n nodes combs laws crossed cycle (recursion_from_All (λ c. IsFamily n c.0 × (pos 0 ≤ℤ c.1)) combs are) in
     is.bound_is.least (length_of cost nodes) (omega (arith, ints, below, split, own, less))
 
--- ---- no comb
+-- ---- no family
 
 uncombed_weight : (w : ℕ → ℕ → ℤ) (pairs : List (ℕ × ℕ)) → weight_of (combed [] w) pairs ≡ weight_of w pairs
 uncombed_weight w [] = refl

@@ -32,6 +32,8 @@ pub mod CostRows
 pub mod Links
 pub mod LeastLinks
 pub mod Families
+pub mod RowLeaves
+pub mod SetCounts
 pub mod Closed
 pub mod OpenRows
 pub mod Sums

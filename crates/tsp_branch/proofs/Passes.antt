@@ -1,4 +1,4 @@
--- One pass over the steps, with a stack of decisions.
+-- One pass over the steps, with a stack of decisions: what the leaves that are left make of the lowest bound so far is what all leaves have.
 use Rattle.std.proofs.Common.{◌≡◌, ◌∙◌, ℕ, suc, Bool, true, false, List, [], ◌∷◌, ◌++◌, length, ℤ, ◌≤ℤ◌, inl, inr, refl, ap, sym, subst, arith}
 use Rattle.std.specs.Prelude.{◌⊎◌, Option, Some, None, IfSome}
 use Rattle.std.specs.List.{All, Any, AllByRecursion}
@@ -6,115 +6,95 @@ use Rattle.std.proofs.lemmas.Bool.{both_ways}
 use Rattle.std.proofs.lemmas.Int.{ints}
 use Rattle.std.proofs.lemmas.List.Elements.{recursion_from_All, All-from_recursion}
 use Rattle.tsp_format.specs.Steps as listed
-use Rattle.tsp_branch.specs.Combs.{Comb, IsComb}
+use Rattle.tsp_branch.specs.Combs.{Comb}
+use Rattle.tsp_branch.specs.Families.{IsFamily}
 use Rattle.tsp_branch.specs.Decisions.{Decision, DecideOnce}
 use Rattle.tsp_branch.specs.Cases.{LeafNumbers, are_trees, decide, leaves_of, cases_of, later_cases, open_cases, next_stack}
-use Rattle.tsp_branch.specs.Certificate.{AreLeafNumbers, IsCertificate, IsBoundAt, IsCertificateBound}
-use Rattle.tsp_branch.specs.Decided.{decided_number, stack_of}
+use Rattle.tsp_branch.specs.Certificate.{AreLeafNumbers, IsCertificate, IsAbove, IsLeastFound}
+use Rattle.tsp_branch.specs.Decided.{stack_of}
 use Rattle.tsp_branch.specs.Listed.{all_grown, split_at, steps_from, no_numbers_of, listed_steps, IsGoodLeaf, AreGoodFrom, IsFirstBadFrom, IsLowest}
 use Rattle.tsp_branch.proofs.Cases.{stacks_hold_cases}
 use Rattle.tsp_branch.proofs.NextCases.{stack_more}
 
--- ---- the least bound of what is known and of leaves
+-- ---- the least of what is known and of leaves, whatever is found of a leaf
 
-abbrev Above : ℕ → (ℕ → ℕ → ℤ) → ℤ → List Comb → ℤ → List Decision × LeafNumbers → Type 0
-Above n cost scale combs bound leaf = (own : ℤ) × IsBoundAt n cost scale decided_number combs leaf own × (bound ≤ℤ own)
+module _ (Found : List Decision × LeafNumbers → Option ℤ → Type 0) where
+  -- the leaves that are left, and the lowest bound so far, come to this
+  abbrev pub ComesTo : Option ℤ → List (List Decision × LeafNumbers) → Option ℤ → Type 0
+  ComesTo lowest leaves None = (lowest ≡ None) × AllByRecursion (λ leaf. Found leaf None) leaves
+  ComesTo lowest leaves (Some bound) = AllByRecursion (IsAbove Found bound) leaves × IfSome lowest (λ low. bound ≤ℤ low)
+      × ((lowest ≡ Some bound) ⊎ Any (λ leaf. Found leaf (Some bound)) leaves)
 
-pub record IsLeastFrom (n : ℕ) (cost : ℕ → ℕ → ℤ) (scale : ℤ) (combs : List Comb) (known : Option ℤ) (leaves : List (List Decision × LeafNumbers)) (bound : ℤ) : Type 0 where
-  pub below : AllByRecursion (Above n cost scale combs bound) leaves
-  pub known_above : IfSome known (λ other. bound ≤ℤ other)
-  pub reached : (known ≡ Some bound) ⊎ Any (λ leaf. IsBoundAt n cost scale decided_number combs leaf bound) leaves
+  done : (lowest : Option ℤ) → ComesTo lowest [] lowest
+  done None = (refl, tt)
+  done (Some low) = (tt, omega (arith, ints), inl refl)
 
-one_known : (n : ℕ) (cost : ℕ → ℕ → ℤ) (scale : ℤ) (combs : List Comb) (bound : ℤ) → IsLeastFrom n cost scale combs (Some bound) [] bound
-one_known n cost scale combs bound = record { below = tt; known_above = omega (arith, ints); reached = inl refl }
+  later : (bound : ℤ) (leaf : List Decision × LeafNumbers) (leaves : List (List Decision × LeafNumbers)) → Any (λ leaf. Found leaf (Some bound)) leaves → Any (λ leaf. Found leaf (Some bound)) (leaf ∷ leaves)
+  later bound leaf leaves a = (suc a.0, a.1, omega (arith, a.2), a.3, a.4)
 
-some_same : (a b : ℤ) → Some a ≡ Some b → a ≡ b
-some_same a b e = ap (from_some a) e
-  where
-    from_some : ℤ → Option ℤ → ℤ
-    from_some d (Some z) = z
-    from_some d None = d
+  without : (lowest final : Option ℤ) (leaf : List Decision × LeafNumbers) (leaves : List (List Decision × LeafNumbers)) → Found leaf None → ComesTo lowest leaves final → ComesTo lowest (leaf ∷ leaves) final
+  without lowest None leaf leaves none rest = (rest.0, (none, rest.1))
+  without lowest (Some bound) leaf leaves none rest = (
+    (inl none, rest.0),
+    rest.1,
+    elim rest.2 [
+      | inl is ↦ inl is
+      | inr there ↦ inr (later bound leaf leaves there)
+    ],
+  )
 
-closed : (n : ℕ) (cost : ℕ → ℕ → ℤ) (scale : ℤ) (combs : List Comb) (known : Option ℤ) (leaf : List Decision × LeafNumbers) (leaves : List (List Decision × LeafNumbers)) (own lowest bound : ℤ)
-    → IsBoundAt n cost scale decided_number combs leaf own → IsLowest known own lowest
-    → IsLeastFrom n cost scale combs (Some lowest) leaves bound → IsLeastFrom n cost scale combs known (leaf ∷ leaves) bound
-closed n cost scale combs known leaf leaves own lowest bound is low h = record {
-  below = ((own, is, let most = low.at_most in let less = h.known_above in omega (arith, ints, most, less)), h.below);
-  known_above = lower_still known low.below;
-  reached = elim h.reached [
-    | inl same ↦
-        let equal = some_same lowest bound same in
-        elim low.one [
-          | inl here ↦ inr (0, leaf, omega arith, refl, subst (λ (z : ℤ). IsBoundAt n cost scale decided_number combs leaf z) (sym here ∙ equal) is)
-          | inr before ↦ inl (before ∙ same)
-        ]
-    | inr later ↦ inr (suc later.0, later.1, (let lt = later.2 in omega (arith, lt)), later.3, later.4)
-  ];
-}
-  where
-    lower_still : (known : Option ℤ) → IfSome known (λ other. lowest ≤ℤ other) → IfSome known (λ other. bound ≤ℤ other)
-    lower_still None k = tt
-    lower_still (Some other) k = let less = h.known_above in omega (arith, ints, k, less)
+  with_first : (own : ℤ) (final : Option ℤ) (leaf : List Decision × LeafNumbers) (leaves : List (List Decision × LeafNumbers)) → Found leaf (Some own) → ComesTo (Some own) leaves final
+      → ComesTo None (leaf ∷ leaves) final
+  with_first own None leaf leaves is rest = absurd (let none = rest.0 in cc)
+  with_first own (Some bound) leaf leaves is rest = (
+    (inr (own, is, rest.1), rest.0),
+    tt,
+    inr (elim rest.2 [
+      | inl same ↦ (0, leaf, omega arith, refl, subst (λ (z : Option ℤ). Found leaf z) same is)
+      | inr there ↦ later bound leaf leaves there
+    ]),
+  )
+
+  with_more : (low own lower : ℤ) (final : Option ℤ) (leaf : List Decision × LeafNumbers) (leaves : List (List Decision × LeafNumbers)) → Found leaf (Some own) → lower ≤ℤ low → lower ≤ℤ own
+      → (lower ≡ low) ⊎ (lower ≡ own) → ComesTo (Some lower) leaves final → ComesTo (Some low) (leaf ∷ leaves) final
+  with_more low own lower None leaf leaves is p q one rest = absurd (let none = rest.0 in cc)
+  with_more low own lower (Some bound) leaf leaves is p q one rest = (
+    (inr (own, is, omega (arith, ints, rest.1, q)), rest.0),
+    omega (arith, ints, rest.1, p),
+    elim rest.2 [
+      | inl same ↦ elim one [
+        | inl a ↦ inl (cc)
+        | inr b ↦ inr (0, leaf, omega arith, refl, subst (λ (z : Option ℤ). Found leaf z) (ap (λ (z : ℤ). Some z) (sym b) ∙ same) is)
+      ]
+      | inr there ↦ inr (later bound leaf leaves there)
+    ],
+  )
+
+  -- one leaf more
+  on_leaf : (lowest found lower final : Option ℤ) (leaf : List Decision × LeafNumbers) (leaves : List (List Decision × LeafNumbers)) → Found leaf found
+      → IsLowest lowest found lower → ComesTo lower leaves final → ComesTo lowest (leaf ∷ leaves) final
+  on_leaf None None lower final leaf leaves none is rest = without None final leaf leaves none (subst (λ (o : Option ℤ). ComesTo o leaves final) is rest)
+  on_leaf None (Some own) lower final leaf leaves here is rest = with_first own final leaf leaves here (subst (λ (o : Option ℤ). ComesTo o leaves final) is rest)
+  on_leaf (Some low) None lower final leaf leaves none is rest = without (Some low) final leaf leaves none (subst (λ (o : Option ℤ). ComesTo o leaves final) is rest)
+  on_leaf (Some low) (Some own) lower final leaf leaves here (inl is) rest =
+      with_more low own low final leaf leaves here (omega (arith, ints)) is.1 (inl refl) (subst (λ (o : Option ℤ). ComesTo o leaves final) is.0 rest)
+  on_leaf (Some low) (Some own) lower final leaf leaves here (inr is) rest =
+      with_more low own own final leaf leaves here is.1 (omega (arith, ints)) (inr refl) (subst (λ (o : Option ℤ). ComesTo o leaves final) is.0 rest)
+
+  least_of : (leaves : List (List Decision × LeafNumbers)) (final : Option ℤ) → ComesTo None leaves final → IsLeastFound Found leaves final
+  least_of leaves None rest = All-from_recursion (λ leaf. Found leaf None) leaves rest.1
+  least_of leaves (Some bound) rest = (
+    All-from_recursion (IsAbove Found bound) leaves rest.0,
+    elim rest.2 [
+      | inl none ↦ absurd (cc)
+      | inr there ↦ there
+    ],
+  )
 
 -- ---- at a step
 
 abbrev open_leaves : ℕ → List ℤ → List Decision → List (ℕ × ℕ × Bool) → List listed.Step → List (List Decision × LeafNumbers)
 open_leaves n numbers given stack steps = leaves_of (open_cases given (Some (stack_of stack))) (steps_from n numbers steps)
-
--- what is left to do from a step on, and that it settles the whole
-pub record IsAtStep (n : ℕ) (cost : ℕ → ℕ → ℤ) (scale : ℤ) (combs : List Comb) (count : ℕ) (given : List Decision) (all : List listed.Step) (numbers : List ℤ)
-    (stack : List (ℕ × ℕ × Bool)) (lowest : Option ℤ) (leaf : ℕ) (steps : List listed.Step) : Type 0 where
-  pub least : (bound : ℤ) → IsLeastFrom n cost scale combs lowest (open_leaves n numbers given stack steps) bound
-      → IsLeastFrom n cost scale combs None (leaves_of (given ∷ []) (listed_steps n count all)) bound
-  pub whole : are_trees (length (open_cases given (Some (stack_of stack)))) (steps_from n numbers steps) ≡ true
-  pub good : AreGoodFrom n count numbers steps → AreGoodFrom n count (no_numbers_of n count) all
-  pub bad : (first : ℕ) → IsFirstBadFrom n count numbers leaf steps first → IsFirstBadFrom n count (no_numbers_of n count) 0 all first
-  pub once : AllByRecursion DecideOnce (cases_of (open_leaves n numbers given stack steps))
-
-pub at_start : (n : ℕ) (cost : ℕ → ℕ → ℤ) (scale : ℤ) (combs : List Comb) (count : ℕ) (given : List Decision) (all : List listed.Step) → are_trees 1 (listed_steps n count all) ≡ true
-    → All DecideOnce (cases_of (leaves_of (given ∷ []) (listed_steps n count all)))
-    → IsAtStep n cost scale combs count given all (no_numbers_of n count) [] None 0 all
-at_start n cost scale combs count given all whole once = record {
-  least = λ bound h. h;
-  whole = whole;
-  good = λ h. h;
-  bad = λ first h. h;
-  once = recursion_from_All DecideOnce (cases_of (leaves_of (given ∷ []) (listed_steps n count all))) once;
-}
-
-pub at_branch : (n : ℕ) (cost : ℕ → ℕ → ℤ) (scale : ℤ) (combs : List Comb) (count : ℕ) (given : List Decision) (all : List listed.Step) (numbers : List ℤ)
-    (stack : List (ℕ × ℕ × Bool)) (lowest : Option ℤ) (leaf a b : ℕ) (steps : List listed.Step) → IsAtStep n cost scale combs count given all numbers stack lowest leaf (listed.Branch a b ∷ steps)
-    → IsAtStep n cost scale combs count given all numbers (stack ++ (a, b, true) ∷ []) lowest leaf steps
-at_branch n cost scale combs count given all numbers stack lowest leaf a b steps h =
-    let same = sym (stack_more stack (a, b, true)) in
-    record {
-      least = λ bound. subst (λ (st : List Decision). IsLeastFrom n cost scale combs lowest (leaves_of (open_cases given (Some st)) (steps_from n numbers steps)) bound
-          → IsLeastFrom n cost scale combs None (leaves_of (given ∷ []) (listed_steps n count all)) bound) same (h.least bound);
-      whole = subst (λ (st : List Decision). are_trees (length (open_cases given (Some st))) (steps_from n numbers steps) ≡ true) same h.whole;
-      good = h.good;
-      bad = h.bad;
-      once = subst (λ (st : List Decision). AllByRecursion DecideOnce (cases_of (leaves_of (open_cases given (Some st)) (steps_from n numbers steps)))) same h.once;
-    }
-
-pub at_leaf : (n : ℕ) (cost : ℕ → ℕ → ℤ) (scale : ℤ) (combs : List Comb) (count : ℕ) (given : List Decision) (all : List listed.Step) (numbers : List ℤ)
-    (stack : List (ℕ × ℕ × Bool)) (lowest : Option ℤ) (leaf : ℕ) (changes : List (ℕ × ℤ)) (steps : List listed.Step) (next : List (ℕ × ℕ × Bool)) (own new : ℤ)
-    → IsAtStep n cost scale combs count given all numbers stack lowest leaf (listed.Leaf changes ∷ steps)
-    → IsGoodLeaf n count numbers changes → IsBoundAt n cost scale decided_number combs (stack_of stack ++ given, split_at n (all_grown changes numbers)) own → IsLowest lowest own new
-    → next_stack (stack_of stack) ≡ Some (stack_of next) → IsAtStep n cost scale combs count given all (all_grown changes numbers) next (Some new) (suc leaf) steps
-at_leaf n cost scale combs count given all numbers stack lowest leaf changes steps next own new h good is low turned =
-    let later : later_cases given (stack_of stack) ≡ open_cases given (Some (stack_of next)) = sym (stacks_hold_cases given (stack_of stack)) ∙ ap (open_cases given) turned in
-    let ns : List ℤ = all_grown changes numbers in
-    record {
-      least = λ bound least. h.least bound
-          (closed n cost scale combs lowest (stack_of stack ++ given, split_at n ns) (leaves_of (later_cases given (stack_of stack)) (steps_from n ns steps)) own new bound is low
-          (subst (λ (cs : List (List Decision)). IsLeastFrom n cost scale combs (Some new) (leaves_of cs (steps_from n ns steps)) bound) (sym later) least));
-      whole = subst (λ (cs : List (List Decision)). are_trees (length cs) (steps_from n ns steps) ≡ true) later h.whole;
-      good = λ rest. h.good (good, rest);
-      bad = λ first rest. h.bad first (inr (good, rest));
-      once = subst (λ (cs : List (List Decision)). AllByRecursion DecideOnce (cases_of (leaves_of cs (steps_from n ns steps)))) later h.once.1;
-    }
-
--- ---- at the last leaf
 
 none_left : (n count : ℕ) (numbers : List ℤ) (steps : List listed.Step) → are_trees 0 (steps_from n numbers steps) ≡ true → AreGoodFrom n count numbers steps
 none_left n count numbers [] h = tt
@@ -132,41 +112,78 @@ leaf_numbers n count numbers (listed.Leaf changes ∷ steps) (case ∷ cases) go
   leaf_numbers n count (all_grown changes numbers) steps cases good.1,
 )
 
-pub at_last : (n : ℕ) (cost : ℕ → ℕ → ℤ) (scale : ℤ) (combs : List Comb) (count : ℕ) (given : List Decision) (all : List listed.Step) (numbers : List ℤ)
-    (stack : List (ℕ × ℕ × Bool)) (lowest : Option ℤ) (leaf : ℕ) (changes : List (ℕ × ℤ)) (steps : List listed.Step) (own new : ℤ)
-    → IsAtStep n cost scale combs count given all numbers stack lowest leaf (listed.Leaf changes ∷ steps)
-    → All (IsComb n) combs → are_trees 1 (listed_steps n count all) ≡ true
-    → IsGoodLeaf n count numbers changes → IsBoundAt n cost scale decided_number combs (stack_of stack ++ given, split_at n (all_grown changes numbers)) own → IsLowest lowest own new
-    → next_stack (stack_of stack) ≡ None
-    → IsCertificate n combs given (listed_steps n count all) × IsCertificateBound n cost scale decided_number combs given (listed_steps n count all) new
-    × AreGoodFrom n count (no_numbers_of n count) all
-at_last n cost scale combs count given all numbers stack lowest leaf changes steps own new h are whole good is low turned =
-    let none : later_cases given (stack_of stack) ≡ [] = sym (stacks_hold_cases given (stack_of stack)) ∙ ap (open_cases given) turned in
-    let ns : List ℤ = all_grown changes numbers in
-    let left = subst (λ (cs : List (List Decision)). are_trees (length cs) (steps_from n ns steps) ≡ true) none h.whole in
-    let all_good = h.good (good, none_left n count ns steps left) in
-    let leaves = leaves_of (given ∷ []) (listed_steps n count all) in
-    let least = h.least new
-    (closed n cost scale combs lowest (stack_of stack ++ given, split_at n ns) (leaves_of (later_cases given (stack_of stack)) (steps_from n ns steps)) own new new is low
-    (subst (λ (cs : List (List Decision)). IsLeastFrom n cost scale combs (Some new) (leaves_of cs (steps_from n ns steps)) new) (sym none) (one_known n cost scale combs new))) in (
-      record {
-        combs_are = are;
-        whole = whole;
-        numbers_are = All-from_recursion (λ leaf. AreLeafNumbers n leaf.1) leaves (leaf_numbers n count (no_numbers_of n count) all (given ∷ []) all_good);
-      },
-      record {
-        below = All-from_recursion (Above n cost scale combs new) leaves least.below;
-        reached = elim least.reached [
-          | inl impossible ↦ absurd (not_known new impossible)
-          | inr found ↦ found
-        ];
-      },
-      all_good,
-    )
-  where
-    some_or_none : Option ℤ → Bool
-    some_or_none (Some z) = true
-    some_or_none None = false
+-- what is left to do from a step on, and that it settles the whole
+pub record IsAtStep (Found : List Decision × LeafNumbers → Option ℤ → Type 0) (directed : Bool) (n count : ℕ) (given : List Decision) (all : List listed.Step) (numbers : List ℤ)
+    (stack : List (ℕ × ℕ × Bool)) (lowest : Option ℤ) (leaf : ℕ) (steps : List listed.Step) : Type 0 where
+  pub least : (final : Option ℤ) → ComesTo Found lowest (open_leaves n numbers given stack steps) final → ComesTo Found None (leaves_of (given ∷ []) (listed_steps n count all)) final
+  pub whole : are_trees (length (open_cases given (Some (stack_of stack)))) (steps_from n numbers steps) ≡ true
+  pub good : AreGoodFrom n count numbers steps → AreGoodFrom n count (no_numbers_of n count) all
+  pub bad : (first : ℕ) → IsFirstBadFrom n count numbers leaf steps first → IsFirstBadFrom n count (no_numbers_of n count) 0 all first
+  pub once : AllByRecursion (DecideOnce directed) (cases_of (open_leaves n numbers given stack steps))
 
-    not_known : (z : ℤ) → None ≡ Some z → ⊥
-    not_known z e = both_ways false refl (ap some_or_none e)
+module _ (Found : List Decision × LeafNumbers → Option ℤ → Type 0) (directed : Bool) (n count : ℕ) (given : List Decision) (all : List listed.Step) where
+  pub at_start : are_trees 1 (listed_steps n count all) ≡ true → All (DecideOnce directed) (cases_of (leaves_of (given ∷ []) (listed_steps n count all)))
+      → IsAtStep Found directed n count given all (no_numbers_of n count) [] None 0 all
+  at_start whole once = record {
+    least = λ final h. h;
+    whole = whole;
+    good = λ h. h;
+    bad = λ first h. h;
+    once = recursion_from_All (DecideOnce directed) (cases_of (leaves_of (given ∷ []) (listed_steps n count all))) once;
+  }
+
+  pub at_branch : (numbers : List ℤ) (stack : List (ℕ × ℕ × Bool)) (lowest : Option ℤ) (leaf a b : ℕ) (steps : List listed.Step)
+      → IsAtStep Found directed n count given all numbers stack lowest leaf (listed.Branch a b ∷ steps)
+      → IsAtStep Found directed n count given all numbers (stack ++ (a, b, true) ∷ []) lowest leaf steps
+  at_branch numbers stack lowest leaf a b steps h =
+      let same = sym (stack_more stack (a, b, true)) in
+      record {
+        least = λ final. subst (λ (st : List Decision). ComesTo Found lowest (leaves_of (open_cases given (Some st)) (steps_from n numbers steps)) final
+            → ComesTo Found None (leaves_of (given ∷ []) (listed_steps n count all)) final) same (h.least final);
+        whole = subst (λ (st : List Decision). are_trees (length (open_cases given (Some st))) (steps_from n numbers steps) ≡ true) same h.whole;
+        good = h.good;
+        bad = h.bad;
+        once = subst (λ (st : List Decision). AllByRecursion (DecideOnce directed) (cases_of (leaves_of (open_cases given (Some st)) (steps_from n numbers steps)))) same h.once;
+      }
+
+  pub at_leaf : (numbers : List ℤ) (stack : List (ℕ × ℕ × Bool)) (lowest : Option ℤ) (leaf : ℕ) (changes : List (ℕ × ℤ)) (steps : List listed.Step) (next : List (ℕ × ℕ × Bool)) (own lower : Option ℤ)
+      → IsAtStep Found directed n count given all numbers stack lowest leaf (listed.Leaf changes ∷ steps)
+      → IsGoodLeaf n count numbers changes → Found (stack_of stack ++ given, split_at n (all_grown changes numbers)) own → IsLowest lowest own lower
+      → next_stack (stack_of stack) ≡ Some (stack_of next) → IsAtStep Found directed n count given all (all_grown changes numbers) next lower (suc leaf) steps
+  at_leaf numbers stack lowest leaf changes steps next own lower h good is low turned =
+      let later_are : later_cases given (stack_of stack) ≡ open_cases given (Some (stack_of next)) = sym (stacks_hold_cases given (stack_of stack)) ∙ ap (open_cases given) turned in
+      let ns : List ℤ = all_grown changes numbers in
+      record {
+        least = λ final rest. h.least final
+            (on_leaf Found lowest own lower final (stack_of stack ++ given, split_at n ns) (leaves_of (later_cases given (stack_of stack)) (steps_from n ns steps)) is low
+            (subst (λ (cs : List (List Decision)). ComesTo Found lower (leaves_of cs (steps_from n ns steps)) final) (sym later_are) rest));
+        whole = subst (λ (cs : List (List Decision)). are_trees (length cs) (steps_from n ns steps) ≡ true) later_are h.whole;
+        good = λ rest. h.good (good, rest);
+        bad = λ first rest. h.bad first (inr (good, rest));
+        once = subst (λ (cs : List (List Decision)). AllByRecursion (DecideOnce directed) (cases_of (leaves_of cs (steps_from n ns steps)))) later_are h.once.1;
+      }
+
+  pub at_last : (families : List Comb) (numbers : List ℤ) (stack : List (ℕ × ℕ × Bool)) (lowest : Option ℤ) (leaf : ℕ) (changes : List (ℕ × ℤ)) (steps : List listed.Step) (own lower : Option ℤ)
+      → IsAtStep Found directed n count given all numbers stack lowest leaf (listed.Leaf changes ∷ steps)
+      → All (IsFamily n) families → are_trees 1 (listed_steps n count all) ≡ true
+      → IsGoodLeaf n count numbers changes → Found (stack_of stack ++ given, split_at n (all_grown changes numbers)) own → IsLowest lowest own lower
+      → next_stack (stack_of stack) ≡ None
+      → IsCertificate n families given (listed_steps n count all) × IsLeastFound Found (leaves_of (given ∷ []) (listed_steps n count all)) lower
+      × AreGoodFrom n count (no_numbers_of n count) all
+  at_last families numbers stack lowest leaf changes steps own lower h are whole good is low turned =
+      let none : later_cases given (stack_of stack) ≡ [] = sym (stacks_hold_cases given (stack_of stack)) ∙ ap (open_cases given) turned in
+      let ns : List ℤ = all_grown changes numbers in
+      let left = subst (λ (cs : List (List Decision)). are_trees (length cs) (steps_from n ns steps) ≡ true) none h.whole in
+      let all_good = h.good (good, none_left n count ns steps left) in
+      let leaves = leaves_of (given ∷ []) (listed_steps n count all) in
+      let least = h.least lower
+      (on_leaf Found lowest own lower lower (stack_of stack ++ given, split_at n ns) (leaves_of (later_cases given (stack_of stack)) (steps_from n ns steps)) is low
+      (subst (λ (cs : List (List Decision)). ComesTo Found lower (leaves_of cs (steps_from n ns steps)) lower) (sym none) (done Found lower))) in (
+        record {
+          families_are = are;
+          whole = whole;
+          numbers_are = All-from_recursion (λ leaf. AreLeafNumbers n leaf.1) leaves (leaf_numbers n count (no_numbers_of n count) all (given ∷ []) all_good);
+        },
+        least_of Found leaves lower least,
+        all_good,
+      )

@@ -16,7 +16,8 @@ use Rattle.tsp_branch.specs.Combs.{Comb, has, AreApart, IsComb, IsTooth}
 use Rattle.tsp_branch.specs.LeafBound.{leaf_weight, IsLeafBoundOf, IsLeafBound}
 use Rattle.tsp_branch.specs.Decisions.{Decision}
 use Rattle.tsp_branch.specs.Cases.{LeafNumbers, Branch, Leaf}
-use Rattle.tsp_branch.specs.Certificate.{multiplied, AreLeafNumbers, IsBoundAt}
+use Rattle.tsp_branch.specs.Families.{IsFamily}
+use Rattle.tsp_branch.specs.Certificate.{multiplied, AreLeafNumbers, IsFoundAt, IsAbove}
 use Rattle.tsp_branch.specs.Examples.{small_comb, cost_in, four_rows, six_rows, large, one_at_two, with_pair, without_pair, FourHave, SixHave}
 use Rattle.tsp_branch.proofs.LeafBounds.{leaf_even}
 use Rattle.tsp_branch.proofs.SmallTrees.{near_one, grows_well, least_tree}
@@ -56,31 +57,31 @@ four_without = leaf_bound 4 four_rows (pos 1) one_at_two.potentials [] ((1, 2, l
     (record { above = le_z_yes tt; least = λ other above. let known : pos 6 ≤ℤ (pos 1 *ℤ other) = above in omega (arith, ints, known) })
 
 abbrev Above : ℤ → List Decision × LeafNumbers → Type 0
-Above bound leaf = (own : ℤ) × IsBoundAt 4 (cost_in four_rows) (pos 1) large [] leaf own × (bound ≤ℤ own)
+Above bound leaf = IsAbove (IsFoundAt false 4 (cost_in four_rows) (pos 1) large []) bound leaf
 
 pub four_have_five : FourHave (Leaf (no_numbers_of 4 []) ∷ []) (pos 5)
 four_have_five =
     let leaves : List (List Decision × LeafNumbers) = ([], no_numbers_of 4 []) ∷ [] in (
       record {
-        combs_are = All-nil (IsComb 4);
+        families_are = All-nil (IsFamily 4);
         whole = refl;
         numbers_are = All-from_recursion (λ leaf. AreLeafNumbers 4 leaf.1) leaves (record { each_node = refl; signs = All-nil (λ multiplier. pos 0 ≤ℤ multiplier) }, tt);
       },
-      record {
-        below = All-from_recursion (Above (pos 5)) leaves ((pos 5, four_alone, le_z_yes tt), tt);
-        reached = (0, ([], no_numbers_of 4 []), omega arith, refl, four_alone);
-      },
+      (
+        All-from_recursion (Above (pos 5)) leaves (inr (pos 5, four_alone, le_z_yes tt), tt),
+        (0, ([], no_numbers_of 4 []), omega arith, refl, four_alone),
+      ),
     )
 
 pub four_have_six : FourHave (Branch (1, 2) ∷ Leaf one_at_two ∷ Leaf one_at_two ∷ []) (pos 6)
 four_have_six =
     let leaves : List (List Decision × LeafNumbers) = (with_pair 1 2 ∷ [], one_at_two) ∷ (without_pair 1 2 ∷ [], one_at_two) ∷ [] in
     let numbers : AreLeafNumbers 4 one_at_two = record { each_node = refl; signs = All-nil (λ multiplier. pos 0 ≤ℤ multiplier) } in (
-      record { combs_are = All-nil (IsComb 4); whole = refl; numbers_are = All-from_recursion (λ leaf. AreLeafNumbers 4 leaf.1) leaves (numbers, (numbers, tt)) },
-      record {
-        below = All-from_recursion (Above (pos 6)) leaves ((pos 6, four_with, le_z_yes tt), ((pos 6, four_without, le_z_yes tt), tt));
-        reached = (0, (with_pair 1 2 ∷ [], one_at_two), omega arith, refl, four_with);
-      },
+      record { families_are = All-nil (IsFamily 4); whole = refl; numbers_are = All-from_recursion (λ leaf. AreLeafNumbers 4 leaf.1) leaves (numbers, (numbers, tt)) },
+      (
+        All-from_recursion (Above (pos 6)) leaves (inr (pos 6, four_with, le_z_yes tt), (inr (pos 6, four_without, le_z_yes tt), tt)),
+        (0, (with_pair 1 2 ∷ [], one_at_two), omega arith, refl, four_with),
+      ),
     )
 
 -- ---- six nodes with a comb
@@ -145,14 +146,14 @@ six_have : (multipliers : List ℤ) (bound : ℤ) → All (λ multiplier. pos 0 
 six_have multipliers bound signs leaf =
     let leaves : List (List Decision × LeafNumbers) = ([], no_numbers_of 6 multipliers) ∷ [] in (
       record {
-        combs_are = All-from_recursion (IsComb 6) (small_comb ∷ []) (small_comb_is, tt);
+        families_are = All-from_recursion (IsFamily 6) (small_comb ∷ []) (inr small_comb_is, tt);
         whole = refl;
         numbers_are = All-from_recursion (λ leaf. AreLeafNumbers 6 leaf.1) leaves (record { each_node = refl; signs = signs }, tt);
       },
-      record {
-        below = All-from_recursion (λ leaf. (own : ℤ) × IsBoundAt 6 (cost_in six_rows) (pos 2) large (small_comb ∷ []) leaf own × (bound ≤ℤ own)) leaves ((bound, leaf, omega (arith, ints)), tt);
-        reached = (0, ([], no_numbers_of 6 multipliers), omega arith, refl, leaf);
-      },
+      (
+        All-from_recursion (IsAbove (IsFoundAt false 6 (cost_in six_rows) (pos 2) large (small_comb ∷ [])) bound) leaves (inr (bound, leaf, omega (arith, ints)), tt),
+        (0, ([], no_numbers_of 6 multipliers), omega arith, refl, leaf),
+      ),
     )
 
 pub six_have_nine : SixHave [] (pos 9)

@@ -6,12 +6,13 @@ use Rattle.std.specs.Global.{Vec}
 use Rattle.std.specs.List.{All, Any, AllPairs, AllByRecursion}
 use Rattle.std.proofs.Math.Path.{fun_ext}
 use Rattle.std.proofs.lemmas.Bool.{both_ways, cases_Bool, eqb-true, eq-eqb, or_parts, or_from}
-use Rattle.std.proofs.lemmas.List.{length-map}
+use Rattle.std.proofs.lemmas.List.{length-map, get_or_default}
 use Rattle.std.proofs.lemmas.List.Elements.{All-nil, All-cons, All-head, All-tail, All-from_recursion, recursion_from_All, All-weaker, All-contains}
 use Rattle.std.proofs.lemmas.List.Folds.{Any-from_list_any, list_any_at}
 use Rattle.std.proofs.lemmas.List.Kept.{AllPairs-cons}
 use Rattle.tsp_format.specs.Cells.{IsNode}
-use Rattle.tsp_branch.specs.Combs.{IsTooth, AreApart, has}
+use Rattle.tsp_branch.specs.Combs.{IsTooth, AreApart, IsComb, has, comb_of}
+use Rattle.tsp_branch.specs.Families.{IsLoneSet, IsFamily}
 use Rattle.tsp_branch.specs.GoodCombs.{HasEachOnce, IsGoodComb, IsToothCount, lists_of}
 use Rattle.tsp_branch.specs.Marked.{AreNew, AreTeeth}
 
@@ -170,15 +171,25 @@ pub good_comb : (n half : ℕ) (used marked : ℕ → Bool) (handle : List ℕ) 
 good_comb n half used marked handle teeth odd some once same h =
     let is = subst (λ (f : ℕ → Bool). AreApartTeeth n f used teeth) (fun_ext same) (apart_teeth n marked used teeth h) in
     record {
-      comb = record { half = half; some = some; odd = length-map teeth has ∙ odd; reach = is.reach; apart = is.apart };
+      family = inr (record { half = half; some = some; odd = length-map teeth has ∙ odd; reach = is.reach; apart = is.apart });
       once = All-cons HasEachOnce handle teeth once is.once;
     }
 
-pub comb_teeth : (n : ℕ) (used marked : ℕ → Bool) (handle : List ℕ) (teeth : List (List ℕ)) → ((x : ℕ) → used x ≡ false) → ((x : ℕ) → marked x ≡ has handle x) → IsGoodComb n (handle ∷ teeth)
-    → AreTeeth n marked used teeth
-comb_teeth n used marked handle teeth none same h = teeth_apart n marked used teeth (subst (λ (f : ℕ → Bool). AreApartTeeth n f used teeth) (sym (fun_ext same)) (record {
-  reach = h.comb.reach;
-  apart = h.comb.apart;
+-- a family with teeth is a comb, and one without a lone set
+pub comb_of_family : (n : ℕ) (handle : List ℕ) (teeth : List (List ℕ)) → 1 ≤ length teeth → IsFamily n (comb_of handle teeth) → IsComb n (comb_of handle teeth)
+comb_of_family n handle [] some h = absurd (omega (arith, some))
+comb_of_family n handle (tooth ∷ teeth) some (inl lone) = absurd (let none = lone.alone in cc)
+comb_of_family n handle (tooth ∷ teeth) some (inr comb) = comb
+
+pub lone_of_family : (n : ℕ) (handle : List ℕ) → IsFamily n (comb_of handle []) → IsLoneSet n (comb_of handle [])
+lone_of_family n handle (inl lone) = lone
+lone_of_family n handle (inr comb) = absurd (let odd = comb.odd in omega (arith, odd))
+
+pub comb_teeth : (n : ℕ) (used marked : ℕ → Bool) (handle : List ℕ) (teeth : List (List ℕ)) → 1 ≤ length teeth → ((x : ℕ) → used x ≡ false) → ((x : ℕ) → marked x ≡ has handle x)
+    → IsGoodComb n (handle ∷ teeth) → AreTeeth n marked used teeth
+comb_teeth n used marked handle teeth some none same h = teeth_apart n marked used teeth (subst (λ (f : ℕ → Bool). AreApartTeeth n f used teeth) (sym (fun_ext same)) (record {
+  reach = (comb_of_family n handle teeth some h.family).reach;
+  apart = (comb_of_family n handle teeth some h.family).apart;
   once = All-tail HasEachOnce handle teeth h.once;
   unused = none_used used teeth none;
 }))
@@ -197,9 +208,12 @@ module _ (n : ℕ) (sets : List (ℕ × Vec ℕ)) (handle : ℕ × Vec ℕ) (tee
   pub first_all : (P : ℕ → Type 0) → All (λ set. All P set.1.items) sets → All P nodes
   first_all P h = subst (All P) (sym read) (All-head (λ (set : ℕ × Vec ℕ). All P set.1.items) handle teeth (both P h))
 
-  pub counted : IsGoodComb n (lists_of sets) → IsToothCount (length teeth)
-  counted h =
-      let comb = (subst (IsGoodComb n) told h).comb in
+  long_teeth : 1 ≤ length teeth → 1 ≤ length (lists_of teeth)
+  long_teeth some = omega (arith, some, length-map teeth (λ set. set.1.items))
+
+  pub counted : 1 ≤ length teeth → IsGoodComb n (lists_of sets) → IsToothCount (length teeth)
+  counted some h =
+      let comb = comb_of_family n nodes (lists_of teeth) (long_teeth some) (subst (IsGoodComb n) told h).family in
       (comb.half, comb.some, sym (length-map (lists_of teeth) has ∙ length-map teeth (λ set. set.1.items)) ∙ comb.odd)
 
   pub handle_new : (old : ℕ → Bool) → ((x : ℕ) → old x ≡ false) → IsGoodComb n (lists_of sets) → AreNew old nodes
@@ -217,5 +231,46 @@ module _ (n : ℕ) (sets : List (ℕ × Vec ℕ)) (handle : ℕ × Vec ℕ) (tee
         let long : length (lists_of teeth) ≡ length teeth = length-map teeth (λ set. set.1.items) in
         subst (IsGoodComb n) (sym told) (good_comb n count.0 used marked nodes (lists_of teeth) (long ∙ count.2) count.1 new.once own h)
 
-    pub teeth_found : ((x : ℕ) → used x ≡ false) → IsGoodComb n (lists_of sets) → AreTeeth n marked used (lists_of teeth)
-    teeth_found unused h = comb_teeth n used marked nodes (lists_of teeth) unused own (subst (IsGoodComb n) told h)
+    pub teeth_found : 1 ≤ length teeth → ((x : ℕ) → used x ≡ false) → IsGoodComb n (lists_of sets) → AreTeeth n marked used (lists_of teeth)
+    teeth_found some unused h = comb_teeth n used marked nodes (lists_of teeth) (long_teeth some) unused own (subst (IsGoodComb n) told h)
+
+    -- the marks are those of the set's nodes
+    pub own_marks : (x : ℕ) → marked x ≡ has nodes x
+    own_marks = own
+
+    -- without teeth
+    module _ (none_left : teeth ≡ []) where
+      alone : lists_of sets ≡ nodes ∷ []
+      alone = told ∙ ap (λ (ts : List (ℕ × Vec ℕ)). nodes ∷ lists_of ts) none_left
+
+      pub lone_found : AreNew old nodes → IsLoneSet n (comb_of nodes []) → IsGoodComb n (lists_of sets)
+      lone_found new lone = subst (IsGoodComb n) (sym alone) (record { family = inl lone; once = All-cons HasEachOnce nodes [] new.once (All-nil HasEachOnce) })
+
+      pub lone_in : IsGoodComb n (lists_of sets) → IsLoneSet n (comb_of nodes [])
+      lone_in h = lone_of_family n nodes (subst (IsGoodComb n) alone h).family
+
+pub no_sets : (sets : List (ℕ × Vec ℕ)) → length sets ≡ 0 → sets ≡ []
+no_sets [] none = refl
+no_sets (set ∷ sets) none = absurd (omega (arith, none))
+
+-- ---- a lone set, by marks of its nodes
+
+-- a node that hasn't the mark
+abbrev pub LeftOut : ℕ → (ℕ → Bool) → Type 0
+LeftOut places marked = (node : ℕ) × (1 ≤ node) × (node < places) × (marked node ≡ false)
+
+pub lone_by_marks : (n places : ℕ) (marked : ℕ → Bool) (nodes : List ℕ) → places ≡ n + 1 → All (IsNode n) nodes → ((x : ℕ) → marked x ≡ has nodes x) → 0 < length nodes → LeftOut places marked
+    → IsLoneSet n (comb_of nodes [])
+lone_by_marks n places marked nodes long are same some left = record {
+  alone = refl;
+  inside = get_or nodes 0 0;
+  outside = left.0;
+  inside_node = are 0 0 some;
+  outside_node = (left.1, let low = left.2 in omega (arith, low, long));
+  has_inside = has_found nodes 0 (get_or nodes 0 0) some (get_or_default nodes 0 (get_or nodes 0 0) 0 some);
+  lacks_outside = sym (same left.0) ∙ left.3;
+}
+
+pub lone_left_out : (n places : ℕ) (marked : ℕ → Bool) (nodes : List ℕ) → places ≡ n + 1 → ((x : ℕ) → marked x ≡ has nodes x) → IsLoneSet n (comb_of nodes []) → LeftOut places marked
+lone_left_out n places marked nodes long same lone =
+    (lone.outside, lone.outside_node.0, (let high = lone.outside_node.1 in omega (arith, high, long)), same lone.outside ∙ lone.lacks_outside)

@@ -1,61 +1,102 @@
--- A certificate by branching: combs, and a tree of cases with numbers at its leaves.
-use Rattle.std.specs.Prelude.{◌≡◌, ℕ, ◌≤◌, true, false, List, [], ◌∷◌, length, ℤ, pos, ◌≤ℤ◌}
+-- A certificate by branching: families of sets, and a tree of cases with numbers at its leaves. Two relaxations give the bound of a
+-- leaf: for undirected pairs a least 1-tree, and for directed ones the least link from each node.
+use Rattle.std.specs.Prelude.{◌≡◌, ◌⊎◌, ℕ, ◌≤◌, Bool, true, false, List, [], ◌∷◌, length, Option, Some, None, ℤ, pos, ◌≤ℤ◌}
 use Rattle.std.specs.List.{All, Any}
 use Rattle.tsp_theory.specs.Costs.{IsSymmetric}
 use Rattle.tsp_theory.specs.Length.{length_of}
 use Rattle.tsp_theory.specs.Tour.{IsTour}
 use Rattle.tsp_theory.specs.Numbers.{IsScale}
-use Rattle.tsp_branch.specs.Combs.{Comb, IsComb}
+use Rattle.tsp_branch.specs.Combs.{Comb}
+use Rattle.tsp_branch.specs.Families.{IsFamily}
 use Rattle.tsp_branch.specs.Decisions.{Decision, take_pairs, on_taken, on_avoided}
 use Rattle.tsp_branch.specs.LeafBound.{IsLeafBound}
-use Rattle.tsp_branch.specs.Cases.{LeafNumbers, Step, are_trees, leaves_of, BoundsCase}
+use Rattle.tsp_branch.specs.Rows.{HasNoLink}
+use Rattle.tsp_branch.specs.RowLeaves.{IsRowLeafBound}
+use Rattle.tsp_branch.specs.Cases.{LeafNumbers, Step, are_trees, leaves_of, BoundsCase, HasNoCycle}
 
--- each comb with its multiplier
+-- each family with its multiplier
 abbrev pub multiplied : List Comb → List ℤ → List (Comb × ℤ)
 multiplied [] multipliers = []
-multiplied (comb ∷ combs) [] = []
-multiplied (comb ∷ combs) (multiplier ∷ multipliers) = (comb, multiplier) ∷ multiplied combs multipliers
+multiplied (family ∷ families) [] = []
+multiplied (family ∷ families) (multiplier ∷ multipliers) = (family, multiplier) ∷ multiplied families multipliers
 
 -- numbers that a leaf may have
 pub record AreLeafNumbers (n : ℕ) (numbers : LeafNumbers) : Type 0 where
   pub each_node : length numbers.potentials ≡ n
   pub signs : All (λ multiplier. pos 0 ≤ℤ multiplier) numbers.multipliers
 
--- combs of n nodes, a whole tree, and numbers at each of its leaves
-pub record IsCertificate (n : ℕ) (combs : List Comb) (given : List Decision) (steps : List Step) : Type 0 where
-  pub combs_are : All (IsComb n) combs
+-- families of n nodes, a whole tree, and numbers at each of its leaves
+pub record IsCertificate (n : ℕ) (families : List Comb) (given : List Decision) (steps : List Step) : Type 0 where
+  pub families_are : All (IsFamily n) families
   pub whole : are_trees 1 steps ≡ true
   pub numbers_are : All (λ leaf. AreLeafNumbers n leaf.1) (leaves_of (given ∷ []) steps)
 
--- the bound of a leaf, whose decisions all have the same number
-abbrev pub IsBoundAt : ℕ → (ℕ → ℕ → ℤ) → ℤ → ℤ → List Comb → List Decision × LeafNumbers → ℤ → Type 0
-IsBoundAt n cost scale number combs (case, numbers) bound =
+-- ---- the bound of a leaf
+
+-- What is found of a leaf. Undirected: the bound of a least 1-tree, where all decisions have the same number. Directed: the bound by
+-- the least link from each node, or none where some node has no link that the decisions allow.
+abbrev pub IsFoundAt : Bool → ℕ → (ℕ → ℕ → ℤ) → ℤ → ℤ → List Comb → List Decision × LeafNumbers → Option ℤ → Type 0
+IsFoundAt false n cost scale number families (case, numbers) (Some bound) =
     IsLeafBound n cost scale numbers.potentials (on_taken number case) (on_avoided number case)
-    (multiplied combs numbers.multipliers) bound
+    (multiplied families numbers.multipliers) bound
+IsFoundAt false n cost scale number families (case, numbers) None = ⊥
+IsFoundAt true n cost scale number families (case, numbers) (Some bound) =
+    IsRowLeafBound n cost scale numbers.potentials (multiplied families numbers.multipliers) case bound
+IsFoundAt true n cost scale number families (case, numbers) None = HasNoLink n case
 
--- the bound of a certificate: the least of the bounds of its leaves
-pub record IsCertificateBound (n : ℕ) (cost : ℕ → ℕ → ℤ) (scale number : ℤ) (combs : List Comb) (given : List Decision)
-    (steps : List Step) (bound : ℤ) : Type 0 where
-  pub below : All (λ leaf. (own : ℤ) × IsBoundAt n cost scale number combs leaf own × (bound ≤ℤ own))
-      (leaves_of (given ∷ []) steps)
-  pub reached : Any (λ leaf. IsBoundAt n cost scale number combs leaf bound) (leaves_of (given ∷ []) steps)
+-- ---- the bound of a certificate: the least of the bounds of its leaves
 
--- It is at most the length of every cycle that keeps the given decisions.
+-- a leaf has no bound, or one that is at least this
+abbrev pub IsAbove : (List Decision × LeafNumbers → Option ℤ → Type 0) → ℤ → List Decision × LeafNumbers → Type 0
+IsAbove found bound leaf = found leaf None ⊎ ((own : ℤ) × found leaf (Some own) × (bound ≤ℤ own))
+
+-- the least of what is found of leaves: none where no leaf has a bound
+abbrev pub IsLeastFound : (List Decision × LeafNumbers → Option ℤ → Type 0) → List (List Decision × LeafNumbers) → Option ℤ → Type 0
+IsLeastFound found leaves (Some bound) = All (IsAbove found bound) leaves × Any (λ leaf. found leaf (Some bound)) leaves
+IsLeastFound found leaves None = All (λ leaf. found leaf None) leaves
+
+abbrev pub IsCertificateBound : Bool → ℕ → (ℕ → ℕ → ℤ) → ℤ → ℤ → List Comb → List Decision → List Step → Option ℤ → Type 0
+IsCertificateBound directed n cost scale number families given steps found =
+    IsLeastFound (IsFoundAt directed n cost scale number families) (leaves_of (given ∷ []) steps) found
+
+-- ---- the theorems
+
+-- what the bound of a leaf asks of the costs: undirected, that they are the same in both directions
+abbrev pub AreCostsFor : Bool → ℕ → (ℕ → ℕ → ℤ) → Type 0
+AreCostsFor false n cost = (3 ≤ n) × IsSymmetric cost
+AreCostsFor true n cost = 2 ≤ n
+
+-- a bound is at most the length of every cycle of the case, and where there is none, there is no such cycle
+abbrev pub BoundsIfAny : Bool → ℕ → (ℕ → ℕ → ℤ) → List Decision → Option ℤ → Type 0
+BoundsIfAny directed n cost case (Some bound) = BoundsCase directed n cost bound case
+BoundsIfAny directed n cost case None = HasNoCycle directed n case
+
+-- The bound of a certificate is at most the length of every cycle that keeps the given decisions.
 abbrev pub CertificatesBoundCycles : Type 0
-CertificatesBoundCycles = (n : ℕ) (cost : ℕ → ℕ → ℤ) (scale number : ℤ) (combs : List Comb) (given : List Decision)
-    (steps : List Step) (bound : ℤ) → 3 ≤ n → IsSymmetric cost → IsScale scale → IsCertificate n combs given steps
-    → IsCertificateBound n cost scale number combs given steps bound → BoundsCase false n cost bound given
+CertificatesBoundCycles = (directed : Bool) (n : ℕ) (cost : ℕ → ℕ → ℤ) (scale number : ℤ) (families : List Comb)
+    (given : List Decision) (steps : List Step) (found : Option ℤ)
+    → AreCostsFor directed n cost → IsScale scale → IsCertificate n families given steps
+    → IsCertificateBound directed n cost scale number families given steps found → BoundsIfAny directed n cost given found
 
 -- Where the fixed pairs are given, it is at most the length of every tour.
 abbrev pub CertificatesBoundTours : Type 0
-CertificatesBoundTours = (n : ℕ) (cost : ℕ → ℕ → ℤ) (scale number : ℤ) (combs : List Comb) (fixed : List (ℕ × ℕ))
-    (steps : List Step) (bound : ℤ) (nodes : List ℕ)
-    → 3 ≤ n → IsSymmetric cost → IsScale scale → IsCertificate n combs (take_pairs fixed) steps
-    → IsCertificateBound n cost scale number combs (take_pairs fixed) steps bound
-    → IsTour false n fixed nodes → bound ≤ℤ length_of cost nodes
+CertificatesBoundTours = (directed : Bool) (n : ℕ) (cost : ℕ → ℕ → ℤ) (scale number : ℤ) (families : List Comb)
+    (fixed : List (ℕ × ℕ)) (steps : List Step) (bound : ℤ) (nodes : List ℕ)
+    → AreCostsFor directed n cost → IsScale scale → IsCertificate n families (take_pairs fixed) steps
+    → IsCertificateBound directed n cost scale number families (take_pairs fixed) steps (Some bound)
+    → IsTour directed n fixed nodes → bound ≤ℤ length_of cost nodes
 
--- There is one such bound, whichever least 1-trees are found.
+-- Where there is none, there is no tour.
+abbrev pub NoBoundNoTour : Type 0
+NoBoundNoTour = (directed : Bool) (n : ℕ) (cost : ℕ → ℕ → ℤ) (scale number : ℤ) (families : List Comb)
+    (fixed : List (ℕ × ℕ)) (steps : List Step) (nodes : List ℕ)
+    → AreCostsFor directed n cost → IsScale scale → IsCertificate n families (take_pairs fixed) steps
+    → IsCertificateBound directed n cost scale number families (take_pairs fixed) steps None
+    → IsTour directed n fixed nodes → ⊥
+
+-- There is one such bound, or none, whichever least 1-trees are found.
 abbrev pub CertificateBoundsAreUnique : Type 0
-CertificateBoundsAreUnique = (n : ℕ) (cost : ℕ → ℕ → ℤ) (scale number : ℤ) (combs : List Comb) (given : List Decision)
-    (steps : List Step) (a b : ℤ) → IsCertificateBound n cost scale number combs given steps a
-    → IsCertificateBound n cost scale number combs given steps b → a ≡ b
+CertificateBoundsAreUnique = (directed : Bool) (n : ℕ) (cost : ℕ → ℕ → ℤ) (scale number : ℤ) (families : List Comb)
+    (given : List Decision) (steps : List Step) (a b : Option ℤ)
+    → IsCertificateBound directed n cost scale number families given steps a
+    → IsCertificateBound directed n cost scale number families given steps b → a ≡ b

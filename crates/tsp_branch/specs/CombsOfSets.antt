@@ -1,8 +1,9 @@
 -- Combs as code has them: by their sets, of which each has the number of its comb, from 0 on, and the first one is the handle.
-use Rattle.std.specs.Prelude.{◌≡◌, ℕ, zero, suc, ◌==◌, ◌<◌, false, if◌then◌else◌, List, [], ◌∷◌, length, ℤ}
+use Rattle.std.specs.Prelude.{◌≡◌, ℕ, zero, suc, ◌==◌, ◌<◌, ◌-◌, false, if◌then◌else◌, List, [], ◌∷◌, length, slice_index_or, ℤ, pos, ◌+ℤ◌, ◌*ℤ◌}
 use Rattle.std.specs.List.{All}
 use Rattle.tsp_theory.specs.Adjusted.{adjusted}
 use Rattle.tsp_branch.specs.Combs.{Comb, comb_of}
+use Rattle.tsp_branch.specs.Families.{least_crossings_of}
 use Rattle.tsp_branch.specs.LeafBound.{crossings_of, leaf_weight}
 use Rattle.tsp_branch.specs.Certificate.{multiplied}
 use Rattle.tsp_branch.specs.Combed.{set_crossings, set_weight}
@@ -23,6 +24,18 @@ combs_from first (suc count) sets = comb_with (of_comb first sets) ∷ combs_fro
 
 abbrev pub combs_of : ℕ → List (ℕ × List ℕ) → List Comb
 combs_of count sets = combs_from 0 count sets
+
+-- how many sets each of so many combs has
+pub record AreSetCounts (combs : ℕ) (sets : List (ℕ × List ℕ)) (counts : List ℕ) : Type 0 where
+  pub many : length counts ≡ combs
+  pub each : (comb default : ℕ) → comb < combs → slice_index_or counts comb default ≡ length (of_comb comb sets)
+
+-- the least crossings of families that have so many sets, each times its multiplier
+abbrev pub least_with : List ℕ → List ℤ → ℤ
+least_with [] multipliers = pos 0
+least_with (count ∷ counts) [] = pos 0
+least_with (count ∷ counts) (multiplier ∷ multipliers) =
+    (multiplier *ℤ pos (least_crossings_of (count - 1))) +ℤ least_with counts multipliers
 
 -- The crossings of the sets are those of the combs.
 abbrev pub SetsTellCombs : Type 0

@@ -1,5 +1,5 @@
 -- Decisions: pairs that a cycle uses, and pairs that it doesn't.
-use Rattle.std.specs.Prelude.{ℕ, ◌≤◌, ◌≡◌, Bool, true, false, if◌then◌else◌, List, [], ◌∷◌, length, map, ℤ, ◌≤ℤ◌}
+use Rattle.std.specs.Prelude.{ℕ, ◌≤◌, ◌≡◌, ◌==◌, ◌&&◌, Bool, true, false, if◌then◌else◌, List, [], ◌∷◌, length, map, ℤ, ◌≤ℤ◌}
 use Rattle.std.specs.List.{All, AllPairs}
 use Rattle.tsp_theory.specs.Costs.{IsSymmetric}
 use Rattle.tsp_theory.specs.Cycle.{IsCycle}
@@ -25,9 +25,14 @@ KeepsDecision directed nodes decision = KeepsPair directed nodes decision.taken 
 abbrev pub KeepsAll : Bool → List ℕ → List Decision → Type 0
 KeepsAll directed nodes decisions = All (KeepsDecision directed nodes) decisions
 
--- no two decisions are on the same two nodes
-abbrev pub DecideOnce : List Decision → Type 0
-DecideOnce decisions = AllPairs (λ a b. is_same_pair a.pair b.pair ≡ false) decisions
+-- whether two pairs are the same; directed: also in the order of their nodes
+abbrev pub is_same : Bool → ℕ × ℕ → ℕ × ℕ → Bool
+is_same true pair other = (pair.0 == other.0) && (pair.1 == other.1)
+is_same false pair other = is_same_pair pair other
+
+-- no two decisions are on the same pair
+abbrev pub DecideOnce : Bool → List Decision → Type 0
+DecideOnce directed decisions = AllPairs (λ a b. is_same directed a.pair b.pair ≡ false) decisions
 
 -- pairs that are fixed, as decisions
 abbrev pub take_pairs : List (ℕ × ℕ) → List Decision

@@ -1,5 +1,5 @@
 -- A small comb, small costs and small trees on which the definitions are evaluated.
-use Rattle.std.specs.Prelude.{◌≡◌, ℕ, ◌-◌, true, false, List, [], ◌∷◌, replicate, min, max, slice_index, slice_index_or, ℤ, pos}
+use Rattle.std.specs.Prelude.{◌≡◌, ℕ, ◌-◌, true, false, List, [], ◌∷◌, Some, replicate, min, max, slice_index, slice_index_or, ℤ, pos}
 use Rattle.tsp_theory.specs.Length.{length_of}
 use Rattle.tsp_branch.specs.Combs.{Comb, comb_of, crossings}
 use Rattle.tsp_branch.specs.Decisions.{Decision, on_taken, on_avoided}
@@ -56,14 +56,15 @@ WeighsUnderComb i j weight =
 
 -- a certificate of four nodes has this bound; one of six, with the comb and these multipliers, and no branch
 abbrev pub FourHave : List Step → ℤ → Type 0
-FourHave steps bound = IsCertificate 4 [] [] steps × IsCertificateBound 4 (cost_in four_rows) (pos 1) large [] [] steps bound
+FourHave steps bound = IsCertificate 4 [] [] steps × IsCertificateBound false 4 (cost_in four_rows) (pos 1) large [] [] steps
+    (Some bound)
 
 abbrev pub six_leaf : List ℤ → List Step
 six_leaf multipliers = Leaf (record { potentials = replicate 6 (pos 0); multipliers = multipliers }) ∷ []
 
 abbrev pub SixHave : List ℤ → ℤ → Type 0
 SixHave multipliers bound = IsCertificate 6 (small_comb ∷ []) [] (six_leaf multipliers)
-    × IsCertificateBound 6 (cost_in six_rows) (pos 2) large (small_comb ∷ []) [] (six_leaf multipliers) bound
+    × IsCertificateBound false 6 (cost_in six_rows) (pos 2) large (small_comb ∷ []) [] (six_leaf multipliers) (Some bound)
 
 -- the steps are one tree, and these are the cases of its leaves
 pub record IsTreeOf (steps : List Step) (cases : List (List Decision)) : Type 0 where

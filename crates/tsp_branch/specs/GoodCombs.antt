@@ -1,17 +1,17 @@
--- Which comb is bad: combs are told by sets of nodes, and these need not be those of combs.
+-- Which comb is bad: families are told by sets of nodes, and these need not be those of a lone set or a comb.
 use Rattle.std.specs.Prelude.{◌≡◌, ◌≢◌, ℕ, ◌+◌, ◌*◌, ◌≤◌, ◌<◌, List, map, Option, None, Some}
 use Rattle.std.specs.Global.{Vec}
 use Rattle.std.specs.List.{All, AllPairs}
-use Rattle.tsp_branch.specs.Combs.{IsComb}
+use Rattle.tsp_branch.specs.Families.{IsFamily}
 use Rattle.tsp_branch.specs.CombsOfSets.{comb_with, of_comb, combs_of}
 
 -- no node stands twice in a set
 abbrev pub HasEachOnce : List ℕ → Type 0
 HasEachOnce set = AllPairs (λ a b. a ≢ b) set
 
--- sets, the handle first, that are those of a comb, each with its nodes once
+-- sets, the handle first, that are those of a family, each with its nodes once
 pub record IsGoodComb (n : ℕ) (sets : List (List ℕ)) : Type 0 where
-  pub comb : IsComb n (comb_with sets)
+  pub family : IsFamily n (comb_with sets)
   pub once : All HasEachOnce sets
 
 -- an odd number, at least three
@@ -25,10 +25,10 @@ pub record IsFirstBadComb (n combs : ℕ) (sets : List (ℕ × List ℕ)) (first
   pub before : (comb : ℕ) → comb + 1 < first → IsGoodComb n (of_comb comb sets)
   pub bad : (comb : ℕ) → comb + 1 ≡ first → IsGoodComb n (of_comb comb sets) → ⊥
 
--- Where no comb is bad, the sets are those of combs, each with its nodes once; else the first bad one is told.
+-- Where none is bad, the sets are those of families, each with its nodes once; else the first bad one is told.
 abbrev pub AreCombsJudged : ℕ → ℕ → List (ℕ × List ℕ) → Option ℕ → Type 0
 AreCombsJudged n combs sets None = ((comb : ℕ) → comb < combs → IsGoodComb n (of_comb comb sets))
-    × All (IsComb n) (combs_of combs sets) × All (λ set. HasEachOnce set.1) sets
+    × All (IsFamily n) (combs_of combs sets) × All (λ set. HasEachOnce set.1) sets
 AreCombsJudged n combs sets (Some first) = IsFirstBadComb n combs sets first
 
 -- the sets are told comb by comb

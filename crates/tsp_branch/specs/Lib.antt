@@ -21,4 +21,5 @@ pub mod VerdictExamples
 pub mod Rooms
 pub mod Rows
 pub mod Families
+pub mod RowLeaves
 pub mod Closed

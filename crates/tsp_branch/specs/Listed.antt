@@ -1,5 +1,5 @@
 -- A certificate as it is listed: each leaf by what changes since the leaf before it.
-use Rattle.std.specs.Prelude.{false, ◌≡◌, ◌≢◌, ℕ, suc, ◌+◌, ◌-◌, ◌^◌, ◌<◌, length, true, List, [], ◌∷◌, take, drop, replicate, slice_set, Option, Some, IfSome, ◌⊎◌, ℤ, pos, ◌+ℤ◌, ◌≤ℤ◌}
+use Rattle.std.specs.Prelude.{◌≡◌, ◌≢◌, ℕ, suc, ◌+◌, ◌-◌, ◌^◌, ◌<◌, length, Bool, true, List, [], ◌∷◌, take, drop, replicate, slice_set, Option, Some, None, IfSome, ◌⊎◌, ℤ, pos, ◌+ℤ◌, ◌≤ℤ◌}
 use Rattle.std.specs.List.{All}
 use Rattle.tsp_format.specs.Cells.{IsNode}
 use Rattle.tsp_format.specs.Steps as listed
@@ -8,8 +8,8 @@ use Rattle.tsp_branch.specs.declared.steps.Judged.{Judged}
 use Rattle.tsp_branch.specs.declared.steps.Judged.TheVariants as judged
 use Rattle.tsp_branch.specs.Combs.{Comb}
 use Rattle.tsp_branch.specs.Decisions.{Decision, DecideOnce}
-use Rattle.tsp_branch.specs.Cases.{LeafNumbers, Step, Branch, Leaf, are_trees, leaves_of, cases_of, BoundsCase}
-use Rattle.tsp_branch.specs.Certificate.{IsCertificate, IsCertificateBound}
+use Rattle.tsp_branch.specs.Cases.{LeafNumbers, Step, Branch, Leaf, are_trees, leaves_of, cases_of}
+use Rattle.tsp_branch.specs.Certificate.{IsCertificate, IsCertificateBound, BoundsIfAny}
 use Rattle.tsp_branch.specs.Judged.{AreGoodNumbers}
 use Rattle.tsp_branch.specs.Decided.{decided_number}
 
@@ -72,31 +72,33 @@ IsFirstBadFrom n combs numbers leaf (listed.Leaf changes ∷ steps) bad =
 
 -- ---- what is judged
 
--- Where all leaves are good, the bound; else the first that isn't.
-abbrev pub IsJudged : ℕ → (ℕ → ℕ → ℤ) → ℤ → List Comb → ℕ → List Decision → List listed.Step → Judged → Type 0
-IsJudged n cost scale combs count given steps (judged.Bound bound) = IsCertificate n combs given (listed_steps n count steps)
-    × IsCertificateBound n cost scale decided_number combs given (listed_steps n count steps) bound
+-- Where all leaves are good, the bound, or none where no leaf has one; else the first leaf that isn't.
+abbrev pub IsJudged : Bool → ℕ → (ℕ → ℕ → ℤ) → ℤ → List Comb → ℕ → List Decision → List listed.Step → Judged → Type 0
+IsJudged directed n cost scale families count given steps (judged.Bound found) =
+    IsCertificate n families given (listed_steps n count steps)
+    × IsCertificateBound directed n cost scale decided_number families given (listed_steps n count steps) found
     × AreGoodFrom n count (no_numbers_of n count) steps
-IsJudged n cost scale combs count given steps (judged.BadLeaf leaf) = IsFirstBadFrom n count (no_numbers_of n count) 0 steps leaf
+IsJudged directed n cost scale families count given steps (judged.BadLeaf leaf) =
+    IsFirstBadFrom n count (no_numbers_of n count) 0 steps leaf
 
--- Then the bound is at most the length of every cycle that keeps the given decisions.
-abbrev pub BoundsCycles : ℕ → (ℕ → ℕ → ℤ) → List Decision → Judged → Type 0
-BoundsCycles n cost given (judged.Bound bound) = BoundsCase false n cost bound given
-BoundsCycles n cost given (judged.BadLeaf leaf) = Unit {0}
+-- Then the bound is at most the length of every cycle that keeps the given decisions, and where there is none, no cycle does.
+abbrev pub BoundsCycles : Bool → ℕ → (ℕ → ℕ → ℤ) → List Decision → Judged → Type 0
+BoundsCycles directed n cost given (judged.Bound found) = BoundsIfAny directed n cost given found
+BoundsCycles directed n cost given (judged.BadLeaf leaf) = Unit {0}
 
 -- Sums with it fit 128 bits.
 abbrev pub IsSized : Judged → Type 0
-IsSized (judged.Bound bound) = IsBoundSized bound
+IsSized (judged.Bound found) = IfSome found IsBoundSized
 IsSized (judged.BadLeaf leaf) = Unit {0}
 
 -- what the steps have to be: one whole tree of branches on two different nodes, none of which is on a pair decided above it
-pub record AreSteps (n : ℕ) (given : List Decision) (steps : List listed.Step) (listed : List Step) : Type 0 where
+pub record AreSteps (directed : Bool) (n : ℕ) (given : List Decision) (steps : List listed.Step) (listed : List Step) : Type 0 where
   pub each : All (IsStepOf n) steps
   pub whole : are_trees 1 listed ≡ true
-  pub once : All DecideOnce (cases_of (leaves_of (given ∷ []) listed))
+  pub once : All (DecideOnce directed) (cases_of (leaves_of (given ∷ []) listed))
 
--- the lower one of a bound and the lowest so far
-pub record IsLowest (known : Option ℤ) (bound lowest : ℤ) : Type 0 where
-  pub at_most : lowest ≤ℤ bound
-  pub below : IfSome known (λ other. lowest ≤ℤ other)
-  pub one : (lowest ≡ bound) ⊎ (known ≡ Some lowest)
+-- the lower one of a bound and the lowest so far, where there are both; else the one that there is
+abbrev pub IsLowest : Option ℤ → Option ℤ → Option ℤ → Type 0
+IsLowest None own lower = lower ≡ own
+IsLowest (Some lowest) None lower = lower ≡ Some lowest
+IsLowest (Some lowest) (Some own) lower = ((lower ≡ Some lowest) × (lowest ≤ℤ own)) ⊎ ((lower ≡ Some own) × (own ≤ℤ lowest))

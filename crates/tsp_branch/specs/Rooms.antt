@@ -1,12 +1,12 @@
 -- What a pass over the steps writes over, and what it finds of a leaf.
-use Rattle.std.specs.Prelude.{◌≡◌, ℕ, ◌+◌, ◌^◌, List, length, Option, Some, None, ℤ, pos, neg_ℤ}
+use Rattle.std.specs.Prelude.{◌≡◌, ℕ, ◌+◌, ◌^◌, List, length, Option, IfSome, ℤ, pos, neg_ℤ}
 use Rattle.std.specs.List.{All}
-use Rattle.tsp_theory.specs.Numbers.{IsFromTo}
+use Rattle.tsp_theory.specs.Numbers.{IsFromTo, IsBoundSized}
 use Rattle.tsp_branch.specs.declared.room.Room.{Room}
-use Rattle.tsp_branch.specs.Combs.{Comb}
+use Rattle.tsp_branch.specs.declared.steps.JudgedLeaf.{JudgedLeaf}
+use Rattle.tsp_branch.specs.declared.steps.JudgedLeaf.TheVariants as leaves
 use Rattle.tsp_branch.specs.Decisions.{Decision}
-use Rattle.tsp_branch.specs.Certificate.{IsBoundAt}
-use Rattle.tsp_branch.specs.Decided.{decided_number}
+use Rattle.tsp_branch.specs.Cases.{LeafNumbers}
 use Rattle.tsp_branch.specs.Listed.{all_grown, split_at, IsGoodLeaf}
 
 -- a number for each node and each comb, and a row has a place more than there are nodes
@@ -21,10 +21,14 @@ pub record IsRoom (n combs : ℕ) (room : Room) : Type 0 where
 abbrev pub AreSmall : List ℤ → Type 0
 AreSmall numbers = All (IsFromTo (neg_ℤ (pos (2 ^ 64))) (pos (2 ^ 64))) numbers
 
--- The bound of a leaf that is good, whose numbers are kept for the next one; none of one that isn't.
-abbrev pub IsJudgedLeaf : ℕ → (ℕ → ℕ → ℤ) → ℤ → List Comb → ℕ → List Decision → List ℤ → List (ℕ × ℤ) → List ℤ → Option ℤ
-    → Type 0
-IsJudgedLeaf n cost scale combs count case old changes new None = IsGoodLeaf n count old changes → ⊥
-IsJudgedLeaf n cost scale combs count case old changes new (Some bound) = IsGoodLeaf n count old changes
-    × (new ≡ all_grown changes old) × AreSmall new
-    × IsBoundAt n cost scale decided_number combs (case, split_at n (all_grown changes old)) bound
+-- What is found of a leaf that is good, whose numbers are kept for the next one; nothing of one that isn't.
+abbrev pub IsJudgedLeaf : (List Decision × LeafNumbers → Option ℤ → Type 0) → ℕ → ℕ → List Decision → List ℤ → List (ℕ × ℤ)
+    → List ℤ → JudgedLeaf → Type 0
+IsJudgedLeaf found n count case old changes new leaves.Bad = IsGoodLeaf n count old changes → ⊥
+IsJudgedLeaf found n count case old changes new (leaves.Found own) = IsGoodLeaf n count old changes
+    × (new ≡ all_grown changes old) × AreSmall new × found (case, split_at n (all_grown changes old)) own
+
+-- Sums with the bound fit 128 bits.
+abbrev pub IsSizedLeaf : JudgedLeaf → Type 0
+IsSizedLeaf leaves.Bad = Unit {0}
+IsSizedLeaf (leaves.Found own) = IfSome own IsBoundSized

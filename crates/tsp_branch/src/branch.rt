@@ -1,18 +1,21 @@
 //! The bound of a certificate by branching.
 
-ghost use Rattle.std.specs.Prelude.{◌≡◌, ◌≢◌, ◌≤◌, ◌<◌, ◌^◌, ◌++◌, length, IfOk, IfSome};
+ghost use Rattle.std.specs.Prelude.{◌≡◌, ◌≢◌, ◌≤◌, ◌<◌, ◌^◌, ◌++◌, false, length, IfOk};
 ghost use Rattle.std.specs.List.{All, AllPairs};
 ghost use Rattle.tsp_format.specs.Steps.{steps_of};
-ghost use Rattle.tsp_theory.specs.Numbers.{IsScale, IsBoundSized};
-ghost use Rattle.tsp_branch.specs.Combs.{IsComb};
+ghost use Rattle.tsp_theory.specs.Costs.{IsSymmetric};
+ghost use Rattle.tsp_theory.specs.Numbers.{IsScale};
+ghost use Rattle.tsp_branch.specs.Families.{IsFamily};
 ghost use Rattle.tsp_branch.specs.Decisions.{DecideOnce};
 ghost use Rattle.tsp_branch.specs.Sets.{AreSetsOf};
 ghost use Rattle.tsp_branch.specs.Combed.{plain};
 ghost use Rattle.tsp_branch.specs.CombsOfSets.{combs_of};
-ghost use Rattle.tsp_branch.specs.Decided.{IsDecision, case_of, stack_of};
+ghost use Rattle.tsp_branch.specs.Certificate.{IsFoundAt};
+ghost use Rattle.tsp_branch.specs.Decided.{decided_number, IsDecision, case_of, stack_of};
 ghost use Rattle.tsp_branch.specs.Listed.{no_numbers_of, listed_steps, AreSteps, IsJudged, BoundsCycles, IsSized, IsLowest};
-ghost use Rattle.tsp_branch.specs.Rooms.{IsRoom, AreSmall, IsJudgedLeaf};
+ghost use Rattle.tsp_branch.specs.Rooms.{IsRoom, AreSmall, IsJudgedLeaf, IsSizedLeaf};
 
+use crate::counts::set_counts;
 use crate::judge::judge;
 use crate::laws::certificates_bound_cycles;
 use crate::numbers::add_differences;
@@ -20,27 +23,32 @@ use crate::room::Room;
 use crate::sets::sets_by_node;
 use crate::setting::Setting;
 use crate::stack::next_case;
-use crate::steps::Judged;
+use crate::steps::{Judged, JudgedLeaf};
 use std::alloc::{AllocError, Global};
 use tsp_format::TreeStep;
-use tsp_theory::Symmetric;
+use tsp_theory::Costs;
 
 /// The bound of a tree of cases: the least of the bounds of its leaves, which is at most the length
-/// of every cycle that keeps the given decisions. Or the first leaf that isn't good: one with an
+/// of every cycle that keeps the given decisions, or none where no leaf has one. Or the first leaf that isn't good: one with an
 /// index past those of the nodes and the combs, with a potential above 10^15 in size, with a
 /// negative multiplier, or with multipliers that sum to more than 3 * 10^17.
 ///
+/// Where pairs have no direction the bound of a leaf is that of a least 1-tree, else that of the
+/// least link from each node.
+///
 /// The combs are told by their sets, each with the number of its comb from 0 on, the handle before
-/// the teeth. The caller owes three or more nodes, a scale of 1 to 1,000,000, combs, sets and
+/// the teeth. A lone set is a handle without teeth. The caller owes three or more nodes, costs that
+/// are the same in both directions where pairs have none, a scale of 1 to 1,000,000, combs, sets and
 /// decisions of nodes, one whole tree of branches, and that no case decides a pair twice.
 ///
 /// # Errors
 ///
 /// Out of memory, of which it takes some for each node, each comb, each node of a set, and
 /// each decision of a case.
-pub fn branch_bound<C: Symmetric>(
+pub fn branch_bound<C: Costs>(
     alloc: Global,
     costs: &C,
+    directed: bool,
     scale: i64,
     combs: usize,
     sets: &[(u32, Vec<u32>)],
@@ -48,6 +56,7 @@ pub fn branch_bound<C: Symmetric>(
     steps: &[TreeStep],
 ) -> Result<Judged, AllocError>
     requires some { 3 ≤ C.nodes costs.now }
+    requires even { directed ≡ false → IsSymmetric (C.at costs.now) }
     requires scaled { IsScale scale }
     requires few_combs { combs < 2 ^ 32 }
     requires few_sets { length sets.now < 2 ^ 32 }
@@ -55,25 +64,28 @@ pub fn branch_bound<C: Symmetric>(
     requires few_steps { length steps.now < 2 ^ 32 }
     requires nodes { AreSetsOf (C.nodes costs.now) sets.now }
     requires of_combs { All (λ set. (set.0 < combs) × AllPairs (λ a b. a ≢ b) set.1.items) sets.now }
-    requires are_combs { All (IsComb (C.nodes costs.now)) (combs_of combs (plain sets.now)) }
+    requires are_families { All (IsFamily (C.nodes costs.now)) (combs_of combs (plain sets.now)) }
     requires given_are { All (IsDecision (C.nodes costs.now)) given.now }
-    requires steps { AreSteps (C.nodes costs.now) (case_of given.now) (steps_of steps.now)
+    requires steps { AreSteps directed (C.nodes costs.now) (case_of given.now) (steps_of steps.now)
         (listed_steps (C.nodes costs.now) combs (steps_of steps.now)) }
-    ensures judged { IfOk result (IsJudged (C.nodes costs.now) (C.at costs.now) scale
+    ensures judged { IfOk result (IsJudged directed (C.nodes costs.now) (C.at costs.now) scale
         (combs_of combs (plain sets.now)) combs (case_of given.now) (steps_of steps.now)) }
-    ensures cycles { IfOk result (BoundsCycles (C.nodes costs.now) (C.at costs.now) (case_of given.now)) }
+    ensures cycles { IfOk result (BoundsCycles directed (C.nodes costs.now) (C.at costs.now) (case_of given.now)) }
     ensures size { IfOk result IsSized }
 {
     certificates_bound_cycles();
     let count = costs.count();
     let by_node = sets_by_node(alloc, count, sets)?;
+    let counts = set_counts(alloc, combs, sets)?;
     let room = Room::new(alloc, count as usize, combs)?;
     let setting = Setting {
         costs,
+        directed,
         scale,
         combs,
         sets,
         by_node: &by_node,
+        counts: &counts,
         given,
     };
     judge_leaves(alloc, &setting, steps, room)
@@ -84,20 +96,20 @@ pub fn branch_bound<C: Symmetric>(
 /// # Errors
 ///
 /// Out of memory.
-fn judge_leaves<C: Symmetric>(
+fn judge_leaves<C: Costs>(
     alloc: Global,
     setting: &Setting<C>,
     steps: &[TreeStep],
     mut room: Room,
 ) -> Result<Judged, AllocError>
     requires few_steps { length steps.now < 2 ^ 32 }
-    requires are_combs { All (IsComb (C.nodes setting.now.costs.now))
+    requires are_families { All (IsFamily (C.nodes setting.now.costs.now))
         (combs_of setting.now.combs (plain setting.now.sets.now)) }
-    requires steps { AreSteps (C.nodes setting.now.costs.now) (case_of setting.now.given.now)
+    requires steps { AreSteps setting.now.directed (C.nodes setting.now.costs.now) (case_of setting.now.given.now)
         (steps_of steps.now) (listed_steps (C.nodes setting.now.costs.now) setting.now.combs (steps_of steps.now)) }
     requires room { IsRoom (C.nodes setting.now.costs.now) setting.now.combs room }
     requires start { room.numbers.items ≡ no_numbers_of (C.nodes setting.now.costs.now) setting.now.combs }
-    ensures judged { IfOk result (IsJudged (C.nodes setting.now.costs.now) (C.at setting.now.costs.now)
+    ensures judged { IfOk result (IsJudged setting.now.directed (C.nodes setting.now.costs.now) (C.at setting.now.costs.now)
         setting.now.scale (combs_of setting.now.combs (plain setting.now.sets.now)) setting.now.combs
         (case_of setting.now.given.now) (steps_of steps.now)) }
     ensures size { IfOk result IsSized }
@@ -110,52 +122,53 @@ fn judge_leaves<C: Symmetric>(
             TreeStep::Branch(first, second) => stack.push((*first, *second, true))?,
             TreeStep::Leaf(changes) => {
                 leaf += 1;
-                let Some(own) = judge_leaf(alloc, setting, changes, &stack, &mut room)? else {
+                let judged = judge_leaf(alloc, setting, changes, &stack, &mut room)?;
+                let JudgedLeaf::Found(own) = judged else {
                     return Ok(Judged::BadLeaf(leaf));
                 };
-                let lower = lower(lowest, own);
+                lowest = lower(lowest, own);
                 if !next_case(&mut stack) {
-                    return Ok(Judged::Bound(lower));
+                    return Ok(Judged::Bound(lowest));
                 }
-                lowest = Some(lower);
             }
         }
     }
     unreachable!()
 }
 
-/// The bound of a leaf, whose numbers are kept; `None` where it isn't good.
+/// What is judged of a leaf, whose numbers are kept where they are good.
 ///
 /// # Errors
 ///
 /// Out of memory.
-fn judge_leaf<C: Symmetric>(
+fn judge_leaf<C: Costs>(
     alloc: Global,
     setting: &Setting<C>,
     changes: &[(u32, i64)],
     decisions: &[(u32, u32, bool)],
     room: &mut Room,
-) -> Result<Option<i128>, AllocError>
-    requires are_combs { All (IsComb (C.nodes setting.now.costs.now))
+) -> Result<JudgedLeaf, AllocError>
+    requires are_families { All (IsFamily (C.nodes setting.now.costs.now))
         (combs_of setting.now.combs (plain setting.now.sets.now)) }
     requires few_changes { length changes.now < 2 ^ 32 }
     requires few_decisions { length decisions.now < 2 ^ 32 }
     requires pairs { All (IsDecision (C.nodes setting.now.costs.now)) decisions.now }
-    requires once { DecideOnce (stack_of decisions.now ++ case_of setting.now.given.now) }
+    requires once { DecideOnce setting.now.directed (stack_of decisions.now ++ case_of setting.now.given.now) }
     requires room { IsRoom (C.nodes setting.now.costs.now) setting.now.combs room.old }
     requires small { AreSmall room.old.numbers.items }
-    ensures judged { IfOk result (IsJudgedLeaf (C.nodes setting.now.costs.now) (C.at setting.now.costs.now)
-        setting.now.scale (combs_of setting.now.combs (plain setting.now.sets.now)) setting.now.combs
+    ensures judged { IfOk result (IsJudgedLeaf (IsFoundAt setting.now.directed (C.nodes setting.now.costs.now)
+        (C.at setting.now.costs.now) setting.now.scale decided_number
+        (combs_of setting.now.combs (plain setting.now.sets.now))) (C.nodes setting.now.costs.now) setting.now.combs
         (stack_of decisions.now ++ case_of setting.now.given.now) room.old.numbers.items changes.now
         room.new.numbers.items) }
     ensures room { IfOk result (λ own. IsRoom (C.nodes setting.now.costs.now) setting.now.combs room.new) }
-    ensures size { IfOk result (λ own. IfSome own IsBoundSized) }
+    ensures size { IfOk result IsSizedLeaf }
 {
     if !add_differences(&mut room.numbers, changes) {
-        return Ok(None);
+        return Ok(JudgedLeaf::Bad);
     }
     if !judge(&room.numbers, &mut room.potentials, &mut room.multipliers) {
-        return Ok(None);
+        return Ok(JudgedLeaf::Bad);
     }
     let bound = setting.case_bound(
         alloc,
@@ -165,15 +178,19 @@ fn judge_leaf<C: Symmetric>(
         &mut room.row,
         &mut room.moved,
     )?;
-    Ok(Some(bound))
+    Ok(JudgedLeaf::Found(bound))
 }
 
-/// The lower one of a bound and the lowest so far.
-fn lower(lowest: Option<i128>, bound: i128) -> i128
-    ensures { IsLowest lowest bound result }
+/// The lower one of a bound and the lowest so far, where there are both; else the one that there
+/// is.
+fn lower(lowest: Option<i128>, own: Option<i128>) -> Option<i128>
+    ensures { IsLowest lowest own result }
 {
-    match lowest {
-        Some(other) if other < bound => other,
-        _ => bound,
-    }
+    let Some(low) = lowest else {
+        return own;
+    };
+    let Some(bound) = own else {
+        return lowest;
+    };
+    Some(if low < bound { low } else { bound })
 }

@@ -1,15 +1,18 @@
 //! A small comb and small trees, on which the definitions are evaluated.
 
-ghost use Rattle.std.specs.Prelude.{◌≡◌, ℕ, ℤ, List, [], ◌∷◌, pos, ◌-ℤ◌, ◌+ℤ◌};
+ghost use Rattle.std.specs.Prelude.{◌≡◌, ℕ, ℤ, List, [], ◌∷◌, true, false, pos, ◌-ℤ◌, ◌+ℤ◌};
 ghost use Rattle.tsp_branch.specs.Combs.{least_crossings};
+ghost use Rattle.tsp_branch.specs.Families.{least_crossings_of};
 ghost use Rattle.tsp_branch.specs.Cases.{Branch, Leaf};
 ghost use Rattle.tsp_branch.specs.Examples.{small_comb, Crosses, CrossesInAll, large, no_numbers, one_at_two, WeighsAt, WeighsUnderComb, four_rows, six_rows, LengthIs, FourHave, SixHave, IsTreeOf, IsNoTree, with_pair, without_pair};
-ghost use Rattle.tsp_branch.specs.VerdictExamples.{IsBadComb, three_teeth, TwiceAt, branches, branches_apart, on_both_sides};
+ghost use Rattle.tsp_branch.specs.VerdictExamples.{IsBadComb, IsGood, three_teeth, TwiceAt, branches, branches_apart, on_both_sides};
 
 /// How often some nodes cross the parts of a comb, and how often two cycles do: the first one as
 /// often as each cycle does at the least.
 pub fn examples_of_crossings()
     ensures least { least_crossings small_comb ≡ pos 10 }
+    ensures least_of_three_teeth { least_crossings_of 3 ≡ 10 }
+    ensures least_of_lone_set { least_crossings_of 0 ≡ 2 }
     ensures itself { Crosses 1 1 0 }
     ensures handle_alone { Crosses 1 4 1 }
     ensures handle_alone_turned { Crosses 4 1 1 }
@@ -60,7 +63,7 @@ pub fn examples_of_trees()
     ensures one_leaf_more { IsNoTree (Leaf (no_numbers 4) ∷ Leaf (no_numbers 4) ∷ []) }
 {}
 
-/// Sets that are not those of a comb, and branches that come twice.
+/// Sets that are neither a lone set nor those of a comb, and branches that come twice.
 pub fn examples_of_verdicts()
     ensures no_sets { IsBadComb [] }
     ensures one_tooth { IsBadComb ((1 ∷ 2 ∷ 3 ∷ []) ∷ (1 ∷ 4 ∷ []) ∷ []) }
@@ -69,9 +72,15 @@ pub fn examples_of_verdicts()
     ensures teeth_meet { IsBadComb ((1 ∷ 2 ∷ 3 ∷ []) ∷ (1 ∷ 4 ∷ []) ∷ (2 ∷ 4 ∷ []) ∷ (3 ∷ 6 ∷ []) ∷ []) }
     ensures tooth_inside { IsBadComb ((1 ∷ 2 ∷ 3 ∷ 4 ∷ []) ∷ three_teeth) }
     ensures tooth_outside { IsBadComb ((1 ∷ 2 ∷ []) ∷ three_teeth) }
-    ensures again { TwiceAt [] (branches 1 2 1 2) 2 }
-    ensures again_turned { TwiceAt [] (branches 1 2 2 1) 2 }
-    ensures given { TwiceAt (with_pair 3 4 ∷ []) (branches 1 2 4 3) 2 }
-    ensures without_it { (changes : List (ℕ × ℤ)) → TwiceAt [] (branches_apart 1 2 1 2 changes) 2 }
-    ensures sides { (changes : List (ℕ × ℤ)) → TwiceAt [] (on_both_sides changes) 4 }
+    ensures lone_set { IsGood ((1 ∷ 2 ∷ []) ∷ []) }
+    ensures no_node { IsBadComb ([] ∷ []) }
+    ensures all_nodes { IsBadComb ((1 ∷ 2 ∷ 3 ∷ 4 ∷ 5 ∷ 6 ∷ []) ∷ []) }
+    ensures lone_node_twice { IsBadComb ((1 ∷ 2 ∷ 1 ∷ []) ∷ []) }
+    ensures again { TwiceAt false [] (branches 1 2 1 2) 2 }
+    ensures again_turned { TwiceAt false [] (branches 1 2 2 1) 2 }
+    ensures given { TwiceAt false (with_pair 3 4 ∷ []) (branches 1 2 4 3) 2 }
+    ensures arc_again { TwiceAt true [] (branches 1 2 1 2) 2 }
+    ensures other_arc { (branch : ℕ) → ¬ TwiceAt true [] (branches 1 2 2 1) branch }
+    ensures without_it { (changes : List (ℕ × ℤ)) → TwiceAt false [] (branches_apart 1 2 1 2 changes) 2 }
+    ensures sides { (changes : List (ℕ × ℤ)) → TwiceAt false [] (on_both_sides changes) 4 }
 {}

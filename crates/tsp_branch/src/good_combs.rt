@@ -1,24 +1,26 @@
 //! Which comb is bad.
 
-ghost use Rattle.std.specs.Prelude.{◌≡◌, ◌≤◌, ◌<◌, ◌-◌, ◌+◌, ◌^◌, ◌↔◌, ◌≢◌, ℕ, IsTrue, length, take, true, IfOk, slice_index_or};
+ghost use Rattle.std.specs.Prelude.{◌≡◌, ◌≤◌, ◌<◌, ◌-◌, ◌+◌, ◌^◌, ◌↔◌, ◌≢◌, ℕ, IsTrue, [], length, take, true, IfOk, slice_index_or};
 ghost use Rattle.std.specs.Global.{Vec};
 ghost use Rattle.std.specs.List.{All};
 ghost use Rattle.tsp_format.specs.Cells.{IsNode};
-ghost use Rattle.tsp_branch.specs.Combs.{IsTooth, has};
+ghost use Rattle.tsp_branch.specs.Combs.{IsTooth, has, comb_of};
+ghost use Rattle.tsp_branch.specs.Families.{IsLoneSet};
 ghost use Rattle.tsp_branch.specs.Sets.{AreSetsOf};
 ghost use Rattle.tsp_branch.specs.Combed.{plain};
 ghost use Rattle.tsp_branch.specs.GoodCombs.{IsGoodComb, IsToothCount, AreCombsJudged, AreInOrder, lists_of};
 ghost use Rattle.tsp_branch.specs.Marked.{is_marked, AreUnmarked, HavePlaces, AddsNoOther, AreTeeth};
 
-use crate::marks::{has_node, mark_nodes};
+use crate::marks::{has_node, leaves_one_out, mark_nodes};
 use std::alloc::{AllocError, Global};
 
-/// The first comb that isn't one, counted from 1: one that has an even number of teeth or fewer than
-/// three, a node twice in a set, two teeth with a node in common, or a tooth inside the handle or
-/// outside of it. `None` where all are combs.
+/// The first family that is neither a lone set nor a comb, counted from 1: a set alone that has no
+/// node or leaves none out, or more sets with an even number of teeth or fewer than three, a node
+/// twice in a set, two teeth with a node in common, or a tooth inside the handle or outside of it.
+/// `None` where all are families.
 ///
-/// The combs are told by their sets, each with the number of its comb from 0 on, comb by comb, the
-/// handle before the teeth. The caller owes sets of nodes.
+/// The families are told by their sets, each with the number of its family from 0 on, family by
+/// family, the handle before the teeth. The caller owes sets of nodes.
 ///
 /// # Errors
 ///
@@ -63,7 +65,7 @@ fn count_of(sets: &[(u32, Vec<u32>)], comb: u32) -> usize
     count
 }
 
-/// Whether sets, the handle first, are those of a comb, each with its nodes once.
+/// Whether sets, the handle first, are those of a lone set or a comb, each with its nodes once.
 ///
 /// The nodes of the handle get a mark, and so do those of the teeth in marks of their own: a mark
 /// that no node has before.
@@ -72,7 +74,7 @@ fn is_comb(handles: &mut [u32], used: &mut [u32], mark: u32, sets: &[(u32, Vec<u
     requires tooth_places { HavePlaces used.old sets.now }
     requires fresh_handle { AreUnmarked handles.old mark }
     requires fresh_teeth { AreUnmarked used.old mark }
-    ensures comb { (n : ℕ) → AreSetsOf n sets.now → (IsTrue result ↔ IsGoodComb n (lists_of sets.now)) }
+    ensures comb { (n : ℕ) → length handles.old ≡ n + 1 → AreSetsOf n sets.now → (IsTrue result ↔ IsGoodComb n (lists_of sets.now)) }
     ensures handle_others { AddsNoOther mark handles.old handles.new }
     ensures tooth_others { AddsNoOther mark used.old used.new }
     ensures handle_length { length handles.new ≡ length handles.old }
@@ -81,13 +83,26 @@ fn is_comb(handles: &mut [u32], used: &mut [u32], mark: u32, sets: &[(u32, Vec<u
     let Some((handle, teeth)) = sets.split_first() else {
         return false;
     };
-    if !is_tooth_count(teeth.len()) {
-        return false;
-    }
     if !mark_nodes(handles, mark, &handle.1) {
         return false;
     }
+    if teeth.is_empty() {
+        return is_lone_set(handles, mark, &handle.1);
+    }
+    if !is_tooth_count(teeth.len()) {
+        return false;
+    }
     are_teeth(handles, used, mark, teeth)
+}
+
+/// Whether nodes, which are those with the mark, are a lone set: there is one, and they leave one
+/// out.
+fn is_lone_set(handles: &[u32], mark: u32, nodes: &[u32]) -> bool
+    ensures { (n : ℕ) → length handles.now ≡ n + 1 → All (IsNode n) nodes.now
+        → ((x : ℕ) → is_marked handles.now mark x ≡ has nodes.now x)
+        → (IsTrue result ↔ IsLoneSet n (comb_of nodes.now [])) }
+{
+    !nodes.is_empty() && leaves_one_out(handles, mark)
 }
 
 /// Whether a comb can have so many teeth.

@@ -6,8 +6,9 @@ ghost use Rattle.tsp_branch.specs.Decisions.{Decision, DecidedBoundsBoundCycles,
 ghost use Rattle.tsp_branch.specs.LeafBound.{LeafBoundsBoundCycles, UncombedBoundsAreAdjustedBounds};
 ghost use Rattle.tsp_branch.specs.Cases.{decide, BoundsCase, HasNoCycle, BoundsButOpen, CyclesKeepLeaves, CasesBoundCycles, CasesHaveNoCycle, StacksBegin, StacksBranch, StacksHoldCases};
 ghost use Rattle.tsp_branch.specs.Rows.{LinksAreAllowed, NoLinkNoCycle, SumsAreBelowCycles};
-ghost use Rattle.tsp_branch.specs.Families.{CyclesCrossFamilies, RowLeafBoundsBoundCycles};
-ghost use Rattle.tsp_branch.specs.Certificate.{CertificatesBoundCycles, CertificatesBoundTours, CertificateBoundsAreUnique};
+ghost use Rattle.tsp_branch.specs.Families.{CyclesCrossFamilies};
+ghost use Rattle.tsp_branch.specs.RowLeaves.{RowLeafBoundsBoundCycles};
+ghost use Rattle.tsp_branch.specs.Certificate.{CertificatesBoundCycles, CertificatesBoundTours, NoBoundNoTour, CertificateBoundsAreUnique};
 ghost use Rattle.tsp_branch.specs.CombsOfSets.{SetsTellCombs, SetsGiveLeaves};
 
 use tsp_theory::{
@@ -38,6 +39,16 @@ pub fn cycles_cross_combs()
     cycles_have_no_loops();
 }
 
+/// Each cycle crosses a lone set at least twice, and a comb of k teeth at least 3k + 1 times.
+pub fn cycles_cross_families()
+    ensures { CyclesCrossFamilies }
+{
+    cycles_are_permutations();
+    lengths_add_up();
+    cycles_have_no_loops();
+    cycles_cross_combs();
+}
+
 /// Where each node has the number of its tooth, these numbers give a comb, and tell how many of its
 /// parts two nodes cross.
 pub fn numbers_tell_combs()
@@ -56,8 +67,8 @@ pub fn sets_tell_combs()
     ensures leaves { SetsGiveLeaves }
 {}
 
-/// The bound of potentials, of numbers on pairs and of combs is at most the length of every cycle
-/// that uses each taken pair and no avoided one. With no comb it is the bound of tsp_theory.
+/// The bound of potentials, of numbers on pairs and of families is at most the length of every cycle
+/// that uses each taken pair and no avoided one. With no family it is the bound of tsp_theory.
 pub fn leaf_bounds_bound_cycles()
     ensures cycles { LeafBoundsBoundCycles }
     ensures uncombed { UncombedBoundsAreAdjustedBounds }
@@ -65,7 +76,7 @@ pub fn leaf_bounds_bound_cycles()
     cycles_are_permutations();
     lengths_add_up();
     cycles_have_no_loops();
-    cycles_cross_combs();
+    cycles_cross_families();
 }
 
 /// Each link of a cycle is allowed by the decisions that the cycle keeps; so where no link from some
@@ -90,17 +101,15 @@ pub fn sums_are_below_cycles()
     links_are_allowed();
 }
 
-/// Each cycle crosses a lone set at least twice, and a comb of k teeth at least 3k + 1 times; and
-/// the bound of a leaf by rows is at most the length of every cycle that keeps its decisions,
+/// The bound of a leaf by rows is at most the length of every cycle that keeps its decisions,
 /// whichever costs.
 pub fn row_leaf_bounds_bound_cycles()
-    ensures families { CyclesCrossFamilies }
-    ensures bounds { RowLeafBoundsBoundCycles }
+    ensures { RowLeafBoundsBoundCycles }
 {
     cycles_are_permutations();
     lengths_add_up();
     cycles_have_no_loops();
-    cycles_cross_combs();
+    cycles_cross_families();
     sums_are_below_cycles();
 }
 
@@ -148,16 +157,21 @@ pub fn stacks_hold_cases()
 {}
 
 /// The bound of a certificate is at most the length of every cycle that keeps the given decisions,
-/// and of every tour where the fixed pairs are given.
+/// and of every tour where the fixed pairs are given. Where no leaf has a bound there is no such
+/// cycle or tour.
 pub fn certificates_bound_cycles()
     ensures cycles { CertificatesBoundCycles }
     ensures tours { CertificatesBoundTours }
+    ensures none { NoBoundNoTour }
 {
     leaf_bounds_bound_cycles();
+    row_leaf_bounds_bound_cycles();
+    links_are_allowed();
     cases_bound_cycles();
+    cases_have_no_cycle();
 }
 
-/// A certificate has one bound, whichever least 1-trees are found.
+/// A certificate has one bound, or none, whichever least 1-trees are found.
 pub fn certificate_bounds_are_unique()
     ensures { CertificateBoundsAreUnique }
 {}

@@ -1,11 +1,14 @@
-//! Lower bounds by branching: combs, and cases by pairs of nodes, as theorems over lists and whole
-//! numbers; and in code the bound of a leaf whose weights are told by rows.
+//! Lower bounds by branching: families of sets of nodes, and cases by pairs of nodes, as theorems
+//! over lists and whole numbers; and in code the verdict on a certificate. Where pairs have no
+//! direction the bound of a leaf is that of a least 1-tree, else that of the least link from each
+//! node.
 #![tactic(auto)]
 
 mod add_sets;
 mod branch;
 mod closing;
 mod combed;
+mod counts;
 mod decided;
 mod examples;
 mod given_back;
@@ -41,10 +44,10 @@ pub use examples::{
 pub use good_combs::first_bad_comb;
 pub use laws::{
     cases_bound_cycles, cases_have_no_cycle, certificate_bounds_are_unique,
-    certificates_bound_cycles, cycles_cross_combs, cycles_keep_leaves, decided_bounds_bound_cycles,
-    fixed_bounds_bound_tours, leaf_bounds_bound_cycles, links_are_allowed, numbers_tell_combs,
-    numbers_tell_lists, row_leaf_bounds_bound_cycles, sets_tell_combs, stacks_hold_cases,
-    steps_leave_cases, sums_are_below_cycles,
+    certificates_bound_cycles, cycles_cross_combs, cycles_cross_families, cycles_keep_leaves,
+    decided_bounds_bound_cycles, fixed_bounds_bound_tours, leaf_bounds_bound_cycles,
+    links_are_allowed, numbers_tell_combs, numbers_tell_lists, row_leaf_bounds_bound_cycles,
+    sets_tell_combs, stacks_hold_cases, steps_leave_cases, sums_are_below_cycles,
 };
 pub use leaf::leaf_bound;
 pub use rows::row_bound;

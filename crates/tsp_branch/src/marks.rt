@@ -1,6 +1,6 @@
 //! Marks by node, by which a node that comes again is known.
 
-ghost use Rattle.std.specs.Prelude.{◌≡◌, ◌<◌, ◌↔◌, ℕ, Bool, IsTrue, length, true};
+ghost use Rattle.std.specs.Prelude.{◌≡◌, ◌≤◌, ◌<◌, ◌↔◌, ℕ, Bool, IsTrue, length, true, false};
 ghost use Rattle.std.specs.List.{All, Any};
 ghost use Rattle.tsp_branch.specs.Marked.{is_marked, AreNew, AreMarked, AddsNoOther};
 
@@ -31,6 +31,20 @@ pub(crate) fn has_node(marks: &[u32], mark: u32, nodes: &[u32], wanted: bool) ->
     'nodes: for node in nodes {
         let marked = marks[*node as usize] == mark;
         if marked == wanted {
+            return true;
+        }
+    }
+    false
+}
+
+/// Whether some node, from 1 on, hasn't the mark. It looks at one place more than there are nodes
+/// with the mark, at most.
+pub(crate) fn leaves_one_out(marks: &[u32], mark: u32) -> bool
+    ensures { IsTrue result ↔ ((node : ℕ) × (1 ≤ node) × (node < length marks.now)
+        × (is_marked marks.now mark node ≡ false)) }
+{
+    'places: for place in 1..marks.len() {
+        if marks[place] != mark {
             return true;
         }
     }

@@ -3,18 +3,30 @@
 /// What is judged of a certificate.
 #[derive(Drop)]
 pub enum Judged {
-    /// The bound: no cycle that keeps the given decisions is shorter.
-    Bound(i128),
+    /// The bound: no cycle that keeps the given decisions is shorter. `None` where no leaf has one:
+    /// then no cycle keeps them.
+    Bound(Option<i128>),
     /// The first leaf that isn't good, counted from 1.
     BadLeaf(usize),
+}
+
+/// What is judged of a leaf.
+#[derive(Drop)]
+pub(crate) enum JudgedLeaf {
+    /// Its numbers are good, and this is its bound. `None` where it has none: then no cycle keeps
+    /// its decisions.
+    Found(Option<i128>),
+    /// It has a number that isn't good.
+    Bad,
 }
 
 /// The verdict on a certificate by branching.
 #[derive(Drop)]
 pub enum BranchVerdict {
-    /// The bound: no cycle that keeps the given decisions is shorter.
-    Bound(i128),
-    /// The first comb that isn't one, counted from 1.
+    /// The bound: no cycle that keeps the given decisions is shorter. `None` where no leaf has one:
+    /// then no cycle keeps them.
+    Bound(Option<i128>),
+    /// The first family that is neither a lone set nor a comb, counted from 1.
     BadComb(usize),
     /// The first branch on a pair that is decided above it or given, counted from 1.
     BranchTwice(usize),

@@ -159,16 +159,17 @@ pub fn reason_sentence(reason: Reason) -> &'static str {
         Reason::NotBranches => "The third file has to be of TYPE BRANCHES.",
         Reason::BranchesDimension => "DIMENSION of the tree of cases isn't that of the instance.",
         Reason::BadComb { index: _ } => {
-            "This comb of COMB_SECTION is none. A comb has a handle and an odd number of teeth, 3 or more, which don't meet;\n\
-             each tooth has a node inside the handle and one outside, and no set has a node twice."
+            "This family of COMB_SECTION is neither a lone set nor a comb. A lone set is one set that leaves a node out.\n\
+             A comb has a handle and an odd number of teeth, 3 or more, which don't meet;\n\
+             each tooth has a node inside the handle and one outside. No set has a node twice."
         }
         Reason::BranchTwice { index: _ } => {
             "This branch of BRANCH_SECTION is on a pair that a branch above it decides, or that is a fixed edge of the instance,\n\
-             whichever node stands first."
+             whichever node stands first. For an ATSP it is the arc from the first node to the second one."
         }
         Reason::BadLeaf { index: _ } => {
             "This leaf of BRANCH_SECTION has a number that isn't taken. Indices are 1 to DIMENSION for the potentials of nodes,\n\
-             and go on from there for the multipliers of combs, one for each comb of COMB_SECTION.\n\
+             and go on from there for the multipliers of lone sets and combs, in the order of COMB_SECTION.\n\
              A potential is at most 1,000,000,000,000,000 in size; multipliers aren't below 0,\n\
              and sum to at most 300,000,000,000,000,000.\n\
              Numbers are told by their differences to those of the leaf before."

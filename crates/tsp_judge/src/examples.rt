@@ -24,7 +24,7 @@ pub fn examples_of_certificates()
     ensures potentials_of_tsp { is_bounded certificates.Potentials (Some kinds.Tsp) ≡ true }
     ensures branches_of_tsp { is_bounded certificates.Branches (Some kinds.Tsp) ≡ true }
     ensures potentials_of_atsp { is_bounded certificates.Potentials (Some kinds.Atsp) ≡ true }
-    ensures branches_of_atsp { is_bounded certificates.Branches (Some kinds.Atsp) ≡ false }
+    ensures branches_of_atsp { is_bounded certificates.Branches (Some kinds.Atsp) ≡ true }
     ensures potentials_of_cvrp { is_bounded certificates.Potentials (Some kinds.Cvrp) ≡ false }
     ensures branches_of_cvrp { is_bounded certificates.Branches (Some kinds.Cvrp) ≡ false }
     ensures no_instance { is_bounded certificates.Potentials (Some kinds.Tour) ≡ false }

@@ -62,8 +62,8 @@ const CERTIFICATES: &str =
 
 /// What the first file of a check is.
 const KINDS: &str =
-    "The first file of a check is of TYPE TSP, ATSP or CVRP, with --potentials of TYPE TSP or ATSP, and\n\
-    with --branches of TYPE TSP. The second file is the solution, of TYPE TOUR.";
+    "The first file of a check is of TYPE TSP, ATSP or CVRP, with --potentials or --branches of TYPE TSP or ATSP.\n\
+    The second file is the solution, of TYPE TOUR.";
 
 /// Appends what explains a fault of a task.
 fn push_fault<F: Read + Drop, O: Open<F>>(

@@ -1,5 +1,5 @@
 -- Reasons against a certificate, ruled out one by one, and how they join those against the tour.
-use Rattle.std.proofs.Common.{◌≡◌, ℕ, ◌-◌, ◌<◌, ◌≤◌, true, false, List, Option, None, Some, refl, ap, sym, subst, subst₂, ◌∙◌, arith, inl, inr}
+use Rattle.std.proofs.Common.{◌≡◌, ℕ, ◌-◌, ◌<◌, ◌≤◌, Bool, true, false, List, Option, None, Some, refl, ap, sym, subst, subst₂, ◌∙◌, arith, inl, inr}
 use Rattle.std.specs.Prelude.{◌⊎◌, ℤ, pos, IsTrue}
 use Rattle.std.specs.List.{All, AllPairs}
 use Rattle.std.proofs.lemmas.Bool.{false≢true}
@@ -22,6 +22,9 @@ use Rattle.tsp_theory.specs.Assignment.{IsFirstBroken}
 use Rattle.tsp_verdict.specs.Certificate.{has_wanted, scale_in, rows_in, columns_in, multipliers_in, StandsAgainstPotentials, IsBoundByDuals}
 use Rattle.tsp_verdict.specs.Certified.{is_bounded, IsBoundBy, IsCertified, StandsAgainstCertificate, StandsAgainstCertified, IsFirstAgainstCertified}
 use Rattle.tsp_verdict.specs.Tree.{IsBoundByTree}
+use Rattle.tsp_verdict.specs.declared.tour.TourCosts.{TourCosts}
+use Rattle.tsp_verdict.specs.declared.tour.TourCosts.TheVariants.{Undirected, Directed}
+use Rattle.tsp_verdict.specs.states.Costs.{AreTourCosts, IsSymmetricTsp}
 use Rattle.tsp_reason.specs.declared.certificate.Certificate.{Certificate}
 use Rattle.tsp_reason.specs.declared.certificate.Certificate.TheVariants.{Potentials, Branches}
 use Rattle.tsp_format.specs.declared.kinds.Kind.{Kind}
@@ -213,17 +216,30 @@ pub kinds_bounded : (by : Certificate) (kind : Option Kind) → IsTrue (is_bound
 kinds_bounded Potentials (Some kinds.Tsp) is = inl refl
 kinds_bounded Potentials (Some kinds.Atsp) is = inr refl
 kinds_bounded Branches (Some kinds.Tsp) is = inl refl
-kinds_bounded Branches (Some kinds.Atsp) is = absurd (false≢true is)
+kinds_bounded Branches (Some kinds.Atsp) is = inr refl
 kinds_bounded by (Some kinds.Cvrp) is = absurd (false≢true is)
 kinds_bounded by (Some kinds.Tour) is = absurd (false≢true is)
 kinds_bounded by (Some kinds.Potentials) is = absurd (false≢true is)
 kinds_bounded by (Some kinds.Branches) is = absurd (false≢true is)
 kinds_bounded by None is = absurd (false≢true is)
 
+-- a TSP and an ATSP are two kinds
+tsp_is_not_atsp : (kind : Option Kind) → kind ≡ Some kinds.Tsp → kind ≡ Some kinds.Atsp → true ≡ false
+tsp_is_not_atsp kind tsp atsp = sym (ap is_tsp tsp) ∙ ap is_tsp atsp
+  where
+    is_tsp : Option Kind → Bool
+    is_tsp (Some kinds.Tsp) = true
+    is_tsp other = false
+
+-- what the costs of a tour are taken from is the same in both directions under TYPE TSP
+pub symmetric_tsp : (inst : Fields) (costs : TourCosts) → AreTourCosts inst costs → IsSymmetricTsp inst
+symmetric_tsp inst (Undirected view) are tsp = are.2
+symmetric_tsp inst (Directed view) are tsp = absurd (false≢true (sym (tsp_is_not_atsp inst.kind tsp are.0)))
+
 -- a bound by branches is that of a tree of cases
 pub of_tree : (kind : Option Kind) (inst tree : Fields) (bound : ℤ) → IsBoundBy Branches kind inst tree bound → IsBoundByTree inst tree bound
 of_tree (Some kinds.Tsp) inst tree bound is = is
-of_tree (Some kinds.Atsp) inst tree bound is = absurd is
+of_tree (Some kinds.Atsp) inst tree bound is = is
 of_tree (Some kinds.Cvrp) inst tree bound is = absurd is
 of_tree (Some kinds.Tour) inst tree bound is = absurd is
 of_tree (Some kinds.Potentials) inst tree bound is = absurd is

@@ -12,8 +12,9 @@ use Rattle.std.proofs.lemmas.List.{get_or-take, get_or_default, length-take-le}
 use Rattle.std.proofs.lemmas.List.Folds.{Any-from_list_any, list_any_at, list_any_more}
 use Rattle.std.proofs.lemmas.Map.Lookups.{exact_pairs, exact_unsigned}
 use Rattle.tsp_theory.specs.Adjusted.{pair_of, is_same_pair}
+use Rattle.tsp_branch.specs.Decisions.{is_same}
 use Rattle.tsp_verdict.specs.Multiplied.{IsListed, pair_at, IsUnlisted, IsPairRepeated}
-use Rattle.tsp_verdict.specs.PairSets.{undirected, pair_cmp, HasPairs}
+use Rattle.tsp_verdict.specs.PairSets.{undirected, pair_cmp, HasPairs, key_of, HasKeys}
 use Rattle.tsp_verdict.specs.Places.{IsFirstPlace}
 
 -- ---- the two directions of a pair
@@ -124,10 +125,50 @@ has_listed pairs s pair has is = listed pairs pair (sym (has pair) ∙ is)
 pub lacks_unlisted : (pairs : List (ℕ × ℕ)) (s : BTreeSet (ℕ × ℕ)) (pair : ℕ × ℕ) → HasPairs (λ p. p) s pairs → contains pair_cmp s (undirected pair) ≡ false → IsListed pairs pair → ⊥
 lacks_unlisted pairs s pair has isnt is = false≢true (sym isnt ∙ has pair ∙ found_listed pairs pair is)
 
+-- ---- the same of pairs that may have a direction
+
+arc_keys : (p q : ℕ × ℕ) → is_at (pair_cmp p) q ≡ is_same true q p
+arc_keys p q = same_bool _ _ there back
+  where
+    there : is_at (pair_cmp p) q ≡ true → is_same true q p ≡ true
+    there h =
+        let e : p ≡ q = exact_pairs nat_cmp nat_cmp exact_unsigned exact_unsigned p q (is_equal _ h) in
+        and_from (eqb q.0 p.0) (eqb q.1 p.1) (eq-eqb q.0 p.0 (ap (λ r. r.0) (sym e))) (eq-eqb q.1 p.1 (ap (λ r. r.1) (sym e)))
+
+    back : is_same true q p ≡ true → is_at (pair_cmp p) q ≡ true
+    back h =
+        let e = and_parts (eqb q.0 p.0) (eqb q.1 p.1) h in
+        let same : q ≡ p = ap₂ (λ (a b : ℕ). (a, b)) (eqb-true q.0 p.0 e.0) (eqb-true q.1 p.1 e.1) in
+        subst (λ (r : ℕ × ℕ). is_eq (pair_cmp p r) ≡ true) (sym same) (key_same p)
+
+key_at : (directed : Bool) (p q : ℕ × ℕ) → is_at (pair_cmp (key_of directed p)) (key_of directed q) ≡ is_same directed q p
+key_at true p q = arc_keys p q
+key_at false p q = same_keys p q
+
+pub has_no_keys : (directed : Bool) (s : BTreeSet (ℕ × ℕ)) → IsEmpty s → HasKeys directed s []
+has_no_keys directed s empty = λ pair. ap (λ ks. list_any (is_at (pair_cmp (key_of directed pair))) ks) empty
+
+pub has_more_keys : (directed : Bool) (s n : BTreeSet (ℕ × ℕ)) (pairs : List (ℕ × ℕ)) (i : ℕ) (d : ℕ × ℕ) → i < length pairs → Updates pair_cmp s n (key_of directed (get_or pairs i d)) true
+    → HasKeys directed s (take i pairs) → HasKeys directed n (take (i + 1) pairs)
+has_more_keys directed s n pairs i d lt updates has = λ pair.
+    let here = key_at directed (get_or pairs i d) pair in
+    updates.0 (key_of directed pair) ∙ ap₂ (λ a b. cond a true b) here (has pair)
+    ∙ cond_or (is_same directed pair (get_or pairs i d)) (list_any (is_same directed pair) (take i pairs))
+    ∙ sym (list_any_more (is_same directed pair) pairs i d lt)
+
 -- ---- what it says of a list of triples, none of which has the pair of an earlier one
 
 pub same_turn : (p q : ℕ × ℕ) → is_same_pair p q ≡ is_same_pair q p
 same_turn p q = same_bool _ _ (λ h. to_same q p (sym (from_same p q h))) (λ h. to_same p q (sym (from_same q p h)))
+
+turned_arc : (p q : ℕ × ℕ) → is_same true p q ≡ true → is_same true q p ≡ true
+turned_arc p q h =
+    let e = and_parts (eqb p.0 q.0) (eqb p.1 q.1) h in
+    and_from (eqb q.0 p.0) (eqb q.1 p.1) (eq-eqb q.0 p.0 (sym (eqb-true p.0 q.0 e.0))) (eq-eqb q.1 p.1 (sym (eqb-true p.1 q.1 e.1)))
+
+pub turned_same : (directed : Bool) (p q : ℕ × ℕ) → is_same directed p q ≡ is_same directed q p
+turned_same true p q = same_bool _ _ (turned_arc p q) (turned_arc q p)
+turned_same false p q = same_turn p q
 
 abbrev none : ℕ × ℕ × ℤ
 none = (0, 0, pos 0)

@@ -1,11 +1,11 @@
 -- Reasons against a certificate by branching, ruled out one by one, and its bound.
-use Rattle.std.proofs.Common.{◌≡◌, ◌∙◌, ℕ, suc, ◌+◌, ◌-◌, ◌<◌, ◌≤◌, true, false, List, [], ◌∷◌, get_or, length, inl, inr, sym, ap, subst, arith}
-use Rattle.std.specs.Prelude.{◌⊎◌, Option, Some, unwrap_or, ℤ, ◌+ℤ◌, ◌-ℤ◌, ◌*ℤ◌, ◌≤ℤ◌}
+use Rattle.std.proofs.Common.{◌≡◌, ◌∙◌, ℕ, suc, ◌+◌, ◌-◌, ◌<◌, ◌≤◌, Bool, true, false, List, [], ◌∷◌, get_or, length, inl, inr, refl, sym, ap, subst, arith}
+use Rattle.std.specs.Prelude.{◌⊎◌, Option, None, Some, unwrap_or, ℤ}
 use Rattle.std.specs.Global.{Vec}
-use Rattle.std.specs.List.{All, Any}
+use Rattle.std.proofs.Math.Path.{fun_ext}
 use Rattle.std.proofs.lemmas.Bool.{false≢true}
 use Rattle.std.proofs.lemmas.List.{length-map}
-use Rattle.std.proofs.lemmas.List.Elements.{All-weaker}
+use Rattle.tsp_format.specs.declared.kinds.Kind.{Kind}
 use Rattle.tsp_format.specs.declared.kinds.Kind.TheVariants as kinds
 use Rattle.tsp_format.specs.Steps as listed
 use Rattle.tsp_draft.specs.Fields.{Fields}
@@ -13,21 +13,18 @@ use Rattle.tsp_draft.specs.Fields.{combs_of as lists_of_combs}
 use Rattle.tsp_draft.specs.Rules.{is_tree}
 use Rattle.tsp_file.specs.Cost.{cost}
 use Rattle.tsp_theory.specs.Costs.{IsSymmetric}
-use Rattle.tsp_theory.specs.Tour.{Uses}
-use Rattle.tsp_cost.specs.Tours.{is_directed}
-use Rattle.tsp_theory.specs.Adjusted.{numbers_on}
-use Rattle.tsp_theory.specs.Numbers.{IsScale, entry, IsBoundSized}
+use Rattle.tsp_cost.specs.Tours.{is_directed, IsTourOf}
+use Rattle.tsp_theory.specs.Numbers.{IsScale, IsBoundSized}
 use Rattle.tsp_branch.specs.declared.steps.BranchVerdict.{BranchVerdict}
 use Rattle.tsp_branch.specs.declared.steps.BranchVerdict.TheVariants as found
 use Rattle.tsp_branch.specs.BranchVerdicts.{IsBranchVerdict}
-use Rattle.tsp_branch.specs.Cases.{LeafNumbers, Step, decide, leaves_of}
-use Rattle.tsp_branch.specs.Certificate.{multiplied, IsBoundAt, IsCertificate, IsCertificateBound, CertificatesBoundCycles}
+use Rattle.tsp_branch.specs.Cases.{decide}
+use Rattle.tsp_branch.specs.Certificate.{IsCertificate, IsCertificateBound, AreCostsFor, BoundsIfAny, CertificatesBoundCycles}
 use Rattle.tsp_branch.specs.Combs.{Comb}
 use Rattle.tsp_branch.specs.CombsOfSets.{of_comb}
 use Rattle.tsp_branch.specs.Decided.{decided_number}
-use Rattle.tsp_branch.specs.Decisions.{Decision, take_pairs, on_taken, on_avoided}
+use Rattle.tsp_branch.specs.Decisions.{Decision, KeepsAll, take_pairs}
 use Rattle.tsp_branch.specs.GoodCombs.{IsGoodComb, IsFirstBadComb}
-use Rattle.tsp_branch.specs.LeafBound.{crossings_of, leaf_weight, IsLeafBoundOf, IsLeafBound}
 use Rattle.tsp_branch.specs.Listed.{all_grown, no_numbers_of, AreGoodFrom, IsFirstBadFrom}
 use Rattle.tsp_branch.specs.Twice.{IsFirstTwiceFrom}
 use Rattle.tsp_reason.specs.declared.verdict.Reason.{Reason}
@@ -37,24 +34,25 @@ use Rattle.tsp_verdict.specs.states.Numbered.{numbered_from}
 use Rattle.tsp_verdict.specs.Places.{IsFirstPlace}
 use Rattle.tsp_verdict.specs.Reasons.{NoneBefore, IsFirstReason}
 use Rattle.tsp_verdict.specs.Solution.{nodes_of, fixed_of}
-use Rattle.tsp_verdict.specs.Tree.{combs_in, steps_in, each_once, given_in, tree_in, told_combs, IsBadComb, StandsAgainstTree}
+use Rattle.tsp_verdict.specs.states.Costs.{IsSymmetricTsp}
+use Rattle.tsp_verdict.specs.Tree.{combs_in, steps_in, each_once, given_in, tree_in, told_combs, IsBadComb, StandsAgainstTree, IsBoundByTree}
 use Rattle.tsp_verdict.specs.Certified.{IsBoundBy, IsCertified}
 use Rattle.tsp_reason.specs.declared.certificate.Certificate.TheVariants.{Branches}
-use Rattle.tsp_verdict.proofs.CarriedBounds.{Same, weights_same, least_same}
+use Rattle.tsp_verdict.proofs.CarriedBounds.{Same}
 use Rattle.tsp_verdict.proofs.GivenPairs.{keeps_given}
 use Rattle.tsp_verdict.proofs.NumberedSets.{own_sets, combs_told}
 
 -- ---- where indexes end
 
 -- a branch, and a leaf, that is told is one of the steps
-pub twice_within : (branch : ℕ) (cases : List (List Decision)) (steps : List listed.Step) (first : ℕ) → IsFirstTwiceFrom branch cases steps first → first ≤ branch + length steps
-twice_within branch [] steps first h = absurd h
-twice_within branch (case ∷ cases) [] first h = absurd h
-twice_within branch (case ∷ cases) (listed.Branch a b ∷ steps) first (inl here) = omega (arith, here.0)
-twice_within branch (case ∷ cases) (listed.Branch a b ∷ steps) first (inr later) =
-    let less = twice_within (suc branch) (decide (a, b) true case ∷ decide (a, b) false case ∷ cases) steps first later.1 in omega (arith, less)
-twice_within branch (case ∷ cases) (listed.Leaf changes ∷ steps) first h =
-    let less = twice_within branch cases steps first h in omega (arith, less)
+pub twice_within : (directed : Bool) (branch : ℕ) (cases : List (List Decision)) (steps : List listed.Step) (first : ℕ) → IsFirstTwiceFrom directed branch cases steps first → first ≤ branch + length steps
+twice_within directed branch [] steps first h = absurd h
+twice_within directed branch (case ∷ cases) [] first h = absurd h
+twice_within directed branch (case ∷ cases) (listed.Branch a b ∷ steps) first (inl here) = omega (arith, here.0)
+twice_within directed branch (case ∷ cases) (listed.Branch a b ∷ steps) first (inr later) =
+    let less = twice_within directed (suc branch) (decide (a, b) true case ∷ decide (a, b) false case ∷ cases) steps first later.1 in omega (arith, less)
+twice_within directed branch (case ∷ cases) (listed.Leaf changes ∷ steps) first h =
+    let less = twice_within directed branch cases steps first h in omega (arith, less)
 
 pub bad_within : (n combs : ℕ) (numbers : List ℤ) (leaf : ℕ) (steps : List listed.Step) (bad : ℕ) → IsFirstBadFrom n combs numbers leaf steps bad → bad ≤ leaf + length steps
 bad_within n combs numbers leaf [] bad h = absurd h
@@ -67,10 +65,11 @@ bad_within n combs numbers leaf (listed.Leaf changes ∷ steps) bad (inr later) 
 -- ---- the verdict of tsp_branch, over what the files hold
 
 abbrev pub IsTold : Fields → Fields → (ℕ → ℕ → ℤ) → BranchVerdict → Type 0
-IsTold inst tree costs verdict = IsBranchVerdict (nodes_of inst) costs (scale_in tree) (length (combs_in tree)) (numbered_from 0 (combs_in tree)) (given_in inst) (steps_in tree) verdict
+IsTold inst tree costs verdict = IsBranchVerdict (is_directed inst.kind) (nodes_of inst) costs (scale_in tree) (length (combs_in tree)) (numbered_from 0 (combs_in tree)) (given_in inst) (steps_in tree) verdict
 
 -- what the code hands on is what the files hold
-pub record AreOf (inst tree : Fields) (n : ℕ) (scale : ℤ) (count : ℕ) (sets : List (ℕ × List ℕ)) (given : List Decision) (steps : List listed.Step) : Type 0 where
+pub record AreOf (inst tree : Fields) (directed : Bool) (n : ℕ) (scale : ℤ) (count : ℕ) (sets : List (ℕ × List ℕ)) (given : List Decision) (steps : List listed.Step) : Type 0 where
+  pub directed_is : directed ≡ is_directed inst.kind
   pub nodes_are : n ≡ nodes_of inst
   pub scale_is : scale ≡ scale_in tree
   pub count_is : count ≡ length (combs_in tree)
@@ -78,27 +77,30 @@ pub record AreOf (inst tree : Fields) (n : ℕ) (scale : ℤ) (count : ℕ) (set
   pub given_is : given ≡ given_in inst
   pub steps_are : steps ≡ steps_in tree
 
-pub are_of : (inst tree : Fields) (n : ℕ) (scale : ℤ) (combs : List (Vec (Vec ℕ))) (sets : List (ℕ × List ℕ)) (fixed : List (ℕ × ℕ)) (given : List Decision) (steps : List listed.Step)
-    → inst.dimension ≡ Some n → scale ≡ scale_in tree → lists_of_combs combs ≡ combs_in tree → sets ≡ numbered_from 0 (lists_of_combs combs) → fixed ≡ fixed_of inst
-    → given ≡ take_pairs (each_once [] fixed) → steps ≡ steps_in tree → AreOf inst tree n scale (length combs) sets given steps
-are_of inst tree n scale combs sets fixed given steps count scale_is combs_are sets_are fixed_are given_is steps_are = record {
+pub are_of : (inst tree : Fields) (directed : Bool) (n : ℕ) (scale : ℤ) (combs : List (Vec (Vec ℕ))) (sets : List (ℕ × List ℕ)) (fixed : List (ℕ × ℕ)) (given : List Decision) (steps : List listed.Step)
+    → directed ≡ is_directed inst.kind → inst.dimension ≡ Some n → scale ≡ scale_in tree → lists_of_combs combs ≡ combs_in tree → sets ≡ numbered_from 0 (lists_of_combs combs) → fixed ≡ fixed_of inst
+    → given ≡ take_pairs (each_once directed [] fixed) → steps ≡ steps_in tree → AreOf inst tree directed n scale (length combs) sets given steps
+are_of inst tree directed n scale combs sets fixed given steps directed_is count scale_is combs_are sets_are fixed_are given_is steps_are = record {
+  directed_is = directed_is;
   nodes_are = sym (ap (λ (d : Option ℕ). unwrap_or d 0) count);
   scale_is = scale_is;
   count_is = sym (length-map combs _) ∙ ap length combs_are;
   sets_are = sets_are ∙ ap (numbered_from 0) combs_are;
-  given_is = given_is ∙ ap (λ (pairs : List (ℕ × ℕ)). take_pairs (each_once [] pairs)) fixed_are;
+  given_is = given_is ∙ ap (λ (pairs : List (ℕ × ℕ)). take_pairs (each_once directed [] pairs)) fixed_are ∙ ap (λ (d : Bool). take_pairs (each_once d [] (fixed_of inst))) directed_is;
   steps_are = steps_are;
 }
 
-pub told : (inst tree : Fields) (n : ℕ) (costs : ℕ → ℕ → ℤ) (scale : ℤ) (count : ℕ) (sets : List (ℕ × List ℕ)) (given : List Decision) (steps : List listed.Step) (verdict : BranchVerdict)
-    → AreOf inst tree n scale count sets given steps → IsBranchVerdict n costs scale count sets given steps verdict → IsTold inst tree costs verdict
-told inst tree n costs scale count sets given steps verdict are h =
-    subst (λ (m : ℕ). IsBranchVerdict m costs (scale_in tree) (length (combs_in tree)) (numbered_from 0 (combs_in tree)) (given_in inst) (steps_in tree) verdict) are.nodes_are
-    (subst (λ (z : ℤ). IsBranchVerdict n costs z (length (combs_in tree)) (numbered_from 0 (combs_in tree)) (given_in inst) (steps_in tree) verdict) are.scale_is
-    (subst (λ (m : ℕ). IsBranchVerdict n costs scale m (numbered_from 0 (combs_in tree)) (given_in inst) (steps_in tree) verdict) are.count_is
-    (subst (λ (ss : List (ℕ × List ℕ)). IsBranchVerdict n costs scale count ss (given_in inst) (steps_in tree) verdict) are.sets_are
-    (subst (λ (ds : List Decision). IsBranchVerdict n costs scale count sets ds (steps_in tree) verdict) are.given_is
-    (subst (λ (ss : List listed.Step). IsBranchVerdict n costs scale count sets given ss verdict) are.steps_are h)))))
+pub told : (inst tree : Fields) (directed : Bool) (n : ℕ) (costs : ℕ → ℕ → ℤ) (scale : ℤ) (count : ℕ) (sets : List (ℕ × List ℕ)) (given : List Decision) (steps : List listed.Step) (verdict : BranchVerdict)
+    → AreOf inst tree directed n scale count sets given steps → IsBranchVerdict directed n costs scale count sets given steps verdict → IsTold inst tree costs verdict
+told inst tree directed n costs scale count sets given steps verdict are h =
+    let to : Bool = is_directed inst.kind in
+    subst (λ (m : ℕ). IsBranchVerdict to m costs (scale_in tree) (length (combs_in tree)) (numbered_from 0 (combs_in tree)) (given_in inst) (steps_in tree) verdict) are.nodes_are
+    (subst (λ (z : ℤ). IsBranchVerdict to n costs z (length (combs_in tree)) (numbered_from 0 (combs_in tree)) (given_in inst) (steps_in tree) verdict) are.scale_is
+    (subst (λ (m : ℕ). IsBranchVerdict to n costs scale m (numbered_from 0 (combs_in tree)) (given_in inst) (steps_in tree) verdict) are.count_is
+    (subst (λ (ss : List (ℕ × List ℕ)). IsBranchVerdict to n costs scale count ss (given_in inst) (steps_in tree) verdict) are.sets_are
+    (subst (λ (ds : List Decision). IsBranchVerdict to n costs scale count sets ds (steps_in tree) verdict) are.given_is
+    (subst (λ (ss : List listed.Step). IsBranchVerdict to n costs scale count sets given ss verdict) are.steps_are
+    (subst (λ (d : Bool). IsBranchVerdict d n costs scale count sets given steps verdict) are.directed_is h))))))
 
 -- ---- which reasons stand
 
@@ -157,7 +159,7 @@ leaf_first inst tree costs index sort size is = record {
   none_before = none_before inst tree 26 (λ low. sort) (λ low. size) (λ low. no_bad_comb inst tree is.are_combs.0) (λ low. is.are_once.0) (λ low. absurd (omega (arith, low)));
 }
 
-pub none_stands : (inst tree : Fields) (costs : ℕ → ℕ → ℤ) (bound : ℤ) → is_tree tree.kind ≡ true → nodes_of tree ≡ nodes_of inst → IsTold inst tree costs (found.Bound bound)
+pub none_stands : (inst tree : Fields) (costs : ℕ → ℕ → ℤ) (bound : Option ℤ) → is_tree tree.kind ≡ true → nodes_of tree ≡ nodes_of inst → IsTold inst tree costs (found.Bound bound)
     → (reason : Reason) → StandsAgainstTree inst tree reason → ⊥
 none_stands inst tree costs bound sort size is NotBranches stands = false≢true (sym stands ∙ sort)
 none_stands inst tree costs bound sort size is BranchesDimension stands = stands size
@@ -169,48 +171,63 @@ none_stands inst tree costs bound sort size is reason stands = stands
 
 -- ---- the bound, carried to costs that are the same between all nodes
 
-leaf_same : (n : ℕ) (a b : ℕ → ℕ → ℤ) (scale : ℤ) (potentials : List ℤ) (taken avoided : List (ℕ × ℕ × ℤ)) (combs : List (Comb × ℤ)) (bound : ℤ) → Same a b
-    → IsLeafBound n a scale potentials taken avoided combs bound → IsLeafBound n b scale potentials taken avoided combs bound
-leaf_same n a b scale potentials taken avoided combs bound same is =
-    let v = leaf_weight scale potentials taken avoided combs a in
-    let w = leaf_weight scale potentials taken avoided combs b in
-    let between : Same v w = λ i j. ap (λ (c : ℤ). ((((scale *ℤ c) +ℤ (entry potentials i +ℤ entry potentials j)) -ℤ numbers_on taken i j) +ℤ numbers_on avoided i j)
-    -ℤ crossings_of combs i j) (same i j) in
-    record {
-      tree = is.tree;
-      least = least_same n v w between is.tree is.least;
-      bound_is = subst (λ (weight : ℤ). IsLeafBoundOf scale potentials taken combs weight bound) (weights_same v w between is.tree) is.bound_is;
-    }
+-- a TSP or an ATSP
+abbrev pub HasArcsOrEdges : Fields → Type 0
+HasArcsOrEdges inst = (inst.kind ≡ Some kinds.Tsp) ⊎ (inst.kind ≡ Some kinds.Atsp)
 
-module _ (n : ℕ) (a b : ℕ → ℕ → ℤ) (scale number : ℤ) (combs : List Comb) (same : Same a b) where
-  at_same : (leaf : List Decision × LeafNumbers) (bound : ℤ) → IsBoundAt n a scale number combs leaf bound → IsBoundAt n b scale number combs leaf bound
-  at_same leaf bound is = leaf_same n a b scale leaf.1.potentials (on_taken number leaf.0) (on_avoided number leaf.0) (multiplied combs leaf.1.multipliers) bound same is
+-- pairs of a TSP alone have no direction
+pub tsp_of_undirected : (inst : Fields) → HasArcsOrEdges inst → is_directed inst.kind ≡ false → inst.kind ≡ Some kinds.Tsp
+tsp_of_undirected inst (inl tsp) undirected = tsp
+tsp_of_undirected inst (inr atsp) undirected = absurd (false≢true (sym undirected ∙ ap is_directed atsp))
 
-  pub bound_carried : (given : List Decision) (steps : List Step) (bound : ℤ) → IsCertificateBound n a scale number combs given steps bound
-      → IsCertificateBound n b scale number combs given steps bound
-  bound_carried given steps bound is = record {
-    below = All-weaker (λ (leaf : List Decision × LeafNumbers). (own : ℤ) × IsBoundAt n a scale number combs leaf own × (bound ≤ℤ own))
-        (λ (leaf : List Decision × LeafNumbers). (own : ℤ) × IsBoundAt n b scale number combs leaf own × (bound ≤ℤ own))
-        (λ leaf own. (own.0, at_same leaf own.0 own.1, own.2)) (leaves_of (given ∷ []) steps) is.below;
-    reached = reach is.reached;
-  }
-    where
-      reach : Any (λ leaf. IsBoundAt n a scale number combs leaf bound) (leaves_of (given ∷ []) steps) → Any (λ leaf. IsBoundAt n b scale number combs leaf bound) (leaves_of (given ∷ []) steps)
-      reach at = (at.0, at.1, at.2, at.3, at_same at.1 bound at.4)
+pub directed_is : (directed : Bool) (inst : Fields) (kind : Kind) → directed ≡ is_directed (Some kind) → Some kind ≡ inst.kind → directed ≡ is_directed inst.kind
+directed_is directed inst kind is same = is ∙ ap is_directed same
+
+costs_for : (directed : Bool) (n : ℕ) (cost : ℕ → ℕ → ℤ) → 3 ≤ n → (directed ≡ false → IsSymmetric cost) → AreCostsFor directed n cost
+costs_for false n cost some even = (some, even refl)
+costs_for true n cost some even = omega (arith, some)
+
+-- the costs of a view are the same in both directions where those of the instance are
+pub even_view : (inst : Fields) (directed : Bool) (costs : ℕ → ℕ → ℤ) → HasArcsOrEdges inst → directed ≡ is_directed inst.kind → IsSymmetricTsp inst → Same costs (cost inst)
+    → directed ≡ false → IsSymmetric costs
+even_view inst directed costs kind is even same undirected i j differ =
+    same i j ∙ even (tsp_of_undirected inst kind (sym is ∙ undirected)) i j differ ∙ sym (same j i)
+
+-- what is found for the costs of a view is found for those of the instance
+module _ (inst tree : Fields) (costs : ℕ → ℕ → ℤ) (bound : Option ℤ) (same : Same costs (cost inst)) (is : IsTold inst tree costs (found.Bound bound)) where
+  certificate_is : IsCertificate (nodes_of inst) (told_combs tree) (given_in inst) (tree_in inst tree)
+  certificate_is = subst (λ (cs : List Comb). IsCertificate (nodes_of inst) cs (given_in inst) (tree_in inst tree)) (combs_told (combs_in tree)) is.leaves.0
+
+  bound_is : IsCertificateBound (is_directed inst.kind) (nodes_of inst) (cost inst) (scale_in tree) decided_number (told_combs tree) (given_in inst) (tree_in inst tree) bound
+  bound_is =
+      subst (λ (f : ℕ → ℕ → ℤ). IsCertificateBound (is_directed inst.kind) (nodes_of inst) f (scale_in tree) decided_number (told_combs tree) (given_in inst) (tree_in inst tree) bound)
+      (fun_ext (λ i. fun_ext (same i)))
+      (subst (λ (cs : List Comb). IsCertificateBound (is_directed inst.kind) (nodes_of inst) costs (scale_in tree) decided_number cs (given_in inst) (tree_in inst tree) bound)
+      (combs_told (combs_in tree)) is.leaves.1)
+
+  cycles_bounded : CertificatesBoundCycles → HasArcsOrEdges inst → 3 ≤ nodes_of inst → IsSymmetricTsp inst → IsScale (scale_in tree) → BoundsIfAny (is_directed inst.kind) (nodes_of inst) (cost inst) (given_in inst) bound
+  cycles_bounded law kind some even scaled =
+      law (is_directed inst.kind) (nodes_of inst) (cost inst) (scale_in tree) decided_number (told_combs tree) (given_in inst) (tree_in inst tree) bound
+      (costs_for (is_directed inst.kind) (nodes_of inst) (cost inst) some (λ undirected. even (tsp_of_undirected inst kind undirected))) scaled certificate_is bound_is
+
+tour_keeps : (inst : Fields) (nodes : List ℕ) → IsTourOf inst nodes → KeepsAll (is_directed inst.kind) nodes (given_in inst)
+tour_keeps inst nodes tour = keeps_given (is_directed inst.kind) nodes (fixed_of inst) tour.fixed_used
+
+bound_by : (inst tree : Fields) (bound : ℤ) → HasArcsOrEdges inst → IsBoundByTree inst tree bound → IsBoundBy Branches inst.kind inst tree bound
+bound_by inst tree bound (inl tsp) is = subst (λ k. IsBoundBy Branches k inst tree bound) (sym tsp) is
+bound_by inst tree bound (inr atsp) is = subst (λ k. IsBoundBy Branches k inst tree bound) (sym atsp) is
 
 -- the bound that a view's costs give is that of the certificate
-pub certified : (inst tree : Fields) (costs : ℕ → ℕ → ℤ) (bound : ℤ) → CertificatesBoundCycles → inst.kind ≡ Some kinds.Tsp → 3 ≤ nodes_of inst → IsSymmetric (cost inst) → IsScale (scale_in tree)
-    → Same costs (cost inst) → IsBoundSized bound → IsTold inst tree costs (found.Bound bound) → IsCertified Branches inst tree bound
-certified inst tree costs bound law kind some even scaled same sized is =
-    let n : ℕ = nodes_of inst in
-    let combs_are = combs_told (combs_in tree) in
-    let certificate : IsCertificate n (told_combs tree) (given_in inst) (tree_in inst tree) =
-    subst (λ (cs : List Comb). IsCertificate n cs (given_in inst) (tree_in inst tree)) combs_are is.leaves.0 in
-    let bound_by : IsCertificateBound n (cost inst) (scale_in tree) decided_number (told_combs tree) (given_in inst) (tree_in inst tree) bound =
-    bound_carried n costs (cost inst) (scale_in tree) decided_number (told_combs tree) same (given_in inst) (tree_in inst tree) bound
-    (subst (λ (cs : List Comb). IsCertificateBound n costs (scale_in tree) decided_number cs (given_in inst) (tree_in inst tree) bound) combs_are is.leaves.1) in (
-      subst (λ k. IsBoundBy Branches k inst tree bound) (sym kind) (certificate, bound_by),
-      λ nodes tour. law n (cost inst) (scale_in tree) decided_number (told_combs tree) (given_in inst) (tree_in inst tree) bound some even scaled certificate bound_by nodes tour.cycle
-          (keeps_given nodes (fixed_of inst) (subst (λ k. All (Uses (is_directed k) nodes) (fixed_of inst)) kind tour.fixed_used)),
-      sized,
-    )
+pub certified : (inst tree : Fields) (costs : ℕ → ℕ → ℤ) (bound : ℤ) → CertificatesBoundCycles → HasArcsOrEdges inst → 3 ≤ nodes_of inst → IsSymmetricTsp inst → IsScale (scale_in tree)
+    → Same costs (cost inst) → IsBoundSized bound → IsTold inst tree costs (found.Bound (Some bound)) → IsCertified Branches inst tree bound
+certified inst tree costs bound law kind some even scaled same sized is = (
+  bound_by inst tree bound kind (certificate_is inst tree costs (Some bound) same is, bound_is inst tree costs (Some bound) same is),
+  λ nodes tour. cycles_bounded inst tree costs (Some bound) same is law kind some even scaled nodes tour.cycle (tour_keeps inst nodes tour),
+  sized,
+)
+
+-- where the instance has a tour, some leaf has a bound
+pub some_bound : (inst tree : Fields) (costs : ℕ → ℕ → ℤ) → CertificatesBoundCycles → HasArcsOrEdges inst → 3 ≤ nodes_of inst → IsSymmetricTsp inst → IsScale (scale_in tree)
+    → Same costs (cost inst) → ((tour : List ℕ) × IsTourOf inst tour) → IsTold inst tree costs (found.Bound None) → ⊥
+some_bound inst tree costs law kind some even scaled same toured is =
+    cycles_bounded inst tree costs None same is law kind some even scaled toured.0 toured.1.cycle (tour_keeps inst toured.0 toured.1)

@@ -31,7 +31,7 @@ abbrev pub is_bounded : Certificate → Option Kind → Bool
 is_bounded Potentials (Some kinds.Tsp) = true
 is_bounded Potentials (Some kinds.Atsp) = true
 is_bounded Branches (Some kinds.Tsp) = true
-is_bounded Branches (Some kinds.Atsp) = false
+is_bounded Branches (Some kinds.Atsp) = true
 is_bounded by (Some kinds.Cvrp) = false
 is_bounded by (Some kinds.Tour) = false
 is_bounded by (Some kinds.Potentials) = false
@@ -43,7 +43,7 @@ abbrev pub IsBoundBy : Certificate → Option Kind → Fields → Fields → ℤ
 IsBoundBy Potentials (Some kinds.Tsp) inst cert bound = IsBoundByNodes inst cert bound
 IsBoundBy Potentials (Some kinds.Atsp) inst cert bound = IsBoundByDuals inst cert bound
 IsBoundBy Branches (Some kinds.Tsp) inst cert bound = IsBoundByTree inst cert bound
-IsBoundBy Branches (Some kinds.Atsp) inst cert bound = ⊥
+IsBoundBy Branches (Some kinds.Atsp) inst cert bound = IsBoundByTree inst cert bound
 IsBoundBy by (Some kinds.Cvrp) inst cert bound = ⊥
 IsBoundBy by (Some kinds.Tour) inst cert bound = ⊥
 IsBoundBy by (Some kinds.Potentials) inst cert bound = ⊥

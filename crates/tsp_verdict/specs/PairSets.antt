@@ -1,10 +1,11 @@
 -- Sets of pairs of nodes, in which a pair stands with its smaller node first.
-use Rattle.std.specs.Prelude.{◌≡◌, ℕ, List, if◌then◌else◌, nat_le}
+use Rattle.std.specs.Prelude.{◌≡◌, ℕ, Bool, true, false, List, if◌then◌else◌, nat_le}
 use Rattle.std.specs.BTreeSet.{BTreeSet, contains}
 use Rattle.std.specs.List.{list_any}
 use Rattle.std.specs.Ordering.{nat_cmp, ordering_then}
 use Rattle.std.specs.declared.cmp.Ordering.{Ordering}
 use Rattle.tsp_theory.specs.Adjusted.{is_same_pair}
+use Rattle.tsp_branch.specs.Decisions.{is_same}
 
 -- the same for both directions of a pair
 abbrev pub undirected : ℕ × ℕ → ℕ × ℕ
@@ -18,3 +19,12 @@ pair_cmp p q = ordering_then (nat_cmp p.0 q.0) (nat_cmp p.1 q.1)
 abbrev pub HasPairs : {X : Type 0} → (X → ℕ × ℕ) → BTreeSet (ℕ × ℕ) → List X → Type 0
 HasPairs pair_in set xs = (pair : ℕ × ℕ)
     → contains pair_cmp set (undirected pair) ≡ list_any (λ x. is_same_pair pair (pair_in x)) xs
+
+-- a pair as a set has it: directed as it is, else with its smaller node first
+abbrev pub key_of : Bool → ℕ × ℕ → ℕ × ℕ
+key_of true pair = pair
+key_of false pair = undirected pair
+
+-- the set has exactly the pairs of a list; undirected: in either direction
+abbrev pub HasKeys : Bool → BTreeSet (ℕ × ℕ) → List (ℕ × ℕ) → Type 0
+HasKeys directed set pairs = (pair : ℕ × ℕ) → contains pair_cmp set (key_of directed pair) ≡ list_any (is_same directed pair) pairs

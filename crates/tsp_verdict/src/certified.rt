@@ -1,11 +1,12 @@
 //! The verdict on a tour with a certificate of a bound.
 
-ghost use Rattle.std.specs.Prelude.{◌≡◌, ◌⊎◌, ◌≤◌, IsTrue, Some, IfOk, IsOk, MatchResult};
+ghost use Rattle.std.specs.Prelude.{◌≡◌, ◌⊎◌, ◌≤◌, ℕ, List, IsTrue, Some, IfOk, IsOk, MatchResult};
 ghost use Rattle.tsp_format.specs.declared.kinds.Kind.TheVariants as kinds;
 ghost use Rattle.tsp_reason.specs.declared.certificate.Certificate.TheVariants as certificates;
 ghost use Rattle.tsp_verdict.specs.Solution.{nodes_of};
 ghost use Rattle.tsp_verdict.specs.Tours.{NoneOfTourBeforeRepeats};
-ghost use Rattle.tsp_verdict.specs.states.Costs.{AreTourCosts};
+ghost use Rattle.tsp_verdict.specs.states.Costs.{AreTourCosts, IsSymmetricTsp};
+ghost use Rattle.tsp_cost.specs.Tours.{IsTourOf};
 ghost use Rattle.tsp_verdict.specs.Certified.{is_bounded, FindsBound, IsCertifiedVerdict};
 
 use crate::certificate::{bound_by_duals, bound_by_nodes};
@@ -75,13 +76,15 @@ pub fn judge_tour_bound(
     judge_certified(alloc, Certificate::Potentials, inst, sol, pot)
 }
 
-/// The verdict on a solution of an instance of TYPE TSP with a file of branches, as of
+/// The verdict on a solution of an instance of TYPE TSP or ATSP with a file of branches, as of
 /// [`judge_certified`].
 ///
 /// The reasons of the certificate are those from `NotBranches` to `BadLeaf`. The bound is the least
-/// of those of the leaves; each of these is that of a least 1-tree under the leaf's potentials, its
-/// multipliers of combs, and what is decided above it. The fixed pairs are taken in all cases. The
-/// caller owes an instance of TYPE TSP.
+/// of those of the leaves. Under TYPE TSP each of these is that of a least 1-tree under the leaf's
+/// potentials, its multipliers of lone sets and combs, and what is decided above it. Under TYPE ATSP
+/// it is that of the least link from each node, and a leaf whose decisions leave some node no link
+/// counts for nothing. The fixed pairs are taken in all cases. The caller owes an instance of TYPE
+/// TSP or ATSP.
 ///
 /// # Errors
 ///
@@ -92,7 +95,7 @@ pub fn judge_tour_branches(
     solution: &File,
     branches: &File,
 ) -> Result<Verdict, AllocError>
-    requires { instance.now.kind ≡ Some kinds.Tsp }
+    requires { (instance.now.kind ≡ Some kinds.Tsp) ⊎ (instance.now.kind ≡ Some kinds.Atsp) }
     ensures { MatchResult result
         (λ verdict. IsCertifiedVerdict certificates.Branches instance.now solution.now branches.now verdict)
         (λ refused. NoneOfTourBeforeRepeats instance.now solution.now) }
@@ -105,10 +108,7 @@ pub fn is_bounded(by: Certificate, kind: Kind) -> bool
     ensures { result ≡ is_bounded by (Some kind) }
 {
     match (by, kind) {
-        (Certificate::Potentials, Kind::Tsp | Kind::Atsp) | (Certificate::Branches, Kind::Tsp) => {
-            true
-        }
-        (Certificate::Branches, Kind::Atsp) => false,
+        (Certificate::Potentials | Certificate::Branches, Kind::Tsp | Kind::Atsp) => true,
         (_, Kind::Cvrp | Kind::Tour | Kind::Potentials | Kind::Branches) => false,
     }
 }
@@ -121,9 +121,11 @@ fn bound_of(
     costs: TourCosts<'_>,
     certificate: &File,
 ) -> Result<Result<i128, Reason>, AllocError>
-    requires bounded { IsTrue (is_bounded by instance.now.kind) }
     requires some { 3 ≤ nodes_of instance.now }
+    requires kind { (instance.now.kind ≡ Some kinds.Tsp) ⊎ (instance.now.kind ≡ Some kinds.Atsp) }
     requires costs { AreTourCosts instance.now costs }
+    requires even { IsSymmetricTsp instance.now }
+    requires toured { (tour : List ℕ) × IsTourOf instance.now tour }
     ensures found { IfOk result (λ found. FindsBound by instance.now certificate.now found) }
     ensures memory { by ≡ certificates.Potentials → instance.now.kind ≡ Some kinds.Atsp → IsOk result }
 {
@@ -134,10 +136,6 @@ fn bound_of(
         (Certificate::Potentials, TourCosts::Directed(view)) => {
             Ok(bound_by_duals(instance, view, certificate))
         }
-        (Certificate::Branches, TourCosts::Undirected(view)) => {
-            bound_of_tree(alloc, instance, view, certificate)
-        }
-        // What `is_bounded` refuses.
-        (Certificate::Branches, TourCosts::Directed(_)) => unreachable!(),
+        (Certificate::Branches, _) => bound_of_tree(alloc, instance, certificate),
     }
 }

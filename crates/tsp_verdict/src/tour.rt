@@ -155,7 +155,7 @@ fn tour_costs(inst: &Instance) -> Result<TourCosts<'_>, (u32, u32)>
 }
 
 /// Whether fixed pairs have a direction.
-fn is_directed(kind: Kind) -> bool
+pub(crate) fn is_directed(kind: Kind) -> bool
     ensures { result ≡ is_directed (Some kind) }
 {
     match kind {

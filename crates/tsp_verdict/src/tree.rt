@@ -1,16 +1,16 @@
 //! The bound that a tree of cases gives, or the first reason against it.
 
-ghost use Rattle.std.specs.Prelude.{◌≡◌, ◌≤◌, true, Some, IfOk, MatchResult};
+ghost use Rattle.std.specs.Prelude.{◌≡◌, ◌⊎◌, ◌≤◌, ℕ, List, true, Some, IfOk, MatchResult};
 ghost use Rattle.tsp_format.specs.declared.kinds.Kind.TheVariants as kinds;
 ghost use Rattle.tsp_format.specs.Steps.{steps_of};
 ghost use Rattle.tsp_draft.specs.Fields.{combs_of};
 ghost use Rattle.tsp_draft.specs.Rules.{is_tree};
-ghost use Rattle.tsp_file.specs.Cost.{cost};
 ghost use Rattle.tsp_file.specs.Typed.{HoldsCases};
-ghost use Rattle.tsp_theory.specs.Costs.{IsSymmetric};
-ghost use Rattle.tsp_cost.specs.Views.{HasCosts, ShowsEven};
+ghost use Rattle.tsp_cost.specs.Tours.{IsTourOf};
+ghost use Rattle.tsp_cost.specs.Views.{HasCosts};
 ghost use Rattle.tsp_verdict.specs.Reasons.{IsFirstReason};
 ghost use Rattle.tsp_verdict.specs.Solution.{nodes_of};
+ghost use Rattle.tsp_verdict.specs.states.Costs.{IsSymmetricTsp};
 ghost use Rattle.tsp_verdict.specs.Tree.{StandsAgainstTree};
 ghost use Rattle.tsp_reason.specs.declared.certificate.Certificate.TheVariants as certificates;
 ghost use Rattle.tsp_verdict.specs.Certified.{FindsBound};
@@ -18,17 +18,18 @@ ghost use Rattle.tsp_verdict.specs.Certified.{FindsBound};
 use crate::decided::taken_once;
 use crate::files::fixed_pairs;
 use crate::numbered::numbered_sets;
+use crate::tour::is_directed;
 use std::alloc::{AllocError, Global};
 use tsp_branch::{BranchVerdict, CostTable, certificates_bound_cycles, judge_branches};
-use tsp_cost::{Costs, EvenView, Instance, Symmetric};
+use tsp_cost::{Costs, Instance, View};
 use tsp_file::{File, TreeData};
 use tsp_reason::Reason;
 
 /// The most nodes of which distances are kept for each pair, in 32 MB.
 const MOST_TABLED: u32 = 2_000;
 
-/// The bound that a certificate by branching gives an instance of TYPE TSP, or the first reason
-/// against it.
+/// The bound that a certificate by branching gives an instance of TYPE TSP or ATSP that has a tour,
+/// or the first reason against it.
 ///
 /// # Errors
 ///
@@ -36,13 +37,12 @@ const MOST_TABLED: u32 = 2_000;
 pub(crate) fn bound_of_tree(
     alloc: Global,
     instance: &Instance,
-    view: EvenView<'_>,
     branches: &File,
 ) -> Result<Result<i128, Reason>, AllocError>
-    requires kind { instance.now.kind ≡ Some kinds.Tsp }
+    requires kind { (instance.now.kind ≡ Some kinds.Tsp) ⊎ (instance.now.kind ≡ Some kinds.Atsp) }
     requires some { 3 ≤ nodes_of instance.now }
-    requires shows { ShowsEven instance.now view }
-    requires even { IsSymmetric (cost instance.now) }
+    requires even { IsSymmetricTsp instance.now }
+    requires toured { (tour : List ℕ) × IsTourOf instance.now tour }
     ensures { IfOk result (λ found. FindsBound certificates.Branches instance.now branches.now found) }
 {
     let tree = match tree_of(instance, branches) {
@@ -50,11 +50,11 @@ pub(crate) fn bound_of_tree(
         Err(reason) => return Ok(Err(reason)),
     };
     // A view has found once and for all where the costs are.
-    match view {
-        EvenView::Plane(points) => judge_distances(alloc, instance, branches, &tree, &points),
-        EvenView::Space(points) => judge_distances(alloc, instance, branches, &tree, &points),
-        EvenView::Triangle(triangle) => judge_tree(alloc, instance, branches, &tree, &triangle),
-        EvenView::Matrix(matrix) => judge_tree(alloc, instance, branches, &tree, &matrix),
+    match instance.view() {
+        View::Plane(points) => judge_distances(alloc, instance, branches, &tree, &points),
+        View::Space(points) => judge_distances(alloc, instance, branches, &tree, &points),
+        View::Triangle(triangle) => judge_tree(alloc, instance, branches, &tree, &triangle),
+        View::Matrix(matrix) => judge_tree(alloc, instance, branches, &tree, &matrix),
     }
 }
 
@@ -80,7 +80,7 @@ fn tree_of<'a>(instance: &Instance, branches: &'a File) -> Result<TreeData<'a>, 
 /// # Errors
 ///
 /// Out of memory.
-fn judge_distances<C: Symmetric>(
+fn judge_distances<C: Costs>(
     alloc: Global,
     instance: &Instance,
     branches: &File,
@@ -88,9 +88,10 @@ fn judge_distances<C: Symmetric>(
     costs: &C,
 ) -> Result<Result<i128, Reason>, AllocError>
     requires keeps { HasCosts instance.now (C.nodes costs.now) (C.at costs.now) }
-    requires kind { instance.now.kind ≡ Some kinds.Tsp }
+    requires kind { (instance.now.kind ≡ Some kinds.Tsp) ⊎ (instance.now.kind ≡ Some kinds.Atsp) }
     requires some { 3 ≤ nodes_of instance.now }
-    requires even { IsSymmetric (cost instance.now) }
+    requires even { IsSymmetricTsp instance.now }
+    requires toured { (tour : List ℕ) × IsTourOf instance.now tour }
     requires sort { is_tree branches.now.kind ≡ true }
     requires count { nodes_of branches.now ≡ nodes_of instance.now }
     requires held { HoldsCases branches.now tree.now.scale (combs_of tree.now.combs.now) (steps_of tree.now.steps.now) }
@@ -105,13 +106,13 @@ fn judge_distances<C: Symmetric>(
     }
 }
 
-/// The bound over the costs of a view, or the first reason against the combs, the branches or the
+/// The bound over the costs of a view, or the first reason against the families, the branches or the
 /// leaves.
 ///
 /// # Errors
 ///
 /// Out of memory.
-fn judge_tree<C: Symmetric>(
+fn judge_tree<C: Costs>(
     alloc: Global,
     instance: &Instance,
     branches: &File,
@@ -119,20 +120,26 @@ fn judge_tree<C: Symmetric>(
     costs: &C,
 ) -> Result<Result<i128, Reason>, AllocError>
     requires keeps { HasCosts instance.now (C.nodes costs.now) (C.at costs.now) }
-    requires kind { instance.now.kind ≡ Some kinds.Tsp }
+    requires kind { (instance.now.kind ≡ Some kinds.Tsp) ⊎ (instance.now.kind ≡ Some kinds.Atsp) }
     requires some { 3 ≤ nodes_of instance.now }
-    requires even { IsSymmetric (cost instance.now) }
+    requires even { IsSymmetricTsp instance.now }
+    requires toured { (tour : List ℕ) × IsTourOf instance.now tour }
     requires sort { is_tree branches.now.kind ≡ true }
     requires count { nodes_of branches.now ≡ nodes_of instance.now }
     requires held { HoldsCases branches.now tree.now.scale (combs_of tree.now.combs.now) (steps_of tree.now.steps.now) }
     ensures { IfOk result (λ found. FindsBound certificates.Branches instance.now branches.now found) }
 {
     certificates_bound_cycles();
-    let given = taken_once(alloc, fixed_pairs(instance))?;
+    let directed = is_directed(instance.kind());
+    let given = taken_once(alloc, directed, fixed_pairs(instance))?;
     let sets = numbered_sets(alloc, tree.combs)?;
     let count = tree.combs.len();
-    match judge_branches(alloc, costs, tree.scale, count, &sets, &given, tree.steps)? {
-        BranchVerdict::Bound(bound) => Ok(Ok(bound)),
+    match judge_branches(
+        alloc, costs, directed, tree.scale, count, &sets, &given, tree.steps,
+    )? {
+        BranchVerdict::Bound(Some(bound)) => Ok(Ok(bound)),
+        // The judged tour keeps what is given, so some leaf has a bound.
+        BranchVerdict::Bound(None) => unreachable!(),
         BranchVerdict::BadComb(index) => Ok(Err(Reason::BadComb {
             index: index as u32,
         })),

@@ -16,6 +16,10 @@ abbrev pub AreTourCosts : Fields → TourCosts → Type 0
 AreTourCosts inst (Undirected view) = (inst.kind ≡ Some kinds.Tsp) × ShowsEven inst view × IsSymmetric (cost inst)
 AreTourCosts inst (Directed view) = (inst.kind ≡ Some kinds.Atsp) × Shows inst view
 
+-- under TYPE TSP the costs are the same in both directions
+abbrev pub IsSymmetricTsp : Fields → Type 0
+IsSymmetricTsp inst = inst.kind ≡ Some kinds.Tsp → IsSymmetric (cost inst)
+
 -- the length of the one tour, where no reason stands, and the costs; or the first reason
 abbrev pub FindsLength : Fields → Fields → Result (ℤ × TourCosts) Reason → Type 0
 FindsLength inst sol (Ok found) = IsTourVerdict inst sol (verdicts.Tour found.0 None) × AreTourCosts inst found.1

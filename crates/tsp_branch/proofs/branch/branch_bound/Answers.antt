@@ -7,7 +7,7 @@ use Rattle.tsp_branch.specs.Combed.{plain}
 use Rattle.tsp_branch.specs.CombsOfSets.{combs_of}
 use Rattle.tsp_branch.specs.Decided.{case_of}
 use Rattle.tsp_branch.specs.Listed.{IsJudged}
-use Rattle.tsp_branch.proofs.Judging.{cycles_of}
+use Rattle.tsp_branch.proofs.Judging.{cycles_of, costs_for}
 use Rattle.tsp_branch.proofs.branch.branch_bound.Goals as goal
 
 pub returns-clause-cycles : goal.returns-clause-cycles
@@ -19,6 +19,7 @@ returns-clause-cycles g c =
     let given = case_of c.args.given.now in
     let fits : FitsSigned w64 c.args.scale = search rules in
     IfOk-weaker c.judge_leaves.result _ _ (λ found is.
-    cycles_of c.certificates_bound_cycles.ensures.cycles n cost c.args.scale combs c.args.combs given (steps_of c.args.steps.now) found c.requires.some (g.met.C.Symmetric.even costs) c.requires.scaled
-    (subst (λ (z : ℤ). IsJudged n cost z combs c.args.combs given (steps_of c.args.steps.now) found) (to_z-of_z w64 c.args.scale fits) is))
+    cycles_of c.certificates_bound_cycles.ensures.cycles c.args.directed n cost c.args.scale combs c.args.combs given (steps_of c.args.steps.now) found
+    (costs_for c.args.directed n cost c.requires.some c.requires.even) c.requires.scaled
+    (subst (λ (z : ℤ). IsJudged c.args.directed n cost z combs c.args.combs given (steps_of c.args.steps.now) found) (to_z-of_z w64 c.args.scale fits) is))
     c.judge_leaves.ensures.judged

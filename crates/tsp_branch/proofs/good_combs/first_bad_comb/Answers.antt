@@ -21,7 +21,7 @@ returns-then-not-is_comb c =
     let own = own_judged c.args.nodes c.combs.comb c.count_of.result rest c.args.sets.now c.split_at.result.0.now h.in_order h.later c.count_of.ensures.own c.count_of.ensures.next
     h.same h.nodes_of c.split_at.ensures.front in
     first_found c.args.nodes c.args.combs c.combs.comb (plain c.args.sets.now) lt h.good
-    (λ good. iff_false (c.is_comb.ensures.comb c.args.nodes own.0) c.if-not-is_comb.true (subst (IsGoodComb c.args.nodes) (sym own.1) good))
+    (λ good. iff_false (c.is_comb.ensures.comb c.args.nodes (ap length c.deref_mut.ensures.value ∙ h.handles_long) own.0) c.if-not-is_comb.true (subst (IsGoodComb c.args.nodes) (sym own.1) good))
 
 pub combs-preserved : goal.combs-preserved
 combs-preserved c =
@@ -46,7 +46,7 @@ combs-preserved c =
       later = subst (All (λ (set : ℕ × Vec ℕ). comb + 1 ≤ set.0)) (sym left) (later_left comb count rest h.in_order h.later c.count_of.ensures.own c.count_of.ensures.next);
       same = λ other more. subst (λ (ss : List (ℕ × Vec ℕ)). of_comb other (plain ss) ≡ of_comb other (plain c.args.sets.now)) (sym left)
           (later_sets comb count rest h.in_order h.later c.count_of.ensures.own c.count_of.ensures.next other more ∙ h.same other (omega (arith, more)));
-      good = good_more n comb (plain c.args.sets.now) h.good (subst (IsGoodComb n) own.1 ((c.is_comb.ensures.comb n own.0).0 c.if-not-is_comb.false));
+      good = good_more n comb (plain c.args.sets.now) h.good (subst (IsGoodComb n) own.1 ((c.is_comb.ensures.comb n (ap length c.deref_mut.ensures.value ∙ h.handles_long) own.0).0 c.if-not-is_comb.false));
     }
 
 pub returns : goal.returns

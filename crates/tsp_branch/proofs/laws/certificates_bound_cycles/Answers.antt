@@ -1,7 +1,12 @@
-use Rattle.tsp_branch.proofs.Certificates.{certificates_bound_cycles, certificates_bound_tours}
+use Rattle.tsp_branch.proofs.Certificates.{LeafLaws, certificates_bound_cycles, certificates_bound_tours, no_bound_no_tour}
 use Rattle.tsp_branch.proofs.laws.certificates_bound_cycles.Goals as goal
 
 pub returns : goal.returns
 returns c =
-    let cycles = certificates_bound_cycles c.leaf_bounds_bound_cycles.ensures.cycles c.cases_bound_cycles.ensures in
-    record { cycles = cycles; tours = certificates_bound_tours cycles }
+    let laws : LeafLaws = record {
+      trees = c.leaf_bounds_bound_cycles.ensures.cycles;
+      rows = c.row_leaf_bounds_bound_cycles.ensures;
+      no_link = c.links_are_allowed.ensures.none;
+    } in
+    let cycles = certificates_bound_cycles laws c.cases_bound_cycles.ensures c.cases_have_no_cycle.ensures in
+    record { cycles = cycles; tours = certificates_bound_tours cycles; none = no_bound_no_tour cycles }

@@ -13,4 +13,4 @@ returns c =
       scale = c.lengths_add_up.ensures.scale;
       no_loops = c.cycles_have_no_loops.ensures;
     } in
-    record { cycles = leaf_bounds_bound_cycles laws c.cycles_cross_combs.ensures; uncombed = uncombed_bounds_are_adjusted_bounds }
+    record { cycles = leaf_bounds_bound_cycles laws c.cycles_cross_families.ensures; uncombed = uncombed_bounds_are_adjusted_bounds }

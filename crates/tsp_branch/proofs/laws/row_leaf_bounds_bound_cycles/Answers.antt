@@ -1,5 +1,5 @@
 use Rattle.tsp_theory.proofs.CostLaws.{Laws}
-use Rattle.tsp_branch.proofs.Families.{cycles_cross_families, row_leaf_bounds_bound_cycles}
+use Rattle.tsp_branch.proofs.RowLeaves.{row_leaf_bounds_bound_cycles}
 use Rattle.tsp_branch.proofs.laws.row_leaf_bounds_bound_cycles.Goals as goal
 
 pub returns : goal.returns
@@ -13,5 +13,4 @@ returns c =
       scale = c.lengths_add_up.ensures.scale;
       no_loops = c.cycles_have_no_loops.ensures;
     } in
-    let families = cycles_cross_families laws c.cycles_cross_combs.ensures in
-    record { families = families; bounds = row_leaf_bounds_bound_cycles laws families c.sums_are_below_cycles.ensures }
+    row_leaf_bounds_bound_cycles laws c.cycles_cross_families.ensures c.sums_are_below_cycles.ensures

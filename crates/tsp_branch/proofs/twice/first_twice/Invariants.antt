@@ -6,6 +6,6 @@ use Rattle.tsp_branch.proofs.twice.first_twice.Given as goal
 
 abbrev pub invariant-steps : goal.invariant-steps
 invariant-steps l = record {
-  so_far : IsOnceSoFar (case_of l.given) (steps_of l.steps) (stack_of l.stack.items) l.count (steps_of (drop l.step-index l.steps));
+  so_far : IsOnceSoFar l.directed (case_of l.given) (steps_of l.steps) (stack_of l.stack.items) l.count (steps_of (drop l.step-index l.steps));
   few : l.count ≤ l.step-index;
 }

@@ -4,7 +4,10 @@ use Rattle.tsp_verdict.proofs.examples.examples_against_trees.Goals as goal
 pub returns-clause-even_teeth : goal.returns-clause-even_teeth
 returns-clause-even_teeth c = record {
   here = (omega arith, omega arith);
-  holds = λ good. let odd = good.comb.odd in omega (arith, odd);
+  holds = λ good. elim good.family [
+    | inl lone ↦ absurd (let none = lone.alone in cc)
+    | inr comb ↦ let odd = comb.odd in omega (arith, odd)
+  ];
   first = λ earlier from before. absurd (omega (arith, from, before));
 }
 

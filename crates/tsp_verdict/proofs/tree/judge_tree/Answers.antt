@@ -1,6 +1,6 @@
-use Rattle.std.proofs.Common.{◌≡◌, ◌∙◌, ℕ, [], ◌∷◌, length, ap, subst, arith, rules, FitsSigned, to_z, of_z}
+use Rattle.std.proofs.Common.{◌≡◌, ◌∙◌, ℕ, ℤ, [], ◌∷◌, length, ap, subst, arith, rules, FitsSigned, to_z, of_z}
 use Rattle.std.specs.Int.{w64, w128}
-use Rattle.std.specs.Prelude.{Option, unwrap_or}
+use Rattle.std.specs.Prelude.{Option, None, Some, unwrap_or}
 use Rattle.std.specs.List.{All}
 use Rattle.std.proofs.lemmas.Int.{to_z-of_z}
 use Rattle.std.proofs.lemmas.List.{length-map}
@@ -20,7 +20,7 @@ use Rattle.tsp_verdict.proofs.FilesHold.{steps_hold, steps_few}
 use Rattle.tsp_verdict.proofs.HeldNumbers.{steps_are}
 use Rattle.tsp_verdict.proofs.GivenPairs.{given_once, given_are, given_few}
 use Rattle.tsp_verdict.proofs.NumberedSets.{sets_of_nodes, sets_of_combs, sets_in_order, sets_few}
-use Rattle.tsp_verdict.proofs.TreeReasons.{are_of, told, twice_within, bad_within, comb_first, twice_first, leaf_first, none_stands, certified}
+use Rattle.tsp_verdict.proofs.TreeReasons.{directed_is, even_view, some_bound, are_of, told, twice_within, bad_within, comb_first, twice_first, leaf_first, none_stands, certified}
 use Rattle.tsp_verdict.proofs.tree.judge_tree.Goals as goal
 
 pub judge_branches-requires-clause-few_sets : goal.judge_branches-requires-clause-few_sets
@@ -29,7 +29,7 @@ judge_branches-requires-clause-few_sets g c = sets_few (nodes_of c.args.branches
 
 pub judge_branches-requires-clause-few_given : goal.judge_branches-requires-clause-few_given
 judge_branches-requires-clause-few_given g c =
-    let few = given_few most_fixed c.deref-2.result.now c.fixed_pairs.result.now (ap case_of c.deref-2.ensures.value ∙ c.in_ok-given.ensures) c.fixed_pairs.ensures.few in
+    let few = given_few c.is_directed-directed.result most_fixed c.deref-2.result.now c.fixed_pairs.result.now (ap case_of c.deref-2.ensures.value ∙ c.in_ok-given.ensures) c.fixed_pairs.ensures.few in
     omega (arith, few)
 
 pub judge_branches-requires-clause-nodes : goal.judge_branches-requires-clause-nodes
@@ -60,14 +60,20 @@ pub judge_branches-requires-clause-given_are : goal.judge_branches-requires-clau
 judge_branches-requires-clause-given_are g c =
     let same : nodes_of c.args.instance.now ≡ g.C.Costs.nodes c.args.costs.now = ap (λ (d : Option ℕ). unwrap_or d 0) c.requires.keeps.count in
     let n : ℕ = g.C.Costs.nodes c.args.costs.now in
-    given_are n c.deref-2.result.now c.fixed_pairs.result.now (ap case_of c.deref-2.ensures.value ∙ c.in_ok-given.ensures)
+    given_are c.is_directed-directed.result n c.deref-2.result.now c.fixed_pairs.result.now (ap case_of c.deref-2.ensures.value ∙ c.in_ok-given.ensures)
     (subst (λ (m : ℕ). All (IsPairOf m) c.fixed_pairs.result.now) same c.fixed_pairs.ensures.range)
 
 pub judge_branches-requires-clause-given_once : goal.judge_branches-requires-clause-given_once
-judge_branches-requires-clause-given_once g c = given_once c.deref-2.result.now c.fixed_pairs.result.now (ap case_of c.deref-2.ensures.value ∙ c.in_ok-given.ensures)
+judge_branches-requires-clause-given_once g c = given_once c.is_directed-directed.result c.deref-2.result.now c.fixed_pairs.result.now (ap case_of c.deref-2.ensures.value ∙ c.in_ok-given.ensures)
 
-pub returns-in-Bound : goal.returns-in-Bound
-returns-in-Bound g c =
+pub judge_branches-requires-clause-even : goal.judge_branches-requires-clause-even
+judge_branches-requires-clause-even g c =
+    even_view c.args.instance.now c.is_directed-directed.result (g.C.Costs.at c.args.costs.now) c.requires.kind
+    (directed_is c.is_directed-directed.result c.args.instance.now c.kind.result c.is_directed-directed.ensures c.kind.ensures.value) c.requires.even c.requires.keeps.every
+
+pub returns-in-Bound-Some : goal.returns-in-Bound-Some
+returns-in-Bound-Some g c =
+    let whole = c.in-Bound-Some.is ∙ ap (λ (o : Option ℤ). found.Bound o) c.in-Bound-Some.field-0-is in
     let inst = c.args.instance.now in
     let tree = c.args.branches.now in
     let n : ℕ = g.C.Costs.nodes c.args.costs.now in
@@ -77,19 +83,39 @@ returns-in-Bound g c =
     let given = case_of c.deref-2.result.now in
     let steps = steps_of c.args.tree.now.steps.now in
     let scaled : FitsSigned w64 c.args.tree.now.scale = search rules in
-    let are = are_of inst tree n (to_z w64 (of_z w64 c.args.tree.now.scale)) combs sets c.fixed_pairs.result.now given steps c.requires.keeps.count
+    let are = are_of inst tree c.is_directed-directed.result n (to_z w64 (of_z w64 c.args.tree.now.scale)) combs sets c.fixed_pairs.result.now given steps (directed_is c.is_directed-directed.result inst c.kind.result c.is_directed-directed.ensures c.kind.ensures.value) c.requires.keeps.count
     (to_z-of_z w64 c.args.tree.now.scale scaled ∙ c.requires.held.scale_is) c.requires.held.combs_are
     (ap plain c.deref.ensures.value ∙ c.in_ok-sets.ensures) c.fixed_pairs.ensures.value (ap case_of c.deref-2.ensures.value ∙ c.in_ok-given.ensures) (steps_are tree _ _ _ c.requires.held) in
-    let is = subst (IsBranchVerdict n costs (to_z w64 (of_z w64 c.args.tree.now.scale)) (length combs) sets given steps) c.in-Bound.is c.in_ok-bound.ensures.verdict in
-    let bound = c.in-Bound.bound in
+    let bound = c.in-Bound-Some.bound in
+    let is = subst (IsBranchVerdict c.is_directed-directed.result n costs (to_z w64 (of_z w64 c.args.tree.now.scale)) (length combs) sets given steps) whole c.in_ok-bound.ensures.verdict in
     let fits : FitsSigned w128 bound = search rules in
-    let all_told = told inst tree n costs _ (length combs) sets given steps (found.Bound bound) are is in
+    let all_told = told inst tree c.is_directed-directed.result n costs _ (length combs) sets given steps (found.Bound (Some bound)) are is in
     rw (to_z-of_z w128 bound fits) (
-      none_stands inst tree costs bound c.requires.sort c.requires.count all_told,
+      none_stands inst tree costs (Some bound) c.requires.sort c.requires.count all_told,
       certified inst tree costs bound c.certificates_bound_cycles.ensures.cycles c.requires.kind c.requires.some c.requires.even
           (subst IsScale c.requires.held.scale_is c.requires.held.scaled) c.requires.keeps.every
-          (subst IsSizedVerdict c.in-Bound.is c.in_ok-bound.ensures.size) all_told,
+          (subst IsSizedVerdict whole c.in_ok-bound.ensures.size) all_told,
     )
+
+pub unreachable-requires : goal.unreachable-requires
+unreachable-requires g c =
+    let whole = c.in-Bound-None.is ∙ ap (λ (o : Option ℤ). found.Bound o) c.in-Bound-None.field-0-is in
+    let inst = c.args.instance.now in
+    let tree = c.args.branches.now in
+    let n : ℕ = g.C.Costs.nodes c.args.costs.now in
+    let costs = g.C.Costs.at c.args.costs.now in
+    let combs = c.args.tree.now.combs.now in
+    let sets = plain c.deref.result.now in
+    let given = case_of c.deref-2.result.now in
+    let steps = steps_of c.args.tree.now.steps.now in
+    let scaled : FitsSigned w64 c.args.tree.now.scale = search rules in
+    let are = are_of inst tree c.is_directed-directed.result n (to_z w64 (of_z w64 c.args.tree.now.scale)) combs sets c.fixed_pairs.result.now given steps (directed_is c.is_directed-directed.result inst c.kind.result c.is_directed-directed.ensures c.kind.ensures.value) c.requires.keeps.count
+    (to_z-of_z w64 c.args.tree.now.scale scaled ∙ c.requires.held.scale_is) c.requires.held.combs_are
+    (ap plain c.deref.ensures.value ∙ c.in_ok-sets.ensures) c.fixed_pairs.ensures.value (ap case_of c.deref-2.ensures.value ∙ c.in_ok-given.ensures) (steps_are tree _ _ _ c.requires.held) in
+    let is = subst (IsBranchVerdict c.is_directed-directed.result n costs (to_z w64 (of_z w64 c.args.tree.now.scale)) (length combs) sets given steps) whole c.in_ok-bound.ensures.verdict in
+    let all_told = told inst tree c.is_directed-directed.result n costs _ (length combs) sets given steps (found.Bound None) are is in
+    some_bound inst tree costs c.certificates_bound_cycles.ensures.cycles c.requires.kind c.requires.some c.requires.even
+    (subst IsScale c.requires.held.scale_is c.requires.held.scaled) c.requires.keeps.every c.requires.toured all_told
 
 pub returns-in-BadComb : goal.returns-in-BadComb
 returns-in-BadComb g c =
@@ -102,18 +128,18 @@ returns-in-BadComb g c =
     let given = case_of c.deref-2.result.now in
     let steps = steps_of c.args.tree.now.steps.now in
     let scaled : FitsSigned w64 c.args.tree.now.scale = search rules in
-    let are = are_of inst tree n (to_z w64 (of_z w64 c.args.tree.now.scale)) combs sets c.fixed_pairs.result.now given steps c.requires.keeps.count
+    let are = are_of inst tree c.is_directed-directed.result n (to_z w64 (of_z w64 c.args.tree.now.scale)) combs sets c.fixed_pairs.result.now given steps (directed_is c.is_directed-directed.result inst c.kind.result c.is_directed-directed.ensures c.kind.ensures.value) c.requires.keeps.count
     (to_z-of_z w64 c.args.tree.now.scale scaled ∙ c.requires.held.scale_is) c.requires.held.combs_are
     (ap plain c.deref.ensures.value ∙ c.in_ok-sets.ensures) c.fixed_pairs.ensures.value (ap case_of c.deref-2.ensures.value ∙ c.in_ok-given.ensures) (steps_are tree _ _ _ c.requires.held) in
-    let is = subst (IsBranchVerdict n costs (to_z w64 (of_z w64 c.args.tree.now.scale)) (length combs) sets given steps) c.in-BadComb.is c.in_ok-bound.ensures.verdict in
-    comb_first inst tree costs c.in-BadComb.index c.requires.sort c.requires.count (told inst tree n costs _ (length combs) sets given steps (found.BadComb c.in-BadComb.index) are is)
+    let is = subst (IsBranchVerdict c.is_directed-directed.result n costs (to_z w64 (of_z w64 c.args.tree.now.scale)) (length combs) sets given steps) c.in-BadComb.is c.in_ok-bound.ensures.verdict in
+    comb_first inst tree costs c.in-BadComb.index c.requires.sort c.requires.count (told inst tree c.is_directed-directed.result n costs _ (length combs) sets given steps (found.BadComb c.in-BadComb.index) are is)
 
 pub overflow_cast-result-in-BranchTwice : goal.overflow_cast-result-in-BranchTwice
 overflow_cast-result-in-BranchTwice g c =
     let steps = steps_of c.args.tree.now.steps.now in
     let given = case_of c.deref-2.result.now in
-    let is = subst (IsBranchVerdict _ _ _ _ _ given steps) c.in-BranchTwice.is c.in_ok-bound.ensures.verdict in
-    omega (arith, twice_within 0 (given ∷ []) steps c.in-BranchTwice.index is.1, length-map c.args.tree.now.steps.now step_of, steps_few c.args.branches.now c.args.tree.now.steps.now c.requires.held.each_step)
+    let is = subst (IsBranchVerdict c.is_directed-directed.result _ _ _ _ _ given steps) c.in-BranchTwice.is c.in_ok-bound.ensures.verdict in
+    omega (arith, twice_within c.is_directed-directed.result 0 (given ∷ []) steps c.in-BranchTwice.index is.1, length-map c.args.tree.now.steps.now step_of, steps_few c.args.branches.now c.args.tree.now.steps.now c.requires.held.each_step)
 
 pub returns-in-BranchTwice : goal.returns-in-BranchTwice
 returns-in-BranchTwice g c =
@@ -126,19 +152,19 @@ returns-in-BranchTwice g c =
     let given = case_of c.deref-2.result.now in
     let steps = steps_of c.args.tree.now.steps.now in
     let scaled : FitsSigned w64 c.args.tree.now.scale = search rules in
-    let are = are_of inst tree n (to_z w64 (of_z w64 c.args.tree.now.scale)) combs sets c.fixed_pairs.result.now given steps c.requires.keeps.count
+    let are = are_of inst tree c.is_directed-directed.result n (to_z w64 (of_z w64 c.args.tree.now.scale)) combs sets c.fixed_pairs.result.now given steps (directed_is c.is_directed-directed.result inst c.kind.result c.is_directed-directed.ensures c.kind.ensures.value) c.requires.keeps.count
     (to_z-of_z w64 c.args.tree.now.scale scaled ∙ c.requires.held.scale_is) c.requires.held.combs_are
     (ap plain c.deref.ensures.value ∙ c.in_ok-sets.ensures) c.fixed_pairs.ensures.value (ap case_of c.deref-2.ensures.value ∙ c.in_ok-given.ensures) (steps_are tree _ _ _ c.requires.held) in
-    let is = subst (IsBranchVerdict n costs (to_z w64 (of_z w64 c.args.tree.now.scale)) (length combs) sets given steps) c.in-BranchTwice.is c.in_ok-bound.ensures.verdict in
+    let is = subst (IsBranchVerdict c.is_directed-directed.result n costs (to_z w64 (of_z w64 c.args.tree.now.scale)) (length combs) sets given steps) c.in-BranchTwice.is c.in_ok-bound.ensures.verdict in
     twice_first inst tree costs c.in-BranchTwice.index c.requires.sort c.requires.count
-    (told inst tree n costs _ (length combs) sets given steps (found.BranchTwice c.in-BranchTwice.index) are is)
+    (told inst tree c.is_directed-directed.result n costs _ (length combs) sets given steps (found.BranchTwice c.in-BranchTwice.index) are is)
 
 pub overflow_cast-result-in-BadLeaf : goal.overflow_cast-result-in-BadLeaf
 overflow_cast-result-in-BadLeaf g c =
     let n : ℕ = g.C.Costs.nodes c.args.costs.now in
     let count = length c.args.tree.now.combs.now in
     let steps = steps_of c.args.tree.now.steps.now in
-    let is = subst (IsBranchVerdict n _ _ count _ _ steps) c.in-BadLeaf.is c.in_ok-bound.ensures.verdict in
+    let is = subst (IsBranchVerdict c.is_directed-directed.result n _ _ count _ _ steps) c.in-BadLeaf.is c.in_ok-bound.ensures.verdict in
     omega (arith, bad_within n count (no_numbers_of n count) 0 steps c.in-BadLeaf.index is.leaves, length-map c.args.tree.now.steps.now step_of, steps_few c.args.branches.now c.args.tree.now.steps.now c.requires.held.each_step)
 
 pub returns : goal.returns
@@ -152,8 +178,8 @@ returns g c =
     let given = case_of c.deref-2.result.now in
     let steps = steps_of c.args.tree.now.steps.now in
     let scaled : FitsSigned w64 c.args.tree.now.scale = search rules in
-    let are = are_of inst tree n (to_z w64 (of_z w64 c.args.tree.now.scale)) combs sets c.fixed_pairs.result.now given steps c.requires.keeps.count
+    let are = are_of inst tree c.is_directed-directed.result n (to_z w64 (of_z w64 c.args.tree.now.scale)) combs sets c.fixed_pairs.result.now given steps (directed_is c.is_directed-directed.result inst c.kind.result c.is_directed-directed.ensures c.kind.ensures.value) c.requires.keeps.count
     (to_z-of_z w64 c.args.tree.now.scale scaled ∙ c.requires.held.scale_is) c.requires.held.combs_are
     (ap plain c.deref.ensures.value ∙ c.in_ok-sets.ensures) c.fixed_pairs.ensures.value (ap case_of c.deref-2.ensures.value ∙ c.in_ok-given.ensures) (steps_are tree _ _ _ c.requires.held) in
-    let is = subst (IsBranchVerdict n costs (to_z w64 (of_z w64 c.args.tree.now.scale)) (length combs) sets given steps) c.in-BadLeaf.is c.in_ok-bound.ensures.verdict in
-    leaf_first inst tree costs c.in-BadLeaf.index c.requires.sort c.requires.count (told inst tree n costs _ (length combs) sets given steps (found.BadLeaf c.in-BadLeaf.index) are is)
+    let is = subst (IsBranchVerdict c.is_directed-directed.result n costs (to_z w64 (of_z w64 c.args.tree.now.scale)) (length combs) sets given steps) c.in-BadLeaf.is c.in_ok-bound.ensures.verdict in
+    leaf_first inst tree costs c.in-BadLeaf.index c.requires.sort c.requires.count (told inst tree c.is_directed-directed.result n costs _ (length combs) sets given steps (found.BadLeaf c.in-BadLeaf.index) are is)

@@ -1,0 +1,62 @@
+use Rattle.std.proofs.Common.{◌≡◌, ◌∙◌, ◌++◌, ℕ, ℤ, List, length, ap, sym, subst, rules, FitsSigned, to_z, of_z}
+use Rattle.std.specs.Prelude.{pos, ◌-ℤ◌, ◌*ℤ◌}
+use Rattle.std.specs.Int.{w128}
+use Rattle.std.specs.Global.{Vec}
+use Rattle.std.specs.List.{All}
+use Rattle.std.proofs.lemmas.Int.{to_z-of_z}
+use Rattle.tsp_theory.specs.Numbers.{total}
+use Rattle.tsp_theory.specs.NodeBound.{weight_between}
+use Rattle.tsp_theory.proofs.Sizes.{same_scale}
+use Rattle.tsp_branch.specs.Combs.{Comb}
+use Rattle.tsp_branch.specs.Families.{IsFamily}
+use Rattle.tsp_branch.specs.Decisions.{Decision}
+use Rattle.tsp_branch.specs.LeafBound.{combed, least_of}
+use Rattle.tsp_branch.specs.Certificate.{multiplied}
+use Rattle.tsp_branch.specs.Combed.{plain, set_weight}
+use Rattle.tsp_branch.specs.CombsOfSets.{combs_of, AreSetCounts}
+use Rattle.tsp_branch.specs.Decided.{decided_number, case_of, stack_of}
+use Rattle.tsp_branch.proofs.CaseWeights.{small_multipliers, few_crossings, sets_below_count, row_weight, found_by_rows}
+use Rattle.tsp_branch.proofs.setting.Setting.bound_by_rows.Goals as goal
+
+pub fill_moved-requires-clause-small : goal.fill_moved-requires-clause-small
+fill_moved-requires-clause-small g c = small_multipliers (g.C.Costs.nodes c.args.self.now.costs.now) c.args.self.now.combs c.args.potentials.now c.args.multipliers.now c.requires.numbers
+
+pub of-combed-requires-clause-small : goal.of-combed-requires-clause-small
+of-combed-requires-clause-small g c = small_multipliers (g.C.Costs.nodes c.args.self.now.costs.now) c.args.self.now.combs c.args.potentials.now c.args.multipliers.now c.requires.numbers
+
+pub of-combed-requires-clause-crossed : goal.of-combed-requires-clause-crossed
+of-combed-requires-clause-crossed g c =
+    let p = c.args.self.now in
+    let n = g.C.Costs.nodes p.costs.now in
+    let sets : List (ℕ × Vec ℕ) = p.sets.now in
+    let ms : List ℤ = c.args.multipliers.now in
+    let good = c.requires.numbers in
+    few_crossings n p.combs c.args.potentials.now ms (plain sets) good (subst (λ (k : ℕ). All (IsFamily n) (combs_of k (plain sets))) (sym good.each_comb) c.requires.are_families)
+    (sets_below_count p.combs (length ms) sets good.each_comb p.of_combs)
+
+pub returns-clause-bound : goal.returns-clause-bound
+returns-clause-bound g c =
+    let p = c.args.self.now in
+    let n : ℕ = g.C.Costs.nodes p.costs.now in
+    let cost = g.C.Costs.at p.costs.now in
+    let sets : List (ℕ × Vec ℕ) = p.sets.now in
+    let ps : List ℤ = c.args.potentials.now in
+    let ms : List ℤ = c.args.multipliers.now in
+    let case : List Decision = stack_of c.args.decisions.now ++ case_of p.given.now in
+    let good = c.requires.numbers in
+    let families : List (Comb × ℤ) = multiplied (combs_of p.combs (plain sets)) ms in
+    let q = c.of-combed.result in
+    let w : ℕ → ℕ → ℤ = set_weight q.scale q.potentials.now q.multipliers.now (plain q.sets.now) (g.C.Costs.at q.costs.now) in
+    let below = sets_below_count p.combs (length ms) sets good.each_comb p.of_combs in
+    let agree : (i j : ℕ) → w i j ≡ combed families (weight_between p.scale ps cost) i j = λ i j.
+    c.of-combed.ensures.weights i j
+    ∙ ap (λ (z : ℤ). set_weight z ps ms (plain sets) cost i j) (same_scale p.scale p.scaled)
+    ∙ row_weight p.combs p.scale ps ms (plain sets) cost i j good.each_comb below in
+    let back : ℤ = c.given_back-back.result in
+    let fits : FitsSigned w128 c.given_back-back.result = search rules in
+    let counted = subst (λ (k : ℕ). AreSetCounts k (plain sets) p.counts.now) (sym good.each_comb) p.counted in
+    let back_is : to_z w128 (of_z w128 back) ≡ least_of families -ℤ (pos 2 *ℤ total ps) =
+    to_z-of_z w128 back fits ∙ c.given_back-back.ensures.value (plain sets) counted
+    ∙ ap (λ (k : ℕ). least_of (multiplied (combs_of k (plain sets)) ms) -ℤ (pos 2 *ℤ total ps)) good.each_comb in
+    found_by_rows n (g.C.Costs.nodes q.costs.now) cost p.scale _ decided_number (combs_of p.combs (plain sets)) case ps ms w _ c.row_bound.result c.of-combed.ensures.nodes
+    (same_scale p.scale p.scaled) agree back_is c.row_bound.ensures.bound
