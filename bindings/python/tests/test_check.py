@@ -1,4 +1,4 @@
-"""Verdicts: the worked examples of docs/examples.md."""
+"""Verdicts of worked examples."""
 
 import pickle
 import unittest
