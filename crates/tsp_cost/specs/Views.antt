@@ -13,6 +13,8 @@ use Rattle.tsp_cost.specs.declared.matrix.EvenMatrix.{EvenMatrix}
 use Rattle.tsp_cost.specs.declared.triangle.Triangle.{Triangle}
 use Rattle.tsp_cost.specs.declared.view.View.{View}
 use Rattle.tsp_cost.specs.declared.view.View.TheVariants as views
+use Rattle.tsp_cost.specs.declared.view.EvenView.{EvenView}
+use Rattle.tsp_cost.specs.declared.view.EvenView.TheVariants as even_views
 
 -- the nodes and the costs of each view
 abbrev pub points_nodes : {P : Type 0} → Points P → ℕ
@@ -57,3 +59,10 @@ Shows f (views.Matrix m) = (is_explicit f.weight_kind ≡ true) × (f.weight_for
     × HasCosts f (matrix_nodes m) (matrix_cost m)
 Shows f (views.Triangle t) = (is_explicit f.weight_kind ≡ true) × (f.weight_format ≢ Some (Listed FullMatrix))
     × HasCosts f (triangle_nodes t) (triangle_cost t)
+
+-- the same of a view whose costs are the same in both directions
+abbrev pub ShowsEven : Fields → EvenView → Type 0
+ShowsEven f (even_views.Plane p) = HasCosts f (points_nodes p) (points_cost (λ point. on_plane point.x point.y) p)
+ShowsEven f (even_views.Space p) = HasCosts f (points_nodes p) (points_cost (λ point. point) p)
+ShowsEven f (even_views.Matrix m) = HasCosts f (even_nodes m) (even_cost m)
+ShowsEven f (even_views.Triangle t) = HasCosts f (triangle_nodes t) (triangle_cost t)

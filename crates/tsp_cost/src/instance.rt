@@ -1,18 +1,19 @@
 //! Instances: files that have costs.
 
-ghost use Rattle.std.specs.Prelude.{unwrap_or};
+ghost use Rattle.std.specs.Prelude.{unwrap_or, MatchResult};
 ghost use Rattle.tsp_file.specs.Cost.{cost};
-ghost use Rattle.tsp_theory.specs.Costs.{FindsAsymmetric};
+ghost use Rattle.tsp_theory.specs.Costs.{IsSymmetric, IsFirstAsymmetric, FindsAsymmetric};
+ghost use Rattle.tsp_cost.specs.Views.{ShowsEven};
 
 use crate::fault::CostFault;
 use crate::matrix::Matrix;
 use crate::points::Points;
 use crate::triangle::Triangle;
-use crate::view::View;
+use crate::view::{EvenView, View};
 use std::marker::Model;
 use tsp_draft::{Coords, valid_fields_are_in_range, valid_files_are_complete};
-use tsp_file::File;
-use tsp_format::{Kind, Layout, WeightFormat, WeightKind};
+use tsp_file::{File, ListedWeights};
+use tsp_format::{Kind, Layout};
 use tsp_theory::Costs;
 
 /// A valid file of TYPE TSP, ATSP or CVRP, with the costs between its nodes.
@@ -34,11 +35,12 @@ impl Model for Instance {
 }
 
 impl Instance {
-    ghost use Rattle.std.specs.Prelude.{◌≡◌, ◌≢◌, false, Some, IsTrue, MatchResult};
+    ghost use Rattle.std.specs.Prelude.{◌≡◌, false, Some, IsTrue, MatchResult};
     ghost use Rattle.tsp_draft.specs.Rules.{is_instance};
     ghost use Rattle.tsp_format.specs.declared.kinds.WeightKind.TheVariants.{Explicit};
     ghost use Rattle.tsp_cost.specs.declared.fault.CostFault.TheVariants.{NotInstance};
     ghost use Rattle.tsp_file.specs.Listed.{ListsWeights};
+    ghost use Rattle.tsp_file.specs.Relayout.{HasListedWeights};
     ghost use Rattle.tsp_cost.specs.Views.{Shows};
 
     /// The instance that a file is, or why it is none, and the file itself, unchanged.
@@ -88,28 +90,22 @@ impl Instance {
     pub fn view(&self) -> View<'_>
         ensures { Shows self.now result }
     {
-        let _valid = self.file.fields();
-        valid_files_are_complete();
-        let Some(kind) = self.file.weight_kind() else {
-            unreachable!();
-        };
-        match kind {
-            WeightKind::Explicit => self.listed_view(),
-            _ => self.distance_view(kind),
+        match self.file.as_matrix() {
+            Some(listed) => self.listed_view(listed),
+            None => self.distance_view(),
         }
     }
 
     /// The points of an instance whose weight type is a distance.
     #[inline]
-    fn distance_view(&self, kind: WeightKind) -> View<'_>
-        requires kind { self.now.weight_kind ≡ Some kind }
-        requires distance { kind ≢ Explicit }
+    fn distance_view(&self) -> View<'_>
+        requires { ¬ HasListedWeights self.now }
         ensures { Shows self.now result }
     {
         let _valid = self.file.fields();
         valid_fields_are_in_range();
         valid_files_are_complete();
-        let Some(points) = self.file.coords() else {
+        let (Some(kind), Some(points)) = (self.file.weight_kind(), self.file.coords()) else {
             unreachable!();
         };
         match points {
@@ -120,36 +116,14 @@ impl Instance {
 
     /// The matrix or the triangle of an instance whose weights are listed.
     #[inline]
-    fn listed_view(&self) -> View<'_>
-        requires { self.now.weight_kind ≡ Some Explicit }
+    fn listed_view<'a>(&self, listed: ListedWeights<'a>) -> View<'a>
+        requires explicit { self.now.weight_kind ≡ Some Explicit }
+        requires lists { ListsWeights self.now listed.layout listed.nodes listed.weights.now }
         ensures { Shows self.now result }
     {
-        let (layout, nodes, weights) = self.listed();
-        match layout {
-            Layout::FullMatrix => View::Matrix(Matrix::of(nodes, weights)),
-            _ => View::Triangle(Triangle::of(layout, nodes, weights)),
-        }
-    }
-
-    /// The layout, the number of nodes and the weights of an instance whose weights are listed.
-    #[inline]
-    fn listed(&self) -> (Layout, u32, &[i64])
-        requires { self.now.weight_kind ≡ Some Explicit }
-        ensures { ListsWeights self.now result.0 result.1 result.2.now }
-    {
-        let _valid = self.file.fields();
-        valid_fields_are_in_range();
-        valid_files_are_complete();
-        let Some(weights) = self.file.weights() else {
-            unreachable!();
-        };
-        let Some(nodes) = self.file.dimension() else {
-            unreachable!();
-        };
-        match self.file.weight_format() {
-            Some(WeightFormat::Listed(layout)) => (layout, nodes, weights),
-            Some(WeightFormat::ByFunction) => unreachable!(),
-            None => unreachable!(),
+        match listed.layout {
+            Layout::FullMatrix => View::Matrix(Matrix::of(listed.nodes, listed.weights)),
+            layout => View::Triangle(Triangle::of(layout, listed.nodes, listed.weights)),
         }
     }
 }
@@ -182,14 +156,34 @@ impl Costs for Instance {
     }
 }
 
+/// What the costs of an instance are taken from, where they are the same in both directions; else the
+/// first pair of nodes, the smaller one first, by rows, whose two costs differ.
+///
+/// Costs from a node to itself aren't compared. No pair is looked at under a distance or a triangle.
+pub fn even_view(inst: &Instance) -> Result<EvenView<'_>, (u32, u32)>
+    ensures { MatchResult result
+        (λ view. ShowsEven inst.now view × IsSymmetric (cost inst.now))
+        (λ pair. IsFirstAsymmetric (unwrap_or inst.now.dimension 0) (cost inst.now) pair) }
+{
+    match inst.view() {
+        View::Plane(points) => Ok(EvenView::Plane(points)),
+        View::Space(points) => Ok(EvenView::Space(points)),
+        View::Triangle(triangle) => Ok(EvenView::Triangle(triangle)),
+        View::Matrix(matrix) => match matrix.even() {
+            Ok(even) => Ok(EvenView::Matrix(even)),
+            Err(pair) => Err(pair),
+        },
+    }
+}
+
 /// The first pair of nodes, the smaller one first, by rows, whose two costs differ.
 ///
 /// Costs from a node to itself aren't compared. No pair is looked at under a distance or a triangle.
 pub fn symmetric_fault(inst: &Instance) -> Option<(u32, u32)>
     ensures { FindsAsymmetric (unwrap_or inst.now.dimension 0) (cost inst.now) result }
 {
-    match inst.view() {
-        View::Matrix(matrix) => matrix.first_asymmetric(),
-        View::Plane(_) | View::Space(_) | View::Triangle(_) => None,
+    match even_view(inst) {
+        Ok(_) => None,
+        Err(pair) => Some(pair),
     }
 }

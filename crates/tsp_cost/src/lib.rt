@@ -13,11 +13,11 @@ mod view;
 
 pub use examples::examples_of_tours;
 pub use fault::CostFault;
-pub use instance::{Instance, symmetric_fault};
+pub use instance::{Instance, even_view, symmetric_fault};
 pub use matrix::{EvenMatrix, Matrix};
 pub use points::Points;
 pub use triangle::Triangle;
 pub use tsp_theory::{
     Costs, Grouped, Region, Symmetric, canonical_length, tour_length, trace_tours,
 };
-pub use view::View;
+pub use view::{EvenView, View};

@@ -1,6 +1,6 @@
 //! The costs of an instance as what they are taken from.
 
-use crate::matrix::Matrix;
+use crate::matrix::{EvenMatrix, Matrix};
 use crate::points::Points;
 use crate::triangle::Triangle;
 use tsp_distance::{PlanePoint, Point};
@@ -14,6 +14,19 @@ pub enum View<'a> {
     Space(Points<'a, Point>),
     /// The weights are a full matrix.
     Matrix(Matrix<'a>),
+    /// The weights are one half of a matrix.
+    Triangle(Triangle<'a>),
+}
+
+/// What the costs of an instance are taken from, where they are the same in both directions.
+#[derive(Clone, Copy, Debug)]
+pub enum EvenView<'a> {
+    /// The weight type is a distance, of points of the plane.
+    Plane(Points<'a, PlanePoint>),
+    /// The weight type is a distance, of points in space.
+    Space(Points<'a, Point>),
+    /// The weights are a full matrix.
+    Matrix(EvenMatrix<'a>),
     /// The weights are one half of a matrix.
     Triangle(Triangle<'a>),
 }

@@ -1,6 +1,7 @@
 pub mod Fronts
 pub mod Listed
 pub mod Relaid
+pub mod TypedFields
 pub mod Types
 pub mod WithWeights
 pub mod Spread

@@ -4,6 +4,7 @@ pub mod Halves
 pub mod Listed
 pub mod Relayout
 pub mod Side
+pub mod Typed
 pub mod Way
 pub mod Weights
 pub mod Examples

@@ -95,6 +95,8 @@ impl File {
     }
 
     /// This file, whose weights are a full matrix, with them in another layout that holds their costs.
+    ///
+    /// A file without weights would stay as it is.
     pub(crate) fn with_half(self, to: Layout) -> File
         requires full { self.weight_format ≡ Some (Listed FullMatrix) }
         requires can_go { CanGo self to }
@@ -102,10 +104,10 @@ impl File {
     {
         let File { mut draft } = self;
         let Some(nodes) = draft.dimension else {
-            unreachable!();
+            return File { draft };
         };
         let Some(mut weights) = draft.weights.take() else {
-            unreachable!();
+            return File { draft };
         };
         keep_half(to, nodes, &mut weights);
         draft.weight_format = Some(WeightFormat::Listed(to));
@@ -124,13 +126,13 @@ impl File {
     {
         let File { mut draft } = self;
         let Some(nodes) = draft.dimension else {
-            unreachable!();
+            return Err(File { draft });
         };
         let Some(WeightFormat::Listed(from)) = draft.weight_format else {
-            unreachable!();
+            return Err(File { draft });
         };
         let Some(mut weights) = draft.weights.take() else {
-            unreachable!();
+            return Err(File { draft });
         };
         if make_whole(from, nodes, &mut weights).is_err() {
             draft.weights = Some(weights);

@@ -9,6 +9,7 @@ mod halves;
 mod laws;
 mod relayout;
 mod text_examples;
+mod typed;
 mod way;
 mod weights;
 mod whole;
@@ -26,5 +27,6 @@ pub use tsp_format::{
     CoordKind, DisplayKind, Field, Kind, Layout, TreeStep, WeightFormat, WeightKind,
 };
 pub use tsp_stream::{Watched, WriteFault};
-pub use weights::first_asymmetric;
+pub use typed::{DualData, NodeData, RoutingData, TreeData};
+pub use weights::{ListedWeights, first_asymmetric};
 pub use writer::write_file;

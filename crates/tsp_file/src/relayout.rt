@@ -1,18 +1,14 @@
 //! The change of the layout of a file's weights.
 
-ghost use Rattle.std.specs.Prelude.{◌≡◌, Some, MatchOption, MatchResult};
-ghost use Rattle.tsp_format.specs.declared.kinds.WeightKind.TheVariants.{Explicit};
-ghost use Rattle.tsp_file.specs.Listed.{ListsWeights};
-ghost use Rattle.tsp_file.specs.Relayout.{HasListedWeights, CanGo, IsRefused, IsRelayout};
+ghost use Rattle.std.specs.Prelude.{MatchResult};
+ghost use Rattle.tsp_file.specs.Relayout.{CanGo, IsRefused, IsRelayout};
 ghost use Rattle.tsp_file.specs.Way.{LeadsTo};
 
 use crate::fault::RelayoutFault;
 use crate::file::File;
 use crate::way::Way;
-use crate::weights::ListedWeights;
 use std::alloc::Global;
-use tsp_draft::valid_fields_are_in_range;
-use tsp_format::{Layout, WeightFormat, WeightKind};
+use tsp_format::Layout;
 
 impl File {
     /// This file with its weights in another layout, or why not and the file itself, unchanged.
@@ -47,7 +43,7 @@ impl File {
             (λ way. CanGo self.now to × LeadsTo self.now to way)
             (λ fault. IsRefused self.now to fault) }
     {
-        let Some(listed) = self.listed() else {
+        let Some(listed) = self.as_matrix() else {
             return Err(RelayoutFault::NotExplicit);
         };
         if listed.are_in(to) {
@@ -68,30 +64,6 @@ impl File {
         match listed.laid_out(alloc, to) {
             Ok(weights) => Ok(Way::Anew(weights)),
             Err(_) => Err(RelayoutFault::OutOfMemory),
-        }
-    }
-
-    /// The weights of this file with their layout, if they are listed.
-    fn listed(&self) -> Option<ListedWeights<'_>>
-        ensures { MatchOption result (¬ HasListedWeights self.now)
-            (λ listed. (self.now.weight_kind ≡ Some Explicit)
-            × ListsWeights self.now listed.layout listed.nodes listed.weights.now) }
-    {
-        let _valid = self.fields();
-        valid_fields_are_in_range();
-        if !matches!(self.weight_kind(), Some(WeightKind::Explicit)) {
-            return None;
-        }
-        let Some(weights) = self.weights() else {
-            return None;
-        };
-        let Some(nodes) = self.dimension() else {
-            unreachable!();
-        };
-        match self.weight_format() {
-            Some(WeightFormat::Listed(layout)) => Some(ListedWeights::of(layout, nodes, weights)),
-            Some(WeightFormat::ByFunction) => unreachable!(),
-            None => unreachable!(),
         }
     }
 }

@@ -35,11 +35,14 @@ pub fn first_asymmetric(nodes: u32, weights: &[i64]) -> Option<(u32, u32)>
 }
 
 /// The weights of a matrix over some nodes, as a layout lists them.
-#[derive(Clone, Copy)]
-pub(crate) struct ListedWeights<'a> {
-    layout: Layout,
-    nodes: u32,
-    weights: &'a [i64],
+#[derive(Clone, Copy, Debug)]
+pub struct ListedWeights<'a> {
+    /// EDGE_WEIGHT_FORMAT.
+    pub layout: Layout,
+    /// DIMENSION.
+    pub nodes: u32,
+    /// EDGE_WEIGHT_SECTION: the weights, in the order of the layout.
+    pub weights: &'a [i64],
     ghost some: { 1 ≤ nodes },
     ghost most: { nodes ≤ most_matrix_nodes },
     ghost filled: { length weights.now ≡ length (cells layout nodes) },

@@ -172,9 +172,9 @@ fn put_solution<W: Write>(piece: &mut Piece, out: &mut Watched<W>, file: &File)
 {
     match file.kind() {
         Kind::Tour => put_tours(piece, out, file.tours().unwrap_or(&[])),
-        Kind::Potentials => put_scale(piece, out, file.scale()),
         Kind::Branches => put_tree(piece, out, file),
-        Kind::Tsp | Kind::Atsp | Kind::Cvrp => unreachable!(),
+        // Which is no instance, and so holds potentials.
+        _ => put_scale(piece, out, file.scale()),
     }
 }
 

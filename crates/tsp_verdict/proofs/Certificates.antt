@@ -3,6 +3,7 @@ use Rattle.std.proofs.Common.{◌≡◌, ℕ, ◌-◌, ◌<◌, ◌≤◌, true,
 use Rattle.std.specs.Prelude.{◌⊎◌, ℤ, pos, IsTrue}
 use Rattle.std.specs.List.{All, AllPairs}
 use Rattle.std.proofs.lemmas.Bool.{false≢true}
+use Rattle.std.proofs.lemmas.Int.{ints}
 use Rattle.std.proofs.Math.Nat.{lt_of_not-le}
 use Rattle.tsp_format.specs.Cells.{IsNode}
 use Rattle.tsp_format.specs.declared.kinds.Kind.TheVariants as kinds
@@ -13,12 +14,13 @@ use Rattle.tsp_reason.specs.declared.verdict.Reason.{Reason}
 use Rattle.tsp_reason.specs.declared.verdict.Reason.TheVariants.{TooFewNodes, NotPotentials, PotentialsDimension, PotentialsKind, MultiplierNotFixed, MultiplierRepeated, DualInfeasible, DepotCount, DepotDemand, FixedEdgesInRoutes, DepotInRoute, Unserved, Overload, NotBranches, BranchesDimension, BadComb, BranchTwice, BadLeaf}
 use Rattle.tsp_verdict.specs.Multiplied.{AreListed, IsUnlisted, IsPairRepeated, pair_at}
 use Rattle.tsp_verdict.specs.Places.{IsFirstPlace}
-use Rattle.tsp_verdict.specs.Reasons.{NoneBefore, IsFirstReason}
+use Rattle.tsp_verdict.specs.Reasons.{rank_of, NoneBefore, IsFirstReason}
 use Rattle.tsp_verdict.specs.Solution.{nodes_of, fixed_of}
-use Rattle.tsp_verdict.specs.Tours.{rank_of_tours}
 use Rattle.tsp_verdict.specs.Tours.{IsFirstAgainstTour, StandsAgainstTour}
-use Rattle.tsp_verdict.specs.Certificate.{has_wanted, multipliers_in, StandsAgainstPotentials}
-use Rattle.tsp_verdict.specs.Certified.{is_bounded, IsBoundBy, StandsAgainstCertificate, StandsAgainstCertified, IsFirstAgainstCertified}
+use Rattle.tsp_file.specs.Cost.{cost}
+use Rattle.tsp_theory.specs.Assignment.{IsFirstBroken}
+use Rattle.tsp_verdict.specs.Certificate.{has_wanted, scale_in, rows_in, columns_in, multipliers_in, StandsAgainstPotentials, IsBoundByDuals}
+use Rattle.tsp_verdict.specs.Certified.{is_bounded, IsBoundBy, IsCertified, StandsAgainstCertificate, StandsAgainstCertified, IsFirstAgainstCertified}
 use Rattle.tsp_verdict.specs.Tree.{IsBoundByTree}
 use Rattle.tsp_reason.specs.declared.certificate.Certificate.{Certificate}
 use Rattle.tsp_reason.specs.declared.certificate.Certificate.TheVariants.{Potentials, Branches}
@@ -27,10 +29,10 @@ use Rattle.tsp_format.specs.declared.kinds.Kind.{Kind}
 -- ---- against the certificate alone
 
 -- what is known before a rank rules out the reasons before it
-pub none_before : (inst pot : Fields) (rank : ℕ) → (10 < rank → is_certificate pot.kind ≡ true) → (11 < rank → nodes_of pot ≡ nodes_of inst)
-    → (12 < rank → has_wanted inst.kind pot ≡ true) → (13 < rank → (index : ℕ) → StandsAgainstPotentials inst pot (MultiplierNotFixed index) → ⊥)
-    → (14 < rank → (index : ℕ) → StandsAgainstPotentials inst pot (MultiplierRepeated index) → ⊥)
-    → (15 < rank → (i j : ℕ) → StandsAgainstPotentials inst pot (DualInfeasible i j) → ⊥) → NoneBefore (StandsAgainstPotentials inst pot) rank_of_tours rank
+pub none_before : (inst pot : Fields) (rank : ℕ) → (16 < rank → is_certificate pot.kind ≡ true) → (17 < rank → nodes_of pot ≡ nodes_of inst)
+    → (18 < rank → has_wanted inst.kind pot ≡ true) → (19 < rank → (index : ℕ) → StandsAgainstPotentials inst pot (MultiplierNotFixed index) → ⊥)
+    → (20 < rank → (index : ℕ) → StandsAgainstPotentials inst pot (MultiplierRepeated index) → ⊥)
+    → (21 < rank → (i j : ℕ) → StandsAgainstPotentials inst pot (DualInfeasible i j) → ⊥) → NoneBefore (StandsAgainstPotentials inst pot) rank
 none_before inst pot rank sort size wanted fixed once good NotPotentials low stands = false≢true (sym stands ∙ sort low)
 none_before inst pot rank sort size wanted fixed once good PotentialsDimension low stands = stands (size low)
 none_before inst pot rank sort size wanted fixed once good PotentialsKind low stands = false≢true (sym stands ∙ wanted low)
@@ -67,10 +69,10 @@ none_repeated n inst pot are index stands =
 pub not_fixed : (inst pot : Fields) (fixed : List (ℕ × ℕ)) (triples : List (ℕ × ℕ × ℤ)) (index : ℕ) → fixed ≡ fixed_of inst → triples ≡ multipliers_in pot
     → inst.kind ≡ Some kinds.Tsp → is_certificate pot.kind ≡ true
     → nodes_of pot ≡ nodes_of inst → has_wanted (Some kinds.Tsp) pot ≡ true → IsFirstPlace (IsUnlisted fixed triples) triples index
-    → IsFirstReason (StandsAgainstPotentials inst pot) rank_of_tours (MultiplierNotFixed index)
+    → IsFirstReason (StandsAgainstPotentials inst pot) (MultiplierNotFixed index)
 not_fixed inst pot fixed triples index fixed_are triples_are kind sort size wanted first = record {
   stands = (kind, subst₂ (λ fs ts. IsFirstPlace (IsUnlisted fs ts) ts index) fixed_are triples_are first);
-  none_before = none_before inst pot 13 (λ low. sort) (λ low. size) (λ low. rw kind wanted) (λ low. absurd (omega (arith, low)))
+  none_before = none_before inst pot 19 (λ low. sort) (λ low. size) (λ low. rw kind wanted) (λ low. absurd (omega (arith, low)))
       (λ low. absurd (omega (arith, low))) (λ low. absurd (omega (arith, low)));
 }
 
@@ -78,10 +80,10 @@ not_fixed inst pot fixed triples index fixed_are triples_are kind sort size want
 pub repeats : (inst pot : Fields) (fixed : List (ℕ × ℕ)) (triples : List (ℕ × ℕ × ℤ)) (index : ℕ) → fixed ≡ fixed_of inst → triples ≡ multipliers_in pot
     → inst.kind ≡ Some kinds.Tsp → is_certificate pot.kind ≡ true
     → nodes_of pot ≡ nodes_of inst → has_wanted (Some kinds.Tsp) pot ≡ true → AreListed fixed triples → IsFirstPlace (IsPairRepeated triples) triples index
-    → IsFirstReason (StandsAgainstPotentials inst pot) rank_of_tours (MultiplierRepeated index)
+    → IsFirstReason (StandsAgainstPotentials inst pot) (MultiplierRepeated index)
 repeats inst pot fixed triples index fixed_are triples_are kind sort size wanted listed first = record {
   stands = (kind, subst (λ ts. IsFirstPlace (IsPairRepeated ts) ts index) triples_are first);
-  none_before = none_before inst pot 14 (λ low. sort) (λ low. size) (λ low. rw kind wanted)
+  none_before = none_before inst pot 20 (λ low. sort) (λ low. size) (λ low. rw kind wanted)
       (λ low. none_unlisted inst pot (subst₂ (λ fs ts. AreListed fs ts) fixed_are triples_are listed)) (λ low. absurd (omega (arith, low)))
       (λ low. absurd (omega (arith, low)));
 }
@@ -103,9 +105,39 @@ none_of_tsp inst pot kind sort size wanted on_pairs listed =
     other : Some kinds.Tsp ≡ Some kinds.Atsp → ⊥
     other e = cc
 
+-- potentials of another sort than the TYPE of the instance wants
+pub kind_first : (inst pot : Fields) → is_certificate pot.kind ≡ true → nodes_of pot ≡ nodes_of inst → has_wanted inst.kind pot ≡ false
+    → IsFirstReason (StandsAgainstPotentials inst pot) PotentialsKind
+kind_first inst pot sort size other = record {
+  stands = other;
+  none_before = none_before inst pot 18 (λ low. sort) (λ low. size) (λ low. absurd (omega (arith, low))) (λ low. absurd (omega (arith, low)))
+      (λ low. absurd (omega (arith, low))) (λ low. absurd (omega (arith, low)));
+}
+
+not_undirected : (kind : Option Kind) → kind ≡ Some kinds.Atsp → kind ≡ Some kinds.Tsp → ⊥
+not_undirected kind atsp tsp = cc
+
+-- the first pair that breaks the duals of an ATSP is the first reason
+pub broken_first : (inst pot : Fields) (i j : ℕ) → inst.kind ≡ Some kinds.Atsp → is_certificate pot.kind ≡ true → nodes_of pot ≡ nodes_of inst
+    → has_wanted (Some kinds.Atsp) pot ≡ true → IsFirstBroken (nodes_of inst) (cost inst) (scale_in pot) (rows_in pot) (columns_in pot) i j
+    → IsFirstReason (StandsAgainstPotentials inst pot) (DualInfeasible i j)
+broken_first inst pot i j kind sort size wanted broken = record {
+  stands = (kind, broken);
+  none_before = none_before inst pot 21 (λ low. sort) (λ low. size) (λ low. rw kind wanted) (λ low index stands. not_undirected inst.kind kind stands.0)
+      (λ low index stands. not_undirected inst.kind kind stands.0) (λ low. absurd (omega (arith, low)));
+}
+
+-- no reason stands against duals that give a bound
+pub none_of_atsp : (inst pot : Fields) (bound : ℤ) → inst.kind ≡ Some kinds.Atsp → is_certificate pot.kind ≡ true → nodes_of pot ≡ nodes_of inst
+    → has_wanted (Some kinds.Atsp) pot ≡ true → IsCertified Potentials inst pot bound → (reason : Reason) → StandsAgainstPotentials inst pot reason → ⊥
+none_of_atsp inst pot bound kind sort size wanted certified =
+    let by_duals : IsBoundByDuals inst pot bound = subst (λ k. IsBoundBy Potentials k inst pot bound) kind certified.0 in
+    none_stands inst pot sort size (rw kind wanted) (λ index stands. not_undirected inst.kind kind stands.0) (λ index stands. not_undirected inst.kind kind stands.0)
+    (λ i j stands. let pair = stands.1 in omega (arith, ints, pair.broken, by_duals.0 i j pair.row pair.column pair.other))
+
 -- ---- with those against the tour
 
-pub tour_rank : (inst sol : Fields) (reason : Reason) → StandsAgainstTour inst sol reason → rank_of_tours reason < 10
+pub tour_rank : (inst sol : Fields) (reason : Reason) → StandsAgainstTour inst sol reason → rank_of reason < 16
 tour_rank inst sol NotPotentials stands = absurd stands
 tour_rank inst sol PotentialsDimension stands = absurd stands
 tour_rank inst sol PotentialsKind stands = absurd stands
@@ -125,7 +157,7 @@ tour_rank inst sol (BranchTwice index) stands = absurd stands
 tour_rank inst sol (BadLeaf index) stands = absurd stands
 tour_rank inst sol reason stands = omega arith
 
-certificate_rank : (by : Certificate) (inst cert : Fields) (reason : Reason) → StandsAgainstCertificate by inst cert reason → 10 ≤ rank_of_tours reason
+certificate_rank : (by : Certificate) (inst cert : Fields) (reason : Reason) → StandsAgainstCertificate by inst cert reason → 16 ≤ rank_of reason
 certificate_rank Potentials inst cert NotPotentials stands = omega arith
 certificate_rank Potentials inst cert PotentialsDimension stands = omega arith
 certificate_rank Potentials inst cert PotentialsKind stands = omega arith
@@ -147,19 +179,19 @@ tour_first by inst sol cert reason first = record {
   none_before = λ other low stands. by_side other low stands;
 }
   where
-    by_side : (other : Reason) → rank_of_tours other < rank_of_tours reason → StandsAgainstTour inst sol other ⊎ StandsAgainstCertificate by inst cert other → ⊥
+    by_side : (other : Reason) → rank_of other < rank_of reason → StandsAgainstTour inst sol other ⊎ StandsAgainstCertificate by inst cert other → ⊥
     by_side other low (inl stands) = first.none_before other low stands
     by_side other low (inr stands) = omega (arith, low, tour_rank inst sol reason first.stands, certificate_rank by inst cert other stands)
 
 -- where none stands against the tour, the first against the certificate is the first of all
 pub certificate_first : (by : Certificate) (inst sol cert : Fields) (reason : Reason) → ((other : Reason) → StandsAgainstTour inst sol other → ⊥)
-    → IsFirstReason (StandsAgainstCertificate by inst cert) rank_of_tours reason → IsFirstAgainstCertified by inst sol cert reason
+    → IsFirstReason (StandsAgainstCertificate by inst cert) reason → IsFirstAgainstCertified by inst sol cert reason
 certificate_first by inst sol cert reason none first = record {
   stands = inr first.stands;
   none_before = λ other low stands. by_side other low stands;
 }
   where
-    by_side : (other : Reason) → rank_of_tours other < rank_of_tours reason → StandsAgainstTour inst sol other ⊎ StandsAgainstCertificate by inst cert other → ⊥
+    by_side : (other : Reason) → rank_of other < rank_of reason → StandsAgainstTour inst sol other ⊎ StandsAgainstCertificate by inst cert other → ⊥
     by_side other low (inl stands) = none other stands
     by_side other low (inr stands) = first.none_before other low stands
 

@@ -12,10 +12,8 @@ use Rattle.tsp_format.specs.Limits.{most_nodes, most_tour_nodes, most_changes}
 use Rattle.tsp_format.specs.declared.steps.TreeStep.{TreeStep}
 use Rattle.tsp_format.specs.Steps.{Step, Branch, Leaf, step_of, steps_of, are_whole, branch_count, leaf_count, change_count}
 use Rattle.tsp_draft.specs.Fields.{Fields}
-use Rattle.tsp_draft.specs.Valid.{AreTours, AreDepots, AreTriples, IsNodeList, AreSets, AreCombs, IsStep, AreTreeSteps}
-use Rattle.tsp_theory.specs.Numbers.{AreMultipliers}
+use Rattle.tsp_draft.specs.Valid.{AreTours, AreDepots, IsNodeList, IsStep, AreTreeSteps}
 use Rattle.tsp_branch.specs.Listed.{IsStepOf}
-use Rattle.tsp_verdict.specs.Numbered.{AreSomeSets}
 use Rattle.tsp_verdict.specs.Solution.{nodes_of, tours_of, visited, nodes_in}
 use Rattle.tsp_verdict.proofs.Pieces.{nodes_in_is}
 
@@ -63,24 +61,7 @@ depots_in f depots held k d lt =
     let same : nodes_of f ≡ held.n = ap (λ (o : Option ℕ). unwrap_or o 0) held.dimension in
     (node.0, omega (arith, node.1, same))
 
-pub multipliers_are : (f : Fields) (triples : List (ℕ × ℕ × ℤ)) → AreTriples f triples → AreMultipliers triples
-multipliers_are f triples held = record {
-  few = held.few;
-  each = λ k d lt. let triple = held.triples_of_nodes k d lt in (triple.0.2, triple.1);
-}
-
-pub multiplied_nodes : (f : Fields) (triples : List (ℕ × ℕ × ℤ)) → AreTriples f triples → All (λ triple. IsNode (nodes_of f) triple.0 × IsNode (nodes_of f) triple.1) triples
-multiplied_nodes f triples held k d lt =
-    let pair = (held.triples_of_nodes k d lt).0 in
-    let same : nodes_of f ≡ held.n = ap (λ (o : Option ℕ). unwrap_or o 0) held.dimension in
-    ((pair.0.0, omega (arith, pair.0.1, same)), (pair.1.0, omega (arith, pair.1.1, same)))
-
--- ---- combs and steps
-
-pub combs_hold : (f : Fields) (combs : List (List (List ℕ))) → AreCombs f combs → AreSomeSets (nodes_of f) combs
-combs_hold f combs held =
-    let same : held.n ≡ nodes_of f = sym (ap (λ (d : Option ℕ). unwrap_or d 0) held.dimension) in
-    record { few = held.few; sets = subst (λ (n : ℕ). All (AreSets n) combs) same held.sets; few_nodes = held.few_nodes }
+-- ---- steps
 
 -- a leaf's differences are some of all
 few_changes : (n most : ℕ) (steps : List Step) → most < 2 ^ 32 → AllByRecursion (IsStep n) steps → change_count steps ≤ most → AllByRecursion (IsStepOf n) steps

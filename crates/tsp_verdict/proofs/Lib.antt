@@ -1,6 +1,7 @@
 pub mod CarriedBounds
 pub mod Certificates
 pub mod FilesHold
+pub mod HeldNumbers
 pub mod FixedPairs
 pub mod Links
 pub mod MarkedNodes

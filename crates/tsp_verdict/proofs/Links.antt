@@ -4,7 +4,7 @@ use Rattle.std.specs.Prelude.{◌⊎◌}
 use Rattle.std.specs.List.{AllPairs}
 use Rattle.std.proofs.lemmas.Bool.{cases_lt}
 use Rattle.tsp_theory.specs.Cycle.{IsCycle, links_to}
-use Rattle.tsp_verdict.specs.Next.{AreNext}
+use Rattle.tsp_verdict.specs.states.Next.{AreNext}
 
 -- the k-th link goes from the k-th node to the one after it
 link_at : (end node : ℕ) (nodes : List ℕ) (k : ℕ) (d : ℕ × ℕ) → k < suc (length nodes) → get_or (links_to end node nodes) k d ≡ (get_or (node ∷ nodes) k 0, get_or (nodes ++ end ∷ []) k 0)

@@ -4,7 +4,7 @@ use Rattle.std.specs.Prelude.{◌⊎◌, MatchOption}
 use Rattle.std.specs.List.{AllPairs, Contains}
 use Rattle.std.proofs.lemmas.Bool.{cases_lt, false≢true}
 use Rattle.std.proofs.lemmas.List.{get_or_default}
-use Rattle.tsp_verdict.specs.Marks.{Marked, StandsAfter}
+use Rattle.tsp_verdict.specs.states.Marks.{Marked, StandsAfter}
 use Rattle.tsp_verdict.specs.Places.{node_at, HoldsAtNone, IsRepeated, IsFirstPlace}
 
 set_keeps : (seen : List Bool) (k m : ℕ) → get_or seen m false ≡ true → get_or (set seen k true) m false ≡ true

@@ -15,7 +15,8 @@ use Rattle.tsp_branch.specs.Sets.{AreSetsOf}
 use Rattle.tsp_branch.specs.Combed.{plain}
 use Rattle.tsp_branch.specs.CombsOfSets.{comb_with, of_comb, combs_from, combs_of}
 use Rattle.tsp_branch.specs.GoodCombs.{AreInOrder}
-use Rattle.tsp_verdict.specs.Numbered.{with_number, numbered_from, AreSomeSets}
+use Rattle.tsp_file.specs.Typed.{AreSomeSets}
+use Rattle.tsp_verdict.specs.states.Numbered.{with_number, numbered_from}
 
 -- ---- the sets of one comb
 

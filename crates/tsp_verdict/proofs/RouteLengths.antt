@@ -10,7 +10,7 @@ use Rattle.tsp_format.specs.Limits.{most_weight}
 use Rattle.tsp_theory.specs.Cycle.{links_to}
 use Rattle.tsp_theory.specs.Length.{sum_int_by, length_of}
 use Rattle.tsp_verdict.specs.Plan.{plan_length}
-use Rattle.tsp_verdict.specs.Sums.{IsSumOf}
+use Rattle.tsp_verdict.specs.states.Sums.{IsSumOf}
 
 -- the sum of the costs from a node along others to an end
 abbrev pub length_to : (ℕ → ℕ → ℤ) → ℕ → ℕ → List ℕ → ℤ

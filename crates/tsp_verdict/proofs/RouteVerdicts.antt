@@ -10,7 +10,7 @@ use Rattle.tsp_draft.specs.Valid.{IsDemand}
 use Rattle.tsp_file.specs.Cost.{cost}
 use Rattle.tsp_reason.specs.declared.verdict.Reason.{Reason}
 use Rattle.tsp_reason.specs.declared.verdict.Reason.TheVariants.{DepotInRoute, NodeOutOfRange, RepeatedNode, Unserved, Overload}
-use Rattle.tsp_verdict.specs.Marks.{Marked}
+use Rattle.tsp_verdict.specs.states.Marks.{Marked}
 use Rattle.tsp_verdict.specs.Places.{IsFirstPlace, IsLarger, IsAt, IsRepeated}
 use Rattle.tsp_verdict.specs.Plan.{demand_of, load_of, IsCustomer, plan_length, IsLeast, depot_of, demands_of, capacity_of, total_of, AreCustomers}
 use Rattle.tsp_verdict.specs.Routes.{IsOverloaded, StandsAgainstRoutes, NoneOfRoutesUpTo, IsFirstAgainstRoutes, IsPlanned}
@@ -21,7 +21,7 @@ use Rattle.tsp_verdict.proofs.RouteReasons.{after_depot, after_range, after_repe
 
 -- ---- places
 
-pub depot_first : (inst sol : Fields) (nodes : List ℕ) (depot place : ℕ) → nodes ≡ visited sol → depot ≡ depot_of inst → NoneOfRoutesUpTo inst sol 7
+pub depot_first : (inst sol : Fields) (nodes : List ℕ) (depot place : ℕ) → nodes ≡ visited sol → depot ≡ depot_of inst → NoneOfRoutesUpTo inst sol 10
     → IsFirstPlace (IsAt depot nodes) nodes place → IsFirstAgainstRoutes inst sol (DepotInRoute place)
 depot_first inst sol nodes depot place are is none first = record {
   stands = subst (λ d. IsFirstPlace (IsAt d (visited sol)) (visited sol) place) is (subst (λ (xs : List ℕ). IsFirstPlace (IsAt depot xs) xs place) are first);
@@ -29,20 +29,20 @@ depot_first inst sol nodes depot place are is none first = record {
 }
 
 pub no_depot : (inst sol : Fields) (nodes : List ℕ) (depot : ℕ) → nodes ≡ visited sol → depot ≡ depot_of inst
-    → NoneOfRoutesUpTo inst sol 7 → All (λ node. node ≢ depot) nodes → NoneOfRoutesUpTo inst sol 8
+    → NoneOfRoutesUpTo inst sol 10 → All (λ node. node ≢ depot) nodes → NoneOfRoutesUpTo inst sol 11
 no_depot inst sol nodes depot are is none others =
     let all : All (λ node. node ≢ depot_of inst) (visited sol) = subst (λ d. All (λ node. node ≢ d) (visited sol)) is (subst (λ (xs : List ℕ). All (λ node. node ≢ depot) xs) are others) in
     after_depot inst sol none (λ place first. all (place - 1) 0 (omega (arith, first.here.0, first.here.1)) first.holds)
 
-pub larger_first : (inst sol : Fields) (nodes : List ℕ) (n place : ℕ) → nodes ≡ visited sol → n ≡ nodes_of inst → NoneOfRoutesUpTo inst sol 8
+pub larger_first : (inst sol : Fields) (nodes : List ℕ) (n place : ℕ) → nodes ≡ visited sol → n ≡ nodes_of inst → NoneOfRoutesUpTo inst sol 11
     → IsFirstPlace (IsLarger n nodes) nodes place → IsFirstAgainstRoutes inst sol (NodeOutOfRange place)
 larger_first inst sol nodes n place are is none first = record {
   stands = subst (λ m. IsFirstPlace (IsLarger m (visited sol)) (visited sol) place) is (subst (λ (xs : List ℕ). IsFirstPlace (IsLarger n xs) xs place) are first);
   none_before = none;
 }
 
-pub customers : (inst sol : Fields) (nodes : List ℕ) (n depot : ℕ) → nodes ≡ visited sol → n ≡ nodes_of inst → depot ≡ depot_of inst → NoneOfRoutesUpTo inst sol 8
-    → All (λ node. 1 ≤ node) nodes → All (λ node. node ≢ depot) nodes → All (λ node. node ≤ n) nodes → AreCustomers inst sol × NoneOfRoutesUpTo inst sol 9
+pub customers : (inst sol : Fields) (nodes : List ℕ) (n depot : ℕ) → nodes ≡ visited sol → n ≡ nodes_of inst → depot ≡ depot_of inst → NoneOfRoutesUpTo inst sol 11
+    → All (λ node. 1 ≤ node) nodes → All (λ node. node ≢ depot) nodes → All (λ node. node ≤ n) nodes → AreCustomers inst sol × NoneOfRoutesUpTo inst sol 12
 customers inst sol nodes n depot are n_is depot_is none low other high =
     let all : All (IsCustomer n depot) nodes = λ k d lt. ((low k d lt, high k d lt), other k d lt) in
     let there : AreCustomers inst sol =
@@ -57,7 +57,7 @@ pub customers_in : (inst sol : Fields) (nodes : List ℕ) (n : ℕ) → nodes �
 customers_in inst sol nodes n are is all =
     subst (λ m. All (IsNode m) nodes) (sym is) (subst (λ (xs : List ℕ). All (IsNode (nodes_of inst)) xs) (sym are) (λ k d lt. (all k d lt).0))
 
-pub repeated_first : (inst sol : Fields) (nodes : List ℕ) (place : ℕ) → nodes ≡ visited sol → NoneOfRoutesUpTo inst sol 9 → IsFirstPlace (IsRepeated nodes) nodes place
+pub repeated_first : (inst sol : Fields) (nodes : List ℕ) (place : ℕ) → nodes ≡ visited sol → NoneOfRoutesUpTo inst sol 12 → IsFirstPlace (IsRepeated nodes) nodes place
     → IsFirstAgainstRoutes inst sol (RepeatedNode place)
 repeated_first inst sol nodes place are none first = record {
   stands = subst (λ (xs : List ℕ). IsFirstPlace (IsRepeated xs) xs place) are first;
@@ -70,9 +70,9 @@ repeated_first inst sol nodes place are none first = record {
 pub record IsMarked (inst sol : Fields) (seen : List Bool) (size : ℕ) : Type 0 where
   pub marks : Marked (visited sol) seen (length (visited sol))
   pub wide : size ≡ nodes_of inst + 1
-  pub none : NoneOfRoutesUpTo inst sol 10
+  pub none : NoneOfRoutesUpTo inst sol 14
 
-pub is_marked : (inst sol : Fields) (nodes : List ℕ) (seen : List Bool) (size : ℕ) → nodes ≡ visited sol → size ≡ nodes_of inst + 1 → NoneOfRoutesUpTo inst sol 9
+pub is_marked : (inst sol : Fields) (nodes : List ℕ) (seen : List Bool) (size : ℕ) → nodes ≡ visited sol → size ≡ nodes_of inst + 1 → NoneOfRoutesUpTo inst sol 12
     → Marked nodes seen (length nodes) → IsMarked inst sol seen size
 is_marked inst sol nodes seen size are wide none m =
     let there : Marked (visited sol) seen (length (visited sol)) = subst (λ (xs : List ℕ). Marked xs seen (length xs)) are m in
@@ -96,13 +96,13 @@ pub all_served : (inst sol : Fields) (seen : List Bool) (size depot : ℕ) → I
 all_served inst sol seen size depot m is all node customer =
     marked_there (visited sol) seen node m.marks (all node customer.0.0 (omega (arith, customer.0.1, m.wide)) (λ same. customer.1 (same ∙ is)))
 
-pub none_unserved : (inst sol : Fields) → NoneOfRoutesUpTo inst sol 10 → ((node : ℕ) → IsCustomer (nodes_of inst) (depot_of inst) node → Contains (visited sol) node) → NoneOfRoutesUpTo inst sol 11
+pub none_unserved : (inst sol : Fields) → NoneOfRoutesUpTo inst sol 14 → ((node : ℕ) → IsCustomer (nodes_of inst) (depot_of inst) node → Contains (visited sol) node) → NoneOfRoutesUpTo inst sol 15
 none_unserved inst sol none served = after_served inst sol none (λ node first. first.unserved (served node first.customer))
 
 -- ---- what is carried
 
 pub overload_first : (inst sol : Fields) (routes : List (List ℕ)) (demands : List ℤ) (capacity : ℤ) (place : ℕ) → routes ≡ tours_of sol → demands ≡ demands_of inst → capacity ≡ capacity_of inst
-    → NoneOfRoutesUpTo inst sol 11 → IsFirstPlace (IsOverloaded demands capacity routes) routes place → IsFirstAgainstRoutes inst sol (Overload place)
+    → NoneOfRoutesUpTo inst sol 15 → IsFirstPlace (IsOverloaded demands capacity routes) routes place → IsFirstAgainstRoutes inst sol (Overload place)
 overload_first inst sol routes demands capacity place are demands_are capacity_is none first = record {
   stands = subst (λ (z : ℤ). IsFirstPlace (IsOverloaded (demands_of inst) z (tours_of sol)) (tours_of sol) place) capacity_is
       (subst (λ (ds : List ℤ). IsFirstPlace (IsOverloaded ds capacity (tours_of sol)) (tours_of sol) place) demands_are

@@ -33,19 +33,23 @@ pub after_count : (inst sol : Fields) → NoneOfTourUpTo inst sol 5 → length (
 after_count inst sol before one TourCount low stands = stands one
 after_count inst sol before one reason low stands = before reason (omega (arith, low)) stands
 
-pub after_length : (inst sol : Fields) → NoneOfTourUpTo inst sol 6 → length (visited sol) ≡ nodes_of inst → NoneOfTourUpTo inst sol 7
+pub after_length : (inst sol : Fields) → NoneOfTourUpTo inst sol 6 → length (visited sol) ≡ nodes_of inst → NoneOfTourUpTo inst sol 11
 after_length inst sol before full TourLength low stands = stands full
+after_length inst sol before full DepotCount low stands = stands
+after_length inst sol before full DepotDemand low stands = stands
+after_length inst sol before full FixedEdgesInRoutes low stands = stands
+after_length inst sol before full (DepotInRoute place) low stands = stands
 after_length inst sol before full reason low stands = before reason (omega (arith, low)) stands
 
-pub after_range : (inst sol : Fields) → NoneOfTourUpTo inst sol 7 → ((place : ℕ) → IsFirstPlace (IsLarger (nodes_of inst) (visited sol)) (visited sol) place → ⊥) → NoneOfTourUpTo inst sol 8
+pub after_range : (inst sol : Fields) → NoneOfTourUpTo inst sol 11 → ((place : ℕ) → IsFirstPlace (IsLarger (nodes_of inst) (visited sol)) (visited sol) place → ⊥) → NoneOfTourUpTo inst sol 12
 after_range inst sol before inside (NodeOutOfRange place) low stands = inside place stands
 after_range inst sol before inside reason low stands = before reason (omega (arith, low)) stands
 
-pub after_repeats : (inst sol : Fields) → NoneOfTourUpTo inst sol 8 → ((place : ℕ) → IsFirstPlace (IsRepeated (visited sol)) (visited sol) place → ⊥) → NoneOfTourUpTo inst sol 9
+pub after_repeats : (inst sol : Fields) → NoneOfTourUpTo inst sol 12 → ((place : ℕ) → IsFirstPlace (IsRepeated (visited sol)) (visited sol) place → ⊥) → NoneOfTourUpTo inst sol 13
 after_repeats inst sol before once (RepeatedNode place) low stands = once place stands
 after_repeats inst sol before once reason low stands = before reason (omega (arith, low)) stands
 
-pub after_fixed : (inst sol : Fields) → NoneOfTourUpTo inst sol 9 → ((index : ℕ)
+pub after_fixed : (inst sol : Fields) → NoneOfTourUpTo inst sol 13 → ((index : ℕ)
     → IsFirstPlace (IsUnused (is_directed inst.kind) (visited sol) (fixed_of inst)) (fixed_of inst) index → ⊥) → (reason : Reason)
     → StandsAgainstTour inst sol reason → ⊥
 after_fixed inst sol before used (FixedEdgeUnused index) stands = used index stands

@@ -11,8 +11,8 @@ use Rattle.tsp_theory.specs.Tour.{Uses}
 use Rattle.tsp_cost.specs.Tours.{is_directed, IsTourOf}
 use Rattle.tsp_theory.specs.Cycle.{IsCycle}
 use Rattle.tsp_reason.specs.declared.verdict.Reason.{Reason}
-use Rattle.tsp_reason.specs.declared.verdict.Reason.TheVariants.{FixedEdgeUnused}
-use Rattle.tsp_verdict.specs.Places.{IsFirstPlace, HoldsAtNone, IsRepeated, IsUnused}
+use Rattle.tsp_reason.specs.declared.verdict.Reason.TheVariants.{NodeOutOfRange, RepeatedNode, FixedEdgeUnused}
+use Rattle.tsp_verdict.specs.Places.{IsFirstPlace, HoldsAtNone, IsLarger, IsRepeated, IsUnused}
 use Rattle.tsp_verdict.specs.Solution.{nodes_of, fixed_of, tours_of, visited}
 use Rattle.tsp_verdict.specs.Tours.{StandsAgainstTour, NoneOfTourUpTo, IsFirstAgainstTour}
 use Rattle.tsp_verdict.proofs.MarkedNodes.{all_apart}
@@ -29,7 +29,7 @@ visited_is sol tour only = ap concat only ∙ append-nil tour
 
 -- one tour that has so many nodes
 pub tour_found : (inst sol : Fields) (tour : List ℕ) → tours_of sol ≡ tour ∷ [] → length tour ≡ nodes_of inst → All (λ node. 1 ≤ node) (visited sol) → NoneOfTourUpTo inst sol 5
-    → (tours_of sol ≡ tour ∷ []) × (length tour ≡ nodes_of inst) × All (λ node. 1 ≤ node) tour × NoneOfTourUpTo inst sol 7
+    → (tours_of sol ≡ tour ∷ []) × (length tour ≡ nodes_of inst) × All (λ node. 1 ≤ node) tour × NoneOfTourUpTo inst sol 11
 tour_found inst sol tour only full low none =
     let low_all : All (λ node. 1 ≤ node) tour = subst (λ (xs : List ℕ). All (λ node. 1 ≤ node) xs) (visited_is sol tour only) low in
     (only, full, low_all, after_length inst sol (after_count inst sol none (ap length only)) (ap length (visited_is sol tour only) ∙ full))
@@ -42,20 +42,41 @@ is_cycle n tour full low high once = record {
   once = all_apart tour once;
 }
 
+-- the first node that is too large
+pub larger_first : (inst sol : Fields) (tour : List ℕ) (n place : ℕ) → tours_of sol ≡ tour ∷ [] → n ≡ nodes_of inst → NoneOfTourUpTo inst sol 11
+    → IsFirstPlace (IsLarger n tour) tour place → IsFirstAgainstTour inst sol (NodeOutOfRange place)
+larger_first inst sol tour n place only n_is none first = record {
+  stands = subst (λ m. IsFirstPlace (IsLarger m (visited sol)) (visited sol) place) n_is
+      (subst (λ (xs : List ℕ). IsFirstPlace (IsLarger n xs) xs place) (sym (visited_is sol tour only)) first);
+  none_before = none;
+}
+
+-- where no node is too large
+pub none_up_to_repeats : (inst sol : Fields) (tour : List ℕ) → tours_of sol ≡ tour ∷ [] → NoneOfTourUpTo inst sol 11 → All (λ node. node ≤ nodes_of inst) tour
+    → NoneOfTourUpTo inst sol 12
+none_up_to_repeats inst sol tour only none high =
+    let high_all : All (λ node. node ≤ nodes_of inst) (visited sol) = subst (λ (xs : List ℕ). All (λ node. node ≤ nodes_of inst) xs) (sym (visited_is sol tour only)) high in
+    after_range inst sol none (λ place first. omega (arith, first.holds, high_all (place - 1) 0 (omega (arith, first.here.0, first.here.1))))
+
+-- the first node that an earlier place has
+pub repeated_first : (inst sol : Fields) (tour : List ℕ) (place : ℕ) → tours_of sol ≡ tour ∷ [] → NoneOfTourUpTo inst sol 12
+    → IsFirstPlace (IsRepeated tour) tour place → IsFirstAgainstTour inst sol (RepeatedNode place)
+repeated_first inst sol tour place only none first = record {
+  stands = subst (λ (xs : List ℕ). IsFirstPlace (IsRepeated xs) xs place) (sym (visited_is sol tour only)) first;
+  none_before = none;
+}
+
 -- reasons 1 to 8 are ruled out
-pub none_up_to_fixed : (inst sol : Fields) (tour : List ℕ) → tours_of sol ≡ tour ∷ [] → NoneOfTourUpTo inst sol 7 → All (λ node. node ≤ nodes_of inst) tour
-    → HoldsAtNone (IsRepeated tour) (length tour) → NoneOfTourUpTo inst sol 9
+pub none_up_to_fixed : (inst sol : Fields) (tour : List ℕ) → tours_of sol ≡ tour ∷ [] → NoneOfTourUpTo inst sol 11 → All (λ node. node ≤ nodes_of inst) tour
+    → HoldsAtNone (IsRepeated tour) (length tour) → NoneOfTourUpTo inst sol 13
 none_up_to_fixed inst sol tour only none high once =
     let is : tour ≡ visited sol = sym (visited_is sol tour only) in
-    let high_all : All (λ node. node ≤ nodes_of inst) (visited sol) = subst (λ (xs : List ℕ). All (λ node. node ≤ nodes_of inst) xs) is high in
     let once_all : HoldsAtNone (IsRepeated (visited sol)) (length (visited sol)) = subst (λ (xs : List ℕ). HoldsAtNone (IsRepeated xs) (length xs)) is once in
-    after_repeats inst sol
-    (after_range inst sol none (λ place first. omega (arith, first.holds, high_all (place - 1) 0 (omega (arith, first.here.0, first.here.1)))))
-    (λ place first. once_all place first.here.0 first.here.1 first.holds)
+    after_repeats inst sol (none_up_to_repeats inst sol tour only none high) (λ place first. once_all place first.here.0 first.here.1 first.holds)
 
 -- the first fixed pair that isn't used
 pub unused_first : (inst sol : Fields) (tour : List ℕ) (directed : Bool) (pairs : List (ℕ × ℕ)) (index : ℕ) → tours_of sol ≡ tour ∷ [] → directed ≡ is_directed inst.kind → pairs ≡ fixed_of inst
-    → NoneOfTourUpTo inst sol 9 → IsFirstPlace (IsUnused directed tour pairs) pairs index → IsFirstAgainstTour inst sol (FixedEdgeUnused index)
+    → NoneOfTourUpTo inst sol 13 → IsFirstPlace (IsUnused directed tour pairs) pairs index → IsFirstAgainstTour inst sol (FixedEdgeUnused index)
 unused_first inst sol tour directed pairs index only way listed none first = record {
   stands = subst (λ (xs : List ℕ). IsFirstPlace (IsUnused (is_directed inst.kind) xs (fixed_of inst)) (fixed_of inst) index) (sym (visited_is sol tour only))
       (subst (λ (ps : List (ℕ × ℕ)). IsFirstPlace (IsUnused (is_directed inst.kind) tour ps) ps index) listed
@@ -65,7 +86,7 @@ unused_first inst sol tour directed pairs index only way listed none first = rec
 
 -- where every fixed pair is used it is a yes
 pub is_yes : (inst sol : Fields) (tour : List ℕ) (directed : Bool) (pairs : List (ℕ × ℕ)) (size : ℤ) → tours_of sol ≡ tour ∷ [] → directed ≡ is_directed inst.kind → pairs ≡ fixed_of inst
-    → NoneOfTourUpTo inst sol 9 → IsCycle (nodes_of inst) tour → All (Uses directed tour) pairs → size ≡ length_of (cost inst) tour
+    → NoneOfTourUpTo inst sol 13 → IsCycle (nodes_of inst) tour → All (Uses directed tour) pairs → size ≡ length_of (cost inst) tour
     → ((reason : Reason) → StandsAgainstTour inst sol reason → ⊥) × ((cycle : List ℕ) × (tours_of sol ≡ cycle ∷ []) × IsTourOf inst cycle × (size ≡ length_of (cost inst) cycle))
 is_yes inst sol tour directed pairs size only way listed none cycle used measured =
     let used_all : All (Uses (is_directed inst.kind) tour) (fixed_of inst) =

@@ -33,11 +33,10 @@ use Rattle.tsp_branch.specs.Twice.{IsFirstTwiceFrom}
 use Rattle.tsp_reason.specs.declared.verdict.Reason.{Reason}
 use Rattle.tsp_reason.specs.declared.verdict.Reason.TheVariants.{NotBranches, BranchesDimension, BadComb, BranchTwice, BadLeaf}
 use Rattle.tsp_verdict.specs.Certificate.{scale_in}
-use Rattle.tsp_verdict.specs.Numbered.{numbered_from}
+use Rattle.tsp_verdict.specs.states.Numbered.{numbered_from}
 use Rattle.tsp_verdict.specs.Places.{IsFirstPlace}
 use Rattle.tsp_verdict.specs.Reasons.{NoneBefore, IsFirstReason}
 use Rattle.tsp_verdict.specs.Solution.{nodes_of, fixed_of}
-use Rattle.tsp_verdict.specs.Tours.{rank_of_tours}
 use Rattle.tsp_verdict.specs.Tree.{combs_in, steps_in, each_once, given_in, tree_in, told_combs, IsBadComb, StandsAgainstTree}
 use Rattle.tsp_verdict.specs.Certified.{IsBoundBy, IsCertified}
 use Rattle.tsp_reason.specs.declared.certificate.Certificate.TheVariants.{Branches}
@@ -127,9 +126,9 @@ no_bad_from n combs numbers leaf (listed.Leaf changes ∷ steps) bad good (inl h
 no_bad_from n combs numbers leaf (listed.Leaf changes ∷ steps) bad good (inr later) = no_bad_from n combs (all_grown changes numbers) (suc leaf) steps bad good.1 later.1
 
 -- what is known before a rank rules out the reasons before it
-none_before : (inst tree : Fields) (rank : ℕ) → (17 < rank → is_tree tree.kind ≡ true) → (18 < rank → nodes_of tree ≡ nodes_of inst)
-    → (19 < rank → (index : ℕ) → StandsAgainstTree inst tree (BadComb index) → ⊥) → (20 < rank → (index : ℕ) → StandsAgainstTree inst tree (BranchTwice index) → ⊥)
-    → (21 < rank → (index : ℕ) → StandsAgainstTree inst tree (BadLeaf index) → ⊥) → NoneBefore (StandsAgainstTree inst tree) rank_of_tours rank
+none_before : (inst tree : Fields) (rank : ℕ) → (22 < rank → is_tree tree.kind ≡ true) → (23 < rank → nodes_of tree ≡ nodes_of inst)
+    → (24 < rank → (index : ℕ) → StandsAgainstTree inst tree (BadComb index) → ⊥) → (25 < rank → (index : ℕ) → StandsAgainstTree inst tree (BranchTwice index) → ⊥)
+    → (26 < rank → (index : ℕ) → StandsAgainstTree inst tree (BadLeaf index) → ⊥) → NoneBefore (StandsAgainstTree inst tree) rank
 none_before inst tree rank sort size combs once leaves NotBranches low stands = false≢true (sym stands ∙ sort low)
 none_before inst tree rank sort size combs once leaves BranchesDimension low stands = stands (size low)
 none_before inst tree rank sort size combs once leaves (BadComb index) low stands = combs low index stands
@@ -138,24 +137,24 @@ none_before inst tree rank sort size combs once leaves (BadLeaf index) low stand
 none_before inst tree rank sort size combs once leaves reason low stands = stands
 
 pub comb_first : (inst tree : Fields) (costs : ℕ → ℕ → ℤ) (index : ℕ) → is_tree tree.kind ≡ true → nodes_of tree ≡ nodes_of inst → IsTold inst tree costs (found.BadComb index)
-    → IsFirstReason (StandsAgainstTree inst tree) rank_of_tours (BadComb index)
+    → IsFirstReason (StandsAgainstTree inst tree) (BadComb index)
 comb_first inst tree costs index sort size is = record {
   stands = bad_comb inst tree index is;
-  none_before = none_before inst tree 19 (λ low. sort) (λ low. size) (λ low. absurd (omega (arith, low))) (λ low. absurd (omega (arith, low))) (λ low. absurd (omega (arith, low)));
+  none_before = none_before inst tree 24 (λ low. sort) (λ low. size) (λ low. absurd (omega (arith, low))) (λ low. absurd (omega (arith, low))) (λ low. absurd (omega (arith, low)));
 }
 
 pub twice_first : (inst tree : Fields) (costs : ℕ → ℕ → ℤ) (index : ℕ) → is_tree tree.kind ≡ true → nodes_of tree ≡ nodes_of inst → IsTold inst tree costs (found.BranchTwice index)
-    → IsFirstReason (StandsAgainstTree inst tree) rank_of_tours (BranchTwice index)
+    → IsFirstReason (StandsAgainstTree inst tree) (BranchTwice index)
 twice_first inst tree costs index sort size is = record {
   stands = is.1;
-  none_before = none_before inst tree 20 (λ low. sort) (λ low. size) (λ low. no_bad_comb inst tree is.0.0) (λ low. absurd (omega (arith, low))) (λ low. absurd (omega (arith, low)));
+  none_before = none_before inst tree 25 (λ low. sort) (λ low. size) (λ low. no_bad_comb inst tree is.0.0) (λ low. absurd (omega (arith, low))) (λ low. absurd (omega (arith, low)));
 }
 
 pub leaf_first : (inst tree : Fields) (costs : ℕ → ℕ → ℤ) (index : ℕ) → is_tree tree.kind ≡ true → nodes_of tree ≡ nodes_of inst → IsTold inst tree costs (found.BadLeaf index)
-    → IsFirstReason (StandsAgainstTree inst tree) rank_of_tours (BadLeaf index)
+    → IsFirstReason (StandsAgainstTree inst tree) (BadLeaf index)
 leaf_first inst tree costs index sort size is = record {
   stands = is.leaves;
-  none_before = none_before inst tree 21 (λ low. sort) (λ low. size) (λ low. no_bad_comb inst tree is.are_combs.0) (λ low. is.are_once.0) (λ low. absurd (omega (arith, low)));
+  none_before = none_before inst tree 26 (λ low. sort) (λ low. size) (λ low. no_bad_comb inst tree is.are_combs.0) (λ low. is.are_once.0) (λ low. absurd (omega (arith, low)));
 }
 
 pub none_stands : (inst tree : Fields) (costs : ℕ → ℕ → ℤ) (bound : ℤ) → is_tree tree.kind ≡ true → nodes_of tree ≡ nodes_of inst → IsTold inst tree costs (found.Bound bound)

@@ -15,7 +15,7 @@ use Rattle.tsp_reason.specs.declared.verdict.Verdict.{Verdict}
 use Rattle.tsp_reason.specs.declared.verdict.Verdict.TheVariants as verdicts
 use Rattle.tsp_verdict.specs.Reasons.{IsFirstReason}
 use Rattle.tsp_verdict.specs.Solution.{tours_of}
-use Rattle.tsp_verdict.specs.Tours.{StandsAgainstTour, rank_of_tours}
+use Rattle.tsp_verdict.specs.Tours.{StandsAgainstTour}
 use Rattle.tsp_verdict.specs.Certificate.{StandsAgainstPotentials, IsBoundByNodes, IsBoundByDuals}
 use Rattle.tsp_verdict.specs.Tree.{StandsAgainstTree, IsBoundByTree}
 
@@ -73,7 +73,7 @@ IsCertified by inst cert bound = IsBoundOf by inst cert bound × BoundsTours ins
 abbrev pub FindsBound : Certificate → Fields → Fields → Result ℤ Reason → Type 0
 FindsBound by inst cert (Ok bound) =
     ((reason : Reason) → StandsAgainstCertificate by inst cert reason → ⊥) × IsCertified by inst cert bound
-FindsBound by inst cert (Err reason) = IsFirstReason (StandsAgainstCertificate by inst cert) rank_of_tours reason
+FindsBound by inst cert (Err reason) = IsFirstReason (StandsAgainstCertificate by inst cert) reason
 
 -- ---- the verdict
 
@@ -82,7 +82,7 @@ abbrev pub StandsAgainstCertified : Certificate → Fields → Fields → Fields
 StandsAgainstCertified by inst sol cert reason = StandsAgainstTour inst sol reason ⊎ StandsAgainstCertificate by inst cert reason
 
 abbrev pub IsFirstAgainstCertified : Certificate → Fields → Fields → Fields → Reason → Type 0
-IsFirstAgainstCertified by inst sol cert reason = IsFirstReason (StandsAgainstCertified by inst sol cert) rank_of_tours reason
+IsFirstAgainstCertified by inst sol cert reason = IsFirstReason (StandsAgainstCertified by inst sol cert) reason
 
 -- What a yes says: the one tour is a tour of the instance, of this length, and the bound is that of the certificate; every
 -- tour of the instance is at least as long as the bound, so that one whose length equals it is a shortest.

@@ -5,6 +5,7 @@ use Rattle.tsp_format.specs.declared.kinds.Kind.TheVariants as kinds
 use Rattle.tsp_format.specs.Steps.{Step, Leaf}
 use Rattle.tsp_draft.specs.Fields.{Fields, blank_fields}
 use Rattle.tsp_reason.specs.declared.verdict.Reason.{Reason}
+use Rattle.tsp_verdict.specs.Reasons.{rank_of}
 
 -- an instance with so many nodes and these fixed pairs
 abbrev pub nodes : Kind → ℕ → List (ℕ × ℕ) → Fields
@@ -88,5 +89,5 @@ abbrev pub both : List ℕ → List ℕ → Fields
 both first second = solution (first ∷ second ∷ [])
 
 -- the first reason is judged before the second one
-abbrev pub Before : (Reason → ℕ) → Reason → Reason → Type 0
-Before rank_of first second = rank_of first < rank_of second
+abbrev pub Before : Reason → Reason → Type 0
+Before first second = rank_of first < rank_of second

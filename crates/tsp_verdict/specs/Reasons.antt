@@ -1,12 +1,44 @@
 -- The first of several reasons, by the order in which they are judged.
 use Rattle.std.specs.Prelude.{ℕ, ◌<◌}
 use Rattle.tsp_reason.specs.declared.verdict.Reason.{Reason}
+use Rattle.tsp_reason.specs.declared.verdict.Reason.TheVariants.{NotASolution, TooFewNodes, NotSymmetric, Dimension, TourCount, TourLength, DepotCount, DepotDemand, FixedEdgesInRoutes, DepotInRoute, NodeOutOfRange, RepeatedNode, FixedEdgeUnused, Unserved, Overload, NotPotentials, PotentialsDimension, PotentialsKind, MultiplierNotFixed, MultiplierRepeated, DualInfeasible, NotBranches, BranchesDimension, BadComb, BranchTwice, BadLeaf}
+
+-- The order in which reasons are judged: those against the files, the tours, their nodes and what these use or carry, then
+-- those against a certificate. Which of them can stand is said where they are defined, against tours, routes, potentials and
+-- trees of cases.
+abbrev pub rank_of : Reason → ℕ
+rank_of NotASolution = 1
+rank_of TooFewNodes = 2
+rank_of (NotSymmetric i j) = 3
+rank_of Dimension = 4
+rank_of TourCount = 5
+rank_of TourLength = 6
+rank_of DepotCount = 7
+rank_of DepotDemand = 8
+rank_of FixedEdgesInRoutes = 9
+rank_of (DepotInRoute place) = 10
+rank_of (NodeOutOfRange place) = 11
+rank_of (RepeatedNode place) = 12
+rank_of (FixedEdgeUnused index) = 13
+rank_of (Unserved node) = 14
+rank_of (Overload route) = 15
+rank_of NotPotentials = 16
+rank_of PotentialsDimension = 17
+rank_of PotentialsKind = 18
+rank_of (MultiplierNotFixed index) = 19
+rank_of (MultiplierRepeated index) = 20
+rank_of (DualInfeasible i j) = 21
+rank_of NotBranches = 22
+rank_of BranchesDimension = 23
+rank_of (BadComb index) = 24
+rank_of (BranchTwice index) = 25
+rank_of (BadLeaf index) = 26
 
 -- no reason stands that is judged before this rank
-abbrev pub NoneBefore : (Reason → Type 0) → (Reason → ℕ) → ℕ → Type 0
-NoneBefore Stands rank_of rank = (reason : Reason) → rank_of reason < rank → Stands reason → ⊥
+abbrev pub NoneBefore : (Reason → Type 0) → ℕ → Type 0
+NoneBefore Stands rank = (reason : Reason) → rank_of reason < rank → Stands reason → ⊥
 
 -- the reason stands, and none that is judged before it
-pub record IsFirstReason (Stands : Reason → Type 0) (rank_of : Reason → ℕ) (reason : Reason) : Type 0 where
+pub record IsFirstReason (Stands : Reason → Type 0) (reason : Reason) : Type 0 where
   pub stands : Stands reason
-  pub none_before : NoneBefore Stands rank_of (rank_of reason)
+  pub none_before : NoneBefore Stands (rank_of reason)

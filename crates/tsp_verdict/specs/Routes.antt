@@ -6,12 +6,12 @@ use Rattle.tsp_draft.specs.Fields.{Fields}
 use Rattle.tsp_draft.specs.Rules.{is_tours}
 use Rattle.tsp_file.specs.Cost.{cost}
 use Rattle.tsp_reason.specs.declared.verdict.Reason.{Reason}
-use Rattle.tsp_reason.specs.declared.verdict.Reason.TheVariants.{NotASolution, TooFewNodes, NotSymmetric, Dimension, TourCount, TourLength, NodeOutOfRange, RepeatedNode, FixedEdgeUnused, NotPotentials, PotentialsDimension, PotentialsKind, MultiplierNotFixed, MultiplierRepeated, DualInfeasible, DepotCount, DepotDemand, FixedEdgesInRoutes, DepotInRoute, Unserved, Overload, NotBranches, BranchesDimension, BadComb, BranchTwice, BadLeaf}
+use Rattle.tsp_reason.specs.declared.verdict.Reason.TheVariants.{NotASolution, TooFewNodes, Dimension, NodeOutOfRange, RepeatedNode, DepotCount, DepotDemand, FixedEdgesInRoutes, DepotInRoute, Unserved, Overload}
 use Rattle.tsp_reason.specs.declared.verdict.Verdict.{Verdict}
 use Rattle.tsp_reason.specs.declared.verdict.Verdict.TheVariants as verdicts
 use Rattle.tsp_verdict.specs.Places.{IsFirstPlace, IsLarger, IsAt, IsRepeated}
 use Rattle.tsp_verdict.specs.Plan.{demand_of, load_of, IsCustomer, plan_length, IsLeast, depots_of, depot_of, demands_of, capacity_of, total_of, IsPlanOf}
-use Rattle.tsp_verdict.specs.Reasons.{NoneBefore, IsFirstReason}
+use Rattle.tsp_verdict.specs.Reasons.{rank_of, NoneBefore, IsFirstReason}
 use Rattle.tsp_verdict.specs.Solution.{nodes_of, fixed_of, tours_of, visited}
 
 -- the least customer that none of the nodes is
@@ -24,28 +24,13 @@ pub record IsFirstUnserved (n depot : ℕ) (nodes : List ℕ) (node : ℕ) : Typ
 abbrev pub IsOverloaded : List ℤ → ℤ → List (List ℕ) → ℕ → Type 0
 IsOverloaded demands capacity routes place = capacity <ℤ load_of demands (slice_index_or routes (place - 1) [])
 
--- When a reason stands against routes. Reasons of tours alone and of certificates never do.
+-- When a reason stands against routes: those of the files, of the depot, of the nodes and of the loads. No other reason does.
 abbrev pub StandsAgainstRoutes : Fields → Fields → Reason → Type 0
 StandsAgainstRoutes inst sol NotASolution = is_tours sol.kind ≡ false
 StandsAgainstRoutes inst sol TooFewNodes = nodes_of inst < 2
-StandsAgainstRoutes inst sol (NotSymmetric i j) = ⊥
 StandsAgainstRoutes inst sol Dimension = (n : ℕ) × (sol.dimension ≡ Some n) × (n ≢ nodes_of inst)
-StandsAgainstRoutes inst sol TourCount = ⊥
-StandsAgainstRoutes inst sol TourLength = ⊥
 StandsAgainstRoutes inst sol (NodeOutOfRange place) = IsFirstPlace (IsLarger (nodes_of inst) (visited sol)) (visited sol) place
 StandsAgainstRoutes inst sol (RepeatedNode place) = IsFirstPlace (IsRepeated (visited sol)) (visited sol) place
-StandsAgainstRoutes inst sol (FixedEdgeUnused index) = ⊥
-StandsAgainstRoutes inst sol NotPotentials = ⊥
-StandsAgainstRoutes inst sol PotentialsDimension = ⊥
-StandsAgainstRoutes inst sol PotentialsKind = ⊥
-StandsAgainstRoutes inst sol (MultiplierNotFixed index) = ⊥
-StandsAgainstRoutes inst sol (MultiplierRepeated index) = ⊥
-StandsAgainstRoutes inst sol (DualInfeasible i j) = ⊥
-StandsAgainstRoutes inst sol NotBranches = ⊥
-StandsAgainstRoutes inst sol BranchesDimension = ⊥
-StandsAgainstRoutes inst sol (BadComb index) = ⊥
-StandsAgainstRoutes inst sol (BranchTwice index) = ⊥
-StandsAgainstRoutes inst sol (BadLeaf index) = ⊥
 StandsAgainstRoutes inst sol DepotCount = length (depots_of inst) ≢ 1
 StandsAgainstRoutes inst sol DepotDemand = demand_of (demands_of inst) (depot_of inst) ≢ pos 0
 StandsAgainstRoutes inst sol FixedEdgesInRoutes = 1 ≤ length (fixed_of inst)
@@ -53,43 +38,15 @@ StandsAgainstRoutes inst sol (DepotInRoute place) = IsFirstPlace (IsAt (depot_of
 StandsAgainstRoutes inst sol (Unserved node) = IsFirstUnserved (nodes_of inst) (depot_of inst) (visited sol) node
 StandsAgainstRoutes inst sol (Overload route) =
     IsFirstPlace (IsOverloaded (demands_of inst) (capacity_of inst) (tours_of sol)) (tours_of sol) route
-
--- the order in which the reasons against routes are judged
-abbrev pub rank_of_routes : Reason → ℕ
-rank_of_routes NotASolution = 1
-rank_of_routes TooFewNodes = 2
-rank_of_routes Dimension = 3
-rank_of_routes DepotCount = 4
-rank_of_routes DepotDemand = 5
-rank_of_routes FixedEdgesInRoutes = 6
-rank_of_routes (DepotInRoute place) = 7
-rank_of_routes (NodeOutOfRange place) = 8
-rank_of_routes (RepeatedNode place) = 9
-rank_of_routes (Unserved node) = 10
-rank_of_routes (Overload route) = 11
-rank_of_routes (NotSymmetric i j) = 12
-rank_of_routes TourCount = 12
-rank_of_routes TourLength = 12
-rank_of_routes (FixedEdgeUnused index) = 12
-rank_of_routes NotPotentials = 12
-rank_of_routes PotentialsDimension = 12
-rank_of_routes PotentialsKind = 12
-rank_of_routes (MultiplierNotFixed index) = 12
-rank_of_routes (MultiplierRepeated index) = 12
-rank_of_routes (DualInfeasible i j) = 12
-rank_of_routes NotBranches = 12
-rank_of_routes BranchesDimension = 12
-rank_of_routes (BadComb index) = 12
-rank_of_routes (BranchTwice index) = 12
-rank_of_routes (BadLeaf index) = 12
+StandsAgainstRoutes inst sol reason = ⊥
 
 -- no reason stands that is judged before this rank
 abbrev pub NoneOfRoutesUpTo : Fields → Fields → ℕ → Type 0
-NoneOfRoutesUpTo inst sol rank = NoneBefore (StandsAgainstRoutes inst sol) rank_of_routes rank
+NoneOfRoutesUpTo inst sol rank = NoneBefore (StandsAgainstRoutes inst sol) rank
 
 -- the reason is the first one that stands
 abbrev pub IsFirstAgainstRoutes : Fields → Fields → Reason → Type 0
-IsFirstAgainstRoutes inst sol reason = IsFirstReason (StandsAgainstRoutes inst sol) rank_of_routes reason
+IsFirstAgainstRoutes inst sol reason = IsFirstReason (StandsAgainstRoutes inst sol) reason
 
 -- What a yes on routes says: they are a plan of the instance, of this length and so many, and no plan at all has fewer
 -- routes than the least number that carries all demands.
@@ -107,6 +64,10 @@ IsRoutesVerdict inst sol (verdicts.Routes length_is routes least) = ((reason : R
     × IsPlanned inst (tours_of sol) length_is routes least
 IsRoutesVerdict inst sol (verdicts.Tour length_is bound) = ⊥
 
--- No reason stands of those that are found without memory.
+-- No reason stands that needs no look at the nodes of the routes.
+abbrev pub NoneOfRoutesBeforePlaces : Fields → Fields → Type 0
+NoneOfRoutesBeforePlaces inst sol = (place : ℕ) → NoneOfRoutesUpTo inst sol (rank_of (DepotInRoute place))
+
+-- No reason up to `NodeOutOfRange` stands: they are found without memory.
 abbrev pub NoneOfRoutesBeforeRepeats : Fields → Fields → Type 0
-NoneOfRoutesBeforeRepeats inst sol = (place : ℕ) → NoneOfRoutesUpTo inst sol (rank_of_routes (RepeatedNode place))
+NoneOfRoutesBeforeRepeats inst sol = (place : ℕ) → NoneOfRoutesUpTo inst sol (rank_of (RepeatedNode place))

@@ -22,7 +22,6 @@ use Rattle.tsp_verdict.specs.Certificate.{scale_in}
 use Rattle.tsp_verdict.specs.Places.{IsFirstPlace}
 use Rattle.tsp_verdict.specs.Reasons.{IsFirstReason}
 use Rattle.tsp_verdict.specs.Solution.{nodes_of, fixed_of}
-use Rattle.tsp_verdict.specs.Tours.{rank_of_tours}
 
 -- ---- what is read of it, and of the instance
 

@@ -1,22 +1,23 @@
 //! The bound that a file of potentials gives, or the first reason against it.
 
-ghost use Rattle.std.specs.Prelude.{◌≡◌, ◌⊎◌, ◌≤◌, true, length, Some, IfOk, MatchOption, MatchResult};
+ghost use Rattle.std.specs.Prelude.{◌≡◌, ◌≤◌, false, true, length, Some, IfOk, MatchOption, MatchResult};
 ghost use Rattle.std.specs.List.{All};
 ghost use Rattle.tsp_format.specs.Cells.{IsNode};
+ghost use Rattle.tsp_format.specs.Limits.{most_multipliers};
 ghost use Rattle.tsp_format.specs.declared.kinds.Kind.TheVariants as kinds;
 ghost use Rattle.tsp_draft.specs.Rules.{is_certificate};
 ghost use Rattle.tsp_file.specs.Cost.{cost};
+ghost use Rattle.tsp_file.specs.Typed.{HoldsNodeNumbers, HoldsDuals};
 ghost use Rattle.tsp_theory.specs.Costs.{IsSymmetric};
-ghost use Rattle.tsp_cost.specs.Views.{HasCosts};
-ghost use Rattle.tsp_theory.specs.Numbers.{IsScale, AreMultipliers};
+ghost use Rattle.tsp_theory.specs.Assignment.{IsFirstBroken};
+ghost use Rattle.tsp_cost.specs.Views.{HasCosts, Shows, ShowsEven};
 ghost use Rattle.tsp_theory.specs.Adjusted.{AreOnPairs};
 ghost use Rattle.tsp_bound.specs.Duals.{scale_of as scale_of_duals, rows_of, columns_of};
 ghost use Rattle.tsp_bound.specs.Multipliers.{triples_of};
 ghost use Rattle.tsp_bound.specs.Potentials.{scale_of, numbers_of};
 ghost use Rattle.tsp_verdict.specs.Reasons.{IsFirstReason};
 ghost use Rattle.tsp_verdict.specs.Solution.{nodes_of, fixed_of};
-ghost use Rattle.tsp_verdict.specs.Tours.{rank_of_tours};
-ghost use Rattle.tsp_verdict.specs.Certificate.{has_wanted, scale_in, potentials_in, rows_in, columns_in, multipliers_in, StandsAgainstPotentials};
+ghost use Rattle.tsp_verdict.specs.Certificate.{has_wanted, scale_in, rows_in, columns_in, multipliers_in, StandsAgainstPotentials};
 ghost use Rattle.tsp_reason.specs.declared.certificate.Certificate.TheVariants as certificates;
 ghost use Rattle.tsp_verdict.specs.Certified.{IsCertified, FindsBound};
 ghost use Rattle.tsp_verdict.specs.Multiplied.{AreListed};
@@ -25,14 +26,22 @@ use crate::files::fixed_pairs;
 use crate::multiplied::{first_repeated_pair, first_unlisted};
 use std::alloc::{AllocError, Global};
 use tsp_bound::{
-    Duals, Multipliers, Potentials, adjusted_bounds_bound_cycles, dual_bound, duals_bound_cycles,
-    one_tree_in_space,
+    Duals, Infeasible, Multipliers, Potentials, adjusted_bounds_bound_cycles, dual_bound,
+    duals_bound_cycles, one_tree_in_space,
 };
-use tsp_cost::{Costs, Grouped, Instance, View};
-use tsp_draft::valid_fields_are_in_range;
+use tsp_cost::{Costs, EvenView, Grouped, Instance, View};
 use tsp_file::File;
 use tsp_format::Kind;
 use tsp_reason::Reason;
+
+/// The potentials of nodes that a certificate holds, and its multipliers of fixed pairs.
+#[derive(Clone, Copy, Debug)]
+struct NodeNumbers<'a> {
+    potentials: Potentials<'a>,
+    multipliers: Multipliers<'a>,
+    /// The multipliers, each with the two nodes of its pair.
+    triples: &'a [(u32, u32, i64)],
+}
 
 /// The bound that the potentials of nodes give an instance of TYPE TSP, or the first reason against
 /// the certificate.
@@ -43,41 +52,56 @@ use tsp_reason::Reason;
 pub(crate) fn bound_by_nodes(
     alloc: Global,
     inst: &Instance,
+    view: EvenView<'_>,
     pot: &File,
 ) -> Result<Result<i128, Reason>, AllocError>
     requires kind { inst.now.kind ≡ Some kinds.Tsp }
     requires some { 3 ≤ nodes_of inst.now }
+    requires shows { ShowsEven inst.now view }
     requires even { IsSymmetric (cost inst.now) }
     ensures { IfOk result (λ found. FindsBound certificates.Potentials inst.now pot.now found) }
 {
-    if let Some(reason) = first_against_certificate(inst, pot) {
+    if let Some(reason) = first_against_file(inst, pot) {
         return Ok(Err(reason));
     }
-    if let Some(reason) = first_against_multipliers(alloc, inst, pot)? {
+    let Some(numbers) = node_numbers(pot) else {
+        return Ok(Err(Reason::PotentialsKind));
+    };
+    if let Some(reason) = first_against_multipliers(alloc, inst, pot, numbers.triples)? {
         return Ok(Err(reason));
     }
-    Ok(Ok(bound_of_potentials(alloc, inst, pot)?))
+    Ok(Ok(bound_of_potentials(alloc, inst, view, pot, &numbers)?))
 }
 
 /// The bound that the potentials of rows and columns give an instance of TYPE ATSP, or the first
 /// reason against the certificate.
-pub(crate) fn bound_by_duals(inst: &Instance, pot: &File) -> Result<i128, Reason>
+pub(crate) fn bound_by_duals(inst: &Instance, view: View<'_>, pot: &File) -> Result<i128, Reason>
     requires kind { inst.now.kind ≡ Some kinds.Atsp }
     requires some { 3 ≤ nodes_of inst.now }
+    requires shows { Shows inst.now view }
     ensures { FindsBound certificates.Potentials inst.now pot.now result }
 {
-    if let Some(reason) = first_against_certificate(inst, pot) {
+    if let Some(reason) = first_against_file(inst, pot) {
         return Err(reason);
     }
-    bound_of_duals(inst, pot)
+    let Some(duals) = duals_of(pot) else {
+        return Err(Reason::PotentialsKind);
+    };
+    match bound_of_duals(inst, view, pot, &duals) {
+        Ok(bound) => Ok(bound),
+        Err(pair) => Err(Reason::DualInfeasible {
+            i: pair.i,
+            j: pair.j,
+        }),
+    }
 }
 
-/// The first reason against a certificate that needs no look at its numbers.
-fn first_against_certificate(inst: &Instance, pot: &File) -> Option<Reason>
+/// The first reason against a certificate that needs no look at its potentials.
+fn first_against_file(inst: &Instance, pot: &File) -> Option<Reason>
     ensures { MatchOption result
-        ((is_certificate pot.now.kind ≡ true) × (nodes_of pot.now ≡ nodes_of inst.now)
-        × (has_wanted inst.now.kind pot.now ≡ true))
-        (λ reason. IsFirstReason (StandsAgainstPotentials inst.now pot.now) rank_of_tours reason) }
+        ((is_certificate pot.now.kind ≡ true) × (pot.now.kind ≡ Some kinds.Potentials)
+        × (nodes_of pot.now ≡ nodes_of inst.now))
+        (λ reason. IsFirstReason (StandsAgainstPotentials inst.now pot.now) reason) }
 {
     if pot.kind() != Kind::Potentials {
         return Some(Reason::NotPotentials);
@@ -85,87 +109,36 @@ fn first_against_certificate(inst: &Instance, pot: &File) -> Option<Reason>
     if pot.dimension().unwrap_or(0) != inst.count() {
         return Some(Reason::PotentialsDimension);
     }
-    if !has_wanted(inst.kind(), pot) {
-        return Some(Reason::PotentialsKind);
-    }
     None
 }
 
-/// Whether a certificate has the potentials that the TYPE of an instance wants.
-fn has_wanted(kind: Kind, pot: &File) -> bool
-    ensures { result ≡ has_wanted (Some kind) pot.now }
+/// The duals that a certificate holds; none where it holds none.
+fn duals_of(pot: &File) -> Option<Duals<'_>>
+    requires { pot.now.kind ≡ Some kinds.Potentials }
+    ensures { MatchOption result
+        (has_wanted (Some kinds.Atsp) pot.now ≡ false)
+        (λ duals. (has_wanted (Some kinds.Atsp) pot.now ≡ true)
+        × HoldsDuals pot.now (scale_of_duals duals) (rows_of duals) (columns_of duals)) }
 {
-    match kind {
-        Kind::Tsp => pot.node_potentials().is_some(),
-        Kind::Atsp => pot.row_potentials().is_some() && pot.column_potentials().is_some(),
-        Kind::Cvrp | Kind::Tour | Kind::Potentials | Kind::Branches => false,
-    }
+    let held = pot.as_duals()?;
+    Duals::new(held.scale, held.rows, held.columns)
 }
 
-/// The duals that a certificate holds.
-fn duals_of(pot: &File) -> Duals<'_>
-    requires { has_wanted (Some kinds.Atsp) pot.now ≡ true }
-    ensures scale { scale_of_duals result ≡ scale_in pot.now }
-    ensures scaled { IsScale (scale_of_duals result) }
-    ensures as_many { length (columns_of result) ≡ length (rows_of result) }
-    ensures rows { rows_of result ≡ rows_in pot.now }
-    ensures columns { columns_of result ≡ columns_in pot.now }
-    ensures count { length (rows_of result) ≡ nodes_of pot.now }
+/// The potentials of nodes that a certificate holds; none where it holds none.
+fn node_numbers(pot: &File) -> Option<NodeNumbers<'_>>
+    requires { pot.now.kind ≡ Some kinds.Potentials }
+    ensures { MatchOption result
+        (has_wanted (Some kinds.Tsp) pot.now ≡ false)
+        (λ numbers. (has_wanted (Some kinds.Tsp) pot.now ≡ true)
+        × HoldsNodeNumbers pot.now (scale_of numbers.potentials) (numbers_of numbers.potentials)
+        numbers.triples.now × (triples_of numbers.multipliers ≡ numbers.triples.now)) }
 {
-    let _valid = pot.fields();
-    valid_fields_are_in_range();
-    let (Some(rows), Some(columns)) = (pot.row_potentials(), pot.column_potentials()) else {
-        unreachable!();
-    };
-    let Some(duals) = Duals::new(pot.scale().unwrap_or(1), rows, columns) else {
-        unreachable!();
-    };
-    duals
-}
-
-/// The potentials of nodes that a certificate holds.
-fn potentials_of(pot: &File) -> Potentials<'_>
-    requires { has_wanted (Some kinds.Tsp) pot.now ≡ true }
-    ensures scale { scale_of result ≡ scale_in pot.now }
-    ensures scaled { IsScale (scale_of result) }
-    ensures numbers { numbers_of result ≡ potentials_in pot.now }
-    ensures count { length (numbers_of result) ≡ nodes_of pot.now }
-{
-    let _valid = pot.fields();
-    valid_fields_are_in_range();
-    let Some(numbers) = pot.node_potentials() else {
-        unreachable!();
-    };
-    let Some(potentials) = Potentials::new(pot.scale().unwrap_or(1), numbers) else {
-        unreachable!();
-    };
-    potentials
-}
-
-/// The multipliers that a certificate holds, as triples of two nodes and a number: none where it
-/// has no FIXED_EDGE_POTENTIAL_SECTION.
-fn multipliers_in(pot: &File) -> &[(u32, u32, i64)]
-    ensures value { result.now ≡ multipliers_in pot.now }
-    ensures are { AreMultipliers result.now }
-    ensures nodes { All (λ triple. IsNode (nodes_of pot.now) triple.0
-        × IsNode (nodes_of pot.now) triple.1) result.now }
-{
-    let _valid = pot.fields();
-    valid_fields_are_in_range();
-    match pot.fixed_potentials() {
-        Some(triples) => triples,
-        None => &[],
-    }
-}
-
-/// The same as they go into a 1-tree.
-fn multipliers_of(pot: &File) -> Multipliers<'_>
-    ensures { triples_of result ≡ multipliers_in pot.now }
-{
-    let Some(multipliers) = Multipliers::new(multipliers_in(pot)) else {
-        unreachable!();
-    };
-    multipliers
+    let held = pot.as_node_potentials()?;
+    Some(NodeNumbers {
+        potentials: Potentials::new(held.scale, held.numbers)?,
+        multipliers: Multipliers::new(held.multipliers)?,
+        triples: held.multipliers,
+    })
 }
 
 /// The first reason against the multipliers of a certificate of an instance of TYPE TSP. Where no
@@ -179,17 +152,21 @@ fn first_against_multipliers(
     alloc: Global,
     inst: &Instance,
     pot: &File,
+    triples: &[(u32, u32, i64)],
 ) -> Result<Option<Reason>, AllocError>
     requires kind { inst.now.kind ≡ Some kinds.Tsp }
     requires sort { is_certificate pot.now.kind ≡ true }
     requires count { nodes_of pot.now ≡ nodes_of inst.now }
     requires wanted { has_wanted (Some kinds.Tsp) pot.now ≡ true }
+    requires value { triples.now ≡ multipliers_in pot.now }
+    requires few { length triples.now ≤ most_multipliers }
+    requires nodes { All (λ triple. IsNode (nodes_of pot.now) triple.0
+        × IsNode (nodes_of pot.now) triple.1) triples.now }
     ensures { IfOk result (λ found. MatchOption found
         (AreOnPairs (nodes_of inst.now) (multipliers_in pot.now)
         × AreListed (fixed_of inst.now) (multipliers_in pot.now))
-        (λ reason. IsFirstReason (StandsAgainstPotentials inst.now pot.now) rank_of_tours reason)) }
+        (λ reason. IsFirstReason (StandsAgainstPotentials inst.now pot.now) reason)) }
 {
-    let triples = multipliers_in(pot);
     if triples.is_empty() {
         return Ok(None);
     }
@@ -204,64 +181,79 @@ fn first_against_multipliers(
 
 /// The bound that the duals of a certificate give an instance of TYPE ATSP, or the first pair that
 /// breaks them.
-fn bound_of_duals(inst: &Instance, pot: &File) -> Result<i128, Reason>
+fn bound_of_duals(
+    inst: &Instance,
+    view: View<'_>,
+    pot: &File,
+    duals: &Duals<'_>,
+) -> Result<i128, Infeasible>
     requires kind { inst.now.kind ≡ Some kinds.Atsp }
     requires some { 3 ≤ nodes_of inst.now }
+    requires shows { Shows inst.now view }
     requires count { nodes_of pot.now ≡ nodes_of inst.now }
-    requires wanted { has_wanted (Some kinds.Atsp) pot.now ≡ true }
+    requires held { HoldsDuals pot.now (scale_of_duals duals.now) (rows_of duals.now) (columns_of duals.now) }
     ensures { MatchResult result
         (λ bound. IsCertified certificates.Potentials inst.now pot.now bound)
-        (λ reason. StandsAgainstPotentials inst.now pot.now reason × (rank_of_tours reason ≡ 15)) }
+        (λ pair. IsFirstBroken (nodes_of inst.now) (cost inst.now)
+        (scale_in pot.now) (rows_in pot.now) (columns_in pot.now) pair.i pair.j) }
 {
     // A view has found once and for all where the costs are.
-    match inst.view() {
-        View::Plane(points) => assignment_bound(inst, pot, &points),
-        View::Space(points) => assignment_bound(inst, pot, &points),
-        View::Triangle(triangle) => assignment_bound(inst, pot, &triangle),
-        View::Matrix(matrix) => assignment_bound(inst, pot, &matrix),
+    match view {
+        View::Plane(points) => assignment_bound(inst, &points, pot, duals),
+        View::Space(points) => assignment_bound(inst, &points, pot, duals),
+        View::Triangle(triangle) => assignment_bound(inst, &triangle, pot, duals),
+        View::Matrix(matrix) => assignment_bound(inst, &matrix, pot, duals),
     }
 }
 
 /// The same over the costs of a view.
-fn assignment_bound<C: Costs>(inst: &Instance, pot: &File, c: &C) -> Result<i128, Reason>
+fn assignment_bound<C: Costs>(
+    inst: &Instance,
+    c: &C,
+    pot: &File,
+    duals: &Duals<'_>,
+) -> Result<i128, Infeasible>
     requires keeps { HasCosts inst.now (C.nodes c.now) (C.at c.now) }
     requires kind { inst.now.kind ≡ Some kinds.Atsp }
     requires some { 3 ≤ nodes_of inst.now }
     requires count { nodes_of pot.now ≡ nodes_of inst.now }
-    requires wanted { has_wanted (Some kinds.Atsp) pot.now ≡ true }
+    requires held { HoldsDuals pot.now (scale_of_duals duals.now) (rows_of duals.now) (columns_of duals.now) }
     ensures { MatchResult result
         (λ bound. IsCertified certificates.Potentials inst.now pot.now bound)
-        (λ reason. StandsAgainstPotentials inst.now pot.now reason × (rank_of_tours reason ≡ 15)) }
+        (λ pair. IsFirstBroken (nodes_of inst.now) (cost inst.now)
+        (scale_in pot.now) (rows_in pot.now) (columns_in pot.now) pair.i pair.j) }
 {
     duals_bound_cycles();
-    match dual_bound(c, &duals_of(pot)) {
+    match dual_bound(c, duals) {
         Ok(bound) => Ok(bound),
-        Err(pair) => Err(Reason::DualInfeasible {
-            i: pair.i,
-            j: pair.j,
-        }),
+        Err(pair) => Err(pair),
     }
 }
 
 /// The bound that the potentials of a certificate give an instance of TYPE TSP.
-fn bound_of_potentials(alloc: Global, inst: &Instance, pot: &File) -> Result<i128, AllocError>
+fn bound_of_potentials(
+    alloc: Global,
+    inst: &Instance,
+    view: EvenView<'_>,
+    pot: &File,
+    numbers: &NodeNumbers<'_>,
+) -> Result<i128, AllocError>
     requires kind { inst.now.kind ≡ Some kinds.Tsp }
     requires some { 3 ≤ nodes_of inst.now }
+    requires shows { ShowsEven inst.now view }
     requires count { nodes_of pot.now ≡ nodes_of inst.now }
-    requires wanted { has_wanted (Some kinds.Tsp) pot.now ≡ true }
+    requires held { HoldsNodeNumbers pot.now (scale_of numbers.now.potentials)
+        (numbers_of numbers.now.potentials) (triples_of numbers.now.multipliers) }
     requires even { IsSymmetric (cost inst.now) }
     requires on_pairs { AreOnPairs (nodes_of inst.now) (multipliers_in pot.now) }
     requires listed { AreListed (fixed_of inst.now) (multipliers_in pot.now) }
     ensures { IfOk result (λ bound. IsCertified certificates.Potentials inst.now pot.now bound) }
 {
-    match inst.view() {
-        View::Plane(points) => tree_bound(alloc, inst, pot, &points),
-        View::Space(points) => tree_bound(alloc, inst, pot, &points),
-        View::Triangle(triangle) => tree_bound(alloc, inst, pot, &triangle),
-        View::Matrix(matrix) => match matrix.even() {
-            Ok(even) => tree_bound(alloc, inst, pot, &even),
-            Err(_) => unreachable!(),
-        },
+    match view {
+        EvenView::Plane(points) => tree_bound(alloc, inst, &points, pot, numbers),
+        EvenView::Space(points) => tree_bound(alloc, inst, &points, pot, numbers),
+        EvenView::Triangle(triangle) => tree_bound(alloc, inst, &triangle, pot, numbers),
+        EvenView::Matrix(matrix) => tree_bound(alloc, inst, &matrix, pot, numbers),
     }
 }
 
@@ -269,21 +261,23 @@ fn bound_of_potentials(alloc: Global, inst: &Instance, pot: &File) -> Result<i12
 fn tree_bound<C: Grouped>(
     alloc: Global,
     inst: &Instance,
-    pot: &File,
     c: &C,
+    pot: &File,
+    numbers: &NodeNumbers<'_>,
 ) -> Result<i128, AllocError>
     requires keeps { HasCosts inst.now (C.nodes c.now) (C.at c.now) }
     requires kind { inst.now.kind ≡ Some kinds.Tsp }
     requires some { 3 ≤ nodes_of inst.now }
     requires count { nodes_of pot.now ≡ nodes_of inst.now }
-    requires wanted { has_wanted (Some kinds.Tsp) pot.now ≡ true }
+    requires held { HoldsNodeNumbers pot.now (scale_of numbers.now.potentials)
+        (numbers_of numbers.now.potentials) (triples_of numbers.now.multipliers) }
     requires even { IsSymmetric (cost inst.now) }
     requires on_pairs { AreOnPairs (nodes_of inst.now) (multipliers_in pot.now) }
     requires listed { AreListed (fixed_of inst.now) (multipliers_in pot.now) }
     ensures { IfOk result (λ bound. IsCertified certificates.Potentials inst.now pot.now bound) }
 {
     adjusted_bounds_bound_cycles();
-    match one_tree_in_space(alloc, c, &potentials_of(pot), &multipliers_of(pot)) {
+    match one_tree_in_space(alloc, c, &numbers.potentials, &numbers.multipliers) {
         Ok(found) => Ok(found.bound),
         Err(refused) => Err(refused),
     }

@@ -4,11 +4,12 @@ ghost use Rattle.std.specs.Prelude.{◌≡◌, ◌⊎◌, ◌≤◌, IsTrue, Som
 ghost use Rattle.tsp_format.specs.declared.kinds.Kind.TheVariants as kinds;
 ghost use Rattle.tsp_reason.specs.declared.certificate.Certificate.TheVariants as certificates;
 ghost use Rattle.tsp_verdict.specs.Solution.{nodes_of};
-ghost use Rattle.tsp_verdict.specs.Tours.{IsSymmetricTsp, NoneOfTourBeforeRepeats};
+ghost use Rattle.tsp_verdict.specs.Tours.{NoneOfTourBeforeRepeats};
+ghost use Rattle.tsp_verdict.specs.states.Costs.{AreTourCosts};
 ghost use Rattle.tsp_verdict.specs.Certified.{is_bounded, FindsBound, IsCertifiedVerdict};
 
 use crate::certificate::{bound_by_duals, bound_by_nodes};
-use crate::tour::length_of_tour;
+use crate::tour::{TourCosts, length_of_tour};
 use crate::tree::bound_of_tree;
 use std::alloc::{AllocError, Global};
 use tsp_cost::Instance;
@@ -37,11 +38,11 @@ pub fn judge_certified(
         (λ verdict. IsCertifiedVerdict by instance.now solution.now certificate.now verdict)
         (λ refused. NoneOfTourBeforeRepeats instance.now solution.now) }
 {
-    let length = match length_of_tour(alloc, instance, solution)? {
-        Ok(length) => length,
+    let (length, costs) = match length_of_tour(alloc, instance, solution)? {
+        Ok(found) => found,
         Err(reason) => return Ok(Verdict::No(reason)),
     };
-    match bound_of(alloc, by, instance, certificate)? {
+    match bound_of(alloc, by, instance, costs, certificate)? {
         Ok(bound) => Ok(Verdict::Tour {
             length,
             bound: Some(bound),
@@ -117,20 +118,26 @@ fn bound_of(
     alloc: Global,
     by: Certificate,
     instance: &Instance,
+    costs: TourCosts<'_>,
     certificate: &File,
 ) -> Result<Result<i128, Reason>, AllocError>
     requires bounded { IsTrue (is_bounded by instance.now.kind) }
     requires some { 3 ≤ nodes_of instance.now }
-    requires even { IsSymmetricTsp instance.now }
+    requires costs { AreTourCosts instance.now costs }
     ensures found { IfOk result (λ found. FindsBound by instance.now certificate.now found) }
     ensures memory { by ≡ certificates.Potentials → instance.now.kind ≡ Some kinds.Atsp → IsOk result }
 {
-    match (by, instance.kind()) {
-        (Certificate::Potentials, Kind::Tsp) => bound_by_nodes(alloc, instance, certificate),
-        (Certificate::Potentials, Kind::Atsp) => Ok(bound_by_duals(instance, certificate)),
-        (Certificate::Branches, Kind::Tsp) => bound_of_tree(alloc, instance, certificate),
+    match (by, costs) {
+        (Certificate::Potentials, TourCosts::Undirected(view)) => {
+            bound_by_nodes(alloc, instance, view, certificate)
+        }
+        (Certificate::Potentials, TourCosts::Directed(view)) => {
+            Ok(bound_by_duals(instance, view, certificate))
+        }
+        (Certificate::Branches, TourCosts::Undirected(view)) => {
+            bound_of_tree(alloc, instance, view, certificate)
+        }
         // What `is_bounded` refuses.
-        (Certificate::Branches, Kind::Atsp)
-        | (_, Kind::Cvrp | Kind::Tour | Kind::Potentials | Kind::Branches) => unreachable!(),
+        (Certificate::Branches, TourCosts::Directed(_)) => unreachable!(),
     }
 }

@@ -7,8 +7,8 @@ ghost use Rattle.tsp_format.specs.Steps.{Branch, Leaf};
 ghost use Rattle.tsp_branch.specs.Examples.{with_pair};
 ghost use Rattle.tsp_reason.specs.declared.verdict.Reason.TheVariants as reasons;
 ghost use Rattle.tsp_verdict.specs.Plan.{IsPlanOf, IsLeast, plan_length, total_of};
-ghost use Rattle.tsp_verdict.specs.Tours.{StandsAgainstTour, rank_of_tours};
-ghost use Rattle.tsp_verdict.specs.Routes.{StandsAgainstRoutes, rank_of_routes};
+ghost use Rattle.tsp_verdict.specs.Tours.{StandsAgainstTour};
+ghost use Rattle.tsp_verdict.specs.Routes.{StandsAgainstRoutes};
 ghost use Rattle.tsp_verdict.specs.Certificate.{StandsAgainstPotentials};
 ghost use Rattle.tsp_verdict.specs.Certificate.{scale_in};
 ghost use Rattle.tsp_verdict.specs.Tree.{StandsAgainstTree};
@@ -18,39 +18,39 @@ ghost use Rattle.tsp_verdict.specs.Examples.{of_nodes, of_rows, of_both, nodes, 
 /// The order in which reasons against a tour, and then against its certificate, are judged: each
 /// pair of neighbours.
 pub fn examples_of_order()
-    ensures nodes { Before rank_of_tours reasons.NotASolution reasons.TooFewNodes }
-    ensures even { Before rank_of_tours reasons.TooFewNodes (reasons.NotSymmetric 1 2) }
-    ensures dimension { Before rank_of_tours (reasons.NotSymmetric 1 2) reasons.Dimension }
-    ensures count { Before rank_of_tours reasons.Dimension reasons.TourCount }
-    ensures length { Before rank_of_tours reasons.TourCount reasons.TourLength }
-    ensures range { Before rank_of_tours reasons.TourLength (reasons.NodeOutOfRange 1) }
-    ensures repeated { Before rank_of_tours (reasons.NodeOutOfRange 9) (reasons.RepeatedNode 1) }
-    ensures fixed { Before rank_of_tours (reasons.RepeatedNode 9) (reasons.FixedEdgeUnused 1) }
-    ensures potentials { Before rank_of_tours (reasons.FixedEdgeUnused 9) reasons.NotPotentials }
-    ensures their_dimension { Before rank_of_tours reasons.NotPotentials reasons.PotentialsDimension }
-    ensures their_kind { Before rank_of_tours reasons.PotentialsDimension reasons.PotentialsKind }
-    ensures not_fixed { Before rank_of_tours reasons.PotentialsKind (reasons.MultiplierNotFixed 1) }
-    ensures multiplied_twice { Before rank_of_tours (reasons.MultiplierNotFixed 9) (reasons.MultiplierRepeated 1) }
-    ensures duals { Before rank_of_tours (reasons.MultiplierRepeated 9) (reasons.DualInfeasible 1 2) }
-    ensures branches { Before rank_of_tours (reasons.FixedEdgeUnused 9) reasons.NotBranches }
-    ensures number_of_nodes { Before rank_of_tours reasons.NotBranches reasons.BranchesDimension }
-    ensures combs { Before rank_of_tours reasons.BranchesDimension (reasons.BadComb 1) }
-    ensures decided_twice { Before rank_of_tours (reasons.BadComb 9) (reasons.BranchTwice 1) }
-    ensures leaves { Before rank_of_tours (reasons.BranchTwice 9) (reasons.BadLeaf 1) }
+    ensures nodes { Before reasons.NotASolution reasons.TooFewNodes }
+    ensures even { Before reasons.TooFewNodes (reasons.NotSymmetric 1 2) }
+    ensures dimension { Before (reasons.NotSymmetric 1 2) reasons.Dimension }
+    ensures count { Before reasons.Dimension reasons.TourCount }
+    ensures length { Before reasons.TourCount reasons.TourLength }
+    ensures range { Before reasons.TourLength (reasons.NodeOutOfRange 1) }
+    ensures repeated { Before (reasons.NodeOutOfRange 9) (reasons.RepeatedNode 1) }
+    ensures fixed { Before (reasons.RepeatedNode 9) (reasons.FixedEdgeUnused 1) }
+    ensures potentials { Before (reasons.FixedEdgeUnused 9) reasons.NotPotentials }
+    ensures their_dimension { Before reasons.NotPotentials reasons.PotentialsDimension }
+    ensures their_kind { Before reasons.PotentialsDimension reasons.PotentialsKind }
+    ensures not_fixed { Before reasons.PotentialsKind (reasons.MultiplierNotFixed 1) }
+    ensures multiplied_twice { Before (reasons.MultiplierNotFixed 9) (reasons.MultiplierRepeated 1) }
+    ensures duals { Before (reasons.MultiplierRepeated 9) (reasons.DualInfeasible 1 2) }
+    ensures branches { Before (reasons.FixedEdgeUnused 9) reasons.NotBranches }
+    ensures number_of_nodes { Before reasons.NotBranches reasons.BranchesDimension }
+    ensures combs { Before reasons.BranchesDimension (reasons.BadComb 1) }
+    ensures decided_twice { Before (reasons.BadComb 9) (reasons.BranchTwice 1) }
+    ensures leaves { Before (reasons.BranchTwice 9) (reasons.BadLeaf 1) }
 {}
 
 /// The order in which reasons against routes are judged: each pair of neighbours.
 pub fn examples_of_order_of_routes()
-    ensures nodes { Before rank_of_routes reasons.NotASolution reasons.TooFewNodes }
-    ensures dimension { Before rank_of_routes reasons.TooFewNodes reasons.Dimension }
-    ensures depots { Before rank_of_routes reasons.Dimension reasons.DepotCount }
-    ensures demand { Before rank_of_routes reasons.DepotCount reasons.DepotDemand }
-    ensures fixed { Before rank_of_routes reasons.DepotDemand reasons.FixedEdgesInRoutes }
-    ensures depot { Before rank_of_routes reasons.FixedEdgesInRoutes (reasons.DepotInRoute 1) }
-    ensures range { Before rank_of_routes (reasons.DepotInRoute 9) (reasons.NodeOutOfRange 1) }
-    ensures repeated { Before rank_of_routes (reasons.NodeOutOfRange 9) (reasons.RepeatedNode 1) }
-    ensures unserved { Before rank_of_routes (reasons.RepeatedNode 9) (reasons.Unserved 2) }
-    ensures overload { Before rank_of_routes (reasons.Unserved 9) (reasons.Overload 1) }
+    ensures nodes { Before reasons.NotASolution reasons.TooFewNodes }
+    ensures dimension { Before reasons.TooFewNodes reasons.Dimension }
+    ensures depots { Before reasons.Dimension reasons.DepotCount }
+    ensures demand { Before reasons.DepotCount reasons.DepotDemand }
+    ensures fixed { Before reasons.DepotDemand reasons.FixedEdgesInRoutes }
+    ensures depot { Before reasons.FixedEdgesInRoutes (reasons.DepotInRoute 1) }
+    ensures range { Before (reasons.DepotInRoute 9) (reasons.NodeOutOfRange 1) }
+    ensures repeated { Before (reasons.NodeOutOfRange 9) (reasons.RepeatedNode 1) }
+    ensures unserved { Before (reasons.RepeatedNode 9) (reasons.Unserved 2) }
+    ensures overload { Before (reasons.Unserved 9) (reasons.Overload 1) }
 {}
 
 /// When the reasons against a tour stand.

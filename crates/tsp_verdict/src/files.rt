@@ -10,8 +10,8 @@ ghost use Rattle.tsp_verdict.specs.Plan.{depots_of, demands_of, capacity_of};
 ghost use Rattle.tsp_verdict.specs.Solution.{nodes_of, fixed_of, tours_of, visited, nodes_in};
 
 use tsp_cost::Instance;
-use tsp_draft::{valid_fields_are_in_range, valid_files_are_complete};
-use tsp_file::File;
+use tsp_draft::valid_fields_are_in_range;
+use tsp_file::{File, RoutingData};
 
 /// The tours of a solution, none where it has no TOUR_SECTION.
 pub(crate) fn solution_tours(sol: &File) -> &[Vec<u32>]
@@ -44,49 +44,19 @@ pub(crate) fn fixed_pairs(inst: &Instance) -> &[(u32, u32)]
     }
 }
 
-/// The depots of an instance, none where it has no DEPOT_SECTION.
-pub(crate) fn depots(inst: &Instance) -> &[u32]
-    ensures value { result.now ≡ depots_of inst.now }
-    ensures range { All (IsNode (nodes_of inst.now)) result.now }
-{
-    let file = inst.file();
-    let _valid = file.fields();
-    valid_fields_are_in_range();
-    match file.depots() {
-        Some(depots) => depots,
-        None => &[],
-    }
-}
-
-/// The demands of a routing instance, one for each node.
-pub(crate) fn demands(inst: &Instance) -> &[i64]
+/// What a routing instance holds beside its costs.
+pub(crate) fn routing(inst: &Instance) -> RoutingData<'_>
     requires { inst.now.kind ≡ Some kinds.Cvrp }
-    ensures value { result.now ≡ demands_of inst.now }
-    ensures each { length result.now ≡ nodes_of inst.now }
-    ensures range { All IsDemand result.now }
+    ensures capacity { result.capacity ≡ capacity_of inst.now }
+    ensures loadable { IsFromTo (pos 1) (pos most_capacity) result.capacity }
+    ensures demands { result.demands.now ≡ demands_of inst.now }
+    ensures each { length result.demands.now ≡ nodes_of inst.now }
+    ensures each_demand { All IsDemand result.demands.now }
+    ensures depots { result.depots.now ≡ depots_of inst.now }
+    ensures each_depot { All (IsNode (nodes_of inst.now)) result.depots.now }
 {
-    let file = inst.file();
-    let _valid = file.fields();
-    valid_fields_are_in_range();
-    valid_files_are_complete();
-    let Some(demands) = file.demands() else {
+    let Some(held) = inst.file().as_routing() else {
         unreachable!();
     };
-    demands
-}
-
-/// The capacity of a vehicle of a routing instance.
-pub(crate) fn capacity(inst: &Instance) -> i64
-    requires { inst.now.kind ≡ Some kinds.Cvrp }
-    ensures value { result ≡ capacity_of inst.now }
-    ensures range { IsFromTo (pos 1) (pos most_capacity) result }
-{
-    let file = inst.file();
-    let _valid = file.fields();
-    valid_fields_are_in_range();
-    valid_files_are_complete();
-    let Some(capacity) = file.capacity() else {
-        unreachable!();
-    };
-    capacity
+    held
 }

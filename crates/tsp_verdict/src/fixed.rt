@@ -6,7 +6,7 @@ ghost use Rattle.tsp_draft.specs.Valid.{IsPairOf};
 ghost use Rattle.tsp_theory.specs.Tour.{Uses};
 ghost use Rattle.tsp_theory.specs.Cycle.{IsCycle};
 ghost use Rattle.tsp_verdict.specs.Places.{IsFirstPlace, IsUnused};
-ghost use Rattle.tsp_verdict.specs.Next.{AreNext};
+ghost use Rattle.tsp_verdict.specs.states.Next.{AreNext};
 
 use std::alloc::{AllocError, Global};
 

@@ -2,7 +2,7 @@
 
 ghost use Rattle.std.specs.Prelude.{◌≡◌, ◌≢◌, ◌+◌, ◌^◌, ◌<◌, ◌≤◌, ℕ, List, length, vec_len, IfOk, MatchOption};
 ghost use Rattle.std.specs.List.{All};
-ghost use Rattle.tsp_verdict.specs.Marks.{Marked, StandsAfter};
+ghost use Rattle.tsp_verdict.specs.states.Marks.{Marked, StandsAfter};
 ghost use Rattle.tsp_verdict.specs.Places.{IsFirstPlace, IsLarger, IsAt, IsRepeated, HoldsAtNone};
 
 use std::alloc::{AllocError, Global};

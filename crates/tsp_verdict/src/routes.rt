@@ -1,19 +1,22 @@
 //! The verdict on routes.
 
-ghost use Rattle.std.specs.Prelude.{◌≡◌, pos, Some, MatchOption, MatchResult};
+ghost use Rattle.std.specs.Prelude.{◌≡◌, length, pos, Some, MatchOption, MatchResult};
+ghost use Rattle.std.specs.List.{All};
 ghost use Rattle.tsp_format.specs.declared.kinds.Kind.TheVariants as kinds;
 ghost use Rattle.tsp_format.specs.Cells.{IsNode};
-ghost use Rattle.tsp_verdict.specs.Plan.{demand_of, depot_of, demands_of, AreCustomers};
-ghost use Rattle.tsp_verdict.specs.Routes.{NoneOfRoutesUpTo, IsFirstAgainstRoutes, IsRoutesVerdict, NoneOfRoutesBeforeRepeats};
+ghost use Rattle.tsp_verdict.specs.Plan.{demand_of, depot_of, demands_of, depots_of, AreCustomers};
+ghost use Rattle.tsp_verdict.specs.Routes.{NoneOfRoutesUpTo, NoneOfRoutesBeforePlaces, IsFirstAgainstRoutes, IsRoutesVerdict, NoneOfRoutesBeforeRepeats};
+ghost use Rattle.tsp_reason.specs.declared.verdict.Reason.TheVariants.{DepotCount};
+ghost use Rattle.tsp_verdict.specs.Reasons.{rank_of};
 ghost use Rattle.tsp_verdict.specs.Solution.{nodes_of};
 
-use crate::files::{capacity, demands, depots, fixed_pairs, solution_tours};
+use crate::files::{fixed_pairs, routing, solution_tours};
 use crate::lengths::plan_length;
 use crate::loads::{first_overload, least_routes};
 use crate::visits::{first_larger_in, first_of_in, first_unmarked, mark_all};
 use std::alloc::{AllocError, Global};
 use tsp_cost::{Costs, Instance};
-use tsp_file::File;
+use tsp_file::{File, RoutingData};
 use tsp_format::Kind;
 use tsp_reason::{Reason, Verdict};
 
@@ -39,7 +42,8 @@ pub fn judge_routes(alloc: Global, inst: &Instance, sol: &File) -> Result<Verdic
         (λ verdict. IsRoutesVerdict inst.now sol.now verdict)
         (λ refused. NoneOfRoutesBeforeRepeats inst.now sol.now) }
 {
-    let depot = match the_depot(inst, sol) {
+    let routing = routing(inst);
+    let depot = match the_depot(inst, &routing, sol) {
         Ok(depot) => depot,
         Err(reason) => return Ok(Verdict::No(reason)),
     };
@@ -54,33 +58,34 @@ pub fn judge_routes(alloc: Global, inst: &Instance, sol: &File) -> Result<Verdic
     if let Some(node) = first_unmarked(&seen, depot) {
         return Ok(Verdict::No(Reason::Unserved { node }));
     }
-    let demands = demands(inst);
-    let capacity = capacity(inst);
-    if let Some(route) = first_overload(routes, demands, capacity) {
+    if let Some(route) = first_overload(routes, routing.demands, routing.capacity) {
         return Ok(Verdict::No(Reason::Overload { route }));
     }
     Ok(Verdict::Routes {
         length: plan_length(inst, depot, routes),
         routes: routes.len() as u32,
-        least: least_routes(demands, capacity),
+        least: least_routes(routing.demands, routing.capacity),
     })
 }
 
 /// The only depot of an instance, or the first reason that needs no look at the routes.
-fn the_depot(inst: &Instance, sol: &File) -> Result<u32, Reason>
-    requires { inst.now.kind ≡ Some kinds.Cvrp }
+fn the_depot(inst: &Instance, routing: &RoutingData<'_>, sol: &File) -> Result<u32, Reason>
+    requires demands { routing.now.demands.now ≡ demands_of inst.now }
+    requires each { length routing.now.demands.now ≡ nodes_of inst.now }
+    requires depots { routing.now.depots.now ≡ depots_of inst.now }
+    requires each_depot { All (IsNode (nodes_of inst.now)) routing.now.depots.now }
     ensures { MatchResult result
         (λ depot. (depot ≡ depot_of inst.now) × IsNode (nodes_of inst.now) depot
-        × (demand_of (demands_of inst.now) depot ≡ pos 0) × NoneOfRoutesUpTo inst.now sol.now 7)
+        × (demand_of (demands_of inst.now) depot ≡ pos 0) × NoneOfRoutesBeforePlaces inst.now sol.now)
         (λ reason. IsFirstAgainstRoutes inst.now sol.now reason) }
 {
     if let Some(reason) = first_against_files(inst, sol) {
         return Err(reason);
     }
-    let [depot] = depots(inst) else {
+    let [depot] = routing.depots else {
         return Err(Reason::DepotCount);
     };
-    if demands(inst)[*depot as usize - 1] != 0 {
+    if routing.demands[*depot as usize - 1] != 0 {
         return Err(Reason::DepotDemand);
     }
     if !fixed_pairs(inst).is_empty() {
@@ -92,7 +97,7 @@ fn the_depot(inst: &Instance, sol: &File) -> Result<u32, Reason>
 /// The first reason that needs no look at the depot.
 fn first_against_files(inst: &Instance, sol: &File) -> Option<Reason>
     ensures { MatchOption result
-        (NoneOfRoutesUpTo inst.now sol.now 4)
+        (NoneOfRoutesUpTo inst.now sol.now (rank_of DepotCount))
         (λ reason. IsFirstAgainstRoutes inst.now sol.now reason) }
 {
     let nodes = inst.count();
@@ -111,9 +116,9 @@ fn first_against_files(inst: &Instance, sol: &File) -> Option<Reason>
 /// The first reason that one node alone shows: the depot, or a node that is too large.
 fn first_against_places(inst: &Instance, depot: u32, sol: &File) -> Option<Reason>
     requires depot { depot ≡ depot_of inst.now }
-    requires before { NoneOfRoutesUpTo inst.now sol.now 7 }
+    requires before { NoneOfRoutesBeforePlaces inst.now sol.now }
     ensures { MatchOption result
-        (AreCustomers inst.now sol.now × NoneOfRoutesUpTo inst.now sol.now 9)
+        (AreCustomers inst.now sol.now × NoneOfRoutesBeforeRepeats inst.now sol.now)
         (λ reason. IsFirstAgainstRoutes inst.now sol.now reason) }
 {
     let routes = solution_tours(sol);

@@ -4,14 +4,19 @@ ghost use Rattle.std.specs.Prelude.{◌≡◌, ◌⊎◌, ◌<◌, ◌≤◌, []
 ghost use Rattle.std.specs.List.{All};
 ghost use Rattle.tsp_format.specs.declared.kinds.Kind.TheVariants as kinds;
 ghost use Rattle.tsp_cost.specs.Tours.{is_directed};
+ghost use Rattle.tsp_reason.specs.declared.verdict.Reason.TheVariants.{TourCount};
+ghost use Rattle.tsp_verdict.specs.Reasons.{rank_of};
 ghost use Rattle.tsp_verdict.specs.Solution.{nodes_of, tours_of};
-ghost use Rattle.tsp_verdict.specs.Tours.{NoneOfTourUpTo, IsFirstAgainstTour, IsSymmetricTsp, FindsLength, IsTourVerdict, NoneOfTourBeforeRepeats};
+ghost use Rattle.tsp_verdict.specs.Tours.{NoneOfTourUpTo, NoneOfTourBeforeNodes, IsFirstAgainstTour, IsTourVerdict, NoneOfTourBeforeRepeats};
+ghost use Rattle.tsp_file.specs.Cost.{cost};
+ghost use Rattle.tsp_theory.specs.Costs.{IsFirstAsymmetric};
+ghost use Rattle.tsp_verdict.specs.states.Costs.{AreTourCosts, FindsLength};
 
 use crate::files::{fixed_pairs, solution_tours};
 use crate::fixed::{first_unused, next_nodes};
 use crate::places::{first_larger, first_repeated};
 use std::alloc::{AllocError, Global};
-use tsp_cost::{Costs, Instance, symmetric_fault, tour_length};
+use tsp_cost::{Costs, EvenView, Instance, View, even_view, tour_length};
 use tsp_file::File;
 use tsp_format::Kind;
 use tsp_reason::{Reason, Verdict};
@@ -38,7 +43,7 @@ pub fn judge_tour(alloc: Global, inst: &Instance, sol: &File) -> Result<Verdict,
         (λ refused. NoneOfTourBeforeRepeats inst.now sol.now) }
 {
     match length_of_tour(alloc, inst, sol)? {
-        Ok(length) => Ok(Verdict::Tour {
+        Ok((length, _)) => Ok(Verdict::Tour {
             length,
             bound: None,
         }),
@@ -46,19 +51,28 @@ pub fn judge_tour(alloc: Global, inst: &Instance, sol: &File) -> Result<Verdict,
     }
 }
 
-/// The length of a solution's one tour, or the first reason against it.
-pub(crate) fn length_of_tour(
+/// What the costs of an instance are taken from, by its TYPE.
+#[derive(Clone, Copy, Debug)]
+pub(crate) enum TourCosts<'a> {
+    /// TYPE TSP, whose costs are the same in both directions.
+    Undirected(EvenView<'a>),
+    /// TYPE ATSP.
+    Directed(View<'a>),
+}
+
+/// The length of a solution's one tour and the costs of the instance, or the first reason against it.
+pub(crate) fn length_of_tour<'a>(
     alloc: Global,
-    inst: &Instance,
+    inst: &'a Instance,
     sol: &File,
-) -> Result<Result<i64, Reason>, AllocError>
+) -> Result<Result<(i64, TourCosts<'a>), Reason>, AllocError>
     requires { (inst.now.kind ≡ Some kinds.Tsp) ⊎ (inst.now.kind ≡ Some kinds.Atsp) }
     ensures { MatchResult result
         (λ found. FindsLength inst.now sol.now found)
         (λ refused. NoneOfTourBeforeRepeats inst.now sol.now) }
 {
-    let tour = match the_tour(inst, sol) {
-        Ok(tour) => tour,
+    let (tour, costs) = match the_tour(inst, sol) {
+        Ok(found) => found,
         Err(reason) => return Ok(Err(reason)),
     };
     let nodes = inst.count();
@@ -73,52 +87,71 @@ pub(crate) fn length_of_tour(
     if let Some(index) = first_unused(fixed_pairs(inst), next.as_slice(), directed) {
         return Ok(Err(Reason::FixedEdgeUnused { index }));
     }
-    Ok(Ok(tour_length(inst, tour)))
+    Ok(Ok((tour_length(inst, tour), costs)))
 }
 
-/// The one tour of a solution, with as many nodes as the instance, or the first reason against it
-/// that is judged before its nodes are looked at.
-fn the_tour<'a>(inst: &Instance, sol: &'a File) -> Result<&'a [u32], Reason>
+/// The one tour of a solution, with as many nodes as the instance, and the costs of the instance, or
+/// the first reason against it that is judged before its nodes are looked at.
+fn the_tour<'a, 'b>(inst: &'a Instance, sol: &'b File) -> Result<(&'b [u32], TourCosts<'a>), Reason>
+    requires { (inst.now.kind ≡ Some kinds.Tsp) ⊎ (inst.now.kind ≡ Some kinds.Atsp) }
     ensures { MatchResult result
-        (λ tour. (tours_of sol.now ≡ tour.now ∷ []) × (length tour.now ≡ nodes_of inst.now)
-        × All (λ node. 1 ≤ node) tour.now × NoneOfTourUpTo inst.now sol.now 7
-        × IsSymmetricTsp inst.now)
+        (λ found. (tours_of sol.now ≡ found.0.now ∷ []) × (length found.0.now ≡ nodes_of inst.now)
+        × All (λ node. 1 ≤ node) found.0.now × NoneOfTourBeforeNodes inst.now sol.now
+        × AreTourCosts inst.now found.1)
         (λ reason. IsFirstAgainstTour inst.now sol.now reason) }
 {
-    if let Some(reason) = first_against_files(inst, sol) {
-        return Err(reason);
-    }
+    let costs = match first_against_files(inst, sol) {
+        Ok(costs) => costs,
+        Err(reason) => return Err(reason),
+    };
     let [tour] = solution_tours(sol) else {
         return Err(Reason::TourCount);
     };
     if tour.len() != inst.count() as usize {
         return Err(Reason::TourLength);
     }
-    Ok(tour.as_slice())
+    Ok((tour.as_slice(), costs))
 }
 
-/// The first reason that needs no look at the tours.
-fn first_against_files(inst: &Instance, sol: &File) -> Option<Reason>
-    ensures { MatchOption result
-        (NoneOfTourUpTo inst.now sol.now 5 × IsSymmetricTsp inst.now)
+/// The costs of an instance, or the first reason that needs no look at the tours.
+fn first_against_files<'a>(inst: &'a Instance, sol: &File) -> Result<TourCosts<'a>, Reason>
+    requires { (inst.now.kind ≡ Some kinds.Tsp) ⊎ (inst.now.kind ≡ Some kinds.Atsp) }
+    ensures { MatchResult result
+        (λ costs. NoneOfTourUpTo inst.now sol.now (rank_of TourCount) × AreTourCosts inst.now costs)
         (λ reason. IsFirstAgainstTour inst.now sol.now reason) }
 {
     let nodes = inst.count();
     if sol.kind() != Kind::Tour {
-        return Some(Reason::NotASolution);
+        return Err(Reason::NotASolution);
     }
     if nodes < FEWEST_NODES {
-        return Some(Reason::TooFewNodes);
+        return Err(Reason::TooFewNodes);
     }
-    if inst.kind() == Kind::Tsp {
-        if let Some((i, j)) = symmetric_fault(inst) {
-            return Some(Reason::NotSymmetric { i, j });
-        }
-    }
+    let costs = match tour_costs(inst) {
+        Ok(costs) => costs,
+        Err((i, j)) => return Err(Reason::NotSymmetric { i, j }),
+    };
     if sol.dimension().is_some_and(|stated| stated != nodes) {
-        return Some(Reason::Dimension);
+        return Err(Reason::Dimension);
     }
-    None
+    Ok(costs)
+}
+
+/// The costs of an instance, or under TYPE TSP the first pair of nodes whose two costs differ.
+fn tour_costs(inst: &Instance) -> Result<TourCosts<'_>, (u32, u32)>
+    requires { (inst.now.kind ≡ Some kinds.Tsp) ⊎ (inst.now.kind ≡ Some kinds.Atsp) }
+    ensures { MatchResult result
+        (λ costs. AreTourCosts inst.now costs)
+        (λ pair. (inst.now.kind ≡ Some kinds.Tsp)
+        × IsFirstAsymmetric (nodes_of inst.now) (cost inst.now) pair) }
+{
+    if inst.kind() != Kind::Tsp {
+        return Ok(TourCosts::Directed(inst.view()));
+    }
+    match even_view(inst) {
+        Ok(view) => Ok(TourCosts::Undirected(view)),
+        Err(pair) => Err(pair),
+    }
 }
 
 /// Whether fixed pairs have a direction.

@@ -1,34 +1,27 @@
 //! The bound that a tree of cases gives, or the first reason against it.
 
-ghost use Rattle.std.specs.Prelude.{◌≡◌, ◌≤◌, ◌<◌, ◌^◌, true, length, Some, IfOk, MatchOption};
-ghost use Rattle.std.specs.List.{All};
+ghost use Rattle.std.specs.Prelude.{◌≡◌, ◌≤◌, true, Some, IfOk, MatchResult};
 ghost use Rattle.tsp_format.specs.declared.kinds.Kind.TheVariants as kinds;
-ghost use Rattle.tsp_format.specs.Steps.{steps_of, are_whole};
+ghost use Rattle.tsp_format.specs.Steps.{steps_of};
 ghost use Rattle.tsp_draft.specs.Fields.{combs_of};
 ghost use Rattle.tsp_draft.specs.Rules.{is_tree};
 ghost use Rattle.tsp_file.specs.Cost.{cost};
+ghost use Rattle.tsp_file.specs.Typed.{HoldsCases};
 ghost use Rattle.tsp_theory.specs.Costs.{IsSymmetric};
-ghost use Rattle.tsp_cost.specs.Views.{HasCosts};
-ghost use Rattle.tsp_theory.specs.Numbers.{IsScale};
-ghost use Rattle.tsp_branch.specs.Listed.{IsStepOf};
-ghost use Rattle.tsp_verdict.specs.Certificate.{scale_in};
+ghost use Rattle.tsp_cost.specs.Views.{HasCosts, ShowsEven};
 ghost use Rattle.tsp_verdict.specs.Reasons.{IsFirstReason};
 ghost use Rattle.tsp_verdict.specs.Solution.{nodes_of};
-ghost use Rattle.tsp_verdict.specs.Tours.{rank_of_tours};
-ghost use Rattle.tsp_verdict.specs.Tree.{combs_in, steps_in, StandsAgainstTree};
+ghost use Rattle.tsp_verdict.specs.Tree.{StandsAgainstTree};
 ghost use Rattle.tsp_reason.specs.declared.certificate.Certificate.TheVariants as certificates;
 ghost use Rattle.tsp_verdict.specs.Certified.{FindsBound};
-ghost use Rattle.tsp_verdict.specs.Numbered.{AreSomeSets};
 
 use crate::decided::taken_once;
 use crate::files::fixed_pairs;
 use crate::numbered::numbered_sets;
 use std::alloc::{AllocError, Global};
 use tsp_branch::{BranchVerdict, CostTable, certificates_bound_cycles, judge_branches};
-use tsp_cost::{Costs, Instance, Symmetric, View};
-use tsp_draft::{valid_fields_are_in_range, valid_files_are_complete};
-use tsp_file::File;
-use tsp_format::{Kind, TreeStep};
+use tsp_cost::{Costs, EvenView, Instance, Symmetric};
+use tsp_file::{File, TreeData};
 use tsp_reason::Reason;
 
 /// The most nodes of which distances are kept for each pair, in 32 MB.
@@ -43,41 +36,42 @@ const MOST_TABLED: u32 = 2_000;
 pub(crate) fn bound_of_tree(
     alloc: Global,
     instance: &Instance,
+    view: EvenView<'_>,
     branches: &File,
 ) -> Result<Result<i128, Reason>, AllocError>
     requires kind { instance.now.kind ≡ Some kinds.Tsp }
     requires some { 3 ≤ nodes_of instance.now }
+    requires shows { ShowsEven instance.now view }
     requires even { IsSymmetric (cost instance.now) }
     ensures { IfOk result (λ found. FindsBound certificates.Branches instance.now branches.now found) }
 {
-    if let Some(reason) = first_against_file(instance, branches) {
-        return Ok(Err(reason));
-    }
+    let tree = match tree_of(instance, branches) {
+        Ok(tree) => tree,
+        Err(reason) => return Ok(Err(reason)),
+    };
     // A view has found once and for all where the costs are.
-    match instance.view() {
-        View::Plane(points) => judge_distances(alloc, instance, branches, &points),
-        View::Space(points) => judge_distances(alloc, instance, branches, &points),
-        View::Triangle(triangle) => judge_tree(alloc, instance, branches, &triangle),
-        View::Matrix(matrix) => match matrix.even() {
-            Ok(even) => judge_tree(alloc, instance, branches, &even),
-            Err(_) => unreachable!(),
-        },
+    match view {
+        EvenView::Plane(points) => judge_distances(alloc, instance, branches, &tree, &points),
+        EvenView::Space(points) => judge_distances(alloc, instance, branches, &tree, &points),
+        EvenView::Triangle(triangle) => judge_tree(alloc, instance, branches, &tree, &triangle),
+        EvenView::Matrix(matrix) => judge_tree(alloc, instance, branches, &tree, &matrix),
     }
 }
 
-/// The first reason that needs no look at the tree.
-fn first_against_file(instance: &Instance, branches: &File) -> Option<Reason>
-    ensures { MatchOption result
-        ((is_tree branches.now.kind ≡ true) × (nodes_of branches.now ≡ nodes_of instance.now))
-        (λ reason. IsFirstReason (StandsAgainstTree instance.now branches.now) rank_of_tours reason) }
+/// The tree that a certificate holds, or the first reason that needs no look at it.
+fn tree_of<'a>(instance: &Instance, branches: &'a File) -> Result<TreeData<'a>, Reason>
+    ensures { MatchResult result
+        (λ tree. (is_tree branches.now.kind ≡ true) × (nodes_of branches.now ≡ nodes_of instance.now)
+        × HoldsCases branches.now tree.scale (combs_of tree.combs.now) (steps_of tree.steps.now))
+        (λ reason. IsFirstReason (StandsAgainstTree instance.now branches.now) reason) }
 {
-    if branches.kind() != Kind::Branches {
-        return Some(Reason::NotBranches);
-    }
+    let Some(tree) = branches.as_tree() else {
+        return Err(Reason::NotBranches);
+    };
     if branches.dimension().unwrap_or(0) != instance.count() {
-        return Some(Reason::BranchesDimension);
+        return Err(Reason::BranchesDimension);
     }
-    None
+    Ok(tree)
 }
 
 /// The bound over distances, which are looked up once where the tree has several leaves and memory
@@ -90,6 +84,7 @@ fn judge_distances<C: Symmetric>(
     alloc: Global,
     instance: &Instance,
     branches: &File,
+    tree: &TreeData<'_>,
     costs: &C,
 ) -> Result<Result<i128, Reason>, AllocError>
     requires keeps { HasCosts instance.now (C.nodes costs.now) (C.at costs.now) }
@@ -98,14 +93,15 @@ fn judge_distances<C: Symmetric>(
     requires even { IsSymmetric (cost instance.now) }
     requires sort { is_tree branches.now.kind ≡ true }
     requires count { nodes_of branches.now ≡ nodes_of instance.now }
+    requires held { HoldsCases branches.now tree.now.scale (combs_of tree.now.combs.now) (steps_of tree.now.steps.now) }
     ensures { IfOk result (λ found. FindsBound certificates.Branches instance.now branches.now found) }
 {
-    if costs.count() > MOST_TABLED || steps_of_tree(branches).len() == 1 {
-        return judge_tree(alloc, instance, branches, costs);
+    if costs.count() > MOST_TABLED || tree.steps.len() == 1 {
+        return judge_tree(alloc, instance, branches, tree, costs);
     }
     match CostTable::of(alloc, costs) {
-        Ok(table) => judge_tree(alloc, instance, branches, &table),
-        Err(_) => judge_tree(alloc, instance, branches, costs),
+        Ok(table) => judge_tree(alloc, instance, branches, tree, &table),
+        Err(_) => judge_tree(alloc, instance, branches, tree, costs),
     }
 }
 
@@ -119,6 +115,7 @@ fn judge_tree<C: Symmetric>(
     alloc: Global,
     instance: &Instance,
     branches: &File,
+    tree: &TreeData<'_>,
     costs: &C,
 ) -> Result<Result<i128, Reason>, AllocError>
     requires keeps { HasCosts instance.now (C.nodes costs.now) (C.at costs.now) }
@@ -127,15 +124,14 @@ fn judge_tree<C: Symmetric>(
     requires even { IsSymmetric (cost instance.now) }
     requires sort { is_tree branches.now.kind ≡ true }
     requires count { nodes_of branches.now ≡ nodes_of instance.now }
+    requires held { HoldsCases branches.now tree.now.scale (combs_of tree.now.combs.now) (steps_of tree.now.steps.now) }
     ensures { IfOk result (λ found. FindsBound certificates.Branches instance.now branches.now found) }
 {
     certificates_bound_cycles();
     let given = taken_once(alloc, fixed_pairs(instance))?;
-    let combs = combs_of_tree(branches);
-    let sets = numbered_sets(alloc, combs)?;
-    let steps = steps_of_tree(branches);
-    let scale = scale_of_tree(branches);
-    match judge_branches(alloc, costs, scale, combs.len(), &sets, &given, steps)? {
+    let sets = numbered_sets(alloc, tree.combs)?;
+    let count = tree.combs.len();
+    match judge_branches(alloc, costs, tree.scale, count, &sets, &given, tree.steps)? {
         BranchVerdict::Bound(bound) => Ok(Ok(bound)),
         BranchVerdict::BadComb(index) => Ok(Err(Reason::BadComb {
             index: index as u32,
@@ -147,44 +143,4 @@ fn judge_tree<C: Symmetric>(
             index: index as u32,
         })),
     }
-}
-
-/// The scale of a certificate by branching: 1 where it has none.
-fn scale_of_tree(branches: &File) -> i64
-    ensures value { result ≡ scale_in branches.now }
-    ensures scaled { IsScale result }
-{
-    let _valid = branches.fields();
-    valid_fields_are_in_range();
-    branches.scale().unwrap_or(1)
-}
-
-/// The combs of a certificate by branching: none where it has no COMB_SECTION.
-fn combs_of_tree(branches: &File) -> &[Vec<Vec<u32>>]
-    ensures value { combs_of result.now ≡ combs_in branches.now }
-    ensures sets { AreSomeSets (nodes_of branches.now) (combs_of result.now) }
-{
-    let _valid = branches.fields();
-    valid_fields_are_in_range();
-    match branches.combs() {
-        Some(combs) => combs,
-        None => &[],
-    }
-}
-
-/// The steps of a certificate by branching.
-fn steps_of_tree(branches: &File) -> &[TreeStep]
-    requires { is_tree branches.now.kind ≡ true }
-    ensures value { steps_of result.now ≡ steps_in branches.now }
-    ensures few { length result.now < 2 ^ 32 }
-    ensures each { All (IsStepOf (nodes_of branches.now)) (steps_of result.now) }
-    ensures whole { are_whole 1 (steps_of result.now) ≡ true }
-{
-    let _valid = branches.fields();
-    valid_fields_are_in_range();
-    valid_files_are_complete();
-    let Some(steps) = branches.branches() else {
-        unreachable!();
-    };
-    steps
 }

@@ -2,7 +2,7 @@
 
 ghost use Rattle.std.specs.Prelude.{◌≡◌, ◌≢◌, ◌+◌, ◌^◌, ◌<◌, ◌≤◌, ℕ, true, false, length, vec_len, slice_index_or, MatchOption};
 ghost use Rattle.std.specs.List.{All};
-ghost use Rattle.tsp_verdict.specs.Marks.{Marked};
+ghost use Rattle.tsp_verdict.specs.states.Marks.{Marked};
 ghost use Rattle.tsp_verdict.specs.Places.{IsFirstPlace, IsLarger, IsAt, IsRepeated};
 ghost use Rattle.tsp_verdict.specs.Solution.{nodes_in};
 

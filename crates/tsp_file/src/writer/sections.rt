@@ -11,7 +11,7 @@ ghost use Rattle.tsp_file.specs.Text.{line_end, number_line, section_text, lines
 ghost use Rattle.tsp_stream.specs.Way.{Puts};
 
 use std::io::Write;
-use tsp_distance::{Decimal, Point};
+use tsp_distance::{Decimal, InSpace, Point};
 use tsp_draft::Coords;
 use tsp_format::{Field, Word};
 use tsp_number::push_decimal;
@@ -119,15 +119,17 @@ fn put_numbers<W: Write>(piece: &mut Piece, out: &mut Watched<W>, numbers: &[i64
 }
 
 /// Adds a line for each node, in rising order, with its coordinates.
-fn put_points<W: Write>(piece: &mut Piece, out: &mut Watched<W>, points: &Coords, spatial: bool)
+fn put_points<W: Write, P: InSpace>(
+    piece: &mut Piece,
+    out: &mut Watched<W>,
+    points: &[P],
+    spatial: bool,
+)
     ensures { Puts W.contents out.old piece.old out.new piece.new
-        (lines_by_node (point_numbers spatial) (points_of points.now)) }
+        (lines_by_node (point_numbers spatial) (map P.place points.now)) }
 {
-    'nodes: for index in 0..points.len() {
-        let Some(point) = points.get(index) else {
-            unreachable!();
-        };
-        put_point_line(piece, out, index + 1, point, spatial);
+    'nodes: for (index, point) in points.iter().enumerate() {
+        put_point_line(piece, out, index + 1, point.in_space(), spatial);
     }
 }
 
@@ -202,7 +204,10 @@ pub(crate) fn put_point_section<W: Write>(
 {
     if let Some(points) = points {
         put_opening(piece, out, field);
-        put_points(piece, out, points, spatial);
+        match points {
+            Coords::Plane(points) => put_points(piece, out, points, spatial),
+            Coords::Space(points) => put_points(piece, out, points, spatial),
+        }
     }
 }
 

@@ -43,10 +43,7 @@ impl PointList {
     pub fn open(alloc: Global, n: u32) -> Result<PointList, AllocError>
         ensures { IfOk result (λ part. HoldsPoints part n []) }
     {
-        let zero = match Decimal::of_count(0) {
-            Some(zero) => zero,
-            None => unreachable!(),
-        };
+        let zero = Decimal::of_nanos(0);
         Ok(PointList {
             seen: vec![in alloc; false; n as usize]?,
             entries: vec![in alloc; PlanePoint { x: zero, y: zero }; n as usize]?,

@@ -44,10 +44,7 @@ impl SpacePointList {
     pub fn open(alloc: Global, n: u32) -> Result<SpacePointList, AllocError>
         ensures { IfOk result (λ part. HoldsSpacePoints part n []) }
     {
-        let zero = match Decimal::of_count(0) {
-            Some(zero) => zero,
-            None => unreachable!(),
-        };
+        let zero = Decimal::of_nanos(0);
         Ok(SpacePointList {
             seen: vec![in alloc; false; n as usize]?,
             entries: vec![in alloc; Point {

@@ -1,7 +1,7 @@
 use Rattle.std.proofs.Common.{◌≡◌, ◌<◌, ℕ, List}
 use Rattle.std.specs.Prelude.{slice_index_or}
 use Rattle.tsp_theory.specs.Tour.{Uses}
-use Rattle.tsp_verdict.specs.Next.{AreNext}
+use Rattle.tsp_verdict.specs.states.Next.{AreNext}
 use Rattle.tsp_verdict.proofs.fixed.first_unused.Given as goal
 
 abbrev pub invariant-pairs : goal.invariant-pairs

@@ -1,7 +1,7 @@
 use Rattle.std.proofs.Common.{◌≡◌, ◌+◌, ◌∷◌, [], ◌++◌, List, ℕ, suc, length, get_or, set, sym, ap, subst, ◌∙◌, arith}
 use Rattle.std.specs.Prelude.{vec_len}
 use Rattle.tsp_theory.specs.Cycle.{IsCycle}
-use Rattle.tsp_verdict.specs.Next.{AreNext}
+use Rattle.tsp_verdict.specs.states.Next.{AreNext}
 use Rattle.tsp_verdict.proofs.Links.{SetUpTo, set_next, are_next, from_in, further, next_at, last_at}
 use Rattle.tsp_verdict.proofs.fixed.next_nodes.Goals as goal
 

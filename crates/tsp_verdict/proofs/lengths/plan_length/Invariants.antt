@@ -3,7 +3,7 @@ use Rattle.std.specs.Prelude.{◌+ℤ◌}
 use Rattle.tsp_file.specs.Cost.{cost}
 use Rattle.tsp_verdict.specs.Plan.{plan_length}
 use Rattle.tsp_verdict.specs.Solution.{nodes_in}
-use Rattle.tsp_verdict.specs.Sums.{IsSumOf}
+use Rattle.tsp_verdict.specs.states.Sums.{IsSumOf}
 use Rattle.tsp_verdict.proofs.lengths.plan_length.Given as goal
 
 abbrev pub invariant-routes : goal.invariant-routes

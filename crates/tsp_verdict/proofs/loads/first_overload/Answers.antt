@@ -3,7 +3,7 @@ use Rattle.std.specs.Prelude.{FitsSigned, ◌≤ℤ◌}
 use Rattle.std.specs.Int.{w64}
 use Rattle.std.proofs.lemmas.Int.{to_z-of_z}
 use Rattle.tsp_format.specs.Cells.{IsNode}
-use Rattle.tsp_verdict.specs.Marks.{StandsAfter}
+use Rattle.tsp_verdict.specs.states.Marks.{StandsAfter}
 use Rattle.tsp_verdict.specs.Plan.{load_of}
 use Rattle.tsp_verdict.specs.Solution.{nodes_in}
 use Rattle.tsp_verdict.proofs.Pieces.{stands_here, all_here}

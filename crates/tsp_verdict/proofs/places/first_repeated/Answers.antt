@@ -1,5 +1,5 @@
 use Rattle.std.proofs.Common.{◌≡◌, ◌+◌, ℕ, Bool, false, List, replicate, sym, subst, rules}
-use Rattle.tsp_verdict.specs.Marks.{Marked}
+use Rattle.tsp_verdict.specs.states.Marks.{Marked}
 use Rattle.tsp_verdict.proofs.MarkedNodes.{none_marked, stands_whole, found_whole}
 use Rattle.tsp_verdict.proofs.places.first_repeated.Goals as goal
 

@@ -1,6 +1,6 @@
 use Rattle.std.proofs.Common.{◌≡◌, ◌+◌, ℕ, List}
 use Rattle.std.specs.Prelude.{vec_len}
-use Rattle.tsp_verdict.specs.Marks.{Marked, StandsAfter}
+use Rattle.tsp_verdict.specs.states.Marks.{Marked, StandsAfter}
 use Rattle.tsp_verdict.proofs.places.mark.Given as goal
 
 abbrev pub invariant-nodes : goal.invariant-nodes

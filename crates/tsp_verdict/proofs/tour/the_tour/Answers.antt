@@ -10,5 +10,5 @@ returns c =
     let only : tours_of c.args.sol.now ≡ tour ∷ [] =
     sym c.solution_tours.ensures.value ∙ one_tour c.solution_tours.result.now c.tour-item.result one c.tour-item.is ∙ ap (λ (xs : List ℕ). xs ∷ []) (sym c.as_slice.ensures.value) in
     let full : length tour ≡ nodes_of c.args.inst.now = omega (arith, c.as_slice.ensures.len, c.if-len-count.false, c.count.ensures.value) in
-    let found = tour_found c.args.inst.now c.args.sol.now tour only full (rw (← c.solution_tours.ensures.nodes) c.solution_tours.ensures.range) c.in_default.ensures.0 in
-    (found.0, found.1, found.2, found.3, c.in_default.ensures.1)
+    let found = tour_found c.args.inst.now c.args.sol.now tour only full (rw (← c.solution_tours.ensures.nodes) c.solution_tours.ensures.range) c.in-Ok.ensures.0 in
+    (found.0, found.1, found.2, λ place. found.3, c.in-Ok.ensures.1)

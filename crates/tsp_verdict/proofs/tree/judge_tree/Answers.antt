@@ -13,17 +13,19 @@ use Rattle.tsp_branch.specs.declared.steps.BranchVerdict.TheVariants as found
 use Rattle.tsp_branch.specs.BranchVerdicts.{IsBranchVerdict, IsSizedVerdict}
 use Rattle.tsp_branch.specs.Combed.{plain}
 use Rattle.tsp_branch.specs.Decided.{case_of}
-use Rattle.tsp_branch.specs.Listed.{no_numbers_of}
+use Rattle.tsp_branch.specs.Listed.{no_numbers_of, IsStepOf}
 use Rattle.tsp_branch.specs.Sets.{AreSetsOf}
 use Rattle.tsp_verdict.specs.Solution.{nodes_of}
+use Rattle.tsp_verdict.proofs.FilesHold.{steps_hold, steps_few}
+use Rattle.tsp_verdict.proofs.HeldNumbers.{steps_are}
 use Rattle.tsp_verdict.proofs.GivenPairs.{given_once, given_are, given_few}
 use Rattle.tsp_verdict.proofs.NumberedSets.{sets_of_nodes, sets_of_combs, sets_in_order, sets_few}
 use Rattle.tsp_verdict.proofs.TreeReasons.{are_of, told, twice_within, bad_within, comb_first, twice_first, leaf_first, none_stands, certified}
 use Rattle.tsp_verdict.proofs.tree.judge_tree.Goals as goal
 
 pub judge_branches-requires-clause-few_sets : goal.judge_branches-requires-clause-few_sets
-judge_branches-requires-clause-few_sets g c = sets_few (nodes_of c.args.branches.now) c.deref.result.now (combs_of c.combs_of_tree-combs.result.now)
-    (ap plain c.deref.ensures.value ∙ c.in_ok-sets.ensures) c.combs_of_tree-combs.ensures.sets
+judge_branches-requires-clause-few_sets g c = sets_few (nodes_of c.args.branches.now) c.deref.result.now (combs_of c.args.tree.now.combs.now)
+    (ap plain c.deref.ensures.value ∙ c.in_ok-sets.ensures) c.requires.held.each_comb
 
 pub judge_branches-requires-clause-few_given : goal.judge_branches-requires-clause-few_given
 judge_branches-requires-clause-few_given g c =
@@ -33,17 +35,26 @@ judge_branches-requires-clause-few_given g c =
 pub judge_branches-requires-clause-nodes : goal.judge_branches-requires-clause-nodes
 judge_branches-requires-clause-nodes g c =
     let same : nodes_of c.args.branches.now ≡ g.C.Costs.nodes c.args.costs.now = c.requires.count ∙ ap (λ (d : Option ℕ). unwrap_or d 0) c.requires.keeps.count in
-    subst (λ (n : ℕ). AreSetsOf n c.deref.result.now) same (sets_of_nodes (nodes_of c.args.branches.now) c.deref.result.now (combs_of c.combs_of_tree-combs.result.now)
-    (ap plain c.deref.ensures.value ∙ c.in_ok-sets.ensures) c.combs_of_tree-combs.ensures.sets)
+    subst (λ (n : ℕ). AreSetsOf n c.deref.result.now) same (sets_of_nodes (nodes_of c.args.branches.now) c.deref.result.now (combs_of c.args.tree.now.combs.now)
+    (ap plain c.deref.ensures.value ∙ c.in_ok-sets.ensures) c.requires.held.each_comb)
 
 pub judge_branches-requires-clause-of_combs : goal.judge_branches-requires-clause-of_combs
 judge_branches-requires-clause-of_combs g c = λ k d lt.
-    let within = sets_of_combs c.deref.result.now (combs_of c.combs_of_tree-combs.result.now) (ap plain c.deref.ensures.value ∙ c.in_ok-sets.ensures) k d lt in
-    let as_many : length (combs_of c.combs_of_tree-combs.result.now) ≡ length c.combs_of_tree-combs.result.now = length-map c.combs_of_tree-combs.result.now _ in
+    let within = sets_of_combs c.deref.result.now (combs_of c.args.tree.now.combs.now) (ap plain c.deref.ensures.value ∙ c.in_ok-sets.ensures) k d lt in
+    let as_many : length (combs_of c.args.tree.now.combs.now) ≡ length c.args.tree.now.combs.now = length-map c.args.tree.now.combs.now _ in
     omega (arith, within, as_many)
 
 pub judge_branches-requires-clause-in_order : goal.judge_branches-requires-clause-in_order
-judge_branches-requires-clause-in_order g c = sets_in_order c.deref.result.now (combs_of c.combs_of_tree-combs.result.now) (ap plain c.deref.ensures.value ∙ c.in_ok-sets.ensures)
+judge_branches-requires-clause-in_order g c = sets_in_order c.deref.result.now (combs_of c.args.tree.now.combs.now) (ap plain c.deref.ensures.value ∙ c.in_ok-sets.ensures)
+
+pub judge_branches-requires-clause-few_steps : goal.judge_branches-requires-clause-few_steps
+judge_branches-requires-clause-few_steps g c = steps_few c.args.branches.now c.args.tree.now.steps.now c.requires.held.each_step
+
+pub judge_branches-requires-clause-steps : goal.judge_branches-requires-clause-steps
+judge_branches-requires-clause-steps g c =
+    let same : nodes_of c.args.branches.now ≡ g.C.Costs.nodes c.args.costs.now = c.requires.count ∙ ap (λ (d : Option ℕ). unwrap_or d 0) c.requires.keeps.count in
+    subst (λ (n : ℕ). All (IsStepOf n) (steps_of c.args.tree.now.steps.now)) same
+    (steps_hold c.args.branches.now (steps_of c.args.tree.now.steps.now) c.requires.held.each_step)
 
 pub judge_branches-requires-clause-given_are : goal.judge_branches-requires-clause-given_are
 judge_branches-requires-clause-given_are g c =
@@ -61,22 +72,22 @@ returns-in-Bound g c =
     let tree = c.args.branches.now in
     let n : ℕ = g.C.Costs.nodes c.args.costs.now in
     let costs = g.C.Costs.at c.args.costs.now in
-    let combs = c.combs_of_tree-combs.result.now in
+    let combs = c.args.tree.now.combs.now in
     let sets = plain c.deref.result.now in
     let given = case_of c.deref-2.result.now in
-    let steps = steps_of c.steps_of_tree-steps.result.now in
-    let scaled : FitsSigned w64 c.scale_of_tree-scale.result = search rules in
-    let are = are_of inst tree n (to_z w64 (of_z w64 c.scale_of_tree-scale.result)) combs sets c.fixed_pairs.result.now given steps c.requires.keeps.count
-    (to_z-of_z w64 c.scale_of_tree-scale.result scaled ∙ c.scale_of_tree-scale.ensures.value) c.combs_of_tree-combs.ensures.value
-    (ap plain c.deref.ensures.value ∙ c.in_ok-sets.ensures) c.fixed_pairs.ensures.value (ap case_of c.deref-2.ensures.value ∙ c.in_ok-given.ensures) c.steps_of_tree-steps.ensures.value in
-    let is = subst (IsBranchVerdict n costs (to_z w64 (of_z w64 c.scale_of_tree-scale.result)) (length combs) sets given steps) c.in-Bound.is c.in_ok-bound.ensures.verdict in
+    let steps = steps_of c.args.tree.now.steps.now in
+    let scaled : FitsSigned w64 c.args.tree.now.scale = search rules in
+    let are = are_of inst tree n (to_z w64 (of_z w64 c.args.tree.now.scale)) combs sets c.fixed_pairs.result.now given steps c.requires.keeps.count
+    (to_z-of_z w64 c.args.tree.now.scale scaled ∙ c.requires.held.scale_is) c.requires.held.combs_are
+    (ap plain c.deref.ensures.value ∙ c.in_ok-sets.ensures) c.fixed_pairs.ensures.value (ap case_of c.deref-2.ensures.value ∙ c.in_ok-given.ensures) (steps_are tree _ _ _ c.requires.held) in
+    let is = subst (IsBranchVerdict n costs (to_z w64 (of_z w64 c.args.tree.now.scale)) (length combs) sets given steps) c.in-Bound.is c.in_ok-bound.ensures.verdict in
     let bound = c.in-Bound.bound in
     let fits : FitsSigned w128 bound = search rules in
     let all_told = told inst tree n costs _ (length combs) sets given steps (found.Bound bound) are is in
     rw (to_z-of_z w128 bound fits) (
       none_stands inst tree costs bound c.requires.sort c.requires.count all_told,
       certified inst tree costs bound c.certificates_bound_cycles.ensures.cycles c.requires.kind c.requires.some c.requires.even
-          (subst IsScale c.scale_of_tree-scale.ensures.value c.scale_of_tree-scale.ensures.scaled) c.requires.keeps.every
+          (subst IsScale c.requires.held.scale_is c.requires.held.scaled) c.requires.keeps.every
           (subst IsSizedVerdict c.in-Bound.is c.in_ok-bound.ensures.size) all_told,
     )
 
@@ -86,23 +97,23 @@ returns-in-BadComb g c =
     let tree = c.args.branches.now in
     let n : ℕ = g.C.Costs.nodes c.args.costs.now in
     let costs = g.C.Costs.at c.args.costs.now in
-    let combs = c.combs_of_tree-combs.result.now in
+    let combs = c.args.tree.now.combs.now in
     let sets = plain c.deref.result.now in
     let given = case_of c.deref-2.result.now in
-    let steps = steps_of c.steps_of_tree-steps.result.now in
-    let scaled : FitsSigned w64 c.scale_of_tree-scale.result = search rules in
-    let are = are_of inst tree n (to_z w64 (of_z w64 c.scale_of_tree-scale.result)) combs sets c.fixed_pairs.result.now given steps c.requires.keeps.count
-    (to_z-of_z w64 c.scale_of_tree-scale.result scaled ∙ c.scale_of_tree-scale.ensures.value) c.combs_of_tree-combs.ensures.value
-    (ap plain c.deref.ensures.value ∙ c.in_ok-sets.ensures) c.fixed_pairs.ensures.value (ap case_of c.deref-2.ensures.value ∙ c.in_ok-given.ensures) c.steps_of_tree-steps.ensures.value in
-    let is = subst (IsBranchVerdict n costs (to_z w64 (of_z w64 c.scale_of_tree-scale.result)) (length combs) sets given steps) c.in-BadComb.is c.in_ok-bound.ensures.verdict in
+    let steps = steps_of c.args.tree.now.steps.now in
+    let scaled : FitsSigned w64 c.args.tree.now.scale = search rules in
+    let are = are_of inst tree n (to_z w64 (of_z w64 c.args.tree.now.scale)) combs sets c.fixed_pairs.result.now given steps c.requires.keeps.count
+    (to_z-of_z w64 c.args.tree.now.scale scaled ∙ c.requires.held.scale_is) c.requires.held.combs_are
+    (ap plain c.deref.ensures.value ∙ c.in_ok-sets.ensures) c.fixed_pairs.ensures.value (ap case_of c.deref-2.ensures.value ∙ c.in_ok-given.ensures) (steps_are tree _ _ _ c.requires.held) in
+    let is = subst (IsBranchVerdict n costs (to_z w64 (of_z w64 c.args.tree.now.scale)) (length combs) sets given steps) c.in-BadComb.is c.in_ok-bound.ensures.verdict in
     comb_first inst tree costs c.in-BadComb.index c.requires.sort c.requires.count (told inst tree n costs _ (length combs) sets given steps (found.BadComb c.in-BadComb.index) are is)
 
 pub overflow_cast-result-in-BranchTwice : goal.overflow_cast-result-in-BranchTwice
 overflow_cast-result-in-BranchTwice g c =
-    let steps = steps_of c.steps_of_tree-steps.result.now in
+    let steps = steps_of c.args.tree.now.steps.now in
     let given = case_of c.deref-2.result.now in
     let is = subst (IsBranchVerdict _ _ _ _ _ given steps) c.in-BranchTwice.is c.in_ok-bound.ensures.verdict in
-    omega (arith, twice_within 0 (given ∷ []) steps c.in-BranchTwice.index is.1, length-map c.steps_of_tree-steps.result.now step_of, c.steps_of_tree-steps.ensures.few)
+    omega (arith, twice_within 0 (given ∷ []) steps c.in-BranchTwice.index is.1, length-map c.args.tree.now.steps.now step_of, steps_few c.args.branches.now c.args.tree.now.steps.now c.requires.held.each_step)
 
 pub returns-in-BranchTwice : goal.returns-in-BranchTwice
 returns-in-BranchTwice g c =
@@ -110,25 +121,25 @@ returns-in-BranchTwice g c =
     let tree = c.args.branches.now in
     let n : ℕ = g.C.Costs.nodes c.args.costs.now in
     let costs = g.C.Costs.at c.args.costs.now in
-    let combs = c.combs_of_tree-combs.result.now in
+    let combs = c.args.tree.now.combs.now in
     let sets = plain c.deref.result.now in
     let given = case_of c.deref-2.result.now in
-    let steps = steps_of c.steps_of_tree-steps.result.now in
-    let scaled : FitsSigned w64 c.scale_of_tree-scale.result = search rules in
-    let are = are_of inst tree n (to_z w64 (of_z w64 c.scale_of_tree-scale.result)) combs sets c.fixed_pairs.result.now given steps c.requires.keeps.count
-    (to_z-of_z w64 c.scale_of_tree-scale.result scaled ∙ c.scale_of_tree-scale.ensures.value) c.combs_of_tree-combs.ensures.value
-    (ap plain c.deref.ensures.value ∙ c.in_ok-sets.ensures) c.fixed_pairs.ensures.value (ap case_of c.deref-2.ensures.value ∙ c.in_ok-given.ensures) c.steps_of_tree-steps.ensures.value in
-    let is = subst (IsBranchVerdict n costs (to_z w64 (of_z w64 c.scale_of_tree-scale.result)) (length combs) sets given steps) c.in-BranchTwice.is c.in_ok-bound.ensures.verdict in
+    let steps = steps_of c.args.tree.now.steps.now in
+    let scaled : FitsSigned w64 c.args.tree.now.scale = search rules in
+    let are = are_of inst tree n (to_z w64 (of_z w64 c.args.tree.now.scale)) combs sets c.fixed_pairs.result.now given steps c.requires.keeps.count
+    (to_z-of_z w64 c.args.tree.now.scale scaled ∙ c.requires.held.scale_is) c.requires.held.combs_are
+    (ap plain c.deref.ensures.value ∙ c.in_ok-sets.ensures) c.fixed_pairs.ensures.value (ap case_of c.deref-2.ensures.value ∙ c.in_ok-given.ensures) (steps_are tree _ _ _ c.requires.held) in
+    let is = subst (IsBranchVerdict n costs (to_z w64 (of_z w64 c.args.tree.now.scale)) (length combs) sets given steps) c.in-BranchTwice.is c.in_ok-bound.ensures.verdict in
     twice_first inst tree costs c.in-BranchTwice.index c.requires.sort c.requires.count
     (told inst tree n costs _ (length combs) sets given steps (found.BranchTwice c.in-BranchTwice.index) are is)
 
 pub overflow_cast-result-in-BadLeaf : goal.overflow_cast-result-in-BadLeaf
 overflow_cast-result-in-BadLeaf g c =
     let n : ℕ = g.C.Costs.nodes c.args.costs.now in
-    let count = length c.combs_of_tree-combs.result.now in
-    let steps = steps_of c.steps_of_tree-steps.result.now in
+    let count = length c.args.tree.now.combs.now in
+    let steps = steps_of c.args.tree.now.steps.now in
     let is = subst (IsBranchVerdict n _ _ count _ _ steps) c.in-BadLeaf.is c.in_ok-bound.ensures.verdict in
-    omega (arith, bad_within n count (no_numbers_of n count) 0 steps c.in-BadLeaf.index is.leaves, length-map c.steps_of_tree-steps.result.now step_of, c.steps_of_tree-steps.ensures.few)
+    omega (arith, bad_within n count (no_numbers_of n count) 0 steps c.in-BadLeaf.index is.leaves, length-map c.args.tree.now.steps.now step_of, steps_few c.args.branches.now c.args.tree.now.steps.now c.requires.held.each_step)
 
 pub returns : goal.returns
 returns g c =
@@ -136,13 +147,13 @@ returns g c =
     let tree = c.args.branches.now in
     let n : ℕ = g.C.Costs.nodes c.args.costs.now in
     let costs = g.C.Costs.at c.args.costs.now in
-    let combs = c.combs_of_tree-combs.result.now in
+    let combs = c.args.tree.now.combs.now in
     let sets = plain c.deref.result.now in
     let given = case_of c.deref-2.result.now in
-    let steps = steps_of c.steps_of_tree-steps.result.now in
-    let scaled : FitsSigned w64 c.scale_of_tree-scale.result = search rules in
-    let are = are_of inst tree n (to_z w64 (of_z w64 c.scale_of_tree-scale.result)) combs sets c.fixed_pairs.result.now given steps c.requires.keeps.count
-    (to_z-of_z w64 c.scale_of_tree-scale.result scaled ∙ c.scale_of_tree-scale.ensures.value) c.combs_of_tree-combs.ensures.value
-    (ap plain c.deref.ensures.value ∙ c.in_ok-sets.ensures) c.fixed_pairs.ensures.value (ap case_of c.deref-2.ensures.value ∙ c.in_ok-given.ensures) c.steps_of_tree-steps.ensures.value in
-    let is = subst (IsBranchVerdict n costs (to_z w64 (of_z w64 c.scale_of_tree-scale.result)) (length combs) sets given steps) c.in-BadLeaf.is c.in_ok-bound.ensures.verdict in
+    let steps = steps_of c.args.tree.now.steps.now in
+    let scaled : FitsSigned w64 c.args.tree.now.scale = search rules in
+    let are = are_of inst tree n (to_z w64 (of_z w64 c.args.tree.now.scale)) combs sets c.fixed_pairs.result.now given steps c.requires.keeps.count
+    (to_z-of_z w64 c.args.tree.now.scale scaled ∙ c.requires.held.scale_is) c.requires.held.combs_are
+    (ap plain c.deref.ensures.value ∙ c.in_ok-sets.ensures) c.fixed_pairs.ensures.value (ap case_of c.deref-2.ensures.value ∙ c.in_ok-given.ensures) (steps_are tree _ _ _ c.requires.held) in
+    let is = subst (IsBranchVerdict n costs (to_z w64 (of_z w64 c.args.tree.now.scale)) (length combs) sets given steps) c.in-BadLeaf.is c.in_ok-bound.ensures.verdict in
     leaf_first inst tree costs c.in-BadLeaf.index c.requires.sort c.requires.count (told inst tree n costs _ (length combs) sets given steps (found.BadLeaf c.in-BadLeaf.index) are is)

@@ -9,26 +9,26 @@ use Rattle.tsp_cost.proofs.instance.Instance.listed_view.Goals as goal
 pub returns-in-FullMatrix : goal.returns-in-FullMatrix
 returns-in-FullMatrix c =
     let f = c.args.self.now in
-    let weights = c.listed-layout.result.2.now in
-    let nodes = c.listed-layout.result.1 in
-    let held = c.listed-layout.ensures in (
-      ap is_explicit c.requires,
+    let listed = c.args.listed in
+    let held = c.requires.lists in (
+      ap is_explicit c.requires.explicit,
       held.format ∙ ap (λ layout. Some (Listed layout)) c.in-FullMatrix.is,
       record {
         count = held.dimension ∙ ap (λ n. Some n) (sym c.of.ensures.nodes);
-        every = λ i j. c.of.ensures.costs i j ∙ ap (λ layout. listed_cost layout nodes weights i j) (sym c.in-FullMatrix.is)
-            ∙ cost_of_listed f c.listed-layout.result.0 nodes weights c.requires held i j;
+        every = λ i j. c.of.ensures.costs i j ∙ ap (λ layout. listed_cost layout listed.nodes listed.weights.now i j) (sym c.in-FullMatrix.is)
+            ∙ cost_of_listed f listed.layout listed.nodes listed.weights.now c.requires.explicit held i j;
       },
     )
 
 pub returns-in_default : goal.returns-in_default
 returns-in_default c =
     let f = c.args.self.now in
-    let held = c.listed-layout.ensures in (
-      ap is_explicit c.requires,
-      λ full. c.in_default.not-FullMatrix (same_layout f.weight_format c.listed-layout.result.0 FullMatrix held.format full),
+    let listed = c.args.listed in
+    let held = c.requires.lists in (
+      ap is_explicit c.requires.explicit,
+      λ full. c.in_default.not-FullMatrix (same_layout f.weight_format listed.layout FullMatrix held.format full),
       record {
         count = held.dimension ∙ ap (λ n. Some n) (sym c.of-in_default.ensures.nodes);
-        every = λ i j. c.of-in_default.ensures.costs i j ∙ cost_of_listed f c.listed-layout.result.0 c.listed-layout.result.1 c.listed-layout.result.2.now c.requires held i j;
+        every = λ i j. c.of-in_default.ensures.costs i j ∙ cost_of_listed f listed.layout listed.nodes listed.weights.now c.requires.explicit held i j;
       },
     )

@@ -24,13 +24,13 @@ held : (f g : Fields) (n : ℕ) (weights : List ℤ) → f ≡ g → fault_of f 
 held f g n weights same valid full dimension stand =
     lists f FullMatrix n weights (in_range f valid) (subst (λ (h : Fields). h.weight_format ≡ Some (Listed FullMatrix)) (sym same) full) dimension stand
 
-pub unreachable-requires : goal.unreachable-requires
-unreachable-requires c =
+pub returns-in_default : goal.returns-in_default
+returns-in_default c = absurd (
     let f : Fields = fields_of c.self.inside.draft in
     let can = as_held f c.args.self c.args.to c.self.view_is c.requires.can_go in
     let old = some_is f.weights can.listed.1 in
     let stand = (in_range f c.self.invariant).weights old.0 old.1 in
-    c.in_default.not-Some stand.n stand.dimension
+    c.in_default.not-Some stand.n stand.dimension)
 
 pub keep_half-requires-clause-few : goal.keep_half-requires-clause-few
 keep_half-requires-clause-few c =
@@ -52,8 +52,8 @@ keep_half-requires-clause-pairs c =
     of_weights (λ n costs. HoldsPairs c.args.to costs) f FullMatrix c.in-Some.nodes c.in-Some-take.weights.items can.listed.0
     (held f c.args.self c.in-Some.nodes c.in-Some-take.weights.items c.self.view_is c.self.invariant c.requires.full c.in-Some.is stand) can.pairs
 
-pub invariant_of-result : goal.invariant_of-result
-invariant_of-result c =
+pub invariant_of-result-2 : goal.invariant_of-result-2
+invariant_of-result-2 c =
     let f : Fields = fields_of c.self.inside.draft in
     let can = as_held f c.args.self c.args.to c.self.view_is c.requires.can_go in
     let stand = ap (option_map (λ w. w.items)) (sym (c.take.ensures.value) ∙ c.in-Some-take.is) in

@@ -20,13 +20,6 @@ made : {A E : Type 0} (r : Result A E) (P : Type 0) → is_err r ≡ false → O
 made (Ok x) P ok h = h
 made (Err e) P ok h = absurd cc
 
-pub unreachable-requires : goal.unreachable-requires
-unreachable-requires c =
-    let f : Fields = fields_of c.self.inside.draft in
-    let old = some_is f.weights (can_go f c.args.self c.self.view_is c.requires.can_go).listed.1 in
-    let stand = (in_range f c.self.invariant).weights old.0 old.1 in
-    c.in_default.not-Some stand.n stand.dimension
-
 pub make_whole-requires-clause-few : goal.make_whole-requires-clause-few
 make_whole-requires-clause-few c =
     let f : Fields = fields_of c.self.inside.draft in

@@ -13,7 +13,7 @@ returns c =
     let place : PlanePoint → Point = λ point. on_plane point.x point.y in
     let items = c.in_ok-vec-2.ensures.items_if_clones_equal (λ y h. h) in
     let points : map place c.in_ok-vec-2.field-0.items ≡ replicate c.args.n origin =
-    ap (map place) items ∙ map_replicate place c.args.n (record { x = c.in-Some.zero; y = c.in-Some.zero })
-    ∙ ap (λ zero. replicate c.args.n (on_plane zero zero)) c.in-Some.ensures.1 in
+    ap (map place) items ∙ map_replicate place c.args.n (record { x = c.of_nanos-zero.result; y = c.of_nanos-zero.result })
+    ∙ ap (λ zero. replicate c.args.n (on_plane zero zero)) c.of_nanos-zero.ensures in
     none_so_far c.in_ok-vec.field-0.items (map place c.in_ok-vec-2.field-0.items) c.args.n
     (c.in_ok-vec.ensures.items_if_clones_equal (λ y h. h)) points

@@ -1,0 +1,215 @@
+//! What files of some TYPEs hold, with no field that may be missing.
+
+use crate::file::File;
+use crate::weights::ListedWeights;
+use tsp_draft::{valid_fields_are_in_range, valid_files_are_complete};
+use tsp_format::{Kind, TreeStep, WeightFormat, WeightKind};
+
+/// What a file of TYPE CVRP holds beside its costs.
+#[derive(Clone, Copy, Debug)]
+pub struct RoutingData<'a> {
+    /// CAPACITY of a vehicle.
+    pub capacity: i64,
+    /// DEMAND_SECTION: a demand for each node.
+    pub demands: &'a [i64],
+    /// DEPOT_SECTION: nodes.
+    pub depots: &'a [u32],
+}
+
+/// Potentials of nodes, with the multipliers of fixed edges beside them.
+#[derive(Clone, Copy, Debug)]
+pub struct NodeData<'a> {
+    /// SCALE, which is 1 where it is missing.
+    pub scale: i64,
+    /// NODE_POTENTIAL_SECTION: a potential for each node.
+    pub numbers: &'a [i64],
+    /// FIXED_EDGE_POTENTIAL_SECTION: two nodes and a number each; none where it is missing.
+    pub multipliers: &'a [(u32, u32, i64)],
+}
+
+/// Potentials of rows and of columns.
+#[derive(Clone, Copy, Debug)]
+pub struct DualData<'a> {
+    /// SCALE, which is 1 where it is missing.
+    pub scale: i64,
+    /// ROW_POTENTIAL_SECTION: a potential for each row.
+    pub rows: &'a [i64],
+    /// COLUMN_POTENTIAL_SECTION: a potential for each column.
+    pub columns: &'a [i64],
+}
+
+/// What a file of TYPE BRANCHES holds.
+#[derive(Clone, Copy, Debug)]
+pub struct TreeData<'a> {
+    /// SCALE, which is 1 where it is missing.
+    pub scale: i64,
+    /// COMB_SECTION: combs, each as its sets of nodes; none where it is missing.
+    pub combs: &'a [Vec<Vec<u32>>],
+    /// BRANCH_SECTION: the steps of one tree of cases.
+    pub steps: &'a [TreeStep],
+}
+
+impl File {
+    ghost use Rattle.std.specs.Prelude.{◌≡◌, ◌≢◌, [], Some, IsSome, unwrap_or, pos, map, MatchOption};
+    ghost use Rattle.tsp_format.specs.declared.kinds.Kind.TheVariants as kinds;
+    ghost use Rattle.tsp_format.specs.declared.kinds.WeightKind.TheVariants.{Explicit};
+    ghost use Rattle.tsp_format.specs.Limits.{most_scale};
+    ghost use Rattle.tsp_format.specs.Steps.{steps_of};
+    ghost use Rattle.tsp_draft.specs.Fields.{combs_of};
+    ghost use Rattle.tsp_draft.specs.Valid.{IsFromTo, AreTours};
+    ghost use Rattle.tsp_file.specs.Listed.{ListsWeights};
+    ghost use Rattle.tsp_file.specs.Relayout.{HasListedWeights, file_nodes};
+    ghost use Rattle.tsp_file.specs.Typed.{HoldsRouting, HoldsNodeNumbers, HoldsDuals, HoldsCases, AreMultipliersIn, AreSomeSets};
+
+    /// The weights of this file with their layout; none where its weights aren't listed.
+    #[inline]
+    pub fn as_matrix(&self) -> Option<ListedWeights<'_>>
+        ensures { MatchOption result (¬ HasListedWeights self.now)
+            (λ listed. (self.now.weight_kind ≡ Some Explicit)
+            × ListsWeights self.now listed.layout listed.nodes listed.weights.now) }
+    {
+        let _valid = self.fields();
+        valid_fields_are_in_range();
+        if !matches!(self.weight_kind(), Some(WeightKind::Explicit)) {
+            return None;
+        }
+        let Some(weights) = self.weights() else {
+            return None;
+        };
+        let Some(nodes) = self.dimension() else {
+            return None;
+        };
+        match self.weight_format() {
+            Some(WeightFormat::Listed(layout)) => Some(ListedWeights::of(layout, nodes, weights)),
+            Some(WeightFormat::ByFunction) => None,
+            None => None,
+        }
+    }
+
+    /// The tours of a file of TYPE TOUR; none of every other file.
+    pub fn as_tours(&self) -> Option<&[Vec<u32>]>
+        ensures { MatchOption result (self.now.kind ≢ Some kinds.Tour)
+            (λ tours. (self.now.kind ≡ Some kinds.Tour)
+            × (self.now.tours ≡ Some (map (λ tour. tour.items) tours.now))
+            × AreTours (map (λ tour. tour.items) tours.now)) }
+    {
+        let _valid = self.fields();
+        valid_fields_are_in_range();
+        valid_files_are_complete();
+        match self.kind() {
+            Kind::Tour => self.tours(),
+            _ => None,
+        }
+    }
+
+    /// What a file of TYPE CVRP holds beside its costs; none of every other file.
+    pub fn as_routing(&self) -> Option<RoutingData<'_>>
+        ensures { MatchOption result (self.now.kind ≢ Some kinds.Cvrp)
+            (λ held. HoldsRouting self.now held.capacity held.demands.now held.depots.now) }
+    {
+        let _valid = self.fields();
+        valid_fields_are_in_range();
+        valid_files_are_complete();
+        let Kind::Cvrp = self.kind() else {
+            return None;
+        };
+        Some(RoutingData {
+            capacity: self.capacity()?,
+            demands: self.demands()?,
+            depots: self.depots()?,
+        })
+    }
+
+    /// The potentials of nodes that a file of TYPE POTENTIALS holds; none where it holds none, and
+    /// of every other file.
+    pub fn as_node_potentials(&self) -> Option<NodeData<'_>>
+        ensures { MatchOption result
+            (self.now.kind ≡ Some kinds.Potentials → IsSome self.now.node_potentials → ⊥)
+            (λ held. HoldsNodeNumbers self.now held.scale held.numbers.now held.multipliers.now) }
+    {
+        let _valid = self.fields();
+        valid_fields_are_in_range();
+        let Kind::Potentials = self.kind() else {
+            return None;
+        };
+        Some(NodeData {
+            scale: self.scale_or_one(),
+            numbers: self.node_potentials()?,
+            multipliers: self.multipliers(),
+        })
+    }
+
+    /// The potentials of rows and of columns that a file of TYPE POTENTIALS holds; none where it
+    /// holds none, and of every other file.
+    pub fn as_duals(&self) -> Option<DualData<'_>>
+        ensures { MatchOption result
+            (self.now.kind ≡ Some kinds.Potentials → IsSome self.now.row_potentials
+            → IsSome self.now.column_potentials → ⊥)
+            (λ held. HoldsDuals self.now held.scale held.rows.now held.columns.now) }
+    {
+        let _valid = self.fields();
+        valid_fields_are_in_range();
+        let Kind::Potentials = self.kind() else {
+            return None;
+        };
+        Some(DualData {
+            scale: self.scale_or_one(),
+            rows: self.row_potentials()?,
+            columns: self.column_potentials()?,
+        })
+    }
+
+    /// What a file of TYPE BRANCHES holds; none of every other file.
+    pub fn as_tree(&self) -> Option<TreeData<'_>>
+        ensures { MatchOption result (self.now.kind ≢ Some kinds.Branches)
+            (λ held. HoldsCases self.now held.scale (combs_of held.combs.now) (steps_of held.steps.now)) }
+    {
+        let _valid = self.fields();
+        valid_fields_are_in_range();
+        valid_files_are_complete();
+        let Kind::Branches = self.kind() else {
+            return None;
+        };
+        Some(TreeData {
+            scale: self.scale_or_one(),
+            combs: self.combs_or_none(),
+            steps: self.branches()?,
+        })
+    }
+
+    /// SCALE, which is 1 where it is missing.
+    fn scale_or_one(&self) -> i64
+        ensures value { result ≡ unwrap_or self.now.scale (pos 1) }
+        ensures range { IsFromTo (pos 1) (pos most_scale) result }
+    {
+        let _valid = self.fields();
+        valid_fields_are_in_range();
+        self.scale().unwrap_or(1)
+    }
+
+    /// The multipliers of fixed edges, none where no section lists them.
+    fn multipliers(&self) -> &[(u32, u32, i64)]
+        ensures value { result.now ≡ unwrap_or self.now.fixed_potentials [] }
+        ensures are { AreMultipliersIn self.now result.now }
+    {
+        let _valid = self.fields();
+        valid_fields_are_in_range();
+        match self.fixed_potentials() {
+            Some(triples) => triples,
+            None => &[],
+        }
+    }
+
+    /// The combs, none where no section lists them.
+    fn combs_or_none(&self) -> &[Vec<Vec<u32>>]
+        ensures value { combs_of result.now ≡ unwrap_or self.now.combs [] }
+        ensures are { AreSomeSets (file_nodes self.now) (combs_of result.now) }
+    {
+        let _valid = self.fields();
+        valid_fields_are_in_range();
+        match self.combs() {
+            Some(combs) => combs,
+            None => &[],
+        }
+    }
+}

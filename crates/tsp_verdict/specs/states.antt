@@ -1,0 +1,5 @@
+pub mod Costs
+pub mod Marks
+pub mod Next
+pub mod Numbered
+pub mod Sums

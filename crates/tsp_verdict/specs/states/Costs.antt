@@ -1,0 +1,22 @@
+-- What the costs of an instance are taken from while a tour is judged.
+use Rattle.std.specs.Prelude.{◌≡◌, None, Some, Result, Ok, Err, ℤ}
+use Rattle.tsp_format.specs.declared.kinds.Kind.TheVariants as kinds
+use Rattle.tsp_draft.specs.Fields.{Fields}
+use Rattle.tsp_file.specs.Cost.{cost}
+use Rattle.tsp_theory.specs.Costs.{IsSymmetric}
+use Rattle.tsp_cost.specs.Views.{Shows, ShowsEven}
+use Rattle.tsp_reason.specs.declared.verdict.Reason.{Reason}
+use Rattle.tsp_reason.specs.declared.verdict.Verdict.TheVariants as verdicts
+use Rattle.tsp_verdict.specs.declared.tour.TourCosts.{TourCosts}
+use Rattle.tsp_verdict.specs.declared.tour.TourCosts.TheVariants.{Undirected, Directed}
+use Rattle.tsp_verdict.specs.Tours.{IsTourVerdict, IsFirstAgainstTour}
+
+-- those of the instance, by its TYPE; under TYPE TSP they are the same in both directions
+abbrev pub AreTourCosts : Fields → TourCosts → Type 0
+AreTourCosts inst (Undirected view) = (inst.kind ≡ Some kinds.Tsp) × ShowsEven inst view × IsSymmetric (cost inst)
+AreTourCosts inst (Directed view) = (inst.kind ≡ Some kinds.Atsp) × Shows inst view
+
+-- the length of the one tour, where no reason stands, and the costs; or the first reason
+abbrev pub FindsLength : Fields → Fields → Result (ℤ × TourCosts) Reason → Type 0
+FindsLength inst sol (Ok found) = IsTourVerdict inst sol (verdicts.Tour found.0 None) × AreTourCosts inst found.1
+FindsLength inst sol (Err reason) = IsFirstAgainstTour inst sol reason
