@@ -13,9 +13,9 @@ use tsp_draft::EndFault;
 use tsp_format::{Field, Word};
 use tsp_text::{LineFault, ReadFault};
 
-/// Appends why a file isn't read. `name` is what the user calls it, and `again` the file opened once
-/// more, where it can be; at most as much of it is read as the first time. What stands at the fault
-/// is shown as far as that look shows it.
+/// Appends why a file isn't read. `name` is what the user calls it, and `again` the file opened
+/// once more, where it can be; at most as much of it is read as the first time. The text at the
+/// fault is shown as far as that look shows it.
 ///
 /// # Errors
 ///
@@ -90,7 +90,7 @@ fn explain_seen(
     }
 }
 
-/// Appends the rule that is broken, what is counted, and the likely cause.
+/// Appends the broken rule, the counts, and the likely cause.
 fn push_rules(
     text: &mut Vec<u8>,
     seen: &Look,
@@ -233,7 +233,7 @@ fn push_end_rule(text: &mut Vec<u8>, fault: EndFault) -> Result<(), AllocError> 
     }
 }
 
-/// Appends how much stands in a section that isn't whole, or how many weights there are.
+/// Appends how many groups a section has that isn't whole, or how many weights there are.
 fn push_counts(text: &mut Vec<u8>, seen: &Look, fault: ReadFault) -> Result<(), AllocError> {
     match (fault, seen.dimension) {
         (ReadFault::End(EndFault::Incomplete(field)), Some(nodes)) => {
@@ -250,7 +250,7 @@ fn push_counts(text: &mut Vec<u8>, seen: &Look, fault: ReadFault) -> Result<(), 
     }
 }
 
-/// Appends which layouts list so many weights of so many nodes.
+/// Appends which layouts list this number of weights for this number of nodes.
 fn push_layouts(text: &mut Vec<u8>, weights: u64, nodes: i64) -> Result<(), AllocError> {
     match layouts_with(i64::try_from(weights).unwrap_or(i64::MAX), nodes) {
         Some(layouts) => push_lines(text, layouts),
@@ -258,7 +258,7 @@ fn push_layouts(text: &mut Vec<u8>, weights: u64, nodes: i64) -> Result<(), Allo
     }
 }
 
-/// The layouts that list so many weights of so many nodes, where there are some.
+/// The layouts that list this number of weights for this number of nodes, where there are some.
 fn layouts_with(weights: i64, nodes: i64) -> Option<&'static str> {
     let all = nodes.saturating_mul(nodes);
     let twice = weights.saturating_mul(2);
@@ -273,7 +273,7 @@ fn layouts_with(weights: i64, nodes: i64) -> Option<&'static str> {
     }
 }
 
-/// Appends how many groups stand in a section, of so many words each, and how many are wanted.
+/// Appends how many groups a section has, of this many words each, and how many are wanted.
 fn push_groups(
     text: &mut Vec<u8>,
     words: u64,

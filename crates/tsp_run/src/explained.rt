@@ -100,8 +100,8 @@ fn push_write_fault(
     }
 }
 
-/// Appends what explains a no. The nodes and numbers are told as far as a second reading of the
-/// instance and the solution shows them.
+/// Appends the explanation of a line `no`, with the nodes and numbers that a second reading of the
+/// instance and the solution shows.
 fn push_reason<F: Read + Drop, O: Open<F>>(
     alloc: Global,
     text: &mut Vec<u8>,
