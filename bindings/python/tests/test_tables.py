@@ -1,90 +1,112 @@
-"""Each row of tests/tables, by the package's calls and by its command in this process."""
+"""Each row of tests/tables, by the package's calls and by its command in this process.
 
-import importlib.util
+The script tests/run-tables knows what a row is. Here what it starts as a process is done by the package.
+"""
+
 import io
 import os
+import subprocess
 import tempfile
+import types
 import unittest
-from importlib.machinery import SourceFileLoader
 
 import yokecairn
-from support import ROOT
+from support import ROOT, claims
 from yokecairn import _library
-from yokecairn.__main__ import Run
+from yokecairn.__main__ import Run, length_of
 
-SCRIPT = str(ROOT / "tests" / "run-tables")
+SCRIPT = ROOT / "tests" / "run-tables"
 
 
-def script():
-    """The script that knows what a table is."""
-    loader = SourceFileLoader("run_tables", SCRIPT)
-    spec = importlib.util.spec_from_loader("run_tables", loader)
-    module = importlib.util.module_from_spec(spec)
-    loader.exec_module(module)
+def script(run):
+    """The script as a module that calls `run` in the place of `subprocess.run`."""
+    lines = SCRIPT.read_text().rstrip("\n").split("\n")
+    module = types.ModuleType("run_tables")
+    module.__file__ = str(SCRIPT)
+    if lines[-1] == "main()":
+        lines.pop()
+    exec(compile("\n".join(lines), str(SCRIPT), "exec"), vars(module))
+    module.subprocess = types.SimpleNamespace(run=run, DEVNULL=subprocess.DEVNULL, PIPE=subprocess.PIPE)
     return module
 
 
-tables = script()
+def by_the_command(program_and_words, cwd, **_):
+    """Runs the command."""
+    stdin, out, err = io.BytesIO(), io.BytesIO(), io.BytesIO()
+    folder = os.getcwd()
+    os.chdir(cwd)
+    try:
+        status = Run(stdin, out, err).run(program_and_words[1:])
+    finally:
+        os.chdir(folder)
+    return types.SimpleNamespace(returncode=status, stdout=out.getvalue(), stderr=err.getvalue())
 
 
-def by_calls(verb, texts):
-    """What the package's calls answer, as a run of the program would: status, report and fault."""
+def by_calls(program_and_words, cwd, **_):
+    """Calls the package, and answers as a run of the program would."""
+    verb, *words = program_and_words[1:]
+    options, texts = {}, []
+    while words:
+        word, _, value = words.pop(0).partition("=")
+        if word.startswith("--"):
+            options[word[2:]] = value or words.pop(0)
+        else:
+            with open(os.path.join(cwd, word), "rb") as file:
+                texts.append(file.read())
+    for name in options.keys() & {"potentials", "branches"}:
+        with open(os.path.join(cwd, options[name]), "rb") as file:
+            options[name] = file.read()
+    status, out, err = called(verb, texts, options)
+    codes = [text.encode("utf-8", "surrogateescape") for text in (out, err)]
+    return types.SimpleNamespace(returncode=status, stdout=codes[0], stderr=codes[1])
+
+
+def called(verb, texts, options):
+    """The status, the report and the fault of one call."""
+    layout, length = options.pop("layout", None), options.pop("length", None)
+    try:
+        if length is not None:
+            options["length"] = length_of(length)
+    except (ValueError, ArithmeticError):
+        return 4, "", "not a length\n"
     try:
         if verb == "show":
-            return 0, yokecairn.show(texts[0]).encode("utf-8", "surrogateescape"), b""
+            return 0, yokecairn.show(*texts), ""
         if verb == "convert":
-            problem = yokecairn.parse(texts[1])
-            return 0, (problem.relayout(texts[0]) if texts[0] else problem).to_bytes(), b""
-        words = dict(zip(("potentials" if verb == "check" else "branches",), texts[2:]))
-        report = yokecairn.check(texts[0], texts[1], **words)
-        return int(not report), report.text.encode("utf-8", "surrogateescape"), b""
+            problem = yokecairn.parse(*texts)
+            return 0, (problem.relayout(layout) if layout else problem).render(), ""
+        report = (yokecairn.bound if verb == "bound" else yokecairn.check)(*texts, **options)
+        return int(not report), report.text, ""
     except yokecairn.Fault as fault:
-        status = 1 if isinstance(fault, yokecairn.RelayoutFault) else 2
-        return status, b"", fault.told.encode("utf-8", "surrogateescape") + b"\n"
+        return 1 if isinstance(fault, yokecairn.RelayoutFault) else 2, "", fault.told + "\n"
     except ValueError as fault:
-        if str(fault).startswith("unknown layout"):
-            return 4, b"", b"unknown layout\n"
-        raise
-
-
-class Calls(tables.Runner):
-    """Runs a row by the package's calls. What explains a fault or a no is left to the command."""
-
-    def outcome(self, verb, texts):
-        layout, rest = (texts[:1], texts[1:]) if verb == "convert" else ([], texts)
-        return by_calls(verb, [*layout, *(text.encode() for text in rest)])
-
-    def expect(self, where, verb, texts, wanted):
-        if not verb.startswith("explain"):
-            super().expect(where, verb, texts, wanted)
-
-
-class Command(tables.Runner):
-    """Runs a row by the command."""
-
-    explains = _library.has("tsp_explain")
-
-    def expect(self, where, verb, texts, wanted):
-        if self.explains or not verb.startswith("explain"):
-            super().expect(where, verb, texts, wanted)
-
-    def execute(self, words):
-        """The status of a run with these words, and what it writes."""
-        stdin, out, err = io.BytesIO(), io.BytesIO(), io.BytesIO()
-        folder = os.getcwd()
-        os.chdir(self.folder)
-        try:
-            return Run(stdin, out, err).run(words), out.getvalue(), err.getvalue()
-        finally:
-            os.chdir(folder)
+        if layout is None or not str(fault).startswith("unknown layout"):
+            raise
+        return 4, "", "unknown layout\n"
 
 
 class Rows(unittest.TestCase):
     passed = 0
 
-    def run_with(self, kind):
+    def left_out(self, verb, kind):
+        """Whether rows of this verb need what the library or the calls don't have."""
+        parts = verb.split("-")
+        return (
+            ("explain" in parts and (kind is by_calls or not _library.has("tsp_explain")))
+            or ("bound" in parts and not _library.has("tsp_bound"))
+            or ("length" in parts and not claims())
+        )
+
+    def run_by(self, kind):
+        tables, test = script(kind), self
+
+        class Runner(tables.Runner):
+            def expect(self, where, verb, texts, wanted):
+                if not test.left_out(verb, kind):
+                    super().expect(where, verb, texts, wanted)
+
         with tempfile.TemporaryDirectory() as scratch:
-            runner = kind(None, scratch)
+            runner = Runner("tsp", scratch)
             for path in sorted((ROOT / "tests" / "tables").glob("*.table")):
                 runner.file(str(path))
         Rows.passed += runner.passed
@@ -92,10 +114,10 @@ class Rows(unittest.TestCase):
         self.assertGreater(runner.passed, 2000)
 
     def test_by_calls(self):
-        self.run_with(Calls)
+        self.run_by(by_calls)
 
     def test_by_the_command(self):
-        self.run_with(Command)
+        self.run_by(by_the_command)
 
 
 if __name__ == "__main__":
