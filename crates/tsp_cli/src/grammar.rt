@@ -7,8 +7,8 @@ ghost use Rattle.tsp_cli.specs.Grammar.{IsCommandOf, has_globals, path, option, 
 use clap::{Arg, ArgAction, Command};
 use std::alloc::{AllocError, Global};
 
-/// What `--version` prints after the program's name.
-const VERSION: &str = "1.0.0";
+/// The program's version.
+pub const VERSION: &str = "1.1.0";
 
 /// What the program is, in one line.
 const ABOUT: &str = "Reads, writes and judges TSPLIB 95 files";
@@ -16,6 +16,7 @@ const ABOUT: &str = "Reads, writes and judges TSPLIB 95 files";
 /// The end of the program's help.
 const NOTES: &str = "\
 With no words at all, a file on standard input is shown.
+A path - is standard input, which can be one file of a call.
 
 Exit status:
   0  yes, or done

@@ -1,7 +1,7 @@
 //! What is done with which files.
 
 ghost use Rattle.std.specs.Prelude.{◌≡◌, Some};
-ghost use Rattle.tsp_cli.specs.Task.{GivesPlace, GivesLayout, GivesTask};
+ghost use Rattle.tsp_cli.specs.Task.{GivesPlace, GivesLayout, IsPlaceAt, NamesTask};
 
 use crate::words::{Job, Verb};
 use tsp_format::Layout;
@@ -11,7 +11,7 @@ use tsp_format::Layout;
 pub enum Place<'a> {
     /// Standard input.
     Input,
-    /// At a path. `-` is one like any other.
+    /// At a path, which isn't `-`.
     Path(&'a str),
 }
 
@@ -40,17 +40,20 @@ pub enum TaskFault {
     MissingPath,
     /// Two certificates are named, potentials and branches.
     TwoCertificates,
+    /// Two files are standard input, which gives its bytes once.
+    InputTwice,
 }
 
-/// The task of a job. With no verb, standard input is shown.
+/// The task of a job, whose files may be standard input several times. With no verb, standard input is
+/// shown.
 ///
 /// # Errors
 ///
 /// `UnknownLayout` where no layout has the word that stands for one; `TwoCertificates` where a check
 /// has both potentials and branches; `MissingPath` where a path is missing, as in no job that words
 /// ask for.
-pub fn task_of(job: &Job) -> Result<Task<Place<'_>>, TaskFault>
-    ensures { GivesTask job.now result }
+pub(crate) fn named_task(job: &Job) -> Result<Task<Place<'_>>, TaskFault>
+    ensures { NamesTask job.now result }
 {
     let Some(verb) = job.verb else {
         return Ok(Task::Show(Place::Input));
@@ -63,8 +66,8 @@ pub fn task_of(job: &Job) -> Result<Task<Place<'_>>, TaskFault>
             let solution = place_of(&job.solution)?;
             match (&job.potentials, &job.branches) {
                 (None, None) => Ok(Task::Check(file, solution)),
-                (Some(path), None) => Ok(Task::BoundCheck(file, solution, Place::Path(path))),
-                (None, Some(path)) => Ok(Task::BranchCheck(file, solution, Place::Path(path))),
+                (Some(path), None) => Ok(Task::BoundCheck(file, solution, place_at(path))),
+                (None, Some(path)) => Ok(Task::BranchCheck(file, solution, place_at(path))),
                 (Some(_), Some(_)) => Err(TaskFault::TwoCertificates),
             }
         }
@@ -76,8 +79,18 @@ fn place_of(path: &Option<String>) -> Result<Place<'_>, TaskFault>
     ensures { GivesPlace path.now result }
 {
     match path {
-        Some(path) => Ok(Place::Path(path)),
+        Some(path) => Ok(place_at(path)),
         None => Err(TaskFault::MissingPath),
+    }
+}
+
+/// The place that a path names. `-` is standard input.
+fn place_at(path: &str) -> Place<'_>
+    ensures { IsPlaceAt path.now result }
+{
+    match path {
+        "-" => Place::Input,
+        _ => Place::Path(path),
     }
 }
 

@@ -36,6 +36,8 @@ pub fn examples_of_statuses()
     ensures memory_for_a_text { status_of_fault (run_faults.Write write_faults.OutOfMemory) ≡ 3 }
     ensures memory_for_a_layout { status_of_fault (run_faults.Relayout relayout_faults.OutOfMemory) ≡ 3 }
     ensures refused { (refusal : Error) → status_of_ending (endings.NoJob (job_faults.Refused refusal)) ≡ 4 }
+    ensures version { (build : Str) → status_of_ending (endings.Version build) ≡ 4 }
+    ensures input_twice { status_of_ending (endings.NoTask task_faults.InputTwice) ≡ 4 }
     ensures unknown_layout { status_of_ending (endings.NoTask task_faults.UnknownLayout) ≡ 4 }
     ensures missing_path { status_of_ending (endings.NoTask task_faults.MissingPath) ≡ 4 }
     ensures two_certificates { status_of_ending (endings.NoTask task_faults.TwoCertificates) ≡ 4 }

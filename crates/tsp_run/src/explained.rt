@@ -5,10 +5,10 @@ use crate::source::Open;
 use std::alloc::{AllocError, Global};
 use std::io;
 use std::io::Read;
-use tsp_cli::{Job, TaskFault};
+use tsp_cli::{Job, TaskFault, Verb};
 use tsp_cost::Instance;
 use tsp_explain::{
-    Blame, blamed, explain_file, explain_reason, push_details, push_error, push_lines,
+    Role, blamed, explain_file, explain_reason, push_claim, push_details, push_error, push_lines,
     relayout_sentence, write_sentence,
 };
 use tsp_file::File;
@@ -40,13 +40,26 @@ fn push_explanation<F: Read + Drop, O: Open<F>>(
     write_error: Option<&io::Error>,
 ) -> Result<(), AllocError> {
     match ending {
-        Ending::NoJob(_) | Ending::NoTask(TaskFault::MissingPath) => Ok(()),
+        Ending::NoJob(_) | Ending::Version(_) | Ending::NoTask(TaskFault::MissingPath) => Ok(()),
         Ending::NoTask(TaskFault::UnknownLayout) => push_lines(text, LAYOUTS),
         Ending::NoTask(TaskFault::TwoCertificates) => push_lines(text, CERTIFICATES),
         Ending::Ended(Ok(Some(Verdict::No(reason)))) => {
             push_reason(alloc, text, job, *reason, files)
         }
-        Ending::Ended(Ok(_)) => Ok(()),
+        Ending::NoTask(TaskFault::InputTwice) => push_lines(text, INPUT),
+        Ending::Ended(
+            Ok(
+                Some(
+                    Verdict::Tour { length, bound: _ }
+                    | Verdict::Routes {
+                        length,
+                        routes: _,
+                        least: _,
+                    },
+                ),
+            ),
+        ) => push_claims(alloc, text, job, *length, files),
+        Ending::Ended(Ok(None)) => Ok(()),
         Ending::Ended(Err(fault)) => push_fault(alloc, text, job, *fault, files, write_error),
     }
 }
@@ -59,6 +72,10 @@ const LAYOUTS: &str =
 /// What certifies a bound.
 const CERTIFICATES: &str =
     "A check takes one certificate: a file of potentials, or a tree of cases. Run it once with each.";
+
+/// What standard input is.
+const INPUT: &str =
+    "A path - is standard input, which can be one file of a call. The file with that name is ./-";
 
 /// What the first file of a check is.
 const KINDS: &str =
@@ -77,9 +94,14 @@ fn push_fault<F: Read + Drop, O: Open<F>>(
     match fault {
         RunFault::File { file, fault } => {
             let path = path_of(job, file);
-            explain_file(alloc, text, name_of(path), again(path, files), fault)
+            let given = given_for(job, file);
+            explain_file(alloc, text, name_of(path), given, again(path, files), fault)
         }
-        RunFault::WrongKind => push_lines(text, KINDS),
+        RunFault::WrongKind => {
+            text.extend_from_slice(name_of(path_of(job, 1)).as_bytes())?;
+            text.extend_from_slice(b": wrong kind\n")?;
+            push_lines(text, KINDS)
+        }
         RunFault::Write(fault) => push_write_fault(alloc, text, fault, write_error),
         RunFault::OutOfMemory => push_lines(text, "There is no memory for what is to be done."),
         RunFault::Relayout(fault) => push_lines(text, relayout_sentence(fault)),
@@ -100,8 +122,8 @@ fn push_write_fault(
     }
 }
 
-/// Appends what explains a no. The nodes and numbers are told as far as a second reading of the
-/// instance and the solution shows them.
+/// Appends what explains a no. The nodes and numbers are told as far as a second reading of the files
+/// shows them.
 fn push_reason<F: Read + Drop, O: Open<F>>(
     alloc: Global,
     text: &mut Vec<u8>,
@@ -109,13 +131,42 @@ fn push_reason<F: Read + Drop, O: Open<F>>(
     reason: Reason,
     files: &O,
 ) -> Result<(), AllocError> {
-    let name = name_of(path_of(job, file_of(blamed(reason))));
-    explain_reason(text, name, reason)?;
-    let instance = weighed_again(alloc, path_of(job, 1), files);
-    let solution = read_again(alloc, path_of(job, 2), files);
-    match (&instance, &solution) {
-        (Some(instance), Some(solution)) => push_details(text, reason, instance, solution),
-        _ => Ok(()),
+    let role = blamed(reason);
+    let name = name_of(path_of(job, file_of(role)));
+    explain_reason(alloc, text, name, reason)?;
+    let Some(instance) = weighed_again(alloc, path_of(job, 1), files) else {
+        return Ok(());
+    };
+    let solution = match role {
+        Role::Solution => read_again(alloc, path_of(job, 2), files),
+        Role::Instance | Role::Potentials | Role::Branches => None,
+    };
+    let certificate = match role {
+        Role::Potentials | Role::Branches => read_again(alloc, path_of(job, 3), files),
+        Role::Instance | Role::Solution => None,
+    };
+    push_details(
+        alloc,
+        text,
+        reason,
+        &instance,
+        solution.as_ref(),
+        certificate.as_ref(),
+    )
+}
+
+/// Appends a sentence where a comment of the solution claims another length than that of the report.
+fn push_claims<F: Read + Drop, O: Open<F>>(
+    alloc: Global,
+    text: &mut Vec<u8>,
+    job: &Job,
+    length: i64,
+    files: &O,
+) -> Result<(), AllocError> {
+    let path = path_of(job, 2);
+    match read_again(alloc, path, files) {
+        Some(solution) => push_claim(alloc, text, name_of(path), solution.comments(), length),
+        None => Ok(()),
     }
 }
 
@@ -139,11 +190,24 @@ fn weighed_again<F: Read + Drop, O: Open<F>>(
 }
 
 /// The number of the file that a reason is about.
-fn file_of(blamed: Blame) -> u32 {
-    match blamed {
-        Blame::Instance => 1,
-        Blame::Solution => 2,
-        Blame::Potentials | Blame::Branches => 3,
+fn file_of(role: Role) -> u32 {
+    match role {
+        Role::Instance => 1,
+        Role::Solution => 2,
+        Role::Potentials | Role::Branches => 3,
+    }
+}
+
+/// What the file with this number is given for, or `None` where it may be any.
+fn given_for(job: &Job, file: u32) -> Option<Role> {
+    match (job.verb?, file) {
+        (Verb::Show | Verb::Convert, _) => None,
+        (Verb::Check, 1) => Some(Role::Instance),
+        (Verb::Check, 2) => Some(Role::Solution),
+        (Verb::Check, _) => Some(match &job.potentials {
+            Some(_) => Role::Potentials,
+            None => Role::Branches,
+        }),
     }
 }
 
@@ -155,8 +219,8 @@ fn path_of(job: &Job, file: u32) -> Option<&str> {
         _ => certificate_of(job),
     };
     match path {
-        Some(path) => Some(path.as_str()),
-        None => None,
+        Some(path) if path.as_str() != "-" => Some(path.as_str()),
+        Some(_) | None => None,
     }
 }
 

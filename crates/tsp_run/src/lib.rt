@@ -2,7 +2,8 @@
 //!
 //! The words are a task on files (`tsp_cli`); each file is opened, or is missing (`source`); the
 //! task is done (`engines`); and how that ended is told on standard error and by the exit status
-//! (`ending`). Where the words ask for it, more is told after that (`explained`).
+//! (`ending`). Where the words ask for it, more is told after that (`explained`). A person at a terminal
+//! that is read without a word is told so (`waiting`).
 #![tactic(auto)]
 
 mod ending;
@@ -11,6 +12,7 @@ mod examples;
 mod explained;
 mod running;
 mod source;
+mod waiting;
 
 pub use ending::{Ending, Line, line_of, status_of_ending, tell};
 pub use engines::perform;
@@ -19,3 +21,4 @@ pub use running::{run, tell_unread};
 pub use source::{Open, Source};
 pub use tsp_cli::{JobFault, Place, Task, TaskFault};
 pub use tsp_judge::Watched;
+pub use waiting::tell_waiting;
