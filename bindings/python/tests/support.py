@@ -68,6 +68,11 @@ def needs_export(name):
     return unittest.skipUnless(_library.has(name), f"this libtsp has no {name}")
 
 
+def needs_explanations():
+    """Skips a test where nothing is explained."""
+    return unittest.skipUnless(_library.EXPLAINS, "nothing is explained yet")
+
+
 def claims():
     """Whether the library compares claimed lengths."""
     try:

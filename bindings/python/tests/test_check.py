@@ -1,4 +1,4 @@
-"""Verdicts: the worked examples of docs/proof.md."""
+"""Verdicts of worked examples."""
 
 import pickle
 import unittest

@@ -7,7 +7,7 @@ import tempfile
 import unittest
 from pathlib import Path
 
-from support import EXAMPLES, PACKAGE, RECTANGLE, needs_export
+from support import EXAMPLES, PACKAGE, RECTANGLE, needs_explanations
 from yokecairn.__main__ import length_of
 
 
@@ -40,6 +40,7 @@ class Command(unittest.TestCase):
     def test_show_and_convert(self):
         shown = b"name rectangle\ntype TSP\nnodes 4\nweights EUC_2D\ncanonical 14\n"
         self.assertEqual(run(stdin=RECTANGLE.encode()), (0, shown, b""))
+        self.assertEqual(run("--", stdin=RECTANGLE.encode()), (0, shown, b""))
         self.assertEqual(run("show", EXAMPLES / "rectangle.tsp"), (0, shown, b""))
         self.assertEqual(run("convert", "-", stdin=RECTANGLE.encode()), (0, RECTANGLE.encode(), b""))
         self.assertEqual(
@@ -89,7 +90,7 @@ class Command(unittest.TestCase):
         self.assertEqual((status, out), (5, b""))
         self.assertEqual(err, b"file 1: device\n  no such file: No such file or directory\n")
 
-    @needs_export("tsp_explain")
+    @needs_explanations()
     def test_explained(self):
         tour = b"TYPE : TOUR\nTOUR_SECTION\n1 2 2 3\n"
         status, out, err = run("check", "--explain", EXAMPLES / "rectangle.tsp", "-", stdin=tour)

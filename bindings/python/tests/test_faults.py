@@ -6,7 +6,7 @@ import unittest
 from pathlib import Path
 
 import yokecairn
-from support import EXAMPLES, RECTANGLE, fault_of, needs_export
+from support import EXAMPLES, RECTANGLE, fault_of, needs_explanations
 
 POINTS = "TYPE : TSP\nDIMENSION : 3\nEDGE_WEIGHT_TYPE : EUC_2D\nNODE_COORD_SECTION\n1 0 0\n2 3 x\n3 3 4\nEOF\n"
 TOUR = "TYPE : TOUR\nTOUR_SECTION\n1 2 3 4 -1\n"
@@ -77,7 +77,7 @@ class Faults(unittest.TestCase):
             yokecairn.check("no such file", TOUR.encode())
 
 
-@needs_export("tsp_explain")
+@needs_explanations()
 class Explanations(unittest.TestCase):
     def test_a_fault(self):
         fault = fault_of(POINTS)

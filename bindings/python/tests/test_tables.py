@@ -92,7 +92,7 @@ class Rows(unittest.TestCase):
         """Whether rows of this verb need what the library or the calls don't have."""
         parts = verb.split("-")
         return (
-            ("explain" in parts and (kind is by_calls or not _library.has("tsp_explain")))
+            ("explain" in parts and (kind is by_calls or not _library.EXPLAINS))
             or ("bound" in parts and not _library.has("tsp_bound"))
             or ("length" in parts and not claims())
         )

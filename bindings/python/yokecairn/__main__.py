@@ -156,6 +156,7 @@ class Run:
     def run(self, words: Sequence[str]) -> int:
         """Does what the words of the command line ask for; the exit status."""
         try:
+            words = [] if list(words) == ["--"] else words
             given = _parser().parse_args(words)
             if given.verb is None:
                 if words:

@@ -92,19 +92,28 @@ def _lines(text: bytes) -> Iterator[List[bytes]]:
     return (line.split() for line in text.split(b"\n") if line)
 
 
+def _groups(text: bytes, kind: Callable[[str], Any]) -> Dict[int, List[Any]]:
+    """The numbers of each node. All lines have as many words, so they are read by columns."""
+    width = len(text[: text.find(b"\n")].split()) or 1
+    words = text.decode().split()
+    columns = [map(kind, words[place::width]) for place in range(1, width)]
+    return dict(zip(map(int, words[::width]), map(list, zip(*columns))))
+
+
 def points(text: bytes) -> Dict[int, List[Decimal]]:
     """The coordinates of each node, exactly."""
-    return {int(node): [Decimal(it.decode()) for it in at] for node, *at in _lines(text)}
+    return _groups(text, Decimal)
 
 
 def float_points(text: bytes) -> Dict[int, List[float]]:
     """The coordinates of each node, each the nearest float."""
-    return {int(node): [float(it) for it in at] for node, *at in _lines(text)}
+    return _groups(text, float)
 
 
 def by_node(text: bytes) -> Dict[int, int]:
     """A number of each node."""
-    return {int(node): int(number) for node, number in _lines(text)}
+    words = text.split()
+    return dict(zip(map(int, words[::2]), map(int, words[1::2])))
 
 
 def depots(text: bytes) -> List[int]:

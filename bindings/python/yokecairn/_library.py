@@ -37,6 +37,9 @@ LAYOUTS = {
     )
 }
 
+# Whether `explain` has something to tell: it calls no export of the library yet.
+EXPLAINS = False
+
 # The most numbers that `lengths` takes.
 MOST_NODES = 1_000_000
 
@@ -93,7 +96,6 @@ _points = _call("tsp_points", c_uint32, *_TEXT, c_uint32, *_NUMBERS)
 _weights = _call("tsp_weights", c_uint32, *_TEXT, *_NUMBERS, *_NUMBERS)
 _matrix = _call("tsp_matrix", c_uint32, *_TEXT, c_uint32, *_NUMBERS)
 _lengths = _call("tsp_lengths", c_uint32, *_TEXT, *_NUMBERS, *_NUMBERS)
-_explain = _call("tsp_explain", c_uint32, *_TEXT, *_TEXT, *_TEXT, c_uint32, *_OUT)
 _version = _call("tsp_version", c_uint32)
 
 # The distance of two points: distance(kind, x, y, z, x, y, z), in counts of 10^-9; -1 where it is
@@ -186,7 +188,7 @@ def explain(
     by: int,
     claimed: Optional[int],
 ) -> bytes:
-    """What is told of the fault of texts, or of the no of their check, for a person."""
+    """What is told of the fault of texts, or of the no of their check, for a person: nothing so far."""
     return b""
 
 
