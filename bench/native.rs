@@ -102,7 +102,7 @@ fn sign(bytes: &[u8]) -> (bool, usize) {
     }
 }
 
-/// The number at the front of a text, and where it ends: up to seven digits at once.
+/// The number at the beginning of a text, and where it ends: up to seven digits at once.
 #[inline(always)]
 fn front_whole(text: &[u8]) -> Option<(i64, usize)> {
     let (negative, start) = sign(text);

@@ -3,9 +3,9 @@
 //! usage: native_branches INSTANCE TOUR BRANCHES [ROUNDS]
 //!
 //! It prints what the check of a tour prints below the type and the nodes. With ROUNDS the last line
-//! is the nanoseconds that the verdict of files in memory took, the mean of so many.
+//! is the nanoseconds that the verdict of files in memory took, the mean of all rounds.
 //!
-//! The weights without the potentials stand in one matrix through all leaves: a branch marks two cells
+//! The weights without the potentials are in one matrix through all leaves: a branch marks two cells
 //! of it, and a multiplier that changes changes the pairs inside a set of its comb. The crossings of a
 //! set by a pair are 1 at each end inside, less 2 where both are, so the ends go to the potentials.
 
@@ -290,7 +290,7 @@ fn steps_of(words: &[i64]) -> Vec<Step> {
     steps
 }
 
-/// Goes along the tree: what is decided above each step, by calls at a decision and at its end.
+/// Goes along the tree: the decisions above each step, by calls at a decision and at its end.
 struct Cycle {
     path: Vec<(Pair, bool)>,
 }

@@ -8,7 +8,7 @@ const NODES: u64 = 1000;
 const STEPS: u64 = 1_000_000;
 const POINTS: u64 = 100_000;
 const PIECE: usize = 65_536;
-/// Room before a piece for the line or word that the last one cut.
+/// Memory before a piece for the line or word that the last one cut.
 const KEPT: usize = 4_096;
 const POWERS: [i64; 10] =
     [1, 10, 100, 1000, 10_000, 100_000, 1_000_000, 10_000_000, 100_000_000, 1_000_000_000];

@@ -70,7 +70,7 @@ impl Write for Sum {
 /// The bytes of a buffer.
 const ROOM: usize = 65_536;
 
-/// The most bytes that are added between two looks at the room.
+/// The most bytes that are added between two looks at the capacity.
 const STEP: usize = 64;
 
 /// The end of a text that hasn't been written yet.
@@ -106,13 +106,13 @@ impl<'a, W: Write> Text<'a, W> {
         Ok(())
     }
 
-    /// Sees that there is room for a step.
+    /// Ensures capacity for a step.
     #[inline(always)]
     fn make_room(&mut self) -> io::Result<()> {
         if self.len > ROOM - STEP { self.hand_over() } else { Ok(()) }
     }
 
-    /// Adds bytes that there is room for.
+    /// Adds bytes that fit.
     #[inline(always)]
     fn push(&mut self, bytes: &[u8]) {
         self.bytes[self.len..self.len + bytes.len()].copy_from_slice(bytes);
@@ -125,7 +125,7 @@ impl<'a, W: Write> Text<'a, W> {
         Ok(())
     }
 
-    /// Adds the first bytes of eight; there is room for all.
+    /// Adds the first bytes of eight; all of them fit.
     #[inline(always)]
     fn push_some(&mut self, eight: u64, count: usize) {
         self.bytes[self.len..self.len + 8].copy_from_slice(&eight.to_le_bytes());

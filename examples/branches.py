@@ -105,7 +105,7 @@ def fields_of(path):
 
 
 def wholes(words):
-    """Whole numbers, however they are spelled."""
+    """Whole numbers, however they are written."""
     return [int(Decimal(word.decode())) for word in words]
 
 
@@ -534,7 +534,7 @@ class Cut:
         return len(self.members) > 1
 
     def key(self):
-        """The same for the same sets, in whichever order the teeth stand."""
+        """The same for the same sets, in any order of the teeth."""
         handle, *teeth = (row.tobytes() for row in self.members)
         return (handle, *sorted(teeth))
 
@@ -1216,7 +1216,7 @@ class Search:
                 self.look_for_tour(solution)
             if value < self.goal() and not self.late():
                 pair = self.pair_to_branch(solution, decisions)
-        except ArithmeticError:  # the solver gave up: what stands above does here too
+        except ArithmeticError:  # the solver gave up: the numbers above serve here too
             numbers = inherited or Numbers(np.zeros(self.instance.count, np.int64))
             value = self.bounds.tree(numbers, decisions).value
         leaf = Leaf(decisions, numbers, value)
@@ -1266,7 +1266,7 @@ class Search:
         return numbers, value
 
     def fewer(self, decisions, kept, combs):
-        """The combs without those that aren't needed beside what is kept, all at once or half by half."""
+        """The combs without those that aren't needed beside the kept ones, all at once or half by half."""
         if not combs or self.late():
             return combs
         self.relaxation.cuts = kept

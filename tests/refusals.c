@@ -1,4 +1,4 @@
-/* Stands before the C library of the program that is run with it (LD_PRELOAD), and refuses calls of
+/* Comes before the C library of the program that is run with it (LD_PRELOAD), and refuses calls of
  * the program. Which ones, and how, the environment says:
  *
  *   REFUSE_CALL   the calls that are counted: memory, read, or write (to standard output alone)
@@ -15,7 +15,7 @@
 #include <sys/syscall.h>
 #include <unistd.h>
 
-/* The C library's own, by names that nothing stands before. */
+/* The C library's own, by names that nothing comes before. */
 void *__libc_malloc(size_t size);
 void *__libc_realloc(void *block, size_t size);
 

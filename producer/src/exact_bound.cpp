@@ -14,7 +14,7 @@ Weight ExactBound::bound_of(Value value) const {
   return static_cast<Weight>(value >= 0 ? (value + scale - 1) / scale : -(-value / scale));
 }
 
-// Sets the weights of the pairs, and returns what is given back to the bound.
+// Sets the weights of the pairs, and returns the sum that is added to the bound.
 Value ExactBound::set_weights(const Numbers& numbers, const std::vector<Decision>& decisions) {
   const int nodes = weights_.nodes();
   Value back = 0;

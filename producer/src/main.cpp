@@ -49,7 +49,7 @@ Start find_tours(const Instance& instance, const Options& options, const Clock& 
   return start;
 }
 
-// Tells what was written, and how much is left open by its own reckoning.
+// Reports the files, and the gap by its own reckoning.
 void report(const Options& options, const Search& search, const Instance& instance, Weight given) {
   const Weight length = length_of(instance.weights, search.tour()), bound = std::min(search.bound(), length);
   std::fprintf(stderr,

@@ -37,7 +37,7 @@ class Relaxation {
   int columns() const { return static_cast<int>(edges_.size()); }
   const Pair& edge(int column) const { return edges_[column]; }
   double solution(int column) const { return solution_[column]; }
-  // What each direction of a branch on a column brings, by at most so many dual iterations.
+  // What each direction of a branch on a column brings, by at most this many dual iterations.
   std::vector<std::array<double, 2>> try_branches(const std::vector<int>& columns, int iterations);
 
  private:

@@ -1,4 +1,4 @@
-// Tests of single parts, against what is worked out by hand or by trying all cases.
+// Tests of single parts, against results worked out by hand or by trying all cases.
 #include <algorithm>
 #include <cstdio>
 

@@ -5,7 +5,7 @@ use Rattle.tsp_text.specs.Text.{Spells}
 use Rattle.tsp_reason.specs.declared.verdict.Verdict.{Verdict}
 use Rattle.tsp_verdict.specs.Tours.{IsTourVerdict}
 
--- the texts spell files, and this is the verdict on the second one's tour of the first one's instance
+-- the texts parse to files, and this is the verdict on the second one's tour of the first one's instance
 pub record IsVerdictOnTexts (instance_text solution_text : List ℕ) (verdict : Verdict) : Type 0 where
   pub instance : Fields
   pub solution : Fields

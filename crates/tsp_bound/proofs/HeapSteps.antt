@@ -160,7 +160,7 @@ heap_kept n w outside after old rest new x heap p q taken =
           (bound.0, Contains-permutation (x ∷ rest) new bound.0 q (Contains-permutation old (x ∷ rest) bound.0 p bound.1), bound.2, bound.3);
     }
 
--- ---- as a turn of the loop shows it
+-- ---- as a pass of the loop shows it
 
 pub near_seen : (n m : ℕ) (w v : ℕ → ℕ → ℤ) (outside : ℕ → Bool) (next : ℕ) (found : Link) → m ≡ n → v ≡ w → IsNearest m v outside next found → IsNearest n w outside next found
 near_seen n m w v outside next found p q h = subst (λ (k : ℕ). IsNearest k w outside next found) p (subst (λ (z : ℕ → ℕ → ℤ). IsNearest m z outside next found) q h)

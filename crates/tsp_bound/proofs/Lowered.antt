@@ -91,7 +91,7 @@ reached_small n w v lowerings inside next are is small x h free =
 
 -- ---- the turns of the loop over the lowered pairs
 
--- after so many of them
+-- after this many of them
 abbrev pub IsLoweredBy : ℕ → List (ℕ × ℤ) → ℤ → ℕ → ℕ → ℕ → ℤ → ℕ → ℤ → Type 0
 IsLoweredBy count lowerings weight next x old_near old_least new_near new_least =
     (((k : ℕ) (d : ℕ × ℤ) → k < count → (get_or lowerings k d).0 ≢ x) × (new_near ≡ old_near) × (new_least ≡ old_least))

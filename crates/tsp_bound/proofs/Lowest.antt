@@ -29,7 +29,7 @@ pub record ArePlaces (n : ℕ) (order places : List ℕ) : Type 0 where
   pub back : (j : ℕ) → j < length order → slice_index_or places (node_at order j) 0 ≡ j
   pub there : (x : ℕ) → IsInner n x → node_at order (slice_index_or places x 0) ≡ x
 
--- after so many of the lowerings
+-- after this many of the lowerings
 pub record IsLowest (n : ℕ) (w v : ℕ → ℕ → ℤ) (lowerings : List (ℕ × ℤ)) (order places : List ℕ) (outside : List Bool) (from count : ℕ) (old best : Best) : Type 0 where
   pub fits : FitsSigned w64 best.weight
   pub kept : best.weight ≤ℤ old.weight

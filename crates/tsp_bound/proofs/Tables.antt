@@ -191,7 +191,7 @@ table_more n triples t lists first second table a_in b_in differ first_is second
     elsewhere : (node : ℕ) → node ≢ t.0 → node ≢ t.1 → said_of node t ≡ []
     elsewhere node a b = let first_none = ne_eqb t.0 node (λ same. a (sym same)) in let second_none = ne_eqb t.1 node (λ same. b (sym same)) in rw (first_none, second_none) refl
 
--- as a turn of the loop shows it
+-- as a pass of the loop shows it
 pub table_pushed : (n : ℕ) (triples : List (ℕ × ℕ × ℤ)) (index : ℕ) (lists : List (Vec (ℕ × ℤ))) (t : ℕ × ℕ × ℤ) (number : ℤ)
     (old_first old_second first second : Vec (ℕ × ℤ)) → index < length triples → t ≡ get_or triples index (0, 0, pos 0)
     → number ≡ t.2 → All IsMultiplier triples → AreOnPairs n triples → IsTable n (take index triples) lists

@@ -1,4 +1,4 @@
--- The places of a list stand for nodes: a growth over places is one over nodes.
+-- Each place of a list means a node: a growth over places is one over nodes.
 use Rattle.std.specs.Prelude.{◌≡◌, ℕ, ◌==◌, ◌<◌, List, map, ℤ}
 use Rattle.tsp_theory.specs.Tree.{IsInner}
 use Rattle.tsp_theory.specs.Growth.{Grows}

@@ -20,12 +20,16 @@ pub struct Infeasible {
     pub j: u32,
 }
 
-/// The least whole number that at the duals' scale is no less than the sum of them all, where row
-/// i and column j sum to at most the cost from i to j for all different nodes.
+/// The least whole number that at the duals' scale is no less than the sum of them all, where row i
+/// and column j sum to at most the cost from i to j for all different nodes.
 ///
 /// With two or more nodes no cycle is shorter than it. The costs from a node to itself aren't
-/// looked at. The caller owes as many duals as nodes. No memory is taken. Source: the dual of the
-/// assignment problem, H. W. Kuhn, The Hungarian method for the assignment problem, 1955.
+/// looked at. No memory is taken. Source: the dual of the assignment problem, H. W. Kuhn, The
+/// Hungarian method for the assignment problem, 1955.
+///
+/// # Requires
+///
+/// As many duals as nodes.
 ///
 /// # Errors
 ///

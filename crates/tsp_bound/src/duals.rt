@@ -1,4 +1,4 @@
-//! Duals of an assignment: the certificate of a bound for costs that may differ both ways.
+//! Duals of an assignment: the certificate of a bound for costs that needn't be symmetric.
 
 ghost use Rattle.tsp_theory.specs.Numbers.{AreDuals};
 

@@ -53,7 +53,7 @@ pub(crate) fn grow_on<C: Costs>(
     let size = c.count() as usize + 1;
     let mut inside = vec![in alloc; false; size]?;
     let mut near: Vec<u32> = vec![in alloc; 2; size]?;
-    // Every weight is below the one that stands for none.
+    // Every weight is below the one that means none.
     let mut least = vec![in alloc; i64::MAX; size]?;
     inside[2] = true;
     let mut nearest = reach(c, p, m, &inside, &mut near, &mut least, 2);
@@ -74,8 +74,7 @@ pub(crate) fn grow_on<C: Costs>(
     Ok(Grown { pairs, weight })
 }
 
-/// Brings what is kept of the nodes outside up to date once `next` is inside, and finds the
-/// nearest of them.
+/// Updates the entries of the nodes outside once `next` is inside, and finds the nearest of them.
 ///
 /// The pairs of `next` with multipliers go first, at their lower weights, so that the others need
 /// no look at multipliers: a weight that isn't lowered replaces none that is.

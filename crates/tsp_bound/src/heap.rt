@@ -9,13 +9,12 @@ use std::alloc::{AllocError, Global};
 use std::cmp::Reverse;
 use std::collections::BinaryHeap;
 
-/// Grows a tree from the node `start`, for so many steps of search at most or a
-/// little longer: each pair leads from a node
-/// inside to one outside, and no such pair weighs less.
+/// Grows a tree from the node `start`, for about as many steps of search as the budget allows. Each
+/// pair leads from a node inside to one outside, and no such pair weighs less.
 ///
 /// Each node inside has a link in the heap that weighs no more than any pair that leaves the node:
-/// its least one, as of when it was searched for. The least of all is a least leaving pair where
-/// it still leads outside; else its node is searched for again.
+/// its least one, as of when it was searched for. The least of all is a least leaving pair where it
+/// still leads outside; else its node is searched for again.
 ///
 /// # Errors
 ///

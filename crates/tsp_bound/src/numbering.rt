@@ -1,4 +1,4 @@
-//! Places in a list that stand for nodes.
+//! Places in a list, each of which means a node.
 
 ghost use Rattle.std.specs.Prelude.{◌≡◌, ◌<◌, ◌+◌, ◌^◌, ℕ, length, slice_index_or, IfOk, IfSome};
 ghost use Rattle.tsp_theory.specs.Tree.{IsInner};

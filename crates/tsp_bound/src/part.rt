@@ -103,7 +103,7 @@ fn grown_over<C: Grouped>(
     weighed(alloc, c, p, m, order, &pairs)
 }
 
-/// No pair yet, with room for those of a tree: a part of any growth.
+/// No pair yet, with capacity for those of a tree: a part of any growth.
 ///
 /// # Errors
 ///
@@ -116,8 +116,8 @@ fn nothing<C: Costs>(alloc: Global, c: &C) -> Result<Grown, AllocError>
     Ok(Grown { pairs, weight: 0 })
 }
 
-/// How many boxes a growth over so many nodes may look at before it is left to the dense way:
-/// a part of the work that the dense way takes, and about as much for a thousand nodes.
+/// How many boxes a growth over this many nodes may look at before it goes on the dense way: a part
+/// of the work that the dense way takes, and about as much for a thousand nodes.
 fn most_steps(count: u32) -> u64 {
     let nodes = u64::from(count);
     (nodes * nodes / 25).max(300 * nodes)

@@ -1,4 +1,4 @@
-//! Potentials of nodes: the certificate of a bound for costs that are the same both ways.
+//! Potentials of nodes: the certificate of a bound for symmetric costs.
 
 ghost use Rattle.tsp_theory.specs.Numbers.{AreNodePotentials};
 

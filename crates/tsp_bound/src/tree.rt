@@ -37,12 +37,16 @@ pub struct OneTree {
 /// scale of the potentials and the potentials of both, less the multiplier of the pair, and its
 /// bound: no cycle that uses each pair with a multiplier, in either direction, is shorter.
 ///
-/// A 1-tree is a tree over the nodes 2..n and two different edges at node 1. Which of several
-/// least ones is given, and in what order its edges stand, is free. The caller owes three or more
-/// nodes, as many potentials, and multipliers of pairs of these nodes, no two of which are the
-/// same pair, in either direction. With no multipliers the bound is that of the potentials alone,
-/// and no cycle is shorter. Source: M. Held and R. M. Karp, The traveling-salesman problem and
-/// minimum spanning trees, 1970; the tree is grown as R. C. Prim's, 1957.
+/// A 1-tree is a tree over the nodes 2..n and two different edges at node 1. Which of several least
+/// ones is returned, and the order of its edges, is free. With no multipliers the bound is that of
+/// the potentials alone, and no cycle is shorter. Source: M. Held and R. M. Karp, The
+/// traveling-salesman problem and minimum spanning trees, 1970; the tree is grown as R. C. Prim's,
+/// 1957.
+///
+/// # Requires
+///
+/// Three or more nodes, as many potentials, and multipliers of pairs of these nodes, no two of
+/// which are the same pair, in either direction.
 ///
 /// # Errors
 ///
@@ -121,7 +125,7 @@ struct Weighed {
     weight: i128,
 }
 
-/// The edges of a least 1-tree, in a vector with room for so many, and their weight.
+/// The edges of a least 1-tree, in a vector with capacity for all of them, and their weight.
 fn least_edges<C: Grouped>(
     alloc: Global,
     c: &C,

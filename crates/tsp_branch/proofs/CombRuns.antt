@@ -1,4 +1,4 @@
--- Sets told comb by comb: those of one comb stand at the front, and the rest has the later combs.
+-- Sets listed comb by comb: those of one comb come first, and the rest has the later combs.
 use Rattle.std.proofs.Common.{◌≡◌, ◌≢◌, ◌∙◌, ℕ, zero, suc, ◌+◌, ◌<◌, ◌≤◌, List, [], ◌∷◌, ◌++◌, take, drop, length, get_or, inl, inr, refl, ap, sym, subst, arith}
 use Rattle.std.specs.Prelude.{Option, None}
 use Rattle.std.specs.Global.{Vec}

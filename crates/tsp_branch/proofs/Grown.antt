@@ -13,7 +13,7 @@ pub grown_left : (changes : List (ℕ × ℤ)) (numbers : List ℤ) (index : ℕ
     → all_grown (drop index changes) numbers ≡ all_grown (drop (index + 1) changes) (grown (get_or changes index default) numbers)
 grown_left changes numbers index default lt = ap (λ cs. all_grown cs numbers) (drop-cons changes index default lt) ∙ rw (add-one index) refl
 
--- how large the numbers are after so many differences
+-- how large the numbers are after this many differences
 abbrev pub most_after : ℕ → ℕ
 most_after index = 2 ^ 64 + index * 2 ^ 63
 

@@ -1,4 +1,4 @@
--- What is found of a leaf, from what the code has in its room.
+-- The findings of a leaf, from the numbers in the code's memory.
 use Rattle.std.proofs.Common.{◌≡◌, ◌∙◌, ℕ, zero, suc, ◌+◌, ◌^◌, ◌<◌, ◌≤◌, Bool, true, false, List, [], ◌∷◌, ◌++◌, length, take, drop, get_or, ℤ, inl, inr, refl, sym, ap, subst, arith, drop-cons, add-one}
 use Rattle.std.specs.Prelude.{Option, None, Some, IfSome, pos, neg_ℤ}
 use Rattle.std.specs.List.{All}

@@ -21,7 +21,7 @@ use Rattle.tsp_branch.specs.Combs.{Comb, crossings}
 use Rattle.tsp_branch.specs.Families.{IsFamily, least_crossings_of, CyclesCrossFamilies}
 use Rattle.tsp_branch.specs.LeafBound.{crossings_of, least_of, combed, leaf_weight, LeafBoundsBoundCycles, UncombedBoundsAreAdjustedBounds}
 
--- ---- crossings are the same both ways
+-- ---- crossings are symmetric
 
 teeth_even : (i j : ℕ) (teeth : List (ℕ → Bool)) → sum_int_by (λ tooth. crossing tooth i j) teeth ≡ sum_int_by (λ tooth. crossing tooth j i) teeth
 teeth_even i j [] = refl

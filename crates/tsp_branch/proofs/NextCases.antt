@@ -1,4 +1,4 @@
--- The stack of a cycle over the steps, whose last decision stands at the end of a list.
+-- The stack of a cycle over the steps, whose last decision is at the end of a list.
 use Rattle.std.proofs.Common.{◌≡◌, ℕ, ◌+◌, ◌-◌, ◌<◌, ◌≤◌, ◌≢◌, Bool, true, false, List, [], ◌∷◌, ◌++◌, take, length, get_or, Some, refl, ap, sym, subst, ◌∙◌, arith}
 use Rattle.std.specs.Prelude.{reverse}
 use Rattle.std.specs.List.{All}

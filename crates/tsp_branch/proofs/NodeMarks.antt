@@ -1,4 +1,4 @@
--- Marks by node: what one mark more leaves, and what is known of a node that has one.
+-- Marks by node: the list with one mark more, and the facts of a node that has one.
 use Rattle.std.proofs.Common.{◌≡◌, ◌≢◌, ◌∙◌, ℕ, ◌+◌, ◌<◌, ◌==◌, ◌||◌, Bool, true, false, List, [], ◌∷◌, ◌++◌, take, length, get_or, inl, inr, refl, ap, sym, subst, arith}
 use Rattle.std.proofs.Math.ListN.{set}
 use Rattle.std.proofs.lemmas.Bool.{cases_eq, both_ways, eqb-true, eq-eqb, ne_eqb, or_cases, or_parts}

@@ -39,7 +39,7 @@ apart tooth_of a (suc k) =
 
 -- ---- crossings
 
--- how often a number stands in a run of numbers
+-- how often a number is in a run of numbers
 before : (t a k : ℕ) → t < a → count (λ s. t == s) (range_with_len a k) ≡ pos 0
 before t a zero h = refl
 before t a (suc k) h = omega (arith, ints, ap one_if (ne_eqb t a (λ e. omega (arith, e, h))), before t (a + 1) k (omega (arith, h)))

@@ -1,4 +1,4 @@
--- What is added to rows and lists, one node or one set after the other.
+-- Additions to rows and lists, one node or one set after the other.
 use Rattle.std.proofs.Common.{◌≡◌, ◌≢◌, ℕ, suc, ◌+◌, ◌<◌, ◌==◌, List, [], ◌∷◌, ◌++◌, drop, length, get_or, inl, inr, refl, ap, sym, subst, ◌∙◌, arith, drop-cons, add-one}
 use Rattle.std.specs.Int.{w64, int_wrap}
 use Rattle.std.specs.Prelude.{ℤ, pos, ◌+ℤ◌, if◌then◌else◌}

@@ -18,7 +18,7 @@ use Rattle.tsp_branch.specs.Marked.{AreNew, AreTeeth}
 
 -- ---- one tooth
 
--- that a node stands in a list, and that it doesn't
+-- that a node is in a list, and that it isn't
 pub has_found : (nodes : List ℕ) (k node : ℕ) → k < length nodes → get_or nodes k node ≡ node → has nodes node ≡ true
 has_found nodes k node lt is = list_any_at (λ other. other == node) nodes k node lt (eq-eqb (get_or nodes k node) node is)
 

@@ -15,7 +15,7 @@ pub data Step : Type 0 where
   Branch : ℕ × ℕ → Step
   Leaf : LeafNumbers → Step
 
--- Whether steps are so many trees, one after the other. A leaf is a tree, and so is a branch with the two trees after it.
+-- Whether steps are that many trees, one after the other. A leaf is a tree, and so is a branch with the two trees after it.
 abbrev pub are_trees : ℕ → List Step → Bool
 are_trees zero [] = true
 are_trees zero (step ∷ steps) = false
@@ -23,7 +23,7 @@ are_trees (suc count) [] = false
 are_trees (suc count) (Branch pair ∷ steps) = are_trees (suc (suc count)) steps
 are_trees (suc count) (Leaf numbers ∷ steps) = are_trees count steps
 
--- a case is a list of decisions, the last one first: it stands for the cycles that keep them; a case with one decision more
+-- a case is a list of decisions, the last one first: it means the cycles that keep them; a case with one decision more
 abbrev pub decide : ℕ × ℕ → Bool → List Decision → List Decision
 decide pair taken case = record { pair = pair; taken = taken } ∷ case
 
@@ -90,7 +90,7 @@ abbrev pub open_cases : List Decision → Option (List Decision) → List (List 
 open_cases given None = []
 open_cases given (Some stack) = (stack ++ given) ∷ later_cases given stack
 
--- the stack after a leaf: the last taken pair is avoided, and what was decided after it is dropped; none where no pair is taken
+-- the stack after a leaf: the last taken pair is avoided, and the decisions after it are dropped; none where no pair is taken
 abbrev pub next_stack : List Decision → Option (List Decision)
 next_stack [] = None
 next_stack (decision ∷ stack) = if decision.taken then Some (decide decision.pair false stack) else next_stack stack

@@ -6,7 +6,7 @@ use Rattle.tsp_branch.specs.Decisions.{Decision}
 use Rattle.tsp_branch.specs.Decided.{case_of, stack_of}
 use Rattle.tsp_branch.specs.Rows.{IsAllowed}
 
--- what stands for no link: the largest number of 64 bits, below which all weights are
+-- the weight that means no link: the largest number of 64 bits, below which all weights are
 abbrev pub closed : ℤ
 closed = pos 9223372036854775807
 

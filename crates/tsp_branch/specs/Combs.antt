@@ -50,7 +50,7 @@ CyclesCrossCombs = (n : ℕ) (comb : Comb) (nodes : List ℕ)
 
 -- ---- combs by lists of nodes
 
--- whether a node stands in a list
+-- whether a node is in a list
 abbrev pub has : List ℕ → ℕ → Bool
 has nodes node = list_any (λ other. other == node) nodes
 
@@ -88,7 +88,7 @@ NumbersTellCombs = (n : ℕ) (handle : ℕ → Bool) (last : ℕ) (tooth_of : �
 
 -- ---- both: the numbers of the teeth of lists
 
--- the lists have nodes of 1..n alone, and of these a node has the number of the tooth in whose list it stands, 0 for none
+-- the lists have nodes of 1..n alone, and of these a node has the number of the tooth whose list has it, 0 for none
 pub record IsNumbering (n : ℕ) (teeth : List (List ℕ)) (tooth_of : ℕ → ℕ) : Type 0 where
   pub nodes : All (All (IsNode n)) teeth
   pub range : (node : ℕ) → IsNode n node → tooth_of node ≤ length teeth

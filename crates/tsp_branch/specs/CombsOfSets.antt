@@ -17,7 +17,7 @@ abbrev pub of_comb : ℕ → List (ℕ × List ℕ) → List (List ℕ)
 of_comb comb [] = []
 of_comb comb (set ∷ sets) = if set.0 == comb then (set.1 ∷ of_comb comb sets) else of_comb comb sets
 
--- so many combs, from a first number on
+-- a number of combs, from a first number on
 abbrev pub combs_from : ℕ → ℕ → List (ℕ × List ℕ) → List Comb
 combs_from first zero sets = []
 combs_from first (suc count) sets = comb_with (of_comb first sets) ∷ combs_from (suc first) count sets

@@ -37,7 +37,7 @@ LengthIs rows nodes length = length_of (cost_in rows) nodes ≡ length
 abbrev pub large : ℤ
 large = pos 4000000000000000000
 
--- nothing but potentials of 0 of so many nodes; a potential of 1 at node 2 of four
+-- nothing but potentials of 0 of this many nodes; a potential of 1 at node 2 of four
 abbrev pub no_numbers : ℕ → LeafNumbers
 no_numbers n = record { potentials = replicate n (pos 0); multipliers = [] }
 

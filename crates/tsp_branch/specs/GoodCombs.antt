@@ -5,7 +5,7 @@ use Rattle.std.specs.List.{All, AllPairs}
 use Rattle.tsp_branch.specs.Families.{IsFamily}
 use Rattle.tsp_branch.specs.CombsOfSets.{comb_with, of_comb, combs_of}
 
--- no node stands twice in a set
+-- no node is twice in a set
 abbrev pub HasEachOnce : List ℕ → Type 0
 HasEachOnce set = AllPairs (λ a b. a ≢ b) set
 
@@ -31,7 +31,7 @@ AreCombsJudged n combs sets None = ((comb : ℕ) → comb < combs → IsGoodComb
     × All (IsFamily n) (combs_of combs sets) × All (λ set. HasEachOnce set.1) sets
 AreCombsJudged n combs sets (Some first) = IsFirstBadComb n combs sets first
 
--- the sets are told comb by comb
+-- the sets are listed comb by comb
 abbrev pub AreInOrder : List (ℕ × Vec ℕ) → Type 0
 AreInOrder sets = AllPairs (λ set later. set.0 ≤ later.0) sets
 

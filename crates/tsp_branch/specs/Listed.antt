@@ -70,7 +70,7 @@ IsFirstBadFrom n combs numbers leaf (listed.Leaf changes ∷ steps) bad =
     ((bad ≡ suc leaf) × (IsGoodLeaf n combs numbers changes → ⊥))
     ⊎ (IsGoodLeaf n combs numbers changes × IsFirstBadFrom n combs (all_grown changes numbers) (suc leaf) steps bad)
 
--- ---- what is judged
+-- ---- the judgement
 
 -- Where all leaves are good, the bound, or none where no leaf has one; else the first leaf that isn't.
 abbrev pub IsJudged : Bool → ℕ → (ℕ → ℕ → ℤ) → ℤ → List Comb → ℕ → List Decision → List listed.Step → Judged → Type 0

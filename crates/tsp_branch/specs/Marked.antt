@@ -16,7 +16,7 @@ AreUnmarked marks mark = (node : ℕ) → is_marked marks mark node ≡ false
 abbrev pub HavePlaces : List ℕ → List (ℕ × Vec ℕ) → Type 0
 HavePlaces marks sets = All (λ set. All (λ node. node < length marks) set.1.items) sets
 
--- nodes of which none is used, and none stands twice
+-- nodes of which none is used, and none appears twice
 pub record AreNew (used : ℕ → Bool) (nodes : List ℕ) : Type 0 where
   pub unused : All (λ node. used node ≡ false) nodes
   pub once : HasEachOnce nodes
@@ -29,7 +29,7 @@ pub record AreMarked (mark : ℕ) (nodes old new : List ℕ) : Type 0 where
 abbrev pub AddsNoOther : ℕ → List ℕ → List ℕ → Type 0
 AddsNoOther mark old new = (other : ℕ) → other ≢ mark → AreUnmarked old other → AreUnmarked new other
 
--- sets that are teeth of a handle, of which none has a node that is used or stands in one before it
+-- sets that are teeth of a handle, of which none has a node that is used or in one before it
 abbrev pub AreTeeth : ℕ → (ℕ → Bool) → (ℕ → Bool) → List (List ℕ) → Type 0
 AreTeeth n handle used [] = Unit {0}
 AreTeeth n handle used (tooth ∷ teeth) =

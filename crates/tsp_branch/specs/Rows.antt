@@ -41,7 +41,7 @@ pub record IsSumOfLeast (n : ℕ) (w : ℕ → ℕ → ℤ) (decisions : List De
   pub each : (i : ℕ) → IsNode last i → IsLeastFrom n w decisions i (least i)
   pub sum_is : sum ≡ sum_int_by least (nodes_to last)
 
--- the bound by rows: the least whole number that at the scale is no less than this sum over all nodes and what is given back
+-- the bound by rows: the least whole number that at the scale is no less than this sum over all nodes and the sum that is added
 pub record IsRowBound (n : ℕ) (w : ℕ → ℕ → ℤ) (decisions : List Decision) (scale given_back bound : ℤ) : Type 0 where
   pub sum : ℤ
   pub least : IsSumOfLeast n w decisions n sum

@@ -10,11 +10,11 @@ use Rattle.tsp_theory.specs.Length.{sum_int_by}
 abbrev pub IsMoved : ℤ → ℤ → ℤ → Type 0
 IsMoved change old new = ((new ≡ old) × (change ≡ pos 0)) ⊎ (new ≡ int_wrap w64 (old +ℤ change))
 
--- what comes to a node where a number is added for each place at which the node stands
+-- the number of a node where a number is added for each place with the node
 abbrev pub added : ℤ → List ℕ → ℕ → ℤ
 added number nodes x = sum_int_by (λ node. if node == x then number else pos 0) nodes
 
--- a number, as often as a node stands in a list
+-- a number, as often as a node is in a list
 abbrev pub times : ℕ → List ℕ → ℕ → List ℕ
 times number [] x = []
 times number (node ∷ nodes) x = if node == x then (number ∷ times number nodes x) else times number nodes x

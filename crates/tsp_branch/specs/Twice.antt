@@ -20,7 +20,7 @@ IsFirstTwiceFrom directed branch (case ∷ cases) (listed.Branch a b ∷ steps) 
     × IsFirstTwiceFrom directed (suc branch) (decide (a, b) true case ∷ decide (a, b) false case ∷ cases) steps first)
 IsFirstTwiceFrom directed branch (case ∷ cases) (listed.Leaf changes ∷ steps) first = IsFirstTwiceFrom directed branch cases steps first
 
--- Where no branch comes twice, no case decides a pair twice, whatever the numbers of its leaves; else the first one is told.
+-- Where no branch comes twice, no case decides a pair twice, whatever the numbers of its leaves; else the first one is reported.
 abbrev pub AreBranchesJudged : Bool → List Decision → List listed.Step → Option ℕ → Type 0
 AreBranchesJudged directed given steps None = ((first : ℕ) → IsFirstTwiceFrom directed 0 (given ∷ []) steps first → ⊥)
     × ((n combs : ℕ) → All (DecideOnce directed) (cases_of (leaves_of (given ∷ []) (listed_steps n combs steps))))

@@ -23,7 +23,7 @@ TwiceAt directed given steps branch = IsFirstTwiceFrom directed 0 (given ∷ [])
 abbrev pub branches : ℕ → ℕ → ℕ → ℕ → List listed.Step
 branches a b c d = listed.Branch a b ∷ listed.Branch c d ∷ []
 
--- the second branch stands in the tree without the first one's pair
+-- the second branch is in the tree without the first one's pair
 abbrev pub branches_apart : ℕ → ℕ → ℕ → ℕ → List (ℕ × ℤ) → List listed.Step
 branches_apart a b c d changes = listed.Branch a b ∷ listed.Leaf changes ∷ listed.Branch c d ∷ []
 

@@ -12,7 +12,7 @@ pub record IsLeastWeight (n : ℕ) (w : ℕ → ℕ → ℤ) (weight : ℤ) : Ty
   pub least : IsLeastOneTree n w tree
   pub weight_is : weight ≡ weight_of w tree
 
--- the least whole number that at the scale is no less than such a weight and what is given back
+-- the least whole number that at the scale is no less than such a weight and the sum that is added
 pub record IsBoundOfWeights (n : ℕ) (w : ℕ → ℕ → ℤ) (scale given_back bound : ℤ) : Type 0 where
   pub weight : ℤ
   pub weighs : IsLeastWeight n w weight

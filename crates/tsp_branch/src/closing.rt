@@ -7,7 +7,7 @@ ghost use Rattle.tsp_branch.specs.Decided.{decision_of, case_of};
 ghost use Rattle.tsp_branch.specs.Rows.{Allows};
 ghost use Rattle.tsp_branch.specs.Closed.{closed, IsShut};
 
-/// What stands for no link: all weights are below it.
+/// The weight that means no link: all weights are below it.
 pub(crate) const CLOSED: i64 = i64::MAX;
 
 /// Closes in the row of a node what some decision doesn't allow.

@@ -55,11 +55,15 @@ impl<'a, C: Costs> CombedWeights<'a, C> {
 
     /// The weights of these costs, potentials and sets.
     ///
-    /// The caller owes a scale of 1 to 1,000,000; as many potentials as nodes, each at most 10^15 in
-    /// size; multipliers that aren't negative, each at most 3 * 10^17; sets of different nodes, each
-    /// with the number of a comb, of which no two nodes cross more than 9 * 10^17 with the
-    /// multipliers; by node the numbers of its sets; and by node what is left in 64 bits of its
-    /// potential less its sets' multipliers.
+    /// # Requires
+    ///
+    /// - a scale of 1 to 1,000,000;
+    /// - as many potentials as nodes, each at most 10^15 in size;
+    /// - multipliers from 0 to 3 * 10^17;
+    /// - sets of different nodes, each with the number of a comb, of which no two nodes cross more
+    ///   than 9 * 10^17 with the multipliers;
+    /// - by node the numbers of its sets;
+    /// - by node its potential less its sets' multipliers, wrapped to 64 bits.
     pub fn of(
         costs: &'a C,
         scale: i64,

@@ -18,7 +18,7 @@ pub(crate) const DECIDED: i64 = 4_000_000_000_000_000_000;
 
 /// Weights under combs, less a number for each taken pair and more by it for each avoided one.
 ///
-/// The decisions are told as those that are given for all cases, and those of a case.
+/// The decisions are two lists: those given for all cases, and those of a case.
 #[derive(Drop)]
 pub struct DecidedWeights<'a, C: Costs> {
     combed: &'a CombedWeights<'a, C>,
@@ -37,7 +37,9 @@ impl<'a, C: Costs> DecidedWeights<'a, C> {
 
     /// The weights under decisions: two nodes, and whether a cycle is to use them as neighbours.
     ///
-    /// The caller owes pairs of different nodes, no two of which are the same pair.
+    /// # Requires
+    ///
+    /// Pairs of different nodes, no two of which are the same pair.
     pub fn of(
         combed: &'a CombedWeights<'a, C>,
         given: &'a [(u32, u32, bool)],

@@ -43,7 +43,7 @@ pub fn first_bad_comb(
     let mut rest = sets;
     'combs: for comb in 0..combs as u32 {
         let (own, later) = rest.split_at(count_of(rest, comb));
-        // Marks from 1 on, since 0 stands for no mark.
+        // Marks from 1 on, since 0 means no mark.
         if !is_comb(&mut handles, &mut teeth, comb + 1, own) {
             return Ok(Some(comb as usize + 1));
         }
@@ -105,7 +105,7 @@ fn is_lone_set(handles: &[u32], mark: u32, nodes: &[u32]) -> bool
     !nodes.is_empty() && leaves_one_out(handles, mark)
 }
 
-/// Whether a comb can have so many teeth.
+/// Whether a comb can have this many teeth.
 fn is_tooth_count(count: usize) -> bool
     ensures { IsTrue result ↔ IsToothCount count }
 {

@@ -27,7 +27,7 @@ pub(crate) fn grow<W: Weights>(alloc: Global, w: &W, row: &mut [i64]) -> Result<
         (pos (most_nodes * 2 ^ 63)) weight) }
 {
     let mut outside = nodes_from_three(alloc, w.count())?;
-    // Every weight is below the one that stands for none.
+    // Every weight is below the one that means none.
     let mut least = vec![in alloc; i64::MAX; outside.len()]?;
     let mut weight = 0;
     let mut nearest = reach(w, row, &outside, &mut least, 2);
@@ -52,8 +52,8 @@ fn nodes_from_three(alloc: Global, count: u32) -> Result<Vec<u32>, AllocError>
     Ok(nodes)
 }
 
-/// Brings what is kept of the nodes outside up to date once `next` is inside, and finds the place of
-/// the nearest of them.
+/// Updates the entries of the nodes outside once `next` is inside, and finds the place of the
+/// nearest of them.
 fn reach<W: Weights>(
     w: &W,
     row: &mut [i64],

@@ -55,7 +55,7 @@ pub fn numbers_tell_combs()
     ensures { NumbersTellCombs }
 {}
 
-/// Where each node has the number of the tooth in whose list it stands, no two teeth have a node in
+/// Where each node has the number of the tooth whose list has it, no two teeth have a node in
 /// common, and the numbers tell how many parts two nodes cross.
 pub fn numbers_tell_lists()
     ensures { NumbersTellLists }

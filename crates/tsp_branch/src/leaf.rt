@@ -8,14 +8,17 @@ use crate::tree::least_weight;
 use crate::weights::Weights;
 use std::alloc::{AllocError, Global};
 
-/// The bound of a leaf whose weights are told by rows: the least whole number that at the scale is
-/// no less than the weight of a least 1-tree and what is given back.
+/// The bound of a leaf whose weights are given by rows: the least whole number that at the scale is
+/// no less than the weight of a least 1-tree plus a sum.
 ///
-/// Given back are the numbers of the taken pairs and the least crossings of the combs, each times
-/// its multiplier, less each potential twice; with these it is the bound of each leaf that has
-/// these weights. The caller owes three or more nodes, weights that are the same both ways, a sum
-/// of at most 2^99 in size, and a row of one place more than there are nodes, which is written
-/// over.
+/// The sum has the numbers of the taken pairs and the least crossings of the combs, each times its
+/// multiplier, less each potential twice; with these it is the bound of each leaf that has these
+/// weights.
+///
+/// # Requires
+///
+/// Three or more nodes, symmetric weights, a sum of at most 2^99 in size, and a row of one place
+/// more than there are nodes, which is overwritten.
 ///
 /// # Errors
 ///

@@ -1,7 +1,11 @@
-//! Lower bounds by branching: families of sets of nodes, and cases by pairs of nodes, as theorems
-//! over lists and whole numbers; and in code the verdict on a certificate. Where pairs have no
-//! direction the bound of a leaf is that of a least 1-tree, else that of the least link from each
-//! node.
+//! Lower bounds by branching: combs, and cases by pairs of nodes, as theorems and as code.
+//!
+//! [`judge_branches`] finds the bound of a certificate, or what is wrong with it first. It searches
+//! for no certificates, and knows costs by their traits only.
+//!
+//! ```text
+//! let verdict = judge_branches(alloc, &costs, scale, combs, &sets, &given, &steps)?;
+//! ```
 #![tactic(auto)]
 
 mod add_sets;

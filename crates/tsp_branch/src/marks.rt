@@ -4,7 +4,7 @@ ghost use Rattle.std.specs.Prelude.{◌≡◌, ◌≤◌, ◌<◌, ◌↔◌, �
 ghost use Rattle.std.specs.List.{All, Any};
 ghost use Rattle.tsp_branch.specs.Marked.{is_marked, AreNew, AreMarked, AddsNoOther};
 
-/// Marks nodes. `false` where one has the mark or stands twice: the nodes before it are marked
+/// Marks nodes. `false` where one has the mark or appears twice: the nodes before it are marked
 /// then.
 pub(crate) fn mark_nodes(marks: &mut [u32], mark: u32, nodes: &[u32]) -> bool
     requires { All (λ node. node < length marks.old) nodes.now }

@@ -2,7 +2,7 @@
 
 use std::alloc::{AllocError, Global};
 
-/// The numbers of the leaf before, and room for those of a leaf and for two rows of its weights.
+/// The numbers of the leaf before, and memory for those of a leaf and for two rows of its weights.
 #[derive(Drop)]
 pub(crate) struct Room {
     pub(crate) numbers: Vec<i128>,
@@ -17,7 +17,7 @@ impl Room {
     ghost use Rattle.tsp_branch.specs.Listed.{no_numbers_of};
     ghost use Rattle.tsp_branch.specs.Rooms.{IsRoom};
 
-    /// Room for so many nodes and combs, where all numbers are 0.
+    /// Memory for this many nodes and combs, where all numbers are 0.
     ///
     /// # Errors
     ///

@@ -14,12 +14,14 @@ use crate::closing::{CLOSED, close_all, shut};
 use crate::leaf::rounded_up;
 use crate::weights::Weights;
 
-/// The bound of a leaf whose weights are told by rows: the least whole number that at the scale is
-/// no less than the sum of the least weights from all nodes and what is given back. `None` where
-/// the decisions allow no link from some node: then no cycle keeps them.
+/// The bound of a leaf whose weights are given by rows: the least whole number that at the scale is
+/// no less than the least weights from all nodes plus a sum. `None` where the decisions allow no
+/// link from some node: then no cycle keeps them.
 ///
-/// The caller owes decisions of different nodes, a sum of at most 2^99 in size that is given back,
-/// and a row of one place more than there are nodes, which is written over.
+/// # Requires
+///
+/// Decisions of different nodes, a sum of at most 2^99 in size, and a row of one place more than
+/// there are nodes, which is overwritten.
 pub fn row_bound<W: Weights>(
     w: &W,
     given: &[(u32, u32, bool)],

@@ -9,9 +9,11 @@ ghost use Rattle.tsp_theory.specs.Growth.{least_at};
 use crate::add_sets::sum_left;
 
 /// Makes the costs of a row counts of 1 / scale, and adds a number to each, and at each place the
-/// other row's: of these sums what is left in 64 bits. The place 0 stays as it is.
+/// other row's. Each sum is wrapped to 64 bits. The place 0 stays as it is.
 ///
-/// The caller owes costs of at most 10^12 in size, and rows of one length.
+/// # Requires
+///
+/// Costs of at most 10^12 in size, and rows of one length.
 pub(crate) fn scale_row(row: &mut [i64], moved: &[i64], scale: i64, number: i64)
     requires scale { IsScale scale }
     requires long { length moved.now ≡ length row.old }

@@ -126,7 +126,7 @@ impl<C: Costs> Setting<'_, C> {
             (Some bound)) }
         ensures size { IfOk result (λ bound. IsBoundSized bound) }
     {
-        // That there are at most 100,000 nodes is told by the count.
+        // The count shows that there are at most 100,000 nodes.
         self.costs.count();
         fill_moved(moved, potentials, self.sets, multipliers);
         let combed = CombedWeights::of(

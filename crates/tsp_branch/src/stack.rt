@@ -5,9 +5,9 @@ ghost use Rattle.std.specs.List.{All};
 ghost use Rattle.tsp_branch.specs.Cases.{next_stack};
 ghost use Rattle.tsp_branch.specs.Decided.{IsDecision, IsNextStack, stack_of};
 
-/// Leaves a leaf for the next open case: what was decided after the last taken pair is dropped, and
-/// that pair is avoided. Where no pair is taken no case is open: all is dropped, and `false` is
-/// answered.
+/// Leaves a leaf for the next open case: the decisions after the last taken pair are dropped, and
+/// that pair is avoided. Where no pair is taken no case is open: all is dropped, and the result is
+/// `false`.
 pub fn next_case(stack: &mut Vec<(u32, u32, bool)>) -> bool
     ensures next { IsNextStack stack.old.items result stack.new.items }
     ensures few { length stack.new.items ≤ length stack.old.items }

@@ -1,6 +1,6 @@
-//! What is judged of a tree of cases.
+//! The parts of a tree of cases that are judged.
 
-/// What is judged of a certificate.
+/// The parts of a certificate that are judged.
 #[derive(Drop)]
 pub enum Judged {
     /// The bound: no cycle that keeps the given decisions is shorter. `None` where no leaf has one:

@@ -1,4 +1,4 @@
-//! Least 1-trees under weights that are told by rows.
+//! Least 1-trees under weights that are given by rows.
 
 ghost use Rattle.std.specs.Prelude.{◌≡◌, ◌≤◌, ◌+◌, ◌*◌, ◌^◌, ℕ, List, length, pos, neg_ℤ, IfOk};
 ghost use Rattle.tsp_format.specs.Limits.{most_nodes};
@@ -10,12 +10,15 @@ use crate::spokes::two_spokes;
 use crate::weights::Weights;
 use std::alloc::{AllocError, Global};
 
-/// The weight of a 1-tree than which none weighs less, under weights that are the same both ways.
+/// The weight of a 1-tree than which none weighs less, under symmetric weights.
 ///
-/// A 1-tree is a tree over the nodes 2..n and two different edges at node 1. The caller owes three
-/// or more nodes, and a row of one place more than there are nodes, which is written over.
-/// Source: M. Held and R. M. Karp, The traveling-salesman problem and minimum spanning trees,
-/// 1970; the tree is grown as R. C. Prim's, 1957.
+/// A 1-tree is a tree over the nodes 2..n and two different edges at node 1. Source: M. Held and R.
+/// M. Karp, The traveling-salesman problem and minimum spanning trees, 1970; the tree is grown as
+/// R. C. Prim's, 1957.
+///
+/// # Requires
+///
+/// Three or more nodes, and a row of one place more than there are nodes, which is overwritten.
 ///
 /// # Errors
 ///
@@ -28,7 +31,7 @@ pub fn least_weight<W: Weights>(alloc: Global, w: &W, row: &mut [i64]) -> Result
     ensures size { IfOk result (λ weight. IsFromTo (neg_ℤ (pos ((most_nodes + 2) * 2 ^ 63)))
         (pos ((most_nodes + 2) * 2 ^ 63)) weight) }
 {
-    // That there are at most 100,000 nodes is told by the count.
+    // The count shows that there are at most 100,000 nodes.
     w.count();
     let (first, second) = two_spokes(w, row);
     let grown = grow(alloc, w, row)?;

@@ -16,10 +16,12 @@ pub trait Weights {
         ensures value { result ≡ nodes self.now }
         ensures most { result ≤ most_nodes };
 
-    /// Writes the weights between a node and each into a row, each at the place of
-    /// its node; they are below the largest number of 64 bits, and the same at each call.
+    /// Writes the weights between a node and each into a row, each at the place of its node; they
+    /// are below the largest number of 64 bits, and the same at each call.
     ///
-    /// The caller owes a node of 1 to `count`, and a row of one place more than there are nodes.
+    /// # Requires
+    ///
+    /// A node of 1 to `count`, and a row of one place more than there are nodes.
     fn fill(&self, from: u32, row: &mut [i64])
         requires from { IsNode (nodes self.now) from }
         requires room { length row.old ≡ nodes self.now + 1 }

@@ -38,17 +38,17 @@ abbrev pub IsJobOf : Option (Text × List Row) → Job → Type 0
 IsJobOf (Some (name, rows)) job = (option_map word_of job.verb ≡ Some name) × HasValues rows job
 IsJobOf None job = (job.verb ≡ None) × HasValues [] job
 
--- out of memory is told apart from each other cause
+-- out of memory is distinguished from each other cause
 abbrev pub IsFaultOf : ErrorKind → JobFault → Type 0
 IsFaultOf kind (Refused refusal) = (kind_of refusal ≡ kind) × (kind ≢ kinds.OutOfMemory)
 IsFaultOf kind OutOfMemory = kind ≡ kinds.OutOfMemory
 
--- the words are refused for another cause; out of memory may stand in its place
+-- the words are refused for another cause; out of memory may come in its place
 abbrev pub IsOtherRefusal : JobFault → Type 0
 IsOtherRefusal (Refused refusal) = kind_of refusal ≢ kinds.OutOfMemory
 IsOtherRefusal OutOfMemory = ⊤
 
--- what clap states of these words: with no fault a job, and else one of the first faults. Out of memory may stand in place of
+-- what clap states of these words: with no fault a job, and else one of the first faults. Out of memory may come in place of
 -- either.
 abbrev pub GivesJob : List Text → Result Job JobFault → Type 0
 GivesJob words (Ok job) = (fault_of tsp words ≡ []) × IsJobOf (subcommand_of tsp words) job

@@ -162,7 +162,7 @@ fn with_command<'a>(
     command.subcommand(subcommand)
 }
 
-/// A path that has to stand among the words.
+/// A path that the words have to contain.
 fn path<'a>(alloc: Global, id: &'a str, help: &'a str) -> Arg<'a>
     ensures rule { rule_of result ≡ path id.now }
     ensures local { result.global ≡ false }

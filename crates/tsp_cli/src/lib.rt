@@ -1,7 +1,12 @@
 //! The words of the command line of the program `tsp`, as a task on files.
 //!
-//! The words are a job (`words`), by the commands that the program has (`grammar`); a job is a task
-//! on files (`task`), of which standard input is one at most (`once`).
+//! The words are a job (`words`), by the commands that the program has (`grammar`). A job is a task
+//! on files (`task`). It opens no files and runs nothing.
+//!
+//! ```text
+//! let job = job_of(alloc, &["check", "a.tsp", "a.tour"])?;
+//! let task = task_of(&job)?;
+//! ```
 #![tactic(auto)]
 
 mod examples;

@@ -15,11 +15,11 @@ pub enum Place<'a> {
     Path(&'a str),
 }
 
-/// What is done with which files, in the order in which they are read. `F` is what is known of a
-/// file: its place, or a reader.
+/// The action on files, in the order in which they are read. `F` is the knowledge of a file: its
+/// place, or a reader.
 #[derive(Drop)]
 pub enum Task<F> {
-    /// To say what stands in a file.
+    /// Show the contents of a file.
     Show(F),
     /// To write a file anew, its matrix in this layout where one is named.
     Convert(F, Option<Layout>),

@@ -15,7 +15,7 @@ use std::io::ErrorKind as IoKind;
 /// What the program does with its files.
 #[derive(Clone, Copy)]
 pub enum Verb {
-    /// To say what stands in a file.
+    /// Show the contents of a file.
     Show,
     /// To write a file anew.
     Convert,
@@ -52,7 +52,7 @@ pub struct Job {
     pub potentials: Option<String>,
     /// The path of the tree of cases.
     pub branches: Option<String>,
-    /// Whether a fault, or a no, is to be explained.
+    /// Whether a fault, or the line `no`, is to be explained.
     pub explain: bool,
 }
 
@@ -110,8 +110,8 @@ pub fn job_of(alloc: Global, words: &[&str]) -> Result<Job, JobFault>
     }
 }
 
-/// Why words that can't be had are no job: out of memory, or a word is no text, which is told as
-/// `clap` tells that words are refused.
+/// Why words that can't be had are no job: out of memory, or a word is no text, which is reported
+/// as `clap` reports refused words.
 pub fn unread(alloc: Global, error: &io::Error) -> JobFault
     ensures memory { error_kind error.now ≡ IoKind.OutOfMemory → result ≡ JobFault.OutOfMemory }
     ensures no_text { error_kind error.now ≢ IoKind.OutOfMemory → IsOtherRefusal result }

@@ -7,7 +7,7 @@ use Rattle.tsp_format.specs.declared.kinds.WeightKind.{WeightKind}
 use Rattle.tsp_format.specs.declared.kinds.WeightKind.TheVariants.{Explicit, Euc2d, Ceil2d, Man2d, Max2d, Att, Euc3d, Man3d, Max3d}
 use Rattle.tsp_file.specs.Cost.{distance}
 
--- what is known of all distances
+-- the facts of all distances
 pub record DistanceLaws : Type 0 where
   pub euc : IsDistance IsEuc2d euc_2d_of
   pub ceil : IsDistance IsCeil2d ceil_2d_of
@@ -18,7 +18,7 @@ pub record DistanceLaws : Type 0 where
   pub man_in_space : IsDistanceInSpace IsMan3d man_3d_of
   pub max_in_space : IsDistanceInSpace IsMax3d max_3d_of
 
--- each distance is the same both ways
+-- each distance is symmetric
 pub distance_symmetric : DistanceLaws → (kind : WeightKind) (a b : Point) → distance kind a b ≡ distance kind b a
 unfolding distance
 distance_symmetric laws Explicit a b = refl

@@ -1,4 +1,12 @@
-//! Costs between the nodes of an instance, and the lengths of tours; hands on the names of `tsp_theory`.
+//! The costs between the nodes of an instance, and the lengths of tours.
+//!
+//! An [`Instance`] is a file with costs. A view of it says where they come from: a matrix, a triangle
+//! or points. It judges no tours. The names of tsp_theory are re-exported.
+//!
+//! ```text
+//! let instance = Instance::of(file)?;
+//! let length = tour_length(&instance, &[1, 2, 3, 4]);
+//! ```
 #![tactic(auto)]
 
 mod curve;

@@ -24,7 +24,7 @@ pub struct Matrix<'a> {
     ghost sizes: { All (IsWithin most_weight) weights.now },
 }
 
-/// The costs of a full matrix that are the same both ways between different nodes.
+/// The costs of a full matrix that are symmetric between different nodes.
 #[derive(Clone, Copy, Debug)]
 pub struct EvenMatrix<'a> {
     matrix: Matrix<'a>,
@@ -36,7 +36,7 @@ impl<'a> Matrix<'a> {
     ghost use Rattle.tsp_theory.specs.Costs.{IsFirstAsymmetric, FindsAsymmetric};
     ghost use Rattle.tsp_cost.specs.Views.{matrix_nodes, matrix_cost, even_nodes, even_cost};
 
-    /// The costs over so many nodes that these weights list.
+    /// The costs over this many nodes that these weights list.
     pub(crate) fn of(nodes: u32, weights: &'a [i64]) -> Matrix<'a>
         requires some { 1 ≤ nodes }
         requires most { nodes ≤ most_matrix_nodes }
@@ -49,8 +49,8 @@ impl<'a> Matrix<'a> {
         Matrix { nodes, weights }
     }
 
-    /// These costs as ones that are the same both ways, or the first pair, the smaller node first,
-    /// by rows, whose two costs differ.
+    /// These costs as symmetric ones, or the first pair, the smaller node first, by rows, whose two
+    /// costs differ.
     ///
     /// Every cost stays as it is, those from a node to itself too, which aren't compared.
     pub fn even(self) -> Result<EvenMatrix<'a>, (u32, u32)>

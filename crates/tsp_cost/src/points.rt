@@ -15,7 +15,8 @@ use tsp_theory::{Costs, Symmetric};
 
 /// The costs of an instance whose weight type is a distance: that of the nodes' points.
 ///
-/// The points are those of the plane or those in space, each in the room that it needs.
+/// The points are those of the plane or those in space, each list in the memory that its points
+/// need.
 #[derive(Debug)]
 pub struct Points<'a, P> {
     pub(crate) kind: WeightKind,

@@ -36,7 +36,7 @@ impl<'a> Triangle<'a> {
     ghost use Rattle.std.specs.Prelude.{ℕ};
     ghost use Rattle.tsp_cost.specs.Views.{triangle_nodes, triangle_cost};
 
-    /// The costs over so many nodes that these weights list in a layout.
+    /// The costs over this many nodes that these weights list in a layout.
     pub(crate) fn of(layout: Layout, nodes: u32, weights: &'a [i64]) -> Triangle<'a>
         requires half { layout ≢ FullMatrix }
         requires some { 1 ≤ nodes }

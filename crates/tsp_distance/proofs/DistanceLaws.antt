@@ -165,13 +165,13 @@ max_2d_apart a b j k first second = rounded_apart (max (across a b) (along a b))
 same_from : (j k : ℕ) → ¬ (j < k) → ¬ (k < j) → j ≡ k
 same_from j k first second = omega arith
 
--- what is defined, and of no two numbers, is unique
+-- a defined number, if no two are defined, is unique
 pub only_one : (Is : Point → Point → ℕ → Type 0) (distance : Point → Point → ℕ) → ((a b : Point) → Is a b (distance a b))
     → ((a b : Point) (j k : ℕ) → Is a b j → Is a b k → ¬ (j < k)) → (a b : Point) (k : ℕ) → Is a b k → k ≡ distance a b
 only_one Is distance defined apart a b k is =
     same_from k (distance a b) (apart a b k (distance a b) is (defined a b)) (apart a b (distance a b) k (defined a b) is)
 
--- ---- both ways, and between equal points
+-- ---- symmetric, and 0 between equal points
 
 unsigned_abs-neg : (x : ℤ) → unsigned_abs (neg_ℤ x) ≡ unsigned_abs x
 unsigned_abs-neg (pos zero) = refl

@@ -19,7 +19,7 @@ squared-below j k below =
     let sides : j * unit ≤ (k - 1) * unit = omega arith in
     mul-le (j * unit) (j * unit) ((k - 1) * unit) ((k - 1) * unit) sides sides
 
--- the squares of both ways are that of the straight distance
+-- the squares of both differences are that of the straight distance
 pub apart_is : (a b : Point) (w h : ℕ) → w ≡ across a b → h ≡ along a b → squared w + squared h ≡ square_apart a b
 apart_is a b w h wide high = cc
 

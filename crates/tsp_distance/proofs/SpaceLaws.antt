@@ -42,7 +42,7 @@ man_3d-is = only_one IsMan3d man_3d_of man_3d-defined man_3d_apart
 pub max_3d-is : (a b : Point) (k : ℕ) → IsMax3d a b k → k ≡ max_3d_of a b
 max_3d-is = only_one IsMax3d max_3d_of max_3d-defined max_3d_apart
 
--- ---- both ways, and between equal points
+-- ---- symmetric, and 0 between equal points
 
 above-comm : (a b : Point) → above a b ≡ above b a
 above-comm a b = unsigned_abs-sub a.z b.z

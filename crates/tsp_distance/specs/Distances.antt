@@ -39,12 +39,12 @@ pub record IsCeil2d (a b : Point) (k : ℕ) : Type 0 where
   pub enough : square_apart a b ≤ squared (k * unit)
   pub none_smaller : (j : ℕ) → j < k → squared (j * unit) < square_apart a b
 
--- MAN_2D: the sum of both ways rounded to the nearest whole number, a half upward
+-- MAN_2D: the sum of both differences rounded to the nearest whole number, a half upward
 pub record IsMan2d (a b : Point) (k : ℕ) : Type 0 where
   pub below_next_half : 2 * (across a b + along a b) < (2 * k + 1) * unit
   pub from_last_half : 0 < k → (2 * k - 1) * unit ≤ 2 * (across a b + along a b)
 
--- MAX_2D: the longer of both ways rounded to the nearest whole number, a half upward
+-- MAX_2D: the larger of both differences rounded to the nearest whole number, a half upward
 pub record IsMax2d (a b : Point) (k : ℕ) : Type 0 where
   pub below_next_half : 2 * max (across a b) (along a b) < (2 * k + 1) * unit
   pub from_last_half : 0 < k → (2 * k - 1) * unit ≤ 2 * max (across a b) (along a b)
@@ -115,7 +115,7 @@ pub record IsInSpace (a : Point) : Type 0 where
   pub y : unsigned_abs a.y ≤ most_count
   pub z : unsigned_abs a.z ≤ most_count
 
--- `distance` is what `Is` defines, and nothing else is. It is the same both ways, 0 between equal points, and at most `longest`
+-- `distance` is the number that `Is` defines, and nothing else is. It is symmetric, 0 between equal points, and at most `longest`
 -- between points that lie `Within`
 pub record IsDistanceWithin (Within : Point → Type 0) (longest : ℕ) (Is : Point → Point → ℕ → Type 0)
     (distance : Point → Point → ℕ) : Type 0 where

@@ -83,7 +83,7 @@ pub struct Point {
     pub z: Decimal,
 }
 
-/// A point in the plane, by its coordinates, in the room that two numbers take.
+/// A point in the plane, by its coordinates, in the memory of two numbers.
 #[derive(Clone, Copy, Debug, PartialEq, Eq)]
 pub struct PlanePoint {
     /// The first coordinate.

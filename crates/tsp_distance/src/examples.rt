@@ -5,8 +5,8 @@ ghost use Rattle.std.specs.Prelude.{pos, negsuc};
 ghost use Rattle.tsp_distance.specs.Distances.{IsEuc2d, IsCeil2d, IsMan2d, IsMax2d, IsAtt, IsEuc3d, IsMan3d, IsMax3d};
 ghost use Rattle.tsp_distance.specs.Examples.{FromZero, FromZeroToSpace, FromLeastToLargest};
 
-/// The distances of the point (0, 0) and some others, whose coordinates stand here in thousandths:
-/// at a step of each, and just beside it. What lies above the plane isn't looked at.
+/// The distances of the point (0, 0) and some others, with coordinates in thousandths: at a step of
+/// each, and just beside it. What lies above the plane isn't looked at.
 pub fn examples_of_distances()
     ensures euc_along_two_axes { FromZero IsEuc2d (pos 3000) (negsuc 3999) 5 }
     ensures euc_below_a_half { FromZero IsEuc2d (pos 499) (pos 0) 0 }
@@ -34,8 +34,8 @@ pub fn examples_of_distances()
     ensures att_looks_at_the_plane { FromZeroToSpace IsAtt (pos 1000) (pos 3000) (pos 9000) 1 }
 {}
 
-/// The distances in space of the point (0, 0, 0) and some others, whose coordinates stand here in
-/// thousandths, and of the two ends of space.
+/// The distances in space of the point (0, 0, 0) and some others, with coordinates in thousandths,
+/// and of the two ends of space.
 pub fn examples_of_distances_in_space()
     ensures euc_along_three_axes { FromZeroToSpace IsEuc3d (pos 1000) (pos 2000) (pos 2000) 3 }
     ensures euc_turned { FromZeroToSpace IsEuc3d (pos 2000) (negsuc 1999) (negsuc 999) 3 }

@@ -1,9 +1,12 @@
 //! The distances of TSPLIB 95, over exact decimals.
 //!
-//! A [`Decimal`] is a number with at most nine places after the point, kept as a count of 10^-9.
-//! [`euc_2d`], [`ceil_2d`], [`man_2d`], [`max_2d`] and [`att`] are the distances of Reinelt's
-//! TSPLIB 95 between two [`Point`]s in the plane, and [`euc_3d`], [`man_3d`] and [`max_3d`] those in
-//! space, exact over the decimals as written. No call takes memory.
+//! A [`Decimal`] is a number with at most nine places after the point, kept as a count of 10^-9. The
+//! eight calls compute Reinelt's distances between two [`Point`]s, exact over the decimals as written.
+//! It reads no text and takes no memory: number words are tsp_number's.
+//!
+//! ```text
+//! let length = euc_2d(from, to);
+//! ```
 #![tactic(auto)]
 
 mod decimal;

@@ -107,7 +107,7 @@ fn estimate(rounding: Rounding, square: f64) -> u32
         Rounding::Up => (square.sqrt() * 5.12e-7 + 0.499_999_999, 0xffff_ffff),
         Rounding::TenthUp => ((square * 0.1).sqrt() * 5.12e-7 + 0.499_999_999, 0x3fff_ffff),
     };
-    // A sum with 2^52 has no room for a fraction, and its low bits are the whole number nearby.
+    // A sum with 2^52 has no bits for a fraction, and its low bits are the whole number nearby.
     let bits = num::f64_to_bits_with_nan(near + 4_503_599_627_370_496.0);
     (bits & most) as u32
 }

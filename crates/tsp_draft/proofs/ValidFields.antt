@@ -52,7 +52,7 @@ second_false : (a b : Bool) → (a && b) ≡ false → a ≡ true → b ≡ fals
 second_false true b e first = e
 second_false false b e first = absurd cc
 
--- what is asked for is there
+-- the required fields are there
 asked_there : (asked there : Bool) → (not asked || there) ≡ true → asked ≡ true → there ≡ true
 asked_there true there e asked = e
 asked_there false there e asked = absurd cc
@@ -167,7 +167,7 @@ pub nodes_fit : (f : Fields) (in_space : Bool) → section_fits f fields.NodeCoo
 nodes_fit f true = refl
 nodes_fit f false = refl
 
--- ---- fields that stand
+-- ---- present fields
 
 given : {A : Type 0} (test : A → Bool) (o : Option A) (x : A) → if_there test o ≡ true → o ≡ Some x → test x ≡ true
 given test o x e stands = subst (λ v. if_there test v ≡ true) stands e
@@ -270,7 +270,7 @@ steps_in f steps e stands =
       whole = third.1;
     }
 
--- the format of weights, once it is known to stand and to be no function
+-- the format of weights, once it is present and no function
 listed_format : (format : Option WeightFormat) → is_some format ≡ true → is_function format ≡ false → (layout : Layout) × (format ≡ Some (Listed layout))
 listed_format None there no_function = absurd cc
 listed_format (Some ByFunction) there no_function = absurd cc
@@ -330,7 +330,7 @@ in_range f valid = record {
   branches = λ steps. steps_in f steps (each_fits f valid fields.BranchPart);
 }
 
--- ---- what stands
+-- ---- presence
 
 instance_is_no_tours : (kind : Option Kind) → is_instance kind ≡ true → not (is_tours kind) ≡ true
 instance_is_no_tours None e = absurd cc

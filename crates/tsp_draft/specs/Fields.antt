@@ -108,7 +108,7 @@ fields_of d = record {
 abbrev pub spatial : Fields → Bool
 spatial f = is_spatial f.coord_kind f.weight_kind
 
--- whether a field stands; comments and unknown keywords may be none
+-- whether a field is present; comments and unknown keywords may be none
 abbrev pub stands_in : Fields → Field → Bool
 stands_in f NameKey = is_some f.name
 stands_in f TypeKey = is_some f.kind

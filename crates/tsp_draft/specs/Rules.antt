@@ -1,5 +1,5 @@
--- What the fields of a file have to be together, judged over what stands in it, and the first fault of a draft.
--- Which keyword and section each TYPE asks for is TSPLIB 95 (G. Reinelt) and this project's profile of it.
+-- The rules over several fields of a file, judged over its present fields, and the first fault of a draft. Which keyword and
+-- section each TYPE asks for is TSPLIB 95 (G. Reinelt) and this project's profile of it.
 use Rattle.std.specs.Prelude.{ℕ, Bool, true, false, cond, not, ◌&&◌, ◌||◌, ◌==◌, List, [], ◌∷◌, length, Option, None, Some, is_some}
 use Rattle.std.specs.Option.{option_map, option_or}
 use Rattle.tsp_format.specs.declared.kinds.Kind.{Kind}
@@ -18,9 +18,9 @@ use Rattle.tsp_format.specs.Cells.{cells}
 use Rattle.tsp_draft.specs.Fields.{Fields, stands_in}
 use Rattle.tsp_draft.specs.Validity.{first_failing, bad_field}
 
--- ---- what stands
+-- ---- the present fields
 
--- What stands in a file: which fields, what it is, how its weights are given, and how many they are.
+-- The presence of fields in a file: which ones, its TYPE, how its weights are given, and how many they are.
 pub record Standing : Type 0 where
   pub stands : Field → Bool
   pub kind : Option Kind
@@ -33,7 +33,7 @@ abbrev pub count_of : {A : Type 0} → Option (List A) → ℕ
 count_of None = 0
 count_of (Some xs) = length xs
 
--- what stands in these fields
+-- the presence of these fields
 abbrev pub standing_of : Fields → Standing
 standing_of f = record {
   stands = stands_in f;
@@ -160,7 +160,7 @@ abbrev pub has_wrong_format : Standing → Bool
 has_wrong_format s = (is_function s.weight_format && (lists_weights s || s.stands EdgeWeightPart))
     || (is_certificate s.kind && has_node_or_multiplier s && has_row_or_column s)
 
--- so many weights are as many as the cells of the layout
+-- this many weights are as many as the cells of the layout
 abbrev pub is_count : Option ℕ → Option WeightFormat → ℕ → Bool
 is_count (Some n) (Some (formats.Listed layout)) count = count == length (cells layout n)
 is_count (Some n) (Some formats.ByFunction) count = true
@@ -176,7 +176,7 @@ has_wrong_count s = s.stands EdgeWeightPart && not (is_count s.dimension s.weigh
 abbrev pub format_or_count : Standing → Option EndFault
 format_or_count s = cond (has_wrong_format s) (Some WrongFormat) (cond (has_wrong_count s) (Some WrongCount) None)
 
--- The fault at the end of a file, by what stands in it and by the first section that is incomplete: the first row that applies.
+-- The fault at the end of a file, by its fields and its first incomplete section: the first row that applies.
 abbrev pub end_fault : Standing → Option Field → Option EndFault
 end_fault s incomplete = option_or (option_map (λ field. Missing field) (first_failing (is_there s) asked_in_order))
     (option_or (option_map (λ field. Incomplete field) incomplete) (format_or_count s))

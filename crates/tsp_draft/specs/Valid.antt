@@ -1,4 +1,4 @@
--- What holds of every valid file: its fields are in these ranges, and those stand that its kind asks for.
+-- What always holds of a valid file: its fields are in these ranges, and those are present that its kind asks for.
 use Rattle.std.specs.Prelude.{◌≡◌, ◌≢◌, ℕ, ◌+◌, ◌≤◌, ◌⊎◌, Bool, true, false, List, length, None, Some, IsSome, ℤ, pos, neg_ℤ, ◌≤ℤ◌}
 use Rattle.std.specs.List.{All, sum_by}
 use Rattle.tsp_distance.specs.declared.decimal.Point.{Point}
@@ -109,7 +109,7 @@ pub record AreTreeSteps (f : Fields) (steps : List Step) : Type 0 where
   pub few_changes : change_count steps ≤ most_changes
   pub whole : are_whole 1 steps ≡ true
 
--- the fields that stand are in their ranges
+-- the present fields are in their ranges
 pub record IsInRange (f : Fields) : Type 0 where
   pub dimension : (n : ℕ) → f.dimension ≡ Some n → IsNode most_nodes n
   pub capacity : (capacity : ℤ) → f.capacity ≡ Some capacity → IsFromTo (pos 1) (pos most_capacity) capacity
@@ -131,26 +131,26 @@ pub record IsInRange (f : Fields) : Type 0 where
   pub combs : (combs : List (List (List ℕ))) → f.combs ≡ Some combs → AreCombs f combs
   pub branches : (steps : List Step) → f.branches ≡ Some steps → AreTreeSteps f steps
 
--- what stands in an instance: its nodes and weight type, and the weights or the coordinates that the weight type is over
+-- the present fields of an instance: its nodes and weight type, and the weights or the coordinates that the weight type is over
 pub record HasInstance (f : Fields) : Type 0 where
   pub dimension : IsSome f.dimension
   pub weight_kind : IsSome f.weight_kind
   pub weights : is_explicit f.weight_kind ≡ true → IsSome f.weights
   pub coords : is_explicit f.weight_kind ≡ false → IsSome f.coords
 
--- what stands in a routing problem beside that
+-- those of a routing problem beside that
 pub record HasRouting (f : Fields) : Type 0 where
   pub capacity : IsSome f.capacity
   pub demands : IsSome f.demands
   pub depots : IsSome f.depots
 
--- what stands in a file of potentials: those of nodes, or those of rows and of columns without multipliers of fixed edges
+-- those of a file of potentials: of nodes, or of rows and of columns without multipliers of fixed edges
 pub record HasPotentials (f : Fields) : Type 0 where
   pub dimension : IsSome f.dimension
   pub sort : (IsSome f.node_potentials × (f.row_potentials ≡ None) × (f.column_potentials ≡ None))
       ⊎ ((f.node_potentials ≡ None) × (f.fixed_potentials ≡ None) × IsSome f.row_potentials × IsSome f.column_potentials)
 
--- what stands in a file of branches
+-- those of a file of branches
 pub record HasBranches (f : Fields) : Type 0 where
   pub dimension : IsSome f.dimension
   pub branches : IsSome f.branches

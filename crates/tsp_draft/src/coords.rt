@@ -1,4 +1,4 @@
-//! The points of a section, each list in the room that its points need.
+//! The points of a section, each list in the memory that its points need.
 
 ghost use Rattle.std.specs.Prelude.{◌≡◌, length, slice_index_or, ◌<◌, SomeIff};
 ghost use Rattle.tsp_draft.specs.Coords.{points_of, origin};

@@ -9,7 +9,7 @@ use tsp_format::{
 /// The fields of a file, in canonical order. A list by node has one entry for each node, in order.
 #[derive(Debug)]
 pub struct Draft {
-    /// NAME: bytes as they stand.
+    /// NAME: bytes as they are.
     pub name: Option<Vec<u8>>,
     /// TYPE.
     pub kind: Option<Kind>,
@@ -59,7 +59,8 @@ pub struct Draft {
     pub branches: Option<Vec<TreeStep>>,
 }
 
-/// As a derive would do it; what lets go of a draft calls this, and doesn't go through every field.
+/// As a derive would do it. A function that drops a draft calls this, and doesn't go through every
+/// field.
 impl Drop for Draft {
     fn drop(self) {
         let Draft {
@@ -138,7 +139,7 @@ impl Draft {
         is_spatial(self.coord_kind, self.weight_kind)
     }
 
-    /// Whether a field stands; comments and unknown keywords may be none.
+    /// Whether a field is present; comments and unknown keywords may be none.
     pub fn stands(&self, field: Field) -> bool
         ensures { result ≡ stands_in (fields_of self.now) field }
     {

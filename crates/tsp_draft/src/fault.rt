@@ -12,7 +12,7 @@ pub enum EndFault {
     /// A section has fewer places than it needs. Readers find this; a draft's lists are whole, so
     /// no file is refused for it.
     Incomplete(Field),
-    /// The format doesn't go with the weights, or node potentials stand beside others.
+    /// The format doesn't fit the weights, or node potentials appear beside others.
     WrongFormat,
     /// The number of weights isn't that of the layout.
     WrongCount,

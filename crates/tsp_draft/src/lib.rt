@@ -1,4 +1,13 @@
-//! What a TSPLIB 95 file holds, as a draft, and when that is valid.
+//! The fields of a TSPLIB 95 file, as a draft, and when they are valid.
+//!
+//! It knows no bytes of a file's text, and judges no tours: a draft with a field of each sort is made
+//! by hand or by tsp_read.
+//!
+//! ```text
+//! let mut draft = Draft::new(alloc);
+//! draft.kind = Some(Kind::Tour);
+//! let fault = end_fault(&draft, None);
+//! ```
 #![tactic(auto)]
 
 mod coords;

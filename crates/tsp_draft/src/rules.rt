@@ -1,4 +1,4 @@
-//! What the fields of a file have to be together, judged over what stands in it.
+//! The rules over several fields of a file, judged over its present fields.
 
 ghost use Rattle.std.specs.Prelude.{◌≡◌, None};
 ghost use Rattle.tsp_draft.specs.Fields.{fields_of};
@@ -27,12 +27,12 @@ const ASKED: [Field; 14] = [
     Field::BranchPart,
 ];
 
-/// The fault at the end of a file, by what stands in it and by its first incomplete section: the
+/// The fault at the end of a file, by its present fields and by its first incomplete section: the
 /// first row of the end table that applies, or `None`.
 ///
 /// A draft's lists are never incomplete, so that `None` is passed for one. A reader passes the
 /// first section in canonical order that has fewer places than it needs; of the lists of such
-/// sections it is only looked at whether they stand.
+/// sections only their presence counts.
 pub fn end_fault(draft: &Draft, incomplete: Option<Field>) -> Option<EndFault>
     ensures { result ≡ end_fault (standing_of (fields_of draft.now)) incomplete }
 {
@@ -145,7 +145,7 @@ fn has_distances(draft: &Draft) -> bool
         && !matches!(draft.weight_kind, Some(WeightKind::Explicit))
 }
 
-/// Whether potentials of rows or of columns stand.
+/// Whether potentials of rows or of columns are present.
 fn has_row_or_column(draft: &Draft) -> bool
     ensures { result ≡ has_row_or_column (standing_of (fields_of draft.now)) }
 {

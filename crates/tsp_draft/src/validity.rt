@@ -57,7 +57,7 @@ pub(crate) fn are_kept(comments: &[Vec<u8>]) -> bool
     comments.iter().all(|comment| is_kept(Field::CommentKey.word().as_bytes(), comment))
 }
 
-/// Whether every byte can stand in a keyword.
+/// Whether every byte may be part of a keyword.
 fn are_keyword_bytes(word: &[u8]) -> bool
     ensures { result ≡ list_all is_keyword_byte word.now }
 {
@@ -288,7 +288,7 @@ fn is_each_comb(n: u32, combs: &[Vec<Vec<u32>>]) -> bool
     combs.iter().all(|comb| is_comb(n, comb))
 }
 
-/// How many nodes the sets have together, where they have at most so many.
+/// How many nodes the sets have together, where that is at most this number.
 fn nodes_of_sets(sets: &[Vec<u32>], most: usize) -> Option<usize>
     ensures { result ≡ cond (nat_le (sum_by (λ set. length set.items) sets.now) most)
         (Some (sum_by (λ set. length set.items) sets.now)) None }

@@ -1,4 +1,4 @@
-//! Likely causes of a fault, as far as what was seen of the file shows one.
+//! Likely causes of a fault, as far as the part of the file that was read shows one.
 
 use crate::look::Look;
 use tsp_draft::EndFault;

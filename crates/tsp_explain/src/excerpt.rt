@@ -36,7 +36,8 @@ impl Excerpt {
         }
     }
 
-    /// Takes a byte before the marked ones. Where there is no room, what came before it is left out.
+    /// Takes a byte before the marked ones. Where the excerpt is full, the bytes before it are left
+    /// out.
     fn take_before(&mut self, byte: u8) {
         if self.before.is_full() {
             self.before.clear();
@@ -73,7 +74,7 @@ impl Excerpt {
         }
     }
 
-    /// Appends a line of marks, which stand under the marked bytes.
+    /// Appends a line of marks below the marked bytes.
     fn push_marks(&self, text: &mut Vec<u8>) -> Result<(), AllocError> {
         begin(text)?;
         push(text, "  ")?;
@@ -91,8 +92,8 @@ fn push_cut(text: &mut Vec<u8>, is_cut: bool) -> Result<(), AllocError> {
     if is_cut { push(text, "...") } else { Ok(()) }
 }
 
-/// Appends as many columns of blanks as bytes take that are shown. A tab stays one, so that what
-/// follows stands in the same column.
+/// Appends as many blanks as the bytes take columns when shown. A tab stays one, so that the text
+/// after it is in the same column.
 fn push_blanks(text: &mut Vec<u8>, bytes: &[u8]) -> Result<(), AllocError> {
     'bytes: for byte in bytes {
         match *byte {
@@ -111,7 +112,7 @@ fn push_carets(text: &mut Vec<u8>, bytes: &[u8]) -> Result<(), AllocError> {
     Ok(())
 }
 
-/// Appends a sign so many times.
+/// Appends a sign this many times.
 fn push_times(text: &mut Vec<u8>, sign: u8, count: u8) -> Result<(), AllocError> {
     'times: for _ in 0..count {
         text.extend_from_slice(&[sign])?;

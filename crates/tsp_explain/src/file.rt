@@ -136,7 +136,7 @@ fn short_rule(fault: ReadFault) -> &'static str {
     }
 }
 
-/// Appends the rule that is broken, what is counted, and the likely cause.
+/// Appends the broken rule, the counts, and the likely cause.
 fn push_rules(
     text: &mut Vec<u8>,
     seen: &Look,
@@ -325,7 +325,7 @@ fn push_end_rule(text: &mut Vec<u8>, fault: EndFault) -> Result<(), AllocError> 
     }
 }
 
-/// Appends how much stands in a section that isn't whole, or how many weights there are.
+/// Appends how many groups a section has that isn't whole, or how many weights there are.
 fn push_counts(text: &mut Vec<u8>, seen: &Look, fault: ReadFault) -> Result<(), AllocError> {
     match (fault, seen.dimension) {
         (ReadFault::End(EndFault::Incomplete(field)), Some(nodes)) => {
@@ -342,7 +342,7 @@ fn push_counts(text: &mut Vec<u8>, seen: &Look, fault: ReadFault) -> Result<(), 
     }
 }
 
-/// Appends which layouts list so many weights of so many nodes.
+/// Appends which layouts list this number of weights for this number of nodes.
 fn push_layouts(text: &mut Vec<u8>, weights: u64, nodes: i64) -> Result<(), AllocError> {
     match layouts_with(i64::try_from(weights).unwrap_or(i64::MAX), nodes) {
         Some(layouts) => push_lines(text, layouts),
@@ -350,7 +350,7 @@ fn push_layouts(text: &mut Vec<u8>, weights: u64, nodes: i64) -> Result<(), Allo
     }
 }
 
-/// The layouts that list so many weights of so many nodes, where there are some.
+/// The layouts that list this number of weights for this number of nodes, where there are some.
 fn layouts_with(weights: i64, nodes: i64) -> Option<&'static str> {
     let all = nodes.saturating_mul(nodes);
     let twice = weights.saturating_mul(2);
@@ -365,7 +365,7 @@ fn layouts_with(weights: i64, nodes: i64) -> Option<&'static str> {
     }
 }
 
-/// Appends how many groups stand in a section, of so many words each, and how many are wanted.
+/// Appends how many groups a section has, of this many words each, and how many are wanted.
 fn push_groups(
     text: &mut Vec<u8>,
     words: u64,

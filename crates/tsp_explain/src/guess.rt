@@ -1,4 +1,4 @@
-//! What was meant in place of a line or a word, as far as the file shows it.
+//! The likely meaning of a line or a word, as far as the file shows it.
 
 use crate::look::{Look, first_run};
 use crate::near::{in_capitals, keyword_in_capitals, nearest, nearest_keyword};
@@ -21,7 +21,7 @@ pub(crate) enum Guess {
     Section,
     /// A word where this section wants a number.
     Numbers(Field),
-    /// The node 0, in a file with so many nodes.
+    /// The node 0, in a file with this many nodes.
     Zero(i64),
     /// A group more than the file has nodes.
     Surplus(i64),
@@ -112,7 +112,7 @@ fn guess_of_value(line: &[u8], field: Field) -> Guess {
     }
 }
 
-/// What was meant by a value that isn't one of a list of words.
+/// The likely meaning of a value that isn't one of a list of words.
 fn guess_of<W: Word>(field: Field, value: &[u8]) -> Guess {
     if let Some(known) = in_capitals::<W>(value) {
         return Guess::ValueLetters(field, known);

@@ -1,7 +1,11 @@
-//! Explains to a person why a file isn't read, or why a solution is refused.
+//! Explains to a person why a file isn't read, or why a solution is rejected.
 //!
-//! The sentences stand in `sentences` and `wanted`. What stands at a fault is seen in a second look
-//! at the file (`look`), which changes nothing of what the first one answered.
+//! The sentences are in `sentences` and `wanted`. A second look at the file (`look`) finds the text
+//! at a fault. It changes nothing of the first answer, and its texts have no contract.
+//!
+//! ```text
+//! explain_file(alloc, &mut text, "a.tsp", Some(reader), fault)?;
+//! ```
 #![tactic(auto)]
 
 mod cause;

@@ -1,4 +1,4 @@
-//! A second look at a file that has a fault: what stands there.
+//! A second look at a file that has a fault: the text at its place.
 
 ghost use Rattle.std.specs.Prelude.{◌≤◌, length};
 
@@ -16,7 +16,7 @@ use tsp_section::says_space;
 /// The most bytes that the reader is asked for at once.
 const MOST_AT_ONCE: usize = 4_096;
 
-/// What is looked for in a file.
+/// The line and word that a look seeks in a file.
 #[derive(Clone, Copy)]
 pub(crate) enum Sought {
     /// A line, counted from 1, and a word of it, counted from 1, or the whole line where it is 0.
@@ -40,14 +40,14 @@ struct Line {
     front: ArrayVec<u8, 128>,
 }
 
-/// What was seen of a file.
+/// The findings of a look at a file.
 #[derive(Drop)]
 pub(crate) struct Look {
     sought: Sought,
     line: Line,
     /// The first bytes of the file.
     pub(crate) head: ArrayVec<u8, 8>,
-    /// What is shown of the line that was looked for.
+    /// The shown part of the line that was sought.
     pub(crate) excerpt: Excerpt,
     /// The field of the last word line, up to the line that was looked for and with it.
     pub(crate) field: Option<Field>,
@@ -61,15 +61,15 @@ pub(crate) struct Look {
     pub(crate) dimension: Option<i64>,
     /// Whether a line says that each node has three coordinates.
     pub(crate) is_spatial: bool,
-    /// How many words stand in the section that was looked for.
+    /// How many words the sought section has.
     pub(crate) words: u64,
-    /// Whether the keyword that was looked for stands there in other letters, as `type`.
+    /// Whether the sought keyword is there in other letters, as `type`.
     pub(crate) has_small_letters: bool,
     /// The first unknown keyword that is near the one that is missing.
     pub(crate) near: ArrayVec<u8, 40>,
     /// The line that has it.
     pub(crate) near_line: u32,
-    /// Whether a byte 13 stands anywhere but before a byte 10 or at the end.
+    /// Whether a byte 13 is anywhere but before a byte 10 or at the end.
     pub(crate) has_returns: bool,
     /// The last byte.
     last: u8,
@@ -281,7 +281,7 @@ fn sought_word(sought: Sought) -> &'static [u8] {
     }
 }
 
-/// The first bytes that may stand in a keyword, and what follows them.
+/// The first bytes that may be part of a keyword, and the rest.
 pub(crate) fn first_run(text: &[u8]) -> (&[u8], &[u8]) {
     'bytes: for (index, byte) in text.iter().enumerate() {
         if !is_keyword_byte(*byte) {

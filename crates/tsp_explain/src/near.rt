@@ -93,7 +93,7 @@ fn tail(word: &[u8]) -> &[u8] {
     tail_from(word, 1)
 }
 
-/// What follows so many letters.
+/// The rest after this many letters.
 fn tail_from(word: &[u8], count: usize) -> &[u8] {
     word.get(count..).unwrap_or(&[])
 }

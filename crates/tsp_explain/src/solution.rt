@@ -90,7 +90,7 @@ fn first_unmarked(marks: &[bool], nodes: u32, depot: Option<u32>) -> Option<u32>
     None
 }
 
-/// The first place of a tour, counted from 1, whose node stands at an earlier place too.
+/// The first place of a tour, counted from 1, whose node is at an earlier place too.
 pub(crate) fn first_repeated(tour: &[u32]) -> Option<u32> {
     let mut marks = [false; MARKS];
     let mut place = 0u32;

@@ -23,7 +23,7 @@ use Rattle.tsp_file.proofs.Listed.{cost_of_cell, turned}
 use Rattle.tsp_file.proofs.Relaid.{line_more, lines_all, cost_within, all_within, of_file}
 use Rattle.tsp_file.proofs.WithWeights.{stays_valid}
 
--- ---- where a line stands in the full matrix
+-- ---- the place of a line in the full matrix
 
 module _ (n : ℕ) (full : List ℤ) where
   abbrev pub between : ℕ × ℕ → ℤ
@@ -118,7 +118,7 @@ line_kept to n line kept start end full items new node holds so_far starts ends 
 pub all_kept : (to : Layout) (n line kept : ℕ) (full items : List ℤ) → n ≤ line - 1 → HasKept to n line kept full items → take kept items ≡ costs_in to n (listed_cost FullMatrix n full)
 all_kept to n line kept full items past so_far = lines_all (λ cell. listed_cost FullMatrix n full cell.0 cell.1) to n line (take kept items) past so_far.front
 
--- a line of a full matrix stands within it
+-- a line of a full matrix is within it
 pub row_within : (n line : ℕ) (full : List ℤ) → line ≤ n → length full ≡ length (cells FullMatrix n) → line * n ≤ length full
 row_within n line full high filled =
     let all : line * n ≤ n * n = mul-le line n n n high (omega arith) in

@@ -76,7 +76,7 @@ diagonal_unlisted LowerCol i e = le-ltb i i (omega arith)
 diagonal_unlisted UpperDiagCol i e = absurd (false≢true (sym e))
 diagonal_unlisted LowerDiagCol i e = absurd (false≢true (sym e))
 
--- even costs of a pair or of the mirrored one
+-- symmetric costs of a pair or of the mirrored one
 pub turned : (cost : ℕ → ℕ → ℤ) → IsSymmetric cost → (i j : ℕ) → cost j i ≡ cost i j
 turned cost even i j = ⊎_elim
     (λ below. even j i (λ same. absurd (omega (arith, below, same))))
@@ -113,7 +113,7 @@ nodes_or_not n i j = ⊎_elim (λ out. inl (λ h. out h.0))
     (λ here. ⊎_elim (λ out. inl (λ h. out h.1)) (λ there. inr (here, there)) (node_or_not n j))
     (node_or_not n i)
 
--- costs are even where those between nodes are
+-- costs are symmetric if those between nodes are
 pub even_between_nodes : (layout : Layout) (n : ℕ) (weights : List ℤ) → ((i j : ℕ) → ¬ (IsNode n i × IsNode n j) → place_of layout n (i, j) ≡ None)
     → ((i j : ℕ) → IsNode n i → IsNode n j → i < j → listed_cost layout n weights i j ≡ listed_cost layout n weights j i) → IsSymmetric (listed_cost layout n weights)
 even_between_nodes layout n weights out inside i j other = ⊎_elim

@@ -8,7 +8,7 @@ use Rattle.tsp_file.specs.Text.{weight_line, matrix_lines}
 use Rattle.tsp_stream.specs.Way.{Way, Carried}
 use Rattle.tsp_stream.proofs.Carrying.{carried_then, carried_none, carried_failed}
 
--- a front of the whole was carried, and this rest is still to come
+-- a prefix of the whole was carried, and this rest is still to come
 pub record Comes (a b : Way) (rest whole : List ℕ) : Type 0 where
   pub done : List ℕ
   pub carried : Carried a b done
@@ -29,7 +29,7 @@ comes_all a b c rest whole h k = subst (λ t. Carried a c t) h.parts (carried_th
 pub comes_failed : (a b : Way) (rest whole : List ℕ) → Comes a b rest whole → b.failed ≡ true → Carried a b whole
 comes_failed a b rest whole h failed = comes_all a b b rest whole h (carried_failed b rest failed)
 
--- the lines from one on, so many
+-- a number of lines, from one on
 abbrev pub lines_from : (ℕ → ℕ) → ℕ → ℕ → List ℤ → List ℕ
 lines_from f line count weights = matrix_lines (map f (range_with_len line count)) weights
 

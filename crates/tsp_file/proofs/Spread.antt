@@ -45,7 +45,7 @@ before_more f from n line node =
     sym (line_more f (cells_of_line from n) n line items (items ++ map f (cells_of_line from n line)) node.0 node.1 refl refl
     ∙ ap (λ k. map f (before from n k)) same)
 
--- they are no more than so many rows of the full matrix
+-- they are no more than this many rows of the full matrix
 few_before : (from : Layout) (n k : ℕ) → k ≤ n → length (before from n k) ≤ k * n
 few_before from n zero low = omega arith
 few_before from n (suc k) low =

@@ -35,7 +35,7 @@ within_size most z fits = grind (arith, ints)
 pub within_abs : (most : ℕ) (z : ℤ) → is_within most z ≡ true → unsigned_abs z ≤ most
 within_abs most z fits = grind (arith, ints)
 
--- a size below 10^digits has so many digits, and maybe a sign
+-- a size below 10^digits has this many digits, and maybe a sign
 signed_short : (digits most : ℕ) (z : ℤ) → most + 1 < 10 ^ digits → most < 2 ^ 63 → mag z ≤ most → length (signed_decimal z) ≤ digits + 1
 signed_short digits most z few small size = length_signed_le digits z (omega (arith, few, size)) (omega (arith, small, size))
 
@@ -61,7 +61,7 @@ node_short n node most fits =
 
 -- ---- lists of texts
 
--- so many texts, each of at most k bytes
+-- this many texts, each of at most k bytes
 pub flat_short : {A : Type 0} (fits : A → Bool) (text : A → List ℕ) (k : ℕ) → ((x : A) → fits x ≡ true → length (text x) ≤ k) → (xs : List A) → list_all fits xs ≡ true
     → length (flat_map text xs) ≤ k * length xs
 flat_short fits text k each [] all = omega arith
@@ -69,7 +69,7 @@ flat_short fits text k each (x ∷ xs) all =
     let parts = and_parts (fits x) (list_all fits xs) all in
     omega (arith, length-append (text x) (flat_map text xs), each x parts.0, flat_short fits text k each xs parts.1)
 
--- the same, where at most `most` of them stand
+-- the same, if at most `most` of them are present
 pub flat_short_of : {A : Type 0} (fits : A → Bool) (text : A → List ℕ) (k most : ℕ) → ((x : A) → fits x ≡ true → length (text x) ≤ k) → (xs : List A) → list_all fits xs ≡ true
     → length xs ≤ most → length (flat_map text xs) ≤ k * most
 flat_short_of fits text k most each xs all few = grind (arith, flat_short fits text k each xs all)

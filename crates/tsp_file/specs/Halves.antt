@@ -1,9 +1,9 @@
--- Where the lines of a layout stand in a full matrix whose costs are the same both ways.
+-- Where the lines of a layout are in a full matrix with symmetric costs.
 use Rattle.std.specs.Prelude.{ℕ, ◌+◌, ◌-◌, ◌*◌}
 use Rattle.tsp_format.specs.declared.layout.Layout.{Layout}
 use Rattle.tsp_format.specs.declared.layout.Layout.TheVariants.{FullMatrix, UpperRow, LowerRow, UpperDiagRow, LowerDiagRow, UpperCol, LowerCol, UpperDiagCol, LowerDiagCol}
 
--- how many places of its row stand before a line
+-- how many places of its row are before a line
 abbrev pub places_before : Layout → ℕ → ℕ
 places_before FullMatrix line = 0
 places_before UpperRow line = line

@@ -14,7 +14,7 @@ use Rattle.tsp_file.specs.Cost.{cost}
 
 -- ---- which costs a layout can hold
 
--- A full matrix holds any costs between different nodes, half of one those that are the same both ways.
+-- A full matrix holds any costs between different nodes, half of one the symmetric ones.
 abbrev pub HoldsPairs : Layout → (ℕ → ℕ → ℤ) → Type 0
 HoldsPairs layout cost = (layout ≡ FullMatrix) ⊎ IsSymmetric cost
 
@@ -34,7 +34,7 @@ pub record IsFirstOnDiagonal (n : ℕ) (cost : ℕ → ℕ → ℤ) (i : ℕ) : 
 
 -- ---- the change
 
--- the weight type is EXPLICIT, and weights stand
+-- the weight type is EXPLICIT, and weights are present
 abbrev pub HasListedWeights : Fields → Type 0
 HasListedWeights f = (f.weight_kind ≡ Some Explicit) × IsSome f.weights
 

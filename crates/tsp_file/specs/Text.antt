@@ -116,7 +116,7 @@ whole_number number = signed_decimal number ∷ []
 
 -- ---- the matrix of weights
 
--- how many cells each row of the layout has, each column for a layout that goes by columns
+-- how many cells each row of the layout has, or each column of a layout by columns
 abbrev pub line_lens : Option WeightFormat → Option ℕ → List ℕ
 line_lens (Some (Listed layout)) (Some n) = map (λ k. length (cells_of_line layout n k)) (nodes_to n)
 line_lens format dimension = []
@@ -126,7 +126,7 @@ abbrev pub weight_line : List ℤ → List ℕ
 weight_line [] = []
 weight_line (first ∷ rest) = number_line (signed_decimal first) (map signed_decimal rest)
 
--- The weights in lines of these lengths. Weights that no line takes, which a valid file doesn't have, stand in a last line.
+-- The weights in lines of these lengths. Weights that no line takes, which a valid file doesn't have, get a last line.
 abbrev pub matrix_lines : List ℕ → List ℤ → List ℕ
 matrix_lines [] weights = weight_line weights
 matrix_lines (len ∷ lens) weights = weight_line (take len weights) ++ matrix_lines lens (drop len weights)

@@ -35,7 +35,7 @@ HasSide above cost n full = (i j : ℕ) → IsNode n i → IsNode n j → is_on_
 abbrev pub KeepsCosts : (ℕ → ℕ → ℤ) → ℕ → List ℤ → List ℤ → Type 0
 KeepsCosts cost n old new = (i j : ℕ) → IsNode n i → IsNode n j → HasCost cost n old i j → HasCost cost n new i j
 
--- the lines past this one stand in their rows
+-- the lines past this one are in their rows
 abbrev pub HasLines : Layout → ℕ → ℕ → List ℤ → List ℤ → Type 0
 HasLines from n line half full = (l k : ℕ) → line < l → l ≤ n → k < line_len_of from n l
     → slice_index_or full (line_start_of from n l + k) (pos 0)

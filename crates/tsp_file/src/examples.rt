@@ -49,7 +49,7 @@ pub fn examples_of_lost_costs()
     ensures itself { cost directed_matrix 2 2 ≡ pos 9999 }
 {}
 
-/// Which distance each weight type stands for.
+/// Which distance each weight type means.
 #[tactic(auto, unfolding(crate::specs::Cost::distance))]
 pub fn examples_of_distances_by_type()
     ensures euc { (a b : Point) → distance weight_kinds.Euc2d a b ≡ pos (euc_2d_of a b) }

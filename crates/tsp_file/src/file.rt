@@ -81,7 +81,9 @@ impl File {
 
     /// This file with other weights, in a layout; every other field stays.
     ///
-    /// The caller owes as many weights as the layout has cells, and a file that has weights.
+    /// # Requires
+    ///
+    /// As many weights as the layout has cells, and a file that has weights.
     pub(crate) fn with_weights(self, layout: Layout, weights: Vec<i64>) -> File
         requires stand { IsSome self.weights }
         requires count { length weights.items ≡ length (cells layout (file_nodes self)) }

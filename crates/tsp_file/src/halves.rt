@@ -1,4 +1,4 @@
-//! Half of a full matrix, in the room of the whole.
+//! Half of a full matrix, in the memory of the whole.
 
 ghost use Rattle.std.specs.Prelude.{◌≡◌, ◌≤◌, ◌+◌, ◌-◌, ◌*◌, length};
 ghost use Rattle.tsp_format.specs.declared.layout.Layout.TheVariants.{FullMatrix};
@@ -13,9 +13,9 @@ use tsp_format::Layout;
 /// Moves what a layout lists of a full matrix to its front, in the layout's order, and drops the
 /// rest.
 ///
-/// A line of the layout stands in the full matrix no further to the front, so that none is written
-/// over before it is moved. For a layout by columns it is the row across the diagonal, whose costs
-/// are the same. No memory is taken.
+/// In the full matrix a line of the layout is no further to the front, so that none is overwritten
+/// before it is moved. For a layout by columns it is the row across the diagonal, whose costs are
+/// the same. No memory is taken.
 pub(crate) fn keep_half(to: Layout, nodes: u32, weights: &mut Vec<i64>)
     requires few { nodes ≤ most_matrix_nodes }
     requires filled { length weights.old.items ≡ length (cells FullMatrix nodes) }

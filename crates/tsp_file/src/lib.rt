@@ -1,5 +1,13 @@
-//! Valid TSPLIB 95 files: what they hold and what they cost, the change of the layout of their weights,
-//! and their canonical text.
+//! Valid TSPLIB 95 files, their costs, the change of their layout, and their canonical text.
+//!
+//! A [`File`] is a draft without a fault. It is made from a draft, or read by tsp_read. This crate
+//! reads no text. It re-exports the names that a user of files needs.
+//!
+//! ```text
+//! let file = File::of(draft)?;
+//! let file = file.relayout(alloc, Layout::LowerDiagRow)?;
+//! write_file(alloc, &file, &mut out)?;
+//! ```
 #![tactic(auto)]
 
 mod examples;

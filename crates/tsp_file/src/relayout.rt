@@ -13,15 +13,15 @@ use tsp_format::Layout;
 impl File {
     /// This file with its weights in another layout, or why not and the file itself, unchanged.
     ///
-    /// Every cost stays as it is, those from a node to itself too, and so does every field but
-    /// the format and the weights. A file that has the layout already is handed back as it is, and
-    /// a full matrix goes into half of one in its own room, so that no memory is taken. Half of a matrix
-    /// becomes a full one in the room of the full one alone.
+    /// Every cost stays as it is, those from a node to itself too, and so does every field but the
+    /// format and the weights. A file that has the layout already is returned as it is, and a full
+    /// matrix becomes half of one in its own memory, so that no memory is taken. Half of a matrix
+    /// becomes a full one in the memory of the full one alone.
     ///
-    /// Errors, the first that holds: `NotExplicit` where the weight type isn't EXPLICIT or there are
-    /// no weights; `NotSymmetric` with the first pair, the smaller node first, by rows, whose two
-    /// costs differ, for a layout that lists half of a matrix; `DiagonalLost` with the first node
-    /// whose cost to itself isn't 0, for a layout that lists no diagonal; `OutOfMemory`.
+    /// Errors, the first that holds: `NotExplicit` where the weight type isn't EXPLICIT or there
+    /// are no weights; `NotSymmetric` with the first pair, the smaller node first, by rows, whose
+    /// two costs differ, for a layout that lists half of a matrix; `DiagonalLost` with the first
+    /// node whose cost to itself isn't 0, for a layout that lists no diagonal; `OutOfMemory`.
     pub fn relayout(self, alloc: Global, to: Layout) -> Result<File, (RelayoutFault, File)>
         ensures { IsRelayout self to result }
     {

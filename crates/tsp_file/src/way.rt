@@ -7,7 +7,7 @@ pub(crate) enum Way {
     Already,
     /// They are a full matrix, and what the layout lists of it goes to the front.
     Within,
-    /// They are half of a matrix, and the full one is made in its own room.
+    /// They are half of a matrix, and the full one is made in its own memory.
     Across,
     /// These are they, all anew.
     Anew(Vec<i64>),

@@ -61,7 +61,7 @@ impl<'a> ListedWeights<'a> {
     ghost use Rattle.tsp_file.specs.Side.{first_own, past_own};
     ghost use Rattle.tsp_file.specs.Weights.{costs_of};
 
-    /// These weights over so many nodes in this layout.
+    /// These weights over this many nodes in this layout.
     pub(crate) fn of(layout: Layout, nodes: u32, weights: &'a [i64]) -> ListedWeights<'a>
         requires { (f : Fields) × ListsWeights f layout nodes weights.now }
         ensures layout { result.layout ≡ layout }
@@ -122,7 +122,7 @@ impl<'a> ListedWeights<'a> {
         }
         match self.layout {
             Layout::FullMatrix => self.first_asymmetric(),
-            // The costs of half a matrix are the same both ways.
+            // The costs of half a matrix are symmetric.
             _ => None,
         }
     }

@@ -1,4 +1,4 @@
-//! A full matrix of half of one, in the room of the whole.
+//! A full matrix of half of one, in the memory of the whole.
 
 ghost use Rattle.std.specs.Prelude.{◌≡◌, ◌≢◌, ◌≤◌, ◌<◌, ◌+◌, ◌*◌, Bool, ℕ, ℤ, List, length, take, true, ◌⊎◌, OnErr, OnOk};
 ghost use Rattle.tsp_format.specs.declared.layout.Layout.TheVariants.{FullMatrix};
@@ -16,12 +16,12 @@ use tsp_format::Layout;
 /// How many columns are filled at a time, so that what is read across the diagonal stays in the cache.
 const BAND: u32 = 64;
 
-/// Makes the full matrix of what a layout lists of one: the lines go to their rows, from the last to
-/// the first, and then the costs across the diagonal are filled in.
+/// Makes the full matrix of the listed half: the lines go to their rows, from the last to the
+/// first, and then the costs across the diagonal are filled in.
 ///
 /// # Errors
 ///
-/// Out of memory, and then the weights are as they were. No more room is taken than the full
+/// Out of memory, and then the weights are as they were. No more memory is taken than the full
 /// matrix needs.
 pub(crate) fn make_whole(from: Layout, nodes: u32, weights: &mut Vec<i64>) -> Result<(), AllocError>
     requires few { nodes ≤ most_matrix_nodes }
@@ -51,9 +51,9 @@ fn is_above(layout: Layout) -> bool
     )
 }
 
-/// Moves the lines of a layout, which stand at the front, to their rows of a full matrix, from the
-/// last to the first: a line stands there no further to the front, so that none is written over before
-/// it is moved.
+/// Moves the lines of a layout from the front to their rows of a full matrix, from the last to the
+/// first. A row is no further to the front than its line, so that none is overwritten before it is
+/// moved.
 fn spread_lines(from: Layout, nodes: u32, weights: &mut Vec<i64>, count: usize)
     requires few { nodes ≤ most_matrix_nodes }
     requires size { length weights.old.items ≡ nodes * nodes }

@@ -28,8 +28,8 @@ use tsp_stream::{Piece, Watched, WriteFault, hand_over, put};
 
 /// Writes the canonical text of a file.
 ///
-/// At `Device` a front of the text was written, and nothing else; a writer that was handed in as
-/// failed gets nothing. No memory is taken, and `OutOfMemory` is never answered.
+/// At `Device` a prefix of the text was written, and nothing else. A writer that had failed before
+/// gets nothing. No memory is taken, and `OutOfMemory` is never returned.
 pub fn write_file<W: Write>(
     _alloc: Global,
     f: &File,
@@ -40,10 +40,10 @@ pub fn write_file<W: Write>(
     write_draft(f.fields(), out)
 }
 
-/// Writes the canonical text of what a draft holds, valid or not.
+/// Writes the canonical text of a draft, valid or not.
 ///
-/// At `Device` a front of the text was written, and nothing else; a writer that was handed in as
-/// failed gets nothing. No memory is taken, and `OutOfMemory` is never answered.
+/// At `Device` a prefix of the text was written, and nothing else. A writer that had failed before
+/// gets nothing. No memory is taken, and `OutOfMemory` is never returned.
 fn write_draft<W: Write>(draft: &Draft, out: &mut Watched<W>) -> Result<(), WriteFault>
     ensures { Writes (sink_of W.contents out.old out.new) (text_of (fields_of draft.now)) result }
 {

@@ -1,4 +1,4 @@
--- Which pairs are cells, and that no cell stands twice.
+-- Which pairs are cells, and that no cell appears twice.
 use Rattle.std.proofs.Common.{◌≡◌, ◌≢◌, ℕ, suc, zero, ◌+◌, ◌-◌, ◌<◌, Bool, true, false, cond, List, [], ◌∷◌, ◌++◌, length, get_or, map, refl, sym, ap, subst, ◌∙◌, arith}
 use Rattle.std.specs.Prelude.{◌↔◌, IsTrue, if◌then◌else◌}
 use Rattle.std.specs.List.{filter, flat_map, range_with_len, All, AllPairs, Contains}
@@ -129,7 +129,7 @@ run_differs {Y = Y} f back undoes a n = λ i j d lt within.
         let inside : k < length (range_with_len a n) = omega (arith, lt, length-range_with_len a n) in
         ap back (get_or-map f (range_with_len a n) k 0 d inside) ∙ undoes (get_or (range_with_len a n) k 0) ∙ get_or-range_with_len a n k 0 lt
 
--- The lines are told apart by `line`, and the places of one line by `place`.
+-- The lines are distinguished by `line`, and the places of one line by `place`.
 lines_differ : (f : ℕ → ℕ → ℕ × ℕ) (line place : ℕ × ℕ → ℕ) → ((k m : ℕ) → line (f k m) ≡ k) → ((k m : ℕ) → place (f k m) ≡ m)
     → (c n a m : ℕ) → AllPairs Differ (flat_map (λ k. map (f k) (range_with_len c n)) (range_with_len a m))
 lines_differ f line place line_is place_is c n a zero = AllPairs-nil Differ

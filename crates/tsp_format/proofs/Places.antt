@@ -1,4 +1,4 @@
--- Where the cells stand.
+-- The places of the cells.
 use Rattle.std.proofs.Common.{◌≡◌, ◌≢◌, ℕ, suc, zero, min, max, ◌+◌, ◌-◌, ◌*◌, ◌/◌, ◌<◌, ◌≤◌, Bool, true, false, cond, List, [], ◌∷◌, ◌++◌, length, get_or, map, Some, None, refl, sym, ap, subst, ◌∙◌, ⊎_elim, arith, length-append}
 use Rattle.std.specs.Prelude.{nat_lt, nat_le, ◌==◌, IsTrue, Decides}
 use Rattle.std.specs.List.{filter, flat_map, range_with_len, position_or_len, Contains}
@@ -84,7 +84,7 @@ under : (k a n : ℕ) → filter (λ m. nat_lt m k) (range_with_len a n) ≡ ran
 under k a zero = runs_same a a 0 (min zero (k - a)) refl (omega arith)
 under k a (suc n) = under_step k a n (filter (λ m. nat_lt m k) (range_with_len (a + 1) n)) (under k (a + 1) n)
 
--- ---- what stands in a line
+-- ---- the cells of a line
 
 -- the pair of a line and a number in it, and the first number of a line
 abbrev pair_in : Layout → ℕ → ℕ → ℕ × ℕ
@@ -215,7 +215,7 @@ half_below (suc k) n le = subst (λ (m : ℕ). below_all (suc k) ≤ m * n) (ome
 
 -- ---- all cells
 
--- how many cells stand in the lines before line k
+-- how many cells are in the lines before line k
 abbrev before_above : ℕ → ℕ → ℕ
 before_above n k = (k - 1) * n - below_all k
 
@@ -331,7 +331,7 @@ other_pair pair cell other = is_false (is_pair pair cell) (λ e. other (pair_is 
     is_false true not_true = absurd (not_true refl)
     is_false false not_true = refl
 
--- a pair that stands at an index of the cells stands there first
+-- a pair at an index of the cells is there first
 pub place_from : (layout : Layout) (n at : ℕ) (pair : ℕ × ℕ) → at < length (cells layout n) → ((d : ℕ × ℕ) → get_or (cells layout n) at d ≡ pair) → place_of layout n pair ≡ Some at
 unfolding place_of
 place_from layout n at pair lt here =
@@ -341,7 +341,7 @@ place_from layout n at pair lt here =
     (λ inside. (same_pair pair (get_or xs at pair)).1 (ap (λ cell. cell.0) (here pair), ap (λ cell. cell.1) (here pair))) in
     ap (λ k. cond (nat_lt k (length xs)) (Some k) None) found ∙ ap (λ b. cond b (Some at) None) (le-leb (suc at) (length xs) lt)
 
--- and where a pair has a place it stands
+-- and a pair with a place is a cell
 pub stands_at : (layout : Layout) (n at : ℕ) (pair : ℕ × ℕ) → place_of layout n pair ≡ Some at → (d : ℕ × ℕ) → get_or (cells layout n) at d ≡ pair
 unfolding place_of
 stands_at layout n at pair here d =

@@ -43,7 +43,7 @@ is_listed LowerDiagCol (i, j) = nat_le j i
 unfoldable pub cells : Layout → ℕ → List (ℕ × ℕ)
 cells layout n = filter (is_listed layout) (if goes_by_columns layout then pairs_by_columns n else pairs_by_rows n)
 
--- the cells of row k, or of column k where the layout goes by columns
+-- the cells of row k, or of column k for a layout by columns
 unfoldable pub cells_of_line : Layout → ℕ → ℕ → List (ℕ × ℕ)
 cells_of_line layout n k = filter (is_listed layout) (if goes_by_columns layout then column n k else row n k)
 

@@ -8,7 +8,7 @@ use Rattle.tsp_format.specs.Cells.{cells}
 use Rattle.tsp_format.specs.Keywords.{keyword_of}
 use Rattle.tsp_format.specs.Words.{field_word, fields_in_order}
 
--- the field stands at this place of the canonical order, counted from 1, and has this word, which as a keyword is its own
+-- the field is at this place of the canonical order, counted from 1, and has this word, which as a keyword is its own
 abbrev pub StandsAt : ℕ → Field → List ℕ → Type 0
 StandsAt place field word = (slice_index_or fields_in_order (place - 1) OtherKey ≡ field) × (field_word field ≡ word)
     × (keyword_of word ≡ Known field)

@@ -15,7 +15,7 @@ layout_word LowerCol = codes "LOWER_COL"
 layout_word UpperDiagCol = codes "UPPER_DIAG_COL"
 layout_word LowerDiagCol = codes "LOWER_DIAG_COL"
 
--- whether the cells go by columns; else they go by rows
+-- whether the cells are listed by columns; else they are by rows
 abbrev pub goes_by_columns : Layout → Bool
 goes_by_columns FullMatrix = false
 goes_by_columns UpperRow = false

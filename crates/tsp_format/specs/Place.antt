@@ -1,4 +1,4 @@
--- Where a pair stands among the cells of a layout.
+-- Where a pair is among the cells of a layout.
 use Rattle.std.specs.Prelude.{ℕ, ◌+◌, ◌-◌, ◌*◌, ◌/◌, Bool, ◌&&◌, ◌==◌, Option}
 use Rattle.std.specs.List.{position}
 use Rattle.tsp_format.specs.declared.layout.Layout.{Layout}

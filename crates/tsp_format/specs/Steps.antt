@@ -17,7 +17,8 @@ step_of (listed.Leaf changes) = Leaf changes.items
 abbrev pub steps_of : List TreeStep → List Step
 steps_of steps = map step_of steps
 
--- whether steps are so many whole trees, one after the other: a leaf is a tree, and so is a branch with the two trees after it
+-- whether steps are this number of whole trees, one after the other: a leaf is a tree, and so is a branch with the two trees
+-- after it
 abbrev pub are_whole : ℕ → List Step → Bool
 are_whole zero [] = true
 are_whole zero (step ∷ steps) = false

@@ -1,8 +1,8 @@
--- Costs between nodes that are the same both ways.
+-- Symmetric costs between nodes.
 use Rattle.std.specs.Prelude.{◌≡◌, ◌≢◌, ℕ, ◌<◌, ◌⊎◌, Option, None, Some, ℤ}
 use Rattle.tsp_format.specs.Cells.{IsNode}
 
--- the same both ways between different nodes
+-- symmetric between different nodes
 abbrev pub IsSymmetric : (ℕ → ℕ → ℤ) → Type 0
 IsSymmetric cost = (i j : ℕ) → i ≢ j → cost i j ≡ cost j i
 
@@ -18,7 +18,7 @@ pub record IsFirstAsymmetric (n : ℕ) (cost : ℕ → ℕ → ℤ) (pair : ℕ 
   pub differ : cost pair.0 pair.1 ≢ cost pair.1 pair.0
   pub first : (a b : ℕ) → IsNode n a → IsNode n b → a < b → IsBefore (a, b) pair → cost a b ≡ cost b a
 
--- that pair, or none where the costs are even
+-- that pair, or none where the costs are symmetric
 abbrev pub FindsAsymmetric : ℕ → (ℕ → ℕ → ℤ) → Option (ℕ × ℕ) → Type 0
 FindsAsymmetric n cost None = IsSymmetric cost
 FindsAsymmetric n cost (Some pair) = IsFirstAsymmetric n cost pair

@@ -17,7 +17,7 @@ pub fn is_letter(byte: u8) -> bool
     (65 <= byte && byte <= 90) || (97 <= byte && byte <= 122)
 }
 
-/// Whether a byte can stand in a keyword: it is no blank, no byte 10 and no colon.
+/// Whether a byte may be part of a keyword: it is no blank, no byte 10 and no colon.
 pub fn is_keyword_byte(byte: u8) -> bool
     ensures { result ≡ is_keyword_byte byte }
 {

@@ -67,7 +67,7 @@ pub enum Shape {
 /// What the value of a keyword is read as.
 #[derive(Clone, Copy, Debug, PartialEq, Eq)]
 pub enum ValueShape {
-    /// Bytes that are kept as they stand, of one line.
+    /// Bytes that are kept as they are, of one line.
     Kept,
     /// The same of each line that has the keyword.
     KeptEach,

@@ -69,9 +69,9 @@ pub enum WeightKind {
     Euc2d,
     /// The straight distance, rounded up.
     Ceil2d,
-    /// The sum of both ways along the axes, rounded.
+    /// The sum of both differences along the axes, rounded.
     Man2d,
-    /// The longer of both ways along the axes, rounded.
+    /// The larger of both differences along the axes, rounded.
     Max2d,
     /// The pseudo-Euclidean distance of the instances att48 and att532.
     Att,

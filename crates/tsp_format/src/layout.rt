@@ -49,7 +49,7 @@ impl Layout {
         value_of(word.as_bytes())
     }
 
-    /// Whether the cells go by columns.
+    /// Whether the cells are listed by columns.
     pub fn goes_by_columns(self) -> bool
         ensures { result ≡ goes_by_columns self }
     {
@@ -78,7 +78,7 @@ impl Layout {
         }
     }
 
-    /// The number of cells in one row, or in one column for a layout that goes by columns.
+    /// The number of cells in one row, or in one column for a layout by columns.
     #[tactic(auto, using(crate::proofs::Counts::line_counted))]
     pub fn line_len(self, nodes: u32, line: u32) -> u32
         requires from_one { 1 ≤ line }
@@ -122,7 +122,7 @@ impl Word for Layout {
     }
 }
 
-/// No cell of a layout stands twice in its list.
+/// No cell of a layout appears twice in its list.
 pub fn cells_are_distinct()
     ensures { (layout : Layout) (n : ℕ) → AllPairs (λ a b. a ≢ b) (cells layout n) }
 {}

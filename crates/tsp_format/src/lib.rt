@@ -1,4 +1,11 @@
-//! The values that the words of TSPLIB 95 stand for, the layouts of a matrix of weights, and the limits of files.
+//! The words of TSPLIB 95 as values, the layouts of a matrix, and the limits of files.
+//!
+//! It has what needs no file. The fields of a file are tsp_draft's, its text is tsp_text's.
+//!
+//! ```text
+//! let kind: Option<Kind> = value_of(b"ATSP");
+//! let place = Layout::UpperRow.place(nodes, 1, 4);
+//! ```
 #![tactic(auto)]
 
 mod bytes;

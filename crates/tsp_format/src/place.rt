@@ -26,7 +26,9 @@ impl Layout {
 
     /// The place of a cell (i, j) among the cells of a matrix over this many nodes, counted from 0.
     ///
-    /// The caller owes a pair of nodes that the layout lists.
+    /// # Requires
+    ///
+    /// A pair of nodes that the layout lists.
     #[inline]
     #[tactic(auto, using(crate::proofs::Places::placed, crate::proofs::Places::place_within))]
     pub fn place(self, nodes: u32, i: u32, j: u32) -> usize
@@ -40,10 +42,12 @@ impl Layout {
         place_by_table(self, nodes as usize, i as usize, j as usize)
     }
 
-    /// The cell at an index of one row, or of one column for a layout that goes by columns; the
-    /// index counts from 0.
+    /// The cell at an index of one row, or of one column for a layout by columns; the index counts
+    /// from 0.
     ///
-    /// The caller owes a line of 1 to `nodes` and an index below the line's number of cells.
+    /// # Requires
+    ///
+    /// A line of 1 to `nodes`, and an index below the line's number of cells.
     #[inline]
     #[tactic(auto, using(crate::proofs::Places::line_at))]
     pub fn line_cell(self, nodes: u32, line: u32, index: u32) -> (u32, u32)

@@ -1,6 +1,6 @@
 //! The steps of a tree of cases.
 
-/// A step of a tree of cases, which are told one after the other, the first open one first.
+/// A step of a tree of cases. The steps come one after another, each for the first open case.
 #[derive(Debug, Drop)]
 pub enum TreeStep {
     /// Divides a case by a pair of nodes: what follows is the tree of the cycles that use it, and

@@ -44,7 +44,7 @@ few : (z : ℤ) → IsSmall z → unsigned_abs z ≤ 2 ^ 126
 few (pos n) small = omega (arith, ints, small.0, small.1)
 few (negsuc n) small = omega (arith, ints, small.0, small.1)
 
--- the bound of a yes fits
+-- the bound of an accepted tour fits
 pub sized : (by : Certificate) (instance solution certificate : Fields) (verdict : Verdict) → IsCertifiedVerdict by instance solution certificate verdict → IsSized verdict
 sized by instance solution certificate (verdicts.Tour length bound) v = subst IsBoundSized (sym v.1.bound_is) (few v.1.least v.1.sized)
 sized by instance solution certificate (verdicts.Routes length routes least) v = tt
@@ -73,7 +73,7 @@ of_type : (by : Certificate) (instance solution certificate : Fields) → ((reas
 of_type Potentials instance solution certificate none = potentials certificate.kind (λ other. none NotPotentials (inr other))
 of_type Branches instance solution certificate none = tree certificate.kind (λ other. none NotBranches (inr other))
 
--- what a yes says
+-- the meaning of the line `yes`
 a_yes : (by : Certificate) (first second third : Turn) (sink : Sink) (instance : Fields) (verdict : Verdict) → AreJudgedWith by first second third instance verdict
     → true ≡ is_yes verdict → HasWritten sink (report_of instance verdict) → IsAYes by first second third sink
 a_yes by first second third sink instance (verdicts.Tour length bound) j accepted written =
@@ -167,7 +167,7 @@ pub with_yes : (by : Certificate) (first second third : Turn) (sink : Sink) (res
     → IsCheckBy by first second third sink result
 with_yes by first second third sink result run = (run, λ is. yes_of by first second third sink result run is)
 
--- a run whose verdict is answered, and the same of which a yes or a no is
+-- a run with its verdict as the result, and the same with `true` or `false`
 run_of_verdict : (by : Certificate) (first second third : Turn) (sink : Sink) (result : Result Verdict RunFault) → IsBoundVerdictRun by first second third sink result
     → IsBoundRun by first second third sink (told result)
 run_of_verdict by first second third sink (Ok verdict) run = (run.0, verdict, run.1, refl, run.2)

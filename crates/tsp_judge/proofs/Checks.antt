@@ -79,7 +79,7 @@ second_stops first second instance sink (Write fault) one stops unwritten = absu
 second_stops first second instance sink OutOfMemory one stops unwritten = absurd stops
 second_stops first second instance sink (Relayout fault) one stops unwritten = absurd stops
 
--- a solution against which no other TYPE stands
+-- a solution to which no reason of another TYPE applies
 pub a_file_of_tours : (kind : Option Kind) → (is_tours kind ≡ false → ⊥) → kind ≡ Some kinds.Tour
 a_file_of_tours (Some kinds.Tsp) not = absurd (not refl)
 a_file_of_tours (Some kinds.Atsp) not = absurd (not refl)
@@ -89,7 +89,7 @@ a_file_of_tours (Some kinds.Potentials) not = absurd (not refl)
 a_file_of_tours (Some kinds.Branches) not = absurd (not refl)
 a_file_of_tours None not = absurd (not refl)
 
--- what a yes says
+-- the meaning of the line `yes`
 a_tour_yes : (first second : Turn) (sink : Sink) (instance solution : Fields) (length : ℤ) (bound : Option ℤ) → IsFile first instance → IsFile second solution
     → (instance.kind ≡ Some kinds.Tsp) ⊎ (instance.kind ≡ Some kinds.Atsp) → IsTourVerdict instance solution (verdicts.Tour length bound)
     → HasWritten sink (report_of instance (verdicts.Tour length bound)) → IsATourYes first second sink
@@ -150,7 +150,7 @@ with_yes first second sink result run = (
       yes_by r.0.kind first second sink r.0 r.2.solution r.1 refl r.2.first_file r.2.second_file r.2.judged r.3 r.4,
 )
 
--- a run whose verdict is answered, and the same of which a yes or a no is
+-- a run with its verdict as the result, and the same with `true` or `false`
 run_of_verdict : (first second : Turn) (sink : Sink) (result : Result Verdict RunFault) → IsVerdictRun first second sink result
     → IsRun first second sink (told result)
 run_of_verdict first second sink (Ok verdict) run = (run.0, verdict, run.1, refl, run.2)

@@ -21,7 +21,7 @@ use Rattle.tsp_judge.specs.Judged.{is_yes}
 use Rattle.tsp_report.specs.Report.{report_of}
 use Rattle.tsp_judge.specs.Run.{IsSomeFile, told}
 
--- the turn's bytes spell a file whose tours have no bound
+-- the turn's bytes parse to a file whose tours have no bound
 abbrev pub IsNoBounded : Certificate → Turn → Type 0
 IsNoBounded by turn = (file : Fields) × IsFile turn file × (is_bounded by file.kind ≡ false)
 
@@ -35,8 +35,8 @@ pub record AreJudgedWith (by : Certificate) (first second third : Turn) (instanc
   pub third_file : IsFile third certificate
   pub judged : IsCertifiedVerdict by instance solution certificate verdict
 
--- The tours of the first file have a bound, and no reason stands against the second one of those that are told without memory:
--- what else is said of them needs memory.
+-- The tours of the first file have a bound, and none of the reasons that are found without memory applies to the second one: the
+-- others need memory.
 pub record NeedsMemoryWith (by : Certificate) (first second third : Turn) : Type 0 where
   pub instance : Fields
   pub solution : Fields
@@ -65,15 +65,15 @@ IsBoundRun by first second third sink (Err (Write write_faults.OutOfMemory)) = �
 IsBoundRun by first second third sink (Err (Write write_faults.Device)) = (instance : Fields) × (verdict : Verdict)
     × AreJudgedWith by first second third instance verdict × HasStopped sink (report_of instance verdict)
 
--- The same run, where the verdict itself is answered: at Ok it is that of these files, and the whole report on it was written.
+-- The same run, with the verdict as its result: at Ok it is that of these files, and the whole report on it was written.
 abbrev pub IsBoundVerdictRun : Certificate → Turn → Turn → Turn → Sink → Result Verdict RunFault → Type 0
 IsBoundVerdictRun by first second third sink (Ok verdict) = (instance : Fields)
     × AreJudgedWith by first second third instance verdict × HasWritten sink (report_of instance verdict)
 IsBoundVerdictRun by first second third sink (Err fault) = IsBoundRun by first second third sink (Err fault)
 
--- What a yes says: the second file is one of tours and the third one of the certificate's TYPE; the one tour visits every node
--- of the instance once and uses every fixed edge; its length and the bound of the third file are printed; and no tour of the
--- instance is shorter than the bound, so that where the length equals it no tour is shorter than this one.
+-- The meaning of the line `yes`: the second file is one of tours and the third one of the certificate's TYPE; the one tour visits
+-- every node of the instance once and uses every fixed edge; its length and the bound of the third file are printed; and no tour
+-- of the instance is shorter than the bound, so that where the length equals it no tour is shorter than this one.
 pub record IsAYes (by : Certificate) (first second third : Turn) (sink : Sink) : Type 0 where
   pub instance : Fields
   pub solution : Fields
@@ -98,7 +98,7 @@ abbrev pub IsCheckBy : Certificate → Turn → Turn → Turn → Sink → Resul
 IsCheckBy by first second third sink result = IsBoundRun by first second third sink result
     × (result ≡ Ok true → IsAYes by first second third sink)
 
--- the same where the verdict is answered
+-- the same with the verdict as the result
 abbrev pub IsVerdictCheckBy : Certificate → Turn → Turn → Turn → Sink → Result Verdict RunFault → Type 0
 IsVerdictCheckBy by first second third sink result = IsBoundVerdictRun by first second third sink result
     × IsCheckBy by first second third sink (told result)

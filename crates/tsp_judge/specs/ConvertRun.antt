@@ -20,16 +20,16 @@ Becomes None old (Err fault) = ⊥
 Becomes (Some to) old (Ok new) = IsRelaid old to new
 Becomes (Some to) old (Err fault) = IsRefused old to fault
 
--- the reader's bytes spell a file that becomes this one, and this one is valid
+-- the reader's bytes parse to a file that becomes this one, and this one is valid
 pub record IsConverted (to : Option Layout) (turn : Turn) (new : Fields) : Type 0 where
   pub old : Fields
   pub whole : IsFile turn old
   pub becomes : Becomes to old (Ok new)
   pub valid : fault_of new ≡ None
 
--- What converting answers. At Ok the canonical text of what the file becomes was written. Where the reader gives no file, or
--- the file can't go into the layout, nothing is written. Want of memory is that of the reading or of the change of the
--- layout; writing takes none. Where the writer fails a front of the text was written.
+-- The result of a conversion. At Ok the canonical text of the new file was written. Where the reader gives no file, or the file
+-- can't be put into the layout, nothing is written. Out of memory is that of the reading or of the change of the layout; writing
+-- takes none. Where the writer fails a prefix of the text was written.
 abbrev pub IsConvertRun : Option Layout → Turn → Sink → Result (Unit {0}) RunFault → Type 0
 IsConvertRun to turn sink (Ok done) = (new : Fields) × IsConverted to turn new × HasWritten sink (text_of new)
 IsConvertRun to turn sink (Err (File place fault)) = (place ≡ 1) × StopsAt fault turn × IsUnwritten sink

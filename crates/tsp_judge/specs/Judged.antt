@@ -1,4 +1,4 @@
--- What is judged of an instance and a solution: a tour for TYPE TSP and ATSP, routes for TYPE CVRP.
+-- The judgement on an instance and a solution: a tour for TYPE TSP and ATSP, routes for TYPE CVRP.
 use Rattle.std.specs.Prelude.{Bool, true, false, Option, None, Some}
 use Rattle.tsp_format.specs.declared.kinds.Kind.{Kind}
 use Rattle.tsp_format.specs.declared.kinds.Kind.TheVariants as kinds
@@ -21,8 +21,8 @@ IsVerdictBy None instance solution verdict = ⊥
 abbrev pub IsVerdictOn : Fields → Fields → Verdict → Type 0
 IsVerdictOn instance solution verdict = IsVerdictBy instance.kind instance solution verdict
 
--- No reason stands, in the order that goes with the TYPE of the instance, that is judged before a node twice: those are told
--- without memory.
+-- None of the reasons applies, in the order of the instance's TYPE, that are judged before a node twice: those are found without
+-- memory.
 abbrev pub NoneBeforeRepeatsBy : Option Kind → Fields → Fields → Type 0
 NoneBeforeRepeatsBy (Some kinds.Tsp) instance solution = NoneOfTourBeforeRepeats instance solution
 NoneBeforeRepeatsBy (Some kinds.Atsp) instance solution = NoneOfTourBeforeRepeats instance solution

@@ -12,7 +12,7 @@ use Rattle.tsp_judge.specs.declared.fault.RunFault.TheVariants.{File, WrongKind,
 use Rattle.tsp_judge.specs.Judged.{IsVerdictOn, NoneBeforeRepeatsOn, is_yes}
 use Rattle.tsp_report.specs.Report.{report_of}
 
--- the turn's bytes spell a file
+-- the turn's bytes parse to a file
 abbrev pub IsSomeFile : Turn → Type 0
 IsSomeFile turn = (file : Fields) × IsFile turn file
 
@@ -25,7 +25,7 @@ ReadsFile number turn (Err (Write fault)) = ⊥
 ReadsFile number turn (Err OutOfMemory) = ⊥
 ReadsFile number turn (Err (Relayout fault)) = ⊥
 
--- they spell a file that is no instance
+-- they parse to a file that is no instance
 abbrev pub IsNoInstance : Turn → Type 0
 IsNoInstance turn = (file : Fields) × IsFile turn file × (is_instance file.kind ≡ false)
 
@@ -36,8 +36,8 @@ pub record AreJudged (first second : Turn) (instance : Fields) (verdict : Verdic
   pub second_file : IsFile second solution
   pub judged : IsVerdictOn instance solution verdict
 
--- The first file is an instance, and no reason stands against the second one of those that are told without memory: what
--- else is said of them needs memory.
+-- The first file is an instance, and none of the reasons that are found without memory applies to the second one: the others need
+-- memory.
 pub record NeedsMemory (first second : Turn) : Type 0 where
   pub instance : Fields
   pub solution : Fields
@@ -46,8 +46,8 @@ pub record NeedsMemory (first second : Turn) : Type 0 where
   pub of_type : IsTrue (is_instance instance.kind)
   pub none_before : NoneBeforeRepeatsOn instance solution
 
--- How a check ends that has its verdict. At Ok the whole report was written, and the answer is whether the verdict is a yes.
--- Where the writer fails a front of the report was written. Writing takes no memory.
+-- How a check ends that has its verdict. At Ok the whole report was written, and the result says whether the solution is
+-- accepted. Where the writer fails a prefix of the report was written. Writing takes no memory.
 abbrev pub Answers : Sink → Fields → Verdict → Result Bool RunFault → Type 0
 Answers sink instance verdict (Ok answer) = (answer ≡ is_yes verdict) × HasWritten sink (report_of instance verdict)
 Answers sink instance verdict (Err OutOfMemory) = ⊥
@@ -57,10 +57,10 @@ Answers sink instance verdict (Err (File file fault)) = ⊥
 Answers sink instance verdict (Err WrongKind) = ⊥
 Answers sink instance verdict (Err (Relayout fault)) = ⊥
 
--- What the check answers. At Ok the whole report was written, and the answer is whether the verdict is a yes. The first
+-- The result of the check. At Ok the whole report was written, and the result says whether the solution is accepted. The first
 -- file, in order, that isn't one decides, later ones aren't read, and then nothing is written; then the first file's TYPE
--- decides. Out of memory, no reason stands of those that are told without memory, and nothing was written; writing takes
--- none. Where the writer fails a front of the report was written.
+-- decides. Out of memory, none of the reasons applies that are found without memory, and nothing was written; writing takes none.
+-- Where the writer fails a prefix of the report was written.
 abbrev pub IsRun : Turn → Turn → Sink → Result Bool RunFault → Type 0
 IsRun first second sink (Ok answer) = (instance : Fields) × (verdict : Verdict) × AreJudged first second instance verdict
     × (answer ≡ is_yes verdict) × HasWritten sink (report_of instance verdict)
@@ -74,12 +74,12 @@ IsRun first second sink (Err (Write write_faults.OutOfMemory)) = ⊥
 IsRun first second sink (Err (Write write_faults.Device)) = (instance : Fields) × (verdict : Verdict)
     × AreJudged first second instance verdict × HasStopped sink (report_of instance verdict)
 
--- whether it is a yes, where there is a verdict
+-- whether the solution is accepted, where there is a verdict
 abbrev pub told : Result Verdict RunFault → Result Bool RunFault
 told (Ok verdict) = Ok (is_yes verdict)
 told (Err fault) = Err fault
 
--- The same run, where the verdict itself is answered: at Ok it is that of these files, and the whole report on it was written.
+-- The same run, with the verdict as its result: at Ok it is that of these files, and the whole report on it was written.
 abbrev pub IsVerdictRun : Turn → Turn → Sink → Result Verdict RunFault → Type 0
 IsVerdictRun first second sink (Ok verdict) = (instance : Fields) × AreJudged first second instance verdict
     × HasWritten sink (report_of instance verdict)

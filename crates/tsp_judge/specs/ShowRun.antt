@@ -9,8 +9,8 @@ use Rattle.tsp_judge.specs.declared.fault.RunFault.{RunFault}
 use Rattle.tsp_judge.specs.declared.fault.RunFault.TheVariants.{File, WrongKind, Write, OutOfMemory, Relayout}
 use Rattle.tsp_report.specs.Show.{shown}
 
--- What showing answers. At Ok all that is shown of the file was written. Where the reader gives no file nothing is written.
--- Where the writer fails a front of the lines was written. Want of memory is that of the reading; writing takes none.
+-- The result of `show`. At Ok all its lines were written. Where the reader gives no file nothing is written. Where the writer
+-- fails a prefix of the lines was written. Out of memory is that of the reading; writing takes none.
 abbrev pub IsShowRun : Turn → Sink → Result (Unit {0}) RunFault → Type 0
 IsShowRun turn sink (Ok done) = (file : Fields) × IsFile turn file × HasWritten sink (shown file)
 IsShowRun turn sink (Err (File place fault)) = (place ≡ 1) × StopsAt fault turn × IsUnwritten sink

@@ -1,4 +1,4 @@
--- The exit status of a check, a conversion or what is shown.
+-- The exit status of a check, a conversion or `show`.
 use Rattle.std.specs.Prelude.{ℕ, Bool, true, false, Result, Ok, Err}
 use Rattle.tsp_read.specs.declared.ReadFault.TheVariants as read_faults
 use Rattle.tsp_stream.specs.declared.output.WriteFault.TheVariants as write_faults
@@ -22,7 +22,7 @@ status_of_fault (Write write_faults.Device) = 5
 status_of_fault (Relayout relayout_faults.OutOfMemory) = 3
 status_of_fault (Relayout fault) = 1
 
--- 0 is a yes, or done, and 1 a no
+-- 0 means accepted, or done, and 1 rejected
 abbrev pub status_of : Result Bool RunFault → ℕ
 status_of (Ok true) = 0
 status_of (Ok false) = 1

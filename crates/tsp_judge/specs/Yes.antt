@@ -1,4 +1,4 @@
--- What a yes of a check of two files says.
+-- The meaning of the line `yes` in a check of two files.
 use Rattle.std.specs.Prelude.{◌≡◌, ◌⊎◌, ℕ, ◌≤◌, Bool, true, List, [], ◌∷◌, length, None, Some, Result, Ok}
 use Rattle.tsp_format.specs.declared.kinds.Kind.TheVariants as kinds
 use Rattle.tsp_stream.specs.Turn.{Turn}
@@ -50,6 +50,6 @@ abbrev pub IsCheck : Turn → Turn → Sink → Result Bool RunFault → Type 0
 IsCheck first second sink result = IsRun first second sink result
     × (result ≡ Ok true → IsATourYes first second sink ⊎ IsARoutesYes first second sink)
 
--- the same where the verdict is answered
+-- the same with the verdict as the result
 abbrev pub IsVerdictCheck : Turn → Turn → Sink → Result Verdict RunFault → Type 0
 IsVerdictCheck first second sink result = IsVerdictRun first second sink result × IsCheck first second sink (told result)

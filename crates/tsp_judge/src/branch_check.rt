@@ -1,5 +1,5 @@
-//! The check of an instance and a tour with a certificate by branching, from the bytes that come in to
-//! those that go out.
+//! The check of an instance and a tour with a certificate by branching, from the bytes read to the
+//! bytes written.
 
 ghost use Rattle.tsp_stream.specs.Sink.{sink_of};
 ghost use Rattle.tsp_stream.specs.Turn.{turn_of, TakesAtMost};

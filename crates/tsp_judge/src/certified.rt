@@ -15,17 +15,16 @@ use tsp_file::File;
 use tsp_stream::Watched;
 use tsp_verdict::{Certificate, Verdict, is_bounded, judge_certified};
 
-/// Judges a tour of an instance with this certificate, writes the report, and answers the verdict
-/// that it is of.
+/// Judges a tour of an instance with this certificate, writes the report, and returns its verdict.
 ///
 /// Each file is read whole before the next, and the first file that is none decides. Nothing is
 /// written before the verdict exists.
 ///
 /// # Errors
 ///
-/// `File` where a file is none, or can't be read; `WrongKind` where all three are files and
-/// tours of the first one's TYPE have no bound by this certificate; `OutOfMemory` where the judgement
-/// runs out of memory, and then no reason up to `NodeOutOfRange` stands against the tour; `Write` where
+/// `File` where a file is none, or can't be read; `WrongKind` where all three are files and tours
+/// of the first one's TYPE have no bound by this certificate; `OutOfMemory` where the judgement
+/// runs out of memory, and then no reason up to `NodeOutOfRange` applies to the tour; `Write` where
 /// the writer fails. Of each file at most 4,096 bytes past `MOST_FILE_BYTES` are read.
 pub(crate) fn run_certified<I: Read, S: Read, C: Read, W: Write>(
     alloc: Global,

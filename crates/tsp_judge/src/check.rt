@@ -1,4 +1,4 @@
-//! The check of an instance and a solution, from the bytes that come in to those that go out.
+//! The check of an instance and a solution, from the bytes read to the bytes written.
 
 ghost use Rattle.std.specs.Prelude.{IsTrue, MatchResult};
 ghost use Rattle.tsp_stream.specs.Sink.{sink_of};
@@ -22,17 +22,17 @@ use tsp_verdict::{Verdict, judge_routes, judge_tour};
 
 /// Judges a solution of an instance, and writes the report.
 ///
-/// The answer is true where the solution is a tour of the instance, or for TYPE CVRP a plan of
-/// routes, and false where the report says a no with its first reason; the whole report was written
-/// then. Each file is read whole before the next, and the first file that is none decides. Nothing is
-/// written before the verdict exists.
+/// The result is `true` where the solution is a tour of the instance, or for TYPE CVRP a plan of
+/// routes, and `false` where the report has the line `no` with its first reason; the whole report
+/// was written then. Each file is read whole before the next, and the first file that is none
+/// decides. Nothing is written before the verdict exists.
 ///
 /// # Errors
 ///
-/// `File` where a file is none, or can't be read; `WrongKind` where both are files and the
-/// first is of TYPE TOUR, POTENTIALS or BRANCHES; `OutOfMemory` where the judgement runs out of memory,
-/// and then no reason up to `NodeOutOfRange`, in the order of its TYPE, stands against the second;
-/// `Write` where the writer fails. Of each file at most 4,096 bytes past `MOST_FILE_BYTES` are read.
+/// `File` where a file is none, or can't be read; `WrongKind` where both are files and the first is
+/// of TYPE TOUR, POTENTIALS or BRANCHES; `OutOfMemory` where the judgement runs out of memory, and
+/// then no reason up to `NodeOutOfRange`, in the order of its TYPE, applies to the second; `Write`
+/// where the writer fails. Of each file at most 4,096 bytes past `MOST_FILE_BYTES` are read.
 pub fn run_check<I: Read, S: Read, W: Write>(
     alloc: Global,
     inst: &mut Watched<I>,
@@ -120,8 +120,8 @@ fn judged<W: Write>(
     }
 }
 
-/// The verdict on a solution: on its tour, or for TYPE CVRP on its routes. Out of memory, no reason
-/// stands of those that are told without memory.
+/// The verdict on a solution: on its tour, or for TYPE CVRP on its routes. Out of memory, none of
+/// the reasons applies that are found without memory.
 fn judge(alloc: Global, instance: &Instance, solution: &File) -> Result<Verdict, AllocError>
     ensures { MatchResult result
         (λ verdict. IsVerdictOn instance.now solution.now verdict)

@@ -1,4 +1,4 @@
-//! Converting a file, from the bytes that come in to those that go out.
+//! Converting a file, from the bytes read to the bytes written.
 
 ghost use Rattle.tsp_stream.specs.Sink.{sink_of};
 ghost use Rattle.tsp_stream.specs.Turn.{turn_of, TakesAtMost};
@@ -22,7 +22,8 @@ use tsp_stream::Watched;
 ///
 /// `File` where the bytes are no file, or can't be read; `Relayout` where the weights can't
 /// go into the layout, or there is no memory for that; `Write` where the writer fails.
-/// `OutOfMemory` is never answered. At most 4,096 bytes past `MOST_FILE_BYTES` are read.
+/// `OutOfMemory` is never returned. Nothing is written but at `Write`. At most 4,096 bytes past
+/// `MOST_FILE_BYTES` are read.
 pub fn run_convert<R: Read, W: Write>(
     alloc: Global,
     r: &mut Watched<R>,

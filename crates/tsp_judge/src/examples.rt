@@ -1,5 +1,5 @@
-//! Which answer is a yes, and which instances a certificate is taken for. No body is looked at here: a
-//! definition that is changed together with its code is refused by its examples.
+//! Which verdict is accepted, and which instances a certificate is taken for. No body is looked at
+//! here: a definition that is changed together with its code is refused by its examples.
 
 ghost use Rattle.std.specs.Prelude.{◌≡◌, true, false, None, Some, pos};
 ghost use Rattle.tsp_format.specs.declared.kinds.Kind.TheVariants as kinds;
@@ -9,7 +9,7 @@ ghost use Rattle.tsp_reason.specs.declared.certificate.Certificate.TheVariants a
 ghost use Rattle.tsp_judge.specs.Judged.{is_yes};
 ghost use Rattle.tsp_verdict.specs.Certified.{kind_of, is_bounded};
 
-/// Which verdicts are a yes.
+/// Which verdicts are accepted.
 pub fn examples_of_answers()
     ensures tour { is_yes (verdicts.Tour (pos 14) None) ≡ true }
     ensures bounded_tour { is_yes (verdicts.Tour (pos 18) (Some (pos 14))) ≡ true }

@@ -1,4 +1,11 @@
-//! Judges solutions of TSPLIB 95 instances.
+//! The calls behind the verbs of the program, from readers to a writer.
+//!
+//! A check reads an instance, a solution and a certificate, and writes a report. Its contract says
+//! what the line `yes` means. It opens no files, and knows no command line: that is tsp_run's.
+//!
+//! ```text
+//! let accepted = run_bound_check(alloc, &mut instance, &mut tour, &mut potentials, &mut out)?;
+//! ```
 #![tactic(auto)]
 
 mod answer;

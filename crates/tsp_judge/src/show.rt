@@ -1,4 +1,4 @@
-//! Showing a file, from the bytes that come in to those that go out.
+//! Showing a file, from the bytes read to the bytes written.
 
 ghost use Rattle.tsp_stream.specs.Sink.{sink_of};
 ghost use Rattle.tsp_stream.specs.Turn.{turn_of, TakesAtMost};
@@ -21,8 +21,8 @@ use tsp_stream::Watched;
 ///
 /// # Errors
 ///
-/// `File` where the bytes are no file, or can't be read; `Write` where the writer fails. At
-/// most 4,096 bytes past `MOST_FILE_BYTES` are read.
+/// `File` where the bytes are no file, or can't be read; `Write` where the writer fails. Nothing
+/// is written but at `Write`. At most 4,096 bytes past `MOST_FILE_BYTES` are read.
 pub fn run_show<R: Read, W: Write>(
     alloc: Global,
     r: &mut Watched<R>,

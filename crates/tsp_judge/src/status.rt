@@ -8,10 +8,10 @@ use tsp_file::RelayoutFault;
 use tsp_read::ReadFault;
 use tsp_stream::WriteFault;
 
-/// Done, and no verdict is a no.
+/// Done, and no solution is rejected.
 const YES: u8 = 0;
 
-/// The verdict is a no, or a file's weights can't go into the layout.
+/// The solution is rejected, or a file's weights can't be put into the layout.
 const NO: u8 = 1;
 
 /// A file has a fault, or the first is of the wrong kind.
@@ -23,8 +23,9 @@ const OUT_OF_MEMORY: u8 = 3;
 /// A device failed, in or out.
 const DEVICE: u8 = 5;
 
-/// The exit status of a run: 0 for a yes, or for what is done; 1 for a no, or for weights that can't go into a
-/// layout; 2 where a file has a fault or is of the wrong kind; 3 where memory ran out; 5 where a device failed.
+/// The exit status of a run: 0 where a solution is accepted, or a file is shown or converted; 1
+/// where one is rejected, or weights can't be put into a layout; 2 where a file has a fault or is
+/// of the wrong kind; 3 where memory ran out; 5 where a device failed.
 pub fn status_of(answer: &Result<bool, RunFault>) -> u8
     ensures { result ≡ status_of answer.now }
 {

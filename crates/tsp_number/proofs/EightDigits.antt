@@ -145,7 +145,7 @@ shifted p q low high small some =
     let product : (low + p * high) * q ≡ low * q + p * q * high = omega arith in
     mul-mod_first (low + p * high) q (p * q) ∙ ap (λ n. n % (p * q)) product ∙ add-mul-mod_self_left (low * q) (p * q) high ∙ mod-eq_of_lt less
 
--- ---- the digits at the front of eight bytes, shifted to their end
+-- ---- the first digits of eight bytes, shifted to their end
 
 -- zeros and the digits that these bytes begin with
 abbrev pub padded : ℕ → List ℕ → List ℕ

@@ -1,4 +1,4 @@
--- Numbers at the front of some bytes.
+-- Numbers at the beginning of some bytes.
 use Rattle.std.proofs.Common.{◌≡◌, ℕ, ◌+◌, ◌*◌, ◌-◌, ◌^◌, ◌<◌, ◌≤◌, Bool, true, false, None, Some, List, [], ◌∷◌, ◌++◌, length, take, drop, get_or, ℤ, pos, ◌*ℤ◌, ◌≤ℤ◌, ◌<ℤ◌, ◌⊎◌, Ok, Err, unsigned_abs, inl, inr, refl, arith, ap, sym, ◌∙◌, subst, pow-add, add-one, append_assoc, append-nil, length-drop}
 use Rattle.std.specs.Prelude.{nat_le, nat_lt, ◌&&◌}
 use Rattle.std.proofs.Math.Nat.{pow-suc, pow-le-pow_right, mul-le-mul}
@@ -114,7 +114,7 @@ few_fit bytes count value read few =
     let power : 10 ^ count ≤ 10 ^ 18 = pow-le-pow_right (omega arith) few in
     omega (arith, read.size)
 
--- fewer than 18 digits leave room for one more
+-- fewer than 18 digits leave a place for one more
 pub room_for_one : (bytes : List ℕ) (count value : ℕ) → ReadsFront bytes count value → count < 18 → value < 10 ^ 17
 room_for_one bytes count value read few =
     let most : count ≤ 17 = omega arith in
@@ -122,7 +122,7 @@ room_for_one bytes count value read few =
     let size = read.size in
     omega arith
 
--- so many digits are a number of so many places
+-- this many digits are a number of as many places
 small_digits : (count most value : ℕ) → value < 10 ^ count → count ≤ most → value < 10 ^ most
 small_digits count most value small few =
     let some : 1 ≤ 10 = omega arith in
@@ -161,7 +161,7 @@ decimal_text bytes sign count parts within is_point =
     cut ∙ ap (λ ds. ds ++ back) (front ∙ ap (λ ds. ds ++ (point ∷ [])) (take-add sign count bytes))
     ∙ simp (append_assoc, append-nil)
 
--- ---- what they stand for
+-- ---- their meaning
 
 -- a mantissa without an exponent, and its count of 10^-9
 plain_stands : (word sign whole fraction_text fraction : List ℕ) (negative : Bool) (size : ℕ) → word ≡ sign ++ (whole ++ (fraction_text ++ []))

@@ -1,4 +1,4 @@
--- The parts that are found from the left are the one way to spell the word by its grammar.
+-- The parts that are found from the left are the one way to write the word by its grammar.
 use Rattle.std.proofs.Common.{◌≡◌, ◌≢◌, ℕ, ◌+◌, ◌<◌, Bool, true, false, ◌==◌, ◌||◌, ◌&&◌, List, [], ◌∷◌, ◌++◌, length, Option, Some, None, ℤ, ◌⊎◌, inl, inr, refl, arith, ap, sym, ◌∙◌, subst, append-nil, nat_lt, if◌then◌else◌}
 use Rattle.std.proofs.lemmas.Bool.Decides.{nat_tests}
 use Rattle.std.proofs.lemmas.Bool.{cases_eq}
@@ -11,7 +11,7 @@ use Rattle.tsp_number.specs.Scan.{has_minus, after_sign, after_point, front_digi
 use Rattle.tsp_number.proofs.Scanning.{AllDigits-front_digits, if_above_zero}
 use Rattle.tsp_number.proofs.Scaling.{front_digits-all}
 
--- ---- what is found spells the word
+-- ---- the found parts are those of the word
 
 -- a sign at the front, and what follows it
 pub record SplitsSign (bytes : List ℕ) : Type 0 where
@@ -151,7 +151,7 @@ spells_in word n same =
       is_exponent = is_exponent_in (past_mantissa word) mapped.0 mapped.1;
     })
 
--- ---- what spells the word is found
+-- ---- the parts of the word are found
 
 ascii_digit : (c : ℕ) → digit_value c < 10 → is_ascii_digit c ≡ true
 ascii_digit c small =

@@ -24,7 +24,7 @@ prefix_goes_on {X} p (suc m) (x ∷ xs) le = by_test (p x) le (prefix_goes_on p 
     by_test true le so = omega (arith, so (omega (arith, le)))
     by_test false le so = absurd (omega (arith, le))
 
--- the element after so many passes: one more
+-- the element after this many passes: one more
 pub prefix_one_more : {X : Type 0} (p : X → Bool) (k : ℕ) (xs : List X) (d : X) → k < length xs → k ≤ prefix_len p xs → p (get_or xs k d) ≡ true → suc k ≤ prefix_len p xs
 prefix_one_more p k [] d lt le e = absurd (omega (arith, lt))
 prefix_one_more p zero (x ∷ xs) d lt le e = omega (arith, ap (λ b. cond b (1 + prefix_len p xs) 0) e)

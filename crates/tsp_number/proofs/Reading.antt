@@ -1,4 +1,4 @@
--- From the size that the code computes to what the word stands for.
+-- From the size that the code computes to the meaning of the word.
 use Rattle.std.proofs.Common.{◌≡◌, ◌≢◌, ℕ, ◌+◌, ◌*◌, ◌^◌, ◌<◌, ◌≤◌, Bool, true, false, List, Option, Some, None, ℤ, pos, negsuc, ◌+ℤ◌, ◌*ℤ◌, ◌⊎◌, inl, inr, refl, arith, ap, sym, ◌∙◌, subst, suc, zero, unsigned_abs, pow-add, FitsSigned, w64, ◌<ℤ◌}
 use Rattle.std.proofs.Math.Nat.{mul-le-mul, eq_of_mul-eq-mul_right}
 use Rattle.std.proofs.lemmas.Int.{ints}
@@ -46,7 +46,7 @@ from_signed : (negative : Bool) (m : ℕ) (z j : ℤ) → IsShifted (with_sign n
 from_signed negative m (pos up) j shifted = (m * 10 ^ up, refl, shifted ∙ signed-mul negative m (10 ^ up))
 from_signed negative m (negsuc down) j shifted = divided negative m (10 ^ (down + 1)) j (pow_above_zero (down + 1)) shifted
 
--- ---- what the word stands for
+-- ---- the meaning of the word
 
 same_some : {A : Type 0} (o : Option A) (x y : A) → o ≡ Some x → o ≡ Some y → x ≡ y
 same_some o x y first second = cc

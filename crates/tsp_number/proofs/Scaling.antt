@@ -34,7 +34,7 @@ past_64_bits size count above many =
 pub saturated-past : (size count : ℕ) → 0 < size → 20 ≤ count → 2 ^ 64 - 1 ≡ saturated (size * 10 ^ count)
 saturated-past size count above many = omega (arith, past_64_bits size count above many)
 
--- a number below 10^count that is some number with so many zeros more is 0
+-- a number below 10^count that is some number with this many zeros more is 0
 pub only_zero : (m k count bound : ℕ) → m < 10 ^ bound → bound ≤ count → k * 10 ^ count ≡ m → (k ≡ 0) × (m ≡ 0)
 only_zero m zero count bound small many same = (refl, omega arith)
 only_zero m (suc k) count bound small many same =
@@ -139,7 +139,7 @@ all_dropped ds count all many above = λ k same.
 
 -- ---- exponents that are clamped
 
--- the same places, or so many to one side that it makes no difference
+-- the same places, or enough to one side that it makes no difference
 abbrev pub IsNear : ℤ → ℤ → Type 0
 IsNear p z = (p ≡ z) ⊎ ((pos 100 ≤ℤ p) × (pos 100 ≤ℤ z)) ⊎ ((p ≤ℤ negsuc 100) × (z ≤ℤ negsuc 100))
 
@@ -285,7 +285,7 @@ fraction_cut_rest whole fraction front back count kept cut all rest =
     let split = fraction_split whole fraction front back count kept cut in
     rest_at_end (whole ++ fraction) (whole ++ front) back count all split.0 split.1 rest
 
--- ---- what is kept of a number word
+-- ---- the kept parts of a number word
 
 pub few_in_fraction : (w : Written) (n : Numeral) → KeepsNumeral w n → length n.fraction ≤ 64
 few_in_fraction w n keeps = omega (arith, length-append n.whole n.fraction, keeps.few_digits)

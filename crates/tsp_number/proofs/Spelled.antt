@@ -1,4 +1,4 @@
--- A spelling stands for its number, and so reading it gives the number back.
+-- A text of a number means that number, and so reading it gives the number back.
 use Rattle.std.proofs.Common.{◌≡◌, ℕ, ◌+◌, ◌*◌, ◌/◌, ◌%◌, ◌^◌, ◌<◌, ◌≤◌, ◌==◌, Bool, true, false, List, [], ◌∷◌, ◌++◌, length, Result, Ok, ℤ, pos, negsuc, inl, inr, refl, arith, ap, sym, ◌∙◌, subst, suc, zero, unsigned_abs, pow-add, append-nil, length-append}
 use Rattle.std.proofs.Math.Nat.{pow-suc}
 use Rattle.std.proofs.lemmas.Bool.{cases_eq}
@@ -62,7 +62,7 @@ decimals_of (suc count) rest part =
       | inr some ↦ first_decimal count rest (omega arith) part (decimals_of count (rest % 10 ^ count) (mod_below rest (10 ^ count) (pow_above_zero count)))
     ]
 
--- ---- a spelling
+-- ---- the text of a number
 
 -- the digits after the point
 pub record FractionOf (rest : ℕ) : Type 0 where
@@ -103,7 +103,7 @@ fraction_of rest part =
           }
     ]
 
--- the sign of a spelling
+-- the sign of a text
 abbrev pub sign_text : Bool → List ℕ
 sign_text false = []
 sign_text true = minus ∷ []
@@ -143,7 +143,7 @@ stands_spelled negative size most =
       shifted = subst P (sym place) (to_signed negative (digits_of n) size (pos f.left) size_is);
     }
 
--- a spelling stands for its number
+-- the text of a number means it
 pub stands_for : (k : ℤ) → unsigned_abs k ≤ most_count → StandsFor (spelling k) k
 stands_for (pos size) most = stands_spelled false size most
 stands_for (negsuc n) most = stands_spelled true (suc n) most
@@ -158,7 +158,7 @@ pub spelling_short : (k : ℤ) → unsigned_abs k ≤ most_count → length (spe
 spelling_short (pos size) most = omega (arith, size_short size most)
 spelling_short (negsuc n) most = omega (arith, size_short (suc n) most)
 
--- reading a spelling gives its number
+-- reading the text of a number gives the number
 pub reads_spelling : (k : ℤ) → unsigned_abs k ≤ most_count → ReadsDecimal (spelling k) (Ok k)
 reads_spelling k most = (omega (arith, spelling_short k most), stands_for k most, most)
 

@@ -17,7 +17,7 @@ use Rattle.tsp_number.proofs.Grammar.{spells_in, found}
 use Rattle.tsp_number.proofs.Reading.{bad_number, stands_by, size_by, signed-mul, divided, unit_up, unit_down, unit_places}
 use Rattle.tsp_number.proofs.Scaling.{pow_above_zero}
 
--- ---- a word stands for one number
+-- ---- a word means one number
 
 same_size : (m k l : ℕ) (z : ℤ) → IsShiftedSize m z k → IsShiftedSize m z l → k ≡ l
 same_size m k l (pos up) first second = first ∙ sym second
@@ -154,7 +154,7 @@ shifts : (m : ℕ) (z : ℤ) → Shifts m z (shifted_size m z)
 shifts m (pos up) = refl
 shifts m (negsuc down) = shifts_by m down (m % 10 ^ (down + 1) == 0) refl
 
--- the word stands for the number, or for none
+-- the word means the number, or none
 abbrev pub Counted : List ℕ → Option ℤ → Type 0
 Counted word None = (j : ℤ) → ¬ StandsFor word j
 Counted word (Some k) = StandsFor word k
@@ -166,7 +166,7 @@ counted word n None is_in none = λ j stands.
     none k.0 k.1
 counted word n (Some k) is_in some = stands_by word n k is_in some
 
--- the word stands for the whole number, or for none that is whole
+-- the word means the whole number, or none that is whole
 abbrev pub WholeCounted : List ℕ → Option ℤ → Type 0
 WholeCounted word None = (j : ℤ) → StandsFor word j → (i : ℤ) → j ≢ i *ℤ pos unit
 WholeCounted word (Some n) = StandsFor word (n *ℤ pos unit)

@@ -18,6 +18,6 @@ WholeIs word n = whole_of word (negsuc 1) (pos 12) ≡ Ok n
 abbrev pub WholeIsRefused : List ℕ → NumberFault → Type 0
 WholeIsRefused word found = whole_of word (negsuc 1) (pos 12) ≡ Err found
 
--- the count of 10^-9 is spelled so
+-- the count of 10^-9 has this text
 abbrev pub IsSpelled : ℤ → List ℕ → Type 0
 IsSpelled count word = spelling count ≡ word

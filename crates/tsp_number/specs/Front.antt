@@ -1,10 +1,10 @@
--- Number words at the front of some bytes.
+-- Number words at the beginning of some bytes.
 use Rattle.std.specs.Prelude.{ℕ, ◌≤◌, ◌+◌, ◌==◌, ◌||◌, ◌&&◌, cond, nat_le, nat_lt, min, List, [], ◌∷◌, length, take, drop, slice_index, Option, None, Some, ℤ}
 use Rattle.std.specs.Char.{is_ascii_digit}
 use Rattle.std.specs.List.{prefix_len}
 use Rattle.tsp_number.specs.NumberWord.{IsShort, StandsFor}
 
--- the first `count` bytes are a number word, and it stands for k counts of 10^-9
+-- the first `count` bytes are a number word, and it means k counts of 10^-9
 pub record BeginsWithNumber (bytes : List ℕ) (count : ℕ) (k : ℤ) : Type 0 where
   pub within : count ≤ length bytes
   pub short : IsShort (take count bytes)
@@ -17,7 +17,7 @@ abbrev pub sign_count : List ℕ → ℕ
 sign_count [] = 0
 sign_count (byte ∷ bytes) = cond ((byte == 45) || (byte == 43)) 1 0
 
--- how many digits stand at the front, of at most so many
+-- how many digits the bytes begin with, of at most this many
 abbrev pub digit_count : ℕ → List ℕ → ℕ
 digit_count most bytes = min most (prefix_len is_ascii_digit bytes)
 

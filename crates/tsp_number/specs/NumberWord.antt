@@ -1,4 +1,4 @@
--- Number words, by the grammar of decimal notation, and the decimal that a word stands for.
+-- Number words, by the grammar of decimal notation, and the decimal that a word means.
 use Rattle.std.specs.Prelude.{◌≡◌, ◌≢◌, ℕ, ◌+◌, ◌^◌, ◌<◌, ◌≤◌, Bool, true, false, List, [], ◌∷◌, ◌++◌, length, ◌⊎◌, Result, Ok, Err, if◌then◌else◌, ℤ, pos, negsuc, ◌+ℤ◌, ◌-ℤ◌, ◌*ℤ◌, neg_ℤ, ◌≤ℤ◌, ◌<ℤ◌, unsigned_abs}
 use Rattle.std.specs.Str.Parse.{AllDigits, digits_value}
 use Rattle.tsp_number.specs.declared.fault.NumberFault.{NumberFault}
@@ -85,12 +85,12 @@ mantissa n = with_sign n.negative (digits_of n)
 abbrev pub places : ℕ → Numeral → ℤ
 places scale n = pos scale +ℤ n.exponent -ℤ pos (length n.fraction)
 
--- k is m shifted by so many places: m * 10^places, or to the right the number whose own shift to the left is m
+-- k is m shifted by this many places: m * 10^places, or to the right the number whose own shift to the left is m
 abbrev pub IsShifted : ℤ → ℤ → ℤ → Type 0
 IsShifted m (pos up) k = k ≡ m *ℤ pos (10 ^ up)
 IsShifted m (negsuc down) k = k *ℤ pos (10 ^ (down + 1)) ≡ m
 
--- the word stands for k counts of 10^-9
+-- the word means k counts of 10^-9
 pub record StandsFor (word : List ℕ) (k : ℤ) : Type 0 where
   pub numeral : Numeral
   pub spelled : SpellsNumeral word numeral

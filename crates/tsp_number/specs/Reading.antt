@@ -7,7 +7,7 @@ use Rattle.tsp_distance.specs.Decimal.{most_count}
 use Rattle.tsp_number.specs.NumberWord.{Numeral, with_sign, digits_of, places}
 use Rattle.tsp_number.specs.Scan.{numeral_in}
 
--- m shifted by so many places, where that is a whole number
+-- m shifted by this many places, where that is a whole number
 abbrev pub shifted_size : ℕ → ℤ → Option ℕ
 shifted_size m (pos up) = Some (m * 10 ^ up)
 shifted_size m (negsuc down) = if m % 10 ^ (down + 1) == 0 then Some (m / 10 ^ (down + 1)) else None

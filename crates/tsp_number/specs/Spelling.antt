@@ -1,4 +1,4 @@
--- How a decimal is spelled.
+-- The text of a decimal.
 use Rattle.std.specs.Prelude.{ℕ, zero, suc, ◌+◌, ◌/◌, ◌%◌, ◌^◌, ◌==◌, List, [], ◌∷◌, ◌++◌, if◌then◌else◌, ℤ, pos, negsuc}
 use Rattle.std.specs.Fmt.{decimal}
 use Rattle.tsp_distance.specs.Decimal.{unit}
@@ -17,7 +17,7 @@ fraction_spelling rest = if rest == 0 then [] else point ∷ decimals 9 rest
 abbrev pub size_spelling : ℕ → List ℕ
 size_spelling size = decimal (size / unit) ++ fraction_spelling (size % unit)
 
--- the spelling of k counts of 10^-9
+-- the text of k counts of 10^-9
 abbrev pub spelling : ℤ → List ℕ
 spelling (pos size) = size_spelling size
 spelling (negsuc n) = minus ∷ size_spelling (suc n)

@@ -21,17 +21,17 @@ pub record HoldsWord (word : List ℕ) (w : Written) : Type 0 where
   pub is_in : numeral_in word ≡ Some numeral
   pub keeps : KeepsNumeral w numeral
 
--- k is m shifted by so many places, as `IsShifted` without a sign
+-- k is m shifted by this many places, as `IsShifted` without a sign
 abbrev pub IsShiftedSize : ℕ → ℤ → ℕ → Type 0
 IsShiftedSize m (pos up) k = k ≡ m * 10 ^ up
 IsShiftedSize m (negsuc down) k = k * 10 ^ (down + 1) ≡ m
 
--- the answer is m shifted by so many places, saturated, or `None` where no whole number is that
+-- the answer is m shifted by this many places, saturated, or `None` where no whole number is that
 abbrev pub ShiftsTo : ℕ → ℤ → Option ℕ → Type 0
 ShiftsTo m places None = (k : ℕ) → ¬ IsShiftedSize m places k
 ShiftsTo m places (Some size) = (k : ℕ) × IsShiftedSize m places k × (size ≡ saturated k)
 
--- the answer is m without so many zeros at its end, saturated, or `None` where it has fewer
+-- the answer is m without this many zeros at its end, saturated, or `None` where it has fewer
 abbrev pub DropsZeros : ℕ → ℕ → Option ℕ → Type 0
 DropsZeros m count None = (k : ℕ) → k * 10 ^ count ≢ m
 DropsZeros m count (Some size) = (k : ℕ) × (k * 10 ^ count ≡ m) × (size ≡ saturated k)

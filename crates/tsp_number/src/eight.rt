@@ -42,7 +42,7 @@ fn count_in(eight: u8x8) -> usize
     }
 }
 
-/// The number that eight digits write, which stand in the bytes of `digits`, the first one lowest.
+/// The number of eight digits, which are the bytes of `digits`, the first one lowest.
 #[inline(always)]
 fn value_of(digits: u64) -> u64
     requires { AllBelowBase 10 (to_le_bytes w64 digits) }

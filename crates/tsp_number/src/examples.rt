@@ -55,7 +55,7 @@ pub fn examples_of_whole_numbers()
     ensures too_long { WholeIsRefused (replicate 65 49) LongWord }
 {}
 
-/// How some counts of 10^-9 are spelled.
+/// The texts of some counts of 10^-9.
 pub fn examples_of_spellings()
     ensures zero { IsSpelled (pos 0) (codes "0") }
     ensures whole { IsSpelled (pos 10000000000) (codes "10") }
@@ -66,7 +66,7 @@ pub fn examples_of_spellings()
     ensures largest { IsSpelled (pos 1000000000000000000) (codes "1000000000") }
 {}
 
-/// How many bytes the number at the front of some bytes has.
+/// How many bytes the number at the beginning of some bytes has.
 pub fn examples_of_fronts()
     ensures whole { whole_end (codes "+12 7") ≡ Some 3 }
     ensures whole_before_a_point { whole_end (codes "-12.5") ≡ Some 3 }

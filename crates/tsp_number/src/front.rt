@@ -1,4 +1,4 @@
-//! Numbers as most words write them, read from the front of some bytes.
+//! Numbers as most words write them, read from the beginning of some bytes.
 
 ghost use Rattle.std.specs.Prelude.{◌≡◌, ◌+◌, ◌*◌, ◌^◌, ◌<◌, ◌≤◌, ◌*ℤ◌, pos, length, take, unsigned_abs, IfSome};
 ghost use Rattle.std.specs.Option.{option_map};
@@ -57,7 +57,7 @@ fn single_digits(bytes: &[u8], most: usize) -> (u64, usize)
     (value, count)
 }
 
-/// The digits that the bytes begin with, at most so many, as a number, and how many they are.
+/// The digits that the bytes begin with, at most this many, as a number, and how many they are.
 #[inline(always)]
 fn front_digits(bytes: &[u8], most: usize) -> (u64, usize)
     requires { most ≤ 18 }

@@ -7,8 +7,8 @@ ghost use Rattle.tsp_number.specs.NumberWord.{StandsFor, ReadsDecimal, ReadsWhol
 ghost use Rattle.tsp_number.specs.Reading.{decimal_of, whole_of};
 ghost use Rattle.tsp_number.specs.Spelling.{spelling};
 
-/// A word stands for at most one number, and it is read in exactly one way: where a decimal is
-/// wanted, and where a whole number is.
+/// A word means at most one number, and it is read in exactly one way: where a decimal is wanted,
+/// and where a whole number is.
 pub fn number_word_laws()
     ensures one_number { (word : List ℕ) (j k : ℤ) → StandsFor word j → StandsFor word k → j ≡ k }
     ensures one_decimal { (word : List ℕ) (r s : Result ℤ NumberFault)
@@ -20,7 +20,7 @@ pub fn number_word_laws()
         → ReadsWhole word low high (whole_of word low high) }
 {}
 
-/// The spelling of a decimal stands for it, and reading it gives that decimal and nothing else.
+/// The text of a decimal means that decimal, and reading it gives that decimal and nothing else.
 pub fn spelling_laws()
     ensures stands { (k : ℤ) → unsigned_abs k ≤ most_count → StandsFor (spelling k) k }
     ensures round_trip { (k : ℤ) (r : Result ℤ NumberFault) → unsigned_abs k ≤ most_count

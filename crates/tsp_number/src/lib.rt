@@ -1,8 +1,13 @@
-//! Number words of TSPLIB 95, read and spelled in exact decimal arithmetic.
+//! Number words of TSPLIB 95, read and written in exact decimal arithmetic.
 //!
-//! [`parse_decimal`] and [`parse_whole`] read number words, and [`write_decimal`] spells a
-//! [`Decimal`]. The decimals, and the distances of points that have them, are those of tsp_distance,
-//! whose names stand here too. No call takes memory.
+//! It isn't a general parser: a word has at most 64 bytes, and a decimal at most nine places. The
+//! names of tsp_distance are re-exported. No call takes memory.
+//!
+//! ```text
+//! let x = parse_decimal(b"1.50e+01")?;
+//! let n = parse_whole(b"12.0", 1, 100_000)?;
+//! let text = write_decimal(x);
+//! ```
 #![tactic(auto)]
 
 mod eight;

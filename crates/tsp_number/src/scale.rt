@@ -39,7 +39,7 @@ pub(crate) fn power_of_ten(exponent: u64) -> u64
     }
 }
 
-/// The number with so many zeros more, or `u64::MAX` where that is less.
+/// The number with this many zeros more, or `u64::MAX` where that is less.
 #[inline(always)]
 fn add_zeros(size: u64, count: u64) -> u64
     ensures { result ≡ saturated (size * 10 ^ count) }
@@ -53,7 +53,7 @@ fn add_zeros(size: u64, count: u64) -> u64
     size.saturating_mul(power_of_ten(count))
 }
 
-/// The number without so many zeros at its end, or `None` where it has fewer.
+/// The number without this many zeros at its end, or `None` where it has fewer.
 #[inline(always)]
 fn drop_zeros(size: u64, count: u64) -> Option<u64>
     ensures { DropsZeros size count result }

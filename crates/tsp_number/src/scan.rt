@@ -6,8 +6,9 @@ ghost use Rattle.std.specs.Str.Parse.{digits_value_after};
 ghost use Rattle.tsp_number.specs.Scan.{has_minus, after_sign, after_point, front_digits, after_digits, exponent_in, numeral_in, saturated, clamped};
 ghost use Rattle.tsp_number.specs.Written.{HoldsWord};
 
-/// The largest size of an exponent that is told from larger ones. With a larger one a number word
-/// of at most 64 bytes stands for 0, or for nothing that is fine or small enough, all the same.
+/// The largest size of an exponent that is distinguished from larger ones. With a larger one a
+/// number word of at most 64 bytes means 0, or a number that is too fine or too large, all the
+/// same.
 const MOST_EXPONENT: u64 = 10_000;
 
 /// A number word's parts.

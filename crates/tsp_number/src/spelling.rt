@@ -1,4 +1,4 @@
-//! The spelling of a decimal.
+//! The text of a decimal.
 
 ghost use Rattle.std.specs.Prelude.{◌≡◌, ◌+◌, ◌*◌, ◌^◌, ◌<◌, ◌≤◌, ◌++◌, length, unsigned_abs};
 ghost use Rattle.std.specs.Fmt.{decimal};
@@ -120,8 +120,11 @@ fn push_decimals<const N: usize>(text: &mut ArrayVec<u8, N>, rest: u64)
     push_last(text, rest % 1000);
 }
 
-/// Appends the spelling of a decimal, as [`write_decimal`] gives it. It has at most 21 bytes, for
-/// which there must be room.
+/// Appends the text of a decimal, as [`write_decimal`] returns it. It has at most 21 bytes.
+///
+/// # Requires
+///
+/// A capacity for these bytes.
 #[inline(always)]
 pub fn push_decimal<const N: usize>(text: &mut ArrayVec<u8, N>, d: Decimal)
     requires { array_vec_len text.old + 21 ≤ N }
@@ -142,11 +145,11 @@ pub fn push_decimal<const N: usize>(text: &mut ArrayVec<u8, N>, d: Decimal)
     }
 }
 
-/// Spells a decimal.
+/// Writes a decimal as text.
 ///
-/// The spelling is `-` for a negative number, the whole part without leading zeros, at least `0`,
-/// and, where the number isn't whole, a point and its decimals without zeros at their end. It has
-/// at most 21 bytes.
+/// The text is `-` for a negative number, the whole part without leading zeros, at least `0`, and,
+/// where the number isn't whole, a point and its decimals without zeros at their end. It has at
+/// most 21 bytes.
 pub fn write_decimal(d: Decimal) -> ArrayVec<u8, 64>
     ensures items { result.items ≡ spelling d }
     ensures stands { StandsFor result.items d }

@@ -40,7 +40,7 @@ fn within(value: i128, low: i64, high: i64) -> Option<i64>
 ///
 /// A number word, as decimal notation has it and TSPLIB 95 files write it, is an optional sign,
 /// digits with at most one point and at least one digit, and optionally `e` or `E`, a sign and
-/// digits. It stands for the number that it writes, exactly.
+/// digits. It means the number that it writes, exactly.
 ///
 /// # Errors
 ///

@@ -1,4 +1,4 @@
--- A line or a word that has begun: what is kept of it, how it goes on, and how it is taken.
+-- A line or a word that has begun: its kept bytes, how it goes on, and how it is taken.
 use Rattle.std.proofs.Common.{◌≡◌, ℕ, ◌+◌, ◌<◌, ◌≤◌, Bool, true, false, List, [], ◌∷◌, ◌++◌, length, refl, sym, ap, subst, ◌∙◌, arith, Result, Ok, Err, append-nil, append_assoc, length-append}
 use Rattle.std.specs.Prelude.{not, ◌&&◌, ◌||◌, nat_lt, ◌↔◌, ◌==◌, IsOk, OnOk}
 use Rattle.std.proofs.lemmas.Bool.{true≢false, false≢true, ltb-false, lt-ltb, le-ltb, eqb-true}
@@ -139,7 +139,7 @@ joined_gives token inside begun piece joins ended goes_on more =
     filled_more [] e = absurd cc
     filled_more (x ∷ xs) e = refl
 
--- ---- what is kept
+-- ---- the kept bytes
 
 on_ok : {E : Type 0} (r : Result (Unit {0}) E) (P : Type 0) → IsOk r → OnOk r P → P
 on_ok (Ok done) P is h = h
@@ -196,7 +196,7 @@ open_token inside text filled first after token e parts is none =
         absurd cc
     by_case false s = s
 
--- ---- the buffer, which has room for a line
+-- ---- the buffer, which has capacity for a line
 
 pub most_within : (token : Token) (n : ℕ) → n ≤ most_bytes token → n ≤ most_line_bytes
 most_within Line n few = few

@@ -32,7 +32,7 @@ any_front : (items : List Item) (last : Item) → is_end_line last ≡ false →
 any_front [] last fails any = absurd (false≢true (ap (λ b. b || false) (sym fails) ∙ any))
 any_front (item ∷ items) last fails any = any_behind (is_end_line item) (has_end_line (items ++ last ∷ [])) (has_end_line items) (any_front items last fails) any
 
--- what stands behind a line doesn't count
+-- the text behind a line doesn't count
 front_decides : (items : List Item) (last : Item) → has_end_line items ≡ true → open_section (items ++ last ∷ []) ≡ open_section items
 front_decides [] last any = absurd (false≢true any)
 front_decides (Line key line ∷ items) last any = refl

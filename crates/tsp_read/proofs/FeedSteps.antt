@@ -1,4 +1,4 @@
--- A file that is read in pieces: what a piece more does, and what is settled.
+-- A file that is read in pieces: the effect of one piece more, and the settled part.
 use Rattle.std.proofs.Common.{◌≡◌, ℕ, ◌+◌, ◌-◌, ◌≤◌, ◌<◌, Bool, true, false, List, [], ◌∷◌, ◌++◌, length, take, reverse, refl, sym, ap, subst, ◌∙◌, arith, Option, Some, None, Result, Ok, Err, append-nil, append_assoc, length-append}
 use Rattle.std.specs.Prelude.{not, ◌&&◌, ◌==◌, IfErr}
 use Rattle.std.proofs.Math.Seq.{take-append-add}
@@ -187,7 +187,7 @@ comes_to all read old new bytes piece front over stage is h parts few full e cou
     (comes_by all read new (bytes ++ piece) (bytes ++ front) over (fits bytes piece front over old.count h.count h.short parts few full) e
     (count ∙ ap (λ (n : ℕ). n + length front) h.count ∙ sym (length-append bytes front)) f)
 
--- ---- what is answered
+-- ---- the answers
 
 settled_more : (found : ReadFault) (bytes piece : List ℕ) → HasSettled found bytes → HasSettled found (bytes ++ piece)
 settled_more (faults.Line line word found) bytes piece h = settled_kept bytes piece (faults.Line line word found) h

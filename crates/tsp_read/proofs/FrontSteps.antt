@@ -1,4 +1,4 @@
--- A number word at the front of a text, whose end is where the number's is.
+-- A number word at the beginning of a text, whose end is where the number's is.
 use Rattle.std.proofs.Common.{◌≡◌, ℕ, ◌+◌, ◌<◌, ◌≤◌, Bool, true, false, List, [], ◌∷◌, ◌++◌, length, take, drop, refl, sym, ap, subst, ◌∙◌, arith, inl, inr, Ok, ℤ, pos, ◌*ℤ◌, take-append-drop}
 use Rattle.std.specs.Prelude.{not, ◌&&◌, ◌||◌, ◌⊎◌, unsigned_abs}
 use Rattle.std.specs.Str.Parse.{AllDigits}
@@ -107,9 +107,9 @@ starts_word word n h =
     (starts_sign h.sign (n.whole ++ (h.fraction_text ++ h.exponent_text)) n.negative h.is_sign
     (starts_digits n.whole h.fraction_text n.fraction h.exponent_text h.whole_digits h.is_fraction h.some_digit))
 
--- ---- the word at the front of a text
+-- ---- the word at the beginning of a text
 
--- a number is at the front of what is filled, and its word's end behind it
+-- the filled part begins with a number, and its word's end is behind it
 pub record EndsNumber (text filled : List ℕ) (count : ℕ) (k : ℤ) (rest left : List ℕ) : Type 0 where
   pub filled_is : filled ≡ without_start text
   pub number : BeginsWithNumber filled count k
@@ -174,7 +174,7 @@ no_blank false c blank e = refl
 filled_front : (first : ℕ) (others : List ℕ) → is_blank first ≡ false → without_start (first ∷ others) ≡ first ∷ others
 filled_front first others e = rw e refl
 
--- no blank stands before it where the text begins with it
+-- no blank is before it where the text begins with it
 pub begins_filled : (text : List ℕ) (count : ℕ) (k : ℤ) → BeginsWithNumber text count k → text ≡ without_start text
 begins_filled text count k number =
     let spelled = number.stands.spelled in
@@ -217,7 +217,7 @@ front_reads_decimal text filled count k rest left h small =
     let reads : ReadsDecimal word (Ok k) = (h.number.short, h.number.stands, small) in
     ap (λ (w : List ℕ). decimal_of w) (front_is text filled count k rest left h) ∙ sym (decimal_once _ _ _ reads (decimal_of-reads word))
 
--- ---- a line's end at the front of a text
+-- ---- a line's end at the beginning of a text
 
 pub end_gives : (inside : Bool) (text rest : List ℕ) → text ≡ 10 ∷ rest → GivesNext inside text LineEnd false rest
 end_gives inside text rest parts goes_on more = ap (λ (xs : List ℕ). items_left goes_on inside (xs ++ more)) parts ∙ left_end goes_on inside (rest ++ more)

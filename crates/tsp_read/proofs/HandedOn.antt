@@ -1,4 +1,4 @@
--- What `?` hands on.
+-- The errors that `?` returns.
 use Rattle.std.proofs.Common.{◌≡◌, ap, Result, Ok, Err}
 use Rattle.std.specs.Result.{IsErrAnd}
 

@@ -259,7 +259,7 @@ number_rows earlier line short = by_number (λ field low high. row_of earlier (L
     ≡ numbered_rows (has_line field earlier) line.value (whole_of (first_word line.value) low high))
     (rw short refl) (rw short refl) (rw short refl)
 
--- it stands where an earlier line has it
+-- it has come where an earlier line has it
 number_stands : (reading : Reading) (earlier : List Item) → Closed reading earlier
     → (field : Field) (low high : ℤ) → value_shape_of field ≡ Some (Number low high)
     → stands_in (fields_of reading.draft) field ≡ has_line field earlier
@@ -315,7 +315,7 @@ scale_taken old new line z gives is same_first same_part earlier h short = recor
   part = still_none old new (Line (Known ScaleKey) line ∷ earlier) refl same_part h.part;
 }
 
--- ---- DimensionKey: no section stands yet but the tours, which don't look at it
+-- ---- DimensionKey: no section has come yet but the tours, which don't look at it
 
 dimension_field : (earlier : List Item) (line : WordLine) (z : ℤ) → whole_of (first_word line.value) (pos 1) (pos most_nodes) ≡ Ok z
     → has_line NodeCoordPart earlier ≡ false → has_line DisplayDataPart earlier ≡ false → has_line DemandPart earlier ≡ false
@@ -336,7 +336,7 @@ dimension_first : (earlier : List Item) (line : WordLine) → has_line NodeCoord
     → first_incomplete earlier ≡ find (is_closed_incomplete (Line (Known DimensionKey) line ∷ earlier)) sections_in_order
 dimension_first earlier line c0 c1 c2 c3 c4 c5 c6 c7 c8 c9 c10 c11 = rw (c0, c1, c2, c3, c4, c5, c6, c7, c8, c9, c10, c11) refl
 
--- no section but the tours stands before DIMENSION
+-- no section but the tours comes before DIMENSION
 none_before : (f : Field) (earlier : List Item) → is_section_field f ≡ true → same_field TourPart f ≡ false → IsClean earlier → has_line DimensionKey earlier ≡ false
     → has_line f earlier ≡ false
 none_before f earlier section other clean none = by_case (has_line f earlier) refl

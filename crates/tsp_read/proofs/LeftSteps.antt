@@ -331,7 +331,7 @@ left_inside goes_on false b bytes filled more other =
     let first : lines_of (b ∷ bytes) ≡ (b ∷ f.head) ∷ f.others = split_no ends_line b bytes more ∙ ap (onto_first b) f.pieces in
     ap (items_left_by goes_on false) first ∙ by_inside goes_on b f.head f.others filled other ∙ ap (items_left_by goes_on true) (sym first)
 
--- ---- by what stands before the end of a line or a word, and from it on
+-- ---- by the part before the end of a line or a word, and the part from it on
 
 before_on : (test : ℕ → Bool) (b : ℕ) (bytes : List ℕ) → test b ≡ false → up_to_first test (b ∷ bytes) ≡ b ∷ up_to_first test bytes
 before_on test b bytes e =

@@ -1,4 +1,4 @@
--- A text that goes on after a piece: what is kept, and what of it is settled.
+-- A text that goes on after a piece: its kept part, and the settled part of it.
 use Rattle.std.proofs.Common.{◌≡◌, ℕ, ◌≤◌, Bool, true, false, List, [], ◌∷◌, ◌++◌, length, refl, sym, ap, subst, ◌∙◌, arith, append-nil, Option, None, Some, Ok}
 use Rattle.std.specs.Prelude.{reverse, IfSome}
 use Rattle.tsp_format.specs.Bytes.{is_blank}

@@ -24,7 +24,7 @@ use Rattle.tsp_read.specs.Timely.{IsTimely, HasCause, is_going, IsFedFrom}
 use Rattle.tsp_text.proofs.SettledFaults.{fault_kept, settled_kept, ended_stays}
 use Rattle.tsp_read.proofs.FeedSteps.{taken_at, going_on}
 
--- what was gathered: these bytes were given and fed, without a settled fault
+-- the gathered bytes: these were read and fed, without a settled fault
 pub record Gathered (known left : Option (List ℕ)) (feed : Feed) (taken : ℕ) : Type 0 where
   pub given : List ℕ
   pub gave : Consumes known left given
@@ -35,7 +35,7 @@ pub record Gathered (known left : Option (List ℕ)) (feed : Feed) (taken : ℕ)
 
 -- ---- the bytes before the last piece
 
--- neither a fault nor an end line of the front of bytes that have none
+-- neither a fault nor an end line of a prefix of bytes that have none
 front_clean : (front more : List ℕ) → settled_fault (front ++ more) ≡ None → settled_fault front ≡ None
 front_clean front more none = by_fault (settled_fault front) refl
   where

@@ -125,7 +125,7 @@ refuses old field shape line fault is may earlier h short = rows_are old field s
 
 -- ---- the section that is open is closed
 
--- where none is open, what is closed is what stands
+-- where none is open, the closed ones are all
 pub none_open : (reading : Reading) (earlier : List Item) → reading.opened ≡ None → Holds reading earlier → Closed reading earlier
 none_open reading earlier none h =
     let o : open_section earlier ≡ None = rw none at h.part in

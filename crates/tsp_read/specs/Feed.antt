@@ -1,4 +1,4 @@
--- A file that is read in pieces: which bytes have come so far, and what is answered for them.
+-- A file that is read in pieces: which bytes have come so far, and the answers for them.
 use Rattle.std.specs.Prelude.{◌≡◌, ℕ, ◌≤◌, true, false, not, ◌&&◌, List, length, Option, None, Some, is_some, Result, Ok, Err}
 use Rattle.tsp_format.specs.Limits.{most_file_bytes}
 use Rattle.tsp_text.specs.declared.fault.ReadFault.{ReadFault}
@@ -25,7 +25,7 @@ pub record IsEnded (reading : Reading) (bytes : List ℕ) : Type 0 where
   pub holds : Holds reading (settled_part bytes)
   pub ended : has_end_line (settled_part bytes) ≡ true
 
--- the settled fault of these bytes is that one; want of memory is no fault of theirs
+-- the settled fault of these bytes is that one; out of memory is no fault of theirs
 abbrev pub HasSettled : ReadFault → List ℕ → Type 0
 HasSettled (faults.Line line word found) bytes = settled_fault bytes ≡ Some (faults.Line line word found)
 HasSettled (faults.End found) bytes = ⊥
@@ -42,7 +42,7 @@ HasTakenBy (Refused found) feed bytes = HasSettled found bytes
 abbrev pub HasTaken : Feed → List ℕ → Type 0
 HasTaken feed bytes = HasTakenBy feed.stage feed bytes
 
--- what was refused
+-- the refusal
 abbrev pub refused_by : Stage → Option ReadFault
 refused_by Going = None
 refused_by Ended = None
@@ -51,8 +51,8 @@ refused_by (Refused found) = Some found
 abbrev pub refusal : Feed → Option ReadFault
 refusal feed = refused_by feed.stage
 
--- With these the bytes so far: nothing of them that is settled has a fault, or they have this settled fault. Want of memory
--- is no answer for blanks and line ends alone.
+-- With these the bytes so far: no settled part of them has a fault, or they have this settled fault. Out of memory is no answer
+-- for blanks and line ends alone.
 abbrev pub Feeds : List ℕ → Feed → Result (Unit {0}) ReadFault → Type 0
 Feeds bytes new (Ok done) = HasTaken new bytes × (settled_fault bytes ≡ None)
 Feeds bytes new (Err (faults.Line line word found)) = HasTaken new bytes × HasSettled (faults.Line line word found) bytes

@@ -10,7 +10,7 @@ use Rattle.tsp_text.specs.Text.{fault, Spells}
 use Rattle.tsp_read.specs.declared.state.finish.FinishFault.TheVariants as finishes
 use Rattle.tsp_read.specs.states.Finishes.{Finishes}
 
--- The text spells this file, or this is its first fault. Want of memory says nothing.
+-- The text parses to this file, or this is its first fault. Out of memory says nothing.
 abbrev pub Reads : List ℕ → Result Fields ReadFault → Type 0
 Reads bytes (Ok file) = Spells bytes file
 Reads bytes (Err (faults.Line line word found)) = fault bytes ≡ Some (faults.Line line word found)
@@ -34,7 +34,7 @@ Completes items (Err faults.TooLong) = ⊥
 abbrev pub most_taken : ℕ
 most_taken = most_file_bytes + 4096
 
--- what the reader gave spells the file, and so does its whole rest, where that is known
+-- the bytes of the reader parse to the file, and so does its whole rest, where that is known
 abbrev pub IsFile : Turn → Fields → Type 0
 IsFile turn file = GaveAll turn (λ bytes. Spells bytes file)
 

@@ -23,7 +23,7 @@ pub record IsTimely (bytes : List ℕ) : Type 0 where
   pub no_fault : settled_fault (before_last bytes) ≡ None
   pub no_end : has_end_line (settled_part (before_last bytes)) ≡ false
 
--- want of memory is no answer for blanks and line ends alone
+-- out of memory is no answer for blanks and line ends alone
 abbrev pub HasCause : ReadFault → List ℕ → Type 0
 HasCause found bytes = found ≡ faults.OutOfMemory → is_bare bytes ≡ false
 
@@ -46,8 +46,7 @@ FeedsAll turn feed (Ok done) = TakesAtMost most_taken turn (λ whole. IsFedFrom 
 FeedsAll turn feed (Err found) =
     TakesAtMost most_taken turn (λ whole. StopsAt found whole × IsTimely whole.given × HasCause found whole.given)
 
--- What is answered for a reader, of which no more was taken than was needed; memory is wanted only for more than blanks and line
--- ends.
+-- The answer for a reader, of which no more was taken than was needed; memory is needed only for more than blanks and line ends.
 abbrev pub ReadsInTime : (List ℕ → Turn) → Result Fields ReadFault → Type 0
 ReadsInTime turn (Ok file) = TakesAtMost most_taken turn (λ whole. IsFile whole file × IsTimely whole.given)
 ReadsInTime turn (Err found) =

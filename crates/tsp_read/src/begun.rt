@@ -49,7 +49,7 @@ impl Begun {
             return;
         };
         self.token = Token::begun_by(*first, inside);
-        // There is room: what is longer has been taken.
+        // It fits: a longer one has been taken.
         let _ = self.bytes.try_extend_from_slice(filled);
     }
 
@@ -75,7 +75,7 @@ impl Begun {
         if self.bytes.len() + front.len() > self.token.most_bytes() {
             return Err(intake.too_long(alloc, self.token));
         }
-        // There is room: nothing may be longer than a line.
+        // It fits: nothing may be longer than a line.
         let _ = self.bytes.try_extend_from_slice(front);
         if rest.is_empty() {
             return Ok(Some(rest));

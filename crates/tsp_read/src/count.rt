@@ -1,4 +1,4 @@
-//! What is counted of a text.
+//! The counts of a text.
 
 /// What an `Intake` counts, in a run of words.
 #[derive(Clone, Copy)]

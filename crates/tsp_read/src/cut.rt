@@ -9,7 +9,7 @@ ghost use Rattle.tsp_read.specs.states.Onward.{is_over_long, GivesNext};
 use crate::token::Token;
 pub(crate) use tsp_section::without_start;
 
-/// What stands next in a text.
+/// The next part of a text.
 #[derive(Clone, Copy)]
 pub(crate) enum Next<'a> {
     /// A word line, from its first byte that isn't blank to its end.
@@ -45,7 +45,7 @@ impl<'a> Next<'a> {
     }
 }
 
-/// What stands next in what is left of a text, and what is left then; nothing at its end.
+/// The next part of the rest of a text, and the rest after it; nothing at its end.
 ///
 /// `inside`: an item of the first line was taken already. `goes_on`: more bytes follow than are
 /// given, so that only what those can't change is taken. That holds whatever follows, of a line or

@@ -47,7 +47,7 @@ fn read_on(
     }
 }
 
-/// A text up to at most so many bytes, and what follows.
+/// A text up to at most this many bytes, and the rest.
 fn split_at_most(text: &[u8], most: usize) -> (&[u8], &[u8])
     ensures parts { text.now ≡ result.0.now ++ result.1.now }
     ensures front { length result.0.now ≤ most }
@@ -72,7 +72,7 @@ fn stage_after(all: bool, read: Result<bool, ReadFault>) -> Stage
     }
 }
 
-/// What is answered at a stage.
+/// The answer at a stage.
 fn outcome(stage: Stage) -> Result<(), ReadFault>
     ensures { result ≡ outcome_of stage }
 {
@@ -104,7 +104,7 @@ pub struct Feed {
     ghost room: { HasRoom stage intake begun count },
 }
 
-/// As a derive would do it; what lets go of a feed calls this.
+/// As a derive would do it. A function that drops a feed calls this.
 impl Drop for Feed {
     fn drop(self) {
         let Feed {
@@ -165,7 +165,7 @@ impl Feed {
     ///
     /// # Errors
     ///
-    /// After a refusal every later call answers the same.
+    /// After a refusal every later call returns the same, and no bytes are those so far.
     ///
     /// - `Line`: a line or a word that has come whole, or is too long already, has the first fault.
     /// - `TooLong`: there are more bytes than a file may have, and those that it may have decide
@@ -219,11 +219,11 @@ impl Feed {
         }
     }
 
-    /// The file that the bytes so far spell, or why they don't.
+    /// The file that the bytes so far parse to, or why they don't.
     ///
     /// # Errors
     ///
-    /// A refusal of `feed` is answered again. Else:
+    /// A refusal of `feed` is returned again. Else:
     ///
     /// - `Line`: the last line, or its last word, has the first fault.
     /// - `End`: no line has a fault, and the lines together are no file.

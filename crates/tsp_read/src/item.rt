@@ -54,7 +54,7 @@ fn take_line(reading: &mut Reading, alloc: Global, text: &[u8]) -> Result<bool, 
     Ok(is_end(line.key))
 }
 
-/// The number of the word that an item is, after so many words of its line; 0 where it is none.
+/// The number of the word that an item is, after this many words of its line; 0 where it is none.
 pub(crate) fn word_of(words: u32, next: &Next<'_>) -> u32
     requires { words ≤ most_file_bytes }
     ensures number { (earlier : List Item) → words ≡ words_before earlier

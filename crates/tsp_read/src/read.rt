@@ -23,7 +23,7 @@ use tsp_text::ReadFault;
 /// - `TooLong`: there are more bytes than a file may have, and those that it may have decide
 ///   nothing.
 /// - `End`: no line has a fault, and the lines together are no file.
-/// - `OutOfMemory`: memory was refused. It may stand in the place of any answer, but for a text of
+/// - `OutOfMemory`: memory was refused. It may come in place of any answer, but for a text of
 ///   blanks and bytes 10 alone.
 pub fn read_bytes(alloc: Global, bytes: &[u8]) -> Result<File, ReadFault>
     ensures answer { Reads bytes.now result }
@@ -42,16 +42,16 @@ pub fn read_bytes(alloc: Global, bytes: &[u8]) -> Result<File, ReadFault>
 /// Reads a file from a reader, in pieces of at most 4,096 bytes: up to an end, to an end line, to a
 /// fault, or past the most bytes that a file may have.
 ///
-/// The answer is that of `read_bytes` for the bytes that the reader handed out, and for all that it
+/// The answer is that of `read_bytes` for the bytes that the reader delivered, and for all that it
 /// has. At most 4,096 bytes are taken past 1,073,741,824, or past an end line or a fault that is
-/// settled. A reader that was handed in as failed is not read.
+/// settled. A reader that had failed before is not read.
 ///
 /// # Errors
 ///
 /// - `Line`, `End` and `TooLong`: as `read_bytes` says.
 /// - `Device`: a read failed, or had failed before.
-/// - `OutOfMemory`: memory was refused. It may stand in the place of any answer but `Device`, where
-///   more than blanks and bytes 10 was handed out.
+/// - `OutOfMemory`: memory was refused. It may come in place of any answer but `Device`, where the
+///   reader delivered more than blanks and bytes 10.
 pub fn read_from<R: Read>(alloc: Global, reader: &mut Watched<R>) -> Result<File, ReadFault>
     ensures answer { ReadsFrom (turn_of R.remaining reader.old reader.new) result }
     ensures in_time { ReadsInTime (turn_of R.remaining reader.old reader.new) result }

@@ -1,11 +1,11 @@
 //! A run of numbers: the words of a matrix, of tours or of points, each looked at once.
 //!
-//! Most words there are plain numbers, and most of a matrix have a few digits. Such a word is read here
-//! where its end is found, so that it is not searched for first. Every other word, and whatever else
-//! stands in a text but the ends of these lines, is left to `Intake::take_next`.
+//! Most words there are plain numbers, and most of a matrix have a few digits. Such a word is read
+//! here where its end is found, so that it is not searched for first. Every other word, and every
+//! other part of a text but the ends of these lines, is left to `Intake::take_next`.
 //!
-//! Which list takes the words is found out once for a run. The loop over them is one for all lists, and
-//! has its counts in a place of their own.
+//! Which list takes the words is found out once for a run. The loop over them is one for all lists,
+//! and has its counts in a place of their own.
 
 ghost use Rattle.std.specs.Prelude.{◌≡◌, ◌+◌, ◌≤◌, length, IfSome, Ok};
 ghost use Rattle.std.specs.Option.{option_map};
@@ -27,7 +27,7 @@ use tsp_format::is_blank;
 use tsp_number::{front_decimal, front_few, front_whole};
 use tsp_section::{Gathered, Part, RunList, WeightList};
 
-// ---- a number at the front of a text
+// ---- a number at the beginning of a text
 
 /// What is left where a word has ended: without the blank that ended it, or from byte 10 on.
 /// Nothing where no word ends here.
@@ -43,8 +43,8 @@ fn past_end(rest: &[u8]) -> Option<&[u8]>
     }
 }
 
-/// The whole number of a few digits that a text begins with, and what follows its word and the blank
-/// that ends it; or nothing where no such word stands there whose end has come.
+/// The whole number of a few digits that a text begins with, and what follows its word and the
+/// blank that ends it; or nothing where the text begins with no such word whose end has come.
 #[inline(always)]
 pub(crate) fn few_number(text: &[u8]) -> Option<(i64, &[u8])>
     ensures { IfSome result (λ found. IsFrontWord text.now (IsWhole (front_word text.now) found.0) found.1.now) }
@@ -59,8 +59,8 @@ pub(crate) fn few_number(text: &[u8]) -> Option<(i64, &[u8])>
     }
 }
 
-/// The whole number at the front of a text, and what follows its word and the blank that ends it; or
-/// nothing where no word of at most 18 digits stands there whose end has come.
+/// The whole number at the beginning of a text, and the rest after its word and the blank that ends
+/// it. Nothing where the text begins with no word of at most 18 digits whose end has come.
 #[inline(never)]
 pub(crate) fn front_number(text: &[u8]) -> Option<(i64, &[u8])>
     ensures { IfSome result (λ found. IsFrontWord text.now (IsWhole (front_word text.now) found.0) found.1.now) }
@@ -76,9 +76,9 @@ pub(crate) fn front_number(text: &[u8]) -> Option<(i64, &[u8])>
     }
 }
 
-/// The coordinate at the front of a text, and what follows its word and the blank that ends it; or
-/// nothing where no word of at most nine digits, a point and nine more stands there whose end has
-/// come.
+/// The coordinate at the beginning of a text, and the rest after its word and the blank that ends
+/// it. Nothing where the text begins with no word of at most nine digits, a point and nine more
+/// whose end has come.
 #[inline(always)]
 pub(crate) fn front_coordinate(text: &[u8]) -> Option<(Decimal, &[u8])>
     ensures { IfSome result (λ found. IsFrontWord text.now (decimal_of (front_word text.now) ≡ Ok found.0) found.1.now) }
@@ -96,8 +96,8 @@ pub(crate) fn front_coordinate(text: &[u8]) -> Option<(Decimal, &[u8])>
 
 // ---- one item, taken
 
-/// Takes the whole number that was found at the front of a text, if one was, where the list takes it,
-/// and gives what follows it.
+/// Takes the whole number that was found at the beginning of a text, if one was, where the list
+/// takes it, and returns the rest.
 #[inline(always)]
 fn take_number<'a, L: RunList>(
     list: &mut L,
@@ -195,8 +195,8 @@ fn take_one<'a, L: RunList>(list: &mut L, count: &mut Count, text: &'a [u8]) -> 
 
 // ---- a run
 
-/// Takes the words and line ends at the front of a text, as many as the list takes. What they count to
-/// and what is left of the text is the answer.
+/// Takes the words and line ends at the beginning of a text, as many as the list takes. The result
+/// is their count and the rest of the text.
 #[inline(always)]
 fn take_all<'a, L: RunList>(list: &mut L, count: Count, text: &'a [u8]) -> (Count, &'a [u8])
     requires line { count.line + length text.now ≤ most_file_bytes + 1 }
@@ -211,7 +211,7 @@ fn take_all<'a, L: RunList>(list: &mut L, count: Count, text: &'a [u8]) -> (Coun
     (counted, rest)
 }
 
-/// The same over the weights of a matrix, which come and go by value.
+/// The same over the weights of a matrix, which are passed by value.
 // (so that all that changes in the loop can stay in registers)
 #[inline(never)]
 fn take_gathered<'a>(
@@ -229,7 +229,7 @@ fn take_gathered<'a>(
     (own, counted, rest)
 }
 
-/// The same, over a list that is asked to make room first: a word and its end are two bytes at least.
+/// The same, over a list that reserves memory first: a word and its end are two bytes at least.
 fn take_weights<'a>(
     list: &mut WeightList,
     alloc: Global,
@@ -288,8 +288,8 @@ impl Intake {
     ghost use Rattle.std.specs.Prelude.{ℕ, List};
     ghost use Rattle.tsp_read.specs.states.Intake.{IsReadTo};
 
-    /// Takes what can be taken so at the front of a text, where the open section is of weights,
-    /// tours or points, and gives what is left of it.
+    /// Takes the words that can be taken so at the beginning of a text, where the open section is
+    /// of weights, tours or points, and returns the rest.
     pub(crate) fn take_run<'a>(&mut self, alloc: Global, text: &'a [u8]) -> &'a [u8]
         requires line { self.old.line + length text.now ≤ most_file_bytes + 1 }
         requires words { self.old.words + length text.now ≤ most_file_bytes }

@@ -1,5 +1,11 @@
-//! What is said of a solution of an instance: the verdict, and the reasons for a no; and what a
-//! certificate of a bound holds.
+//! The verdict on a solution, the reasons to reject one, and the kinds of certificates: types only.
+//!
+//! No function decides anything here, so that crates which print or explain a verdict don't depend on
+//! the one that finds it, tsp_verdict.
+//!
+//! ```text
+//! let rejected = Verdict::No(Reason::TourCount);
+//! ```
 #![tactic(auto)]
 
 mod certificate;

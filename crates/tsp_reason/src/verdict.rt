@@ -4,9 +4,9 @@
 /// count from 1: places through all tours of the solution, one after the other, branches and leaves
 /// through their section.
 ///
-/// The reasons of a tour are judged in the order in which they stand here, up to `FixedEdgeUnused`,
-/// and then those of a certificate by potentials or of one by branching; those of routes in the
-/// order `NotASolution`, `TooFewNodes`, `Dimension`, `DepotCount`, `DepotDemand`,
+/// The reasons of a tour are judged in the order in which they are listed here, up to
+/// `FixedEdgeUnused`, and then those of a certificate by potentials or of one by branching; those
+/// of routes in the order `NotASolution`, `TooFewNodes`, `Dimension`, `DepotCount`, `DepotDemand`,
 /// `FixedEdgesInRoutes`, `DepotInRoute`, `NodeOutOfRange`, `RepeatedNode`, `Unserved`, `Overload`.
 #[derive(Clone, Copy, Debug, PartialEq, Eq)]
 pub enum Reason {
@@ -25,7 +25,7 @@ pub enum Reason {
     TourLength,
     /// The node at this place is the first one larger than the number of nodes.
     NodeOutOfRange { place: u32 },
-    /// The node at this place is the first one that stands at an earlier place.
+    /// The node at this place is the first one that is at an earlier place too.
     RepeatedNode { place: u32 },
     /// This fixed pair is the first one that the tour does not use: as neighbours in either
     /// direction, and under TYPE ATSP from its first to its second node alone.
@@ -73,22 +73,23 @@ pub enum Reason {
     BadLeaf { index: u32 },
 }
 
-/// The verdict on a solution: a yes with its length, or a no with the first reason against it.
+/// The verdict on a solution: accepted with its length, or rejected with the first reason that
+/// applies.
 #[derive(Clone, Copy, Debug, PartialEq, Eq)]
 pub enum Verdict {
-    /// A yes: the solution is a tour of this length. Where a certificate was judged too, no tour of
-    /// the instance is shorter than the bound.
+    /// Accepted: the solution is a tour of this length. Where a certificate was judged too, no tour
+    /// of the instance is shorter than the bound.
     Tour {
         length: i64,
         bound: Option<i128>,
     },
-    /// A yes: the solution is a plan of so many routes, of this length in all. No plan of the
+    /// Accepted: the solution is a plan of this many routes, of this length in all. No plan of the
     /// instance has fewer than `least` routes.
     Routes {
         length: i64,
         routes: u32,
         least: u64,
     },
-    /// A no, with the first reason that stands against the solution.
+    /// Rejected, with the first reason that applies to the solution.
     No(Reason),
 }

@@ -1,4 +1,4 @@
--- What is shown of an instance after its head.
+-- The lines of `show` for an instance after its head.
 use Rattle.std.proofs.Common.{◌≡◌, ℕ, List, ◌++◌, Option, Some, None, refl, sym, ap, subst, ◌∙◌}
 use Rattle.std.specs.Prelude.{IsTrue}
 use Rattle.std.proofs.lemmas.Bool.{false≢true}

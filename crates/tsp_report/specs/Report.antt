@@ -1,4 +1,4 @@
--- The report of a check, line by line. Each line ends with byte 10, and one blank stands between words.
+-- The report of a check, line by line. Each line ends with byte 10, and one blank is between words.
 use Rattle.std.specs.Prelude.{ℕ, List, ◌++◌, map, codes, decimal, cond, ℤ, pos, ◌-ℤ◌, Option, None, Some, unwrap_or, [], IfSome, unsigned_abs, ◌≤◌, ◌^◌}
 use Rattle.std.specs.List.{concat}
 use Rattle.std.specs.Option.{option_map_or}

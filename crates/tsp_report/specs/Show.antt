@@ -1,4 +1,4 @@
--- What is shown of a file, line by line. Each line ends with byte 10, and one blank stands between words.
+-- The lines of `show` for a file. Each line ends with byte 10, and one blank is between words.
 use Rattle.std.specs.Prelude.{ℕ, List, [], ◌∷◌, ◌++◌, length, codes, decimal, cond, ℤ, pos, Option, None, Some, unwrap_or}
 use Rattle.std.specs.List.{flat_map, enumerate_from}
 use Rattle.std.specs.Option.{option_map_or}
@@ -24,7 +24,7 @@ name_line None = []
 name_line (Some []) = []
 name_line (Some (first ∷ rest)) = codes "name " ++ (first ∷ rest) ++ codes "\n"
 
--- the name, the TYPE, and the number of nodes where it stands
+-- the name, the TYPE, and the number of nodes where it is present
 abbrev pub head_lines : Fields → List ℕ
 head_lines f = name_line f.name ++ (type_line f.kind ++ option_map_or nodes_line f.dimension [])
 
@@ -89,6 +89,6 @@ lines_by_type (Some Potentials) f = scale_line f.scale
 lines_by_type (Some Branches) f = tree_lines f
 lines_by_type None f = []
 
--- what is shown of a file
+-- the lines of `show`
 abbrev pub shown : Fields → List ℕ
 shown f = head_lines f ++ lines_by_type f.kind f ++ not_judged f.others

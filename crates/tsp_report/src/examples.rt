@@ -1,5 +1,5 @@
-//! Lines of reports and of what is shown. No body is looked at here: a definition that is changed
-//! together with its code is refused by its examples. Digits stand as `decimal` writes them.
+//! Lines of reports and of `show`. No body is looked at here: a definition that is changed together
+//! with its code is refused by its examples. Digits are as `decimal` writes them.
 
 ghost use Rattle.std.specs.Prelude.{◌≡◌, ℕ, List, [], ◌∷◌, ◌++◌, None, Some, pos, negsuc, codes, decimal};
 ghost use Rattle.std.specs.Fmt.{signed_decimal};
@@ -61,7 +61,7 @@ pub fn examples_of_reasons()
     ensures leaf { reason_text (reasons.BadLeaf 1) ≡ codes "BadLeaf " ++ decimal 1 }
 {}
 
-/// Lines of what is shown of a file.
+/// Lines of `show`.
 pub fn examples_of_shown_lines()
     ensures name { name_line (Some (codes "x y")) ≡ codes "name x y\n" }
     ensures empty_name { name_line (Some []) ≡ [] }

@@ -1,4 +1,10 @@
-//! The texts that the program prints: the report of a check, and what is shown of a file.
+//! The texts that the program prints: the report of a check, and the lines of `show`.
+//!
+//! The contracts name every byte. It finds no verdict, and no call takes memory.
+//!
+//! ```text
+//! write_report(instance.file(), verdict, &mut out)?;
+//! ```
 #![tactic(auto)]
 
 mod examples;

@@ -16,11 +16,13 @@ use tsp_stream::{Piece, Watched, WriteFault, hand_over, put, put_number};
 /// Writes the report on a solution of an instance, line by line, by the verdict on it: the lines on
 /// the instance, those on the verdict, `yes` or `no`.
 ///
-/// The caller owes a bound of at most 2^126 in size, so that the gap to the length fits 128 bits; a
-/// verdict's is at most 2^100.
+/// At `Device` a prefix of the report was written, and nothing else. A writer that had failed
+/// before gets nothing. No memory is taken, and `OutOfMemory` is never returned.
 ///
-/// At `Device` a front of the report was written, and nothing else; a writer that was handed in as
-/// failed gets nothing. No memory is taken, and `OutOfMemory` is never answered.
+/// # Requires
+///
+/// A bound of at most 2^126 in size, so that the gap to the length fits 128 bits. A verdict's is at
+/// most 2^100.
 pub fn write_report<W: Write>(
     instance: &File,
     verdict: Verdict,

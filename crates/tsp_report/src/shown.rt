@@ -1,4 +1,4 @@
-//! The text of what is shown of a file, and its way to a writer.
+//! The text of `show`, and how it gets to a writer.
 
 ghost use Rattle.std.specs.Prelude.{◌≡◌, ◌++◌, [], map, false};
 ghost use Rattle.std.specs.List.{flat_map, enumerate_from};
@@ -19,11 +19,11 @@ use tsp_file::File;
 use tsp_format::{Kind, TreeStep, WeightFormat, WeightKind, Word};
 use tsp_stream::{Piece, Watched, WriteFault, hand_over, put};
 
-/// Writes what is shown of a file, line by line: its NAME, its TYPE, the number of its nodes, and
-/// what else stands in it.
+/// Writes the lines of `show`: a file's NAME, its TYPE, the number of its nodes, and the rest of
+/// its contents.
 ///
-/// At `Device` a front of the lines was written, and nothing else; a writer that was handed in as
-/// failed gets nothing. No memory is taken, and `OutOfMemory` is never answered.
+/// At `Device` a prefix of the lines was written, and nothing else. A writer that had failed before
+/// gets nothing. No memory is taken, and `OutOfMemory` is never returned.
 pub fn write_shown<W: Write>(file: File, out: &mut Watched<W>) -> Result<(), WriteFault>
     ensures { Writes (sink_of W.contents out.old out.new) (shown file) result }
 {
@@ -86,7 +86,7 @@ fn put_name<W: Write>(piece: &mut Piece, out: &mut Watched<W>, name: Option<&[u8
     put(piece, out, b"\n");
 }
 
-/// Adds the line of DIMENSION, where it stands.
+/// Adds the line of DIMENSION, where it is present.
 fn put_dimension<W: Write>(piece: &mut Piece, out: &mut Watched<W>, dimension: Option<u32>)
     ensures { Puts W.contents out.old piece.old out.new piece.new (option_map_or nodes_line dimension []) }
 {
@@ -136,7 +136,7 @@ fn put_layout<W: Write>(
     put_word(piece, out, format);
 }
 
-/// Adds the word of a value, where it stands.
+/// Adds the word of a value, where it is present.
 fn put_word<W: Write, V: Word>(piece: &mut Piece, out: &mut Watched<W>, value: Option<V>)
     ensures { Puts W.contents out.old piece.old out.new piece.new (option_map_or V.text value []) }
 {

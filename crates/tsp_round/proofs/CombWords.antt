@@ -44,7 +44,7 @@ CombRuns n start words last = Runs n (with_comb_word n) place_in_combs start wor
 onward : (n : ℕ) (start middle last : CombsSoFar) (xs ys : List (List ℕ)) → CombRuns n start xs middle → CombRuns n middle ys last → CombRuns n start (xs ++ ys) last
 onward n start middle last xs ys first second = runs_then n (with_comb_word n) place_in_combs start middle last xs ys first second
 
--- there is room for a node of a comb that there is room for
+-- a comb within the limit has its nodes within theirs
 room_there : (begun : Bool) (combs count : ℕ) → nat_le most_comb_nodes count ≡ false → nat_le most_combs combs ≡ false → is_past_combs begun combs count ≡ false
 room_there begun combs count nodes few = rw (nodes, few) (and_right (not begun) false refl)
 
@@ -172,7 +172,7 @@ each_comb_runs laws n few before (comb ∷ combs) count room begins all =
     (comb_runs laws n few before comb count (omega (arith, sum)) (has_room most_combs (length before) (length combs) begins) both.0)
     (each_comb_runs laws n few (before ++ comb ∷ []) combs (count + sum_by length comb) (omega (arith, sum)) (omega (arith, length-append before (comb ∷ []))) both.1))
 
--- what stands after all words
+-- the contents after all words
 abbrev all_of : List (List (List ℕ)) → CombsSoFar
 all_of combs = with_end (so_far combs [] [] (0 + sum_by (sum_by length) combs))
 

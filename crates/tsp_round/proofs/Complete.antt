@@ -25,7 +25,7 @@ use Rattle.tsp_round.proofs.Space.{space_written}
 use Rattle.tsp_round.proofs.SectionFields.{IsSection, is_section, are_right}
 use Rattle.tsp_round.proofs.Stages.{Stage}
 
--- a section that stands has all its words
+-- a section that is present has all its words
 part_done : NumberLaws → (f : Fields) (items : List Item) → Stage f [] items → fits f DimensionKey ≡ true → (field : Field) (shape : Shape) (o : Option (Entries shape)) → IsSection f field shape o
     → is_incomplete items field ≡ false
 part_done laws f items stage one field shape None is =

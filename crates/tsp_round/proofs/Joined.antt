@@ -1,4 +1,4 @@
--- The whole canonical text of a valid file: its items are those of its fields and the end line, and they spell the file.
+-- The whole canonical text of a valid file: its items are those of its fields and the end line, and they parse to the file.
 use Rattle.std.proofs.Common.{◌≡◌, ℕ, ◌<◌, false, cond, List, [], ◌∷◌, ◌++◌, length, reverse, take, refl, sym, ap, ◌∙◌, arith, append-nil, Option, Some, None}
 use Rattle.std.specs.Prelude.{◌&&◌, not, codes}
 use Rattle.std.specs.Option.{option_map, option_or}

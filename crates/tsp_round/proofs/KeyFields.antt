@@ -53,7 +53,7 @@ plain_whole (b ∷ bytes) plain =
       ends_filled = ap (λ n. is_blank (slice_index (b ∷ bytes) n)) last ∙ filled_byte (slice_index (b ∷ bytes) (length bytes)) (last_passes is_plain b bytes plain);
     }
 
--- what is known of a keyword's line whose value is a number of its range
+-- the facts of a keyword's line whose value is a number of its range
 record NumberLine (keyword : List ℕ) (low high z : ℤ) : Type 0 where
   whole : IsWhole (signed_decimal z)
   short : nat_lt most_line_bytes (length (value_text keyword (signed_decimal z))) ≡ false

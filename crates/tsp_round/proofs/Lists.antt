@@ -30,7 +30,7 @@ pub no_rows : (o : Option NumberFault) (r s u a : Bool) → o ≡ None → r ≡
     → first_row (option_map (λ fault. row.Number fault) o ∷ when r row.RepeatedNode ∷ when s row.SelfEdge ∷ when u row.Surplus ∷ when a row.AfterEnd ∷ []) ≡ None
 no_rows o r s u a e f g h i = rw (e, f, g, h, i) refl
 
--- a list that has room for one more
+-- a list that is below its limit by one
 pub has_room : (most count more : ℕ) → count + suc more ≤ most → nat_le most count ≡ false
 has_room most count more room = lt-leb most count (omega arith)
 
@@ -114,7 +114,7 @@ are_pair n pair fits =
 pub still_open : NumberLaws → (n k : ℕ) (firsts : List (List ℕ)) → n < 2 ^ 32 → is_node n k ≡ true → list_any (is_end n) firsts ≡ false → list_any (is_end n) (firsts ++ decimal k ∷ []) ≡ false
 still_open laws n k firsts few is unended = any_push (is_end n) firsts (decimal k) unended ∙ node_goes_on laws n k few is
 
--- where the next word of pairs stands, before the -1
+-- the place of the next word of pairs, before the -1
 pair_place : (n : ℕ) (words begun : List (List ℕ)) → list_any (is_end n) (firsts_in words) ≡ false → begun_pair words ≡ begun → place_of_fixed n words ≡ place_in_pair n (length (pairs_in words)) begun
 pair_place n words begun unended whole = rw (unended, whole) refl
 

@@ -1,4 +1,4 @@
--- A number that is written is read back: words of the canonical text are plain, and each stands for its number.
+-- A number that is written is read back: words of the canonical text are plain, and each means its number.
 use Rattle.std.proofs.Common.{◌≡◌, ℕ, suc, zero, ◌+◌, ◌/◌, ◌%◌, ◌^◌, ◌<◌, ◌≤◌, Bool, true, false, cond, List, [], ◌∷◌, ◌++◌, length, refl, sym, ap, ◌∙◌, arith, append-nil, inl, inr, Result, Ok, Err}
 use Rattle.std.specs.Prelude.{ℤ, pos, negsuc, neg_ℤ, ◌*ℤ◌, ◌≤ℤ◌, ◌==◌, nat_le, int_le, unsigned_abs, codes}
 use Rattle.std.specs.List.{list_all}
@@ -25,7 +25,7 @@ use Rattle.tsp_text.specs.Lines.{is_filled}
 use Rattle.tsp_text.specs.Numbers.{node, node_or_end, is_end, not_zero, reads_as}
 use Rattle.tsp_round.proofs.Text.{is_plain, is_plain_word}
 
--- what always holds of number words and of spellings
+-- the laws of number words and of their texts
 pub record WordLaws : Type 0 where
   pub one_whole : (word : List ℕ) (low high : ℤ) (r s : Result ℤ NumberFault) → ReadsWhole word low high r → ReadsWhole word low high s → r ≡ s
   pub some_whole : (word : List ℕ) (low high : ℤ) → ReadsWhole word low high (whole_of word low high)

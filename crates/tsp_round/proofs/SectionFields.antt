@@ -76,7 +76,7 @@ is_plain = by_section IsPlain
     (refl, refl, refl, refl, refl, refl) (refl, refl, refl, refl, refl, refl) (refl, refl, refl, refl, refl, refl) (refl, refl, refl, refl, refl, refl)
     (refl, refl, refl, refl, refl, refl)
 
--- what is known of a section with these entries, or without any
+-- the facts of a section with these entries, or without any
 pub record IsSection (f : Fields) (field : Field) (shape : Shape) (entries : Option (Entries shape)) : Type 0 where
   pub shape_is : shape_of (spatial f) field ≡ Some shape
   pub part : is_section_field field ≡ true
@@ -105,7 +105,7 @@ is_section f valid field shape e =
 
 -- ---- the number of nodes
 
--- the entries are those of a file with so many nodes as the items say
+-- the entries are those of a file with as many nodes as the items say
 pub record AreRight (shape : Shape) (xs : Entries shape) (items : List Item) : Type 0 where
   pub valid : are_valid shape (dimension_in items) xs ≡ true
   pub few : needs_nodes shape ≡ true → dimension_in items ≤ most_nodes

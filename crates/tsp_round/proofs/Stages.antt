@@ -21,9 +21,9 @@ use Rattle.tsp_round.proofs.Text.{Writes, nothing_written, both_written}
 use Rattle.tsp_round.proofs.Onto.{onto, onto-append}
 use Rattle.tsp_round.proofs.Shapes.{entries_in, words_for}
 
--- ---- what is written of a field
+-- ---- the text of a field
 
--- the empty value of a line that stands
+-- the empty value of a line that is present
 abbrev pub empty_line : Bool → Option (List ℕ)
 empty_line there = cond there (Some []) None
 
@@ -64,7 +64,7 @@ pub record Stage (f : Fields) (left : List Field) (earlier : List Item) : Type 0
   pub comments : values_at CommentKey earlier ≡ cond (is_left CommentKey left) [] f.comments
   pub others : others_in earlier ≡ cond (is_left OtherKey left) [] f.others
 
--- what is known before the text of a field
+-- the facts before the text of a field
 pub record Ready (f : Fields) (field : Field) (earlier : List Item) : Type 0 where
   pub clean : IsClean earlier
   pub unseen : may_repeat field ≡ false → value_at field earlier ≡ None
@@ -111,7 +111,7 @@ next_stage f field left earlier later gone stage adds = record {
 abbrev keys_left : List Field → Bool
 keys_left left = is_left DimensionKey left || is_left NodeCoordTypeKey left || is_left EdgeWeightTypeKey left
 
--- sections stand after those keywords, and the points of nodes after all keywords
+-- sections come after those keywords, and the points of nodes after all keywords
 abbrev is_in_place : Field → List Field → Bool
 is_in_place field left = not (is_section_field field && keys_left left) && (is_section_field field || is_left NodeCoordPart left)
 
@@ -131,7 +131,7 @@ points_late false points e s = e
 here : {X : Type 0} (g field : Field) (left : List Field) (blank whole : X) → same_field g field ≡ true → cond (is_left g (field ∷ left)) blank whole ≡ blank
 here g field left blank whole e = ap (λ b. cond (b || is_left g left) blank whole) e
 
--- what was written of a keyword that isn't left
+-- the text of a keyword that isn't left
 came : (f : Fields) (key : Field) (left : List Field) (earlier : List Item) → may_repeat key ≡ false → is_left key left ≡ false → Stage f left earlier
     → value_at key earlier ≡ value_of f key
 came f key left earlier once late stage = stage.values key once ∙ ap (λ b. cond b None (value_of f key)) late

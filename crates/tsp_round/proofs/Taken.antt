@@ -14,7 +14,7 @@ taken-append n place before [] ys first second = subst (λ (ws : List (List ℕ)
 taken-append n place before (x ∷ xs) ys first second =
     (first.0, taken-append n place (before ++ x ∷ []) xs ys first.1 (subst (λ (ws : List (List ℕ)). AllTaken n place ws ys) (sym (append_assoc before (x ∷ []) xs)) second))
 
--- ---- where what stands after some words is a fold
+-- ---- where the contents after some words are a fold
 
 -- the same from a state on
 abbrev pub AreTaken : {S : Type 0} → ℕ → (S → List ℕ → S) → (S → Place) → S → List (List ℕ) → Type 0

@@ -234,7 +234,7 @@ each_step_runs laws n few before (Leaf leaf ∷ steps) (suc to_come) branches ch
     (leaf_runs laws n few before leaf (suc to_come) branches changes (not_zero to_come) (omega arith) both.0))
     (each_step_runs laws n few (before ++ Leaf leaf ∷ []) steps to_come branches (changes + length leaf) room (omega arith) both.1 whole))
 
--- what stands after all words
+-- the contents after all words
 abbrev all_of : List Step → TreeSoFar
 all_of steps = between steps 0 (0 + branch_count steps) (0 + change_count steps)
 

@@ -39,7 +39,7 @@ multiplier_taken laws n z inside =
     no_rows (result_err (whole_of (signed_decimal z) (pos 0) (pos most_multiplier))) false false false false
     (ap (λ (r : Result ℤ NumberFault). result_err r) (multiplier_back laws z inside)) refl refl refl refl
 
--- where the next word stands, before the -1
+-- the place of the next word, before the -1
 triple_place : (n : ℕ) (words begun : List (List ℕ)) → list_any (is_end n) (triple_firsts_in words) ≡ false → begun_triple words ≡ begun
     → place_of_triple n words ≡ place_in_triple n (length (threes_in words)) begun
 triple_place n words begun unended whole = rw (unended, whole) refl

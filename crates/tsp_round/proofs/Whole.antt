@@ -1,4 +1,4 @@
--- What the items of a whole text spell is its file.
+-- The items of a whole text parse to its file.
 use Rattle.std.proofs.Common.{◌≡◌, ℕ, Bool, true, false, cond, List, [], refl, ap, ◌∙◌, Option, Some, None}
 use Rattle.std.specs.Prelude.{ℤ, nat_abs, is_some}
 use Rattle.std.specs.Option.{option_map, option_and_then}
@@ -59,7 +59,7 @@ points_read : (f : Fields) (items : List Item) (in_space : Bool)
 points_read f items true read = read SpacePoints refl
 points_read f items false read = read Points refl
 
--- the items of a whole text spell its file
+-- the items of a whole text parse to its file
 pub spelled_is : NumberLaws → (f : Fields) (items : List Item) → ((g : Field) → fits f g ≡ true) → Stage f [] items → spelled items ≡ f
 spelled_is laws f items valid stage =
     let one = valid DimensionKey in

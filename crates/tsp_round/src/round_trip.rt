@@ -1,4 +1,4 @@
-//! What is written is read back, as contracts of functions that do nothing.
+//! The round trip, as contracts of functions that do nothing.
 
 ghost use Rattle.std.specs.Prelude.{◌≡◌, ◌≤◌, ◌<◌, ◌^◌, ℕ, ℤ, List, true, None, Result, Ok, unsigned_abs};
 ghost use Rattle.std.specs.Fmt.{signed_decimal};
@@ -29,10 +29,10 @@ pub fn written_numbers_are_read_back()
     spelling_laws();
 }
 
-/// The canonical text of every valid file spells that file, and no other.
+/// The canonical text of every valid file parses to that file, and to no other.
 ///
-/// So reading it answers that file, or that memory was refused; no two valid files have the same
-/// canonical text; and the file that any text spells is spelled by its canonical text too.
+/// So reading it returns that file, or out of memory. No two valid files have the same canonical
+/// text. The canonical text of the file that a text parses to parses to the same file.
 pub fn canonical_texts_are_read_back()
     ensures spelled { (f : Fields) → fault_of f ≡ None → Spells (text_of f) f }
     ensures alone { (f other : Fields) → fault_of f ≡ None → Spells (text_of f) other → other ≡ f }

@@ -37,7 +37,7 @@ IsLineOf (NoJob (job_faults.Refused refusal)) _ = ⊥
 abbrev pub ended : List ℕ → Option (List ℕ)
 ended text = Some (text ++ 10 ∷ [])
 
--- the bytes of what is told, where they are this program's own
+-- the bytes of the line, where they are this program's own
 abbrev pub line_text : Line → Option (List ℕ)
 line_text (lines.Refusal refusal) = None
 line_text lines.OutOfMemory = ended (codes "out of memory")

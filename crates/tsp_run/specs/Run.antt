@@ -63,7 +63,7 @@ Ends remaining opens on_terminal build words sink explained (NoTask fault) = (jo
 Ends remaining opens on_terminal build words sink explained (Ended answer) = (job : Job) × GivesJob (drop 1 words) (Ok job)
     × EndsWith remaining opens job sink (Ended answer) × (explained ≡ (job.explain || on_terminal))
 
--- the end where the words can't be had: out of memory, or a word is no text, which is told as refused words are
+-- the end where the words can't be had: out of memory, or a word is no text, which is reported as refused words are
 abbrev pub HasNoWords : ErrorKind → Bool → Ending → Type 0
 HasNoWords kind explained (NoJob fault) = (kind ≡ io_kinds.OutOfMemory → fault ≡ OutOfMemory)
     × (kind ≢ io_kinds.OutOfMemory → IsOtherRefusal fault) × (explained ≡ false)
@@ -71,13 +71,13 @@ HasNoWords kind explained (Version build) = ⊥
 HasNoWords kind explained (NoTask fault) = ⊥
 HasNoWords kind explained (Ended answer) = ⊥
 
--- the exit status is that of an ending with Q, whose line is told, and more where it is explained
+-- the exit status is that of an ending with Q, whose line is written, and more where it is explained
 abbrev pub RunsJob : (Ending → Type 0) → Bool → Option (List ℕ) → Option (List ℕ) → ℕ × Result (Unit {0}) Error → Type 0
 RunsJob Q explained old new answer = (ending : Ending) × Q ending × (answer.0 ≡ status_of_ending ending)
     × OnOk answer.1 (TellsAll explained ending old new)
 
--- the exit status is that of an ending with Q, and its line is told, where that could be written; more follows the line where
--- the ending is explained
+-- the exit status is that of an ending with Q, and its line is written, where that succeeded; more follows the line where the
+-- ending is explained
 abbrev pub Runs : (Bool → Ending → Type 0) → Option (List ℕ) → Option (List ℕ) → ℕ × Result (Unit {0}) Error → Type 0
 Runs Q old new answer = (explained : Bool) × (ending : Ending) × Q explained ending × (answer.0 ≡ status_of_ending ending)
     × OnOk answer.1 (TellsAll explained ending old new)

@@ -40,7 +40,7 @@ HasNumber None error other = error_kind other ≡ error_kind error
 abbrev pub IsSameError : Error → Error → Type 0
 IsSameError error other = HasNumber (raw_os_error error) error other
 
--- a call of a reader at a `&mut` to it, and one to the room for what it gives, which answers an R
+-- a call of a reader at a `&mut` to it, and one to the buffer for its bytes, which returns an R
 abbrev pub Asking : Type 0 → Type 0 → Type 0 → Type 0 → Type 1
 Asking Call T B R = Once Call (MutBor T × (MutBor B × Unit {0})) (R × (MutBor T × (MutBor B × Unit {0})))
 

@@ -13,7 +13,7 @@ use std::{fmt, io};
 use tsp_cli::{JobFault, TaskFault, VERSION};
 use tsp_judge::{RunFault, Verdict, status_of};
 
-/// How many bytes of a fault's text are told.
+/// How many bytes of a fault's text are written.
 const MOST_TEXT: usize = 256;
 
 /// How a run of the program ends.
@@ -126,7 +126,7 @@ fn tell_fault<W: Write>(fault: RunFault, errors: &mut W) -> io::Result<()>
     ensures { OnOk result (EndsLine (W.contents errors.old) (W.contents errors.new)) }
 {
     let mut text = ArrayString::<MOST_TEXT>::new();
-    // Each fault's text is far shorter than the room; a longer one would be cut at its end.
+    // Each fault's text is far shorter than the buffer; a longer one would be cut at its end.
     let _ = write!(text, "{fault}");
     let bytes = text.as_str().as_bytes();
     errors.write_all(first_line(bytes))?;

@@ -1,9 +1,13 @@
-//! The command line of the program `tsp`, from its words to the end of a run.
+//! A run of the program `tsp`, from its words to its exit status.
 //!
-//! The words are a task on files (`tsp_cli`); each file is opened, or is missing (`source`); the
-//! task is done (`engines`); and how that ended is told on standard error and by the exit status
-//! (`ending`). Where the words ask for it, more is told after that (`explained`). A person at a terminal
-//! that is read without a word is told so (`waiting`).
+//! The words are a task on files (`tsp_cli`). Each file is opened, or is missing (`source`). The task
+//! is done (`engines`), and its end is reported on standard error and by the exit status (`ending`).
+//! Where the words ask for it, an explanation follows (`explained`). The calls of the host are
+//! tsp_tool's.
+//!
+//! ```text
+//! let (status, written) = run(alloc, &words, &files, &mut out, &mut errors, on_terminal);
+//! ```
 #![tactic(auto)]
 
 mod ending;

@@ -93,8 +93,8 @@ fn run_job<F: Read + Drop, O: Open<F>, W: Write, E: Write>(
     (status_of_ending(&ending), told)
 }
 
-/// Tells how a job ended, and explains it where that is wanted, with what the system said of a write
-/// that failed. Where there is no memory for that, no more is told than without.
+/// Reports how a job ended, and explains it where that is wanted, with the system's words on a
+/// write that failed. Where there is no memory for the explanation, it is left out.
 fn tell_all<F: Read + Drop, O: Open<F>, E: Write>(
     alloc: Global,
     job: &Job,

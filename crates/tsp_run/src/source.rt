@@ -24,7 +24,7 @@ pub trait Open<F> {
 }
 
 /// Standard input, a file that was opened, or why one couldn't be. Each read of a missing one fails
-/// with that error, so the task answers for it in its turn.
+/// with that error, so the task reports it when it comes to that file.
 #[derive(Drop)]
 pub enum Source<I, F> {
     Input(I),
@@ -45,8 +45,8 @@ impl<I, F> Source<I, F> {
 }
 
 impl<I, F> Source<I, F> {
-    /// Asks standard input or the file once, with room for what it gives, and hands on what it answers,
-    /// as it is. A missing file answers its error, and nothing is asked.
+    /// Asks standard input or the file once, with a buffer for its bytes, and returns its answer as
+    /// it is. A missing file returns its error, and nothing is asked.
     fn ask<A, OfInput, OfFile>(
         &mut self,
         room: &mut [u8],

@@ -22,7 +22,7 @@ past_end_clean n place word e minus_one = rw (e, minus_one) refl
 end_clean : (n : ℕ) (place : Place) (word : List ℕ) (count : ℕ) → place ≡ DepotAfter count → node_or_end n word ≡ Ok (negsuc 0) → word_fault n place word ≡ None
 end_clean n place word count e read = rw (e, read, and_false (nat_le most_depots count)) refl
 
--- a depot of which there is room
+-- a depot within the limit
 depot_clean : (n : ℕ) (place : Place) (word : List ℕ) (count k : ℕ) → place ≡ DepotAfter count → node_or_end n word ≡ Ok (pos k) → nat_le most_depots count ≡ false
     → word_fault n place word ≡ None
 depot_clean n place word count k e read room = rw (e, read, room) refl

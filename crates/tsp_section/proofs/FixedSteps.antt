@@ -33,7 +33,7 @@ one_begun : (pairs : List (ℕ × ℕ)) (first : Option ℕ) (ended : Bool) (n :
     → PairsHold pairs first ended n words → (word : List ℕ) × (begun_pair words ≡ word ∷ []) × (node_or_end n word ≡ Ok (pos k))
 one_begun pairs first ended n words k open_ended is h = one_read (node_or_end n) (begun_pair words) (Ok (pos k)) (h.cut open_ended ∙ ap readings is)
 
--- ---- where the next word stands
+-- ---- the place of the next word
 
 place_past_end : (pairs : List (ℕ × ℕ)) (first : Option ℕ) (ended : Bool) (n : ℕ) (words : List (List ℕ)) → ended ≡ true
     → PairsHold pairs first ended n words → place_of_fixed n words ≡ PastEnd

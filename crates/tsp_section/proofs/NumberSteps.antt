@@ -22,7 +22,7 @@ use Rattle.tsp_section.proofs.NodeGroups.{nodes_unmarked, node_begins, node_faul
 abbrev group_of : ℤ → ℤ → ℕ → List ℕ × List ℕ → ℤ × ℤ
 group_of low high n = λ group. (number (node n group.0), number (whole_of group.1 low high))
 
--- where no words stand past the groups
+-- where no words come past the groups
 all_groups : (low high : ℤ) (n : ℕ) (words : List (List ℕ)) → length words ≤ 2 * n → number_groups low high n words ≡ map (group_of low high n) (pairs_in words)
 all_groups low high n words few = ap (λ ws. map (group_of low high n) (pairs_in ws)) (take_all (2 * n) words few)
 
@@ -43,7 +43,7 @@ no_numbers seen entries low high n unseen zeros = record {
   full = λ done. omega (arith, done);
 }
 
--- ---- where the next word stands
+-- ---- the place of the next word
 
 none_begun : (seen : List Bool) (entries : List ℤ) (left : ℕ) (begun : Option ℕ) (low high : ℤ) (n : ℕ) (words : List (List ℕ)) → 0 < left → begun ≡ None
     → NumbersHold seen entries left begun low high n words → begun_pair words ≡ []

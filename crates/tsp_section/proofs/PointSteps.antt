@@ -30,7 +30,7 @@ plane_points points = map (λ point. on_plane point.x point.y) points
 abbrev group_of : ℕ → List ℕ × List ℕ × List ℕ → ℤ × Point
 group_of n = λ group. (number (node n group.0), point_in_words group.1 group.2)
 
--- where no words stand past the groups
+-- where no words come past the groups
 all_groups : (n : ℕ) (words : List (List ℕ)) → length words ≤ 3 * n → point_groups n words ≡ map (group_of n) (threes_in words)
 all_groups n words few = ap (λ ws. map (group_of n) (threes_in ws)) (take_all (3 * n) words few)
 
@@ -87,7 +87,7 @@ begins : (left : ℕ) (begun o : Option ℕ) (x y : Option ℤ) (seen : List Boo
     → PointsHold seen entries left begun x n words → BeginsPoint n o y (begun_triple words)
 begins left begun o x y seen entries n words some is also h = rw (← is, ← also) (h.cut some)
 
--- ---- where the next word stands
+-- ---- the place of the next word
 
 place_of_node : (seen : List Bool) (entries : List Point) (left : ℕ) (begun : Option ℕ) (x : Option ℤ) (n : ℕ) (words : List (List ℕ)) → 0 < left → begun ≡ None
     → PointsHold seen entries left begun x n words → place_of_point n words ≡ NodeAfter (nodes_of_groups (point_groups n words))

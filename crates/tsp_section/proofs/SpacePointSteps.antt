@@ -23,7 +23,7 @@ use Rattle.tsp_section.proofs.NodeGroups.{nodes_unmarked, node_begins, node_faul
 abbrev group_of : ℕ → List ℕ × List ℕ × List ℕ × List ℕ → ℤ × Point
 group_of n = λ group. (number (node n group.0), space_point_of group.1 group.2 group.3)
 
--- where no words stand past the groups
+-- where no words come past the groups
 all_groups : (n : ℕ) (words : List (List ℕ)) → length words ≤ 4 * n → space_point_groups n words ≡ map (group_of n) (fours_in words)
 all_groups n words few = ap (λ ws. map (group_of n) (fours_in ws)) (take_all (4 * n) words few)
 
@@ -97,7 +97,7 @@ begins : (left : ℕ) (begun o : Option ℕ) (x p y q : Option ℤ) (seen : List
     → begun ≡ o → x ≡ p → y ≡ q → SpacePointsHold seen entries left begun x y n words → BeginsSpacePoint n o p q (begun_four words)
 begins left begun o x p y q seen entries n words some is also too h = rw (← is, ← also, ← too) (h.cut some)
 
--- ---- where the next word stands
+-- ---- the place of the next word
 
 place_of_node : (seen : List Bool) (entries : List Point) (left : ℕ) (begun : Option ℕ) (x y : Option ℤ) (n : ℕ) (words : List (List ℕ)) → 0 < left → begun ≡ None
     → SpacePointsHold seen entries left begun x y n words → place_of_space_point n words ≡ NodeAfter (nodes_of_groups (space_point_groups n words))

@@ -14,7 +14,7 @@ one_more n words word = fold-append (with_tree_word n) no_steps words (word ∷ 
 open_ended : (count : ℕ) → count ≢ 0 → (count == 0) ≡ false
 open_ended count some = grind (arith, nat_tests)
 
--- a word is taken after these words if it is where they stand
+-- a word is taken after these words if it is at their place
 taken : (n : ℕ) (words : List (List ℕ)) (word : List ℕ) (s new : TreeSoFar) → s ≡ tree_after n words → word_fault n (place_in_tree s) word ≡ None
     → new ≡ with_tree_word n s word → (word_fault n (place_of_step n words) word ≡ None) × (new ≡ tree_after n (words ++ word ∷ []))
 taken n words word s new is clean next =

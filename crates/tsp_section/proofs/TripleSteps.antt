@@ -43,7 +43,7 @@ begins : (o p : Option ℕ) (triples : List (ℕ × ℕ × ℤ)) (first second :
     → TriplesHold triples first second ended n words → BeginsTriple n o p (begun_triple words)
 begins o p triples first second ended n words open_ended is also h = rw (← is, ← also) (h.cut open_ended)
 
--- ---- where the next word stands
+-- ---- the place of the next word
 
 place_past_end : (triples : List (ℕ × ℕ × ℤ)) (first second : Option ℕ) (ended : Bool) (n : ℕ) (words : List (List ℕ)) → ended ≡ true
     → TriplesHold triples first second ended n words → place_of_triple n words ≡ PastEnd

@@ -1,5 +1,11 @@
-//! The parts of a reader that take the words of each section and the value of each keyword, over the
-//! definitions of what a text spells.
+//! The parts of a reader that take the words of each section and the value of each keyword.
+//!
+//! A part knows no other part, and not how a text is cut into lines and words: that is tsp_read's.
+//!
+//! ```text
+//! let mut part = Part::open(alloc, Shape::Depots, nodes)?;
+//! part.push(alloc, word)?;
+//! ```
 #![tactic(auto)]
 
 mod blanks;

@@ -40,7 +40,7 @@ fn keyword_end(text: &[u8]) -> Option<usize>
     text.iter().position(|byte| !is_keyword_byte(*byte))
 }
 
-/// The keyword at the front of a word line, and what follows it.
+/// The keyword at the beginning of a word line, and the rest.
 fn split_keyword(text: &[u8]) -> (&[u8], &[u8])
     ensures keyword { result.0.now ≡ keyword_in text.now }
     ensures rest { result.1.now ≡ drop (prefix_len is_keyword_byte text.now) text.now }
@@ -51,7 +51,7 @@ fn split_keyword(text: &[u8]) -> (&[u8], &[u8])
     }
 }
 
-/// Whether a colon stands at the front, and what follows it, or all where none stands there.
+/// Whether the text begins with a colon, and the rest after it; all of it where there is none.
 fn split_colon(text: &[u8]) -> (bool, &[u8])
     ensures colon { result.0 ≡ begins is_colon text.now }
     ensures rest { result.1.now ≡ drop (cond (begins is_colon text.now) 1 0) text.now }
@@ -151,11 +151,11 @@ pub(crate) fn named<V: Word>(field: Field, value: &[u8]) -> Result<V, LineFault>
     }
 }
 
-/// The number that a line has, of a keyword that doesn't stand yet.
+/// The number that a line has, of a keyword that hasn't come yet.
 ///
 /// # Errors
 ///
-/// The keyword stands (`Repeated`), the line has no value (`BadValue`), or its first word is no
+/// The keyword has come (`Repeated`), the line has no value (`BadValue`), or its first word is no
 /// whole number from `low` to `high` (`Number`).
 pub fn number_of(stands: bool, value: &[u8], low: i64, high: i64) -> Result<i64, LineFault>
     ensures { GivesNumber stands low high value.now result }
@@ -172,14 +172,15 @@ pub fn number_of(stands: bool, value: &[u8], low: i64, high: i64) -> Result<i64,
     }
 }
 
-/// The number of nodes of a section that a line may open: one of this shape that doesn't stand yet,
+/// The number of nodes of a section that a line may open: one of this shape that hasn't come yet,
 /// whose line has no value, and but for tours after DIMENSION. Where there is no DIMENSION the
-/// answer for tours is 0.
+/// result for tours is 0.
 ///
 /// # Errors
 ///
-/// The section stands (`Repeated`), its line has a value (`SectionValue`), no line of DIMENSION came
-/// before it (`SectionEarly`), or the file has more nodes than a matrix may have (`TooManyNodes`).
+/// The section has come (`Repeated`), its line has a value (`SectionValue`), no line of DIMENSION
+/// came before it (`SectionEarly`), or the file has more nodes than a matrix may have
+/// (`TooManyNodes`).
 pub fn may_open(
     shape: Shape,
     stands: bool,

@@ -52,6 +52,8 @@ fn is_too_long_to_keep(line: &CutLine<'_>) -> bool
 ///
 /// - `Fault`: one is set (`Repeated`), or the line is too long to be kept (`BadValue`).
 /// - `Memory`: memory was refused.
+///
+/// The slot is as it was then.
 pub fn set_name(
     alloc: Global,
     slot: &mut Option<Vec<u8>>,
@@ -82,6 +84,8 @@ pub fn set_name(
 /// - `Fault`: the line is too long to be kept (`BadValue`), or there are as many comments as a file
 ///   may have (`Surplus`).
 /// - `Memory`: memory was refused.
+///
+/// The comments are as they were then.
 pub fn add_comment(
     alloc: Global,
     comments: &mut Vec<Vec<u8>>,
@@ -112,6 +116,8 @@ pub fn add_comment(
 /// - `Fault`: no colon follows the keyword (`UnknownLine`), the line is too long to be kept
 ///   (`BadValue`), or there are as many such lines as a file may have (`Surplus`).
 /// - `Memory`: memory was refused.
+///
+/// The lines are as they were then.
 pub fn add_other(
     alloc: Global,
     others: &mut Vec<(Vec<u8>, Vec<u8>)>,

@@ -42,7 +42,7 @@ carried_waits a b bytes held failed piece start text h = record {
   waits = λ sound. ap (λ t. t ++ bytes) (h.waits (sym failed ∙ sound)) ∙ sym piece;
 }
 
--- The piece, and what is added to it, is sent to the writer.
+-- The piece, and the bytes added to it, are sent to the writer.
 pub carried_sent : (a b : Way) (bytes added : List ℕ) → (b.failed ≡ true → HasStopped (between a b) bytes) → (b.failed ≡ false → HasWritten (between a b) bytes)
     → a.piece ++ added ≡ bytes → b.piece ≡ [] → Carried a b added
 carried_sent a b bytes added stopped written whole empty start text h = by_failed b.failed a.failed refl refl

@@ -5,7 +5,7 @@ use Rattle.std.specs.Io.KnownBytes.{Appends}
 use Rattle.std.proofs.KnownBytes.{Appends-trans}
 use Rattle.std.proofs.Math.Seq.{take-append_seam}
 
--- A front of the text has come to the writer, and the rest is left.
+-- A prefix of the text has come to the writer, and the rest is left.
 pub record Sent (start held : Option (List ℕ)) (text rest : List ℕ) : Type 0 where
   pub front : List ℕ
   pub parts : front ++ rest ≡ text
@@ -19,7 +19,7 @@ sent_more a b c text rest left n h k e = record {
   written = Appends-trans a b c h.front (take n rest) h.written k;
 }
 
--- what was sent is a front of the text
+-- the bytes sent are a prefix of the text
 pub sent_front : (a b : Option (List ℕ)) (text rest : List ℕ) → Sent a b text rest → (count : ℕ) × Appends a b (take count text)
 sent_front a b text rest h =
     let front : take (length h.front) text ≡ h.front = ap (λ (t : List ℕ). take (length h.front) t) (sym h.parts) ∙ take-append_seam h.front rest in

@@ -30,7 +30,7 @@ IsUnwritten sink = Keeps sink.held sink.holds × (sink.failed ≡ sink.had_faile
 abbrev pub HasWritten : Sink → List ℕ → Type 0
 HasWritten sink text = (sink.had_failed ≡ false) × (sink.failed ≡ false) × Appends sink.held sink.holds text
 
--- A front of the text was written, and nothing else, before the writer failed. One that was handed in as failed gets nothing.
+-- A prefix of the text was written, and nothing else, before the writer failed. One that had failed before gets nothing.
 abbrev pub HasStopped : Sink → List ℕ → Type 0
 HasStopped sink text = (sink.failed ≡ true) × (sink.had_failed ≡ true → Keeps sink.held sink.holds)
     × ((count : ℕ) × Appends sink.held sink.holds (take count text))

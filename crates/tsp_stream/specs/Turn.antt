@@ -4,8 +4,8 @@ use Rattle.std.specs.Io.KnownBytes.{Keeps, Consumes}
 use Rattle.tsp_stream.specs.declared.watched.Watched.{Watched}
 use Rattle.tsp_stream.specs.Watched.{watched, has_failed}
 
--- A reader's turn: the bytes that it had left before the call and after it, where they are known, the bytes that it
--- handed out, and whether it had failed before the call and has failed after it.
+-- A reader's turn: the bytes that it had left before the call and after it, where they are known, the bytes that it delivered,
+-- and whether it had failed before the call and has failed after it.
 pub record Turn : Type 0 where
   pub known : Option (List ℕ)
   pub left : Option (List ℕ)
@@ -23,7 +23,7 @@ turn_of remaining old new given = record {
   failed = has_failed new;
 }
 
--- the reader handed out what was given
+-- the reader delivered these bytes
 abbrev pub Gave : Turn → Type 0
 Gave turn = Consumes turn.known turn.left turn.given
 
@@ -44,6 +44,6 @@ HasBrokenOff turn = Gave turn × (turn.failed ≡ true)
 abbrev pub IsUnread : Turn → Type 0
 IsUnread turn = Keeps turn.known turn.left × (turn.failed ≡ turn.had_failed)
 
--- for some bytes that the reader handed out, at most so many, P holds of its turn
+-- for some bytes that the reader delivered, at most this many, P holds of the `Turn`
 abbrev pub TakesAtMost : ℕ → (List ℕ → Turn) → (Turn → Type 0) → Type 0
 TakesAtMost most turn P = (given : List ℕ) × (length given ≤ most) × P (turn given)

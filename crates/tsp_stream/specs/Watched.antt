@@ -19,7 +19,7 @@ has_failed w = w.failed
 abbrev pub error_of : {T : Type 0} → Watched T → Option Error
 error_of w = w.error
 
--- what is kept after a write of a part: its error, one of that kind where it took nothing, and else what was kept before
+-- the kept error after a write of a part: its own, one of that kind where it took nothing, and else the one from before
 abbrev pub KeepsError : Result ℕ Error → Option Error → Option Error → Type 0
 KeepsError (Err error) old new = new ≡ Some error
 KeepsError (Ok count) old new = (count ≡ 0 → (error : Error) × (new ≡ Some error) × (error_kind error ≡ kinds.WriteZero))

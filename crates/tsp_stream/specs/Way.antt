@@ -14,7 +14,7 @@ pub record Way : Type 0 where
 abbrev pub way_of : {W : Type 0} → (W → Option (List ℕ)) → Watched W → List ℕ → Way
 way_of contents out piece = record { held = contents (watched out); failed = has_failed out; piece = piece }
 
--- A front of the text has come to the writer that held `start`, and nothing else. While the writer hasn't failed, the piece is
+-- A prefix of the text has come to the writer that held `start`, and nothing else. While the writer hasn't failed, the piece is
 -- the rest of the text.
 pub record Carries (start : Option (List ℕ)) (way : Way) (text : List ℕ) : Type 0 where
   pub front : List ℕ

@@ -83,8 +83,8 @@ fn send_part<W: Takes>(out: &mut Watched<W>, text: &[u8]) -> usize
 
 /// Writes a text to a writer that may take any part of it at once.
 ///
-/// At `Device` a front of the text was written, and nothing else; a writer that was handed in as
-/// failed gets nothing. `OutOfMemory` is never answered.
+/// At `Device` a prefix of the text was written, and nothing else. A writer that had failed before
+/// gets nothing. `OutOfMemory` is never returned.
 pub fn write_text<W: Write>(out: &mut Watched<W>, text: &[u8]) -> Result<(), WriteFault>
     ensures { Writes (sink_of W.contents out.old out.new) text.now result }
 {

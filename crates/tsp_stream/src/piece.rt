@@ -29,7 +29,8 @@ pub fn hand_over<W: Write>(piece: &mut Piece, out: &mut Watched<W>)
     piece.clear();
 }
 
-/// Sees that the piece has room for so many bytes more, which are no more than a whole piece.
+/// Ensures that the piece has capacity for this many bytes more, which are no more than a whole
+/// piece.
 #[inline(always)]
 pub fn make_room<W: Write>(piece: &mut Piece, out: &mut Watched<W>, count: usize)
     requires { count ≤ 4096 }

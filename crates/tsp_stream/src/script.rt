@@ -1,6 +1,6 @@
-//! A reader whose answers are known beforehand. It is a model: over it is shown what no clause of
-//! `Read` can say of a reader of the host, that a watched one is asked once for each call, and hands on
-//! what it answers, as it is.
+//! A reader whose answers are known beforehand. It is a model. It shows what no clause of `Read`
+//! can say of a reader of the host: a watched one is asked once for each call, and returns the
+//! answer as it is.
 
 ghost use Rattle.std.specs.Prelude.{◌≡◌, is_err, ◌||◌};
 ghost use Rattle.tsp_stream.specs.Watched.{watched, has_failed};

@@ -74,9 +74,9 @@ impl<T> Watched<T> {
         self.error = Some(error);
     }
 
-    /// Asks the inner value once, with room for what it gives, hands on what it answers, as it is, and
-    /// remembers a failure: an error, or an answer of which the call says that it took nothing of what
-    /// it could have taken.
+    /// Asks the inner value once, with a buffer for its bytes, returns its answer as it is, and
+    /// remembers a failure. A failure is an error, or an answer that, by the call, took nothing
+    /// although it could have.
     pub(crate) fn ask<A, F>(&mut self, room: &mut [u8], call: F) -> io::Result<A>
     where
         F: FnOnce(&mut T, &mut [u8]) -> (io::Result<A>, bool),

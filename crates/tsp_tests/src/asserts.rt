@@ -5,12 +5,12 @@
 use std::fmt::Debug;
 use std::process::Abort;
 
-/// Asserts that what was found is what was wanted.
+/// Asserts that the found value is the wanted one.
 pub(crate) fn same<T: PartialEq + Debug + Drop>(rt: &impl Abort, found: T, wanted: T) {
     assert_eq!(rt; found, wanted);
 }
 
-/// Asserts that what was found is what was wanted, at this row of a table.
+/// Asserts that the found value is the wanted one, at this row of a table.
 pub(crate) fn same_at<T: PartialEq + Debug + Drop>(
     rt: &impl Abort,
     row: impl Debug + Drop,

@@ -1,9 +1,9 @@
-//! The tests of the libraries, over their public calls: what no contract says, and no run of the program
-//! shows (see `tests/tables`).
+//! The tests of the libraries, over their public calls: what no contract says, and no run of the
+//! program shows (see `tests/tables`).
 //!
-//! They show that calls succeed where memory is ample, how often a cost is asked for, and what readers and
-//! writers meet that fail or do little at a time. They stand in a crate of their own, since a crate with
-//! tests is proved twice.
+//! They show that calls succeed where memory is ample, how often a cost is asked for, and how calls
+//! end with readers and writers that fail or do little at a time. They are in a crate of their own,
+//! since a crate with tests is proved twice.
 #![tactic(auto)]
 
 #[cfg(test)]

@@ -1,4 +1,4 @@
-//! Watched readers and writers: each call is handed on once, and its outcome as it is.
+//! Watched readers and writers: each call is passed on once, and its outcome is returned as it is.
 
 use crate::asserts::{holds, holds_at, same, same_at};
 use std::io::{ErrorKind, Read, Write};

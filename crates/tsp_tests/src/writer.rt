@@ -11,7 +11,7 @@ use tsp_stream::{Watched, WriteFault};
 use tsp_tests_support::devices::{Drip, NEVER, Refusal, outcome};
 use tsp_tests_support::drafts::{file_of, rectangle, two_tours, upper_row};
 
-/// The text of the draft `rectangle`. (It is handed out by a function, so that proofs don't carry its
+/// The text of the draft `rectangle`. (A function returns it, so that proofs don't carry its
 /// bytes.)
 fn rectangle_text() -> &'static [u8] {
     RECTANGLE

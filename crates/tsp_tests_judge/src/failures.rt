@@ -31,7 +31,7 @@ const SHOW: Job = (Task::Show, [RECTANGLE, "", ""]);
 
 const CONVERT: Job = (Task::Convert("FULL_MATRIX"), [STAR, "", ""]);
 
-/// A check whose answer is a no.
+/// A check that rejects its solution.
 const NO: Job = (
     Task::Check,
     [THREE_NODES, "TYPE : TOUR\nTOUR_SECTION\n1 2 -1\nEOF\n", ""],
@@ -166,8 +166,8 @@ const REFUSALS: [Refusal; 4] = [
     Refusal::Error(ErrorKind::StorageFull),
 ];
 
-/// Asserts that a writer of one byte a call that fails at a call holds what came before it and isn't
-/// asked again, and that the run answers neither a yes nor a no then.
+/// Asserts that a writer of one byte a call that fails at a call holds the bytes before it and
+/// isn't asked again, and that the run returns no verdict then.
 fn a_write_fails(
     rt: &(impl AllocGlobal + Abort),
     row: &(Job, bool, &'static str),
@@ -334,7 +334,8 @@ const READERS_HAD_FAILED: &[(Job, [bool; 3], u32, ReadFault)] = &[
         2,
         ReadFault::Device,
     ),
-    // an earlier file that is none decides; the wrong kind of the first file and a no don't
+    // an earlier file that is none decides; the wrong kind of the first file and a rejected one
+    // don't
     (
         (Task::BoundCheck, [THREE_NODES, NO_FILE, DUALS]),
         [false, false, true],
@@ -404,7 +405,7 @@ fn a_reader_that_had_failed_counts_in_its_turn_and_is_not_asked(rt: HostRuntime)
     }
 }
 
-/// What is answered where a writer had failed.
+/// The result where a writer had failed.
 const OUTPUT: RunFault = RunFault::Write(WriteFault::Device);
 
 const NO_FIRST: RunFault = RunFault::File {
@@ -417,8 +418,7 @@ const NO_THIRD: RunFault = RunFault::File {
     fault: ReadFault::Device,
 };
 
-/// Runs, the calls at which their readers fail, and what is answered where the writer had failed
-/// before.
+/// Runs, the calls at which their readers fail, and the result where the writer had failed before.
 const WRITERS_HAD_FAILED: &[(Job, [usize; 3], RunFault)] = &[
     ((Task::Check, [NO_FILE, TOUR, ""]), [NEVER, 0, 0], NO_FIRST),
     (

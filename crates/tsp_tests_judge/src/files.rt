@@ -25,7 +25,7 @@ pub(crate) const POTENTIALS: &str =
 pub(crate) const RECTANGLE: &str =
     "NAME : rectangle\nTYPE : TSP\nDIMENSION : 4\nEDGE_WEIGHT_TYPE : EUC_2D\nNODE_COORD_SECTION\n1 0 0\n2 3 0\n3 3 4\n4 0 4\nEOF\n";
 
-/// What is shown of the rectangle: around it is 3 + 4 + 3 + 4.
+/// The lines of `show` for the rectangle: around it is 3 + 4 + 3 + 4.
 pub(crate) const RECTANGLE_SHOWN: &str =
     "name rectangle\ntype TSP\nnodes 4\nweights EUC_2D\ncanonical 14\n";
 

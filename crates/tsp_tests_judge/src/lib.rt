@@ -1,5 +1,5 @@
-//! The tests of what the program does with files, from the bytes that come in to those that go
-//! out, and of the texts of faults.
+//! The tests of what the program does with files, from the bytes read to the bytes written, and of
+//! the texts of faults.
 #![tactic(auto)]
 
 #[cfg(test)]

@@ -1,4 +1,4 @@
-//! Readers that hand out, and writers that take, a few bytes at a time.
+//! Readers that deliver, and writers that take, a few bytes at a time.
 
 use crate::asserts::same_at;
 use crate::failures::{WRITTEN, look_at};
@@ -10,7 +10,7 @@ use std::test::Fail;
 use tsp_stream::Watched;
 use tsp_tests_support::devices::{Drip, NEVER, Refusal};
 
-/// How many bytes a call hands out or takes.
+/// How many bytes a call delivers or takes.
 const SIZES: [usize; 6] = [1, 2, 3, 7, 64, 4_096];
 
 #[test]
@@ -28,8 +28,8 @@ fn pieces_of_any_size_give_what_the_whole_gives(rt: HostRuntime) {
     }
 }
 
-/// Asserts that a run over readers of so many bytes a call ends with a fault that prints this text,
-/// and writes nothing.
+/// Asserts that a run over readers of this many bytes a call ends with a fault that prints this
+/// text, and writes nothing.
 fn stops(
     rt: &(impl AllocGlobal + Abort),
     task: Task<'_>,
@@ -49,7 +49,7 @@ fn stops(
     Ok(())
 }
 
-/// Three texts, and what is printed.
+/// Three texts, and the output.
 const STOPS: &[([&str; 3], &str)] = &[
     (
         ["TYPE : TSP\nDIMENSION : 3.5\n", TOUR, DUALS],
@@ -84,7 +84,7 @@ fn pieces_have_the_fault_of_the_whole(rt: HostRuntime) -> Result<(), Fail> {
 const BAD_NUMBER: &str =
     "TYPE : TSP\nDIMENSION : 3\nEDGE_WEIGHT_TYPE : EUC_2D\nNODE_COORD_SECTION\n1 0 0\n2 3 x\n3 3 4\nEOF\n";
 
-/// Parts of `BAD_NUMBER`, what is put in their place, and what is printed.
+/// Parts of `BAD_NUMBER`, their replacements, and the output.
 const NO_INSTANCES: &[(&str, &str, &str)] = &[
     (
         "2 3 x\n3 3 4\nEOF\n",

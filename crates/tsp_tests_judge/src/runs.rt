@@ -1,4 +1,4 @@
-//! Runs of the verbs, from the bytes that come in to those that go out.
+//! Runs of the verbs, from the bytes read to the bytes written.
 
 use std::alloc::{AllocError, Global};
 use std::io::ErrorKind;
@@ -31,7 +31,7 @@ pub(crate) struct Readers<'a> {
 }
 
 impl<'a> Readers<'a> {
-    /// Readers of these texts, which hand out so many bytes a call.
+    /// Readers of these texts, which deliver this many bytes a call.
     pub(crate) fn by(texts: [&'a str; 3], most: usize) -> Readers<'a> {
         let [first, second, third] = texts;
         Readers {
@@ -41,7 +41,7 @@ impl<'a> Readers<'a> {
         }
     }
 
-    /// Readers of these texts, which hand out one byte a call, and fail at these calls, counted from
+    /// Readers of these texts, which deliver one byte a call, and fail at these calls, counted from
     /// 0, by an interruption.
     pub(crate) fn failing(texts: [&'a str; 3], fails_at: [usize; 3]) -> Readers<'a> {
         let [first, second, third] = texts;
@@ -77,7 +77,7 @@ impl<'a> Readers<'a> {
     }
 }
 
-/// A reader of a text that hands out one byte a call, and fails at one call.
+/// A reader of a text that delivers one byte a call, and fails at one call.
 fn failing(text: &str, fails_at: usize) -> Watched<Trickle<'_>> {
     Watched::new(Trickle::new(text.as_bytes(), fails_at, ErrorKind::Interrupted))
 }
@@ -137,7 +137,7 @@ fn converted(
     run_convert(alloc, &mut readers.first, Layout::of_word(word), out)
 }
 
-/// What a run answers. What is shown or converted counts as a yes.
+/// The result of a run. A file that is shown or converted counts as accepted.
 pub(crate) fn run(
     alloc: Global,
     task: Task<'_>,
@@ -153,7 +153,7 @@ pub(crate) fn run(
     }
 }
 
-/// What is printed of a fault.
+/// The printed text of a fault.
 pub(crate) fn printed(alloc: Global, fault: RunFault) -> Result<String, AllocError> {
     fault.to_string(alloc)
 }

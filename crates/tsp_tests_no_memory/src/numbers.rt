@@ -75,7 +75,7 @@ fn are_distances_in_space() -> bool {
     euc_3d(ends[0], ends[1]) == 7 && man_3d(ends[0], ends[1]) == 11 && max_3d(ends[0], ends[1]) == 6
 }
 
-/// The exit statuses of a yes, a no, a device's failure and the want of memory.
+/// The exit statuses: accepted, rejected, a device's failure, out of memory.
 fn are_statuses() -> bool {
     status_of(&Ok(true)) == 0
         && status_of(&Ok(false)) == 1

@@ -36,8 +36,8 @@ pub(crate) fn answer_from<R: Read>(alloc: Global, reader: &mut Watched<R>) -> Re
     answer(alloc, read_from(alloc, reader))
 }
 
-/// What is answered for a piece. (It has no contract, which the proofs of the tests would go through;
-/// nor has the next one.)
+/// The result for a piece. (It has no contract, which the proofs of the tests would go through; nor
+/// has the next one.)
 pub(crate) fn fed(feed: &mut Feed, piece: &[u8]) -> Result<(), ReadFault> {
     feed.feed(piece)
 }
@@ -47,7 +47,7 @@ pub(crate) fn fault_at_end(feed: Feed) -> Option<ReadFault> {
     feed.finish().err()
 }
 
-/// What is answered for pieces, up to the first refusal.
+/// The result for pieces, up to the first refusal.
 pub(crate) fn feed_all(feed: &mut Feed, pieces: &[&[u8]]) -> Result<(), ReadFault> {
     for piece in pieces {
         fed(feed, piece)?;

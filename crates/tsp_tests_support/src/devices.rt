@@ -1,5 +1,4 @@
-//! Readers and writers that do little at a time, fail, or never end, and count what is asked of
-//! them.
+//! Readers and writers that do little at a time, fail, or never end, and count their calls.
 
 use std::alloc::Global;
 use std::io;
@@ -16,7 +15,7 @@ pub fn outcome<T>(answer: io::Result<T>) -> Result<T, ErrorKind> {
     }
 }
 
-/// A reader that hands out a few bytes a call, and fails at one call.
+/// A reader that delivers a few bytes a call, and fails at one call.
 #[derive(Drop)]
 pub struct Trickle<'a> {
     rest: &'a [u8],
@@ -38,7 +37,7 @@ impl<'a> Trickle<'a> {
         }
     }
 
-    /// A reader of these bytes, so many a call, that doesn't fail.
+    /// A reader of these bytes, this many a call, that doesn't fail.
     pub fn by(bytes: &'a [u8], most: usize) -> Trickle<'a> {
         Trickle {
             rest: bytes,
@@ -67,7 +66,7 @@ impl Read for Trickle<'_> {
     }
 }
 
-/// A reader that hands out a head, then a unit many times, then a tail.
+/// A reader that delivers a head, then a unit many times, then a tail.
 #[derive(Drop)]
 pub struct Repeats<'a> {
     rest: &'a [u8],
@@ -102,7 +101,7 @@ impl Read for Repeats<'_> {
     }
 }
 
-/// A reader that hands out a head and then fills each buffer with blanks, for ever.
+/// A reader that delivers a head and then fills each buffer with blanks, for ever.
 #[derive(Drop)]
 pub struct Flood<'a> {
     head: &'a [u8],
@@ -114,7 +113,7 @@ impl<'a> Flood<'a> {
         Flood { head, given: 0 }
     }
 
-    /// How many bytes it handed out.
+    /// How many bytes it delivered.
     pub fn given(&self) -> u64 {
         self.given
     }
@@ -155,7 +154,7 @@ pub struct Drip {
 }
 
 impl Drip {
-    /// A writer that takes so many bytes a call, and whose call `fails_at`, counted from 0,
+    /// A writer that takes this many bytes a call, and whose call `fails_at`, counted from 0,
     /// refuses in this way.
     pub fn new(alloc: Global, most: usize, fails_at: usize, refusal: Refusal) -> Drip {
         Drip {

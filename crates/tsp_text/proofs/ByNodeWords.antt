@@ -66,7 +66,7 @@ full_holds firsts begun limit n words word full h =
       free = λ first rest e room. absurd (true≢false (sym (le-leb limit (length (words ++ word ∷ [])) (omega (arith, length_push words word, le))) ∙ room));
     }
 
--- the nodes with one word more that has room
+-- the nodes with one word more within the limit
 room_nodes : (firsts : Words → Words) (limit n : ℕ) (words : Words) (word : List ℕ) (found : Words) → nat_le limit (length words) ≡ false → firsts (words ++ word ∷ []) ≡ found
     → (nodes_by firsts limit n (words ++ word ∷ []) ≡ nodes_read n found) × (nodes_by firsts limit n words ≡ nodes_read n (firsts words))
 room_nodes firsts limit n words word found room e =
@@ -196,7 +196,7 @@ space_points_more n words word h none =
     more_hold 4 four_firsts begun_four four_shape (4 * n) n words word Coordinate (nodes_of_groups (space_point_groups n words)) (nat_le (4 * n) (length words)) refl
     (space_point_nodes n (fours_in (take (4 * n) words))) h none
 
--- where the next word of a section stands, whether the file is spatial or not
+-- the place of the next word of a section, whether the file is spatial or not
 abbrev StandsAt : Field → (ℕ → Words → Place) → Type 0
 StandsAt field place = (b : Bool) (n : ℕ) (words : Words) → place_in b field n words ≡ place n words
 

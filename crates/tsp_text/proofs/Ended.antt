@@ -24,7 +24,7 @@ pub or_step : (b any more : Bool) → (any ≡ true → more ≡ true) → (b ||
 or_step true any more h e = refl
 or_step false any more h e = h e
 
--- ---- what stands before it
+-- ---- the part before it
 
 pub kept_step : {A : Type 0} (b any : Bool) (x : A) (xs ys : List A) → (any ≡ true → xs ≡ ys) → (b || any) ≡ true → cond b [] (x ∷ xs) ≡ cond b [] (x ∷ ys)
 kept_step true any x xs ys h e = refl

@@ -1,4 +1,4 @@
--- What is shown section by section, whoever reads them: each is one row, and so is each of its cases.
+-- The facts section by section, whoever reads them: each is one row, and so is each of its cases.
 use Rattle.std.proofs.Common.{◌≡◌, Bool, true, false, cond, List, ◌∷◌, refl, Some, None}
 use Rattle.std.specs.Prelude.{ℕ, nat_lt, is_some}
 use Rattle.std.specs.Option.{option_map_or}
@@ -97,7 +97,7 @@ opening in_space earlier line short = by_section (λ f. row_of earlier (Line (Kn
     (rw short refl) (rw short refl) (rw short refl) (rw short refl) (rw short refl)
     (rw short refl) (rw short refl) (rw short refl)
 
--- a section stands in the fields where a line opened it
+-- a section is among the fields where a line opened it
 pub standing : (earlier : List Item) (f : Field) → is_section_field f ≡ true
     → stands_in (fields_by (λ field. has_line field earlier) earlier) f ≡ has_line f earlier
 standing earlier = by_section (λ f. stands_in (fields_by (λ field. has_line field earlier) earlier) f ≡ has_line f earlier)

@@ -1,4 +1,4 @@
--- Whether a file is spatial, as its lines come: where points stand it stays.
+-- Whether a file is spatial, as its lines come: once points have come it stays.
 use Rattle.std.proofs.Common.{◌≡◌, ℕ, Bool, true, false, cond, List, [], ◌∷◌, refl, sym, ap, subst, ◌∙◌, Option, Some, None}
 use Rattle.std.specs.Prelude.{not, ◌&&◌, ◌||◌}
 use Rattle.std.specs.Option.{option_map_or, option_and_then}
@@ -84,7 +84,7 @@ key_said f line earlier false true is also known first late =
     subst P (same_field_is EdgeWeightTypeKey f also) (weights_said line earlier known) first late
 key_said f line earlier false false is also known first late = rw (is, also) refl
 
--- once points of nodes stand, it stays whether the file is spatial
+-- once points of nodes have come, it stays whether the file is spatial
 pub space_kept : (earlier : List Item) (item : Item) → has_line NodeCoordPart earlier ≡ true → row_of earlier item ≡ None
     → spatial_after (item ∷ earlier) ≡ spatial_after earlier
 space_kept earlier (NumberWord word) known row = refl

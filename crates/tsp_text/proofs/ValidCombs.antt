@@ -23,7 +23,7 @@ use Rattle.tsp_text.proofs.Grown.{Grows, grown}
 use Rattle.tsp_text.proofs.ValidNumbers.{read_listed}
 use Rattle.tsp_text.proofs.ValidLists.{first_of_both}
 
--- whole combs, and the sets and nodes of one that has begun, are valid, with room for the comb
+-- whole combs, and the sets and nodes of one that has begun, are valid, with the comb within the limit
 pub record CombsHold (n : ℕ) (combs : List (List (List ℕ))) (sets : List (List ℕ)) (nodes : List ℕ) (count : ℕ) : Type 0 where
   pub all_combs : list_all (is_comb n) combs ≡ true
   pub all_sets : list_all (is_set n) sets ≡ true
@@ -67,7 +67,7 @@ end_holds n combs [] [] count h = h
 
 -- ---- a node
 
--- there is room for its comb
+-- its comb is within the limit
 has_room : (begun : Bool) (combs count : ℕ) → is_past_combs begun combs count ≡ false → (begun ≡ true → combs < most_combs)
     → (count < most_comb_nodes) × (combs < most_combs)
 has_room begun combs count room other = by_count (nat_le most_comb_nodes count) refl room

@@ -31,7 +31,7 @@ ends_pairs n pair = is_end n pair.0
 abbrev pub pair_of : ℕ → List ℕ × List ℕ → ℕ × ℕ
 pair_of n pair = (nat_abs (number (node_or_end n pair.0)), nat_abs (number (node n pair.1)))
 
--- the whole pairs are valid, and the first word of one that has begun is a node, with room for the pair
+-- the whole pairs are valid, and the first word of one that has begun is a node, with the pair within the limit
 pub record ArePaired (n : ℕ) (words : List (List ℕ)) : Type 0 where
   pub pairs : are_fixed n (fixed_in n words) ≡ true
   pub begun : list_any (is_end n) (firsts_in words) ≡ false → (first : List ℕ) → begun_pair words ≡ first ∷ []

@@ -1,4 +1,4 @@
--- What cut items without a fault spell is valid, field by field; and with no fault at the end it is a file.
+-- The fields of cut items without a fault are valid, field by field; and with no fault at the end they are a file.
 use Rattle.std.proofs.Common.{◌≡◌, ℕ, Bool, true, false, cond, List, [], ◌∷◌, refl, ap, ◌∙◌, Option, Some, None}
 use Rattle.std.specs.Prelude.{not, ◌&&◌, ◌||◌, pos, neg_ℤ}
 use Rattle.tsp_format.specs.declared.field.Field.{Field}
@@ -57,7 +57,7 @@ wants_none : (stands wants : Bool) → stands ≡ true → (stands && wants) ≡
 wants_none true wants e whole = whole
 wants_none false wants e whole = absurd (false≢true e)
 
--- each field by itself, where the tree, if one stands, is whole
+-- each field by itself, if the tree, where there is one, is whole
 pub each_fits : (items : List Item) → AreCut items → IsClean items → is_incomplete items BranchPart ≡ false → (field : Field) → fits (spelled items) field ≡ true
 each_fits items cut clean whole NameKey = name_fits items cut clean
 each_fits items cut clean whole TypeKey = refl

@@ -1,4 +1,4 @@
--- Lists with room, and words by twos, with one more.
+-- Lists below their limit, and words by twos, with one more.
 use Rattle.std.proofs.Common.{◌≡◌, ℕ, Bool, true, false, List, [], ◌∷◌, ◌++◌, length, refl, ap, ◌∙◌, arith}
 use Rattle.std.specs.Prelude.{not, ◌&&◌, nat_le}
 use Rattle.std.specs.List.{list_all}
@@ -8,7 +8,7 @@ use Rattle.std.proofs.lemmas.List.Folds.{list_all-append}
 use Rattle.tsp_text.specs.Groups.{pairs_in, begun_pair}
 use Rattle.tsp_text.specs.Lists.{firsts_in}
 
--- one more of a list with room, that passes too
+-- one more of a list below its limit, that passes too
 pub few_more : {A : Type 0} (most : ℕ) (test : A → Bool) (xs : List A) (x : A) → (nat_le (length xs) most && list_all test xs) ≡ true → nat_le most (length xs) ≡ false → test x ≡ true
     → (nat_le (length (xs ++ x ∷ [])) most && list_all test (xs ++ x ∷ [])) ≡ true
 few_more most test xs x held room passes =

@@ -56,7 +56,7 @@ opened_late (Line EdgeDataSection line ∷ earlier) clean g opened other = absur
 opened_late (Line Eof line ∷ earlier) clean g opened other = absurd (none-some g opened)
 opened_late (Line Unknown line ∷ earlier) clean g opened other = absurd (none-some g opened)
 
--- once DIMENSION stands, the number of nodes stays
+-- once DIMENSION has come, the number of nodes stays
 known_nodes : (f : Field) (line : WordLine) (earlier : List Item) (b : Bool) → same_field DimensionKey f ≡ b → has_line DimensionKey earlier ≡ true
     → is_repeated earlier (Line (Known f) line) ≡ false → dimension_in (Line (Known f) line ∷ earlier) ≡ dimension_in earlier
 known_nodes f line earlier false e known first = rw e refl
@@ -73,7 +73,7 @@ nodes_kept earlier (Line EdgeDataSection line) known row = refl
 nodes_kept earlier (Line Eof line) known row = refl
 nodes_kept earlier (Line Unknown line) known row = refl
 
--- ---- DIMENSION is read where it stands
+-- ---- DIMENSION is read where it is
 
 is_read : (r : Result ℤ NumberFault) → result_err r ≡ None → is_some (option_map nat_abs (result_ok r)) ≡ true
 is_read (Ok z) e = refl

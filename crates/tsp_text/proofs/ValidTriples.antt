@@ -35,7 +35,7 @@ abbrev IsBegun : ℕ → List ℕ → List (List ℕ) → Type 0
 IsBegun n first [] = (result_err (node_or_end n first) ≡ None) × (is_end n first ≡ false)
 IsBegun n first (second ∷ rest) = is_node_pair n (pair_of n (first, second)) ≡ true
 
--- the whole triples are valid, and so are the words of one that has begun, with room for the triple
+-- the whole triples are valid, and so are the words of one that has begun, with the triple within the limit
 pub record AreTripled (n : ℕ) (words : List (List ℕ)) : Type 0 where
   pub triples : are_triples n (fixed_triples_in n words) ≡ true
   pub begun : list_any (is_end n) (triple_firsts_in words) ≡ false → (first : List ℕ) (rest : List (List ℕ)) → begun_triple words ≡ first ∷ rest

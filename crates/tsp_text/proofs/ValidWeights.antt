@@ -24,7 +24,7 @@ use Rattle.tsp_text.proofs.Grown.{Grows, grown}
 use Rattle.tsp_text.proofs.ValidStanding.{after_dimension}
 use Rattle.tsp_text.proofs.ValidNumbers.{all_pass, whole_passes}
 
--- ---- no more weights than there is room for
+-- ---- no more weights than the limit
 
 has_room : (n : ℕ) (words : List (List ℕ)) (word : List ℕ) (b : Bool) → nat_le (n * n) (length words) ≡ b → word_fault n (cond b PastWeights Weight) word ≡ None
     → nat_le (length (words ++ word ∷ [])) (n * n) ≡ true

@@ -1,4 +1,4 @@
--- What a text is answered with, and which items have no row: the words of the laws on answers.
+-- The answer for a text, and which items have no row: the words of the laws on answers.
 use Rattle.std.specs.Prelude.{◌≡◌, ℕ, Bool, true, false, List, ◌∷◌, ◌++◌, None, Some, Result, Ok, Err}
 use Rattle.tsp_draft.specs.Fields.{Fields}
 use Rattle.tsp_text.specs.declared.fault.ReadFault.{ReadFault}
@@ -12,7 +12,7 @@ abbrev pub NoneHasRow : List Item → Type 0
 NoneHasRow items = (later : List Item) (item : Item) (earlier : List Item) → items ≡ later ++ item ∷ earlier
     → row_of earlier item ≡ None
 
--- the answer for a text: the file that it spells, or its first fault
+-- the answer for a text: the file that it parses to, or its first fault
 abbrev pub IsAnswer : List ℕ → Result Fields ReadFault → Type 0
 IsAnswer bytes (Ok file) = Spells bytes file
 IsAnswer bytes (Err found) = fault bytes ≡ Some found

@@ -6,7 +6,7 @@ use Rattle.tsp_text.specs.Lines.{is_filled}
 use Rattle.tsp_text.specs.Numbers.{number, node_or_end, is_end}
 use Rattle.tsp_text.specs.Places.{Place, SetNode, PastEnd}
 
--- what stands after some words of the section
+-- the contents after some words of the section
 pub record CombsSoFar : Type 0 where
   -- the whole combs
   pub combs : List (List (List ℕ))
@@ -57,7 +57,7 @@ combs_after n words = fold (with_comb_word n) no_combs words
 abbrev pub whole_combs : ℕ → List (List ℕ) → List (List (List ℕ))
 whole_combs n words = (combs_after n words).combs
 
--- ---- where the next word stands
+-- ---- the place of the next word
 
 abbrev pub has_begun_comb : CombsSoFar → Bool
 has_begun_comb so_far = is_filled so_far.nodes || is_filled so_far.sets

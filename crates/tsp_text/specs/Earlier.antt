@@ -1,4 +1,4 @@
--- What stands among the items before a place, the nearest first.
+-- The items before a place, the nearest first.
 use Rattle.std.specs.Prelude.{ℕ, Bool, true, false, cond, List, [], ◌∷◌, ◌++◌, Option, None, Some}
 use Rattle.std.specs.Str.{bytes_eq}
 use Rattle.tsp_format.specs.declared.field.Field.{Field}
@@ -11,7 +11,7 @@ use Rattle.tsp_format.specs.Shapes.{is_section_field}
 
 -- ---- which keyword a line has
 
--- fields are told apart by their words
+-- fields are distinguished by their words
 abbrev pub same_field : Field → Field → Bool
 same_field f g = bytes_eq (field_word f) (field_word g)
 

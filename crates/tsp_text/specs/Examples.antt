@@ -1,4 +1,4 @@
--- Small texts on which the definitions are evaluated. In them `/` stands for byte 10.
+-- Small texts on which the definitions are evaluated. In them `/` means byte 10.
 use Rattle.std.specs.Prelude.{◌≡◌, ℕ, ◌==◌, true, false, cond, List, [], ◌∷◌, ◌++◌, map, replicate, None, Some, codes, pos, negsuc}
 use Rattle.tsp_format.specs.declared.field.Field.{Field}
 use Rattle.tsp_format.specs.Steps.{Branch, Leaf}
@@ -39,7 +39,7 @@ MissingAtEnd bytes field = FaultAtEnd bytes (Missing field)
 abbrev pub OthersAre : List ℕ → List ℕ → List ℕ → Type 0
 OthersAre bytes keyword value = (spelled (part (text bytes))).others ≡ (keyword, value) ∷ []
 
--- the text spells a file with the tours (3) and (4, 5); with the fixed pairs (1, 2) and (3, 1)
+-- the text parses to a file with the tours (3) and (4, 5); with the fixed pairs (1, 2) and (3, 1)
 abbrev pub ToursAre : List ℕ → Type 0
 ToursAre bytes = (fault (text bytes) ≡ None) × ((spelled (part (text bytes))).tours ≡ Some ((3 ∷ []) ∷ (4 ∷ 5 ∷ []) ∷ []))
 
@@ -88,11 +88,11 @@ long_line = codes "COMMENT" ++ replicate 4090 32
 abbrev pub long_word : List ℕ
 long_word = replicate 65 49
 
--- the line of an unknown keyword of three bytes, and so many bytes of its value
+-- the line of an unknown keyword of three bytes, and this many bytes of its value
 abbrev pub filled_line : ℕ → List ℕ
 filled_line count = codes "FOO:" ++ replicate count 120
 
--- after so many lines with this text one more is one too many, and not after so many
+-- after this many lines with this text one more is one too many, and not after fewer
 abbrev pub IsLimitOfLines : ℕ → ℕ → List ℕ → Type 0
 IsLimitOfLines past last line = (is_surplus (replicate past (line_item line)) (line_item line) ≡ true)
     × (is_surplus (replicate last (line_item line)) (line_item line) ≡ false)

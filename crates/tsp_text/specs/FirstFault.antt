@@ -19,7 +19,7 @@ fault_in (item ∷ earlier) = option_or (fault_in earlier) (option_map (fault_he
 abbrev pub IsClean : List Item → Type 0
 IsClean items = fault_in items ≡ None
 
--- The same in other words: an item stands there with this row, and none before it has one.
+-- The same in other words: an item is there with this row, and none before it has one.
 pub record IsFirstFault (items : List Item) (found : ReadFault) : Type 0 where
   pub later : List Item
   pub item : Item

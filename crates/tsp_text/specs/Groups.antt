@@ -50,7 +50,7 @@ begun_four (a ∷ b ∷ []) = a ∷ b ∷ []
 begun_four (a ∷ b ∷ c ∷ []) = a ∷ b ∷ c ∷ []
 begun_four (a ∷ b ∷ c ∷ d ∷ words) = begun_four words
 
--- ---- groups as numbers: a node with what stands for it
+-- ---- groups as numbers: a node with its value
 
 -- the n groups of a node and a whole number; words past them are in no group
 abbrev pub number_groups : ℤ → ℤ → ℕ → List (List ℕ) → List (ℤ × ℤ)
@@ -72,7 +72,7 @@ abbrev pub space_point_groups : ℕ → List (List ℕ) → List (ℤ × Point)
 space_point_groups n words =
     map (λ group. (number (node n group.0), space_point_of group.1 group.2 group.3)) (fours_in (take (4 * n) words))
 
--- what stands for a node: the entry of its group
+-- the value of a node: the entry of its group
 abbrev pub entry_of : {X : Type 0} → List (ℤ × X) → ℤ → Option X
 entry_of [] z = None
 entry_of (group ∷ groups) z = cond (int_eq group.0 z) (Some group.1) (entry_of groups z)
@@ -95,7 +95,7 @@ space_points_by_node n words = by_node origin n (space_point_groups n words)
 abbrev pub coords_by_node : Bool → ℕ → List (List ℕ) → List Point
 coords_by_node in_space n words = cond in_space (space_points_by_node n words) (points_by_node n words)
 
--- ---- where the next word stands
+-- ---- the place of the next word
 
 -- after whole groups of these nodes a node is next, and in a group that has begun a number
 abbrev pub place_in_group : Place → List ℤ → List (List ℕ) → Place

@@ -84,7 +84,7 @@ abbrev pub to_end_line : List Item → List Item
 to_end_line [] = []
 to_end_line (item ∷ items) = item ∷ cond (is_end_line item) [] (to_end_line items)
 
--- ---- where an item stands, after these earlier items (nearest first)
+-- ---- the place of an item, after these earlier items (nearest first)
 
 -- the number of the line, from 1 on
 abbrev pub line_number : List Item → ℕ

@@ -8,14 +8,14 @@ use Rattle.tsp_text.specs.Numbers.{number, node, node_or_end, is_end}
 use Rattle.tsp_text.specs.Places.{Place, Amount, DepotAfter, FirstAfter, SecondOf, PastEnd}
 use Rattle.tsp_text.specs.Groups.{pairs_in, begun_pair, threes_in, begun_triple}
 
--- what stands before the first that passes
+-- the elements before the first that passes
 abbrev pub before : {A : Type 0} → (A → Bool) → List A → List A
 before test [] = []
 before test (x ∷ xs) = cond (test x) [] (x ∷ before test xs)
 
 -- ---- depots
 
--- the words before the first that stands for -1
+-- the words before the first that means -1
 abbrev pub depots_in : ℕ → List (List ℕ) → List ℕ
 depots_in n words = map (λ word. nat_abs (number (node_or_end n word))) (before (is_end n) words)
 
@@ -24,7 +24,7 @@ place_of_depot n words = cond (list_any (is_end n) words) PastEnd (DepotAfter (l
 
 -- ---- fixed pairs
 
--- the pairs before the first whose first word stands for -1
+-- the pairs before the first whose first word means -1
 abbrev pub fixed_in : ℕ → List (List ℕ) → List (ℕ × ℕ)
 fixed_in n words = map (λ pair. (nat_abs (number (node_or_end n pair.0)), nat_abs (number (node n pair.1))))
     (before (λ pair. is_end n pair.0) (pairs_in words))
@@ -35,7 +35,7 @@ firsts_in [] = []
 firsts_in (a ∷ []) = a ∷ []
 firsts_in (a ∷ b ∷ words) = a ∷ firsts_in words
 
--- after so many whole pairs the first node of one is next, and in a pair that has begun the second
+-- after a number of whole pairs the first node of one is next, and in a pair that has begun the second
 abbrev pub place_in_pair : ℕ → ℕ → List (List ℕ) → Place
 place_in_pair n count [] = FirstAfter count
 place_in_pair n count (first ∷ begun) = SecondOf (number (node_or_end n first))
@@ -54,7 +54,7 @@ fixed_triple n words = (
   number (whole_of words.2 (pos 0) (pos most_multiplier)),
 )
 
--- the triples before the first whose first word stands for -1
+-- the triples before the first whose first word means -1
 abbrev pub fixed_triples_in : ℕ → List (List ℕ) → List (ℕ × ℕ × ℤ)
 fixed_triples_in n words = map (fixed_triple n) (before (λ triple. is_end n triple.0) (threes_in words))
 
@@ -65,7 +65,7 @@ triple_firsts_in (a ∷ []) = a ∷ []
 triple_firsts_in (a ∷ b ∷ []) = a ∷ []
 triple_firsts_in (a ∷ b ∷ c ∷ words) = a ∷ triple_firsts_in words
 
--- after so many whole triples the first node of one is next, and in a triple that has begun the second, or the multiplier
+-- after a number of whole triples the first node of one is next, and in a triple that has begun the second, or the multiplier
 abbrev pub place_in_triple : ℕ → ℕ → List (List ℕ) → Place
 place_in_triple n count [] = FirstAfter count
 place_in_triple n count (first ∷ []) = SecondOf (number (node_or_end n first))

@@ -17,7 +17,7 @@ abbrev pub is_matrix : Shape → Bool
 is_matrix Weights = true
 is_matrix shape = false
 
--- The rows of a line that opens a section: whether an earlier line has it, the line's value, whether DIMENSION stands, and n,
+-- The rows of a line that opens a section: whether an earlier line has it, the line's value, whether DIMENSION has come, and n,
 -- its value.
 abbrev pub opening_rows : Shape → Bool → List ℕ → Bool → ℕ → Option LineFault
 opening_rows shape stands value has_nodes n = first_row (when stands row.Repeated ∷ when (is_filled value) row.SectionValue

@@ -1,6 +1,6 @@
--- The rows by which a line or a word is judged. Each says when it applies to an item after the earlier items, the nearest
--- first: to a word line, or to one word of a number line. Source: TSPLIB 95 (G. Reinelt) for what stands where; the rows and
--- their order are this project's profile.
+-- The rows by which a line or a word is judged. Each says when it applies to an item after the earlier items, the nearest first:
+-- to a word line, or to one word of a number line. Source: TSPLIB 95 (G. Reinelt) for the place of each word; the rows and their
+-- order are this project's profile.
 use Rattle.std.specs.Prelude.{ℕ, ◌+◌, Bool, true, false, cond, not, ◌&&◌, ◌||◌, nat_lt, nat_le, List, [], ◌∷◌, length, Option, None, Some, is_none}
 use Rattle.std.specs.Option.{option_map, option_and_then, option_map_or, option_or}
 use Rattle.std.specs.Result.{result_err}
@@ -131,8 +131,8 @@ is_stray earlier (Line key line) = false
 is_stray earlier (NumberWord word) = is_none (open_section earlier)
 is_stray earlier LineEnd = false
 
--- ---- Number: the fault of what is read, in the first word of a number keyword's value or in a word that stands at a place
--- of its section
+-- ---- Number: the fault of a word that is read, in the first word of a number keyword's value or in a word at a place of its
+-- section
 
 abbrev pub number_fault_at : ℕ → Place → List ℕ → Option NumberFault
 number_fault_at n (NodeAfter nodes) word = result_err (node n word)
@@ -182,12 +182,11 @@ is_self_edge earlier (Line key line) = false
 is_self_edge earlier (NumberWord word) = at_place is_self_edge_at earlier word
 is_self_edge earlier LineEnd = false
 
--- ---- Surplus: a line of COMMENT or of an unknown keyword after as many as may stand; past the groups, or past a whole tree, a
--- word other than `-1`; a word past the weights; a depot, a first node of a pair or a triple, a node of the tours, a node of a
--- comb, a first node of a comb or of a branch, or an index of a leaf (no -1, and no 0 that begins a leaf) after as many as may
--- stand
+-- ---- Surplus: a line of COMMENT or of an unknown keyword after the most of them; past the groups, or past a whole tree, a word
+-- other than `-1`; a word past the weights; a depot, a first node of a pair or a triple, a node of the tours, a node of a comb, a
+-- first node of a comb or of a branch, or an index of a leaf (no -1, and no 0 that begins a leaf) after the most of them
 
--- a node of combs has no room, by whether a comb has begun, after so many combs and nodes
+-- a node of combs is beyond the limit, by whether a comb has begun, after this many combs and nodes
 abbrev pub is_past_combs : Bool → ℕ → ℕ → Bool
 is_past_combs begun combs count = nat_le most_comb_nodes count || (not begun && nat_le most_combs combs)
 
@@ -271,7 +270,7 @@ first_row (fault ∷ rows) = option_or fault (first_row rows)
 abbrev pub row_of : List Item → Item → Option LineFault
 row_of earlier item = first_row (table earlier item)
 
--- the rows of a word that stands at this place
+-- the rows of a word at this place
 abbrev pub word_fault : ℕ → Place → List ℕ → Option LineFault
 word_fault n place word = first_row (option_map (λ fault. row.Number fault) (number_fault_at n place word)
     ∷ when (is_repeated_node_at n place word) row.RepeatedNode

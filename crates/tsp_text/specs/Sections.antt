@@ -1,4 +1,4 @@
--- Each section's words: where the next one stands. Source: TSPLIB 95 (G. Reinelt).
+-- Each section's words: the place of the next one. Source: TSPLIB 95 (G. Reinelt).
 use Rattle.std.specs.Prelude.{ℕ, Bool, List, Option, unwrap_or}
 use Rattle.std.specs.Option.{option_map, option_map_or}
 use Rattle.tsp_format.specs.declared.field.Field.{Field}
@@ -16,7 +16,7 @@ use Rattle.tsp_text.specs.Tours.{place_of_tour}
 use Rattle.tsp_text.specs.Combs.{place_of_comb}
 use Rattle.tsp_text.specs.Tree.{place_of_step}
 
--- where the next word of a section of this shape stands after these words of it, with n nodes
+-- the place of the next word of a section of this shape after these words of it, with n nodes
 abbrev pub place_by : Shape → ℕ → List (List ℕ) → Place
 place_by (Numbers low high) n words = place_of_number low high n words
 place_by Points n words = place_of_point n words
@@ -37,7 +37,7 @@ place_in in_space field n words = option_map_or (λ shape. place_by shape n word
 abbrev pub dimension_in : List Item → ℕ
 dimension_in earlier = unwrap_or (dimension_of earlier) 0
 
--- where a word after these items stands, if a section is open
+-- the place of a word after these items, if a section is open
 abbrev pub next_place : List Item → Option Place
 next_place earlier = option_map (λ field. place_in (spatial_after earlier) field (dimension_in earlier) (words_of field earlier))
     (open_section earlier)

@@ -1,4 +1,4 @@
--- What the items of a text spell, field by field, and the fault at their end. Source: TSPLIB 95 (G. Reinelt) for the fields.
+-- The fields of the items of a text, and the fault at their end. Source: TSPLIB 95 (G. Reinelt) for the fields.
 use Rattle.std.specs.Prelude.{ℕ, Bool, true, false, cond, ◌&&◌, List, Option, None, Some, ℤ, pos, neg_ℤ}
 use Rattle.std.specs.List.{find, filter}
 use Rattle.tsp_format.specs.declared.field.Field.{Field}
@@ -29,7 +29,7 @@ potentials_by_node n words = numbers_by_node (neg_ℤ (pos most_potential)) (pos
 abbrev pub demands_in : ℕ → List (List ℕ) → List ℤ
 demands_in n words = numbers_by_node (pos 0) (pos most_demand) n words
 
--- the value of a section, by its words; without words a section that stands gives the value of no words, and one that doesn't
+-- the value of a section, by its words; without words a section that has come gives the value of no words, and one that hasn't
 -- none
 abbrev pub section_value : {A : Type 0} → (Field → Bool) → (List (List ℕ) → A) → Field → List Item → Option A
 section_value stands value field items = cond (stands field) (Some (value (words_of field items))) None
@@ -63,7 +63,7 @@ fields_by stands items = record {
   branches = section_value stands (whole_steps (dimension_in items)) BranchPart items;
 }
 
--- a section stands where a line opens it
+-- a section has come where a line opens it
 abbrev pub stands : List Item → Field → Bool
 stands items field = has_line field items
 

@@ -1,5 +1,5 @@
--- What a text of bytes spells, and its first fault. Source: TSPLIB 95 (G. Reinelt) for the fields; lines, faults, their order
--- and the limit of a file's bytes are this project's profile.
+-- Which file a text of bytes parses to, and its first fault. Source: TSPLIB 95 (G. Reinelt) for the fields; lines, faults, their
+-- order and the limit of a file's bytes are this project's profile.
 use Rattle.std.specs.Prelude.{◌≡◌, ℕ, Bool, not, cond, ◌&&◌, nat_lt, List, [], ◌∷◌, length, take, reverse, Option, None}
 use Rattle.std.specs.Option.{option_map}
 use Rattle.tsp_format.specs.Limits.{most_file_bytes}
@@ -26,12 +26,12 @@ fault bytes = first_row (fault_in (part bytes)
     ∷ when (is_too_long bytes && not (has_end_line (part bytes))) faults.TooLong
     ∷ option_map (λ fault. faults.End fault) (fault_at_end (part bytes)) ∷ [])
 
--- the text spells this file
+-- the text parses to this file
 pub record Spells (bytes : List ℕ) (file : Fields) : Type 0 where
   pub no_fault : fault bytes ≡ None
   pub fields : file ≡ spelled (part bytes)
 
--- ---- what is settled before the end of a text has come
+-- ---- the settled part before the end of a text has come
 
 abbrev pub settled_part : List ℕ → List Item
 settled_part bytes = reverse (to_end_line (settled_items (take most_file_bytes bytes)))

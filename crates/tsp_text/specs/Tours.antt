@@ -13,7 +13,7 @@ ends_tour word = is_end most_nodes word
 abbrev pub tour_node : List ℕ → ℕ
 tour_node word = nat_abs (number (node_or_end most_nodes word))
 
--- the runs, not empty, of words between those that stand for -1
+-- the runs, not empty, of words between those that mean -1
 abbrev pub tours_in : List (List ℕ) → List (List ℕ)
 tours_in words = map (map tour_node) (filter is_filled (slice_split ends_tour words))
 

@@ -1,6 +1,6 @@
 -- A tree of cases. BRANCH_SECTION is this project's own: it lists the steps of one tree. A node and a second one are a branch,
--- which stands before its two trees. A 0 begins a leaf: an index and a difference for each number that changes, and a -1 in the
--- place of an index ends it.
+-- which comes before its two trees. A 0 begins a leaf: an index and a difference for each number that changes, and a -1 in place
+-- of an index ends it.
 use Rattle.std.specs.Prelude.{ℕ, ◌+◌, ◌-◌, ◌==◌, Bool, true, false, cond, List, [], ◌∷◌, ◌++◌, Option, None, Some, Result, ℤ, pos, neg_ℤ, nat_abs}
 use Rattle.std.specs.List.{fold}
 use Rattle.tsp_number.specs.declared.fault.NumberFault.{NumberFault}
@@ -10,7 +10,7 @@ use Rattle.tsp_format.specs.Steps.{Step, Branch, Leaf}
 use Rattle.tsp_text.specs.Numbers.{number, reads_as, node, whole_of_size, node_or_end, is_end}
 use Rattle.tsp_text.specs.Places.{Place, StepAfter, SecondOf, IndexAfter, Amount, PastGroups}
 
--- what stands after some words of the section
+-- the contents after some words of the section
 pub record TreeSoFar : Type 0 where
   -- the whole steps
   pub steps : List Step
@@ -94,7 +94,7 @@ tree_after n words = fold (with_tree_word n) no_steps words
 abbrev pub whole_steps : ℕ → List (List ℕ) → List Step
 whole_steps n words = (tree_after n words).steps
 
--- ---- where the next word stands
+-- ---- the place of the next word
 
 abbrev pub place_in_step : Bool → Option ℕ → TreeSoFar → Place
 place_in_step false None so_far = StepAfter so_far.branches

@@ -18,8 +18,8 @@ pub fn first_faults()
     ensures none { (items : List Item) → NoneHasRow items → IsClean items }
 {}
 
-/// Every text has exactly one answer, the file that it spells or its first fault. So it never has
-/// both, and spells one file at most.
+/// Every text has exactly one answer, the file that it parses to or its first fault. So it never
+/// has both, and parses to at most one file.
 pub fn texts_have_one_answer()
     ensures one { (bytes : List ℕ) → HasOneAnswer bytes }
     ensures never_both { (bytes : List ℕ) (file : Fields) (found : ReadFault)

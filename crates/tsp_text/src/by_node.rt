@@ -10,7 +10,8 @@ ghost use Rattle.tsp_text.specs.FirstFault.{IsClean};
 ghost use Rattle.tsp_text.specs.Spells.{is_incomplete};
 ghost use Rattle.tsp_text.specs.ByNode.{is_by_node_field, group_nodes, HasEachNodeOnce};
 
-/// A section by node that stands, has no fault and isn't incomplete has one group for each node.
+/// A section by node that is present, has no fault and isn't incomplete has one group for each
+/// node.
 pub fn each_node_has_one_group()
     ensures { (items : List Item) (field : Field)
         → IsClean items → is_by_node_field field ≡ true

@@ -154,7 +154,7 @@ pub fn limits_of_lines()
     ensures others { IsLimitOfLines 1000 999 (codes "FOO : x") }
 {}
 
-/// The last word of a list that has room, and the first that has none.
+/// The last word within the limit of a list, and the first beyond it.
 #[tactic(auto, unfolding(tsp_number::specs::Reading::decimal_of, tsp_number::specs::Reading::whole_of))]
 pub fn limits_of_sections()
     ensures depots { IsLimit (DepotAfter 100000) (DepotAfter 99999) (codes "1") }
@@ -173,7 +173,7 @@ pub fn limits_of_sections()
     ensures end_of_leaf { is_surplus_at 3 (IndexAfter 10000000) (codes "-1") ≡ false }
 {}
 
-/// What some texts spell.
+/// The files of some texts.
 #[tactic(auto, unfolding(tsp_number::specs::Reading::decimal_of, tsp_number::specs::Reading::whole_of, tsp_format::specs::Cells::nodes_to))]
 pub fn fields_of_texts()
     ensures value { OthersAre (codes "FOO : BAR") (codes "FOO") (codes "BAR") }

@@ -10,9 +10,9 @@ use tsp_number::NumberFault;
 pub enum LineFault {
     /// A word line has more than 4,096 bytes from its first byte that isn't blank to its end.
     LongLine,
-    /// An unknown keyword stands without a colon.
+    /// An unknown keyword has no colon.
     UnknownLine,
-    /// A keyword other than COMMENT, or a section, stands that an earlier line has.
+    /// An earlier line has this keyword, other than COMMENT, or this section.
     Repeated,
     /// The line has a value of TSPLIB 95 that this profile leaves out.
     Outside,
@@ -20,11 +20,11 @@ pub enum LineFault {
     BadValue,
     /// The line of a section has a value.
     SectionValue,
-    /// A section other than TOUR_SECTION stands before DIMENSION.
+    /// A section other than TOUR_SECTION comes before DIMENSION.
     SectionEarly,
-    /// EDGE_WEIGHT_SECTION stands where DIMENSION is larger than 5,000.
+    /// EDGE_WEIGHT_SECTION is present where DIMENSION is larger than 5,000.
     TooManyNodes,
-    /// A number stands where no section is open.
+    /// A number appears where no section is open.
     StrayNumber,
     /// A word that is wanted as a number isn't read as one.
     Number(NumberFault),
@@ -34,7 +34,7 @@ pub enum LineFault {
     SelfEdge,
     /// There are more lines or words than the file can have.
     Surplus,
-    /// A word other than `-1` stands after the -1 that ended the list, or the combs.
+    /// A word other than `-1` appears after the -1 that ended the list, or the combs.
     AfterEnd,
     /// The line says that the nodes have three coordinates, after a NODE_COORD_SECTION of two each.
     LateSpace,

@@ -1,5 +1,11 @@
-//! What a text spells: which file its items, word lines and words stand for, or the first fault among
-//! them. Definitions, and laws of what always holds of texts, whoever reads them.
+//! Which file a text parses to, or its first fault: definitions and laws, no code.
+//!
+//! The definitions in `specs/` take a text apart into lines and words. The laws say what always holds
+//! of texts, whoever reads them. The reader is tsp_read's.
+//!
+//! ```text
+//! texts_have_one_answer();
+//! ```
 #![tactic(auto)]
 
 mod answers;

@@ -1,4 +1,4 @@
-//! What always holds of what is settled before the end of a text has come.
+//! What always holds of the settled part of a text, before its end has come.
 
 ghost use Rattle.std.specs.Prelude.{◌≡◌, ℕ, List, ◌++◌, Some, true};
 ghost use Rattle.tsp_text.specs.declared.fault.ReadFault.{ReadFault};

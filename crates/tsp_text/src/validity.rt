@@ -1,4 +1,4 @@
-//! What always holds of the fields that a text spells.
+//! What always holds of the fields of a text.
 
 ghost use Rattle.std.specs.Prelude.{◌≡◌, ℕ, List, None, false};
 ghost use Rattle.tsp_format.specs.declared.field.Field.TheVariants.{BranchPart};
@@ -11,8 +11,8 @@ ghost use Rattle.tsp_text.specs.FirstFault.{IsClean};
 ghost use Rattle.tsp_text.specs.Spells.{spelled, is_incomplete, fault_at_end};
 ghost use Rattle.tsp_text.specs.Text.{part, Spells};
 
-/// What items without a fault spell is valid, field by field, where the tree of cases, if one stands,
-/// is whole.
+/// The fields of items without a fault are valid, field by field, if the tree of cases, where there
+/// is one, is whole.
 pub fn clean_fields_are_valid()
     ensures of_items { (items : List Item) → AreCut items → IsClean items → is_incomplete items BranchPart ≡ false
         → bad_field (spelled items) ≡ None }
@@ -20,7 +20,7 @@ pub fn clean_fields_are_valid()
         → bad_field (spelled (part bytes)) ≡ None }
 {}
 
-/// What a text spells is a file: no field of it, nor its fields together, have a fault.
+/// The fields of a text are a file: no field of it, nor its fields together, have a fault.
 pub fn spelled_files_are_valid()
     ensures of_items { (items : List Item) → AreCut items → IsClean items → fault_at_end items ≡ None
         → fault_of (spelled items) ≡ None }

@@ -16,7 +16,7 @@ use Rattle.tsp_theory.proofs.Weights.{weight_even}
 use Rattle.tsp_theory.proofs.Cycles.{least_tree_below}
 use Rattle.tsp_theory.proofs.Neighbours.{sum_counted, count_neighbours, count_others}
 
--- ---- adjusted weights are the same both ways
+-- ---- adjusted weights are symmetric
 
 and_turned : (x y : Bool) → (x && y) ≡ (y && x)
 and_turned true true = refl

@@ -1,4 +1,4 @@
--- The exchange: a list that crosses each cut has a pair that a growth can stand for.
+-- The exchange: a list that crosses each cut has a pair that a growth can replace.
 use Rattle.std.proofs.Common.{◌≡◌, ℕ, suc, zero, Bool, true, false, not, ◌||◌, ◌==◌, cond, List, [], ◌∷◌, length, ℤ, ◌+ℤ◌, ◌≤ℤ◌, ◌⊎◌, inl, inr, refl, arith, ap, sym, ◌∙◌, subst}
 use Rattle.std.proofs.lemmas.Bool.{cases_Bool, false≢true, or_left, or_right, or_cases, both_ways, false_from_ne_true, not-true, not-false, eqb-true, eq-eqb}
 use Rattle.std.proofs.lemmas.Int.{ints}
@@ -32,7 +32,7 @@ or_swap false b c = refl
 pub takes_first : (P : ℕ × ℕ → Type 0) (w : ℕ → ℕ → ℤ) (y : ℕ × ℕ) (ys : List (ℕ × ℕ)) → Takes P w (y ∷ ys) y ys
 takes_first P w y ys = record { count = refl; weighs = refl; any = λ test. refl; all = λ h. h }
 
--- what is taken of the rest is taken of all, and the first one taken is put back
+-- a pair taken from the rest is taken from all, and the first one taken is put back
 pub takes_later : (P : ℕ × ℕ → Type 0) (w : ℕ → ℕ → ℤ) (ys : List (ℕ × ℕ)) (e : ℕ × ℕ) (rest : List (ℕ × ℕ)) (f : ℕ × ℕ) (last : List (ℕ × ℕ))
     → Takes P w ys e rest → Takes P w rest f last → Takes P w ys f (e ∷ last)
 takes_later P w ys e rest f last t s = record {

@@ -27,7 +27,7 @@ length_last cost so_far total end from others none e =
     ap (λ (z : ℤ). so_far +ℤ z) (sym (+ℤ_idr (cost from end)))
     ∙ subst (λ (xs : List ℕ). so_far +ℤ length_to cost end from xs ≡ total) none e
 
--- a sum of so many costs is of this size
+-- a sum of this many costs is of this size
 pub record IsSumOf (count : ℕ) (sum : ℤ) : Type 0 where
   pub low : pos 0 ≤ℤ (sum +ℤ pos (1000000000000 * count))
   pub high : sum ≤ℤ pos (1000000000000 * count)

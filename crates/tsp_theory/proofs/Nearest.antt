@@ -1,4 +1,4 @@
--- One pass over the nodes outside: what is kept of them, and the nearest one.
+-- One pass over the nodes outside: their entries, and the nearest one.
 use Rattle.std.proofs.Common.{◌≡◌, ◌≢◌, ℕ, ◌+◌, ◌<◌, ◌≤◌, Bool, true, false, List, Option, Some, None, slice_index, get_or, length, to_z, of_z, inl, inr, ap, sym, subst, ◌∙◌, arith, MatchOption}
 use Rattle.std.specs.Prelude.{ℤ, pos, ◌≤ℤ◌, ◌<ℤ◌, FitsSigned}
 use Rattle.std.specs.Int.{w64}
@@ -68,7 +68,7 @@ below_others : (n : ℕ) (inside : List Bool) (node : ℕ) (least : List ℤ) (b
 below_others n inside node least best None f x h below out = absurd (both_ways (is_inside inside x) out (f.1 x h below))
 below_others n inside node least best (Some v) f x h below out = f.4 x h below out
 
--- what is taken is below the weight that stands for none
+-- a taken weight is below the one that means none
 taken_small : (weight : ℤ) (next : ℕ) (old_near : ℕ) (old_least : ℤ) (new_near : ℕ) (new_least : ℤ) → weight <ℤ most_64
     → IsNearer weight next old_near old_least new_near new_least → new_least <ℤ most_64
 taken_small weight next old_near old_least new_near new_least small (inl old) = omega (arith, ints, small, old.1, old.2)
@@ -161,7 +161,7 @@ nearest_found n inside node least best (Some v) past f = record {
   nearest = λ x h out. subst (λ (z : ℤ). z ≤ℤ least_at least x) f.3 (f.4 x h (omega (arith, h.1, past)) out);
 }
 
--- ---- as a turn of the loop shows it
+-- ---- as a pass of the loop shows it
 
 pub taken_by_set : (weight result : ℤ) (next node : ℕ) (near : List ℕ) (least : List ℤ) (new_near : ℕ) (new_least : ℤ) → node < length near
     → node < length least → FitsSigned w64 result → result ≡ weight

@@ -33,7 +33,7 @@ growth_links Node w (e ∷ es) grown nodes grows = (
 
 -- ---- the lower end first
 
--- what holds of a pair both ways holds of it with the lower end first
+-- a symmetric fact of a pair holds of it with the lower end first
 ordered_both : (e : ℕ × ℕ) (P : ℕ × ℕ → Type 0) → (e.0 < e.1 → P e) → (e.1 ≤ e.0 → P (e.1, e.0)) → P (ordered e)
 ordered_both e P here turned = cond_both (ltb e.0 e.1) e (e.1, e.0) P (λ t. here (ltb-true e.0 e.1 t)) (λ f. turned (ltb-false e.0 e.1 f))
 

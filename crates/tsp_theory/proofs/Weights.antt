@@ -45,7 +45,7 @@ weight_computed scaled first second p q r = rw (both_is first second q r, scaled
 pub scaled_by : (scale cost scaled both : ℤ) → IsScale scale → scaled ≡ to_z w64 (of_z w64 scale) *ℤ cost → scaled +ℤ both ≡ (scale *ℤ cost) +ℤ both
 scaled_by scale cost scaled both s is = ap (λ z. z +ℤ both) (is ∙ ap (λ z. z *ℤ cost) (same_scale scale s))
 
--- the weight is the same both ways
+-- the weight is symmetric
 pub weight_even : (scale : ℤ) (potentials : List ℤ) (cost : ℕ → ℕ → ℤ) → IsSymmetric cost → (i j : ℕ) → weight_between scale potentials cost i j ≡ weight_between scale potentials cost j i
 weight_even scale potentials cost even i j = elim (cases_eq i j) [
   | inl same ↦ ap (λ k. weight_between scale potentials cost k j) same ∙ ap (λ k. weight_between scale potentials cost j k) (sym same)

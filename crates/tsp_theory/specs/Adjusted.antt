@@ -65,7 +65,7 @@ pub record IsAdjustedBound (n : ℕ) (cost : ℕ → ℕ → ℤ) (scale : ℤ) 
 
 -- ---- the theorems
 
--- Under weights that are the same both ways a least 1-tree weighs no more than a cycle: the cycle's links are a 1-tree.
+-- Under symmetric weights a least 1-tree weighs no more than a cycle: the cycle's links are a 1-tree.
 abbrev pub LeastTreesAreBelowCycles : Type 0
 LeastTreesAreBelowCycles = (n : ℕ) (w : ℕ → ℕ → ℤ) (tree : List (ℕ × ℕ)) (nodes : List ℕ)
     → 3 ≤ n → ((i j : ℕ) → w i j ≡ w j i) → IsLeastOneTree n w tree → IsCycle n nodes → weight_of w tree ≤ℤ length_of w nodes

@@ -1,4 +1,4 @@
--- Costs that are the same both ways: the words of `tsp_format`, handed on; and rows of costs.
+-- Symmetric costs: the words of `tsp_format`, re-exported; and rows of costs.
 use Rattle.std.specs.Prelude.{◌≡◌, ℕ, ℤ, List, slice_index_or, pos, neg_ℤ, ◌≤ℤ◌}
 use Rattle.tsp_format.specs.Cells.{IsNode}
 use Rattle.tsp_format.specs.Limits.{most_weight}

@@ -1,7 +1,7 @@
 -- Small costs, trees and duals on which the definitions are evaluated.
 use Rattle.std.specs.Prelude.{ℕ, ◌+◌, ◌-◌, ◌*◌, ◌/◌, ◌==◌, if◌then◌else◌, min, max, List, [], ◌∷◌, slice_index_or, ℤ, pos, negsuc}
 
--- costs that are the same both ways, from those between 2 and 1, 3 and 1, 3 and 2, 4 and 1, 4 and 2, 4 and 3
+-- symmetric costs, from those between 2 and 1, 3 and 1, 3 and 2, 4 and 1, 4 and 2, 4 and 3
 abbrev pub even_costs : List ℤ → ℕ → ℕ → ℤ
 even_costs costs i j = slice_index_or costs ((max i j - 1) * (max i j - 2) / 2 + (min i j - 1)) (pos 0)
 

@@ -52,6 +52,6 @@ pub record AreMultipliers (triples : List (ℕ × ℕ × ℤ)) : Type 0 where
   pub few : length triples ≤ most_multipliers
   pub each : All IsMultiplier triples
 
--- how large a sum of so many numbers of 64 bits is at most
+-- how large a sum of this many numbers of 64 bits is at most
 abbrev pub IsSumSized : ℕ → ℤ → Type 0
 IsSumSized count sum = IsFromTo (neg_ℤ (pos (count * 2 ^ 63))) (pos (count * 2 ^ 63)) sum

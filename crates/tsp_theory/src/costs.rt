@@ -19,7 +19,9 @@ pub trait Costs {
 
     /// The cost from one node to another, at most 10^12 in size; the same at each call.
     ///
-    /// The caller owes nodes of 1 to `count`. They may be the same node.
+    /// # Requires
+    ///
+    /// Nodes of 1 to `count`. They may be the same node.
     fn cost(&self, i: u32, j: u32) -> i64
         requires from { IsNode (nodes self.now) i }
         requires to { IsNode (nodes self.now) j }
@@ -29,7 +31,9 @@ pub trait Costs {
 
     /// Writes the costs from a node to each into a row, each at the place of its node.
     ///
-    /// The caller owes a node of 1 to `count`, and a row of one place more than there are nodes.
+    /// # Requires
+    ///
+    /// A node of 1 to `count`, and a row of one place more than there are nodes.
     fn costs_from(&self, i: u32, row: &mut [i64])
         requires from { IsNode (nodes self.now) i }
         requires room { length row.old ≡ nodes self.now + 1 }
@@ -41,7 +45,7 @@ pub trait Costs {
     }
 }
 
-/// Costs that are the same both ways between different nodes.
+/// Costs that are symmetric between different nodes.
 pub trait Symmetric: Costs {
     ghost use Rattle.tsp_theory.specs.Costs.{IsSymmetric};
 

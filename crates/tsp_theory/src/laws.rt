@@ -26,8 +26,8 @@ pub fn node_bounds_bound_cycles()
     cycles_have_no_loops();
 }
 
-/// The cut argument: under weights that are the same both ways a least 1-tree weighs no more than
-/// a cycle of three or more nodes.
+/// The cut argument: under symmetric weights a least 1-tree weighs no more than a cycle of three or
+/// more nodes.
 pub fn least_trees_are_below_cycles()
     ensures { LeastTreesAreBelowCycles }
 {

@@ -12,8 +12,11 @@ use std::alloc::{AllocError, Global};
 /// The length of a list of nodes: the sum of the costs from each node to the next, and from the
 /// last to the first.
 ///
-/// The length of one node is the cost from it to itself, and that of an empty list is 0. The
-/// caller owes nodes of 1 to `count`, and at most 1,000,000 of them.
+/// The length of one node is the cost from it to itself, and that of an empty list is 0.
+///
+/// # Requires
+///
+/// Nodes of 1 to `count`, and at most 1,000,000 of them.
 pub fn tour_length<C: Costs>(c: &C, tour: &[u32]) -> i64
     requires range { All (IsNode (C.nodes c.now)) tour.now }
     requires size { length tour.now ≤ most_tour_nodes }

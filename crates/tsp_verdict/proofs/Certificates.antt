@@ -31,7 +31,7 @@ use Rattle.tsp_format.specs.declared.kinds.Kind.{Kind}
 
 -- ---- against the certificate alone
 
--- what is known before a rank rules out the reasons before it
+-- the facts before a rank rule out the reasons before it
 pub none_before : (inst pot : Fields) (rank : ℕ) → (16 < rank → is_certificate pot.kind ≡ true) → (17 < rank → nodes_of pot ≡ nodes_of inst)
     → (18 < rank → has_wanted inst.kind pot ≡ true) → (19 < rank → (index : ℕ) → StandsAgainstPotentials inst pot (MultiplierNotFixed index) → ⊥)
     → (20 < rank → (index : ℕ) → StandsAgainstPotentials inst pot (MultiplierRepeated index) → ⊥)
@@ -91,7 +91,7 @@ repeats inst pot fixed triples index fixed_are triples_are kind sort size wanted
       (λ low. absurd (omega (arith, low)));
 }
 
--- what is found where neither stands
+-- the findings where neither applies
 pub multiplied : (inst pot : Fields) (fixed : List (ℕ × ℕ)) (triples : List (ℕ × ℕ × ℤ)) → fixed ≡ fixed_of inst → triples ≡ multipliers_in pot → nodes_of pot ≡ nodes_of inst
     → All (λ triple. IsNode (nodes_of pot) triple.0 × IsNode (nodes_of pot) triple.1) triples → AreListed fixed triples → AllPairs (λ s t. is_same_pair (pair_of s) (pair_of t) ≡ false) triples
     → AreOnPairs (nodes_of inst) (multipliers_in pot) × AreListed (fixed_of inst) (multipliers_in pot)
@@ -99,7 +99,7 @@ multiplied inst pot fixed triples fixed_are triples_are size nodes listed apart 
     let on_pairs : AreOnPairs (nodes_of pot) triples = record { nodes = nodes; differ = apart } in
     (subst₂ (λ n ts. AreOnPairs n ts) size triples_are on_pairs, subst₂ (λ fs ts. AreListed fs ts) fixed_are triples_are listed)
 
--- no reason stands against a certificate of a TSP whose multipliers are on different fixed pairs
+-- no reason applies to a certificate of a TSP whose multipliers are on different fixed pairs
 pub none_of_tsp : (inst pot : Fields) → inst.kind ≡ Some kinds.Tsp → is_certificate pot.kind ≡ true → nodes_of pot ≡ nodes_of inst → has_wanted inst.kind pot ≡ true
     → AreOnPairs (nodes_of inst) (multipliers_in pot) → AreListed (fixed_of inst) (multipliers_in pot) → (reason : Reason) → StandsAgainstPotentials inst pot reason → ⊥
 none_of_tsp inst pot kind sort size wanted on_pairs listed =
@@ -130,7 +130,7 @@ broken_first inst pot i j kind sort size wanted broken = record {
       (λ low index stands. not_undirected inst.kind kind stands.0) (λ low. absurd (omega (arith, low)));
 }
 
--- no reason stands against duals that give a bound
+-- no reason applies to duals that give a bound
 pub none_of_atsp : (inst pot : Fields) (bound : ℤ) → inst.kind ≡ Some kinds.Atsp → is_certificate pot.kind ≡ true → nodes_of pot ≡ nodes_of inst
     → has_wanted (Some kinds.Atsp) pot ≡ true → IsCertified Potentials inst pot bound → (reason : Reason) → StandsAgainstPotentials inst pot reason → ⊥
 none_of_atsp inst pot bound kind sort size wanted certified =
@@ -186,7 +186,7 @@ tour_first by inst sol cert reason first = record {
     by_side other low (inl stands) = first.none_before other low stands
     by_side other low (inr stands) = omega (arith, low, tour_rank inst sol reason first.stands, certificate_rank by inst cert other stands)
 
--- where none stands against the tour, the first against the certificate is the first of all
+-- where none applies to the tour, the first against the certificate is the first of all
 pub certificate_first : (by : Certificate) (inst sol cert : Fields) (reason : Reason) → ((other : Reason) → StandsAgainstTour inst sol other → ⊥)
     → IsFirstReason (StandsAgainstCertificate by inst cert) reason → IsFirstAgainstCertified by inst sol cert reason
 certificate_first by inst sol cert reason none first = record {

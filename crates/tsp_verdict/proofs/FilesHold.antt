@@ -75,7 +75,7 @@ steps_hold f steps held =
     All-from_recursion (IsStepOf (nodes_of f)) steps
     (few_changes (nodes_of f) most_changes steps (omega arith) (subst (λ (n : ℕ). AllByRecursion (IsStep n) steps) same (recursion_from_All (IsStep held.n) steps held.each)) held.few_changes)
 
--- so many trees have so many leaves more than branches
+-- n trees have n leaves more than branches
 leaves_of_trees : (count : ℕ) (steps : List Step) → are_whole count steps ≡ true → leaf_count steps ≡ branch_count steps + count
 leaves_of_trees zero [] whole = refl
 leaves_of_trees zero (Branch a b ∷ steps) whole = absurd (false≢true whole)

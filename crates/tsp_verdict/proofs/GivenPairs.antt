@@ -119,7 +119,7 @@ given_few directed most given pairs are few = omega (arith, few, given_length, a
 
 -- ---- one pass over the pairs
 
--- what was taken, and what is left to take, is all
+-- the taken pairs, and the pairs left to take, are all
 abbrev pub IsTakenSoFar : Bool → List (ℕ × ℕ) → List (ℕ × ℕ × Bool) → ℕ → Type 0
 IsTakenSoFar directed pairs taken index = case_of taken ++ take_pairs (each_once directed (take index pairs) (drop index pairs)) ≡ take_pairs (each_once directed [] pairs)
 

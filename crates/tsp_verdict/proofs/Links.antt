@@ -41,7 +41,7 @@ last_or_before k count h = by_cases (cases_lt k count)
     by_cases (inl lt) = inr lt
     by_cases (inr le) = inl (omega arith)
 
--- one link more, from a node that stands nowhere before
+-- one link more, from a node that is nowhere before
 pub set_more : (firsts seconds next : List ℕ) (count : ℕ) → count < length firsts → get_or firsts count 0 < length next → AllPairs (λ a b. a ≢ b) firsts
     → SetUpTo firsts seconds next count → SetUpTo firsts seconds (set next (get_or firsts count 0) (get_or seconds count 0)) (count + 1)
 set_more firsts seconds next count inside fits once m = record {

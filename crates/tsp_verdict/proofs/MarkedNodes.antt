@@ -1,4 +1,4 @@
--- The nodes that stand at the first places, as marks.
+-- The nodes at the first places, as marks.
 use Rattle.std.proofs.Common.{◌≡◌, ◌≢◌, ℕ, zero, suc, ◌+◌, ◌-◌, ◌<◌, ◌≤◌, Bool, true, false, List, [], ◌∷◌, length, Option, None, Some, get_or, set, replicate, refl, sym, ap, subst, ◌∙◌, arith, inl, inr}
 use Rattle.std.specs.Prelude.{◌⊎◌, MatchOption}
 use Rattle.std.specs.List.{AllPairs, Contains}
@@ -80,7 +80,7 @@ repeated_here nodes seen count lt taken m =
 pub mark_is : (seen : List Bool) (k : ℕ) (mark value : Bool) → k < length seen → mark ≡ get_or seen k mark → mark ≡ value → get_or seen k false ≡ value
 mark_is seen k mark value h read e = get_or_default seen k false mark h ∙ sym read ∙ e
 
--- no node is marked, and none stands at the first 0 places
+-- no node is marked, and none is at the first 0 places
 pub none_marked : (nodes : List ℕ) (m : ℕ) → Marked nodes (replicate m false) 0
 none_marked nodes m = record {
   marked = λ place low high. absurd (omega (arith, low, high));
@@ -115,7 +115,7 @@ repeated_next nodes piece seen before index stands lt taken m =
     let count : before + index + 1 ≡ before + (index + 1) = omega arith in
     subst (λ k. IsFirstPlace (IsRepeated nodes) nodes k) count first
 
--- a list stands in itself
+-- a list is part of itself
 pub stands_whole : (nodes : List ℕ) → StandsAfter 0 nodes nodes
 stands_whole nodes = record {
   inside = omega arith;

@@ -153,7 +153,7 @@ sets_few n sets combs are some =
 abbrev lists : List (Vec ℕ) → List (List ℕ)
 lists comb = map (λ set. set.items) comb
 
--- what is added so far
+-- the additions so far
 abbrev pub IsAdded : ℕ → List (Vec ℕ) → List (ℕ × Vec ℕ) → List (ℕ × Vec ℕ) → Type 0
 IsAdded number comb old new = plain new ≡ plain old ++ with_number number (map (λ set. set.items) comb)
 

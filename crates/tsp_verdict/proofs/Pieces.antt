@@ -11,7 +11,7 @@ use Rattle.tsp_verdict.specs.states.Marks.{StandsAfter}
 use Rattle.tsp_verdict.specs.Places.{node_at, IsFirstPlace}
 use Rattle.tsp_verdict.specs.Solution.{nodes_in}
 
--- a route stands after the nodes of those before it
+-- a route is after the nodes of those before it
 pub route_stands : (routes : List (Vec ℕ)) (i : ℕ) (route : Vec ℕ) → i < length routes → route ≡ get_or routes i route → StandsAfter (length (nodes_in (take i routes))) (nodes_in routes) route.items
 route_stands routes i route lt is = record {
   inside = subst (λ (r : Vec ℕ). length (nodes_in (take i routes)) + length r.items ≤ length (nodes_in routes)) (sym is) (length-flat_map-take (λ (r : Vec ℕ). r.items) routes i route lt);
@@ -20,7 +20,7 @@ route_stands routes i route lt is = record {
       get_or-flat_map (λ (r : Vec ℕ). r.items) routes i k route 0 lt there ∙ ap (λ (r : Vec ℕ). get_or r.items k 0) (sym is);
 }
 
--- with it there are so many more
+-- with it there are as many more
 pub count_more : (routes : List (Vec ℕ)) (i : ℕ) (route : Vec ℕ) → i < length routes → route ≡ get_or routes i route
     → length (nodes_in (take i routes)) + length route.items ≡ length (nodes_in (take (i + 1) routes))
 count_more [] i route lt is = absurd (omega (arith, lt))

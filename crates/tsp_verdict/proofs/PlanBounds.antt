@@ -47,7 +47,7 @@ still_there xs i x w lt is other there =
     let found = Contains-permutation xs (x ∷ remove xs i) w taken there in
     in_tail x (remove xs i) w found.0 found.1 found.2 other
 
--- a run of numbers that all stand in a list sums to no more than the list, where nothing is below 0
+-- a run of numbers that are all in a list sums to no more than the list, where nothing is below 0
 run_sum : (f : ℕ → ℤ) → ((v : ℕ) → pos 0 ≤ℤ f v) → (m a : ℕ) (xs : List ℕ) → ((v : ℕ) → a ≤ v → v < a + m → Contains xs v) → sum_int_by f (range_with_len a m) ≤ℤ sum_int_by f xs
 run_sum f low zero a xs inside = all_low xs
   where

@@ -13,7 +13,7 @@ use Rattle.tsp_draft.specs.Valid.{IsDemand}
 use Rattle.tsp_theory.specs.Length.{sum_int_by}
 use Rattle.tsp_verdict.specs.Plan.{load_of, demand_of, IsLeast}
 
--- of the size of so many demands
+-- of the size of this many demands
 pub record IsLoadOf (count : ℕ) (sum : ℤ) : Type 0 where
   pub low : pos 0 ≤ℤ sum
   pub high : sum ≤ℤ pos (most_demand * count)

@@ -66,7 +66,7 @@ repeated_first inst sol nodes place are none first = record {
 
 -- ---- who is served
 
--- the marks of all nodes, and what is ruled out by them
+-- the marks of all nodes, and the reasons that they rule out
 pub record IsMarked (inst sol : Fields) (seen : List Bool) (size : ℕ) : Type 0 where
   pub marks : Marked (visited sol) seen (length (visited sol))
   pub wide : size ≡ nodes_of inst + 1
@@ -99,7 +99,7 @@ all_served inst sol seen size depot m is all node customer =
 pub none_unserved : (inst sol : Fields) → NoneOfRoutesUpTo inst sol 14 → ((node : ℕ) → IsCustomer (nodes_of inst) (depot_of inst) node → Contains (visited sol) node) → NoneOfRoutesUpTo inst sol 15
 none_unserved inst sol none served = after_served inst sol none (λ node first. first.unserved (served node first.customer))
 
--- ---- what is carried
+-- ---- the carried demands
 
 pub overload_first : (inst sol : Fields) (routes : List (List ℕ)) (demands : List ℤ) (capacity : ℤ) (place : ℕ) → routes ≡ tours_of sol → demands ≡ demands_of inst → capacity ≡ capacity_of inst
     → NoneOfRoutesUpTo inst sol 15 → IsFirstPlace (IsOverloaded demands capacity routes) routes place → IsFirstAgainstRoutes inst sol (Overload place)
@@ -110,7 +110,7 @@ overload_first inst sol routes demands capacity place are demands_are capacity_i
   none_before = none;
 }
 
--- a yes
+-- accepted
 pub is_planned : (inst sol : Fields) (seen : List Bool) (size : ℕ) (routes : List (List ℕ)) (demands : List ℤ) (capacity : ℤ) (depot : ℕ) (measured : ℤ) (count least : ℕ)
     → routes ≡ tours_of sol → demands ≡ demands_of inst → length demands ≡ nodes_of inst → capacity ≡ capacity_of inst → depot ≡ depot_of inst
     → AreCustomers inst sol → IsMarked inst sol seen size → ((node : ℕ) → IsCustomer (nodes_of inst) (depot_of inst) node → Contains (visited sol) node)

@@ -27,7 +27,7 @@ one_tour (t ∷ u ∷ tours) tour one first = absurd (omega (arith, one))
 pub visited_is : (sol : Fields) (tour : List ℕ) → tours_of sol ≡ tour ∷ [] → visited sol ≡ tour
 visited_is sol tour only = ap concat only ∙ append-nil tour
 
--- one tour that has so many nodes
+-- one tour that has this many nodes
 pub tour_found : (inst sol : Fields) (tour : List ℕ) → tours_of sol ≡ tour ∷ [] → length tour ≡ nodes_of inst → All (λ node. 1 ≤ node) (visited sol) → NoneOfTourUpTo inst sol 5
     → (tours_of sol ≡ tour ∷ []) × (length tour ≡ nodes_of inst) × All (λ node. 1 ≤ node) tour × NoneOfTourUpTo inst sol 11
 tour_found inst sol tour only full low none =
@@ -84,7 +84,7 @@ unused_first inst sol tour directed pairs index only way listed none first = rec
   none_before = none;
 }
 
--- where every fixed pair is used it is a yes
+-- where every fixed pair is used it is accepted
 pub is_yes : (inst sol : Fields) (tour : List ℕ) (directed : Bool) (pairs : List (ℕ × ℕ)) (size : ℤ) → tours_of sol ≡ tour ∷ [] → directed ≡ is_directed inst.kind → pairs ≡ fixed_of inst
     → NoneOfTourUpTo inst sol 13 → IsCycle (nodes_of inst) tour → All (Uses directed tour) pairs → size ≡ length_of (cost inst) tour
     → ((reason : Reason) → StandsAgainstTour inst sol reason → ⊥) × ((cycle : List ℕ) × (tours_of sol ≡ cycle ∷ []) × IsTourOf inst cycle × (size ≡ length_of (cost inst) cycle))

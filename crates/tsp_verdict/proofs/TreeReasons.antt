@@ -44,7 +44,7 @@ use Rattle.tsp_verdict.proofs.NumberedSets.{own_sets, combs_told}
 
 -- ---- where indexes end
 
--- a branch, and a leaf, that is told is one of the steps
+-- a branch, and a leaf, in the list is one of the steps
 pub twice_within : (directed : Bool) (branch : ℕ) (cases : List (List Decision)) (steps : List listed.Step) (first : ℕ) → IsFirstTwiceFrom directed branch cases steps first → first ≤ branch + length steps
 twice_within directed branch [] steps first h = absurd h
 twice_within directed branch (case ∷ cases) [] first h = absurd h
@@ -67,7 +67,7 @@ bad_within n combs numbers leaf (listed.Leaf changes ∷ steps) bad (inr later) 
 abbrev pub IsTold : Fields → Fields → (ℕ → ℕ → ℤ) → BranchVerdict → Type 0
 IsTold inst tree costs verdict = IsBranchVerdict (is_directed inst.kind) (nodes_of inst) costs (scale_in tree) (length (combs_in tree)) (numbered_from 0 (combs_in tree)) (given_in inst) (steps_in tree) verdict
 
--- what the code hands on is what the files hold
+-- the values that the code passes are those of the files
 pub record AreOf (inst tree : Fields) (directed : Bool) (n : ℕ) (scale : ℤ) (count : ℕ) (sets : List (ℕ × List ℕ)) (given : List Decision) (steps : List listed.Step) : Type 0 where
   pub directed_is : directed ≡ is_directed inst.kind
   pub nodes_are : n ≡ nodes_of inst
@@ -102,7 +102,7 @@ told inst tree directed n costs scale count sets given steps verdict are h =
     (subst (λ (ss : List listed.Step). IsBranchVerdict to n costs scale count sets given ss verdict) are.steps_are
     (subst (λ (d : Bool). IsBranchVerdict d n costs scale count sets given steps verdict) are.directed_is h))))))
 
--- ---- which reasons stand
+-- ---- which reasons apply
 
 own_comb : (tree : Fields) (j : ℕ) → of_comb j (numbered_from 0 (combs_in tree)) ≡ get_or (combs_in tree) j []
 own_comb tree j = own_sets 0 j j (combs_in tree) (omega arith)
@@ -127,7 +127,7 @@ no_bad_from n combs numbers leaf (listed.Branch a b ∷ steps) bad good h = no_b
 no_bad_from n combs numbers leaf (listed.Leaf changes ∷ steps) bad good (inl here) = here.1 good.0
 no_bad_from n combs numbers leaf (listed.Leaf changes ∷ steps) bad good (inr later) = no_bad_from n combs (all_grown changes numbers) (suc leaf) steps bad good.1 later.1
 
--- what is known before a rank rules out the reasons before it
+-- the facts before a rank rule out the reasons before it
 none_before : (inst tree : Fields) (rank : ℕ) → (22 < rank → is_tree tree.kind ≡ true) → (23 < rank → nodes_of tree ≡ nodes_of inst)
     → (24 < rank → (index : ℕ) → StandsAgainstTree inst tree (BadComb index) → ⊥) → (25 < rank → (index : ℕ) → StandsAgainstTree inst tree (BranchTwice index) → ⊥)
     → (26 < rank → (index : ℕ) → StandsAgainstTree inst tree (BadLeaf index) → ⊥) → NoneBefore (StandsAgainstTree inst tree) rank

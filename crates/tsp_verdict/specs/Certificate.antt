@@ -1,4 +1,4 @@
--- A certificate by potentials: its file, when a reason stands against it, and the bound that it gives.
+-- A certificate by potentials: its file, when a reason applies to it, and the bound that it gives.
 use Rattle.std.specs.Prelude.{◌≡◌, ◌≢◌, ℕ, Bool, false, ◌&&◌, List, [], Option, None, Some, is_some, unwrap_or, Result, Ok, Err, ℤ, pos, ◌≤ℤ◌}
 use Rattle.tsp_format.specs.declared.kinds.Kind.{Kind}
 use Rattle.tsp_format.specs.declared.kinds.Kind.TheVariants as kinds
@@ -47,7 +47,7 @@ has_wanted (Some kinds.Potentials) f = false
 has_wanted (Some kinds.Branches) f = false
 has_wanted None f = false
 
--- ---- when a reason stands against it; reasons of tours and of routes never do
+-- ---- when a reason applies to it; reasons of tours and of routes never do
 
 abbrev pub StandsAgainstPotentials : Fields → Fields → Reason → Type 0
 StandsAgainstPotentials inst pot NotPotentials = is_certificate pot.kind ≡ false

@@ -54,7 +54,7 @@ IsBoundBy by None inst cert bound = ⊥
 abbrev pub IsBoundOf : Certificate → Fields → Fields → ℤ → Type 0
 IsBoundOf by inst cert bound = IsBoundBy by inst.kind inst cert bound
 
--- when a reason stands against it; reasons of tours, of routes and of other certificates never do
+-- when a reason applies to it; reasons of tours, of routes and of other certificates never do
 abbrev pub StandsAgainstCertificate : Certificate → Fields → Fields → Reason → Type 0
 StandsAgainstCertificate Potentials inst cert reason = StandsAgainstPotentials inst cert reason
 StandsAgainstCertificate Branches inst cert reason = StandsAgainstTree inst cert reason
@@ -69,7 +69,7 @@ BoundsTours inst bound = (other : List ℕ) → IsTourOf inst other → bound �
 abbrev pub IsCertified : Certificate → Fields → Fields → ℤ → Type 0
 IsCertified by inst cert bound = IsBoundOf by inst cert bound × BoundsTours inst bound × IsBoundSized bound
 
--- the bound of a certificate against which no reason stands, or the first reason that does
+-- the bound of a certificate to which no reason applies, or the first reason that does
 abbrev pub FindsBound : Certificate → Fields → Fields → Result ℤ Reason → Type 0
 FindsBound by inst cert (Ok bound) =
     ((reason : Reason) → StandsAgainstCertificate by inst cert reason → ⊥) × IsCertified by inst cert bound
@@ -84,8 +84,8 @@ StandsAgainstCertified by inst sol cert reason = StandsAgainstTour inst sol reas
 abbrev pub IsFirstAgainstCertified : Certificate → Fields → Fields → Fields → Reason → Type 0
 IsFirstAgainstCertified by inst sol cert reason = IsFirstReason (StandsAgainstCertified by inst sol cert) reason
 
--- What a yes says: the one tour is a tour of the instance, of this length, and the bound is that of the certificate; every
--- tour of the instance is at least as long as the bound, so that one whose length equals it is a shortest.
+-- Accepted: the one tour is a tour of the instance, of this length, and the bound is that of the certificate; every tour of the
+-- instance is at least as long as the bound, so that one whose length equals it is a shortest.
 pub record IsCertifiedTour (by : Certificate) (inst sol cert : Fields) (length_is : ℤ) (bound : Option ℤ) : Type 0 where
   pub tour : List ℕ
   pub only : tours_of sol ≡ tour ∷ []
@@ -97,7 +97,7 @@ pub record IsCertifiedTour (by : Certificate) (inst sol cert : Fields) (length_i
   pub below_tours : BoundsTours inst least
   pub sized : IsBoundSized least
 
--- A no: the reason is the first one that stands. A yes: none stands, and the tour is bounded so.
+-- Rejected: the reason is the first one that applies. Accepted: none applies, and the tour is bounded so.
 abbrev pub IsCertifiedVerdict : Certificate → Fields → Fields → Fields → Verdict → Type 0
 IsCertifiedVerdict by inst sol cert (verdicts.No reason) = IsFirstAgainstCertified by inst sol cert reason
 IsCertifiedVerdict by inst sol cert (verdicts.Tour length_is bound) =

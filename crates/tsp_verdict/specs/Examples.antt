@@ -7,7 +7,7 @@ use Rattle.tsp_draft.specs.Fields.{Fields, blank_fields}
 use Rattle.tsp_reason.specs.declared.verdict.Reason.{Reason}
 use Rattle.tsp_verdict.specs.Reasons.{rank_of}
 
--- an instance with so many nodes and these fixed pairs
+-- an instance with this many nodes and these fixed pairs
 abbrev pub nodes : Kind → ℕ → List (ℕ × ℕ) → Fields
 nodes kind n fixed = record blank_fields { kind = Some kind; dimension = Some n; fixed = Some fixed }
 
@@ -32,7 +32,7 @@ solution tours = record blank_fields { kind = Some kinds.Tour; tours = Some tour
 abbrev pub sized : ℕ → List (List ℕ) → Fields
 sized n tours = record (solution tours) { dimension = Some n }
 
--- a certificate for so many nodes, with these numbers of nodes, of rows and of columns
+-- a certificate for this many nodes, with these numbers of nodes, of rows and of columns
 abbrev pub certificate : ℕ → Option (List ℤ) → Option (List ℤ) → Option (List ℤ) → Fields
 certificate n numbers rows columns = record blank_fields {
   kind = Some kinds.Potentials;
@@ -51,7 +51,7 @@ of_rows n = certificate n None (Some []) None
 abbrev pub of_both : ℕ → Fields
 of_both n = certificate n None (Some []) (Some [])
 
--- a certificate by branching for so many nodes, with these combs and steps
+-- a certificate by branching for this many nodes, with these combs and steps
 abbrev pub branching : ℕ → List (List (List ℕ)) → List Step → Fields
 branching n combs steps = record blank_fields {
   kind = Some kinds.Branches;

@@ -19,7 +19,7 @@ pair_at triples place = pair_of (slice_index_or triples (place - 1) (0, 0, pos 0
 abbrev pub IsUnlisted : List (ℕ × ℕ) → List (ℕ × ℕ × ℤ) → ℕ → Type 0
 IsUnlisted pairs triples place = IsListed pairs (pair_at triples place) → ⊥
 
--- the pair at the place stands at an earlier place too, in either direction
+-- the pair at the place is at an earlier place too, in either direction
 abbrev pub IsPairRepeated : List (ℕ × ℕ × ℤ) → ℕ → Type 0
 IsPairRepeated triples place =
     (earlier : ℕ) × (1 ≤ earlier) × (earlier < place) × (is_same_pair (pair_at triples earlier) (pair_at triples place) ≡ true)

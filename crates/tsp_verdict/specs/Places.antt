@@ -27,7 +27,7 @@ IsLarger n nodes place = n < node_at nodes place
 abbrev pub IsAt : ℕ → List ℕ → ℕ → Type 0
 IsAt node nodes place = node_at nodes place ≡ node
 
--- the node at the place stands at an earlier place too
+-- the node at the place is at an earlier place too
 abbrev pub IsRepeated : List ℕ → ℕ → Type 0
 IsRepeated nodes place = (earlier : ℕ) × (1 ≤ earlier) × (earlier < place) × (node_at nodes earlier ≡ node_at nodes place)
 

@@ -29,7 +29,7 @@ pub record IsPlan (n depot : ℕ) (demands : List ℤ) (capacity : ℤ) (routes 
 abbrev pub plan_length : (ℕ → ℕ → ℤ) → ℕ → List (List ℕ) → ℤ
 plan_length cost depot routes = sum_int_by (λ route. length_of cost (depot ∷ route)) routes
 
--- the least number of routes that carry so much
+-- the least number of routes that carry this much
 pub record IsLeast (total capacity : ℤ) (least : ℕ) : Type 0 where
   pub enough : total ≤ℤ (pos least *ℤ capacity)
   pub none_less : (count : ℕ) → total ≤ℤ (pos count *ℤ capacity) → least ≤ count

@@ -4,7 +4,7 @@ use Rattle.tsp_reason.specs.declared.verdict.Reason.{Reason}
 use Rattle.tsp_reason.specs.declared.verdict.Reason.TheVariants.{NotASolution, TooFewNodes, NotSymmetric, Dimension, TourCount, TourLength, DepotCount, DepotDemand, FixedEdgesInRoutes, DepotInRoute, NodeOutOfRange, RepeatedNode, FixedEdgeUnused, Unserved, Overload, NotPotentials, PotentialsDimension, PotentialsKind, MultiplierNotFixed, MultiplierRepeated, DualInfeasible, NotBranches, BranchesDimension, BadComb, BranchTwice, BadLeaf}
 
 -- The order in which reasons are judged: those against the files, the tours, their nodes and what these use or carry, then
--- those against a certificate. Which of them can stand is said where they are defined, against tours, routes, potentials and
+-- those against a certificate. Which of them can apply is said where they are defined, against tours, routes, potentials and
 -- trees of cases.
 abbrev pub rank_of : Reason → ℕ
 rank_of NotASolution = 1
@@ -34,11 +34,11 @@ rank_of (BadComb index) = 24
 rank_of (BranchTwice index) = 25
 rank_of (BadLeaf index) = 26
 
--- no reason stands that is judged before this rank
+-- none of the reasons applies that are judged before this rank
 abbrev pub NoneBefore : (Reason → Type 0) → ℕ → Type 0
 NoneBefore Stands rank = (reason : Reason) → rank_of reason < rank → Stands reason → ⊥
 
--- the reason stands, and none that is judged before it
+-- the reason applies, and none that is judged before it
 pub record IsFirstReason (Stands : Reason → Type 0) (reason : Reason) : Type 0 where
   pub stands : Stands reason
   pub none_before : NoneBefore Stands (rank_of reason)

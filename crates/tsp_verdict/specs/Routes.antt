@@ -24,7 +24,7 @@ pub record IsFirstUnserved (n depot : ℕ) (nodes : List ℕ) (node : ℕ) : Typ
 abbrev pub IsOverloaded : List ℤ → ℤ → List (List ℕ) → ℕ → Type 0
 IsOverloaded demands capacity routes place = capacity <ℤ load_of demands (slice_index_or routes (place - 1) [])
 
--- When a reason stands against routes: those of the files, of the depot, of the nodes and of the loads. No other reason does.
+-- When a reason applies to routes: those of the files, of the depot, of the nodes and of the loads. No other reason does.
 abbrev pub StandsAgainstRoutes : Fields → Fields → Reason → Type 0
 StandsAgainstRoutes inst sol NotASolution = is_tours sol.kind ≡ false
 StandsAgainstRoutes inst sol TooFewNodes = nodes_of inst < 2
@@ -40,16 +40,16 @@ StandsAgainstRoutes inst sol (Overload route) =
     IsFirstPlace (IsOverloaded (demands_of inst) (capacity_of inst) (tours_of sol)) (tours_of sol) route
 StandsAgainstRoutes inst sol reason = ⊥
 
--- no reason stands that is judged before this rank
+-- none of the reasons applies that are judged before this rank
 abbrev pub NoneOfRoutesUpTo : Fields → Fields → ℕ → Type 0
 NoneOfRoutesUpTo inst sol rank = NoneBefore (StandsAgainstRoutes inst sol) rank
 
--- the reason is the first one that stands
+-- the reason is the first one that applies
 abbrev pub IsFirstAgainstRoutes : Fields → Fields → Reason → Type 0
 IsFirstAgainstRoutes inst sol reason = IsFirstReason (StandsAgainstRoutes inst sol) reason
 
--- What a yes on routes says: they are a plan of the instance, of this length and so many, and no plan at all has fewer
--- routes than the least number that carries all demands.
+-- Accepted routes: they are a plan of the instance, of this length and number, and no plan at all has fewer routes than the least
+-- number that carries all demands.
 pub record IsPlanned (inst : Fields) (plan : List (List ℕ)) (length_is : ℤ) (routes least : ℕ) : Type 0 where
   pub plan_of : IsPlanOf inst plan
   pub measured : length_is ≡ plan_length (cost inst) (depot_of inst) plan
@@ -57,17 +57,17 @@ pub record IsPlanned (inst : Fields) (plan : List (List ℕ)) (length_is : ℤ) 
   pub least_is : IsLeast (total_of inst) (capacity_of inst) least
   pub none_fewer : (other : List (List ℕ)) → IsPlanOf inst other → least ≤ length other
 
--- A no: the reason is the first one that stands. A yes: none stands, and the tours of the solution are planned so.
+-- Rejected: the reason is the first one that applies. Accepted: none applies, and the tours of the solution are planned so.
 abbrev pub IsRoutesVerdict : Fields → Fields → Verdict → Type 0
 IsRoutesVerdict inst sol (verdicts.No reason) = IsFirstAgainstRoutes inst sol reason
 IsRoutesVerdict inst sol (verdicts.Routes length_is routes least) = ((reason : Reason) → StandsAgainstRoutes inst sol reason → ⊥)
     × IsPlanned inst (tours_of sol) length_is routes least
 IsRoutesVerdict inst sol (verdicts.Tour length_is bound) = ⊥
 
--- No reason stands that needs no look at the nodes of the routes.
+-- No reason applies that needs no look at the nodes of the routes.
 abbrev pub NoneOfRoutesBeforePlaces : Fields → Fields → Type 0
 NoneOfRoutesBeforePlaces inst sol = (place : ℕ) → NoneOfRoutesUpTo inst sol (rank_of (DepotInRoute place))
 
--- No reason up to `NodeOutOfRange` stands: they are found without memory.
+-- No reason up to `NodeOutOfRange` applies: they are found without memory.
 abbrev pub NoneOfRoutesBeforeRepeats : Fields → Fields → Type 0
 NoneOfRoutesBeforeRepeats inst sol = (place : ℕ) → NoneOfRoutesUpTo inst sol (rank_of (RepeatedNode place))

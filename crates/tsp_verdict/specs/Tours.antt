@@ -16,7 +16,7 @@ use Rattle.tsp_verdict.specs.Places.{IsFirstPlace, IsLarger, IsRepeated, IsUnuse
 use Rattle.tsp_verdict.specs.Reasons.{rank_of, NoneBefore, IsFirstReason}
 use Rattle.tsp_verdict.specs.Solution.{nodes_of, fixed_of, tours_of, visited}
 
--- When a reason stands against a tour: those of the files, of the tour and of the nodes of it. No other reason does.
+-- When a reason applies to a tour: those of the files, of the tour and of the nodes of it. No other reason does.
 abbrev pub StandsAgainstTour : Fields → Fields → Reason → Type 0
 StandsAgainstTour inst sol NotASolution = is_tours sol.kind ≡ false
 StandsAgainstTour inst sol TooFewNodes = nodes_of inst < 3
@@ -30,16 +30,16 @@ StandsAgainstTour inst sol (FixedEdgeUnused index) =
     IsFirstPlace (IsUnused (is_directed inst.kind) (visited sol) (fixed_of inst)) (fixed_of inst) index
 StandsAgainstTour inst sol reason = ⊥
 
--- no reason stands that is judged before this rank
+-- none of the reasons applies that are judged before this rank
 abbrev pub NoneOfTourUpTo : Fields → Fields → ℕ → Type 0
 NoneOfTourUpTo inst sol rank = NoneBefore (StandsAgainstTour inst sol) rank
 
--- the reason is the first one that stands
+-- the reason is the first one that applies
 abbrev pub IsFirstAgainstTour : Fields → Fields → Reason → Type 0
 IsFirstAgainstTour inst sol reason = IsFirstReason (StandsAgainstTour inst sol) reason
 
--- A no: the reason is the first one that stands. A yes: none stands, the one tour is a tour of the instance, and the length
--- is the sum of the costs from each node to the next one, cyclically. No potentials, no bound.
+-- Rejected: the reason is the first one that applies. Accepted: none applies, the one tour is a tour of the instance, and the
+-- length is the sum of the costs from each node to the next one, cyclically. No potentials, no bound.
 abbrev pub IsTourVerdict : Fields → Fields → Verdict → Type 0
 IsTourVerdict inst sol (verdicts.No reason) = IsFirstAgainstTour inst sol reason
 IsTourVerdict inst sol (verdicts.Tour length bound) = ((reason : Reason) → StandsAgainstTour inst sol reason → ⊥)
@@ -47,10 +47,10 @@ IsTourVerdict inst sol (verdicts.Tour length bound) = ((reason : Reason) → Sta
     × (bound ≡ None)
 IsTourVerdict inst sol (verdicts.Routes length routes least) = ⊥
 
--- No reason stands that needs no look at the nodes of the tour.
+-- No reason applies that needs no look at the nodes of the tour.
 abbrev pub NoneOfTourBeforeNodes : Fields → Fields → Type 0
 NoneOfTourBeforeNodes inst sol = (place : ℕ) → NoneOfTourUpTo inst sol (rank_of (NodeOutOfRange place))
 
--- No reason up to `NodeOutOfRange` stands: they are found without memory.
+-- No reason up to `NodeOutOfRange` applies: they are found without memory.
 abbrev pub NoneOfTourBeforeRepeats : Fields → Fields → Type 0
 NoneOfTourBeforeRepeats inst sol = (place : ℕ) → NoneOfTourUpTo inst sol (rank_of (RepeatedNode place))

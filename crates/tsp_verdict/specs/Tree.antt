@@ -1,4 +1,4 @@
--- A certificate by branching: a file of branches, when it stands against a verdict, and the bound that it gives.
+-- A certificate by branching: a file of branches, when a reason applies to it, and the bound that it gives.
 use Rattle.std.specs.Prelude.{◌≡◌, ◌≢◌, ℕ, ◌-◌, Bool, false, if◌then◌else◌, List, [], ◌∷◌, ◌++◌, length, map, slice_index_or, unwrap_or, Some, ℤ}
 use Rattle.std.specs.List.{list_any}
 use Rattle.tsp_format.specs.Steps as listed
@@ -37,7 +37,7 @@ each_once directed earlier (pair ∷ pairs) =
     if list_any (is_same directed pair) earlier then each_once directed (earlier ++ pair ∷ []) pairs
     else (pair ∷ each_once directed (earlier ++ pair ∷ []) pairs)
 
--- what is decided in all cases: the fixed pairs are taken
+-- the decisions of all cases: the fixed pairs are taken
 abbrev pub given_in : Fields → List Decision
 given_in inst = take_pairs (each_once (is_directed inst.kind) [] (fixed_of inst))
 
@@ -48,7 +48,7 @@ tree_in inst tree = listed_steps (nodes_of inst) (length (combs_in tree)) (steps
 abbrev pub told_combs : Fields → List Comb
 told_combs tree = map comb_with (combs_in tree)
 
--- ---- when a reason stands against it; reasons of tours, of routes and of potentials never do
+-- ---- when a reason applies to it; reasons of tours, of routes and of potentials never do
 
 -- the sets at the place are neither a lone set nor those of a comb, each with its nodes once
 abbrev pub IsBadComb : ℕ → List (List (List ℕ)) → ℕ → Type 0

@@ -142,12 +142,12 @@ fn node_numbers(pot: &File) -> Option<NodeNumbers<'_>>
 }
 
 /// The first reason against the multipliers of a certificate of an instance of TYPE TSP. Where no
-/// reason stands against them, they are on different pairs, each of which is fixed.
+/// reason applies to them, they are on different pairs, each of which is fixed.
 ///
 /// # Errors
 ///
-/// Out of memory for the fixed pairs and for those of the multipliers; none is taken where
-/// there are no multipliers.
+/// Out of memory for the fixed pairs and for those of the multipliers; none is taken where there
+/// are no multipliers.
 fn first_against_multipliers(
     alloc: Global,
     inst: &Instance,

@@ -18,15 +18,19 @@ use tsp_file::File;
 use tsp_format::Kind;
 use tsp_reason::{Certificate, Reason, Verdict};
 
-/// The verdict on a solution of an instance with a certificate: a no with the first reason against
-/// either, or a yes with the tour's length and a bound that no tour of the instance is below.
+/// The verdict on a solution of an instance with a certificate: rejected with the first reason
+/// against either, or accepted with the tour's length and a bound that no tour of the instance is
+/// below.
 ///
-/// The reasons of [`crate::judge_tour`] are judged first, then those of the certificate. The caller
-/// owes a TYPE whose tours have a bound by it, which [`is_bounded`] tests.
+/// The reasons of [`crate::judge_tour`] are judged first, then those of the certificate.
+///
+/// # Requires
+///
+/// A TYPE whose tours have a bound by the certificate, which [`is_bounded`] tests.
 ///
 /// # Errors
 ///
-/// Out of memory, and then no reason up to `NodeOutOfRange` stands.
+/// Out of memory, and then no reason up to `NodeOutOfRange` applies.
 pub fn judge_certified(
     alloc: Global,
     by: Certificate,
@@ -56,12 +60,15 @@ pub fn judge_certified(
 /// [`judge_certified`].
 ///
 /// Under TYPE TSP the bound is that of a least 1-tree under the potentials (Held and Karp, 1970)
-/// and the multipliers of fixed pairs, under TYPE ATSP that of duals of the assignment problem. The
-/// caller owes an instance of TYPE TSP or ATSP.
+/// and the multipliers of fixed pairs, under TYPE ATSP that of duals of the assignment problem.
+///
+/// # Requires
+///
+/// An instance of TYPE TSP or ATSP.
 ///
 /// # Errors
 ///
-/// Out of memory, and then no reason up to `NodeOutOfRange` stands.
+/// Out of memory, and then no reason up to `NodeOutOfRange` applies.
 pub fn judge_tour_bound(
     alloc: Global,
     inst: &Instance,

@@ -53,7 +53,7 @@ pub fn examples_of_order_of_routes()
     ensures overload { Before (reasons.Unserved 9) (reasons.Overload 1) }
 {}
 
-/// When the reasons against a tour stand.
+/// When the reasons against a tour apply.
 pub fn examples_against_tours()
     ensures no_solution { StandsAgainstTour (nodes kinds.Tsp 4 []) (nodes kinds.Potentials 4 []) reasons.NotASolution }
     ensures two_nodes { StandsAgainstTour (nodes kinds.Tsp 2 []) (lone (two 1 2)) reasons.TooFewNodes }
@@ -76,7 +76,7 @@ pub fn examples_against_tours()
     ensures no_arc { ¬ StandsAgainstTour (nodes kinds.Tsp 3 ((2, 1) ∷ [])) (lone (three 1 2 3)) (reasons.FixedEdgeUnused 1) }
 {}
 
-/// When the reasons against a certificate stand. None is broken here by its numbers.
+/// When the reasons against a certificate apply. None is broken here by its numbers.
 pub fn examples_against_certificates()
     ensures scale { scale_in (of_nodes 4) ≡ pos 1 }
     ensures no_potentials { StandsAgainstPotentials (nodes kinds.Tsp 4 []) (solution []) reasons.NotPotentials }
@@ -90,7 +90,7 @@ pub fn examples_against_certificates()
     ensures atsp_by_rows { StandsAgainstPotentials (nodes kinds.Atsp 4 []) (of_rows 4) reasons.PotentialsKind }
 {}
 
-/// When the reasons against a certificate by branching stand, and which pairs are decided in all of
+/// When the reasons against a certificate by branching apply, and which pairs are decided in all of
 /// its cases.
 pub fn examples_against_trees()
     ensures no_tree { StandsAgainstTree (nodes kinds.Tsp 4 []) (of_nodes 4) reasons.NotBranches }
@@ -109,7 +109,7 @@ pub fn examples_against_trees()
     ensures given_once { given_in (nodes kinds.Tsp 4 ((1, 2) ∷ (3, 4) ∷ (2, 1) ∷ [])) ≡ with_pair 1 2 ∷ with_pair 3 4 ∷ [] }
 {}
 
-/// When the reasons against routes stand. Node 1 is the depot.
+/// When the reasons against routes apply. Node 1 is the depot.
 pub fn examples_against_routes()
     ensures one_node { StandsAgainstRoutes (nodes kinds.Cvrp 1 []) (solution []) reasons.TooFewNodes }
     ensures two_nodes { ¬ StandsAgainstRoutes (nodes kinds.Cvrp 2 []) (solution []) reasons.TooFewNodes }

@@ -1,4 +1,11 @@
-//! The verdict on a solution of an instance: the first reason against it, or its length.
+//! The verdict on a solution of an instance: the first reason against it, or its length and bound.
+//!
+//! It judges files in memory. It reads and writes nothing: that is tsp_judge's.
+//!
+//! ```text
+//! let verdict = judge_tour(alloc, &instance, &solution)?;
+//! let verdict = judge_tour_bound(alloc, &instance, &solution, &potentials)?;
+//! ```
 #![tactic(auto)]
 
 mod certificate;

@@ -41,7 +41,7 @@ pub(crate) fn first_of(nodes: &[u32], sought: u32) -> Option<u32>
     None
 }
 
-/// The first place whose node stands at an earlier place too.
+/// The first place whose node is at an earlier place too.
 ///
 /// # Errors
 ///

@@ -23,19 +23,22 @@ use tsp_reason::{Reason, Verdict};
 /// The fewest nodes of an instance whose routes are judged.
 const FEWEST_NODES: u32 = 2;
 
-/// The verdict on a solution of an instance of TYPE CVRP: a no with the first reason against it, or
-/// a yes, where its tours are a plan of routes, with their length and number.
+/// The verdict on a solution of an instance of TYPE CVRP: rejected with the first reason against
+/// it, or accepted, where its tours are a plan of routes, with their length and number.
 ///
 /// A plan's routes hold each node other than the depot exactly once and nothing else, and the
 /// demands of each sum to at most the capacity (TSPLIB 95). Each route goes from the depot through
 /// its nodes and back. `least` is the least L with `L * capacity` at least the sum of all demands:
-/// no plan has fewer routes. The reasons are judged in the order that [`Reason`] says. The caller
-/// owes an instance of TYPE CVRP.
+/// no plan has fewer routes. The reasons are judged in the order that [`Reason`] says.
+///
+/// # Requires
+///
+/// An instance of TYPE CVRP.
 ///
 /// # Errors
 ///
-/// Out of memory for a mark for each node, and then no reason up to `NodeOutOfRange` in
-/// that order stands: those are found without memory.
+/// Out of memory for a mark for each node, and then no reason up to `NodeOutOfRange` in that order
+/// applies: those are found without memory.
 pub fn judge_routes(alloc: Global, inst: &Instance, sol: &File) -> Result<Verdict, AllocError>
     requires { inst.now.kind ≡ Some kinds.Cvrp }
     ensures { MatchResult result

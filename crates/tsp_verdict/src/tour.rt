@@ -24,18 +24,21 @@ use tsp_reason::{Reason, Verdict};
 /// The fewest nodes of an instance whose tours are judged.
 const FEWEST_NODES: u32 = 3;
 
-/// The verdict on a solution of an instance of TYPE TSP or ATSP: a no with the first reason
-/// against it, or a yes, where the solution is one tour of the instance, with its length.
+/// The verdict on a solution of an instance of TYPE TSP or ATSP: rejected with the first reason
+/// against it, or accepted, where the solution is one tour of the instance, with its length.
 ///
 /// A tour has each node of the instance once and uses every fixed pair (TSPLIB 95): as neighbours
 /// in either direction, under TYPE ATSP from the pair's first to its second node. The reasons are
-/// judged in the order of [`Reason`], up to `FixedEdgeUnused`. The bound is `None`. The caller
-/// owes an instance of TYPE TSP or ATSP.
+/// judged in the order of [`Reason`], up to `FixedEdgeUnused`. The bound is `None`.
+///
+/// # Requires
+///
+/// An instance of TYPE TSP or ATSP.
 ///
 /// # Errors
 ///
-/// Out of memory for a mark and a number for each node, and then no reason up to
-/// `NodeOutOfRange` stands: those are found without memory.
+/// Out of memory for a mark and a number for each node, and then no reason up to `NodeOutOfRange`
+/// applies: those are found without memory.
 pub fn judge_tour(alloc: Global, inst: &Instance, sol: &File) -> Result<Verdict, AllocError>
     requires { (inst.now.kind ≡ Some kinds.Tsp) ⊎ (inst.now.kind ≡ Some kinds.Atsp) }
     ensures { MatchResult result

@@ -44,7 +44,7 @@ pub(crate) fn first_of_in(routes: &[Vec<u32>], sought: u32) -> Option<u32>
     None
 }
 
-/// Marks the nodes of all routes, up to the first place whose node stands at an earlier place too.
+/// Marks the nodes of all routes, up to the first place whose node is at an earlier place too.
 pub(crate) fn mark_all(seen: &mut Vec<bool>, routes: &[Vec<u32>]) -> Option<u32>
     requires size { length (nodes_in routes.now) < 2 ^ 32 }
     requires range { All (λ node. node < vec_len seen.old) (nodes_in routes.now) }

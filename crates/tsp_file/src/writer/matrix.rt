@@ -34,9 +34,10 @@ fn put_weight_line<W: Write>(piece: &mut Piece, out: &mut Watched<W>, weights: &
     }
 }
 
-/// Adds one line for each row of the layout that has cells, for each column where it goes by columns.
+/// Adds one line for each row of the layout that has cells, or for each column of a layout by
+/// columns.
 ///
-/// Weights past the last line, which a valid file doesn't have, stand in a line of their own.
+/// Weights past the last line, which a valid file doesn't have, get a line of their own.
 fn put_lines<W: Write>(
     piece: &mut Piece,
     out: &mut Watched<W>,
@@ -63,7 +64,7 @@ fn put_lines<W: Write>(
 
 /// Adds the lines of a matrix.
 ///
-/// Weights with no layout or no dimension, which a valid file doesn't have, stand in one line.
+/// Weights with no layout or no dimension, which a valid file doesn't have, get one line.
 fn put_matrix<W: Write>(
     piece: &mut Piece,
     out: &mut Watched<W>,

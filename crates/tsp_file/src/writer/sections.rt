@@ -35,7 +35,7 @@ fn put_number_line<W: Write>(piece: &mut Piece, out: &mut Watched<W>, node: usiz
     put(piece, out, b"\n");
 }
 
-/// The most bytes of a coordinate's spelling.
+/// The most bytes of a coordinate's text.
 const MOST_SPELLING: usize = 21;
 
 /// Adds a blank and a coordinate.

@@ -30,13 +30,13 @@ pub record IsFedTo (intake : Intake) (begun : Begun) (bytes rest : List ℕ) : T
   pub read : IsReadTo intake bytes (kept begun ++ rest)
   pub begins : HasBegun intake.inside begun.token begun.bytes.items
 
--- The same; and while something is kept nothing is left, and the end of what is kept hasn't come.
+-- The same; and while something is kept nothing is left, and the end of the kept part hasn't come.
 pub record IsJoinedTo (intake : Intake) (begun : Begun) (bytes rest : List ℕ) : Type 0 where
   pub fed : IsFedTo intake begun bytes rest
   pub none_kept : is_filled rest ≡ true → kept begun ≡ []
   pub unsettled : is_filled rest ≡ false → items_left true intake.inside (kept begun) ≡ []
 
--- how large the numbers of lines and of words can become, with the bytes that are kept and so many more
+-- how large the numbers of lines and of words can become, with the bytes that are kept and this many more
 abbrev pub most_lines : Intake → Begun → ℕ → ℕ
 most_lines intake begun more = intake.line + length (kept begun) + more
 

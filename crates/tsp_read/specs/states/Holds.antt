@@ -19,14 +19,14 @@ use Rattle.tsp_text.specs.FirstFault.{IsClean}
 use Rattle.tsp_text.specs.Spells.{fields_by, is_incomplete, sections_in_order, first_incomplete}
 use Rattle.tsp_read.specs.states.Open.{HoldsSection}
 
--- the section stands and no longer takes words
+-- the section has come and no longer takes words
 abbrev pub is_closed : List Item → Field → Bool
 is_closed earlier field = not (is_open field (open_section earlier)) && has_line field earlier
 
 abbrev pub is_closed_incomplete : List Item → Field → Bool
 is_closed_incomplete earlier field = not (is_open field (open_section earlier)) && is_incomplete earlier field
 
--- a keyword stands exactly where its field does
+-- a keyword has come exactly where its field is present
 abbrev pub fields_there : Fields → List Bool
 fields_there fields = is_some fields.name ∷ is_some fields.kind ∷ is_some fields.dimension ∷ is_some fields.capacity
     ∷ is_some fields.scale
@@ -47,7 +47,7 @@ OpenHolds None earlier = open_section earlier ≡ None
 OpenHolds (Some section) earlier = (open_section earlier ≡ Some section.field)
     × HoldsSection (spatial_after earlier) section (dimension_in earlier) (words_of section.field earlier)
 
--- no item has a fault, and the state has what the items spell but for the section that is open, and that section's words
+-- no item has a fault, and the state has the fields of the items but for the open section, and that section's words
 pub record Holds (reading : Reading) (earlier : List Item) : Type 0 where
   pub clean : IsClean earlier
   pub stand : KeywordsStand (fields_of reading.draft) earlier
@@ -55,7 +55,7 @@ pub record Holds (reading : Reading) (earlier : List Item) : Type 0 where
   pub incomplete : reading.incomplete ≡ find (is_closed_incomplete earlier) sections_in_order
   pub part : OpenHolds reading.opened earlier
 
--- the same where no section is open: of the items all that they spell
+-- the same where no section is open: all fields of the items
 pub record Closed (reading : Reading) (earlier : List Item) : Type 0 where
   pub clean : IsClean earlier
   pub stand : KeywordsStand (fields_of reading.draft) earlier

@@ -1,4 +1,4 @@
--- A text that is read while it comes: what is held of the bytes so far, and what is answered for them.
+-- A text that is read while it comes: the state for the bytes so far, and the answer for them.
 use Rattle.std.specs.Prelude.{◌≡◌, ℕ, Bool, true, false, List, ◌∷◌, reverse, Option, None, Some, Result, Ok, Err}
 use Rattle.tsp_text.specs.declared.fault.ReadFault.{ReadFault}
 use Rattle.tsp_text.specs.declared.fault.ReadFault.TheVariants as faults

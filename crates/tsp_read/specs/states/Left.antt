@@ -57,7 +57,7 @@ up_to_first test text = take (position_or_len test text) text
 abbrev pub from : (ℕ → Bool) → List ℕ → List ℕ
 from test text = drop (position_or_len test text) text
 
--- A piece at the front of a text is whole, or longer than any of its sort may be. One that nothing follows is whole only
+-- A piece at the beginning of a text is whole, or longer than any of its sort may be. One that nothing follows is whole only
 -- where the text ends.
 abbrev pub is_settled : ℕ → Bool → List ℕ → List ℕ → Bool
 is_settled most goes_on piece rest = is_filled rest || not goes_on || nat_lt most (length piece)

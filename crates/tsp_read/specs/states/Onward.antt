@@ -1,4 +1,4 @@
--- A text that goes on: what is told of its items whatever bytes follow.
+-- A text that goes on: the facts about its items that hold whatever bytes follow.
 use Rattle.std.specs.Prelude.{◌≡◌, ℕ, Bool, true, false, nat_lt, List, ◌∷◌, ◌++◌, length, reverse}
 use Rattle.std.specs.List.{list_all}
 use Rattle.tsp_format.specs.Limits.{most_word_bytes, most_line_bytes}

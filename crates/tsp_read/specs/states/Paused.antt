@@ -19,7 +19,7 @@ pub record IsPaused (intake : Intake) (begun : Begun) (bytes : List ℕ) : Type 
   pub fed : IsFedTo intake begun bytes []
   pub unsettled : items_left true intake.inside (kept begun) ≡ []
 
--- the bytes so far are read, and whether an end line has come; or what is settled has a fault
+-- the bytes so far are read, and whether an end line has come; or the settled part has a fault
 abbrev pub FeedsOn : List ℕ → Intake → Begun → Result Bool ReadFault → Type 0
 FeedsOn bytes intake begun (Ok true) = HasEnded intake.reading bytes
 FeedsOn bytes intake begun (Ok false) = IsPaused intake begun bytes
@@ -41,7 +41,7 @@ stage_after true (Ok false) = Going
 stage_after false (Ok false) = Refused faults.TooLong
 stage_after all (Err found) = Refused found
 
--- what is answered at a stage
+-- the answer at a stage
 abbrev pub outcome_of : Stage → Result (Unit {0}) ReadFault
 outcome_of Going = Ok tt
 outcome_of Ended = Ok tt

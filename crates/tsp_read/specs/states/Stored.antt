@@ -13,7 +13,7 @@ use Rattle.tsp_text.specs.Combs.{whole_combs}
 use Rattle.tsp_text.specs.Tree.{whole_steps}
 use Rattle.tsp_text.specs.Weights.{weights_in}
 
--- what words of a section of this shape spell, with n nodes
+-- the value of these words of a section of this shape, with n nodes
 abbrev pub with_words : Shape → Field → ℕ → List (List ℕ) → Fields → Fields
 with_words (Numbers low high) field n words fields = with_numbers field (numbers_by_node low high n words) fields
 with_words Points field n words fields = with_points field (points_by_node n words) fields

@@ -25,7 +25,7 @@ pub(crate) enum FinishFault {
     End(EndFault),
 }
 
-/// The fault that a refused draft stands for. The drafts that are read are never refused.
+/// The fault of a refused draft. The drafts that are read are never refused.
 fn refused(fault: DraftFault) -> EndFault {
     match fault {
         DraftFault::Rule(fault) => fault,

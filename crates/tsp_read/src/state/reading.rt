@@ -1,4 +1,4 @@
-//! The state of the reader: what the lines and words so far spell.
+//! The state of the reader: the fields that the lines and words so far give.
 
 ghost use Rattle.std.specs.Prelude.{[], List, Some, IfErr, OnOk, ◌≡◌, is_some, true};
 ghost use Rattle.tsp_format.specs.Words.{fields_in_order};
@@ -28,7 +28,7 @@ pub(crate) struct Reading {
     pub(crate) opened: Option<OpenSection>,
 }
 
-/// As a derive would do it; what lets go of a reading calls this.
+/// As a derive would do it. A function that drops a reading calls this.
 impl Drop for Reading {
     fn drop(self) {
         let Reading {
@@ -39,7 +39,7 @@ impl Drop for Reading {
     }
 }
 
-/// The one of a section and another, if there is another, that stands first in canonical order.
+/// The one of a section and another, if there is another, that comes first in canonical order.
 fn first_of(section: Field, other: Option<Field>) -> Option<Field>
     ensures { result ≡ first_of section other fields_in_order }
 {

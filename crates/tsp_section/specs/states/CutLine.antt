@@ -62,7 +62,7 @@ abbrev pub numbered_rows : Bool → List ℕ → Result ℤ NumberFault → Opti
 numbered_rows stands value reading = first_row (when stands row.Repeated ∷ when (not (is_filled value)) row.BadValue
     ∷ option_map (λ fault. row.Number fault) (result_err reading) ∷ [])
 
--- the number of a keyword that doesn't stand yet, or the fault of its line
+-- the number of a keyword that hasn't come yet, or the fault of its line
 abbrev pub GivesNumber : Bool → ℤ → ℤ → List ℕ → Result ℤ LineFault → Type 0
 GivesNumber stands low high value (Ok z) = (stands ≡ false) × (is_filled value ≡ true)
     × (whole_of (first_word value) low high ≡ Ok z) × (low ≤ℤ z) × (z ≤ℤ high)

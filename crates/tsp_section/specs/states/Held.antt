@@ -56,7 +56,7 @@ HoldsTours part words = ToursHold (map (λ tour. tour.items) part.done.items) pa
 abbrev pub EndsRunOf : TourList → List (List ℕ) → Type 0
 EndsRunOf part words = EndsRun (map (λ tour. tour.items) part.done.items) part.run.items words
 
--- what stands in it, as what stands after words
+-- its contents, as the contents after words
 abbrev pub combs_held : CombList → CombsSoFar
 combs_held part = record {
   combs = combs_of part.combs.items;
@@ -81,7 +81,7 @@ tree_held part = record {
   changes = part.changes;
 }
 
--- no more trees are to come than so many steps can ask for
+-- no more trees are to come than this many steps can ask for
 pub record HoldsTree (part : TreeList) (n : ℕ) (words : List (List ℕ)) : Type 0 where
   pub nodes : part.n ≡ n
   pub indices : part.last_index ≡ n + most_combs

@@ -88,7 +88,7 @@ impl CombList {
         !self.nodes.is_empty() || !self.sets.is_empty()
     }
 
-    /// Whether one more node has no room.
+    /// Whether the limit leaves no place for one more node.
     fn is_full(&self) -> bool
         ensures full { result ≡ is_past_combs (has_begun_comb (combs_held self.now))
             (length (combs_held self.now).combs) self.now.count }

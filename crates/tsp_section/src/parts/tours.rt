@@ -70,8 +70,8 @@ impl TourList {
         }
     }
 
-    /// Takes the number of a word that was read, where it is a node and there is room. The answer is
-    /// whether it was taken.
+    /// Takes the number of a word that was read, where it is a node and the capacity suffices. The
+    /// result says whether it was taken.
     #[inline(always)]
     pub fn push_read(&mut self, number: i64) -> bool
         ensures taken { result ≡ true → (n : ℕ) (words : List (List ℕ)) (word : List ℕ)
@@ -119,7 +119,7 @@ impl TourList {
     ///
     /// # Errors
     ///
-    /// `Memory`: memory was refused.
+    /// `Memory`: memory was refused. The tours are gone then.
     pub fn finish(mut self, alloc: Global) -> Result<Vec<Vec<u32>>, StepFault>
         ensures tours { (words : List (List ℕ)) → HoldsTours self words
             → IfOk result (λ tours. map (λ tour. tour.items) tours.items ≡ tours_in words) }

@@ -56,9 +56,9 @@ impl TreeList {
     ///
     /// # Errors
     ///
-    /// - `Fault`: the word isn't read as what is wanted at its place (`Number`), a branch is on a
-    ///   node and itself (`SelfEdge`), there are as many branches or differences as a file may have,
-    ///   or the tree is whole (`Surplus`).
+    /// - `Fault`: the word isn't a number of the kind that its place requires (`Number`), a branch
+    ///   is on a node and itself (`SelfEdge`), there are as many branches or differences as a file
+    ///   may have, or the tree is whole (`Surplus`).
     /// - `Memory`: memory was refused.
     ///
     /// The list has the words from before then.

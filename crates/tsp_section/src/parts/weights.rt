@@ -61,8 +61,8 @@ impl WeightList {
         }
     }
 
-    /// The list for a run of words: it has room for so many more weights, or for all that the matrix
-    /// has left; for none where memory was refused.
+    /// The list for a run of words, with capacity for this many more weights, or for all that the
+    /// matrix still needs; for none where memory was refused.
     #[inline(always)]
     pub fn gather(&mut self, alloc: Global, more: usize) -> Gathered
         ensures { (n : ℕ) (words : List (List ℕ)) → HoldsWeights self.old n words
@@ -94,13 +94,13 @@ impl WeightList {
     }
 }
 
-/// The weights in a run of words, which has asked for the room of many at once.
+/// The weights in a run of words, which has reserved memory for many at once.
 ///
 /// By value its vector is in no other place, so a push is a store and two counts.
 #[derive(Drop)]
 pub struct Gathered {
     list: WeightList,
-    /// How many more weights there is room for, in memory and in the matrix.
+    /// The free capacity for weights, in memory and in the matrix.
     room: usize,
     ghost reserved: { vec_len list.weights + room ≤ vec_capacity list.weights },
     ghost within: { vec_len list.weights + room ≤ list.most },
@@ -113,11 +113,11 @@ impl Gathered {
     ghost use Rattle.tsp_section.specs.states.Parts.{Takes};
     ghost use Rattle.tsp_section.specs.states.Held.{HoldsWeights};
 
-    /// A list with room for so many more weights, or for all that the matrix has left; for none where
-    /// memory was refused.
+    /// A list with capacity for this many more weights, or for all that the matrix still needs; for
+    /// none where memory was refused.
     ///
-    /// Where it grows, it doubles, and never past what the matrix has. So what is asked for goes by the
-    /// weights that have come and by `more`, and not by the dimension alone.
+    /// Where it grows, it doubles, and never past the matrix's size. So the request depends on the
+    /// weights that have come and on `more`, and not on the dimension alone.
     #[inline(always)]
     fn of(mut list: WeightList, more: usize) -> Gathered
         ensures { (n : ℕ) (words : List (List ℕ)) → HoldsWeights list n words
@@ -135,8 +135,8 @@ impl Gathered {
         Gathered { list, room }
     }
 
-    /// Takes the number of a word that was read, where it is a weight and there is room. The answer
-    /// is whether it was taken.
+    /// Takes the number of a word that was read, where it is a weight and the capacity suffices.
+    /// The result says whether it was taken.
     #[inline(always)]
     pub fn push_read(&mut self, weight: i64) -> bool
         ensures taken { result ≡ true → (n : ℕ) (words : List (List ℕ)) (word : List ℕ)

@@ -11,7 +11,7 @@ use tsp_number::NumberFault::LongWord;
 use tsp_read::LineFault::{LongLine, Number};
 use tsp_read::{Feed, ReadFault};
 
-/// A line of so many bytes, most of them blanks at its end.
+/// A line of this many bytes, most of them blanks at its end.
 fn line_of(alloc: Global, size: usize) -> Result<String, Fail> {
     let start = "TYPE : TOUR";
     let blanks = " ".repeat(alloc, size.saturating_sub(start.len()))?;
@@ -110,7 +110,8 @@ const UNIT: usize = 1_048_576;
 
 const UNITS: usize = 1_024;
 
-/// Feeds a unit of blanks again and again, until so many bytes are left of those that a file may have.
+/// Feeds a unit of blanks again and again, until this many bytes are left of those that a file may
+/// have.
 fn feed_blanks_but(feed: &mut Feed, blanks: &[u8], fewer: usize) -> Result<(), ReadFault> {
     for _ in 1..UNITS {
         fed(feed, blanks)?;

@@ -1,4 +1,4 @@
-//! What is answered at each piece.
+//! The result at each piece.
 
 use super::{CANONICAL_TOUR, TOUR, answer_by_bytes, file};
 use crate::answers::{answer, answer_of, fault_at_end, fed, long_file};
@@ -25,7 +25,7 @@ const LATER: &[&str] = &[
     TOUR,
 ];
 
-/// What is answered for pieces, up to the first refusal.
+/// The result for pieces, up to the first refusal.
 fn feed_texts(feed: &mut Feed, pieces: &[&'static str]) -> Result<(), ReadFault> {
     for piece in pieces {
         fed(feed, piece.as_bytes())?;

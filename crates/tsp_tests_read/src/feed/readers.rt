@@ -1,4 +1,4 @@
-//! Readers that hand out little at a time, and readers that must not be asked once more.
+//! Readers that deliver little at a time, and readers that must not be asked once more.
 
 use super::{CANONICAL_TOUR, EXAMPLES, RECTANGLE, TOUR, at, file};
 use crate::answers::answer_from;
@@ -11,7 +11,7 @@ use tsp_read::{ReadFault, read_from};
 use tsp_stream::Watched;
 use tsp_tests_support::devices::{Flood, Trickle};
 
-/// A reader that hands out all that it has at its first read, and fails at the next.
+/// A reader that delivers all its bytes at its first read, and fails at the next.
 #[derive(Drop)]
 struct Once<'a> {
     bytes: &'a [u8],

@@ -2,6 +2,6 @@ use Rattle.std.proofs.Common.{◌≡◌, ◌++◌, drop}
 use Rattle.tsp_explain.specs.Shown.{all_shown}
 use Rattle.tsp_explain.proofs.text.push_shown.Given as goal
 
--- what is shown so far and what the other bytes are shown as
+-- the text so far, and the text of the other bytes
 abbrev pub invariant-bytes : goal.invariant-bytes
 invariant-bytes l = l.text.items ++ all_shown (drop l.byte-index l.bytes) ≡ l.initial.text.items ++ all_shown l.bytes

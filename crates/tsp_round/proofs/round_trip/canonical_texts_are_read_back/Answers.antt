@@ -1,4 +1,4 @@
--- The canonical text of a valid file spells that file, and no other: from the one answer of every text.
+-- The canonical text of a valid file parses to that file, and to no other: from the one answer of every text.
 use Rattle.std.proofs.Common.{ℕ, List, sym, subst, ◌∙◌, Result, Ok, Err}
 use Rattle.std.proofs.lemmas.Option.{none-some}
 use Rattle.tsp_draft.specs.Fields.{Fields}
@@ -23,7 +23,7 @@ returns-clause-alone c =
     let spells = returns-clause-spelled c in
     λ f other valid also. c.texts_have_one_answer.ensures.one_file (text_of f) other f also (spells f valid)
 
--- a text that spells a file is read as that file
+-- a text that parses to a file is read as that file
 only_this : (bytes : List ℕ) (file : Fields) (answer : Result Fields ReadFault) → Spells bytes file → Reads bytes answer → IsThisFile file answer
 only_this bytes file (Ok other) spells reads = reads.fields ∙ sym spells.fields
 only_this bytes file (Err (faults.Line line word found)) spells reads = absurd (none-some (faults.Line line word found) (sym spells.no_fault ∙ reads))

@@ -1,4 +1,4 @@
--- Numbers that are written are read back, by the laws of number words and of spellings.
+-- Numbers that are written are read back, by the laws of number words and of their texts.
 use Rattle.tsp_round.proofs.Numbers.{WordLaws, number_laws}
 use Rattle.tsp_round.proofs.round_trip.written_numbers_are_read_back.Goals as goal
 

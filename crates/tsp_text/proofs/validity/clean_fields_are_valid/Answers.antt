@@ -1,4 +1,4 @@
--- What items without a fault spell is valid, field by field.
+-- The fields of items without a fault are valid, field by field.
 use Rattle.tsp_text.specs.Text.{part}
 use Rattle.tsp_text.proofs.ValidCuts.{part_cut}
 use Rattle.tsp_text.proofs.ValidItems.{none_bad}

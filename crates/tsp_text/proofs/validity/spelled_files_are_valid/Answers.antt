@@ -1,4 +1,4 @@
--- What a text spells is a file.
+-- The fields of a text are a file.
 use Rattle.tsp_text.proofs.ValidItems.{is_file, spelled_file}
 use Rattle.tsp_text.proofs.validity.spelled_files_are_valid.Goals as goal
 

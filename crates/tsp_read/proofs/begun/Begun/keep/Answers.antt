@@ -3,7 +3,7 @@ use Rattle.tsp_read.specs.states.Token.{most_bytes}
 use Rattle.tsp_read.proofs.BegunSteps.{begun_token, open_token, has_taken}
 use Rattle.tsp_read.proofs.begun.Begun.keep.Goals as goal
 
--- what is kept is all that is left, without the blanks at its front
+-- the kept part is all that is left, without the blanks at its beginning
 kept_all : goal.returns-clause-kept
 kept_all c =
     let filled : List ℕ = c.without_start-filled.result.now in
