@@ -31,22 +31,29 @@ abbrev pub convert : App
 convert = with_rule (with_rule (with_rule (new_app (codes "convert")) (path (codes "F"))) (option (codes "L") (codes "layout")))
     explain
 
--- check F T [--potentials P]
-abbrev pub check_files : App
-check_files = with_rule (with_rule (with_rule (new_app (codes "check")) (path (codes "F"))) (path (codes "T")))
-    (option (codes "P") (codes "potentials"))
+-- [--potentials P] [--branches B]
+abbrev pub certificates : App → App
+certificates app = with_rule (with_rule app (option (codes "P") (codes "potentials"))) (option (codes "B") (codes "branches"))
 
--- check F T [--potentials P] [--branches B] [--explain]
+-- check F T
+abbrev pub check_files : App
+check_files = with_rule (with_rule (new_app (codes "check")) (path (codes "F"))) (path (codes "T"))
+
+-- check F T [--potentials P] [--branches B] [--length N] [--explain]
 abbrev pub check : App
-check = with_rule (with_rule check_files (option (codes "B") (codes "branches"))) explain
+check = with_rule (with_rule (certificates check_files) (option (codes "N") (codes "length"))) explain
+
+-- bound F [--potentials P] [--branches B] [--explain]
+abbrev pub bound : App
+bound = with_rule (certificates (with_rule (new_app (codes "bound")) (path (codes "F")))) explain
 
 -- the program, whose words don't begin with its own name, and which knows its version
 abbrev pub start : App
 start = on_top (λ top. record top { no_binary_name = true; has_version = true }) (new_app (codes "tsp"))
 
--- and its three subcommands, at one level
+-- and its four subcommands, at one level
 abbrev pub tsp : App
-tsp = with_subcommand (with_subcommand (with_subcommand start show.top) convert.top) check.top
+tsp = with_subcommand (with_subcommand (with_subcommand (with_subcommand start show.top) convert.top) check.top) bound.top
 
 -- an argument of the command counts in its subcommands too
 abbrev pub has_globals : Command → Bool

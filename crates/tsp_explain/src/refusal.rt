@@ -41,7 +41,8 @@ pub fn blamed(reason: Reason) -> Blame {
         | Reason::FixedEdgeUnused { .. }
         | Reason::DepotInRoute { .. }
         | Reason::Unserved { .. }
-        | Reason::Overload { .. } => Blame::Solution,
+        | Reason::Overload { .. }
+        | Reason::LengthClaimed { .. } => Blame::Solution,
         Reason::NotPotentials
         | Reason::PotentialsDimension
         | Reason::PotentialsKind
@@ -109,6 +110,7 @@ pub fn push_details(
             push_cost(text, weighed, j, i)
         }
         Reason::DualInfeasible { i, j } => push_cost(text, weighed, i, j),
+        Reason::LengthClaimed { length } => say(text, &[("Its length is ", length)]),
         Reason::NotPotentials
         | Reason::PotentialsDimension
         | Reason::PotentialsKind

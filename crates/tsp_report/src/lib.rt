@@ -1,6 +1,7 @@
 //! The texts that the program prints: the report of a check, and what is shown of a file.
 #![tactic(auto)]
 
+mod bound;
 mod examples;
 mod leaves;
 mod reason;
@@ -8,5 +9,6 @@ mod report;
 mod shown;
 
 pub use examples::{examples_of_reasons, examples_of_reports, examples_of_shown_lines};
+pub use bound::write_bound;
 pub use report::write_report;
 pub use shown::write_shown;

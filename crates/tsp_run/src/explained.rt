@@ -1,19 +1,17 @@
 //! What a run's end means, for a person.
 
 use crate::ending::Ending;
+use crate::engines::Outcome;
 use crate::source::Open;
 use std::alloc::{AllocError, Global};
 use std::io;
 use std::io::Read;
-use tsp_cli::{Job, TaskFault};
-use tsp_cost::Instance;
+use tsp_cli::{Job, TaskFault, Verb};
 use tsp_explain::{
     Blame, blamed, explain_file, explain_reason, push_details, push_error, push_lines,
     relayout_sentence, write_sentence,
 };
-use tsp_file::File;
-use tsp_judge::{Reason, RunFault, Verdict, Watched, WriteFault};
-use tsp_read::read_from;
+use tsp_judge::{Reason, RunFault, Verdict, WriteFault};
 
 /// What explains how a job ended, line by line. Files that can be are looked at once more for it;
 /// `write_error` is what the system said of a write that failed. It is cut short where there is no
@@ -43,10 +41,9 @@ fn push_explanation<F: Read + Drop, O: Open<F>>(
         Ending::NoJob(_) | Ending::NoTask(TaskFault::MissingPath) => Ok(()),
         Ending::NoTask(TaskFault::UnknownLayout) => push_lines(text, LAYOUTS),
         Ending::NoTask(TaskFault::TwoCertificates) => push_lines(text, CERTIFICATES),
-        Ending::Ended(Ok(Some(Verdict::No(reason)))) => {
-            push_reason(alloc, text, job, *reason, files)
-        }
-        Ending::Ended(Ok(_)) => Ok(()),
+        Ending::NoTask(TaskFault::NoCertificate) => push_lines(text, NO_CERTIFICATE),
+        Ending::NoTask(TaskFault::NotALength) => push_lines(text, LENGTHS),
+        Ending::Ended(Ok(outcome)) => push_refusal(text, job, outcome),
         Ending::Ended(Err(fault)) => push_fault(alloc, text, job, *fault, files, write_error),
     }
 }
@@ -59,6 +56,14 @@ const LAYOUTS: &str =
 /// What certifies a bound.
 const CERTIFICATES: &str =
     "A check takes one certificate: a file of potentials, or a tree of cases. Run it once with each.";
+
+/// What a bound needs.
+const NO_CERTIFICATE: &str =
+    "A bound needs a certificate: --potentials with a file of potentials, or --branches with a tree of cases.";
+
+/// What a length is.
+const LENGTHS: &str =
+    "A length is a whole number that fits 64 bits, as 426 or 12.0. One below 0 is written --length=-34.";
 
 /// What the first file of a check is.
 const KINDS: &str =
@@ -100,60 +105,48 @@ fn push_write_fault(
     }
 }
 
-/// Appends what explains a no. The nodes and numbers are told as far as a second reading of the
-/// instance and the solution shows them.
-fn push_reason<F: Read + Drop, O: Open<F>>(
-    alloc: Global,
-    text: &mut Vec<u8>,
-    job: &Job,
-    reason: Reason,
-    files: &O,
-) -> Result<(), AllocError> {
-    let name = name_of(path_of(job, file_of(blamed(reason))));
-    explain_reason(text, name, reason)?;
-    let instance = weighed_again(alloc, path_of(job, 1), files);
-    let solution = read_again(alloc, path_of(job, 2), files);
-    match (&instance, &solution) {
-        (Some(instance), Some(solution)) => push_details(text, reason, instance, solution),
-        _ => Ok(()),
+/// Appends what explains a no, from the files that were judged.
+fn push_refusal(text: &mut Vec<u8>, job: &Job, outcome: &Outcome) -> Result<(), AllocError> {
+    match outcome {
+        Outcome::Done => Ok(()),
+        Outcome::Judged(judged) => match judged.verdict {
+            Verdict::Tour { .. } | Verdict::Routes { .. } => Ok(()),
+            Verdict::No(reason) => {
+                explain_reason(text, name_of_blamed(job, reason), reason)?;
+                push_details(text, reason, &judged.instance, Some(&judged.solution))
+            }
+        },
+        Outcome::Bounded(bounded) => match bounded.found {
+            Ok(_) => Ok(()),
+            Err(reason) => {
+                explain_reason(text, name_of_blamed(job, reason), reason)?;
+                push_details(text, reason, &bounded.instance, None)
+            }
+        },
     }
 }
 
-/// The file that is read a second time, as the first time, or `None` where it can't be.
-fn read_again<F: Read + Drop, O: Open<F>>(
-    alloc: Global,
-    path: Option<&str>,
-    files: &O,
-) -> Option<File> {
-    let mut reader = Watched::new(again(path, files)?);
-    read_from(alloc, &mut reader).ok()
+/// What the file is called that a reason is about.
+fn name_of_blamed(job: &Job, reason: Reason) -> &str {
+    name_of(match blamed(reason) {
+        Blame::Instance => place_of(&job.file),
+        Blame::Solution => place_of(&job.solution),
+        Blame::Potentials | Blame::Branches => place_of(certificate_of(job)),
+    })
 }
 
-/// The instance that is read a second time, or `None` where it can't be.
-fn weighed_again<F: Read + Drop, O: Open<F>>(
-    alloc: Global,
-    path: Option<&str>,
-    files: &O,
-) -> Option<Instance> {
-    Instance::of(read_again(alloc, path, files)?).ok()
-}
-
-/// The number of the file that a reason is about.
-fn file_of(blamed: Blame) -> u32 {
-    match blamed {
-        Blame::Instance => 1,
-        Blame::Solution => 2,
-        Blame::Potentials | Blame::Branches => 3,
-    }
-}
-
-/// The path of the file with this number, or `None` where it is standard input.
+/// The path of the file with this number, or `None` where it is standard input. A bound has its
+/// certificate in the place of a solution.
 fn path_of(job: &Job, file: u32) -> Option<&str> {
-    let path = match file {
-        1 => &job.file,
-        2 => &job.solution,
-        _ => certificate_of(job),
-    };
+    match (file, job.verb) {
+        (1, _) => place_of(&job.file),
+        (2, Some(Verb::Show | Verb::Convert | Verb::Check) | None) => place_of(&job.solution),
+        _ => place_of(certificate_of(job)),
+    }
+}
+
+/// A path, where there is one.
+fn place_of(path: &Option<String>) -> Option<&str> {
     match path {
         Some(path) => Some(path.as_str()),
         None => None,

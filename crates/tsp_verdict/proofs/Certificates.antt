@@ -10,7 +10,7 @@ use Rattle.tsp_draft.specs.Fields.{Fields}
 use Rattle.tsp_draft.specs.Rules.{is_certificate}
 use Rattle.tsp_theory.specs.Adjusted.{pair_of, is_same_pair, AreOnPairs}
 use Rattle.tsp_reason.specs.declared.verdict.Reason.{Reason}
-use Rattle.tsp_reason.specs.declared.verdict.Reason.TheVariants.{TooFewNodes, NotPotentials, PotentialsDimension, PotentialsKind, MultiplierNotFixed, MultiplierRepeated, DualInfeasible, DepotCount, DepotDemand, FixedEdgesInRoutes, DepotInRoute, Unserved, Overload, NotBranches, BranchesDimension, BadComb, BranchTwice, BadLeaf}
+use Rattle.tsp_reason.specs.declared.verdict.Reason.TheVariants.{TooFewNodes, NotPotentials, PotentialsDimension, PotentialsKind, MultiplierNotFixed, MultiplierRepeated, DualInfeasible, DepotCount, DepotDemand, FixedEdgesInRoutes, DepotInRoute, Unserved, Overload, NotBranches, BranchesDimension, BadComb, BranchTwice, BadLeaf, LengthClaimed}
 use Rattle.tsp_verdict.specs.Multiplied.{AreListed, IsUnlisted, IsPairRepeated, pair_at}
 use Rattle.tsp_verdict.specs.Places.{IsFirstPlace}
 use Rattle.tsp_verdict.specs.Reasons.{NoneBefore, IsFirstReason}
@@ -123,6 +123,7 @@ tour_rank inst sol BranchesDimension stands = absurd stands
 tour_rank inst sol (BadComb index) stands = absurd stands
 tour_rank inst sol (BranchTwice index) stands = absurd stands
 tour_rank inst sol (BadLeaf index) stands = absurd stands
+tour_rank inst sol (LengthClaimed length) stands = absurd stands
 tour_rank inst sol reason stands = omega arith
 
 certificate_rank : (by : Certificate) (inst cert : Fields) (reason : Reason) → StandsAgainstCertificate by inst cert reason → 10 ≤ rank_of_tours reason

@@ -13,4 +13,6 @@ pub mod Certificate
 pub mod Numbered
 pub mod Tree
 pub mod Certified
+pub mod Judged
+pub mod Bounded
 pub mod Examples

@@ -6,7 +6,7 @@ use Rattle.tsp_draft.specs.Fields.{Fields}
 use Rattle.tsp_draft.specs.Rules.{is_tours}
 use Rattle.tsp_file.specs.Cost.{cost}
 use Rattle.tsp_reason.specs.declared.verdict.Reason.{Reason}
-use Rattle.tsp_reason.specs.declared.verdict.Reason.TheVariants.{NotASolution, TooFewNodes, NotSymmetric, Dimension, TourCount, TourLength, NodeOutOfRange, RepeatedNode, FixedEdgeUnused, NotPotentials, PotentialsDimension, PotentialsKind, MultiplierNotFixed, MultiplierRepeated, DualInfeasible, DepotCount, DepotDemand, FixedEdgesInRoutes, DepotInRoute, Unserved, Overload, NotBranches, BranchesDimension, BadComb, BranchTwice, BadLeaf}
+use Rattle.tsp_reason.specs.declared.verdict.Reason.TheVariants.{NotASolution, TooFewNodes, NotSymmetric, Dimension, TourCount, TourLength, NodeOutOfRange, RepeatedNode, FixedEdgeUnused, NotPotentials, PotentialsDimension, PotentialsKind, MultiplierNotFixed, MultiplierRepeated, DualInfeasible, DepotCount, DepotDemand, FixedEdgesInRoutes, DepotInRoute, Unserved, Overload, NotBranches, BranchesDimension, BadComb, BranchTwice, BadLeaf, LengthClaimed}
 use Rattle.tsp_reason.specs.declared.verdict.Verdict.{Verdict}
 use Rattle.tsp_reason.specs.declared.verdict.Verdict.TheVariants as verdicts
 use Rattle.tsp_verdict.specs.Places.{IsFirstPlace, IsLarger, IsAt, IsRepeated}
@@ -24,7 +24,7 @@ pub record IsFirstUnserved (n depot : ℕ) (nodes : List ℕ) (node : ℕ) : Typ
 abbrev pub IsOverloaded : List ℤ → ℤ → List (List ℕ) → ℕ → Type 0
 IsOverloaded demands capacity routes place = capacity <ℤ load_of demands (slice_index_or routes (place - 1) [])
 
--- When a reason stands against routes. Reasons of tours alone and of certificates never do.
+-- When a reason stands against routes. Reasons of tours alone, of certificates and of claims never do.
 abbrev pub StandsAgainstRoutes : Fields → Fields → Reason → Type 0
 StandsAgainstRoutes inst sol NotASolution = is_tours sol.kind ≡ false
 StandsAgainstRoutes inst sol TooFewNodes = nodes_of inst < 2
@@ -46,6 +46,7 @@ StandsAgainstRoutes inst sol BranchesDimension = ⊥
 StandsAgainstRoutes inst sol (BadComb index) = ⊥
 StandsAgainstRoutes inst sol (BranchTwice index) = ⊥
 StandsAgainstRoutes inst sol (BadLeaf index) = ⊥
+StandsAgainstRoutes inst sol (LengthClaimed length) = ⊥
 StandsAgainstRoutes inst sol DepotCount = length (depots_of inst) ≢ 1
 StandsAgainstRoutes inst sol DepotDemand = demand_of (demands_of inst) (depot_of inst) ≢ pos 0
 StandsAgainstRoutes inst sol FixedEdgesInRoutes = 1 ≤ length (fixed_of inst)
@@ -82,6 +83,7 @@ rank_of_routes BranchesDimension = 12
 rank_of_routes (BadComb index) = 12
 rank_of_routes (BranchTwice index) = 12
 rank_of_routes (BadLeaf index) = 12
+rank_of_routes (LengthClaimed length) = 12
 
 -- no reason stands that is judged before this rank
 abbrev pub NoneOfRoutesUpTo : Fields → Fields → ℕ → Type 0

@@ -9,14 +9,14 @@ use Rattle.tsp_theory.specs.Costs.{IsSymmetric, IsFirstAsymmetric}
 use Rattle.tsp_theory.specs.Length.{length_of}
 use Rattle.tsp_cost.specs.Tours.{is_directed, IsTourOf}
 use Rattle.tsp_reason.specs.declared.verdict.Reason.{Reason}
-use Rattle.tsp_reason.specs.declared.verdict.Reason.TheVariants.{NotASolution, TooFewNodes, NotSymmetric, Dimension, TourCount, TourLength, NodeOutOfRange, RepeatedNode, FixedEdgeUnused, NotPotentials, PotentialsDimension, PotentialsKind, MultiplierNotFixed, MultiplierRepeated, DualInfeasible, DepotCount, DepotDemand, FixedEdgesInRoutes, DepotInRoute, Unserved, Overload, NotBranches, BranchesDimension, BadComb, BranchTwice, BadLeaf}
+use Rattle.tsp_reason.specs.declared.verdict.Reason.TheVariants.{NotASolution, TooFewNodes, NotSymmetric, Dimension, TourCount, TourLength, NodeOutOfRange, RepeatedNode, FixedEdgeUnused, NotPotentials, PotentialsDimension, PotentialsKind, MultiplierNotFixed, MultiplierRepeated, DualInfeasible, DepotCount, DepotDemand, FixedEdgesInRoutes, DepotInRoute, Unserved, Overload, NotBranches, BranchesDimension, BadComb, BranchTwice, BadLeaf, LengthClaimed}
 use Rattle.tsp_reason.specs.declared.verdict.Verdict.{Verdict}
 use Rattle.tsp_reason.specs.declared.verdict.Verdict.TheVariants as verdicts
 use Rattle.tsp_verdict.specs.Places.{IsFirstPlace, IsLarger, IsRepeated, IsUnused}
 use Rattle.tsp_verdict.specs.Reasons.{NoneBefore, IsFirstReason}
 use Rattle.tsp_verdict.specs.Solution.{nodes_of, fixed_of, tours_of, visited}
 
--- When a reason stands against a tour. Reasons of certificates and of routes never do.
+-- When a reason stands against a tour. Reasons of certificates, of routes and of claims never do.
 abbrev pub StandsAgainstTour : Fields → Fields → Reason → Type 0
 StandsAgainstTour inst sol NotASolution = is_tours sol.kind ≡ false
 StandsAgainstTour inst sol TooFewNodes = nodes_of inst < 3
@@ -45,6 +45,7 @@ StandsAgainstTour inst sol BranchesDimension = ⊥
 StandsAgainstTour inst sol (BadComb index) = ⊥
 StandsAgainstTour inst sol (BranchTwice index) = ⊥
 StandsAgainstTour inst sol (BadLeaf index) = ⊥
+StandsAgainstTour inst sol (LengthClaimed length) = ⊥
 
 -- The order in which the reasons against a tour, and then those against a certificate, are judged. Reasons against potentials and
 -- those against branches never stand together.
@@ -75,6 +76,7 @@ rank_of_tours BranchesDimension = 18
 rank_of_tours (BadComb index) = 19
 rank_of_tours (BranchTwice index) = 20
 rank_of_tours (BadLeaf index) = 21
+rank_of_tours (LengthClaimed length) = 22
 
 -- no reason stands that is judged before this rank
 abbrev pub NoneOfTourUpTo : Fields → Fields → ℕ → Type 0

@@ -6,8 +6,10 @@ ghost use Rattle.tsp_reason.specs.declared.certificate.Certificate.TheVariants a
 ghost use Rattle.tsp_verdict.specs.Solution.{nodes_of};
 ghost use Rattle.tsp_verdict.specs.Tours.{IsSymmetricTsp, NoneOfTourBeforeRepeats};
 ghost use Rattle.tsp_verdict.specs.Certified.{is_bounded, FindsBound, IsCertifiedVerdict};
+ghost use Rattle.tsp_verdict.specs.Judged.{IsVerdictWith};
 
 use crate::certificate::{bound_by_duals, bound_by_nodes};
+use crate::judged::is_other;
 use crate::tour::length_of_tour;
 use crate::tree::bound_of_tree;
 use std::alloc::{AllocError, Global};
@@ -37,10 +39,31 @@ pub fn judge_certified(
         (λ verdict. IsCertifiedVerdict by instance.now solution.now certificate.now verdict)
         (λ refused. NoneOfTourBeforeRepeats instance.now solution.now) }
 {
+    judge_with_claim(alloc, by, instance, solution, certificate, None)
+}
+
+/// The verdict of [`judge_certified`], where a length may be claimed: another one than the tour's is
+/// refused before a reason against the certificate.
+pub(crate) fn judge_with_claim(
+    alloc: Global,
+    by: Certificate,
+    instance: &Instance,
+    solution: &File,
+    certificate: &File,
+    claimed: Option<i64>,
+) -> Result<Verdict, AllocError>
+    requires { IsTrue (is_bounded by instance.now.kind) }
+    ensures { MatchResult result
+        (λ verdict. IsVerdictWith (Some (by, certificate.now)) claimed instance.now solution.now verdict)
+        (λ refused. NoneOfTourBeforeRepeats instance.now solution.now) }
+{
     let length = match length_of_tour(alloc, instance, solution)? {
         Ok(length) => length,
         Err(reason) => return Ok(Verdict::No(reason)),
     };
+    if is_other(claimed, length) {
+        return Ok(Verdict::No(Reason::LengthClaimed { length }));
+    }
     match bound_of(alloc, by, instance, certificate)? {
         Ok(bound) => Ok(Verdict::Tour {
             length,
@@ -113,7 +136,7 @@ pub fn is_bounded(by: Certificate, kind: Kind) -> bool
 }
 
 /// The bound that a certificate gives, or the first reason against it. Of duals no memory is taken.
-fn bound_of(
+pub(crate) fn bound_of(
     alloc: Global,
     by: Certificate,
     instance: &Instance,
