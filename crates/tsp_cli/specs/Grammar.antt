@@ -31,21 +31,32 @@ abbrev pub convert : App
 convert = with_rule (with_rule (with_rule (new_app (codes "convert")) (path (codes "F"))) (option (codes "L") (codes "layout")))
     explain
 
--- [--potentials P] [--branches B]
-abbrev pub certificates : App → App
-certificates app = with_rule (with_rule app (option (codes "P") (codes "potentials"))) (option (codes "B") (codes "branches"))
+-- [--potentials P] and [--branches B]
+abbrev pub of_potentials : Rule
+of_potentials = option (codes "P") (codes "potentials")
+
+abbrev pub of_branches : Rule
+of_branches = option (codes "B") (codes "branches")
 
 -- check F T
 abbrev pub check_files : App
 check_files = with_rule (with_rule (new_app (codes "check")) (path (codes "F"))) (path (codes "T"))
 
+-- check F T [--potentials P] [--branches B]
+abbrev pub check_certified : App
+check_certified = with_rule (with_rule check_files of_potentials) of_branches
+
 -- check F T [--potentials P] [--branches B] [--length N] [--explain]
 abbrev pub check : App
-check = with_rule (with_rule (certificates check_files) (option (codes "N") (codes "length"))) explain
+check = with_rule (with_rule check_certified (option (codes "N") (codes "length"))) explain
+
+-- bound F
+abbrev pub bound_files : App
+bound_files = with_rule (new_app (codes "bound")) (path (codes "F"))
 
 -- bound F [--potentials P] [--branches B] [--explain]
 abbrev pub bound : App
-bound = with_rule (certificates (with_rule (new_app (codes "bound")) (path (codes "F")))) explain
+bound = with_rule (with_rule (with_rule bound_files of_potentials) of_branches) explain
 
 -- the program, whose words don't begin with its own name, and which knows its version
 abbrev pub start : App

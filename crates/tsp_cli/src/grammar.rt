@@ -2,7 +2,7 @@
 
 ghost use Rattle.std.specs.Prelude.{◌≡◌, IfOk, false};
 ghost use Rattle.clap.specs.Words.{app_of, new_app, rule_of, shape_of, with_rule, with_subcommand};
-ghost use Rattle.tsp_cli.specs.Grammar.{IsCommandOf, has_globals, path, option, flag, explain, show, convert, certificates, check_files, check, bound, start, tsp};
+ghost use Rattle.tsp_cli.specs.Grammar.{IsCommandOf, has_globals, path, option, flag, explain, show, convert, check_files, check_certified, check, bound_files, bound, start, tsp};
 
 use clap::{Arg, ArgAction, Command};
 use std::alloc::{AllocError, Global};
@@ -34,6 +34,11 @@ Examples:
   tsp check a.tsp a.tour --branches a.branches
   tsp check a.tsp a.tour --length 426
   tsp bound a.tsp --potentials a.potentials";
+
+/// What the options of the certificates are.
+const POTENTIALS: &str = "The path of the potentials: TYPE POTENTIALS";
+
+const BRANCHES: &str = "The path of a tree of cases: TYPE BRANCHES";
 
 /// The end of the help of `show`.
 const SHOW_NOTES: &str = "\
@@ -132,39 +137,27 @@ fn convert<'a>(alloc: Global) -> Result<Command<'a>, AllocError>
 fn check<'a>(alloc: Global) -> Result<Command<'a>, AllocError>
     ensures { IfOk result (IsCommandOf check) }
 {
-    let one = with_certificates(alloc, check_files(alloc)?)?;
-    let length = option(alloc, "N", "length", "The length that the solution has to have");
+    let one = check_certified(alloc)?;
+    let length = option(
+        alloc,
+        "N",
+        "length",
+        "The length that the solution has to have",
+    );
     let two = with(one, length)?;
     with(two, explain(alloc))
 }
 
-/// `bound F [--potentials P] [--branches B] [--explain]`.
-fn bound<'a>(alloc: Global) -> Result<Command<'a>, AllocError>
-    ensures { IfOk result (IsCommandOf bound) }
+/// `check F T [--potentials P] [--branches B]`.
+fn check_certified<'a>(alloc: Global) -> Result<Command<'a>, AllocError>
+    ensures { IfOk result (IsCommandOf check_certified) }
 {
-    let about = "Bounds every tour of an instance by a certificate, without a tour";
-    let bare = command(alloc, "bound", about, BOUND_NOTES);
-    let instance = "The path of the instance: TYPE TSP or ATSP";
-    let one = with(bare, path(alloc, "F", instance))?;
-    let two = with_certificates(alloc, one)?;
-    with(two, explain(alloc))
+    let files = check_files(alloc)?;
+    let one = with(files, option(alloc, "P", "potentials", POTENTIALS))?;
+    with(one, option(alloc, "B", "branches", BRANCHES))
 }
 
-/// A command with the options of both certificates.
-fn with_certificates<'a>(
-    alloc: Global,
-    command: Command<'a>,
-) -> Result<Command<'a>, AllocError>
-    requires globals { has_globals command ≡ false }
-    ensures { IfOk result (IsCommandOf (certificates (app_of command.entry))) }
-{
-    let potentials = "The path of the potentials: TYPE POTENTIALS";
-    let one = with(command, option(alloc, "P", "potentials", potentials))?;
-    let branches = "The path of a tree of cases: TYPE BRANCHES";
-    with(one, option(alloc, "B", "branches", branches))
-}
-
-/// `check F T`.
+/// `check F T`, which has the files.
 fn check_files<'a>(alloc: Global) -> Result<Command<'a>, AllocError>
     ensures { IfOk result (IsCommandOf check_files) }
 {
@@ -173,6 +166,28 @@ fn check_files<'a>(alloc: Global) -> Result<Command<'a>, AllocError>
     let instance = "The path of the instance: TYPE TSP, ATSP or CVRP";
     let one = with(bare, path(alloc, "F", instance))?;
     with(one, path(alloc, "T", "The path of the solution: TYPE TOUR"))
+}
+
+/// `bound F [--potentials P] [--branches B] [--explain]`.
+fn bound<'a>(alloc: Global) -> Result<Command<'a>, AllocError>
+    ensures { IfOk result (IsCommandOf bound) }
+{
+    let files = bound_files(alloc)?;
+    let one = with(files, option(alloc, "P", "potentials", POTENTIALS))?;
+    let two = with(one, option(alloc, "B", "branches", BRANCHES))?;
+    with(two, explain(alloc))
+}
+
+/// `bound F`, which has the file.
+fn bound_files<'a>(alloc: Global) -> Result<Command<'a>, AllocError>
+    ensures { IfOk result (IsCommandOf bound_files) }
+{
+    let about = "Bounds every tour of an instance by a certificate, without a tour";
+    let bare = command(alloc, "bound", about, BOUND_NOTES);
+    with(
+        bare,
+        path(alloc, "F", "The path of the instance: TYPE TSP or ATSP"),
+    )
 }
 
 /// A command without arguments, with the texts of its help.

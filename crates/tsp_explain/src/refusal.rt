@@ -70,8 +70,8 @@ pub fn explain_reason(text: &mut Vec<u8>, name: &str, reason: Reason) -> Result<
     push_lines(text, reason_sentence(reason))
 }
 
-/// Appends the nodes and numbers that a reason is about, as the instance and the solution show them.
-/// The caller may have read both a second time, so they may be others than those that were judged.
+/// Appends the nodes and numbers that a reason is about, as the instance and the solution show them,
+/// where there is a solution.
 ///
 /// # Errors
 ///
@@ -80,9 +80,35 @@ pub fn push_details(
     text: &mut Vec<u8>,
     reason: Reason,
     weighed: &Instance,
-    solution: &File,
+    solution: Option<&File>,
 ) -> Result<(), AllocError> {
     let instance = weighed.file();
+    if let Some(solution) = solution {
+        push_of_solution(text, reason, instance, solution)?;
+    }
+    match reason {
+        Reason::TooFewNodes => say(text, &[("DIMENSION is ", nodes_of(instance))]),
+        Reason::DepotCount => say(
+            text,
+            &[("The number of depots in it is ", depots_in(instance))],
+        ),
+        Reason::NotSymmetric { i, j } => {
+            push_cost(text, weighed, i, j)?;
+            push_cost(text, weighed, j, i)
+        }
+        Reason::DualInfeasible { i, j } => push_cost(text, weighed, i, j),
+        Reason::LengthClaimed { length } => say(text, &[("Its length is ", length)]),
+        _ => Ok(()),
+    }
+}
+
+/// Appends what the solution shows of a reason.
+fn push_of_solution(
+    text: &mut Vec<u8>,
+    reason: Reason,
+    instance: &File,
+    solution: &File,
+) -> Result<(), AllocError> {
     match reason {
         Reason::NotASolution => push_type(text, solution),
         Reason::Dimension => push_dimensions(text, instance, solution),
@@ -100,29 +126,7 @@ pub fn push_details(
         Reason::FixedEdgeUnused { index } => push_pair(text, index, instance),
         Reason::Overload { route } => push_load(text, route, instance, solution),
         Reason::Unserved { node } => say(text, &[("No route has node ", i64::from(node))]),
-        Reason::TooFewNodes => say(text, &[("DIMENSION is ", nodes_of(instance))]),
-        Reason::DepotCount => say(
-            text,
-            &[("The number of depots in it is ", depots_in(instance))],
-        ),
-        Reason::NotSymmetric { i, j } => {
-            push_cost(text, weighed, i, j)?;
-            push_cost(text, weighed, j, i)
-        }
-        Reason::DualInfeasible { i, j } => push_cost(text, weighed, i, j),
-        Reason::LengthClaimed { length } => say(text, &[("Its length is ", length)]),
-        Reason::NotPotentials
-        | Reason::PotentialsDimension
-        | Reason::PotentialsKind
-        | Reason::MultiplierNotFixed { .. }
-        | Reason::MultiplierRepeated { .. }
-        | Reason::DepotDemand
-        | Reason::FixedEdgesInRoutes
-        | Reason::NotBranches
-        | Reason::BranchesDimension
-        | Reason::BadComb { .. }
-        | Reason::BranchTwice { .. }
-        | Reason::BadLeaf { .. } => Ok(()),
+        _ => Ok(()),
     }
 }
 

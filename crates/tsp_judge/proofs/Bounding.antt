@@ -9,7 +9,7 @@ use Rattle.tsp_reason.specs.declared.certificate.Certificate.{Certificate}
 use Rattle.tsp_judge.specs.declared.bound.Bounded.{Bounded}
 use Rattle.tsp_judge.specs.declared.fault.RunFault.{RunFault}
 use Rattle.tsp_judge.specs.declared.fault.RunFault.TheVariants.{File, WrongKind, Write, OutOfMemory, Relayout}
-use Rattle.tsp_judge.specs.BoundRun.{Bounds, EndsUnbounded, IsBoundRun, IsABoundYes, IsBoundRunOf}
+use Rattle.tsp_judge.specs.BoundRun.{BoundsFiles, EndsUnbounded, IsBoundRun, IsABoundYes, IsBoundRunOf}
 use Rattle.tsp_judge.specs.Run.{ReadsFile}
 use Rattle.tsp_judge.proofs.Yeses.{of_type}
 
@@ -31,7 +31,7 @@ bound_second_stops by first second instance sink (Relayout fault) one stops unwr
 
 -- a run of which no bound comes
 pub ends_unbounded : (by : Certificate) (first second : Turn) (instance certificate : Fields) (sink : Sink) (fault : RunFault) → IsFile first instance → IsFile second certificate
-    → Bounds by instance certificate sink (Err fault) → EndsUnbounded by first second sink fault
+    → BoundsFiles by instance certificate sink (Err fault) → EndsUnbounded by first second sink fault
 ends_unbounded by first second instance certificate sink (File place fault) one two bounds = absurd bounds
 ends_unbounded by first second instance certificate sink WrongKind one two bounds = (instance, certificate, one, two, bounds)
 ends_unbounded by first second instance certificate sink (Write fault) one two bounds = (instance, certificate, one, two, bounds)
@@ -42,8 +42,8 @@ ends_unbounded by first second instance certificate sink (Relayout fault) one tw
 a_bound_yes : (by : Certificate) (first second : Turn) (sink : Sink) (bounded : Bounded) (bound : ℤ) → IsBoundRun by first second sink (Ok bounded) → bounded.found ≡ Ok bound
     → IsABoundYes by first second sink bound
 a_bound_yes by first second sink bounded bound run is =
-    let b : Bounds by bounded.instance bounded.certificate sink (Ok (Ok bound)) =
-    subst (λ found. Bounds by bounded.instance bounded.certificate sink (Ok found)) is run.2 in
+    let b : BoundsFiles by bounded.instance bounded.certificate sink (Ok (Ok bound)) =
+    subst (λ found. BoundsFiles by bounded.instance bounded.certificate sink (Ok found)) is run.2 in
     record {
       instance = bounded.instance;
       certificate = bounded.certificate;

@@ -19,7 +19,7 @@ use Rattle.tsp_verdict.specs.Judged.{is_judged, IsVerdictBy, IsVerdictOn, IsUncl
 use Rattle.tsp_judge.specs.declared.fault.RunFault.{RunFault}
 use Rattle.tsp_judge.specs.declared.fault.RunFault.TheVariants.{File, WrongKind, Write, OutOfMemory, Relayout}
 use Rattle.tsp_report.specs.Report.{IsBoundSized, IsSized}
-use Rattle.tsp_judge.specs.Run.{ReadsFile, Given, given_by, IsUnreadIn, IsFileIn, ReadsGiven, AreRead, Judges, EndsWithout}
+use Rattle.tsp_judge.specs.Run.{ReadsFile, Given, given_by, IsUnreadIn, IsFileIn, ReadsGiven, AreRead, JudgesFiles, EndsWithout}
 
 pub none_taken : length {A = ℕ} [] ≤ most_taken
 none_taken = omega arith
@@ -120,7 +120,7 @@ are_read given first second instance solution certificate one two three = record
 
 -- a run of which no verdict comes
 pub ends_without : (given : Given) (claimed : Option ℤ) (first second : Turn) (instance solution : Fields) (certificate : Option (Certificate × Fields)) (sink : Sink) (fault : RunFault)
-    → AreRead given first second instance solution certificate → Judges certificate claimed instance solution sink (Err fault)
+    → AreRead given first second instance solution certificate → JudgesFiles certificate claimed instance solution sink (Err fault)
     → EndsWithout given claimed first second sink fault
 ends_without given claimed first second instance solution certificate sink (File place fault) read judges = absurd judges
 ends_without given claimed first second instance solution certificate sink WrongKind read judges = (instance, solution, certificate, read, judges)

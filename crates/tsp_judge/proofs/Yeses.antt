@@ -24,7 +24,7 @@ use Rattle.tsp_verdict.specs.Tours.{IsTourVerdict}
 use Rattle.tsp_report.specs.Report.{report_of}
 use Rattle.tsp_judge.specs.declared.fault.RunFault.{RunFault}
 use Rattle.tsp_judge.specs.declared.judging.Judged.{Judged}
-use Rattle.tsp_judge.specs.Run.{Given, AreRead, is_yes, Judges, EndsWithout, IsRun, IsCheckAnswer, told}
+use Rattle.tsp_judge.specs.Run.{Given, AreRead, is_yes, JudgesFiles, EndsWithout, IsRun, IsCheckAnswer, told}
 use Rattle.tsp_judge.specs.Yes.{IsATourYes, IsARoutesYes, IsAYes, SaysYes, IsCheckOf, IsRunOf}
 
 -- ---- the TYPE of a file against which no other TYPE stands
@@ -80,7 +80,7 @@ routes_as_claimed certificate (Some claim) instance solution length routes least
 a_tour_yes : (claimed : Option ℤ) (first second : Turn) (sink : Sink) (instance solution : Fields) (length : ℤ) (bound : Option ℤ) → IsFile first instance → IsFile second solution
     → (instance.kind ≡ Some kinds.Tsp) ⊎ (instance.kind ≡ Some kinds.Atsp) → IsTourVerdict instance solution (verdicts.Tour length bound) → IsAsClaimed claimed length
     → HasWritten sink (report_of instance (verdicts.Tour length bound)) → IsATourYes claimed first second sink
-a_tour_yes claimed first second sink instance solution length bound one two type v as written = record {
+a_tour_yes claimed first second sink instance solution length bound one two type v claims written = record {
   instance = instance;
   solution = solution;
   first_file = one;
@@ -90,14 +90,14 @@ a_tour_yes claimed first second sink instance solution length bound one two type
   tour = v.1.0;
   only = v.1.1;
   tour_of = v.1.2;
-  as_claimed = subst (IsAsClaimed claimed) v.1.3 as;
+  as_claimed = subst (IsAsClaimed claimed) v.1.3 claims;
   printed = subst₂ (λ l o. HasWritten sink (report_of instance (verdicts.Tour l o))) v.1.3 v.2 written;
 }
 
 a_routes_yes : (claimed : Option ℤ) (first second : Turn) (sink : Sink) (instance solution : Fields) (length_is : ℤ) (count least : ℕ) → IsFile first instance → IsFile second solution
     → instance.kind ≡ Some kinds.Cvrp → IsRoutesVerdict instance solution (verdicts.Routes length_is count least) → IsAsClaimed claimed length_is
     → HasWritten sink (report_of instance (verdicts.Routes length_is count least)) → IsARoutesYes claimed first second sink
-a_routes_yes claimed first second sink instance solution length_is count least one two type v as written = record {
+a_routes_yes claimed first second sink instance solution length_is count least one two type v claims written = record {
   instance = instance;
   solution = solution;
   first_file = one;
@@ -107,34 +107,34 @@ a_routes_yes claimed first second sink instance solution length_is count least o
   plan_of = v.1.plan_of;
   least = least;
   none_fewer = v.1.none_fewer;
-  as_claimed = subst (IsAsClaimed claimed) v.1.measured as;
+  as_claimed = subst (IsAsClaimed claimed) v.1.measured claims;
   printed = subst₂ (λ l c. HasWritten sink (report_of instance (verdicts.Routes l c least))) v.1.measured v.1.counted written;
 }
 
 yes_of_tour : (kind : Option Kind) (claimed : Option ℤ) (first second : Turn) (sink : Sink) (instance solution : Fields) (length : ℤ) (bound : Option ℤ) → kind ≡ instance.kind
     → IsFile first instance → IsFile second solution → IsVerdictBy kind instance solution (verdicts.Tour length bound) → IsAsClaimed claimed length
     → HasWritten sink (report_of instance (verdicts.Tour length bound)) → IsATourYes claimed first second sink
-yes_of_tour (Some kinds.Tsp) claimed first second sink instance solution length bound same one two v as written =
-    a_tour_yes claimed first second sink instance solution length bound one two (inl (sym same)) v as written
-yes_of_tour (Some kinds.Atsp) claimed first second sink instance solution length bound same one two v as written =
-    a_tour_yes claimed first second sink instance solution length bound one two (inr (sym same)) v as written
-yes_of_tour (Some kinds.Cvrp) claimed first second sink instance solution length bound same one two v as written = absurd v
-yes_of_tour (Some kinds.Tour) claimed first second sink instance solution length bound same one two v as written = absurd v
-yes_of_tour (Some kinds.Potentials) claimed first second sink instance solution length bound same one two v as written = absurd v
-yes_of_tour (Some kinds.Branches) claimed first second sink instance solution length bound same one two v as written = absurd v
-yes_of_tour None claimed first second sink instance solution length bound same one two v as written = absurd v
+yes_of_tour (Some kinds.Tsp) claimed first second sink instance solution length bound same one two v claims written =
+    a_tour_yes claimed first second sink instance solution length bound one two (inl (sym same)) v claims written
+yes_of_tour (Some kinds.Atsp) claimed first second sink instance solution length bound same one two v claims written =
+    a_tour_yes claimed first second sink instance solution length bound one two (inr (sym same)) v claims written
+yes_of_tour (Some kinds.Cvrp) claimed first second sink instance solution length bound same one two v claims written = absurd v
+yes_of_tour (Some kinds.Tour) claimed first second sink instance solution length bound same one two v claims written = absurd v
+yes_of_tour (Some kinds.Potentials) claimed first second sink instance solution length bound same one two v claims written = absurd v
+yes_of_tour (Some kinds.Branches) claimed first second sink instance solution length bound same one two v claims written = absurd v
+yes_of_tour None claimed first second sink instance solution length bound same one two v claims written = absurd v
 
 yes_of_routes : (kind : Option Kind) (claimed : Option ℤ) (first second : Turn) (sink : Sink) (instance solution : Fields) (length : ℤ) (count least : ℕ) → kind ≡ instance.kind
     → IsFile first instance → IsFile second solution → IsVerdictBy kind instance solution (verdicts.Routes length count least) → IsAsClaimed claimed length
     → HasWritten sink (report_of instance (verdicts.Routes length count least)) → IsARoutesYes claimed first second sink
-yes_of_routes (Some kinds.Tsp) claimed first second sink instance solution length count least same one two v as written = absurd v
-yes_of_routes (Some kinds.Atsp) claimed first second sink instance solution length count least same one two v as written = absurd v
-yes_of_routes (Some kinds.Cvrp) claimed first second sink instance solution length count least same one two v as written =
-    a_routes_yes claimed first second sink instance solution length count least one two (sym same) v as written
-yes_of_routes (Some kinds.Tour) claimed first second sink instance solution length count least same one two v as written = absurd v
-yes_of_routes (Some kinds.Potentials) claimed first second sink instance solution length count least same one two v as written = absurd v
-yes_of_routes (Some kinds.Branches) claimed first second sink instance solution length count least same one two v as written = absurd v
-yes_of_routes None claimed first second sink instance solution length count least same one two v as written = absurd v
+yes_of_routes (Some kinds.Tsp) claimed first second sink instance solution length count least same one two v claims written = absurd v
+yes_of_routes (Some kinds.Atsp) claimed first second sink instance solution length count least same one two v claims written = absurd v
+yes_of_routes (Some kinds.Cvrp) claimed first second sink instance solution length count least same one two v claims written =
+    a_routes_yes claimed first second sink instance solution length count least one two (sym same) v claims written
+yes_of_routes (Some kinds.Tour) claimed first second sink instance solution length count least same one two v claims written = absurd v
+yes_of_routes (Some kinds.Potentials) claimed first second sink instance solution length count least same one two v claims written = absurd v
+yes_of_routes (Some kinds.Branches) claimed first second sink instance solution length count least same one two v claims written = absurd v
+yes_of_routes None claimed first second sink instance solution length count least same one two v claims written = absurd v
 
 yes_alone : (claimed : Option ℤ) (first second : Turn) (sink : Sink) (instance solution : Fields) (verdict : Verdict) → IsFile first instance → IsFile second solution
     → IsVerdictWith None claimed instance solution verdict → HasWritten sink (report_of instance verdict) → true ≡ is_yes verdict
@@ -152,7 +152,7 @@ yes_alone claimed first second sink instance solution (verdicts.No reason) one t
 a_yes : (by : Certificate) (claimed : Option ℤ) (first second third : Turn) (sink : Sink) (instance solution certificate : Fields) (length : ℤ) (bound : Option ℤ)
     → IsFile first instance → IsFile second solution → IsFile third certificate → IsCertifiedVerdict by instance solution certificate (verdicts.Tour length bound)
     → IsAsClaimed claimed length → HasWritten sink (report_of instance (verdicts.Tour length bound)) → IsAYes by claimed first second third sink
-a_yes by claimed first second third sink instance solution certificate length bound one two three v as written =
+a_yes by claimed first second third sink instance solution certificate length bound one two three v claims written =
     let b = v.1 in
     record {
       instance = instance;
@@ -168,7 +168,7 @@ a_yes by claimed first second third sink instance solution certificate length bo
       tour_of = b.tour_of;
       bound = b.least;
       of_certificate = b.of_certificate;
-      as_claimed = subst (IsAsClaimed claimed) b.measured as;
+      as_claimed = subst (IsAsClaimed claimed) b.measured claims;
       printed = subst₂ (λ l o. HasWritten sink (report_of instance (verdicts.Tour l o))) b.measured b.bound_is written;
       below_tours = b.below_tours;
       optimal = λ same other is. subst (λ l. l ≤ℤ length_of (cost instance) other) (sym same) (b.below_tours other is);
@@ -188,7 +188,7 @@ yes_with given claimed first second sink instance solution certificate (verdicts
 -- ---- either
 
 says_yes : (given : Given) (claimed : Option ℤ) (first second : Turn) (sink : Sink) (instance solution : Fields) (certificate : Option (Certificate × Fields)) (verdict : Verdict)
-    → AreRead given first second instance solution certificate → Judges certificate claimed instance solution sink (Ok verdict) → true ≡ is_yes verdict
+    → AreRead given first second instance solution certificate → JudgesFiles certificate claimed instance solution sink (Ok verdict) → true ≡ is_yes verdict
     → SaysYes given claimed first second sink
 says_yes None claimed first second sink instance solution None verdict read j is =
     yes_alone claimed first second sink instance solution verdict read.first_file read.second_file j.1 j.2 is

@@ -19,16 +19,16 @@ use Rattle.tsp_report.specs.Report.{bound_report_of}
 -- whole report on it was written. Nothing is written where the first file is of a TYPE whose tours have no bound by the
 -- certificate, nor out of memory: then no reason stands against the instance. Where the writer fails a front of the report was
 -- written.
-abbrev pub Bounds : Certificate → Fields → Fields → Sink → Result (Result ℤ Reason) RunFault → Type 0
-Bounds by instance certificate sink (Ok found) = IsTrue (is_bounded by instance.kind) × IsBoundVerdict by instance certificate found
+abbrev pub BoundsFiles : Certificate → Fields → Fields → Sink → Result (Result ℤ Reason) RunFault → Type 0
+BoundsFiles by instance certificate sink (Ok found) = IsTrue (is_bounded by instance.kind) × IsBoundVerdict by instance certificate found
     × HasWritten sink (bound_report_of instance found)
-Bounds by instance certificate sink (Err WrongKind) = (is_bounded by instance.kind ≡ false) × IsUnwritten sink
-Bounds by instance certificate sink (Err OutOfMemory) = IsTrue (is_bounded by instance.kind) × NoneAgainstInstance instance × IsUnwritten sink
-Bounds by instance certificate sink (Err (Write write_faults.Device)) = IsTrue (is_bounded by instance.kind)
+BoundsFiles by instance certificate sink (Err WrongKind) = (is_bounded by instance.kind ≡ false) × IsUnwritten sink
+BoundsFiles by instance certificate sink (Err OutOfMemory) = IsTrue (is_bounded by instance.kind) × NoneAgainstInstance instance × IsUnwritten sink
+BoundsFiles by instance certificate sink (Err (Write write_faults.Device)) = IsTrue (is_bounded by instance.kind)
     × ((found : Result ℤ Reason) × IsBoundVerdict by instance certificate found × HasStopped sink (bound_report_of instance found))
-Bounds by instance certificate sink (Err (Write write_faults.OutOfMemory)) = ⊥
-Bounds by instance certificate sink (Err (File file fault)) = ⊥
-Bounds by instance certificate sink (Err (Relayout fault)) = ⊥
+BoundsFiles by instance certificate sink (Err (Write write_faults.OutOfMemory)) = ⊥
+BoundsFiles by instance certificate sink (Err (File file fault)) = ⊥
+BoundsFiles by instance certificate sink (Err (Relayout fault)) = ⊥
 
 -- Why a run has no bound and no reason. The first file, in order, that is none decides, and then nothing is written.
 abbrev pub EndsUnbounded : Certificate → Turn → Turn → Sink → RunFault → Type 0
@@ -36,12 +36,12 @@ EndsUnbounded by first second sink (File file fault) = IsUnwritten sink
     × (((file ≡ 1) × StopsAt fault first × IsUnread second)
     ⊎ ((file ≡ 2) × IsSomeFile first × StopsAt fault second))
 EndsUnbounded by first second sink fault = (instance certificate : Fields) × IsFile first instance × IsFile second certificate
-    × Bounds by instance certificate sink (Err fault)
+    × BoundsFiles by instance certificate sink (Err fault)
 
 -- What a run answers: the files that were read, and the bound, or the first reason against them.
 abbrev pub IsBoundRun : Certificate → Turn → Turn → Sink → Result Bounded RunFault → Type 0
 IsBoundRun by first second sink (Ok bounded) = IsFile first bounded.instance × IsFile second bounded.certificate
-    × Bounds by bounded.instance bounded.certificate sink (Ok bounded.found)
+    × BoundsFiles by bounded.instance bounded.certificate sink (Ok bounded.found)
 IsBoundRun by first second sink (Err fault) = EndsUnbounded by first second sink fault
 
 -- What a yes says: the second file is of the certificate's TYPE, its bound is printed, and every tour of the instance is at least

@@ -64,8 +64,8 @@ pub record AreRead (given : Given) (first second : Turn) (instance solution : Fi
   pub third_file : IsFileIn given certificate
 
 -- The first one, in order, that is none has this number and this fault. Later ones aren't read.
-abbrev pub IsFirstFault : Given → Turn → Turn → ℕ → ReadFault → Type 0
-IsFirstFault given first second file fault = ((file ≡ 1) × StopsAt fault first × IsUnread second × IsUnreadIn given)
+abbrev pub IsFaultOfRun : Given → Turn → Turn → ℕ → ReadFault → Type 0
+IsFaultOfRun given first second file fault = ((file ≡ 1) × StopsAt fault first × IsUnread second × IsUnreadIn given)
     ⊎ ((file ≡ 2) × IsSomeFile first × StopsAt fault second × IsUnreadIn given)
     ⊎ ((third : Certificate × Turn) × (given ≡ Some third) × (file ≡ 3) × IsSomeFile first × IsSomeFile second × StopsAt fault third.1)
 
@@ -79,39 +79,39 @@ is_yes (No reason) = false
 -- What comes of files that were read. At Ok this is the verdict on them, and the whole report on it was written. Nothing is
 -- written where the first file is of a TYPE that isn't judged so, nor out of memory: then no reason stands of those that are
 -- found without memory. Writing takes none. Where the writer fails a front of the report was written.
-abbrev pub Judges : Option (Certificate × Fields) → Option ℤ → Fields → Fields → Sink → Result Verdict RunFault → Type 0
-Judges certificate claimed instance solution sink (Ok verdict) = IsTrue (is_judged certificate instance.kind)
+abbrev pub JudgesFiles : Option (Certificate × Fields) → Option ℤ → Fields → Fields → Sink → Result Verdict RunFault → Type 0
+JudgesFiles certificate claimed instance solution sink (Ok verdict) = IsTrue (is_judged certificate instance.kind)
     × IsVerdictWith certificate claimed instance solution verdict × HasWritten sink (report_of instance verdict)
-Judges certificate claimed instance solution sink (Err WrongKind) = (is_judged certificate instance.kind ≡ false) × IsUnwritten sink
-Judges certificate claimed instance solution sink (Err OutOfMemory) = IsTrue (is_judged certificate instance.kind)
+JudgesFiles certificate claimed instance solution sink (Err WrongKind) = (is_judged certificate instance.kind ≡ false) × IsUnwritten sink
+JudgesFiles certificate claimed instance solution sink (Err OutOfMemory) = IsTrue (is_judged certificate instance.kind)
     × NoneBeforeRepeatsOn instance solution × IsUnwritten sink
-Judges certificate claimed instance solution sink (Err (Write write_faults.Device)) = IsTrue (is_judged certificate instance.kind)
+JudgesFiles certificate claimed instance solution sink (Err (Write write_faults.Device)) = IsTrue (is_judged certificate instance.kind)
     × ((verdict : Verdict) × IsVerdictWith certificate claimed instance solution verdict × HasStopped sink (report_of instance verdict))
-Judges certificate claimed instance solution sink (Err (Write write_faults.OutOfMemory)) = ⊥
-Judges certificate claimed instance solution sink (Err (File file fault)) = ⊥
-Judges certificate claimed instance solution sink (Err (Relayout fault)) = ⊥
+JudgesFiles certificate claimed instance solution sink (Err (Write write_faults.OutOfMemory)) = ⊥
+JudgesFiles certificate claimed instance solution sink (Err (File file fault)) = ⊥
+JudgesFiles certificate claimed instance solution sink (Err (Relayout fault)) = ⊥
 
 -- ---- the run
 
 -- Why a run has no verdict. The first file, in order, that is none decides, and then nothing is written.
 abbrev pub EndsWithout : Given → Option ℤ → Turn → Turn → Sink → RunFault → Type 0
-EndsWithout given claimed first second sink (File file fault) = IsUnwritten sink × IsFirstFault given first second file fault
+EndsWithout given claimed first second sink (File file fault) = IsUnwritten sink × IsFaultOfRun given first second file fault
 EndsWithout given claimed first second sink fault = (instance solution : Fields) × (certificate : Option (Certificate × Fields))
     × AreRead given first second instance solution certificate
-    × Judges certificate claimed instance solution sink (Err fault)
+    × JudgesFiles certificate claimed instance solution sink (Err fault)
 
 -- What a run answers: the files that were read, and the verdict on them.
 abbrev pub IsRun : Given → Option ℤ → Turn → Turn → Sink → Result Judged RunFault → Type 0
 IsRun given claimed first second sink (Ok judged) =
     AreRead given first second judged.instance judged.solution judged.certificate
-    × Judges judged.certificate claimed judged.instance judged.solution sink (Ok judged.verdict)
+    × JudgesFiles judged.certificate claimed judged.instance judged.solution sink (Ok judged.verdict)
 IsRun given claimed first second sink (Err fault) = EndsWithout given claimed first second sink fault
 
 -- What a check answers: whether the verdict on the files that were read is a yes.
 abbrev pub IsCheckAnswer : Given → Option ℤ → Turn → Turn → Sink → Result Bool RunFault → Type 0
 IsCheckAnswer given claimed first second sink (Ok answer) = (instance solution : Fields) × (certificate : Option (Certificate × Fields))
     × (verdict : Verdict) × AreRead given first second instance solution certificate
-    × Judges certificate claimed instance solution sink (Ok verdict) × (answer ≡ is_yes verdict)
+    × JudgesFiles certificate claimed instance solution sink (Ok verdict) × (answer ≡ is_yes verdict)
 IsCheckAnswer given claimed first second sink (Err fault) = EndsWithout given claimed first second sink fault
 
 -- whether it is a yes, where there is a verdict

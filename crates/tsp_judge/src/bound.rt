@@ -4,7 +4,7 @@
 ghost use Rattle.tsp_stream.specs.Sink.{sink_of};
 ghost use Rattle.tsp_stream.specs.Turn.{Turn, turn_of, TakesAtMost};
 ghost use Rattle.tsp_read.specs.Reads.{IsFile, most_taken};
-ghost use Rattle.tsp_judge.specs.BoundRun.{Bounds, IsBoundRun, IsBoundRunOf};
+ghost use Rattle.tsp_judge.specs.BoundRun.{BoundsFiles, IsBoundRun, IsBoundRunOf};
 
 use crate::fault::RunFault;
 use crate::file::read_file;
@@ -27,7 +27,7 @@ pub struct Bounded {
     pub certificate: File,
 }
 
-/// Bounds the tours of an instance by a certificate, writes the report, and answers the bound, with the
+/// BoundsFiles the tours of an instance by a certificate, writes the report, and answers the bound, with the
 /// files that were read.
 ///
 /// Every tour of the instance is at least as long as the bound. Where the report says a no, the answer has
@@ -80,7 +80,7 @@ fn bound_read<W: Write>(
     })
 }
 
-/// Bounds the tours of an instance, and writes the report.
+/// BoundsFiles the tours of an instance, and writes the report.
 fn bound_files<W: Write>(
     alloc: Global,
     by: Certificate,
@@ -88,7 +88,7 @@ fn bound_files<W: Write>(
     certificate: &File,
     out: &mut Watched<W>,
 ) -> Result<Result<i128, Reason>, RunFault>
-    ensures { Bounds by instance.now certificate.now (sink_of W.contents out.old out.new) result }
+    ensures { BoundsFiles by instance.now certificate.now (sink_of W.contents out.old out.new) result }
 {
     if !is_bounded(by, instance.kind()) {
         return Err(RunFault::WrongKind);

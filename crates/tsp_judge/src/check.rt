@@ -7,15 +7,15 @@ ghost use Rattle.tsp_read.specs.Reads.{most_taken};
 ghost use Rattle.tsp_reason.specs.declared.certificate.Certificate.TheVariants as certificates;
 ghost use Rattle.tsp_judge.specs.Yes.{IsCheck, IsCheckBy};
 
+use crate::checked::run;
 use crate::fault::RunFault;
 use crate::judging::told;
-use crate::checked::run;
 use std::alloc::Global;
 use std::io::{Read, Write};
 use tsp_stream::Watched;
 use tsp_verdict::Certificate;
 
-/// Judges a solution of an instance, and writes the report.
+/// JudgesFiles a solution of an instance, and writes the report.
 ///
 /// The answer is true where the solution is a tour of the instance, or for TYPE CVRP a plan of
 /// routes, and false where the report says a no with its first reason; the whole report was written
@@ -42,7 +42,7 @@ pub fn run_check<I: Read, S: Read, W: Write>(
     told(run(alloc, inst, sol, None, &mut nothing, None, out))
 }
 
-/// Judges a tour of an instance of TYPE TSP or ATSP with a certificate of a bound, and writes the
+/// JudgesFiles a tour of an instance of TYPE TSP or ATSP with a certificate of a bound, and writes the
 /// report.
 ///
 /// The answer is true where the second file's one tour visits every node once and uses every fixed
@@ -77,7 +77,7 @@ pub fn run_bound_check<I: Read, S: Read, P: Read, W: Write>(
     told(run(alloc, inst, sol, by, pot, None, out))
 }
 
-/// Judges a tour of an instance of TYPE TSP with a tree of cases, and writes the report.
+/// JudgesFiles a tour of an instance of TYPE TSP with a tree of cases, and writes the report.
 ///
 /// The answer is true where the second file's one tour visits every node once and uses every fixed
 /// edge and the third file's leaves give a bound, and false where the report says a no with its

@@ -17,7 +17,7 @@ use tsp_file::File;
 use tsp_stream::Watched;
 use tsp_verdict::Certificate;
 
-/// Judges a solution of an instance, writes the report, and answers the verdict, with the files that were
+/// JudgesFiles a solution of an instance, writes the report, and answers the verdict, with the files that were
 /// read.
 ///
 /// Where a certificate of a bound is asked for, it is the file of the third reader, and no tour of the

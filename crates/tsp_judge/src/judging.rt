@@ -3,7 +3,7 @@
 ghost use Rattle.std.specs.Prelude.{◌≡◌, option_map};
 ghost use Rattle.tsp_stream.specs.Sink.{sink_of};
 ghost use Rattle.tsp_verdict.specs.Judged.{is_judged};
-ghost use Rattle.tsp_judge.specs.Run.{is_yes, told, Judges};
+ghost use Rattle.tsp_judge.specs.Run.{is_yes, told, JudgesFiles};
 
 use crate::fault::RunFault;
 use std::alloc::{AllocError, Global};
@@ -27,7 +27,7 @@ pub struct Judged {
     pub certificate: Option<(Certificate, File)>,
 }
 
-/// Judges files, and writes the report.
+/// JudgesFiles files, and writes the report.
 pub(crate) fn judge_files<W: Write>(
     alloc: Global,
     instance: &Instance,
@@ -36,7 +36,7 @@ pub(crate) fn judge_files<W: Write>(
     claimed: Option<i64>,
     out: &mut Watched<W>,
 ) -> Result<Verdict, RunFault>
-    ensures { Judges certificate.now claimed instance.now solution.now (sink_of W.contents out.old out.new) result }
+    ensures { JudgesFiles certificate.now claimed instance.now solution.now (sink_of W.contents out.old out.new) result }
 {
     if !is_judged(certificate, instance) {
         return Err(RunFault::WrongKind);

@@ -1,4 +1,4 @@
-//! Judges solutions of TSPLIB 95 instances.
+//! JudgesFiles solutions of TSPLIB 95 instances.
 #![tactic(auto)]
 
 mod bound;

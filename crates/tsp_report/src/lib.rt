@@ -8,7 +8,7 @@ mod reason;
 mod report;
 mod shown;
 
-pub use examples::{examples_of_reasons, examples_of_reports, examples_of_shown_lines};
 pub use bound::write_bound;
+pub use examples::{examples_of_reasons, examples_of_reports, examples_of_shown_lines};
 pub use report::write_report;
 pub use shown::write_shown;

@@ -29,10 +29,10 @@ other_alone (Some claim) inst sol verdict found has other v = inr (inl (found, (
 
 pub accepted_alone : (claimed : Option ℤ) (inst sol : Fields) (verdict : Verdict) (found : ℤ) → HasLength verdict found → IsAsClaimed claimed found → IsVerdictOn inst sol verdict
     → IsVerdictWith None claimed inst sol verdict
-accepted_alone None inst sol verdict found has as v = v
-accepted_alone (Some claim) inst sol (verdicts.Tour length_is bound) found has as v = (v, as ∙ has)
-accepted_alone (Some claim) inst sol (verdicts.Routes length_is routes least) found has as v = (v, as ∙ has)
-accepted_alone (Some claim) inst sol (verdicts.No reason) found has as v = absurd has
+accepted_alone None inst sol verdict found has claims v = v
+accepted_alone (Some claim) inst sol (verdicts.Tour length_is bound) found has claims v = (v, claims ∙ has)
+accepted_alone (Some claim) inst sol (verdicts.Routes length_is routes least) found has claims v = (v, claims ∙ has)
+accepted_alone (Some claim) inst sol (verdicts.No reason) found has claims v = absurd has
 
 -- ---- with a certificate: only tours have a bound
 
@@ -64,9 +64,9 @@ tour_of_another_length by inst sol cert (Some claim) found is v other =
 
 pub certificate_refused : (by : Certificate) (inst sol cert : Fields) (claimed : Option ℤ) (found : ℤ) (reason : Reason) → IsTrue (is_bounded by inst.kind)
     → FindsLength inst sol (Ok found) → IsAsClaimed claimed found → FindsBound by inst cert (Err reason) → IsVerdictWith (Some (by, cert)) claimed inst sol (verdicts.No reason)
-certificate_refused by inst sol cert None found reason is v as first = certificate_first by inst sol cert reason v.0.0 first
-certificate_refused by inst sol cert (Some claim) found reason is v as first =
-    inr (inr ((verdicts.Tour found None, on_a_tour by inst sol (verdicts.Tour found None) is v.0, as), first))
+certificate_refused by inst sol cert None found reason is v claims first = certificate_first by inst sol cert reason v.0.0 first
+certificate_refused by inst sol cert (Some claim) found reason is v claims first =
+    inr (inr ((verdicts.Tour found None, on_a_tour by inst sol (verdicts.Tour found None) is v.0, claims), first))
 
 certified : (by : Certificate) (inst sol cert : Fields) (found bound : ℤ) → FindsLength inst sol (Ok found) → FindsBound by inst cert (Ok bound)
     → IsCertifiedVerdict by inst sol cert (verdicts.Tour found (Some bound))
@@ -87,5 +87,5 @@ certified by inst sol cert found bound v b = (
 
 pub tour_bounded : (by : Certificate) (inst sol cert : Fields) (claimed : Option ℤ) (found bound : ℤ) → FindsLength inst sol (Ok found) → IsAsClaimed claimed found
     → FindsBound by inst cert (Ok bound) → IsVerdictWith (Some (by, cert)) claimed inst sol (verdicts.Tour found (Some bound))
-tour_bounded by inst sol cert None found bound v as b = certified by inst sol cert found bound v b
-tour_bounded by inst sol cert (Some claim) found bound v as b = (certified by inst sol cert found bound v b, as)
+tour_bounded by inst sol cert None found bound v claims b = certified by inst sol cert found bound v b
+tour_bounded by inst sol cert (Some claim) found bound v claims b = (certified by inst sol cert found bound v b, claims)

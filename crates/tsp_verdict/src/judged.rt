@@ -48,11 +48,7 @@ pub fn judge(
 
 /// The verdict on a solution on its own. Out of memory, no reason stands of those that are found without
 /// memory.
-fn judge_alone(
-    alloc: Global,
-    instance: &Instance,
-    solution: &File,
-) -> Result<Verdict, AllocError>
+fn judge_alone(alloc: Global, instance: &Instance, solution: &File) -> Result<Verdict, AllocError>
     ensures { MatchResult result
         (λ verdict. IsVerdictOn instance.now solution.now verdict)
         (λ refused. NoneBeforeRepeatsOn instance.now solution.now) }
