@@ -1,6 +1,6 @@
 -- A solution whose length may be claimed, with a certificate or without.
 use Rattle.std.proofs.Common.{◌≡◌, ◌≢◌, ◌⊎◌, inl, inr, Option, Some, None, refl, sym, subst, ◌∙◌}
-use Rattle.std.specs.Prelude.{ℤ, IsTrue, Result, Ok, Err}
+use Rattle.std.specs.Prelude.{ℤ, IsTrue, Result, Ok, Err, MatchResult}
 use Rattle.tsp_format.specs.declared.kinds.Kind.{Kind}
 use Rattle.tsp_format.specs.declared.kinds.Kind.TheVariants as kinds
 use Rattle.tsp_draft.specs.Fields.{Fields}
@@ -50,6 +50,13 @@ none_before by inst sol is none = by_kind (kinds_bounded by inst.kind is)
     by_kind : (inst.kind ≡ Some kinds.Tsp) ⊎ (inst.kind ≡ Some kinds.Atsp) → NoneBeforeRepeatsOn inst sol
     by_kind (inl tsp) = subst (λ kind. NoneBeforeRepeatsBy kind inst sol) (sym tsp) none
     by_kind (inr atsp) = subst (λ kind. NoneBeforeRepeatsBy kind inst sol) (sym atsp) none
+
+-- out of memory, with a certificate as without one
+pub with_either : {E : Type 0} (by : Certificate) (inst sol cert : Fields) (claimed : Option ℤ) (result : Result Verdict E) → IsTrue (is_bounded by inst.kind)
+    → MatchResult result (λ verdict. IsVerdictWith (Some (by, cert)) claimed inst sol verdict) (λ refused. NoneOfTourBeforeRepeats inst sol)
+    → MatchResult result (λ verdict. IsVerdictWith (Some (by, cert)) claimed inst sol verdict) (λ refused. NoneBeforeRepeatsOn inst sol)
+with_either by inst sol cert claimed (Ok verdict) is found = found
+with_either by inst sol cert claimed (Err refused) is found = none_before by inst sol is found
 
 pub tour_refused : (by : Certificate) (inst sol cert : Fields) (claimed : Option ℤ) (reason : Reason) → IsTrue (is_bounded by inst.kind) → IsFirstAgainstTour inst sol reason
     → IsVerdictWith (Some (by, cert)) claimed inst sol (verdicts.No reason)

@@ -33,7 +33,7 @@ pub fn judge(
 ) -> Result<Verdict, AllocError>
     requires { IsTrue (is_judged (option_map (λ given. (given.0, given.1.now)) certificate) instance.now.kind) }
     ensures { MatchResult result
-        (λ verdict. IsVerdictWith (option_map (λ given. (given.0, given.1.now)) certificate) claimed
+        (λ verdict. IsVerdictWith (option_map (λ given. (given.0, given.1.now)) certificate.entry) claimed
         instance.now solution.now verdict)
         (λ refused. NoneBeforeRepeatsOn instance.now solution.now) }
 {
