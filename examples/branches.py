@@ -1,11 +1,11 @@
 #!/usr/bin/env python3
 """Makes a certificate of TYPE BRANCHES: examples/branches.py INSTANCE [TOUR] --branches OUT
 
-A certificate shows how short no tour of a TSP can be: by potentials of the nodes, by multipliers of
-combs, and by branches on pairs of nodes that are neighbours in a tour or aren't. This script finds
-one whose bound is the length of a tour where the time allows. A linear program over degrees, cuts
-and combs gives the numbers, and where a gap stays, a pair is branched on. Without a tour it finds a
-good one first, and `--tour` says where that is written. `--help` tells of all the words. Ctrl-C ends
+A certificate shows how short no tour of a TSP or an ATSP can be: by potentials of the nodes, by
+multipliers of combs and of sets, and by branches on pairs of nodes that a tour uses or doesn't. This
+script finds one whose bound is the length of a tour if the time allows. A linear program over degrees,
+cuts and combs gives the numbers, and where a gap stays, a pair is branched on. Without a tour it finds
+a good one first, and `--tour` says where that is written. `--help` tells of all the words. Ctrl-C ends
 the search: the best certificate so far is written, with status 130. A second Ctrl-C ends the script.
 
 Nothing here is proved, and nothing has to be trusted: `tsp check INSTANCE TOUR --branches OUT` says
@@ -18,6 +18,7 @@ and Ubuntu this one command installs it, for /usr/bin/python3:
 """
 
 import argparse
+import heapq
 import random
 import re
 import signal
@@ -25,6 +26,7 @@ import sys
 import time
 from dataclasses import dataclass, field
 from decimal import Decimal
+from functools import cached_property
 from itertools import combinations
 from math import gcd, inf, isqrt
 from pathlib import Path
@@ -32,7 +34,7 @@ from pathlib import Path
 try:
     import numpy as np
     from scipy import sparse
-    from scipy.optimize import linprog
+    from scipy.optimize import linear_sum_assignment, linprog
     from scipy.sparse.csgraph import connected_components
 except ImportError as missing:
     print(
@@ -57,10 +59,13 @@ VIOLATION = 0.01  # a cut that is missed by less isn't taken
 
 @dataclass(frozen=True)
 class Instance:
-    """The costs between the nodes, which count from 0 here, and the fixed pairs, the lower first."""
+    """The costs between the nodes, which count from 0 here, and the fixed pairs.
+
+    A pair has the lower node first, or of an ATSP the node that the arc comes from."""
 
     costs: np.ndarray
     fixed: frozenset
+    directed: bool = False
 
     @property
     def count(self):
@@ -69,6 +74,15 @@ class Instance:
     def length(self, tour):
         """The length of a tour."""
         return int(self.costs[tour, np.roll(tour, -1)].sum())
+
+    def links(self, tour):
+        """The pairs that a tour uses."""
+        arcs = zip(tour, tour[1:] + tour[:1])
+        return set(arcs) if self.directed else {(min(i, j), max(i, j)) for i, j in arcs}
+
+    def keeps(self, tour):
+        """Whether a tour uses all fixed pairs."""
+        return self.fixed <= self.links(tour)
 
 
 def fields_of(path):
@@ -120,13 +134,13 @@ def distances(kind, words, count):
     return costs
 
 
-def matrix(layout, words, count):
+def matrix(layout, words, count, directed):
     """The costs that a layout lists."""
     numbers = np.array(wholes(words), np.int64)
     if layout == b"FULL_MATRIX":
         costs = numbers.reshape(count, count).copy()
-        if (costs != costs.T).any():
-            sys.exit("branches: the weights aren't the same both ways")
+        if not directed and (costs != costs.T).any():
+            sys.exit("branches: the weights aren't the same in both directions")
     else:
         # an upper triangle by columns lists the cells of a lower one by rows, and the other way
         rows = layout.startswith(b"UPPER") == layout.endswith(b"ROW")
@@ -139,18 +153,19 @@ def matrix(layout, words, count):
     return costs
 
 
-def pairs_of(words):
-    """The pairs of nodes that FIXED_EDGES_SECTION lists, the lower node first."""
-    nodes = wholes(words)
-    nodes = nodes[: nodes.index(-1)] if -1 in nodes else nodes
-    return frozenset((min(i, j) - 1, max(i, j) - 1) for i, j in zip(nodes[::2], nodes[1::2]))
+def pairs_of(words, directed):
+    """The pairs of nodes that FIXED_EDGES_SECTION lists."""
+    nodes = [node - 1 for node in wholes(words)]
+    nodes = nodes[: nodes.index(-2)] if -2 in nodes else nodes
+    pairs = zip(nodes[::2], nodes[1::2])
+    return frozenset(pairs if directed else ((min(i, j), max(i, j)) for i, j in pairs))
 
 
-def costs_of(fields):
+def costs_of(fields, directed):
     """The costs between the nodes that the fields of an instance give."""
     kind, count = fields[b"EDGE_WEIGHT_TYPE"][0], wholes(fields[b"DIMENSION"][:1])[0]
     if kind == b"EXPLICIT":
-        return matrix(fields[b"EDGE_WEIGHT_FORMAT"][0], fields[b"EDGE_WEIGHT_SECTION"], count)
+        return matrix(fields[b"EDGE_WEIGHT_FORMAT"][0], fields[b"EDGE_WEIGHT_SECTION"], count, directed)
     return distances(kind, fields[b"NODE_COORD_SECTION"], count)
 
 
@@ -158,14 +173,17 @@ def read_instance(path):
     """The instance in a file."""
     fields = fields_of(path)
     kind = (fields.get(b"TYPE") or [b"none"])[0].decode(errors="replace")
-    if kind != "TSP":
-        ways = {"ATSP": "take examples/ascent.py", "CVRP": "check routes without a certificate"}
-        sys.exit(f"branches: {path}: its TYPE is {kind}: {ways.get(kind, 'name an instance of TYPE TSP')}")
+    if kind not in ("TSP", "ATSP"):
+        ways = {"CVRP": "check routes without a certificate"}
+        way = ways.get(kind, "name an instance of TYPE TSP or ATSP")
+        sys.exit(f"branches: {path}: its TYPE is {kind}: {way}")
     weights = (fields.get(b"EDGE_WEIGHT_TYPE") or [b"none"])[0]
     if weights == b"GEO":
         sys.exit(f"branches: {path}: convert GEO by examples/geo.py first")
     try:
-        instance = Instance(costs_of(fields), pairs_of(fields.get(b"FIXED_EDGES_SECTION", [])))
+        directed = kind == "ATSP"
+        fixed = pairs_of(fields.get(b"FIXED_EDGES_SECTION", []), directed)
+        instance = Instance(costs_of(fields, directed), fixed, directed)
     except (LookupError, ValueError, ArithmeticError):
         sys.exit(f"branches: {path}: this isn't read here: take what `tsp convert` makes of it")
     if instance.count < 3:
@@ -181,7 +199,7 @@ def read_tour(path, instance):
         sys.exit(f"branches: {path}: this is no file of TYPE TOUR that is read here")
     if sorted(tour) != list(range(instance.count)):
         sys.exit(f"branches: {path}: this is no tour of the instance")
-    if not keeps(tour, instance.fixed):
+    if not instance.keeps(tour):
         sys.exit(f"branches: {path}: the tour doesn't use all fixed edges")
     return tour
 
@@ -204,15 +222,6 @@ def write_tour(path, tour):
 # ---- tours
 
 
-def edges_of(tour):
-    """The pairs of neighbours in a tour, the lower node first."""
-    return {(min(i, j), max(i, j)) for i, j in zip(tour, tour[1:] + tour[:1])}
-
-
-def keeps(tour, fixed):
-    return fixed <= edges_of(tour)
-
-
 class Improver:
     """A tour that is made shorter by 2-opt and Or-opt, among the nearest neighbours of each node."""
 
@@ -220,12 +229,18 @@ class Improver:
         big = int(np.abs(instance.costs).max()) + 1
         costs = instance.costs.copy()
         for i, j in instance.fixed:  # these are worth more than any way round them
-            costs[i, j] = costs[j, i] = -4 * big
-        self.rows = costs.tolist()
-        order = np.argsort(costs, axis=1, kind="stable").tolist()
-        self.near = [[j for j in row if j != i][:nearest] for i, row in enumerate(order)]
+            costs[i, j] = -4 * big
+            if not instance.directed:
+                costs[j, i] = -4 * big
+        self.weigh(costs, nearest)
         self.tour, self.place = list(tour), [0] * len(tour)
         self.place_all()
+
+    def weigh(self, costs, nearest):
+        """Takes these for the costs."""
+        self.costs, self.rows = costs, costs.tolist()
+        order = np.argsort(costs, axis=1, kind="stable").tolist()
+        self.near = [[j for j in row if j != i][:nearest] for i, row in enumerate(order)]
 
     def place_all(self):
         for at, node in enumerate(self.tour):
@@ -331,6 +346,115 @@ class Improver:
         return [turned[k % count] for k in (a - 1, a, b - 1, b, c - 1, c)]
 
 
+class ArcImprover(Improver):
+    """The same by steps that turn no run round: two runs that follow each other change places."""
+
+    def two_opt(self, node):
+        """The best step of this kind at the node, towards those near it; the ends, or nothing."""
+        at, costs = self.place[node], self.costs
+        turned = np.array(self.tour[at:] + self.tour[:at])
+        after = np.append(turned[1:], node)
+        along, back = costs[turned, after], costs[turned, turned[1]]
+        best, step = TINY, None
+        for other in self.near[node]:
+            if self.rows[node][other] >= along[0]:
+                break
+            first = (self.place[other] - at) % len(turned)
+            saved = along[0] + along[first - 1] - self.rows[node][other]
+            gains = saved + along[first:] - back[first:] - costs[turned[first - 1], after[first:]]
+            last = int(gains.argmax())
+            if first > 1 and gains[last] > best:
+                best, step = gains[last], (first, first + last)
+        if step is None:
+            return None
+        first, last = step
+        order = turned.tolist()
+        self.tour = [node, *order[first : last + 1], *order[1:first], *order[last + 1 :]]
+        self.place_all()
+        return node, order[1], order[first - 1], order[first], order[last], int(after[last])
+
+    def or_opt(self, node):
+        return None
+
+
+def cheapest(costs):
+    """For each node the next one in the cheapest cycles over all nodes."""
+    costs = np.array(costs, float)
+    np.fill_diagonal(costs, 4 * np.abs(costs).max() + 1)
+    return linear_sum_assignment(costs)[1]
+
+
+def cycles_of(after):
+    """The cycles over all nodes, each a list of nodes."""
+    left, cycles = set(range(len(after))), []
+    while left:
+        cycle = [min(left)]
+        while after[cycle[-1]] != cycle[0]:
+            cycle.append(int(after[cycle[-1]]))
+        left.difference_update(cycle)
+        cycles.append(cycle)
+    return cycles
+
+
+def patched(costs, after):
+    """The tour that cycles are joined to, two by two as is cheapest."""
+    costs, after, nodes = np.asarray(costs, float), after.copy(), np.arange(len(after))
+    labels = np.zeros(len(after), np.int64)
+    cycles = cycles_of(after)
+    for label, cycle in enumerate(cycles):
+        labels[cycle] = label
+    for _ in cycles[1:]:
+        own, crossed = costs[nodes, after], costs[:, after]
+        more = crossed + crossed.T - own[:, None] - own[None, :]
+        more[labels[:, None] == labels[None, :]] = inf
+        i, j = divmod(int(more.argmin()), len(after))
+        after[i], after[j] = after[j], after[i]
+        labels[labels == labels[j]] = labels[i]
+    return cycles_of(after)[0]
+
+
+def kept(prices, forced, barred):
+    """The prices with some arcs kept and some barred."""
+    far = 2 * len(prices) * np.abs(prices).max() + 1
+    prices = prices.copy()
+    np.fill_diagonal(prices, far)
+    for i, j in forced:
+        own = prices[i, j]
+        prices[i, :] = prices[:, j] = far
+        prices[i, j] = own
+    for pair in barred:
+        prices[pair] = far
+    return prices, far
+
+
+def by_assignments(instance, prices, base, tour, until):
+    """The best tour of a search over the cheapest cycles: each case bars an arc of one of them, and
+    keeps those before it. A tour costs at least the base and its prices."""
+    best, length = tour, instance.length(tour)
+    waiting, turn = [(-inf, 0, tuple(instance.fixed), ())], 0
+    while waiting and time.monotonic() < until:
+        above, _, forced, barred = heapq.heappop(waiting)
+        if above > length - 1 + TINY:
+            break
+        own, far = kept(prices, forced, barred)
+        nodes, after = linear_sum_assignment(own)
+        value = base + own[nodes, after].sum()
+        if own[nodes, after].max() >= far or value > length - 1 + TINY:
+            continue
+        other = patched(own, after)
+        if instance.keeps(other) and instance.length(other) < length:
+            best, length = other, instance.length(other)
+        cycles = cycles_of(after)
+        if len(cycles) == 1:
+            continue
+        ways = [[arc for arc in zip(it, it[1:] + it[:1]) if arc not in forced] for it in cycles]
+        arcs = min(filter(None, ways), key=len, default=[])
+        for place, arc in enumerate(arcs):
+            turn += 1
+            heapq.heappush(waiting, (value, turn, forced + tuple(arcs[:place]), barred + (arc,)))
+    return best
+
+
 def nearest_tour(rows, start):
     """The tour that always goes on to the nearest node."""
     tour, left = [start], set(range(len(rows))) - {start}
@@ -354,17 +478,35 @@ def kicked(improver, chance, until):
     return best
 
 
+def first_tours(instance, improver, chance, seconds):
+    """Tours to begin with."""
+    if not instance.directed:
+        starts = 3 if instance.count > 7 else 1
+        return [nearest_tour(improver.rows, chance.randrange(instance.count)) for _ in range(starts)]
+    tours = [patched(improver.costs, cheapest(improver.costs))]
+    if not instance.fixed and not lopsided(instance.costs):
+        both = Instance(instance.costs + instance.costs.T, frozenset())
+        tour = find_tour(both, chance, seconds)
+        tours = [min(tour, tour[::-1], key=instance.length)]
+    return tours
+
+
+def lopsided(costs):
+    """Whether the costs in the two directions differ by more than a small part of their spread."""
+    return np.abs(costs - costs.T).mean() > 0.3 * np.abs(costs - costs.mean()).mean()
+
+
 def find_tour(instance, chance, seconds):
     """A good tour, by a few starts with kicks after each."""
-    starts = 3 if instance.count > 7 else 1
     best, length = None, inf
-    improver = Improver(instance, range(instance.count))
-    for _ in range(starts):
-        improver.tour = nearest_tour(improver.rows, chance.randrange(instance.count))
+    improver = (ArcImprover if instance.directed else Improver)(instance, range(instance.count))
+    tours = first_tours(instance, improver, chance, seconds / 2)
+    for tour in tours:
+        improver.tour = tour
         improver.place_all()
         improver.improve(improver.tour)
-        tour = kicked(improver, chance, time.monotonic() + seconds / starts)
-        if keeps(tour, instance.fixed) and instance.length(tour) < length:
+        tour = kicked(improver, chance, time.monotonic() + seconds / (2 if instance.directed else len(tours)))
+        if instance.keeps(tour) and instance.length(tour) < length:
             best, length = tour, instance.length(tour)
     if best is None:
         sys.exit("branches: no tour with all fixed edges was found")
@@ -441,16 +583,22 @@ def missed(cuts, values):
 
 @dataclass
 class Solution:
-    """An answer of the linear program: its value, that of each pair, and the duals."""
+    """An answer of the linear program: its value, that of each pair, and the duals.
+
+    `links` has the value of a pair at its nodes in their order, `values` in both orders."""
 
     value: float
-    values: np.ndarray
+    links: np.ndarray
     node_duals: np.ndarray
     cuts: list
     cut_duals: np.ndarray
 
+    @cached_property
+    def values(self):
+        return self.links + self.links.T
+
     def is_whole(self):
-        return bool((np.minimum(self.values, 1 - self.values) < TINY).all())
+        return bool((np.minimum(self.links, 1 - self.links) < TINY).all())
 
 
 class Relaxation:
@@ -462,12 +610,35 @@ class Relaxation:
         self.unit = max(1.0, most / 1e5)
         self.costs = instance.costs / self.unit
         self.penalty = 2 * abs(instance.length(tour)) / self.unit + 10 * most / self.unit + 10
-        self.present = np.zeros((self.count, self.count), bool)
+        self.present = self.no_pairs()
         self.heads = self.tails = np.zeros(0, np.int64)
         self.cuts, self.idle = [], {}
+        self.include(self.near(nearest) | instance.links(tour) | instance.fixed)
+
+    def no_pairs(self):
+        """Where there is never a pair: at a node itself, and at the higher node first."""
+        return np.tril(np.ones((self.count, self.count), bool))
+
+    def near(self, nearest):
+        """Each node with those that are nearest."""
         order = np.argsort(self.costs, axis=1, kind="stable")[:, : nearest + 1]
-        near = {(min(i, j), max(i, j)) for i, row in enumerate(order.tolist()) for j in row if i != j}
-        self.include(near | edges_of(tour) | instance.fixed)
+        return {(min(i, j), max(i, j)) for i, row in enumerate(order.tolist()) for j in row if i != j}
+
+    def degrees(self):
+        """How often each pair is at each node, and how often the pairs of a tour are in all."""
+        pairs = np.arange(len(self.heads))
+        ends = (np.append(self.heads, self.tails), np.append(pairs, pairs))
+        ones = np.ones(2 * len(pairs))
+        return sparse.csr_matrix((ones, ends), shape=(self.count, len(pairs))), 2.0
+
+    def beyond(self, duals):
+        """What pairs cost beyond the duals of the degrees."""
+        return self.costs - duals[:, None] - duals[None, :]
+
+    def prices(self, answer):
+        """What pairs cost beyond all duals."""
+        prices = self.beyond(answer.node_duals)
+        return prices - spread(answer.cuts, answer.cut_duals, float) if answer.cuts else prices
 
     def include(self, pairs):
         """Lets pairs join that aren't there yet."""
@@ -487,9 +658,9 @@ class Relaxation:
 
     def program(self, decisions):
         """Solves it as it is. What misses a degree or a cut pays a penalty, so there is an answer."""
-        pairs, count, cuts = len(self.heads), self.count, list(self.cuts)
-        ends = (np.append(self.heads, self.tails), np.append(np.arange(pairs), np.arange(pairs)))
-        degree = sparse.csr_matrix((np.ones(2 * pairs), ends), shape=(count, pairs))
+        pairs, cuts = len(self.heads), list(self.cuts)
+        degree, total = self.degrees()
+        count = degree.shape[0]
         one, none = sparse.identity(count), sparse.csr_matrix((count, len(cuts)))
         equal = sparse.hstack([degree, one, -one, none])
         crossed = sparse.csr_matrix(crossings(cuts, self.heads, self.tails).astype(float))
@@ -499,16 +670,16 @@ class Relaxation:
         costs = np.append(self.costs[self.heads, self.tails], np.full(spare, self.penalty))
         limits = np.concatenate([self.limits(decisions), np.tile([0, inf], (spare, 1))])
         floors = -np.array([cut.floor for cut in cuts], float) if cuts else None
-        given = (costs, above, floors, equal, np.full(count, 2.0), limits)
+        given = (costs, above, floors, equal, np.full(count, total), limits)
         answer = linprog(*given, method="highs-ds")
         if answer.status != 0:
             answer = linprog(*given, method="highs-ipm")
         if answer.status != 0:
             raise ArithmeticError(answer.message)
-        values = np.zeros((count, count))
-        values[self.heads, self.tails] = answer.x[:pairs]
+        links = np.zeros((self.count, self.count))
+        links[self.heads, self.tails] = answer.x[:pairs]
         cut_duals = np.maximum(-answer.ineqlin.marginals, 0) if cuts else np.zeros(0)
-        return Solution(answer.fun, values + values.T, answer.eqlin.marginals, cuts, cut_duals)
+        return Solution(answer.fun, links, answer.eqlin.marginals, cuts, cut_duals)
 
     def solve(self, decisions):
         """Solves it over all pairs: those that would make it better join."""
@@ -520,11 +691,8 @@ class Relaxation:
                     raise
                 self.cuts = []  # they come back where they are missed
                 continue
-            duals = answer.node_duals
-            prices = self.costs - duals[:, None] - duals[None, :]
-            if answer.cuts:
-                prices = prices - spread(answer.cuts, answer.cut_duals, float)
-            heads, tails = np.nonzero(np.triu((prices < -TINY) & ~self.present, 1))
+            prices = self.prices(answer)
+            heads, tails = np.nonzero((prices < -TINY) & ~self.present)
             good = [k for k in np.argsort(prices[heads, tails]) if (heads[k], tails[k]) not in decisions]
             if not good:
                 return answer
@@ -553,6 +721,28 @@ class Relaxation:
         for cut in back:
             del self.idle[cut.key()]
         return back
+
+
+class ArcRelaxation(Relaxation):
+    """The same over arcs: one goes from each node, and one to each node."""
+
+    def no_pairs(self):
+        return np.eye(self.count, dtype=bool)
+
+    def near(self, nearest):
+        away = np.argsort(self.costs, axis=1, kind="stable")[:, : nearest + 1].tolist()
+        back = np.argsort(self.costs, axis=0, kind="stable")[: nearest + 1].T.tolist()
+        arcs = {(i, j) for i, row in enumerate(away) for j in row if i != j}
+        return arcs | {(i, j) for j, column in enumerate(back) for i in column if i != j}
+
+    def degrees(self):
+        arcs = np.arange(len(self.heads))
+        ends = (np.append(self.heads, self.count + self.tails), np.append(arcs, arcs))
+        ones = np.ones(2 * len(arcs))
+        return sparse.csr_matrix((ones, ends), shape=(2 * self.count, len(arcs))), 1.0
+
+    def beyond(self, duals):
+        return self.costs - duals[: self.count, None] - duals[None, self.count :]
 
 
 # ---- which cuts are missed
@@ -752,6 +942,12 @@ class Combs:
                 inside.append(int(chance.choice(nodes)))
         return self.rows([inside])[0]
 
+    def first(self):
+        """The combs that are missed the most, from handles that come first."""
+        for handle in self.handles():
+            self.tried(handle)
+        return [cut for _, cut in sorted(self.found.values(), key=lambda pair: -pair[0])]
+
     def search(self, until, seeds, known, chance):
         """The combs that are missed the most, from handles that are known, and more by chance."""
         tried = [(self.tried(handle), handle) for handle in [*self.handles(), *known]]
@@ -812,7 +1008,7 @@ class Numbers:
 
 @dataclass(frozen=True)
 class Tree:
-    """A least 1-tree: its pairs, and its weight with all that the bound adds, at the scale."""
+    """A least 1-tree, or the least arcs: its pairs, and its weight with all that the bound adds."""
 
     heads: np.ndarray
     tails: np.ndarray
@@ -843,9 +1039,20 @@ class Bounds:
             marked[i, j] = marked[j, i] = weights[i, j] - MARK if taken else weights[i, j] + MARK
         heads, tails = least_tree(marked)
         value = sum(marked[heads, tails].tolist()) + MARK * sum(decisions.values())
-        value -= 2 * sum(numbers.potentials.tolist())
-        value += sum(number * cut.floor for cut, number in numbers.multipliers.items())
-        return Tree(heads, tails, value)
+        return Tree(heads, tails, value + added(numbers))
+
+    def numbers_of(self, solution, unit):
+        """What the duals of a solution say, as whole numbers at the scale.
+
+        A 1-tree has at most k - 1 edges among k nodes without the first one. So the dual of such a set
+        goes to the potentials of its nodes, and the rest of its cut 1-trees keep by themselves."""
+        potentials, multipliers = -solution.node_duals, {}
+        for cut, dual in zip(solution.cuts, solution.cut_duals):
+            if cut.is_comb:
+                multipliers[cut] = dual
+            else:
+                potentials = potentials - dual * cut.members[0]
+        return rounded(potentials, multipliers, self.scale * unit)
 
     def bound(self, value):
         """The bound of a value at the scale: a whole number, rounded up."""
@@ -876,6 +1083,51 @@ class Bounds:
         return kept, best
 
 
+class RowBounds(Bounds):
+    """Exact bounds of an ATSP: each node takes its least arc of those that the decisions allow."""
+
+    def tree(self, numbers, decisions):
+        """The least arc from each node. Where there is none, no tour obeys the decisions."""
+        weights = self.weights(numbers)
+        weights[self.closed(decisions)] = FAR
+        tails = weights.argmin(axis=1)
+        heads = np.arange(len(tails))
+        least = weights[heads, tails]
+        value = inf if (least == FAR).any() else sum(least.tolist()) + added(numbers)
+        return Tree(heads, tails, value)
+
+    def closed(self, decisions):
+        """The arcs that no tour which obeys the decisions uses."""
+        closed = np.eye(self.instance.count, dtype=bool)
+        for (i, j), taken in decisions.items():
+            if taken:
+                own = closed[i, j]
+                closed[i, :] = closed[:, j] = True
+                closed[i, j] = own
+            else:
+                closed[i, j] = True
+        return closed
+
+    def numbers_of(self, solution, unit):
+        """What the duals of a solution say: those of the arcs to each node, and of all cuts."""
+        potentials = -solution.node_duals[self.instance.count :]
+        return rounded(potentials, dict(zip(solution.cuts, solution.cut_duals)), self.scale * unit)
+
+
+def added(numbers):
+    """What a bound adds to the weight of a tour's relaxation."""
+    given = sum(number * cut.floor for cut, number in numbers.multipliers.items())
+    return given - 2 * sum(numbers.potentials.tolist())
+
+
+def rounded(potentials, multipliers, scale):
+    """Whole numbers at a scale."""
+    potentials = np.rint((potentials - np.median(potentials)) * scale)
+    potentials = np.clip(potentials, -MOST_POTENTIAL, MOST_POTENTIAL).astype(np.int64)
+    whole = {cut: round(dual * scale) for cut, dual in multipliers.items() if round(dual * scale) > 0}
+    return Numbers(potentials, whole if sum(whole.values()) <= MOST_MULTIPLIERS else {})
+
+
 def within_limits(numbers):
     return (
         int(np.abs(numbers.potentials).max()) <= MOST_POTENTIAL
@@ -903,22 +1155,6 @@ def least_tree(weights):
     return np.array(heads), np.array(tails)
 
 
-def numbers_of(solution, scale):
-    """What the duals of a solution say, as whole numbers at a scale.
-
-    A 1-tree has at most k - 1 edges among k nodes without the first one. So the dual of such a set
-    goes to the potentials of its nodes, and the rest of its cut 1-trees keep by themselves."""
-    potentials, multipliers = -solution.node_duals, {}
-    for cut, dual in zip(solution.cuts, solution.cut_duals):
-        if not cut.is_comb:
-            potentials = potentials - dual * cut.members[0]
-        elif round(dual * scale) > 0:
-            multipliers[cut] = round(dual * scale)
-    potentials = np.rint((potentials - np.median(potentials)) * scale)
-    potentials = np.clip(potentials, -MOST_POTENTIAL, MOST_POTENTIAL).astype(np.int64)
-    return Numbers(potentials, multipliers if sum(multipliers.values()) <= MOST_MULTIPLIERS else {})
-
-
 # ---- the tree of cases
 
 
@@ -944,8 +1180,11 @@ class Search:
     def __init__(self, instance, tour, scale, until, chance):
         self.instance, self.until, self.chance = instance, until, chance
         self.tour, self.length = tour, instance.length(tour)
-        self.bounds, self.used = Bounds(instance, scale), set()
-        self.relaxation = Relaxation(instance, tour)
+        self.bounds = (RowBounds if instance.directed else Bounds)(instance, scale)
+        self.relaxation = (ArcRelaxation if instance.directed else Relaxation)(instance, tour)
+        self.used = set()
+        self.improver = ArcImprover(instance, tour) if instance.directed else None
+        self.is_lopsided = lopsided(instance.costs)
         self.progress, self.interrupted = Progress(), False
 
     def interrupt(self, *_):
@@ -973,6 +1212,8 @@ class Search:
         pair = None
         try:
             solution, numbers, value = self.tighten(decisions, inherited)
+            if self.is_lopsided and inherited is None:
+                self.look_for_tour(solution)
             if value < self.goal() and not self.late():
                 pair = self.pair_to_branch(solution, decisions)
         except ArithmeticError:  # the solver gave up: what stands above does here too
@@ -993,7 +1234,7 @@ class Search:
         history, window = [], 5 if inherited else 10
         while True:
             solution = self.relaxation.solve(decisions)
-            self.offer(solution)
+            self.offer(solution, decisions)
             history.append(solution.value)
             self.progress.say(solution.value * self.relaxation.unit, self.length)
             if self.reached(solution):
@@ -1047,30 +1288,65 @@ class Search:
         combs = Combs(solution.values, self.tour)
         cuts = self.relaxation.recalled(solution.values)
         cuts += combs.runs_below() or small_cuts(solution.values)
-        if len(cuts) < 5:
-            seeds = 30 if len(decisions) == len(self.instance.fixed) else 8
+        if len(cuts) < 5 and self.is_lopsided:  # combs bring little there
+            cuts += combs.first()[:40]
+        elif len(cuts) < 5:
+            is_first = len(decisions) == len(self.instance.fixed)
+            seeds = 30 if is_first and not self.instance.directed else 8
             tight = [cut for cut, dual in zip(solution.cuts, solution.cut_duals) if dual > TINY]
             known = [cut.members[0].astype(bool) for cut in tight]
             cuts += combs.search(self.until, seeds, known, self.chance)[:40]
         return cuts
 
-    def offer(self, solution):
-        """Takes the tour that a solution is, where it is a shorter one."""
+    def offer(self, solution, decisions):
+        """Takes the tour that a solution is, or leads to, where it is a shorter one."""
+        if self.instance.directed:
+            is_first = len(decisions) == len(self.instance.fixed)
+            tour = self.guided(solution, 0 if self.is_lopsided else 0.5 if is_first else 0.05)
+        else:
+            tour = self.whole_tour(solution)
+        if tour and self.instance.keeps(tour) and self.instance.length(tour) < self.length:
+            self.tour, self.length = tour, self.instance.length(tour)
+
+    def look_for_tour(self, solution):
+        """Looks for a shorter tour by the prices of a solution without decisions."""
+        prices = self.relaxation.prices(solution) * self.relaxation.unit
+        base = solution.value * self.relaxation.unit - (prices * solution.links).sum()
+        until = min(self.until, time.monotonic() + 10)
+        self.tour = by_assignments(self.instance, prices, base, self.tour, until)
+        self.length = self.instance.length(self.tour)
+
+    def guided(self, solution, seconds):
+        """The tour that the arcs with the best prices lead to.
+
+        What tours cost beyond the duals of the degrees differs by a constant from what they cost, and
+        tells better which arcs are near."""
+        improver, relaxation = self.improver, self.relaxation
+        beyond, prices = relaxation.beyond(solution.node_duals), relaxation.prices(solution) - solution.links
+        for pair in self.instance.fixed:
+            beyond[pair] = prices[pair] = -relaxation.penalty
+        improver.weigh(beyond, 6)
+        improver.tour = patched(prices, cheapest(prices))
+        improver.place_all()
+        improver.improve(improver.tour)
+        return kicked(improver, self.chance, time.monotonic() + seconds)
+
+    def whole_tour(self, solution):
+        """The tour that a solution is, or nothing."""
         values = solution.values
         if not solution.is_whole() or abs(values.sum(axis=1) - 2).max() > TINY:
-            return
+            return None
         tour, around = [0], np.rint(values).astype(bool)
         while len(tour) < self.instance.count:
             ways = [node for node in np.nonzero(around[tour[-1]])[0].tolist() if node not in tour[-2:]]
             if not ways or ways[0] == 0:
-                return
+                return None
             tour.append(ways[0])
-        if keeps(tour, self.instance.fixed) and self.instance.length(tour) < self.length:
-            self.tour, self.length = tour, self.instance.length(tour)
+        return tour
 
     def numbers_at(self, solution, decisions, inherited):
         """The best of the numbers above and of what a solution says, and their value."""
-        own = numbers_of(solution, self.bounds.scale * self.relaxation.unit)
+        own = self.bounds.numbers_of(solution, self.relaxation.unit)
         steps = 60 if self.reached(solution, 0) else 5
         best = self.bounds.ascend(own, decisions, self.goal(), steps)
         if inherited is not None and best[1] < self.goal():
@@ -1080,7 +1356,7 @@ class Search:
 
     def pair_to_branch(self, solution, decisions):
         """The pair whose two cases raise the bound the most, of those that are the least decided."""
-        parts = np.triu(np.minimum(solution.values, 1 - solution.values), 1)
+        parts = np.minimum(solution.links, 1 - solution.links)
         heads, tails = np.nonzero(parts > TINY)
         order = np.argsort(-parts[heads, tails], kind="stable")[: self.STRONG]
         best, chosen = -inf, None
@@ -1236,10 +1512,10 @@ SCALE_HELP = "of the numbers, 1 to 1000000 (2520); the file has a part of it whe
 def command():
     """The words of the command line."""
     parser = argparse.ArgumentParser(
-        description="Makes a certificate of TYPE BRANCHES for a TSP, and a tour. Only the check decides: "
-        "tsp check INSTANCE TOUR --branches OUT"
+        description="Makes a certificate of TYPE BRANCHES for a TSP or an ATSP, and a tour. Only the "
+        "check decides: tsp check INSTANCE TOUR --branches OUT"
     )
-    parser.add_argument("instance", help="a file of TYPE TSP")
+    parser.add_argument("instance", help="a file of TYPE TSP or ATSP")
     parser.add_argument("given", nargs="?", metavar="tour", help="a tour of it; else one is looked for")
     parser.add_argument("--branches", required=True, metavar="OUT", help="where the certificate goes")
     parser.add_argument("--tour", metavar="OUT", help="where the shortest tour goes that was found")
@@ -1257,7 +1533,8 @@ def command():
 def report(search, first, bound, size):
     """Says what should come out, on standard error."""
     combs, leaves = size
-    say = [f"combs {combs}, leaves {leaves}", f"length {search.length}, bound {bound} as reckoned here"]
+    families = "sets and combs" if search.instance.directed else "combs"
+    say = [f"{families} {combs}, leaves {leaves}", f"length {search.length}, bound {bound} as reckoned here"]
     if search.length < first:
         say.append(f"a shorter tour than the first one was found, which is {first} long")
     if bound < search.length:

@@ -4,7 +4,7 @@
 It reads an instance of TYPE TSP or ATSP, a tour, and a certificate, and prints the report that
 `tsp check` prints. Status 0 is a yes, 1 a no, 2 a file that isn't read here. It needs Python 3.9 and
 its standard library alone, and computes in whole numbers. It follows docs/format.md, which defines
-the numbers, and docs/promises.md, which says why they are bounds. It isn't proved, and it is lenient
+the numbers, and docs/proof.md, which says why they are bounds. It isn't proved, and it is lenient
 with files that the program refuses. A large instance is slow: a step takes n * n distances.
 """
 from __future__ import annotations
