@@ -12,8 +12,9 @@ use crate::words::Job;
 /// # Errors
 ///
 /// `InputTwice` where two files are standard input; `UnknownLayout` where no layout has the word that
-/// stands for one; `TwoCertificates` where a check has both potentials and branches; `MissingPath` where
-/// a path is missing, as in no job that words ask for.
+/// stands for one; `NotALength` where the word of a length stands for none; `TwoCertificates` where both
+/// potentials and branches are named; `NoCertificate` where a bound has neither; `MissingPath` where a
+/// path is missing, as in no job that words ask for.
 pub fn task_of(job: &Job) -> Result<Task<Place<'_>>, TaskFault>
     ensures { GivesTask job.now result }
 {
@@ -30,13 +31,11 @@ fn inputs_of(task: &Task<Place<'_>>) -> u32
 {
     match task {
         Task::Show(file) | Task::Convert(file, _) => input(*file),
-        Task::Check(instance, solution) => input(*instance) + input(*solution),
-        Task::BoundCheck(instance, solution, potentials) => {
-            input(*instance) + input(*solution) + input(*potentials)
+        Task::Check(instance, solution, _) => input(*instance) + input(*solution),
+        Task::CheckBy(_, instance, solution, certificate, _) => {
+            input(*instance) + input(*solution) + input(*certificate)
         }
-        Task::BranchCheck(instance, solution, branches) => {
-            input(*instance) + input(*solution) + input(*branches)
-        }
+        Task::Bound(_, instance, certificate) => input(*instance) + input(*certificate),
     }
 }
 

@@ -1,6 +1,6 @@
 -- Which file a reason is about.
 use Rattle.tsp_reason.specs.declared.verdict.Reason.{Reason}
-use Rattle.tsp_reason.specs.declared.verdict.Reason.TheVariants.{NotASolution, TooFewNodes, NotSymmetric, Dimension, TourCount, TourLength, NodeOutOfRange, RepeatedNode, FixedEdgeUnused, NotPotentials, PotentialsDimension, PotentialsKind, MultiplierNotFixed, MultiplierRepeated, DualInfeasible, DepotCount, DepotDemand, FixedEdgesInRoutes, DepotInRoute, Unserved, Overload, NotBranches, BranchesDimension, BadComb, BranchTwice, BadLeaf}
+use Rattle.tsp_reason.specs.declared.verdict.Reason.TheVariants.{NotASolution, TooFewNodes, NotSymmetric, Dimension, TourCount, TourLength, NodeOutOfRange, RepeatedNode, FixedEdgeUnused, NotPotentials, PotentialsDimension, PotentialsKind, MultiplierNotFixed, MultiplierRepeated, DualInfeasible, DepotCount, DepotDemand, FixedEdgesInRoutes, DepotInRoute, Unserved, Overload, NotBranches, BranchesDimension, BadComb, BranchTwice, BadLeaf, LengthClaimed}
 use Rattle.tsp_explain.specs.declared.role.Role.{Role}
 use Rattle.tsp_explain.specs.declared.role.Role.TheVariants.{Instance, Solution, Potentials, Branches}
 
@@ -20,6 +20,7 @@ role_of (FixedEdgeUnused index) = Solution
 role_of (DepotInRoute place) = Solution
 role_of (Unserved node) = Solution
 role_of (Overload route) = Solution
+role_of (LengthClaimed length) = Solution
 role_of NotPotentials = Potentials
 role_of PotentialsDimension = Potentials
 role_of PotentialsKind = Potentials

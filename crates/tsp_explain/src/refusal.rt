@@ -124,6 +124,7 @@ fn push_of_solution(
         Reason::DepotInRoute { place } => push_depot(text, place, instance, solution),
         Reason::Overload { route } => push_load(text, route, instance, solution),
         Reason::Unserved { node } => say(text, &[("No route has node ", i64::from(node))]),
+        Reason::LengthClaimed { length } => say(text, &[("Its length is ", length)]),
         _ => Ok(()),
     }
 }

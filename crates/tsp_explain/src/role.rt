@@ -37,7 +37,8 @@ pub fn blamed(reason: Reason) -> Role
         | Reason::FixedEdgeUnused { .. }
         | Reason::DepotInRoute { .. }
         | Reason::Unserved { .. }
-        | Reason::Overload { .. } => Role::Solution,
+        | Reason::Overload { .. }
+        | Reason::LengthClaimed { .. } => Role::Solution,
         Reason::NotPotentials
         | Reason::PotentialsDimension
         | Reason::PotentialsKind

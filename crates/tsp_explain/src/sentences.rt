@@ -162,6 +162,9 @@ pub(crate) fn reason_sentence(reason: Reason) -> &'static str {
         }
         Reason::Unserved { node: _ } => "Every node but the depot stands in a route.",
         Reason::Overload { route: _ } => "The demands of a route sum to at most CAPACITY.",
+        Reason::LengthClaimed { length: _ } => {
+            "Nothing else stands against the solution, but its length isn't the one that --length claims."
+        }
         Reason::NotBranches => "The third file has to be of TYPE BRANCHES.",
         Reason::BranchesDimension => "DIMENSION of the tree of cases isn't that of the instance.",
         Reason::BadComb { index: _ } => {

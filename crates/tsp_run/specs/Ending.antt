@@ -2,10 +2,10 @@
 use Rattle.std.specs.Prelude.{◌≡◌, ℕ, Bool, List, [], ◌++◌, ◌∷◌, true, false, Option, None, Some, Ok, Err, IfSome, codes, not, ◌==◌}
 use Rattle.std.specs.List.{list_all}
 use Rattle.std.specs.Io.KnownBytes.{Appends, Keeps}
-use Rattle.tsp_judge.specs.declared.Verdict.TheVariants.{Tour, Routes, No}
 use Rattle.tsp_judge.specs.Status.{status_of}
 use Rattle.tsp_cli.specs.declared.words.JobFault.TheVariants as job_faults
-use Rattle.tsp_cli.specs.declared.task.TaskFault.TheVariants.{UnknownLayout, MissingPath, TwoCertificates, InputTwice}
+use Rattle.tsp_cli.specs.declared.task.TaskFault.TheVariants.{UnknownLayout, MissingPath, TwoCertificates, NoCertificate, NotALength, InputTwice}
+use Rattle.tsp_run.specs.Engines.{is_accepted}
 use Rattle.tsp_run.specs.declared.ending.Ending.{Ending}
 use Rattle.tsp_run.specs.declared.ending.Ending.TheVariants.{NoJob, Version, NoTask, Ended}
 use Rattle.tsp_run.specs.declared.ending.Line.{Line}
@@ -17,10 +17,7 @@ status_of_ending (NoJob (job_faults.Refused refusal)) = 4
 status_of_ending (NoJob job_faults.OutOfMemory) = 3
 status_of_ending (Version build) = 4
 status_of_ending (NoTask fault) = 4
-status_of_ending (Ended (Ok None)) = status_of (Ok true)
-status_of_ending (Ended (Ok (Some (Tour length bound)))) = status_of (Ok true)
-status_of_ending (Ended (Ok (Some (Routes length routes least)))) = status_of (Ok true)
-status_of_ending (Ended (Ok (Some (No reason)))) = status_of (Ok false)
+status_of_ending (Ended (Ok outcome)) = status_of (Ok (is_accepted outcome))
 status_of_ending (Ended (Err fault)) = status_of (Err fault)
 
 -- the line of an ending; an answer has none, since what it says is on standard output
@@ -45,6 +42,8 @@ line_text (lines.Version build) = ended (codes "tsp 1.1.0 (" ++ build.now ++ cod
 line_text (lines.NoTask UnknownLayout) = ended (codes "unknown layout")
 line_text (lines.NoTask MissingPath) = ended (codes "missing path")
 line_text (lines.NoTask TwoCertificates) = ended (codes "both potentials and branches")
+line_text (lines.NoTask NoCertificate) = ended (codes "neither potentials nor branches")
+line_text (lines.NoTask NotALength) = ended (codes "not a length")
 line_text (lines.NoTask InputTwice) = ended (codes "standard input twice")
 line_text (lines.Fault fault) = None
 

@@ -14,7 +14,7 @@ use Rattle.tsp_cli.specs.declared.words.Job.{Job}
 use Rattle.tsp_cli.specs.declared.words.JobFault.{JobFault}
 use Rattle.tsp_cli.specs.declared.task.Place.{Place}
 use Rattle.tsp_cli.specs.declared.task.Task.{Task}
-use Rattle.tsp_cli.specs.declared.task.Task.TheVariants.{Show, Convert, Check, BoundCheck, BranchCheck}
+use Rattle.tsp_cli.specs.declared.task.Task.TheVariants.{Show, Convert, Check, CheckBy, Bound}
 use Rattle.tsp_cli.specs.declared.words.JobFault.TheVariants.{OutOfMemory, Refused}
 use Rattle.tsp_cli.specs.Words.{GivesJob, IsOtherRefusal}
 use Rattle.tsp_cli.specs.Task.{GivesTask}
@@ -29,9 +29,9 @@ IsFresh opens place reader = opens place (watched reader) × (has_failed reader 
 abbrev pub AreFresh : {F : Type 0} → (Place → F → Type 0) → Task Place → Task (Watched F) → Type 0
 AreFresh opens (Show a) (Show x) = IsFresh opens a x
 AreFresh opens (Convert a to) (Convert x same) = IsFresh opens a x × (same ≡ to)
-AreFresh opens (Check a b) (Check x y) = IsFresh opens a x × IsFresh opens b y
-AreFresh opens (BoundCheck a b c) (BoundCheck x y z) = IsFresh opens a x × IsFresh opens b y × IsFresh opens c z
-AreFresh opens (BranchCheck a b c) (BranchCheck x y z) = IsFresh opens a x × IsFresh opens b y × IsFresh opens c z
+AreFresh opens (Check a b claimed) (Check x y same) = IsFresh opens a x × IsFresh opens b y × (same ≡ claimed)
+AreFresh opens (CheckBy by a b c claimed) (CheckBy kept x y z same) = (kept ≡ by) × IsFresh opens a x × IsFresh opens b y × IsFresh opens c z × (same ≡ claimed)
+AreFresh opens (Bound by a c) (Bound kept x z) = (kept ≡ by) × IsFresh opens a x × IsFresh opens c z
 AreFresh opens _ _ = ⊥
 
 -- How a run ends that has this job: it is no task, and then nothing is written; or the task was done on its files, opened in

@@ -5,13 +5,14 @@ ghost use Rattle.std.specs.List.{position, before_first};
 ghost use Rattle.tsp_run.specs.Ending.{EndsLine, IsLineOf, Tells, status_of_ending};
 ghost use Rattle.tsp_judge.specs.Status.{status_of};
 
+use crate::engines::{Outcome, is_accepted};
 use arrayvec::ArrayString;
 use clap::Error as Refusal;
 use std::fmt::{Display, Formatter, Write as _};
 use std::io::Write;
 use std::{fmt, io};
 use tsp_cli::{JobFault, TaskFault, VERSION};
-use tsp_judge::{RunFault, Verdict, status_of};
+use tsp_judge::{RunFault, status_of};
 
 /// How many bytes of a fault's text are written.
 const MOST_TEXT: usize = 256;
@@ -25,8 +26,8 @@ pub enum Ending {
     Version(&'static str),
     /// What they ask for can't be begun.
     NoTask(TaskFault),
-    /// A task was done, with this verdict, where it has one.
-    Ended(Result<Option<Verdict>, RunFault>),
+    /// A task was done, or ended with a fault.
+    Ended(Result<Outcome, RunFault>),
 }
 
 /// What goes to standard error.
@@ -65,6 +66,10 @@ impl Display for Line<'_> {
             Line::NoTask(TaskFault::TwoCertificates) => {
                 f.write_str("both potentials and branches\n")
             }
+            Line::NoTask(TaskFault::NoCertificate) => {
+                f.write_str("neither potentials nor branches\n")
+            }
+            Line::NoTask(TaskFault::NotALength) => f.write_str("not a length\n"),
             Line::NoTask(TaskFault::InputTwice) => f.write_str("standard input twice\n"),
             Line::Fault(fault) => {
                 f.write(fault)?;
@@ -87,11 +92,7 @@ pub fn status_of_ending(ending: &Ending) -> u8
     match ending {
         Ending::NoJob(JobFault::Refused(_)) | Ending::Version(_) | Ending::NoTask(_) => REFUSED,
         Ending::NoJob(JobFault::OutOfMemory) => OUT_OF_MEMORY,
-        Ending::Ended(Ok(None)) => status_of(&Ok(true)),
-        Ending::Ended(Ok(Some(Verdict::Tour { .. } | Verdict::Routes { .. }))) => {
-            status_of(&Ok(true))
-        }
-        Ending::Ended(Ok(Some(Verdict::No(_)))) => status_of(&Ok(false)),
+        Ending::Ended(Ok(outcome)) => status_of(&Ok(is_accepted(outcome))),
         Ending::Ended(Err(fault)) => status_of(&Err(*fault)),
     }
 }

@@ -1,19 +1,17 @@
 //! What a run's end means, for a person.
 
 use crate::ending::Ending;
+use crate::engines::Outcome;
 use crate::source::Open;
 use std::alloc::{AllocError, Global};
 use std::io;
 use std::io::Read;
 use tsp_cli::{Job, TaskFault, Verb};
-use tsp_cost::Instance;
 use tsp_explain::{
     Role, blamed, explain_file, explain_reason, push_claim, push_details, push_error, push_lines,
     relayout_sentence, write_sentence,
 };
-use tsp_file::File;
-use tsp_judge::{Reason, RunFault, Verdict, Watched, WriteFault};
-use tsp_read::read_from;
+use tsp_judge::{Judged, Reason, RunFault, Verdict, WriteFault};
 
 /// What explains how a job ended, line by line. Files that can be are looked at once more for it;
 /// `write_error` is what the system said of a write that failed. It is cut short where there is no
@@ -43,23 +41,10 @@ fn push_explanation<F: Read + Drop, O: Open<F>>(
         Ending::NoJob(_) | Ending::Version(_) | Ending::NoTask(TaskFault::MissingPath) => Ok(()),
         Ending::NoTask(TaskFault::UnknownLayout) => push_lines(text, LAYOUTS),
         Ending::NoTask(TaskFault::TwoCertificates) => push_lines(text, CERTIFICATES),
-        Ending::Ended(Ok(Some(Verdict::No(reason)))) => {
-            push_reason(alloc, text, job, *reason, files)
-        }
         Ending::NoTask(TaskFault::InputTwice) => push_lines(text, INPUT),
-        Ending::Ended(
-            Ok(
-                Some(
-                    Verdict::Tour { length, bound: _ }
-                    | Verdict::Routes {
-                        length,
-                        routes: _,
-                        least: _,
-                    },
-                ),
-            ),
-        ) => push_claims(alloc, text, job, *length, files),
-        Ending::Ended(Ok(None)) => Ok(()),
+        Ending::NoTask(TaskFault::NoCertificate) => push_lines(text, NO_CERTIFICATE),
+        Ending::NoTask(TaskFault::NotALength) => push_lines(text, LENGTHS),
+        Ending::Ended(Ok(outcome)) => push_outcome(alloc, text, job, outcome),
         Ending::Ended(Err(fault)) => push_fault(alloc, text, job, *fault, files, write_error),
     }
 }
@@ -76,6 +61,14 @@ const CERTIFICATES: &str =
 /// What standard input is.
 const INPUT: &str =
     "A path - is standard input, which can be one file of a call. The file with that name is ./-";
+
+/// What a bound needs.
+const NO_CERTIFICATE: &str =
+    "A bound needs a certificate: --potentials with a file of potentials, or --branches with a tree of cases.";
+
+/// What a length is.
+const LENGTHS: &str =
+    "A length is a whole number that fits 64 bits, as 426 or 12.0. One below 0 is written --length=-34.";
 
 /// What the first file of a check is.
 const KINDS: &str =
@@ -122,102 +115,92 @@ fn push_write_fault(
     }
 }
 
-/// Appends what explains a no. The nodes and numbers are told as far as a second reading of the files
-/// shows them.
-fn push_reason<F: Read + Drop, O: Open<F>>(
+/// Appends what explains a no, from the files that were judged, and of a yes whether a comment of the
+/// solution claims another length.
+fn push_outcome(
     alloc: Global,
     text: &mut Vec<u8>,
     job: &Job,
-    reason: Reason,
-    files: &O,
+    outcome: &Outcome,
 ) -> Result<(), AllocError> {
-    let role = blamed(reason);
-    let name = name_of(path_of(job, file_of(role)));
-    explain_reason(alloc, text, name, reason)?;
-    let Some(instance) = weighed_again(alloc, path_of(job, 1), files) else {
-        return Ok(());
-    };
-    let solution = match role {
-        Role::Solution => read_again(alloc, path_of(job, 2), files),
-        Role::Instance | Role::Potentials | Role::Branches => None,
-    };
-    let certificate = match role {
-        Role::Potentials | Role::Branches => read_again(alloc, path_of(job, 3), files),
-        Role::Instance | Role::Solution => None,
-    };
-    push_details(
-        alloc,
-        text,
-        reason,
-        &instance,
-        solution.as_ref(),
-        certificate.as_ref(),
-    )
+    match outcome {
+        Outcome::Done => Ok(()),
+        Outcome::Judged(judged) => push_judged(alloc, text, job, judged),
+        Outcome::Bounded(bounded) => match bounded.found {
+            Ok(_) => Ok(()),
+            Err(reason) => {
+                explain_reason(alloc, text, name_of_blamed(job, reason), reason)?;
+                let certificate = Some(&bounded.certificate);
+                push_details(alloc, text, reason, &bounded.instance, None, certificate)
+            }
+        },
+    }
 }
 
-/// Appends a sentence where a comment of the solution claims another length than that of the report.
-fn push_claims<F: Read + Drop, O: Open<F>>(
+/// Appends what explains that a solution was judged so.
+fn push_judged(
     alloc: Global,
     text: &mut Vec<u8>,
     job: &Job,
-    length: i64,
-    files: &O,
+    judged: &Judged,
 ) -> Result<(), AllocError> {
-    let path = path_of(job, 2);
-    match read_again(alloc, path, files) {
-        Some(solution) => push_claim(alloc, text, name_of(path), solution.comments(), length),
-        None => Ok(()),
+    let solution = &judged.solution;
+    match judged.verdict {
+        Verdict::Tour { length, bound: _ }
+        | Verdict::Routes {
+            length,
+            routes: _,
+            least: _,
+        } => {
+            let name = name_of(place_of(&job.solution));
+            push_claim(alloc, text, name, solution.comments(), length)
+        }
+        Verdict::No(reason) => {
+            explain_reason(alloc, text, name_of_blamed(job, reason), reason)?;
+            let certificate = match &judged.certificate {
+                Some((_, certificate)) => Some(certificate),
+                None => None,
+            };
+            let solution = Some(solution);
+            push_details(alloc, text, reason, &judged.instance, solution, certificate)
+        }
     }
 }
 
-/// The file that is read a second time, as the first time, or `None` where it can't be.
-fn read_again<F: Read + Drop, O: Open<F>>(
-    alloc: Global,
-    path: Option<&str>,
-    files: &O,
-) -> Option<File> {
-    let mut reader = Watched::new(again(path, files)?);
-    read_from(alloc, &mut reader).ok()
-}
-
-/// The instance that is read a second time, or `None` where it can't be.
-fn weighed_again<F: Read + Drop, O: Open<F>>(
-    alloc: Global,
-    path: Option<&str>,
-    files: &O,
-) -> Option<Instance> {
-    Instance::of(read_again(alloc, path, files)?).ok()
-}
-
-/// The number of the file that a reason is about.
-fn file_of(role: Role) -> u32 {
-    match role {
-        Role::Instance => 1,
-        Role::Solution => 2,
-        Role::Potentials | Role::Branches => 3,
-    }
+/// What the file is called that a reason is about.
+fn name_of_blamed(job: &Job, reason: Reason) -> &str {
+    name_of(match blamed(reason) {
+        Role::Instance => place_of(&job.file),
+        Role::Solution => place_of(&job.solution),
+        Role::Potentials | Role::Branches => place_of(certificate_of(job)),
+    })
 }
 
 /// What the file with this number is given for, or `None` where it may be any.
 fn given_for(job: &Job, file: u32) -> Option<Role> {
     match (job.verb?, file) {
         (Verb::Show | Verb::Convert, _) => None,
-        (Verb::Check, 1) => Some(Role::Instance),
+        (Verb::Check | Verb::Bound, 1) => Some(Role::Instance),
         (Verb::Check, 2) => Some(Role::Solution),
-        (Verb::Check, _) => Some(match &job.potentials {
+        (Verb::Check | Verb::Bound, _) => Some(match &job.potentials {
             Some(_) => Role::Potentials,
             None => Role::Branches,
         }),
     }
 }
 
-/// The path of the file with this number, or `None` where it is standard input.
+/// The path of the file with this number, or `None` where it is standard input. A bound has its
+/// certificate in the place of a solution.
 fn path_of(job: &Job, file: u32) -> Option<&str> {
-    let path = match file {
-        1 => &job.file,
-        2 => &job.solution,
-        _ => certificate_of(job),
-    };
+    match (file, job.verb) {
+        (1, _) => place_of(&job.file),
+        (2, Some(Verb::Show | Verb::Convert | Verb::Check) | None) => place_of(&job.solution),
+        _ => place_of(certificate_of(job)),
+    }
+}
+
+/// A path, where there is one.
+fn place_of(path: &Option<String>) -> Option<&str> {
     match path {
         Some(path) if path.as_str() != "-" => Some(path.as_str()),
         Some(_) | None => None,

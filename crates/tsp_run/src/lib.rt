@@ -19,7 +19,7 @@ mod source;
 mod waiting;
 
 pub use ending::{Ending, Line, line_of, status_of_ending, tell};
-pub use engines::perform;
+pub use engines::{Outcome, perform};
 pub use examples::examples_of_statuses;
 pub use running::{run, tell_unread};
 pub use source::{Open, Source};

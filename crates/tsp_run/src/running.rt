@@ -163,19 +163,19 @@ fn opened<F: Read + Drop, O: Open<F>>(task: Task<Place<'_>>, files: &O) -> Task<
     match task {
         Task::Show(file) => Task::Show(fresh(file, files)),
         Task::Convert(file, to) => Task::Convert(fresh(file, files), to),
-        Task::Check(instance, solution) => {
-            Task::Check(fresh(instance, files), fresh(solution, files))
+        Task::Check(instance, solution, claimed) => {
+            Task::Check(fresh(instance, files), fresh(solution, files), claimed)
         }
-        Task::BoundCheck(instance, solution, potentials) => Task::BoundCheck(
+        Task::CheckBy(by, instance, solution, certificate, claimed) => Task::CheckBy(
+            by,
             fresh(instance, files),
             fresh(solution, files),
-            fresh(potentials, files),
+            fresh(certificate, files),
+            claimed,
         ),
-        Task::BranchCheck(instance, solution, branches) => Task::BranchCheck(
-            fresh(instance, files),
-            fresh(solution, files),
-            fresh(branches, files),
-        ),
+        Task::Bound(by, instance, certificate) => {
+            Task::Bound(by, fresh(instance, files), fresh(certificate, files))
+        }
     }
 }
 
