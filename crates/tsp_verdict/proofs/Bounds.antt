@@ -40,7 +40,7 @@ none_of_both by inst cert none certificate reason (inr stands) = certificate rea
 pub certificate_decides : (by : Certificate) (inst cert : Fields) (found : Result (Option ℤ) Reason) → NoneAgainstInstance inst → FindsBoundIfAny by inst cert found
     → IsBoundVerdict by inst cert found
 certificate_decides by inst cert (Ok (Some bound)) none b = (none_of_both by inst cert none b.0, b.1)
-certificate_decides by inst cert (Ok None) none b = (none_of_both by inst cert none b.0, b.1)
+certificate_decides by inst cert (Ok None) none b = (none_of_both by inst cert none b.0, b.1, b.2)
 certificate_decides by inst cert (Err reason) none first = record {
   stands = inr first.stands;
   none_before = λ other low stands. by_side other low stands;

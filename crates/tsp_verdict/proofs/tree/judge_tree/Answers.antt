@@ -114,11 +114,9 @@ returns-in-Bound-None g c =
     (ap plain c.deref.ensures.value ∙ c.in_ok-sets.ensures) c.fixed_pairs.ensures.value (ap case_of c.deref-2.ensures.value ∙ c.in_ok-given.ensures) (steps_are tree _ _ _ c.requires.held) in
     let is = subst (IsBranchVerdict c.is_directed-directed.result n costs (to_z w64 (of_z w64 c.args.tree.now.scale)) (length combs) sets given steps) whole c.in_ok-bound.ensures.verdict in
     let all_told = told inst tree c.is_directed-directed.result n costs _ (length combs) sets given steps (found.Bound None) are is in
-    (
-      none_stands inst tree costs None c.requires.sort c.requires.count all_told,
-      no_tour inst tree costs c.certificates_bound_cycles.ensures.cycles c.requires.kind c.requires.some c.requires.even
-          (subst IsScale c.requires.held.scale_is c.requires.held.scaled) c.requires.keeps.every all_told,
-    )
+    let gone = no_tour inst tree costs c.certificates_bound_cycles.ensures.cycles c.requires.kind c.requires.some c.requires.even
+    (subst IsScale c.requires.held.scale_is c.requires.held.scaled) c.requires.keeps.every all_told in
+    (none_stands inst tree costs None c.requires.sort c.requires.count all_told, gone.0, gone.1)
 
 pub returns-in-BadComb : goal.returns-in-BadComb
 returns-in-BadComb g c =
