@@ -27,7 +27,7 @@ use Rattle.tsp_judge.specs.declared.judging.Judged.{Judged}
 use Rattle.tsp_judge.specs.Run.{Given, AreRead, is_yes, JudgesFiles, EndsWithout, IsRun, IsCheckAnswer, told}
 use Rattle.tsp_judge.specs.Yes.{IsATourYes, IsARoutesYes, IsAYes, SaysYes, IsCheckOf, IsRunOf}
 
--- ---- the TYPE of a file against which no other TYPE stands
+-- ---- the TYPE of a file
 
 a_file_of_tours : (kind : Option Kind) → (is_tours kind ≡ false → ⊥) → kind ≡ Some kinds.Tour
 a_file_of_tours (Some kinds.Tsp) not = absurd (not refl)

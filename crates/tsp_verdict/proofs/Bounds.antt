@@ -1,6 +1,6 @@
 -- An instance with a certificate: the reasons against either, in order.
 use Rattle.std.proofs.Common.{◌≡◌, ℕ, ◌<◌, ◌≤◌, ◌⊎◌, inl, inr, arith}
-use Rattle.std.specs.Prelude.{ℤ, Option, None, Some, Result, Ok, Err}
+use Rattle.std.specs.Prelude.{ℤ, Option, None, Some, Result, Ok, Err, IfOk, MatchResult}
 use Rattle.tsp_draft.specs.Fields.{Fields}
 use Rattle.tsp_reason.specs.declared.certificate.Certificate.{Certificate}
 use Rattle.tsp_reason.specs.declared.verdict.Reason.{Reason}
@@ -49,6 +49,12 @@ certificate_decides by inst cert (Err reason) none first = record {
     by_side : (other : Reason) → rank_of other < rank_of reason → StandsAgainstInstance inst other ⊎ StandsAgainstCertificate by inst cert other → ⊥
     by_side other low (inl stands) = none other stands
     by_side other low (inr stands) = first.none_before other low stands
+
+-- out of memory, none applies to the instance
+pub either_way : {E : Type 0} (by : Certificate) (inst cert : Fields) (result : Result (Result (Option ℤ) Reason) E) → NoneAgainstInstance inst → IfOk result (λ found. FindsBoundIfAny by inst cert found)
+    → MatchResult result (λ found. IsBoundVerdict by inst cert found) (λ refused. NoneAgainstInstance inst)
+either_way by inst cert (Ok found) none finds = certificate_decides by inst cert found none finds
+either_way by inst cert (Err refused) none finds = none
 
 -- ---- the reasons against the instance
 
