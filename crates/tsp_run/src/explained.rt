@@ -66,6 +66,10 @@ const INPUT: &str =
 const NO_CERTIFICATE: &str =
     "A bound needs a certificate: --potentials with a file of potentials, or --branches with a tree of cases.";
 
+/// What it means that a certificate gives no bound.
+const NO_TOUR: &str =
+    "The instance has no tour: at each leaf of the tree its decisions and the fixed arcs leave some node no arc.";
+
 /// What a length is.
 const LENGTHS: &str =
     "A length is a whole number that fits 64 bits, as 426 or 12.0. One below 0 is written --length=-34.";
@@ -127,7 +131,8 @@ fn push_outcome(
         Outcome::Done => Ok(()),
         Outcome::Judged(judged) => push_judged(alloc, text, job, judged),
         Outcome::Bounded(bounded) => match bounded.found {
-            Ok(_) => Ok(()),
+            Ok(Some(_)) => Ok(()),
+            Ok(None) => push_lines(text, NO_TOUR),
             Err(reason) => {
                 explain_reason(alloc, text, name_of_blamed(job, reason), reason)?;
                 let certificate = Some(&bounded.certificate);
