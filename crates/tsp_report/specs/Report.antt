@@ -139,10 +139,14 @@ report_of instance verdict = instance_lines instance ++ verdict_lines verdict
 
 -- ---- a bound without a solution
 
--- the bound, `none` where the instance has no tour; or the first reason against the instance or the certificate
+-- the bound, and the yes; `none` where the instance has no tour
+abbrev pub bound_alone_lines : Option ℤ → List ℕ
+bound_alone_lines (Some bound) = codes "bound " ++ signed_decimal bound ++ codes "\nyes\n"
+bound_alone_lines None = codes "bound none\nyes\n"
+
+-- the bound, or the first reason against the instance or the certificate
 abbrev pub bound_found_lines : Result (Option ℤ) Reason → List ℕ
-bound_found_lines (Ok (Some bound)) = codes "bound " ++ signed_decimal bound ++ codes "\nyes\n"
-bound_found_lines (Ok None) = codes "bound none\nyes\n"
+bound_found_lines (Ok bound) = bound_alone_lines bound
 bound_found_lines (Err reason) = no_line reason
 
 -- the report on an instance whose tours are bounded

@@ -2,7 +2,7 @@
 
 ghost use Rattle.tsp_stream.specs.Sink.{sink_of, Writes};
 ghost use Rattle.tsp_stream.specs.Way.{Puts};
-ghost use Rattle.tsp_report.specs.Report.{bound_report_of, bound_found_lines};
+ghost use Rattle.tsp_report.specs.Report.{bound_report_of, bound_found_lines, bound_alone_lines};
 
 use crate::report::{put_instance, put_named, put_no};
 use std::io::Write;
@@ -41,11 +41,20 @@ fn put_found<W: Write>(piece: &mut Piece, out: &mut Watched<W>, found: Result<Op
     ensures { Puts W.contents out.old piece.old out.new piece.new (bound_found_lines found) }
 {
     match found {
-        Ok(Some(bound)) => {
+        Ok(bound) => put_bound(piece, out, bound),
+        Err(reason) => put_no(piece, out, reason),
+    }
+}
+
+/// Adds the line of a bound, and the yes.
+fn put_bound<W: Write>(piece: &mut Piece, out: &mut Watched<W>, bound: Option<i128>)
+    ensures { Puts W.contents out.old piece.old out.new piece.new (bound_alone_lines bound) }
+{
+    match bound {
+        Some(bound) => {
             put_named(piece, out, b"bound ", bound);
             put(piece, out, b"\nyes\n");
         }
-        Ok(None) => put(piece, out, b"bound none\nyes\n"),
-        Err(reason) => put_no(piece, out, reason),
+        None => put(piece, out, b"bound none\nyes\n"),
     }
 }
