@@ -1,4 +1,4 @@
-//! Runs that answer the files which they read: checks where a length is claimed, and bounds without a
+//! Runs that return the files which they read: checks in which a length is claimed, and bounds without a
 //! solution.
 
 use crate::asserts::same;
@@ -30,7 +30,7 @@ fn claimed(
 fn bounded(
     alloc: Global,
     out: &mut Watched<Vec<u8>>,
-) -> Result<(Result<i128, Reason>, Kind, Kind), RunFault> {
+) -> Result<(Result<Option<i128>, Reason>, Kind, Kind), RunFault> {
     let mut inst = Watched::new(THREE_NODES.as_bytes());
     let mut cert = Watched::new(DUALS.as_bytes());
     let by = Certificate::Potentials;
@@ -68,7 +68,7 @@ fn another_length_is_refused(rt: HostRuntime) {
 fn tours_are_bounded(rt: HostRuntime) {
     let mut out = Watched::new(Vec::new(rt.alloc()));
     let answer = bounded(rt.alloc(), &mut out);
-    same(&rt, answer, Ok((Ok(6), Kind::Atsp, Kind::Potentials)));
+    same(&rt, answer, Ok((Ok(Some(6)), Kind::Atsp, Kind::Potentials)));
     let report: &[u8] = b"type ATSP\nnodes 3\nbound 6\nyes\n";
     same(&rt, out.into_inner().as_slice(), report);
 }
