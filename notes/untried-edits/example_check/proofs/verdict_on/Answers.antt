@@ -1,0 +1,12 @@
+use Rattle.std.proofs.Common.{sym, subst}
+use Rattle.tsp_text.specs.Text.{Spells}
+use Rattle.example_check.proofs.verdict_on.Goals as goal
+
+pub returns : goal.returns
+returns c = record {
+  instance = c.in-Ok.instance;
+  solution = c.in_ok-solution.solution;
+  first_file = subst (Spells c.args.instance.now) (sym c.in-Ok.ensures.0) c.in_ok-file.ensures.answer;
+  second_file = c.in_ok-solution.ensures.answer;
+  judged = c.in_ok-judge_tour.ensures;
+}

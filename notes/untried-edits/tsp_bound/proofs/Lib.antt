@@ -1,0 +1,10 @@
+pub mod Boxed
+pub mod HeapSteps
+pub mod Lowered
+pub mod Lowest
+pub mod Marks
+pub mod Parts
+pub mod Passed
+pub mod Renaming
+pub mod Tables
+pub mod Trees

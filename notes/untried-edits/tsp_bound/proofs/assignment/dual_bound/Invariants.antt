@@ -1,0 +1,9 @@
+use Rattle.std.proofs.Common.{◌≢◌, ℕ, ◌<◌}
+use Rattle.std.specs.Prelude.{◌≤ℤ◌}
+use Rattle.tsp_format.specs.Cells.{IsNode}
+use Rattle.tsp_bound.specs.Duals.{dual_of, scaled}
+use Rattle.tsp_bound.proofs.assignment.dual_bound.Given as goal
+
+abbrev pub invariant-rows : goal.invariant-rows
+invariant-rows g l = (a b : ℕ) → IsNode (g.C.Costs.nodes l.c) a → IsNode (g.C.Costs.nodes l.c) b → a ≢ b → a < l.i
+    → dual_of l.d a b ≤ℤ scaled l.d (g.C.Costs.at l.c) a b

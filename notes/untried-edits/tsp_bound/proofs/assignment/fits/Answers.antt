@@ -1,0 +1,13 @@
+use Rattle.std.proofs.Common.{◌-◌, ◌<◌, length, arith}
+use Rattle.std.specs.Prelude.{pos, slice_index_or}
+use Rattle.tsp_theory.proofs.Sizes.{fit_decided}
+use Rattle.tsp_bound.proofs.assignment.fits.Goals as goal
+
+pub returns : goal.returns
+returns g c =
+    let d = c.args.d.now in
+    let row_in : c.args.i - 1 < length d.rows.now = omega (arith, c.requires.row, c.requires.count) in
+    let column_in : c.args.j - 1 < length d.columns.now = omega (arith, c.requires.column, c.requires.count, d.are.as_many) in
+    rw c.requires.number
+    (fit_decided (slice_index_or d.rows.now (c.args.i - 1) (pos 0)) (slice_index_or d.columns.now (c.args.j - 1) (pos 0)) d.scale (g.C.Costs.at c.args.c.now c.args.i c.args.j) c.scaled_cost.result
+    (d.are.rows_are (c.args.i - 1) (pos 0) row_in) (d.are.columns_are (c.args.j - 1) (pos 0) column_in) d.are.scale_is c.scaled_cost.ensures.value c.scaled_cost.ensures.size)

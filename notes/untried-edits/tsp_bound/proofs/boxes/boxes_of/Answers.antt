@@ -1,0 +1,38 @@
+use Rattle.std.proofs.Common.{◌≡◌, ◌-◌, ◌+◌, ℕ, Option, Some, length, arith, subst, ◌∙◌}
+use Rattle.std.proofs.Math.ListN.{length-set}
+use Rattle.tsp_bound.specs.Potentials.{numbers_of}
+use Rattle.tsp_bound.specs.declared.area.Area.{Area}
+use Rattle.tsp_bound.specs.Boxes.{HoldsNode, AreHeldFrom}
+use Rattle.tsp_bound.proofs.Trees.{leaf_more, held_leaves, refit_more}
+use Rattle.tsp_bound.proofs.boxes.boxes_of.Goals as goal
+
+pub leaves-preserved : goal.leaves-preserved
+leaves-preserved g c =
+    let In : Option Area → ℕ → Type 0 = HoldsNode (g.C.Grouped.place c.args.c.now) (numbers_of c.args.p.now) in
+    record {
+      len = length-set c.leaves.areas.items (length c.args.order.now + c.leaves.place) (Some c.in-Some.area) ∙ c.leaves.invariant.len;
+      done = leaf_more In c.args.order.now c.leaves.areas.items c.leaves.place (Some c.in-Some.area) c.leaves.invariant.len c.leaves-test.true c.in-Some.ensures c.leaves.invariant.done;
+    }
+
+pub halves-init : goal.halves-init
+halves-init g c =
+    let In : Option Area → ℕ → Type 0 = HoldsNode (g.C.Grouped.place c.args.c.now) (numbers_of c.args.p.now) in
+    let all : c.leaves.place ≡ length c.args.order.now = omega arith in
+    record {
+      len = c.leaves.invariant.len;
+      high = omega arith;
+      held = λ outside. held_leaves In c.args.order.now outside c.leaves.areas.items (λ j h. c.leaves.invariant.done j (omega (arith, h, all)));
+    }
+
+pub halves-preserved : goal.halves-preserved
+halves-preserved g c =
+    let In : Option Area → ℕ → Type 0 = HoldsNode (g.C.Grouped.place c.args.c.now) (numbers_of c.args.p.now) in
+    let v = c.halves.v - 1 in
+    let next : c.halves.v ≡ v + 1 = omega arith in
+    record {
+      len = c.refit.ensures.len;
+      high = omega arith;
+      held = λ outside. refit_more In c.args.order.now outside c.halves.areas.items c.refit.new.areas.items v c.halves.invariant.len (omega arith) (omega arith)
+          (c.refit.ensures.refit (g.C.Grouped.place c.args.c.now) (numbers_of c.args.p.now))
+          (subst (λ (k : ℕ). AreHeldFrom In k c.args.order.now outside c.halves.areas.items) next (c.halves.invariant.held outside));
+    }

@@ -1,0 +1,20 @@
+use Rattle.std.proofs.Common.{◌≡◌, ◌≤◌, ◌<◌, ◌+◌, ◌*◌, ℕ, Bool, List, length}
+use Rattle.tsp_bound.specs.Potentials.{numbers_of}
+use Rattle.tsp_bound.specs.Boxes.{HoldsNode, AreHeldFrom, area_at, node_at}
+use Rattle.tsp_bound.proofs.boxes.boxes_of.Given as goal
+
+abbrev pub invariant-leaves : goal.invariant-leaves
+invariant-leaves g l = record {
+  len : length l.areas.items ≡ 2 * length l.order;
+  done : (j : ℕ) → j < l.place → HoldsNode (g.C.Grouped.place l.c) (numbers_of l.p) (area_at l.areas.items (length l.order + j)) (node_at l.order j);
+}
+
+abbrev pub invariant-halves : goal.invariant-halves
+invariant-halves g l = record {
+  len : length l.areas.items ≡ 2 * length l.order;
+  high : l.v ≤ length l.order;
+  held : (outside : List Bool) → AreHeldFrom (HoldsNode (g.C.Grouped.place l.c) (numbers_of l.p)) l.v l.order outside l.areas.items;
+}
+
+abbrev pub decreases-halves : goal.decreases-halves
+decreases-halves g l = l.v

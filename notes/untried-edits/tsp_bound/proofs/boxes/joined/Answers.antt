@@ -1,0 +1,23 @@
+use Rattle.std.proofs.Common.{rules, Option, Some, arith, w64, FitsSigned, subst}
+use Rattle.std.proofs.lemmas.Int.{ints, to_z-of_z}
+use Rattle.tsp_bound.specs.declared.area.Area.{Area}
+use Rattle.tsp_bound.specs.Boxes.{HoldsNode}
+use Rattle.tsp_bound.proofs.boxes.joined.Goals as goal
+
+pub returns-in-Some-second-clause-left : goal.returns-in-Some-second-clause-left
+returns-in-Some-second-clause-left c = λ place numbers node h.
+    let own : HoldsNode place numbers (Some c.in-Some.left) node = subst (λ (o : Option Area). HoldsNode place numbers o node) c.in-Some.is h in
+    let fits : FitsSigned w64 c.lesser.result = search rules in
+    let its : FitsSigned w64 c.in-Some.left.least = search rules in
+    let back = to_z-of_z w64 c.lesser.result fits in
+    let back' = to_z-of_z w64 c.in-Some.left.least its in
+    (c.joined.ensures.left (place node) own.0, omega (arith, ints, back, back', c.lesser.ensures.first, own.1))
+
+pub returns-in-Some-second-clause-right : goal.returns-in-Some-second-clause-right
+returns-in-Some-second-clause-right c = λ place numbers node h.
+    let own : HoldsNode place numbers (Some c.in-Some-second.right) node = subst (λ (o : Option Area). HoldsNode place numbers o node) c.in-Some-second.is h in
+    let fits : FitsSigned w64 c.lesser.result = search rules in
+    let its : FitsSigned w64 c.in-Some-second.right.least = search rules in
+    let back = to_z-of_z w64 c.lesser.result fits in
+    let back' = to_z-of_z w64 c.in-Some-second.right.least its in
+    (c.joined.ensures.right (place node) own.0, omega (arith, ints, back, back', c.lesser.ensures.second, own.1))

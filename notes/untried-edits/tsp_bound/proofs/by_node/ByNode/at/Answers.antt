@@ -1,0 +1,17 @@
+use Rattle.std.proofs.Common.{ℕ, ap, ◌∙◌}
+use Rattle.std.proofs.lemmas.List.Elements.{recursion_from_All}
+use Rattle.tsp_theory.specs.Numbers.{IsMultiplier}
+use Rattle.tsp_bound.proofs.Tables.{are_lowerings, lowered_said}
+use Rattle.tsp_bound.proofs.by_node.ByNode.at.Goals as goal
+
+pub returns-clause-are : goal.returns-clause-are
+returns-clause-are c =
+    let t = c.args.self.now in
+    let is = c.as_slice.ensures.value ∙ ap (λ v. v.items) c.index.ensures ∙ t.table.said c.args.node c.index.result.now c.requires.1 in
+    rw is (are_lowerings t.nodes c.args.node t.triples.now t.are.each t.on_pairs)
+
+pub returns-clause-sums : goal.returns-clause-sums
+returns-clause-sums c =
+    let t = c.args.self.now in
+    let is = c.as_slice.ensures.value ∙ ap (λ v. v.items) c.index.ensures ∙ t.table.said c.args.node c.index.result.now c.requires.1 in
+    rw is (λ (x : ℕ). lowered_said c.args.node t.triples.now x (recursion_from_All IsMultiplier t.triples.now t.are.each))

@@ -1,0 +1,18 @@
+use Rattle.std.proofs.Common.{◌≡◌, ℕ, refl, arith, to_z, of_z}
+use Rattle.std.specs.Prelude.{ℤ, pos, slice_index_or}
+use Rattle.std.specs.Int.{w64}
+use Rattle.std.proofs.lemmas.Int.{ints}
+use Rattle.tsp_theory.specs.Numbers.{IsMultiplier}
+use Rattle.tsp_bound.proofs.Tables.{table_pushed}
+use Rattle.tsp_bound.proofs.by_node.lists_of.Goals as goal
+
+pub triples-preserved : goal.triples-preserved
+triples-preserved c =
+    let index : ℕ = c.triples.triple-index in
+    let t : ℕ × ℕ × ℤ = slice_index_or c.args.triples.now index (0, 0, pos 0) in
+    let own : IsMultiplier t = c.requires.each index (0, 0, pos 0) c.triples-test.true in
+    let number : to_z w64 (of_z w64 t.2) ≡ t.2 = omega (arith, ints, own.1.0, own.1.1) in
+    table_pushed c.args.nodes c.args.triples.now index c.triples.lists.items t (to_z w64 (of_z w64 t.2)) c.index_mut.result.now
+    c.index_mut-in-triples.result.now c.push.new.self c.push-in-triples.new.self
+    c.triples-test.true refl number c.requires.each c.requires.on_pairs c.triples.invariant c.index_mut.ensures.value c.in_ok-push.ensures.items
+    c.index_mut-in-triples.ensures.value c.in_ok-push-2.ensures.items

@@ -1,0 +1,6 @@
+use Rattle.std.proofs.Common.{take}
+use Rattle.tsp_bound.specs.ByNode.{IsTable}
+use Rattle.tsp_bound.proofs.by_node.lists_of.Given as goal
+
+abbrev pub invariant-triples : goal.invariant-triples
+invariant-triples l = IsTable l.nodes (take l.triple-index l.triples) l.lists.items

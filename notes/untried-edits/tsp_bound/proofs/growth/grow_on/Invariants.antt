@@ -1,0 +1,30 @@
+use Rattle.std.proofs.Common.{◌≡◌, ◌-◌, take, length, MatchOption}
+use Rattle.tsp_theory.specs.Numbers.{IsSumSized}
+use Rattle.tsp_theory.specs.Tree.{weight_of}
+use Rattle.tsp_theory.specs.Growth.{AllInside, IsNearestOutside}
+use Rattle.tsp_bound.specs.Multipliers.{triples_in, weight_less}
+use Rattle.tsp_theory.proofs.Steps.{IsState}
+use Rattle.tsp_bound.proofs.growth.grow_on.Given as goal
+
+abbrev pub invariant-again : goal.invariant-again
+invariant-again g l =
+    let n = g.C.Costs.nodes l.c in
+    let w = weight_less l.p (triples_in l.m) (g.C.Costs.at l.c) in
+    record {
+      state : IsState n w l.inside.items l.near.items l.least.items (take l.pair-index l.pair-items);
+      nearest : MatchOption l.nearest (AllInside n l.inside.items) (λ node. IsNearestOutside n l.inside.items l.least.items node);
+    }
+
+abbrev pub invariant-grow : goal.invariant-grow
+invariant-grow g l =
+    let n = g.C.Costs.nodes l.c in
+    let w = weight_less l.p (triples_in l.m) (g.C.Costs.at l.c) in
+    record {
+      state : IsState n w l.inside.items l.near.items l.least.items l.pairs.items;
+      nearest : MatchOption l.nearest (AllInside n l.inside.items) (λ node. IsNearestOutside n l.inside.items l.least.items node);
+      sum : l.weight ≡ weight_of w l.pairs.items;
+      size : IsSumSized (length l.pairs.items) l.weight;
+    }
+
+abbrev pub decreases-grow : goal.decreases-grow
+decreases-grow g l = g.C.Costs.nodes l.c - length l.pairs.items

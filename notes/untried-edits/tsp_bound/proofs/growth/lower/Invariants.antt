@@ -1,0 +1,6 @@
+use Rattle.tsp_bound.specs.Potentials.{weight_under}
+use Rattle.tsp_bound.proofs.Lowered.{AreLoweredBy}
+use Rattle.tsp_bound.proofs.growth.lower.Given as goal
+
+abbrev pub invariant-lowerings : goal.invariant-lowerings
+invariant-lowerings g l = AreLoweredBy l.lowering-index (g.C.Costs.nodes l.c) (weight_under l.p (g.C.Costs.at l.c)) l.lowerings l.inside l.next l.fn.near l.fn.least l.near l.least

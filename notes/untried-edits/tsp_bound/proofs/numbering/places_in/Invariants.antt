@@ -1,0 +1,19 @@
+use Rattle.std.proofs.Common.{◌≡◌, ◌≤◌, ◌<◌, ◌+◌, ℕ, length, slice_index_or}
+use Rattle.tsp_theory.specs.Tree.{IsInner}
+use Rattle.tsp_bound.proofs.numbering.places_in.Given as goal
+
+abbrev pub invariant-write : goal.invariant-write
+invariant-write l = record {
+  len : length l.places.items ≡ l.last + 1;
+  nodes : (j : ℕ) → j < l.i → IsInner l.last (slice_index_or l.order j 0);
+}
+
+abbrev pub invariant-back : goal.invariant-back
+invariant-back l = (j : ℕ) → j < l.i → slice_index_or l.places.items (slice_index_or l.order j 0) 0 ≡ j
+
+abbrev pub invariant-there : goal.invariant-there
+invariant-there l = record {
+  from : 2 ≤ l.node;
+  places : (x : ℕ) → 2 ≤ x → x < l.node → slice_index_or l.places.items x 0 < length l.order;
+  there : (x : ℕ) → 2 ≤ x → x < l.node → slice_index_or l.order (slice_index_or l.places.items x 0) 0 ≡ x;
+}

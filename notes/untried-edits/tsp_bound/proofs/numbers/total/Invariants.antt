@@ -1,0 +1,11 @@
+use Rattle.std.proofs.Common.{◌≡◌, ◌*◌, drop}
+use Rattle.std.specs.Prelude.{pos, neg_ℤ, ◌+ℤ◌}
+use Rattle.tsp_format.specs.Limits.{most_potential}
+use Rattle.tsp_theory.specs.Numbers.{IsFromTo, total}
+use Rattle.tsp_bound.proofs.numbers.total.Given as goal
+
+abbrev pub invariant-numbers : goal.invariant-numbers
+invariant-numbers l = record {
+  size : IsFromTo (neg_ℤ (pos (l.number-index * most_potential))) (pos (l.number-index * most_potential)) l.sum;
+  so_far : (l.sum +ℤ total (drop l.number-index l.numbers)) ≡ total l.numbers;
+}

@@ -1,0 +1,38 @@
+use Rattle.std.proofs.Common.{◌≡◌, ◌∙◌, [], ap, ap₂, sym, rules, FitsSigned}
+use Rattle.std.specs.Prelude.{◌+ℤ◌}
+use Rattle.std.specs.Int.{w64}
+use Rattle.tsp_theory.specs.Tree.{weight_of}
+use Rattle.tsp_theory.specs.Growth.{tree_of}
+use Rattle.tsp_bound.specs.Potentials.{weight_under}
+use Rattle.tsp_bound.specs.Multipliers.{triples_in, weight_less}
+use Rattle.tsp_theory.proofs.Adjustments.{adjusted_even}
+use Rattle.tsp_theory.proofs.OneTrees.{least_from_growth}
+use Rattle.tsp_theory.proofs.Weights.{weight_even, tree_fits, tree_size, tree_computed, weight_of_tree}
+use Rattle.tsp_bound.proofs.tree.least_edges.Goals as goal
+
+pub overflow_add-result : goal.overflow_add-result
+overflow_add-result g c =
+    let first : FitsSigned w64 c.in_ok-first.first.weight = search rules in
+    let second : FitsSigned w64 c.in_ok-first.second.weight = search rules in
+    tree_fits c.in_ok-first.first.weight c.in_ok-first.second.weight c.in_ok-grown.grown.weight c.from.result c.from-2.result first second c.from.ensures c.from-2.ensures c.in_ok-grown.ensures.size
+
+pub returns : goal.returns
+returns g c =
+    let n = g.C.Costs.nodes c.args.c.now in
+    let w = weight_less c.args.p.now (triples_in c.args.m.now) (g.C.Costs.at c.args.c.now) in
+    let even = adjusted_even (triples_in c.args.m.now) [] (weight_under c.args.p.now (g.C.Costs.at c.args.c.now))
+    (weight_even c.args.p.now.scale c.args.p.now.numbers.now (g.C.Costs.at c.args.c.now) (g.met.C.Symmetric.even c.args.c.now)) in
+    let two = c.in_ok-first in
+    let grown = c.in_ok-grown.grown in
+    let first : FitsSigned w64 c.in_ok-first.first.weight = search rules in
+    let second : FitsSigned w64 c.in_ok-first.second.weight = search rules in
+    let computed = tree_computed two.first.weight two.second.weight grown.weight c.from.result c.from-2.result first second c.from.ensures c.from-2.ensures c.in_ok-grown.ensures.size in
+    let edges : c.in_ok-edges.edges.items ≡ tree_of two.first.node two.second.node grown.pairs.items = c.in_ok-edges.ensures ∙ ap (tree_of two.first.node two.second.node) c.deref.ensures.value in
+    let sums : (two.first.weight +ℤ two.second.weight) +ℤ grown.weight ≡ (w 1 two.first.node +ℤ w 1 two.second.node) +ℤ weight_of w grown.pairs.items =
+    ap₂ (λ a b. a +ℤ b) (ap₂ (λ a b. a +ℤ b) two.ensures.first two.ensures.second) c.in_ok-grown.ensures.weight in
+    record {
+      least = least_from_growth n w two.first.node two.second.node grown.pairs.items c.deref.result.now c.in_ok-edges.edges.items c.requires.some even
+          two.ensures.nearest c.in_ok-grown.ensures.whole c.deref.ensures.value c.in_ok-edges.ensures;
+      weight = computed ∙ sums ∙ sym (weight_of_tree w even two.first.node two.second.node grown.pairs.items) ∙ ap (weight_of w) (sym edges);
+      size = rw computed (tree_size two.first.weight two.second.weight grown.weight first second c.in_ok-grown.ensures.size);
+    }

@@ -1,0 +1,94 @@
+-- A tree of boxes over nodes in an order, its leaves one node each, and what a search of it finds.
+use Rattle.std.specs.Prelude.{◌≡◌, ℕ, zero, suc, ◌+◌, ◌*◌, ◌/◌, ◌<◌, ◌≤◌, Bool, true, false, List, Option, None, Some, length, slice_index_or, slice_set, ℤ, pos, neg_ℤ, ◌≤ℤ◌, ◌<ℤ◌, ◌⊎◌}
+use denote.Struct.Props as logic
+use mathlib.Core.HLevel.{Π_prop, ⊥_prop}
+use Rattle.tsp_distance.specs.declared.decimal.Point.{Point}
+use Rattle.tsp_theory.specs.Regions.{IsIn}
+use Rattle.tsp_theory.specs.Numbers.{entry}
+use Rattle.tsp_bound.specs.declared.area.Area.{Area}
+use Rattle.tsp_bound.specs.declared.boxes.Best.{Best}
+
+-- the node's place lies in the box, and its potential is no less than the box's least
+abbrev pub HoldsNode : (ℕ → Point) → List ℤ → Option Area → ℕ → Type 0
+HoldsNode place numbers None node = ⊥
+HoldsNode place numbers (Some area) node = IsIn area.region (place node) × (area.least ≤ℤ entry numbers node)
+
+-- the box h levels above the box v: 2 * v and 2 * v + 1 are the halves of v
+abbrev pub up : ℕ → ℕ → ℕ
+up zero v = v
+up (suc h) v = up h v / 2
+
+-- the node at a place of the order
+abbrev pub node_at : List ℕ → ℕ → ℕ
+node_at order j = slice_index_or order j 0
+
+abbrev pub is_outside : List Bool → ℕ → Bool
+is_outside outside j = slice_index_or outside j false
+
+abbrev pub area_at : List (Option Area) → ℕ → Option Area
+area_at areas v = slice_index_or areas v None
+
+-- each node outside is in each box from `low` on that is above its leaf, which is the box length order + j
+abbrev pub AreHeldFrom : (Option Area → ℕ → Type 0) → ℕ → List ℕ → List Bool → List (Option Area) → Type 0
+AreHeldFrom In low order outside areas = (j h : ℕ) → j < length order → is_outside outside j ≡ true
+    → low ≤ up h (length order + j)
+    → In (area_at areas (up h (length order + j))) (node_at order j)
+
+-- in each box but 0, which is none
+abbrev pub AreHeld : (Option Area → ℕ → Type 0) → List ℕ → List Bool → List (Option Area) → Type 0
+AreHeld In order outside areas = AreHeldFrom In 1 order outside areas
+
+-- the box v is put in anew, and holds what its halves hold
+pub record IsRefit (In : Option Area → ℕ → Type 0) (old new : List (Option Area)) (v : ℕ) : Type 0 where
+  pub area : Option Area
+  pub is : new ≡ slice_set old v area
+  pub left : (p : ℕ) → In (area_at old (2 * v)) p → In area p
+  pub right : (p : ℕ) → In (area_at old (2 * v + 1)) p → In area p
+
+-- where the old boxes hold the nodes outside, so do the new ones
+abbrev pub KeepsHeld : (Option Area → ℕ → Type 0) → ℕ → List (Option Area) → List (Option Area) → Type 0
+KeepsHeld In n old new = (order : List ℕ) (outside : List Bool) → length order ≡ n → AreHeld In order outside old
+    → AreHeld In order outside new
+
+-- the least number of 64 bits says nothing
+abbrev pub IsKnown : ℤ → Type 0
+IsKnown bound = neg_ℤ (pos 9223372036854775808) <ℤ bound
+
+-- no more than the weight of each node that is in
+abbrev pub IsBoundOf : (ℕ → Type 0) → (ℕ → Type 0) → (ℕ → ℤ) → ℤ → Type 0
+IsBoundOf IsOne In weight bound = IsKnown bound → (node : ℕ) → IsOne node → In node → bound ≤ℤ weight node
+
+-- a place whose node is outside, and the weight to it
+pub record IsFound (w : ℕ → ℕ → ℤ) (order : List ℕ) (outside : List Bool) (from : ℕ) (best : Best) : Type 0 where
+  pub node_in : best.place < length order
+  pub out : is_outside outside best.place ≡ true
+  pub weight_is : best.weight ≡ w from (node_at order best.place)
+
+-- before the search
+abbrev pub no_best : Best
+no_best = record { weight = pos 9223372036854775807; place = 0 }
+
+-- no node outside is better, and it is one, where there is one
+pub record IsBest (w : ℕ → ℕ → ℤ) (order : List ℕ) (outside : List Bool) (from : ℕ) (best : Best) : Type 0 where
+  pub least : (j : ℕ) → j < length order → is_outside outside j ≡ true → best.weight ≤ℤ w from (node_at order j)
+  pub found : (best ≡ no_best) ⊎ IsFound w order outside from best
+
+-- the search of the box v: the new best is no worse than the old one and than each node outside below v
+pub record IsSearched (w : ℕ → ℕ → ℤ) (order : List ℕ) (outside : List Bool) (from : ℕ) (v : ℕ) (old new : Best) : Type 0 where
+  pub kept : new.weight ≤ℤ old.weight
+  pub below : (j h : ℕ) → j < length order → is_outside outside j ≡ true → up h (length order + j) ≡ v
+      → new.weight ≤ℤ w from (node_at order j)
+  pub found : (new ≡ old) ⊎ IsFound w order outside from new
+
+-- ---- each has one proof at most
+
+pub HoldsNode-prop : (place : ℕ → Point) (numbers : List ℤ) (area : Option Area) (node : ℕ)
+    → IsProp (HoldsNode place numbers area node)
+HoldsNode-prop place numbers None node = ⊥_prop
+HoldsNode-prop place numbers (Some area) node = Prim.hlevel logic.props
+
+pub AreHeld-prop : (place : ℕ → Point) (numbers : List ℤ) (order : List ℕ) (outside : List Bool) (areas : List (Option Area))
+    → IsProp (AreHeld (HoldsNode place numbers) order outside areas)
+AreHeld-prop place numbers order outside areas =
+    Π_prop λ j. Π_prop λ h. Π_prop λ _. Π_prop λ _. Π_prop λ _.
+    HoldsNode-prop place numbers (area_at areas (up h (length order + j))) (node_at order j)

@@ -1,0 +1,34 @@
+-- Numbers on pairs of nodes, by node.
+use Rattle.std.specs.Prelude.{◌≡◌, ◌≢◌, ℕ, ◌+◌, ◌≤◌, ◌==◌, if◌then◌else◌, List, [], ◌∷◌, ◌++◌, length, slice_index_or, ℤ, pos}
+use Rattle.std.specs.Global.{Vec}
+use Rattle.std.specs.List.{All, AllPairs}
+use Rattle.tsp_format.specs.Cells.{IsNode}
+use Rattle.tsp_theory.specs.Length.{sum_int_by}
+use Rattle.tsp_format.specs.Limits.{most_multiplier}
+use Rattle.tsp_theory.specs.Numbers.{IsFromTo}
+
+-- what a triple says of a node of its pair: the other node, and the number
+abbrev pub said_of : ℕ → ℕ × ℕ × ℤ → List (ℕ × ℤ)
+said_of node triple =
+    if triple.0 == node then (triple.1, triple.2) ∷ [] else (if triple.1 == node then (triple.0, triple.2) ∷ [] else [])
+
+-- what several say of it, in their order
+abbrev pub all_said_of : ℕ → List (ℕ × ℕ × ℤ) → List (ℕ × ℤ)
+all_said_of node [] = []
+all_said_of node (triple ∷ triples) = said_of node triple ++ all_said_of node triples
+
+-- a list for each node from 0 to n
+pub record IsTable (n : ℕ) (triples : List (ℕ × ℕ × ℤ)) (lists : List (Vec (ℕ × ℤ))) : Type 0 where
+  pub count : length lists ≡ n + 1
+  pub said : (node : ℕ) (d : Vec (ℕ × ℤ)) → node ≤ n → (slice_index_or lists node d).items ≡ all_said_of node triples
+
+-- ---- the numbers on the pairs of one node
+
+-- what the weight between that node and another one is lowered by
+abbrev pub lowered_by : List (ℕ × ℤ) → ℕ → ℤ
+lowered_by lowerings node = sum_int_by (λ lowering. if lowering.0 == node then lowering.1 else pos 0) lowerings
+
+-- nodes of 1..n, none twice, with numbers of multipliers
+pub record AreLowerings (n : ℕ) (lowerings : List (ℕ × ℤ)) : Type 0 where
+  pub each : All (λ lowering. IsNode n lowering.0 × IsFromTo (pos 0) (pos most_multiplier) lowering.1) lowerings
+  pub once : AllPairs (λ a b. a.0 ≢ b.0) lowerings

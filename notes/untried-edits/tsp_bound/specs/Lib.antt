@@ -1,0 +1,7 @@
+pub mod Boxes
+pub mod ByNode
+pub mod Duals
+pub mod Heap
+pub mod Multipliers
+pub mod Numbering
+pub mod Potentials

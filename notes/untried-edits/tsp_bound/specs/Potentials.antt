@@ -1,0 +1,14 @@
+-- What potentials hold.
+use Rattle.std.specs.Prelude.{ℕ, List, ℤ}
+use Rattle.tsp_bound.specs.declared.potentials.Potentials.{Potentials}
+use Rattle.tsp_theory.specs.NodeBound.{weight_between}
+
+abbrev pub scale_of : Potentials → ℤ
+scale_of p = p.scale
+
+abbrev pub numbers_of : Potentials → List ℤ
+numbers_of p = p.numbers.now
+
+-- the weight between two nodes
+abbrev pub weight_under : Potentials → (ℕ → ℕ → ℤ) → ℕ → ℕ → ℤ
+weight_under p cost = weight_between (scale_of p) (numbers_of p) cost

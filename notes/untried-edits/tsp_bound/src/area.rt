@@ -1,0 +1,15 @@
+//! Regions with nodes in them, and the least potential there.
+
+ghost use Rattle.std.specs.Prelude.{pos, neg_ℤ};
+ghost use Rattle.tsp_format.specs.Limits.{most_potential};
+ghost use Rattle.tsp_theory.specs.Numbers.{IsFromTo};
+
+use tsp_theory::Region;
+
+/// A region, and a number that is at most the potential of each node in it.
+#[derive(Clone, Copy)]
+pub(crate) struct Area {
+    pub(crate) region: Region,
+    pub(crate) least: i64,
+    ghost size: { IsFromTo (neg_ℤ (pos most_potential)) (pos most_potential) least },
+}

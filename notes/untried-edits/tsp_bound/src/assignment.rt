@@ -1,0 +1,89 @@
+//! The bound of duals on the length of every cycle.
+
+ghost use Rattle.std.specs.Prelude.{◌≡◌, ◌≢◌, ◌↔◌, ℕ, List, ◌≤◌, ◌<◌, length, IsTrue, IfOk, MatchOption, MatchResult, ◌≤ℤ◌, ◌<ℤ◌};
+ghost use Rattle.tsp_format.specs.Cells.{IsNode};
+ghost use Rattle.tsp_theory.specs.Cycle.{IsCycle};
+ghost use Rattle.tsp_theory.specs.Length.{length_of};
+ghost use Rattle.tsp_theory.specs.Numbers.{IsBoundSized, entry};
+ghost use Rattle.tsp_theory.specs.Assignment.{AreGood, IsFirstBroken, IsDualBound};
+ghost use Rattle.tsp_bound.specs.Duals.{scale_of, rows_of, columns_of, dual_of, scaled};
+
+use crate::duals::Duals;
+use crate::numbers::{least_bound, total};
+use crate::scaled::scaled_cost;
+use tsp_theory::{Costs, duals_bound_cycles};
+
+/// The first pair of different nodes, by rows, whose duals sum to more than the scaled cost.
+#[derive(Clone, Copy, Debug, PartialEq, Eq)]
+pub struct Infeasible {
+    pub i: u32,
+    pub j: u32,
+}
+
+/// The least whole number that at the duals' scale is no less than the sum of them all, where row
+/// i and column j sum to at most the cost from i to j for all different nodes.
+///
+/// With two or more nodes no cycle is shorter than it. The costs from a node to itself aren't
+/// looked at. The caller owes as many duals as nodes. No memory is taken. Source: the dual of the
+/// assignment problem, H. W. Kuhn, The Hungarian method for the assignment problem, 1955.
+///
+/// # Errors
+///
+/// The first pair i, j, by rows, whose duals sum to more than the cost.
+pub fn dual_bound<C: Costs>(c: &C, d: &Duals) -> Result<i128, Infeasible>
+    requires { length (rows_of d.now) ≡ C.nodes c.now }
+    ensures value { MatchResult result
+        (λ bound.
+        AreGood (C.nodes c.now) (C.at c.now) (scale_of d.now) (rows_of d.now) (columns_of d.now)
+        × IsDualBound (scale_of d.now) (rows_of d.now) (columns_of d.now) bound)
+        (λ e. IsFirstBroken (C.nodes c.now) (C.at c.now)
+        (scale_of d.now) (rows_of d.now) (columns_of d.now) e.i e.j) }
+    ensures size { IfOk result IsBoundSized }
+    ensures cycles { IfOk result (λ bound. 2 ≤ C.nodes c.now
+        → (nodes : List ℕ) → IsCycle (C.nodes c.now) nodes → bound ≤ℤ length_of (C.at c.now) nodes) }
+{
+    'rows: for i in 1..c.count() + 1 {
+        if let Some(j) = first_broken_of_row(c, d, i) {
+            return Err(Infeasible { i, j });
+        }
+    }
+    duals_bound_cycles();
+    let rows = total(d.rows);
+    let columns = total(d.columns);
+    Ok(least_bound(d.scale, rows + columns))
+}
+
+/// The first node other than i whose column sums with row i to more than the cost.
+fn first_broken_of_row<C: Costs>(c: &C, d: &Duals, i: u32) -> Option<u32>
+    requires count { length (rows_of d.now) ≡ C.nodes c.now }
+    requires row { IsNode (C.nodes c.now) i }
+    ensures { MatchOption result
+        ((j : ℕ) → IsNode (C.nodes c.now) j → i ≢ j
+        → dual_of d.now i j ≤ℤ scaled d.now (C.at c.now) i j)
+        (λ j. IsNode (C.nodes c.now) j × (i ≢ j)
+        × (scaled d.now (C.at c.now) i j <ℤ dual_of d.now i j)
+        × ((b : ℕ) → 1 ≤ b → b < j → i ≢ b
+        → dual_of d.now i b ≤ℤ scaled d.now (C.at c.now) i b)) }
+{
+    let row = d.rows[i as usize - 1];
+    'columns: for j in 1..c.count() + 1 {
+        if i != j && !fits(c, d, row, i, j) {
+            return Some(j);
+        }
+    }
+    None
+}
+
+/// Whether the number of row i, which the caller hands in, and column j sum to at most the cost.
+///
+/// The limits of certificates and of weights let both sides fit 64 bits.
+#[inline]
+fn fits<C: Costs>(c: &C, d: &Duals, row: i64, i: u32, j: u32) -> bool
+    requires count { length (rows_of d.now) ≡ C.nodes c.now }
+    requires number { row ≡ entry (rows_of d.now) i }
+    requires row { IsNode (C.nodes c.now) i }
+    requires column { IsNode (C.nodes c.now) j }
+    ensures { IsTrue result ↔ (dual_of d.now i j ≤ℤ scaled d.now (C.at c.now) i j) }
+{
+    row + d.columns[j as usize - 1] <= scaled_cost(c, d.scale, i, j)
+}

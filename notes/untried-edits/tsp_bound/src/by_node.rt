@@ -1,0 +1,109 @@
+//! The multipliers of the pairs of each node.
+
+ghost use Rattle.std.specs.Prelude.{◌≡◌, ◌≢◌, ◌-◌, ◌<◌, ◌^◌, [], pos, IfOk};
+ghost use Rattle.std.specs.List.{All, AllPairs};
+ghost use Rattle.tsp_format.specs.Limits.{most_multiplier};
+ghost use Rattle.tsp_theory.specs.Numbers.{IsFromTo, IsMultiplier, AreMultipliers};
+ghost use Rattle.tsp_theory.specs.Adjusted.{AreOnPairs};
+ghost use Rattle.tsp_bound.specs.ByNode.{IsTable, lowered_by};
+
+use crate::multipliers::Multipliers;
+use std::alloc::{AllocError, Global};
+
+/// Multipliers, and for each node those of its pairs.
+#[derive(Drop)]
+pub(crate) struct ByNode<'a> {
+    nodes: u32,
+    triples: &'a [(u32, u32, i64)],
+    lists: Vec<Vec<(u32, i64)>>,
+    ghost are: { AreMultipliers triples.now },
+    ghost on_pairs: { AreOnPairs nodes triples.now },
+    ghost table: { IsTable nodes triples.now lists.items },
+}
+
+impl<'a> ByNode<'a> {
+    ghost use Rattle.std.specs.Prelude.{ℕ};
+    ghost use Rattle.tsp_format.specs.Cells.{IsNode};
+    ghost use Rattle.tsp_theory.specs.Adjusted.{numbers_on};
+    ghost use Rattle.tsp_bound.specs.ByNode.{AreLowerings};
+    ghost use Rattle.tsp_bound.specs.Multipliers.{triples_of, triples_in, nodes_in};
+
+    /// The multipliers of different pairs of the nodes 1 to `nodes`, by node.
+    ///
+    /// # Errors
+    ///
+    /// Out of memory, of which it takes some for each node and each pair.
+    pub(crate) fn of(
+        alloc: Global,
+        nodes: u32,
+        m: &Multipliers<'a>,
+    ) -> Result<ByNode<'a>, AllocError>
+        requires few { nodes < 2 ^ 32 - 1 }
+        requires on_pairs { AreOnPairs nodes (triples_of m.now) }
+        ensures nodes { IfOk result (λ made. nodes_in made ≡ nodes) }
+        ensures triples { IfOk result (λ made. triples_in made ≡ triples_of m.now) }
+    {
+        let lists = lists_of(alloc, nodes, m.triples)?;
+        Ok(ByNode {
+            nodes,
+            triples: m.triples,
+            lists,
+        })
+    }
+
+    /// The multipliers of a node's pairs, each with the pair's other node.
+    pub(crate) fn at(&self, node: u32) -> &[(u32, i64)]
+        requires { IsNode (nodes_in self.now) node }
+        ensures are { AreLowerings (nodes_in self.now) result.now }
+        ensures sums { (x : ℕ) → lowered_by result.now x ≡ numbers_on (triples_in self.now) node x }
+    {
+        self.lists[node as usize].as_slice()
+    }
+}
+
+/// What a list lowers the weight to a node by.
+pub(crate) fn lowered_by(lowerings: &[(u32, i64)], node: u32) -> i64
+    requires once { AllPairs (λ a b. a.0 ≢ b.0) lowerings.now }
+    requires each { All (λ lowering. IsFromTo (pos 0) (pos most_multiplier) lowering.1) lowerings.now }
+    ensures value { result ≡ lowered_by lowerings.now node }
+    ensures size { IsFromTo (pos 0) (pos most_multiplier) result }
+{
+    'lowerings: for lowering in lowerings {
+        if lowering.0 == node {
+            return lowering.1;
+        }
+    }
+    0
+}
+
+/// For each node from 0 to `nodes` the other node and the number of each triple that has it.
+fn lists_of(
+    alloc: Global,
+    nodes: u32,
+    triples: &[(u32, u32, i64)],
+) -> Result<Vec<Vec<(u32, i64)>>, AllocError>
+    requires few { nodes < 2 ^ 32 - 1 }
+    requires each { All IsMultiplier triples.now }
+    requires on_pairs { AreOnPairs nodes triples.now }
+    ensures { IfOk result (λ lists. IsTable nodes triples.now lists.items) }
+{
+    let mut lists = empty_lists(alloc, nodes)?;
+    'triples: for triple in triples {
+        let (a, b, number) = *triple;
+        lists[a as usize].push((b, number))?;
+        lists[b as usize].push((a, number))?;
+    }
+    Ok(lists)
+}
+
+/// An empty list for each node from 0 to `nodes`.
+fn empty_lists(alloc: Global, nodes: u32) -> Result<Vec<Vec<(u32, i64)>>, AllocError>
+    requires { nodes < 2 ^ 32 - 1 }
+    ensures { IfOk result (λ lists. IsTable nodes [] lists.items) }
+{
+    let mut lists = Vec::with_capacity(alloc, nodes as usize + 1)?;
+    'lists: for _ in 0..nodes + 1 {
+        lists.push(Vec::new(alloc))?;
+    }
+    Ok(lists)
+}

@@ -1,0 +1,186 @@
+//! The growth of a tree over the nodes 2..n.
+
+ghost use Rattle.std.specs.Prelude.{◌≡◌, ◌≤◌, ◌+◌, ◌*◌, ◌^◌, ℕ, length, false, IfOk, MatchOption, ◌<ℤ◌, pos, neg_ℤ};
+ghost use Rattle.tsp_format.specs.Cells.{IsNode};
+ghost use Rattle.tsp_format.specs.Limits.{most_nodes};
+ghost use Rattle.tsp_theory.specs.Numbers.{IsFromTo};
+ghost use Rattle.tsp_theory.specs.Tree.{IsInner, weight_of};
+ghost use Rattle.tsp_bound.specs.ByNode.{AreLowerings};
+ghost use Rattle.tsp_theory.specs.Growth.{is_inside, IsWholeGrowth, AllInside, IsNearestOutside, IsNearer, AreNearer, AreLowered, IsPartGrowth};
+ghost use Rattle.tsp_bound.specs.Potentials.{numbers_of, weight_under};
+ghost use Rattle.tsp_bound.specs.Multipliers.{triples_in, nodes_in, weight_less};
+
+use crate::by_node::ByNode;
+use crate::potentials::Potentials;
+use std::alloc::{AllocError, Global};
+use tsp_theory::Costs;
+
+/// The pairs of a growth, and the sum of their weights.
+#[derive(Drop)]
+pub(crate) struct Grown {
+    pub(crate) pairs: Vec<(u32, u32)>,
+    pub(crate) weight: i128,
+}
+
+/// Goes on with a growth from node 2, over all the nodes that it hasn't reached.
+///
+/// Of each node outside it keeps the nearest node inside and the weight between the two, first
+/// over the part that is there, so that each cost is asked for once, and once more for each
+/// multiplier.
+///
+/// # Errors
+///
+/// Out of memory.
+pub(crate) fn grow_on<C: Costs>(
+    alloc: Global,
+    c: &C,
+    p: &Potentials,
+    m: &ByNode,
+    grown: Grown,
+) -> Result<Grown, AllocError>
+    requires some { 3 ≤ C.nodes c.now }
+    requires count { length (numbers_of p.now) ≡ C.nodes c.now }
+    requires over { nodes_in m.now ≡ C.nodes c.now }
+    requires part { IsPartGrowth (C.nodes c.now) (weight_less p.now (triples_in m.now) (C.at c.now))
+        grown.pairs.items grown.weight }
+    ensures whole { IfOk result (λ grown. IsWholeGrowth (C.nodes c.now)
+        (weight_less p.now (triples_in m.now) (C.at c.now)) grown.pairs.items) }
+    ensures weight { IfOk result (λ grown. grown.weight
+        ≡ weight_of (weight_less p.now (triples_in m.now) (C.at c.now)) grown.pairs.items) }
+    ensures size { IfOk result (λ grown. IsFromTo (neg_ℤ (pos (most_nodes * 2 ^ 63)))
+        (pos (most_nodes * 2 ^ 63)) grown.weight) }
+{
+    let size = c.count() as usize + 1;
+    let mut inside = vec![in alloc; false; size]?;
+    let mut near: Vec<u32> = vec![in alloc; 2; size]?;
+    // Every weight is below the one that stands for none.
+    let mut least = vec![in alloc; i64::MAX; size]?;
+    inside[2] = true;
+    let mut nearest = reach(c, p, m, &inside, &mut near, &mut least, 2);
+    'again: for pair in &grown.pairs {
+        inside[pair.1 as usize] = true;
+        nearest = reach(c, p, m, &inside, &mut near, &mut least, pair.1);
+    }
+    let Grown {
+        mut pairs,
+        mut weight,
+    } = grown;
+    'grow: while let Some(next) = nearest {
+        inside[next as usize] = true;
+        pairs.push((near[next as usize], next))?;
+        weight += i128::from(least[next as usize]);
+        nearest = reach(c, p, m, &inside, &mut near, &mut least, next);
+    }
+    Ok(Grown { pairs, weight })
+}
+
+/// Brings what is kept of the nodes outside up to date once `next` is inside, and finds the
+/// nearest of them.
+///
+/// The pairs of `next` with multipliers go first, at their lower weights, so that the others need
+/// no look at multipliers: a weight that isn't lowered replaces none that is.
+pub(crate) fn reach<C: Costs>(
+    c: &C,
+    p: &Potentials,
+    m: &ByNode,
+    inside: &[bool],
+    near: &mut [u32],
+    least: &mut [i64],
+    next: u32,
+) -> Option<u32>
+    requires count { length (numbers_of p.now) ≡ C.nodes c.now }
+    requires over { nodes_in m.now ≡ C.nodes c.now }
+    requires inside_len { length inside.now ≡ C.nodes c.now + 1 }
+    requires near_len { length near.old ≡ C.nodes c.now + 1 }
+    requires least_len { length least.old ≡ C.nodes c.now + 1 }
+    requires next_in { IsNode (C.nodes c.now) next }
+    ensures nearer { AreNearer (C.nodes c.now) (weight_less p.now (triples_in m.now) (C.at c.now))
+        inside.now next near.old least.old near.new least.new }
+    ensures small { (x : ℕ) → IsInner (C.nodes c.now) x → is_inside inside.now x ≡ false
+        → weight_less p.now (triples_in m.now) (C.at c.now) next x <ℤ i64.MAX }
+    ensures nearest { MatchOption result (AllInside (C.nodes c.now) inside.now)
+        (λ node. IsNearestOutside (C.nodes c.now) inside.now least.new node) }
+{
+    lower(c, p, m.at(next), inside, near, least, next);
+    bring(c, p, inside, near, least, next)
+}
+
+/// Takes `next` for the nearest node of those to which its weight is lowered, where it is nearer.
+fn lower<C: Costs>(
+    c: &C,
+    p: &Potentials,
+    lowerings: &[(u32, i64)],
+    inside: &[bool],
+    near: &mut [u32],
+    least: &mut [i64],
+    next: u32,
+)
+    requires count { length (numbers_of p.now) ≡ C.nodes c.now }
+    requires lowerings { AreLowerings (C.nodes c.now) lowerings.now }
+    requires inside_len { length inside.now ≡ C.nodes c.now + 1 }
+    requires near_len { length near.old ≡ C.nodes c.now + 1 }
+    requires least_len { length least.old ≡ C.nodes c.now + 1 }
+    requires next_in { IsNode (C.nodes c.now) next }
+    ensures { AreLowered (C.nodes c.now) (weight_under p.now (C.at c.now)) lowerings.now inside.now
+        next near.old least.old near.new least.new }
+{
+    'lowerings: for lowering in lowerings {
+        let (node, number) = *lowering;
+        let place = node as usize;
+        if !inside[place] {
+            let weight = p.weight(c, next, node) - number;
+            take_nearer(&mut near[place], &mut least[place], next, weight);
+        }
+    }
+}
+
+/// The same over the weights that aren't lowered, and finds the nearest node outside.
+fn bring<C: Costs>(
+    c: &C,
+    p: &Potentials,
+    inside: &[bool],
+    near: &mut [u32],
+    least: &mut [i64],
+    next: u32,
+) -> Option<u32>
+    requires count { length (numbers_of p.now) ≡ C.nodes c.now }
+    requires inside_len { length inside.now ≡ C.nodes c.now + 1 }
+    requires near_len { length near.old ≡ C.nodes c.now + 1 }
+    requires least_len { length least.old ≡ C.nodes c.now + 1 }
+    requires next_in { IsNode (C.nodes c.now) next }
+    ensures nearer { AreNearer (C.nodes c.now) (weight_under p.now (C.at c.now)) inside.now next
+        near.old least.old near.new least.new }
+    ensures small { (x : ℕ) → IsInner (C.nodes c.now) x → is_inside inside.now x ≡ false
+        → weight_under p.now (C.at c.now) next x <ℤ i64.MAX }
+    ensures nearest { MatchOption result (AllInside (C.nodes c.now) inside.now)
+        (λ node. IsNearestOutside (C.nodes c.now) inside.now least.new node) }
+{
+    let mut nearest: Option<u32> = None;
+    let mut best = i64::MAX;
+    let own = p.number(next);
+    'nodes: for node in 2..c.count() + 1 {
+        let place = node as usize;
+        if !inside[place] {
+            let weight = p.weight_from(c, own, next, node);
+            let kept = take_nearer(&mut near[place], &mut least[place], next, weight);
+            if kept < best {
+                best = kept;
+                nearest = Some(node);
+            }
+        }
+    }
+    nearest
+}
+
+/// Takes `next` for the nearest node where it is nearer, and answers the least weight.
+#[inline]
+fn take_nearer(near: &mut u32, least: &mut i64, next: u32, weight: i64) -> i64
+    ensures nearer { IsNearer weight next near.old least.old near.new least.new }
+    ensures value { result ≡ least.new }
+{
+    if weight < *least {
+        *least = weight;
+        *near = next;
+    }
+    *least
+}

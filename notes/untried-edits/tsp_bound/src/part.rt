@@ -1,0 +1,163 @@
+//! The growth of a tree over the nodes 2..n: a part by boxes and a heap, and the rest densely.
+
+ghost use Rattle.std.specs.Prelude.{◌≡◌, ◌≤◌, ◌<◌, ◌*◌, ◌^◌, ℕ, ℤ, length, map, pos, neg_ℤ, IfOk};
+ghost use Rattle.std.specs.List.{All};
+ghost use Rattle.tsp_format.specs.Cells.{IsNode};
+ghost use Rattle.tsp_format.specs.Limits.{most_nodes};
+ghost use Rattle.tsp_bound.specs.Boxes.{node_at};
+ghost use Rattle.tsp_theory.specs.Growth.{IsWholeGrowth, IsPartGrowth};
+ghost use Rattle.tsp_bound.specs.Multipliers.{triples_in, nodes_in, weight_less};
+ghost use Rattle.tsp_bound.specs.Numbering.{both};
+ghost use Rattle.tsp_theory.specs.Numbers.{IsFromTo, IsSumSized};
+ghost use Rattle.tsp_bound.specs.Potentials.{numbers_of};
+ghost use Rattle.tsp_theory.specs.Tree.{weight_of};
+
+use crate::by_node::{ByNode, lowered_by};
+use crate::growth::{Grown, grow_on};
+use crate::heap::grow_by_heap;
+use crate::nodes::Nodes;
+use crate::numbering::places_in;
+use crate::potentials::Potentials;
+use std::alloc::{AllocError, Global};
+use tsp_theory::{Costs, Grouped};
+
+/// Grows a tree over the nodes 2..n from node 2: each pair leads from a node inside to one
+/// outside, and no such pair weighs less.
+///
+/// # Errors
+///
+/// Out of memory.
+pub(crate) fn grow<C: Grouped>(
+    alloc: Global,
+    c: &C,
+    p: &Potentials,
+    m: &ByNode,
+) -> Result<Grown, AllocError>
+    requires some { 3 ≤ C.nodes c.now }
+    requires count { length (numbers_of p.now) ≡ C.nodes c.now }
+    requires over { nodes_in m.now ≡ C.nodes c.now }
+    ensures whole { IfOk result (λ grown. IsWholeGrowth (C.nodes c.now)
+        (weight_less p.now (triples_in m.now) (C.at c.now)) grown.pairs.items) }
+    ensures weight { IfOk result (λ grown. grown.weight
+        ≡ weight_of (weight_less p.now (triples_in m.now) (C.at c.now)) grown.pairs.items) }
+    ensures size { IfOk result (λ grown. IsFromTo (neg_ℤ (pos (most_nodes * 2 ^ 63)))
+        (pos (most_nodes * 2 ^ 63)) grown.weight) }
+{
+    let part = grown_part(alloc, c, p, m)?;
+    if part.pairs.len() + 2 == c.count() as usize {
+        return Ok(part);
+    }
+    grow_on(alloc, c, p, m, part)
+}
+
+/// The part of a growth from node 2 that the boxes of the nodes and a heap give, and its weight.
+///
+/// It is empty where a node has no place, or the order isn't one of all the nodes.
+///
+/// # Errors
+///
+/// Out of memory.
+fn grown_part<C: Grouped>(
+    alloc: Global,
+    c: &C,
+    p: &Potentials,
+    m: &ByNode,
+) -> Result<Grown, AllocError>
+    requires some { 3 ≤ C.nodes c.now }
+    requires count { length (numbers_of p.now) ≡ C.nodes c.now }
+    requires over { nodes_in m.now ≡ C.nodes c.now }
+    ensures { IfOk result (λ grown. IsPartGrowth (C.nodes c.now)
+        (weight_less p.now (triples_in m.now) (C.at c.now)) grown.pairs.items grown.weight) }
+{
+    let mut order = c.order(alloc)?;
+    order.retain(|node| *node != 1);
+    if order.len() + 1 != c.count() as usize {
+        return nothing(alloc, c);
+    }
+    grown_over(alloc, c, p, m, &order)
+}
+
+/// The same over an order of nodes.
+fn grown_over<C: Grouped>(
+    alloc: Global,
+    c: &C,
+    p: &Potentials,
+    m: &ByNode,
+    order: &[u32],
+) -> Result<Grown, AllocError>
+    requires some { 3 ≤ C.nodes c.now }
+    requires count { length (numbers_of p.now) ≡ C.nodes c.now }
+    requires over { nodes_in m.now ≡ C.nodes c.now }
+    requires few { length order.now ≤ most_nodes }
+    ensures { IfOk result (λ grown. IsPartGrowth (C.nodes c.now)
+        (weight_less p.now (triples_in m.now) (C.at c.now)) grown.pairs.items grown.weight) }
+{
+    let Some(places) = places_in(alloc, order, c.count())? else {
+        return nothing(alloc, c);
+    };
+    let start = places[2];
+    let Some(mut nodes) = Nodes::new(alloc, c, *p, m, order, &places)? else {
+        return nothing(alloc, c);
+    };
+    let pairs = grow_by_heap(alloc, &mut nodes, start, most_steps(c.count()))?;
+    weighed(alloc, c, p, m, order, &pairs)
+}
+
+/// No pair yet, with room for those of a tree: a part of any growth.
+///
+/// # Errors
+///
+/// Out of memory.
+fn nothing<C: Costs>(alloc: Global, c: &C) -> Result<Grown, AllocError>
+    ensures { IfOk result (λ grown. (n : ℕ) (w : ℕ → ℕ → ℤ)
+        → IsPartGrowth n w grown.pairs.items grown.weight) }
+{
+    let pairs = Vec::with_capacity(alloc, c.count() as usize + 1)?;
+    Ok(Grown { pairs, weight: 0 })
+}
+
+/// How many boxes a growth over so many nodes may look at before it is left to the dense way:
+/// a part of the work that the dense way takes, and about as much for a thousand nodes.
+fn most_steps(count: u32) -> u64 {
+    let nodes = u64::from(count);
+    (nodes * nodes / 25).max(300 * nodes)
+}
+
+/// The pairs of the nodes at pairs of places, and the sum of their weights.
+///
+/// # Errors
+///
+/// Out of memory.
+fn weighed<C: Costs>(
+    alloc: Global,
+    c: &C,
+    p: &Potentials,
+    m: &ByNode,
+    order: &[u32],
+    pairs: &[(u32, u32)],
+) -> Result<Grown, AllocError>
+    requires count { length (numbers_of p.now) ≡ C.nodes c.now }
+    requires over { nodes_in m.now ≡ C.nodes c.now }
+    requires nodes { (j : ℕ) → j < length order.now → IsNode (C.nodes c.now) (node_at order.now j) }
+    requires places { All (λ pair. (pair.0 < length order.now) × (pair.1 < length order.now)) pairs.now }
+    requires few { length pairs.now ≤ most_nodes }
+    ensures pairs { IfOk result (λ grown. grown.pairs.items ≡ map (both (node_at order.now)) pairs.now) }
+    ensures weight { IfOk result (λ grown. grown.weight
+        ≡ weight_of (weight_less p.now (triples_in m.now) (C.at c.now)) grown.pairs.items) }
+    ensures size { IfOk result (λ grown. IsSumSized (length grown.pairs.items) grown.weight) }
+{
+    let mut named = Vec::with_capacity(alloc, c.count() as usize + 1)?;
+    let mut weight: i128 = 0;
+    'pairs: for pair in pairs {
+        let from = order[pair.0 as usize];
+        let to = order[pair.1 as usize];
+        named.push((from, to))?;
+        // A node is at most once a pair's second one, so that no list is gone over twice.
+        let number = lowered_by(m.at(to), from);
+        weight += i128::from(p.weight(c, from, to) - number);
+    }
+    Ok(Grown {
+        pairs: named,
+        weight,
+    })
+}

@@ -1,0 +1,21 @@
+//! Costs at the scale of a certificate.
+
+ghost use Rattle.std.specs.Prelude.{◌≡◌, ◌*◌, pos, neg_ℤ, ◌*ℤ◌};
+ghost use Rattle.tsp_format.specs.Cells.{IsNode};
+ghost use Rattle.tsp_format.specs.Limits.{most_scale, most_weight};
+ghost use Rattle.tsp_theory.specs.Numbers.{IsFromTo, IsScale};
+
+use tsp_theory::Costs;
+
+/// The cost from one node to another, as a count of 1 / scale: at most 10^18 in size.
+#[inline]
+pub(crate) fn scaled_cost<C: Costs>(c: &C, scale: i64, i: u32, j: u32) -> i64
+    requires scale { IsScale scale }
+    requires from { IsNode (C.nodes c.now) i }
+    requires to { IsNode (C.nodes c.now) j }
+    ensures value { result ≡ scale *ℤ C.at c.now i j }
+    ensures size { IsFromTo (neg_ℤ (pos (most_scale * most_weight)))
+        (pos (most_scale * most_weight)) result }
+{
+    scale * c.cost(i, j)
+}

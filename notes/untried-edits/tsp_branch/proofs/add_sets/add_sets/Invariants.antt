@@ -1,0 +1,9 @@
+use Rattle.std.proofs.Common.{ℕ, ℤ, drop}
+use Rattle.tsp_theory.specs.Growth.{least_at}
+use Rattle.tsp_branch.specs.Sets.{IsMoved}
+use Rattle.tsp_branch.specs.Combed.{plain, inside_both}
+use Rattle.tsp_branch.proofs.add_sets.add_sets.Given as goal
+
+abbrev pub invariant-numbers : goal.invariant-numbers
+invariant-numbers l = (x : ℕ) (last : ℤ) → IsMoved (inside_both l.multipliers (plain l.sets) (drop l.number-index l.numbers) x) (least_at l.row x) last
+    → IsMoved (inside_both l.multipliers (plain l.sets) l.numbers x) (least_at l.fn.row x) last

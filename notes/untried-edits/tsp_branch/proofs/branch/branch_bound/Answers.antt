@@ -1,0 +1,24 @@
+use Rattle.std.proofs.Common.{ℕ, ℤ, subst, rules, FitsSigned}
+use Rattle.std.specs.Int.{w64}
+use Rattle.std.proofs.lemmas.Int.{to_z-of_z}
+use Rattle.std.proofs.lemmas.Result.{IfOk-weaker}
+use Rattle.tsp_format.specs.Steps.{steps_of}
+use Rattle.tsp_branch.specs.Combed.{plain}
+use Rattle.tsp_branch.specs.CombsOfSets.{combs_of}
+use Rattle.tsp_branch.specs.Decided.{case_of}
+use Rattle.tsp_branch.specs.Listed.{IsJudged}
+use Rattle.tsp_branch.proofs.Judging.{cycles_of}
+use Rattle.tsp_branch.proofs.branch.branch_bound.Goals as goal
+
+pub returns-clause-cycles : goal.returns-clause-cycles
+returns-clause-cycles g c =
+    let costs = c.args.costs.now in
+    let n : ℕ = g.C.Costs.nodes costs in
+    let cost = g.C.Costs.at costs in
+    let combs = combs_of c.args.combs (plain c.args.sets.now) in
+    let given = case_of c.args.given.now in
+    let fits : FitsSigned w64 c.args.scale = search rules in
+    IfOk-weaker c.judge_leaves.result _ _ (λ found is.
+    cycles_of c.certificates_bound_cycles.ensures.cycles n cost c.args.scale combs c.args.combs given (steps_of c.args.steps.now) found c.requires.some (g.met.C.Symmetric.even costs) c.requires.scaled
+    (subst (λ (z : ℤ). IsJudged n cost z combs c.args.combs given (steps_of c.args.steps.now) found) (to_z-of_z w64 c.args.scale fits) is))
+    c.judge_leaves.ensures.judged

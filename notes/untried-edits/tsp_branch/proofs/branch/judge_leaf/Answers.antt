@@ -1,0 +1,36 @@
+use Rattle.std.proofs.Common.{◌∙◌, ◌++◌, ℕ, ℤ, List, length, take, drop, refl, ap, subst, rules, FitsSigned, to_z, of_z}
+use Rattle.std.specs.Int.{w128}
+use Rattle.std.specs.List.{All}
+use Rattle.std.proofs.lemmas.Int.{to_z-of_z}
+use Rattle.tsp_format.specs.Cells.{IsNode}
+use Rattle.tsp_branch.specs.Combed.{plain}
+use Rattle.tsp_branch.specs.CombsOfSets.{combs_of}
+use Rattle.tsp_branch.specs.Decided.{case_of, stack_of}
+use Rattle.tsp_branch.specs.Listed.{all_grown}
+use Rattle.tsp_branch.proofs.Judging.{written, good_read, judged_leaf}
+use Rattle.tsp_branch.proofs.branch.judge_leaf.Goals as goal
+
+pub returns-clause-judged : goal.returns-clause-judged
+returns-clause-judged g c =
+    let n : ℕ = g.C.Costs.nodes c.args.setting.now.costs.now in
+    let room = c.args.room.now in
+    let changes : List (ℕ × ℤ) = c.args.changes.now in
+    let numbers : List ℤ = c.add_differences.new.numbers in
+    let fits : FitsSigned w128 c.in_ok-bound.bound = search rules in
+    let read : List ℤ = c.deref.result.now in
+    let now = written room.numbers.len numbers _ (c.add_differences.ensures.length ∙ c.deref_mut.ensures.len) in
+    let at = ap length c.deref_mut-2.ensures.value ∙ c.requires.room.potentials in
+    let of = ap length c.deref_mut-3.ensures.value ∙ c.requires.room.multipliers in
+    let inside = subst (λ (zs : List ℤ). All (λ change. IsNode (length zs) change.0) changes) c.deref_mut.ensures.value (c.if-not-add_differences.ensures.inside.0 refl) in
+    let grown = c.if-not-add_differences.ensures.grown refl ∙ ap (all_grown changes) c.deref_mut.ensures.value in
+    let good = good_read n c.args.setting.now.combs _ _ c.deref.result.now _ at of c.deref.ensures.value (c.if-not-judge.ensures.good.0 refl) in
+    let of_nodes = c.deref-2.ensures.value ∙ written room.potentials.len c.judge.new.potentials _ (c.judge.ensures.potentials_len ∙ c.deref_mut-2.ensures.len)
+    ∙ c.if-not-judge.ensures.potentials refl in
+    let of_combs = c.deref-3.ensures.value ∙ written room.multipliers.len c.judge.new.multipliers _ (c.judge.ensures.multipliers_len ∙ c.deref_mut-3.ensures.len)
+    ∙ c.if-not-judge.ensures.multipliers refl in
+    judged_leaf n (g.C.Costs.at c.args.setting.now.costs.now) c.args.setting.now.scale (combs_of c.args.setting.now.combs (plain c.args.setting.now.sets.now)) c.args.setting.now.combs
+    (stack_of c.args.decisions.now ++ case_of c.args.setting.now.given.now) room.numbers.items changes _ c.deref-2.result.now c.deref-3.result.now c.in_ok-bound.bound
+    (to_z w128 (of_z w128 c.in_ok-bound.bound))
+    c.requires.room.numbers inside (now ∙ grown) good (of_nodes ∙ ap (λ (k : ℕ). take k read) at ∙ ap (take n) c.deref.ensures.value)
+    (of_combs ∙ ap (λ (k : ℕ). drop k read) at ∙ ap (drop n) c.deref.ensures.value)
+    c.in_ok-bound.ensures.bound (to_z-of_z w128 c.in_ok-bound.bound fits)

@@ -1,0 +1,26 @@
+use Rattle.std.proofs.Common.{◌≤◌, ℕ, length, drop}
+use Rattle.std.specs.Prelude.{IfSome}
+use Rattle.std.specs.List.{All}
+use Rattle.tsp_format.specs.Steps.{steps_of}
+use Rattle.tsp_theory.specs.Numbers.{IsBoundSized}
+use Rattle.tsp_branch.specs.Combed.{plain}
+use Rattle.tsp_branch.specs.CombsOfSets.{combs_of}
+use Rattle.tsp_branch.specs.Decided.{IsDecision, case_of}
+use Rattle.tsp_branch.specs.Rooms.{IsRoom, AreSmall}
+use Rattle.tsp_branch.proofs.Passes.{IsAtStep}
+use Rattle.tsp_branch.proofs.branch.judge_leaves.Given as goal
+
+abbrev pub invariant-steps : goal.invariant-steps
+invariant-steps g l =
+    let s = l.setting in
+    let n : ℕ = g.C.Costs.nodes s.costs.now in
+    record {
+      at : IsAtStep n (g.C.Costs.at s.costs.now) s.scale (combs_of s.combs (plain s.sets.now)) s.combs (case_of s.given.now) (steps_of l.steps) l.room.numbers.items l.stack.items l.lowest l.leaf
+          (steps_of (drop l.step-index l.steps));
+      room : IsRoom n s.combs l.room;
+      small : AreSmall l.room.numbers.items;
+      pairs : All (IsDecision n) l.stack.items;
+      few : length l.stack.items ≤ l.step-index;
+      leaves : l.leaf ≤ l.step-index;
+      sized : IfSome l.lowest IsBoundSized;
+    }

@@ -1,0 +1,9 @@
+use Rattle.std.proofs.Common.{ℕ, ℤ, drop}
+use Rattle.tsp_theory.specs.Growth.{least_at}
+use Rattle.tsp_branch.specs.Sets.{IsMoved}
+use Rattle.tsp_branch.specs.Decided.{changes}
+use Rattle.tsp_branch.proofs.decided.change_row.Given as goal
+
+abbrev pub invariant-decisions : goal.invariant-decisions
+invariant-decisions l = (x : ℕ) (last : ℤ) → IsMoved (changes (drop l.decision-index l.decisions) l.from x) (least_at l.row x) last
+    → IsMoved (changes l.decisions l.from x) (least_at l.fn.row x) last

@@ -1,0 +1,21 @@
+use Rattle.std.proofs.Common.{◌≡◌, ◌≤◌, ◌<◌, ◌+◌, ℕ, length}
+use Rattle.std.specs.List.{All}
+use Rattle.tsp_branch.specs.Sets.{AreSetsOf}
+use Rattle.tsp_branch.specs.Combed.{plain}
+use Rattle.tsp_branch.specs.CombsOfSets.{of_comb}
+use Rattle.tsp_branch.specs.GoodCombs.{IsGoodComb, AreInOrder}
+use Rattle.tsp_branch.specs.Marked.{AreUnmarked}
+use Rattle.tsp_branch.proofs.good_combs.first_bad_comb.Given as goal
+
+abbrev pub invariant-combs : goal.invariant-combs
+invariant-combs l = record {
+  handles_long : length l.handles.items ≡ l.nodes + 1;
+  teeth_long : length l.teeth.items ≡ l.nodes + 1;
+  handles_fresh : (mark : ℕ) → l.comb < mark → AreUnmarked l.handles.items mark;
+  teeth_fresh : (mark : ℕ) → l.comb < mark → AreUnmarked l.teeth.items mark;
+  nodes_of : AreSetsOf l.nodes l.rest;
+  in_order : AreInOrder l.rest;
+  later : All (λ set. l.comb ≤ set.0) l.rest;
+  same : (comb : ℕ) → l.comb ≤ comb → of_comb comb (plain l.rest) ≡ of_comb comb (plain l.sets);
+  good : (comb : ℕ) → comb < l.comb → IsGoodComb l.nodes (of_comb comb (plain l.sets));
+}

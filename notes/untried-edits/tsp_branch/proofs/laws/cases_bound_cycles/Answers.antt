@@ -1,0 +1,5 @@
+use Rattle.tsp_branch.proofs.Cases.{cases_bound_cycles}
+use Rattle.tsp_branch.proofs.laws.cases_bound_cycles.Goals as goal
+
+pub returns : goal.returns
+returns c = cases_bound_cycles

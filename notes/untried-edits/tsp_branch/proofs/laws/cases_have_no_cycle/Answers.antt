@@ -1,0 +1,5 @@
+use Rattle.tsp_branch.proofs.Cases.{cases_have_no_cycle}
+use Rattle.tsp_branch.proofs.laws.cases_have_no_cycle.Goals as goal
+
+pub returns : goal.returns
+returns c = cases_have_no_cycle

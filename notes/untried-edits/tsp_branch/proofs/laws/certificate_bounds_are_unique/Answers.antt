@@ -1,0 +1,5 @@
+use Rattle.tsp_branch.proofs.Certificates.{certificate_bounds_are_unique}
+use Rattle.tsp_branch.proofs.laws.certificate_bounds_are_unique.Goals as goal
+
+pub returns : goal.returns
+returns c = certificate_bounds_are_unique

@@ -1,0 +1,5 @@
+use Rattle.tsp_branch.proofs.Cases.{cycles_keep_leaves}
+use Rattle.tsp_branch.proofs.laws.cycles_keep_leaves.Goals as goal
+
+pub returns : goal.returns
+returns c = cycles_keep_leaves

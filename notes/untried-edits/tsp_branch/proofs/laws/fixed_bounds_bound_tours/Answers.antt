@@ -1,0 +1,5 @@
+use Rattle.tsp_branch.proofs.Decisions.{fixed_bounds_bound_tours}
+use Rattle.tsp_branch.proofs.laws.fixed_bounds_bound_tours.Goals as goal
+
+pub returns : goal.returns
+returns c = fixed_bounds_bound_tours c.adjusted_bounds_bound_cycles.ensures.cycles

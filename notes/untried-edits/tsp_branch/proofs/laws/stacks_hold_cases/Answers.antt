@@ -1,0 +1,5 @@
+use Rattle.tsp_branch.proofs.Cases.{stacks_hold_cases}
+use Rattle.tsp_branch.proofs.laws.stacks_hold_cases.Goals as goal
+
+pub returns-clause-leaf : goal.returns-clause-leaf
+returns-clause-leaf c = stacks_hold_cases

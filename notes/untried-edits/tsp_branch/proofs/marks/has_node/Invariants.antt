@@ -1,0 +1,6 @@
+use Rattle.std.proofs.Common.{◌≡◌, ◌<◌, ℕ, get_or}
+use Rattle.tsp_branch.specs.Marked.{is_marked}
+use Rattle.tsp_branch.proofs.marks.has_node.Given as goal
+
+abbrev pub invariant-nodes : goal.invariant-nodes
+invariant-nodes l = (k default : ℕ) → k < l.node-index → is_marked l.marks l.mark (get_or l.nodes k default) ≡ l.wanted → ⊥

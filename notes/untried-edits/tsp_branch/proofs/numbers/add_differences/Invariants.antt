@@ -1,0 +1,13 @@
+use Rattle.std.proofs.Common.{◌≡◌, ◌<◌, ℕ, ℤ, drop, length, get_or}
+use Rattle.tsp_format.specs.Cells.{IsNode}
+use Rattle.tsp_branch.specs.Listed.{all_grown}
+use Rattle.tsp_branch.proofs.Grown.{AreSized}
+use Rattle.tsp_branch.proofs.numbers.add_differences.Given as goal
+
+abbrev pub invariant-changes : goal.invariant-changes
+invariant-changes l = record {
+  long : length l.numbers ≡ length l.fn.numbers;
+  sized : AreSized l.change-index l.numbers;
+  inside : (k : ℕ) (default : ℕ × ℤ) → k < l.change-index → IsNode (length l.fn.numbers) (get_or l.changes k default).0;
+  so_far : all_grown (drop l.change-index l.changes) l.numbers ≡ all_grown l.changes l.fn.numbers;
+}

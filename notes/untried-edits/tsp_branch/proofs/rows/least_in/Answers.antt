@@ -1,0 +1,8 @@
+use Rattle.std.proofs.Common.{arith, inl, inr}
+use Rattle.tsp_branch.proofs.rows.least_in.Goals as goal
+
+pub returns-clause-reached : goal.returns-clause-reached
+returns-clause-reached c = elim c.places.invariant.reached [
+  | inl none ↦ inl none
+  | inr found ↦ inr (found.0, found.1, omega (arith, found.1, found.2, c.requires, c.places.auto.place-end), found.3)
+]

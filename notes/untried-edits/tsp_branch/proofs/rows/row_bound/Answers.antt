@@ -1,0 +1,24 @@
+use Rattle.std.proofs.Common.{ℤ, rules, FitsSigned, to_z, of_z, subst, sym}
+use Rattle.std.specs.Prelude.{◌+ℤ◌}
+use Rattle.std.specs.Int.{w128}
+use Rattle.std.proofs.lemmas.Int.{to_z-of_z}
+use Rattle.tsp_theory.specs.Numbers.{IsLeastBound}
+use Rattle.tsp_theory.proofs.Sizes.{same_scale}
+use Rattle.tsp_branch.proofs.Sums.{with_back}
+use Rattle.tsp_branch.proofs.rows.row_bound.Goals as goal
+
+pub returns-clause-bound : goal.returns-clause-bound
+returns-clause-bound g c =
+    let sum : ℤ = c.in_ok-sum.sum in
+    let back : ℤ = c.args.given_back in
+    let found = c.rounded_up.result in
+    let fits : FitsSigned w128 c.rounded_up.result = search rules in
+    let computed = with_back sum back c.in_ok-sum.ensures.size c.requires.given_back in
+    let rounded : IsLeastBound c.args.scale (sum +ℤ back) found = subst (λ (z : ℤ). IsLeastBound c.args.scale z found) computed
+    (subst (λ (z : ℤ). IsLeastBound z (to_z w128 (of_z w128 (to_z w128 (of_z w128 sum) +ℤ to_z w128 (of_z w128 back)))) found) (same_scale c.args.scale c.requires.scale)
+    c.rounded_up.ensures.value) in
+    record {
+      sum = sum;
+      least = c.in_ok-sum.ensures.sum;
+      bound_is = subst (λ (z : ℤ). IsLeastBound c.args.scale (sum +ℤ back) z) (sym (to_z-of_z w128 found fits)) rounded;
+    }

@@ -1,0 +1,23 @@
+use Rattle.std.proofs.Common.{◌≡◌, ◌≤◌, ℕ, ℤ, List, length, get_or, refl, ap, subst, inl, arith, rules, FitsSigned, to_z, of_z}
+use Rattle.std.specs.Int.{w64}
+use Rattle.std.proofs.lemmas.Int.{to_z-of_z}
+use Rattle.std.proofs.lemmas.List.{drop_all}
+use Rattle.tsp_theory.specs.Growth.{least_at}
+use Rattle.tsp_branch.specs.Sets.{IsMoved, added}
+use Rattle.tsp_branch.proofs.SetSums.{moved_on, node_moved, added_left}
+use Rattle.tsp_branch.proofs.sets.add_to_nodes.Goals as goal
+
+pub nodes-preserved : goal.nodes-preserved
+nodes-preserved c = λ x last rest.
+    c.nodes.invariant x last (rw (added_left (to_z w64 (of_z w64 c.args.number)) c.args.nodes.now c.nodes.node-index x 0 c.nodes-test.true)
+    (moved_on _ _ _ _ _ (node_moved (to_z w64 (of_z w64 c.args.number)) (get_or c.args.nodes.now c.nodes.node-index 0) x
+    c.nodes.row c.add_at.new.row c.add_at.ensures.here c.add_at.ensures.others) rest))
+
+pub returns : goal.returns
+returns c = λ x.
+    let nodes : List ℕ = c.args.nodes.now in
+    let past : length nodes ≤ c.nodes.node-index = omega (arith, c.nodes-test.false) in
+    let fits : FitsSigned w64 c.args.number = search rules in
+    let number : to_z w64 (of_z w64 c.args.number) ≡ c.args.number = to_z-of_z w64 c.args.number fits in
+    subst (λ (z : ℤ). IsMoved (added z nodes x) (least_at c.args.row.now x) (least_at c.nodes.row x)) number
+    (c.nodes.invariant x (least_at c.nodes.row x) (inl (refl, ap (λ ns. added (to_z w64 (of_z w64 c.args.number)) ns x) (drop_all c.nodes.node-index nodes past))))

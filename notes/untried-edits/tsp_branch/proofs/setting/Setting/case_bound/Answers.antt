@@ -1,0 +1,99 @@
+use Rattle.std.proofs.Common.{◌∙◌, ◌++◌, ℕ, ℤ, List, Bool, length, ap, sym, subst, rules, FitsSigned, to_z, of_z}
+use Rattle.std.specs.Int.{w128}
+use Rattle.std.specs.Global.{Vec}
+use Rattle.std.specs.List.{All}
+use Rattle.std.proofs.lemmas.Int.{to_z-of_z}
+use Rattle.std.proofs.lemmas.Result.{IfOk-weaker}
+use Rattle.tsp_theory.proofs.Sizes.{same_scale}
+use Rattle.tsp_branch.specs.Combs.{Comb, IsComb}
+use Rattle.tsp_branch.specs.Decisions.{Decision, on_taken, on_avoided}
+use Rattle.tsp_branch.specs.LeafBound.{IsLeafBound}
+use Rattle.tsp_branch.specs.Certificate.{multiplied}
+use Rattle.tsp_branch.specs.Weighed.{BoundsEachLeaf}
+use Rattle.tsp_branch.specs.Combed.{plain, set_weight}
+use Rattle.tsp_branch.specs.CombsOfSets.{combs_of}
+use Rattle.tsp_branch.specs.Decided.{decided_number, case_of, stack_of, decided_twice}
+use Rattle.tsp_branch.proofs.LeafBounds.{leaf_even}
+use Rattle.tsp_branch.proofs.DecidedOnce.{few_changes}
+use Rattle.tsp_branch.proofs.CaseWeights.{case_weight, small_multipliers, few_crossings, sets_below_count}
+use Rattle.tsp_branch.proofs.setting.Setting.case_bound.Goals as goal
+
+pub fill_moved-requires-clause-small : goal.fill_moved-requires-clause-small
+fill_moved-requires-clause-small g c = small_multipliers (g.C.Costs.nodes c.args.self.now.costs.now) c.args.self.now.combs c.args.potentials.now c.args.multipliers.now c.requires.numbers
+
+pub of-combed-requires-clause-small : goal.of-combed-requires-clause-small
+of-combed-requires-clause-small g c = small_multipliers (g.C.Costs.nodes c.args.self.now.costs.now) c.args.self.now.combs c.args.potentials.now c.args.multipliers.now c.requires.numbers
+
+pub of-combed-requires-clause-crossed : goal.of-combed-requires-clause-crossed
+of-combed-requires-clause-crossed g c =
+    let p = c.args.self.now in
+    let n = g.C.Costs.nodes p.costs.now in
+    let sets : List (ℕ × Vec ℕ) = p.sets.now in
+    let ms : List ℤ = c.args.multipliers.now in
+    let good = c.requires.numbers in
+    few_crossings n p.combs c.args.potentials.now ms (plain sets) good (subst (λ (k : ℕ). All (IsComb n) (combs_of k (plain sets))) (sym good.each_comb) c.requires.are_combs)
+    (sets_below_count p.combs (length ms) sets good.each_comb p.of_combs)
+
+pub of-weights-requires-clause-once : goal.of-weights-requires-clause-once
+of-weights-requires-clause-once g c = few_changes c.args.self.now.given.now c.args.decisions.now c.requires.once
+
+pub given_back-back-requires-clause-small : goal.given_back-back-requires-clause-small
+given_back-back-requires-clause-small g c = small_multipliers (g.C.Costs.nodes c.args.self.now.costs.now) c.args.self.now.combs c.args.potentials.now c.args.multipliers.now c.requires.numbers
+
+pub given_back-back-requires-clause-combs : goal.given_back-back-requires-clause-combs
+given_back-back-requires-clause-combs g c =
+    let p = c.args.self.now in
+    let n = g.C.Costs.nodes p.costs.now in
+    let sets : List (ℕ × Vec ℕ) = p.sets.now in
+    (n, subst (λ (k : ℕ). All (IsComb n) (combs_of k (plain sets))) (sym c.requires.numbers.each_comb) c.requires.are_combs)
+
+pub leaf_bound-requires-clause-even : goal.leaf_bound-requires-clause-even
+leaf_bound-requires-clause-even g c =
+    let p = c.args.self.now in
+    let cost = g.C.Costs.at p.costs.now in
+    let sets : List (ℕ × Vec ℕ) = p.sets.now in
+    let ps : List ℤ = c.args.potentials.now in
+    let ms : List ℤ = c.args.multipliers.now in
+    let given : List (ℕ × ℕ × Bool) = p.given.now in
+    let ds : List (ℕ × ℕ × Bool) = c.args.decisions.now in
+    let case : List Decision = stack_of ds ++ case_of given in
+    let q = c.of-combed.result in
+    let w : ℕ → ℕ → ℤ = set_weight q.scale q.potentials.now q.multipliers.now (plain q.sets.now) (g.C.Costs.at q.costs.now) in
+    let below = sets_below_count p.combs (length ms) sets c.requires.numbers.each_comb p.of_combs in
+    let combs : List (Comb × ℤ) = multiplied (combs_of (length ms) (plain sets)) ms in
+    let agree = λ (i j : ℕ). c.of-weights.ensures.weights i j ∙ case_weight w p.scale ps ms (plain sets) given ds cost i j below
+    (c.of-combed.ensures.weights i j ∙ ap (λ (z : ℤ). set_weight z ps ms (plain sets) cost i j) (same_scale p.scale p.scaled)) in
+    λ i j. agree i j ∙ leaf_even p.scale ps (on_taken decided_number case) (on_avoided decided_number case) combs cost (g.met.C.Symmetric.even p.costs.now) i j ∙ sym (agree j i)
+
+pub returns-clause-bound : goal.returns-clause-bound
+returns-clause-bound g c =
+    let p = c.args.self.now in
+    let n : ℕ = g.C.Costs.nodes p.costs.now in
+    let cost = g.C.Costs.at p.costs.now in
+    let sets : List (ℕ × Vec ℕ) = p.sets.now in
+    let ps : List ℤ = c.args.potentials.now in
+    let ms : List ℤ = c.args.multipliers.now in
+    let given : List (ℕ × ℕ × Bool) = p.given.now in
+    let ds : List (ℕ × ℕ × Bool) = c.args.decisions.now in
+    let case : List Decision = stack_of ds ++ case_of given in
+    let q = c.of-combed.result in
+    let w : ℕ → ℕ → ℤ = set_weight q.scale q.potentials.now q.multipliers.now (plain q.sets.now) (g.C.Costs.at q.costs.now) in
+    let below = sets_below_count p.combs (length ms) sets c.requires.numbers.each_comb p.of_combs in
+    let combs : List (Comb × ℤ) = multiplied (combs_of (length ms) (plain sets)) ms in
+    let agree = λ (i j : ℕ). c.of-weights.ensures.weights i j ∙ case_weight w p.scale ps ms (plain sets) given ds cost i j below
+    (c.of-combed.ensures.weights i j ∙ ap (λ (z : ℤ). set_weight z ps ms (plain sets) cost i j) (same_scale p.scale p.scaled)) in
+    let nodes_are = c.of-weights.ensures.nodes ∙ c.of-combed.ensures.nodes in
+    let r = c.of-weights.result in
+    let k : ℕ = g.C.Costs.nodes r.combed.now.costs.now in
+    let v : ℕ → ℕ → ℤ = decided_twice r.given.now r.decisions.now
+    (set_weight r.combed.now.scale r.combed.now.potentials.now r.combed.now.multipliers.now (plain r.combed.now.sets.now) (g.C.Costs.at r.combed.now.costs.now)) in
+    let back : ℤ = c.given_back-back.result in
+    let back_fits : FitsSigned w128 c.given_back-back.result = search rules in
+    IfOk-weaker c.leaf_bound.result _ _
+    (λ (bound : ℤ) bounds.
+    let whole : BoundsEachLeaf k v p.scale back bound = subst (λ (z : ℤ). BoundsEachLeaf k v p.scale z bound) (to_z-of_z w128 back back_fits)
+    (subst (λ (z : ℤ). BoundsEachLeaf k v z (to_z w128 (of_z w128 back)) bound) (same_scale p.scale p.scaled) bounds) in
+    let own = whole cost ps (on_taken decided_number case) (on_avoided decided_number case) combs agree c.given_back-back.ensures.value in
+    subst (λ (k : ℕ). IsLeafBound n cost p.scale ps (on_taken decided_number case) (on_avoided decided_number case) (multiplied (combs_of k (plain sets)) ms) bound) c.requires.numbers.each_comb
+    (subst (λ (m : ℕ). IsLeafBound m cost p.scale ps (on_taken decided_number case) (on_avoided decided_number case) combs bound) nodes_are own))
+    c.leaf_bound.ensures.leaf

@@ -1,0 +1,47 @@
+-- The verdict on a certificate by branching: its bound, or the first reason against it.
+use Rattle.std.specs.Prelude.{false, ℕ, None, Some, List, ℤ}
+use Rattle.tsp_format.specs.Steps as listed
+use Rattle.tsp_theory.specs.Numbers.{IsBoundSized}
+use Rattle.tsp_branch.specs.declared.steps.Judged.{Judged}
+use Rattle.tsp_branch.specs.declared.steps.Judged.TheVariants as judged
+use Rattle.tsp_branch.specs.declared.steps.BranchVerdict.{BranchVerdict}
+use Rattle.tsp_branch.specs.declared.steps.BranchVerdict.TheVariants as verdict
+use Rattle.tsp_branch.specs.Cases.{BoundsCase}
+use Rattle.tsp_branch.specs.CombsOfSets.{combs_of}
+use Rattle.tsp_branch.specs.Decisions.{Decision}
+use Rattle.tsp_branch.specs.GoodCombs.{AreCombsJudged}
+use Rattle.tsp_branch.specs.Listed.{IsJudged}
+use Rattle.tsp_branch.specs.Twice.{AreBranchesJudged}
+
+-- what is judged of the leaves, where the sets are those of combs and no branch comes twice
+pub record AreLeavesJudged (n : ℕ) (cost : ℕ → ℕ → ℤ) (scale : ℤ) (combs : ℕ) (sets : List (ℕ × List ℕ)) (given : List Decision)
+    (steps : List listed.Step) (found : Judged) : Type 0 where
+  pub are_combs : AreCombsJudged n combs sets None
+  pub are_once : AreBranchesJudged given steps None
+  pub leaves : IsJudged n cost scale (combs_of combs sets) combs given steps found
+
+-- the first bad comb; where all are good, the first branch that comes twice; where none does, the first bad leaf; and where all
+-- leaves are good, the bound
+abbrev pub IsBranchVerdict : ℕ → (ℕ → ℕ → ℤ) → ℤ → ℕ → List (ℕ × List ℕ) → List Decision → List listed.Step → BranchVerdict
+    → Type 0
+IsBranchVerdict n cost scale combs sets given steps (verdict.Bound bound) =
+    AreLeavesJudged n cost scale combs sets given steps (judged.Bound bound)
+IsBranchVerdict n cost scale combs sets given steps (verdict.BadComb comb) = AreCombsJudged n combs sets (Some comb)
+IsBranchVerdict n cost scale combs sets given steps (verdict.BranchTwice branch) =
+    AreCombsJudged n combs sets None × AreBranchesJudged given steps (Some branch)
+IsBranchVerdict n cost scale combs sets given steps (verdict.BadLeaf leaf) =
+    AreLeavesJudged n cost scale combs sets given steps (judged.BadLeaf leaf)
+
+-- A bound is at most the length of every cycle that keeps the given decisions.
+abbrev pub VerdictBoundsCycles : ℕ → (ℕ → ℕ → ℤ) → List Decision → BranchVerdict → Type 0
+VerdictBoundsCycles n cost given (verdict.Bound bound) = BoundsCase false n cost bound given
+VerdictBoundsCycles n cost given (verdict.BadComb comb) = Unit {0}
+VerdictBoundsCycles n cost given (verdict.BranchTwice branch) = Unit {0}
+VerdictBoundsCycles n cost given (verdict.BadLeaf leaf) = Unit {0}
+
+-- Sums with it fit 128 bits.
+abbrev pub IsSizedVerdict : BranchVerdict → Type 0
+IsSizedVerdict (verdict.Bound bound) = IsBoundSized bound
+IsSizedVerdict (verdict.BadComb comb) = Unit {0}
+IsSizedVerdict (verdict.BranchTwice branch) = Unit {0}
+IsSizedVerdict (verdict.BadLeaf leaf) = Unit {0}

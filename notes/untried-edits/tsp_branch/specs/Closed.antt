@@ -1,0 +1,23 @@
+-- Rows in which the links that decisions don't allow are closed.
+use Rattle.std.specs.Prelude.{◌≡◌, ℕ, Bool, List, ◌++◌, ◌⊎◌, ℤ, pos}
+use Rattle.tsp_format.specs.Cells.{IsNode}
+use Rattle.tsp_theory.specs.Growth.{least_at}
+use Rattle.tsp_branch.specs.Decisions.{Decision}
+use Rattle.tsp_branch.specs.Decided.{case_of, stack_of}
+use Rattle.tsp_branch.specs.Rows.{IsAllowed}
+
+-- what stands for no link: the largest number of 64 bits, below which all weights are
+abbrev pub closed : ℤ
+closed = pos 9223372036854775807
+
+-- a value as it was, where the link is allowed; else closed
+abbrev pub IsShut : Type 0 → ℤ → ℤ → Type 0
+IsShut Allowed old new = (Allowed × (new ≡ old)) ⊎ ((Allowed → ⊥) × (new ≡ closed))
+
+-- the decisions of a case: those on the stack, the last one first, and those that are given for all cases
+abbrev pub decisions_of : List (ℕ × ℕ × Bool) → List (ℕ × ℕ × Bool) → List Decision
+decisions_of given stack = stack_of stack ++ case_of given
+
+-- a row of weights from a node in which the links that aren't allowed are closed
+abbrev pub IsOpenRow : ℕ → (ℕ → ℕ → ℤ) → List Decision → ℕ → List ℤ → Type 0
+IsOpenRow n w decisions from row = (x : ℕ) → IsNode n x → IsShut (IsAllowed n decisions from x) (w from x) (least_at row x)

@@ -1,0 +1,61 @@
+-- Weights under combs as code finds them: by the sets of the combs, each with the multiplier of its comb.
+use Rattle.std.specs.Prelude.{◌≢◌, ℕ, ◌*◌, ◌<◌, List, [], map, length, slice_index_or, ℤ, pos, ◌-ℤ◌, ◌*ℤ◌}
+use Rattle.std.specs.Global.{Vec}
+use Rattle.std.specs.List.{All, AllPairs}
+use Rattle.tsp_theory.specs.Length.{sum_int_by}
+use Rattle.tsp_theory.specs.Numbers.{IsFromTo}
+use Rattle.tsp_theory.specs.NodeBound.{weight_between}
+use Rattle.tsp_theory.specs.Tree.{crossing}
+use Rattle.tsp_branch.specs.Combs.{has}
+use Rattle.tsp_branch.specs.Sets.{added}
+
+-- the number of a set's comb, and its nodes
+abbrev pub plain : List (ℕ × Vec ℕ) → List (ℕ × List ℕ)
+plain sets = map (λ set. (set.0, set.1.items)) sets
+
+-- what the multipliers of all combs of a leaf sum to at most
+abbrev pub most_multiplied : ℕ
+most_multiplied = 300000000000000000
+
+abbrev pub AreSmallMultipliers : List ℤ → Type 0
+AreSmallMultipliers multipliers = All (IsFromTo (pos 0) (pos most_multiplied)) multipliers
+
+-- the multiplier of a set's comb
+abbrev pub multiplier_of : List ℤ → ℕ × List ℕ → ℤ
+multiplier_of multipliers set = slice_index_or multipliers set.0 (pos 0)
+
+-- each set has the number of a comb that has a multiplier, and each of its nodes once
+abbrev pub AreMultipliedSets : List ℤ → List (ℕ × Vec ℕ) → Type 0
+AreMultipliedSets multipliers sets = All (λ set. (set.0 < length multipliers) × AllPairs (λ a b. a ≢ b) set.1.items) sets
+
+-- the sets that have one of two nodes and not the other, each as often as its multiplier says
+abbrev pub set_crossings : List ℤ → List (ℕ × List ℕ) → ℕ → ℕ → ℤ
+set_crossings multipliers sets i j = sum_int_by (λ set. multiplier_of multipliers set *ℤ crossing (has set.1) i j) sets
+
+-- the multipliers of the sets that have a node
+abbrev pub multipliers_at : List ℤ → List (ℕ × List ℕ) → ℕ → ℤ
+multipliers_at multipliers sets x = sum_int_by (λ set. added (multiplier_of multipliers set) set.1 x) sets
+
+-- of the sets with these numbers those that have a node, each with its multiplier twice
+abbrev pub twice_in : List ℤ → List (ℕ × List ℕ) → ℕ → ℕ → ℤ
+twice_in multipliers sets number x =
+    added (pos 2 *ℤ multiplier_of multipliers (slice_index_or sets number (0, []))) (slice_index_or sets number (0, [])).1 x
+
+abbrev pub inside_both : List ℤ → List (ℕ × List ℕ) → List ℕ → ℕ → ℤ
+inside_both multipliers sets numbers x = sum_int_by (λ number. twice_in multipliers sets number x) numbers
+
+-- the weight between two nodes: by the cost at the scale and both potentials, less the crossings
+abbrev pub set_weight : ℤ → List ℤ → List ℤ → List (ℕ × List ℕ) → (ℕ → ℕ → ℤ) → ℕ → ℕ → ℤ
+set_weight scale potentials multipliers sets cost i j =
+    weight_between scale potentials cost i j -ℤ set_crossings multipliers sets i j
+
+-- how often two nodes cross the sets at most, and how large a weight is: no two teeth of a comb have a node in common, so that
+-- two nodes cross three sets of each comb at most
+abbrev pub most_crossed : ℕ
+most_crossed = 3 * most_multiplied
+
+abbrev pub AreFewCrossings : List ℤ → List (ℕ × List ℕ) → Type 0
+AreFewCrossings multipliers sets = (i j : ℕ) → IsFromTo (pos 0) (pos most_crossed) (set_crossings multipliers sets i j)
+
+abbrev pub most_combed : ℕ
+most_combed = 2000000000000000000

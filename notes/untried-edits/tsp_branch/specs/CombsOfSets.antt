@@ -1,0 +1,37 @@
+-- Combs as code has them: by their sets, of which each has the number of its comb, from 0 on, and the first one is the handle.
+use Rattle.std.specs.Prelude.{◌≡◌, ℕ, zero, suc, ◌==◌, ◌<◌, false, if◌then◌else◌, List, [], ◌∷◌, length, ℤ}
+use Rattle.std.specs.List.{All}
+use Rattle.tsp_theory.specs.Adjusted.{adjusted}
+use Rattle.tsp_branch.specs.Combs.{Comb, comb_of}
+use Rattle.tsp_branch.specs.LeafBound.{crossings_of, leaf_weight}
+use Rattle.tsp_branch.specs.Certificate.{multiplied}
+use Rattle.tsp_branch.specs.Combed.{set_crossings, set_weight}
+
+abbrev pub comb_with : List (List ℕ) → Comb
+comb_with [] = record { handle = λ node. false; teeth = [] }
+comb_with (handle ∷ teeth) = comb_of handle teeth
+
+-- the sets of a comb
+abbrev pub of_comb : ℕ → List (ℕ × List ℕ) → List (List ℕ)
+of_comb comb [] = []
+of_comb comb (set ∷ sets) = if set.0 == comb then (set.1 ∷ of_comb comb sets) else of_comb comb sets
+
+-- so many combs, from a first number on
+abbrev pub combs_from : ℕ → ℕ → List (ℕ × List ℕ) → List Comb
+combs_from first zero sets = []
+combs_from first (suc count) sets = comb_with (of_comb first sets) ∷ combs_from (suc first) count sets
+
+abbrev pub combs_of : ℕ → List (ℕ × List ℕ) → List Comb
+combs_of count sets = combs_from 0 count sets
+
+-- The crossings of the sets are those of the combs.
+abbrev pub SetsTellCombs : Type 0
+SetsTellCombs = (multipliers : List ℤ) (sets : List (ℕ × List ℕ)) (i j : ℕ) → All (λ set. set.0 < length multipliers) sets
+    → crossings_of (multiplied (combs_of (length multipliers) sets) multipliers) i j ≡ set_crossings multipliers sets i j
+
+-- So the weights by sets are, under taken and avoided pairs, those of a leaf.
+abbrev pub SetsGiveLeaves : Type 0
+SetsGiveLeaves = (scale : ℤ) (potentials multipliers : List ℤ) (taken avoided : List (ℕ × ℕ × ℤ)) (sets : List (ℕ × List ℕ))
+    (cost : ℕ → ℕ → ℤ) (i j : ℕ) → All (λ set. set.0 < length multipliers) sets
+    → adjusted taken avoided (set_weight scale potentials multipliers sets cost) i j
+    ≡ leaf_weight scale potentials taken avoided (multiplied (combs_of (length multipliers) sets) multipliers) cost i j

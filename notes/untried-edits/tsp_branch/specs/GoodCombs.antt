@@ -1,0 +1,40 @@
+-- Which comb is bad: combs are told by sets of nodes, and these need not be those of combs.
+use Rattle.std.specs.Prelude.{◌≡◌, ◌≢◌, ℕ, ◌+◌, ◌*◌, ◌≤◌, ◌<◌, List, map, Option, None, Some}
+use Rattle.std.specs.Global.{Vec}
+use Rattle.std.specs.List.{All, AllPairs}
+use Rattle.tsp_branch.specs.Combs.{IsComb}
+use Rattle.tsp_branch.specs.CombsOfSets.{comb_with, of_comb, combs_of}
+
+-- no node stands twice in a set
+abbrev pub HasEachOnce : List ℕ → Type 0
+HasEachOnce set = AllPairs (λ a b. a ≢ b) set
+
+-- sets, the handle first, that are those of a comb, each with its nodes once
+pub record IsGoodComb (n : ℕ) (sets : List (List ℕ)) : Type 0 where
+  pub comb : IsComb n (comb_with sets)
+  pub once : All HasEachOnce sets
+
+-- an odd number, at least three
+abbrev pub IsToothCount : ℕ → Type 0
+IsToothCount count = (half : ℕ) × (1 ≤ half) × (count ≡ 2 * half + 1)
+
+-- the first comb that isn't good, counted from 1
+pub record IsFirstBadComb (n combs : ℕ) (sets : List (ℕ × List ℕ)) (first : ℕ) : Type 0 where
+  pub least : 1 ≤ first
+  pub most : first ≤ combs
+  pub before : (comb : ℕ) → comb + 1 < first → IsGoodComb n (of_comb comb sets)
+  pub bad : (comb : ℕ) → comb + 1 ≡ first → IsGoodComb n (of_comb comb sets) → ⊥
+
+-- Where no comb is bad, the sets are those of combs, each with its nodes once; else the first bad one is told.
+abbrev pub AreCombsJudged : ℕ → ℕ → List (ℕ × List ℕ) → Option ℕ → Type 0
+AreCombsJudged n combs sets None = ((comb : ℕ) → comb < combs → IsGoodComb n (of_comb comb sets))
+    × All (IsComb n) (combs_of combs sets) × All (λ set. HasEachOnce set.1) sets
+AreCombsJudged n combs sets (Some first) = IsFirstBadComb n combs sets first
+
+-- the sets are told comb by comb
+abbrev pub AreInOrder : List (ℕ × Vec ℕ) → Type 0
+AreInOrder sets = AllPairs (λ set later. set.0 ≤ later.0) sets
+
+-- the nodes of sets
+abbrev pub lists_of : List (ℕ × Vec ℕ) → List (List ℕ)
+lists_of sets = map (λ set. set.1.items) sets

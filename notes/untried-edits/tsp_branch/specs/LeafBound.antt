@@ -1,0 +1,60 @@
+-- The bound of potentials, of numbers on pairs, and of combs: what the crossings of combs add to that of tsp_theory.
+use Rattle.std.specs.Prelude.{◌≡◌, ℕ, ◌≤◌, List, [], length, ℤ, pos, ◌+ℤ◌, ◌-ℤ◌, ◌*ℤ◌, ◌≤ℤ◌}
+use Rattle.std.specs.List.{All}
+use Rattle.tsp_theory.specs.Costs.{IsSymmetric}
+use Rattle.tsp_theory.specs.Cycle.{IsCycle}
+use Rattle.tsp_theory.specs.Length.{sum_int_by, length_of}
+use Rattle.tsp_theory.specs.Numbers.{IsScale, total, IsLeastBound}
+use Rattle.tsp_theory.specs.Tree.{weight_of, IsLeastOneTree}
+use Rattle.tsp_theory.specs.NodeBound.{weight_between}
+use Rattle.tsp_theory.specs.Adjusted.{adjusted, total_of, UsesEach, UsesNone, IsAdjustedBound}
+use Rattle.tsp_branch.specs.Combs.{Comb, IsComb, crossings, least_crossings}
+
+-- combs with a multiplier each, which isn't negative
+abbrev pub AreMultiplied : ℕ → List (Comb × ℤ) → Type 0
+AreMultiplied n combs = All (λ multiplied. IsComb n multiplied.0 × (pos 0 ≤ℤ multiplied.1)) combs
+
+-- the crossings of two nodes, each times the multiplier of its comb; the same of the least crossings of a cycle
+abbrev pub crossings_of : List (Comb × ℤ) → ℕ → ℕ → ℤ
+crossings_of combs i j = sum_int_by (λ multiplied. multiplied.1 *ℤ crossings multiplied.0 i j) combs
+
+abbrev pub least_of : List (Comb × ℤ) → ℤ
+least_of combs = sum_int_by (λ multiplied. multiplied.1 *ℤ least_crossings multiplied.0) combs
+
+-- weights less the crossings
+abbrev pub combed : List (Comb × ℤ) → (ℕ → ℕ → ℤ) → ℕ → ℕ → ℤ
+combed combs w i j = w i j -ℤ crossings_of combs i j
+
+-- the weight between two nodes: the cost at the scale and the potentials of both, less the numbers of taken pairs, more by
+-- those of avoided ones, and less the crossings
+abbrev pub leaf_weight : ℤ → List ℤ → List (ℕ × ℕ × ℤ) → List (ℕ × ℕ × ℤ) → List (Comb × ℤ) → (ℕ → ℕ → ℤ) → ℕ → ℕ → ℤ
+leaf_weight scale potentials taken avoided combs cost =
+    combed combs (adjusted taken avoided (weight_between scale potentials cost))
+
+-- the bound of a 1-tree of this weight: each potential is taken off twice, and what the numbers of taken pairs and the combs take
+-- off every cycle is given back
+abbrev pub IsLeafBoundOf : ℤ → List ℤ → List (ℕ × ℕ × ℤ) → List (Comb × ℤ) → ℤ → ℤ → Type 0
+IsLeafBoundOf scale potentials taken combs weight bound =
+    IsLeastBound scale (((weight -ℤ (pos 2 *ℤ total potentials)) +ℤ total_of taken) +ℤ least_of combs) bound
+
+-- the bound of potentials, of numbers on taken and avoided pairs, and of combs: that of a least 1-tree
+pub record IsLeafBound (n : ℕ) (cost : ℕ → ℕ → ℤ) (scale : ℤ) (potentials : List ℤ) (taken avoided : List (ℕ × ℕ × ℤ))
+    (combs : List (Comb × ℤ)) (bound : ℤ) : Type 0 where
+  pub tree : List (ℕ × ℕ)
+  pub least : IsLeastOneTree n (leaf_weight scale potentials taken avoided combs cost) tree
+  pub bound_is : IsLeafBoundOf scale potentials taken combs
+      (weight_of (leaf_weight scale potentials taken avoided combs cost) tree) bound
+
+-- It is at most the length of every cycle that uses the taken pairs and none of the avoided.
+abbrev pub LeafBoundsBoundCycles : Type 0
+LeafBoundsBoundCycles = (n : ℕ) (cost : ℕ → ℕ → ℤ) (scale : ℤ) (potentials : List ℤ) (taken avoided : List (ℕ × ℕ × ℤ))
+    (combs : List (Comb × ℤ)) (bound : ℤ) (nodes : List ℕ)
+    → 3 ≤ n → IsSymmetric cost → IsScale scale → length potentials ≡ n → AreMultiplied n combs
+    → IsLeafBound n cost scale potentials taken avoided combs bound
+    → IsCycle n nodes → UsesEach taken nodes → UsesNone avoided nodes → bound ≤ℤ length_of cost nodes
+
+-- With no comb it is the bound of tsp_theory.
+abbrev pub UncombedBoundsAreAdjustedBounds : Type 0
+UncombedBoundsAreAdjustedBounds = (n : ℕ) (cost : ℕ → ℕ → ℤ) (scale : ℤ) (potentials : List ℤ) (taken avoided : List (ℕ × ℕ × ℤ))
+    (bound : ℤ) → IsLeafBound n cost scale potentials taken avoided [] bound
+    → IsAdjustedBound n cost scale potentials taken avoided bound

@@ -1,0 +1,39 @@
+-- Sets of nodes as code has them, each with the number of its comb, and what they add to a row of numbers by node.
+use Rattle.std.specs.Prelude.{◌≡◌, ℕ, suc, ◌==◌, ◌+◌, ◌++◌, ◌<◌, ◌≤◌, if◌then◌else◌, List, [], ◌∷◌, length, slice_index_or, ℤ, pos, ◌+ℤ◌, ◌⊎◌}
+use Rattle.std.specs.Int.{w64, int_wrap}
+use Rattle.std.specs.Global.{Vec}
+use Rattle.std.specs.List.{All}
+use Rattle.tsp_format.specs.Cells.{IsNode}
+use Rattle.tsp_theory.specs.Length.{sum_int_by}
+
+-- a value as it was, where nothing is added; else what is left of the sum in 64 bits
+abbrev pub IsMoved : ℤ → ℤ → ℤ → Type 0
+IsMoved change old new = ((new ≡ old) × (change ≡ pos 0)) ⊎ (new ≡ int_wrap w64 (old +ℤ change))
+
+-- what comes to a node where a number is added for each place at which the node stands
+abbrev pub added : ℤ → List ℕ → ℕ → ℤ
+added number nodes x = sum_int_by (λ node. if node == x then number else pos 0) nodes
+
+-- a number, as often as a node stands in a list
+abbrev pub times : ℕ → List ℕ → ℕ → List ℕ
+times number [] x = []
+times number (node ∷ nodes) x = if node == x then (number ∷ times number nodes x) else times number nodes x
+
+-- the numbers of the sets that have a node, from a first number on
+abbrev pub sets_with : ℕ → List (ℕ × Vec ℕ) → ℕ → List ℕ
+sets_with number [] x = []
+sets_with number (set ∷ sets) x = times number set.1.items x ++ sets_with (suc number) sets x
+
+-- lists to which such numbers were added
+abbrev pub IsListed : (ℕ → List ℕ) → List (Vec ℕ) → List (Vec ℕ) → Type 0
+IsListed more old new = (length new ≡ length old)
+    × ((x : ℕ) (a b : Vec ℕ) → x < length old → (slice_index_or new x a).items ≡ (slice_index_or old x b).items ++ more x)
+
+-- of each of 0..n the numbers of the sets that have it
+pub record IsSetTable (n : ℕ) (sets : List (ℕ × Vec ℕ)) (lists : List (Vec ℕ)) : Type 0 where
+  pub count : length lists ≡ n + 1
+  pub said : (x : ℕ) (default : Vec ℕ) → x ≤ n → (slice_index_or lists x default).items ≡ sets_with 0 sets x
+
+-- sets of nodes of 1..n
+abbrev pub AreSetsOf : ℕ → List (ℕ × Vec ℕ) → Type 0
+AreSetsOf n sets = All (λ set. All (IsNode n) set.1.items) sets

@@ -1,0 +1,29 @@
+-- What a least 1-tree weighs, and the bound that its weight gives.
+use Rattle.std.specs.Prelude.{◌≡◌, ℕ, List, ℤ, pos, ◌+ℤ◌, ◌-ℤ◌, ◌*ℤ◌}
+use Rattle.tsp_theory.specs.Numbers.{total, IsLeastBound}
+use Rattle.tsp_theory.specs.Tree.{weight_of, IsLeastOneTree}
+use Rattle.tsp_theory.specs.Adjusted.{total_of}
+use Rattle.tsp_branch.specs.Combs.{Comb}
+use Rattle.tsp_branch.specs.LeafBound.{least_of, leaf_weight, IsLeafBound}
+
+-- the weight of a 1-tree than which none weighs less
+pub record IsLeastWeight (n : ℕ) (w : ℕ → ℕ → ℤ) (weight : ℤ) : Type 0 where
+  pub tree : List (ℕ × ℕ)
+  pub least : IsLeastOneTree n w tree
+  pub weight_is : weight ≡ weight_of w tree
+
+-- the least whole number that at the scale is no less than such a weight and what is given back
+pub record IsBoundOfWeights (n : ℕ) (w : ℕ → ℕ → ℤ) (scale given_back bound : ℤ) : Type 0 where
+  pub weight : ℤ
+  pub weighs : IsLeastWeight n w weight
+  pub bound_is : IsLeastBound scale (weight +ℤ given_back) bound
+
+-- what a leaf gives back: the numbers of its taken pairs and the least crossings of its combs, less each potential twice
+abbrev pub given_back_of : List ℤ → List (ℕ × ℕ × ℤ) → List (Comb × ℤ) → ℤ
+given_back_of potentials taken combs = (total_of taken +ℤ least_of combs) -ℤ (pos 2 *ℤ total potentials)
+
+-- the bound is that of each leaf that has these weights and gives this back
+abbrev pub BoundsEachLeaf : ℕ → (ℕ → ℕ → ℤ) → ℤ → ℤ → ℤ → Type 0
+BoundsEachLeaf n w scale given_back bound = (cost : ℕ → ℕ → ℤ) (potentials : List ℤ) (taken avoided : List (ℕ × ℕ × ℤ))
+    (combs : List (Comb × ℤ)) → ((i j : ℕ) → w i j ≡ leaf_weight scale potentials taken avoided combs cost i j)
+    → given_back ≡ given_back_of potentials taken combs → IsLeafBound n cost scale potentials taken avoided combs bound

@@ -1,0 +1,48 @@
+//! What the sets of a node add to its row.
+
+ghost use Rattle.std.specs.Prelude.{◌≡◌, ◌<◌, ◌+ℤ◌, ℕ, length};
+ghost use Rattle.std.specs.Int.{w64, int_wrap};
+ghost use Rattle.std.specs.List.{All};
+ghost use Rattle.tsp_theory.specs.Growth.{least_at};
+ghost use Rattle.tsp_branch.specs.Sets.{IsMoved, added};
+ghost use Rattle.tsp_branch.specs.Combed.{plain, AreSmallMultipliers, AreMultipliedSets, inside_both};
+
+use crate::sets::add_to_nodes;
+
+/// Adds to a row, at each node of the sets with these numbers, the set's multiplier twice.
+pub(crate) fn add_sets(
+    row: &mut [i64],
+    numbers: &[u32],
+    sets: &[(u32, Vec<u32>)],
+    multipliers: &[i64],
+)
+    requires numbers { All (λ number. number < length sets.now) numbers.now }
+    requires nodes { All (λ set. All (λ node. node < length row.old) set.1.items) sets.now }
+    requires sets { AreMultipliedSets multipliers.now sets.now }
+    requires small { AreSmallMultipliers multipliers.now }
+    ensures { (x : ℕ) → IsMoved (inside_both multipliers.now (plain sets.now) numbers.now x)
+        (least_at row.old x) (least_at row.new x) }
+{
+    'numbers: for number in numbers {
+        let set = &sets[*number as usize];
+        add_where_any(row, &set.1, 2 * multipliers[set.0 as usize]);
+    }
+}
+
+/// Adds a number at each node of a list: nothing has to be done for 0.
+pub(crate) fn add_where_any(row: &mut [i64], nodes: &[u32], number: i64)
+    requires { All (λ node. node < length row.old) nodes.now }
+    ensures { (x : ℕ) → IsMoved (added number nodes.now x) (least_at row.old x) (least_at row.new x) }
+{
+    if number != 0 {
+        add_to_nodes(row, nodes, number);
+    }
+}
+
+/// What is left in 64 bits of a sum.
+#[inline]
+pub(crate) fn sum_left(a: i64, b: i64) -> i64
+    ensures { result ≡ int_wrap w64 (a +ℤ b) }
+{
+    a.wrapping_add(b)
+}

@@ -1,0 +1,179 @@
+//! The bound of a certificate by branching.
+
+ghost use Rattle.std.specs.Prelude.{◌≡◌, ◌≢◌, ◌≤◌, ◌<◌, ◌^◌, ◌++◌, length, IfOk, IfSome};
+ghost use Rattle.std.specs.List.{All, AllPairs};
+ghost use Rattle.tsp_format.specs.Steps.{steps_of};
+ghost use Rattle.tsp_theory.specs.Numbers.{IsScale, IsBoundSized};
+ghost use Rattle.tsp_branch.specs.Combs.{IsComb};
+ghost use Rattle.tsp_branch.specs.Decisions.{DecideOnce};
+ghost use Rattle.tsp_branch.specs.Sets.{AreSetsOf};
+ghost use Rattle.tsp_branch.specs.Combed.{plain};
+ghost use Rattle.tsp_branch.specs.CombsOfSets.{combs_of};
+ghost use Rattle.tsp_branch.specs.Decided.{IsDecision, case_of, stack_of};
+ghost use Rattle.tsp_branch.specs.Listed.{no_numbers_of, listed_steps, AreSteps, IsJudged, BoundsCycles, IsSized, IsLowest};
+ghost use Rattle.tsp_branch.specs.Rooms.{IsRoom, AreSmall, IsJudgedLeaf};
+
+use crate::judge::judge;
+use crate::laws::certificates_bound_cycles;
+use crate::numbers::add_differences;
+use crate::room::Room;
+use crate::sets::sets_by_node;
+use crate::setting::Setting;
+use crate::stack::next_case;
+use crate::steps::Judged;
+use std::alloc::{AllocError, Global};
+use tsp_format::TreeStep;
+use tsp_theory::Symmetric;
+
+/// The bound of a tree of cases: the least of the bounds of its leaves, which is at most the length
+/// of every cycle that keeps the given decisions. Or the first leaf that isn't good: one with an
+/// index past those of the nodes and the combs, with a potential above 10^15 in size, with a
+/// negative multiplier, or with multipliers that sum to more than 3 * 10^17.
+///
+/// The combs are told by their sets, each with the number of its comb from 0 on, the handle before
+/// the teeth. The caller owes three or more nodes, a scale of 1 to 1,000,000, combs, sets and
+/// decisions of nodes, one whole tree of branches, and that no case decides a pair twice.
+///
+/// # Errors
+///
+/// Out of memory, of which it takes some for each node, each comb, each node of a set, and
+/// each decision of a case.
+pub fn branch_bound<C: Symmetric>(
+    alloc: Global,
+    costs: &C,
+    scale: i64,
+    combs: usize,
+    sets: &[(u32, Vec<u32>)],
+    given: &[(u32, u32, bool)],
+    steps: &[TreeStep],
+) -> Result<Judged, AllocError>
+    requires some { 3 ≤ C.nodes costs.now }
+    requires scaled { IsScale scale }
+    requires few_combs { combs < 2 ^ 32 }
+    requires few_sets { length sets.now < 2 ^ 32 }
+    requires few_given { length given.now < 2 ^ 32 }
+    requires few_steps { length steps.now < 2 ^ 32 }
+    requires nodes { AreSetsOf (C.nodes costs.now) sets.now }
+    requires of_combs { All (λ set. (set.0 < combs) × AllPairs (λ a b. a ≢ b) set.1.items) sets.now }
+    requires are_combs { All (IsComb (C.nodes costs.now)) (combs_of combs (plain sets.now)) }
+    requires given_are { All (IsDecision (C.nodes costs.now)) given.now }
+    requires steps { AreSteps (C.nodes costs.now) (case_of given.now) (steps_of steps.now)
+        (listed_steps (C.nodes costs.now) combs (steps_of steps.now)) }
+    ensures judged { IfOk result (IsJudged (C.nodes costs.now) (C.at costs.now) scale
+        (combs_of combs (plain sets.now)) combs (case_of given.now) (steps_of steps.now)) }
+    ensures cycles { IfOk result (BoundsCycles (C.nodes costs.now) (C.at costs.now) (case_of given.now)) }
+    ensures size { IfOk result IsSized }
+{
+    certificates_bound_cycles();
+    let count = costs.count();
+    let by_node = sets_by_node(alloc, count, sets)?;
+    let room = Room::new(alloc, count as usize, combs)?;
+    let setting = Setting {
+        costs,
+        scale,
+        combs,
+        sets,
+        by_node: &by_node,
+        given,
+    };
+    judge_leaves(alloc, &setting, steps, room)
+}
+
+/// The least of the bounds of the leaves, or the first leaf that isn't good.
+///
+/// # Errors
+///
+/// Out of memory.
+fn judge_leaves<C: Symmetric>(
+    alloc: Global,
+    setting: &Setting<C>,
+    steps: &[TreeStep],
+    mut room: Room,
+) -> Result<Judged, AllocError>
+    requires few_steps { length steps.now < 2 ^ 32 }
+    requires are_combs { All (IsComb (C.nodes setting.now.costs.now))
+        (combs_of setting.now.combs (plain setting.now.sets.now)) }
+    requires steps { AreSteps (C.nodes setting.now.costs.now) (case_of setting.now.given.now)
+        (steps_of steps.now) (listed_steps (C.nodes setting.now.costs.now) setting.now.combs (steps_of steps.now)) }
+    requires room { IsRoom (C.nodes setting.now.costs.now) setting.now.combs room }
+    requires start { room.numbers.items ≡ no_numbers_of (C.nodes setting.now.costs.now) setting.now.combs }
+    ensures judged { IfOk result (IsJudged (C.nodes setting.now.costs.now) (C.at setting.now.costs.now)
+        setting.now.scale (combs_of setting.now.combs (plain setting.now.sets.now)) setting.now.combs
+        (case_of setting.now.given.now) (steps_of steps.now)) }
+    ensures size { IfOk result IsSized }
+{
+    let mut stack: Vec<(u32, u32, bool)> = Vec::new(alloc);
+    let mut lowest = None;
+    let mut leaf = 0;
+    'steps: for step in steps {
+        match step {
+            TreeStep::Branch(first, second) => stack.push((*first, *second, true))?,
+            TreeStep::Leaf(changes) => {
+                leaf += 1;
+                let Some(own) = judge_leaf(alloc, setting, changes, &stack, &mut room)? else {
+                    return Ok(Judged::BadLeaf(leaf));
+                };
+                let lower = lower(lowest, own);
+                if !next_case(&mut stack) {
+                    return Ok(Judged::Bound(lower));
+                }
+                lowest = Some(lower);
+            }
+        }
+    }
+    unreachable!()
+}
+
+/// The bound of a leaf, whose numbers are kept; `None` where it isn't good.
+///
+/// # Errors
+///
+/// Out of memory.
+fn judge_leaf<C: Symmetric>(
+    alloc: Global,
+    setting: &Setting<C>,
+    changes: &[(u32, i64)],
+    decisions: &[(u32, u32, bool)],
+    room: &mut Room,
+) -> Result<Option<i128>, AllocError>
+    requires are_combs { All (IsComb (C.nodes setting.now.costs.now))
+        (combs_of setting.now.combs (plain setting.now.sets.now)) }
+    requires few_changes { length changes.now < 2 ^ 32 }
+    requires few_decisions { length decisions.now < 2 ^ 32 }
+    requires pairs { All (IsDecision (C.nodes setting.now.costs.now)) decisions.now }
+    requires once { DecideOnce (stack_of decisions.now ++ case_of setting.now.given.now) }
+    requires room { IsRoom (C.nodes setting.now.costs.now) setting.now.combs room.old }
+    requires small { AreSmall room.old.numbers.items }
+    ensures judged { IfOk result (IsJudgedLeaf (C.nodes setting.now.costs.now) (C.at setting.now.costs.now)
+        setting.now.scale (combs_of setting.now.combs (plain setting.now.sets.now)) setting.now.combs
+        (stack_of decisions.now ++ case_of setting.now.given.now) room.old.numbers.items changes.now
+        room.new.numbers.items) }
+    ensures room { IfOk result (λ own. IsRoom (C.nodes setting.now.costs.now) setting.now.combs room.new) }
+    ensures size { IfOk result (λ own. IfSome own IsBoundSized) }
+{
+    if !add_differences(&mut room.numbers, changes) {
+        return Ok(None);
+    }
+    if !judge(&room.numbers, &mut room.potentials, &mut room.multipliers) {
+        return Ok(None);
+    }
+    let bound = setting.case_bound(
+        alloc,
+        &room.potentials,
+        &room.multipliers,
+        decisions,
+        &mut room.row,
+        &mut room.moved,
+    )?;
+    Ok(Some(bound))
+}
+
+/// The lower one of a bound and the lowest so far.
+fn lower(lowest: Option<i128>, bound: i128) -> i128
+    ensures { IsLowest lowest bound result }
+{
+    match lowest {
+        Some(other) if other < bound => other,
+        _ => bound,
+    }
+}

@@ -1,0 +1,152 @@
+//! Weights under combs.
+
+ghost use Rattle.std.specs.Prelude.{◌≡◌, ◌+◌, ◌+ℤ◌, ℕ, length, neg_ℤ};
+ghost use Rattle.std.specs.Int.{w64, int_wrap};
+ghost use Rattle.tsp_format.specs.Cells.{IsNode};
+ghost use Rattle.tsp_theory.specs.Numbers.{IsFromTo, IsScale, ArePotentials, entry};
+ghost use Rattle.tsp_theory.specs.Growth.{least_at};
+ghost use Rattle.tsp_branch.specs.Sets.{IsMoved, IsSetTable, AreSetsOf};
+ghost use Rattle.tsp_branch.specs.Combed.{plain, AreSmallMultipliers, AreMultipliedSets, multipliers_at, AreFewCrossings, set_weight};
+
+use crate::add_sets::add_sets;
+use crate::growth::weight_in;
+use crate::scaled::scale_row;
+use crate::weights::Weights;
+use tsp_theory::Costs;
+
+/// Costs, a scale, potentials, and sets of nodes with the multipliers of their combs.
+///
+/// What two nodes cross of a set is 1 for each of them that it has, less 2 where it has both. So
+/// each multiplier is taken off the potentials of its sets' nodes, and a row needs besides these
+/// only the sets of its own node.
+#[derive(Drop)]
+pub struct CombedWeights<'a, C: Costs> {
+    costs: &'a C,
+    scale: i64,
+    potentials: &'a [i64],
+    multipliers: &'a [i64],
+    sets: &'a [(u32, Vec<u32>)],
+    by_node: &'a [Vec<u32>],
+    moved: &'a [i64],
+    ghost scaled: { IsScale scale },
+    ghost small: { AreSmallMultipliers multipliers.now },
+    ghost nodes: { AreSetsOf (C.nodes costs.now) sets.now },
+    ghost combs: { AreMultipliedSets multipliers.now sets.now },
+    ghost table: { IsSetTable (C.nodes costs.now) sets.now by_node.now },
+    ghost places: { length moved.now ≡ C.nodes costs.now + 1 },
+    ghost are_moved: { (x : ℕ) → IsNode (C.nodes costs.now) x
+        → int_wrap w64 (least_at moved.now x)
+        ≡ int_wrap w64 (entry potentials.now x +ℤ neg_ℤ (multipliers_at multipliers.now (plain sets.now) x)) },
+    ghost long: { length potentials.now ≡ C.nodes costs.now },
+    ghost potentials_are: { ArePotentials potentials.now },
+    ghost crossed: { AreFewCrossings multipliers.now (plain sets.now) },
+}
+
+impl<'a, C: Costs> CombedWeights<'a, C> {
+    ghost use Rattle.std.specs.Prelude.{◌≡◌, ◌+◌, ◌+ℤ◌, ℕ, length, pos, neg_ℤ};
+    ghost use Rattle.std.specs.Int.{w64, int_wrap};
+    ghost use Rattle.tsp_format.specs.Cells.{IsNode};
+    ghost use Rattle.tsp_theory.specs.Numbers.{IsFromTo, IsScale, ArePotentials, entry};
+    ghost use Rattle.tsp_theory.specs.Growth.{least_at};
+    ghost use Rattle.tsp_theory.specs.NodeBound.{weight_between};
+    ghost use Rattle.tsp_theory.specs.NodeBound.{most_between};
+    ghost use Rattle.tsp_branch.specs.Sets.{IsMoved, IsSetTable, AreSetsOf};
+    ghost use Rattle.tsp_branch.specs.Combed.{plain, AreSmallMultipliers, AreMultipliedSets, multipliers_at, AreFewCrossings, most_combed, set_weight};
+
+    /// The weights of these costs, potentials and sets.
+    ///
+    /// The caller owes a scale of 1 to 1,000,000; as many potentials as nodes, each at most 10^15 in
+    /// size; multipliers that aren't negative, each at most 3 * 10^17; sets of different nodes, each
+    /// with the number of a comb, of which no two nodes cross more than 9 * 10^17 with the
+    /// multipliers; by node the numbers of its sets; and by node what is left in 64 bits of its
+    /// potential less its sets' multipliers.
+    pub fn of(
+        costs: &'a C,
+        scale: i64,
+        potentials: &'a [i64],
+        multipliers: &'a [i64],
+        sets: &'a [(u32, Vec<u32>)],
+        by_node: &'a [Vec<u32>],
+        moved: &'a [i64],
+    ) -> CombedWeights<'a, C>
+        requires scaled { IsScale scale }
+        requires small { AreSmallMultipliers multipliers.now }
+        requires nodes { AreSetsOf (C.nodes costs.now) sets.now }
+        requires combs { AreMultipliedSets multipliers.now sets.now }
+        requires table { IsSetTable (C.nodes costs.now) sets.now by_node.now }
+        requires places { length moved.now ≡ C.nodes costs.now + 1 }
+        requires are_moved { (x : ℕ) → IsNode (C.nodes costs.now) x → int_wrap w64 (least_at moved.now x)
+            ≡ int_wrap w64 (entry potentials.now x +ℤ neg_ℤ (multipliers_at multipliers.now (plain sets.now) x)) }
+        requires long { length potentials.now ≡ C.nodes costs.now }
+        requires potentials_are { ArePotentials potentials.now }
+        requires crossed { AreFewCrossings multipliers.now (plain sets.now) }
+        ensures nodes { C.nodes result.costs.now ≡ C.nodes costs.now }
+        ensures weights { (i j : ℕ) → set_weight result.scale result.potentials.now result.multipliers.now
+            (plain result.sets.now) (C.at result.costs.now) i j
+            ≡ set_weight scale potentials.now multipliers.now (plain sets.now) (C.at costs.now) i j }
+    {
+        CombedWeights {
+            costs,
+            scale,
+            potentials,
+            multipliers,
+            sets,
+            by_node,
+            moved,
+        }
+    }
+
+    /// A row of these as if no set had two nodes; and how large the weights between the node and
+    /// others are without combs.
+    fn fill_apart(&self, from: u32, row: &mut [i64])
+        requires from { IsNode (C.nodes self.now.costs.now) from }
+        requires room { length row.old ≡ C.nodes self.now.costs.now + 1 }
+        ensures values { (x : ℕ) → IsNode (C.nodes self.now.costs.now) x
+            → IsMoved (neg_ℤ (multipliers_at self.now.multipliers.now (plain self.now.sets.now) from)
+            +ℤ neg_ℤ (multipliers_at self.now.multipliers.now (plain self.now.sets.now) x))
+            (weight_between self.now.scale self.now.potentials.now (C.at self.now.costs.now) from x)
+            (least_at row.new x) }
+        ensures sizes { (x : ℕ) → IsNode (C.nodes self.now.costs.now) x
+            → IsFromTo (neg_ℤ (pos most_between)) (pos most_between)
+            (weight_between self.now.scale self.now.potentials.now (C.at self.now.costs.now) from x) }
+    {
+        self.costs.costs_from(from, row);
+        scale_row(row, self.moved, self.scale, weight_in(self.moved, from));
+    }
+
+    /// Writes a row as `fill` does, of weights that are at most 2 * 10^18 in size.
+    pub(crate) fn fill_combed(&self, from: u32, row: &mut [i64])
+        requires from { IsNode (C.nodes self.now.costs.now) from }
+        requires room { length row.old ≡ C.nodes self.now.costs.now + 1 }
+        ensures values { (x : ℕ) → IsNode (C.nodes self.now.costs.now) x → least_at row.new x
+            ≡ set_weight self.now.scale self.now.potentials.now self.now.multipliers.now
+            (plain self.now.sets.now) (C.at self.now.costs.now) from x }
+        ensures sizes { (x : ℕ) → IsNode (C.nodes self.now.costs.now) x
+            → IsFromTo (neg_ℤ (pos most_combed)) (pos most_combed) (least_at row.new x) }
+    {
+        self.fill_apart(from, row);
+        add_sets(
+            row,
+            &self.by_node[from as usize],
+            self.sets,
+            self.multipliers,
+        );
+    }
+}
+
+impl<C: Costs> Weights for CombedWeights<'_, C> {
+    ghost use Rattle.tsp_branch.specs.Combed.{plain, set_weight};
+
+    ghost nodes = { λ w. C.nodes w.costs.now };
+
+    ghost at = { λ w. set_weight w.scale w.potentials.now w.multipliers.now (plain w.sets.now) (C.at w.costs.now) };
+
+    #[inline]
+    fn count(&self) -> u32 {
+        self.costs.count()
+    }
+
+    fn fill(&self, from: u32, row: &mut [i64]) {
+        self.fill_combed(from, row);
+    }
+}

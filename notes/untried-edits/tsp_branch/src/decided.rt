@@ -1,0 +1,124 @@
+//! Weights that decisions change.
+
+ghost use Rattle.std.specs.Prelude.{◌≡◌, ◌<◌, ◌≢◌, ◌+ℤ◌, ℕ, length};
+ghost use Rattle.std.specs.Int.{w64, int_wrap};
+ghost use Rattle.std.specs.List.{All};
+ghost use Rattle.tsp_theory.specs.Growth.{least_at};
+ghost use Rattle.tsp_branch.specs.Sets.{IsMoved};
+ghost use Rattle.tsp_branch.specs.Decided.{IsDecision, IsChanged, AreFewChanges, changes};
+
+use crate::combed::CombedWeights;
+use crate::growth::weight_in;
+use crate::weights::Weights;
+use tsp_theory::Costs;
+
+/// The number on each decided pair. It cancels in the bound: any number would be sound, and this
+/// one is far above all other parts of a weight and lets weights fit 64 bits.
+pub(crate) const DECIDED: i64 = 4_000_000_000_000_000_000;
+
+/// Weights under combs, less a number for each taken pair and more by it for each avoided one.
+///
+/// The decisions are told as those that are given for all cases, and those of a case.
+#[derive(Drop)]
+pub struct DecidedWeights<'a, C: Costs> {
+    combed: &'a CombedWeights<'a, C>,
+    given: &'a [(u32, u32, bool)],
+    decisions: &'a [(u32, u32, bool)],
+    ghost given_are: { All (IsDecision (C.nodes combed.now.costs.now)) given.now },
+    ghost pairs: { All (IsDecision (C.nodes combed.now.costs.now)) decisions.now },
+    ghost once: { AreFewChanges given.now decisions.now },
+}
+
+impl<'a, C: Costs> DecidedWeights<'a, C> {
+    ghost use Rattle.std.specs.Prelude.{◌≡◌, ℕ};
+    ghost use Rattle.std.specs.List.{All};
+    ghost use Rattle.tsp_branch.specs.Combed.{plain, set_weight};
+    ghost use Rattle.tsp_branch.specs.Decided.{IsDecision, AreFewChanges, decided_twice};
+
+    /// The weights under decisions: two nodes, and whether a cycle is to use them as neighbours.
+    ///
+    /// The caller owes pairs of different nodes, no two of which are the same pair.
+    pub fn of(
+        combed: &'a CombedWeights<'a, C>,
+        given: &'a [(u32, u32, bool)],
+        decisions: &'a [(u32, u32, bool)],
+    ) -> DecidedWeights<'a, C>
+        requires given_are { All (IsDecision (C.nodes combed.now.costs.now)) given.now }
+        requires pairs { All (IsDecision (C.nodes combed.now.costs.now)) decisions.now }
+        requires once { AreFewChanges given.now decisions.now }
+        ensures nodes { C.nodes result.combed.now.costs.now ≡ C.nodes combed.now.costs.now }
+        ensures weights { (i j : ℕ) → decided_twice result.given.now result.decisions.now
+            (set_weight result.combed.now.scale result.combed.now.potentials.now result.combed.now.multipliers.now
+            (plain result.combed.now.sets.now) (C.at result.combed.now.costs.now)) i j
+            ≡ decided_twice given.now decisions.now (set_weight combed.now.scale combed.now.potentials.now
+            combed.now.multipliers.now (plain combed.now.sets.now) (C.at combed.now.costs.now)) i j }
+    {
+        DecidedWeights {
+            combed,
+            given,
+            decisions,
+        }
+    }
+}
+
+impl<C: Costs> Weights for DecidedWeights<'_, C> {
+    ghost use Rattle.tsp_branch.specs.Combed.{plain, set_weight};
+    ghost use Rattle.tsp_branch.specs.Decided.{decided_twice};
+
+    ghost nodes = { λ w. C.nodes w.combed.now.costs.now };
+
+    ghost at = { λ w. decided_twice w.given.now w.decisions.now (set_weight w.combed.now.scale
+        w.combed.now.potentials.now w.combed.now.multipliers.now (plain w.combed.now.sets.now)
+        (C.at w.combed.now.costs.now)) };
+
+    #[inline]
+    fn count(&self) -> u32 {
+        self.combed.count()
+    }
+
+    fn fill(&self, from: u32, row: &mut [i64]) {
+        self.combed.fill_combed(from, row);
+        change_row(row, self.given, from);
+        change_row(row, self.decisions, from);
+    }
+}
+
+/// Changes the row of a node by decisions.
+fn change_row(row: &mut [i64], decisions: &[(u32, u32, bool)], from: u32)
+    requires { All (λ decision. (decision.0 < length row.old) × (decision.1 < length row.old)
+        × (decision.0 ≢ decision.1)) decisions.now }
+    ensures { (x : ℕ) → IsMoved (changes decisions.now from x) (least_at row.old x) (least_at row.new x) }
+{
+    'decisions: for decision in decisions {
+        change(row, *decision, from);
+    }
+}
+
+/// Changes the row of a node by a decision, where its pair has that node.
+///
+/// What two decisions on one pair come to may go past 64 bits on the way, so sums are taken in
+/// their remainders.
+fn change(row: &mut [i64], decision: (u32, u32, bool), from: u32)
+    requires first { decision.0 < length row.old }
+    requires second { decision.1 < length row.old }
+    requires differ { decision.0 ≢ decision.1 }
+    ensures { (x : ℕ) → IsChanged decision from x (least_at row.old x) (least_at row.new x) }
+{
+    let number = if decision.2 { -DECIDED } else { DECIDED };
+    if decision.0 == from {
+        add_at(row, decision.1, number);
+    } else if decision.1 == from {
+        add_at(row, decision.0, number);
+    }
+}
+
+/// Adds a number at a place.
+#[inline]
+pub(crate) fn add_at(row: &mut [i64], node: u32, number: i64)
+    requires { node < length row.old }
+    ensures here { least_at row.new node ≡ int_wrap w64 (least_at row.old node +ℤ number) }
+    ensures others { (x : ℕ) → x ≢ node → least_at row.new x ≡ least_at row.old x }
+{
+    let old = weight_in(row, node);
+    row[node as usize] = old.wrapping_add(number);
+}

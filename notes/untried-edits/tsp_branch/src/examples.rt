@@ -1,0 +1,77 @@
+//! A small comb and small trees, on which the definitions are evaluated.
+
+ghost use Rattle.std.specs.Prelude.{◌≡◌, ℕ, ℤ, List, [], ◌∷◌, pos, ◌-ℤ◌, ◌+ℤ◌};
+ghost use Rattle.tsp_branch.specs.Combs.{least_crossings};
+ghost use Rattle.tsp_branch.specs.Cases.{Branch, Leaf};
+ghost use Rattle.tsp_branch.specs.Examples.{small_comb, Crosses, CrossesInAll, large, no_numbers, one_at_two, WeighsAt, WeighsUnderComb, four_rows, six_rows, LengthIs, FourHave, SixHave, IsTreeOf, IsNoTree, with_pair, without_pair};
+ghost use Rattle.tsp_branch.specs.VerdictExamples.{IsBadComb, three_teeth, TwiceAt, branches, branches_apart, on_both_sides};
+
+/// How often some nodes cross the parts of a comb, and how often two cycles do: the first one as
+/// often as each cycle does at the least.
+pub fn examples_of_crossings()
+    ensures least { least_crossings small_comb ≡ pos 10 }
+    ensures itself { Crosses 1 1 0 }
+    ensures handle_alone { Crosses 1 4 1 }
+    ensures handle_alone_turned { Crosses 4 1 1 }
+    ensures two_teeth_inside { Crosses 1 2 2 }
+    ensures two_teeth_outside { Crosses 4 6 2 }
+    ensures all_three { Crosses 1 5 3 }
+    ensures outside_all { Crosses 7 8 0 }
+    ensures handle_and_tooth { Crosses 1 7 2 }
+    ensures tooth_alone { Crosses 4 7 1 }
+    ensures best_cycle { CrossesInAll (1 ∷ 2 ∷ 3 ∷ 6 ∷ 5 ∷ 4 ∷ []) 10 }
+    ensures other_cycle { CrossesInAll (1 ∷ 2 ∷ 3 ∷ 4 ∷ 5 ∷ 6 ∷ []) 14 }
+{}
+
+/// What some pairs weigh at the leaves of two certificates.
+pub fn examples_of_weights()
+    ensures taken { WeighsAt (with_pair 1 2 ∷ []) 1 2 (pos 2 -ℤ large) }
+    ensures taken_turned { WeighsAt (with_pair 2 1 ∷ []) 1 2 (pos 2 -ℤ large) }
+    ensures avoided { WeighsAt (without_pair 1 2 ∷ []) 1 2 (pos 2 +ℤ large) }
+    ensures at_node_two { WeighsAt (with_pair 1 2 ∷ []) 2 3 (pos 2) }
+    ensures elsewhere { WeighsAt (with_pair 1 2 ∷ []) 3 4 (pos 3) }
+    ensures both { WeighsAt (without_pair 3 4 ∷ with_pair 1 2 ∷ []) 4 3 (pos 3 +ℤ large) }
+    ensures in_handle { WeighsUnderComb 1 2 (pos 2) }
+    ensures in_tooth { WeighsUnderComb 1 4 (pos 1) }
+    ensures across { WeighsUnderComb 1 5 (pos 15) }
+{}
+
+/// The bounds of some certificates, and tours that are as long as the highest of them.
+pub fn examples_of_bounds()
+    ensures potentials_alone { FourHave (Leaf (no_numbers 4) ∷ []) (pos 5) }
+    ensures branch { FourHave (Branch (1, 2) ∷ Leaf one_at_two ∷ Leaf one_at_two ∷ []) (pos 6) }
+    ensures no_multiplier { SixHave [] (pos 9) }
+    ensures comb { SixHave (pos 1 ∷ []) (pos 10) }
+    ensures tour_of_four { LengthIs four_rows (1 ∷ 3 ∷ 2 ∷ 4 ∷ []) (pos 6) }
+    ensures tour_of_six { LengthIs six_rows (1 ∷ 2 ∷ 3 ∷ 6 ∷ 5 ∷ 4 ∷ []) (pos 10) }
+{}
+
+/// Which steps are a tree, and the cases of its leaves.
+pub fn examples_of_trees()
+    ensures leaf { IsTreeOf (Leaf (no_numbers 4) ∷ []) ([] ∷ []) }
+    ensures branch { IsTreeOf (Branch (1, 2) ∷ Leaf one_at_two ∷ Leaf one_at_two ∷ [])
+        ((with_pair 1 2 ∷ []) ∷ (without_pair 1 2 ∷ []) ∷ []) }
+    ensures first_deeper { IsTreeOf (Branch (1, 2) ∷ Branch (1, 3) ∷ Leaf one_at_two ∷ Leaf one_at_two ∷ Leaf one_at_two ∷ [])
+        ((with_pair 1 3 ∷ with_pair 1 2 ∷ []) ∷ (without_pair 1 3 ∷ with_pair 1 2 ∷ []) ∷ (without_pair 1 2 ∷ []) ∷ []) }
+    ensures second_deeper { IsTreeOf (Branch (1, 2) ∷ Leaf one_at_two ∷ Branch (1, 3) ∷ Leaf one_at_two ∷ Leaf one_at_two ∷ [])
+        ((with_pair 1 2 ∷ []) ∷ (with_pair 1 3 ∷ without_pair 1 2 ∷ []) ∷ (without_pair 1 3 ∷ without_pair 1 2 ∷ []) ∷ []) }
+    ensures nothing { IsNoTree [] }
+    ensures one_leaf_missing { IsNoTree (Branch (1, 2) ∷ Leaf one_at_two ∷ []) }
+    ensures one_leaf_more { IsNoTree (Leaf (no_numbers 4) ∷ Leaf (no_numbers 4) ∷ []) }
+{}
+
+/// Sets that are not those of a comb, and branches that come twice.
+pub fn examples_of_verdicts()
+    ensures no_sets { IsBadComb [] }
+    ensures one_tooth { IsBadComb ((1 ∷ 2 ∷ 3 ∷ []) ∷ (1 ∷ 4 ∷ []) ∷ []) }
+    ensures two_teeth { IsBadComb ((1 ∷ 2 ∷ 3 ∷ []) ∷ (1 ∷ 4 ∷ []) ∷ (2 ∷ 5 ∷ []) ∷ []) }
+    ensures node_twice { IsBadComb ((1 ∷ 2 ∷ 3 ∷ 1 ∷ []) ∷ three_teeth) }
+    ensures teeth_meet { IsBadComb ((1 ∷ 2 ∷ 3 ∷ []) ∷ (1 ∷ 4 ∷ []) ∷ (2 ∷ 4 ∷ []) ∷ (3 ∷ 6 ∷ []) ∷ []) }
+    ensures tooth_inside { IsBadComb ((1 ∷ 2 ∷ 3 ∷ 4 ∷ []) ∷ three_teeth) }
+    ensures tooth_outside { IsBadComb ((1 ∷ 2 ∷ []) ∷ three_teeth) }
+    ensures again { TwiceAt [] (branches 1 2 1 2) 2 }
+    ensures again_turned { TwiceAt [] (branches 1 2 2 1) 2 }
+    ensures given { TwiceAt (with_pair 3 4 ∷ []) (branches 1 2 4 3) 2 }
+    ensures without_it { (changes : List (ℕ × ℤ)) → TwiceAt [] (branches_apart 1 2 1 2 changes) 2 }
+    ensures sides { (changes : List (ℕ × ℤ)) → TwiceAt [] (on_both_sides changes) 4 }
+{}

@@ -1,0 +1,129 @@
+//! Which comb is bad.
+
+ghost use Rattle.std.specs.Prelude.{◌≡◌, ◌≤◌, ◌<◌, ◌-◌, ◌+◌, ◌^◌, ◌↔◌, ◌≢◌, ℕ, IsTrue, length, take, true, IfOk, slice_index_or};
+ghost use Rattle.std.specs.Global.{Vec};
+ghost use Rattle.std.specs.List.{All};
+ghost use Rattle.tsp_format.specs.Cells.{IsNode};
+ghost use Rattle.tsp_branch.specs.Combs.{IsTooth, has};
+ghost use Rattle.tsp_branch.specs.Sets.{AreSetsOf};
+ghost use Rattle.tsp_branch.specs.Combed.{plain};
+ghost use Rattle.tsp_branch.specs.GoodCombs.{IsGoodComb, IsToothCount, AreCombsJudged, AreInOrder, lists_of};
+ghost use Rattle.tsp_branch.specs.Marked.{is_marked, AreUnmarked, HavePlaces, AddsNoOther, AreTeeth};
+
+use crate::marks::{has_node, mark_nodes};
+use std::alloc::{AllocError, Global};
+
+/// The first comb that isn't one, counted from 1: one that has an even number of teeth or fewer than
+/// three, a node twice in a set, two teeth with a node in common, or a tooth inside the handle or
+/// outside of it. `None` where all are combs.
+///
+/// The combs are told by their sets, each with the number of its comb from 0 on, comb by comb, the
+/// handle before the teeth. The caller owes sets of nodes.
+///
+/// # Errors
+///
+/// Out of memory, of which it takes some for each node.
+pub fn first_bad_comb(
+    alloc: Global,
+    nodes: u32,
+    combs: usize,
+    sets: &[(u32, Vec<u32>)],
+) -> Result<Option<usize>, AllocError>
+    requires few_nodes { nodes < 2 ^ 32 - 1 }
+    requires few_combs { combs < 2 ^ 32 }
+    requires nodes { AreSetsOf nodes sets.now }
+    requires of_combs { All (λ set. set.0 < combs) sets.now }
+    requires in_order { AreInOrder sets.now }
+    ensures { IfOk result (AreCombsJudged nodes combs (plain sets.now)) }
+{
+    let mut handles = vec![in alloc; 0; nodes as usize + 1]?;
+    let mut teeth = vec![in alloc; 0; nodes as usize + 1]?;
+    let mut rest = sets;
+    'combs: for comb in 0..combs as u32 {
+        let (own, later) = rest.split_at(count_of(rest, comb));
+        // Marks from 1 on, since 0 stands for no mark.
+        if !is_comb(&mut handles, &mut teeth, comb + 1, own) {
+            return Ok(Some(comb as usize + 1));
+        }
+        rest = later;
+    }
+    Ok(None)
+}
+
+/// How many sets at the front have the number of a comb.
+fn count_of(sets: &[(u32, Vec<u32>)], comb: u32) -> usize
+    ensures most { result ≤ length sets.now }
+    ensures own { All (λ set. set.0 ≡ comb) (take result sets.now) }
+    ensures next { (default : ℕ × Vec ℕ) → result < length sets.now → (slice_index_or sets.now result default).0 ≢ comb }
+{
+    let mut count = 0;
+    'count: while count < sets.len() && sets[count].0 == comb {
+        count += 1;
+    }
+    count
+}
+
+/// Whether sets, the handle first, are those of a comb, each with its nodes once.
+///
+/// The nodes of the handle get a mark, and so do those of the teeth in marks of their own: a mark
+/// that no node has before.
+fn is_comb(handles: &mut [u32], used: &mut [u32], mark: u32, sets: &[(u32, Vec<u32>)]) -> bool
+    requires handle_places { HavePlaces handles.old sets.now }
+    requires tooth_places { HavePlaces used.old sets.now }
+    requires fresh_handle { AreUnmarked handles.old mark }
+    requires fresh_teeth { AreUnmarked used.old mark }
+    ensures comb { (n : ℕ) → AreSetsOf n sets.now → (IsTrue result ↔ IsGoodComb n (lists_of sets.now)) }
+    ensures handle_others { AddsNoOther mark handles.old handles.new }
+    ensures tooth_others { AddsNoOther mark used.old used.new }
+    ensures handle_length { length handles.new ≡ length handles.old }
+    ensures tooth_length { length used.new ≡ length used.old }
+{
+    let Some((handle, teeth)) = sets.split_first() else {
+        return false;
+    };
+    if !is_tooth_count(teeth.len()) {
+        return false;
+    }
+    if !mark_nodes(handles, mark, &handle.1) {
+        return false;
+    }
+    are_teeth(handles, used, mark, teeth)
+}
+
+/// Whether a comb can have so many teeth.
+fn is_tooth_count(count: usize) -> bool
+    ensures { IsTrue result ↔ IsToothCount count }
+{
+    count >= 3 && count % 2 == 1
+}
+
+/// Whether sets are teeth of the handle whose nodes have the mark, and all their nodes different
+/// and without the mark. They get it.
+fn are_teeth(handles: &[u32], used: &mut [u32], mark: u32, teeth: &[(u32, Vec<u32>)]) -> bool
+    requires handle_places { HavePlaces handles.now teeth.now }
+    requires tooth_places { HavePlaces used.old teeth.now }
+    ensures teeth { (n : ℕ) → AreSetsOf n teeth.now → (IsTrue result
+        ↔ AreTeeth n (is_marked handles.now mark) (is_marked used.old mark) (lists_of teeth.now)) }
+    ensures others { AddsNoOther mark used.old used.new }
+    ensures length { length used.new ≡ length used.old }
+{
+    'teeth: for tooth in teeth {
+        let nodes: &[u32] = &tooth.1;
+        if !mark_nodes(used, mark, nodes) {
+            return false;
+        }
+        if !is_tooth(handles, mark, nodes) {
+            return false;
+        }
+    }
+    true
+}
+
+/// Whether nodes are a tooth of the handle whose nodes have the mark.
+fn is_tooth(handles: &[u32], mark: u32, nodes: &[u32]) -> bool
+    requires { All (λ node. node < length handles.now) nodes.now }
+    ensures { (n : ℕ) → All (IsNode n) nodes.now
+        → (IsTrue result ↔ IsTooth n (is_marked handles.now mark) (has nodes.now)) }
+{
+    has_node(handles, mark, nodes, true) && has_node(handles, mark, nodes, false)
+}

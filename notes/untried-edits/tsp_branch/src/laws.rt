@@ -1,0 +1,163 @@
+//! What always holds of bounds by branching, as contracts of functions that do nothing.
+
+ghost use Rattle.std.specs.Prelude.{ℕ, ℤ, List, [], ◌∷◌, ◌≤ℤ◌, Bool, true, false};
+ghost use Rattle.tsp_branch.specs.Combs.{CyclesCrossCombs, NumbersTellCombs, NumbersTellLists};
+ghost use Rattle.tsp_branch.specs.Decisions.{Decision, DecidedBoundsBoundCycles, FixedBoundsBoundTours};
+ghost use Rattle.tsp_branch.specs.LeafBound.{LeafBoundsBoundCycles, UncombedBoundsAreAdjustedBounds};
+ghost use Rattle.tsp_branch.specs.Cases.{decide, BoundsCase, HasNoCycle, BoundsButOpen, CyclesKeepLeaves, CasesBoundCycles, CasesHaveNoCycle, StacksBegin, StacksBranch, StacksHoldCases};
+ghost use Rattle.tsp_branch.specs.Rows.{LinksAreAllowed, NoLinkNoCycle, SumsAreBelowCycles};
+ghost use Rattle.tsp_branch.specs.Families.{CyclesCrossFamilies, RowLeafBoundsBoundCycles};
+ghost use Rattle.tsp_branch.specs.Certificate.{CertificatesBoundCycles, CertificatesBoundTours, CertificateBoundsAreUnique};
+ghost use Rattle.tsp_branch.specs.CombsOfSets.{SetsTellCombs, SetsGiveLeaves};
+
+use tsp_theory::{
+    adjusted_bounds_bound_cycles, cycles_are_permutations, cycles_have_no_loops, lengths_add_up,
+};
+
+/// The bound of potentials and decisions is at most the length of every cycle that keeps the
+/// decisions.
+pub fn decided_bounds_bound_cycles()
+    ensures { DecidedBoundsBoundCycles }
+{
+    adjusted_bounds_bound_cycles();
+}
+
+/// The bound of potentials and of numbers on fixed pairs is at most the length of every tour.
+pub fn fixed_bounds_bound_tours()
+    ensures { FixedBoundsBoundTours }
+{
+    adjusted_bounds_bound_cycles();
+}
+
+/// Each cycle crosses a comb of k teeth at least 3k + 1 times.
+pub fn cycles_cross_combs()
+    ensures { CyclesCrossCombs }
+{
+    cycles_are_permutations();
+    lengths_add_up();
+    cycles_have_no_loops();
+}
+
+/// Where each node has the number of its tooth, these numbers give a comb, and tell how many of its
+/// parts two nodes cross.
+pub fn numbers_tell_combs()
+    ensures { NumbersTellCombs }
+{}
+
+/// Where each node has the number of the tooth in whose list it stands, no two teeth have a node in
+/// common, and the numbers tell how many parts two nodes cross.
+pub fn numbers_tell_lists()
+    ensures { NumbersTellLists }
+{}
+
+/// Sets with the numbers of their combs tell what two nodes cross, and give the weights of a leaf.
+pub fn sets_tell_combs()
+    ensures combs { SetsTellCombs }
+    ensures leaves { SetsGiveLeaves }
+{}
+
+/// The bound of potentials, of numbers on pairs and of combs is at most the length of every cycle
+/// that uses each taken pair and no avoided one. With no comb it is the bound of tsp_theory.
+pub fn leaf_bounds_bound_cycles()
+    ensures cycles { LeafBoundsBoundCycles }
+    ensures uncombed { UncombedBoundsAreAdjustedBounds }
+{
+    cycles_are_permutations();
+    lengths_add_up();
+    cycles_have_no_loops();
+    cycles_cross_combs();
+}
+
+/// Each link of a cycle is allowed by the decisions that the cycle keeps; so where no link from some
+/// node is allowed, no cycle keeps them.
+pub fn links_are_allowed()
+    ensures links { LinksAreAllowed }
+    ensures none { NoLinkNoCycle }
+{
+    cycles_are_permutations();
+    lengths_add_up();
+    cycles_have_no_loops();
+}
+
+/// The least weights of the allowed links from all nodes sum to no more than a cycle weighs that
+/// keeps the decisions.
+pub fn sums_are_below_cycles()
+    ensures { SumsAreBelowCycles }
+{
+    cycles_are_permutations();
+    lengths_add_up();
+    cycles_have_no_loops();
+    links_are_allowed();
+}
+
+/// Each cycle crosses a lone set at least twice, and a comb of k teeth at least 3k + 1 times; and
+/// the bound of a leaf by rows is at most the length of every cycle that keeps its decisions,
+/// whichever costs.
+pub fn row_leaf_bounds_bound_cycles()
+    ensures families { CyclesCrossFamilies }
+    ensures bounds { RowLeafBoundsBoundCycles }
+{
+    cycles_are_permutations();
+    lengths_add_up();
+    cycles_have_no_loops();
+    cycles_cross_combs();
+    sums_are_below_cycles();
+}
+
+/// Each cycle that keeps the given decisions keeps those of a leaf.
+pub fn cycles_keep_leaves()
+    ensures { CyclesKeepLeaves }
+{}
+
+/// A bound that is at most the length of every cycle of each leaf's case is at most the length of
+/// every cycle that keeps the given decisions.
+pub fn cases_bound_cycles()
+    ensures { CasesBoundCycles }
+{}
+
+/// Where no cycle keeps the decisions of a leaf, whichever leaf, none keeps the given ones.
+pub fn cases_have_no_cycle()
+    ensures { CasesHaveNoCycle }
+{}
+
+/// How a bound of all cycles but those of the open cases goes from step to step.
+pub fn steps_leave_cases()
+    ensures start { (directed : Bool) (n : ℕ) (cost : ℕ → ℕ → ℤ) (given : List Decision) (bound : ℤ)
+        → BoundsButOpen directed n cost given bound (given ∷ []) }
+    ensures branch { (directed : Bool) (n : ℕ) (cost : ℕ → ℕ → ℤ) (given : List Decision) (bound : ℤ) (pair : ℕ × ℕ)
+        (case : List Decision) (cases : List (List Decision))
+        → BoundsButOpen directed n cost given bound (case ∷ cases)
+        → BoundsButOpen directed n cost given bound (decide pair true case ∷ decide pair false case ∷ cases) }
+    ensures leaf { (directed : Bool) (n : ℕ) (cost : ℕ → ℕ → ℤ) (given : List Decision) (bound own lower : ℤ)
+        (case : List Decision) (cases : List (List Decision)) → lower ≤ℤ bound → lower ≤ℤ own
+        → BoundsCase directed n cost own case → BoundsButOpen directed n cost given bound (case ∷ cases)
+        → BoundsButOpen directed n cost given lower cases }
+    ensures none { (directed : Bool) (n : ℕ) (cost : ℕ → ℕ → ℤ) (given : List Decision) (bound : ℤ)
+        (case : List Decision) (cases : List (List Decision)) → HasNoCycle directed n case
+        → BoundsButOpen directed n cost given bound (case ∷ cases) → BoundsButOpen directed n cost given bound cases }
+    ensures end { (directed : Bool) (n : ℕ) (cost : ℕ → ℕ → ℤ) (given : List Decision) (bound : ℤ)
+        → BoundsButOpen directed n cost given bound [] → BoundsCase directed n cost bound given }
+{}
+
+/// A stack of decisions has the open cases: the given one at first, after a branch two in the place
+/// of the first, and after a leaf all but the first.
+pub fn stacks_hold_cases()
+    ensures start { StacksBegin }
+    ensures branch { StacksBranch }
+    ensures leaf { StacksHoldCases }
+{}
+
+/// The bound of a certificate is at most the length of every cycle that keeps the given decisions,
+/// and of every tour where the fixed pairs are given.
+pub fn certificates_bound_cycles()
+    ensures cycles { CertificatesBoundCycles }
+    ensures tours { CertificatesBoundTours }
+{
+    leaf_bounds_bound_cycles();
+    cases_bound_cycles();
+}
+
+/// A certificate has one bound, whichever least 1-trees are found.
+pub fn certificate_bounds_are_unique()
+    ensures { CertificateBoundsAreUnique }
+{}

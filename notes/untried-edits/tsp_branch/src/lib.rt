@@ -1,0 +1,59 @@
+//! Lower bounds by branching: combs, and cases by pairs of nodes, as theorems over lists and whole
+//! numbers; and in code the bound of a leaf whose weights are told by rows.
+#![tactic(auto)]
+
+mod add_sets;
+mod branch;
+mod closing;
+mod combed;
+mod decided;
+mod examples;
+mod given_back;
+mod good_combs;
+mod growth;
+mod judge;
+mod laws;
+mod leaf;
+mod marks;
+mod moved;
+mod number_examples;
+mod numbers;
+mod room;
+mod rows;
+mod scaled;
+mod sets;
+mod setting;
+mod spokes;
+mod stack;
+mod steps;
+mod table;
+mod tree;
+mod twice;
+mod verdict;
+mod weights;
+
+pub use branch::branch_bound;
+pub use combed::CombedWeights;
+pub use decided::DecidedWeights;
+pub use examples::{
+    examples_of_bounds, examples_of_crossings, examples_of_trees, examples_of_verdicts,
+    examples_of_weights,
+};
+pub use good_combs::first_bad_comb;
+pub use laws::{
+    cases_bound_cycles, cases_have_no_cycle, certificate_bounds_are_unique,
+    certificates_bound_cycles, cycles_cross_combs, cycles_keep_leaves, decided_bounds_bound_cycles,
+    fixed_bounds_bound_tours, leaf_bounds_bound_cycles, links_are_allowed, numbers_tell_combs,
+    numbers_tell_lists, row_leaf_bounds_bound_cycles, sets_tell_combs, stacks_hold_cases,
+    steps_leave_cases, sums_are_below_cycles,
+};
+pub use leaf::leaf_bound;
+pub use number_examples::{examples_of_differences, examples_of_good_numbers};
+pub use rows::row_bound;
+pub use stack::next_case;
+pub use steps::{BranchVerdict, Judged};
+pub use table::CostTable;
+pub use tree::least_weight;
+pub use twice::first_twice;
+pub use verdict::judge_branches;
+pub use weights::Weights;

@@ -1,0 +1,121 @@
+//! The bound of a leaf by the least link from each node.
+
+ghost use Rattle.std.specs.Prelude.{◌≡◌, ◌≤◌, ◌<◌, ◌+◌, ◌*◌, ◌^◌, ℕ, length, pos, neg_ℤ, MatchOption, IfSome, ◌⊎◌, ℤ, ◌≤ℤ◌};
+ghost use Rattle.std.specs.List.{All};
+ghost use Rattle.tsp_format.specs.Cells.{IsNode};
+ghost use Rattle.tsp_format.specs.Limits.{most_nodes};
+ghost use Rattle.tsp_theory.specs.Numbers.{IsFromTo, IsScale, IsBoundSized, IsSumSized};
+ghost use Rattle.tsp_theory.specs.Growth.{least_at};
+ghost use Rattle.tsp_branch.specs.Decided.{IsDecision};
+ghost use Rattle.tsp_branch.specs.Rows.{IsAllowed, HasNoLink, IsLeastFrom, IsSumOfLeast, IsRowBound};
+ghost use Rattle.tsp_branch.specs.Closed.{closed, decisions_of, IsOpenRow};
+
+use crate::closing::{CLOSED, close_all, shut};
+use crate::leaf::rounded_up;
+use crate::weights::Weights;
+
+/// The bound of a leaf whose weights are told by rows: the least whole number that at the scale is
+/// no less than the sum of the least weights from all nodes and what is given back. `None` where
+/// the decisions allow no link from some node: then no cycle keeps them.
+///
+/// The caller owes decisions of different nodes, a sum of at most 2^99 in size that is given back,
+/// and a row of one place more than there are nodes, which is written over.
+pub fn row_bound<W: Weights>(
+    w: &W,
+    given: &[(u32, u32, bool)],
+    decisions: &[(u32, u32, bool)],
+    row: &mut [i64],
+    scale: i64,
+    given_back: i128,
+) -> Option<i128>
+    requires given_are { All (IsDecision (W.nodes w.now)) given.now }
+    requires pairs { All (IsDecision (W.nodes w.now)) decisions.now }
+    requires room { length row.old ≡ W.nodes w.now + 1 }
+    requires scale { IsScale scale }
+    requires given_back { IsFromTo (neg_ℤ (pos (2 ^ 99))) (pos (2 ^ 99)) given_back }
+    ensures bound { MatchOption result (HasNoLink (W.nodes w.now) (decisions_of given.now decisions.now))
+        (λ bound. IsRowBound (W.nodes w.now) (W.at w.now) (decisions_of given.now decisions.now) scale given_back bound) }
+    ensures size { IfSome result IsBoundSized }
+{
+    let sum = sum_of_least(w, given, decisions, row)?;
+    Some(rounded_up(scale, sum + given_back))
+}
+
+/// The sum of the least weights of the allowed links from each node.
+fn sum_of_least<W: Weights>(
+    w: &W,
+    given: &[(u32, u32, bool)],
+    decisions: &[(u32, u32, bool)],
+    row: &mut [i64],
+) -> Option<i128>
+    requires given_are { All (IsDecision (W.nodes w.now)) given.now }
+    requires pairs { All (IsDecision (W.nodes w.now)) decisions.now }
+    requires room { length row.old ≡ W.nodes w.now + 1 }
+    ensures sum { MatchOption result (HasNoLink (W.nodes w.now) (decisions_of given.now decisions.now))
+        (λ sum. IsSumOfLeast (W.nodes w.now) (W.at w.now) (decisions_of given.now decisions.now) (W.nodes w.now) sum) }
+    ensures size { IfSome result (IsSumSized most_nodes) }
+{
+    let mut sum = 0;
+    'nodes: for index in 0..w.count() {
+        let Some(least) = least_from(w, given, decisions, index + 1, row) else {
+            return None;
+        };
+        sum += i128::from(least);
+    }
+    Some(sum)
+}
+
+/// The least weight of the allowed links from a node; `None` where no link is allowed.
+fn least_from<W: Weights>(
+    w: &W,
+    given: &[(u32, u32, bool)],
+    decisions: &[(u32, u32, bool)],
+    from: u32,
+    row: &mut [i64],
+) -> Option<i64>
+    requires given_are { All (IsDecision (W.nodes w.now)) given.now }
+    requires pairs { All (IsDecision (W.nodes w.now)) decisions.now }
+    requires from { IsNode (W.nodes w.now) from }
+    requires room { length row.old ≡ W.nodes w.now + 1 }
+    ensures { MatchOption result
+        ((x : ℕ) → IsAllowed (W.nodes w.now) (decisions_of given.now decisions.now) from x → ⊥)
+        (λ least. IsLeastFrom (W.nodes w.now) (W.at w.now) (decisions_of given.now decisions.now) from least) }
+{
+    w.fill(from, row);
+    close_row(row, given, decisions, from);
+    let least = least_in(row);
+    if least == CLOSED {
+        return None;
+    }
+    Some(least)
+}
+
+/// Closes in the row of a node the place of the node itself, and what some decision doesn't allow.
+fn close_row(row: &mut [i64], given: &[(u32, u32, bool)], decisions: &[(u32, u32, bool)], from: u32)
+    requires given_are { All (λ decision. decision.1 < length row.old) given.now }
+    requires pairs { All (λ decision. decision.1 < length row.old) decisions.now }
+    requires from { from < length row.old }
+    ensures { (n : ℕ) (w : ℕ → ℕ → ℤ) → n < length row.old
+        → ((x : ℕ) → IsNode n x → least_at row.old x ≡ w from x)
+        → IsOpenRow n w (decisions_of given.now decisions.now) from row.new }
+{
+    shut(row, from);
+    close_all(row, given, from);
+    close_all(row, decisions, from);
+}
+
+/// The least number of a row from place 1 on.
+fn least_in(row: &[i64]) -> i64
+    requires { 1 ≤ length row.now }
+    ensures below { (x : ℕ) → 1 ≤ x → x < length row.now → result ≤ℤ least_at row.now x }
+    ensures reached { (result ≡ closed)
+        ⊎ ((x : ℕ) × (1 ≤ x) × (x < length row.now) × (result ≡ least_at row.now x)) }
+{
+    let mut least = CLOSED;
+    'places: for place in 1..row.len() {
+        if row[place] < least {
+            least = row[place];
+        }
+    }
+    least
+}

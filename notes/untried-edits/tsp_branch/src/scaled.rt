@@ -1,0 +1,26 @@
+//! Costs at the scale of a certificate.
+
+ghost use Rattle.std.specs.Prelude.{◌≡◌, ◌≤◌, ◌<◌, ℕ, length, pos, neg_ℤ, ◌+ℤ◌, ◌*ℤ◌};
+ghost use Rattle.std.specs.Int.{w64, int_wrap};
+ghost use Rattle.tsp_format.specs.Limits.{most_weight};
+ghost use Rattle.tsp_theory.specs.Numbers.{IsFromTo, IsScale};
+ghost use Rattle.tsp_theory.specs.Growth.{least_at};
+
+use crate::add_sets::sum_left;
+
+/// Makes the costs of a row counts of 1 / scale, and adds a number to each, and at each place the
+/// other row's: of these sums what is left in 64 bits. The place 0 stays as it is.
+///
+/// The caller owes costs of at most 10^12 in size, and rows of one length.
+pub(crate) fn scale_row(row: &mut [i64], moved: &[i64], scale: i64, number: i64)
+    requires scale { IsScale scale }
+    requires long { length moved.now ≡ length row.old }
+    requires costs { (x : ℕ) → 1 ≤ x → x < length row.old
+        → IsFromTo (neg_ℤ (pos most_weight)) (pos most_weight) (least_at row.old x) }
+    ensures { (x : ℕ) → 1 ≤ x → x < length row.old → least_at row.new x
+        ≡ int_wrap w64 ((scale *ℤ least_at row.old x) +ℤ int_wrap w64 (number +ℤ least_at moved.now x)) }
+{
+    'places: for place in 1..row.len() {
+        row[place] = sum_left(scale * row[place], sum_left(number, moved[place]));
+    }
+}

@@ -1,0 +1,66 @@
+//! Sets of nodes: what they add to a row, and which sets a node is in.
+
+ghost use Rattle.std.specs.Prelude.{◌<◌, ◌-◌, ◌^◌, ℕ, [], length, IfOk};
+ghost use Rattle.std.specs.List.{All};
+ghost use Rattle.tsp_theory.specs.Growth.{least_at};
+ghost use Rattle.tsp_branch.specs.Sets.{IsMoved, added, times, IsListed, IsSetTable, AreSetsOf};
+
+use crate::decided::add_at;
+use std::alloc::{AllocError, Global};
+
+/// Adds a number at each node of a list.
+///
+/// On the way to a sum that fits 64 bits sums may not, so they are taken in their remainders.
+pub(crate) fn add_to_nodes(row: &mut [i64], nodes: &[u32], number: i64)
+    requires { All (λ node. node < length row.old) nodes.now }
+    ensures { (x : ℕ) → IsMoved (added number nodes.now x) (least_at row.old x) (least_at row.new x) }
+{
+    'nodes: for node in nodes {
+        add_at(row, *node, number);
+    }
+}
+
+/// Of each node from 0 to `count` the numbers of the sets that have it, from 0 on.
+///
+/// # Errors
+///
+/// Out of memory, of which it takes some for each node and for each node of a set.
+pub(crate) fn sets_by_node(
+    alloc: Global,
+    count: u32,
+    sets: &[(u32, Vec<u32>)],
+) -> Result<Vec<Vec<u32>>, AllocError>
+    requires few { count < 2 ^ 32 - 1 }
+    requires fewer { length sets.now < 2 ^ 32 }
+    requires nodes { AreSetsOf count sets.now }
+    ensures { IfOk result (λ lists. IsSetTable count sets.now lists.items) }
+{
+    let mut lists = empty_lists(alloc, count)?;
+    'sets: for number in 0..sets.len() {
+        place_set(&mut lists, number as u32, &sets[number].1)?;
+    }
+    Ok(lists)
+}
+
+/// Adds a set's number to the list of each of its nodes.
+fn place_set(lists: &mut Vec<Vec<u32>>, number: u32, nodes: &[u32]) -> Result<(), AllocError>
+    requires { All (λ node. node < length lists.old.items) nodes.now }
+    ensures { IfOk result (λ unit. IsListed (times number nodes.now) lists.old.items lists.new.items) }
+{
+    'nodes: for node in nodes {
+        lists[*node as usize].push(number)?;
+    }
+    Ok(())
+}
+
+/// An empty list for each node from 0 to `count`.
+fn empty_lists(alloc: Global, count: u32) -> Result<Vec<Vec<u32>>, AllocError>
+    requires { count < 2 ^ 32 - 1 }
+    ensures { IfOk result (λ lists. IsSetTable count [] lists.items) }
+{
+    let mut lists = Vec::with_capacity(alloc, count as usize + 1)?;
+    'lists: for _ in 0..count + 1 {
+        lists.push(Vec::new(alloc))?;
+    }
+    Ok(lists)
+}

@@ -1,0 +1,73 @@
+//! The verdict on a certificate by branching.
+
+ghost use Rattle.std.specs.Prelude.{◌≡◌, ◌≤◌, ◌<◌, ◌^◌, length, true, IfOk};
+ghost use Rattle.std.specs.List.{All};
+ghost use Rattle.tsp_format.specs.Steps.{steps_of, are_whole};
+ghost use Rattle.tsp_theory.specs.Numbers.{IsScale};
+ghost use Rattle.tsp_branch.specs.Decisions.{DecideOnce};
+ghost use Rattle.tsp_branch.specs.Sets.{AreSetsOf};
+ghost use Rattle.tsp_branch.specs.Combed.{plain};
+ghost use Rattle.tsp_branch.specs.Decided.{IsDecision, case_of};
+ghost use Rattle.tsp_branch.specs.Listed.{IsStepOf};
+ghost use Rattle.tsp_branch.specs.GoodCombs.{AreInOrder};
+ghost use Rattle.tsp_branch.specs.BranchVerdicts.{IsBranchVerdict, VerdictBoundsCycles, IsSizedVerdict};
+
+use crate::branch::branch_bound;
+use crate::good_combs::first_bad_comb;
+use crate::steps::{BranchVerdict, Judged};
+use crate::twice::first_twice;
+use std::alloc::{AllocError, Global};
+use tsp_format::TreeStep;
+use tsp_theory::Symmetric;
+
+/// The verdict on a certificate by branching: the first comb that isn't one, or the first branch on
+/// a pair that is decided above it or given, or the first leaf that isn't good, or, where there is
+/// none of these, the bound. It is at most the length of every cycle that keeps the given decisions,
+/// and sums with it fit 128 bits.
+///
+/// The combs are told by their sets, each with the number of its comb from 0 on, comb by comb, the
+/// handle before the teeth. The caller owes three or more nodes, a scale of 1 to 1,000,000, sets and
+/// decisions of nodes, no pair that is given twice, and one whole tree of branches.
+///
+/// # Errors
+///
+/// Out of memory, of which it takes some for each node, each comb, each node of a set, and
+/// each decision of a case.
+pub fn judge_branches<C: Symmetric>(
+    alloc: Global,
+    costs: &C,
+    scale: i64,
+    combs: usize,
+    sets: &[(u32, Vec<u32>)],
+    given: &[(u32, u32, bool)],
+    steps: &[TreeStep],
+) -> Result<BranchVerdict, AllocError>
+    requires some { 3 ≤ C.nodes costs.now }
+    requires scaled { IsScale scale }
+    requires few_combs { combs < 2 ^ 32 }
+    requires few_sets { length sets.now < 2 ^ 32 }
+    requires few_given { length given.now < 2 ^ 32 }
+    requires few_steps { length steps.now < 2 ^ 32 }
+    requires nodes { AreSetsOf (C.nodes costs.now) sets.now }
+    requires of_combs { All (λ set. set.0 < combs) sets.now }
+    requires in_order { AreInOrder sets.now }
+    requires given_are { All (IsDecision (C.nodes costs.now)) given.now }
+    requires given_once { DecideOnce (case_of given.now) }
+    requires steps { All (IsStepOf (C.nodes costs.now)) (steps_of steps.now) }
+    requires whole { are_whole 1 (steps_of steps.now) ≡ true }
+    ensures verdict { IfOk result (IsBranchVerdict (C.nodes costs.now) (C.at costs.now) scale combs (plain sets.now)
+        (case_of given.now) (steps_of steps.now)) }
+    ensures cycles { IfOk result (VerdictBoundsCycles (C.nodes costs.now) (C.at costs.now) (case_of given.now)) }
+    ensures size { IfOk result IsSizedVerdict }
+{
+    if let Some(comb) = first_bad_comb(alloc, costs.count(), combs, sets)? {
+        return Ok(BranchVerdict::BadComb(comb));
+    }
+    if let Some(branch) = first_twice(alloc, given, steps)? {
+        return Ok(BranchVerdict::BranchTwice(branch));
+    }
+    match branch_bound(alloc, costs, scale, combs, sets, given, steps)? {
+        Judged::Bound(bound) => Ok(BranchVerdict::Bound(bound)),
+        Judged::BadLeaf(leaf) => Ok(BranchVerdict::BadLeaf(leaf)),
+    }
+}

@@ -1,0 +1,30 @@
+//! What holds of the weights of pairs of nodes, however they are made.
+
+ghost use Rattle.std.specs.Prelude.{◌≡◌, ◌≤◌, ◌+◌, ℕ, ℤ, length, ◌<ℤ◌};
+ghost use Rattle.tsp_format.specs.Cells.{IsNode};
+ghost use Rattle.tsp_format.specs.Limits.{most_nodes};
+ghost use Rattle.tsp_theory.specs.Growth.{least_at};
+
+/// Weights between the nodes 1 to `count`, told by rows.
+pub trait Weights {
+    ghost nodes: { Self → ℕ };
+
+    ghost at: { Self → ℕ → ℕ → ℤ };
+
+    /// How many nodes there are: at most 100,000.
+    fn count(&self) -> u32
+        ensures value { result ≡ nodes self.now }
+        ensures most { result ≤ most_nodes };
+
+    /// Writes the weights between a node and each into a row, each at the place of
+    /// its node; they are below the largest number of 64 bits, and the same at each call.
+    ///
+    /// The caller owes a node of 1 to `count`, and a row of one place more than there are nodes.
+    fn fill(&self, from: u32, row: &mut [i64])
+        requires from { IsNode (nodes self.now) from }
+        requires room { length row.old ≡ nodes self.now + 1 }
+        ensures values { (x : ℕ) → IsNode (nodes self.now) x
+            → least_at row.new x ≡ at self.now from x }
+        ensures small { (x : ℕ) → IsNode (nodes self.now) x
+            → least_at row.new x <ℤ i64.MAX };
+}

@@ -1,0 +1,161 @@
+-- The subcommand that a parse with no fault enters is never `help`: `help` is itself a fault.
+use Rattle.std.proofs.Common.{◌≡◌, ◌∙◌, ◌⊎◌, inl, inr, ap₂, subst, unwrap_or, Bool, true, false, List, [], ◌∷◌, Option, Some, None, refl, sym, ap, codes, fold, is_some, option_map}
+use Rattle.std.proofs.lemmas.Bool.{true≢false}
+use Rattle.std.specs.Str.{bytes_eq}
+use Rattle.std.specs.Box.{box_value}
+use Rattle.std.specs.Prelude.{Box}
+use Rattle.std.proofs.lemmas.Slice.Eq.{bytes_eq-Decides}
+use Rattle.clap.specs.Walk.{Rule, Row, Text, Names, Held, Walk, Waiting, Outcome, idle, option, positional, done, waits, plain, refused, after_step, after_flag, arg_by_index, arg_by_long, bundle, long_met, long_or_other, nothing_held, plain_word, short_or_plain, stop_after, subcommand_met, subcommand_or_other, to_positional, walk_from, walked, word_met}
+use Rattle.clap.specs.Lexer.{long_of, short_of}
+use Rattle.clap.specs.Simple.{App, Shape, built, entered, names_of, subcommand_of, subcommand_rows}
+use Rattle.clap.specs.Kinds.{Kinds, or_else}
+use Rattle.clap.specs.Faults.{fault_of, walk_fault, turn_fault, word_fault, other_fault}
+use Rattle.clap.specs.declared.error.kind.ErrorKind.TheVariants.{DisplayHelp, InvalidSubcommand}
+use Rattle.clap.specs.declared.parser.matches.SubCommand.{SubCommand}
+use Rattle.clap.specs.declared.parser.matches.ArgMatches.TheViews.{out-SubCommand}
+use Rattle.clap.proofs.WalkLemmas.{walk_stopped}
+use Rattle.tsp_cli.specs.Grammar.{tsp}
+use Rattle.tsp_cli.specs.Words.{IsVerbOf, word_of}
+use Rattle.tsp_cli.specs.declared.words.Verb.{Verb}
+use Rattle.tsp_cli.specs.declared.words.Verb.TheVariants.{Show, Convert, Check}
+
+-- the walk hasn't met a subcommand
+abbrev GoesOn : Walk → Type 0
+GoesOn w = w.stopped ≡ None
+
+module _ (c : List Rule) (word : Text) (w : Walk) (on : GoesOn w) where
+  taken_goes : (h : Held) (a : Option Rule) → GoesOn (to_positional c a word w h)
+  taken_goes h None = on
+  taken_goes h (Some a) = refl
+
+  plain_goes : (h : Held) (waiting : Waiting) → GoesOn (after_step c word w (plain_word c waiting word h).0 (plain_word c waiting word h).1)
+  plain_goes h idle = taken_goes h (arg_by_index c w.position)
+  plain_goes h (option id) = on
+  plain_goes h positional = taken_goes h (arg_by_index c w.position)
+
+  flag_goes : (h : Held) (waiting : Waiting) (o : Outcome) → GoesOn (after_step c word w (after_flag c waiting word h o).0 (after_flag c waiting word h o).1)
+  flag_goes h waiting done = on
+  flag_goes h waiting (waits id) = on
+  flag_goes h waiting plain = plain_goes h waiting
+  flag_goes h waiting refused = plain_goes h waiting
+
+  short_goes : (h : Held) (waiting : Waiting) (flags : Option Text)
+      → GoesOn (after_step c word w (short_or_plain c waiting word flags h).0 (short_or_plain c waiting word flags h).1)
+  short_goes h waiting None = plain_goes h waiting
+  short_goes h waiting (Some flags) = flag_goes (bundle c flags h).0 waiting (bundle c flags h).1
+
+  long_goes : (h : Held) (waiting : Waiting) (long : Option (Text × Option Text))
+      → GoesOn (after_step c word w (long_or_other c waiting word long h).0 (long_or_other c waiting word long h).1)
+  long_goes h waiting None = short_goes h waiting (short_of word)
+  long_goes h waiting (Some p) = flag_goes (long_met c (arg_by_long c p.0) p.1 h).0 waiting (long_met c (arg_by_long c p.0) p.1 h).1
+
+  -- a word that names no subcommand
+  other_goes : (h : Held) (waiting : Waiting) (dashes : Bool) → bytes_eq word (45 ∷ 45 ∷ []) ≡ dashes
+      → GoesOn (after_step c word w (subcommand_or_other c None waiting w.position word h).0 (subcommand_or_other c None waiting w.position word h).1)
+  other_goes h waiting true is = rw is on
+  other_goes h waiting false is = rw is (long_goes h waiting (long_of word))
+
+first_none : (a b : Kinds) → or_else a b ≡ [] → a ≡ []
+first_none [] b clean = refl
+first_none (k ∷ ks) b clean = cc
+
+second_none : (a b : Kinds) → or_else a b ≡ [] → b ≡ []
+second_none [] b clean = clean
+second_none (k ∷ ks) b clean = cc
+
+-- the walk goes on, or has met a subcommand other than `help`
+abbrev Goes : Walk → Type 0
+Goes w = GoesOn w ⊎ ((name : Text) × (w.stopped ≡ Some (name, [])) × (bytes_eq name (codes "help") ≡ false))
+
+module _ (s : Shape) (names : Names) (w : Walk) (word : Text) (enabled : s.disable_help_subcommand ≡ false) where
+  abbrev here : Walk
+  here = record w { stopped = None }
+
+  not_help : (name : Text) (same : Bool) → bytes_eq name (codes "help") ≡ same → other_fault s (Some name) word w.held ≡ []
+      → bytes_eq name (codes "help") ≡ false
+  not_help name false is clean = is
+  not_help name true is clean = let bad : DisplayHelp ∷ InvalidSubcommand ∷ [] ≡ [] = rw (is, enabled) at clean in cc
+
+  met_goes : (o : Option Text) → other_fault s o word w.held ≡ []
+      → Goes (after_step s.rules word here (subcommand_or_other s.rules o w.waiting w.position word w.held).0 (subcommand_or_other s.rules o w.waiting w.position word w.held).1)
+  met_goes None clean = inl (other_goes s.rules word here refl w.held w.waiting (bytes_eq word (45 ∷ 45 ∷ [])) refl)
+  met_goes (Some name) clean = inr (name, refl, not_help name (bytes_eq name (codes "help")) refl clean)
+
+  word_goes : (trailing : Bool) → word_fault s names trailing w.waiting word w.held ≡ []
+      → Goes (after_step s.rules word here (word_met s.rules names trailing w.waiting w.position word w.held).0 (word_met s.rules names trailing w.waiting w.position word w.held).1)
+  word_goes true clean = inl (taken_goes s.rules word here refl w.held (arg_by_index s.rules w.position))
+  word_goes false clean = met_goes (subcommand_met names w.waiting word) clean
+
+  step_goes : turn_fault s names here word ≡ [] → Goes (walked s.rules names here word)
+  unfolding walked
+  step_goes clean = word_goes w.is_trailing (first_none _ _ clean)
+
+-- where the walk has no fault, the subcommand that it stops at isn't `help`
+stops : (s : Shape) (names : Names) → s.disable_help_subcommand ≡ false → (words : List Text) (w : Walk) (p : Text × List Text)
+    → walk_fault s names (record w { stopped = None }) words ≡ []
+    → (fold (walked s.rules names) (record w { stopped = None }) words).stopped ≡ Some p
+    → bytes_eq p.0 (codes "help") ≡ false
+unfolding walk_fault
+stops s names enabled [] w p clean stop = cc
+stops s names enabled (word ∷ rest) w p clean stop =
+    let after : Walk = walked s.rules names (record w { stopped = None }) word in
+    elim (step_goes s names w word enabled (first_none _ _ clean)) [
+      | inl on ↦
+          let same : after ≡ record after { stopped = None } = ap (λ o. record after { stopped = o }) on in
+          stops s names enabled rest after p (subst (λ v. walk_fault s names v rest ≡ []) same (second_none _ _ clean))
+          (subst (λ v. (fold (walked s.rules names) v rest).stopped ≡ Some p) same stop)
+      | inr met ↦
+          let same : after ≡ record after { stopped = Some (met.0, []) } = ap (λ o. record after { stopped = o }) met.1 in
+          let kept = ap (λ v. v.stopped) (walk_stopped s.rules names after met.0 [] rest) in
+          let one : Some (met.0, rest) ≡ Some p = kept ∙ subst (λ v. (fold (walked s.rules names) v rest).stopped ≡ Some p) same stop in
+          let name : met.0 ≡ p.0 = ap (λ o. (unwrap_or o p).0) one in
+          rw (← name) met.2
+    ]
+
+abbrev program : App
+program = built tsp
+
+-- the subcommand that answers to the word is one of the three
+pick : (p : Text × List Text) (name : Text) (rows : List Row) (a b c d : Bool) → bytes_eq p.0 (codes "help") ≡ false
+    → bytes_eq (codes "show") p.0 ≡ a → bytes_eq (codes "convert") p.0 ≡ b → bytes_eq (codes "check") p.0 ≡ c → bytes_eq (codes "help") p.0 ≡ d
+    → entered program (Some p) ≡ Some (name, rows) → (verb : Verb) × (name ≡ word_of verb)
+pick p name rows true b c d differs is_a is_b is_c is_d found =
+    let one = rw is_a at found in (Show, ap (λ (o : Option (Text × List Row)). (unwrap_or o (name, rows)).0) (sym one))
+pick p name rows false true c d differs is_a is_b is_c is_d found =
+    let one = rw (is_a, is_b) at found in (Convert, ap (λ (o : Option (Text × List Row)). (unwrap_or o (name, rows)).0) (sym one))
+pick p name rows false false true d differs is_a is_b is_c is_d found =
+    let one = rw (is_a, is_b, is_c) at found in (Check, ap (λ (o : Option (Text × List Row)). (unwrap_or o (name, rows)).0) (sym one))
+pick p name rows false false false true differs is_a is_b is_c is_d found =
+    let help : codes "help" ≡ p.0 = (bytes_eq-Decides _ _).0 is_d in
+    let same : bytes_eq p.0 (codes "help") ≡ true = (bytes_eq-Decides _ _).1 (sym help) in
+    absurd (true≢false (sym same ∙ differs))
+pick p name rows false false false false differs is_a is_b is_c is_d found =
+    let none = rw (is_a, is_b, is_c, is_d) at found in
+    absurd (true≢false (ap (λ (o : Option (Text × List Row)). is_some o) (sym none)))
+
+-- what a parse with no fault enters has the word of a verb
+pub named : (words : List Text) (name : Text) (rows : List Row) → fault_of tsp words ≡ [] → subcommand_of tsp words ≡ Some (name, rows)
+    → (verb : Verb) × (name ≡ word_of verb)
+named words name rows clean found = go (stop_after program.top.rules (names_of program) words) refl found
+  where
+    go : (stop : Option (Text × List Text)) → stop_after program.top.rules (names_of program) words ≡ stop → entered program stop ≡ Some (name, rows)
+        → (verb : Verb) × (name ≡ word_of verb)
+    go None is none = cc
+    go (Some p) is some =
+        let differs = stops program.top (names_of program) refl words (walk_from nothing_held) p (first_none _ _ clean) is in
+        pick p name rows _ _ _ _ differs refl refl refl refl some
+
+-- a subcommand's name and rows, from both
+pub both : {Z : Type 0} (o : Option (Box SubCommand Z)) (name : Text) (rows : List Row)
+    → option_map (λ b. (out-SubCommand (box_value b)).name.now) o ≡ Some name → option_map (λ p. p.1) (subcommand_rows o) ≡ Some rows
+    → subcommand_rows o ≡ Some (name, rows)
+both None name rows named has = cc
+both (Some b) name rows named has =
+    let one = ap (λ o. unwrap_or o name) named in
+    let two = ap (λ o. unwrap_or o rows) has in
+    ap₂ (λ n r. Some (n, r)) one two
+
+-- a word that is some verb's is that of the verb found by it
+pub verb_found : (name : Text) (found : Option Verb) (verb : Verb) → name ≡ word_of verb → IsVerbOf name found → option_map word_of found ≡ Some name
+verb_found name None verb is none = absurd (none verb is)
+verb_found name (Some v) verb is some = ap (λ n. Some n) (sym some)

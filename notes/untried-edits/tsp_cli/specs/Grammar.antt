@@ -1,0 +1,57 @@
+-- The command line, in clap's own words.
+use Rattle.std.specs.Prelude.{◌≡◌, Bool, true, false, Some, codes}
+use Rattle.clap.specs.Words.{App, Rule, Text, app_of, new_app, new_rule, with_rule, with_subcommand}
+use Rattle.clap.specs.Simple.{on_top}
+use Rattle.clap.specs.declared.builder.action.ArgAction.TheVariants.{SetTrue}
+use Rattle.clap.specs.declared.builder.command.Command.{Command}
+use Rattle.clap.specs.declared.builder.command.Command.TheViews.{out-Command}
+
+-- a path: an argument with no name among the words, that has to be there
+abbrev pub path : Text → Rule
+path id = record (new_rule id) { required = true }
+
+-- an option with a value: the two words `--long VALUE`, or the one `--long=VALUE`
+abbrev pub option : Text → Text → Rule
+option id long = record (new_rule id) { long = Some long }
+
+-- an option without a value: it is given or not
+abbrev pub flag : Text → Text → Rule
+flag id long = record (new_rule id) { long = Some long; action = Some SetTrue }
+
+-- [--explain], which each verb has
+abbrev pub explain : Rule
+explain = flag (codes "E") (codes "explain")
+
+-- show F [--explain]
+abbrev pub show : App
+show = with_rule (with_rule (new_app (codes "show")) (path (codes "F"))) explain
+
+-- convert F [--layout L] [--explain]
+abbrev pub convert : App
+convert = with_rule (with_rule (with_rule (new_app (codes "convert")) (path (codes "F"))) (option (codes "L") (codes "layout")))
+    explain
+
+-- check F T [--potentials P]
+abbrev pub check_files : App
+check_files = with_rule (with_rule (with_rule (new_app (codes "check")) (path (codes "F"))) (path (codes "T")))
+    (option (codes "P") (codes "potentials"))
+
+-- check F T [--potentials P] [--branches B] [--explain]
+abbrev pub check : App
+check = with_rule (with_rule check_files (option (codes "B") (codes "branches"))) explain
+
+-- the program, whose words don't begin with its own name, and which knows its version
+abbrev pub start : App
+start = on_top (λ top. record top { no_binary_name = true; has_version = true }) (new_app (codes "tsp"))
+
+-- and its three subcommands, at one level
+abbrev pub tsp : App
+tsp = with_subcommand (with_subcommand (with_subcommand start show.top) convert.top) check.top
+
+-- an argument of the command counts in its subcommands too
+abbrev pub has_globals : Command → Bool
+has_globals command = (out-Command command).has_globals
+
+-- the command reads words as this one does
+abbrev pub IsCommandOf : App → Command → Type 0
+IsCommandOf app command = (app_of command ≡ app) × (has_globals command ≡ false)

@@ -1,0 +1,56 @@
+-- What the words of a command line ask for.
+use Rattle.std.specs.Prelude.{◌≡◌, ◌≢◌, List, [], Option, None, Some, Result, Ok, Err, ⊤, codes, option_map, String, IsTrue, ◌↔◌}
+use Rattle.std.specs.String.{string_bytes}
+use Rattle.clap.specs.Words.{Row, Text, first_of, kind_of, fault_of, subcommand_of}
+use Rattle.clap.specs.Kinds.{IsAmong}
+use Rattle.clap.specs.declared.error.kind.ErrorKind.{ErrorKind}
+use Rattle.clap.specs.declared.error.kind.ErrorKind.TheVariants as kinds
+use Rattle.tsp_cli.specs.Grammar.{tsp}
+use Rattle.tsp_cli.specs.declared.words.Verb.{Verb}
+use Rattle.tsp_cli.specs.declared.words.Verb.TheVariants.{Show, Convert, Check}
+use Rattle.tsp_cli.specs.declared.words.Job.{Job}
+use Rattle.tsp_cli.specs.declared.words.JobFault.{JobFault}
+use Rattle.tsp_cli.specs.declared.words.JobFault.TheVariants.{Refused, OutOfMemory}
+
+-- the subcommand of a verb
+abbrev pub word_of : Verb → Text
+word_of Show = codes "show"
+word_of Convert = codes "convert"
+word_of Check = codes "check"
+
+-- the verb has this word, or no verb has
+abbrev pub IsVerbOf : Text → Option Verb → Type 0
+IsVerbOf word (Some verb) = word ≡ word_of verb
+IsVerbOf word None = (verb : Verb) → word ≢ word_of verb
+
+abbrev pub text_in : {Z : Type 0} → Option (String Z) → Option Text
+text_in = option_map string_bytes
+
+-- the job has the values of F, T, L, P and B, where they were found, and is to be explained where E was given
+abbrev pub HasValues : List Row → Job → Type 0
+HasValues rows job = (text_in job.file ≡ first_of (codes "F") rows) × (text_in job.solution ≡ first_of (codes "T") rows)
+    × (text_in job.layout ≡ first_of (codes "L") rows) × (text_in job.potentials ≡ first_of (codes "P") rows)
+    × (text_in job.branches ≡ first_of (codes "B") rows)
+    × (IsTrue job.explain ↔ (first_of (codes "E") rows ≡ Some (codes "true")))
+
+-- the job is that of a subcommand with its values, or of none
+abbrev pub IsJobOf : Option (Text × List Row) → Job → Type 0
+IsJobOf (Some (name, rows)) job = (option_map word_of job.verb ≡ Some name) × HasValues rows job
+IsJobOf None job = (job.verb ≡ None) × HasValues [] job
+
+-- out of memory is told apart from each other cause
+abbrev pub IsFaultOf : ErrorKind → JobFault → Type 0
+IsFaultOf kind (Refused refusal) = (kind_of refusal ≡ kind) × (kind ≢ kinds.OutOfMemory)
+IsFaultOf kind OutOfMemory = kind ≡ kinds.OutOfMemory
+
+-- the words are refused for another cause; out of memory may stand in its place
+abbrev pub IsOtherRefusal : JobFault → Type 0
+IsOtherRefusal (Refused refusal) = kind_of refusal ≢ kinds.OutOfMemory
+IsOtherRefusal OutOfMemory = ⊤
+
+-- what clap states of these words: with no fault a job, and else one of the first faults. Out of memory may stand in place of
+-- either.
+abbrev pub GivesJob : List Text → Result Job JobFault → Type 0
+GivesJob words (Ok job) = (fault_of tsp words ≡ []) × IsJobOf (subcommand_of tsp words) job
+GivesJob words (Err (Refused refusal)) = IsAmong (kind_of refusal) (fault_of tsp words) × (kind_of refusal ≢ kinds.OutOfMemory)
+GivesJob words (Err OutOfMemory) = ⊤

@@ -1,0 +1,13 @@
+//! The words of the verbs. No body is looked at here: a definition that is changed together with its
+//! code is refused by its examples.
+
+ghost use Rattle.std.specs.Prelude.{◌≡◌, codes};
+ghost use Rattle.tsp_cli.specs.declared.words.Verb.TheVariants as verbs;
+ghost use Rattle.tsp_cli.specs.Words.{word_of};
+
+/// The word of each verb.
+pub fn examples_of_verbs()
+    ensures show { word_of verbs.Show ≡ codes "show" }
+    ensures convert { word_of verbs.Convert ≡ codes "convert" }
+    ensures check { word_of verbs.Check ≡ codes "check" }
+{}

@@ -1,0 +1,202 @@
+//! The command line as `clap` knows it: three subcommands, what each takes, and the texts of help.
+
+ghost use Rattle.std.specs.Prelude.{◌≡◌, IfOk, false};
+ghost use Rattle.clap.specs.Words.{app_of, new_app, rule_of, shape_of, with_rule, with_subcommand};
+ghost use Rattle.tsp_cli.specs.Grammar.{IsCommandOf, has_globals, path, option, flag, explain, show, convert, check_files, check, start, tsp};
+
+use clap::{Arg, ArgAction, Command};
+use std::alloc::{AllocError, Global};
+
+/// What `--version` prints after the program's name.
+const VERSION: &str = "1.0.0";
+
+/// What the program is, in one line.
+const ABOUT: &str = "Reads, writes and judges TSPLIB 95 files";
+
+/// The end of the program's help.
+const NOTES: &str = "\
+With no words at all, a file on standard input is shown.
+
+Exit status:
+  0  yes, or done
+  1  no, or the matrix can't take the layout
+  2  a file has a fault, or the first is of the wrong kind
+  3  out of memory
+  4  the words are refused, or ask for help
+  5  a file can't be read, or standard output not written
+
+With --explain, lines after a fault or a no say where it is and what to do.
+
+Examples:
+  tsp show a.tsp
+  tsp convert a.tsp --layout UPPER_ROW > b.tsp
+  tsp check a.tsp a.tour --potentials a.potentials
+  tsp check a.tsp a.tour --branches a.branches";
+
+/// The end of the help of `show`.
+const SHOW_NOTES: &str = "\
+Prints the file's name, its TYPE, the number of its nodes, and what else
+stands in it, each on a line of its own.
+
+Exit status: 0 done, 2 a fault of the file, 3 out of memory, 5 a device.
+
+Example:
+  tsp show a.tsp";
+
+/// The end of the help of `convert`.
+const CONVERT_NOTES: &str = "\
+Prints the file's canonical text. A layout is a word of TSPLIB 95:
+  FULL_MATRIX
+  UPPER_ROW  UPPER_DIAG_ROW  LOWER_ROW  LOWER_DIAG_ROW
+  UPPER_COL  UPPER_DIAG_COL  LOWER_COL  LOWER_DIAG_COL
+
+Exit status: 0 done, 1 the matrix can't take the layout, 2 a fault of the
+file, 3 out of memory, 4 no such layout, 5 a device.
+
+Example:
+  tsp convert a.tsp --layout UPPER_ROW > b.tsp";
+
+/// The end of the help of `check`.
+const CHECK_NOTES: &str = "\
+Prints yes with the length, or no with the first reason. With potentials or
+branches a yes has a bound too: no tour is shorter than that.
+
+Exit status: 0 yes, 1 no, 2 a fault of a file or the wrong kind,
+3 out of memory, 4 both potentials and branches, 5 a device.
+
+Examples:
+  tsp check a.tsp a.tour
+  tsp check a.tsp a.tour --potentials a.potentials
+  tsp check a.tsp a.tour --branches a.branches";
+
+/// The program's command with its three subcommands. Its words are those after the program's own
+/// name.
+pub(crate) fn tsp<'a>(alloc: Global) -> Result<Command<'a>, AllocError>
+    ensures { IfOk result (IsCommandOf tsp) }
+{
+    let one = with_command(top(alloc)?, show(alloc)?)?;
+    let two = with_command(one, convert(alloc)?)?;
+    with_command(two, check(alloc)?)
+}
+
+/// The program's command without its subcommands.
+fn top<'a>(alloc: Global) -> Result<Command<'a>, AllocError>
+    ensures { IfOk result (IsCommandOf start) }
+{
+    command(alloc, "tsp", ABOUT, NOTES)
+        .no_binary_name(true)
+        .version(VERSION)
+        .bin_name("tsp")
+}
+
+/// `show F [--explain]`.
+fn show<'a>(alloc: Global) -> Result<Command<'a>, AllocError>
+    ensures { IfOk result (IsCommandOf show) }
+{
+    let bare = command(alloc, "show", "Says what stands in a file", SHOW_NOTES);
+    let one = with(bare, path(alloc, "F", "The path of a TSPLIB 95 file"))?;
+    with(one, explain(alloc))
+}
+
+/// `convert F [--layout L] [--explain]`.
+fn convert<'a>(alloc: Global) -> Result<Command<'a>, AllocError>
+    ensures { IfOk result (IsCommandOf convert) }
+{
+    let about = "Writes a file anew, on request with its matrix in another layout";
+    let bare = command(alloc, "convert", about, CONVERT_NOTES);
+    let one = with(bare, path(alloc, "F", "The path of a TSPLIB 95 file"))?;
+    let layout = option(alloc, "L", "layout", "The layout that the matrix gets");
+    let two = with(one, layout)?;
+    with(two, explain(alloc))
+}
+
+/// `check F T [--potentials P] [--branches B] [--explain]`.
+fn check<'a>(alloc: Global) -> Result<Command<'a>, AllocError>
+    ensures { IfOk result (IsCommandOf check) }
+{
+    let files = check_files(alloc)?;
+    let help = "The path of a tree of cases: TYPE BRANCHES";
+    let one = with(files, option(alloc, "B", "branches", help))?;
+    with(one, explain(alloc))
+}
+
+/// `check F T [--potentials P]`, which has the files.
+fn check_files<'a>(alloc: Global) -> Result<Command<'a>, AllocError>
+    ensures { IfOk result (IsCommandOf check_files) }
+{
+    let about = "Judges a tour or routes, and with a certificate bounds every tour";
+    let bare = command(alloc, "check", about, CHECK_NOTES);
+    let instance = "The path of the instance: TYPE TSP, ATSP or CVRP";
+    let one = with(bare, path(alloc, "F", instance))?;
+    let two = with(one, path(alloc, "T", "The path of the solution: TYPE TOUR"))?;
+    let help = "The path of the potentials: TYPE POTENTIALS";
+    with(two, option(alloc, "P", "potentials", help))
+}
+
+/// A command without arguments, with the texts of its help.
+fn command<'a>(alloc: Global, name: &'a str, about: &'a str, notes: &'a str) -> Command<'a>
+    ensures { IsCommandOf (new_app name.now) result }
+{
+    Command::new(alloc, name).about(about).after_help(notes)
+}
+
+/// A command with one argument more.
+fn with<'a>(command: Command<'a>, arg: Arg<'a>) -> Result<Command<'a>, AllocError>
+    requires local { arg.global ≡ false }
+    requires globals { has_globals command ≡ false }
+    ensures { IfOk result (IsCommandOf (with_rule (app_of command.entry) (rule_of arg.entry))) }
+{
+    command.arg(arg)
+}
+
+/// A command with one subcommand more.
+fn with_command<'a>(
+    command: Command<'a>,
+    subcommand: Command<'a>,
+) -> Result<Command<'a>, AllocError>
+    requires globals { has_globals command ≡ false }
+    requires sub { has_globals subcommand ≡ false }
+    ensures { IfOk result (IsCommandOf (with_subcommand (app_of command.entry) (shape_of subcommand.entry))) }
+{
+    command.subcommand(subcommand)
+}
+
+/// A path that has to stand among the words.
+fn path<'a>(alloc: Global, id: &'a str, help: &'a str) -> Arg<'a>
+    ensures rule { rule_of result ≡ path id.now }
+    ensures local { result.global ≡ false }
+{
+    Arg::new(alloc, id).required(true).help(help)
+}
+
+/// An option with one value.
+fn option<'a>(alloc: Global, id: &'a str, long: &'a str, help: &'a str) -> Arg<'a>
+    ensures rule { rule_of result ≡ option id.now long.now }
+    ensures local { result.global ≡ false }
+{
+    Arg::new(alloc, id).long(long).help(help)
+}
+
+/// An option without a value, which is given or not.
+fn flag<'a>(alloc: Global, id: &'a str, long: &'a str, help: &'a str) -> Arg<'a>
+    ensures rule { rule_of result ≡ flag id.now long.now }
+    ensures local { result.global ≡ false }
+{
+    Arg::new(alloc, id)
+        .long(long)
+        .action(ArgAction::SetTrue)
+        .help(help)
+}
+
+/// `--explain`, which each verb has.
+fn explain<'a>(alloc: Global) -> Arg<'a>
+    ensures rule { rule_of result ≡ explain }
+    ensures local { result.global ≡ false }
+{
+    flag(
+        alloc,
+        "E",
+        "explain",
+        "Say more of a fault, or of a no, on standard error",
+    )
+}

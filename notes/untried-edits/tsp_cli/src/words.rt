@@ -1,0 +1,179 @@
+//! What the words of the command line ask for.
+
+ghost use Rattle.std.specs.Prelude.{◌≡◌, ◌≢◌, ◌↔◌, IfOk, IsTrue, Some, codes, map, option_map};
+ghost use Rattle.std.specs.IoError.{error_kind};
+ghost use Rattle.clap.specs.Words.{first_of, found_of, kind_of, rows_of};
+ghost use Rattle.tsp_cli.specs.Words.{GivesJob, IsFaultOf, IsOtherRefusal, IsVerbOf, HasValues, text_in};
+
+use crate::grammar;
+use clap::error::ErrorKind;
+use clap::{ArgMatches, Error as Refusal};
+use std::alloc::{AllocError, Global};
+use std::io;
+use std::io::ErrorKind as IoKind;
+
+/// What the program does with its files.
+#[derive(Clone, Copy)]
+pub enum Verb {
+    /// To say what stands in a file.
+    Show,
+    /// To write a file anew.
+    Convert,
+    /// To judge a solution of an instance.
+    Check,
+}
+
+impl Verb {
+    /// The verb with this word, or `None` where there is none.
+    fn of_word(word: &str) -> Option<Verb>
+        ensures { IsVerbOf word.now result }
+    {
+        match word {
+            "show" => Some(Verb::Show),
+            "convert" => Some(Verb::Convert),
+            "check" => Some(Verb::Check),
+            _ => None,
+        }
+    }
+}
+
+/// What the words of a command line ask for.
+#[derive(Drop)]
+pub struct Job {
+    /// What to do, or `None` where no word says so.
+    pub verb: Option<Verb>,
+    /// The path of the file, or of the instance.
+    pub file: Option<String>,
+    /// The path of the solution.
+    pub solution: Option<String>,
+    /// The word of the layout that a matrix gets.
+    pub layout: Option<String>,
+    /// The path of the potentials.
+    pub potentials: Option<String>,
+    /// The path of the tree of cases.
+    pub branches: Option<String>,
+    /// Whether a fault, or a no, is to be explained.
+    pub explain: bool,
+}
+
+/// Why words ask for nothing.
+#[derive(Debug, Drop)]
+pub enum JobFault {
+    /// The command line is refused, or asks for help or the version. The text is that of `clap`.
+    Refused(Refusal),
+    /// Out of memory.
+    OutOfMemory,
+}
+
+impl JobFault {
+    fn of(refusal: Refusal) -> JobFault
+        ensures { IsFaultOf (kind_of refusal) result }
+    {
+        match refusal.kind() {
+            ErrorKind::OutOfMemory => JobFault::OutOfMemory,
+            _ => JobFault::Refused(refusal),
+        }
+    }
+}
+
+/// Reads the words of a command line, those after the program's own name: `show F`,
+/// `convert F [--layout L]`, `check F T [--potentials P] [--branches B]`, each with `--explain` or
+/// without, or no words at all.
+///
+/// # Errors
+///
+/// `Refused` where the words are none of these, or ask for help or the version; `OutOfMemory`.
+pub fn job_of(alloc: Global, words: &[&str]) -> Result<Job, JobFault>
+    ensures { GivesJob (map (λ word. word.now) words.now) result }
+{
+    let Ok(command) = grammar::tsp(alloc) else {
+        return Err(JobFault::OutOfMemory);
+    };
+    let matches = match command.try_get_matches_from(words) {
+        Ok(matches) => matches,
+        Err(refusal) => return Err(JobFault::of(refusal)),
+    };
+    let Some((name, found)) = matches.subcommand() else {
+        return Ok(Job {
+            verb: None,
+            file: None,
+            solution: None,
+            layout: None,
+            potentials: None,
+            branches: None,
+            explain: false,
+        });
+    };
+    match job_with(alloc, Verb::of_word(name), found) {
+        Ok(job) => Ok(job),
+        Err(AllocError) => Err(JobFault::OutOfMemory),
+    }
+}
+
+/// Why words that can't be had are no job: out of memory, or a word is no text, which is told as
+/// `clap` tells that words are refused.
+pub fn unread(alloc: Global, error: &io::Error) -> JobFault
+    ensures memory { error_kind error.now ≡ IoKind.OutOfMemory → result ≡ JobFault.OutOfMemory }
+    ensures no_text { error_kind error.now ≢ IoKind.OutOfMemory → IsOtherRefusal result }
+{
+    if let IoKind::OutOfMemory = error.kind() {
+        return JobFault::OutOfMemory;
+    }
+    match no_text(alloc) {
+        Ok(refusal) => JobFault::Refused(refusal),
+        Err(AllocError) => JobFault::OutOfMemory,
+    }
+}
+
+/// What `clap` says where a word is no text.
+fn no_text(alloc: Global) -> Result<Refusal, AllocError>
+    ensures { IfOk result (λ refusal. kind_of refusal ≡ ErrorKind.InvalidValue) }
+{
+    grammar::tsp(alloc)?.error(
+        ErrorKind::InvalidValue,
+        "invalid UTF-8 was detected in one or more arguments",
+    )
+}
+
+/// The job of a verb with the values that were found for its arguments.
+fn job_with(alloc: Global, verb: Option<Verb>, found: &ArgMatches<'_>) -> Result<Job, AllocError>
+    ensures verb { IfOk result (λ job. job.verb ≡ verb) }
+    ensures values { IfOk result (HasValues (rows_of (found_of found.now))) }
+{
+    Ok(Job {
+        verb,
+        file: value(alloc, found, "F")?,
+        solution: value(alloc, found, "T")?,
+        layout: value(alloc, found, "L")?,
+        potentials: value(alloc, found, "P")?,
+        branches: value(alloc, found, "B")?,
+        explain: is_given(found, "E"),
+    })
+}
+
+/// The value that was found for an argument, where there is one.
+fn value(alloc: Global, found: &ArgMatches<'_>, id: &str) -> Result<Option<String>, AllocError>
+    ensures { IfOk result (λ text. text_in text ≡ first_of id.now (rows_of (found_of found.now))) }
+{
+    match found.get_str(id) {
+        Some(text) => Ok(Some(String::from_str(alloc, text)?)),
+        None => Ok(None),
+    }
+}
+
+/// Whether an option without a value was given.
+fn is_given(found: &ArgMatches<'_>, id: &str) -> bool
+    ensures { IsTrue result ↔ (first_of id.now (rows_of (found_of found.now)) ≡ Some (codes "true")) }
+{
+    match text_of(found, id) {
+        Some("true") => true,
+        Some(_) | None => false,
+    }
+}
+
+/// The text that was found for an argument, where there is one.
+fn text_of<'a>(found: &ArgMatches<'a>, id: &str) -> Option<&'a str>
+    ensures { option_map (λ text. text.now) result ≡ first_of id.now (rows_of (found_of found.now)) }
+{
+    found.get_str(id)
+}

@@ -1,0 +1,22 @@
+use Rattle.tsp_cost.proofs.Distances.{DistanceLaws, distance_symmetric}
+use Rattle.tsp_cost.proofs.points.Points.of.Goals as goal
+
+pub invariant_of-result : goal.invariant_of-result
+invariant_of-result g c =
+    let known = c.distance_laws.ensures in
+    let laws : DistanceLaws = record {
+      euc = known.euc_2d;
+      ceil = known.ceil_2d;
+      man = known.man_2d;
+      max = known.max_2d;
+      att = known.att;
+      euc_in_space = known.euc_3d;
+      man_in_space = known.man_3d;
+      max_in_space = known.max_3d;
+    } in
+    record {
+      distances = c.requires.distances;
+      some = c.requires.some;
+      most = c.requires.most;
+      symmetric = distance_symmetric laws c.args.kind;
+    }

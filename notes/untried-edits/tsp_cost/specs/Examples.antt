@@ -1,0 +1,8 @@
+-- Small instances on which the definitions are evaluated.
+use Rattle.std.specs.Prelude.{ℕ, List, Some}
+use Rattle.tsp_format.specs.declared.kinds.Kind.{Kind}
+use Rattle.tsp_draft.specs.Fields.{Fields, blank_fields}
+
+-- an instance of this kind, with so many nodes and these fixed pairs
+abbrev pub with_fixed : Kind → ℕ → List (ℕ × ℕ) → Fields
+with_fixed kind n pairs = record blank_fields { kind = Some kind; dimension = Some n; fixed = Some pairs }

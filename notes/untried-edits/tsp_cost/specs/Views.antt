@@ -1,0 +1,59 @@
+-- What the views of an instance say of it.
+use Rattle.std.specs.Prelude.{◌≡◌, ◌≢◌, ℕ, true, false, length, map, Some, ℤ}
+use Rattle.tsp_distance.specs.declared.decimal.Point.{Point}
+use Rattle.tsp_distance.specs.Distances.{on_plane}
+use Rattle.tsp_format.specs.declared.layout.Layout.TheVariants.{FullMatrix}
+use Rattle.tsp_format.specs.declared.kinds.WeightFormat.TheVariants.{Listed}
+use Rattle.tsp_draft.specs.Fields.{Fields}
+use Rattle.tsp_draft.specs.Rules.{is_explicit}
+use Rattle.tsp_file.specs.Cost.{listed_cost, distance, point_of, cost}
+use Rattle.tsp_cost.specs.declared.points.Points.{Points}
+use Rattle.tsp_cost.specs.declared.matrix.Matrix.{Matrix}
+use Rattle.tsp_cost.specs.declared.matrix.EvenMatrix.{EvenMatrix}
+use Rattle.tsp_cost.specs.declared.triangle.Triangle.{Triangle}
+use Rattle.tsp_cost.specs.declared.view.View.{View}
+use Rattle.tsp_cost.specs.declared.view.View.TheVariants as views
+
+-- the nodes and the costs of each view
+abbrev pub points_nodes : {P : Type 0} → Points P → ℕ
+points_nodes p = length p.points.now
+
+-- of points that have these places in space
+abbrev pub points_cost : {P : Type 0} → (P → Point) → Points P → ℕ → ℕ → ℤ
+points_cost place p i j = distance p.kind (point_of (map place p.points.now) i) (point_of (map place p.points.now) j)
+
+abbrev pub points_place : {P : Type 0} → (P → Point) → Points P → ℕ → Point
+points_place place p node = point_of (map place p.points.now) node
+
+abbrev pub matrix_nodes : Matrix → ℕ
+matrix_nodes m = m.nodes
+
+abbrev pub matrix_cost : Matrix → ℕ → ℕ → ℤ
+matrix_cost m i j = listed_cost FullMatrix m.nodes m.weights.now i j
+
+abbrev pub even_nodes : EvenMatrix → ℕ
+even_nodes e = matrix_nodes e.matrix
+
+abbrev pub even_cost : EvenMatrix → ℕ → ℕ → ℤ
+even_cost e i j = matrix_cost e.matrix i j
+
+abbrev pub triangle_nodes : Triangle → ℕ
+triangle_nodes t = t.nodes
+
+abbrev pub triangle_cost : Triangle → ℕ → ℕ → ℤ
+triangle_cost t i j = listed_cost t.layout t.nodes t.weights.now i j
+
+-- a view keeps the number of nodes and every cost
+pub record HasCosts (f : Fields) (nodes : ℕ) (costs : ℕ → ℕ → ℤ) : Type 0 where
+  pub count : f.dimension ≡ Some nodes
+  pub every : (i j : ℕ) → costs i j ≡ cost f i j
+
+-- points where the weights are distances, a matrix where all are listed, a triangle where half of them are
+abbrev pub Shows : Fields → View → Type 0
+Shows f (views.Plane p) = (is_explicit f.weight_kind ≡ false)
+    × HasCosts f (points_nodes p) (points_cost (λ point. on_plane point.x point.y) p)
+Shows f (views.Space p) = (is_explicit f.weight_kind ≡ false) × HasCosts f (points_nodes p) (points_cost (λ point. point) p)
+Shows f (views.Matrix m) = (is_explicit f.weight_kind ≡ true) × (f.weight_format ≡ Some (Listed FullMatrix))
+    × HasCosts f (matrix_nodes m) (matrix_cost m)
+Shows f (views.Triangle t) = (is_explicit f.weight_kind ≡ true) × (f.weight_format ≢ Some (Listed FullMatrix))
+    × HasCosts f (triangle_nodes t) (triangle_cost t)

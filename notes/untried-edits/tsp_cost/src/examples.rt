@@ -1,0 +1,19 @@
+//! Small instances, on which the definitions are evaluated. No body is looked at here: a definition
+//! that is changed together with its code is refused by its examples.
+
+ghost use Rattle.std.specs.Prelude.{[], ◌∷◌};
+ghost use Rattle.tsp_format.specs.declared.kinds.Kind.TheVariants as kinds;
+ghost use Rattle.tsp_theory.specs.CycleExamples.{three, four};
+ghost use Rattle.tsp_cost.specs.Tours.{IsTourOf};
+ghost use Rattle.tsp_cost.specs.Examples.{with_fixed};
+
+/// Which cycles use a fixed pair: under ATSP from its first to its second node, else either way.
+pub fn examples_of_tours()
+    ensures arc { IsTourOf (with_fixed kinds.Atsp 3 ((2, 1) ∷ [])) (three 1 3 2) }
+    ensures arc_in_reverse { ¬ IsTourOf (with_fixed kinds.Atsp 3 ((2, 1) ∷ [])) (three 1 2 3) }
+    ensures pair { IsTourOf (with_fixed kinds.Tsp 4 ((1, 3) ∷ [])) (four 1 3 4 2) }
+    ensures pair_in_reverse { IsTourOf (with_fixed kinds.Tsp 4 ((3, 1) ∷ [])) (four 1 3 4 2) }
+    ensures pair_at_the_end { IsTourOf (with_fixed kinds.Tsp 4 ((1, 2) ∷ [])) (four 1 3 4 2) }
+    ensures unused { ¬ IsTourOf (with_fixed kinds.Tsp 4 ((1, 3) ∷ [])) (four 1 2 3 4) }
+    ensures second_unused { ¬ IsTourOf (with_fixed kinds.Tsp 4 ((1, 2) ∷ (1, 3) ∷ [])) (four 1 2 3 4) }
+{}

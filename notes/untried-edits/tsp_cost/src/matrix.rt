@@ -1,0 +1,115 @@
+//! Costs that a full matrix lists.
+
+ghost use Rattle.std.specs.Prelude.{◌≡◌, ◌≤◌, length};
+ghost use Rattle.std.specs.List.{All};
+ghost use Rattle.tsp_format.specs.declared.layout.Layout.TheVariants.{FullMatrix};
+ghost use Rattle.tsp_format.specs.Cells.{cells};
+ghost use Rattle.tsp_format.specs.Limits.{most_matrix_nodes, most_weight};
+ghost use Rattle.tsp_draft.specs.Valid.{IsWithin};
+ghost use Rattle.tsp_file.specs.Cost.{listed_cost};
+ghost use Rattle.tsp_theory.specs.Costs.{IsSymmetric};
+
+use tsp_file::first_asymmetric;
+use tsp_format::Layout;
+use tsp_theory::{Costs, Symmetric};
+
+/// The costs of an instance whose weights are a full matrix.
+#[derive(Clone, Copy, Debug)]
+pub struct Matrix<'a> {
+    nodes: u32,
+    weights: &'a [i64],
+    ghost some: { 1 ≤ nodes },
+    ghost most: { nodes ≤ most_matrix_nodes },
+    ghost full: { length weights.now ≡ length (cells FullMatrix nodes) },
+    ghost sizes: { All (IsWithin most_weight) weights.now },
+}
+
+/// The costs of a full matrix that are the same both ways between different nodes.
+#[derive(Clone, Copy, Debug)]
+pub struct EvenMatrix<'a> {
+    matrix: Matrix<'a>,
+    ghost even: { IsSymmetric (λ i j. listed_cost FullMatrix matrix.nodes matrix.weights.now i j) },
+}
+
+impl<'a> Matrix<'a> {
+    ghost use Rattle.std.specs.Prelude.{ℕ, MatchResult};
+    ghost use Rattle.tsp_theory.specs.Costs.{IsFirstAsymmetric, FindsAsymmetric};
+    ghost use Rattle.tsp_cost.specs.Views.{matrix_nodes, matrix_cost, even_nodes, even_cost};
+
+    /// The costs over so many nodes that these weights list.
+    pub(crate) fn of(nodes: u32, weights: &'a [i64]) -> Matrix<'a>
+        requires some { 1 ≤ nodes }
+        requires most { nodes ≤ most_matrix_nodes }
+        requires full { length weights.now ≡ length (cells FullMatrix nodes) }
+        requires sizes { All (IsWithin most_weight) weights.now }
+        ensures nodes { matrix_nodes result ≡ nodes }
+        ensures costs { (i j : ℕ) → matrix_cost result i j
+            ≡ listed_cost FullMatrix nodes weights.now i j }
+    {
+        Matrix { nodes, weights }
+    }
+
+    /// These costs as ones that are the same both ways, or the first pair, the smaller node first,
+    /// by rows, whose two costs differ.
+    ///
+    /// Every cost stays as it is, those from a node to itself too, which aren't compared.
+    pub fn even(self) -> Result<EvenMatrix<'a>, (u32, u32)>
+        ensures { MatchResult result
+            (λ even. (even_nodes even ≡ matrix_nodes self.entry)
+            × ((i j : ℕ) → even_cost even i j ≡ matrix_cost self.entry i j)
+            × IsSymmetric (matrix_cost self.entry))
+            (λ pair. IsFirstAsymmetric (matrix_nodes self.entry) (matrix_cost self.entry) pair) }
+    {
+        match self.first_asymmetric() {
+            Some(pair) => Err(pair),
+            None => Ok(EvenMatrix { matrix: self }),
+        }
+    }
+
+    /// The first pair, the smaller node first, by rows, whose two costs differ.
+    pub(crate) fn first_asymmetric(&self) -> Option<(u32, u32)>
+        ensures { FindsAsymmetric (matrix_nodes self.now) (matrix_cost self.now) result }
+    {
+        first_asymmetric(self.nodes, self.weights)
+    }
+}
+
+impl Costs for Matrix<'_> {
+    ghost use Rattle.tsp_cost.specs.Views.{matrix_nodes, matrix_cost};
+
+    ghost nodes = { matrix_nodes };
+
+    ghost at = { matrix_cost };
+
+    #[inline]
+    fn count(&self) -> u32 {
+        self.nodes
+    }
+
+    #[inline]
+    fn cost(&self, i: u32, j: u32) -> i64 {
+        self.weights[Layout::FullMatrix.place(self.nodes, i, j)]
+    }
+}
+
+impl Costs for EvenMatrix<'_> {
+    ghost use Rattle.tsp_cost.specs.Views.{even_nodes, even_cost};
+
+    ghost nodes = { even_nodes };
+
+    ghost at = { even_cost };
+
+    #[inline]
+    fn count(&self) -> u32 {
+        self.matrix.count()
+    }
+
+    #[inline]
+    fn cost(&self, i: u32, j: u32) -> i64 {
+        self.matrix.cost(i, j)
+    }
+}
+
+impl Symmetric for EvenMatrix<'_> {
+    ghost even = { λ matrix. matrix.even };
+}

@@ -1,0 +1,60 @@
+//! The places of nodes: those of points, whose distances grow with the ways along the axes.
+
+ghost use Rattle.std.specs.Prelude.{◌≡◌, map};
+ghost use Rattle.tsp_format.specs.Cells.{IsNode};
+
+use crate::curve::along_curve;
+use crate::matrix::EvenMatrix;
+use crate::points::{Points, distance};
+use crate::triangle::Triangle;
+use std::alloc::{AllocError, Global};
+use tsp_distance::{InSpace, Point, monotone_laws};
+use tsp_theory::{Grouped, Region};
+
+impl<P: InSpace> Points<'_, P> {
+    ghost use Rattle.tsp_cost.specs.Views.{points_nodes, points_place};
+
+    /// The point of a node.
+    #[inline]
+    fn place(&self, node: u32) -> Point
+        requires { IsNode (points_nodes self.now) node }
+        ensures { result ≡ points_place P.place self.now node }
+    {
+        self.points[node as usize - 1].in_space()
+    }
+}
+
+impl<P: InSpace> Grouped for Points<'_, P> {
+    ghost use Rattle.tsp_cost.specs.Views.{points_place};
+
+    ghost place = { points_place P.place };
+
+    fn order(&self, alloc: Global) -> Result<Vec<u32>, AllocError> {
+        along_curve(alloc, self.points)
+    }
+
+    #[inline]
+    fn region(&self, node: u32) -> Option<Region> {
+        Some(Region::of(self.place(node)))
+    }
+
+    #[inline]
+    fn cost_to(&self, from: u32, region: Region) -> Option<i64> {
+        monotone_laws();
+        let here = self.place(from);
+        let nearest = region.nearest(&here);
+        Some(distance(self.kind, here, nearest))
+    }
+}
+
+impl Grouped for EvenMatrix<'_> {
+    ghost use Rattle.tsp_draft.specs.Coords.{origin};
+
+    ghost place = { λ _ _. origin };
+}
+
+impl Grouped for Triangle<'_> {
+    ghost use Rattle.tsp_draft.specs.Coords.{origin};
+
+    ghost place = { λ _ _. origin };
+}

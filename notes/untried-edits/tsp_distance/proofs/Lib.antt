@@ -1,0 +1,4 @@
+pub mod DistanceLaws
+pub mod SpaceLaws
+pub mod MonotoneLaws
+pub mod Roots

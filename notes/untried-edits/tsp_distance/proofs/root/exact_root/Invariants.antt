@@ -1,0 +1,14 @@
+use Rattle.std.proofs.Common.{◌-◌, ◌<◌, ◌≤◌}
+use Rattle.tsp_distance.specs.Rounding.{Covers}
+use Rattle.tsp_distance.proofs.root.exact_root.Given as goal
+
+-- the least number that covers the square lies from `low` to `high`
+abbrev pub invariant-loop-low : goal.invariant-loop-low
+invariant-loop-low l =
+    (l.low ≤ l.high)
+    × (l.high ≤ l.most)
+    × Covers l.rounding l.square l.high
+    × (0 < l.low → ¬ Covers l.rounding l.square (l.low - 1))
+
+abbrev pub decreases-loop-low : goal.decreases-loop-low
+decreases-loop-low l = l.high - l.low

@@ -1,0 +1,10 @@
+use Rattle.std.proofs.Common.{arith, rules, ◌≤ℤ◌, pos, to_z, of_z, w64}
+use Rattle.std.proofs.lemmas.Int.{ints}
+use Rattle.tsp_distance.proofs.DistanceLaws.{signed_is}
+use Rattle.tsp_distance.proofs.SpaceLaws.{max_3d-is}
+use Rattle.tsp_distance.proofs.space.max_3d.Goals as goal
+
+pub returns-clause-distance : goal.returns-clause-distance
+returns-clause-distance c =
+    let low : pos 0 ≤ℤ to_z w64 (of_z w64 c.nearest_whole.result) = search (arith, ints) in
+    signed_is (to_z w64 (of_z w64 c.nearest_whole.result)) _ low (max_3d-is c.args.a c.args.b _ (search rules))

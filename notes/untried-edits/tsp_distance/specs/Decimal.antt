@@ -1,0 +1,10 @@
+-- The scale of decimals: a number is a whole count of 10^-9.
+use Rattle.std.specs.Prelude.{ℕ}
+
+-- the count of the number 1
+abbrev pub unit : ℕ
+unit = 1000000000
+
+-- the largest size of a count, that of the number 10^9
+abbrev pub most_count : ℕ
+most_count = 1000000000000000000

@@ -1,0 +1,134 @@
+-- The distances of TSPLIB 95 (Reinelt) in the plane and in space, each as the one whole number with its inequalities.
+-- Coordinates are counts of 10^-9. Both sides are multiplied out, so that no root and no quotient occurs.
+use Rattle.std.specs.Prelude.{◌≡◌, ℕ, zero, suc, Bool, nat_lt, nat_le, if◌then◌else◌, ◌+◌, ◌-◌, ◌*◌, ◌<◌, ◌≤◌, ◌-ℤ◌, unsigned_abs, max, ℤ, pos}
+use Rattle.tsp_distance.specs.declared.decimal.Point.{Point}
+use Rattle.tsp_distance.specs.Decimal.{unit, most_count}
+
+-- the point of the plane with these coordinates
+abbrev pub on_plane : ℤ → ℤ → Point
+on_plane x y = record { x = x; y = y; z = pos 0 }
+
+abbrev pub squared : ℕ → ℕ
+squared n = n * n
+
+-- how far apart the points are along each axis, in counts of 10^-9
+abbrev pub across : Point → Point → ℕ
+across a b = unsigned_abs (a.x -ℤ b.x)
+
+abbrev pub along : Point → Point → ℕ
+along a b = unsigned_abs (a.y -ℤ b.y)
+
+abbrev pub above : Point → Point → ℕ
+above a b = unsigned_abs (a.z -ℤ b.z)
+
+-- the square of the straight distance in the plane, by Pythagoras
+abbrev pub square_apart : Point → Point → ℕ
+square_apart a b = squared (across a b) + squared (along a b)
+
+-- and in space
+abbrev pub square_apart_in_space : Point → Point → ℕ
+square_apart_in_space a b = squared (across a b) + squared (along a b) + squared (above a b)
+
+-- EUC_2D: the straight distance rounded to the nearest whole number, a half upward
+pub record IsEuc2d (a b : Point) (k : ℕ) : Type 0 where
+  pub below_next_half : 4 * square_apart a b < squared ((2 * k + 1) * unit)
+  pub from_last_half : 0 < k → squared ((2 * k - 1) * unit) ≤ 4 * square_apart a b
+
+-- CEIL_2D: the straight distance rounded up
+pub record IsCeil2d (a b : Point) (k : ℕ) : Type 0 where
+  pub enough : square_apart a b ≤ squared (k * unit)
+  pub none_smaller : (j : ℕ) → j < k → squared (j * unit) < square_apart a b
+
+-- MAN_2D: the sum of both ways rounded to the nearest whole number, a half upward
+pub record IsMan2d (a b : Point) (k : ℕ) : Type 0 where
+  pub below_next_half : 2 * (across a b + along a b) < (2 * k + 1) * unit
+  pub from_last_half : 0 < k → (2 * k - 1) * unit ≤ 2 * (across a b + along a b)
+
+-- MAX_2D: the longer of both ways rounded to the nearest whole number, a half upward
+pub record IsMax2d (a b : Point) (k : ℕ) : Type 0 where
+  pub below_next_half : 2 * max (across a b) (along a b) < (2 * k + 1) * unit
+  pub from_last_half : 0 < k → (2 * k - 1) * unit ≤ 2 * max (across a b) (along a b)
+
+-- ATT: the root of a tenth of the square rounded up
+pub record IsAtt (a b : Point) (k : ℕ) : Type 0 where
+  pub enough : square_apart a b ≤ 10 * squared (k * unit)
+  pub none_smaller : (j : ℕ) → j < k → 10 * squared (j * unit) < square_apart a b
+
+-- EUC_3D: the straight distance in space rounded to the nearest whole number, a half upward
+pub record IsEuc3d (a b : Point) (k : ℕ) : Type 0 where
+  pub below_next_half : 4 * square_apart_in_space a b < squared ((2 * k + 1) * unit)
+  pub from_last_half : 0 < k → squared ((2 * k - 1) * unit) ≤ 4 * square_apart_in_space a b
+
+-- MAN_3D: the sum of the three ways rounded to the nearest whole number, a half upward
+pub record IsMan3d (a b : Point) (k : ℕ) : Type 0 where
+  pub below_next_half : 2 * (across a b + along a b + above a b) < (2 * k + 1) * unit
+  pub from_last_half : 0 < k → (2 * k - 1) * unit ≤ 2 * (across a b + along a b + above a b)
+
+-- the longest of the three ways
+abbrev pub longest_way : Point → Point → ℕ
+longest_way a b = max (max (across a b) (along a b)) (above a b)
+
+-- MAX_3D: the longest of the three ways rounded to the nearest whole number, a half upward
+pub record IsMax3d (a b : Point) (k : ℕ) : Type 0 where
+  pub below_next_half : 2 * longest_way a b < (2 * k + 1) * unit
+  pub from_last_half : 0 < k → (2 * k - 1) * unit ≤ 2 * longest_way a b
+
+-- the least number at which the test holds, sought from 0 on below n; n where there is none
+unfoldable pub least : (ℕ → Bool) → ℕ → ℕ
+least test zero = 0
+least test (suc n) = if test 0 then 0 else suc (least (λ k. test (suc k)) n)
+
+-- The distances as functions of the points: the least k that is large enough. Each is the one k of its record above.
+abbrev pub euc_2d_of : Point → Point → ℕ
+euc_2d_of a b = least (λ k. nat_lt (4 * square_apart a b) (squared ((2 * k + 1) * unit))) (square_apart a b)
+
+abbrev pub ceil_2d_of : Point → Point → ℕ
+ceil_2d_of a b = least (λ k. nat_le (square_apart a b) (squared (k * unit))) (square_apart a b)
+
+abbrev pub man_2d_of : Point → Point → ℕ
+man_2d_of a b = least (λ k. nat_lt (2 * (across a b + along a b)) ((2 * k + 1) * unit)) (across a b + along a b)
+
+abbrev pub max_2d_of : Point → Point → ℕ
+max_2d_of a b = least (λ k. nat_lt (2 * max (across a b) (along a b)) ((2 * k + 1) * unit)) (max (across a b) (along a b))
+
+abbrev pub att_of : Point → Point → ℕ
+att_of a b = least (λ k. nat_le (square_apart a b) (10 * squared (k * unit))) (square_apart a b)
+
+abbrev pub euc_3d_of : Point → Point → ℕ
+euc_3d_of a b = least (λ k. nat_lt (4 * square_apart_in_space a b) (squared ((2 * k + 1) * unit))) (square_apart_in_space a b)
+
+abbrev pub man_3d_of : Point → Point → ℕ
+man_3d_of a b =
+    least (λ k. nat_lt (2 * (across a b + along a b + above a b)) ((2 * k + 1) * unit)) (across a b + along a b + above a b)
+
+abbrev pub max_3d_of : Point → Point → ℕ
+max_3d_of a b = least (λ k. nat_lt (2 * longest_way a b) ((2 * k + 1) * unit)) (longest_way a b)
+
+-- the coordinates in the plane are counts of decimals
+pub record IsOnPlane (a : Point) : Type 0 where
+  pub x : unsigned_abs a.x ≤ most_count
+  pub y : unsigned_abs a.y ≤ most_count
+
+-- and so are all three
+pub record IsInSpace (a : Point) : Type 0 where
+  pub x : unsigned_abs a.x ≤ most_count
+  pub y : unsigned_abs a.y ≤ most_count
+  pub z : unsigned_abs a.z ≤ most_count
+
+-- `distance` is what `Is` defines, and nothing else is. It is the same both ways, 0 between equal points, and at most `longest`
+-- between points that lie `Within`
+pub record IsDistanceWithin (Within : Point → Type 0) (longest : ℕ) (Is : Point → Point → ℕ → Type 0)
+    (distance : Point → Point → ℕ) : Type 0 where
+  pub defined : (a b : Point) → Is a b (distance a b)
+  pub unique : (a b : Point) (k : ℕ) → Is a b k → k ≡ distance a b
+  pub symmetric : (a b : Point) → distance a b ≡ distance b a
+  pub none : (a : Point) → distance a a ≡ 0
+  pub most : (a b : Point) → Within a → Within b → distance a b ≤ longest
+
+-- of points in the plane, whose third coordinate isn't looked at
+abbrev pub IsDistance : (Point → Point → ℕ → Type 0) → (Point → Point → ℕ) → Type 0
+IsDistance = IsDistanceWithin IsOnPlane 4000000000
+
+-- of points in space
+abbrev pub IsDistanceInSpace : (Point → Point → ℕ → Type 0) → (Point → Point → ℕ) → Type 0
+IsDistanceInSpace = IsDistanceWithin IsInSpace 6000000000

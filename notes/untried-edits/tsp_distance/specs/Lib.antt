@@ -1,0 +1,5 @@
+pub mod Decimal
+pub mod Distances
+pub mod Monotone
+pub mod Rounding
+pub mod Examples

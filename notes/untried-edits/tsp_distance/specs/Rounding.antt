@@ -1,0 +1,22 @@
+-- When a whole number is large enough to be a rounded root: what the search for it tests.
+use Rattle.std.specs.Prelude.{ℕ, ◌+◌, ◌-◌, ◌*◌, ◌^◌, ◌<◌, ◌≤◌}
+use Rattle.tsp_distance.specs.declared.root.Rounding.{Rounding}
+use Rattle.tsp_distance.specs.declared.root.Rounding.TheVariants.{Nearest, Up, TenthUp}
+use Rattle.tsp_distance.specs.Decimal.{unit}
+use Rattle.tsp_distance.specs.Distances.{squared}
+
+abbrev pub Covers : Rounding → ℕ → ℕ → Type 0
+Covers Nearest square k = 4 * square < squared ((2 * k + 1) * unit)
+Covers Up square k = square ≤ squared (k * unit)
+Covers TenthUp square k = square ≤ 10 * squared (k * unit)
+
+-- k is the rounded root: none smaller is large enough
+pub record IsLeastCover (rounding : Rounding) (square k : ℕ) : Type 0 where
+  pub enough : Covers rounding square k
+  pub least : 0 < k → ¬ Covers rounding square (k - 1)
+
+-- what an estimate is below
+abbrev pub estimate_limit : Rounding → ℕ
+estimate_limit Nearest = 2 ^ 32
+estimate_limit Up = 2 ^ 32
+estimate_limit TenthUp = 2 ^ 30

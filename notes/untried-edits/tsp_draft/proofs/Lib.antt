@@ -1,0 +1,3 @@
+mod Trees
+pub mod Mapped
+pub mod ValidFields

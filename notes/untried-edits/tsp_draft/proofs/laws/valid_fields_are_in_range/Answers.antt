@@ -1,0 +1,5 @@
+use Rattle.tsp_draft.proofs.ValidFields.{in_range}
+use Rattle.tsp_draft.proofs.laws.valid_fields_are_in_range.Goals as goal
+
+pub returns : goal.returns
+returns c = in_range

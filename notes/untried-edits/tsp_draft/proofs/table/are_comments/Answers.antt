@@ -1,0 +1,14 @@
+use Rattle.std.proofs.Common.{ℕ, ◌∙◌}
+use Rattle.std.specs.Global.{Vec}
+use Rattle.tsp_format.specs.declared.field.Field.TheVariants.{CommentKey}
+use Rattle.tsp_format.specs.Words.{field_word}
+use Rattle.tsp_format.specs.Limits.{most_comments}
+use Rattle.tsp_draft.specs.Validity.{is_kept}
+use Rattle.tsp_draft.proofs.Mapped.{mapped_all}
+use Rattle.tsp_draft.proofs.table.are_comments.Goals as goal
+
+pub returns-then-len-le-MOST_COMMENTS : goal.returns-then-len-le-MOST_COMMENTS
+returns-then-len-le-MOST_COMMENTS c =
+    let kept = rw c.deref.ensures.value at c.are_kept.ensures in
+    mapped_all (λ (v : Vec ℕ). v.items) (is_kept (field_word CommentKey)) c.args.comments.now.items c.are_kept.result most_comments c.len.result kept
+    c.if-len-le-MOST_COMMENTS.true (c.len.ensures ∙ c.args.comments.now.ok.0)

@@ -1,0 +1,6 @@
+use Rattle.std.proofs.Common.{◌≡◌, ◌+◌, ◌≤◌, drop}
+use Rattle.tsp_format.specs.Steps.{are_whole, steps_of}
+use Rattle.tsp_draft.proofs.validity.is_whole_tree.Given as goal
+
+abbrev pub invariant-steps : goal.invariant-steps
+invariant-steps l = (are_whole l.left (steps_of (drop l.step-index l.steps)) ≡ are_whole 1 (steps_of l.steps)) × (l.left ≤ l.step-index + 1)

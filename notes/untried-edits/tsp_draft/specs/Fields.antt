@@ -1,0 +1,178 @@
+-- What a file holds, as lists.
+use Rattle.std.specs.Prelude.{ℕ, Bool, true, List, [], map, Option, None, Some, ℤ, pos, nat_abs, is_some}
+use Rattle.std.specs.Option.{option_map}
+use Rattle.std.specs.Global.{Vec}
+use Rattle.tsp_distance.specs.declared.decimal.Point.{Point}
+use Rattle.tsp_format.specs.declared.field.Field.{Field}
+use Rattle.tsp_format.specs.declared.field.Field.TheVariants.{NameKey, TypeKey, CommentKey, OtherKey, DimensionKey, CapacityKey, ScaleKey, EdgeWeightTypeKey, EdgeWeightFormatKey, NodeCoordTypeKey, DisplayDataTypeKey, NodeCoordPart, DisplayDataPart, DemandPart, DepotPart, FixedEdgesPart, EdgeWeightPart, TourPart, NodePotentialPart, RowPotentialPart, ColumnPotentialPart, FixedEdgePotentialPart, CombPart, BranchPart}
+use Rattle.tsp_draft.specs.declared.draft.Draft.{Draft}
+use Rattle.tsp_draft.specs.Coords.{points_of}
+use Rattle.tsp_format.specs.declared.kinds.Kind.{Kind}
+use Rattle.tsp_format.specs.Space.{is_spatial}
+use Rattle.tsp_format.specs.declared.kinds.WeightKind.{WeightKind}
+use Rattle.tsp_format.specs.declared.kinds.WeightFormat.{WeightFormat}
+use Rattle.tsp_format.specs.declared.kinds.CoordKind.{CoordKind}
+use Rattle.tsp_format.specs.declared.kinds.DisplayKind.{DisplayKind}
+use Rattle.tsp_format.specs.Steps.{Step, steps_of}
+
+-- the fields in canonical order
+pub record Fields : Type 0 where
+  pub name : Option (List ℕ)
+  pub kind : Option Kind
+  pub comments : List (List ℕ)
+  pub others : List (List ℕ × List ℕ)
+  pub dimension : Option ℕ
+  pub capacity : Option ℤ
+  pub scale : Option ℤ
+  pub weight_kind : Option WeightKind
+  pub weight_format : Option WeightFormat
+  pub coord_kind : Option CoordKind
+  pub display_kind : Option DisplayKind
+  pub coords : Option (List Point)
+  pub display : Option (List Point)
+  pub demands : Option (List ℤ)
+  pub depots : Option (List ℕ)
+  pub fixed : Option (List (ℕ × ℕ))
+  pub weights : Option (List ℤ)
+  pub tours : Option (List (List ℕ))
+  pub node_potentials : Option (List ℤ)
+  pub row_potentials : Option (List ℤ)
+  pub column_potentials : Option (List ℤ)
+  pub fixed_potentials : Option (List (ℕ × ℕ × ℤ))
+  pub combs : Option (List (List (List ℕ)))
+  pub branches : Option (List Step)
+
+-- no field is set
+abbrev pub blank_fields : Fields
+blank_fields = record {
+  name = None;
+  kind = None;
+  comments = [];
+  others = [];
+  dimension = None;
+  capacity = None;
+  scale = None;
+  weight_kind = None;
+  weight_format = None;
+  coord_kind = None;
+  display_kind = None;
+  coords = None;
+  display = None;
+  demands = None;
+  depots = None;
+  fixed = None;
+  weights = None;
+  tours = None;
+  node_potentials = None;
+  row_potentials = None;
+  column_potentials = None;
+  fixed_potentials = None;
+  combs = None;
+  branches = None;
+}
+
+-- combs, each as its sets
+abbrev pub combs_of : List (Vec (Vec ℕ)) → List (List (List ℕ))
+combs_of combs = map (λ comb. map (λ set. set.items) comb.items) combs
+
+-- what a draft holds
+abbrev pub fields_of : Draft → Fields
+fields_of d = record {
+  name = option_map (λ v. v.items) d.name;
+  kind = d.kind;
+  comments = map (λ v. v.items) d.comments.items;
+  others = map (λ p. (p.0.items, p.1.items)) d.others.items;
+  dimension = d.dimension;
+  capacity = d.capacity;
+  scale = d.scale;
+  weight_kind = d.weight_kind;
+  weight_format = d.weight_format;
+  coord_kind = d.coord_kind;
+  display_kind = d.display_kind;
+  coords = option_map points_of d.coords;
+  display = option_map points_of d.display;
+  demands = option_map (λ v. v.items) d.demands;
+  depots = option_map (λ v. v.items) d.depots;
+  fixed = option_map (λ v. v.items) d.fixed;
+  weights = option_map (λ v. v.items) d.weights;
+  tours = option_map (λ v. map (λ t. t.items) v.items) d.tours;
+  node_potentials = option_map (λ v. v.items) d.node_potentials;
+  row_potentials = option_map (λ v. v.items) d.row_potentials;
+  column_potentials = option_map (λ v. v.items) d.column_potentials;
+  fixed_potentials = option_map (λ v. v.items) d.fixed_potentials;
+  combs = option_map (λ v. combs_of v.items) d.combs;
+  branches = option_map (λ v. steps_of v.items) d.branches;
+}
+
+-- its nodes have three coordinates each
+abbrev pub spatial : Fields → Bool
+spatial f = is_spatial f.coord_kind f.weight_kind
+
+-- whether a field stands; comments and unknown keywords may be none
+abbrev pub stands_in : Fields → Field → Bool
+stands_in f NameKey = is_some f.name
+stands_in f TypeKey = is_some f.kind
+stands_in f CommentKey = true
+stands_in f OtherKey = true
+stands_in f DimensionKey = is_some f.dimension
+stands_in f CapacityKey = is_some f.capacity
+stands_in f ScaleKey = is_some f.scale
+stands_in f EdgeWeightTypeKey = is_some f.weight_kind
+stands_in f EdgeWeightFormatKey = is_some f.weight_format
+stands_in f NodeCoordTypeKey = is_some f.coord_kind
+stands_in f DisplayDataTypeKey = is_some f.display_kind
+stands_in f NodeCoordPart = is_some f.coords
+stands_in f DisplayDataPart = is_some f.display
+stands_in f DemandPart = is_some f.demands
+stands_in f DepotPart = is_some f.depots
+stands_in f FixedEdgesPart = is_some f.fixed
+stands_in f EdgeWeightPart = is_some f.weights
+stands_in f TourPart = is_some f.tours
+stands_in f NodePotentialPart = is_some f.node_potentials
+stands_in f RowPotentialPart = is_some f.row_potentials
+stands_in f ColumnPotentialPart = is_some f.column_potentials
+stands_in f FixedEdgePotentialPart = is_some f.fixed_potentials
+stands_in f CombPart = is_some f.combs
+stands_in f BranchPart = is_some f.branches
+
+-- ---- keywords with a number, by their field
+
+abbrev pub one_number_in : Fields → Field → Option ℤ
+one_number_in f DimensionKey = option_map pos f.dimension
+one_number_in f CapacityKey = f.capacity
+one_number_in f ScaleKey = f.scale
+one_number_in f field = None
+
+abbrev pub with_one_number : Field → ℤ → Fields → Fields
+with_one_number DimensionKey number f = record f { dimension = Some (nat_abs number) }
+with_one_number CapacityKey number f = record f { capacity = Some number }
+with_one_number ScaleKey number f = record f { scale = Some number }
+with_one_number field number f = f
+
+-- ---- sections by node, by their field
+
+-- the numbers of a section that has one for each node
+abbrev pub numbers_in : Fields → Field → Option (List ℤ)
+numbers_in f DemandPart = f.demands
+numbers_in f NodePotentialPart = f.node_potentials
+numbers_in f RowPotentialPart = f.row_potentials
+numbers_in f ColumnPotentialPart = f.column_potentials
+numbers_in f field = None
+
+abbrev pub with_numbers : Field → List ℤ → Fields → Fields
+with_numbers DemandPart numbers f = record f { demands = Some numbers }
+with_numbers NodePotentialPart numbers f = record f { node_potentials = Some numbers }
+with_numbers RowPotentialPart numbers f = record f { row_potentials = Some numbers }
+with_numbers ColumnPotentialPart numbers f = record f { column_potentials = Some numbers }
+with_numbers field numbers f = f
+
+-- the points of a section that has one for each node
+abbrev pub points_in : Fields → Field → Option (List Point)
+points_in f NodeCoordPart = f.coords
+points_in f DisplayDataPart = f.display
+points_in f field = None
+
+abbrev pub with_points : Field → List Point → Fields → Fields
+with_points NodeCoordPart points f = record f { coords = Some points }
+with_points DisplayDataPart points f = record f { display = Some points }
+with_points field points f = f

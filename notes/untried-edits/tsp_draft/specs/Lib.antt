@@ -1,0 +1,7 @@
+pub mod Coords
+pub mod FaultText
+pub mod Fields
+pub mod Rules
+pub mod Valid
+pub mod Validity
+pub mod Examples

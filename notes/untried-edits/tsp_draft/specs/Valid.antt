@@ -1,0 +1,156 @@
+-- What holds of every valid file: its fields are in these ranges, and those stand that its kind asks for.
+use Rattle.std.specs.Prelude.{◌≡◌, ◌≢◌, ℕ, ◌+◌, ◌≤◌, ◌⊎◌, Bool, true, false, List, length, None, Some, IsSome, ℤ, pos, neg_ℤ, ◌≤ℤ◌}
+use Rattle.std.specs.List.{All, sum_by}
+use Rattle.tsp_distance.specs.declared.decimal.Point.{Point}
+use Rattle.tsp_format.specs.declared.layout.Layout.{Layout}
+use Rattle.tsp_format.specs.declared.kinds.WeightFormat.TheVariants.{Listed}
+use Rattle.tsp_format.specs.Cells.{IsNode, cells}
+use Rattle.tsp_format.specs.Limits.{most_nodes, most_matrix_nodes, most_coordinate, most_weight, most_demand, most_capacity, most_scale, most_potential, most_depots, most_fixed, most_multipliers, most_multiplier, most_tour_nodes, most_combs, most_comb_nodes, most_branches, most_changes, most_difference}
+use Rattle.tsp_format.specs.Steps.{Step, Branch, Leaf, are_whole, branch_count, change_count}
+use Rattle.tsp_draft.specs.Fields.{Fields, spatial}
+use Rattle.tsp_draft.specs.Rules.{is_explicit}
+
+abbrev pub IsFromTo : ℤ → ℤ → ℤ → Type 0
+IsFromTo low high z = (low ≤ℤ z) × (z ≤ℤ high)
+
+-- of at most this size
+abbrev pub IsWithin : ℕ → ℤ → Type 0
+IsWithin most z = IsFromTo (neg_ℤ (pos most)) (pos most) z
+
+-- one entry for each node, each of them so
+abbrev pub IsByNode : {A : Type 0} → (A → Type 0) → Fields → List A → Type 0
+IsByNode P f entries = (f.dimension ≡ Some (length entries)) × All P entries
+
+-- a third coordinate of a spatial file, or of another
+abbrev pub IsThird : Bool → ℤ → Type 0
+IsThird true z = IsWithin most_coordinate z
+IsThird false z = z ≡ pos 0
+
+-- a point of a spatial file, or of another
+abbrev pub IsPoint : Bool → Point → Type 0
+IsPoint in_space point = IsWithin most_coordinate point.x × IsWithin most_coordinate point.y × IsThird in_space point.z
+
+abbrev pub IsDemand : ℤ → Type 0
+IsDemand demand = IsFromTo (pos 0) (pos most_demand) demand
+
+-- two different nodes of 1..n
+abbrev pub IsPairOf : ℕ → ℕ × ℕ → Type 0
+IsPairOf n pair = IsNode n pair.0 × IsNode n pair.1 × (pair.0 ≢ pair.1)
+
+-- two different nodes of 1..n, and a number that a multiplier may have
+abbrev pub IsTripleOf : ℕ → ℕ × ℕ × ℤ → Type 0
+IsTripleOf n triple = IsPairOf n (triple.0, triple.1) × IsFromTo (pos 0) (pos most_multiplier) triple.2
+
+-- not empty, and of nodes that some file can have
+abbrev pub IsNodeList : List ℕ → Type 0
+IsNodeList tour = (1 ≤ length tour) × All (IsNode most_nodes) tour
+
+pub record AreDepots (f : Fields) (depots : List ℕ) : Type 0 where
+  pub n : ℕ
+  pub dimension : f.dimension ≡ Some n
+  pub few : length depots ≤ most_depots
+  pub nodes : All (IsNode n) depots
+
+pub record AreFixed (f : Fields) (pairs : List (ℕ × ℕ)) : Type 0 where
+  pub n : ℕ
+  pub dimension : f.dimension ≡ Some n
+  pub few : length pairs ≤ most_fixed
+  pub pairs_of_nodes : All (IsPairOf n) pairs
+
+pub record AreTriples (f : Fields) (triples : List (ℕ × ℕ × ℤ)) : Type 0 where
+  pub n : ℕ
+  pub dimension : f.dimension ≡ Some n
+  pub few : length triples ≤ most_multipliers
+  pub triples_of_nodes : All (IsTripleOf n) triples
+
+-- weights are listed in a layout, and as many as its cells
+pub record AreWeights (f : Fields) (weights : List ℤ) : Type 0 where
+  pub n : ℕ
+  pub layout : Layout
+  pub dimension : f.dimension ≡ Some n
+  pub format : f.weight_format ≡ Some (Listed layout)
+  pub few_nodes : n ≤ most_matrix_nodes
+  pub count : length weights ≡ length (cells layout n)
+  pub sizes : All (IsWithin most_weight) weights
+
+abbrev pub AreTours : List (List ℕ) → Type 0
+AreTours tours = All IsNodeList tours × (sum_by length tours ≤ most_tour_nodes)
+
+-- a set of nodes, not empty
+abbrev pub IsSetOf : ℕ → List ℕ → Type 0
+IsSetOf n set = (1 ≤ length set) × All (IsNode n) set
+
+-- some sets, not none
+abbrev pub AreSets : ℕ → List (List ℕ) → Type 0
+AreSets n comb = (1 ≤ length comb) × All (IsSetOf n) comb
+
+pub record AreCombs (f : Fields) (combs : List (List (List ℕ))) : Type 0 where
+  pub n : ℕ
+  pub dimension : f.dimension ≡ Some n
+  pub few : length combs ≤ most_combs
+  pub sets : All (AreSets n) combs
+  pub few_nodes : sum_by (sum_by length) combs ≤ most_comb_nodes
+
+-- the index of a node or of some comb, and a difference
+abbrev pub IsChange : ℕ → ℕ × ℤ → Type 0
+IsChange n change = IsNode (n + most_combs) change.0 × IsWithin most_difference change.1
+
+-- a branch is on two different nodes
+abbrev pub IsStep : ℕ → Step → Type 0
+IsStep n (Branch first second) = IsPairOf n (first, second)
+IsStep n (Leaf changes) = All (IsChange n) changes
+
+-- the steps of one whole tree
+pub record AreTreeSteps (f : Fields) (steps : List Step) : Type 0 where
+  pub n : ℕ
+  pub dimension : f.dimension ≡ Some n
+  pub each : All (IsStep n) steps
+  pub few : branch_count steps ≤ most_branches
+  pub few_changes : change_count steps ≤ most_changes
+  pub whole : are_whole 1 steps ≡ true
+
+-- the fields that stand are in their ranges
+pub record IsInRange (f : Fields) : Type 0 where
+  pub dimension : (n : ℕ) → f.dimension ≡ Some n → IsNode most_nodes n
+  pub capacity : (capacity : ℤ) → f.capacity ≡ Some capacity → IsFromTo (pos 1) (pos most_capacity) capacity
+  pub scale : (scale : ℤ) → f.scale ≡ Some scale → IsFromTo (pos 1) (pos most_scale) scale
+  pub coords : (points : List Point) → f.coords ≡ Some points → IsByNode (IsPoint (spatial f)) f points
+  pub display : (points : List Point) → f.display ≡ Some points → IsByNode (IsPoint false) f points
+  pub demands : (demands : List ℤ) → f.demands ≡ Some demands → IsByNode IsDemand f demands
+  pub depots : (depots : List ℕ) → f.depots ≡ Some depots → AreDepots f depots
+  pub fixed : (pairs : List (ℕ × ℕ)) → f.fixed ≡ Some pairs → AreFixed f pairs
+  pub weights : (weights : List ℤ) → f.weights ≡ Some weights → AreWeights f weights
+  pub tours : (tours : List (List ℕ)) → f.tours ≡ Some tours → AreTours tours
+  pub node_potentials : (potentials : List ℤ) → f.node_potentials ≡ Some potentials
+      → IsByNode (IsWithin most_potential) f potentials
+  pub row_potentials : (potentials : List ℤ) → f.row_potentials ≡ Some potentials
+      → IsByNode (IsWithin most_potential) f potentials
+  pub column_potentials : (potentials : List ℤ) → f.column_potentials ≡ Some potentials
+      → IsByNode (IsWithin most_potential) f potentials
+  pub fixed_potentials : (triples : List (ℕ × ℕ × ℤ)) → f.fixed_potentials ≡ Some triples → AreTriples f triples
+  pub combs : (combs : List (List (List ℕ))) → f.combs ≡ Some combs → AreCombs f combs
+  pub branches : (steps : List Step) → f.branches ≡ Some steps → AreTreeSteps f steps
+
+-- what stands in an instance: its nodes and weight type, and the weights or the coordinates that the weight type is over
+pub record HasInstance (f : Fields) : Type 0 where
+  pub dimension : IsSome f.dimension
+  pub weight_kind : IsSome f.weight_kind
+  pub weights : is_explicit f.weight_kind ≡ true → IsSome f.weights
+  pub coords : is_explicit f.weight_kind ≡ false → IsSome f.coords
+
+-- what stands in a routing problem beside that
+pub record HasRouting (f : Fields) : Type 0 where
+  pub capacity : IsSome f.capacity
+  pub demands : IsSome f.demands
+  pub depots : IsSome f.depots
+
+-- what stands in a file of potentials: those of nodes, or those of rows and of columns without multipliers of fixed edges
+pub record HasPotentials (f : Fields) : Type 0 where
+  pub dimension : IsSome f.dimension
+  pub sort : (IsSome f.node_potentials × (f.row_potentials ≡ None) × (f.column_potentials ≡ None))
+      ⊎ ((f.node_potentials ≡ None) × (f.fixed_potentials ≡ None) × IsSome f.row_potentials × IsSome f.column_potentials)
+
+-- what stands in a file of branches
+pub record HasBranches (f : Fields) : Type 0 where
+  pub dimension : IsSome f.dimension
+  pub branches : IsSome f.branches

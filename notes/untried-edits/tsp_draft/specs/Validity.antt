@@ -1,0 +1,174 @@
+-- When a field is valid on its own. The ranges are this project's profile of TSPLIB 95.
+use Rattle.std.specs.Prelude.{ℕ, ◌+◌, ◌-◌, ◌*◌, Bool, true, false, cond, not, ◌&&◌, ◌==◌, nat_le, List, length, slice_index, Option, None, Some, ℤ, pos, neg_ℤ, int_le}
+use Rattle.std.specs.Option.{option_map_or}
+use Rattle.std.specs.Ordering.{int_eq}
+use Rattle.std.specs.List.{list_all, find, sum_by}
+use Rattle.tsp_distance.specs.declared.decimal.Point.{Point}
+use Rattle.tsp_format.specs.declared.field.Field.{Field}
+use Rattle.tsp_format.specs.declared.field.Field.TheVariants.{NameKey, CommentKey, OtherKey, DimensionKey}
+use Rattle.tsp_format.specs.declared.field.Shape.{Shape}
+use Rattle.tsp_format.specs.declared.field.Shape.TheVariants.{Numbers, Points, SpacePoints, Depots, Pairs, Weights, Tours, Triples, Combs, Steps}
+use Rattle.tsp_format.specs.declared.field.ValueShape.{ValueShape}
+use Rattle.tsp_format.specs.declared.field.ValueShape.TheVariants.{Kept, KeptEach, Number, Word}
+use Rattle.tsp_format.specs.Limits.{most_nodes, most_matrix_nodes, most_coordinate, most_weight, most_demand, most_kept_bytes, most_comments, most_others, most_depots, most_fixed, most_multipliers, most_multiplier, most_tour_nodes, most_combs, most_comb_nodes, most_branches, most_changes, most_difference}
+use Rattle.tsp_format.specs.Bytes.{is_blank, is_letter, is_keyword_byte}
+use Rattle.tsp_format.specs.Words.{field_word}
+use Rattle.tsp_format.specs.Keywords.{keyword_of, is_unknown}
+use Rattle.tsp_format.specs.Words.{fields_in_order}
+use Rattle.tsp_format.specs.Shapes.{shape_of, value_shape_of}
+use Rattle.tsp_format.specs.Steps.{Step, Branch, Leaf, are_whole, branch_count, change_count}
+use Rattle.tsp_draft.specs.Fields.{Fields, spatial, one_number_in, numbers_in, points_in}
+
+-- a field that is missing is valid
+abbrev pub if_there : {A : Type 0} → (A → Bool) → Option A → Bool
+if_there fits None = true
+if_there fits (Some x) = fits x
+
+-- ---- kept values
+
+-- no byte 10, no blank at either end, and with its keyword at most the limit
+abbrev pub is_kept : List ℕ → List ℕ → Bool
+is_kept keyword value = nat_le (length keyword + length value) most_kept_bytes && list_all (λ b. not (b == 10)) value
+    && not (is_blank (slice_index value 0)) && not (is_blank (slice_index value (length value - 1)))
+
+-- a letter first, bytes that a keyword can have, and no word with a meaning of its own
+abbrev pub is_unknown_keyword : List ℕ → Bool
+is_unknown_keyword word = is_letter (slice_index word 0) && list_all is_keyword_byte word && is_unknown (keyword_of word)
+
+-- the line of an unknown keyword, with a value that is kept
+abbrev pub is_other : List ℕ × List ℕ → Bool
+is_other line = is_unknown_keyword line.0 && is_kept line.0 line.1
+
+abbrev pub are_comments : List (List ℕ) → Bool
+are_comments comments = nat_le (length comments) most_comments && list_all (is_kept (field_word CommentKey)) comments
+
+abbrev pub are_others : List (List ℕ × List ℕ) → Bool
+are_others others = nat_le (length others) most_others && list_all is_other others
+
+-- ---- numbers
+
+abbrev pub is_from_to : ℤ → ℤ → ℤ → Bool
+is_from_to low high z = int_le low z && int_le z high
+
+-- of at most this size
+abbrev pub is_within : ℕ → ℤ → Bool
+is_within most z = is_from_to (neg_ℤ (pos most)) (pos most) z
+
+-- a node of 1..n
+abbrev pub is_node : ℕ → ℕ → Bool
+is_node n node = nat_le 1 node && nat_le node n
+
+-- ---- sections
+
+-- what a section is, by the number of nodes; without it no section is valid
+abbrev pub with_dimension : {A : Type 0} → (ℕ → A → Bool) → Option ℕ → A → Bool
+with_dimension fits None x = false
+with_dimension fits (Some n) x = fits n x
+
+-- one entry for each node, each of them valid
+abbrev pub is_by_node : {A : Type 0} → (A → Bool) → ℕ → List A → Bool
+is_by_node fits n xs = length xs == n && list_all fits xs
+
+-- a third coordinate is within the limits of all in a spatial file, and 0 in every other
+abbrev pub is_third : Bool → ℤ → Bool
+is_third in_space z = cond in_space (is_within most_coordinate z) (int_eq z (pos 0))
+
+-- a point of a spatial file, or of another
+abbrev pub is_point : Bool → Point → Bool
+is_point in_space point = is_within most_coordinate point.x && is_within most_coordinate point.y && is_third in_space point.z
+
+abbrev pub is_demand : ℤ → Bool
+is_demand demand = is_from_to (pos 0) (pos most_demand) demand
+
+abbrev pub are_depots : ℕ → List ℕ → Bool
+are_depots n depots = nat_le (length depots) most_depots && list_all (is_node n) depots
+
+-- two different nodes
+abbrev pub is_node_pair : ℕ → ℕ × ℕ → Bool
+is_node_pair n pair = is_node n pair.0 && is_node n pair.1 && not (pair.0 == pair.1)
+
+abbrev pub are_fixed : ℕ → List (ℕ × ℕ) → Bool
+are_fixed n pairs = nat_le (length pairs) most_fixed && list_all (is_node_pair n) pairs
+
+-- two different nodes, and a number that a multiplier may have
+abbrev pub is_triple : ℕ → ℕ × ℕ × ℤ → Bool
+is_triple n triple = is_node_pair n (triple.0, triple.1) && is_from_to (pos 0) (pos most_multiplier) triple.2
+
+abbrev pub are_triples : ℕ → List (ℕ × ℕ × ℤ) → Bool
+are_triples n triples = nat_le (length triples) most_multipliers && list_all (is_triple n) triples
+
+abbrev pub are_weights : ℕ → List ℤ → Bool
+are_weights n weights = nat_le n most_matrix_nodes && nat_le (length weights) (n * n) && list_all (is_within most_weight) weights
+
+-- not empty, and of nodes that some file can have
+abbrev pub is_tour : List ℕ → Bool
+is_tour tour = nat_le 1 (length tour) && list_all (is_node most_nodes) tour
+
+abbrev pub are_tours : List (List ℕ) → Bool
+are_tours tours = list_all is_tour tours && nat_le (sum_by length tours) most_tour_nodes
+
+-- a set of nodes, not empty
+abbrev pub is_set : ℕ → List ℕ → Bool
+is_set n set = nat_le 1 (length set) && list_all (is_node n) set
+
+-- some sets, the handle first; whether they are those of a comb is judged later
+abbrev pub is_comb : ℕ → List (List ℕ) → Bool
+is_comb n comb = nat_le 1 (length comb) && list_all (is_set n) comb
+
+abbrev pub are_combs : ℕ → List (List (List ℕ)) → Bool
+are_combs n combs = nat_le (length combs) most_combs && list_all (is_comb n) combs
+    && nat_le (sum_by (sum_by length) combs) most_comb_nodes
+
+-- the index of a node or of some comb, and a difference
+abbrev pub is_change : ℕ → ℕ × ℤ → Bool
+is_change n change = is_node (n + most_combs) change.0 && is_within most_difference change.1
+
+-- a branch is on two different nodes
+abbrev pub is_step : ℕ → Step → Bool
+is_step n (Branch first second) = is_node_pair n (first, second)
+is_step n (Leaf changes) = list_all (is_change n) changes
+
+-- the steps of one whole tree
+abbrev pub are_steps : ℕ → List Step → Bool
+are_steps n steps = list_all (is_step n) steps && nat_le (branch_count steps) most_branches
+    && nat_le (change_count steps) most_changes && are_whole 1 steps
+
+-- ---- all fields
+
+-- a keyword whose value is read so is valid; those with words are of types that hold nothing else
+abbrev pub value_fits : Fields → Field → Option ValueShape → Bool
+value_fits f field None = true
+value_fits f field (Some Kept) = true
+value_fits f field (Some KeptEach) = true
+value_fits f field (Some (Number low high)) = if_there (is_from_to low high) (one_number_in f field)
+value_fits f field (Some Word) = true
+
+-- a section of this shape is valid
+abbrev pub section_fits : Fields → Field → Shape → Bool
+section_fits f field (Numbers low high) =
+    if_there (with_dimension (is_by_node (is_from_to low high)) f.dimension) (numbers_in f field)
+section_fits f field Points = if_there (with_dimension (is_by_node (is_point false)) f.dimension) (points_in f field)
+section_fits f field SpacePoints = if_there (with_dimension (is_by_node (is_point true)) f.dimension) (points_in f field)
+section_fits f field Depots = if_there (with_dimension are_depots f.dimension) f.depots
+section_fits f field Pairs = if_there (with_dimension are_fixed f.dimension) f.fixed
+section_fits f field Weights = if_there (with_dimension are_weights f.dimension) f.weights
+section_fits f field Tours = if_there are_tours f.tours
+section_fits f field Triples = if_there (with_dimension are_triples f.dimension) f.fixed_potentials
+section_fits f field Combs = if_there (with_dimension are_combs f.dimension) f.combs
+section_fits f field Steps = if_there (with_dimension are_steps f.dimension) f.branches
+
+-- the field is valid on its own
+abbrev pub fits : Fields → Field → Bool
+fits f NameKey = if_there (is_kept (field_word NameKey)) f.name
+fits f CommentKey = are_comments f.comments
+fits f OtherKey = are_others f.others
+fits f DimensionKey = if_there (is_node most_nodes) f.dimension
+fits f field = option_map_or (section_fits f field) (shape_of (spatial f) field) (value_fits f field (value_shape_of field))
+
+-- the first field of a list that fails the test
+abbrev pub first_failing : (Field → Bool) → List Field → Option Field
+first_failing test fields = find (λ field. not (test field)) fields
+
+-- the first field, in canonical order, that is not valid on its own
+abbrev pub bad_field : Fields → Option Field
+bad_field f = first_failing (fits f) fields_in_order

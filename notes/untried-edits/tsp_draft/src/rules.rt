@@ -1,0 +1,182 @@
+//! What the fields of a file have to be together, judged over what stands in it.
+
+ghost use Rattle.std.specs.Prelude.{◌≡◌, None};
+ghost use Rattle.tsp_draft.specs.Fields.{fields_of};
+ghost use Rattle.tsp_draft.specs.Validity.{first_failing};
+ghost use Rattle.tsp_draft.specs.Rules.{standing_of, is_instance, is_routing, is_tours, is_certificate, lists_weights, has_distances, has_row_or_column, has_node_or_multiplier, is_tree, is_asked, is_there, asked_in_order, has_wrong_format, has_wrong_count, end_fault};
+
+use crate::draft::Draft;
+use crate::fault::EndFault;
+use tsp_format::{Field, Kind, WeightFormat, WeightKind};
+
+/// The fields that some file is asked for, in the order in which they are missed.
+const ASKED: [Field; 14] = [
+    Field::TypeKey,
+    Field::DimensionKey,
+    Field::EdgeWeightTypeKey,
+    Field::EdgeWeightFormatKey,
+    Field::CapacityKey,
+    Field::NodeCoordPart,
+    Field::EdgeWeightPart,
+    Field::DemandPart,
+    Field::DepotPart,
+    Field::TourPart,
+    Field::NodePotentialPart,
+    Field::RowPotentialPart,
+    Field::ColumnPotentialPart,
+    Field::BranchPart,
+];
+
+/// The fault at the end of a file, by what stands in it and by its first incomplete section: the
+/// first row of the end table that applies, or `None`.
+///
+/// A draft's lists are never incomplete, so that `None` is passed for one. A reader passes the
+/// first section in canonical order that has fewer places than it needs; of the lists of such
+/// sections it is only looked at whether they stand.
+pub fn end_fault(draft: &Draft, incomplete: Option<Field>) -> Option<EndFault>
+    ensures { result ≡ end_fault (standing_of (fields_of draft.now)) incomplete }
+{
+    if let Some(field) = first_missing(draft, &ASKED) {
+        return Some(EndFault::Missing(field));
+    }
+    if let Some(field) = incomplete {
+        return Some(EndFault::Incomplete(field));
+    }
+    if has_wrong_format(draft) {
+        return Some(EndFault::WrongFormat);
+    }
+    if has_wrong_count(draft) {
+        return Some(EndFault::WrongCount);
+    }
+    None
+}
+
+/// The first of some fields that is asked for and missing.
+fn first_missing(draft: &Draft, fields: &[Field]) -> Option<Field>
+    ensures { result ≡ first_failing (is_there (standing_of (fields_of draft.now))) fields.now }
+{
+    for field in fields {
+        if !is_there(draft, *field) {
+            return Some(*field);
+        }
+    }
+    None
+}
+
+/// Whether a field isn't missing.
+fn is_there(draft: &Draft, field: Field) -> bool
+    ensures { result ≡ is_there (standing_of (fields_of draft.now)) field }
+{
+    !is_asked(draft, field) || draft.stands(field)
+}
+
+/// Whether a field is asked for.
+fn is_asked(draft: &Draft, field: Field) -> bool
+    ensures { result ≡ is_asked (standing_of (fields_of draft.now)) field }
+{
+    match field {
+        Field::TypeKey => true,
+        Field::DimensionKey => !is_tours(draft),
+        Field::EdgeWeightTypeKey => is_instance(draft),
+        Field::EdgeWeightFormatKey => lists_weights(draft) || draft.weights.is_some(),
+        Field::NodeCoordPart => has_distances(draft),
+        Field::EdgeWeightPart => lists_weights(draft),
+        Field::CapacityKey | Field::DemandPart | Field::DepotPart => is_routing(draft),
+        Field::TourPart => is_tours(draft),
+        Field::NodePotentialPart => is_certificate(draft) && !has_row_or_column(draft),
+        Field::RowPotentialPart => is_certificate(draft) && draft.column_potentials.is_some(),
+        Field::ColumnPotentialPart => is_certificate(draft) && draft.row_potentials.is_some(),
+        Field::BranchPart => is_tree(draft),
+        _ => false,
+    }
+}
+
+/// Whether the file is an instance.
+fn is_instance(draft: &Draft) -> bool
+    ensures { result ≡ is_instance (fields_of draft.now).kind }
+{
+    matches!(
+        draft.kind,
+        Some(Kind::Tsp) | Some(Kind::Atsp) | Some(Kind::Cvrp)
+    )
+}
+
+/// Whether the file is an instance of vehicle routing.
+fn is_routing(draft: &Draft) -> bool
+    ensures { result ≡ is_routing (fields_of draft.now).kind }
+{
+    matches!(draft.kind, Some(Kind::Cvrp))
+}
+
+/// Whether the file holds tours.
+fn is_tours(draft: &Draft) -> bool
+    ensures { result ≡ is_tours (fields_of draft.now).kind }
+{
+    matches!(draft.kind, Some(Kind::Tour))
+}
+
+/// Whether the file holds potentials.
+fn is_certificate(draft: &Draft) -> bool
+    ensures { result ≡ is_certificate (fields_of draft.now).kind }
+{
+    matches!(draft.kind, Some(Kind::Potentials))
+}
+
+/// Whether the file holds a tree of cases.
+fn is_tree(draft: &Draft) -> bool
+    ensures { result ≡ is_tree (fields_of draft.now).kind }
+{
+    matches!(draft.kind, Some(Kind::Branches))
+}
+
+/// Whether an instance's weights are listed.
+fn lists_weights(draft: &Draft) -> bool
+    ensures { result ≡ lists_weights (standing_of (fields_of draft.now)) }
+{
+    is_instance(draft) && matches!(draft.weight_kind, Some(WeightKind::Explicit))
+}
+
+/// Whether an instance's weights are distances.
+fn has_distances(draft: &Draft) -> bool
+    ensures { result ≡ has_distances (standing_of (fields_of draft.now)) }
+{
+    is_instance(draft)
+        && draft.weight_kind.is_some()
+        && !matches!(draft.weight_kind, Some(WeightKind::Explicit))
+}
+
+/// Whether potentials of rows or of columns stand.
+fn has_row_or_column(draft: &Draft) -> bool
+    ensures { result ≡ has_row_or_column (standing_of (fields_of draft.now)) }
+{
+    draft.row_potentials.is_some() || draft.column_potentials.is_some()
+}
+
+/// Whether potentials of nodes or multipliers of fixed edges are there.
+fn has_node_or_multiplier(draft: &Draft) -> bool
+    ensures { result ≡ has_node_or_multiplier (standing_of (fields_of draft.now)) }
+{
+    draft.node_potentials.is_some() || draft.fixed_potentials.is_some()
+}
+
+/// Whether the format is FUNCTION where weights are listed, or the file has numbers for a TSP beside
+/// those of rows or columns, which are for an ATSP.
+fn has_wrong_format(draft: &Draft) -> bool
+    ensures { result ≡ has_wrong_format (standing_of (fields_of draft.now)) }
+{
+    let by_function = matches!(draft.weight_format, Some(WeightFormat::ByFunction));
+    (by_function && (lists_weights(draft) || draft.weights.is_some()))
+        || (is_certificate(draft) && has_node_or_multiplier(draft) && has_row_or_column(draft))
+}
+
+/// Whether the weights are not as many as the cells of their layout.
+fn has_wrong_count(draft: &Draft) -> bool
+    ensures { result ≡ has_wrong_count (standing_of (fields_of draft.now)) }
+{
+    match (draft.dimension, draft.weight_format, &draft.weights) {
+        (Some(nodes), Some(WeightFormat::Listed(layout)), Some(weights)) => {
+            weights.len() as u64 != layout.cell_count(nodes)
+        }
+        _ => false,
+    }
+}

@@ -1,0 +1,171 @@
+//! Likely causes of a fault, as far as what was seen of the file shows one.
+
+use crate::look::Look;
+use tsp_draft::EndFault;
+use tsp_format::{Field, is_blank, is_letter};
+use tsp_number::NumberFault;
+use tsp_text::{LineFault, ReadFault};
+
+/// The likely cause of a fault, where one is known.
+pub(crate) fn cause(look: &Look, fault: ReadFault) -> Option<&'static str> {
+    match fault {
+        ReadFault::Line {
+            line,
+            word: _,
+            fault,
+        } => {
+            let kind = if line == 1 {
+                kind_of(look.head.as_slice())
+            } else {
+                None
+            };
+            kind.or(cause_of_returns(look))
+                .or(cause_of_line(look, line, fault))
+        }
+        ReadFault::End(fault) => cause_of_returns(look).or(cause_of_end(look, fault)),
+        ReadFault::OutOfMemory | ReadFault::Device | ReadFault::TooLong => None,
+    }
+}
+
+/// What the first bytes of a file say that is no text of TSPLIB 95.
+fn kind_of(head: &[u8]) -> Option<&'static str> {
+    if head.starts_with(&[31, 139]) {
+        return Some("The file begins as gzip does. Unpack it first: gunzip < FILE.gz > FILE.");
+    }
+    if head.starts_with(b"BZh") || head.starts_with(&[253, 55]) || head.starts_with(b"PK") {
+        return Some("The file begins as a compressed one does. Unpack it first.");
+    }
+    if head.starts_with(&[255, 254]) || head.starts_with(&[254, 255]) {
+        return Some("The file begins as UTF-16 does. Convert it first: iconv -f UTF-16 -t UTF-8.");
+    }
+    if head.starts_with(&[239, 187, 191]) {
+        return Some(
+            "The file begins with a byte order mark, the bytes 239 187 191. Take it off: tail -c +4 FILE.",
+        );
+    }
+    if head.starts_with(b"{") || head.starts_with(b"[") {
+        return Some(
+            "The file begins as JSON does. A file of TSPLIB begins with lines as TYPE : TSP.",
+        );
+    }
+    if head.starts_with(b"<!") || head.starts_with(b"<html") || head.starts_with(b"<HTML") {
+        return Some(
+            "The file begins as HTML does: a download may have failed. A file of TSPLIB begins with lines as TYPE : TSP.",
+        );
+    }
+    if head.starts_with(b"<") {
+        return Some(
+            "The file begins as XML does. A file of TSPLIB begins with lines as TYPE : TSP.",
+        );
+    }
+    if head.starts_with(b"#") {
+        return Some("TSPLIB has no comments with #. Write a line COMMENT : .. instead.");
+    }
+    match head.first() {
+        Some(byte) if !is_usual(*byte) => {
+            Some("The file's first byte is no letter, digit or blank. Is it a text?")
+        }
+        Some(_) | None => None,
+    }
+}
+
+/// Whether a text of TSPLIB 95 may begin with the byte: a letter, a number, a blank or an empty line.
+fn is_usual(byte: u8) -> bool {
+    is_letter(byte)
+        || is_blank(byte)
+        || byte.is_ascii_digit()
+        || byte == b'\n'
+        || byte == b'-'
+        || byte == b'+'
+        || byte == b'.'
+}
+
+/// Whether the ends of lines may be the cause.
+fn cause_of_returns(look: &Look) -> Option<&'static str> {
+    if look.has_returns {
+        Some(
+            "Lines of this file end in byte 13 alone. A line ends in byte 10: tr '\\r' '\\n' < FILE.",
+        )
+    } else {
+        None
+    }
+}
+
+/// The likely cause of a line fault.
+fn cause_of_line(look: &Look, line: u32, fault: LineFault) -> Option<&'static str> {
+    match fault {
+        LineFault::UnknownLine if is_route(look.excerpt.marked()) => Some(
+            "This is how CVRPLIB writes routes. They leave the depot out and count customers from 1:\n\
+             docs/certificates.md has a recipe.",
+        ),
+        LineFault::StrayNumber if line == 1 && look.excerpt.after().starts_with(b" ->") => Some(
+            "This looks like the routes of OR-Tools, whose nodes count from 0.\n\
+             A file of TSPLIB begins with lines as TYPE : TOUR, and its nodes count from 1.",
+        ),
+        LineFault::StrayNumber if line == 1 && has_comma(look.excerpt.marked()) => Some(
+            "This looks like CSV. A file of TSPLIB begins with lines as TYPE : TSP, and has blanks between numbers.",
+        ),
+        LineFault::StrayNumber if line == 1 && words_in(look.excerpt.after()) == 2 => Some(
+            "This looks like points without keywords. A file of TSPLIB begins with lines as TYPE : TSP.",
+        ),
+        LineFault::StrayNumber if line == 1 => Some(
+            "This may be a list of nodes without keywords, as Concorde writes a tour (.sol):\n\
+             docs/certificates.md has a recipe.",
+        ),
+        LineFault::Number(NumberFault::OutOfRange)
+            if look.excerpt.marked() == b"0".as_slice() && look.field == Some(Field::TourPart) => {
+            Some("Nodes count from 1. Some programs count them from 0: add 1 to each node then.")
+        }
+        LineFault::Number(NumberFault::TooFine) if look.field == Some(Field::NodeCoordPart) => Some(
+            "Write the coordinates with 9 decimals, or multiply all of them by a power of 10.\n\
+             Both change the instance, so say so in a COMMENT.",
+        ),
+        LineFault::Number(NumberFault::NotWhole) if look.field == Some(Field::EdgeWeightPart) =>
+            Some(
+                "Round the weights, or multiply all of them by a power of 10.\n\
+             Both change the instance, so say so in a COMMENT.",
+            ),
+        _ => None,
+    }
+}
+
+/// How many words a text has.
+fn words_in(text: &[u8]) -> u32 {
+    let mut count = 0u32;
+    let mut is_in_word = false;
+    'bytes: for byte in text {
+        if !is_blank(*byte) && !is_in_word {
+            count = count.saturating_add(1);
+        }
+        is_in_word = !is_blank(*byte);
+    }
+    count
+}
+
+/// Whether a word has a comma.
+fn has_comma(word: &[u8]) -> bool {
+    'bytes: for byte in word {
+        if *byte == b',' {
+            return true;
+        }
+    }
+    false
+}
+
+/// Whether a line is one of CVRPLIB's.
+fn is_route(line: &[u8]) -> bool {
+    line.starts_with(b"Route") || line.starts_with(b"Cost")
+}
+
+/// The likely cause of an end fault.
+fn cause_of_end(look: &Look, fault: EndFault) -> Option<&'static str> {
+    match fault {
+        EndFault::Missing(_) if look.has_small_letters => Some(
+            "A line has this keyword in small letters. Keywords stand in capital letters.",
+        ),
+        EndFault::Missing(_)
+        | EndFault::Incomplete(_)
+        | EndFault::WrongFormat
+        | EndFault::WrongCount => None,
+    }
+}

@@ -1,0 +1,28 @@
+//! Bytes of a file as they are shown. No body is looked at here: a definition that is changed
+//! together with its code is refused by its examples.
+
+ghost use Rattle.std.specs.Prelude.{◌≡◌, [], ◌∷◌, codes};
+ghost use Rattle.tsp_explain.specs.Shown.{shown_byte, all_shown};
+
+/// How bytes of each sort are shown.
+pub fn examples_of_shown_bytes()
+    ensures zero { shown_byte 0 ≡ codes "^@" }
+    ensures before_tab { shown_byte 8 ≡ codes "^H" }
+    ensures tab { shown_byte 9 ≡ 9 ∷ [] }
+    ensures line_end { shown_byte 10 ≡ codes "^J" }
+    ensures escape { shown_byte 27 ≡ codes "^[" }
+    ensures last_control { shown_byte 31 ≡ codes "^_" }
+    ensures blank { shown_byte 32 ≡ codes " " }
+    ensures letter { shown_byte 65 ≡ codes "A" }
+    ensures before_delete { shown_byte 126 ≡ codes "~" }
+    ensures delete { shown_byte 127 ≡ codes "^?" }
+    ensures high_zero { shown_byte 128 ≡ codes "M-^@" }
+    ensures high_tab { shown_byte 137 ≡ codes "M-^I" }
+    ensures high_line_end { shown_byte 138 ≡ codes "M-^J" }
+    ensures high_blank { shown_byte 160 ≡ codes "M- " }
+    ensures high_letter { shown_byte 193 ≡ codes "M-A" }
+    ensures before_last { shown_byte 254 ≡ codes "M-~" }
+    ensures last { shown_byte 255 ≡ codes "M-^?" }
+    ensures in_order { all_shown (65 ∷ 9 ∷ 195 ∷ 164 ∷ []) ≡ 65 ∷ 9 ∷ codes "M-CM-$" }
+    ensures nothing { all_shown [] ≡ [] }
+{}

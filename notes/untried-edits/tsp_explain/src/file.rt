@@ -1,0 +1,301 @@
+//! Why a file isn't read: the place, the rule, and a likely cause.
+
+use crate::cause::cause;
+use crate::guess::{guess_at, push_guess};
+use crate::look::{Look, Sought, look_for};
+use crate::sentences::{end_sentence, line_sentence};
+use crate::text::{begin, end, push, push_lines, push_number, push_shown};
+use crate::wanted::{asked, group, wanted};
+use std::alloc::{AllocError, Global};
+use std::io;
+use std::io::Read;
+use tsp_draft::EndFault;
+use tsp_format::{Field, Word};
+use tsp_text::{LineFault, ReadFault};
+
+/// Appends why a file isn't read. `name` is what the user calls it, and `again` the file opened once
+/// more, where it can be; at most as much of it is read as the first time. What stands at the fault
+/// is shown as far as that look shows it.
+///
+/// # Errors
+///
+/// Out of memory; part of the explanation may be appended then.
+pub fn explain_file<R: Read + Drop>(
+    alloc: Global,
+    text: &mut Vec<u8>,
+    name: &str,
+    again: Option<R>,
+    fault: ReadFault,
+) -> Result<(), AllocError> {
+    let seen = match again {
+        None => None,
+        Some(mut reader) => Some(look_for(&mut reader, sought_for(fault))),
+    };
+    let answer = match &seen {
+        Some(Ok(seen)) => explain_seen(text, name, seen, fault),
+        Some(Err(error)) => explain_failed(alloc, text, name, error, fault),
+        None => explain_unseen(text, name, fault),
+    };
+    drop(seen);
+    answer
+}
+
+/// What a second look is for.
+fn sought_for(fault: ReadFault) -> Sought {
+    match fault {
+        ReadFault::Line {
+            line,
+            word,
+            fault: _,
+        } => Sought::Place { line, word },
+        ReadFault::End(EndFault::Missing(field) | EndFault::Incomplete(field)) => {
+            Sought::Field(field)
+        }
+        ReadFault::End(EndFault::WrongCount) => Sought::Field(Field::EdgeWeightPart),
+        ReadFault::End(EndFault::WrongFormat)
+        | ReadFault::OutOfMemory
+        | ReadFault::Device
+        | ReadFault::TooLong => Sought::Nothing,
+    }
+}
+
+/// Appends the explanation of a file that was seen a second time.
+fn explain_seen(
+    text: &mut Vec<u8>,
+    name: &str,
+    seen: &Look,
+    fault: ReadFault,
+) -> Result<(), AllocError> {
+    push_place(text, name, fault)?;
+    if let ReadFault::Line {
+        line: _,
+        word,
+        fault: _,
+    } = fault
+    {
+        seen.excerpt.push_to(text, word > 0)?;
+    }
+    let cause = cause(seen, fault);
+    match (cause, guess_at(seen, fault), fault) {
+        (
+            None,
+            Some(guess),
+            ReadFault::Line {
+                line: _,
+                word: _,
+                fault,
+            },
+        ) => push_guess(text, guess, seen, fault),
+        _ => push_rules(text, seen, fault, cause),
+    }
+}
+
+/// Appends the rule that is broken, what is counted, and the likely cause.
+fn push_rules(
+    text: &mut Vec<u8>,
+    seen: &Look,
+    fault: ReadFault,
+    cause: Option<&'static str>,
+) -> Result<(), AllocError> {
+    push_rule(text, fault, seen.field)?;
+    push_counts(text, seen, fault)?;
+    match cause {
+        Some(cause) => push_lines(text, cause),
+        None => push_near(text, seen, fault),
+    }
+}
+
+/// Appends which unknown keyword may have been meant as the one that is missing.
+fn push_near(text: &mut Vec<u8>, seen: &Look, fault: ReadFault) -> Result<(), AllocError> {
+    let field = match fault {
+        ReadFault::Line {
+            line: _,
+            word: _,
+            fault: LineFault::SectionEarly,
+        } => Field::DimensionKey,
+        ReadFault::End(EndFault::Missing(field)) => field,
+        _ => return Ok(()),
+    };
+    if seen.near.is_empty() {
+        return Ok(());
+    }
+    begin(text)?;
+    push(text, "Line ")?;
+    push_number(text, seen.near_line)?;
+    push(text, " has ")?;
+    push_shown(text, seen.near.as_slice())?;
+    push(text, ": did you mean ")?;
+    push(text, field.word())?;
+    push(text, "?")?;
+    end(text)
+}
+
+/// Appends the explanation of a file that can't be read a second time, with what the system says.
+fn explain_failed(
+    alloc: Global,
+    text: &mut Vec<u8>,
+    name: &str,
+    error: &io::Error,
+    fault: ReadFault,
+) -> Result<(), AllocError> {
+    explain_unseen(text, name, fault)?;
+    push_error(alloc, text, error)
+}
+
+/// Appends what the system says of a failure.
+pub fn push_error(alloc: Global, text: &mut Vec<u8>, error: &io::Error) -> Result<(), AllocError> {
+    let words = format!(in alloc; "{error}")?;
+    begin(text)?;
+    push(text, "The system says: ")?;
+    push(text, words.as_str())?;
+    end(text)
+}
+
+/// Appends the explanation of a file of which nothing is seen.
+fn explain_unseen(text: &mut Vec<u8>, name: &str, fault: ReadFault) -> Result<(), AllocError> {
+    push_place(text, name, fault)?;
+    push_rule(text, fault, None)
+}
+
+/// Appends where the fault is.
+fn push_place(text: &mut Vec<u8>, name: &str, fault: ReadFault) -> Result<(), AllocError> {
+    begin(text)?;
+    push(text, name)?;
+    if let ReadFault::Line {
+        line,
+        word,
+        fault: _,
+    } = fault
+    {
+        push(text, ", line ")?;
+        push_number(text, line)?;
+        if word > 0 {
+            push(text, ", word ")?;
+            push_number(text, word)?;
+        }
+    }
+    push(text, ":")?;
+    end(text)
+}
+
+/// Appends the rule that is broken. `field` is the keyword or the section that the line is of.
+fn push_rule(text: &mut Vec<u8>, fault: ReadFault, field: Option<Field>) -> Result<(), AllocError> {
+    match fault {
+        ReadFault::Line {
+            line: _,
+            word: _,
+            fault,
+        } => {
+            push_lines(text, line_sentence(fault))?;
+            match field {
+                Some(field) if is_of_a_field(fault) => push_lines(text, wanted(field)),
+                Some(_) | None => Ok(()),
+            }
+        }
+        ReadFault::End(fault) => push_end_rule(text, fault),
+        ReadFault::OutOfMemory => push_lines(text, "There is no memory for what the file holds."),
+        ReadFault::Device => push_lines(text, "The file can't be opened, or a read of it failed."),
+        ReadFault::TooLong => push_lines(
+            text,
+            "Only the first 1,073,741,824 bytes of a file count. They have no fault and no line EOF.",
+        ),
+    }
+}
+
+/// Whether what the keyword or the section takes says more of the fault.
+fn is_of_a_field(fault: LineFault) -> bool {
+    match fault {
+        LineFault::Outside
+        | LineFault::BadValue
+        | LineFault::Number(_)
+        | LineFault::RepeatedNode
+        | LineFault::SelfEdge
+        | LineFault::Surplus
+        | LineFault::AfterEnd => true,
+        LineFault::LongLine
+        | LineFault::UnknownLine
+        | LineFault::Repeated
+        | LineFault::SectionValue
+        | LineFault::SectionEarly
+        | LineFault::TooManyNodes
+        | LineFault::StrayNumber
+        | LineFault::LateSpace => false,
+    }
+}
+
+/// Appends the rule of an end fault.
+fn push_end_rule(text: &mut Vec<u8>, fault: EndFault) -> Result<(), AllocError> {
+    push_lines(text, end_sentence(fault))?;
+    match fault {
+        EndFault::Missing(field) => push_lines(text, asked(field)),
+        EndFault::Incomplete(field) => push_lines(text, wanted(field)),
+        EndFault::WrongFormat | EndFault::WrongCount => Ok(()),
+    }
+}
+
+/// Appends how much stands in a section that isn't whole, or how many weights there are.
+fn push_counts(text: &mut Vec<u8>, seen: &Look, fault: ReadFault) -> Result<(), AllocError> {
+    match (fault, seen.dimension) {
+        (ReadFault::End(EndFault::Incomplete(field)), Some(nodes)) => {
+            push_groups(text, seen.words, group(field, seen.is_spatial), nodes)
+        }
+        (ReadFault::End(EndFault::WrongCount), Some(nodes)) => {
+            begin(text)?;
+            push(text, "There are ")?;
+            push_number(text, seen.words)?;
+            push_nodes(text, " weights, and n is ", nodes)?;
+            push_layouts(text, seen.words, nodes)
+        }
+        _ => Ok(()),
+    }
+}
+
+/// Appends which layouts list so many weights of so many nodes.
+fn push_layouts(text: &mut Vec<u8>, weights: u64, nodes: i64) -> Result<(), AllocError> {
+    match layouts_with(i64::try_from(weights).unwrap_or(i64::MAX), nodes) {
+        Some(layouts) => push_lines(text, layouts),
+        None => Ok(()),
+    }
+}
+
+/// The layouts that list so many weights of so many nodes, where there are some.
+fn layouts_with(weights: i64, nodes: i64) -> Option<&'static str> {
+    let all = nodes.saturating_mul(nodes);
+    let twice = weights.saturating_mul(2);
+    if weights == all {
+        Some("FULL_MATRIX has as many.")
+    } else if twice == all.saturating_sub(nodes) {
+        Some("UPPER_ROW, LOWER_ROW, UPPER_COL and LOWER_COL have as many.")
+    } else if twice == all.saturating_add(nodes) {
+        Some("UPPER_DIAG_ROW, LOWER_DIAG_ROW, UPPER_DIAG_COL and LOWER_DIAG_COL have as many.")
+    } else {
+        None
+    }
+}
+
+/// Appends how many groups stand in a section, of so many words each, and how many are wanted.
+fn push_groups(
+    text: &mut Vec<u8>,
+    words: u64,
+    size: Option<u64>,
+    nodes: i64,
+) -> Result<(), AllocError> {
+    let groups = match size {
+        Some(4) => words / 4,
+        Some(3) => words / 3,
+        Some(2) => words / 2,
+        Some(_) | None => return Ok(()),
+    };
+    begin(text)?;
+    push(text, "The section has ")?;
+    push_number(text, groups)?;
+    push_nodes(text, " whole groups, and DIMENSION is ", nodes)
+}
+
+/// Appends words and the number of nodes, and ends the line.
+fn push_nodes(text: &mut Vec<u8>, words: &str, nodes: i64) -> Result<(), AllocError> {
+    push(text, words)?;
+    push_number(text, nodes)?;
+    push(text, ".")?;
+    end(text)
+}

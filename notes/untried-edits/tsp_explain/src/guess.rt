@@ -1,0 +1,273 @@
+//! What was meant in place of a line or a word, as far as the file shows it.
+
+use crate::look::{Look, first_run};
+use crate::near::{in_capitals, keyword_in_capitals, nearest, nearest_keyword};
+use crate::sentences::line_sentence;
+use crate::text::{begin, end, push, push_lines, push_number, push_shown};
+use crate::wanted::{group, wanted};
+use std::alloc::AllocError;
+use tsp_format::{CoordKind, DisplayKind, Field, Kind, WeightFormat, WeightKind, Word, is_blank};
+use tsp_number::NumberFault;
+use tsp_text::{LineFault, ReadFault};
+
+/// What explains a fault better than its rule does.
+#[derive(Clone, Copy)]
+pub(crate) enum Guess {
+    /// A keyword in small letters.
+    Letters(&'static str),
+    /// A keyword that is nearly this one.
+    Near(&'static str),
+    /// A section that isn't read.
+    Section,
+    /// A word where this section wants a number.
+    Numbers(Field),
+    /// The node 0, in a file with so many nodes.
+    Zero(i64),
+    /// A group more than the file has nodes.
+    Surplus(i64),
+    /// A keyword without a value.
+    NoValue(Field),
+    /// A value that is too long.
+    LongValue(Field),
+    /// A value in small letters.
+    ValueLetters(Field, &'static str),
+    /// A value that is nearly this one.
+    ValueNear(Field, &'static str),
+    /// Another value.
+    Value(Field),
+}
+
+/// What explains a fault better than its rule does, where something does.
+pub(crate) fn guess_at(look: &Look, fault: ReadFault) -> Option<Guess> {
+    match fault {
+        ReadFault::Line {
+            line: _,
+            word: _,
+            fault,
+        } => guess_of_line(look, fault),
+        ReadFault::End(_) | ReadFault::OutOfMemory | ReadFault::Device | ReadFault::TooLong => None,
+    }
+}
+
+/// What explains a line fault better than its rule does.
+fn guess_of_line(look: &Look, fault: LineFault) -> Option<Guess> {
+    match fault {
+        LineFault::UnknownLine => guess_of_word(look),
+        LineFault::BadValue => Some(guess_of_value(look.excerpt.marked(), look.field?)),
+        LineFault::Number(NumberFault::OutOfRange)
+            if look.excerpt.marked() == b"0".as_slice() && is_by_node(look.field) => {
+            Some(Guess::Zero(look.dimension?))
+        }
+        LineFault::Surplus if is_by_node(look.field) => Some(Guess::Surplus(look.dimension?)),
+        _ => None,
+    }
+}
+
+/// Whether a section has a group for each node.
+fn is_by_node(field: Option<Field>) -> bool {
+    match field {
+        Some(field) => group(field, false).is_some(),
+        None => false,
+    }
+}
+
+/// What a line with an unknown word was meant as.
+fn guess_of_word(look: &Look) -> Option<Guess> {
+    let (word, _) = first_run(look.excerpt.marked());
+    if let Some(known) = keyword_in_capitals(word) {
+        return Some(Guess::Letters(known));
+    }
+    if let Some(known) = nearest_keyword(word) {
+        return Some(Guess::Near(known));
+    }
+    if word.ends_with(b"_SECTION") {
+        return Some(Guess::Section);
+    }
+    match look.open {
+        Some(field) if field.shape(false).is_some() => Some(Guess::Numbers(field)),
+        Some(_) | None => None,
+    }
+}
+
+/// What is wrong with the value of a keyword.
+fn guess_of_value(line: &[u8], field: Field) -> Guess {
+    let (_, rest) = first_run(line);
+    let value = first_word(after_marks(rest));
+    if field == Field::NameKey || field == Field::CommentKey {
+        return Guess::LongValue(field);
+    }
+    if value.is_empty() {
+        return Guess::NoValue(field);
+    }
+    match field {
+        Field::TypeKey => guess_of::<Kind>(field, value),
+        Field::EdgeWeightTypeKey => guess_of::<WeightKind>(field, value),
+        Field::EdgeWeightFormatKey => guess_of::<WeightFormat>(field, value),
+        Field::NodeCoordTypeKey => guess_of::<CoordKind>(field, value),
+        Field::DisplayDataTypeKey => guess_of::<DisplayKind>(field, value),
+        _ => Guess::Value(field),
+    }
+}
+
+/// What was meant by a value that isn't one of a list of words.
+fn guess_of<W: Word>(field: Field, value: &[u8]) -> Guess {
+    if let Some(known) = in_capitals::<W>(value) {
+        return Guess::ValueLetters(field, known);
+    }
+    match nearest::<W>(value) {
+        Some(known) => Guess::ValueNear(field, known),
+        None => Guess::Value(field),
+    }
+}
+
+/// What follows the blanks and colons at the front.
+fn after_marks(text: &[u8]) -> &[u8] {
+    'bytes: for (index, byte) in text.iter().enumerate() {
+        if !is_blank(*byte) && *byte != b':' {
+            return &text[index..];
+        }
+    }
+    &[]
+}
+
+/// The bytes up to the first blank.
+fn first_word(text: &[u8]) -> &[u8] {
+    'bytes: for (index, byte) in text.iter().enumerate() {
+        if is_blank(*byte) {
+            return &text[..index];
+        }
+    }
+    text
+}
+
+/// Appends what explains the fault.
+pub(crate) fn push_guess(
+    text: &mut Vec<u8>,
+    guess: Guess,
+    look: &Look,
+    fault: LineFault,
+) -> Result<(), AllocError> {
+    match guess {
+        Guess::Letters(known) => {
+            push_lines(text, UNKNOWN)?;
+            push_with(
+                text,
+                "Keywords are written in capital letters: ",
+                known,
+                ".",
+            )
+        }
+        Guess::Near(known) => {
+            push_lines(text, UNKNOWN)?;
+            push_with(text, "Did you mean ", known, "?")
+        }
+        Guess::Section => {
+            push_lines(text, UNKNOWN)?;
+            push_unread(text, look)
+        }
+        Guess::Numbers(field) => {
+            push_lines(text, UNKNOWN)?;
+            push_open(text, field, look.dimension)
+        }
+        Guess::Zero(nodes) => {
+            push_lines(text, line_sentence(fault))?;
+            push_number_in(
+                text,
+                "A node is 1 to DIMENSION (",
+                nodes,
+                "). Nodes count from 1.",
+            )
+        }
+        Guess::Surplus(nodes) => {
+            push_lines(text, line_sentence(fault))?;
+            push_surplus(text, nodes)
+        }
+        Guess::NoValue(field) => push_value(text, "The keyword has no value here.", field),
+        Guess::LongValue(field) => push_value(text, "The value has too many bytes.", field),
+        Guess::Value(field) => push_value(text, "The keyword doesn't take this value.", field),
+        Guess::ValueLetters(field, known) => {
+            push_value(text, "The keyword doesn't take this value.", field)?;
+            push_with(text, "Values are written in capital letters: ", known, ".")
+        }
+        Guess::ValueNear(field, known) => {
+            push_value(text, "The keyword doesn't take this value.", field)?;
+            push_with(text, "Did you mean ", known, "?")
+        }
+    }
+}
+
+/// The rule of a line that begins with an unknown word.
+const UNKNOWN: &str =
+    "The line begins with a word that is no keyword of TSPLIB 95, and no colon follows that word.";
+
+/// Appends a line with a word between others.
+fn push_with(text: &mut Vec<u8>, before: &str, word: &str, after: &str) -> Result<(), AllocError> {
+    begin(text)?;
+    push(text, before)?;
+    push(text, word)?;
+    push(text, after)?;
+    end(text)
+}
+
+/// Appends a line with a number between words.
+fn push_number_in(
+    text: &mut Vec<u8>,
+    before: &str,
+    number: i64,
+    after: &str,
+) -> Result<(), AllocError> {
+    begin(text)?;
+    push(text, before)?;
+    push_number(text, number)?;
+    push(text, after)?;
+    end(text)
+}
+
+/// Appends that the section of a line isn't read.
+fn push_unread(text: &mut Vec<u8>, look: &Look) -> Result<(), AllocError> {
+    let (word, _) = first_run(look.excerpt.marked());
+    begin(text)?;
+    push_shown(text, word)?;
+    push(text, " is a section that isn't read.")?;
+    end(text)
+}
+
+/// Appends what a section that is open wants in place of a word.
+fn push_open(text: &mut Vec<u8>, field: Field, nodes: Option<i64>) -> Result<(), AllocError> {
+    begin(text)?;
+    push(text, field.word())?;
+    match (field, nodes) {
+        (Field::EdgeWeightPart, _) => push(text, " is open: a weight is a whole number")?,
+        (_, None) => push(
+            text,
+            " is open: a node is a whole number from 1 to DIMENSION",
+        )?,
+        (_, Some(nodes)) => {
+            push(
+                text,
+                " is open: a node is a whole number from 1 to DIMENSION (",
+            )?;
+            push_number(text, nodes)?;
+            push(text, ")")?;
+        }
+    }
+    push(text, ".")?;
+    end(text)
+}
+
+/// Appends that a group is one more than the file has nodes.
+fn push_surplus(text: &mut Vec<u8>, nodes: i64) -> Result<(), AllocError> {
+    begin(text)?;
+    push(text, "DIMENSION is ")?;
+    push_number(text, nodes)?;
+    push(text, ", and this begins group ")?;
+    push_number(text, nodes.saturating_add(1))?;
+    push(text, ".")?;
+    end(text)
+}
+
+/// Appends what is wrong with a value, and which ones the keyword takes.
+fn push_value(text: &mut Vec<u8>, sentence: &str, field: Field) -> Result<(), AllocError> {
+    push_lines(text, sentence)?;
+    push_lines(text, wanted(field))
+}

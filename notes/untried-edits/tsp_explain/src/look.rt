@@ -1,0 +1,279 @@
+//! A second look at a file that has a fault: what stands there.
+
+ghost use Rattle.std.specs.Prelude.{◌≤◌, length};
+
+use crate::excerpt::Excerpt;
+use crate::near::{is_in_other_letters, is_near};
+use arrayvec::ArrayVec;
+use std::io;
+use std::io::Read;
+use tsp_format::{
+    Field, Keyword, MOST_FILE_BYTES, MOST_NODES, Word, is_blank, is_keyword_byte, is_letter,
+};
+use tsp_number::parse_whole;
+use tsp_section::says_space;
+
+/// The most bytes that the reader is asked for at once.
+const MOST_AT_ONCE: usize = 4_096;
+
+/// What is looked for in a file.
+#[derive(Clone, Copy)]
+pub(crate) enum Sought {
+    /// A line, counted from 1, and a word of it, counted from 1, or the whole line where it is 0.
+    Place { line: u32, word: u32 },
+    /// The words of a section, or of the keyword that is missing, in the whole file.
+    Field(Field),
+    /// Nothing but whether the file can be read.
+    Nothing,
+}
+
+/// The line that is being read.
+#[derive(Drop)]
+struct Line {
+    /// Its number, counted from 1.
+    number: u32,
+    /// How many words have begun in it.
+    words: u32,
+    /// Whether the last byte is of a word.
+    is_in_word: bool,
+    /// Its first bytes, from the first on that isn't blank.
+    front: ArrayVec<u8, 128>,
+}
+
+/// What was seen of a file.
+#[derive(Drop)]
+pub(crate) struct Look {
+    sought: Sought,
+    line: Line,
+    /// The first bytes of the file.
+    pub(crate) head: ArrayVec<u8, 8>,
+    /// What is shown of the line that was looked for.
+    pub(crate) excerpt: Excerpt,
+    /// The field of the last word line, up to the line that was looked for and with it.
+    pub(crate) field: Option<Field>,
+    /// The field before the last word line.
+    pub(crate) open: Option<Field>,
+    /// The value of DIMENSION, where such a line was seen.
+    pub(crate) dimension: Option<i64>,
+    /// Whether a line says that each node has three coordinates.
+    pub(crate) is_spatial: bool,
+    /// How many words stand in the section that was looked for.
+    pub(crate) words: u64,
+    /// Whether the keyword that was looked for stands there in other letters, as `type`.
+    pub(crate) has_small_letters: bool,
+    /// The first unknown keyword that is near the one that is missing.
+    pub(crate) near: ArrayVec<u8, 40>,
+    /// The line that has it.
+    pub(crate) near_line: u32,
+    /// Whether a byte 13 stands anywhere but before a byte 10 or at the end.
+    pub(crate) has_returns: bool,
+    /// The last byte.
+    last: u8,
+    is_done: bool,
+}
+
+/// Looks at a file, up to what is sought or to its line `EOF`; no further than it is read.
+///
+/// # Errors
+///
+/// Those of the reader.
+pub(crate) fn look_for<R: Read>(reader: &mut R, sought: Sought) -> io::Result<Look> {
+    let mut look = Look::new(sought);
+    let mut taken = 0usize;
+    let mut piece = [0u8; MOST_AT_ONCE];
+    'pieces: while taken <= MOST_FILE_BYTES {
+        if look.is_done {
+            return Ok(look);
+        }
+        let count = reader.read(&mut piece)?;
+        if count == 0 {
+            look.end_line();
+            return Ok(look);
+        }
+        look.take_all(&piece[..count]);
+        taken += count;
+    }
+    Ok(look)
+}
+
+impl Look {
+    fn new(sought: Sought) -> Look {
+        Look {
+            sought,
+            line: Line {
+                number: 1,
+                words: 0,
+                is_in_word: false,
+                front: ArrayVec::new(),
+            },
+            head: ArrayVec::new(),
+            excerpt: Excerpt::new(),
+            field: None,
+            open: None,
+            dimension: None,
+            is_spatial: false,
+            words: 0,
+            has_small_letters: false,
+            near: ArrayVec::new(),
+            near_line: 0,
+            has_returns: false,
+            last: b'\n',
+            is_done: false,
+        }
+    }
+
+    fn take_all(&mut self, piece: &[u8]) {
+        'bytes: for byte in piece {
+            self.take(*byte);
+        }
+    }
+
+    /// Takes the next byte of the file.
+    fn take(&mut self, byte: u8) {
+        if self.is_done {
+            return;
+        }
+        let _ = self.head.try_push(byte);
+        self.has_returns = self.has_returns || (self.last == 13 && byte != b'\n' && byte != 13);
+        self.last = byte;
+        if byte == b'\n' {
+            self.end_line();
+            return;
+        }
+        if self.line.take(byte) && self.is_counted() {
+            self.words = self.words.saturating_add(1);
+        }
+        if let Sought::Place { line, word } = self.sought
+            && line == self.line.number
+        {
+            self.excerpt.take(byte, self.line.is_in(word));
+        }
+    }
+
+    /// Whether the line's words are of the section that was looked for.
+    fn is_counted(&self) -> bool {
+        match self.sought {
+            Sought::Field(field) => self.field == Some(field) && !self.line.is_of_words(),
+            Sought::Place { .. } | Sought::Nothing => false,
+        }
+    }
+
+    /// Ends the line, and begins the next one.
+    fn end_line(&mut self) {
+        if self.line.is_of_words() {
+            self.take_keyword();
+        }
+        if let Sought::Place { line, word: _ } = self.sought
+            && line <= self.line.number
+        {
+            self.is_done = true;
+        }
+        self.line.begin_next();
+    }
+
+    /// Takes the line's keyword, and its value where it is that of DIMENSION.
+    fn take_keyword(&mut self) {
+        let (keyword, rest) = first_run(self.line.front.as_slice());
+        self.open = self.field;
+        match Keyword::of(keyword) {
+            Keyword::Eof => self.is_done = true,
+            Keyword::Known(field) => {
+                self.field = Some(field);
+                let (value, _) = first_run(after_colon(rest));
+                self.is_spatial = self.is_spatial || says_space(field, value);
+                if field == Field::DimensionKey {
+                    self.dimension = parse_whole(value, 1, i64::from(MOST_NODES)).ok();
+                }
+            }
+            Keyword::EdgeDataFormat | Keyword::EdgeDataSection => self.field = None,
+            Keyword::Unknown => {
+                self.field = None;
+                let word = sought_word(self.sought);
+                let is_meant = is_near(keyword, word) || is_in_other_letters(keyword, word);
+                if self.near.is_empty() && is_meant {
+                    self.near_line = self.line.number;
+                    let _ = self.near.try_extend_from_slice(keyword);
+                }
+            }
+        }
+        if let Sought::Field(field) = self.sought {
+            let word = field.word().as_bytes();
+            self.has_small_letters = self.has_small_letters
+                || (keyword != word && is_in_other_letters(keyword, word));
+        }
+    }
+}
+
+impl Line {
+    /// Takes its next byte, and answers whether a word begins with it.
+    fn take(&mut self, byte: u8) -> bool {
+        if is_blank(byte) {
+            self.is_in_word = false;
+            if !self.front.is_empty() {
+                let _ = self.front.try_push(byte);
+            }
+            return false;
+        }
+        let _ = self.front.try_push(byte);
+        if self.is_in_word {
+            return false;
+        }
+        self.is_in_word = true;
+        self.words = self.words.saturating_add(1);
+        true
+    }
+
+    /// Whether the last byte is of this word; where it is 0, of the line from its first word on.
+    fn is_in(&self, word: u32) -> bool {
+        if word == 0 {
+            self.words > 0
+        } else {
+            self.is_in_word && word == self.words
+        }
+    }
+
+    /// Whether the line begins with a letter.
+    fn is_of_words(&self) -> bool {
+        match self.front.first() {
+            Some(byte) => is_letter(*byte),
+            None => false,
+        }
+    }
+
+    fn begin_next(&mut self) {
+        self.number = self.number.saturating_add(1);
+        self.words = 0;
+        self.is_in_word = false;
+        self.front.clear();
+    }
+}
+
+/// The keyword that may be missing where something is sought. At a place it is DIMENSION, which a
+/// section may come before.
+fn sought_word(sought: Sought) -> &'static [u8] {
+    match sought {
+        Sought::Field(field) => field.word().as_bytes(),
+        Sought::Place { line: _, word: _ } => b"DIMENSION",
+        Sought::Nothing => &[],
+    }
+}
+
+/// The first bytes that may stand in a keyword, and what follows them.
+pub(crate) fn first_run(text: &[u8]) -> (&[u8], &[u8]) {
+    'bytes: for (index, byte) in text.iter().enumerate() {
+        if !is_keyword_byte(*byte) {
+            return text.split_at(index);
+        }
+    }
+    (text, &[])
+}
+
+/// What follows the blanks and colons at the front.
+fn after_colon(text: &[u8]) -> &[u8] {
+    'bytes: for (index, byte) in text.iter().enumerate() {
+        if is_keyword_byte(*byte) {
+            return &text[index..];
+        }
+    }
+    &[]
+}

@@ -1,0 +1,361 @@
+//! Why a solution is refused: the rule, and the nodes and numbers that the reason is about.
+
+use crate::sentences::reason_sentence;
+use crate::solution::{
+    count_at_place, first_place_of, first_repeated, least_missing, node_at, sum_of,
+};
+use crate::text::{begin, end, push, push_lines, push_number};
+use std::alloc::AllocError;
+use tsp_cost::{Costs, Instance};
+use tsp_file::File;
+use tsp_format::{Kind, Word};
+use tsp_reason::Reason;
+
+/// Which file a reason is about.
+#[derive(Clone, Copy, Debug, PartialEq, Eq)]
+pub enum Blame {
+    /// The instance.
+    Instance,
+    /// The solution.
+    Solution,
+    /// The potentials.
+    Potentials,
+    /// The tree of cases.
+    Branches,
+}
+
+/// The file that a reason is about.
+pub fn blamed(reason: Reason) -> Blame {
+    match reason {
+        Reason::TooFewNodes
+        | Reason::NotSymmetric { .. }
+        | Reason::DepotCount
+        | Reason::DepotDemand
+        | Reason::FixedEdgesInRoutes => Blame::Instance,
+        Reason::NotASolution
+        | Reason::Dimension
+        | Reason::TourCount
+        | Reason::TourLength
+        | Reason::NodeOutOfRange { .. }
+        | Reason::RepeatedNode { .. }
+        | Reason::FixedEdgeUnused { .. }
+        | Reason::DepotInRoute { .. }
+        | Reason::Unserved { .. }
+        | Reason::Overload { .. } => Blame::Solution,
+        Reason::NotPotentials
+        | Reason::PotentialsDimension
+        | Reason::PotentialsKind
+        | Reason::MultiplierNotFixed { .. }
+        | Reason::MultiplierRepeated { .. }
+        | Reason::DualInfeasible { .. } => Blame::Potentials,
+        Reason::NotBranches
+        | Reason::BranchesDimension
+        | Reason::BadComb { .. }
+        | Reason::BranchTwice { .. }
+        | Reason::BadLeaf { .. } => Blame::Branches,
+    }
+}
+
+/// Appends why a solution is refused. `name` is what the user calls the file that is to blame.
+///
+/// # Errors
+///
+/// Out of memory; part of the explanation may be appended then.
+pub fn explain_reason(text: &mut Vec<u8>, name: &str, reason: Reason) -> Result<(), AllocError> {
+    begin(text)?;
+    push(text, name)?;
+    push(text, ":")?;
+    end(text)?;
+    push_lines(text, reason_sentence(reason))
+}
+
+/// Appends the nodes and numbers that a reason is about, as the instance and the solution show them.
+/// The caller may have read both a second time, so they may be others than those that were judged.
+///
+/// # Errors
+///
+/// Out of memory; part of the lines may be appended then.
+pub fn push_details(
+    text: &mut Vec<u8>,
+    reason: Reason,
+    weighed: &Instance,
+    solution: &File,
+) -> Result<(), AllocError> {
+    let instance = weighed.file();
+    match reason {
+        Reason::NotASolution => push_type(text, solution),
+        Reason::Dimension => push_dimensions(text, instance, solution),
+        Reason::TourCount => say(
+            text,
+            &[("The number of tours in it is ", tours_in(solution))],
+        ),
+        Reason::TourLength => push_lengths(text, instance, solution),
+        Reason::NodeOutOfRange { place } => push_node(text, place, instance, solution),
+        Reason::RepeatedNode { place } => {
+            push_repeated(text, place, solution)?;
+            push_missing(text, instance, solution)
+        }
+        Reason::DepotInRoute { place } => push_depot(text, place, instance, solution),
+        Reason::FixedEdgeUnused { index } => push_pair(text, index, instance),
+        Reason::Overload { route } => push_load(text, route, instance, solution),
+        Reason::Unserved { node } => say(text, &[("No route has node ", i64::from(node))]),
+        Reason::TooFewNodes => say(text, &[("DIMENSION is ", nodes_of(instance))]),
+        Reason::DepotCount => say(
+            text,
+            &[("The number of depots in it is ", depots_in(instance))],
+        ),
+        Reason::NotSymmetric { i, j } => {
+            push_cost(text, weighed, i, j)?;
+            push_cost(text, weighed, j, i)
+        }
+        Reason::DualInfeasible { i, j } => push_cost(text, weighed, i, j),
+        Reason::NotPotentials
+        | Reason::PotentialsDimension
+        | Reason::PotentialsKind
+        | Reason::MultiplierNotFixed { .. }
+        | Reason::MultiplierRepeated { .. }
+        | Reason::DepotDemand
+        | Reason::FixedEdgesInRoutes
+        | Reason::NotBranches
+        | Reason::BranchesDimension
+        | Reason::BadComb { .. }
+        | Reason::BranchTwice { .. }
+        | Reason::BadLeaf { .. } => Ok(()),
+    }
+}
+
+/// Appends a line of words with a number after each.
+fn say(text: &mut Vec<u8>, parts: &[(&str, i64)]) -> Result<(), AllocError> {
+    begin(text)?;
+    'parts: for (words, number) in parts {
+        push(text, words)?;
+        push_number(text, *number)?;
+    }
+    push(text, ".")?;
+    end(text)
+}
+
+/// Appends the cost from a node to another.
+fn push_cost(
+    text: &mut Vec<u8>,
+    instance: &Instance,
+    from: u32,
+    to: u32,
+) -> Result<(), AllocError> {
+    let nodes = 1..=instance.count();
+    if !nodes.contains(&from) || !nodes.contains(&to) {
+        return Ok(());
+    }
+    say(
+        text,
+        &[
+            ("The cost from ", i64::from(from)),
+            (" to ", i64::from(to)),
+            (" is ", instance.cost(from, to)),
+        ],
+    )
+}
+
+/// Appends the TYPE of a solution that isn't one.
+fn push_type(text: &mut Vec<u8>, solution: &File) -> Result<(), AllocError> {
+    begin(text)?;
+    push(text, "It is of TYPE ")?;
+    push(text, solution.kind().word())?;
+    push(text, ".")?;
+    end(text)
+}
+
+/// The value of DIMENSION, and 0 where it is missing.
+fn nodes_of(file: &File) -> i64 {
+    i64::from(file.dimension().unwrap_or(0))
+}
+
+/// How many tours a file holds.
+fn tours_in(solution: &File) -> i64 {
+    count_of(solution.tours().unwrap_or(&[]).len())
+}
+
+/// How many depots an instance lists.
+fn depots_in(instance: &File) -> i64 {
+    count_of(instance.depots().unwrap_or(&[]).len())
+}
+
+/// A count as a number to be printed.
+fn count_of(count: usize) -> i64 {
+    i64::try_from(count).unwrap_or(i64::MAX)
+}
+
+/// Appends both values of DIMENSION.
+fn push_dimensions(text: &mut Vec<u8>, instance: &File, solution: &File) -> Result<(), AllocError> {
+    say(
+        text,
+        &[
+            ("In the instance it is ", nodes_of(instance)),
+            (", and in the solution ", nodes_of(solution)),
+        ],
+    )
+}
+
+/// Appends how many nodes the tour has and how many the instance, and which are missing or repeated.
+fn push_lengths(text: &mut Vec<u8>, instance: &File, solution: &File) -> Result<(), AllocError> {
+    let Some(tour) = solution.tours().unwrap_or(&[]).first() else {
+        return Ok(());
+    };
+    say(
+        text,
+        &[
+            ("The tour has ", count_of(tour.len())),
+            (" nodes, and DIMENSION is ", nodes_of(instance)),
+        ],
+    )?;
+    let nodes = nodes_of(instance);
+    if count_of(tour.len()) < nodes {
+        push_missing(text, instance, solution)
+    } else if tour.len() > 1
+        && count_of(tour.len()) == nodes.saturating_add(1)
+        && tour.first() == tour.last()
+    {
+        push_lines(
+            text,
+            "Its first node stands at its end again: leave it out there.",
+        )
+    } else {
+        match first_repeated(tour) {
+            Some(place) => push_repeated(text, place, solution),
+            None => Ok(()),
+        }
+    }
+}
+
+/// Appends the least node of the instance that the tours don't have. The depot isn't missing.
+fn push_missing(text: &mut Vec<u8>, instance: &File, solution: &File) -> Result<(), AllocError> {
+    let tours = solution.tours().unwrap_or(&[]);
+    let nodes = instance.dimension().unwrap_or(0);
+    match least_missing(tours, nodes, depot_of(instance)) {
+        None => Ok(()),
+        Some(node) => push_of_node(text, node, " is missing."),
+    }
+}
+
+/// The depot of an instance of routes.
+fn depot_of(instance: &File) -> Option<u32> {
+    match instance.kind() {
+        Kind::Cvrp => instance.depots().unwrap_or(&[]).first().copied(),
+        _ => None,
+    }
+}
+
+/// Appends a line with a node and what is so of it.
+fn push_of_node(text: &mut Vec<u8>, node: u32, words: &str) -> Result<(), AllocError> {
+    begin(text)?;
+    push(text, "Node ")?;
+    push_number(text, node)?;
+    push(text, words)?;
+    end(text)
+}
+
+/// Appends the place of a route that has the depot, and that customers may be counted from 1. No
+/// route has the last node then.
+fn push_depot(
+    text: &mut Vec<u8>,
+    place: u32,
+    instance: &File,
+    solution: &File,
+) -> Result<(), AllocError> {
+    let tours = solution.tours().unwrap_or(&[]);
+    let Some(node) = node_at(tours, place) else {
+        return Ok(());
+    };
+    say(
+        text,
+        &[("Place ", i64::from(place)), (" is node ", i64::from(node))],
+    )?;
+    let last = instance.dimension().unwrap_or(0);
+    if node == 1 && first_place_of(tours, last).is_none() {
+        push_of_node(
+            text,
+            node,
+            " is the depot. CVRPLIB counts customers from 1 without the depot: add 1 to each.",
+        )
+    } else {
+        push_of_node(text, node, " is the depot.")
+    }
+}
+
+/// Appends the node at a place of the tours.
+fn push_node(
+    text: &mut Vec<u8>,
+    place: u32,
+    instance: &File,
+    solution: &File,
+) -> Result<(), AllocError> {
+    let Some(node) = node_at(solution.tours().unwrap_or(&[]), place) else {
+        return Ok(());
+    };
+    say(
+        text,
+        &[
+            ("Place ", i64::from(place)),
+            (" is node ", i64::from(node)),
+            (", and DIMENSION is ", nodes_of(instance)),
+        ],
+    )
+}
+
+/// Appends the node at a place of the tours, and the first place that has it.
+fn push_repeated(text: &mut Vec<u8>, place: u32, solution: &File) -> Result<(), AllocError> {
+    let tours = solution.tours().unwrap_or(&[]);
+    let Some(node) = node_at(tours, place) else {
+        return Ok(());
+    };
+    let Some(first) = first_place_of(tours, node) else {
+        return Ok(());
+    };
+    say(
+        text,
+        &[
+            ("Place ", i64::from(place)),
+            (" is node ", i64::from(node)),
+            (", which stands at place ", first),
+        ],
+    )
+}
+
+/// Appends a fixed pair, counted from 1.
+fn push_pair(text: &mut Vec<u8>, index: u32, instance: &File) -> Result<(), AllocError> {
+    let pairs = instance.fixed().unwrap_or(&[]);
+    match count_at_place(pairs, index) {
+        None => Ok(()),
+        Some((from, to)) => say(
+            text,
+            &[
+                ("Pair ", i64::from(index)),
+                (" is ", i64::from(from)),
+                (" and ", i64::from(to)),
+            ],
+        ),
+    }
+}
+
+/// Appends what a route carries, and the capacity.
+fn push_load(
+    text: &mut Vec<u8>,
+    route: u32,
+    instance: &File,
+    solution: &File,
+) -> Result<(), AllocError> {
+    let (Some(demands), Some(capacity)) = (instance.demands(), instance.capacity()) else {
+        return Ok(());
+    };
+    match sum_of(solution.tours().unwrap_or(&[]), route, demands) {
+        None => Ok(()),
+        Some(load) => say(
+            text,
+            &[
+                ("The demands of route ", i64::from(route)),
+                (" sum to ", load),
+                (", and CAPACITY is ", capacity),
+            ],
+        ),
+    }
+}

@@ -1,0 +1,177 @@
+//! What each fault and each reason means, in a sentence or two: a rule with its numbers.
+//!
+//! Each is a `match` that names every variant, so that a new one needs its sentence.
+
+use tsp_draft::EndFault;
+use tsp_file::RelayoutFault;
+use tsp_number::NumberFault;
+use tsp_reason::Reason;
+use tsp_stream::WriteFault;
+use tsp_text::LineFault;
+
+/// What is wrong with a line.
+pub fn line_sentence(fault: LineFault) -> &'static str {
+    match fault {
+        LineFault::LongLine => {
+            "A line of words has at most 4,096 bytes, from its first that isn't blank to its end."
+        }
+        LineFault::UnknownLine => {
+            "The line begins with a word that is no keyword of TSPLIB 95, and no colon follows that word.\n\
+             With a colon the line would be kept, and not judged."
+        }
+        LineFault::Repeated => {
+            "An earlier line has this keyword or section. Only COMMENT may stand in several lines."
+        }
+        LineFault::Outside => "This is a word of TSPLIB 95 that tsp doesn't read.",
+        LineFault::BadValue => {
+            "The keyword has no value here, one that it doesn't take, or one of too many bytes."
+        }
+        LineFault::SectionValue => {
+            "The line of a section has no value. What belongs to the section begins in the next line."
+        }
+        LineFault::SectionEarly => {
+            "The section stands before DIMENSION. Only TOUR_SECTION may stand before it."
+        }
+        LineFault::TooManyNodes => {
+            "A matrix of weights is read for at most 5,000 nodes, and DIMENSION is more."
+        }
+        LineFault::StrayNumber => "A number stands where no section is open.",
+        LineFault::Number(fault) => number_sentence(fault),
+        LineFault::RepeatedNode => {
+            "An earlier group of the section has this node. Each node from 1 to DIMENSION has one group."
+        }
+        LineFault::SelfEdge => "Both nodes of this pair are the same one.",
+        LineFault::Surplus => "This is more than the file can have.",
+        LineFault::AfterEnd => {
+            "The list was ended by -1 before this word. After that only words -1 may stand."
+        }
+        LineFault::LateSpace => {
+            "The line says that each node has three coordinates, after a NODE_COORD_SECTION with two of each.\n\
+             It stands before that section."
+        }
+    }
+}
+
+/// What is wrong with a word that is read as a number.
+pub fn number_sentence(fault: NumberFault) -> &'static str {
+    match fault {
+        NumberFault::LongWord => "A number has at most 64 bytes.",
+        NumberFault::BadNumber => {
+            "This isn't a number. A number is an optional sign, digits with at most one point,\n\
+             and optionally e or E with a whole exponent."
+        }
+        NumberFault::TooFine => {
+            "The number is too fine: it has more than 9 decimals that count."
+        }
+        NumberFault::OutOfRange => "The number is out of its range.",
+        NumberFault::NotWhole => "A whole number has to stand here. 12.0 and 1.2e1 are whole too.",
+    }
+}
+
+/// What is wrong with the lines of a file together.
+pub fn end_sentence(fault: EndFault) -> &'static str {
+    match fault {
+        EndFault::Missing(_) => "A line or a section is missing that the file has to have.",
+        EndFault::Incomplete(_) => "A section ends before it is whole.",
+        EndFault::WrongFormat => {
+            "EDGE_WEIGHT_FORMAT is FUNCTION, and the weights are EXPLICIT or listed: tsp reads listed weights alone.\n\
+             In a file of TYPE POTENTIALS: NODE_POTENTIAL_SECTION or FIXED_EDGE_POTENTIAL_SECTION, which are for a TSP,\n\
+             is in the same file as ROW_POTENTIAL_SECTION or COLUMN_POTENTIAL_SECTION, which are for an ATSP."
+        }
+        EndFault::WrongCount => {
+            "The number of weights isn't that of the layout. With n nodes FULL_MATRIX lists n * n,\n\
+             UPPER_ROW, LOWER_ROW, UPPER_COL and LOWER_COL list n * (n - 1) / 2, and those with DIAG n * (n + 1) / 2."
+        }
+    }
+}
+
+/// Why weights can't go into a layout.
+pub fn relayout_sentence(fault: RelayoutFault) -> &'static str {
+    match fault {
+        RelayoutFault::NotExplicit => {
+            "Only weights that are listed can go into a layout: EDGE_WEIGHT_TYPE : EXPLICIT."
+        }
+        RelayoutFault::NotSymmetric { i: _, j: _ } => {
+            "The layout lists half of a matrix, and these two nodes have another weight each way.\n\
+             FULL_MATRIX can hold both."
+        }
+        RelayoutFault::DiagonalLost { i: _ } => {
+            "The layout lists no diagonal, and the weight from this node to itself isn't 0.\n\
+             FULL_MATRIX and the layouts with DIAG can hold it."
+        }
+        RelayoutFault::OutOfMemory => "There is no memory for the weights in the new layout.",
+    }
+}
+
+/// Why nothing, or only a front part, was written.
+pub fn write_sentence(fault: WriteFault) -> &'static str {
+    match fault {
+        WriteFault::Device => {
+            "Standard output can't be written. What stands there is a front part of the text, or nothing."
+        }
+        WriteFault::OutOfMemory => "There is no memory for the text.",
+    }
+}
+
+/// Why a solution is refused.
+pub fn reason_sentence(reason: Reason) -> &'static str {
+    match reason {
+        Reason::NotASolution => "The second file has to be of TYPE TOUR.",
+        Reason::TooFewNodes => {
+            "A tour has at least 3 nodes, and routes have a depot and at least 1 customer."
+        }
+        Reason::NotSymmetric { i: _, j: _ } => {
+            "In a TSP the cost between two nodes is the same both ways. Where it isn't, TYPE is ATSP."
+        }
+        Reason::Dimension => "DIMENSION of the solution isn't that of the instance.",
+        Reason::TourCount => "The second file has to hold exactly one tour, which -1 ends.",
+        Reason::TourLength => "A tour lists each node of the instance once.",
+        Reason::NodeOutOfRange { place: _ } => "The nodes of the instance are 1 to DIMENSION.",
+        Reason::RepeatedNode { place: _ } => "Each node stands in a tour, or in the routes, once.",
+        Reason::FixedEdgeUnused { index: _ } => {
+            "The tour has to use every pair of FIXED_EDGES_SECTION: as neighbours,\n\
+             under TYPE ATSP from the pair's first node to its second."
+        }
+        Reason::NotPotentials => "The third file has to be of TYPE POTENTIALS.",
+        Reason::PotentialsDimension => "DIMENSION of the potentials isn't that of the instance.",
+        Reason::PotentialsKind => {
+            "A TSP wants a NODE_POTENTIAL_SECTION, an ATSP a ROW_POTENTIAL_SECTION and a COLUMN_POTENTIAL_SECTION."
+        }
+        Reason::MultiplierNotFixed { index: _ } => {
+            "A multiplier of FIXED_EDGE_POTENTIAL_SECTION is on a pair of FIXED_EDGES_SECTION of the instance, in either direction.\n\
+             Other pairs need not be in a tour, so a multiplier on one bounds nothing."
+        }
+        Reason::MultiplierRepeated { index: _ } => {
+            "FIXED_EDGE_POTENTIAL_SECTION has at most one multiplier for each pair, whichever node stands first."
+        }
+        Reason::DualInfeasible { i: _, j: _ } => {
+            "The potentials of a row and a column may sum to at most SCALE times the cost from the one node to the other.\n\
+             Here they sum to more, so they bound nothing."
+        }
+        Reason::DepotCount => "DEPOT_SECTION of the instance has to list exactly one depot.",
+        Reason::DepotDemand => "The depot's demand has to be 0.",
+        Reason::FixedEdgesInRoutes => "Routes aren't judged where the instance lists a fixed edge.",
+        Reason::DepotInRoute { place: _ } => {
+            "A route lists its customers alone: it begins and ends at the depot, which isn't listed."
+        }
+        Reason::Unserved { node: _ } => "Every node but the depot stands in a route.",
+        Reason::Overload { route: _ } => "The demands of a route sum to at most CAPACITY.",
+        Reason::NotBranches => "The third file has to be of TYPE BRANCHES.",
+        Reason::BranchesDimension => "DIMENSION of the tree of cases isn't that of the instance.",
+        Reason::BadComb { index: _ } => {
+            "This comb of COMB_SECTION is none. A comb has a handle and an odd number of teeth, 3 or more, which don't meet;\n\
+             each tooth has a node inside the handle and one outside, and no set has a node twice."
+        }
+        Reason::BranchTwice { index: _ } => {
+            "This branch of BRANCH_SECTION is on a pair that a branch above it decides, or that is a fixed edge of the instance,\n\
+             whichever node stands first."
+        }
+        Reason::BadLeaf { index: _ } => {
+            "This leaf of BRANCH_SECTION has a number that isn't taken. Indices are 1 to DIMENSION for the potentials of nodes,\n\
+             and go on from there for the multipliers of combs, one for each comb of COMB_SECTION.\n\
+             A potential is at most 1,000,000,000,000,000 in size; multipliers aren't below 0,\n\
+             and sum to at most 300,000,000,000,000,000.\n\
+             Numbers are told by their differences to those of the leaf before."
+        }
+    }
+}

@@ -1,0 +1,94 @@
+//! The lines of an explanation. Each is indented by two blanks.
+
+ghost use Rattle.std.specs.Prelude.{◌≡◌, ◌++◌, ◌≤◌, ◌<◌, OnOk};
+ghost use Rattle.tsp_explain.specs.Shown.{shown_byte, shown_low, shown_high, all_shown};
+
+use itoa::{Buffer, Integer};
+use std::alloc::AllocError;
+
+/// What a line begins with.
+const INDENT: &[u8] = b"  ";
+
+/// Appends words as they are.
+pub(crate) fn push(text: &mut Vec<u8>, words: &str) -> Result<(), AllocError>
+    ensures { OnOk result (text.new.items ≡ text.old.items ++ words.now) }
+{
+    text.extend_from_slice(words.as_bytes())
+}
+
+/// Appends the digits of a number.
+pub(crate) fn push_number<N: Integer>(text: &mut Vec<u8>, number: N) -> Result<(), AllocError>
+    ensures { OnOk result (text.new.items ≡ text.old.items ++ N.text number) }
+{
+    let mut buffer = Buffer::new();
+    text.extend_from_slice(buffer.format(number).as_bytes())
+}
+
+/// Begins a line.
+pub(crate) fn begin(text: &mut Vec<u8>) -> Result<(), AllocError> {
+    text.extend_from_slice(INDENT)
+}
+
+/// Ends a line.
+pub(crate) fn end(text: &mut Vec<u8>) -> Result<(), AllocError> {
+    text.extend_from_slice(b"\n")
+}
+
+/// Appends sentences, which are lines of their own where byte 10 parts them.
+pub fn push_lines(text: &mut Vec<u8>, sentences: &str) -> Result<(), AllocError> {
+    begin(text)?;
+    'bytes: for byte in sentences.as_bytes().iter() {
+        text.extend_from_slice(&[*byte])?;
+        if *byte == b'\n' {
+            begin(text)?;
+        }
+    }
+    end(text)
+}
+
+/// Appends bytes of a file as `cat -v` shows them, so that none of them reaches a terminal as a
+/// control byte, but for tabs.
+pub(crate) fn push_shown(text: &mut Vec<u8>, bytes: &[u8]) -> Result<(), AllocError>
+    ensures { OnOk result (text.new.items ≡ text.old.items ++ all_shown bytes.now) }
+{
+    'bytes: for byte in bytes {
+        push_byte(text, *byte)?;
+    }
+    Ok(())
+}
+
+/// Appends a byte as it is shown.
+fn push_byte(text: &mut Vec<u8>, byte: u8) -> Result<(), AllocError>
+    ensures { OnOk result (text.new.items ≡ text.old.items ++ shown_byte byte) }
+{
+    if byte < 128 {
+        push_low(text, byte)
+    } else {
+        push_high(text, byte - 128)
+    }
+}
+
+/// Appends a byte below 128 as it is shown.
+fn push_low(text: &mut Vec<u8>, byte: u8) -> Result<(), AllocError>
+    requires { byte < 128 }
+    ensures { OnOk result (text.new.items ≡ text.old.items ++ shown_low byte) }
+{
+    match byte {
+        9 => text.extend_from_slice(&[byte]),
+        0..=31 => text.extend_from_slice(&[b'^', byte + 64]),
+        127 => text.extend_from_slice(b"^?"),
+        _ => text.extend_from_slice(&[byte]),
+    }
+}
+
+/// Appends a byte from 128 on as it is shown; `low` is the byte less 128.
+fn push_high(text: &mut Vec<u8>, low: u8) -> Result<(), AllocError>
+    requires { low < 128 }
+    ensures { OnOk result (text.new.items ≡ text.old.items ++ shown_high low) }
+{
+    text.extend_from_slice(b"M-")?;
+    match low {
+        9 => text.extend_from_slice(b"^I"),
+        _ => push_low(text, low),
+    }
+}

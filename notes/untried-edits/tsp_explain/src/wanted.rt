@@ -1,0 +1,140 @@
+//! What each keyword and each section takes, with its numbers.
+
+use tsp_format::{Field, Shape};
+
+/// What a keyword or a section takes.
+pub(crate) fn wanted(field: Field) -> &'static str {
+    match field {
+        Field::NameKey => "NAME keeps its whole value, with the keyword at most 4,000 bytes.",
+        Field::CommentKey => {
+            "COMMENT keeps its whole value, with the keyword at most 4,000 bytes. At most 1,000 lines have it."
+        }
+        Field::OtherKey => {
+            "An unknown keyword keeps its whole value, with the keyword at most 4,000 bytes. At most 1,000 lines have one."
+        }
+        Field::TypeKey => {
+            "TYPE is TSP, ATSP, CVRP, TOUR, POTENTIALS or BRANCHES. Of TSPLIB 95's, tsp doesn't read HCP and SOP."
+        }
+        Field::DimensionKey => {
+            "DIMENSION is the number of nodes: a whole number from 1 to 100,000."
+        }
+        Field::CapacityKey => "CAPACITY is a whole number from 1 to 1,000,000,000,000.",
+        Field::ScaleKey => "SCALE is a whole number from 1 to 1,000,000.",
+        Field::EdgeWeightTypeKey => {
+            "EDGE_WEIGHT_TYPE is EXPLICIT, EUC_2D, CEIL_2D, MAN_2D, MAX_2D, ATT, EUC_3D, MAN_3D or MAX_3D.\n\
+             tsp doesn't read the other types of TSPLIB 95.\n\
+             Written as an EXPLICIT matrix of whole numbers, the file could be read with up to 5,000 nodes."
+        }
+        Field::EdgeWeightFormatKey => {
+            "EDGE_WEIGHT_FORMAT is FUNCTION, FULL_MATRIX, UPPER_ROW, LOWER_ROW, UPPER_DIAG_ROW, LOWER_DIAG_ROW,\n\
+             UPPER_COL, LOWER_COL, UPPER_DIAG_COL or LOWER_DIAG_COL."
+        }
+        Field::NodeCoordTypeKey => { "NODE_COORD_TYPE is TWOD_COORDS, THREED_COORDS or NO_COORDS." }
+        Field::DisplayDataTypeKey => {
+            "DISPLAY_DATA_TYPE is COORD_DISPLAY, TWOD_DISPLAY or NO_DISPLAY."
+        }
+        Field::NodeCoordPart => {
+            "NODE_COORD_SECTION has for each node from 1 to DIMENSION a group: the node, x and y; and z where an earlier line\n\
+             says THREED_COORDS, EUC_3D, MAN_3D or MAX_3D. They are from -1,000,000,000 to 1,000,000,000, with at most 9 decimals."
+        }
+        Field::DisplayDataPart => {
+            "DISPLAY_DATA_SECTION has for each node from 1 to DIMENSION a group: the node, x and y.\n\
+             x and y are from -1,000,000,000 to 1,000,000,000, with at most 9 decimals."
+        }
+        Field::DemandPart => {
+            "DEMAND_SECTION has for each node from 1 to DIMENSION a group: the node and its demand,\n\
+             a whole number from 0 to 1,000,000,000."
+        }
+        Field::DepotPart => {
+            "DEPOT_SECTION lists nodes from 1 to DIMENSION, at most 100,000, and -1 at its end."
+        }
+        Field::FixedEdgesPart => {
+            "FIXED_EDGES_SECTION lists pairs of different nodes from 1 to DIMENSION, at most 100,000, and -1 at its end."
+        }
+        Field::EdgeWeightPart => {
+            "EDGE_WEIGHT_SECTION lists whole numbers from -1,000,000,000,000 to 1,000,000,000,000,\n\
+             at most DIMENSION * DIMENSION of them."
+        }
+        Field::TourPart => {
+            "TOUR_SECTION lists nodes from 1 to 100,000, at most 1,000,000, and -1 at the end of each tour."
+        }
+        Field::NodePotentialPart => {
+            "NODE_POTENTIAL_SECTION has for each node from 1 to DIMENSION a group: the node and its number,\n\
+             a whole number from -1,000,000,000,000,000 to 1,000,000,000,000,000."
+        }
+        Field::RowPotentialPart => {
+            "ROW_POTENTIAL_SECTION has for each node from 1 to DIMENSION a group: the node and its number,\n\
+             a whole number from -1,000,000,000,000,000 to 1,000,000,000,000,000."
+        }
+        Field::ColumnPotentialPart => {
+            "COLUMN_POTENTIAL_SECTION has for each node from 1 to DIMENSION a group: the node and its number,\n\
+             a whole number from -1,000,000,000,000,000 to 1,000,000,000,000,000."
+        }
+        Field::FixedEdgePotentialPart => {
+            "FIXED_EDGE_POTENTIAL_SECTION lists two different nodes from 1 to DIMENSION and their multiplier,\n\
+             a whole number from 0 to 1,000,000,000,000,000: at most 100,000 such triples, and -1 at its end."
+        }
+        Field::CombPart => {
+            "COMB_SECTION lists combs of nodes from 1 to DIMENSION: a handle and its teeth, -1 at the end of each of these,\n\
+             one more -1 after each comb, and one after the last: at most 10,000 combs, with 1,000,000 nodes in all."
+        }
+        Field::BranchPart => {
+            "BRANCH_SECTION has one tree. Two different nodes from 1 to DIMENSION are a branch, before the tree of the tours\n\
+             that use the pair and that of the tours that don't. 0 begins a leaf: pairs of an index from 1 to DIMENSION + 10,000\n\
+             and a whole difference from -2,000,000,000,000,000 to 2,000,000,000,000,000, and -1 at its end.\n\
+             There are at most 1,000,000 branches, and 10,000,000 differences."
+        }
+    }
+}
+
+/// Which files have to have a keyword or a section.
+pub(crate) fn asked(field: Field) -> &'static str {
+    match field {
+        Field::TypeKey => "Every file has a line TYPE.",
+        Field::DimensionKey => "Every file has a line DIMENSION, but one of TYPE TOUR.",
+        Field::EdgeWeightTypeKey => {
+            "A file of TYPE TSP, ATSP or CVRP has a line EDGE_WEIGHT_TYPE."
+        }
+        Field::EdgeWeightFormatKey => {
+            "A file with EXPLICIT weights has a line EDGE_WEIGHT_FORMAT, which says how they are listed."
+        }
+        Field::CapacityKey => "A file of TYPE CVRP has a line CAPACITY.",
+        Field::NodeCoordPart => {
+            "A TSP, ATSP or CVRP whose weights are distances has a NODE_COORD_SECTION."
+        }
+        Field::EdgeWeightPart => {
+            "A TSP, ATSP or CVRP with EXPLICIT weights has an EDGE_WEIGHT_SECTION."
+        }
+        Field::DemandPart => "A file of TYPE CVRP has a DEMAND_SECTION.",
+        Field::DepotPart => "A file of TYPE CVRP has a DEPOT_SECTION.",
+        Field::TourPart => "A file of TYPE TOUR has a TOUR_SECTION.",
+        Field::NodePotentialPart => {
+            "A file of TYPE POTENTIALS has a NODE_POTENTIAL_SECTION, or both others of potentials."
+        }
+        Field::RowPotentialPart | Field::ColumnPotentialPart => {
+            "A file of TYPE POTENTIALS with numbers of rows has them of columns too, and the other way round."
+        }
+        Field::BranchPart => "A file of TYPE BRANCHES has a BRANCH_SECTION.",
+        Field::NameKey
+        | Field::CommentKey
+        | Field::OtherKey
+        | Field::ScaleKey
+        | Field::NodeCoordTypeKey
+        | Field::DisplayDataTypeKey
+        | Field::DisplayDataPart
+        | Field::FixedEdgesPart
+        | Field::FixedEdgePotentialPart
+        | Field::CombPart => "No file needs it.",
+    }
+}
+
+/// How many words a group of a section has, in a spatial file or in another, or `None` where it has
+/// no groups.
+pub(crate) fn group(field: Field, is_spatial: bool) -> Option<u64> {
+    match field.shape(is_spatial) {
+        Some(Shape::SpacePoints) => Some(4),
+        Some(Shape::Points) => Some(3),
+        Some(Shape::Numbers { low: _, high: _ }) => Some(2),
+        _ => None,
+    }
+}

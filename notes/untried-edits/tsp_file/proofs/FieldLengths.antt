@@ -1,0 +1,316 @@
+-- How long the text of each field of a valid file is at most, and all of it.
+use Rattle.std.proofs.Common.{sym, ◌≡◌, ℕ, ◌+◌, ◌*◌, ◌<◌, ◌≤◌, Bool, true, false, cond, List, [], ◌∷◌, ◌++◌, length, Option, None, Some, arith, refl, ℤ, pos, length-append}
+use Rattle.std.specs.Prelude.{not, ◌==◌, ◌&&◌, nat_le, neg_ℤ, unsigned_abs, codes}
+use Rattle.std.specs.List.{flat_map, list_all, sum_by}
+use Rattle.std.specs.Option.{option_map_or}
+use Rattle.std.specs.Ordering.{int_eq}
+use Rattle.std.specs.Fmt.{decimal, signed_decimal}
+use Rattle.std.proofs.lemmas.Bool.{and_parts, leb-true, eqb-true, false≢true}
+use Rattle.std.proofs.lemmas.Option.{none-some}
+use Rattle.std.proofs.lemmas.List.Concat.{length-flat_map}
+use Rattle.std.proofs.lemmas.List.Sums.{sum_by-le-sum_by}
+use Rattle.std.proofs.Math.Nat.{mul-le-mul}
+use Rattle.tsp_distance.specs.declared.decimal.Point.{Point}
+use Rattle.tsp_number.specs.Spelling.{spelling}
+use Rattle.tsp_number.proofs.Spelled.{spelling_short}
+use Rattle.tsp_format.specs.declared.field.Field.{Field}
+use Rattle.tsp_format.specs.declared.field.Shape.{Shape}
+use Rattle.tsp_format.specs.declared.field.Shape.TheVariants.{Numbers, Points, SpacePoints, Depots, Pairs, Weights, Tours, Triples, Combs, Steps}
+use Rattle.tsp_format.specs.Shapes.{shape_of}
+use Rattle.tsp_format.specs.declared.field.Field.TheVariants.{NameKey, TypeKey, CommentKey, OtherKey, DimensionKey, CapacityKey, ScaleKey, EdgeWeightTypeKey, EdgeWeightFormatKey, NodeCoordTypeKey, DisplayDataTypeKey, NodeCoordPart, DisplayDataPart, DemandPart, DepotPart, FixedEdgesPart, EdgeWeightPart, TourPart, NodePotentialPart, RowPotentialPart, ColumnPotentialPart, FixedEdgePotentialPart, CombPart, BranchPart}
+use Rattle.tsp_format.specs.Limits.{most_nodes, most_matrix_nodes, most_coordinate, most_weight, most_demand, most_capacity, most_scale, most_potential, most_comments, most_others, most_depots, most_fixed, most_multipliers, most_multiplier, most_tour_nodes}
+use Rattle.tsp_format.specs.Words.{field_word, kind_word, weight_kind_word, weight_format_word, coord_kind_word, display_kind_word, fields_in_order}
+use Rattle.tsp_draft.specs.Fields.{Fields, spatial, numbers_in, points_in}
+use Rattle.tsp_draft.specs.Validity.{if_there, with_dimension, is_kept, is_other, is_node, is_node_pair, is_triple, is_from_to, is_within, is_point, is_by_node, are_comments, are_others, are_depots, are_fixed, are_triples, are_weights, is_tour, are_tours, are_combs, are_steps, section_fits, fits}
+use Rattle.tsp_draft.specs.Rules.{fault_of}
+use Rattle.tsp_file.specs.Text.{line_end, keyword_line, other_line, number_line, section_text, lines_by_node, node_list, pair_list, triple_list, comb_list, step_lines, point_numbers, whole_number, line_lens, matrix_lines, optional, text_of_section, text_of_field, text_of}
+use Rattle.tsp_file.proofs.TextLengths.{within_abs, three_parts, positive_short, between_short, decimal_short, node_short, flat_short_of, by_node_short, pair_list_short, triple_list_short, node_list_short, tours_short, matrix_lines_short}
+use Rattle.tsp_file.proofs.TreeLengths.{combs_short, steps_short}
+use Rattle.tsp_file.proofs.KeywordLengths.{kept_short, other_short, keyword_short, keyword_line_short, kind_short, weight_kind_short, weight_format_short, coord_kind_short, display_kind_short}
+use Rattle.tsp_file.proofs.AllFit.{all_fit}
+
+-- ---- fields that may be missing
+
+optional_short : {A : Type 0} (fits : A → Bool) (text : A → List ℕ) (k : ℕ) → ((x : A) → fits x ≡ true → length (text x) ≤ k) → (value : Option A) → if_there fits value ≡ true
+    → length (optional text value) ≤ k
+optional_short fits text k each None there = omega arith
+optional_short fits text k each (Some x) there = each x there
+
+-- the line of a word
+word_line_short : {A : Type 0} (field : Field) (word : A → List ℕ) → ((x : A) → length (word x) ≤ 20) → (value : Option A)
+    → length (optional (λ x. keyword_line field (word x)) value) ≤ 60
+word_line_short field word each None = omega arith
+word_line_short field word each (Some x) = keyword_line_short field (word x) (each x)
+
+-- the section's line has at most 29 bytes
+section_short : (field : Field) (lines : List ℕ) (k : ℕ) → length lines ≤ k → length (section_text field lines) ≤ 29 + k
+section_short field lines k short =
+    omega (arith, length-append (field_word field) (line_end ++ lines), keyword_short field, short)
+
+dimension_short : (n : ℕ) → is_node most_nodes n ≡ true → n ≤ most_nodes
+dimension_short n fits = leb-true n most_nodes (and_parts (nat_le 1 n) (nat_le n most_nodes) fits).1
+
+-- a section that the number of nodes is known for
+section_of_short : {A : Type 0} (field : Field) (fits : ℕ → A → Bool) (lines : A → List ℕ) (k : ℕ) → ((n : ℕ) (x : A) → n ≤ most_nodes → fits n x ≡ true → length (lines x) ≤ k)
+    → (dimension : Option ℕ) (value : Option A) → if_there (is_node most_nodes) dimension ≡ true → if_there (with_dimension fits dimension) value ≡ true
+    → length (optional (λ x. section_text field (lines x)) value) ≤ 29 + k
+section_of_short field fits lines k each dimension None nodes there = omega arith
+section_of_short field fits lines k each None (Some x) nodes there = absurd (false≢true there)
+section_of_short field fits lines k each (Some n) (Some x) nodes there = section_short field (lines x) k (each n x (dimension_short n nodes) there)
+
+-- one line for each node, with at most k bytes after the node
+by_node_section_short : {A : Type 0} (field : Field) (fits : A → Bool) (numbers : A → List (List ℕ)) (k : ℕ) → ((x : A) → fits x ≡ true → length (number_line [] (numbers x)) ≤ k)
+    → (dimension : Option ℕ) (value : Option (List A)) → if_there (is_node most_nodes) dimension ≡ true → if_there (with_dimension (is_by_node fits) dimension) value ≡ true
+    → length (optional (λ xs. section_text field (lines_by_node numbers xs)) value) ≤ 29 + (6 + k) * most_nodes
+by_node_section_short {A} field fits numbers k each dimension value nodes there =
+    let lines : (n : ℕ) (xs : List A) → n ≤ most_nodes → is_by_node fits n xs ≡ true → length (lines_by_node numbers xs) ≤ (6 + k) * most_nodes = λ n xs most by_nodes.
+    let parts = and_parts (length xs == n) (list_all fits xs) by_nodes in
+    let count = eqb-true (length xs) n parts.0 in
+    by_node_short fits numbers k each xs (omega (arith, count, most)) parts.1 in
+    section_of_short field (is_by_node fits) (lines_by_node numbers) ((6 + k) * most_nodes) lines dimension value nodes there
+
+-- ---- entries
+
+one_number_short : (text : List ℕ) (k : ℕ) → length text ≤ k → length (number_line [] (text ∷ [])) ≤ k + 2
+one_number_short text k short = omega (arith, length-append (text ++ []) line_end, length-append text [], short)
+
+two_numbers_short : (a b : List ℕ) (k : ℕ) → length a ≤ k → length b ≤ k → length (number_line [] (a ∷ b ∷ [])) ≤ 2 * k + 3
+two_numbers_short a b k first second =
+    let words : List ℕ = a ++ (32 ∷ (b ++ [])) in
+    omega (arith, length-append words line_end, length-append a (32 ∷ (b ++ [])), length-append b [], first, second)
+
+coordinate_short : (z : ℤ) → is_within most_coordinate z ≡ true → length (spelling z) ≤ 21
+coordinate_short z fits = spelling_short z (within_abs most_coordinate z fits)
+
+three_numbers_short : (a b c : List ℕ) (k : ℕ) → length a ≤ k → length b ≤ k → length c ≤ k
+    → length (number_line [] (a ∷ b ∷ c ∷ [])) ≤ 3 * k + 4
+three_numbers_short a b c k first second third =
+    let last : List ℕ = b ++ (32 ∷ (c ++ [])) in
+    let words : List ℕ = a ++ (32 ∷ last) in
+    omega (
+      arith,
+      length-append words line_end,
+      length-append a (32 ∷ last),
+      length-append b (32 ∷ (c ++ [])),
+      length-append c [],
+      first,
+      second,
+      third,
+    )
+
+point_short : (in_space : Bool) (point : Point) → is_point in_space point ≡ true → length (number_line [] (point_numbers in_space point)) ≤ 75
+point_short true point fits =
+    let flat = and_parts (is_within most_coordinate point.x && is_within most_coordinate point.y) (is_within most_coordinate point.z) fits in
+    let parts = and_parts (is_within most_coordinate point.x) (is_within most_coordinate point.y) flat.0 in
+    omega (
+      arith,
+      three_numbers_short (spelling point.x) (spelling point.y) (spelling point.z) 21 (coordinate_short point.x parts.0)
+          (coordinate_short point.y parts.1) (coordinate_short point.z flat.1),
+    )
+point_short false point fits =
+    let flat = and_parts (is_within most_coordinate point.x && is_within most_coordinate point.y) (int_eq point.z (pos 0)) fits in
+    let parts = and_parts (is_within most_coordinate point.x) (is_within most_coordinate point.y) flat.0 in
+    omega (arith, two_numbers_short (spelling point.x) (spelling point.y) 21 (coordinate_short point.x parts.0) (coordinate_short point.y parts.1))
+
+-- numbers of a range with no larger ones than potentials have
+abbrev is_short : Shape → Bool
+is_short (Numbers low high) = nat_le (unsigned_abs low) most_potential && nat_le (unsigned_abs high) most_potential
+is_short shape = true
+
+whole_short : (low high number : ℤ) → is_short (Numbers low high) ≡ true → is_from_to low high number ≡ true → length (number_line [] (whole_number number)) ≤ 20
+whole_short low high number short fits =
+    let parts = and_parts (nat_le (unsigned_abs low) most_potential) (nat_le (unsigned_abs high) most_potential) short in
+    let inside = between_short 16 low high most_potential number (leb-true (unsigned_abs low) most_potential parts.0)
+    (leb-true (unsigned_abs high) most_potential parts.1) (omega arith) (omega arith) fits in
+    omega (arith, one_number_short (signed_decimal number) 17 inside)
+
+depots_short : (n : ℕ) (depots : List ℕ) → n ≤ most_nodes → are_depots n depots ≡ true → length (node_list depots) ≤ 900000
+depots_short n depots most fits =
+    let parts = and_parts (nat_le (length depots) most_depots) (list_all (is_node n) depots) fits in
+    let few = leb-true (length depots) most_depots parts.0 in
+    omega (arith, few, node_list_short (is_node n) (λ node fit. node_short n node most fit) depots parts.1)
+
+is_pair_short : (n : ℕ) (pair : ℕ × ℕ) → n ≤ most_nodes → is_node_pair n pair ≡ true → (length (decimal pair.0) ≤ 6) × (length (decimal pair.1) ≤ 6)
+is_pair_short n pair most fits =
+    let parts = three_parts (is_node n pair.0) (is_node n pair.1) (not (pair.0 == pair.1)) fits in
+    (node_short n pair.0 most parts.0, node_short n pair.1 most parts.1)
+
+fixed_short : (n : ℕ) (pairs : List (ℕ × ℕ)) → n ≤ most_nodes → are_fixed n pairs ≡ true → length (pair_list pairs) ≤ 1900000
+fixed_short n pairs most fits =
+    let parts = and_parts (nat_le (length pairs) most_fixed) (list_all (is_node_pair n) pairs) fits in
+    let few = leb-true (length pairs) most_fixed parts.0 in
+    omega (arith, few, pair_list_short (is_node_pair n) (λ pair fit. is_pair_short n pair most fit) pairs parts.1)
+
+is_triple_short : (n : ℕ) (triple : ℕ × ℕ × ℤ) → n ≤ most_nodes → is_triple n triple ≡ true
+    → (length (decimal triple.0) ≤ 6) × (length (decimal triple.1) ≤ 6) × (length (signed_decimal triple.2) ≤ 17)
+is_triple_short n triple most fits =
+    let parts = and_parts (is_node_pair n (triple.0, triple.1)) (is_from_to (pos 0) (pos most_multiplier) triple.2) fits in
+    let nodes = is_pair_short n (triple.0, triple.1) most parts.0 in
+    (nodes.0, nodes.1, positive_short 16 0 most_multiplier triple.2 (omega arith) (omega arith) parts.1)
+
+triples_short : (n : ℕ) (triples : List (ℕ × ℕ × ℤ)) → n ≤ most_nodes → are_triples n triples ≡ true → length (triple_list triples) ≤ 3300000
+triples_short n triples most fits =
+    let parts = and_parts (nat_le (length triples) most_multipliers) (list_all (is_triple n) triples) fits in
+    let few = leb-true (length triples) most_multipliers parts.0 in
+    omega (arith, few, triple_list_short (is_triple n) (λ triple fit. is_triple_short n triple most fit) triples parts.1)
+
+-- at most 5,000 * 5,000 weights
+weights_short : (lens : List ℕ) (n : ℕ) (weights : List ℤ) → are_weights n weights ≡ true → length (matrix_lines lens weights) ≤ 375000000
+weights_short lens n weights fits =
+    let parts = three_parts (nat_le n most_matrix_nodes) (nat_le (length weights) (n * n)) (list_all (is_within most_weight) weights) fits in
+    let few = leb-true n most_matrix_nodes parts.0 in
+    let count = leb-true (length weights) (n * n) parts.1 in
+    omega (arith, count, mul-le-mul few few, matrix_lines_short lens weights parts.2)
+
+all_tours_short : (tours : List (List ℕ)) → are_tours tours ≡ true → length (flat_map node_list tours) ≤ 10000000
+all_tours_short tours fits =
+    let parts = and_parts (list_all is_tour tours) (nat_le (sum_by length tours) most_tour_nodes) fits in
+    let few = leb-true (sum_by length tours) most_tour_nodes parts.1 in
+    omega (arith, few, tours_short tours parts.0)
+
+-- ---- all fields
+
+-- at most so many bytes; most of all are the weights, 15 for each of 5,000 * 5,000, and the differences of a tree, 25 for each of
+-- 10,000,000
+abbrev most_of : Shape → ℕ
+most_of (Numbers low high) = 2600029
+most_of Points = 8100029
+most_of SpacePoints = 8100029
+most_of Depots = 900029
+most_of Pairs = 1900029
+most_of Weights = 375000029
+most_of Tours = 10000029
+most_of Triples = 3300029
+most_of Combs = 10030032
+most_of Steps = 269000034
+
+abbrev most_bytes : Field → ℕ
+most_bytes NameKey = 4004
+most_bytes CommentKey = 4004000
+most_bytes OtherKey = 4004000
+most_bytes field = option_map_or most_of (shape_of true field) 60
+
+shape_short : (f : Fields) (field : Field) (shape : Shape) → is_short shape ≡ true → if_there (is_node most_nodes) f.dimension ≡ true → section_fits f field shape ≡ true
+    → length (text_of_section f field shape) ≤ most_of shape
+shape_short f field (Numbers low high) short one fit =
+    by_node_section_short field (is_from_to low high) whole_number 20 (λ number fits. whole_short low high number short fits) f.dimension (numbers_in f field) one fit
+shape_short f field Points short one fit =
+    by_node_section_short field (is_point false) (point_numbers false) 75 (point_short false) f.dimension (points_in f field) one fit
+shape_short f field SpacePoints short one fit =
+    by_node_section_short field (is_point true) (point_numbers true) 75 (point_short true) f.dimension (points_in f field) one fit
+shape_short f field Depots short one fit = section_of_short field are_depots node_list 900000 depots_short f.dimension f.depots one fit
+shape_short f field Pairs short one fit = section_of_short field are_fixed pair_list 1900000 fixed_short f.dimension f.fixed one fit
+shape_short f field Weights short one fit =
+    let lens = line_lens f.weight_format f.dimension in
+    section_of_short field are_weights (matrix_lines lens) 375000000 (λ n weights most fits. weights_short lens n weights fits) f.dimension f.weights one fit
+shape_short f field Tours short one fit =
+    optional_short are_tours (λ tours. section_text field (flat_map node_list tours)) 10000029
+    (λ tours fits. section_short field (flat_map node_list tours) 10000000 (all_tours_short tours fits)) f.tours fit
+shape_short f field Triples short one fit = section_of_short field are_triples triple_list 3300000 triples_short f.dimension f.fixed_potentials one fit
+shape_short f field Combs short one fit = section_of_short field are_combs comb_list 10030003 combs_short f.dimension f.combs one fit
+shape_short f field Steps short one fit = section_of_short field are_steps step_lines 269000005 steps_short f.dimension f.branches one fit
+
+dimension_line_short : (n : ℕ) → is_node most_nodes n ≡ true → length (keyword_line DimensionKey (decimal n)) ≤ 60
+dimension_line_short n fits = keyword_line_short DimensionKey (decimal n) (omega (arith, decimal_short n (dimension_short n fits)))
+
+-- the line of a whole number from 1 on
+whole_line_short : (field : Field) (most : ℕ) → most ≤ most_capacity → (number : Option ℤ) → if_there (is_from_to (pos 1) (pos most)) number ≡ true
+    → length (optional (λ z. keyword_line field (signed_decimal z)) number) ≤ 60
+whole_line_short field most low number fits =
+    let each : (z : ℤ) → is_from_to (pos 1) (pos most) z ≡ true → length (keyword_line field (signed_decimal z)) ≤ 60 = λ z fit.
+    let short = positive_short 13 1 most z (omega (arith, low)) (omega (arith, low)) fit in
+    keyword_line_short field (signed_decimal z) (omega (arith, short)) in
+    optional_short (is_from_to (pos 1) (pos most)) (λ z. keyword_line field (signed_decimal z)) 60 each number fits
+
+comments_short : (comments : List (List ℕ)) → are_comments comments ≡ true → length (flat_map (keyword_line CommentKey) comments) ≤ most_bytes CommentKey
+comments_short comments fits =
+    let parts = and_parts (nat_le (length comments) most_comments) (list_all (is_kept (field_word CommentKey)) comments) fits in
+    flat_short_of (is_kept (field_word CommentKey)) (keyword_line CommentKey) 4004 most_comments (kept_short (field_word CommentKey)) comments parts.1
+    (leb-true (length comments) most_comments parts.0)
+
+others_short : (others : List (List ℕ × List ℕ)) → are_others others ≡ true → length (flat_map other_line others) ≤ most_bytes OtherKey
+others_short others fits =
+    let parts = and_parts (nat_le (length others) most_others) (list_all is_other others) fits in
+    flat_short_of is_other other_line 4004 most_others other_short others parts.1 (leb-true (length others) most_others parts.0)
+
+field_short : (f : Fields) → ((field : Field) → fits f field ≡ true) → (field : Field) → length (text_of_field f field) ≤ most_bytes field
+field_short f fit NameKey = optional_short (is_kept (field_word NameKey)) (keyword_line NameKey) 4004 (kept_short (field_word NameKey)) f.name (fit NameKey)
+field_short f fit TypeKey = word_line_short TypeKey kind_word kind_short f.kind
+field_short f fit CommentKey = comments_short f.comments (fit CommentKey)
+field_short f fit OtherKey = others_short f.others (fit OtherKey)
+field_short f fit DimensionKey = optional_short (is_node most_nodes) (λ n. keyword_line DimensionKey (decimal n)) 60 dimension_line_short f.dimension (fit DimensionKey)
+field_short f fit CapacityKey = whole_line_short CapacityKey most_capacity (omega arith) f.capacity (fit CapacityKey)
+field_short f fit ScaleKey = whole_line_short ScaleKey most_scale (omega arith) f.scale (fit ScaleKey)
+field_short f fit EdgeWeightTypeKey = word_line_short EdgeWeightTypeKey weight_kind_word weight_kind_short f.weight_kind
+field_short f fit EdgeWeightFormatKey = word_line_short EdgeWeightFormatKey weight_format_word weight_format_short f.weight_format
+field_short f fit NodeCoordTypeKey = word_line_short NodeCoordTypeKey coord_kind_word coord_kind_short f.coord_kind
+field_short f fit DisplayDataTypeKey = word_line_short DisplayDataTypeKey display_kind_word display_kind_short f.display_kind
+field_short f fit NodeCoordPart = points_short (spatial f) (fit NodeCoordPart)
+  where
+    points_short : (in_space : Bool) → section_fits f NodeCoordPart (cond in_space SpacePoints Points) ≡ true
+        → length (text_of_section f NodeCoordPart (cond in_space SpacePoints Points)) ≤ 8100029
+    points_short true fit_here = shape_short f NodeCoordPart SpacePoints refl (fit DimensionKey) fit_here
+    points_short false fit_here = shape_short f NodeCoordPart Points refl (fit DimensionKey) fit_here
+field_short f fit DisplayDataPart = shape_short f DisplayDataPart Points refl (fit DimensionKey) (fit DisplayDataPart)
+field_short f fit DemandPart = shape_short f DemandPart (Numbers (pos 0) (pos most_demand)) refl (fit DimensionKey) (fit DemandPart)
+field_short f fit DepotPart = shape_short f DepotPart Depots refl (fit DimensionKey) (fit DepotPart)
+field_short f fit FixedEdgesPart = shape_short f FixedEdgesPart Pairs refl (fit DimensionKey) (fit FixedEdgesPart)
+field_short f fit EdgeWeightPart = shape_short f EdgeWeightPart Weights refl (fit DimensionKey) (fit EdgeWeightPart)
+field_short f fit TourPart = shape_short f TourPart Tours refl (fit DimensionKey) (fit TourPart)
+field_short f fit NodePotentialPart = shape_short f NodePotentialPart (Numbers (neg_ℤ (pos most_potential)) (pos most_potential)) refl (fit DimensionKey) (fit NodePotentialPart)
+field_short f fit RowPotentialPart = shape_short f RowPotentialPart (Numbers (neg_ℤ (pos most_potential)) (pos most_potential)) refl (fit DimensionKey) (fit RowPotentialPart)
+field_short f fit ColumnPotentialPart = shape_short f ColumnPotentialPart (Numbers (neg_ℤ (pos most_potential)) (pos most_potential)) refl (fit DimensionKey) (fit ColumnPotentialPart)
+field_short f fit FixedEdgePotentialPart = shape_short f FixedEdgePotentialPart Triples refl (fit DimensionKey) (fit FixedEdgePotentialPart)
+field_short f fit CombPart = shape_short f CombPart Combs refl (fit DimensionKey) (fit CombPart)
+field_short f fit BranchPart = shape_short f BranchPart Steps refl (fit DimensionKey) (fit BranchPart)
+
+pub text_short : (f : Fields) → fault_of f ≡ None → length (text_of f) < 750000000
+text_short f none =
+    let fields = sum_by-le-sum_by (λ field. length (text_of_field f field)) most_bytes fields_in_order (field_short f (all_fit f none)) in
+    let total : sum_by most_bytes fields_in_order ≤ 710000000 = omega arith in
+    omega (arith, length-append (flat_map (text_of_field f) fields_in_order) (codes "EOF" ++ line_end), length-flat_map (text_of_field f) fields_in_order, fields, total)
+
+-- ---- a file without combs and branches
+
+abbrev most_without_trees : Field → ℕ
+most_without_trees CombPart = 0
+most_without_trees BranchPart = 0
+most_without_trees field = most_bytes field
+
+absent_short : {A : Type 0} (text : A → List ℕ) (value : Option A) → value ≡ None → length (optional text value) ≤ 0
+absent_short text None none = omega arith
+absent_short {A = A} text (Some _) none = absurd (none-some _ (sym none))
+
+field_short_without_trees : (f : Fields) → ((field : Field) → fits f field ≡ true) → f.combs ≡ None → f.branches ≡ None → (field : Field)
+    → length (text_of_field f field) ≤ most_without_trees field
+field_short_without_trees f fit combs branches CombPart = absent_short (λ combs. section_text CombPart (comb_list combs)) f.combs combs
+field_short_without_trees f fit combs branches BranchPart = absent_short (λ steps. section_text BranchPart (step_lines steps)) f.branches branches
+field_short_without_trees f fit combs branches NameKey = field_short f fit NameKey
+field_short_without_trees f fit combs branches TypeKey = field_short f fit TypeKey
+field_short_without_trees f fit combs branches CommentKey = field_short f fit CommentKey
+field_short_without_trees f fit combs branches OtherKey = field_short f fit OtherKey
+field_short_without_trees f fit combs branches DimensionKey = field_short f fit DimensionKey
+field_short_without_trees f fit combs branches CapacityKey = field_short f fit CapacityKey
+field_short_without_trees f fit combs branches ScaleKey = field_short f fit ScaleKey
+field_short_without_trees f fit combs branches EdgeWeightTypeKey = field_short f fit EdgeWeightTypeKey
+field_short_without_trees f fit combs branches EdgeWeightFormatKey = field_short f fit EdgeWeightFormatKey
+field_short_without_trees f fit combs branches NodeCoordTypeKey = field_short f fit NodeCoordTypeKey
+field_short_without_trees f fit combs branches DisplayDataTypeKey = field_short f fit DisplayDataTypeKey
+field_short_without_trees f fit combs branches NodeCoordPart = field_short f fit NodeCoordPart
+field_short_without_trees f fit combs branches DisplayDataPart = field_short f fit DisplayDataPart
+field_short_without_trees f fit combs branches DemandPart = field_short f fit DemandPart
+field_short_without_trees f fit combs branches DepotPart = field_short f fit DepotPart
+field_short_without_trees f fit combs branches FixedEdgesPart = field_short f fit FixedEdgesPart
+field_short_without_trees f fit combs branches EdgeWeightPart = field_short f fit EdgeWeightPart
+field_short_without_trees f fit combs branches TourPart = field_short f fit TourPart
+field_short_without_trees f fit combs branches NodePotentialPart = field_short f fit NodePotentialPart
+field_short_without_trees f fit combs branches RowPotentialPart = field_short f fit RowPotentialPart
+field_short_without_trees f fit combs branches ColumnPotentialPart = field_short f fit ColumnPotentialPart
+field_short_without_trees f fit combs branches FixedEdgePotentialPart = field_short f fit FixedEdgePotentialPart
+
+pub text_short_without_trees : (f : Fields) → fault_of f ≡ None → f.combs ≡ None → f.branches ≡ None → length (text_of f) < 500000000
+text_short_without_trees f none combs branches =
+    let fields = sum_by-le-sum_by (λ field. length (text_of_field f field)) most_without_trees fields_in_order
+    (field_short_without_trees f (all_fit f none) combs branches) in
+    let total : sum_by most_without_trees fields_in_order ≤ 440000000 = omega arith in
+    omega (arith, length-append (flat_map (text_of_field f) fields_in_order) (codes "EOF" ++ line_end), length-flat_map (text_of_field f) fields_in_order, fields, total)

@@ -1,0 +1,13 @@
+pub mod Fronts
+pub mod Listed
+pub mod Relaid
+pub mod Types
+pub mod WithWeights
+pub mod Spread
+pub mod AllFit
+pub mod FieldLengths
+pub mod KeywordLengths
+pub mod Lines
+pub mod Matrices
+pub mod TextLengths
+pub mod TreeLengths

@@ -1,0 +1,266 @@
+-- Weights in another layout.
+use Rattle.std.proofs.Common.{◌≡◌, ◌≢◌, ℕ, ◌+◌, ◌-◌, ◌<◌, ◌≤◌, Bool, true, false, List, [], ◌∷◌, ◌++◌, length, map, take, Option, Some, None, refl, sym, ap, subst, ◌∙◌, inl, inr, ⊎_elim, arith}
+use Rattle.std.specs.Prelude.{is_some, unwrap_or, slice_index_or as get_or, ◌⊎◌, ℤ, pos}
+use Rattle.std.specs.Option.{option_map, option_or}
+use Rattle.std.specs.List.{All, flat_map}
+use Rattle.std.proofs.lemmas.Int.{ints}
+use Rattle.std.proofs.lemmas.Bool.{cases_lt, false≢true, le-leb}
+use Rattle.std.proofs.lemmas.Bool.Decides.{nat_tests}
+use Rattle.std.proofs.lemmas.List.{take_more, take_all, append_assoc, map-append, length-map, get_or-map, get_or_past, get_or_default, flat_map_more, ext_get_or}
+use Rattle.std.proofs.lemmas.List.Elements.{All-map}
+use Rattle.std.proofs.lemmas.List.FromFn.{length-range_with_len, get_or-range_with_len}
+use Rattle.tsp_format.specs.declared.layout.Layout.{Layout}
+use Rattle.tsp_format.specs.declared.layout.Layout.TheVariants.{FullMatrix, UpperRow, LowerRow, UpperDiagRow, LowerDiagRow, UpperCol, LowerCol, UpperDiagCol, LowerDiagCol}
+use Rattle.tsp_format.specs.Cells.{IsNode, nodes_to, is_listed, cells, cells_of_line}
+use Rattle.tsp_format.specs.Place.{place_of, place_by_table}
+use Rattle.tsp_format.specs.Limits.{most_weight}
+use Rattle.tsp_format.specs.Symmetry.{IsSymmetric}
+use Rattle.tsp_format.proofs.Lines.{cells-lines}
+use Rattle.tsp_format.proofs.Pairs.{cell_is}
+use Rattle.tsp_format.proofs.Places.{placed, place_within, place_from, stands_at, no_place}
+use Rattle.tsp_format.specs.declared.kinds.WeightKind.TheVariants.{Explicit}
+use Rattle.tsp_format.specs.declared.kinds.WeightFormat.{WeightFormat}
+use Rattle.tsp_format.specs.declared.kinds.WeightFormat.TheVariants.{Listed}
+use Rattle.tsp_draft.specs.Fields.{Fields}
+use Rattle.tsp_draft.specs.Valid.{IsWithin}
+use Rattle.tsp_file.specs.Cost.{listed_cost, layout_of, cost_by, cost}
+use Rattle.tsp_file.specs.Listed.{ListsWeights}
+use Rattle.tsp_file.specs.Relayout.{HoldsPairs, HoldsDiagonal, lists_diagonal, HasListedWeights, file_nodes, with_weights, costs_in, CanGo, IsRelaid}
+use Rattle.tsp_file.proofs.Listed.{cost_of_listed, cost_of_cell, cost_mirrored, cost_unlisted, unlisted_has_no_place, outside_has_no_place, nodes_or_not, diagonal_unlisted, triangle_even, turned}
+
+-- ---- loops over cells and lines
+
+-- one cell more
+pub cell_more : {X Y : Type 0} (f : X → Y) (xs : List X) (before items : List Y) (k : ℕ) (x : X) (y : Y) → k < length xs → get_or xs k x ≡ x → y ≡ f x
+    → items ≡ before ++ map f (take k xs) → items ++ y ∷ [] ≡ before ++ map f (take (k + 1) xs)
+cell_more f xs before items k x y lt here value so_far =
+    let step : map f (take (k + 1) xs) ≡ map f (take k xs) ++ y ∷ [] =
+    ap (map f) (take_more xs k x lt ∙ ap (λ z. take k xs ++ z ∷ []) here) ∙ map-append f (take k xs) (x ∷ []) ∙ ap (λ z. map f (take k xs) ++ z ∷ []) (sym value) in
+    ap (λ ys. ys ++ y ∷ []) so_far ∙ append_assoc before (map f (take k xs)) (y ∷ []) ∙ ap (λ ys. before ++ ys) (sym step)
+
+-- one line more
+pub line_more : {X Y : Type 0} (f : X → Y) (line_of : ℕ → List X) (n line : ℕ) (items laid : List Y) → 1 ≤ line → line ≤ n → items ≡ map f (flat_map line_of (take (line - 1) (nodes_to n)))
+    → laid ≡ items ++ map f (line_of line) → laid ≡ map f (flat_map line_of (take (line + 1 - 1) (nodes_to n)))
+unfolding nodes_to
+line_more f line_of n line items laid low high so_far value =
+    let before = take (line - 1) (nodes_to n) in
+    let inside : line - 1 < length (nodes_to n) = omega (arith, length-range_with_len 1 n) in
+    let here : get_or (nodes_to n) (line - 1) 0 ≡ line = get_or-range_with_len 1 n (line - 1) 0 (omega arith) ∙ omega arith in
+    let next : line - 1 + 1 ≡ line + 1 - 1 = omega arith in
+    let more : take (line + 1 - 1) (nodes_to n) ≡ before ++ line ∷ [] = ap (λ k. take k (nodes_to n)) (sym next) ∙ take_more (nodes_to n) (line - 1) 0 inside ∙ ap (λ z. before ++ z ∷ []) here in
+    value ∙ ap (λ ys. ys ++ map f (line_of line)) so_far ∙ sym (map-append f (flat_map line_of before) (line_of line))
+    ∙ ap (map f) (flat_map_more line_of [] before line ∙ ap (flat_map line_of) (sym more))
+
+-- all lines are all cells
+pub lines_all : {Y : Type 0} (f : ℕ × ℕ → Y) (layout : Layout) (n line : ℕ) (items : List Y) → n ≤ line - 1 → items ≡ map f (flat_map (cells_of_line layout n) (take (line - 1) (nodes_to n)))
+    → items ≡ map f (cells layout n)
+unfolding nodes_to
+lines_all f layout n line items past so_far =
+    so_far ∙ ap (λ ks. map f (flat_map (cells_of_line layout n) ks)) (take_all (line - 1) (nodes_to n) (omega (arith, length-range_with_len 1 n))) ∙ ap (map f) (sym (cells-lines layout n))
+
+-- ---- sizes
+
+read_within : (weights : List ℤ) (k : ℕ) → All (IsWithin most_weight) weights → IsWithin most_weight (get_or weights k (pos 0))
+read_within weights k sizes = ⊎_elim
+    (λ inside. sizes k (pos 0) inside)
+    (λ past. subst (IsWithin most_weight) (sym (get_or_past weights k (pos 0) past)) (grind (arith, ints), grind (arith, ints)))
+    (cases_lt k (length weights))
+
+one_within : (weights : List ℤ) (a b : Option ℕ) → All (IsWithin most_weight) weights
+    → IsWithin most_weight (unwrap_or (option_or (option_map (λ k. get_or weights k (pos 0)) a) (option_map (λ k. get_or weights k (pos 0)) b)) (pos 0))
+one_within weights (Some k) b sizes = read_within weights k sizes
+one_within weights None (Some k) sizes = read_within weights k sizes
+one_within weights None None sizes = (grind (arith, ints), grind (arith, ints))
+
+-- a cost is of the size of a weight
+pub cost_within : (layout : Layout) (n : ℕ) (weights : List ℤ) → All (IsWithin most_weight) weights → (i j : ℕ) → IsWithin most_weight (listed_cost layout n weights i j)
+unfolding listed_cost
+cost_within layout n weights sizes i j = one_within weights (place_of layout n (i, j)) (place_of layout n (j, i)) sizes
+
+pub all_within : (layout : Layout) (n : ℕ) (cost : ℕ → ℕ → ℤ) → ((i j : ℕ) → IsWithin most_weight (cost i j)) → All (IsWithin most_weight) (costs_in layout n cost)
+all_within layout n cost sizes = All-map (IsWithin most_weight) (λ cell. cost cell.0 cell.1) (cells layout n) (λ k d lt. sizes (get_or (cells layout n) k d).0 (get_or (cells layout n) k d).1)
+
+-- ---- pairs that a layout doesn't list
+
+pub no_cell : (layout : Layout) (n i j : ℕ) → is_listed layout (i, j) ≡ false → place_of layout n (i, j) ≡ None
+no_cell layout n = unlisted_has_no_place cell_is no_place layout n
+
+pub outside : (layout : Layout) (n i j : ℕ) → ¬ (IsNode n i × IsNode n j) → place_of layout n (i, j) ≡ None
+outside layout n = outside_has_no_place cell_is no_place layout n
+
+pub cost_outside : (layout : Layout) (n : ℕ) (weights : List ℤ) (i j : ℕ) → ¬ (IsNode n i × IsNode n j) → listed_cost layout n weights i j ≡ pos 0
+cost_outside layout n weights i j out = cost_unlisted layout n weights i j (outside layout n i j out) (outside layout n j i (λ nodes. out (nodes.1, nodes.0)))
+
+-- of two different nodes a layout lists the one pair or the other
+one_listed : (layout : Layout) (i j : ℕ) → is_listed layout (i, j) ≡ false → is_listed layout (j, i) ≡ false → i ≡ j
+one_listed FullMatrix i j here there = absurd (false≢true (sym here))
+one_listed UpperRow i j here there = grind (arith, nat_tests, here, there)
+one_listed LowerRow i j here there = grind (arith, nat_tests, here, there)
+one_listed UpperDiagRow i j here there = grind (arith, nat_tests, here, there)
+one_listed LowerDiagRow i j here there = grind (arith, nat_tests, here, there)
+one_listed UpperCol i j here there = grind (arith, nat_tests, here, there)
+one_listed LowerCol i j here there = grind (arith, nat_tests, here, there)
+one_listed UpperDiagCol i j here there = grind (arith, nat_tests, here, there)
+one_listed LowerDiagCol i j here there = grind (arith, nat_tests, here, there)
+
+-- with one pair of the diagonal all are listed
+diagonal_listed : (layout : Layout) (i : ℕ) → lists_diagonal layout ≡ true → is_listed layout (i, i) ≡ true
+diagonal_listed FullMatrix i e = refl
+diagonal_listed UpperRow i e = absurd (false≢true e)
+diagonal_listed LowerRow i e = absurd (false≢true e)
+diagonal_listed UpperDiagRow i e = le-leb i i (omega arith)
+diagonal_listed LowerDiagRow i e = le-leb i i (omega arith)
+diagonal_listed UpperCol i e = absurd (false≢true e)
+diagonal_listed LowerCol i e = absurd (false≢true e)
+diagonal_listed UpperDiagCol i e = le-leb i i (omega arith)
+diagonal_listed LowerDiagCol i e = le-leb i i (omega arith)
+
+-- ---- costs that the layout holds
+
+-- the weight at the place of a cell
+laid_at : (to : Layout) (n : ℕ) (cost : ℕ → ℕ → ℤ) (i j place : ℕ) → place_of to n (i, j) ≡ Some place → place < length (cells to n) → get_or (costs_in to n cost) place (pos 0) ≡ cost i j
+laid_at to n cost i j place here inside =
+    get_or-map (λ cell. cost cell.0 cell.1) (cells to n) place (i, j) (pos 0) inside ∙ ap (λ cell. cost cell.0 cell.1) (stands_at to n place (i, j) here (i, j))
+
+diagonal_zero : (to : Layout) (cost : ℕ → ℕ → ℤ) (i : ℕ) → HoldsDiagonal to cost → is_listed to (i, i) ≡ false → cost i i ≡ pos 0
+diagonal_zero to cost i holds unlisted = ⊎_elim (λ listed. absurd (false≢true (sym unlisted ∙ diagonal_listed to i listed))) (λ zero. zero i) holds
+
+mirrored : (to : Layout) (cost : ℕ → ℕ → ℤ) (i j : ℕ) → HoldsPairs to cost → is_listed to (i, j) ≡ false → cost j i ≡ cost i j
+mirrored to cost i j holds unlisted = ⊎_elim
+    (λ full. absurd (false≢true (sym unlisted ∙ ap (λ layout. is_listed layout (i, j)) full)))
+    (λ even. turned cost even i j)
+    holds
+
+-- every cost is as before
+pub costs_kept : (to : Layout) (n : ℕ) (cost : ℕ → ℕ → ℤ) → ((i j : ℕ) → ¬ (IsNode n i × IsNode n j) → cost i j ≡ pos 0) → HoldsPairs to cost → HoldsDiagonal to cost
+    → (i j : ℕ) → listed_cost to n (costs_in to n cost) i j ≡ cost i j
+costs_kept to n cost none pairs diagonal i j = ⊎_elim
+    (λ out. cost_outside to n (costs_in to n cost) i j out ∙ sym (none i j out))
+    (λ nodes. by_listed (is_listed to (i, j)) nodes refl)
+    (nodes_or_not n i j)
+  where
+    weights : List ℤ
+    weights = costs_in to n cost
+
+    by_mirror : (b : Bool) → IsNode n i × IsNode n j → is_listed to (i, j) ≡ false → is_listed to (j, i) ≡ b → listed_cost to n weights i j ≡ cost i j
+    by_mirror true nodes out listed =
+        let place = place_by_table to n j i in
+        let here : place_of to n (j, i) ≡ Some place = placed to n j i nodes.1 nodes.0 listed in
+        cost_mirrored to n weights i j place (no_cell to n i j out) here
+        ∙ laid_at to n cost j i place here (place_within to n j i nodes.1 nodes.0 listed)
+        ∙ mirrored to cost i j pairs out
+    by_mirror false nodes out too =
+        let same : i ≡ j = one_listed to i j out too in
+        let own : is_listed to (i, i) ≡ false = ap (λ k. is_listed to (i, k)) same ∙ out in
+        cost_unlisted to n weights i j (no_cell to n i j out) (no_cell to n j i too)
+        ∙ sym (ap (cost i) (sym same) ∙ diagonal_zero to cost i diagonal own)
+
+    by_listed : (b : Bool) → IsNode n i × IsNode n j → is_listed to (i, j) ≡ b → listed_cost to n weights i j ≡ cost i j
+    by_listed true nodes listed =
+        let place = place_by_table to n i j in
+        let here : place_of to n (i, j) ≡ Some place = placed to n i j nodes.0 nodes.1 listed in
+        cost_of_cell to n weights i j place here ∙ laid_at to n cost i j place here (place_within to n i j nodes.0 nodes.1 listed)
+    by_listed false nodes out = by_mirror (is_listed to (j, i)) nodes out refl
+
+-- ---- a layout and itself
+
+-- the weights are the costs of the cells
+pub own_costs : (layout : Layout) (n : ℕ) (weights : List ℤ) → length weights ≡ length (cells layout n) → costs_in layout n (listed_cost layout n weights) ≡ weights
+own_costs layout n weights filled = ext_get_or (pos 0) (costs_in layout n (listed_cost layout n weights)) weights
+    (length-map (cells layout n) (λ cell. listed_cost layout n weights cell.0 cell.1) ∙ sym filled)
+    (λ k lt.
+    let inside : k < length (cells layout n) = omega (arith, lt, length-map (cells layout n) (λ cell. listed_cost layout n weights cell.0 cell.1)) in
+    let cell = get_or (cells layout n) k (0, 0) in
+    get_or-map (λ cell. listed_cost layout n weights cell.0 cell.1) (cells layout n) k (0, 0) (pos 0) inside
+    ∙ cost_of_cell layout n weights cell.0 cell.1 k (place_from layout n k cell inside (λ d. get_or_default (cells layout n) k d (0, 0) inside)))
+
+full_or_not : (layout : Layout) → (layout ≡ FullMatrix) ⊎ (layout ≢ FullMatrix)
+full_or_not FullMatrix = inl refl
+full_or_not UpperRow = inr (λ e. absurd cc)
+full_or_not LowerRow = inr (λ e. absurd cc)
+full_or_not UpperDiagRow = inr (λ e. absurd cc)
+full_or_not LowerDiagRow = inr (λ e. absurd cc)
+full_or_not UpperCol = inr (λ e. absurd cc)
+full_or_not LowerCol = inr (λ e. absurd cc)
+full_or_not UpperDiagCol = inr (λ e. absurd cc)
+full_or_not LowerDiagCol = inr (λ e. absurd cc)
+
+-- the costs of a triangle are even, and its own layout holds the costs of any weights
+pub triangle_holds : (layout : Layout) (n : ℕ) (weights : List ℤ) → layout ≢ FullMatrix → IsSymmetric (listed_cost layout n weights)
+triangle_holds layout n weights half = triangle_even layout n weights half (no_cell layout n)
+
+pub own_pairs : (layout : Layout) (n : ℕ) (weights : List ℤ) → HoldsPairs layout (listed_cost layout n weights)
+own_pairs layout n weights = ⊎_elim (λ full. inl full) (λ half. inr (triangle_holds layout n weights half)) (full_or_not layout)
+
+pub own_diagonal : (layout : Layout) (n : ℕ) (weights : List ℤ) → HoldsDiagonal layout (listed_cost layout n weights)
+own_diagonal layout n weights = by_diagonal (lists_diagonal layout) refl
+  where
+    by_diagonal : (b : Bool) → lists_diagonal layout ≡ b → HoldsDiagonal layout (listed_cost layout n weights)
+    by_diagonal true listed = inl listed
+    by_diagonal false out = inr (λ i.
+        let none : place_of layout n (i, i) ≡ None = no_cell layout n i i (diagonal_unlisted layout i out) in
+        cost_unlisted layout n weights i i none none)
+
+-- ---- the file
+
+-- what holds of the weights of a file holds of its nodes and costs
+pub of_file : (P : ℕ → (ℕ → ℕ → ℤ) → Type 0) (f : Fields) (layout : Layout) (n : ℕ) (weights : List ℤ) → f.weight_kind ≡ Some Explicit
+    → ListsWeights f layout n weights → P n (listed_cost layout n weights) → P (file_nodes f) (cost f)
+of_file P f layout n weights explicit held holds =
+    let nodes : n ≡ file_nodes f = sym (ap (λ o. unwrap_or o 0) held.dimension) in
+    let costs : listed_cost layout n weights ≡ cost f = λ t i j. cost_of_listed f layout n weights explicit held i j t in
+    subst (λ k. P k (cost f)) nodes (subst (λ c. P n c) costs holds)
+
+-- and the other way round
+pub of_weights : (P : ℕ → (ℕ → ℕ → ℤ) → Type 0) (f : Fields) (layout : Layout) (n : ℕ) (weights : List ℤ) → f.weight_kind ≡ Some Explicit
+    → ListsWeights f layout n weights → P (file_nodes f) (cost f) → P n (listed_cost layout n weights)
+of_weights P f layout n weights explicit held holds =
+    let nodes : file_nodes f ≡ n = ap (λ o. unwrap_or o 0) held.dimension in
+    let costs : cost f ≡ listed_cost layout n weights = λ t i j. sym (cost_of_listed f layout n weights explicit held i j) t in
+    subst (λ k. P k (listed_cost layout n weights)) nodes (subst (λ c. P (file_nodes f) c) costs holds)
+
+pub has_weights : (f : Fields) (layout : Layout) (n : ℕ) (weights : List ℤ) → f.weight_kind ≡ Some Explicit → ListsWeights f layout n weights → HasListedWeights f
+has_weights f layout n weights explicit held = (explicit, ap is_some held.weights_are)
+
+pub pairs_held : (f : Fields) (layout : Layout) (n : ℕ) (weights : List ℤ) (to : Layout) → f.weight_kind ≡ Some Explicit → ListsWeights f layout n weights
+    → HoldsPairs to (listed_cost layout n weights) → HoldsPairs to (cost f)
+pairs_held f layout n weights to explicit held = of_file (λ k c. HoldsPairs to c) f layout n weights explicit held
+
+pub can_go : (f : Fields) (layout : Layout) (n : ℕ) (weights : List ℤ) (to : Layout) → f.weight_kind ≡ Some Explicit → ListsWeights f layout n weights
+    → HoldsPairs to (listed_cost layout n weights) → HoldsDiagonal to (listed_cost layout n weights) → CanGo f to
+can_go f layout n weights to explicit held pairs diagonal = record {
+  listed = has_weights f layout n weights explicit held;
+  pairs = pairs_held f layout n weights to explicit held pairs;
+  diagonal = of_file (λ k c. HoldsDiagonal to c) f layout n weights explicit held diagonal;
+}
+
+-- a file's own layout
+pub own_layout : (f : Fields) (layout : Layout) (n : ℕ) (weights : List ℤ) (to : Layout) → f.weight_kind ≡ Some Explicit → ListsWeights f layout n weights → layout ≡ to
+    → CanGo f to × ((f.weight_format ≡ Some (Listed to)) × (f.weights ≡ Some (costs_in to (file_nodes f) (cost f))))
+own_layout f layout n weights to explicit held same =
+    let stand : f.weights ≡ Some (costs_in layout n (listed_cost layout n weights)) = held.weights_are ∙ ap Some (sym (own_costs layout n weights held.filled)) in
+    subst (λ own. CanGo f own × ((f.weight_format ≡ Some (Listed own)) × (f.weights ≡ Some (costs_in own (file_nodes f) (cost f))))) same (
+      can_go f layout n weights layout explicit held (own_pairs layout n weights) (own_diagonal layout n weights),
+      (held.format, of_file (λ k c. f.weights ≡ Some (costs_in layout k c)) f layout n weights explicit held stand),
+    )
+
+-- ---- the file with the new weights
+
+explicit_cost : (f : Fields) (i j : ℕ) → f.weight_kind ≡ Some Explicit → cost f i j ≡ listed_cost (layout_of f.weight_format) (file_nodes f) (unwrap_or f.weights []) i j
+unfolding cost
+explicit_cost f i j explicit = ap (λ k. cost_by k f i j) explicit
+
+pub relaid : (f : Fields) (to : Layout) (new : Fields) → CanGo f to → new ≡ with_weights f to (costs_in to (file_nodes f) (cost f)) → IsRelaid f to new
+relaid f to new can fields = record {
+  can_go = can;
+  fields = fields;
+  costs = λ i j. ap (λ g. cost g i j) fields
+      ∙ explicit_cost (with_weights f to (costs_in to (file_nodes f) (cost f))) i j can.listed.0
+      ∙ costs_kept to (file_nodes f) (cost f) (λ a b out. explicit_cost f a b can.listed.0
+      ∙ cost_outside (layout_of f.weight_format) (file_nodes f) (unwrap_or f.weights []) a b out) can.pairs can.diagonal i j;
+}
+
+pub already : (f : Fields) (to : Layout) → CanGo f to → f.weight_format ≡ Some (Listed to) → f.weights ≡ Some (costs_in to (file_nodes f) (cost f)) → IsRelaid f to f
+already f to can format stand = relaid f to f can
+    (ap (λ (o : Option WeightFormat). record f { weight_format = o }) format
+    ∙ ap (λ (o : Option (List ℤ)). record f { weight_format = Some (Listed to); weights = o }) stand)

@@ -1,0 +1,70 @@
+use Rattle.std.proofs.Common.{◌≡◌, ℕ, List, Some, None, sym, ap, subst, ◌∙◌}
+use Rattle.std.specs.Prelude.{ℤ}
+use Rattle.std.specs.Option.{option_map}
+use Rattle.tsp_format.specs.declared.layout.Layout.{Layout}
+use Rattle.tsp_format.specs.declared.layout.Layout.TheVariants.{FullMatrix}
+use Rattle.tsp_format.specs.declared.kinds.WeightFormat.TheVariants.{Listed}
+use Rattle.tsp_draft.specs.Fields.{Fields, fields_of}
+use Rattle.tsp_draft.specs.Rules.{fault_of}
+use Rattle.tsp_file.specs.Cost.{cost}
+use Rattle.tsp_file.specs.Listed.{ListsWeights}
+use Rattle.tsp_file.specs.Relayout.{HoldsPairs, CanGo, file_nodes, with_weights, costs_in}
+use Rattle.tsp_draft.proofs.ValidFields.{in_range}
+use Rattle.tsp_file.proofs.WithWeights.{some_is}
+use Rattle.tsp_file.proofs.Listed.{lists}
+use Rattle.tsp_file.proofs.Relaid.{of_weights}
+use Rattle.tsp_file.proofs.Fronts.{laid_of}
+use Rattle.tsp_file.proofs.file.File.with_half.Goals as goal
+
+as_held : (f g : Fields) (to : Layout) → f ≡ g → CanGo g to → CanGo f to
+as_held f g to same can = subst (λ (h : Fields). CanGo h to) (sym same) can
+
+held : (f g : Fields) (n : ℕ) (weights : List ℤ) → f ≡ g → fault_of f ≡ None → g.weight_format ≡ Some (Listed FullMatrix) → f.dimension ≡ Some n
+    → f.weights ≡ Some weights → ListsWeights f FullMatrix n weights
+held f g n weights same valid full dimension stand =
+    lists f FullMatrix n weights (in_range f valid) (subst (λ (h : Fields). h.weight_format ≡ Some (Listed FullMatrix)) (sym same) full) dimension stand
+
+pub unreachable-requires : goal.unreachable-requires
+unreachable-requires c =
+    let f : Fields = fields_of c.self.inside.draft in
+    let can = as_held f c.args.self c.args.to c.self.view_is c.requires.can_go in
+    let old = some_is f.weights can.listed.1 in
+    let stand = (in_range f c.self.invariant).weights old.0 old.1 in
+    c.in_default.not-Some stand.n stand.dimension
+
+pub keep_half-requires-clause-few : goal.keep_half-requires-clause-few
+keep_half-requires-clause-few c =
+    let f : Fields = fields_of c.self.inside.draft in
+    let stand = ap (option_map (λ w. w.items)) (sym (c.take.ensures.value) ∙ c.in-Some-take.is) in
+    (held f c.args.self c.in-Some.nodes c.in-Some-take.weights.items c.self.view_is c.self.invariant c.requires.full c.in-Some.is stand).most
+
+pub keep_half-requires-clause-filled : goal.keep_half-requires-clause-filled
+keep_half-requires-clause-filled c =
+    let f : Fields = fields_of c.self.inside.draft in
+    let stand = ap (option_map (λ w. w.items)) (sym (c.take.ensures.value) ∙ c.in-Some-take.is) in
+    (held f c.args.self c.in-Some.nodes c.in-Some-take.weights.items c.self.view_is c.self.invariant c.requires.full c.in-Some.is stand).filled
+
+pub keep_half-requires-clause-pairs : goal.keep_half-requires-clause-pairs
+keep_half-requires-clause-pairs c =
+    let f : Fields = fields_of c.self.inside.draft in
+    let can = as_held f c.args.self c.args.to c.self.view_is c.requires.can_go in
+    let stand = ap (option_map (λ w. w.items)) (sym (c.take.ensures.value) ∙ c.in-Some-take.is) in
+    of_weights (λ n costs. HoldsPairs c.args.to costs) f FullMatrix c.in-Some.nodes c.in-Some-take.weights.items can.listed.0
+    (held f c.args.self c.in-Some.nodes c.in-Some-take.weights.items c.self.view_is c.self.invariant c.requires.full c.in-Some.is stand) can.pairs
+
+pub invariant_of-result : goal.invariant_of-result
+invariant_of-result c =
+    let f : Fields = fields_of c.self.inside.draft in
+    let can = as_held f c.args.self c.args.to c.self.view_is c.requires.can_go in
+    let stand = ap (option_map (λ w. w.items)) (sym (c.take.ensures.value) ∙ c.in-Some-take.is) in
+    (laid_of f FullMatrix c.args.to c.in-Some.nodes c.in-Some-take.weights.items c.keep_half.new.weights.items c.self.invariant can
+    (held f c.args.self c.in-Some.nodes c.in-Some-take.weights.items c.self.view_is c.self.invariant c.requires.full c.in-Some.is stand) c.keep_half.ensures).0
+
+pub returns : goal.returns
+returns c =
+    let f : Fields = fields_of c.self.inside.draft in
+    let can = as_held f c.args.self c.args.to c.self.view_is c.requires.can_go in
+    let stand = ap (option_map (λ w. w.items)) (sym (c.take.ensures.value) ∙ c.in-Some-take.is) in
+    let value = (laid_of f FullMatrix c.args.to c.in-Some.nodes c.in-Some-take.weights.items c.keep_half.new.weights.items c.self.invariant can
+    (held f c.args.self c.in-Some.nodes c.in-Some-take.weights.items c.self.view_is c.self.invariant c.requires.full c.in-Some.is stand) c.keep_half.ensures).1 in
+    ap (with_weights f c.args.to) value ∙ ap (λ (g : Fields). with_weights g c.args.to (costs_in c.args.to (file_nodes g) (cost g))) c.self.view_is

@@ -1,0 +1,13 @@
+use Rattle.std.proofs.Common.{◌≡◌, None, sym, subst}
+use Rattle.tsp_draft.specs.Fields.{Fields}
+use Rattle.tsp_draft.specs.Rules.{fault_of}
+use Rattle.tsp_file.specs.Relayout.{with_weights}
+use Rattle.tsp_file.proofs.WithWeights.{stays_valid}
+use Rattle.tsp_file.proofs.file.File.with_weights.Goals as goal
+
+pub invariant_of-result : goal.invariant_of-result
+invariant_of-result c =
+    let f : Fields = c.args.self in
+    let valid : fault_of f ≡ None = subst (λ (g : Fields). fault_of g ≡ None) c.self.view_is c.self.invariant in
+    subst (λ (g : Fields). fault_of (with_weights g c.args.layout c.args.weights.items) ≡ None) (sym c.self.view_is)
+    (stays_valid f c.args.layout c.args.weights.items valid c.requires.stand c.requires.count c.requires.sizes)

@@ -1,0 +1,8 @@
+use Rattle.tsp_file.proofs.FieldLengths.{text_short, text_short_without_trees}
+use Rattle.tsp_file.proofs.laws.a_valid_text_is_short.Goals as goal
+
+pub returns-clause-whole : goal.returns-clause-whole
+returns-clause-whole c = text_short
+
+pub returns-clause-without_trees : goal.returns-clause-without_trees
+returns-clause-without_trees c = text_short_without_trees

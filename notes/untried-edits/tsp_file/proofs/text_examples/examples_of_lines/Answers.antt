@@ -1,0 +1,15 @@
+use Rattle.std.proofs.Common.{rules}
+use Rattle.std.specs.Fmt.{digits}
+use Rattle.tsp_file.proofs.text_examples.examples_of_lines.Goals as goal
+
+pub returns-clause-dimension : goal.returns-clause-dimension
+unfolding digits
+returns-clause-dimension c = search rules
+
+pub returns-clause-capacity : goal.returns-clause-capacity
+unfolding digits
+returns-clause-capacity c = search rules
+
+pub returns-clause-scale : goal.returns-clause-scale
+unfolding digits
+returns-clause-scale c = search rules

@@ -1,0 +1,8 @@
+use Rattle.tsp_file.proofs.Listed.{even_between_nodes}
+use Rattle.tsp_file.proofs.Relaid.{outside}
+use Rattle.tsp_file.proofs.weights.ListedWeights.first_asymmetric.Goals as goal
+
+pub returns-then-is_symmetric : goal.returns-then-is_symmetric
+returns-then-is_symmetric c =
+    let w = c.args.self.now in
+    even_between_nodes w.layout w.nodes w.weights.now (outside w.layout w.nodes) (c.is_symmetric.ensures.0 c.if-is_symmetric.true)

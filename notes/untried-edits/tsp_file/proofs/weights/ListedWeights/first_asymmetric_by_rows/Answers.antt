@@ -1,0 +1,12 @@
+use Rattle.std.proofs.Common.{◌<◌, arith}
+use Rattle.tsp_file.proofs.Listed.{even_between_nodes}
+use Rattle.tsp_file.proofs.Relaid.{outside}
+use Rattle.tsp_file.proofs.weights.ListedWeights.first_asymmetric_by_rows.Goals as goal
+
+pub returns : goal.returns
+returns c =
+    let w = c.args.self.now in
+    even_between_nodes w.layout w.nodes w.weights.now (outside w.layout w.nodes)
+    (λ i j row column upper.
+    let earlier : i < c.rows.i = omega (arith, column.1) in
+    c.rows.invariant i j row column upper earlier)

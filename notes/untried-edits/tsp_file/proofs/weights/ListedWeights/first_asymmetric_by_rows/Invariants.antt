@@ -1,0 +1,7 @@
+use Rattle.std.proofs.Common.{◌≡◌, ℕ, ◌<◌}
+use Rattle.tsp_format.specs.Cells.{IsNode}
+use Rattle.tsp_file.specs.Weights.{costs_of}
+use Rattle.tsp_file.proofs.weights.ListedWeights.first_asymmetric_by_rows.Given as goal
+
+abbrev pub invariant-rows : goal.invariant-rows
+invariant-rows l = (a b : ℕ) → IsNode l.self.nodes a → IsNode l.self.nodes b → a < b → a < l.i → costs_of l.self a b ≡ costs_of l.self b a

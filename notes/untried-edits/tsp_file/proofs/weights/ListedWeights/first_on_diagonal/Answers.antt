@@ -1,0 +1,13 @@
+use Rattle.std.proofs.Common.{◌<◌, ⊎_elim, arith}
+use Rattle.tsp_file.proofs.Listed.{nodes_or_not}
+use Rattle.tsp_file.proofs.Relaid.{cost_outside}
+use Rattle.tsp_file.proofs.weights.ListedWeights.first_on_diagonal.Goals as goal
+
+pub returns : goal.returns
+returns c = λ i.
+    let w = c.args.self.now in
+    ⊎_elim (λ out. cost_outside w.layout w.nodes w.weights.now i i out)
+    (λ nodes.
+    let earlier : i < c.nodes.i = omega (arith, nodes.0.1) in
+    c.nodes.invariant i nodes.0 earlier)
+    (nodes_or_not w.nodes i i)

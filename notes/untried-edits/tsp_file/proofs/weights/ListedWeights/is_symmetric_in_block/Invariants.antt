@@ -1,0 +1,6 @@
+use Rattle.std.proofs.Common.{◌≡◌, ℕ, ◌<◌, ◌≤◌, ◌↔◌, IsTrue}
+use Rattle.tsp_file.specs.Weights.{costs_of}
+use Rattle.tsp_file.proofs.weights.ListedWeights.is_symmetric_in_block.Given as goal
+
+abbrev pub invariant-columns : goal.invariant-columns
+invariant-columns l = IsTrue l.same ↔ ((b : ℕ) → l.left ≤ b → b < l.j → costs_of l.self l.i b ≡ costs_of l.self b l.i)

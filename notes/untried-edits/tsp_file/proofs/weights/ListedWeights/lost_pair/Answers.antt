@@ -1,0 +1,8 @@
+use Rattle.std.proofs.Common.{inr}
+use Rattle.tsp_file.proofs.Relaid.{triangle_holds}
+use Rattle.tsp_file.proofs.weights.ListedWeights.lost_pair.Goals as goal
+
+pub returns-in_default : goal.returns-in_default
+returns-in_default c =
+    let w = c.args.self.now in
+    inr (triangle_holds w.layout w.nodes w.weights.now c.in_default.not-FullMatrix)

@@ -1,0 +1,12 @@
+use Rattle.std.proofs.Common.{◌≡◌, ◌<◌, ◌≤◌, ◌*◌, ℕ, length}
+use Rattle.std.specs.Prelude.{ℤ}
+use Rattle.tsp_format.specs.Symmetry.{IsSymmetric}
+use Rattle.tsp_file.specs.Whole.{HasSide, Fills}
+use Rattle.tsp_file.proofs.whole.fill_in_band.Given as goal
+
+abbrev pub invariant-columns : goal.invariant-columns
+invariant-columns l = record {
+  size : length l.weights.items ≡ l.nodes * l.nodes;
+  costs : (cost : ℕ → ℕ → ℤ) → IsSymmetric cost → HasSide l.above cost l.nodes l.fn.weights.items
+      → Fills cost l.nodes l.fn.weights.items l.weights.items (λ i j. (i ≡ l.row) × (l.first ≤ j) × (j < l.column));
+}

@@ -1,0 +1,12 @@
+use Rattle.std.specs.Fmt.{decimal}
+use Rattle.tsp_stream.specs.Way.{way_of}
+use Rattle.tsp_stream.proofs.Carrying.{carried_then}
+use Rattle.tsp_file.specs.Text.{line_end}
+use Rattle.tsp_file.proofs.writer.sections.put_node_line.Goals as goal
+
+pub returns : goal.returns
+returns g c =
+    let start = way_of g.W.Write.contents c.args.out.now c.args.piece.now.items in
+    let after_node = way_of g.W.Write.contents c.put_number.new.out c.put_number.new.piece.items in
+    let last = way_of g.W.Write.contents c.put.new.out c.put.new.piece.items in
+    carried_then start after_node last (decimal c.args.node) line_end c.put_number.ensures c.put.ensures

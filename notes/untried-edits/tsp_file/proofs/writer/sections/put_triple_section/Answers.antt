@@ -1,0 +1,16 @@
+use Rattle.tsp_file.specs.Text.{triple_list}
+use Rattle.tsp_stream.specs.Way.{way_of}
+use Rattle.tsp_stream.proofs.Carrying.{carried_none}
+use Rattle.tsp_file.proofs.Lines.{opened}
+use Rattle.tsp_file.proofs.writer.sections.put_triple_section.Goals as goal
+
+pub returns-in-Some : goal.returns-in-Some
+returns-in-Some g c =
+    let start = way_of g.W.Write.contents c.args.out.now c.args.piece.now.items in
+    let after_opening = way_of g.W.Write.contents c.put_opening.new.out c.put_opening.new.piece.items in
+    let last = way_of g.W.Write.contents c.put_triples.new.out c.put_triples.new.piece.items in
+    let lines = rw c.deref.ensures.value at c.put_triples.ensures in
+    rw c.in-Some.is (opened start after_opening last c.args.field (triple_list c.in-Some.triples.items) c.put_opening.ensures lines)
+
+pub returns-in_default : goal.returns-in_default
+returns-in_default g c = rw c.in_default.is (carried_none (way_of g.W.Write.contents c.args.out.now c.args.piece.now.items))

@@ -1,0 +1,8 @@
+use Rattle.std.proofs.Common.{append_assoc}
+use Rattle.tsp_file.proofs.writer.tree.put_step_section.Goals as goal
+
+pub returns-in-Some : goal.returns-in-Some
+returns-in-Some g c = λ start text h.
+    let lines = rw c.deref.ensures.value at c.put_steps.ensures in
+    let all = lines start _ (c.put_opening.ensures start text h) in
+    rw c.in-Some.is (simp append_assoc at all)

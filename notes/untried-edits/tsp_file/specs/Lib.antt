@@ -1,0 +1,12 @@
+pub mod Cost
+pub mod FaultText
+pub mod Halves
+pub mod Listed
+pub mod Relayout
+pub mod Side
+pub mod Way
+pub mod Weights
+pub mod Examples
+pub mod Whole
+pub mod Text
+pub mod TextExamples

@@ -1,0 +1,75 @@
+-- What becomes of a file whose weights are put into another layout, and which costs a layout can hold.
+-- Source: TSPLIB 95 (G. Reinelt), the values of EDGE_WEIGHT_FORMAT.
+use Rattle.std.specs.Prelude.{◌≡◌, ◌≢◌, ℕ, ◌<◌, ◌⊎◌, Bool, false, List, map, Some, IsSome, IsTrue, unwrap_or, Result, Ok, Err, ℤ, pos}
+use Rattle.tsp_format.specs.declared.layout.Layout.{Layout}
+use Rattle.tsp_format.specs.declared.layout.Layout.TheVariants.{FullMatrix}
+use Rattle.tsp_format.specs.declared.kinds.WeightKind.TheVariants.{Explicit}
+use Rattle.tsp_format.specs.declared.kinds.WeightFormat.TheVariants.{Listed}
+use Rattle.tsp_format.specs.Cells.{IsNode, is_listed, cells}
+use Rattle.tsp_format.specs.Symmetry.{IsSymmetric, IsFirstAsymmetric}
+use Rattle.tsp_file.specs.declared.fault.RelayoutFault.{RelayoutFault}
+use Rattle.tsp_file.specs.declared.fault.RelayoutFault.TheVariants.{NotExplicit, NotSymmetric, DiagonalLost, OutOfMemory}
+use Rattle.tsp_draft.specs.Fields.{Fields}
+use Rattle.tsp_file.specs.Cost.{cost}
+
+-- ---- which costs a layout can hold
+
+-- A full matrix holds any costs between different nodes, half of one those that are the same both ways.
+abbrev pub HoldsPairs : Layout → (ℕ → ℕ → ℤ) → Type 0
+HoldsPairs layout cost = (layout ≡ FullMatrix) ⊎ IsSymmetric cost
+
+-- whether the diagonal is listed: with one of its pairs all are
+abbrev pub lists_diagonal : Layout → Bool
+lists_diagonal layout = is_listed layout (1, 1)
+
+-- A layout that lists no diagonal holds costs that are 0 from each node to itself.
+abbrev pub HoldsDiagonal : Layout → (ℕ → ℕ → ℤ) → Type 0
+HoldsDiagonal layout cost = IsTrue (lists_diagonal layout) ⊎ ((i : ℕ) → cost i i ≡ pos 0)
+
+-- the first node of 1..n whose cost to itself isn't 0
+pub record IsFirstOnDiagonal (n : ℕ) (cost : ℕ → ℕ → ℤ) (i : ℕ) : Type 0 where
+  pub node : IsNode n i
+  pub differs : cost i i ≢ pos 0
+  pub first : (k : ℕ) → IsNode n k → k < i → cost k k ≡ pos 0
+
+-- ---- the change
+
+-- the weight type is EXPLICIT, and weights stand
+abbrev pub HasListedWeights : Fields → Type 0
+HasListedWeights f = (f.weight_kind ≡ Some Explicit) × IsSome f.weights
+
+abbrev pub file_nodes : Fields → ℕ
+file_nodes f = unwrap_or f.dimension 0
+
+-- the same fields but for these weights, in this layout
+abbrev pub with_weights : Fields → Layout → List ℤ → Fields
+with_weights f to weights = record f { weight_format = Some (Listed to); weights = Some weights }
+
+-- the costs of the cells of a layout, in their order
+abbrev pub costs_in : Layout → ℕ → (ℕ → ℕ → ℤ) → List ℤ
+costs_in layout n cost = map (λ cell. cost cell.0 cell.1) (cells layout n)
+
+-- the weights are listed, and the layout can hold their costs
+pub record CanGo (f : Fields) (to : Layout) : Type 0 where
+  pub listed : HasListedWeights f
+  pub pairs : HoldsPairs to (cost f)
+  pub diagonal : HoldsDiagonal to (cost f)
+
+-- Only the format and the weights are others, and every cost is as before, those from a node to itself too.
+pub record IsRelaid (old : Fields) (to : Layout) (new : Fields) : Type 0 where
+  pub can_go : CanGo old to
+  pub fields : new ≡ with_weights old to (costs_in to (file_nodes old) (cost old))
+  pub costs : (i j : ℕ) → cost new i j ≡ cost old i j
+
+-- Why it isn't done: the first of these that holds. Of memory there can't be a want where the layout is that of the file.
+abbrev pub IsRefused : Fields → Layout → RelayoutFault → Type 0
+IsRefused f to NotExplicit = ¬ HasListedWeights f
+IsRefused f to (NotSymmetric i j) = HasListedWeights f × (to ≢ FullMatrix) × IsFirstAsymmetric (file_nodes f) (cost f) (i, j)
+IsRefused f to (DiagonalLost i) = HasListedWeights f × HoldsPairs to (cost f)
+    × (lists_diagonal to ≡ false) × IsFirstOnDiagonal (file_nodes f) (cost f) i
+IsRefused f to OutOfMemory = CanGo f to × (f.weight_format ≢ Some (Listed to))
+
+-- the file in the new layout, or why not and the same file
+abbrev pub IsRelayout : Fields → Layout → Result Fields (RelayoutFault × Fields) → Type 0
+IsRelayout old to (Ok new) = IsRelaid old to new
+IsRelayout old to (Err (fault, back)) = IsRefused old to fault × (back ≡ old)

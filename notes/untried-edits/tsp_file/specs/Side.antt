@@ -1,0 +1,27 @@
+-- Which costs of a row stand side by side among the weights of a layout. It is no part of the meaning.
+use Rattle.std.specs.Prelude.{ℕ, ◌+◌}
+use Rattle.tsp_format.specs.declared.layout.Layout.{Layout}
+use Rattle.tsp_format.specs.declared.layout.Layout.TheVariants.{FullMatrix, UpperRow, LowerRow, UpperDiagRow, LowerDiagRow, UpperCol, LowerCol, UpperDiagCol, LowerDiagCol}
+
+-- their first column, and the one past the last
+abbrev pub first_own : Layout → ℕ → ℕ
+first_own FullMatrix row = 1
+first_own UpperRow row = row + 1
+first_own LowerRow row = 1
+first_own UpperDiagRow row = row
+first_own LowerDiagRow row = 1
+first_own UpperCol row = 1
+first_own LowerCol row = row + 1
+first_own UpperDiagCol row = 1
+first_own LowerDiagCol row = row
+
+abbrev pub past_own : Layout → ℕ → ℕ → ℕ
+past_own FullMatrix n row = n + 1
+past_own UpperRow n row = n + 1
+past_own LowerRow n row = row
+past_own UpperDiagRow n row = n + 1
+past_own LowerDiagRow n row = row + 1
+past_own UpperCol n row = row
+past_own LowerCol n row = n + 1
+past_own UpperDiagCol n row = row + 1
+past_own LowerDiagCol n row = n + 1

@@ -1,0 +1,24 @@
+-- How the weights of a file get into another layout.
+use Rattle.std.specs.Prelude.{◌≡◌, ◌≢◌, Some}
+use Rattle.std.specs.List.{All}
+use Rattle.tsp_format.specs.declared.layout.Layout.{Layout}
+use Rattle.tsp_format.specs.declared.layout.Layout.TheVariants.{FullMatrix}
+use Rattle.tsp_format.specs.declared.kinds.WeightFormat.TheVariants.{Listed}
+use Rattle.tsp_format.specs.Limits.{most_weight}
+use Rattle.tsp_file.specs.declared.way.Way.{Way}
+use Rattle.tsp_file.specs.declared.way.Way.TheVariants.{Already, Within, Across, Anew}
+use Rattle.tsp_draft.specs.Fields.{Fields}
+use Rattle.tsp_draft.specs.Valid.{IsWithin}
+use Rattle.tsp_file.specs.Cost.{cost}
+use Rattle.tsp_file.specs.Relayout.{file_nodes, costs_in}
+
+-- the weights are half of a matrix
+abbrev pub HasHalf : Fields → Type 0
+HasHalf f = (from : Layout) × (from ≢ FullMatrix) × (f.weight_format ≡ Some (Listed from))
+
+-- what is so of a file whose weights get into the layout in this way
+abbrev pub LeadsTo : Fields → Layout → Way → Type 0
+LeadsTo f to Already = (f.weight_format ≡ Some (Listed to)) × (f.weights ≡ Some (costs_in to (file_nodes f) (cost f)))
+LeadsTo f to Within = f.weight_format ≡ Some (Listed FullMatrix)
+LeadsTo f to Across = (to ≡ FullMatrix) × HasHalf f
+LeadsTo f to (Anew weights) = (weights.items ≡ costs_in to (file_nodes f) (cost f)) × All (IsWithin most_weight) weights.items

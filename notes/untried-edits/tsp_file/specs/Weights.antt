@@ -1,0 +1,8 @@
+-- What weights that a file lists say of costs.
+use Rattle.std.specs.Prelude.{ℕ, ℤ}
+use Rattle.tsp_file.specs.declared.weights.ListedWeights.{ListedWeights}
+use Rattle.tsp_file.specs.Cost.{listed_cost}
+
+-- the cost from one node to another
+abbrev pub costs_of : ListedWeights → ℕ → ℕ → ℤ
+costs_of w i j = listed_cost w.layout w.nodes w.weights.now i j

@@ -1,0 +1,333 @@
+//! What a valid file holds.
+
+use crate::halves::keep_half;
+use crate::whole::make_whole;
+use std::marker::Model;
+use tsp_draft::{Coords, Draft, DraftFault, bad_field, end_fault};
+use tsp_format::{CoordKind, DisplayKind, Kind, Layout, TreeStep, WeightFormat, WeightKind};
+
+/// What a valid file holds.
+///
+/// It is made from a draft by [`File::of`], which says what is valid. Each field has a call of its
+/// own that lends it.
+#[derive(Debug)]
+pub struct File {
+    draft: Draft,
+}
+
+/// As a derive would do it.
+impl Drop for File {
+    fn drop(self) {
+        let File { draft: _ } = self;
+    }
+}
+
+impl Model for File {
+    ghost use Rattle.std.specs.Prelude.{◌≡◌, None};
+    ghost use Rattle.tsp_draft.specs.Fields.{Fields, fields_of};
+    ghost use Rattle.tsp_draft.specs.Rules.{fault_of};
+
+    ghost Value = { Fields };
+
+    ghost view = { λ f. fields_of f.draft };
+
+    ghost invariant = { λ f. fault_of (fields_of f.draft) ≡ None };
+}
+
+impl File {
+    ghost use Rattle.std.specs.Prelude.{◌≡◌, Some, None, IsSome, length, map, MatchResult};
+    ghost use Rattle.std.specs.List.{All};
+    ghost use Rattle.std.specs.Option.{option_map};
+    ghost use Rattle.tsp_format.specs.Cells.{cells};
+    ghost use Rattle.tsp_format.specs.Limits.{most_weight};
+    ghost use Rattle.tsp_draft.specs.Coords.{points_of};
+    ghost use Rattle.tsp_draft.specs.Valid.{IsWithin};
+    ghost use Rattle.tsp_format.specs.declared.layout.Layout.TheVariants.{FullMatrix};
+    ghost use Rattle.tsp_format.specs.declared.kinds.WeightFormat.TheVariants.{Listed};
+    ghost use Rattle.tsp_file.specs.Cost.{cost};
+    ghost use Rattle.tsp_file.specs.Way.{HasHalf};
+    ghost use Rattle.tsp_file.specs.Relayout.{CanGo, file_nodes, with_weights, costs_in};
+    ghost use Rattle.tsp_format.specs.Steps.{steps_of};
+    ghost use Rattle.tsp_draft.specs.Fields.{fields_of, combs_of};
+    ghost use Rattle.tsp_draft.specs.Rules.{fault_of};
+
+    /// The fields of this file, as a draft that has no fault.
+    pub fn fields(&self) -> &Draft
+        ensures value { fields_of result.now ≡ self.now }
+        ensures valid { fault_of self.now ≡ None }
+    {
+        &self.draft
+    }
+
+    /// The file that a draft holds, or the draft's first fault and the draft itself, unchanged.
+    ///
+    /// # Errors
+    ///
+    /// `BadField` with the first field, in canonical order, that isn't valid on
+    /// its own; else `Rule` with the first rule over several fields that fails. No memory is taken.
+    pub fn of(d: Draft) -> Result<File, (DraftFault, Draft)>
+        ensures { MatchResult result
+            (λ file. (file ≡ fields_of d) × (fault_of (fields_of d) ≡ None))
+            (λ refused. (fault_of (fields_of d) ≡ Some refused.0) × (refused.1 ≡ d)) }
+    {
+        if let Some(field) = bad_field(&d) {
+            return Err((DraftFault::BadField(field), d));
+        }
+        if let Some(rule) = end_fault(&d, None) {
+            return Err((DraftFault::Rule(rule), d));
+        }
+        Ok(File { draft: d })
+    }
+
+    /// This file with other weights, in a layout; every other field stays.
+    ///
+    /// The caller owes as many weights as the layout has cells, and a file that has weights.
+    pub(crate) fn with_weights(self, layout: Layout, weights: Vec<i64>) -> File
+        requires stand { IsSome self.weights }
+        requires count { length weights.items ≡ length (cells layout (file_nodes self)) }
+        requires sizes { All (IsWithin most_weight) weights.items }
+        ensures { result ≡ with_weights self layout weights.items }
+    {
+        let File { mut draft } = self;
+        draft.weight_format = Some(WeightFormat::Listed(layout));
+        draft.weights = Some(weights);
+        File { draft }
+    }
+
+    /// This file, whose weights are a full matrix, with them in another layout that holds their costs.
+    pub(crate) fn with_half(self, to: Layout) -> File
+        requires full { self.weight_format ≡ Some (Listed FullMatrix) }
+        requires can_go { CanGo self to }
+        ensures { result ≡ with_weights self to (costs_in to (file_nodes self) (cost self)) }
+    {
+        let File { mut draft } = self;
+        let Some(nodes) = draft.dimension else {
+            unreachable!();
+        };
+        let Some(mut weights) = draft.weights.take() else {
+            unreachable!();
+        };
+        keep_half(to, nodes, &mut weights);
+        draft.weight_format = Some(WeightFormat::Listed(to));
+        draft.weights = Some(weights);
+        File { draft }
+    }
+
+    /// This file, whose weights are half of a matrix, with the full matrix of their costs; or the file
+    /// as it was where memory was refused.
+    pub(crate) fn with_whole(self) -> Result<File, File>
+        requires half { HasHalf self }
+        requires can_go { CanGo self FullMatrix }
+        ensures { MatchResult result
+            (λ file. file ≡ with_weights self FullMatrix (costs_in FullMatrix (file_nodes self) (cost self)))
+            (λ back. back ≡ self) }
+    {
+        let File { mut draft } = self;
+        let Some(nodes) = draft.dimension else {
+            unreachable!();
+        };
+        let Some(WeightFormat::Listed(from)) = draft.weight_format else {
+            unreachable!();
+        };
+        let Some(mut weights) = draft.weights.take() else {
+            unreachable!();
+        };
+        if make_whole(from, nodes, &mut weights).is_err() {
+            draft.weights = Some(weights);
+            return Err(File { draft });
+        }
+        draft.weight_format = Some(WeightFormat::Listed(Layout::FullMatrix));
+        draft.weights = Some(weights);
+        Ok(File { draft })
+    }
+
+    /// NAME, as bytes.
+    pub fn name(&self) -> Option<&[u8]>
+        ensures { option_map (λ entries. entries.now) result ≡ self.now.name }
+    {
+        self.draft.name.as_ref().map(|entries| entries.as_slice())
+    }
+
+    /// TYPE, which every file has.
+    pub fn kind(&self) -> Kind
+        ensures { Some result ≡ self.now.kind }
+    {
+        match self.draft.kind {
+            Some(kind) => kind,
+            None => unreachable!(),
+        }
+    }
+
+    /// The COMMENT lines, in order.
+    pub fn comments(&self) -> &[Vec<u8>]
+        ensures { map (λ comment. comment.items) result.now ≡ self.now.comments }
+    {
+        self.draft.comments.as_slice()
+    }
+
+    /// The lines of unknown keywords, in order: keyword and value.
+    pub fn others(&self) -> &[(Vec<u8>, Vec<u8>)]
+        ensures { map (λ line. (line.0.items, line.1.items)) result.now ≡ self.now.others }
+    {
+        self.draft.others.as_slice()
+    }
+
+    /// DIMENSION: the number of nodes, 1 to 100,000.
+    pub fn dimension(&self) -> Option<u32>
+        ensures { result ≡ self.now.dimension }
+    {
+        self.draft.dimension
+    }
+
+    /// CAPACITY of a vehicle, 1 to 10^12.
+    pub fn capacity(&self) -> Option<i64>
+        ensures { result ≡ self.now.capacity }
+    {
+        self.draft.capacity
+    }
+
+    /// SCALE of the potentials, 1 to 1,000,000; where it is missing 1 is meant.
+    pub fn scale(&self) -> Option<i64>
+        ensures { result ≡ self.now.scale }
+    {
+        self.draft.scale
+    }
+
+    /// EDGE_WEIGHT_TYPE.
+    pub fn weight_kind(&self) -> Option<WeightKind>
+        ensures { result ≡ self.now.weight_kind }
+    {
+        self.draft.weight_kind
+    }
+
+    /// EDGE_WEIGHT_FORMAT.
+    pub fn weight_format(&self) -> Option<WeightFormat>
+        ensures { result ≡ self.now.weight_format }
+    {
+        self.draft.weight_format
+    }
+
+    /// NODE_COORD_TYPE.
+    pub fn coord_kind(&self) -> Option<CoordKind>
+        ensures { result ≡ self.now.coord_kind }
+    {
+        self.draft.coord_kind
+    }
+
+    /// DISPLAY_DATA_TYPE.
+    pub fn display_kind(&self) -> Option<DisplayKind>
+        ensures { result ≡ self.now.display_kind }
+    {
+        self.draft.display_kind
+    }
+
+    /// NODE_COORD_SECTION: a point for each node.
+    pub fn coords(&self) -> Option<&Coords>
+        ensures { option_map (λ points. points_of points.now) result ≡ self.now.coords }
+    {
+        self.draft.coords.as_ref()
+    }
+
+    /// DISPLAY_DATA_SECTION: a point for each node.
+    pub fn display(&self) -> Option<&Coords>
+        ensures { option_map (λ points. points_of points.now) result ≡ self.now.display }
+    {
+        self.draft.display.as_ref()
+    }
+
+    /// DEMAND_SECTION: a demand for each node.
+    pub fn demands(&self) -> Option<&[i64]>
+        ensures { option_map (λ entries. entries.now) result ≡ self.now.demands }
+    {
+        self.draft
+            .demands
+            .as_ref()
+            .map(|entries| entries.as_slice())
+    }
+
+    /// DEPOT_SECTION: nodes.
+    pub fn depots(&self) -> Option<&[u32]>
+        ensures { option_map (λ entries. entries.now) result ≡ self.now.depots }
+    {
+        self.draft.depots.as_ref().map(|entries| entries.as_slice())
+    }
+
+    /// FIXED_EDGES_SECTION: pairs of different nodes.
+    pub fn fixed(&self) -> Option<&[(u32, u32)]>
+        ensures { option_map (λ entries. entries.now) result ≡ self.now.fixed }
+    {
+        self.draft.fixed.as_ref().map(|entries| entries.as_slice())
+    }
+
+    /// EDGE_WEIGHT_SECTION: the weights, in the order of the layout.
+    pub fn weights(&self) -> Option<&[i64]>
+        ensures { option_map (λ entries. entries.now) result ≡ self.now.weights }
+    {
+        self.draft
+            .weights
+            .as_ref()
+            .map(|entries| entries.as_slice())
+    }
+
+    /// TOUR_SECTION: tours, none of them empty.
+    pub fn tours(&self) -> Option<&[Vec<u32>]>
+        ensures { option_map (λ tours. map (λ tour. tour.items) tours.now) result ≡ self.now.tours }
+    {
+        self.draft.tours.as_ref().map(|tours| tours.as_slice())
+    }
+
+    /// NODE_POTENTIAL_SECTION: a potential for each node.
+    pub fn node_potentials(&self) -> Option<&[i64]>
+        ensures { option_map (λ entries. entries.now) result ≡ self.now.node_potentials }
+    {
+        self.draft
+            .node_potentials
+            .as_ref()
+            .map(|entries| entries.as_slice())
+    }
+
+    /// ROW_POTENTIAL_SECTION: a potential for each row.
+    pub fn row_potentials(&self) -> Option<&[i64]>
+        ensures { option_map (λ entries. entries.now) result ≡ self.now.row_potentials }
+    {
+        self.draft
+            .row_potentials
+            .as_ref()
+            .map(|entries| entries.as_slice())
+    }
+
+    /// COLUMN_POTENTIAL_SECTION: a potential for each column.
+    pub fn column_potentials(&self) -> Option<&[i64]>
+        ensures { option_map (λ entries. entries.now) result ≡ self.now.column_potentials }
+    {
+        self.draft
+            .column_potentials
+            .as_ref()
+            .map(|entries| entries.as_slice())
+    }
+
+    /// FIXED_EDGE_POTENTIAL_SECTION: two different nodes and the multiplier of their edge, a count
+    /// of 1 / scale.
+    pub fn fixed_potentials(&self) -> Option<&[(u32, u32, i64)]>
+        ensures { option_map (λ entries. entries.now) result ≡ self.now.fixed_potentials }
+    {
+        self.draft
+            .fixed_potentials
+            .as_ref()
+            .map(|entries| entries.as_slice())
+    }
+    /// COMB_SECTION: combs, each as its sets of nodes, the handle first. Whether they are combs is
+    /// for a judge to say.
+    pub fn combs(&self) -> Option<&[Vec<Vec<u32>>]>
+        ensures { option_map (λ combs. combs_of combs.now) result ≡ self.now.combs }
+    {
+        self.draft.combs.as_ref().map(|combs| combs.as_slice())
+    }
+
+    /// BRANCH_SECTION: the steps of one tree of cases.
+    pub fn branches(&self) -> Option<&[TreeStep]>
+        ensures { option_map (λ steps. steps_of steps.now) result ≡ self.now.branches }
+    {
+        self.draft.branches.as_ref().map(|steps| steps.as_slice())
+    }
+}

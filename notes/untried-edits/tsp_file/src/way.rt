@@ -1,0 +1,14 @@
+//! How weights get into another layout.
+
+/// How the weights of a file get into another layout.
+#[derive(Drop)]
+pub(crate) enum Way {
+    /// They are in it already.
+    Already,
+    /// They are a full matrix, and what the layout lists of it goes to the front.
+    Within,
+    /// They are half of a matrix, and the full one is made in its own room.
+    Across,
+    /// These are they, all anew.
+    Anew(Vec<i64>),
+}

@@ -1,0 +1,271 @@
+//! The sections of a file.
+
+ghost use Rattle.std.specs.Prelude.{◌≡◌, ℕ, ◌+◌, ◌<◌, ◌^◌, List, [], ◌∷◌, ◌++◌, map};
+ghost use Rattle.std.specs.List.{flat_map};
+ghost use Rattle.std.specs.Fmt.{decimal, signed_decimal};
+ghost use Rattle.std.specs.Option.{option_map};
+ghost use Rattle.tsp_number.specs.Spelling.{spelling};
+ghost use Rattle.tsp_format.specs.Words.{field_word};
+ghost use Rattle.tsp_draft.specs.Coords.{points_of};
+ghost use Rattle.tsp_file.specs.Text.{line_end, number_line, section_text, lines_by_node, node_list, pair_list, triple_list, point_numbers, whole_number, optional};
+ghost use Rattle.tsp_stream.specs.Way.{Puts};
+
+use std::io::Write;
+use tsp_distance::{Decimal, Point};
+use tsp_draft::Coords;
+use tsp_format::{Field, Word};
+use tsp_number::push_decimal;
+use tsp_stream::{Piece, Watched, make_room, put, put_next_number, put_number};
+
+/// Adds the line that opens a section.
+pub(crate) fn put_opening<W: Write>(piece: &mut Piece, out: &mut Watched<W>, field: Field)
+    ensures { Puts W.contents out.old piece.old out.new piece.new (field_word field ++ line_end) }
+{
+    put(piece, out, field.word().as_bytes());
+    put(piece, out, b"\n");
+}
+
+/// Adds the line of a node and its number.
+fn put_number_line<W: Write>(piece: &mut Piece, out: &mut Watched<W>, node: usize, number: i64)
+    ensures { Puts W.contents out.old piece.old out.new piece.new
+        (number_line (decimal node) (whole_number number)) }
+{
+    put_number(piece, out, node);
+    put_next_number(piece, out, number);
+    put(piece, out, b"\n");
+}
+
+/// The most bytes of a coordinate's spelling.
+const MOST_SPELLING: usize = 21;
+
+/// Adds a blank and a coordinate.
+fn put_coordinate<W: Write>(piece: &mut Piece, out: &mut Watched<W>, coordinate: Decimal)
+    ensures { Puts W.contents out.old piece.old out.new piece.new (32 ∷ spelling coordinate) }
+{
+    put(piece, out, b" ");
+    make_room(piece, out, MOST_SPELLING);
+    push_decimal(piece, coordinate);
+}
+
+/// Adds the line of a node and its coordinates, three in space and two in the plane.
+fn put_point_line<W: Write>(
+    piece: &mut Piece,
+    out: &mut Watched<W>,
+    node: usize,
+    point: Point,
+    spatial: bool,
+)
+    ensures { Puts W.contents out.old piece.old out.new piece.new
+        (number_line (decimal node) (point_numbers spatial point)) }
+{
+    put_number(piece, out, node);
+    put_coordinate(piece, out, point.x);
+    put_coordinate(piece, out, point.y);
+    if spatial {
+        put_coordinate(piece, out, point.z);
+    }
+    put(piece, out, b"\n");
+}
+
+/// Adds the line of a node.
+fn put_node_line<W: Write>(piece: &mut Piece, out: &mut Watched<W>, node: u32)
+    ensures { Puts W.contents out.old piece.old out.new piece.new
+        (number_line (decimal node) []) }
+{
+    put_number(piece, out, node);
+    put(piece, out, b"\n");
+}
+
+/// Adds the line of a pair of nodes.
+pub(crate) fn put_pair_line<W: Write>(
+    piece: &mut Piece,
+    out: &mut Watched<W>,
+    first: u32,
+    second: u32,
+)
+    ensures { Puts W.contents out.old piece.old out.new piece.new
+        (number_line (decimal first) (decimal second ∷ [])) }
+{
+    put_number(piece, out, first);
+    put_next_number(piece, out, second);
+    put(piece, out, b"\n");
+}
+
+/// Adds the line of a pair of nodes and its number.
+fn put_triple_line<W: Write>(
+    piece: &mut Piece,
+    out: &mut Watched<W>,
+    first: u32,
+    second: u32,
+    number: i64,
+)
+    ensures { Puts W.contents out.old piece.old out.new piece.new
+        (number_line (decimal first) (decimal second ∷ signed_decimal number ∷ [])) }
+{
+    put_number(piece, out, first);
+    put_next_number(piece, out, second);
+    put_next_number(piece, out, number);
+    put(piece, out, b"\n");
+}
+
+/// Adds a line for each node, in rising order, with its number.
+fn put_numbers<W: Write>(piece: &mut Piece, out: &mut Watched<W>, numbers: &[i64])
+    ensures { Puts W.contents out.old piece.old out.new piece.new
+        (lines_by_node whole_number numbers.now) }
+{
+    'nodes: for (index, number) in numbers.iter().enumerate() {
+        put_number_line(piece, out, index + 1, *number);
+    }
+}
+
+/// Adds a line for each node, in rising order, with its coordinates.
+fn put_points<W: Write>(piece: &mut Piece, out: &mut Watched<W>, points: &Coords, spatial: bool)
+    ensures { Puts W.contents out.old piece.old out.new piece.new
+        (lines_by_node (point_numbers spatial) (points_of points.now)) }
+{
+    'nodes: for index in 0..points.len() {
+        let Some(point) = points.get(index) else {
+            unreachable!();
+        };
+        put_point_line(piece, out, index + 1, point, spatial);
+    }
+}
+
+/// Adds a line for each node of a list, and the line -1.
+fn put_nodes<W: Write>(piece: &mut Piece, out: &mut Watched<W>, nodes: &[u32])
+    ensures { Puts W.contents out.old piece.old out.new piece.new (node_list nodes.now) }
+{
+    'nodes: for node in nodes {
+        put_node_line(piece, out, *node);
+    }
+    put(piece, out, b"-1\n");
+}
+
+/// Adds a line for each pair of a list, and the line -1.
+fn put_pairs<W: Write>(piece: &mut Piece, out: &mut Watched<W>, pairs: &[(u32, u32)])
+    ensures { Puts W.contents out.old piece.old out.new piece.new (pair_list pairs.now) }
+{
+    'pairs: for (first, second) in pairs {
+        put_pair_line(piece, out, *first, *second);
+    }
+    put(piece, out, b"-1\n");
+}
+
+/// Adds a line for each triple of a list, and the line -1.
+fn put_triples<W: Write>(piece: &mut Piece, out: &mut Watched<W>, triples: &[(u32, u32, i64)])
+    ensures { Puts W.contents out.old piece.old out.new piece.new (triple_list triples.now) }
+{
+    'triples: for (first, second, number) in triples {
+        put_triple_line(piece, out, *first, *second, *number);
+    }
+    put(piece, out, b"-1\n");
+}
+
+/// Adds the nodes of each tour, and a line -1 after each.
+fn put_tours<W: Write>(piece: &mut Piece, out: &mut Watched<W>, tours: &[Vec<u32>])
+    ensures { Puts W.contents out.old piece.old out.new piece.new
+        (flat_map node_list (map (λ t. t.items) tours.now)) }
+{
+    'tours: for tour in tours {
+        put_nodes(piece, out, tour);
+    }
+}
+
+/// Adds a section of one number for each node, where the file has it.
+pub(crate) fn put_number_section<W: Write>(
+    piece: &mut Piece,
+    out: &mut Watched<W>,
+    field: Field,
+    numbers: Option<&[i64]>,
+)
+    ensures { Puts W.contents out.old piece.old out.new piece.new
+        (optional (λ numbers. section_text field (lines_by_node whole_number numbers)) (option_map (λ entries. entries.now) numbers.entry)) }
+{
+    if let Some(numbers) = numbers {
+        put_opening(piece, out, field);
+        put_numbers(piece, out, numbers);
+    }
+}
+
+/// Adds a section of coordinates, three of each node in space and two in the plane, where the file
+/// has it.
+pub(crate) fn put_point_section<W: Write>(
+    piece: &mut Piece,
+    out: &mut Watched<W>,
+    field: Field,
+    points: Option<&Coords>,
+    spatial: bool,
+)
+    ensures { Puts W.contents out.old piece.old out.new piece.new
+        (optional (λ points. section_text field (lines_by_node (point_numbers spatial) points))
+        (option_map (λ points. points_of points.now) points.entry)) }
+{
+    if let Some(points) = points {
+        put_opening(piece, out, field);
+        put_points(piece, out, points, spatial);
+    }
+}
+
+/// Adds a section of nodes, where the file has it.
+pub(crate) fn put_node_section<W: Write>(
+    piece: &mut Piece,
+    out: &mut Watched<W>,
+    field: Field,
+    depots: &Option<Vec<u32>>,
+)
+    ensures { Puts W.contents out.old piece.old out.new piece.new
+        (optional (λ depots. section_text field (node_list depots)) (option_map (λ v. v.items) depots.now)) }
+{
+    if let Some(depots) = depots {
+        put_opening(piece, out, field);
+        put_nodes(piece, out, depots);
+    }
+}
+
+/// Adds a section of pairs of nodes, where the file has it.
+pub(crate) fn put_pair_section<W: Write>(
+    piece: &mut Piece,
+    out: &mut Watched<W>,
+    field: Field,
+    pairs: &Option<Vec<(u32, u32)>>,
+)
+    ensures { Puts W.contents out.old piece.old out.new piece.new
+        (optional (λ pairs. section_text field (pair_list pairs)) (option_map (λ v. v.items) pairs.now)) }
+{
+    if let Some(pairs) = pairs {
+        put_opening(piece, out, field);
+        put_pairs(piece, out, pairs);
+    }
+}
+
+/// Adds a section of pairs of nodes with a number each, where the file has it.
+pub(crate) fn put_triple_section<W: Write>(
+    piece: &mut Piece,
+    out: &mut Watched<W>,
+    field: Field,
+    triples: &Option<Vec<(u32, u32, i64)>>,
+)
+    ensures { Puts W.contents out.old piece.old out.new piece.new
+        (optional (λ triples. section_text field (triple_list triples)) (option_map (λ v. v.items) triples.now)) }
+{
+    if let Some(triples) = triples {
+        put_opening(piece, out, field);
+        put_triples(piece, out, triples);
+    }
+}
+
+/// Adds a section of tours, where the file has it.
+pub(crate) fn put_tour_section<W: Write>(
+    piece: &mut Piece,
+    out: &mut Watched<W>,
+    field: Field,
+    tours: &Option<Vec<Vec<u32>>>,
+)
+    ensures { Puts W.contents out.old piece.old out.new piece.new
+        (optional (λ tours. section_text field (flat_map node_list tours)) (option_map (λ v. map (λ t. t.items) v.items) tours.now)) }
+{
+    if let Some(tours) = tours {
+        put_opening(piece, out, field);
+        put_tours(piece, out, tours);
+    }
+}

@@ -1,0 +1,5 @@
+use Rattle.tsp_format.proofs.Pairs.{cells_differ}
+use Rattle.tsp_format.proofs.layout.cells_are_distinct.Goals as goal
+
+pub returns : goal.returns
+returns c = cells_differ

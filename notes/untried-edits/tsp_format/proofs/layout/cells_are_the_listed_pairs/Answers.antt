@@ -1,0 +1,5 @@
+use Rattle.tsp_format.proofs.Pairs.{cell_is}
+use Rattle.tsp_format.proofs.layout.cells_are_the_listed_pairs.Goals as goal
+
+pub returns : goal.returns
+returns c = cell_is

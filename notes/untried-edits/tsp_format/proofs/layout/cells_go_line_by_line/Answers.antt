@@ -1,0 +1,5 @@
+use Rattle.tsp_format.proofs.Lines.{cells-lines}
+use Rattle.tsp_format.proofs.layout.cells_go_line_by_line.Goals as goal
+
+pub returns : goal.returns
+returns c = cells-lines

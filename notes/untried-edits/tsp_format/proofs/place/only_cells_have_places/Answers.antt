@@ -1,0 +1,5 @@
+use Rattle.tsp_format.proofs.Places.{no_place}
+use Rattle.tsp_format.proofs.place.only_cells_have_places.Goals as goal
+
+pub returns : goal.returns
+returns c = no_place

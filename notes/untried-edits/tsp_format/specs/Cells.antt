@@ -1,0 +1,71 @@
+-- The cells of a layout: all pairs (i, j) of 1..n, row i and column j, in the order of rows or of columns, as far as they
+-- pass the layout's test. Source: TSPLIB 95 (G. Reinelt), the values of EDGE_WEIGHT_FORMAT.
+use Rattle.std.specs.Prelude.{ℕ, ◌+◌, ◌-◌, ◌*◌, ◌/◌, ◌≤◌, Bool, true, List, map, nat_lt, nat_le, if◌then◌else◌}
+use Rattle.std.specs.List.{filter, flat_map, range_with_len}
+use Rattle.tsp_format.specs.declared.layout.Layout.{Layout}
+use Rattle.tsp_format.specs.declared.layout.Layout.TheVariants.{FullMatrix, UpperRow, LowerRow, UpperDiagRow, LowerDiagRow, UpperCol, LowerCol, UpperDiagCol, LowerDiagCol}
+use Rattle.tsp_format.specs.Layout.{goes_by_columns}
+
+-- the nodes 1, 2, .., n
+unfoldable pub nodes_to : ℕ → List ℕ
+nodes_to n = range_with_len 1 n
+
+abbrev pub IsNode : ℕ → ℕ → Type 0
+IsNode n i = (1 ≤ i) × (i ≤ n)
+
+-- the pairs of row i, and those of column j
+abbrev pub row : ℕ → ℕ → List (ℕ × ℕ)
+row n i = map (λ j. (i, j)) (nodes_to n)
+
+abbrev pub column : ℕ → ℕ → List (ℕ × ℕ)
+column n j = map (λ i. (i, j)) (nodes_to n)
+
+-- all pairs by i, then j; and by j, then i
+abbrev pub pairs_by_rows : ℕ → List (ℕ × ℕ)
+pairs_by_rows n = flat_map (row n) (nodes_to n)
+
+abbrev pub pairs_by_columns : ℕ → List (ℕ × ℕ)
+pairs_by_columns n = flat_map (column n) (nodes_to n)
+
+-- whether the layout lists the pair: all pairs, i < j, i > j, i <= j or i >= j
+abbrev pub is_listed : Layout → ℕ × ℕ → Bool
+is_listed FullMatrix (i, j) = true
+is_listed UpperRow (i, j) = nat_lt i j
+is_listed LowerRow (i, j) = nat_lt j i
+is_listed UpperDiagRow (i, j) = nat_le i j
+is_listed LowerDiagRow (i, j) = nat_le j i
+is_listed UpperCol (i, j) = nat_lt i j
+is_listed LowerCol (i, j) = nat_lt j i
+is_listed UpperDiagCol (i, j) = nat_le i j
+is_listed LowerDiagCol (i, j) = nat_le j i
+
+-- the cells of a matrix over the nodes 1..n
+unfoldable pub cells : Layout → ℕ → List (ℕ × ℕ)
+cells layout n = filter (is_listed layout) (if goes_by_columns layout then pairs_by_columns n else pairs_by_rows n)
+
+-- the cells of row k, or of column k where the layout goes by columns
+unfoldable pub cells_of_line : Layout → ℕ → ℕ → List (ℕ × ℕ)
+cells_of_line layout n k = filter (is_listed layout) (if goes_by_columns layout then column n k else row n k)
+
+-- The tables: how many cells there are, and how many of them line k has, for k in 1..n.
+abbrev pub cell_count_of : Layout → ℕ → ℕ
+cell_count_of FullMatrix n = n * n
+cell_count_of UpperRow n = n * (n - 1) / 2
+cell_count_of LowerRow n = n * (n - 1) / 2
+cell_count_of UpperDiagRow n = n * (n + 1) / 2
+cell_count_of LowerDiagRow n = n * (n + 1) / 2
+cell_count_of UpperCol n = n * (n - 1) / 2
+cell_count_of LowerCol n = n * (n - 1) / 2
+cell_count_of UpperDiagCol n = n * (n + 1) / 2
+cell_count_of LowerDiagCol n = n * (n + 1) / 2
+
+abbrev pub line_len_of : Layout → ℕ → ℕ → ℕ
+line_len_of FullMatrix n k = n
+line_len_of UpperRow n k = n - k
+line_len_of LowerRow n k = k - 1
+line_len_of UpperDiagRow n k = n - k + 1
+line_len_of LowerDiagRow n k = k
+line_len_of UpperCol n k = k - 1
+line_len_of LowerCol n k = n - k
+line_len_of UpperDiagCol n k = k
+line_len_of LowerDiagCol n k = n - k + 1

@@ -1,0 +1,12 @@
+pub mod Bytes
+pub mod Cells
+pub mod Symmetry
+pub mod Keywords
+pub mod Layout
+pub mod Limits
+pub mod Place
+pub mod Words
+pub mod Shapes
+pub mod Space
+pub mod Steps
+pub mod Examples

@@ -1,0 +1,39 @@
+-- Where a pair stands among the cells of a layout.
+use Rattle.std.specs.Prelude.{ℕ, ◌+◌, ◌-◌, ◌*◌, ◌/◌, Bool, ◌&&◌, ◌==◌, Option}
+use Rattle.std.specs.List.{position}
+use Rattle.tsp_format.specs.declared.layout.Layout.{Layout}
+use Rattle.tsp_format.specs.declared.layout.Layout.TheVariants.{FullMatrix, UpperRow, LowerRow, UpperDiagRow, LowerDiagRow, UpperCol, LowerCol, UpperDiagCol, LowerDiagCol}
+use Rattle.tsp_format.specs.Cells.{cells}
+
+-- whether a cell is this pair
+abbrev pub is_pair : ℕ × ℕ → ℕ × ℕ → Bool
+is_pair pair cell = (cell.0 == pair.0) && (cell.1 == pair.1)
+
+-- the place of a pair among the cells, counted from 0, if it is one of them
+unfoldable pub place_of : Layout → ℕ → ℕ × ℕ → Option ℕ
+place_of layout n pair = position (is_pair pair) (cells layout n)
+
+-- The table of places, for the cells (i, j) of a matrix over n nodes: above the diagonal by rows, below it by rows, and both
+-- with the diagonal. A layout by columns has (i, j) where the mirrored layout by rows has (j, i). It is no part of the meaning.
+abbrev pub upper_place : ℕ → ℕ → ℕ → ℕ
+upper_place n i j = (i - 1) * n - i * (i - 1) / 2 + (j - i - 1)
+
+abbrev pub lower_place : ℕ → ℕ → ℕ
+lower_place i j = (i - 1) * (i - 2) / 2 + (j - 1)
+
+abbrev pub upper_diag_place : ℕ → ℕ → ℕ → ℕ
+upper_diag_place n i j = (i - 1) * (n + 1) - i * (i - 1) / 2 + (j - i)
+
+abbrev pub lower_diag_place : ℕ → ℕ → ℕ
+lower_diag_place i j = i * (i - 1) / 2 + (j - 1)
+
+abbrev pub place_by_table : Layout → ℕ → ℕ → ℕ → ℕ
+place_by_table FullMatrix n i j = (i - 1) * n + (j - 1)
+place_by_table UpperRow n i j = upper_place n i j
+place_by_table LowerRow n i j = lower_place i j
+place_by_table UpperDiagRow n i j = upper_diag_place n i j
+place_by_table LowerDiagRow n i j = lower_diag_place i j
+place_by_table UpperCol n i j = lower_place j i
+place_by_table LowerCol n i j = upper_place n j i
+place_by_table UpperDiagCol n i j = lower_diag_place j i
+place_by_table LowerDiagCol n i j = upper_diag_place n j i

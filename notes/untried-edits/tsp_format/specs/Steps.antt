@@ -1,0 +1,42 @@
+-- The steps of a tree of cases, as lists. Trees of cases are this project's own: a branch divides the first open case by a pair
+-- of nodes, and a leaf closes it by numbers.
+use Rattle.std.specs.Prelude.{ℕ, zero, suc, ◌+◌, Bool, true, false, List, [], ◌∷◌, length, map, ℤ}
+use Rattle.tsp_format.specs.declared.steps.TreeStep.{TreeStep}
+use Rattle.tsp_format.specs.declared.steps.TreeStep.TheVariants as listed
+
+pub data Step : Type 0 where
+  -- a pair of nodes
+  Branch : (first second : ℕ) → Step
+  -- each number that changes since the leaf before: its index, and its difference
+  Leaf : (changes : List (ℕ × ℤ)) → Step
+
+abbrev pub step_of : TreeStep → Step
+step_of (listed.Branch first second) = Branch first second
+step_of (listed.Leaf changes) = Leaf changes.items
+
+abbrev pub steps_of : List TreeStep → List Step
+steps_of steps = map step_of steps
+
+-- whether steps are so many whole trees, one after the other: a leaf is a tree, and so is a branch with the two trees after it
+abbrev pub are_whole : ℕ → List Step → Bool
+are_whole zero [] = true
+are_whole zero (step ∷ steps) = false
+are_whole (suc count) [] = false
+are_whole (suc count) (Branch first second ∷ steps) = are_whole (suc (suc count)) steps
+are_whole (suc count) (Leaf changes ∷ steps) = are_whole count steps
+
+-- how many branches there are, and how many differences all leaves have together
+abbrev pub branch_count : List Step → ℕ
+branch_count [] = 0
+branch_count (Branch first second ∷ steps) = suc (branch_count steps)
+branch_count (Leaf changes ∷ steps) = branch_count steps
+
+abbrev pub leaf_count : List Step → ℕ
+leaf_count [] = 0
+leaf_count (Branch first second ∷ steps) = leaf_count steps
+leaf_count (Leaf changes ∷ steps) = suc (leaf_count steps)
+
+abbrev pub change_count : List Step → ℕ
+change_count [] = 0
+change_count (Branch first second ∷ steps) = change_count steps
+change_count (Leaf changes ∷ steps) = length changes + change_count steps

@@ -1,0 +1,201 @@
+-- The words of TSPLIB 95 (G. Reinelt) and of this project's own keywords, and the lists of all values that have one.
+use Rattle.std.specs.Prelude.{◌≡◌, ℕ, List, [], ◌∷◌, Some, refl, codes}
+use Rattle.std.specs.List.{find}
+use Rattle.std.specs.Str.{bytes_eq}
+use Rattle.tsp_format.specs.declared.kinds.Kind.{Kind}
+use Rattle.tsp_format.specs.declared.kinds.Kind.TheVariants as kind
+use Rattle.tsp_format.specs.declared.kinds.WeightKind.{WeightKind}
+use Rattle.tsp_format.specs.declared.kinds.WeightKind.TheVariants as weight_kind
+use Rattle.tsp_format.specs.declared.kinds.WeightFormat.{WeightFormat}
+use Rattle.tsp_format.specs.declared.kinds.WeightFormat.TheVariants as format
+use Rattle.tsp_format.specs.declared.kinds.CoordKind.{CoordKind}
+use Rattle.tsp_format.specs.declared.kinds.CoordKind.TheVariants as coord_kind
+use Rattle.tsp_format.specs.declared.kinds.DisplayKind.{DisplayKind}
+use Rattle.tsp_format.specs.declared.kinds.DisplayKind.TheVariants as display_kind
+use Rattle.tsp_format.specs.declared.layout.Layout.{Layout}
+use Rattle.tsp_format.specs.declared.layout.Layout.TheVariants as layout
+use Rattle.tsp_format.specs.declared.field.Field.{Field}
+use Rattle.tsp_format.specs.declared.field.Field.TheVariants as field
+use Rattle.tsp_format.specs.Layout.{layout_word}
+
+-- ---- words
+
+abbrev pub kind_word : Kind → List ℕ
+kind_word kind.Tsp = codes "TSP"
+kind_word kind.Atsp = codes "ATSP"
+kind_word kind.Cvrp = codes "CVRP"
+kind_word kind.Tour = codes "TOUR"
+kind_word kind.Potentials = codes "POTENTIALS"
+kind_word kind.Branches = codes "BRANCHES"
+
+abbrev pub weight_kind_word : WeightKind → List ℕ
+weight_kind_word weight_kind.Explicit = codes "EXPLICIT"
+weight_kind_word weight_kind.Euc2d = codes "EUC_2D"
+weight_kind_word weight_kind.Ceil2d = codes "CEIL_2D"
+weight_kind_word weight_kind.Man2d = codes "MAN_2D"
+weight_kind_word weight_kind.Max2d = codes "MAX_2D"
+weight_kind_word weight_kind.Att = codes "ATT"
+weight_kind_word weight_kind.Euc3d = codes "EUC_3D"
+weight_kind_word weight_kind.Man3d = codes "MAN_3D"
+weight_kind_word weight_kind.Max3d = codes "MAX_3D"
+
+abbrev pub weight_format_word : WeightFormat → List ℕ
+weight_format_word format.ByFunction = codes "FUNCTION"
+weight_format_word (format.Listed layout) = layout_word layout
+
+abbrev pub coord_kind_word : CoordKind → List ℕ
+coord_kind_word coord_kind.TwoD = codes "TWOD_COORDS"
+coord_kind_word coord_kind.ThreeD = codes "THREED_COORDS"
+coord_kind_word coord_kind.NoCoords = codes "NO_COORDS"
+
+abbrev pub display_kind_word : DisplayKind → List ℕ
+display_kind_word display_kind.Coord = codes "COORD_DISPLAY"
+display_kind_word display_kind.TwoD = codes "TWOD_DISPLAY"
+display_kind_word display_kind.NoDisplay = codes "NO_DISPLAY"
+
+abbrev pub field_word : Field → List ℕ
+field_word field.NameKey = codes "NAME"
+field_word field.TypeKey = codes "TYPE"
+field_word field.CommentKey = codes "COMMENT"
+field_word field.OtherKey = codes "others"
+field_word field.DimensionKey = codes "DIMENSION"
+field_word field.CapacityKey = codes "CAPACITY"
+field_word field.ScaleKey = codes "SCALE"
+field_word field.EdgeWeightTypeKey = codes "EDGE_WEIGHT_TYPE"
+field_word field.EdgeWeightFormatKey = codes "EDGE_WEIGHT_FORMAT"
+field_word field.NodeCoordTypeKey = codes "NODE_COORD_TYPE"
+field_word field.DisplayDataTypeKey = codes "DISPLAY_DATA_TYPE"
+field_word field.NodeCoordPart = codes "NODE_COORD_SECTION"
+field_word field.DisplayDataPart = codes "DISPLAY_DATA_SECTION"
+field_word field.DemandPart = codes "DEMAND_SECTION"
+field_word field.DepotPart = codes "DEPOT_SECTION"
+field_word field.FixedEdgesPart = codes "FIXED_EDGES_SECTION"
+field_word field.EdgeWeightPart = codes "EDGE_WEIGHT_SECTION"
+field_word field.TourPart = codes "TOUR_SECTION"
+field_word field.NodePotentialPart = codes "NODE_POTENTIAL_SECTION"
+field_word field.RowPotentialPart = codes "ROW_POTENTIAL_SECTION"
+field_word field.ColumnPotentialPart = codes "COLUMN_POTENTIAL_SECTION"
+field_word field.FixedEdgePotentialPart = codes "FIXED_EDGE_POTENTIAL_SECTION"
+field_word field.CombPart = codes "COMB_SECTION"
+field_word field.BranchPart = codes "BRANCH_SECTION"
+
+-- ---- all values, each the first with its own word
+
+-- the value is the first of the list with its word
+abbrev pub IsFirstWithWord : {V : Type 0} → (V → List ℕ) → List V → V → Type 0
+IsFirstWithWord text values value = find (λ other. bytes_eq (text value) (text other)) values ≡ Some value
+
+-- the values of TYPE
+abbrev pub kinds : List Kind
+kinds = kind.Tsp ∷ kind.Atsp ∷ kind.Cvrp ∷ kind.Tour ∷ kind.Potentials ∷ kind.Branches ∷ []
+
+pub kind_found : (value : Kind) → IsFirstWithWord kind_word kinds value
+kind_found kind.Tsp = refl
+kind_found kind.Atsp = refl
+kind_found kind.Cvrp = refl
+kind_found kind.Tour = refl
+kind_found kind.Potentials = refl
+kind_found kind.Branches = refl
+
+-- the values of EDGE_WEIGHT_TYPE
+abbrev pub weight_kinds : List WeightKind
+weight_kinds = weight_kind.Explicit ∷ weight_kind.Euc2d ∷ weight_kind.Ceil2d ∷ weight_kind.Man2d ∷ weight_kind.Max2d
+    ∷ weight_kind.Att ∷ weight_kind.Euc3d ∷ weight_kind.Man3d ∷ weight_kind.Max3d ∷ []
+
+pub weight_kind_found : (value : WeightKind) → IsFirstWithWord weight_kind_word weight_kinds value
+weight_kind_found weight_kind.Explicit = refl
+weight_kind_found weight_kind.Euc2d = refl
+weight_kind_found weight_kind.Ceil2d = refl
+weight_kind_found weight_kind.Man2d = refl
+weight_kind_found weight_kind.Max2d = refl
+weight_kind_found weight_kind.Att = refl
+weight_kind_found weight_kind.Euc3d = refl
+weight_kind_found weight_kind.Man3d = refl
+weight_kind_found weight_kind.Max3d = refl
+
+-- the layouts
+abbrev pub layouts : List Layout
+layouts = layout.FullMatrix ∷ layout.UpperRow ∷ layout.LowerRow ∷ layout.UpperDiagRow ∷ layout.LowerDiagRow ∷ layout.UpperCol
+    ∷ layout.LowerCol ∷ layout.UpperDiagCol ∷ layout.LowerDiagCol ∷ []
+
+pub layout_found : (value : Layout) → IsFirstWithWord layout_word layouts value
+layout_found layout.FullMatrix = refl
+layout_found layout.UpperRow = refl
+layout_found layout.LowerRow = refl
+layout_found layout.UpperDiagRow = refl
+layout_found layout.LowerDiagRow = refl
+layout_found layout.UpperCol = refl
+layout_found layout.LowerCol = refl
+layout_found layout.UpperDiagCol = refl
+layout_found layout.LowerDiagCol = refl
+
+-- the values of EDGE_WEIGHT_FORMAT
+abbrev pub weight_formats : List WeightFormat
+weight_formats = format.ByFunction ∷ (format.Listed layout.FullMatrix) ∷ (format.Listed layout.UpperRow)
+    ∷ (format.Listed layout.LowerRow) ∷ (format.Listed layout.UpperDiagRow) ∷ (format.Listed layout.LowerDiagRow)
+    ∷ (format.Listed layout.UpperCol) ∷ (format.Listed layout.LowerCol) ∷ (format.Listed layout.UpperDiagCol)
+    ∷ (format.Listed layout.LowerDiagCol) ∷ []
+
+pub weight_format_found : (value : WeightFormat) → IsFirstWithWord weight_format_word weight_formats value
+weight_format_found format.ByFunction = refl
+weight_format_found (format.Listed layout.FullMatrix) = refl
+weight_format_found (format.Listed layout.UpperRow) = refl
+weight_format_found (format.Listed layout.LowerRow) = refl
+weight_format_found (format.Listed layout.UpperDiagRow) = refl
+weight_format_found (format.Listed layout.LowerDiagRow) = refl
+weight_format_found (format.Listed layout.UpperCol) = refl
+weight_format_found (format.Listed layout.LowerCol) = refl
+weight_format_found (format.Listed layout.UpperDiagCol) = refl
+weight_format_found (format.Listed layout.LowerDiagCol) = refl
+
+-- the values of NODE_COORD_TYPE
+abbrev pub coord_kinds : List CoordKind
+coord_kinds = coord_kind.TwoD ∷ coord_kind.ThreeD ∷ coord_kind.NoCoords ∷ []
+
+pub coord_kind_found : (value : CoordKind) → IsFirstWithWord coord_kind_word coord_kinds value
+coord_kind_found coord_kind.TwoD = refl
+coord_kind_found coord_kind.ThreeD = refl
+coord_kind_found coord_kind.NoCoords = refl
+
+-- the values of DISPLAY_DATA_TYPE
+abbrev pub display_kinds : List DisplayKind
+display_kinds = display_kind.Coord ∷ display_kind.TwoD ∷ display_kind.NoDisplay ∷ []
+
+pub display_kind_found : (value : DisplayKind) → IsFirstWithWord display_kind_word display_kinds value
+display_kind_found display_kind.Coord = refl
+display_kind_found display_kind.TwoD = refl
+display_kind_found display_kind.NoDisplay = refl
+
+-- the fields in canonical order
+abbrev pub fields_in_order : List Field
+fields_in_order = field.NameKey ∷ field.TypeKey ∷ field.CommentKey ∷ field.OtherKey ∷ field.DimensionKey ∷ field.CapacityKey
+    ∷ field.ScaleKey ∷ field.EdgeWeightTypeKey ∷ field.EdgeWeightFormatKey ∷ field.NodeCoordTypeKey ∷ field.DisplayDataTypeKey
+    ∷ field.NodeCoordPart ∷ field.DisplayDataPart ∷ field.DemandPart ∷ field.DepotPart ∷ field.FixedEdgesPart
+    ∷ field.EdgeWeightPart ∷ field.TourPart ∷ field.NodePotentialPart ∷ field.RowPotentialPart ∷ field.ColumnPotentialPart
+    ∷ field.FixedEdgePotentialPart ∷ field.CombPart ∷ field.BranchPart ∷ []
+
+pub field_found : (value : Field) → IsFirstWithWord field_word fields_in_order value
+field_found field.NameKey = refl
+field_found field.TypeKey = refl
+field_found field.CommentKey = refl
+field_found field.OtherKey = refl
+field_found field.DimensionKey = refl
+field_found field.CapacityKey = refl
+field_found field.ScaleKey = refl
+field_found field.EdgeWeightTypeKey = refl
+field_found field.EdgeWeightFormatKey = refl
+field_found field.NodeCoordTypeKey = refl
+field_found field.DisplayDataTypeKey = refl
+field_found field.NodeCoordPart = refl
+field_found field.DisplayDataPart = refl
+field_found field.DemandPart = refl
+field_found field.DepotPart = refl
+field_found field.FixedEdgesPart = refl
+field_found field.EdgeWeightPart = refl
+field_found field.TourPart = refl
+field_found field.NodePotentialPart = refl
+field_found field.RowPotentialPart = refl
+field_found field.ColumnPotentialPart = refl
+field_found field.FixedEdgePotentialPart = refl
+field_found field.CombPart = refl
+field_found field.BranchPart = refl

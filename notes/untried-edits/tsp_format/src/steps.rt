@@ -1,0 +1,12 @@
+//! The steps of a tree of cases.
+
+/// A step of a tree of cases, which are told one after the other, the first open one first.
+#[derive(Debug, Drop)]
+pub enum TreeStep {
+    /// Divides a case by a pair of nodes: what follows is the tree of the cycles that use it, and
+    /// then that of the cycles that don't.
+    Branch(u32, u32),
+    /// Closes a case by numbers, told by their differences to those of the leaf before, 0 before
+    /// the first: index 1 to n is a node's potential, n + k the multiplier of comb k.
+    Leaf(Vec<(u32, i64)>),
+}

@@ -1,0 +1,26 @@
+use Rattle.std.proofs.Common.{◌≡◌, Err, refl}
+use Rattle.std.proofs.KnownBytes.{Keeps-refl}
+use Rattle.tsp_stream.specs.Turn.{turn_of}
+use Rattle.tsp_stream.specs.Sink.{sink_of}
+use Rattle.tsp_judge.proofs.HandedOn.{handed_on}
+use Rattle.tsp_judge.proofs.Converts.{converted, convert_stopped, convert_stops}
+use Rattle.tsp_judge.proofs.convert.run_convert.Goals as goal
+
+pub returns-in_err-file : goal.returns-in_err-file
+returns-in_err-file g c =
+    let same : c.from_residual.result ≡ Err c.in_err-file.field-0.0 = handed_on _ _ c.from_residual.ensures.1 in
+    let read = c.in_err-file.ensures in rw same (read.0, read.1, convert_stops c.args.to (turn_of g.R.Read.remaining c.args.r.now c.read_file.new.reader read.0) _ _ read.2 (Keeps-refl _, refl))
+
+pub returns-in-Err : goal.returns-in-Err
+returns-in-Err g c = let read = c.in_ok-file.ensures in
+    (read.0, read.1, (c.in_ok-file.file, read.2, c.in-Err.ensures, (Keeps-refl _, refl)))
+
+pub returns-in-Err-written : goal.returns-in-Err-written
+returns-in-Err-written g c = let read = c.in_ok-file.ensures in
+    let turn = turn_of g.R.Read.remaining c.args.r.now c.read_file.new.reader read.0 in (
+      read.0,
+      read.1,
+      convert_stopped c.args.to turn (sink_of g.W.Write.contents c.args.out.now c.write_file-written.new.out) c.in-Ok.converted c.in-Err-written.fault
+          (converted c.args.to turn c.in_ok-file.file c.in-Ok.converted read.2 c.in-Ok.ensures c.fields-valid.ensures.valid)
+          c.in-Err-written.ensures,
+    )

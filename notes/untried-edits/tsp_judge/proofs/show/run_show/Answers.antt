@@ -1,0 +1,23 @@
+use Rattle.std.proofs.Common.{◌≡◌, Err, refl}
+use Rattle.std.proofs.KnownBytes.{Keeps-refl}
+use Rattle.tsp_stream.specs.Turn.{turn_of}
+use Rattle.tsp_stream.specs.Sink.{sink_of}
+use Rattle.tsp_judge.proofs.HandedOn.{handed_on}
+use Rattle.tsp_judge.proofs.Shows.{show_stopped, show_stops}
+use Rattle.tsp_judge.proofs.show.run_show.Goals as goal
+
+pub returns-in_err-file : goal.returns-in_err-file
+returns-in_err-file g c =
+    let same : c.from_residual.result ≡ Err c.in_err-file.field-0.0 = handed_on _ _ c.from_residual.ensures.1 in
+    let read = c.in_err-file.ensures in rw same (read.0, read.1, show_stops (turn_of g.R.Read.remaining c.args.r.now c.read_file.new.reader read.0) _ _ read.2 (Keeps-refl _, refl))
+
+pub returns-in-Err : goal.returns-in-Err
+returns-in-Err g c = let read = c.in_ok-file.ensures in (
+  read.0,
+  read.1,
+  show_stopped (turn_of g.R.Read.remaining c.args.r.now c.read_file.new.reader read.0) (sink_of g.W.Write.contents c.args.out.now c.write_shown.new.out)
+      c.in_ok-file.file c.in-Err.fault read.2 c.in-Err.ensures,
+)
+
+pub returns-in-Ok : goal.returns-in-Ok
+returns-in-Ok g c = let read = c.in_ok-file.ensures in (read.0, read.1, (c.in_ok-file.file, read.2, c.in-Ok.ensures))

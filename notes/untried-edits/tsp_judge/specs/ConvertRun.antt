@@ -1,0 +1,42 @@
+-- What converting a file does to its reader and its writer, and what it answers.
+use Rattle.std.specs.Prelude.{◌≡◌, Option, None, Some, Result, Ok, Err}
+use Rattle.tsp_format.specs.declared.layout.Layout.{Layout}
+use Rattle.tsp_stream.specs.declared.output.WriteFault.TheVariants as write_faults
+use Rattle.tsp_stream.specs.Turn.{Turn}
+use Rattle.tsp_stream.specs.Sink.{Sink, IsUnwritten, HasWritten, HasStopped}
+use Rattle.tsp_file.specs.declared.fault.RelayoutFault.{RelayoutFault}
+use Rattle.tsp_draft.specs.Fields.{Fields}
+use Rattle.tsp_draft.specs.Rules.{fault_of}
+use Rattle.tsp_file.specs.Relayout.{IsRelaid, IsRefused}
+use Rattle.tsp_file.specs.Text.{text_of}
+use Rattle.tsp_read.specs.Reads.{IsFile, StopsAt}
+use Rattle.tsp_judge.specs.declared.fault.RunFault.{RunFault}
+use Rattle.tsp_judge.specs.declared.fault.RunFault.TheVariants.{File, WrongKind, Write, OutOfMemory, Relayout}
+
+-- What becomes of a file: it goes into the layout that is wanted, or not, for a reason. Where none is wanted it stays as it is.
+abbrev pub Becomes : Option Layout → Fields → Result Fields RelayoutFault → Type 0
+Becomes None old (Ok new) = new ≡ old
+Becomes None old (Err fault) = ⊥
+Becomes (Some to) old (Ok new) = IsRelaid old to new
+Becomes (Some to) old (Err fault) = IsRefused old to fault
+
+-- the reader's bytes spell a file that becomes this one, and this one is valid
+pub record IsConverted (to : Option Layout) (turn : Turn) (new : Fields) : Type 0 where
+  pub old : Fields
+  pub whole : IsFile turn old
+  pub becomes : Becomes to old (Ok new)
+  pub valid : fault_of new ≡ None
+
+-- What converting answers. At Ok the canonical text of what the file becomes was written. Where the reader gives no file, or
+-- the file can't go into the layout, nothing is written. Want of memory is that of the reading or of the change of the
+-- layout; writing takes none. Where the writer fails a front of the text was written.
+abbrev pub IsConvertRun : Option Layout → Turn → Sink → Result (Unit {0}) RunFault → Type 0
+IsConvertRun to turn sink (Ok done) = (new : Fields) × IsConverted to turn new × HasWritten sink (text_of new)
+IsConvertRun to turn sink (Err (File place fault)) = (place ≡ 1) × StopsAt fault turn × IsUnwritten sink
+IsConvertRun to turn sink (Err WrongKind) = ⊥
+IsConvertRun to turn sink (Err OutOfMemory) = ⊥
+IsConvertRun to turn sink (Err (Relayout fault)) =
+    (old : Fields) × IsFile turn old × Becomes to old (Err fault) × IsUnwritten sink
+IsConvertRun to turn sink (Err (Write write_faults.OutOfMemory)) = ⊥
+IsConvertRun to turn sink (Err (Write write_faults.Device)) =
+    (new : Fields) × IsConverted to turn new × HasStopped sink (text_of new)

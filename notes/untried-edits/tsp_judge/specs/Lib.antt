@@ -1,0 +1,13 @@
+pub use Rattle.tsp_read.specs.Reads
+pub use Rattle.tsp_stream.specs.Sink
+pub use Rattle.tsp_stream.specs.Turn
+pub use Rattle.tsp_stream.specs.Watched
+pub use Rattle.tsp_format.specs.Layout
+pub mod BoundRun
+pub mod ConvertRun
+pub mod FaultText
+pub mod Judged
+pub mod Run
+pub mod ShowRun
+pub mod Status
+pub mod Yes

@@ -1,0 +1,29 @@
+-- The exit status of a check, a conversion or what is shown.
+use Rattle.std.specs.Prelude.{ℕ, Bool, true, false, Result, Ok, Err}
+use Rattle.tsp_read.specs.declared.ReadFault.TheVariants as read_faults
+use Rattle.tsp_stream.specs.declared.output.WriteFault.TheVariants as write_faults
+use Rattle.tsp_file.specs.declared.fault.RelayoutFault.TheVariants as relayout_faults
+use Rattle.tsp_judge.specs.declared.fault.RunFault.{RunFault}
+use Rattle.tsp_judge.specs.declared.fault.RunFault.TheVariants.{File, Write, WrongKind, Relayout}
+use Rattle.tsp_judge.specs.declared.fault.RunFault.TheVariants as run_faults
+
+-- 1 is a file whose weights can't go into the layout, 2 a file with a fault, or of the wrong kind, 3 out of memory, and 5 a
+-- device's failure
+abbrev pub status_of_fault : RunFault → ℕ
+status_of_fault (File file (read_faults.Line line word fault)) = 2
+status_of_fault (File file (read_faults.End fault)) = 2
+status_of_fault (File file read_faults.TooLong) = 2
+status_of_fault (File file read_faults.OutOfMemory) = 3
+status_of_fault (File file read_faults.Device) = 5
+status_of_fault WrongKind = 2
+status_of_fault run_faults.OutOfMemory = 3
+status_of_fault (Write write_faults.OutOfMemory) = 3
+status_of_fault (Write write_faults.Device) = 5
+status_of_fault (Relayout relayout_faults.OutOfMemory) = 3
+status_of_fault (Relayout fault) = 1
+
+-- 0 is a yes, or done, and 1 a no
+abbrev pub status_of : Result Bool RunFault → ℕ
+status_of (Ok true) = 0
+status_of (Ok false) = 1
+status_of (Err fault) = status_of_fault fault

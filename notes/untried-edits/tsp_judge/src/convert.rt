@@ -1,0 +1,63 @@
+//! Converting a file, from the bytes that come in to those that go out.
+
+ghost use Rattle.tsp_stream.specs.Sink.{sink_of};
+ghost use Rattle.tsp_stream.specs.Turn.{turn_of, TakesAtMost};
+ghost use Rattle.tsp_read.specs.Reads.{most_taken};
+ghost use Rattle.tsp_judge.specs.ConvertRun.{Becomes, IsConvertRun};
+
+use crate::fault::RunFault;
+use crate::file::read_file;
+use std::alloc::Global;
+use std::io::{Read, Write};
+use tsp_file::{File, RelayoutFault, write_file};
+use tsp_format::Layout;
+use tsp_stream::Watched;
+
+/// Writes the canonical text of a file, with its weights in the layout `to` where one is given.
+///
+/// The file is read whole, and the weights are in their layout, before anything is written. The
+/// text isn't held in memory as a whole.
+///
+/// # Errors
+///
+/// `File` where the bytes are no file, or can't be read; `Relayout` where the weights can't
+/// go into the layout, or there is no memory for that; `Write` where the writer fails.
+/// `OutOfMemory` is never answered. At most 4,096 bytes past `MOST_FILE_BYTES` are read.
+pub fn run_convert<R: Read, W: Write>(
+    alloc: Global,
+    r: &mut Watched<R>,
+    to: Option<Layout>,
+    out: &mut Watched<W>,
+) -> Result<(), RunFault>
+    ensures { TakesAtMost most_taken (turn_of R.remaining r.old r.new) (λ turn.
+        IsConvertRun to turn (sink_of W.contents out.old out.new) result) }
+{
+    let file = read_file(alloc, 1, r)?;
+    let converted = match in_layout(alloc, file, to) {
+        Err(fault) => return Err(RunFault::Relayout(fault)),
+        Ok(converted) => converted,
+    };
+    let _valid = converted.fields();
+    let written = write_file(alloc, &converted, out);
+    drop(converted);
+    match written {
+        Err(fault) => Err(RunFault::Write(fault)),
+        Ok(()) => Ok(()),
+    }
+}
+
+/// The file with its weights in a layout, or as it is where none is given.
+fn in_layout(alloc: Global, file: File, to: Option<Layout>) -> Result<File, RelayoutFault>
+    ensures { Becomes to file result }
+{
+    let Some(to) = to else {
+        return Ok(file);
+    };
+    match file.relayout(alloc, to) {
+        Err((fault, file)) => {
+            drop(file);
+            Err(fault)
+        }
+        Ok(relaid) => Ok(relaid),
+    }
+}

@@ -1,0 +1,34 @@
+//! Reading a file of a run.
+
+ghost use Rattle.tsp_stream.specs.Turn.{turn_of, TakesAtMost};
+ghost use Rattle.tsp_read.specs.Reads.{most_taken};
+ghost use Rattle.tsp_judge.specs.Run.{ReadsFile};
+
+use crate::fault::RunFault;
+use std::alloc::Global;
+use std::io::Read;
+use tsp_file::File;
+use tsp_read::read_from;
+use tsp_stream::Watched;
+
+/// Reads the file with this number, counted from 1, of those that a run is given.
+///
+/// # Errors
+///
+/// `File` with this number, where the file is none, or can't be read.
+pub(crate) fn read_file<R: Read>(
+    alloc: Global,
+    number: u32,
+    reader: &mut Watched<R>,
+) -> Result<File, RunFault>
+    ensures { TakesAtMost most_taken (turn_of R.remaining reader.old reader.new) (λ turn.
+        ReadsFile number turn result) }
+{
+    match read_from(alloc, reader) {
+        Ok(file) => Ok(file),
+        Err(fault) => Err(RunFault::File {
+            file: number,
+            fault,
+        }),
+    }
+}

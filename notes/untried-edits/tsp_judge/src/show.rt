@@ -1,0 +1,39 @@
+//! Showing a file, from the bytes that come in to those that go out.
+
+ghost use Rattle.tsp_stream.specs.Sink.{sink_of};
+ghost use Rattle.tsp_stream.specs.Turn.{turn_of, TakesAtMost};
+ghost use Rattle.tsp_read.specs.Reads.{most_taken};
+ghost use Rattle.tsp_judge.specs.ShowRun.{IsShowRun};
+
+use crate::fault::RunFault;
+use crate::file::read_file;
+use std::alloc::Global;
+use std::io::{Read, Write};
+use tsp_report::write_shown;
+use tsp_stream::Watched;
+
+/// Writes what a file is: its name, its TYPE and number of nodes, of an instance the weight type,
+/// the length of the list 1, 2, .., n and the number of fixed pairs, of tours how many nodes each
+/// has, of potentials their scale, of a tree of cases its scale and how many combs and leaves it has,
+/// and the unknown keywords.
+///
+/// The file is read whole before anything is written, and writing takes no memory.
+///
+/// # Errors
+///
+/// `File` where the bytes are no file, or can't be read; `Write` where the writer fails. At
+/// most 4,096 bytes past `MOST_FILE_BYTES` are read.
+pub fn run_show<R: Read, W: Write>(
+    alloc: Global,
+    r: &mut Watched<R>,
+    out: &mut Watched<W>,
+) -> Result<(), RunFault>
+    ensures { TakesAtMost most_taken (turn_of R.remaining r.old r.new) (λ turn.
+        IsShowRun turn (sink_of W.contents out.old out.new) result) }
+{
+    let file = read_file(alloc, 1, r)?;
+    match write_shown(file, out) {
+        Err(fault) => Err(RunFault::Write(fault)),
+        Ok(()) => Ok(()),
+    }
+}

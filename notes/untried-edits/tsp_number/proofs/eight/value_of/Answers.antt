@@ -1,0 +1,5 @@
+use Rattle.tsp_number.proofs.EightDigits.{eight_read}
+use Rattle.tsp_number.proofs.eight.value_of.Goals as goal
+
+pub returns : goal.returns
+returns c = eight_read c.args.digits c.ranges.digits.fits c.requires

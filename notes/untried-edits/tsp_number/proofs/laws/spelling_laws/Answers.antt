@@ -1,0 +1,8 @@
+use Rattle.tsp_number.proofs.Spelled.{stands_for, round_trip}
+use Rattle.tsp_number.proofs.laws.spelling_laws.Goals as goal
+
+pub returns-clause-stands : goal.returns-clause-stands
+returns-clause-stands c = stands_for
+
+pub returns-clause-round_trip : goal.returns-clause-round_trip
+returns-clause-round_trip c = round_trip

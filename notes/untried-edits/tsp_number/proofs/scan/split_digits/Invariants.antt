@@ -1,0 +1,9 @@
+use Rattle.std.proofs.Common.{length, ◌-◌}
+use Rattle.tsp_number.proofs.Scanning.{HasRead}
+use Rattle.tsp_number.proofs.scan.split_digits.Given as goal
+
+abbrev pub invariant-loop-end : goal.invariant-loop-end
+invariant-loop-end l = HasRead l.bytes l.fn.before l.end l.value
+
+abbrev pub decreases-loop-end : goal.decreases-loop-end
+decreases-loop-end l = length l.bytes - l.end

@@ -1,0 +1,8 @@
+use Rattle.tsp_number.proofs.FrontNumbers.{decimal_word}
+use Rattle.tsp_number.proofs.WordLaws.{decimal_once, decimal_of-reads}
+use Rattle.tsp_number.proofs.word.parse_decimal.Goals as goal
+
+pub returns : goal.returns
+returns c =
+    let reads = decimal_word _ _ _ c.in-Some.ensures.number c.if-end-word.true c.in-Some.ensures.size in
+    record { reads = reads; computed = decimal_once _ _ _ reads (decimal_of-reads c.args.word.now) }

@@ -1,0 +1,52 @@
+-- Number words at the front of some bytes.
+use Rattle.std.specs.Prelude.{ℕ, ◌≤◌, ◌+◌, ◌==◌, ◌||◌, ◌&&◌, cond, nat_le, nat_lt, min, List, [], ◌∷◌, length, take, drop, slice_index, Option, None, Some, ℤ}
+use Rattle.std.specs.Char.{is_ascii_digit}
+use Rattle.std.specs.List.{prefix_len}
+use Rattle.tsp_number.specs.NumberWord.{IsShort, StandsFor}
+
+-- the first `count` bytes are a number word, and it stands for k counts of 10^-9
+pub record BeginsWithNumber (bytes : List ℕ) (count : ℕ) (k : ℤ) : Type 0 where
+  pub within : count ≤ length bytes
+  pub short : IsShort (take count bytes)
+  pub stands : StandsFor (take count bytes) k
+
+-- ---- how far such a number goes
+
+-- how many bytes the sign at the front has: `-`, `+`, or none
+abbrev pub sign_count : List ℕ → ℕ
+sign_count [] = 0
+sign_count (byte ∷ bytes) = cond ((byte == 45) || (byte == 43)) 1 0
+
+-- how many digits stand at the front, of at most so many
+abbrev pub digit_count : ℕ → List ℕ → ℕ
+digit_count most bytes = min most (prefix_len is_ascii_digit bytes)
+
+-- how many bytes a sign and digits have; without a digit there is no number
+abbrev pub end_of_digits : ℕ → ℕ → Option ℕ
+end_of_digits sign digits = cond (digits == 0) None (Some (sign + digits))
+
+-- where the whole number at the front ends, of at most 18 digits
+abbrev pub whole_end : List ℕ → Option ℕ
+whole_end bytes = end_of_digits (sign_count bytes) (digit_count 18 (drop (sign_count bytes) bytes))
+
+-- where the few digits at the front end: one to seven of them, among eight bytes at least
+abbrev pub end_of_few : ℕ → ℕ → Option ℕ
+end_of_few size digits = cond (nat_le 8 size && nat_lt 0 digits && nat_lt digits 8) (Some digits) None
+
+abbrev pub few_end : List ℕ → Option ℕ
+few_end bytes = end_of_few (length bytes) (prefix_len is_ascii_digit bytes)
+
+-- after `point` bytes, of which `whole` are digits, a point follows, and then at most nine digits
+abbrev pub end_of_places : List ℕ → ℕ → ℕ → Option ℕ
+end_of_places bytes point whole =
+    let places = digit_count 9 (drop (point + 1) bytes) in
+    cond ((whole == 0) && (places == 0)) None (Some (point + 1 + places))
+
+-- the same, where a point may follow
+abbrev pub end_with_point : List ℕ → ℕ → ℕ → Option ℕ
+end_with_point bytes sign whole = cond (nat_lt (sign + whole) (length bytes) && (slice_index bytes (sign + whole) == 46))
+    (end_of_places bytes (sign + whole) whole) (end_of_digits sign whole)
+
+-- where the decimal at the front ends, of at most nine digits before its point and nine after it
+abbrev pub decimal_end : List ℕ → Option ℕ
+decimal_end bytes = end_with_point bytes (sign_count bytes) (digit_count 9 (drop (sign_count bytes) bytes))

@@ -1,0 +1,16 @@
+use Rattle.std.proofs.Common.{sym, ◌∙◌}
+use Rattle.std.proofs.lemmas.Bool.{false≢true}
+use Rattle.tsp_read.proofs.LastSteps.{whole_answer, open_not_bare}
+use Rattle.tsp_read.proofs.feed.Feed.finish.Goals as goal
+
+pub returns-clause-read : goal.returns-clause-read
+returns-clause-read c = λ bytes h. whole_answer bytes c.in_ok-reading.reading c.completed.result (c.in_ok-reading.ensures.ends bytes h) c.completed.ensures.file
+
+pub returns-clause-memory : goal.returns-clause-memory
+returns-clause-memory c = λ bytes h wants. open_not_bare bytes c.in_ok-reading.reading (c.in_ok-reading.ensures.ends bytes h) (c.completed.ensures.stood wants)
+
+pub returns-clause-ended : goal.returns-clause-ended
+returns-clause-ended c = λ bytes h none ended wants. false≢true (sym (c.in_ok-reading.ensures.ended bytes h none ended) ∙ c.completed.ensures.stood wants)
+
+pub returns-in_err-reading-clause-ended : goal.returns-in_err-reading-clause-ended
+returns-in_err-reading-clause-ended c = λ bytes h none ended. absurd (c.in_err-reading.ensures.ended bytes h none ended)

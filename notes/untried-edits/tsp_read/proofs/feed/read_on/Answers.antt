@@ -1,0 +1,44 @@
+use Rattle.std.proofs.Common.{◌≡◌, Err, sym, ◌∙◌}
+use Rattle.tsp_read.proofs.BegunSteps.{empty_rest, filled_rest}
+use Rattle.tsp_read.proofs.PausedSteps.{paused_joined, joined_read, paused_kept, to_the_end, to_a_place, of_some}
+use Rattle.tsp_read.proofs.HandedOn.{handed_on}
+use Rattle.tsp_read.proofs.feed.read_on.Goals as goal
+
+pub returns-in_err-rest-clause-read : goal.returns-in_err-rest-clause-read
+returns-in_err-rest-clause-read c = λ bytes h.
+    let same : c.from_residual.result ≡ Err c.in_err-rest.field-0.0 = handed_on _ _ c.from_residual.ensures.1 in
+    rw same (c.in_err-rest.ensures.joined bytes h)
+
+pub returns-in_default-clause-read : goal.returns-in_default-clause-read
+returns-in_default-clause-read c = λ bytes h. to_the_end bytes c.join.new.intake.reading _ c.in_ok-rest.field-0 c.in_default.is (c.in_ok-rest.ensures.joined bytes h)
+
+pub returns-then-is_empty-clause-read : goal.returns-then-is_empty-clause-read
+returns-then-is_empty-clause-read c = λ bytes h.
+    paused_joined c.join.new.intake c.join.new.self bytes c.in-Some.rest.now
+    (to_a_place bytes c.join.new.intake.reading _ c.in_ok-rest.field-0 c.in-Some.rest c.in-Some.is (c.in_ok-rest.ensures.joined bytes h))
+    (empty_rest c.in-Some.rest.now (sym c.is_empty.ensures ∙ c.if-is_empty.true))
+
+pub returns-in-Err-clause-read : goal.returns-in-Err-clause-read
+returns-in-Err-clause-read c = λ bytes h.
+    c.in-Err.ensures.items bytes
+    (joined_read c.join.new.intake c.join.new.self bytes c.in-Some.rest.now
+    (to_a_place bytes c.join.new.intake.reading _ c.in_ok-rest.field-0 c.in-Some.rest c.in-Some.is (c.in_ok-rest.ensures.joined bytes h))
+    (filled_rest c.in-Some.rest.now (sym c.is_empty.ensures ∙ c.if-is_empty.false)))
+
+pub returns-in-Ok-None-clause-read : goal.returns-in-Ok-None-clause-read
+returns-in-Ok-None-clause-read c = λ bytes h.
+    to_the_end bytes c.take_items.new.self.reading _ c.in-Ok-None.field-0 c.in-Ok-None.field-0-is
+    (c.in-Ok-None.ensures.items bytes
+    (joined_read c.join.new.intake c.join.new.self bytes c.in-Some.rest.now
+    (to_a_place bytes c.join.new.intake.reading _ c.in_ok-rest.field-0 c.in-Some.rest c.in-Some.is (c.in_ok-rest.ensures.joined bytes h))
+    (filled_rest c.in-Some.rest.now (sym c.is_empty.ensures ∙ c.if-is_empty.false))))
+
+pub returns-in-Ok-Some-clause-read : goal.returns-in-Ok-Some-clause-read
+returns-in-Ok-Some-clause-read c = λ bytes h.
+    paused_kept c.take_items.new.self c.keep.new.self bytes c.in-Ok-Some.left.now
+    (to_a_place bytes c.take_items.new.self.reading _ c.in-Ok-Some.field-0 c.in-Ok-Some.left c.in-Ok-Some.field-0-is
+    (c.in-Ok-Some.ensures.items bytes
+    (joined_read c.join.new.intake c.join.new.self bytes c.in-Some.rest.now
+    (to_a_place bytes c.join.new.intake.reading _ c.in_ok-rest.field-0 c.in-Some.rest c.in-Some.is (c.in_ok-rest.ensures.joined bytes h))
+    (filled_rest c.in-Some.rest.now (sym c.is_empty.ensures ∙ c.if-is_empty.false)))))
+    (of_some _ c.in-Ok-Some.field-0 c.in-Ok-Some.left c.in-Ok-Some.field-0-is c.in-Ok-Some.ensures.left) c.keep.ensures.begins c.keep.ensures.kept

@@ -1,0 +1,16 @@
+use Rattle.std.proofs.Common.{◌≡◌, ◌+◌, ◌-◌, ◌≤◌, false}
+use Rattle.tsp_format.specs.Limits.{most_file_bytes}
+use Rattle.tsp_stream.specs.Watched.{watched, has_failed}
+use Rattle.tsp_read.specs.Reads.{most_taken}
+use Rattle.tsp_read.proofs.PieceSteps.{Gathered}
+use Rattle.tsp_read.proofs.input.feed_all.Given as goal
+
+abbrev pub invariant-pieces : goal.invariant-pieces
+invariant-pieces g l = record {
+  gathered : Gathered (g.R.Read.remaining (watched l.initial.reader)) (g.R.Read.remaining (watched l.reader)) l.feed l.taken;
+  sound : has_failed l.reader ≡ false;
+  few : l.taken ≤ most_taken;
+}
+
+abbrev pub decreases-pieces : goal.decreases-pieces
+decreases-pieces g l = most_file_bytes + 1 - l.taken

@@ -1,0 +1,13 @@
+use Rattle.std.proofs.Common.{ℕ, ◌+◌, ◌≤◌, List, length}
+use Rattle.tsp_read.specs.states.Intake.{IsReadTo}
+use Rattle.tsp_read.proofs.intake.Intake.take_items.Given as goal
+
+abbrev pub invariant-items : goal.invariant-items
+invariant-items l = record {
+  read : (bytes : List ℕ) → IsReadTo l.fn.self bytes l.piece → IsReadTo l.self bytes l.rest;
+  line : l.self.line + length l.rest ≤ l.fn.self.line + length l.piece;
+  words : l.self.words + length l.rest ≤ l.fn.self.words + length l.piece;
+}
+
+abbrev pub decreases-items : goal.decreases-items
+decreases-items l = length l.rest

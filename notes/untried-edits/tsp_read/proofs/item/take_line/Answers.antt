@@ -1,0 +1,9 @@
+use Rattle.tsp_text.specs.Items.{line_item}
+use Rattle.tsp_section.specs.states.CutLine.{seen, cut_item}
+use Rattle.tsp_read.proofs.ReadSteps.{takes_ok}
+use Rattle.tsp_read.proofs.item.take_line.Goals as goal
+
+pub returns : goal.returns
+returns c = λ earlier h.
+    takes_ok earlier (cut_item c.of-line.result) (line_item c.args.text.now) c.line.new.self c.is_end.result c.of-line.ensures
+    (c.in_ok-line.ensures earlier h) (c.is_end.ensures (seen c.of-line.result))

@@ -1,0 +1,9 @@
+use Rattle.std.proofs.Common.{length}
+use Rattle.tsp_read.specs.states.Run.{RunsTo}
+use Rattle.tsp_read.proofs.run.take_all.Given as goal
+
+abbrev pub invariant-run : goal.invariant-run
+invariant-run g l = RunsTo (g.L.RunList.part l.fn.list) l.fn.count l.text (g.L.RunList.part l.list) l.counted l.rest
+
+abbrev pub decreases-run : goal.decreases-run
+decreases-run g l = length l.rest

@@ -1,0 +1,30 @@
+use Rattle.std.proofs.Common.{refl}
+use Rattle.tsp_format.specs.Steps.{steps_of}
+use Rattle.tsp_draft.specs.Fields.{combs_of, fields_of}
+use Rattle.tsp_read.proofs.SectionSteps as steps
+use Rattle.tsp_read.proofs.state.store.store.Goals as goal
+
+pub returns-in-Numbers-clause-stored : goal.returns-in-Numbers-clause-stored
+returns-in-Numbers-clause-stored c =
+    steps.numbers_stored c.args.section c.in-Numbers.part c.finish-numbers.result.0.items c.finish-numbers.result.1 (fields_of c.args.draft.now)
+    (fields_of c.set_numbers.new.self) c.in-Numbers.is c.set_numbers.ensures c.finish-numbers.ensures
+
+pub returns-in-Pairs-clause-stored : goal.returns-in-Pairs-clause-stored
+returns-in-Pairs-clause-stored c =
+    steps.pairs_stored c.args.section c.in-Pairs.part c.finish-pairs.result.0.items c.finish-pairs.result.1 (fields_of c.args.draft.now) _
+    c.in-Pairs.is refl c.finish-pairs.ensures
+
+pub returns-in-Triples-clause-stored : goal.returns-in-Triples-clause-stored
+returns-in-Triples-clause-stored c =
+    steps.triples_stored c.args.section c.in-Triples.part c.finish-triples.result.0.items c.finish-triples.result.1 (fields_of c.args.draft.now) _
+    c.in-Triples.is refl c.finish-triples.ensures
+
+pub returns-in-Combs-clause-stored : goal.returns-in-Combs-clause-stored
+returns-in-Combs-clause-stored c =
+    steps.combs_stored c.args.section c.in-Combs.part (combs_of c.finish-combs.result.0.items) c.finish-combs.result.1 (fields_of c.args.draft.now) _
+    c.in-Combs.is refl c.finish-combs.ensures
+
+pub returns-in-Steps-clause-stored : goal.returns-in-Steps-clause-stored
+returns-in-Steps-clause-stored c =
+    steps.steps_stored c.args.section c.in-Steps.part (steps_of c.finish-steps.result.0.items) c.finish-steps.result.1 (fields_of c.args.draft.now) _
+    c.in-Steps.is refl c.finish-steps.ensures

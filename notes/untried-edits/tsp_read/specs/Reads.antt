@@ -1,0 +1,55 @@
+-- What reading answers for a whole text.
+use Rattle.std.specs.Prelude.{◌≡◌, ℕ, ◌+◌, List, Some, Result, Ok, Err}
+use Rattle.tsp_format.specs.Limits.{most_file_bytes}
+use Rattle.tsp_stream.specs.Turn.{Turn, Gave, IsSound, GaveAll, HasBrokenOff, TakesAtMost}
+use Rattle.tsp_draft.specs.Fields.{Fields}
+use Rattle.tsp_text.specs.declared.fault.ReadFault.{ReadFault}
+use Rattle.tsp_text.specs.declared.fault.ReadFault.TheVariants as faults
+use Rattle.tsp_text.specs.Items.{Item}
+use Rattle.tsp_text.specs.Text.{fault, Spells}
+use Rattle.tsp_read.specs.declared.state.finish.FinishFault.TheVariants as finishes
+use Rattle.tsp_read.specs.states.Finishes.{Finishes}
+
+-- The text spells this file, or this is its first fault. Want of memory says nothing.
+abbrev pub Reads : List ℕ → Result Fields ReadFault → Type 0
+Reads bytes (Ok file) = Spells bytes file
+Reads bytes (Err (faults.Line line word found)) = fault bytes ≡ Some (faults.Line line word found)
+Reads bytes (Err (faults.End found)) = fault bytes ≡ Some (faults.End found)
+Reads bytes (Err faults.OutOfMemory) = Unit {0}
+Reads bytes (Err faults.Device) = ⊥
+Reads bytes (Err faults.TooLong) = fault bytes ≡ Some faults.TooLong
+
+-- The file of these items, which have no fault, or the fault of their end.
+abbrev pub Completes : List Item → Result Fields ReadFault → Type 0
+Completes items (Ok file) = Finishes items (Ok file)
+Completes items (Err (faults.Line line word found)) = ⊥
+Completes items (Err (faults.End found)) = Finishes items (Err (finishes.End found))
+Completes items (Err faults.OutOfMemory) = Unit {0}
+Completes items (Err faults.Device) = ⊥
+Completes items (Err faults.TooLong) = ⊥
+
+-- ---- a reader
+
+-- at most 4,096 bytes are taken past the most that a file may have
+abbrev pub most_taken : ℕ
+most_taken = most_file_bytes + 4096
+
+-- what the reader gave spells the file, and so does its whole rest, where that is known
+abbrev pub IsFile : Turn → Fields → Type 0
+IsFile turn file = GaveAll turn (λ bytes. Spells bytes file)
+
+abbrev pub HasFault : ReadFault → Turn → Type 0
+HasFault found turn = GaveAll turn (λ bytes. fault bytes ≡ Some found)
+
+-- The turn ended without a file: this is the first fault of what the reader gave, and of its whole rest; or memory was
+-- refused, and the reader hasn't failed; or it has failed.
+abbrev pub StopsAt : ReadFault → Turn → Type 0
+StopsAt (faults.Line line word found) turn = HasFault (faults.Line line word found) turn
+StopsAt (faults.End found) turn = HasFault (faults.End found) turn
+StopsAt faults.OutOfMemory turn = Gave turn × IsSound turn
+StopsAt faults.Device turn = HasBrokenOff turn
+StopsAt faults.TooLong turn = HasFault faults.TooLong turn
+
+abbrev pub ReadsFrom : (List ℕ → Turn) → Result Fields ReadFault → Type 0
+ReadsFrom turn (Ok file) = TakesAtMost most_taken turn (λ whole. IsFile whole file)
+ReadsFrom turn (Err found) = TakesAtMost most_taken turn (StopsAt found)

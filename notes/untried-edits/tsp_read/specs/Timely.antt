@@ -1,0 +1,54 @@
+-- A reader whose bytes are read in pieces, and when its reading stops.
+use Rattle.std.specs.Prelude.{◌≡◌, ℕ, ◌-◌, Bool, true, false, List, length, take, None, Result, Ok, Err, ◌⊎◌}
+use Rattle.std.specs.Io.KnownBytes.{IsAtEnd}
+use Rattle.tsp_stream.specs.Turn.{Turn, Gave, IsSound, TakesAtMost}
+use Rattle.tsp_draft.specs.Fields.{Fields}
+use Rattle.tsp_text.specs.declared.fault.ReadFault.{ReadFault}
+use Rattle.tsp_text.specs.declared.fault.ReadFault.TheVariants as faults
+use Rattle.tsp_read.specs.declared.stage.Stage.{Stage}
+use Rattle.tsp_read.specs.declared.stage.Stage.TheVariants.{Going, Ended, Refused}
+use Rattle.tsp_read.specs.declared.feed.Feed.{Feed}
+use Rattle.tsp_text.specs.Items.{has_end_line}
+use Rattle.tsp_text.specs.Text.{settled_part, settled_fault}
+use Rattle.tsp_read.specs.Reads.{most_taken, IsFile, StopsAt}
+use Rattle.tsp_read.specs.states.Onward.{is_bare}
+use Rattle.tsp_read.specs.Feed.{HasTaken}
+
+-- all but the last piece that is taken at once
+abbrev pub before_last : List ℕ → List ℕ
+before_last bytes = take (length bytes - 4096) bytes
+
+-- nothing that ends the reading was settled before the last piece: neither a fault nor an end line
+pub record IsTimely (bytes : List ℕ) : Type 0 where
+  pub no_fault : settled_fault (before_last bytes) ≡ None
+  pub no_end : has_end_line (settled_part (before_last bytes)) ≡ false
+
+-- want of memory is no answer for blanks and line ends alone
+abbrev pub HasCause : ReadFault → List ℕ → Type 0
+HasCause found bytes = found ≡ faults.OutOfMemory → is_bare bytes ≡ false
+
+abbrev pub is_going : Stage → Bool
+is_going Going = true
+is_going Ended = false
+is_going (Refused found) = false
+
+-- a feed has all that the reader has, or has no need of more
+pub record IsFedFrom (turn : Turn) (feed : Feed) : Type 0 where
+  pub gave : Gave turn
+  pub sound : IsSound turn
+  pub held : HasTaken feed turn.given
+  pub no_fault : settled_fault turn.given ≡ None
+  pub timely : IsTimely turn.given
+  pub over : IsAtEnd turn.left ⊎ (is_going feed.stage ≡ false)
+
+abbrev pub FeedsAll : (List ℕ → Turn) → Feed → Result (Unit {0}) ReadFault → Type 0
+FeedsAll turn feed (Ok done) = TakesAtMost most_taken turn (λ whole. IsFedFrom whole feed)
+FeedsAll turn feed (Err found) =
+    TakesAtMost most_taken turn (λ whole. StopsAt found whole × IsTimely whole.given × HasCause found whole.given)
+
+-- What is answered for a reader, of which no more was taken than was needed; memory is wanted only for more than blanks and line
+-- ends.
+abbrev pub ReadsInTime : (List ℕ → Turn) → Result Fields ReadFault → Type 0
+ReadsInTime turn (Ok file) = TakesAtMost most_taken turn (λ whole. IsFile whole file × IsTimely whole.given)
+ReadsInTime turn (Err found) =
+    TakesAtMost most_taken turn (λ whole. StopsAt found whole × IsTimely whole.given × HasCause found whole.given)

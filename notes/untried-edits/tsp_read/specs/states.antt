@@ -1,0 +1,15 @@
+pub mod Open
+pub mod Stored
+pub mod Incomplete
+pub mod Holds
+pub mod Intake
+pub mod Begun
+pub mod Left
+pub mod Token
+pub mod Paused
+pub mod Run
+pub mod Walk
+pub mod Front
+pub mod Onward
+pub mod Finishes
+pub mod Taken

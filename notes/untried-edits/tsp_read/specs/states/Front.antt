@@ -1,0 +1,23 @@
+-- The word at the front of a text.
+use Rattle.std.specs.Prelude.{◌≡◌, ◌<◌, ℕ, Bool, true, List, [], ◌∷◌, length, ◌⊎◌}
+use Rattle.tsp_format.specs.Bytes.{is_blank}
+use Rattle.tsp_text.specs.Lines.{ends_line, without_start}
+use Rattle.tsp_text.specs.Items.{NumberWord}
+use Rattle.tsp_read.specs.states.Left.{ends_word, up_to_first}
+use Rattle.tsp_read.specs.states.Onward.{GivesNext}
+
+-- its bytes from the first that isn't blank to the first blank or byte 10
+abbrev pub front_word : List ℕ → List ℕ
+front_word text = up_to_first ends_word (without_start text)
+
+-- a word ends where the rest begins, by a blank, and what follows that is left, or by byte 10, which is left too
+abbrev pub LeavesEnd : List ℕ → List ℕ → Type 0
+LeavesEnd [] left = ⊥
+LeavesEnd (b ∷ later) left = ((is_blank b ≡ true) × (left ≡ later)) ⊎ ((ends_line b ≡ true) × (left ≡ b ∷ later))
+
+-- The word at the front was found, and its end has come: it is the next item, whether or not a line or word has begun before it,
+-- it is read as `Reads` says, and what is left behind it is shorter.
+pub record IsFrontWord (text : List ℕ) (Reads : Type 0) (left : List ℕ) : Type 0 where
+  pub word : (inside : Bool) → GivesNext inside text (NumberWord (front_word text)) true left
+  pub reads : Reads
+  pub shorter : length left < length text

@@ -1,0 +1,79 @@
+-- What the state of the reader holds of the items so far (nearest first).
+use Rattle.std.specs.Prelude.{◌≡◌, Bool, false, not, ◌&&◌, List, [], ◌∷◌, Option, None, Some, is_some, Result, Ok, Err, nat_lt}
+use Rattle.std.specs.List.{find}
+use Rattle.tsp_format.specs.declared.field.Field.{Field}
+use Rattle.tsp_format.specs.declared.field.Field.TheVariants.{NameKey, TypeKey, DimensionKey, CapacityKey, ScaleKey, EdgeWeightTypeKey, EdgeWeightFormatKey, NodeCoordTypeKey, DisplayDataTypeKey}
+use Rattle.tsp_draft.specs.Fields.{Fields, fields_of}
+use Rattle.tsp_section.specs.declared.fault.StepFault.{StepFault}
+use Rattle.tsp_section.specs.declared.fault.StepFault.TheVariants as steps
+use Rattle.tsp_read.specs.declared.state.reading.OpenSection.{OpenSection}
+use Rattle.tsp_read.specs.declared.state.reading.Reading.{Reading}
+use Rattle.tsp_format.specs.declared.keyword.Keyword.TheVariants.{Known, Unknown}
+use Rattle.tsp_format.specs.Limits.{most_line_bytes}
+use Rattle.tsp_text.specs.Items.{WordLine, Item, Line}
+use Rattle.tsp_text.specs.Earlier.{has_line, open_section, is_open, words_of}
+use Rattle.tsp_text.specs.Values.{spatial_after}
+use Rattle.tsp_text.specs.Sections.{dimension_in}
+use Rattle.tsp_text.specs.Rows.{row_of}
+use Rattle.tsp_text.specs.FirstFault.{IsClean}
+use Rattle.tsp_text.specs.Spells.{fields_by, is_incomplete, sections_in_order, first_incomplete}
+use Rattle.tsp_read.specs.states.Open.{HoldsSection}
+
+-- the section stands and no longer takes words
+abbrev pub is_closed : List Item → Field → Bool
+is_closed earlier field = not (is_open field (open_section earlier)) && has_line field earlier
+
+abbrev pub is_closed_incomplete : List Item → Field → Bool
+is_closed_incomplete earlier field = not (is_open field (open_section earlier)) && is_incomplete earlier field
+
+-- a keyword stands exactly where its field does
+abbrev pub fields_there : Fields → List Bool
+fields_there fields = is_some fields.name ∷ is_some fields.kind ∷ is_some fields.dimension ∷ is_some fields.capacity
+    ∷ is_some fields.scale
+    ∷ is_some fields.weight_kind ∷ is_some fields.weight_format ∷ is_some fields.coord_kind ∷ is_some fields.display_kind ∷ []
+
+abbrev pub keywords_there : List Item → List Bool
+keywords_there earlier = has_line NameKey earlier ∷ has_line TypeKey earlier ∷ has_line DimensionKey earlier
+    ∷ has_line CapacityKey earlier ∷ has_line ScaleKey earlier
+    ∷ has_line EdgeWeightTypeKey earlier ∷ has_line EdgeWeightFormatKey earlier ∷ has_line NodeCoordTypeKey earlier
+    ∷ has_line DisplayDataTypeKey earlier ∷ []
+
+abbrev pub KeywordsStand : Fields → List Item → Type 0
+KeywordsStand fields earlier = fields_there fields ≡ keywords_there earlier
+
+-- the open section's part has its words
+abbrev pub OpenHolds : Option OpenSection → List Item → Type 0
+OpenHolds None earlier = open_section earlier ≡ None
+OpenHolds (Some section) earlier = (open_section earlier ≡ Some section.field)
+    × HoldsSection (spatial_after earlier) section (dimension_in earlier) (words_of section.field earlier)
+
+-- no item has a fault, and the state has what the items spell but for the section that is open, and that section's words
+pub record Holds (reading : Reading) (earlier : List Item) : Type 0 where
+  pub clean : IsClean earlier
+  pub stand : KeywordsStand (fields_of reading.draft) earlier
+  pub spelled : fields_of reading.draft ≡ fields_by (is_closed earlier) earlier
+  pub incomplete : reading.incomplete ≡ find (is_closed_incomplete earlier) sections_in_order
+  pub part : OpenHolds reading.opened earlier
+
+-- the same where no section is open: of the items all that they spell
+pub record Closed (reading : Reading) (earlier : List Item) : Type 0 where
+  pub clean : IsClean earlier
+  pub stand : KeywordsStand (fields_of reading.draft) earlier
+  pub spelled : fields_of reading.draft ≡ fields_by (λ field. has_line field earlier) earlier
+  pub incomplete : reading.incomplete ≡ first_incomplete earlier
+  pub part : reading.opened ≡ None
+
+-- What a step answers for an item: its fault, or none and the state holds that item too.
+abbrev pub AnswersItem : List Item → Item → Reading → Result (Unit {0}) StepFault → Type 0
+AnswersItem earlier item new (Ok done) = Holds new (item ∷ earlier)
+AnswersItem earlier item new (Err steps.Memory) = Unit {0}
+AnswersItem earlier item new (Err (steps.Fault fault)) = row_of earlier item ≡ Some fault
+
+-- the same from a state where no section is open, for a line that isn't too long
+abbrev pub LineAnswers : Reading → Field → WordLine → Reading → Result (Unit {0}) StepFault → Type 0
+LineAnswers old field line new result = (earlier : List Item) → Closed old earlier → nat_lt most_line_bytes line.size ≡ false
+    → AnswersItem earlier (Line (Known field) line) new result
+
+abbrev pub OtherAnswers : Reading → WordLine → Reading → Result (Unit {0}) StepFault → Type 0
+OtherAnswers old line new result = (earlier : List Item) → Closed old earlier → nat_lt most_line_bytes line.size ≡ false
+    → AnswersItem earlier (Line Unknown line) new result

@@ -1,0 +1,63 @@
+-- A text that is taken item by item: the items of what is left of it, and where its next line or word ends.
+use Rattle.std.specs.Prelude.{ℕ, Bool, true, false, not, ◌||◌, nat_lt, List, [], ◌∷◌, ◌++◌, length, map, take, drop}
+use Rattle.std.specs.List.{position_or_len}
+use Rattle.tsp_format.specs.Bytes.{is_blank}
+use Rattle.tsp_read.specs.declared.cut.Next.{Next}
+use Rattle.tsp_read.specs.declared.cut.Next.TheVariants as next
+use Rattle.tsp_text.specs.Lines.{lines_of, words_in, ends_line, is_filled}
+use Rattle.tsp_text.specs.Items.{Item, NumberWord, LineEnd, line_item, items_in, items_by, settled_words, settled_in}
+
+-- ---- what is left
+
+-- the items of what is left of a line that another follows; once it has given a word it has words alone
+abbrev pub line_items : Bool → List ℕ → List Item
+line_items true line = map (λ word. NumberWord word) (words_in line)
+line_items false line = items_in line
+
+-- the same of the last line, by whether the text goes on after it
+abbrev pub last_items : Bool → Bool → List ℕ → List Item
+last_items false inside line = line_items inside line
+last_items true true line = map (λ word. NumberWord word) (settled_words line)
+last_items true false line = settled_in line
+
+-- the items of lines, of which the first is what is left of one
+abbrev pub items_left_by : Bool → Bool → List (List ℕ) → List Item
+items_left_by goes_on inside [] = []
+items_left_by goes_on inside (line ∷ []) = last_items goes_on inside line
+items_left_by goes_on inside (line ∷ next ∷ lines) = line_items inside line ++ LineEnd
+    ∷ items_by (λ last. last_items goes_on false last) (next ∷ lines)
+
+-- The items of what is left of a text: all of them, or the settled ones of a text that goes on. Inside of a line that has
+-- given an item, what follows are words.
+abbrev pub items_left : Bool → Bool → List ℕ → List Item
+items_left goes_on inside bytes = items_left_by goes_on inside (lines_of bytes)
+
+-- ---- the next item
+
+abbrev pub item_next : Next → Item
+item_next (next.Line text) = line_item text.now
+item_next (next.Word word) = NumberWord word.now
+item_next next.LineEnd = LineEnd
+
+-- whether what follows is of the same line
+abbrev pub is_in_line : Next → Bool
+is_in_line (next.Line text) = true
+is_in_line (next.Word word) = true
+is_in_line next.LineEnd = false
+
+-- ---- where a line and a word end
+
+-- a blank or a line's end
+abbrev pub ends_word : ℕ → Bool
+ends_word b = is_blank b || ends_line b
+
+abbrev pub up_to_first : (ℕ → Bool) → List ℕ → List ℕ
+up_to_first test text = take (position_or_len test text) text
+
+abbrev pub from : (ℕ → Bool) → List ℕ → List ℕ
+from test text = drop (position_or_len test text) text
+
+-- A piece at the front of a text is whole, or longer than any of its sort may be. One that nothing follows is whole only
+-- where the text ends.
+abbrev pub is_settled : ℕ → Bool → List ℕ → List ℕ → Bool
+is_settled most goes_on piece rest = is_filled rest || not goes_on || nat_lt most (length piece)

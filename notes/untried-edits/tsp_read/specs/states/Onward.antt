@@ -1,0 +1,31 @@
+-- A text that goes on: what is told of its items whatever bytes follow.
+use Rattle.std.specs.Prelude.{◌≡◌, ℕ, Bool, true, false, nat_lt, List, ◌∷◌, ◌++◌, length, reverse}
+use Rattle.std.specs.List.{list_all}
+use Rattle.tsp_format.specs.Limits.{most_word_bytes, most_line_bytes}
+use Rattle.tsp_text.specs.Items.{Item, Line, NumberWord, LineEnd}
+use Rattle.tsp_read.specs.states.Left.{items_left, ends_word}
+
+-- blanks and line ends alone
+abbrev pub is_bare : List ℕ → Bool
+is_bare bytes = list_all ends_word bytes
+
+abbrev pub is_line_end : Item → Bool
+is_line_end (Line key line) = false
+is_line_end (NumberWord word) = false
+is_line_end LineEnd = true
+
+-- longer than any item of its sort may be
+abbrev pub is_over_long : Item → Bool
+is_over_long (Line key line) = nat_lt most_line_bytes line.size
+is_over_long (NumberWord word) = nat_lt most_word_bytes (length word)
+is_over_long LineEnd = false
+
+-- whatever follows what is left of a text, its next item is this one, and then that is left
+abbrev pub GivesNext : Bool → List ℕ → Item → Bool → List ℕ → Type 0
+GivesNext inside text item after rest = (goes_on : Bool) (more : List ℕ)
+    → items_left goes_on inside (text ++ more) ≡ item ∷ items_left goes_on after (rest ++ more)
+
+-- whatever follows a text, it begins with these items (nearest first), and then that is left
+abbrev pub GoesOn : List ℕ → List Item → Bool → List ℕ → Type 0
+GoesOn bytes earlier inside rest = (goes_on : Bool) (more : List ℕ)
+    → items_left goes_on false (bytes ++ more) ≡ reverse earlier ++ items_left goes_on inside (rest ++ more)

@@ -1,0 +1,52 @@
+-- A text that goes on after a piece.
+use Rattle.std.specs.Prelude.{◌≡◌, ℕ, ◌+◌, ◌≤◌, Bool, true, false, List, [], Result, Ok, Err}
+use Rattle.tsp_text.specs.declared.fault.ReadFault.{ReadFault}
+use Rattle.tsp_text.specs.declared.fault.ReadFault.TheVariants as faults
+use Rattle.tsp_read.specs.declared.state.reading.Reading.{Reading}
+use Rattle.tsp_read.specs.declared.intake.Intake.{Intake}
+use Rattle.tsp_read.specs.declared.begun.Begun.{Begun}
+use Rattle.tsp_read.specs.declared.stage.Stage.{Stage}
+use Rattle.tsp_read.specs.declared.stage.Stage.TheVariants.{Going, Ended, Refused}
+use Rattle.tsp_text.specs.Items.{items_of}
+use Rattle.tsp_read.specs.states.Left.{items_left}
+use Rattle.tsp_read.specs.states.Onward.{is_bare}
+use Rattle.tsp_read.specs.states.Taken.{ReadsItems}
+use Rattle.tsp_read.specs.states.Intake.{HasEnded, IsStoppedBy}
+use Rattle.tsp_read.specs.states.Begun.{kept, IsFedTo, most_lines, most_words}
+
+-- of the bytes so far all that is settled was taken, and what is not is kept
+pub record IsPaused (intake : Intake) (begun : Begun) (bytes : List ℕ) : Type 0 where
+  pub fed : IsFedTo intake begun bytes []
+  pub unsettled : items_left true intake.inside (kept begun) ≡ []
+
+-- the bytes so far are read, and whether an end line has come; or what is settled has a fault
+abbrev pub FeedsOn : List ℕ → Intake → Begun → Result Bool ReadFault → Type 0
+FeedsOn bytes intake begun (Ok true) = HasEnded intake.reading bytes
+FeedsOn bytes intake begun (Ok false) = IsPaused intake begun bytes
+FeedsOn bytes intake begun (Err found) = IsStoppedBy bytes found
+
+-- the text has ended: all its items were taken, and whether an end line is among them; or they have this first fault
+abbrev pub TakesAll : List ℕ → Reading → Result Bool ReadFault → Type 0
+TakesAll bytes reading (Ok ended) = ReadsItems (items_of bytes) (Ok (reading, ended))
+TakesAll bytes reading (Err (faults.Line line word found)) = ReadsItems (items_of bytes) (Err (faults.Line line word found))
+TakesAll bytes reading (Err (faults.End found)) = ⊥
+TakesAll bytes reading (Err faults.OutOfMemory) = is_bare bytes ≡ false
+TakesAll bytes reading (Err faults.Device) = ⊥
+TakesAll bytes reading (Err faults.TooLong) = ⊥
+
+-- the stage after a piece, by whether all of it could be read, and what reading it answered
+abbrev pub stage_after : Bool → Result Bool ReadFault → Stage
+stage_after all (Ok true) = Ended
+stage_after true (Ok false) = Going
+stage_after false (Ok false) = Refused faults.TooLong
+stage_after all (Err found) = Refused found
+
+-- what is answered at a stage
+abbrev pub outcome_of : Stage → Result (Unit {0}) ReadFault
+outcome_of Going = Ok tt
+outcome_of Ended = Ok tt
+outcome_of (Refused found) = Err found
+
+-- while a text goes on, no more lines and words can be counted than bytes have come
+abbrev pub HasRoom : Stage → Intake → Begun → ℕ → Type 0
+HasRoom stage intake begun count = stage ≡ Going → (most_lines intake begun 0 ≤ count + 1) × (most_words intake begun 0 ≤ count)

@@ -1,0 +1,38 @@
+-- A run of words: the open section's part and the counts change, and nothing else does.
+use Rattle.std.specs.Prelude.{ℕ, ◌+◌, ◌≤◌, ◌<◌, List, length, Option, None, Some}
+use Rattle.tsp_format.specs.declared.field.Field.{Field}
+use Rattle.tsp_draft.specs.declared.draft.Draft.{Draft}
+use Rattle.tsp_section.specs.declared.part.Part.{Part}
+use Rattle.tsp_read.specs.declared.count.Count.{Count}
+use Rattle.tsp_read.specs.declared.intake.Intake.{Intake}
+use Rattle.tsp_read.specs.declared.state.reading.Reading.{Reading}
+use Rattle.tsp_read.specs.states.Intake.{IsReadTo}
+
+-- a text that is read while it comes, with these counts
+abbrev pub counted : Reading → Count → Intake
+counted reading count = record { reading = reading; line = count.line; words = count.words; inside = count.inside }
+
+-- the same with these fields so far, this part of the open section
+abbrev pub in_run : Draft → Option Field → Field → Part → Count → Intake
+in_run draft incomplete field part count =
+    counted (record { draft = draft; incomplete = incomplete; opened = Some (record { field = field; part = part }) }) count
+
+-- Whatever the fields and the bytes so far are: where these were read with the old part and counts, and `text` is left, they
+-- are read on with the new ones, and `rest` is left.
+abbrev pub TakesRun : Part → Count → List ℕ → Part → Count → List ℕ → Type 0
+TakesRun old before text new after rest = (draft : Draft) (incomplete : Option Field) (field : Field) (bytes : List ℕ)
+    → IsReadTo (in_run draft incomplete field old before) bytes text
+    → IsReadTo (in_run draft incomplete field new after) bytes rest
+
+-- a run from a text to what is left of it, in which no more lines and words are counted than bytes are read
+pub record RunsTo (old : Part) (before : Count) (text : List ℕ) (new : Part) (after : Count) (rest : List ℕ) : Type 0 where
+  pub read : TakesRun old before text new after rest
+  pub line : after.line + length rest ≤ before.line + length text
+  pub words : after.words + length rest ≤ before.words + length text
+  pub shorter : length rest ≤ length text
+
+-- One step of a run, which gives what is left of the text; or nothing where none is taken, and all is left. What is left after a
+-- step is shorter.
+abbrev pub StepsTo : Part → Count → List ℕ → Part → Count → Option (List ℕ) → Type 0
+StepsTo old before text new after None = RunsTo old before text new after text
+StepsTo old before text new after (Some rest) = RunsTo old before text new after rest × (length rest < length text)

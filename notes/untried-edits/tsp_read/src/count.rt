@@ -1,0 +1,12 @@
+//! What is counted of a text.
+
+/// What an `Intake` counts, in a run of words.
+#[derive(Clone, Copy)]
+pub(crate) struct Count {
+    /// The number of the line, from 1 on.
+    pub(crate) line: u32,
+    /// How many of its words were taken.
+    pub(crate) words: u32,
+    /// An item of the line was taken.
+    pub(crate) inside: bool,
+}

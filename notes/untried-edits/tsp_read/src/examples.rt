@@ -1,0 +1,19 @@
+//! Bytes on which the definitions of what a reader answers are evaluated. No body is looked at here: a
+//! definition that is changed together with its code is refused by its examples.
+
+ghost use Rattle.std.specs.Prelude.{◌≡◌, ◌+◌, ◌^◌, true, false, [], ◌∷◌, replicate};
+ghost use Rattle.tsp_read.specs.states.Onward.{is_bare};
+ghost use Rattle.tsp_read.specs.Reads.{most_taken};
+ghost use Rattle.tsp_read.specs.Timely.{before_last};
+
+/// Which texts are of blanks and line ends alone, how many bytes are taken at most, and what the bytes
+/// but for the last piece are: none up to 4,096, and of one more the first.
+pub fn examples_of_reading()
+    ensures nothing { is_bare [] ≡ true }
+    ensures blanks { is_bare (9 ∷ 10 ∷ 11 ∷ 12 ∷ 13 ∷ 32 ∷ []) ≡ true }
+    ensures colon { is_bare (32 ∷ 58 ∷ []) ≡ false }
+    ensures digit { is_bare (10 ∷ 49 ∷ 10 ∷ []) ≡ false }
+    ensures taken { most_taken ≡ 2 ^ 30 + 4096 }
+    ensures one_piece { before_last (replicate 4096 7) ≡ [] }
+    ensures one_more { before_last (5 ∷ replicate 4096 7) ≡ 5 ∷ [] }
+{}

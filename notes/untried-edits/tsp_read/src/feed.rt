@@ -1,0 +1,243 @@
+//! A file that is read in pieces.
+
+ghost use Rattle.std.specs.Prelude.{◌≡◌, ◌+◌, ◌≤◌, ◌++◌, [], List, ℕ, length, Ok, true, false};
+ghost use Rattle.tsp_format.specs.Limits.{most_file_bytes};
+ghost use Rattle.tsp_read.specs.states.Begun.{IsFedTo, most_lines, most_words, KeepRoom};
+ghost use Rattle.tsp_text.specs.Lines.{is_filled};
+ghost use Rattle.tsp_read.specs.states.Paused.{FeedsOn, HasRoom, stage_after, outcome_of};
+
+use crate::begun::Begun;
+use crate::intake::Intake;
+use crate::stage::Stage;
+use crate::state::finish::completed;
+use crate::state::reading::Reading;
+use std::alloc::Global;
+use tsp_file::File;
+use tsp_format::MOST_FILE_BYTES;
+use tsp_text::ReadFault;
+
+/// Reads on with a piece that the limit of a file's bytes doesn't cut: all that what follows can't
+/// change. What hasn't ended in it is kept. The answer is whether an end line was taken.
+fn read_on(
+    intake: &mut Intake,
+    begun: &mut Begun,
+    alloc: Global,
+    piece: &[u8],
+) -> Result<bool, ReadFault>
+    requires lines { most_lines intake.old begun.old (length piece.now) ≤ most_file_bytes + 1 }
+    requires words { most_words intake.old begun.old (length piece.now) ≤ most_file_bytes }
+    ensures read { (bytes : List ℕ) → IsFedTo intake.old begun.old bytes piece.now
+        → FeedsOn bytes intake.new begun.new result }
+    ensures room { result ≡ Ok false
+        → KeepRoom intake.old begun.old (length piece.now) intake.new begun.new 0 }
+{
+    let Some(rest) = begun.join(intake, alloc, piece)? else {
+        return Ok(true);
+    };
+    if rest.is_empty() {
+        return Ok(false);
+    }
+    match intake.take_items(alloc, rest) {
+        Err(fault) => Err(fault),
+        Ok(None) => Ok(true),
+        Ok(Some(left)) => {
+            begun.keep(left, intake.inside);
+            Ok(false)
+        }
+    }
+}
+
+/// A text up to at most so many bytes, and what follows.
+fn split_at_most(text: &[u8], most: usize) -> (&[u8], &[u8])
+    ensures parts { text.now ≡ result.0.now ++ result.1.now }
+    ensures front { length result.0.now ≤ most }
+    ensures over { is_filled result.1.now ≡ true → length result.0.now ≡ most }
+{
+    if text.len() > most {
+        text.split_at(most)
+    } else {
+        text.split_at(text.len())
+    }
+}
+
+/// How far a text is after a piece, by whether all of it could be read.
+fn stage_after(all: bool, read: Result<bool, ReadFault>) -> Stage
+    ensures { result ≡ stage_after all read }
+{
+    match read {
+        Ok(true) => Stage::Ended,
+        Ok(false) if all => Stage::Going,
+        Ok(false) => Stage::Refused(ReadFault::TooLong),
+        Err(fault) => Stage::Refused(fault),
+    }
+}
+
+/// What is answered at a stage.
+fn outcome(stage: Stage) -> Result<(), ReadFault>
+    ensures { result ≡ outcome_of stage }
+{
+    match stage {
+        Stage::Going | Stage::Ended => Ok(()),
+        Stage::Refused(fault) => Err(fault),
+    }
+}
+
+/// A file that is read in pieces. How they are cut doesn't matter.
+///
+/// Of the bytes only a line or a word is kept whose end has not come, at most 4,096.
+///
+/// ```text
+/// let mut feed = Feed::new(alloc);
+/// for piece in pieces {
+///     feed.feed(piece)?;
+/// }
+/// let file = feed.finish()?;
+/// ```
+pub struct Feed {
+    alloc: Global,
+    intake: Intake,
+    begun: Begun,
+    /// How many bytes have come, up to the most that a file may have.
+    count: usize,
+    stage: Stage,
+    ghost short: { count ≤ most_file_bytes },
+    ghost room: { HasRoom stage intake begun count },
+}
+
+/// As a derive would do it; what lets go of a feed calls this.
+impl Drop for Feed {
+    fn drop(self) {
+        let Feed {
+            alloc: _,
+            intake: _,
+            begun: _,
+            count: _,
+            stage: _,
+        } = self;
+    }
+}
+
+impl Feed {
+    ghost use Rattle.std.specs.Prelude.{Some, None, Err, IfErr, ◌≢◌};
+    ghost use Rattle.tsp_text.specs.declared.fault.ReadFault.{ReadFault};
+    ghost use Rattle.tsp_read.specs.declared.stage.Stage.TheVariants.{Going};
+    ghost use Rattle.tsp_text.specs.Items.{has_end_line};
+    ghost use Rattle.tsp_text.specs.Text.{settled_part, settled_fault};
+    ghost use Rattle.tsp_text.specs.declared.fault.ReadFault.TheVariants.{OutOfMemory};
+    ghost use Rattle.tsp_read.specs.states.Onward.{is_bare};
+    ghost use Rattle.tsp_read.specs.Reads.{Reads};
+    ghost use Rattle.tsp_read.specs.Timely.{is_going};
+    ghost use Rattle.tsp_read.specs.Feed.{IsGoing, HasTaken, refusal, Feeds, ComesTo, EndsReading, EndsClosed};
+
+    /// The start of a file. It takes no memory.
+    pub fn new(alloc: Global) -> Feed
+        ensures { HasTaken result [] }
+    {
+        Feed {
+            alloc,
+            intake: Intake::new(alloc),
+            begun: Begun::new(),
+            count: 0,
+            stage: Stage::Going,
+        }
+    }
+
+    /// Goes on with a piece: up to the most bytes that a file may have.
+    fn go_on(&mut self, piece: &[u8])
+        requires { self.old.stage ≡ Going }
+        ensures { (bytes : List ℕ) → IsGoing self.old bytes
+            → ComesTo self.new.stage self.new (bytes ++ piece.now) }
+    {
+        let (front, over) = split_at_most(piece, MOST_FILE_BYTES - self.count);
+        let read = read_on(&mut self.intake, &mut self.begun, self.alloc, front);
+        self.count += front.len();
+        self.stage = stage_after(over.is_empty(), read);
+    }
+
+    /// Whether what follows is looked at.
+    pub(crate) fn is_going(&self) -> bool
+        ensures { result ≡ is_going self.now.stage }
+    {
+        matches!(self.stage, Stage::Going)
+    }
+
+    /// Takes the next piece. After an end line everything is taken, and nothing is looked at.
+    ///
+    /// # Errors
+    ///
+    /// After a refusal every later call answers the same.
+    ///
+    /// - `Line`: a line or a word that has come whole, or is too long already, has the first fault.
+    /// - `TooLong`: there are more bytes than a file may have, and those that it may have decide
+    ///   nothing.
+    /// - `OutOfMemory`: memory was refused.
+    pub fn feed(&mut self, piece: &[u8]) -> Result<(), ReadFault>
+        ensures taken { (bytes : List ℕ) → HasTaken self.old bytes
+            → Feeds (bytes ++ piece.now) self.new result }
+        ensures again { (found : ReadFault) → refusal self.old ≡ Some found
+            → (result ≡ Err found) × (refusal self.new ≡ Some found) }
+        ensures refused { IfErr result (λ found. refusal self.new ≡ Some found) }
+        ensures ended { (bytes : List ℕ) → HasTaken self.old bytes
+            → settled_fault bytes ≡ None → has_end_line (settled_part bytes) ≡ true → result ≡ Ok tt }
+    {
+        match self.stage {
+            Stage::Refused(fault) => Err(fault),
+            Stage::Ended => Ok(()),
+            Stage::Going => {
+                self.go_on(piece);
+                outcome(self.stage)
+            }
+        }
+    }
+    /// All that was read, once the line or word that has begun is taken as the last.
+    fn end(self) -> Result<Reading, ReadFault>
+        ensures ends { (bytes : List ℕ) → HasTaken self bytes → EndsReading bytes result }
+        ensures again { (found : ReadFault) → refusal self ≡ Some found → result ≡ Err found }
+        ensures ended { (bytes : List ℕ) → HasTaken self bytes → settled_fault bytes ≡ None
+            → has_end_line (settled_part bytes) ≡ true → EndsClosed result }
+    {
+        let Feed {
+            alloc,
+            mut intake,
+            begun,
+            count: _,
+            stage,
+        } = self;
+        match stage {
+            Stage::Refused(fault) => {
+                drop(intake);
+                Err(fault)
+            }
+            Stage::Ended => Ok(intake.into_reading()),
+            Stage::Going => match begun.take_last(&mut intake, alloc) {
+                Ok(_) => Ok(intake.into_reading()),
+                Err(fault) => {
+                    drop(intake);
+                    Err(fault)
+                }
+            },
+        }
+    }
+
+    /// The file that the bytes so far spell, or why they don't.
+    ///
+    /// # Errors
+    ///
+    /// A refusal of `feed` is answered again. Else:
+    ///
+    /// - `Line`: the last line, or its last word, has the first fault.
+    /// - `End`: no line has a fault, and the lines together are no file.
+    /// - `OutOfMemory`: memory was refused. Where a line EOF is settled none is wanted.
+    pub fn finish(self) -> Result<File, ReadFault>
+        ensures read { (bytes : List ℕ) → HasTaken self bytes → Reads bytes result }
+        ensures memory { (bytes : List ℕ) → HasTaken self bytes → result ≡ Err OutOfMemory
+            → is_bare bytes ≡ false }
+        ensures again { (found : ReadFault) → refusal self ≡ Some found → result ≡ Err found }
+        ensures ended { (bytes : List ℕ) → HasTaken self bytes → settled_fault bytes ≡ None
+            → has_end_line (settled_part bytes) ≡ true → result ≢ Err OutOfMemory }
+    {
+        let alloc = self.alloc;
+        let reading = self.end()?;
+        completed(reading, alloc)
+    }
+}

@@ -1,0 +1,313 @@
+//! A run of numbers: the words of a matrix, of tours or of points, each looked at once.
+//!
+//! Most words there are plain numbers, and most of a matrix have a few digits. Such a word is read here
+//! where its end is found, so that it is not searched for first. Every other word, and whatever else
+//! stands in a text but the ends of these lines, is left to `Intake::take_next`.
+//!
+//! Which list takes the words is found out once for a run. The loop over them is one for all lists, and
+//! has its counts in a place of their own.
+
+ghost use Rattle.std.specs.Prelude.{◌≡◌, ◌+◌, ◌≤◌, length, IfSome, Ok};
+ghost use Rattle.std.specs.Option.{option_map};
+ghost use Rattle.tsp_format.specs.Limits.{most_file_bytes};
+ghost use Rattle.tsp_number.specs.Reading.{decimal_of};
+ghost use Rattle.tsp_text.specs.Numbers.{IsWhole};
+ghost use Rattle.tsp_section.specs.declared.part.Part.{Part};
+ghost use Rattle.tsp_section.specs.declared.part.Part.TheVariants as parts;
+ghost use Rattle.tsp_read.specs.states.Front.{front_word, IsFrontWord, LeavesEnd};
+ghost use Rattle.tsp_read.specs.states.Run.{RunsTo, StepsTo};
+
+use crate::count::Count;
+use crate::cut::without_start;
+use crate::intake::Intake;
+use crate::state::reading::Reading;
+use std::alloc::Global;
+use tsp_distance::Decimal;
+use tsp_format::is_blank;
+use tsp_number::{front_decimal, front_few, front_whole};
+use tsp_section::{Gathered, Part, RunList, WeightList};
+
+// ---- a number at the front of a text
+
+/// What is left where a word has ended: without the blank that ended it, or from byte 10 on.
+/// Nothing where no word ends here.
+#[inline(always)]
+fn past_end(rest: &[u8]) -> Option<&[u8]>
+    ensures left { IfSome result (λ left. LeavesEnd rest.now left.now) }
+    ensures within { IfSome result (λ left. length left.now ≤ length rest.now) }
+{
+    match rest.split_first() {
+        Some((end, left)) if is_blank(*end) => Some(left),
+        Some((b'\n', _)) => Some(rest),
+        _ => None,
+    }
+}
+
+/// The whole number of a few digits that a text begins with, and what follows its word and the blank
+/// that ends it; or nothing where no such word stands there whose end has come.
+#[inline(always)]
+pub(crate) fn few_number(text: &[u8]) -> Option<(i64, &[u8])>
+    ensures { IfSome result (λ found. IsFrontWord text.now (IsWhole (front_word text.now) found.0) found.1.now) }
+{
+    let Some((number, end)) = front_few(text) else {
+        return None;
+    };
+    let rest = text.split_at(end).1;
+    match past_end(rest) {
+        Some(left) => Some((number, left)),
+        None => None,
+    }
+}
+
+/// The whole number at the front of a text, and what follows its word and the blank that ends it; or
+/// nothing where no word of at most 18 digits stands there whose end has come.
+#[inline(never)]
+pub(crate) fn front_number(text: &[u8]) -> Option<(i64, &[u8])>
+    ensures { IfSome result (λ found. IsFrontWord text.now (IsWhole (front_word text.now) found.0) found.1.now) }
+{
+    let filled = without_start(text);
+    let Some((number, end)) = front_whole(filled) else {
+        return None;
+    };
+    let rest = filled.split_at(end).1;
+    match past_end(rest) {
+        Some(left) => Some((number, left)),
+        None => None,
+    }
+}
+
+/// The coordinate at the front of a text, and what follows its word and the blank that ends it; or
+/// nothing where no word of at most nine digits, a point and nine more stands there whose end has
+/// come.
+#[inline(always)]
+pub(crate) fn front_coordinate(text: &[u8]) -> Option<(Decimal, &[u8])>
+    ensures { IfSome result (λ found. IsFrontWord text.now (decimal_of (front_word text.now) ≡ Ok found.0) found.1.now) }
+{
+    let filled = without_start(text);
+    let Some(found) = front_decimal(filled) else {
+        return None;
+    };
+    let rest = filled.split_at(found.1).1;
+    match past_end(rest) {
+        Some(left) => Some((found.0, left)),
+        None => None,
+    }
+}
+
+// ---- one item, taken
+
+/// Takes the whole number that was found at the front of a text, if one was, where the list takes it,
+/// and gives what follows it.
+#[inline(always)]
+fn take_number<'a, L: RunList>(
+    list: &mut L,
+    count: &mut Count,
+    text: &'a [u8],
+    found: Option<(i64, &'a [u8])>,
+) -> Option<&'a [u8]>
+    requires count { count.old.words + length text.now ≤ most_file_bytes }
+    requires found { IfSome found (λ found. IsFrontWord text.now (IsWhole (front_word text.now) found.0) found.1.now) }
+    ensures { StepsTo (L.part list.old) count.old text.now (L.part list.new) count.new
+        (option_map (λ rest. rest.now) result) }
+{
+    let Some((number, rest)) = found else {
+        return None;
+    };
+    if !list.take_whole(number) {
+        return None;
+    }
+    count.words += 1;
+    count.inside = true;
+    Some(rest)
+}
+
+/// Takes the coordinate that a text begins with, where the list takes it, and gives what follows it.
+#[inline(always)]
+fn take_coordinate<'a, L: RunList>(
+    list: &mut L,
+    count: &mut Count,
+    text: &'a [u8],
+) -> Option<&'a [u8]>
+    requires { count.old.words + length text.now ≤ most_file_bytes }
+    ensures { StepsTo (L.part list.old) count.old text.now (L.part list.new) count.new
+        (option_map (λ rest. rest.now) result) }
+{
+    let Some(found) = front_coordinate(text) else {
+        return None;
+    };
+    if !list.take_coordinate(found.0) {
+        return None;
+    }
+    count.words += 1;
+    count.inside = true;
+    Some(found.1)
+}
+
+/// Counts the line's end that a text begins with, and gives what follows it.
+#[inline(always)]
+fn take_line_end<'a>(count: &mut Count, text: &'a [u8]) -> Option<&'a [u8]>
+    requires { count.old.line + length text.now ≤ most_file_bytes + 1 }
+    ensures { (part : Part) → StepsTo part count.old text.now part count.new
+        (option_map (λ rest. rest.now) result) }
+{
+    match text.split_first() {
+        Some((b'\n', rest)) => {
+            count.line += 1;
+            count.words = 0;
+            count.inside = false;
+            Some(rest)
+        }
+        _ => None,
+    }
+}
+
+/// Takes the line's end or the number that a text begins with, where it is no number of a few digits.
+#[inline(always)]
+fn take_other<'a, L: RunList>(list: &mut L, count: &mut Count, text: &'a [u8]) -> Option<&'a [u8]>
+    requires line { count.old.line + length text.now ≤ most_file_bytes + 1 }
+    requires words { count.old.words + length text.now ≤ most_file_bytes }
+    ensures { StepsTo (L.part list.old) count.old text.now (L.part list.new) count.new
+        (option_map (λ rest. rest.now) result) }
+{
+    match take_line_end(count, text) {
+        Some(rest) => Some(rest),
+        None => take_number(list, count, text, front_number(text)),
+    }
+}
+
+/// Takes the word or the line's end that a text begins with, where the list takes it, and gives what
+/// follows it.
+#[inline(always)]
+fn take_one<'a, L: RunList>(list: &mut L, count: &mut Count, text: &'a [u8]) -> Option<&'a [u8]>
+    requires line { count.old.line + length text.now ≤ most_file_bytes + 1 }
+    requires words { count.old.words + length text.now ≤ most_file_bytes }
+    ensures { StepsTo (L.part list.old) count.old text.now (L.part list.new) count.new
+        (option_map (λ rest. rest.now) result) }
+{
+    if list.awaits_coordinate() {
+        return take_coordinate(list, count, text);
+    }
+    match take_number(list, count, text, few_number(text)) {
+        Some(rest) => Some(rest),
+        None => take_other(list, count, text),
+    }
+}
+
+// ---- a run
+
+/// Takes the words and line ends at the front of a text, as many as the list takes. What they count to
+/// and what is left of the text is the answer.
+#[inline(always)]
+fn take_all<'a, L: RunList>(list: &mut L, count: Count, text: &'a [u8]) -> (Count, &'a [u8])
+    requires line { count.line + length text.now ≤ most_file_bytes + 1 }
+    requires words { count.words + length text.now ≤ most_file_bytes }
+    ensures { RunsTo (L.part list.old) count text.now (L.part list.new) result.0 result.1.now }
+{
+    let mut counted = count;
+    let mut rest = text;
+    'run: while let Some(after) = take_one(list, &mut counted, rest) {
+        rest = after;
+    }
+    (counted, rest)
+}
+
+/// The same over the weights of a matrix, which come and go by value.
+// (so that all that changes in the loop can stay in registers)
+#[inline(never)]
+fn take_gathered<'a>(
+    gathered: Gathered,
+    count: Count,
+    text: &'a [u8],
+) -> (Gathered, Count, &'a [u8])
+    requires line { count.line + length text.now ≤ most_file_bytes + 1 }
+    requires words { count.words + length text.now ≤ most_file_bytes }
+    ensures { RunsTo (parts.Weights gathered.list) count text.now
+        (parts.Weights result.0.list) result.1 result.2.now }
+{
+    let mut own = gathered;
+    let (counted, rest) = take_all(&mut own, count, text);
+    (own, counted, rest)
+}
+
+/// The same, over a list that is asked to make room first: a word and its end are two bytes at least.
+fn take_weights<'a>(
+    list: &mut WeightList,
+    alloc: Global,
+    count: Count,
+    text: &'a [u8],
+) -> (Count, &'a [u8])
+    requires line { count.line + length text.now ≤ most_file_bytes + 1 }
+    requires words { count.words + length text.now ≤ most_file_bytes }
+    ensures { RunsTo (parts.Weights list.old) count text.now
+        (parts.Weights list.new) result.0 result.1.now }
+{
+    let gathered = list.gather(alloc, text.len() / 2);
+    let (gathered, counted, rest) = take_gathered(gathered, count, text);
+    list.put_back(gathered);
+    (counted, rest)
+}
+
+/// The same for the part of any section; of one whose words come in no run all is left.
+fn take_part<'a>(part: &mut Part, alloc: Global, count: Count, text: &'a [u8]) -> (Count, &'a [u8])
+    requires line { count.line + length text.now ≤ most_file_bytes + 1 }
+    requires words { count.words + length text.now ≤ most_file_bytes }
+    ensures { RunsTo part.old count text.now part.new result.0 result.1.now }
+{
+    match part {
+        Part::Weights(list) => take_weights(list, alloc, count, text),
+        Part::Tours(list) => take_all(list, count, text),
+        Part::Points(list) => take_all(list, count, text),
+        Part::SpacePoints(list) => take_all(list, count, text),
+        _ => (count, text),
+    }
+}
+
+impl Reading {
+    ghost use Rattle.std.specs.Prelude.{ℕ, List};
+    ghost use Rattle.tsp_read.specs.states.Intake.{IsReadTo};
+    ghost use Rattle.tsp_read.specs.states.Run.{counted};
+
+    /// The same for the section that is open, if one is.
+    fn take_run<'a>(&mut self, alloc: Global, count: Count, text: &'a [u8]) -> (Count, &'a [u8])
+        requires line { count.line + length text.now ≤ most_file_bytes + 1 }
+        requires words { count.words + length text.now ≤ most_file_bytes }
+        ensures read { (bytes : List ℕ) → IsReadTo (counted self.old count) bytes text.now
+            → IsReadTo (counted self.new result.0) bytes result.1.now }
+        ensures line { result.0.line + length result.1.now ≤ count.line + length text.now }
+        ensures words { result.0.words + length result.1.now ≤ count.words + length text.now }
+        ensures shorter { length result.1.now ≤ length text.now }
+    {
+        match &mut self.opened {
+            Some(section) => take_part(&mut section.part, alloc, count, text),
+            None => (count, text),
+        }
+    }
+}
+
+impl Intake {
+    ghost use Rattle.std.specs.Prelude.{ℕ, List};
+    ghost use Rattle.tsp_read.specs.states.Intake.{IsReadTo};
+
+    /// Takes what can be taken so at the front of a text, where the open section is of weights,
+    /// tours or points, and gives what is left of it.
+    pub(crate) fn take_run<'a>(&mut self, alloc: Global, text: &'a [u8]) -> &'a [u8]
+        requires line { self.old.line + length text.now ≤ most_file_bytes + 1 }
+        requires words { self.old.words + length text.now ≤ most_file_bytes }
+        ensures read { (bytes : List ℕ) → IsReadTo self.old bytes text.now
+            → IsReadTo self.new bytes result.now }
+        ensures line { self.new.line + length result.now ≤ self.old.line + length text.now }
+        ensures words { self.new.words + length result.now ≤ self.old.words + length text.now }
+        ensures shorter { length result.now ≤ length text.now }
+    {
+        let count = Count {
+            line: self.line,
+            words: self.words,
+            inside: self.inside,
+        };
+        let (counted, rest) = self.reading.take_run(alloc, count, text);
+        self.line = counted.line;
+        self.words = counted.words;
+        self.inside = counted.inside;
+        rest
+    }
+}

@@ -1,0 +1,88 @@
+//! The end of the text.
+
+ghost use Rattle.std.specs.Prelude.{◌≡◌, List, Err, is_some, true};
+ghost use Rattle.tsp_text.specs.declared.fault.ReadFault.TheVariants.{OutOfMemory};
+ghost use Rattle.tsp_text.specs.Items.{Item};
+ghost use Rattle.tsp_read.specs.states.Holds.{Holds};
+ghost use Rattle.tsp_text.specs.Cuts.{AreCut};
+ghost use Rattle.tsp_read.specs.Reads.{Completes};
+ghost use Rattle.tsp_draft.specs.Fields.{fields_of};
+ghost use Rattle.tsp_read.specs.states.Finishes.{FileOf};
+
+use crate::state::reading::Reading;
+use std::alloc::Global;
+use tsp_draft::{Draft, DraftFault, EndFault, end_fault};
+use tsp_file::File;
+use tsp_format::Field;
+use tsp_text::ReadFault;
+
+/// Why what was read is no file.
+#[derive(Clone, Copy)]
+pub(crate) enum FinishFault {
+    /// Memory was refused.
+    Memory,
+    /// The lines together have this fault.
+    End(EndFault),
+}
+
+/// The fault that a refused draft stands for. The drafts that are read are never refused.
+fn refused(fault: DraftFault) -> EndFault {
+    match fault {
+        DraftFault::Rule(fault) => fault,
+        DraftFault::BadField(field) => EndFault::Missing(field),
+    }
+}
+
+/// The file of the fields that were read, or the fault of the end table.
+fn file_of(draft: Draft, incomplete: Option<Field>) -> Result<File, FinishFault>
+    ensures { FileOf (fields_of draft) incomplete result }
+{
+    match end_fault(&draft, incomplete) {
+        Some(fault) => {
+            drop(draft);
+            Err(FinishFault::End(fault))
+        }
+        None => match File::of(draft) {
+            Ok(file) => Ok(file),
+            Err((fault, draft)) => {
+                drop(draft);
+                Err(FinishFault::End(refused(fault)))
+            }
+        },
+    }
+}
+
+impl Reading {
+    ghost use Rattle.tsp_read.specs.declared.state.finish.FinishFault.TheVariants.{Memory};
+    ghost use Rattle.tsp_read.specs.states.Finishes.{Finishes};
+
+    /// The file that was read, or the fault of its end.
+    pub(crate) fn finish(mut self, alloc: Global) -> Result<File, FinishFault>
+        ensures file { (earlier : List Item) → Holds self earlier → AreCut earlier
+            → Finishes earlier result }
+        ensures stood { result ≡ Err Memory → is_some self.opened ≡ true }
+    {
+        match self.close(alloc) {
+            Ok(()) => {}
+            Err(_) => {
+                drop(self);
+                return Err(FinishFault::Memory);
+            }
+        }
+        let (draft, incomplete) = self.into_draft();
+        file_of(draft, incomplete)
+    }
+}
+
+/// The file of all that was read.
+pub(crate) fn completed(reading: Reading, alloc: Global) -> Result<File, ReadFault>
+    ensures file { (earlier : List Item) → Holds reading earlier → AreCut earlier
+        → Completes earlier result }
+    ensures stood { result ≡ Err OutOfMemory → is_some reading.opened ≡ true }
+{
+    match reading.finish(alloc) {
+        Ok(file) => Ok(file),
+        Err(FinishFault::Memory) => Err(ReadFault::OutOfMemory),
+        Err(FinishFault::End(fault)) => Err(ReadFault::End(fault)),
+    }
+}

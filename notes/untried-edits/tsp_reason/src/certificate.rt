@@ -1,0 +1,10 @@
+//! What certifies a bound.
+
+/// What a file that certifies a bound on the tours of an instance holds.
+#[derive(Clone, Copy, Debug, PartialEq, Eq)]
+pub enum Certificate {
+    /// Potentials of nodes and of fixed edges for a TSP, or of rows and columns for an ATSP.
+    Potentials,
+    /// A tree of cases, with combs and the potentials of each leaf, for a TSP.
+    Branches,
+}

@@ -1,0 +1,94 @@
+//! What is said of a solution of an instance.
+
+/// Why a solution is refused. Places, routes, fixed pairs, multipliers, combs, branches and leaves
+/// count from 1: places through all tours of the solution, one after the other, branches and leaves
+/// through their section.
+///
+/// The reasons of a tour are judged in the order in which they stand here, up to `FixedEdgeUnused`,
+/// and then those of a certificate by potentials or of one by branching; those of routes in the
+/// order `NotASolution`, `TooFewNodes`, `Dimension`, `DepotCount`, `DepotDemand`,
+/// `FixedEdgesInRoutes`, `DepotInRoute`, `NodeOutOfRange`, `RepeatedNode`, `Unserved`, `Overload`.
+#[derive(Clone, Copy, Debug, PartialEq, Eq)]
+pub enum Reason {
+    /// The solution is not a file of TYPE TOUR.
+    NotASolution,
+    /// The instance has fewer than 3 nodes, or fewer than 2 where routes are judged.
+    TooFewNodes,
+    /// The instance is of TYPE TSP, and this is the first pair, the smaller node first, by rows,
+    /// whose two costs differ.
+    NotSymmetric { i: u32, j: u32 },
+    /// The solution has a DIMENSION other than that of the instance.
+    Dimension,
+    /// The solution does not hold exactly one tour.
+    TourCount,
+    /// The tour does not have as many nodes as the instance.
+    TourLength,
+    /// The node at this place is the first one larger than the number of nodes.
+    NodeOutOfRange { place: u32 },
+    /// The node at this place is the first one that stands at an earlier place.
+    RepeatedNode { place: u32 },
+    /// This fixed pair is the first one that the tour does not use: as neighbours in either
+    /// direction, and under TYPE ATSP from its first to its second node alone.
+    FixedEdgeUnused { index: u32 },
+    /// The certificate is not a file of TYPE POTENTIALS.
+    NotPotentials,
+    /// The certificate has a DIMENSION other than that of the instance.
+    PotentialsDimension,
+    /// The certificate has no potentials of nodes, which a TSP wants, or none of rows and columns,
+    /// which an ATSP wants.
+    PotentialsKind,
+    /// The instance is of TYPE TSP, and this multiplier is the first one whose pair isn't among the
+    /// fixed pairs of the instance, in either direction.
+    MultiplierNotFixed { index: u32 },
+    /// The instance is of TYPE TSP, and this multiplier is the first one whose pair an earlier one
+    /// has, in either direction.
+    MultiplierRepeated { index: u32 },
+    /// The instance is of TYPE ATSP, and this is the first pair of different nodes, by rows, whose
+    /// potentials of row and column sum to more than the cost at the scale.
+    DualInfeasible { i: u32, j: u32 },
+    /// The instance does not list exactly one depot.
+    DepotCount,
+    /// The depot has a demand other than 0.
+    DepotDemand,
+    /// The instance lists a fixed pair.
+    FixedEdgesInRoutes,
+    /// The node at this place is the first one that is the depot.
+    DepotInRoute { place: u32 },
+    /// This node is the least one, the depot aside, that is in no route.
+    Unserved { node: u32 },
+    /// This route is the first one whose demands sum to more than the capacity.
+    Overload { route: u32 },
+    /// The certificate is not a file of TYPE BRANCHES.
+    NotBranches,
+    /// The certificate by branching has a DIMENSION other than that of the instance.
+    BranchesDimension,
+    /// This comb is the first one that isn't one: it has an even number of teeth or fewer than
+    /// three, a node twice in a set, teeth that meet, or a tooth inside or outside of its handle.
+    BadComb { index: u32 },
+    /// This branch is the first one whose pair is decided above it or fixed, in either direction.
+    BranchTwice { index: u32 },
+    /// This leaf is the first one that isn't good: it has an index past those of the nodes and the
+    /// combs, a potential above 10^15 in size, a negative multiplier, or multipliers that sum to
+    /// more than 3 * 10^17.
+    BadLeaf { index: u32 },
+}
+
+/// The verdict on a solution: a yes with its length, or a no with the first reason against it.
+#[derive(Clone, Copy, Debug, PartialEq, Eq)]
+pub enum Verdict {
+    /// A yes: the solution is a tour of this length. Where a certificate was judged too, no tour of
+    /// the instance is shorter than the bound.
+    Tour {
+        length: i64,
+        bound: Option<i128>,
+    },
+    /// A yes: the solution is a plan of so many routes, of this length in all. No plan of the
+    /// instance has fewer than `least` routes.
+    Routes {
+        length: i64,
+        routes: u32,
+        least: u64,
+    },
+    /// A no, with the first reason that stands against the solution.
+    No(Reason),
+}

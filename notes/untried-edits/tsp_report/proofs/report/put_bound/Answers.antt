@@ -1,0 +1,26 @@
+use Rattle.std.proofs.Common.{◌++◌, ◌≡◌, rules}
+use Rattle.std.specs.Prelude.{codes, FitsSigned, ◌-ℤ◌}
+use Rattle.std.specs.Int.{w64, w128}
+use Rattle.std.proofs.lemmas.Int.{to_z-of_z}
+use Rattle.std.specs.Fmt.{signed_decimal}
+use Rattle.tsp_stream.specs.Way.{way_of}
+use Rattle.tsp_stream.proofs.Carrying.{carried_none, carried_then}
+use Rattle.tsp_report.specs.Report.{gap_lines}
+use Rattle.tsp_report.proofs.report.put_bound.Goals as goal
+
+pub returns-in-Some : goal.returns-in-Some
+returns-in-Some g c =
+    let start = way_of g.W.Write.contents c.args.out.now c.args.piece.now.items in
+    let after_bound = way_of g.W.Write.contents c.put_named.new.out c.put_named.new.piece.items in
+    let last = way_of g.W.Write.contents c.put_gap.new.out c.put_gap.new.piece.items in
+    let bound = c.in-Some.bound in
+    let fits : FitsSigned w64 c.args.length = search rules in
+    let bound_fits : FitsSigned w128 c.in-Some.bound = search rules in
+    let gap_fits : FitsSigned w128 c.gap_of.result = search rules in
+    let named = simp to_z-of_z at c.put_named.ensures in
+    let gap : c.gap_of.result ≡ c.args.length -ℤ c.in-Some.bound = simp to_z-of_z at c.gap_of.ensures in
+    let rest = rw gap at (simp to_z-of_z at c.put_gap.ensures) in
+    rw c.in-Some.is (carried_then start after_bound last (codes "bound " ++ signed_decimal bound) (gap_lines (c.args.length -ℤ bound)) named rest)
+
+pub returns-in_default : goal.returns-in_default
+returns-in_default g c = rw c.in_default.is (carried_none (way_of g.W.Write.contents c.args.out.now c.args.piece.now.items))

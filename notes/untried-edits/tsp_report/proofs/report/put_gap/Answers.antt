@@ -1,0 +1,19 @@
+use Rattle.std.proofs.Common.{◌≡◌, ◌++◌, rules, false, arith}
+use Rattle.std.specs.Prelude.{codes, FitsSigned, pos}
+use Rattle.std.specs.Ordering.{int_eq}
+use Rattle.std.specs.Int.{w128}
+use Rattle.std.proofs.lemmas.Int.{ints, to_z-of_z}
+use Rattle.std.specs.Fmt.{signed_decimal}
+use Rattle.tsp_stream.specs.Way.{way_of}
+use Rattle.tsp_stream.proofs.Carrying.{carried_then}
+use Rattle.tsp_report.proofs.report.put_gap.Goals as goal
+
+pub returns : goal.returns
+returns g c =
+    let start = way_of g.W.Write.contents c.args.out.now c.args.piece.now.items in
+    let after_number = way_of g.W.Write.contents c.put_named.new.out c.put_named.new.piece.items in
+    let last = way_of g.W.Write.contents c.put-2.new.out c.put-2.new.piece.items in
+    let fits : FitsSigned w128 c.args.gap = search rules in
+    let named = simp to_z-of_z at c.put_named.ensures in
+    let some : int_eq c.args.gap (pos 0) ≡ false = grind (arith, ints) in
+    rw some (carried_then start after_number last (codes "\ngap " ++ signed_decimal c.args.gap) (codes "\n") named c.put-2.ensures)

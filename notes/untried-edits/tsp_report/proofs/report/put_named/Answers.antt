@@ -1,0 +1,10 @@
+use Rattle.tsp_stream.specs.Way.{way_of}
+use Rattle.tsp_stream.proofs.Carrying.{carried_then}
+use Rattle.tsp_report.proofs.report.put_named.Goals as goal
+
+pub returns : goal.returns
+returns g c =
+    let start = way_of g.W.Write.contents c.args.out.now c.args.piece.now.items in
+    let after_words = way_of g.W.Write.contents c.put.new.out c.put.new.piece.items in
+    let last = way_of g.W.Write.contents c.put_number.new.out c.put_number.new.piece.items in
+    carried_then start after_words last c.args.words.now (g.N.Integer.text c.args.number) c.put.ensures c.put_number.ensures

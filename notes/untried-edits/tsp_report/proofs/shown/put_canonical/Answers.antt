@@ -1,0 +1,17 @@
+use Rattle.std.proofs.Common.{◌++◌, rules}
+use Rattle.std.specs.Prelude.{codes, FitsSigned}
+use Rattle.tsp_stream.specs.Way.{way_of}
+use Rattle.tsp_stream.proofs.Carrying.{carried_then}
+use Rattle.std.specs.Fmt.{signed_decimal}
+use Rattle.std.specs.Int.{w64}
+use Rattle.std.proofs.lemmas.Int.{to_z-of_z}
+use Rattle.tsp_report.proofs.shown.put_canonical.Goals as goal
+
+pub returns : goal.returns
+returns g c =
+    let start = way_of g.W.Write.contents c.args.out.now c.args.piece.now.items in
+    let after_number = way_of g.W.Write.contents c.put_named.new.out c.put_named.new.piece.items in
+    let last = way_of g.W.Write.contents c.put.new.out c.put.new.piece.items in
+    let fits : FitsSigned w64 c.args.length = search rules in
+    let named = simp to_z-of_z at c.put_named.ensures in
+    carried_then start after_number last (codes "canonical " ++ signed_decimal c.args.length) (codes "\n") named c.put.ensures

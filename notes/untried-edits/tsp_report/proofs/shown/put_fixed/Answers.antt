@@ -1,0 +1,18 @@
+use Rattle.std.proofs.Common.{◌++◌}
+use Rattle.std.specs.Prelude.{codes}
+use Rattle.tsp_stream.specs.Way.{way_of}
+use Rattle.tsp_stream.proofs.Carrying.{carried_then}
+use Rattle.std.specs.Fmt.{decimal}
+use Rattle.std.proofs.Common.{length}
+use Rattle.tsp_stream.proofs.Carrying.{carried_none}
+use Rattle.tsp_report.proofs.shown.put_fixed.Goals as goal
+
+pub returns-in-Some : goal.returns-in-Some
+returns-in-Some g c =
+    let start = way_of g.W.Write.contents c.args.out.now c.args.piece.now.items in
+    let after_number = way_of g.W.Write.contents c.put_named.new.out c.put_named.new.piece.items in
+    let last = way_of g.W.Write.contents c.put.new.out c.put.new.piece.items in
+    rw c.in-Some.is (carried_then start after_number last (codes "fixed " ++ decimal (length c.in-Some.pairs.now)) (codes "\n") c.put_named.ensures c.put.ensures)
+
+pub returns-in_default : goal.returns-in_default
+returns-in_default g c = rw c.in_default.is (carried_none (way_of g.W.Write.contents c.args.out.now c.args.piece.now.items))

@@ -1,0 +1,15 @@
+use Rattle.std.proofs.Common.{◌++◌}
+use Rattle.std.specs.Prelude.{codes}
+use Rattle.tsp_stream.specs.Way.{way_of}
+use Rattle.tsp_stream.proofs.Carrying.{carried_then}
+use Rattle.std.specs.Fmt.{decimal}
+use Rattle.tsp_format.specs.Steps.{leaf_count, steps_of}
+use Rattle.tsp_report.proofs.shown.put_leaves.Goals as goal
+
+pub returns : goal.returns
+returns g c =
+    let start = way_of g.W.Write.contents c.args.out.now c.args.piece.now.items in
+    let after_number = way_of g.W.Write.contents c.put_named.new.out c.put_named.new.piece.items in
+    let last = way_of g.W.Write.contents c.put.new.out c.put.new.piece.items in
+    let named = rw c.leaves_of.ensures at c.put_named.ensures in
+    carried_then start after_number last (codes "leaves " ++ decimal (leaf_count (steps_of c.args.steps.now))) (codes "\n") named c.put.ensures

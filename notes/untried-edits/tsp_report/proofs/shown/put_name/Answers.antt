@@ -1,0 +1,17 @@
+use Rattle.std.proofs.Common.{◌++◌, ◌∙◌, sym, subst}
+use Rattle.std.specs.Prelude.{codes}
+use Rattle.tsp_stream.specs.Way.{way_of, Carried}
+use Rattle.tsp_stream.proofs.Carrying.{carried_then}
+use Rattle.tsp_report.proofs.Texts.{named}
+use Rattle.tsp_report.proofs.shown.put_name.Goals as goal
+
+pub returns : goal.returns
+returns g c =
+    let start = way_of g.W.Write.contents c.args.out.now c.args.piece.now.items in
+    let begun = way_of g.W.Write.contents c.put.new.out c.put.new.piece.items in
+    let after_name = way_of g.W.Write.contents c.put-2.new.out c.put-2.new.piece.items in
+    let last = way_of g.W.Write.contents c.put-3.new.out c.put-3.new.piece.items in
+    let name = c.in-Some.value.now in
+    let whole = carried_then start after_name last (codes "name " ++ name) (codes "\n") (carried_then start begun after_name (codes "name ") name c.put.ensures c.put-2.ensures)
+    c.put-3.ensures in
+    rw c.in-Some.is (subst (Carried start last) (named name (sym c.is_empty.ensures ∙ c.if-is_empty.false)) whole)

@@ -1,0 +1,21 @@
+use Rattle.std.proofs.Common.{◌++◌, ℕ, subst, sym, length, map}
+use Rattle.std.specs.Prelude.{codes}
+use Rattle.std.specs.Fmt.{decimal}
+use Rattle.std.specs.List.{enumerate_from, flat_map}
+use Rattle.std.proofs.lemmas.List.{length-map}
+use Rattle.tsp_stream.specs.Way.{Carried, way_of}
+use Rattle.tsp_stream.proofs.Carrying.{carried_then}
+use Rattle.tsp_report.specs.Show.{tour_line}
+use Rattle.tsp_report.proofs.shown.put_tours.Goals as goal
+
+pub returns : goal.returns
+returns g c =
+    let start = way_of g.W.Write.contents c.args.out.now c.args.piece.now.items in
+    let after_count = way_of g.W.Write.contents c.put_named.new.out c.put_named.new.piece.items in
+    let after_line = way_of g.W.Write.contents c.put.new.out c.put.new.piece.items in
+    let last = way_of g.W.Write.contents c.put_each_tour.new.out c.put_each_tour.new.piece.items in
+    let tours = map (λ tour. tour.items) c.args.tours.now in
+    let named = subst (λ (n : ℕ). Carried start after_count (codes "tours " ++ decimal n)) (sym (length-map c.args.tours.now (λ tour. tour.items))) c.put_named.ensures in
+    let text = codes "tours " ++ decimal (length tours) in
+    carried_then start after_line last (text ++ codes "\n") (flat_map tour_line (enumerate_from 1 tours))
+    (carried_then start after_count after_line text (codes "\n") named c.put.ensures) c.put_each_tour.ensures

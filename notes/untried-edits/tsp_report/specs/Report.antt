@@ -1,0 +1,123 @@
+-- The report of a check, line by line. Each line ends with byte 10, and one blank stands between words.
+use Rattle.std.specs.Prelude.{ℕ, List, ◌++◌, map, codes, decimal, cond, ℤ, pos, ◌-ℤ◌, Option, None, Some, unwrap_or, [], IfSome, unsigned_abs, ◌≤◌, ◌^◌}
+use Rattle.std.specs.List.{concat}
+use Rattle.std.specs.Option.{option_map_or}
+use Rattle.std.specs.Ordering.{int_eq}
+use Rattle.std.specs.Fmt.{signed_decimal}
+use Rattle.tsp_format.specs.declared.kinds.Kind.{Kind}
+use Rattle.tsp_format.specs.Words.{kind_word}
+use Rattle.tsp_draft.specs.Fields.{Fields}
+use Rattle.tsp_reason.specs.declared.verdict.Reason.{Reason}
+use Rattle.tsp_reason.specs.declared.verdict.Reason.TheVariants.{NotASolution, TooFewNodes, NotSymmetric, Dimension, TourCount, TourLength, NodeOutOfRange, RepeatedNode, FixedEdgeUnused, NotPotentials, PotentialsDimension, PotentialsKind, MultiplierNotFixed, MultiplierRepeated, DualInfeasible, DepotCount, DepotDemand, FixedEdgesInRoutes, DepotInRoute, Unserved, Overload, NotBranches, BranchesDimension, BadComb, BranchTwice, BadLeaf}
+use Rattle.tsp_reason.specs.declared.verdict.Verdict.{Verdict}
+use Rattle.tsp_reason.specs.declared.verdict.Verdict.TheVariants.{Tour, Routes, No}
+
+-- ---- the instance
+
+-- a line for each unknown keyword line, in order
+abbrev pub not_judged : List (List ℕ × List ℕ) → List ℕ
+not_judged others = concat (map (λ other. codes "not judged " ++ other.0 ++ codes "\n") others)
+
+abbrev pub type_line : Option Kind → List ℕ
+type_line kind = codes "type " ++ option_map_or kind_word kind [] ++ codes "\n"
+
+abbrev pub nodes_line : ℕ → List ℕ
+nodes_line n = codes "nodes " ++ decimal n ++ codes "\n"
+
+abbrev pub instance_lines : Fields → List ℕ
+instance_lines f = type_line f.kind ++ nodes_line (unwrap_or f.dimension 0) ++ not_judged f.others
+
+-- ---- the verdict
+
+abbrev pub reason_name : Reason → List ℕ
+reason_name NotASolution = codes "NotASolution"
+reason_name TooFewNodes = codes "TooFewNodes"
+reason_name (NotSymmetric i j) = codes "NotSymmetric"
+reason_name Dimension = codes "Dimension"
+reason_name TourCount = codes "TourCount"
+reason_name TourLength = codes "TourLength"
+reason_name (NodeOutOfRange place) = codes "NodeOutOfRange"
+reason_name (RepeatedNode place) = codes "RepeatedNode"
+reason_name (FixedEdgeUnused index) = codes "FixedEdgeUnused"
+reason_name NotPotentials = codes "NotPotentials"
+reason_name PotentialsDimension = codes "PotentialsDimension"
+reason_name PotentialsKind = codes "PotentialsKind"
+reason_name (MultiplierNotFixed index) = codes "MultiplierNotFixed"
+reason_name (MultiplierRepeated index) = codes "MultiplierRepeated"
+reason_name (DualInfeasible i j) = codes "DualInfeasible"
+reason_name DepotCount = codes "DepotCount"
+reason_name DepotDemand = codes "DepotDemand"
+reason_name FixedEdgesInRoutes = codes "FixedEdgesInRoutes"
+reason_name (DepotInRoute place) = codes "DepotInRoute"
+reason_name (Unserved node) = codes "Unserved"
+reason_name (Overload route) = codes "Overload"
+reason_name NotBranches = codes "NotBranches"
+reason_name BranchesDimension = codes "BranchesDimension"
+reason_name (BadComb index) = codes "BadComb"
+reason_name (BranchTwice index) = codes "BranchTwice"
+reason_name (BadLeaf index) = codes "BadLeaf"
+
+-- its numbers, of which it has two at most
+abbrev pub reason_numbers : Reason → Option ℕ × Option ℕ
+reason_numbers NotASolution = (None, None)
+reason_numbers TooFewNodes = (None, None)
+reason_numbers (NotSymmetric i j) = (Some i, Some j)
+reason_numbers Dimension = (None, None)
+reason_numbers TourCount = (None, None)
+reason_numbers TourLength = (None, None)
+reason_numbers (NodeOutOfRange place) = (Some place, None)
+reason_numbers (RepeatedNode place) = (Some place, None)
+reason_numbers (FixedEdgeUnused index) = (Some index, None)
+reason_numbers NotPotentials = (None, None)
+reason_numbers PotentialsDimension = (None, None)
+reason_numbers PotentialsKind = (None, None)
+reason_numbers (MultiplierNotFixed index) = (Some index, None)
+reason_numbers (MultiplierRepeated index) = (Some index, None)
+reason_numbers (DualInfeasible i j) = (Some i, Some j)
+reason_numbers DepotCount = (None, None)
+reason_numbers DepotDemand = (None, None)
+reason_numbers FixedEdgesInRoutes = (None, None)
+reason_numbers (DepotInRoute place) = (Some place, None)
+reason_numbers (Unserved node) = (Some node, None)
+reason_numbers (Overload route) = (Some route, None)
+reason_numbers NotBranches = (None, None)
+reason_numbers BranchesDimension = (None, None)
+reason_numbers (BadComb index) = (Some index, None)
+reason_numbers (BranchTwice index) = (Some index, None)
+reason_numbers (BadLeaf index) = (Some index, None)
+
+abbrev pub after_blank : Option ℕ → List ℕ
+after_blank None = []
+after_blank (Some number) = codes " " ++ decimal number
+
+-- the name of a reason, and its numbers
+abbrev pub reason_text : Reason → List ℕ
+reason_text reason = reason_name reason ++ after_blank (reason_numbers reason).0 ++ after_blank (reason_numbers reason).1
+
+-- by how much a length is more than a bound; it is optimal where they are equal
+abbrev pub gap_lines : ℤ → List ℕ
+gap_lines gap = cond (int_eq gap (pos 0)) (codes "\noptimal\n") (codes "\ngap " ++ signed_decimal gap ++ codes "\n")
+
+abbrev pub bound_lines : ℤ → Option ℤ → List ℕ
+bound_lines length None = []
+bound_lines length (Some bound) = codes "bound " ++ signed_decimal bound ++ gap_lines (length -ℤ bound)
+
+abbrev pub verdict_lines : Verdict → List ℕ
+verdict_lines (Tour length bound) = codes "length " ++ signed_decimal length ++ codes "\n" ++ bound_lines length bound
+    ++ codes "yes\n"
+verdict_lines (Routes length routes least) = codes "routes " ++ decimal routes ++ codes "\nleast " ++ decimal least
+    ++ codes "\nlength " ++ signed_decimal length ++ codes "\nyes\n"
+verdict_lines (No reason) = codes "no " ++ reason_text reason ++ codes "\n"
+
+-- a bound of which the gap to a length fits
+abbrev pub IsBoundSized : Option ℤ → Type 0
+IsBoundSized bound = IfSome bound (λ b. unsigned_abs b ≤ 2 ^ 126)
+
+abbrev pub IsSized : Verdict → Type 0
+IsSized (Tour length bound) = IsBoundSized bound
+IsSized (Routes length routes least) = Unit {0}
+IsSized (No reason) = Unit {0}
+
+-- the report on an instance
+abbrev pub report_of : Fields → Verdict → List ℕ
+report_of instance verdict = instance_lines instance ++ verdict_lines verdict

@@ -1,0 +1,94 @@
+-- What is shown of a file, line by line. Each line ends with byte 10, and one blank stands between words.
+use Rattle.std.specs.Prelude.{ℕ, List, [], ◌∷◌, ◌++◌, length, codes, decimal, cond, ℤ, pos, Option, None, Some, unwrap_or}
+use Rattle.std.specs.List.{flat_map, enumerate_from}
+use Rattle.std.specs.Option.{option_map_or}
+use Rattle.std.specs.Fmt.{signed_decimal}
+use Rattle.tsp_format.specs.declared.kinds.Kind.{Kind}
+use Rattle.tsp_format.specs.declared.kinds.Kind.TheVariants.{Tsp, Atsp, Cvrp, Tour, Potentials, Branches}
+use Rattle.tsp_format.specs.declared.kinds.WeightKind.{WeightKind}
+use Rattle.tsp_format.specs.declared.kinds.WeightFormat.{WeightFormat}
+use Rattle.tsp_format.specs.Words.{weight_kind_word, weight_format_word}
+use Rattle.tsp_format.specs.Cells.{nodes_to}
+use Rattle.tsp_format.specs.Steps.{Step, leaf_count}
+use Rattle.tsp_draft.specs.Fields.{Fields}
+use Rattle.tsp_draft.specs.Rules.{is_explicit}
+use Rattle.tsp_file.specs.Cost.{cost}
+use Rattle.tsp_theory.specs.Length.{length_of}
+use Rattle.tsp_report.specs.Report.{type_line, nodes_line, not_judged}
+
+-- ---- any file
+
+-- the value of NAME, where it isn't empty
+abbrev pub name_line : Option (List ℕ) → List ℕ
+name_line None = []
+name_line (Some []) = []
+name_line (Some (first ∷ rest)) = codes "name " ++ (first ∷ rest) ++ codes "\n"
+
+-- the name, the TYPE, and the number of nodes where it stands
+abbrev pub head_lines : Fields → List ℕ
+head_lines f = name_line f.name ++ (type_line f.kind ++ option_map_or nodes_line f.dimension [])
+
+-- ---- instances
+
+-- after listed weights, a blank and the word of their layout
+abbrev pub layout_part : Option WeightKind → Option WeightFormat → List ℕ
+layout_part kind format = cond (is_explicit kind) (codes " " ++ option_map_or weight_format_word format []) []
+
+abbrev pub weights_line : Option WeightKind → Option WeightFormat → List ℕ
+weights_line kind format = codes "weights " ++ option_map_or weight_kind_word kind [] ++ layout_part kind format ++ codes "\n"
+
+-- the length of the list of all nodes in their order, 1, 2, .., n
+abbrev pub canonical_of : Fields → ℤ
+canonical_of f = length_of (cost f) (nodes_to (unwrap_or f.dimension 0))
+
+abbrev pub canonical_line : ℤ → List ℕ
+canonical_line canonical = codes "canonical " ++ signed_decimal canonical ++ codes "\n"
+
+-- how many fixed pairs are listed, where a section lists them
+abbrev pub fixed_line : Option (List (ℕ × ℕ)) → List ℕ
+fixed_line None = []
+fixed_line (Some pairs) = codes "fixed " ++ decimal (length pairs) ++ codes "\n"
+
+abbrev pub cost_lines : Fields → List ℕ
+cost_lines f = weights_line f.weight_kind f.weight_format ++ (canonical_line (canonical_of f) ++ fixed_line f.fixed)
+
+-- ---- tours, potentials and trees of cases
+
+-- a tour with its number
+abbrev pub tour_line : ℕ × List ℕ → List ℕ
+tour_line tour = codes "tour " ++ decimal tour.0 ++ codes " nodes " ++ decimal (length tour.1) ++ codes "\n"
+
+-- how many tours there are, and a line for each, numbered from 1
+abbrev pub tour_lines : List (List ℕ) → List ℕ
+tour_lines tours = codes "tours " ++ decimal (length tours) ++ codes "\n" ++ flat_map tour_line (enumerate_from 1 tours)
+
+-- the scale, which is 1 where SCALE is missing
+abbrev pub scale_line : Option ℤ → List ℕ
+scale_line scale = codes "scale " ++ signed_decimal (unwrap_or scale (pos 1)) ++ codes "\n"
+
+-- how many combs there are, where a section lists them
+abbrev pub combs_line : Option (List (List (List ℕ))) → List ℕ
+combs_line None = []
+combs_line (Some combs) = codes "combs " ++ decimal (length combs) ++ codes "\n"
+
+-- how many leaves a tree has
+abbrev pub leaves_line : List Step → List ℕ
+leaves_line steps = codes "leaves " ++ decimal (leaf_count steps) ++ codes "\n"
+
+abbrev pub tree_lines : Fields → List ℕ
+tree_lines f = scale_line f.scale ++ (combs_line f.combs ++ leaves_line (unwrap_or f.branches []))
+
+-- ---- the whole
+
+abbrev pub lines_by_type : Option Kind → Fields → List ℕ
+lines_by_type (Some Tsp) f = cost_lines f
+lines_by_type (Some Atsp) f = cost_lines f
+lines_by_type (Some Cvrp) f = cost_lines f
+lines_by_type (Some Tour) f = tour_lines (unwrap_or f.tours [])
+lines_by_type (Some Potentials) f = scale_line f.scale
+lines_by_type (Some Branches) f = tree_lines f
+lines_by_type None f = []
+
+-- what is shown of a file
+abbrev pub shown : Fields → List ℕ
+shown f = head_lines f ++ lines_by_type f.kind f ++ not_judged f.others

@@ -1,0 +1,85 @@
+//! Lines of reports and of what is shown. No body is looked at here: a definition that is changed
+//! together with its code is refused by its examples. Digits stand as `decimal` writes them.
+
+ghost use Rattle.std.specs.Prelude.{◌≡◌, ℕ, List, [], ◌∷◌, ◌++◌, None, Some, pos, negsuc, codes, decimal};
+ghost use Rattle.std.specs.Fmt.{signed_decimal};
+ghost use Rattle.tsp_format.specs.declared.kinds.Kind.TheVariants as kinds;
+ghost use Rattle.tsp_format.specs.declared.kinds.WeightKind.TheVariants as weight_kinds;
+ghost use Rattle.tsp_format.specs.declared.kinds.WeightFormat.TheVariants as formats;
+ghost use Rattle.tsp_format.specs.declared.layout.Layout.TheVariants as layouts;
+ghost use Rattle.tsp_format.specs.Steps.{Branch, Leaf};
+ghost use Rattle.tsp_reason.specs.declared.verdict.Reason.TheVariants as reasons;
+ghost use Rattle.tsp_reason.specs.declared.verdict.Verdict.TheVariants as verdicts;
+ghost use Rattle.tsp_report.specs.Report.{not_judged, type_line, nodes_line, gap_lines, bound_lines, reason_text, verdict_lines};
+ghost use Rattle.tsp_report.specs.Show.{name_line, weights_line, canonical_line, fixed_line, tour_lines, scale_line, combs_line, leaves_line};
+
+/// The lines of a report.
+pub fn examples_of_reports()
+    ensures kind { type_line (Some kinds.Atsp) ≡ codes "type ATSP\n" }
+    ensures nodes { nodes_line 4 ≡ codes "nodes " ++ decimal 4 ++ codes "\n" }
+    ensures unknown { not_judged ((codes "FOO", codes "1") ∷ (codes "BAR", []) ∷ []) ≡ codes "not judged FOO\nnot judged BAR\n" }
+    ensures no_gap { gap_lines (pos 0) ≡ codes "\noptimal\n" }
+    ensures gap_of_one { gap_lines (pos 1) ≡ codes "\ngap " ++ signed_decimal (pos 1) ++ codes "\n" }
+    ensures no_bound { bound_lines (pos 14) None ≡ [] }
+    ensures bound_met { bound_lines (pos 14) (Some (pos 14)) ≡ codes "bound " ++ signed_decimal (pos 14) ++ codes "\noptimal\n" }
+    ensures bound_below { bound_lines (pos 18) (Some (pos 14)) ≡ codes "bound " ++ signed_decimal (pos 14) ++ gap_lines (pos 4) }
+    ensures below_zero { bound_lines (negsuc 33) (Some (negsuc 34))
+        ≡ codes "bound " ++ signed_decimal (negsuc 34) ++ gap_lines (pos 1) }
+    ensures tour { verdict_lines (verdicts.Tour (pos 14) None) ≡ codes "length " ++ signed_decimal (pos 14) ++ codes "\nyes\n" }
+    ensures routes { verdict_lines (verdicts.Routes (pos 20) 3 2) ≡ codes "routes " ++ decimal 3 ++ codes "\nleast " ++ decimal 2
+        ++ codes "\nlength " ++ signed_decimal (pos 20) ++ codes "\nyes\n" }
+    ensures no { verdict_lines (verdicts.No reasons.TourCount) ≡ codes "no TourCount\n" }
+{}
+
+/// The words of each reason.
+pub fn examples_of_reasons()
+    ensures no_solution { reason_text reasons.NotASolution ≡ codes "NotASolution" }
+    ensures few_nodes { reason_text reasons.TooFewNodes ≡ codes "TooFewNodes" }
+    ensures uneven { reason_text (reasons.NotSymmetric 1 2) ≡ codes "NotSymmetric " ++ decimal 1 ++ codes " " ++ decimal 2 }
+    ensures dimension { reason_text reasons.Dimension ≡ codes "Dimension" }
+    ensures count { reason_text reasons.TourCount ≡ codes "TourCount" }
+    ensures length { reason_text reasons.TourLength ≡ codes "TourLength" }
+    ensures range { reason_text (reasons.NodeOutOfRange 3) ≡ codes "NodeOutOfRange " ++ decimal 3 }
+    ensures repeated { reason_text (reasons.RepeatedNode 3) ≡ codes "RepeatedNode " ++ decimal 3 }
+    ensures fixed { reason_text (reasons.FixedEdgeUnused 1) ≡ codes "FixedEdgeUnused " ++ decimal 1 }
+    ensures no_potentials { reason_text reasons.NotPotentials ≡ codes "NotPotentials" }
+    ensures their_dimension { reason_text reasons.PotentialsDimension ≡ codes "PotentialsDimension" }
+    ensures their_kind { reason_text reasons.PotentialsKind ≡ codes "PotentialsKind" }
+    ensures not_fixed { reason_text (reasons.MultiplierNotFixed 2) ≡ codes "MultiplierNotFixed " ++ decimal 2 }
+    ensures fixed_twice { reason_text (reasons.MultiplierRepeated 3) ≡ codes "MultiplierRepeated " ++ decimal 3 }
+    ensures duals { reason_text (reasons.DualInfeasible 1 2) ≡ codes "DualInfeasible " ++ decimal 1 ++ codes " " ++ decimal 2 }
+    ensures depots { reason_text reasons.DepotCount ≡ codes "DepotCount" }
+    ensures demand { reason_text reasons.DepotDemand ≡ codes "DepotDemand" }
+    ensures pairs { reason_text reasons.FixedEdgesInRoutes ≡ codes "FixedEdgesInRoutes" }
+    ensures depot { reason_text (reasons.DepotInRoute 1) ≡ codes "DepotInRoute " ++ decimal 1 }
+    ensures unserved { reason_text (reasons.Unserved 4) ≡ codes "Unserved " ++ decimal 4 }
+    ensures overload { reason_text (reasons.Overload 1) ≡ codes "Overload " ++ decimal 1 }
+    ensures no_tree { reason_text reasons.NotBranches ≡ codes "NotBranches" }
+    ensures its_dimension { reason_text reasons.BranchesDimension ≡ codes "BranchesDimension" }
+    ensures comb { reason_text (reasons.BadComb 1) ≡ codes "BadComb " ++ decimal 1 }
+    ensures twice { reason_text (reasons.BranchTwice 2) ≡ codes "BranchTwice " ++ decimal 2 }
+    ensures leaf { reason_text (reasons.BadLeaf 1) ≡ codes "BadLeaf " ++ decimal 1 }
+{}
+
+/// Lines of what is shown of a file.
+pub fn examples_of_shown_lines()
+    ensures name { name_line (Some (codes "x y")) ≡ codes "name x y\n" }
+    ensures empty_name { name_line (Some []) ≡ [] }
+    ensures no_name { name_line None ≡ [] }
+    ensures points { weights_line (Some weight_kinds.Euc2d) None ≡ codes "weights EUC_2D\n" }
+    ensures function { weights_line (Some weight_kinds.Att) (Some formats.ByFunction) ≡ codes "weights ATT\n" }
+    ensures listed { weights_line (Some weight_kinds.Explicit) (Some (formats.Listed layouts.LowerRow))
+        ≡ codes "weights EXPLICIT LOWER_ROW\n" }
+    ensures canonical { canonical_line (pos 14) ≡ codes "canonical " ++ signed_decimal (pos 14) ++ codes "\n" }
+    ensures no_fixed { fixed_line None ≡ [] }
+    ensures none_fixed { fixed_line (Some []) ≡ codes "fixed " ++ decimal 0 ++ codes "\n" }
+    ensures twice_fixed { fixed_line (Some ((1, 2) ∷ (1, 2) ∷ [])) ≡ codes "fixed " ++ decimal 2 ++ codes "\n" }
+    ensures tours { tour_lines ((3 ∷ 4 ∷ []) ∷ [])
+        ≡ codes "tours " ++ decimal 1 ++ codes "\ntour " ++ decimal 1 ++ codes " nodes " ++ decimal 2
+        ++ codes "\n" }
+    ensures no_scale { scale_line None ≡ codes "scale " ++ signed_decimal (pos 1) ++ codes "\n" }
+    ensures scale { scale_line (Some (pos 2)) ≡ codes "scale " ++ signed_decimal (pos 2) ++ codes "\n" }
+    ensures no_combs { combs_line None ≡ [] }
+    ensures combs { combs_line (Some (((1 ∷ []) ∷ []) ∷ [])) ≡ codes "combs " ++ decimal 1 ++ codes "\n" }
+    ensures leaves { leaves_line (Branch 1 2 ∷ Leaf [] ∷ Leaf [] ∷ []) ≡ codes "leaves " ++ decimal 2 ++ codes "\n" }
+{}

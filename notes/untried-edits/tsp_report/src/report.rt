@@ -1,0 +1,167 @@
+//! The text of a report, and its way to a writer.
+
+ghost use Rattle.std.specs.Prelude.{◌≡◌, ◌++◌, ◌≤◌, ◌^◌, ◌-ℤ◌, Some, map, codes, unsigned_abs};
+ghost use Rattle.tsp_stream.specs.Sink.{sink_of, Writes};
+ghost use Rattle.tsp_stream.specs.Way.{Puts};
+ghost use Rattle.tsp_report.specs.Report.{report_of, instance_lines, type_line, nodes_line, not_judged, verdict_lines, bound_lines, gap_lines, IsBoundSized, IsSized};
+
+use crate::reason::put_reason;
+use itoa::Integer;
+use std::io::Write;
+use tsp_file::File;
+use tsp_format::{Kind, Word};
+use tsp_reason::Verdict;
+use tsp_stream::{Piece, Watched, WriteFault, hand_over, put, put_number};
+
+/// Writes the report on a solution of an instance, line by line, by the verdict on it: the lines on
+/// the instance, those on the verdict, `yes` or `no`.
+///
+/// The caller owes a bound of at most 2^126 in size, so that the gap to the length fits 128 bits; a
+/// verdict's is at most 2^100.
+///
+/// At `Device` a front of the report was written, and nothing else; a writer that was handed in as
+/// failed gets nothing. No memory is taken, and `OutOfMemory` is never answered.
+pub fn write_report<W: Write>(
+    instance: &File,
+    verdict: Verdict,
+    out: &mut Watched<W>,
+) -> Result<(), WriteFault>
+    requires { IsSized verdict }
+    ensures { Writes (sink_of W.contents out.old out.new) (report_of instance.now verdict) result }
+{
+    if out.failed() {
+        return Err(WriteFault::Device);
+    }
+    let mut piece = Piece::new();
+    put_instance(&mut piece, out, instance);
+    put_verdict(&mut piece, out, verdict);
+    hand_over(&mut piece, out);
+    if out.failed() {
+        Err(WriteFault::Device)
+    } else {
+        Ok(())
+    }
+}
+
+/// Adds the lines on an instance.
+fn put_instance<W: Write>(piece: &mut Piece, out: &mut Watched<W>, instance: &File)
+    ensures { Puts W.contents out.old piece.old out.new piece.new (instance_lines instance.now) }
+{
+    put_type(piece, out, instance.kind());
+    put_nodes(piece, out, instance.dimension().unwrap_or(0));
+    put_others(piece, out, instance.others());
+}
+
+/// Adds the line of TYPE.
+pub(crate) fn put_type<W: Write>(piece: &mut Piece, out: &mut Watched<W>, kind: Kind)
+    ensures { Puts W.contents out.old piece.old out.new piece.new (type_line (Some kind)) }
+{
+    put(piece, out, b"type ");
+    put(piece, out, kind.word().as_bytes());
+    put(piece, out, b"\n");
+}
+
+/// Adds the line of a number of nodes.
+pub(crate) fn put_nodes<W: Write>(piece: &mut Piece, out: &mut Watched<W>, nodes: u32)
+    ensures { Puts W.contents out.old piece.old out.new piece.new (nodes_line nodes) }
+{
+    put_named(piece, out, b"nodes ", nodes);
+    put(piece, out, b"\n");
+}
+
+/// Adds a line for each line of an unknown keyword.
+pub(crate) fn put_others<W: Write>(
+    piece: &mut Piece,
+    out: &mut Watched<W>,
+    others: &[(Vec<u8>, Vec<u8>)],
+)
+    ensures { Puts W.contents out.old piece.old out.new piece.new
+        (not_judged (map (λ line. (line.0.items, line.1.items)) others.now)) }
+{
+    'lines: for (keyword, _) in others {
+        put_other(piece, out, keyword);
+    }
+}
+
+/// Adds the line of an unknown keyword.
+fn put_other<W: Write>(piece: &mut Piece, out: &mut Watched<W>, keyword: &[u8])
+    ensures { Puts W.contents out.old piece.old out.new piece.new (codes "not judged " ++ keyword.now ++ codes "\n") }
+{
+    put(piece, out, b"not judged ");
+    put(piece, out, keyword);
+    put(piece, out, b"\n");
+}
+
+/// Adds some words and the digits of a number.
+pub(crate) fn put_named<W: Write, N: Integer>(
+    piece: &mut Piece,
+    out: &mut Watched<W>,
+    words: &[u8],
+    number: N,
+)
+    ensures { Puts W.contents out.old piece.old out.new piece.new (words.now ++ N.text number) }
+{
+    put(piece, out, words);
+    put_number(piece, out, number);
+}
+
+/// Adds the lines on a verdict.
+fn put_verdict<W: Write>(piece: &mut Piece, out: &mut Watched<W>, verdict: Verdict)
+    requires { IsSized verdict }
+    ensures { Puts W.contents out.old piece.old out.new piece.new (verdict_lines verdict) }
+{
+    match verdict {
+        Verdict::Tour { length, bound } => {
+            put_named(piece, out, b"length ", length);
+            put(piece, out, b"\n");
+            put_bound(piece, out, length, bound);
+            put(piece, out, b"yes\n");
+        }
+        Verdict::Routes {
+            length,
+            routes,
+            least,
+        } => {
+            put_named(piece, out, b"routes ", routes);
+            put_named(piece, out, b"\nleast ", least);
+            put_named(piece, out, b"\nlength ", length);
+            put(piece, out, b"\nyes\n");
+        }
+        Verdict::No(reason) => {
+            put(piece, out, b"no ");
+            put_reason(piece, out, reason);
+            put(piece, out, b"\n");
+        }
+    }
+}
+
+/// Adds the line of a bound and the line after it, where there is one.
+fn put_bound<W: Write>(piece: &mut Piece, out: &mut Watched<W>, length: i64, bound: Option<i128>)
+    requires { IsBoundSized bound }
+    ensures { Puts W.contents out.old piece.old out.new piece.new (bound_lines length bound) }
+{
+    if let Some(bound) = bound {
+        put_named(piece, out, b"bound ", bound);
+        put_gap(piece, out, gap_of(length, bound));
+    }
+}
+
+/// By how much a length is more than a bound.
+fn gap_of(length: i64, bound: i128) -> i128
+    requires { unsigned_abs bound ≤ 2 ^ 126 }
+    ensures { result ≡ length -ℤ bound }
+{
+    i128::from(length) - bound
+}
+
+/// Adds by how much a length is more than a bound.
+fn put_gap<W: Write>(piece: &mut Piece, out: &mut Watched<W>, gap: i128)
+    ensures { Puts W.contents out.old piece.old out.new piece.new (gap_lines gap) }
+{
+    if gap == 0 {
+        put(piece, out, b"\noptimal\n");
+        return;
+    }
+    put_named(piece, out, b"\ngap ", gap);
+    put(piece, out, b"\n");
+}

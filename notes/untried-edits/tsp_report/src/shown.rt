@@ -1,0 +1,244 @@
+//! The text of what is shown of a file, and its way to a writer.
+
+ghost use Rattle.std.specs.Prelude.{◌≡◌, ◌++◌, [], map, false};
+ghost use Rattle.std.specs.List.{flat_map, enumerate_from};
+ghost use Rattle.std.specs.Option.{option_map, option_map_or};
+ghost use Rattle.tsp_format.specs.Steps.{steps_of};
+ghost use Rattle.tsp_draft.specs.Fields.{combs_of};
+ghost use Rattle.tsp_draft.specs.Rules.{is_instance};
+ghost use Rattle.tsp_stream.specs.Sink.{sink_of, Writes};
+ghost use Rattle.tsp_stream.specs.Way.{Puts};
+ghost use Rattle.tsp_report.specs.Report.{nodes_line, not_judged};
+ghost use Rattle.tsp_report.specs.Show.{shown, head_lines, name_line, lines_by_type, cost_lines, weights_line, layout_part, canonical_line, fixed_line, tour_lines, tour_line, scale_line, combs_line, leaves_line, tree_lines};
+
+use crate::leaves::leaves_of;
+use crate::report::{put_named, put_nodes, put_others, put_type};
+use std::io::Write;
+use tsp_cost::{Instance, canonical_length};
+use tsp_file::File;
+use tsp_format::{Kind, TreeStep, WeightFormat, WeightKind, Word};
+use tsp_stream::{Piece, Watched, WriteFault, hand_over, put};
+
+/// Writes what is shown of a file, line by line: its NAME, its TYPE, the number of its nodes, and
+/// what else stands in it.
+///
+/// At `Device` a front of the lines was written, and nothing else; a writer that was handed in as
+/// failed gets nothing. No memory is taken, and `OutOfMemory` is never answered.
+pub fn write_shown<W: Write>(file: File, out: &mut Watched<W>) -> Result<(), WriteFault>
+    ensures { Writes (sink_of W.contents out.old out.new) (shown file) result }
+{
+    if out.failed() {
+        drop(file);
+        return Err(WriteFault::Device);
+    }
+    let mut piece = Piece::new();
+    put_head(&mut piece, out, &file);
+    put_rest(&mut piece, out, file);
+    hand_over(&mut piece, out);
+    if out.failed() {
+        Err(WriteFault::Device)
+    } else {
+        Ok(())
+    }
+}
+
+/// Adds the lines that every file has.
+fn put_head<W: Write>(piece: &mut Piece, out: &mut Watched<W>, file: &File)
+    ensures { Puts W.contents out.old piece.old out.new piece.new (head_lines file.now) }
+{
+    put_name(piece, out, file.name());
+    put_type(piece, out, file.kind());
+    put_dimension(piece, out, file.dimension());
+}
+
+/// Adds the lines by TYPE, and those of unknown keywords.
+fn put_rest<W: Write>(piece: &mut Piece, out: &mut Watched<W>, file: File)
+    ensures { Puts W.contents out.old piece.old out.new piece.new
+        (lines_by_type file.kind file ++ not_judged file.others) }
+{
+    match Instance::of(file) {
+        Ok(instance) => {
+            put_costs(piece, out, &instance);
+            put_others(piece, out, instance.file().others());
+            drop(instance);
+        }
+        Err((_, file)) => {
+            put_solution(piece, out, &file);
+            put_others(piece, out, file.others());
+            drop(file);
+        }
+    }
+}
+
+/// Adds the line of NAME, where it has a value that isn't empty.
+fn put_name<W: Write>(piece: &mut Piece, out: &mut Watched<W>, name: Option<&[u8]>)
+    ensures { Puts W.contents out.old piece.old out.new piece.new
+        (name_line (option_map (λ value. value.now) name.entry)) }
+{
+    let Some(value) = name else {
+        return;
+    };
+    if value.is_empty() {
+        return;
+    }
+    put(piece, out, b"name ");
+    put(piece, out, value);
+    put(piece, out, b"\n");
+}
+
+/// Adds the line of DIMENSION, where it stands.
+fn put_dimension<W: Write>(piece: &mut Piece, out: &mut Watched<W>, dimension: Option<u32>)
+    ensures { Puts W.contents out.old piece.old out.new piece.new (option_map_or nodes_line dimension []) }
+{
+    if let Some(nodes) = dimension {
+        put_nodes(piece, out, nodes);
+    }
+}
+
+/// Adds the lines of an instance alone.
+fn put_costs<W: Write>(piece: &mut Piece, out: &mut Watched<W>, instance: &Instance)
+    ensures { Puts W.contents out.old piece.old out.new piece.new (cost_lines instance.now) }
+{
+    let file = instance.file();
+    put_weights(piece, out, file.weight_kind(), file.weight_format());
+    put_canonical(piece, out, canonical_length(instance));
+    put_fixed(piece, out, file.fixed());
+}
+
+/// Adds the line of the weight type, with the layout of listed weights.
+fn put_weights<W: Write>(
+    piece: &mut Piece,
+    out: &mut Watched<W>,
+    kind: Option<WeightKind>,
+    format: Option<WeightFormat>,
+)
+    ensures { Puts W.contents out.old piece.old out.new piece.new (weights_line kind format) }
+{
+    put(piece, out, b"weights ");
+    put_word(piece, out, kind);
+    put_layout(piece, out, kind, format);
+    put(piece, out, b"\n");
+}
+
+/// Adds a blank and the word of the layout, where the weights are listed.
+fn put_layout<W: Write>(
+    piece: &mut Piece,
+    out: &mut Watched<W>,
+    kind: Option<WeightKind>,
+    format: Option<WeightFormat>,
+)
+    ensures { Puts W.contents out.old piece.old out.new piece.new (layout_part kind format) }
+{
+    let Some(WeightKind::Explicit) = kind else {
+        return;
+    };
+    put(piece, out, b" ");
+    put_word(piece, out, format);
+}
+
+/// Adds the word of a value, where it stands.
+fn put_word<W: Write, V: Word>(piece: &mut Piece, out: &mut Watched<W>, value: Option<V>)
+    ensures { Puts W.contents out.old piece.old out.new piece.new (option_map_or V.text value []) }
+{
+    if let Some(value) = value {
+        put(piece, out, value.word().as_bytes());
+    }
+}
+
+/// Adds the line of a length.
+fn put_canonical<W: Write>(piece: &mut Piece, out: &mut Watched<W>, length: i64)
+    ensures { Puts W.contents out.old piece.old out.new piece.new (canonical_line length) }
+{
+    put_named(piece, out, b"canonical ", length);
+    put(piece, out, b"\n");
+}
+
+/// Adds the line of the number of fixed pairs, where a section lists them.
+fn put_fixed<W: Write>(piece: &mut Piece, out: &mut Watched<W>, pairs: Option<&[(u32, u32)]>)
+    ensures { Puts W.contents out.old piece.old out.new piece.new
+        (fixed_line (option_map (λ pairs. pairs.now) pairs.entry)) }
+{
+    if let Some(pairs) = pairs {
+        put_named(piece, out, b"fixed ", pairs.len());
+        put(piece, out, b"\n");
+    }
+}
+
+/// Adds the lines of a file that is no instance: those of tours, the scale of potentials, or those
+/// of a tree of cases.
+fn put_solution<W: Write>(piece: &mut Piece, out: &mut Watched<W>, file: &File)
+    requires { is_instance file.now.kind ≡ false }
+    ensures { Puts W.contents out.old piece.old out.new piece.new (lines_by_type file.now.kind file.now) }
+{
+    match file.kind() {
+        Kind::Tour => put_tours(piece, out, file.tours().unwrap_or(&[])),
+        Kind::Potentials => put_scale(piece, out, file.scale()),
+        Kind::Branches => put_tree(piece, out, file),
+        Kind::Tsp | Kind::Atsp | Kind::Cvrp => unreachable!(),
+    }
+}
+
+/// Adds the number of tours, and a line for each.
+fn put_tours<W: Write>(piece: &mut Piece, out: &mut Watched<W>, tours: &[Vec<u32>])
+    ensures { Puts W.contents out.old piece.old out.new piece.new
+        (tour_lines (map (λ tour. tour.items) tours.now)) }
+{
+    put_named(piece, out, b"tours ", tours.len());
+    put(piece, out, b"\n");
+    put_each_tour(piece, out, tours);
+}
+
+/// Adds a line for each tour.
+fn put_each_tour<W: Write>(piece: &mut Piece, out: &mut Watched<W>, tours: &[Vec<u32>])
+    ensures { Puts W.contents out.old piece.old out.new piece.new
+        (flat_map tour_line (enumerate_from 1 (map (λ tour. tour.items) tours.now))) }
+{
+    'tours: for (index, tour) in tours.iter().enumerate() {
+        put_tour(piece, out, index + 1, tour);
+    }
+}
+
+/// Adds the line of a tour with its number.
+fn put_tour<W: Write>(piece: &mut Piece, out: &mut Watched<W>, number: usize, tour: &[u32])
+    ensures { Puts W.contents out.old piece.old out.new piece.new (tour_line (number, tour.now)) }
+{
+    put_named(piece, out, b"tour ", number);
+    put_named(piece, out, b" nodes ", tour.len());
+    put(piece, out, b"\n");
+}
+
+/// Adds the line of SCALE, which is 1 where it is missing.
+fn put_scale<W: Write>(piece: &mut Piece, out: &mut Watched<W>, scale: Option<i64>)
+    ensures { Puts W.contents out.old piece.old out.new piece.new (scale_line scale) }
+{
+    put_named(piece, out, b"scale ", scale.unwrap_or(1));
+    put(piece, out, b"\n");
+}
+
+/// Adds the lines of a tree of cases: its scale, and how many combs and leaves it has.
+fn put_tree<W: Write>(piece: &mut Piece, out: &mut Watched<W>, file: &File)
+    ensures { Puts W.contents out.old piece.old out.new piece.new (tree_lines file.now) }
+{
+    put_scale(piece, out, file.scale());
+    put_combs(piece, out, file.combs());
+    put_leaves(piece, out, file.branches().unwrap_or(&[]));
+}
+
+/// Adds the line of the number of combs, where a section lists them.
+fn put_combs<W: Write>(piece: &mut Piece, out: &mut Watched<W>, combs: Option<&[Vec<Vec<u32>>]>)
+    ensures { Puts W.contents out.old piece.old out.new piece.new
+        (combs_line (option_map (λ combs. combs_of combs.now) combs.entry)) }
+{
+    if let Some(combs) = combs {
+        put_named(piece, out, b"combs ", combs.len());
+        put(piece, out, b"\n");
+    }
+}
+
+/// Adds the line of the number of leaves.
+fn put_leaves<W: Write>(piece: &mut Piece, out: &mut Watched<W>, steps: &[TreeStep])
+    ensures { Puts W.contents out.old piece.old out.new piece.new (leaves_line (steps_of steps.now)) }
+{
+    put_named(piece, out, b"leaves ", leaves_of(steps));
+    put(piece, out, b"\n");
+}

@@ -1,0 +1,182 @@
+-- Depots, fixed pairs and weights as they are written: each word is taken at its place, and they are read back.
+use Rattle.std.proofs.Common.{◌≡◌, ℕ, suc, ◌+◌, ◌*◌, ◌^◌, ◌<◌, ◌≤◌, Bool, true, false, cond, List, [], ◌∷◌, ◌++◌, length, map, refl, sym, ap, ◌∙◌, arith, Option, None, Result, Ok}
+use Rattle.std.specs.Prelude.{ℤ, pos, not, ◌&&◌, ◌||◌, ◌==◌, nat_le, nat_abs, codes}
+use Rattle.std.specs.Option.{option_map}
+use Rattle.std.specs.Result.{result_err}
+use Rattle.std.specs.List.{list_all, list_any, flat_map}
+use Rattle.std.specs.Fmt.{decimal, signed_decimal}
+use Rattle.std.specs.Ordering.{int_eq}
+use Rattle.std.proofs.lemmas.Bool.{true≢false, and_parts, lt-leb, eq-eqb, or_right, and_right, and_left, not_from_true, not-true, false_from_ne_true}
+use Rattle.std.proofs.lemmas.Bool.Decides.{Decides-int_eq}
+use Rattle.std.proofs.lemmas.List.{length_push}
+use Rattle.tsp_number.specs.declared.fault.NumberFault.{NumberFault}
+use Rattle.tsp_format.specs.Limits.{most_weight, most_depots, most_fixed}
+use Rattle.tsp_draft.specs.Validity.{is_within, is_node, is_node_pair}
+use Rattle.tsp_text.specs.declared.fault.LineFault.TheVariants as row
+use Rattle.tsp_text.specs.Numbers.{number, node, node_or_end, is_end, whole_of_size, reads_as}
+use Rattle.tsp_text.specs.Places.{DepotAfter, FirstAfter, SecondOf, PastEnd, Weight, PastWeights}
+use Rattle.tsp_text.specs.Groups.{pairs_in, begun_pair}
+use Rattle.tsp_text.specs.Lists.{before, firsts_in, depots_in, place_of_depot, fixed_in, place_in_pair, place_of_fixed}
+use Rattle.tsp_text.specs.Weights.{weights_in, place_of_weight}
+use Rattle.tsp_text.specs.Rows.{when, first_row, word_fault}
+use Rattle.tsp_text.proofs.Ended.{any_push}
+use Rattle.tsp_text.proofs.PairWords.{pairs_begin, begun_begin, firsts_begin, pairs_end, begun_end, firsts_end}
+use Rattle.tsp_round.proofs.Numbers.{NumberLaws, node_back, listed_back, node_goes_on, end_read, end_ends, size_in}
+use Rattle.tsp_round.proofs.Taken.{AllTaken}
+
+-- ---- rows of a word
+
+pub no_rows : (o : Option NumberFault) (r s u a : Bool) → o ≡ None → r ≡ false → s ≡ false → u ≡ false → a ≡ false
+    → first_row (option_map (λ fault. row.Number fault) o ∷ when r row.RepeatedNode ∷ when s row.SelfEdge ∷ when u row.Surplus ∷ when a row.AfterEnd ∷ []) ≡ None
+no_rows o r s u a e f g h i = rw (e, f, g, h, i) refl
+
+-- a list that has room for one more
+pub has_room : (most count more : ℕ) → count + suc more ≤ most → nat_le most count ≡ false
+has_room most count more room = lt-leb most count (omega arith)
+
+-- ---- depots
+
+pub depots_taken : NumberLaws → (n : ℕ) → n < 2 ^ 32 → (earlier : List (List ℕ)) (nodes : List ℕ) → list_any (is_end n) earlier ≡ false → length earlier + length nodes ≤ most_depots
+    → list_all (is_node n) nodes ≡ true → AllTaken n (place_of_depot n) earlier (map decimal nodes ++ codes "-1" ∷ [])
+depots_taken laws n few earlier [] unended room all =
+    let place : place_of_depot n earlier ≡ DepotAfter (length earlier) = ap (λ b. cond b PastEnd (DepotAfter (length earlier))) unended in (
+      ap (λ p. word_fault n p (codes "-1")) place
+          ∙ no_rows (result_err (node_or_end n (codes "-1"))) false false (nat_le most_depots (length earlier) && not (is_end n (codes "-1"))) false
+          (ap (λ (r : Result ℤ NumberFault). result_err r) (end_read laws n)) refl refl
+          (and_right (nat_le most_depots (length earlier)) (not (is_end n (codes "-1"))) (not_from_true (is_end n (codes "-1")) (end_ends laws n))) refl,
+      tt,
+    )
+depots_taken laws n few earlier (k ∷ nodes) unended room all =
+    let both = and_parts (is_node n k) (list_all (is_node n) nodes) all in
+    let place : place_of_depot n earlier ≡ DepotAfter (length earlier) = ap (λ b. cond b PastEnd (DepotAfter (length earlier))) unended in
+    let goes_on = node_goes_on laws n k few both.0 in
+    let unended_more : list_any (is_end n) (earlier ++ decimal k ∷ []) ≡ false = any_push (is_end n) earlier (decimal k) unended ∙ goes_on in
+    let count = length_push earlier (decimal k) in (
+      ap (λ p. word_fault n p (decimal k)) place
+          ∙ no_rows (result_err (node_or_end n (decimal k))) false false (nat_le most_depots (length earlier) && not (is_end n (decimal k))) false
+          (ap (λ (r : Result ℤ NumberFault). result_err r) (listed_back laws n k few both.0)) refl refl
+          (and_left (nat_le most_depots (length earlier)) (not (is_end n (decimal k))) (has_room most_depots (length earlier) (length nodes) room)) refl,
+      depots_taken laws n few (earlier ++ decimal k ∷ []) nodes unended_more (omega arith) both.1,
+    )
+
+pub depots_back : NumberLaws → (n : ℕ) → n < 2 ^ 32 → (nodes : List ℕ) → list_all (is_node n) nodes ≡ true → depots_in n (map decimal nodes ++ codes "-1" ∷ []) ≡ nodes
+depots_back laws n few [] all = ap (λ b. map (λ word. nat_abs (number (node_or_end n word))) (cond b [] (codes "-1" ∷ []))) (end_ends laws n)
+depots_back laws n few (k ∷ nodes) all =
+    let both = and_parts (is_node n k) (list_all (is_node n) nodes) all in
+    ap (λ b. map (λ word. nat_abs (number (node_or_end n word))) (cond b [] (decimal k ∷ before (is_end n) (map decimal nodes ++ codes "-1" ∷ [])))) (node_goes_on laws n k few both.0)
+    ∙ ap (λ r. nat_abs (number r) ∷ depots_in n (map decimal nodes ++ codes "-1" ∷ [])) (listed_back laws n k few both.0)
+    ∙ ap (λ (ks : List ℕ). k ∷ ks) (depots_back laws n few nodes both.1)
+
+-- ---- fixed pairs
+
+abbrev pub pair_words : ℕ × ℕ → List (List ℕ)
+pair_words pair = decimal pair.0 ∷ decimal pair.1 ∷ []
+
+no_self : (a b : ℕ) → (a == b) ≡ false → int_eq (pos b) (pos a) ≡ false
+no_self a b differ = false_from_ne_true (int_eq (pos b) (pos a)) (λ e.
+    let z : (let x : ℤ = pos b in x ≡ pos a) = (Decides-int_eq (pos b) (pos a)).0 e in
+    let same : b ≡ a = cc in
+    absurd (true≢false (sym (eq-eqb a b (sym same)) ∙ differ)))
+
+-- the -1 that ends a list of pairs or of triples
+pub end_taken : NumberLaws → (n count : ℕ) → word_fault n (FirstAfter count) (codes "-1") ≡ None
+end_taken laws n count =
+    no_rows (result_err (node_or_end n (codes "-1"))) false false (nat_le most_fixed count && not (is_end n (codes "-1"))) false
+    (ap (λ (r : Result ℤ NumberFault). result_err r) (end_read laws n)) refl refl
+    (and_right (nat_le most_fixed count) (not (is_end n (codes "-1"))) (not_from_true (is_end n (codes "-1")) (end_ends laws n))) refl
+
+-- the first node of one
+pub first_taken : NumberLaws → (n count more k : ℕ) → n < 2 ^ 32 → count + suc more ≤ most_fixed → is_node n k ≡ true → word_fault n (FirstAfter count) (decimal k) ≡ None
+first_taken laws n count more k few room is =
+    no_rows (result_err (node_or_end n (decimal k))) false false (nat_le most_fixed count && not (is_end n (decimal k))) false
+    (ap (λ (r : Result ℤ NumberFault). result_err r) (listed_back laws n k few is)) refl refl
+    (and_left (nat_le most_fixed count) (not (is_end n (decimal k))) (has_room most_fixed count more room)) refl
+
+-- its second node
+pub second_taken : NumberLaws → (n a b : ℕ) → n < 2 ^ 32 → is_node n b ≡ true → (a == b) ≡ false → word_fault n (SecondOf (pos a)) (decimal b) ≡ None
+second_taken laws n a b few is differ =
+    no_rows (result_err (node n (decimal b))) false (reads_as (pos a) (node n (decimal b))) false false
+    (ap (λ (r : Result ℤ NumberFault). result_err r) (node_back laws n b few is)) refl (ap (reads_as (pos a)) (node_back laws n b few is) ∙ no_self a b differ) refl refl
+
+-- two different nodes of 1..n
+pub record ArePair (n a b : ℕ) : Type 0 where
+  pub first : is_node n a ≡ true
+  pub second : is_node n b ≡ true
+  pub differ : (a == b) ≡ false
+
+pub are_pair : (n : ℕ) (pair : ℕ × ℕ) → is_node_pair n pair ≡ true → ArePair n pair.0 pair.1
+are_pair n pair fits =
+    let parts = and_parts (is_node n pair.0 && is_node n pair.1) (not (pair.0 == pair.1)) fits in
+    let each = and_parts (is_node n pair.0) (is_node n pair.1) parts.0 in
+    record { first = each.0; second = each.1; differ = not-true (pair.0 == pair.1) parts.1 }
+
+-- the first node of a list doesn't end it
+pub still_open : NumberLaws → (n k : ℕ) (firsts : List (List ℕ)) → n < 2 ^ 32 → is_node n k ≡ true → list_any (is_end n) firsts ≡ false → list_any (is_end n) (firsts ++ decimal k ∷ []) ≡ false
+still_open laws n k firsts few is unended = any_push (is_end n) firsts (decimal k) unended ∙ node_goes_on laws n k few is
+
+-- where the next word of pairs stands, before the -1
+pair_place : (n : ℕ) (words begun : List (List ℕ)) → list_any (is_end n) (firsts_in words) ≡ false → begun_pair words ≡ begun → place_of_fixed n words ≡ place_in_pair n (length (pairs_in words)) begun
+pair_place n words begun unended whole = rw (unended, whole) refl
+
+pub fixed_taken : NumberLaws → (n : ℕ) → n < 2 ^ 32 → (earlier : List (List ℕ)) (pairs : List (ℕ × ℕ)) → list_any (is_end n) (firsts_in earlier) ≡ false → begun_pair earlier ≡ []
+    → length (pairs_in earlier) + length pairs ≤ most_fixed → list_all (is_node_pair n) pairs ≡ true → AllTaken n (place_of_fixed n) earlier (flat_map pair_words pairs ++ codes "-1" ∷ [])
+fixed_taken laws n few earlier [] unended whole room all = (ap (λ p. word_fault n p (codes "-1")) (pair_place n earlier [] unended whole) ∙ end_taken laws n (length (pairs_in earlier)), tt)
+fixed_taken laws n few earlier (pair ∷ pairs) unended whole room all =
+    let both = and_parts (is_node_pair n pair) (list_all (is_node_pair n) pairs) all in
+    let are = are_pair n pair both.0 in
+    let a = decimal pair.0 in
+    let b = decimal pair.1 in
+    let w1 = earlier ++ a ∷ [] in
+    let w2 = w1 ++ b ∷ [] in
+    let begun = begun_begin earlier a whole in
+    let unended_first : list_any (is_end n) (firsts_in w1) ≡ false = ap (list_any (is_end n)) (firsts_begin earlier a whole) ∙ still_open laws n pair.0 (firsts_in earlier) few are.first unended in
+    let count : length (pairs_in w2) ≡ length (pairs_in earlier) + 1 =
+    ap length (pairs_end w1 a b begun) ∙ length_push (pairs_in w1) (a, b) ∙ ap (λ (ps : List (List ℕ × List ℕ)). length ps + 1) (pairs_begin earlier a whole) in (
+      ap (λ p. word_fault n p a) (pair_place n earlier [] unended whole) ∙ first_taken laws n (length (pairs_in earlier)) (length pairs) pair.0 few room are.first,
+      (
+        ap (λ p. word_fault n p b) (pair_place n w1 (a ∷ []) unended_first begun ∙ ap (λ r. SecondOf (number r)) (listed_back laws n pair.0 few are.first))
+            ∙ second_taken laws n pair.0 pair.1 few are.second are.differ,
+        fixed_taken laws n few w2 pairs (ap (list_any (is_end n)) (firsts_end w1 a b begun) ∙ unended_first) (begun_end w1 a b begun) (omega (arith, count)) both.1,
+      ),
+    )
+
+pub fixed_back : NumberLaws → (n : ℕ) → n < 2 ^ 32 → (pairs : List (ℕ × ℕ)) → list_all (is_node_pair n) pairs ≡ true → fixed_in n (flat_map pair_words pairs ++ codes "-1" ∷ []) ≡ pairs
+fixed_back laws n few [] all = refl
+fixed_back laws n few (pair ∷ pairs) all =
+    let both = and_parts (is_node_pair n pair) (list_all (is_node_pair n) pairs) all in
+    let are = are_pair n pair both.0 in
+    let more = flat_map pair_words pairs ++ codes "-1" ∷ [] in
+    let read : List ℕ × List ℕ → ℕ × ℕ = λ p. (nat_abs (number (node_or_end n p.0)), nat_abs (number (node n p.1))) in
+    ap (λ t. map read (cond t [] ((decimal pair.0, decimal pair.1) ∷ before (λ p. is_end n p.0) (pairs_in more)))) (node_goes_on laws n pair.0 few are.first)
+    ∙ ap (λ r. (nat_abs (number r), nat_abs (number (node n (decimal pair.1)))) ∷ fixed_in n more) (listed_back laws n pair.0 few are.first)
+    ∙ ap (λ r. (pair.0, nat_abs (number r)) ∷ fixed_in n more) (node_back laws n pair.1 few are.second)
+    ∙ ap (λ (ps : List (ℕ × ℕ)). pair ∷ ps) (fixed_back laws n few pairs both.1)
+
+pub fixed_ended : NumberLaws → (n : ℕ) → (pairs : List (ℕ × ℕ)) → list_any (is_end n) (firsts_in (flat_map pair_words pairs ++ codes "-1" ∷ [])) ≡ true
+fixed_ended laws n [] = ap (λ b. b || false) (end_ends laws n)
+fixed_ended laws n (pair ∷ pairs) = or_right (is_end n (decimal pair.0)) (list_any (is_end n) (firsts_in (flat_map pair_words pairs ++ codes "-1" ∷ []))) (fixed_ended laws n pairs)
+
+-- ---- weights
+
+weight_back : NumberLaws → (z : ℤ) → is_within most_weight z ≡ true → whole_of_size most_weight (signed_decimal z) ≡ Ok z
+weight_back laws z inside =
+    let small = size_in most_weight z inside in
+    laws.whole_back z _ _ (omega (arith, small)) inside
+
+pub weights_taken : NumberLaws → (n : ℕ) (earlier : List (List ℕ)) (weights : List ℤ) → length earlier + length weights ≤ n * n → list_all (is_within most_weight) weights ≡ true
+    → AllTaken n (place_of_weight n) earlier (map signed_decimal weights)
+weights_taken laws n earlier [] room all = tt
+weights_taken laws n earlier (z ∷ weights) room all =
+    let both = and_parts (is_within most_weight z) (list_all (is_within most_weight) weights) all in
+    let place : place_of_weight n earlier ≡ Weight = ap (λ b. cond b PastWeights Weight) (has_room (n * n) (length earlier) (length weights) room) in
+    let count = length_push earlier (signed_decimal z) in (
+      ap (λ p. word_fault n p (signed_decimal z)) place
+          ∙ no_rows (result_err (whole_of_size most_weight (signed_decimal z))) false false false false (ap (λ (r : Result ℤ NumberFault). result_err r) (weight_back laws z both.0)) refl refl refl refl,
+      weights_taken laws n (earlier ++ signed_decimal z ∷ []) weights (omega arith) both.1,
+    )
+
+pub weights_back : NumberLaws → (weights : List ℤ) → list_all (is_within most_weight) weights ≡ true → weights_in (map signed_decimal weights) ≡ weights
+weights_back laws [] all = refl
+weights_back laws (z ∷ weights) all =
+    let both = and_parts (is_within most_weight z) (list_all (is_within most_weight) weights) all in
+    ap (λ r. number r ∷ weights_in (map signed_decimal weights)) (weight_back laws z both.0) ∙ ap (λ (zs : List ℤ). z ∷ zs) (weights_back laws weights both.1)

@@ -1,0 +1,15 @@
+-- Numbers that are written are read back, by the laws of number words and of spellings.
+use Rattle.tsp_round.proofs.Numbers.{WordLaws, number_laws}
+use Rattle.tsp_round.proofs.round_trip.written_numbers_are_read_back.Goals as goal
+
+pub returns-clause-whole : goal.returns-clause-whole
+returns-clause-whole c =
+    let words = c.number_word_laws.ensures in
+    let laws : WordLaws = record { one_whole = words.one_whole; some_whole = words.some_whole; some_decimal = words.some_decimal; round_trip = c.spelling_laws.ensures.round_trip } in
+    (number_laws laws).whole_back
+
+pub returns-clause-coordinate : goal.returns-clause-coordinate
+returns-clause-coordinate c =
+    let words = c.number_word_laws.ensures in
+    let laws : WordLaws = record { one_whole = words.one_whole; some_whole = words.some_whole; some_decimal = words.some_decimal; round_trip = c.spelling_laws.ensures.round_trip } in
+    (number_laws laws).decimal_back

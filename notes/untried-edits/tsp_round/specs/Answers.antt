@@ -1,0 +1,14 @@
+-- What reading the canonical text of a file may answer.
+use Rattle.std.specs.Prelude.{◌≡◌, Result, Ok, Err}
+use Rattle.tsp_draft.specs.Fields.{Fields}
+use Rattle.tsp_text.specs.declared.fault.ReadFault.{ReadFault}
+use Rattle.tsp_text.specs.declared.fault.ReadFault.TheVariants as faults
+
+-- this file, or that memory was refused
+abbrev pub IsThisFile : Fields → Result Fields ReadFault → Type 0
+IsThisFile file (Ok other) = other ≡ file
+IsThisFile file (Err (faults.Line line word found)) = ⊥
+IsThisFile file (Err (faults.End found)) = ⊥
+IsThisFile file (Err faults.OutOfMemory) = Unit {0}
+IsThisFile file (Err faults.Device) = ⊥
+IsThisFile file (Err faults.TooLong) = ⊥

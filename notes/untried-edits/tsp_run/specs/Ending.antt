@@ -1,0 +1,67 @@
+-- How a run of the program ends: its exit status, and what goes to standard error.
+use Rattle.std.specs.Prelude.{◌≡◌, ℕ, Bool, List, [], ◌++◌, ◌∷◌, true, false, Option, None, Some, Ok, Err, IfSome, codes, not, ◌==◌}
+use Rattle.std.specs.List.{list_all}
+use Rattle.std.specs.Io.KnownBytes.{Appends, Keeps}
+use Rattle.tsp_judge.specs.declared.Verdict.TheVariants.{Tour, Routes, No}
+use Rattle.tsp_judge.specs.FaultText.{run_fault_text}
+use Rattle.tsp_judge.specs.Status.{status_of}
+use Rattle.tsp_cli.specs.declared.words.JobFault.TheVariants as job_faults
+use Rattle.tsp_cli.specs.declared.task.TaskFault.TheVariants.{UnknownLayout, MissingPath, TwoCertificates}
+use Rattle.tsp_run.specs.declared.ending.Ending.{Ending}
+use Rattle.tsp_run.specs.declared.ending.Ending.TheVariants.{NoJob, NoTask, Ended}
+use Rattle.tsp_run.specs.declared.ending.Line.{Line}
+use Rattle.tsp_run.specs.declared.ending.Line.TheVariants as lines
+
+-- 3 is out of memory for the words, 4 a command line that is refused; a task has the status of its answer
+abbrev pub status_of_ending : Ending → ℕ
+status_of_ending (NoJob (job_faults.Refused refusal)) = 4
+status_of_ending (NoJob job_faults.OutOfMemory) = 3
+status_of_ending (NoTask fault) = 4
+status_of_ending (Ended (Ok None)) = status_of (Ok true)
+status_of_ending (Ended (Ok (Some (Tour length bound)))) = status_of (Ok true)
+status_of_ending (Ended (Ok (Some (Routes length routes least)))) = status_of (Ok true)
+status_of_ending (Ended (Ok (Some (No reason)))) = status_of (Ok false)
+status_of_ending (Ended (Err fault)) = status_of (Err fault)
+
+-- the line of an ending; an answer has none, since what it says is on standard output
+abbrev pub IsLineOf : Ending → Option Line → Type 0
+IsLineOf (NoJob (job_faults.Refused refusal)) (Some (lines.Refusal told)) = told.now ≡ refusal
+IsLineOf (NoJob job_faults.OutOfMemory) line = line ≡ Some lines.OutOfMemory
+IsLineOf (NoTask fault) line = line ≡ Some (lines.NoTask fault)
+IsLineOf (Ended (Ok answer)) line = line ≡ None
+IsLineOf (Ended (Err fault)) line = line ≡ Some (lines.Fault fault)
+IsLineOf (NoJob (job_faults.Refused refusal)) _ = ⊥
+
+-- a line of this program's own, with its end
+abbrev pub ended : List ℕ → Option (List ℕ)
+ended text = Some (text ++ 10 ∷ [])
+
+-- the bytes of what is told, where they are this program's own
+abbrev pub line_text : Line → Option (List ℕ)
+line_text (lines.Refusal refusal) = None
+line_text lines.OutOfMemory = ended (codes "out of memory")
+line_text (lines.NoTask UnknownLayout) = ended (codes "unknown layout")
+line_text (lines.NoTask MissingPath) = ended (codes "missing path")
+line_text (lines.NoTask TwoCertificates) = ended (codes "both potentials and branches")
+line_text (lines.Fault fault) = ended (run_fault_text fault)
+
+-- no byte ends a line
+abbrev pub is_one_line : List ℕ → Bool
+is_one_line text = list_all (λ b. not (b == 10)) text
+
+-- one line is written, some text with its end
+abbrev pub EndsLine : Option (List ℕ) → Option (List ℕ) → Type 0
+EndsLine old new = (text : List ℕ) × (is_one_line text ≡ true) × Appends old new (text ++ 10 ∷ [])
+
+-- the ending's line is written, where it has one
+abbrev pub IsWritten : Option Line → Option (List ℕ) → Option (List ℕ) → Type 0
+IsWritten None old new = Keeps old new
+IsWritten (Some line) old new = IfSome (line_text line) (Appends old new)
+
+abbrev pub Tells : Ending → Option (List ℕ) → Option (List ℕ) → Type 0
+Tells ending old new = (line : Option Line) × IsLineOf ending line × IsWritten line old new
+
+-- the same, and after the line a text and nothing else, where the ending is explained
+abbrev pub TellsAll : Bool → Ending → Option (List ℕ) → Option (List ℕ) → Type 0
+TellsAll false ending old new = Tells ending old new
+TellsAll true ending old new = (between : Option (List ℕ)) × (text : List ℕ) × Tells ending old between × Appends between new text

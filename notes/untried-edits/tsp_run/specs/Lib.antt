@@ -1,0 +1,4 @@
+pub mod Ending
+pub mod Engines
+pub mod Run
+pub mod Source

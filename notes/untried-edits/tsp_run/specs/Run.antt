@@ -1,0 +1,71 @@
+-- A run of the program: what its words come to.
+use Rattle.std.specs.Prelude.{◌≡◌, ◌≢◌, ◌||◌, ℕ, Bool, List, drop, Option, Result, Ok, Err, OnOk, false}
+use Rattle.std.specs.declared.io.Error.{Error}
+use Rattle.std.specs.declared.io.ErrorKind.{ErrorKind}
+use Rattle.std.specs.declared.io.ErrorKind.TheVariants as io_kinds
+use Rattle.clap.specs.Words.{Text}
+use Rattle.tsp_judge.specs.declared.Watched.{Watched}
+use Rattle.tsp_judge.specs.Watched.{watched, has_failed}
+use Rattle.tsp_judge.specs.Sink.{Sink, IsUnwritten}
+use Rattle.tsp_run.specs.declared.ending.Ending.{Ending}
+use Rattle.tsp_run.specs.declared.ending.Ending.TheVariants.{NoJob, NoTask, Ended}
+use Rattle.tsp_cli.specs.declared.words.Job.{Job}
+use Rattle.tsp_cli.specs.declared.task.Place.{Place}
+use Rattle.tsp_cli.specs.declared.task.Task.{Task}
+use Rattle.tsp_cli.specs.declared.task.Task.TheVariants.{Show, Convert, Check, BoundCheck, BranchCheck}
+use Rattle.tsp_cli.specs.declared.words.JobFault.TheVariants.{OutOfMemory}
+use Rattle.tsp_cli.specs.Words.{GivesJob, IsOtherRefusal}
+use Rattle.tsp_cli.specs.Task.{GivesTask}
+use Rattle.tsp_run.specs.Engines.{IsDone}
+use Rattle.tsp_run.specs.Ending.{status_of_ending, TellsAll}
+
+-- the reader is that of the opened place, and hasn't failed
+abbrev pub IsFresh : {F : Type 0} → (Place → F → Type 0) → Place → Watched F → Type 0
+IsFresh opens place reader = opens place (watched reader) × (has_failed reader ≡ false)
+
+-- the same task, each of its files opened in its place
+abbrev pub AreFresh : {F : Type 0} → (Place → F → Type 0) → Task Place → Task (Watched F) → Type 0
+AreFresh opens (Show a) (Show x) = IsFresh opens a x
+AreFresh opens (Convert a to) (Convert x same) = IsFresh opens a x × (same ≡ to)
+AreFresh opens (Check a b) (Check x y) = IsFresh opens a x × IsFresh opens b y
+AreFresh opens (BoundCheck a b c) (BoundCheck x y z) = IsFresh opens a x × IsFresh opens b y × IsFresh opens c z
+AreFresh opens (BranchCheck a b c) (BranchCheck x y z) = IsFresh opens a x × IsFresh opens b y × IsFresh opens c z
+AreFresh opens _ _ = ⊥
+
+-- How a run ends that has this job: it is no task, and then nothing is written; or the task was done on its files, opened in
+-- their places.
+abbrev pub EndsWith : {F : Type 0} → (F → Option (List ℕ)) → (Place → F → Type 0) → Job → Sink → Ending → Type 0
+EndsWith remaining opens job sink (NoJob fault) = ⊥
+EndsWith remaining opens job sink (NoTask fault) = GivesTask job (Err fault) × IsUnwritten sink
+EndsWith {F = F} remaining opens job sink (Ended answer) = (task : Task Place) × (old new : Task (Watched F))
+    × GivesTask job (Ok task)
+    × AreFresh opens task old × IsDone remaining old new sink answer
+
+-- How a run ends with these words, of which the first is the program's own name: they ask for no job, and then nothing is
+-- written; or it ends with the job that they ask for. That is explained where the job says so, and on a terminal; nothing else
+-- is.
+abbrev pub Ends : {F : Type 0} → (F → Option (List ℕ)) → (Place → F → Type 0) → Bool → List Text → Sink → Bool → Ending → Type 0
+Ends remaining opens on_terminal words sink explained (NoJob fault) = GivesJob (drop 1 words) (Err fault) × IsUnwritten sink
+    × (explained ≡ false)
+Ends remaining opens on_terminal words sink explained (NoTask fault) = (job : Job) × GivesJob (drop 1 words) (Ok job)
+    × EndsWith remaining opens job sink (NoTask fault) × (explained ≡ (job.explain || on_terminal))
+Ends remaining opens on_terminal words sink explained (Ended answer) = (job : Job) × GivesJob (drop 1 words) (Ok job)
+    × EndsWith remaining opens job sink (Ended answer) × (explained ≡ (job.explain || on_terminal))
+
+-- the end where the words can't be had: out of memory, or a word is no text, which is told as refused words are
+abbrev pub HasNoWords : ErrorKind → Bool → Ending → Type 0
+HasNoWords kind explained (NoJob fault) = (kind ≡ io_kinds.OutOfMemory → fault ≡ OutOfMemory)
+    × (kind ≢ io_kinds.OutOfMemory → IsOtherRefusal fault) × (explained ≡ false)
+HasNoWords kind explained (NoTask fault) = ⊥
+HasNoWords kind explained (Ended answer) = ⊥
+
+-- the exit status is that of an ending with Q, whose line is told, and more where it is explained
+abbrev pub RunsJob : (Ending → Type 0) → Bool → Option (List ℕ) → Option (List ℕ) → ℕ × Result (Unit {0}) Error → Type 0
+RunsJob Q explained old new answer = (ending : Ending) × Q ending × (answer.0 ≡ status_of_ending ending)
+    × OnOk answer.1 (TellsAll explained ending old new)
+
+-- the exit status is that of an ending with Q, and its line is told, where that could be written; more follows the line where
+-- the ending is explained
+abbrev pub Runs : (Bool → Ending → Type 0) → Option (List ℕ) → Option (List ℕ) → ℕ × Result (Unit {0}) Error → Type 0
+Runs Q old new answer = (explained : Bool) × (ending : Ending) × Q explained ending × (answer.0 ≡ status_of_ending ending)
+    × OnOk answer.1 (TellsAll explained ending old new)

@@ -1,0 +1,69 @@
+-- What a clause sees of a file that may be missing.
+use Rattle.std.specs.Prelude.{◌≡◌, ℕ, ℤ, Bool, true, false, List, Option, None, Some, Result, Err}
+use Rattle.std.specs.IoError.{error_kind, raw_os_error}
+use Rattle.std.specs.declared.io.Error.{Error}
+use denote.Ref.{MutBor}
+use denote.Param.Members.{Once}
+use Rattle.tsp_stream.specs.Watched.{Calls}
+use Rattle.tsp_cli.specs.declared.task.Place.{Place}
+use Rattle.tsp_cli.specs.declared.task.Place.TheVariants as places
+use Rattle.tsp_run.specs.declared.source.Source.{Source}
+use Rattle.tsp_run.specs.declared.source.Source.TheVariants.{Input, Opened, Missing}
+
+abbrev pub is_missing : {I F : Type 0} → Source I F → Bool
+is_missing (Input input) = false
+is_missing (Opened file) = false
+is_missing (Missing error) = true
+
+-- the bytes that are left to read, where they are known
+abbrev pub remaining_of : {I F : Type 0} → (I → Option (List ℕ)) → (F → Option (List ℕ)) → Source I F → Option (List ℕ)
+remaining_of of_input of_file (Input input) = of_input input
+remaining_of of_input of_file (Opened file) = of_file file
+remaining_of of_input of_file (Missing error) = None
+
+-- standard input is given for itself, and at a path a file that was opened, or one that is missing
+abbrev pub IsSourceOf : {I F : Type 0} → Place → Source I F → Type 0
+IsSourceOf places.Input (Input input) = Unit {0}
+IsSourceOf places.Input (Opened file) = ⊥
+IsSourceOf places.Input (Missing error) = ⊥
+IsSourceOf (places.Path path) (Input input) = ⊥
+IsSourceOf (places.Path path) (Opened file) = Unit {0}
+IsSourceOf (places.Path path) (Missing error) = Unit {0}
+
+-- ---- what a read does
+
+-- of the error's number of the system, which a second error has too; where it has none, they are of the same kind
+abbrev pub HasNumber : Option ℤ → Error → Error → Type 0
+HasNumber (Some code) error other = raw_os_error other ≡ Some code
+HasNumber None error other = error_kind other ≡ error_kind error
+
+abbrev pub IsSameError : Error → Error → Type 0
+IsSameError error other = HasNumber (raw_os_error error) error other
+
+-- a call of a reader at a `&mut` to it, and one to the room for what it gives, which answers an R
+abbrev pub Asking : Type 0 → Type 0 → Type 0 → Type 0 → Type 1
+Asking Call T B R = Once Call (MutBor T × (MutBor B × Unit {0})) (R × (MutBor T × (MutBor B × Unit {0})))
+
+-- Standard input or the file is asked by its call, once, and its answer is this one, as it is. A missing file answers an error
+-- that is the same as its own.
+abbrev pub IsAsked : {I F B A OfInput OfFile : Type 0} → Asking OfInput I B (Result A Error) → OfInput
+    → Asking OfFile F B (Result A Error) → OfFile → Source I F → B → Result A Error → Source I F → B → Type 0
+IsAsked asks_input of_input asks_file of_file (Input old) room answer (Input new) filled =
+    Calls asks_input of_input old room answer new filled
+IsAsked asks_input of_input asks_file of_file (Opened old) room answer (Opened new) filled =
+    Calls asks_file of_file old room answer new filled
+IsAsked asks_input of_input asks_file of_file (Missing error) room (Err found) (Missing left) filled = IsSameError error found
+    × (left ≡ error) × (filled ≡ room)
+IsAsked asks_input of_input asks_file of_file old room answer new filled = ⊥
+
+-- how a read of standard input or of a file may end, into a buffer, and what it leaves
+abbrev pub Giving : Type 0 → Type 1
+Giving R = R → List ℕ → Result ℕ Error → List ℕ → R → Type 0
+
+-- A read is one of standard input or of the file, and answers what that answers. A missing file answers its own error.
+abbrev pub GivesOnce : {I F : Type 0} → Giving I → Giving F → Source I F → List ℕ → Result ℕ Error → List ℕ → Source I F → Type 0
+GivesOnce of_input of_file (Input old) room answer filled (Input new) = of_input old room answer filled new
+GivesOnce of_input of_file (Opened old) room answer filled (Opened new) = of_file old room answer filled new
+GivesOnce of_input of_file (Missing error) room (Err found) filled (Missing left) = IsSameError error found × (left ≡ error)
+    × (filled ≡ room)
+GivesOnce of_input of_file old room answer filled new = ⊥

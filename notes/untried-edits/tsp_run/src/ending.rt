@@ -1,0 +1,122 @@
+//! How a run of the program ends.
+
+ghost use Rattle.std.specs.Prelude.{◌≡◌, ◌++◌, ◌∷◌, [], OnOk};
+ghost use Rattle.std.specs.Io.KnownBytes.{Appends};
+ghost use Rattle.tsp_judge.specs.FaultText.{run_fault_text};
+ghost use Rattle.tsp_judge.specs.Status.{status_of};
+ghost use Rattle.tsp_run.specs.Ending.{IsLineOf, Tells, status_of_ending};
+
+use arrayvec::ArrayString;
+use clap::Error as Refusal;
+use std::fmt::{Display, Formatter, Write as _};
+use std::io::Write;
+use std::{fmt, io};
+use tsp_cli::{JobFault, TaskFault};
+use tsp_judge::{RunFault, Verdict, status_of};
+
+/// How many bytes of a fault's line are written at once.
+const MOST_TEXT: usize = 256;
+
+/// How a run of the program ends.
+#[derive(Drop)]
+pub enum Ending {
+    /// The words of the command line ask for nothing.
+    NoJob(JobFault),
+    /// What they ask for can't be begun.
+    NoTask(TaskFault),
+    /// A task was done, with this verdict, where it has one.
+    Ended(Result<Option<Verdict>, RunFault>),
+}
+
+/// What goes to standard error.
+#[derive(Drop)]
+pub enum Line<'a> {
+    /// Why `clap` refuses the words, or the help that they ask for.
+    Refusal(&'a Refusal),
+    /// Out of memory for the words of the command line.
+    OutOfMemory,
+    /// Why no task was begun.
+    NoTask(TaskFault),
+    /// Why a task gave no answer.
+    Fault(RunFault),
+}
+
+impl Display for Line<'_> {
+    ghost use Rattle.tsp_run.specs.Ending.{line_text};
+
+    ghost output = { line_text };
+
+    fn fmt<W: fmt::Write>(&self, f: &mut Formatter<W>) -> fmt::Result {
+        match self {
+            Line::Refusal(refusal) => f.write(*refusal),
+            Line::OutOfMemory => f.write_str("out of memory\n"),
+            Line::NoTask(TaskFault::UnknownLayout) => f.write_str("unknown layout\n"),
+            Line::NoTask(TaskFault::MissingPath) => f.write_str("missing path\n"),
+            Line::NoTask(TaskFault::TwoCertificates) => {
+                f.write_str("both potentials and branches\n")
+            }
+            Line::Fault(fault) => {
+                f.write(fault)?;
+                f.write_str("\n")
+            }
+        }
+    }
+}
+
+/// Out of memory for the words of the command line.
+const OUT_OF_MEMORY: u8 = 3;
+
+/// The command line is refused.
+const REFUSED: u8 = 4;
+
+/// The exit status of a run of the program.
+pub fn status_of_ending(ending: &Ending) -> u8
+    ensures { result ≡ status_of_ending ending.now }
+{
+    match ending {
+        Ending::NoJob(JobFault::Refused(_)) | Ending::NoTask(_) => REFUSED,
+        Ending::NoJob(JobFault::OutOfMemory) => OUT_OF_MEMORY,
+        Ending::Ended(Ok(None)) => status_of(&Ok(true)),
+        Ending::Ended(Ok(Some(Verdict::Tour { .. } | Verdict::Routes { .. }))) => {
+            status_of(&Ok(true))
+        }
+        Ending::Ended(Ok(Some(Verdict::No(_)))) => status_of(&Ok(false)),
+        Ending::Ended(Err(fault)) => status_of(&Err(*fault)),
+    }
+}
+
+/// What goes to standard error, or `None` where nothing goes there.
+pub fn line_of(ending: &Ending) -> Option<Line<'_>>
+    ensures { IsLineOf ending.now result }
+{
+    match ending {
+        Ending::NoJob(JobFault::Refused(refusal)) => Some(Line::Refusal(refusal)),
+        Ending::NoJob(JobFault::OutOfMemory) => Some(Line::OutOfMemory),
+        Ending::NoTask(fault) => Some(Line::NoTask(*fault)),
+        Ending::Ended(Ok(_)) => None,
+        Ending::Ended(Err(fault)) => Some(Line::Fault(*fault)),
+    }
+}
+
+/// Tells how a run ended, where that wants a line.
+pub fn tell<W: Write>(ending: &Ending, errors: &mut W) -> io::Result<()>
+    ensures { OnOk result (Tells ending.now (W.contents errors.old) (W.contents errors.new)) }
+{
+    match line_of(ending) {
+        Some(Line::Fault(fault)) => tell_fault(fault, errors),
+        Some(line) => write!(errors, "{line}"),
+        None => Ok(()),
+    }
+}
+
+/// Tells a fault, and ends its line, by one write.
+fn tell_fault<W: Write>(fault: RunFault, errors: &mut W) -> io::Result<()>
+    ensures { OnOk result (Appends (W.contents errors.old) (W.contents errors.new) (run_fault_text fault ++ 10 ∷ [])) }
+{
+    let mut text = ArrayString::<MOST_TEXT>::new();
+    match writeln!(text, "{fault}") {
+        Ok(()) => errors.write_all(text.as_str().as_bytes()),
+        // No fault's text is that long; one that were would be written in parts.
+        Err(_) => writeln!(errors, "{fault}"),
+    }
+}

@@ -1,0 +1,16 @@
+pub mod DepotSteps
+pub mod FixedSteps
+pub mod WeightSteps
+pub mod NodeGroups
+pub mod NumberSteps
+pub mod PointSteps
+pub mod SpacePointSteps
+pub mod TripleSteps
+pub mod Pieces
+pub mod TourSteps
+pub mod TreeSteps
+pub mod Readings
+pub mod Taken
+pub mod PartSteps
+pub mod NamedRows
+pub mod Scans

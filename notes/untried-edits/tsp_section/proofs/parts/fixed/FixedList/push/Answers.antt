@@ -1,0 +1,12 @@
+use Rattle.std.proofs.Common.{◌∙◌, sym}
+use Rattle.tsp_section.proofs.FixedSteps.{pair_past_end}
+use Rattle.tsp_section.proofs.parts.fixed.FixedList.push.Goals as goal
+
+pub returns-then-is_minus_one-clause-takes : goal.returns-then-is_minus_one-clause-takes
+returns-then-is_minus_one-clause-takes c = λ n words h.
+    let s = c.args.self.now in
+    let next = pair_past_end s.pairs.items s.first s.ended n words c.args.word.now c.if-self.true (sym c.is_minus_one.ensures ∙ c.if-is_minus_one.true) h.read in
+    (next.0, record { nodes = h.nodes; read = next.1 })
+
+pub returns-in-None-clause-takes : goal.returns-in-None-clause-takes
+returns-in-None-clause-takes c = λ n words h. c.push_first.ensures.takes n words h c.if-self.false c.in-None.is

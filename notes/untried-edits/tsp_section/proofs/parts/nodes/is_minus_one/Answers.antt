@@ -1,0 +1,6 @@
+use Rattle.std.proofs.Common.{◌∙◌, ap}
+use Rattle.std.specs.Str.{bytes_eq}
+use Rattle.tsp_section.proofs.parts.nodes.is_minus_one.Goals as goal
+
+pub returns : goal.returns
+returns c = c.eq.ensures ∙ ap (bytes_eq c.args.word.now) c.as_slice.ensures

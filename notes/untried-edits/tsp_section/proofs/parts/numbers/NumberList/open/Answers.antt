@@ -1,0 +1,15 @@
+use Rattle.std.proofs.Common.{rules, w64}
+use mir.Val.{SFits}
+use Rattle.std.proofs.lemmas.Int.{to_z-of_z}
+use Rattle.tsp_section.proofs.NumberSteps.{no_numbers}
+use Rattle.tsp_section.proofs.parts.numbers.NumberList.open.Goals as goal
+
+pub returns : goal.returns
+returns c =
+    let low_fits : SFits w64 c.args.low = search rules in
+    let high_fits : SFits w64 c.args.high = search rules in record {
+      from = to_z-of_z w64 c.args.low low_fits;
+      to = to_z-of_z w64 c.args.high high_fits;
+      read = no_numbers c.in_ok-vec.field-0.items c.in_ok-vec-2.field-0.items c.args.low c.args.high c.args.n
+          (c.in_ok-vec.ensures.items_if_clones_equal (λ y h. h)) (c.in_ok-vec-2.ensures.items_if_clones_equal (λ y h. h));
+    }

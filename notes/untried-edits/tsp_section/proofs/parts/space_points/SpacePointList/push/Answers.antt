@@ -1,0 +1,35 @@
+use Rattle.std.proofs.Common.{◌∙◌, sym, subst, Err, arith}
+use Rattle.tsp_section.specs.states.Parts.{IsNewNode}
+use Rattle.tsp_section.proofs.SpacePointSteps.{space_ended, space_surplus, space_node_faulty, space_point_bad, space_node}
+use Rattle.tsp_section.proofs.parts.space_points.SpacePointList.push.Goals as goal
+
+pub returns-then-is_minus_one-clause-takes : goal.returns-then-is_minus_one-clause-takes
+returns-then-is_minus_one-clause-takes c = λ n words h.
+    let s = c.args.self.now in
+    space_ended s.seen.items s.entries.items s.left s.begun s.x s.y n words c.args.word.now c.if-self-eq0.true (sym c.is_minus_one.ensures ∙ c.if-is_minus_one.true) h
+
+pub returns-then-self-eq0-clause-takes : goal.returns-then-self-eq0-clause-takes
+returns-then-self-eq0-clause-takes c = λ n words h.
+    let s = c.args.self.now in
+    space_surplus s.seen.items s.entries.items s.left s.begun s.x s.y n words c.args.word.now c.if-self-eq0.true (sym c.is_minus_one.ensures ∙ c.if-is_minus_one.false) h
+
+pub returns-in-Ok-clause-takes : goal.returns-in-Ok-clause-takes
+returns-in-Ok-clause-takes c = λ n words h.
+    let s = c.args.self.now in
+    let new = rw c.as_slice.ensures.value at c.in-Ok.ensures in
+    space_node s.seen.items s.entries.items s.left s.begun s.x s.y n words c.args.word.now c.in-Ok.node (omega arith) c.in-None.is new h
+
+pub returns-in-Err-clause-takes : goal.returns-in-Err-clause-takes
+returns-in-Err-clause-takes c = λ n words h.
+    let s = c.args.self.now in
+    let new = subst (λ seen. IsNewNode seen c.args.word.now (Err c.in-Err.fault)) c.as_slice.ensures.value c.in-Err.ensures in
+    space_node_faulty s.seen.items s.entries.items s.left s.begun s.x s.y n words c.args.word.now c.in-Err.fault (omega arith) c.in-None.is new h
+
+pub returns-in-Ok-parse_decimal-clause-takes : goal.returns-in-Ok-parse_decimal-clause-takes
+returns-in-Ok-parse_decimal-clause-takes c = λ n words h. c.put.ensures n words c.args.word.now h (sym c.parse_decimal.ensures.computed ∙ c.in-Ok-parse_decimal.is)
+
+pub returns-in-Err-parse_decimal-clause-takes : goal.returns-in-Err-parse_decimal-clause-takes
+returns-in-Err-parse_decimal-clause-takes c = λ n words h.
+    let s = c.args.self.now in
+    space_point_bad s.seen.items s.entries.items s.left s.begun s.x s.y n words c.args.word.now c.in-Some.node c.in-Err-parse_decimal.fault (omega arith)
+    c.in-Some.is (sym c.parse_decimal.ensures.computed ∙ c.in-Err-parse_decimal.is) h

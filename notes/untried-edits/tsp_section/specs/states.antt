@@ -1,0 +1,4 @@
+pub mod Parts
+pub mod Held
+pub mod CutLine
+pub mod Run

@@ -1,0 +1,120 @@
+-- What each section's part holds, by the part itself, and what it finishes with.
+use Rattle.std.specs.Prelude.{◌≡◌, ℕ, ◌+◌, ◌≤◌, ℤ, List, length, map}
+use Rattle.tsp_distance.specs.Distances.{on_plane}
+use Rattle.tsp_section.specs.declared.parts.numbers.NumberList.{NumberList}
+use Rattle.tsp_section.specs.declared.parts.points.PointList.{PointList}
+use Rattle.tsp_section.specs.declared.parts.space_points.SpacePointList.{SpacePointList}
+use Rattle.tsp_section.specs.declared.parts.depots.DepotList.{DepotList}
+use Rattle.tsp_section.specs.declared.parts.fixed.FixedList.{FixedList}
+use Rattle.tsp_section.specs.declared.parts.triples.TripleList.{TripleList}
+use Rattle.tsp_section.specs.declared.parts.weights.WeightList.{WeightList}
+use Rattle.tsp_section.specs.declared.parts.tours.TourList.{TourList}
+use Rattle.tsp_section.specs.declared.parts.combs.CombList.{CombList}
+use Rattle.tsp_section.specs.declared.parts.tree.TreeList.{TreeList}
+use Rattle.tsp_format.specs.Limits.{most_combs}
+use Rattle.tsp_format.specs.Steps.{steps_of}
+use Rattle.tsp_draft.specs.Fields.{combs_of}
+use Rattle.tsp_text.specs.Combs.{CombsSoFar, combs_after}
+use Rattle.tsp_text.specs.Tree.{TreeSoFar, tree_after}
+use Rattle.tsp_section.specs.declared.part.Part.{Part}
+use Rattle.tsp_section.specs.declared.part.Part.TheVariants as parts
+use Rattle.tsp_format.specs.declared.field.Shape.{Shape}
+use Rattle.tsp_format.specs.declared.field.Shape.TheVariants.{Numbers, Points, SpacePoints, Depots, Pairs, Weights, Tours, Triples, Combs, Steps}
+use Rattle.tsp_section.specs.states.Parts.{NumbersHold, PointsHold, SpacePointsHold, DepotsHold, PairsHold, TriplesHold, WeightsHold, ToursHold, EndsRun}
+
+-- its numbers are of this range
+pub record HoldsNumbers (part : NumberList) (low high : ℤ) (n : ℕ) (words : List (List ℕ)) : Type 0 where
+  pub from : part.low ≡ low
+  pub to : part.high ≡ high
+  pub read : NumbersHold part.seen.items part.entries.items part.left part.begun low high n words
+
+abbrev pub HoldsPoints : PointList → ℕ → List (List ℕ) → Type 0
+HoldsPoints part n words =
+    PointsHold part.seen.items (map (λ point. on_plane point.x point.y) part.entries.items) part.left part.begun part.x n words
+
+abbrev pub HoldsSpacePoints : SpacePointList → ℕ → List (List ℕ) → Type 0
+HoldsSpacePoints part n words = SpacePointsHold part.seen.items part.entries.items part.left part.begun part.x part.y n words
+
+pub record HoldsDepots (part : DepotList) (n : ℕ) (words : List (List ℕ)) : Type 0 where
+  pub nodes : part.n ≡ n
+  pub read : DepotsHold part.depots.items part.ended n words
+
+pub record HoldsFixed (part : FixedList) (n : ℕ) (words : List (List ℕ)) : Type 0 where
+  pub nodes : part.n ≡ n
+  pub read : PairsHold part.pairs.items part.first part.ended n words
+
+pub record HoldsTriples (part : TripleList) (n : ℕ) (words : List (List ℕ)) : Type 0 where
+  pub nodes : part.n ≡ n
+  pub read : TriplesHold part.triples.items part.first part.second part.ended n words
+
+abbrev pub HoldsWeights : WeightList → ℕ → List (List ℕ) → Type 0
+HoldsWeights part n words = WeightsHold part.weights.items part.most n words
+
+abbrev pub HoldsTours : TourList → List (List ℕ) → Type 0
+HoldsTours part words = ToursHold (map (λ tour. tour.items) part.done.items) part.run.items part.count words
+
+abbrev pub EndsRunOf : TourList → List (List ℕ) → Type 0
+EndsRunOf part words = EndsRun (map (λ tour. tour.items) part.done.items) part.run.items words
+
+-- what stands in it, as what stands after words
+abbrev pub combs_held : CombList → CombsSoFar
+combs_held part = record {
+  combs = combs_of part.combs.items;
+  sets = map (λ set. set.items) part.sets.items;
+  nodes = part.nodes.items;
+  count = part.count;
+  ended = part.ended;
+}
+
+pub record HoldsCombs (part : CombList) (n : ℕ) (words : List (List ℕ)) : Type 0 where
+  pub nodes : part.n ≡ n
+  pub read : combs_held part ≡ combs_after n words
+
+abbrev pub tree_held : TreeList → TreeSoFar
+tree_held part = record {
+  steps = steps_of part.steps.items;
+  first = part.first;
+  in_leaf = part.in_leaf;
+  leaf = part.leaf.items;
+  to_come = part.to_come;
+  branches = part.branches;
+  changes = part.changes;
+}
+
+-- no more trees are to come than so many steps can ask for
+pub record HoldsTree (part : TreeList) (n : ℕ) (words : List (List ℕ)) : Type 0 where
+  pub nodes : part.n ≡ n
+  pub indices : part.last_index ≡ n + most_combs
+  pub read : tree_held part ≡ tree_after n words
+  pub few : part.to_come ≤ length part.steps.items + 1
+
+-- ---- the part of a section, whichever its shape
+
+abbrev pub shape_by : Part → Shape
+shape_by (parts.Numbers list) = Numbers list.low list.high
+shape_by (parts.Points list) = Points
+shape_by (parts.SpacePoints list) = SpacePoints
+shape_by (parts.Depots list) = Depots
+shape_by (parts.Pairs list) = Pairs
+shape_by (parts.Weights list) = Weights
+shape_by (parts.Tours list) = Tours
+shape_by (parts.Triples list) = Triples
+shape_by (parts.Combs list) = Combs
+shape_by (parts.Steps list) = Steps
+
+-- the part holds these words of its section
+abbrev pub HoldsPart : Part → ℕ → List (List ℕ) → Type 0
+HoldsPart (parts.Numbers list) n words = HoldsNumbers list list.low list.high n words
+HoldsPart (parts.Points list) n words = HoldsPoints list n words
+HoldsPart (parts.SpacePoints list) n words = HoldsSpacePoints list n words
+HoldsPart (parts.Depots list) n words = HoldsDepots list n words
+HoldsPart (parts.Pairs list) n words = HoldsFixed list n words
+HoldsPart (parts.Weights list) n words = HoldsWeights list n words
+HoldsPart (parts.Tours list) n words = HoldsTours list words
+HoldsPart (parts.Triples list) n words = HoldsTriples list n words
+HoldsPart (parts.Combs list) n words = HoldsCombs list n words
+HoldsPart (parts.Steps list) n words = HoldsTree list n words
+
+-- and its section has this shape
+abbrev pub HoldsShape : Shape → Part → ℕ → List (List ℕ) → Type 0
+HoldsShape shape part n words = (shape_by part ≡ shape) × HoldsPart part n words

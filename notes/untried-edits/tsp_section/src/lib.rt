@@ -1,0 +1,28 @@
+//! The parts of a reader that take the words of each section and the value of each keyword, over the
+//! definitions of what a text spells.
+#![tactic(auto)]
+
+mod blanks;
+mod fault;
+mod line;
+mod part;
+mod parts;
+mod run;
+mod slots;
+
+pub use blanks::without_start;
+pub use fault::StepFault;
+pub use line::{CutLine, may_open, number_of, says_space};
+pub use part::Part;
+pub use parts::combs::CombList;
+pub use parts::depots::DepotList;
+pub use parts::fixed::FixedList;
+pub use parts::numbers::NumberList;
+pub use parts::points::PointList;
+pub use parts::space_points::SpacePointList;
+pub use parts::tours::TourList;
+pub use parts::tree::TreeList;
+pub use parts::triples::TripleList;
+pub use parts::weights::{Gathered, WeightList};
+pub use run::RunList;
+pub use slots::{add_comment, add_other, set_name, set_named};

@@ -1,0 +1,13 @@
+//! The parts of a reader that take the words of a section.
+
+pub(crate) mod combs;
+pub(crate) mod depots;
+pub(crate) mod fixed;
+pub(crate) mod nodes;
+pub(crate) mod numbers;
+pub(crate) mod points;
+pub(crate) mod space_points;
+pub(crate) mod tours;
+pub(crate) mod tree;
+pub(crate) mod triples;
+pub(crate) mod weights;

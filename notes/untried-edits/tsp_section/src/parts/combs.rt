@@ -1,0 +1,160 @@
+//! Combs.
+
+ghost use Rattle.std.specs.Prelude.{◌≡◌, [], ℕ, List, ◌∷◌, ◌++◌, ◌<◌, length, OnOk, IfErr, false};
+
+use crate::fault::StepFault;
+use crate::parts::nodes::{is_minus_one, read_node_or_end};
+use std::alloc::Global;
+use std::mem;
+use tsp_format::{MOST_COMB_NODES, MOST_COMBS};
+use tsp_text::LineFault;
+
+/// What was read of the combs: those that are whole, of a comb that has begun the whole sets, of a
+/// set that has begun the nodes, and how many nodes came in all.
+#[derive(Drop)]
+pub struct CombList {
+    n: u32,
+    combs: Vec<Vec<Vec<u32>>>,
+    sets: Vec<Vec<u32>>,
+    nodes: Vec<u32>,
+    count: usize,
+    ended: bool,
+}
+
+impl CombList {
+    ghost use Rattle.tsp_section.specs.declared.fault.StepFault.TheVariants.{Memory};
+    ghost use Rattle.tsp_draft.specs.Fields.{combs_of};
+    ghost use Rattle.tsp_text.specs.Combs.{whole_combs, with_set, with_comb, with_end, has_begun_comb, place_of_comb};
+    ghost use Rattle.tsp_text.specs.Rows.{is_past_combs};
+    ghost use Rattle.tsp_text.specs.Spells.{wants_more};
+    ghost use Rattle.tsp_section.specs.states.Parts.{Takes};
+    ghost use Rattle.tsp_section.specs.states.Held.{combs_held, HoldsCombs};
+
+    /// The section with no words so far, in a file of `n` nodes.
+    pub fn open(alloc: Global, n: u32) -> CombList
+        ensures { HoldsCombs result n [] }
+    {
+        CombList {
+            n,
+            combs: Vec::new(alloc),
+            sets: Vec::new(alloc),
+            nodes: Vec::new(alloc),
+            count: 0,
+            ended: false,
+        }
+    }
+
+    /// Takes the next word.
+    ///
+    /// # Errors
+    ///
+    /// - `Fault`: the word is neither a node nor a -1 (`Number`), there are as many nodes of combs
+    ///   as a file may have, or it would begin a comb after as many as a file may have (`Surplus`),
+    ///   or the section has ended (`AfterEnd`).
+    /// - `Memory`: memory was refused.
+    ///
+    /// The list has the words from before then.
+    pub fn push(&mut self, alloc: Global, word: &[u8]) -> Result<(), StepFault>
+        ensures takes { (n : ℕ) (words : List (List ℕ)) → HoldsCombs self.old n words
+            → Takes n (place_of_comb n words) word.now
+            (HoldsCombs self.new n (words ++ word.now ∷ [])) result }
+        ensures kept { IfErr result (λ _. (n : ℕ) (words : List (List ℕ)) → HoldsCombs self.old n words
+            → HoldsCombs self.new n words) }
+    {
+        if self.ended {
+            if is_minus_one(word) {
+                return Ok(());
+            }
+            return Err(StepFault::Fault(LineFault::AfterEnd));
+        }
+        match read_node_or_end(word, self.n) {
+            Err(fault) => Err(StepFault::Fault(LineFault::Number(fault))),
+            Ok(None) => self.push_end(alloc),
+            Ok(Some(_)) if self.is_full() => Err(StepFault::Fault(LineFault::Surplus)),
+            Ok(Some(node)) => match self.nodes.push(node) {
+                Ok(()) => {
+                    self.count += 1;
+                    Ok(())
+                }
+                Err(_) => Err(StepFault::Memory),
+            },
+        }
+    }
+
+    /// Whether a comb has begun.
+    fn has_begun(&self) -> bool
+        ensures { result ≡ has_begun_comb (combs_held self.now) }
+    {
+        !self.nodes.is_empty() || !self.sets.is_empty()
+    }
+
+    /// Whether one more node has no room.
+    fn is_full(&self) -> bool
+        ensures full { result ≡ is_past_combs (has_begun_comb (combs_held self.now))
+            (length (combs_held self.now).combs) self.now.count }
+        ensures room { result ≡ false → self.now.count < MOST_COMB_NODES }
+    {
+        self.count >= MOST_COMB_NODES || (!self.has_begun() && self.combs.len() >= MOST_COMBS)
+    }
+
+    /// Takes a -1: it ends the set that has begun, else the comb, else the section.
+    fn push_end(&mut self, alloc: Global) -> Result<(), StepFault>
+        ensures done { OnOk result (combs_held self.new ≡ with_end (combs_held self.old)) }
+        ensures kept { IfErr result (λ _. combs_held self.new ≡ combs_held self.old) }
+        ensures n { self.new.n ≡ self.old.n }
+        ensures err { IfErr result (λ e. e ≡ Memory) }
+    {
+        if !self.nodes.is_empty() {
+            return self.end_set(alloc);
+        }
+        if !self.sets.is_empty() {
+            return self.end_comb(alloc);
+        }
+        self.ended = true;
+        Ok(())
+    }
+
+    /// Ends the set that has begun.
+    fn end_set(&mut self, alloc: Global) -> Result<(), StepFault>
+        ensures done { OnOk result (combs_held self.new ≡ with_set (combs_held self.old)) }
+        ensures kept { IfErr result (λ _. combs_held self.new ≡ combs_held self.old) }
+        ensures n { self.new.n ≡ self.old.n }
+        ensures err { IfErr result (λ e. e ≡ Memory) }
+    {
+        let nodes = mem::replace(&mut self.nodes, Vec::new(alloc));
+        match self.sets.push(nodes) {
+            Ok(()) => Ok(()),
+            Err(refused) => {
+                self.nodes = refused.value;
+                Err(StepFault::Memory)
+            }
+        }
+    }
+
+    /// Ends the comb that has begun.
+    fn end_comb(&mut self, alloc: Global) -> Result<(), StepFault>
+        ensures done { OnOk result (combs_held self.new ≡ with_comb (combs_held self.old)) }
+        ensures kept { IfErr result (λ _. combs_held self.new ≡ combs_held self.old) }
+        ensures n { self.new.n ≡ self.old.n }
+        ensures err { IfErr result (λ e. e ≡ Memory) }
+    {
+        let sets = mem::replace(&mut self.sets, Vec::new(alloc));
+        match self.combs.push(sets) {
+            Ok(()) => Ok(()),
+            Err(refused) => {
+                self.sets = refused.value;
+                Err(StepFault::Memory)
+            }
+        }
+    }
+
+    /// The combs, and whether one is cut short.
+    pub fn finish(self) -> (Vec<Vec<Vec<u32>>>, bool)
+        ensures { (n : ℕ) (words : List (List ℕ)) → HoldsCombs self n words
+            → (combs_of result.0.items ≡ whole_combs n words)
+            × (result.1 ≡ wants_more (place_of_comb n words)) }
+    {
+        let wants_more = !self.ended && self.has_begun();
+        (self.combs, wants_more)
+    }
+}

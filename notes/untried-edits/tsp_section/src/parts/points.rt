@@ -1,0 +1,184 @@
+//! By-node sections with a point of the plane for each node.
+
+ghost use Rattle.std.specs.Prelude.{◌≡◌, ◌<◌, ◌≤◌, ◌^◌, None, Some, Ok, [], ℕ, List, length, ◌∷◌, ◌++◌, vec_len, IfOk, IfErr, Err, ◌≢◌, is_some, true, false, ◌-◌, pos, slice_index_or};
+ghost use Rattle.std.specs.Option.{ForSome};
+ghost use Rattle.tsp_draft.specs.Coords.{points_of};
+
+use crate::fault::StepFault;
+use crate::parts::nodes::{is_minus_one, new_node, unmarked_node};
+use std::alloc::{AllocError, Global};
+use tsp_distance::{Decimal, PlanePoint};
+use tsp_draft::Coords;
+use tsp_number::parse_decimal;
+use tsp_text::LineFault;
+
+/// What was read of a section of groups of a node and its two coordinates.
+#[derive(Drop)]
+pub struct PointList {
+    seen: Vec<bool>,
+    entries: Vec<PlanePoint>,
+    left: u32,
+    begun: Option<u32>,
+    x: Option<Decimal>,
+    ghost same: { vec_len entries ≡ vec_len seen },
+    ghost narrow: { vec_len seen < 2 ^ 32 },
+    ghost within: { ForSome begun (λ k. (1 ≤ k) × (k ≤ vec_len seen)) },
+}
+
+impl PointList {
+    ghost use Rattle.tsp_section.specs.declared.fault.StepFault.TheVariants.{Memory};
+    ghost use Rattle.tsp_number.specs.Reading.{decimal_of};
+    ghost use Rattle.tsp_text.specs.Numbers.{IsWhole};
+    ghost use Rattle.tsp_text.specs.Groups.{place_of_point, points_by_node};
+    ghost use Rattle.tsp_text.specs.Spells.{wants_more};
+    ghost use Rattle.tsp_section.specs.states.Parts.{Takes, IsNodeOf};
+    ghost use Rattle.tsp_text.specs.Rows.{word_fault};
+    ghost use Rattle.tsp_section.specs.states.Held.{HoldsPoints};
+
+    /// The section with no words so far, in a file of `n` nodes.
+    ///
+    /// # Errors
+    ///
+    /// Memory was refused.
+    pub fn open(alloc: Global, n: u32) -> Result<PointList, AllocError>
+        ensures { IfOk result (λ part. HoldsPoints part n []) }
+    {
+        let zero = match Decimal::of_count(0) {
+            Some(zero) => zero,
+            None => unreachable!(),
+        };
+        Ok(PointList {
+            seen: vec![in alloc; false; n as usize]?,
+            entries: vec![in alloc; PlanePoint { x: zero, y: zero }; n as usize]?,
+            left: n,
+            begun: None,
+            x: None,
+        })
+    }
+
+    /// Takes the next word.
+    ///
+    /// # Errors
+    ///
+    /// `Fault`: the word is no node, or no coordinate (`Number`), the node has a group
+    /// (`RepeatedNode`), or every node has one (`Surplus`). The list has the words from before then.
+    /// No memory is taken.
+    pub fn push(&mut self, word: &[u8]) -> Result<(), StepFault>
+        ensures takes { (n : ℕ) (words : List (List ℕ)) → HoldsPoints self.old n words
+            → Takes n (place_of_point n words) word.now
+            (HoldsPoints self.new n (words ++ word.now ∷ [])) result }
+        ensures kept { IfErr result (λ _. (n : ℕ) (words : List (List ℕ))
+            → HoldsPoints self.old n words → HoldsPoints self.new n words) }
+        ensures memory { result ≢ Err Memory }
+    {
+        if self.left == 0 {
+            if is_minus_one(word) {
+                return Ok(());
+            }
+            return Err(StepFault::Fault(LineFault::Surplus));
+        }
+        match self.begun {
+            None => match new_node(self.seen.as_slice(), word) {
+                Ok(node) => {
+                    self.begun = Some(node);
+                    Ok(())
+                }
+                Err(fault) => Err(StepFault::Fault(fault)),
+            },
+            Some(node) => match parse_decimal(word) {
+                Ok(coordinate) => {
+                    self.put(node, coordinate);
+                    Ok(())
+                }
+                Err(fault) => Err(StepFault::Fault(LineFault::Number(fault))),
+            },
+        }
+    }
+
+    /// Takes the next coordinate of the group that has begun.
+    #[inline(always)]
+    fn put(&mut self, node: u32, coordinate: Decimal)
+        requires to_come { 0 < self.old.left }
+        requires begun { self.old.begun ≡ Some node }
+        ensures { (n : ℕ) (words : List (List ℕ)) (word : List ℕ) → HoldsPoints self.old n words
+            → decimal_of word ≡ Ok coordinate
+            → (word_fault n (place_of_point n words) word ≡ None)
+            × HoldsPoints self.new n (words ++ word ∷ []) }
+    {
+        match self.x {
+            None => self.x = Some(coordinate),
+            Some(x) => {
+                self.seen[node as usize - 1] = true;
+                self.entries[node as usize - 1] = PlanePoint { x, y: coordinate };
+                self.left -= 1;
+                self.begun = None;
+                self.x = None;
+            }
+        }
+    }
+
+    /// Whether a group has begun, so that the next word is a coordinate.
+    #[inline(always)]
+    pub fn wants_coordinate(&self) -> bool
+        ensures { result ≡ is_some self.now.begun }
+    {
+        self.begun.is_some()
+    }
+
+    /// Takes the number of a word that was read, where a group can begin with it. The answer is
+    /// whether it was taken.
+    #[inline(always)]
+    pub fn push_read(&mut self, number: i64) -> bool
+        ensures taken { result ≡ true → (n : ℕ) (words : List (List ℕ)) (word : List ℕ)
+            → IsWhole word number → HoldsPoints self.old n words
+            → Takes n (place_of_point n words) word
+            (HoldsPoints self.new n (words ++ word ∷ [])) (Ok tt) }
+        ensures kept { result ≡ false → (n : ℕ) (words : List (List ℕ))
+            → HoldsPoints self.old n words → HoldsPoints self.new n words }
+        ensures refused { result ≡ false → 0 < self.old.left → self.old.begun ≡ None → (k : ℕ) → number ≡ pos k
+            → IsNodeOf (length self.old.seen.items) k
+            → slice_index_or self.old.seen.items (k - 1) false ≡ true }
+    {
+        match self.begun {
+            None if self.left > 0 => match unmarked_node(self.seen.as_slice(), number) {
+                Some(node) => {
+                    self.begun = Some(node);
+                    true
+                }
+                None => false,
+            },
+            _ => false,
+        }
+    }
+
+    /// Takes the coordinate of a word that was read, where a group has begun. The answer is whether
+    /// it was taken.
+    #[inline(always)]
+    pub fn push_coordinate(&mut self, coordinate: Decimal) -> bool
+        ensures taken { result ≡ true → (n : ℕ) (words : List (List ℕ)) (word : List ℕ)
+            → decimal_of word ≡ Ok coordinate → HoldsPoints self.old n words
+            → Takes n (place_of_point n words) word
+            (HoldsPoints self.new n (words ++ word ∷ [])) (Ok tt) }
+        ensures kept { result ≡ false → (n : ℕ) (words : List (List ℕ))
+            → HoldsPoints self.old n words → HoldsPoints self.new n words }
+        ensures refused { result ≡ false → 0 < self.old.left → self.old.begun ≡ None }
+    {
+        match self.begun {
+            Some(node) if self.left > 0 => {
+                self.put(node, coordinate);
+                true
+            }
+            _ => false,
+        }
+    }
+
+    /// The list by node, and whether a group is still to come.
+    pub fn finish(self) -> (Coords, bool)
+        ensures { (n : ℕ) (words : List (List ℕ)) → HoldsPoints self n words
+            → (points_of result.0 ≡ points_by_node n words)
+            × (result.1 ≡ wants_more (place_of_point n words)) }
+    {
+        let wants_more = self.left > 0;
+        (Coords::Plane(self.entries), wants_more)
+    }
+}

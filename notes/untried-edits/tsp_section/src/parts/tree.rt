@@ -1,0 +1,213 @@
+//! The steps of a tree of cases.
+
+ghost use Rattle.std.specs.Prelude.{◌≡◌, ◌≢◌, [], ℕ, List, ◌∷◌, ◌++◌, ◌+◌, ◌≤◌, length, OnOk, IfErr, None, Some, true, false};
+
+use crate::fault::StepFault;
+use crate::parts::nodes::{is_minus_one, read_node, read_node_or_end, read_node_or_leaf};
+use std::alloc::Global;
+use std::mem;
+use tsp_format::{MOST_BRANCHES, MOST_CHANGES, MOST_COMBS, MOST_DIFFERENCE, MOST_NODES, TreeStep};
+use tsp_number::parse_whole;
+use tsp_text::LineFault;
+
+/// What was read of a tree: its whole steps, the first number of a branch or of a difference that
+/// has begun, whether a leaf has begun and its whole differences, how many trees are still to come,
+/// and how many branches and differences have begun in all.
+#[derive(Drop)]
+pub struct TreeList {
+    n: u32,
+    last_index: u32,
+    steps: Vec<TreeStep>,
+    first: Option<u32>,
+    in_leaf: bool,
+    leaf: Vec<(u32, i64)>,
+    to_come: usize,
+    branches: usize,
+    changes: usize,
+}
+
+impl TreeList {
+    ghost use Rattle.tsp_section.specs.declared.fault.StepFault.TheVariants.{Memory};
+    ghost use Rattle.tsp_format.specs.Steps.{steps_of};
+    ghost use Rattle.tsp_text.specs.Tree.{whole_steps, with_leaf, place_of_step};
+    ghost use Rattle.tsp_text.specs.Spells.{wants_more};
+    ghost use Rattle.tsp_section.specs.states.Parts.{Takes};
+    ghost use Rattle.tsp_section.specs.states.Held.{tree_held, HoldsTree};
+
+    /// The section with no words so far, in a file of `n` nodes, of which there are no more than a
+    /// file may have.
+    pub fn open(alloc: Global, n: u32) -> TreeList
+        ensures { n ≤ MOST_NODES → HoldsTree result n [] }
+    {
+        TreeList {
+            n,
+            last_index: n.saturating_add(MOST_COMBS as u32),
+            steps: Vec::new(alloc),
+            first: None,
+            in_leaf: false,
+            leaf: Vec::new(alloc),
+            to_come: 1,
+            branches: 0,
+            changes: 0,
+        }
+    }
+
+    /// Takes the next word.
+    ///
+    /// # Errors
+    ///
+    /// - `Fault`: the word isn't read as what is wanted at its place (`Number`), a branch is on a
+    ///   node and itself (`SelfEdge`), there are as many branches or differences as a file may have,
+    ///   or the tree is whole (`Surplus`).
+    /// - `Memory`: memory was refused.
+    ///
+    /// The list has the words from before then.
+    pub fn push(&mut self, alloc: Global, word: &[u8]) -> Result<(), StepFault>
+        ensures takes { (n : ℕ) (words : List (List ℕ)) → HoldsTree self.old n words
+            → Takes n (place_of_step n words) word.now
+            (HoldsTree self.new n (words ++ word.now ∷ [])) result }
+        ensures kept { IfErr result (λ _. (n : ℕ) (words : List (List ℕ)) → HoldsTree self.old n words
+            → HoldsTree self.new n words) }
+    {
+        if self.to_come == 0 {
+            if is_minus_one(word) {
+                return Ok(());
+            }
+            return Err(StepFault::Fault(LineFault::Surplus));
+        }
+        match (self.in_leaf, self.first) {
+            (false, None) => self.push_first(word),
+            (false, Some(first)) => self.push_second(first, word),
+            (true, None) => self.push_index(alloc, word),
+            (true, Some(index)) => self.push_difference(index, word),
+        }
+    }
+
+    /// Takes the first node of a branch, or the 0 that begins a leaf.
+    fn push_first(&mut self, word: &[u8]) -> Result<(), StepFault>
+        ensures takes { (n : ℕ) (words : List (List ℕ)) → HoldsTree self.old n words
+            → self.old.to_come ≢ 0 → self.old.in_leaf ≡ false → self.old.first ≡ None
+            → Takes n (place_of_step n words) word.now
+            (HoldsTree self.new n (words ++ word.now ∷ [])) result }
+        ensures kept { IfErr result (λ _. (n : ℕ) (words : List (List ℕ)) → HoldsTree self.old n words
+            → HoldsTree self.new n words) }
+    {
+        match read_node_or_leaf(word, self.n) {
+            Err(fault) => Err(StepFault::Fault(LineFault::Number(fault))),
+            Ok(None) => {
+                self.in_leaf = true;
+                Ok(())
+            }
+            Ok(Some(_)) if self.branches >= MOST_BRANCHES => {
+                Err(StepFault::Fault(LineFault::Surplus))
+            }
+            Ok(Some(node)) => {
+                self.first = Some(node);
+                self.branches += 1;
+                Ok(())
+            }
+        }
+    }
+
+    /// Takes the second node of a branch.
+    fn push_second(&mut self, first: u32, word: &[u8]) -> Result<(), StepFault>
+        ensures takes { (n : ℕ) (words : List (List ℕ)) → HoldsTree self.old n words
+            → self.old.to_come ≢ 0 → self.old.in_leaf ≡ false → self.old.first ≡ Some first
+            → Takes n (place_of_step n words) word.now
+            (HoldsTree self.new n (words ++ word.now ∷ [])) result }
+        ensures kept { IfErr result (λ _. (n : ℕ) (words : List (List ℕ)) → HoldsTree self.old n words
+            → HoldsTree self.new n words) }
+    {
+        match read_node(word, self.n) {
+            Err(fault) => Err(StepFault::Fault(LineFault::Number(fault))),
+            Ok(second) if second == first => Err(StepFault::Fault(LineFault::SelfEdge)),
+            Ok(second) => match self.steps.push(TreeStep::Branch(first, second)) {
+                Ok(()) => {
+                    self.first = None;
+                    self.to_come = self.to_come.saturating_add(1);
+                    Ok(())
+                }
+                Err(_) => Err(StepFault::Memory),
+            },
+        }
+    }
+
+    /// Takes an index of a leaf, or the -1 that ends it.
+    fn push_index(&mut self, alloc: Global, word: &[u8]) -> Result<(), StepFault>
+        ensures takes { (n : ℕ) (words : List (List ℕ)) → HoldsTree self.old n words
+            → self.old.to_come ≢ 0 → self.old.in_leaf ≡ true → self.old.first ≡ None
+            → Takes n (place_of_step n words) word.now
+            (HoldsTree self.new n (words ++ word.now ∷ [])) result }
+        ensures kept { IfErr result (λ _. (n : ℕ) (words : List (List ℕ)) → HoldsTree self.old n words
+            → HoldsTree self.new n words) }
+    {
+        match read_node_or_end(word, self.last_index) {
+            Err(fault) => Err(StepFault::Fault(LineFault::Number(fault))),
+            Ok(None) => self.end_leaf(alloc),
+            Ok(Some(_)) if self.changes >= MOST_CHANGES => {
+                Err(StepFault::Fault(LineFault::Surplus))
+            }
+            Ok(Some(index)) => {
+                self.first = Some(index);
+                self.changes += 1;
+                Ok(())
+            }
+        }
+    }
+
+    /// Ends the leaf that has begun, and with it a tree that was to come.
+    fn end_leaf(&mut self, alloc: Global) -> Result<(), StepFault>
+        ensures done { OnOk result (tree_held self.new ≡ with_leaf (tree_held self.old)) }
+        ensures few { OnOk result ((n : ℕ) (words : List (List ℕ)) → HoldsTree self.old n words
+            → self.new.to_come ≤ length self.new.steps.items + 1) }
+        ensures kept { IfErr result (λ _. tree_held self.new ≡ tree_held self.old) }
+        ensures n { (self.new.n ≡ self.old.n) × (self.new.last_index ≡ self.old.last_index) }
+        ensures err { IfErr result (λ e. e ≡ Memory) }
+    {
+        let leaf = mem::replace(&mut self.leaf, Vec::new(alloc));
+        match self.steps.push(TreeStep::Leaf(leaf)) {
+            Ok(()) => {
+                self.in_leaf = false;
+                self.to_come = self.to_come.saturating_sub(1);
+                Ok(())
+            }
+            Err(refused) => {
+                if let TreeStep::Leaf(leaf) = refused.value {
+                    self.leaf = leaf;
+                }
+                Err(StepFault::Memory)
+            }
+        }
+    }
+
+    /// Takes the difference of an index.
+    fn push_difference(&mut self, index: u32, word: &[u8]) -> Result<(), StepFault>
+        ensures takes { (n : ℕ) (words : List (List ℕ)) → HoldsTree self.old n words
+            → self.old.to_come ≢ 0 → self.old.in_leaf ≡ true → self.old.first ≡ Some index
+            → Takes n (place_of_step n words) word.now
+            (HoldsTree self.new n (words ++ word.now ∷ [])) result }
+        ensures kept { IfErr result (λ _. (n : ℕ) (words : List (List ℕ)) → HoldsTree self.old n words
+            → HoldsTree self.new n words) }
+    {
+        match parse_whole(word, -MOST_DIFFERENCE, MOST_DIFFERENCE) {
+            Err(fault) => Err(StepFault::Fault(LineFault::Number(fault))),
+            Ok(difference) => match self.leaf.push((index, difference)) {
+                Ok(()) => {
+                    self.first = None;
+                    Ok(())
+                }
+                Err(_) => Err(StepFault::Memory),
+            },
+        }
+    }
+
+    /// The steps, and whether the tree isn't whole.
+    pub fn finish(self) -> (Vec<TreeStep>, bool)
+        ensures { (n : ℕ) (words : List (List ℕ)) → HoldsTree self n words
+            → (steps_of result.0.items ≡ whole_steps n words)
+            × (result.1 ≡ wants_more (place_of_step n words)) }
+    {
+        let wants_more = self.to_come != 0;
+        (self.steps, wants_more)
+    }
+}

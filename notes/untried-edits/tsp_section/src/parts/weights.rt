@@ -1,0 +1,157 @@
+//! The weights of a matrix.
+
+ghost use Rattle.std.specs.Prelude.{◌≡◌, ◌+◌, ◌≤◌, [], ℕ, List, ◌∷◌, ◌++◌, Ok, IfErr, vec_len, vec_capacity, true, false};
+ghost use Rattle.tsp_text.specs.Numbers.{IsWhole};
+
+use crate::fault::StepFault;
+use std::alloc::Global;
+use std::mem;
+use tsp_format::{MOST_MATRIX_NODES, MOST_WEIGHT};
+use tsp_number::parse_whole;
+use tsp_text::LineFault;
+
+/// What was read of the weights.
+#[derive(Drop)]
+pub struct WeightList {
+    weights: Vec<i64>,
+    most: usize,
+    ghost few: { vec_len weights ≤ most },
+}
+
+impl WeightList {
+    ghost use Rattle.tsp_text.specs.Weights.{place_of_weight, weights_in};
+    ghost use Rattle.tsp_section.specs.states.Parts.{Takes};
+    ghost use Rattle.tsp_section.specs.states.Held.{HoldsWeights};
+
+    /// The section with no words so far, in a file of `n` nodes.
+    pub fn open(alloc: Global, n: u32) -> WeightList
+        requires { n ≤ MOST_MATRIX_NODES }
+        ensures { HoldsWeights result n [] }
+    {
+        WeightList {
+            weights: Vec::new(alloc),
+            most: n as usize * n as usize,
+        }
+    }
+
+    /// Takes the next word.
+    ///
+    /// # Errors
+    ///
+    /// - `Fault`: the word is no weight (`Number`), or there are `n * n` weights (`Surplus`).
+    /// - `Memory`: memory was refused.
+    ///
+    /// The list has the words from before then.
+    pub fn push(&mut self, word: &[u8]) -> Result<(), StepFault>
+        ensures takes { (n : ℕ) (words : List (List ℕ)) → HoldsWeights self.old n words
+            → Takes n (place_of_weight n words) word.now
+            (HoldsWeights self.new n (words ++ word.now ∷ [])) result }
+        ensures kept { IfErr result (λ _. (n : ℕ) (words : List (List ℕ)) → HoldsWeights self.old n words
+            → HoldsWeights self.new n words) }
+    {
+        if self.weights.len() >= self.most {
+            return Err(StepFault::Fault(LineFault::Surplus));
+        }
+        match parse_whole(word, -MOST_WEIGHT, MOST_WEIGHT) {
+            Err(fault) => Err(StepFault::Fault(LineFault::Number(fault))),
+            Ok(weight) => match self.weights.push(weight) {
+                Ok(()) => Ok(()),
+                Err(_) => Err(StepFault::Memory),
+            },
+        }
+    }
+
+    /// The list for a run of words: it has room for so many more weights, or for all that the matrix
+    /// has left; for none where memory was refused.
+    #[inline(always)]
+    pub fn gather(&mut self, alloc: Global, more: usize) -> Gathered
+        ensures { (n : ℕ) (words : List (List ℕ)) → HoldsWeights self.old n words
+            → HoldsWeights result.list n words }
+    {
+        let empty = WeightList {
+            weights: Vec::new(alloc),
+            most: 0,
+        };
+        Gathered::of(mem::replace(self, empty), more)
+    }
+
+    /// Goes on with the list of a run.
+    #[inline(always)]
+    pub fn put_back(&mut self, gathered: Gathered)
+        ensures { self.new ≡ gathered.list }
+    {
+        let Gathered { list, room: _ } = gathered;
+        let before = mem::replace(self, list);
+        drop(before);
+    }
+
+    /// The weights.
+    pub fn finish(self) -> Vec<i64>
+        ensures { (n : ℕ) (words : List (List ℕ)) → HoldsWeights self n words
+            → result.items ≡ weights_in words }
+    {
+        self.weights
+    }
+}
+
+/// The weights in a run of words, which has asked for the room of many at once.
+///
+/// By value its vector is in no other place, so a push is a store and two counts.
+#[derive(Drop)]
+pub struct Gathered {
+    list: WeightList,
+    /// How many more weights there is room for, in memory and in the matrix.
+    room: usize,
+    ghost reserved: { vec_len list.weights + room ≤ vec_capacity list.weights },
+    ghost within: { vec_len list.weights + room ≤ list.most },
+}
+
+impl Gathered {
+    ghost use Rattle.std.specs.Prelude.{◌<◌, unsigned_abs};
+    ghost use Rattle.tsp_format.specs.Limits.{most_weight};
+    ghost use Rattle.tsp_text.specs.Weights.{place_of_weight};
+    ghost use Rattle.tsp_section.specs.states.Parts.{Takes};
+    ghost use Rattle.tsp_section.specs.states.Held.{HoldsWeights};
+
+    /// A list with room for so many more weights, or for all that the matrix has left; for none where
+    /// memory was refused.
+    ///
+    /// Where it grows, it doubles, and never past what the matrix has. So what is asked for goes by the
+    /// weights that have come and by `more`, and not by the dimension alone.
+    #[inline(always)]
+    fn of(mut list: WeightList, more: usize) -> Gathered
+        ensures { (n : ℕ) (words : List (List ℕ)) → HoldsWeights list n words
+            → HoldsWeights result.list n words }
+    {
+        let len = list.weights.len();
+        let left = list.most.saturating_sub(len);
+        let room = more.min(left);
+        if list.weights.capacity() < len + room {
+            let growth = room.max(len.min(left));
+            if list.weights.reserve_exact(growth).is_err() {
+                return Gathered { list, room: 0 };
+            }
+        }
+        Gathered { list, room }
+    }
+
+    /// Takes the number of a word that was read, where it is a weight and there is room. The answer
+    /// is whether it was taken.
+    #[inline(always)]
+    pub fn push_read(&mut self, weight: i64) -> bool
+        ensures taken { result ≡ true → (n : ℕ) (words : List (List ℕ)) (word : List ℕ)
+            → IsWhole word weight → HoldsWeights self.old.list n words
+            → Takes n (place_of_weight n words) word
+            (HoldsWeights self.new.list n (words ++ word ∷ [])) (Ok tt) }
+        ensures kept { result ≡ false → (n : ℕ) (words : List (List ℕ))
+            → HoldsWeights self.old.list n words → HoldsWeights self.new.list n words }
+        ensures refused { result ≡ false → 0 < self.old.room → most_weight < unsigned_abs weight }
+    {
+        if self.room == 0 || weight < -MOST_WEIGHT || weight > MOST_WEIGHT {
+            return false;
+        }
+        self.room -= 1;
+        self.list.weights.push_reserved(weight);
+        true
+    }
+}

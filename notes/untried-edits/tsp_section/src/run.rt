@@ -1,0 +1,121 @@
+//! The lists whose words come in a run.
+
+ghost use Rattle.std.specs.Prelude.{◌≡◌, ◌<◌, ◌-◌, pos, List, length, slice_index_or, ℕ, Ok, true, false};
+ghost use Rattle.tsp_number.specs.Reading.{decimal_of};
+ghost use Rattle.tsp_text.specs.Numbers.{IsWhole};
+ghost use Rattle.tsp_section.specs.declared.part.Part.{Part};
+ghost use Rattle.tsp_section.specs.declared.part.Part.TheVariants as parts;
+ghost use Rattle.tsp_section.specs.states.Parts.{IsNodeOf};
+ghost use Rattle.tsp_section.specs.states.Run.{in_group, groups_left, marks_of, TakesRead, KeepsWords};
+
+use crate::parts::points::PointList;
+use crate::parts::space_points::SpacePointList;
+use crate::parts::tours::TourList;
+use crate::parts::weights::Gathered;
+use tsp_distance::Decimal;
+
+/// A list that takes the numbers of a run of words, each read already.
+pub trait RunList {
+    /// The part of the section that it is.
+    ghost part: { Self → Part };
+
+    /// Whether the next word is a coordinate.
+    fn awaits_coordinate(&self) -> bool
+        ensures { result ≡ in_group (part self.now) };
+
+    /// Takes the number of a word, where the list takes it at its place. The answer is whether it was
+    /// taken.
+    fn take_whole(&mut self, number: i64) -> bool
+        ensures taken { result ≡ true → (word : List ℕ) → IsWhole word number
+            → TakesRead (part self.old) (part self.new) word }
+        ensures kept { result ≡ false → KeepsWords (part self.old) (part self.new) }
+        ensures refused { result ≡ false → 0 < groups_left (part self.old)
+            → in_group (part self.old) ≡ false → (k : ℕ) → number ≡ pos k
+            → IsNodeOf (length (marks_of (part self.old))) k
+            → slice_index_or (marks_of (part self.old)) (k - 1) false ≡ true };
+
+    /// Takes the coordinate of a word, where a group of points has begun. The answer is whether it was
+    /// taken.
+    fn take_coordinate(&mut self, coordinate: Decimal) -> bool
+        ensures taken { result ≡ true → (word : List ℕ) → decimal_of word ≡ Ok coordinate
+            → TakesRead (part self.old) (part self.new) word }
+        ensures kept { result ≡ false → KeepsWords (part self.old) (part self.new) }
+        ensures refused { result ≡ false → 0 < groups_left (part self.old)
+            → in_group (part self.old) ≡ false };
+}
+
+impl RunList for Gathered {
+    ghost part = { λ run. parts.Weights run.list };
+
+    #[inline(always)]
+    fn awaits_coordinate(&self) -> bool {
+        false
+    }
+
+    #[inline(always)]
+    fn take_whole(&mut self, number: i64) -> bool {
+        self.push_read(number)
+    }
+
+    #[inline(always)]
+    fn take_coordinate(&mut self, _coordinate: Decimal) -> bool {
+        false
+    }
+}
+
+impl RunList for TourList {
+    ghost part = { λ list. parts.Tours list };
+
+    #[inline(always)]
+    fn awaits_coordinate(&self) -> bool {
+        false
+    }
+
+    #[inline(always)]
+    fn take_whole(&mut self, number: i64) -> bool {
+        self.push_read(number)
+    }
+
+    #[inline(always)]
+    fn take_coordinate(&mut self, _coordinate: Decimal) -> bool {
+        false
+    }
+}
+
+impl RunList for PointList {
+    ghost part = { λ list. parts.Points list };
+
+    #[inline(always)]
+    fn awaits_coordinate(&self) -> bool {
+        self.wants_coordinate()
+    }
+
+    #[inline(always)]
+    fn take_whole(&mut self, number: i64) -> bool {
+        self.push_read(number)
+    }
+
+    #[inline(always)]
+    fn take_coordinate(&mut self, coordinate: Decimal) -> bool {
+        self.push_coordinate(coordinate)
+    }
+}
+
+impl RunList for SpacePointList {
+    ghost part = { λ list. parts.SpacePoints list };
+
+    #[inline(always)]
+    fn awaits_coordinate(&self) -> bool {
+        self.wants_coordinate()
+    }
+
+    #[inline(always)]
+    fn take_whole(&mut self, number: i64) -> bool {
+        self.push_read(number)
+    }
+
+    #[inline(always)]
+    fn take_coordinate(&mut self, coordinate: Decimal) -> bool {
+        self.push_coordinate(coordinate)
+    }
+}

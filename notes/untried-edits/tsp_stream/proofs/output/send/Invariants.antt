@@ -1,0 +1,13 @@
+use Rattle.std.proofs.Common.{◌≡◌, false, length}
+use Rattle.tsp_stream.specs.Watched.{watched, has_failed}
+use Rattle.tsp_stream.proofs.Sinks.{Sent}
+use Rattle.tsp_stream.proofs.output.send.Given as goal
+
+abbrev pub invariant-parts : goal.invariant-parts
+invariant-parts g l = record {
+  sound : has_failed l.out ≡ false;
+  sent : Sent (g.W.Write.contents (watched l.initial.out)) (g.W.Write.contents (watched l.out)) l.text l.rest;
+}
+
+abbrev pub decreases-parts : goal.decreases-parts
+decreases-parts g l = length l.rest

@@ -1,0 +1,13 @@
+-- One call, and what it answers.
+use Rattle.std.proofs.Common.{rules, refl}
+use Rattle.tsp_stream.proofs.watched.Watched.ask.Goals as goal
+
+pub returns : goal.returns
+returns g c = record {
+  asked = (
+    c.call-outcome.result.1,
+    record { first = _; second = _; shows = (refl, refl); first_left = _; second_left = _; met = c.call-outcome.ensures; leaves = (refl, refl) },
+    search rules,
+  );
+  error = refl;
+}

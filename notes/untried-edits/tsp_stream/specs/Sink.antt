@@ -1,0 +1,42 @@
+-- What a call does to the writer that it is given.
+use Rattle.std.specs.Prelude.{◌≡◌, ℕ, Bool, true, false, List, take, Option, Result, Ok, Err}
+use Rattle.std.specs.Io.KnownBytes.{Keeps, Appends}
+use Rattle.tsp_stream.specs.declared.output.WriteFault.{WriteFault}
+use Rattle.tsp_stream.specs.declared.output.WriteFault.TheVariants as write_faults
+use Rattle.tsp_stream.specs.declared.watched.Watched.{Watched}
+use Rattle.tsp_stream.specs.Watched.{watched, has_failed}
+
+-- What a writer holds before the call and after it, where it is known, and whether it had failed and has failed.
+pub record Sink : Type 0 where
+  pub held : Option (List ℕ)
+  pub holds : Option (List ℕ)
+  pub had_failed : Bool
+  pub failed : Bool
+
+-- the same of a watched writer
+abbrev pub sink_of : {W : Type 0} → (W → Option (List ℕ)) → Watched W → Watched W → Sink
+sink_of contents old new = record {
+  held = contents (watched old);
+  holds = contents (watched new);
+  had_failed = has_failed old;
+  failed = has_failed new;
+}
+
+-- nothing was written
+abbrev pub IsUnwritten : Sink → Type 0
+IsUnwritten sink = Keeps sink.held sink.holds × (sink.failed ≡ sink.had_failed)
+
+-- the whole text was written to a writer that was handed in sound and has not failed
+abbrev pub HasWritten : Sink → List ℕ → Type 0
+HasWritten sink text = (sink.had_failed ≡ false) × (sink.failed ≡ false) × Appends sink.held sink.holds text
+
+-- A front of the text was written, and nothing else, before the writer failed. One that was handed in as failed gets nothing.
+abbrev pub HasStopped : Sink → List ℕ → Type 0
+HasStopped sink text = (sink.failed ≡ true) × (sink.had_failed ≡ true → Keeps sink.held sink.holds)
+    × ((count : ℕ) × Appends sink.held sink.holds (take count text))
+
+-- How the writing of a text ends. It takes no memory, so that running out of it is never its end.
+abbrev pub Writes : Sink → List ℕ → Result (Unit {0}) WriteFault → Type 0
+Writes sink text (Ok done) = HasWritten sink text
+Writes sink text (Err write_faults.Device) = HasStopped sink text
+Writes sink text (Err write_faults.OutOfMemory) = ⊥

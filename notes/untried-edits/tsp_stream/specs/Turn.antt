@@ -1,0 +1,49 @@
+-- What a call does to the reader that it is given.
+use Rattle.std.specs.Prelude.{◌≡◌, ℕ, ◌≤◌, Bool, true, false, List, length, Option, IfSome}
+use Rattle.std.specs.Io.KnownBytes.{Keeps, Consumes}
+use Rattle.tsp_stream.specs.declared.watched.Watched.{Watched}
+use Rattle.tsp_stream.specs.Watched.{watched, has_failed}
+
+-- A reader's turn: the bytes that it had left before the call and after it, where they are known, the bytes that it
+-- handed out, and whether it had failed before the call and has failed after it.
+pub record Turn : Type 0 where
+  pub known : Option (List ℕ)
+  pub left : Option (List ℕ)
+  pub given : List ℕ
+  pub had_failed : Bool
+  pub failed : Bool
+
+-- the turn of a watched reader, by what it was before the call and is after it
+abbrev pub turn_of : {R : Type 0} → (R → Option (List ℕ)) → Watched R → Watched R → List ℕ → Turn
+turn_of remaining old new given = record {
+  known = remaining (watched old);
+  left = remaining (watched new);
+  given = given;
+  had_failed = has_failed old;
+  failed = has_failed new;
+}
+
+-- the reader handed out what was given
+abbrev pub Gave : Turn → Type 0
+Gave turn = Consumes turn.known turn.left turn.given
+
+-- it was handed in sound, and has not failed
+abbrev pub IsSound : Turn → Type 0
+IsSound turn = (turn.had_failed ≡ false) × (turn.failed ≡ false)
+
+-- It gave bytes with P without a failure. Where its bytes are known, P holds of its whole rest too: it was not left early.
+abbrev pub GaveAll : Turn → (List ℕ → Type 0) → Type 0
+GaveAll turn P = Gave turn × IsSound turn × P turn.given × IfSome turn.known P
+
+-- It has failed, by what it gave or before. A reader that was handed in as failed is not read.
+abbrev pub HasBrokenOff : Turn → Type 0
+HasBrokenOff turn = Gave turn × (turn.failed ≡ true)
+    × (turn.had_failed ≡ true → Keeps turn.known turn.left)
+
+-- the reader was not asked
+abbrev pub IsUnread : Turn → Type 0
+IsUnread turn = Keeps turn.known turn.left × (turn.failed ≡ turn.had_failed)
+
+-- for some bytes that the reader handed out, at most so many, P holds of its turn
+abbrev pub TakesAtMost : ℕ → (List ℕ → Turn) → (Turn → Type 0) → Type 0
+TakesAtMost most turn P = (given : List ℕ) × (length given ≤ most) × P (turn given)

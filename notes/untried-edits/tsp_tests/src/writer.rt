@@ -1,0 +1,131 @@
+//! The canonical text: one with each field, and writers that take little, or fail. (Other texts are in
+//! the tables of runs of the program.)
+
+use crate::asserts::{holds, holds_at, same, same_at};
+use std::alloc::{AllocError, Global};
+use std::io::{ErrorKind, Write};
+use std::process::Abort;
+use std::test::Fail;
+use tsp_file::{File, write_file};
+use tsp_stream::{Watched, WriteFault};
+use tsp_tests_support::devices::{Drip, NEVER, Refusal, outcome};
+use tsp_tests_support::drafts::{file_of, rectangle, two_tours, upper_row};
+
+/// The text of the draft `rectangle`. (It is handed out by a function, so that proofs don't carry its
+/// bytes.)
+fn rectangle_text() -> &'static [u8] {
+    RECTANGLE
+}
+
+const RECTANGLE: &[u8] =
+    b"NAME : a\nTYPE : CVRP\nCOMMENT :\nDISTANCE : 9\nDIMENSION : 4\nCAPACITY : 8\nSCALE : 7\nEDGE_WEIGHT_TYPE : EUC_2D\nEDGE_WEIGHT_FORMAT : UPPER_ROW\nNODE_COORD_TYPE : TWOD_COORDS\nDISPLAY_DATA_TYPE : TWOD_DISPLAY\nNODE_COORD_SECTION\n1 0 0\n2 3 0\n3 3 4\n4 0 4\nDISPLAY_DATA_SECTION\n1 0 0\n2 1.5 0\n3 1.5 -2\n4 0 -2\nDEMAND_SECTION\n1 0\n2 4\n3 4\n4 4\nDEPOT_SECTION\n1\n-1\nFIXED_EDGES_SECTION\n1 2\n4 3\n-1\nEDGE_WEIGHT_SECTION\n3 5 4\n-1 0\n1000000000000\nTOUR_SECTION\n1\n2\n-1\n3\n-1\nNODE_POTENTIAL_SECTION\n1 3\n2 -3\n3 0\n4 0\nROW_POTENTIAL_SECTION\n1 4\n2 -4\n3 0\n4 0\nCOLUMN_POTENTIAL_SECTION\n1 5\n2 -5\n3 0\n4 0\nFIXED_EDGE_POTENTIAL_SECTION\n1 2 6\n3 4 0\n-1\nCOMB_SECTION\n1 2 -1\n1 3 -1\n-1\n4 -1\n-1\n-1\nBRANCH_SECTION\n1 2\n0 1 -5 6 7 -1\n0 -1\nEOF\n";
+
+/// Asserts that a writer of one byte a call gets this whole text.
+fn gets_the_whole(rt: &(impl AllocGlobal + Abort), file: &File, text: &[u8]) {
+    let mut out = Watched::new(Drip::new(rt.alloc(), 1, NEVER, Refusal::Nothing));
+    same(rt, write_file(rt.alloc(), file, &mut out), Ok(()));
+    holds(rt, !out.failed());
+    same(rt, out.into_inner().held(), text);
+}
+
+/// Asserts that a writer that had failed gets nothing.
+fn gets_nothing(rt: &(impl AllocGlobal + Abort), file: &File) {
+    let mut out = Watched::new(Drip::new(rt.alloc(), 1, 0, Refusal::Nothing));
+    same(rt, outcome(out.write(b"x")), Ok(0));
+    let written = write_file(rt.alloc(), file, &mut out);
+    same(rt, written, Err(WriteFault::Device));
+    same(rt, out.into_inner().calls(), 1);
+}
+
+#[test]
+fn one_byte_a_call_gets_the_whole_text_and_a_failed_writer_none(
+    rt: HostRuntime,
+) -> Result<(), Fail> {
+    let file = file_of(rectangle(rt.alloc())?)?;
+    gets_the_whole(&rt, &file, rectangle_text());
+    gets_nothing(&rt, &file);
+    Ok(())
+}
+
+/// A writer that took a file until it failed, at this call, in this way.
+fn failed_at(
+    rt: &(impl AllocGlobal + Abort),
+    file: &File,
+    most: usize,
+    fails_at: usize,
+    refusal: Refusal,
+) -> Drip {
+    let mut out = Watched::new(Drip::new(rt.alloc(), most, fails_at, refusal));
+    let written = write_file(rt.alloc(), file, &mut out);
+    same(rt, written, Err(WriteFault::Device));
+    holds(rt, out.failed());
+    let drip = out.into_inner();
+    let calls = fails_at.saturating_add(1);
+    same_at(rt, "it isn't written again", drip.calls(), calls);
+    drip
+}
+
+#[test]
+fn a_failure_leaves_a_front_and_ends_the_writing(rt: HostRuntime) -> Result<(), Fail> {
+    let file = file_of(rectangle(rt.alloc())?)?;
+    let text = rectangle_text();
+    for refusal in [Refusal::Nothing, Refusal::Error(ErrorKind::Interrupted)] {
+        for fails_at in 0..text.len() {
+            let drip = failed_at(&rt, &file, 1, fails_at, refusal);
+            same(&rt, drip.held(), &text[..fails_at]);
+        }
+    }
+    Ok(())
+}
+
+/// Three comments of 3,990 bytes, which are 4,001 with their keyword and byte 10.
+fn long_comments(alloc: Global) -> Result<Vec<Vec<u8>>, AllocError> {
+    let mut comments = Vec::new(alloc);
+    for _ in 0..3u8 {
+        comments.push(vec![in alloc; b'x'; 3_990]?)?;
+    }
+    Ok(comments)
+}
+
+/// Two tours with the long comments.
+fn long_file(alloc: Global) -> Result<File, Fail> {
+    let comments = long_comments(alloc)?;
+    let mut draft = two_tours(alloc)?;
+    draft.comments = comments;
+    file_of(draft)
+}
+
+/// The bytes of its text: nine of the name, twelve of the type, 4,001 of each comment, 25 of the tours and
+/// four of the line EOF.
+const LONG_BYTES: usize = 12_053;
+
+#[test]
+fn a_long_text_goes_out_in_few_pieces_and_stops_at_a_failure(rt: HostRuntime) -> Result<(), Fail> {
+    let file = long_file(rt.alloc())?;
+    let mut out = Watched::new(Drip::sound(rt.alloc()));
+    same(&rt, write_file(rt.alloc(), &file, &mut out), Ok(()));
+    let drip = out.into_inner();
+    same(&rt, drip.held().len(), LONG_BYTES);
+    holds_at(&rt, drip.calls(), drip.calls() <= 6);
+    for fails_at in 0..3usize {
+        let refusal = Refusal::Error(ErrorKind::Other);
+        let drip = failed_at(&rt, &file, usize::MAX, fails_at, refusal);
+        holds(&rt, drip.held().len() < LONG_BYTES);
+    }
+    Ok(())
+}
+
+/// The bytes of the text of a matrix of 100 nodes by the upper rows, all of whose weights are 0: 9,900 of
+/// its 99 lines, and 110 of the other lines.
+const MATRIX_BYTES: usize = 10_010;
+
+#[test]
+fn a_matrix_goes_out_in_few_pieces(rt: HostRuntime) -> Result<(), Fail> {
+    let file = file_of(upper_row(rt.alloc(), 100, 4_950)?)?;
+    let mut out = Watched::new(Drip::sound(rt.alloc()));
+    same(&rt, write_file(rt.alloc(), &file, &mut out), Ok(()));
+    let drip = out.into_inner();
+    same(&rt, drip.held().len(), MATRIX_BYTES);
+    holds_at(&rt, drip.calls(), drip.calls() <= 4);
+    Ok(())
+}

@@ -1,0 +1,468 @@
+//! Readers and writers that fail, or had failed before.
+
+use crate::asserts::{holds_at, same_at};
+use crate::files::{
+    AROUND, AROUND_REPORT, BOUND_REPORT, CASES, DUALS, POTENTIALS, RECTANGLE, RECTANGLE_SHOWN,
+    REPORT, ROUTES, STAR, THREE_NODES, TOUR, WHOLE_STAR, ZEROS,
+};
+use crate::runs::{Readers, Task, run};
+use std::alloc::Global;
+use std::io::{ErrorKind, Read, Write};
+use std::process::Abort;
+use tsp_format::Field;
+use tsp_judge::{EndFault, ReadFault, RelayoutFault, RunFault};
+use tsp_stream::{Watched, WriteFault};
+use tsp_tests_support::devices::{Drip, NEVER, Refusal, outcome};
+
+/// A task and the texts of its files. What it doesn't read is empty.
+pub(crate) type Job = (Task<'static>, [&'static str; 3]);
+
+const CHECK: Job = (Task::Check, [THREE_NODES, TOUR, ""]);
+
+const BOUND_CHECK: Job = (Task::BoundCheck, [THREE_NODES, TOUR, DUALS]);
+
+/// The same by potentials of nodes.
+const EVEN_BOUND_CHECK: Job = (Task::BoundCheck, [RECTANGLE, AROUND, ZEROS]);
+
+/// The same by a tree of cases.
+const BRANCH_CHECK: Job = (Task::BranchCheck, [RECTANGLE, AROUND, CASES]);
+
+const SHOW: Job = (Task::Show, [RECTANGLE, "", ""]);
+
+const CONVERT: Job = (Task::Convert("FULL_MATRIX"), [STAR, "", ""]);
+
+/// A check whose answer is a no.
+const NO: Job = (
+    Task::Check,
+    [THREE_NODES, "TYPE : TOUR\nTOUR_SECTION\n1 2 -1\nEOF\n", ""],
+);
+
+/// Each file of each task.
+const FILES: &[(Job, u32)] = &[
+    (CHECK, 1),
+    (CHECK, 2),
+    (BOUND_CHECK, 1),
+    (BOUND_CHECK, 2),
+    (BOUND_CHECK, 3),
+    (BRANCH_CHECK, 3),
+    (SHOW, 1),
+    (CONVERT, 1),
+];
+
+/// What is left of a run: its answer, how often the readers were asked, whether they failed, and the
+/// writer.
+#[derive(Drop)]
+pub(crate) struct Seen {
+    pub(crate) answer: Result<bool, RunFault>,
+    pub(crate) asked: [usize; 3],
+    pub(crate) failed: [bool; 3],
+    pub(crate) writer: Drip,
+    pub(crate) writer_failed: bool,
+}
+
+/// What is left of a run over these readers to this writer.
+pub(crate) fn look_at(
+    alloc: Global,
+    task: Task<'_>,
+    mut readers: Readers<'_>,
+    mut out: Watched<Drip>,
+) -> Seen {
+    let answer = run(alloc, task, &mut readers, &mut out);
+    let failed = readers.failed();
+    let writer_failed = out.failed();
+    Seen {
+        answer,
+        asked: readers.asked(),
+        failed,
+        writer: out.into_inner(),
+        writer_failed,
+    }
+}
+
+/// Asserts that a reader that fails at a call is the last that is asked, and that nothing is written.
+fn a_read_fails(rt: &(impl AllocGlobal + Abort), job: &Job, file: u32, fails_at: usize) {
+    let (task, texts) = job;
+    let [first, second, _] = texts;
+    let asked_here = fails_at.saturating_add(1);
+    // (the readers behind it would fail at once)
+    let (calls, asked, failed) = match file {
+        1 => ([fails_at, 0, 0], [asked_here, 0, 0], [true, false, false]),
+        2 => (
+            [NEVER, fails_at, 0],
+            [first.len(), asked_here, 0],
+            [false, true, false],
+        ),
+        _ => (
+            [NEVER, NEVER, fails_at],
+            [first.len(), second.len(), asked_here],
+            [false, false, true],
+        ),
+    };
+    let readers = Readers::failing(*texts, calls);
+    let found = look_at(
+        rt.alloc(),
+        *task,
+        readers,
+        Watched::new(Drip::sound(rt.alloc())),
+    );
+    let fault = ReadFault::Device;
+    let row = (*task, file, fails_at);
+    same_at(rt, row, found.answer, Err(RunFault::File { file, fault }));
+    same_at(rt, row, (found.asked, found.failed), (asked, failed));
+    same_at(rt, row, found.writer.calls(), 0);
+}
+
+#[test]
+fn each_read_may_fail(rt: HostRuntime) {
+    for (job, file) in FILES {
+        let [first, second, third] = job.1;
+        let calls = match *file {
+            1 => first.len(),
+            2 => second.len(),
+            _ => third.len(),
+        };
+        for fails_at in 0..calls {
+            a_read_fails(&rt, job, *file, fails_at);
+        }
+    }
+}
+
+/// Runs, what they answer and what they write.
+pub(crate) const WRITTEN: &[(Job, bool, &str)] = &[
+    (CHECK, true, REPORT),
+    (NO, false, "type ATSP\nnodes 3\nno TourLength\n"),
+    (BOUND_CHECK, true, BOUND_REPORT),
+    (EVEN_BOUND_CHECK, true, AROUND_REPORT),
+    (BRANCH_CHECK, true, AROUND_REPORT),
+    (SHOW, true, RECTANGLE_SHOWN),
+    (CONVERT, true, WHOLE_STAR),
+];
+
+#[test]
+fn after_a_line_eof_nothing_is_asked_for(rt: HostRuntime) {
+    for (job, yes, text) in WRITTEN {
+        let (task, texts) = job;
+        let [first, second, third] = texts;
+        // one call for each byte, and the next would fail
+        let calls = [first.len(), second.len(), third.len()];
+        let readers = Readers::failing(*texts, calls);
+        let found = look_at(
+            rt.alloc(),
+            *task,
+            readers,
+            Watched::new(Drip::sound(rt.alloc())),
+        );
+        same_at(&rt, *task, found.answer, Ok(*yes));
+        same_at(&rt, *task, (found.asked, found.failed), (calls, [false; 3]));
+        same_at(&rt, *task, found.writer.held(), text.as_bytes());
+    }
+}
+
+/// Ways in which a writer refuses.
+const REFUSALS: [Refusal; 4] = [
+    Refusal::Nothing,
+    Refusal::Error(ErrorKind::Other),
+    Refusal::Error(ErrorKind::Interrupted),
+    Refusal::Error(ErrorKind::StorageFull),
+];
+
+/// Asserts that a writer of one byte a call that fails at a call holds what came before it and isn't
+/// asked again, and that the run answers neither a yes nor a no then.
+fn a_write_fails(
+    rt: &(impl AllocGlobal + Abort),
+    row: &(Job, bool, &'static str),
+    refusal: Refusal,
+    fails_at: usize,
+) {
+    let ((task, texts), yes, text) = row;
+    let readers = Readers::failing(*texts, [NEVER; 3]);
+    let out = Watched::new(Drip::new(rt.alloc(), 1, fails_at, refusal));
+    let found = look_at(rt.alloc(), *task, readers, out);
+    let fails = fails_at < text.len();
+    let (answer, calls) = if fails {
+        (Err(RunFault::Write(WriteFault::Device)), fails_at + 1)
+    } else {
+        (Ok(*yes), text.len())
+    };
+    let row = (*task, refusal, fails_at);
+    same_at(rt, row, found.answer, answer);
+    same_at(
+        rt,
+        row,
+        (found.writer_failed, found.writer.calls()),
+        (fails, calls),
+    );
+    same_at(
+        rt,
+        row,
+        Some(found.writer.held()),
+        text.as_bytes().get(..fails_at),
+    );
+}
+
+#[test]
+fn each_write_may_fail(rt: HostRuntime) {
+    for row in WRITTEN {
+        for refusal in REFUSALS {
+            for fails_at in 0..row.2.len() + 1 {
+                a_write_fails(&rt, row, refusal, fails_at);
+            }
+        }
+    }
+}
+
+/// No file, and its fault.
+const NO_FILE: &str = "TYPE : TSP\n";
+
+const ITS_FAULT: ReadFault = ReadFault::End(EndFault::Missing(Field::DimensionKey));
+
+/// Runs, the first of their files that is none, and its fault.
+const NO_FILES: &[(Job, u32, ReadFault)] = &[
+    ((Task::Check, [NO_FILE, TOUR, ""]), 1, ITS_FAULT),
+    ((Task::Check, [THREE_NODES, NO_FILE, ""]), 2, ITS_FAULT),
+    ((Task::BoundCheck, [NO_FILE, TOUR, DUALS]), 1, ITS_FAULT),
+    (
+        (Task::BoundCheck, [THREE_NODES, NO_FILE, DUALS]),
+        2,
+        ITS_FAULT,
+    ),
+    (
+        (Task::BoundCheck, [THREE_NODES, TOUR, NO_FILE]),
+        3,
+        ITS_FAULT,
+    ),
+    ((Task::Show, [NO_FILE, "", ""]), 1, ITS_FAULT),
+    ((Task::Convert(""), [NO_FILE, "", ""]), 1, ITS_FAULT),
+    (
+        (Task::Convert("FULL_MATRIX"), [NO_FILE, "", ""]),
+        1,
+        ITS_FAULT,
+    ),
+];
+
+#[test]
+fn nothing_is_asked_of_later_devices_where_an_earlier_file_is_none(rt: HostRuntime) {
+    for (job, file, fault) in NO_FILES {
+        let (task, texts) = job;
+        // (the readers behind it would fail at once)
+        let fails_at = match *file {
+            1 => [NEVER, 0, 0],
+            2 => [NEVER, NEVER, 0],
+            _ => [NEVER; 3],
+        };
+        let readers = Readers::failing(*texts, fails_at);
+        let found = look_at(
+            rt.alloc(),
+            *task,
+            readers,
+            Watched::new(Drip::sound(rt.alloc())),
+        );
+        let fault = RunFault::File {
+            file: *file,
+            fault: *fault,
+        };
+        same_at(&rt, job, found.answer, Err(fault));
+        same_at(&rt, job, found.failed, [false; 3]);
+        same_at(
+            &rt,
+            job,
+            (found.writer.calls(), found.writer_failed),
+            (0, false),
+        );
+    }
+}
+
+/// A file that has no layout.
+const ONE_NODE_TOUR: &str = "TYPE : TOUR\nTOUR_SECTION\n1\n-1\nEOF\n";
+
+const NOT_EXPLICIT: RunFault = RunFault::Relayout(RelayoutFault::NotExplicit);
+
+/// Reads once from each of the readers that are to have failed before.
+fn fail_before(rt: &impl Abort, readers: &mut Readers<'_>, which: [bool; 3]) {
+    let [first, second, third] = which;
+    if first {
+        same_at(
+            rt,
+            1,
+            outcome(readers.first.read(&mut [0u8; 1])),
+            INTERRUPTED,
+        );
+    }
+    if second {
+        same_at(
+            rt,
+            2,
+            outcome(readers.second.read(&mut [0u8; 1])),
+            INTERRUPTED,
+        );
+    }
+    if third {
+        same_at(
+            rt,
+            3,
+            outcome(readers.third.read(&mut [0u8; 1])),
+            INTERRUPTED,
+        );
+    }
+}
+
+const INTERRUPTED: Result<usize, ErrorKind> = Err(ErrorKind::Interrupted);
+
+/// Runs, which of their readers had failed before, the file whose turn it is, and its fault.
+const READERS_HAD_FAILED: &[(Job, [bool; 3], u32, ReadFault)] = &[
+    (
+        (Task::Check, [NO_FILE, TOUR, ""]),
+        [true, true, false],
+        1,
+        ReadFault::Device,
+    ),
+    (
+        (Task::Check, [NO_FILE, TOUR, ""]),
+        [false, true, false],
+        1,
+        ITS_FAULT,
+    ),
+    (
+        (Task::Check, [THREE_NODES, TOUR, ""]),
+        [false, true, false],
+        2,
+        ReadFault::Device,
+    ),
+    (
+        (Task::Check, [POTENTIALS, TOUR, ""]),
+        [false, true, false],
+        2,
+        ReadFault::Device,
+    ),
+    // an earlier file that is none decides; the wrong kind of the first file and a no don't
+    (
+        (Task::BoundCheck, [THREE_NODES, NO_FILE, DUALS]),
+        [false, false, true],
+        2,
+        ITS_FAULT,
+    ),
+    (
+        (Task::BoundCheck, [THREE_NODES, TOUR, DUALS]),
+        [false, false, true],
+        3,
+        ReadFault::Device,
+    ),
+    (
+        (Task::BoundCheck, [ROUTES, TOUR, DUALS]),
+        [false, false, true],
+        3,
+        ReadFault::Device,
+    ),
+    (
+        (Task::BoundCheck, [THREE_NODES, DUALS, DUALS]),
+        [false, false, true],
+        3,
+        ReadFault::Device,
+    ),
+    (
+        (Task::BoundCheck, [THREE_NODES, TOUR, DUALS]),
+        [false, true, true],
+        2,
+        ReadFault::Device,
+    ),
+    (
+        (Task::Show, [NO_FILE, "", ""]),
+        [true, false, false],
+        1,
+        ReadFault::Device,
+    ),
+    (
+        (Task::Convert(""), [STAR, "", ""]),
+        [true, false, false],
+        1,
+        ReadFault::Device,
+    ),
+];
+
+#[test]
+fn a_reader_that_had_failed_counts_in_its_turn_and_is_not_asked(rt: HostRuntime) {
+    for (job, which, file, fault) in READERS_HAD_FAILED {
+        let (task, texts) = job;
+        let fails_at = which.map(|failed| if failed { 0 } else { NEVER });
+        let mut readers = Readers::failing(*texts, fails_at);
+        fail_before(&rt, &mut readers, *which);
+        let found = look_at(
+            rt.alloc(),
+            *task,
+            readers,
+            Watched::new(Drip::sound(rt.alloc())),
+        );
+        let fault = RunFault::File {
+            file: *file,
+            fault: *fault,
+        };
+        same_at(&rt, job, found.answer, Err(fault));
+        for (asked, failed) in found.asked.iter().zip(which) {
+            holds_at(&rt, job, !*failed || *asked == 1);
+        }
+        same_at(&rt, job, found.writer.calls(), 0);
+    }
+}
+
+/// What is answered where a writer had failed.
+const OUTPUT: RunFault = RunFault::Write(WriteFault::Device);
+
+const NO_FIRST: RunFault = RunFault::File {
+    file: 1,
+    fault: ITS_FAULT,
+};
+
+const NO_THIRD: RunFault = RunFault::File {
+    file: 3,
+    fault: ReadFault::Device,
+};
+
+/// Runs, the calls at which their readers fail, and what is answered where the writer had failed
+/// before.
+const WRITERS_HAD_FAILED: &[(Job, [usize; 3], RunFault)] = &[
+    ((Task::Check, [NO_FILE, TOUR, ""]), [NEVER, 0, 0], NO_FIRST),
+    (
+        (Task::Check, [POTENTIALS, TOUR, ""]),
+        [NEVER; 3],
+        RunFault::WrongKind,
+    ),
+    (CHECK, [NEVER; 3], OUTPUT),
+    (BOUND_CHECK, [NEVER, NEVER, 0], NO_THIRD),
+    (
+        (Task::BoundCheck, [ROUTES, TOUR, DUALS]),
+        [NEVER; 3],
+        RunFault::WrongKind,
+    ),
+    (BOUND_CHECK, [NEVER; 3], OUTPUT),
+    ((Task::Show, [NO_FILE, "", ""]), [NEVER; 3], NO_FIRST),
+    (SHOW, [NEVER; 3], OUTPUT),
+    ((Task::Convert(""), [NO_FILE, "", ""]), [NEVER; 3], NO_FIRST),
+    (
+        (Task::Convert("FULL_MATRIX"), [NO_FILE, "", ""]),
+        [NEVER; 3],
+        NO_FIRST,
+    ),
+    (
+        (Task::Convert("FULL_MATRIX"), [ONE_NODE_TOUR, "", ""]),
+        [NEVER; 3],
+        NOT_EXPLICIT,
+    ),
+    (
+        (Task::Convert(""), [ONE_NODE_TOUR, "", ""]),
+        [NEVER; 3],
+        OUTPUT,
+    ),
+    (CONVERT, [NEVER; 3], OUTPUT),
+];
+
+#[test]
+fn a_writer_that_had_failed_counts_in_its_turn_and_is_not_asked(rt: HostRuntime) {
+    for (job, fails_at, fault) in WRITERS_HAD_FAILED {
+        let (task, texts) = job;
+        let mut out = Watched::new(Drip::new(rt.alloc(), 1, 0, Refusal::Nothing));
+        same_at(&rt, job, outcome(out.write(b"x")), Ok(0));
+        let found = look_at(rt.alloc(), *task, Readers::failing(*texts, *fails_at), out);
+        same_at(&rt, job, found.answer, Err(*fault));
+        same_at(&rt, job, found.writer.calls(), 1);
+    }
+}

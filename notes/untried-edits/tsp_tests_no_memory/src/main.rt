@@ -1,0 +1,23 @@
+//! A program that tests/refusals runs while requests for memory are refused.
+//!
+//! First it makes the calls that take no memory, which have to succeed though every request is
+//! refused; then it traces tours, which takes some. The exit status is 0 where each answer is the
+//! one that is wanted, 1 where one isn't, and 3 where there was no memory for the tours.
+#![tactic(auto)]
+
+mod files;
+mod numbers;
+mod tours;
+
+use std::process::ExitCode;
+
+fn main(rt: HostRuntime) -> ExitCode {
+    if !numbers::are_right() || !files::are_right(rt.alloc()) {
+        return ExitCode::from(1);
+    }
+    match tours::are_right(rt.alloc()) {
+        Ok(true) => ExitCode::from(0),
+        Ok(false) => ExitCode::from(1),
+        Err(_) => ExitCode::from(3),
+    }
+}

@@ -1,0 +1,31 @@
+//! What the tests assert. (Each is a function with no contract, proved once, so that a test is a row
+//! of calls, and its proof a short one. Each crate of tests has these few, since a library has no
+//! function that may end the program.)
+
+use std::fmt::Debug;
+use std::process::Abort;
+
+/// Asserts that what was found is what was wanted.
+pub(crate) fn same<T: PartialEq + Debug + Drop>(rt: &impl Abort, found: T, wanted: T) {
+    assert_eq!(rt; found, wanted);
+}
+
+/// Asserts that what was found is what was wanted, at this row of a table.
+pub(crate) fn same_at<T: PartialEq + Debug + Drop>(
+    rt: &impl Abort,
+    row: impl Debug + Drop,
+    found: T,
+    wanted: T,
+) {
+    assert_eq!(rt; found, wanted, "at {row:?}");
+}
+
+/// Asserts a fact.
+pub(crate) fn holds(rt: &impl Abort, fact: bool) {
+    assert!(rt; fact);
+}
+
+/// Asserts a fact at this row of a table.
+pub(crate) fn holds_at(rt: &impl Abort, row: impl Debug + Drop, fact: bool) {
+    assert!(rt; fact, "at {row:?}");
+}

@@ -1,0 +1,203 @@
+//! What is answered at each piece.
+
+use super::{CANONICAL_TOUR, TOUR, answer_by_bytes, file};
+use crate::answers::{answer, answer_of, fault_at_end, fed, long_file};
+use crate::asserts::{same, same_at};
+use std::test::Fail;
+use tsp_draft::EndFault;
+use tsp_format::Field;
+use tsp_number::NumberFault::{BadNumber, LongWord};
+use tsp_read::LineFault::{Number, Outside, UnknownLine};
+use tsp_read::{Feed, LineFault, ReadFault};
+
+/// The fault of a text without a line TYPE.
+const NO_TYPE: ReadFault = ReadFault::End(EndFault::Missing(Field::TypeKey));
+
+/// Pieces that would do on their own, or have faults of their own.
+const LATER: &[&str] = &[
+    "",
+    "\n",
+    " ",
+    "EOF\n",
+    "TYPE : TOUR\n",
+    "1 x\n",
+    "FOO\n",
+    TOUR,
+];
+
+/// What is answered for pieces, up to the first refusal.
+fn feed_texts(feed: &mut Feed, pieces: &[&'static str]) -> Result<(), ReadFault> {
+    for piece in pieces {
+        fed(feed, piece.as_bytes())?;
+    }
+    Ok(())
+}
+
+/// Pieces that are taken, the piece that is refused, and the line, the word and the name of its
+/// fault: each refusal comes as soon as no later byte can change it.
+const REFUSALS: &[(&[&str], &str, u32, u32, LineFault)] = &[
+    (&[], "TYPE : HCP\n", 1, 0, Outside),
+    (&["TYPE : ", "HCP"], "\n", 1, 0, Outside),
+    (&["TYPE : HCP\r"], "\n1 x", 1, 0, Outside),
+    (&["FO"], "O\n", 1, 0, UnknownLine),
+    (&["TOUR_SECTION\n1 2", "x"], " ", 2, 2, Number(BadNumber)),
+    (
+        &["TOUR_SECTION\n\n1\n", "2 "],
+        "x\n",
+        4,
+        2,
+        Number(BadNumber),
+    ),
+    (
+        &["TOUR_SECTION\n"],
+        "11111111111111111111111111111111111111111111111111111111111111111",
+        2,
+        1,
+        Number(LongWord),
+    ),
+    // a line in many pieces is one line
+    (
+        &[
+            "COM", "MENT", " ", ": a", "", " b", "\n", "\n", "TY", "PE : ", "HCP",
+        ],
+        "\n",
+        3,
+        0,
+        Outside,
+    ),
+];
+
+#[test]
+fn a_refusal_comes_as_soon_as_it_is_settled_and_stays(rt: HostRuntime) {
+    for (before, piece, line, word, fault) in REFUSALS {
+        let fault = ReadFault::Line {
+            line: *line,
+            word: *word,
+            fault: *fault,
+        };
+        let mut feed = Feed::new(rt.alloc());
+        same_at(&rt, piece, feed_texts(&mut feed, before), Ok(()));
+        same_at(&rt, piece, fed(&mut feed, piece.as_bytes()), Err(fault));
+        for later in LATER {
+            same_at(
+                &rt,
+                (piece, later),
+                fed(&mut feed, later.as_bytes()),
+                Err(fault),
+            );
+        }
+        same_at(&rt, piece, fault_at_end(feed), Some(fault));
+    }
+}
+
+/// Pieces that are all taken, and the answer at their end: the canonical text of the file, or the
+/// fault.
+const TAKEN: &[(&[&str], Result<&str, ReadFault>)] = &[
+    // a line that isn't over has its fault at the end
+    (
+        &["TYPE : HCP"],
+        Err(ReadFault::Line {
+            line: 1,
+            word: 0,
+            fault: Outside,
+        }),
+    ),
+    // a word goes on in the next piece
+    (
+        &["TYPE : TOUR\nTOUR_SECTION\n", "1", "2 -1"],
+        Ok("TYPE : TOUR\nTOUR_SECTION\n12\n-1\nEOF\n"),
+    ),
+    // a line EOF has ended only with its byte 10
+    (
+        &["EO", "F", "X"],
+        Err(ReadFault::Line {
+            line: 1,
+            word: 0,
+            fault: UnknownLine,
+        }),
+    ),
+    // a last line EOF needs none
+    (
+        &["TYPE : TOUR\nTOUR_SECTION\n1 2 3\n-1\nE", "O", "F"],
+        Ok(CANONICAL_TOUR),
+    ),
+    // after the line EOF everything is accepted
+    (&["EOF\n", "###"], Err(NO_TYPE)),
+    (
+        &[
+            TOUR,
+            "",
+            "\n",
+            " ",
+            "EOF\n",
+            "TYPE : TOUR\n",
+            "1 x\n",
+            "FOO\n",
+            TOUR,
+        ],
+        Ok(CANONICAL_TOUR),
+    ),
+    // a byte 13 at the end of a piece is of the line's end
+    (
+        &[
+            "NAME : x\r",
+            "\nTYPE : TOUR\r",
+            "\nTOUR_SECTION\r",
+            "\n1 2 3\r",
+            "\n-1\r",
+            "\nEOF\r",
+        ],
+        Ok("NAME : x\nTYPE : TOUR\nTOUR_SECTION\n1\n2\n3\n-1\nEOF\n"),
+    ),
+    // and is kept where the value goes on
+    (
+        &["NAME : x\r", "y\nTYPE : TOUR\nTOUR_SECTION\n1 2 3\n-1\n"],
+        Ok("NAME : x\ry\nTYPE : TOUR\nTOUR_SECTION\n1\n2\n3\n-1\nEOF\n"),
+    ),
+];
+
+#[test]
+fn pieces_that_are_taken_have_their_answer_at_the_end(rt: HostRuntime) -> Result<(), Fail> {
+    let alloc = rt.alloc();
+    for (pieces, wanted) in TAKEN {
+        let mut feed = Feed::new(alloc);
+        same_at(&rt, pieces, feed_texts(&mut feed, pieces), Ok(()));
+        let found = answer(alloc, feed.finish())?;
+        same_at(&rt, pieces, found, file(alloc, wanted)?);
+    }
+    Ok(())
+}
+
+#[test]
+fn after_the_line_eof_words_and_lines_of_any_length_are_accepted(
+    rt: HostRuntime,
+) -> Result<(), Fail> {
+    let alloc = rt.alloc();
+    let mut feed = Feed::new(alloc);
+    same(&rt, fed(&mut feed, TOUR.as_bytes()), Ok(()));
+    same(&rt, fed(&mut feed, &[b'1'; 5_000]), Ok(()));
+    same(&rt, fed(&mut feed, &[b'K'; 5_000]), Ok(()));
+    let found = answer(alloc, feed.finish())?;
+    same(&rt, found, file(alloc, &Ok(CANONICAL_TOUR))?);
+    Ok(())
+}
+
+#[test]
+fn a_thousand_line_ends_need_no_memory(rt: HostRuntime) {
+    let mut feed = Feed::new(rt.alloc());
+    for call in 0..1_000 {
+        same_at(&rt, call, fed(&mut feed, b"\n"), Ok(()));
+    }
+    same(&rt, fault_at_end(feed), Some(NO_TYPE));
+}
+
+#[test]
+fn a_long_text_byte_by_byte_has_its_answer(rt: HostRuntime) -> Result<(), Fail> {
+    let alloc = rt.alloc();
+    let (text, canonical) = long_file(alloc)?;
+    let found = answer_by_bytes(alloc, text.as_bytes())?;
+    same(&rt, found, file(alloc, &Ok(canonical.as_str()))?);
+    let found = answer_of(alloc, text.as_bytes())?;
+    same(&rt, found, file(alloc, &Ok(canonical.as_str()))?);
+    Ok(())
+}

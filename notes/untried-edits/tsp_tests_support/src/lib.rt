@@ -1,0 +1,6 @@
+//! What the tests of the libraries share: readers and writers that are hard to please, and drafts
+//! of files by hand.
+#![tactic(auto)]
+
+pub mod devices;
+pub mod drafts;

@@ -1,0 +1,118 @@
+-- What is shown section by section, whoever reads them: each is one row, and so is each of its cases.
+use Rattle.std.proofs.Common.{◌≡◌, Bool, true, false, cond, List, ◌∷◌, refl, Some, None}
+use Rattle.std.specs.Prelude.{ℕ, nat_lt, is_some}
+use Rattle.std.specs.Option.{option_map_or}
+use Rattle.tsp_format.specs.declared.field.Field.{Field}
+use Rattle.tsp_format.specs.declared.field.Field.TheVariants.{NameKey, TypeKey, CommentKey, OtherKey, DimensionKey, CapacityKey, ScaleKey, EdgeWeightTypeKey, EdgeWeightFormatKey, NodeCoordTypeKey, DisplayDataTypeKey, NodeCoordPart, DisplayDataPart, DemandPart, DepotPart, FixedEdgesPart, EdgeWeightPart, TourPart, NodePotentialPart, RowPotentialPart, ColumnPotentialPart, FixedEdgePotentialPart, CombPart, BranchPart}
+use Rattle.tsp_format.specs.declared.keyword.Keyword.TheVariants.{Known}
+use Rattle.tsp_format.specs.declared.field.Shape.{Shape}
+use Rattle.tsp_format.specs.declared.field.Shape.TheVariants.{Points, SpacePoints}
+use Rattle.tsp_format.specs.Limits.{most_line_bytes}
+use Rattle.tsp_format.specs.Shapes.{shape_of, is_section_field}
+use Rattle.tsp_draft.specs.Fields.{stands_in}
+use Rattle.tsp_text.specs.Items.{WordLine, Item, Line}
+use Rattle.tsp_text.specs.Earlier.{has_line}
+use Rattle.tsp_text.specs.Values.{spatial_after}
+use Rattle.tsp_text.specs.Sections.{dimension_in}
+use Rattle.tsp_text.specs.Rows.{row_of}
+use Rattle.tsp_text.specs.Opening.{opening_rows}
+use Rattle.tsp_text.specs.Spells.{fields_by}
+
+-- what holds of each section holds of every field that is one
+pub by_section : (P : Field → Type 0) → P NodeCoordPart → P DisplayDataPart → P DemandPart → P DepotPart → P FixedEdgesPart
+    → P EdgeWeightPart → P TourPart → P NodePotentialPart → P RowPotentialPart → P ColumnPotentialPart → P FixedEdgePotentialPart
+    → P CombPart → P BranchPart
+    → (f : Field) → is_section_field f ≡ true → P f
+by_section P p0 p1 p2 p3 p4 p5 p6 p7 p8 p9 p10 p11 p12 NameKey e = cc
+by_section P p0 p1 p2 p3 p4 p5 p6 p7 p8 p9 p10 p11 p12 TypeKey e = cc
+by_section P p0 p1 p2 p3 p4 p5 p6 p7 p8 p9 p10 p11 p12 CommentKey e = cc
+by_section P p0 p1 p2 p3 p4 p5 p6 p7 p8 p9 p10 p11 p12 OtherKey e = cc
+by_section P p0 p1 p2 p3 p4 p5 p6 p7 p8 p9 p10 p11 p12 DimensionKey e = cc
+by_section P p0 p1 p2 p3 p4 p5 p6 p7 p8 p9 p10 p11 p12 CapacityKey e = cc
+by_section P p0 p1 p2 p3 p4 p5 p6 p7 p8 p9 p10 p11 p12 ScaleKey e = cc
+by_section P p0 p1 p2 p3 p4 p5 p6 p7 p8 p9 p10 p11 p12 EdgeWeightTypeKey e = cc
+by_section P p0 p1 p2 p3 p4 p5 p6 p7 p8 p9 p10 p11 p12 EdgeWeightFormatKey e = cc
+by_section P p0 p1 p2 p3 p4 p5 p6 p7 p8 p9 p10 p11 p12 NodeCoordTypeKey e = cc
+by_section P p0 p1 p2 p3 p4 p5 p6 p7 p8 p9 p10 p11 p12 DisplayDataTypeKey e = cc
+by_section P p0 p1 p2 p3 p4 p5 p6 p7 p8 p9 p10 p11 p12 NodeCoordPart e = p0
+by_section P p0 p1 p2 p3 p4 p5 p6 p7 p8 p9 p10 p11 p12 DisplayDataPart e = p1
+by_section P p0 p1 p2 p3 p4 p5 p6 p7 p8 p9 p10 p11 p12 DemandPart e = p2
+by_section P p0 p1 p2 p3 p4 p5 p6 p7 p8 p9 p10 p11 p12 DepotPart e = p3
+by_section P p0 p1 p2 p3 p4 p5 p6 p7 p8 p9 p10 p11 p12 FixedEdgesPart e = p4
+by_section P p0 p1 p2 p3 p4 p5 p6 p7 p8 p9 p10 p11 p12 EdgeWeightPart e = p5
+by_section P p0 p1 p2 p3 p4 p5 p6 p7 p8 p9 p10 p11 p12 TourPart e = p6
+by_section P p0 p1 p2 p3 p4 p5 p6 p7 p8 p9 p10 p11 p12 NodePotentialPart e = p7
+by_section P p0 p1 p2 p3 p4 p5 p6 p7 p8 p9 p10 p11 p12 RowPotentialPart e = p8
+by_section P p0 p1 p2 p3 p4 p5 p6 p7 p8 p9 p10 p11 p12 ColumnPotentialPart e = p9
+by_section P p0 p1 p2 p3 p4 p5 p6 p7 p8 p9 p10 p11 p12 FixedEdgePotentialPart e = p10
+by_section P p0 p1 p2 p3 p4 p5 p6 p7 p8 p9 p10 p11 p12 CombPart e = p11
+by_section P p0 p1 p2 p3 p4 p5 p6 p7 p8 p9 p10 p11 p12 BranchPart e = p12
+
+-- a field with a shape is a section, in a spatial file as in another
+pub section_of : (in_space : Bool) (f : Field) (shape : Shape) → shape_of in_space f ≡ Some shape → is_section_field f ≡ true
+section_of in_space NameKey shape e = cc
+section_of in_space TypeKey shape e = cc
+section_of in_space CommentKey shape e = cc
+section_of in_space OtherKey shape e = cc
+section_of in_space DimensionKey shape e = cc
+section_of in_space CapacityKey shape e = cc
+section_of in_space ScaleKey shape e = cc
+section_of in_space EdgeWeightTypeKey shape e = cc
+section_of in_space EdgeWeightFormatKey shape e = cc
+section_of in_space NodeCoordTypeKey shape e = cc
+section_of in_space DisplayDataTypeKey shape e = cc
+section_of in_space NodeCoordPart shape e = refl
+section_of in_space DisplayDataPart shape e = refl
+section_of in_space DemandPart shape e = refl
+section_of in_space DepotPart shape e = refl
+section_of in_space FixedEdgesPart shape e = refl
+section_of in_space EdgeWeightPart shape e = refl
+section_of in_space TourPart shape e = refl
+section_of in_space NodePotentialPart shape e = refl
+section_of in_space RowPotentialPart shape e = refl
+section_of in_space ColumnPotentialPart shape e = refl
+section_of in_space FixedEdgePotentialPart shape e = refl
+section_of in_space CombPart shape e = refl
+section_of in_space BranchPart shape e = refl
+
+some_cond : {A : Type 0} (b : Bool) (x : A) → is_some (cond b (Some x) None) ≡ b
+some_cond true x = refl
+some_cond false x = refl
+
+-- ---- a line that opens a section
+
+-- points have the same rows in a spatial file as in another
+points_open : (in_space stands known : Bool) (value : List ℕ) (n : ℕ)
+    → opening_rows Points stands value known n ≡ opening_rows (cond in_space SpacePoints Points) stands value known n
+points_open true stands known value n = refl
+points_open false stands known value n = refl
+
+-- its rows
+pub opening : (in_space : Bool) (earlier : List Item) (line : WordLine) → nat_lt most_line_bytes line.size ≡ false → (f : Field) → is_section_field f ≡ true
+    → row_of earlier (Line (Known f) line)
+    ≡ option_map_or (λ shape. opening_rows shape (has_line f earlier) line.value (has_line DimensionKey earlier) (dimension_in earlier)) (shape_of in_space f) None
+opening in_space earlier line short = by_section (λ f. row_of earlier (Line (Known f) line)
+    ≡ option_map_or (λ shape. opening_rows shape (has_line f earlier) line.value (has_line DimensionKey earlier) (dimension_in earlier)) (shape_of in_space f) None)
+    (rw short (points_open in_space (has_line NodeCoordPart earlier) (has_line DimensionKey earlier) line.value (dimension_in earlier))) (rw short refl) (rw short refl) (rw short refl) (rw short refl)
+    (rw short refl) (rw short refl) (rw short refl) (rw short refl) (rw short refl)
+    (rw short refl) (rw short refl) (rw short refl)
+
+-- a section stands in the fields where a line opened it
+pub standing : (earlier : List Item) (f : Field) → is_section_field f ≡ true
+    → stands_in (fields_by (λ field. has_line field earlier) earlier) f ≡ has_line f earlier
+standing earlier = by_section (λ f. stands_in (fields_by (λ field. has_line field earlier) earlier) f ≡ has_line f earlier)
+    (some_cond (has_line NodeCoordPart earlier) _) (some_cond (has_line DisplayDataPart earlier) _)
+    (some_cond (has_line DemandPart earlier) _) (some_cond (has_line DepotPart earlier) _)
+    (some_cond (has_line FixedEdgesPart earlier) _) (some_cond (has_line EdgeWeightPart earlier) _)
+    (some_cond (has_line TourPart earlier) _) (some_cond (has_line NodePotentialPart earlier) _)
+    (some_cond (has_line RowPotentialPart earlier) _) (some_cond (has_line ColumnPotentialPart earlier) _)
+    (some_cond (has_line FixedEdgePotentialPart earlier) _) (some_cond (has_line CombPart earlier) _)
+    (some_cond (has_line BranchPart earlier) _)
+
+-- the number of nodes stays, and whether the file is spatial
+pub nodes_stay : (earlier : List Item) (line : WordLine) (f : Field) → is_section_field f ≡ true
+    → (dimension_in (Line (Known f) line ∷ earlier) ≡ dimension_in earlier) × (spatial_after (Line (Known f) line ∷ earlier) ≡ spatial_after earlier)
+nodes_stay earlier line = by_section (λ f. (dimension_in (Line (Known f) line ∷ earlier) ≡ dimension_in earlier)
+    × (spatial_after (Line (Known f) line ∷ earlier) ≡ spatial_after earlier))
+    (refl, refl) (refl, refl) (refl, refl) (refl, refl) (refl, refl) (refl, refl) (refl, refl) (refl, refl)
+    (refl, refl) (refl, refl) (refl, refl) (refl, refl) (refl, refl)

@@ -1,0 +1,15 @@
+-- Every text has exactly one answer.
+use Rattle.tsp_text.proofs.OneAnswer.{one_answer, never_both, one_file, fault_of_text}
+use Rattle.tsp_text.proofs.answers.texts_have_one_answer.Goals as goal
+
+pub returns-clause-one : goal.returns-clause-one
+returns-clause-one c = λ bytes. one_answer bytes
+
+pub returns-clause-never_both : goal.returns-clause-never_both
+returns-clause-never_both c = λ bytes file found spells. never_both bytes file found spells
+
+pub returns-clause-one_file : goal.returns-clause-one_file
+returns-clause-one_file c = λ bytes file other spells also. one_file bytes file other spells also
+
+pub returns-clause-of_text : goal.returns-clause-of_text
+returns-clause-of_text c = λ bytes found e. fault_of_text bytes found e

@@ -1,0 +1,11 @@
+-- What items without a fault spell is valid, field by field.
+use Rattle.tsp_text.specs.Text.{part}
+use Rattle.tsp_text.proofs.ValidCuts.{part_cut}
+use Rattle.tsp_text.proofs.ValidItems.{none_bad}
+use Rattle.tsp_text.proofs.validity.clean_fields_are_valid.Goals as goal
+
+pub returns-clause-of_items : goal.returns-clause-of_items
+returns-clause-of_items c = λ items cut clean whole. none_bad items cut clean whole
+
+pub returns-clause-of_text : goal.returns-clause-of_text
+returns-clause-of_text c = λ bytes clean whole. none_bad (part bytes) (part_cut bytes) clean whole

@@ -1,0 +1,9 @@
+-- What a text spells is a file.
+use Rattle.tsp_text.proofs.ValidItems.{is_file, spelled_file}
+use Rattle.tsp_text.proofs.validity.spelled_files_are_valid.Goals as goal
+
+pub returns-clause-of_items : goal.returns-clause-of_items
+returns-clause-of_items c = λ items cut clean ended. is_file items cut clean ended
+
+pub returns-clause-of_text : goal.returns-clause-of_text
+returns-clause-of_text c = λ bytes file spells. spelled_file bytes file spells

@@ -1,0 +1,31 @@
+-- What a text is answered with, and which items have no row: the words of the laws on answers.
+use Rattle.std.specs.Prelude.{◌≡◌, ℕ, Bool, true, false, List, ◌∷◌, ◌++◌, None, Some, Result, Ok, Err}
+use Rattle.tsp_draft.specs.Fields.{Fields}
+use Rattle.tsp_text.specs.declared.fault.ReadFault.{ReadFault}
+use Rattle.tsp_text.specs.declared.fault.ReadFault.TheVariants as faults
+use Rattle.tsp_text.specs.Items.{Item}
+use Rattle.tsp_text.specs.Rows.{row_of}
+use Rattle.tsp_text.specs.Text.{fault, Spells}
+
+-- no row applies to any of these items, each after those before it (nearest first)
+abbrev pub NoneHasRow : List Item → Type 0
+NoneHasRow items = (later : List Item) (item : Item) (earlier : List Item) → items ≡ later ++ item ∷ earlier
+    → row_of earlier item ≡ None
+
+-- the answer for a text: the file that it spells, or its first fault
+abbrev pub IsAnswer : List ℕ → Result Fields ReadFault → Type 0
+IsAnswer bytes (Ok file) = Spells bytes file
+IsAnswer bytes (Err found) = fault bytes ≡ Some found
+
+-- there is an answer, and any other is that one
+abbrev pub HasOneAnswer : List ℕ → Type 0
+HasOneAnswer bytes = (answer : Result Fields ReadFault) × IsAnswer bytes answer
+    × ((other : Result Fields ReadFault) → IsAnswer bytes other → other ≡ answer)
+
+-- the fault lies in the text itself: neither memory nor a device is to blame
+abbrev pub is_of_text : ReadFault → Bool
+is_of_text (faults.Line line word fault) = true
+is_of_text (faults.End fault) = true
+is_of_text faults.OutOfMemory = false
+is_of_text faults.Device = false
+is_of_text faults.TooLong = true

@@ -1,0 +1,69 @@
+-- Combs. COMB_SECTION is this project's own: it lists combs, each as sets of nodes, the handle and then the teeth. A -1 ends each
+-- set, one more the comb, and one where a comb would begin the section.
+use Rattle.std.specs.Prelude.{ℕ, ◌+◌, Bool, true, false, cond, ◌||◌, List, [], ◌∷◌, ◌++◌, length, nat_abs}
+use Rattle.std.specs.List.{fold}
+use Rattle.tsp_text.specs.Lines.{is_filled}
+use Rattle.tsp_text.specs.Numbers.{number, node_or_end, is_end}
+use Rattle.tsp_text.specs.Places.{Place, SetNode, PastEnd}
+
+-- what stands after some words of the section
+pub record CombsSoFar : Type 0 where
+  -- the whole combs
+  pub combs : List (List (List ℕ))
+  -- of a comb that has begun the whole sets, and of a set that has begun the nodes
+  pub sets : List (List ℕ)
+  pub nodes : List ℕ
+  -- how many nodes came in all
+  pub count : ℕ
+  -- whether the section has ended
+  pub ended : Bool
+
+abbrev pub no_combs : CombsSoFar
+no_combs = record { combs = []; sets = []; nodes = []; count = 0; ended = false }
+
+-- ---- one word more
+
+abbrev pub comb_node : ℕ → List ℕ → ℕ
+comb_node n word = nat_abs (number (node_or_end n word))
+
+-- a node of the set that has begun, or the first of a new one
+abbrev pub with_node : CombsSoFar → ℕ → CombsSoFar
+with_node so_far node = record so_far { nodes = so_far.nodes ++ node ∷ []; count = so_far.count + 1 }
+
+-- the set that has begun is whole
+abbrev pub with_set : CombsSoFar → CombsSoFar
+with_set so_far = record so_far { sets = so_far.sets ++ so_far.nodes ∷ []; nodes = [] }
+
+-- the comb that has begun is whole
+abbrev pub with_comb : CombsSoFar → CombsSoFar
+with_comb so_far = record so_far { combs = so_far.combs ++ so_far.sets ∷ []; sets = [] }
+
+-- a -1 ends the set that has begun; where none has, the comb; where none has, the section
+abbrev pub with_end : CombsSoFar → CombsSoFar
+with_end so_far = cond (is_filled so_far.nodes) (with_set so_far)
+    (cond (is_filled so_far.sets) (with_comb so_far) (record so_far { ended = true }))
+
+-- past the end of the section nothing changes
+abbrev pub with_comb_word : ℕ → CombsSoFar → List ℕ → CombsSoFar
+with_comb_word n so_far word =
+    cond so_far.ended so_far (cond (is_end n word) (with_end so_far) (with_node so_far (comb_node n word)))
+
+-- ---- all words
+
+abbrev pub combs_after : ℕ → List (List ℕ) → CombsSoFar
+combs_after n words = fold (with_comb_word n) no_combs words
+
+-- the combs that are whole
+abbrev pub whole_combs : ℕ → List (List ℕ) → List (List (List ℕ))
+whole_combs n words = (combs_after n words).combs
+
+-- ---- where the next word stands
+
+abbrev pub has_begun_comb : CombsSoFar → Bool
+has_begun_comb so_far = is_filled so_far.nodes || is_filled so_far.sets
+
+abbrev pub place_in_combs : CombsSoFar → Place
+place_in_combs so_far = cond so_far.ended PastEnd (SetNode (has_begun_comb so_far) (length so_far.combs) so_far.count)
+
+abbrev pub place_of_comb : ℕ → List (List ℕ) → Place
+place_of_comb n words = place_in_combs (combs_after n words)

@@ -1,0 +1,102 @@
+-- Small texts on which the definitions are evaluated. In them `/` stands for byte 10.
+use Rattle.std.specs.Prelude.{◌≡◌, ℕ, ◌==◌, true, false, cond, List, [], ◌∷◌, ◌++◌, map, replicate, None, Some, codes, pos, negsuc}
+use Rattle.tsp_format.specs.declared.field.Field.{Field}
+use Rattle.tsp_format.specs.Steps.{Branch, Leaf}
+use Rattle.tsp_number.specs.declared.fault.NumberFault.{NumberFault}
+use Rattle.tsp_distance.specs.Distances.{on_plane}
+use Rattle.tsp_draft.specs.declared.fault.EndFault.{EndFault}
+use Rattle.tsp_draft.specs.declared.fault.EndFault.TheVariants.{Missing}
+use Rattle.tsp_text.specs.declared.fault.LineFault.{LineFault}
+use Rattle.tsp_text.specs.declared.fault.LineFault.TheVariants.{Number}
+use Rattle.tsp_text.specs.declared.fault.ReadFault.TheVariants as faults
+use Rattle.tsp_text.specs.Items.{line_item}
+use Rattle.tsp_text.specs.Places.{Place}
+use Rattle.tsp_text.specs.Rows.{is_surplus, is_surplus_at}
+use Rattle.tsp_text.specs.Spells.{spelled}
+use Rattle.tsp_text.specs.Text.{part, fault}
+
+abbrev pub newline : ℕ → ℕ
+newline b = cond (b == 47) 10 b
+
+abbrev pub text : List ℕ → List ℕ
+text bytes = map newline bytes
+
+-- the first fault of the text is that of this line and word
+abbrev pub FaultAt : List ℕ → ℕ → ℕ → LineFault → Type 0
+FaultAt bytes line word found = fault (text bytes) ≡ Some (faults.Line line word found)
+
+abbrev pub NumberAt : List ℕ → ℕ → ℕ → NumberFault → Type 0
+NumberAt bytes line word found = FaultAt bytes line word (Number found)
+
+-- no line has a fault, and this one is found at the end
+abbrev pub FaultAtEnd : List ℕ → EndFault → Type 0
+FaultAtEnd bytes found = fault (text bytes) ≡ Some (faults.End found)
+
+abbrev pub MissingAtEnd : List ℕ → Field → Type 0
+MissingAtEnd bytes field = FaultAtEnd bytes (Missing field)
+
+-- the text has this one line of an unknown keyword
+abbrev pub OthersAre : List ℕ → List ℕ → List ℕ → Type 0
+OthersAre bytes keyword value = (spelled (part (text bytes))).others ≡ (keyword, value) ∷ []
+
+-- the text spells a file with the tours (3) and (4, 5); with the fixed pairs (1, 2) and (3, 1)
+abbrev pub ToursAre : List ℕ → Type 0
+ToursAre bytes = (fault (text bytes) ≡ None) × ((spelled (part (text bytes))).tours ≡ Some ((3 ∷ []) ∷ (4 ∷ 5 ∷ []) ∷ []))
+
+abbrev pub PairsAre : List ℕ → Type 0
+PairsAre bytes = (fault (text bytes) ≡ None) × ((spelled (part (text bytes))).fixed ≡ Some ((1, 2) ∷ (3, 1) ∷ []))
+
+-- with the triples (1, 2, 5) and (3, 1, 0)
+abbrev pub TriplesAre : List ℕ → Type 0
+TriplesAre bytes = (fault (text bytes) ≡ None)
+    × ((spelled (part (text bytes))).fixed_potentials ≡ Some ((1, 2, pos 5) ∷ (3, 1, pos 0) ∷ []))
+
+-- with the comb of the handle (1, 2, 3) and the teeth (1, 4), (2, 5) and (3, 6)
+abbrev pub CombIs : List ℕ → Type 0
+CombIs bytes = (fault (text bytes) ≡ None) × ((spelled (part (text bytes))).combs
+    ≡ Some (((1 ∷ 2 ∷ 3 ∷ []) ∷ (1 ∷ 4 ∷ []) ∷ (2 ∷ 5 ∷ []) ∷ (3 ∷ 6 ∷ []) ∷ []) ∷ []))
+
+-- with the tree of a branch on the pair (1, 2), a leaf that adds 1 to the number of node 2, and one that adds nothing
+abbrev pub TreeIs : List ℕ → Type 0
+TreeIs bytes = (fault (text bytes) ≡ None)
+    × ((spelled (part (text bytes))).branches ≡ Some (Branch 1 2 ∷ Leaf ((2, pos 1) ∷ []) ∷ Leaf [] ∷ []))
+
+-- the demands of the nodes 1, 2 and 3 are 5, 7 and 9
+abbrev pub DemandsAre : List ℕ → Type 0
+DemandsAre bytes = (spelled (part (text bytes))).demands ≡ Some (pos 5 ∷ pos 7 ∷ pos 9 ∷ [])
+
+-- the one node has the point (1.5, 0, -2), in space; the point (1.5, -2), in the plane
+abbrev pub InSpace : List ℕ → Type 0
+InSpace bytes = (spelled (part (text bytes))).coords
+    ≡ Some (record { x = pos 1500000000; y = pos 0; z = negsuc 1999999999 } ∷ [])
+
+abbrev pub OnPlane : List ℕ → Type 0
+OnPlane bytes = (spelled (part (text bytes))).coords ≡ Some (on_plane (pos 1500000000) (negsuc 1999999999) ∷ [])
+
+-- four nodes with weights
+abbrev pub quad : List ℕ → List ℕ → List ℕ
+quad format weights = codes "TYPE:TSP/DIMENSION:4/EDGE_WEIGHT_TYPE:EXPLICIT/EDGE_WEIGHT_FORMAT:" ++ format
+    ++ codes "/EDGE_WEIGHT_SECTION/" ++ weights
+
+-- a word line of 4096 bytes, one of 4097, and a word of 65 digits
+abbrev pub longest_line : List ℕ
+longest_line = codes "COMMENT" ++ replicate 4089 32
+
+abbrev pub long_line : List ℕ
+long_line = codes "COMMENT" ++ replicate 4090 32
+
+abbrev pub long_word : List ℕ
+long_word = replicate 65 49
+
+-- the line of an unknown keyword of three bytes, and so many bytes of its value
+abbrev pub filled_line : ℕ → List ℕ
+filled_line count = codes "FOO:" ++ replicate count 120
+
+-- after so many lines with this text one more is one too many, and not after so many
+abbrev pub IsLimitOfLines : ℕ → ℕ → List ℕ → Type 0
+IsLimitOfLines past last line = (is_surplus (replicate past (line_item line)) (line_item line) ≡ true)
+    × (is_surplus (replicate last (line_item line)) (line_item line) ≡ false)
+
+-- the word of a file with three nodes is one too many at the first place, and none at the second
+abbrev pub IsLimit : Place → Place → List ℕ → Type 0
+IsLimit past last word = (is_surplus_at 3 past word ≡ true) × (is_surplus_at 3 last word ≡ false)

@@ -1,0 +1,31 @@
+-- The first fault of a text's items: of the first line, in it of the first word, the first row.
+use Rattle.std.specs.Prelude.{◌≡◌, List, [], ◌∷◌, ◌++◌, Option, None, Some}
+use Rattle.std.specs.Option.{option_or, option_map}
+use Rattle.tsp_text.specs.declared.fault.LineFault.{LineFault}
+use Rattle.tsp_text.specs.declared.fault.ReadFault.{ReadFault}
+use Rattle.tsp_text.specs.declared.fault.ReadFault.TheVariants as faults
+use Rattle.tsp_text.specs.Items.{Item, line_number, word_number}
+use Rattle.tsp_text.specs.Rows.{row_of}
+
+-- a row at the place of an item
+abbrev pub fault_here : List Item → Item → LineFault → ReadFault
+fault_here earlier item fault = faults.Line (line_number earlier) (word_number earlier item) fault
+
+-- the first fault of these items (nearest first)
+abbrev pub fault_in : List Item → Option ReadFault
+fault_in [] = None
+fault_in (item ∷ earlier) = option_or (fault_in earlier) (option_map (fault_here earlier item) (row_of earlier item))
+
+abbrev pub IsClean : List Item → Type 0
+IsClean items = fault_in items ≡ None
+
+-- The same in other words: an item stands there with this row, and none before it has one.
+pub record IsFirstFault (items : List Item) (found : ReadFault) : Type 0 where
+  pub later : List Item
+  pub item : Item
+  pub earlier : List Item
+  pub fault : LineFault
+  pub parts : items ≡ later ++ item ∷ earlier
+  pub clean : IsClean earlier
+  pub row : row_of earlier item ≡ Some fault
+  pub here : found ≡ fault_here earlier item fault

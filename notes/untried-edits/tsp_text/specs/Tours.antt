@@ -1,0 +1,21 @@
+-- Tours. TSPLIB 95 (G. Reinelt): TOUR_SECTION lists tours, each ended by -1. That empty ones are left out is this project's
+-- profile.
+use Rattle.std.specs.Prelude.{ℕ, Bool, not, List, length, map, nat_abs}
+use Rattle.std.specs.List.{slice_split, filter}
+use Rattle.tsp_format.specs.Limits.{most_nodes}
+use Rattle.tsp_text.specs.Lines.{is_filled}
+use Rattle.tsp_text.specs.Numbers.{number, node_or_end, is_end}
+use Rattle.tsp_text.specs.Places.{Place, TourNode}
+
+abbrev pub ends_tour : List ℕ → Bool
+ends_tour word = is_end most_nodes word
+
+abbrev pub tour_node : List ℕ → ℕ
+tour_node word = nat_abs (number (node_or_end most_nodes word))
+
+-- the runs, not empty, of words between those that stand for -1
+abbrev pub tours_in : List (List ℕ) → List (List ℕ)
+tours_in words = map (map tour_node) (filter is_filled (slice_split ends_tour words))
+
+abbrev pub place_of_tour : List (List ℕ) → Place
+place_of_tour words = TourNode (length (filter (λ word. not (ends_tour word)) words))

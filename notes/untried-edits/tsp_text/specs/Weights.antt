@@ -1,0 +1,13 @@
+-- The weights of a matrix. TSPLIB 95 (G. Reinelt): EDGE_WEIGHT_SECTION.
+use Rattle.std.specs.Prelude.{ℕ, ◌*◌, cond, nat_le, List, length, map, ℤ}
+use Rattle.tsp_format.specs.Limits.{most_weight}
+use Rattle.tsp_text.specs.Numbers.{number, whole_of_size}
+use Rattle.tsp_text.specs.Places.{Place, Weight, PastWeights}
+
+-- all words of the section
+abbrev pub weights_in : List (List ℕ) → List ℤ
+weights_in words = map (λ word. number (whole_of_size most_weight word)) words
+
+-- there are at most n * n weights
+abbrev pub place_of_weight : ℕ → List (List ℕ) → Place
+place_of_weight n words = cond (nat_le (n * n) (length words)) PastWeights Weight

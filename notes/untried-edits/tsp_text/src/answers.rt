@@ -1,0 +1,31 @@
+//! What always holds of the answer for a text: its file, or its first fault.
+
+ghost use Rattle.std.specs.Prelude.{◌≡◌, ◌≢◌, ℕ, List, Some, true};
+ghost use Rattle.tsp_draft.specs.Fields.{Fields};
+ghost use Rattle.tsp_text.specs.declared.fault.ReadFault.{ReadFault};
+ghost use Rattle.tsp_text.specs.Items.{Item};
+ghost use Rattle.tsp_text.specs.FirstFault.{fault_in, IsClean, IsFirstFault};
+ghost use Rattle.tsp_text.specs.Text.{fault, Spells};
+ghost use Rattle.tsp_text.specs.Answering.{NoneHasRow, HasOneAnswer, is_of_text};
+
+/// The first fault of items is that of the first item to which a row applies, and of its first row.
+pub fn first_faults()
+    ensures found { (items : List Item) (found : ReadFault)
+        → fault_in items ≡ Some found → IsFirstFault items found }
+    ensures first { (items : List Item) (found : ReadFault)
+        → IsFirstFault items found → fault_in items ≡ Some found }
+    ensures clean { (items : List Item) → IsClean items → NoneHasRow items }
+    ensures none { (items : List Item) → NoneHasRow items → IsClean items }
+{}
+
+/// Every text has exactly one answer, the file that it spells or its first fault. So it never has
+/// both, and spells one file at most.
+pub fn texts_have_one_answer()
+    ensures one { (bytes : List ℕ) → HasOneAnswer bytes }
+    ensures never_both { (bytes : List ℕ) (file : Fields) (found : ReadFault)
+        → Spells bytes file → fault bytes ≢ Some found }
+    ensures one_file { (bytes : List ℕ) (file other : Fields)
+        → Spells bytes file → Spells bytes other → file ≡ other }
+    ensures of_text { (bytes : List ℕ) (found : ReadFault)
+        → fault bytes ≡ Some found → is_of_text found ≡ true }
+{}

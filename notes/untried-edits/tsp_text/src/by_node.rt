@@ -1,0 +1,19 @@
+//! What always holds of the sections by node.
+
+ghost use Rattle.std.specs.Prelude.{◌≡◌, List, true, false};
+ghost use Rattle.tsp_format.specs.declared.field.Field.{Field};
+ghost use Rattle.tsp_text.specs.Items.{Item};
+ghost use Rattle.tsp_text.specs.Earlier.{has_line, words_of};
+ghost use Rattle.tsp_text.specs.Values.{spatial_after};
+ghost use Rattle.tsp_text.specs.Sections.{dimension_in};
+ghost use Rattle.tsp_text.specs.FirstFault.{IsClean};
+ghost use Rattle.tsp_text.specs.Spells.{is_incomplete};
+ghost use Rattle.tsp_text.specs.ByNode.{is_by_node_field, group_nodes, HasEachNodeOnce};
+
+/// A section by node that stands, has no fault and isn't incomplete has one group for each node.
+pub fn each_node_has_one_group()
+    ensures { (items : List Item) (field : Field)
+        → IsClean items → is_by_node_field field ≡ true
+        → has_line field items ≡ true → is_incomplete items field ≡ false
+        → HasEachNodeOnce (dimension_in items) (group_nodes (spatial_after items) field (dimension_in items) (words_of field items)) }
+{}

@@ -1,0 +1,28 @@
+//! What always holds of the fields that a text spells.
+
+ghost use Rattle.std.specs.Prelude.{◌≡◌, ℕ, List, None, false};
+ghost use Rattle.tsp_format.specs.declared.field.Field.TheVariants.{BranchPart};
+ghost use Rattle.tsp_draft.specs.Fields.{Fields};
+ghost use Rattle.tsp_draft.specs.Validity.{bad_field};
+ghost use Rattle.tsp_draft.specs.Rules.{fault_of};
+ghost use Rattle.tsp_text.specs.Items.{Item};
+ghost use Rattle.tsp_text.specs.Cuts.{AreCut};
+ghost use Rattle.tsp_text.specs.FirstFault.{IsClean};
+ghost use Rattle.tsp_text.specs.Spells.{spelled, is_incomplete, fault_at_end};
+ghost use Rattle.tsp_text.specs.Text.{part, Spells};
+
+/// What items without a fault spell is valid, field by field, where the tree of cases, if one stands,
+/// is whole.
+pub fn clean_fields_are_valid()
+    ensures of_items { (items : List Item) → AreCut items → IsClean items → is_incomplete items BranchPart ≡ false
+        → bad_field (spelled items) ≡ None }
+    ensures of_text { (bytes : List ℕ) → IsClean (part bytes) → is_incomplete (part bytes) BranchPart ≡ false
+        → bad_field (spelled (part bytes)) ≡ None }
+{}
+
+/// What a text spells is a file: no field of it, nor its fields together, have a fault.
+pub fn spelled_files_are_valid()
+    ensures of_items { (items : List Item) → AreCut items → IsClean items → fault_at_end items ≡ None
+        → fault_of (spelled items) ≡ None }
+    ensures of_text { (bytes : List ℕ) (file : Fields) → Spells bytes file → fault_of file ≡ None }
+{}

@@ -1,0 +1,9 @@
+use Rattle.std.proofs.Common.{◌<◌, ℕ}
+use Rattle.std.specs.Prelude.{pos, slice_index_or}
+use Rattle.tsp_format.specs.Cells.{IsNode}
+use Rattle.tsp_theory.specs.Costs.{IsCostEntry}
+use Rattle.tsp_theory.proofs.costs.Costs.costs_from.Given as goal
+
+abbrev pub invariant-nodes : goal.invariant-nodes
+invariant-nodes g l = (j : ℕ) → IsNode (g.Self.Costs.nodes l.self) j → j < l.j
+    → IsCostEntry (g.Self.Costs.at l.self l.i j) (slice_index_or l.row j (pos 0))

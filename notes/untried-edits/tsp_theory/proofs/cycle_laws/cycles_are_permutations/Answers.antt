@@ -1,0 +1,5 @@
+use Rattle.tsp_theory.proofs.CycleLinks.{cycle_permutation, sum_of_cycle}
+use Rattle.tsp_theory.proofs.cycle_laws.cycles_are_permutations.Goals as goal
+
+pub returns : goal.returns
+returns c = record { permutation = cycle_permutation; sum = sum_of_cycle }

@@ -1,0 +1,5 @@
+use Rattle.tsp_theory.proofs.CycleLinks.{length_of_cycle-le}
+use Rattle.tsp_theory.proofs.cycle_laws.cycles_have_no_loops.Goals as goal
+
+pub returns : goal.returns
+returns c = length_of_cycle-le

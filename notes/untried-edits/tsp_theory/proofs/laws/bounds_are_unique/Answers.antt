@@ -1,0 +1,5 @@
+use Rattle.tsp_theory.proofs.Duality.{one_bound, one_node_bound}
+use Rattle.tsp_theory.proofs.laws.bounds_are_unique.Goals as goal
+
+pub returns : goal.returns
+returns c = record { sum = one_bound; potentials = one_node_bound }

@@ -1,0 +1,37 @@
+use Rattle.std.proofs.Common.{◌≡◌, ◌≤◌, ◌+◌, ◌-◌, ◌<◌, ℕ, sym, ap, ◌∙◌, arith, to_z}
+use Rattle.std.specs.Prelude.{ℤ, ◌+ℤ◌}
+use Rattle.std.specs.Int.{w64}
+use Rattle.std.specs.List.{range_with_len}
+use Rattle.tsp_format.specs.Cells.{nodes_to}
+use Rattle.tsp_theory.specs.Length.{length_of}
+use Rattle.tsp_theory.proofs.Lengths.{sum_fits, sum_more, length_more, length_last, run_parts, canonical}
+use Rattle.tsp_theory.proofs.length.canonical_length.Goals as goal
+
+pub nodes-preserved : goal.nodes-preserved
+nodes-preserved g c =
+    let node : ℕ = c.nodes.node in
+    let count : ℕ = c.count-count.result in
+    let so_far : ℤ = to_z w64 c.nodes.length-bits in
+    let cost = c.cost-length.ensures in
+    let few : node - 1 ≤ 1000000 = omega (arith, c.count-count.ensures.most) in
+    let steps : node + 1 - 1 ≡ node - 1 + 1 = omega arith in
+    let sum = sum_fits so_far c.cost-length.result (node - 1) few c.nodes.invariant.size cost.low cost.high in
+    let some : 0 < count - node = omega arith in
+    let less : count - (node + 1) ≡ count - node - 1 = omega arith in
+    record {
+      size = rw (sum, steps) (sum_more so_far c.cost-length.result (node - 1) c.nodes.invariant.size cost.low cost.high);
+      so_far = rw (sum, cost.value, less) (length_more (g.C.Costs.at c.args.c.now) so_far _ 1 node (node + 1) _ _ (run_parts (node + 1) (count - node) some) c.nodes.invariant.so_far);
+    }
+
+pub returns : goal.returns
+returns g c =
+    let node : ℕ = c.nodes.node in
+    let count : ℕ = c.count-count.result in
+    let so_far : ℤ = to_z w64 c.nodes.length-bits in
+    let last : node ≡ count = omega (arith, c.count-count.ensures.some) in
+    let few : node - 1 ≤ 1000000 = omega (arith, c.count-count.ensures.most) in
+    let none : count - node ≡ 0 = omega arith in
+    let sum = sum_fits so_far c.cost.result (node - 1) few c.nodes.invariant.size c.cost.ensures.low c.cost.ensures.high in
+    let whole = length_last (g.C.Costs.at c.args.c.now) so_far _ 1 node _ (ap (range_with_len (node + 1)) none) c.nodes.invariant.so_far in
+    let value : so_far +ℤ c.cost.result ≡ so_far +ℤ g.C.Costs.at c.args.c.now node 1 = ap (λ (z : ℤ). so_far +ℤ z) (c.cost.ensures.value ∙ ap (λ k. g.C.Costs.at c.args.c.now k 1) (sym last)) in
+    sum ∙ value ∙ whole ∙ sym (canonical (g.C.Costs.at c.args.c.now) count c.count-count.ensures.some) ∙ ap (λ n. length_of (g.C.Costs.at c.args.c.now) (nodes_to n)) c.count-count.ensures.value

@@ -1,0 +1,12 @@
+use Rattle.std.proofs.Common.{◌≡◌, ◌+◌, ◌-◌}
+use Rattle.std.specs.Prelude.{◌+ℤ◌}
+use Rattle.std.specs.List.{range_with_len}
+use Rattle.tsp_theory.proofs.Lengths.{length_to, IsSumOf}
+use Rattle.tsp_theory.proofs.length.canonical_length.Given as goal
+
+abbrev pub invariant-nodes : goal.invariant-nodes
+invariant-nodes g l = record {
+  size : IsSumOf (l.node - 1) l.length;
+  so_far : (l.length +ℤ length_to (g.C.Costs.at l.c) 1 l.node (range_with_len (l.node + 1) (l.count - l.node)))
+      ≡ length_to (g.C.Costs.at l.c) 1 1 (range_with_len 2 (l.count - 1));
+}

@@ -1,0 +1,12 @@
+use Rattle.std.proofs.Common.{◌≡◌, drop}
+use Rattle.std.specs.Prelude.{◌+ℤ◌}
+use Rattle.tsp_format.specs.Cells.{IsNode}
+use Rattle.tsp_theory.proofs.Lengths.{length_to, IsSumOf}
+use Rattle.tsp_theory.proofs.length.tour_length.Given as goal
+
+abbrev pub invariant-nodes : goal.invariant-nodes
+invariant-nodes g l = record {
+  from : IsNode (g.C.Costs.nodes l.c) l.from;
+  size : IsSumOf l.node-index l.length;
+  so_far : (l.length +ℤ length_to (g.C.Costs.at l.c) l.first l.from (drop l.node-index l.others)) ≡ length_to (g.C.Costs.at l.c) l.first l.first l.others;
+}

@@ -1,0 +1,62 @@
+-- Small costs, trees and duals on which the definitions are evaluated.
+use Rattle.std.specs.Prelude.{ℕ, ◌+◌, ◌-◌, ◌*◌, ◌/◌, ◌==◌, if◌then◌else◌, min, max, List, [], ◌∷◌, slice_index_or, ℤ, pos, negsuc}
+
+-- costs that are the same both ways, from those between 2 and 1, 3 and 1, 3 and 2, 4 and 1, 4 and 2, 4 and 3
+abbrev pub even_costs : List ℤ → ℕ → ℕ → ℤ
+even_costs costs i j = slice_index_or costs ((max i j - 1) * (max i j - 2) / 2 + (min i j - 1)) (pos 0)
+
+-- the points (0,0), (3,0), (3,4) and (0,4), by their straight distances
+abbrev pub rectangle_costs : List ℤ
+rectangle_costs = pos 3 ∷ pos 5 ∷ pos 4 ∷ pos 4 ∷ pos 5 ∷ pos 3 ∷ []
+
+abbrev pub rectangle : ℕ → ℕ → ℤ
+rectangle = even_costs rectangle_costs
+
+-- node 2 is at 1 from each other node, and the others are at 2 from each other; and the same with 10 taken off each cost
+abbrev pub star_costs : List ℤ
+star_costs = pos 1 ∷ pos 2 ∷ pos 1 ∷ pos 2 ∷ pos 1 ∷ pos 2 ∷ []
+
+abbrev pub star : ℕ → ℕ → ℤ
+star = even_costs star_costs
+
+abbrev pub costs_below_zero : List ℤ
+costs_below_zero = negsuc 8 ∷ negsuc 7 ∷ negsuc 8 ∷ negsuc 7 ∷ negsuc 8 ∷ negsuc 7 ∷ []
+
+abbrev pub star_below_zero : ℕ → ℕ → ℤ
+star_below_zero = even_costs costs_below_zero
+
+-- three nodes, by rows: 9999 1 10, 10 9999 2, 3 10 9999
+abbrev pub directed_costs : List ℤ
+directed_costs = pos 9999 ∷ pos 1 ∷ pos 10 ∷ pos 10 ∷ pos 9999 ∷ pos 2 ∷ pos 3 ∷ pos 10 ∷ pos 9999 ∷ []
+
+abbrev pub directed : ℕ → ℕ → ℤ
+directed i j = slice_index_or directed_costs (3 * (i - 1) + (j - 1)) (pos 0)
+
+-- two nodes at 1 from each other, each at -1 from itself
+abbrev pub with_loops : ℕ → ℕ → ℤ
+with_loops i j = if i == j then negsuc 0 else pos 1
+
+-- numbers of three and of four nodes
+abbrev pub three : ℤ → ℤ → ℤ → List ℤ
+three a b c = a ∷ b ∷ c ∷ []
+
+abbrev pub no_numbers : List ℤ
+no_numbers = three (pos 0) (pos 0) (pos 0)
+
+abbrev pub four : ℤ → ℤ → ℤ → ℤ → List ℤ
+four a b c d = a ∷ three b c d
+
+abbrev pub zeros : List ℤ
+zeros = four (pos 0) (pos 0) (pos 0) (pos 0)
+
+-- one unit on node 2
+abbrev pub one_on_two : List ℤ
+one_on_two = four (pos 0) (pos 1) (pos 0) (pos 0)
+
+-- two pairs at node 1 with these nodes, and two more pairs
+abbrev pub pairs_of : ℕ → ℕ → ℕ × ℕ → ℕ × ℕ → List (ℕ × ℕ)
+pairs_of first second p q = (1, first) ∷ (1, second) ∷ p ∷ q ∷ []
+
+-- a number on the pair 1 and 3, and one on 2 and 4
+abbrev pub on_diagonals : ℤ → ℤ → List (ℕ × ℕ × ℤ)
+on_diagonals a b = (1, 3, a) ∷ (4, 2, b) ∷ []

@@ -1,0 +1,12 @@
+-- How long a list of nodes is.
+use Rattle.std.specs.Prelude.{ℕ, List, [], ◌∷◌, ℤ, pos, ◌+ℤ◌}
+use Rattle.tsp_theory.specs.Cycle.{links}
+
+-- the sum of whole numbers over a list
+abbrev pub sum_int_by : {X : Type 0} → (X → ℤ) → List X → ℤ
+sum_int_by f [] = pos 0
+sum_int_by f (x ∷ xs) = f x +ℤ sum_int_by f xs
+
+-- the sum of the costs from each node of a list to the one that comes next, cyclically
+abbrev pub length_of : (ℕ → ℕ → ℤ) → List ℕ → ℤ
+length_of cost nodes = sum_int_by (λ link. cost link.0 link.1) (links nodes)

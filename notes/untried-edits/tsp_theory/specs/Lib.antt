@@ -1,0 +1,13 @@
+pub mod Adjusted
+pub mod Assignment
+pub mod Costs
+pub mod Cycle
+pub mod CycleExamples
+pub mod Examples
+pub mod Growth
+pub mod Length
+pub mod NodeBound
+pub mod Numbers
+pub mod Regions
+pub mod Tour
+pub mod Tree

@@ -1,0 +1,13 @@
+-- Regions of space: boxes along the axes.
+use Rattle.std.specs.Prelude.{◌≤ℤ◌}
+use Rattle.tsp_distance.specs.declared.decimal.Point.{Point}
+use Rattle.tsp_theory.specs.declared.region.Region.{Region}
+
+-- the point lies in the region
+pub record IsIn (region : Region) (p : Point) : Type 0 where
+  pub low_x : region.low.x ≤ℤ p.x
+  pub high_x : p.x ≤ℤ region.high.x
+  pub low_y : region.low.y ≤ℤ p.y
+  pub high_y : p.y ≤ℤ region.high.y
+  pub low_z : region.low.z ≤ℤ p.z
+  pub high_z : p.z ≤ℤ region.high.z

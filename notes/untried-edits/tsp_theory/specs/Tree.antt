@@ -1,0 +1,48 @@
+-- 1-trees. A tree is said by its cuts: each part of its nodes that is neither empty nor all of them is left by a pair.
+-- Source: M. Held and R. M. Karp, The traveling-salesman problem and minimum spanning trees, 1970.
+use Rattle.std.specs.Prelude.{◌≡◌, ◌≢◌, ℕ, ◌==◌, ◌<◌, ◌≤◌, Bool, true, false, not, if◌then◌else◌, List, [], ◌∷◌, length, ℤ, pos, ◌≤ℤ◌}
+use Rattle.std.specs.List.{All, list_any, filter}
+use Rattle.tsp_theory.specs.Length.{sum_int_by}
+
+-- a pair of nodes of 1..n, the smaller one first
+abbrev pub IsPair : ℕ → ℕ × ℕ → Type 0
+IsPair n pair = (1 ≤ pair.0) × (pair.0 < pair.1) × (pair.1 ≤ n)
+
+-- the nodes of 2..n
+abbrev pub IsInner : ℕ → ℕ → Type 0
+IsInner n node = (2 ≤ node) × (node ≤ n)
+
+abbrev pub is_at_one : ℕ × ℕ → Bool
+is_at_one pair = pair.0 == 1
+
+-- the pairs that aren't at node 1
+abbrev pub inner_pairs : List (ℕ × ℕ) → List (ℕ × ℕ)
+inner_pairs pairs = filter (λ pair. not (is_at_one pair)) pairs
+
+-- one end of the pair is in the part, and one isn't
+abbrev pub crosses : (ℕ → Bool) → ℕ × ℕ → Bool
+crosses part pair = if part pair.0 then not (part pair.1) else part pair.1
+
+-- 1 for two nodes of which one is in the part, else 0
+abbrev pub crossing : (ℕ → Bool) → ℕ → ℕ → ℤ
+crossing part i j = if crosses part (i, j) then pos 1 else pos 0
+
+-- A 1-tree: n pairs, of which two different ones are at node 1 and the others join the nodes 2..n.
+pub record IsOneTree (n : ℕ) (pairs : List (ℕ × ℕ)) : Type 0 where
+  pub count : length pairs ≡ n
+  pub range : All (IsPair n) pairs
+  pub first : ℕ
+  pub second : ℕ
+  pub spokes : filter is_at_one pairs ≡ (1, first) ∷ (1, second) ∷ []
+  pub differ : first ≢ second
+  pub joined : (part : ℕ → Bool) (inside outside : ℕ) → IsInner n inside → IsInner n outside
+      → part inside ≡ true → part outside ≡ false → list_any (crosses part) (inner_pairs pairs) ≡ true
+
+-- the sum of the weights of pairs
+abbrev pub weight_of : (ℕ → ℕ → ℤ) → List (ℕ × ℕ) → ℤ
+weight_of w pairs = sum_int_by (λ pair. w pair.0 pair.1) pairs
+
+-- a 1-tree, and no 1-tree weighs less
+pub record IsLeastOneTree (n : ℕ) (w : ℕ → ℕ → ℤ) (pairs : List (ℕ × ℕ)) : Type 0 where
+  pub tree : IsOneTree n pairs
+  pub least : (others : List (ℕ × ℕ)) → IsOneTree n others → weight_of w pairs ≤ℤ weight_of w others

@@ -1,0 +1,49 @@
+//! What holds of the costs between nodes, wherever they come from.
+
+ghost use Rattle.std.specs.Prelude.{◌≡◌, ◌≢◌, ◌≤◌, ◌+◌, ℕ, ℤ, length, pos, neg_ℤ, ◌≤ℤ◌};
+ghost use Rattle.tsp_format.specs.Cells.{IsNode};
+ghost use Rattle.tsp_format.specs.Limits.{most_nodes, most_weight};
+ghost use Rattle.tsp_theory.specs.Costs.{IsCostRow};
+
+/// Costs between the nodes 1 to `count`.
+pub trait Costs {
+    ghost nodes: { Self → ℕ };
+
+    ghost at: { Self → ℕ → ℕ → ℤ };
+
+    /// How many nodes there are: 1 to 100,000.
+    fn count(&self) -> u32
+        ensures value { result ≡ nodes self.now }
+        ensures some { 1 ≤ result }
+        ensures most { result ≤ most_nodes };
+
+    /// The cost from one node to another, at most 10^12 in size; the same at each call.
+    ///
+    /// The caller owes nodes of 1 to `count`. They may be the same node.
+    fn cost(&self, i: u32, j: u32) -> i64
+        requires from { IsNode (nodes self.now) i }
+        requires to { IsNode (nodes self.now) j }
+        ensures value { result ≡ at self.now i j }
+        ensures low { neg_ℤ (pos most_weight) ≤ℤ result }
+        ensures high { result ≤ℤ pos most_weight };
+
+    /// Writes the costs from a node to each into a row, each at the place of its node.
+    ///
+    /// The caller owes a node of 1 to `count`, and a row of one place more than there are nodes.
+    fn costs_from(&self, i: u32, row: &mut [i64])
+        requires from { IsNode (nodes self.now) i }
+        requires room { length row.old ≡ nodes self.now + 1 }
+        ensures values { IsCostRow (nodes self.now) (at self.now i) row.new }
+    {
+        'nodes: for j in 1..self.count() + 1 {
+            row[j as usize] = self.cost(i, j);
+        }
+    }
+}
+
+/// Costs that are the same both ways between different nodes.
+pub trait Symmetric: Costs {
+    ghost use Rattle.tsp_theory.specs.Costs.{IsSymmetric};
+
+    ghost even: { (costs : Self) → IsSymmetric (Self.at costs) };
+}

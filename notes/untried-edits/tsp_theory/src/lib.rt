@@ -1,0 +1,27 @@
+//! What tours, their lengths and their lower bounds are, over any costs: Hamiltonian cycles, tours,
+//! lengths, 1-trees and duals, and the theorem that no cycle is shorter than the bound of a certificate.
+//! The only code here is the traits of costs and the sums of lengths.
+#![tactic(auto)]
+
+mod costs;
+mod cycle_examples;
+mod cycle_laws;
+mod examples;
+mod grouped;
+mod laws;
+mod length;
+mod region;
+
+pub use costs::{Costs, Symmetric};
+pub use cycle_examples::examples_of_cycles;
+pub use cycle_laws::{cycles_are_permutations, cycles_have_no_loops, lengths_add_up};
+pub use examples::{
+    examples_of_duals, examples_of_multipliers, examples_of_numbers, examples_of_trees,
+};
+pub use grouped::Grouped;
+pub use laws::{
+    adjusted_bounds_bound_cycles, bounds_are_unique, duals_bound_cycles,
+    least_trees_are_below_cycles, node_bounds_bound_cycles,
+};
+pub use length::{canonical_length, tour_length, trace_tours};
+pub use region::Region;

@@ -1,0 +1,97 @@
+//! Regions of space: boxes along the axes.
+
+ghost use Rattle.std.specs.Prelude.{◌≤◌, ◌≤ℤ◌, ◌-ℤ◌, ℤ, unsigned_abs};
+
+use tsp_distance::{Decimal, Point};
+
+/// A box in space, by the corners with its lowest and with its highest coordinates.
+#[derive(Clone, Copy, Debug)]
+pub struct Region {
+    /// Its lowest coordinates.
+    pub low: Point,
+    /// Its highest coordinates.
+    pub high: Point,
+}
+
+impl Region {
+    ghost use Rattle.tsp_distance.specs.declared.decimal.Point.{Point};
+    ghost use Rattle.tsp_distance.specs.Distances.{across, along, above};
+    ghost use Rattle.tsp_theory.specs.Regions.{IsIn};
+
+    /// The region of a single point.
+    #[inline]
+    pub fn of(point: Point) -> Region
+        ensures { IsIn result point }
+    {
+        let high = point;
+        Region { low: point, high }
+    }
+
+    /// A region that holds what either region holds.
+    #[inline]
+    pub fn joined(self, other: Region) -> Region
+        ensures left { (p : Point) → IsIn self p → IsIn result p }
+        ensures right { (p : Point) → IsIn other p → IsIn result p }
+    {
+        Region {
+            low: Point {
+                x: lower(self.low.x, other.low.x),
+                y: lower(self.low.y, other.low.y),
+                z: lower(self.low.z, other.low.z),
+            },
+            high: Point {
+                x: higher(self.high.x, other.high.x),
+                y: higher(self.high.y, other.high.y),
+                z: higher(self.high.z, other.high.z),
+            },
+        }
+    }
+
+    /// The point of the region that is nearest to a point, along each axis.
+    #[inline]
+    pub fn nearest(self, from: &Point) -> Point
+        ensures across { (p : Point) → IsIn self p → across from.now result ≤ across from.now p }
+        ensures along { (p : Point) → IsIn self p → along from.now result ≤ along from.now p }
+        ensures above { (p : Point) → IsIn self p → above from.now result ≤ above from.now p }
+    {
+        let Region { low, high } = self;
+        Point {
+            x: clamped(from.x, low.x, high.x),
+            y: clamped(from.y, low.y, high.y),
+            z: clamped(from.z, low.z, high.z),
+        }
+    }
+}
+
+/// A number that is no larger than either.
+#[inline]
+fn lower(a: Decimal, b: Decimal) -> Decimal
+    ensures first { result ≤ℤ a }
+    ensures second { result ≤ℤ b }
+{
+    if a.count() < b.count() { a } else { b }
+}
+
+/// A number that is no smaller than either.
+#[inline]
+fn higher(a: Decimal, b: Decimal) -> Decimal
+    ensures first { a ≤ℤ result }
+    ensures second { b ≤ℤ result }
+{
+    if a.count() < b.count() { b } else { a }
+}
+
+/// The number of a range that is nearest to `x`.
+#[inline]
+fn clamped(x: Decimal, low: Decimal, high: Decimal) -> Decimal
+    ensures { (p : ℤ) → low ≤ℤ p → p ≤ℤ high
+        → unsigned_abs (x -ℤ result) ≤ unsigned_abs (x -ℤ p) }
+{
+    if x.count() < low.count() {
+        low
+    } else if high.count() < x.count() {
+        high
+    } else {
+        x
+    }
+}

@@ -1,0 +1,68 @@
+//! The program `tsp`, which shows, converts and checks TSPLIB 95 files.
+//!
+//! It has the calls of the host alone: the words of the command line, the opening of files, and the
+//! streams. All else is tsp_run's. What a task writes goes to standard output.
+#![tactic(auto)]
+
+ghost use Rattle.tsp_run.specs.Source.{IsSourceOf};
+
+use std::fs::File;
+use std::io::IsTerminal;
+use std::process::ExitCode;
+use std::rt::Stdin;
+use std::{env, fs, io};
+use tsp_run::{Open, Place, Source, Watched, run, tell_unread};
+
+fn main(rt: HostRuntime) -> ExitCode {
+    let mut out = Watched::new(rt.stdout());
+    let mut errors = rt.stderr();
+    let on_terminal = errors.is_terminal();
+    // Where the reason can't be written, the status alone tells it.
+    let (status, _) = match words_of_line(&rt) {
+        Ok(line) => run(
+            rt.alloc(),
+            &line,
+            &Host { rt: &rt },
+            &mut out,
+            &mut errors,
+            on_terminal,
+        ),
+        Err(error) => tell_unread(rt.alloc(), &error, &mut errors),
+    };
+    ExitCode::from(status)
+}
+
+/// The words of the command line, the program's own name first. The error is out of memory, or a
+/// word that is no text.
+fn words_of_line(rt: &HostRuntime) -> io::Result<Vec<String>> {
+    let words = env::args(rt)?.collect(rt.alloc())?;
+    Ok(words)
+}
+
+/// The files and the standard input of the host.
+#[derive(Drop)]
+struct Host<'a> {
+    rt: &'a HostRuntime,
+}
+
+impl Open<Source<Stdin, File>> for Host<'_> {
+    ghost opens = { λ host place source. IsSourceOf place source };
+
+    fn open(&self, place: Place<'_>) -> Source<Stdin, File> {
+        match place {
+            Place::Input => Source::Input(self.rt.stdin()),
+            Place::Path(path) => Source::of(fs::open(self.rt, path)),
+        }
+    }
+
+    /// A pipe or a device gives its bytes once, and to open one could wait for ever.
+    fn open_again(&self, path: &str) -> Option<Source<Stdin, File>> {
+        match fs::metadata(self.rt, path) {
+            Ok(found) if found.is_file() || found.is_dir() => {
+                Some(Source::of(fs::open(self.rt, path)))
+            }
+            Ok(_) => None,
+            Err(error) => Some(Source::Missing(error)),
+        }
+    }
+}

@@ -1,0 +1,138 @@
+-- The bounds of a certificate, carried to costs that are the same between all nodes.
+use Rattle.std.proofs.Common.{◌≡◌, ℕ, List, [], ◌∷◌, get_or, inl, inr, refl, sym, ap, ap₂, subst, subst₂, ◌∙◌, arith}
+use Rattle.std.specs.Prelude.{Some, ◌≤◌, length, unwrap_or, ℤ, ◌+ℤ◌, ◌-ℤ◌, ◌*ℤ◌, ◌≤ℤ◌, ◌<ℤ◌}
+use Rattle.std.specs.List.{All}
+use Rattle.std.proofs.lemmas.List.Elements.{All-contains}
+use Rattle.tsp_draft.specs.Fields.{Fields}
+use Rattle.tsp_file.specs.Cost.{cost}
+use Rattle.tsp_theory.specs.Costs.{IsSymmetric}
+use Rattle.tsp_theory.specs.Length.{length_of}
+use Rattle.tsp_theory.specs.Tour.{Uses}
+use Rattle.tsp_cost.specs.Tours.{is_directed}
+use Rattle.tsp_cost.specs.Views.{HasCosts}
+use Rattle.tsp_theory.specs.Cycle.{IsCycle, AreNeighbours}
+use Rattle.tsp_format.specs.declared.kinds.Kind.TheVariants as kinds
+use Rattle.tsp_theory.specs.Numbers.{IsScale, entry, IsBoundSized}
+use Rattle.tsp_theory.specs.Tree.{weight_of, IsLeastOneTree}
+use Rattle.tsp_theory.specs.NodeBound.{weight_between}
+use Rattle.tsp_theory.specs.Adjusted.{pair_of, numbers_on, adjusted, UsesEach, IsAdjustedBoundOf, IsAdjustedBound, AdjustedBoundsBoundCycles}
+use Rattle.tsp_theory.specs.Assignment.{AreGood, IsFirstBroken, IsDualBound, DualsBoundCycles}
+use Rattle.tsp_reason.specs.declared.verdict.Reason.TheVariants.{DualInfeasible}
+use Rattle.tsp_verdict.specs.Multiplied.{AreListed}
+use Rattle.tsp_verdict.specs.Solution.{nodes_of, fixed_of}
+use Rattle.tsp_verdict.specs.Certificate.{scale_in, potentials_in, rows_in, columns_in, multipliers_in, StandsAgainstPotentials}
+use Rattle.tsp_verdict.specs.Certified.{IsBoundBy, IsCertified}
+use Rattle.tsp_reason.specs.declared.certificate.Certificate.TheVariants.{Potentials}
+
+abbrev pub Same : (ℕ → ℕ → ℤ) → (ℕ → ℕ → ℤ) → Type 0
+Same v w = (i j : ℕ) → v i j ≡ w i j
+
+pub weights_same : (v w : ℕ → ℕ → ℤ) → Same v w → (pairs : List (ℕ × ℕ)) → weight_of v pairs ≡ weight_of w pairs
+weights_same v w same [] = refl
+weights_same v w same (pair ∷ pairs) = ap₂ (λ a b. a +ℤ b) (same pair.0 pair.1) (weights_same v w same pairs)
+
+pub least_same : (n : ℕ) (v w : ℕ → ℕ → ℤ) → Same v w → (pairs : List (ℕ × ℕ)) → IsLeastOneTree n v pairs → IsLeastOneTree n w pairs
+least_same n v w same pairs found = record {
+  tree = found.tree;
+  least = λ others tree. subst₂ (λ a b. a ≤ℤ b) (weights_same v w same pairs) (weights_same v w same others) (found.least others tree);
+}
+
+pub bound_same : (n : ℕ) (a b : ℕ → ℕ → ℤ) (scale : ℤ) (potentials : List ℤ) (triples : List (ℕ × ℕ × ℤ)) (bound : ℤ) → Same a b
+    → IsAdjustedBound n a scale potentials triples [] bound → IsAdjustedBound n b scale potentials triples [] bound
+bound_same n a b scale potentials triples bound same found =
+    let v = adjusted triples [] (weight_between scale potentials a) in
+    let w = adjusted triples [] (weight_between scale potentials b) in
+    let between : Same v w = λ i j. ap (λ c. (((scale *ℤ c) +ℤ (entry potentials i +ℤ entry potentials j)) -ℤ numbers_on triples i j) +ℤ numbers_on [] i j) (same i j) in
+    record {
+      tree = found.tree;
+      least = least_same n v w between found.tree found.least;
+      bound_is = subst (λ weight. IsAdjustedBoundOf scale potentials triples weight bound) (weights_same v w between found.tree) found.bound_is;
+    }
+
+-- a tour of a TSP uses each pair that is listed as fixed
+listed_used : (nodes : List ℕ) (pairs : List (ℕ × ℕ)) (triples : List (ℕ × ℕ × ℤ)) → All (AreNeighbours nodes) pairs → AreListed pairs triples → UsesEach triples nodes
+listed_used nodes pairs triples used listed k d lt = elim (listed k d lt) [
+  | inl here ↦ All-contains (AreNeighbours nodes) pairs (pair_of (get_or triples k d)) used here
+  | inr back ↦ turned (All-contains (AreNeighbours nodes) pairs ((get_or triples k d).1, (get_or triples k d).0) used back)
+]
+  where
+    turned : AreNeighbours nodes ((get_or triples k d).1, (get_or triples k d).0) → AreNeighbours nodes (pair_of (get_or triples k d))
+    turned (inl next) = inr next
+    turned (inr next) = inl next
+
+-- costs that are the same as those that an instance keeps
+pub keeps_on : (f : Fields) (m n : ℕ) (a b : ℕ → ℕ → ℤ) → m ≡ n → Same a b → HasCosts f n b → HasCosts f m a
+keeps_on f m n a b same_count same keeps = record {
+  count = keeps.count ∙ ap Some (sym same_count);
+  every = λ i j. same i j ∙ keeps.every i j;
+}
+
+-- the bound that a view's costs give is that of the certificate
+pub certified : (inst pot : Fields) (n : ℕ) (costs : ℕ → ℕ → ℤ) (scale : ℤ) (potentials : List ℤ) (triples : List (ℕ × ℕ × ℤ)) (bound : ℤ) → AdjustedBoundsBoundCycles
+    → triples ≡ multipliers_in pot → AreListed (fixed_of inst) (multipliers_in pot) → inst.kind ≡ Some kinds.Tsp → IsSymmetric (cost inst) → 3 ≤ nodes_of inst
+    → IsScale scale → scale ≡ scale_in pot → potentials ≡ potentials_in pot → length potentials ≡ nodes_of inst
+    → HasCosts inst n costs → IsAdjustedBound n costs scale potentials triples [] bound × IsBoundSized bound → IsCertified Potentials inst pot bound
+certified inst pot n costs scale potentials triples bound law triples_are listed kind even some scale_is scale_in_is potentials_are count keeps found =
+    let same : nodes_of inst ≡ n = ap (λ o. unwrap_or o 0) keeps.count in
+    let here : IsAdjustedBound (nodes_of inst) (cost inst) scale potentials triples [] bound =
+    subst (λ m. IsAdjustedBound m (cost inst) scale potentials triples [] bound) (sym same) (bound_same n costs (cost inst) scale potentials triples bound keeps.every found.0) in
+    let by_numbers : IsAdjustedBound (nodes_of inst) (cost inst) (scale_in pot) (potentials_in pot) triples [] bound =
+    subst₂ (λ s p. IsAdjustedBound (nodes_of inst) (cost inst) s p triples [] bound) scale_in_is potentials_are here in
+    let by_certificate : IsAdjustedBound (nodes_of inst) (cost inst) (scale_in pot) (potentials_in pot) (multipliers_in pot) [] bound =
+    subst (λ ts. IsAdjustedBound (nodes_of inst) (cost inst) (scale_in pot) (potentials_in pot) ts [] bound) triples_are by_numbers in
+    let cycles : (nodes : List ℕ) → IsCycle (nodes_of inst) nodes → UsesEach (multipliers_in pot) nodes → bound ≤ℤ length_of (cost inst) nodes = λ nodes cycle used.
+    law (nodes_of inst) (cost inst) scale potentials triples [] bound nodes some even scale_is count here cycle
+    (subst (λ ts. UsesEach ts nodes) (sym triples_are) used) (λ k d lt. absurd (omega arith)) in (
+      subst (λ k. IsBoundBy Potentials k inst pot bound) (sym kind) by_certificate,
+      λ nodes tour. cycles nodes tour.cycle (listed_used nodes (fixed_of inst) (multipliers_in pot) (subst (λ k. All (Uses (is_directed k) nodes) (fixed_of inst)) kind tour.fixed_used) listed),
+      found.1,
+    )
+
+-- ---- duals
+
+good_same : (n : ℕ) (a b : ℕ → ℕ → ℤ) (scale : ℤ) (rows columns : List ℤ) → Same a b → AreGood n a scale rows columns → AreGood n b scale rows columns
+good_same n a b scale rows columns same good i j row column other =
+    subst (λ c. (entry rows i +ℤ entry columns j) ≤ℤ (scale *ℤ c)) (same i j) (good i j row column other)
+
+broken_same : (n : ℕ) (a b : ℕ → ℕ → ℤ) (scale : ℤ) (rows columns : List ℤ) (i j : ℕ) → Same a b → IsFirstBroken n a scale rows columns i j → IsFirstBroken n b scale rows columns i j
+broken_same n a b scale rows columns i j same pair = record {
+  row = pair.row;
+  column = pair.column;
+  other = pair.other;
+  broken = subst (λ c. (scale *ℤ c) <ℤ (entry rows i +ℤ entry columns j)) (same i j) pair.broken;
+  first = λ k l row column other before. subst (λ c. (entry rows k +ℤ entry columns l) ≤ℤ (scale *ℤ c)) (same k l) (pair.first k l row column other before);
+}
+
+-- duals that are those of the certificate
+pub record AreOf (pot : Fields) (scale : ℤ) (rows columns : List ℤ) : Type 0 where
+  pub scale_is : scale ≡ scale_in pot
+  pub rows_are : rows ≡ rows_in pot
+  pub columns_are : columns ≡ columns_in pot
+
+-- the bound that a view's costs give is that of the certificate
+pub assigned : (inst pot : Fields) (n : ℕ) (costs : ℕ → ℕ → ℤ) (scale : ℤ) (rows columns : List ℤ) (bound : ℤ) → DualsBoundCycles → inst.kind ≡ Some kinds.Atsp → 3 ≤ nodes_of inst → IsScale scale
+    → AreOf pot scale rows columns → length rows ≡ nodes_of inst → length columns ≡ nodes_of inst → HasCosts inst n costs
+    → AreGood n costs scale rows columns × IsDualBound scale rows columns bound → IsBoundSized bound → IsCertified Potentials inst pot bound
+assigned inst pot n costs scale rows columns bound law kind some scaled are as_rows as_columns keeps found small =
+    let nodes : nodes_of inst ≡ n = ap (λ o. unwrap_or o 0) keeps.count in
+    let good : AreGood (nodes_of inst) (cost inst) scale rows columns =
+    subst (λ m. AreGood m (cost inst) scale rows columns) (sym nodes) (good_same n costs (cost inst) scale rows columns keeps.every found.0) in
+    let by_certificate : AreGood (nodes_of inst) (cost inst) (scale_in pot) (rows_in pot) (columns_in pot) × IsDualBound (scale_in pot) (rows_in pot) (columns_in pot) bound =
+    subst (λ s. AreGood (nodes_of inst) (cost inst) s (rows_in pot) (columns_in pot) × IsDualBound s (rows_in pot) (columns_in pot) bound) are.scale_is
+    (subst₂ (λ r c. AreGood (nodes_of inst) (cost inst) scale r c × IsDualBound scale r c bound) are.rows_are are.columns_are (good, found.1)) in (
+      subst (λ k. IsBoundBy Potentials k inst pot bound) (sym kind) by_certificate,
+      λ cycle tour. law (nodes_of inst) (cost inst) scale rows columns bound cycle (omega (arith, some)) scaled as_rows as_columns good found.1 tour.cycle,
+      small,
+    )
+
+-- and so is the first pair that breaks them
+pub broken_stands : (inst pot : Fields) (n : ℕ) (costs : ℕ → ℕ → ℤ) (scale : ℤ) (rows columns : List ℤ) (i j : ℕ) → inst.kind ≡ Some kinds.Atsp
+    → AreOf pot scale rows columns → HasCosts inst n costs → IsFirstBroken n costs scale rows columns i j → StandsAgainstPotentials inst pot (DualInfeasible i j)
+broken_stands inst pot n costs scale rows columns i j kind are keeps pair =
+    let nodes : nodes_of inst ≡ n = ap (λ o. unwrap_or o 0) keeps.count in
+    let here : IsFirstBroken (nodes_of inst) (cost inst) scale rows columns i j =
+    subst (λ m. IsFirstBroken m (cost inst) scale rows columns i j) (sym nodes) (broken_same n costs (cost inst) scale rows columns i j keeps.every pair) in (
+      kind,
+      subst (λ s. IsFirstBroken (nodes_of inst) (cost inst) s (rows_in pot) (columns_in pot) i j) are.scale_is
+          (subst₂ (λ r c. IsFirstBroken (nodes_of inst) (cost inst) scale r c i j) are.rows_are are.columns_are here),
+    )

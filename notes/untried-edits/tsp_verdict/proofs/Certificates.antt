@@ -1,0 +1,199 @@
+-- Reasons against a certificate, ruled out one by one, and how they join those against the tour.
+use Rattle.std.proofs.Common.{◌≡◌, ℕ, ◌-◌, ◌<◌, ◌≤◌, true, false, List, Option, None, Some, refl, ap, sym, subst, subst₂, ◌∙◌, arith, inl, inr}
+use Rattle.std.specs.Prelude.{◌⊎◌, ℤ, pos, IsTrue}
+use Rattle.std.specs.List.{All, AllPairs}
+use Rattle.std.proofs.lemmas.Bool.{false≢true}
+use Rattle.std.proofs.Math.Nat.{lt_of_not-le}
+use Rattle.tsp_format.specs.Cells.{IsNode}
+use Rattle.tsp_format.specs.declared.kinds.Kind.TheVariants as kinds
+use Rattle.tsp_draft.specs.Fields.{Fields}
+use Rattle.tsp_draft.specs.Rules.{is_certificate}
+use Rattle.tsp_theory.specs.Adjusted.{pair_of, is_same_pair, AreOnPairs}
+use Rattle.tsp_reason.specs.declared.verdict.Reason.{Reason}
+use Rattle.tsp_reason.specs.declared.verdict.Reason.TheVariants.{TooFewNodes, NotPotentials, PotentialsDimension, PotentialsKind, MultiplierNotFixed, MultiplierRepeated, DualInfeasible, DepotCount, DepotDemand, FixedEdgesInRoutes, DepotInRoute, Unserved, Overload, NotBranches, BranchesDimension, BadComb, BranchTwice, BadLeaf}
+use Rattle.tsp_verdict.specs.Multiplied.{AreListed, IsUnlisted, IsPairRepeated, pair_at}
+use Rattle.tsp_verdict.specs.Places.{IsFirstPlace}
+use Rattle.tsp_verdict.specs.Reasons.{NoneBefore, IsFirstReason}
+use Rattle.tsp_verdict.specs.Solution.{nodes_of, fixed_of}
+use Rattle.tsp_verdict.specs.Tours.{rank_of_tours}
+use Rattle.tsp_verdict.specs.Tours.{IsFirstAgainstTour, StandsAgainstTour}
+use Rattle.tsp_verdict.specs.Certificate.{has_wanted, multipliers_in, StandsAgainstPotentials}
+use Rattle.tsp_verdict.specs.Certified.{is_bounded, IsBoundBy, StandsAgainstCertificate, StandsAgainstCertified, IsFirstAgainstCertified}
+use Rattle.tsp_verdict.specs.Tree.{IsBoundByTree}
+use Rattle.tsp_reason.specs.declared.certificate.Certificate.{Certificate}
+use Rattle.tsp_reason.specs.declared.certificate.Certificate.TheVariants.{Potentials, Branches}
+use Rattle.tsp_format.specs.declared.kinds.Kind.{Kind}
+
+-- ---- against the certificate alone
+
+-- what is known before a rank rules out the reasons before it
+pub none_before : (inst pot : Fields) (rank : ℕ) → (10 < rank → is_certificate pot.kind ≡ true) → (11 < rank → nodes_of pot ≡ nodes_of inst)
+    → (12 < rank → has_wanted inst.kind pot ≡ true) → (13 < rank → (index : ℕ) → StandsAgainstPotentials inst pot (MultiplierNotFixed index) → ⊥)
+    → (14 < rank → (index : ℕ) → StandsAgainstPotentials inst pot (MultiplierRepeated index) → ⊥)
+    → (15 < rank → (i j : ℕ) → StandsAgainstPotentials inst pot (DualInfeasible i j) → ⊥) → NoneBefore (StandsAgainstPotentials inst pot) rank_of_tours rank
+none_before inst pot rank sort size wanted fixed once good NotPotentials low stands = false≢true (sym stands ∙ sort low)
+none_before inst pot rank sort size wanted fixed once good PotentialsDimension low stands = stands (size low)
+none_before inst pot rank sort size wanted fixed once good PotentialsKind low stands = false≢true (sym stands ∙ wanted low)
+none_before inst pot rank sort size wanted fixed once good (MultiplierNotFixed index) low stands = fixed low index stands
+none_before inst pot rank sort size wanted fixed once good (MultiplierRepeated index) low stands = once low index stands
+none_before inst pot rank sort size wanted fixed once good (DualInfeasible i j) low stands = good low i j stands
+none_before inst pot rank sort size wanted fixed once good reason low stands = stands
+
+-- all six are ruled out
+pub none_stands : (inst pot : Fields) → is_certificate pot.kind ≡ true → nodes_of pot ≡ nodes_of inst → has_wanted inst.kind pot ≡ true
+    → ((index : ℕ) → StandsAgainstPotentials inst pot (MultiplierNotFixed index) → ⊥) → ((index : ℕ) → StandsAgainstPotentials inst pot (MultiplierRepeated index) → ⊥)
+    → ((i j : ℕ) → StandsAgainstPotentials inst pot (DualInfeasible i j) → ⊥) → (reason : Reason) → StandsAgainstPotentials inst pot reason → ⊥
+none_stands inst pot sort size wanted fixed once good NotPotentials stands = false≢true (sym stands ∙ sort)
+none_stands inst pot sort size wanted fixed once good PotentialsDimension stands = stands size
+none_stands inst pot sort size wanted fixed once good PotentialsKind stands = false≢true (sym stands ∙ wanted)
+none_stands inst pot sort size wanted fixed once good (MultiplierNotFixed index) stands = fixed index stands
+none_stands inst pot sort size wanted fixed once good (MultiplierRepeated index) stands = once index stands
+none_stands inst pot sort size wanted fixed once good (DualInfeasible i j) stands = good i j stands
+none_stands inst pot sort size wanted fixed once good reason stands = stands
+
+-- each multiplier is on a fixed pair
+pub none_unlisted : (inst pot : Fields) → AreListed (fixed_of inst) (multipliers_in pot) → (index : ℕ) → StandsAgainstPotentials inst pot (MultiplierNotFixed index) → ⊥
+none_unlisted inst pot listed index stands = stands.1.holds (listed (index - 1) (0, 0, pos 0) (omega (arith, stands.1.here.0, stands.1.here.1)))
+
+-- no two are on the same
+pub none_repeated : (n : ℕ) (inst pot : Fields) → AreOnPairs n (multipliers_in pot) → (index : ℕ) → StandsAgainstPotentials inst pot (MultiplierRepeated index) → ⊥
+none_repeated n inst pot are index stands =
+    let again = stands.1.holds in
+    let apart : is_same_pair (pair_at (multipliers_in pot) again.0) (pair_at (multipliers_in pot) index) ≡ false =
+    are.differ (again.0 - 1) (index - 1) (0, 0, pos 0) (omega (arith, again.1, again.2)) (omega (arith, stands.1.here.0, stands.1.here.1)) in
+    false≢true (sym apart ∙ again.3)
+
+-- the first multiplier that isn't on a fixed pair is the first reason
+pub not_fixed : (inst pot : Fields) (fixed : List (ℕ × ℕ)) (triples : List (ℕ × ℕ × ℤ)) (index : ℕ) → fixed ≡ fixed_of inst → triples ≡ multipliers_in pot
+    → inst.kind ≡ Some kinds.Tsp → is_certificate pot.kind ≡ true
+    → nodes_of pot ≡ nodes_of inst → has_wanted (Some kinds.Tsp) pot ≡ true → IsFirstPlace (IsUnlisted fixed triples) triples index
+    → IsFirstReason (StandsAgainstPotentials inst pot) rank_of_tours (MultiplierNotFixed index)
+not_fixed inst pot fixed triples index fixed_are triples_are kind sort size wanted first = record {
+  stands = (kind, subst₂ (λ fs ts. IsFirstPlace (IsUnlisted fs ts) ts index) fixed_are triples_are first);
+  none_before = none_before inst pot 13 (λ low. sort) (λ low. size) (λ low. rw kind wanted) (λ low. absurd (omega (arith, low)))
+      (λ low. absurd (omega (arith, low))) (λ low. absurd (omega (arith, low)));
+}
+
+-- where all are on fixed pairs, so is the first one on the pair of an earlier one
+pub repeats : (inst pot : Fields) (fixed : List (ℕ × ℕ)) (triples : List (ℕ × ℕ × ℤ)) (index : ℕ) → fixed ≡ fixed_of inst → triples ≡ multipliers_in pot
+    → inst.kind ≡ Some kinds.Tsp → is_certificate pot.kind ≡ true
+    → nodes_of pot ≡ nodes_of inst → has_wanted (Some kinds.Tsp) pot ≡ true → AreListed fixed triples → IsFirstPlace (IsPairRepeated triples) triples index
+    → IsFirstReason (StandsAgainstPotentials inst pot) rank_of_tours (MultiplierRepeated index)
+repeats inst pot fixed triples index fixed_are triples_are kind sort size wanted listed first = record {
+  stands = (kind, subst (λ ts. IsFirstPlace (IsPairRepeated ts) ts index) triples_are first);
+  none_before = none_before inst pot 14 (λ low. sort) (λ low. size) (λ low. rw kind wanted)
+      (λ low. none_unlisted inst pot (subst₂ (λ fs ts. AreListed fs ts) fixed_are triples_are listed)) (λ low. absurd (omega (arith, low)))
+      (λ low. absurd (omega (arith, low)));
+}
+
+-- what is found where neither stands
+pub multiplied : (inst pot : Fields) (fixed : List (ℕ × ℕ)) (triples : List (ℕ × ℕ × ℤ)) → fixed ≡ fixed_of inst → triples ≡ multipliers_in pot → nodes_of pot ≡ nodes_of inst
+    → All (λ triple. IsNode (nodes_of pot) triple.0 × IsNode (nodes_of pot) triple.1) triples → AreListed fixed triples → AllPairs (λ s t. is_same_pair (pair_of s) (pair_of t) ≡ false) triples
+    → AreOnPairs (nodes_of inst) (multipliers_in pot) × AreListed (fixed_of inst) (multipliers_in pot)
+multiplied inst pot fixed triples fixed_are triples_are size nodes listed apart =
+    let on_pairs : AreOnPairs (nodes_of pot) triples = record { nodes = nodes; differ = apart } in
+    (subst₂ (λ n ts. AreOnPairs n ts) size triples_are on_pairs, subst₂ (λ fs ts. AreListed fs ts) fixed_are triples_are listed)
+
+-- no reason stands against a certificate of a TSP whose multipliers are on different fixed pairs
+pub none_of_tsp : (inst pot : Fields) → inst.kind ≡ Some kinds.Tsp → is_certificate pot.kind ≡ true → nodes_of pot ≡ nodes_of inst → has_wanted inst.kind pot ≡ true
+    → AreOnPairs (nodes_of inst) (multipliers_in pot) → AreListed (fixed_of inst) (multipliers_in pot) → (reason : Reason) → StandsAgainstPotentials inst pot reason → ⊥
+none_of_tsp inst pot kind sort size wanted on_pairs listed =
+    none_stands inst pot sort size wanted (none_unlisted inst pot listed) (none_repeated (nodes_of inst) inst pot on_pairs) (λ i j stands. other (sym kind ∙ stands.0))
+  where
+    other : Some kinds.Tsp ≡ Some kinds.Atsp → ⊥
+    other e = cc
+
+-- ---- with those against the tour
+
+pub tour_rank : (inst sol : Fields) (reason : Reason) → StandsAgainstTour inst sol reason → rank_of_tours reason < 10
+tour_rank inst sol NotPotentials stands = absurd stands
+tour_rank inst sol PotentialsDimension stands = absurd stands
+tour_rank inst sol PotentialsKind stands = absurd stands
+tour_rank inst sol (MultiplierNotFixed index) stands = absurd stands
+tour_rank inst sol (MultiplierRepeated index) stands = absurd stands
+tour_rank inst sol (DualInfeasible i j) stands = absurd stands
+tour_rank inst sol DepotCount stands = absurd stands
+tour_rank inst sol DepotDemand stands = absurd stands
+tour_rank inst sol FixedEdgesInRoutes stands = absurd stands
+tour_rank inst sol (DepotInRoute place) stands = absurd stands
+tour_rank inst sol (Unserved node) stands = absurd stands
+tour_rank inst sol (Overload route) stands = absurd stands
+tour_rank inst sol NotBranches stands = absurd stands
+tour_rank inst sol BranchesDimension stands = absurd stands
+tour_rank inst sol (BadComb index) stands = absurd stands
+tour_rank inst sol (BranchTwice index) stands = absurd stands
+tour_rank inst sol (BadLeaf index) stands = absurd stands
+tour_rank inst sol reason stands = omega arith
+
+certificate_rank : (by : Certificate) (inst cert : Fields) (reason : Reason) → StandsAgainstCertificate by inst cert reason → 10 ≤ rank_of_tours reason
+certificate_rank Potentials inst cert NotPotentials stands = omega arith
+certificate_rank Potentials inst cert PotentialsDimension stands = omega arith
+certificate_rank Potentials inst cert PotentialsKind stands = omega arith
+certificate_rank Potentials inst cert (MultiplierNotFixed index) stands = omega arith
+certificate_rank Potentials inst cert (MultiplierRepeated index) stands = omega arith
+certificate_rank Potentials inst cert (DualInfeasible i j) stands = omega arith
+certificate_rank Potentials inst cert reason stands = absurd stands
+certificate_rank Branches inst cert NotBranches stands = omega arith
+certificate_rank Branches inst cert BranchesDimension stands = omega arith
+certificate_rank Branches inst cert (BadComb index) stands = omega arith
+certificate_rank Branches inst cert (BranchTwice index) stands = omega arith
+certificate_rank Branches inst cert (BadLeaf index) stands = omega arith
+certificate_rank Branches inst cert reason stands = absurd stands
+
+-- the first reason against the tour is the first of all
+pub tour_first : (by : Certificate) (inst sol cert : Fields) (reason : Reason) → IsFirstAgainstTour inst sol reason → IsFirstAgainstCertified by inst sol cert reason
+tour_first by inst sol cert reason first = record {
+  stands = inl first.stands;
+  none_before = λ other low stands. by_side other low stands;
+}
+  where
+    by_side : (other : Reason) → rank_of_tours other < rank_of_tours reason → StandsAgainstTour inst sol other ⊎ StandsAgainstCertificate by inst cert other → ⊥
+    by_side other low (inl stands) = first.none_before other low stands
+    by_side other low (inr stands) = omega (arith, low, tour_rank inst sol reason first.stands, certificate_rank by inst cert other stands)
+
+-- where none stands against the tour, the first against the certificate is the first of all
+pub certificate_first : (by : Certificate) (inst sol cert : Fields) (reason : Reason) → ((other : Reason) → StandsAgainstTour inst sol other → ⊥)
+    → IsFirstReason (StandsAgainstCertificate by inst cert) rank_of_tours reason → IsFirstAgainstCertified by inst sol cert reason
+certificate_first by inst sol cert reason none first = record {
+  stands = inr first.stands;
+  none_before = λ other low stands. by_side other low stands;
+}
+  where
+    by_side : (other : Reason) → rank_of_tours other < rank_of_tours reason → StandsAgainstTour inst sol other ⊎ StandsAgainstCertificate by inst cert other → ⊥
+    by_side other low (inl stands) = none other stands
+    by_side other low (inr stands) = first.none_before other low stands
+
+pub none_at_all : (by : Certificate) (inst sol cert : Fields) → ((other : Reason) → StandsAgainstTour inst sol other → ⊥) → ((other : Reason) → StandsAgainstCertificate by inst cert other → ⊥)
+    → (reason : Reason) → StandsAgainstCertified by inst sol cert reason → ⊥
+none_at_all by inst sol cert tour certificate reason (inl stands) = tour reason stands
+none_at_all by inst sol cert tour certificate reason (inr stands) = certificate reason stands
+
+pub enough : (inst sol : Fields) → ((reason : Reason) → StandsAgainstTour inst sol reason → ⊥) → 3 ≤ nodes_of inst
+enough inst sol none = omega (arith, lt_of_not-le (λ (few : nodes_of inst ≤ 2). none TooFewNodes (omega (arith, few))))
+
+-- ---- by the certificate, and by the TYPE of the instance
+
+pub kinds_by_potentials : (kind : Option Kind) → (kind ≡ Some kinds.Tsp) ⊎ (kind ≡ Some kinds.Atsp) → IsTrue (is_bounded Potentials kind)
+kinds_by_potentials kind (inl tsp) = ap (is_bounded Potentials) tsp
+kinds_by_potentials kind (inr atsp) = ap (is_bounded Potentials) atsp
+
+pub kinds_bounded : (by : Certificate) (kind : Option Kind) → IsTrue (is_bounded by kind) → (kind ≡ Some kinds.Tsp) ⊎ (kind ≡ Some kinds.Atsp)
+kinds_bounded Potentials (Some kinds.Tsp) is = inl refl
+kinds_bounded Potentials (Some kinds.Atsp) is = inr refl
+kinds_bounded Branches (Some kinds.Tsp) is = inl refl
+kinds_bounded Branches (Some kinds.Atsp) is = absurd (false≢true is)
+kinds_bounded by (Some kinds.Cvrp) is = absurd (false≢true is)
+kinds_bounded by (Some kinds.Tour) is = absurd (false≢true is)
+kinds_bounded by (Some kinds.Potentials) is = absurd (false≢true is)
+kinds_bounded by (Some kinds.Branches) is = absurd (false≢true is)
+kinds_bounded by None is = absurd (false≢true is)
+
+-- a bound by branches is that of a tree of cases
+pub of_tree : (kind : Option Kind) (inst tree : Fields) (bound : ℤ) → IsBoundBy Branches kind inst tree bound → IsBoundByTree inst tree bound
+of_tree (Some kinds.Tsp) inst tree bound is = is
+of_tree (Some kinds.Atsp) inst tree bound is = absurd is
+of_tree (Some kinds.Cvrp) inst tree bound is = absurd is
+of_tree (Some kinds.Tour) inst tree bound is = absurd is
+of_tree (Some kinds.Potentials) inst tree bound is = absurd is
+of_tree (Some kinds.Branches) inst tree bound is = absurd is
+of_tree None inst tree bound is = absurd is

@@ -1,0 +1,112 @@
+-- What valid files hold.
+use Rattle.std.proofs.Common.{◌≡◌, ℕ, zero, suc, ◌+◌, ◌<◌, ◌≤◌, true, List, [], ◌∷◌, ◌++◌, length, map, Option, Some, refl, sym, ap, subst, ◌∙◌, arith, length-append}
+use Rattle.std.specs.Prelude.{unwrap_or, ℤ, ◌^◌}
+use Rattle.std.specs.Global.{Vec}
+use Rattle.std.specs.List.{All, AllByRecursion, concat, sum_by}
+use Rattle.std.proofs.lemmas.Bool.{false≢true}
+use Rattle.std.proofs.lemmas.List.{length-map}
+use Rattle.std.proofs.lemmas.List.Elements.{All-from_recursion, recursion_from_All}
+use Rattle.std.proofs.lemmas.List.Sums.{sum_by-cons}
+use Rattle.tsp_format.specs.Cells.{IsNode}
+use Rattle.tsp_format.specs.Limits.{most_nodes, most_tour_nodes, most_changes}
+use Rattle.tsp_format.specs.declared.steps.TreeStep.{TreeStep}
+use Rattle.tsp_format.specs.Steps.{Step, Branch, Leaf, step_of, steps_of, are_whole, branch_count, leaf_count, change_count}
+use Rattle.tsp_draft.specs.Fields.{Fields}
+use Rattle.tsp_draft.specs.Valid.{AreTours, AreDepots, AreTriples, IsNodeList, AreSets, AreCombs, IsStep, AreTreeSteps}
+use Rattle.tsp_theory.specs.Numbers.{AreMultipliers}
+use Rattle.tsp_branch.specs.Listed.{IsStepOf}
+use Rattle.tsp_verdict.specs.Numbered.{AreSomeSets}
+use Rattle.tsp_verdict.specs.Solution.{nodes_of, tours_of, visited, nodes_in}
+use Rattle.tsp_verdict.proofs.Pieces.{nodes_in_is}
+
+in_both : (P : ℕ → Type 0) (xs ys : List ℕ) → AllByRecursion P xs → AllByRecursion P ys → AllByRecursion P (xs ++ ys)
+in_both P [] ys first second = second
+in_both P (x ∷ xs) ys first second = (first.0, in_both P xs ys first.1 second)
+
+in_all : (tours : List (List ℕ)) → AllByRecursion IsNodeList tours → AllByRecursion (IsNode most_nodes) (concat tours)
+in_all [] filled = tt
+in_all (tour ∷ tours) filled = in_both (IsNode most_nodes) tour (concat tours) (recursion_from_All (IsNode most_nodes) tour filled.0.1) (in_all tours filled.1)
+
+pub counted_from_one : (tours : List (Vec ℕ)) → AreTours (map (λ (t : Vec ℕ). t.items) tours) → All (λ node. 1 ≤ node) (nodes_in tours)
+counted_from_one tours held =
+    let nodes = All-from_recursion (IsNode most_nodes) (concat (map (λ (t : Vec ℕ). t.items) tours))
+    (in_all (map (λ (t : Vec ℕ). t.items) tours) (recursion_from_All IsNodeList (map (λ (t : Vec ℕ). t.items) tours) held.0)) in
+    rw (nodes_in_is tours) (λ k d lt. (nodes k d lt).0)
+
+sum_is : (tours : List (List ℕ)) → length (concat tours) ≡ sum_by length tours
+sum_is [] = refl
+sum_is (tour ∷ tours) = omega (arith, length-append tour (concat tours), sum_is tours, sum_by-cons length tour tours)
+
+count_le : (tours : List (List ℕ)) → AllByRecursion IsNodeList tours → length tours ≤ sum_by length tours
+count_le [] filled = omega arith
+count_le (tour ∷ tours) filled = omega (arith, filled.0.0, count_le tours filled.1, sum_by-cons length tour tours)
+
+pub as_many : (tours : List (Vec ℕ)) → length (map (λ (t : Vec ℕ). t.items) tours) ≡ length tours
+as_many [] = refl
+as_many (t ∷ tours) = ap suc (as_many tours)
+
+pub few_tours : (tours : List (Vec ℕ)) → AreTours (map (λ (t : Vec ℕ). t.items) tours) → length tours ≤ most_tour_nodes
+few_tours tours held = omega (arith, count_le (map (λ (t : Vec ℕ). t.items) tours) (recursion_from_All IsNodeList (map (λ (t : Vec ℕ). t.items) tours) held.0), held.1, as_many tours)
+
+pub few_nodes : (tours : List (Vec ℕ)) → AreTours (map (λ (t : Vec ℕ). t.items) tours) → length (nodes_in tours) ≤ most_tour_nodes
+few_nodes tours held = omega (arith, ap length (nodes_in_is tours), sum_is (map (λ (t : Vec ℕ). t.items) tours), held.1)
+
+pub nodes_are : (f : Fields) (tours : List (Vec ℕ)) → map (λ (t : Vec ℕ). t.items) tours ≡ tours_of f → nodes_in tours ≡ visited f
+nodes_are f tours same = nodes_in_is tours ∙ ap concat same
+
+pub tours_are : (f : Fields) (tours : List (List ℕ)) → f.tours ≡ Some tours → tours ≡ tours_of f
+tours_are f tours stand = sym (ap (λ (o : Option (List (List ℕ))). unwrap_or o []) stand)
+
+pub depots_in : (f : Fields) (depots : List ℕ) → AreDepots f depots → All (IsNode (nodes_of f)) depots
+depots_in f depots held k d lt =
+    let node = held.nodes k d lt in
+    let same : nodes_of f ≡ held.n = ap (λ (o : Option ℕ). unwrap_or o 0) held.dimension in
+    (node.0, omega (arith, node.1, same))
+
+pub multipliers_are : (f : Fields) (triples : List (ℕ × ℕ × ℤ)) → AreTriples f triples → AreMultipliers triples
+multipliers_are f triples held = record {
+  few = held.few;
+  each = λ k d lt. let triple = held.triples_of_nodes k d lt in (triple.0.2, triple.1);
+}
+
+pub multiplied_nodes : (f : Fields) (triples : List (ℕ × ℕ × ℤ)) → AreTriples f triples → All (λ triple. IsNode (nodes_of f) triple.0 × IsNode (nodes_of f) triple.1) triples
+multiplied_nodes f triples held k d lt =
+    let pair = (held.triples_of_nodes k d lt).0 in
+    let same : nodes_of f ≡ held.n = ap (λ (o : Option ℕ). unwrap_or o 0) held.dimension in
+    ((pair.0.0, omega (arith, pair.0.1, same)), (pair.1.0, omega (arith, pair.1.1, same)))
+
+-- ---- combs and steps
+
+pub combs_hold : (f : Fields) (combs : List (List (List ℕ))) → AreCombs f combs → AreSomeSets (nodes_of f) combs
+combs_hold f combs held =
+    let same : held.n ≡ nodes_of f = sym (ap (λ (d : Option ℕ). unwrap_or d 0) held.dimension) in
+    record { few = held.few; sets = subst (λ (n : ℕ). All (AreSets n) combs) same held.sets; few_nodes = held.few_nodes }
+
+-- a leaf's differences are some of all
+few_changes : (n most : ℕ) (steps : List Step) → most < 2 ^ 32 → AllByRecursion (IsStep n) steps → change_count steps ≤ most → AllByRecursion (IsStepOf n) steps
+few_changes n most [] low each few = tt
+few_changes n most (Branch a b ∷ steps) low each few = (each.0, few_changes n most steps low each.1 few)
+few_changes n most (Leaf changes ∷ steps) low each few = (omega (arith, low, few), few_changes n most steps low each.1 (omega (arith, few)))
+
+pub steps_hold : (f : Fields) (steps : List Step) → AreTreeSteps f steps → All (IsStepOf (nodes_of f)) steps
+steps_hold f steps held =
+    let same : held.n ≡ nodes_of f = sym (ap (λ (d : Option ℕ). unwrap_or d 0) held.dimension) in
+    All-from_recursion (IsStepOf (nodes_of f)) steps
+    (few_changes (nodes_of f) most_changes steps (omega arith) (subst (λ (n : ℕ). AllByRecursion (IsStep n) steps) same (recursion_from_All (IsStep held.n) steps held.each)) held.few_changes)
+
+-- so many trees have so many leaves more than branches
+leaves_of_trees : (count : ℕ) (steps : List Step) → are_whole count steps ≡ true → leaf_count steps ≡ branch_count steps + count
+leaves_of_trees zero [] whole = refl
+leaves_of_trees zero (Branch a b ∷ steps) whole = absurd (false≢true whole)
+leaves_of_trees zero (Leaf changes ∷ steps) whole = absurd (false≢true whole)
+leaves_of_trees (suc count) [] whole = absurd (false≢true whole)
+leaves_of_trees (suc count) (Branch a b ∷ steps) whole = let more = leaves_of_trees (suc (suc count)) steps whole in omega (arith, more)
+leaves_of_trees (suc count) (Leaf changes ∷ steps) whole = let more = leaves_of_trees count steps whole in omega (arith, more)
+
+all_counted : (steps : List Step) → length steps ≡ branch_count steps + leaf_count steps
+all_counted [] = refl
+all_counted (Branch a b ∷ steps) = let rest = all_counted steps in omega (arith, rest)
+all_counted (Leaf changes ∷ steps) = let rest = all_counted steps in omega (arith, rest)
+
+pub steps_few : (f : Fields) (steps : List TreeStep) → AreTreeSteps f (steps_of steps) → length steps < 2 ^ 32
+steps_few f steps held = omega (arith, length-map steps step_of, all_counted (steps_of steps), leaves_of_trees 1 (steps_of steps) held.whole, held.few)

@@ -1,0 +1,36 @@
+-- Which pairs a cycle uses, by the table of what comes next.
+use Rattle.std.proofs.Common.{◌≡◌, ◌≢◌, ℕ, ◌≤◌, Bool, true, false, eqb, List, get_or, sym, ap, ◌∙◌, inl, inr, arith, Option}
+use Rattle.std.specs.Prelude.{MatchBool, unwrap_or}
+use Rattle.std.specs.List.{All}
+use Rattle.std.proofs.lemmas.Bool.{eqb-true, eq-eqb, false≢true}
+use Rattle.tsp_draft.specs.Fields.{Fields}
+use Rattle.tsp_draft.specs.Valid.{IsPairOf, AreFixed}
+use Rattle.tsp_theory.specs.Tour.{Uses}
+use Rattle.tsp_verdict.specs.Next.{AreNext}
+use Rattle.tsp_verdict.specs.Solution.{nodes_of}
+
+pub uses_next : (directed : Bool) (cycle next : List ℕ) (pair : ℕ × ℕ) → AreNext cycle next → 1 ≤ pair.1 → get_or next pair.0 0 ≡ pair.1 → Uses directed cycle pair
+uses_next true cycle next pair m some e = m.only pair.0 pair.1 some e
+uses_next false cycle next pair m some e = inl (m.only pair.0 pair.1 some e)
+
+-- where the second node doesn't come next, the first one must, and there may be no direction
+pub uses_other : (directed : Bool) (cycle next : List ℕ) (pair : ℕ × ℕ) (back : Bool) → AreNext cycle next → 1 ≤ pair.0 → get_or next pair.0 0 ≢ pair.1
+    → directed ≡ false → back ≡ eqb (get_or next pair.1 0) pair.0 → MatchBool back (Uses directed cycle pair) (Uses directed cycle pair → ⊥)
+uses_other true cycle next pair back m some other two e = absurd (false≢true (sym two))
+uses_other false cycle next pair true m some other two e = inr (m.only pair.1 pair.0 some (eqb-true (get_or next pair.1 0) pair.0 (sym e)))
+uses_other false cycle next pair false m some other two e = none
+  where
+    none : Uses false cycle pair → ⊥
+    none (inl f) = other (m.follows pair.0 pair.1 f)
+    none (inr f) = false≢true (e ∙ eq-eqb (get_or next pair.1 0) pair.0 (m.follows pair.1 pair.0 f))
+
+pub uses_none : (directed : Bool) (cycle next : List ℕ) (pair : ℕ × ℕ) → AreNext cycle next → get_or next pair.0 0 ≢ pair.1
+    → directed ≡ true → Uses directed cycle pair → ⊥
+uses_none true cycle next pair m other one f = other (m.follows pair.0 pair.1 f)
+uses_none false cycle next pair m other one f = absurd (false≢true one)
+
+pub pairs_of : (f : Fields) (pairs : List (ℕ × ℕ)) → AreFixed f pairs → All (IsPairOf (nodes_of f)) pairs
+pairs_of f pairs held k d lt =
+    let pair = held.pairs_of_nodes k d lt in
+    let same : nodes_of f ≡ held.n = ap (λ (o : Option ℕ). unwrap_or o 0) held.dimension in
+    ((pair.0.0, omega (arith, pair.0.1, same)), (pair.1.0, omega (arith, pair.1.1, same)), pair.2)

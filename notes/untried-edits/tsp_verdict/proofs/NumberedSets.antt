@@ -1,0 +1,203 @@
+-- The sets of combs in one list, each with the number of its comb.
+use Rattle.std.proofs.Common.{◌≡◌, ◌≢◌, ◌∙◌, ℕ, zero, suc, ◌+◌, ◌<◌, ◌≤◌, List, [], ◌∷◌, ◌++◌, get_or, length, take, drop, drop-cons, add-one, inl, inr, refl, sym, ap, ap₂, subst, subst₂, arith}
+use Rattle.std.specs.Prelude.{map, ◌^◌}
+use Rattle.std.specs.Global.{Vec}
+use Rattle.std.specs.List.{All, AllPairs, AllByRecursion, sum_by}
+use Rattle.std.proofs.lemmas.Bool.{cases_eq, eq-eqb, ne_eqb}
+use Rattle.std.proofs.lemmas.List.{append-nil, append_assoc, drop_all, get_or-map, length-map, length-append, map-append, take_all, take_more}
+use Rattle.std.proofs.lemmas.List.Elements.{All-append, All-map, All-head, All-tail, All-weaker, All-from_recursion, recursion_from_All}
+use Rattle.std.proofs.lemmas.List.Kept.{AllPairs-cons}
+use Rattle.std.proofs.lemmas.List.Sums.{sum_by-cons}
+use Rattle.tsp_format.specs.Cells.{IsNode}
+use Rattle.tsp_draft.specs.Fields.{combs_of as lists_of_combs}
+use Rattle.tsp_draft.specs.Valid.{IsSetOf, AreSets}
+use Rattle.tsp_branch.specs.Sets.{AreSetsOf}
+use Rattle.tsp_branch.specs.Combed.{plain}
+use Rattle.tsp_branch.specs.CombsOfSets.{comb_with, of_comb, combs_from, combs_of}
+use Rattle.tsp_branch.specs.GoodCombs.{AreInOrder}
+use Rattle.tsp_verdict.specs.Numbered.{with_number, numbered_from, AreSomeSets}
+
+-- ---- the sets of one comb
+
+of_append : (k : ℕ) (xs ys : List (ℕ × List ℕ)) → of_comb k (xs ++ ys) ≡ of_comb k xs ++ of_comb k ys
+of_append k [] ys = refl
+of_append k (x ∷ xs) ys = elim (cases_eq x.0 k) [
+  | inl same ↦ rw (eq-eqb x.0 k same) (ap (λ (zs : List (List ℕ)). x.1 ∷ zs) (of_append k xs ys))
+  | inr other ↦ rw (ne_eqb x.0 k other) (of_append k xs ys)
+]
+
+of_own : (k : ℕ) (sets : List (List ℕ)) → of_comb k (with_number k sets) ≡ sets
+of_own k [] = refl
+of_own k (set ∷ sets) = rw (eq-eqb k k refl) (ap (λ (zs : List (List ℕ)). set ∷ zs) (of_own k sets))
+
+of_other : (k first : ℕ) → first ≢ k → (sets : List (List ℕ)) → of_comb k (with_number first sets) ≡ []
+of_other k first differ [] = refl
+of_other k first differ (set ∷ sets) = rw (ne_eqb first k differ) (of_other k first differ sets)
+
+of_later : (k first : ℕ) (combs : List (List (List ℕ))) → k < first → of_comb k (numbered_from first combs) ≡ []
+of_later k first [] lt = refl
+of_later k first (comb ∷ combs) lt = of_append k (with_number first comb) (numbered_from (suc first) combs)
+    ∙ ap₂ (λ (a b : List (List ℕ)). a ++ b) (of_other k first (λ e. omega (arith, e, lt)) comb) (of_later k (suc first) combs (omega (arith, lt)))
+
+pub own_sets : (first j k : ℕ) (combs : List (List (List ℕ))) → first + j ≡ k → of_comb k (numbered_from first combs) ≡ get_or combs j []
+own_sets first zero k [] at = refl
+own_sets first (suc j) k [] at = refl
+own_sets first zero k (comb ∷ combs) at =
+    let here : first ≡ k = omega (arith, at) in
+    of_append k (with_number first comb) (numbered_from (suc first) combs)
+    ∙ ap₂ (λ (a b : List (List ℕ)). a ++ b) (subst (λ (m : ℕ). of_comb k (with_number m comb) ≡ comb) (sym here) (of_own k comb)) (of_later k (suc first) combs (omega (arith, at)))
+    ∙ append-nil comb
+own_sets first (suc j) k (comb ∷ combs) at =
+    of_append k (with_number first comb) (numbered_from (suc first) combs)
+    ∙ ap₂ (λ (a b : List (List ℕ)). a ++ b) (of_other k first (λ e. omega (arith, e, at)) comb) (own_sets (suc first) j k combs (omega (arith, at)))
+
+told_from : (first : ℕ) (sets : List (ℕ × List ℕ)) (combs : List (List (List ℕ))) → ((j k : ℕ) → j < length combs → first + j ≡ k → of_comb k sets ≡ get_or combs j [])
+    → combs_from first (length combs) sets ≡ map comb_with combs
+told_from first sets [] h = refl
+told_from first sets (comb ∷ combs) h = ap₂ (λ a b. comb_with a ∷ b) (h 0 first (omega arith) (omega arith))
+    (told_from (suc first) sets combs (λ j k lt at. h (suc j) k (omega (arith, lt)) (omega (arith, at))))
+
+-- the combs of the list are those that it was made of
+pub combs_told : (combs : List (List (List ℕ))) → combs_of (length combs) (numbered_from 0 combs) ≡ map comb_with combs
+combs_told combs = told_from 0 (numbered_from 0 combs) combs (λ j k lt at. own_sets 0 j k combs at)
+
+-- ---- all sets
+
+with_all : (P : ℕ × List ℕ → Type 0) (first : ℕ) (sets : List (List ℕ)) → All (λ set. P (first, set)) sets → All P (with_number first sets)
+with_all P first sets h = All-map P (λ (set : List ℕ). (first, set)) sets h
+
+pub all_nodes : (n first : ℕ) (combs : List (List (List ℕ))) → All (AreSets n) combs → All (λ set. All (IsNode n) set.1) (numbered_from first combs)
+all_nodes n first [] are = λ k d lt. absurd (omega (arith, lt))
+all_nodes n first (comb ∷ combs) are =
+    let own : AreSets n comb = All-head (AreSets n) comb combs are in
+    All-append (λ (set : ℕ × List ℕ). All (IsNode n) set.1) (with_number first comb) (numbered_from (suc first) combs)
+    (with_all (λ (set : ℕ × List ℕ). All (IsNode n) set.1) first comb (All-weaker (IsSetOf n) (All (IsNode n)) (λ set is. is.1) comb own.1))
+    (all_nodes n (suc first) combs (All-tail (AreSets n) comb combs are))
+
+all_from : (first : ℕ) (combs : List (List (List ℕ))) → All (λ set. first ≤ set.0) (numbered_from first combs)
+all_from first [] = λ k d lt. absurd (omega (arith, lt))
+all_from first (comb ∷ combs) = All-append (λ (set : ℕ × List ℕ). first ≤ set.0) (with_number first comb) (numbered_from (suc first) combs)
+    (with_all (λ (set : ℕ × List ℕ). first ≤ set.0) first comb (λ k d lt. omega arith))
+    (All-weaker (λ (set : ℕ × List ℕ). suc first ≤ set.0) (λ (set : ℕ × List ℕ). first ≤ set.0) (λ set le. omega (arith, le)) (numbered_from (suc first) combs) (all_from (suc first) combs))
+
+pub all_within : (first : ℕ) (combs : List (List (List ℕ))) → All (λ set. set.0 < first + length combs) (numbered_from first combs)
+all_within first [] = λ k d lt. absurd (omega (arith, lt))
+all_within first (comb ∷ combs) = All-append (λ (set : ℕ × List ℕ). set.0 < first + suc (length combs)) (with_number first comb) (numbered_from (suc first) combs)
+    (with_all (λ (set : ℕ × List ℕ). set.0 < first + suc (length combs)) first comb (λ k d lt. omega arith))
+    (All-weaker (λ (set : ℕ × List ℕ). set.0 < suc first + length combs) (λ (set : ℕ × List ℕ). set.0 < first + suc (length combs)) (λ set lt. omega (arith, lt)) (numbered_from (suc first) combs)
+    (all_within (suc first) combs))
+
+abbrev pub Before : ℕ × List ℕ → ℕ × List ℕ → Type 0
+Before set later = set.0 ≤ later.0
+
+order_with : (first : ℕ) (sets : List (List ℕ)) (rest : List (ℕ × List ℕ)) → All (λ set. first ≤ set.0) rest → AllPairs Before rest → AllPairs Before (with_number first sets ++ rest)
+order_with first [] rest later order = order
+order_with first (set ∷ sets) rest later order = AllPairs-cons Before (first, set) (with_number first sets ++ rest)
+    (All-append (Before (first, set)) (with_number first sets) rest (with_all (Before (first, set)) first sets (λ k d lt. omega arith)) later)
+    (order_with first sets rest later order)
+
+pub all_in_order : (first : ℕ) (combs : List (List (List ℕ))) → AllPairs Before (numbered_from first combs)
+all_in_order first [] = λ i j d before inside. absurd (omega (arith, inside))
+all_in_order first (comb ∷ combs) = order_with first comb (numbered_from (suc first) combs)
+    (All-weaker (λ (set : ℕ × List ℕ). suc first ≤ set.0) (λ (set : ℕ × List ℕ). first ≤ set.0) (λ set le. omega (arith, le)) (numbered_from (suc first) combs) (all_from (suc first) combs))
+    (all_in_order (suc first) combs)
+
+-- ---- how many
+
+set_count : (first : ℕ) (combs : List (List (List ℕ))) → length (numbered_from first combs) ≡ sum_by length combs
+set_count first [] = refl
+set_count first (comb ∷ combs) = length-append (with_number first comb) (numbered_from (suc first) combs)
+    ∙ ap₂ (λ (a b : ℕ). a + b) (length-map comb (λ (set : List ℕ). (first, set))) (set_count (suc first) combs)
+    ∙ sym (sum_by-cons length comb combs)
+
+set_nodes : (n : ℕ) (sets : List (List ℕ)) → AllByRecursion (IsSetOf n) sets → length sets ≤ sum_by length sets
+set_nodes n [] are = omega arith
+set_nodes n (set ∷ sets) are = omega (arith, are.0.0, set_nodes n sets are.1, sum_by-cons length set sets)
+
+comb_nodes : (n : ℕ) (combs : List (List (List ℕ))) → AllByRecursion (AreSets n) combs → sum_by length combs ≤ sum_by (sum_by length) combs
+comb_nodes n [] are = omega arith
+comb_nodes n (comb ∷ combs) are =
+    omega (arith, set_nodes n comb (recursion_from_All (IsSetOf n) comb are.0.1), comb_nodes n combs are.1, sum_by-cons length comb combs, sum_by-cons (sum_by length) comb combs)
+
+-- ---- the same of sets as code has them
+
+from_plain : (P : ℕ × List ℕ → Type 0) (sets : List (ℕ × Vec ℕ)) → AllByRecursion P (plain sets) → AllByRecursion (λ set. P (set.0, set.1.items)) sets
+from_plain P [] h = tt
+from_plain P (set ∷ sets) h = (h.0, from_plain P sets h.1)
+
+all_plain : (P : ℕ × List ℕ → Type 0) (sets : List (ℕ × Vec ℕ)) (told : List (ℕ × List ℕ)) → plain sets ≡ told → All P told → All (λ set. P (set.0, set.1.items)) sets
+all_plain P sets told are h = All-from_recursion (λ (set : ℕ × Vec ℕ). P (set.0, set.1.items)) sets (from_plain P sets (recursion_from_All P (plain sets) (subst (All P) (sym are) h)))
+
+pub sets_of_nodes : (n : ℕ) (sets : List (ℕ × Vec ℕ)) (combs : List (List (List ℕ))) → plain sets ≡ numbered_from 0 combs → AreSomeSets n combs → AreSetsOf n sets
+sets_of_nodes n sets combs are some = all_plain (λ (set : ℕ × List ℕ). All (IsNode n) set.1) sets (numbered_from 0 combs) are (all_nodes n 0 combs some.sets)
+
+pub sets_of_combs : (sets : List (ℕ × Vec ℕ)) (combs : List (List (List ℕ))) → plain sets ≡ numbered_from 0 combs → All (λ set. set.0 < length combs) sets
+sets_of_combs sets combs are = all_plain (λ (set : ℕ × List ℕ). set.0 < length combs) sets (numbered_from 0 combs) are
+    (All-weaker (λ (set : ℕ × List ℕ). set.0 < 0 + length combs) (λ (set : ℕ × List ℕ). set.0 < length combs) (λ set lt. omega (arith, lt)) (numbered_from 0 combs) (all_within 0 combs))
+
+pub sets_in_order : (sets : List (ℕ × Vec ℕ)) (combs : List (List (List ℕ))) → plain sets ≡ numbered_from 0 combs → AreInOrder sets
+sets_in_order sets combs are i j d before inside =
+    let flat : ℕ × Vec ℕ → ℕ × List ℕ = λ set. (set.0, set.1.items) in
+    let order : AllPairs Before (plain sets) = subst (AllPairs Before) (sym are) (all_in_order 0 combs) in
+    subst₂ (λ (a b : ℕ × List ℕ). a.0 ≤ b.0) (get_or-map flat sets i d (flat d) (omega (arith, before, inside))) (get_or-map flat sets j d (flat d) inside)
+    (order i j (flat d) before (subst (λ (m : ℕ). j < m) (sym (length-map sets flat)) inside))
+
+pub sets_few : (n : ℕ) (sets : List (ℕ × Vec ℕ)) (combs : List (List (List ℕ))) → plain sets ≡ numbered_from 0 combs → AreSomeSets n combs → length sets < 2 ^ 32
+sets_few n sets combs are some =
+    let flat : ℕ × Vec ℕ → ℕ × List ℕ = λ set. (set.0, set.1.items) in
+    omega (arith, length-map sets flat, ap length are, set_count 0 combs, comb_nodes n combs (recursion_from_All (AreSets n) combs some.sets), some.few_nodes)
+
+-- ---- one pass over the sets of a comb, and one over the combs
+
+abbrev lists : List (Vec ℕ) → List (List ℕ)
+lists comb = map (λ set. set.items) comb
+
+-- what is added so far
+abbrev pub IsAdded : ℕ → List (Vec ℕ) → List (ℕ × Vec ℕ) → List (ℕ × Vec ℕ) → Type 0
+IsAdded number comb old new = plain new ≡ plain old ++ with_number number (map (λ set. set.items) comb)
+
+pub added_none : (number : ℕ) (old : List (ℕ × Vec ℕ)) → IsAdded number [] old old
+added_none number old = sym (append-nil (plain old))
+
+pub added_more : (number index : ℕ) (comb : List (Vec ℕ)) (old sets pushed : List (ℕ × Vec ℕ)) (set nodes : Vec ℕ) → index < length comb → set ≡ get_or comb index set → nodes.items ≡ set.items
+    → pushed ≡ sets ++ (number, nodes) ∷ [] → IsAdded number (take index comb) old sets → IsAdded number (take (index + 1) comb) old pushed
+added_more number index comb old sets pushed set nodes lt is same more so_far =
+    let one : List (ℕ × List ℕ) = (number, set.items) ∷ [] in
+    let flat : ℕ × Vec ℕ → ℕ × List ℕ = λ s. (s.0, s.1.items) in
+    let of_set : Vec ℕ → List ℕ = λ s. s.items in
+    let item : set.items ≡ (get_or comb index set).items = ap of_set is in
+    let longer : with_number number (lists (take (index + 1) comb)) ≡ with_number number (lists (take index comb)) ++ one =
+    ap (λ (cs : List (Vec ℕ)). with_number number (lists cs)) (take_more comb index set lt)
+    ∙ ap (with_number number) (map-append of_set (take index comb) (get_or comb index set ∷ []))
+    ∙ map-append (λ (s : List ℕ). (number, s)) (lists (take index comb)) ((get_or comb index set).items ∷ [])
+    ∙ ap (λ (s : List ℕ). with_number number (lists (take index comb)) ++ (number, s) ∷ []) (sym item) in
+    ap plain more ∙ map-append flat sets ((number, nodes) ∷ []) ∙ ap (λ (s : List ℕ). plain sets ++ (number, s) ∷ []) same
+    ∙ ap (λ (ss : List (ℕ × List ℕ)). ss ++ one) so_far
+    ∙ append_assoc (plain old) (with_number number (lists (take index comb))) one
+    ∙ ap (λ (ss : List (ℕ × List ℕ)). plain old ++ ss) (sym longer)
+
+pub added_all : (number index : ℕ) (comb : List (Vec ℕ)) (old new : List (ℕ × Vec ℕ)) → length comb ≤ index → IsAdded number (take index comb) old new → IsAdded number comb old new
+added_all number index comb old new past so_far = subst (λ (cs : List (Vec ℕ)). IsAdded number cs old new) (take_all index comb past) so_far
+
+-- the sets so far, and those that the rest gives, are all
+abbrev pub IsNumbered : List (Vec (Vec ℕ)) → List (ℕ × Vec ℕ) → ℕ → List (Vec (Vec ℕ)) → Type 0
+IsNumbered all sets number rest = plain sets ++ numbered_from number (lists_of_combs rest) ≡ numbered_from 0 (lists_of_combs all)
+
+pub numbered_more : (all : List (Vec (Vec ℕ))) (sets pushed : List (ℕ × Vec ℕ)) (number index : ℕ) (comb : Vec (Vec ℕ)) (own : List (Vec ℕ)) → index < length all → comb ≡ get_or all index comb
+    → own ≡ comb.items → IsAdded number own sets pushed → IsNumbered all sets number (drop index all) → IsNumbered all pushed (number + 1) (drop (index + 1) all)
+numbered_more all sets pushed number index comb own lt is read added so_far =
+    let left : drop index all ≡ comb ∷ drop (index + 1) all =
+    drop-cons all index comb lt ∙ ap (λ (k : ℕ). get_or all index comb ∷ drop k all) (sym (add-one index)) ∙ ap (λ (c : Vec (Vec ℕ)). c ∷ drop (index + 1) all) (sym is) in
+    let next : List (ℕ × List ℕ) = numbered_from (suc number) (lists_of_combs (drop (index + 1) all)) in
+    let here : List (ℕ × List ℕ) = with_number number (lists comb.items) in
+    let step : number + 1 ≡ suc number = add-one number in
+    ap (λ (k : ℕ). plain pushed ++ numbered_from k (lists_of_combs (drop (index + 1) all))) step
+    ∙ ap (λ (ss : List (ℕ × List ℕ)). ss ++ next) (added ∙ ap (λ (cs : List (Vec ℕ)). plain sets ++ with_number number (lists cs)) read)
+    ∙ append_assoc (plain sets) here next
+    ∙ ap (λ (cs : List (Vec (Vec ℕ))). plain sets ++ numbered_from number (lists_of_combs cs)) (sym left)
+    ∙ so_far
+
+pub numbered_all : (all : List (Vec (Vec ℕ))) (sets : List (ℕ × Vec ℕ)) (number index : ℕ) → length all ≤ index → IsNumbered all sets number (drop index all)
+    → plain sets ≡ numbered_from 0 (lists_of_combs all)
+numbered_all all sets number index past so_far =
+    sym (append-nil (plain sets)) ∙ ap (λ (cs : List (Vec (Vec ℕ))). plain sets ++ numbered_from number (lists_of_combs cs)) (sym (drop_all index all past)) ∙ so_far

@@ -1,0 +1,69 @@
+-- The reasons against a tour, ruled out one by one.
+use Rattle.std.proofs.Common.{◌≡◌, ℕ, ◌≤◌, true, length, Some, sym, ◌∙◌, arith}
+use Rattle.std.proofs.lemmas.Bool.{false≢true}
+use Rattle.tsp_format.specs.declared.kinds.Kind.TheVariants as kinds
+use Rattle.tsp_draft.specs.Fields.{Fields}
+use Rattle.tsp_draft.specs.Rules.{is_tours}
+use Rattle.tsp_file.specs.Cost.{cost}
+use Rattle.tsp_theory.specs.Costs.{IsFirstAsymmetric}
+use Rattle.tsp_cost.specs.Tours.{is_directed}
+use Rattle.tsp_reason.specs.declared.verdict.Reason.{Reason}
+use Rattle.tsp_reason.specs.declared.verdict.Reason.TheVariants.{NotASolution, TooFewNodes, NotSymmetric, Dimension, TourCount, TourLength, NodeOutOfRange, RepeatedNode, FixedEdgeUnused, NotPotentials, PotentialsDimension, PotentialsKind, MultiplierNotFixed, MultiplierRepeated, DualInfeasible, DepotCount, DepotDemand, FixedEdgesInRoutes, DepotInRoute, Unserved, Overload, NotBranches, BranchesDimension, BadComb, BranchTwice, BadLeaf}
+use Rattle.tsp_verdict.specs.Places.{IsFirstPlace, IsLarger, IsRepeated, IsUnused}
+use Rattle.tsp_verdict.specs.Solution.{nodes_of, fixed_of, tours_of, visited}
+use Rattle.tsp_verdict.specs.Tours.{StandsAgainstTour, NoneOfTourUpTo}
+
+pub after_solution : (inst sol : Fields) → is_tours sol.kind ≡ true → NoneOfTourUpTo inst sol 2
+after_solution inst sol is NotASolution low stands = false≢true (sym stands ∙ is)
+after_solution inst sol is reason low stands = absurd (omega (arith, low))
+
+pub after_nodes : (inst sol : Fields) → NoneOfTourUpTo inst sol 2 → 3 ≤ nodes_of inst → NoneOfTourUpTo inst sol 3
+after_nodes inst sol before enough TooFewNodes low stands = omega (arith, enough, stands)
+after_nodes inst sol before enough reason low stands = before reason (omega (arith, low)) stands
+
+pub after_symmetry : (inst sol : Fields) → NoneOfTourUpTo inst sol 3 → (inst.kind ≡ Some kinds.Tsp → (i j : ℕ) → IsFirstAsymmetric (nodes_of inst) (cost inst) (i, j) → ⊥) → NoneOfTourUpTo inst sol 4
+after_symmetry inst sol before even (NotSymmetric i j) low stands = even stands.0 i j stands.1
+after_symmetry inst sol before even reason low stands = before reason (omega (arith, low)) stands
+
+pub after_dimension : (inst sol : Fields) → NoneOfTourUpTo inst sol 4 → ((n : ℕ) → sol.dimension ≡ Some n → n ≡ nodes_of inst) → NoneOfTourUpTo inst sol 5
+after_dimension inst sol before same Dimension low stands = stands.2 (same stands.0 stands.1)
+after_dimension inst sol before same reason low stands = before reason (omega (arith, low)) stands
+
+pub after_count : (inst sol : Fields) → NoneOfTourUpTo inst sol 5 → length (tours_of sol) ≡ 1 → NoneOfTourUpTo inst sol 6
+after_count inst sol before one TourCount low stands = stands one
+after_count inst sol before one reason low stands = before reason (omega (arith, low)) stands
+
+pub after_length : (inst sol : Fields) → NoneOfTourUpTo inst sol 6 → length (visited sol) ≡ nodes_of inst → NoneOfTourUpTo inst sol 7
+after_length inst sol before full TourLength low stands = stands full
+after_length inst sol before full reason low stands = before reason (omega (arith, low)) stands
+
+pub after_range : (inst sol : Fields) → NoneOfTourUpTo inst sol 7 → ((place : ℕ) → IsFirstPlace (IsLarger (nodes_of inst) (visited sol)) (visited sol) place → ⊥) → NoneOfTourUpTo inst sol 8
+after_range inst sol before inside (NodeOutOfRange place) low stands = inside place stands
+after_range inst sol before inside reason low stands = before reason (omega (arith, low)) stands
+
+pub after_repeats : (inst sol : Fields) → NoneOfTourUpTo inst sol 8 → ((place : ℕ) → IsFirstPlace (IsRepeated (visited sol)) (visited sol) place → ⊥) → NoneOfTourUpTo inst sol 9
+after_repeats inst sol before once (RepeatedNode place) low stands = once place stands
+after_repeats inst sol before once reason low stands = before reason (omega (arith, low)) stands
+
+pub after_fixed : (inst sol : Fields) → NoneOfTourUpTo inst sol 9 → ((index : ℕ)
+    → IsFirstPlace (IsUnused (is_directed inst.kind) (visited sol) (fixed_of inst)) (fixed_of inst) index → ⊥) → (reason : Reason)
+    → StandsAgainstTour inst sol reason → ⊥
+after_fixed inst sol before used (FixedEdgeUnused index) stands = used index stands
+after_fixed inst sol before used NotPotentials stands = stands
+after_fixed inst sol before used PotentialsDimension stands = stands
+after_fixed inst sol before used PotentialsKind stands = stands
+after_fixed inst sol before used (MultiplierNotFixed index) stands = stands
+after_fixed inst sol before used (MultiplierRepeated index) stands = stands
+after_fixed inst sol before used (DualInfeasible i j) stands = stands
+after_fixed inst sol before used DepotCount stands = stands
+after_fixed inst sol before used DepotDemand stands = stands
+after_fixed inst sol before used FixedEdgesInRoutes stands = stands
+after_fixed inst sol before used (DepotInRoute place) stands = stands
+after_fixed inst sol before used (Unserved node) stands = stands
+after_fixed inst sol before used (Overload route) stands = stands
+after_fixed inst sol before used NotBranches stands = stands
+after_fixed inst sol before used BranchesDimension stands = stands
+after_fixed inst sol before used (BadComb index) stands = stands
+after_fixed inst sol before used (BranchTwice index) stands = stands
+after_fixed inst sol before used (BadLeaf index) stands = stands
+after_fixed inst sol before used reason stands = before reason (omega arith) stands

@@ -1,0 +1,77 @@
+-- The verdict on a tour, by what has been ruled out.
+use Rattle.std.proofs.Common.{◌≡◌, ℕ, ◌-◌, ◌≤◌, Bool, List, [], ◌∷◌, map, length, get_or, sym, ap, subst, ◌∙◌, arith}
+use Rattle.std.specs.Prelude.{ℤ}
+use Rattle.std.specs.Global.{Vec}
+use Rattle.std.specs.List.{All, concat}
+use Rattle.std.proofs.lemmas.List.{append-nil}
+use Rattle.tsp_draft.specs.Fields.{Fields}
+use Rattle.tsp_file.specs.Cost.{cost}
+use Rattle.tsp_theory.specs.Length.{length_of}
+use Rattle.tsp_theory.specs.Tour.{Uses}
+use Rattle.tsp_cost.specs.Tours.{is_directed, IsTourOf}
+use Rattle.tsp_theory.specs.Cycle.{IsCycle}
+use Rattle.tsp_reason.specs.declared.verdict.Reason.{Reason}
+use Rattle.tsp_reason.specs.declared.verdict.Reason.TheVariants.{FixedEdgeUnused}
+use Rattle.tsp_verdict.specs.Places.{IsFirstPlace, HoldsAtNone, IsRepeated, IsUnused}
+use Rattle.tsp_verdict.specs.Solution.{nodes_of, fixed_of, tours_of, visited}
+use Rattle.tsp_verdict.specs.Tours.{StandsAgainstTour, NoneOfTourUpTo, IsFirstAgainstTour}
+use Rattle.tsp_verdict.proofs.MarkedNodes.{all_apart}
+use Rattle.tsp_verdict.proofs.TourReasons.{after_count, after_length, after_range, after_repeats, after_fixed}
+
+-- the only one of several tours
+pub one_tour : (tours : List (Vec ℕ)) (tour : Vec ℕ) → length tours ≡ 1 → tour ≡ get_or tours 0 tour → map (λ t. t.items) tours ≡ tour.items ∷ []
+one_tour [] tour one first = absurd (omega (arith, one))
+one_tour (t ∷ []) tour one first = ap (λ (v : Vec ℕ). v.items ∷ []) (sym first)
+one_tour (t ∷ u ∷ tours) tour one first = absurd (omega (arith, one))
+
+pub visited_is : (sol : Fields) (tour : List ℕ) → tours_of sol ≡ tour ∷ [] → visited sol ≡ tour
+visited_is sol tour only = ap concat only ∙ append-nil tour
+
+-- one tour that has so many nodes
+pub tour_found : (inst sol : Fields) (tour : List ℕ) → tours_of sol ≡ tour ∷ [] → length tour ≡ nodes_of inst → All (λ node. 1 ≤ node) (visited sol) → NoneOfTourUpTo inst sol 5
+    → (tours_of sol ≡ tour ∷ []) × (length tour ≡ nodes_of inst) × All (λ node. 1 ≤ node) tour × NoneOfTourUpTo inst sol 7
+tour_found inst sol tour only full low none =
+    let low_all : All (λ node. 1 ≤ node) tour = subst (λ (xs : List ℕ). All (λ node. 1 ≤ node) xs) (visited_is sol tour only) low in
+    (only, full, low_all, after_length inst sol (after_count inst sol none (ap length only)) (ap length (visited_is sol tour only) ∙ full))
+
+-- nodes of 1..n, as many as n and none repeated, are a cycle
+pub is_cycle : (n : ℕ) (tour : List ℕ) → length tour ≡ n → All (λ node. 1 ≤ node) tour → All (λ node. node ≤ n) tour → HoldsAtNone (IsRepeated tour) (length tour) → IsCycle n tour
+is_cycle n tour full low high once = record {
+  count = full;
+  range = λ k d lt. (low k d lt, high k d lt);
+  once = all_apart tour once;
+}
+
+-- reasons 1 to 8 are ruled out
+pub none_up_to_fixed : (inst sol : Fields) (tour : List ℕ) → tours_of sol ≡ tour ∷ [] → NoneOfTourUpTo inst sol 7 → All (λ node. node ≤ nodes_of inst) tour
+    → HoldsAtNone (IsRepeated tour) (length tour) → NoneOfTourUpTo inst sol 9
+none_up_to_fixed inst sol tour only none high once =
+    let is : tour ≡ visited sol = sym (visited_is sol tour only) in
+    let high_all : All (λ node. node ≤ nodes_of inst) (visited sol) = subst (λ (xs : List ℕ). All (λ node. node ≤ nodes_of inst) xs) is high in
+    let once_all : HoldsAtNone (IsRepeated (visited sol)) (length (visited sol)) = subst (λ (xs : List ℕ). HoldsAtNone (IsRepeated xs) (length xs)) is once in
+    after_repeats inst sol
+    (after_range inst sol none (λ place first. omega (arith, first.holds, high_all (place - 1) 0 (omega (arith, first.here.0, first.here.1)))))
+    (λ place first. once_all place first.here.0 first.here.1 first.holds)
+
+-- the first fixed pair that isn't used
+pub unused_first : (inst sol : Fields) (tour : List ℕ) (directed : Bool) (pairs : List (ℕ × ℕ)) (index : ℕ) → tours_of sol ≡ tour ∷ [] → directed ≡ is_directed inst.kind → pairs ≡ fixed_of inst
+    → NoneOfTourUpTo inst sol 9 → IsFirstPlace (IsUnused directed tour pairs) pairs index → IsFirstAgainstTour inst sol (FixedEdgeUnused index)
+unused_first inst sol tour directed pairs index only way listed none first = record {
+  stands = subst (λ (xs : List ℕ). IsFirstPlace (IsUnused (is_directed inst.kind) xs (fixed_of inst)) (fixed_of inst) index) (sym (visited_is sol tour only))
+      (subst (λ (ps : List (ℕ × ℕ)). IsFirstPlace (IsUnused (is_directed inst.kind) tour ps) ps index) listed
+      (subst (λ (b : Bool). IsFirstPlace (IsUnused b tour pairs) pairs index) way first));
+  none_before = none;
+}
+
+-- where every fixed pair is used it is a yes
+pub is_yes : (inst sol : Fields) (tour : List ℕ) (directed : Bool) (pairs : List (ℕ × ℕ)) (size : ℤ) → tours_of sol ≡ tour ∷ [] → directed ≡ is_directed inst.kind → pairs ≡ fixed_of inst
+    → NoneOfTourUpTo inst sol 9 → IsCycle (nodes_of inst) tour → All (Uses directed tour) pairs → size ≡ length_of (cost inst) tour
+    → ((reason : Reason) → StandsAgainstTour inst sol reason → ⊥) × ((cycle : List ℕ) × (tours_of sol ≡ cycle ∷ []) × IsTourOf inst cycle × (size ≡ length_of (cost inst) cycle))
+is_yes inst sol tour directed pairs size only way listed none cycle used measured =
+    let used_all : All (Uses (is_directed inst.kind) tour) (fixed_of inst) =
+    subst (λ (ps : List (ℕ × ℕ)). All (Uses (is_directed inst.kind) tour) ps) listed (subst (λ (b : Bool). All (Uses b tour) pairs) way used) in
+    let is : tour ≡ visited sol = sym (visited_is sol tour only) in
+    let used_there : All (Uses (is_directed inst.kind) (visited sol)) (fixed_of inst) = subst (λ (xs : List ℕ). All (Uses (is_directed inst.kind) xs) (fixed_of inst)) is used_all in (
+      after_fixed inst sol none (λ index first. first.holds (used_there (index - 1) (0, 0) (omega (arith, first.here.0, first.here.1)))),
+      (tour, only, record { cycle = cycle; fixed_used = used_all }, measured),
+    )

@@ -1,0 +1,22 @@
+use Rattle.std.proofs.Common.{◌≡◌, Some, subst, sym, rules, FitsSigned}
+use Rattle.std.specs.Prelude.{MatchOption}
+use Rattle.std.specs.Int.{w128}
+use Rattle.std.proofs.lemmas.Int.{to_z-of_z}
+use Rattle.tsp_theory.specs.Adjusted.{AreOnPairs}
+use Rattle.tsp_verdict.specs.Certificate.{multipliers_in, StandsAgainstPotentials}
+use Rattle.tsp_verdict.specs.Multiplied.{AreListed}
+use Rattle.tsp_verdict.specs.Reasons.{IsFirstReason}
+use Rattle.tsp_verdict.specs.Solution.{nodes_of, fixed_of}
+use Rattle.tsp_verdict.specs.Tours.{rank_of_tours}
+use Rattle.tsp_verdict.proofs.Certificates.{none_of_tsp}
+use Rattle.tsp_verdict.proofs.certificate.bound_by_nodes.Goals as goal
+
+pub returns : goal.returns
+returns c =
+    let inst = c.args.inst.now in
+    let pot = c.args.pot.now in
+    let good = subst (λ found. MatchOption found (AreOnPairs (nodes_of inst) (multipliers_in pot) × AreListed (fixed_of inst) (multipliers_in pot))
+    (λ reason. IsFirstReason (StandsAgainstPotentials inst pot) rank_of_tours reason)) c.in_default-2.is c.in_ok-reason.ensures in
+    let bound = c.in_ok-bound_of_potentials.field-0 in
+    let fits : FitsSigned w128 bound = search rules in
+    (none_of_tsp inst pot c.requires.kind c.in_default.ensures.0 c.in_default.ensures.1 c.in_default.ensures.2 good.0 good.1, rw (to_z-of_z w128 bound fits) c.in_ok-bound_of_potentials.ensures)

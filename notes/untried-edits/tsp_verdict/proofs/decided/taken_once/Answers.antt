@@ -1,0 +1,35 @@
+use Rattle.std.proofs.Common.{◌≡◌, ◌∙◌, true, false, sym, subst, arith}
+use Rattle.std.specs.BTreeSet.{contains, Updates}
+use Rattle.std.specs.Prelude.{slice_index_or}
+use Rattle.std.proofs.lemmas.Bool.{not-false, not-true}
+use Rattle.tsp_verdict.specs.PairSets.{undirected, pair_cmp}
+use Rattle.tsp_verdict.proofs.PairSets.{has_more}
+use Rattle.tsp_verdict.proofs.GivenPairs.{taken_known, taken_new, taken_all}
+use Rattle.tsp_verdict.proofs.decided.taken_once.Goals as goal
+use Rattle.tsp_verdict.proofs.decided.taken_once.Goals.{then-is_new+in_ok-push, else-is_new}
+
+pub pairs-preserved : goal.pairs-preserved
+pairs-preserved c =
+    let st = c.pairs in
+    let pairs = c.args.pairs.now in
+    let has = has_more (λ pair. pair) st.seen c.insert.new.self pairs st.pair-index (0, 0) c.pairs-test.true
+    (subst (λ p. Updates pair_cmp st.seen c.insert.new.self p true) c.undirected.ensures c.in_ok-is_new.ensures.updates) st.invariant.has in
+    elim c.if-is_new.branch [
+      | then-is_new+in_ok-push w ↦
+          let lacks : contains pair_cmp st.seen (undirected (slice_index_or pairs st.pair-index (0, 0))) ≡ false =
+          subst (λ p. contains pair_cmp st.seen p ≡ false) c.undirected.ensures (not-true _ (sym c.in_ok-is_new.ensures.added ∙ w.if-is_new.true)) in
+          rw w.taken-is (record {
+            has = has;
+            so_far = taken_new pairs st.taken.items w.push.new.self.items st.pair-index st.seen c.pairs-test.true st.invariant.has lacks w.in_ok-push.ensures.items st.invariant.so_far;
+          })
+      | else-is_new w ↦
+          let there : contains pair_cmp st.seen (undirected (slice_index_or pairs st.pair-index (0, 0))) ≡ true =
+          subst (λ p. contains pair_cmp st.seen p ≡ true) c.undirected.ensures (not-false _ (sym c.in_ok-is_new.ensures.added ∙ w.if-is_new.false)) in
+          rw w.taken-is (record {
+            has = has;
+            so_far = taken_known pairs st.taken.items st.pair-index st.seen c.pairs-test.true st.invariant.has there st.invariant.so_far;
+          })
+    ]
+
+pub returns : goal.returns
+returns c = taken_all c.args.pairs.now c.pairs.taken.items c.pairs.pair-index (omega (arith, c.pairs-test.false)) c.pairs.invariant.so_far

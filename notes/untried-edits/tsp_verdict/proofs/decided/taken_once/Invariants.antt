@@ -1,0 +1,10 @@
+use Rattle.std.proofs.Common.{take}
+use Rattle.tsp_verdict.specs.PairSets.{HasPairs}
+use Rattle.tsp_verdict.proofs.GivenPairs.{IsTakenSoFar}
+use Rattle.tsp_verdict.proofs.decided.taken_once.Given as goal
+
+abbrev pub invariant-pairs : goal.invariant-pairs
+invariant-pairs l = record {
+  has : HasPairs (λ pair. pair) l.seen (take l.pair-index l.pairs);
+  so_far : IsTakenSoFar l.pairs l.taken.items l.pair-index;
+}

@@ -1,0 +1,12 @@
+use Rattle.std.proofs.Common.{◌<◌, [], ◌∷◌, rules, arith, refl}
+use Rattle.std.specs.List.{Contains}
+use Rattle.tsp_verdict.proofs.SmallPlans.{customer}
+use Rattle.tsp_verdict.proofs.examples.examples_against_routes.Goals as goal
+
+pub returns-clause-unserved : goal.returns-clause-unserved
+returns-clause-unserved c = record {
+  customer = search rules;
+  unserved = search rules;
+  first = λ other is below. customer (λ node. node < 4 → Contains (2 ∷ 3 ∷ []) node) (λ lower. (0, omega arith, refl))
+      (λ lower. (1, omega arith, refl)) (λ lower. absurd (omega (arith, lower))) other is below;
+}

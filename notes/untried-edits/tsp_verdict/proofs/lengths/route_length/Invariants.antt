@@ -1,0 +1,15 @@
+use Rattle.std.proofs.Common.{◌≡◌, drop}
+use Rattle.std.specs.Prelude.{◌+ℤ◌}
+use Rattle.tsp_format.specs.Cells.{IsNode}
+use Rattle.tsp_file.specs.Cost.{cost}
+use Rattle.tsp_verdict.specs.Solution.{nodes_of}
+use Rattle.tsp_verdict.specs.Sums.{IsSumOf}
+use Rattle.tsp_verdict.proofs.RouteLengths.{length_to}
+use Rattle.tsp_verdict.proofs.lengths.route_length.Given as goal
+
+abbrev pub invariant-nodes : goal.invariant-nodes
+invariant-nodes l = record {
+  from : IsNode (nodes_of l.inst) l.from;
+  size : IsSumOf l.node-index l.length;
+  so_far : (l.length +ℤ length_to (cost l.inst) l.depot l.from (drop l.node-index l.route)) ≡ length_to (cost l.inst) l.depot l.depot l.route;
+}

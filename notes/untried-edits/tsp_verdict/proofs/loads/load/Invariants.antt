@@ -1,0 +1,11 @@
+use Rattle.std.proofs.Common.{◌≡◌, drop}
+use Rattle.std.specs.Prelude.{◌+ℤ◌}
+use Rattle.tsp_verdict.specs.Plan.{load_of}
+use Rattle.tsp_verdict.proofs.RouteLoads.{IsLoadOf}
+use Rattle.tsp_verdict.proofs.loads.load.Given as goal
+
+abbrev pub invariant-nodes : goal.invariant-nodes
+invariant-nodes l = record {
+  size : IsLoadOf l.node-index l.sum;
+  so_far : (l.sum +ℤ load_of l.demands (drop l.node-index l.route)) ≡ load_of l.demands l.route;
+}

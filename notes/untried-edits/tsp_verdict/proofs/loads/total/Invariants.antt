@@ -1,0 +1,12 @@
+use Rattle.std.proofs.Common.{◌≡◌, ◌+◌, ◌-◌, length}
+use Rattle.std.specs.Prelude.{◌+ℤ◌}
+use Rattle.std.specs.List.{range_with_len}
+use Rattle.tsp_verdict.specs.Plan.{load_of}
+use Rattle.tsp_verdict.proofs.RouteLoads.{IsLoadOf}
+use Rattle.tsp_verdict.proofs.loads.total.Given as goal
+
+abbrev pub invariant-demands : goal.invariant-demands
+invariant-demands l = record {
+  size : IsLoadOf l.demand-index l.sum;
+  so_far : (l.sum +ℤ load_of l.demands (range_with_len (l.demand-index + 1) (length l.demands - l.demand-index))) ≡ load_of l.demands (range_with_len 1 (length l.demands));
+}

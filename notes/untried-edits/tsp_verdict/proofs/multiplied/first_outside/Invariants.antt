@@ -1,0 +1,12 @@
+use Rattle.std.proofs.Common.{◌≡◌, ◌<◌, ℕ, true}
+use Rattle.std.specs.Prelude.{slice_index_or, ℤ}
+use Rattle.std.specs.BTreeSet.{contains}
+use Rattle.tsp_theory.specs.Adjusted.{pair_of}
+use Rattle.tsp_verdict.specs.PairSets.{undirected, pair_cmp}
+use Rattle.tsp_verdict.proofs.multiplied.first_outside.Given as goal
+
+abbrev pub invariant-triples : goal.invariant-triples
+invariant-triples l = record {
+  counted : l.index ≡ l.triple-index;
+  inside : (k : ℕ) (d : ℕ × ℕ × ℤ) → k < l.triple-index → contains pair_cmp l.set (undirected (pair_of (slice_index_or l.triples k d))) ≡ true;
+}

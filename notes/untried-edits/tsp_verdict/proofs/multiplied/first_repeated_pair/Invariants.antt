@@ -1,0 +1,12 @@
+use Rattle.std.proofs.Common.{◌≡◌, ◌<◌, ℕ, false, take}
+use Rattle.std.specs.Prelude.{slice_index_or, pos}
+use Rattle.tsp_theory.specs.Adjusted.{pair_of, is_same_pair}
+use Rattle.tsp_verdict.specs.PairSets.{HasPairs}
+use Rattle.tsp_verdict.proofs.multiplied.first_repeated_pair.Given as goal
+
+abbrev pub invariant-triples : goal.invariant-triples
+invariant-triples l = record {
+  counted : l.index ≡ l.triple-index;
+  has : HasPairs pair_of l.seen (take l.triple-index l.triples);
+  apart : (i j : ℕ) → i < j → j < l.triple-index → is_same_pair (pair_of (slice_index_or l.triples i (0, 0, pos 0))) (pair_of (slice_index_or l.triples j (0, 0, pos 0))) ≡ false;
+}

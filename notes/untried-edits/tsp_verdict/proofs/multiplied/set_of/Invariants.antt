@@ -1,0 +1,6 @@
+use Rattle.std.proofs.Common.{take}
+use Rattle.tsp_verdict.specs.PairSets.{HasPairs}
+use Rattle.tsp_verdict.proofs.multiplied.set_of.Given as goal
+
+abbrev pub invariant-pairs : goal.invariant-pairs
+invariant-pairs l = HasPairs (λ pair. pair) l.set (take l.pair-index l.pairs)

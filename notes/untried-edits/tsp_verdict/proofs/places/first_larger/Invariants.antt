@@ -1,0 +1,6 @@
+use Rattle.std.proofs.Common.{◌≡◌, ◌≤◌, ◌<◌, ℕ}
+use Rattle.std.specs.Prelude.{slice_index_or}
+use Rattle.tsp_verdict.proofs.places.first_larger.Given as goal
+
+abbrev pub invariant-nodes : goal.invariant-nodes
+invariant-nodes l = (l.place ≡ l.node-index) × ((k d : ℕ) → k < l.node-index → slice_index_or l.nodes k d ≤ l.n)

@@ -1,0 +1,54 @@
+use Rattle.std.proofs.Common.{◌≡◌, ◌+◌, Bool, List, map, length, sym, arith, rules}
+use Rattle.std.specs.Prelude.{FitsSigned, vec_len}
+use Rattle.std.specs.Int.{w64}
+use Rattle.std.proofs.lemmas.Int.{to_z-of_z}
+use Rattle.tsp_draft.specs.Fields.{Fields}
+use Rattle.tsp_verdict.specs.Solution.{nodes_of}
+use Rattle.tsp_verdict.proofs.FilesHold.{as_many}
+use Rattle.tsp_verdict.proofs.RouteVerdicts.{IsMarked, is_marked, unserved_first, all_served, none_unserved, overload_first, is_planned}
+use Rattle.tsp_verdict.proofs.routes.judge_routes.Goals as goal
+
+pub returns-in-Some-first_unmarked : goal.returns-in-Some-first_unmarked
+returns-in-Some-first_unmarked c =
+    let inst : Fields = c.args.inst.now in
+    let sol : Fields = c.args.sol.now in
+    let seen : List Bool = c.mark_all.new.seen.items in
+    let wide : vec_len c.mark_all.new.seen ≡ nodes_of inst + 1 = omega (arith, c.in_default-mark_all.ensures.len, c.in_ok-seen.ensures.len, c.count.ensures.value) in
+    let marked : IsMarked inst sol seen (vec_len c.mark_all.new.seen) =
+    is_marked inst sol _ seen _ c.solution_tours-routes.ensures.nodes wide c.in_default.ensures.1 c.in_default-mark_all.ensures.marks in
+    unserved_first inst sol seen (vec_len c.mark_all.new.seen) c.in-Ok.depot c.in-Some-first_unmarked.node marked c.in-Ok.ensures.0 c.in-Some-first_unmarked.ensures
+
+pub returns-in-Some-first_overload : goal.returns-in-Some-first_overload
+returns-in-Some-first_overload c =
+    let inst : Fields = c.args.inst.now in
+    let sol : Fields = c.args.sol.now in
+    let seen : List Bool = c.mark_all.new.seen.items in
+    let wide : vec_len c.mark_all.new.seen ≡ nodes_of inst + 1 = omega (arith, c.in_default-mark_all.ensures.len, c.in_ok-seen.ensures.len, c.count.ensures.value) in
+    let marked : IsMarked inst sol seen (vec_len c.mark_all.new.seen) =
+    is_marked inst sol _ seen _ c.solution_tours-routes.ensures.nodes wide c.in_default.ensures.1 c.in_default-mark_all.ensures.marks in
+    let served = all_served inst sol seen (vec_len c.mark_all.new.seen) c.in-Ok.depot marked c.in-Ok.ensures.0 c.in_default-first_unmarked.ensures in
+    let fits : FitsSigned w64 c.capacity-capacity.result = search rules in
+    let first = simp to_z-of_z at c.in-Some-first_overload.ensures in
+    overload_first inst sol _ c.demands-demands.result.now c.capacity-capacity.result c.in-Some-first_overload.route c.solution_tours-routes.ensures.value
+    c.demands-demands.ensures.value c.capacity-capacity.ensures.value
+    (none_unserved inst sol marked.none served) first
+
+pub returns : goal.returns
+returns c =
+    let inst : Fields = c.args.inst.now in
+    let sol : Fields = c.args.sol.now in
+    let seen : List Bool = c.mark_all.new.seen.items in
+    let wide : vec_len c.mark_all.new.seen ≡ nodes_of inst + 1 = omega (arith, c.in_default-mark_all.ensures.len, c.in_ok-seen.ensures.len, c.count.ensures.value) in
+    let marked : IsMarked inst sol seen (vec_len c.mark_all.new.seen) =
+    is_marked inst sol _ seen _ c.solution_tours-routes.ensures.nodes wide c.in_default.ensures.1 c.in_default-mark_all.ensures.marks in
+    let served = all_served inst sol seen (vec_len c.mark_all.new.seen) c.in-Ok.depot marked c.in-Ok.ensures.0 c.in_default-first_unmarked.ensures in
+    let capacity_fits : FitsSigned w64 c.capacity-capacity.result = search rules in
+    let length_fits : FitsSigned w64 c.plan_length.result = search rules in
+    let within = simp to_z-of_z at c.in_default-first_overload.ensures in
+    let least = simp to_z-of_z at c.least_routes.ensures in
+    simp to_z-of_z (is_planned inst sol seen (vec_len c.mark_all.new.seen) (map (λ route. route.items) c.solution_tours-routes.result.now)
+    c.demands-demands.result.now c.capacity-capacity.result c.in-Ok.depot c.plan_length.result (length c.solution_tours-routes.result.now)
+    c.least_routes.result
+    c.solution_tours-routes.ensures.value c.demands-demands.ensures.value c.demands-demands.ensures.each c.capacity-capacity.ensures.value c.in-Ok.ensures.0
+    c.in_default.ensures.0 marked served c.demands-demands.ensures.range c.in-Ok.ensures.2
+    within c.plan_length.ensures (sym (as_many c.solution_tours-routes.result.now)) least)

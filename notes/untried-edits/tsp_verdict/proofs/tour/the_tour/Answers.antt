@@ -1,0 +1,14 @@
+use Rattle.std.proofs.Common.{◌≡◌, List, ℕ, ◌∷◌, [], length, sym, ap, ◌∙◌, arith}
+use Rattle.tsp_verdict.specs.Solution.{tours_of, nodes_of}
+use Rattle.tsp_verdict.proofs.TourVerdicts.{one_tour, tour_found}
+use Rattle.tsp_verdict.proofs.tour.the_tour.Goals as goal
+
+pub returns : goal.returns
+returns c =
+    let tour : List ℕ = c.as_slice.result.now in
+    let one : length c.solution_tours.result.now ≡ 1 = omega (arith, c.in-len1.len_at_least, c.in-len1.len_below) in
+    let only : tours_of c.args.sol.now ≡ tour ∷ [] =
+    sym c.solution_tours.ensures.value ∙ one_tour c.solution_tours.result.now c.tour-item.result one c.tour-item.is ∙ ap (λ (xs : List ℕ). xs ∷ []) (sym c.as_slice.ensures.value) in
+    let full : length tour ≡ nodes_of c.args.inst.now = omega (arith, c.as_slice.ensures.len, c.if-len-count.false, c.count.ensures.value) in
+    let found = tour_found c.args.inst.now c.args.sol.now tour only full (rw (← c.solution_tours.ensures.nodes) c.solution_tours.ensures.range) c.in_default.ensures.0 in
+    (found.0, found.1, found.2, found.3, c.in_default.ensures.1)

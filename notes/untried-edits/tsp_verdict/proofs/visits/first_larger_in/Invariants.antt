@@ -1,0 +1,10 @@
+use Rattle.std.proofs.Common.{◌≡◌, ◌≤◌, ◌<◌, ℕ, length, take}
+use Rattle.std.specs.Prelude.{slice_index_or}
+use Rattle.tsp_verdict.specs.Solution.{nodes_in}
+use Rattle.tsp_verdict.proofs.visits.first_larger_in.Given as goal
+
+abbrev pub invariant-routes : goal.invariant-routes
+invariant-routes l = record {
+  counted : l.before ≡ length (nodes_in (take l.route-index l.routes));
+  so_far : (k d : ℕ) → k < l.before → slice_index_or (nodes_in l.routes) k d ≤ l.n;
+}

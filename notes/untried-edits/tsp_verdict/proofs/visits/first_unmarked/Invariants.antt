@@ -1,0 +1,6 @@
+use Rattle.std.proofs.Common.{◌≡◌, ◌≢◌, ◌≤◌, ◌<◌, ℕ, true, false}
+use Rattle.std.specs.Prelude.{slice_index_or}
+use Rattle.tsp_verdict.proofs.visits.first_unmarked.Given as goal
+
+abbrev pub invariant-nodes : goal.invariant-nodes
+invariant-nodes l = (other : ℕ) → 1 ≤ other → other < l.node → other ≢ l.depot → slice_index_or l.seen.items other false ≡ true

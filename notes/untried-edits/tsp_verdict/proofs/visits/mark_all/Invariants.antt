@@ -1,0 +1,12 @@
+use Rattle.std.proofs.Common.{◌≡◌, length, take}
+use Rattle.std.specs.Prelude.{vec_len}
+use Rattle.tsp_verdict.specs.Marks.{Marked}
+use Rattle.tsp_verdict.specs.Solution.{nodes_in}
+use Rattle.tsp_verdict.proofs.visits.mark_all.Given as goal
+
+abbrev pub invariant-routes : goal.invariant-routes
+invariant-routes l = record {
+  counted : l.before ≡ length (nodes_in (take l.route-index l.routes));
+  wide : vec_len l.seen ≡ vec_len l.initial.seen;
+  marks : Marked (nodes_in l.routes) l.seen.items l.before;
+}

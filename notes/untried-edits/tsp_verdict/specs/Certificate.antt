@@ -1,0 +1,75 @@
+-- A certificate by potentials: its file, when a reason stands against it, and the bound that it gives.
+use Rattle.std.specs.Prelude.{◌≡◌, ◌≢◌, ℕ, Bool, false, ◌&&◌, List, [], Option, None, Some, is_some, unwrap_or, Result, Ok, Err, ℤ, pos, ◌≤ℤ◌}
+use Rattle.tsp_format.specs.declared.kinds.Kind.{Kind}
+use Rattle.tsp_format.specs.declared.kinds.Kind.TheVariants as kinds
+use Rattle.tsp_draft.specs.Fields.{Fields}
+use Rattle.tsp_draft.specs.Rules.{is_certificate}
+use Rattle.tsp_file.specs.Cost.{cost}
+use Rattle.tsp_theory.specs.Cycle.{IsCycle}
+use Rattle.tsp_theory.specs.Length.{length_of}
+use Rattle.tsp_theory.specs.Numbers.{IsBoundSized}
+use Rattle.tsp_theory.specs.Assignment.{AreGood, IsFirstBroken, IsDualBound}
+use Rattle.tsp_cost.specs.Tours.{IsTourOf}
+use Rattle.tsp_theory.specs.Adjusted.{UsesEach, IsAdjustedBound}
+use Rattle.tsp_reason.specs.declared.verdict.Reason.{Reason}
+use Rattle.tsp_reason.specs.declared.verdict.Reason.TheVariants.{NotPotentials, PotentialsDimension, PotentialsKind, MultiplierNotFixed, MultiplierRepeated, DualInfeasible}
+use Rattle.tsp_verdict.specs.Multiplied.{IsUnlisted, IsPairRepeated}
+use Rattle.tsp_verdict.specs.Places.{IsFirstPlace}
+use Rattle.tsp_verdict.specs.Reasons.{IsFirstReason}
+use Rattle.tsp_verdict.specs.Solution.{nodes_of, fixed_of}
+use Rattle.tsp_verdict.specs.Tours.{rank_of_tours}
+
+-- ---- what is read of it
+
+-- SCALE; 1 is meant where it is missing
+abbrev pub scale_in : Fields → ℤ
+scale_in f = unwrap_or f.scale (pos 1)
+
+abbrev pub potentials_in : Fields → List ℤ
+potentials_in f = unwrap_or f.node_potentials []
+
+abbrev pub rows_in : Fields → List ℤ
+rows_in f = unwrap_or f.row_potentials []
+
+abbrev pub columns_in : Fields → List ℤ
+columns_in f = unwrap_or f.column_potentials []
+
+-- its multipliers of fixed pairs
+abbrev pub multipliers_in : Fields → List (ℕ × ℕ × ℤ)
+multipliers_in f = unwrap_or f.fixed_potentials []
+
+-- a TSP wants potentials of nodes, an ATSP those of rows and of columns
+abbrev pub has_wanted : Option Kind → Fields → Bool
+has_wanted (Some kinds.Tsp) f = is_some f.node_potentials
+has_wanted (Some kinds.Atsp) f = is_some f.row_potentials && is_some f.column_potentials
+has_wanted (Some kinds.Cvrp) f = false
+has_wanted (Some kinds.Tour) f = false
+has_wanted (Some kinds.Potentials) f = false
+has_wanted (Some kinds.Branches) f = false
+has_wanted None f = false
+
+-- ---- when a reason stands against it; reasons of tours and of routes never do
+
+abbrev pub StandsAgainstPotentials : Fields → Fields → Reason → Type 0
+StandsAgainstPotentials inst pot NotPotentials = is_certificate pot.kind ≡ false
+StandsAgainstPotentials inst pot PotentialsDimension = nodes_of pot ≢ nodes_of inst
+StandsAgainstPotentials inst pot PotentialsKind = has_wanted inst.kind pot ≡ false
+StandsAgainstPotentials inst pot (MultiplierNotFixed index) = (inst.kind ≡ Some kinds.Tsp)
+    × IsFirstPlace (IsUnlisted (fixed_of inst) (multipliers_in pot)) (multipliers_in pot) index
+StandsAgainstPotentials inst pot (MultiplierRepeated index) = (inst.kind ≡ Some kinds.Tsp)
+    × IsFirstPlace (IsPairRepeated (multipliers_in pot)) (multipliers_in pot) index
+StandsAgainstPotentials inst pot (DualInfeasible i j) = (inst.kind ≡ Some kinds.Atsp)
+    × IsFirstBroken (nodes_of inst) (cost inst) (scale_in pot) (rows_in pot) (columns_in pot) i j
+StandsAgainstPotentials inst pot reason = ⊥
+
+-- ---- its bound
+
+-- that of a least 1-tree, for a TSP
+abbrev pub IsBoundByNodes : Fields → Fields → ℤ → Type 0
+IsBoundByNodes inst pot bound =
+    IsAdjustedBound (nodes_of inst) (cost inst) (scale_in pot) (potentials_in pot) (multipliers_in pot) [] bound
+
+-- that of duals of the assignment problem, for an ATSP
+abbrev pub IsBoundByDuals : Fields → Fields → ℤ → Type 0
+IsBoundByDuals inst pot bound = AreGood (nodes_of inst) (cost inst) (scale_in pot) (rows_in pot) (columns_in pot)
+    × IsDualBound (scale_in pot) (rows_in pot) (columns_in pot) bound

@@ -1,0 +1,96 @@
+-- Small instances and solutions on which the definitions are evaluated.
+use Rattle.std.specs.Prelude.{ℕ, ◌<◌, List, [], ◌∷◌, Option, None, Some, ℤ, pos}
+use Rattle.tsp_format.specs.declared.kinds.Kind.{Kind}
+use Rattle.tsp_format.specs.declared.kinds.Kind.TheVariants as kinds
+use Rattle.tsp_format.specs.Steps.{Step, Leaf}
+use Rattle.tsp_draft.specs.Fields.{Fields, blank_fields}
+use Rattle.tsp_reason.specs.declared.verdict.Reason.{Reason}
+
+-- an instance with so many nodes and these fixed pairs
+abbrev pub nodes : Kind → ℕ → List (ℕ × ℕ) → Fields
+nodes kind n fixed = record blank_fields { kind = Some kind; dimension = Some n; fixed = Some fixed }
+
+-- one of routes, with these depots, this demand of node 1 and of each of the nodes 2, 3 and 4, and a capacity
+abbrev pub vehicles : List ℕ → ℤ → ℤ → ℤ → Fields
+vehicles depots first demand capacity = record blank_fields {
+  kind = Some kinds.Cvrp;
+  dimension = Some 4;
+  capacity = Some capacity;
+  demands = Some (first ∷ demand ∷ demand ∷ demand ∷ []);
+  depots = Some depots;
+}
+
+-- those whose depot is node 1, with demands of 4 elsewhere
+abbrev pub carrying : ℤ → Fields
+carrying capacity = vehicles (1 ∷ []) (pos 0) (pos 4) capacity
+
+-- a solution; one that states its number of nodes
+abbrev pub solution : List (List ℕ) → Fields
+solution tours = record blank_fields { kind = Some kinds.Tour; tours = Some tours }
+
+abbrev pub sized : ℕ → List (List ℕ) → Fields
+sized n tours = record (solution tours) { dimension = Some n }
+
+-- a certificate for so many nodes, with these numbers of nodes, of rows and of columns
+abbrev pub certificate : ℕ → Option (List ℤ) → Option (List ℤ) → Option (List ℤ) → Fields
+certificate n numbers rows columns = record blank_fields {
+  kind = Some kinds.Potentials;
+  dimension = Some n;
+  node_potentials = numbers;
+  row_potentials = rows;
+  column_potentials = columns;
+}
+
+abbrev pub of_nodes : ℕ → Fields
+of_nodes n = certificate n (Some []) None None
+
+abbrev pub of_rows : ℕ → Fields
+of_rows n = certificate n None (Some []) None
+
+abbrev pub of_both : ℕ → Fields
+of_both n = certificate n None (Some []) (Some [])
+
+-- one of four nodes, with these multipliers of fixed pairs
+abbrev pub multiplying : List (ℕ × ℕ × ℤ) → Fields
+multiplying triples = record (of_nodes 4) { fixed_potentials = Some triples }
+
+-- a certificate by branching for so many nodes, with these combs and steps
+abbrev pub branching : ℕ → List (List (List ℕ)) → List Step → Fields
+branching n combs steps = record blank_fields {
+  kind = Some kinds.Branches;
+  dimension = Some n;
+  combs = Some combs;
+  branches = Some steps;
+}
+
+-- two leaves that change no number, and three
+abbrev pub two_leaves : List Step
+two_leaves = Leaf [] ∷ Leaf [] ∷ []
+
+abbrev pub three_leaves : List Step
+three_leaves = Leaf [] ∷ two_leaves
+
+-- a comb of four nodes with two teeth
+abbrev pub two_teeth : List (List ℕ)
+two_teeth = (1 ∷ 2 ∷ []) ∷ (1 ∷ 3 ∷ []) ∷ (2 ∷ 4 ∷ []) ∷ []
+
+-- lists of two, three and four nodes
+abbrev pub two : ℕ → ℕ → List ℕ
+two a b = a ∷ b ∷ []
+
+abbrev pub three : ℕ → ℕ → ℕ → List ℕ
+three a b c = a ∷ two b c
+
+abbrev pub four : ℕ → ℕ → ℕ → ℕ → List ℕ
+four a b c d = a ∷ three b c d
+
+-- a single tour, and two routes
+abbrev pub lone : List ℕ → Fields
+lone tour = solution (tour ∷ [])
+
+abbrev pub both : List ℕ → List ℕ → Fields
+both first second = solution (first ∷ second ∷ [])
+
+-- the first reason is judged before the second one
+abbrev pub Before : (Reason → ℕ) → Reason → Reason → Type 0
+Before rank_of first second = rank_of first < rank_of second

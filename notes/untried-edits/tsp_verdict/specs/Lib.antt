@@ -1,0 +1,16 @@
+pub mod Marks
+pub mod Multiplied
+pub mod Next
+pub mod PairSets
+pub mod Places
+pub mod Plan
+pub mod Reasons
+pub mod Routes
+pub mod Solution
+pub mod Sums
+pub mod Tours
+pub mod Certificate
+pub mod Numbered
+pub mod Tree
+pub mod Certified
+pub mod Examples

@@ -1,0 +1,20 @@
+-- Sets of pairs of nodes, in which a pair stands with its smaller node first.
+use Rattle.std.specs.Prelude.{◌≡◌, ℕ, List, if◌then◌else◌, nat_le}
+use Rattle.std.specs.BTreeSet.{BTreeSet, contains}
+use Rattle.std.specs.List.{list_any}
+use Rattle.std.specs.Ordering.{nat_cmp, ordering_then}
+use Rattle.std.specs.declared.cmp.Ordering.{Ordering}
+use Rattle.tsp_theory.specs.Adjusted.{is_same_pair}
+
+-- the same for both directions of a pair
+abbrev pub undirected : ℕ × ℕ → ℕ × ℕ
+undirected pair = if nat_le pair.0 pair.1 then pair else (pair.1, pair.0)
+
+-- the order of pairs
+abbrev pub pair_cmp : ℕ × ℕ → ℕ × ℕ → Ordering
+pair_cmp p q = ordering_then (nat_cmp p.0 q.0) (nat_cmp p.1 q.1)
+
+-- the set has exactly the pairs of a list, in either direction
+abbrev pub HasPairs : {X : Type 0} → (X → ℕ × ℕ) → BTreeSet (ℕ × ℕ) → List X → Type 0
+HasPairs pair_in set xs = (pair : ℕ × ℕ)
+    → contains pair_cmp set (undirected pair) ≡ list_any (λ x. is_same_pair pair (pair_in x)) xs

@@ -1,0 +1,8 @@
+-- Sums of costs.
+use Rattle.std.specs.Prelude.{ℕ, ◌*◌, ℤ, pos, ◌+ℤ◌, ◌≤ℤ◌}
+use Rattle.tsp_format.specs.Limits.{most_weight}
+
+-- of the size of so many costs
+pub record IsSumOf (count : ℕ) (sum : ℤ) : Type 0 where
+  pub low : pos 0 ≤ℤ (sum +ℤ pos (most_weight * count))
+  pub high : sum ≤ℤ pos (most_weight * count)

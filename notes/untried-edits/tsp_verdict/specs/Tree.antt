@@ -1,0 +1,77 @@
+-- A certificate by branching: a file of branches, when it stands against a verdict, and the bound that it gives.
+use Rattle.std.specs.Prelude.{◌≡◌, ◌≢◌, ℕ, ◌-◌, false, if◌then◌else◌, List, [], ◌∷◌, ◌++◌, length, map, slice_index_or, unwrap_or, Result, Ok, Err, ℤ}
+use Rattle.std.specs.List.{list_any}
+use Rattle.tsp_format.specs.Steps as listed
+use Rattle.tsp_draft.specs.Fields.{Fields}
+use Rattle.tsp_draft.specs.Rules.{is_tree}
+use Rattle.tsp_file.specs.Cost.{cost}
+use Rattle.tsp_theory.specs.Adjusted.{is_same_pair}
+use Rattle.tsp_theory.specs.Numbers.{IsBoundSized}
+use Rattle.tsp_branch.specs.Combs.{Comb}
+use Rattle.tsp_branch.specs.CombsOfSets.{comb_with}
+use Rattle.tsp_branch.specs.Cases.{Step}
+use Rattle.tsp_branch.specs.Certificate.{IsCertificate, IsCertificateBound}
+use Rattle.tsp_branch.specs.Decided.{decided_number}
+use Rattle.tsp_branch.specs.Decisions.{Decision, take_pairs}
+use Rattle.tsp_branch.specs.GoodCombs.{IsGoodComb}
+use Rattle.tsp_branch.specs.Listed.{no_numbers_of, listed_steps, IsFirstBadFrom}
+use Rattle.tsp_branch.specs.Twice.{IsFirstTwiceFrom}
+use Rattle.tsp_reason.specs.declared.verdict.Reason.{Reason}
+use Rattle.tsp_reason.specs.declared.verdict.Reason.TheVariants.{NotBranches, BranchesDimension, BadComb, BranchTwice, BadLeaf}
+use Rattle.tsp_verdict.specs.Certificate.{scale_in}
+use Rattle.tsp_verdict.specs.Places.{IsFirstPlace}
+use Rattle.tsp_verdict.specs.Reasons.{IsFirstReason}
+use Rattle.tsp_verdict.specs.Solution.{nodes_of, fixed_of}
+use Rattle.tsp_verdict.specs.Tours.{rank_of_tours}
+
+-- ---- what is read of it, and of the instance
+
+-- its combs, each as its sets, the handle first
+abbrev pub combs_in : Fields → List (List (List ℕ))
+combs_in f = unwrap_or f.combs []
+
+abbrev pub steps_in : Fields → List listed.Step
+steps_in f = unwrap_or f.branches []
+
+-- pairs, each once: without those that are an earlier one, in either direction
+abbrev pub each_once : List (ℕ × ℕ) → List (ℕ × ℕ) → List (ℕ × ℕ)
+each_once earlier [] = []
+each_once earlier (pair ∷ pairs) = if list_any (is_same_pair pair) earlier then each_once (earlier ++ pair ∷ []) pairs
+    else (pair ∷ each_once (earlier ++ pair ∷ []) pairs)
+
+-- what is decided in all cases: the fixed pairs are taken
+abbrev pub given_in : Fields → List Decision
+given_in inst = take_pairs (each_once [] (fixed_of inst))
+
+-- the steps of its tree, with the potentials and the multipliers of each leaf; the combs
+abbrev pub tree_in : Fields → Fields → List Step
+tree_in inst tree = listed_steps (nodes_of inst) (length (combs_in tree)) (steps_in tree)
+
+abbrev pub told_combs : Fields → List Comb
+told_combs tree = map comb_with (combs_in tree)
+
+-- ---- when a reason stands against it; reasons of tours, of routes and of potentials never do
+
+-- the sets at the place aren't those of a comb, each with its nodes once
+abbrev pub IsBadComb : ℕ → List (List (List ℕ)) → ℕ → Type 0
+IsBadComb n combs place = IsGoodComb n (slice_index_or combs (place - 1) []) → ⊥
+
+-- the first leaf that isn't good; before the first one all numbers are 0
+abbrev pub IsFirstBadLeaf : ℕ → ℕ → List listed.Step → ℕ → Type 0
+IsFirstBadLeaf n combs steps index = IsFirstBadFrom n combs (no_numbers_of n combs) 0 steps index
+
+abbrev pub StandsAgainstTree : Fields → Fields → Reason → Type 0
+StandsAgainstTree inst tree NotBranches = is_tree tree.kind ≡ false
+StandsAgainstTree inst tree BranchesDimension = nodes_of tree ≢ nodes_of inst
+StandsAgainstTree inst tree (BadComb index) = IsFirstPlace (IsBadComb (nodes_of inst) (combs_in tree)) (combs_in tree) index
+StandsAgainstTree inst tree (BranchTwice index) = IsFirstTwiceFrom 0 (given_in inst ∷ []) (steps_in tree) index
+StandsAgainstTree inst tree (BadLeaf index) = IsFirstBadLeaf (nodes_of inst) (length (combs_in tree)) (steps_in tree) index
+StandsAgainstTree inst tree reason = ⊥
+
+-- ---- its bound
+
+-- combs, a whole tree and good numbers at its leaves, and the least of the bounds of these
+abbrev pub IsBoundByTree : Fields → Fields → ℤ → Type 0
+IsBoundByTree inst tree bound = IsCertificate (nodes_of inst) (told_combs tree) (given_in inst) (tree_in inst tree)
+    × IsCertificateBound (nodes_of inst) (cost inst) (scale_in tree) decided_number (told_combs tree) (given_in inst)
+    (tree_in inst tree) bound

@@ -1,0 +1,33 @@
+//! The fixed pairs of an instance as decisions.
+
+ghost use Rattle.std.specs.Prelude.{◌≡◌, ◌≤◌, length, [], IfOk};
+ghost use Rattle.tsp_branch.specs.Decided.{case_of};
+ghost use Rattle.tsp_branch.specs.Decisions.{take_pairs};
+ghost use Rattle.tsp_verdict.specs.Tree.{each_once};
+
+use crate::multiplied::undirected;
+use std::alloc::{AllocError, Global};
+use std::collections::BTreeSet;
+
+/// Pairs as decisions that take them, each once: without those that are an earlier one, in either
+/// direction.
+///
+/// # Errors
+///
+/// Out of memory for the pairs.
+pub(crate) fn taken_once(
+    alloc: Global,
+    pairs: &[(u32, u32)],
+) -> Result<Vec<(u32, u32, bool)>, AllocError>
+    ensures { IfOk result (λ taken. case_of taken.items ≡ take_pairs (each_once [] pairs.now)) }
+{
+    let mut seen = BTreeSet::new(alloc);
+    let mut taken = Vec::new(alloc);
+    'pairs: for pair in pairs {
+        let is_new = seen.insert(undirected(*pair))?;
+        if is_new {
+            taken.push((pair.0, pair.1, true))?;
+        }
+    }
+    Ok(taken)
+}

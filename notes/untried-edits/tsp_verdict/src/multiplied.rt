@@ -1,0 +1,96 @@
+//! Which triples of multipliers are on a pair that isn't fixed, or on that of an earlier triple.
+
+ghost use Rattle.std.specs.Prelude.{◌≡◌, ◌^◌, ◌<◌, ℕ, List, false, length, IfOk, MatchOption};
+ghost use Rattle.std.specs.List.{AllPairs};
+ghost use Rattle.tsp_theory.specs.Adjusted.{pair_of, is_same_pair};
+ghost use Rattle.tsp_verdict.specs.Multiplied.{AreListed, IsUnlisted, IsPairRepeated};
+ghost use Rattle.tsp_verdict.specs.PairSets.{undirected, HasPairs};
+ghost use Rattle.tsp_verdict.specs.Places.{IsFirstPlace};
+
+use std::alloc::{AllocError, Global};
+use std::collections::BTreeSet;
+
+/// The first triple, counted from 1, whose pair isn't among the fixed ones, in either direction.
+///
+/// # Errors
+///
+/// Out of memory for the fixed pairs.
+pub(crate) fn first_unlisted(
+    alloc: Global,
+    fixed: &[(u32, u32)],
+    triples: &[(u32, u32, i64)],
+) -> Result<Option<u32>, AllocError>
+    requires { length triples.now < 2 ^ 32 }
+    ensures { IfOk result (λ found. MatchOption found
+        (AreListed fixed.now triples.now)
+        (λ index. IsFirstPlace (IsUnlisted fixed.now triples.now) triples.now index)) }
+{
+    let listed = set_of(alloc, fixed)?;
+    Ok(first_outside(&listed, triples))
+}
+
+/// The first triple, counted from 1, whose pair an earlier one has, in either direction.
+///
+/// # Errors
+///
+/// Out of memory for the pairs.
+pub(crate) fn first_repeated_pair(
+    alloc: Global,
+    triples: &[(u32, u32, i64)],
+) -> Result<Option<u32>, AllocError>
+    requires { length triples.now < 2 ^ 32 }
+    ensures { IfOk result (λ found. MatchOption found
+        (AllPairs (λ s t. is_same_pair (pair_of s) (pair_of t) ≡ false) triples.now)
+        (λ index. IsFirstPlace (IsPairRepeated triples.now) triples.now index)) }
+{
+    let mut seen = BTreeSet::new(alloc);
+    let mut index = 0;
+    'triples: for triple in triples {
+        index += 1;
+        let is_new = seen.insert(undirected((triple.0, triple.1)))?;
+        if !is_new {
+            return Ok(Some(index));
+        }
+    }
+    Ok(None)
+}
+
+/// The pairs, each with its smaller node first.
+fn set_of(alloc: Global, pairs: &[(u32, u32)]) -> Result<BTreeSet<(u32, u32)>, AllocError>
+    ensures { IfOk result (λ set. HasPairs (λ pair. pair) set pairs.now) }
+{
+    let mut set = BTreeSet::new(alloc);
+    'pairs: for pair in pairs {
+        set.insert(undirected(*pair))?;
+    }
+    Ok(set)
+}
+
+/// The first triple, counted from 1, whose pair isn't in a set.
+fn first_outside(set: &BTreeSet<(u32, u32)>, triples: &[(u32, u32, i64)]) -> Option<u32>
+    requires { length triples.now < 2 ^ 32 }
+    ensures { (pairs : List (ℕ × ℕ)) → HasPairs (λ pair. pair) set.now pairs → MatchOption result
+        (AreListed pairs triples.now)
+        (λ index. IsFirstPlace (IsUnlisted pairs triples.now) triples.now index) }
+{
+    let mut index = 0;
+    'triples: for triple in triples {
+        index += 1;
+        let pair = undirected((triple.0, triple.1));
+        if !set.contains(&pair) {
+            return Some(index);
+        }
+    }
+    None
+}
+
+/// A pair with its smaller node first.
+pub(crate) fn undirected(pair: (u32, u32)) -> (u32, u32)
+    ensures { result ≡ undirected pair }
+{
+    if pair.0 <= pair.1 {
+        pair
+    } else {
+        (pair.1, pair.0)
+    }
+}

@@ -1,0 +1,83 @@
+//! The first places of a list of nodes at which something holds. Places count from 1.
+
+ghost use Rattle.std.specs.Prelude.{◌≡◌, ◌≢◌, ◌+◌, ◌^◌, ◌<◌, ◌≤◌, ℕ, List, length, vec_len, IfOk, MatchOption};
+ghost use Rattle.std.specs.List.{All};
+ghost use Rattle.tsp_verdict.specs.Marks.{Marked, StandsAfter};
+ghost use Rattle.tsp_verdict.specs.Places.{IsFirstPlace, IsLarger, IsAt, IsRepeated, HoldsAtNone};
+
+use std::alloc::{AllocError, Global};
+
+/// The first place whose node is larger than n.
+pub(crate) fn first_larger(nodes: &[u32], n: u32) -> Option<u32>
+    requires { length nodes.now < 2 ^ 32 }
+    ensures { MatchOption result
+        (All (λ node. node ≤ n) nodes.now)
+        (λ place. IsFirstPlace (IsLarger n nodes.now) nodes.now place) }
+{
+    let mut place = 0;
+    'nodes: for node in nodes {
+        place += 1;
+        if *node > n {
+            return Some(place);
+        }
+    }
+    None
+}
+
+/// The first place whose node is the one sought.
+pub(crate) fn first_of(nodes: &[u32], sought: u32) -> Option<u32>
+    requires { length nodes.now < 2 ^ 32 }
+    ensures { MatchOption result
+        (All (λ node. node ≢ sought) nodes.now)
+        (λ place. IsFirstPlace (IsAt sought nodes.now) nodes.now place) }
+{
+    let mut place = 0;
+    'nodes: for node in nodes {
+        place += 1;
+        if *node == sought {
+            return Some(place);
+        }
+    }
+    None
+}
+
+/// The first place whose node stands at an earlier place too.
+///
+/// # Errors
+///
+/// Out of memory for a mark for each node.
+pub(crate) fn first_repeated(
+    alloc: Global,
+    nodes: &[u32],
+    n: u32,
+) -> Result<Option<u32>, AllocError>
+    requires size { length nodes.now < 2 ^ 32 }
+    requires range { All (λ node. node ≤ n) nodes.now }
+    ensures { IfOk result (λ found. MatchOption found
+        (HoldsAtNone (IsRepeated nodes.now) (length nodes.now))
+        (λ place. IsFirstPlace (IsRepeated nodes.now) nodes.now place)) }
+{
+    let mut seen = vec![in alloc; false; n as usize + 1]?;
+    Ok(mark(&mut seen, nodes))
+}
+
+/// Marks nodes, up to the first place whose node is marked already.
+pub(crate) fn mark(seen: &mut Vec<bool>, nodes: &[u32]) -> Option<u32>
+    requires size { length nodes.now < 2 ^ 32 }
+    requires range { All (λ node. node < vec_len seen.old) nodes.now }
+    ensures len { vec_len seen.new ≡ vec_len seen.old }
+    ensures marks { (all : List ℕ) (before : ℕ) → StandsAfter before all nodes.now
+        → Marked all seen.old.items before → MatchOption result
+        (Marked all seen.new.items (before + length nodes.now))
+        (λ place. IsFirstPlace (IsRepeated all) all (before + place)) }
+{
+    let mut place = 0;
+    'nodes: for node in nodes {
+        place += 1;
+        if seen[*node as usize] {
+            return Some(place);
+        }
+        seen[*node as usize] = true;
+    }
+    None
+}
