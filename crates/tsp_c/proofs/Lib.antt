@@ -1,0 +1,4 @@
+mod Ends
+mod Filled
+mod Lists
+mod OnTexts
