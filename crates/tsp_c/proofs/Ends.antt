@@ -7,7 +7,7 @@ use Rattle.tsp_text.specs.declared.fault.ReadFault.TheVariants as read_faults
 use Rattle.tsp_judge.specs.declared.fault.RunFault.{RunFault}
 use Rattle.tsp_judge.specs.declared.fault.RunFault.TheVariants.{File, WrongKind, Write, OutOfMemory, Relayout}
 use Rattle.tsp_judge.specs.Status.{status_of_fault}
-use Rattle.tsp_c.specs.Ended.{without_devices, EndsRun, EndsWithText}
+use Rattle.tsp_c.specs.Ended.{without_devices, EndsOnTexts, EndsWithText}
 
 -- the status of a fault in memory: 2, 3, or 1 where weights can't go into a layout
 pub record FaultStatus (fault : RunFault) (status : ℕ) : Type 0 where
@@ -41,7 +41,7 @@ fault_status (Relayout refused) = relayout_status refused
 -- ---- the statuses of an answer
 
 pub yes_ends : {Yes No : List ℕ → Type 0} {Faulty : RunFault → Type 0} (written : List ℕ) (status : ℕ) (text : List ℕ) → Yes written
-    → EndsRun (Ok true) written status text → EndsWithText Yes No Faulty status text
+    → EndsOnTexts (Ok true) written status text → EndsWithText Yes No Faulty status text
 yes_ends {Yes = Yes} written status text yes e = let zero : status ≡ 0 = e.0 in record {
   most = omega arith;
   yes = λ is. subst Yes (sym e.1) yes;
@@ -50,7 +50,7 @@ yes_ends {Yes = Yes} written status text yes e = let zero : status ≡ 0 = e.0 i
 }
 
 pub no_ends : {Yes No : List ℕ → Type 0} {Faulty : RunFault → Type 0} (written : List ℕ) (status : ℕ) (text : List ℕ) → No written
-    → EndsRun (Ok false) written status text → EndsWithText Yes No Faulty status text
+    → EndsOnTexts (Ok false) written status text → EndsWithText Yes No Faulty status text
 no_ends {No = No} written status text no e = let one : status ≡ 1 = e.0 in record {
   most = omega arith;
   yes = λ zero. absurd (omega arith);
@@ -81,7 +81,7 @@ memory_says status text three = record {
 
 pub fault_ends : {Yes No : List ℕ → Type 0} {Faulty : RunFault → Type 0} (fault : RunFault) (written : List ℕ) (status : ℕ)
     (text : List ℕ) → ((refused : RelayoutFault) → fault ≡ Relayout refused → No text)
-    → (status_of_fault (without_devices fault) ≡ 2 → Faulty fault) → EndsRun (Err fault) written status text
+    → (status_of_fault (without_devices fault) ≡ 2 → Faulty fault) → EndsOnTexts (Err fault) written status text
     → EndsWithText Yes No Faulty status text
 fault_ends {Yes = Yes} {No = No} {Faulty = Faulty} fault written status text refuses faulty e = elim e [
   | inl told ↦ subst (λ (s : ℕ). EndsWithText Yes No Faulty s text) (sym told)

@@ -55,17 +55,16 @@ lists_counted [] = refl
 lists_counted (node ∷ nodes) = counted_more node nodes (lists_in nodes) (count_by (λ node. node == 0) nodes) (node == 0) (lists_counted nodes)
 
 -- the item at an index, and those behind it
-first_or : {X : Type 0} → X → List X → X
+abbrev first_or : {X : Type 0} → X → List X → X
 first_or d [] = d
 first_or d (x ∷ xs) = x
 
-others_of : {X : Type 0} → List X → List X
+abbrev others_of : {X : Type 0} → List X → List X
 others_of [] = []
 others_of (x ∷ xs) = xs
 
 pub drop_first : {X : Type 0} (xs : List X) (place : ℕ) (d x : X) (rest : List X) → drop place xs ≡ x ∷ rest
     → (get_or xs place d ≡ x) × (drop (place + 1) xs ≡ rest) × (place < length xs)
-unfolding first_or, others_of
 drop_first xs place d x rest e =
     let long : length (drop place xs) ≡ suc (length rest) = ap length e in
     let within : place < length xs = omega (arith, length-drop place xs) in

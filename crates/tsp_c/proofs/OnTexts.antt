@@ -26,7 +26,7 @@ use Rattle.tsp_judge.specs.Yes.{IsATourYes, IsARoutesYes, IsCheck}
 use Rattle.tsp_judge.specs.BoundRun.{IsNoBounded, AreJudgedWith, IsBoundRun, IsAYes, IsCheckBy}
 use Rattle.tsp_judge.specs.ShowRun.{IsShowRun}
 use Rattle.tsp_judge.specs.ConvertRun.{IsConvertRun}
-use Rattle.tsp_c.specs.Ended.{without_devices, done, EndsRun}
+use Rattle.tsp_c.specs.Ended.{without_devices, done, EndsOnTexts}
 use Rattle.tsp_c.specs.Texts.{IsFileText, ShowsText, ConvertsText}
 use Rattle.tsp_c.specs.Texts.{IsTourAccepted, AreRoutesAccepted, IsRejected, IsUnchecked, ChecksAlone}
 use Rattle.tsp_c.specs.Texts.{IsAYesOfTexts, IsRejectedWith, IsUncheckedWith, ChecksWith}
@@ -65,7 +65,7 @@ printed_is sink written report is has =
 -- ---- what is shown, and what is converted
 
 pub shows : (turn : Turn) (sink : Sink) (ended : Result (Unit {0}) RunFault) (one written : List ℕ) (status : ℕ) (text : List ℕ)
-    → turn.known ≡ Some one → Collects sink written → IsShowRun turn sink ended → EndsRun (done ended) written status text
+    → turn.known ≡ Some one → Collects sink written → IsShowRun turn sink ended → EndsOnTexts (done ended) written status text
     → ShowsText one status text
 shows turn sink (Ok is) one written status text known collects run e =
     yes_ends written status text (run.0, spelled turn one run.0 known run.1, printed_is sink written _ collects run.2) e
@@ -81,7 +81,7 @@ shows turn sink (Err (Write write_faults.Device)) one written status text known 
 
 pub converts : (to : Option Layout) (turn : Turn) (sink : Sink) (ended : Result (Unit {0}) RunFault) (one written : List ℕ) (status : ℕ)
     (text : List ℕ) → turn.known ≡ Some one → Collects sink written → IsConvertRun to turn sink ended
-    → EndsRun (done ended) written status text → ConvertsText to one status text
+    → EndsOnTexts (done ended) written status text → ConvertsText to one status text
 converts to turn sink (Ok is) one written status text known collects run e =
     let new = run.0 in let converted = run.1 in
     yes_ends written status text (
@@ -181,7 +181,7 @@ no_relayout : (first second : Turn) (sink : Sink) (fault : RunFault) (refused : 
 no_relayout first second sink fault refused is run = subst (λ (f : RunFault). IsRun first second sink (Err f)) is run
 
 pub checks : (first second : Turn) (sink : Sink) (answer : Result Bool RunFault) (one two written : List ℕ) (status : ℕ) (text : List ℕ)
-    → Reads2 first second one two → Collects sink written → IsCheck first second sink answer → EndsRun answer written status text
+    → Reads2 first second one two → Collects sink written → IsCheck first second sink answer → EndsOnTexts answer written status text
     → ChecksAlone one two status text
 checks first second sink (Ok true) one two written status text reads collects check e = yes_ends written status text
     (elim (check.1 refl) [
@@ -276,7 +276,7 @@ no_relayout_with by first second third sink fault refused is run =
 
 pub checks_with : (by : Certificate) (first second third : Turn) (sink : Sink) (answer : Result Bool RunFault)
     (one two three written : List ℕ) (status : ℕ) (text : List ℕ) → Reads3 first second third one two three → Collects sink written
-    → IsCheckBy by first second third sink answer → EndsRun answer written status text → ChecksWith by one two three status text
+    → IsCheckBy by first second third sink answer → EndsOnTexts answer written status text → ChecksWith by one two three status text
 checks_with by first second third sink (Ok true) one two three written status text reads collects check e =
     yes_ends written status text (accepted_with by first second third sink one two three written reads collects (check.1 refl)) e
 checks_with by first second third sink (Ok false) one two three written status text reads collects check e =

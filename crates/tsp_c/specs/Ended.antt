@@ -1,5 +1,5 @@
 -- How a call on texts ends: its status, and the text that goes to the caller's buffer.
-use Rattle.std.specs.Prelude.{◌≡◌, ◌⊎◌, ℕ, zero, suc, ◌≤◌, ◌<◌, Bool, List, [], ◌∷◌, ◌++◌, length, drop, Option, None, Some, Result, Ok, Err}
+use Rattle.std.specs.Prelude.{◌≡◌, ◌⊎◌, ℕ, zero, suc, ◌≤◌, ◌<◌, Bool, true, List, [], ◌∷◌, ◌++◌, length, drop, Option, None, Some, Result, Ok, Err}
 use Rattle.tsp_stream.specs.declared.output.WriteFault.TheVariants as write_faults
 use Rattle.tsp_text.specs.declared.fault.ReadFault.TheVariants as read_faults
 use Rattle.tsp_judge.specs.declared.fault.RunFault.{RunFault}
@@ -42,9 +42,9 @@ without_devices (Write write_faults.Device) = Write write_faults.OutOfMemory
 without_devices fault = fault
 
 -- A run that has an answer ends with its status, and with what it wrote. One that has none ends with the status of its fault.
-abbrev pub EndsRun : Result Bool RunFault → List ℕ → ℕ → List ℕ → Type 0
-EndsRun (Ok answer) written status text = (status ≡ status_of (Ok answer)) × (text ≡ written)
-EndsRun (Err fault) written status text = (status ≡ status_of_fault (without_devices fault)) ⊎ (status ≡ 3)
+abbrev pub EndsOnTexts : Result Bool RunFault → List ℕ → ℕ → List ℕ → Type 0
+EndsOnTexts (Ok answer) written status text = (status ≡ status_of (Ok answer)) × (text ≡ written)
+EndsOnTexts (Err fault) written status text = (status ≡ status_of_fault (without_devices fault)) ⊎ (status ≡ 3)
 
 -- ---- what a status says
 

@@ -129,10 +129,10 @@ FillsLengths text nodes old new status = OfInstance text (λ instance. EndsLengt
 -- ---- coordinates of points
 
 -- 1 is NODE_COORD_SECTION, 2 DISPLAY_DATA_SECTION
-abbrev pub points_in : ℕ → Fields → Option (List Point)
-points_in (suc zero) file = file.coords
-points_in (suc (suc zero)) file = file.display
-points_in section file = None
+abbrev pub section_points : ℕ → Fields → Option (List Point)
+section_points (suc zero) file = file.coords
+section_points (suc (suc zero)) file = file.display
+section_points section file = None
 
 abbrev pub IsSection : ℕ → Type 0
 IsSection section = (1 ≤ section) × (section ≤ 2)
@@ -156,7 +156,7 @@ EndsPoints (Some points) old new status =
 
 abbrev pub FillsPoints : List ℕ → ℕ → List ℤ → List ℤ → ℕ → Type 0
 FillsPoints text section old new status =
-    (IsSection section × ((file : Fields) × Spells text file × EndsPoints (points_in section file) old new status))
+    (IsSection section × ((file : Fields) × Spells text file × EndsPoints (section_points section file) old new status))
     ⊎ ((status ≡ 2) × (new ≡ old) × HasSomeFault text)
     ⊎ ((status ≡ 3) × (new ≡ old))
     ⊎ ((status ≡ 4) × (new ≡ old) × ¬ IsSection section)

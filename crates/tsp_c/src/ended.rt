@@ -2,7 +2,7 @@
 
 ghost use Rattle.std.specs.Prelude.{◌≡◌};
 ghost use Rattle.tsp_stream.specs.Watched.{watched};
-ghost use Rattle.tsp_c.specs.Ended.{EndsRun, without_devices};
+ghost use Rattle.tsp_c.specs.Ended.{EndsOnTexts, without_devices};
 
 use std::io::Write;
 use tsp_judge::{ReadFault, RunFault, Watched, WriteFault, status_of};
@@ -13,7 +13,7 @@ const OUT_OF_MEMORY: u8 = 3;
 /// The status with which a run on texts ends, and the text that goes to the caller: what the run wrote, or
 /// the line of its fault. Where there is no memory for a line, the text is empty.
 pub(crate) fn ended(answer: Result<bool, RunFault>, report: Watched<Vec<u8>>) -> (u8, Vec<u8>)
-    ensures { EndsRun answer (watched report).items result.0 result.1.items }
+    ensures { EndsOnTexts answer (watched report).items result.0 result.1.items }
 {
     let mut text = report.into_inner();
     match answer {

@@ -2,7 +2,7 @@
 
 ghost use Rattle.std.specs.Prelude.{◌≡◌, ◌≤◌, ◌*◌, length, option_map};
 ghost use Rattle.tsp_draft.specs.Coords.{points_of};
-ghost use Rattle.tsp_c.specs.Numbers.{EndsPoints, FillsPoints, IsFilled, IsSection, coordinate, point_number, points_in};
+ghost use Rattle.tsp_c.specs.Numbers.{EndsPoints, FillsPoints, IsFilled, IsSection, coordinate, point_number, section_points};
 
 use crate::fill::put;
 use crate::status::{DONE, NO, NO_FILE, OUT_OF_MEMORY, REFUSED, TOO_SMALL};
@@ -33,7 +33,7 @@ pub(crate) fn fill_points(alloc: Global, text: &[u8], section: u32, out: &mut [i
 /// The same of a file.
 fn points_of_file(file: &File, section: u32, out: &mut [i64]) -> u32
     requires { IsSection section }
-    ensures { EndsPoints (points_in section file.now) out.old out.new result }
+    ensures { EndsPoints (section_points section file.now) out.old out.new result }
 {
     match section_of(file, section) {
         None => NO,
@@ -50,7 +50,7 @@ fn points_of_file(file: &File, section: u32, out: &mut [i64]) -> u32
 /// The points of a section.
 fn section_of(file: &File, section: u32) -> Option<&Coords>
     requires { IsSection section }
-    ensures { option_map (λ points. points_of points.now) result ≡ points_in section file.now }
+    ensures { option_map (λ points. points_of points.now) result ≡ section_points section file.now }
 {
     match section {
         1 => file.coords(),
