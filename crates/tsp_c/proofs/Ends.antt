@@ -42,19 +42,19 @@ fault_status (Relayout refused) = relayout_status refused
 
 pub yes_ends : {Yes No : List ℕ → Type 0} {Faulty : RunFault → Type 0} (written : List ℕ) (status : ℕ) (text : List ℕ) → Yes written
     → EndsOnTexts (Ok true) written status text → EndsWithText Yes No Faulty status text
-yes_ends {Yes = Yes} written status text yes e = let zero : status ≡ 0 = e.0 in record {
+yes_ends {Yes = Yes} written status text accepted e = let zero : status ≡ 0 = e.0 in record {
   most = omega arith;
-  yes = λ is. subst Yes (sym e.1) yes;
+  yes = λ is. subst Yes (sym e.1) accepted;
   no = λ one. absurd (omega arith);
   faulty = λ two. absurd (omega arith);
 }
 
 pub no_ends : {Yes No : List ℕ → Type 0} {Faulty : RunFault → Type 0} (written : List ℕ) (status : ℕ) (text : List ℕ) → No written
     → EndsOnTexts (Ok false) written status text → EndsWithText Yes No Faulty status text
-no_ends {No = No} written status text no e = let one : status ≡ 1 = e.0 in record {
+no_ends {No = No} written status text rejected e = let one : status ≡ 1 = e.0 in record {
   most = omega arith;
   yes = λ zero. absurd (omega arith);
-  no = λ is. subst No (sym e.1) no;
+  no = λ is. subst No (sym e.1) rejected;
   faulty = λ two. absurd (omega arith);
 }
 

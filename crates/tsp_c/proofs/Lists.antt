@@ -1,12 +1,12 @@
 -- Lists of nodes, each of which a 0 ends.
-use Rattle.std.proofs.Common.{◌≡◌, ◌≤◌, ℕ, suc, ◌+◌, ◌<◌, Bool, true, false, cond, List, [], ◌∷◌, length, take, drop, length-drop, drop-cons, add-one, refl, sym, ap, subst, ◌∙◌, arith}
-use Rattle.std.specs.Prelude.{◌==◌, not, Option, Some, None, slice_index_or as get_or}
+use Rattle.std.proofs.Common.{◌≡◌, ◌≤◌, ℕ, zero, suc, ◌+◌, ◌<◌, Bool, true, false, cond, List, [], ◌∷◌, length, take, drop, length-drop, drop-cons, add-one, ltb-true, ltb-false, refl, sym, ap, subst, ◌∙◌, arith}
+use Rattle.std.specs.Prelude.{◌==◌, not, nat_lt, Option, Some, None, unwrap_or, slice_index_or as get_or}
 use Rattle.std.specs.List.{All, count_by, position, position_or_len, prefix_len}
+use Rattle.std.proofs.lemmas.Bool.{false≢true}
+use Rattle.std.proofs.lemmas.List.{get_or-take, length-take}
+use Rattle.std.proofs.lemmas.List.Sums.{prefix_len_passes, sum_by-cons}
 use Rattle.tsp_format.specs.Cells.{IsNode}
 use Rattle.tsp_c.specs.Numbers.{lists_in, onto_first_list}
-
-is_end : ℕ → Bool
-is_end node = node == 0
 
 -- how many nodes the first list has
 abbrev first_len : List ℕ → ℕ
@@ -47,12 +47,14 @@ lists_none (node ∷ nodes) all = none_more node nodes (node == 0) (lists_none n
 counted_more : (node : ℕ) (nodes : List ℕ) (lists : List (List ℕ)) (count : ℕ) (ends : Bool) → count ≡ length lists
     → cond ends 1 0 + count ≡ length (cond ends ([] ∷ lists) (onto_first_list node lists))
 counted_more node nodes lists count true e = grind (arith, e)
-counted_more node nodes [] count false e = e
-counted_more node nodes (list ∷ lists) count false e = e
+counted_more node nodes [] count false e = grind (arith, e)
+counted_more node nodes (list ∷ lists) count false e = grind (arith, e)
 
 pub lists_counted : (nodes : List ℕ) → count_by (λ node. node == 0) nodes ≡ length (lists_in nodes)
 lists_counted [] = refl
-lists_counted (node ∷ nodes) = counted_more node nodes (lists_in nodes) (count_by (λ node. node == 0) nodes) (node == 0) (lists_counted nodes)
+lists_counted (node ∷ nodes) =
+    sum_by-cons (λ x. cond (x == 0) 1 0) node nodes
+    ∙ counted_more node nodes (lists_in nodes) (count_by (λ x. x == 0) nodes) (node == 0) (lists_counted nodes)
 
 -- the item at an index, and those behind it
 abbrev first_or : {X : Type 0} → X → List X → X
@@ -70,3 +72,49 @@ drop_first xs place d x rest e =
     let within : place < length xs = omega (arith, length-drop place xs) in
     let cut : get_or xs place d ∷ drop (suc place) xs ≡ x ∷ rest = sym (drop-cons xs place d within) ∙ e in
     (ap (first_or d) cut, rw add-one (ap others_of cut), within)
+
+-- ---- where the first 0 is
+
+found_more : (found : Bool) (size len end : ℕ) → nat_lt size len ≡ found → Some end ≡ cond found (Some size) None
+    → (end ≡ size) × (size < len)
+found_more true size len end e is = (some_is end size is, ltb-true size len e)
+  where
+    some_is : (a b : ℕ) → Some a ≡ Some b → a ≡ b
+    some_is a b is = ap (λ o. unwrap_or o 0) is
+found_more false size len end e is = absurd cc
+
+pub end_found : (nodes : List ℕ) (end : ℕ) → Some end ≡ position (λ node. node == 0) nodes
+    → (end ≡ first_len nodes) × (first_len nodes < length nodes)
+end_found nodes end is = found_more (nat_lt (first_len nodes) (length nodes)) (first_len nodes) (length nodes) end refl is
+
+missing_more : (found : Bool) (size len : ℕ) → nat_lt size len ≡ found → None ≡ cond found (Some size) None → len ≤ size
+missing_more true size len e is = absurd cc
+missing_more false size len e is = ltb-false size len e
+
+pub end_missing : (nodes : List ℕ) → None ≡ position (λ node. node == 0) nodes → length nodes ≤ first_len nodes
+end_missing nodes is = missing_more (nat_lt (first_len nodes) (length nodes)) (first_len nodes) (length nodes) refl is
+
+-- ---- a step of the loop over lists
+
+-- what a list before its 0 has are nodes
+pub nodes_before : (count : ℕ) (nodes : List ℕ) → All (λ node. node ≤ count) nodes → first_len nodes < length nodes
+    → All (IsNode count) (take (first_len nodes) nodes)
+nodes_before count nodes most within = λ k d inside.
+    let size = first_len nodes in
+    let here : k < size = omega (arith, length-take size nodes, inside) in
+    let passes : not (get_or nodes k d == 0) ≡ true = prefix_len_passes (λ node. not (node == 0)) nodes k d here in
+    let same : get_or (take size nodes) k d ≡ get_or nodes k d = get_or-take size nodes k d here in
+    rw same (some_node (get_or nodes k d) passes, most k d (omega arith))
+  where
+    some_node : (node : ℕ) → not (node == 0) ≡ true → 1 ≤ node
+    some_node zero passes = absurd (false≢true passes)
+    some_node (suc node) passes = omega arith
+
+-- the list at a place, and those behind it
+pub next_list : (nodes rest : List ℕ) (place end : ℕ) → drop place (lists_in nodes) ≡ lists_in rest → end ≡ first_len rest
+    → first_len rest < length rest → (get_or (lists_in nodes) place [] ≡ take end rest)
+    × (drop (place + 1) (lists_in nodes) ≡ lists_in (drop (end + 1) rest)) × (place < length (lists_in nodes))
+next_list nodes rest place end left is within =
+    let cut : drop place (lists_in nodes) ≡ take (first_len rest) rest ∷ lists_in (drop (first_len rest + 1) rest) =
+    left ∙ lists_cut rest within in
+    rw is (drop_first (lists_in nodes) place [] (take (first_len rest) rest) (lists_in (drop (first_len rest + 1) rest)) cut)

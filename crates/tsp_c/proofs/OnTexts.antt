@@ -9,6 +9,7 @@ use Rattle.tsp_stream.specs.Turn.{Turn}
 use Rattle.tsp_stream.specs.Sink.{Sink, HasWritten}
 use Rattle.tsp_draft.specs.Fields.{Fields}
 use Rattle.tsp_file.specs.declared.fault.RelayoutFault.{RelayoutFault}
+use Rattle.tsp_file.specs.declared.fault.RelayoutFault.TheVariants as relayout_faults
 use Rattle.tsp_text.specs.declared.fault.ReadFault.{ReadFault}
 use Rattle.tsp_text.specs.declared.fault.ReadFault.TheVariants as read_faults
 use Rattle.tsp_text.specs.Text.{fault, Spells}
@@ -120,32 +121,32 @@ pub record Reads2 (first second : Turn) (one two : List ℕ) : Type 0 where
 
 tour_accepted : (first second : Turn) (sink : Sink) (one two written : List ℕ) → Reads2 first second one two → Collects sink written
     → IsATourYes first second sink → IsTourAccepted one two written
-tour_accepted first second sink one two written reads collects yes = record {
-  instance = yes.instance;
-  solution = yes.solution;
-  first_file = spelled first one yes.instance reads.first_is yes.first_file;
-  second_file = spelled second two yes.solution reads.second_is yes.second_file;
-  of_type = yes.of_type;
-  of_tours = yes.of_tours;
-  tour = yes.tour;
-  only = yes.only;
-  tour_of = yes.tour_of;
-  printed = printed_is sink written _ collects yes.printed;
+tour_accepted first second sink one two written reads collects says = record {
+  instance = says.instance;
+  solution = says.solution;
+  first_file = spelled first one says.instance reads.first_is says.first_file;
+  second_file = spelled second two says.solution reads.second_is says.second_file;
+  of_type = says.of_type;
+  of_tours = says.of_tours;
+  tour = says.tour;
+  only = says.only;
+  tour_of = says.tour_of;
+  printed = printed_is sink written _ collects says.printed;
 }
 
 routes_accepted : (first second : Turn) (sink : Sink) (one two written : List ℕ) → Reads2 first second one two → Collects sink written
     → IsARoutesYes first second sink → AreRoutesAccepted one two written
-routes_accepted first second sink one two written reads collects yes = record {
-  instance = yes.instance;
-  solution = yes.solution;
-  first_file = spelled first one yes.instance reads.first_is yes.first_file;
-  second_file = spelled second two yes.solution reads.second_is yes.second_file;
-  of_type = yes.of_type;
-  of_tours = yes.of_tours;
-  plan_of = yes.plan_of;
-  least = yes.least;
-  none_fewer = yes.none_fewer;
-  printed = printed_is sink written _ collects yes.printed;
+routes_accepted first second sink one two written reads collects says = record {
+  instance = says.instance;
+  solution = says.solution;
+  first_file = spelled first one says.instance reads.first_is says.first_file;
+  second_file = spelled second two says.solution reads.second_is says.second_file;
+  of_type = says.of_type;
+  of_tours = says.of_tours;
+  plan_of = says.plan_of;
+  least = says.least;
+  none_fewer = says.none_fewer;
+  printed = printed_is sink written _ collects says.printed;
 }
 
 rejected : (first second : Turn) (sink : Sink) (one two written : List ℕ) (instance : Fields) (verdict : Verdict)
@@ -205,23 +206,23 @@ pub record Reads3 (first second third : Turn) (one two three : List ℕ) : Type 
 accepted_with : (by : Certificate) (first second third : Turn) (sink : Sink) (one two three written : List ℕ)
     → Reads3 first second third one two three → Collects sink written → IsAYes by first second third sink
     → IsAYesOfTexts by one two three written
-accepted_with by first second third sink one two three written reads collects yes = record {
-  instance = yes.instance;
-  solution = yes.solution;
-  certificate = yes.certificate;
-  first_file = spelled first one yes.instance reads.first_is yes.first_file;
-  second_file = spelled second two yes.solution reads.second_is yes.second_file;
-  third_file = spelled third three yes.certificate reads.third_is yes.third_file;
-  of_tours = yes.of_tours;
-  of_type = yes.of_type;
-  tour = yes.tour;
-  only = yes.only;
-  tour_of = yes.tour_of;
-  bound = yes.bound;
-  of_certificate = yes.of_certificate;
-  printed = printed_is sink written _ collects yes.printed;
-  below_tours = yes.below_tours;
-  optimal = yes.optimal;
+accepted_with by first second third sink one two three written reads collects says = record {
+  instance = says.instance;
+  solution = says.solution;
+  certificate = says.certificate;
+  first_file = spelled first one says.instance reads.first_is says.first_file;
+  second_file = spelled second two says.solution reads.second_is says.second_file;
+  third_file = spelled third three says.certificate reads.third_is says.third_file;
+  of_tours = says.of_tours;
+  of_type = says.of_type;
+  tour = says.tour;
+  only = says.only;
+  tour_of = says.tour_of;
+  bound = says.bound;
+  of_certificate = says.of_certificate;
+  printed = printed_is sink written _ collects says.printed;
+  below_tours = says.below_tours;
+  optimal = says.optimal;
 }
 
 rejected_with : (by : Certificate) (first second third : Turn) (sink : Sink) (one two three written : List ℕ) (instance : Fields)

@@ -9,6 +9,9 @@ ghost use Rattle.tsp_c.specs.Numbers.{GivesDistance, distance_kinds};
 
 use tsp_distance::{Decimal, Point, att, ceil_2d, euc_2d, euc_3d, man_2d, man_3d, max_2d, max_3d};
 
+/// There is no such distance.
+const NO_DISTANCE: i64 = -1;
+
 /// The point with these counts of 10^-9, or `None` where one is too large.
 fn point_of(x: i64, y: i64, z: i64) -> Option<Point>
     ensures { let p : Point = record { x = x; y = y; z = z } in SomeIff result (IsInSpace p) p }
@@ -24,13 +27,20 @@ pub(crate) fn distance_of(number: u32, ax: i64, ay: i64, az: i64, bx: i64, by: i
     ensures { let a : Point = record { x = ax; y = ay; z = az } in let b : Point = record { x = bx; y = by; z = bz } in
         GivesDistance number a b result }
 {
-    match (point_of(ax, ay, az), point_of(bx, by, bz)) {
-        (Some(a), Some(b)) => between(number, a, b).unwrap_or(-1),
-        _ => -1,
+    let Some(a) = point_of(ax, ay, az) else {
+        return NO_DISTANCE;
+    };
+    let Some(b) = point_of(bx, by, bz) else {
+        return NO_DISTANCE;
+    };
+    match between(number, a, b) {
+        Some(distance) => distance,
+        None => NO_DISTANCE,
     }
 }
 
 /// The distance by a number, where there is one.
+#[tactic(auto, unfolding(tsp_file::specs::Cost::distance))]
 fn between(number: u32, a: Point, b: Point) -> Option<i64>
     ensures { result ≡ option_map (λ kind. distance kind a b) (nth number distance_kinds) }
 {

@@ -81,7 +81,8 @@ fn put_lengths(instance: &Instance, nodes: &[u32], out: &mut [i64])
         let (list, others) = rest.split_at(end);
         put(out, place, tour_length(instance, list));
         place += 1;
-        rest = &others[1..];
+        let (_, after) = others.split_at(1);
+        rest = after;
     }
 }
 

@@ -66,17 +66,17 @@ pub(crate) fn certified(
 }
 
 /// The check with this certificate.
-fn run_by<R: Read, W: Write>(
+fn run_by<I: Read, S: Read, C: Read, W: Write>(
     alloc: Global,
     by: Certificate,
-    inst: &mut Watched<R>,
-    sol: &mut Watched<R>,
-    cert: &mut Watched<R>,
+    inst: &mut Watched<I>,
+    sol: &mut Watched<S>,
+    cert: &mut Watched<C>,
     out: &mut Watched<W>,
 ) -> Result<bool, RunFault>
-    ensures { TakesAtMost most_taken (turn_of R.remaining inst.old inst.new) (λ first.
-        TakesAtMost most_taken (turn_of R.remaining sol.old sol.new) (λ second.
-        TakesAtMost most_taken (turn_of R.remaining cert.old cert.new) (λ third.
+    ensures { TakesAtMost most_taken (turn_of I.remaining inst.old inst.new) (λ first.
+        TakesAtMost most_taken (turn_of S.remaining sol.old sol.new) (λ second.
+        TakesAtMost most_taken (turn_of C.remaining cert.old cert.new) (λ third.
         IsCheckBy by first second third (sink_of W.contents out.old out.new) result))) }
 {
     match by {
