@@ -1,3 +1,4 @@
+mod Distances
 mod Ends
 mod Filled
 mod Lists

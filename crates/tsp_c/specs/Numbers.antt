@@ -11,6 +11,7 @@ use Rattle.tsp_draft.specs.Fields.{Fields}
 use Rattle.tsp_draft.specs.Rules.{is_instance}
 use Rattle.tsp_file.specs.Cost.{cost, distance, point_of}
 use Rattle.tsp_text.specs.Text.{fault, Spells}
+use Rattle.tsp_read.specs.Reads.{Reads}
 use Rattle.tsp_theory.specs.Length.{length_of}
 use Rattle.tsp_c.specs.Ended.{nth}
 use Rattle.tsp_text.specs.declared.fault.ReadFault.{ReadFault}
@@ -29,6 +30,10 @@ pub record IsFilled (count : ℕ) (number : ℕ → ℤ) (old new : List ℤ) : 
 -- the text has a first fault
 abbrev pub HasSomeFault : List ℕ → Type 0
 HasSomeFault text = (found : ReadFault) × (fault text ≡ Some found)
+
+-- 2 is the status of a text with this first fault; 3 is out of memory
+abbrev pub SaysFault : ReadFault → ℕ → Type 0
+SaysFault found status = (text : List ℕ) → Reads text (Err found) → ((status ≡ 2) × HasSomeFault text) ⊎ (status ≡ 3)
 
 abbrev pub IsInstanceText : List ℕ → Fields → Type 0
 IsInstanceText text instance = Spells text instance × IsTrue (is_instance instance.kind)

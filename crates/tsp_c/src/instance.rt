@@ -1,6 +1,6 @@
 //! The instance of a text.
 
-ghost use Rattle.tsp_c.specs.Numbers.{FindsInstance, CountsNodes};
+ghost use Rattle.tsp_c.specs.Numbers.{FindsInstance, CountsNodes, SaysFault};
 
 use crate::status::{NO_FILE, OUT_OF_MEMORY};
 use std::alloc::Global;
@@ -17,8 +17,7 @@ pub(crate) fn instance_of(alloc: Global, text: &[u8]) -> Result<Instance, u32>
     ensures { FindsInstance text.now result }
 {
     match read_bytes(alloc, text) {
-        Err(ReadFault::OutOfMemory) => Err(OUT_OF_MEMORY),
-        Err(_) => Err(NO_FILE),
+        Err(fault) => Err(status_of_read(fault)),
         Ok(file) => match Instance::of(file) {
             Ok(instance) => Ok(instance),
             Err((_, other)) => {
@@ -26,6 +25,19 @@ pub(crate) fn instance_of(alloc: Global, text: &[u8]) -> Result<Instance, u32>
                 Err(NO_FILE)
             }
         },
+    }
+}
+
+/// The status of a text that is no file: 2, or 3 out of memory.
+pub(crate) fn status_of_read(fault: ReadFault) -> u32
+    ensures { SaysFault fault result }
+{
+    match fault {
+        ReadFault::Line { .. } => NO_FILE,
+        ReadFault::End(_) => NO_FILE,
+        ReadFault::TooLong => NO_FILE,
+        ReadFault::OutOfMemory => OUT_OF_MEMORY,
+        ReadFault::Device => OUT_OF_MEMORY,
     }
 }
 

@@ -5,12 +5,13 @@ ghost use Rattle.tsp_draft.specs.Coords.{points_of};
 ghost use Rattle.tsp_c.specs.Numbers.{EndsPoints, FillsPoints, IsFilled, IsSection, coordinate, point_number, section_points};
 
 use crate::fill::put;
-use crate::status::{DONE, NO, NO_FILE, OUT_OF_MEMORY, REFUSED, TOO_SMALL};
+use crate::instance::status_of_read;
+use crate::status::{DONE, NO, REFUSED, TOO_SMALL};
 use std::alloc::Global;
 use tsp_distance::Point;
 use tsp_draft::Coords;
 use tsp_file::File;
-use tsp_read::{ReadFault, read_bytes};
+use tsp_read::read_bytes;
 
 /// Fills in the coordinates of the points of a section of a text; the status.
 pub(crate) fn fill_points(alloc: Global, text: &[u8], section: u32, out: &mut [i64]) -> u32
@@ -20,8 +21,7 @@ pub(crate) fn fill_points(alloc: Global, text: &[u8], section: u32, out: &mut [i
         return REFUSED;
     }
     match read_bytes(alloc, text) {
-        Err(ReadFault::OutOfMemory) => OUT_OF_MEMORY,
-        Err(_) => NO_FILE,
+        Err(fault) => status_of_read(fault),
         Ok(file) => {
             let status = points_of_file(&file, section, out);
             drop(file);
