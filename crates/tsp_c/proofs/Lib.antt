@@ -1,5 +1,5 @@
 mod Distances
 mod Ends
 mod Filled
-mod Lists
+pub mod Lists
 mod OnTexts
