@@ -1,0 +1,14 @@
+use Rattle.std.proofs.Common.{◌∙◌, ap, refl}
+use Rattle.std.specs.Prelude.{Some}
+use Rattle.tsp_c.proofs.OnTexts.{checks}
+use Rattle.tsp_c.proofs.texts.checked.Goals as goal
+
+pub returns : goal.returns
+returns c = let first = c.run_check-answer.ensures in let second = first.2 in
+    checks _ _ _ c.run_check-answer.result _ _ _ _ _
+    (record {
+      first_is = ap (λ s. Some s.now) c.new-first.ensures.inner;
+      second_is = ap (λ s. Some s.now) c.new-second.ensures.inner;
+    })
+    (record { held = ap (λ v. Some v.items) c.new-report.ensures.inner ∙ ap Some c.new.ensures.items; holds = refl })
+    second.2 c.ended.ensures
