@@ -66,17 +66,17 @@ printed_is sink written report is has =
 -- ---- what is shown, and what is converted
 
 pub shows : (turn : Turn) (sink : Sink) (ended : Result (Unit {0}) RunFault) (one written : List ℕ) (status : ℕ) (text : List ℕ)
-    → turn.known ≡ Some one → Collects sink written → IsShowRun turn sink ended → EndsOnTexts (done ended) written status text
+    → IsShowRun turn sink ended → turn.known ≡ Some one → Collects sink written → EndsOnTexts (done ended) written status text
     → ShowsText one status text
-shows turn sink (Ok is) one written status text known collects run e =
+shows turn sink (Ok is) one written status text run known collects e =
     yes_ends written status text (run.0, spelled turn one run.0 known run.1, printed_is sink written _ collects run.2) e
-shows turn sink (Err (File file found)) one written status text known collects run e =
+shows turn sink (Err (File file found)) one written status text run known collects e =
     fault_ends (File file found) written status text (λ refused is. absurd cc) (λ two. (run.0, stopped turn one file found known run.1 two)) e
-shows turn sink (Err WrongKind) one written status text known collects run e = absurd run
-shows turn sink (Err OutOfMemory) one written status text known collects run e = absurd run
-shows turn sink (Err (Relayout refused)) one written status text known collects run e = absurd run
-shows turn sink (Err (Write write_faults.OutOfMemory)) one written status text known collects run e = absurd run
-shows turn sink (Err (Write write_faults.Device)) one written status text known collects run e =
+shows turn sink (Err WrongKind) one written status text run known collects e = absurd run
+shows turn sink (Err OutOfMemory) one written status text run known collects e = absurd run
+shows turn sink (Err (Relayout refused)) one written status text run known collects e = absurd run
+shows turn sink (Err (Write write_faults.OutOfMemory)) one written status text run known collects e = absurd run
+shows turn sink (Err (Write write_faults.Device)) one written status text run known collects e =
     fault_ends (Write write_faults.Device) written status text (λ refused is. absurd cc)
     (λ two. let n : 3 ≡ 2 = two in absurd (omega arith)) e
 
@@ -99,7 +99,7 @@ converts to turn sink (Err WrongKind) one written status text known collects run
 converts to turn sink (Err OutOfMemory) one written status text known collects run e = absurd run
 converts to turn sink (Err (Relayout refused)) one written status text known collects run e =
     fault_ends (Relayout refused) written status text
-    (λ other is one_is line. (run.0, refused, spelled turn one run.0 known run.1, run.2, line))
+    (λ other is. (run.0, refused, spelled turn one run.0 known run.1, run.2))
     (λ two. absurd (not_two refused two)) e
   where
     not_two : (refused : RelayoutFault) → status_of_fault (without_devices (Relayout refused)) ≡ 2 → ⊥
