@@ -1,6 +1,6 @@
 /* Yokecairn for C: reads, shows, converts and judges texts in TSPLIB 95, and gives their numbers.
  *
- * The calls are proved: the contracts are in crates/tsp_c, and docs/promises.md says what they mean. A
+ * The calls are proved: the contracts are in crates/tsp_c, and docs/proof.md says what they mean. A
  * proof covers a call only if its caller does what "What a caller owes" says; nothing checks that.
  *
  * Shapes. A text is a pointer to its bytes and a length; it needs no byte 0 at its end. A list of numbers
