@@ -18,7 +18,12 @@ returns-in-Some-between c =
     let a_is : c.in-Some.a ≡ a = search rules in
     let b_is : c.in-Some-point_of.b ≡ b = search rules in
     let found = kind_found c.in-Some.a c.in-Some-point_of.b (nth c.args.number distance_kinds) c.in-Some-between.distance
-        c.in-Some-between.ensures in
-    inl (found.0, found.1, a_in, b_in,
-        to_z-of_z w64 c.in-Some-between.distance fits ∙ found.2
-        ∙ ap (λ (p : Point). distance found.0 p c.in-Some-point_of.b) a_is ∙ ap (λ (p : Point). distance found.0 a p) b_is)
+    c.in-Some-between.ensures in
+    inl (
+      found.0,
+      found.1,
+      a_in,
+      b_in,
+      to_z-of_z w64 c.in-Some-between.distance fits ∙ found.2
+          ∙ ap (λ (p : Point). distance found.0 p c.in-Some-point_of.b) a_is ∙ ap (λ (p : Point). distance found.0 a p) b_is,
+    )

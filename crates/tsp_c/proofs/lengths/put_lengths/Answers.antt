@@ -36,13 +36,13 @@ lists-preserved c =
     let found = end_found rest end c.in-Some.ensures in
     let next = next_list nodes rest c.lists.place end c.lists.invariant.left found.0 found.1 in
     let after : c.split_at-in-Some.result.1.now ≡ drop (end + 1) rest =
-        c.split_at-in-Some.ensures.back ∙ ap (drop 1) c.split_at.ensures.back ∙ drop-drop 1 end rest in
+    c.split_at-in-Some.ensures.back ∙ ap (drop 1) c.split_at.ensures.back ∙ drop-drop 1 end rest in
     let below : c.lists.place < length (lists_in nodes) = next.2 in
     let few : length rest ≤ length nodes = c.lists.invariant.few in
     let size : length (drop (end + 1) rest) ≡ length rest - (end + 1) = length-drop (end + 1) rest in
     let fits : FitsSigned w64 c.tour_length.result = search rules in
     let number : c.tour_length.result ≡ list_length nodes c.args.instance.now c.lists.place =
-        c.tour_length.ensures ∙ ap (length_of (cost c.args.instance.now)) (c.split_at.ensures.front ∙ sym next.0) in
+    c.tour_length.ensures ∙ ap (length_of (cost c.args.instance.now)) (c.split_at.ensures.front ∙ sym next.0) in
     record {
       left = next.1 ∙ ap lists_in (sym after);
       within = omega (arith, below);
