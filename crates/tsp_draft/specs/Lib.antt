@@ -1,4 +1,5 @@
 pub mod Coords
+pub mod FaultText
 pub mod Fields
 pub mod Rules
 pub mod Valid

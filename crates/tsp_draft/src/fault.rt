@@ -1,5 +1,6 @@
 //! Why a draft is no file.
 
+use std::fmt;
 use thiserror::Error;
 use tsp_format::Field;
 
@@ -7,27 +8,51 @@ use tsp_format::Field;
 #[derive(Clone, Copy, Debug, PartialEq, Eq, Error)]
 pub enum EndFault {
     /// A keyword or a section that the kind of file asks for is missing.
-    #[error("Missing {0}")]
     Missing(Field),
     /// A section has fewer places than it needs. Readers find this; a draft's lists are whole, so
     /// no file is refused for it.
-    #[error("Incomplete {0}")]
     Incomplete(Field),
     /// The format doesn't go with the weights, or node potentials stand beside others.
-    #[error("WrongFormat")]
     WrongFormat,
     /// The number of weights isn't that of the layout.
-    #[error("WrongCount")]
     WrongCount,
+}
+
+impl fmt::Display for EndFault {
+    ghost use Rattle.std.specs.Prelude.{Some};
+    ghost use Rattle.tsp_draft.specs.FaultText.{end_fault_text};
+
+    ghost output = { λ fault. Some (end_fault_text fault) };
+
+    fn fmt<W: fmt::Write>(&self, f: &mut fmt::Formatter<W>) -> fmt::Result {
+        match *self {
+            EndFault::Missing(field) => write!(f, "Missing {field}"),
+            EndFault::Incomplete(field) => write!(f, "Incomplete {field}"),
+            EndFault::WrongFormat => f.write_str("WrongFormat"),
+            EndFault::WrongCount => f.write_str("WrongCount"),
+        }
+    }
 }
 
 /// Why a draft is no file, in the order in which it is judged.
 #[derive(Clone, Copy, Debug, PartialEq, Eq, Error)]
 pub enum DraftFault {
     /// The first field, in canonical order, that isn't valid on its own.
-    #[error("BadField {0}")]
     BadField(Field),
     /// The first rule over several fields that fails.
-    #[error("{0}")]
     Rule(EndFault),
+}
+
+impl fmt::Display for DraftFault {
+    ghost use Rattle.std.specs.Prelude.{Some};
+    ghost use Rattle.tsp_draft.specs.FaultText.{draft_fault_text};
+
+    ghost output = { λ fault. Some (draft_fault_text fault) };
+
+    fn fmt<W: fmt::Write>(&self, f: &mut fmt::Formatter<W>) -> fmt::Result {
+        match *self {
+            DraftFault::BadField(field) => write!(f, "BadField {field}"),
+            DraftFault::Rule(fault) => f.write(fault),
+        }
+    }
 }

@@ -1,4 +1,5 @@
 pub mod Cost
+pub mod FaultText
 pub mod Halves
 pub mod Listed
 pub mod Relayout

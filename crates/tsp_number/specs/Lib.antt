@@ -1,3 +1,4 @@
+pub mod FaultText
 pub mod NumberWord
 pub mod Scan
 pub mod Written

@@ -1,23 +1,36 @@
 //! Why a word isn't read as a number.
 
+use std::fmt;
 use thiserror::Error;
 
 /// Why a word isn't read as a number.
 #[derive(Clone, Copy, Debug, PartialEq, Eq, Error)]
 pub enum NumberFault {
     /// The word has more than 64 bytes.
-    #[error("LongWord")]
     LongWord,
     /// The word isn't a number word.
-    #[error("BadNumber")]
     BadNumber,
     /// The number isn't a whole count of 10^-9.
-    #[error("TooFine")]
     TooFine,
     /// The number is outside the range that is wanted.
-    #[error("OutOfRange")]
     OutOfRange,
     /// A whole number is wanted, and this one isn't whole.
-    #[error("NotWhole")]
     NotWhole,
+}
+
+impl fmt::Display for NumberFault {
+    ghost use Rattle.std.specs.Prelude.{Some};
+    ghost use Rattle.tsp_number.specs.FaultText.{number_fault_text};
+
+    ghost output = { λ fault. Some (number_fault_text fault) };
+
+    fn fmt<W: fmt::Write>(&self, f: &mut fmt::Formatter<W>) -> fmt::Result {
+        match *self {
+            NumberFault::LongWord => f.write_str("LongWord"),
+            NumberFault::BadNumber => f.write_str("BadNumber"),
+            NumberFault::TooFine => f.write_str("TooFine"),
+            NumberFault::OutOfRange => f.write_str("OutOfRange"),
+            NumberFault::NotWhole => f.write_str("NotWhole"),
+        }
+    }
 }

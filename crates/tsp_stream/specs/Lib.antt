@@ -1,3 +1,4 @@
+pub mod FaultText
 pub mod Script
 pub mod Sink
 pub mod Turn

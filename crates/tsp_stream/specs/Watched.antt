@@ -1,5 +1,8 @@
 -- What a clause sees of a watched reader or writer.
-use Rattle.std.specs.Prelude.{◌≡◌, ℕ, Bool, true, List, length, Result, Ok, Err, ◌&&◌, ◌==◌, nat_lt}
+use Rattle.std.specs.Prelude.{◌≡◌, ℕ, ◌<◌, Bool, true, List, length, Option, Some, Result, Ok, Err, ◌&&◌, ◌==◌, nat_lt}
+use Rattle.std.specs.IoError.{error_kind}
+use Rattle.std.specs.declared.io.Error.{Error}
+use Rattle.std.specs.declared.io.ErrorKind.TheVariants as kinds
 use denote.Ref.{MutBor}
 use denote.Param.Members.{Once}
 use Rattle.tsp_stream.specs.declared.watched.Watched.{Watched}
@@ -11,6 +14,16 @@ watched w = w.inner
 -- whether a read or a write of it has failed
 abbrev pub has_failed : {T : Type 0} → Watched T → Bool
 has_failed w = w.failed
+
+-- what the system said of the failure, where it was kept
+abbrev pub error_of : {T : Type 0} → Watched T → Option Error
+error_of w = w.error
+
+-- what is kept after a write of a part: its error, one of that kind where it took nothing, and else what was kept before
+abbrev pub KeepsError : Result ℕ Error → Option Error → Option Error → Type 0
+KeepsError (Err error) old new = new ≡ Some error
+KeepsError (Ok count) old new = (count ≡ 0 → (error : Error) × (new ≡ Some error) × (error_kind error ≡ kinds.WriteZero))
+    × (0 < count → new ≡ old)
 
 -- a write fails by an error, or by taking no byte of a text that isn't empty
 abbrev pub write_fails : {E : Type 0} → Result ℕ E → List ℕ → Bool

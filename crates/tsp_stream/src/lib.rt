@@ -1,12 +1,14 @@
 //! Readers and writers that remember a failure, and the way of a text to a writer.
 #![tactic(auto)]
 
+mod asked;
 mod examples;
 mod output;
 mod piece;
 mod script;
 mod watched;
 
+pub use asked::{Gives, Takes};
 pub use examples::examples_of_failed_writes;
 pub use output::{WriteFault, send, write_text};
 pub use piece::{PIECE, Piece, hand_over, make_room, put, put_next_number, put_number};

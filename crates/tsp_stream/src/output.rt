@@ -1,24 +1,38 @@
 //! The way of a text to a writer.
 
-ghost use Rattle.std.specs.Prelude.{◌≡◌, ◌≤◌, ◌<◌, List, ℕ, true, false, length, take};
+ghost use Rattle.std.specs.Prelude.{◌≡◌, ◌≤◌, ◌<◌, List, Result, ℕ, true, false, length, take};
 ghost use Rattle.std.specs.Io.KnownBytes.{Appends};
-ghost use Rattle.tsp_stream.specs.Watched.{watched, has_failed};
+ghost use Rattle.std.specs.declared.io.Error.{Error};
+ghost use Rattle.tsp_stream.specs.Watched.{watched, has_failed, error_of, KeepsError};
 ghost use Rattle.tsp_stream.specs.Sink.{sink_of, HasWritten, HasStopped, Writes};
 
+use crate::asked::Takes;
 use crate::watched::Watched;
-use std::io;
 use std::io::{ErrorKind, Write};
+use std::{fmt, io};
 use thiserror::Error;
 
 /// Why a text could not be written.
 #[derive(Clone, Copy, Debug, PartialEq, Eq, Error)]
 pub enum WriteFault {
     /// A write failed, or took nothing.
-    #[error("device")]
     Device,
     /// Out of memory for the text.
-    #[error("out of memory")]
     OutOfMemory,
+}
+
+impl fmt::Display for WriteFault {
+    ghost use Rattle.std.specs.Prelude.{Some};
+    ghost use Rattle.tsp_stream.specs.FaultText.{write_fault_text};
+
+    ghost output = { λ fault. Some (write_fault_text fault) };
+
+    fn fmt<W: fmt::Write>(&self, f: &mut fmt::Formatter<W>) -> fmt::Result {
+        match *self {
+            WriteFault::Device => f.write_str("device"),
+            WriteFault::OutOfMemory => f.write_str("out of memory"),
+        }
+    }
 }
 
 /// Sends a text to a writer that may take any part of it at once, and stops where the writer fails.
@@ -46,11 +60,13 @@ pub fn send<W: Write>(out: &mut Watched<W>, text: &[u8])
 
 /// Sends what the writer takes at once of a text, and says how many bytes that is: none where it
 /// fails, which the writer then remembers, with what the system says of it.
-fn send_part<W: Write>(out: &mut Watched<W>, text: &[u8]) -> usize
+fn send_part<W: Takes>(out: &mut Watched<W>, text: &[u8]) -> usize
     ensures part { result ≤ length text.now }
     ensures bytes { Appends (W.contents (watched out.old)) (W.contents (watched out.new)) (take result text.now) }
     ensures sound { 0 < result → has_failed out.new ≡ has_failed out.old }
     ensures failed { result ≡ 0 → 0 < length text.now → has_failed out.new ≡ true }
+    ensures error { (answer : Result ℕ Error) × W.takes (watched out.old) text.now answer (watched out.new)
+        × KeepsError answer (error_of out.old) (error_of out.new) }
 {
     match out.write(text) {
         Err(error) => {

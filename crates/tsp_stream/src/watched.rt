@@ -1,10 +1,12 @@
 //! A reader or a writer that remembers whether it has failed.
 
-ghost use Rattle.std.specs.Prelude.{◌≡◌, Bool, false, is_err, ◌||◌};
+ghost use Rattle.std.specs.Prelude.{◌≡◌, Bool, false, is_err, ◌||◌, None, Some};
+ghost use Rattle.std.specs.Option.{option_map};
 ghost use Rattle.std.specs.Io.{ReadsAtMost, WritesAtMost};
 ghost use Rattle.std.specs.Io.KnownBytes.{ReadConsumes, WriteAppends, Keeps};
-ghost use Rattle.tsp_stream.specs.Watched.{watched, has_failed, write_fails, Calls};
+ghost use Rattle.tsp_stream.specs.Watched.{watched, has_failed, error_of, write_fails, Calls};
 
+use crate::asked::{Gives, Takes};
 use std::io;
 use std::io::{Read, Write};
 
@@ -26,6 +28,7 @@ impl<T> Watched<T> {
     pub fn new(inner: T) -> Watched<T>
         ensures inner { watched result ≡ inner }
         ensures sound { has_failed result ≡ false }
+        ensures error { error_of result ≡ None }
     {
         Watched {
             inner,
@@ -55,7 +58,9 @@ impl<T> Watched<T> {
     }
 
     /// What the system said of the failure that ended a text; nothing where none was kept.
-    pub fn error(&self) -> Option<&io::Error> {
+    pub fn error(&self) -> Option<&io::Error>
+        ensures { option_map (λ error. error.now) result ≡ error_of self.now }
+    {
         self.error.as_ref()
     }
 
@@ -64,6 +69,7 @@ impl<T> Watched<T> {
     pub fn keep_error(&mut self, error: io::Error)
         ensures inner { watched self.new ≡ watched self.old }
         ensures failed { has_failed self.new ≡ has_failed self.old }
+        ensures error { error_of self.new ≡ Some error }
     {
         self.error = Some(error);
     }
@@ -78,6 +84,7 @@ impl<T> Watched<T> {
         ensures asked { (took_nothing : Bool) × Calls F.FnOnce call (watched self.old) room.old
             (result, took_nothing) (watched self.new) room.new
             × (has_failed self.new ≡ (has_failed self.old || is_err result || took_nothing)) }
+        ensures error { error_of self.new ≡ error_of self.old }
     {
         let (outcome, took_nothing) = call(&mut self.inner, room);
         self.failed = self.failed || outcome.is_err() || took_nothing;
@@ -85,30 +92,34 @@ impl<T> Watched<T> {
     }
 }
 
-impl<R: Read> Read for Watched<R> {
+impl<R: Gives> Read for Watched<R> {
     ghost remaining = { λ w. R.remaining (watched w) };
 
     fn read(&mut self, buf: &mut [u8]) -> io::Result<usize>
         ensures bound { ReadsAtMost result buf.new }
         ensures bytes { ReadConsumes (R.remaining (watched self.old)) (R.remaining (watched self.new))
             result buf.new }
+        ensures once { R.gives (watched self.old) buf.old result buf.new (watched self.new) }
         ensures failed { has_failed self.new ≡ (has_failed self.old || is_err result) }
+        ensures error { error_of self.new ≡ error_of self.old }
     {
-        self.ask(buf, |inner, room| (inner.read(room), false))
+        self.ask(buf, |inner, room| (inner.give(room), false))
     }
 }
 
-impl<W: Write> Write for Watched<W> {
+impl<W: Takes> Write for Watched<W> {
     ghost contents = { λ w. W.contents (watched w) };
 
     fn write(&mut self, buf: &[u8]) -> io::Result<usize>
         ensures bound { WritesAtMost result buf.now }
         ensures bytes { WriteAppends (W.contents (watched self.old)) (W.contents (watched self.new))
             result buf.now }
+        ensures once { W.takes (watched self.old) buf.now result (watched self.new) }
         ensures failed { has_failed self.new ≡ (has_failed self.old || write_fails result buf.now) }
+        ensures error { error_of self.new ≡ error_of self.old }
     {
         self.ask(&mut [], |inner, _| {
-            let outcome = inner.write(buf);
+            let outcome = inner.take_some(buf);
             let took_nothing = matches!(outcome, Ok(0)) && !buf.is_empty();
             (outcome, took_nothing)
         })
@@ -116,8 +127,10 @@ impl<W: Write> Write for Watched<W> {
 
     fn flush(&mut self) -> io::Result<()>
         ensures bytes { Keeps (W.contents (watched self.old)) (W.contents (watched self.new)) }
+        ensures once { W.flushes (watched self.old) result (watched self.new) }
         ensures failed { has_failed self.new ≡ (has_failed self.old || is_err result) }
+        ensures error { error_of self.new ≡ error_of self.old }
     {
-        self.ask(&mut [], |inner, _| (inner.flush(), false))
+        self.ask(&mut [], |inner, _| (inner.flush_once(), false))
     }
 }

@@ -1,3 +1,4 @@
+pub mod FaultText
 pub mod Lines
 pub mod Items
 pub mod Earlier

@@ -1,5 +1,6 @@
 //! Why bytes are no file.
 
+use std::fmt;
 use thiserror::Error;
 use tsp_draft::EndFault;
 use tsp_number::NumberFault;
@@ -8,50 +9,62 @@ use tsp_number::NumberFault;
 #[derive(Clone, Copy, Debug, PartialEq, Eq, Error)]
 pub enum LineFault {
     /// A word line has more than 4,096 bytes from its first byte that isn't blank to its end.
-    #[error("LongLine")]
     LongLine,
     /// An unknown keyword stands without a colon.
-    #[error("UnknownLine")]
     UnknownLine,
     /// A keyword other than COMMENT, or a section, stands that an earlier line has.
-    #[error("Repeated")]
     Repeated,
     /// The line has a value of TSPLIB 95 that this profile leaves out.
-    #[error("Outside")]
     Outside,
     /// The value isn't one of those that the keyword accepts, is missing, or is too long to be kept.
-    #[error("BadValue")]
     BadValue,
     /// The line of a section has a value.
-    #[error("SectionValue")]
     SectionValue,
     /// A section other than TOUR_SECTION stands before DIMENSION.
-    #[error("SectionEarly")]
     SectionEarly,
     /// EDGE_WEIGHT_SECTION stands where DIMENSION is larger than 5,000.
-    #[error("TooManyNodes")]
     TooManyNodes,
     /// A number stands where no section is open.
-    #[error("StrayNumber")]
     StrayNumber,
     /// A word that is wanted as a number isn't read as one.
-    #[error("Number {0}")]
     Number(NumberFault),
     /// A group's node has an earlier group.
-    #[error("RepeatedNode")]
     RepeatedNode,
     /// The two nodes of a fixed pair, of a triple with its multiplier, or of a branch are equal.
-    #[error("SelfEdge")]
     SelfEdge,
     /// There are more lines or words than the file can have.
-    #[error("Surplus")]
     Surplus,
     /// A word other than `-1` stands after the -1 that ended the list, or the combs.
-    #[error("AfterEnd")]
     AfterEnd,
     /// The line says that the nodes have three coordinates, after a NODE_COORD_SECTION of two each.
-    #[error("LateSpace")]
     LateSpace,
+}
+
+impl fmt::Display for LineFault {
+    ghost use Rattle.std.specs.Prelude.{Some};
+    ghost use Rattle.tsp_text.specs.FaultText.{line_fault_text};
+
+    ghost output = { λ fault. Some (line_fault_text fault) };
+
+    fn fmt<W: fmt::Write>(&self, f: &mut fmt::Formatter<W>) -> fmt::Result {
+        match *self {
+            LineFault::LongLine => f.write_str("LongLine"),
+            LineFault::UnknownLine => f.write_str("UnknownLine"),
+            LineFault::Repeated => f.write_str("Repeated"),
+            LineFault::Outside => f.write_str("Outside"),
+            LineFault::BadValue => f.write_str("BadValue"),
+            LineFault::SectionValue => f.write_str("SectionValue"),
+            LineFault::SectionEarly => f.write_str("SectionEarly"),
+            LineFault::TooManyNodes => f.write_str("TooManyNodes"),
+            LineFault::StrayNumber => f.write_str("StrayNumber"),
+            LineFault::Number(fault) => write!(f, "Number {fault}"),
+            LineFault::RepeatedNode => f.write_str("RepeatedNode"),
+            LineFault::SelfEdge => f.write_str("SelfEdge"),
+            LineFault::Surplus => f.write_str("Surplus"),
+            LineFault::AfterEnd => f.write_str("AfterEnd"),
+            LineFault::LateSpace => f.write_str("LateSpace"),
+        }
+    }
 }
 
 /// Why a file isn't read, in the order of their numbers.
@@ -59,22 +72,34 @@ pub enum LineFault {
 pub enum ReadFault {
     /// The first line with a fault, from 1 on, and in a number line its first word with one, from
     /// 1 on; `word` is 0 for a word line.
-    #[error("line {line} word {word}: {fault}")]
     Line {
         line: u32,
         word: u32,
         fault: LineFault,
     },
     /// No line has a fault, but the lines together are no file.
-    #[error("end: {0}")]
     End(EndFault),
     /// Memory was refused.
-    #[error("out of memory")]
     OutOfMemory,
     /// A read failed.
-    #[error("device")]
     Device,
     /// There are more than 1,073,741,824 bytes, and those decide nothing.
-    #[error("too long")]
     TooLong,
+}
+
+impl fmt::Display for ReadFault {
+    ghost use Rattle.std.specs.Prelude.{Some};
+    ghost use Rattle.tsp_text.specs.FaultText.{read_fault_text};
+
+    ghost output = { λ fault. Some (read_fault_text fault) };
+
+    fn fmt<W: fmt::Write>(&self, f: &mut fmt::Formatter<W>) -> fmt::Result {
+        match *self {
+            ReadFault::Line { line, word, fault } => write!(f, "line {line} word {word}: {fault}"),
+            ReadFault::End(fault) => write!(f, "end: {fault}"),
+            ReadFault::OutOfMemory => f.write_str("out of memory"),
+            ReadFault::Device => f.write_str("device"),
+            ReadFault::TooLong => f.write_str("too long"),
+        }
+    }
 }

@@ -9,4 +9,5 @@ returns g c = record {
     record { first = _; second = _; shows = (refl, refl); first_left = _; second_left = _; met = c.call-outcome.ensures; leaves = (refl, refl) },
     search rules,
   );
+  error = refl;
 }

@@ -1,0 +1,11 @@
+-- The text of each fault of a number word.
+use Rattle.std.specs.Prelude.{ℕ, List, codes}
+use Rattle.tsp_number.specs.declared.fault.NumberFault.{NumberFault}
+use Rattle.tsp_number.specs.declared.fault.NumberFault.TheVariants.{LongWord, BadNumber, TooFine, OutOfRange, NotWhole}
+
+abbrev pub number_fault_text : NumberFault → List ℕ
+number_fault_text LongWord = codes "LongWord"
+number_fault_text BadNumber = codes "BadNumber"
+number_fault_text TooFine = codes "TooFine"
+number_fault_text OutOfRange = codes "OutOfRange"
+number_fault_text NotWhole = codes "NotWhole"

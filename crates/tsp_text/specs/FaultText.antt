@@ -1,0 +1,33 @@
+-- The text of each fault of a file.
+use Rattle.std.specs.Prelude.{ℕ, List, ◌++◌, codes, decimal}
+use Rattle.tsp_number.specs.FaultText.{number_fault_text}
+use Rattle.tsp_draft.specs.FaultText.{end_fault_text}
+use Rattle.tsp_text.specs.declared.fault.LineFault.{LineFault}
+use Rattle.tsp_text.specs.declared.fault.LineFault.TheVariants.{LongLine, UnknownLine, Repeated, Outside, BadValue, SectionValue, SectionEarly, TooManyNodes, StrayNumber, Number, RepeatedNode, SelfEdge, Surplus, AfterEnd, LateSpace}
+use Rattle.tsp_text.specs.declared.fault.ReadFault.{ReadFault}
+use Rattle.tsp_text.specs.declared.fault.ReadFault.TheVariants.{Line, End, OutOfMemory, Device, TooLong}
+
+abbrev pub line_fault_text : LineFault → List ℕ
+line_fault_text LongLine = codes "LongLine"
+line_fault_text UnknownLine = codes "UnknownLine"
+line_fault_text Repeated = codes "Repeated"
+line_fault_text Outside = codes "Outside"
+line_fault_text BadValue = codes "BadValue"
+line_fault_text SectionValue = codes "SectionValue"
+line_fault_text SectionEarly = codes "SectionEarly"
+line_fault_text TooManyNodes = codes "TooManyNodes"
+line_fault_text StrayNumber = codes "StrayNumber"
+line_fault_text (Number fault) = codes "Number " ++ number_fault_text fault
+line_fault_text RepeatedNode = codes "RepeatedNode"
+line_fault_text SelfEdge = codes "SelfEdge"
+line_fault_text Surplus = codes "Surplus"
+line_fault_text AfterEnd = codes "AfterEnd"
+line_fault_text LateSpace = codes "LateSpace"
+
+abbrev pub read_fault_text : ReadFault → List ℕ
+read_fault_text (Line line word fault) = codes "line " ++ (decimal line ++ (codes " word " ++ (decimal word
+    ++ (codes ": " ++ line_fault_text fault))))
+read_fault_text (End fault) = codes "end: " ++ end_fault_text fault
+read_fault_text OutOfMemory = codes "out of memory"
+read_fault_text Device = codes "device"
+read_fault_text TooLong = codes "too long"
