@@ -6,9 +6,11 @@
 
 mod examples;
 mod grammar;
+mod line_examples;
 mod task;
 mod words;
 
 pub use examples::examples_of_verbs;
+pub use line_examples::examples_of_lines;
 pub use task::{Place, Task, TaskFault, task_of};
 pub use words::{Job, JobFault, Verb, job_of, unread};

@@ -1,8 +1,8 @@
 -- Small files on which the definitions are evaluated.
 use Rattle.std.specs.Prelude.{[], ◌∷◌, Some, pos}
-use Rattle.tsp_format.specs.declared.kinds.Kind.TheVariants.{Tsp, Atsp}
+use Rattle.tsp_format.specs.declared.kinds.Kind.TheVariants.{Tsp, Atsp, Cvrp, Tour, Potentials, Branches}
 use Rattle.tsp_format.specs.declared.kinds.WeightKind.TheVariants.{Explicit, Euc2d}
-use Rattle.tsp_format.specs.declared.kinds.WeightFormat.TheVariants.{Listed}
+use Rattle.tsp_format.specs.declared.kinds.WeightFormat.TheVariants.{ByFunction, Listed}
 use Rattle.tsp_format.specs.declared.layout.Layout.TheVariants.{FullMatrix}
 use Rattle.tsp_draft.specs.Fields.{Fields, blank_fields}
 
@@ -27,3 +27,85 @@ no_nodes = record blank_fields { dimension = Some 0 }
 -- one weight in the place of nine
 abbrev pub one_weight : Fields
 one_weight = record directed_matrix { weights = Some (pos 1 ∷ []) }
+
+-- ---- files that grow by what they miss, one field after the other
+
+-- routes: with a number of nodes, listed weights, their layout, a capacity, the weights, demands and depots
+abbrev pub routing : Fields
+routing = record blank_fields { kind = Some Cvrp }
+
+abbrev pub routing_nodes : Fields
+routing_nodes = record routing { dimension = Some 1 }
+
+abbrev pub routing_listed : Fields
+routing_listed = record routing_nodes { weight_kind = Some Explicit }
+
+abbrev pub routing_full : Fields
+routing_full = record routing_listed { weight_format = Some (Listed FullMatrix) }
+
+abbrev pub routing_capacity : Fields
+routing_capacity = record routing_full { capacity = Some (pos 4) }
+
+abbrev pub routing_weights : Fields
+routing_weights = record routing_capacity { weights = Some (pos 0 ∷ []) }
+
+abbrev pub routing_demands : Fields
+routing_demands = record routing_weights { demands = Some [] }
+
+abbrev pub routing_depots : Fields
+routing_depots = record routing_demands { depots = Some [] }
+
+-- over points, which aren't there
+abbrev pub routing_plane : Fields
+routing_plane = record routing_nodes { weight_kind = Some Euc2d; capacity = Some (pos 4) }
+
+-- tours: none, with weights of no layout, and some
+abbrev pub touring : Fields
+touring = record blank_fields { kind = Some Tour }
+
+abbrev pub touring_weights : Fields
+touring_weights = record touring { weights = Some [] }
+
+abbrev pub touring_whole : Fields
+touring_whole = record touring { tours = Some [] }
+
+-- weights by a function, and one weight too many
+abbrev pub touring_function : Fields
+touring_function = record touring_whole { weights = Some []; weight_format = Some ByFunction }
+
+abbrev pub touring_surplus : Fields
+touring_surplus = record touring_whole {
+  dimension = Some 1;
+  weights = Some (pos 0 ∷ pos 0 ∷ []);
+  weight_format = Some (Listed FullMatrix);
+}
+
+-- potentials: none, of nodes, of columns, of rows, of both, and of nodes beside both
+abbrev pub potentials : Fields
+potentials = record blank_fields { kind = Some Potentials; dimension = Some 1 }
+
+abbrev pub of_nodes : Fields
+of_nodes = record potentials { node_potentials = Some [] }
+
+abbrev pub of_columns : Fields
+of_columns = record potentials { column_potentials = Some [] }
+
+abbrev pub of_rows : Fields
+of_rows = record potentials { row_potentials = Some [] }
+
+abbrev pub of_both : Fields
+of_both = record of_rows { column_potentials = Some [] }
+
+abbrev pub of_all : Fields
+of_all = record of_both { node_potentials = Some [] }
+
+-- the same with multipliers in the place of those of nodes, and with one weight too many
+abbrev pub of_both_and_pairs : Fields
+of_both_and_pairs = record of_both { fixed_potentials = Some [] }
+
+abbrev pub of_all_surplus : Fields
+of_all_surplus = record of_all { weights = Some (pos 0 ∷ pos 0 ∷ []); weight_format = Some (Listed FullMatrix) }
+
+-- a tree of cases without its steps
+abbrev pub branching : Fields
+branching = record blank_fields { kind = Some Branches; dimension = Some 1 }

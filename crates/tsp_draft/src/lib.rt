@@ -12,7 +12,9 @@ mod validity;
 
 pub use coords::Coords;
 pub use draft::Draft;
-pub use examples::{examples_of_faults, examples_of_validity};
+pub use examples::{
+    examples_of_fault_texts, examples_of_faults, examples_of_the_end_table, examples_of_validity,
+};
 pub use fault::{DraftFault, EndFault};
 pub use laws::{valid_fields_are_in_range, valid_files_are_complete};
 pub use rules::end_fault;

@@ -1,9 +1,11 @@
 //! The text of a small file with all sorts of fields. No body is looked at here: a definition that
 //! is changed together with its code is refused by its examples.
 
-ghost use Rattle.std.specs.Prelude.{◌≡◌, [], codes};
+ghost use Rattle.std.specs.Prelude.{◌≡◌, ◌++◌, [], codes, decimal};
 ghost use Rattle.tsp_format.specs.declared.field.Field.TheVariants as fields;
 ghost use Rattle.tsp_draft.specs.Fields.{blank_fields};
+ghost use Rattle.tsp_file.specs.declared.fault.RelayoutFault.TheVariants as faults;
+ghost use Rattle.tsp_file.specs.FaultText.{relayout_fault_text};
 ghost use Rattle.tsp_file.specs.Text.{text_of, text_of_field};
 ghost use Rattle.tsp_file.specs.TextExamples.{IsSmallText, small, small_text, spatial_node, two_tours, without_combs};
 
@@ -45,4 +47,13 @@ pub fn examples_of_sections()
     ensures whole { text_of two_tours ≡ codes "TYPE : TOUR\nDIMENSION : 2\nTOUR_SECTION\n2\n1\n-1\n1\n-1\nEOF\n" }
     ensures all_fields { text_of small ≡ small_text }
     ensures nothing { text_of blank_fields ≡ codes "EOF\n" }
+{}
+
+/// The text of each fault of weights that are put into another layout. Digits are as `decimal` writes them.
+pub fn examples_of_fault_texts()
+    ensures not_explicit { relayout_fault_text faults.NotExplicit ≡ codes "NotExplicit" }
+    ensures not_symmetric { relayout_fault_text (faults.NotSymmetric 1 2)
+        ≡ codes "NotSymmetric " ++ (decimal 1 ++ (codes " " ++ decimal 2)) }
+    ensures diagonal_lost { relayout_fault_text (faults.DiagonalLost 3) ≡ codes "DiagonalLost " ++ decimal 3 }
+    ensures out_of_memory { relayout_fault_text faults.OutOfMemory ≡ codes "OutOfMemory" }
 {}

@@ -1,11 +1,23 @@
 //! Which answer is a yes, and which instances a certificate is taken for. No body is looked at here: a
 //! definition that is changed together with its code is refused by its examples.
 
-ghost use Rattle.std.specs.Prelude.{◌≡◌, true, false, None, Some, pos};
+ghost use Rattle.std.specs.Prelude.{◌≡◌, ◌++◌, true, false, None, Some, Err, pos, codes, decimal};
 ghost use Rattle.tsp_format.specs.declared.kinds.Kind.TheVariants as kinds;
 ghost use Rattle.tsp_reason.specs.declared.verdict.Reason.TheVariants as reasons;
 ghost use Rattle.tsp_reason.specs.declared.verdict.Verdict.TheVariants as verdicts;
 ghost use Rattle.tsp_reason.specs.declared.certificate.Certificate.TheVariants as certificates;
+ghost use Rattle.tsp_reason.specs.declared.certificate.Certificate.{Certificate};
+ghost use Rattle.tsp_read.specs.declared.ReadFault.{ReadFault};
+ghost use Rattle.tsp_read.specs.declared.ReadFault.TheVariants as read_faults;
+ghost use Rattle.tsp_read.specs.Reads.{StopsAt};
+ghost use Rattle.tsp_stream.specs.Turn.{Turn, IsUnread};
+ghost use Rattle.tsp_stream.specs.Sink.{Sink, IsUnwritten};
+ghost use Rattle.tsp_stream.specs.declared.output.WriteFault.TheVariants as write_faults;
+ghost use Rattle.tsp_file.specs.declared.fault.RelayoutFault.TheVariants as relayout_faults;
+ghost use Rattle.tsp_judge.specs.declared.fault.RunFault.TheVariants as run_faults;
+ghost use Rattle.tsp_judge.specs.FaultText.{run_fault_text};
+ghost use Rattle.tsp_judge.specs.Run.{IsRun, IsSomeFile};
+ghost use Rattle.tsp_judge.specs.BoundRun.{IsBoundRun};
 ghost use Rattle.tsp_judge.specs.Judged.{is_yes};
 ghost use Rattle.tsp_verdict.specs.Certified.{kind_of, is_bounded};
 
@@ -29,4 +41,43 @@ pub fn examples_of_certificates()
     ensures branches_of_cvrp { is_bounded certificates.Branches (Some kinds.Cvrp) ≡ false }
     ensures no_instance { is_bounded certificates.Potentials (Some kinds.Tour) ≡ false }
     ensures no_type { is_bounded certificates.Branches None ≡ false }
+{}
+
+/// The text of each fault of a run. Digits are as `decimal` writes them.
+pub fn examples_of_fault_texts()
+    ensures file { run_fault_text (run_faults.File 2 read_faults.TooLong)
+        ≡ codes "file " ++ (decimal 2 ++ codes ": too long") }
+    ensures wrong_kind { run_fault_text run_faults.WrongKind ≡ codes "file 1: wrong kind" }
+    ensures device { run_fault_text (run_faults.Write write_faults.Device) ≡ codes "output: device" }
+    ensures out_of_memory { run_fault_text run_faults.OutOfMemory ≡ codes "out of memory" }
+    ensures relayout { run_fault_text (run_faults.Relayout relayout_faults.NotExplicit) ≡ codes "relayout: NotExplicit" }
+{}
+
+/// Which file a fault of a check is of: the first that is none, and no later one is read.
+pub fn examples_of_faulty_files()
+    ensures first { (fault : ReadFault) (first second : Turn) (sink : Sink) → IsUnwritten sink → StopsAt fault first
+        → IsUnread second → IsRun first second sink (Err (run_faults.File 1 fault)) }
+    ensures second { (fault : ReadFault) (first second : Turn) (sink : Sink) → IsUnwritten sink → IsSomeFile first
+        → StopsAt fault second → IsRun first second sink (Err (run_faults.File 2 fault)) }
+    ensures no_third { (fault : ReadFault) (first second : Turn) (sink : Sink)
+        → ¬ IsRun first second sink (Err (run_faults.File 3 fault)) }
+    ensures no_other { (fault : ReadFault) (first second : Turn) (sink : Sink)
+        → ¬ IsRun first second sink (Err (run_faults.File 0 fault)) }
+{}
+
+/// The same of a check with a certificate.
+pub fn examples_of_faulty_files_with_a_certificate()
+    ensures first { (by : Certificate) (fault : ReadFault) (first second third : Turn) (sink : Sink) → IsUnwritten sink
+        → StopsAt fault first → IsUnread second → IsUnread third
+        → IsBoundRun by first second third sink (Err (run_faults.File 1 fault)) }
+    ensures second { (by : Certificate) (fault : ReadFault) (first second third : Turn) (sink : Sink) → IsUnwritten sink
+        → IsSomeFile first → StopsAt fault second → IsUnread third
+        → IsBoundRun by first second third sink (Err (run_faults.File 2 fault)) }
+    ensures third { (by : Certificate) (fault : ReadFault) (first second third : Turn) (sink : Sink) → IsUnwritten sink
+        → IsSomeFile first → IsSomeFile second → StopsAt fault third
+        → IsBoundRun by first second third sink (Err (run_faults.File 3 fault)) }
+    ensures no_fourth { (by : Certificate) (fault : ReadFault) (first second third : Turn) (sink : Sink)
+        → ¬ IsBoundRun by first second third sink (Err (run_faults.File 4 fault)) }
+    ensures unread { (by : Certificate) (fault : ReadFault) (first second third : Turn) (sink : Sink)
+        → IsBoundRun by first second third sink (Err (run_faults.File 2 fault)) → StopsAt fault second × IsUnread third }
 {}

@@ -3,6 +3,7 @@
 
 ghost use Rattle.std.specs.Prelude.{◌≡◌, Some, None, codes, ◌++◌, pos, negsuc, replicate};
 ghost use Rattle.tsp_number.specs.declared.fault.NumberFault.TheVariants.{LongWord, BadNumber, TooFine, OutOfRange, NotWhole};
+ghost use Rattle.tsp_number.specs.FaultText.{number_fault_text};
 ghost use Rattle.tsp_number.specs.Front.{whole_end, decimal_end, few_end};
 ghost use Rattle.tsp_number.specs.Examples.{Counts, IsNoDecimal, WholeIs, WholeIsRefused, IsSpelled};
 
@@ -80,4 +81,13 @@ pub fn examples_of_fronts()
     ensures no_digit_after_the_point { decimal_end (codes "5.") ≡ Some 2 }
     ensures point_alone { decimal_end (codes "+.") ≡ None }
     ensures nine_digits { decimal_end (replicate 10 49) ≡ Some 9 }
+{}
+
+/// The text of each fault.
+pub fn examples_of_fault_texts()
+    ensures long_word { number_fault_text LongWord ≡ codes "LongWord" }
+    ensures bad_number { number_fault_text BadNumber ≡ codes "BadNumber" }
+    ensures too_fine { number_fault_text TooFine ≡ codes "TooFine" }
+    ensures out_of_range { number_fault_text OutOfRange ≡ codes "OutOfRange" }
+    ensures not_whole { number_fault_text NotWhole ≡ codes "NotWhole" }
 {}

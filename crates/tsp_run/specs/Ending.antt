@@ -3,6 +3,7 @@ use Rattle.std.specs.Prelude.{◌≡◌, ℕ, Bool, List, [], ◌++◌, ◌∷�
 use Rattle.std.specs.List.{list_all}
 use Rattle.std.specs.Io.KnownBytes.{Appends, Keeps}
 use Rattle.tsp_judge.specs.declared.Verdict.TheVariants.{Tour, Routes, No}
+use Rattle.tsp_judge.specs.FaultText.{run_fault_text}
 use Rattle.tsp_judge.specs.Status.{status_of}
 use Rattle.tsp_cli.specs.declared.words.JobFault.TheVariants as job_faults
 use Rattle.tsp_cli.specs.declared.task.TaskFault.TheVariants.{UnknownLayout, MissingPath, TwoCertificates}
@@ -42,7 +43,7 @@ line_text lines.OutOfMemory = ended (codes "out of memory")
 line_text (lines.NoTask UnknownLayout) = ended (codes "unknown layout")
 line_text (lines.NoTask MissingPath) = ended (codes "missing path")
 line_text (lines.NoTask TwoCertificates) = ended (codes "both potentials and branches")
-line_text (lines.Fault fault) = None
+line_text (lines.Fault fault) = ended (run_fault_text fault)
 
 -- no byte ends a line
 abbrev pub is_one_line : List ℕ → Bool
@@ -55,7 +56,6 @@ EndsLine old new = (text : List ℕ) × (is_one_line text ≡ true) × Appends o
 -- the ending's line is written, where it has one
 abbrev pub IsWritten : Option Line → Option (List ℕ) → Option (List ℕ) → Type 0
 IsWritten None old new = Keeps old new
-IsWritten (Some (lines.Fault fault)) old new = EndsLine old new
 IsWritten (Some line) old new = IfSome (line_text line) (Appends old new)
 
 abbrev pub Tells : Ending → Option (List ℕ) → Option (List ℕ) → Type 0

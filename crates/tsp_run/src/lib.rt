@@ -9,12 +9,14 @@ mod ending;
 mod engines;
 mod examples;
 mod explained;
+mod laws;
 mod running;
 mod source;
 
 pub use ending::{Ending, Line, line_of, status_of_ending, tell};
 pub use engines::perform;
 pub use examples::examples_of_statuses;
+pub use laws::faults_are_told_on_one_line;
 pub use running::{run, tell_unread};
 pub use source::{Open, Source};
 pub use tsp_cli::{JobFault, Place, Task, TaskFault};

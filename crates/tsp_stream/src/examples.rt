@@ -1,8 +1,10 @@
 //! Answers of a writer, on which the definition of a failed write is evaluated. No body is looked at
 //! here: a definition that is changed together with its code is refused by its examples.
 
-ghost use Rattle.std.specs.Prelude.{◌≡◌, ℕ, true, false, [], ◌∷◌, Result, Ok, Err};
+ghost use Rattle.std.specs.Prelude.{◌≡◌, ℕ, true, false, [], ◌∷◌, Result, Ok, Err, codes};
 ghost use Rattle.std.specs.declared.io.Error.{Error};
+ghost use Rattle.tsp_stream.specs.declared.output.WriteFault.TheVariants as faults;
+ghost use Rattle.tsp_stream.specs.FaultText.{write_fault_text};
 ghost use Rattle.tsp_stream.specs.Watched.{write_fails};
 
 /// Which writes fail: those that answer an error, also of an empty text, and those that take no byte of
@@ -14,4 +16,10 @@ pub fn examples_of_failed_writes()
     ensures part { write_fails {E = Error} (Ok 1) (1 ∷ 2 ∷ []) ≡ false }
     ensures error_of_nothing { (error : Error) → write_fails (Err error) [] ≡ true }
     ensures error { (error : Error) → write_fails (Err error) (1 ∷ []) ≡ true }
+{}
+
+/// The text of each fault.
+pub fn examples_of_fault_texts()
+    ensures device { write_fault_text faults.Device ≡ codes "device" }
+    ensures out_of_memory { write_fault_text faults.OutOfMemory ≡ codes "out of memory" }
 {}

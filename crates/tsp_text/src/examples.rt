@@ -1,6 +1,6 @@
 //! What always holds of the definitions, as contracts of functions that do nothing.
 
-ghost use Rattle.std.specs.Prelude.{codes, ◌≡◌, ◌≤◌, ◌++◌, ℕ, List, length, IsTrue, true, false};
+ghost use Rattle.std.specs.Prelude.{codes, decimal, ◌≡◌, ◌≤◌, ◌++◌, ℕ, List, length, IsTrue, true, false};
 ghost use Rattle.tsp_distance.specs.Decimal.{most_count};
 ghost use Rattle.tsp_number.specs.NumberWord.{IsShort};
 ghost use Rattle.tsp_format.specs.Limits.{most_coordinate, most_word_bytes};
@@ -8,6 +8,8 @@ ghost use Rattle.tsp_number.specs.declared.fault.NumberFault.TheVariants as numb
 ghost use Rattle.tsp_format.specs.declared.field.Field.TheVariants as fields;
 ghost use Rattle.tsp_draft.specs.declared.fault.EndFault.TheVariants as ends;
 ghost use Rattle.tsp_text.specs.declared.fault.LineFault.TheVariants as faults;
+ghost use Rattle.tsp_text.specs.declared.fault.ReadFault.TheVariants as reads;
+ghost use Rattle.tsp_text.specs.FaultText.{line_fault_text, read_fault_text};
 ghost use Rattle.tsp_text.specs.Examples.{FaultAt, NumberAt, MissingAtEnd, FaultAtEnd, OthersAre, ToursAre, PairsAre, TriplesAre, CombIs, TreeIs, DemandsAre, InSpace, OnPlane, quad, longest_line, long_line, long_word, filled_line, IsLimit, IsLimitOfLines};
 ghost use Rattle.tsp_text.specs.Rows.{is_surplus_at};
 ghost use Rattle.tsp_text.specs.Places.{DepotAfter, FirstAfter, TourNode, SetNode, StepAfter, IndexAfter};
@@ -18,6 +20,13 @@ pub fn faults_of_word_lines()
     ensures unknown { FaultAt (codes "TYPE : TSP/FOO") 2 0 faults.UnknownLine }
     ensures second_word_no_colon { FaultAt (codes "FOO BAR : 1") 1 0 faults.UnknownLine }
     ensures left_out { FaultAt (codes "TYPE : HCP") 1 0 faults.Outside }
+    ensures left_out_order { FaultAt (codes "TYPE : SOP") 1 0 faults.Outside }
+    ensures left_out_sphere { FaultAt (codes "EDGE_WEIGHT_TYPE : XRAY1") 1 0 faults.Outside }
+    ensures left_out_sphere_too { FaultAt (codes "EDGE_WEIGHT_TYPE : XRAY2") 1 0 faults.Outside }
+    ensures left_out_special { FaultAt (codes "EDGE_WEIGHT_TYPE : SPECIAL") 1 0 faults.Outside }
+    ensures left_out_of_another { FaultAt (codes "TYPE : SPECIAL") 1 0 faults.BadValue }
+    ensures left_out_of_weights { FaultAt (codes "EDGE_WEIGHT_TYPE : SOP") 1 0 faults.BadValue }
+    ensures refused_section { FaultAt (codes "EDGE_DATA_SECTION") 1 0 faults.Outside }
     ensures not_accepted { FaultAt (codes "TYPE : FOO") 1 0 faults.BadValue }
     ensures no_value { FaultAt (codes "TYPE") 1 0 faults.BadValue }
     ensures twice { FaultAt (codes "TYPE : TOUR/TYPE : HCP") 2 0 faults.Repeated }
@@ -190,4 +199,29 @@ pub fn limits_agree()
     ensures coordinate { most_count ≡ most_coordinate }
     ensures no_more_bytes { (word : List ℕ) → IsShort word → length word ≤ most_word_bytes }
     ensures no_fewer_bytes { (word : List ℕ) → length word ≤ most_word_bytes → IsShort word }
+{}
+
+/// The text of each fault. Digits are as `decimal` writes them.
+pub fn examples_of_fault_texts()
+    ensures long_line { line_fault_text faults.LongLine ≡ codes "LongLine" }
+    ensures unknown_line { line_fault_text faults.UnknownLine ≡ codes "UnknownLine" }
+    ensures repeated { line_fault_text faults.Repeated ≡ codes "Repeated" }
+    ensures outside { line_fault_text faults.Outside ≡ codes "Outside" }
+    ensures bad_value { line_fault_text faults.BadValue ≡ codes "BadValue" }
+    ensures section_value { line_fault_text faults.SectionValue ≡ codes "SectionValue" }
+    ensures section_early { line_fault_text faults.SectionEarly ≡ codes "SectionEarly" }
+    ensures too_many_nodes { line_fault_text faults.TooManyNodes ≡ codes "TooManyNodes" }
+    ensures stray_number { line_fault_text faults.StrayNumber ≡ codes "StrayNumber" }
+    ensures repeated_node { line_fault_text faults.RepeatedNode ≡ codes "RepeatedNode" }
+    ensures self_edge { line_fault_text faults.SelfEdge ≡ codes "SelfEdge" }
+    ensures surplus { line_fault_text faults.Surplus ≡ codes "Surplus" }
+    ensures after_end { line_fault_text faults.AfterEnd ≡ codes "AfterEnd" }
+    ensures late_space { line_fault_text faults.LateSpace ≡ codes "LateSpace" }
+    ensures number { line_fault_text (faults.Number numbers.TooFine) ≡ codes "Number TooFine" }
+    ensures line { read_fault_text (reads.Line 3 4 faults.Surplus)
+        ≡ codes "line " ++ (decimal 3 ++ (codes " word " ++ (decimal 4 ++ codes ": Surplus"))) }
+    ensures end { read_fault_text (reads.End ends.WrongCount) ≡ codes "end: WrongCount" }
+    ensures out_of_memory { read_fault_text reads.OutOfMemory ≡ codes "out of memory" }
+    ensures device { read_fault_text reads.Device ≡ codes "device" }
+    ensures too_long { read_fault_text reads.TooLong ≡ codes "too long" }
 {}
