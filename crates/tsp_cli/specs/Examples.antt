@@ -5,9 +5,9 @@ use Rattle.clap.specs.Words.{Text, first_of, fault_of, subcommand_of}
 use Rattle.tsp_cli.specs.Grammar.{tsp}
 
 -- the words are accepted, and are of this verb
-abbrev pub IsLineOf : Text → List Text → Type 0
-IsLineOf verb words = (fault_of tsp words ≡ []) × (option_map (λ found. found.0) (subcommand_of tsp words) ≡ Some verb)
+abbrev pub IsWholeLine : Text → List Text → Type 0
+IsWholeLine verb words = (fault_of tsp words ≡ []) × (option_map (λ found. found.0) (subcommand_of tsp words) ≡ Some verb)
 
 -- the value that the words give to an argument or option
-abbrev pub value_in : Text → List Text → Option Text
-value_in id words = option_map_or (λ found. first_of id found.1) (subcommand_of tsp words) None
+abbrev pub found_value : Text → List Text → Option Text
+found_value id words = option_map_or (λ found. first_of id found.1) (subcommand_of tsp words) None

@@ -11,6 +11,6 @@ mod task;
 mod words;
 
 pub use examples::examples_of_verbs;
-pub use line_examples::examples_of_lines;
+pub use line_examples::{examples_of_lines, examples_of_two_certificates};
 pub use task::{Place, Task, TaskFault, task_of};
 pub use words::{Job, JobFault, Verb, job_of, unread};

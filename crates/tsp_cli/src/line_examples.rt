@@ -1,29 +1,48 @@
-//! Whole command lines: what they ask for, or that they are refused. No body is looked at here: a
+//! Whole command lines: what they ask for, or that they are refused; and jobs that are no task. No body is looked at here: a
 //! definition that is changed together with its code is refused by its examples.
 
-ghost use Rattle.std.specs.Prelude.{◌≡◌, ◌≢◌, [], ◌∷◌, None, Some, codes};
+ghost use Rattle.std.specs.Prelude.{◌≡◌, ◌≢◌, [], ◌∷◌, Option, None, Some, codes};
 ghost use Rattle.clap.specs.Words.{fault_of};
 ghost use Rattle.tsp_cli.specs.Grammar.{tsp};
-ghost use Rattle.tsp_cli.specs.Examples.{IsLineOf, value_in};
+ghost use Rattle.tsp_format.specs.declared.layout.Layout.{Layout};
+ghost use Rattle.tsp_cli.specs.declared.words.Job.{Job};
+ghost use Rattle.tsp_cli.specs.declared.words.Verb.TheVariants as verbs;
+ghost use Rattle.tsp_cli.specs.declared.task.Place.{Place};
+ghost use Rattle.tsp_cli.specs.declared.task.Task.TheVariants as tasks;
+ghost use Rattle.tsp_cli.specs.Task.{IsTask};
+ghost use Rattle.tsp_cli.specs.Examples.{IsWholeLine, found_value};
 
 /// A whole line of each verb, with each of its options.
 #[tactic(auto, unfolding(clap::specs::Faults::flags_fault, clap::specs::Faults::walk_fault, clap::specs::Faults::defaults_fault, clap::specs::Walk::bundle_met, clap::specs::Walk::walked))]
 pub fn examples_of_lines()
-    ensures show { IsLineOf (codes "show") (codes "show" ∷ codes "a" ∷ codes "--explain" ∷ []) }
-    ensures shown_file { value_in (codes "F") (codes "show" ∷ codes "a" ∷ codes "--explain" ∷ []) ≡ Some (codes "a") }
-    ensures explained { value_in (codes "E") (codes "show" ∷ codes "a" ∷ codes "--explain" ∷ []) ≡ Some (codes "true") }
-    ensures convert { IsLineOf (codes "convert") (codes "convert" ∷ codes "a" ∷ codes "--layout" ∷ codes "b" ∷ []) }
-    ensures layout { value_in (codes "L") (codes "convert" ∷ codes "a" ∷ codes "--layout" ∷ codes "b" ∷ []) ≡ Some (codes "b") }
-    ensures check { IsLineOf (codes "check") (codes "check" ∷ codes "a" ∷ codes "b" ∷ codes "--potentials" ∷ codes "c" ∷ []) }
-    ensures instance { value_in (codes "F") (codes "check" ∷ codes "a" ∷ codes "b" ∷ []) ≡ Some (codes "a") }
-    ensures solution { value_in (codes "T") (codes "check" ∷ codes "a" ∷ codes "b" ∷ []) ≡ Some (codes "b") }
-    ensures potentials { value_in (codes "P") (codes "check" ∷ codes "a" ∷ codes "b" ∷ codes "--potentials" ∷ codes "c" ∷ [])
+    ensures show { IsWholeLine (codes "show") (codes "show" ∷ codes "a" ∷ codes "--explain" ∷ []) }
+    ensures shown_file { found_value (codes "F") (codes "show" ∷ codes "a" ∷ codes "--explain" ∷ []) ≡ Some (codes "a") }
+    ensures explained { found_value (codes "E") (codes "show" ∷ codes "a" ∷ codes "--explain" ∷ []) ≡ Some (codes "true") }
+    ensures convert { IsWholeLine (codes "convert") (codes "convert" ∷ codes "a" ∷ codes "--layout" ∷ codes "b" ∷ []) }
+    ensures layout { found_value (codes "L") (codes "convert" ∷ codes "a" ∷ codes "--layout" ∷ codes "b" ∷ []) ≡ Some (codes "b") }
+    ensures check { IsWholeLine (codes "check") (codes "check" ∷ codes "a" ∷ codes "b" ∷ codes "--potentials" ∷ codes "c" ∷ []) }
+    ensures instance { found_value (codes "F") (codes "check" ∷ codes "a" ∷ codes "b" ∷ []) ≡ Some (codes "a") }
+    ensures solution { found_value (codes "T") (codes "check" ∷ codes "a" ∷ codes "b" ∷ []) ≡ Some (codes "b") }
+    ensures potentials { found_value (codes "P") (codes "check" ∷ codes "a" ∷ codes "b" ∷ codes "--potentials" ∷ codes "c" ∷ [])
         ≡ Some (codes "c") }
-    ensures branches { value_in (codes "B") (codes "check" ∷ codes "a" ∷ codes "b" ∷ codes "--branches" ∷ codes "c" ∷ [])
+    ensures branches { found_value (codes "B") (codes "check" ∷ codes "a" ∷ codes "b" ∷ codes "--branches" ∷ codes "c" ∷ [])
         ≡ Some (codes "c") }
-    ensures no_branches { value_in (codes "B") (codes "check" ∷ codes "a" ∷ codes "b" ∷ codes "--potentials" ∷ codes "c" ∷ [])
+    ensures no_branches { found_value (codes "B") (codes "check" ∷ codes "a" ∷ codes "b" ∷ codes "--potentials" ∷ codes "c" ∷ [])
         ≡ None }
     ensures no_file { fault_of tsp (codes "show" ∷ []) ≢ [] }
     ensures no_solution { fault_of tsp (codes "check" ∷ codes "a" ∷ []) ≢ [] }
     ensures no_layout { fault_of tsp (codes "convert" ∷ codes "a" ∷ codes "--layout" ∷ []) ≢ [] }
+{}
+
+/// A check with both certificates is no task: each check of a certificate is without the other one, and the
+/// plain check without both.
+pub fn examples_of_two_certificates()
+    ensures plain_with_potentials { (job : Job) (a b : Place) → job.potentials ≢ None → ¬ IsTask job (tasks.Check a b) }
+    ensures plain_with_branches { (job : Job) (a b : Place) → job.branches ≢ None → ¬ IsTask job (tasks.Check a b) }
+    ensures potentials_with_branches { (job : Job) (a b c : Place) → job.branches ≢ None → ¬ IsTask job (tasks.BoundCheck a b c) }
+    ensures branches_with_potentials { (job : Job) (a b c : Place) → job.potentials ≢ None
+        → ¬ IsTask job (tasks.BranchCheck a b c) }
+    ensures shown { (job : Job) (a : Place) → job.verb ≡ Some verbs.Check → ¬ IsTask job (tasks.Show a) }
+    ensures converted { (job : Job) (a : Place) (to : Option Layout) → job.verb ≡ Some verbs.Check
+        → ¬ IsTask job (tasks.Convert a to) }
 {}

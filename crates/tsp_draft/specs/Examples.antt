@@ -31,11 +31,11 @@ one_weight = record directed_matrix { weights = Some (pos 1 ∷ []) }
 -- ---- files that grow by what they miss, one field after the other
 
 -- routes: with a number of nodes, listed weights, their layout, a capacity, the weights, demands and depots
-abbrev pub routing : Fields
-routing = record blank_fields { kind = Some Cvrp }
+abbrev pub bare_routes : Fields
+bare_routes = record blank_fields { kind = Some Cvrp }
 
 abbrev pub routing_nodes : Fields
-routing_nodes = record routing { dimension = Some 1 }
+routing_nodes = record bare_routes { dimension = Some 1 }
 
 abbrev pub routing_listed : Fields
 routing_listed = record routing_nodes { weight_kind = Some Explicit }
@@ -60,14 +60,14 @@ abbrev pub routing_plane : Fields
 routing_plane = record routing_nodes { weight_kind = Some Euc2d; capacity = Some (pos 4) }
 
 -- tours: none, with weights of no layout, and some
-abbrev pub touring : Fields
-touring = record blank_fields { kind = Some Tour }
+abbrev pub bare_tours : Fields
+bare_tours = record blank_fields { kind = Some Tour }
 
 abbrev pub touring_weights : Fields
-touring_weights = record touring { weights = Some [] }
+touring_weights = record bare_tours { weights = Some [] }
 
 abbrev pub touring_whole : Fields
-touring_whole = record touring { tours = Some [] }
+touring_whole = record bare_tours { tours = Some [] }
 
 -- weights by a function, and one weight too many
 abbrev pub touring_function : Fields
@@ -81,31 +81,31 @@ touring_surplus = record touring_whole {
 }
 
 -- potentials: none, of nodes, of columns, of rows, of both, and of nodes beside both
-abbrev pub potentials : Fields
-potentials = record blank_fields { kind = Some Potentials; dimension = Some 1 }
+abbrev pub bare_potentials : Fields
+bare_potentials = record blank_fields { kind = Some Potentials; dimension = Some 1 }
 
-abbrev pub of_nodes : Fields
-of_nodes = record potentials { node_potentials = Some [] }
+abbrev pub with_node_numbers : Fields
+with_node_numbers = record bare_potentials { node_potentials = Some [] }
 
-abbrev pub of_columns : Fields
-of_columns = record potentials { column_potentials = Some [] }
+abbrev pub with_column_numbers : Fields
+with_column_numbers = record bare_potentials { column_potentials = Some [] }
 
-abbrev pub of_rows : Fields
-of_rows = record potentials { row_potentials = Some [] }
+abbrev pub with_row_numbers : Fields
+with_row_numbers = record bare_potentials { row_potentials = Some [] }
 
-abbrev pub of_both : Fields
-of_both = record of_rows { column_potentials = Some [] }
+abbrev pub with_both_numbers : Fields
+with_both_numbers = record with_row_numbers { column_potentials = Some [] }
 
-abbrev pub of_all : Fields
-of_all = record of_both { node_potentials = Some [] }
+abbrev pub with_all_numbers : Fields
+with_all_numbers = record with_both_numbers { node_potentials = Some [] }
 
 -- the same with multipliers in the place of those of nodes, and with one weight too many
-abbrev pub of_both_and_pairs : Fields
-of_both_and_pairs = record of_both { fixed_potentials = Some [] }
+abbrev pub with_both_and_pairs : Fields
+with_both_and_pairs = record with_both_numbers { fixed_potentials = Some [] }
 
-abbrev pub of_all_surplus : Fields
-of_all_surplus = record of_all { weights = Some (pos 0 ∷ pos 0 ∷ []); weight_format = Some (Listed FullMatrix) }
+abbrev pub with_all_and_weights : Fields
+with_all_and_weights = record with_all_numbers { weights = Some (pos 0 ∷ pos 0 ∷ []); weight_format = Some (Listed FullMatrix) }
 
 -- a tree of cases without its steps
-abbrev pub branching : Fields
-branching = record blank_fields { kind = Some Branches; dimension = Some 1 }
+abbrev pub bare_tree : Fields
+bare_tree = record blank_fields { kind = Some Branches; dimension = Some 1 }

@@ -10,7 +10,7 @@ ghost use Rattle.tsp_draft.specs.Fields.{blank_fields};
 ghost use Rattle.tsp_draft.specs.Validity.{is_kept, are_comments, are_others, is_within, is_demand, is_node, is_node_pair, are_weights, are_depots, are_fixed, is_triple, are_triples, is_change};
 ghost use Rattle.tsp_draft.specs.FaultText.{end_fault_text, draft_fault_text};
 ghost use Rattle.tsp_draft.specs.Rules.{fault_of, end_fault, standing_of};
-ghost use Rattle.tsp_draft.specs.Examples.{directed_matrix, plane, no_nodes, one_weight, routing, routing_nodes, routing_listed, routing_full, routing_capacity, routing_weights, routing_demands, routing_depots, routing_plane, touring, touring_weights, touring_whole, touring_function, touring_surplus, potentials, of_nodes, of_columns, of_rows, of_both, of_all, of_both_and_pairs, of_all_surplus, branching};
+ghost use Rattle.tsp_draft.specs.Examples.{directed_matrix, plane, no_nodes, one_weight, bare_routes, routing_nodes, routing_listed, routing_full, routing_capacity, routing_weights, routing_demands, routing_depots, routing_plane, bare_tours, touring_weights, touring_whole, touring_function, touring_surplus, bare_potentials, with_node_numbers, with_column_numbers, with_row_numbers, with_both_numbers, with_all_numbers, with_both_and_pairs, with_all_and_weights, bare_tree};
 
 /// Values at their limits, and past them by one.
 pub fn examples_of_validity()
@@ -68,7 +68,7 @@ pub fn examples_of_faults()
 /// The end table, each row beside the next one that applies too.
 #[tactic(auto, unfolding(tsp_format::specs::Cells::cells, tsp_format::specs::Cells::nodes_to))]
 pub fn examples_of_the_end_table()
-    ensures dimension { end_fault (standing_of routing) None ≡ Some (ends.Missing fields.DimensionKey) }
+    ensures dimension { end_fault (standing_of bare_routes) None ≡ Some (ends.Missing fields.DimensionKey) }
     ensures weight_type { end_fault (standing_of routing_nodes) None ≡ Some (ends.Missing fields.EdgeWeightTypeKey) }
     ensures weight_format { end_fault (standing_of routing_listed) None ≡ Some (ends.Missing fields.EdgeWeightFormatKey) }
     ensures capacity { end_fault (standing_of routing_full) None ≡ Some (ends.Missing fields.CapacityKey) }
@@ -77,23 +77,23 @@ pub fn examples_of_the_end_table()
     ensures demands { end_fault (standing_of routing_weights) None ≡ Some (ends.Missing fields.DemandPart) }
     ensures depots { end_fault (standing_of routing_demands) None ≡ Some (ends.Missing fields.DepotPart) }
     ensures routes { end_fault (standing_of routing_depots) None ≡ None }
-    ensures tours { end_fault (standing_of touring) None ≡ Some (ends.Missing fields.TourPart) }
+    ensures tours { end_fault (standing_of bare_tours) None ≡ Some (ends.Missing fields.TourPart) }
     ensures format_before_tours { end_fault (standing_of touring_weights) None ≡ Some (ends.Missing fields.EdgeWeightFormatKey) }
     ensures tours_without_nodes { end_fault (standing_of touring_whole) None ≡ None }
-    ensures node_numbers { end_fault (standing_of potentials) None ≡ Some (ends.Missing fields.NodePotentialPart) }
-    ensures rows { end_fault (standing_of of_columns) None ≡ Some (ends.Missing fields.RowPotentialPart) }
-    ensures columns { end_fault (standing_of of_rows) None ≡ Some (ends.Missing fields.ColumnPotentialPart) }
-    ensures numbers { end_fault (standing_of of_nodes) None ≡ None }
-    ensures duals { end_fault (standing_of of_both) None ≡ None }
-    ensures both_sorts { end_fault (standing_of of_all) None ≡ Some ends.WrongFormat }
-    ensures multipliers_with_duals { end_fault (standing_of of_both_and_pairs) None ≡ Some ends.WrongFormat }
-    ensures steps { end_fault (standing_of branching) None ≡ Some (ends.Missing fields.BranchPart) }
+    ensures node_numbers { end_fault (standing_of bare_potentials) None ≡ Some (ends.Missing fields.NodePotentialPart) }
+    ensures rows { end_fault (standing_of with_column_numbers) None ≡ Some (ends.Missing fields.RowPotentialPart) }
+    ensures columns { end_fault (standing_of with_row_numbers) None ≡ Some (ends.Missing fields.ColumnPotentialPart) }
+    ensures numbers { end_fault (standing_of with_node_numbers) None ≡ None }
+    ensures duals { end_fault (standing_of with_both_numbers) None ≡ None }
+    ensures both_sorts { end_fault (standing_of with_all_numbers) None ≡ Some ends.WrongFormat }
+    ensures multipliers_with_duals { end_fault (standing_of with_both_and_pairs) None ≡ Some ends.WrongFormat }
+    ensures steps { end_fault (standing_of bare_tree) None ≡ Some (ends.Missing fields.BranchPart) }
     ensures function { end_fault (standing_of touring_function) None ≡ Some ends.WrongFormat }
     ensures count { end_fault (standing_of touring_surplus) None ≡ Some ends.WrongCount }
-    ensures format_before_count { end_fault (standing_of of_all_surplus) None ≡ Some ends.WrongFormat }
-    ensures missing_before_incomplete { end_fault (standing_of touring) (Some fields.EdgeWeightPart)
+    ensures format_before_count { end_fault (standing_of with_all_and_weights) None ≡ Some ends.WrongFormat }
+    ensures missing_before_incomplete { end_fault (standing_of bare_tours) (Some fields.EdgeWeightPart)
         ≡ Some (ends.Missing fields.TourPart) }
-    ensures incomplete_before_format { end_fault (standing_of of_all) (Some fields.CombPart)
+    ensures incomplete_before_format { end_fault (standing_of with_all_numbers) (Some fields.CombPart)
         ≡ Some (ends.Incomplete fields.CombPart) }
     ensures incomplete_before_count { end_fault (standing_of touring_surplus) (Some fields.EdgeWeightPart)
         ≡ Some (ends.Incomplete fields.EdgeWeightPart) }

@@ -18,8 +18,8 @@ pub use branch_check::{run_branch_check, run_branch_verdict};
 pub use check::{run_check, run_verdict};
 pub use convert::run_convert;
 pub use examples::{
-    examples_of_answers, examples_of_certificates, examples_of_fault_texts, examples_of_faulty_files,
-    examples_of_faulty_files_with_a_certificate,
+    examples_of_answers, examples_of_certificates, examples_of_fault_texts,
+    examples_of_faulty_files, examples_of_faulty_files_with_a_certificate,
 };
 pub use fault::RunFault;
 pub use show::run_show;

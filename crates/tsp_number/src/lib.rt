@@ -16,7 +16,8 @@ mod spelling;
 mod word;
 
 pub use examples::{
-    examples_of_decimals, examples_of_fault_texts, examples_of_fronts, examples_of_spellings, examples_of_whole_numbers,
+    examples_of_decimals, examples_of_fault_texts, examples_of_fronts, examples_of_spellings,
+    examples_of_whole_numbers,
 };
 pub use fault::NumberFault;
 pub use front::{front_decimal, front_few, front_whole};

@@ -29,17 +29,17 @@ matrix = record two_nodes {
   others = (codes "FOO", codes "1") ∷ (codes "BAR", []) ∷ [];
 }
 
-abbrev pub routing : Fields
-routing = record two_nodes { kind = Some Cvrp }
+abbrev pub shown_routes : Fields
+shown_routes = record two_nodes { kind = Some Cvrp }
 
-abbrev pub touring : Fields
-touring = record blank_fields { kind = Some Tour; tours = Some ((2 ∷ 1 ∷ []) ∷ []); others = foo }
+abbrev pub shown_tours : Fields
+shown_tours = record blank_fields { kind = Some Tour; tours = Some ((2 ∷ 1 ∷ []) ∷ []); others = foo }
 
-abbrev pub potentials : Fields
-potentials = record blank_fields { kind = Some Potentials; dimension = Some 2; scale = Some (pos 3); others = foo }
+abbrev pub shown_potentials : Fields
+shown_potentials = record blank_fields { kind = Some Potentials; dimension = Some 2; scale = Some (pos 3); others = foo }
 
-abbrev pub branching : Fields
-branching = record blank_fields {
+abbrev pub shown_tree : Fields
+shown_tree = record blank_fields {
   kind = Some Branches;
   dimension = Some 2;
   combs = Some (((1 ∷ []) ∷ []) ∷ []);

@@ -1,12 +1,12 @@
 //! Whole reports, and all that is shown of files of each TYPE. No body is looked at here: a definition
 //! that is changed together with its code is refused by its examples.
 
-ghost use Rattle.std.specs.Prelude.{◌≡◌, None, Some, pos, codes};
+ghost use Rattle.std.specs.Prelude.{◌≡◌, ◌++◌, None, Some, pos, codes};
 ghost use Rattle.tsp_reason.specs.declared.verdict.Reason.TheVariants as reasons;
 ghost use Rattle.tsp_reason.specs.declared.verdict.Verdict.TheVariants as verdicts;
 ghost use Rattle.tsp_report.specs.Report.{report_of};
 ghost use Rattle.tsp_report.specs.Show.{shown};
-ghost use Rattle.tsp_report.specs.Examples.{matrix, routing, touring, potentials, branching, untyped};
+ghost use Rattle.tsp_report.specs.Examples.{matrix, shown_routes, shown_tours, shown_potentials, shown_tree, untyped};
 
 /// Whole reports on an instance with two lines that aren't judged.
 #[tactic(auto, unfolding(std::specs::Fmt::digits))]
@@ -15,17 +15,18 @@ pub fn examples_of_whole_reports()
         ≡ codes "type TSP\nnodes 2\nnot judged FOO\nnot judged BAR\nlength 14\nbound 12\ngap 2\nyes\n" }
     ensures no { report_of matrix (verdicts.No reasons.TourCount)
         ≡ codes "type TSP\nnodes 2\nnot judged FOO\nnot judged BAR\nno TourCount\n" }
-    ensures routes { report_of routing (verdicts.Routes (pos 20) 3 2)
+    ensures routes { report_of shown_routes (verdicts.Routes (pos 20) 3 2)
         ≡ codes "type CVRP\nnodes 2\nroutes 3\nleast 2\nlength 20\nyes\n" }
 {}
 
 /// All that is shown of a file of each TYPE.
 #[tactic(auto, unfolding(std::specs::Fmt::digits, tsp_file::specs::Cost::cost, tsp_file::specs::Cost::listed_cost, tsp_format::specs::Place::place_of, tsp_format::specs::Cells::cells, tsp_format::specs::Cells::nodes_to))]
 pub fn examples_of_shown_files()
-    ensures matrix { shown matrix ≡ codes "name m\ntype TSP\nnodes 2\nweights EXPLICIT FULL_MATRIX\ncanonical 14\nfixed 1\nnot judged FOO\nnot judged BAR\n" }
-    ensures routing { shown routing ≡ codes "type CVRP\nnodes 2\nweights EXPLICIT FULL_MATRIX\ncanonical 14\n" }
-    ensures tours { shown touring ≡ codes "type TOUR\ntours 1\ntour 1 nodes 2\nnot judged FOO\n" }
-    ensures potentials { shown potentials ≡ codes "type POTENTIALS\nnodes 2\nscale 3\nnot judged FOO\n" }
-    ensures branching { shown branching ≡ codes "type BRANCHES\nnodes 2\nscale 1\ncombs 1\nleaves 1\nnot judged FOO\n" }
+    ensures matrix { shown matrix ≡ codes "name m\ntype TSP\nnodes 2\nweights EXPLICIT FULL_MATRIX\ncanonical 14\n"
+        ++ codes "fixed 1\nnot judged FOO\nnot judged BAR\n" }
+    ensures routing { shown shown_routes ≡ codes "type CVRP\nnodes 2\nweights EXPLICIT FULL_MATRIX\ncanonical 14\n" }
+    ensures tours { shown shown_tours ≡ codes "type TOUR\ntours 1\ntour 1 nodes 2\nnot judged FOO\n" }
+    ensures potentials { shown shown_potentials ≡ codes "type POTENTIALS\nnodes 2\nscale 3\nnot judged FOO\n" }
+    ensures branching { shown shown_tree ≡ codes "type BRANCHES\nnodes 2\nscale 1\ncombs 1\nleaves 1\nnot judged FOO\n" }
     ensures untyped { shown untyped ≡ codes "type \nnot judged FOO\n" }
 {}

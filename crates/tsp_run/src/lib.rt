@@ -15,7 +15,7 @@ mod source;
 
 pub use ending::{Ending, Line, line_of, status_of_ending, tell};
 pub use engines::perform;
-pub use examples::examples_of_statuses;
+pub use examples::{examples_of_lines, examples_of_opened_files, examples_of_statuses};
 pub use laws::faults_are_told_on_one_line;
 pub use running::{run, tell_unread};
 pub use source::{Open, Source};

@@ -12,8 +12,8 @@ mod validity;
 pub use answers::{first_faults, texts_have_one_answer};
 pub use by_node::each_node_has_one_group;
 pub use examples::{
-    examples_of_fault_texts, faults_at_the_end, faults_of_word_lines, faults_of_words, fields_of_texts, limits_agree,
-    limits_of_lines, limits_of_sections,
+    examples_of_fault_texts, faults_at_the_end, faults_of_word_lines, faults_of_words,
+    fields_of_texts, limits_agree, limits_of_lines, limits_of_sections,
 };
 pub use fault::{LineFault, ReadFault};
 pub use settled::{settled_ends_stay, settled_faults_stay};
