@@ -4,6 +4,7 @@ pub mod Combs
 pub mod Decisions
 pub mod Examples
 pub mod LeafBound
+pub mod NumberExamples
 pub mod Weighed
 pub mod Decided
 pub mod Sets

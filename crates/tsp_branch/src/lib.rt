@@ -16,6 +16,7 @@ mod laws;
 mod leaf;
 mod marks;
 mod moved;
+mod number_examples;
 mod numbers;
 mod room;
 mod rows;
@@ -47,6 +48,7 @@ pub use laws::{
     steps_leave_cases, sums_are_below_cycles,
 };
 pub use leaf::leaf_bound;
+pub use number_examples::{examples_of_differences, examples_of_good_numbers};
 pub use rows::row_bound;
 pub use stack::next_case;
 pub use steps::{BranchVerdict, Judged};

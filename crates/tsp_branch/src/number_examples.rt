@@ -1,0 +1,24 @@
+//! The numbers of leaves, on which the definitions are evaluated. No body is looked at here: a
+//! definition that is changed together with its code is refused by its examples.
+
+ghost use Rattle.std.specs.Prelude.{◌≡◌, ◌+◌, ◌-◌, ◌*◌, ◌^◌, pos, negsuc};
+ghost use Rattle.tsp_branch.specs.Judged.{AreGoodNumbers};
+ghost use Rattle.tsp_branch.specs.Listed.{listed_steps};
+ghost use Rattle.tsp_branch.specs.NumberExamples.{by_differences, by_numbers, multiplied_by, moved_at_three};
+
+/// Numbers at their limits, and past them by one.
+pub fn examples_of_good_numbers()
+    ensures largest_sum { AreGoodNumbers 3 2 (multiplied_by (pos (3 * 10 ^ 17 - 1)) (pos 1)) }
+    ensures larger_sum { ¬ AreGoodNumbers 3 2 (multiplied_by (pos (3 * 10 ^ 17)) (pos 1)) }
+    ensures below_zero { ¬ AreGoodNumbers 3 2 (multiplied_by (pos 5) (negsuc 0)) }
+    ensures fewer_combs { ¬ AreGoodNumbers 3 1 (multiplied_by (pos 5) (pos 1)) }
+    ensures largest_potential { AreGoodNumbers 3 0 (moved_at_three (pos (10 ^ 15))) }
+    ensures larger_potential { ¬ AreGoodNumbers 3 0 (moved_at_three (pos (10 ^ 15 + 1))) }
+    ensures lowest_potential { AreGoodNumbers 3 0 (moved_at_three (negsuc (10 ^ 15 - 1))) }
+    ensures lower_potential { ¬ AreGoodNumbers 3 0 (moved_at_three (negsuc (10 ^ 15))) }
+{}
+
+/// Each leaf has the numbers of the leaf before it, changed by its differences; the first one those of 0.
+pub fn examples_of_differences()
+    ensures { listed_steps 3 1 by_differences ≡ by_numbers }
+{}
