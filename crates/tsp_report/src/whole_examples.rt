@@ -9,7 +9,6 @@ ghost use Rattle.tsp_report.specs.Show.{shown};
 ghost use Rattle.tsp_report.specs.Examples.{matrix, shown_routes, shown_tours, shown_potentials, shown_tree, untyped};
 
 /// Whole reports on an instance with two lines that aren't judged.
-#[tactic(auto, unfolding(std::specs::Fmt::digits))]
 pub fn examples_of_whole_reports()
     ensures yes { report_of matrix (verdicts.Tour (pos 14) (Some (pos 12)))
         ≡ codes "type TSP\nnodes 2\nnot judged FOO\nnot judged BAR\nlength 14\nbound 12\ngap 2\nyes\n" }
@@ -20,7 +19,6 @@ pub fn examples_of_whole_reports()
 {}
 
 /// All that is shown of a file of each TYPE.
-#[tactic(auto, unfolding(std::specs::Fmt::digits, tsp_file::specs::Cost::cost, tsp_file::specs::Cost::listed_cost, tsp_format::specs::Place::place_of, tsp_format::specs::Cells::cells, tsp_format::specs::Cells::nodes_to))]
 pub fn examples_of_shown_files()
     ensures matrix { shown matrix ≡ codes "name m\ntype TSP\nnodes 2\nweights EXPLICIT FULL_MATRIX\ncanonical 14\n"
         ++ codes "fixed 1\nnot judged FOO\nnot judged BAR\n" }

@@ -1,0 +1,15 @@
+use Rattle.std.proofs.Common.{refl}
+use Rattle.std.specs.Fmt.{digits}
+use Rattle.tsp_report.proofs.whole_examples.examples_of_whole_reports.Goals as goal
+
+pub returns-clause-yes : goal.returns-clause-yes
+unfolding digits
+returns-clause-yes c = refl
+
+pub returns-clause-no : goal.returns-clause-no
+unfolding digits
+returns-clause-no c = refl
+
+pub returns-clause-routes : goal.returns-clause-routes
+unfolding digits
+returns-clause-routes c = refl
