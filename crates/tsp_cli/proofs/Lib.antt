@@ -1,1 +1,2 @@
 mod Subcommands
+mod Refusals

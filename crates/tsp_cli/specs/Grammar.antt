@@ -31,22 +31,40 @@ abbrev pub convert : App
 convert = with_rule (with_rule (with_rule (new_app (codes "convert")) (path (codes "F"))) (option (codes "L") (codes "layout")))
     explain
 
--- check F T [--potentials P]
-abbrev pub check_files : App
-check_files = with_rule (with_rule (with_rule (new_app (codes "check")) (path (codes "F"))) (path (codes "T")))
-    (option (codes "P") (codes "potentials"))
+-- [--potentials P] and [--branches B]
+abbrev pub of_potentials : Rule
+of_potentials = option (codes "P") (codes "potentials")
 
--- check F T [--potentials P] [--branches B] [--explain]
+abbrev pub of_branches : Rule
+of_branches = option (codes "B") (codes "branches")
+
+-- check F T
+abbrev pub check_files : App
+check_files = with_rule (with_rule (new_app (codes "check")) (path (codes "F"))) (path (codes "T"))
+
+-- check F T [--potentials P] [--branches B]
+abbrev pub check_certified : App
+check_certified = with_rule (with_rule check_files of_potentials) of_branches
+
+-- check F T [--potentials P] [--branches B] [--length N] [--explain]
 abbrev pub check : App
-check = with_rule (with_rule check_files (option (codes "B") (codes "branches"))) explain
+check = with_rule (with_rule check_certified (option (codes "N") (codes "length"))) explain
+
+-- bound F
+abbrev pub bound_files : App
+bound_files = with_rule (new_app (codes "bound")) (path (codes "F"))
+
+-- bound F [--potentials P] [--branches B] [--explain]
+abbrev pub bound : App
+bound = with_rule (with_rule (with_rule bound_files of_potentials) of_branches) explain
 
 -- the program, whose words don't begin with its own name, and which knows its version
 abbrev pub start : App
 start = on_top (λ top. record top { no_binary_name = true; has_version = true }) (new_app (codes "tsp"))
 
--- and its three subcommands, at one level
+-- and its four subcommands, at one level
 abbrev pub tsp : App
-tsp = with_subcommand (with_subcommand (with_subcommand start show.top) convert.top) check.top
+tsp = with_subcommand (with_subcommand (with_subcommand (with_subcommand start show.top) convert.top) check.top) bound.top
 
 -- an argument of the command counts in its subcommands too
 abbrev pub has_globals : Command → Bool

@@ -7,7 +7,7 @@ use Rattle.clap.specs.declared.error.kind.ErrorKind.{ErrorKind}
 use Rattle.clap.specs.declared.error.kind.ErrorKind.TheVariants as kinds
 use Rattle.tsp_cli.specs.Grammar.{tsp}
 use Rattle.tsp_cli.specs.declared.words.Verb.{Verb}
-use Rattle.tsp_cli.specs.declared.words.Verb.TheVariants.{Show, Convert, Check}
+use Rattle.tsp_cli.specs.declared.words.Verb.TheVariants.{Show, Convert, Check, Bound}
 use Rattle.tsp_cli.specs.declared.words.Job.{Job}
 use Rattle.tsp_cli.specs.declared.words.JobFault.{JobFault}
 use Rattle.tsp_cli.specs.declared.words.JobFault.TheVariants.{Refused, OutOfMemory}
@@ -17,6 +17,7 @@ abbrev pub word_of : Verb → Text
 word_of Show = codes "show"
 word_of Convert = codes "convert"
 word_of Check = codes "check"
+word_of Bound = codes "bound"
 
 -- the verb has this word, or no verb has
 abbrev pub IsVerbOf : Text → Option Verb → Type 0
@@ -26,11 +27,11 @@ IsVerbOf word None = (verb : Verb) → word ≢ word_of verb
 abbrev pub text_in : {Z : Type 0} → Option (String Z) → Option Text
 text_in = option_map string_bytes
 
--- the job has the values of F, T, L, P and B, where they were found, and is to be explained where E was given
+-- the job has the values of F, T, L, P, B and N, where they were found, and is to be explained where E was given
 abbrev pub HasValues : List Row → Job → Type 0
 HasValues rows job = (text_in job.file ≡ first_of (codes "F") rows) × (text_in job.solution ≡ first_of (codes "T") rows)
     × (text_in job.layout ≡ first_of (codes "L") rows) × (text_in job.potentials ≡ first_of (codes "P") rows)
-    × (text_in job.branches ≡ first_of (codes "B") rows)
+    × (text_in job.branches ≡ first_of (codes "B") rows) × (text_in job.length ≡ first_of (codes "N") rows)
     × (IsTrue job.explain ↔ (first_of (codes "E") rows ≡ Some (codes "true")))
 
 -- the job is that of a subcommand with its values, or of none

@@ -1,14 +1,14 @@
-//! The command line as `clap` knows it: three subcommands, what each takes, and the texts of help.
+//! The command line as `clap` knows it: four subcommands, what each takes, and the texts of help.
 
 ghost use Rattle.std.specs.Prelude.{◌≡◌, IfOk, false};
 ghost use Rattle.clap.specs.Words.{app_of, new_app, rule_of, shape_of, with_rule, with_subcommand};
-ghost use Rattle.tsp_cli.specs.Grammar.{IsCommandOf, has_globals, path, option, flag, explain, show, convert, check_files, check, start, tsp};
+ghost use Rattle.tsp_cli.specs.Grammar.{IsCommandOf, has_globals, path, option, flag, explain, show, convert, check_files, check_certified, check, bound_files, bound, start, tsp};
 
 use clap::{Arg, ArgAction, Command};
 use std::alloc::{AllocError, Global};
 
-/// What `--version` prints after the program's name.
-const VERSION: &str = "1.0.0";
+/// The program's version.
+pub const VERSION: &str = "1.1.0";
 
 /// What the program is, in one line.
 const ABOUT: &str = "Reads, writes and judges TSPLIB 95 files";
@@ -16,6 +16,7 @@ const ABOUT: &str = "Reads, writes and judges TSPLIB 95 files";
 /// The end of the program's help.
 const NOTES: &str = "\
 With no words at all, a file on standard input is shown.
+A path - is standard input, which can be one file of a call.
 
 Exit status:
   0  yes, or done
@@ -31,7 +32,14 @@ Examples:
   tsp show a.tsp
   tsp convert a.tsp --layout UPPER_ROW > b.tsp
   tsp check a.tsp a.tour --potentials a.potentials
-  tsp check a.tsp a.tour --branches a.branches";
+  tsp check a.tsp a.tour --branches a.branches
+  tsp check a.tsp a.tour --length 426
+  tsp bound a.tsp --potentials a.potentials";
+
+/// What the options of the certificates are.
+const POTENTIALS: &str = "The path of the potentials: TYPE POTENTIALS";
+
+const BRANCHES: &str = "The path of a tree of cases: TYPE BRANCHES";
 
 /// The end of the help of `show`.
 const SHOW_NOTES: &str = "\
@@ -59,24 +67,40 @@ Example:
 /// The end of the help of `check`.
 const CHECK_NOTES: &str = "\
 Prints yes with the length, or no with the first reason. With potentials or
-branches a yes has a bound too: no tour is shorter than that.
+branches a yes has a bound too: no tour is shorter than that. With a length
+that is claimed, a solution of another length is a no; one below 0 is
+written --length=-34.
 
 Exit status: 0 yes, 1 no, 2 a fault of a file or the wrong kind,
-3 out of memory, 4 both potentials and branches, 5 a device.
+3 out of memory, 4 both potentials and branches or no length, 5 a device.
 
 Examples:
   tsp check a.tsp a.tour
   tsp check a.tsp a.tour --potentials a.potentials
-  tsp check a.tsp a.tour --branches a.branches";
+  tsp check a.tsp a.tour --branches a.branches
+  tsp check a.tsp a.tour --length 426";
 
-/// The program's command with its three subcommands. Its words are those after the program's own
+/// The end of the help of `bound`.
+const BOUND_NOTES: &str = "\
+Prints yes with the bound, or no with the first reason against the instance
+or the certificate. No tour of the instance is shorter than the bound.
+
+Exit status: 0 yes, 1 no, 2 a fault of a file or the wrong kind,
+3 out of memory, 4 not one of potentials and branches, 5 a device.
+
+Examples:
+  tsp bound a.tsp --potentials a.potentials
+  tsp bound a.tsp --branches a.branches";
+
+/// The program's command with its four subcommands. Its words are those after the program's own
 /// name.
 pub(crate) fn tsp<'a>(alloc: Global) -> Result<Command<'a>, AllocError>
     ensures { IfOk result (IsCommandOf tsp) }
 {
     let one = with_command(top(alloc)?, show(alloc)?)?;
     let two = with_command(one, convert(alloc)?)?;
-    with_command(two, check(alloc)?)
+    let three = with_command(two, check(alloc)?)?;
+    with_command(three, bound(alloc)?)
 }
 
 /// The program's command without its subcommands.
@@ -110,17 +134,31 @@ fn convert<'a>(alloc: Global) -> Result<Command<'a>, AllocError>
     with(two, explain(alloc))
 }
 
-/// `check F T [--potentials P] [--branches B] [--explain]`.
+/// `check F T [--potentials P] [--branches B] [--length N] [--explain]`.
 fn check<'a>(alloc: Global) -> Result<Command<'a>, AllocError>
     ensures { IfOk result (IsCommandOf check) }
 {
-    let files = check_files(alloc)?;
-    let help = "The path of a tree of cases: TYPE BRANCHES";
-    let one = with(files, option(alloc, "B", "branches", help))?;
-    with(one, explain(alloc))
+    let one = check_certified(alloc)?;
+    let length = option(
+        alloc,
+        "N",
+        "length",
+        "The length that the solution has to have",
+    );
+    let two = with(one, length)?;
+    with(two, explain(alloc))
 }
 
-/// `check F T [--potentials P]`, which has the files.
+/// `check F T [--potentials P] [--branches B]`.
+fn check_certified<'a>(alloc: Global) -> Result<Command<'a>, AllocError>
+    ensures { IfOk result (IsCommandOf check_certified) }
+{
+    let files = check_files(alloc)?;
+    let one = with(files, option(alloc, "P", "potentials", POTENTIALS))?;
+    with(one, option(alloc, "B", "branches", BRANCHES))
+}
+
+/// `check F T`, which has the files.
 fn check_files<'a>(alloc: Global) -> Result<Command<'a>, AllocError>
     ensures { IfOk result (IsCommandOf check_files) }
 {
@@ -128,9 +166,29 @@ fn check_files<'a>(alloc: Global) -> Result<Command<'a>, AllocError>
     let bare = command(alloc, "check", about, CHECK_NOTES);
     let instance = "The path of the instance: TYPE TSP, ATSP or CVRP";
     let one = with(bare, path(alloc, "F", instance))?;
-    let two = with(one, path(alloc, "T", "The path of the solution: TYPE TOUR"))?;
-    let help = "The path of the potentials: TYPE POTENTIALS";
-    with(two, option(alloc, "P", "potentials", help))
+    with(one, path(alloc, "T", "The path of the solution: TYPE TOUR"))
+}
+
+/// `bound F [--potentials P] [--branches B] [--explain]`.
+fn bound<'a>(alloc: Global) -> Result<Command<'a>, AllocError>
+    ensures { IfOk result (IsCommandOf bound) }
+{
+    let files = bound_files(alloc)?;
+    let one = with(files, option(alloc, "P", "potentials", POTENTIALS))?;
+    let two = with(one, option(alloc, "B", "branches", BRANCHES))?;
+    with(two, explain(alloc))
+}
+
+/// `bound F`, which has the file.
+fn bound_files<'a>(alloc: Global) -> Result<Command<'a>, AllocError>
+    ensures { IfOk result (IsCommandOf bound_files) }
+{
+    let about = "Bounds every tour of an instance by a certificate, without a tour";
+    let bare = command(alloc, "bound", about, BOUND_NOTES);
+    with(
+        bare,
+        path(alloc, "F", "The path of the instance: TYPE TSP or ATSP"),
+    )
 }
 
 /// A command without arguments, with the texts of its help.

@@ -12,10 +12,13 @@
 mod examples;
 mod grammar;
 mod line_examples;
+mod once;
 mod task;
 mod words;
 
 pub use examples::examples_of_verbs;
+pub use grammar::VERSION;
 pub use line_examples::{examples_of_lines, examples_of_two_certificates};
-pub use task::{Place, Task, TaskFault, task_of};
+pub use once::task_of;
+pub use task::{Place, Task, TaskFault};
 pub use words::{Job, JobFault, Verb, job_of, unread};

@@ -1,7 +1,7 @@
 //! Whole command lines: what they ask for, or that they are refused; and jobs that are no task. No body is looked at here: a
 //! definition that is changed together with its code is refused by its examples.
 
-ghost use Rattle.std.specs.Prelude.{◌≡◌, ◌≢◌, [], ◌∷◌, Option, None, Some, codes};
+ghost use Rattle.std.specs.Prelude.{◌≡◌, ◌≢◌, [], ◌∷◌, Option, None, Some, ℤ, codes};
 ghost use Rattle.clap.specs.Words.{fault_of};
 ghost use Rattle.tsp_cli.specs.Grammar.{tsp};
 ghost use Rattle.tsp_format.specs.declared.layout.Layout.{Layout};
@@ -9,6 +9,7 @@ ghost use Rattle.tsp_cli.specs.declared.words.Job.{Job};
 ghost use Rattle.tsp_cli.specs.declared.words.Verb.TheVariants as verbs;
 ghost use Rattle.tsp_cli.specs.declared.task.Place.{Place};
 ghost use Rattle.tsp_cli.specs.declared.task.Task.TheVariants as tasks;
+ghost use Rattle.tsp_reason.specs.declared.certificate.Certificate.TheVariants as certificates;
 ghost use Rattle.tsp_cli.specs.Task.{IsTask};
 ghost use Rattle.tsp_cli.specs.Examples.{IsWholeLine, found_value};
 
@@ -29,19 +30,29 @@ pub fn examples_of_lines()
         ≡ Some (codes "c") }
     ensures no_branches { found_value (codes "B") (codes "check" ∷ codes "a" ∷ codes "b" ∷ codes "--potentials" ∷ codes "c" ∷ [])
         ≡ None }
+    ensures length { found_value (codes "N") (codes "check" ∷ codes "a" ∷ codes "b" ∷ codes "--length" ∷ codes "9" ∷ [])
+        ≡ Some (codes "9") }
+    ensures bound { IsWholeLine (codes "bound") (codes "bound" ∷ codes "a" ∷ codes "--branches" ∷ codes "c" ∷ []) }
     ensures no_file { fault_of tsp (codes "show" ∷ []) ≢ [] }
     ensures no_solution { fault_of tsp (codes "check" ∷ codes "a" ∷ []) ≢ [] }
     ensures no_layout { fault_of tsp (codes "convert" ∷ codes "a" ∷ codes "--layout" ∷ []) ≢ [] }
 {}
 
-/// A check with both certificates is no task: each check of a certificate is without the other one, and the
-/// plain check without both.
+/// With both certificates a check or a bound is no task: with either one it is without the other, and the
+/// plain check is without both. A bound has one of them.
 pub fn examples_of_two_certificates()
-    ensures plain_with_potentials { (job : Job) (a b : Place) → job.potentials ≢ None → ¬ IsTask job (tasks.Check a b) }
-    ensures plain_with_branches { (job : Job) (a b : Place) → job.branches ≢ None → ¬ IsTask job (tasks.Check a b) }
-    ensures potentials_with_branches { (job : Job) (a b c : Place) → job.branches ≢ None → ¬ IsTask job (tasks.BoundCheck a b c) }
-    ensures branches_with_potentials { (job : Job) (a b c : Place) → job.potentials ≢ None
-        → ¬ IsTask job (tasks.BranchCheck a b c) }
+    ensures plain_with_potentials { (job : Job) (a b : Place) (claimed : Option ℤ) → job.potentials ≢ None
+        → ¬ IsTask job (tasks.Check a b claimed) }
+    ensures plain_with_branches { (job : Job) (a b : Place) (claimed : Option ℤ) → job.branches ≢ None
+        → ¬ IsTask job (tasks.Check a b claimed) }
+    ensures potentials_with_branches { (job : Job) (a b c : Place) (claimed : Option ℤ) → job.branches ≢ None
+        → ¬ IsTask job (tasks.CheckBy certificates.Potentials a b c claimed) }
+    ensures branches_with_potentials { (job : Job) (a b c : Place) (claimed : Option ℤ) → job.potentials ≢ None
+        → ¬ IsTask job (tasks.CheckBy certificates.Branches a b c claimed) }
+    ensures bound_with_branches { (job : Job) (a b : Place) → job.branches ≢ None
+        → ¬ IsTask job (tasks.Bound certificates.Potentials a b) }
+    ensures bound_with_potentials { (job : Job) (a b : Place) → job.potentials ≢ None
+        → ¬ IsTask job (tasks.Bound certificates.Branches a b) }
     ensures shown { (job : Job) (a : Place) → job.verb ≡ Some verbs.Check → ¬ IsTask job (tasks.Show a) }
     ensures converted { (job : Job) (a : Place) (to : Option Layout) → job.verb ≡ Some verbs.Check
         → ¬ IsTask job (tasks.Convert a to) }

@@ -21,6 +21,8 @@ pub enum Verb {
     Convert,
     /// To judge a solution of an instance.
     Check,
+    /// To bound every tour of an instance.
+    Bound,
 }
 
 impl Verb {
@@ -32,6 +34,7 @@ impl Verb {
             "show" => Some(Verb::Show),
             "convert" => Some(Verb::Convert),
             "check" => Some(Verb::Check),
+            "bound" => Some(Verb::Bound),
             _ => None,
         }
     }
@@ -52,6 +55,8 @@ pub struct Job {
     pub potentials: Option<String>,
     /// The path of the tree of cases.
     pub branches: Option<String>,
+    /// The word of the length that is claimed.
+    pub length: Option<String>,
     /// Whether a fault, or the line `no`, is to be explained.
     pub explain: bool,
 }
@@ -77,8 +82,8 @@ impl JobFault {
 }
 
 /// Reads the words of a command line, those after the program's own name: `show F`,
-/// `convert F [--layout L]`, `check F T [--potentials P] [--branches B]`, each with `--explain` or
-/// without, or no words at all.
+/// `convert F [--layout L]`, `check F T [--potentials P] [--branches B] [--length N]`,
+/// `bound F [--potentials P] [--branches B]`, each with `--explain` or without, or no words at all.
 ///
 /// # Errors
 ///
@@ -101,6 +106,7 @@ pub fn job_of(alloc: Global, words: &[&str]) -> Result<Job, JobFault>
             layout: None,
             potentials: None,
             branches: None,
+            length: None,
             explain: false,
         });
     };
@@ -147,6 +153,7 @@ fn job_with(alloc: Global, verb: Option<Verb>, found: &ArgMatches<'_>) -> Result
         layout: value(alloc, found, "L")?,
         potentials: value(alloc, found, "P")?,
         branches: value(alloc, found, "B")?,
+        length: value(alloc, found, "N")?,
         explain: is_given(found, "E"),
     })
 }

@@ -20,7 +20,7 @@ pub(crate) fn cause(look: &Look, fault: ReadFault) -> Option<&'static str> {
                 None
             };
             kind.or(cause_of_returns(look))
-                .or(cause_of_line(look, line, fault))
+                .or(cause_of_line(look, fault))
         }
         ReadFault::End(fault) => cause_of_returns(look).or(cause_of_end(look, fault)),
         ReadFault::OutOfMemory | ReadFault::Device | ReadFault::TooLong => None,
@@ -43,29 +43,23 @@ fn kind_of(head: &[u8]) -> Option<&'static str> {
             "The file begins with a byte order mark, the bytes 239 187 191. Take it off: tail -c +4 FILE.",
         );
     }
-    if head.starts_with(b"{") || head.starts_with(b"[") {
-        return Some(
-            "The file begins as JSON does. A file of TSPLIB begins with lines as TYPE : TSP.",
-        );
-    }
-    if head.starts_with(b"<!") || head.starts_with(b"<html") || head.starts_with(b"<HTML") {
-        return Some(
-            "The file begins as HTML does: a download may have failed. A file of TSPLIB begins with lines as TYPE : TSP.",
-        );
-    }
-    if head.starts_with(b"<") {
-        return Some(
-            "The file begins as XML does. A file of TSPLIB begins with lines as TYPE : TSP.",
-        );
-    }
-    if head.starts_with(b"#") {
-        return Some("TSPLIB has no comments with #. Write a line COMMENT : .. instead.");
-    }
-    match head.first() {
-        Some(byte) if !is_usual(*byte) => {
+    None
+}
+
+/// The likely cause of a fault in the first line of a file that doesn't begin as a text does.
+pub(crate) fn cause_of_first_byte(look: &Look, fault: ReadFault) -> Option<&'static str> {
+    match (fault, look.head.first()) {
+        (
+            ReadFault::Line {
+                line: 1,
+                word: _,
+                fault: _,
+            },
+            Some(byte),
+        ) if !is_usual(*byte) => {
             Some("The file's first byte is no letter, digit or blank. Is it a text?")
         }
-        Some(_) | None => None,
+        _ => None,
     }
 }
 
@@ -92,29 +86,21 @@ fn cause_of_returns(look: &Look) -> Option<&'static str> {
 }
 
 /// The likely cause of a line fault.
-fn cause_of_line(look: &Look, line: u32, fault: LineFault) -> Option<&'static str> {
+fn cause_of_line(look: &Look, fault: LineFault) -> Option<&'static str> {
     match fault {
-        LineFault::UnknownLine if is_route(look.excerpt.marked()) => Some(
-            "This is how CVRPLIB writes routes. They leave the depot out and count customers from 1:\n\
-             docs/certificates.md has a recipe.",
-        ),
-        LineFault::StrayNumber if line == 1 && look.excerpt.after().starts_with(b" ->") => Some(
-            "This looks like the routes of OR-Tools, whose nodes count from 0.\n\
-             A file of TSPLIB begins with lines as TYPE : TOUR, and its nodes count from 1.",
-        ),
-        LineFault::StrayNumber if line == 1 && has_comma(look.excerpt.marked()) => Some(
-            "This looks like CSV. A file of TSPLIB begins with lines as TYPE : TSP, and has blanks between numbers.",
-        ),
-        LineFault::StrayNumber if line == 1 && words_in(look.excerpt.after()) == 2 => Some(
-            "This looks like points without keywords. A file of TSPLIB begins with lines as TYPE : TSP.",
-        ),
-        LineFault::StrayNumber if line == 1 => Some(
-            "This may be a list of nodes without keywords, as Concorde writes a tour (.sol):\n\
-             docs/certificates.md has a recipe.",
-        ),
+        LineFault::Number(NumberFault::BadNumber) if look.excerpt.marked().starts_with(b"#") => {
+            Some("TSPLIB has no comments with #. Write a line COMMENT : .. instead.")
+        }
         LineFault::Number(NumberFault::OutOfRange)
             if look.excerpt.marked() == b"0".as_slice() && look.field == Some(Field::TourPart) => {
             Some("Nodes count from 1. Some programs count them from 0: add 1 to each node then.")
+        }
+        LineFault::Outside
+            if look.field == Some(Field::EdgeWeightTypeKey)
+                && look.excerpt.marked().ends_with(b"GEO") => {
+            Some(
+                "The script geo.py converts GEO: see the guide \"Certificates from solvers\", which is published with tsp.",
+            )
         }
         LineFault::Number(NumberFault::TooFine) if look.field == Some(Field::NodeCoordPart) => Some(
             "Write the coordinates with 9 decimals, or multiply all of them by a power of 10.\n\
@@ -127,34 +113,6 @@ fn cause_of_line(look: &Look, line: u32, fault: LineFault) -> Option<&'static st
             ),
         _ => None,
     }
-}
-
-/// How many words a text has.
-fn words_in(text: &[u8]) -> u32 {
-    let mut count = 0u32;
-    let mut is_in_word = false;
-    'bytes: for byte in text {
-        if !is_blank(*byte) && !is_in_word {
-            count = count.saturating_add(1);
-        }
-        is_in_word = !is_blank(*byte);
-    }
-    count
-}
-
-/// Whether a word has a comma.
-fn has_comma(word: &[u8]) -> bool {
-    'bytes: for byte in word {
-        if *byte == b',' {
-            return true;
-        }
-    }
-    false
-}
-
-/// Whether a line is one of CVRPLIB's.
-fn is_route(line: &[u8]) -> bool {
-    line.starts_with(b"Route") || line.starts_with(b"Cost")
 }
 
 /// The likely cause of an end fault.

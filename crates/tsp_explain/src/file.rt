@@ -1,10 +1,14 @@
 //! Why a file isn't read: the place, the rule, and a likely cause.
 
-use crate::cause::cause;
-use crate::guess::{guess_at, push_guess};
+ghost use Rattle.std.specs.Io.{StartsWith};
+
+use crate::cause::{cause, cause_of_first_byte};
+use crate::foreign::{begins, foreign_form, push_foreign};
+use crate::guess::{UNKNOWN, guess_at, push_guess};
 use crate::look::{Look, Sought, look_for};
+use crate::role::Role;
 use crate::sentences::{end_sentence, line_sentence};
-use crate::text::{begin, end, push, push_lines, push_number, push_shown};
+use crate::text::{append, begin, end, push, push_lines, push_number, push_shown};
 use crate::wanted::{asked, group, wanted};
 use std::alloc::{AllocError, Global};
 use std::io;
@@ -13,9 +17,9 @@ use tsp_draft::EndFault;
 use tsp_format::{Field, Word};
 use tsp_text::{LineFault, ReadFault};
 
-/// Appends why a file isn't read. `name` is what the user calls it, and `again` the file opened
-/// once more, where it can be; at most as much of it is read as the first time. The text at the
-/// fault is shown as far as that look shows it.
+/// Appends why a file isn't read. `name` is what the user calls it, `given` what it is given for in a
+/// check, and `again` the file opened once more, where it can be. What stands at the fault is shown as
+/// far as that second look shows it.
 ///
 /// # Errors
 ///
@@ -24,20 +28,24 @@ pub fn explain_file<R: Read + Drop>(
     alloc: Global,
     text: &mut Vec<u8>,
     name: &str,
+    given: Option<Role>,
     again: Option<R>,
     fault: ReadFault,
-) -> Result<(), AllocError> {
+) -> Result<(), AllocError>
+    ensures { StartsWith text.new.items text.old.items }
+{
     let seen = match again {
         None => None,
         Some(mut reader) => Some(look_for(&mut reader, sought_for(fault))),
     };
+    let mut told = Vec::new(alloc);
     let answer = match &seen {
-        Some(Ok(seen)) => explain_seen(text, name, seen, fault),
-        Some(Err(error)) => explain_failed(alloc, text, name, error, fault),
-        None => explain_unseen(text, name, fault),
+        Some(Ok(seen)) => explain_seen(alloc, &mut told, name, given, seen, fault),
+        Some(Err(error)) => explain_failed(alloc, &mut told, name, error, fault),
+        None => explain_unseen(alloc, &mut told, name, fault),
     };
     drop(seen);
-    answer
+    append(text, told, answer)
 }
 
 /// What a second look is for.
@@ -61,12 +69,14 @@ fn sought_for(fault: ReadFault) -> Sought {
 
 /// Appends the explanation of a file that was seen a second time.
 fn explain_seen(
+    alloc: Global,
     text: &mut Vec<u8>,
     name: &str,
+    given: Option<Role>,
     seen: &Look,
     fault: ReadFault,
 ) -> Result<(), AllocError> {
-    push_place(text, name, fault)?;
+    push_place(alloc, text, name, fault)?;
     if let ReadFault::Line {
         line: _,
         word,
@@ -76,7 +86,19 @@ fn explain_seen(
         seen.excerpt.push_to(text, word > 0)?;
     }
     let cause = cause(seen, fault);
-    match (cause, guess_at(seen, fault), fault) {
+    if cause.is_none()
+        && let Some(form) = foreign_form(seen, given, fault)
+    {
+        push_lines(text, short_rule(fault))?;
+        return push_foreign(text, form, given);
+    }
+    let cause = cause.or(cause_of_first_byte(seen, fault));
+    let guess = guess_at(seen, fault);
+    if cause.is_none() && guess.is_none() && is_unknown_beginning(fault) {
+        push_lines(text, UNKNOWN)?;
+        return push_lines(text, begins(given));
+    }
+    match (cause, guess, fault) {
         (
             None,
             Some(guess),
@@ -87,6 +109,30 @@ fn explain_seen(
             },
         ) => push_guess(text, guess, seen, fault),
         _ => push_rules(text, seen, fault, cause),
+    }
+}
+
+/// Whether a file begins with an unknown word.
+fn is_unknown_beginning(fault: ReadFault) -> bool {
+    match fault {
+        ReadFault::Line {
+            line: 1,
+            word: _,
+            fault: LineFault::UnknownLine,
+        } => true,
+        _ => false,
+    }
+}
+
+/// The rule of a fault that a form of another program has.
+fn short_rule(fault: ReadFault) -> &'static str {
+    match fault {
+        ReadFault::Line {
+            line: _,
+            word: _,
+            fault: LineFault::StrayNumber,
+        } => line_sentence(LineFault::StrayNumber),
+        _ => UNKNOWN,
     }
 }
 
@@ -130,7 +176,8 @@ fn push_near(text: &mut Vec<u8>, seen: &Look, fault: ReadFault) -> Result<(), Al
     end(text)
 }
 
-/// Appends the explanation of a file that can't be read a second time, with what the system says.
+/// Appends the explanation of a file that can't be read a second time, with what the system says. Of a
+/// file that couldn't be read the first time either, that comes first.
 fn explain_failed(
     alloc: Global,
     text: &mut Vec<u8>,
@@ -138,43 +185,88 @@ fn explain_failed(
     error: &io::Error,
     fault: ReadFault,
 ) -> Result<(), AllocError> {
-    explain_unseen(text, name, fault)?;
-    push_error(alloc, text, error)
+    match fault {
+        ReadFault::Device => {
+            push(text, name)?;
+            push(text, ": ")?;
+            push_words_of(alloc, text, error)?;
+            end(text)?;
+            push_rule(text, fault, None)
+        }
+        _ => {
+            explain_unseen(alloc, text, name, fault)?;
+            push_system(alloc, text, error)
+        }
+    }
 }
 
 /// Appends what the system says of a failure.
-pub fn push_error(alloc: Global, text: &mut Vec<u8>, error: &io::Error) -> Result<(), AllocError> {
-    let words = format!(in alloc; "{error}")?;
+///
+/// # Errors
+///
+/// Out of memory; part of the line may be appended then.
+pub fn push_error(alloc: Global, text: &mut Vec<u8>, error: &io::Error) -> Result<(), AllocError>
+    ensures { StartsWith text.new.items text.old.items }
+{
+    let mut told = Vec::new(alloc);
+    let answer = push_system(alloc, &mut told, error);
+    append(text, told, answer)
+}
+
+/// Appends what the system says of a failure, as a line.
+fn push_system(alloc: Global, text: &mut Vec<u8>, error: &io::Error) -> Result<(), AllocError> {
     begin(text)?;
     push(text, "The system says: ")?;
-    push(text, words.as_str())?;
+    push_words_of(alloc, text, error)?;
     end(text)
 }
 
+/// Appends the system's words for a failure.
+fn push_words_of(alloc: Global, text: &mut Vec<u8>, error: &io::Error) -> Result<(), AllocError> {
+    let words = format!(in alloc; "{error}")?;
+    push(text, words.as_str())
+}
+
 /// Appends the explanation of a file of which nothing is seen.
-fn explain_unseen(text: &mut Vec<u8>, name: &str, fault: ReadFault) -> Result<(), AllocError> {
-    push_place(text, name, fault)?;
+fn explain_unseen(
+    alloc: Global,
+    text: &mut Vec<u8>,
+    name: &str,
+    fault: ReadFault,
+) -> Result<(), AllocError> {
+    push_place(alloc, text, name, fault)?;
     push_rule(text, fault, None)
 }
 
-/// Appends where the fault is.
-fn push_place(text: &mut Vec<u8>, name: &str, fault: ReadFault) -> Result<(), AllocError> {
-    begin(text)?;
+/// Appends where the fault is, as compilers do: the path, the line, and the fault. Editors jump to it.
+fn push_place(
+    alloc: Global,
+    text: &mut Vec<u8>,
+    name: &str,
+    fault: ReadFault,
+) -> Result<(), AllocError> {
     push(text, name)?;
-    if let ReadFault::Line {
-        line,
-        word,
-        fault: _,
-    } = fault
-    {
-        push(text, ", line ")?;
-        push_number(text, line)?;
-        if word > 0 {
-            push(text, ", word ")?;
-            push_number(text, word)?;
-        }
-    }
     push(text, ":")?;
+    match fault {
+        ReadFault::Line { line, word, fault } => {
+            push_number(text, line)?;
+            push(text, ": ")?;
+            if word > 0 {
+                push(text, "word ")?;
+                push_number(text, word)?;
+                push(text, ": ")?;
+            }
+            let words = format!(in alloc; "{fault}")?;
+            push(text, words.as_str())?;
+        }
+        ReadFault::End(fault) => {
+            let words = format!(in alloc; " {fault}")?;
+            push(text, words.as_str())?;
+        }
+        ReadFault::OutOfMemory => push(text, " out of memory")?,
+        ReadFault::Device => push(text, " device")?,
+        ReadFault::TooLong => push(text, " too long")?,
+    }
     end(text)
 }
 

@@ -53,7 +53,10 @@ pub(crate) fn guess_at(look: &Look, fault: ReadFault) -> Option<Guess> {
 fn guess_of_line(look: &Look, fault: LineFault) -> Option<Guess> {
     match fault {
         LineFault::UnknownLine => guess_of_word(look),
-        LineFault::BadValue => Some(guess_of_value(look.excerpt.marked(), look.field?)),
+        LineFault::BadValue => Some(guess_of_value(
+            look.excerpt.marked(),
+            look.field.unwrap_or(Field::OtherKey),
+        )),
         LineFault::Number(NumberFault::OutOfRange)
             if look.excerpt.marked() == b"0".as_slice() && is_by_node(look.field) => {
             Some(Guess::Zero(look.dimension?))
@@ -93,7 +96,7 @@ fn guess_of_word(look: &Look) -> Option<Guess> {
 fn guess_of_value(line: &[u8], field: Field) -> Guess {
     let (_, rest) = first_run(line);
     let value = first_word(after_marks(rest));
-    if field == Field::NameKey || field == Field::CommentKey {
+    if field == Field::NameKey || field == Field::CommentKey || field == Field::OtherKey {
         return Guess::LongValue(field);
     }
     if value.is_empty() {
@@ -197,7 +200,7 @@ pub(crate) fn push_guess(
 }
 
 /// The rule of a line that begins with an unknown word.
-const UNKNOWN: &str =
+pub(crate) const UNKNOWN: &str =
     "The line begins with a word that is no keyword of TSPLIB 95, and no colon follows that word.";
 
 /// Appends a line with a word between others.

@@ -9,23 +9,26 @@
 #![tactic(auto)]
 
 mod cause;
+mod certificate;
+mod claims;
 mod examples;
 mod excerpt;
 mod file;
+mod foreign;
 mod guess;
 mod look;
 mod near;
 mod refusal;
+mod role;
 mod sentences;
 mod solution;
 mod text;
 mod wanted;
 
+pub use claims::push_claim;
 pub use examples::examples_of_shown_bytes;
 pub use file::{explain_file, push_error};
-pub use refusal::{Blame, blamed, explain_reason, push_details};
-pub use sentences::{
-    end_sentence, line_sentence, number_sentence, reason_sentence, relayout_sentence,
-    write_sentence,
-};
+pub use refusal::{explain_reason, push_details};
+pub use role::{Role, blamed};
+pub use sentences::{relayout_sentence, write_sentence};
 pub use text::push_lines;

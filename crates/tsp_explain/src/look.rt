@@ -53,6 +53,10 @@ pub(crate) struct Look {
     pub(crate) field: Option<Field>,
     /// The field before the last word line.
     pub(crate) open: Option<Field>,
+    /// The unknown keyword of the last line that has one.
+    pub(crate) other: ArrayVec<u8, 40>,
+    /// How many words the line after the one that was looked for has, as far as they are counted.
+    pub(crate) next_words: u32,
     /// The value of DIMENSION, where such a line was seen.
     pub(crate) dimension: Option<i64>,
     /// Whether a line says that each node has three coordinates.
@@ -72,7 +76,10 @@ pub(crate) struct Look {
     is_done: bool,
 }
 
-/// Looks at a file, up to what is sought or to its line `EOF`; no further than it is read.
+/// The most words that are counted of the line after the one that is looked for.
+const MOST_NEXT_WORDS: u32 = 4;
+
+/// Looks at a file, up to what is sought and the line after it, or to its line `EOF`.
 ///
 /// # Errors
 ///
@@ -110,6 +117,8 @@ impl Look {
             excerpt: Excerpt::new(),
             field: None,
             open: None,
+            other: ArrayVec::new(),
+            next_words: 0,
             dimension: None,
             is_spatial: false,
             words: 0,
@@ -148,6 +157,9 @@ impl Look {
         {
             self.excerpt.take(byte, self.line.is_in(word));
         }
+        if self.is_past() && (self.line.words >= MOST_NEXT_WORDS || self.line.front.is_full()) {
+            self.end_line();
+        }
     }
 
     /// Whether the line's words are of the section that was looked for.
@@ -158,17 +170,26 @@ impl Look {
         }
     }
 
-    /// Ends the line, and begins the next one.
+    /// Ends the line, and begins the next one. Of the line after the one that was looked for only the
+    /// words count.
     fn end_line(&mut self) {
+        if self.is_past() {
+            self.next_words = self.line.words;
+            self.is_done = true;
+            return;
+        }
         if self.line.is_of_words() {
             self.take_keyword();
         }
-        if let Sought::Place { line, word: _ } = self.sought
-            && line <= self.line.number
-        {
-            self.is_done = true;
-        }
         self.line.begin_next();
+    }
+
+    /// Whether the line comes after the one that was looked for.
+    fn is_past(&self) -> bool {
+        match self.sought {
+            Sought::Place { line, word: _ } => line < self.line.number,
+            Sought::Field(_) | Sought::Nothing => false,
+        }
     }
 
     /// Takes the line's keyword, and its value where it is that of DIMENSION.
@@ -188,6 +209,8 @@ impl Look {
             Keyword::EdgeDataFormat | Keyword::EdgeDataSection => self.field = None,
             Keyword::Unknown => {
                 self.field = None;
+                self.other.clear();
+                let _ = self.other.try_extend_from_slice(keyword);
                 let word = sought_word(self.sought);
                 let is_meant = is_near(keyword, word) || is_in_other_letters(keyword, word);
                 if self.near.is_empty() && is_meant {

@@ -1,67 +1,39 @@
 //! Why a solution is refused: the rule, and the nodes and numbers that the reason is about.
 
+ghost use Rattle.std.specs.Io.{StartsWith};
+
+use crate::certificate::push_certificate;
 use crate::sentences::reason_sentence;
 use crate::solution::{
     count_at_place, first_place_of, first_repeated, least_missing, node_at, sum_of,
 };
-use crate::text::{begin, end, push, push_lines, push_number};
-use std::alloc::AllocError;
+use crate::text::{append, begin, end, push, push_lines, push_number};
+use std::alloc::{AllocError, Global};
 use tsp_cost::{Costs, Instance};
 use tsp_file::File;
 use tsp_format::{Kind, Word};
 use tsp_reason::Reason;
-
-/// Which file a reason is about.
-#[derive(Clone, Copy, Debug, PartialEq, Eq)]
-pub enum Blame {
-    /// The instance.
-    Instance,
-    /// The solution.
-    Solution,
-    /// The potentials.
-    Potentials,
-    /// The tree of cases.
-    Branches,
-}
-
-/// The file that a reason is about.
-pub fn blamed(reason: Reason) -> Blame {
-    match reason {
-        Reason::TooFewNodes
-        | Reason::NotSymmetric { .. }
-        | Reason::DepotCount
-        | Reason::DepotDemand
-        | Reason::FixedEdgesInRoutes => Blame::Instance,
-        Reason::NotASolution
-        | Reason::Dimension
-        | Reason::TourCount
-        | Reason::TourLength
-        | Reason::NodeOutOfRange { .. }
-        | Reason::RepeatedNode { .. }
-        | Reason::FixedEdgeUnused { .. }
-        | Reason::DepotInRoute { .. }
-        | Reason::Unserved { .. }
-        | Reason::Overload { .. } => Blame::Solution,
-        Reason::NotPotentials
-        | Reason::PotentialsDimension
-        | Reason::PotentialsKind
-        | Reason::MultiplierNotFixed { .. }
-        | Reason::MultiplierRepeated { .. }
-        | Reason::DualInfeasible { .. } => Blame::Potentials,
-        Reason::NotBranches
-        | Reason::BranchesDimension
-        | Reason::BadComb { .. }
-        | Reason::BranchTwice { .. }
-        | Reason::BadLeaf { .. } => Blame::Branches,
-    }
-}
 
 /// Appends why a solution is refused. `name` is what the user calls the file that is to blame.
 ///
 /// # Errors
 ///
 /// Out of memory; part of the explanation may be appended then.
-pub fn explain_reason(text: &mut Vec<u8>, name: &str, reason: Reason) -> Result<(), AllocError> {
+pub fn explain_reason(
+    alloc: Global,
+    text: &mut Vec<u8>,
+    name: &str,
+    reason: Reason,
+) -> Result<(), AllocError>
+    ensures { StartsWith text.new.items text.old.items }
+{
+    let mut told = Vec::new(alloc);
+    let answer = push_reason(&mut told, name, reason);
+    append(text, told, answer)
+}
+
+/// Appends the file that is to blame, and the rule of the reason.
+fn push_reason(text: &mut Vec<u8>, name: &str, reason: Reason) -> Result<(), AllocError> {
     begin(text)?;
     push(text, name)?;
     push(text, ":")?;
@@ -69,22 +41,76 @@ pub fn explain_reason(text: &mut Vec<u8>, name: &str, reason: Reason) -> Result<
     push_lines(text, reason_sentence(reason))
 }
 
-/// Appends the nodes and numbers that a reason is about, as the instance and the solution show them.
-/// The caller may have read both a second time, so they may be others than those that were judged.
+/// Appends the nodes and numbers that a reason is about, as the files show them: the instance, the
+/// solution and the certificate, where they are there. The caller may have read them a second time, so
+/// they may be others than those that were judged.
 ///
 /// # Errors
 ///
 /// Out of memory; part of the lines may be appended then.
 pub fn push_details(
+    alloc: Global,
     text: &mut Vec<u8>,
     reason: Reason,
-    weighed: &Instance,
+    instance: &Instance,
+    solution: Option<&File>,
+    certificate: Option<&File>,
+) -> Result<(), AllocError>
+    ensures { StartsWith text.new.items text.old.items }
+{
+    let mut told = Vec::new(alloc);
+    let answer = push_all(&mut told, reason, instance, solution, certificate);
+    append(text, told, answer)
+}
+
+/// Appends what the files show of a reason.
+fn push_all(
+    text: &mut Vec<u8>,
+    reason: Reason,
+    instance: &Instance,
+    solution: Option<&File>,
+    certificate: Option<&File>,
+) -> Result<(), AllocError> {
+    push_of_instance(text, reason, instance)?;
+    if let Some(solution) = solution {
+        push_of_solution(text, reason, instance.file(), solution)?;
+    }
+    match certificate {
+        Some(certificate) => push_certificate(text, reason, instance.file(), certificate),
+        None => Ok(()),
+    }
+}
+
+/// Appends what the instance shows of a reason.
+fn push_of_instance(
+    text: &mut Vec<u8>,
+    reason: Reason,
+    instance: &Instance,
+) -> Result<(), AllocError> {
+    let file = instance.file();
+    match reason {
+        Reason::TooFewNodes => say(text, &[("DIMENSION is ", nodes_of(file))]),
+        Reason::DepotCount => say(text, &[("The number of depots in it is ", depots_in(file))]),
+        Reason::NotSymmetric { i, j } => {
+            push_cost(text, instance, i, j)?;
+            push_cost(text, instance, j, i)
+        }
+        Reason::DualInfeasible { i, j } => push_cost(text, instance, i, j),
+        Reason::FixedEdgeUnused { index } => push_pair(text, index, file),
+        _ => Ok(()),
+    }
+}
+
+/// Appends what the solution shows of a reason.
+fn push_of_solution(
+    text: &mut Vec<u8>,
+    reason: Reason,
+    instance: &File,
     solution: &File,
 ) -> Result<(), AllocError> {
-    let instance = weighed.file();
     match reason {
         Reason::NotASolution => push_type(text, solution),
-        Reason::Dimension => push_dimensions(text, instance, solution),
+        Reason::Dimension => push_dimensions(text, instance, "solution ", solution),
         Reason::TourCount => say(
             text,
             &[("The number of tours in it is ", tours_in(solution))],
@@ -96,36 +122,15 @@ pub fn push_details(
             push_missing(text, instance, solution)
         }
         Reason::DepotInRoute { place } => push_depot(text, place, instance, solution),
-        Reason::FixedEdgeUnused { index } => push_pair(text, index, instance),
         Reason::Overload { route } => push_load(text, route, instance, solution),
         Reason::Unserved { node } => say(text, &[("No route has node ", i64::from(node))]),
-        Reason::TooFewNodes => say(text, &[("DIMENSION is ", nodes_of(instance))]),
-        Reason::DepotCount => say(
-            text,
-            &[("The number of depots in it is ", depots_in(instance))],
-        ),
-        Reason::NotSymmetric { i, j } => {
-            push_cost(text, weighed, i, j)?;
-            push_cost(text, weighed, j, i)
-        }
-        Reason::DualInfeasible { i, j } => push_cost(text, weighed, i, j),
-        Reason::NotPotentials
-        | Reason::PotentialsDimension
-        | Reason::PotentialsKind
-        | Reason::MultiplierNotFixed { .. }
-        | Reason::MultiplierRepeated { .. }
-        | Reason::DepotDemand
-        | Reason::FixedEdgesInRoutes
-        | Reason::NotBranches
-        | Reason::BranchesDimension
-        | Reason::BadComb { .. }
-        | Reason::BranchTwice { .. }
-        | Reason::BadLeaf { .. } => Ok(()),
+        Reason::LengthClaimed { length } => say(text, &[("Its length is ", length)]),
+        _ => Ok(()),
     }
 }
 
 /// Appends a line of words with a number after each.
-fn say(text: &mut Vec<u8>, parts: &[(&str, i64)]) -> Result<(), AllocError> {
+pub(crate) fn say(text: &mut Vec<u8>, parts: &[(&str, i64)]) -> Result<(), AllocError> {
     begin(text)?;
     'parts: for (words, number) in parts {
         push(text, words)?;
@@ -156,11 +161,11 @@ fn push_cost(
     )
 }
 
-/// Appends the TYPE of a solution that isn't one.
-fn push_type(text: &mut Vec<u8>, solution: &File) -> Result<(), AllocError> {
+/// Appends the TYPE of a file that isn't of the right one.
+pub(crate) fn push_type(text: &mut Vec<u8>, file: &File) -> Result<(), AllocError> {
     begin(text)?;
     push(text, "It is of TYPE ")?;
-    push(text, solution.kind().word())?;
+    push(text, file.kind().word())?;
     push(text, ".")?;
     end(text)
 }
@@ -185,15 +190,21 @@ fn count_of(count: usize) -> i64 {
     i64::try_from(count).unwrap_or(i64::MAX)
 }
 
-/// Appends both values of DIMENSION.
-fn push_dimensions(text: &mut Vec<u8>, instance: &File, solution: &File) -> Result<(), AllocError> {
-    say(
-        text,
-        &[
-            ("In the instance it is ", nodes_of(instance)),
-            (", and in the solution ", nodes_of(solution)),
-        ],
-    )
+/// Appends both values of DIMENSION. `role` is what the other file is given for.
+pub(crate) fn push_dimensions(
+    text: &mut Vec<u8>,
+    instance: &File,
+    role: &str,
+    other: &File,
+) -> Result<(), AllocError> {
+    begin(text)?;
+    push(text, "In the instance it is ")?;
+    push_number(text, nodes_of(instance))?;
+    push(text, ", and in the ")?;
+    push(text, role)?;
+    push_number(text, nodes_of(other))?;
+    push(text, ".")?;
+    end(text)
 }
 
 /// Appends how many nodes the tour has and how many the instance, and which are missing or repeated.

@@ -2,6 +2,8 @@
 //!
 //! Each is a `match` that names every variant, so that a new one needs its sentence.
 
+ghost use Rattle.std.specs.Prelude.{◌≤◌, length};
+
 use tsp_draft::EndFault;
 use tsp_file::RelayoutFault;
 use tsp_number::NumberFault;
@@ -10,7 +12,7 @@ use tsp_stream::WriteFault;
 use tsp_text::LineFault;
 
 /// What is wrong with a line.
-pub fn line_sentence(fault: LineFault) -> &'static str {
+pub(crate) fn line_sentence(fault: LineFault) -> &'static str {
     match fault {
         LineFault::LongLine => {
             "A line of words has at most 4,096 bytes, from its first that isn't blank to its end."
@@ -53,7 +55,7 @@ pub fn line_sentence(fault: LineFault) -> &'static str {
 }
 
 /// What is wrong with a word that is read as a number.
-pub fn number_sentence(fault: NumberFault) -> &'static str {
+pub(crate) fn number_sentence(fault: NumberFault) -> &'static str {
     match fault {
         NumberFault::LongWord => "A number has at most 64 bytes.",
         NumberFault::BadNumber => {
@@ -69,7 +71,7 @@ pub fn number_sentence(fault: NumberFault) -> &'static str {
 }
 
 /// What is wrong with the lines of a file together.
-pub fn end_sentence(fault: EndFault) -> &'static str {
+pub(crate) fn end_sentence(fault: EndFault) -> &'static str {
     match fault {
         EndFault::Missing(_) => "A line or a section is missing that the file has to have.",
         EndFault::Incomplete(_) => "A section ends before it is whole.",
@@ -86,7 +88,9 @@ pub fn end_sentence(fault: EndFault) -> &'static str {
 }
 
 /// Why weights can't go into a layout.
-pub fn relayout_sentence(fault: RelayoutFault) -> &'static str {
+pub fn relayout_sentence(fault: RelayoutFault) -> &'static str
+    ensures { length result.now ≤ 160 }
+{
     match fault {
         RelayoutFault::NotExplicit => {
             "Only weights that are listed can go into a layout: EDGE_WEIGHT_TYPE : EXPLICIT."
@@ -104,7 +108,9 @@ pub fn relayout_sentence(fault: RelayoutFault) -> &'static str {
 }
 
 /// Why nothing, or only a front part, was written.
-pub fn write_sentence(fault: WriteFault) -> &'static str {
+pub fn write_sentence(fault: WriteFault) -> &'static str
+    ensures { length result.now ≤ 160 }
+{
     match fault {
         WriteFault::Device => {
             "Standard output can't be written. What stands there is a front part of the text, or nothing."
@@ -114,7 +120,7 @@ pub fn write_sentence(fault: WriteFault) -> &'static str {
 }
 
 /// Why a solution is refused.
-pub fn reason_sentence(reason: Reason) -> &'static str {
+pub(crate) fn reason_sentence(reason: Reason) -> &'static str {
     match reason {
         Reason::NotASolution => "The second file has to be of TYPE TOUR.",
         Reason::TooFewNodes => {
@@ -156,6 +162,9 @@ pub fn reason_sentence(reason: Reason) -> &'static str {
         }
         Reason::Unserved { node: _ } => "Every node but the depot stands in a route.",
         Reason::Overload { route: _ } => "The demands of a route sum to at most CAPACITY.",
+        Reason::LengthClaimed { length: _ } => {
+            "Nothing else stands against the solution, but its length isn't the one that --length claims."
+        }
         Reason::NotBranches => "The third file has to be of TYPE BRANCHES.",
         Reason::BranchesDimension => "DIMENSION of the tree of cases isn't that of the instance.",
         Reason::BadComb { index: _ } => {

@@ -1,7 +1,10 @@
 //! The lines of an explanation. Each is indented by two blanks.
 
-ghost use Rattle.std.specs.Prelude.{◌≡◌, ◌++◌, ◌≤◌, ◌<◌, OnOk};
+ghost use Rattle.std.specs.Prelude.{◌≡◌, ◌++◌, ◌≤◌, ◌<◌, OnOk, [], ◌∷◌, codes, map};
+ghost use Rattle.std.specs.List.{concat};
+ghost use Rattle.std.specs.Io.{StartsWith};
 ghost use Rattle.tsp_explain.specs.Shown.{shown_byte, shown_low, shown_high, all_shown};
+ghost use Rattle.tsp_explain.specs.Indented.{indented, indented_byte};
 
 use itoa::{Buffer, Integer};
 use std::alloc::AllocError;
@@ -25,25 +28,58 @@ pub(crate) fn push_number<N: Integer>(text: &mut Vec<u8>, number: N) -> Result<(
 }
 
 /// Begins a line.
-pub(crate) fn begin(text: &mut Vec<u8>) -> Result<(), AllocError> {
+pub(crate) fn begin(text: &mut Vec<u8>) -> Result<(), AllocError>
+    ensures { OnOk result (text.new.items ≡ text.old.items ++ codes "  ") }
+{
     text.extend_from_slice(INDENT)
 }
 
 /// Ends a line.
-pub(crate) fn end(text: &mut Vec<u8>) -> Result<(), AllocError> {
+pub(crate) fn end(text: &mut Vec<u8>) -> Result<(), AllocError>
+    ensures { OnOk result (text.new.items ≡ text.old.items ++ 10 ∷ []) }
+{
     text.extend_from_slice(b"\n")
 }
 
 /// Appends sentences, which are lines of their own where byte 10 parts them.
-pub fn push_lines(text: &mut Vec<u8>, sentences: &str) -> Result<(), AllocError> {
+pub fn push_lines(text: &mut Vec<u8>, sentences: &str) -> Result<(), AllocError>
+    ensures { OnOk result (text.new.items ≡ text.old.items ++ indented sentences.now) }
+{
     begin(text)?;
-    'bytes: for byte in sentences.as_bytes().iter() {
-        text.extend_from_slice(&[*byte])?;
-        if *byte == b'\n' {
-            begin(text)?;
-        }
-    }
+    push_indented(text, sentences.as_bytes())?;
     end(text)
+}
+
+/// Appends bytes, and after each byte 10 what a line begins with.
+fn push_indented(text: &mut Vec<u8>, bytes: &[u8]) -> Result<(), AllocError>
+    ensures { OnOk result (text.new.items ≡ text.old.items ++ concat (map indented_byte bytes.now)) }
+{
+    'bytes: for byte in bytes {
+        push_indented_byte(text, *byte)?;
+    }
+    Ok(())
+}
+
+/// Appends a byte, and after a byte 10 what a line begins with.
+fn push_indented_byte(text: &mut Vec<u8>, byte: u8) -> Result<(), AllocError>
+    ensures { OnOk result (text.new.items ≡ text.old.items ++ indented_byte byte) }
+{
+    match byte {
+        10 => text.extend_from_slice(b"\n  "),
+        _ => text.extend_from_slice(&[byte]),
+    }
+}
+
+/// Appends what was told, as far as it was told. What stood in the text before stays in front.
+pub(crate) fn append(
+    text: &mut Vec<u8>,
+    told: Vec<u8>,
+    answer: Result<(), AllocError>,
+) -> Result<(), AllocError>
+    ensures { StartsWith text.new.items text.old.items }
+{
+    text.extend_from_slice(&told)?;
+    answer
 }
 
 /// Appends bytes of a file as `cat -v` shows them, so that none of them reaches a terminal as a

@@ -1,5 +1,6 @@
-pub mod BoundChecks
-pub mod Checks
+pub mod Bounding
 pub mod Converts
 pub mod HandedOn
+pub mod Runs
 pub mod Shows
+pub mod Yeses

@@ -1,16 +1,22 @@
--- What a check does to its readers and its writer, and what it answers.
-use Rattle.std.specs.Prelude.{◌≡◌, ℕ, ◌⊎◌, Bool, false, Result, Ok, Err, IsTrue}
+-- What a check does to its readers and its writer, and its result: with a certificate of a bound or without one, and with a
+-- length that is claimed or without.
+use Rattle.std.specs.Prelude.{◌≡◌, ℕ, ◌⊎◌, Bool, true, false, Option, None, Some, Result, Ok, Err, IsTrue, ℤ}
 use Rattle.tsp_stream.specs.declared.output.WriteFault.TheVariants as write_faults
 use Rattle.tsp_stream.specs.Turn.{Turn, IsUnread}
 use Rattle.tsp_stream.specs.Sink.{Sink, IsUnwritten, HasWritten, HasStopped}
 use Rattle.tsp_draft.specs.Fields.{Fields}
-use Rattle.tsp_draft.specs.Rules.{is_instance}
+use Rattle.tsp_read.specs.declared.ReadFault.{ReadFault}
 use Rattle.tsp_read.specs.Reads.{IsFile, StopsAt}
+use Rattle.tsp_reason.specs.declared.certificate.Certificate.{Certificate}
 use Rattle.tsp_reason.specs.declared.verdict.Verdict.{Verdict}
+use Rattle.tsp_reason.specs.declared.verdict.Verdict.TheVariants.{Tour, Routes, No}
+use Rattle.tsp_verdict.specs.Judged.{is_judged, NoneBeforeRepeatsOn, IsVerdictWith}
+use Rattle.tsp_judge.specs.declared.judging.Judged.{Judged}
 use Rattle.tsp_judge.specs.declared.fault.RunFault.{RunFault}
 use Rattle.tsp_judge.specs.declared.fault.RunFault.TheVariants.{File, WrongKind, Write, OutOfMemory, Relayout}
-use Rattle.tsp_judge.specs.Judged.{IsVerdictOn, NoneBeforeRepeatsOn, is_yes}
 use Rattle.tsp_report.specs.Report.{report_of}
+
+-- ---- the files
 
 -- the turn's bytes parse to a file
 abbrev pub IsSomeFile : Turn → Type 0
@@ -25,62 +31,90 @@ ReadsFile number turn (Err (Write fault)) = ⊥
 ReadsFile number turn (Err OutOfMemory) = ⊥
 ReadsFile number turn (Err (Relayout fault)) = ⊥
 
--- they parse to a file that is no instance
-abbrev pub IsNoInstance : Turn → Type 0
-IsNoInstance turn = (file : Fields) × IsFile turn file × (is_instance file.kind ≡ false)
+-- A certificate may be given, with the turn of the reader of its file.
+abbrev pub Given : Type 0
+Given = Option (Certificate × Turn)
 
--- the first file is this instance, and the verdict on the second file is this one
-pub record AreJudged (first second : Turn) (instance : Fields) (verdict : Verdict) : Type 0 where
-  pub solution : Fields
+abbrev pub given_by : Option Certificate → Turn → Given
+given_by None third = None
+given_by (Some by) third = Some (by, third)
+
+-- its file isn't read
+abbrev pub IsUnreadIn : Given → Type 0
+IsUnreadIn None = Unit {0}
+IsUnreadIn (Some given) = IsUnread given.1
+
+-- its file is this one
+abbrev pub IsFileIn : Given → Option (Certificate × Fields) → Type 0
+IsFileIn None None = Unit {0}
+IsFileIn None (Some certificate) = ⊥
+IsFileIn (Some given) None = ⊥
+IsFileIn (Some given) (Some certificate) = (certificate.0 ≡ given.0) × IsFile given.1 certificate.1
+
+-- its file was read, or it is none and the run ends with its fault
+abbrev pub ReadsGiven : Given → Result (Option (Certificate × Fields)) RunFault → Type 0
+ReadsGiven given (Ok certificate) = IsFileIn given certificate
+ReadsGiven None (Err fault) = ⊥
+ReadsGiven (Some given) (Err fault) = ReadsFile 3 given.1 (Err fault)
+
+-- these are the files
+pub record AreRead (given : Given) (first second : Turn) (instance solution : Fields) (certificate : Option (Certificate × Fields)) : Type 0 where
   pub first_file : IsFile first instance
   pub second_file : IsFile second solution
-  pub judged : IsVerdictOn instance solution verdict
+  pub third_file : IsFileIn given certificate
 
--- The first file is an instance, and none of the reasons that are found without memory applies to the second one: the others need
--- memory.
-pub record NeedsMemory (first second : Turn) : Type 0 where
-  pub instance : Fields
-  pub solution : Fields
-  pub first_file : IsFile first instance
-  pub second_file : IsFile second solution
-  pub of_type : IsTrue (is_instance instance.kind)
-  pub none_before : NoneBeforeRepeatsOn instance solution
+-- The first one, in order, that is none has this number and this fault. Later ones aren't read.
+abbrev pub IsFaultOfRun : Given → Turn → Turn → ℕ → ReadFault → Type 0
+IsFaultOfRun given first second file fault = ((file ≡ 1) × StopsAt fault first × IsUnread second × IsUnreadIn given)
+    ⊎ ((file ≡ 2) × IsSomeFile first × StopsAt fault second × IsUnreadIn given)
+    ⊎ ((third : Certificate × Turn) × (given ≡ Some third) × (file ≡ 3) × IsSomeFile first × IsSomeFile second × StopsAt fault third.1)
 
--- How a check ends that has its verdict. At Ok the whole report was written, and the result says whether the solution is
--- accepted. Where the writer fails a prefix of the report was written. Writing takes no memory.
-abbrev pub Answers : Sink → Fields → Verdict → Result Bool RunFault → Type 0
-Answers sink instance verdict (Ok answer) = (answer ≡ is_yes verdict) × HasWritten sink (report_of instance verdict)
-Answers sink instance verdict (Err OutOfMemory) = ⊥
-Answers sink instance verdict (Err (Write write_faults.Device)) = HasStopped sink (report_of instance verdict)
-Answers sink instance verdict (Err (Write write_faults.OutOfMemory)) = ⊥
-Answers sink instance verdict (Err (File file fault)) = ⊥
-Answers sink instance verdict (Err WrongKind) = ⊥
-Answers sink instance verdict (Err (Relayout fault)) = ⊥
+-- ---- the verdict
 
--- The result of the check. At Ok the whole report was written, and the result says whether the solution is accepted. The first
--- file, in order, that isn't one decides, later ones aren't read, and then nothing is written; then the first file's TYPE
--- decides. Out of memory, none of the reasons applies that are found without memory, and nothing was written; writing takes none.
--- Where the writer fails a prefix of the report was written.
-abbrev pub IsRun : Turn → Turn → Sink → Result Bool RunFault → Type 0
-IsRun first second sink (Ok answer) = (instance : Fields) × (verdict : Verdict) × AreJudged first second instance verdict
-    × (answer ≡ is_yes verdict) × HasWritten sink (report_of instance verdict)
-IsRun first second sink (Err (File file fault)) = IsUnwritten sink
-    × (((file ≡ 1) × StopsAt fault first × IsUnread second)
-    ⊎ ((file ≡ 2) × IsSomeFile first × StopsAt fault second))
-IsRun first second sink (Err WrongKind) = IsUnwritten sink × IsNoInstance first × IsSomeFile second
-IsRun first second sink (Err OutOfMemory) = IsUnwritten sink × NeedsMemory first second
-IsRun first second sink (Err (Relayout fault)) = ⊥
-IsRun first second sink (Err (Write write_faults.OutOfMemory)) = ⊥
-IsRun first second sink (Err (Write write_faults.Device)) = (instance : Fields) × (verdict : Verdict)
-    × AreJudged first second instance verdict × HasStopped sink (report_of instance verdict)
+abbrev pub is_yes : Verdict → Bool
+is_yes (Tour length bound) = true
+is_yes (Routes length routes least) = true
+is_yes (No reason) = false
 
--- whether the solution is accepted, where there is a verdict
-abbrev pub told : Result Verdict RunFault → Result Bool RunFault
-told (Ok verdict) = Ok (is_yes verdict)
+-- What comes of files that were read. At Ok this is the verdict on them, and the whole report on it was written. Nothing is
+-- written where the first file is of a TYPE that isn't judged so, nor out of memory: then none of the reasons applies that
+-- are found without memory. Writing takes none. Where the writer fails a prefix of the report was written.
+abbrev pub JudgesFiles : Option (Certificate × Fields) → Option ℤ → Fields → Fields → Sink → Result Verdict RunFault → Type 0
+JudgesFiles certificate claimed instance solution sink (Ok verdict) = IsTrue (is_judged certificate instance.kind)
+    × IsVerdictWith certificate claimed instance solution verdict × HasWritten sink (report_of instance verdict)
+JudgesFiles certificate claimed instance solution sink (Err WrongKind) = (is_judged certificate instance.kind ≡ false) × IsUnwritten sink
+JudgesFiles certificate claimed instance solution sink (Err OutOfMemory) = IsTrue (is_judged certificate instance.kind)
+    × NoneBeforeRepeatsOn instance solution × IsUnwritten sink
+JudgesFiles certificate claimed instance solution sink (Err (Write write_faults.Device)) = IsTrue (is_judged certificate instance.kind)
+    × ((verdict : Verdict) × IsVerdictWith certificate claimed instance solution verdict × HasStopped sink (report_of instance verdict))
+JudgesFiles certificate claimed instance solution sink (Err (Write write_faults.OutOfMemory)) = ⊥
+JudgesFiles certificate claimed instance solution sink (Err (File file fault)) = ⊥
+JudgesFiles certificate claimed instance solution sink (Err (Relayout fault)) = ⊥
+
+-- ---- the run
+
+-- Why a run has no verdict. The first file, in order, that is none decides, and then nothing is written.
+abbrev pub EndsWithout : Given → Option ℤ → Turn → Turn → Sink → RunFault → Type 0
+EndsWithout given claimed first second sink (File file fault) = IsUnwritten sink × IsFaultOfRun given first second file fault
+EndsWithout given claimed first second sink fault = (instance solution : Fields) × (certificate : Option (Certificate × Fields))
+    × AreRead given first second instance solution certificate
+    × JudgesFiles certificate claimed instance solution sink (Err fault)
+
+-- What a run answers: the files that were read, and the verdict on them.
+abbrev pub IsRun : Given → Option ℤ → Turn → Turn → Sink → Result Judged RunFault → Type 0
+IsRun given claimed first second sink (Ok judged) =
+    AreRead given first second judged.instance judged.solution judged.certificate
+    × JudgesFiles judged.certificate claimed judged.instance judged.solution sink (Ok judged.verdict)
+IsRun given claimed first second sink (Err fault) = EndsWithout given claimed first second sink fault
+
+-- What a check answers: whether the verdict on the files that were read is a yes.
+abbrev pub IsCheckAnswer : Given → Option ℤ → Turn → Turn → Sink → Result Bool RunFault → Type 0
+IsCheckAnswer given claimed first second sink (Ok answer) = (instance solution : Fields) × (certificate : Option (Certificate × Fields))
+    × (verdict : Verdict) × AreRead given first second instance solution certificate
+    × JudgesFiles certificate claimed instance solution sink (Ok verdict) × (answer ≡ is_yes verdict)
+IsCheckAnswer given claimed first second sink (Err fault) = EndsWithout given claimed first second sink fault
+
+-- whether it is a yes, where there is a verdict
+abbrev pub told : Result Judged RunFault → Result Bool RunFault
+told (Ok judged) = Ok (is_yes judged.verdict)
 told (Err fault) = Err fault
-
--- The same run, with the verdict as its result: at Ok it is that of these files, and the whole report on it was written.
-abbrev pub IsVerdictRun : Turn → Turn → Sink → Result Verdict RunFault → Type 0
-IsVerdictRun first second sink (Ok verdict) = (instance : Fields) × AreJudged first second instance verdict
-    × HasWritten sink (report_of instance verdict)
-IsVerdictRun first second sink (Err fault) = IsRun first second sink (Err fault)

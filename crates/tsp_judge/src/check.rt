@@ -1,24 +1,19 @@
-//! The check of an instance and a solution, from the bytes read to the bytes written.
+//! The checks of an instance and a solution: without a certificate, with potentials, and with a tree of
+//! cases.
 
-ghost use Rattle.std.specs.Prelude.{IsTrue, MatchResult};
 ghost use Rattle.tsp_stream.specs.Sink.{sink_of};
-ghost use Rattle.tsp_stream.specs.Turn.{Turn, turn_of, TakesAtMost};
-ghost use Rattle.tsp_read.specs.Reads.{IsFile, most_taken};
-ghost use Rattle.tsp_draft.specs.Rules.{is_instance};
-ghost use Rattle.tsp_judge.specs.Judged.{IsVerdictOn, NoneBeforeRepeatsOn};
-ghost use Rattle.tsp_judge.specs.Run.{IsVerdictRun};
-ghost use Rattle.tsp_judge.specs.Yes.{IsCheck, IsVerdictCheck};
+ghost use Rattle.tsp_stream.specs.Turn.{turn_of, TakesAtMost};
+ghost use Rattle.tsp_read.specs.Reads.{most_taken};
+ghost use Rattle.tsp_reason.specs.declared.certificate.Certificate.TheVariants as certificates;
+ghost use Rattle.tsp_judge.specs.Yes.{IsCheck, IsCheckBy};
 
-use crate::answer::{answer, told};
+use crate::checked::run;
 use crate::fault::RunFault;
-use crate::file::read_file;
-use std::alloc::{AllocError, Global};
+use crate::judging::told;
+use std::alloc::Global;
 use std::io::{Read, Write};
-use tsp_cost::Instance;
-use tsp_file::File;
-use tsp_format::Kind;
 use tsp_stream::Watched;
-use tsp_verdict::{Verdict, judge_routes, judge_tour};
+use tsp_verdict::Certificate;
 
 /// Judges a solution of an instance, and writes the report.
 ///
@@ -43,93 +38,78 @@ pub fn run_check<I: Read, S: Read, W: Write>(
         TakesAtMost most_taken (turn_of S.remaining sol.old sol.new) (λ second.
         IsCheck first second (sink_of W.contents out.old out.new) result)) }
 {
-    told(run_verdict(alloc, inst, sol, out))
+    let mut nothing: Watched<&[u8]> = Watched::new(&[]);
+    told(run(alloc, inst, sol, None, &mut nothing, None, out))
 }
 
-/// Does what `run_check` does, and answers the verdict itself: at `Ok` the one of the report.
+/// Judges a tour of an instance of TYPE TSP or ATSP with a certificate of a bound, and writes the
+/// report.
+///
+/// The result is `true` where the second file's one tour visits every node once and uses every
+/// fixed edge and the third file's potentials give a bound, and `false` where the report has the
+/// line `no` with its first reason; the whole report was written then. At `Ok(true)` no tour of the
+/// instance is shorter than the printed bound, so that a tour whose length equals it, which the
+/// report calls optimal, is a shortest one. Under TYPE TSP the bound is that of a least 1-tree
+/// under potentials of nodes (Held and Karp, 1970), under TYPE ATSP that of duals of the assignment
+/// problem.
+///
+/// Each file is read whole before the next, and the first file that is none decides. Nothing is
+/// written before the verdict exists.
 ///
 /// # Errors
 ///
-/// Those of `run_check`.
-pub fn run_verdict<I: Read, S: Read, W: Write>(
+/// `File` where a file is none, or can't be read; `WrongKind` where all three are files and the
+/// first is of TYPE CVRP, TOUR, POTENTIALS or BRANCHES; `OutOfMemory` where the judgement runs out
+/// of memory, and then no reason up to `NodeOutOfRange` applies to the tour; `Write` where the
+/// writer fails. Of each file at most 4,096 bytes past `MOST_FILE_BYTES` are read.
+pub fn run_bound_check<I: Read, S: Read, P: Read, W: Write>(
     alloc: Global,
     inst: &mut Watched<I>,
     sol: &mut Watched<S>,
+    pot: &mut Watched<P>,
     out: &mut Watched<W>,
-) -> Result<Verdict, RunFault>
+) -> Result<bool, RunFault>
     ensures { TakesAtMost most_taken (turn_of I.remaining inst.old inst.new) (λ first.
         TakesAtMost most_taken (turn_of S.remaining sol.old sol.new) (λ second.
-        IsVerdictCheck first second (sink_of W.contents out.old out.new) result)) }
+        TakesAtMost most_taken (turn_of P.remaining pot.old pot.new) (λ third.
+        IsCheckBy certificates.Potentials first second third (sink_of W.contents out.old out.new) result))) }
 {
-    let instance = read_file(alloc, 1, inst)?;
-    with_instance(alloc, instance, sol, out)
+    let by = Some(Certificate::Potentials);
+    told(run(alloc, inst, sol, by, pot, None, out))
 }
 
-/// The check of this instance, whatever reader it came from.
-fn with_instance<S: Read, W: Write>(
+/// Judges a tour of an instance of TYPE TSP or ATSP with a tree of cases, and writes the report.
+///
+/// The answer is true where the second file's one tour visits every node once and uses every fixed
+/// edge and the third file's leaves give a bound, and false where the report says a no with its
+/// first reason; the whole report was written then. At a yes no tour of the instance is shorter than
+/// the printed bound, so that a tour whose length equals it, which the report calls optimal, is a
+/// shortest one. The bound is the least of those of the leaves, each for tours in which the pairs
+/// decided above it are neighbours, or aren't: for a TSP that of a least 1-tree, for an ATSP that of
+/// the least arc from each node, under the leaf's potentials, lone sets and combs (Grötschel and
+/// Padberg, 1979).
+///
+/// Each file is read whole before the next, and the first file that is none decides. Nothing is
+/// written before the verdict exists.
+///
+/// # Errors
+///
+/// `File` where a file is none, or can't be read; `WrongKind` where all three are files and
+/// the first isn't of TYPE TSP or ATSP; `OutOfMemory` where the judgement runs out of memory, and then no reason
+/// up to `NodeOutOfRange` applies to the tour; `Write` where the writer fails. Of each file at most
+/// 4,096 bytes past `MOST_FILE_BYTES` are read.
+pub fn run_branch_check<I: Read, S: Read, B: Read, W: Write>(
     alloc: Global,
-    instance: File,
+    inst: &mut Watched<I>,
     sol: &mut Watched<S>,
+    tree: &mut Watched<B>,
     out: &mut Watched<W>,
-) -> Result<Verdict, RunFault>
-    ensures { TakesAtMost most_taken (turn_of S.remaining sol.old sol.new) (λ second.
-        (first : Turn) → IsFile first instance
-        → IsVerdictRun first second (sink_of W.contents out.old out.new) result) }
+) -> Result<bool, RunFault>
+    ensures { TakesAtMost most_taken (turn_of I.remaining inst.old inst.new) (λ first.
+        TakesAtMost most_taken (turn_of S.remaining sol.old sol.new) (λ second.
+        TakesAtMost most_taken (turn_of B.remaining tree.old tree.new) (λ third.
+        IsCheckBy certificates.Branches first second third (sink_of W.contents out.old out.new) result))) }
 {
-    let solution = read_file(alloc, 2, sol)?;
-    with_solution(alloc, instance, &solution, out)
-}
-
-/// The check of these two files.
-fn with_solution<W: Write>(
-    alloc: Global,
-    instance: File,
-    solution: &File,
-    out: &mut Watched<W>,
-) -> Result<Verdict, RunFault>
-    ensures { (first second : Turn) → IsFile first instance → IsFile second solution.now
-        → IsVerdictRun first second (sink_of W.contents out.old out.new) result }
-{
-    match Instance::of(instance) {
-        Err((_, other)) => {
-            drop(other);
-            Err(RunFault::WrongKind)
-        }
-        Ok(instance) => {
-            let answer = judged(alloc, &instance, solution, out);
-            drop(instance);
-            answer
-        }
-    }
-}
-
-/// Judges a solution of an instance, and writes the report.
-fn judged<W: Write>(
-    alloc: Global,
-    instance: &Instance,
-    solution: &File,
-    out: &mut Watched<W>,
-) -> Result<Verdict, RunFault>
-    requires { IsTrue (is_instance instance.now.kind) }
-    ensures { (first second : Turn) → IsFile first instance.now → IsFile second solution.now
-        → IsVerdictRun first second (sink_of W.contents out.old out.new) result }
-{
-    match judge(alloc, instance, solution) {
-        Err(AllocError) => Err(RunFault::OutOfMemory),
-        Ok(verdict) => answer(instance, verdict, out),
-    }
-}
-
-/// The verdict on a solution: on its tour, or for TYPE CVRP on its routes. Out of memory, none of
-/// the reasons applies that are found without memory.
-fn judge(alloc: Global, instance: &Instance, solution: &File) -> Result<Verdict, AllocError>
-    ensures { MatchResult result
-        (λ verdict. IsVerdictOn instance.now solution.now verdict)
-        (λ refused. NoneBeforeRepeatsOn instance.now solution.now) }
-{
-    match instance.kind() {
-        Kind::Tsp | Kind::Atsp => judge_tour(alloc, instance, solution),
-        Kind::Cvrp => judge_routes(alloc, instance, solution),
-        Kind::Tour | Kind::Potentials | Kind::Branches => unreachable!(),
-    }
+    let by = Some(Certificate::Branches);
+    told(run(alloc, inst, sol, by, tree, None, out))
 }

@@ -6,7 +6,7 @@ ghost use Rattle.tsp_format.specs.declared.kinds.Kind.TheVariants as kinds;
 ghost use Rattle.tsp_reason.specs.declared.verdict.Reason.TheVariants as reasons;
 ghost use Rattle.tsp_reason.specs.declared.verdict.Verdict.TheVariants as verdicts;
 ghost use Rattle.tsp_reason.specs.declared.certificate.Certificate.TheVariants as certificates;
-ghost use Rattle.tsp_judge.specs.Judged.{is_yes};
+ghost use Rattle.tsp_judge.specs.Run.{is_yes};
 ghost use Rattle.tsp_verdict.specs.Certified.{kind_of, is_bounded};
 
 /// Which verdicts are accepted.

@@ -5,27 +5,28 @@
 //!
 //! ```text
 //! let accepted = run_bound_check(alloc, &mut instance, &mut tour, &mut potentials, &mut out)?;
+//! let judged = run(alloc, &mut instance, &mut tour, by, &mut certificate, claimed, &mut out)?;
 //! ```
 #![tactic(auto)]
 
-mod answer;
-mod bound_check;
-mod branch_check;
-mod certified;
+mod bound;
 mod check;
+mod checked;
 mod convert;
 mod examples;
 mod fault;
 mod file;
+mod judging;
 mod show;
 mod status;
 
-pub use bound_check::{run_bound_check, run_bound_verdict};
-pub use branch_check::{run_branch_check, run_branch_verdict};
-pub use check::{run_check, run_verdict};
+pub use bound::{Bounded, run_bound};
+pub use check::{run_bound_check, run_branch_check, run_check};
+pub use checked::run;
 pub use convert::run_convert;
 pub use examples::{examples_of_answers, examples_of_certificates};
 pub use fault::RunFault;
+pub use judging::Judged;
 pub use show::run_show;
 pub use status::status_of;
 pub use tsp_draft::EndFault;

@@ -8,6 +8,7 @@
 /// `FixedEdgeUnused`, and then those of a certificate by potentials or of one by branching; those
 /// of routes in the order `NotASolution`, `TooFewNodes`, `Dimension`, `DepotCount`, `DepotDemand`,
 /// `FixedEdgesInRoutes`, `DepotInRoute`, `NodeOutOfRange`, `RepeatedNode`, `Unserved`, `Overload`.
+/// `LengthClaimed` is judged after those against the solution, and before those of a certificate.
 #[derive(Clone, Copy, Debug, PartialEq, Eq)]
 pub enum Reason {
     /// The solution is not a file of TYPE TOUR.
@@ -71,6 +72,9 @@ pub enum Reason {
     /// combs, a potential above 10^15 in size, a negative multiplier, or multipliers that sum to
     /// more than 3 * 10^17.
     BadLeaf { index: u32 },
+    /// No other reason applies to the solution, and its length, which is this one, isn't the
+    /// length that is claimed.
+    LengthClaimed { length: i64 },
 }
 
 /// The verdict on a solution: accepted with its length, or rejected with the first reason that

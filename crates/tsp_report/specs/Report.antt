@@ -1,5 +1,5 @@
 -- The report of a check, line by line. Each line ends with byte 10, and one blank is between words.
-use Rattle.std.specs.Prelude.{ℕ, List, ◌++◌, map, codes, decimal, cond, ℤ, pos, ◌-ℤ◌, Option, None, Some, unwrap_or, [], IfSome, unsigned_abs, ◌≤◌, ◌^◌}
+use Rattle.std.specs.Prelude.{ℕ, List, ◌++◌, map, codes, decimal, cond, ℤ, pos, ◌-ℤ◌, Option, None, Some, Result, Ok, Err, unwrap_or, [], IfSome, unsigned_abs, ◌≤◌, ◌^◌}
 use Rattle.std.specs.List.{concat}
 use Rattle.std.specs.Option.{option_map_or}
 use Rattle.std.specs.Ordering.{int_eq}
@@ -8,7 +8,7 @@ use Rattle.tsp_format.specs.declared.kinds.Kind.{Kind}
 use Rattle.tsp_format.specs.Words.{kind_word}
 use Rattle.tsp_draft.specs.Fields.{Fields}
 use Rattle.tsp_reason.specs.declared.verdict.Reason.{Reason}
-use Rattle.tsp_reason.specs.declared.verdict.Reason.TheVariants.{NotASolution, TooFewNodes, NotSymmetric, Dimension, TourCount, TourLength, NodeOutOfRange, RepeatedNode, FixedEdgeUnused, NotPotentials, PotentialsDimension, PotentialsKind, MultiplierNotFixed, MultiplierRepeated, DualInfeasible, DepotCount, DepotDemand, FixedEdgesInRoutes, DepotInRoute, Unserved, Overload, NotBranches, BranchesDimension, BadComb, BranchTwice, BadLeaf}
+use Rattle.tsp_reason.specs.declared.verdict.Reason.TheVariants.{NotASolution, TooFewNodes, NotSymmetric, Dimension, TourCount, TourLength, NodeOutOfRange, RepeatedNode, FixedEdgeUnused, NotPotentials, PotentialsDimension, PotentialsKind, MultiplierNotFixed, MultiplierRepeated, DualInfeasible, DepotCount, DepotDemand, FixedEdgesInRoutes, DepotInRoute, Unserved, Overload, NotBranches, BranchesDimension, BadComb, BranchTwice, BadLeaf, LengthClaimed}
 use Rattle.tsp_reason.specs.declared.verdict.Verdict.{Verdict}
 use Rattle.tsp_reason.specs.declared.verdict.Verdict.TheVariants.{Tour, Routes, No}
 
@@ -56,6 +56,7 @@ reason_name BranchesDimension = codes "BranchesDimension"
 reason_name (BadComb index) = codes "BadComb"
 reason_name (BranchTwice index) = codes "BranchTwice"
 reason_name (BadLeaf index) = codes "BadLeaf"
+reason_name (LengthClaimed length) = codes "LengthClaimed"
 
 -- its numbers, of which it has two at most
 abbrev pub reason_numbers : Reason → Option ℕ × Option ℕ
@@ -85,14 +86,25 @@ reason_numbers BranchesDimension = (None, None)
 reason_numbers (BadComb index) = (Some index, None)
 reason_numbers (BranchTwice index) = (Some index, None)
 reason_numbers (BadLeaf index) = (Some index, None)
+reason_numbers (LengthClaimed length) = (None, None)
+
+-- the length that it states, which may be below 0
+abbrev pub reason_length : Reason → Option ℤ
+reason_length (LengthClaimed length) = Some length
+reason_length reason = None
 
 abbrev pub after_blank : Option ℕ → List ℕ
 after_blank None = []
 after_blank (Some number) = codes " " ++ decimal number
 
+abbrev pub length_after_blank : Option ℤ → List ℕ
+length_after_blank None = []
+length_after_blank (Some length) = codes " " ++ signed_decimal length
+
 -- the name of a reason, and its numbers
 abbrev pub reason_text : Reason → List ℕ
 reason_text reason = reason_name reason ++ after_blank (reason_numbers reason).0 ++ after_blank (reason_numbers reason).1
+    ++ length_after_blank (reason_length reason)
 
 -- by how much a length is more than a bound; it is optimal where they are equal
 abbrev pub gap_lines : ℤ → List ℕ
@@ -102,12 +114,15 @@ abbrev pub bound_lines : ℤ → Option ℤ → List ℕ
 bound_lines length None = []
 bound_lines length (Some bound) = codes "bound " ++ signed_decimal bound ++ gap_lines (length -ℤ bound)
 
+abbrev pub no_line : Reason → List ℕ
+no_line reason = codes "no " ++ reason_text reason ++ codes "\n"
+
 abbrev pub verdict_lines : Verdict → List ℕ
 verdict_lines (Tour length bound) = codes "length " ++ signed_decimal length ++ codes "\n" ++ bound_lines length bound
     ++ codes "yes\n"
 verdict_lines (Routes length routes least) = codes "routes " ++ decimal routes ++ codes "\nleast " ++ decimal least
     ++ codes "\nlength " ++ signed_decimal length ++ codes "\nyes\n"
-verdict_lines (No reason) = codes "no " ++ reason_text reason ++ codes "\n"
+verdict_lines (No reason) = no_line reason
 
 -- a bound of which the gap to a length fits
 abbrev pub IsBoundSized : Option ℤ → Type 0
@@ -121,3 +136,19 @@ IsSized (No reason) = Unit {0}
 -- the report on an instance
 abbrev pub report_of : Fields → Verdict → List ℕ
 report_of instance verdict = instance_lines instance ++ verdict_lines verdict
+
+-- ---- a bound without a solution
+
+-- the bound, and the yes; `none` where the instance has no tour
+abbrev pub bound_alone_lines : Option ℤ → List ℕ
+bound_alone_lines (Some bound) = codes "bound " ++ signed_decimal bound ++ codes "\nyes\n"
+bound_alone_lines None = codes "bound none\nyes\n"
+
+-- the bound, or the first reason against the instance or the certificate
+abbrev pub bound_found_lines : Result (Option ℤ) Reason → List ℕ
+bound_found_lines (Ok bound) = bound_alone_lines bound
+bound_found_lines (Err reason) = no_line reason
+
+-- the report on an instance whose tours are bounded
+abbrev pub bound_report_of : Fields → Result (Option ℤ) Reason → List ℕ
+bound_report_of instance found = instance_lines instance ++ bound_found_lines found

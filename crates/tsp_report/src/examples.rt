@@ -1,7 +1,7 @@
 //! Lines of reports and of `show`. No body is looked at here: a definition that is changed together
 //! with its code is refused by its examples. Digits are as `decimal` writes them.
 
-ghost use Rattle.std.specs.Prelude.{◌≡◌, ℕ, List, [], ◌∷◌, ◌++◌, None, Some, pos, negsuc, codes, decimal};
+ghost use Rattle.std.specs.Prelude.{◌≡◌, ℕ, List, [], ◌∷◌, ◌++◌, None, Some, Ok, Err, pos, negsuc, codes, decimal};
 ghost use Rattle.std.specs.Fmt.{signed_decimal};
 ghost use Rattle.tsp_format.specs.declared.kinds.Kind.TheVariants as kinds;
 ghost use Rattle.tsp_format.specs.declared.kinds.WeightKind.TheVariants as weight_kinds;
@@ -10,7 +10,7 @@ ghost use Rattle.tsp_format.specs.declared.layout.Layout.TheVariants as layouts;
 ghost use Rattle.tsp_format.specs.Steps.{Branch, Leaf};
 ghost use Rattle.tsp_reason.specs.declared.verdict.Reason.TheVariants as reasons;
 ghost use Rattle.tsp_reason.specs.declared.verdict.Verdict.TheVariants as verdicts;
-ghost use Rattle.tsp_report.specs.Report.{not_judged, type_line, nodes_line, gap_lines, bound_lines, reason_text, verdict_lines};
+ghost use Rattle.tsp_report.specs.Report.{not_judged, type_line, nodes_line, gap_lines, bound_lines, reason_text, verdict_lines, bound_found_lines};
 ghost use Rattle.tsp_report.specs.Show.{name_line, weights_line, canonical_line, fixed_line, tour_lines, scale_line, combs_line, leaves_line};
 
 /// The lines of a report.
@@ -29,6 +29,9 @@ pub fn examples_of_reports()
     ensures routes { verdict_lines (verdicts.Routes (pos 20) 3 2) ≡ codes "routes " ++ decimal 3 ++ codes "\nleast " ++ decimal 2
         ++ codes "\nlength " ++ signed_decimal (pos 20) ++ codes "\nyes\n" }
     ensures no { verdict_lines (verdicts.No reasons.TourCount) ≡ codes "no TourCount\n" }
+    ensures bound_alone { bound_found_lines (Ok (Some (pos 14))) ≡ codes "bound " ++ signed_decimal (pos 14) ++ codes "\nyes\n" }
+    ensures no_tour { bound_found_lines (Ok None) ≡ codes "bound none\nyes\n" }
+    ensures no_bound_alone { bound_found_lines (Err reasons.TooFewNodes) ≡ codes "no TooFewNodes\n" }
 {}
 
 /// The words of each reason.
@@ -59,6 +62,9 @@ pub fn examples_of_reasons()
     ensures comb { reason_text (reasons.BadComb 1) ≡ codes "BadComb " ++ decimal 1 }
     ensures twice { reason_text (reasons.BranchTwice 2) ≡ codes "BranchTwice " ++ decimal 2 }
     ensures leaf { reason_text (reasons.BadLeaf 1) ≡ codes "BadLeaf " ++ decimal 1 }
+    ensures claimed { reason_text (reasons.LengthClaimed (pos 14)) ≡ codes "LengthClaimed " ++ signed_decimal (pos 14) }
+    ensures claimed_below_zero { reason_text (reasons.LengthClaimed (negsuc 33))
+        ≡ codes "LengthClaimed " ++ signed_decimal (negsuc 33) }
 {}
 
 /// Lines of `show`.

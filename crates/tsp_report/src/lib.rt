@@ -7,6 +7,7 @@
 //! ```
 #![tactic(auto)]
 
+mod bound;
 mod examples;
 mod leaves;
 mod reason;
@@ -14,6 +15,7 @@ mod report;
 mod shown;
 mod whole_examples;
 
+pub use bound::write_bound;
 pub use examples::{examples_of_reasons, examples_of_reports, examples_of_shown_lines};
 pub use report::write_report;
 pub use shown::write_shown;

@@ -2,8 +2,9 @@
 
 ghost use Rattle.std.specs.Prelude.{◌≡◌};
 ghost use Rattle.tsp_stream.specs.Way.{Puts};
-ghost use Rattle.tsp_report.specs.Report.{reason_name, reason_numbers, after_blank, reason_text};
+ghost use Rattle.tsp_report.specs.Report.{reason_name, reason_numbers, reason_length, after_blank, length_after_blank, reason_text};
 
+use crate::report::put_named;
 use std::io::Write;
 use tsp_reason::Reason;
 use tsp_stream::{Piece, Watched, put, put_next_number};
@@ -16,6 +17,7 @@ pub(crate) fn put_reason<W: Write>(piece: &mut Piece, out: &mut Watched<W>, reas
     put(piece, out, name_of(reason).as_bytes());
     put_after_blank(piece, out, first);
     put_after_blank(piece, out, second);
+    put_length(piece, out, length_of(reason));
 }
 
 /// Adds a blank and a number, where there is one.
@@ -24,6 +26,25 @@ fn put_after_blank<W: Write>(piece: &mut Piece, out: &mut Watched<W>, number: Op
 {
     if let Some(number) = number {
         put_next_number(piece, out, number);
+    }
+}
+
+/// Adds a blank and a length, where there is one.
+fn put_length<W: Write>(piece: &mut Piece, out: &mut Watched<W>, length: Option<i64>)
+    ensures { Puts W.contents out.old piece.old out.new piece.new (length_after_blank length) }
+{
+    if let Some(length) = length {
+        put_named(piece, out, b" ", length);
+    }
+}
+
+/// The length that a reason states, which may be below 0.
+fn length_of(reason: Reason) -> Option<i64>
+    ensures { result ≡ reason_length reason }
+{
+    match reason {
+        Reason::LengthClaimed { length } => Some(length),
+        _ => None,
     }
 }
 
@@ -58,6 +79,7 @@ fn name_of(reason: Reason) -> &'static str
         Reason::BadComb { .. } => "BadComb",
         Reason::BranchTwice { .. } => "BranchTwice",
         Reason::BadLeaf { .. } => "BadLeaf",
+        Reason::LengthClaimed { .. } => "LengthClaimed",
     }
 }
 
@@ -90,6 +112,7 @@ fn numbers_of(reason: Reason) -> (Option<u32>, Option<u32>)
         | Reason::DepotDemand
         | Reason::FixedEdgesInRoutes
         | Reason::NotBranches
-        | Reason::BranchesDimension => (None, None),
+        | Reason::BranchesDimension
+        | Reason::LengthClaimed { .. } => (None, None),
     }
 }

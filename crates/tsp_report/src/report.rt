@@ -3,14 +3,14 @@
 ghost use Rattle.std.specs.Prelude.{◌≡◌, ◌++◌, ◌≤◌, ◌^◌, ◌-ℤ◌, Some, map, codes, unsigned_abs};
 ghost use Rattle.tsp_stream.specs.Sink.{sink_of, Writes};
 ghost use Rattle.tsp_stream.specs.Way.{Puts};
-ghost use Rattle.tsp_report.specs.Report.{report_of, instance_lines, type_line, nodes_line, not_judged, verdict_lines, bound_lines, gap_lines, IsBoundSized, IsSized};
+ghost use Rattle.tsp_report.specs.Report.{report_of, instance_lines, type_line, nodes_line, not_judged, no_line, verdict_lines, bound_lines, gap_lines, IsBoundSized, IsSized};
 
 use crate::reason::put_reason;
 use itoa::Integer;
 use std::io::Write;
 use tsp_file::File;
 use tsp_format::{Kind, Word};
-use tsp_reason::Verdict;
+use tsp_reason::{Reason, Verdict};
 use tsp_stream::{Piece, Watched, WriteFault, hand_over, put, put_number};
 
 /// Writes the report on a solution of an instance, line by line, by the verdict on it: the lines on
@@ -46,7 +46,7 @@ pub fn write_report<W: Write>(
 }
 
 /// Adds the lines on an instance.
-fn put_instance<W: Write>(piece: &mut Piece, out: &mut Watched<W>, instance: &File)
+pub(crate) fn put_instance<W: Write>(piece: &mut Piece, out: &mut Watched<W>, instance: &File)
     ensures { Puts W.contents out.old piece.old out.new piece.new (instance_lines instance.now) }
 {
     put_type(piece, out, instance.kind());
@@ -129,12 +129,17 @@ fn put_verdict<W: Write>(piece: &mut Piece, out: &mut Watched<W>, verdict: Verdi
             put_named(piece, out, b"\nlength ", length);
             put(piece, out, b"\nyes\n");
         }
-        Verdict::No(reason) => {
-            put(piece, out, b"no ");
-            put_reason(piece, out, reason);
-            put(piece, out, b"\n");
-        }
+        Verdict::No(reason) => put_no(piece, out, reason),
     }
+}
+
+/// Adds the line of a no.
+pub(crate) fn put_no<W: Write>(piece: &mut Piece, out: &mut Watched<W>, reason: Reason)
+    ensures { Puts W.contents out.old piece.old out.new piece.new (no_line reason) }
+{
+    put(piece, out, b"no ");
+    put_reason(piece, out, reason);
+    put(piece, out, b"\n");
 }
 
 /// Adds the line of a bound and the line after it, where there is one.

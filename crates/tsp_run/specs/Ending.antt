@@ -2,12 +2,12 @@
 use Rattle.std.specs.Prelude.{◌≡◌, ℕ, Bool, List, [], ◌++◌, ◌∷◌, true, false, Option, None, Some, Ok, Err, IfSome, codes, not, ◌==◌}
 use Rattle.std.specs.List.{list_all}
 use Rattle.std.specs.Io.KnownBytes.{Appends, Keeps}
-use Rattle.tsp_judge.specs.declared.Verdict.TheVariants.{Tour, Routes, No}
 use Rattle.tsp_judge.specs.Status.{status_of}
 use Rattle.tsp_cli.specs.declared.words.JobFault.TheVariants as job_faults
-use Rattle.tsp_cli.specs.declared.task.TaskFault.TheVariants.{UnknownLayout, MissingPath, TwoCertificates}
+use Rattle.tsp_cli.specs.declared.task.TaskFault.TheVariants.{UnknownLayout, MissingPath, TwoCertificates, NoCertificate, NotALength, InputTwice}
+use Rattle.tsp_run.specs.Engines.{is_accepted}
 use Rattle.tsp_run.specs.declared.ending.Ending.{Ending}
-use Rattle.tsp_run.specs.declared.ending.Ending.TheVariants.{NoJob, NoTask, Ended}
+use Rattle.tsp_run.specs.declared.ending.Ending.TheVariants.{NoJob, Version, NoTask, Ended}
 use Rattle.tsp_run.specs.declared.ending.Line.{Line}
 use Rattle.tsp_run.specs.declared.ending.Line.TheVariants as lines
 
@@ -15,17 +15,16 @@ use Rattle.tsp_run.specs.declared.ending.Line.TheVariants as lines
 abbrev pub status_of_ending : Ending → ℕ
 status_of_ending (NoJob (job_faults.Refused refusal)) = 4
 status_of_ending (NoJob job_faults.OutOfMemory) = 3
+status_of_ending (Version build) = 4
 status_of_ending (NoTask fault) = 4
-status_of_ending (Ended (Ok None)) = status_of (Ok true)
-status_of_ending (Ended (Ok (Some (Tour length bound)))) = status_of (Ok true)
-status_of_ending (Ended (Ok (Some (Routes length routes least)))) = status_of (Ok true)
-status_of_ending (Ended (Ok (Some (No reason)))) = status_of (Ok false)
+status_of_ending (Ended (Ok outcome)) = status_of (Ok (is_accepted outcome))
 status_of_ending (Ended (Err fault)) = status_of (Err fault)
 
 -- the line of an ending; an answer has none, since what it says is on standard output
 abbrev pub IsLineOf : Ending → Option Line → Type 0
 IsLineOf (NoJob (job_faults.Refused refusal)) (Some (lines.Refusal told)) = told.now ≡ refusal
 IsLineOf (NoJob job_faults.OutOfMemory) line = line ≡ Some lines.OutOfMemory
+IsLineOf (Version build) line = line ≡ Some (lines.Version build)
 IsLineOf (NoTask fault) line = line ≡ Some (lines.NoTask fault)
 IsLineOf (Ended (Ok answer)) line = line ≡ None
 IsLineOf (Ended (Err fault)) line = line ≡ Some (lines.Fault fault)
@@ -39,9 +38,13 @@ ended text = Some (text ++ 10 ∷ [])
 abbrev pub line_text : Line → Option (List ℕ)
 line_text (lines.Refusal refusal) = None
 line_text lines.OutOfMemory = ended (codes "out of memory")
+line_text (lines.Version build) = ended (codes "tsp 1.1.0 (" ++ build.now ++ codes ")")
 line_text (lines.NoTask UnknownLayout) = ended (codes "unknown layout")
 line_text (lines.NoTask MissingPath) = ended (codes "missing path")
 line_text (lines.NoTask TwoCertificates) = ended (codes "both potentials and branches")
+line_text (lines.NoTask NoCertificate) = ended (codes "neither potentials nor branches")
+line_text (lines.NoTask NotALength) = ended (codes "not a length")
+line_text (lines.NoTask InputTwice) = ended (codes "standard input twice")
 line_text (lines.Fault fault) = None
 
 -- no byte ends a line

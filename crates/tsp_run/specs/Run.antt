@@ -3,17 +3,19 @@ use Rattle.std.specs.Prelude.{◌≡◌, ◌≢◌, ◌||◌, ℕ, Bool, List, d
 use Rattle.std.specs.declared.io.Error.{Error}
 use Rattle.std.specs.declared.io.ErrorKind.{ErrorKind}
 use Rattle.std.specs.declared.io.ErrorKind.TheVariants as io_kinds
-use Rattle.clap.specs.Words.{Text}
+use Rattle.clap.specs.Words.{Text, kind_of}
+use Rattle.clap.specs.declared.error.kind.ErrorKind.TheVariants as kinds
 use Rattle.tsp_judge.specs.declared.Watched.{Watched}
 use Rattle.tsp_judge.specs.Watched.{watched, has_failed}
 use Rattle.tsp_judge.specs.Sink.{Sink, IsUnwritten}
 use Rattle.tsp_run.specs.declared.ending.Ending.{Ending}
-use Rattle.tsp_run.specs.declared.ending.Ending.TheVariants.{NoJob, NoTask, Ended}
+use Rattle.tsp_run.specs.declared.ending.Ending.TheVariants.{NoJob, Version, NoTask, Ended}
 use Rattle.tsp_cli.specs.declared.words.Job.{Job}
+use Rattle.tsp_cli.specs.declared.words.JobFault.{JobFault}
 use Rattle.tsp_cli.specs.declared.task.Place.{Place}
 use Rattle.tsp_cli.specs.declared.task.Task.{Task}
-use Rattle.tsp_cli.specs.declared.task.Task.TheVariants.{Show, Convert, Check, BoundCheck, BranchCheck}
-use Rattle.tsp_cli.specs.declared.words.JobFault.TheVariants.{OutOfMemory}
+use Rattle.tsp_cli.specs.declared.task.Task.TheVariants.{Show, Convert, Check, CheckBy, Bound}
+use Rattle.tsp_cli.specs.declared.words.JobFault.TheVariants.{OutOfMemory, Refused}
 use Rattle.tsp_cli.specs.Words.{GivesJob, IsOtherRefusal}
 use Rattle.tsp_cli.specs.Task.{GivesTask}
 use Rattle.tsp_run.specs.Engines.{IsDone}
@@ -27,35 +29,45 @@ IsFresh opens place reader = opens place (watched reader) × (has_failed reader 
 abbrev pub AreFresh : {F : Type 0} → (Place → F → Type 0) → Task Place → Task (Watched F) → Type 0
 AreFresh opens (Show a) (Show x) = IsFresh opens a x
 AreFresh opens (Convert a to) (Convert x same) = IsFresh opens a x × (same ≡ to)
-AreFresh opens (Check a b) (Check x y) = IsFresh opens a x × IsFresh opens b y
-AreFresh opens (BoundCheck a b c) (BoundCheck x y z) = IsFresh opens a x × IsFresh opens b y × IsFresh opens c z
-AreFresh opens (BranchCheck a b c) (BranchCheck x y z) = IsFresh opens a x × IsFresh opens b y × IsFresh opens c z
+AreFresh opens (Check a b claimed) (Check x y same) = IsFresh opens a x × IsFresh opens b y × (same ≡ claimed)
+AreFresh opens (CheckBy by a b c claimed) (CheckBy kept x y z same) = (kept ≡ by) × IsFresh opens a x × IsFresh opens b y × IsFresh opens c z × (same ≡ claimed)
+AreFresh opens (Bound by a c) (Bound kept x z) = (kept ≡ by) × IsFresh opens a x × IsFresh opens c z
 AreFresh opens _ _ = ⊥
 
 -- How a run ends that has this job: it is no task, and then nothing is written; or the task was done on its files, opened in
 -- their places.
 abbrev pub EndsWith : {F : Type 0} → (F → Option (List ℕ)) → (Place → F → Type 0) → Job → Sink → Ending → Type 0
 EndsWith remaining opens job sink (NoJob fault) = ⊥
+EndsWith remaining opens job sink (Version build) = ⊥
 EndsWith remaining opens job sink (NoTask fault) = GivesTask job (Err fault) × IsUnwritten sink
 EndsWith {F = F} remaining opens job sink (Ended answer) = (task : Task Place) × (old new : Task (Watched F))
     × GivesTask job (Ok task)
     × AreFresh opens task old × IsDone remaining old new sink answer
 
--- How a run ends with these words, of which the first is the program's own name: they ask for no job, and then nothing is
--- written; or it ends with the job that they ask for. That is explained where the job says so, and on a terminal; nothing else
--- is.
-abbrev pub Ends : {F : Type 0} → (F → Option (List ℕ)) → (Place → F → Type 0) → Bool → List Text → Sink → Bool → Ending → Type 0
-Ends remaining opens on_terminal words sink explained (NoJob fault) = GivesJob (drop 1 words) (Err fault) × IsUnwritten sink
-    × (explained ≡ false)
-Ends remaining opens on_terminal words sink explained (NoTask fault) = (job : Job) × GivesJob (drop 1 words) (Ok job)
+-- the words ask for the version
+abbrev pub AsksVersion : JobFault → Type 0
+AsksVersion (Refused refusal) = kind_of refusal ≡ kinds.DisplayVersion
+AsksVersion OutOfMemory = ⊥
+
+-- How a run ends with these words, of which the first is the program's own name. They ask for no job, and then nothing is
+-- written: they are refused, or ask for the version, which is told with this text of the build. Or the run ends with the job
+-- that they ask for. That is explained where the job says so, and on a terminal; nothing else is.
+abbrev pub Ends : {F : Type 0} → (F → Option (List ℕ)) → (Place → F → Type 0) → Bool → Text → List Text → Sink → Bool
+    → Ending → Type 0
+Ends remaining opens on_terminal build words sink explained (NoJob fault) = GivesJob (drop 1 words) (Err fault)
+    × (AsksVersion fault → ⊥) × IsUnwritten sink × (explained ≡ false)
+Ends remaining opens on_terminal build words sink explained (Version told) = (fault : JobFault) × GivesJob (drop 1 words) (Err fault)
+    × AsksVersion fault × (told.now ≡ build) × IsUnwritten sink × (explained ≡ false)
+Ends remaining opens on_terminal build words sink explained (NoTask fault) = (job : Job) × GivesJob (drop 1 words) (Ok job)
     × EndsWith remaining opens job sink (NoTask fault) × (explained ≡ (job.explain || on_terminal))
-Ends remaining opens on_terminal words sink explained (Ended answer) = (job : Job) × GivesJob (drop 1 words) (Ok job)
+Ends remaining opens on_terminal build words sink explained (Ended answer) = (job : Job) × GivesJob (drop 1 words) (Ok job)
     × EndsWith remaining opens job sink (Ended answer) × (explained ≡ (job.explain || on_terminal))
 
 -- the end where the words can't be had: out of memory, or a word is no text, which is reported as refused words are
 abbrev pub HasNoWords : ErrorKind → Bool → Ending → Type 0
 HasNoWords kind explained (NoJob fault) = (kind ≡ io_kinds.OutOfMemory → fault ≡ OutOfMemory)
     × (kind ≢ io_kinds.OutOfMemory → IsOtherRefusal fault) × (explained ≡ false)
+HasNoWords kind explained (Version build) = ⊥
 HasNoWords kind explained (NoTask fault) = ⊥
 HasNoWords kind explained (Ended answer) = ⊥
 

@@ -5,13 +5,14 @@ ghost use Rattle.std.specs.List.{position, before_first};
 ghost use Rattle.tsp_run.specs.Ending.{EndsLine, IsLineOf, Tells, status_of_ending};
 ghost use Rattle.tsp_judge.specs.Status.{status_of};
 
+use crate::engines::{Outcome, is_accepted};
 use arrayvec::ArrayString;
 use clap::Error as Refusal;
 use std::fmt::{Display, Formatter, Write as _};
 use std::io::Write;
 use std::{fmt, io};
-use tsp_cli::{JobFault, TaskFault};
-use tsp_judge::{RunFault, Verdict, status_of};
+use tsp_cli::{JobFault, TaskFault, VERSION};
+use tsp_judge::{RunFault, status_of};
 
 /// How many bytes of a fault's text are written.
 const MOST_TEXT: usize = 256;
@@ -21,10 +22,12 @@ const MOST_TEXT: usize = 256;
 pub enum Ending {
     /// The words of the command line ask for nothing.
     NoJob(JobFault),
+    /// They ask for the version. The text is that of the build.
+    Version(&'static str),
     /// What they ask for can't be begun.
     NoTask(TaskFault),
-    /// A task was done, with this verdict, where it has one.
-    Ended(Result<Option<Verdict>, RunFault>),
+    /// A task was done, or ended with a fault.
+    Ended(Result<Outcome, RunFault>),
 }
 
 /// What goes to standard error.
@@ -34,6 +37,8 @@ pub enum Line<'a> {
     Refusal(&'a Refusal),
     /// Out of memory for the words of the command line.
     OutOfMemory,
+    /// The version, with this text of the build.
+    Version(&'static str),
     /// Why no task was begun.
     NoTask(TaskFault),
     /// Why a task gave no answer.
@@ -49,11 +54,23 @@ impl Display for Line<'_> {
         match self {
             Line::Refusal(refusal) => f.write(*refusal),
             Line::OutOfMemory => f.write_str("out of memory\n"),
+            Line::Version(build) => {
+                f.write_str("tsp ")?;
+                f.write_str(VERSION)?;
+                f.write_str(" (")?;
+                f.write_str(build)?;
+                f.write_str(")\n")
+            }
             Line::NoTask(TaskFault::UnknownLayout) => f.write_str("unknown layout\n"),
             Line::NoTask(TaskFault::MissingPath) => f.write_str("missing path\n"),
             Line::NoTask(TaskFault::TwoCertificates) => {
                 f.write_str("both potentials and branches\n")
             }
+            Line::NoTask(TaskFault::NoCertificate) => {
+                f.write_str("neither potentials nor branches\n")
+            }
+            Line::NoTask(TaskFault::NotALength) => f.write_str("not a length\n"),
+            Line::NoTask(TaskFault::InputTwice) => f.write_str("standard input twice\n"),
             Line::Fault(fault) => {
                 f.write(fault)?;
                 f.write_str("\n")
@@ -73,13 +90,9 @@ pub fn status_of_ending(ending: &Ending) -> u8
     ensures { result ≡ status_of_ending ending.now }
 {
     match ending {
-        Ending::NoJob(JobFault::Refused(_)) | Ending::NoTask(_) => REFUSED,
+        Ending::NoJob(JobFault::Refused(_)) | Ending::Version(_) | Ending::NoTask(_) => REFUSED,
         Ending::NoJob(JobFault::OutOfMemory) => OUT_OF_MEMORY,
-        Ending::Ended(Ok(None)) => status_of(&Ok(true)),
-        Ending::Ended(Ok(Some(Verdict::Tour { .. } | Verdict::Routes { .. }))) => {
-            status_of(&Ok(true))
-        }
-        Ending::Ended(Ok(Some(Verdict::No(_)))) => status_of(&Ok(false)),
+        Ending::Ended(Ok(outcome)) => status_of(&Ok(is_accepted(outcome))),
         Ending::Ended(Err(fault)) => status_of(&Err(*fault)),
     }
 }
@@ -91,6 +104,7 @@ pub fn line_of(ending: &Ending) -> Option<Line<'_>>
     match ending {
         Ending::NoJob(JobFault::Refused(refusal)) => Some(Line::Refusal(refusal)),
         Ending::NoJob(JobFault::OutOfMemory) => Some(Line::OutOfMemory),
+        Ending::Version(build) => Some(Line::Version(build)),
         Ending::NoTask(fault) => Some(Line::NoTask(*fault)),
         Ending::Ended(Ok(_)) => None,
         Ending::Ended(Err(fault)) => Some(Line::Fault(*fault)),

@@ -2,18 +2,42 @@
 
 ghost use Rattle.std.specs.Prelude.{◌≡◌};
 ghost use Rattle.tsp_judge.specs.Sink.{sink_of};
-ghost use Rattle.tsp_run.specs.Engines.{IsDone, counts, judges};
+ghost use Rattle.tsp_run.specs.Engines.{IsDone, is_accepted, counts, judges, bounds};
 
 use std::alloc::Global;
 use std::io::{Read, Write};
 use tsp_cli::Task;
 use tsp_judge::{
-    RunFault, Verdict, Watched, run_bound_verdict, run_branch_verdict, run_convert, run_show,
-    run_verdict,
+    Bounded, Judged, RunFault, Verdict, Watched, run, run_bound, run_convert, run_show,
 };
 
-/// Does a task on files that are read from these readers, and writes what comes of it. The answer is
-/// the verdict, or `None` where the task has none.
+/// What a task comes to.
+#[derive(Drop)]
+pub enum Outcome {
+    /// A file was shown or converted.
+    Done,
+    /// A solution was judged.
+    Judged(Judged),
+    /// The tours of an instance were bounded, or there is a reason against that.
+    Bounded(Bounded),
+}
+
+/// Whether the outcome is no refusal.
+pub(crate) fn is_accepted(outcome: &Outcome) -> bool
+    ensures { result ≡ is_accepted outcome.now }
+{
+    match outcome {
+        Outcome::Done => true,
+        Outcome::Judged(judged) => match judged.verdict {
+            Verdict::Tour { .. } | Verdict::Routes { .. } => true,
+            Verdict::No(_) => false,
+        },
+        Outcome::Bounded(bounded) => bounded.found.is_ok(),
+    }
+}
+
+/// Does a task on files that are read from these readers, and writes what comes of it. The outcome has
+/// the files that were judged.
 ///
 /// # Errors
 ///
@@ -22,33 +46,45 @@ pub fn perform<R: Read, W: Write>(
     alloc: Global,
     task: &mut Task<Watched<R>>,
     out: &mut Watched<W>,
-) -> Result<Option<Verdict>, RunFault>
+) -> Result<Outcome, RunFault>
     ensures { IsDone R.remaining task.old task.new (sink_of W.contents out.old out.new) result }
 {
     match task {
         Task::Show(file) => done(run_show(alloc, file, out)),
         Task::Convert(file, to) => done(run_convert(alloc, file, *to, out)),
-        Task::Check(instance, solution) => judged(run_verdict(alloc, instance, solution, out)),
-        Task::BoundCheck(instance, solution, potentials) => {
-            judged(run_bound_verdict(alloc, instance, solution, potentials, out))
+        Task::Check(instance, solution, claimed) => {
+            let mut nothing: Watched<&[u8]> = Watched::new(&[]);
+            let ended = run(alloc, instance, solution, None, &mut nothing, *claimed, out);
+            judged(ended)
         }
-        Task::BranchCheck(instance, solution, branches) => {
-            judged(run_branch_verdict(alloc, instance, solution, branches, out))
+        Task::CheckBy(by, instance, solution, certificate, claimed) => {
+            let by = Some(*by);
+            judged(run(alloc, instance, solution, by, certificate, *claimed, out))
+        }
+        Task::Bound(by, instance, certificate) => {
+            bounded(run_bound(alloc, instance, *by, certificate, out))
         }
     }
 }
 
-/// What is done has no verdict.
-fn done(ended: Result<(), RunFault>) -> Result<Option<Verdict>, RunFault>
+/// A file was shown or converted.
+fn done(ended: Result<(), RunFault>) -> Result<Outcome, RunFault>
     ensures { result ≡ counts ended }
 {
     ended?;
-    Ok(None)
+    Ok(Outcome::Done)
 }
 
-/// What is done has this verdict.
-fn judged(ended: Result<Verdict, RunFault>) -> Result<Option<Verdict>, RunFault>
+/// A solution was judged.
+fn judged(ended: Result<Judged, RunFault>) -> Result<Outcome, RunFault>
     ensures { result ≡ judges ended }
 {
-    Ok(Some(ended?))
+    Ok(Outcome::Judged(ended?))
+}
+
+/// Tours were bounded.
+fn bounded(ended: Result<Bounded, RunFault>) -> Result<Outcome, RunFault>
+    ensures { result ≡ bounds ended }
+{
+    Ok(Outcome::Bounded(ended?))
 }

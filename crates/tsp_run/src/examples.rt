@@ -1,10 +1,8 @@
 //! The exit status of each ending. No body is looked at here: a definition that is changed together
 //! with its code is refused by its examples.
 
-ghost use Rattle.std.specs.Prelude.{◌≡◌, ℕ, None, Some, Ok, Err, pos, codes};
+ghost use Rattle.std.specs.Prelude.{◌≡◌, ℕ, true, false, Some, Ok, Err, codes};
 ghost use Rattle.clap.specs.declared.error.Error.{Error};
-ghost use Rattle.tsp_judge.specs.declared.Verdict.TheVariants as verdicts;
-ghost use Rattle.tsp_judge.specs.declared.Reason.TheVariants as reasons;
 ghost use Rattle.tsp_judge.specs.declared.EndFault.TheVariants as end_faults;
 ghost use Rattle.tsp_judge.specs.declared.LineFault.TheVariants as line_faults;
 ghost use Rattle.tsp_judge.specs.declared.ReadFault.TheVariants as read_faults;
@@ -14,15 +12,18 @@ ghost use Rattle.tsp_judge.specs.declared.fault.RunFault.TheVariants as run_faul
 ghost use Rattle.tsp_cli.specs.declared.words.JobFault.TheVariants as job_faults;
 ghost use Rattle.tsp_cli.specs.declared.task.TaskFault.TheVariants as task_faults;
 ghost use Rattle.tsp_run.specs.declared.ending.Ending.TheVariants as endings;
-ghost use Rattle.tsp_judge.specs.Status.{status_of_fault};
+ghost use Rattle.tsp_run.specs.declared.engines.Outcome.{Outcome};
+ghost use Rattle.tsp_run.specs.declared.engines.Outcome.TheVariants as outcomes;
+ghost use Rattle.tsp_run.specs.Engines.{is_accepted};
+ghost use Rattle.tsp_judge.specs.Status.{status_of, status_of_fault};
 ghost use Rattle.tsp_run.specs.Ending.{status_of_ending, line_text, ended};
 
 /// The exit status of each ending.
 pub fn examples_of_statuses()
-    ensures done { status_of_ending (endings.Ended (Ok None)) ≡ 0 }
-    ensures tour { status_of_ending (endings.Ended (Ok (Some (verdicts.Tour (pos 14) None)))) ≡ 0 }
-    ensures routes { status_of_ending (endings.Ended (Ok (Some (verdicts.Routes (pos 20) 2 2)))) ≡ 0 }
-    ensures no { status_of_ending (endings.Ended (Ok (Some (verdicts.No reasons.TourCount)))) ≡ 1 }
+    ensures done { status_of_ending (endings.Ended (Ok outcomes.Done)) ≡ 0 }
+    ensures yes { status_of (Ok true) ≡ 0 }
+    ensures no { status_of (Ok false) ≡ 1 }
+    ensures of_outcome { (outcome : Outcome) → status_of_ending (endings.Ended (Ok outcome)) ≡ status_of (Ok (is_accepted outcome)) }
     ensures not_explicit { status_of_fault (run_faults.Relayout relayout_faults.NotExplicit) ≡ 1 }
     ensures not_symmetric { status_of_fault (run_faults.Relayout (relayout_faults.NotSymmetric 1 2)) ≡ 1 }
     ensures diagonal_lost { status_of_fault (run_faults.Relayout (relayout_faults.DiagonalLost 1)) ≡ 1 }
@@ -36,8 +37,12 @@ pub fn examples_of_statuses()
     ensures memory_for_a_text { status_of_fault (run_faults.Write write_faults.OutOfMemory) ≡ 3 }
     ensures memory_for_a_layout { status_of_fault (run_faults.Relayout relayout_faults.OutOfMemory) ≡ 3 }
     ensures refused { (refusal : Error) → status_of_ending (endings.NoJob (job_faults.Refused refusal)) ≡ 4 }
+    ensures version { (build : Str) → status_of_ending (endings.Version build) ≡ 4 }
+    ensures input_twice { status_of_ending (endings.NoTask task_faults.InputTwice) ≡ 4 }
     ensures unknown_layout { status_of_ending (endings.NoTask task_faults.UnknownLayout) ≡ 4 }
     ensures missing_path { status_of_ending (endings.NoTask task_faults.MissingPath) ≡ 4 }
+    ensures no_certificate { status_of_ending (endings.NoTask task_faults.NoCertificate) ≡ 4 }
+    ensures no_length { status_of_ending (endings.NoTask task_faults.NotALength) ≡ 4 }
     ensures two_certificates { status_of_ending (endings.NoTask task_faults.TwoCertificates) ≡ 4 }
     ensures device_in { status_of_fault (run_faults.File 2 read_faults.Device) ≡ 5 }
     ensures device_out { status_of_fault (run_faults.Write write_faults.Device) ≡ 5 }

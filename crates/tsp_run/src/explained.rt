@@ -1,19 +1,17 @@
 //! What a run's end means, for a person.
 
 use crate::ending::Ending;
+use crate::engines::Outcome;
 use crate::source::Open;
 use std::alloc::{AllocError, Global};
 use std::io;
 use std::io::Read;
-use tsp_cli::{Job, TaskFault};
-use tsp_cost::Instance;
+use tsp_cli::{Job, TaskFault, Verb};
 use tsp_explain::{
-    Blame, blamed, explain_file, explain_reason, push_details, push_error, push_lines,
+    Role, blamed, explain_file, explain_reason, push_claim, push_details, push_error, push_lines,
     relayout_sentence, write_sentence,
 };
-use tsp_file::File;
-use tsp_judge::{Reason, RunFault, Verdict, Watched, WriteFault};
-use tsp_read::read_from;
+use tsp_judge::{Judged, Reason, RunFault, Verdict, WriteFault};
 
 /// What explains how a job ended, line by line. Files that can be are looked at once more for it;
 /// `write_error` is what the system said of a write that failed. It is cut short where there is no
@@ -40,13 +38,13 @@ fn push_explanation<F: Read + Drop, O: Open<F>>(
     write_error: Option<&io::Error>,
 ) -> Result<(), AllocError> {
     match ending {
-        Ending::NoJob(_) | Ending::NoTask(TaskFault::MissingPath) => Ok(()),
+        Ending::NoJob(_) | Ending::Version(_) | Ending::NoTask(TaskFault::MissingPath) => Ok(()),
         Ending::NoTask(TaskFault::UnknownLayout) => push_lines(text, LAYOUTS),
         Ending::NoTask(TaskFault::TwoCertificates) => push_lines(text, CERTIFICATES),
-        Ending::Ended(Ok(Some(Verdict::No(reason)))) => {
-            push_reason(alloc, text, job, *reason, files)
-        }
-        Ending::Ended(Ok(_)) => Ok(()),
+        Ending::NoTask(TaskFault::InputTwice) => push_lines(text, INPUT),
+        Ending::NoTask(TaskFault::NoCertificate) => push_lines(text, NO_CERTIFICATE),
+        Ending::NoTask(TaskFault::NotALength) => push_lines(text, LENGTHS),
+        Ending::Ended(Ok(outcome)) => push_outcome(alloc, text, job, outcome),
         Ending::Ended(Err(fault)) => push_fault(alloc, text, job, *fault, files, write_error),
     }
 }
@@ -59,6 +57,22 @@ const LAYOUTS: &str =
 /// What certifies a bound.
 const CERTIFICATES: &str =
     "A check takes one certificate: a file of potentials, or a tree of cases. Run it once with each.";
+
+/// What standard input is.
+const INPUT: &str =
+    "A path - is standard input, which can be one file of a call. The file with that name is ./-";
+
+/// What a bound needs.
+const NO_CERTIFICATE: &str =
+    "A bound needs a certificate: --potentials with a file of potentials, or --branches with a tree of cases.";
+
+/// What it means that a certificate gives no bound.
+const NO_TOUR: &str =
+    "The instance has no tour: at each leaf of the tree its decisions and the fixed arcs leave some node no arc.";
+
+/// What a length is.
+const LENGTHS: &str =
+    "A length is a whole number that fits 64 bits, as 426 or 12.0. One below 0 is written --length=-34.";
 
 /// What the first file of a check is.
 const KINDS: &str =
@@ -77,9 +91,14 @@ fn push_fault<F: Read + Drop, O: Open<F>>(
     match fault {
         RunFault::File { file, fault } => {
             let path = path_of(job, file);
-            explain_file(alloc, text, name_of(path), again(path, files), fault)
+            let given = given_for(job, file);
+            explain_file(alloc, text, name_of(path), given, again(path, files), fault)
         }
-        RunFault::WrongKind => push_lines(text, KINDS),
+        RunFault::WrongKind => {
+            text.extend_from_slice(name_of(path_of(job, 1)).as_bytes())?;
+            text.extend_from_slice(b": wrong kind\n")?;
+            push_lines(text, KINDS)
+        }
         RunFault::Write(fault) => push_write_fault(alloc, text, fault, write_error),
         RunFault::OutOfMemory => push_lines(text, "There is no memory for what is to be done."),
         RunFault::Relayout(fault) => push_lines(text, relayout_sentence(fault)),
@@ -100,63 +119,96 @@ fn push_write_fault(
     }
 }
 
-/// Appends the explanation of a line `no`, with the nodes and numbers that a second reading of the
-/// instance and the solution shows.
-fn push_reason<F: Read + Drop, O: Open<F>>(
+/// Appends what explains a no, from the files that were judged, and of a yes whether a comment of the
+/// solution claims another length.
+fn push_outcome(
     alloc: Global,
     text: &mut Vec<u8>,
     job: &Job,
-    reason: Reason,
-    files: &O,
+    outcome: &Outcome,
 ) -> Result<(), AllocError> {
-    let name = name_of(path_of(job, file_of(blamed(reason))));
-    explain_reason(text, name, reason)?;
-    let instance = weighed_again(alloc, path_of(job, 1), files);
-    let solution = read_again(alloc, path_of(job, 2), files);
-    match (&instance, &solution) {
-        (Some(instance), Some(solution)) => push_details(text, reason, instance, solution),
-        _ => Ok(()),
+    match outcome {
+        Outcome::Done => Ok(()),
+        Outcome::Judged(judged) => push_judged(alloc, text, job, judged),
+        Outcome::Bounded(bounded) => match bounded.found {
+            Ok(Some(_)) => Ok(()),
+            Ok(None) => push_lines(text, NO_TOUR),
+            Err(reason) => {
+                explain_reason(alloc, text, name_of_blamed(job, reason), reason)?;
+                let certificate = Some(&bounded.certificate);
+                push_details(alloc, text, reason, &bounded.instance, None, certificate)
+            }
+        },
     }
 }
 
-/// The file that is read a second time, as the first time, or `None` where it can't be.
-fn read_again<F: Read + Drop, O: Open<F>>(
+/// Appends what explains that a solution was judged so.
+fn push_judged(
     alloc: Global,
-    path: Option<&str>,
-    files: &O,
-) -> Option<File> {
-    let mut reader = Watched::new(again(path, files)?);
-    read_from(alloc, &mut reader).ok()
-}
-
-/// The instance that is read a second time, or `None` where it can't be.
-fn weighed_again<F: Read + Drop, O: Open<F>>(
-    alloc: Global,
-    path: Option<&str>,
-    files: &O,
-) -> Option<Instance> {
-    Instance::of(read_again(alloc, path, files)?).ok()
-}
-
-/// The number of the file that a reason is about.
-fn file_of(blamed: Blame) -> u32 {
-    match blamed {
-        Blame::Instance => 1,
-        Blame::Solution => 2,
-        Blame::Potentials | Blame::Branches => 3,
+    text: &mut Vec<u8>,
+    job: &Job,
+    judged: &Judged,
+) -> Result<(), AllocError> {
+    let solution = &judged.solution;
+    match judged.verdict {
+        Verdict::Tour { length, bound: _ }
+        | Verdict::Routes {
+            length,
+            routes: _,
+            least: _,
+        } => {
+            let name = name_of(place_of(&job.solution));
+            push_claim(alloc, text, name, solution.comments(), length)
+        }
+        Verdict::No(reason) => {
+            explain_reason(alloc, text, name_of_blamed(job, reason), reason)?;
+            let certificate = match &judged.certificate {
+                Some((_, certificate)) => Some(certificate),
+                None => None,
+            };
+            let solution = Some(solution);
+            push_details(alloc, text, reason, &judged.instance, solution, certificate)
+        }
     }
 }
 
-/// The path of the file with this number, or `None` where it is standard input.
+/// What the file is called that a reason is about.
+fn name_of_blamed(job: &Job, reason: Reason) -> &str {
+    name_of(match blamed(reason) {
+        Role::Instance => place_of(&job.file),
+        Role::Solution => place_of(&job.solution),
+        Role::Potentials | Role::Branches => place_of(certificate_of(job)),
+    })
+}
+
+/// What the file with this number is given for, or `None` where it may be any.
+fn given_for(job: &Job, file: u32) -> Option<Role> {
+    match (job.verb?, file) {
+        (Verb::Show | Verb::Convert, _) => None,
+        (Verb::Check | Verb::Bound, 1) => Some(Role::Instance),
+        (Verb::Check, 2) => Some(Role::Solution),
+        (Verb::Check | Verb::Bound, _) => Some(match &job.potentials {
+            Some(_) => Role::Potentials,
+            None => Role::Branches,
+        }),
+    }
+}
+
+/// The path of the file with this number, or `None` where it is standard input. A bound has its
+/// certificate in the place of a solution.
 fn path_of(job: &Job, file: u32) -> Option<&str> {
-    let path = match file {
-        1 => &job.file,
-        2 => &job.solution,
-        _ => certificate_of(job),
-    };
+    match (file, job.verb) {
+        (1, _) => place_of(&job.file),
+        (2, Some(Verb::Show | Verb::Convert | Verb::Check) | None) => place_of(&job.solution),
+        _ => place_of(certificate_of(job)),
+    }
+}
+
+/// A path, where there is one.
+fn place_of(path: &Option<String>) -> Option<&str> {
     match path {
-        Some(path) => Some(path.as_str()),
-        None => None,
+        Some(path) if path.as_str() != "-" => Some(path.as_str()),
+        Some(_) | None => None,
     }
 }
 

@@ -16,11 +16,13 @@ mod examples;
 mod explained;
 mod running;
 mod source;
+mod waiting;
 
 pub use ending::{Ending, Line, line_of, status_of_ending, tell};
-pub use engines::perform;
+pub use engines::{Outcome, perform};
 pub use examples::examples_of_statuses;
 pub use running::{run, tell_unread};
 pub use source::{Open, Source};
 pub use tsp_cli::{JobFault, Place, Task, TaskFault};
 pub use tsp_judge::Watched;
+pub use waiting::tell_waiting;

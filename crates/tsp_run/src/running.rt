@@ -11,6 +11,7 @@ use crate::ending::{Ending, status_of_ending, tell};
 use crate::engines::perform;
 use crate::explained::explanation;
 use crate::source::Open;
+use clap::error::ErrorKind;
 use std::alloc::{AllocError, Global};
 use std::io;
 use std::io::{Read, Write};
@@ -22,7 +23,8 @@ use tsp_judge::Watched;
 ///
 /// The answer is the exit status, and whether the reason could be told. Files are opened in the order
 /// in which they are read, each as `files` opens its place. The reason is explained where the words ask
-/// for that, and wherever `errors` is a terminal, as `on_terminal` says.
+/// for that, and wherever `errors` is a terminal, as `on_terminal` says. Where they ask for the version,
+/// that is told with the text `build`.
 pub fn run<F: Read + Drop, O: Open<F>, W: Write, E: Write>(
     alloc: Global,
     line: &[String],
@@ -30,15 +32,20 @@ pub fn run<F: Read + Drop, O: Open<F>, W: Write, E: Write>(
     out: &mut Watched<W>,
     errors: &mut E,
     on_terminal: bool,
+    build: &'static str,
 ) -> (u8, io::Result<()>)
-    ensures { Runs (Ends F.remaining (O.opens files.now) on_terminal (map string_bytes line.now)
+    ensures { Runs (Ends F.remaining (O.opens files.now) on_terminal build.now (map string_bytes line.now)
         (sink_of W.contents out.old out.new)) (E.contents errors.old) (E.contents errors.new) result }
 {
     let Ok(words) = words_after_first(alloc, line) else {
         return end(&Ending::NoJob(JobFault::OutOfMemory), errors);
     };
     match job_of(alloc, &words) {
-        Err(fault) => end(&Ending::NoJob(fault), errors),
+        Err(JobFault::OutOfMemory) => end(&Ending::NoJob(JobFault::OutOfMemory), errors),
+        Err(JobFault::Refused(refusal)) => match refusal.kind() {
+            ErrorKind::DisplayVersion => end(&Ending::Version(build), errors),
+            _ => end(&Ending::NoJob(JobFault::Refused(refusal)), errors),
+        },
         Ok(job) => {
             let explain = job.explain || on_terminal;
             let answer = run_job(alloc, &job, files, out, errors, explain);
@@ -156,19 +163,19 @@ fn opened<F: Read + Drop, O: Open<F>>(task: Task<Place<'_>>, files: &O) -> Task<
     match task {
         Task::Show(file) => Task::Show(fresh(file, files)),
         Task::Convert(file, to) => Task::Convert(fresh(file, files), to),
-        Task::Check(instance, solution) => {
-            Task::Check(fresh(instance, files), fresh(solution, files))
+        Task::Check(instance, solution, claimed) => {
+            Task::Check(fresh(instance, files), fresh(solution, files), claimed)
         }
-        Task::BoundCheck(instance, solution, potentials) => Task::BoundCheck(
+        Task::CheckBy(by, instance, solution, certificate, claimed) => Task::CheckBy(
+            by,
             fresh(instance, files),
             fresh(solution, files),
-            fresh(potentials, files),
+            fresh(certificate, files),
+            claimed,
         ),
-        Task::BranchCheck(instance, solution, branches) => Task::BranchCheck(
-            fresh(instance, files),
-            fresh(solution, files),
-            fresh(branches, files),
-        ),
+        Task::Bound(by, instance, certificate) => {
+            Task::Bound(by, fresh(instance, files), fresh(certificate, files))
+        }
     }
 }
 

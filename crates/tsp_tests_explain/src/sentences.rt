@@ -21,7 +21,7 @@ fn explains_unseen(
 ) -> Result<(), AllocError> {
     let mut text = Vec::new(rt.alloc());
     let again: Option<&[u8]> = None;
-    explain_file(rt.alloc(), &mut text, "a.tsp", again, fault)?;
+    explain_file(rt.alloc(), &mut text, "a.tsp", None, again, fault)?;
     let found = String::from_utf8_lossy(rt.alloc(), &text)?;
     same(rt, found.as_str(), wanted);
     drop(found);
@@ -39,22 +39,22 @@ fn a_file_that_is_not_seen_twice_has_its_sentences(rt: HostRuntime) -> Result<()
             word: 0,
             fault,
         },
-        "  a.tsp, line 7:\n  A line of words has at most 4,096 bytes, from its first that isn't blank to its end.\n",
+        "a.tsp:7: LongLine\n  A line of words has at most 4,096 bytes, from its first that isn't blank to its end.\n",
     )?;
     explains_unseen(
         &rt,
         ReadFault::TooLong,
-        "  a.tsp:\n  Only the first 1,073,741,824 bytes of a file count. They have no fault and no line EOF.\n",
+        "a.tsp: too long\n  Only the first 1,073,741,824 bytes of a file count. They have no fault and no line EOF.\n",
     )?;
     explains_unseen(
         &rt,
         ReadFault::OutOfMemory,
-        "  a.tsp:\n  There is no memory for what the file holds.\n",
+        "a.tsp: out of memory\n  There is no memory for what the file holds.\n",
     )?;
     explains_unseen(
         &rt,
         ReadFault::Device,
-        "  a.tsp:\n  The file can't be opened, or a read of it failed.\n",
+        "a.tsp: device\n  The file can't be opened, or a read of it failed.\n",
     )?;
     Ok(())
 }

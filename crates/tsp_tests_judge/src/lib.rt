@@ -9,6 +9,8 @@ mod bound_limits;
 #[cfg(test)]
 mod bytes;
 #[cfg(test)]
+mod claims;
+#[cfg(test)]
 mod failures;
 #[cfg(test)]
 mod files;

@@ -4,14 +4,17 @@
 //! streams. All else is tsp_run's. What a task writes goes to standard output.
 #![tactic(auto)]
 
+mod build;
+
 ghost use Rattle.tsp_run.specs.Source.{IsSourceOf};
 
+use crate::build::BUILD;
 use std::fs::File;
 use std::io::IsTerminal;
 use std::process::ExitCode;
 use std::rt::Stdin;
 use std::{env, fs, io};
-use tsp_run::{Open, Place, Source, Watched, run, tell_unread};
+use tsp_run::{Open, Place, Source, Watched, run, tell_unread, tell_waiting};
 
 fn main(rt: HostRuntime) -> ExitCode {
     let mut out = Watched::new(rt.stdout());
@@ -19,14 +22,18 @@ fn main(rt: HostRuntime) -> ExitCode {
     let on_terminal = errors.is_terminal();
     // Where the reason can't be written, the status alone tells it.
     let (status, _) = match words_of_line(&rt) {
-        Ok(line) => run(
-            rt.alloc(),
-            &line,
-            &Host { rt: &rt },
-            &mut out,
-            &mut errors,
-            on_terminal,
-        ),
+        Ok(line) => {
+            let _ = tell_waiting(&line, rt.stdin().is_terminal(), &mut errors);
+            run(
+                rt.alloc(),
+                &line,
+                &Host { rt: &rt },
+                &mut out,
+                &mut errors,
+                on_terminal,
+                BUILD,
+            )
+        }
         Err(error) => tell_unread(rt.alloc(), &error, &mut errors),
     };
     ExitCode::from(status)

@@ -11,7 +11,7 @@ use Rattle.tsp_draft.specs.Fields.{Fields}
 use Rattle.tsp_draft.specs.Rules.{is_certificate}
 use Rattle.tsp_theory.specs.Adjusted.{pair_of, is_same_pair, AreOnPairs}
 use Rattle.tsp_reason.specs.declared.verdict.Reason.{Reason}
-use Rattle.tsp_reason.specs.declared.verdict.Reason.TheVariants.{TooFewNodes, NotPotentials, PotentialsDimension, PotentialsKind, MultiplierNotFixed, MultiplierRepeated, DualInfeasible, DepotCount, DepotDemand, FixedEdgesInRoutes, DepotInRoute, Unserved, Overload, NotBranches, BranchesDimension, BadComb, BranchTwice, BadLeaf}
+use Rattle.tsp_reason.specs.declared.verdict.Reason.TheVariants.{TooFewNodes, NotPotentials, PotentialsDimension, PotentialsKind, MultiplierNotFixed, MultiplierRepeated, DualInfeasible, DepotCount, DepotDemand, FixedEdgesInRoutes, DepotInRoute, Unserved, Overload, NotBranches, BranchesDimension, BadComb, BranchTwice, BadLeaf, LengthClaimed}
 use Rattle.tsp_verdict.specs.Multiplied.{AreListed, IsUnlisted, IsPairRepeated, pair_at}
 use Rattle.tsp_verdict.specs.Places.{IsFirstPlace}
 use Rattle.tsp_verdict.specs.Reasons.{rank_of, NoneBefore, IsFirstReason}
@@ -32,10 +32,10 @@ use Rattle.tsp_format.specs.declared.kinds.Kind.{Kind}
 -- ---- against the certificate alone
 
 -- the facts before a rank rule out the reasons before it
-pub none_before : (inst pot : Fields) (rank : ℕ) → (16 < rank → is_certificate pot.kind ≡ true) → (17 < rank → nodes_of pot ≡ nodes_of inst)
-    → (18 < rank → has_wanted inst.kind pot ≡ true) → (19 < rank → (index : ℕ) → StandsAgainstPotentials inst pot (MultiplierNotFixed index) → ⊥)
-    → (20 < rank → (index : ℕ) → StandsAgainstPotentials inst pot (MultiplierRepeated index) → ⊥)
-    → (21 < rank → (i j : ℕ) → StandsAgainstPotentials inst pot (DualInfeasible i j) → ⊥) → NoneBefore (StandsAgainstPotentials inst pot) rank
+pub none_before : (inst pot : Fields) (rank : ℕ) → (17 < rank → is_certificate pot.kind ≡ true) → (18 < rank → nodes_of pot ≡ nodes_of inst)
+    → (19 < rank → has_wanted inst.kind pot ≡ true) → (20 < rank → (index : ℕ) → StandsAgainstPotentials inst pot (MultiplierNotFixed index) → ⊥)
+    → (21 < rank → (index : ℕ) → StandsAgainstPotentials inst pot (MultiplierRepeated index) → ⊥)
+    → (22 < rank → (i j : ℕ) → StandsAgainstPotentials inst pot (DualInfeasible i j) → ⊥) → NoneBefore (StandsAgainstPotentials inst pot) rank
 none_before inst pot rank sort size wanted fixed once good NotPotentials low stands = false≢true (sym stands ∙ sort low)
 none_before inst pot rank sort size wanted fixed once good PotentialsDimension low stands = stands (size low)
 none_before inst pot rank sort size wanted fixed once good PotentialsKind low stands = false≢true (sym stands ∙ wanted low)
@@ -75,7 +75,7 @@ pub not_fixed : (inst pot : Fields) (fixed : List (ℕ × ℕ)) (triples : List 
     → IsFirstReason (StandsAgainstPotentials inst pot) (MultiplierNotFixed index)
 not_fixed inst pot fixed triples index fixed_are triples_are kind sort size wanted first = record {
   stands = (kind, subst₂ (λ fs ts. IsFirstPlace (IsUnlisted fs ts) ts index) fixed_are triples_are first);
-  none_before = none_before inst pot 19 (λ low. sort) (λ low. size) (λ low. rw kind wanted) (λ low. absurd (omega (arith, low)))
+  none_before = none_before inst pot 20 (λ low. sort) (λ low. size) (λ low. rw kind wanted) (λ low. absurd (omega (arith, low)))
       (λ low. absurd (omega (arith, low))) (λ low. absurd (omega (arith, low)));
 }
 
@@ -86,7 +86,7 @@ pub repeats : (inst pot : Fields) (fixed : List (ℕ × ℕ)) (triples : List (�
     → IsFirstReason (StandsAgainstPotentials inst pot) (MultiplierRepeated index)
 repeats inst pot fixed triples index fixed_are triples_are kind sort size wanted listed first = record {
   stands = (kind, subst (λ ts. IsFirstPlace (IsPairRepeated ts) ts index) triples_are first);
-  none_before = none_before inst pot 20 (λ low. sort) (λ low. size) (λ low. rw kind wanted)
+  none_before = none_before inst pot 21 (λ low. sort) (λ low. size) (λ low. rw kind wanted)
       (λ low. none_unlisted inst pot (subst₂ (λ fs ts. AreListed fs ts) fixed_are triples_are listed)) (λ low. absurd (omega (arith, low)))
       (λ low. absurd (omega (arith, low)));
 }
@@ -113,7 +113,7 @@ pub kind_first : (inst pot : Fields) → is_certificate pot.kind ≡ true → no
     → IsFirstReason (StandsAgainstPotentials inst pot) PotentialsKind
 kind_first inst pot sort size other = record {
   stands = other;
-  none_before = none_before inst pot 18 (λ low. sort) (λ low. size) (λ low. absurd (omega (arith, low))) (λ low. absurd (omega (arith, low)))
+  none_before = none_before inst pot 19 (λ low. sort) (λ low. size) (λ low. absurd (omega (arith, low))) (λ low. absurd (omega (arith, low)))
       (λ low. absurd (omega (arith, low))) (λ low. absurd (omega (arith, low)));
 }
 
@@ -126,7 +126,7 @@ pub broken_first : (inst pot : Fields) (i j : ℕ) → inst.kind ≡ Some kinds.
     → IsFirstReason (StandsAgainstPotentials inst pot) (DualInfeasible i j)
 broken_first inst pot i j kind sort size wanted broken = record {
   stands = (kind, broken);
-  none_before = none_before inst pot 21 (λ low. sort) (λ low. size) (λ low. rw kind wanted) (λ low index stands. not_undirected inst.kind kind stands.0)
+  none_before = none_before inst pot 22 (λ low. sort) (λ low. size) (λ low. rw kind wanted) (λ low index stands. not_undirected inst.kind kind stands.0)
       (λ low index stands. not_undirected inst.kind kind stands.0) (λ low. absurd (omega (arith, low)));
 }
 
@@ -158,9 +158,10 @@ tour_rank inst sol BranchesDimension stands = absurd stands
 tour_rank inst sol (BadComb index) stands = absurd stands
 tour_rank inst sol (BranchTwice index) stands = absurd stands
 tour_rank inst sol (BadLeaf index) stands = absurd stands
+tour_rank inst sol (LengthClaimed length) stands = absurd stands
 tour_rank inst sol reason stands = omega arith
 
-certificate_rank : (by : Certificate) (inst cert : Fields) (reason : Reason) → StandsAgainstCertificate by inst cert reason → 16 ≤ rank_of reason
+pub certificate_rank : (by : Certificate) (inst cert : Fields) (reason : Reason) → StandsAgainstCertificate by inst cert reason → 17 ≤ rank_of reason
 certificate_rank Potentials inst cert NotPotentials stands = omega arith
 certificate_rank Potentials inst cert PotentialsDimension stands = omega arith
 certificate_rank Potentials inst cert PotentialsKind stands = omega arith

@@ -18,3 +18,5 @@ pub mod SmallPlans
 pub mod NumberedSets
 pub mod GivenPairs
 pub mod TreeReasons
+pub mod Bounds
+pub mod Claims

@@ -2,7 +2,7 @@
 use Rattle.std.proofs.Common.{ℕ, arith}
 use Rattle.tsp_draft.specs.Fields.{Fields}
 use Rattle.tsp_reason.specs.declared.verdict.Reason.{Reason}
-use Rattle.tsp_reason.specs.declared.verdict.Reason.TheVariants.{NotPotentials, PotentialsDimension, PotentialsKind, MultiplierNotFixed, MultiplierRepeated, DualInfeasible, NotSymmetric, TourCount, TourLength, NodeOutOfRange, RepeatedNode, FixedEdgeUnused, DepotInRoute, Unserved, Overload, NotBranches, BranchesDimension, BadComb, BranchTwice, BadLeaf}
+use Rattle.tsp_reason.specs.declared.verdict.Reason.TheVariants.{NotPotentials, PotentialsDimension, PotentialsKind, MultiplierNotFixed, MultiplierRepeated, DualInfeasible, NotSymmetric, TourCount, TourLength, NodeOutOfRange, RepeatedNode, FixedEdgeUnused, DepotInRoute, Unserved, Overload, NotBranches, BranchesDimension, BadComb, BranchTwice, BadLeaf, LengthClaimed}
 use Rattle.tsp_verdict.specs.Places.{IsFirstPlace, IsLarger, IsAt, IsRepeated}
 use Rattle.tsp_verdict.specs.Plan.{depot_of, demands_of, capacity_of}
 use Rattle.tsp_verdict.specs.Solution.{nodes_of, tours_of, visited}
@@ -43,4 +43,5 @@ after_loads inst sol before carried BranchesDimension stands = stands
 after_loads inst sol before carried (BadComb index) stands = stands
 after_loads inst sol before carried (BranchTwice index) stands = stands
 after_loads inst sol before carried (BadLeaf index) stands = stands
+after_loads inst sol before carried (LengthClaimed length) stands = stands
 after_loads inst sol before carried reason stands = before reason (omega arith) stands

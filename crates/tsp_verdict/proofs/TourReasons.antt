@@ -8,7 +8,7 @@ use Rattle.tsp_file.specs.Cost.{cost}
 use Rattle.tsp_theory.specs.Costs.{IsFirstAsymmetric}
 use Rattle.tsp_cost.specs.Tours.{is_directed}
 use Rattle.tsp_reason.specs.declared.verdict.Reason.{Reason}
-use Rattle.tsp_reason.specs.declared.verdict.Reason.TheVariants.{NotASolution, TooFewNodes, NotSymmetric, Dimension, TourCount, TourLength, NodeOutOfRange, RepeatedNode, FixedEdgeUnused, NotPotentials, PotentialsDimension, PotentialsKind, MultiplierNotFixed, MultiplierRepeated, DualInfeasible, DepotCount, DepotDemand, FixedEdgesInRoutes, DepotInRoute, Unserved, Overload, NotBranches, BranchesDimension, BadComb, BranchTwice, BadLeaf}
+use Rattle.tsp_reason.specs.declared.verdict.Reason.TheVariants.{NotASolution, TooFewNodes, NotSymmetric, Dimension, TourCount, TourLength, NodeOutOfRange, RepeatedNode, FixedEdgeUnused, NotPotentials, PotentialsDimension, PotentialsKind, MultiplierNotFixed, MultiplierRepeated, DualInfeasible, DepotCount, DepotDemand, FixedEdgesInRoutes, DepotInRoute, Unserved, Overload, NotBranches, BranchesDimension, BadComb, BranchTwice, BadLeaf, LengthClaimed}
 use Rattle.tsp_verdict.specs.Places.{IsFirstPlace, IsLarger, IsRepeated, IsUnused}
 use Rattle.tsp_verdict.specs.Solution.{nodes_of, fixed_of, tours_of, visited}
 use Rattle.tsp_verdict.specs.Tours.{StandsAgainstTour, NoneOfTourUpTo}
@@ -70,4 +70,5 @@ after_fixed inst sol before used BranchesDimension stands = stands
 after_fixed inst sol before used (BadComb index) stands = stands
 after_fixed inst sol before used (BranchTwice index) stands = stands
 after_fixed inst sol before used (BadLeaf index) stands = stands
+after_fixed inst sol before used (LengthClaimed length) stands = stands
 after_fixed inst sol before used reason stands = before reason (omega arith) stands

@@ -35,8 +35,8 @@ use Rattle.tsp_verdict.specs.Places.{IsFirstPlace}
 use Rattle.tsp_verdict.specs.Reasons.{NoneBefore, IsFirstReason}
 use Rattle.tsp_verdict.specs.Solution.{nodes_of, fixed_of}
 use Rattle.tsp_verdict.specs.states.Costs.{IsSymmetricTsp}
-use Rattle.tsp_verdict.specs.Tree.{combs_in, steps_in, each_once, given_in, tree_in, told_combs, IsBadComb, StandsAgainstTree, IsBoundByTree}
-use Rattle.tsp_verdict.specs.Certified.{IsBoundBy, IsCertified}
+use Rattle.tsp_verdict.specs.Tree.{combs_in, steps_in, each_once, given_in, tree_in, told_combs, IsBadComb, StandsAgainstTree, IsBoundByTree, HasNoBoundByTree}
+use Rattle.tsp_verdict.specs.Certified.{IsBoundBy, IsCertified, HasNoTour}
 use Rattle.tsp_reason.specs.declared.certificate.Certificate.TheVariants.{Branches}
 use Rattle.tsp_verdict.proofs.CarriedBounds.{Same}
 use Rattle.tsp_verdict.proofs.GivenPairs.{keeps_given}
@@ -128,9 +128,9 @@ no_bad_from n combs numbers leaf (listed.Leaf changes ∷ steps) bad good (inl h
 no_bad_from n combs numbers leaf (listed.Leaf changes ∷ steps) bad good (inr later) = no_bad_from n combs (all_grown changes numbers) (suc leaf) steps bad good.1 later.1
 
 -- the facts before a rank rule out the reasons before it
-none_before : (inst tree : Fields) (rank : ℕ) → (22 < rank → is_tree tree.kind ≡ true) → (23 < rank → nodes_of tree ≡ nodes_of inst)
-    → (24 < rank → (index : ℕ) → StandsAgainstTree inst tree (BadComb index) → ⊥) → (25 < rank → (index : ℕ) → StandsAgainstTree inst tree (BranchTwice index) → ⊥)
-    → (26 < rank → (index : ℕ) → StandsAgainstTree inst tree (BadLeaf index) → ⊥) → NoneBefore (StandsAgainstTree inst tree) rank
+none_before : (inst tree : Fields) (rank : ℕ) → (23 < rank → is_tree tree.kind ≡ true) → (24 < rank → nodes_of tree ≡ nodes_of inst)
+    → (25 < rank → (index : ℕ) → StandsAgainstTree inst tree (BadComb index) → ⊥) → (26 < rank → (index : ℕ) → StandsAgainstTree inst tree (BranchTwice index) → ⊥)
+    → (27 < rank → (index : ℕ) → StandsAgainstTree inst tree (BadLeaf index) → ⊥) → NoneBefore (StandsAgainstTree inst tree) rank
 none_before inst tree rank sort size combs once leaves NotBranches low stands = false≢true (sym stands ∙ sort low)
 none_before inst tree rank sort size combs once leaves BranchesDimension low stands = stands (size low)
 none_before inst tree rank sort size combs once leaves (BadComb index) low stands = combs low index stands
@@ -142,21 +142,21 @@ pub comb_first : (inst tree : Fields) (costs : ℕ → ℕ → ℤ) (index : ℕ
     → IsFirstReason (StandsAgainstTree inst tree) (BadComb index)
 comb_first inst tree costs index sort size is = record {
   stands = bad_comb inst tree index is;
-  none_before = none_before inst tree 24 (λ low. sort) (λ low. size) (λ low. absurd (omega (arith, low))) (λ low. absurd (omega (arith, low))) (λ low. absurd (omega (arith, low)));
+  none_before = none_before inst tree 25 (λ low. sort) (λ low. size) (λ low. absurd (omega (arith, low))) (λ low. absurd (omega (arith, low))) (λ low. absurd (omega (arith, low)));
 }
 
 pub twice_first : (inst tree : Fields) (costs : ℕ → ℕ → ℤ) (index : ℕ) → is_tree tree.kind ≡ true → nodes_of tree ≡ nodes_of inst → IsTold inst tree costs (found.BranchTwice index)
     → IsFirstReason (StandsAgainstTree inst tree) (BranchTwice index)
 twice_first inst tree costs index sort size is = record {
   stands = is.1;
-  none_before = none_before inst tree 25 (λ low. sort) (λ low. size) (λ low. no_bad_comb inst tree is.0.0) (λ low. absurd (omega (arith, low))) (λ low. absurd (omega (arith, low)));
+  none_before = none_before inst tree 26 (λ low. sort) (λ low. size) (λ low. no_bad_comb inst tree is.0.0) (λ low. absurd (omega (arith, low))) (λ low. absurd (omega (arith, low)));
 }
 
 pub leaf_first : (inst tree : Fields) (costs : ℕ → ℕ → ℤ) (index : ℕ) → is_tree tree.kind ≡ true → nodes_of tree ≡ nodes_of inst → IsTold inst tree costs (found.BadLeaf index)
     → IsFirstReason (StandsAgainstTree inst tree) (BadLeaf index)
 leaf_first inst tree costs index sort size is = record {
   stands = is.leaves;
-  none_before = none_before inst tree 26 (λ low. sort) (λ low. size) (λ low. no_bad_comb inst tree is.are_combs.0) (λ low. is.are_once.0) (λ low. absurd (omega (arith, low)));
+  none_before = none_before inst tree 27 (λ low. sort) (λ low. size) (λ low. no_bad_comb inst tree is.are_combs.0) (λ low. is.are_once.0) (λ low. absurd (omega (arith, low)));
 }
 
 pub none_stands : (inst tree : Fields) (costs : ℕ → ℕ → ℤ) (bound : Option ℤ) → is_tree tree.kind ≡ true → nodes_of tree ≡ nodes_of inst → IsTold inst tree costs (found.Bound bound)
@@ -226,8 +226,10 @@ certified inst tree costs bound law kind some even scaled same sized is = (
   sized,
 )
 
--- where the instance has a tour, some leaf has a bound
-pub some_bound : (inst tree : Fields) (costs : ℕ → ℕ → ℤ) → CertificatesBoundCycles → HasArcsOrEdges inst → 3 ≤ nodes_of inst → IsSymmetricTsp inst → IsScale (scale_in tree)
-    → Same costs (cost inst) → ((tour : List ℕ) × IsTourOf inst tour) → IsTold inst tree costs (found.Bound None) → ⊥
-some_bound inst tree costs law kind some even scaled same toured is =
-    cycles_bounded inst tree costs None same is law kind some even scaled toured.0 toured.1.cycle (tour_keeps inst toured.0 toured.1)
+-- where no leaf has a bound, the certificate gives none, and the instance has no tour
+pub no_tour : (inst tree : Fields) (costs : ℕ → ℕ → ℤ) → CertificatesBoundCycles → HasArcsOrEdges inst → 3 ≤ nodes_of inst → IsSymmetricTsp inst → IsScale (scale_in tree)
+    → Same costs (cost inst) → IsTold inst tree costs (found.Bound None) → HasNoBoundByTree inst tree × HasNoTour inst
+no_tour inst tree costs law kind some even scaled same is = (
+  (certificate_is inst tree costs None same is, bound_is inst tree costs None same is),
+  λ nodes tour. cycles_bounded inst tree costs None same is law kind some even scaled nodes tour.cycle (tour_keeps inst nodes tour),
+)

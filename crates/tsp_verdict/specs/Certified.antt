@@ -17,7 +17,7 @@ use Rattle.tsp_verdict.specs.Reasons.{IsFirstReason}
 use Rattle.tsp_verdict.specs.Solution.{tours_of}
 use Rattle.tsp_verdict.specs.Tours.{StandsAgainstTour}
 use Rattle.tsp_verdict.specs.Certificate.{StandsAgainstPotentials, IsBoundByNodes, IsBoundByDuals}
-use Rattle.tsp_verdict.specs.Tree.{StandsAgainstTree, IsBoundByTree}
+use Rattle.tsp_verdict.specs.Tree.{StandsAgainstTree, IsBoundByTree, HasNoBoundByTree}
 
 -- ---- by the certificate, and by the TYPE of the instance
 
@@ -74,6 +74,23 @@ abbrev pub FindsBound : Certificate → Fields → Fields → Result ℤ Reason 
 FindsBound by inst cert (Ok bound) =
     ((reason : Reason) → StandsAgainstCertificate by inst cert reason → ⊥) × IsCertified by inst cert bound
 FindsBound by inst cert (Err reason) = IsFirstReason (StandsAgainstCertificate by inst cert) reason
+
+-- the instance has no tour
+abbrev pub HasNoTour : Fields → Type 0
+HasNoTour inst = (tour : List ℕ) → IsTourOf inst tour → ⊥
+
+-- The certificate gives no bound: no leaf of its tree has one. Potentials and duals always give one.
+abbrev pub HasNoBound : Certificate → Fields → Fields → Type 0
+HasNoBound Potentials inst cert = ⊥
+HasNoBound Branches inst cert = HasNoBoundByTree inst cert
+
+-- What a certificate gives to which no reason applies: a bound, or none, where the instance has no tour. Or the first reason that
+-- applies.
+abbrev pub FindsBoundIfAny : Certificate → Fields → Fields → Result (Option ℤ) Reason → Type 0
+FindsBoundIfAny by inst cert (Ok (Some bound)) = FindsBound by inst cert (Ok bound)
+FindsBoundIfAny by inst cert (Ok None) =
+    ((reason : Reason) → StandsAgainstCertificate by inst cert reason → ⊥) × HasNoBound by inst cert × HasNoTour inst
+FindsBoundIfAny by inst cert (Err reason) = FindsBound by inst cert (Err reason)
 
 -- ---- the verdict
 

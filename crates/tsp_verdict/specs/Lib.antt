@@ -10,4 +10,6 @@ pub mod Tours
 pub mod Certificate
 pub mod Tree
 pub mod Certified
+pub mod Judged
+pub mod Bounded
 pub mod Examples

@@ -1,11 +1,11 @@
 -- The first of several reasons, by the order in which they are judged.
 use Rattle.std.specs.Prelude.{ℕ, ◌<◌}
 use Rattle.tsp_reason.specs.declared.verdict.Reason.{Reason}
-use Rattle.tsp_reason.specs.declared.verdict.Reason.TheVariants.{NotASolution, TooFewNodes, NotSymmetric, Dimension, TourCount, TourLength, DepotCount, DepotDemand, FixedEdgesInRoutes, DepotInRoute, NodeOutOfRange, RepeatedNode, FixedEdgeUnused, Unserved, Overload, NotPotentials, PotentialsDimension, PotentialsKind, MultiplierNotFixed, MultiplierRepeated, DualInfeasible, NotBranches, BranchesDimension, BadComb, BranchTwice, BadLeaf}
+use Rattle.tsp_reason.specs.declared.verdict.Reason.TheVariants.{NotASolution, TooFewNodes, NotSymmetric, Dimension, TourCount, TourLength, DepotCount, DepotDemand, FixedEdgesInRoutes, DepotInRoute, NodeOutOfRange, RepeatedNode, FixedEdgeUnused, Unserved, Overload, NotPotentials, PotentialsDimension, PotentialsKind, MultiplierNotFixed, MultiplierRepeated, DualInfeasible, NotBranches, BranchesDimension, BadComb, BranchTwice, BadLeaf, LengthClaimed}
 
--- The order in which reasons are judged: those against the files, the tours, their nodes and what these use or carry, then
--- those against a certificate. Which of them can apply is said where they are defined, against tours, routes, potentials and
--- trees of cases.
+-- The order in which reasons are judged: those against the files, the tours, their nodes and what these use or carry, then that
+-- of a claimed length, then those against a certificate. Which of them can apply is said where they are defined, against tours,
+-- routes, potentials and trees of cases, and where a length may be claimed.
 abbrev pub rank_of : Reason → ℕ
 rank_of NotASolution = 1
 rank_of TooFewNodes = 2
@@ -22,17 +22,18 @@ rank_of (RepeatedNode place) = 12
 rank_of (FixedEdgeUnused index) = 13
 rank_of (Unserved node) = 14
 rank_of (Overload route) = 15
-rank_of NotPotentials = 16
-rank_of PotentialsDimension = 17
-rank_of PotentialsKind = 18
-rank_of (MultiplierNotFixed index) = 19
-rank_of (MultiplierRepeated index) = 20
-rank_of (DualInfeasible i j) = 21
-rank_of NotBranches = 22
-rank_of BranchesDimension = 23
-rank_of (BadComb index) = 24
-rank_of (BranchTwice index) = 25
-rank_of (BadLeaf index) = 26
+rank_of (LengthClaimed length) = 16
+rank_of NotPotentials = 17
+rank_of PotentialsDimension = 18
+rank_of PotentialsKind = 19
+rank_of (MultiplierNotFixed index) = 20
+rank_of (MultiplierRepeated index) = 21
+rank_of (DualInfeasible i j) = 22
+rank_of NotBranches = 23
+rank_of BranchesDimension = 24
+rank_of (BadComb index) = 25
+rank_of (BranchTwice index) = 26
+rank_of (BadLeaf index) = 27
 
 -- none of the reasons applies that are judged before this rank
 abbrev pub NoneBefore : (Reason → Type 0) → ℕ → Type 0

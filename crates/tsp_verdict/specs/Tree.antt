@@ -1,5 +1,5 @@
 -- A certificate by branching: a file of branches, when a reason applies to it, and the bound that it gives.
-use Rattle.std.specs.Prelude.{◌≡◌, ◌≢◌, ℕ, ◌-◌, Bool, false, if◌then◌else◌, List, [], ◌∷◌, ◌++◌, length, map, slice_index_or, unwrap_or, Some, ℤ}
+use Rattle.std.specs.Prelude.{◌≡◌, ◌≢◌, ℕ, ◌-◌, Bool, false, if◌then◌else◌, List, [], ◌∷◌, ◌++◌, length, map, slice_index_or, unwrap_or, None, Some, ℤ}
 use Rattle.std.specs.List.{list_any}
 use Rattle.tsp_format.specs.Steps as listed
 use Rattle.tsp_draft.specs.Fields.{Fields}
@@ -75,3 +75,9 @@ abbrev pub IsBoundByTree : Fields → Fields → ℤ → Type 0
 IsBoundByTree inst tree bound = IsCertificate (nodes_of inst) (told_combs tree) (given_in inst) (tree_in inst tree)
     × IsCertificateBound (is_directed inst.kind) (nodes_of inst) (cost inst) (scale_in tree) decided_number (told_combs tree)
     (given_in inst) (tree_in inst tree) (Some bound)
+
+-- the same, where no leaf has a bound: for an ATSP, where the decisions at each of them leave some node no link
+abbrev pub HasNoBoundByTree : Fields → Fields → Type 0
+HasNoBoundByTree inst tree = IsCertificate (nodes_of inst) (told_combs tree) (given_in inst) (tree_in inst tree)
+    × IsCertificateBound (is_directed inst.kind) (nodes_of inst) (cost inst) (scale_in tree) decided_number (told_combs tree)
+    (given_in inst) (tree_in inst tree) None

@@ -1,15 +1,18 @@
 //! The verdict on a tour with a certificate of a bound.
 
-ghost use Rattle.std.specs.Prelude.{◌≡◌, ◌⊎◌, ◌≤◌, ℕ, List, IsTrue, Some, IfOk, IsOk, MatchResult};
+ghost use Rattle.std.specs.Prelude.{◌≡◌, ◌⊎◌, ◌≤◌, IsTrue, Some, IfOk, IsOk, MatchResult};
 ghost use Rattle.tsp_format.specs.declared.kinds.Kind.TheVariants as kinds;
+ghost use Rattle.tsp_draft.specs.Fields.{Fields};
+ghost use Rattle.tsp_reason.specs.declared.certificate.Certificate.{Certificate};
 ghost use Rattle.tsp_reason.specs.declared.certificate.Certificate.TheVariants as certificates;
 ghost use Rattle.tsp_verdict.specs.Solution.{nodes_of};
 ghost use Rattle.tsp_verdict.specs.Tours.{NoneOfTourBeforeRepeats};
 ghost use Rattle.tsp_verdict.specs.states.Costs.{AreTourCosts, IsSymmetricTsp};
-ghost use Rattle.tsp_cost.specs.Tours.{IsTourOf};
-ghost use Rattle.tsp_verdict.specs.Certified.{is_bounded, FindsBound, IsCertifiedVerdict};
+ghost use Rattle.tsp_verdict.specs.Certified.{is_bounded, FindsBound, FindsBoundIfAny, IsCertifiedVerdict};
+ghost use Rattle.tsp_verdict.specs.Judged.{IsVerdictWith};
 
 use crate::certificate::{bound_by_duals, bound_by_nodes};
+use crate::judged::is_other;
 use crate::tour::{TourCosts, length_of_tour};
 use crate::tree::bound_of_tree;
 use std::alloc::{AllocError, Global};
@@ -43,15 +46,38 @@ pub fn judge_certified(
         (λ verdict. IsCertifiedVerdict by instance.now solution.now certificate.now verdict)
         (λ refused. NoneOfTourBeforeRepeats instance.now solution.now) }
 {
+    judge_with_claim(alloc, by, instance, solution, certificate, None)
+}
+
+/// The verdict of [`judge_certified`], where a length may be claimed: another one than the tour's is
+/// refused before a reason against the certificate.
+pub(crate) fn judge_with_claim(
+    alloc: Global,
+    by: Certificate,
+    instance: &Instance,
+    solution: &File,
+    certificate: &File,
+    claimed: Option<i64>,
+) -> Result<Verdict, AllocError>
+    requires { IsTrue (is_bounded by instance.now.kind) }
+    ensures { MatchResult result
+        (λ verdict. IsVerdictWith (Some (by, certificate.now)) claimed instance.now solution.now verdict)
+        (λ refused. NoneOfTourBeforeRepeats instance.now solution.now) }
+{
     let (length, costs) = match length_of_tour(alloc, instance, solution)? {
         Ok(found) => found,
         Err(reason) => return Ok(Verdict::No(reason)),
     };
+    if is_other(claimed, length) {
+        return Ok(Verdict::No(Reason::LengthClaimed { length }));
+    }
     match bound_of(alloc, by, instance, costs, certificate)? {
-        Ok(bound) => Ok(Verdict::Tour {
+        Ok(Some(bound)) => Ok(Verdict::Tour {
             length,
             bound: Some(bound),
         }),
+        // The judged tour is one of the instance.
+        Ok(None) => unreachable!(),
         Err(reason) => Ok(Verdict::No(reason)),
     }
 }
@@ -120,29 +146,40 @@ pub fn is_bounded(by: Certificate, kind: Kind) -> bool
     }
 }
 
-/// The bound that a certificate gives, or the first reason against it. Of duals no memory is taken.
-fn bound_of(
+/// The bound that a certificate gives, `None` where the instance has no tour; or the first reason
+/// against it. Of duals no memory is taken.
+pub(crate) fn bound_of(
     alloc: Global,
     by: Certificate,
     instance: &Instance,
     costs: TourCosts<'_>,
     certificate: &File,
-) -> Result<Result<i128, Reason>, AllocError>
+) -> Result<Result<Option<i128>, Reason>, AllocError>
     requires some { 3 ≤ nodes_of instance.now }
     requires kind { (instance.now.kind ≡ Some kinds.Tsp) ⊎ (instance.now.kind ≡ Some kinds.Atsp) }
     requires costs { AreTourCosts instance.now costs }
     requires even { IsSymmetricTsp instance.now }
-    requires toured { (tour : List ℕ) × IsTourOf instance.now tour }
-    ensures found { IfOk result (λ found. FindsBound by instance.now certificate.now found) }
+    ensures found { IfOk result (λ found. FindsBoundIfAny by instance.now certificate.now found) }
     ensures memory { by ≡ certificates.Potentials → instance.now.kind ≡ Some kinds.Atsp → IsOk result }
 {
     match (by, costs) {
         (Certificate::Potentials, TourCosts::Undirected(view)) => {
-            bound_by_nodes(alloc, instance, view, certificate)
+            Ok(as_any(bound_by_nodes(alloc, instance, view, certificate)?))
         }
         (Certificate::Potentials, TourCosts::Directed(view)) => {
-            Ok(bound_by_duals(instance, view, certificate))
+            Ok(as_any(bound_by_duals(instance, view, certificate)))
         }
         (Certificate::Branches, _) => bound_of_tree(alloc, instance, certificate),
+    }
+}
+
+/// A bound that is always given, as one that may not be.
+fn as_any(found: Result<i128, Reason>) -> Result<Option<i128>, Reason>
+    ensures { (by : Certificate) (instance certificate : Fields)
+        → FindsBound by instance certificate found → FindsBoundIfAny by instance certificate result }
+{
+    match found {
+        Ok(bound) => Ok(Some(bound)),
+        Err(reason) => Err(reason),
     }
 }

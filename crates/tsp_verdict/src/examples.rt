@@ -1,11 +1,14 @@
 //! Small instances and solutions, on which the definitions are evaluated. No body is looked at
 //! here: a definition that is changed together with its code is refused by its examples.
 
-ghost use Rattle.std.specs.Prelude.{◌≡◌, ℕ, ◌+◌, ◌*◌, [], ◌∷◌, pos, negsuc};
+ghost use Rattle.std.specs.Prelude.{◌≡◌, ℕ, ◌+◌, ◌*◌, [], ◌∷◌, None, Some, pos, negsuc};
 ghost use Rattle.tsp_format.specs.declared.kinds.Kind.TheVariants as kinds;
 ghost use Rattle.tsp_format.specs.Steps.{Branch, Leaf};
 ghost use Rattle.tsp_branch.specs.Examples.{with_pair};
 ghost use Rattle.tsp_reason.specs.declared.verdict.Reason.TheVariants as reasons;
+ghost use Rattle.tsp_reason.specs.declared.verdict.Verdict.TheVariants as verdicts;
+ghost use Rattle.tsp_verdict.specs.Bounded.{StandsAgainstInstance};
+ghost use Rattle.tsp_verdict.specs.Judged.{IsAsClaimed, IsOtherClaimed, HasLength, HasNoLength};
 ghost use Rattle.tsp_verdict.specs.Plan.{IsPlanOf, IsLeast, plan_length, total_of};
 ghost use Rattle.tsp_verdict.specs.Tours.{StandsAgainstTour};
 ghost use Rattle.tsp_verdict.specs.Routes.{StandsAgainstRoutes};
@@ -26,13 +29,14 @@ pub fn examples_of_order()
     ensures range { Before reasons.TourLength (reasons.NodeOutOfRange 1) }
     ensures repeated { Before (reasons.NodeOutOfRange 9) (reasons.RepeatedNode 1) }
     ensures fixed { Before (reasons.RepeatedNode 9) (reasons.FixedEdgeUnused 1) }
-    ensures potentials { Before (reasons.FixedEdgeUnused 9) reasons.NotPotentials }
+    ensures claimed { Before (reasons.FixedEdgeUnused 9) (reasons.LengthClaimed (pos 1)) }
+    ensures potentials { Before (reasons.LengthClaimed (pos 9)) reasons.NotPotentials }
     ensures their_dimension { Before reasons.NotPotentials reasons.PotentialsDimension }
     ensures their_kind { Before reasons.PotentialsDimension reasons.PotentialsKind }
     ensures not_fixed { Before reasons.PotentialsKind (reasons.MultiplierNotFixed 1) }
     ensures multiplied_twice { Before (reasons.MultiplierNotFixed 9) (reasons.MultiplierRepeated 1) }
     ensures duals { Before (reasons.MultiplierRepeated 9) (reasons.DualInfeasible 1 2) }
-    ensures branches { Before (reasons.FixedEdgeUnused 9) reasons.NotBranches }
+    ensures branches { Before (reasons.LengthClaimed (pos 9)) reasons.NotBranches }
     ensures number_of_nodes { Before reasons.NotBranches reasons.BranchesDimension }
     ensures combs { Before reasons.BranchesDimension (reasons.BadComb 1) }
     ensures decided_twice { Before (reasons.BadComb 9) (reasons.BranchTwice 1) }
@@ -51,6 +55,31 @@ pub fn examples_of_order_of_routes()
     ensures repeated { Before (reasons.NodeOutOfRange 9) (reasons.RepeatedNode 1) }
     ensures unserved { Before (reasons.RepeatedNode 9) (reasons.Unserved 2) }
     ensures overload { Before (reasons.Unserved 9) (reasons.Overload 1) }
+    ensures claimed { Before (reasons.Overload 9) (reasons.LengthClaimed (pos 1)) }
+{}
+
+/// When the two reasons against an instance apply, whatever the tour.
+pub fn examples_against_instances()
+    ensures two_nodes { StandsAgainstInstance (nodes kinds.Atsp 2 []) reasons.TooFewNodes }
+    ensures three_nodes { ¬ StandsAgainstInstance (nodes kinds.Atsp 3 []) reasons.TooFewNodes }
+    ensures no_solution { ¬ StandsAgainstInstance (nodes kinds.Tsp 4 []) reasons.NotASolution }
+    ensures directed { ¬ StandsAgainstInstance (nodes kinds.Atsp 4 []) (reasons.NotSymmetric 1 2) }
+{}
+
+/// Which length is claimed, and of which verdict.
+pub fn examples_of_claims()
+    ensures none { IsAsClaimed None (pos 14) }
+    ensures same { IsAsClaimed (Some (pos 14)) (pos 14) }
+    ensures another { ¬ IsAsClaimed (Some (pos 13)) (pos 14) }
+    ensures none_is_no_other { ¬ IsOtherClaimed None (pos 14) }
+    ensures same_is_no_other { ¬ IsOtherClaimed (Some (pos 14)) (pos 14) }
+    ensures other { IsOtherClaimed (Some (negsuc 33)) (pos 34) }
+    ensures tour { HasLength (verdicts.Tour (pos 14) (Some (pos 10))) (pos 14) }
+    ensures not_its_bound { ¬ HasLength (verdicts.Tour (pos 14) (Some (pos 10))) (pos 10) }
+    ensures routes { HasLength (verdicts.Routes (pos 20) 3 2) (pos 20) }
+    ensures no { ¬ HasLength (verdicts.No reasons.TourCount) (pos 0) }
+    ensures no_length { HasNoLength (verdicts.No reasons.TourCount) }
+    ensures a_length { ¬ HasNoLength (verdicts.Tour (pos 14) None) }
 {}
 
 /// When the reasons against a tour apply.

@@ -8,12 +8,14 @@
 //! ```
 #![tactic(auto)]
 
+mod bounded;
 mod certificate;
 mod certified;
 mod decided;
 mod examples;
 mod files;
 mod fixed;
+mod judged;
 mod lengths;
 mod loads;
 mod multiplied;
@@ -24,11 +26,14 @@ mod tour;
 mod tree;
 mod visits;
 
+pub use bounded::judge_bound;
 pub use certified::{is_bounded, judge_certified, judge_tour_bound, judge_tour_branches};
 pub use examples::{
-    examples_against_certificates, examples_against_routes, examples_against_tours,
-    examples_against_trees, examples_of_order, examples_of_order_of_routes, examples_of_plans,
+    examples_against_certificates, examples_against_instances, examples_against_routes,
+    examples_against_tours, examples_against_trees, examples_of_claims, examples_of_order,
+    examples_of_order_of_routes, examples_of_plans,
 };
+pub use judged::judge;
 pub use routes::judge_routes;
 pub use tour::judge_tour;
 pub use tsp_reason::{Certificate, Reason, Verdict};

@@ -22,7 +22,7 @@ use tsp_format::Kind;
 use tsp_reason::{Reason, Verdict};
 
 /// The fewest nodes of an instance whose tours are judged.
-const FEWEST_NODES: u32 = 3;
+pub(crate) const FEWEST_NODES: u32 = 3;
 
 /// The verdict on a solution of an instance of TYPE TSP or ATSP: rejected with the first reason
 /// against it, or accepted, where the solution is one tour of the instance, with its length.
@@ -141,7 +141,7 @@ fn first_against_files<'a>(inst: &'a Instance, sol: &File) -> Result<TourCosts<'
 }
 
 /// The costs of an instance, or under TYPE TSP the first pair of nodes whose two costs differ.
-fn tour_costs(inst: &Instance) -> Result<TourCosts<'_>, (u32, u32)>
+pub(crate) fn tour_costs(inst: &Instance) -> Result<TourCosts<'_>, (u32, u32)>
     requires { (inst.now.kind ≡ Some kinds.Tsp) ⊎ (inst.now.kind ≡ Some kinds.Atsp) }
     ensures { MatchResult result
         (λ costs. AreTourCosts inst.now costs)

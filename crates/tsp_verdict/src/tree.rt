@@ -1,19 +1,18 @@
 //! The bound that a tree of cases gives, or the first reason against it.
 
-ghost use Rattle.std.specs.Prelude.{◌≡◌, ◌⊎◌, ◌≤◌, ℕ, List, true, Some, IfOk, MatchResult};
+ghost use Rattle.std.specs.Prelude.{◌≡◌, ◌⊎◌, ◌≤◌, true, Some, IfOk, MatchResult};
 ghost use Rattle.tsp_format.specs.declared.kinds.Kind.TheVariants as kinds;
 ghost use Rattle.tsp_format.specs.Steps.{steps_of};
 ghost use Rattle.tsp_draft.specs.Fields.{combs_of};
 ghost use Rattle.tsp_draft.specs.Rules.{is_tree};
 ghost use Rattle.tsp_file.specs.Typed.{HoldsCases};
-ghost use Rattle.tsp_cost.specs.Tours.{IsTourOf};
 ghost use Rattle.tsp_cost.specs.Views.{HasCosts};
 ghost use Rattle.tsp_verdict.specs.Reasons.{IsFirstReason};
 ghost use Rattle.tsp_verdict.specs.Solution.{nodes_of};
 ghost use Rattle.tsp_verdict.specs.states.Costs.{IsSymmetricTsp};
 ghost use Rattle.tsp_verdict.specs.Tree.{StandsAgainstTree};
 ghost use Rattle.tsp_reason.specs.declared.certificate.Certificate.TheVariants as certificates;
-ghost use Rattle.tsp_verdict.specs.Certified.{FindsBound};
+ghost use Rattle.tsp_verdict.specs.Certified.{FindsBoundIfAny};
 
 use crate::decided::taken_once;
 use crate::files::fixed_pairs;
@@ -28,8 +27,8 @@ use tsp_reason::Reason;
 /// The most nodes of which distances are kept for each pair, in 32 MB.
 const MOST_TABLED: u32 = 2_000;
 
-/// The bound that a certificate by branching gives an instance of TYPE TSP or ATSP that has a tour,
-/// or the first reason against it.
+/// The bound that a certificate by branching gives an instance of TYPE TSP or ATSP, `None` where the
+/// instance has no tour; or the first reason against it.
 ///
 /// # Errors
 ///
@@ -38,12 +37,11 @@ pub(crate) fn bound_of_tree(
     alloc: Global,
     instance: &Instance,
     branches: &File,
-) -> Result<Result<i128, Reason>, AllocError>
+) -> Result<Result<Option<i128>, Reason>, AllocError>
     requires kind { (instance.now.kind ≡ Some kinds.Tsp) ⊎ (instance.now.kind ≡ Some kinds.Atsp) }
     requires some { 3 ≤ nodes_of instance.now }
     requires even { IsSymmetricTsp instance.now }
-    requires toured { (tour : List ℕ) × IsTourOf instance.now tour }
-    ensures { IfOk result (λ found. FindsBound certificates.Branches instance.now branches.now found) }
+    ensures { IfOk result (λ found. FindsBoundIfAny certificates.Branches instance.now branches.now found) }
 {
     let tree = match tree_of(instance, branches) {
         Ok(tree) => tree,
@@ -86,16 +84,15 @@ fn judge_distances<C: Costs>(
     branches: &File,
     tree: &TreeData<'_>,
     costs: &C,
-) -> Result<Result<i128, Reason>, AllocError>
+) -> Result<Result<Option<i128>, Reason>, AllocError>
     requires keeps { HasCosts instance.now (C.nodes costs.now) (C.at costs.now) }
     requires kind { (instance.now.kind ≡ Some kinds.Tsp) ⊎ (instance.now.kind ≡ Some kinds.Atsp) }
     requires some { 3 ≤ nodes_of instance.now }
     requires even { IsSymmetricTsp instance.now }
-    requires toured { (tour : List ℕ) × IsTourOf instance.now tour }
     requires sort { is_tree branches.now.kind ≡ true }
     requires count { nodes_of branches.now ≡ nodes_of instance.now }
     requires held { HoldsCases branches.now tree.now.scale (combs_of tree.now.combs.now) (steps_of tree.now.steps.now) }
-    ensures { IfOk result (λ found. FindsBound certificates.Branches instance.now branches.now found) }
+    ensures { IfOk result (λ found. FindsBoundIfAny certificates.Branches instance.now branches.now found) }
 {
     if costs.count() > MOST_TABLED || tree.steps.len() == 1 {
         return judge_tree(alloc, instance, branches, tree, costs);
@@ -118,16 +115,15 @@ fn judge_tree<C: Costs>(
     branches: &File,
     tree: &TreeData<'_>,
     costs: &C,
-) -> Result<Result<i128, Reason>, AllocError>
+) -> Result<Result<Option<i128>, Reason>, AllocError>
     requires keeps { HasCosts instance.now (C.nodes costs.now) (C.at costs.now) }
     requires kind { (instance.now.kind ≡ Some kinds.Tsp) ⊎ (instance.now.kind ≡ Some kinds.Atsp) }
     requires some { 3 ≤ nodes_of instance.now }
     requires even { IsSymmetricTsp instance.now }
-    requires toured { (tour : List ℕ) × IsTourOf instance.now tour }
     requires sort { is_tree branches.now.kind ≡ true }
     requires count { nodes_of branches.now ≡ nodes_of instance.now }
     requires held { HoldsCases branches.now tree.now.scale (combs_of tree.now.combs.now) (steps_of tree.now.steps.now) }
-    ensures { IfOk result (λ found. FindsBound certificates.Branches instance.now branches.now found) }
+    ensures { IfOk result (λ found. FindsBoundIfAny certificates.Branches instance.now branches.now found) }
 {
     certificates_bound_cycles();
     let directed = is_directed(instance.kind());
@@ -137,9 +133,8 @@ fn judge_tree<C: Costs>(
     match judge_branches(
         alloc, costs, directed, tree.scale, count, &sets, &given, tree.steps,
     )? {
-        BranchVerdict::Bound(Some(bound)) => Ok(Ok(bound)),
-        // The judged tour keeps what is given, so some leaf has a bound.
-        BranchVerdict::Bound(None) => unreachable!(),
+        BranchVerdict::Bound(Some(bound)) => Ok(Ok(Some(bound))),
+        BranchVerdict::Bound(None) => Ok(Ok(None)),
         BranchVerdict::BadComb(index) => Ok(Err(Reason::BadComb {
             index: index as u32,
         })),

@@ -1,9 +1,10 @@
 use Rattle.std.proofs.Common.{◌≡◌, ◌∙◌, sym, ap, subst, List, map, [], Some, option_map}
-use Rattle.clap.specs.Words.{App, Row, Text, fault_of, found_of, is_simple, rows_of, subcommand_of, subcommand_rows_of}
+use Rattle.clap.specs.Words.{App, HasKind, Row, Text, fault_of, found_of, is_simple, rows_of, subcommand_of, subcommand_rows_of}
 use Rattle.clap.specs.Faults.{is_simple_and_free}
 use Rattle.clap.specs.declared.parser.matches.ArgMatches.TheViews.{out-ArgMatches}
 use Rattle.tsp_cli.specs.Grammar.{tsp}
 use Rattle.tsp_cli.specs.Words.{IsJobOf, word_of}
+use Rattle.tsp_cli.proofs.Refusals.{refused}
 use Rattle.tsp_cli.proofs.Subcommands.{both, named, verb_found}
 use Rattle.tsp_cli.proofs.words.job_of.Goals as goal
 
@@ -25,3 +26,10 @@ returns-in-Ok-job_with c =
     let job = c.in-Ok-job_with.job in
     let told = ap (option_map word_of) c.in-Ok-job_with.ensures.verb ∙ verb_found name c.of_word.result verb.0 verb.1 c.of_word.ensures in
     (clean, subst (λ o. IsJobOf o job) (sym entered) (told, c.in-Ok-job_with.ensures.values))
+
+pub returns-in-Err : goal.returns-in-Err
+returns-in-Err c =
+    let words : List Text = map (λ word. word.now) c.args.words.now in
+    let made = c.in-Ok.ensures.0 in
+    let fails = c.in-Err.ensures.kinds (ap is_simple_and_free made) in
+    refused words c.in-Err.refusal c.of.result c.of.ensures (subst (λ (a : App). HasKind (fault_of a words) c.in-Err.refusal) made fails)

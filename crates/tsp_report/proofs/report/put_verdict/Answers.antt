@@ -6,7 +6,7 @@ use Rattle.std.proofs.lemmas.Int.{to_z-of_z}
 use Rattle.tsp_stream.specs.Way.{way_of}
 use Rattle.tsp_stream.proofs.Carrying.{carried_then}
 use Rattle.tsp_report.proofs.Texts.{then_named}
-use Rattle.tsp_report.specs.Report.{bound_lines, reason_text}
+use Rattle.tsp_report.specs.Report.{bound_lines}
 use Rattle.tsp_report.proofs.report.put_verdict.Goals as goal
 
 pub returns-in-Tour : goal.returns-in-Tour
@@ -42,11 +42,4 @@ returns-in-Routes g c =
     c.put-in-Routes.ensures)
 
 pub returns-in-No : goal.returns-in-No
-returns-in-No g c =
-    let start = way_of g.W.Write.contents c.args.out.now c.args.piece.now.items in
-    let begun = way_of g.W.Write.contents c.put-in-No.new.out c.put-in-No.new.piece.items in
-    let after_reason = way_of g.W.Write.contents c.put_reason.new.out c.put_reason.new.piece.items in
-    let last = way_of g.W.Write.contents c.put-in-No-2.new.out c.put-in-No-2.new.piece.items in
-    let text = reason_text c.in-No.reason in
-    rw c.in-No.is (carried_then start after_reason last (codes "no " ++ text) (codes "\n")
-    (carried_then start begun after_reason (codes "no ") text c.put-in-No.ensures c.put_reason.ensures) c.put-in-No-2.ensures)
+returns-in-No g c = rw c.in-No.is c.put_no.ensures

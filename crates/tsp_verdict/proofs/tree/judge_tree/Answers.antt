@@ -20,7 +20,7 @@ use Rattle.tsp_verdict.proofs.FilesHold.{steps_hold, steps_few}
 use Rattle.tsp_verdict.proofs.HeldNumbers.{steps_are}
 use Rattle.tsp_verdict.proofs.GivenPairs.{given_once, given_are, given_few}
 use Rattle.tsp_verdict.proofs.NumberedSets.{sets_of_nodes, sets_of_combs, sets_in_order, sets_few}
-use Rattle.tsp_verdict.proofs.TreeReasons.{directed_is, even_view, some_bound, are_of, told, twice_within, bad_within, comb_first, twice_first, leaf_first, none_stands, certified}
+use Rattle.tsp_verdict.proofs.TreeReasons.{directed_is, even_view, no_tour, are_of, told, twice_within, bad_within, comb_first, twice_first, leaf_first, none_stands, certified}
 use Rattle.tsp_verdict.proofs.tree.judge_tree.Goals as goal
 
 pub judge_branches-requires-clause-few_sets : goal.judge_branches-requires-clause-few_sets
@@ -97,8 +97,8 @@ returns-in-Bound-Some g c =
           (subst IsSizedVerdict whole c.in_ok-bound.ensures.size) all_told,
     )
 
-pub unreachable-requires : goal.unreachable-requires
-unreachable-requires g c =
+pub returns-in-Bound-None : goal.returns-in-Bound-None
+returns-in-Bound-None g c =
     let whole = c.in-Bound-None.is ∙ ap (λ (o : Option ℤ). found.Bound o) c.in-Bound-None.field-0-is in
     let inst = c.args.instance.now in
     let tree = c.args.branches.now in
@@ -114,8 +114,9 @@ unreachable-requires g c =
     (ap plain c.deref.ensures.value ∙ c.in_ok-sets.ensures) c.fixed_pairs.ensures.value (ap case_of c.deref-2.ensures.value ∙ c.in_ok-given.ensures) (steps_are tree _ _ _ c.requires.held) in
     let is = subst (IsBranchVerdict c.is_directed-directed.result n costs (to_z w64 (of_z w64 c.args.tree.now.scale)) (length combs) sets given steps) whole c.in_ok-bound.ensures.verdict in
     let all_told = told inst tree c.is_directed-directed.result n costs _ (length combs) sets given steps (found.Bound None) are is in
-    some_bound inst tree costs c.certificates_bound_cycles.ensures.cycles c.requires.kind c.requires.some c.requires.even
-    (subst IsScale c.requires.held.scale_is c.requires.held.scaled) c.requires.keeps.every c.requires.toured all_told
+    let gone = no_tour inst tree costs c.certificates_bound_cycles.ensures.cycles c.requires.kind c.requires.some c.requires.even
+    (subst IsScale c.requires.held.scale_is c.requires.held.scaled) c.requires.keeps.every all_told in
+    (none_stands inst tree costs None c.requires.sort c.requires.count all_told, gone.0, gone.1)
 
 pub returns-in-BadComb : goal.returns-in-BadComb
 returns-in-BadComb g c =

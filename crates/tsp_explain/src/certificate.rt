@@ -1,0 +1,147 @@
+//! What a certificate shows of a reason against it.
+
+use crate::refusal::{push_dimensions, push_type, say};
+use crate::solution::count_at_place;
+use crate::text::{begin, end, push, push_lines};
+use std::alloc::AllocError;
+use tsp_file::File;
+use tsp_format::{Kind, TreeStep, Word};
+use tsp_reason::Reason;
+
+/// Appends what a certificate shows of a reason.
+pub(crate) fn push_certificate(
+    text: &mut Vec<u8>,
+    reason: Reason,
+    instance: &File,
+    certificate: &File,
+) -> Result<(), AllocError> {
+    match reason {
+        Reason::NotPotentials | Reason::NotBranches => push_kind(text, certificate),
+        Reason::PotentialsDimension => {
+            push_dimensions(text, instance, "potentials ", certificate)
+        }
+        Reason::BranchesDimension => {
+            push_dimensions(text, instance, "tree of cases ", certificate)
+        }
+        Reason::PotentialsKind => push_sections(text, instance, certificate),
+        Reason::MultiplierNotFixed { index } | Reason::MultiplierRepeated { index } => {
+            push_triple(text, index, certificate)
+        }
+        Reason::DualInfeasible { i, j } => push_sum(text, i, j, certificate),
+        Reason::BadComb { index } => push_comb(text, index, certificate),
+        Reason::BranchTwice { index } => push_branch(text, index, certificate),
+        _ => Ok(()),
+    }
+}
+
+/// Appends the TYPE of a certificate that isn't of the right one, and the option that takes it.
+fn push_kind(text: &mut Vec<u8>, certificate: &File) -> Result<(), AllocError> {
+    match certificate.kind() {
+        Kind::Potentials => push_lines(text, "It is of TYPE POTENTIALS: use --potentials."),
+        Kind::Branches => push_lines(text, "It is of TYPE BRANCHES: use --branches."),
+        _ => push_type(text, certificate),
+    }
+}
+
+/// Appends the TYPE of the instance, and which potentials a file has.
+fn push_sections(
+    text: &mut Vec<u8>,
+    instance: &File,
+    certificate: &File,
+) -> Result<(), AllocError> {
+    begin(text)?;
+    push(text, "The instance is of TYPE ")?;
+    push(text, instance.kind().word())?;
+    match certificate.node_potentials() {
+        Some(_) => push(text, ", and the potentials are those of nodes.")?,
+        None => push(text, ", and the potentials are those of rows and columns.")?,
+    }
+    end(text)
+}
+
+/// Appends a pair with a multiplier, counted from 1.
+fn push_triple(text: &mut Vec<u8>, index: u32, certificate: &File) -> Result<(), AllocError> {
+    let triples = certificate.fixed_potentials().unwrap_or(&[]);
+    match count_at_place(triples, index) {
+        None => Ok(()),
+        Some((from, to, _)) => say(
+            text,
+            &[
+                ("Multiplier ", i64::from(index)),
+                (" is on ", i64::from(from)),
+                (" and ", i64::from(to)),
+            ],
+        ),
+    }
+}
+
+/// Appends the potentials of a row and of a column, and the scale.
+fn push_sum(text: &mut Vec<u8>, i: u32, j: u32, certificate: &File) -> Result<(), AllocError> {
+    let row = count_at_place(certificate.row_potentials().unwrap_or(&[]), i);
+    let column = count_at_place(certificate.column_potentials().unwrap_or(&[]), j);
+    match (row, column) {
+        (Some(row), Some(column)) => say(
+            text,
+            &[
+                ("The potential of row ", i64::from(i)),
+                (" is ", row),
+                (", that of column ", i64::from(j)),
+                (" is ", column),
+                (", and SCALE is ", certificate.scale().unwrap_or(1)),
+            ],
+        ),
+        _ => Ok(()),
+    }
+}
+
+/// Appends how many teeth a family of sets has.
+fn push_comb(text: &mut Vec<u8>, index: u32, certificate: &File) -> Result<(), AllocError> {
+    let combs = certificate.combs().unwrap_or(&[]);
+    let Some(place) = (index as usize).checked_sub(1) else {
+        return Ok(());
+    };
+    match combs.get(place) {
+        None => Ok(()),
+        Some(sets) => say(
+            text,
+            &[
+                ("The number of teeth of family ", i64::from(index)),
+                (" is ", teeth_of(sets)),
+            ],
+        ),
+    }
+}
+
+/// How many sets of a comb are teeth.
+fn teeth_of(sets: &[Vec<u32>]) -> i64 {
+    i64::try_from(sets.len().saturating_sub(1)).unwrap_or(i64::MAX)
+}
+
+/// Appends the pair of a branch, counted from 1.
+fn push_branch(text: &mut Vec<u8>, index: u32, certificate: &File) -> Result<(), AllocError> {
+    match branch_at(certificate.branches().unwrap_or(&[]), index) {
+        None => Ok(()),
+        Some((from, to)) => say(
+            text,
+            &[
+                ("Branch ", i64::from(index)),
+                (" is on ", i64::from(from)),
+                (" and ", i64::from(to)),
+            ],
+        ),
+    }
+}
+
+/// The pair of the branch with this number, counted from 1.
+fn branch_at(steps: &[TreeStep], index: u32) -> Option<(u32, u32)> {
+    let mut count = 0u32;
+    'steps: for step in steps {
+        if let TreeStep::Branch(from, to) = step {
+            count = count.saturating_add(1);
+            if count == index {
+                return Some((*from, *to));
+            }
+        }
+    }
+    None
+}

@@ -1,0 +1,54 @@
+//! What a file is given for.
+
+ghost use Rattle.std.specs.Prelude.{◌≡◌};
+ghost use Rattle.tsp_explain.specs.Roles.{role_of};
+
+use tsp_reason::Reason;
+
+/// What a file of a check is given for.
+#[derive(Clone, Copy, Debug, PartialEq, Eq)]
+pub enum Role {
+    /// The instance.
+    Instance,
+    /// The solution.
+    Solution,
+    /// The potentials, which certify a bound.
+    Potentials,
+    /// The tree of cases, which certifies a bound.
+    Branches,
+}
+
+/// The file that a reason is about.
+pub fn blamed(reason: Reason) -> Role
+    ensures { result ≡ role_of reason }
+{
+    match reason {
+        Reason::TooFewNodes
+        | Reason::NotSymmetric { .. }
+        | Reason::DepotCount
+        | Reason::DepotDemand
+        | Reason::FixedEdgesInRoutes => Role::Instance,
+        Reason::NotASolution
+        | Reason::Dimension
+        | Reason::TourCount
+        | Reason::TourLength
+        | Reason::NodeOutOfRange { .. }
+        | Reason::RepeatedNode { .. }
+        | Reason::FixedEdgeUnused { .. }
+        | Reason::DepotInRoute { .. }
+        | Reason::Unserved { .. }
+        | Reason::Overload { .. }
+        | Reason::LengthClaimed { .. } => Role::Solution,
+        Reason::NotPotentials
+        | Reason::PotentialsDimension
+        | Reason::PotentialsKind
+        | Reason::MultiplierNotFixed { .. }
+        | Reason::MultiplierRepeated { .. }
+        | Reason::DualInfeasible { .. } => Role::Potentials,
+        Reason::NotBranches
+        | Reason::BranchesDimension
+        | Reason::BadComb { .. }
+        | Reason::BranchTwice { .. }
+        | Reason::BadLeaf { .. } => Role::Branches,
+    }
+}

@@ -1,0 +1,138 @@
+-- A run, put together from its parts.
+use Rattle.std.specs.Prelude.{ℤ, pos, negsuc, ◌⊎◌, ◌≤◌, ◌^◌, unsigned_abs, IsTrue}
+use Rattle.std.proofs.Common.{◌≡◌, ℕ, [], length, Bool, true, false, Option, Some, None, Result, Ok, Err, refl, sym, subst, inl, inr, arith}
+use Rattle.std.proofs.lemmas.Int.{ints}
+use Rattle.std.proofs.lemmas.Bool.{false≢true}
+use Rattle.tsp_format.specs.declared.kinds.Kind.{Kind}
+use Rattle.tsp_format.specs.declared.kinds.Kind.TheVariants as kinds
+use Rattle.tsp_stream.specs.Turn.{Turn, IsUnread}
+use Rattle.tsp_stream.specs.Sink.{Sink, IsUnwritten}
+use Rattle.tsp_draft.specs.Fields.{Fields}
+use Rattle.tsp_draft.specs.Rules.{is_instance}
+use Rattle.tsp_read.specs.Reads.{IsFile, most_taken}
+use Rattle.tsp_theory.specs.Numbers.{IsBoundSized as IsSmall}
+use Rattle.tsp_reason.specs.declared.certificate.Certificate.{Certificate}
+use Rattle.tsp_reason.specs.declared.verdict.Verdict.{Verdict}
+use Rattle.tsp_reason.specs.declared.verdict.Verdict.TheVariants as verdicts
+use Rattle.tsp_verdict.specs.Certified.{is_bounded, IsCertifiedVerdict}
+use Rattle.tsp_verdict.specs.Judged.{is_judged, IsVerdictBy, IsVerdictOn, IsUnclaimedVerdict, IsVerdictWith}
+use Rattle.tsp_judge.specs.declared.fault.RunFault.{RunFault}
+use Rattle.tsp_judge.specs.declared.fault.RunFault.TheVariants.{File, WrongKind, Write, OutOfMemory, Relayout}
+use Rattle.tsp_report.specs.Report.{IsBoundSized, IsSized}
+use Rattle.tsp_judge.specs.Run.{ReadsFile, Given, given_by, IsUnreadIn, IsFileIn, ReadsGiven, AreRead, JudgesFiles, EndsWithout}
+
+pub none_taken : length {A = ℕ} [] ≤ most_taken
+none_taken = omega arith
+
+-- ---- a bound that fits
+
+few : (z : ℤ) → IsSmall z → unsigned_abs z ≤ 2 ^ 126
+few (pos n) small = omega (arith, ints, small.0, small.1)
+few (negsuc n) small = omega (arith, ints, small.0, small.1)
+
+no_bound : (bound : Option ℤ) → bound ≡ None → IsBoundSized bound
+no_bound None e = tt
+no_bound (Some b) e = absurd cc
+
+sized_by : (kind : Option Kind) (instance solution : Fields) (verdict : Verdict) → IsVerdictBy kind instance solution verdict → IsSized verdict
+sized_by (Some kinds.Tsp) instance solution (verdicts.Tour length bound) v = no_bound bound v.2
+sized_by (Some kinds.Tsp) instance solution (verdicts.Routes length routes least) v = tt
+sized_by (Some kinds.Tsp) instance solution (verdicts.No reason) v = tt
+sized_by (Some kinds.Atsp) instance solution (verdicts.Tour length bound) v = no_bound bound v.2
+sized_by (Some kinds.Atsp) instance solution (verdicts.Routes length routes least) v = tt
+sized_by (Some kinds.Atsp) instance solution (verdicts.No reason) v = tt
+sized_by (Some kinds.Cvrp) instance solution (verdicts.Tour length bound) v = absurd v
+sized_by (Some kinds.Cvrp) instance solution (verdicts.Routes length routes least) v = tt
+sized_by (Some kinds.Cvrp) instance solution (verdicts.No reason) v = tt
+sized_by (Some kinds.Tour) instance solution verdict v = absurd v
+sized_by (Some kinds.Potentials) instance solution verdict v = absurd v
+sized_by (Some kinds.Branches) instance solution verdict v = absurd v
+sized_by None instance solution verdict v = absurd v
+
+certified : (by : Certificate) (instance solution certificate : Fields) (verdict : Verdict) → IsCertifiedVerdict by instance solution certificate verdict → IsSized verdict
+certified by instance solution certificate (verdicts.Tour length bound) v = subst IsBoundSized (sym v.1.bound_is) (few v.1.least v.1.sized)
+certified by instance solution certificate (verdicts.Routes length routes least) v = tt
+certified by instance solution certificate (verdicts.No reason) v = tt
+
+unclaimed : (certificate : Option (Certificate × Fields)) (instance solution : Fields) (verdict : Verdict) → IsUnclaimedVerdict certificate instance solution verdict → IsSized verdict
+unclaimed None instance solution verdict v = sized_by instance.kind instance solution verdict v
+unclaimed (Some given) instance solution verdict v = certified given.0 instance solution given.1 verdict v
+
+pub sized : (certificate : Option (Certificate × Fields)) (claimed : Option ℤ) (instance solution : Fields) (verdict : Verdict)
+    → IsVerdictWith certificate claimed instance solution verdict → IsSized verdict
+sized certificate None instance solution verdict v = unclaimed certificate instance solution verdict v
+sized certificate (Some claim) instance solution (verdicts.Tour length bound) v = unclaimed certificate instance solution (verdicts.Tour length bound) v.0
+sized certificate (Some claim) instance solution (verdicts.Routes length routes least) v = tt
+sized certificate (Some claim) instance solution (verdicts.No reason) v = tt
+
+-- ---- the TYPE
+
+bounded_none : (by : Certificate) (kind : Option Kind) → is_instance kind ≡ false → is_bounded by kind ≡ false
+bounded_none by (Some kinds.Tsp) none = absurd (false≢true (sym none))
+bounded_none by (Some kinds.Atsp) none = absurd (false≢true (sym none))
+bounded_none by (Some kinds.Cvrp) none = refl
+bounded_none by (Some kinds.Tour) none = refl
+bounded_none by (Some kinds.Potentials) none = refl
+bounded_none by (Some kinds.Branches) none = refl
+bounded_none by None none = refl
+
+pub none_bounded : (by : Certificate) (kind : Option Kind) → is_instance kind ≡ false → is_bounded by kind ≡ false
+none_bounded by kind none = bounded_none by kind none
+
+pub none_judged : (certificate : Option (Certificate × Fields)) (kind : Option Kind) → is_instance kind ≡ false → is_judged certificate kind ≡ false
+none_judged None kind none = none
+none_judged (Some given) kind none = none_bounded given.0 kind none
+
+-- ---- the files
+
+pub first_stops : (given : Given) (claimed : Option ℤ) (first second : Turn) (sink : Sink) (fault : RunFault) → ReadsFile 1 first (Err fault) → IsUnread second → IsUnreadIn given
+    → IsUnwritten sink → EndsWithout given claimed first second sink fault
+first_stops given claimed first second sink (File place fault) stops two three unwritten = (unwritten, inl (stops.0, stops.1, two, three))
+first_stops given claimed first second sink WrongKind stops two three unwritten = absurd stops
+first_stops given claimed first second sink (Write fault) stops two three unwritten = absurd stops
+first_stops given claimed first second sink OutOfMemory stops two three unwritten = absurd stops
+first_stops given claimed first second sink (Relayout fault) stops two three unwritten = absurd stops
+
+pub second_stops : (given : Given) (claimed : Option ℤ) (first second : Turn) (instance : Fields) (sink : Sink) (fault : RunFault) → IsFile first instance
+    → ReadsFile 2 second (Err fault) → IsUnreadIn given → IsUnwritten sink → EndsWithout given claimed first second sink fault
+second_stops given claimed first second instance sink (File place fault) one stops three unwritten =
+    (unwritten, inr (inl (stops.0, (instance, one), stops.1, three)))
+second_stops given claimed first second instance sink WrongKind one stops three unwritten = absurd stops
+second_stops given claimed first second instance sink (Write fault) one stops three unwritten = absurd stops
+second_stops given claimed first second instance sink OutOfMemory one stops three unwritten = absurd stops
+second_stops given claimed first second instance sink (Relayout fault) one stops three unwritten = absurd stops
+
+pub third_stops : (given : Given) (claimed : Option ℤ) (first second : Turn) (instance solution : Fields) (sink : Sink) (fault : RunFault) → IsFile first instance
+    → IsFile second solution → ReadsGiven given (Err fault) → IsUnwritten sink → EndsWithout given claimed first second sink fault
+third_stops None claimed first second instance solution sink fault one two stops unwritten = absurd stops
+third_stops (Some third) claimed first second instance solution sink (File place fault) one two stops unwritten =
+    (unwritten, inr (inr (third, refl, stops.0, (instance, one), (solution, two), stops.1)))
+third_stops (Some third) claimed first second instance solution sink WrongKind one two stops unwritten = absurd stops
+third_stops (Some third) claimed first second instance solution sink (Write fault) one two stops unwritten = absurd stops
+third_stops (Some third) claimed first second instance solution sink OutOfMemory one two stops unwritten = absurd stops
+third_stops (Some third) claimed first second instance solution sink (Relayout fault) one two stops unwritten = absurd stops
+
+-- ---- files that were read
+
+pub are_read : (given : Given) (first second : Turn) (instance solution : Fields) (certificate : Option (Certificate × Fields)) → IsFile first instance → IsFile second solution
+    → IsFileIn given certificate → AreRead given first second instance solution certificate
+are_read given first second instance solution certificate one two three = record { first_file = one; second_file = two; third_file = three }
+
+-- a run of which no verdict comes
+pub ends_without : (given : Given) (claimed : Option ℤ) (first second : Turn) (instance solution : Fields) (certificate : Option (Certificate × Fields)) (sink : Sink) (fault : RunFault)
+    → AreRead given first second instance solution certificate → JudgesFiles certificate claimed instance solution sink (Err fault)
+    → EndsWithout given claimed first second sink fault
+ends_without given claimed first second instance solution certificate sink (File place fault) read judges = absurd judges
+ends_without given claimed first second instance solution certificate sink WrongKind read judges = (instance, solution, certificate, read, judges)
+ends_without given claimed first second instance solution certificate sink (Write fault) read judges = (instance, solution, certificate, read, judges)
+ends_without given claimed first second instance solution certificate sink OutOfMemory read judges = (instance, solution, certificate, read, judges)
+ends_without given claimed first second instance solution certificate sink (Relayout fault) read judges = (instance, solution, certificate, read, judges)
+
+-- ---- the third reader
+
+pub unread_in : (by : Option Certificate) (third : Turn) → IsUnread third → IsUnreadIn (given_by by third)
+unread_in None third unread = tt
+unread_in (Some by) third unread = unread
+
+pub not_none : {A : Type 0} {x : A} {P : Type 0} → Some x ≡ None → P
+not_none e = absurd cc

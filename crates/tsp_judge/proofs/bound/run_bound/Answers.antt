@@ -1,0 +1,44 @@
+use Rattle.std.proofs.Common.{◌≡◌, Err, [], refl}
+use Rattle.std.proofs.KnownBytes.{Keeps-refl}
+use Rattle.tsp_stream.specs.Turn.{turn_of}
+use Rattle.tsp_judge.proofs.HandedOn.{handed_on}
+use Rattle.tsp_judge.proofs.Runs.{none_taken}
+use Rattle.tsp_judge.proofs.Bounding.{bound_first_stops, bound_second_stops, bound_run_of, bound_fault_of}
+use Rattle.tsp_judge.proofs.bound.run_bound.Goals as goal
+
+pub returns-in_err-instance : goal.returns-in_err-instance
+returns-in_err-instance g c =
+    let same : c.from_residual.result ≡ Err c.in_err-instance.field-0.0 = handed_on _ _ c.from_residual.ensures.1 in
+    let one = c.in_err-instance.ensures in
+    rw same (
+      one.0,
+      one.1,
+      (
+        [],
+        none_taken,
+        bound_fault_of _ _ _ _ _
+            (bound_first_stops _ (turn_of g.I.Read.remaining c.args.inst.now c.read_file.new.reader one.0) _ _ _ one.2 (Keeps-refl _, refl) (Keeps-refl _, refl)),
+      ),
+    )
+
+pub returns-in_err-certificate : goal.returns-in_err-certificate
+returns-in_err-certificate g c =
+    let same : c.from_residual-in_err-certificate.result ≡ Err c.in_err-certificate.field-0.0 = handed_on _ _ c.from_residual-in_err-certificate.ensures.1 in
+    let one = c.in_ok-instance.ensures in
+    let two = c.in_err-certificate.ensures in
+    rw same (
+      one.0,
+      one.1,
+      (
+        two.0,
+        two.1,
+        bound_fault_of _ _ _ _ _
+            (bound_second_stops _ _ (turn_of g.C.Read.remaining c.args.cert.now c.read_file-2.new.reader two.0) c.in_ok-instance.instance _ _ one.2 two.2 (Keeps-refl _, refl)),
+      ),
+    )
+
+pub returns : goal.returns
+returns g c =
+    let one = c.in_ok-instance.ensures in
+    let two = c.in_ok-certificate.ensures in
+    (one.0, one.1, (two.0, two.1, bound_run_of _ _ _ _ _ (c.bound_read.ensures _ _ one.2 two.2)))

@@ -1,7 +1,0 @@
-use Rattle.std.proofs.Common.{sym, subst}
-use Rattle.tsp_judge.specs.BoundRun.{IsCheckBy}
-use Rattle.tsp_judge.proofs.bound_check.run_bound_check.Goals as goal
-
-pub returns : goal.returns
-returns g c = let one = c.run_bound_verdict.ensures in let two = one.2 in let three = two.2 in
-    (one.0, one.1, (two.0, two.1, (three.0, three.1, subst (IsCheckBy _ _ _ _ _) (sym c.told.ensures) three.2.1)))

@@ -1,0 +1,25 @@
+use Rattle.std.proofs.Common.{◌≡◌, Err, refl, sym, subst}
+use Rattle.std.proofs.KnownBytes.{Keeps-refl}
+use Rattle.tsp_read.specs.Reads.{IsFile}
+use Rattle.tsp_judge.proofs.HandedOn.{handed_on}
+use Rattle.tsp_judge.proofs.Runs.{are_read, ends_without, none_judged}
+use Rattle.tsp_judge.proofs.checked.judge_read.Goals as goal
+
+pub returns-in_default : goal.returns-in_default
+returns-in_default g c = λ given first second one two three. (
+  c.args.instance,
+  c.args.solution,
+  c.args.certificate,
+  are_read given first second c.args.instance c.args.solution c.args.certificate one two three,
+  (none_judged c.args.certificate _ c.in_default.ensures.2, (Keeps-refl _, refl)),
+)
+
+pub returns-in_err-verdict : goal.returns-in_err-verdict
+returns-in_err-verdict g c = λ given first second one two three.
+    let same : c.from_residual.result ≡ Err c.in_err-verdict.field-0.0 = handed_on _ _ c.from_residual.ensures.1 in
+    rw same (ends_without given _ first second c.in-Ok.instance c.args.solution c.args.certificate _ _
+    (are_read given first second c.in-Ok.instance c.args.solution c.args.certificate (subst (IsFile first) (sym c.in-Ok.ensures.0) one) two three) c.in_err-verdict.ensures)
+
+pub returns : goal.returns
+returns g c = λ given first second one two three.
+    (are_read given first second c.in-Ok.instance c.args.solution c.args.certificate (subst (IsFile first) (sym c.in-Ok.ensures.0) one) two three, c.in_ok-verdict.ensures)

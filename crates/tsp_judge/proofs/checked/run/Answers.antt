@@ -1,0 +1,85 @@
+use Rattle.std.proofs.Common.{◌≡◌, Err, [], refl}
+use Rattle.std.proofs.KnownBytes.{Keeps-refl}
+use Rattle.tsp_stream.specs.Turn.{turn_of}
+use Rattle.tsp_judge.proofs.HandedOn.{handed_on}
+use Rattle.tsp_judge.proofs.Runs.{none_taken, unread_in, first_stops, second_stops, third_stops}
+use Rattle.tsp_judge.proofs.Yeses.{run_of, fault_of_run}
+use Rattle.tsp_judge.proofs.checked.run.Goals as goal
+
+pub returns-in_err-instance : goal.returns-in_err-instance
+returns-in_err-instance g c =
+    let same : c.from_residual.result ≡ Err c.in_err-instance.field-0.0 = handed_on _ _ c.from_residual.ensures.1 in
+    let one = c.in_err-instance.ensures in
+    rw same (
+      one.0,
+      one.1,
+      (
+        [],
+        none_taken,
+        (
+          [],
+          none_taken,
+          (
+            λ none. (Keeps-refl _, refl),
+            fault_of_run _ _ _ _ _ _
+                (first_stops _ _ (turn_of g.I.Read.remaining c.args.inst.now c.read_file.new.reader one.0) _ _ _ one.2 (Keeps-refl _, refl)
+                (unread_in c.args.by _ (Keeps-refl _, refl)) (Keeps-refl _, refl)),
+          ),
+        ),
+      ),
+    )
+
+pub returns-in_err-solution : goal.returns-in_err-solution
+returns-in_err-solution g c =
+    let same : c.from_residual-in_err-solution.result ≡ Err c.in_err-solution.field-0.0 = handed_on _ _ c.from_residual-in_err-solution.ensures.1 in
+    let one = c.in_ok-instance.ensures in
+    let two = c.in_err-solution.ensures in
+    rw same (
+      one.0,
+      one.1,
+      (
+        two.0,
+        two.1,
+        (
+          [],
+          none_taken,
+          (
+            λ none. (Keeps-refl _, refl),
+            fault_of_run _ _ _ _ _ _
+                (second_stops _ _ _ (turn_of g.S.Read.remaining c.args.sol.now c.read_file-2.new.reader two.0) c.in_ok-instance.instance _ _ one.2 two.2
+                (unread_in c.args.by _ (Keeps-refl _, refl)) (Keeps-refl _, refl)),
+          ),
+        ),
+      ),
+    )
+
+pub returns-in_err-certificate : goal.returns-in_err-certificate
+returns-in_err-certificate g c =
+    let same : c.from_residual-in_err-certificate.result ≡ Err c.in_err-certificate.field-0.0 = handed_on _ _ c.from_residual-in_err-certificate.ensures.1 in
+    let one = c.in_ok-instance.ensures in
+    let two = c.in_ok-solution.ensures in
+    let three = c.in_err-certificate.ensures in
+    rw same (
+      one.0,
+      one.1,
+      (
+        two.0,
+        two.1,
+        (
+          three.0,
+          three.1,
+          (
+            three.2.0,
+            fault_of_run _ _ _ _ _ _
+                (third_stops _ _ _ _ c.in_ok-instance.instance c.in_ok-solution.solution _ _ one.2 two.2 three.2.1 (Keeps-refl _, refl)),
+          ),
+        ),
+      ),
+    )
+
+pub returns : goal.returns
+returns g c =
+    let one = c.in_ok-instance.ensures in
+    let two = c.in_ok-solution.ensures in
+    let three = c.in_ok-certificate.ensures in
+    (one.0, one.1, (two.0, two.1, (three.0, three.1, (three.2.0, run_of _ _ _ _ _ _ (c.judge_read.ensures _ _ _ one.2 two.2 three.2.1)))))

@@ -1,0 +1,105 @@
+//! A bound on the tours of an instance, without a solution, from the bytes read to the bytes written.
+
+ghost use Rattle.tsp_stream.specs.Sink.{sink_of};
+ghost use Rattle.tsp_stream.specs.Turn.{Turn, turn_of, TakesAtMost};
+ghost use Rattle.tsp_read.specs.Reads.{IsFile, most_taken};
+ghost use Rattle.tsp_judge.specs.BoundRun.{BoundsFiles, IsBoundRun, IsBoundRunOf};
+
+use crate::fault::RunFault;
+use crate::file::read_file;
+use std::alloc::{AllocError, Global};
+use std::io::{Read, Write};
+use tsp_cost::Instance;
+use tsp_file::File;
+use tsp_report::write_bound;
+use tsp_stream::Watched;
+use tsp_verdict::{Certificate, Reason, is_bounded, judge_bound};
+
+/// The files that a run has read, and the bound that it found.
+#[derive(Drop)]
+pub struct Bounded {
+    /// The bound, `None` where the instance has no tour; or the first reason against the files. The
+    /// report is of it.
+    pub found: Result<Option<i128>, Reason>,
+    /// The first file.
+    pub instance: Instance,
+    /// The second file.
+    pub certificate: File,
+}
+
+/// Bounds the tours of an instance by a certificate, writes the report, and returns the bound, with the
+/// files that were read.
+///
+/// Every tour of the instance is at least as long as the bound. Where the instance has no tour, which a
+/// tree of cases may show, there is none. Where the report has the line `no`, the result has its reason:
+/// `TooFewNodes`, `NotSymmetric`, or one against the certificate, in this order.
+///
+/// Each file is read whole before the next, and the first file that is none decides. Nothing is
+/// written before the bound exists.
+///
+/// # Errors
+///
+/// `File` where a file is none, or can't be read; `WrongKind` where both are files and tours of the first
+/// one's TYPE have no bound by the certificate; `OutOfMemory` where the judgement runs out of memory, and
+/// then no reason applies to the instance; `Write` where the writer fails. Of each file at most 4,096
+/// bytes past `MOST_FILE_BYTES` are read.
+pub fn run_bound<I: Read, C: Read, W: Write>(
+    alloc: Global,
+    inst: &mut Watched<I>,
+    by: Certificate,
+    cert: &mut Watched<C>,
+    out: &mut Watched<W>,
+) -> Result<Bounded, RunFault>
+    ensures { TakesAtMost most_taken (turn_of I.remaining inst.old inst.new) (λ first.
+        TakesAtMost most_taken (turn_of C.remaining cert.old cert.new) (λ second.
+        IsBoundRunOf by first second (sink_of W.contents out.old out.new) result)) }
+{
+    let instance = read_file(alloc, 1, inst)?;
+    let certificate = read_file(alloc, 2, cert)?;
+    bound_read(alloc, by, instance, certificate, out)
+}
+
+/// The run on these files, whatever readers they came from.
+fn bound_read<W: Write>(
+    alloc: Global,
+    by: Certificate,
+    instance: File,
+    certificate: File,
+    out: &mut Watched<W>,
+) -> Result<Bounded, RunFault>
+    ensures { (first second : Turn) → IsFile first instance → IsFile second certificate
+        → IsBoundRun by first second (sink_of W.contents out.old out.new) result }
+{
+    let Ok(instance) = Instance::of(instance) else {
+        return Err(RunFault::WrongKind);
+    };
+    let found = bound_files(alloc, by, &instance, &certificate, out)?;
+    Ok(Bounded {
+        found,
+        instance,
+        certificate,
+    })
+}
+
+/// Bounds the tours of an instance, and writes the report.
+fn bound_files<W: Write>(
+    alloc: Global,
+    by: Certificate,
+    instance: &Instance,
+    certificate: &File,
+    out: &mut Watched<W>,
+) -> Result<Result<Option<i128>, Reason>, RunFault>
+    ensures { BoundsFiles by instance.now certificate.now (sink_of W.contents out.old out.new) result }
+{
+    if !is_bounded(by, instance.kind()) {
+        return Err(RunFault::WrongKind);
+    }
+    let found = match judge_bound(alloc, by, instance, certificate) {
+        Ok(found) => found,
+        Err(AllocError) => return Err(RunFault::OutOfMemory),
+    };
+    match write_bound(instance.file(), found, out) {
+        Ok(()) => Ok(found),
+        Err(fault) => Err(RunFault::Write(fault)),
+    }
+}

@@ -1,0 +1,98 @@
+//! A check, from the bytes read to the bytes written: the files are read, then judged.
+
+ghost use Rattle.std.specs.Prelude.{◌≡◌, None};
+ghost use Rattle.tsp_stream.specs.Sink.{sink_of};
+ghost use Rattle.tsp_stream.specs.Turn.{Turn, turn_of, IsUnread, TakesAtMost};
+ghost use Rattle.tsp_read.specs.Reads.{IsFile, most_taken};
+ghost use Rattle.tsp_judge.specs.Run.{Given, given_by, IsFileIn, ReadsGiven, IsRun};
+ghost use Rattle.tsp_judge.specs.Yes.{IsRunOf};
+
+use crate::fault::RunFault;
+use crate::file::read_file;
+use crate::judging::{Judged, judge_files};
+use std::alloc::Global;
+use std::io::{Read, Write};
+use tsp_cost::Instance;
+use tsp_file::File;
+use tsp_stream::Watched;
+use tsp_verdict::Certificate;
+
+/// Judges a solution of an instance, writes the report, and returns the verdict, with the files that
+/// were read.
+///
+/// Where a certificate of a bound is asked for, it is the file of the third reader, and no tour of the
+/// instance is shorter than the bound of a yes. Where it isn't, that reader isn't read. Where a length is
+/// claimed, a solution of another length is refused with `LengthClaimed`: after all other reasons
+/// against the solution, and before those against the certificate.
+///
+/// Each file is read whole before the next, and the first file that is none decides. Nothing is
+/// written before the verdict exists.
+///
+/// # Errors
+///
+/// `File` where a file is none, or can't be read; `WrongKind` where all are files and solutions of the
+/// first one's TYPE aren't judged so: TYPE TOUR, POTENTIALS or BRANCHES, and with a certificate CVRP too;
+/// `OutOfMemory` where the judgement runs out of memory, and then no
+/// reason up to `NodeOutOfRange`, in the order of its TYPE, applies to the second; `Write` where the
+/// writer fails. Of each file at most 4,096 bytes past `MOST_FILE_BYTES` are read.
+pub fn run<I: Read, S: Read, C: Read, W: Write>(
+    alloc: Global,
+    inst: &mut Watched<I>,
+    sol: &mut Watched<S>,
+    by: Option<Certificate>,
+    cert: &mut Watched<C>,
+    claimed: Option<i64>,
+    out: &mut Watched<W>,
+) -> Result<Judged, RunFault>
+    ensures { TakesAtMost most_taken (turn_of I.remaining inst.old inst.new) (λ first.
+        TakesAtMost most_taken (turn_of S.remaining sol.old sol.new) (λ second.
+        TakesAtMost most_taken (turn_of C.remaining cert.old cert.new) (λ third.
+        (by ≡ None → IsUnread third)
+        × IsRunOf (given_by by third) claimed first second (sink_of W.contents out.old out.new) result))) }
+{
+    let instance = read_file(alloc, 1, inst)?;
+    let solution = read_file(alloc, 2, sol)?;
+    let certificate = read_certificate(alloc, by, cert)?;
+    judge_read(alloc, instance, solution, certificate, claimed, out)
+}
+
+/// Reads the file of the certificate that is asked for, where one is.
+fn read_certificate<C: Read>(
+    alloc: Global,
+    by: Option<Certificate>,
+    cert: &mut Watched<C>,
+) -> Result<Option<(Certificate, File)>, RunFault>
+    ensures { TakesAtMost most_taken (turn_of C.remaining cert.old cert.new) (λ third.
+        (by ≡ None → IsUnread third) × ReadsGiven (given_by by third) result) }
+{
+    let Some(by) = by else {
+        return Ok(None);
+    };
+    let file = read_file(alloc, 3, cert)?;
+    Ok(Some((by, file)))
+}
+
+/// The run on these files, whatever readers they came from.
+fn judge_read<W: Write>(
+    alloc: Global,
+    instance: File,
+    solution: File,
+    certificate: Option<(Certificate, File)>,
+    claimed: Option<i64>,
+    out: &mut Watched<W>,
+) -> Result<Judged, RunFault>
+    ensures { (given : Given) (first second : Turn) → IsFile first instance → IsFile second solution
+        → IsFileIn given certificate
+        → IsRun given claimed first second (sink_of W.contents out.old out.new) result }
+{
+    let Ok(instance) = Instance::of(instance) else {
+        return Err(RunFault::WrongKind);
+    };
+    let verdict = judge_files(alloc, &instance, &solution, &certificate, claimed, out)?;
+    Ok(Judged {
+        verdict,
+        instance,
+        solution,
+        certificate,
+    })
+}

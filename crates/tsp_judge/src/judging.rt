@@ -1,0 +1,93 @@
+//! The files of a run, and the verdict on them.
+
+ghost use Rattle.std.specs.Prelude.{◌≡◌, option_map};
+ghost use Rattle.tsp_stream.specs.Sink.{sink_of};
+ghost use Rattle.tsp_verdict.specs.Judged.{is_judged};
+ghost use Rattle.tsp_judge.specs.Run.{is_yes, told, JudgesFiles};
+
+use crate::fault::RunFault;
+use std::alloc::{AllocError, Global};
+use std::io::Write;
+use tsp_cost::Instance;
+use tsp_file::File;
+use tsp_report::write_report;
+use tsp_stream::Watched;
+use tsp_verdict::{Certificate, Verdict, is_bounded, judge};
+
+/// The files that a run has read, and the verdict on them.
+#[derive(Drop)]
+pub struct Judged {
+    /// The verdict, of which the report is.
+    pub verdict: Verdict,
+    /// The first file.
+    pub instance: Instance,
+    /// The second file.
+    pub solution: File,
+    /// The third file, where a certificate was asked for.
+    pub certificate: Option<(Certificate, File)>,
+}
+
+/// Judges files, and writes the report.
+pub(crate) fn judge_files<W: Write>(
+    alloc: Global,
+    instance: &Instance,
+    solution: &File,
+    certificate: &Option<(Certificate, File)>,
+    claimed: Option<i64>,
+    out: &mut Watched<W>,
+) -> Result<Verdict, RunFault>
+    ensures { JudgesFiles certificate.now claimed instance.now solution.now (sink_of W.contents out.old out.new) result }
+{
+    if !is_judged(certificate, instance) {
+        return Err(RunFault::WrongKind);
+    }
+    let verdict = match judge(alloc, instance, solution, lent(certificate), claimed) {
+        Ok(verdict) => verdict,
+        Err(AllocError) => return Err(RunFault::OutOfMemory),
+    };
+    match write_report(instance.file(), verdict, out) {
+        Ok(()) => Ok(verdict),
+        Err(fault) => Err(RunFault::Write(fault)),
+    }
+}
+
+/// Whether solutions of the instance are judged, with this certificate or with none.
+fn is_judged(certificate: &Option<(Certificate, File)>, instance: &Instance) -> bool
+    ensures { result ≡ is_judged certificate.now instance.now.kind }
+{
+    let kind = instance.kind();
+    match certificate {
+        None => true,
+        Some((by, _)) => is_bounded(*by, kind),
+    }
+}
+
+/// The certificate, lent.
+fn lent(certificate: &Option<(Certificate, File)>) -> Option<(Certificate, &File)>
+    ensures { option_map (λ given. (given.0, given.1.now)) result ≡ certificate.now }
+{
+    match certificate {
+        None => None,
+        Some((by, file)) => Some((*by, file)),
+    }
+}
+
+/// Whether the solution is accepted, where there is a verdict.
+pub(crate) fn told(ended: Result<Judged, RunFault>) -> Result<bool, RunFault>
+    ensures { result ≡ told ended }
+{
+    let judged = ended?;
+    let answer = is_yes(judged.verdict);
+    drop(judged);
+    Ok(answer)
+}
+
+/// Whether the solution is accepted.
+fn is_yes(verdict: Verdict) -> bool
+    ensures { result ≡ is_yes verdict }
+{
+    match verdict {
+        Verdict::Tour { .. } | Verdict::Routes { .. } => true,
+        Verdict::No(_) => false,
+    }
+}

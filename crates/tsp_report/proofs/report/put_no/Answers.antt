@@ -1,0 +1,16 @@
+use Rattle.std.proofs.Common.{◌++◌}
+use Rattle.std.specs.Prelude.{codes}
+use Rattle.tsp_stream.specs.Way.{way_of}
+use Rattle.tsp_stream.proofs.Carrying.{carried_then}
+use Rattle.tsp_report.specs.Report.{reason_text}
+use Rattle.tsp_report.proofs.report.put_no.Goals as goal
+
+pub returns : goal.returns
+returns g c =
+    let start = way_of g.W.Write.contents c.args.out.now c.args.piece.now.items in
+    let begun = way_of g.W.Write.contents c.put.new.out c.put.new.piece.items in
+    let after_reason = way_of g.W.Write.contents c.put_reason.new.out c.put_reason.new.piece.items in
+    let last = way_of g.W.Write.contents c.put-2.new.out c.put-2.new.piece.items in
+    let text = reason_text c.args.reason in
+    carried_then start after_reason last (codes "no " ++ text) (codes "\n")
+    (carried_then start begun after_reason (codes "no ") text c.put.ensures c.put_reason.ensures) c.put-2.ensures

@@ -1,0 +1,84 @@
+-- An instance with a certificate: the reasons against either, in order.
+use Rattle.std.proofs.Common.{◌≡◌, ℕ, ◌<◌, ◌≤◌, ◌⊎◌, inl, inr, arith}
+use Rattle.std.specs.Prelude.{ℤ, Option, None, Some, Result, Ok, Err, IfOk, MatchResult}
+use Rattle.tsp_draft.specs.Fields.{Fields}
+use Rattle.tsp_reason.specs.declared.certificate.Certificate.{Certificate}
+use Rattle.tsp_reason.specs.declared.verdict.Reason.{Reason}
+use Rattle.tsp_reason.specs.declared.verdict.Reason.TheVariants.{TooFewNodes, NotSymmetric}
+use Rattle.tsp_file.specs.Cost.{cost}
+use Rattle.tsp_theory.specs.Costs.{IsSymmetric, IsFirstAsymmetric}
+use Rattle.tsp_verdict.specs.declared.tour.TourCosts.{TourCosts}
+use Rattle.tsp_verdict.specs.states.Costs.{AreTourCosts}
+use Rattle.tsp_verdict.specs.Bounded.{StandsAgainstInstance, NoneAgainstInstance, StandsAgainstBounded, IsBoundVerdict}
+use Rattle.tsp_verdict.specs.Certified.{StandsAgainstCertificate, FindsBoundIfAny}
+use Rattle.tsp_verdict.specs.Reasons.{rank_of, IsFirstReason}
+use Rattle.tsp_verdict.specs.Solution.{nodes_of}
+use Rattle.tsp_verdict.proofs.Certificates.{certificate_rank, symmetric_tsp}
+
+instance_rank : (inst : Fields) (reason : Reason) → StandsAgainstInstance inst reason → rank_of reason < 16
+instance_rank inst TooFewNodes stands = omega arith
+instance_rank inst (NotSymmetric i j) stands = omega arith
+instance_rank inst reason stands = absurd stands
+
+-- the first reason against the instance is the first of all
+pub instance_refused : (by : Certificate) (inst cert : Fields) (reason : Reason) → IsFirstReason (StandsAgainstInstance inst) reason → IsBoundVerdict by inst cert (Err reason)
+instance_refused by inst cert reason first = record {
+  stands = inl first.stands;
+  none_before = λ other low stands. by_side other low stands;
+}
+  where
+    by_side : (other : Reason) → rank_of other < rank_of reason → StandsAgainstInstance inst other ⊎ StandsAgainstCertificate by inst cert other → ⊥
+    by_side other low (inl stands) = first.none_before other low stands
+    by_side other low (inr stands) = omega (arith, low, instance_rank inst reason first.stands, certificate_rank by inst cert other stands)
+
+none_of_both : (by : Certificate) (inst cert : Fields) → NoneAgainstInstance inst → ((other : Reason) → StandsAgainstCertificate by inst cert other → ⊥)
+    → (reason : Reason) → StandsAgainstBounded by inst cert reason → ⊥
+none_of_both by inst cert none certificate reason (inl stands) = none reason stands
+none_of_both by inst cert none certificate reason (inr stands) = certificate reason stands
+
+-- where none applies to the instance, it is the certificate that decides
+pub certificate_decides : (by : Certificate) (inst cert : Fields) (found : Result (Option ℤ) Reason) → NoneAgainstInstance inst → FindsBoundIfAny by inst cert found
+    → IsBoundVerdict by inst cert found
+certificate_decides by inst cert (Ok (Some bound)) none b = (none_of_both by inst cert none b.0, b.1)
+certificate_decides by inst cert (Ok None) none b = (none_of_both by inst cert none b.0, b.1, b.2)
+certificate_decides by inst cert (Err reason) none first = record {
+  stands = inr first.stands;
+  none_before = λ other low stands. by_side other low stands;
+}
+  where
+    by_side : (other : Reason) → rank_of other < rank_of reason → StandsAgainstInstance inst other ⊎ StandsAgainstCertificate by inst cert other → ⊥
+    by_side other low (inl stands) = none other stands
+    by_side other low (inr stands) = first.none_before other low stands
+
+-- out of memory, none applies to the instance
+pub either_way : {E : Type 0} (by : Certificate) (inst cert : Fields) (result : Result (Result (Option ℤ) Reason) E) → NoneAgainstInstance inst → IfOk result (λ found. FindsBoundIfAny by inst cert found)
+    → MatchResult result (λ found. IsBoundVerdict by inst cert found) (λ refused. NoneAgainstInstance inst)
+either_way by inst cert (Ok found) none finds = certificate_decides by inst cert found none finds
+either_way by inst cert (Err refused) none finds = none
+
+-- ---- the reasons against the instance
+
+pub few_first : (inst : Fields) → nodes_of inst < 3 → IsFirstReason (StandsAgainstInstance inst) TooFewNodes
+few_first inst few = record { stands = few; none_before = λ other low stands. ranked other low stands }
+  where
+    ranked : (other : Reason) → rank_of other < 2 → StandsAgainstInstance inst other → ⊥
+    ranked TooFewNodes low stands = omega (arith, low)
+    ranked (NotSymmetric i j) low stands = omega (arith, low)
+    ranked other low stands = stands
+
+pub asymmetric_first : (inst : Fields) (i j : ℕ) → 3 ≤ nodes_of inst → StandsAgainstInstance inst (NotSymmetric i j)
+    → IsFirstReason (StandsAgainstInstance inst) (NotSymmetric i j)
+asymmetric_first inst i j many is = record { stands = is; none_before = λ other low stands. ranked other low stands }
+  where
+    ranked : (other : Reason) → rank_of other < 3 → StandsAgainstInstance inst other → ⊥
+    ranked TooFewNodes low stands = omega (arith, many, stands)
+    ranked (NotSymmetric k l) low stands = omega (arith, low)
+    ranked other low stands = stands
+
+pub none_against : (inst : Fields) (costs : TourCosts) → 3 ≤ nodes_of inst → AreTourCosts inst costs → NoneAgainstInstance inst
+none_against inst costs many are TooFewNodes stands = omega (arith, many, stands)
+none_against inst costs many are (NotSymmetric i j) stands = not_first (symmetric_tsp inst costs are stands.0) stands.1
+  where
+    not_first : IsSymmetric (cost inst) → IsFirstAsymmetric (nodes_of inst) (cost inst) (i, j) → ⊥
+    not_first even first = first.differ (even i j (λ same. omega (arith, first.upper, same)))
+none_against inst costs many are reason stands = stands

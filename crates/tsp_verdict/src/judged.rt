@@ -1,0 +1,96 @@
+//! The verdict on a solution, with a certificate of a bound where there is one, and with a length that is
+//! claimed, where one is.
+
+ghost use Rattle.std.specs.Prelude.{◌≡◌, IsTrue, None, true, false, MatchOption, MatchResult, option_map};
+ghost use Rattle.tsp_verdict.specs.Judged.{is_judged, IsVerdictOn, NoneBeforeRepeatsOn, HasLength, HasNoLength, IsAsClaimed, IsOtherClaimed, IsVerdictWith};
+ghost use Rattle.tsp_draft.specs.Fields.{Fields};
+
+use crate::certified::judge_with_claim;
+use crate::routes::judge_routes;
+use crate::tour::judge_tour;
+use std::alloc::{AllocError, Global};
+use tsp_cost::Instance;
+use tsp_file::File;
+use tsp_format::Kind;
+use tsp_reason::{Certificate, Reason, Verdict};
+
+/// The verdict on a solution of an instance: on a tour, or for TYPE CVRP on routes.
+///
+/// The reasons of [`judge_tour`] or of [`judge_routes`] are judged first. Then a length that is claimed
+/// has to be that of the solution, and is refused with `LengthClaimed` where it isn't. The reasons
+/// against a certificate are judged last. A TYPE is required whose solutions are judged so: with a
+/// certificate one that [`crate::is_bounded`] accepts.
+///
+/// # Errors
+///
+/// Out of memory, and then no reason up to `NodeOutOfRange`, in the order of the TYPE, stands.
+pub fn judge(
+    alloc: Global,
+    instance: &Instance,
+    solution: &File,
+    certificate: Option<(Certificate, &File)>,
+    claimed: Option<i64>,
+) -> Result<Verdict, AllocError>
+    requires { IsTrue (is_judged (option_map (λ given. (given.0, given.1.now)) certificate) instance.now.kind) }
+    ensures { MatchResult result
+        (λ verdict. IsVerdictWith (option_map (λ given. (given.0, given.1.now)) certificate.entry) claimed
+        instance.now solution.now verdict)
+        (λ refused. NoneBeforeRepeatsOn instance.now solution.now) }
+{
+    match certificate {
+        None => {
+            let verdict = judge_alone(alloc, instance, solution)?;
+            Ok(with_claim(verdict, claimed))
+        }
+        Some((by, file)) => judge_with_claim(alloc, by, instance, solution, file, claimed),
+    }
+}
+
+/// The verdict on a solution on its own. Out of memory, no reason stands of those that are found without
+/// memory.
+fn judge_alone(alloc: Global, instance: &Instance, solution: &File) -> Result<Verdict, AllocError>
+    ensures { MatchResult result
+        (λ verdict. IsVerdictOn instance.now solution.now verdict)
+        (λ refused. NoneBeforeRepeatsOn instance.now solution.now) }
+{
+    match instance.kind() {
+        Kind::Tsp | Kind::Atsp => judge_tour(alloc, instance, solution),
+        Kind::Cvrp => judge_routes(alloc, instance, solution),
+        Kind::Tour | Kind::Potentials | Kind::Branches => unreachable!(),
+    }
+}
+
+/// The verdict on a solution on its own, with the length that is claimed, by the one without it.
+fn with_claim(verdict: Verdict, claimed: Option<i64>) -> Verdict
+    ensures { (instance solution : Fields) → IsVerdictOn instance solution verdict
+        → IsVerdictWith None claimed instance solution result }
+{
+    let Some(length) = length_in(verdict) else {
+        return verdict;
+    };
+    if is_other(claimed, length) {
+        return Verdict::No(Reason::LengthClaimed { length });
+    }
+    verdict
+}
+
+/// The length in a yes, or `None` where the verdict is a no.
+fn length_in(verdict: Verdict) -> Option<i64>
+    ensures { MatchOption result (HasNoLength verdict) (λ length. HasLength verdict length) }
+{
+    match verdict {
+        Verdict::Tour { length, .. } | Verdict::Routes { length, .. } => Some(length),
+        Verdict::No(_) => None,
+    }
+}
+
+/// Whether another length is claimed than this one.
+pub(crate) fn is_other(claimed: Option<i64>, length: i64) -> bool
+    ensures other { result ≡ true → IsOtherClaimed claimed length }
+    ensures same { result ≡ false → IsAsClaimed claimed length }
+{
+    match claimed {
+        None => false,
+        Some(claim) => claim != length,
+    }
+}
