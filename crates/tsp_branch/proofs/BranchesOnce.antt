@@ -15,10 +15,11 @@ use Rattle.tsp_branch.specs.Decisions.{Decision, is_same, DecideOnce}
 use Rattle.tsp_branch.specs.Cases.{decide, leaves_of, cases_of, later_cases, open_cases, next_stack}
 use Rattle.tsp_branch.specs.Decided.{case_of, stack_of}
 use Rattle.tsp_branch.specs.Listed.{all_grown, steps_from, no_numbers_of}
-use Rattle.tsp_branch.specs.Twice.{is_decided, IsFirstTwiceFrom, AreBranchesJudged}
+use Rattle.tsp_branch.specs.Twice.{is_decided, IsFirstTwice, AreBranchesJudged}
 use Rattle.tsp_branch.proofs.Cases.{stacks_hold_cases}
 use Rattle.tsp_branch.proofs.NextCases.{stack_more}
 use Rattle.tsp_branch.proofs.Judging.{left_at}
+use Rattle.tsp_branch.proofs.OnePass.{IsFirstTwiceFrom, first_twice_by_place, first_twice_in_pass}
 
 -- ---- whether a pair is decided
 
@@ -72,7 +73,7 @@ told_cases n numbers (case ∷ cases) (listed.Leaf changes ∷ steps) = ap (λ (
 pub no_branch_twice : (directed : Bool) (given : List Decision) (steps : List listed.Step) → ((first : ℕ) → IsFirstTwiceFrom directed 0 (given ∷ []) steps first → ⊥) → AllByRecursion (DecideOnce directed) (listed_cases (given ∷ []) steps)
     → AreBranchesJudged directed given steps None
 no_branch_twice directed given steps none once = (
-  none,
+  λ first h. none first (first_twice_in_pass directed given steps first h),
   λ n combs. subst (All (DecideOnce directed)) (sym (told_cases n (no_numbers_of n combs) (given ∷ []) steps)) (All-from_recursion (DecideOnce directed) (listed_cases (given ∷ []) steps) once),
 )
 
@@ -127,10 +128,10 @@ once_pushed directed given all items read pushed branch a b steps found h same i
 
 pub twice_found : (directed : Bool) (given : List Decision) (all : List listed.Step) (items read : List (ℕ × ℕ × Bool)) (branch a b : ℕ) (steps : List listed.Step) (found : Bool)
     → IsOnceSoFar directed given all (stack_of items) branch (listed.Branch a b ∷ steps) → read ≡ items → found ≡ is_decided directed (stack_of read ++ given) (a, b) → found ≡ true
-    → IsFirstTwiceFrom directed 0 (given ∷ []) all (branch + 1)
+    → IsFirstTwice directed given all (branch + 1)
 twice_found directed given all items read branch a b steps found h same is on =
-    subst (IsFirstTwiceFrom directed 0 (given ∷ []) all) (sym (add-one branch)) (twice_here directed given all (stack_of items) branch a b steps h
-    (ap (λ (xs : List (ℕ × ℕ × Bool)). is_decided directed (stack_of xs ++ given) (a, b)) (sym same) ∙ sym is ∙ on))
+    first_twice_by_place directed given all (branch + 1) (subst (IsFirstTwiceFrom directed 0 (given ∷ []) all) (sym (add-one branch)) (twice_here directed given all (stack_of items) branch a b steps h
+    (ap (λ (xs : List (ℕ × ℕ × Bool)). is_decided directed (stack_of xs ++ given) (a, b)) (sym same) ∙ sym is ∙ on)))
 
 -- after a leaf, with a case that is open, and with none; and where no step is left
 pub once_at_leaf : (directed : Bool) (given : List Decision) (all : List listed.Step) (stack : List Decision) (branch : ℕ) (changes : List (ℕ × ℤ)) (steps : List listed.Step) (next : List Decision)

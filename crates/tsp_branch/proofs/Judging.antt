@@ -24,10 +24,11 @@ use Rattle.tsp_branch.specs.Certificate.{IsCertificate, IsLeastFound, AreCostsFo
 use Rattle.tsp_branch.specs.Combed.{most_multiplied}
 use Rattle.tsp_branch.specs.Decided.{decided_number, stack_of}
 use Rattle.tsp_branch.specs.Judged.{AreGoodNumbers, numbers_of}
-use Rattle.tsp_branch.specs.Listed.{all_grown, split_at, steps_from, no_numbers_of, listed_steps, IsStepOf, AreSteps, AreGoodFrom, IsFirstBadFrom, IsJudged, BoundsCycles, IsLowest}
+use Rattle.tsp_branch.specs.Listed.{all_grown, split_at, steps_from, no_numbers_of, listed_steps, IsStepOf, AreSteps, AreGoodLeaves, IsFirstBadLeaf, IsJudged, BoundsCycles, IsLowest}
 use Rattle.tsp_branch.specs.Twice.{AreBranchesJudged}
 use Rattle.tsp_branch.specs.Rooms.{AreSmall, IsJudgedLeaf, IsSizedLeaf}
 use Rattle.tsp_branch.proofs.CaseWeights.{small_multipliers}
+use Rattle.tsp_branch.proofs.OnePass.{first_bad_by_place}
 use Rattle.tsp_branch.proofs.Passes.{IsAtStep, at_leaf, at_last}
 
 -- a list that was written over whole
@@ -117,16 +118,16 @@ module _ (Found : List Decision × LeafNumbers → Option ℤ → Type 0) (direc
 
   pub bad_here : (numbers : List ℤ) (stack : List (ℕ × ℕ × Bool)) (lowest : Option ℤ) (leaf : ℕ) (changes : List (ℕ × ℤ)) (rest : List listed.Step) (new : List ℤ) (found : JudgedLeaf)
       → AtNext numbers stack lowest leaf (listed.Leaf changes ∷ rest) → JudgedAs numbers stack changes new found → found ≡ leaves.Bad
-      → IsFirstBadFrom n count (no_numbers_of n count) 0 all (leaf + 1)
+      → IsFirstBadLeaf n count all (leaf + 1)
   bad_here numbers stack lowest leaf changes rest new found at judged none =
-      at.bad (leaf + 1) (inl (add-one leaf, subst (JudgedAs numbers stack changes new) none judged))
+      first_bad_by_place n count all (leaf + 1) (at.bad (leaf + 1) (inl (add-one leaf, subst (JudgedAs numbers stack changes new) none judged)))
 
   pub last_found : (families : List Comb) (numbers : List ℤ) (stack : List (ℕ × ℕ × Bool)) (lowest : Option ℤ) (leaf : ℕ) (changes : List (ℕ × ℤ)) (rest : List listed.Step) (new : List ℤ)
       (found : JudgedLeaf) (own lower : Option ℤ)
       → AtNext numbers stack lowest leaf (listed.Leaf changes ∷ rest) → All (IsFamily n) families → are_trees 1 (listed_steps n count all) ≡ true
       → JudgedAs numbers stack changes new found → found ≡ leaves.Found own → IsLowest lowest own lower → next_stack (stack_of stack) ≡ None
       → IsCertificate n families given (listed_steps n count all) × IsLeastFound Found (leaves_of (given ∷ []) (listed_steps n count all)) lower
-      × AreGoodFrom n count (no_numbers_of n count) all
+      × AreGoodLeaves n count all
   last_found families numbers stack lowest leaf changes rest new found own lower at are whole judged some low turned =
       let is = subst (JudgedAs numbers stack changes new) some judged in
       at_last Found directed n count given all families numbers stack lowest leaf changes rest own lower at are whole is.0 is.3 low turned

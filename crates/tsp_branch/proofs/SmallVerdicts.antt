@@ -7,6 +7,7 @@ use Rattle.tsp_format.specs.Cells.{IsNode}
 use Rattle.tsp_branch.specs.Combs.{IsTooth, has}
 use Rattle.tsp_branch.specs.GoodCombs.{HasEachOnce}
 use Rattle.tsp_branch.specs.VerdictExamples.{IsBadComb, IsGood, three_teeth, TwiceAt, branches}
+use Rattle.tsp_branch.proofs.OnePass.{IsFirstTwiceFrom, first_twice_in_pass}
 use Rattle.tsp_branch.proofs.Teeth.{all_had, comb_of_family, lone_of_family}
 
 pub no_sets : IsBadComb []
@@ -99,6 +100,9 @@ no_node h = let lone = lone_of_family 6 [] h.family in both_ways false refl lone
 -- ---- two arcs in opposite directions
 
 pub never_twice : (branch : ℕ) → TwiceAt true [] (branches 1 2 2 1) branch → ⊥
-never_twice branch (inl first) = both_ways false refl first.1
-never_twice branch (inr (none, inl second)) = both_ways false refl second.1
-never_twice branch (inr (none, inr rest)) = rest.1
+never_twice branch twice = never branch (first_twice_in_pass true [] (branches 1 2 2 1) branch twice)
+  where
+    never : (branch : ℕ) → IsFirstTwiceFrom true 0 ([] ∷ []) (branches 1 2 2 1) branch → ⊥
+    never branch (inl first) = both_ways false refl first.1
+    never branch (inr (none, inl second)) = both_ways false refl second.1
+    never branch (inr (none, inr rest)) = rest.1
