@@ -10,6 +10,6 @@ abbrev pub invariant-pairs : goal.invariant-pairs
 invariant-pairs g l = record {
   pairs : l.named.items ≡ map (both (node_at l.order)) (take l.pair-index l.pairs);
   count : length l.named.items ≡ l.pair-index;
-  sum : l.weight ≡ weight_of (weight_less l.p (triples_in l.m) (g.C.Costs.at l.c)) l.named.items;
+  sum : l.weight ≡ weight_of (weight_less l.w.p.now (triples_in l.w.m.now) (g.C.Costs.at l.w.c.now)) l.named.items;
   size : IsSumSized (length l.named.items) l.weight;
 }
