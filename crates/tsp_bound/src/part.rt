@@ -4,10 +4,10 @@ ghost use Rattle.std.specs.Prelude.{◌≡◌, ◌≤◌, ◌<◌, ◌*◌, ◌^
 ghost use Rattle.std.specs.List.{All};
 ghost use Rattle.tsp_format.specs.Cells.{IsNode};
 ghost use Rattle.tsp_format.specs.Limits.{most_nodes};
-ghost use Rattle.tsp_bound.specs.Boxes.{node_at};
+ghost use Rattle.tsp_bound.specs.Boxes.{node_of};
 ghost use Rattle.tsp_theory.specs.Growth.{IsWholeGrowth, IsPartGrowth};
 ghost use Rattle.tsp_bound.specs.Multipliers.{triples_in, weight_less};
-ghost use Rattle.tsp_bound.specs.Numbering.{both};
+ghost use Rattle.tsp_bound.specs.Numbering.{on_both};
 ghost use Rattle.tsp_theory.specs.Numbers.{IsFromTo, IsSumSized};
 ghost use Rattle.tsp_theory.specs.Tree.{weight_of};
 
@@ -118,10 +118,10 @@ fn weighed<C: Costs>(
     order: &[u32],
     pairs: &[(u32, u32)],
 ) -> Result<Grown, AllocError>
-    requires nodes { (j : ℕ) → j < length order.now → IsNode (C.nodes w.now.c.now) (node_at order.now j) }
+    requires nodes { (j : ℕ) → j < length order.now → IsNode (C.nodes w.now.c.now) (node_of order.now j) }
     requires places { All (λ pair. (pair.0 < length order.now) × (pair.1 < length order.now)) pairs.now }
     requires few { length pairs.now ≤ most_nodes }
-    ensures pairs { IfOk result (λ grown. grown.pairs.items ≡ map (both (node_at order.now)) pairs.now) }
+    ensures pairs { IfOk result (λ grown. grown.pairs.items ≡ map (on_both (node_of order.now)) pairs.now) }
     ensures weight { IfOk result (λ grown. grown.weight
         ≡ weight_of (weight_less w.now.p.now (triples_in w.now.m.now) (C.at w.now.c.now)) grown.pairs.items) }
     ensures size { IfOk result (λ grown. IsSumSized (length grown.pairs.items) grown.weight) }

@@ -1,7 +1,7 @@
 //! What gives the weights between nodes.
 
 ghost use Rattle.std.specs.Prelude.{◌≡◌, ◌≤◌, length};
-ghost use Rattle.tsp_bound.specs.Multipliers.{nodes_in};
+ghost use Rattle.tsp_bound.specs.Multipliers.{node_count};
 ghost use Rattle.tsp_bound.specs.Potentials.{numbers_of};
 
 use crate::by_node::ByNode;
@@ -16,5 +16,5 @@ pub(crate) struct Weights<'a, C: Costs> {
     pub(crate) m: &'a ByNode<'a>,
     ghost some: { 3 ≤ C.nodes c.now },
     ghost count: { length (numbers_of p.now) ≡ C.nodes c.now },
-    ghost over: { nodes_in m.now ≡ C.nodes c.now },
+    ghost over: { node_count m.now ≡ C.nodes c.now },
 }

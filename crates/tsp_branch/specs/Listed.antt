@@ -8,7 +8,7 @@ use Rattle.tsp_branch.specs.declared.steps.Judged.{Judged}
 use Rattle.tsp_branch.specs.declared.steps.Judged.TheVariants as judged
 use Rattle.tsp_branch.specs.Combs.{Comb}
 use Rattle.tsp_branch.specs.Decisions.{Decision, DecideOnce}
-use Rattle.tsp_branch.specs.Cases.{LeafNumbers, Step, Branch, Leaf, are_trees, leaves_of, cases_of}
+use Rattle.tsp_branch.specs.Cases.{LeafNumbers, CaseStep, Branch, Leaf, are_trees, leaves_of, cases_of}
 use Rattle.tsp_branch.specs.Certificate.{IsCertificate, IsCertificateBound, BoundsIfAny}
 use Rattle.tsp_branch.specs.Judged.{AreGoodNumbers}
 use Rattle.tsp_branch.specs.Decided.{decided_number}
@@ -30,7 +30,7 @@ split_at n numbers = record { potentials = take n numbers; multipliers = drop n 
 -- ---- the steps
 
 -- the steps of the tree, where the leaf before had these numbers
-abbrev pub steps_from : ℕ → List ℤ → List listed.Step → List Step
+abbrev pub steps_from : ℕ → List ℤ → List listed.Step → List CaseStep
 steps_from n numbers [] = []
 steps_from n numbers (listed.Branch a b ∷ steps) = Branch (a, b) ∷ steps_from n numbers steps
 steps_from n numbers (listed.Leaf changes ∷ steps) =
@@ -40,7 +40,7 @@ steps_from n numbers (listed.Leaf changes ∷ steps) =
 abbrev pub no_numbers_of : ℕ → ℕ → List ℤ
 no_numbers_of n combs = replicate (n + combs) (pos 0)
 
-abbrev pub listed_steps : ℕ → ℕ → List listed.Step → List Step
+abbrev pub listed_steps : ℕ → ℕ → List listed.Step → List CaseStep
 listed_steps n combs steps = steps_from n (no_numbers_of n combs) steps
 
 -- each branch is on two different nodes, and the differences of a leaf can be counted
@@ -98,12 +98,12 @@ BoundsCycles directed n cost given (judged.Bound found) = BoundsIfAny directed n
 BoundsCycles directed n cost given (judged.BadLeaf leaf) = Unit {0}
 
 -- Sums with it fit 128 bits.
-abbrev pub IsSized : Judged → Type 0
-IsSized (judged.Bound found) = IfSome found IsBoundSized
-IsSized (judged.BadLeaf leaf) = Unit {0}
+abbrev pub IsJudgedSized : Judged → Type 0
+IsJudgedSized (judged.Bound found) = IfSome found IsBoundSized
+IsJudgedSized (judged.BadLeaf leaf) = Unit {0}
 
 -- what the steps have to be: one whole tree of branches on two different nodes, none of which is on a pair decided above it
-pub record AreSteps (directed : Bool) (n : ℕ) (given : List Decision) (steps : List listed.Step) (listed : List Step) : Type 0 where
+pub record AreSteps (directed : Bool) (n : ℕ) (given : List Decision) (steps : List listed.Step) (listed : List CaseStep) : Type 0 where
   pub each : All (IsStepOf n) steps
   pub whole : are_trees 1 listed ≡ true
   pub once : All (DecideOnce directed) (cases_of (leaves_of (given ∷ []) listed))

@@ -6,8 +6,8 @@ use Rattle.tsp_branch.specs.GoodCombs.{IsGoodComb}
 use Rattle.tsp_branch.specs.Twice.{IsFirstTwice}
 
 -- sets of six nodes are neither a lone set nor those of a comb, and that they are
-abbrev pub IsBadComb : List (List ℕ) → Type 0
-IsBadComb sets = IsGoodComb 6 sets → ⊥
+abbrev pub IsNotGood : List (List ℕ) → Type 0
+IsNotGood sets = IsGoodComb 6 sets → ⊥
 
 abbrev pub IsGood : List (List ℕ) → Type 0
 IsGood sets = IsGoodComb 6 sets

@@ -13,7 +13,7 @@ use Rattle.tsp_draft.specs.Rules.{is_instance, is_certificate, is_tree}
 use Rattle.tsp_file.specs.Cost.{cost}
 use Rattle.tsp_theory.specs.Length.{length_of}
 use Rattle.tsp_read.specs.Reads.{IsFile}
-use Rattle.tsp_theory.specs.Numbers.{IsBoundSized as IsSmall}
+use Rattle.tsp_theory.specs.Numbers.{IsGapSized as IsSmall}
 use Rattle.tsp_reason.specs.declared.verdict.Reason.{Reason}
 use Rattle.tsp_reason.specs.declared.verdict.Reason.TheVariants.{NotASolution, NotPotentials, NotBranches}
 use Rattle.tsp_reason.specs.declared.verdict.Verdict.{Verdict}
@@ -23,7 +23,7 @@ use Rattle.tsp_reason.specs.declared.certificate.Certificate.TheVariants.{Potent
 use Rattle.tsp_judge.specs.declared.fault.RunFault.{RunFault}
 use Rattle.tsp_judge.specs.declared.fault.RunFault.TheVariants.{File, WrongKind, Write, OutOfMemory, Relayout}
 use Rattle.tsp_judge.specs.Judged.{is_yes}
-use Rattle.tsp_report.specs.Report.{report_of, IsBoundSized, IsSized}
+use Rattle.tsp_report.specs.Report.{report_of, IsGapSized, IsSized}
 use Rattle.tsp_judge.specs.Run.{ReadsFile, Answers, told}
 use Rattle.tsp_judge.proofs.Checks.{a_file_of_tours}
 use Rattle.tsp_verdict.specs.Certified.{kind_of, is_bounded, StandsAgainstCertified, IsCertifiedVerdict}
@@ -46,7 +46,7 @@ few (negsuc n) small = omega (arith, ints, small.0, small.1)
 
 -- the bound of an accepted tour fits
 pub sized : (by : Certificate) (instance solution certificate : Fields) (verdict : Verdict) → IsCertifiedVerdict by instance solution certificate verdict → IsSized verdict
-sized by instance solution certificate (verdicts.Tour length bound) v = subst IsBoundSized (sym v.1.bound_is) (few v.1.least v.1.sized)
+sized by instance solution certificate (verdicts.Tour length bound) v = subst IsGapSized (sym v.1.bound_is) (few v.1.least v.1.sized)
 sized by instance solution certificate (verdicts.Routes length routes least) v = tt
 sized by instance solution certificate (verdicts.No reason) v = tt
 

@@ -18,7 +18,7 @@ use Rattle.tsp_reason.specs.declared.verdict.Reason.TheVariants.{NotASolution}
 use Rattle.tsp_verdict.specs.Tours.{IsTourVerdict}
 use Rattle.tsp_verdict.specs.Routes.{IsRoutesVerdict}
 use Rattle.tsp_judge.specs.Judged.{IsVerdictBy, IsVerdictOn, is_yes}
-use Rattle.tsp_report.specs.Report.{IsBoundSized, IsSized, report_of}
+use Rattle.tsp_report.specs.Report.{IsGapSized, IsSized, report_of}
 use Rattle.tsp_judge.specs.Run.{ReadsFile, IsRun, IsVerdictRun, Answers, told}
 use Rattle.tsp_judge.specs.Yes.{IsATourYes, IsARoutesYes, IsCheck, IsVerdictCheck}
 
@@ -26,7 +26,7 @@ pub none_taken : length {A = ℕ} [] ≤ most_taken
 none_taken = omega arith
 
 -- a verdict without a bound
-no_bound : (bound : Option ℤ) → bound ≡ None → IsBoundSized bound
+no_bound : (bound : Option ℤ) → bound ≡ None → IsGapSized bound
 no_bound None e = tt
 no_bound (Some b) e = absurd cc
 

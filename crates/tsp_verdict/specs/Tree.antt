@@ -7,7 +7,7 @@ use Rattle.tsp_file.specs.Cost.{cost}
 use Rattle.tsp_cost.specs.Tours.{is_directed}
 use Rattle.tsp_branch.specs.Combs.{Comb}
 use Rattle.tsp_branch.specs.CombsOfSets.{comb_with}
-use Rattle.tsp_branch.specs.Cases.{Step}
+use Rattle.tsp_branch.specs.Cases.{CaseStep}
 use Rattle.tsp_branch.specs.Certificate.{IsCertificate, IsCertificateBound}
 use Rattle.tsp_branch.specs.Decided.{decided_number}
 use Rattle.tsp_branch.specs.Decisions.{Decision, take_pairs, is_same}
@@ -39,7 +39,7 @@ abbrev pub given_in : Fields → List Decision
 given_in inst = take_pairs (each_once (is_directed inst.kind) (fixed_of inst))
 
 -- the steps of its tree, with the potentials and the multipliers of each leaf; the combs
-abbrev pub tree_in : Fields → Fields → List Step
+abbrev pub tree_in : Fields → Fields → List CaseStep
 tree_in inst tree = listed_steps (nodes_of inst) (length (combs_in tree)) (steps_in tree)
 
 abbrev pub told_combs : Fields → List Comb

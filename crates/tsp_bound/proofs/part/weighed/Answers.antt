@@ -2,8 +2,8 @@ use Rattle.std.proofs.Common.{◌≡◌, ◌≤◌, ◌+◌, ◌++◌, ◌∷◌
 use Rattle.std.specs.Prelude.{ℤ, ◌+ℤ◌, ◌-ℤ◌}
 use Rattle.std.specs.Int.{w64, w128}
 use Rattle.tsp_format.specs.Limits.{most_nodes}
-use Rattle.tsp_bound.specs.Boxes.{node_at}
-use Rattle.tsp_bound.specs.Numbering.{both}
+use Rattle.tsp_bound.specs.Boxes.{node_of}
+use Rattle.tsp_bound.specs.Numbering.{on_both}
 use Rattle.tsp_bound.specs.Multipliers.{triples_in, weight_less}
 use Rattle.tsp_bound.specs.Potentials.{weight_under}
 use Rattle.tsp_theory.specs.Tree.{weight_of}
@@ -15,7 +15,7 @@ pub pairs-preserved : goal.pairs-preserved
 pairs-preserved g c =
     let raw = weight_under c.args.w.now.p.now (g.C.Costs.at c.args.w.now.c.now) in
     let w = weight_less c.args.w.now.p.now (triples_in c.args.w.now.m.now) (g.C.Costs.at c.args.w.now.c.now) in
-    let f : ℕ × ℕ → ℕ × ℕ = both (node_at c.args.order.now) in
+    let f : ℕ × ℕ → ℕ × ℕ = on_both (node_of c.args.order.now) in
     let pair : ℕ × ℕ = get_or c.args.pairs.now c.pairs.pair-index (0, 0) in
     let named : List (ℕ × ℕ) = c.pairs.named.items in
     let pushed : c.push.new.self.items ≡ named ++ f pair ∷ [] = c.in_ok-push.ensures.items in
