@@ -26,10 +26,7 @@ use tsp_theory::{Costs, Grouped};
 /// # Errors
 ///
 /// Out of memory.
-pub(crate) fn grow<C: Grouped>(
-    alloc: Global,
-    w: &Weights<C>,
-) -> Result<Grown, AllocError>
+pub(crate) fn grow<C: Grouped>(alloc: Global, w: &Weights<C>) -> Result<Grown, AllocError>
     ensures whole { IfOk result (λ grown. IsWholeGrowth (C.nodes w.now.c.now)
         (weight_less w.now.p.now (triples_in w.now.m.now) (C.at w.now.c.now)) grown.pairs.items) }
     ensures weight { IfOk result (λ grown. grown.weight
@@ -51,10 +48,7 @@ pub(crate) fn grow<C: Grouped>(
 /// # Errors
 ///
 /// Out of memory.
-fn grown_part<C: Grouped>(
-    alloc: Global,
-    w: &Weights<C>,
-) -> Result<Grown, AllocError>
+fn grown_part<C: Grouped>(alloc: Global, w: &Weights<C>) -> Result<Grown, AllocError>
     ensures { IfOk result (λ grown. IsPartGrowth (C.nodes w.now.c.now)
         (weight_less w.now.p.now (triples_in w.now.m.now) (C.at w.now.c.now)) grown.pairs.items grown.weight) }
 {
@@ -67,11 +61,7 @@ fn grown_part<C: Grouped>(
 }
 
 /// The same over an order of nodes.
-fn grown_over<C: Grouped>(
-    alloc: Global,
-    w: &Weights<C>,
-    order: &[u32],
-) -> Result<Grown, AllocError>
+fn grown_over<C: Grouped>(alloc: Global, w: &Weights<C>, order: &[u32]) -> Result<Grown, AllocError>
     requires few { length order.now ≤ most_nodes }
     ensures { IfOk result (λ grown. IsPartGrowth (C.nodes w.now.c.now)
         (weight_less w.now.p.now (triples_in w.now.m.now) (C.at w.now.c.now)) grown.pairs.items grown.weight) }

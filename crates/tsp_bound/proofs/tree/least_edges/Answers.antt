@@ -18,10 +18,10 @@ overflow_add-result g c =
 
 pub returns : goal.returns
 returns g c =
-    let n = g.C.Costs.nodes c.args.w.now.c.now in
-    let w = weight_less c.args.w.now.p.now (triples_in c.args.w.now.m.now) (g.C.Costs.at c.args.w.now.c.now) in
-    let even = adjusted_even (triples_in c.args.w.now.m.now) [] (weight_under c.args.w.now.p.now (g.C.Costs.at c.args.w.now.c.now))
-    (weight_even c.args.w.now.p.now.scale c.args.w.now.p.now.numbers.now (g.C.Costs.at c.args.w.now.c.now) (g.met.C.Symmetric.even c.args.w.now.c.now)) in
+    let n = g.C.Costs.nodes c.args.c.now in
+    let w = weight_less c.args.p.now (triples_in c.args.m.now) (g.C.Costs.at c.args.c.now) in
+    let even = adjusted_even (triples_in c.args.m.now) [] (weight_under c.args.p.now (g.C.Costs.at c.args.c.now))
+    (weight_even c.args.p.now.scale c.args.p.now.numbers.now (g.C.Costs.at c.args.c.now) (g.met.C.Symmetric.even c.args.c.now)) in
     let two = c.in_ok-first in
     let grown = c.in_ok-grown.grown in
     let first : FitsSigned w64 c.in_ok-first.first.weight = search rules in
@@ -31,7 +31,7 @@ returns g c =
     let sums : (two.first.weight +ℤ two.second.weight) +ℤ grown.weight ≡ (w 1 two.first.node +ℤ w 1 two.second.node) +ℤ weight_of w grown.pairs.items =
     ap₂ (λ a b. a +ℤ b) (ap₂ (λ a b. a +ℤ b) two.ensures.first two.ensures.second) c.in_ok-grown.ensures.weight in
     record {
-      least = least_from_growth n w two.first.node two.second.node grown.pairs.items c.deref.result.now c.in_ok-edges.edges.items c.args.w.now.some even
+      least = least_from_growth n w two.first.node two.second.node grown.pairs.items c.deref.result.now c.in_ok-edges.edges.items c.requires.some even
           two.ensures.nearest c.in_ok-grown.ensures.whole c.deref.ensures.value c.in_ok-edges.ensures;
       weight = computed ∙ sums ∙ sym (weight_of_tree w even two.first.node two.second.node grown.pairs.items) ∙ ap (weight_of w) (sym edges);
       size = rw computed (tree_size two.first.weight two.second.weight grown.weight first second c.in_ok-grown.ensures.size);
