@@ -18,6 +18,8 @@ pub mod DecidedOnce
 pub mod MovedSums
 pub mod Outside
 pub mod OnePass
+pub mod PairKeys
+pub mod DecidedSets
 pub mod Passes
 pub mod GrowthStates
 pub mod Judging

@@ -1,6 +1,6 @@
 -- The distance by each weight type is the one number with its inequalities.
 use Rattle.std.proofs.Common.{◌≡◌, ◌≢◌, ◌∙◌, ℕ, refl, sym, ap, subst}
-use Rattle.std.specs.Prelude.{pos, unsigned_abs, Some, Option, unwrap_or, [], List}
+use Rattle.std.specs.Prelude.{pos, unsigned_abs, Some, Option, unwrap_or, []}
 use Rattle.tsp_distance.specs.declared.decimal.Point.{Point}
 use Rattle.tsp_distance.specs.Distances.{IsEuc2d, IsCeil2d, IsMan2d, IsMax2d, IsAtt, IsEuc3d, IsMan3d, IsMax3d, euc_2d_of, ceil_2d_of, man_2d_of, max_2d_of, att_of, euc_3d_of, man_3d_of, max_3d_of, IsDistance, IsDistanceInSpace}
 use Rattle.tsp_format.specs.declared.kinds.WeightKind.{WeightKind}

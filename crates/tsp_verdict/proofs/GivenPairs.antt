@@ -12,9 +12,9 @@ use Rattle.tsp_draft.specs.Valid.{IsPairOf}
 use Rattle.tsp_theory.specs.Tour.{Uses}
 use Rattle.tsp_branch.specs.Decided.{IsDecision, case_of}
 use Rattle.tsp_branch.specs.Decisions.{Decision, KeepsAll, KeepsDecision, DecideOnce, take_pairs, is_same}
-use Rattle.tsp_verdict.specs.PairSets.{key_of, pair_cmp, HasKeys}
+use Rattle.tsp_branch.specs.PairSets.{key_of, pair_cmp, HasKeys}
 use Rattle.tsp_verdict.specs.Tree.{each_once}
-use Rattle.tsp_verdict.proofs.PairSets.{turned_same}
+use Rattle.tsp_branch.proofs.PairKeys.{turned_same}
 
 -- ---- as one pass over the pairs has them
 
