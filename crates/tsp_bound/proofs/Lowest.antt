@@ -8,7 +8,7 @@ use Rattle.std.proofs.lemmas.Int.{ints}
 use Rattle.std.proofs.lemmas.List.Elements.{recursion_from_All}
 use Rattle.tsp_format.specs.Limits.{most_multiplier}
 use Rattle.tsp_bound.specs.declared.boxes.Best.{Best}
-use Rattle.tsp_bound.specs.Boxes.{node_at, is_outside, IsFound, IsBest, IsSearched, no_best}
+use Rattle.tsp_bound.specs.Boxes.{node_of, is_outside, IsFound, IsBest, IsSearched, no_best}
 use Rattle.tsp_bound.specs.ByNode.{lowered_by, AreLowerings}
 use Rattle.tsp_theory.specs.Numbers.{IsFromTo}
 use Rattle.tsp_theory.specs.Tree.{IsInner}
@@ -24,10 +24,10 @@ searched_best w order outside from best all = record {
 
 -- the places of nodes in an order
 pub record ArePlaces (n : ℕ) (order places : List ℕ) : Type 0 where
-  pub inner : (j : ℕ) → j < length order → IsInner n (node_at order j)
+  pub inner : (j : ℕ) → j < length order → IsInner n (node_of order j)
   pub placed : (x : ℕ) → IsInner n x → slice_index_or places x 0 < length order
-  pub back : (j : ℕ) → j < length order → slice_index_or places (node_at order j) 0 ≡ j
-  pub there : (x : ℕ) → IsInner n x → node_at order (slice_index_or places x 0) ≡ x
+  pub back : (j : ℕ) → j < length order → slice_index_or places (node_of order j) 0 ≡ j
+  pub there : (x : ℕ) → IsInner n x → node_of order (slice_index_or places x 0) ≡ x
 
 -- after this many of the lowerings
 pub record IsLowest (n : ℕ) (w v : ℕ → ℕ → ℤ) (lowerings : List (ℕ × ℤ)) (order places : List ℕ) (outside : List Bool) (from count : ℕ) (old best : Best) : Type 0 where
@@ -76,7 +76,7 @@ lowest_taken n m w v lowerings order places outside from count old best new node
       kept = let k = h.kept in omega (arith, ints, k, better);
       seen = λ k x other low is in_x out_x. let s = h.seen k x other low is in_x out_x in omega (arith, ints, s, better);
       found =
-          let there : node_at order new.place ≡ node = ap (node_at order) place ∙ are.there node inner in
+          let there : node_of order new.place ≡ node = ap (node_of order) place ∙ are.there node inner in
           let one = one_lowered lowerings node count number lower.once long (entry (node, number)) in
           let own : v from node ≡ w from node -ℤ lowered_by lowerings node = less.less node in
           let value : new.weight ≡ v from node = omega (arith, ints, weight, own, one) in
@@ -102,9 +102,9 @@ lowering_of (l ∷ ls) x = elim (cases_eq l.0 x) [
 
 lowest_least : (n m : ℕ) (w v : ℕ → ℕ → ℤ) (lowerings : List (ℕ × ℤ)) (order places : List ℕ) (outside : List Bool) (from : ℕ) (old best : Best)
     → ArePlaces n order places → AreLowerings m lowerings → AreLess w v lowerings from → IsBest w order outside from old
-    → IsLowest n w v lowerings order places outside from (length lowerings) old best → (j : ℕ) → j < length order → is_outside outside j ≡ true → best.weight ≤ℤ v from (node_at order j)
+    → IsLowest n w v lowerings order places outside from (length lowerings) old best → (j : ℕ) → j < length order → is_outside outside j ≡ true → best.weight ≤ℤ v from (node_of order j)
 lowest_least n m w v lowerings order places outside from old best are lower less first h j j_in out =
-    let x : ℕ = node_at order j in
+    let x : ℕ = node_of order j in
     let own : v from x ≡ w from x -ℤ lowered_by lowerings x = less.less x in
     elim (lowering_of lowerings x) [
       | inl none ↦
@@ -131,7 +131,7 @@ lowest_end n m w v lowerings order places outside from count old best all are lo
           | inl none ↦ inl (same ∙ none)
           | inr found ↦
               let kept : IsFound w order outside from best = subst (λ (b : Best). IsFound w order outside from b) (sym same) found in
-              let x : ℕ = node_at order best.place in
+              let x : ℕ = node_of order best.place in
               let own : v from x ≡ w from x -ℤ lowered_by lowerings x = less.less x in
               let low = lowered_positive m lowerings x (recursion_from_All (λ l. IsFromTo (pos 0) (pos most_multiplier) l.1) lowerings (λ k d lt. (lower.each k d lt).1)) in
               let below : best.weight ≤ℤ v from x = least best.place kept.node_in kept.out in

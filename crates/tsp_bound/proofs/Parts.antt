@@ -10,10 +10,10 @@ use Rattle.tsp_bound.specs.declared.by_node.ByNode.{ByNode}
 use Rattle.tsp_theory.specs.Adjusted.{numbers_on, adjusted}
 use Rattle.tsp_bound.specs.ByNode.{lowered_by}
 use Rattle.tsp_bound.specs.Multipliers.{triples_in, weight_less}
-use Rattle.tsp_bound.specs.Boxes.{node_at}
+use Rattle.tsp_bound.specs.Boxes.{node_of}
 use Rattle.tsp_theory.specs.Growth.{Grows, IsPartGrowth}
 use Rattle.tsp_bound.specs.Heap.{IsBelow}
-use Rattle.tsp_bound.specs.Numbering.{IsNumbering, both}
+use Rattle.tsp_bound.specs.Numbering.{IsNumbering, on_both}
 use Rattle.tsp_theory.specs.Numbers.{IsFromTo, IsSumSized}
 use Rattle.tsp_theory.specs.Tree.{IsInner, weight_of}
 use Rattle.tsp_theory.proofs.Adjustments.{numbers_turned}
@@ -23,19 +23,19 @@ pub map_more : (f : ℕ × ℕ → ℕ × ℕ) (xs : List (ℕ × ℕ)) (i : ℕ
 map_more f xs i d low = ap (map f) (take_more xs i d low) ∙ map-append f (take i xs) (get_or xs i d ∷ [])
 
 -- the place of node 2 is one of the order
-pub start_in : (order places : List ℕ) (last : ℕ) → 3 ≤ last → IsNumbering (length order) (IsInner last) (node_at order) (λ x. slice_index_or places x 0)
+pub start_in : (order places : List ℕ) (last : ℕ) → 3 ≤ last → IsNumbering (length order) (IsInner last) (node_of order) (λ x. slice_index_or places x 0)
     → slice_index_or places 2 0 < length order
 start_in order places last some num = num.place_in 2 (omega arith, omega (arith, some))
 
 pub over_nodes : (order places : List ℕ) (last start : ℕ) (w v : ℕ → ℕ → ℤ) (pairs : List (ℕ × ℕ)) → 3 ≤ last
-    → IsNumbering (length order) (IsInner last) (node_at order) (λ x. slice_index_or places x 0) → start ≡ slice_index_or places 2 0
-    → ((i j : ℕ) → v i j ≡ w (node_at order i) (node_at order j)) → Grows (IsBelow (length order)) v (λ x. x == start) pairs
-    → Grows (IsInner last) w (λ x. x == 2) (map (both (node_at order)) pairs)
+    → IsNumbering (length order) (IsInner last) (node_of order) (λ x. slice_index_or places x 0) → start ≡ slice_index_or places 2 0
+    → ((i j : ℕ) → v i j ≡ w (node_of order i) (node_of order j)) → Grows (IsBelow (length order)) v (λ x. x == start) pairs
+    → Grows (IsInner last) w (λ x. x == 2) (map (on_both (node_of order)) pairs)
 over_nodes order places last start w v pairs some num is same grows =
-    let first : node_at order start ≡ 2 = ap (node_at order) is ∙ num.there 2 (omega arith, omega (arith, some)) in
+    let first : node_of order start ≡ 2 = ap (node_of order) is ∙ num.there 2 (omega arith, omega (arith, some)) in
     let below : start < length order = subst (λ (k : ℕ). k < length order) (sym is) (start_in order places last some num) in
-    subst (λ (k : ℕ). Grows (IsInner last) w (λ x. x == k) (map (both (node_at order)) pairs)) first
-    (growths_rename (length order) last (node_at order) (λ x. slice_index_or places x 0) w v start pairs num below (λ i j i_in j_in. same i j) grows)
+    subst (λ (k : ℕ). Grows (IsInner last) w (λ x. x == k) (map (on_both (node_of order)) pairs)) first
+    (growths_rename (length order) last (node_of order) (λ x. slice_index_or places x 0) w v start pairs num below (λ i j i_in j_in. same i j) grows)
 
 -- ---- the weight of a pair, less its multiplier
 
@@ -60,7 +60,7 @@ whole_size n w pairs sum most count size = (omega (arith, ints, size.0, most, co
 
 -- ---- as the code shows them
 
-pub is_node : (order : List ℕ) (place : ℕ → ℕ) (last : ℕ) → IsNumbering (length order) (IsInner last) (node_at order) place → (j : ℕ) → j < length order → IsNode last (node_at order j)
+pub is_node : (order : List ℕ) (place : ℕ → ℕ) (last : ℕ) → IsNumbering (length order) (IsInner last) (node_of order) place → (j : ℕ) → j < length order → IsNode last (node_of order j)
 is_node order place last num j h = let inner = num.node_in j h in (omega (arith, inner.0), inner.1)
 
 pub weights_seen : (p q : Potentials) (m k : ByNode) (cost shown : ℕ → ℕ → ℤ) → q ≡ p → k ≡ m → shown ≡ cost → weight_less q (triples_in k) shown ≡ weight_less p (triples_in m) cost
@@ -68,20 +68,20 @@ weights_seen p q m k cost shown same_p same_m same_cost =
     ap (λ (r : Potentials). weight_less r (triples_in k) shown) same_p ∙ (ap (λ (r : ByNode). weight_less p (triples_in r) shown) same_m ∙ ap (weight_less p (triples_in m)) same_cost)
 
 pub growth_seen : (order seen : List ℕ) (w shown : ℕ → ℕ → ℤ) (start : ℕ) (pairs : List (ℕ × ℕ)) → seen ≡ order → shown ≡ w
-    → Grows (IsBelow (length seen)) (λ i j. shown (node_at seen i) (node_at seen j)) (λ x. x == start) pairs
-    → Grows (IsBelow (length order)) (λ i j. w (node_at order i) (node_at order j)) (λ x. x == start) pairs
+    → Grows (IsBelow (length seen)) (λ i j. shown (node_of seen i) (node_of seen j)) (λ x. x == start) pairs
+    → Grows (IsBelow (length order)) (λ i j. w (node_of order i) (node_of order j)) (λ x. x == start) pairs
 growth_seen order seen w shown start pairs same_order same_weights g =
-    subst (λ (os : List ℕ). Grows (IsBelow (length os)) (λ i j. w (node_at os i) (node_at os j)) (λ x. x == start) pairs) same_order
-    (subst (λ (k : ℕ → ℕ → ℤ). Grows (IsBelow (length seen)) (λ i j. k (node_at seen i) (node_at seen j)) (λ x. x == start) pairs) same_weights g)
+    subst (λ (os : List ℕ). Grows (IsBelow (length os)) (λ i j. w (node_of os i) (node_of os j)) (λ x. x == start) pairs) same_order
+    (subst (λ (k : ℕ → ℕ → ℤ). Grows (IsBelow (length seen)) (λ i j. k (node_of seen i) (node_of seen j)) (λ x. x == start) pairs) same_weights g)
 
 -- the pairs of the nodes and their sum
 pub part_of : (order places : List ℕ) (last start : ℕ) (w : ℕ → ℕ → ℤ) (pairs named : List (ℕ × ℕ)) (sum : ℤ) → 3 ≤ last
-    → IsNumbering (length order) (IsInner last) (node_at order) (λ x. slice_index_or places x 0) → start ≡ slice_index_or places 2 0
-    → Grows (IsBelow (length order)) (λ i j. w (node_at order i) (node_at order j)) (λ x. x == start) pairs
-    → named ≡ map (both (node_at order)) pairs → sum ≡ weight_of w named → IsSumSized (length named) sum → IsPartGrowth last w named sum
+    → IsNumbering (length order) (IsInner last) (node_of order) (λ x. slice_index_or places x 0) → start ≡ slice_index_or places 2 0
+    → Grows (IsBelow (length order)) (λ i j. w (node_of order i) (node_of order j)) (λ x. x == start) pairs
+    → named ≡ map (on_both (node_of order)) pairs → sum ≡ weight_of w named → IsSumSized (length named) sum → IsPartGrowth last w named sum
 part_of order places last start w pairs named sum some num is grows named_is sum_is size = record {
   grows = subst (λ (ps : List (ℕ × ℕ)). Grows (IsInner last) w (λ x. x == 2) ps) (sym named_is)
-      (over_nodes order places last start w (λ i j. w (node_at order i) (node_at order j)) pairs some num is (λ i j. refl) grows);
+      (over_nodes order places last start w (λ i j. w (node_of order i) (node_of order j)) pairs some num is (λ i j. refl) grows);
   weight = sum_is;
   size = size;
 }

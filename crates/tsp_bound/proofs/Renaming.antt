@@ -4,7 +4,7 @@ use Rattle.std.proofs.lemmas.Bool.{cases_eq, ne_eqb, eq-eqb, eqb-true, or_cases}
 use Rattle.tsp_theory.specs.Tree.{IsInner}
 use Rattle.tsp_theory.specs.Growth.{and_node, IsLeastLeaving, Grows}
 use Rattle.tsp_bound.specs.Heap.{IsBelow}
-use Rattle.tsp_bound.specs.Numbering.{IsNumbering, both, GrowthsRename}
+use Rattle.tsp_bound.specs.Numbering.{IsNumbering, on_both, GrowthsRename}
 
 same_test : (n : ℕ) (Node : ℕ → Type 0) (node place : ℕ → ℕ) (i v : ℕ) → IsNumbering n Node node place → i < n → v < n → (node i == node v) ≡ (i == v)
 same_test n Node node place i v num i_in v_in = elim (cases_eq i v) [
@@ -15,12 +15,12 @@ same_test n Node node place i v num i_in v_in = elim (cases_eq i v) [
 renamed : (n : ℕ) (Node : ℕ → Type 0) (node place : ℕ → ℕ) (w v : ℕ → ℕ → ℤ) (pairs : List (ℕ × ℕ)) (over under : ℕ → Bool)
     → IsNumbering n Node node place → ((i j : ℕ) → i < n → j < n → v i j ≡ w (node i) (node j))
     → ((i : ℕ) → i < n → over (node i) ≡ under i) → ((i : ℕ) → under i ≡ true → i < n)
-    → Grows (IsBelow n) v under pairs → Grows Node w over (map (both node) pairs)
+    → Grows (IsBelow n) v under pairs → Grows Node w over (map (on_both node) pairs)
 renamed n Node node place w v [] over under num same marks inner g = tt
 renamed n Node node place w v (pair ∷ pairs) over under num same marks inner g =
     let from_in : pair.0 < n = inner pair.0 g.0.from in
     let to_in : pair.1 < n = g.0.node in
-    let least : IsLeastLeaving Node w over (both node pair) = record {
+    let least : IsLeastLeaving Node w over (on_both node pair) = record {
       from = marks pair.0 from_in ∙ g.0.from;
       to = marks pair.1 to_in ∙ g.0.to;
       node = num.node_in pair.1 to_in;

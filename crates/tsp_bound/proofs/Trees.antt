@@ -6,7 +6,7 @@ use Rattle.std.proofs.lemmas.List.{get_or-set_same, get_or-set_other}
 use Rattle.std.proofs.lemmas.Int.{ints}
 use Rattle.tsp_bound.specs.declared.area.Area.{Area}
 use Rattle.tsp_bound.specs.declared.boxes.Best.{Best}
-use Rattle.tsp_bound.specs.Boxes.{up, node_at, is_outside, area_at, AreHeldFrom, AreHeld, IsRefit, KeepsHeld, IsKnown, IsBoundOf, IsFound, IsBest, IsSearched, no_best}
+use Rattle.tsp_bound.specs.Boxes.{up, node_of, is_outside, area_at, AreHeldFrom, AreHeld, IsRefit, KeepsHeld, IsKnown, IsBelowAll, IsFound, IsBest, IsSearched, no_best}
 use Rattle.tsp_bound.specs.Heap.{IsNearest}
 
 -- ---- numbers of boxes
@@ -51,15 +51,15 @@ pub held_refit : (In : Option Area → ℕ → Type 0) (low new_low : ℕ) (plac
     → AreHeldFrom In low places outside old → AreHeldFrom In new_low places outside (set old v area)
 held_refit In low new_low places outside old v area len v_in twice step left right held j zero j_in out from =
     let other : length places + j ≢ v = λ e. omega (arith, e, v_in) in
-    subst (λ (a : Option Area). In a (node_at places j)) (sym (get_or-set_other old v (length places + j) area _ other)) (held j zero j_in out (step (length places + j) from other))
+    subst (λ (a : Option Area). In a (node_of places j)) (sym (get_or-set_other old v (length places + j) area _ other)) (held j zero j_in out (step (length places + j) from other))
 held_refit In low new_low places outside old v area len v_in twice step left right held j (suc h) j_in out from = elim (cases_eq (up (suc h) (length places + j)) v) [
   | inl same ↦
       let is : area_at (set old v area) (up (suc h) (length places + j)) ≡ area = ap (area_at (set old v area)) same ∙ get_or-set_same old v area _ (omega (arith, len, v_in)) in
-      subst (λ (a : Option Area). In a (node_at places j)) (sym is) (elim (half_cases (up h (length places + j)) v same) [
-        | inl even ↦ left (node_at places j) (subst (λ (k : ℕ). In (area_at old k) (node_at places j)) even (held j h j_in out (omega (arith, even, twice))))
-        | inr odd ↦ right (node_at places j) (subst (λ (k : ℕ). In (area_at old k) (node_at places j)) odd (held j h j_in out (omega (arith, odd, twice))))
+      subst (λ (a : Option Area). In a (node_of places j)) (sym is) (elim (half_cases (up h (length places + j)) v same) [
+        | inl even ↦ left (node_of places j) (subst (λ (k : ℕ). In (area_at old k) (node_of places j)) even (held j h j_in out (omega (arith, even, twice))))
+        | inr odd ↦ right (node_of places j) (subst (λ (k : ℕ). In (area_at old k) (node_of places j)) odd (held j h j_in out (omega (arith, odd, twice))))
       ])
-  | inr other ↦ subst (λ (a : Option Area). In a (node_at places j)) (sym (get_or-set_other old v (up (suc h) (length places + j)) area _ other))
+  | inr other ↦ subst (λ (a : Option Area). In a (node_of places j)) (sym (get_or-set_other old v (up (suc h) (length places + j)) area _ other))
       (held j (suc h) j_in out (step (up (suc h) (length places + j)) from other))
 ]
 
@@ -80,26 +80,26 @@ leaf_is places node j (suc h) j_in same = absurd (omega (arith, up_inner (length
 
 -- a leaf that holds its place, where that is outside
 pub held_leaf : (In : Option Area → ℕ → Type 0) (places : List ℕ) (outside : List Bool) (old : List (Option Area)) (node : ℕ) (area : Option Area) → length old ≡ 2 * length places
-    → node < length places → (is_outside outside node ≡ true → In area (node_at places node))
+    → node < length places → (is_outside outside node ≡ true → In area (node_of places node))
     → AreHeld In places outside old → AreHeld In places outside (set old (length places + node) area)
 held_leaf In places outside old node area len node_in own held j h j_in out from = elim (cases_eq (up h (length places + j)) (length places + node)) [
   | inl same ↦
       let mine : j ≡ node = leaf_is places node j h j_in same in
       let is : area_at (set old (length places + node) area) (up h (length places + j)) ≡ area = ap (area_at (set old (length places + node) area)) same
       ∙ get_or-set_same old (length places + node) area _ (omega (arith, len, node_in)) in
-      subst (λ (a : Option Area). In a (node_at places j)) (sym is) (subst (λ (k : ℕ). In area (node_at places k)) (sym mine) (own (subst (λ (k : ℕ). is_outside outside k ≡ true) mine out)))
-  | inr other ↦ subst (λ (a : Option Area). In a (node_at places j)) (sym (get_or-set_other old (length places + node) (up h (length places + j)) area _ other)) (held j h j_in out from)
+      subst (λ (a : Option Area). In a (node_of places j)) (sym is) (subst (λ (k : ℕ). In area (node_of places k)) (sym mine) (own (subst (λ (k : ℕ). is_outside outside k ≡ true) mine out)))
+  | inr other ↦ subst (λ (a : Option Area). In a (node_of places j)) (sym (get_or-set_other old (length places + node) (up h (length places + j)) area _ other)) (held j h j_in out from)
 ]
 
 -- a leaf more
 pub leaf_more : (In : Option Area → ℕ → Type 0) (places : List ℕ) (old : List (Option Area)) (node : ℕ) (area : Option Area) → length old ≡ 2 * length places
-    → node < length places → In area (node_at places node)
-    → ((j : ℕ) → j < node → In (area_at old (length places + j)) (node_at places j))
-    → (j : ℕ) → j < node + 1 → In (area_at (set old (length places + node) area) (length places + j)) (node_at places j)
+    → node < length places → In area (node_of places node)
+    → ((j : ℕ) → j < node → In (area_at old (length places + j)) (node_of places j))
+    → (j : ℕ) → j < node + 1 → In (area_at (set old (length places + node) area) (length places + j)) (node_of places j)
 leaf_more In places old node area len node_in own done j j_in = elim (cases_eq j node) [
-  | inl same ↦ subst (λ (k : ℕ). In (area_at (set old (length places + node) area) (length places + k)) (node_at places k)) (sym same)
-      (subst (λ (a : Option Area). In a (node_at places node)) (sym (get_or-set_same old (length places + node) area _ (omega (arith, len, node_in)))) own)
-  | inr other ↦ subst (λ (a : Option Area). In a (node_at places j))
+  | inl same ↦ subst (λ (k : ℕ). In (area_at (set old (length places + node) area) (length places + k)) (node_of places k)) (sym same)
+      (subst (λ (a : Option Area). In a (node_of places node)) (sym (get_or-set_same old (length places + node) area _ (omega (arith, len, node_in)))) own)
+  | inr other ↦ subst (λ (a : Option Area). In a (node_of places j))
       (sym (get_or-set_other old (length places + node) (length places + j) area _ (λ e. other (omega (arith, e))))) (done j (omega (arith, other, j_in)))
 ]
 
@@ -112,7 +112,7 @@ outside_before (b ∷ bs) (suc node) (suc j) h = outside_before bs node j h
 
 -- the leaves alone
 pub held_leaves : (In : Option Area → ℕ → Type 0) (places : List ℕ) (outside : List Bool) (areas : List (Option Area))
-    → ((j : ℕ) → j < length places → In (area_at areas (length places + j)) (node_at places j)) → AreHeldFrom In (length places) places outside areas
+    → ((j : ℕ) → j < length places → In (area_at areas (length places + j)) (node_of places j)) → AreHeldFrom In (length places) places outside areas
 held_leaves In places outside areas leaves j zero j_in out from = leaves j j_in
 held_leaves In places outside areas leaves j (suc h) j_in out from = absurd (omega (arith, from, up_inner (length places) h (length places + j) (omega (arith, j_in))))
 
@@ -125,7 +125,7 @@ held_fewer In places outside areas node held j h j_in out from = held j h j_in (
 
 -- a box that is no better than the best so far, or a leaf whose place is none that is outside and better
 pub searched_none : (w : ℕ → ℕ → ℤ) (places : List ℕ) (outside : List Bool) (from : ℕ) (v : ℕ) (best : Best)
-    → ((j h : ℕ) → j < length places → is_outside outside j ≡ true → up h (length places + j) ≡ v → best.weight ≤ℤ w from (node_at places j))
+    → ((j h : ℕ) → j < length places → is_outside outside j ≡ true → up h (length places + j) ≡ v → best.weight ≤ℤ w from (node_of places j))
     → IsSearched w places outside from v best best
 searched_none w places outside from v best below = record {
   kept = omega (arith, ints);
@@ -135,11 +135,11 @@ searched_none w places outside from v best below = record {
 
 -- a box that is left alone
 pub searched_alone : (In : Option Area → ℕ → Type 0) (IsOne : ℕ → Type 0) (w : ℕ → ℕ → ℤ) (places : List ℕ) (outside : List Bool) (areas : List (Option Area)) (from : ℕ) (v : ℕ) (best : Best)
-    (bound : ℤ) → 1 ≤ v → AreHeld In places outside areas → ((j : ℕ) → j < length places → IsOne (node_at places j)) → IsBoundOf IsOne (In (area_at areas v)) (w from) bound
+    (bound : ℤ) → 1 ≤ v → AreHeld In places outside areas → ((j : ℕ) → j < length places → IsOne (node_of places j)) → IsBelowAll IsOne (In (area_at areas v)) (w from) bound
     → IsKnown bound → best.weight ≤ℤ bound → IsSearched w places outside from v best best
 searched_alone In IsOne w places outside areas from v best bound some held ones bounds known worse = searched_none w places outside from v best (λ j h j_in out above.
-    let in_box = subst (λ (k : ℕ). In (area_at areas k) (node_at places j)) above (held j h j_in out (omega (arith, some, above))) in
-    let first = bounds known (node_at places j) (ones j j_in) in_box in
+    let in_box = subst (λ (k : ℕ). In (area_at areas k) (node_of places j)) above (held j h j_in out (omega (arith, some, above))) in
+    let first = bounds known (node_of places j) (ones j j_in) in_box in
     omega (arith, ints, first, worse))
 
 found_after : (w : ℕ → ℕ → ℤ) (places : List ℕ) (outside : List Bool) (from : ℕ) (u v : ℕ) (old half new : Best)
@@ -154,15 +154,15 @@ found_after w places outside from u v old half new first second = elim second.fo
 
 -- a leaf: its place is the only one below it
 pub leaf_below : (w : ℕ → ℕ → ℤ) (places : List ℕ) (outside : List Bool) (from : ℕ) (node : ℕ) (weight : ℤ)
-    → (is_outside outside node ≡ true → weight ≤ℤ w from (node_at places node))
-    → (j h : ℕ) → j < length places → is_outside outside j ≡ true → up h (length places + j) ≡ length places + node → weight ≤ℤ w from (node_at places j)
+    → (is_outside outside node ≡ true → weight ≤ℤ w from (node_of places node))
+    → (j h : ℕ) → j < length places → is_outside outside j ≡ true → up h (length places + j) ≡ length places + node → weight ≤ℤ w from (node_of places j)
 leaf_below w places outside from node weight own j h j_in out above =
     let mine : j ≡ node = leaf_is places node j h j_in above in
-    subst (λ (k : ℕ). weight ≤ℤ w from (node_at places k)) (sym mine) (own (subst (λ (k : ℕ). is_outside outside k ≡ true) mine out))
+    subst (λ (k : ℕ). weight ≤ℤ w from (node_of places k)) (sym mine) (own (subst (λ (k : ℕ). is_outside outside k ≡ true) mine out))
 
 both_below : (w : ℕ → ℕ → ℤ) (places : List ℕ) (outside : List Bool) (from : ℕ) (v near far : ℕ) (old half new : Best) → v < length places
     → near / 2 ≡ v → far / 2 ≡ v → near ≢ far → IsSearched w places outside from near old half → IsSearched w places outside from far half new
-    → (j h : ℕ) → j < length places → is_outside outside j ≡ true → up h (length places + j) ≡ v → new.weight ≤ℤ w from (node_at places j)
+    → (j h : ℕ) → j < length places → is_outside outside j ≡ true → up h (length places + j) ≡ v → new.weight ≤ℤ w from (node_of places j)
 both_below w places outside from v near far old half new inner is its different first second j zero j_in out above = absurd (omega (arith, inner, above))
 both_below w places outside from v near far old half new inner is its different first second j (suc h) j_in out above = elim (cases_eq (up h (length places + j)) near) [
   | inl mine ↦ let a = first.below j h j_in out mine in let b = second.kept in omega (arith, ints, a, b)
@@ -189,7 +189,7 @@ searched_after w places outside from u v old half new first second = record {
 
 -- what the search of the box 1 says of each place outside
 pub searched_all : (w : ℕ → ℕ → ℤ) (places : List ℕ) (outside : List Bool) (from : ℕ) (old new : Best) → IsSearched w places outside from 1 old new
-    → (j : ℕ) → j < length places → is_outside outside j ≡ true → new.weight ≤ℤ w from (node_at places j)
+    → (j : ℕ) → j < length places → is_outside outside j ≡ true → new.weight ≤ℤ w from (node_of places j)
 searched_all w places outside from old new all j j_in out =
     let top = reach (length places + j) (omega arith) in
     all.below j top.0 j_in out top.1
@@ -204,19 +204,19 @@ found_some w places outside from best all other = elim all.found [
 ]
 
 pub searched_seen : (w : ℕ → ℕ → ℤ) (places seen : List ℕ) (outside marks : List Bool) (from : ℕ) (best : Best) → seen ≡ places → marks ≡ outside
-    → IsSearched w seen marks (node_at seen from) 1 no_best best → IsSearched w places outside (node_at places from) 1 no_best best
-searched_seen w places seen outside marks from best p q h = subst (λ (os : List Bool). IsSearched w places os (node_at places from) 1 no_best best) q
-    (subst (λ (ps : List ℕ). IsSearched w ps marks (node_at ps from) 1 no_best best) p h)
+    → IsSearched w seen marks (node_of seen from) 1 no_best best → IsSearched w places outside (node_of places from) 1 no_best best
+searched_seen w places seen outside marks from best p q h = subst (λ (os : List Bool). IsSearched w places os (node_of places from) 1 no_best best) q
+    (subst (λ (ps : List ℕ). IsSearched w ps marks (node_of ps from) 1 no_best best) p h)
 
-pub nearest_is : (w : ℕ → ℕ → ℤ) (places : List ℕ) (outside : List Bool) (from : ℕ) (best : Best) (weight : ℤ) → IsBest w places outside (node_at places from) best
-    → IsFound w places outside (node_at places from) best → weight ≡ best.weight
-    → IsNearest (length places) (λ i j. w (node_at places i) (node_at places j)) (is_outside outside) from (record { weight = weight; from = from; to = best.place })
+pub nearest_is : (w : ℕ → ℕ → ℤ) (places : List ℕ) (outside : List Bool) (from : ℕ) (best : Best) (weight : ℤ) → IsBest w places outside (node_of places from) best
+    → IsFound w places outside (node_of places from) best → weight ≡ best.weight
+    → IsNearest (length places) (λ i j. w (node_of places i) (node_of places j)) (is_outside outside) from (record { weight = weight; from = from; to = best.place })
 nearest_is w places outside from best weight all found is = record {
   from_is = refl;
   to_in = found.node_in;
   to_out = found.out;
   weight_is = is ∙ found.weight_is;
-  least = λ x x_in out. subst (λ (z : ℤ). z ≤ℤ w (node_at places from) (node_at places x)) (sym is) (all.least x x_in out);
+  least = λ x x_in out. subst (λ (z : ℤ). z ≤ℤ w (node_of places from) (node_of places x)) (sym is) (all.least x x_in out);
 }
 
 -- once a node is taken in

@@ -19,8 +19,8 @@ up zero v = v
 up (suc h) v = up h v / 2
 
 -- the node at a place of the order
-abbrev pub node_at : List ℕ → ℕ → ℕ
-node_at order j = slice_index_or order j 0
+abbrev pub node_of : List ℕ → ℕ → ℕ
+node_of order j = slice_index_or order j 0
 
 abbrev pub is_outside : List Bool → ℕ → Bool
 is_outside outside j = slice_index_or outside j false
@@ -32,7 +32,7 @@ area_at areas v = slice_index_or areas v None
 abbrev pub AreHeldFrom : (Option Area → ℕ → Type 0) → ℕ → List ℕ → List Bool → List (Option Area) → Type 0
 AreHeldFrom In low order outside areas = (j h : ℕ) → j < length order → is_outside outside j ≡ true
     → low ≤ up h (length order + j)
-    → In (area_at areas (up h (length order + j))) (node_at order j)
+    → In (area_at areas (up h (length order + j))) (node_of order j)
 
 -- in each box but 0, which is none
 abbrev pub AreHeld : (Option Area → ℕ → Type 0) → List ℕ → List Bool → List (Option Area) → Type 0
@@ -55,14 +55,14 @@ abbrev pub IsKnown : ℤ → Type 0
 IsKnown bound = neg_ℤ (pos 9223372036854775808) <ℤ bound
 
 -- no more than the weight of each node that is in
-abbrev pub IsBoundOf : (ℕ → Type 0) → (ℕ → Type 0) → (ℕ → ℤ) → ℤ → Type 0
-IsBoundOf IsOne In weight bound = IsKnown bound → (node : ℕ) → IsOne node → In node → bound ≤ℤ weight node
+abbrev pub IsBelowAll : (ℕ → Type 0) → (ℕ → Type 0) → (ℕ → ℤ) → ℤ → Type 0
+IsBelowAll IsOne In weight bound = IsKnown bound → (node : ℕ) → IsOne node → In node → bound ≤ℤ weight node
 
 -- a place whose node is outside, and the weight to it
 pub record IsFound (w : ℕ → ℕ → ℤ) (order : List ℕ) (outside : List Bool) (from : ℕ) (best : Best) : Type 0 where
   pub node_in : best.place < length order
   pub out : is_outside outside best.place ≡ true
-  pub weight_is : best.weight ≡ w from (node_at order best.place)
+  pub weight_is : best.weight ≡ w from (node_of order best.place)
 
 -- before the search
 abbrev pub no_best : Best
@@ -70,14 +70,14 @@ no_best = record { weight = pos 9223372036854775807; place = 0 }
 
 -- no node outside is better, and it is one, where there is one
 pub record IsBest (w : ℕ → ℕ → ℤ) (order : List ℕ) (outside : List Bool) (from : ℕ) (best : Best) : Type 0 where
-  pub least : (j : ℕ) → j < length order → is_outside outside j ≡ true → best.weight ≤ℤ w from (node_at order j)
+  pub least : (j : ℕ) → j < length order → is_outside outside j ≡ true → best.weight ≤ℤ w from (node_of order j)
   pub found : (best ≡ no_best) ⊎ IsFound w order outside from best
 
 -- the search of the box v: the new best is no worse than the old one and than each node outside below v
 pub record IsSearched (w : ℕ → ℕ → ℤ) (order : List ℕ) (outside : List Bool) (from : ℕ) (v : ℕ) (old new : Best) : Type 0 where
   pub kept : new.weight ≤ℤ old.weight
   pub below : (j h : ℕ) → j < length order → is_outside outside j ≡ true → up h (length order + j) ≡ v
-      → new.weight ≤ℤ w from (node_at order j)
+      → new.weight ≤ℤ w from (node_of order j)
   pub found : (new ≡ old) ⊎ IsFound w order outside from new
 
 -- ---- each has one proof at most
@@ -91,4 +91,4 @@ pub AreHeld-prop : (place : ℕ → Point) (numbers : List ℤ) (order : List �
     → IsProp (AreHeld (HoldsNode place numbers) order outside areas)
 AreHeld-prop place numbers order outside areas =
     Π_prop λ j. Π_prop λ h. Π_prop λ _. Π_prop λ _. Π_prop λ _.
-    HoldsNode-prop place numbers (area_at areas (up h (length order + j))) (node_at order j)
+    HoldsNode-prop place numbers (area_at areas (up h (length order + j))) (node_of order j)

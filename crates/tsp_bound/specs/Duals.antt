@@ -3,8 +3,8 @@ use Rattle.std.specs.Prelude.{ℕ, List, ℤ, ◌+ℤ◌, ◌*ℤ◌}
 use Rattle.tsp_bound.specs.declared.duals.Duals.{Duals}
 use Rattle.tsp_theory.specs.Numbers.{entry}
 
-abbrev pub scale_of : Duals → ℤ
-scale_of d = d.scale
+abbrev pub dual_scale : Duals → ℤ
+dual_scale d = d.scale
 
 abbrev pub rows_of : Duals → List ℤ
 rows_of d = d.rows.now
@@ -17,4 +17,4 @@ abbrev pub dual_of : Duals → ℕ → ℕ → ℤ
 dual_of d i j = entry (rows_of d) i +ℤ entry (columns_of d) j
 
 abbrev pub scaled : Duals → (ℕ → ℕ → ℤ) → ℕ → ℕ → ℤ
-scaled d cost i j = scale_of d *ℤ cost i j
+scaled d cost i j = dual_scale d *ℤ cost i j

@@ -13,8 +13,8 @@ triples_of m = m.triples.now
 abbrev pub triples_in : ByNode → List (ℕ × ℕ × ℤ)
 triples_in m = m.triples.now
 
-abbrev pub nodes_in : ByNode → ℕ
-nodes_in m = m.nodes
+abbrev pub node_count : ByNode → ℕ
+node_count m = m.nodes
 
 -- the weight between two nodes: the cost at the scale and the potentials of both, less the multiplier of the pair; no pair is
 -- avoided

@@ -6,7 +6,7 @@ ghost use Rattle.tsp_theory.specs.Cycle.{IsCycle};
 ghost use Rattle.tsp_theory.specs.Length.{length_of};
 ghost use Rattle.tsp_theory.specs.Numbers.{IsBoundSized, entry};
 ghost use Rattle.tsp_theory.specs.Assignment.{AreGood, IsFirstBroken, IsDualBound};
-ghost use Rattle.tsp_bound.specs.Duals.{scale_of, rows_of, columns_of, dual_of, scaled};
+ghost use Rattle.tsp_bound.specs.Duals.{dual_scale, rows_of, columns_of, dual_of, scaled};
 
 use crate::duals::Duals;
 use crate::numbers::{least_bound, total};
@@ -38,10 +38,10 @@ pub fn dual_bound<C: Costs>(c: &C, d: &Duals) -> Result<i128, Infeasible>
     requires { length (rows_of d.now) ≡ C.nodes c.now }
     ensures value { MatchResult result
         (λ bound.
-        AreGood (C.nodes c.now) (C.at c.now) (scale_of d.now) (rows_of d.now) (columns_of d.now)
-        × IsDualBound (scale_of d.now) (rows_of d.now) (columns_of d.now) bound)
+        AreGood (C.nodes c.now) (C.at c.now) (dual_scale d.now) (rows_of d.now) (columns_of d.now)
+        × IsDualBound (dual_scale d.now) (rows_of d.now) (columns_of d.now) bound)
         (λ e. IsFirstBroken (C.nodes c.now) (C.at c.now)
-        (scale_of d.now) (rows_of d.now) (columns_of d.now) e.i e.j) }
+        (dual_scale d.now) (rows_of d.now) (columns_of d.now) e.i e.j) }
     ensures size { IfOk result IsBoundSized }
     ensures cycles { IfOk result (λ bound. 2 ≤ C.nodes c.now
         → (nodes : List ℕ) → IsCycle (C.nodes c.now) nodes → bound ≤ℤ length_of (C.at c.now) nodes) }

@@ -7,7 +7,7 @@ ghost use Rattle.tsp_format.specs.Cells.{IsNode};
 ghost use Rattle.tsp_format.specs.Limits.{most_scale, most_weight, most_potential};
 ghost use Rattle.tsp_theory.specs.Numbers.{IsFromTo, IsScale, entry};
 ghost use Rattle.tsp_bound.specs.Potentials.{scale_of, numbers_of, weight_under};
-ghost use Rattle.tsp_bound.specs.Boxes.{HoldsNode, AreHeld, IsRefit, KeepsHeld, IsKnown, IsBoundOf, IsSearched, no_best, node_at, area_at};
+ghost use Rattle.tsp_bound.specs.Boxes.{HoldsNode, AreHeld, IsRefit, KeepsHeld, IsKnown, IsBelowAll, IsSearched, no_best, node_of, area_at};
 
 use crate::area::Area;
 use crate::potentials::Potentials;
@@ -128,7 +128,7 @@ fn bound_of<C: Grouped>(
     requires count { length (numbers_of p.now) ≡ C.nodes c.now }
     requires from { IsNode (C.nodes c.now) from }
     requires box_in { v < length areas.now }
-    ensures { IsBoundOf (IsNode (C.nodes c.now))
+    ensures { IsBelowAll (IsNode (C.nodes c.now))
         (HoldsNode (C.place c.now) (numbers_of p.now) (area_at areas.now v))
         (weight_under p.now (C.at c.now) from) result }
 {
@@ -168,10 +168,10 @@ fn halves<C: Grouped>(
     ensures second { result.1.v / 2 ≡ v }
     ensures both { result.0.v ≢ result.1.v }
     ensures nearer { result.0.bound ≤ℤ result.1.bound }
-    ensures bound { IsBoundOf (IsNode (C.nodes c.now))
+    ensures bound { IsBelowAll (IsNode (C.nodes c.now))
         (HoldsNode (C.place c.now) (numbers_of p.now) (area_at areas.now result.0.v))
         (weight_under p.now (C.at c.now) from) result.0.bound }
-    ensures other_bound { IsBoundOf (IsNode (C.nodes c.now))
+    ensures other_bound { IsBelowAll (IsNode (C.nodes c.now))
         (HoldsNode (C.place c.now) (numbers_of p.now) (area_at areas.now result.1.v))
         (weight_under p.now (C.at c.now) from) result.1.bound }
 {
@@ -205,7 +205,7 @@ fn better_of<C: Grouped>(
 ) -> Best
     requires count { length (numbers_of p.now) ≡ C.nodes c.now }
     requires from { IsNode (C.nodes c.now) from }
-    requires nodes { (j : ℕ) → j < length order.now → IsNode (C.nodes c.now) (node_at order.now j) }
+    requires nodes { (j : ℕ) → j < length order.now → IsNode (C.nodes c.now) (node_of order.now j) }
     requires as_many { length outside.now ≡ length order.now }
     requires place { place < length order.now }
     ensures { IsSearched (weight_under p.now (C.at c.now)) order.now outside.now from
@@ -239,7 +239,7 @@ fn search<C: Grouped>(
 ) -> Best
     requires count { length (numbers_of p.now) ≡ C.nodes c.now }
     requires from { IsNode (C.nodes c.now) from }
-    requires nodes { (j : ℕ) → j < length order.now → IsNode (C.nodes c.now) (node_at order.now j) }
+    requires nodes { (j : ℕ) → j < length order.now → IsNode (C.nodes c.now) (node_of order.now j) }
     requires few { length order.now < 2 ^ 31 }
     requires as_many { length outside.now ≡ length order.now }
     requires boxes { length areas.now ≡ 2 * length order.now }
@@ -278,7 +278,7 @@ pub(crate) fn nearest_from<C: Grouped>(
     steps: &mut u64,
 ) -> Best
     requires count { length (numbers_of p.now) ≡ C.nodes c.now }
-    requires nodes { (j : ℕ) → j < length order.now → IsNode (C.nodes c.now) (node_at order.now j) }
+    requires nodes { (j : ℕ) → j < length order.now → IsNode (C.nodes c.now) (node_of order.now j) }
     requires few { length order.now < 2 ^ 31 }
     requires as_many { length outside.now ≡ length order.now }
     requires boxes { length areas.now ≡ 2 * length order.now }
@@ -286,7 +286,7 @@ pub(crate) fn nearest_from<C: Grouped>(
     requires near { near < length order.now }
     requires held { AreHeld (HoldsNode (C.place c.now) (numbers_of p.now)) order.now outside.now areas.now }
     ensures { IsSearched (weight_under p.now (C.at c.now)) order.now outside.now
-        (node_at order.now place) 1 no_best result }
+        (node_of order.now place) 1 no_best result }
 {
     let from = order[place];
     let none = Best {
@@ -334,7 +334,7 @@ pub(crate) fn boxes_of<C: Grouped>(
     order: &[u32],
 ) -> Result<Option<Vec<Option<Area>>>, AllocError>
     requires count { length (numbers_of p.now) ≡ C.nodes c.now }
-    requires nodes { (j : ℕ) → j < length order.now → IsNode (C.nodes c.now) (node_at order.now j) }
+    requires nodes { (j : ℕ) → j < length order.now → IsNode (C.nodes c.now) (node_of order.now j) }
     requires few { length order.now < 2 ^ 31 }
     ensures len { IfOk result (λ made. IfSome made (λ areas. length areas.items ≡ 2 * length order.now)) }
     ensures held { IfOk result (λ made. IfSome made (λ areas. (outside : List Bool)

@@ -26,7 +26,7 @@ impl<'a> ByNode<'a> {
     ghost use Rattle.tsp_format.specs.Cells.{IsNode};
     ghost use Rattle.tsp_theory.specs.Adjusted.{numbers_on};
     ghost use Rattle.tsp_bound.specs.ByNode.{AreLowerings};
-    ghost use Rattle.tsp_bound.specs.Multipliers.{triples_of, triples_in, nodes_in};
+    ghost use Rattle.tsp_bound.specs.Multipliers.{triples_of, triples_in, node_count};
 
     /// The multipliers of different pairs of the nodes 1 to `nodes`, by node.
     ///
@@ -40,7 +40,7 @@ impl<'a> ByNode<'a> {
     ) -> Result<ByNode<'a>, AllocError>
         requires few { nodes < 2 ^ 32 - 1 }
         requires on_pairs { AreOnPairs nodes (triples_of m.now) }
-        ensures nodes { IfOk result (λ made. nodes_in made ≡ nodes) }
+        ensures nodes { IfOk result (λ made. node_count made ≡ nodes) }
         ensures triples { IfOk result (λ made. triples_in made ≡ triples_of m.now) }
     {
         let lists = lists_of(alloc, nodes, m.triples)?;
@@ -53,8 +53,8 @@ impl<'a> ByNode<'a> {
 
     /// The multipliers of a node's pairs, each with the pair's other node.
     pub(crate) fn at(&self, node: u32) -> &[(u32, i64)]
-        requires { IsNode (nodes_in self.now) node }
-        ensures are { AreLowerings (nodes_in self.now) result.now }
+        requires { IsNode (node_count self.now) node }
+        ensures are { AreLowerings (node_count self.now) result.now }
         ensures sums { (x : ℕ) → lowered_by result.now x ≡ numbers_on (triples_in self.now) node x }
     {
         self.lists[node as usize].as_slice()

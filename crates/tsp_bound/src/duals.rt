@@ -15,7 +15,7 @@ pub struct Duals<'a> {
 
 impl<'a> Duals<'a> {
     ghost use Rattle.std.specs.Prelude.{◌≡◌, MatchOption};
-    ghost use Rattle.tsp_bound.specs.Duals.{scale_of, rows_of, columns_of};
+    ghost use Rattle.tsp_bound.specs.Duals.{dual_scale, rows_of, columns_of};
 
     /// The duals of these numbers of rows and of columns, each a count of 1 / scale.
     ///
@@ -23,7 +23,7 @@ impl<'a> Duals<'a> {
     /// there aren't as many numbers of rows as of columns; and only there.
     pub fn new(scale: i64, u: &'a [i64], v: &'a [i64]) -> Option<Duals<'a>>
         ensures { MatchOption result (AreDuals scale u.now v.now → ⊥)
-            (λ d. AreDuals scale u.now v.now × (scale_of d ≡ scale)
+            (λ d. AreDuals scale u.now v.now × (dual_scale d ≡ scale)
             × (rows_of d ≡ u.now) × (columns_of d ≡ v.now)) }
     {
         if !is_scale(scale) || u.len() != v.len() || !are_potentials(u) || !are_potentials(v) {

@@ -7,11 +7,10 @@ ghost use Rattle.tsp_theory.specs.Numbers.{IsFromTo};
 ghost use Rattle.tsp_theory.specs.Tree.{IsInner, weight_of};
 ghost use Rattle.tsp_bound.specs.ByNode.{AreLowerings};
 ghost use Rattle.tsp_theory.specs.Growth.{is_inside, IsWholeGrowth, AllInside, IsNearestOutside, IsNearer, AreNearer, AreLowered, IsPartGrowth};
-ghost use Rattle.tsp_bound.specs.Potentials.{numbers_of, weight_under};
-ghost use Rattle.tsp_bound.specs.Multipliers.{triples_in, nodes_in, weight_less};
+ghost use Rattle.tsp_bound.specs.Potentials.{weight_under};
+ghost use Rattle.tsp_bound.specs.Multipliers.{triples_in, weight_less};
 
-use crate::by_node::ByNode;
-use crate::potentials::Potentials;
+use crate::weights::Weights;
 use std::alloc::{AllocError, Global};
 use tsp_theory::Costs;
 
@@ -33,33 +32,28 @@ pub(crate) struct Grown {
 /// Out of memory.
 pub(crate) fn grow_on<C: Costs>(
     alloc: Global,
-    c: &C,
-    p: &Potentials,
-    m: &ByNode,
+    w: &Weights<C>,
     grown: Grown,
 ) -> Result<Grown, AllocError>
-    requires some { 3 ≤ C.nodes c.now }
-    requires count { length (numbers_of p.now) ≡ C.nodes c.now }
-    requires over { nodes_in m.now ≡ C.nodes c.now }
-    requires part { IsPartGrowth (C.nodes c.now) (weight_less p.now (triples_in m.now) (C.at c.now))
+    requires part { IsPartGrowth (C.nodes w.now.c.now) (weight_less w.now.p.now (triples_in w.now.m.now) (C.at w.now.c.now))
         grown.pairs.items grown.weight }
-    ensures whole { IfOk result (λ grown. IsWholeGrowth (C.nodes c.now)
-        (weight_less p.now (triples_in m.now) (C.at c.now)) grown.pairs.items) }
+    ensures whole { IfOk result (λ grown. IsWholeGrowth (C.nodes w.now.c.now)
+        (weight_less w.now.p.now (triples_in w.now.m.now) (C.at w.now.c.now)) grown.pairs.items) }
     ensures weight { IfOk result (λ grown. grown.weight
-        ≡ weight_of (weight_less p.now (triples_in m.now) (C.at c.now)) grown.pairs.items) }
+        ≡ weight_of (weight_less w.now.p.now (triples_in w.now.m.now) (C.at w.now.c.now)) grown.pairs.items) }
     ensures size { IfOk result (λ grown. IsFromTo (neg_ℤ (pos (most_nodes * 2 ^ 63)))
         (pos (most_nodes * 2 ^ 63)) grown.weight) }
 {
-    let size = c.count() as usize + 1;
+    let size = w.c.count() as usize + 1;
     let mut inside = vec![in alloc; false; size]?;
     let mut near: Vec<u32> = vec![in alloc; 2; size]?;
     // Every weight is below the one that means none.
     let mut least = vec![in alloc; i64::MAX; size]?;
     inside[2] = true;
-    let mut nearest = reach(c, p, m, &inside, &mut near, &mut least, 2);
+    let mut nearest = reach(w, &inside, &mut near, &mut least, 2);
     'again: for pair in &grown.pairs {
         inside[pair.1 as usize] = true;
-        nearest = reach(c, p, m, &inside, &mut near, &mut least, pair.1);
+        nearest = reach(w, &inside, &mut near, &mut least, pair.1);
     }
     let Grown {
         mut pairs,
@@ -69,7 +63,7 @@ pub(crate) fn grow_on<C: Costs>(
         inside[next as usize] = true;
         pairs.push((near[next as usize], next))?;
         weight += i128::from(least[next as usize]);
-        nearest = reach(c, p, m, &inside, &mut near, &mut least, next);
+        nearest = reach(w, &inside, &mut near, &mut least, next);
     }
     Ok(Grown { pairs, weight })
 }
@@ -79,55 +73,49 @@ pub(crate) fn grow_on<C: Costs>(
 /// The pairs of `next` with multipliers go first, at their lower weights, so that the others need
 /// no look at multipliers: a weight that isn't lowered replaces none that is.
 pub(crate) fn reach<C: Costs>(
-    c: &C,
-    p: &Potentials,
-    m: &ByNode,
+    w: &Weights<C>,
     inside: &[bool],
     near: &mut [u32],
     least: &mut [i64],
     next: u32,
 ) -> Option<u32>
-    requires count { length (numbers_of p.now) ≡ C.nodes c.now }
-    requires over { nodes_in m.now ≡ C.nodes c.now }
-    requires inside_len { length inside.now ≡ C.nodes c.now + 1 }
-    requires near_len { length near.old ≡ C.nodes c.now + 1 }
-    requires least_len { length least.old ≡ C.nodes c.now + 1 }
-    requires next_in { IsNode (C.nodes c.now) next }
-    ensures nearer { AreNearer (C.nodes c.now) (weight_less p.now (triples_in m.now) (C.at c.now))
+    requires inside_len { length inside.now ≡ C.nodes w.now.c.now + 1 }
+    requires near_len { length near.old ≡ C.nodes w.now.c.now + 1 }
+    requires least_len { length least.old ≡ C.nodes w.now.c.now + 1 }
+    requires next_in { IsNode (C.nodes w.now.c.now) next }
+    ensures nearer { AreNearer (C.nodes w.now.c.now) (weight_less w.now.p.now (triples_in w.now.m.now) (C.at w.now.c.now))
         inside.now next near.old least.old near.new least.new }
-    ensures small { (x : ℕ) → IsInner (C.nodes c.now) x → is_inside inside.now x ≡ false
-        → weight_less p.now (triples_in m.now) (C.at c.now) next x <ℤ i64.MAX }
-    ensures nearest { MatchOption result (AllInside (C.nodes c.now) inside.now)
-        (λ node. IsNearestOutside (C.nodes c.now) inside.now least.new node) }
+    ensures small { (x : ℕ) → IsInner (C.nodes w.now.c.now) x → is_inside inside.now x ≡ false
+        → weight_less w.now.p.now (triples_in w.now.m.now) (C.at w.now.c.now) next x <ℤ i64.MAX }
+    ensures nearest { MatchOption result (AllInside (C.nodes w.now.c.now) inside.now)
+        (λ node. IsNearestOutside (C.nodes w.now.c.now) inside.now least.new node) }
 {
-    lower(c, p, m.at(next), inside, near, least, next);
-    bring(c, p, inside, near, least, next)
+    lower(w, w.m.at(next), inside, near, least, next);
+    bring(w, inside, near, least, next)
 }
 
 /// Takes `next` for the nearest node of those to which its weight is lowered, where it is nearer.
 fn lower<C: Costs>(
-    c: &C,
-    p: &Potentials,
+    w: &Weights<C>,
     lowerings: &[(u32, i64)],
     inside: &[bool],
     near: &mut [u32],
     least: &mut [i64],
     next: u32,
 )
-    requires count { length (numbers_of p.now) ≡ C.nodes c.now }
-    requires lowerings { AreLowerings (C.nodes c.now) lowerings.now }
-    requires inside_len { length inside.now ≡ C.nodes c.now + 1 }
-    requires near_len { length near.old ≡ C.nodes c.now + 1 }
-    requires least_len { length least.old ≡ C.nodes c.now + 1 }
-    requires next_in { IsNode (C.nodes c.now) next }
-    ensures { AreLowered (C.nodes c.now) (weight_under p.now (C.at c.now)) lowerings.now inside.now
+    requires lowerings { AreLowerings (C.nodes w.now.c.now) lowerings.now }
+    requires inside_len { length inside.now ≡ C.nodes w.now.c.now + 1 }
+    requires near_len { length near.old ≡ C.nodes w.now.c.now + 1 }
+    requires least_len { length least.old ≡ C.nodes w.now.c.now + 1 }
+    requires next_in { IsNode (C.nodes w.now.c.now) next }
+    ensures { AreLowered (C.nodes w.now.c.now) (weight_under w.now.p.now (C.at w.now.c.now)) lowerings.now inside.now
         next near.old least.old near.new least.new }
 {
     'lowerings: for lowering in lowerings {
         let (node, number) = *lowering;
         let place = node as usize;
         if !inside[place] {
-            let weight = p.weight(c, next, node) - number;
+            let weight = w.p.weight(w.c, next, node) - number;
             take_nearer(&mut near[place], &mut least[place], next, weight);
         }
     }
@@ -135,32 +123,30 @@ fn lower<C: Costs>(
 
 /// The same over the weights that aren't lowered, and finds the nearest node outside.
 fn bring<C: Costs>(
-    c: &C,
-    p: &Potentials,
+    w: &Weights<C>,
     inside: &[bool],
     near: &mut [u32],
     least: &mut [i64],
     next: u32,
 ) -> Option<u32>
-    requires count { length (numbers_of p.now) ≡ C.nodes c.now }
-    requires inside_len { length inside.now ≡ C.nodes c.now + 1 }
-    requires near_len { length near.old ≡ C.nodes c.now + 1 }
-    requires least_len { length least.old ≡ C.nodes c.now + 1 }
-    requires next_in { IsNode (C.nodes c.now) next }
-    ensures nearer { AreNearer (C.nodes c.now) (weight_under p.now (C.at c.now)) inside.now next
+    requires inside_len { length inside.now ≡ C.nodes w.now.c.now + 1 }
+    requires near_len { length near.old ≡ C.nodes w.now.c.now + 1 }
+    requires least_len { length least.old ≡ C.nodes w.now.c.now + 1 }
+    requires next_in { IsNode (C.nodes w.now.c.now) next }
+    ensures nearer { AreNearer (C.nodes w.now.c.now) (weight_under w.now.p.now (C.at w.now.c.now)) inside.now next
         near.old least.old near.new least.new }
-    ensures small { (x : ℕ) → IsInner (C.nodes c.now) x → is_inside inside.now x ≡ false
-        → weight_under p.now (C.at c.now) next x <ℤ i64.MAX }
-    ensures nearest { MatchOption result (AllInside (C.nodes c.now) inside.now)
-        (λ node. IsNearestOutside (C.nodes c.now) inside.now least.new node) }
+    ensures small { (x : ℕ) → IsInner (C.nodes w.now.c.now) x → is_inside inside.now x ≡ false
+        → weight_under w.now.p.now (C.at w.now.c.now) next x <ℤ i64.MAX }
+    ensures nearest { MatchOption result (AllInside (C.nodes w.now.c.now) inside.now)
+        (λ node. IsNearestOutside (C.nodes w.now.c.now) inside.now least.new node) }
 {
     let mut nearest: Option<u32> = None;
     let mut best = i64::MAX;
-    let own = p.number(next);
-    'nodes: for node in 2..c.count() + 1 {
+    let own = w.p.number(next);
+    'nodes: for node in 2..w.c.count() + 1 {
         let place = node as usize;
         if !inside[place] {
-            let weight = p.weight_from(c, own, next, node);
+            let weight = w.p.weight_from(w.c, own, next, node);
             let kept = take_nearer(&mut near[place], &mut least[place], next, weight);
             if kept < best {
                 best = kept;

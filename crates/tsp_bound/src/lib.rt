@@ -28,6 +28,7 @@ mod scaled;
 mod spokes;
 mod tree;
 mod unplaced;
+mod weights;
 
 pub use assignment::{Infeasible, dual_bound};
 pub use duals::Duals;

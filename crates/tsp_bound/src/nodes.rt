@@ -2,11 +2,11 @@
 
 ghost use Rattle.std.specs.Prelude.{◌≡◌, ◌<◌, ◌+◌, ◌*◌, ◌^◌, ℕ, length, slice_index_or};
 ghost use Rattle.tsp_format.specs.Cells.{IsNode};
-ghost use Rattle.tsp_bound.specs.Multipliers.{nodes_in};
+ghost use Rattle.tsp_bound.specs.Multipliers.{node_count};
 ghost use Rattle.tsp_bound.specs.Numbering.{IsNumbering};
 ghost use Rattle.tsp_bound.specs.Potentials.{numbers_of};
 ghost use Rattle.tsp_theory.specs.Tree.{IsInner};
-ghost use Rattle.tsp_bound.specs.Boxes.{HoldsNode, AreHeld, AreHeld-prop, node_at};
+ghost use Rattle.tsp_bound.specs.Boxes.{HoldsNode, AreHeld, AreHeld-prop, node_of};
 
 use crate::area::Area;
 use crate::boxes::{Best, boxes_of, nearest_from, raise};
@@ -27,13 +27,13 @@ pub(crate) struct Nodes<'a, C: Grouped> {
     outside: Vec<bool>,
     areas: Vec<Option<Area>>,
     ghost count: { length (numbers_of p) ≡ C.nodes c.now },
-    ghost over: { nodes_in m.now ≡ C.nodes c.now },
+    ghost over: { node_count m.now ≡ C.nodes c.now },
     ghost long: { length places.now ≡ C.nodes c.now + 1 },
-    ghost inner: { (j : ℕ) → j < length order.now → IsInner (C.nodes c.now) (node_at order.now j) },
+    ghost inner: { (j : ℕ) → j < length order.now → IsInner (C.nodes c.now) (node_of order.now j) },
     ghost placed: { (x : ℕ) → IsInner (C.nodes c.now) x → slice_index_or places.now x 0 < length order.now },
-    ghost back: { (j : ℕ) → j < length order.now → slice_index_or places.now (node_at order.now j) 0 ≡ j },
-    ghost there: { (x : ℕ) → IsInner (C.nodes c.now) x → node_at order.now (slice_index_or places.now x 0) ≡ x },
-    ghost nodes: { (j : ℕ) → j < length order.now → IsNode (C.nodes c.now) (node_at order.now j) },
+    ghost back: { (j : ℕ) → j < length order.now → slice_index_or places.now (node_of order.now j) 0 ≡ j },
+    ghost there: { (x : ℕ) → IsInner (C.nodes c.now) x → node_of order.now (slice_index_or places.now x 0) ≡ x },
+    ghost nodes: { (j : ℕ) → j < length order.now → IsNode (C.nodes c.now) (node_of order.now j) },
     ghost few: { length order.now < 2 ^ 31 },
     ghost as_many: { length outside.items ≡ length order.now },
     ghost boxes: { length areas.items ≡ 2 * length order.now },
@@ -61,9 +61,9 @@ impl<'a, C: Grouped> Nodes<'a, C> {
         places: &'a [u32],
     ) -> Result<Option<Nodes<'a, C>>, AllocError>
         requires count { length (numbers_of p) ≡ C.nodes c.now }
-        requires over { nodes_in m.now ≡ C.nodes c.now }
+        requires over { node_count m.now ≡ C.nodes c.now }
         requires long { length places.now ≡ C.nodes c.now + 1 }
-        requires numbering { IsNumbering (length order.now) (IsInner (C.nodes c.now)) (node_at order.now)
+        requires numbering { IsNumbering (length order.now) (IsInner (C.nodes c.now)) (node_of order.now)
             (λ x. slice_index_or places.now x 0) }
         requires few { length order.now < 2 ^ 31 }
         ensures order { IfOk result (λ made. IfSome made (λ nodes. nodes.order.now ≡ order.now)) }
@@ -90,10 +90,10 @@ impl<'a, C: Grouped> Nodes<'a, C> {
 
     /// The place of a node that is outside, else none.
     fn place_outside(&self, node: u32) -> Option<usize>
-        requires { IsNode (nodes_in self.now.m.now) node }
-        ensures { MatchOption result (IsInner (nodes_in self.now.m.now) node
+        requires { IsNode (node_count self.now.m.now) node }
+        ensures { MatchOption result (IsInner (node_count self.now.m.now) node
             → is_outside self.now.outside.items (slice_index_or self.now.places.now node 0) ≡ false)
-            (λ place. IsInner (nodes_in self.now.m.now) node
+            (λ place. IsInner (node_count self.now.m.now) node
             × (place ≡ slice_index_or self.now.places.now node 0)
             × (is_outside self.now.outside.items place ≡ true)) }
     {
@@ -116,9 +116,9 @@ impl<'a, C: Grouped> Nodes<'a, C> {
     fn lowered(&self, from: u32, unlowered: Best, steps: &mut u64) -> Best
         requires from { from < length self.now.order.now }
         requires best { IsBest (weight_under self.now.p (C.at self.now.c.now)) self.now.order.now
-            self.now.outside.items (node_at self.now.order.now from) unlowered }
+            self.now.outside.items (node_of self.now.order.now from) unlowered }
         ensures { IsBest (weight_less self.now.p (triples_in self.now.m.now) (C.at self.now.c.now))
-            self.now.order.now self.now.outside.items (node_at self.now.order.now from) result }
+            self.now.order.now self.now.outside.items (node_of self.now.order.now from) result }
     {
         let node = self.order[from as usize];
         let mut best = unlowered;
@@ -142,7 +142,7 @@ impl<C: Grouped> Outside for Nodes<'_, C> {
 
     ghost count_of = { λ s. length s.order.now };
 
-    ghost weight_of = { λ s i j. weight_less s.p (triples_in s.m.now) (C.at s.c.now) (node_at s.order.now i) (node_at s.order.now j) };
+    ghost weight_of = { λ s i j. weight_less s.p (triples_in s.m.now) (C.at s.c.now) (node_of s.order.now i) (node_of s.order.now j) };
 
     ghost outside_of = { λ s x. is_outside s.outside.items x };
 

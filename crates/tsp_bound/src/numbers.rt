@@ -3,7 +3,7 @@
 ghost use Rattle.std.specs.Prelude.{◌≡◌, ◌↔◌, ◌≤◌, ◌*◌, ◌^◌, IsTrue, length, pos, neg_ℤ};
 ghost use Rattle.tsp_format.specs.Limits.{most_nodes, most_potential, most_multipliers, most_multiplier};
 ghost use Rattle.tsp_theory.specs.Numbers.{IsFromTo, IsScale, ArePotentials, total, IsLeastBound, IsBoundSized, AreMultipliers};
-ghost use Rattle.tsp_theory.specs.Adjusted.{total_of};
+ghost use Rattle.tsp_theory.specs.Adjusted.{triples_total};
 
 use tsp_format::{MOST_POTENTIAL, MOST_SCALE};
 
@@ -39,7 +39,7 @@ pub(crate) fn total(numbers: &[i64]) -> i128
 /// The sum of the numbers of multipliers.
 pub(crate) fn total_of(triples: &[(u32, u32, i64)]) -> i128
     requires { AreMultipliers triples.now }
-    ensures value { result ≡ total_of triples.now }
+    ensures value { result ≡ triples_total triples.now }
     ensures size { IsFromTo (pos 0) (pos (most_multipliers * most_multiplier)) result }
 {
     let mut sum = 0;

@@ -4,20 +4,19 @@ ghost use Rattle.std.specs.Prelude.{◌≡◌, ◌≤◌, ◌<◌, ◌*◌, ◌^
 ghost use Rattle.std.specs.List.{All};
 ghost use Rattle.tsp_format.specs.Cells.{IsNode};
 ghost use Rattle.tsp_format.specs.Limits.{most_nodes};
-ghost use Rattle.tsp_bound.specs.Boxes.{node_at};
+ghost use Rattle.tsp_bound.specs.Boxes.{node_of};
 ghost use Rattle.tsp_theory.specs.Growth.{IsWholeGrowth, IsPartGrowth};
-ghost use Rattle.tsp_bound.specs.Multipliers.{triples_in, nodes_in, weight_less};
-ghost use Rattle.tsp_bound.specs.Numbering.{both};
+ghost use Rattle.tsp_bound.specs.Multipliers.{triples_in, weight_less};
+ghost use Rattle.tsp_bound.specs.Numbering.{on_both};
 ghost use Rattle.tsp_theory.specs.Numbers.{IsFromTo, IsSumSized};
-ghost use Rattle.tsp_bound.specs.Potentials.{numbers_of};
 ghost use Rattle.tsp_theory.specs.Tree.{weight_of};
 
-use crate::by_node::{ByNode, lowered_by};
+use crate::by_node::lowered_by;
 use crate::growth::{Grown, grow_on};
 use crate::heap::grow_by_heap;
 use crate::nodes::Nodes;
 use crate::numbering::places_in;
-use crate::potentials::Potentials;
+use crate::weights::Weights;
 use std::alloc::{AllocError, Global};
 use tsp_theory::{Costs, Grouped};
 
@@ -27,27 +26,19 @@ use tsp_theory::{Costs, Grouped};
 /// # Errors
 ///
 /// Out of memory.
-pub(crate) fn grow<C: Grouped>(
-    alloc: Global,
-    c: &C,
-    p: &Potentials,
-    m: &ByNode,
-) -> Result<Grown, AllocError>
-    requires some { 3 ≤ C.nodes c.now }
-    requires count { length (numbers_of p.now) ≡ C.nodes c.now }
-    requires over { nodes_in m.now ≡ C.nodes c.now }
-    ensures whole { IfOk result (λ grown. IsWholeGrowth (C.nodes c.now)
-        (weight_less p.now (triples_in m.now) (C.at c.now)) grown.pairs.items) }
+pub(crate) fn grow<C: Grouped>(alloc: Global, w: &Weights<C>) -> Result<Grown, AllocError>
+    ensures whole { IfOk result (λ grown. IsWholeGrowth (C.nodes w.now.c.now)
+        (weight_less w.now.p.now (triples_in w.now.m.now) (C.at w.now.c.now)) grown.pairs.items) }
     ensures weight { IfOk result (λ grown. grown.weight
-        ≡ weight_of (weight_less p.now (triples_in m.now) (C.at c.now)) grown.pairs.items) }
+        ≡ weight_of (weight_less w.now.p.now (triples_in w.now.m.now) (C.at w.now.c.now)) grown.pairs.items) }
     ensures size { IfOk result (λ grown. IsFromTo (neg_ℤ (pos (most_nodes * 2 ^ 63)))
         (pos (most_nodes * 2 ^ 63)) grown.weight) }
 {
-    let part = grown_part(alloc, c, p, m)?;
-    if part.pairs.len() + 2 == c.count() as usize {
+    let part = grown_part(alloc, w)?;
+    if part.pairs.len() + 2 == w.c.count() as usize {
         return Ok(part);
     }
-    grow_on(alloc, c, p, m, part)
+    grow_on(alloc, w, part)
 }
 
 /// The part of a growth from node 2 that the boxes of the nodes and a heap give, and its weight.
@@ -57,50 +48,33 @@ pub(crate) fn grow<C: Grouped>(
 /// # Errors
 ///
 /// Out of memory.
-fn grown_part<C: Grouped>(
-    alloc: Global,
-    c: &C,
-    p: &Potentials,
-    m: &ByNode,
-) -> Result<Grown, AllocError>
-    requires some { 3 ≤ C.nodes c.now }
-    requires count { length (numbers_of p.now) ≡ C.nodes c.now }
-    requires over { nodes_in m.now ≡ C.nodes c.now }
-    ensures { IfOk result (λ grown. IsPartGrowth (C.nodes c.now)
-        (weight_less p.now (triples_in m.now) (C.at c.now)) grown.pairs.items grown.weight) }
+fn grown_part<C: Grouped>(alloc: Global, w: &Weights<C>) -> Result<Grown, AllocError>
+    ensures { IfOk result (λ grown. IsPartGrowth (C.nodes w.now.c.now)
+        (weight_less w.now.p.now (triples_in w.now.m.now) (C.at w.now.c.now)) grown.pairs.items grown.weight) }
 {
-    let mut order = c.order(alloc)?;
+    let mut order = w.c.order(alloc)?;
     order.retain(|node| *node != 1);
-    if order.len() + 1 != c.count() as usize {
-        return nothing(alloc, c);
+    if order.len() + 1 != w.c.count() as usize {
+        return nothing(alloc, w.c);
     }
-    grown_over(alloc, c, p, m, &order)
+    grown_over(alloc, w, &order)
 }
 
 /// The same over an order of nodes.
-fn grown_over<C: Grouped>(
-    alloc: Global,
-    c: &C,
-    p: &Potentials,
-    m: &ByNode,
-    order: &[u32],
-) -> Result<Grown, AllocError>
-    requires some { 3 ≤ C.nodes c.now }
-    requires count { length (numbers_of p.now) ≡ C.nodes c.now }
-    requires over { nodes_in m.now ≡ C.nodes c.now }
+fn grown_over<C: Grouped>(alloc: Global, w: &Weights<C>, order: &[u32]) -> Result<Grown, AllocError>
     requires few { length order.now ≤ most_nodes }
-    ensures { IfOk result (λ grown. IsPartGrowth (C.nodes c.now)
-        (weight_less p.now (triples_in m.now) (C.at c.now)) grown.pairs.items grown.weight) }
+    ensures { IfOk result (λ grown. IsPartGrowth (C.nodes w.now.c.now)
+        (weight_less w.now.p.now (triples_in w.now.m.now) (C.at w.now.c.now)) grown.pairs.items grown.weight) }
 {
-    let Some(places) = places_in(alloc, order, c.count())? else {
-        return nothing(alloc, c);
+    let Some(places) = places_in(alloc, order, w.c.count())? else {
+        return nothing(alloc, w.c);
     };
     let start = places[2];
-    let Some(mut nodes) = Nodes::new(alloc, c, *p, m, order, &places)? else {
-        return nothing(alloc, c);
+    let Some(mut nodes) = Nodes::new(alloc, w.c, *w.p, w.m, order, &places)? else {
+        return nothing(alloc, w.c);
     };
-    let pairs = grow_by_heap(alloc, &mut nodes, start, most_steps(c.count()))?;
-    weighed(alloc, c, p, m, order, &pairs)
+    let pairs = grow_by_heap(alloc, &mut nodes, start, most_steps(w.c.count()))?;
+    weighed(alloc, w, order, &pairs)
 }
 
 /// No pair yet, with capacity for those of a tree: a part of any growth.
@@ -130,31 +104,27 @@ fn most_steps(count: u32) -> u64 {
 /// Out of memory.
 fn weighed<C: Costs>(
     alloc: Global,
-    c: &C,
-    p: &Potentials,
-    m: &ByNode,
+    w: &Weights<C>,
     order: &[u32],
     pairs: &[(u32, u32)],
 ) -> Result<Grown, AllocError>
-    requires count { length (numbers_of p.now) ≡ C.nodes c.now }
-    requires over { nodes_in m.now ≡ C.nodes c.now }
-    requires nodes { (j : ℕ) → j < length order.now → IsNode (C.nodes c.now) (node_at order.now j) }
+    requires nodes { (j : ℕ) → j < length order.now → IsNode (C.nodes w.now.c.now) (node_of order.now j) }
     requires places { All (λ pair. (pair.0 < length order.now) × (pair.1 < length order.now)) pairs.now }
     requires few { length pairs.now ≤ most_nodes }
-    ensures pairs { IfOk result (λ grown. grown.pairs.items ≡ map (both (node_at order.now)) pairs.now) }
+    ensures pairs { IfOk result (λ grown. grown.pairs.items ≡ map (on_both (node_of order.now)) pairs.now) }
     ensures weight { IfOk result (λ grown. grown.weight
-        ≡ weight_of (weight_less p.now (triples_in m.now) (C.at c.now)) grown.pairs.items) }
+        ≡ weight_of (weight_less w.now.p.now (triples_in w.now.m.now) (C.at w.now.c.now)) grown.pairs.items) }
     ensures size { IfOk result (λ grown. IsSumSized (length grown.pairs.items) grown.weight) }
 {
-    let mut named = Vec::with_capacity(alloc, c.count() as usize + 1)?;
+    let mut named = Vec::with_capacity(alloc, w.c.count() as usize + 1)?;
     let mut weight: i128 = 0;
     'pairs: for pair in pairs {
         let from = order[pair.0 as usize];
         let to = order[pair.1 as usize];
         named.push((from, to))?;
         // A node is at most once a pair's second one, so that no list is gone over twice.
-        let number = lowered_by(m.at(to), from);
-        weight += i128::from(p.weight(c, from, to) - number);
+        let number = lowered_by(w.m.at(to), from);
+        weight += i128::from(w.p.weight(w.c, from, to) - number);
     }
     Ok(Grown {
         pairs: named,

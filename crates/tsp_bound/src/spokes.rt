@@ -3,12 +3,10 @@
 ghost use Rattle.std.specs.Prelude.{◌≡◌, ◌≤◌, ◌<◌, ◌-◌, ◌^◌, length, IfOk};
 ghost use Rattle.tsp_theory.specs.Tree.{IsInner};
 ghost use Rattle.tsp_theory.specs.Growth.{AreNearest, least_at};
-ghost use Rattle.tsp_bound.specs.Potentials.{numbers_of};
-ghost use Rattle.tsp_bound.specs.Multipliers.{triples_in, nodes_in, weight_less};
+ghost use Rattle.tsp_bound.specs.Multipliers.{triples_in, weight_less};
 
-use crate::by_node::ByNode;
 use crate::growth::reach;
-use crate::potentials::Potentials;
+use crate::weights::Weights;
 use std::alloc::{AllocError, Global};
 use tsp_theory::Costs;
 
@@ -27,25 +25,20 @@ pub(crate) struct Spoke {
 /// Out of memory.
 pub(crate) fn two_spokes<C: Costs>(
     alloc: Global,
-    c: &C,
-    p: &Potentials,
-    m: &ByNode,
+    w: &Weights<C>,
 ) -> Result<(Spoke, Spoke), AllocError>
-    requires some { 3 ≤ C.nodes c.now }
-    requires count { length (numbers_of p.now) ≡ C.nodes c.now }
-    requires over { nodes_in m.now ≡ C.nodes c.now }
-    ensures nearest { IfOk result (λ two. AreNearest (C.nodes c.now)
-        (weight_less p.now (triples_in m.now) (C.at c.now)) two.0.node two.1.node) }
+    ensures nearest { IfOk result (λ two. AreNearest (C.nodes w.now.c.now)
+        (weight_less w.now.p.now (triples_in w.now.m.now) (C.at w.now.c.now)) two.0.node two.1.node) }
     ensures first { IfOk result (λ two. two.0.weight
-        ≡ weight_less p.now (triples_in m.now) (C.at c.now) 1 two.0.node) }
+        ≡ weight_less w.now.p.now (triples_in w.now.m.now) (C.at w.now.c.now) 1 two.0.node) }
     ensures second { IfOk result (λ two. two.1.weight
-        ≡ weight_less p.now (triples_in m.now) (C.at c.now) 1 two.1.node) }
+        ≡ weight_less w.now.p.now (triples_in w.now.m.now) (C.at w.now.c.now) 1 two.1.node) }
 {
-    let size = c.count() as usize + 1;
+    let size = w.c.count() as usize + 1;
     let inside = vec![in alloc; false; size]?;
     let mut near: Vec<u32> = vec![in alloc; 1; size]?;
     let mut least = vec![in alloc; i64::MAX; size]?;
-    reach(c, p, m, &inside, &mut near, &mut least, 1);
+    reach(w, &inside, &mut near, &mut least, 1);
     Ok(nearest_two(&least))
 }
 

@@ -9,7 +9,7 @@ ghost use Rattle.tsp_theory.specs.Tree.{IsOneTree, IsLeastOneTree, weight_of};
 ghost use Rattle.tsp_theory.specs.Growth.{tree_of};
 ghost use Rattle.tsp_theory.specs.Adjusted.{AreOnPairs, UsesEach, IsAdjustedBoundOf, IsAdjustedBound};
 ghost use Rattle.tsp_bound.specs.Potentials.{scale_of, numbers_of};
-ghost use Rattle.tsp_bound.specs.Multipliers.{triples_of, triples_in, nodes_in, weight_less};
+ghost use Rattle.tsp_bound.specs.Multipliers.{triples_of, triples_in, node_count, weight_less};
 
 use crate::by_node::ByNode;
 use crate::multipliers::Multipliers;
@@ -18,6 +18,7 @@ use crate::part::grow;
 use crate::potentials::Potentials;
 use crate::spokes::two_spokes;
 use crate::unplaced::Unplaced;
+use crate::weights::Weights;
 use std::alloc::{AllocError, Global};
 use tsp_theory::{Costs, Grouped, Symmetric, adjusted_bounds_bound_cycles};
 
@@ -105,7 +106,7 @@ pub fn one_tree_in_space<C: Grouped>(
         → UsesEach (triples_of m.now) nodes → found.bound ≤ℤ length_of (C.at c.now) nodes) }
 {
     let by_node = ByNode::of(alloc, c.count(), m)?;
-    let found = least_edges(alloc, c, p, &by_node)?;
+    let found = least_edges(alloc, &*c, &*p, &by_node)?;
     drop(by_node);
     let potentials = total(p.numbers);
     let multipliers = total_of(m.triples);
@@ -126,15 +127,15 @@ struct Weighed {
 }
 
 /// The edges of a least 1-tree, in a vector with capacity for all of them, and their weight.
-fn least_edges<C: Grouped>(
+fn least_edges<'a, C: Grouped>(
     alloc: Global,
-    c: &C,
-    p: &Potentials,
-    m: &ByNode,
+    c: &'a C,
+    p: &'a Potentials<'a>,
+    m: &'a ByNode<'a>,
 ) -> Result<Weighed, AllocError>
     requires some { 3 ≤ C.nodes c.now }
     requires count { length (numbers_of p.now) ≡ C.nodes c.now }
-    requires over { nodes_in m.now ≡ C.nodes c.now }
+    requires over { node_count m.now ≡ C.nodes c.now }
     ensures least { IfOk result (λ found. IsLeastOneTree (C.nodes c.now)
         (weight_less p.now (triples_in m.now) (C.at c.now)) found.edges.items) }
     ensures weight { IfOk result (λ found. found.weight
@@ -142,8 +143,9 @@ fn least_edges<C: Grouped>(
     ensures size { IfOk result (λ found. IsFromTo (neg_ℤ (pos ((most_nodes + 2) * 2 ^ 63)))
         (pos ((most_nodes + 2) * 2 ^ 63)) found.weight) }
 {
-    let (first, second) = two_spokes(alloc, c, p, m)?;
-    let grown = grow(alloc, c, p, m)?;
+    let weights = Weights { c, p, m };
+    let (first, second) = two_spokes(alloc, &weights)?;
+    let grown = grow(alloc, &weights)?;
     let edges = tree_of(
         alloc,
         c.count() as usize,

@@ -1,59 +1,25 @@
 -- One pass over the steps that finds the first branch on a pair decided above it.
-use Rattle.std.proofs.Common.{◌≡◌, ◌∙◌, ℕ, suc, ◌+◌, ◌<◌, ◌≤◌, ◌||◌, Bool, true, false, List, [], ◌∷◌, ◌++◌, drop, length, get_or, ℤ}
-use Rattle.std.proofs.Common.{inl, inr, refl, ap, ap₂, sym, subst, add-one}
-use Rattle.std.specs.Prelude.{reverse, None, Some}
-use Rattle.std.specs.List.{All, AllByRecursion, list_any}
-use Rattle.std.proofs.lemmas.Bool.{both_ways, cases_Bool, or_left}
-use Rattle.std.proofs.lemmas.List.{reverse-append, drop_all}
+use Rattle.std.proofs.Common.{◌≡◌, ◌∙◌, ℕ, suc, ◌+◌, ◌<◌, ◌≤◌, Bool, true, false, List, [], ◌∷◌, ◌++◌, drop, length, get_or, ℤ}
+use Rattle.std.proofs.Common.{inl, inr, refl, ap, sym, subst, add-one}
+use Rattle.std.specs.Prelude.{None, Some}
+use Rattle.std.specs.List.{All, AllByRecursion}
+use Rattle.std.proofs.lemmas.Bool.{both_ways, cases_Bool}
+use Rattle.std.proofs.lemmas.List.{drop_all}
 use Rattle.std.proofs.lemmas.List.Elements.{All-from_recursion}
-use Rattle.std.proofs.lemmas.List.Folds.{list_any-append, list_any_at}
+use Rattle.std.proofs.lemmas.List.Folds.{list_any_at}
 use Rattle.std.proofs.lemmas.List.Kept.{AllPairs-cons}
 use Rattle.tsp_format.specs.declared.steps.TreeStep.{TreeStep}
 use Rattle.tsp_format.specs.Steps as listed
 use Rattle.tsp_format.specs.Steps.{step_of, steps_of}
 use Rattle.tsp_branch.specs.Decisions.{Decision, is_same, DecideOnce}
 use Rattle.tsp_branch.specs.Cases.{decide, leaves_of, cases_of, later_cases, open_cases, next_stack}
-use Rattle.tsp_branch.specs.Decided.{case_of, stack_of}
+use Rattle.tsp_branch.specs.Decided.{stack_of}
 use Rattle.tsp_branch.specs.Listed.{all_grown, steps_from, no_numbers_of}
-use Rattle.tsp_branch.specs.Twice.{is_decided, IsFirstTwiceFrom, AreBranchesJudged}
+use Rattle.tsp_branch.specs.Twice.{is_decided, IsFirstTwice, AreBranchesJudged}
 use Rattle.tsp_branch.proofs.Cases.{stacks_hold_cases}
 use Rattle.tsp_branch.proofs.NextCases.{stack_more}
 use Rattle.tsp_branch.proofs.Judging.{left_at}
-
--- ---- whether a pair is decided
-
-or_swap : (a b : Bool) → (a || b) ≡ (b || a)
-or_swap true true = refl
-or_swap true false = refl
-or_swap false true = refl
-or_swap false false = refl
-
-or_none : (a : Bool) → (a || false) ≡ a
-or_none true = refl
-or_none false = refl
-
-turned_any : (p : Decision → Bool) (ds : List Decision) → list_any p (reverse ds) ≡ list_any p ds
-turned_any p [] = refl
-turned_any p (d ∷ ds) = ap (list_any p) (reverse-append (d ∷ []) ds)
-    ∙ list_any-append p (reverse ds) (d ∷ [])
-    ∙ ap₂ (λ (a b : Bool). a || b) (turned_any p ds) (list_any-append p [] (d ∷ []))
-    ∙ or_swap (list_any p ds) (list_any p (d ∷ []))
-    ∙ sym (list_any-append p (d ∷ []) ds)
-
-pub decided_both : (directed : Bool) (given stack : List (ℕ × ℕ × Bool)) (pair : ℕ × ℕ)
-    → (is_decided directed (case_of stack) pair || is_decided directed (case_of given) pair) ≡ is_decided directed (stack_of stack ++ case_of given) pair
-decided_both directed given stack pair =
-    let p : Decision → Bool = λ d. is_same directed pair d.pair in
-    sym (list_any-append p (stack_of stack) (case_of given) ∙ ap (λ b. b || list_any p (case_of given)) (turned_any p (case_of stack)))
-
-pub decided_on_stack : (directed : Bool) (given stack : List (ℕ × ℕ × Bool)) (pair : ℕ × ℕ) (on : Bool) → on ≡ is_decided directed (case_of stack) pair → on ≡ true
-    → on ≡ is_decided directed (stack_of stack ++ case_of given) pair
-decided_on_stack directed given stack pair on is h = h ∙ sym (or_left (is_decided directed (case_of stack) pair) (is_decided directed (case_of given) pair) (sym is ∙ h)) ∙ decided_both directed given stack pair
-
-pub decided_as_given : (directed : Bool) (given stack : List (ℕ × ℕ × Bool)) (pair : ℕ × ℕ) (on in_given : Bool) → on ≡ is_decided directed (case_of stack) pair → on ≡ false → in_given ≡ is_decided directed (case_of given) pair
-    → in_given ≡ is_decided directed (stack_of stack ++ case_of given) pair
-decided_as_given directed given stack pair on in_given is h own =
-    own ∙ sym (ap (λ (b : Bool). b || is_decided directed (case_of given) pair) (sym is ∙ h)) ∙ decided_both directed given stack pair
+use Rattle.tsp_branch.proofs.OnePass.{IsFirstTwiceFrom, first_twice_by_place, first_twice_in_pass}
 
 -- ---- the cases of the leaves, whatever their numbers
 
@@ -72,7 +38,7 @@ told_cases n numbers (case ∷ cases) (listed.Leaf changes ∷ steps) = ap (λ (
 pub no_branch_twice : (directed : Bool) (given : List Decision) (steps : List listed.Step) → ((first : ℕ) → IsFirstTwiceFrom directed 0 (given ∷ []) steps first → ⊥) → AllByRecursion (DecideOnce directed) (listed_cases (given ∷ []) steps)
     → AreBranchesJudged directed given steps None
 no_branch_twice directed given steps none once = (
-  none,
+  λ first h. none first (first_twice_in_pass directed given steps first h),
   λ n combs. subst (All (DecideOnce directed)) (sym (told_cases n (no_numbers_of n combs) (given ∷ []) steps)) (All-from_recursion (DecideOnce directed) (listed_cases (given ∷ []) steps) once),
 )
 
@@ -117,20 +83,18 @@ pub twice_here : (directed : Bool) (given : List Decision) (all : List listed.St
     → IsOnceSoFar directed given all stack branch (listed.Branch a b ∷ steps) → is_decided directed (stack ++ given) (a, b) ≡ true → IsFirstTwiceFrom directed 0 (given ∷ []) all (suc branch)
 twice_here directed given all stack branch a b steps h is = h.twice (suc branch) (inl (refl, is))
 
-pub once_pushed : (directed : Bool) (given : List Decision) (all : List listed.Step) (items read pushed : List (ℕ × ℕ × Bool)) (branch a b : ℕ) (steps : List listed.Step) (found : Bool)
-    → IsOnceSoFar directed given all (stack_of items) branch (listed.Branch a b ∷ steps) → read ≡ items → found ≡ is_decided directed (stack_of read ++ given) (a, b) → found ≡ false
+pub once_pushed : (directed : Bool) (given : List Decision) (all : List listed.Step) (items pushed : List (ℕ × ℕ × Bool)) (branch a b : ℕ) (steps : List listed.Step)
+    → IsOnceSoFar directed given all (stack_of items) branch (listed.Branch a b ∷ steps) → is_decided directed (stack_of items ++ given) (a, b) ≡ false
     → pushed ≡ items ++ (a, b, true) ∷ [] → IsOnceSoFar directed given all (stack_of pushed) (branch + 1) steps
-once_pushed directed given all items read pushed branch a b steps found h same is none more =
-    let not_decided : is_decided directed (stack_of items ++ given) (a, b) ≡ false = ap (λ (xs : List (ℕ × ℕ × Bool)). is_decided directed (stack_of xs ++ given) (a, b)) (sym same) ∙ sym is ∙ none in
+once_pushed directed given all items pushed branch a b steps h none more =
     subst (λ (st : List Decision). IsOnceSoFar directed given all st (branch + 1) steps) (sym (stack_more items (a, b, true)) ∙ ap stack_of (sym more))
-    (subst (λ (k : ℕ). IsOnceSoFar directed given all (decide (a, b) true (stack_of items)) k steps) (sym (add-one branch)) (once_at_branch directed given all (stack_of items) branch a b steps h not_decided))
+    (subst (λ (k : ℕ). IsOnceSoFar directed given all (decide (a, b) true (stack_of items)) k steps) (sym (add-one branch)) (once_at_branch directed given all (stack_of items) branch a b steps h none))
 
-pub twice_found : (directed : Bool) (given : List Decision) (all : List listed.Step) (items read : List (ℕ × ℕ × Bool)) (branch a b : ℕ) (steps : List listed.Step) (found : Bool)
-    → IsOnceSoFar directed given all (stack_of items) branch (listed.Branch a b ∷ steps) → read ≡ items → found ≡ is_decided directed (stack_of read ++ given) (a, b) → found ≡ true
-    → IsFirstTwiceFrom directed 0 (given ∷ []) all (branch + 1)
-twice_found directed given all items read branch a b steps found h same is on =
-    subst (IsFirstTwiceFrom directed 0 (given ∷ []) all) (sym (add-one branch)) (twice_here directed given all (stack_of items) branch a b steps h
-    (ap (λ (xs : List (ℕ × ℕ × Bool)). is_decided directed (stack_of xs ++ given) (a, b)) (sym same) ∙ sym is ∙ on))
+pub twice_found : (directed : Bool) (given : List Decision) (all : List listed.Step) (items : List (ℕ × ℕ × Bool)) (branch a b : ℕ) (steps : List listed.Step)
+    → IsOnceSoFar directed given all (stack_of items) branch (listed.Branch a b ∷ steps) → is_decided directed (stack_of items ++ given) (a, b) ≡ true
+    → IsFirstTwice directed given all (branch + 1)
+twice_found directed given all items branch a b steps h is =
+    first_twice_by_place directed given all (branch + 1) (subst (IsFirstTwiceFrom directed 0 (given ∷ []) all) (sym (add-one branch)) (twice_here directed given all (stack_of items) branch a b steps h is))
 
 -- after a leaf, with a case that is open, and with none; and where no step is left
 pub once_at_leaf : (directed : Bool) (given : List Decision) (all : List listed.Step) (stack : List Decision) (branch : ℕ) (changes : List (ℕ × ℤ)) (steps : List listed.Step) (next : List Decision)

@@ -16,9 +16,9 @@ use Rattle.tsp_branch.specs.LeafBound.{combed, least_of, leaf_weight}
 use Rattle.tsp_branch.specs.Rows.{HasNoLink, IsRowBound}
 use Rattle.tsp_branch.specs.Certificate.{multiplied, IsFoundAt}
 use Rattle.tsp_branch.specs.Combed.{plain, AreSmallMultipliers, AreFewCrossings, set_weight}
-use Rattle.tsp_branch.specs.CombsOfSets.{combs_of}
+use Rattle.tsp_branch.specs.CombsOfSets.{combs_of_sets}
 use Rattle.tsp_branch.specs.Decided.{decided_number, case_of, stack_of, decided, decided_twice}
-use Rattle.tsp_branch.specs.Judged.{AreGoodNumbers, numbers_of}
+use Rattle.tsp_branch.specs.Judged.{AreGoodNumbers, as_leaf_numbers}
 use Rattle.tsp_branch.proofs.Changes.{changes_are}
 use Rattle.tsp_branch.proofs.CombSizes.{combs_crossed_few}
 use Rattle.tsp_branch.proofs.CombsBySets.{sets_tell_combs, sets_give_leaves}
@@ -46,7 +46,7 @@ pub case_weight : (w : ℕ → ℕ → ℤ) (scale : ℤ) (potentials multiplier
     → All (λ set. set.0 < length multipliers) sets → w i j ≡ set_weight scale potentials multipliers sets cost i j
     → decided_twice given stack w i j
     ≡ leaf_weight scale potentials (on_taken decided_number (stack_of stack ++ case_of given)) (on_avoided decided_number (stack_of stack ++ case_of given))
-    (multiplied (combs_of (length multipliers) sets) multipliers) cost i j
+    (multiplied (combs_of_sets (length multipliers) sets) multipliers) cost i j
 case_weight w scale potentials multipliers sets given stack cost i j below is =
     let case : List Decision = stack_of stack ++ case_of given in
     let v : ℕ → ℕ → ℤ = set_weight scale potentials multipliers sets cost in
@@ -72,18 +72,18 @@ each_below (m ∷ ms) signs =
     wider a b [] h k = tt
     wider a b (x ∷ xs) h k = ((k.0.0, let most = k.0.1 in omega (arith, ints, most, h)), wider a b xs h k.1)
 
-pub small_multipliers : (n combs : ℕ) (potentials multipliers : List ℤ) → AreGoodNumbers n combs (numbers_of potentials multipliers) → AreSmallMultipliers multipliers
+pub small_multipliers : (n combs : ℕ) (potentials multipliers : List ℤ) → AreGoodNumbers n combs (as_leaf_numbers potentials multipliers) → AreSmallMultipliers multipliers
 small_multipliers n combs potentials ms good =
     let each = (each_below ms (recursion_from_All (λ m. pos 0 ≤ℤ m) ms good.signs)).1 in
     λ k default lt.
     let own = All-from_recursion (λ m. IsFromTo (pos 0) (total ms) m) ms each k default lt in
     (own.0, let most = own.1 in let sum = good.sum in omega (arith, ints, most, sum))
 
-pub few_crossings : (n combs : ℕ) (potentials multipliers : List ℤ) (sets : List (ℕ × List ℕ)) → AreGoodNumbers n combs (numbers_of potentials multipliers) → All (IsFamily n)
-    (combs_of (length multipliers) sets)
+pub few_crossings : (n combs : ℕ) (potentials multipliers : List ℤ) (sets : List (ℕ × List ℕ)) → AreGoodNumbers n combs (as_leaf_numbers potentials multipliers) → All (IsFamily n)
+    (combs_of_sets (length multipliers) sets)
     → All (λ set. set.0 < length multipliers) sets → AreFewCrossings multipliers sets
 few_crossings n combs potentials ms sets good are below = λ i j.
-    let few = combs_crossed_few n (combs_of (length ms) sets) ms i j (recursion_from_All (IsFamily n) (combs_of (length ms) sets) are) (recursion_from_All (λ m. pos 0 ≤ℤ m) ms good.signs) in
+    let few = combs_crossed_few n (combs_of_sets (length ms) sets) ms i j (recursion_from_All (IsFamily n) (combs_of_sets (length ms) sets) are) (recursion_from_All (λ m. pos 0 ≤ℤ m) ms good.signs) in
     let same = sets_tell_combs ms sets i j below in
     let sum = good.sum in
     (let low = few.1 in omega (arith, ints, low, same), let high = few.2 in omega (arith, ints, high, same, sum))
@@ -99,10 +99,10 @@ sets_below_count count combs sets same h =
 -- weights that are those by sets are those of a leaf by rows
 pub row_weight : (combs : ℕ) (scale : ℤ) (potentials multipliers : List ℤ) (sets : List (ℕ × List ℕ)) (cost : ℕ → ℕ → ℤ) (i j : ℕ) → length multipliers ≡ combs
     → All (λ set. set.0 < length multipliers) sets
-    → set_weight scale potentials multipliers sets cost i j ≡ combed (multiplied (combs_of combs sets) multipliers) (weight_between scale potentials cost) i j
+    → set_weight scale potentials multipliers sets cost i j ≡ combed (multiplied (combs_of_sets combs sets) multipliers) (weight_between scale potentials cost) i j
 row_weight combs scale ps ms sets cost i j same below =
     ap (λ (z : ℤ). weight_between scale ps cost i j -ℤ z) (sym (sets_tell_combs ms sets i j below))
-    ∙ ap (λ (k : ℕ). combed (multiplied (combs_of k sets) ms) (weight_between scale ps cost) i j) same
+    ∙ ap (λ (k : ℕ). combed (multiplied (combs_of_sets k sets) ms) (weight_between scale ps cost) i j) same
 
 -- what the code finds by rows is what is found of the leaf
 pub found_by_rows : (n k : ℕ) (cost : ℕ → ℕ → ℤ) (scale held number : ℤ) (families : List Comb) (case : List Decision) (potentials multipliers : List ℤ) (w : ℕ → ℕ → ℤ) (back : ℤ)
@@ -110,7 +110,7 @@ pub found_by_rows : (n k : ℕ) (cost : ℕ → ℕ → ℤ) (scale held number 
     → ((i j : ℕ) → w i j ≡ combed (multiplied families multipliers) (weight_between scale potentials cost) i j)
     → back ≡ least_of (multiplied families multipliers) -ℤ (pos 2 *ℤ total potentials)
     → MatchOption found (HasNoLink k case) (λ bound. IsRowBound k w case held back bound)
-    → IsFoundAt true n cost scale number families (case, numbers_of potentials multipliers) found
+    → IsFoundAt true n cost scale number families (case, as_leaf_numbers potentials multipliers) found
 found_by_rows n k cost scale held number families case ps ms w back None nodes_are scale_is agree back_is none = subst (λ (m : ℕ). HasNoLink m case) nodes_are none
 found_by_rows n k cost scale held number families case ps ms w back (Some bound) nodes_are scale_is agree back_is is =
     let v : ℕ → ℕ → ℤ = combed (multiplied families ms) (weight_between scale ps cost) in

@@ -11,7 +11,7 @@ use Rattle.tsp_branch.specs.Decisions.{Decision, take_pairs, on_taken, on_avoide
 use Rattle.tsp_branch.specs.LeafBound.{AreMultiplied, IsLeafBound, LeafBoundsBoundCycles}
 use Rattle.tsp_branch.specs.RowLeaves.{RowLeafBoundsBoundCycles}
 use Rattle.tsp_branch.specs.Rows.{NoLinkNoCycle}
-use Rattle.tsp_branch.specs.Cases.{LeafNumbers, Step, leaves_of, cases_of, BoundsCase, HasNoCycle, CasesBoundCycles, CasesHaveNoCycle}
+use Rattle.tsp_branch.specs.Cases.{LeafNumbers, CaseStep, leaves_of, cases_of, BoundsCase, HasNoCycle, CasesBoundCycles, CasesHaveNoCycle}
 use Rattle.tsp_branch.specs.Certificate.{multiplied, AreLeafNumbers, IsFoundAt, IsAbove, IsCertificateBound, AreCostsFor, CertificatesBoundCycles, CertificatesBoundTours, NoBoundNoTour, CertificateBoundsAreUnique}
 use Rattle.tsp_branch.proofs.Decisions.{takes_each, takes_none, tours_keep_fixed}
 use Rattle.tsp_branch.proofs.RowLeaves.{one_bound, has_no_bound}
@@ -106,7 +106,7 @@ some_or_none false n cost scale number families leaf a one none = none
 some_or_none true n cost scale number families leaf a one none = has_no_bound n _ leaf.0 scale _ a none one
 
 -- what is at most the bound of each leaf is at most that of one of them
-at_most : (directed : Bool) (n : ℕ) (cost : ℕ → ℕ → ℤ) (scale number : ℤ) (families : List Comb) (given : List Decision) (steps : List Step) (a b : ℤ)
+at_most : (directed : Bool) (n : ℕ) (cost : ℕ → ℕ → ℤ) (scale number : ℤ) (families : List Comb) (given : List Decision) (steps : List CaseStep) (a b : ℤ)
     → IsCertificateBound directed n cost scale number families given steps (Some a) → IsCertificateBound directed n cost scale number families given steps (Some b) → a ≤ℤ b
 at_most directed n cost scale number families given steps a b one other =
     let leaves = leaves_of (given ∷ []) steps in
@@ -117,7 +117,7 @@ at_most directed n cost scale number families given steps a b one other =
       | inr own ↦ let same = one_found directed n cost scale number families leaf own.0 b own.1 there.4 in omega (arith, ints, own.2, same)
     ]
 
-never_both : (directed : Bool) (n : ℕ) (cost : ℕ → ℕ → ℤ) (scale number : ℤ) (families : List Comb) (given : List Decision) (steps : List Step) (a : ℤ)
+never_both : (directed : Bool) (n : ℕ) (cost : ℕ → ℕ → ℤ) (scale number : ℤ) (families : List Comb) (given : List Decision) (steps : List CaseStep) (a : ℤ)
     → IsCertificateBound directed n cost scale number families given steps (Some a) → IsCertificateBound directed n cost scale number families given steps None → ⊥
 never_both directed n cost scale number families given steps a one none =
     let there = one.1 in

@@ -10,7 +10,7 @@ use Rattle.tsp_branch.specs.Families.{IsFamily}
 use Rattle.tsp_format.specs.Cells.{IsNode}
 use Rattle.tsp_branch.specs.Sets.{AreSetsOf}
 use Rattle.tsp_branch.specs.Combed.{plain}
-use Rattle.tsp_branch.specs.CombsOfSets.{of_comb, combs_from, combs_of}
+use Rattle.tsp_branch.specs.CombsOfSets.{of_comb, combs_from, combs_of_sets}
 use Rattle.tsp_branch.specs.GoodCombs.{HasEachOnce, IsGoodComb, IsFirstBadComb, AreCombsJudged, AreInOrder, lists_of}
 
 -- ---- a run at the front
@@ -91,7 +91,7 @@ pub all_good : (n combs : ℕ) (sets : List (ℕ × Vec ℕ)) → All (λ set. s
     → AreCombsJudged n combs (plain sets) None
 all_good n combs sets within good = (
   good,
-  All-from_recursion (IsFamily n) (combs_of combs (plain sets)) (combs_all n 0 combs (plain sets) (λ comb lt. good comb (omega (arith, lt)))),
+  All-from_recursion (IsFamily n) (combs_of_sets combs (plain sets)) (combs_all n 0 combs (plain sets) (λ comb lt. good comb (omega (arith, lt)))),
   All-from_recursion (λ (set : ℕ × List ℕ). HasEachOnce set.1) (plain sets)
       (once_all combs (plain sets) (plain_within combs sets (recursion_from_All (λ (set : ℕ × Vec ℕ). set.0 < combs) sets within)) (λ comb lt. (good comb lt).once)),
 )

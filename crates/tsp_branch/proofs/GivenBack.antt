@@ -10,7 +10,7 @@ use Rattle.std.proofs.lemmas.Int.{ints, to_z-of_z, fits_signed_from_abs}
 use Rattle.std.proofs.lemmas.List.{reverse-append}
 use Rattle.std.proofs.lemmas.List.Elements.{recursion_from_All, All-drop}
 use Rattle.tsp_theory.specs.Numbers.{IsFromTo, total}
-use Rattle.tsp_theory.specs.Adjusted.{total_of}
+use Rattle.tsp_theory.specs.Adjusted.{triples_total}
 use Rattle.tsp_theory.proofs.Sizes.{size_of}
 use Rattle.tsp_branch.specs.Families.{least_crossings_of}
 use Rattle.tsp_branch.specs.Decisions.{Decision, on_taken}
@@ -34,7 +34,7 @@ total_left numbers index default lt = ap total (drop-cons numbers index default 
 
 -- ---- the numbers of taken pairs
 
-taken_both : (ds es : List Decision) → total_of (on_taken decided_number (ds ++ es)) ≡ total_of (on_taken decided_number ds) +ℤ total_of (on_taken decided_number es)
+taken_both : (ds es : List Decision) → triples_total (on_taken decided_number (ds ++ es)) ≡ triples_total (on_taken decided_number ds) +ℤ triples_total (on_taken decided_number es)
 taken_both [] es = omega (arith, ints)
 taken_both (d ∷ ds) es =
     let rest = taken_both ds es in
@@ -43,30 +43,30 @@ taken_both (d ∷ ds) es =
       | inr f ↦ rw f rest
     ]
 
-taken_turned : (ds : List Decision) → total_of (on_taken decided_number (reverse ds)) ≡ total_of (on_taken decided_number ds)
+taken_turned : (ds : List Decision) → triples_total (on_taken decided_number (reverse ds)) ≡ triples_total (on_taken decided_number ds)
 taken_turned [] = refl
 taken_turned (d ∷ ds) =
-    let split = ap (λ es. total_of (on_taken decided_number es)) (reverse-append (d ∷ []) ds) in
+    let split = ap (λ es. triples_total (on_taken decided_number es)) (reverse-append (d ∷ []) ds) in
     let both = taken_both (reverse ds) (d ∷ []) in
     let first = taken_both (d ∷ []) ds in
     let rest = taken_turned ds in
     omega (arith, ints, split, both, first, rest)
 
 pub taken_in_all : (given stack : List (ℕ × ℕ × Bool))
-    → total_of (on_taken decided_number (stack_of stack ++ case_of given)) ≡ total_of (on_taken decided_number (case_of given)) +ℤ total_of (on_taken decided_number (case_of stack))
+    → triples_total (on_taken decided_number (stack_of stack ++ case_of given)) ≡ triples_total (on_taken decided_number (case_of given)) +ℤ triples_total (on_taken decided_number (case_of stack))
 taken_in_all given stack =
     let both = taken_both (stack_of stack) (case_of given) in
     let turned = taken_turned (case_of stack) in
     omega (arith, ints, both, turned)
 
 pub taken_left : (ds : List (ℕ × ℕ × Bool)) (index : ℕ) (default : ℕ × ℕ × Bool) → index < length ds
-    → total_of (on_taken decided_number (case_of (drop index ds)))
-    ≡ (if (get_or ds index default).2 then decided_number else pos 0) +ℤ total_of (on_taken decided_number (case_of (drop (index + 1) ds)))
+    → triples_total (on_taken decided_number (case_of (drop index ds)))
+    ≡ (if (get_or ds index default).2 then decided_number else pos 0) +ℤ triples_total (on_taken decided_number (case_of (drop (index + 1) ds)))
 taken_left ds index default lt =
     let d : ℕ × ℕ × Bool = get_or ds index default in
     let rest : List Decision = case_of (drop (index + 1) ds) in
-    let split : total_of (on_taken decided_number (case_of (drop index ds))) ≡ total_of (on_taken decided_number (decision_of d ∷ rest)) =
-    ap (λ es. total_of (on_taken decided_number (case_of es))) (drop-cons ds index default lt) ∙ rw (add-one index) refl in
+    let split : triples_total (on_taken decided_number (case_of (drop index ds))) ≡ triples_total (on_taken decided_number (decision_of d ∷ rest)) =
+    ap (λ es. triples_total (on_taken decided_number (case_of es))) (drop-cons ds index default lt) ∙ rw (add-one index) refl in
     split ∙ (elim (cases_Bool d.2) [
       | inl t ↦ rw t refl
       | inr f ↦ rw f (omega (arith, ints))

@@ -23,11 +23,12 @@ use Rattle.tsp_branch.specs.Cases.{LeafNumbers, are_trees, leaves_of, next_stack
 use Rattle.tsp_branch.specs.Certificate.{IsCertificate, IsLeastFound, AreCostsFor, CertificatesBoundCycles}
 use Rattle.tsp_branch.specs.Combed.{most_multiplied}
 use Rattle.tsp_branch.specs.Decided.{decided_number, stack_of}
-use Rattle.tsp_branch.specs.Judged.{AreGoodNumbers, numbers_of}
-use Rattle.tsp_branch.specs.Listed.{all_grown, split_at, steps_from, no_numbers_of, listed_steps, IsStepOf, AreSteps, AreGoodFrom, IsFirstBadFrom, IsJudged, BoundsCycles, IsLowest}
+use Rattle.tsp_branch.specs.Judged.{AreGoodNumbers, as_leaf_numbers}
+use Rattle.tsp_branch.specs.Listed.{all_grown, split_at, steps_from, no_numbers_of, listed_steps, IsStepOf, AreSteps, AreGoodLeaves, IsFirstBadLeaf, IsJudged, BoundsCycles, IsLowest}
 use Rattle.tsp_branch.specs.Twice.{AreBranchesJudged}
 use Rattle.tsp_branch.specs.Rooms.{AreSmall, IsJudgedLeaf, IsSizedLeaf}
 use Rattle.tsp_branch.proofs.CaseWeights.{small_multipliers}
+use Rattle.tsp_branch.proofs.OnePass.{first_bad_by_place}
 use Rattle.tsp_branch.proofs.Passes.{IsAtStep, at_leaf, at_last}
 
 -- a list that was written over whole
@@ -45,7 +46,7 @@ good_are_small n count numbers good =
 
 pub judged_leaf : (Found : List Decision × LeafNumbers → Option ℤ → Type 0) (n count : ℕ) (case : List Decision) (old : List ℤ) (changes : List (ℕ × ℤ)) (new potentials multipliers : List ℤ) (own : Option ℤ)
     → length old ≡ n + count → All (λ change. IsNode (length old) change.0) changes → new ≡ all_grown changes old → AreGoodNumbers n count (split_at n new)
-    → potentials ≡ take n new → multipliers ≡ drop n new → Found (case, numbers_of potentials multipliers) own
+    → potentials ≡ take n new → multipliers ≡ drop n new → Found (case, as_leaf_numbers potentials multipliers) own
     → IsJudgedLeaf Found n count case old changes new (leaves.Found own)
 judged_leaf Found n count case old changes new potentials multipliers own long inside grown good of_nodes of_combs is = (
   record {
@@ -55,12 +56,12 @@ judged_leaf Found n count case old changes new potentials multipliers own long i
   grown,
   good_are_small n count new good,
   subst (λ (zs : List ℤ). Found (case, split_at n zs) own) grown
-      (subst (λ (zs : List ℤ). Found (case, numbers_of (take n new) zs) own) of_combs
-      (subst (λ (zs : List ℤ). Found (case, numbers_of zs multipliers) own) of_nodes is)),
+      (subst (λ (zs : List ℤ). Found (case, as_leaf_numbers (take n new) zs) own) of_combs
+      (subst (λ (zs : List ℤ). Found (case, as_leaf_numbers zs multipliers) own) of_nodes is)),
 )
 
 -- good numbers, as they are read
-pub good_read : (n count p m : ℕ) (read numbers : List ℤ) → p ≡ n → m ≡ count → read ≡ numbers → AreGoodNumbers p m (numbers_of (take p read) (drop p read))
+pub good_read : (n count p m : ℕ) (read numbers : List ℤ) → p ≡ n → m ≡ count → read ≡ numbers → AreGoodNumbers p m (as_leaf_numbers (take p read) (drop p read))
     → AreGoodNumbers n count (split_at n numbers)
 good_read n count p m read numbers at of same good =
     subst (λ (zs : List ℤ). AreGoodNumbers n count (split_at n zs)) same
@@ -117,16 +118,16 @@ module _ (Found : List Decision × LeafNumbers → Option ℤ → Type 0) (direc
 
   pub bad_here : (numbers : List ℤ) (stack : List (ℕ × ℕ × Bool)) (lowest : Option ℤ) (leaf : ℕ) (changes : List (ℕ × ℤ)) (rest : List listed.Step) (new : List ℤ) (found : JudgedLeaf)
       → AtNext numbers stack lowest leaf (listed.Leaf changes ∷ rest) → JudgedAs numbers stack changes new found → found ≡ leaves.Bad
-      → IsFirstBadFrom n count (no_numbers_of n count) 0 all (leaf + 1)
+      → IsFirstBadLeaf n count all (leaf + 1)
   bad_here numbers stack lowest leaf changes rest new found at judged none =
-      at.bad (leaf + 1) (inl (add-one leaf, subst (JudgedAs numbers stack changes new) none judged))
+      first_bad_by_place n count all (leaf + 1) (at.bad (leaf + 1) (inl (add-one leaf, subst (JudgedAs numbers stack changes new) none judged)))
 
   pub last_found : (families : List Comb) (numbers : List ℤ) (stack : List (ℕ × ℕ × Bool)) (lowest : Option ℤ) (leaf : ℕ) (changes : List (ℕ × ℤ)) (rest : List listed.Step) (new : List ℤ)
       (found : JudgedLeaf) (own lower : Option ℤ)
       → AtNext numbers stack lowest leaf (listed.Leaf changes ∷ rest) → All (IsFamily n) families → are_trees 1 (listed_steps n count all) ≡ true
       → JudgedAs numbers stack changes new found → found ≡ leaves.Found own → IsLowest lowest own lower → next_stack (stack_of stack) ≡ None
       → IsCertificate n families given (listed_steps n count all) × IsLeastFound Found (leaves_of (given ∷ []) (listed_steps n count all)) lower
-      × AreGoodFrom n count (no_numbers_of n count) all
+      × AreGoodLeaves n count all
   last_found families numbers stack lowest leaf changes rest new found own lower at are whole judged some low turned =
       let is = subst (JudgedAs numbers stack changes new) some judged in
       at_last Found directed n count given all families numbers stack lowest leaf changes rest own lower at are whole is.0 is.3 low turned

@@ -6,7 +6,7 @@ use Rattle.std.proofs.lemmas.Int.{ints}
 use Rattle.tsp_format.specs.Limits.{most_nodes}
 use Rattle.tsp_theory.specs.Numbers.{IsFromTo, total, IsLeastBound}
 use Rattle.tsp_theory.specs.Tree.{weight_of, IsLeastOneTree}
-use Rattle.tsp_theory.specs.Adjusted.{total_of}
+use Rattle.tsp_theory.specs.Adjusted.{triples_total}
 use Rattle.tsp_branch.specs.LeafBound.{least_of, leaf_weight}
 use Rattle.tsp_branch.specs.Weighed.{IsBoundOfWeights, BoundsEachLeaf}
 
@@ -31,11 +31,11 @@ pub bounds_each_leaf : (n : ℕ) (w : ℕ → ℕ → ℤ) (scale given_back bou
 bounds_each_leaf n w scale given_back bound b cost potentials taken avoided combs agree is =
     let v = leaf_weight scale potentials taken avoided combs cost in
     let weight_is : b.weight ≡ weight_of v b.weighs.tree = b.weighs.weight_is ∙ agreed_weight w v agree b.weighs.tree in
-    let sum = same_sum b.weight given_back (total potentials) (total_of taken) (least_of combs) is in
+    let sum = same_sum b.weight given_back (total potentials) (triples_total taken) (least_of combs) is in
     record {
       tree = b.weighs.tree;
       least = agreed_least n w v b.weighs.tree agree b.weighs.least;
-      bound_is = subst (λ (z : ℤ). IsLeastBound scale (((z -ℤ (pos 2 *ℤ total potentials)) +ℤ total_of taken) +ℤ least_of combs) bound) weight_is
+      bound_is = subst (λ (z : ℤ). IsLeastBound scale (((z -ℤ (pos 2 *ℤ total potentials)) +ℤ triples_total taken) +ℤ least_of combs) bound) weight_is
           (subst (λ (z : ℤ). IsLeastBound scale z bound) sum b.bound_is);
     }
 

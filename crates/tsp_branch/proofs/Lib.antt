@@ -17,6 +17,9 @@ pub mod CombSizes
 pub mod DecidedOnce
 pub mod MovedSums
 pub mod Outside
+pub mod OnePass
+pub mod PairKeys
+pub mod DecidedSets
 pub mod Passes
 pub mod GrowthStates
 pub mod Judging

@@ -14,7 +14,7 @@ use Rattle.tsp_theory.specs.Length.{sum_int_by}
 use Rattle.tsp_theory.specs.Tree.{crossing}
 use Rattle.tsp_theory.proofs.Crossings.{one_if}
 use Rattle.tsp_theory.proofs.Neighbours.{count}
-use Rattle.tsp_branch.specs.Combs.{IsTooth, AreApart, has, one_in_tooth, NumbersTellCombs, IsNumbering, NumbersTellLists}
+use Rattle.tsp_branch.specs.Combs.{IsTooth, AreApart, has, one_in_tooth, NumbersTellCombs, IsToothNumbering, NumbersTellLists}
 
 abbrev tooth : (ℕ → ℕ) → ℕ → ℕ → Bool
 tooth tooth_of t x = tooth_of x == t
@@ -117,7 +117,7 @@ node_in_list n nodes node all h =
     let found = Any-from_list_any (λ other. other == node) nodes h in
     subst (IsNode n) (eqb-true found.1 node found.4) (All-contains (IsNode n) nodes found.1 all (found.0, found.2, found.3))
 
-lists_apart : (n : ℕ) (tooth_of : ℕ → ℕ) (teeth : List (List ℕ)) → IsNumbering n teeth tooth_of → AllPairs AreApart (map has teeth)
+lists_apart : (n : ℕ) (tooth_of : ℕ → ℕ) (teeth : List (List ℕ)) → IsToothNumbering n teeth tooth_of → AllPairs AreApart (map has teeth)
 lists_apart n tooth_of teeth is = λ i j d below lt.
     let second : j < length teeth = omega (arith, lt, length-map teeth has) in
     let first : i < length teeth = omega (arith, below, second) in

@@ -12,9 +12,10 @@ use Rattle.tsp_branch.specs.Decisions.{Decision, DecideOnce}
 use Rattle.tsp_branch.specs.Cases.{LeafNumbers, are_trees, decide, leaves_of, cases_of, later_cases, open_cases, next_stack}
 use Rattle.tsp_branch.specs.Certificate.{AreLeafNumbers, IsCertificate, IsAbove, IsLeastFound}
 use Rattle.tsp_branch.specs.Decided.{stack_of}
-use Rattle.tsp_branch.specs.Listed.{all_grown, split_at, steps_from, no_numbers_of, listed_steps, IsGoodLeaf, AreGoodFrom, IsFirstBadFrom, IsLowest}
+use Rattle.tsp_branch.specs.Listed.{all_grown, split_at, steps_from, no_numbers_of, listed_steps, IsGoodLeaf, AreGoodLeaves, IsLowest}
 use Rattle.tsp_branch.proofs.Cases.{stacks_hold_cases}
 use Rattle.tsp_branch.proofs.NextCases.{stack_more}
+use Rattle.tsp_branch.proofs.OnePass.{AreGoodFrom, IsFirstBadFrom, all_good_by_place}
 
 -- ---- the least of what is known and of leaves, whatever is found of a leaf
 
@@ -169,7 +170,7 @@ module _ (Found : List Decision × LeafNumbers → Option ℤ → Type 0) (direc
       → IsGoodLeaf n count numbers changes → Found (stack_of stack ++ given, split_at n (all_grown changes numbers)) own → IsLowest lowest own lower
       → next_stack (stack_of stack) ≡ None
       → IsCertificate n families given (listed_steps n count all) × IsLeastFound Found (leaves_of (given ∷ []) (listed_steps n count all)) lower
-      × AreGoodFrom n count (no_numbers_of n count) all
+      × AreGoodLeaves n count all
   at_last families numbers stack lowest leaf changes steps own lower h are whole good is low turned =
       let none : later_cases given (stack_of stack) ≡ [] = sym (stacks_hold_cases given (stack_of stack)) ∙ ap (open_cases given) turned in
       let ns : List ℤ = all_grown changes numbers in
@@ -185,5 +186,5 @@ module _ (Found : List Decision × LeafNumbers → Option ℤ → Type 0) (direc
           numbers_are = All-from_recursion (λ leaf. AreLeafNumbers n leaf.1) leaves (leaf_numbers n count (no_numbers_of n count) all (given ∷ []) all_good);
         },
         least_of Found leaves lower least,
-        all_good,
+        all_good_by_place n count all all_good,
       )

@@ -11,7 +11,7 @@ use Rattle.tsp_branch.specs.Families.{least_crossings_of}
 use Rattle.tsp_branch.specs.LeafBound.{least_of}
 use Rattle.tsp_branch.specs.Certificate.{multiplied}
 use Rattle.tsp_branch.specs.Combed.{plain}
-use Rattle.tsp_branch.specs.CombsOfSets.{comb_with, of_comb, combs_from, combs_of, AreSetCounts, least_with}
+use Rattle.tsp_branch.specs.CombsOfSets.{comb_with, of_comb, combs_from, combs_of_sets, AreSetCounts, least_with}
 
 -- ---- set by set
 
@@ -51,7 +51,7 @@ counts_from sets counts first (m ∷ ms) are long =
     let own = ap (λ (k : ℕ). m *ℤ pos (least_crossings_of k)) teeth in
     rw (drop-cons counts first 0 lt) (omega (arith, ints, own, rest))
 
-pub counts_tell : (sets : List (ℕ × List ℕ)) (counts : List ℕ) (ms : List ℤ) → AreSetCounts (length ms) sets counts → least_of (multiplied (combs_of (length ms) sets) ms) ≡ least_with counts ms
+pub counts_tell : (sets : List (ℕ × List ℕ)) (counts : List ℕ) (ms : List ℤ) → AreSetCounts (length ms) sets counts → least_of (multiplied (combs_of_sets (length ms) sets) ms) ≡ least_with counts ms
 counts_tell sets counts ms are = counts_from sets counts 0 ms (λ comb default lt. are.each comb default (let long = are.many in omega (arith, lt, long))) (let long = are.many in omega (arith, long))
 
 -- ---- one set more

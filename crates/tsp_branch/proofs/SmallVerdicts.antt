@@ -6,41 +6,42 @@ use Rattle.std.proofs.lemmas.List.Kept.{AllPairs-cons}
 use Rattle.tsp_format.specs.Cells.{IsNode}
 use Rattle.tsp_branch.specs.Combs.{IsTooth, has}
 use Rattle.tsp_branch.specs.GoodCombs.{HasEachOnce}
-use Rattle.tsp_branch.specs.VerdictExamples.{IsBadComb, IsGood, three_teeth, TwiceAt, branches}
+use Rattle.tsp_branch.specs.VerdictExamples.{IsNotGood, IsGood, three_teeth, TwiceAt, branches}
+use Rattle.tsp_branch.proofs.OnePass.{IsFirstTwiceFrom, first_twice_in_pass}
 use Rattle.tsp_branch.proofs.Teeth.{all_had, comb_of_family, lone_of_family}
 
-pub no_sets : IsBadComb []
+pub no_sets : IsNotGood []
 no_sets h = elim h.family [
   | inl lone ↦ both_ways false refl lone.has_inside
   | inr comb ↦ let odd = comb.odd in omega (arith, odd)
 ]
 
-pub one_tooth : IsBadComb ((1 ∷ 2 ∷ 3 ∷ []) ∷ (1 ∷ 4 ∷ []) ∷ [])
+pub one_tooth : IsNotGood ((1 ∷ 2 ∷ 3 ∷ []) ∷ (1 ∷ 4 ∷ []) ∷ [])
 one_tooth h =
     let comb = comb_of_family 6 (1 ∷ 2 ∷ 3 ∷ []) ((1 ∷ 4 ∷ []) ∷ []) (omega arith) h.family in
     let odd = comb.odd in
     let some = comb.some in
     omega (arith, odd, some)
 
-pub two_teeth : IsBadComb ((1 ∷ 2 ∷ 3 ∷ []) ∷ (1 ∷ 4 ∷ []) ∷ (2 ∷ 5 ∷ []) ∷ [])
+pub two_teeth : IsNotGood ((1 ∷ 2 ∷ 3 ∷ []) ∷ (1 ∷ 4 ∷ []) ∷ (2 ∷ 5 ∷ []) ∷ [])
 two_teeth h =
     let comb = comb_of_family 6 (1 ∷ 2 ∷ 3 ∷ []) ((1 ∷ 4 ∷ []) ∷ (2 ∷ 5 ∷ []) ∷ []) (omega arith) h.family in
     let odd = comb.odd in
     omega (arith, odd)
 
-pub node_twice : IsBadComb ((1 ∷ 2 ∷ 3 ∷ 1 ∷ []) ∷ three_teeth)
+pub node_twice : IsNotGood ((1 ∷ 2 ∷ 3 ∷ 1 ∷ []) ∷ three_teeth)
 node_twice h = h.once 0 [] (omega arith) 0 3 0 (omega arith) (omega arith) refl
 
-pub teeth_meet : IsBadComb ((1 ∷ 2 ∷ 3 ∷ []) ∷ (1 ∷ 4 ∷ []) ∷ (2 ∷ 4 ∷ []) ∷ (3 ∷ 6 ∷ []) ∷ [])
+pub teeth_meet : IsNotGood ((1 ∷ 2 ∷ 3 ∷ []) ∷ (1 ∷ 4 ∷ []) ∷ (2 ∷ 4 ∷ []) ∷ (3 ∷ 6 ∷ []) ∷ [])
 teeth_meet h = both_ways true ((comb_of_family 6 (1 ∷ 2 ∷ 3 ∷ []) ((1 ∷ 4 ∷ []) ∷ (2 ∷ 4 ∷ []) ∷ (3 ∷ 6 ∷ []) ∷ []) (omega arith) h.family).apart 0 1 (λ node. false) (omega arith) (omega arith) 4 refl) refl
 
-pub tooth_inside : IsBadComb ((1 ∷ 2 ∷ 3 ∷ 4 ∷ []) ∷ three_teeth)
+pub tooth_inside : IsNotGood ((1 ∷ 2 ∷ 3 ∷ 4 ∷ []) ∷ three_teeth)
 tooth_inside h =
     let tooth : IsTooth 6 (has (1 ∷ 2 ∷ 3 ∷ 4 ∷ [])) (has (1 ∷ 4 ∷ [])) = (comb_of_family 6 (1 ∷ 2 ∷ 3 ∷ 4 ∷ []) three_teeth (omega arith) h.family).reach 0 (λ node. false) (omega arith) in
     both_ways (has (1 ∷ 2 ∷ 3 ∷ 4 ∷ []) tooth.outside) tooth.off_handle
     (all_had (λ x. has (1 ∷ 2 ∷ 3 ∷ 4 ∷ []) x ≡ true) (1 ∷ 4 ∷ []) tooth.outside (All-from_recursion (λ x. has (1 ∷ 2 ∷ 3 ∷ 4 ∷ []) x ≡ true) (1 ∷ 4 ∷ []) (refl, (refl, tt))) tooth.outside_tooth)
 
-pub tooth_outside : IsBadComb ((1 ∷ 2 ∷ []) ∷ three_teeth)
+pub tooth_outside : IsNotGood ((1 ∷ 2 ∷ []) ∷ three_teeth)
 tooth_outside h =
     let tooth : IsTooth 6 (has (1 ∷ 2 ∷ [])) (has (3 ∷ 6 ∷ [])) = (comb_of_family 6 (1 ∷ 2 ∷ []) three_teeth (omega arith) h.family).reach 2 (λ node. false) (omega arith) in
     both_ways (has (1 ∷ 2 ∷ []) tooth.inside)
@@ -84,21 +85,24 @@ of_six P a b c d e f i node = elim (cases_eq i 1) [
   ]
 ]
 
-pub all_nodes : IsBadComb ((1 ∷ 2 ∷ 3 ∷ 4 ∷ 5 ∷ 6 ∷ []) ∷ [])
+pub all_nodes : IsNotGood ((1 ∷ 2 ∷ 3 ∷ 4 ∷ 5 ∷ 6 ∷ []) ∷ [])
 all_nodes h =
     let lone = lone_of_family 6 (1 ∷ 2 ∷ 3 ∷ 4 ∷ 5 ∷ 6 ∷ []) h.family in
     both_ways (has (1 ∷ 2 ∷ 3 ∷ 4 ∷ 5 ∷ 6 ∷ []) lone.outside) lone.lacks_outside
     (of_six (λ x. has (1 ∷ 2 ∷ 3 ∷ 4 ∷ 5 ∷ 6 ∷ []) x ≡ true) refl refl refl refl refl refl lone.outside lone.outside_node)
 
-pub lone_node_twice : IsBadComb ((1 ∷ 2 ∷ 1 ∷ []) ∷ [])
+pub lone_node_twice : IsNotGood ((1 ∷ 2 ∷ 1 ∷ []) ∷ [])
 lone_node_twice h = h.once 0 [] (omega arith) 0 2 0 (omega arith) (omega arith) refl
 
-pub no_node : IsBadComb ([] ∷ [])
+pub no_node : IsNotGood ([] ∷ [])
 no_node h = let lone = lone_of_family 6 [] h.family in both_ways false refl lone.has_inside
 
 -- ---- two arcs in opposite directions
 
 pub never_twice : (branch : ℕ) → TwiceAt true [] (branches 1 2 2 1) branch → ⊥
-never_twice branch (inl first) = both_ways false refl first.1
-never_twice branch (inr (none, inl second)) = both_ways false refl second.1
-never_twice branch (inr (none, inr rest)) = rest.1
+never_twice branch twice = never branch (first_twice_in_pass true [] (branches 1 2 2 1) branch twice)
+  where
+    never : (branch : ℕ) → IsFirstTwiceFrom true 0 ([] ∷ []) (branches 1 2 2 1) branch → ⊥
+    never branch (inl first) = both_ways false refl first.1
+    never branch (inr (none, inl second)) = both_ways false refl second.1
+    never branch (inr (none, inr rest)) = rest.1

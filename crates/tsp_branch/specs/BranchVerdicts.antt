@@ -7,7 +7,7 @@ use Rattle.tsp_branch.specs.declared.steps.Judged.TheVariants as judged
 use Rattle.tsp_branch.specs.declared.steps.BranchVerdict.{BranchVerdict}
 use Rattle.tsp_branch.specs.declared.steps.BranchVerdict.TheVariants as verdict
 use Rattle.tsp_branch.specs.Certificate.{BoundsIfAny}
-use Rattle.tsp_branch.specs.CombsOfSets.{combs_of}
+use Rattle.tsp_branch.specs.CombsOfSets.{combs_of_sets}
 use Rattle.tsp_branch.specs.Decisions.{Decision}
 use Rattle.tsp_branch.specs.GoodCombs.{AreCombsJudged}
 use Rattle.tsp_branch.specs.Listed.{IsJudged}
@@ -18,7 +18,7 @@ pub record AreLeavesJudged (directed : Bool) (n : ℕ) (cost : ℕ → ℕ → �
     (given : List Decision) (steps : List listed.Step) (found : Judged) : Type 0 where
   pub are_combs : AreCombsJudged n combs sets None
   pub are_once : AreBranchesJudged directed given steps None
-  pub leaves : IsJudged directed n cost scale (combs_of combs sets) combs given steps found
+  pub leaves : IsJudged directed n cost scale (combs_of_sets combs sets) combs given steps found
 
 -- the first bad family; where all are good, the first branch that comes twice; where none does, the first bad leaf; and where all
 -- leaves are good, the bound

@@ -11,12 +11,12 @@ pub record LeafNumbers : Type 0 where
   pub multipliers : List ℤ
 
 -- a step: a branch by a pair, or a leaf
-pub data Step : Type 0 where
-  Branch : ℕ × ℕ → Step
-  Leaf : LeafNumbers → Step
+pub data CaseStep : Type 0 where
+  Branch : ℕ × ℕ → CaseStep
+  Leaf : LeafNumbers → CaseStep
 
 -- Whether steps are that many trees, one after the other. A leaf is a tree, and so is a branch with the two trees after it.
-abbrev pub are_trees : ℕ → List Step → Bool
+abbrev pub are_trees : ℕ → List CaseStep → Bool
 are_trees zero [] = true
 are_trees zero (step ∷ steps) = false
 are_trees (suc count) [] = false
@@ -29,7 +29,7 @@ decide pair taken case = record { pair = pair; taken = taken } ∷ case
 
 -- Each leaf with its case. A branch puts two cases in the place of the first open one: the cycles with the pair, and then those
 -- without.
-abbrev pub leaves_of : List (List Decision) → List Step → List (List Decision × LeafNumbers)
+abbrev pub leaves_of : List (List Decision) → List CaseStep → List (List Decision × LeafNumbers)
 leaves_of [] steps = []
 leaves_of (case ∷ cases) [] = []
 leaves_of (case ∷ cases) (Branch pair ∷ steps) = leaves_of (decide pair true case ∷ decide pair false case ∷ cases) steps
@@ -47,7 +47,7 @@ KeepsOne directed nodes (case ∷ cases) = KeepsAll directed nodes case ⊎ Keep
 
 -- Each cycle that keeps the given decisions keeps those of a leaf of the tree that begins with them.
 abbrev pub CyclesKeepLeaves : Type 0
-CyclesKeepLeaves = (directed : Bool) (given : List Decision) (steps : List Step) (nodes : List ℕ)
+CyclesKeepLeaves = (directed : Bool) (given : List Decision) (steps : List CaseStep) (nodes : List ℕ)
     → are_trees 1 steps ≡ true → KeepsAll directed nodes given → KeepsOne directed nodes (cases_of (leaves_of (given ∷ []) steps))
 
 -- a bound is at most the length of every cycle of the case
@@ -58,7 +58,7 @@ BoundsCase directed n cost bound case =
 -- So a bound that is at most the length of every cycle of each leaf's case is at most the length of every cycle that keeps the
 -- given decisions.
 abbrev pub CasesBoundCycles : Type 0
-CasesBoundCycles = (directed : Bool) (n : ℕ) (cost : ℕ → ℕ → ℤ) (bound : ℤ) (given : List Decision) (steps : List Step)
+CasesBoundCycles = (directed : Bool) (n : ℕ) (cost : ℕ → ℕ → ℤ) (bound : ℤ) (given : List Decision) (steps : List CaseStep)
     → are_trees 1 steps ≡ true → All (BoundsCase directed n cost bound) (cases_of (leaves_of (given ∷ []) steps))
     → BoundsCase directed n cost bound given
 
@@ -67,7 +67,7 @@ abbrev pub HasNoCycle : Bool → ℕ → List Decision → Type 0
 HasNoCycle directed n case = (nodes : List ℕ) → IsCycle n nodes → KeepsAll directed nodes case → ⊥
 
 abbrev pub CasesHaveNoCycle : Type 0
-CasesHaveNoCycle = (directed : Bool) (n : ℕ) (given : List Decision) (steps : List Step)
+CasesHaveNoCycle = (directed : Bool) (n : ℕ) (given : List Decision) (steps : List CaseStep)
     → are_trees 1 steps ≡ true → All (HasNoCycle directed n) (cases_of (leaves_of (given ∷ []) steps))
     → HasNoCycle directed n given
 

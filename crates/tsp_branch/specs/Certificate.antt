@@ -12,7 +12,7 @@ use Rattle.tsp_branch.specs.Decisions.{Decision, take_pairs, on_taken, on_avoide
 use Rattle.tsp_branch.specs.LeafBound.{IsLeafBound}
 use Rattle.tsp_branch.specs.Rows.{HasNoLink}
 use Rattle.tsp_branch.specs.RowLeaves.{IsRowLeafBound}
-use Rattle.tsp_branch.specs.Cases.{LeafNumbers, Step, are_trees, leaves_of, BoundsCase, HasNoCycle}
+use Rattle.tsp_branch.specs.Cases.{LeafNumbers, CaseStep, are_trees, leaves_of, BoundsCase, HasNoCycle}
 
 -- each family with its multiplier
 abbrev pub multiplied : List Comb → List ℤ → List (Comb × ℤ)
@@ -26,7 +26,7 @@ pub record AreLeafNumbers (n : ℕ) (numbers : LeafNumbers) : Type 0 where
   pub signs : All (λ multiplier. pos 0 ≤ℤ multiplier) numbers.multipliers
 
 -- families of n nodes, a whole tree, and numbers at each of its leaves
-pub record IsCertificate (n : ℕ) (families : List Comb) (given : List Decision) (steps : List Step) : Type 0 where
+pub record IsCertificate (n : ℕ) (families : List Comb) (given : List Decision) (steps : List CaseStep) : Type 0 where
   pub families_are : All (IsFamily n) families
   pub whole : are_trees 1 steps ≡ true
   pub numbers_are : All (λ leaf. AreLeafNumbers n leaf.1) (leaves_of (given ∷ []) steps)
@@ -55,7 +55,7 @@ abbrev pub IsLeastFound : (List Decision × LeafNumbers → Option ℤ → Type 
 IsLeastFound found leaves (Some bound) = All (IsAbove found bound) leaves × Any (λ leaf. found leaf (Some bound)) leaves
 IsLeastFound found leaves None = All (λ leaf. found leaf None) leaves
 
-abbrev pub IsCertificateBound : Bool → ℕ → (ℕ → ℕ → ℤ) → ℤ → ℤ → List Comb → List Decision → List Step → Option ℤ → Type 0
+abbrev pub IsCertificateBound : Bool → ℕ → (ℕ → ℕ → ℤ) → ℤ → ℤ → List Comb → List Decision → List CaseStep → Option ℤ → Type 0
 IsCertificateBound directed n cost scale number families given steps found =
     IsLeastFound (IsFoundAt directed n cost scale number families) (leaves_of (given ∷ []) steps) found
 
@@ -74,14 +74,14 @@ BoundsIfAny directed n cost case None = HasNoCycle directed n case
 -- The bound of a certificate is at most the length of every cycle that keeps the given decisions.
 abbrev pub CertificatesBoundCycles : Type 0
 CertificatesBoundCycles = (directed : Bool) (n : ℕ) (cost : ℕ → ℕ → ℤ) (scale number : ℤ) (families : List Comb)
-    (given : List Decision) (steps : List Step) (found : Option ℤ)
+    (given : List Decision) (steps : List CaseStep) (found : Option ℤ)
     → AreCostsFor directed n cost → IsScale scale → IsCertificate n families given steps
     → IsCertificateBound directed n cost scale number families given steps found → BoundsIfAny directed n cost given found
 
 -- Where the fixed pairs are given, it is at most the length of every tour.
 abbrev pub CertificatesBoundTours : Type 0
 CertificatesBoundTours = (directed : Bool) (n : ℕ) (cost : ℕ → ℕ → ℤ) (scale number : ℤ) (families : List Comb)
-    (fixed : List (ℕ × ℕ)) (steps : List Step) (bound : ℤ) (nodes : List ℕ)
+    (fixed : List (ℕ × ℕ)) (steps : List CaseStep) (bound : ℤ) (nodes : List ℕ)
     → AreCostsFor directed n cost → IsScale scale → IsCertificate n families (take_pairs fixed) steps
     → IsCertificateBound directed n cost scale number families (take_pairs fixed) steps (Some bound)
     → IsTour directed n fixed nodes → bound ≤ℤ length_of cost nodes
@@ -89,7 +89,7 @@ CertificatesBoundTours = (directed : Bool) (n : ℕ) (cost : ℕ → ℕ → ℤ
 -- Where there is none, there is no tour.
 abbrev pub NoBoundNoTour : Type 0
 NoBoundNoTour = (directed : Bool) (n : ℕ) (cost : ℕ → ℕ → ℤ) (scale number : ℤ) (families : List Comb)
-    (fixed : List (ℕ × ℕ)) (steps : List Step) (nodes : List ℕ)
+    (fixed : List (ℕ × ℕ)) (steps : List CaseStep) (nodes : List ℕ)
     → AreCostsFor directed n cost → IsScale scale → IsCertificate n families (take_pairs fixed) steps
     → IsCertificateBound directed n cost scale number families (take_pairs fixed) steps None
     → IsTour directed n fixed nodes → ⊥
@@ -97,6 +97,6 @@ NoBoundNoTour = (directed : Bool) (n : ℕ) (cost : ℕ → ℕ → ℤ) (scale 
 -- There is one such bound, or none, whichever least 1-trees are found.
 abbrev pub CertificateBoundsAreUnique : Type 0
 CertificateBoundsAreUnique = (directed : Bool) (n : ℕ) (cost : ℕ → ℕ → ℤ) (scale number : ℤ) (families : List Comb)
-    (given : List Decision) (steps : List Step) (a b : Option ℤ)
+    (given : List Decision) (steps : List CaseStep) (a b : Option ℤ)
     → IsCertificateBound directed n cost scale number families given steps a
     → IsCertificateBound directed n cost scale number families given steps b → a ≡ b

@@ -89,7 +89,7 @@ NumbersTellCombs = (n : ℕ) (handle : ℕ → Bool) (last : ℕ) (tooth_of : �
 -- ---- both: the numbers of the teeth of lists
 
 -- the lists have nodes of 1..n alone, and of these a node has the number of the tooth whose list has it, 0 for none
-pub record IsNumbering (n : ℕ) (teeth : List (List ℕ)) (tooth_of : ℕ → ℕ) : Type 0 where
+pub record IsToothNumbering (n : ℕ) (teeth : List (List ℕ)) (tooth_of : ℕ → ℕ) : Type 0 where
   pub nodes : All (All (IsNode n)) teeth
   pub range : (node : ℕ) → IsNode n node → tooth_of node ≤ length teeth
   pub told : (k : ℕ) (default : List ℕ) (node : ℕ) → k < length teeth → IsNode n node
@@ -97,6 +97,6 @@ pub record IsNumbering (n : ℕ) (teeth : List (List ℕ)) (tooth_of : ℕ → �
 
 -- Then no two of the teeth have a node in common, and the numbers tell the crossings.
 abbrev pub NumbersTellLists : Type 0
-NumbersTellLists = (n : ℕ) (handle : List ℕ) (teeth : List (List ℕ)) (tooth_of : ℕ → ℕ) → IsNumbering n teeth tooth_of
+NumbersTellLists = (n : ℕ) (handle : List ℕ) (teeth : List (List ℕ)) (tooth_of : ℕ → ℕ) → IsToothNumbering n teeth tooth_of
     → AllPairs AreApart (comb_of handle teeth).teeth
     × ((i j : ℕ) → IsNode n i → IsNode n j → crossings (comb_of handle teeth) i j ≡ numbered_crossings (has handle) tooth_of i j)

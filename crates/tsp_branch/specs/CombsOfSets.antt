@@ -22,8 +22,8 @@ abbrev pub combs_from : ℕ → ℕ → List (ℕ × List ℕ) → List Comb
 combs_from first zero sets = []
 combs_from first (suc count) sets = comb_with (of_comb first sets) ∷ combs_from (suc first) count sets
 
-abbrev pub combs_of : ℕ → List (ℕ × List ℕ) → List Comb
-combs_of count sets = combs_from 0 count sets
+abbrev pub combs_of_sets : ℕ → List (ℕ × List ℕ) → List Comb
+combs_of_sets count sets = combs_from 0 count sets
 
 -- how many sets each of so many combs has
 pub record AreSetCounts (combs : ℕ) (sets : List (ℕ × List ℕ)) (counts : List ℕ) : Type 0 where
@@ -40,11 +40,11 @@ least_with (count ∷ counts) (multiplier ∷ multipliers) =
 -- The crossings of the sets are those of the combs.
 abbrev pub SetsTellCombs : Type 0
 SetsTellCombs = (multipliers : List ℤ) (sets : List (ℕ × List ℕ)) (i j : ℕ) → All (λ set. set.0 < length multipliers) sets
-    → crossings_of (multiplied (combs_of (length multipliers) sets) multipliers) i j ≡ set_crossings multipliers sets i j
+    → crossings_of (multiplied (combs_of_sets (length multipliers) sets) multipliers) i j ≡ set_crossings multipliers sets i j
 
 -- So the weights by sets are, under taken and avoided pairs, those of a leaf.
 abbrev pub SetsGiveLeaves : Type 0
 SetsGiveLeaves = (scale : ℤ) (potentials multipliers : List ℤ) (taken avoided : List (ℕ × ℕ × ℤ)) (sets : List (ℕ × List ℕ))
     (cost : ℕ → ℕ → ℤ) (i j : ℕ) → All (λ set. set.0 < length multipliers) sets
     → adjusted taken avoided (set_weight scale potentials multipliers sets cost) i j
-    ≡ leaf_weight scale potentials taken avoided (multiplied (combs_of (length multipliers) sets) multipliers) cost i j
+    ≡ leaf_weight scale potentials taken avoided (multiplied (combs_of_sets (length multipliers) sets) multipliers) cost i j

@@ -4,7 +4,7 @@ use Rattle.tsp_theory.specs.Length.{length_of}
 use Rattle.tsp_branch.specs.Combs.{Comb, comb_of, crossings}
 use Rattle.tsp_branch.specs.Decisions.{Decision, on_taken, on_avoided}
 use Rattle.tsp_branch.specs.LeafBound.{leaf_weight}
-use Rattle.tsp_branch.specs.Cases.{LeafNumbers, Step, Leaf, are_trees, leaves_of, cases_of}
+use Rattle.tsp_branch.specs.Cases.{LeafNumbers, CaseStep, Leaf, are_trees, leaves_of, cases_of}
 use Rattle.tsp_branch.specs.Certificate.{multiplied, IsCertificate, IsCertificateBound}
 
 -- the comb of the handle 1 2 3 and the teeth 1 4, 2 5 and 3 6
@@ -55,11 +55,11 @@ WeighsUnderComb i j weight =
     leaf_weight (pos 2) [] [] [] (multiplied (small_comb ∷ []) (pos 1 ∷ [])) (cost_in six_rows) i j ≡ weight
 
 -- a certificate of four nodes has this bound; one of six, with the comb and these multipliers, and no branch
-abbrev pub FourHave : List Step → ℤ → Type 0
+abbrev pub FourHave : List CaseStep → ℤ → Type 0
 FourHave steps bound = IsCertificate 4 [] [] steps × IsCertificateBound false 4 (cost_in four_rows) (pos 1) large [] [] steps
     (Some bound)
 
-abbrev pub six_leaf : List ℤ → List Step
+abbrev pub six_leaf : List ℤ → List CaseStep
 six_leaf multipliers = Leaf (record { potentials = replicate 6 (pos 0); multipliers = multipliers }) ∷ []
 
 abbrev pub SixHave : List ℤ → ℤ → Type 0
@@ -67,11 +67,11 @@ SixHave multipliers bound = IsCertificate 6 (small_comb ∷ []) [] (six_leaf mul
     × IsCertificateBound false 6 (cost_in six_rows) (pos 2) large (small_comb ∷ []) [] (six_leaf multipliers) (Some bound)
 
 -- the steps are one tree, and these are the cases of its leaves
-pub record IsTreeOf (steps : List Step) (cases : List (List Decision)) : Type 0 where
+pub record IsTreeOf (steps : List CaseStep) (cases : List (List Decision)) : Type 0 where
   pub whole : are_trees 1 steps ≡ true
   pub cases_are : cases_of (leaves_of ([] ∷ []) steps) ≡ cases
 
-abbrev pub IsNoTree : List Step → Type 0
+abbrev pub IsNoTree : List CaseStep → Type 0
 IsNoTree steps = are_trees 1 steps ≡ false
 
 -- decisions

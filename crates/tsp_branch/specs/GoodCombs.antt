@@ -3,7 +3,7 @@ use Rattle.std.specs.Prelude.{◌≡◌, ◌≢◌, ℕ, ◌+◌, ◌*◌, ◌�
 use Rattle.std.specs.Global.{Vec}
 use Rattle.std.specs.List.{All, AllPairs}
 use Rattle.tsp_branch.specs.Families.{IsFamily}
-use Rattle.tsp_branch.specs.CombsOfSets.{comb_with, of_comb, combs_of}
+use Rattle.tsp_branch.specs.CombsOfSets.{comb_with, of_comb, combs_of_sets}
 
 -- no node is twice in a set
 abbrev pub HasEachOnce : List ℕ → Type 0
@@ -28,7 +28,7 @@ pub record IsFirstBadComb (n combs : ℕ) (sets : List (ℕ × List ℕ)) (first
 -- Where none is bad, the sets are those of families, each with its nodes once; else the first bad one is told.
 abbrev pub AreCombsJudged : ℕ → ℕ → List (ℕ × List ℕ) → Option ℕ → Type 0
 AreCombsJudged n combs sets None = ((comb : ℕ) → comb < combs → IsGoodComb n (of_comb comb sets))
-    × All (IsFamily n) (combs_of combs sets) × All (λ set. HasEachOnce set.1) sets
+    × All (IsFamily n) (combs_of_sets combs sets) × All (λ set. HasEachOnce set.1) sets
 AreCombsJudged n combs sets (Some first) = IsFirstBadComb n combs sets first
 
 -- the sets are listed comb by comb

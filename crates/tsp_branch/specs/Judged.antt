@@ -13,5 +13,5 @@ pub record AreGoodNumbers (n combs : ℕ) (numbers : LeafNumbers) : Type 0 where
   pub signs : All (λ multiplier. pos 0 ≤ℤ multiplier) numbers.multipliers
   pub sum : total numbers.multipliers ≤ℤ pos most_multiplied
 
-abbrev pub numbers_of : List ℤ → List ℤ → LeafNumbers
-numbers_of potentials multipliers = record { potentials = potentials; multipliers = multipliers }
+abbrev pub as_leaf_numbers : List ℤ → List ℤ → LeafNumbers
+as_leaf_numbers potentials multipliers = record { potentials = potentials; multipliers = multipliers }

@@ -7,7 +7,7 @@ use Rattle.tsp_theory.specs.Length.{sum_int_by, length_of}
 use Rattle.tsp_theory.specs.Numbers.{IsScale, total, IsLeastBound}
 use Rattle.tsp_theory.specs.Tree.{weight_of, IsLeastOneTree}
 use Rattle.tsp_theory.specs.NodeBound.{weight_between}
-use Rattle.tsp_theory.specs.Adjusted.{adjusted, total_of, UsesEach, UsesNone, IsAdjustedBound}
+use Rattle.tsp_theory.specs.Adjusted.{adjusted, triples_total, UsesEach, UsesNone, IsAdjustedBound}
 use Rattle.tsp_branch.specs.Combs.{Comb, crossings}
 use Rattle.tsp_branch.specs.Families.{IsFamily, least_crossings_of}
 
@@ -36,7 +36,7 @@ leaf_weight scale potentials taken avoided families cost =
 -- off every cycle is given back
 abbrev pub IsLeafBoundOf : ℤ → List ℤ → List (ℕ × ℕ × ℤ) → List (Comb × ℤ) → ℤ → ℤ → Type 0
 IsLeafBoundOf scale potentials taken families weight bound =
-    IsLeastBound scale (((weight -ℤ (pos 2 *ℤ total potentials)) +ℤ total_of taken) +ℤ least_of families) bound
+    IsLeastBound scale (((weight -ℤ (pos 2 *ℤ total potentials)) +ℤ triples_total taken) +ℤ least_of families) bound
 
 -- the bound of potentials, of numbers on taken and avoided pairs, and of families: that of a least 1-tree
 pub record IsLeafBound (n : ℕ) (cost : ℕ → ℕ → ℤ) (scale : ℤ) (potentials : List ℤ) (taken avoided : List (ℕ × ℕ × ℤ))

@@ -14,6 +14,7 @@ pub mod Judged
 pub mod GoodCombs
 pub mod Tabled
 pub mod Twice
+pub mod PairSets
 pub mod Marked
 pub mod Outside
 pub mod Listed

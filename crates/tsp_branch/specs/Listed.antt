@@ -1,5 +1,5 @@
 -- A certificate as it is listed: each leaf by what changes since the leaf before it.
-use Rattle.std.specs.Prelude.{◌≡◌, ◌≢◌, ℕ, suc, ◌+◌, ◌-◌, ◌^◌, ◌<◌, length, Bool, true, List, [], ◌∷◌, take, drop, replicate, slice_set, Option, Some, None, IfSome, ◌⊎◌, ℤ, pos, ◌+ℤ◌, ◌≤ℤ◌}
+use Rattle.std.specs.Prelude.{◌≡◌, ◌≢◌, ℕ, ◌+◌, ◌-◌, ◌^◌, ◌<◌, ◌≤◌, length, Bool, true, List, [], ◌∷◌, take, drop, replicate, slice_set, slice_index_or, Option, Some, None, IfSome, ◌⊎◌, ℤ, pos, ◌+ℤ◌, ◌≤ℤ◌}
 use Rattle.std.specs.List.{All}
 use Rattle.tsp_format.specs.Cells.{IsNode}
 use Rattle.tsp_format.specs.Steps as listed
@@ -8,7 +8,7 @@ use Rattle.tsp_branch.specs.declared.steps.Judged.{Judged}
 use Rattle.tsp_branch.specs.declared.steps.Judged.TheVariants as judged
 use Rattle.tsp_branch.specs.Combs.{Comb}
 use Rattle.tsp_branch.specs.Decisions.{Decision, DecideOnce}
-use Rattle.tsp_branch.specs.Cases.{LeafNumbers, Step, Branch, Leaf, are_trees, leaves_of, cases_of}
+use Rattle.tsp_branch.specs.Cases.{LeafNumbers, CaseStep, Branch, Leaf, are_trees, leaves_of, cases_of}
 use Rattle.tsp_branch.specs.Certificate.{IsCertificate, IsCertificateBound, BoundsIfAny}
 use Rattle.tsp_branch.specs.Judged.{AreGoodNumbers}
 use Rattle.tsp_branch.specs.Decided.{decided_number}
@@ -30,7 +30,7 @@ split_at n numbers = record { potentials = take n numbers; multipliers = drop n 
 -- ---- the steps
 
 -- the steps of the tree, where the leaf before had these numbers
-abbrev pub steps_from : ℕ → List ℤ → List listed.Step → List Step
+abbrev pub steps_from : ℕ → List ℤ → List listed.Step → List CaseStep
 steps_from n numbers [] = []
 steps_from n numbers (listed.Branch a b ∷ steps) = Branch (a, b) ∷ steps_from n numbers steps
 steps_from n numbers (listed.Leaf changes ∷ steps) =
@@ -40,7 +40,7 @@ steps_from n numbers (listed.Leaf changes ∷ steps) =
 abbrev pub no_numbers_of : ℕ → ℕ → List ℤ
 no_numbers_of n combs = replicate (n + combs) (pos 0)
 
-abbrev pub listed_steps : ℕ → ℕ → List listed.Step → List Step
+abbrev pub listed_steps : ℕ → ℕ → List listed.Step → List CaseStep
 listed_steps n combs steps = steps_from n (no_numbers_of n combs) steps
 
 -- each branch is on two different nodes, and the differences of a leaf can be counted
@@ -55,20 +55,32 @@ pub record IsGoodLeaf (n combs : ℕ) (numbers : List ℤ) (changes : List (ℕ 
   pub indexes : All (λ change. IsNode (n + combs) change.0) changes
   pub numbers_are : AreGoodNumbers n combs (split_at n (all_grown changes numbers))
 
--- all leaves are good
-abbrev pub AreGoodFrom : ℕ → ℕ → List ℤ → List listed.Step → Type 0
-AreGoodFrom n combs numbers [] = Unit {0}
-AreGoodFrom n combs numbers (listed.Branch a b ∷ steps) = AreGoodFrom n combs numbers steps
-AreGoodFrom n combs numbers (listed.Leaf changes ∷ steps) =
-    IsGoodLeaf n combs numbers changes × AreGoodFrom n combs (all_grown changes numbers) steps
+-- the leaves, each by its differences
+abbrev pub leaf_changes : List listed.Step → List (List (ℕ × ℤ))
+leaf_changes [] = []
+leaf_changes (listed.Branch a b ∷ steps) = leaf_changes steps
+leaf_changes (listed.Leaf changes ∷ steps) = changes ∷ leaf_changes steps
 
--- the first leaf that isn't good, counted on from the leaf before
-abbrev pub IsFirstBadFrom : ℕ → ℕ → List ℤ → ℕ → List listed.Step → ℕ → Type 0
-IsFirstBadFrom n combs numbers leaf [] bad = ⊥
-IsFirstBadFrom n combs numbers leaf (listed.Branch a b ∷ steps) bad = IsFirstBadFrom n combs numbers leaf steps bad
-IsFirstBadFrom n combs numbers leaf (listed.Leaf changes ∷ steps) bad =
-    ((bad ≡ suc leaf) × (IsGoodLeaf n combs numbers changes → ⊥))
-    ⊎ (IsGoodLeaf n combs numbers changes × IsFirstBadFrom n combs (all_grown changes numbers) (suc leaf) steps bad)
+-- numbers that grow by the differences of all these leaves
+abbrev pub after_leaves : List (List (ℕ × ℤ)) → List ℤ → List ℤ
+after_leaves [] numbers = numbers
+after_leaves (changes ∷ leaves) numbers = after_leaves leaves (all_grown changes numbers)
+
+-- the leaf at a place, from 1 on, is good: its differences are added to what all leaves before it give
+abbrev pub IsGoodAt : ℕ → ℕ → List (List (ℕ × ℤ)) → ℕ → Type 0
+IsGoodAt n combs leaves place =
+    IsGoodLeaf n combs (after_leaves (take (place - 1) leaves) (no_numbers_of n combs)) (slice_index_or leaves (place - 1) [])
+
+abbrev pub AreGoodLeaves : ℕ → ℕ → List listed.Step → Type 0
+AreGoodLeaves n combs steps =
+    (place : ℕ) → 1 ≤ place → place ≤ length (leaf_changes steps) → IsGoodAt n combs (leaf_changes steps) place
+
+-- the first leaf that isn't good, counted from 1
+pub record IsFirstBadLeaf (n combs : ℕ) (steps : List listed.Step) (leaf : ℕ) : Type 0 where
+  pub least : 1 ≤ leaf
+  pub most : leaf ≤ length (leaf_changes steps)
+  pub bad : IsGoodAt n combs (leaf_changes steps) leaf → ⊥
+  pub before : (earlier : ℕ) → 1 ≤ earlier → earlier < leaf → IsGoodAt n combs (leaf_changes steps) earlier
 
 -- ---- the judgement
 
@@ -77,9 +89,8 @@ abbrev pub IsJudged : Bool → ℕ → (ℕ → ℕ → ℤ) → ℤ → List Co
 IsJudged directed n cost scale families count given steps (judged.Bound found) =
     IsCertificate n families given (listed_steps n count steps)
     × IsCertificateBound directed n cost scale decided_number families given (listed_steps n count steps) found
-    × AreGoodFrom n count (no_numbers_of n count) steps
-IsJudged directed n cost scale families count given steps (judged.BadLeaf leaf) =
-    IsFirstBadFrom n count (no_numbers_of n count) 0 steps leaf
+    × AreGoodLeaves n count steps
+IsJudged directed n cost scale families count given steps (judged.BadLeaf leaf) = IsFirstBadLeaf n count steps leaf
 
 -- Then the bound is at most the length of every cycle that keeps the given decisions, and where there is none, no cycle does.
 abbrev pub BoundsCycles : Bool → ℕ → (ℕ → ℕ → ℤ) → List Decision → Judged → Type 0
@@ -87,12 +98,12 @@ BoundsCycles directed n cost given (judged.Bound found) = BoundsIfAny directed n
 BoundsCycles directed n cost given (judged.BadLeaf leaf) = Unit {0}
 
 -- Sums with it fit 128 bits.
-abbrev pub IsSized : Judged → Type 0
-IsSized (judged.Bound found) = IfSome found IsBoundSized
-IsSized (judged.BadLeaf leaf) = Unit {0}
+abbrev pub IsJudgedSized : Judged → Type 0
+IsJudgedSized (judged.Bound found) = IfSome found IsBoundSized
+IsJudgedSized (judged.BadLeaf leaf) = Unit {0}
 
 -- what the steps have to be: one whole tree of branches on two different nodes, none of which is on a pair decided above it
-pub record AreSteps (directed : Bool) (n : ℕ) (given : List Decision) (steps : List listed.Step) (listed : List Step) : Type 0 where
+pub record AreSteps (directed : Bool) (n : ℕ) (given : List Decision) (steps : List listed.Step) (listed : List CaseStep) : Type 0 where
   pub each : All (IsStepOf n) steps
   pub whole : are_trees 1 listed ≡ true
   pub once : All (DecideOnce directed) (cases_of (leaves_of (given ∷ []) listed))

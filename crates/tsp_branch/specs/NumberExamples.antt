@@ -2,8 +2,8 @@
 -- fourth.
 use Rattle.std.specs.Prelude.{ℕ, List, [], ◌∷◌, ℤ, pos, negsuc}
 use Rattle.tsp_format.specs.Steps as listed
-use Rattle.tsp_branch.specs.Cases.{LeafNumbers, Step, Branch, Leaf}
-use Rattle.tsp_branch.specs.Judged.{numbers_of}
+use Rattle.tsp_branch.specs.Cases.{LeafNumbers, CaseStep, Branch, Leaf}
+use Rattle.tsp_branch.specs.Judged.{as_leaf_numbers}
 
 -- three potentials
 abbrev pub potentials_of_three : ℤ → ℤ → ℤ → List ℤ
@@ -14,14 +14,14 @@ abbrev pub by_differences : List listed.Step
 by_differences = listed.Branch 1 2 ∷ listed.Leaf ((2, pos 5) ∷ (4, pos 1) ∷ []) ∷ listed.Leaf ((2, negsuc 1) ∷ (4, pos 2) ∷ []) ∷ []
 
 -- the same steps with all numbers
-abbrev pub by_numbers : List Step
-by_numbers = Branch (1, 2) ∷ Leaf (numbers_of (potentials_of_three (pos 0) (pos 5) (pos 0)) (pos 1 ∷ []))
-    ∷ Leaf (numbers_of (potentials_of_three (pos 0) (pos 3) (pos 0)) (pos 3 ∷ [])) ∷ []
+abbrev pub by_numbers : List CaseStep
+by_numbers = Branch (1, 2) ∷ Leaf (as_leaf_numbers (potentials_of_three (pos 0) (pos 5) (pos 0)) (pos 1 ∷ []))
+    ∷ Leaf (as_leaf_numbers (potentials_of_three (pos 0) (pos 3) (pos 0)) (pos 3 ∷ [])) ∷ []
 
 -- three potentials of 0 and two multipliers
 abbrev pub multiplied_by : ℤ → ℤ → LeafNumbers
-multiplied_by first second = numbers_of (potentials_of_three (pos 0) (pos 0) (pos 0)) (first ∷ second ∷ [])
+multiplied_by first second = as_leaf_numbers (potentials_of_three (pos 0) (pos 0) (pos 0)) (first ∷ second ∷ [])
 
 -- a potential at node 3, and no multipliers
 abbrev pub moved_at_three : ℤ → LeafNumbers
-moved_at_three potential = numbers_of (potentials_of_three (pos 0) (pos 0) potential) []
+moved_at_three potential = as_leaf_numbers (potentials_of_three (pos 0) (pos 0) potential) []

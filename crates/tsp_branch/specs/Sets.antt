@@ -25,8 +25,8 @@ sets_with number [] x = []
 sets_with number (set ∷ sets) x = times number set.1.items x ++ sets_with (suc number) sets x
 
 -- lists to which such numbers were added
-abbrev pub IsListed : (ℕ → List ℕ) → List (Vec ℕ) → List (Vec ℕ) → Type 0
-IsListed more old new = (length new ≡ length old)
+abbrev pub AreLengthened : (ℕ → List ℕ) → List (Vec ℕ) → List (Vec ℕ) → Type 0
+AreLengthened more old new = (length new ≡ length old)
     × ((x : ℕ) (a b : Vec ℕ) → x < length old → (slice_index_or new x a).items ≡ (slice_index_or old x b).items ++ more x)
 
 -- of each of 0..n the numbers of the sets that have it

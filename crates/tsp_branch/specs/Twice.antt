@@ -1,5 +1,5 @@
 -- Which branch comes twice: on a pair that is decided above it.
-use Rattle.std.specs.Prelude.{◌≡◌, ℕ, suc, Bool, true, false, List, [], ◌∷◌, Option, None, Some, ◌⊎◌}
+use Rattle.std.specs.Prelude.{◌≡◌, ℕ, ◌-◌, ◌<◌, ◌≤◌, Bool, true, false, List, [], ◌∷◌, length, slice_index_or, Option, None, Some}
 use Rattle.std.specs.List.{All, list_any}
 use Rattle.tsp_format.specs.Steps as listed
 use Rattle.tsp_branch.specs.Decisions.{Decision, is_same, DecideOnce}
@@ -10,18 +10,34 @@ use Rattle.tsp_branch.specs.Listed.{listed_steps}
 abbrev pub is_decided : Bool → List Decision → ℕ × ℕ → Bool
 is_decided directed case pair = list_any (λ decision. is_same directed pair decision.pair) case
 
--- the first branch on a pair that the case decides which it divides, counted on from the branches before it
-abbrev pub IsFirstTwiceFrom : Bool → ℕ → List (List Decision) → List listed.Step → ℕ → Type 0
-IsFirstTwiceFrom directed branch [] steps first = ⊥
-IsFirstTwiceFrom directed branch (case ∷ cases) [] first = ⊥
-IsFirstTwiceFrom directed branch (case ∷ cases) (listed.Branch a b ∷ steps) first =
-    ((first ≡ suc branch) × (is_decided directed case (a, b) ≡ true))
-    ⊎ ((is_decided directed case (a, b) ≡ false)
-    × IsFirstTwiceFrom directed (suc branch) (decide (a, b) true case ∷ decide (a, b) false case ∷ cases) steps first)
-IsFirstTwiceFrom directed branch (case ∷ cases) (listed.Leaf changes ∷ steps) first = IsFirstTwiceFrom directed branch cases steps first
+-- a branch: its pair, and the case that it divides
+pub record Divided : Type 0 where
+  pub case : List Decision
+  pub pair : ℕ × ℕ
+
+-- Each branch of the steps, where these cases are open before them. It divides the first open one.
+abbrev pub divided : List (List Decision) → List listed.Step → List Divided
+divided [] steps = []
+divided (case ∷ cases) [] = []
+divided (case ∷ cases) (listed.Branch a b ∷ steps) =
+    record { case = case; pair = (a, b) } ∷ divided (decide (a, b) true case ∷ decide (a, b) false case ∷ cases) steps
+divided (case ∷ cases) (listed.Leaf changes ∷ steps) = divided cases steps
+
+-- the branch at a place, from 1 on, is on a pair that its case decides
+abbrev pub is_twice_at : Bool → List Divided → ℕ → Bool
+is_twice_at directed branches place =
+    let branch : Divided = slice_index_or branches (place - 1) (record { case = []; pair = (0, 0) }) in
+    is_decided directed branch.case branch.pair
+
+-- the first branch that comes twice, counted from 1
+pub record IsFirstTwice (directed : Bool) (given : List Decision) (steps : List listed.Step) (first : ℕ) : Type 0 where
+  pub least : 1 ≤ first
+  pub most : first ≤ length (divided (given ∷ []) steps)
+  pub twice : is_twice_at directed (divided (given ∷ []) steps) first ≡ true
+  pub before : (earlier : ℕ) → 1 ≤ earlier → earlier < first → is_twice_at directed (divided (given ∷ []) steps) earlier ≡ false
 
 -- Where no branch comes twice, no case decides a pair twice, whatever the numbers of its leaves; else the first one is reported.
 abbrev pub AreBranchesJudged : Bool → List Decision → List listed.Step → Option ℕ → Type 0
-AreBranchesJudged directed given steps None = ((first : ℕ) → IsFirstTwiceFrom directed 0 (given ∷ []) steps first → ⊥)
+AreBranchesJudged directed given steps None = ((first : ℕ) → IsFirstTwice directed given steps first → ⊥)
     × ((n combs : ℕ) → All (DecideOnce directed) (cases_of (leaves_of (given ∷ []) (listed_steps n combs steps))))
-AreBranchesJudged directed given steps (Some first) = IsFirstTwiceFrom directed 0 (given ∷ []) steps first
+AreBranchesJudged directed given steps (Some first) = IsFirstTwice directed given steps first

@@ -3,11 +3,11 @@ use Rattle.std.specs.Prelude.{ℕ, Bool, List, [], ◌∷◌, ℤ}
 use Rattle.tsp_format.specs.Steps as listed
 use Rattle.tsp_branch.specs.Decisions.{Decision}
 use Rattle.tsp_branch.specs.GoodCombs.{IsGoodComb}
-use Rattle.tsp_branch.specs.Twice.{IsFirstTwiceFrom}
+use Rattle.tsp_branch.specs.Twice.{IsFirstTwice}
 
 -- sets of six nodes are neither a lone set nor those of a comb, and that they are
-abbrev pub IsBadComb : List (List ℕ) → Type 0
-IsBadComb sets = IsGoodComb 6 sets → ⊥
+abbrev pub IsNotGood : List (List ℕ) → Type 0
+IsNotGood sets = IsGoodComb 6 sets → ⊥
 
 abbrev pub IsGood : List (List ℕ) → Type 0
 IsGood sets = IsGoodComb 6 sets
@@ -18,7 +18,7 @@ three_teeth = (1 ∷ 4 ∷ []) ∷ (2 ∷ 5 ∷ []) ∷ (3 ∷ 6 ∷ []) ∷ []
 
 -- this branch is the first that comes twice
 abbrev pub TwiceAt : Bool → List Decision → List listed.Step → ℕ → Type 0
-TwiceAt directed given steps branch = IsFirstTwiceFrom directed 0 (given ∷ []) steps branch
+TwiceAt directed given steps branch = IsFirstTwice directed given steps branch
 
 abbrev pub branches : ℕ → ℕ → ℕ → ℕ → List listed.Step
 branches a b c d = listed.Branch a b ∷ listed.Branch c d ∷ []

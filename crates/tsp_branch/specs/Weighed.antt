@@ -2,7 +2,7 @@
 use Rattle.std.specs.Prelude.{◌≡◌, ℕ, List, ℤ, pos, ◌+ℤ◌, ◌-ℤ◌, ◌*ℤ◌}
 use Rattle.tsp_theory.specs.Numbers.{total, IsLeastBound}
 use Rattle.tsp_theory.specs.Tree.{weight_of, IsLeastOneTree}
-use Rattle.tsp_theory.specs.Adjusted.{total_of}
+use Rattle.tsp_theory.specs.Adjusted.{triples_total}
 use Rattle.tsp_branch.specs.Combs.{Comb}
 use Rattle.tsp_branch.specs.LeafBound.{least_of, leaf_weight, IsLeafBound}
 
@@ -20,7 +20,7 @@ pub record IsBoundOfWeights (n : ℕ) (w : ℕ → ℕ → ℤ) (scale given_bac
 
 -- what a leaf gives back: the numbers of its taken pairs and the least crossings of its combs, less each potential twice
 abbrev pub given_back_of : List ℤ → List (ℕ × ℕ × ℤ) → List (Comb × ℤ) → ℤ
-given_back_of potentials taken combs = (total_of taken +ℤ least_of combs) -ℤ (pos 2 *ℤ total potentials)
+given_back_of potentials taken combs = (triples_total taken +ℤ least_of combs) -ℤ (pos 2 *ℤ total potentials)
 
 -- the bound is that of each leaf that has these weights and gives this back
 abbrev pub BoundsEachLeaf : ℕ → (ℕ → ℕ → ℤ) → ℤ → ℤ → ℤ → Type 0

@@ -9,10 +9,10 @@ ghost use Rattle.tsp_branch.specs.Families.{IsFamily};
 ghost use Rattle.tsp_branch.specs.Decisions.{DecideOnce};
 ghost use Rattle.tsp_branch.specs.Sets.{AreSetsOf};
 ghost use Rattle.tsp_branch.specs.Combed.{plain};
-ghost use Rattle.tsp_branch.specs.CombsOfSets.{combs_of};
+ghost use Rattle.tsp_branch.specs.CombsOfSets.{combs_of_sets};
 ghost use Rattle.tsp_branch.specs.Certificate.{IsFoundAt};
 ghost use Rattle.tsp_branch.specs.Decided.{decided_number, IsDecision, case_of, stack_of};
-ghost use Rattle.tsp_branch.specs.Listed.{no_numbers_of, listed_steps, AreSteps, IsJudged, BoundsCycles, IsSized, IsLowest};
+ghost use Rattle.tsp_branch.specs.Listed.{no_numbers_of, listed_steps, AreSteps, IsJudged, BoundsCycles, IsJudgedSized, IsLowest};
 ghost use Rattle.tsp_branch.specs.Rooms.{IsRoom, AreSmall, IsJudgedLeaf, IsSizedLeaf};
 
 use crate::counts::set_counts;
@@ -64,14 +64,14 @@ pub fn branch_bound<C: Costs>(
     requires few_steps { length steps.now < 2 ^ 32 }
     requires nodes { AreSetsOf (C.nodes costs.now) sets.now }
     requires of_combs { All (λ set. (set.0 < combs) × AllPairs (λ a b. a ≢ b) set.1.items) sets.now }
-    requires are_families { All (IsFamily (C.nodes costs.now)) (combs_of combs (plain sets.now)) }
+    requires are_families { All (IsFamily (C.nodes costs.now)) (combs_of_sets combs (plain sets.now)) }
     requires given_are { All (IsDecision (C.nodes costs.now)) given.now }
     requires steps { AreSteps directed (C.nodes costs.now) (case_of given.now) (steps_of steps.now)
         (listed_steps (C.nodes costs.now) combs (steps_of steps.now)) }
     ensures judged { IfOk result (IsJudged directed (C.nodes costs.now) (C.at costs.now) scale
-        (combs_of combs (plain sets.now)) combs (case_of given.now) (steps_of steps.now)) }
+        (combs_of_sets combs (plain sets.now)) combs (case_of given.now) (steps_of steps.now)) }
     ensures cycles { IfOk result (BoundsCycles directed (C.nodes costs.now) (C.at costs.now) (case_of given.now)) }
-    ensures size { IfOk result IsSized }
+    ensures size { IfOk result IsJudgedSized }
 {
     certificates_bound_cycles();
     let count = costs.count();
@@ -104,15 +104,15 @@ fn judge_leaves<C: Costs>(
 ) -> Result<Judged, AllocError>
     requires few_steps { length steps.now < 2 ^ 32 }
     requires are_families { All (IsFamily (C.nodes setting.now.costs.now))
-        (combs_of setting.now.combs (plain setting.now.sets.now)) }
+        (combs_of_sets setting.now.combs (plain setting.now.sets.now)) }
     requires steps { AreSteps setting.now.directed (C.nodes setting.now.costs.now) (case_of setting.now.given.now)
         (steps_of steps.now) (listed_steps (C.nodes setting.now.costs.now) setting.now.combs (steps_of steps.now)) }
     requires room { IsRoom (C.nodes setting.now.costs.now) setting.now.combs room }
     requires start { room.numbers.items ≡ no_numbers_of (C.nodes setting.now.costs.now) setting.now.combs }
     ensures judged { IfOk result (IsJudged setting.now.directed (C.nodes setting.now.costs.now) (C.at setting.now.costs.now)
-        setting.now.scale (combs_of setting.now.combs (plain setting.now.sets.now)) setting.now.combs
+        setting.now.scale (combs_of_sets setting.now.combs (plain setting.now.sets.now)) setting.now.combs
         (case_of setting.now.given.now) (steps_of steps.now)) }
-    ensures size { IfOk result IsSized }
+    ensures size { IfOk result IsJudgedSized }
 {
     let mut stack: Vec<(u32, u32, bool)> = Vec::new(alloc);
     let mut lowest = None;
@@ -149,7 +149,7 @@ fn judge_leaf<C: Costs>(
     room: &mut Room,
 ) -> Result<JudgedLeaf, AllocError>
     requires are_families { All (IsFamily (C.nodes setting.now.costs.now))
-        (combs_of setting.now.combs (plain setting.now.sets.now)) }
+        (combs_of_sets setting.now.combs (plain setting.now.sets.now)) }
     requires few_changes { length changes.now < 2 ^ 32 }
     requires few_decisions { length decisions.now < 2 ^ 32 }
     requires pairs { All (IsDecision (C.nodes setting.now.costs.now)) decisions.now }
@@ -158,7 +158,7 @@ fn judge_leaf<C: Costs>(
     requires small { AreSmall room.old.numbers.items }
     ensures judged { IfOk result (IsJudgedLeaf (IsFoundAt setting.now.directed (C.nodes setting.now.costs.now)
         (C.at setting.now.costs.now) setting.now.scale decided_number
-        (combs_of setting.now.combs (plain setting.now.sets.now))) (C.nodes setting.now.costs.now) setting.now.combs
+        (combs_of_sets setting.now.combs (plain setting.now.sets.now))) (C.nodes setting.now.costs.now) setting.now.combs
         (stack_of decisions.now ++ case_of setting.now.given.now) room.old.numbers.items changes.now
         room.new.numbers.items) }
     ensures room { IfOk result (λ own. IsRoom (C.nodes setting.now.costs.now) setting.now.combs room.new) }

@@ -5,7 +5,7 @@ ghost use Rattle.tsp_branch.specs.Combs.{least_crossings};
 ghost use Rattle.tsp_branch.specs.Families.{least_crossings_of};
 ghost use Rattle.tsp_branch.specs.Cases.{Branch, Leaf};
 ghost use Rattle.tsp_branch.specs.Examples.{small_comb, Crosses, CrossesInAll, large, no_numbers, one_at_two, WeighsAt, WeighsUnderComb, four_rows, six_rows, LengthIs, FourHave, SixHave, IsTreeOf, IsNoTree, with_pair, without_pair};
-ghost use Rattle.tsp_branch.specs.VerdictExamples.{IsBadComb, IsGood, three_teeth, TwiceAt, branches, branches_apart, on_both_sides};
+ghost use Rattle.tsp_branch.specs.VerdictExamples.{IsNotGood, IsGood, three_teeth, TwiceAt, branches, branches_apart, on_both_sides};
 
 /// How often some nodes cross the parts of a comb, and how often two cycles do: the first one as
 /// often as each cycle does at the least.
@@ -65,17 +65,17 @@ pub fn examples_of_trees()
 
 /// Sets that are neither a lone set nor those of a comb, and branches that come twice.
 pub fn examples_of_verdicts()
-    ensures no_sets { IsBadComb [] }
-    ensures one_tooth { IsBadComb ((1 ∷ 2 ∷ 3 ∷ []) ∷ (1 ∷ 4 ∷ []) ∷ []) }
-    ensures two_teeth { IsBadComb ((1 ∷ 2 ∷ 3 ∷ []) ∷ (1 ∷ 4 ∷ []) ∷ (2 ∷ 5 ∷ []) ∷ []) }
-    ensures node_twice { IsBadComb ((1 ∷ 2 ∷ 3 ∷ 1 ∷ []) ∷ three_teeth) }
-    ensures teeth_meet { IsBadComb ((1 ∷ 2 ∷ 3 ∷ []) ∷ (1 ∷ 4 ∷ []) ∷ (2 ∷ 4 ∷ []) ∷ (3 ∷ 6 ∷ []) ∷ []) }
-    ensures tooth_inside { IsBadComb ((1 ∷ 2 ∷ 3 ∷ 4 ∷ []) ∷ three_teeth) }
-    ensures tooth_outside { IsBadComb ((1 ∷ 2 ∷ []) ∷ three_teeth) }
+    ensures no_sets { IsNotGood [] }
+    ensures one_tooth { IsNotGood ((1 ∷ 2 ∷ 3 ∷ []) ∷ (1 ∷ 4 ∷ []) ∷ []) }
+    ensures two_teeth { IsNotGood ((1 ∷ 2 ∷ 3 ∷ []) ∷ (1 ∷ 4 ∷ []) ∷ (2 ∷ 5 ∷ []) ∷ []) }
+    ensures node_twice { IsNotGood ((1 ∷ 2 ∷ 3 ∷ 1 ∷ []) ∷ three_teeth) }
+    ensures teeth_meet { IsNotGood ((1 ∷ 2 ∷ 3 ∷ []) ∷ (1 ∷ 4 ∷ []) ∷ (2 ∷ 4 ∷ []) ∷ (3 ∷ 6 ∷ []) ∷ []) }
+    ensures tooth_inside { IsNotGood ((1 ∷ 2 ∷ 3 ∷ 4 ∷ []) ∷ three_teeth) }
+    ensures tooth_outside { IsNotGood ((1 ∷ 2 ∷ []) ∷ three_teeth) }
     ensures lone_set { IsGood ((1 ∷ 2 ∷ []) ∷ []) }
-    ensures no_node { IsBadComb ([] ∷ []) }
-    ensures all_nodes { IsBadComb ((1 ∷ 2 ∷ 3 ∷ 4 ∷ 5 ∷ 6 ∷ []) ∷ []) }
-    ensures lone_node_twice { IsBadComb ((1 ∷ 2 ∷ 1 ∷ []) ∷ []) }
+    ensures no_node { IsNotGood ([] ∷ []) }
+    ensures all_nodes { IsNotGood ((1 ∷ 2 ∷ 3 ∷ 4 ∷ 5 ∷ 6 ∷ []) ∷ []) }
+    ensures lone_node_twice { IsNotGood ((1 ∷ 2 ∷ 1 ∷ []) ∷ []) }
     ensures again { TwiceAt false [] (branches 1 2 1 2) 2 }
     ensures again_turned { TwiceAt false [] (branches 1 2 2 1) 2 }
     ensures given { TwiceAt false (with_pair 3 4 ∷ []) (branches 1 2 4 3) 2 }

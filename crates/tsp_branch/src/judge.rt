@@ -1,7 +1,7 @@
 //! Whether the numbers of a leaf are good.
 
 ghost use Rattle.std.specs.Prelude.{◌≡◌, ◌<◌, ◌+◌, ◌^◌, ◌↔◌, IsTrue, length, take, drop, true};
-ghost use Rattle.tsp_branch.specs.Judged.{AreGoodNumbers, numbers_of};
+ghost use Rattle.tsp_branch.specs.Judged.{AreGoodNumbers, as_leaf_numbers};
 
 use crate::given_back::total;
 use crate::numbers::copy_within;
@@ -16,7 +16,7 @@ pub(crate) fn judge(numbers: &[i128], potentials: &mut [i64], multipliers: &mut 
     requires long { length numbers.now ≡ length potentials.old + length multipliers.old }
     requires few { length multipliers.old < 2 ^ 32 }
     ensures good { IsTrue result ↔ AreGoodNumbers (length potentials.old) (length multipliers.old)
-        (numbers_of (take (length potentials.old) numbers.now) (drop (length potentials.old) numbers.now)) }
+        (as_leaf_numbers (take (length potentials.old) numbers.now) (drop (length potentials.old) numbers.now)) }
     ensures potentials { result ≡ true → potentials.new ≡ take (length potentials.old) numbers.now }
     ensures multipliers { result ≡ true → multipliers.new ≡ drop (length potentials.old) numbers.now }
     ensures potentials_len { length potentials.new ≡ length potentials.old }

@@ -3,7 +3,7 @@
 ghost use Rattle.std.specs.Prelude.{◌<◌, ◌-◌, ◌^◌, ℕ, [], length, IfOk};
 ghost use Rattle.std.specs.List.{All};
 ghost use Rattle.tsp_theory.specs.Growth.{least_at};
-ghost use Rattle.tsp_branch.specs.Sets.{IsMoved, added, times, IsListed, IsSetTable, AreSetsOf};
+ghost use Rattle.tsp_branch.specs.Sets.{IsMoved, added, times, AreLengthened, IsSetTable, AreSetsOf};
 
 use crate::decided::add_at;
 use std::alloc::{AllocError, Global};
@@ -45,7 +45,7 @@ pub(crate) fn sets_by_node(
 /// Adds a set's number to the list of each of its nodes.
 fn place_set(lists: &mut Vec<Vec<u32>>, number: u32, nodes: &[u32]) -> Result<(), AllocError>
     requires { All (λ node. node < length lists.old.items) nodes.now }
-    ensures { IfOk result (λ unit. IsListed (times number nodes.now) lists.old.items lists.new.items) }
+    ensures { IfOk result (λ unit. AreLengthened (times number nodes.now) lists.old.items lists.new.items) }
 {
     'nodes: for node in nodes {
         lists[*node as usize].push(number)?;

@@ -55,9 +55,9 @@ impl<C: Costs> Setting<'_, C> {
     ghost use Rattle.tsp_branch.specs.Decisions.{DecideOnce};
     ghost use Rattle.tsp_branch.specs.Certificate.{IsFoundAt};
     ghost use Rattle.tsp_branch.specs.Combed.{plain};
-    ghost use Rattle.tsp_branch.specs.CombsOfSets.{combs_of};
+    ghost use Rattle.tsp_branch.specs.CombsOfSets.{combs_of_sets};
     ghost use Rattle.tsp_branch.specs.Decided.{decided_number, IsDecision, case_of, stack_of};
-    ghost use Rattle.tsp_branch.specs.Judged.{AreGoodNumbers, numbers_of};
+    ghost use Rattle.tsp_branch.specs.Judged.{AreGoodNumbers, as_leaf_numbers};
 
     /// The bound of the leaf with these numbers and decisions; `None` where it has none, since some
     /// node has no link that these allow. Two rows are lent, which are written over. The caller owes
@@ -76,17 +76,17 @@ impl<C: Costs> Setting<'_, C> {
         moved: &mut [i64],
     ) -> Result<Option<i128>, AllocError>
         requires are_families { All (IsFamily (C.nodes self.now.costs.now))
-            (combs_of self.now.combs (plain self.now.sets.now)) }
+            (combs_of_sets self.now.combs (plain self.now.sets.now)) }
         requires numbers { AreGoodNumbers (C.nodes self.now.costs.now) self.now.combs
-            (numbers_of potentials.now multipliers.now) }
+            (as_leaf_numbers potentials.now multipliers.now) }
         requires pairs { All (IsDecision (C.nodes self.now.costs.now)) decisions.now }
         requires once { DecideOnce self.now.directed (stack_of decisions.now ++ case_of self.now.given.now) }
         requires few { length decisions.now < 2 ^ 32 }
         requires row { length row.old ≡ C.nodes self.now.costs.now + 1 }
         requires moved { length moved.old ≡ C.nodes self.now.costs.now + 1 }
         ensures bound { IfOk result (IsFoundAt self.now.directed (C.nodes self.now.costs.now) (C.at self.now.costs.now)
-            self.now.scale decided_number (combs_of self.now.combs (plain self.now.sets.now))
-            (stack_of decisions.now ++ case_of self.now.given.now, numbers_of potentials.now multipliers.now)) }
+            self.now.scale decided_number (combs_of_sets self.now.combs (plain self.now.sets.now))
+            (stack_of decisions.now ++ case_of self.now.given.now, as_leaf_numbers potentials.now multipliers.now)) }
         ensures size { IfOk result (λ bound. IfSome bound IsBoundSized) }
     {
         if self.directed {
@@ -112,17 +112,17 @@ impl<C: Costs> Setting<'_, C> {
     ) -> Result<i128, AllocError>
         requires undirected { self.now.directed ≡ false }
         requires are_families { All (IsFamily (C.nodes self.now.costs.now))
-            (combs_of self.now.combs (plain self.now.sets.now)) }
+            (combs_of_sets self.now.combs (plain self.now.sets.now)) }
         requires numbers { AreGoodNumbers (C.nodes self.now.costs.now) self.now.combs
-            (numbers_of potentials.now multipliers.now) }
+            (as_leaf_numbers potentials.now multipliers.now) }
         requires pairs { All (IsDecision (C.nodes self.now.costs.now)) decisions.now }
         requires once { DecideOnce false (stack_of decisions.now ++ case_of self.now.given.now) }
         requires few { length decisions.now < 2 ^ 32 }
         requires row { length row.old ≡ C.nodes self.now.costs.now + 1 }
         requires moved { length moved.old ≡ C.nodes self.now.costs.now + 1 }
         ensures bound { IfOk result (λ bound. IsFoundAt false (C.nodes self.now.costs.now) (C.at self.now.costs.now)
-            self.now.scale decided_number (combs_of self.now.combs (plain self.now.sets.now))
-            (stack_of decisions.now ++ case_of self.now.given.now, numbers_of potentials.now multipliers.now)
+            self.now.scale decided_number (combs_of_sets self.now.combs (plain self.now.sets.now))
+            (stack_of decisions.now ++ case_of self.now.given.now, as_leaf_numbers potentials.now multipliers.now)
             (Some bound)) }
         ensures size { IfOk result (λ bound. IsBoundSized bound) }
     {
@@ -155,15 +155,15 @@ impl<C: Costs> Setting<'_, C> {
         moved: &mut [i64],
     ) -> Option<i128>
         requires are_families { All (IsFamily (C.nodes self.now.costs.now))
-            (combs_of self.now.combs (plain self.now.sets.now)) }
+            (combs_of_sets self.now.combs (plain self.now.sets.now)) }
         requires numbers { AreGoodNumbers (C.nodes self.now.costs.now) self.now.combs
-            (numbers_of potentials.now multipliers.now) }
+            (as_leaf_numbers potentials.now multipliers.now) }
         requires pairs { All (IsDecision (C.nodes self.now.costs.now)) decisions.now }
         requires row { length row.old ≡ C.nodes self.now.costs.now + 1 }
         requires moved { length moved.old ≡ C.nodes self.now.costs.now + 1 }
         ensures bound { IsFoundAt true (C.nodes self.now.costs.now) (C.at self.now.costs.now)
-            self.now.scale decided_number (combs_of self.now.combs (plain self.now.sets.now))
-            (stack_of decisions.now ++ case_of self.now.given.now, numbers_of potentials.now multipliers.now)
+            self.now.scale decided_number (combs_of_sets self.now.combs (plain self.now.sets.now))
+            (stack_of decisions.now ++ case_of self.now.given.now, as_leaf_numbers potentials.now multipliers.now)
             result }
         ensures size { IfSome result IsBoundSized }
     {

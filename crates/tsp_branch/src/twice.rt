@@ -1,13 +1,15 @@
 //! Which branch comes twice.
 
-ghost use Rattle.std.specs.Prelude.{◌≡◌, ◌++◌, IfOk};
+ghost use Rattle.std.specs.Prelude.{◌≡◌, ◌++◌, List, true, IfOk};
 ghost use Rattle.tsp_format.specs.Steps.{steps_of};
-ghost use Rattle.tsp_branch.specs.Decisions.{is_same, DecideOnce};
-ghost use Rattle.tsp_branch.specs.Decided.{case_of, stack_of};
-ghost use Rattle.tsp_branch.specs.Twice.{is_decided, AreBranchesJudged};
+ghost use Rattle.tsp_branch.specs.Decisions.{Decision, DecideOnce};
+ghost use Rattle.tsp_branch.specs.Decided.{IsNextStack, case_of, stack_of};
+ghost use Rattle.tsp_branch.specs.PairSets.{key_of, HasDecided, HasStack};
+ghost use Rattle.tsp_branch.specs.Twice.{AreBranchesJudged};
 
 use crate::stack::next_case;
 use std::alloc::{AllocError, Global};
+use std::collections::BTreeSet;
 use tsp_format::TreeStep;
 
 /// The first branch on a pair that is decided above it or given, counted from 1. `None` where each
@@ -18,7 +20,7 @@ use tsp_format::TreeStep;
 ///
 /// # Errors
 ///
-/// Out of memory, of which it takes some for each decision of a case.
+/// Out of memory, of which it takes some for each decision of a case and each given one.
 pub fn first_twice(
     alloc: Global,
     directed: bool,
@@ -28,19 +30,21 @@ pub fn first_twice(
     requires { DecideOnce directed (case_of given.now) }
     ensures { IfOk result (AreBranchesJudged directed (case_of given.now) (steps_of steps.now)) }
 {
+    let mut decided = given_pairs(alloc, directed, given)?;
     let mut stack: Vec<(u32, u32, bool)> = Vec::new(alloc);
     let mut count = 0;
     'steps: for step in steps {
         match step {
             TreeStep::Branch(first, second) => {
                 count += 1;
-                if decides(directed, given, &stack, *first, *second) {
+                let is_new = decided.insert(key_of(directed, *first, *second))?;
+                if !is_new {
                     return Ok(Some(count));
                 }
                 stack.push((*first, *second, true))?;
             }
             TreeStep::Leaf(_) => {
-                if !next_case(&mut stack) {
+                if !leave_case(directed, &mut stack, &mut decided) {
                     return Ok(None);
                 }
             }
@@ -49,37 +53,52 @@ pub fn first_twice(
     Ok(None)
 }
 
-/// Whether a pair is given or decided on the stack.
-fn decides(
+/// [`next_case`], where the pairs of dropped decisions leave the set of the decided ones.
+fn leave_case(
+    directed: bool,
+    stack: &mut Vec<(u32, u32, bool)>,
+    decided: &mut BTreeSet<(u32, u32)>,
+) -> bool
+    ensures next { IsNextStack stack.old.items result stack.new.items }
+    ensures set { result ≡ true → (given : List Decision)
+        → HasStack directed decided.old stack.old.items given
+        → HasDecided directed decided.new (stack_of stack.new.items ++ given) }
+{
+    let mut kept = stack.len();
+    'kept: while kept > 0 {
+        let (first, second, taken) = stack[kept - 1];
+        if taken {
+            return next_case(stack);
+        }
+        let _was_in = decided.remove(&key_of(directed, first, second));
+        kept -= 1;
+    }
+    next_case(stack)
+}
+
+/// The pairs of the given decisions.
+fn given_pairs(
+    alloc: Global,
     directed: bool,
     given: &[(u32, u32, bool)],
-    stack: &[(u32, u32, bool)],
-    first: u32,
-    second: u32,
-) -> bool
-    ensures { result ≡ is_decided directed (stack_of stack.now ++ case_of given.now) (first, second) }
+) -> Result<BTreeSet<(u32, u32)>, AllocError>
+    ensures { IfOk result (λ decided. HasDecided directed decided (case_of given.now)) }
 {
-    has_pair(directed, stack, first, second) || has_pair(directed, given, first, second)
+    let mut decided = BTreeSet::new(alloc);
+    'given: for decision in given {
+        decided.insert(key_of(directed, decision.0, decision.1))?;
+    }
+    Ok(decided)
 }
 
-/// Whether a decision is on a pair.
-fn has_pair(directed: bool, decisions: &[(u32, u32, bool)], first: u32, second: u32) -> bool
-    ensures { result ≡ is_decided directed (case_of decisions.now) (first, second) }
+/// A pair as a set of pairs has it: as it is, or with its smaller node first where pairs have no
+/// direction.
+fn key_of(directed: bool, first: u32, second: u32) -> (u32, u32)
+    ensures { result ≡ key_of directed (first, second) }
 {
-    'decisions: for decision in decisions {
-        if is_on_pair(directed, *decision, first, second) {
-            return true;
-        }
+    if directed || first <= second {
+        (first, second)
+    } else {
+        (second, first)
     }
-    false
-}
-
-/// Whether a decision is on a pair.
-fn is_on_pair(directed: bool, decision: (u32, u32, bool), first: u32, second: u32) -> bool
-    ensures { result ≡ is_same directed (first, second) (decision.0, decision.1) }
-{
-    if directed {
-        return first == decision.0 && second == decision.1;
-    }
-    (first == decision.0 && second == decision.1) || (second == decision.0 && first == decision.1)
 }

@@ -1,17 +1,15 @@
 -- What always holds of a valid file: its fields are in these ranges, and those are present that its kind asks for.
-use Rattle.std.specs.Prelude.{◌≡◌, ◌≢◌, ℕ, ◌+◌, ◌≤◌, ◌⊎◌, Bool, true, false, List, length, None, Some, IsSome, ℤ, pos, neg_ℤ, ◌≤ℤ◌}
+use Rattle.std.specs.Prelude.{◌≡◌, ◌≢◌, ℕ, ◌+◌, ◌≤◌, ◌⊎◌, Bool, true, false, List, length, None, Some, IsSome, ℤ, pos, neg_ℤ}
 use Rattle.std.specs.List.{All, sum_by}
 use Rattle.tsp_distance.specs.declared.decimal.Point.{Point}
 use Rattle.tsp_format.specs.declared.layout.Layout.{Layout}
 use Rattle.tsp_format.specs.declared.kinds.WeightFormat.TheVariants.{Listed}
+pub use Rattle.tsp_format.specs.Ranges.{IsFromTo}
 use Rattle.tsp_format.specs.Cells.{IsNode, cells}
 use Rattle.tsp_format.specs.Limits.{most_nodes, most_matrix_nodes, most_coordinate, most_weight, most_demand, most_capacity, most_scale, most_potential, most_depots, most_fixed, most_multipliers, most_multiplier, most_tour_nodes, most_combs, most_comb_nodes, most_branches, most_changes, most_difference}
 use Rattle.tsp_format.specs.Steps.{Step, Branch, Leaf, are_whole, branch_count, change_count}
 use Rattle.tsp_draft.specs.Fields.{Fields, spatial}
 use Rattle.tsp_draft.specs.Rules.{is_explicit}
-
-abbrev pub IsFromTo : ℤ → ℤ → ℤ → Type 0
-IsFromTo low high z = (low ≤ℤ z) × (z ≤ℤ high)
 
 -- of at most this size
 abbrev pub IsWithin : ℕ → ℤ → Type 0

@@ -1,3 +1,4 @@
+pub mod Distances
 pub mod Fronts
 pub mod Listed
 pub mod Relaid

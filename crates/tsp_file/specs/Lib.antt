@@ -1,4 +1,5 @@
 pub mod Cost
+pub mod ByInequalities
 pub mod FaultText
 pub mod Halves
 pub mod Listed

@@ -1,9 +1,28 @@
-//! What always holds of the canonical text, as contracts of functions that do nothing.
+//! What always holds of costs and of the canonical text, as contracts of functions that do nothing.
 
-ghost use Rattle.std.specs.Prelude.{◌≡◌, ◌<◌, length, None};
+ghost use Rattle.std.specs.Prelude.{◌≡◌, ◌≢◌, ◌<◌, ℕ, [], length, None, Some, unwrap_or, pos, unsigned_abs};
+ghost use Rattle.tsp_format.specs.declared.kinds.WeightKind.{WeightKind};
+ghost use Rattle.tsp_format.specs.declared.kinds.WeightKind.TheVariants.{Explicit};
 ghost use Rattle.tsp_draft.specs.Fields.{Fields};
 ghost use Rattle.tsp_draft.specs.Rules.{fault_of};
+ghost use Rattle.tsp_file.specs.ByInequalities.{IsDistanceBy};
+ghost use Rattle.tsp_file.specs.Cost.{cost, point_of};
 ghost use Rattle.tsp_file.specs.Text.{text_of};
+
+use tsp_distance::distance_laws;
+
+/// A cost by coordinates is the one number with the inequalities of the weight type's distance,
+/// between the points of both nodes.
+pub fn costs_are_by_inequalities()
+    ensures defined { (f : Fields) (kind : WeightKind) (i j : ℕ) → f.weight_kind ≡ Some kind → kind ≢ Explicit
+        → IsDistanceBy kind (point_of (unwrap_or f.coords []) i) (point_of (unwrap_or f.coords []) j)
+        (unsigned_abs (cost f i j)) }
+    ensures unique { (f : Fields) (kind : WeightKind) (i j k : ℕ) → f.weight_kind ≡ Some kind
+        → IsDistanceBy kind (point_of (unwrap_or f.coords []) i) (point_of (unwrap_or f.coords []) j) k
+        → cost f i j ≡ pos k }
+{
+    distance_laws();
+}
 
 /// The canonical text of every valid file has fewer than 750,000,000 bytes. This follows from the
 /// limits of this project's profile: the most that a file can hold is a matrix of 5,000 * 5,000

@@ -28,7 +28,7 @@ pub use examples::{
 };
 pub use fault::RelayoutFault;
 pub use file::File;
-pub use laws::a_valid_text_is_short;
+pub use laws::{a_valid_text_is_short, costs_are_by_inequalities};
 pub use text_examples::{examples_of_fault_texts, examples_of_lines, examples_of_sections};
 pub use tsp_draft::{Coords, Draft, DraftFault, EndFault};
 pub use tsp_format::{

@@ -5,6 +5,7 @@ pub mod Keywords
 pub mod Layout
 pub mod Limits
 pub mod Place
+pub mod Ranges
 pub mod Words
 pub mod Shapes
 pub mod Space

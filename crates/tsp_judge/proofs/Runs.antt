@@ -10,7 +10,7 @@ use Rattle.tsp_stream.specs.Sink.{Sink, IsUnwritten}
 use Rattle.tsp_draft.specs.Fields.{Fields}
 use Rattle.tsp_draft.specs.Rules.{is_instance}
 use Rattle.tsp_read.specs.Reads.{IsFile, most_taken}
-use Rattle.tsp_theory.specs.Numbers.{IsBoundSized as IsSmall}
+use Rattle.tsp_theory.specs.Numbers.{IsGapSized as IsSmall}
 use Rattle.tsp_reason.specs.declared.certificate.Certificate.{Certificate}
 use Rattle.tsp_reason.specs.declared.verdict.Verdict.{Verdict}
 use Rattle.tsp_reason.specs.declared.verdict.Verdict.TheVariants as verdicts
@@ -18,7 +18,7 @@ use Rattle.tsp_verdict.specs.Certified.{is_bounded, IsCertifiedVerdict}
 use Rattle.tsp_verdict.specs.Judged.{is_judged, IsVerdictBy, IsVerdictOn, IsUnclaimedVerdict, IsVerdictWith}
 use Rattle.tsp_judge.specs.declared.fault.RunFault.{RunFault}
 use Rattle.tsp_judge.specs.declared.fault.RunFault.TheVariants.{File, WrongKind, Write, OutOfMemory, Relayout}
-use Rattle.tsp_report.specs.Report.{IsBoundSized, IsSized}
+use Rattle.tsp_report.specs.Report.{IsGapSized, IsSized}
 use Rattle.tsp_judge.specs.Run.{ReadsFile, Given, given_by, IsUnreadIn, IsFileIn, ReadsGiven, AreRead, JudgesFiles, EndsWithout}
 
 pub none_taken : length {A = ℕ} [] ≤ most_taken
@@ -30,7 +30,7 @@ few : (z : ℤ) → IsSmall z → unsigned_abs z ≤ 2 ^ 126
 few (pos n) small = omega (arith, ints, small.0, small.1)
 few (negsuc n) small = omega (arith, ints, small.0, small.1)
 
-no_bound : (bound : Option ℤ) → bound ≡ None → IsBoundSized bound
+no_bound : (bound : Option ℤ) → bound ≡ None → IsGapSized bound
 no_bound None e = tt
 no_bound (Some b) e = absurd cc
 
@@ -50,7 +50,7 @@ sized_by (Some kinds.Branches) instance solution verdict v = absurd v
 sized_by None instance solution verdict v = absurd v
 
 certified : (by : Certificate) (instance solution certificate : Fields) (verdict : Verdict) → IsCertifiedVerdict by instance solution certificate verdict → IsSized verdict
-certified by instance solution certificate (verdicts.Tour length bound) v = subst IsBoundSized (sym v.1.bound_is) (few v.1.least v.1.sized)
+certified by instance solution certificate (verdicts.Tour length bound) v = subst IsGapSized (sym v.1.bound_is) (few v.1.least v.1.sized)
 certified by instance solution certificate (verdicts.Routes length routes least) v = tt
 certified by instance solution certificate (verdicts.No reason) v = tt
 

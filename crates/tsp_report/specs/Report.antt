@@ -125,11 +125,11 @@ verdict_lines (Routes length routes least) = codes "routes " ++ decimal routes +
 verdict_lines (No reason) = no_line reason
 
 -- a bound of which the gap to a length fits
-abbrev pub IsBoundSized : Option ℤ → Type 0
-IsBoundSized bound = IfSome bound (λ b. unsigned_abs b ≤ 2 ^ 126)
+abbrev pub IsGapSized : Option ℤ → Type 0
+IsGapSized bound = IfSome bound (λ b. unsigned_abs b ≤ 2 ^ 126)
 
 abbrev pub IsSized : Verdict → Type 0
-IsSized (Tour length bound) = IsBoundSized bound
+IsSized (Tour length bound) = IsGapSized bound
 IsSized (Routes length routes least) = Unit {0}
 IsSized (No reason) = Unit {0}
 

@@ -3,7 +3,7 @@
 ghost use Rattle.std.specs.Prelude.{◌≡◌, ◌++◌, ◌≤◌, ◌^◌, ◌-ℤ◌, Some, map, codes, unsigned_abs};
 ghost use Rattle.tsp_stream.specs.Sink.{sink_of, Writes};
 ghost use Rattle.tsp_stream.specs.Way.{Puts};
-ghost use Rattle.tsp_report.specs.Report.{report_of, instance_lines, type_line, nodes_line, not_judged, no_line, verdict_lines, bound_lines, gap_lines, IsBoundSized, IsSized};
+ghost use Rattle.tsp_report.specs.Report.{report_of, instance_lines, type_line, nodes_line, not_judged, no_line, verdict_lines, bound_lines, gap_lines, IsGapSized, IsSized};
 
 use crate::reason::put_reason;
 use itoa::Integer;
@@ -144,7 +144,7 @@ pub(crate) fn put_no<W: Write>(piece: &mut Piece, out: &mut Watched<W>, reason: 
 
 /// Adds the line of a bound and the line after it, where there is one.
 fn put_bound<W: Write>(piece: &mut Piece, out: &mut Watched<W>, length: i64, bound: Option<i128>)
-    requires { IsBoundSized bound }
+    requires { IsGapSized bound }
     ensures { Puts W.contents out.old piece.old out.new piece.new (bound_lines length bound) }
 {
     if let Some(bound) = bound {

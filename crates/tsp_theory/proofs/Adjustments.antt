@@ -9,7 +9,7 @@ use Rattle.tsp_theory.specs.Length.{sum_int_by, length_of}
 use Rattle.tsp_theory.specs.Numbers.{IsScale, entry, total}
 use Rattle.tsp_theory.specs.Tree.{weight_of}
 use Rattle.tsp_theory.specs.NodeBound.{weight_between}
-use Rattle.tsp_theory.specs.Adjusted.{pair_of, is_same_pair, number_on, numbers_on, total_of, adjusted, UsesEach, UsesNone, AdjustedBoundsBoundCycles, UnadjustedBoundsAreNodeBounds}
+use Rattle.tsp_theory.specs.Adjusted.{pair_of, is_same_pair, number_on, numbers_on, triples_total, adjusted, UsesEach, UsesNone, AdjustedBoundsBoundCycles, UnadjustedBoundsAreNodeBounds}
 use Rattle.tsp_theory.proofs.CostLaws.{Laws, entries_of_links}
 use Rattle.tsp_theory.proofs.Duality.{scaled_length}
 use Rattle.tsp_theory.proofs.Weights.{weight_even}
@@ -53,7 +53,7 @@ sum_zero (x ∷ xs) = omega (arith, ints, sum_zero xs)
 
 -- of pairs that it uses, all of them
 numbers_of_used : (n : ℕ) (nodes : List ℕ) (triples : List (ℕ × ℕ × ℤ)) → Laws → 3 ≤ n → IsCycle n nodes
-    → AllByRecursion (λ t. AreNeighbours nodes (pair_of t)) triples → length_of (numbers_on triples) nodes ≡ total_of triples
+    → AllByRecursion (λ t. AreNeighbours nodes (pair_of t)) triples → length_of (numbers_on triples) nodes ≡ triples_total triples
 numbers_of_used n nodes [] laws some cycle used = sum_zero (links nodes)
 numbers_of_used n nodes (t ∷ ts) laws some cycle used =
     let split = laws.sum (number_on t) (numbers_on ts) nodes in
@@ -85,7 +85,7 @@ adjusted_length taken avoided w nodes laws =
 -- what a cycle weighs that uses each taken pair and no avoided one
 pub adjusted_cycle : (n : ℕ) (cost : ℕ → ℕ → ℤ) (scale : ℤ) (potentials : List ℤ) (taken avoided : List (ℕ × ℕ × ℤ)) (nodes : List ℕ) → Laws → 3 ≤ n → IsScale scale → length potentials ≡ n
     → IsCycle n nodes → UsesEach taken nodes → UsesNone avoided nodes
-    → length_of (adjusted taken avoided (weight_between scale potentials cost)) nodes ≡ ((scale *ℤ length_of cost nodes) +ℤ (pos 2 *ℤ total potentials)) -ℤ total_of taken
+    → length_of (adjusted taken avoided (weight_between scale potentials cost)) nodes ≡ ((scale *ℤ length_of cost nodes) +ℤ (pos 2 *ℤ total potentials)) -ℤ triples_total taken
 adjusted_cycle n cost scale potentials taken avoided nodes laws some scale_in long cycle used unused =
     let own = adjusted_length taken avoided (weight_between scale potentials cost) nodes laws in
     let less = numbers_of_used n nodes taken laws some cycle (recursion_from_All (λ t. AreNeighbours nodes (pair_of t)) taken used) in

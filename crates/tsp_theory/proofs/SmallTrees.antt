@@ -3,7 +3,7 @@ use Rattle.std.proofs.Common.{◌≡◌, ◌≢◌, ℕ, zero, suc, ◌==◌, tr
 use Rattle.std.specs.Prelude.{ℤ, ◌≤ℤ◌}
 use Rattle.std.proofs.lemmas.Bool.{both_ways}
 use Rattle.tsp_theory.specs.Tree.{weight_of, IsInner, IsLeastOneTree}
-use Rattle.tsp_theory.specs.NodeBound.{weight_between, IsBoundOf, IsNodeBound}
+use Rattle.tsp_theory.specs.NodeBound.{weight_between, IsBoundOfPotentials, IsNodeBound}
 use Rattle.tsp_theory.specs.Growth.{and_node, IsLeastLeaving, grown_by, AreNearest, IsWholeGrowth, tree_of}
 use Rattle.tsp_theory.specs.Examples.{even_costs}
 use Rattle.tsp_theory.proofs.OneTrees.{least_from_growth}
@@ -80,7 +80,7 @@ pub costs_even : (costs : List ℤ) (i j : ℕ) → even_costs costs i j ≡ eve
 costs_even costs i j = search rules
 
 pub bound_so : (costs : List ℤ) (scale : ℤ) (potentials : List ℤ) (second p : ℕ) (bound : ℤ) → GrowsSo (weight_between scale potentials (even_costs costs)) second p
-    → IsBoundOf scale potentials (weight_of (weight_between scale potentials (even_costs costs)) (tree_of 2 second ((2, 3) ∷ (p, 4) ∷ []))) bound
+    → IsBoundOfPotentials scale potentials (weight_of (weight_between scale potentials (even_costs costs)) (tree_of 2 second ((2, 3) ∷ (p, 4) ∷ []))) bound
     → IsNodeBound 4 (even_costs costs) scale potentials bound
 bound_so costs scale potentials second p bound so is = record {
   tree = tree_of 2 second ((2, 3) ∷ (p, 4) ∷ []);

@@ -28,8 +28,8 @@ number_on triple i j = if is_same_pair (pair_of triple) (i, j) then triple.2 els
 abbrev pub numbers_on : List (ℕ × ℕ × ℤ) → ℕ → ℕ → ℤ
 numbers_on triples i j = sum_int_by (λ triple. number_on triple i j) triples
 
-abbrev pub total_of : List (ℕ × ℕ × ℤ) → ℤ
-total_of triples = sum_int_by (λ triple. triple.2) triples
+abbrev pub triples_total : List (ℕ × ℕ × ℤ) → ℤ
+triples_total triples = sum_int_by (λ triple. triple.2) triples
 
 -- triples over n nodes with different pairs
 pub record AreOnPairs (n : ℕ) (triples : List (ℕ × ℕ × ℤ)) : Type 0 where
@@ -53,7 +53,7 @@ UsesNone triples nodes = All (λ triple. AreNeighbours nodes (pair_of triple) �
 -- given back, since a cycle has each node in two of its links and each taken pair in one
 abbrev pub IsAdjustedBoundOf : ℤ → List ℤ → List (ℕ × ℕ × ℤ) → ℤ → ℤ → Type 0
 IsAdjustedBoundOf scale potentials taken weight bound =
-    IsLeastBound scale ((weight -ℤ (pos 2 *ℤ total potentials)) +ℤ total_of taken) bound
+    IsLeastBound scale ((weight -ℤ (pos 2 *ℤ total potentials)) +ℤ triples_total taken) bound
 
 -- the bound of potentials and of numbers on taken and avoided pairs: that of a least 1-tree
 pub record IsAdjustedBound (n : ℕ) (cost : ℕ → ℕ → ℤ) (scale : ℤ) (potentials : List ℤ) (taken avoided : List (ℕ × ℕ × ℤ))

@@ -25,7 +25,7 @@ costs_below_zero = negsuc 8 ∷ negsuc 7 ∷ negsuc 8 ∷ negsuc 7 ∷ negsuc 8 
 abbrev pub star_below_zero : ℕ → ℕ → ℤ
 star_below_zero = even_costs costs_below_zero
 
--- three nodes, by rows: 9999 1 10, 10 9999 2, 3 10 9999
+-- three_numbers nodes, by rows: 9999 1 10, 10 9999 2, 3 10 9999
 abbrev pub directed_costs : List ℤ
 directed_costs = pos 9999 ∷ pos 1 ∷ pos 10 ∷ pos 10 ∷ pos 9999 ∷ pos 2 ∷ pos 3 ∷ pos 10 ∷ pos 9999 ∷ []
 
@@ -36,22 +36,22 @@ directed i j = slice_index_or directed_costs (3 * (i - 1) + (j - 1)) (pos 0)
 abbrev pub with_loops : ℕ → ℕ → ℤ
 with_loops i j = if i == j then negsuc 0 else pos 1
 
--- numbers of three and of four nodes
-abbrev pub three : ℤ → ℤ → ℤ → List ℤ
-three a b c = a ∷ b ∷ c ∷ []
+-- numbers of three_numbers and of four_numbers nodes
+abbrev pub three_numbers : ℤ → ℤ → ℤ → List ℤ
+three_numbers a b c = a ∷ b ∷ c ∷ []
 
-abbrev pub no_numbers : List ℤ
-no_numbers = three (pos 0) (pos 0) (pos 0)
+abbrev pub three_zeros : List ℤ
+three_zeros = three_numbers (pos 0) (pos 0) (pos 0)
 
-abbrev pub four : ℤ → ℤ → ℤ → ℤ → List ℤ
-four a b c d = a ∷ three b c d
+abbrev pub four_numbers : ℤ → ℤ → ℤ → ℤ → List ℤ
+four_numbers a b c d = a ∷ three_numbers b c d
 
 abbrev pub zeros : List ℤ
-zeros = four (pos 0) (pos 0) (pos 0) (pos 0)
+zeros = four_numbers (pos 0) (pos 0) (pos 0) (pos 0)
 
 -- one unit on node 2
 abbrev pub one_on_two : List ℤ
-one_on_two = four (pos 0) (pos 1) (pos 0) (pos 0)
+one_on_two = four_numbers (pos 0) (pos 1) (pos 0) (pos 0)
 
 -- two pairs at node 1 with these nodes, and two more pairs
 abbrev pub pairs_of : ℕ → ℕ → ℕ × ℕ → ℕ × ℕ → List (ℕ × ℕ)

@@ -17,14 +17,14 @@ abbrev pub most_between : ℕ
 most_between = most_scale * most_weight + 2 * most_potential
 
 -- the bound of a 1-tree of this weight: each potential is taken off twice, since a cycle has each node in two of its links
-abbrev pub IsBoundOf : ℤ → List ℤ → ℤ → ℤ → Type 0
-IsBoundOf scale potentials weight bound = IsLeastBound scale (weight -ℤ (pos 2 *ℤ total potentials)) bound
+abbrev pub IsBoundOfPotentials : ℤ → List ℤ → ℤ → ℤ → Type 0
+IsBoundOfPotentials scale potentials weight bound = IsLeastBound scale (weight -ℤ (pos 2 *ℤ total potentials)) bound
 
 -- the bound of potentials: that of a least 1-tree
 pub record IsNodeBound (n : ℕ) (cost : ℕ → ℕ → ℤ) (scale : ℤ) (potentials : List ℤ) (bound : ℤ) : Type 0 where
   pub tree : List (ℕ × ℕ)
   pub least : IsLeastOneTree n (weight_between scale potentials cost) tree
-  pub bound_is : IsBoundOf scale potentials (weight_of (weight_between scale potentials cost) tree) bound
+  pub bound_is : IsBoundOfPotentials scale potentials (weight_of (weight_between scale potentials cost) tree) bound
 
 -- The bound of potentials is at most the length of every cycle: a cycle's links are a 1-tree.
 abbrev pub NodeBoundsBoundCycles : Type 0

@@ -1,11 +1,9 @@
 -- The numbers of a certificate, one for each node, and the bounds that their sums give.
 use Rattle.std.specs.Prelude.{◌≡◌, ◌≢◌, ℕ, ◌-◌, ◌^◌, ◌*◌, ◌≤◌, List, length, slice_index_or, ℤ, pos, neg_ℤ, ◌*ℤ◌, ◌≤ℤ◌}
 use Rattle.std.specs.List.{All}
+pub use Rattle.tsp_format.specs.Ranges.{IsFromTo}
 use Rattle.tsp_format.specs.Limits.{most_scale, most_potential, most_multipliers, most_multiplier}
 use Rattle.tsp_theory.specs.Length.{sum_int_by}
-
-abbrev pub IsFromTo : ℤ → ℤ → ℤ → Type 0
-IsFromTo least most z = (least ≤ℤ z) × (z ≤ℤ most)
 
 -- the scale of a certificate: its numbers are multiples of 1 / scale
 abbrev pub IsScale : ℤ → Type 0

@@ -5,15 +5,15 @@ ghost use Rattle.std.specs.Prelude.{◌≡◌, ℤ, [], ◌∷◌, pos, negsuc};
 ghost use Rattle.tsp_theory.specs.Numbers.{entry, total, IsLeastBound};
 ghost use Rattle.tsp_theory.specs.Tree.{IsOneTree, weight_of, IsLeastOneTree};
 ghost use Rattle.tsp_theory.specs.NodeBound.{weight_between, IsNodeBound};
-ghost use Rattle.tsp_theory.specs.Adjusted.{adjusted, total_of, UsesEach, UsesNone, IsAdjustedBoundOf};
+ghost use Rattle.tsp_theory.specs.Adjusted.{adjusted, triples_total, UsesEach, UsesNone, IsAdjustedBoundOf};
 ghost use Rattle.tsp_theory.specs.Assignment.{AreGood, IsFirstBroken, IsDualBound};
-ghost use Rattle.tsp_theory.specs.Examples.{rectangle, star, star_below_zero, directed, with_loops, no_numbers, three, four, zeros, one_on_two, pairs_of, on_diagonals};
+ghost use Rattle.tsp_theory.specs.Examples.{rectangle, star, star_below_zero, directed, with_loops, three_zeros, three_numbers, four_numbers, zeros, one_on_two, pairs_of, on_diagonals};
 
 /// The numbers of nodes, their sums, and the least whole number that at a scale is no less.
 pub fn examples_of_numbers()
-    ensures first { entry (three (pos 10) (pos 20) (pos 30)) 1 ≡ pos 10 }
-    ensures last { entry (three (pos 10) (pos 20) (pos 30)) 3 ≡ pos 30 }
-    ensures sum { total (three (pos 10) (negsuc 4) (pos 30)) ≡ pos 35 }
+    ensures first { entry (three_numbers (pos 10) (pos 20) (pos 30)) 1 ≡ pos 10 }
+    ensures last { entry (three_numbers (pos 10) (pos 20) (pos 30)) 3 ≡ pos 30 }
+    ensures sum { total (three_numbers (pos 10) (negsuc 4) (pos 30)) ≡ pos 35 }
     ensures above_a_half { IsLeastBound (pos 2) (pos 7) (pos 4) }
     ensures below_zero { IsLeastBound (pos 2) (negsuc 6) (negsuc 2) }
     ensures whole { IsLeastBound (pos 2) (pos 4) (pos 2) }
@@ -24,16 +24,16 @@ pub fn examples_of_numbers()
 /// What duals are good for three nodes whose costs depend on the direction, the first pair that
 /// breaks others, and the bounds that duals give.
 pub fn examples_of_duals()
-    ensures good { AreGood 3 directed (pos 1) (three (pos 1) (pos 2) (pos 3)) no_numbers }
-    ensures columns { AreGood 3 directed (pos 1) no_numbers (three (pos 3) (pos 1) (pos 2)) }
-    ensures halves { AreGood 3 directed (pos 2) (three (pos 2) (pos 4) (pos 5)) no_numbers }
-    ensures no_loops { AreGood 2 with_loops (pos 1) no_numbers no_numbers }
-    ensures broken_in_row_1 { IsFirstBroken 3 directed (pos 1) (three (pos 2) (pos 3) (pos 3)) no_numbers 1 2 }
-    ensures broken_in_row_3 { IsFirstBroken 3 directed (pos 1) no_numbers (three (pos 4) (pos 1) (pos 2)) 3 1 }
-    ensures bound { IsDualBound (pos 1) (three (pos 1) (pos 2) (pos 3)) no_numbers (pos 6) }
-    ensures bound_of_columns { IsDualBound (pos 1) no_numbers (three (pos 3) (pos 1) (pos 2)) (pos 6) }
-    ensures bound_of_halves { IsDualBound (pos 2) (three (pos 2) (pos 4) (pos 5)) no_numbers (pos 6) }
-    ensures bound_below_zero { IsDualBound (pos 2) (three (negsuc 2) (pos 0) (pos 0)) no_numbers (negsuc 0) }
+    ensures good { AreGood 3 directed (pos 1) (three_numbers (pos 1) (pos 2) (pos 3)) three_zeros }
+    ensures columns { AreGood 3 directed (pos 1) three_zeros (three_numbers (pos 3) (pos 1) (pos 2)) }
+    ensures halves { AreGood 3 directed (pos 2) (three_numbers (pos 2) (pos 4) (pos 5)) three_zeros }
+    ensures no_loops { AreGood 2 with_loops (pos 1) three_zeros three_zeros }
+    ensures broken_in_row_1 { IsFirstBroken 3 directed (pos 1) (three_numbers (pos 2) (pos 3) (pos 3)) three_zeros 1 2 }
+    ensures broken_in_row_3 { IsFirstBroken 3 directed (pos 1) three_zeros (three_numbers (pos 4) (pos 1) (pos 2)) 3 1 }
+    ensures bound { IsDualBound (pos 1) (three_numbers (pos 1) (pos 2) (pos 3)) three_zeros (pos 6) }
+    ensures bound_of_columns { IsDualBound (pos 1) three_zeros (three_numbers (pos 3) (pos 1) (pos 2)) (pos 6) }
+    ensures bound_of_halves { IsDualBound (pos 2) (three_numbers (pos 2) (pos 4) (pos 5)) three_zeros (pos 6) }
+    ensures bound_below_zero { IsDualBound (pos 2) (three_numbers (negsuc 2) (pos 0) (pos 0)) three_zeros (negsuc 0) }
 {}
 
 /// What 1-trees of four nodes are, what they weigh, which is the least, and the bounds that
@@ -45,10 +45,10 @@ pub fn examples_of_trees()
     ensures same_twice_at_node_1 { ¬ IsOneTree 4 (pairs_of 2 2 (2, 3) (3, 4)) }
     ensures weight { weight_of rectangle (pairs_of 2 4 (2, 3) (3, 4)) ≡ pos 14 }
     ensures least { IsLeastOneTree 4 rectangle (pairs_of 2 4 (2, 3) (3, 4)) }
-    ensures both_potentials { weight_between (pos 2) (four (pos 0) (pos 10) (pos 100) (pos 0)) star 2 3 ≡ pos 112 }
+    ensures both_potentials { weight_between (pos 2) (four_numbers (pos 0) (pos 10) (pos 100) (pos 0)) star 2 3 ≡ pos 112 }
     ensures rectangle_at_zero { IsNodeBound 4 rectangle (pos 1) zeros (pos 14) }
     ensures star_at_zero { IsNodeBound 4 star (pos 1) zeros (pos 5) }
-    ensures star_at_ones { IsNodeBound 4 star (pos 1) (four (pos 1) (pos 1) (pos 1) (pos 1)) (pos 5) }
+    ensures star_at_ones { IsNodeBound 4 star (pos 1) (four_numbers (pos 1) (pos 1) (pos 1) (pos 1)) (pos 5) }
     ensures star_at_a_half { IsNodeBound 4 star (pos 2) one_on_two (pos 6) }
     ensures below_zero { IsNodeBound 4 star_below_zero (pos 2) zeros (negsuc 34) }
     ensures below_zero_at_a_half { IsNodeBound 4 star_below_zero (pos 2) one_on_two (negsuc 33) }

@@ -9,11 +9,11 @@ use Rattle.std.proofs.lemmas.List.Elements.{All-append, All-map, All-head, All-t
 use Rattle.std.proofs.lemmas.List.Kept.{AllPairs-cons}
 use Rattle.std.proofs.lemmas.List.Sums.{sum_by-cons}
 use Rattle.tsp_format.specs.Cells.{IsNode}
-use Rattle.tsp_draft.specs.Fields.{combs_of as lists_of_combs}
+use Rattle.tsp_draft.specs.Fields.{combs_of_sets as lists_of_combs}
 use Rattle.tsp_draft.specs.Valid.{IsSetOf, AreSets}
 use Rattle.tsp_branch.specs.Sets.{AreSetsOf}
 use Rattle.tsp_branch.specs.Combed.{plain}
-use Rattle.tsp_branch.specs.CombsOfSets.{comb_with, of_comb, combs_from, combs_of}
+use Rattle.tsp_branch.specs.CombsOfSets.{comb_with, of_comb, combs_from, combs_of_sets}
 use Rattle.tsp_branch.specs.GoodCombs.{AreInOrder}
 use Rattle.tsp_file.specs.Typed.{AreSomeSets}
 use Rattle.tsp_verdict.specs.states.Numbered.{with_number, numbered_from}
@@ -59,7 +59,7 @@ told_from first sets (comb ∷ combs) h = ap₂ (λ a b. comb_with a ∷ b) (h 0
     (told_from (suc first) sets combs (λ j k lt at. h (suc j) k (omega (arith, lt)) (omega (arith, at))))
 
 -- the combs of the list are those that it was made of
-pub combs_told : (combs : List (List (List ℕ))) → combs_of (length combs) (numbered_from 0 combs) ≡ map comb_with combs
+pub combs_told : (combs : List (List (List ℕ))) → combs_of_sets (length combs) (numbered_from 0 combs) ≡ map comb_with combs
 combs_told combs = told_from 0 (numbered_from 0 combs) combs (λ j k lt at. own_sets 0 j k combs at)
 
 -- ---- all sets

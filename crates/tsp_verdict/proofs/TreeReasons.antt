@@ -1,5 +1,5 @@
 -- Reasons against a certificate by branching, ruled out one by one, and its bound.
-use Rattle.std.proofs.Common.{◌≡◌, ◌∙◌, ℕ, suc, ◌+◌, ◌-◌, ◌<◌, ◌≤◌, Bool, true, false, List, [], ◌∷◌, get_or, length, inl, inr, refl, sym, ap, subst, arith}
+use Rattle.std.proofs.Common.{◌≡◌, ◌∙◌, ℕ, ◌-◌, ◌<◌, ◌≤◌, Bool, true, false, List, [], ◌∷◌, get_or, length, inl, inr, refl, sym, ap, subst, arith}
 use Rattle.std.specs.Prelude.{◌⊎◌, Option, None, Some, unwrap_or, ℤ}
 use Rattle.std.specs.Global.{Vec}
 use Rattle.std.proofs.Math.Path.{fun_ext}
@@ -25,8 +25,8 @@ use Rattle.tsp_branch.specs.CombsOfSets.{of_comb}
 use Rattle.tsp_branch.specs.Decided.{decided_number}
 use Rattle.tsp_branch.specs.Decisions.{Decision, KeepsAll, take_pairs}
 use Rattle.tsp_branch.specs.GoodCombs.{IsGoodComb, IsFirstBadComb}
-use Rattle.tsp_branch.specs.Listed.{all_grown, no_numbers_of, AreGoodFrom, IsFirstBadFrom}
-use Rattle.tsp_branch.specs.Twice.{IsFirstTwiceFrom}
+use Rattle.tsp_branch.specs.Listed.{leaf_changes, IsFirstBadLeaf}
+use Rattle.tsp_branch.specs.Twice.{divided, IsFirstTwice}
 use Rattle.tsp_reason.specs.declared.verdict.Reason.{Reason}
 use Rattle.tsp_reason.specs.declared.verdict.Reason.TheVariants.{NotBranches, BranchesDimension, BadComb, BranchTwice, BadLeaf}
 use Rattle.tsp_verdict.specs.Certificate.{scale_in}
@@ -45,22 +45,29 @@ use Rattle.tsp_verdict.proofs.NumberedSets.{own_sets, combs_told}
 -- ---- where indexes end
 
 -- a branch, and a leaf, in the list is one of the steps
-pub twice_within : (directed : Bool) (branch : ℕ) (cases : List (List Decision)) (steps : List listed.Step) (first : ℕ) → IsFirstTwiceFrom directed branch cases steps first → first ≤ branch + length steps
-twice_within directed branch [] steps first h = absurd h
-twice_within directed branch (case ∷ cases) [] first h = absurd h
-twice_within directed branch (case ∷ cases) (listed.Branch a b ∷ steps) first (inl here) = omega (arith, here.0)
-twice_within directed branch (case ∷ cases) (listed.Branch a b ∷ steps) first (inr later) =
-    let less = twice_within directed (suc branch) (decide (a, b) true case ∷ decide (a, b) false case ∷ cases) steps first later.1 in omega (arith, less)
-twice_within directed branch (case ∷ cases) (listed.Leaf changes ∷ steps) first h =
-    let less = twice_within directed branch cases steps first h in omega (arith, less)
+branches_within : (cases : List (List Decision)) (steps : List listed.Step) → length (divided cases steps) ≤ length steps
+branches_within [] steps = omega arith
+branches_within (case ∷ cases) [] = omega arith
+branches_within (case ∷ cases) (listed.Branch a b ∷ steps) =
+    let less = branches_within (decide (a, b) true case ∷ decide (a, b) false case ∷ cases) steps in omega (arith, less)
+branches_within (case ∷ cases) (listed.Leaf changes ∷ steps) = let less = branches_within cases steps in omega (arith, less)
 
-pub bad_within : (n combs : ℕ) (numbers : List ℤ) (leaf : ℕ) (steps : List listed.Step) (bad : ℕ) → IsFirstBadFrom n combs numbers leaf steps bad → bad ≤ leaf + length steps
-bad_within n combs numbers leaf [] bad h = absurd h
-bad_within n combs numbers leaf (listed.Branch a b ∷ steps) bad h =
-    let less = bad_within n combs numbers leaf steps bad h in omega (arith, less)
-bad_within n combs numbers leaf (listed.Leaf changes ∷ steps) bad (inl here) = omega (arith, here.0)
-bad_within n combs numbers leaf (listed.Leaf changes ∷ steps) bad (inr later) =
-    let less = bad_within n combs (all_grown changes numbers) (suc leaf) steps bad later.1 in omega (arith, less)
+pub twice_within : (directed : Bool) (given : List Decision) (steps : List listed.Step) (first : ℕ) → IsFirstTwice directed given steps first → first ≤ length steps
+twice_within directed given steps first h =
+    let most = h.most in
+    let less = branches_within (given ∷ []) steps in
+    omega (arith, most, less)
+
+leaves_within : (steps : List listed.Step) → length (leaf_changes steps) ≤ length steps
+leaves_within [] = omega arith
+leaves_within (listed.Branch a b ∷ steps) = let less = leaves_within steps in omega (arith, less)
+leaves_within (listed.Leaf changes ∷ steps) = let less = leaves_within steps in omega (arith, less)
+
+pub bad_within : (n combs : ℕ) (steps : List listed.Step) (bad : ℕ) → IsFirstBadLeaf n combs steps bad → bad ≤ length steps
+bad_within n combs steps bad h =
+    let most = h.most in
+    let less = leaves_within steps in
+    omega (arith, most, less)
 
 -- ---- the verdict of tsp_branch, over what the files hold
 
@@ -79,14 +86,14 @@ pub record AreOf (inst tree : Fields) (directed : Bool) (n : ℕ) (scale : ℤ) 
 
 pub are_of : (inst tree : Fields) (directed : Bool) (n : ℕ) (scale : ℤ) (combs : List (Vec (Vec ℕ))) (sets : List (ℕ × List ℕ)) (fixed : List (ℕ × ℕ)) (given : List Decision) (steps : List listed.Step)
     → directed ≡ is_directed inst.kind → inst.dimension ≡ Some n → scale ≡ scale_in tree → lists_of_combs combs ≡ combs_in tree → sets ≡ numbered_from 0 (lists_of_combs combs) → fixed ≡ fixed_of inst
-    → given ≡ take_pairs (each_once directed [] fixed) → steps ≡ steps_in tree → AreOf inst tree directed n scale (length combs) sets given steps
+    → given ≡ take_pairs (each_once directed fixed) → steps ≡ steps_in tree → AreOf inst tree directed n scale (length combs) sets given steps
 are_of inst tree directed n scale combs sets fixed given steps directed_is count scale_is combs_are sets_are fixed_are given_is steps_are = record {
   directed_is = directed_is;
   nodes_are = sym (ap (λ (d : Option ℕ). unwrap_or d 0) count);
   scale_is = scale_is;
   count_is = sym (length-map combs _) ∙ ap length combs_are;
   sets_are = sets_are ∙ ap (numbered_from 0) combs_are;
-  given_is = given_is ∙ ap (λ (pairs : List (ℕ × ℕ)). take_pairs (each_once directed [] pairs)) fixed_are ∙ ap (λ (d : Bool). take_pairs (each_once d [] (fixed_of inst))) directed_is;
+  given_is = given_is ∙ ap (λ (pairs : List (ℕ × ℕ)). take_pairs (each_once directed pairs)) fixed_are ∙ ap (λ (d : Bool). take_pairs (each_once d (fixed_of inst))) directed_is;
   steps_are = steps_are;
 }
 
@@ -120,12 +127,6 @@ no_bad_comb : (inst tree : Fields) → ((comb : ℕ) → comb < length (combs_in
     → (index : ℕ) → StandsAgainstTree inst tree (BadComb index) → ⊥
 no_bad_comb inst tree good index stands =
     stands.holds (subst (IsGoodComb (nodes_of inst)) (own_comb tree (index - 1)) (good (index - 1) (omega (arith, stands.here.0, stands.here.1))))
-
-no_bad_from : (n combs : ℕ) (numbers : List ℤ) (leaf : ℕ) (steps : List listed.Step) (bad : ℕ) → AreGoodFrom n combs numbers steps → IsFirstBadFrom n combs numbers leaf steps bad → ⊥
-no_bad_from n combs numbers leaf [] bad good h = h
-no_bad_from n combs numbers leaf (listed.Branch a b ∷ steps) bad good h = no_bad_from n combs numbers leaf steps bad good h
-no_bad_from n combs numbers leaf (listed.Leaf changes ∷ steps) bad good (inl here) = here.1 good.0
-no_bad_from n combs numbers leaf (listed.Leaf changes ∷ steps) bad good (inr later) = no_bad_from n combs (all_grown changes numbers) (suc leaf) steps bad good.1 later.1
 
 -- the facts before a rank rule out the reasons before it
 none_before : (inst tree : Fields) (rank : ℕ) → (23 < rank → is_tree tree.kind ≡ true) → (24 < rank → nodes_of tree ≡ nodes_of inst)
@@ -165,8 +166,7 @@ none_stands inst tree costs bound sort size is NotBranches stands = false≢true
 none_stands inst tree costs bound sort size is BranchesDimension stands = stands size
 none_stands inst tree costs bound sort size is (BadComb index) stands = no_bad_comb inst tree is.are_combs.0 index stands
 none_stands inst tree costs bound sort size is (BranchTwice index) stands = is.are_once.0 index stands
-none_stands inst tree costs bound sort size is (BadLeaf index) stands =
-    no_bad_from (nodes_of inst) (length (combs_in tree)) (no_numbers_of (nodes_of inst) (length (combs_in tree))) 0 (steps_in tree) index is.leaves.2 stands
+none_stands inst tree costs bound sort size is (BadLeaf index) stands = stands.bad (is.leaves.2 index stands.least stands.most)
 none_stands inst tree costs bound sort size is reason stands = stands
 
 -- ---- the bound, carried to costs that are the same between all nodes

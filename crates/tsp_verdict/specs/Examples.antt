@@ -4,6 +4,7 @@ use Rattle.tsp_format.specs.declared.kinds.Kind.{Kind}
 use Rattle.tsp_format.specs.declared.kinds.Kind.TheVariants as kinds
 use Rattle.tsp_format.specs.Steps.{Step, Leaf}
 use Rattle.tsp_draft.specs.Fields.{Fields, blank_fields}
+pub use Rattle.tsp_theory.specs.CycleExamples.{two, three, four}
 use Rattle.tsp_reason.specs.declared.verdict.Reason.{Reason}
 use Rattle.tsp_verdict.specs.Reasons.{rank_of}
 
@@ -70,16 +71,6 @@ three_leaves = Leaf [] ∷ two_leaves
 -- a comb of four nodes with two teeth
 abbrev pub two_teeth : List (List ℕ)
 two_teeth = (1 ∷ 2 ∷ []) ∷ (1 ∷ 3 ∷ []) ∷ (2 ∷ 4 ∷ []) ∷ []
-
--- lists of two, three and four nodes
-abbrev pub two : ℕ → ℕ → List ℕ
-two a b = a ∷ b ∷ []
-
-abbrev pub three : ℕ → ℕ → ℕ → List ℕ
-three a b c = a ∷ two b c
-
-abbrev pub four : ℕ → ℕ → ℕ → ℕ → List ℕ
-four a b c d = a ∷ three b c d
 
 -- a single tour, and two routes
 abbrev pub lone : List ℕ → Fields

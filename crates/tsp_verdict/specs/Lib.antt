@@ -1,6 +1,5 @@
 pub mod states
 pub mod Multiplied
-pub mod PairSets
 pub mod Places
 pub mod Plan
 pub mod Reasons

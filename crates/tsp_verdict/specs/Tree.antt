@@ -1,6 +1,5 @@
 -- A certificate by branching: a file of branches, when a reason applies to it, and the bound that it gives.
-use Rattle.std.specs.Prelude.{◌≡◌, ◌≢◌, ℕ, ◌-◌, Bool, false, if◌then◌else◌, List, [], ◌∷◌, ◌++◌, length, map, slice_index_or, unwrap_or, None, Some, ℤ}
-use Rattle.std.specs.List.{list_any}
+use Rattle.std.specs.Prelude.{◌≡◌, ◌≢◌, ℕ, ◌-◌, Bool, false, not, List, [], ◌∷◌, length, map, filter, slice_index_or, unwrap_or, None, Some, ℤ}
 use Rattle.tsp_format.specs.Steps as listed
 use Rattle.tsp_draft.specs.Fields.{Fields}
 use Rattle.tsp_draft.specs.Rules.{is_tree}
@@ -8,13 +7,13 @@ use Rattle.tsp_file.specs.Cost.{cost}
 use Rattle.tsp_cost.specs.Tours.{is_directed}
 use Rattle.tsp_branch.specs.Combs.{Comb}
 use Rattle.tsp_branch.specs.CombsOfSets.{comb_with}
-use Rattle.tsp_branch.specs.Cases.{Step}
+use Rattle.tsp_branch.specs.Cases.{CaseStep}
 use Rattle.tsp_branch.specs.Certificate.{IsCertificate, IsCertificateBound}
 use Rattle.tsp_branch.specs.Decided.{decided_number}
 use Rattle.tsp_branch.specs.Decisions.{Decision, take_pairs, is_same}
 use Rattle.tsp_branch.specs.GoodCombs.{IsGoodComb}
-use Rattle.tsp_branch.specs.Listed.{no_numbers_of, listed_steps, IsFirstBadFrom}
-use Rattle.tsp_branch.specs.Twice.{IsFirstTwiceFrom}
+use Rattle.tsp_branch.specs.Listed.{listed_steps, IsFirstBadLeaf}
+use Rattle.tsp_branch.specs.Twice.{IsFirstTwice}
 use Rattle.tsp_reason.specs.declared.verdict.Reason.{Reason}
 use Rattle.tsp_reason.specs.declared.verdict.Reason.TheVariants.{NotBranches, BranchesDimension, BadComb, BranchTwice, BadLeaf}
 use Rattle.tsp_verdict.specs.Certificate.{scale_in}
@@ -30,19 +29,17 @@ combs_in f = unwrap_or f.combs []
 abbrev pub steps_in : Fields → List listed.Step
 steps_in f = unwrap_or f.branches []
 
--- pairs, each once: without those that are an earlier one; undirected: in either direction
-abbrev pub each_once : Bool → List (ℕ × ℕ) → List (ℕ × ℕ) → List (ℕ × ℕ)
-each_once directed earlier [] = []
-each_once directed earlier (pair ∷ pairs) =
-    if list_any (is_same directed pair) earlier then each_once directed (earlier ++ pair ∷ []) pairs
-    else (pair ∷ each_once directed (earlier ++ pair ∷ []) pairs)
+-- pairs, each once: without the later ones that are the same; undirected: in either direction
+abbrev pub each_once : Bool → List (ℕ × ℕ) → List (ℕ × ℕ)
+each_once directed [] = []
+each_once directed (pair ∷ pairs) = pair ∷ filter (λ other. not (is_same directed pair other)) (each_once directed pairs)
 
 -- the decisions of all cases: the fixed pairs are taken
 abbrev pub given_in : Fields → List Decision
-given_in inst = take_pairs (each_once (is_directed inst.kind) [] (fixed_of inst))
+given_in inst = take_pairs (each_once (is_directed inst.kind) (fixed_of inst))
 
 -- the steps of its tree, with the potentials and the multipliers of each leaf; the combs
-abbrev pub tree_in : Fields → Fields → List Step
+abbrev pub tree_in : Fields → Fields → List CaseStep
 tree_in inst tree = listed_steps (nodes_of inst) (length (combs_in tree)) (steps_in tree)
 
 abbrev pub told_combs : Fields → List Comb
@@ -54,16 +51,11 @@ told_combs tree = map comb_with (combs_in tree)
 abbrev pub IsBadComb : ℕ → List (List (List ℕ)) → ℕ → Type 0
 IsBadComb n combs place = IsGoodComb n (slice_index_or combs (place - 1) []) → ⊥
 
--- the first leaf that isn't good; before the first one all numbers are 0
-abbrev pub IsFirstBadLeaf : ℕ → ℕ → List listed.Step → ℕ → Type 0
-IsFirstBadLeaf n combs steps index = IsFirstBadFrom n combs (no_numbers_of n combs) 0 steps index
-
 abbrev pub StandsAgainstTree : Fields → Fields → Reason → Type 0
 StandsAgainstTree inst tree NotBranches = is_tree tree.kind ≡ false
 StandsAgainstTree inst tree BranchesDimension = nodes_of tree ≢ nodes_of inst
 StandsAgainstTree inst tree (BadComb index) = IsFirstPlace (IsBadComb (nodes_of inst) (combs_in tree)) (combs_in tree) index
-StandsAgainstTree inst tree (BranchTwice index) =
-    IsFirstTwiceFrom (is_directed inst.kind) 0 (given_in inst ∷ []) (steps_in tree) index
+StandsAgainstTree inst tree (BranchTwice index) = IsFirstTwice (is_directed inst.kind) (given_in inst) (steps_in tree) index
 StandsAgainstTree inst tree (BadLeaf index) = IsFirstBadLeaf (nodes_of inst) (length (combs_in tree)) (steps_in tree) index
 StandsAgainstTree inst tree reason = ⊥
 

@@ -1,9 +1,9 @@
 //! The fixed pairs of an instance as decisions.
 
-ghost use Rattle.std.specs.Prelude.{◌≡◌, ◌≤◌, length, [], IfOk};
+ghost use Rattle.std.specs.Prelude.{◌≡◌, ◌≤◌, length, IfOk};
 ghost use Rattle.tsp_branch.specs.Decided.{case_of};
 ghost use Rattle.tsp_branch.specs.Decisions.{take_pairs};
-ghost use Rattle.tsp_verdict.specs.PairSets.{key_of};
+ghost use Rattle.tsp_branch.specs.PairSets.{key_of};
 ghost use Rattle.tsp_verdict.specs.Tree.{each_once};
 
 use crate::multiplied::undirected;
@@ -21,7 +21,7 @@ pub(crate) fn taken_once(
     directed: bool,
     pairs: &[(u32, u32)],
 ) -> Result<Vec<(u32, u32, bool)>, AllocError>
-    ensures { IfOk result (λ taken. case_of taken.items ≡ take_pairs (each_once directed [] pairs.now)) }
+    ensures { IfOk result (λ taken. case_of taken.items ≡ take_pairs (each_once directed pairs.now)) }
 {
     let mut seen = BTreeSet::new(alloc);
     let mut taken = Vec::new(alloc);

@@ -2,7 +2,7 @@ use Rattle.std.proofs.Common.{ℕ, ◌≤◌, ◌≤ℤ◌, ℤ, Option, arith, 
 use Rattle.tsp_format.specs.Cells.{IsNode}
 use Rattle.tsp_bound.specs.Potentials.{numbers_of, weight_under}
 use Rattle.tsp_bound.specs.declared.area.Area.{Area}
-use Rattle.tsp_bound.specs.Boxes.{HoldsNode, IsKnown, IsBoundOf, IsSearched, area_at}
+use Rattle.tsp_bound.specs.Boxes.{HoldsNode, IsKnown, IsBelowAll, IsSearched, area_at}
 use Rattle.tsp_bound.proofs.Boxed.{known_64, known_further}
 use Rattle.tsp_bound.proofs.Trees.{searched_alone, searched_both}
 use Rattle.tsp_bound.proofs.boxes.+search.Goals as goal
@@ -17,7 +17,7 @@ returns-then-is_no_better g t c =
     let best_fits : SFits w64 c.args.best.weight = search rules in
     let known = known_64 near.bound c.args.best.weight bound_fits best_fits c.if-is_no_better.ensures in
     let further = known_further near.bound far.bound c.args.best.weight c.halves.ensures.nearer known in
-    let alone : (v : ℕ) (bound : ℤ) → 1 ≤ v → IsBoundOf (IsNode (g.C.Costs.nodes c.args.c.now)) (In (area_at c.args.areas.now v)) (w c.args.from) bound
+    let alone : (v : ℕ) (bound : ℤ) → 1 ≤ v → IsBelowAll (IsNode (g.C.Costs.nodes c.args.c.now)) (In (area_at c.args.areas.now v)) (w c.args.from) bound
     → IsKnown bound × (c.args.best.weight ≤ℤ bound) → IsSearched w c.args.order.now c.args.outside.now c.args.from v c.args.best c.args.best =
     λ v bound some bounds here. searched_alone In (IsNode (g.C.Costs.nodes c.args.c.now)) w c.args.order.now c.args.outside.now c.args.areas.now c.args.from v c.args.best bound
     some c.requires.held c.requires.nodes bounds here.0 here.1 in

@@ -1,12 +1,12 @@
 use Rattle.std.proofs.Common.{◌≡◌, ◌≤◌, ◌<◌, ◌+◌, ◌*◌, ℕ, Bool, List, length}
 use Rattle.tsp_bound.specs.Potentials.{numbers_of}
-use Rattle.tsp_bound.specs.Boxes.{HoldsNode, AreHeldFrom, area_at, node_at}
+use Rattle.tsp_bound.specs.Boxes.{HoldsNode, AreHeldFrom, area_at, node_of}
 use Rattle.tsp_bound.proofs.boxes.boxes_of.Given as goal
 
 abbrev pub invariant-leaves : goal.invariant-leaves
 invariant-leaves g l = record {
   len : length l.areas.items ≡ 2 * length l.order;
-  done : (j : ℕ) → j < l.place → HoldsNode (g.C.Grouped.place l.c) (numbers_of l.p) (area_at l.areas.items (length l.order + j)) (node_at l.order j);
+  done : (j : ℕ) → j < l.place → HoldsNode (g.C.Grouped.place l.c) (numbers_of l.p) (area_at l.areas.items (length l.order + j)) (node_of l.order j);
 }
 
 abbrev pub invariant-halves : goal.invariant-halves

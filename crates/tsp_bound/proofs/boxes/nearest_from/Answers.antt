@@ -2,7 +2,7 @@ use Rattle.std.proofs.Common.{ℕ, ◌≡◌, ◌≢◌, ◌/◌, Option, arith,
 use Rattle.tsp_format.specs.Cells.{IsNode}
 use Rattle.tsp_bound.specs.Potentials.{numbers_of, weight_under}
 use Rattle.tsp_bound.specs.declared.area.Area.{Area}
-use Rattle.tsp_bound.specs.Boxes.{HoldsNode, IsSearched, no_best, node_at}
+use Rattle.tsp_bound.specs.Boxes.{HoldsNode, IsSearched, no_best, node_of}
 use Rattle.tsp_bound.proofs.Boxed.{known_64}
 use Rattle.tsp_bound.proofs.Trees.{searched_alone, searched_both}
 use Rattle.tsp_bound.proofs.boxes.nearest_from.Goals as goal
@@ -14,7 +14,7 @@ climb-preserved g c =
     let In : Option Area → ℕ → Type 0 = HoldsNode (g.C.Grouped.place c.args.c.now) (numbers_of c.args.p.now) in
     let v = c.climb.v in
     let other = c.if-v-eq0.other in
-    let from : ℕ = node_at c.args.order.now c.args.place in
+    let from : ℕ = node_of c.args.order.now c.args.place in
     let halves : (other / 2 ≡ v / 2) × (v ≢ other) = elim c.if-v-eq0.branch [
       | then-v-eq0 u ↦ (omega (arith, u.other-is, u.if-v-eq0.true), λ e. omega (arith, u.other-is, e))
       | else-v-eq0 u ↦ (omega (arith, u.other-is, u.if-v-eq0.false), λ e. omega (arith, u.other-is, e, u.if-v-eq0.false))

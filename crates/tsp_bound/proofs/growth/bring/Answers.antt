@@ -19,8 +19,8 @@ nodes-init g c = record {
 
 pub nodes-preserved : goal.nodes-preserved
 nodes-preserved g c =
-    let n = g.C.Costs.nodes c.args.c.now in
-    let w = weight_under c.args.p.now (g.C.Costs.at c.args.c.now) in
+    let n = g.C.Costs.nodes c.args.w.now.c.now in
+    let w = weight_under c.args.w.now.p.now (g.C.Costs.at c.args.w.now.c.now) in
     let node : ℕ = c.nodes.node in
     let in_node : IsInner n node = (c.nodes.auto.node, omega (arith, c.nodes-test.true, c.count-node-end.ensures.value)) in
     let in_near : node < length c.nodes.near = omega (arith, c.nodes.auto.near, c.requires.near_len, in_node.1) in
@@ -59,9 +59,9 @@ nodes-preserved g c =
 pub returns : goal.returns
 returns g c =
     let b = c.nodes.invariant in
-    let past : g.C.Costs.nodes c.args.c.now < c.nodes.node = omega (arith, c.nodes-test.false, c.count-node-end.ensures.value) in
+    let past : g.C.Costs.nodes c.args.w.now.c.now < c.nodes.node = omega (arith, c.nodes-test.false, c.count-node-end.ensures.value) in
     record {
       nearer = λ x h out. b.done x h (omega (arith, h.1, past)) out;
       small = λ x h out. b.small x h (omega (arith, h.1, past)) out;
-      nearest = nearest_found (g.C.Costs.nodes c.args.c.now) c.args.inside.now c.nodes.node c.nodes.least (to_z w64 c.nodes.best-bits) c.nodes.nearest past b.found;
+      nearest = nearest_found (g.C.Costs.nodes c.args.w.now.c.now) c.args.inside.now c.nodes.node c.nodes.least (to_z w64 c.nodes.best-bits) c.nodes.nearest past b.found;
     }

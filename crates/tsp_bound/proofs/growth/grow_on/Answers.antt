@@ -17,8 +17,8 @@ use Rattle.tsp_bound.proofs.growth.grow_on.Goals as goal
 
 pub again-init : goal.again-init
 again-init g c =
-    let n = g.C.Costs.nodes c.args.c.now in
-    let w = weight_less c.args.p.now (triples_in c.args.m.now) (g.C.Costs.at c.args.c.now) in
+    let n = g.C.Costs.nodes c.args.w.now.c.now in
+    let w = weight_less c.args.w.now.p.now (triples_in c.args.w.now.m.now) (g.C.Costs.at c.args.w.now.c.now) in
     let size : c.count.result + 1 ≡ n + 1 = ap (λ k. k + 1) c.count.ensures.value in
     let inside : c.in_ok-inside.inside.items ≡ replicate (c.count.result + 1) false = c.in_ok-inside.ensures.items_if_clones_equal (λ y h. h) in
     let least : c.in_ok-least.least.items ≡ replicate (c.count.result + 1) most_64 = c.in_ok-least.ensures.items_if_clones_equal (λ y h. h) in
@@ -29,7 +29,7 @@ again-init g c =
     record {
       state = start_after n w (c.count.result + 1) c.in_ok-inside.inside.items c.deref.result.now c.in_ok-near.near.items c.deref_mut.result.now
           c.reach-nearest.new.near c.in_ok-least.least.items c.deref_mut-2.result.now c.reach-nearest.new.least
-          c.in_ok-near.near.len c.in_ok-least.least.len most_64 c.requires.some size inside least c.deref.ensures.value c.deref_mut.ensures.value c.deref_mut-2.ensures.value near_size
+          c.in_ok-near.near.len c.in_ok-least.least.len most_64 c.args.w.now.some size inside least c.deref.ensures.value c.deref_mut.ensures.value c.deref_mut-2.ensures.value near_size
           c.reach-nearest.auto.near c.reach-nearest.auto.least near_len least_len reached.small reached.nearer;
       nearest = nearest_after n (slice_set c.in_ok-inside.inside.items 2 true) c.deref.result.now c.in_ok-least.least.items c.deref_mut-2.result.now
           c.reach-nearest.new.least c.in_ok-least.least.len c.reach-nearest.result
@@ -38,8 +38,8 @@ again-init g c =
 
 pub index_mut-requires-in-again : goal.index_mut-requires-in-again
 index_mut-requires-in-again g c =
-    let n = g.C.Costs.nodes c.args.c.now in
-    let w = weight_less c.args.p.now (triples_in c.args.m.now) (g.C.Costs.at c.args.c.now) in
+    let n = g.C.Costs.nodes c.args.w.now.c.now in
+    let w = weight_less c.args.w.now.p.now (triples_in c.args.w.now.m.now) (g.C.Costs.at c.args.w.now.c.now) in
     let pairs : List (ℕ × ℕ) = c.deref-pair-items.result.now in
     let grows : Grows (IsInner n) w (λ x. x == 2) pairs = subst (λ (ps : List (ℕ × ℕ)). Grows (IsInner n) w (λ x. x == 2) ps) (sym c.deref-pair-items.ensures.value) c.requires.part.grows in
     let leaving = grows_at (IsInner n) w pairs (λ x. x == 2) c.again.pair-index (0, 0) c.again-test.true grows in
@@ -48,8 +48,8 @@ index_mut-requires-in-again g c =
 
 pub reach-nearest-requires-in-again-clause-next_in : goal.reach-nearest-requires-in-again-clause-next_in
 reach-nearest-requires-in-again-clause-next_in g c =
-    let n = g.C.Costs.nodes c.args.c.now in
-    let w = weight_less c.args.p.now (triples_in c.args.m.now) (g.C.Costs.at c.args.c.now) in
+    let n = g.C.Costs.nodes c.args.w.now.c.now in
+    let w = weight_less c.args.w.now.p.now (triples_in c.args.w.now.m.now) (g.C.Costs.at c.args.w.now.c.now) in
     let pairs : List (ℕ × ℕ) = c.deref-pair-items.result.now in
     let grows : Grows (IsInner n) w (λ x. x == 2) pairs = subst (λ (ps : List (ℕ × ℕ)). Grows (IsInner n) w (λ x. x == 2) ps) (sym c.deref-pair-items.ensures.value) c.requires.part.grows in
     let leaving = grows_at (IsInner n) w pairs (λ x. x == 2) c.again.pair-index (0, 0) c.again-test.true grows in
@@ -57,8 +57,8 @@ reach-nearest-requires-in-again-clause-next_in g c =
 
 pub again-preserved : goal.again-preserved
 again-preserved g c =
-    let n = g.C.Costs.nodes c.args.c.now in
-    let w = weight_less c.args.p.now (triples_in c.args.m.now) (g.C.Costs.at c.args.c.now) in
+    let n = g.C.Costs.nodes c.args.w.now.c.now in
+    let w = weight_less c.args.w.now.p.now (triples_in c.args.w.now.m.now) (g.C.Costs.at c.args.w.now.c.now) in
     let pairs : List (ℕ × ℕ) = c.deref-pair-items.result.now in
     let i = c.again.pair-index in
     let pair : ℕ × ℕ = get_or pairs i (0, 0) in
@@ -81,8 +81,8 @@ again-preserved g c =
 
 pub grow-init : goal.grow-init
 grow-init g c =
-    let n = g.C.Costs.nodes c.args.c.now in
-    let w = weight_less c.args.p.now (triples_in c.args.m.now) (g.C.Costs.at c.args.c.now) in
+    let n = g.C.Costs.nodes c.args.w.now.c.now in
+    let w = weight_less c.args.w.now.p.now (triples_in c.args.w.now.m.now) (g.C.Costs.at c.args.w.now.c.now) in
     let all : take c.again.pair-index c.deref-pair-items.result.now ≡ c.args.grown.pairs.items =
     take_all c.again.pair-index c.deref-pair-items.result.now (omega arith) ∙ c.deref-pair-items.ensures.value in
     let fits : FitsSigned w128 c.args.grown.weight = search rules in
@@ -96,8 +96,8 @@ grow-init g c =
 
 pub grow-smaller : goal.grow-smaller
 grow-smaller g c =
-    let n = g.C.Costs.nodes c.args.c.now in
-    let w = weight_less c.args.p.now (triples_in c.args.m.now) (g.C.Costs.at c.args.c.now) in
+    let n = g.C.Costs.nodes c.args.w.now.c.now in
+    let w = weight_less c.args.w.now.p.now (triples_in c.args.w.now.m.now) (g.C.Costs.at c.args.w.now.c.now) in
     let next : IsNearestOutside n c.grow.inside.items c.grow.least.items c.in-Some.next =
     subst (λ o. MatchOption o (AllInside n c.grow.inside.items) (λ node. IsNearestOutside n c.grow.inside.items c.grow.least.items node)) c.in-Some.is c.grow.invariant.nearest in
     let room = room_more n w c.grow.inside.items c.grow.near.items c.grow.least.items c.grow.pairs.items c.in-Some.next c.grow.invariant.state next in
@@ -106,10 +106,10 @@ grow-smaller g c =
 
 pub overflow_add-weight : goal.overflow_add-weight
 overflow_add-weight g c =
-    let n = g.C.Costs.nodes c.args.c.now in
+    let n = g.C.Costs.nodes c.args.w.now.c.now in
     let next : IsNearestOutside n c.grow.inside.items c.grow.least.items c.in-Some.next =
     subst (λ o. MatchOption o (AllInside n c.grow.inside.items) (λ node. IsNearestOutside n c.grow.inside.items c.grow.least.items node)) c.in-Some.is c.grow.invariant.nearest in
-    let room = room_more n (weight_less c.args.p.now (triples_in c.args.m.now) (g.C.Costs.at c.args.c.now)) c.grow.inside.items c.grow.near.items
+    let room = room_more n (weight_less c.args.w.now.p.now (triples_in c.args.w.now.m.now) (g.C.Costs.at c.args.w.now.c.now)) c.grow.inside.items c.grow.near.items
     c.grow.least.items c.grow.pairs.items c.in-Some.next c.grow.invariant.state next in
     let few : length c.grow.pairs.items ≤ most_nodes = omega (arith, room, c.count.ensures.value, c.count.ensures.most) in
     let fits : FitsSigned w64 c.index-in-Some.result.now = search rules in
@@ -117,8 +117,8 @@ overflow_add-weight g c =
 
 pub grow-preserved : goal.grow-preserved
 grow-preserved g c =
-    let n = g.C.Costs.nodes c.args.c.now in
-    let w = weight_less c.args.p.now (triples_in c.args.m.now) (g.C.Costs.at c.args.c.now) in
+    let n = g.C.Costs.nodes c.args.w.now.c.now in
+    let w = weight_less c.args.w.now.p.now (triples_in c.args.w.now.m.now) (g.C.Costs.at c.args.w.now.c.now) in
     let next : IsNearestOutside n c.grow.inside.items c.grow.least.items c.in-Some.next =
     subst (λ o. MatchOption o (AllInside n c.grow.inside.items) (λ node. IsNearestOutside n c.grow.inside.items c.grow.least.items node)) c.in-Some.is c.grow.invariant.nearest in
     let near_len : c.grow.near.len ≡ length c.grow.near.items = omega arith in
@@ -149,11 +149,11 @@ grow-preserved g c =
 
 pub returns : goal.returns
 returns g c =
-    let n = g.C.Costs.nodes c.args.c.now in
+    let n = g.C.Costs.nodes c.args.w.now.c.now in
     let all : AllInside n c.grow.inside.items = subst (λ o. MatchOption o (AllInside n c.grow.inside.items)
     (λ node. IsNearestOutside n c.grow.inside.items c.grow.least.items node)) c.in_default.is c.grow.invariant.nearest in
-    let whole = state_end n (weight_less c.args.p.now (triples_in c.args.m.now) (g.C.Costs.at c.args.c.now)) c.grow.inside.items c.grow.near.items
-    c.grow.least.items c.grow.pairs.items c.requires.some c.grow.invariant.state all in
+    let whole = state_end n (weight_less c.args.w.now.p.now (triples_in c.args.w.now.m.now) (g.C.Costs.at c.args.w.now.c.now)) c.grow.inside.items c.grow.near.items
+    c.grow.least.items c.grow.pairs.items c.args.w.now.some c.grow.invariant.state all in
     let few : length c.grow.pairs.items ≤ most_nodes = omega (arith, whole.count, c.count.ensures.value, c.count.ensures.most) in
     let size = c.grow.invariant.size in
     record {
@@ -164,18 +164,16 @@ returns g c =
 
 pub reach-nearest-requires : goal.reach-nearest-requires
 reach-nearest-requires g c =
-    let n = g.C.Costs.nodes c.args.c.now in
+    let n = g.C.Costs.nodes c.args.w.now.c.now in
     let size : c.count.result + 1 ≡ n + 1 = ap (λ k. k + 1) c.count.ensures.value in
     let inside_len : c.in_ok-inside.inside.len ≡ length c.in_ok-inside.inside.items = omega arith in
     let near_len : c.in_ok-near.near.len ≡ length c.in_ok-near.near.items = omega arith in
     let least_len : c.in_ok-least.least.len ≡ length c.in_ok-least.least.items = omega arith in
     record {
-      count = c.requires.count;
-      over = c.requires.over;
       inside_len = ap length c.deref.ensures.value ∙ length-set c.in_ok-inside.inside.items 2 true ∙ sym inside_len ∙ c.in_ok-inside.ensures.len ∙ size;
       near_len = ap length c.deref_mut.ensures.value ∙ sym near_len ∙ c.in_ok-near.ensures.len ∙ size;
       least_len = ap length c.deref_mut-2.ensures.value ∙ sym least_len ∙ c.in_ok-least.ensures.len ∙ size;
-      next_in = (omega arith, omega (arith, c.requires.some));
+      next_in = (omega arith, omega (arith, c.args.w.now.some));
     }
 
 pub reach-nearest-requires-in-again-clause-inside_len : goal.reach-nearest-requires-in-again-clause-inside_len

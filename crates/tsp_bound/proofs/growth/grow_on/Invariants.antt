@@ -8,8 +8,8 @@ use Rattle.tsp_bound.proofs.growth.grow_on.Given as goal
 
 abbrev pub invariant-again : goal.invariant-again
 invariant-again g l =
-    let n = g.C.Costs.nodes l.c in
-    let w = weight_less l.p (triples_in l.m) (g.C.Costs.at l.c) in
+    let n = g.C.Costs.nodes l.w.c.now in
+    let w = weight_less l.w.p.now (triples_in l.w.m.now) (g.C.Costs.at l.w.c.now) in
     record {
       state : IsState n w l.inside.items l.near.items l.least.items (take l.pair-index l.pair-items);
       nearest : MatchOption l.nearest (AllInside n l.inside.items) (λ node. IsNearestOutside n l.inside.items l.least.items node);
@@ -17,8 +17,8 @@ invariant-again g l =
 
 abbrev pub invariant-grow : goal.invariant-grow
 invariant-grow g l =
-    let n = g.C.Costs.nodes l.c in
-    let w = weight_less l.p (triples_in l.m) (g.C.Costs.at l.c) in
+    let n = g.C.Costs.nodes l.w.c.now in
+    let w = weight_less l.w.p.now (triples_in l.w.m.now) (g.C.Costs.at l.w.c.now) in
     record {
       state : IsState n w l.inside.items l.near.items l.least.items l.pairs.items;
       nearest : MatchOption l.nearest (AllInside n l.inside.items) (λ node. IsNearestOutside n l.inside.items l.least.items node);
@@ -27,4 +27,4 @@ invariant-grow g l =
     }
 
 abbrev pub decreases-grow : goal.decreases-grow
-decreases-grow g l = g.C.Costs.nodes l.c - length l.pairs.items
+decreases-grow g l = g.C.Costs.nodes l.w.c.now - length l.pairs.items

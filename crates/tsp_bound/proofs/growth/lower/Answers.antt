@@ -17,8 +17,8 @@ overflow_sub-weight g c =
 
 pub lowerings-preserved : goal.lowerings-preserved
 lowerings-preserved g c =
-    let n = g.C.Costs.nodes c.args.c.now in
-    let w = weight_under c.args.p.now (g.C.Costs.at c.args.c.now) in
+    let n = g.C.Costs.nodes c.args.w.now.c.now in
+    let w = weight_under c.args.w.now.p.now (g.C.Costs.at c.args.w.now.c.now) in
     let index : ℕ = c.lowerings.lowering-index in
     let entry : ℕ × ℤ = slice_index_or c.args.lowerings.now index (0, pos 0) in
     let own = c.requires.lowerings.each index (0, pos 0) c.lowerings-test.true in
@@ -64,5 +64,5 @@ pub weight-requires-clause-to : goal.weight-requires-clause-to
 weight-requires-clause-to g c = (c.requires.lowerings.each c.lowerings.lowering-index (0, pos 0) c.lowerings-test.true).0
 
 pub returns : goal.returns
-returns g c = all_lowered (g.C.Costs.nodes c.args.c.now) (weight_under c.args.p.now (g.C.Costs.at c.args.c.now)) c.args.lowerings.now c.args.inside.now c.args.next
+returns g c = all_lowered (g.C.Costs.nodes c.args.w.now.c.now) (weight_under c.args.w.now.p.now (g.C.Costs.at c.args.w.now.c.now)) c.args.lowerings.now c.args.inside.now c.args.next
     c.args.near.now c.args.least.now c.lowerings.near c.lowerings.least c.lowerings.lowering-index (omega arith) c.lowerings.invariant

@@ -8,11 +8,11 @@ use Rattle.tsp_bound.proofs.growth.reach.Goals as goal
 
 pub returns : goal.returns
 returns g c =
-    let n = g.C.Costs.nodes c.args.c.now in
-    let w = weight_under c.args.p.now (g.C.Costs.at c.args.c.now) in
-    let v = weight_less c.args.p.now (triples_in c.args.m.now) (g.C.Costs.at c.args.c.now) in
+    let n = g.C.Costs.nodes c.args.w.now.c.now in
+    let w = weight_under c.args.w.now.p.now (g.C.Costs.at c.args.w.now.c.now) in
+    let v = weight_less c.args.w.now.p.now (triples_in c.args.w.now.m.now) (g.C.Costs.at c.args.w.now.c.now) in
     let lowerings = c.at.result.now in
-    let are : AreLowerings n lowerings = rw (← c.requires.over) c.at.ensures.are in
+    let are : AreLowerings n lowerings = rw (← c.args.w.now.over) c.at.ensures.are in
     let less : AreLess w v lowerings c.args.next = record { less = λ x. let sum = c.at.ensures.sums x in omega (arith, ints, sum) } in
     record {
       nearer = reached_nearer n w v lowerings c.args.inside.now c.args.next c.args.near.now c.args.least.now c.lower.new.near c.lower.new.least c.bring.new.near

@@ -5,7 +5,7 @@ use Rattle.std.proofs.Math.IntN.{+ℤ_assoc}
 use Rattle.std.proofs.lemmas.Int.{ints, to_z-of_z, fits_signed_from_abs}
 use Rattle.tsp_format.specs.Limits.{most_multipliers, most_multiplier}
 use Rattle.tsp_theory.specs.Numbers.{IsFromTo}
-use Rattle.tsp_theory.specs.Adjusted.{total_of}
+use Rattle.tsp_theory.specs.Adjusted.{triples_total}
 use Rattle.tsp_theory.proofs.Sizes.{size_of}
 use Rattle.tsp_bound.proofs.numbers.total_of.Goals as goal
 
@@ -46,8 +46,8 @@ triples-preserved c =
     let size = (c.requires.each index (0, 0, pos 0) c.triples-test.true).1 in
     let own = own_number number c.from-sum.result size c.from-sum.ensures in
     let is = ap (λ z. to_z w128 (of_z w128 (sum +ℤ z))) own ∙ to_z-of_z w128 (sum +ℤ number) (sum_fits sum number index few c.triples.invariant.size size) in
-    let parts : total_of (drop index xs) ≡ number +ℤ total_of (drop (index + 1) xs) = ap total_of (drop-cons xs index (0, 0, pos 0) c.triples-test.true) ∙ rw (add-one index) in
+    let parts : triples_total (drop index xs) ≡ number +ℤ triples_total (drop (index + 1) xs) = ap triples_total (drop-cons xs index (0, 0, pos 0) c.triples-test.true) ∙ rw (add-one index) in
     record {
       size = rw is (sum_more sum number index c.triples.invariant.size size);
-      so_far = rw is (+ℤ_assoc sum number (total_of (drop (index + 1) xs)) ∙ ap (λ z. sum +ℤ z) (sym parts) ∙ c.triples.invariant.so_far);
+      so_far = rw is (+ℤ_assoc sum number (triples_total (drop (index + 1) xs)) ∙ ap (λ z. sum +ℤ z) (sym parts) ∙ c.triples.invariant.so_far);
     }

@@ -2,11 +2,11 @@ use Rattle.std.proofs.Common.{◌≡◌, ◌*◌, drop}
 use Rattle.std.specs.Prelude.{pos, ◌+ℤ◌}
 use Rattle.tsp_format.specs.Limits.{most_multiplier}
 use Rattle.tsp_theory.specs.Numbers.{IsFromTo}
-use Rattle.tsp_theory.specs.Adjusted.{total_of}
+use Rattle.tsp_theory.specs.Adjusted.{triples_total}
 use Rattle.tsp_bound.proofs.numbers.total_of.Given as goal
 
 abbrev pub invariant-triples : goal.invariant-triples
 invariant-triples l = record {
   size : IsFromTo (pos 0) (pos (l.triple-index * most_multiplier)) l.sum;
-  so_far : (l.sum +ℤ total_of (drop l.triple-index l.triples)) ≡ total_of l.triples;
+  so_far : (l.sum +ℤ triples_total (drop l.triple-index l.triples)) ≡ triples_total l.triples;
 }

@@ -2,8 +2,8 @@ use Rattle.std.proofs.Common.{◌≡◌, ◌≤◌, ◌+◌, ◌++◌, ◌∷◌
 use Rattle.std.specs.Prelude.{ℤ, ◌+ℤ◌, ◌-ℤ◌}
 use Rattle.std.specs.Int.{w64, w128}
 use Rattle.tsp_format.specs.Limits.{most_nodes}
-use Rattle.tsp_bound.specs.Boxes.{node_at}
-use Rattle.tsp_bound.specs.Numbering.{both}
+use Rattle.tsp_bound.specs.Boxes.{node_of}
+use Rattle.tsp_bound.specs.Numbering.{on_both}
 use Rattle.tsp_bound.specs.Multipliers.{triples_in, weight_less}
 use Rattle.tsp_bound.specs.Potentials.{weight_under}
 use Rattle.tsp_theory.specs.Tree.{weight_of}
@@ -13,9 +13,9 @@ use Rattle.tsp_bound.proofs.part.weighed.Goals as goal
 
 pub pairs-preserved : goal.pairs-preserved
 pairs-preserved g c =
-    let raw = weight_under c.args.p.now (g.C.Costs.at c.args.c.now) in
-    let w = weight_less c.args.p.now (triples_in c.args.m.now) (g.C.Costs.at c.args.c.now) in
-    let f : ℕ × ℕ → ℕ × ℕ = both (node_at c.args.order.now) in
+    let raw = weight_under c.args.w.now.p.now (g.C.Costs.at c.args.w.now.c.now) in
+    let w = weight_less c.args.w.now.p.now (triples_in c.args.w.now.m.now) (g.C.Costs.at c.args.w.now.c.now) in
+    let f : ℕ × ℕ → ℕ × ℕ = on_both (node_of c.args.order.now) in
     let pair : ℕ × ℕ = get_or c.args.pairs.now c.pairs.pair-index (0, 0) in
     let named : List (ℕ × ℕ) = c.pairs.named.items in
     let pushed : c.push.new.self.items ≡ named ++ f pair ∷ [] = c.in_ok-push.ensures.items in
@@ -24,7 +24,7 @@ pairs-preserved g c =
     let here : ℤ = to_z w64 (of_z w64 c.weight.result) -ℤ to_z w64 (of_z w64 c.lowered_by-number.result) in
     let fits = lower_fits c.weight.result c.lowered_by-number.result c.weight.ensures.size c.lowered_by-number.ensures.size in
     let own : here ≡ w (f pair).0 (f pair).1 = lower_is c.weight.result c.lowered_by-number.result c.weight.ensures.size c.lowered_by-number.ensures.size
-    ∙ less_value (triples_in c.args.m.now) c.at.result.now raw (f pair).0 (f pair).1 c.weight.result c.lowered_by-number.result c.weight.ensures.value
+    ∙ less_value (triples_in c.args.w.now.m.now) c.at.result.now raw (f pair).0 (f pair).1 c.weight.result c.lowered_by-number.result c.weight.ensures.value
     c.lowered_by-number.ensures.value (c.at.ensures.sums (f pair).0) in
     let sum : ℤ = to_z w128 c.pairs.weight-bits in
     let computed = sum_computed sum here c.from-weight.result (length named) few c.pairs.invariant.size fits c.from-weight.ensures in
@@ -45,7 +45,7 @@ pub at-requires : goal.at-requires
 at-requires g c =
     let pair : ℕ × ℕ = get_or c.args.pairs.now c.pairs.pair-index (0, 0) in
     let own = c.requires.nodes pair.1 (c.requires.places c.pairs.pair-index (0, 0) c.pairs-test.true).1 in
-    (own.0, omega (arith, own.1, c.requires.over))
+    (own.0, omega (arith, own.1, c.args.w.now.over))
 
 pub lowered_by-number-requires-clause-once : goal.lowered_by-number-requires-clause-once
 lowered_by-number-requires-clause-once g c = c.at.ensures.are.once

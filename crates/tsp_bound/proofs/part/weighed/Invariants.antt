@@ -1,6 +1,6 @@
 use Rattle.std.proofs.Common.{◌≡◌, length, map, take}
-use Rattle.tsp_bound.specs.Boxes.{node_at}
-use Rattle.tsp_bound.specs.Numbering.{both}
+use Rattle.tsp_bound.specs.Boxes.{node_of}
+use Rattle.tsp_bound.specs.Numbering.{on_both}
 use Rattle.tsp_theory.specs.Numbers.{IsSumSized}
 use Rattle.tsp_bound.specs.Multipliers.{triples_in, weight_less}
 use Rattle.tsp_theory.specs.Tree.{weight_of}
@@ -8,8 +8,8 @@ use Rattle.tsp_bound.proofs.part.weighed.Given as goal
 
 abbrev pub invariant-pairs : goal.invariant-pairs
 invariant-pairs g l = record {
-  pairs : l.named.items ≡ map (both (node_at l.order)) (take l.pair-index l.pairs);
+  pairs : l.named.items ≡ map (on_both (node_of l.order)) (take l.pair-index l.pairs);
   count : length l.named.items ≡ l.pair-index;
-  sum : l.weight ≡ weight_of (weight_less l.p (triples_in l.m) (g.C.Costs.at l.c)) l.named.items;
+  sum : l.weight ≡ weight_of (weight_less l.w.p.now (triples_in l.w.m.now) (g.C.Costs.at l.w.c.now)) l.named.items;
   size : IsSumSized (length l.named.items) l.weight;
 }

@@ -10,8 +10,8 @@ use Rattle.tsp_bound.proofs.spokes.two_spokes.Goals as goal
 
 pub returns : goal.returns
 returns g c =
-    let n = g.C.Costs.nodes c.args.c.now in
-    let w = weight_less c.args.p.now (triples_in c.args.m.now) (g.C.Costs.at c.args.c.now) in
+    let n = g.C.Costs.nodes c.args.w.now.c.now in
+    let w = weight_less c.args.w.now.p.now (triples_in c.args.w.now.m.now) (g.C.Costs.at c.args.w.now.c.now) in
     let size : ℕ = c.count.result + 1 in
     let row : List ℤ = c.deref-2.result.now in
     let inside : c.deref.result.now ≡ replicate size false = c.deref.ensures.value ∙ c.in_ok-inside.ensures.items_if_clones_equal (λ y h. h) in

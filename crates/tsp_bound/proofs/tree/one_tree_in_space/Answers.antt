@@ -4,14 +4,14 @@ use Rattle.std.specs.Int.{w128}
 use Rattle.std.proofs.lemmas.Int.{to_z-of_z}
 use Rattle.tsp_theory.specs.Numbers.{total}
 use Rattle.tsp_theory.specs.Tree.{weight_of, IsLeastOneTree}
-use Rattle.tsp_theory.specs.Adjusted.{total_of, IsAdjustedBoundOf, IsAdjustedBound}
+use Rattle.tsp_theory.specs.Adjusted.{triples_total, IsAdjustedBoundOf, IsAdjustedBound}
 use Rattle.tsp_bound.specs.Multipliers.{weight_less}
 use Rattle.tsp_theory.proofs.Weights.{sum_of_bound, bound_of_weight, tree_same}
 use Rattle.tsp_bound.proofs.tree.one_tree_in_space.Goals as goal
 
 pub least_bound-bound-requires-clause-size : goal.least_bound-bound-requires-clause-size
 least_bound-bound-requires-clause-size g c =
-    let sum = sum_of_bound c.in_ok-found.found.weight c.total-potentials.result c.total_of-multipliers.result (total c.args.p.now.numbers.now) (total_of c.args.m.now.triples.now)
+    let sum = sum_of_bound c.in_ok-found.found.weight c.total-potentials.result c.total_of-multipliers.result (total c.args.p.now.numbers.now) (triples_total c.args.m.now.triples.now)
     c.in_ok-found.ensures.size c.total-potentials.ensures.size c.total_of-multipliers.ensures.size c.total-potentials.ensures.value c.total_of-multipliers.ensures.value in
     rw sum.0 sum.1
 
@@ -31,7 +31,7 @@ returns g c =
     let fits : FitsSigned w128 c.least_bound-bound.result = search rules in
     let bound : ℤ = to_z w128 (of_z w128 least) in
     let rounded : IsAdjustedBoundOf p.scale p.numbers.now triples weight bound =
-    bound_of_weight p.scale weight c.total-potentials.result c.total_of-multipliers.result (total p.numbers.now) (total_of triples) least p.are.scale_is
+    bound_of_weight p.scale weight c.total-potentials.result c.total_of-multipliers.result (total p.numbers.now) (triples_total triples) least p.are.scale_is
     fits
     c.in_ok-found.ensures.size c.total-potentials.ensures.size c.total_of-multipliers.ensures.size c.total-potentials.ensures.value
     c.total_of-multipliers.ensures.value c.least_bound-bound.ensures.value in

@@ -4,7 +4,7 @@ use Rattle.std.proofs.lemmas.Int.{to_z-of_z}
 use Rattle.std.proofs.lemmas.Result.{IfOk-weaker}
 use Rattle.tsp_format.specs.Steps.{steps_of}
 use Rattle.tsp_branch.specs.Combed.{plain}
-use Rattle.tsp_branch.specs.CombsOfSets.{combs_of}
+use Rattle.tsp_branch.specs.CombsOfSets.{combs_of_sets}
 use Rattle.tsp_branch.specs.Decided.{case_of}
 use Rattle.tsp_branch.specs.Listed.{IsJudged}
 use Rattle.tsp_branch.proofs.Judging.{cycles_of, costs_for}
@@ -15,7 +15,7 @@ returns-clause-cycles g c =
     let costs = c.args.costs.now in
     let n : ℕ = g.C.Costs.nodes costs in
     let cost = g.C.Costs.at costs in
-    let combs = combs_of c.args.combs (plain c.args.sets.now) in
+    let combs = combs_of_sets c.args.combs (plain c.args.sets.now) in
     let given = case_of c.args.given.now in
     let fits : FitsSigned w64 c.args.scale = search rules in
     IfOk-weaker c.judge_leaves.result _ _ (λ found is.

@@ -2,7 +2,7 @@ use Rattle.std.proofs.Common.{◌∙◌, ◌++◌, ℕ, ℤ, List, length, take,
 use Rattle.std.specs.List.{All}
 use Rattle.tsp_format.specs.Cells.{IsNode}
 use Rattle.tsp_branch.specs.Combed.{plain}
-use Rattle.tsp_branch.specs.CombsOfSets.{combs_of}
+use Rattle.tsp_branch.specs.CombsOfSets.{combs_of_sets}
 use Rattle.tsp_branch.specs.Cases.{LeafNumbers}
 use Rattle.tsp_branch.specs.Certificate.{IsFoundAt}
 use Rattle.tsp_branch.specs.Decisions.{Decision}
@@ -29,7 +29,7 @@ returns-clause-judged g c =
     let of_combs = c.deref-3.ensures.value ∙ written room.multipliers.len c.judge.new.multipliers _ (c.judge.ensures.multipliers_len ∙ c.deref_mut-3.ensures.len)
     ∙ c.if-not-judge.ensures.multipliers refl in
     let setting = c.args.setting.now in
-    let found : List Decision × LeafNumbers → Option ℤ → Type 0 = IsFoundAt setting.directed n (g.C.Costs.at setting.costs.now) setting.scale decided_number (combs_of setting.combs (plain setting.sets.now)) in
+    let found : List Decision × LeafNumbers → Option ℤ → Type 0 = IsFoundAt setting.directed n (g.C.Costs.at setting.costs.now) setting.scale decided_number (combs_of_sets setting.combs (plain setting.sets.now)) in
     judged_leaf found n setting.combs (stack_of c.args.decisions.now ++ case_of setting.given.now) room.numbers.items changes _ c.deref-2.result.now c.deref-3.result.now c.in_ok-bound.bound
     c.requires.room.numbers inside (now ∙ grown) good (of_nodes ∙ ap (λ (k : ℕ). take k read) at ∙ ap (take n) c.deref.ensures.value)
     (of_combs ∙ ap (λ (k : ℕ). drop k read) at ∙ ap (drop n) c.deref.ensures.value)

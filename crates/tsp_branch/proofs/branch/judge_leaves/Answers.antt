@@ -7,7 +7,7 @@ use Rattle.tsp_format.specs.declared.steps.TreeStep.TheVariants as code
 use Rattle.tsp_format.specs.Steps as listed
 use Rattle.tsp_format.specs.Steps.{steps_of}
 use Rattle.tsp_branch.specs.Combed.{plain}
-use Rattle.tsp_branch.specs.CombsOfSets.{combs_of}
+use Rattle.tsp_branch.specs.CombsOfSets.{combs_of_sets}
 use Rattle.tsp_branch.specs.Cases.{LeafNumbers}
 use Rattle.tsp_branch.specs.Certificate.{IsFoundAt}
 use Rattle.tsp_branch.specs.Decisions.{Decision, DecideOnce}
@@ -29,7 +29,7 @@ pub judge_leaf-requires-clause-once : goal.judge_leaf-requires-clause-once
 judge_leaf-requires-clause-once g c =
     let s = c.args.setting.now in
     let n : ℕ = g.C.Costs.nodes s.costs.now in
-    let found : List Decision × LeafNumbers → Option ℤ → Type 0 = IsFoundAt s.directed n (g.C.Costs.at s.costs.now) s.scale decided_number (combs_of s.combs (plain s.sets.now)) in
+    let found : List Decision × LeafNumbers → Option ℤ → Type 0 = IsFoundAt s.directed n (g.C.Costs.at s.costs.now) s.scale decided_number (combs_of_sets s.combs (plain s.sets.now)) in
     let given = case_of s.given.now in
     let all : List TreeStep = c.args.steps.now in
     let told : List listed.Step = steps_of all in
@@ -43,7 +43,7 @@ pub returns-in_default-clause-judged : goal.returns-in_default-clause-judged
 returns-in_default-clause-judged g c =
     let s = c.args.setting.now in
     let n : ℕ = g.C.Costs.nodes s.costs.now in
-    let found : List Decision × LeafNumbers → Option ℤ → Type 0 = IsFoundAt s.directed n (g.C.Costs.at s.costs.now) s.scale decided_number (combs_of s.combs (plain s.sets.now)) in
+    let found : List Decision × LeafNumbers → Option ℤ → Type 0 = IsFoundAt s.directed n (g.C.Costs.at s.costs.now) s.scale decided_number (combs_of_sets s.combs (plain s.sets.now)) in
     let given = case_of s.given.now in
     let all : List TreeStep = c.args.steps.now in
     let told : List listed.Step = steps_of all in
@@ -61,7 +61,7 @@ pub returns-then-not-next_case-clause-judged : goal.returns-then-not-next_case-c
 returns-then-not-next_case-clause-judged g c =
     let s = c.args.setting.now in
     let n : ℕ = g.C.Costs.nodes s.costs.now in
-    let found : List Decision × LeafNumbers → Option ℤ → Type 0 = IsFoundAt s.directed n (g.C.Costs.at s.costs.now) s.scale decided_number (combs_of s.combs (plain s.sets.now)) in
+    let found : List Decision × LeafNumbers → Option ℤ → Type 0 = IsFoundAt s.directed n (g.C.Costs.at s.costs.now) s.scale decided_number (combs_of_sets s.combs (plain s.sets.now)) in
     let given = case_of s.given.now in
     let all : List TreeStep = c.args.steps.now in
     let told : List listed.Step = steps_of all in
@@ -73,7 +73,7 @@ returns-then-not-next_case-clause-judged g c =
     (subst (λ (ds : List (ℕ × ℕ × Bool)). IsJudgedLeaf found n s.combs
     (stack_of ds ++ given) st.room.numbers.items c.deref.result.now c.judge_leaf.new.room.numbers.items c.in_ok-judged-in-Leaf.judged) c.deref-in-Leaf.ensures.value
     c.in_ok-judged-in-Leaf.ensures.judged) in
-    last_found found s.directed n s.combs given told (combs_of s.combs (plain s.sets.now)) st.room.numbers.items st.stack.items st.lowest st.leaf c.in-Leaf.changes.items _ _ c.in_ok-judged-in-Leaf.judged c.in-Found.own
+    last_found found s.directed n s.combs given told (combs_of_sets s.combs (plain s.sets.now)) st.room.numbers.items st.stack.items st.lowest st.leaf c.in-Leaf.changes.items _ _ c.in_ok-judged-in-Leaf.judged c.in-Found.own
     c.lower-lowest.result at c.requires.are_families c.requires.steps.whole judged c.in-Found.is c.lower-lowest.ensures c.if-not-next_case.ensures.next.0
 
 pub returns-then-not-next_case-clause-size : goal.returns-then-not-next_case-clause-size
@@ -84,7 +84,7 @@ pub steps-preserved : goal.steps-preserved
 steps-preserved g c =
     let s = c.args.setting.now in
     let n : ℕ = g.C.Costs.nodes s.costs.now in
-    let found : List Decision × LeafNumbers → Option ℤ → Type 0 = IsFoundAt s.directed n (g.C.Costs.at s.costs.now) s.scale decided_number (combs_of s.combs (plain s.sets.now)) in
+    let found : List Decision × LeafNumbers → Option ℤ → Type 0 = IsFoundAt s.directed n (g.C.Costs.at s.costs.now) s.scale decided_number (combs_of_sets s.combs (plain s.sets.now)) in
     let given = case_of s.given.now in
     let all : List TreeStep = c.args.steps.now in
     let told : List listed.Step = steps_of all in

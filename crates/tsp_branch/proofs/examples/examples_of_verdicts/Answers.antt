@@ -1,5 +1,6 @@
 use Rattle.std.proofs.Common.{refl, inl, inr}
 use Rattle.tsp_branch.proofs.SmallVerdicts.{no_sets, one_tooth, two_teeth, node_twice, teeth_meet, tooth_inside, tooth_outside, lone_set, no_node, all_nodes, lone_node_twice, never_twice}
+use Rattle.tsp_branch.proofs.OnePass.{first_twice_by_place}
 use Rattle.tsp_branch.proofs.examples.examples_of_verdicts.Goals as goal
 
 pub returns : goal.returns
@@ -15,11 +16,11 @@ returns c = record {
   no_node = no_node;
   all_nodes = all_nodes;
   lone_node_twice = lone_node_twice;
-  again = inr (refl, inl (refl, refl));
-  again_turned = inr (refl, inl (refl, refl));
-  given = inr (refl, inl (refl, refl));
-  arc_again = inr (refl, inl (refl, refl));
+  again = first_twice_by_place _ _ _ 2 (inr (refl, inl (refl, refl)));
+  again_turned = first_twice_by_place _ _ _ 2 (inr (refl, inl (refl, refl)));
+  given = first_twice_by_place _ _ _ 2 (inr (refl, inl (refl, refl)));
+  arc_again = first_twice_by_place _ _ _ 2 (inr (refl, inl (refl, refl)));
   other_arc = λ branch twice. never_twice branch twice;
-  without_it = λ changes. inr (refl, inl (refl, refl));
-  sides = λ changes. inr (refl, inr (refl, inr (refl, inl (refl, refl))));
+  without_it = λ changes. first_twice_by_place _ _ _ 2 (inr (refl, inl (refl, refl)));
+  sides = λ changes. first_twice_by_place _ _ _ 4 (inr (refl, inr (refl, inr (refl, inl (refl, refl)))));
 }

@@ -1,4 +1,4 @@
-use Rattle.std.proofs.Common.{◌+◌, List, drop, arith}
+use Rattle.std.proofs.Common.{◌∙◌, ◌+◌, ◌++◌, not, true, List, drop, arith, ap, refl, sym}
 use Rattle.tsp_format.specs.declared.steps.TreeStep.{TreeStep}
 use Rattle.tsp_format.specs.declared.steps.TreeStep.TheVariants as code
 use Rattle.tsp_format.specs.Steps as listed
@@ -6,29 +6,32 @@ use Rattle.tsp_format.specs.Steps.{steps_of}
 use Rattle.tsp_branch.specs.Decisions.{Decision}
 use Rattle.tsp_branch.specs.Decided.{case_of, stack_of}
 use Rattle.tsp_branch.proofs.BranchesOnce.{once_next, once_pushed, twice_found, once_at_leaf, once_at_last, once_at_end}
+use Rattle.tsp_branch.proofs.DecidedSets.{decided_by_set, pushed_decided}
 use Rattle.tsp_branch.proofs.twice.first_twice.Goals as goal
-use Rattle.tsp_branch.proofs.twice.first_twice.Goals.{in-Branch+else-decides+in_ok-push-in-Branch, in-Leaf+else-not-next_case}
+use Rattle.tsp_branch.proofs.twice.first_twice.Goals.{in-Branch+in_ok-is_new-in-Branch+else-not-is_new+in_ok-push-in-Branch, in-Leaf+else-not-leave_case}
 
-pub returns-then-decides : goal.returns-then-decides
-returns-then-decides c =
+pub returns-then-not-is_new : goal.returns-then-not-is_new
+returns-then-not-is_new c =
     let given : List Decision = case_of c.args.given.now in
     let all : List TreeStep = c.args.steps.now in
     let told : List listed.Step = steps_of all in
     let st = c.steps in
     let at = once_next c.args.directed given all (stack_of st.stack.items) st.count st.step-index c.step-item.result (code.Branch c.in-Branch.first c.in-Branch.second) c.steps-test.true c.step-item.is
     c.in-Branch.is st.invariant.so_far in
-    twice_found c.args.directed given told st.stack.items c.deref.result.now st.count c.in-Branch.first c.in-Branch.second (steps_of (drop (st.step-index + 1) all)) c.decides.result at c.deref.ensures.value
-    c.decides.ensures c.if-decides.true
+    let found = decided_by_set c.args.directed st.decided (stack_of st.stack.items ++ given) (c.in-Branch.first, c.in-Branch.second) c.key_of.result c.in_ok-is_new-in-Branch.is_new st.invariant.has c.key_of.ensures
+    c.in_ok-is_new-in-Branch.ensures.added in
+    twice_found c.args.directed given told st.stack.items st.count c.in-Branch.first c.in-Branch.second (steps_of (drop (st.step-index + 1) all)) at
+    (sym found ∙ ap not c.if-not-is_new.true)
 
-pub returns-then-not-next_case : goal.returns-then-not-next_case
-returns-then-not-next_case c =
+pub returns-then-not-leave_case : goal.returns-then-not-leave_case
+returns-then-not-leave_case c =
     let given : List Decision = case_of c.args.given.now in
     let all : List TreeStep = c.args.steps.now in
     let told : List listed.Step = steps_of all in
     let st = c.steps in
     let at = once_next c.args.directed given all (stack_of st.stack.items) st.count st.step-index c.step-item.result (code.Leaf c.in-Leaf.field-0) c.steps-test.true c.step-item.is c.in-Leaf.is
     st.invariant.so_far in
-    once_at_last c.args.directed given told (stack_of st.stack.items) st.count c.in-Leaf.field-0.items (steps_of (drop (st.step-index + 1) all)) at c.if-not-next_case.ensures.next.0
+    once_at_last c.args.directed given told (stack_of st.stack.items) st.count c.in-Leaf.field-0.items (steps_of (drop (st.step-index + 1) all)) at c.if-not-leave_case.ensures.next.0
 
 pub steps-preserved : goal.steps-preserved
 steps-preserved c =
@@ -37,20 +40,25 @@ steps-preserved c =
     let told : List listed.Step = steps_of all in
     let st = c.steps in
     elim c.match-step.branch [
-      | in-Branch+else-decides+in_ok-push-in-Branch w ↦
+      | in-Branch+in_ok-is_new-in-Branch+else-not-is_new+in_ok-push-in-Branch w ↦
           let at = once_next c.args.directed given all (stack_of st.stack.items) st.count st.step-index c.step-item.result (code.Branch w.in-Branch.first w.in-Branch.second) c.steps-test.true
           c.step-item.is w.in-Branch.is st.invariant.so_far in
-          rw (w.stack-is, w.count-is) (record {
-            so_far = once_pushed c.args.directed given told st.stack.items w.deref.result.now w.push.new.self.items st.count w.in-Branch.first w.in-Branch.second (steps_of (drop (st.step-index + 1) all))
-                w.decides.result at w.deref.ensures.value w.decides.ensures w.if-decides.false w.in_ok-push-in-Branch.ensures.items;
+          let found = decided_by_set c.args.directed st.decided (stack_of st.stack.items ++ given) (w.in-Branch.first, w.in-Branch.second) w.key_of.result w.in_ok-is_new-in-Branch.is_new st.invariant.has w.key_of.ensures
+          w.in_ok-is_new-in-Branch.ensures.added in
+          rw (w.stack-is, w.count-is, w.decided-is) (record {
+            so_far = once_pushed c.args.directed given told st.stack.items w.push.new.self.items st.count w.in-Branch.first w.in-Branch.second (steps_of (drop (st.step-index + 1) all))
+                at (sym found ∙ ap not w.if-not-is_new.false) w.in_ok-push-in-Branch.ensures.items;
+            has = pushed_decided c.args.directed st.decided w.insert.new.self st.stack.items w.push.new.self.items given (w.in-Branch.first, w.in-Branch.second) w.key_of.result w.key_of.ensures
+                w.in_ok-is_new-in-Branch.ensures.updates w.in_ok-push-in-Branch.ensures.items st.invariant.has;
             few = omega (arith, st.invariant.few);
           })
-      | in-Leaf+else-not-next_case w ↦
+      | in-Leaf+else-not-leave_case w ↦
           let at = once_next c.args.directed given all (stack_of st.stack.items) st.count st.step-index c.step-item.result (code.Leaf w.in-Leaf.field-0) c.steps-test.true c.step-item.is w.in-Leaf.is
           st.invariant.so_far in
-          rw (w.stack-is, w.count-is) (record {
-            so_far = once_at_leaf c.args.directed given told (stack_of st.stack.items) st.count w.in-Leaf.field-0.items (steps_of (drop (st.step-index + 1) all)) (stack_of w.next_case.new.stack.items) at
-                w.if-not-next_case.ensures.next;
+          rw (w.stack-is, w.count-is, w.decided-is) (record {
+            so_far = once_at_leaf c.args.directed given told (stack_of st.stack.items) st.count w.in-Leaf.field-0.items (steps_of (drop (st.step-index + 1) all)) (stack_of w.leave_case.new.stack.items) at
+                w.if-not-leave_case.ensures.next;
+            has = w.if-not-leave_case.ensures.set refl given (record { once = st.invariant.so_far.each.0; has = st.invariant.has });
             few = omega (arith, st.invariant.few);
           })
     ]

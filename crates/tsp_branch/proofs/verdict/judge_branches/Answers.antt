@@ -3,7 +3,7 @@ use Rattle.std.specs.Int.{w64}
 use Rattle.std.proofs.lemmas.Int.{to_z-of_z}
 use Rattle.tsp_format.specs.Steps.{steps_of}
 use Rattle.tsp_branch.specs.Combed.{plain}
-use Rattle.tsp_branch.specs.CombsOfSets.{combs_of}
+use Rattle.tsp_branch.specs.CombsOfSets.{combs_of_sets}
 use Rattle.tsp_branch.specs.GoodCombs.{AreCombsJudged}
 use Rattle.tsp_branch.specs.Decided.{case_of}
 use Rattle.tsp_branch.specs.Listed.{IsJudged, BoundsCycles}
@@ -27,7 +27,7 @@ returns-in-Bound-clause-verdict g c =
     let sets = plain c.args.sets.now in
     let steps = steps_of c.args.steps.now in
     let given = case_of c.args.given.now in
-    let combs = combs_of c.args.combs sets in
+    let combs = combs_of_sets c.args.combs sets in
     let scaled : FitsSigned w64 c.args.scale = search rules in
     let found = subst (IsJudged c.args.directed n (g.C.Costs.at c.args.costs.now) _ combs c.args.combs given steps) c.in-Bound.is c.in_ok-bound.ensures.judged in
     record {

@@ -3,7 +3,7 @@ use Rattle.std.specs.Prelude.{pos, negsuc}
 use Rattle.std.specs.List.{list_any}
 use Rattle.std.proofs.lemmas.Bool.{both_ways}
 use Rattle.tsp_theory.specs.Tree.{crosses, inner_pairs, IsLeastOneTree}
-use Rattle.tsp_theory.specs.Examples.{rectangle_costs, star_costs, costs_below_zero, rectangle, zeros, four, one_on_two, pairs_of}
+use Rattle.tsp_theory.specs.Examples.{rectangle_costs, star_costs, costs_below_zero, rectangle, zeros, four_numbers, one_on_two, pairs_of}
 use Rattle.tsp_theory.proofs.SmallTrees.{tree_so, bound_so, costs_even}
 use Rattle.tsp_theory.proofs.examples.examples_of_trees.Goals as goal
 
@@ -28,7 +28,7 @@ pub returns-clause-star_at_zero : goal.returns-clause-star_at_zero
 returns-clause-star_at_zero c = bound_so star_costs (pos 1) zeros 3 2 (pos 5) (search rules) (search rules)
 
 pub returns-clause-star_at_ones : goal.returns-clause-star_at_ones
-returns-clause-star_at_ones c = bound_so star_costs (pos 1) (four (pos 1) (pos 1) (pos 1) (pos 1)) 3 2 (pos 5) (search rules) (search rules)
+returns-clause-star_at_ones c = bound_so star_costs (pos 1) (four_numbers (pos 1) (pos 1) (pos 1) (pos 1)) 3 2 (pos 5) (search rules) (search rules)
 
 pub returns-clause-star_at_a_half : goal.returns-clause-star_at_a_half
 returns-clause-star_at_a_half c = bound_so star_costs (pos 2) one_on_two 3 2 (pos 6) (search rules) (search rules)

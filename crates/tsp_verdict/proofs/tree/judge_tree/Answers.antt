@@ -13,7 +13,7 @@ use Rattle.tsp_branch.specs.declared.steps.BranchVerdict.TheVariants as found
 use Rattle.tsp_branch.specs.BranchVerdicts.{IsBranchVerdict, IsSizedVerdict}
 use Rattle.tsp_branch.specs.Combed.{plain}
 use Rattle.tsp_branch.specs.Decided.{case_of}
-use Rattle.tsp_branch.specs.Listed.{no_numbers_of, IsStepOf}
+use Rattle.tsp_branch.specs.Listed.{IsStepOf}
 use Rattle.tsp_branch.specs.Sets.{AreSetsOf}
 use Rattle.tsp_verdict.specs.Solution.{nodes_of}
 use Rattle.tsp_verdict.proofs.FilesHold.{steps_hold, steps_few}
@@ -140,7 +140,7 @@ overflow_cast-result-in-BranchTwice g c =
     let steps = steps_of c.args.tree.now.steps.now in
     let given = case_of c.deref-2.result.now in
     let is = subst (IsBranchVerdict c.is_directed-directed.result _ _ _ _ _ given steps) c.in-BranchTwice.is c.in_ok-bound.ensures.verdict in
-    omega (arith, twice_within c.is_directed-directed.result 0 (given ∷ []) steps c.in-BranchTwice.index is.1, length-map c.args.tree.now.steps.now step_of, steps_few c.args.branches.now c.args.tree.now.steps.now c.requires.held.each_step)
+    omega (arith, twice_within c.is_directed-directed.result given steps c.in-BranchTwice.index is.1, length-map c.args.tree.now.steps.now step_of, steps_few c.args.branches.now c.args.tree.now.steps.now c.requires.held.each_step)
 
 pub returns-in-BranchTwice : goal.returns-in-BranchTwice
 returns-in-BranchTwice g c =
@@ -166,7 +166,7 @@ overflow_cast-result-in-BadLeaf g c =
     let count = length c.args.tree.now.combs.now in
     let steps = steps_of c.args.tree.now.steps.now in
     let is = subst (IsBranchVerdict c.is_directed-directed.result n _ _ count _ _ steps) c.in-BadLeaf.is c.in_ok-bound.ensures.verdict in
-    omega (arith, bad_within n count (no_numbers_of n count) 0 steps c.in-BadLeaf.index is.leaves, length-map c.args.tree.now.steps.now step_of, steps_few c.args.branches.now c.args.tree.now.steps.now c.requires.held.each_step)
+    omega (arith, bad_within n count steps c.in-BadLeaf.index is.leaves, length-map c.args.tree.now.steps.now step_of, steps_few c.args.branches.now c.args.tree.now.steps.now c.requires.held.each_step)
 
 pub returns : goal.returns
 returns g c =

@@ -3,8 +3,8 @@ use Rattle.std.specs.Prelude.{pos, ◌-ℤ◌, slice_index_or}
 use Rattle.std.proofs.lemmas.Bool.{false≢true}
 use Rattle.std.proofs.lemmas.Int.{ints, to_z-of_z}
 use Rattle.std.proofs.lemmas.List.{get_or_default}
-use Rattle.tsp_bound.specs.Boxes.{node_at}
-use Rattle.tsp_bound.specs.Multipliers.{triples_in, nodes_in, weight_less}
+use Rattle.tsp_bound.specs.Boxes.{node_of}
+use Rattle.tsp_bound.specs.Multipliers.{triples_in, node_count, weight_less}
 use Rattle.tsp_bound.specs.Potentials.{weight_under}
 use Rattle.tsp_theory.specs.Tree.{IsInner}
 use Rattle.tsp_bound.proofs.Boxed.{less_seen, not_less_seen}
@@ -26,7 +26,7 @@ lowerings-preserved g c =
     let n = g.C.Costs.nodes s.c.now in
     let w = weight_under s.p (g.C.Costs.at s.c.now) in
     let v = weight_less s.p (triples_in s.m.now) (g.C.Costs.at s.c.now) in
-    let node : ℕ = node_at s.order.now c.args.from in
+    let node : ℕ = node_of s.order.now c.args.from in
     let lowerings = c.at-lowering-items.result.now in
     let are = c.at-lowering-items.ensures.are in
     let index : ℕ = c.lowerings.lowering-index in
@@ -45,7 +45,7 @@ lowerings-preserved g c =
           let better : to_z w64 (of_z w64 lower) ≤ℤ best.weight = less_seen (to_z w64 (of_z w64 lower)) best.weight best_fits u.if-weight-best.true in
           let back : to_z w64 (of_z w64 lower) ≡ lower = to_z-of_z w64 lower fits in
           let found = u.in-Some.ensures in
-          rw u.best-is (lowest_taken n (nodes_in s.m.now) w v lowerings s.order.now s.places.now s.outside.items node index c.args.unlowered best _ entry.0
+          rw u.best-is (lowest_taken n (node_count s.m.now) w v lowerings s.order.now s.places.now s.outside.items node index c.args.unlowered best _ entry.0
           entry.1 places are less c.lowerings-test.true is
           (subst (λ (k : ℕ). IsInner k entry.0) s.over found.0) found.1 found.2 (back ∙ value) (subst (FitsSigned w64) (sym back) fits) better c.lowerings.invariant)
       | in-Some+else-weight-best u ↦
@@ -66,9 +66,9 @@ returns g c =
     let n = g.C.Costs.nodes s.c.now in
     let w = weight_under s.p (g.C.Costs.at s.c.now) in
     let v = weight_less s.p (triples_in s.m.now) (g.C.Costs.at s.c.now) in
-    let node : ℕ = node_at s.order.now c.args.from in
+    let node : ℕ = node_of s.order.now c.args.from in
     let lowerings = c.at-lowering-items.result.now in
     let less : AreLess w v lowerings node = record { less = λ x. let sum = c.at-lowering-items.ensures.sums x in omega (arith, ints, sum) } in
     let places : ArePlaces n s.order.now s.places.now = record { inner = s.inner; placed = s.placed; back = s.back; there = s.there } in
-    lowest_end n (nodes_in s.m.now) w v lowerings s.order.now s.places.now s.outside.items node c.lowerings.lowering-index c.args.unlowered c.lowerings.best (omega arith) places
+    lowest_end n (node_count s.m.now) w v lowerings s.order.now s.places.now s.outside.items node c.lowerings.lowering-index c.args.unlowered c.lowerings.best (omega arith) places
     c.at-lowering-items.ensures.are less c.requires.best c.lowerings.invariant

@@ -13,7 +13,7 @@ use Rattle.tsp_branch.specs.Decisions.{Decision}
 use Rattle.tsp_branch.specs.LeafBound.{combed, least_of}
 use Rattle.tsp_branch.specs.Certificate.{multiplied}
 use Rattle.tsp_branch.specs.Combed.{plain, set_weight}
-use Rattle.tsp_branch.specs.CombsOfSets.{combs_of, AreSetCounts}
+use Rattle.tsp_branch.specs.CombsOfSets.{combs_of_sets, AreSetCounts}
 use Rattle.tsp_branch.specs.Decided.{decided_number, case_of, stack_of}
 use Rattle.tsp_branch.proofs.CaseWeights.{small_multipliers, few_crossings, sets_below_count, row_weight, found_by_rows}
 use Rattle.tsp_branch.proofs.setting.Setting.bound_by_rows.Goals as goal
@@ -31,7 +31,7 @@ of-combed-requires-clause-crossed g c =
     let sets : List (ℕ × Vec ℕ) = p.sets.now in
     let ms : List ℤ = c.args.multipliers.now in
     let good = c.requires.numbers in
-    few_crossings n p.combs c.args.potentials.now ms (plain sets) good (subst (λ (k : ℕ). All (IsFamily n) (combs_of k (plain sets))) (sym good.each_comb) c.requires.are_families)
+    few_crossings n p.combs c.args.potentials.now ms (plain sets) good (subst (λ (k : ℕ). All (IsFamily n) (combs_of_sets k (plain sets))) (sym good.each_comb) c.requires.are_families)
     (sets_below_count p.combs (length ms) sets good.each_comb p.of_combs)
 
 pub returns-clause-bound : goal.returns-clause-bound
@@ -44,7 +44,7 @@ returns-clause-bound g c =
     let ms : List ℤ = c.args.multipliers.now in
     let case : List Decision = stack_of c.args.decisions.now ++ case_of p.given.now in
     let good = c.requires.numbers in
-    let families : List (Comb × ℤ) = multiplied (combs_of p.combs (plain sets)) ms in
+    let families : List (Comb × ℤ) = multiplied (combs_of_sets p.combs (plain sets)) ms in
     let q = c.of-combed.result in
     let w : ℕ → ℕ → ℤ = set_weight q.scale q.potentials.now q.multipliers.now (plain q.sets.now) (g.C.Costs.at q.costs.now) in
     let below = sets_below_count p.combs (length ms) sets good.each_comb p.of_combs in
@@ -57,6 +57,6 @@ returns-clause-bound g c =
     let counted = subst (λ (k : ℕ). AreSetCounts k (plain sets) p.counts.now) (sym good.each_comb) p.counted in
     let back_is : to_z w128 (of_z w128 back) ≡ least_of families -ℤ (pos 2 *ℤ total ps) =
     to_z-of_z w128 back fits ∙ c.given_back-back.ensures.value (plain sets) counted
-    ∙ ap (λ (k : ℕ). least_of (multiplied (combs_of k (plain sets)) ms) -ℤ (pos 2 *ℤ total ps)) good.each_comb in
-    found_by_rows n (g.C.Costs.nodes q.costs.now) cost p.scale _ decided_number (combs_of p.combs (plain sets)) case ps ms w _ c.row_bound.result c.of-combed.ensures.nodes
+    ∙ ap (λ (k : ℕ). least_of (multiplied (combs_of_sets k (plain sets)) ms) -ℤ (pos 2 *ℤ total ps)) good.each_comb in
+    found_by_rows n (g.C.Costs.nodes q.costs.now) cost p.scale _ decided_number (combs_of_sets p.combs (plain sets)) case ps ms w _ c.row_bound.result c.of-combed.ensures.nodes
     (same_scale p.scale p.scaled) agree back_is c.row_bound.ensures.bound

@@ -12,7 +12,7 @@ use Rattle.tsp_branch.specs.LeafBound.{IsLeafBound}
 use Rattle.tsp_branch.specs.Certificate.{multiplied}
 use Rattle.tsp_branch.specs.Weighed.{BoundsEachLeaf, given_back_of}
 use Rattle.tsp_branch.specs.Combed.{plain, set_weight}
-use Rattle.tsp_branch.specs.CombsOfSets.{combs_of, AreSetCounts}
+use Rattle.tsp_branch.specs.CombsOfSets.{combs_of_sets, AreSetCounts}
 use Rattle.tsp_branch.specs.Decided.{decided_number, case_of, stack_of, decided_twice}
 use Rattle.tsp_branch.proofs.LeafBounds.{leaf_even}
 use Rattle.tsp_branch.proofs.DecidedOnce.{few_changes}
@@ -33,7 +33,7 @@ of-combed-requires-clause-crossed g c =
     let sets : List (ℕ × Vec ℕ) = p.sets.now in
     let ms : List ℤ = c.args.multipliers.now in
     let good = c.requires.numbers in
-    few_crossings n p.combs c.args.potentials.now ms (plain sets) good (subst (λ (k : ℕ). All (IsFamily n) (combs_of k (plain sets))) (sym good.each_comb) c.requires.are_families)
+    few_crossings n p.combs c.args.potentials.now ms (plain sets) good (subst (λ (k : ℕ). All (IsFamily n) (combs_of_sets k (plain sets))) (sym good.each_comb) c.requires.are_families)
     (sets_below_count p.combs (length ms) sets good.each_comb p.of_combs)
 
 pub of-weights-requires-clause-once : goal.of-weights-requires-clause-once
@@ -52,7 +52,7 @@ leaf_bound-requires-clause-even g c =
     let q = c.of-combed.result in
     let w : ℕ → ℕ → ℤ = set_weight q.scale q.potentials.now q.multipliers.now (plain q.sets.now) (g.C.Costs.at q.costs.now) in
     let below = sets_below_count p.combs (length ms) sets c.requires.numbers.each_comb p.of_combs in
-    let combs : List (Comb × ℤ) = multiplied (combs_of (length ms) (plain sets)) ms in
+    let combs : List (Comb × ℤ) = multiplied (combs_of_sets (length ms) (plain sets)) ms in
     let agree = λ (i j : ℕ). c.of-weights.ensures.weights i j ∙ case_weight w p.scale ps ms (plain sets) given ds cost i j below
     (c.of-combed.ensures.weights i j ∙ ap (λ (z : ℤ). set_weight z ps ms (plain sets) cost i j) (same_scale p.scale p.scaled)) in
     λ i j. agree i j ∙ leaf_even p.scale ps (on_taken decided_number case) (on_avoided decided_number case) combs cost (p.even c.requires.undirected) i j ∙ sym (agree j i)
@@ -71,7 +71,7 @@ returns-clause-bound g c =
     let q = c.of-combed.result in
     let w : ℕ → ℕ → ℤ = set_weight q.scale q.potentials.now q.multipliers.now (plain q.sets.now) (g.C.Costs.at q.costs.now) in
     let below = sets_below_count p.combs (length ms) sets c.requires.numbers.each_comb p.of_combs in
-    let combs : List (Comb × ℤ) = multiplied (combs_of (length ms) (plain sets)) ms in
+    let combs : List (Comb × ℤ) = multiplied (combs_of_sets (length ms) (plain sets)) ms in
     let agree = λ (i j : ℕ). c.of-weights.ensures.weights i j ∙ case_weight w p.scale ps ms (plain sets) given ds cost i j below
     (c.of-combed.ensures.weights i j ∙ ap (λ (z : ℤ). set_weight z ps ms (plain sets) cost i j) (same_scale p.scale p.scaled)) in
     let nodes_are = c.of-weights.ensures.nodes ∙ c.of-combed.ensures.nodes in
@@ -89,6 +89,6 @@ returns-clause-bound g c =
     (λ (bound : ℤ) bounds.
     let whole : BoundsEachLeaf k v p.scale back bound = subst (λ (z : ℤ). BoundsEachLeaf k v z back bound) (same_scale p.scale p.scaled) bounds in
     let own = whole cost ps (on_taken decided_number case) (on_avoided decided_number case) combs agree back_is in
-    subst (λ (k : ℕ). IsLeafBound n cost p.scale ps (on_taken decided_number case) (on_avoided decided_number case) (multiplied (combs_of k (plain sets)) ms) bound) c.requires.numbers.each_comb
+    subst (λ (k : ℕ). IsLeafBound n cost p.scale ps (on_taken decided_number case) (on_avoided decided_number case) (multiplied (combs_of_sets k (plain sets)) ms) bound) c.requires.numbers.each_comb
     (subst (λ (m : ℕ). IsLeafBound m cost p.scale ps (on_taken decided_number case) (on_avoided decided_number case) combs bound) nodes_are own))
     c.leaf_bound.ensures.leaf

@@ -1,4 +1,4 @@
-use Rattle.tsp_cost.proofs.Distances.{DistanceLaws, distance_symmetric}
+use Rattle.tsp_file.proofs.Distances.{DistanceLaws, distance_symmetric}
 use Rattle.tsp_cost.proofs.points.Points.of.Goals as goal
 
 pub invariant_of-result : goal.invariant_of-result

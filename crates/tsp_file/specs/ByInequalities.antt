@@ -1,0 +1,18 @@
+-- The distance by each weight type as its inequalities say it, which the functions that compute it need not be read for.
+use Rattle.std.specs.Prelude.{ℕ}
+use Rattle.tsp_distance.specs.declared.decimal.Point.{Point}
+use Rattle.tsp_distance.specs.Distances.{IsEuc2d, IsCeil2d, IsMan2d, IsMax2d, IsAtt, IsEuc3d, IsMan3d, IsMax3d}
+use Rattle.tsp_format.specs.declared.kinds.WeightKind.{WeightKind}
+use Rattle.tsp_format.specs.declared.kinds.WeightKind.TheVariants.{Explicit, Euc2d, Ceil2d, Man2d, Max2d, Att, Euc3d, Man3d, Max3d}
+
+-- k is the distance by the weight type, if it is one
+abbrev pub IsDistanceBy : WeightKind → Point → Point → ℕ → Type 0
+IsDistanceBy Euc2d a b k = IsEuc2d a b k
+IsDistanceBy Ceil2d a b k = IsCeil2d a b k
+IsDistanceBy Man2d a b k = IsMan2d a b k
+IsDistanceBy Max2d a b k = IsMax2d a b k
+IsDistanceBy Att a b k = IsAtt a b k
+IsDistanceBy Euc3d a b k = IsEuc3d a b k
+IsDistanceBy Man3d a b k = IsMan3d a b k
+IsDistanceBy Max3d a b k = IsMax3d a b k
+IsDistanceBy Explicit a b k = ⊥
