@@ -142,11 +142,14 @@ fn bring<C: Costs>(
 {
     let mut nearest: Option<u32> = None;
     let mut best = i64::MAX;
-    let own = w.p.number(next);
-    'nodes: for node in 2..w.c.count() + 1 {
+    // Out of the loop, which writes to other memory.
+    let c = w.c;
+    let p = w.p;
+    let own = p.number(next);
+    'nodes: for node in 2..c.count() + 1 {
         let place = node as usize;
         if !inside[place] {
-            let weight = w.p.weight_from(w.c, own, next, node);
+            let weight = p.weight_from(c, own, next, node);
             let kept = take_nearer(&mut near[place], &mut least[place], next, weight);
             if kept < best {
                 best = kept;

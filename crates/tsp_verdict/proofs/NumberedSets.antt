@@ -9,7 +9,7 @@ use Rattle.std.proofs.lemmas.List.Elements.{All-append, All-map, All-head, All-t
 use Rattle.std.proofs.lemmas.List.Kept.{AllPairs-cons}
 use Rattle.std.proofs.lemmas.List.Sums.{sum_by-cons}
 use Rattle.tsp_format.specs.Cells.{IsNode}
-use Rattle.tsp_draft.specs.Fields.{combs_of_sets as lists_of_combs}
+use Rattle.tsp_draft.specs.Fields.{combs_of as lists_of_combs}
 use Rattle.tsp_draft.specs.Valid.{IsSetOf, AreSets}
 use Rattle.tsp_branch.specs.Sets.{AreSetsOf}
 use Rattle.tsp_branch.specs.Combed.{plain}

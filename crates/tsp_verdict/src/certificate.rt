@@ -14,7 +14,7 @@ ghost use Rattle.tsp_cost.specs.Views.{HasCosts, Shows, ShowsEven};
 ghost use Rattle.tsp_theory.specs.Adjusted.{AreOnPairs};
 ghost use Rattle.tsp_bound.specs.Duals.{dual_scale as scale_of_duals, rows_of, columns_of};
 ghost use Rattle.tsp_bound.specs.Multipliers.{triples_of};
-ghost use Rattle.tsp_bound.specs.Potentials.{dual_scale, numbers_of};
+ghost use Rattle.tsp_bound.specs.Potentials.{scale_of, numbers_of};
 ghost use Rattle.tsp_verdict.specs.Reasons.{IsFirstReason};
 ghost use Rattle.tsp_verdict.specs.Solution.{nodes_of, fixed_of};
 ghost use Rattle.tsp_verdict.specs.Certificate.{has_wanted, scale_in, rows_in, columns_in, multipliers_in, StandsAgainstPotentials};
@@ -130,7 +130,7 @@ fn node_numbers(pot: &File) -> Option<NodeNumbers<'_>>
     ensures { MatchOption result
         (has_wanted (Some kinds.Tsp) pot.now ≡ false)
         (λ numbers. (has_wanted (Some kinds.Tsp) pot.now ≡ true)
-        × HoldsNodeNumbers pot.now (dual_scale numbers.potentials) (numbers_of numbers.potentials)
+        × HoldsNodeNumbers pot.now (scale_of numbers.potentials) (numbers_of numbers.potentials)
         numbers.triples.now × (triples_of numbers.multipliers ≡ numbers.triples.now)) }
 {
     let held = pot.as_node_potentials()?;
@@ -242,7 +242,7 @@ fn bound_of_potentials(
     requires some { 3 ≤ nodes_of inst.now }
     requires shows { ShowsEven inst.now view }
     requires count { nodes_of pot.now ≡ nodes_of inst.now }
-    requires held { HoldsNodeNumbers pot.now (dual_scale numbers.now.potentials)
+    requires held { HoldsNodeNumbers pot.now (scale_of numbers.now.potentials)
         (numbers_of numbers.now.potentials) (triples_of numbers.now.multipliers) }
     requires even { IsSymmetric (cost inst.now) }
     requires on_pairs { AreOnPairs (nodes_of inst.now) (multipliers_in pot.now) }
@@ -269,7 +269,7 @@ fn tree_bound<C: Grouped>(
     requires kind { inst.now.kind ≡ Some kinds.Tsp }
     requires some { 3 ≤ nodes_of inst.now }
     requires count { nodes_of pot.now ≡ nodes_of inst.now }
-    requires held { HoldsNodeNumbers pot.now (dual_scale numbers.now.potentials)
+    requires held { HoldsNodeNumbers pot.now (scale_of numbers.now.potentials)
         (numbers_of numbers.now.potentials) (triples_of numbers.now.multipliers) }
     requires even { IsSymmetric (cost inst.now) }
     requires on_pairs { AreOnPairs (nodes_of inst.now) (multipliers_in pot.now) }
