@@ -7,7 +7,7 @@ ghost use Rattle.tsp_format.specs.Limits.{most_coordinate};
 ghost use Rattle.tsp_draft.specs.declared.fault.EndFault.TheVariants as ends;
 ghost use Rattle.tsp_draft.specs.declared.fault.DraftFault.TheVariants as drafts;
 ghost use Rattle.tsp_draft.specs.Fields.{blank_fields};
-ghost use Rattle.tsp_draft.specs.Validity.{is_kept, are_comments, are_others, is_within, is_demand, is_node, is_node_pair, are_weights, are_depots, are_fixed, is_triple, are_triples, is_change};
+ghost use Rattle.tsp_draft.specs.Validity.{is_kept, are_comments, are_others, is_within, is_third, is_demand, is_node, is_node_pair, are_weights, are_depots, are_fixed, is_triple, are_triples, is_tour, is_set, is_comb, is_change};
 ghost use Rattle.tsp_draft.specs.FaultText.{end_fault_text, draft_fault_text};
 ghost use Rattle.tsp_draft.specs.Rules.{fault_of, end_fault, standing_of};
 ghost use Rattle.tsp_draft.specs.Examples.{directed_matrix, plane, no_nodes, one_weight, bare_routes, routing_nodes, routing_listed, routing_full, routing_capacity, routing_weights, routing_demands, routing_depots, routing_plane, bare_tours, touring_weights, touring_whole, touring_function, touring_surplus, bare_potentials, with_node_numbers, with_column_numbers, with_row_numbers, with_both_numbers, with_all_numbers, with_both_and_pairs, with_all_and_weights, bare_tree};
@@ -30,6 +30,9 @@ pub fn examples_of_validity()
     ensures larger_coordinate { is_within most_coordinate (pos (10 ^ 18 + 1)) ≡ false }
     ensures smallest_coordinate { is_within most_coordinate (negsuc (10 ^ 18 - 1)) ≡ true }
     ensures smaller_coordinate { is_within most_coordinate (negsuc (10 ^ 18)) ≡ false }
+    ensures third_in_space { is_third true (pos 1) ≡ true }
+    ensures third_in_the_plane { is_third false (pos 1) ≡ false }
+    ensures none_in_the_plane { is_third false (pos 0) ≡ true }
     ensures largest_demand { is_demand (pos (10 ^ 9)) ≡ true }
     ensures larger_demand { is_demand (pos (10 ^ 9 + 1)) ≡ false }
     ensures demand_below_zero { is_demand (negsuc 0) ≡ false }
@@ -53,6 +56,12 @@ pub fn examples_of_validity()
     ensures past_the_nodes { is_node 3 4 ≡ false }
     ensures node_zero { is_node 3 0 ≡ false }
     ensures node_with_itself { is_node_pair 3 (2, 2) ≡ false }
+    ensures tour_of_one { is_tour (1 ∷ []) ≡ true }
+    ensures empty_tour { is_tour [] ≡ false }
+    ensures set_of_one { is_set 3 (3 ∷ []) ≡ true }
+    ensures empty_set { is_set 3 [] ≡ false }
+    ensures comb_of_a_set { is_comb 3 ((3 ∷ []) ∷ []) ≡ true }
+    ensures empty_comb { is_comb 3 [] ≡ false }
 {}
 
 /// The first faults of small files.
