@@ -78,7 +78,7 @@ fn first_broken_of_row<C: Costs>(c: &C, d: &Duals, i: u32) -> Option<u32>
     None
 }
 
-/// Whether the number of row i, which the caller hands in, and column j sum to at most the cost.
+/// Whether the number of row i, which the caller passes, and column j sum to at most the cost.
 ///
 /// The limits of certificates and of weights let both sides fit 64 bits.
 #[inline]

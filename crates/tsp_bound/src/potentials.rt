@@ -59,7 +59,7 @@ impl<'a> Potentials<'a> {
         self.weight_from(c, self.number(i), i, j)
     }
 
-    /// The same, where the caller hands in the potential of the first node: a loop over all pairs of
+    /// The same, where the caller passes the potential of the first node: a loop over all pairs of
     /// one node reads it once.
     #[inline]
     pub(crate) fn weight_from<C: Costs>(&self, c: &C, own: i64, i: u32, j: u32) -> i64

@@ -17,7 +17,7 @@ use Rattle.tsp_branch.proofs.Cases.{stacks_hold_cases}
 use Rattle.tsp_branch.proofs.NextCases.{stack_more}
 use Rattle.tsp_branch.proofs.OnePass.{AreGoodFrom, IsFirstBadFrom, all_good_by_place}
 
--- ---- the least of what is known and of leaves, whatever is found of a leaf
+-- ---- the least of the known bounds and of leaves, whatever is found of a leaf
 
 module _ (Found : List Decision × LeafNumbers → Option ℤ → Type 0) where
   -- the leaves that are left, and the lowest bound so far, come to this

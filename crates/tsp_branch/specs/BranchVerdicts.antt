@@ -13,7 +13,7 @@ use Rattle.tsp_branch.specs.GoodCombs.{AreCombsJudged}
 use Rattle.tsp_branch.specs.Listed.{IsJudged}
 use Rattle.tsp_branch.specs.Twice.{AreBranchesJudged}
 
--- what is judged of the leaves, where the sets are those of families and no branch comes twice
+-- the judgement on the leaves, where the sets are those of families and no branch comes twice
 pub record AreLeavesJudged (directed : Bool) (n : ℕ) (cost : ℕ → ℕ → ℤ) (scale : ℤ) (combs : ℕ) (sets : List (ℕ × List ℕ))
     (given : List Decision) (steps : List listed.Step) (found : Judged) : Type 0 where
   pub are_combs : AreCombsJudged n combs sets None

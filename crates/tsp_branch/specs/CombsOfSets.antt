@@ -25,12 +25,12 @@ combs_from first (suc count) sets = comb_with (of_comb first sets) ∷ combs_fro
 abbrev pub combs_of_sets : ℕ → List (ℕ × List ℕ) → List Comb
 combs_of_sets count sets = combs_from 0 count sets
 
--- how many sets each of so many combs has
+-- how many sets each comb has
 pub record AreSetCounts (combs : ℕ) (sets : List (ℕ × List ℕ)) (counts : List ℕ) : Type 0 where
   pub many : length counts ≡ combs
   pub each : (comb default : ℕ) → comb < combs → slice_index_or counts comb default ≡ length (of_comb comb sets)
 
--- the least crossings of families that have so many sets, each times its multiplier
+-- the least crossings of families with these numbers of sets, each times its multiplier
 abbrev pub least_with : List ℕ → List ℤ → ℤ
 least_with [] multipliers = pos 0
 least_with (count ∷ counts) [] = pos 0

@@ -1,4 +1,4 @@
--- Which comb is bad: families are told by sets of nodes, and these need not be those of a lone set or a comb.
+-- Which comb is bad: families are given by sets of nodes, and these need not be those of a lone set or a comb.
 use Rattle.std.specs.Prelude.{◌≡◌, ◌≢◌, ℕ, ◌+◌, ◌*◌, ◌≤◌, ◌<◌, List, map, Option, None, Some}
 use Rattle.std.specs.Global.{Vec}
 use Rattle.std.specs.List.{All, AllPairs}
@@ -25,7 +25,7 @@ pub record IsFirstBadComb (n combs : ℕ) (sets : List (ℕ × List ℕ)) (first
   pub before : (comb : ℕ) → comb + 1 < first → IsGoodComb n (of_comb comb sets)
   pub bad : (comb : ℕ) → comb + 1 ≡ first → IsGoodComb n (of_comb comb sets) → ⊥
 
--- Where none is bad, the sets are those of families, each with its nodes once; else the first bad one is told.
+-- Where none is bad, the sets are those of families, each with its nodes once; else the first bad one is reported.
 abbrev pub AreCombsJudged : ℕ → ℕ → List (ℕ × List ℕ) → Option ℕ → Type 0
 AreCombsJudged n combs sets None = ((comb : ℕ) → comb < combs → IsGoodComb n (of_comb comb sets))
     × All (IsFamily n) (combs_of_sets combs sets) × All (λ set. HasEachOnce set.1) sets

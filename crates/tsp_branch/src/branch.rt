@@ -29,17 +29,21 @@ use tsp_format::TreeStep;
 use tsp_theory::Costs;
 
 /// The bound of a tree of cases: the least of the bounds of its leaves, which is at most the length
-/// of every cycle that keeps the given decisions, or none where no leaf has one. Or the first leaf that isn't good: one with an
-/// index past those of the nodes and the combs, with a potential above 10^15 in size, with a
-/// negative multiplier, or with multipliers that sum to more than 3 * 10^17.
+/// of every cycle that keeps the given decisions, or none where no leaf has one. Or the first leaf
+/// that isn't good: one with an index past those of the nodes and the combs, with a potential above
+/// 10^15 in size, with a negative multiplier, or with multipliers that sum to more than 3 * 10^17.
 ///
 /// Where pairs have no direction the bound of a leaf is that of a least 1-tree, else that of the
 /// least link from each node.
 ///
-/// The combs are told by their sets, each with the number of its comb from 0 on, the handle before
-/// the teeth. A lone set is a handle without teeth. The caller owes three or more nodes, costs that
-/// are the same in both directions where pairs have none, a scale of 1 to 1,000,000, combs, sets and
-/// decisions of nodes, one whole tree of branches, and that no case decides a pair twice.
+/// The combs are given by their sets, each with the number of its comb from 0 on, the handle before
+/// the teeth. A lone set is a handle without teeth.
+///
+/// # Requires
+///
+/// Three or more nodes, costs that are the same in both directions where pairs have none, a scale of
+/// 1 to 1,000,000, combs, sets and decisions of nodes, one whole tree of branches, and that no case
+/// decides a pair twice.
 ///
 /// # Errors
 ///
@@ -136,7 +140,7 @@ fn judge_leaves<C: Costs>(
     unreachable!()
 }
 
-/// What is judged of a leaf, whose numbers are kept where they are good.
+/// The judgement on a leaf, whose numbers are kept where they are good.
 ///
 /// # Errors
 ///

@@ -7,7 +7,7 @@ ghost use Rattle.tsp_branch.specs.CombsOfSets.{AreSetCounts};
 
 use std::alloc::{AllocError, Global};
 
-/// How many sets each of so many families has.
+/// How many sets each family has.
 ///
 /// # Errors
 ///

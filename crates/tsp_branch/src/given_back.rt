@@ -17,8 +17,10 @@ use crate::decided::DECIDED;
 /// The least crossings of a leaf's families, each times its multiplier, less each potential twice:
 /// at most 2^98 in size.
 ///
-/// The caller owes how many sets each family has, and multipliers that aren't negative and sum to
-/// at most 3 * 10^17.
+/// # Requires
+///
+/// The number of sets of each family, and multipliers that aren't negative and sum to at most
+/// 3 * 10^17.
 pub(crate) fn given_back(potentials: &[i64], multipliers: &[i64], counts: &[u32]) -> i128
     requires few_potentials { length potentials.now < 2 ^ 32 }
     requires few_multipliers { length multipliers.now < 2 ^ 32 }
@@ -33,7 +35,7 @@ pub(crate) fn given_back(potentials: &[i64], multipliers: &[i64], counts: &[u32]
     multiplied_crossings(counts, multipliers) - 2 * total(potentials)
 }
 
-/// The least crossings of families that have so many sets, each times its multiplier.
+/// The least crossings of families with these numbers of sets, each times its multiplier.
 fn multiplied_crossings(counts: &[u32], multipliers: &[i64]) -> i128
     requires as_many { length counts.now ≡ length multipliers.now }
     requires signs { All (λ multiplier. pos 0 ≤ℤ multiplier) multipliers.now }
@@ -48,7 +50,7 @@ fn multiplied_crossings(counts: &[u32], multipliers: &[i64]) -> i128
     sum
 }
 
-/// How often a cycle crosses a family of so many sets at the least: twice a lone set, and 3k + 1
+/// How often a cycle crosses a family of `sets` sets at the least: twice a lone set, and 3k + 1
 /// times the handle and the k teeth of a comb.
 fn least_crossings(sets: u32) -> u64
     ensures value { result ≡ least_crossings_of (sets - 1) }

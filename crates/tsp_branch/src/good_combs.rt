@@ -19,8 +19,12 @@ use std::alloc::{AllocError, Global};
 /// twice in a set, two teeth with a node in common, or a tooth inside the handle or outside of it.
 /// `None` where all are families.
 ///
-/// The families are told by their sets, each with the number of its family from 0 on, family by
-/// family, the handle before the teeth. The caller owes sets of nodes.
+/// The families are given by their sets, each with the number of its family from 0 on, family by
+/// family, the handle before the teeth.
+///
+/// # Requires
+///
+/// Sets of nodes.
 ///
 /// # Errors
 ///

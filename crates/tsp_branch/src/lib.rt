@@ -1,10 +1,11 @@
-//! Lower bounds by branching: combs, and cases by pairs of nodes, as theorems and as code.
+//! Lower bounds by branching: families (lone sets and combs), and cases by pairs of nodes, as theorems
+//! and as code. There are two relaxations: least 1-trees, and the least arc from each node.
 //!
 //! [`judge_branches`] finds the bound of a certificate, or what is wrong with it first. It searches
 //! for no certificates, and knows costs by their traits only.
 //!
 //! ```text
-//! let verdict = judge_branches(alloc, &costs, scale, combs, &sets, &given, &steps)?;
+//! let verdict = judge_branches(alloc, &costs, directed, scale, combs, &sets, &given, &steps)?;
 //! ```
 #![tactic(auto)]
 

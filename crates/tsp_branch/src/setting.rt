@@ -18,9 +18,9 @@ use crate::rows::row_bound;
 use std::alloc::{AllocError, Global};
 use tsp_theory::Costs;
 
-/// Costs, and whether pairs have a direction; a scale, so many families by their sets, each with
-/// the number of its family, by node the numbers of its sets and by family how many it has; and the
-/// decisions that are given for all leaves.
+/// What all leaves share: costs, and whether pairs have a direction; a scale; families by their
+/// sets, each with the number of its family; the sets of each node and the number of sets of each
+/// family; and the given decisions.
 ///
 /// Where pairs have no direction the costs are the same in both, and the bound of a leaf is that of
 /// a least 1-tree; else it is that of the least link from each node.
@@ -60,8 +60,11 @@ impl<C: Costs> Setting<'_, C> {
     ghost use Rattle.tsp_branch.specs.Judged.{AreGoodNumbers, as_leaf_numbers};
 
     /// The bound of the leaf with these numbers and decisions; `None` where it has none, since some
-    /// node has no link that these allow. Two rows are lent, which are written over. The caller owes
-    /// that the sets are those of families.
+    /// node has no link that these allow. Two rows are lent, which are written over.
+    ///
+    /// # Requires
+    ///
+    /// Sets of families.
     ///
     /// # Errors
     ///
@@ -167,7 +170,7 @@ impl<C: Costs> Setting<'_, C> {
             result }
         ensures size { IfSome result IsBoundSized }
     {
-        // That there are at most 100,000 nodes is told by the count.
+        // The contract of `count` says that there are at most 100,000 nodes.
         self.costs.count();
         fill_moved(moved, potentials, self.sets, multipliers);
         let combed = CombedWeights::of(

@@ -10,7 +10,7 @@ pub enum Judged {
     BadLeaf(usize),
 }
 
-/// What is judged of a leaf.
+/// The judgement on a leaf.
 #[derive(Drop)]
 pub(crate) enum JudgedLeaf {
     /// Its numbers are good, and this is its bound. `None` where it has none: then no cycle keeps

@@ -16,7 +16,9 @@ use tsp_format::TreeStep;
 /// case decides a pair at most once. Directed pairs are the same in the same order of their nodes
 /// alone, others in either.
 ///
-/// The caller owes that no pair is given twice.
+/// # Requires
+///
+/// No pair that is given twice.
 ///
 /// # Errors
 ///

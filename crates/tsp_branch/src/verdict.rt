@@ -28,10 +28,14 @@ use tsp_theory::Costs;
 /// cycle keeps them.
 ///
 /// Where pairs have no direction the bound of a leaf is that of a least 1-tree, else that of the
-/// least link from each node. The families are told by their sets, each with the number of its
-/// family from 0 on, family by family, the handle before the teeth. The caller owes three or more
-/// nodes, costs that are the same in both directions where pairs have none, a scale of 1 to 1,000,000, sets and
-/// decisions of nodes, no pair that is given twice, and one whole tree of branches.
+/// least link from each node. The families are given by their sets, each with the number of its
+/// family from 0 on, family by family, the handle before the teeth.
+///
+/// # Requires
+///
+/// Three or more nodes, costs that are the same in both directions where pairs have none, a scale of
+/// 1 to 1,000,000, sets and decisions of nodes, no pair that is given twice, and one whole tree of
+/// branches.
 ///
 /// # Errors
 ///

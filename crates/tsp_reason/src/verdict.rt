@@ -35,8 +35,8 @@ pub enum Reason {
     NotPotentials,
     /// The certificate has a DIMENSION other than that of the instance.
     PotentialsDimension,
-    /// The certificate has no potentials of nodes, which a TSP wants, or none of rows and columns,
-    /// which an ATSP wants.
+    /// The certificate has no potentials of nodes, which a TSP requires, or none of rows and columns,
+    /// which an ATSP requires.
     PotentialsKind,
     /// The instance is of TYPE TSP, and this multiplier is the first one whose pair isn't among the
     /// fixed pairs of the instance, in either direction.
@@ -63,10 +63,12 @@ pub enum Reason {
     NotBranches,
     /// The certificate by branching has a DIMENSION other than that of the instance.
     BranchesDimension,
-    /// This comb is the first one that isn't one: it has an even number of teeth or fewer than
-    /// three, a node twice in a set, teeth that meet, or a tooth inside or outside of its handle.
+    /// This family is the first one that is neither a lone set nor a comb. It has one tooth or an even
+    /// number of teeth, a node twice in a set, teeth that meet, or a tooth inside or outside of its
+    /// handle; or it is one set of all nodes.
     BadComb { index: u32 },
-    /// This branch is the first one whose pair is decided above it or fixed, in either direction.
+    /// This branch is the first one whose pair is decided above it or fixed: for a TSP in either
+    /// direction, for an ATSP the same arc.
     BranchTwice { index: u32 },
     /// This leaf is the first one that isn't good: it has an index past those of the nodes and the
     /// combs, a potential above 10^15 in size, a negative multiplier, or multipliers that sum to

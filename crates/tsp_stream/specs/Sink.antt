@@ -26,7 +26,7 @@ sink_of contents old new = record {
 abbrev pub IsUnwritten : Sink → Type 0
 IsUnwritten sink = Keeps sink.held sink.holds × (sink.failed ≡ sink.had_failed)
 
--- the whole text was written to a writer that was handed in sound and has not failed
+-- the whole text was written to a writer that had not failed before and has not failed
 abbrev pub HasWritten : Sink → List ℕ → Type 0
 HasWritten sink text = (sink.had_failed ≡ false) × (sink.failed ≡ false) × Appends sink.held sink.holds text
 

@@ -27,7 +27,7 @@ turn_of remaining old new given = record {
 abbrev pub Gave : Turn → Type 0
 Gave turn = Consumes turn.known turn.left turn.given
 
--- it was handed in sound, and has not failed
+-- it had not failed before, and has not failed
 abbrev pub IsSound : Turn → Type 0
 IsSound turn = (turn.had_failed ≡ false) × (turn.failed ≡ false)
 
@@ -35,7 +35,7 @@ IsSound turn = (turn.had_failed ≡ false) × (turn.failed ≡ false)
 abbrev pub GaveAll : Turn → (List ℕ → Type 0) → Type 0
 GaveAll turn P = Gave turn × IsSound turn × P turn.given × IfSome turn.known P
 
--- It has failed, by what it gave or before. A reader that was handed in as failed is not read.
+-- It has failed, in this call or before. A reader that had failed before is not read.
 abbrev pub HasBrokenOff : Turn → Type 0
 HasBrokenOff turn = Gave turn × (turn.failed ≡ true)
     × (turn.had_failed ≡ true → Keeps turn.known turn.left)

@@ -37,7 +37,7 @@ impl fmt::Display for WriteFault {
 
 /// Sends a text to a writer that may take any part of it at once, and stops where the writer fails.
 ///
-/// A writer that was handed in as failed gets nothing.
+/// A writer that had failed before gets nothing.
 pub fn send<W: Write>(out: &mut Watched<W>, text: &[u8])
     ensures stopped { has_failed out.new ≡ true →
         HasStopped (sink_of W.contents out.old out.new) text.now }

@@ -17,7 +17,7 @@ pub(crate) fn are_right(alloc: Global) -> bool {
         && blanks_have_no_type(alloc)
 }
 
-/// An empty draft is refused, and handed back.
+/// An empty draft is refused, and returned.
 fn is_refused(alloc: Global) -> bool {
     match File::of(Draft::new(alloc)) {
         Ok(file) => {
@@ -31,7 +31,7 @@ fn is_refused(alloc: Global) -> bool {
     }
 }
 
-/// A file without tours is no instance, and handed back.
+/// A file of tours is no instance, and returned.
 fn is_no_instance(alloc: Global) -> bool {
     let mut draft = Draft::new(alloc);
     draft.kind = Some(Kind::Tour);
