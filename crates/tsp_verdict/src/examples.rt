@@ -8,7 +8,9 @@ ghost use Rattle.tsp_draft.specs.Fields.{Fields};
 ghost use Rattle.tsp_branch.specs.Examples.{with_pair};
 ghost use Rattle.tsp_reason.specs.declared.verdict.Reason.TheVariants as reasons;
 ghost use Rattle.tsp_reason.specs.declared.verdict.Verdict.TheVariants as verdicts;
+ghost use Rattle.tsp_reason.specs.declared.certificate.Certificate.TheVariants as certificates;
 ghost use Rattle.tsp_verdict.specs.Bounded.{StandsAgainstInstance};
+ghost use Rattle.tsp_verdict.specs.Certified.{NoneWithoutMemory};
 ghost use Rattle.tsp_verdict.specs.Judged.{IsAsClaimed, IsOtherClaimed, HasLength, HasNoLength};
 ghost use Rattle.tsp_verdict.specs.Plan.{IsPlanOf, IsLeast, plan_length, total_of};
 ghost use Rattle.tsp_verdict.specs.Tours.{StandsAgainstTour, NoneOfTourBeforeRepeats};
@@ -182,6 +184,14 @@ pub fn examples_of_reasons_before_memory()
     ensures depots { (inst sol : Fields) → StandsAgainstRoutes inst sol reasons.DepotCount → ¬ NoneOfRoutesBeforeRepeats inst sol }
     ensures range_of_routes { (inst sol : Fields) (place : ℕ) → StandsAgainstRoutes inst sol (reasons.NodeOutOfRange place)
         → ¬ NoneOfRoutesBeforeRepeats inst sol }
+    ensures kind_of_potentials { (inst cert : Fields) → StandsAgainstPotentials inst cert reasons.PotentialsKind
+        → ¬ NoneWithoutMemory certificates.Potentials inst cert }
+    ensures no_potentials { (inst cert : Fields) → StandsAgainstPotentials inst cert reasons.NotPotentials
+        → ¬ NoneWithoutMemory certificates.Potentials inst cert }
+    ensures nodes_of_branches { (inst cert : Fields) → StandsAgainstTree inst cert reasons.BranchesDimension
+        → ¬ NoneWithoutMemory certificates.Branches inst cert }
+    ensures no_branches { (inst cert : Fields) → StandsAgainstTree inst cert reasons.NotBranches
+        → ¬ NoneWithoutMemory certificates.Branches inst cert }
 {}
 
 /// When the number of nodes that routes state is another one than the instance has.

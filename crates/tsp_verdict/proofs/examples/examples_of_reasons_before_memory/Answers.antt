@@ -13,3 +13,15 @@ returns-clause-depots c = λ inst sol stands none. none 1 reasons.DepotCount (om
 
 pub returns-clause-range_of_routes : goal.returns-clause-range_of_routes
 returns-clause-range_of_routes c = λ inst sol place stands none. none 1 (reasons.NodeOutOfRange place) (omega arith) stands
+
+pub returns-clause-kind_of_potentials : goal.returns-clause-kind_of_potentials
+returns-clause-kind_of_potentials c = λ inst cert stands none. none reasons.PotentialsKind (omega arith) stands
+
+pub returns-clause-no_potentials : goal.returns-clause-no_potentials
+returns-clause-no_potentials c = λ inst cert stands none. none reasons.NotPotentials (omega arith) stands
+
+pub returns-clause-nodes_of_branches : goal.returns-clause-nodes_of_branches
+returns-clause-nodes_of_branches c = λ inst cert stands none. none reasons.BranchesDimension (omega arith) stands
+
+pub returns-clause-no_branches : goal.returns-clause-no_branches
+returns-clause-no_branches c = λ inst cert stands none. none reasons.NotBranches (omega arith) stands
