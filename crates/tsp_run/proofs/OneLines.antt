@@ -24,7 +24,7 @@ use Rattle.tsp_format.specs.declared.field.Field.TheVariants as fields
 use Rattle.tsp_format.specs.Words.{field_word}
 use Rattle.tsp_number.specs.FaultText.{number_fault_text}
 use Rattle.tsp_draft.specs.FaultText.{end_fault_text}
-use Rattle.tsp_read.specs.FaultText.{line_fault_text, read_fault_text}
+use Rattle.tsp_text.specs.FaultText.{line_fault_text, read_fault_text}
 use Rattle.tsp_stream.specs.FaultText.{write_fault_text}
 use Rattle.tsp_file.specs.FaultText.{relayout_fault_text}
 use Rattle.tsp_run.specs.Ending.{is_one_line}
