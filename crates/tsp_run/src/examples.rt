@@ -1,7 +1,8 @@
 //! The exit status of each ending, each line, and the files of a task. No body is looked at here: a
 //! definition that is changed together with its code is refused by its examples.
 
-ghost use Rattle.std.specs.Prelude.{◌≡◌, ◌++◌, ℕ, ℤ, [], true, false, Option, None, Some, Ok, Err, codes, decimal};
+ghost use denote.Ref.{Bor};
+ghost use Rattle.std.specs.Prelude.{◌≡◌, ◌++◌, ℕ, ℤ, List, [], true, false, Option, None, Some, Ok, Err, codes, decimal};
 ghost use Rattle.clap.specs.declared.error.Error.{Error};
 ghost use Rattle.tsp_judge.specs.declared.EndFault.TheVariants as end_faults;
 ghost use Rattle.tsp_judge.specs.declared.LineFault.TheVariants as line_faults;
@@ -44,7 +45,7 @@ pub fn examples_of_statuses()
     ensures memory_for_a_text { status_of_fault (run_faults.Write write_faults.OutOfMemory) ≡ 3 }
     ensures memory_for_a_layout { status_of_fault (run_faults.Relayout relayout_faults.OutOfMemory) ≡ 3 }
     ensures refused { (refusal : Error) → status_of_ending (endings.NoJob (job_faults.Refused refusal)) ≡ 4 }
-    ensures version { (build : Str) → status_of_ending (endings.Version build) ≡ 4 }
+    ensures version { (build : Bor (List ℕ)) → status_of_ending (endings.Version build) ≡ 4 }
     ensures input_twice { status_of_ending (endings.NoTask task_faults.InputTwice) ≡ 4 }
     ensures unknown_layout { status_of_ending (endings.NoTask task_faults.UnknownLayout) ≡ 4 }
     ensures missing_path { status_of_ending (endings.NoTask task_faults.MissingPath) ≡ 4 }
@@ -68,7 +69,7 @@ pub fn examples_of_lines()
         ≡ Some (codes "neither potentials nor branches\n") }
     ensures no_length { line_text (lines.NoTask task_faults.NotALength) ≡ Some (codes "not a length\n") }
     ensures input_twice { line_text (lines.NoTask task_faults.InputTwice) ≡ Some (codes "standard input twice\n") }
-    ensures version { (build : Str) → build.now ≡ codes "a build"
+    ensures version { (build : Bor (List ℕ)) → build.now ≡ codes "a build"
         → line_text (lines.Version build) ≡ Some (codes "tsp 1.1.0 (a build)\n") }
     ensures file { line_text (lines.Fault (run_faults.File 2 read_faults.TooLong))
         ≡ Some (codes "file " ++ (decimal 2 ++ codes ": too long\n")) }

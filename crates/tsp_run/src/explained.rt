@@ -79,6 +79,10 @@ const KINDS: &str =
     "The first file of a check is of TYPE TSP, ATSP or CVRP, with --potentials or --branches of TYPE TSP or ATSP.\n\
     The second file is the solution, of TYPE TOUR.";
 
+/// What the first file of a bound is.
+const BOUND_KINDS: &str =
+    "The first file of a bound is of TYPE TSP or ATSP. The certificate is the file of the option.";
+
 /// Appends what explains a fault of a task.
 fn push_fault<F: Read + Drop, O: Open<F>>(
     alloc: Global,
@@ -97,11 +101,19 @@ fn push_fault<F: Read + Drop, O: Open<F>>(
         RunFault::WrongKind => {
             text.extend_from_slice(name_of(path_of(job, 1)).as_bytes())?;
             text.extend_from_slice(b": wrong kind\n")?;
-            push_lines(text, KINDS)
+            push_lines(text, kinds_of(job))
         }
         RunFault::Write(fault) => push_write_fault(alloc, text, fault, write_error),
         RunFault::OutOfMemory => push_lines(text, "There is no memory for what is to be done."),
         RunFault::Relayout(fault) => push_lines(text, relayout_sentence(fault)),
+    }
+}
+
+/// What the files of the job's verb are.
+fn kinds_of(job: &Job) -> &'static str {
+    match job.verb {
+        Some(Verb::Bound) => BOUND_KINDS,
+        Some(Verb::Show | Verb::Convert | Verb::Check) | None => KINDS,
     }
 }
 
