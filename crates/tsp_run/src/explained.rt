@@ -161,27 +161,35 @@ fn push_judged(
     job: &Job,
     judged: &Judged,
 ) -> Result<(), AllocError> {
-    let solution = &judged.solution;
     match judged.verdict {
-        Verdict::Tour { length, bound: _ }
-        | Verdict::Routes {
+        Verdict::Tour { length, bound: _ } => push_claimed(alloc, text, job, judged, length),
+        Verdict::Routes {
             length,
             routes: _,
             least: _,
-        } => {
-            let name = name_of(place_of(&job.solution));
-            push_claim(alloc, text, name, solution.comments(), length)
-        }
+        } => push_claimed(alloc, text, job, judged, length),
         Verdict::No(reason) => {
             explain_reason(alloc, text, name_of_blamed(job, reason), reason)?;
             let certificate = match &judged.certificate {
                 Some((_, certificate)) => Some(certificate),
                 None => None,
             };
-            let solution = Some(solution);
+            let solution = Some(&judged.solution);
             push_details(alloc, text, reason, &judged.instance, solution, certificate)
         }
     }
+}
+
+/// Appends whether a comment of the solution claims another length than this one.
+fn push_claimed(
+    alloc: Global,
+    text: &mut Vec<u8>,
+    job: &Job,
+    judged: &Judged,
+    length: i64,
+) -> Result<(), AllocError> {
+    let name = name_of(place_of(&job.solution));
+    push_claim(alloc, text, name, judged.solution.comments(), length)
 }
 
 /// What the file is called that a reason is about.
