@@ -8,7 +8,7 @@ use Rattle.tsp_read.specs.Reads.{IsFile, StopsAt}
 use Rattle.tsp_reason.specs.declared.certificate.Certificate.{Certificate}
 use Rattle.tsp_reason.specs.declared.verdict.Reason.{Reason}
 use Rattle.tsp_verdict.specs.Bounded.{NoneAgainstInstance, IsBoundVerdict}
-use Rattle.tsp_verdict.specs.Certified.{kind_of, is_bounded, IsBoundOf, BoundsTours, HasNoTour}
+use Rattle.tsp_verdict.specs.Certified.{kind_of, is_bounded, NoneWithoutMemory, IsBoundOf, BoundsTours, HasNoTour}
 use Rattle.tsp_judge.specs.declared.bound.Bounded.{Bounded}
 use Rattle.tsp_judge.specs.declared.fault.RunFault.{RunFault}
 use Rattle.tsp_judge.specs.declared.fault.RunFault.TheVariants.{File, WrongKind, Write, OutOfMemory, Relayout}
@@ -17,13 +17,14 @@ use Rattle.tsp_report.specs.Report.{bound_report_of}
 
 -- What comes of an instance and a certificate that were read. At Ok this is the bound, or the first reason against them, and the
 -- whole report on it was written. Nothing is written where the first file is of a TYPE whose tours have no bound by the
--- certificate, nor out of memory: then no reason applies to the instance. Where the writer fails a prefix of the report was
--- written.
+-- certificate, nor out of memory: then no reason applies to the instance, nor one to the certificate that is found without
+-- memory. Where the writer fails a prefix of the report was written.
 abbrev pub BoundsFiles : Certificate → Fields → Fields → Sink → Result (Result (Option ℤ) Reason) RunFault → Type 0
 BoundsFiles by instance certificate sink (Ok found) = IsTrue (is_bounded by instance.kind) × IsBoundVerdict by instance certificate found
     × HasWritten sink (bound_report_of instance found)
 BoundsFiles by instance certificate sink (Err WrongKind) = (is_bounded by instance.kind ≡ false) × IsUnwritten sink
-BoundsFiles by instance certificate sink (Err OutOfMemory) = IsTrue (is_bounded by instance.kind) × NoneAgainstInstance instance × IsUnwritten sink
+BoundsFiles by instance certificate sink (Err OutOfMemory) = IsTrue (is_bounded by instance.kind) × NoneAgainstInstance instance
+    × NoneWithoutMemory by instance certificate × IsUnwritten sink
 BoundsFiles by instance certificate sink (Err (Write write_faults.Device)) = IsTrue (is_bounded by instance.kind)
     × ((found : Result (Option ℤ) Reason) × IsBoundVerdict by instance certificate found × HasStopped sink (bound_report_of instance found))
 BoundsFiles by instance certificate sink (Err (Write write_faults.OutOfMemory)) = ⊥

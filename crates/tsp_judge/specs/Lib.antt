@@ -5,6 +5,7 @@ pub use Rattle.tsp_stream.specs.Watched
 pub use Rattle.tsp_format.specs.Layout
 pub mod BoundRun
 pub mod ConvertRun
+pub mod FaultText
 pub mod Run
 pub mod ShowRun
 pub mod Status

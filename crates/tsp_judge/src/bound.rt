@@ -41,7 +41,8 @@ pub struct Bounded {
 ///
 /// `File` where a file is none, or can't be read; `WrongKind` where both are files and tours of the first
 /// one's TYPE have no bound by the certificate; `OutOfMemory` where the judgement runs out of memory, and
-/// then no reason applies to the instance; `Write` where the writer fails. Of each file at most 4,096
+/// then no reason applies to the instance, nor one to the certificate that is found without memory;
+/// `Write` where the writer fails. Of each file at most 4,096
 /// bytes past `MOST_FILE_BYTES` are read.
 pub fn run_bound<I: Read, C: Read, W: Write>(
     alloc: Global,

@@ -1,12 +1,24 @@
-//! Which verdict is accepted, and which instances a certificate is taken for. No body is looked at
-//! here: a definition that is changed together with its code is refused by its examples.
+//! Which verdict is accepted, which instances a certificate is taken for, and which file a fault is of.
+//! No body is looked at here: a definition that is changed together with its code is refused by its
+//! examples.
 
-ghost use Rattle.std.specs.Prelude.{◌≡◌, true, false, None, Some, pos};
+ghost use Rattle.std.specs.Prelude.{◌≡◌, ◌++◌, true, false, Option, None, Some, Err, ℤ, pos, codes, decimal};
 ghost use Rattle.tsp_format.specs.declared.kinds.Kind.TheVariants as kinds;
 ghost use Rattle.tsp_reason.specs.declared.verdict.Reason.TheVariants as reasons;
 ghost use Rattle.tsp_reason.specs.declared.verdict.Verdict.TheVariants as verdicts;
 ghost use Rattle.tsp_reason.specs.declared.certificate.Certificate.TheVariants as certificates;
-ghost use Rattle.tsp_judge.specs.Run.{is_yes};
+ghost use Rattle.tsp_reason.specs.declared.certificate.Certificate.{Certificate};
+ghost use Rattle.tsp_read.specs.declared.ReadFault.{ReadFault};
+ghost use Rattle.tsp_read.specs.declared.ReadFault.TheVariants as read_faults;
+ghost use Rattle.tsp_read.specs.Reads.{StopsAt};
+ghost use Rattle.tsp_stream.specs.Turn.{Turn, IsUnread};
+ghost use Rattle.tsp_stream.specs.Sink.{Sink, IsUnwritten};
+ghost use Rattle.tsp_stream.specs.declared.output.WriteFault.TheVariants as write_faults;
+ghost use Rattle.tsp_file.specs.declared.fault.RelayoutFault.TheVariants as relayout_faults;
+ghost use Rattle.tsp_judge.specs.declared.fault.RunFault.TheVariants as run_faults;
+ghost use Rattle.tsp_judge.specs.FaultText.{run_fault_text};
+ghost use Rattle.tsp_judge.specs.Run.{Given, IsUnreadIn, IsRun, IsSomeFile, is_yes};
+ghost use Rattle.tsp_judge.specs.BoundRun.{IsBoundRun};
 ghost use Rattle.tsp_verdict.specs.Certified.{kind_of, is_bounded};
 
 /// Which verdicts are accepted.
@@ -29,4 +41,46 @@ pub fn examples_of_certificates()
     ensures branches_of_cvrp { is_bounded certificates.Branches (Some kinds.Cvrp) ≡ false }
     ensures no_instance { is_bounded certificates.Potentials (Some kinds.Tour) ≡ false }
     ensures no_type { is_bounded certificates.Branches None ≡ false }
+{}
+
+/// The text of each fault of a run. Digits are as `decimal` writes them.
+pub fn examples_of_fault_texts()
+    ensures file { run_fault_text (run_faults.File 2 read_faults.TooLong)
+        ≡ codes "file " ++ (decimal 2 ++ codes ": too long") }
+    ensures wrong_kind { run_fault_text run_faults.WrongKind ≡ codes "file 1: wrong kind" }
+    ensures device { run_fault_text (run_faults.Write write_faults.Device) ≡ codes "output: device" }
+    ensures out_of_memory { run_fault_text run_faults.OutOfMemory ≡ codes "out of memory" }
+    ensures relayout { run_fault_text (run_faults.Relayout relayout_faults.NotExplicit) ≡ codes "relayout: NotExplicit" }
+{}
+
+/// Which file a fault of a check is of, with a certificate or without: the first that is none, and no
+/// later one is read.
+pub fn examples_of_faulty_files()
+    ensures first { (given : Given) (claimed : Option ℤ) (fault : ReadFault) (first second : Turn) (sink : Sink)
+        → IsUnwritten sink → StopsAt fault first → IsUnread second → IsUnreadIn given
+        → IsRun given claimed first second sink (Err (run_faults.File 1 fault)) }
+    ensures second { (given : Given) (claimed : Option ℤ) (fault : ReadFault) (first second : Turn) (sink : Sink)
+        → IsUnwritten sink → IsSomeFile first → StopsAt fault second → IsUnreadIn given
+        → IsRun given claimed first second sink (Err (run_faults.File 2 fault)) }
+    ensures third { (by : Certificate) (claimed : Option ℤ) (fault : ReadFault) (first second third : Turn) (sink : Sink)
+        → IsUnwritten sink → IsSomeFile first → IsSomeFile second → StopsAt fault third
+        → IsRun (Some (by, third)) claimed first second sink (Err (run_faults.File 3 fault)) }
+    ensures unread { (given : Given) (claimed : Option ℤ) (fault : ReadFault) (first second : Turn) (sink : Sink)
+        → IsRun given claimed first second sink (Err (run_faults.File 2 fault)) → StopsAt fault second × IsUnreadIn given }
+    ensures no_third { (claimed : Option ℤ) (fault : ReadFault) (first second : Turn) (sink : Sink)
+        → ¬ IsRun None claimed first second sink (Err (run_faults.File 3 fault)) }
+    ensures no_fourth { (given : Given) (claimed : Option ℤ) (fault : ReadFault) (first second : Turn) (sink : Sink)
+        → ¬ IsRun given claimed first second sink (Err (run_faults.File 4 fault)) }
+    ensures no_other { (given : Given) (claimed : Option ℤ) (fault : ReadFault) (first second : Turn) (sink : Sink)
+        → ¬ IsRun given claimed first second sink (Err (run_faults.File 0 fault)) }
+{}
+
+/// The same where tours are bounded: the certificate is the second file.
+pub fn examples_of_faulty_files_of_bounds()
+    ensures first { (by : Certificate) (fault : ReadFault) (first second : Turn) (sink : Sink) → IsUnwritten sink
+        → StopsAt fault first → IsUnread second → IsBoundRun by first second sink (Err (run_faults.File 1 fault)) }
+    ensures second { (by : Certificate) (fault : ReadFault) (first second : Turn) (sink : Sink) → IsUnwritten sink
+        → IsSomeFile first → StopsAt fault second → IsBoundRun by first second sink (Err (run_faults.File 2 fault)) }
+    ensures no_third { (by : Certificate) (fault : ReadFault) (first second : Turn) (sink : Sink)
+        → ¬ IsBoundRun by first second sink (Err (run_faults.File 3 fault)) }
 {}

@@ -24,7 +24,10 @@ pub use bound::{Bounded, run_bound};
 pub use check::{run_bound_check, run_branch_check, run_check};
 pub use checked::run;
 pub use convert::run_convert;
-pub use examples::{examples_of_answers, examples_of_certificates};
+pub use examples::{
+    examples_of_answers, examples_of_certificates, examples_of_fault_texts,
+    examples_of_faulty_files, examples_of_faulty_files_of_bounds,
+};
 pub use fault::RunFault;
 pub use judging::Judged;
 pub use show::run_show;

@@ -1,1 +1,1 @@
-mod FirstLines
+mod OneLines

@@ -2,6 +2,7 @@
 use Rattle.std.specs.Prelude.{◌≡◌, ℕ, Bool, List, [], ◌++◌, ◌∷◌, true, false, Option, None, Some, Ok, Err, IfSome, codes, not, ◌==◌}
 use Rattle.std.specs.List.{list_all}
 use Rattle.std.specs.Io.KnownBytes.{Appends, Keeps}
+use Rattle.tsp_judge.specs.FaultText.{run_fault_text}
 use Rattle.tsp_judge.specs.Status.{status_of}
 use Rattle.tsp_cli.specs.declared.words.JobFault.TheVariants as job_faults
 use Rattle.tsp_cli.specs.declared.task.TaskFault.TheVariants.{UnknownLayout, MissingPath, TwoCertificates, NoCertificate, NotALength, InputTwice}
@@ -45,7 +46,7 @@ line_text (lines.NoTask TwoCertificates) = ended (codes "both potentials and bra
 line_text (lines.NoTask NoCertificate) = ended (codes "neither potentials nor branches")
 line_text (lines.NoTask NotALength) = ended (codes "not a length")
 line_text (lines.NoTask InputTwice) = ended (codes "standard input twice")
-line_text (lines.Fault fault) = None
+line_text (lines.Fault fault) = ended (run_fault_text fault)
 
 -- no byte ends a line
 abbrev pub is_one_line : List ℕ → Bool
@@ -58,7 +59,6 @@ EndsLine old new = (text : List ℕ) × (is_one_line text ≡ true) × Appends o
 -- the ending's line is written, where it has one
 abbrev pub IsWritten : Option Line → Option (List ℕ) → Option (List ℕ) → Type 0
 IsWritten None old new = Keeps old new
-IsWritten (Some (lines.Fault fault)) old new = EndsLine old new
 IsWritten (Some line) old new = IfSome (line_text line) (Appends old new)
 
 abbrev pub Tells : Ending → Option (List ℕ) → Option (List ℕ) → Type 0

@@ -55,3 +55,15 @@ IsAsked asks_input of_input asks_file of_file (Opened old) room answer (Opened n
 IsAsked asks_input of_input asks_file of_file (Missing error) room (Err found) (Missing left) filled = IsSameError error found
     × (left ≡ error) × (filled ≡ room)
 IsAsked asks_input of_input asks_file of_file old room answer new filled = ⊥
+
+-- how a read of standard input or of a file may end, into a buffer, and what it leaves
+abbrev pub Giving : Type 0 → Type 1
+Giving R = R → List ℕ → Result ℕ Error → List ℕ → R → Type 0
+
+-- A read is one of standard input or of the file, and answers what that answers. A missing file answers its own error.
+abbrev pub GivesOnce : {I F : Type 0} → Giving I → Giving F → Source I F → List ℕ → Result ℕ Error → List ℕ → Source I F → Type 0
+GivesOnce of_input of_file (Input old) room answer filled (Input new) = of_input old room answer filled new
+GivesOnce of_input of_file (Opened old) room answer filled (Opened new) = of_file old room answer filled new
+GivesOnce of_input of_file (Missing error) room (Err found) filled (Missing left) = IsSameError error found × (left ≡ error)
+    × (filled ≡ room)
+GivesOnce of_input of_file old room answer filled new = ⊥

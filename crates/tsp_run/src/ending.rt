@@ -1,9 +1,10 @@
 //! How a run of the program ends.
 
-ghost use Rattle.std.specs.Prelude.{◌≡◌, ◌==◌, OnOk};
-ghost use Rattle.std.specs.List.{position, before_first};
-ghost use Rattle.tsp_run.specs.Ending.{EndsLine, IsLineOf, Tells, status_of_ending};
+ghost use Rattle.std.specs.Prelude.{◌≡◌, ◌++◌, ◌∷◌, [], OnOk};
+ghost use Rattle.std.specs.Io.KnownBytes.{Appends};
+ghost use Rattle.tsp_judge.specs.FaultText.{run_fault_text};
 ghost use Rattle.tsp_judge.specs.Status.{status_of};
+ghost use Rattle.tsp_run.specs.Ending.{IsLineOf, Tells, status_of_ending};
 
 use crate::engines::{Outcome, is_accepted};
 use arrayvec::ArrayString;
@@ -14,7 +15,7 @@ use std::{fmt, io};
 use tsp_cli::{JobFault, TaskFault, VERSION};
 use tsp_judge::{RunFault, status_of};
 
-/// How many bytes of a fault's text are written.
+/// How many bytes of a fault's line are written at once.
 const MOST_TEXT: usize = 256;
 
 /// How a run of the program ends.
@@ -122,31 +123,14 @@ pub fn tell<W: Write>(ending: &Ending, errors: &mut W) -> io::Result<()>
     }
 }
 
-/// Tells a fault, and ends its line.
+/// Tells a fault, and ends its line, by one write.
 fn tell_fault<W: Write>(fault: RunFault, errors: &mut W) -> io::Result<()>
-    ensures { OnOk result (EndsLine (W.contents errors.old) (W.contents errors.new)) }
+    ensures { OnOk result (Appends (W.contents errors.old) (W.contents errors.new) (run_fault_text fault ++ 10 ∷ [])) }
 {
     let mut text = ArrayString::<MOST_TEXT>::new();
-    // Each fault's text is far shorter than the buffer; a longer one would be cut at its end.
-    let _ = write!(text, "{fault}");
-    let bytes = text.as_str().as_bytes();
-    errors.write_all(first_line(bytes))?;
-    errors.write_all(b"\n")
-}
-
-/// Where the first line of a text ends.
-fn line_end(text: &[u8]) -> Option<usize>
-    ensures { result ≡ position (λ b. b == 10) text.now }
-{
-    text.iter().position(|byte| *byte == b'\n')
-}
-
-/// A text up to the end of its first line.
-fn first_line(text: &[u8]) -> &[u8]
-    ensures { result.now ≡ before_first (λ b. b == 10) text.now }
-{
-    match line_end(text) {
-        Some(end) => text.split_at(end).0,
-        None => text,
+    match writeln!(text, "{fault}") {
+        Ok(()) => errors.write_all(text.as_str().as_bytes()),
+        // No fault's text is that long; one that were would be written in parts.
+        Err(_) => writeln!(errors, "{fault}"),
     }
 }

@@ -1,8 +1,8 @@
-//! The exit status of each ending. No body is looked at here: a definition that is changed together
-//! with its code is refused by its examples.
+//! The exit status of each ending, each line, and the files of a task. No body is looked at here: a
+//! definition that is changed together with its code is refused by its examples.
 
 ghost use denote.Ref.{Bor};
-ghost use Rattle.std.specs.Prelude.{◌≡◌, ℕ, List, true, false, Some, Ok, Err, codes};
+ghost use Rattle.std.specs.Prelude.{◌≡◌, ◌++◌, ℕ, ℤ, List, [], true, false, Option, None, Some, Ok, Err, codes, decimal};
 ghost use Rattle.clap.specs.declared.error.Error.{Error};
 ghost use Rattle.tsp_judge.specs.declared.EndFault.TheVariants as end_faults;
 ghost use Rattle.tsp_judge.specs.declared.LineFault.TheVariants as line_faults;
@@ -13,11 +13,18 @@ ghost use Rattle.tsp_judge.specs.declared.fault.RunFault.TheVariants as run_faul
 ghost use Rattle.tsp_cli.specs.declared.words.JobFault.TheVariants as job_faults;
 ghost use Rattle.tsp_cli.specs.declared.task.TaskFault.TheVariants as task_faults;
 ghost use Rattle.tsp_run.specs.declared.ending.Ending.TheVariants as endings;
+ghost use Rattle.tsp_run.specs.declared.ending.Line.TheVariants as lines;
 ghost use Rattle.tsp_run.specs.declared.engines.Outcome.{Outcome};
 ghost use Rattle.tsp_run.specs.declared.engines.Outcome.TheVariants as outcomes;
 ghost use Rattle.tsp_run.specs.Engines.{is_accepted};
 ghost use Rattle.tsp_judge.specs.Status.{status_of, status_of_fault};
-ghost use Rattle.tsp_run.specs.Ending.{status_of_ending, line_text, ended};
+ghost use Rattle.tsp_judge.specs.declared.Watched.{Watched};
+ghost use Rattle.tsp_judge.specs.Watched.{watched};
+ghost use Rattle.tsp_judge.specs.declared.Certificate.{Certificate};
+ghost use Rattle.tsp_cli.specs.declared.task.Place.{Place};
+ghost use Rattle.tsp_cli.specs.declared.task.Task.TheVariants as tasks;
+ghost use Rattle.tsp_run.specs.Run.{AreFresh};
+ghost use Rattle.tsp_run.specs.Ending.{status_of_ending, line_text, ended, IsWritten};
 
 /// The exit status of each ending.
 pub fn examples_of_statuses()
@@ -49,4 +56,44 @@ pub fn examples_of_statuses()
     ensures device_out { status_of_fault (run_faults.Write write_faults.Device) ≡ 5 }
     ensures of_fault { status_of_ending (endings.Ended (Err run_faults.WrongKind)) ≡ 2 }
     ensures line { ended (codes "missing path") ≡ Some (codes "missing path\n") }
+{}
+
+/// The lines of this program's own, and of faults. Digits are as `decimal` writes them.
+pub fn examples_of_lines()
+    ensures memory { line_text lines.OutOfMemory ≡ Some (codes "out of memory\n") }
+    ensures unknown_layout { line_text (lines.NoTask task_faults.UnknownLayout) ≡ Some (codes "unknown layout\n") }
+    ensures missing_path { line_text (lines.NoTask task_faults.MissingPath) ≡ Some (codes "missing path\n") }
+    ensures two_certificates { line_text (lines.NoTask task_faults.TwoCertificates)
+        ≡ Some (codes "both potentials and branches\n") }
+    ensures no_certificate { line_text (lines.NoTask task_faults.NoCertificate)
+        ≡ Some (codes "neither potentials nor branches\n") }
+    ensures no_length { line_text (lines.NoTask task_faults.NotALength) ≡ Some (codes "not a length\n") }
+    ensures input_twice { line_text (lines.NoTask task_faults.InputTwice) ≡ Some (codes "standard input twice\n") }
+    ensures version { (build : Bor (List ℕ)) → build.now ≡ codes "a build"
+        → line_text (lines.Version build) ≡ Some (codes "tsp 1.1.0 (a build)\n") }
+    ensures file { line_text (lines.Fault (run_faults.File 2 read_faults.TooLong))
+        ≡ Some (codes "file " ++ (decimal 2 ++ codes ": too long\n")) }
+    ensures wrong_kind { line_text (lines.Fault run_faults.WrongKind) ≡ Some (codes "file 1: wrong kind\n") }
+    ensures device { line_text (lines.Fault (run_faults.Write write_faults.Device)) ≡ Some (codes "output: device\n") }
+    ensures relayout { line_text (lines.Fault (run_faults.Relayout relayout_faults.NotExplicit))
+        ≡ Some (codes "relayout: NotExplicit\n") }
+    ensures fault_told { IsWritten (Some (lines.Fault run_faults.OutOfMemory)) (Some []) (Some (codes "out of memory\n")) }
+    ensures fault_untold { ¬ IsWritten (Some (lines.Fault run_faults.OutOfMemory)) (Some []) (Some []) }
+    ensures nothing_told { IsWritten None (Some []) (Some []) }
+    ensures none_made_up { ¬ IsWritten None (Some []) (Some (codes "x\n")) }
+{}
+
+/// Each file of a task is the one that is opened in its place.
+pub fn examples_of_opened_files()
+    ensures check { (a b : Place) (claimed same : Option ℤ) (x y : Watched Place)
+        → AreFresh (λ place file. file ≡ place) (tasks.Check a b claimed) (tasks.Check x y same)
+        → (watched x ≡ a) × (watched y ≡ b) × (same ≡ claimed) }
+    ensures certified { (by kept : Certificate) (a b c : Place) (claimed same : Option ℤ) (x y z : Watched Place)
+        → AreFresh (λ place file. file ≡ place) (tasks.CheckBy by a b c claimed) (tasks.CheckBy kept x y z same)
+        → (kept ≡ by) × (watched x ≡ a) × (watched y ≡ b) × (watched z ≡ c) × (same ≡ claimed) }
+    ensures bound { (by kept : Certificate) (a c : Place) (x z : Watched Place)
+        → AreFresh (λ place file. file ≡ place) (tasks.Bound by a c) (tasks.Bound kept x z)
+        → (kept ≡ by) × (watched x ≡ a) × (watched z ≡ c) }
+    ensures another_task { (by kept : Certificate) (a b c : Place) (claimed : Option ℤ) (x z : Watched Place)
+        → ¬ AreFresh (λ place file. file ≡ place) (tasks.CheckBy by a b c claimed) (tasks.Bound kept x z) }
 {}

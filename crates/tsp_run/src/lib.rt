@@ -14,13 +14,15 @@ mod ending;
 mod engines;
 mod examples;
 mod explained;
+mod laws;
 mod running;
 mod source;
 mod waiting;
 
 pub use ending::{Ending, Line, line_of, status_of_ending, tell};
 pub use engines::{Outcome, perform};
-pub use examples::examples_of_statuses;
+pub use examples::{examples_of_lines, examples_of_opened_files, examples_of_statuses};
+pub use laws::{explained_on_a_terminal, faults_are_told_on_one_line};
 pub use running::{run, tell_unread};
 pub use source::{Open, Source};
 pub use tsp_cli::{JobFault, Place, Task, TaskFault};

@@ -4,11 +4,12 @@ ghost use Rattle.std.specs.Prelude.{◌≡◌, IsTrue, IsErr, MatchResult};
 ghost use Rattle.std.specs.Io.{ReadsAtMost};
 ghost use Rattle.std.specs.Io.KnownBytes.{ReadConsumes};
 ghost use Rattle.tsp_cli.specs.declared.task.Place.{Place};
-ghost use Rattle.tsp_run.specs.Source.{remaining_of, is_missing, IsAsked, IsSameError};
+ghost use Rattle.tsp_run.specs.Source.{remaining_of, is_missing, IsAsked, GivesOnce, IsSameError};
 
 use std::io;
 use std::io::Read;
 use tsp_cli::Place;
+use tsp_stream::Gives;
 
 /// What opens files.
 pub trait Open<F> {
@@ -68,19 +69,20 @@ impl<I, F> Source<I, F> {
     }
 }
 
-impl<I: Read, F: Read> Read for Source<I, F> {
+impl<I: Gives, F: Gives> Read for Source<I, F> {
     ghost remaining = { remaining_of I.remaining F.remaining };
 
     fn read(&mut self, buf: &mut [u8]) -> io::Result<usize>
         ensures bound { ReadsAtMost result buf.new }
         ensures bytes { ReadConsumes (remaining_of I.remaining F.remaining self.old)
             (remaining_of I.remaining F.remaining self.new) result buf.new }
+        ensures once { GivesOnce I.gives F.gives self.old buf.old result buf.new self.new }
         ensures missing { IsTrue (is_missing self.old) → IsErr result }
     {
         self.ask(
             buf,
-            |input, room| input.read(room),
-            |file, room| file.read(room),
+            |input, room| input.give(room),
+            |file, room| file.give(room),
         )
     }
 }

@@ -1,6 +1,6 @@
 -- An instance with a certificate: the reasons against either, in order.
-use Rattle.std.proofs.Common.{ℕ, ◌<◌, ◌≤◌, ◌⊎◌, inl, inr, arith}
-use Rattle.std.specs.Prelude.{ℤ, Option, None, Some, Result, Ok, Err, IfOk, MatchResult}
+use Rattle.std.proofs.Common.{◌≡◌, ℕ, ◌<◌, ◌≤◌, ◌⊎◌, inl, inr, refl, arith}
+use Rattle.std.specs.Prelude.{ℤ, Option, None, Some, Result, Ok, Err, IfOk, IsErr, MatchResult}
 use Rattle.tsp_draft.specs.Fields.{Fields}
 use Rattle.tsp_reason.specs.declared.certificate.Certificate.{Certificate}
 use Rattle.tsp_reason.specs.declared.verdict.Reason.{Reason}
@@ -10,7 +10,7 @@ use Rattle.tsp_theory.specs.Costs.{IsSymmetric, IsFirstAsymmetric}
 use Rattle.tsp_verdict.specs.declared.tour.TourCosts.{TourCosts}
 use Rattle.tsp_verdict.specs.states.Costs.{AreTourCosts}
 use Rattle.tsp_verdict.specs.Bounded.{StandsAgainstInstance, NoneAgainstInstance, StandsAgainstBounded, IsBoundVerdict}
-use Rattle.tsp_verdict.specs.Certified.{StandsAgainstCertificate, FindsBoundIfAny}
+use Rattle.tsp_verdict.specs.Certified.{StandsAgainstCertificate, FindsBoundIfAny, NoneWithoutMemory}
 use Rattle.tsp_verdict.specs.Reasons.{rank_of, IsFirstReason}
 use Rattle.tsp_verdict.specs.Solution.{nodes_of}
 use Rattle.tsp_verdict.proofs.Certificates.{certificate_rank, symmetric_tsp}
@@ -50,11 +50,12 @@ certificate_decides by inst cert (Err reason) none first = record {
     by_side other low (inl stands) = none other stands
     by_side other low (inr stands) = first.none_before other low stands
 
--- out of memory, none applies to the instance
+-- out of memory, none applies to the instance, and none to the certificate that is found without
 pub either_way : {E : Type 0} (by : Certificate) (inst cert : Fields) (result : Result (Result (Option ℤ) Reason) E) → NoneAgainstInstance inst → IfOk result (λ found. FindsBoundIfAny by inst cert found)
-    → MatchResult result (λ found. IsBoundVerdict by inst cert found) (λ refused. NoneAgainstInstance inst)
-either_way by inst cert (Ok found) none finds = certificate_decides by inst cert found none finds
-either_way by inst cert (Err refused) none finds = none
+    → (IsErr result → NoneWithoutMemory by inst cert)
+    → MatchResult result (λ found. IsBoundVerdict by inst cert found) (λ refused. NoneAgainstInstance inst × NoneWithoutMemory by inst cert)
+either_way by inst cert (Ok found) none finds without = certificate_decides by inst cert found none finds
+either_way by inst cert (Err refused) none finds without = (none, without refl)
 
 -- ---- the reasons against the instance
 

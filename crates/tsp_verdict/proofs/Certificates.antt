@@ -20,7 +20,7 @@ use Rattle.tsp_verdict.specs.Tours.{IsFirstAgainstTour, StandsAgainstTour}
 use Rattle.tsp_file.specs.Cost.{cost}
 use Rattle.tsp_theory.specs.Assignment.{IsFirstBroken}
 use Rattle.tsp_verdict.specs.Certificate.{has_wanted, scale_in, rows_in, columns_in, multipliers_in, StandsAgainstPotentials, IsBoundByDuals}
-use Rattle.tsp_verdict.specs.Certified.{is_bounded, IsBoundBy, IsCertified, StandsAgainstCertificate, StandsAgainstCertified, IsFirstAgainstCertified}
+use Rattle.tsp_verdict.specs.Certified.{is_bounded, IsBoundBy, IsCertified, StandsAgainstCertificate, NoneWithoutMemory, StandsAgainstCertified, IsFirstAgainstCertified}
 use Rattle.tsp_verdict.specs.Tree.{IsBoundByTree}
 use Rattle.tsp_verdict.specs.declared.tour.TourCosts.{TourCosts}
 use Rattle.tsp_verdict.specs.declared.tour.TourCosts.TheVariants.{Undirected, Directed}
@@ -43,6 +43,12 @@ none_before inst pot rank sort size wanted fixed once good (MultiplierNotFixed i
 none_before inst pot rank sort size wanted fixed once good (MultiplierRepeated index) low stands = once low index stands
 none_before inst pot rank sort size wanted fixed once good (DualInfeasible i j) low stands = good low i j stands
 none_before inst pot rank sort size wanted fixed once good reason low stands = stands
+
+-- out of memory, those are ruled out that need none
+pub none_of_potentials : (inst pot : Fields) → is_certificate pot.kind ≡ true → nodes_of pot ≡ nodes_of inst → has_wanted inst.kind pot ≡ true
+    → NoneWithoutMemory Potentials inst pot
+none_of_potentials inst pot sort size wanted =
+    none_before inst pot 20 (λ low. sort) (λ low. size) (λ low. wanted) (λ low. absurd (omega (arith, low))) (λ low. absurd (omega (arith, low))) (λ low. absurd (omega (arith, low)))
 
 -- all six are ruled out
 pub none_stands : (inst pot : Fields) → is_certificate pot.kind ≡ true → nodes_of pot ≡ nodes_of inst → has_wanted inst.kind pot ≡ true

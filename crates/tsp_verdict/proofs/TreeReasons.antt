@@ -36,7 +36,7 @@ use Rattle.tsp_verdict.specs.Reasons.{NoneBefore, IsFirstReason}
 use Rattle.tsp_verdict.specs.Solution.{nodes_of, fixed_of}
 use Rattle.tsp_verdict.specs.states.Costs.{IsSymmetricTsp}
 use Rattle.tsp_verdict.specs.Tree.{combs_in, steps_in, each_once, given_in, tree_in, told_combs, IsBadComb, StandsAgainstTree, IsBoundByTree, HasNoBoundByTree}
-use Rattle.tsp_verdict.specs.Certified.{IsBoundBy, IsCertified, HasNoTour}
+use Rattle.tsp_verdict.specs.Certified.{IsBoundBy, IsCertified, HasNoTour, NoneWithoutMemory}
 use Rattle.tsp_reason.specs.declared.certificate.Certificate.TheVariants.{Branches}
 use Rattle.tsp_verdict.proofs.CarriedBounds.{Same}
 use Rattle.tsp_verdict.proofs.GivenPairs.{keeps_given}
@@ -138,6 +138,10 @@ none_before inst tree rank sort size combs once leaves (BadComb index) low stand
 none_before inst tree rank sort size combs once leaves (BranchTwice index) low stands = once low index stands
 none_before inst tree rank sort size combs once leaves (BadLeaf index) low stands = leaves low index stands
 none_before inst tree rank sort size combs once leaves reason low stands = stands
+
+-- out of memory, those are ruled out that need none
+pub none_of_tree : (inst tree : Fields) → is_tree tree.kind ≡ true → nodes_of tree ≡ nodes_of inst → NoneWithoutMemory Branches inst tree
+none_of_tree inst tree sort size = none_before inst tree 25 (λ low. sort) (λ low. size) (λ low. absurd (omega (arith, low))) (λ low. absurd (omega (arith, low))) (λ low. absurd (omega (arith, low)))
 
 pub comb_first : (inst tree : Fields) (costs : ℕ → ℕ → ℤ) (index : ℕ) → is_tree tree.kind ≡ true → nodes_of tree ≡ nodes_of inst → IsTold inst tree costs (found.BadComb index)
     → IsFirstReason (StandsAgainstTree inst tree) (BadComb index)

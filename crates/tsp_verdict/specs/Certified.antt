@@ -11,9 +11,10 @@ use Rattle.tsp_theory.specs.Numbers.{IsBoundSized}
 use Rattle.tsp_reason.specs.declared.certificate.Certificate.{Certificate}
 use Rattle.tsp_reason.specs.declared.certificate.Certificate.TheVariants.{Potentials, Branches}
 use Rattle.tsp_reason.specs.declared.verdict.Reason.{Reason}
+use Rattle.tsp_reason.specs.declared.verdict.Reason.TheVariants.{MultiplierNotFixed, BadComb}
 use Rattle.tsp_reason.specs.declared.verdict.Verdict.{Verdict}
 use Rattle.tsp_reason.specs.declared.verdict.Verdict.TheVariants as verdicts
-use Rattle.tsp_verdict.specs.Reasons.{IsFirstReason}
+use Rattle.tsp_verdict.specs.Reasons.{rank_of, NoneBefore, IsFirstReason}
 use Rattle.tsp_verdict.specs.Solution.{tours_of}
 use Rattle.tsp_verdict.specs.Tours.{StandsAgainstTour}
 use Rattle.tsp_verdict.specs.Certificate.{StandsAgainstPotentials, IsBoundByNodes, IsBoundByDuals}
@@ -58,6 +59,15 @@ IsBoundOf by inst cert bound = IsBoundBy by inst.kind inst cert bound
 abbrev pub StandsAgainstCertificate : Certificate → Fields → Fields → Reason → Type 0
 StandsAgainstCertificate Potentials inst cert reason = StandsAgainstPotentials inst cert reason
 StandsAgainstCertificate Branches inst cert reason = StandsAgainstTree inst cert reason
+
+-- the rank of the first reason against it that needs memory
+abbrev pub first_with_memory : Certificate → ℕ
+first_with_memory Potentials = rank_of (MultiplierNotFixed 1)
+first_with_memory Branches = rank_of (BadComb 1)
+
+-- no reason applies to it that is found without memory
+abbrev pub NoneWithoutMemory : Certificate → Fields → Fields → Type 0
+NoneWithoutMemory by inst cert = NoneBefore (StandsAgainstCertificate by inst cert) (first_with_memory by)
 
 -- ---- its bound
 

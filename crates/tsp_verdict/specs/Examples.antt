@@ -52,6 +52,10 @@ of_rows n = certificate n None (Some []) None
 abbrev pub of_both : ℕ → Fields
 of_both n = certificate n None (Some []) (Some [])
 
+-- one of four nodes, with these multipliers of fixed pairs
+abbrev pub multiplying : List (ℕ × ℕ × ℤ) → Fields
+multiplying triples = record (of_nodes 4) { fixed_potentials = Some triples }
+
 -- a certificate by branching for this many nodes, with these combs and steps
 abbrev pub branching : ℕ → List (List (List ℕ)) → List Step → Fields
 branching n combs steps = record blank_fields {

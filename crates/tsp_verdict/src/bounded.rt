@@ -3,7 +3,7 @@
 ghost use Rattle.std.specs.Prelude.{◌≡◌, ◌⊎◌, ◌≤◌, IsTrue, Some, MatchResult};
 ghost use Rattle.tsp_format.specs.declared.kinds.Kind.TheVariants as kinds;
 ghost use Rattle.tsp_verdict.specs.Bounded.{StandsAgainstInstance, NoneAgainstInstance, IsBoundVerdict};
-ghost use Rattle.tsp_verdict.specs.Certified.{is_bounded};
+ghost use Rattle.tsp_verdict.specs.Certified.{is_bounded, NoneWithoutMemory};
 ghost use Rattle.tsp_verdict.specs.Reasons.{IsFirstReason};
 ghost use Rattle.tsp_verdict.specs.Solution.{nodes_of};
 ghost use Rattle.tsp_verdict.specs.states.Costs.{AreTourCosts};
@@ -27,7 +27,8 @@ use tsp_reason::{Certificate, Reason};
 ///
 /// # Errors
 ///
-/// Out of memory, and then no reason applies to the instance.
+/// Out of memory, and then no reason applies to the instance, and none to the certificate that is found
+/// without memory: `NotPotentials` to `PotentialsKind`, or `NotBranches` and `BranchesDimension`.
 pub fn judge_bound(
     alloc: Global,
     by: Certificate,
@@ -37,7 +38,8 @@ pub fn judge_bound(
     requires { IsTrue (is_bounded by instance.now.kind) }
     ensures { MatchResult result
         (λ found. IsBoundVerdict by instance.now certificate.now found)
-        (λ refused. NoneAgainstInstance instance.now) }
+        (λ refused. NoneAgainstInstance instance.now
+        × NoneWithoutMemory by instance.now certificate.now) }
 {
     let costs = match costs_of_tours(instance) {
         Ok(costs) => costs,

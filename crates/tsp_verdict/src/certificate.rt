@@ -1,6 +1,6 @@
 //! The bound that a file of potentials gives, or the first reason against it.
 
-ghost use Rattle.std.specs.Prelude.{◌≡◌, ◌≤◌, false, true, length, Some, IfOk, MatchOption, MatchResult};
+ghost use Rattle.std.specs.Prelude.{◌≡◌, ◌≤◌, false, true, length, Some, IfOk, IsErr, MatchOption, MatchResult};
 ghost use Rattle.std.specs.List.{All};
 ghost use Rattle.tsp_format.specs.Cells.{IsNode};
 ghost use Rattle.tsp_format.specs.Limits.{most_multipliers};
@@ -19,7 +19,7 @@ ghost use Rattle.tsp_verdict.specs.Reasons.{IsFirstReason};
 ghost use Rattle.tsp_verdict.specs.Solution.{nodes_of, fixed_of};
 ghost use Rattle.tsp_verdict.specs.Certificate.{has_wanted, scale_in, rows_in, columns_in, multipliers_in, StandsAgainstPotentials};
 ghost use Rattle.tsp_reason.specs.declared.certificate.Certificate.TheVariants as certificates;
-ghost use Rattle.tsp_verdict.specs.Certified.{IsCertified, FindsBound};
+ghost use Rattle.tsp_verdict.specs.Certified.{IsCertified, FindsBound, NoneWithoutMemory};
 ghost use Rattle.tsp_verdict.specs.Multiplied.{AreListed};
 
 use crate::files::fixed_pairs;
@@ -48,7 +48,7 @@ struct NodeNumbers<'a> {
 ///
 /// # Errors
 ///
-/// Out of memory.
+/// Out of memory, and then no reason up to `PotentialsKind` applies to the certificate.
 pub(crate) fn bound_by_nodes(
     alloc: Global,
     inst: &Instance,
@@ -59,7 +59,8 @@ pub(crate) fn bound_by_nodes(
     requires some { 3 ≤ nodes_of inst.now }
     requires shows { ShowsEven inst.now view }
     requires even { IsSymmetric (cost inst.now) }
-    ensures { IfOk result (λ found. FindsBound certificates.Potentials inst.now pot.now found) }
+    ensures found { IfOk result (λ found. FindsBound certificates.Potentials inst.now pot.now found) }
+    ensures refused { IsErr result → NoneWithoutMemory certificates.Potentials inst.now pot.now }
 {
     if let Some(reason) = first_against_file(inst, pot) {
         return Ok(Err(reason));

@@ -1,6 +1,6 @@
 //! The verdict on a tour with a certificate of a bound.
 
-ghost use Rattle.std.specs.Prelude.{◌≡◌, ◌⊎◌, ◌≤◌, IsTrue, Some, IfOk, IsOk, MatchResult};
+ghost use Rattle.std.specs.Prelude.{◌≡◌, ◌⊎◌, ◌≤◌, IsTrue, Some, IfOk, IsOk, IsErr, MatchResult};
 ghost use Rattle.tsp_format.specs.declared.kinds.Kind.TheVariants as kinds;
 ghost use Rattle.tsp_draft.specs.Fields.{Fields};
 ghost use Rattle.tsp_reason.specs.declared.certificate.Certificate.{Certificate};
@@ -8,7 +8,7 @@ ghost use Rattle.tsp_reason.specs.declared.certificate.Certificate.TheVariants a
 ghost use Rattle.tsp_verdict.specs.Solution.{nodes_of};
 ghost use Rattle.tsp_verdict.specs.Tours.{NoneOfTourBeforeRepeats};
 ghost use Rattle.tsp_verdict.specs.states.Costs.{AreTourCosts, IsSymmetricTsp};
-ghost use Rattle.tsp_verdict.specs.Certified.{is_bounded, FindsBound, FindsBoundIfAny, IsCertifiedVerdict};
+ghost use Rattle.tsp_verdict.specs.Certified.{is_bounded, FindsBound, FindsBoundIfAny, NoneWithoutMemory, IsCertifiedVerdict};
 ghost use Rattle.tsp_verdict.specs.Judged.{IsVerdictWith};
 
 use crate::certificate::{bound_by_duals, bound_by_nodes};
@@ -148,6 +148,10 @@ pub fn is_bounded(by: Certificate, kind: Kind) -> bool
 
 /// The bound that a certificate gives, `None` where the instance has no tour; or the first reason
 /// against it. Of duals no memory is taken.
+///
+/// # Errors
+///
+/// Out of memory, and then no reason applies to the certificate that is found without it.
 pub(crate) fn bound_of(
     alloc: Global,
     by: Certificate,
@@ -160,6 +164,7 @@ pub(crate) fn bound_of(
     requires costs { AreTourCosts instance.now costs }
     requires even { IsSymmetricTsp instance.now }
     ensures found { IfOk result (λ found. FindsBoundIfAny by instance.now certificate.now found) }
+    ensures refused { IsErr result → NoneWithoutMemory by instance.now certificate.now }
     ensures memory { by ≡ certificates.Potentials → instance.now.kind ≡ Some kinds.Atsp → IsOk result }
 {
     match (by, costs) {

@@ -4,19 +4,22 @@
 ghost use Rattle.std.specs.Prelude.{◌≡◌, ℕ, ◌+◌, ◌*◌, [], ◌∷◌, None, Some, pos, negsuc};
 ghost use Rattle.tsp_format.specs.declared.kinds.Kind.TheVariants as kinds;
 ghost use Rattle.tsp_format.specs.Steps.{Branch, Leaf};
+ghost use Rattle.tsp_draft.specs.Fields.{Fields};
 ghost use Rattle.tsp_branch.specs.Examples.{with_pair};
 ghost use Rattle.tsp_reason.specs.declared.verdict.Reason.TheVariants as reasons;
 ghost use Rattle.tsp_reason.specs.declared.verdict.Verdict.TheVariants as verdicts;
+ghost use Rattle.tsp_reason.specs.declared.certificate.Certificate.TheVariants as certificates;
 ghost use Rattle.tsp_verdict.specs.Bounded.{StandsAgainstInstance};
+ghost use Rattle.tsp_verdict.specs.Certified.{NoneWithoutMemory};
 ghost use Rattle.tsp_verdict.specs.Judged.{IsAsClaimed, IsOtherClaimed, HasLength, HasNoLength};
 ghost use Rattle.tsp_verdict.specs.Plan.{IsPlanOf, IsLeast, plan_length, total_of};
-ghost use Rattle.tsp_verdict.specs.Tours.{StandsAgainstTour};
-ghost use Rattle.tsp_verdict.specs.Routes.{StandsAgainstRoutes};
+ghost use Rattle.tsp_verdict.specs.Tours.{StandsAgainstTour, NoneOfTourBeforeRepeats};
+ghost use Rattle.tsp_verdict.specs.Routes.{StandsAgainstRoutes, NoneOfRoutesBeforeRepeats};
 ghost use Rattle.tsp_verdict.specs.Certificate.{StandsAgainstPotentials};
 ghost use Rattle.tsp_verdict.specs.Certificate.{scale_in};
 ghost use Rattle.tsp_verdict.specs.Tree.{StandsAgainstTree};
 ghost use Rattle.tsp_verdict.specs.Tree.{given_in};
-ghost use Rattle.tsp_verdict.specs.Examples.{of_nodes, of_rows, of_both, nodes, vehicles, carrying, solution, sized, lone, both, two, three, four, branching, two_leaves, three_leaves, two_teeth, Before};
+ghost use Rattle.tsp_verdict.specs.Examples.{of_nodes, of_rows, of_both, multiplying, nodes, vehicles, carrying, solution, sized, lone, both, two, three, four, branching, two_leaves, three_leaves, two_teeth, Before};
 
 /// The order in which reasons against a tour, and then against its certificate, are judged: each
 /// pair of neighbours.
@@ -170,4 +173,48 @@ pub fn examples_of_plans()
     ensures full { IsLeast (pos 16) (pos 8) 2 }
     ensures one_more { IsLeast (pos 17) (pos 8) 3 }
     ensures nothing { IsLeast (pos 0) (pos 8) 0 }
+{}
+
+/// What is known out of memory: no reason applies that is found without it. The last of those before the
+/// first one that needs memory is named, and one before it.
+pub fn examples_of_reasons_before_memory()
+    ensures length { (inst sol : Fields) → StandsAgainstTour inst sol reasons.TourLength → ¬ NoneOfTourBeforeRepeats inst sol }
+    ensures range { (inst sol : Fields) (place : ℕ) → StandsAgainstTour inst sol (reasons.NodeOutOfRange place)
+        → ¬ NoneOfTourBeforeRepeats inst sol }
+    ensures depots { (inst sol : Fields) → StandsAgainstRoutes inst sol reasons.DepotCount → ¬ NoneOfRoutesBeforeRepeats inst sol }
+    ensures range_of_routes { (inst sol : Fields) (place : ℕ) → StandsAgainstRoutes inst sol (reasons.NodeOutOfRange place)
+        → ¬ NoneOfRoutesBeforeRepeats inst sol }
+    ensures kind_of_potentials { (inst cert : Fields) → StandsAgainstPotentials inst cert reasons.PotentialsKind
+        → ¬ NoneWithoutMemory certificates.Potentials inst cert }
+    ensures no_potentials { (inst cert : Fields) → StandsAgainstPotentials inst cert reasons.NotPotentials
+        → ¬ NoneWithoutMemory certificates.Potentials inst cert }
+    ensures nodes_of_branches { (inst cert : Fields) → StandsAgainstTree inst cert reasons.BranchesDimension
+        → ¬ NoneWithoutMemory certificates.Branches inst cert }
+    ensures no_branches { (inst cert : Fields) → StandsAgainstTree inst cert reasons.NotBranches
+        → ¬ NoneWithoutMemory certificates.Branches inst cert }
+{}
+
+/// When the number of nodes that routes state is another one than the instance has.
+pub fn examples_of_dimensions_of_routes()
+    ensures below { StandsAgainstRoutes (carrying (pos 8)) (sized 3 []) reasons.Dimension }
+    ensures above { StandsAgainstRoutes (carrying (pos 8)) (sized 5 []) reasons.Dimension }
+    ensures same { ¬ StandsAgainstRoutes (carrying (pos 8)) (sized 4 []) reasons.Dimension }
+    ensures none { ¬ StandsAgainstRoutes (carrying (pos 8)) (solution []) reasons.Dimension }
+    ensures of_tours { StandsAgainstTour (nodes kinds.Tsp 4 []) (sized 3 []) reasons.Dimension }
+{}
+
+/// Which multipliers aren't on a fixed pair, or on that of an earlier one.
+pub fn examples_of_multipliers()
+    ensures fixed { ¬ StandsAgainstPotentials (nodes kinds.Tsp 4 ((1, 2) ∷ [])) (multiplying ((1, 2, pos 5) ∷ []))
+        (reasons.MultiplierNotFixed 1) }
+    ensures turned_round { ¬ StandsAgainstPotentials (nodes kinds.Tsp 4 ((1, 2) ∷ [])) (multiplying ((2, 1, pos 5) ∷ []))
+        (reasons.MultiplierNotFixed 1) }
+    ensures not_fixed { StandsAgainstPotentials (nodes kinds.Tsp 4 ((1, 2) ∷ [])) (multiplying ((1, 3, pos 5) ∷ []))
+        (reasons.MultiplierNotFixed 1) }
+    ensures twice { StandsAgainstPotentials (nodes kinds.Tsp 4 ((1, 2) ∷ [])) (multiplying ((1, 2, pos 5) ∷ (1, 2, pos 5) ∷ []))
+        (reasons.MultiplierRepeated 2) }
+    ensures twice_turned_round { StandsAgainstPotentials (nodes kinds.Tsp 4 ((1, 2) ∷ []))
+        (multiplying ((1, 2, pos 5) ∷ (2, 1, pos 7) ∷ [])) (reasons.MultiplierRepeated 2) }
+    ensures of_an_atsp { ¬ StandsAgainstPotentials (nodes kinds.Atsp 4 ((1, 2) ∷ [])) (multiplying ((1, 3, pos 5) ∷ []))
+        (reasons.MultiplierNotFixed 1) }
 {}

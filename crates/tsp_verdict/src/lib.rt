@@ -30,8 +30,9 @@ pub use bounded::judge_bound;
 pub use certified::{is_bounded, judge_certified, judge_tour_bound, judge_tour_branches};
 pub use examples::{
     examples_against_certificates, examples_against_instances, examples_against_routes,
-    examples_against_tours, examples_against_trees, examples_of_claims, examples_of_order,
-    examples_of_order_of_routes, examples_of_plans,
+    examples_against_tours, examples_against_trees, examples_of_claims,
+    examples_of_dimensions_of_routes, examples_of_multipliers, examples_of_order,
+    examples_of_order_of_routes, examples_of_plans, examples_of_reasons_before_memory,
 };
 pub use judged::judge;
 pub use routes::judge_routes;

@@ -1,6 +1,6 @@
 //! The bound that a tree of cases gives, or the first reason against it.
 
-ghost use Rattle.std.specs.Prelude.{◌≡◌, ◌⊎◌, ◌≤◌, true, Some, IfOk, MatchResult};
+ghost use Rattle.std.specs.Prelude.{◌≡◌, ◌⊎◌, ◌≤◌, true, Some, IfOk, IsErr, MatchResult};
 ghost use Rattle.tsp_format.specs.declared.kinds.Kind.TheVariants as kinds;
 ghost use Rattle.tsp_format.specs.Steps.{steps_of};
 ghost use Rattle.tsp_draft.specs.Fields.{combs_of};
@@ -12,7 +12,7 @@ ghost use Rattle.tsp_verdict.specs.Solution.{nodes_of};
 ghost use Rattle.tsp_verdict.specs.states.Costs.{IsSymmetricTsp};
 ghost use Rattle.tsp_verdict.specs.Tree.{StandsAgainstTree};
 ghost use Rattle.tsp_reason.specs.declared.certificate.Certificate.TheVariants as certificates;
-ghost use Rattle.tsp_verdict.specs.Certified.{FindsBoundIfAny};
+ghost use Rattle.tsp_verdict.specs.Certified.{FindsBoundIfAny, NoneWithoutMemory};
 
 use crate::decided::taken_once;
 use crate::files::fixed_pairs;
@@ -32,7 +32,7 @@ const MOST_TABLED: u32 = 2_000;
 ///
 /// # Errors
 ///
-/// Out of memory.
+/// Out of memory, and then neither `NotBranches` nor `BranchesDimension` applies to the certificate.
 pub(crate) fn bound_of_tree(
     alloc: Global,
     instance: &Instance,
@@ -41,7 +41,8 @@ pub(crate) fn bound_of_tree(
     requires kind { (instance.now.kind ≡ Some kinds.Tsp) ⊎ (instance.now.kind ≡ Some kinds.Atsp) }
     requires some { 3 ≤ nodes_of instance.now }
     requires even { IsSymmetricTsp instance.now }
-    ensures { IfOk result (λ found. FindsBoundIfAny certificates.Branches instance.now branches.now found) }
+    ensures found { IfOk result (λ found. FindsBoundIfAny certificates.Branches instance.now branches.now found) }
+    ensures refused { IsErr result → NoneWithoutMemory certificates.Branches instance.now branches.now }
 {
     let tree = match tree_of(instance, branches) {
         Ok(tree) => tree,

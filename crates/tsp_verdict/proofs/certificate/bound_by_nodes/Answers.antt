@@ -8,11 +8,23 @@ use Rattle.tsp_verdict.specs.Certificate.{has_wanted, multipliers_in, StandsAgai
 use Rattle.tsp_verdict.specs.Multiplied.{AreListed}
 use Rattle.tsp_verdict.specs.Reasons.{IsFirstReason}
 use Rattle.tsp_verdict.specs.Solution.{nodes_of, fixed_of}
-use Rattle.tsp_verdict.proofs.Certificates.{none_of_tsp}
+use Rattle.tsp_verdict.proofs.Certificates.{none_of_tsp, none_of_potentials}
 use Rattle.tsp_verdict.proofs.certificate.bound_by_nodes.Goals as goal
 
-pub returns : goal.returns
-returns c =
+pub returns-in_err-reason-clause-refused : goal.returns-in_err-reason-clause-refused
+returns-in_err-reason-clause-refused c = λ refused.
+    let pot = c.args.pot.now in
+    let wanted : has_wanted (Some kinds.Tsp) pot ≡ true = search rules in
+    none_of_potentials c.args.inst.now pot c.in_default.ensures.0 c.in_default.ensures.2 (subst (λ kind. has_wanted kind pot ≡ true) (sym c.requires.kind) wanted)
+
+pub returns-in_err-bound_of_potentials-clause-refused : goal.returns-in_err-bound_of_potentials-clause-refused
+returns-in_err-bound_of_potentials-clause-refused c = λ refused.
+    let pot = c.args.pot.now in
+    let wanted : has_wanted (Some kinds.Tsp) pot ≡ true = search rules in
+    none_of_potentials c.args.inst.now pot c.in_default.ensures.0 c.in_default.ensures.2 (subst (λ kind. has_wanted kind pot ≡ true) (sym c.requires.kind) wanted)
+
+pub returns-clause-found : goal.returns-clause-found
+returns-clause-found c =
     let inst = c.args.inst.now in
     let pot = c.args.pot.now in
     let good = subst (λ found. MatchOption found (AreOnPairs (nodes_of inst) (multipliers_in pot) × AreListed (fixed_of inst) (multipliers_in pot))

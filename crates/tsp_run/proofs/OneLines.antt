@@ -1,0 +1,141 @@
+-- The text of each fault is one line.
+use Rattle.std.proofs.Common.{◌≡◌, ℕ, suc, zero, ◌<◌, ◌/◌, ◌%◌, ◌==◌, Bool, true, false, List, [], ◌∷◌, ◌++◌, refl, ap, ◌∙◌, rules, arith}
+use Rattle.std.proofs.lemmas.List.Folds.{list_all-append}
+use Rattle.std.proofs.Math.Nat.{mod-lt}
+use Rattle.std.specs.Prelude.{◌&&◌, not, codes, decimal, if◌then◌else◌}
+use Rattle.std.specs.Fmt.{digits, digits_onto, digit_glyph}
+use Rattle.tsp_judge.specs.FaultText.{run_fault_text}
+use Rattle.tsp_judge.specs.declared.fault.RunFault.{RunFault}
+use Rattle.tsp_judge.specs.declared.fault.RunFault.TheVariants as runs
+use Rattle.tsp_judge.specs.declared.ReadFault.{ReadFault}
+use Rattle.tsp_judge.specs.declared.ReadFault.TheVariants as reads
+use Rattle.tsp_judge.specs.declared.LineFault.{LineFault}
+use Rattle.tsp_judge.specs.declared.LineFault.TheVariants as line_faults
+use Rattle.tsp_judge.specs.declared.EndFault.{EndFault}
+use Rattle.tsp_judge.specs.declared.EndFault.TheVariants as ends
+use Rattle.tsp_number.specs.declared.fault.NumberFault.{NumberFault}
+use Rattle.tsp_number.specs.declared.fault.NumberFault.TheVariants as numbers
+use Rattle.tsp_judge.specs.declared.WriteFault.{WriteFault}
+use Rattle.tsp_judge.specs.declared.WriteFault.TheVariants as writes
+use Rattle.tsp_judge.specs.declared.RelayoutFault.{RelayoutFault}
+use Rattle.tsp_judge.specs.declared.RelayoutFault.TheVariants as relayouts
+use Rattle.tsp_format.specs.declared.field.Field.{Field}
+use Rattle.tsp_format.specs.declared.field.Field.TheVariants as fields
+use Rattle.tsp_format.specs.Words.{field_word}
+use Rattle.tsp_number.specs.FaultText.{number_fault_text}
+use Rattle.tsp_draft.specs.FaultText.{end_fault_text}
+use Rattle.tsp_text.specs.FaultText.{line_fault_text, read_fault_text}
+use Rattle.tsp_stream.specs.FaultText.{write_fault_text}
+use Rattle.tsp_file.specs.FaultText.{relayout_fault_text}
+use Rattle.tsp_run.specs.Ending.{is_one_line}
+
+pub is_one : List ℕ → Type 0
+is_one text = is_one_line text ≡ true
+
+pub both : (front rest : List ℕ) → is_one front → is_one rest → is_one (front ++ rest)
+both front rest a b = list_all-append (λ byte. not (byte == 10)) front rest ∙ ap (λ x. x && is_one_line rest) a ∙ b
+
+glyph : (d : ℕ) → d < 10 → not (digit_glyph false d == 10) ≡ true
+glyph d small = search rules
+
+onto : (d : ℕ) (rest : List ℕ) → d < 10 → is_one rest → is_one (digit_glyph false d ∷ rest)
+onto d rest small b = ap (λ x. x && is_one_line rest) (glyph d small) ∙ b
+
+either : (stops : Bool) (a b : List ℕ) → is_one a → is_one b → is_one (if stops then a else b)
+either true a b x y = x
+either false a b x y = y
+
+digits_are : (k n : ℕ) (rest : List ℕ) → is_one rest → is_one (digits_onto k 10 false n rest)
+digits_are zero n rest b = b
+digits_are (suc k) n rest b =
+    let more = onto (n % 10) rest (mod-lt n (omega arith)) b in
+    either (n / 10 == 0) _ _ more (digits_are k (n / 10) _ more)
+
+pub number : (n : ℕ) → is_one (decimal n)
+unfolding digits
+number n = digits_are 64 n [] refl
+
+-- ---- the texts, from the inner ones to the outer
+
+of_field : (field : Field) → is_one (field_word field)
+of_field fields.NameKey = refl
+of_field fields.TypeKey = refl
+of_field fields.CommentKey = refl
+of_field fields.OtherKey = refl
+of_field fields.DimensionKey = refl
+of_field fields.CapacityKey = refl
+of_field fields.ScaleKey = refl
+of_field fields.EdgeWeightTypeKey = refl
+of_field fields.EdgeWeightFormatKey = refl
+of_field fields.NodeCoordTypeKey = refl
+of_field fields.DisplayDataTypeKey = refl
+of_field fields.NodeCoordPart = refl
+of_field fields.DisplayDataPart = refl
+of_field fields.DemandPart = refl
+of_field fields.DepotPart = refl
+of_field fields.FixedEdgesPart = refl
+of_field fields.EdgeWeightPart = refl
+of_field fields.TourPart = refl
+of_field fields.NodePotentialPart = refl
+of_field fields.RowPotentialPart = refl
+of_field fields.ColumnPotentialPart = refl
+of_field fields.FixedEdgePotentialPart = refl
+of_field fields.CombPart = refl
+of_field fields.BranchPart = refl
+
+of_number : (fault : NumberFault) → is_one (number_fault_text fault)
+of_number numbers.LongWord = refl
+of_number numbers.BadNumber = refl
+of_number numbers.TooFine = refl
+of_number numbers.OutOfRange = refl
+of_number numbers.NotWhole = refl
+
+of_end : (fault : EndFault) → is_one (end_fault_text fault)
+of_end (ends.Missing field) = both (codes "Missing ") _ refl (of_field field)
+of_end (ends.Incomplete field) = both (codes "Incomplete ") _ refl (of_field field)
+of_end ends.WrongFormat = refl
+of_end ends.WrongCount = refl
+
+of_line : (fault : LineFault) → is_one (line_fault_text fault)
+of_line line_faults.LongLine = refl
+of_line line_faults.UnknownLine = refl
+of_line line_faults.Repeated = refl
+of_line line_faults.Outside = refl
+of_line line_faults.BadValue = refl
+of_line line_faults.SectionValue = refl
+of_line line_faults.SectionEarly = refl
+of_line line_faults.TooManyNodes = refl
+of_line line_faults.StrayNumber = refl
+of_line (line_faults.Number fault) = both (codes "Number ") _ refl (of_number fault)
+of_line line_faults.RepeatedNode = refl
+of_line line_faults.SelfEdge = refl
+of_line line_faults.Surplus = refl
+of_line line_faults.AfterEnd = refl
+of_line line_faults.LateSpace = refl
+
+of_read : (fault : ReadFault) → is_one (read_fault_text fault)
+of_read (reads.Line line word fault) = both (codes "line ") _ refl (both (decimal line) _ (number line)
+    (both (codes " word ") _ refl (both (decimal word) _ (number word) (both (codes ": ") _ refl (of_line fault)))))
+of_read (reads.End fault) = both (codes "end: ") _ refl (of_end fault)
+of_read reads.OutOfMemory = refl
+of_read reads.Device = refl
+of_read reads.TooLong = refl
+
+of_write : (fault : WriteFault) → is_one (write_fault_text fault)
+of_write writes.Device = refl
+of_write writes.OutOfMemory = refl
+
+of_relayout : (fault : RelayoutFault) → is_one (relayout_fault_text fault)
+of_relayout relayouts.NotExplicit = refl
+of_relayout (relayouts.NotSymmetric i j) = both (codes "NotSymmetric ") _ refl (both (decimal i) _ (number i)
+    (both (codes " ") _ refl (number j)))
+of_relayout (relayouts.DiagonalLost i) = both (codes "DiagonalLost ") _ refl (number i)
+of_relayout relayouts.OutOfMemory = refl
+
+pub of_run : (fault : RunFault) → is_one (run_fault_text fault)
+of_run (runs.File file fault) = both (codes "file ") _ refl (both (decimal file) _ (number file)
+    (both (codes ": ") _ refl (of_read fault)))
+of_run runs.WrongKind = refl
+of_run (runs.Write fault) = both (codes "output: ") _ refl (of_write fault)
+of_run runs.OutOfMemory = refl
+of_run (runs.Relayout fault) = both (codes "relayout: ") _ refl (of_relayout fault)

@@ -1,0 +1,40 @@
+//! What always holds of the lines of a run and of what is explained, as contracts of functions that do
+//! nothing.
+
+ghost use Rattle.std.specs.Prelude.{◌≡◌, ℕ, Bool, List, true, false, Option, Some, Ok, drop, Result};
+ghost use Rattle.clap.specs.Words.{Text};
+ghost use Rattle.tsp_judge.specs.Sink.{Sink};
+ghost use Rattle.tsp_judge.specs.FaultText.{run_fault_text};
+ghost use Rattle.tsp_judge.specs.declared.fault.RunFault.{RunFault};
+ghost use Rattle.tsp_run.specs.declared.ending.Line.TheVariants as lines;
+ghost use Rattle.tsp_cli.specs.declared.task.TaskFault.{TaskFault};
+ghost use Rattle.tsp_cli.specs.declared.words.Job.{Job};
+ghost use Rattle.tsp_cli.specs.declared.words.JobFault.{JobFault};
+ghost use Rattle.tsp_cli.specs.Words.{GivesJob};
+ghost use Rattle.tsp_run.specs.declared.ending.Ending.TheVariants as endings;
+ghost use Rattle.tsp_run.specs.declared.engines.Outcome.{Outcome};
+ghost use Rattle.tsp_run.specs.Ending.{is_one_line, IsWritten, EndsLine};
+ghost use Rattle.tsp_run.specs.Run.{Ends};
+
+use crate::source::Open;
+use std::io::Read;
+
+/// The text of a fault is one line, and what is written of it is that line with its end.
+pub fn faults_are_told_on_one_line()
+    ensures one { (fault : RunFault) → is_one_line (run_fault_text fault) ≡ true }
+    ensures ended { (fault : RunFault) (old new : Option (List ℕ)) → IsWritten (Some (lines.Fault fault)) old new → EndsLine old new }
+{}
+
+/// On a terminal every answer is explained, and every task that can't be begun; elsewhere where the job
+/// says so. No words are explained that ask for no job.
+pub fn explained_on_a_terminal<F: Read + Drop, O: Open<F>>(files: &O)
+    ensures answer { (build : Text) (words : List Text) (sink : Sink) (explained : Bool) (answer : Result Outcome RunFault)
+        → Ends F.remaining (O.opens files.now) true build words sink explained (endings.Ended answer) → explained ≡ true }
+    ensures task { (build : Text) (words : List Text) (sink : Sink) (explained : Bool) (fault : TaskFault)
+        → Ends F.remaining (O.opens files.now) true build words sink explained (endings.NoTask fault) → explained ≡ true }
+    ensures no_job { (build : Text) (words : List Text) (sink : Sink) (explained : Bool) (fault : JobFault)
+        → Ends F.remaining (O.opens files.now) true build words sink explained (endings.NoJob fault) → explained ≡ false }
+    ensures elsewhere { (build : Text) (words : List Text) (sink : Sink) (explained : Bool) (answer : Result Outcome RunFault)
+        → Ends F.remaining (O.opens files.now) false build words sink explained (endings.Ended answer)
+        → (job : Job) × GivesJob (drop 1 words) (Ok job) × (explained ≡ job.explain) }
+{}

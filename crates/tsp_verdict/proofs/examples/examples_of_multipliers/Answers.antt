@@ -1,0 +1,38 @@
+use Rattle.std.proofs.Common.{inl, inr, refl, arith, rules}
+use Rattle.tsp_verdict.proofs.examples.examples_of_multipliers.Goals as goal
+
+pub returns-clause-fixed : goal.returns-clause-fixed
+returns-clause-fixed c = λ stands. stands.1.holds (inl (0, omega arith, refl))
+
+pub returns-clause-turned_round : goal.returns-clause-turned_round
+returns-clause-turned_round c = λ stands. stands.1.holds (inr (0, omega arith, refl))
+
+pub returns-clause-not_fixed : goal.returns-clause-not_fixed
+returns-clause-not_fixed c = (
+  refl,
+  record {
+    here = (omega arith, omega arith);
+    holds = search rules;
+    first = λ earlier from before. absurd (omega (arith, from, before));
+  },
+)
+
+pub returns-clause-twice : goal.returns-clause-twice
+returns-clause-twice c = (
+  refl,
+  record {
+    here = (omega arith, omega arith);
+    holds = (1, omega arith, omega arith, refl);
+    first = λ earlier from before repeated. absurd (omega (arith, from, before, repeated.1, repeated.2));
+  },
+)
+
+pub returns-clause-twice_turned_round : goal.returns-clause-twice_turned_round
+returns-clause-twice_turned_round c = (
+  refl,
+  record {
+    here = (omega arith, omega arith);
+    holds = (1, omega arith, omega arith, refl);
+    first = λ earlier from before repeated. absurd (omega (arith, from, before, repeated.1, repeated.2));
+  },
+)
