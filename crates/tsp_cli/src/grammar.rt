@@ -26,7 +26,7 @@ Exit status:
   4  the words are refused, or ask for help
   5  a file can't be read, or standard output not written
 
-With --explain, lines after a fault or a no say where it is and what to do.
+With --explain, lines after a fault or no say where it is and what to do.
 
 Examples:
   tsp show a.tsp
@@ -44,7 +44,7 @@ const BRANCHES: &str = "The path of a tree of cases: TYPE BRANCHES";
 /// The end of the help of `show`.
 const SHOW_NOTES: &str = "\
 Prints the file's name, its TYPE, the number of its nodes, and what else
-stands in it, each on a line of its own.
+it contains, each on a line of its own.
 
 Exit status: 0 done, 2 a fault of the file, 3 out of memory, 5 a device.
 
@@ -67,8 +67,8 @@ Example:
 /// The end of the help of `check`.
 const CHECK_NOTES: &str = "\
 Prints yes with the length, or no with the first reason. With potentials or
-branches a yes has a bound too: no tour is shorter than that. With a length
-that is claimed, a solution of another length is a no; one below 0 is
+branches there is a bound too: no tour is shorter than that. With a length
+that is claimed, a solution of another length is rejected; one below 0 is
 written --length=-34.
 
 Exit status: 0 yes, 1 no, 2 a fault of a file or the wrong kind,
@@ -117,7 +117,7 @@ fn top<'a>(alloc: Global) -> Result<Command<'a>, AllocError>
 fn show<'a>(alloc: Global) -> Result<Command<'a>, AllocError>
     ensures { IfOk result (IsCommandOf show) }
 {
-    let bare = command(alloc, "show", "Says what stands in a file", SHOW_NOTES);
+    let bare = command(alloc, "show", "Says what a file contains", SHOW_NOTES);
     let one = with(bare, path(alloc, "F", "The path of a TSPLIB 95 file"))?;
     with(one, explain(alloc))
 }
@@ -255,6 +255,6 @@ fn explain<'a>(alloc: Global) -> Arg<'a>
         alloc,
         "E",
         "explain",
-        "Say more of a fault, or of a no, on standard error",
+        "Explain a fault, or the line no, on standard error",
     )
 }

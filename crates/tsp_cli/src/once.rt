@@ -11,10 +11,10 @@ use crate::words::Job;
 ///
 /// # Errors
 ///
-/// `InputTwice` where two files are standard input; `UnknownLayout` where no layout has the word that
-/// stands for one; `NotALength` where the word of a length stands for none; `TwoCertificates` where both
-/// potentials and branches are named; `NoCertificate` where a bound has neither; `MissingPath` where a
-/// path is missing, as in no job that words ask for.
+/// `InputTwice` where two files are standard input; `UnknownLayout` where no layout has the given word;
+/// `NotALength` where the word of a length isn't one; `TwoCertificates` where both potentials and
+/// branches are named; `NoCertificate` where a bound has neither; `MissingPath` where a path is missing,
+/// as in no job that words ask for.
 pub fn task_of(job: &Job) -> Result<Task<Place<'_>>, TaskFault>
     ensures { GivesTask job.now result }
 {

@@ -23,13 +23,13 @@ pub enum Place<'a> {
 pub enum Task<F> {
     /// Show the contents of a file.
     Show(F),
-    /// To write a file anew, its matrix in this layout where one is named.
+    /// Write a file anew, its matrix in this layout where one is named.
     Convert(F, Option<Layout>),
-    /// To judge the solution of an instance, with this length where one is claimed.
+    /// Judge the solution of an instance, with this length where one is claimed.
     Check(F, F, Option<i64>),
     /// The same, and to bound every tour by a certificate, whose file is the third.
     CheckBy(Certificate, F, F, F, Option<i64>),
-    /// To bound every tour of an instance by a certificate, whose file is the second.
+    /// Bound every tour of an instance by a certificate, whose file is the second.
     Bound(Certificate, F, F),
 }
 
@@ -38,13 +38,13 @@ pub enum Task<F> {
 pub enum TaskFault {
     /// No layout has the word.
     UnknownLayout,
-    /// A path that the job wants is missing.
+    /// A path that the job requires is missing.
     MissingPath,
     /// Two certificates are named, potentials and branches.
     TwoCertificates,
     /// No certificate is named, where one has to be.
     NoCertificate,
-    /// The word stands for no length that fits 64 bits.
+    /// The word is no length that fits 64 bits.
     NotALength,
     /// Two files are standard input, which gives its bytes once.
     InputTwice,
@@ -55,10 +55,9 @@ pub enum TaskFault {
 ///
 /// # Errors
 ///
-/// `UnknownLayout` where no layout has the word that stands for one; `NotALength` where the word of a
-/// length stands for none; `TwoCertificates` where both potentials and branches are named;
-/// `NoCertificate` where a bound has neither; `MissingPath` where a path is missing, as in no job that
-/// words ask for.
+/// `UnknownLayout` where no layout has the given word; `NotALength` where the word of a length isn't one;
+/// `TwoCertificates` where both potentials and branches are named; `NoCertificate` where a bound has
+/// neither; `MissingPath` where a path is missing, as in no job that words ask for.
 pub(crate) fn named_task(job: &Job) -> Result<Task<Place<'_>>, TaskFault>
     ensures { NamesTask job.now result }
 {
@@ -119,7 +118,7 @@ fn layout_of(word: &Option<String>) -> Result<Option<Layout>, TaskFault>
     }
 }
 
-/// The length that a word stands for, where there is a word.
+/// The length that a word is read as, where there is a word.
 fn length_of(word: &Option<String>) -> Result<Option<i64>, TaskFault>
     ensures { GivesClaim word.now result }
 {

@@ -17,11 +17,11 @@ use std::io::ErrorKind as IoKind;
 pub enum Verb {
     /// Show the contents of a file.
     Show,
-    /// To write a file anew.
+    /// Write a file anew.
     Convert,
-    /// To judge a solution of an instance.
+    /// Judge a solution of an instance.
     Check,
-    /// To bound every tour of an instance.
+    /// Bound every tour of an instance.
     Bound,
 }
 

@@ -119,7 +119,7 @@ fn cause_of_line(look: &Look, fault: LineFault) -> Option<&'static str> {
 fn cause_of_end(look: &Look, fault: EndFault) -> Option<&'static str> {
     match fault {
         EndFault::Missing(_) if look.has_small_letters => Some(
-            "A line has this keyword in small letters. Keywords stand in capital letters.",
+            "A line has this keyword in small letters. Keywords are in capital letters.",
         ),
         EndFault::Missing(_)
         | EndFault::Incomplete(_)

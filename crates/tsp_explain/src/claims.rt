@@ -77,7 +77,7 @@ fn claim_in(comment: &[u8]) -> Option<i64> {
     if is_claim { length_of(number) } else { None }
 }
 
-/// What stands before the number at the end of a text, and the number.
+/// What comes before the number at the end of a text, and the number.
 fn split_number(text: &[u8]) -> (&[u8], &[u8]) {
     let mut start = 0usize;
     'bytes: for (index, byte) in text.iter().enumerate() {

@@ -18,8 +18,8 @@ use tsp_format::{Field, Word};
 use tsp_text::{LineFault, ReadFault};
 
 /// Appends why a file isn't read. `name` is what the user calls it, `given` what it is given for in a
-/// check, and `again` the file opened once more, where it can be. What stands at the fault is shown as
-/// far as that second look shows it.
+/// check, and `again` the file opened once more, where it can be. The text at the fault is shown as far
+/// as that second look shows it.
 ///
 /// # Errors
 ///

@@ -1,4 +1,4 @@
-//! Files in the forms of other programs: what one looks like, and what is wanted in its place.
+//! Files in the forms of other programs: what one looks like, and which file is required in its place.
 
 use crate::look::Look;
 use crate::role::Role;
@@ -119,7 +119,7 @@ fn form_of_sign(word: &[u8]) -> Option<Form> {
     }
 }
 
-/// The form of a file with so many numbers in its first line, and in its second.
+/// The form of a file with these counts of numbers in its first line and in its second.
 fn form_of_counts(given: Option<Role>, first: u32, second: u32) -> Form {
     match (given, first, second) {
         (Some(Role::Solution), 1, 2..) | (None, 1, 4..) => Form::ConcordeTour,
@@ -164,7 +164,7 @@ fn has_mark(text: &[u8]) -> bool {
     false
 }
 
-/// Appends what a file looks like, what is wanted in its place, and the recipe that converts it.
+/// Appends what a file looks like, which one is required in its place, and the recipe that converts it.
 pub(crate) fn push_foreign(
     text: &mut Vec<u8>,
     form: Form,

@@ -1,10 +1,10 @@
 //! Explains to a person why a file isn't read, or why a solution is rejected.
 //!
 //! The sentences are in `sentences` and `wanted`. A second look at the file (`look`) finds the text
-//! at a fault. It changes nothing of the first answer, and its texts have no contract.
+//! at a fault. It changes nothing of the first answer, and its words have no contract.
 //!
 //! ```text
-//! explain_file(alloc, &mut text, "a.tsp", Some(reader), fault)?;
+//! explain_file(alloc, &mut text, "a.tsp", Some(Role::Instance), Some(reader), fault)?;
 //! ```
 #![tactic(auto)]
 

@@ -228,7 +228,7 @@ fn push_lengths(text: &mut Vec<u8>, instance: &File, solution: &File) -> Result<
     {
         push_lines(
             text,
-            "Its first node stands at its end again: leave it out there.",
+            "Its first node is at its end again: leave it out there.",
         )
     } else {
         match first_repeated(tour) {
@@ -327,7 +327,7 @@ fn push_repeated(text: &mut Vec<u8>, place: u32, solution: &File) -> Result<(), 
         &[
             ("Place ", i64::from(place)),
             (" is node ", i64::from(node)),
-            (", which stands at place ", first),
+            (", which is also at place ", first),
         ],
     )
 }

@@ -22,7 +22,7 @@ pub(crate) fn line_sentence(fault: LineFault) -> &'static str {
              With a colon the line would be kept, and not judged."
         }
         LineFault::Repeated => {
-            "An earlier line has this keyword or section. Only COMMENT may stand in several lines."
+            "An earlier line has this keyword or section. Only COMMENT may be in several lines."
         }
         LineFault::Outside => "This is a word of TSPLIB 95 that tsp doesn't read.",
         LineFault::BadValue => {
@@ -32,12 +32,12 @@ pub(crate) fn line_sentence(fault: LineFault) -> &'static str {
             "The line of a section has no value. What belongs to the section begins in the next line."
         }
         LineFault::SectionEarly => {
-            "The section stands before DIMENSION. Only TOUR_SECTION may stand before it."
+            "The section comes before DIMENSION. Only TOUR_SECTION may come before it."
         }
         LineFault::TooManyNodes => {
             "A matrix of weights is read for at most 5,000 nodes, and DIMENSION is more."
         }
-        LineFault::StrayNumber => "A number stands where no section is open.",
+        LineFault::StrayNumber => "There is a number where no section is open.",
         LineFault::Number(fault) => number_sentence(fault),
         LineFault::RepeatedNode => {
             "An earlier group of the section has this node. Each node from 1 to DIMENSION has one group."
@@ -45,11 +45,11 @@ pub(crate) fn line_sentence(fault: LineFault) -> &'static str {
         LineFault::SelfEdge => "Both nodes of this pair are the same one.",
         LineFault::Surplus => "This is more than the file can have.",
         LineFault::AfterEnd => {
-            "The list was ended by -1 before this word. After that only words -1 may stand."
+            "The list was ended by -1 before this word. After that only words -1 may come."
         }
         LineFault::LateSpace => {
             "The line says that each node has three coordinates, after a NODE_COORD_SECTION with two of each.\n\
-             It stands before that section."
+             It has to come before that section."
         }
     }
 }
@@ -66,7 +66,7 @@ pub(crate) fn number_sentence(fault: NumberFault) -> &'static str {
             "The number is too fine: it has more than 9 decimals that count."
         }
         NumberFault::OutOfRange => "The number is out of its range.",
-        NumberFault::NotWhole => "A whole number has to stand here. 12.0 and 1.2e1 are whole too.",
+        NumberFault::NotWhole => "A whole number is required here. 12.0 and 1.2e1 are whole too.",
     }
 }
 
@@ -113,7 +113,7 @@ pub fn write_sentence(fault: WriteFault) -> &'static str
 {
     match fault {
         WriteFault::Device => {
-            "Standard output can't be written. What stands there is a front part of the text, or nothing."
+            "Standard output can't be written. It has a prefix of the text, or nothing."
         }
         WriteFault::OutOfMemory => "There is no memory for the text.",
     }
@@ -127,13 +127,13 @@ pub(crate) fn reason_sentence(reason: Reason) -> &'static str {
             "A tour has at least 3 nodes, and routes have a depot and at least 1 customer."
         }
         Reason::NotSymmetric { i: _, j: _ } => {
-            "In a TSP the cost between two nodes is the same both ways. Where it isn't, TYPE is ATSP."
+            "In a TSP the cost between two nodes is the same in both directions. Where it isn't, TYPE is ATSP."
         }
         Reason::Dimension => "DIMENSION of the solution isn't that of the instance.",
         Reason::TourCount => "The second file has to hold exactly one tour, which -1 ends.",
         Reason::TourLength => "A tour lists each node of the instance once.",
         Reason::NodeOutOfRange { place: _ } => "The nodes of the instance are 1 to DIMENSION.",
-        Reason::RepeatedNode { place: _ } => "Each node stands in a tour, or in the routes, once.",
+        Reason::RepeatedNode { place: _ } => "Each node is in a tour, or in the routes, once.",
         Reason::FixedEdgeUnused { index: _ } => {
             "The tour has to use every pair of FIXED_EDGES_SECTION: as neighbours,\n\
              under TYPE ATSP from the pair's first node to its second."
@@ -148,7 +148,7 @@ pub(crate) fn reason_sentence(reason: Reason) -> &'static str {
              Other pairs need not be in a tour, so a multiplier on one bounds nothing."
         }
         Reason::MultiplierRepeated { index: _ } => {
-            "FIXED_EDGE_POTENTIAL_SECTION has at most one multiplier for each pair, whichever node stands first."
+            "FIXED_EDGE_POTENTIAL_SECTION has at most one multiplier for each pair, whichever node comes first."
         }
         Reason::DualInfeasible { i: _, j: _ } => {
             "The potentials of a row and a column may sum to at most SCALE times the cost from the one node to the other.\n\
@@ -160,10 +160,10 @@ pub(crate) fn reason_sentence(reason: Reason) -> &'static str {
         Reason::DepotInRoute { place: _ } => {
             "A route lists its customers alone: it begins and ends at the depot, which isn't listed."
         }
-        Reason::Unserved { node: _ } => "Every node but the depot stands in a route.",
+        Reason::Unserved { node: _ } => "Every node but the depot is in a route.",
         Reason::Overload { route: _ } => "The demands of a route sum to at most CAPACITY.",
         Reason::LengthClaimed { length: _ } => {
-            "Nothing else stands against the solution, but its length isn't the one that --length claims."
+            "No other reason applies to the solution, but its length isn't the one that --length claims."
         }
         Reason::NotBranches => "The certificate has to be of TYPE BRANCHES.",
         Reason::BranchesDimension => "DIMENSION of the tree of cases isn't that of the instance.",
@@ -174,14 +174,14 @@ pub(crate) fn reason_sentence(reason: Reason) -> &'static str {
         }
         Reason::BranchTwice { index: _ } => {
             "This branch of BRANCH_SECTION is on a pair that a branch above it decides, or that is a fixed edge of the instance,\n\
-             whichever node stands first. For an ATSP it is the arc from the first node to the second one."
+             whichever node comes first. For an ATSP it is the arc from the first node to the second one."
         }
         Reason::BadLeaf { index: _ } => {
             "This leaf of BRANCH_SECTION has a number that isn't taken. Indices are 1 to DIMENSION for the potentials of nodes,\n\
              and go on from there for the multipliers of lone sets and combs, in the order of COMB_SECTION.\n\
              A potential is at most 1,000,000,000,000,000 in size; multipliers aren't below 0,\n\
              and sum to at most 300,000,000,000,000,000.\n\
-             Numbers are told by their differences to those of the leaf before."
+             Numbers are written as their differences to those of the leaf before."
         }
     }
 }

@@ -70,7 +70,7 @@ fn push_indented_byte(text: &mut Vec<u8>, byte: u8) -> Result<(), AllocError>
     }
 }
 
-/// Appends what was told, as far as it was told. What stood in the text before stays in front.
+/// Appends the explanation, whole or in part. The text from before stays in front.
 pub(crate) fn append(
     text: &mut Vec<u8>,
     told: Vec<u8>,

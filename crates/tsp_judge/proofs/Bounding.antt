@@ -38,7 +38,7 @@ ends_unbounded by first second instance certificate sink (Write fault) one two b
 ends_unbounded by first second instance certificate sink OutOfMemory one two bounds = (instance, certificate, one, two, bounds)
 ends_unbounded by first second instance certificate sink (Relayout fault) one two bounds = (instance, certificate, one, two, bounds)
 
--- what a yes says
+-- what an accepted bound says
 a_bound_yes : (by : Certificate) (first second : Turn) (sink : Sink) (instance certificate : Fields) (bound : ℤ) → IsFile first instance → IsFile second certificate
     → BoundsFiles by instance certificate sink (Ok (Ok (Some bound))) → IsABoundYes by first second sink bound
 a_bound_yes by first second sink instance certificate bound one two b = record {

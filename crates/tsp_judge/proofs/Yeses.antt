@@ -1,4 +1,4 @@
--- What a yes of a check says, by its verdict.
+-- What an accepted check says, by its verdict.
 use Rattle.std.specs.Prelude.{ℤ, ◌⊎◌, ◌≤ℤ◌}
 use Rattle.std.proofs.Common.{◌≡◌, ℕ, Bool, true, false, Option, Some, None, Result, Ok, Err, refl, sym, subst, subst₂, inl, inr}
 use Rattle.std.proofs.lemmas.Bool.{false≢true}
@@ -61,7 +61,7 @@ pub of_type : (by : Certificate) (instance certificate : Fields) → ((reason : 
 of_type Potentials instance certificate none = potentials certificate.kind (λ other. none NotPotentials other)
 of_type Branches instance certificate none = tree certificate.kind (λ other. none NotBranches other)
 
--- ---- a claim: a yes is one without it too, with the length that is claimed
+-- ---- a claim: a solution accepted with it is accepted without it too, with the claimed length
 
 tour_as_claimed : (certificate : Option (Certificate × Fields)) (claimed : Option ℤ) (instance solution : Fields) (length : ℤ) (bound : Option ℤ)
     → IsVerdictWith certificate claimed instance solution (verdicts.Tour length bound)

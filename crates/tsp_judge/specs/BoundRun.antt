@@ -1,4 +1,4 @@
--- What bounding the tours of an instance, without a solution, does to its readers and its writer, and what it answers.
+-- What bounding the tours of an instance, without a solution, does to its readers and its writer, and its result.
 use Rattle.std.specs.Prelude.{◌≡◌, ◌⊎◌, false, Option, None, Some, Result, Ok, Err, IsTrue, ℤ}
 use Rattle.tsp_stream.specs.declared.output.WriteFault.TheVariants as write_faults
 use Rattle.tsp_stream.specs.Turn.{Turn, IsUnread}
@@ -39,13 +39,13 @@ EndsUnbounded by first second sink (File file fault) = IsUnwritten sink
 EndsUnbounded by first second sink fault = (instance certificate : Fields) × IsFile first instance × IsFile second certificate
     × BoundsFiles by instance certificate sink (Err fault)
 
--- What a run answers: the files that were read, and the bound, or the first reason against them.
+-- The result of a run: the files that were read, and the bound, or the first reason against them.
 abbrev pub IsBoundRun : Certificate → Turn → Turn → Sink → Result Bounded RunFault → Type 0
 IsBoundRun by first second sink (Ok bounded) = IsFile first bounded.instance × IsFile second bounded.certificate
     × BoundsFiles by bounded.instance bounded.certificate sink (Ok bounded.found)
 IsBoundRun by first second sink (Err fault) = EndsUnbounded by first second sink fault
 
--- What a yes says: the second file is of the certificate's TYPE, its bound is printed, and every tour of the instance is at least
+-- With a bound the second file is of the certificate's TYPE, its bound is printed, and every tour of the instance is at least
 -- as long as that.
 pub record IsABoundYes (by : Certificate) (first second : Turn) (sink : Sink) (bound : ℤ) : Type 0 where
   pub instance : Fields
@@ -71,7 +71,7 @@ abbrev pub SaysBound : Certificate → Turn → Turn → Sink → Option ℤ →
 SaysBound by first second sink (Some bound) = IsABoundYes by first second sink bound
 SaysBound by first second sink None = IsNoTourYes by first second sink
 
--- what the run does, and what its yes says
+-- what the run does, and what its line `yes` means
 abbrev pub IsBoundRunOf : Certificate → Turn → Turn → Sink → Result Bounded RunFault → Type 0
 IsBoundRunOf by first second sink result = IsBoundRun by first second sink result
     × ((bounded : Bounded) (bound : Option ℤ) → result ≡ Ok bounded → bounded.found ≡ Ok bound → SaysBound by first second sink bound)

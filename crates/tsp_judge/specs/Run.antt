@@ -100,21 +100,21 @@ EndsWithout given claimed first second sink fault = (instance solution : Fields)
     × AreRead given first second instance solution certificate
     × JudgesFiles certificate claimed instance solution sink (Err fault)
 
--- What a run answers: the files that were read, and the verdict on them.
+-- The result of a run: the files that were read, and the verdict on them.
 abbrev pub IsRun : Given → Option ℤ → Turn → Turn → Sink → Result Judged RunFault → Type 0
 IsRun given claimed first second sink (Ok judged) =
     AreRead given first second judged.instance judged.solution judged.certificate
     × JudgesFiles judged.certificate claimed judged.instance judged.solution sink (Ok judged.verdict)
 IsRun given claimed first second sink (Err fault) = EndsWithout given claimed first second sink fault
 
--- What a check answers: whether the verdict on the files that were read is a yes.
+-- The result of a check: whether the solution is accepted.
 abbrev pub IsCheckAnswer : Given → Option ℤ → Turn → Turn → Sink → Result Bool RunFault → Type 0
 IsCheckAnswer given claimed first second sink (Ok answer) = (instance solution : Fields) × (certificate : Option (Certificate × Fields))
     × (verdict : Verdict) × AreRead given first second instance solution certificate
     × JudgesFiles certificate claimed instance solution sink (Ok verdict) × (answer ≡ is_yes verdict)
 IsCheckAnswer given claimed first second sink (Err fault) = EndsWithout given claimed first second sink fault
 
--- whether it is a yes, where there is a verdict
+-- whether the solution is accepted, where there is a verdict
 abbrev pub told : Result Judged RunFault → Result Bool RunFault
 told (Ok judged) = Ok (is_yes judged.verdict)
 told (Err fault) = Err fault

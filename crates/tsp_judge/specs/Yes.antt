@@ -79,7 +79,7 @@ abbrev pub SaysYes : Given → Option ℤ → Turn → Turn → Sink → Type 0
 SaysYes None claimed first second sink = IsATourYes claimed first second sink ⊎ IsARoutesYes claimed first second sink
 SaysYes (Some given) claimed first second sink = IsAYes given.0 claimed first second given.1 sink
 
--- ---- what a check does, and what its yes says
+-- ---- what a check does, and what its line `yes` means
 
 abbrev pub IsCheckOf : Given → Option ℤ → Turn → Turn → Sink → Result Bool RunFault → Type 0
 IsCheckOf given claimed first second sink result = IsCheckAnswer given claimed first second sink result

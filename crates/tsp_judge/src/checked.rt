@@ -21,9 +21,9 @@ use tsp_verdict::Certificate;
 /// were read.
 ///
 /// Where a certificate of a bound is asked for, it is the file of the third reader, and no tour of the
-/// instance is shorter than the bound of a yes. Where it isn't, that reader isn't read. Where a length is
-/// claimed, a solution of another length is refused with `LengthClaimed`: after all other reasons
-/// against the solution, and before those against the certificate.
+/// instance is shorter than the bound of an accepted tour. Where it isn't, that reader isn't read. Where
+/// a length is claimed, a solution of another length is rejected with `LengthClaimed`: after all other
+/// reasons against the solution, and before those against the certificate.
 ///
 /// Each file is read whole before the next, and the first file that is none decides. Nothing is
 /// written before the verdict exists.

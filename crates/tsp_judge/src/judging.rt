@@ -17,7 +17,7 @@ use tsp_verdict::{Certificate, Verdict, is_bounded, judge};
 /// The files that a run has read, and the verdict on them.
 #[derive(Drop)]
 pub struct Judged {
-    /// The verdict, of which the report is.
+    /// The verdict, which the report prints.
     pub verdict: Verdict,
     /// The first file.
     pub instance: Instance,

@@ -10,11 +10,14 @@ use tsp_file::File;
 use tsp_reason::Reason;
 use tsp_stream::{Piece, Watched, WriteFault, hand_over, put};
 
-/// Writes the report on the bound of an instance, line by line: the lines on the instance, the bound, or
-/// `none` where the instance has no tour, and `yes`, or `no` with the first reason against the instance or the certificate.
+/// Writes the report on the bound of an instance, line by line: the lines on the instance; the bound, or
+/// `none` where the instance has no tour, and `yes`; or `no` with the first reason against the instance
+/// or the certificate.
 ///
-/// At `Device` a front of the report was written, and nothing else; a writer that was handed in as
-/// failed gets nothing. No memory is taken, and `OutOfMemory` is never answered.
+/// # Errors
+///
+/// `Device` where the writer fails, or had failed before: then a prefix of the report was written, and
+/// nothing else. No memory is taken, so `OutOfMemory` is never returned.
 pub fn write_bound<W: Write>(
     instance: &File,
     found: Result<Option<i128>, Reason>,
@@ -36,7 +39,7 @@ pub fn write_bound<W: Write>(
     }
 }
 
-/// Adds the line of a bound and the yes, or the line of a no.
+/// Adds the line of a bound and the line `yes`, or the line `no`.
 fn put_found<W: Write>(piece: &mut Piece, out: &mut Watched<W>, found: Result<Option<i128>, Reason>)
     ensures { Puts W.contents out.old piece.old out.new piece.new (bound_found_lines found) }
 {
@@ -46,7 +49,7 @@ fn put_found<W: Write>(piece: &mut Piece, out: &mut Watched<W>, found: Result<Op
     }
 }
 
-/// Adds the line of a bound, and the yes.
+/// Adds the line of a bound, and the line `yes`.
 fn put_bound<W: Write>(piece: &mut Piece, out: &mut Watched<W>, bound: Option<i128>)
     ensures { Puts W.contents out.old piece.old out.new piece.new (bound_alone_lines bound) }
 {

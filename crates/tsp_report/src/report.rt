@@ -133,7 +133,7 @@ fn put_verdict<W: Write>(piece: &mut Piece, out: &mut Watched<W>, verdict: Verdi
     }
 }
 
-/// Adds the line of a no.
+/// Adds the line `no` with its reason.
 pub(crate) fn put_no<W: Write>(piece: &mut Piece, out: &mut Watched<W>, reason: Reason)
     ensures { Puts W.contents out.old piece.old out.new piece.new (no_line reason) }
 {

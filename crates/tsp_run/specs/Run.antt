@@ -50,7 +50,7 @@ AsksVersion (Refused refusal) = kind_of refusal ≡ kinds.DisplayVersion
 AsksVersion OutOfMemory = ⊥
 
 -- How a run ends with these words, of which the first is the program's own name. They ask for no job, and then nothing is
--- written: they are refused, or ask for the version, which is told with this text of the build. Or the run ends with the job
+-- written: they are refused, or ask for the version, which is printed with this text of the build. Or the run ends with the job
 -- that they ask for. That is explained where the job says so, and on a terminal; nothing else is.
 abbrev pub Ends : {F : Type 0} → (F → Option (List ℕ)) → (Place → F → Type 0) → Bool → Text → List Text → Sink → Bool
     → Ending → Type 0

@@ -1,4 +1,4 @@
--- What is told to a person at a terminal that is read.
+-- The line for a person at a terminal that is read.
 use Rattle.std.specs.Prelude.{ℕ, List, codes}
 
 abbrev pub waiting_line : List ℕ

@@ -131,8 +131,8 @@ fn push_write_fault(
     }
 }
 
-/// Appends what explains a no, from the files that were judged, and of a yes whether a comment of the
-/// solution claims another length.
+/// Appends what explains the line `no`, from the files that were judged, and after `yes` whether a
+/// comment of the solution claims another length.
 fn push_outcome(
     alloc: Global,
     text: &mut Vec<u8>,

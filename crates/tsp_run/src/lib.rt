@@ -6,7 +6,7 @@
 //! tsp_tool's.
 //!
 //! ```text
-//! let (status, written) = run(alloc, &words, &files, &mut out, &mut errors, on_terminal);
+//! let (status, written) = run(alloc, &words, &files, &mut out, &mut errors, on_terminal, build);
 //! ```
 #![tactic(auto)]
 

@@ -21,10 +21,10 @@ use tsp_judge::Watched;
 /// Does what the words of a command line ask for, of which the first is the program's own name; what
 /// comes of it goes to the writer `out`, and where there is no answer the reason to `errors`.
 ///
-/// The answer is the exit status, and whether the reason could be told. Files are opened in the order
+/// The result is the exit status, and whether the reason could be written. Files are opened in the order
 /// in which they are read, each as `files` opens its place. The reason is explained where the words ask
 /// for that, and wherever `errors` is a terminal, as `on_terminal` says. Where they ask for the version,
-/// that is told with the text `build`.
+/// that is printed with the text `build`.
 pub fn run<F: Read + Drop, O: Open<F>, W: Write, E: Write>(
     alloc: Global,
     line: &[String],

@@ -1,4 +1,4 @@
-//! What is told to a person at a terminal that is read.
+//! The line for a person at a terminal that is read.
 
 ghost use Rattle.std.specs.Prelude.{◌≡◌, ◌≤◌, ◌<◌, true, false, length, OnOk};
 ghost use Rattle.std.specs.Io.KnownBytes.{Appends, Keeps};
@@ -7,10 +7,10 @@ ghost use Rattle.tsp_run.specs.Waiting.{waiting_line};
 use std::io;
 use std::io::Write;
 
-/// What is told on a terminal that is read.
+/// The line on a terminal that is read.
 const WAITING: &str = "reading standard input; tsp --help tells more\n";
 
-/// Tells that standard input is read, where it is a terminal, as `reads_terminal` says, and no words
+/// Writes that standard input is read, where it is a terminal, as `reads_terminal` says, and no words
 /// follow the program's own name, which is the first of `line`. Else nothing is written.
 ///
 /// # Errors

@@ -84,7 +84,7 @@ fn layouts_and_devices_have_their_sentences(rt: HostRuntime) -> Result<(), Fail>
     same(
         &rt,
         write_sentence(WriteFault::Device),
-        "Standard output can't be written. What stands there is a front part of the text, or nothing.",
+        "Standard output can't be written. It has a prefix of the text, or nothing.",
     );
     same(
         &rt,

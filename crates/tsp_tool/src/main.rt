@@ -1,4 +1,4 @@
-//! The program `tsp`, which shows, converts and checks TSPLIB 95 files.
+//! The program `tsp`, which shows, converts, checks and bounds TSPLIB 95 files.
 //!
 //! It has the calls of the host alone: the words of the command line, the opening of files, and the
 //! streams. All else is tsp_run's. What a task writes goes to standard output.
@@ -20,7 +20,7 @@ fn main(rt: HostRuntime) -> ExitCode {
     let mut out = Watched::new(rt.stdout());
     let mut errors = rt.stderr();
     let on_terminal = errors.is_terminal();
-    // Where the reason can't be written, the status alone tells it.
+    // Where the reason can't be written, only the status reports it.
     let (status, _) = match words_of_line(&rt) {
         Ok(line) => {
             let _ = tell_waiting(&line, rt.stdin().is_terminal(), &mut errors);

@@ -1,4 +1,4 @@
--- What is judged of a solution: on its own, by the TYPE of the instance; with a certificate of a bound; and with a length that
+-- The verdict on a solution: on its own, by the TYPE of the instance; with a certificate of a bound; and with a length that
 -- is claimed.
 use Rattle.std.specs.Prelude.{◌≡◌, ◌≢◌, ◌⊎◌, Bool, Option, None, Some, ℤ}
 use Rattle.tsp_format.specs.declared.kinds.Kind.{Kind}
@@ -73,13 +73,13 @@ abbrev pub IsOtherClaimed : Option ℤ → ℤ → Type 0
 IsOtherClaimed None length_is = ⊥
 IsOtherClaimed (Some claim) length_is = claim ≢ length_is
 
--- the verdict is a yes with this length
+-- the solution is accepted with this length
 abbrev pub HasLength : Verdict → ℤ → Type 0
 HasLength (Tour length_is bound) found = found ≡ length_is
 HasLength (Routes length_is routes least) found = found ≡ length_is
 HasLength (No reason) found = ⊥
 
--- the verdict is a no, which has none
+-- the solution is rejected, so the verdict has no length
 abbrev pub HasNoLength : Verdict → Type 0
 HasNoLength (Tour length_is bound) = ⊥
 HasNoLength (Routes length_is routes least) = ⊥
@@ -89,9 +89,9 @@ HasNoLength (No reason) = Unit {0}
 abbrev pub IsOfLength : Fields → Fields → ℤ → Type 0
 IsOfLength instance solution found = (yes : Verdict) × IsVerdictOn instance solution yes × HasLength yes found
 
--- A no, in this order: the solution is refused on its own; or it is accepted with another length than the claimed one; or its
--- length is the claimed one, and the reason is the first one against the certificate. A yes: it is one without the claim too,
--- and its length is the claimed one.
+-- Rejected, in this order: the solution is rejected on its own; or it is accepted with another length than the claimed one; or
+-- its length is the claimed one, and the reason is the first one against the certificate. Accepted: it is accepted without the
+-- claim too, and its length is the claimed one.
 abbrev pub IsClaimedVerdict : ℤ → Option (Certificate × Fields) → Fields → Fields → Verdict → Type 0
 IsClaimedVerdict claim given instance solution (No reason) = IsVerdictOn instance solution (No reason)
     ⊎ ((found : ℤ) × IsOfLength instance solution found × (claim ≢ found) × (reason ≡ LengthClaimed found))

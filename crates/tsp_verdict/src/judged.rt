@@ -18,12 +18,15 @@ use tsp_reason::{Certificate, Reason, Verdict};
 ///
 /// The reasons of [`judge_tour`] or of [`judge_routes`] are judged first. Then a length that is claimed
 /// has to be that of the solution, and is refused with `LengthClaimed` where it isn't. The reasons
-/// against a certificate are judged last. A TYPE is required whose solutions are judged so: with a
-/// certificate one that [`crate::is_bounded`] accepts.
+/// against a certificate are judged last.
+///
+/// # Requires
+///
+/// A TYPE whose solutions are judged so: with a certificate one that [`crate::is_bounded`] accepts.
 ///
 /// # Errors
 ///
-/// Out of memory, and then no reason up to `NodeOutOfRange`, in the order of the TYPE, stands.
+/// Out of memory, and then no reason up to `NodeOutOfRange`, in the order of the TYPE, applies.
 pub fn judge(
     alloc: Global,
     instance: &Instance,
@@ -46,8 +49,8 @@ pub fn judge(
     }
 }
 
-/// The verdict on a solution on its own. Out of memory, no reason stands of those that are found without
-/// memory.
+/// The verdict on a solution on its own. Out of memory, none of the reasons applies that are found
+/// without memory.
 fn judge_alone(alloc: Global, instance: &Instance, solution: &File) -> Result<Verdict, AllocError>
     ensures { MatchResult result
         (λ verdict. IsVerdictOn instance.now solution.now verdict)
@@ -74,7 +77,7 @@ fn with_claim(verdict: Verdict, claimed: Option<i64>) -> Verdict
     verdict
 }
 
-/// The length in a yes, or `None` where the verdict is a no.
+/// The length of an accepted solution, or `None` where it is rejected.
 fn length_in(verdict: Verdict) -> Option<i64>
     ensures { MatchOption result (HasNoLength verdict) (λ length. HasLength verdict length) }
 {

@@ -1,10 +1,12 @@
 //! The verdict on a solution of an instance: the first reason against it, or its length and bound.
+//! Or the bound of an instance without a solution.
 //!
 //! It judges files in memory. It reads and writes nothing: that is tsp_judge's.
 //!
 //! ```text
-//! let verdict = judge_tour(alloc, &instance, &solution)?;
-//! let verdict = judge_tour_bound(alloc, &instance, &solution, &potentials)?;
+//! let by = Some((Certificate::Potentials, &potentials));
+//! let verdict = judge(alloc, &instance, &solution, by, claimed)?;
+//! let bound = judge_bound(alloc, Certificate::Potentials, &instance, &potentials)?;
 //! ```
 #![tactic(auto)]
 
