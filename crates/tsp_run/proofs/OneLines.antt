@@ -32,13 +32,19 @@ use Rattle.tsp_run.specs.Ending.{is_one_line}
 pub is_one : List ℕ → Type 0
 is_one text = is_one_line text ≡ true
 
+one : (text : List ℕ) → is_one_line text ≡ true → is_one text
+unfolding is_one
+one text is = is
+
 pub both : (front rest : List ℕ) → is_one front → is_one rest → is_one (front ++ rest)
+unfolding is_one
 both front rest a b = list_all-append (λ byte. not (byte == 10)) front rest ∙ ap (λ x. x && is_one_line rest) a ∙ b
 
 glyph : (d : ℕ) → d < 10 → not (digit_glyph false d == 10) ≡ true
 glyph d small = search rules
 
 onto : (d : ℕ) (rest : List ℕ) → d < 10 → is_one rest → is_one (digit_glyph false d ∷ rest)
+unfolding is_one
 onto d rest small b = ap (λ x. x && is_one_line rest) (glyph d small) ∙ b
 
 either : (stops : Bool) (a b : List ℕ) → is_one a → is_one b → is_one (if stops then a else b)
@@ -53,89 +59,94 @@ digits_are (suc k) n rest b =
 
 pub number : (n : ℕ) → is_one (decimal n)
 unfolding digits
-number n = digits_are 64 n [] refl
+number n = digits_are 64 n [] (one [] refl)
 
 -- ---- the texts, from the inner ones to the outer
 
 of_field : (field : Field) → is_one (field_word field)
-of_field fields.NameKey = refl
-of_field fields.TypeKey = refl
-of_field fields.CommentKey = refl
-of_field fields.OtherKey = refl
-of_field fields.DimensionKey = refl
-of_field fields.CapacityKey = refl
-of_field fields.ScaleKey = refl
-of_field fields.EdgeWeightTypeKey = refl
-of_field fields.EdgeWeightFormatKey = refl
-of_field fields.NodeCoordTypeKey = refl
-of_field fields.DisplayDataTypeKey = refl
-of_field fields.NodeCoordPart = refl
-of_field fields.DisplayDataPart = refl
-of_field fields.DemandPart = refl
-of_field fields.DepotPart = refl
-of_field fields.FixedEdgesPart = refl
-of_field fields.EdgeWeightPart = refl
-of_field fields.TourPart = refl
-of_field fields.NodePotentialPart = refl
-of_field fields.RowPotentialPart = refl
-of_field fields.ColumnPotentialPart = refl
-of_field fields.FixedEdgePotentialPart = refl
-of_field fields.CombPart = refl
-of_field fields.BranchPart = refl
+of_field fields.NameKey = one _ refl
+of_field fields.TypeKey = one _ refl
+of_field fields.CommentKey = one _ refl
+of_field fields.OtherKey = one _ refl
+of_field fields.DimensionKey = one _ refl
+of_field fields.CapacityKey = one _ refl
+of_field fields.ScaleKey = one _ refl
+of_field fields.EdgeWeightTypeKey = one _ refl
+of_field fields.EdgeWeightFormatKey = one _ refl
+of_field fields.NodeCoordTypeKey = one _ refl
+of_field fields.DisplayDataTypeKey = one _ refl
+of_field fields.NodeCoordPart = one _ refl
+of_field fields.DisplayDataPart = one _ refl
+of_field fields.DemandPart = one _ refl
+of_field fields.DepotPart = one _ refl
+of_field fields.FixedEdgesPart = one _ refl
+of_field fields.EdgeWeightPart = one _ refl
+of_field fields.TourPart = one _ refl
+of_field fields.NodePotentialPart = one _ refl
+of_field fields.RowPotentialPart = one _ refl
+of_field fields.ColumnPotentialPart = one _ refl
+of_field fields.FixedEdgePotentialPart = one _ refl
+of_field fields.CombPart = one _ refl
+of_field fields.BranchPart = one _ refl
 
 of_number : (fault : NumberFault) → is_one (number_fault_text fault)
-of_number numbers.LongWord = refl
-of_number numbers.BadNumber = refl
-of_number numbers.TooFine = refl
-of_number numbers.OutOfRange = refl
-of_number numbers.NotWhole = refl
+of_number numbers.LongWord = one _ refl
+of_number numbers.BadNumber = one _ refl
+of_number numbers.TooFine = one _ refl
+of_number numbers.OutOfRange = one _ refl
+of_number numbers.NotWhole = one _ refl
 
 of_end : (fault : EndFault) → is_one (end_fault_text fault)
-of_end (ends.Missing field) = both (codes "Missing ") _ refl (of_field field)
-of_end (ends.Incomplete field) = both (codes "Incomplete ") _ refl (of_field field)
-of_end ends.WrongFormat = refl
-of_end ends.WrongCount = refl
+of_end (ends.Missing field) = both (codes "Missing ") _ (one _ refl) (of_field field)
+of_end (ends.Incomplete field) = both (codes "Incomplete ") _ (one _ refl) (of_field field)
+of_end ends.WrongFormat = one _ refl
+of_end ends.WrongCount = one _ refl
 
 of_line : (fault : LineFault) → is_one (line_fault_text fault)
-of_line line_faults.LongLine = refl
-of_line line_faults.UnknownLine = refl
-of_line line_faults.Repeated = refl
-of_line line_faults.Outside = refl
-of_line line_faults.BadValue = refl
-of_line line_faults.SectionValue = refl
-of_line line_faults.SectionEarly = refl
-of_line line_faults.TooManyNodes = refl
-of_line line_faults.StrayNumber = refl
-of_line (line_faults.Number fault) = both (codes "Number ") _ refl (of_number fault)
-of_line line_faults.RepeatedNode = refl
-of_line line_faults.SelfEdge = refl
-of_line line_faults.Surplus = refl
-of_line line_faults.AfterEnd = refl
-of_line line_faults.LateSpace = refl
+of_line line_faults.LongLine = one _ refl
+of_line line_faults.UnknownLine = one _ refl
+of_line line_faults.Repeated = one _ refl
+of_line line_faults.Outside = one _ refl
+of_line line_faults.BadValue = one _ refl
+of_line line_faults.SectionValue = one _ refl
+of_line line_faults.SectionEarly = one _ refl
+of_line line_faults.TooManyNodes = one _ refl
+of_line line_faults.StrayNumber = one _ refl
+of_line (line_faults.Number fault) = both (codes "Number ") _ (one _ refl) (of_number fault)
+of_line line_faults.RepeatedNode = one _ refl
+of_line line_faults.SelfEdge = one _ refl
+of_line line_faults.Surplus = one _ refl
+of_line line_faults.AfterEnd = one _ refl
+of_line line_faults.LateSpace = one _ refl
 
 of_read : (fault : ReadFault) → is_one (read_fault_text fault)
-of_read (reads.Line line word fault) = both (codes "line ") _ refl (both (decimal line) _ (number line)
-    (both (codes " word ") _ refl (both (decimal word) _ (number word) (both (codes ": ") _ refl (of_line fault)))))
-of_read (reads.End fault) = both (codes "end: ") _ refl (of_end fault)
-of_read reads.OutOfMemory = refl
-of_read reads.Device = refl
-of_read reads.TooLong = refl
+of_read (reads.Line line word fault) = both (codes "line ") _ (one _ refl) (both (decimal line) _ (number line)
+    (both (codes " word ") _ (one _ refl) (both (decimal word) _ (number word) (both (codes ": ") _ (one _ refl) (of_line fault)))))
+of_read (reads.End fault) = both (codes "end: ") _ (one _ refl) (of_end fault)
+of_read reads.OutOfMemory = one _ refl
+of_read reads.Device = one _ refl
+of_read reads.TooLong = one _ refl
 
 of_write : (fault : WriteFault) → is_one (write_fault_text fault)
-of_write writes.Device = refl
-of_write writes.OutOfMemory = refl
+of_write writes.Device = one _ refl
+of_write writes.OutOfMemory = one _ refl
 
 of_relayout : (fault : RelayoutFault) → is_one (relayout_fault_text fault)
-of_relayout relayouts.NotExplicit = refl
-of_relayout (relayouts.NotSymmetric i j) = both (codes "NotSymmetric ") _ refl (both (decimal i) _ (number i)
-    (both (codes " ") _ refl (number j)))
-of_relayout (relayouts.DiagonalLost i) = both (codes "DiagonalLost ") _ refl (number i)
-of_relayout relayouts.OutOfMemory = refl
+of_relayout relayouts.NotExplicit = one _ refl
+of_relayout (relayouts.NotSymmetric i j) = both (codes "NotSymmetric ") _ (one _ refl) (both (decimal i) _ (number i)
+    (both (codes " ") _ (one _ refl) (number j)))
+of_relayout (relayouts.DiagonalLost i) = both (codes "DiagonalLost ") _ (one _ refl) (number i)
+of_relayout relayouts.OutOfMemory = one _ refl
 
 pub of_run : (fault : RunFault) → is_one (run_fault_text fault)
-of_run (runs.File file fault) = both (codes "file ") _ refl (both (decimal file) _ (number file)
-    (both (codes ": ") _ refl (of_read fault)))
-of_run runs.WrongKind = refl
-of_run (runs.Write fault) = both (codes "output: ") _ refl (of_write fault)
-of_run runs.OutOfMemory = refl
-of_run (runs.Relayout fault) = both (codes "relayout: ") _ refl (of_relayout fault)
+of_run (runs.File file fault) = both (codes "file ") _ (one _ refl) (both (decimal file) _ (number file)
+    (both (codes ": ") _ (one _ refl) (of_read fault)))
+of_run runs.WrongKind = one _ refl
+of_run (runs.Write fault) = both (codes "output: ") _ (one _ refl) (of_write fault)
+of_run runs.OutOfMemory = one _ refl
+of_run (runs.Relayout fault) = both (codes "relayout: ") _ (one _ refl) (of_relayout fault)
+
+-- what a fault's text says of its bytes
+pub line_of_run : (fault : RunFault) → is_one_line (run_fault_text fault) ≡ true
+unfolding is_one
+line_of_run fault = of_run fault

@@ -72,7 +72,7 @@ pub fn examples_of_lines()
     ensures version { (build : Bor (List ℕ)) → build.now ≡ codes "a build"
         → line_text (lines.Version build) ≡ Some (codes "tsp 1.1.0 (a build)\n") }
     ensures file { line_text (lines.Fault (run_faults.File 2 read_faults.TooLong))
-        ≡ Some (codes "file " ++ (decimal 2 ++ codes ": too long\n")) }
+        ≡ ended (codes "file " ++ (decimal 2 ++ codes ": too long")) }
     ensures wrong_kind { line_text (lines.Fault run_faults.WrongKind) ≡ Some (codes "file 1: wrong kind\n") }
     ensures device { line_text (lines.Fault (run_faults.Write write_faults.Device)) ≡ Some (codes "output: device\n") }
     ensures relayout { line_text (lines.Fault (run_faults.Relayout relayout_faults.NotExplicit))

@@ -1,10 +1,10 @@
 -- By the parts of each text.
 use Rattle.tsp_judge.specs.FaultText.{run_fault_text}
-use Rattle.tsp_run.proofs.OneLines.{of_run}
+use Rattle.tsp_run.proofs.OneLines.{line_of_run}
 use Rattle.tsp_run.proofs.laws.faults_are_told_on_one_line.Goals as goal
 
 pub returns-clause-one : goal.returns-clause-one
-returns-clause-one c = of_run
+returns-clause-one c = line_of_run
 
 pub returns-clause-ended : goal.returns-clause-ended
-returns-clause-ended c = λ fault old new written. (run_fault_text fault, of_run fault, written)
+returns-clause-ended c = λ fault old new written. (run_fault_text fault, line_of_run fault, written)

@@ -1,0 +1,17 @@
+-- What was written into the buffer is the text and its end.
+use Rattle.std.proofs.Common.{◌≡◌, ◌∙◌, ap, subst, ℕ, List, [], ◌∷◌, ◌++◌}
+use Rattle.std.specs.Prelude.{OnOk}
+use Rattle.std.specs.Io.KnownBytes.{Appends}
+use Rattle.std.proofs.lemmas.Fmt.{contents_after_writes}
+use Rattle.tsp_judge.specs.FaultText.{run_fault_text}
+use Rattle.tsp_run.proofs.ending.tell_fault.Goals as goal
+
+pub returns-in-Ok : goal.returns-in-Ok
+returns-in-Ok g c =
+    let line : List ℕ = run_fault_text c.args.fault ++ 10 ∷ [] in
+    let written : c.writeln.new.self.bytes ≡ c.new-text.result.bytes ++ line =
+    contents_after_writes _ (λ s. s.bytes) (λ w l v t. t) _ line _ c.in-Ok.ensures.writes in
+    let same : c.as_bytes.result.now ≡ line =
+    c.as_bytes.ensures.value ∙ c.as_str.ensures.value ∙ written ∙ ap (λ (front : List ℕ). front ++ line) c.new-text.ensures in
+    subst (λ (bytes : List ℕ). OnOk c.write_all.result (Appends (g.W.Write.contents c.args.errors.now) (g.W.Write.contents c.write_all.new.self) bytes)) same
+    c.write_all.ensures.bytes
