@@ -14,11 +14,11 @@ import re
 import sys
 from fractions import Fraction
 from math import isqrt
-from typing import Callable, Iterator, NoReturn, Optional
+from typing import Callable, Hashable, Iterator, NoReturn, Optional
 
 Fields = dict[str, list[str]]
 Weight = Callable[[int, int], int]
-Case = dict[frozenset[int], bool]
+Case = dict[Hashable, bool]
 BILLION = 10**9
 DECIDED = 4 * BILLION**2
 
@@ -260,12 +260,38 @@ def steps_of(numbers: list[int]) -> Iterator[list[int]]:
         yield step
 
 
-def is_comb(handle: list[int], *teeth: list[int]) -> bool:
+def is_family(count: int, handle: list[int], *teeth: list[int]) -> bool:
+    """Whether the sets are a comb, or a lone set, which leaves a node out."""
     inside = set(handle)
     once = all(len(set(nodes)) == len(nodes) for nodes in (handle, *teeth))
     apart = len(set().union(*teeth)) == sum(len(set(tooth)) for tooth in teeth)
     across = all(inside & set(tooth) and set(tooth) - inside for tooth in teeth)
+    if not teeth:
+        return once and len(inside) < count
     return once and apart and across and len(teeth) >= 3 and len(teeth) % 2 == 1
+
+
+def pair_of(directed: bool, i: int, j: int) -> Hashable:
+    """A pair of nodes: for an ATSP it has a direction."""
+    return (i, j) if directed else frozenset((i, j))
+
+
+def least_links(count: int, weight: Weight, case: Case) -> Optional[int]:
+    """The least weights of the links from each node that the decisions allow, or None where a node has none."""
+    after: dict[int, set[int]] = {}
+    before: dict[int, set[int]] = {}
+    for arc, used in case.items():
+        if used and isinstance(arc, tuple):
+            after.setdefault(arc[0], set()).add(arc[1])
+            before.setdefault(arc[1], set()).add(arc[0])
+    total, nodes = 0, range(1, count + 1)
+    for i in nodes:
+        allowed = [j for j in nodes if j != i and after.get(i, {j}) == {j} and before.get(j, {i}) == {i}]
+        weights = [weight(i, j) for j in allowed if case.get((i, j), True)]
+        if not weights:
+            return None
+        total += min(weights)
+    return total
 
 
 def bound_by_branches(instance: Fields, file: Fields, cost: Weight, count: int) -> int:
@@ -277,10 +303,11 @@ def bound_by_branches(instance: Fields, file: Fields, cost: Weight, count: int) 
     combs = combs_of(wholes(file, "COMB_SECTION"))
     for number, comb in enumerate(combs, 1):
         need(all(1 <= node <= count for nodes in comb for node in nodes))
-        if not is_comb(*comb):
+        if not is_family(count, *comb):
             raise No(f"BadComb {number}")
+    directed = instance["TYPE"][0] == "ATSP"
     fixed = ended(wholes(instance, "FIXED_EDGES_SECTION"), 2)
-    open_cases: list[Case] = [{frozenset(pair): True for pair in fixed}]
+    open_cases: list[Case] = [{pair_of(directed, i, j): True for i, j in fixed}]
     leaves: list[tuple[list[int], Case]] = []
     branches = 0
     for step in steps_of(wholes(file, "BRANCH_SECTION")):
@@ -289,8 +316,8 @@ def bound_by_branches(instance: Fields, file: Fields, cost: Weight, count: int) 
             leaves.append((step, case))
             continue
         branches += 1
-        pair = frozenset(step)
-        need(len(pair) == 2 and 1 <= min(pair) and max(pair) <= count)
+        need(step[0] != step[1] and 1 <= min(step) and max(step) <= count)
+        pair = pair_of(directed, *step)
         if pair in case:
             raise No(f"BranchTwice {branches}")
         open_cases += [{**case, pair: False}, {**case, pair: True}]
@@ -306,16 +333,20 @@ def bound_by_branches(instance: Fields, file: Fields, cost: Weight, count: int) 
         if max(map(abs, p)) > 10**15 or min(m, default=0) < 0 or sum(m) > 3 * 10**17:
             raise No(f"BadLeaf {leaf}")
         active = [(number, nodes) for number, comb in zip(m, sets) if number for nodes in comb]
-        tree = least_one_tree(count, leaf_weight(scale, cost, p, active, case))
-        back = sum(m[k] * (3 * (len(comb) - 1) + 1) for k, comb in enumerate(combs))
-        bounds.append(-(-(tree - 2 * sum(p) + DECIDED * sum(case.values()) + back) // scale))
+        back = sum(m[k] * (3 * len(comb) - 2 if len(comb) > 1 else 2) for k, comb in enumerate(combs))
+        if directed:
+            found = least_links(count, leaf_weight(scale, cost, p, active, {}), case)
+        else:
+            found = least_one_tree(count, leaf_weight(scale, cost, p, active, case)) + DECIDED * sum(case.values())
+        if found is not None:
+            bounds.append(-(-(found - 2 * sum(p) + back) // scale))
     return min(bounds)
 
 
 def leaf_weight(
     scale: int, cost: Weight, p: list[int], active: list[tuple[int, set[int]]], case: Case
 ) -> Weight:
-    """The weights of a leaf: its combs make crossings cheaper, its decisions bind or bar a pair."""
+    """The weights of a leaf: its families make crossings cheaper, its decisions bind or bar a pair."""
 
     def weight(i: int, j: int) -> int:
         decided = {None: 0, True: -DECIDED, False: DECIDED}[case.get(frozenset((i, j)))]
@@ -353,14 +384,14 @@ def main() -> int:
     words.add_argument("solution", metavar="T", help="a file of TYPE TOUR")
     kinds = words.add_mutually_exclusive_group()
     kinds.add_argument("--potentials", metavar="P", help="a file of TYPE POTENTIALS")
-    kinds.add_argument("--branches", metavar="B", help="a file of TYPE BRANCHES, for a TSP")
+    kinds.add_argument("--branches", metavar="B", help="a file of TYPE BRANCHES")
     given = words.parse_args()
     kind = "branches" if given.branches else "potentials"
     path = given.branches or given.potentials
     try:
         files = [fields_of(name) for name in (given.instance, given.solution)]
-        if files[0].get("TYPE", [""])[0] not in (("TSP",) if given.branches else ("TSP", "ATSP")):
-            refuse(f"{given.instance}: its TYPE has to be TSP{'' if given.branches else ' or ATSP'}")
+        if files[0].get("TYPE", [""])[0] not in ("TSP", "ATSP"):
+            refuse(f"{given.instance}: its TYPE has to be TSP or ATSP")
         return report(*files, kind, fields_of(path) if path else None)
     except OSError as fault:
         refuse(f"{fault.filename}: {fault.strerror}")
