@@ -6,8 +6,9 @@
 //! is the nanoseconds that the verdict of files in memory took, the mean of all rounds.
 //!
 //! The weights without the potentials are in one matrix through all leaves: a branch marks two cells
-//! of it, and a multiplier that changes changes the pairs inside a set of its comb. The crossings of a
+//! of it, and a multiplier that changes changes the pairs inside a set of its family. The crossings of a
 //! set by a pair are 1 at each end inside, less 2 where both are, so the ends go to the potentials.
+//! A leaf takes a least 1-tree under TYPE TSP, and the least open arc of each row under TYPE ATSP.
 
 use std::collections::{HashMap, HashSet};
 use std::env;
@@ -85,6 +86,7 @@ fn count_of(word: &str) -> i128 {
 // ---- instances
 
 struct Instance {
+    directed: bool,
     count: usize,
     costs: Vec<i64>,
     fixed: Vec<Pair>,
@@ -172,25 +174,31 @@ fn matrix(fields: &Fields, count: usize) -> Vec<i64> {
     costs
 }
 
-fn ordered(i: i64, j: i64) -> Pair {
-    (i.min(j) as usize - 1, i.max(j) as usize - 1)
+/// The pair of two nodes: an arc, or without a direction the smaller node first.
+fn pair_of(directed: bool, i: i64, j: i64) -> Pair {
+    let turned = !directed && i > j;
+    let (from, to) = if turned { (j, i) } else { (i, j) };
+    (from as usize - 1, to as usize - 1)
 }
 
 impl Instance {
     fn read(path: &str) -> Instance {
         let fields = Fields::read(path);
-        if fields.first("TYPE") != "TSP" {
-            fail("wrong kind");
-        }
+        let directed = match fields.first("TYPE") {
+            "TSP" => false,
+            "ATSP" => true,
+            _ => fail("wrong kind"),
+        };
         let count = fields.number("DIMENSION").unwrap_or(0) as usize;
         let kind = fields.first("EDGE_WEIGHT_TYPE");
         let costs = if kind == "EXPLICIT" { matrix(&fields, count) } else { distances(&fields, kind, count) };
         let listed = fields.numbers("FIXED_EDGES_SECTION");
         let fixed = listed.chunks_exact(2).take_while(|pair| pair[0] != -1);
-        Instance { count, costs, fixed: fixed.map(|pair| ordered(pair[0], pair[1])).collect() }
+        let fixed = fixed.map(|pair| pair_of(directed, pair[0], pair[1])).collect();
+        Instance { directed, count, costs, fixed }
     }
 
-    fn uneven(&self) -> Option<Pair> {
+    fn asymmetric(&self) -> Option<Pair> {
         let differs = |i: usize, j: usize| self.costs[i * self.count + j] != self.costs[j * self.count + i];
         (0..self.count).find_map(|i| (i + 1..self.count).find(|j| differs(i, *j)).map(|j| (i + 1, j + 1)))
     }
@@ -207,7 +215,7 @@ fn length_of(instance: &Instance, fields: &Fields) -> Result<i64, String> {
     if instance.count < 3 {
         return reason("TooFewNodes");
     }
-    if let Some((i, j)) = instance.uneven() {
+    if let Some((i, j)) = instance.asymmetric().filter(|_| !instance.directed) {
         return Err(format!("NotSymmetric {i} {j}"));
     }
     if fields.number("DIMENSION").is_some_and(|count| count != instance.count as i64) {
@@ -227,7 +235,7 @@ fn length_of(instance: &Instance, fields: &Fields) -> Result<i64, String> {
         return Err(format!("RepeatedNode {}", place + 1));
     }
     let next = tour.iter().cycle().skip(1);
-    let edges: Vec<Pair> = tour.iter().zip(next).map(|(i, j)| ordered(*i, *j)).collect();
+    let edges: Vec<Pair> = tour.iter().zip(next).map(|(i, j)| pair_of(instance.directed, *i, *j)).collect();
     let used: HashSet<&Pair> = edges.iter().collect();
     if let Some(index) = instance.fixed.iter().position(|pair| !used.contains(pair)) {
         return Err(format!("FixedEdgeUnused {}", index + 1));
@@ -266,13 +274,13 @@ fn combs_of(words: &[i64]) -> Vec<Vec<Vec<usize>>> {
 }
 
 /// The steps in the words of a section, up to the end of the tree.
-fn steps_of(words: &[i64]) -> Vec<Step> {
+fn steps_of(words: &[i64], directed: bool) -> Vec<Step> {
     let (mut steps, mut words, mut open) = (Vec::new(), words.iter().copied(), 1);
     let mut next = move || words.next().unwrap_or_else(|| fail("end: Incomplete BRANCH_SECTION"));
     while open > 0 {
         let word = next();
         if word > 0 {
-            steps.push(Step::Branch(ordered(word, next())));
+            steps.push(Step::Branch(pair_of(directed, word, next())));
             open += 1;
             continue;
         }
@@ -316,14 +324,17 @@ impl Cycle {
 
 fn is_good(comb: &[Vec<usize>], count: usize) -> bool {
     let teeth = comb.len() - 1;
-    if teeth < 3 || teeth % 2 == 0 {
-        return false;
-    }
     let mut inside = vec![false; count];
     for node in &comb[0] {
         if std::mem::replace(&mut inside[*node], true) {
             return false;
         }
+    }
+    if teeth == 0 {
+        return comb[0].len() < count;
+    }
+    if teeth < 3 || teeth % 2 == 0 {
+        return false;
     }
     let mut used = vec![false; count];
     comb[1..].iter().all(|tooth| {
@@ -386,8 +397,9 @@ fn bad_leaf(count: usize, certificate: &Certificate) -> Option<usize> {
 // ---- the bound
 
 /// The weights of the pairs but for the numbers of the nodes, these, and what the bound adds to the
-/// weight of a 1-tree, without the taken pairs.
+/// weight of a 1-tree, without the taken pairs, or to the least arcs.
 struct Weights {
+    directed: bool,
     count: usize,
     between: Vec<i64>,
     ends: Vec<i64>,
@@ -399,7 +411,8 @@ impl Weights {
     fn new(instance: &Instance, scale: i64) -> Weights {
         let between = instance.costs.iter().map(|cost| scale * cost).collect();
         let ends = vec![0; instance.count];
-        let mut weights = Weights { count: instance.count, between, ends, added: 0, taken: 0 };
+        let Instance { directed, count, .. } = *instance;
+        let mut weights = Weights { directed, count, between, ends, added: 0, taken: 0 };
         for pair in instance.fixed.iter().collect::<HashSet<_>>() {
             weights.mark(*pair, -MARK);
             weights.taken += 1;
@@ -407,7 +420,11 @@ impl Weights {
         weights
     }
 
+    /// Marks a pair that is decided. Arcs are closed by `least_arcs`.
     fn mark(&mut self, (i, j): Pair, change: i64) {
+        if self.directed {
+            return;
+        }
         self.between[i * self.count + j] += change;
         self.between[j * self.count + i] += change;
     }
@@ -420,7 +437,8 @@ impl Weights {
             return;
         }
         let comb = &combs[place - self.count - 1];
-        self.added += i128::from(difference) * (3 * comb.len() as i128 - 2);
+        let crossings = if comb.len() == 1 { 2 } else { 3 * comb.len() as i128 - 2 };
+        self.added += i128::from(difference) * crossings;
         for set in comb {
             for i in set {
                 self.ends[*i] -= difference;
@@ -459,6 +477,33 @@ impl Weights {
         sum + self.spokes() + self.added + i128::from(MARK) * self.taken
     }
 
+    /// The bound at the scale by the least open arc of each row, where each row has one.
+    fn least_arcs(&self, decided: &[(Pair, bool)]) -> Option<i128> {
+        let n = self.count;
+        let (mut sum, mut row) = (0i128, vec![0; n]);
+        for from in 0..n {
+            for ((weight, between), end) in row.iter_mut().zip(&self.between[from * n..]).zip(&self.ends) {
+                *weight = between + end;
+            }
+            row[from] = i64::MAX;
+            for ((tail, head), taken) in decided {
+                let kept = row[*head];
+                if *taken && *tail == from {
+                    row.fill(i64::MAX);
+                    row[*head] = kept;
+                } else if *taken || *tail == from {
+                    row[*head] = i64::MAX;
+                }
+            }
+            let least = *row.iter().min()?;
+            if least == i64::MAX {
+                return None;
+            }
+            sum += i128::from(least) + i128::from(self.ends[from]);
+        }
+        Some(sum + self.added)
+    }
+
     /// The two least edges at the first node.
     fn spokes(&self) -> i128 {
         let (mut first, mut second) = (i64::MAX, i64::MAX);
@@ -475,6 +520,8 @@ impl Weights {
 fn bound_of(instance: &Instance, certificate: &Certificate) -> i128 {
     let mut weights = Weights::new(instance, certificate.scale);
     let mut cycle = Cycle { path: Vec::new() };
+    let fixed: HashSet<&Pair> = instance.fixed.iter().collect();
+    let fixed: Vec<(Pair, bool)> = fixed.into_iter().map(|pair| (*pair, true)).collect();
     let mut least = i128::MAX;
     for step in &certificate.steps {
         match step {
@@ -487,7 +534,13 @@ fn bound_of(instance: &Instance, certificate: &Certificate) -> i128 {
                 for (place, difference) in numbers {
                     weights.change(*place, *difference, &certificate.combs);
                 }
-                least = least.min(weights.value());
+                least = least.min(match instance.directed {
+                    false => weights.value(),
+                    true => {
+                        let decided = [fixed.as_slice(), &cycle.path].concat();
+                        weights.least_arcs(&decided).unwrap_or(i128::MAX)
+                    }
+                });
                 let (done, turned) = cycle.back();
                 for pair in done {
                     weights.mark(pair, -MARK);
@@ -514,7 +567,7 @@ fn judge(instance: &Instance, fields: &Fields) -> Result<Certificate, String> {
     let certificate = Certificate {
         scale: fields.number("SCALE").unwrap_or(1),
         combs: combs_of(&fields.numbers("COMB_SECTION")),
-        steps: steps_of(&fields.numbers("BRANCH_SECTION")),
+        steps: steps_of(&fields.numbers("BRANCH_SECTION"), instance.directed),
     };
     if let Some(index) = certificate.combs.iter().position(|comb| !is_good(comb, instance.count)) {
         return Err(format!("BadComb {}", index + 1));
