@@ -60,6 +60,59 @@ static void texts(void) {
                && written == 22 && memcmp(out, "relayout: NotExplicit\n", 22) == 0, "points have no layout");
 }
 
+static const char ZEROS[] = "TYPE : POTENTIALS\nDIMENSION : 4\nNODE_POTENTIAL_SECTION\n1 0\n2 0\n3 0\n4 0\nEOF\n";
+static const char BOUND[] = "type TSP\nnodes 4\nbound 15\nyes\n";
+static const char EXPLAINED[] = "  a.tour:\n";
+
+#define NAMES (const uint8_t *)"a.tsp\0a.tour\0a.pi", 17
+
+/* Claimed lengths, bounds without a tour, and explanations. */
+static void answers(void) {
+    uint8_t out[512];
+    size_t written = 0;
+    expect(tsp_check(TEXT(SQUARE), TEXT(TOUR), TEXT(""), 0, 15, 1, out, sizeof out, &written) == TSP_YES
+               && written == sizeof REPORT - 1 && memcmp(out, REPORT, written) == 0, "the claimed length");
+    static const char OTHER[] = "type TSP\nnodes 4\nno LengthClaimed 15\n";
+    expect(tsp_check(TEXT(SQUARE), TEXT(TOUR), TEXT(""), 0, 14, 1, out, sizeof out, &written) == TSP_NO
+               && written == sizeof OTHER - 1 && memcmp(out, OTHER, written) == 0, "another length than the claimed one");
+    expect(tsp_check(TEXT(SQUARE), TEXT(TOUR), TEXT(""), 0, 14, 0, out, sizeof out, &written) == TSP_YES,
+           "no length is claimed");
+    expect(tsp_check(TEXT(SQUARE), TEXT(TOUR), TEXT(""), 0, 15, 2, out, sizeof out, &written) == TSP_REFUSED
+               && written == 0, "has_claim is 0 or 1");
+
+    expect(tsp_bound(TEXT(SQUARE), TEXT(ZEROS), 1, out, sizeof BOUND - 2, &written) == TSP_TOO_SMALL
+               && written == sizeof BOUND - 1, "a bound's report that is one byte too long");
+    expect(tsp_bound(TEXT(SQUARE), TEXT(ZEROS), 1, out, sizeof BOUND - 1, &written) == TSP_YES
+               && written == sizeof BOUND - 1 && memcmp(out, BOUND, written) == 0, "a bound's report that fits");
+    static const char REFUSED[] = "type TSP\nnodes 4\nno NotBranches\n";
+    expect(tsp_bound(TEXT(SQUARE), TEXT(ZEROS), 2, out, sizeof out, &written) == TSP_NO
+               && written == sizeof REFUSED - 1 && memcmp(out, REFUSED, written) == 0, "potentials are no branches");
+    expect(tsp_bound(TEXT(SQUARE), TEXT(ZEROS), 0, out, sizeof out, &written) == TSP_REFUSED && written == 0
+               && tsp_bound(TEXT(SQUARE), TEXT(ZEROS), 3, out, sizeof out, &written) == TSP_REFUSED,
+           "a bound is by 1 or by 2");
+    static const char FAULT[] = "file 2: end: Missing TYPE\n";
+    expect(tsp_bound(TEXT(SQUARE), TEXT(""), 1, out, sizeof out, &written) == TSP_FAULT
+               && written == sizeof FAULT - 1 && memcmp(out, FAULT, written) == 0, "a certificate is file 2 of a bound");
+
+    static const char TWICE[] = "TYPE : TOUR\nTOUR_SECTION\n1 2 2 4 -1\nEOF\n";
+    uint32_t status = tsp_explain(TSP_OF_CHECK, TEXT(SQUARE), TEXT(TWICE), TEXT(""), NAMES, 0, 0, 0, out, 16, &written);
+    expect(status == TSP_TOO_SMALL && written > 16 && written < sizeof out, "an explanation that is too long");
+    status = tsp_explain(TSP_OF_CHECK, TEXT(SQUARE), TEXT(TWICE), TEXT(""), NAMES, 0, 0, 0, out, written, &written);
+    expect(status == TSP_YES && memcmp(out, EXPLAINED, sizeof EXPLAINED - 1) == 0, "an explanation names the tour");
+    status = tsp_explain(TSP_OF_CHECK, TEXT(SQUARE), TEXT(TOUR), TEXT(""), NAMES, 0, 0, 0, out, sizeof out, &written);
+    expect(status == TSP_YES && written == 0, "a yes has nothing to explain");
+    status = tsp_explain(TSP_OF_SHOW, TEXT(""), TEXT(""), TEXT(""), TEXT(""), 0, 0, 0, out, sizeof out, &written);
+    expect(status == TSP_YES && memcmp(out, "file 1: Missing TYPE\n", 21) == 0, "a text without a name is called file 1");
+    status = tsp_explain(TSP_OF_CONVERT, TEXT(SQUARE), TEXT(""), TEXT(""), NAMES, 1, 0, 0, out, sizeof out, &written);
+    expect(status == TSP_YES && written > 0, "why points have no layout");
+    expect(tsp_explain(4, TEXT(SQUARE), TEXT(TOUR), TEXT(""), NAMES, 0, 0, 0, out, sizeof out, &written) == TSP_REFUSED
+               && tsp_explain(TSP_OF_BOUND, TEXT(SQUARE), TEXT(""), TEXT(ZEROS), NAMES, 0, 0, 0, out, sizeof out, &written)
+                      == TSP_REFUSED
+               && tsp_explain(TSP_OF_CONVERT, TEXT(SQUARE), TEXT(""), TEXT(""), NAMES, 10, 0, 0, out, sizeof out, &written)
+                      == TSP_REFUSED
+               && written == 0, "what isn't explained");
+}
+
 static void numbers(void) {
     int64_t out[16];
     uint32_t pairs[] = {1, 2, 2, 4, 3, 3};
@@ -124,6 +177,7 @@ static void numbers(void) {
 
 int main(void) {
     texts();
+    answers();
     numbers();
     printf("%d passed, %d failed\n", passed, failed);
     return failed != 0;

@@ -78,6 +78,14 @@ static uint32_t call(int which) {
     case 8: /* a no: the solution is the instance */
         return tsp_check(texts[0].bytes, texts[0].len, texts[0].bytes, texts[0].len, texts[2].bytes, texts[2].len, 0,
                          0, 0, out, sizeof out, &written);
+    case 9: /* a length that is claimed, and isn't that of the solution */
+        return tsp_check(texts[0].bytes, texts[0].len, texts[1].bytes, texts[1].len, texts[2].bytes, texts[2].len, by,
+                         -1, 1, out, sizeof out, &written);
+    case 10:
+        return tsp_bound(texts[0].bytes, texts[0].len, texts[2].bytes, texts[2].len, by, out, sizeof out, &written);
+    case 11: /* why that length is refused */
+        return tsp_explain(TSP_OF_CHECK, texts[0].bytes, texts[0].len, texts[1].bytes, texts[1].len, texts[2].bytes,
+                           texts[2].len, (const uint8_t *)"a", 1, by, -1, 1, out, sizeof out, &written);
     default: /* a fault: the instance is a certificate */
         return tsp_check(texts[2].bytes, texts[2].len, texts[1].bytes, texts[1].len, texts[2].bytes, texts[2].len, 0,
                          0, 0, out, sizeof out, &written);
@@ -92,7 +100,7 @@ int main(int count, char **words) {
     by = (uint32_t)atoi(words[4]);
     static uint8_t expected[sizeof out];
     int failed = 0;
-    for (int which = 0; which < 10; which++) {
+    for (int which = 0; which < 13; which++) {
         memset(out, 0, sizeof out);
         written = 0;
         uint32_t right = call(which);
@@ -119,7 +127,7 @@ int main(int count, char **words) {
             if (!was_refused)
                 break;
         }
-        printf("call %d: status %u; refused %ld times, as ever %ld times\n", which, right, refusals, as_ever);
+        printf("call %d: status %u; refused %ld times, as ever %ld times, wrong %ld times\n", which, right, refusals, as_ever, bad);
         failed += bad != 0 || refusals == 0;
     }
     refuse_at = -1;

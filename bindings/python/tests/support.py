@@ -9,7 +9,6 @@ from math import isqrt
 from pathlib import Path
 
 import yokecairn
-from yokecairn import _library
 
 PACKAGE = Path(__file__).resolve().parents[1]
 ROOT = PACKAGE.parents[1]
@@ -61,30 +60,6 @@ def needs_python_with(*modules):
     """Skips a test where no Python has these modules."""
     missing = python_with(*modules) is None
     return unittest.skipIf(missing, f"no Python has {' and '.join(modules)}")
-
-
-def needs_export(name):
-    """Skips a test where the library is older and lacks an export."""
-    return unittest.skipUnless(_library.has(name), f"this libtsp has no {name}")
-
-
-def needs_explanations():
-    """Skips a test where nothing is explained."""
-    return unittest.skipUnless(_library.EXPLAINS, "nothing is explained yet")
-
-
-def claims():
-    """Whether the library compares claimed lengths."""
-    try:
-        _library.check(b"", b"", b"", 0, 1)
-    except NotImplementedError:
-        return False
-    return True
-
-
-def needs_claims():
-    """Skips a test where the library compares no claimed lengths."""
-    return unittest.skipUnless(claims(), "this libtsp compares no lengths")
 
 
 def needs(module):

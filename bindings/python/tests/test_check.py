@@ -4,7 +4,7 @@ import pickle
 import unittest
 
 import yokecairn
-from support import EXAMPLES, GALLERY, RECTANGLE, needs_claims, needs_export
+from support import EXAMPLES, GALLERY, RECTANGLE
 
 ZEROS = b"TYPE : POTENTIALS\nDIMENSION : 4\nNODE_POTENTIAL_SECTION\n1 0\n2 0\n3 0\n4 0\n"
 
@@ -92,7 +92,6 @@ class Tours(unittest.TestCase):
 
 
 class Claims(unittest.TestCase):
-    @needs_claims()
     def test_length(self):
         self.assertTrue(yokecairn.check(RECTANGLE.encode(), [1, 2, 3, 4], length=14))
         report = yokecairn.check(RECTANGLE.encode(), [1, 2, 3, 4], length=13)
@@ -106,7 +105,6 @@ class Claims(unittest.TestCase):
 
 
 class Bounds(unittest.TestCase):
-    @needs_export("tsp_bound")
     def test_bound(self):
         report = yokecairn.bound(RECTANGLE.encode(), ZEROS)
         self.assertEqual((report.yes, report.bound, report.length), (True, 14, None))
@@ -115,6 +113,16 @@ class Bounds(unittest.TestCase):
         with self.assertRaises(yokecairn.EndFault) as caught:
             yokecairn.bound(RECTANGLE.encode(), b"")
         self.assertEqual(caught.exception.file, 2)
+
+    def test_no_tour(self):
+        """Two fixed arcs into one node, in a tree of one leaf."""
+        instance = (
+            "TYPE : ATSP\nDIMENSION : 3\nEDGE_WEIGHT_TYPE : EXPLICIT\nEDGE_WEIGHT_FORMAT : FULL_MATRIX\n"
+            "EDGE_WEIGHT_SECTION\n0 1 2\n3 0 4\n5 6 0\nFIXED_EDGES_SECTION\n1 2\n3 2\n-1\nEOF\n"
+        )
+        tree = "TYPE : BRANCHES\nDIMENSION : 3\nBRANCH_SECTION\n0 -1\nEOF\n"
+        report = yokecairn.bound(instance.encode(), branches=tree.encode())
+        self.assertEqual((report.yes, report.bound, report.no_tour), (True, None, True))
 
 
 if __name__ == "__main__":

@@ -7,7 +7,7 @@ import tempfile
 import unittest
 from pathlib import Path
 
-from support import EXAMPLES, PACKAGE, RECTANGLE, needs_explanations
+from support import EXAMPLES, PACKAGE, RECTANGLE
 from yokecairn.__main__ import length_of
 
 
@@ -88,9 +88,9 @@ class Command(unittest.TestCase):
     def test_a_path_that_can_not_be_read_is_explained(self):
         status, out, err = run("show", "--explain", "no such file")
         self.assertEqual((status, out), (5, b""))
-        self.assertEqual(err, b"file 1: device\n  no such file: No such file or directory\n")
+        self.assertEqual(err, b"file 1: device\nno such file: No such file or directory (os error 2)\n"
+                         b"  The file can't be opened, or a read of it failed.\n")
 
-    @needs_explanations()
     def test_explained(self):
         tour = b"TYPE : TOUR\nTOUR_SECTION\n1 2 2 3\n"
         status, out, err = run("check", "--explain", EXAMPLES / "rectangle.tsp", "-", stdin=tour)

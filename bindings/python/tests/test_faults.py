@@ -6,7 +6,7 @@ import unittest
 from pathlib import Path
 
 import yokecairn
-from support import EXAMPLES, RECTANGLE, fault_of, needs_explanations
+from support import EXAMPLES, RECTANGLE, fault_of
 
 POINTS = "TYPE : TSP\nDIMENSION : 3\nEDGE_WEIGHT_TYPE : EUC_2D\nNODE_COORD_SECTION\n1 0 0\n2 3 x\n3 3 4\nEOF\n"
 TOUR = "TYPE : TOUR\nTOUR_SECTION\n1 2 3 4 -1\n"
@@ -77,13 +77,35 @@ class Faults(unittest.TestCase):
             yokecairn.check("no such file", TOUR.encode())
 
 
-@needs_explanations()
 class Explanations(unittest.TestCase):
     def test_a_fault(self):
         fault = fault_of(POINTS)
         self.assertIn("2 3 x", fault.explanation)
         self.assertIn("isn't a number", fault.explanation)
         self.assertTrue(str(fault).endswith(fault.explanation))
+
+    def test_paths(self):
+        with tempfile.TemporaryDirectory() as folder:
+            path = Path(folder, "points.tsp")
+            path.write_text(POINTS)
+            with self.assertRaises(yokecairn.LineFault) as caught:
+                yokecairn.check(EXAMPLES / "rectangle.tsp", path)
+            first = caught.exception.explanation.split("\n")[0]
+            self.assertTrue(first.startswith(f"{path}:6: word 3: Number"), first)
+        with self.assertRaises(yokecairn.EndFault) as caught:
+            yokecairn.bound(RECTANGLE.encode(), branches=b"")
+        self.assertTrue(caught.exception.explanation.startswith("file 3: Missing TYPE"))
+
+    def test_a_layout(self):
+        with self.assertRaises(yokecairn.RelayoutFault) as caught:
+            yokecairn.parse(RECTANGLE).relayout("FULL_MATRIX")
+        self.assertIn("EXPLICIT", caught.exception.explanation)
+
+    def test_a_claim_in_a_comment(self):
+        tour = b"COMMENT : Length = 13\nTYPE : TOUR\nTOUR_SECTION\n1 2 3 4 -1\n"
+        report = yokecairn.check(RECTANGLE.encode(), tour, explain=True)
+        self.assertTrue(report)
+        self.assertEqual(report.explanation, "file 2: a COMMENT claims the length 13, and the length is 14.")
 
     def test_a_no(self):
         tour = b"TYPE : TOUR\nTOUR_SECTION\n1 2 2 3 -1\n"

@@ -11,8 +11,7 @@ import types
 import unittest
 
 import yokecairn
-from support import ROOT, claims
-from yokecairn import _library
+from support import ROOT
 from yokecairn.__main__ import Run, length_of
 
 SCRIPT = ROOT / "tests" / "run-tables"
@@ -89,13 +88,8 @@ class Rows(unittest.TestCase):
     passed = 0
 
     def left_out(self, verb, kind):
-        """Whether rows of this verb need what the library or the calls don't have."""
-        parts = verb.split("-")
-        return (
-            ("explain" in parts and (kind is by_calls or not _library.EXPLAINS))
-            or ("bound" in parts and not _library.has("tsp_bound"))
-            or ("length" in parts and not claims())
-        )
+        """Whether rows of this verb are of the command alone."""
+        return "explain" in verb.split("-") and kind is by_calls
 
     def run_by(self, kind):
         tables, test = script(kind), self

@@ -1,8 +1,8 @@
 """The program's verbs: python -m yokecairn show, convert, check and bound.
 
 They write what the program `tsp` writes, and end with its statuses. What differs: each file is read
-whole before it is judged, and the texts for a refused command line, for help and for the version are
-Python's.
+whole before it is judged, the texts for a refused command line, for help and for the version are
+Python's, and what is explained of standard input has its text.
 """
 
 import argparse
@@ -20,6 +20,9 @@ MOST_BYTES = 1 << 30  # of a file that count
 _NUMBER = re.compile(r"[+-]?(?=\.?[0-9])([0-9]*)\.?([0-9]*)(?:[eE][+-]?[0-9]+)?")
 
 
+_UNREADABLE = "  The file can't be opened, or a read of it failed."
+
+
 class Refused(Exception):
     """The words are refused, or ask for help; with what is written to standard error."""
 
@@ -30,7 +33,7 @@ class Unreadable(Exception):
     def __init__(self, file: int, path: str, fault: OSError) -> None:
         super().__init__(file, path, fault)
         self.file = file
-        self.said = f"{path}: {fault.strerror}"
+        self.said = f"{path}: {fault.strerror} (os error {fault.errno})\n{_UNREADABLE}"
 
 
 class _Parser(argparse.ArgumentParser):
@@ -134,9 +137,13 @@ class Task:
         return _library.show(texts[0])
 
     def explained(self, texts: Sequence[bytes]) -> str:
-        """What is told of a fault or a no of these texts, for a person."""
-        solution = texts[1] if self.verb == "check" else None
-        return explained(texts[0], solution, texts[-1] if self.by else None, self.by, self.claimed)
+        """What is told of the answer on these texts, for a person."""
+        names = ["standard input" if path == "-" else path for path in self.paths]
+        if self.verb == "bound":
+            texts, names = (texts[0], b"", texts[1]), [names[0], "", names[1]]
+        call = getattr(_library, self.verb.upper()) if self.verb else _library.SHOW
+        layout = _library.LAYOUTS[self.layout] if self.layout else 0
+        return explained(call, texts, names, self.by or layout, self.claimed)
 
 
 class Run:
@@ -178,7 +185,7 @@ class Run:
         except Unreadable as unreadable:
             return self.unreadable(unreadable, texts)
         ended = self.tell(*task.done(texts))
-        if self.explains and ended in (_library.NO, _library.FAULT):
+        if self.explains and ended in (_library.DONE, _library.NO, _library.FAULT):
             self.explain(task.explained(texts))
         return ended
 
@@ -216,9 +223,9 @@ class Run:
         return status
 
     def explain(self, text: str) -> None:
-        """Writes what is said for a person, each line behind two blanks."""
-        lines = (f"  {line}\n" for line in text.split("\n") if text)
-        self.say("".join(lines).encode("utf-8", "surrogateescape"))
+        """Writes what is said for a person."""
+        if text:
+            self.say(f"{text}\n".encode("utf-8", "surrogateescape"))
 
 
 def _write(stream: IO[bytes], text: bytes) -> None:

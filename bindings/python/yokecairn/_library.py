@@ -12,7 +12,7 @@ import os
 from array import array
 from ctypes import POINTER, c_char_p, c_int64, c_size_t, c_uint32, c_void_p
 from pathlib import Path
-from typing import Any, Optional, Tuple
+from typing import Any, Optional, Sequence, Tuple
 
 # What a call returns.
 DONE, NO, FAULT, OUT_OF_MEMORY, REFUSED, DEVICE, TOO_SMALL = range(7)
@@ -37,8 +37,8 @@ LAYOUTS = {
     )
 }
 
-# Whether `explain` has something to tell: it calls no export of the library yet.
-EXPLAINS = False
+# The calls that are explained, by their numbers.
+SHOW, CONVERT, CHECK, BOUND = range(4)
 
 # The most numbers that `lengths` takes.
 MOST_NODES = 1_000_000
@@ -65,22 +65,11 @@ except OSError as fault:
     ) from fault
 
 
-def has(name: str) -> bool:
-    """Whether the library has this export: an older one may lack some."""
-    return hasattr(_libtsp, name)
-
-
 def _call(name: str, result: Any, *words: Any) -> Any:
     """An export of the library with its signature."""
-    if not has(name):
-        return lambda *_: _missing(name)
     call = getattr(_libtsp, name)
     call.restype, call.argtypes = result, list(words)
     return call
-
-
-def _missing(name: str) -> int:
-    raise NotImplementedError(f"this libtsp can't do it: it has no {name}")
 
 
 _TEXT = (c_char_p, c_size_t)
@@ -89,6 +78,9 @@ _NUMBERS = (c_void_p, c_size_t)
 
 _check = _call("tsp_check", c_uint32, *_TEXT, *_TEXT, *_TEXT, c_uint32, c_int64, c_uint32, *_OUT)
 _bound = _call("tsp_bound", c_uint32, *_TEXT, *_TEXT, c_uint32, *_OUT)
+_explain = _call(
+    "tsp_explain", c_uint32, c_uint32, *_TEXT * 4, c_uint32, c_int64, c_uint32, *_OUT
+)
 _show = _call("tsp_show", c_uint32, *_TEXT, *_OUT)
 _convert = _call("tsp_convert", c_uint32, *_TEXT, c_uint32, *_OUT)
 _count = _call("tsp_count", c_uint32, *_TEXT)
@@ -128,11 +120,12 @@ def check(
 ) -> Tuple[int, bytes]:
     """The status of a check, and its report or the line of a fault."""
     words = (instance, len(instance), solution, len(solution), certificate, len(certificate), by)
-    claim = (0, 0) if claimed is None else (claimed, 1)
-    status, told = _written(_check, *words, *claim, capacity=REPORT)
-    if status == REFUSED:
-        raise NotImplementedError("this libtsp can't do it: it compares no lengths")
-    return status, told
+    return _written(_check, *words, *_claim(claimed), capacity=REPORT)
+
+
+def _claim(claimed: Optional[int]) -> Tuple[int, int]:
+    """A claimed length, and whether there is one."""
+    return (0, 0) if claimed is None else (claimed, 1)
 
 
 def bound(instance: bytes, certificate: bytes, by: int) -> Tuple[int, bytes]:
@@ -182,14 +175,20 @@ def lengths(text: bytes, nodes: "array[int]", tours: int) -> Tuple[int, "array[i
 
 
 def explain(
-    instance: bytes,
-    solution: Optional[bytes],
-    certificate: Optional[bytes],
-    by: int,
+    call: int,
+    texts: Sequence[bytes],
+    names: Sequence[bytes],
+    number: int,
     claimed: Optional[int],
 ) -> bytes:
-    """What is told of the fault of texts, or of the no of their check, for a person: nothing so far."""
-    return b""
+    """What explains the answer of a call, for a person; it is empty where there is no memory for it.
+
+    `texts` and `names` are those of the instance, the solution and the certificate, `number` is the kind of
+    certificate or the layout.
+    """
+    words = [word for text in (*texts, b"\0".join(names)) for word in (text, len(text))]
+    status, told = _written(_explain, call, *words, number, *_claim(claimed), capacity=REPORT)
+    return told if status == DONE else b""
 
 
 def version() -> str:

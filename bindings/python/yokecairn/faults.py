@@ -11,6 +11,7 @@
         NodeError (a LookupError)   the instance has no such node
 """
 
+import os
 import re
 from typing import Callable, Optional, Sequence, Tuple, Type, Union
 
@@ -118,16 +119,19 @@ def text_of(told: bytes) -> str:
 
 
 def explained(
-    instance: bytes,
-    solution: Optional[bytes] = None,
-    certificate: Optional[bytes] = None,
-    by: int = _library.ALONE,
+    call: int,
+    texts: Sequence[bytes],
+    paths: Sequence[Optional[str]] = (),
+    number: int = 0,
     claimed: Optional[int] = None,
 ) -> str:
-    """What `tsp --explain` tells of these texts' fault or no, without the blanks that indent it."""
-    told = _library.explain(instance, solution, certificate, by, claimed)
-    lines = text_of(told).rstrip("\n").split("\n")
-    return "\n".join(line[2:] if line.startswith("  ") else line for line in lines)
+    """What `tsp --explain` tells of the answer of a call of the library.
+
+    The texts and their paths are those of the instance, the solution and the certificate.
+    """
+    whole = [*texts, b"", b""][:3]
+    names = [os.fsencode(path or "") for path in paths]
+    return text_of(_library.explain(call, whole, names, number, claimed)).rstrip("\n")
 
 
 def error_of(

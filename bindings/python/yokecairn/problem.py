@@ -28,9 +28,14 @@ def canonical(text: bytes, layout: Optional[str] = None, path: Optional[str] = N
     """
     if layout is not None and layout not in _library.LAYOUTS:
         raise ValueError(f"unknown layout {layout!r}: it is one of {', '.join(_library.LAYOUTS)}")
-    status, told = _library.convert(text, _library.LAYOUTS[layout] if layout else 0)
+    number = _library.LAYOUTS[layout] if layout else 0
+    status, told = _library.convert(text, number)
     if status != _library.DONE:
-        raise error_of(status, told, lambda: explained(text), (path,))
+
+        def more() -> str:
+            return explained(_library.CONVERT, (text,), (path,), number)
+
+        raise error_of(status, told, more, (path,))
     return told
 
 

@@ -31,12 +31,13 @@ class Report:
         bound: a number that no tour of the instance is below.
         gap: the length less the bound.
         optimal: whether the length is the bound.
+        no_tour: whether the certificate shows that the instance has no tour; `bound` is None then.
         routes: how many routes there are.
         least: how many routes there have to be at least, by their capacity.
         reason: why the verdict is a no, as `RepeatedNode`.
         numbers: the numbers of the reason.
         text: the whole report, as the program prints it.
-        explanation: what `tsp --explain` tells of a no, where it was asked for.
+        explanation: what `tsp --explain` tells of it, where that was asked for.
 
     Each is None where the report doesn't have it.
     """
@@ -49,6 +50,7 @@ class Report:
     bound: Optional[int]
     gap: Optional[int]
     optimal: bool
+    no_tour: bool
     routes: Optional[int]
     least: Optional[int]
     reason: Optional[str]
@@ -69,7 +71,7 @@ class Report:
         """The report that this text is."""
         first, *lines = text.split("\n")[:-1]
         parts = [line.partition(" ") for line in lines]
-        found = {word: int(rest) for word, _, rest in parts if word in _NUMBERS}
+        found = {word: int(rest) for word, _, rest in parts if word in _NUMBERS and rest != "none"}
         verdict, *words = lines[-1].split(" ")
         is_yes = verdict == "yes"
         return cls(
@@ -77,6 +79,7 @@ class Report:
             type=first[len("type ") :],
             not_judged=tuple(it[len("not judged ") :] for it in lines if it.startswith("not judged ")),
             optimal="optimal" in lines,
+            no_tour="bound none" in lines,
             reason=None if is_yes else words[0],
             numbers=() if is_yes else tuple(map(int, words[1:])),
             text=text,
@@ -143,7 +146,8 @@ def check(
 
     Each file is a path, the bytes of its text, or a `Problem`. The solution may also be a list of nodes,
     or for routes a list of such lists. With a certificate, `potentials` or `branches`, the report has a
-    bound. With `length`, another length than this is a no. With `explain`, a no is explained.
+    bound. With `length`, another length than this is a no. With `explain`, a no is explained, and a
+    yes whose solution has a comment with another length.
 
     Raises:
         Fault: a text is no file, or the first is of the wrong kind.
@@ -157,12 +161,14 @@ def check(
         raise ValueError("a length has 64 bits")
     status, told = _library.check(first, second, third, by, length)
 
+    paths = (path, solution_path, certificate_path)
+
     def more() -> str:
-        return explained(first, second, third if by else None, by, length)
+        return explained(_library.CHECK, (first, second, third), paths, by, length)
 
     if status not in (_library.DONE, _library.NO):
-        raise error_of(status, told, more, (path, solution_path, certificate_path))
-    return Report.of(text_of(told), more() if explain and status == _library.NO else "")
+        raise error_of(status, told, more, paths)
+    return Report.of(text_of(told), more() if explain else "")
 
 
 def bound(
@@ -189,11 +195,11 @@ def bound(
     status, told = _library.bound(first, second, by)
 
     def more() -> str:
-        return explained(first, None, second, by)
+        return explained(_library.BOUND, (first, b"", second), (path, None, certificate_path), by)
 
     if status not in (_library.DONE, _library.NO):
         raise error_of(status, told, more, (path, certificate_path))
-    return Report.of(text_of(told), more() if explain and status == _library.NO else "")
+    return Report.of(text_of(told), more() if explain else "")
 
 
 def show(file: Source) -> str:
@@ -207,5 +213,5 @@ def show(file: Source) -> str:
     text, path = text_and_path(file)
     status, told = _library.show(text)
     if status != _library.DONE:
-        raise error_of(status, told, lambda: explained(text), (path,))
+        raise error_of(status, told, lambda: explained(_library.SHOW, (text,), (path,)), (path,))
     return text_of(told)

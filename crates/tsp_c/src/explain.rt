@@ -8,7 +8,7 @@ use tsp_explain::{
     relayout_sentence,
 };
 use tsp_judge::{
-    Certificate, Layout, RunFault, Watched, run, run_bound, run_convert, run_show,
+    Certificate, Layout, ReadFault, RunFault, Watched, run, run_bound, run_convert, run_show,
 };
 
 /// Done.
@@ -161,13 +161,18 @@ fn explain_fault(
     fault: RunFault,
 ) -> Result<(), AllocError> {
     match fault {
+        RunFault::File {
+            file: _,
+            fault: ReadFault::OutOfMemory | ReadFault::Device,
+        }
+        | RunFault::OutOfMemory
+        | RunFault::Write(_) => Err(AllocError),
         RunFault::File { file, fault } => {
             let (name, given, again) = file_of(call, texts, file);
             explain_file(alloc, text, name, given, Some(again), fault)
         }
         RunFault::WrongKind => explain_wrong_kind(alloc, text, texts.names.instance),
         RunFault::Relayout(fault) => push_lines(text, relayout_sentence(fault)),
-        RunFault::OutOfMemory | RunFault::Write(_) => Err(AllocError),
     }
 }
 
