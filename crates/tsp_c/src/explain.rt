@@ -171,8 +171,18 @@ fn explain_fault(
             let (name, given, again) = file_of(call, texts, file);
             explain_file(alloc, text, name, given, Some(again), fault)
         }
-        RunFault::WrongKind => explain_wrong_kind(alloc, text, texts.names.instance),
+        RunFault::WrongKind => {
+            explain_wrong_kind(alloc, text, texts.names.instance, is_bound(call))
+        }
         RunFault::Relayout(fault) => push_lines(text, relayout_sentence(fault)),
+    }
+}
+
+/// Whether the call bounds tours.
+fn is_bound(call: Call) -> bool {
+    match call {
+        Call::Bound(_) => true,
+        Call::Show | Call::Convert(_) | Call::Check(..) => false,
     }
 }
 

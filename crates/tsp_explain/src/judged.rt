@@ -24,6 +24,10 @@ const KINDS: &str =
     "The first file of a check is of TYPE TSP, ATSP or CVRP, with --potentials or --branches of TYPE TSP or ATSP.\n\
     The second file is the solution, of TYPE TOUR.";
 
+/// What the first file of a bound is.
+const BOUND_KINDS: &str =
+    "The first file of a bound is of TYPE TSP or ATSP. The certificate is the file of the option.";
+
 /// What it means that a certificate gives no bound.
 const NO_TOUR: &str =
     "The instance has no tour: at each leaf of the tree its decisions and the fixed arcs leave some node no arc.";
@@ -97,26 +101,32 @@ pub fn explain_bound(
     append(text, told, answer)
 }
 
-/// Appends what explains that files of the first one's TYPE aren't judged so. `name` is what the user
-/// calls the first file.
+/// Appends what explains that files aren't judged, or don't bound tours, for the TYPE of the first one.
+/// `name` is what the user calls that file.
 ///
 /// # Errors
 ///
 /// Out of memory; part of the explanation may be appended then.
-pub fn explain_wrong_kind(alloc: Global, text: &mut Vec<u8>, name: &str) -> Result<(), AllocError>
+pub fn explain_wrong_kind(
+    alloc: Global,
+    text: &mut Vec<u8>,
+    name: &str,
+    is_bound: bool,
+) -> Result<(), AllocError>
     ensures { StartsWith text.new.items text.old.items }
 {
     let mut told = Vec::new(alloc);
-    let answer = push_wrong_kind(&mut told, name);
+    let kinds = if is_bound { BOUND_KINDS } else { KINDS };
+    let answer = push_wrong_kind(&mut told, name, kinds);
     append(text, told, answer)
 }
 
-/// Appends that a file is of the wrong kind, and what the files of a check are.
-fn push_wrong_kind(text: &mut Vec<u8>, name: &str) -> Result<(), AllocError> {
+/// Appends that a file is of the wrong kind, and what the files are.
+fn push_wrong_kind(text: &mut Vec<u8>, name: &str, kinds: &str) -> Result<(), AllocError> {
     push(text, name)?;
     push(text, ": wrong kind")?;
     end(text)?;
-    push_lines(text, KINDS)
+    push_lines(text, kinds)
 }
 
 /// Appends the reason of a no, and what the files show of it.

@@ -138,7 +138,7 @@ pub(crate) fn reason_sentence(reason: Reason) -> &'static str {
             "The tour has to use every pair of FIXED_EDGES_SECTION: as neighbours,\n\
              under TYPE ATSP from the pair's first node to its second."
         }
-        Reason::NotPotentials => "The third file has to be of TYPE POTENTIALS.",
+        Reason::NotPotentials => "The certificate has to be of TYPE POTENTIALS.",
         Reason::PotentialsDimension => "DIMENSION of the potentials isn't that of the instance.",
         Reason::PotentialsKind => {
             "A TSP wants a NODE_POTENTIAL_SECTION, an ATSP a ROW_POTENTIAL_SECTION and a COLUMN_POTENTIAL_SECTION."
@@ -165,7 +165,7 @@ pub(crate) fn reason_sentence(reason: Reason) -> &'static str {
         Reason::LengthClaimed { length: _ } => {
             "Nothing else stands against the solution, but its length isn't the one that --length claims."
         }
-        Reason::NotBranches => "The third file has to be of TYPE BRANCHES.",
+        Reason::NotBranches => "The certificate has to be of TYPE BRANCHES.",
         Reason::BranchesDimension => "DIMENSION of the tree of cases isn't that of the instance.",
         Reason::BadComb { index: _ } => {
             "This family of COMB_SECTION is neither a lone set nor a comb. A lone set is one set that leaves a node out.\n\

@@ -1,7 +1,8 @@
 //! The exit status of each ending. No body is looked at here: a definition that is changed together
 //! with its code is refused by its examples.
 
-ghost use Rattle.std.specs.Prelude.{◌≡◌, ℕ, true, false, Some, Ok, Err, codes};
+ghost use denote.Ref.{Bor};
+ghost use Rattle.std.specs.Prelude.{◌≡◌, ℕ, List, true, false, Some, Ok, Err, codes};
 ghost use Rattle.clap.specs.declared.error.Error.{Error};
 ghost use Rattle.tsp_judge.specs.declared.EndFault.TheVariants as end_faults;
 ghost use Rattle.tsp_judge.specs.declared.LineFault.TheVariants as line_faults;
@@ -37,7 +38,7 @@ pub fn examples_of_statuses()
     ensures memory_for_a_text { status_of_fault (run_faults.Write write_faults.OutOfMemory) ≡ 3 }
     ensures memory_for_a_layout { status_of_fault (run_faults.Relayout relayout_faults.OutOfMemory) ≡ 3 }
     ensures refused { (refusal : Error) → status_of_ending (endings.NoJob (job_faults.Refused refusal)) ≡ 4 }
-    ensures version { (build : Str) → status_of_ending (endings.Version build) ≡ 4 }
+    ensures version { (build : Bor (List ℕ)) → status_of_ending (endings.Version build) ≡ 4 }
     ensures input_twice { status_of_ending (endings.NoTask task_faults.InputTwice) ≡ 4 }
     ensures unknown_layout { status_of_ending (endings.NoTask task_faults.UnknownLayout) ≡ 4 }
     ensures missing_path { status_of_ending (endings.NoTask task_faults.MissingPath) ≡ 4 }

@@ -85,10 +85,20 @@ fn push_fault<F: Read + Drop, O: Open<F>>(
             let given = given_for(job, file);
             explain_file(alloc, text, name_of(path), given, again(path, files), fault)
         }
-        RunFault::WrongKind => explain_wrong_kind(alloc, text, name_of(path_of(job, 1))),
+        RunFault::WrongKind => {
+            explain_wrong_kind(alloc, text, name_of(path_of(job, 1)), is_bound(job))
+        }
         RunFault::Write(fault) => push_write_fault(alloc, text, fault, write_error),
         RunFault::OutOfMemory => push_lines(text, "There is no memory for what is to be done."),
         RunFault::Relayout(fault) => push_lines(text, relayout_sentence(fault)),
+    }
+}
+
+/// Whether the job's verb is `bound`.
+fn is_bound(job: &Job) -> bool {
+    match job.verb {
+        Some(Verb::Bound) => true,
+        Some(Verb::Show | Verb::Convert | Verb::Check) | None => false,
     }
 }
 
