@@ -193,7 +193,7 @@ ChecksTexts given claimed one two status text = EndsWithText
 abbrev pub ChecksBy : ℕ → ℕ → ℤ → List ℕ → List ℕ → List ℕ → ℕ → List ℕ → Type 0
 ChecksBy by has_claim claimed one two three status text =
     (by ≤ 2 → has_claim ≤ 1
-        → ChecksTexts (given_text (nth by certificates) three) (claim_of has_claim claimed) one two status text)
+    → ChecksTexts (given_text (nth by certificates) three) (claim_of has_claim claimed) one two status text)
     × (2 < by → IsRefused status text)
     × (1 < has_claim → IsRefused status text)
 

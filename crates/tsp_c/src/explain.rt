@@ -19,8 +19,11 @@ const OUT_OF_MEMORY: u8 = 3;
 
 /// The calls that are explained, by their numbers.
 const SHOW: u32 = 0;
+
 const CONVERT: u32 = 1;
+
 const CHECK: u32 = 2;
+
 const BOUND: u32 = 3;
 
 /// The texts of a call, and what the user calls them.

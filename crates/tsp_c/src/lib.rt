@@ -56,7 +56,15 @@ pub extern "C" fn tsp_check(
     ensures { PlacesText (ChecksBy by has_claim claimed instance.now solution.now certificate.now)
         out.old out.new written.new result }
 {
-    let (status, text) = check_by(alloc, instance, solution, certificate, by, claimed, has_claim);
+    let (status, text) = check_by(
+        alloc,
+        instance,
+        solution,
+        certificate,
+        by,
+        claimed,
+        has_claim,
+    );
     let answer = place(&text, status, out, written);
     drop(text);
     answer

@@ -34,12 +34,7 @@ pub(crate) fn check_by(
 }
 
 /// The bound by 1 with potentials, by 2 with branches, with its status.
-pub(crate) fn bound_by(
-    alloc: Global,
-    instance: &[u8],
-    certificate: &[u8],
-    by: u32,
-) -> (u8, Vec<u8>)
+pub(crate) fn bound_by(alloc: Global, instance: &[u8], certificate: &[u8], by: u32) -> (u8, Vec<u8>)
     ensures { BoundsBy (nth by certificates) instance.now certificate.now result.0 result.1.items }
 {
     match certificate_of(by) {

@@ -55,7 +55,13 @@ pub fn explain_verdict(
             length,
             routes: _,
             least: _,
-        } => push_claim(alloc, &mut told, names.solution, solution.comments(), length),
+        } => push_claim(
+            alloc,
+            &mut told,
+            names.solution,
+            solution.comments(),
+            length,
+        ),
         Verdict::No(reason) => push_no(
             alloc,
             &mut told,
