@@ -30,8 +30,8 @@ use Rattle.tsp_c.specs.Ended.{EndsWithText, nth}
 
 -- ---- a number that is refused
 
-abbrev pub IsRefused : ℕ → List ℕ → Type 0
-IsRefused status text = (status ≡ 4) × (text ≡ [])
+abbrev pub IsRefusedNumber : ℕ → List ℕ → Type 0
+IsRefusedNumber status text = (status ≡ 4) × (text ≡ [])
 
 -- ---- a text
 
@@ -66,7 +66,7 @@ ConvertsText to one status text = EndsWithText
 -- by the layout with a number, counted from 1; 0 leaves a file in its own, and numbers above 9 are refused
 abbrev pub ConvertsBy : ℕ → List ℕ → ℕ → List ℕ → Type 0
 ConvertsBy number one status text = (number ≤ 9 → ConvertsText (nth number layouts) one status text)
-    × (9 < number → IsRefused status text)
+    × (9 < number → IsRefusedNumber status text)
 
 -- ---- a check: what is given, and what is claimed
 
@@ -194,8 +194,8 @@ abbrev pub ChecksBy : ℕ → ℕ → ℤ → List ℕ → List ℕ → List ℕ
 ChecksBy by has_claim claimed one two three status text =
     (by ≤ 2 → has_claim ≤ 1
     → ChecksTexts (given_text (nth by certificates) three) (claim_of has_claim claimed) one two status text)
-    × (2 < by → IsRefused status text)
-    × (1 < has_claim → IsRefused status text)
+    × (2 < by → IsRefusedNumber status text)
+    × (1 < has_claim → IsRefusedNumber status text)
 
 -- ---- a bound without a solution
 
@@ -248,7 +248,7 @@ BoundsTexts by one two status text = EndsWithText
 
 -- by this certificate; where the number has none, it is refused
 abbrev pub BoundsBy : Option Certificate → List ℕ → List ℕ → ℕ → List ℕ → Type 0
-BoundsBy None one two status text = IsRefused status text
+BoundsBy None one two status text = IsRefusedNumber status text
 BoundsBy (Some by) one two status text = BoundsTexts by one two status text
 
 -- ---- an explanation
