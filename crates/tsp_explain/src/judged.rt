@@ -49,30 +49,41 @@ pub fn explain_verdict(
     ensures { StartsWith text.new.items text.old.items }
 {
     let mut told = Vec::new(alloc);
-    let answer = match verdict {
-        Verdict::Tour { length, bound: _ }
-        | Verdict::Routes {
-            length,
-            routes: _,
-            least: _,
-        } => push_claim(
+    let answer = match length_of(verdict) {
+        Ok(length) => push_claim(
             alloc,
             &mut told,
             names.solution,
             solution.comments(),
             length,
         ),
-        Verdict::No(reason) => push_no(
-            alloc,
-            &mut told,
-            names,
-            reason,
-            instance,
-            Some(solution),
-            certificate,
-        ),
+        Err(reason) => {
+            let solution = Some(solution);
+            push_no(
+                alloc,
+                &mut told,
+                names,
+                reason,
+                instance,
+                solution,
+                certificate,
+            )
+        }
     };
     append(text, told, answer)
+}
+
+/// The length of a solution that is accepted, or the reason against it.
+fn length_of(verdict: Verdict) -> Result<i64, Reason> {
+    match verdict {
+        Verdict::Tour { length, bound: _ } => Ok(length),
+        Verdict::Routes {
+            length,
+            routes: _,
+            least: _,
+        } => Ok(length),
+        Verdict::No(reason) => Err(reason),
+    }
 }
 
 /// Appends what explains that there is no bound: the reason, or that the instance has no tour.
