@@ -25,7 +25,10 @@ pub(crate) fn check_by(
 ) -> (u8, Vec<u8>)
     ensures { ChecksBy by has_claim claimed instance.now solution.now certificate.now result.0 result.1.items }
 {
-    if by > 2 || has_claim > 1 {
+    if by > 2 {
+        return (REFUSED, Vec::new(alloc));
+    }
+    if has_claim > 1 {
         return (REFUSED, Vec::new(alloc));
     }
     let by = certificate_of(by);
