@@ -1,6 +1,6 @@
 -- A run, put together from its parts.
-use Rattle.std.specs.Prelude.{ℤ, pos, negsuc, ◌⊎◌, ◌≤◌, ◌^◌, unsigned_abs, IsTrue}
-use Rattle.std.proofs.Common.{◌≡◌, ℕ, [], length, Bool, true, false, Option, Some, None, Result, Ok, Err, refl, sym, subst, inl, inr, arith}
+use Rattle.std.specs.Prelude.{ℤ, pos, negsuc, ◌≤◌, ◌^◌, unsigned_abs}
+use Rattle.std.proofs.Common.{◌≡◌, ℕ, [], length, false, Option, Some, None, Err, refl, sym, subst, inl, inr, arith}
 use Rattle.std.proofs.lemmas.Int.{ints}
 use Rattle.std.proofs.lemmas.Bool.{false≢true}
 use Rattle.tsp_format.specs.declared.kinds.Kind.{Kind}
@@ -15,7 +15,7 @@ use Rattle.tsp_reason.specs.declared.certificate.Certificate.{Certificate}
 use Rattle.tsp_reason.specs.declared.verdict.Verdict.{Verdict}
 use Rattle.tsp_reason.specs.declared.verdict.Verdict.TheVariants as verdicts
 use Rattle.tsp_verdict.specs.Certified.{is_bounded, IsCertifiedVerdict}
-use Rattle.tsp_verdict.specs.Judged.{is_judged, IsVerdictBy, IsVerdictOn, IsUnclaimedVerdict, IsVerdictWith}
+use Rattle.tsp_verdict.specs.Judged.{is_judged, IsVerdictBy, IsUnclaimedVerdict, IsVerdictWith}
 use Rattle.tsp_judge.specs.declared.fault.RunFault.{RunFault}
 use Rattle.tsp_judge.specs.declared.fault.RunFault.TheVariants.{File, WrongKind, Write, OutOfMemory, Relayout}
 use Rattle.tsp_report.specs.Report.{IsBoundSized, IsSized}

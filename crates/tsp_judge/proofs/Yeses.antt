@@ -18,7 +18,7 @@ use Rattle.tsp_reason.specs.declared.verdict.Reason.TheVariants.{NotASolution, N
 use Rattle.tsp_reason.specs.declared.verdict.Verdict.{Verdict}
 use Rattle.tsp_reason.specs.declared.verdict.Verdict.TheVariants as verdicts
 use Rattle.tsp_verdict.specs.Certified.{kind_of, StandsAgainstCertificate, IsCertifiedVerdict}
-use Rattle.tsp_verdict.specs.Judged.{IsVerdictBy, IsVerdictOn, IsUnclaimedVerdict, IsAsClaimed, IsVerdictWith}
+use Rattle.tsp_verdict.specs.Judged.{IsVerdictBy, IsUnclaimedVerdict, IsAsClaimed, IsVerdictWith}
 use Rattle.tsp_verdict.specs.Routes.{IsRoutesVerdict}
 use Rattle.tsp_verdict.specs.Tours.{IsTourVerdict}
 use Rattle.tsp_report.specs.Report.{report_of}

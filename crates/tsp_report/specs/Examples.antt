@@ -1,5 +1,5 @@
 -- Small files on which whole reports are evaluated.
-use Rattle.std.specs.Prelude.{List, ℕ, [], ◌∷◌, None, Some, pos, codes}
+use Rattle.std.specs.Prelude.{List, ℕ, [], ◌∷◌, Some, pos, codes}
 use Rattle.tsp_format.specs.declared.kinds.Kind.TheVariants.{Tsp, Cvrp, Tour, Potentials, Branches}
 use Rattle.tsp_format.specs.declared.kinds.WeightKind.TheVariants.{Explicit}
 use Rattle.tsp_format.specs.declared.kinds.WeightFormat.TheVariants.{Listed}

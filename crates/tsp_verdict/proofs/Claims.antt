@@ -1,7 +1,6 @@
 -- A solution whose length may be claimed, with a certificate or without.
-use Rattle.std.proofs.Common.{◌≡◌, ◌≢◌, ◌⊎◌, inl, inr, Option, Some, None, refl, sym, subst, ◌∙◌}
+use Rattle.std.proofs.Common.{◌≡◌, ◌⊎◌, inl, inr, Option, Some, None, refl, sym, subst, ◌∙◌}
 use Rattle.std.specs.Prelude.{ℤ, IsTrue, Result, Ok, Err, MatchResult}
-use Rattle.tsp_format.specs.declared.kinds.Kind.{Kind}
 use Rattle.tsp_format.specs.declared.kinds.Kind.TheVariants as kinds
 use Rattle.tsp_draft.specs.Fields.{Fields}
 use Rattle.tsp_reason.specs.declared.certificate.Certificate.{Certificate}
@@ -10,7 +9,7 @@ use Rattle.tsp_reason.specs.declared.verdict.Reason.TheVariants.{LengthClaimed}
 use Rattle.tsp_reason.specs.declared.verdict.Verdict.{Verdict}
 use Rattle.tsp_reason.specs.declared.verdict.Verdict.TheVariants as verdicts
 use Rattle.tsp_verdict.specs.Certified.{is_bounded, FindsBound, IsCertifiedVerdict}
-use Rattle.tsp_verdict.specs.Judged.{IsVerdictBy, IsVerdictOn, NoneBeforeRepeatsOn, NoneBeforeRepeatsBy, IsUnclaimedVerdict, IsAsClaimed, IsOtherClaimed, HasLength, HasNoLength, IsClaimedVerdict, IsVerdictWith}
+use Rattle.tsp_verdict.specs.Judged.{IsVerdictBy, IsVerdictOn, NoneBeforeRepeatsOn, NoneBeforeRepeatsBy, IsAsClaimed, IsOtherClaimed, HasLength, HasNoLength, IsVerdictWith}
 use Rattle.tsp_verdict.specs.Tours.{IsFirstAgainstTour, IsTourVerdict, NoneOfTourBeforeRepeats}
 use Rattle.tsp_verdict.proofs.Certificates.{tour_first, certificate_first, none_at_all, kinds_bounded}
 

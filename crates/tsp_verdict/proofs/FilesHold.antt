@@ -1,6 +1,6 @@
 -- What valid files hold.
 use Rattle.std.proofs.Common.{◌≡◌, ℕ, zero, suc, ◌+◌, ◌<◌, ◌≤◌, true, List, [], ◌∷◌, ◌++◌, length, map, Option, Some, refl, sym, ap, subst, ◌∙◌, arith, length-append}
-use Rattle.std.specs.Prelude.{unwrap_or, ℤ, ◌^◌}
+use Rattle.std.specs.Prelude.{unwrap_or, ◌^◌}
 use Rattle.std.specs.Global.{Vec}
 use Rattle.std.specs.List.{All, AllByRecursion, concat, sum_by}
 use Rattle.std.proofs.lemmas.Bool.{false≢true}

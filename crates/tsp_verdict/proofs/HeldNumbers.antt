@@ -1,6 +1,6 @@
 -- The numbers that certificates hold.
-use Rattle.std.proofs.Common.{◌≡◌, ℕ, true, false, List, [], length, Option, None, Some, refl, sym, ap, ◌∙◌}
-use Rattle.std.specs.Prelude.{◌⊎◌, ℤ, pos, is_some, IsSome, unwrap_or}
+use Rattle.std.proofs.Common.{◌≡◌, ℕ, false, List, [], length, Option, None, Some, refl, sym, ap, ◌∙◌}
+use Rattle.std.specs.Prelude.{ℤ, pos, is_some, IsSome, unwrap_or}
 use Rattle.std.specs.List.{All}
 use Rattle.tsp_format.specs.Cells.{IsNode}
 use Rattle.tsp_draft.specs.Fields.{Fields}

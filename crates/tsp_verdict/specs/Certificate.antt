@@ -1,21 +1,16 @@
 -- A certificate by potentials: its file, when a reason applies to it, and the bound that it gives.
-use Rattle.std.specs.Prelude.{◌≡◌, ◌≢◌, ℕ, Bool, false, ◌&&◌, List, [], Option, None, Some, is_some, unwrap_or, Result, Ok, Err, ℤ, pos, ◌≤ℤ◌}
+use Rattle.std.specs.Prelude.{◌≡◌, ◌≢◌, ℕ, Bool, false, ◌&&◌, List, [], Option, None, Some, is_some, unwrap_or, ℤ, pos}
 use Rattle.tsp_format.specs.declared.kinds.Kind.{Kind}
 use Rattle.tsp_format.specs.declared.kinds.Kind.TheVariants as kinds
 use Rattle.tsp_draft.specs.Fields.{Fields}
 use Rattle.tsp_draft.specs.Rules.{is_certificate}
 use Rattle.tsp_file.specs.Cost.{cost}
-use Rattle.tsp_theory.specs.Cycle.{IsCycle}
-use Rattle.tsp_theory.specs.Length.{length_of}
-use Rattle.tsp_theory.specs.Numbers.{IsBoundSized}
 use Rattle.tsp_theory.specs.Assignment.{AreGood, IsFirstBroken, IsDualBound}
-use Rattle.tsp_cost.specs.Tours.{IsTourOf}
-use Rattle.tsp_theory.specs.Adjusted.{UsesEach, IsAdjustedBound}
+use Rattle.tsp_theory.specs.Adjusted.{IsAdjustedBound}
 use Rattle.tsp_reason.specs.declared.verdict.Reason.{Reason}
 use Rattle.tsp_reason.specs.declared.verdict.Reason.TheVariants.{NotPotentials, PotentialsDimension, PotentialsKind, MultiplierNotFixed, MultiplierRepeated, DualInfeasible}
 use Rattle.tsp_verdict.specs.Multiplied.{IsUnlisted, IsPairRepeated}
 use Rattle.tsp_verdict.specs.Places.{IsFirstPlace}
-use Rattle.tsp_verdict.specs.Reasons.{IsFirstReason}
 use Rattle.tsp_verdict.specs.Solution.{nodes_of, fixed_of}
 
 -- ---- what is read of it
