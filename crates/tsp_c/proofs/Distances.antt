@@ -1,5 +1,5 @@
 -- The distance by a number.
-use Rattle.std.proofs.Common.{◌≡◌, ℕ, refl, ap, ◌∙◌}
+use Rattle.std.proofs.Common.{◌≡◌, refl, ap}
 use Rattle.std.specs.Prelude.{ℤ, pos, Option, Some, None, option_map, unwrap_or}
 use Rattle.tsp_distance.specs.declared.decimal.Point.{Point}
 use Rattle.tsp_format.specs.declared.kinds.WeightKind.{WeightKind}

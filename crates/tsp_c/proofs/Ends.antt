@@ -1,5 +1,5 @@
 -- What the status of a run on texts says.
-use Rattle.std.proofs.Common.{◌≡◌, ℕ, ◌≤◌, List, [], Bool, true, false, Result, Ok, Err, inl, inr, refl, sym, subst, ◌∙◌, arith}
+use Rattle.std.proofs.Common.{◌≡◌, ℕ, ◌≤◌, List, true, false, Ok, Err, inl, inr, refl, sym, subst, arith}
 use Rattle.tsp_stream.specs.declared.output.WriteFault.TheVariants as write_faults
 use Rattle.tsp_file.specs.declared.fault.RelayoutFault.{RelayoutFault}
 use Rattle.tsp_file.specs.declared.fault.RelayoutFault.TheVariants as relayout_faults

@@ -1,7 +1,7 @@
 -- Lists of nodes, each of which a 0 ends.
 use Rattle.std.proofs.Common.{◌≡◌, ◌≤◌, ℕ, zero, suc, ◌+◌, ◌<◌, Bool, true, false, cond, List, [], ◌∷◌, length, take, drop, length-drop, drop-cons, add-one, ltb-true, ltb-false, refl, sym, ap, subst, ◌∙◌, arith}
-use Rattle.std.specs.Prelude.{◌==◌, not, nat_lt, Option, Some, None, unwrap_or, slice_index_or as get_or}
-use Rattle.std.specs.List.{All, count_by, position, position_or_len, prefix_len}
+use Rattle.std.specs.Prelude.{◌==◌, not, nat_lt, Some, None, unwrap_or, slice_index_or as get_or}
+use Rattle.std.specs.List.{All, count_by, position, prefix_len}
 use Rattle.std.proofs.lemmas.Bool.{false≢true}
 use Rattle.std.proofs.lemmas.List.{get_or-take, length-take}
 use Rattle.std.proofs.lemmas.List.Sums.{prefix_len_passes, sum_by-cons}

@@ -1,5 +1,5 @@
 -- From runs on readers to what is said of the texts that they read.
-use Rattle.std.proofs.Common.{◌≡◌, ℕ, List, [], Bool, true, false, Result, Ok, Err, inl, inr, refl, sym, subst, ◌∙◌, arith}
+use Rattle.std.proofs.Common.{◌≡◌, ℕ, List, [], Bool, true, false, Result, Ok, Err, inl, inr, refl, sym, subst, arith}
 use Rattle.std.specs.Prelude.{◌⊎◌, Option, None, Some, IfSome, ℤ, is_ok}
 use Rattle.std.specs.Io.KnownBytes.{Appends}
 use Rattle.std.proofs.lemmas.Bool.{false≢true}
@@ -18,7 +18,6 @@ use Rattle.tsp_reason.specs.declared.certificate.Certificate.{Certificate}
 use Rattle.tsp_reason.specs.declared.verdict.Reason.{Reason}
 use Rattle.tsp_reason.specs.declared.verdict.Verdict.{Verdict}
 use Rattle.tsp_reason.specs.declared.verdict.Verdict.TheVariants.{Tour, Routes, No}
-use Rattle.tsp_report.specs.Report.{report_of, bound_report_of}
 use Rattle.tsp_judge.specs.declared.bound.Bounded.{Bounded}
 use Rattle.tsp_judge.specs.declared.fault.RunFault.{RunFault}
 use Rattle.tsp_judge.specs.declared.fault.RunFault.TheVariants.{File, WrongKind, Write, OutOfMemory, Relayout}
@@ -31,7 +30,7 @@ use Rattle.tsp_judge.specs.ConvertRun.{IsConvertRun}
 use Rattle.tsp_c.specs.Ended.{without_devices, done, has_bound, EndsOnTexts}
 use Rattle.tsp_c.specs.Texts.{IsFileText, ShowsText, ConvertsText, given_text, SpellsGiven}
 use Rattle.tsp_c.specs.Texts.{IsTourAccepted, AreRoutesAccepted, IsAYesOfTexts, IsAccepted, IsRejected, IsUnchecked, ChecksTexts}
-use Rattle.tsp_c.specs.Texts.{IsABoundOfTexts, IsNoTourOfTexts, IsBoundRejected, IsUnbounded, BoundsTexts}
+use Rattle.tsp_c.specs.Texts.{IsABoundOfTexts, IsNoTourOfTexts, IsUnbounded, BoundsTexts}
 use Rattle.tsp_c.proofs.Ends.{yes_ends, no_ends, fault_ends}
 
 -- ---- a text

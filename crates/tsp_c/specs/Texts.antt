@@ -1,5 +1,5 @@
 -- What the calls on texts answer, over the bytes of these texts alone.
-use Rattle.std.specs.Prelude.{◌≡◌, ◌⊎◌, ℕ, zero, suc, ◌≤◌, ◌<◌, false, List, [], ◌∷◌, length, Option, None, Some, Result, Ok, Err, IsTrue, ℤ, ◌≤ℤ◌}
+use Rattle.std.specs.Prelude.{◌≡◌, ◌⊎◌, ℕ, zero, suc, ◌≤◌, ◌<◌, false, List, [], ◌∷◌, length, Option, None, Some, Ok, Err, IsTrue, ℤ, ◌≤ℤ◌}
 use Rattle.tsp_format.specs.declared.kinds.Kind.TheVariants as kinds
 use Rattle.tsp_format.specs.declared.layout.Layout.{Layout}
 use Rattle.tsp_format.specs.Words.{layouts}
@@ -8,7 +8,6 @@ use Rattle.tsp_draft.specs.Rules.{fault_of, is_instance}
 use Rattle.tsp_file.specs.Cost.{cost}
 use Rattle.tsp_file.specs.Text.{text_of}
 use Rattle.tsp_file.specs.declared.fault.RelayoutFault.{RelayoutFault}
-use Rattle.tsp_text.specs.declared.fault.ReadFault.{ReadFault}
 use Rattle.tsp_text.specs.Text.{fault, Spells}
 use Rattle.tsp_theory.specs.Length.{length_of}
 use Rattle.tsp_cost.specs.Tours.{IsTourOf}

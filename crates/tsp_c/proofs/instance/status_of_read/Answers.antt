@@ -1,4 +1,4 @@
-use Rattle.std.proofs.Common.{inl, inr, refl}
+use Rattle.std.proofs.Common.{inl, refl}
 use Rattle.tsp_c.proofs.instance.status_of_read.Goals as goal
 
 pub returns-in-Line : goal.returns-in-Line
