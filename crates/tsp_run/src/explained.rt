@@ -8,10 +8,10 @@ use std::io;
 use std::io::Read;
 use tsp_cli::{Job, TaskFault, Verb};
 use tsp_explain::{
-    Role, blamed, explain_file, explain_reason, push_claim, push_details, push_error, push_lines,
-    relayout_sentence, write_sentence,
+    Names, Role, explain_bound, explain_file, explain_verdict, explain_wrong_kind, push_error,
+    push_lines, relayout_sentence, write_sentence,
 };
-use tsp_judge::{Judged, Reason, RunFault, Verdict, WriteFault};
+use tsp_judge::{RunFault, WriteFault};
 
 /// What explains how a job ended, line by line. Files that can be are looked at once more for it;
 /// `write_error` is what the system said of a write that failed. It is cut short where there is no
@@ -66,22 +66,9 @@ const INPUT: &str =
 const NO_CERTIFICATE: &str =
     "A bound needs a certificate: --potentials with a file of potentials, or --branches with a tree of cases.";
 
-/// What it means that a certificate gives no bound.
-const NO_TOUR: &str =
-    "The instance has no tour: at each leaf of the tree its decisions and the fixed arcs leave some node no arc.";
-
 /// What a length is.
 const LENGTHS: &str =
     "A length is a whole number that fits 64 bits, as 426 or 12.0. One below 0 is written --length=-34.";
-
-/// What the first file of a check is.
-const KINDS: &str =
-    "The first file of a check is of TYPE TSP, ATSP or CVRP, with --potentials or --branches of TYPE TSP or ATSP.\n\
-    The second file is the solution, of TYPE TOUR.";
-
-/// What the first file of a bound is.
-const BOUND_KINDS: &str =
-    "The first file of a bound is of TYPE TSP or ATSP. The certificate is the file of the option.";
 
 /// Appends what explains a fault of a task.
 fn push_fault<F: Read + Drop, O: Open<F>>(
@@ -99,9 +86,7 @@ fn push_fault<F: Read + Drop, O: Open<F>>(
             explain_file(alloc, text, name_of(path), given, again(path, files), fault)
         }
         RunFault::WrongKind => {
-            text.extend_from_slice(name_of(path_of(job, 1)).as_bytes())?;
-            text.extend_from_slice(b": wrong kind\n")?;
-            push_lines(text, kinds_of(job))
+            explain_wrong_kind(alloc, text, name_of(path_of(job, 1)), is_bound(job))
         }
         RunFault::Write(fault) => push_write_fault(alloc, text, fault, write_error),
         RunFault::OutOfMemory => push_lines(text, "There is no memory for what is to be done."),
@@ -109,11 +94,11 @@ fn push_fault<F: Read + Drop, O: Open<F>>(
     }
 }
 
-/// What the files of the job's verb are.
-fn kinds_of(job: &Job) -> &'static str {
+/// Whether the job's verb is `bound`.
+fn is_bound(job: &Job) -> bool {
     match job.verb {
-        Some(Verb::Bound) => BOUND_KINDS,
-        Some(Verb::Show | Verb::Convert | Verb::Check) | None => KINDS,
+        Some(Verb::Bound) => true,
+        Some(Verb::Show | Verb::Convert | Verb::Check) | None => false,
     }
 }
 
@@ -139,66 +124,42 @@ fn push_outcome(
     job: &Job,
     outcome: &Outcome,
 ) -> Result<(), AllocError> {
+    let names = names_of(job);
     match outcome {
         Outcome::Done => Ok(()),
-        Outcome::Judged(judged) => push_judged(alloc, text, job, judged),
-        Outcome::Bounded(bounded) => match bounded.found {
-            Ok(Some(_)) => Ok(()),
-            Ok(None) => push_lines(text, NO_TOUR),
-            Err(reason) => {
-                explain_reason(alloc, text, name_of_blamed(job, reason), reason)?;
-                let certificate = Some(&bounded.certificate);
-                push_details(alloc, text, reason, &bounded.instance, None, certificate)
-            }
-        },
-    }
-}
-
-/// Appends what explains that a solution was judged so.
-fn push_judged(
-    alloc: Global,
-    text: &mut Vec<u8>,
-    job: &Job,
-    judged: &Judged,
-) -> Result<(), AllocError> {
-    match judged.verdict {
-        Verdict::Tour { length, bound: _ } => push_claimed(alloc, text, job, judged, length),
-        Verdict::Routes {
-            length,
-            routes: _,
-            least: _,
-        } => push_claimed(alloc, text, job, judged, length),
-        Verdict::No(reason) => {
-            explain_reason(alloc, text, name_of_blamed(job, reason), reason)?;
+        Outcome::Judged(judged) => {
             let certificate = match &judged.certificate {
                 Some((_, certificate)) => Some(certificate),
                 None => None,
             };
-            let solution = Some(&judged.solution);
-            push_details(alloc, text, reason, &judged.instance, solution, certificate)
+            explain_verdict(
+                alloc,
+                text,
+                names,
+                judged.verdict,
+                &judged.instance,
+                &judged.solution,
+                certificate,
+            )
         }
+        Outcome::Bounded(bounded) => explain_bound(
+            alloc,
+            text,
+            names,
+            bounded.found,
+            &bounded.instance,
+            &bounded.certificate,
+        ),
     }
 }
 
-/// Appends whether a comment of the solution claims another length than this one.
-fn push_claimed(
-    alloc: Global,
-    text: &mut Vec<u8>,
-    job: &Job,
-    judged: &Judged,
-    length: i64,
-) -> Result<(), AllocError> {
-    let name = name_of(place_of(&job.solution));
-    push_claim(alloc, text, name, judged.solution.comments(), length)
-}
-
-/// What the file is called that a reason is about.
-fn name_of_blamed(job: &Job, reason: Reason) -> &str {
-    name_of(match blamed(reason) {
-        Role::Instance => place_of(&job.file),
-        Role::Solution => place_of(&job.solution),
-        Role::Potentials | Role::Branches => place_of(certificate_of(job)),
-    })
+/// What the files of a check, or of a bound, are called.
+fn names_of(job: &Job) -> Names<'_> {
+    Names {
+        instance: name_of(place_of(&job.file)),
+        solution: name_of(place_of(&job.solution)),
+        certificate: name_of(place_of(certificate_of(job))),
+    }
 }
 
 /// What the file with this number is given for, or `None` where it may be any.

@@ -1,0 +1,184 @@
+/* Buffers that are too small by one byte or number and more, what stays as it was, and numbers that are
+ * refused. Prints a line for each check that fails, and exits with 1 then. */
+#include "../tsp.h"
+
+#include <stdio.h>
+#include <string.h>
+
+static int failed = 0;
+static int passed = 0;
+
+static void expect(int holds, const char *what) {
+    if (holds) {
+        passed++;
+        return;
+    }
+    failed++;
+    printf("failed: %s\n", what);
+}
+
+static const char SQUARE[] = "TYPE : TSP\nDIMENSION : 4\nEDGE_WEIGHT_TYPE : EUC_2D\nNODE_COORD_SECTION\n"
+                             "1 0 0\n2 3 0\n3 3 4\n4 0 4.5\nEOF\n";
+static const char MATRIX[] = "TYPE : ATSP\nDIMENSION : 2\nEDGE_WEIGHT_TYPE : EXPLICIT\nEDGE_WEIGHT_FORMAT : FULL_MATRIX\n"
+                             "EDGE_WEIGHT_SECTION\n7 1\n2 9\nEOF\n";
+static const char TOUR[] = "TYPE : TOUR\nTOUR_SECTION\n1 2 3 4 -1\nEOF\n";
+static const char SHOWN[] = "type TSP\nnodes 4\nweights EUC_2D\ncanonical 15\n";
+static const char REPORT[] = "type TSP\nnodes 4\nlength 15\nyes\n";
+
+#define TEXT(text) (const uint8_t *)(text), sizeof(text) - 1
+
+/* Each length of buffer from 0 to two bytes more than the text. */
+static void texts(void) {
+    size_t len = sizeof SHOWN - 1;
+    for (size_t room = 0; room <= len + 2; room++) {
+        uint8_t out[64];
+        memset(out, '#', sizeof out);
+        size_t written = 99;
+        uint32_t status = tsp_show(TEXT(SQUARE), out, room, &written);
+        expect(written == len, "the length of what is shown");
+        if (room < len) {
+            expect(status == TSP_TOO_SMALL, "a buffer that is too small");
+            expect(out[0] == '#' && memcmp(out, out + 1, sizeof out - 1) == 0, "a buffer that is too small stays as it was");
+        } else {
+            expect(status == TSP_YES && memcmp(out, SHOWN, len) == 0, "what is shown");
+            expect(out[len] == '#' && memcmp(out + len, out + len + 1, sizeof out - len - 1) == 0, "the rest of the buffer");
+        }
+    }
+    uint8_t out[256];
+    size_t written = 0;
+    expect(tsp_check(TEXT(SQUARE), TEXT(TOUR), TEXT(""), 0, 0, 0, out, sizeof REPORT - 2, &written) == TSP_TOO_SMALL
+               && written == sizeof REPORT - 1, "a report that is one byte too long");
+    expect(tsp_check(TEXT(SQUARE), TEXT(TOUR), TEXT(""), 0, 0, 0, out, sizeof REPORT - 1, &written) == TSP_YES
+               && written == sizeof REPORT - 1 && memcmp(out, REPORT, written) == 0, "a report that fits");
+    expect(tsp_check(TEXT(TOUR), TEXT(SQUARE), TEXT(""), 0, 0, 0, out, sizeof out, &written) == TSP_FAULT
+               && written == 19 && memcmp(out, "file 1: wrong kind\n", 19) == 0, "files exchanged");
+    expect(tsp_check(TEXT(SQUARE), TEXT(TOUR), TEXT(""), 3, 0, 0, out, sizeof out, &written) == TSP_REFUSED && written == 0,
+           "no certificate has the number 3");
+    expect(tsp_convert(TEXT(SQUARE), 10, out, sizeof out, &written) == TSP_REFUSED && written == 0,
+           "no layout has the number 10");
+    expect(tsp_convert(TEXT(SQUARE), 1, out, sizeof out, &written) == TSP_NO
+               && written == 22 && memcmp(out, "relayout: NotExplicit\n", 22) == 0, "points have no layout");
+}
+
+static const char ZEROS[] = "TYPE : POTENTIALS\nDIMENSION : 4\nNODE_POTENTIAL_SECTION\n1 0\n2 0\n3 0\n4 0\nEOF\n";
+static const char BOUND[] = "type TSP\nnodes 4\nbound 15\nyes\n";
+static const char EXPLAINED[] = "  a.tour:\n";
+
+#define NAMES (const uint8_t *)"a.tsp\0a.tour\0a.pi", 17
+
+/* Claimed lengths, bounds without a tour, and explanations. */
+static void answers(void) {
+    uint8_t out[512];
+    size_t written = 0;
+    expect(tsp_check(TEXT(SQUARE), TEXT(TOUR), TEXT(""), 0, 15, 1, out, sizeof out, &written) == TSP_YES
+               && written == sizeof REPORT - 1 && memcmp(out, REPORT, written) == 0, "the claimed length");
+    static const char OTHER[] = "type TSP\nnodes 4\nno LengthClaimed 15\n";
+    expect(tsp_check(TEXT(SQUARE), TEXT(TOUR), TEXT(""), 0, 14, 1, out, sizeof out, &written) == TSP_NO
+               && written == sizeof OTHER - 1 && memcmp(out, OTHER, written) == 0, "another length than the claimed one");
+    expect(tsp_check(TEXT(SQUARE), TEXT(TOUR), TEXT(""), 0, 14, 0, out, sizeof out, &written) == TSP_YES,
+           "no length is claimed");
+    expect(tsp_check(TEXT(SQUARE), TEXT(TOUR), TEXT(""), 0, 15, 2, out, sizeof out, &written) == TSP_REFUSED
+               && written == 0, "has_claim is 0 or 1");
+
+    expect(tsp_bound(TEXT(SQUARE), TEXT(ZEROS), 1, out, sizeof BOUND - 2, &written) == TSP_TOO_SMALL
+               && written == sizeof BOUND - 1, "a bound's report that is one byte too long");
+    expect(tsp_bound(TEXT(SQUARE), TEXT(ZEROS), 1, out, sizeof BOUND - 1, &written) == TSP_YES
+               && written == sizeof BOUND - 1 && memcmp(out, BOUND, written) == 0, "a bound's report that fits");
+    static const char REFUSED[] = "type TSP\nnodes 4\nno NotBranches\n";
+    expect(tsp_bound(TEXT(SQUARE), TEXT(ZEROS), 2, out, sizeof out, &written) == TSP_NO
+               && written == sizeof REFUSED - 1 && memcmp(out, REFUSED, written) == 0, "potentials are no branches");
+    expect(tsp_bound(TEXT(SQUARE), TEXT(ZEROS), 0, out, sizeof out, &written) == TSP_REFUSED && written == 0
+               && tsp_bound(TEXT(SQUARE), TEXT(ZEROS), 3, out, sizeof out, &written) == TSP_REFUSED,
+           "a bound is by 1 or by 2");
+    static const char FAULT[] = "file 2: end: Missing TYPE\n";
+    expect(tsp_bound(TEXT(SQUARE), TEXT(""), 1, out, sizeof out, &written) == TSP_FAULT
+               && written == sizeof FAULT - 1 && memcmp(out, FAULT, written) == 0, "a certificate is file 2 of a bound");
+
+    static const char TWICE[] = "TYPE : TOUR\nTOUR_SECTION\n1 2 2 4 -1\nEOF\n";
+    uint32_t status = tsp_explain(TSP_OF_CHECK, TEXT(SQUARE), TEXT(TWICE), TEXT(""), NAMES, 0, 0, 0, out, 16, &written);
+    expect(status == TSP_TOO_SMALL && written > 16 && written < sizeof out, "an explanation that is too long");
+    status = tsp_explain(TSP_OF_CHECK, TEXT(SQUARE), TEXT(TWICE), TEXT(""), NAMES, 0, 0, 0, out, written, &written);
+    expect(status == TSP_YES && memcmp(out, EXPLAINED, sizeof EXPLAINED - 1) == 0, "an explanation names the tour");
+    status = tsp_explain(TSP_OF_CHECK, TEXT(SQUARE), TEXT(TOUR), TEXT(""), NAMES, 0, 0, 0, out, sizeof out, &written);
+    expect(status == TSP_YES && written == 0, "a yes has nothing to explain");
+    status = tsp_explain(TSP_OF_SHOW, TEXT(""), TEXT(""), TEXT(""), TEXT(""), 0, 0, 0, out, sizeof out, &written);
+    expect(status == TSP_YES && memcmp(out, "file 1: Missing TYPE\n", 21) == 0, "a text without a name is called file 1");
+    status = tsp_explain(TSP_OF_CONVERT, TEXT(SQUARE), TEXT(""), TEXT(""), NAMES, 1, 0, 0, out, sizeof out, &written);
+    expect(status == TSP_YES && written > 0, "why points have no layout");
+    expect(tsp_explain(4, TEXT(SQUARE), TEXT(TOUR), TEXT(""), NAMES, 0, 0, 0, out, sizeof out, &written) == TSP_REFUSED
+               && tsp_explain(TSP_OF_BOUND, TEXT(SQUARE), TEXT(""), TEXT(ZEROS), NAMES, 0, 0, 0, out, sizeof out, &written)
+                      == TSP_REFUSED
+               && tsp_explain(TSP_OF_CONVERT, TEXT(SQUARE), TEXT(""), TEXT(""), NAMES, 10, 0, 0, out, sizeof out, &written)
+                      == TSP_REFUSED
+               && written == 0, "what isn't explained");
+}
+
+static void numbers(void) {
+    int64_t out[16];
+    uint32_t pairs[] = {1, 2, 2, 4, 3, 3};
+    for (int k = 0; k < 16; k++)
+        out[k] = -7;
+    expect(tsp_count(TEXT(SQUARE)) == 4, "four nodes");
+    expect(tsp_count(TEXT(TOUR)) == 0, "a tour is no instance");
+    expect(tsp_weights(TEXT(SQUARE), pairs, 6, out, 2) == TSP_TOO_SMALL && out[0] == -7, "one place too few for pairs");
+    expect(tsp_weights(TEXT(SQUARE), pairs, 5, out, 16) == TSP_REFUSED && out[0] == -7, "half a pair");
+    expect(tsp_weights(TEXT(TOUR), pairs, 6, out, 16) == TSP_FAULT && out[0] == -7, "pairs of a tour");
+    expect(tsp_weights(TEXT(SQUARE), pairs, 6, out, 16) == TSP_YES, "three pairs");
+    /* (3, 0) and (0, 4.5) are the root of 29.25 apart, which is 5.4 */
+    expect(out[0] == 3 && out[1] == 5 && out[2] == 0 && out[3] == -7, "the weights of three pairs");
+    uint32_t beyond[] = {1, 5};
+    expect(tsp_weights(TEXT(SQUARE), beyond, 2, out, 16) == TSP_REFUSED, "node 5 of 4");
+    beyond[1] = 0;
+    expect(tsp_weights(TEXT(SQUARE), beyond, 2, out, 16) == TSP_REFUSED, "node 0");
+
+    for (int k = 0; k < 16; k++)
+        out[k] = -7;
+    expect(tsp_matrix(TEXT(MATRIX), 1, out, 1) == TSP_TOO_SMALL && out[0] == -7, "one place too few for a row");
+    expect(tsp_matrix(TEXT(MATRIX), 0, out, 16) == TSP_REFUSED, "row 0");
+    expect(tsp_matrix(TEXT(MATRIX), 3, out, 16) == TSP_REFUSED, "row 3 of 2");
+    expect(tsp_matrix(TEXT(MATRIX), 2, out, 16) == TSP_YES && out[0] == 2 && out[1] == 9 && out[2] == -7, "the last row");
+    expect(tsp_matrix(TEXT(MATRIX), 1, out, 3) == TSP_YES && out[0] == 7 && out[1] == 1 && out[2] == -7, "one row of two");
+    expect(tsp_matrix(TEXT(MATRIX), 1, out, 16) == TSP_YES && out[2] == 2 && out[3] == 9 && out[4] == -7, "both rows");
+
+    uint32_t lists[] = {1, 2, 0, 0, 2, 0};
+    for (int k = 0; k < 16; k++)
+        out[k] = -7;
+    expect(tsp_lengths(TEXT(MATRIX), lists, 6, out, 2) == TSP_TOO_SMALL && out[0] == -7, "one place too few for lengths");
+    expect(tsp_lengths(TEXT(MATRIX), lists, 5, out, 16) == TSP_REFUSED && out[0] == -7, "a list without its 0");
+    expect(tsp_lengths(TEXT(MATRIX), lists, 0, out, 0) == TSP_YES && out[0] == -7, "no list");
+    expect(tsp_lengths(TEXT(MATRIX), lists, 6, out, 3) == TSP_YES, "three lists");
+    expect(out[0] == 3 && out[1] == 0 && out[2] == 9 && out[3] == -7, "the lengths of three lists");
+    lists[1] = 3;
+    expect(tsp_lengths(TEXT(MATRIX), lists, 6, out, 16) == TSP_REFUSED, "a list with node 3 of 2");
+
+    for (int k = 0; k < 16; k++)
+        out[k] = -7;
+    expect(tsp_points(TEXT(SQUARE), 1, out, 11) == TSP_TOO_SMALL && out[0] == -7, "one place too few for points");
+    expect(tsp_points(TEXT(SQUARE), 2, out, 16) == TSP_NO && out[0] == -7, "no points to display");
+    expect(tsp_points(TEXT(SQUARE), 3, out, 16) == TSP_REFUSED && out[0] == -7, "no section 3");
+    expect(tsp_points(TEXT("1"), 1, out, 16) == TSP_FAULT && out[0] == -7, "points of no file");
+    expect(tsp_points(TEXT(SQUARE), 1, out, 12) == TSP_YES, "four points");
+    expect(out[3] == 3000000000 && out[4] == 0 && out[5] == 0 && out[10] == 4500000000 && out[12] == -7, "their coordinates");
+
+    expect(tsp_distance(1, 0, 0, 0, 3000000000, 4000000000, 9000000000) == 5, "EUC_2D");
+    expect(tsp_distance(2, 0, 0, 0, 1000000000, 1000000000, 0) == 2, "CEIL_2D");
+    expect(tsp_distance(3, 0, 0, 0, 3000000000, -4000000000, 0) == 7, "MAN_2D");
+    expect(tsp_distance(4, 0, 0, 0, 3000000000, -4000000000, 0) == 4, "MAX_2D");
+    /* the root of 100 / 10 is 3.2 */
+    expect(tsp_distance(5, 0, 0, 0, 10000000000, 0, 0) == 4, "ATT");
+    expect(tsp_distance(6, 0, 0, 0, 1000000000, 2000000000, 2000000000) == 3, "EUC_3D");
+    expect(tsp_distance(7, 0, 0, 0, 1000000000, 2000000000, 2000000000) == 5, "MAN_3D");
+    expect(tsp_distance(8, 0, 0, 0, 1000000000, 2000000000, 3000000000) == 3, "MAX_3D");
+    expect(tsp_distance(0, 0, 0, 0, 1, 1, 1) == -1 && tsp_distance(9, 0, 0, 0, 1, 1, 1) == -1, "no such distance");
+    expect(tsp_distance(1, 1000000000000000000, 0, 0, 1000000000000000000, 0, 0) == 0, "the largest coordinate");
+    expect(tsp_distance(1, 1000000000000000001, 0, 0, 0, 0, 0) == -1, "a larger coordinate");
+    expect(tsp_distance(1, INT64_MIN, 0, 0, 0, 0, 0) == -1, "the least number");
+}
+
+int main(void) {
+    texts();
+    answers();
+    numbers();
+    printf("%d passed, %d failed\n", passed, failed);
+    return failed != 0;
+}

@@ -1,0 +1,163 @@
+/* The program's verbs over the library, so that tests/run-tables can run it on its rows: the report or the
+ * text goes to standard output, the line of a fault to standard error, and the status is the exit status. */
+#include "../tsp.h"
+#include "files.h"
+
+#include <errno.h>
+#include <string.h>
+
+static const char *const LAYOUTS[] = {"FULL_MATRIX",    "UPPER_ROW", "LOWER_ROW", "UPPER_DIAG_ROW", "LOWER_DIAG_ROW",
+                                      "UPPER_COL",      "LOWER_COL", "UPPER_DIAG_COL", "LOWER_DIAG_COL"};
+
+struct call {
+    uint32_t verb;        /* a number of tsp_explain */
+    const char *paths[3]; /* the instance, the solution and the certificate; NULL for none */
+    uint32_t number;      /* the kind of certificate, or the layout */
+    int64_t claimed;
+    uint32_t has_claim;
+    int explains;
+};
+
+static uint32_t verb_of(const char *word) {
+    if (strcmp(word, "convert") == 0)
+        return TSP_OF_CONVERT;
+    if (strcmp(word, "check") == 0)
+        return TSP_OF_CHECK;
+    return strcmp(word, "bound") == 0 ? TSP_OF_BOUND : TSP_OF_SHOW;
+}
+
+/* The layout's number; exits where there is none. */
+static uint32_t layout_of(const char *word) {
+    for (uint32_t k = 0; k < 9; k++)
+        if (strcmp(word, LAYOUTS[k]) == 0)
+            return k + 1;
+    fputs("unknown layout\n", stderr);
+    exit(TSP_REFUSED);
+}
+
+static void no_length(void) {
+    fputs("not a length\n", stderr);
+    exit(TSP_REFUSED);
+}
+
+/* The whole number that a word is, as the reader reads it: "12.0" and "1.2e1" are 12. Exits where it is none. */
+static int64_t length_of(const char *word) {
+    char digits[128] = {0};
+    size_t count = 1, before = 0, any = 0;
+    const char *at = word;
+    if (strlen(word) > 64)
+        no_length();
+    digits[0] = *at == '-' ? '-' : '+';
+    at += *at == '-' || *at == '+';
+    for (; *at >= '0' && *at <= '9'; at++, before++)
+        digits[count++] = *at;
+    any = before;
+    if (*at == '.')
+        for (at++; *at >= '0' && *at <= '9'; at++, any++)
+            digits[count++] = *at;
+    long shift = 0;
+    if (any > 0 && (*at == 'e' || *at == 'E')) {
+        const char *from = at + 1 + (at[1] == '-' || at[1] == '+');
+        char *end;
+        shift = strtol(at + 1, &end, 10);
+        at = *from >= '0' && *from <= '9' ? end : at;
+    }
+    if (any == 0 || *at != 0)
+        no_length();
+    /* the point moves by shift digits; what is behind it has to be zeros */
+    if (strspn(digits + 1, "0") == any)
+        return 0;
+    long point = (long)before + shift;
+    if (point < 0 || point > 64)
+        no_length();
+    for (; count < (size_t)point + 1; count++)
+        digits[count] = '0';
+    if (strspn(digits + 1 + point, "0") != count - 1 - (size_t)point)
+        no_length();
+    digits[1 + point] = 0;
+    errno = 0;
+    long long number = point == 0 ? 0 : strtoll(digits, NULL, 10);
+    if (errno != 0)
+        no_length();
+    return number;
+}
+
+static struct call call_of(int count, char **words) {
+    struct call call = {count > 1 ? verb_of(words[1]) : TSP_OF_SHOW, {NULL, NULL, NULL}, 0, 0, 0, 0};
+    int paths = 0;
+    for (int k = 2; k < count; k++) {
+        if (strcmp(words[k], "--layout") == 0 && k + 1 < count) {
+            call.number = layout_of(words[++k]);
+        } else if (strcmp(words[k], "--potentials") == 0 && k + 1 < count) {
+            call.paths[2] = words[++k];
+            call.number = 1;
+        } else if (strcmp(words[k], "--branches") == 0 && k + 1 < count) {
+            call.paths[2] = words[++k];
+            call.number = 2;
+        } else if (strncmp(words[k], "--length=", 9) == 0) {
+            call.claimed = length_of(words[k] + 9);
+            call.has_claim = 1;
+        } else if (strcmp(words[k], "--explain") == 0) {
+            call.explains = 1;
+        } else if (paths < 2) {
+            call.paths[paths++] = words[k];
+        }
+    }
+    if (paths == 0)
+        call.paths[0] = "-";
+    return call;
+}
+
+static uint32_t run(const struct call *call, const struct text *texts, uint8_t *out, size_t room, size_t *written) {
+    switch (call->verb) {
+    case TSP_OF_CHECK:
+        return tsp_check(texts[0].bytes, texts[0].len, texts[1].bytes, texts[1].len, texts[2].bytes, texts[2].len,
+                         call->number, call->claimed, call->has_claim, out, room, written);
+    case TSP_OF_BOUND:
+        return tsp_bound(texts[0].bytes, texts[0].len, texts[2].bytes, texts[2].len, call->number, out, room, written);
+    case TSP_OF_CONVERT:
+        return tsp_convert(texts[0].bytes, texts[0].len, call->number, out, room, written);
+    default:
+        return tsp_show(texts[0].bytes, texts[0].len, out, room, written);
+    }
+}
+
+static uint32_t explain(const struct call *call, const struct text *texts, uint8_t *out, size_t room, size_t *written) {
+    char names[4096];
+    int len = 0;
+    for (int k = 0; k < 3; k++)
+        len += snprintf(names + len, sizeof names / 3, "%s", call->paths[k] == NULL ? "" : call->paths[k]) + 1;
+    return tsp_explain(call->verb, texts[0].bytes, texts[0].len, texts[1].bytes, texts[1].len, texts[2].bytes,
+                       texts[2].len, (const uint8_t *)names, (size_t)len, call->number, call->claimed,
+                       call->has_claim, out, room, written);
+}
+
+typedef uint32_t (*caller)(const struct call *, const struct text *, uint8_t *, size_t, size_t *);
+
+/* A call with a buffer of 16 bytes first, so that most rows try a second one too. */
+static uint32_t written_by(caller calls, const struct call *call, const struct text *texts, struct text *said) {
+    size_t room = 16;
+    said->bytes = malloc(room);
+    uint32_t status = calls(call, texts, said->bytes, room, &said->len);
+    if (status == TSP_TOO_SMALL) {
+        room = said->len;
+        said->bytes = realloc(said->bytes, room);
+        status = calls(call, texts, said->bytes, room, &said->len);
+    }
+    return status;
+}
+
+int main(int count, char **words) {
+    struct call call = call_of(count, words);
+    static uint8_t none[1];
+    struct text texts[3];
+    for (int k = 0; k < 3; k++)
+        texts[k] = call.paths[k] == NULL ? (struct text){none, 0} : read_file(call.paths[k]);
+    struct text said, more;
+    uint32_t status = written_by(run, &call, texts, &said);
+    int is_report = status == TSP_YES || (status == TSP_NO && call.verb != TSP_OF_CONVERT);
+    fwrite(said.bytes, 1, said.len, is_report ? stdout : stderr);
+    if (call.explains && written_by(explain, &call, texts, &more) == TSP_YES)
+        fwrite(more.bytes, 1, more.len, stderr);
+    return (int)status;
+}

@@ -1,0 +1,113 @@
+/* Yokecairn for C: reads, shows, converts and judges texts in TSPLIB 95, and gives their numbers.
+ *
+ * The calls are proved: the contracts are in crates/tsp_c, and docs/proof.md says what they mean. A
+ * proof covers a call only if its caller does what "What a caller owes" says; nothing checks that.
+ *
+ * Shapes. A text is a pointer to its bytes and a length; it needs no byte 0 at its end. A list of numbers
+ * is a pointer and a length, in numbers. Coordinates are counts of 10^-9: 1.5 is 1500000000. Nodes count
+ * from 1.
+ *
+ * What a caller owes. No pointer is NULL, also where the length is 0. Pointers are aligned for their type,
+ * and point to as many elements as the length says. What a call writes to (out, written) overlaps nothing
+ * else that the call is given. No call is made from a signal handler, or in the child of a fork of a
+ * process with threads. malloc, realloc and free come from one allocator, and give blocks that are aligned
+ * to 16 bytes. The processor is an x86-64-v2 (SSE4.2 and popcnt, as since 2009).
+ *
+ * What a call does. It has no state and keeps no pointer, so calls may run side by side. It takes memory
+ * by malloc and frees it all before it returns. It never ends the process, and it always returns.
+ */
+#ifndef TSP_H
+#define TSP_H
+
+#include <stddef.h>
+#include <stdint.h>
+
+#ifdef __cplusplus
+extern "C" {
+#endif
+
+/* Statuses. */
+enum {
+    TSP_YES = 0,           /* a yes, or done */
+    TSP_NO = 1,            /* a no: the text is the report with its reason, or says why a layout can't be had */
+    TSP_FAULT = 2,         /* a text has a fault, or is of the wrong TYPE: the text is one line that says so */
+    TSP_OUT_OF_MEMORY = 3, /* the text is a line that says so, or is empty */
+    TSP_REFUSED = 4,       /* a number that the call doesn't take */
+    TSP_TOO_SMALL = 6      /* the buffer is too small, and as it was */
+};
+
+/* Calls that give a text. Where it fits into the out_len bytes of out, it is at the front of out, the bytes
+ * behind it are as they were, and *written is its length. Where it doesn't, the status is TSP_TOO_SMALL, out
+ * is as it was, and *written is the length that is needed: call again with as much. */
+
+/* Judges a solution of an instance, and gives the report. by is 0 without a certificate, 1 with a file of
+ * potentials, 2 with a file of branches; without one certificate_len may be 0. If has_claim is 1, a solution
+ * of another length than claimed is a no; if it is 0, claimed counts for nothing. TSP_YES comes only if the
+ * report ends in "yes". */
+uint32_t tsp_check(const uint8_t *instance, size_t instance_len, const uint8_t *solution, size_t solution_len,
+                   const uint8_t *certificate, size_t certificate_len, uint32_t by, int64_t claimed,
+                   uint32_t has_claim, uint8_t *out, size_t out_len, size_t *written);
+
+/* Bounds the tours of an instance by a certificate, and gives the report: by 1 with a file of potentials, by 2
+ * with a file of branches. In the line of a fault the certificate is file 2. */
+uint32_t tsp_bound(const uint8_t *instance, size_t instance_len, const uint8_t *certificate,
+                   size_t certificate_len, uint32_t by, uint8_t *out, size_t out_len, size_t *written);
+
+/* Says what a text is: its name, TYPE, number of nodes and more, as "tsp show" does. */
+uint32_t tsp_show(const uint8_t *file, size_t file_len, uint8_t *out, size_t out_len, size_t *written);
+
+/* Gives the canonical text of a file, its weights in a layout: 0 leaves them as they are, 1 FULL_MATRIX,
+ * 2 UPPER_ROW, 3 LOWER_ROW, 4 UPPER_DIAG_ROW, 5 LOWER_DIAG_ROW, 6 UPPER_COL, 7 LOWER_COL, 8 UPPER_DIAG_COL,
+ * 9 LOWER_DIAG_COL. TSP_NO comes if the weights can't go into the layout. */
+uint32_t tsp_convert(const uint8_t *file, size_t file_len, uint32_t layout, uint8_t *out, size_t out_len,
+                     size_t *written);
+
+/* Explains for a person what one of these calls answers, as "tsp --explain" does: a fault, a no, and a yes
+ * whose solution has a comment with another length. Else the text is empty. The texts are those of the call,
+ * with length 0 where it has none; number is its by or its layout. names has what the user calls the instance,
+ * the solution and the certificate, with a byte 0 between two names. The status is TSP_YES, TSP_OUT_OF_MEMORY,
+ * TSP_REFUSED or TSP_TOO_SMALL. No contract says what the text is. */
+enum { TSP_OF_SHOW = 0, TSP_OF_CONVERT = 1, TSP_OF_CHECK = 2, TSP_OF_BOUND = 3 };
+uint32_t tsp_explain(uint32_t call, const uint8_t *instance, size_t instance_len, const uint8_t *solution,
+                     size_t solution_len, const uint8_t *certificate, size_t certificate_len,
+                     const uint8_t *names, size_t names_len, uint32_t number, int64_t claimed,
+                     uint32_t has_claim, uint8_t *out, size_t out_len, size_t *written);
+
+/* How many nodes an instance has, 1 to 100000; 0 if the text is no instance, or memory ran out. */
+uint32_t tsp_count(const uint8_t *instance, size_t instance_len);
+
+/* Calls that fill in numbers. At TSP_YES they are at the front of out; else out is as it was. */
+
+/* x, y and z of node 1, of node 2 and so on: three numbers a node. section is 1 for NODE_COORD_SECTION and 2
+ * for DISPLAY_DATA_SECTION. TSP_NO comes if the file has no such section. */
+uint32_t tsp_points(const uint8_t *file, size_t file_len, uint32_t section, int64_t *out, size_t out_len);
+
+/* The cost from the first node of each pair to its second. pairs has two nodes for each pair, and pairs_len
+ * counts nodes. TSP_REFUSED comes if pairs_len is odd, or a node isn't one of the instance. */
+uint32_t tsp_weights(const uint8_t *instance, size_t instance_len, const uint32_t *pairs, size_t pairs_len,
+                     int64_t *out, size_t out_len);
+
+/* The costs from a node to each node, then those from the next node, and so on: as many whole rows as fit,
+ * up to the last node. TSP_REFUSED comes if first_row is no node. */
+uint32_t tsp_matrix(const uint8_t *instance, size_t instance_len, uint32_t first_row, int64_t *out,
+                    size_t out_len);
+
+/* The lengths of lists of nodes, from each node to the next and back to the first. A 0 ends each list, also
+ * the last one. TSP_REFUSED comes if that is missing, if a node isn't one of the instance, or if there are
+ * more than 1000000 numbers. */
+uint32_t tsp_lengths(const uint8_t *instance, size_t instance_len, const uint32_t *nodes, size_t nodes_len,
+                     int64_t *out, size_t out_len);
+
+/* The distance of two points: kind is 1 EUC_2D, 2 CEIL_2D, 3 MAN_2D, 4 MAX_2D, 5 ATT, 6 EUC_3D, 7 MAN_3D,
+ * 8 MAX_3D. The plane's kinds take no notice of z. It is -1 if there is no such kind, or a coordinate is
+ * beyond 10^18. */
+int64_t tsp_distance(uint32_t kind, int64_t ax, int64_t ay, int64_t az, int64_t bx, int64_t by, int64_t bz);
+
+/* The version: 10000 for 1.0.0, 10203 for 1.2.3. */
+uint32_t tsp_version(void);
+
+#ifdef __cplusplus
+}
+#endif
+
+#endif

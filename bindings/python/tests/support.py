@@ -1,0 +1,71 @@
+"""What several tests use."""
+
+import functools
+import shutil
+import subprocess
+import sys
+import unittest
+from math import isqrt
+from pathlib import Path
+
+import yokecairn
+
+PACKAGE = Path(__file__).resolve().parents[1]
+ROOT = PACKAGE.parents[1]
+EXAMPLES = ROOT / "examples"
+GALLERY = EXAMPLES / "gallery"
+
+RECTANGLE = (
+    "NAME : rectangle\nTYPE : TSP\nDIMENSION : 4\nEDGE_WEIGHT_TYPE : EUC_2D\n"
+    "NODE_COORD_SECTION\n1 0 0\n2 3 0\n3 3 4\n4 0 4\nEOF\n"
+)
+
+UNIT = 10**9
+
+
+def distance(kind, a, b):
+    """The distance of two points in counts of 10^-9, from docs/format.md in whole numbers."""
+    apart = [abs(p - q) for p, q in zip(a, b)][: 3 if kind.endswith("3D") else 2]
+    square = sum(d * d for d in apart)
+    if kind in ("CEIL_2D", "ATT"):
+        part = -(-square // 10) if kind == "ATT" else square
+        return isqrt(part - 1) // UNIT + 1 if part else 0
+    if kind.startswith("EUC"):
+        return (isqrt(4 * square) + UNIT) // (2 * UNIT)
+    twice = 2 * (sum(apart) if kind.startswith("MAN") else max(apart))
+    return (twice + UNIT) // (2 * UNIT)
+
+
+def fault_of(text):
+    """The fault of a text, or None."""
+    try:
+        yokecairn.parse(text)
+    except yokecairn.Fault as fault:
+        return fault
+    return None
+
+
+@functools.lru_cache(None)
+def python_with(*modules):
+    """A Python that has these modules: this one, the first on the PATH, or the system's; else a test is
+    skipped."""
+    for python in (sys.executable, shutil.which("python3"), "/usr/bin/python3"):
+        words = [python, "-c", "import " + ", ".join(modules)]
+        if python and shutil.which(python) and not subprocess.run(words, capture_output=True).returncode:
+            return python
+    return None
+
+
+def needs_python_with(*modules):
+    """Skips a test where no Python has these modules."""
+    missing = python_with(*modules) is None
+    return unittest.skipIf(missing, f"no Python has {' and '.join(modules)}")
+
+
+def needs(module):
+    """Skips a test where a module isn't installed."""
+    try:
+        __import__(module)
+    except ImportError:
+        return unittest.skip(f"{module} isn't installed")
+    return lambda test: test

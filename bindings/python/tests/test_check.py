@@ -1,0 +1,129 @@
+"""Verdicts of worked examples."""
+
+import pickle
+import unittest
+
+import yokecairn
+from support import EXAMPLES, GALLERY, RECTANGLE
+
+ZEROS = b"TYPE : POTENTIALS\nDIMENSION : 4\nNODE_POTENTIAL_SECTION\n1 0\n2 0\n3 0\n4 0\n"
+
+
+class Tours(unittest.TestCase):
+    def test_harbour(self):
+        report = yokecairn.check(
+            EXAMPLES / "harbour.tsp", EXAMPLES / "harbour.tour", potentials=EXAMPLES / "harbour.potentials"
+        )
+        self.assertTrue(report)
+        self.assertEqual((report.type, report.nodes, report.length), ("TSP", 8, 226))
+        self.assertEqual((report.bound, report.gap, report.optimal), (226, None, True))
+        self.assertEqual((report.reason, report.numbers, report.routes), (None, (), None))
+        self.assertEqual(report.text, "type TSP\nnodes 8\nlength 226\nbound 226\noptimal\nyes\n")
+
+    def test_orchard(self):
+        files = [yokecairn.load(EXAMPLES / f"orchard.{it}") for it in ("tsp", "tour", "branches")]
+        report = yokecairn.check(files[0], files[1], branches=files[2])
+        self.assertEqual((report.yes, report.nodes, report.length, report.bound), (True, 80, 2461, 2461))
+        self.assertTrue(report.optimal)
+
+    def test_gallery(self):
+        path = str(GALLERY / "uniform-300")
+        self.assertTrue(yokecairn.check(path + ".tsp", path + ".tour", branches=path + ".branches").optimal)
+
+    def test_solutions(self):
+        """A solution is a path, bytes, a file that was read, or nodes."""
+        path = EXAMPLES / "rectangle-1-2-3-4.tour"
+        for tour in (path, str(path), path.read_bytes(), yokecairn.load(path), [1, 2, 3, 4], (1, 2, 3, 4)):
+            self.assertEqual(yokecairn.check(RECTANGLE.encode(), tour).length, 14)
+        self.assertEqual(yokecairn.check(RECTANGLE.encode(), [1, 3, 2, 4]).length, 18)
+        self.assertEqual(yokecairn.check(RECTANGLE.encode(), []).reason, "TourCount")
+
+    def test_a_gap(self):
+        report = yokecairn.check(RECTANGLE.encode(), [1, 3, 2, 4], ZEROS)
+        self.assertEqual((report.length, report.bound, report.gap, report.optimal), (18, 14, 4, False))
+        self.assertTrue(report)
+
+    def test_reasons(self):
+        for tour, reason, numbers in (
+            ([1, 2, 2, 3], "RepeatedNode", (3,)),
+            ([1, 2, 3], "TourLength", ()),
+            ([1, 2, 3, 5], "NodeOutOfRange", (4,)),
+            ([[1, 2], [3, 4]], "TourCount", ()),
+        ):
+            report = yokecairn.check(RECTANGLE.encode(), tour)
+            self.assertFalse(report)
+            self.assertEqual((report.reason, report.numbers), (reason, numbers))
+            self.assertEqual((report.length, report.bound, report.optimal), (None, None, False))
+        report = yokecairn.check(
+            EXAMPLES / "three-node.atsp", [1, 2, 3], b"TYPE : POTENTIALS\nDIMENSION : 3\n"
+            b"ROW_POTENTIAL_SECTION\n1 2 2 2 3 3\nCOLUMN_POTENTIAL_SECTION\n1 0 2 0 3 0\n"
+        )
+        self.assertEqual((report.reason, report.numbers), ("DualInfeasible", (1, 2)))
+
+    def test_what_is_not_judged(self):
+        text = RECTANGLE.replace("EOF", "FOO : 1\nlength : 3\nBAR :\nEOF")
+        report = yokecairn.check(text.encode(), [1, 2, 3, 4])
+        self.assertEqual(report.not_judged, ("FOO", "length", "BAR"))
+        self.assertEqual((report.length, report.yes), (14, True))
+
+    def test_unusual_keywords(self):
+        """Bytes that Python takes for line ends are kept in a keyword."""
+        text = RECTANGLE.replace("EOF", "a\x1c\x85yes : 1\nEOF")
+        report = yokecairn.check(text.encode("utf-8"), [1, 2, 2, 4])
+        self.assertEqual(report.not_judged, ("a\x1c\x85yes",))
+        self.assertEqual((report.yes, report.reason), (False, "RepeatedNode"))
+
+    def test_routes(self):
+        report = yokecairn.check(EXAMPLES / "dairy.vrp", [[5, 6, 4, 7], [2, 8, 3]])
+        self.assertEqual((report.type, report.routes, report.length), ("CVRP", 2, 231))
+        self.assertEqual((report.least, report.bound), (2, None))
+        self.assertEqual(yokecairn.check(EXAMPLES / "dairy.vrp", [[5, 6, 4, 7], [2, 8]]).reason, "Unserved")
+
+    def test_reports_are_values(self):
+        report = yokecairn.check(RECTANGLE.encode(), [1, 2, 3, 4], ZEROS)
+        self.assertEqual(pickle.loads(pickle.dumps(report)), report)
+        self.assertEqual(repr(report), "<Report yes: TSP nodes=4 length=14 bound=14 optimal>")
+        bad = yokecairn.check(RECTANGLE.encode(), [1, 2, 2, 4])
+        self.assertEqual(repr(bad), "<Report no RepeatedNode 3: TSP nodes=4>")
+
+    def test_shown(self):
+        wanted = "name rectangle\ntype TSP\nnodes 4\nweights EUC_2D\ncanonical 14\n"
+        self.assertEqual(yokecairn.show(EXAMPLES / "rectangle.tsp"), wanted)
+
+
+class Claims(unittest.TestCase):
+    def test_length(self):
+        self.assertTrue(yokecairn.check(RECTANGLE.encode(), [1, 2, 3, 4], length=14))
+        report = yokecairn.check(RECTANGLE.encode(), [1, 2, 3, 4], length=13)
+        self.assertEqual((report.yes, report.reason, report.numbers), (False, "LengthClaimed", (14,)))
+        self.assertEqual(yokecairn.check(RECTANGLE.encode(), [1, 2, 3, 4], length=0).reason, "LengthClaimed")
+
+    def test_lengths_that_do_not_fit(self):
+        for length in (2**63, -(2**63) - 1, 2**64 + 14):
+            with self.assertRaises(ValueError):
+                yokecairn.check(RECTANGLE.encode(), [1, 2, 3, 4], length=length)
+
+
+class Bounds(unittest.TestCase):
+    def test_bound(self):
+        report = yokecairn.bound(RECTANGLE.encode(), ZEROS)
+        self.assertEqual((report.yes, report.bound, report.length), (True, 14, None))
+        self.assertEqual(report.text, "type TSP\nnodes 4\nbound 14\nyes\n")
+        self.assertEqual(yokecairn.bound(RECTANGLE.encode(), branches=ZEROS).reason, "NotBranches")
+        with self.assertRaises(yokecairn.EndFault) as caught:
+            yokecairn.bound(RECTANGLE.encode(), b"")
+        self.assertEqual(caught.exception.file, 2)
+
+    def test_no_tour(self):
+        """Two fixed arcs into one node, in a tree of one leaf."""
+        instance = (
+            "TYPE : ATSP\nDIMENSION : 3\nEDGE_WEIGHT_TYPE : EXPLICIT\nEDGE_WEIGHT_FORMAT : FULL_MATRIX\n"
+            "EDGE_WEIGHT_SECTION\n0 1 2\n3 0 4\n5 6 0\nFIXED_EDGES_SECTION\n1 2\n3 2\n-1\nEOF\n"
+        )
+        tree = "TYPE : BRANCHES\nDIMENSION : 3\nBRANCH_SECTION\n0 -1\nEOF\n"
+        report = yokecairn.bound(instance.encode(), branches=tree.encode())
+        self.assertEqual((report.yes, report.bound, report.no_tour), (True, None, True))
+
+
+if __name__ == "__main__":
+    unittest.main()

@@ -1,0 +1,111 @@
+"""The program's verbs: python -m yokecairn."""
+
+import os
+import subprocess
+import sys
+import tempfile
+import unittest
+from pathlib import Path
+
+from support import EXAMPLES, PACKAGE, RECTANGLE
+from yokecairn.__main__ import length_of
+
+
+def run(*words, stdin=b"", **others):
+    """The status of a run, and what it writes."""
+    paths = [str(PACKAGE), os.environ.get("PYTHONPATH", "")]
+    ran = subprocess.run(
+        [sys.executable, "-m", "yokecairn", *map(str, words)],
+        input=stdin,
+        stdout=others.pop("stdout", subprocess.PIPE),
+        stderr=subprocess.PIPE,
+        env={**os.environ, "PYTHONPATH": os.pathsep.join(filter(None, paths))},
+        **others,
+    )
+    return ran.returncode, ran.stdout, ran.stderr
+
+
+class Command(unittest.TestCase):
+    def test_verdicts(self):
+        harbour = [EXAMPLES / f"harbour.{it}" for it in ("tsp", "tour", "potentials")]
+        report = b"type TSP\nnodes 8\nlength 226\nbound 226\noptimal\nyes\n"
+        self.assertEqual(run("check", *harbour[:2], "--potentials", harbour[2]), (0, report, b""))
+        self.assertEqual(
+            run("check", "--potentials", harbour[2], *harbour[:2]), (0, report, b"")
+        )
+        tour = b"TYPE : TOUR\nTOUR_SECTION\n1 2 2 3\n"
+        status, out, err = run("check", EXAMPLES / "rectangle.tsp", "-", stdin=tour)
+        self.assertEqual((status, out, err), (1, b"type TSP\nnodes 4\nno RepeatedNode 3\n", b""))
+
+    def test_show_and_convert(self):
+        shown = b"name rectangle\ntype TSP\nnodes 4\nweights EUC_2D\ncanonical 14\n"
+        self.assertEqual(run(stdin=RECTANGLE.encode()), (0, shown, b""))
+        self.assertEqual(run("--", stdin=RECTANGLE.encode()), (0, shown, b""))
+        self.assertEqual(run("show", EXAMPLES / "rectangle.tsp"), (0, shown, b""))
+        self.assertEqual(run("convert", "-", stdin=RECTANGLE.encode()), (0, RECTANGLE.encode(), b""))
+        self.assertEqual(
+            run("convert", EXAMPLES / "three-node.atsp", "--layout", "UPPER_ROW"),
+            (1, b"", b"relayout: NotSymmetric 1 2\n"),
+        )
+
+    def test_faults(self):
+        with tempfile.TemporaryDirectory() as folder:
+            bad, missing = Path(folder, "bad"), Path(folder, "missing")
+            bad.write_text("TYPE : HCP\n")
+            fault = (2, b"", b"file 1: line 1 word 0: Outside\n")
+            self.assertEqual(run("show", bad), fault)
+            self.assertEqual(run("check", bad, missing), fault)
+            self.assertEqual(run("check", missing, bad), (5, b"", b"file 1: device\n"))
+            rectangle = EXAMPLES / "rectangle.tsp"
+            second = (2, b"", b"file 2: line 1 word 0: Outside\n")
+            self.assertEqual(run("check", rectangle, bad), second)
+            self.assertEqual(run("check", rectangle, bad, "--potentials", missing), second)
+            self.assertEqual(run("show", folder), (5, b"", b"file 1: device\n"))
+
+    def test_a_full_device(self):
+        if not os.path.exists("/dev/full"):
+            self.skipTest("there is no /dev/full")
+        with open("/dev/full", "wb") as full:
+            status, _, err = run("show", EXAMPLES / "rectangle.tsp", stdout=full)
+        self.assertEqual((status, err), (5, b"output: device\n"))
+
+    def test_words_that_are_refused(self):
+        for words, line in (
+            (("convert", "missing", "--layout", "FUNCTION"), b"unknown layout\n"),
+            (("check", "a", "b", "--potentials", "c", "--branches", "d"), b"both potentials and branches\n"),
+            (("check", "a", "b", "--length", "12.5"), b"not a length\n"),
+        ):
+            self.assertEqual(run(*words), (4, b"", line))
+        for words in ((), ("-",), ("check", "a"), ("other", "a"), ("show", "--no", "a"), ("check", "-", "-")):
+            status, out, err = run(*("show",) + words if not words else words)
+            self.assertEqual((status, out), (4, b""), words)
+            self.assertTrue(err.endswith(b"\n") and b"Traceback" not in err, words)
+        for words in (("--help",), ("check", "--help"), ("--version",)):
+            status, out, err = run(*words)
+            self.assertEqual((status, out), (4, b""), words)
+            self.assertIn(b"tsp", err)
+
+    def test_a_path_that_can_not_be_read_is_explained(self):
+        status, out, err = run("show", "--explain", "no such file")
+        self.assertEqual((status, out), (5, b""))
+        self.assertEqual(err, b"file 1: device\nno such file: No such file or directory (os error 2)\n"
+                         b"  The file can't be opened, or a read of it failed.\n")
+
+    def test_explained(self):
+        tour = b"TYPE : TOUR\nTOUR_SECTION\n1 2 2 3\n"
+        status, out, err = run("check", "--explain", EXAMPLES / "rectangle.tsp", "-", stdin=tour)
+        self.assertEqual((status, out), (1, b"type TSP\nnodes 4\nno RepeatedNode 3\n"))
+        self.assertIn(b"  Place 3 is node 2", err)
+
+    def test_lengths(self):
+        for word, number in {"12": 12, "+3": 3, "-34": -34, "12.0": 12, "1.2e1": 12, "120e-1": 12, ".0": 0}.items():
+            self.assertEqual(length_of(word), number)
+        self.assertEqual(length_of("0e99999999999999999999"), 0)
+        self.assertEqual(length_of(str(-(2**63))), -(2**63))
+        for word in ("", "x", "1_0", "12.5", "1e", ".", "9" * 65, str(2**63), "1e999999999", "1e-5", "٣", "1 "):
+            with self.assertRaises((ValueError, ArithmeticError), msg=word):
+                length_of(word)
+
+
+if __name__ == "__main__":
+    unittest.main()

@@ -1,0 +1,118 @@
+"""Each row of tests/tables, by the package's calls and by its command in this process.
+
+The script tests/run-tables knows what a row is. Here what it starts as a process is done by the package.
+"""
+
+import io
+import os
+import subprocess
+import tempfile
+import types
+import unittest
+
+import yokecairn
+from support import ROOT
+from yokecairn.__main__ import Run, length_of
+
+SCRIPT = ROOT / "tests" / "run-tables"
+
+
+def script(run):
+    """The script as a module that calls `run` in the place of `subprocess.run`."""
+    lines = SCRIPT.read_text().rstrip("\n").split("\n")
+    module = types.ModuleType("run_tables")
+    module.__file__ = str(SCRIPT)
+    if lines[-1] == "main()":
+        lines.pop()
+    exec(compile("\n".join(lines), str(SCRIPT), "exec"), vars(module))
+    module.subprocess = types.SimpleNamespace(run=run, DEVNULL=subprocess.DEVNULL, PIPE=subprocess.PIPE)
+    return module
+
+
+def by_the_command(program_and_words, cwd, **_):
+    """Runs the command."""
+    stdin, out, err = io.BytesIO(), io.BytesIO(), io.BytesIO()
+    folder = os.getcwd()
+    os.chdir(cwd)
+    try:
+        status = Run(stdin, out, err).run(program_and_words[1:])
+    finally:
+        os.chdir(folder)
+    return types.SimpleNamespace(returncode=status, stdout=out.getvalue(), stderr=err.getvalue())
+
+
+def by_calls(program_and_words, cwd, **_):
+    """Calls the package, and answers as a run of the program would."""
+    verb, *words = program_and_words[1:]
+    options, texts = {}, []
+    while words:
+        word, _, value = words.pop(0).partition("=")
+        if word.startswith("--"):
+            options[word[2:]] = value or words.pop(0)
+        else:
+            with open(os.path.join(cwd, word), "rb") as file:
+                texts.append(file.read())
+    for name in options.keys() & {"potentials", "branches"}:
+        with open(os.path.join(cwd, options[name]), "rb") as file:
+            options[name] = file.read()
+    status, out, err = called(verb, texts, options)
+    codes = [text.encode("utf-8", "surrogateescape") for text in (out, err)]
+    return types.SimpleNamespace(returncode=status, stdout=codes[0], stderr=codes[1])
+
+
+def called(verb, texts, options):
+    """The status, the report and the fault of one call."""
+    layout, length = options.pop("layout", None), options.pop("length", None)
+    try:
+        if length is not None:
+            options["length"] = length_of(length)
+    except (ValueError, ArithmeticError):
+        return 4, "", "not a length\n"
+    try:
+        if verb == "show":
+            return 0, yokecairn.show(*texts), ""
+        if verb == "convert":
+            problem = yokecairn.parse(*texts)
+            return 0, (problem.relayout(layout) if layout else problem).render(), ""
+        report = (yokecairn.bound if verb == "bound" else yokecairn.check)(*texts, **options)
+        return int(not report), report.text, ""
+    except yokecairn.Fault as fault:
+        return 1 if isinstance(fault, yokecairn.RelayoutFault) else 2, "", fault.told + "\n"
+    except ValueError as fault:
+        if layout is None or not str(fault).startswith("unknown layout"):
+            raise
+        return 4, "", "unknown layout\n"
+
+
+class Rows(unittest.TestCase):
+    passed = 0
+
+    def left_out(self, verb, kind):
+        """Whether rows of this verb are of the command alone."""
+        return "explain" in verb.split("-") and kind is by_calls
+
+    def run_by(self, kind):
+        tables, test = script(kind), self
+
+        class Runner(tables.Runner):
+            def expect(self, where, verb, texts, wanted):
+                if not test.left_out(verb, kind):
+                    super().expect(where, verb, texts, wanted)
+
+        with tempfile.TemporaryDirectory() as scratch:
+            runner = Runner("tsp", scratch)
+            for path in sorted((ROOT / "tests" / "tables").glob("*.table")):
+                runner.file(str(path))
+        Rows.passed += runner.passed
+        self.assertEqual(runner.failed, 0)
+        self.assertGreater(runner.passed, 2000)
+
+    def test_by_calls(self):
+        self.run_by(by_calls)
+
+    def test_by_the_command(self):
+        self.run_by(by_the_command)
+
+
+if __name__ == "__main__":
+    unittest.main()

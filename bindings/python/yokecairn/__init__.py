@@ -1,0 +1,54 @@
+"""Reads, writes, weighs and judges files of TSPLIB 95 by a proved library.
+
+    import yokecairn
+
+    problem = yokecairn.load("harbour.tsp")
+    problem.get_weight(1, 2)
+    report = yokecairn.check("harbour.tsp", "harbour.tour", potentials="harbour.potentials")
+    report.optimal
+
+It has the shape of the package tsplib95 where files are loaded, rendered, weighed and traced. The library
+is proved: whether a text is a file, its canonical text, each cost, length, bound and verdict. This package
+and ctypes aren't, and so not how a canonical text becomes Python's values.
+"""
+
+from . import _library
+from .faults import (
+    EndFault,
+    Error,
+    Fault,
+    LineFault,
+    NodeError,
+    OutOfMemory,
+    RelayoutFault,
+    TooLong,
+    WrongKind,
+)
+from .many import Job, check_many
+from .problem import Problem, load, parse, read
+from .report import Report, bound, check, show
+
+__all__ = [
+    "EndFault",
+    "Error",
+    "Fault",
+    "Job",
+    "LineFault",
+    "NodeError",
+    "OutOfMemory",
+    "Problem",
+    "RelayoutFault",
+    "Report",
+    "TooLong",
+    "WrongKind",
+    "bound",
+    "check",
+    "check_many",
+    "load",
+    "parse",
+    "read",
+    "show",
+]
+
+LAYOUTS = tuple(_library.LAYOUTS)
+__version__ = _library.version()

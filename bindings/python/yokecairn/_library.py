@@ -1,0 +1,197 @@
+"""The calls of libtsp over ctypes. No other module knows their signatures.
+
+Each call takes and returns Python's own types. The library keeps no pointer and has no state, so calls
+may run side by side; ctypes releases Python's lock while one runs.
+
+The library is the file that the environment variable YOKECAIRN_LIBRARY names, else `libtsp.so` in this
+package, else `libtsp.so.0` as the system finds it.
+"""
+
+import ctypes
+import os
+from array import array
+from ctypes import POINTER, c_char_p, c_int64, c_size_t, c_uint32, c_void_p
+from pathlib import Path
+from typing import Any, Optional, Sequence, Tuple
+
+# What a call returns.
+DONE, NO, FAULT, OUT_OF_MEMORY, REFUSED, DEVICE, TOO_SMALL = range(7)
+
+# How a check gets its bound.
+ALONE, POTENTIALS, BRANCHES = range(3)
+
+# The sections of points.
+COORDS, DISPLAY = 1, 2
+
+# The distances, and the layouts, by their numbers.
+KINDS = {
+    word: number
+    for number, word in enumerate("EUC_2D CEIL_2D MAN_2D MAX_2D ATT EUC_3D MAN_3D MAX_3D".split(), 1)
+}
+LAYOUTS = {
+    word: number
+    for number, word in enumerate(
+        "FULL_MATRIX UPPER_ROW LOWER_ROW UPPER_DIAG_ROW LOWER_DIAG_ROW"
+        " UPPER_COL LOWER_COL UPPER_DIAG_COL LOWER_DIAG_COL".split(),
+        1,
+    )
+}
+
+# The calls that are explained, by their numbers.
+SHOW, CONVERT, CHECK, BOUND = range(4)
+
+# The most numbers that `lengths` takes.
+MOST_NODES = 1_000_000
+
+# Enough for the report of a check without hundreds of unknown keywords: no second call is needed.
+REPORT = 4096
+
+
+def path() -> str:
+    """The library's path, or its name for the system's loader."""
+    named = os.environ.get("YOKECAIRN_LIBRARY")
+    if named:
+        return named
+    inside = Path(__file__).with_name("libtsp.so")
+    return str(inside) if inside.exists() else "libtsp.so.0"
+
+
+try:
+    _libtsp = ctypes.CDLL(path())
+except OSError as fault:
+    raise ImportError(
+        f"yokecairn: libtsp can't be loaded: {fault}. It is built for Linux on x86-64 (v2). The environment"
+        " variable YOKECAIRN_LIBRARY names another file"
+    ) from fault
+
+
+def _call(name: str, result: Any, *words: Any) -> Any:
+    """An export of the library with its signature."""
+    call = getattr(_libtsp, name)
+    call.restype, call.argtypes = result, list(words)
+    return call
+
+
+_TEXT = (c_char_p, c_size_t)
+_OUT = (c_void_p, c_size_t, POINTER(c_size_t))
+_NUMBERS = (c_void_p, c_size_t)
+
+_check = _call("tsp_check", c_uint32, *_TEXT, *_TEXT, *_TEXT, c_uint32, c_int64, c_uint32, *_OUT)
+_bound = _call("tsp_bound", c_uint32, *_TEXT, *_TEXT, c_uint32, *_OUT)
+_explain = _call(
+    "tsp_explain", c_uint32, c_uint32, *_TEXT * 4, c_uint32, c_int64, c_uint32, *_OUT
+)
+_show = _call("tsp_show", c_uint32, *_TEXT, *_OUT)
+_convert = _call("tsp_convert", c_uint32, *_TEXT, c_uint32, *_OUT)
+_count = _call("tsp_count", c_uint32, *_TEXT)
+_points = _call("tsp_points", c_uint32, *_TEXT, c_uint32, *_NUMBERS)
+_weights = _call("tsp_weights", c_uint32, *_TEXT, *_NUMBERS, *_NUMBERS)
+_matrix = _call("tsp_matrix", c_uint32, *_TEXT, c_uint32, *_NUMBERS)
+_lengths = _call("tsp_lengths", c_uint32, *_TEXT, *_NUMBERS, *_NUMBERS)
+_version = _call("tsp_version", c_uint32)
+
+# The distance of two points: distance(kind, x, y, z, x, y, z), in counts of 10^-9; -1 where it is
+# refused. It is called once for each weight, so nothing is wrapped around it.
+distance = _call("tsp_distance", c_int64, c_uint32, *[c_int64] * 6)
+
+
+def _written(call: Any, *words: Any, capacity: int) -> Tuple[int, bytes]:
+    """The status of a call that writes a text, and the text."""
+    written = c_size_t()
+    while True:
+        out = ctypes.create_string_buffer(max(capacity, 1))
+        status = call(*words, out, len(out), ctypes.byref(written))
+        if status != TOO_SMALL:
+            return status, ctypes.string_at(out, written.value)
+        capacity = written.value
+
+
+def _slice(numbers: "array[int]") -> Tuple[int, int]:
+    """The address of an array, which isn't NULL where it is empty, and its length."""
+    address, count = numbers.buffer_info()
+    return (address, count) if count else (ctypes.addressof(_NOTHING), 0)
+
+
+_NOTHING = c_int64()
+
+
+def check(
+    instance: bytes, solution: bytes, certificate: bytes, by: int, claimed: Optional[int]
+) -> Tuple[int, bytes]:
+    """The status of a check, and its report or the line of a fault."""
+    words = (instance, len(instance), solution, len(solution), certificate, len(certificate), by)
+    return _written(_check, *words, *_claim(claimed), capacity=REPORT)
+
+
+def _claim(claimed: Optional[int]) -> Tuple[int, int]:
+    """A claimed length, and whether there is one."""
+    return (0, 0) if claimed is None else (claimed, 1)
+
+
+def bound(instance: bytes, certificate: bytes, by: int) -> Tuple[int, bytes]:
+    """The status of a bound without a tour, and its report or the line of a fault."""
+    return _written(
+        _bound, instance, len(instance), certificate, len(certificate), by, capacity=REPORT
+    )
+
+
+def show(text: bytes) -> Tuple[int, bytes]:
+    """The status of a text, and what is shown of it or the line of its fault."""
+    return _written(_show, text, len(text), capacity=REPORT)
+
+
+def convert(text: bytes, layout: int) -> Tuple[int, bytes]:
+    """The status of a text, and its canonical text or the line of its fault. Layout 0 is its own."""
+    return _written(_convert, text, len(text), layout, capacity=len(text) + REPORT)
+
+
+def count(text: bytes) -> int:
+    """How many nodes an instance has; 0 where the text is none."""
+    return int(_count(text, len(text)))
+
+
+def points(text: bytes, section: int, nodes: int) -> Tuple[int, "array[int]"]:
+    """The status, and x, y and z of node 1, 2, .. in counts of 10^-9."""
+    out = array("q", bytes(24 * nodes))
+    return _points(text, len(text), section, *_slice(out)), out
+
+
+def weights(text: bytes, pairs: "array[int]") -> Tuple[int, "array[int]"]:
+    """The status, and the costs of the pairs, whose nodes follow each other."""
+    out = array("q", bytes(8 * (len(pairs) // 2)))
+    return _weights(text, len(text), *_slice(pairs), *_slice(out)), out
+
+
+def matrix(text: bytes, nodes: int) -> Tuple[int, "array[int]"]:
+    """The status, and the costs from each node to each, row by row."""
+    out = array("q", bytes(8 * nodes * nodes))
+    return _matrix(text, len(text), 1, *_slice(out)), out
+
+
+def lengths(text: bytes, nodes: "array[int]", tours: int) -> Tuple[int, "array[int]"]:
+    """The status, and the length of each tour. A 0 ends a tour in `nodes`, which has at most MOST_NODES."""
+    out = array("q", bytes(8 * tours))
+    return _lengths(text, len(text), *_slice(nodes), *_slice(out)), out
+
+
+def explain(
+    call: int,
+    texts: Sequence[bytes],
+    names: Sequence[bytes],
+    number: int,
+    claimed: Optional[int],
+) -> bytes:
+    """What explains the answer of a call, for a person; it is empty where there is no memory for it.
+
+    `texts` and `names` are those of the instance, the solution and the certificate, `number` is the kind of
+    certificate or the layout.
+    """
+    words = [word for text in (*texts, b"\0".join(names)) for word in (text, len(text))]
+    status, told = _written(_explain, call, *words, number, *_claim(claimed), capacity=REPORT)
+    return told if status == DONE else b""
+
+
+def version() -> str:
+    """The library's version."""
+    number = int(_version())
+    return f"{number // 10000}.{number // 100 % 100}.{number % 100}"

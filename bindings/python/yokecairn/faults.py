@@ -1,0 +1,155 @@
+"""Why a call has no answer, as exceptions.
+
+    Error
+        Fault (a ValueError)        a text is no file of TSPLIB 95 as docs/format.md has it
+            LineFault               by a line, or by a word of it
+            EndFault                by what is missing at its end
+            TooLong                 it has more bytes than count
+            WrongKind               the first file of a check has another TYPE than the check needs
+            RelayoutFault           the weights can't go into the layout
+        OutOfMemory (a MemoryError)
+        NodeError (a LookupError)   the instance has no such node
+"""
+
+import os
+import re
+from typing import Callable, Optional, Sequence, Tuple, Type, Union
+
+from . import _library
+
+_LINE = re.compile(r"(?:file (\d+): )?(?:line (\d+) word (\d+): |(end: )|(relayout: ))?(.*)", re.DOTALL)
+
+
+class Error(Exception):
+    """Why a call of this package has no answer."""
+
+
+class NodeError(Error, LookupError):
+    """An instance has no such node."""
+
+
+class OutOfMemory(Error, MemoryError):
+    """Out of memory, with the number of the file where it was known."""
+
+    def __init__(self, told: str, file: Optional[int] = None) -> None:
+        super().__init__(told, file)
+        self.told = told
+        self.file = file
+
+    def __str__(self) -> str:
+        return self.told
+
+
+class Fault(Error, ValueError):
+    """A text is no file, or no file that the call can use.
+
+    Attributes:
+        told: the line that the program prints of it, as `file 1: line 6 word 1: RepeatedNode`.
+        file: the number of the text: 1 the instance, 2 the solution, 3 the certificate. Of a bound
+            without a tour the certificate is 2.
+        line: the line, from 1; None where the fault is none of a line.
+        word: the word in its line, from 1; 0 for the line as a whole; else None.
+        name: the fault's name in docs/format.md, as `RepeatedNode`.
+        details: what follows the name there: a number's fault, a field, or nodes.
+        explanation: what `tsp --explain` tells of it, for a person; it may be empty.
+        path: the path of the text, where it was read from one.
+    """
+
+    def __init__(self, told: str, explanation: str = "", path: Optional[str] = None) -> None:
+        super().__init__(told, explanation, path)
+        match = _LINE.fullmatch(told)
+        assert match is not None  # any text matches
+        file, line, word, _, _, rest = match.groups()
+        name, *details = rest.split(" ")
+        self.told = told
+        self.file: Optional[int] = int(file) if file else None
+        self.line: Optional[int] = int(line) if line else None
+        self.word: Optional[int] = int(word) if word else None
+        self.name: str = _NAMES.get(rest, name)
+        self.details: Tuple[Union[int, str], ...] = ()
+        if rest not in _NAMES:
+            self.details = tuple(int(it) if it.isdigit() else it for it in details)
+        self.explanation = explanation
+        self.path = path
+
+    def __str__(self) -> str:
+        where = f"{self.path}: " if self.path else ""
+        return where + self.told + (f"\n{self.explanation}" if self.explanation else "")
+
+
+# Faults that are told in words.
+_NAMES = {"too long": "TooLong", "wrong kind": "WrongKind"}
+
+
+class LineFault(Fault):
+    """A line or a word has a fault."""
+
+
+class EndFault(Fault):
+    """Something is missing at a text's end, or its parts don't belong together."""
+
+
+class TooLong(Fault):
+    """A text has more bytes than count, and those decide nothing."""
+
+
+class WrongKind(Fault):
+    """The first file of a check has another TYPE than the check needs."""
+
+
+class RelayoutFault(Fault):
+    """The weights of a file can't go into a layout."""
+
+
+def _class_of(told: str) -> Type[Fault]:
+    match = _LINE.fullmatch(told)
+    assert match is not None  # any text matches
+    if match[2]:
+        return LineFault
+    if match[4]:
+        return EndFault
+    if match[5]:
+        return RelayoutFault
+    return {"too long": TooLong, "wrong kind": WrongKind}.get(match[6], Fault)
+
+
+def text_of(told: bytes) -> str:
+    """Bytes as text. Bytes that are no UTF-8 come back as they were by `surrogateescape`."""
+    return told.decode("utf-8", "surrogateescape")
+
+
+def explained(
+    call: int,
+    texts: Sequence[bytes],
+    paths: Sequence[Optional[str]] = (),
+    number: int = 0,
+    claimed: Optional[int] = None,
+) -> str:
+    """What `tsp --explain` tells of the answer of a call of the library.
+
+    The texts and their paths are those of the instance, the solution and the certificate.
+    """
+    whole = [*texts, b"", b""][:3]
+    names = [os.fsencode(path or "") for path in paths]
+    return text_of(_library.explain(call, whole, names, number, claimed)).rstrip("\n")
+
+
+def error_of(
+    status: int,
+    told: bytes,
+    explain: Callable[[], str] = str,
+    paths: Sequence[Optional[str]] = (),
+) -> Error:
+    """The exception for a call that ended with this status and this line.
+
+    `explain` tells more of a fault, and `paths` are those of the call's texts.
+    """
+    line = text_of(told).rstrip("\n")
+    match = _LINE.fullmatch(line)
+    file = int(match[1]) if match and match[1] else None
+    if status == _library.OUT_OF_MEMORY:
+        return OutOfMemory(line or "out of memory", file)
+    if status in (_library.NO, _library.FAULT):
+        path = paths[file - 1] if file is not None and file <= len(paths) else None
+        return _class_of(line)(line, explain(), path)
+    raise AssertionError(f"libtsp answered the status {status}: {line}")

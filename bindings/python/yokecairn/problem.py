@@ -1,0 +1,462 @@
+"""A file of TSPLIB 95 as a value, in the shape of the package tsplib95."""
+
+import io
+import os
+from array import array
+from itertools import chain, product
+from typing import IO, Any, Dict, Iterable, Iterator, List, Optional, Sequence, Tuple, Union
+
+from . import _canonical, _library
+from .faults import NodeError, WrongKind, error_of, explained, text_of
+
+Path = Union[str, "os.PathLike[str]"]
+
+# The types of files that have weights.
+_WEIGHTED = ("TSP", "ATSP", "CVRP")
+
+# Any is Decimal, or float where floats were asked for.
+Points = Dict[int, List[Any]]
+
+
+def canonical(text: bytes, layout: Optional[str] = None, path: Optional[str] = None) -> bytes:
+    """The canonical text of a file, with its weights in a layout if one is named.
+
+    Raises:
+        Fault: the text is no file.
+        RelayoutFault: its weights can't go into the layout.
+        ValueError: no layout has this word.
+    """
+    if layout is not None and layout not in _library.LAYOUTS:
+        raise ValueError(f"unknown layout {layout!r}: it is one of {', '.join(_library.LAYOUTS)}")
+    number = _library.LAYOUTS[layout] if layout else 0
+    status, told = _library.convert(text, number)
+    if status != _library.DONE:
+
+        def more() -> str:
+            return explained(_library.CONVERT, (text,), (path,), number)
+
+        raise error_of(status, told, more, (path,))
+    return told
+
+
+class Problem:
+    """A file: an instance, a tour, or a certificate.
+
+    Its fields are attributes. A text, word or number that the file doesn't have is None, a section that
+    it doesn't have is empty; `as_dict` has only what stands in the file. A problem doesn't change:
+    `replace` makes another one.
+
+    Attributes:
+        name, type, comment: texts. Several lines COMMENT are joined by line ends.
+        dimension, capacity, scale: whole numbers.
+        edge_weight_type, edge_weight_format, node_coord_type, display_data_type: words.
+        node_coords, display_data: for each node the list of its coordinates, as `Decimal`, or as float
+            where the file was loaded with `floats=True`.
+        demands: for each node a whole number.
+        depots: a list of nodes.
+        fixed_edges: a list of pairs of nodes.
+        edge_weights: a list of rows, as the layout lists them.
+        tours: a list of lists of nodes.
+        node_potentials, row_potentials, column_potentials: for each node a whole number.
+        fixed_edge_potentials: a list of triples, two nodes and a number.
+        combs: a list of combs, each a list of sets of nodes, its handle first.
+        branches: the steps of a tree. A branch is a pair of nodes, a leaf a list of pairs of an index and
+            a difference.
+        others: the lines of unknown keywords, as pairs of the keyword and its value.
+    """
+
+    name: Optional[str]
+    type: str
+    comment: Optional[str]
+    dimension: Optional[int]
+    capacity: Optional[int]
+    scale: Optional[int]
+    edge_weight_type: Optional[str]
+    edge_weight_format: Optional[str]
+    node_coord_type: Optional[str]
+    display_data_type: Optional[str]
+    node_coords: Points
+    display_data: Points
+    demands: Dict[int, int]
+    depots: List[int]
+    fixed_edges: List[Tuple[int, int]]
+    edge_weights: List[List[int]]
+    tours: List[List[int]]
+    node_potentials: Dict[int, int]
+    row_potentials: Dict[int, int]
+    column_potentials: Dict[int, int]
+    fixed_edge_potentials: List[Tuple[int, int, int]]
+    combs: List[List[List[int]]]
+    branches: List[_canonical.Step]
+    others: List[Tuple[str, str]]
+
+    def __init__(self, *, floats: bool = False, **fields: Any) -> None:
+        """A file with these fields, which have the names of the attributes.
+
+        Raises:
+            Fault: the fields make no file. Its line is that of the text that they make.
+            TypeError: no field has this name.
+        """
+        others = fields.pop("others", ())
+        unknown = fields.keys() - _canonical.KEYWORDS.keys() - _canonical.SECTIONS.keys()
+        if unknown:
+            raise TypeError(f"no field has the name {min(unknown)!r}")
+        self._fill(canonical(_canonical.text_of_fields(fields, others)), floats)
+
+    @classmethod
+    def _of(cls, text: bytes, floats: bool) -> "Problem":
+        """The file with this canonical text."""
+        problem = cls.__new__(cls)
+        problem._fill(text, floats)
+        return problem
+
+    def _fill(self, text: bytes, floats: bool) -> None:
+        fields, others, start = _canonical.head_of(text)
+        mine: Dict[str, Any] = self.__dict__
+        mine.update(dict.fromkeys(_canonical.KEYWORDS))
+        mine.update(fields, others=others, _text=text, _floats=floats, _start=start)
+
+    _text: bytes
+    _floats: bool
+    _start: int
+    _sections: Dict[str, Tuple[int, int]]
+    _points: List[Tuple[int, ...]]
+    _matrix: "array[int]"
+    _kind: int
+
+    def __getattr__(self, name: str) -> Any:
+        """What is worked out when it is first asked for: a section, the points, the matrix."""
+        if name in _canonical.SECTIONS:
+            made = self._section(name)
+        elif name == "_sections":
+            made = _canonical.sections_of(self._text, self._start)
+        elif name == "_points":
+            made = self._node_points()
+        elif name == "_matrix":
+            made = self._whole_matrix()
+        elif name == "_kind":
+            made = self._weight_kind()
+        else:
+            raise AttributeError(f"a problem has no attribute {name!r}")
+        self.__dict__[name] = made
+        return made
+
+    def __setattr__(self, name: str, value: Any) -> None:
+        raise AttributeError("a problem doesn't change: use replace")
+
+    def __eq__(self, other: object) -> bool:
+        return isinstance(other, Problem) and self._text == other._text
+
+    def __hash__(self) -> int:
+        return hash(self._text)
+
+    def __reduce__(self) -> Tuple[Any, ...]:
+        return Problem._of, (self._text, self._floats)
+
+    def __repr__(self) -> str:
+        name = "" if self.name is None else f" {self.name}"
+        nodes = "" if self.dimension is None else f" of {self.dimension} nodes"
+        return f"<Problem{name}: {self.type}{nodes}>"
+
+    # ---- fields
+
+    def _section(self, name: str) -> Any:
+        section, read = _canonical.SECTIONS[name], _canonical.READERS[name]
+        if self._floats and read is _canonical.points:
+            read = _canonical.float_points
+        begin, end = self._sections.get(section, (0, 0))
+        return read(self._text[begin:end])
+
+    def as_name_dict(self) -> Dict[str, Any]:
+        """The fields that stand in the file, by their names."""
+        fields = {name: getattr(self, name) for name in _canonical.KEYWORDS}
+        found = {name: value for name, value in fields.items() if value is not None}
+        for name, section in _canonical.SECTIONS.items():
+            if section in self._sections:
+                found[name] = getattr(self, name)
+        return found
+
+    def as_keyword_dict(self) -> Dict[str, Any]:
+        """The fields that stand in the file, by their keywords and sections, and the unknown keywords."""
+        keywords = {**_canonical.KEYWORDS, **_canonical.SECTIONS}
+        found = {keywords[name]: value for name, value in self.as_name_dict().items()}
+        return {**found, **dict(self.others)}
+
+    def as_dict(self, by_keyword: bool = False) -> Dict[str, Any]:
+        """The fields that stand in the file, by their names, or by their keywords and sections."""
+        return self.as_keyword_dict() if by_keyword else self.as_name_dict()
+
+    def replace(self, **fields: Any) -> "Problem":
+        """The file with other values of these fields. None takes one away.
+
+        Raises:
+            Fault: the fields make no file.
+        """
+        exact = self._of(self._text, False) if self._floats else self
+        mine: Dict[str, Any] = {**exact.as_name_dict(), "others": self.others, "floats": self._floats}
+        mine.update(fields)
+        return Problem(**mine)
+
+    # ---- writing
+
+    def relayout(self, layout: str) -> "Problem":
+        """The file with its weights in another layout. Each cost stays as it is.
+
+        Raises:
+            RelayoutFault: the weights can't go into the layout.
+        """
+        return self._of(canonical(self._text, layout), self._floats)
+
+    def to_bytes(self) -> bytes:
+        """The canonical text as bytes."""
+        return self._text
+
+    def render(self) -> str:
+        """The canonical text. Bytes that are no UTF-8 are kept by `surrogateescape`."""
+        return text_of(self._text)
+
+    def write(self, file: IO[Any]) -> None:
+        """Writes the canonical text to a file, which may be one of text or of bytes."""
+        is_binary = isinstance(file, (io.RawIOBase, io.BufferedIOBase))
+        file.write(self._text if is_binary else self.render())
+
+    def save(self, path: Path) -> None:
+        """Writes the canonical text to a path."""
+        with open(path, "wb") as file:
+            file.write(self._text)
+
+    # ---- what it is
+
+    def is_explicit(self) -> bool:
+        """Whether the weights are listed."""
+        return self.edge_weight_type == "EXPLICIT"
+
+    def is_full_matrix(self) -> bool:
+        """Whether the layout of the weights lists both directions."""
+        return self.edge_weight_format == "FULL_MATRIX"
+
+    def is_weighted(self) -> bool:
+        """Whether the file has a weight type or a layout."""
+        return bool(self.edge_weight_type or self.edge_weight_format)
+
+    def is_special(self) -> bool:
+        """Whether the weights need a function: never, such files aren't read."""
+        return False
+
+    def is_complete(self) -> bool:
+        """Whether each node is linked to each: always, other graphs aren't read."""
+        return True
+
+    def is_symmetric(self) -> bool:
+        """Whether each cost is the same in both directions. All of them are compared."""
+        if not (self.type in _WEIGHTED and self.is_explicit() and self.is_full_matrix()):
+            return True
+        costs, count = self._matrix, self._nodes()
+        rows = (costs[node * count : (node + 1) * count] for node in range(count))
+        return all(row == costs[node::count] for node, row in enumerate(rows))
+
+    def is_depictable(self) -> bool:
+        """Whether the nodes have a place in a picture."""
+        if self.display_data:
+            return True
+        return self.display_data_type != "NO_DISPLAY" and bool(self.node_coords)
+
+    def get_display(self, i: int) -> Optional[List[Any]]:
+        """The place of a node in a picture; None where it has none."""
+        if not self.is_depictable():
+            return None
+        return (self.display_data or self.node_coords).get(i)
+
+    # ---- nodes and weights
+
+    def _nodes(self) -> int:
+        return self.dimension or 0
+
+    def get_nodes(self) -> Iterator[int]:
+        """The nodes 1, 2, .., up to DIMENSION."""
+        return iter(range(1, self._nodes() + 1))
+
+    def get_edges(self) -> Iterator[Tuple[int, int]]:
+        """All pairs of nodes, those from a node to itself too."""
+        return product(self.get_nodes(), self.get_nodes())
+
+    def _weight_kind(self) -> int:
+        """The number of the distance; 0 where the weights are listed."""
+        if self.type not in _WEIGHTED:
+            raise WrongKind("file 1: wrong kind")
+        return _library.KINDS.get(self.edge_weight_type or "", 0)
+
+    def _node_counts(self, section: int) -> "array[int]":
+        status, counts = _library.points(self._text, section, self._nodes())
+        return self._numbers(status, counts)
+
+    def _node_points(self) -> List[Tuple[int, ...]]:
+        counts = self._node_counts(_library.COORDS)
+        return [(), *zip(counts[::3], counts[1::3], counts[2::3])]
+
+    def counts(self) -> memoryview:
+        """x, y and z of each node as counts of 10^-9, row by row: 64-bit numbers.
+
+        Row 0 is node 1. z is 0 where the file isn't spatial. `numpy.asarray` takes it without a copy.
+
+        Raises:
+            KeyError: the file has no NODE_COORD_SECTION.
+        """
+        if "NODE_COORD_SECTION" not in self._sections:
+            raise KeyError("NODE_COORD_SECTION")
+        return _table(self._node_counts(_library.COORDS), self._nodes(), 3)
+
+    def _whole_matrix(self) -> "array[int]":
+        return self._numbers(*_library.matrix(self._text, self._nodes()))
+
+    def matrix(self) -> memoryview:
+        """All costs, row by row: 64-bit numbers.
+
+        The cost from node i to node j is `matrix()[i - 1, j - 1]`. `numpy.asarray` takes it without a
+        copy. It has eight bytes for each pair of nodes: 200 MB at 5,000 nodes, 80 GB at 100,000.
+
+        Raises:
+            WrongKind: the file is no instance.
+            MemoryError: out of memory.
+        """
+        # only where the weights are listed is the matrix kept
+        costs = self._whole_matrix() if self._weight_kind() else self._matrix
+        return _table(costs, self._nodes(), self._nodes())
+
+    def get_weight(self, start: int, end: int) -> int:
+        """The cost from a node to a node.
+
+        Where the weights are listed, the whole matrix is worked out at the first call.
+
+        Raises:
+            NodeError: there is no such node.
+            WrongKind: the file is no instance.
+        """
+        count = self.dimension or 0
+        if not (0 < start <= count and 0 < end <= count):
+            raise NodeError(f"nodes are 1 to {count}, and the pair is {start}, {end}")
+        kind = self._kind
+        if kind:
+            points = self._points
+            weight: int = _library.distance(kind, *points[start], *points[end])
+            return weight
+        return self._matrix[(start - 1) * count + end - 1]
+
+    def weights(self, pairs: Any) -> "array[int]":
+        """The costs of many pairs of nodes in one call: an array of 64-bit numbers.
+
+        `pairs` has pairs of nodes, or is a buffer of unsigned 32-bit numbers, as a numpy array of two
+        columns and the type uint32. `numpy.asarray` takes what is returned without a copy.
+
+        Raises:
+            NodeError: there is no such node.
+            WrongKind: the file is no instance.
+        """
+        self._weight_kind()
+        flat = _whole_nodes(pairs)
+        if len(flat) % 2:
+            raise ValueError("a pair has two nodes")
+        return self._numbers(*_library.weights(self._text, flat))
+
+    def trace_tours(self, tours: Iterable[Sequence[int]]) -> List[int]:
+        """The length of each tour: the sum of the costs from each node to the next, and from the last to
+        the first. A tour has fewer than 1,000,000 nodes here.
+
+        Raises:
+            NodeError: there is no such node.
+            WrongKind: the file is no instance.
+        """
+        self._weight_kind()
+        found: List[int] = []
+        nodes, count = array("I"), 0
+        for tour in tours:
+            more = self._tour(tour)
+            if len(nodes) + len(more) > _library.MOST_NODES:
+                found += self._numbers(*_library.lengths(self._text, nodes, count))
+                nodes, count = array("I"), 0
+            nodes.extend(more)
+            count += 1
+        found += self._numbers(*_library.lengths(self._text, nodes, count))
+        return found
+
+    def _tour(self, tour: Sequence[int]) -> "array[int]":
+        """The nodes of a tour, and the 0 that ends it."""
+        try:
+            nodes = array("I", tour)
+        except OverflowError as fault:
+            raise NodeError(f"nodes are 1 to {self._nodes()}") from fault
+        if 0 in nodes:
+            raise NodeError(f"nodes are 1 to {self._nodes()}, and this is 0")
+        nodes.append(0)
+        if len(nodes) > _library.MOST_NODES:
+            raise ValueError("a tour has fewer than 1,000,000 nodes")
+        return nodes
+
+    def trace_canonical_tour(self) -> int:
+        """The length of the tour 1, 2, .., from each node to the next and from the last to the first."""
+        return self.trace_tours([range(1, self._nodes() + 1)])[0]
+
+    def _numbers(self, status: int, numbers: "array[int]") -> "array[int]":
+        """Numbers that a call wrote."""
+        if status == _library.DONE:
+            return numbers
+        if status == _library.REFUSED:
+            raise NodeError(f"nodes are 1 to {self._nodes()}")
+        raise error_of(status, b"out of memory")
+
+
+def _table(numbers: "array[int]", rows: int, columns: int) -> memoryview:
+    """Numbers as a table that can't be written to."""
+    return memoryview(numbers).toreadonly().cast("B").cast("q", (rows, columns))
+
+
+def _whole_nodes(pairs: Any) -> "array[int]":
+    """The nodes of pairs, one after the other."""
+    try:
+        view = memoryview(pairs)
+    except TypeError:
+        view = None
+    flat = array("I")
+    if view is not None and view.format == "I" and view.c_contiguous:
+        flat.frombytes(view.cast("B"))
+        return flat
+    try:
+        flat.extend(chain.from_iterable(pairs))
+    except OverflowError as fault:
+        raise NodeError("nodes count from 1") from fault
+    return flat
+
+
+def parse(text: Union[str, bytes], *, floats: bool = False, path: Optional[Path] = None) -> Problem:
+    """The file that a text contains. `path` is where it was, for the texts of faults.
+
+    Raises:
+        Fault: the text is no file.
+        MemoryError: out of memory.
+    """
+    told = text.encode("utf-8", "surrogateescape") if isinstance(text, str) else bytes(text)
+    return Problem._of(canonical(told, path=None if path is None else os.fspath(path)), floats)
+
+
+def read(file: IO[Any], *, floats: bool = False) -> Problem:
+    """The file that an open file contains, which may be one of text or of bytes.
+
+    Raises:
+        Fault: its text is no file of TSPLIB.
+        MemoryError: out of memory.
+    """
+    return parse(file.read(), floats=floats)
+
+
+def load(path: Path, *, floats: bool = False) -> Problem:
+    """The file at a path.
+
+    Raises:
+        Fault: its text is no file of TSPLIB.
+        OSError: it can't be read.
+        MemoryError: out of memory.
+    """
+    with open(path, "rb") as file:
+        return parse(file.read(), floats=floats, path=path)
+
+

@@ -1,0 +1,217 @@
+"""What is judged: a solution of an instance, with or without a certificate; or a certificate alone."""
+
+import os
+from dataclasses import dataclass
+from typing import Iterable, List, Optional, Sequence, Tuple, Union
+
+from . import _library
+from .faults import error_of, explained, text_of
+from .problem import Path, Problem
+
+# A path, the text itself, or a file that was read.
+Source = Union[Path, bytes, Problem]
+
+# Also the nodes of one tour, or of several routes.
+Solution = Union[Source, Sequence[int], Sequence[Sequence[int]]]
+
+# The words of a report's lines with a number.
+_NUMBERS = ("nodes", "routes", "least", "length", "bound", "gap")
+
+
+@dataclass(frozen=True)
+class Report:
+    """What a check says. It is true exactly where the verdict is a yes.
+
+    Attributes:
+        yes: whether the verdict is a yes.
+        type: the TYPE of the instance.
+        nodes: how many nodes it has.
+        not_judged: the unknown keywords of the instance, which the verdict doesn't speak of.
+        length: the length of the tour, or of all routes.
+        bound: a number that no tour of the instance is below.
+        gap: the length less the bound.
+        optimal: whether the length is the bound.
+        no_tour: whether the certificate shows that the instance has no tour; `bound` is None then.
+        routes: how many routes there are.
+        least: how many routes there have to be at least, by their capacity.
+        reason: why the verdict is a no, as `RepeatedNode`.
+        numbers: the numbers of the reason.
+        text: the whole report, as the program prints it.
+        explanation: what `tsp --explain` tells of it, where that was asked for.
+
+    Each is None where the report doesn't have it.
+    """
+
+    yes: bool
+    type: str
+    nodes: int
+    not_judged: Tuple[str, ...]
+    length: Optional[int]
+    bound: Optional[int]
+    gap: Optional[int]
+    optimal: bool
+    no_tour: bool
+    routes: Optional[int]
+    least: Optional[int]
+    reason: Optional[str]
+    numbers: Tuple[int, ...]
+    text: str
+    explanation: str = ""
+
+    def __bool__(self) -> bool:
+        return self.yes
+
+    def __repr__(self) -> str:
+        words = [f"{word}={value}" for word in _NUMBERS if (value := getattr(self, word)) is not None]
+        verdict = "yes" if self.yes else " ".join(map(str, ("no", self.reason, *self.numbers)))
+        return f"<Report {verdict}: {' '.join([self.type, *words])}{' optimal' * self.optimal}>"
+
+    @classmethod
+    def of(cls, text: str, explanation: str = "") -> "Report":
+        """The report that this text is."""
+        first, *lines = text.split("\n")[:-1]
+        parts = [line.partition(" ") for line in lines]
+        found = {word: int(rest) for word, _, rest in parts if word in _NUMBERS and rest != "none"}
+        verdict, *words = lines[-1].split(" ")
+        is_yes = verdict == "yes"
+        return cls(
+            yes=is_yes,
+            type=first[len("type ") :],
+            not_judged=tuple(it[len("not judged ") :] for it in lines if it.startswith("not judged ")),
+            optimal="optimal" in lines,
+            no_tour="bound none" in lines,
+            reason=None if is_yes else words[0],
+            numbers=() if is_yes else tuple(map(int, words[1:])),
+            text=text,
+            explanation=explanation,
+            **{word: found.get(word) for word in _NUMBERS},  # type: ignore[arg-type]
+        )
+
+
+def text_and_path(source: Source) -> Tuple[bytes, Optional[str]]:
+    """The text of a source, and its path where it is one."""
+    if isinstance(source, Problem):
+        return source.to_bytes(), None
+    if isinstance(source, (bytes, bytearray)):
+        return bytes(source), None
+    path = os.fspath(source)
+    with open(path, "rb") as file:
+        return file.read(), path
+
+
+def tour_text(tours: Iterable[Iterable[int]]) -> bytes:
+    """A text of TYPE TOUR with these tours, or routes."""
+    lines = ["TYPE : TOUR", "TOUR_SECTION"]
+    for tour in tours:
+        lines += [*map(str, tour), "-1"]
+    return "\n".join([*lines, "EOF", ""]).encode()
+
+
+def solution_and_path(solution: Solution) -> Tuple[bytes, Optional[str]]:
+    """The text of a solution, and its path where it is one."""
+    if isinstance(solution, (Problem, bytes, bytearray, str, os.PathLike)):
+        return text_and_path(solution)
+    parts: List[Sequence[int]] = []
+    nodes = list(solution)
+    if nodes and isinstance(nodes[0], Iterable):
+        parts.extend(nodes)  # type: ignore[arg-type]
+    elif nodes:
+        parts.append(nodes)  # type: ignore[arg-type]
+    return tour_text(parts), None
+
+
+def _certificate(
+    potentials: Optional[Source], branches: Optional[Source]
+) -> Tuple[int, bytes, Optional[str]]:
+    """Which certificate is given, its text and its path."""
+    if potentials is not None and branches is not None:
+        raise TypeError("both potentials and branches")
+    if potentials is not None:
+        return (_library.POTENTIALS, *text_and_path(potentials))
+    if branches is not None:
+        return (_library.BRANCHES, *text_and_path(branches))
+    return _library.ALONE, b"", None
+
+
+def check(
+    instance: Source,
+    solution: Solution,
+    potentials: Optional[Source] = None,
+    branches: Optional[Source] = None,
+    length: Optional[int] = None,
+    *,
+    explain: bool = False,
+) -> Report:
+    """Judges a tour, or routes, of an instance.
+
+    Each file is a path, the bytes of its text, or a `Problem`. The solution may also be a list of nodes,
+    or for routes a list of such lists. With a certificate, `potentials` or `branches`, the report has a
+    bound. With `length`, another length than this is a no. With `explain`, a no is explained, and a
+    yes whose solution has a comment with another length.
+
+    Raises:
+        Fault: a text is no file, or the first is of the wrong kind.
+        OSError: a path can't be read.
+        MemoryError: out of memory.
+    """
+    first, path = text_and_path(instance)
+    second, solution_path = solution_and_path(solution)
+    by, third, certificate_path = _certificate(potentials, branches)
+    if length is not None and not -(2**63) <= length < 2**63:
+        raise ValueError("a length has 64 bits")
+    status, told = _library.check(first, second, third, by, length)
+
+    paths = (path, solution_path, certificate_path)
+
+    def more() -> str:
+        return explained(_library.CHECK, (first, second, third), paths, by, length)
+
+    if status not in (_library.DONE, _library.NO):
+        raise error_of(status, told, more, paths)
+    return Report.of(text_of(told), more() if explain else "")
+
+
+def bound(
+    instance: Source,
+    potentials: Optional[Source] = None,
+    branches: Optional[Source] = None,
+    *,
+    explain: bool = False,
+) -> Report:
+    """The bound that a certificate gives to the tours of an instance.
+
+    Each file is a path, the bytes of its text, or a `Problem`.
+
+    Raises:
+        Fault: a text is no file, or the first is of the wrong kind. The certificate is file 2.
+        TypeError: neither potentials nor branches are given, or both.
+        OSError: a path can't be read.
+        MemoryError: out of memory.
+    """
+    first, path = text_and_path(instance)
+    by, second, certificate_path = _certificate(potentials, branches)
+    if by == _library.ALONE:
+        raise TypeError("neither potentials nor branches")
+    status, told = _library.bound(first, second, by)
+
+    def more() -> str:
+        return explained(_library.BOUND, (first, b"", second), (path, None, certificate_path), by)
+
+    if status not in (_library.DONE, _library.NO):
+        raise error_of(status, told, more, (path, certificate_path))
+    return Report.of(text_of(told), more() if explain else "")
+
+
+def show(file: Source) -> str:
+    """What `tsp show` prints of a file.
+
+    Raises:
+        Fault: the text is no file.
+        OSError: the path can't be read.
+        MemoryError: out of memory.
+    """
+    text, path = text_and_path(file)
+    status, told = _library.show(text)
+    if status != _library.DONE:
+        raise error_of(status, told, lambda: explained(_library.SHOW, (text,), (path,)), (path,))
+    return text_of(told)

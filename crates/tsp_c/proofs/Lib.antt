@@ -1,0 +1,5 @@
+mod Distances
+mod Ends
+mod Filled
+pub mod Lists
+mod OnTexts

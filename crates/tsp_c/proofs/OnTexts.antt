@@ -1,0 +1,370 @@
+-- From runs on readers to what is said of the texts that they read.
+use Rattle.std.proofs.Common.{◌≡◌, ℕ, List, [], Bool, true, false, Result, Ok, Err, inl, inr, refl, sym, subst, arith}
+use Rattle.std.specs.Prelude.{◌⊎◌, Option, None, Some, IfSome, ℤ, is_ok}
+use Rattle.std.specs.Io.KnownBytes.{Appends}
+use Rattle.std.proofs.lemmas.Bool.{false≢true}
+use Rattle.tsp_format.specs.declared.layout.Layout.{Layout}
+use Rattle.tsp_stream.specs.declared.output.WriteFault.TheVariants as write_faults
+use Rattle.tsp_stream.specs.Turn.{Turn}
+use Rattle.tsp_stream.specs.Sink.{Sink, HasWritten}
+use Rattle.tsp_draft.specs.Fields.{Fields}
+use Rattle.tsp_file.specs.declared.fault.RelayoutFault.{RelayoutFault}
+use Rattle.tsp_file.specs.declared.fault.RelayoutFault.TheVariants as relayout_faults
+use Rattle.tsp_text.specs.declared.fault.ReadFault.{ReadFault}
+use Rattle.tsp_text.specs.declared.fault.ReadFault.TheVariants as read_faults
+use Rattle.tsp_text.specs.Text.{fault, Spells}
+use Rattle.tsp_read.specs.Reads.{IsFile, HasFault, StopsAt}
+use Rattle.tsp_reason.specs.declared.certificate.Certificate.{Certificate}
+use Rattle.tsp_reason.specs.declared.verdict.Reason.{Reason}
+use Rattle.tsp_reason.specs.declared.verdict.Verdict.{Verdict}
+use Rattle.tsp_reason.specs.declared.verdict.Verdict.TheVariants.{Tour, Routes, No}
+use Rattle.tsp_judge.specs.declared.bound.Bounded.{Bounded}
+use Rattle.tsp_judge.specs.declared.fault.RunFault.{RunFault}
+use Rattle.tsp_judge.specs.declared.fault.RunFault.TheVariants.{File, WrongKind, Write, OutOfMemory, Relayout}
+use Rattle.tsp_judge.specs.Status.{status_of_fault}
+use Rattle.tsp_judge.specs.Run.{given_by, IsSomeFile, IsFileIn, AreRead, JudgesFiles, EndsWithout, is_yes}
+use Rattle.tsp_judge.specs.Yes.{IsATourYes, IsARoutesYes, IsAYes, SaysYes, IsCheckOf}
+use Rattle.tsp_judge.specs.BoundRun.{BoundsFiles, EndsUnbounded, SaysBound, IsBoundRunOf}
+use Rattle.tsp_judge.specs.ShowRun.{IsShowRun}
+use Rattle.tsp_judge.specs.ConvertRun.{IsConvertRun}
+use Rattle.tsp_c.specs.Ended.{without_devices, done, has_bound, EndsOnTexts}
+use Rattle.tsp_c.specs.Texts.{IsFileText, ShowsText, ConvertsText, given_text, SpellsGiven}
+use Rattle.tsp_c.specs.Texts.{IsTourAccepted, AreRoutesAccepted, IsAYesOfTexts, IsAccepted, IsRejected, IsUnchecked, ChecksTexts}
+use Rattle.tsp_c.specs.Texts.{IsABoundOfTexts, IsNoTourOfTexts, IsUnbounded, BoundsTexts}
+use Rattle.tsp_c.proofs.Ends.{yes_ends, no_ends, fault_ends}
+
+-- ---- a text
+
+spelled : (turn : Turn) (text : List ℕ) (file : Fields) → turn.known ≡ Some text → IsFile turn file → Spells text file
+spelled turn text file known is = subst (λ (k : Option (List ℕ)). IfSome k (λ xs. Spells xs file)) known is.3
+
+some_file : (turn : Turn) (text : List ℕ) → turn.known ≡ Some text → IsSomeFile turn → IsFileText text
+some_file turn text known is = (is.0, spelled turn text is.0 known is.1)
+
+faulty : (turn : Turn) (text : List ℕ) (found : ReadFault) → turn.known ≡ Some text → HasFault found turn → fault text ≡ Some found
+faulty turn text found known has = subst (λ (k : Option (List ℕ)). IfSome k (λ xs. fault xs ≡ Some found)) known has.3
+
+-- a text at which a run stops has a fault, where the status is that of a fault of a text
+stopped : (turn : Turn) (text : List ℕ) (file : ℕ) (found : ReadFault) → turn.known ≡ Some text → StopsAt found turn
+    → status_of_fault (without_devices (File file found)) ≡ 2 → fault text ≡ Some found
+stopped turn text file (read_faults.Line line word found) known stops two = faulty turn text (read_faults.Line line word found) known stops
+stopped turn text file (read_faults.End found) known stops two = faulty turn text (read_faults.End found) known stops
+stopped turn text file read_faults.TooLong known stops two = faulty turn text read_faults.TooLong known stops
+stopped turn text file read_faults.OutOfMemory known stops two = let n : 3 ≡ 2 = two in absurd (omega arith)
+stopped turn text file read_faults.Device known stops two = let n : 3 ≡ 2 = two in absurd (omega arith)
+
+-- what is known of the writer of a run on texts: it held nothing, and holds what was written
+pub record Collects (sink : Sink) (written : List ℕ) : Type 0 where
+  pub held : sink.held ≡ Some []
+  pub holds : sink.holds ≡ Some written
+
+printed_is : (sink : Sink) (written report : List ℕ) → Collects sink written → HasWritten sink report → written ≡ report
+printed_is sink written report is has =
+    let a : Appends (Some []) sink.holds report = subst (λ (k : Option (List ℕ)). Appends k sink.holds report) is.held has.2 in
+    subst (λ (k : Option (List ℕ)). Appends (Some []) k report) is.holds a
+
+-- ---- what is shown, and what is converted
+
+pub shows : (turn : Turn) (sink : Sink) (ended : Result (Unit {0}) RunFault) (one written : List ℕ) (status : ℕ) (text : List ℕ)
+    → IsShowRun turn sink ended → turn.known ≡ Some one → Collects sink written → EndsOnTexts (done ended) written status text
+    → ShowsText one status text
+shows turn sink (Ok is) one written status text run known collects e =
+    yes_ends written status text (run.0, spelled turn one run.0 known run.1, printed_is sink written _ collects run.2) e
+shows turn sink (Err (File file found)) one written status text run known collects e =
+    fault_ends (File file found) written status text (λ refused is. absurd cc) (λ two. (run.0, stopped turn one file found known run.1 two)) e
+shows turn sink (Err WrongKind) one written status text run known collects e = absurd run
+shows turn sink (Err OutOfMemory) one written status text run known collects e = absurd run
+shows turn sink (Err (Relayout refused)) one written status text run known collects e = absurd run
+shows turn sink (Err (Write write_faults.OutOfMemory)) one written status text run known collects e = absurd run
+shows turn sink (Err (Write write_faults.Device)) one written status text run known collects e =
+    fault_ends (Write write_faults.Device) written status text (λ refused is. absurd cc)
+    (λ two. let n : 3 ≡ 2 = two in absurd (omega arith)) e
+
+pub converts : (to : Option Layout) (turn : Turn) (sink : Sink) (ended : Result (Unit {0}) RunFault) (one written : List ℕ) (status : ℕ)
+    (text : List ℕ) → turn.known ≡ Some one → Collects sink written → IsConvertRun to turn sink ended
+    → EndsOnTexts (done ended) written status text → ConvertsText to one status text
+converts to turn sink (Ok is) one written status text known collects run e =
+    let new = run.0 in let converted = run.1 in
+    yes_ends written status text (
+      converted.old,
+      new,
+      spelled turn one converted.old known converted.whole,
+      converted.becomes,
+      converted.valid,
+      printed_is sink written _ collects run.2,
+    ) e
+converts to turn sink (Err (File file found)) one written status text known collects run e =
+    fault_ends (File file found) written status text (λ refused is. absurd cc) (λ two. (run.0, stopped turn one file found known run.1 two)) e
+converts to turn sink (Err WrongKind) one written status text known collects run e = absurd run
+converts to turn sink (Err OutOfMemory) one written status text known collects run e = absurd run
+converts to turn sink (Err (Relayout refused)) one written status text known collects run e =
+    fault_ends (Relayout refused) written status text
+    (λ other is. (run.0, refused, spelled turn one run.0 known run.1, run.2))
+    (λ two. absurd (not_two refused two)) e
+  where
+    not_two : (refused : RelayoutFault) → status_of_fault (without_devices (Relayout refused)) ≡ 2 → ⊥
+    not_two relayout_faults.OutOfMemory two = let n : 3 ≡ 2 = two in omega arith
+    not_two relayout_faults.NotExplicit two = let n : 1 ≡ 2 = two in omega arith
+    not_two (relayout_faults.NotSymmetric i j) two = let n : 1 ≡ 2 = two in omega arith
+    not_two (relayout_faults.DiagonalLost i) two = let n : 1 ≡ 2 = two in omega arith
+converts to turn sink (Err (Write write_faults.OutOfMemory)) one written status text known collects run e = absurd run
+converts to turn sink (Err (Write write_faults.Device)) one written status text known collects run e =
+    fault_ends (Write write_faults.Device) written status text (λ refused is. absurd cc)
+    (λ two. let n : 3 ≡ 2 = two in absurd (omega arith)) e
+
+-- ---- the check of texts
+
+-- what is known of three texts that a run may read
+pub record Reads3 (first second third : Turn) (one two three : List ℕ) : Type 0 where
+  pub first_is : first.known ≡ Some one
+  pub second_is : second.known ≡ Some two
+  pub third_is : third.known ≡ Some three
+
+spelled_given : (by : Option Certificate) (third : Turn) (three : List ℕ) (certificate : Option (Certificate × Fields))
+    → third.known ≡ Some three → IsFileIn (given_by by third) certificate → SpellsGiven (given_text by three) certificate
+spelled_given None third three None known is = is
+spelled_given None third three (Some certificate) known is = absurd is
+spelled_given (Some by) third three None known is = absurd is
+spelled_given (Some by) third three (Some certificate) known is = (is.0, spelled third three certificate.1 known is.1)
+
+tour_accepted : (claimed : Option ℤ) (first second third : Turn) (sink : Sink) (one two three written : List ℕ)
+    → Reads3 first second third one two three → Collects sink written
+    → IsATourYes claimed first second sink → IsTourAccepted claimed one two written
+tour_accepted claimed first second third sink one two three written reads collects says = record {
+  instance = says.instance;
+  solution = says.solution;
+  first_file = spelled first one says.instance reads.first_is says.first_file;
+  second_file = spelled second two says.solution reads.second_is says.second_file;
+  of_type = says.of_type;
+  of_tours = says.of_tours;
+  tour = says.tour;
+  only = says.only;
+  tour_of = says.tour_of;
+  as_claimed = says.as_claimed;
+  printed = printed_is sink written _ collects says.printed;
+}
+
+routes_accepted : (claimed : Option ℤ) (first second third : Turn) (sink : Sink) (one two three written : List ℕ)
+    → Reads3 first second third one two three → Collects sink written
+    → IsARoutesYes claimed first second sink → AreRoutesAccepted claimed one two written
+routes_accepted claimed first second third sink one two three written reads collects says = record {
+  instance = says.instance;
+  solution = says.solution;
+  first_file = spelled first one says.instance reads.first_is says.first_file;
+  second_file = spelled second two says.solution reads.second_is says.second_file;
+  of_type = says.of_type;
+  of_tours = says.of_tours;
+  plan_of = says.plan_of;
+  least = says.least;
+  none_fewer = says.none_fewer;
+  as_claimed = says.as_claimed;
+  printed = printed_is sink written _ collects says.printed;
+}
+
+accepted_with : (by : Certificate) (claimed : Option ℤ) (first second third : Turn) (sink : Sink) (one two three written : List ℕ)
+    → Reads3 first second third one two three → Collects sink written → IsAYes by claimed first second third sink
+    → IsAYesOfTexts by claimed one two three written
+accepted_with by claimed first second third sink one two three written reads collects says = record {
+  instance = says.instance;
+  solution = says.solution;
+  certificate = says.certificate;
+  first_file = spelled first one says.instance reads.first_is says.first_file;
+  second_file = spelled second two says.solution reads.second_is says.second_file;
+  third_file = spelled third three says.certificate reads.third_is says.third_file;
+  of_tours = says.of_tours;
+  of_type = says.of_type;
+  tour = says.tour;
+  only = says.only;
+  tour_of = says.tour_of;
+  bound = says.bound;
+  of_certificate = says.of_certificate;
+  as_claimed = says.as_claimed;
+  printed = printed_is sink written _ collects says.printed;
+  below_tours = says.below_tours;
+  optimal = says.optimal;
+}
+
+accepted : (by : Option Certificate) (claimed : Option ℤ) (first second third : Turn) (sink : Sink) (one two three written : List ℕ)
+    → Reads3 first second third one two three → Collects sink written → SaysYes (given_by by third) claimed first second sink
+    → IsAccepted (given_text by three) claimed one two written
+accepted None claimed first second third sink one two three written reads collects says = elim says [
+  | inl tour ↦ inl (tour_accepted claimed first second third sink one two three written reads collects tour)
+  | inr routes ↦ inr (routes_accepted claimed first second third sink one two three written reads collects routes)
+]
+accepted (Some by) claimed first second third sink one two three written reads collects says =
+    accepted_with by claimed first second third sink one two three written reads collects says
+
+rejected : (by : Option Certificate) (claimed : Option ℤ) (first second third : Turn) (sink : Sink) (one two three written : List ℕ)
+    (instance solution : Fields) (certificate : Option (Certificate × Fields)) (verdict : Verdict)
+    → Reads3 first second third one two three → Collects sink written
+    → AreRead (given_by by third) first second instance solution certificate
+    → JudgesFiles certificate claimed instance solution sink (Ok verdict) → false ≡ is_yes verdict
+    → IsRejected (given_text by three) claimed one two written
+rejected by claimed first second third sink one two three written instance solution certificate (Tour length_is bound) reads collects read judged e =
+    absurd (false≢true e)
+rejected by claimed first second third sink one two three written instance solution certificate (Routes length_is routes least) reads collects read judged e =
+    absurd (false≢true e)
+rejected by claimed first second third sink one two three written instance solution certificate (No reason) reads collects read judged e = record {
+  instance = instance;
+  solution = solution;
+  certificate = certificate;
+  first_file = spelled first one instance reads.first_is read.first_file;
+  second_file = spelled second two solution reads.second_is read.second_file;
+  third_file = spelled_given by third three certificate reads.third_is read.third_file;
+  of_type = judged.0;
+  reason = reason;
+  judged = judged.1;
+  printed = printed_is sink written _ collects judged.2;
+}
+
+-- a text of a certificate that is given, at which a run stops
+stopped_given : (by : Option Certificate) (third : Turn) (three : List ℕ) (given : Certificate × Turn) (file : ℕ) (found : ReadFault)
+    → given_by by third ≡ Some given → third.known ≡ Some three → StopsAt found given.1
+    → status_of_fault (without_devices (File file found)) ≡ 2
+    → (text : Certificate × List ℕ) × (given_text by three ≡ Some text) × (fault text.1 ≡ Some found)
+stopped_given None third three given file found is known stops two = absurd cc
+stopped_given (Some by) third three given file found is known stops two =
+    ((by, three), refl, stopped third three file found known (subst (λ (g : Certificate × Turn). StopsAt found g.1) (sym (some_is _ _ is)) stops) two)
+  where
+    some_is : (a b : Certificate × Turn) → Some a ≡ Some b → a ≡ b
+    some_is a b e = cc
+
+unchecked : (by : Option Certificate) (claimed : Option ℤ) (first second third : Turn) (sink : Sink) (one two three : List ℕ)
+    (fault : RunFault) → Reads3 first second third one two three
+    → EndsWithout (given_by by third) claimed first second sink fault
+    → status_of_fault (without_devices fault) ≡ 2 → IsUnchecked (given_text by three) one two fault
+unchecked by claimed first second third sink one two three (File file found) reads run s = elim run.1 [
+  | inl a ↦ inl (a.0, stopped first one file found reads.first_is a.1 s)
+  | inr rest ↦ elim rest [
+    | inl b ↦ inr (inl (some_file first one reads.first_is b.1, (b.0, stopped second two file found reads.second_is b.2 s)))
+    | inr c ↦ let given = stopped_given by third three c.0 file found c.1 reads.third_is c.5 s in inr (inr (
+      given.0,
+      given.1,
+      some_file first one reads.first_is c.3,
+      some_file second two reads.second_is c.4,
+      (c.2, given.2),
+    ))
+  ]
+]
+unchecked by claimed first second third sink one two three WrongKind reads run s =
+    let read = run.3 in (
+      run.0,
+      run.1,
+      run.2,
+      spelled first one run.0 reads.first_is read.first_file,
+      spelled second two run.1 reads.second_is read.second_file,
+      spelled_given by third three run.2 reads.third_is read.third_file,
+      run.4.0,
+    )
+unchecked by claimed first second third sink one two three OutOfMemory reads run s = let n : 3 ≡ 2 = s in absurd (omega arith)
+unchecked by claimed first second third sink one two three (Relayout refused) reads run s = absurd run.4
+unchecked by claimed first second third sink one two three (Write write_faults.OutOfMemory) reads run s = absurd run.4
+unchecked by claimed first second third sink one two three (Write write_faults.Device) reads run s = let n : 3 ≡ 2 = s in absurd (omega arith)
+
+no_relayout : (by : Option Certificate) (claimed : Option ℤ) (first second third : Turn) (sink : Sink) (fault : RunFault)
+    (refused : RelayoutFault) → fault ≡ Relayout refused → EndsWithout (given_by by third) claimed first second sink fault → ⊥
+no_relayout by claimed first second third sink fault refused is run =
+    none (subst (λ (f : RunFault). EndsWithout (given_by by third) claimed first second sink f) is run)
+  where
+    none : EndsWithout (given_by by third) claimed first second sink (Relayout refused) → ⊥
+    none ended = ended.4
+
+pub checks : (by : Option Certificate) (claimed : Option ℤ) (first second third : Turn) (sink : Sink) (answer : Result Bool RunFault)
+    (one two three written : List ℕ) (status : ℕ) (text : List ℕ) → Reads3 first second third one two three → Collects sink written
+    → IsCheckOf (given_by by third) claimed first second sink answer → EndsOnTexts answer written status text
+    → ChecksTexts (given_text by three) claimed one two status text
+checks by claimed first second third sink (Ok true) one two three written status text reads collects check e =
+    yes_ends written status text (accepted by claimed first second third sink one two three written reads collects (check.1 refl)) e
+checks by claimed first second third sink (Ok false) one two three written status text reads collects check e =
+    let run = check.0 in no_ends written status text
+    (rejected by claimed first second third sink one two three written run.0 run.1 run.2 run.3 reads collects run.4 run.5 run.6) e
+checks by claimed first second third sink (Err fault) one two three written status text reads collects check e =
+    fault_ends fault written status text
+    (λ refused is. absurd (no_relayout by claimed first second third sink fault refused is check.0))
+    (λ s. unchecked by claimed first second third sink one two three fault reads check.0 s) e
+
+-- ---- a bound
+
+-- what is known of two texts that a run reads
+pub record Reads2 (first second : Turn) (one two : List ℕ) : Type 0 where
+  pub first_is : first.known ≡ Some one
+  pub second_is : second.known ≡ Some two
+
+bound_says : (by : Certificate) (first second : Turn) (sink : Sink) (one two written : List ℕ) (bound : Option ℤ)
+    → Reads2 first second one two → Collects sink written → SaysBound by first second sink bound
+    → IsABoundOfTexts by one two written ⊎ IsNoTourOfTexts by one two written
+bound_says by first second sink one two written (Some bound) reads collects says = inl (record {
+  instance = says.instance;
+  certificate = says.certificate;
+  first_file = spelled first one says.instance reads.first_is says.first_file;
+  second_file = spelled second two says.certificate reads.second_is says.second_file;
+  of_type = says.of_type;
+  bound = bound;
+  of_certificate = says.of_certificate;
+  printed = printed_is sink written _ collects says.printed;
+  below_tours = says.below_tours;
+})
+bound_says by first second sink one two written None reads collects says = inr (record {
+  instance = says.instance;
+  certificate = says.certificate;
+  first_file = spelled first one says.instance reads.first_is says.first_file;
+  second_file = spelled second two says.certificate reads.second_is says.second_file;
+  of_type = says.of_type;
+  printed = printed_is sink written _ collects says.printed;
+  no_tour = says.no_tour;
+})
+
+bound_found : (by : Certificate) (first second : Turn) (sink : Sink) (one two written : List ℕ) (status : ℕ) (text : List ℕ)
+    (instance certificate : Fields) (found : Result (Option ℤ) Reason) → Reads2 first second one two → Collects sink written
+    → IsFile first instance → IsFile second certificate → BoundsFiles by instance certificate sink (Ok found)
+    → ((bound : Option ℤ) → found ≡ Ok bound → SaysBound by first second sink bound)
+    → EndsOnTexts (Ok (is_ok found)) written status text → BoundsTexts by one two status text
+bound_found by first second sink one two written status text instance certificate (Ok bound) reads collects first_file second_file judged says e =
+    yes_ends written status text (bound_says by first second sink one two written bound reads collects (says bound refl)) e
+bound_found by first second sink one two written status text instance certificate (Err reason) reads collects first_file second_file judged says e =
+    no_ends written status text (record {
+      instance = instance;
+      certificate = certificate;
+      first_file = spelled first one instance reads.first_is first_file;
+      second_file = spelled second two certificate reads.second_is second_file;
+      bounded = judged.0;
+      reason = reason;
+      judged = judged.1;
+      printed = printed_is sink written _ collects judged.2;
+    }) e
+
+unbounded : (by : Certificate) (first second : Turn) (sink : Sink) (one two : List ℕ) (fault : RunFault)
+    → Reads2 first second one two → EndsUnbounded by first second sink fault
+    → status_of_fault (without_devices fault) ≡ 2 → IsUnbounded by one two fault
+unbounded by first second sink one two (File file found) reads run s = elim run.1 [
+  | inl a ↦ inl (a.0, stopped first one file found reads.first_is a.1 s)
+  | inr b ↦ inr (some_file first one reads.first_is b.1, (b.0, stopped second two file found reads.second_is b.2 s))
+]
+unbounded by first second sink one two WrongKind reads run s = (
+  run.0,
+  run.1,
+  spelled first one run.0 reads.first_is run.2,
+  spelled second two run.1 reads.second_is run.3,
+  run.4.0,
+)
+unbounded by first second sink one two OutOfMemory reads run s = let n : 3 ≡ 2 = s in absurd (omega arith)
+unbounded by first second sink one two (Relayout refused) reads run s = absurd run.4
+unbounded by first second sink one two (Write write_faults.OutOfMemory) reads run s = absurd run.4
+unbounded by first second sink one two (Write write_faults.Device) reads run s = let n : 3 ≡ 2 = s in absurd (omega arith)
+
+not_relaid : (by : Certificate) (first second : Turn) (sink : Sink) (fault : RunFault) (refused : RelayoutFault)
+    → fault ≡ Relayout refused → EndsUnbounded by first second sink fault → ⊥
+not_relaid by first second sink fault refused is run = none (subst (λ (f : RunFault). EndsUnbounded by first second sink f) is run)
+  where
+    none : EndsUnbounded by first second sink (Relayout refused) → ⊥
+    none ended = ended.4
+
+pub bounds : (by : Certificate) (first second : Turn) (sink : Sink) (ended : Result Bounded RunFault) (one two written : List ℕ)
+    (status : ℕ) (text : List ℕ) → Reads2 first second one two → Collects sink written → IsBoundRunOf by first second sink ended
+    → EndsOnTexts (has_bound ended) written status text → BoundsTexts by one two status text
+bounds by first second sink (Ok bounded) one two written status text reads collects run e =
+    let is = run.0 in bound_found by first second sink one two written status text bounded.instance bounded.certificate bounded.found
+    reads collects is.0 is.1 is.2 (λ bound found. run.1 bounded bound refl found) e
+bounds by first second sink (Err fault) one two written status text reads collects run e = fault_ends fault written status text
+    (λ refused is. absurd (not_relaid by first second sink fault refused is run.0))
+    (λ s. unbounded by first second sink one two fault reads run.0 s) e

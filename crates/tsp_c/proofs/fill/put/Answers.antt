@@ -1,0 +1,9 @@
+use Rattle.std.proofs.Common.{FitsSigned, w64}
+use Rattle.std.proofs.lemmas.Int.{to_z-of_z}
+use Rattle.tsp_c.proofs.Filled.{one_more}
+use Rattle.tsp_c.proofs.fill.put.Goals as goal
+
+pub returns : goal.returns
+returns c = λ numbers start is filled.
+    let fits : FitsSigned w64 c.args.number = c.ranges.number in
+    rw (to_z-of_z w64 c.args.number fits) (one_more numbers start c.args.out.now c.args.place c.args.number c.requires is filled)

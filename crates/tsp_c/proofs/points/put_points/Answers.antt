@@ -1,0 +1,17 @@
+use Rattle.std.proofs.Common.{◌≡◌, ℕ, ◌+◌, ◌-◌, ◌/◌, ◌%◌, ◌∙◌, ap, arith, rules, FitsSigned, w64}
+use Rattle.std.specs.Prelude.{slice_index_or}
+use Rattle.std.proofs.lemmas.Int.{to_z-of_z}
+use Rattle.tsp_draft.specs.Coords.{points_of, origin}
+use Rattle.tsp_c.specs.Numbers.{point_number, coordinate}
+use Rattle.tsp_c.proofs.points.put_points.Goals as goal
+
+pub places-preserved : goal.places-preserved
+places-preserved c =
+    let fits : FitsSigned w64 c.coordinate.result = search rules in
+    let k : ℕ = c.places.k in
+    let back : k / 3 ≡ k / 3 + 1 - 1 = omega arith in
+    let point : c.in-Some.point ≡ slice_index_or (points_of c.args.points.now) (k / 3) origin = search rules in
+    c.put.ensures (point_number (points_of c.args.points.now)) c.args.out.now
+    (to_z-of_z w64 c.coordinate.result fits ∙ c.coordinate.ensures ∙ ap (coordinate (k % 3)) point
+    ∙ ap (λ (i : ℕ). coordinate (k % 3) (slice_index_or (points_of c.args.points.now) i origin)) back)
+    c.places.invariant

@@ -1,0 +1,6 @@
+use Rattle.tsp_draft.specs.Coords.{points_of}
+use Rattle.tsp_c.specs.Numbers.{IsFilled, point_number}
+use Rattle.tsp_c.proofs.points.put_points.Given as goal
+
+abbrev pub invariant-places : goal.invariant-places
+invariant-places l = IsFilled l.k (point_number (points_of l.points)) l.fn.out l.out

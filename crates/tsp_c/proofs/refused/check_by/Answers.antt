@@ -1,0 +1,26 @@
+use Rattle.std.proofs.Common.{◌≡◌, ◌∙◌, ap, subst, arith, FitsSigned, w64}
+use Rattle.std.specs.Prelude.{Option, ℤ}
+use Rattle.std.proofs.lemmas.Int.{to_z-of_z}
+use Rattle.tsp_reason.specs.declared.certificate.Certificate.{Certificate}
+use Rattle.tsp_c.specs.Texts.{ChecksTexts, claim_of, given_text}
+use Rattle.tsp_c.proofs.refused.check_by.Goals as goal
+
+pub returns : goal.returns
+returns c =
+    let one = c.args.instance.now in
+    let two = c.args.solution.now in
+    let three = c.args.certificate.now in
+    let made = c.checked.result in
+    let low = c.if-by-gt2.false in
+    let few = c.if-has_claim-gt1.false in
+    let by = c.certificate_of-by in
+    let claim = c.claim_of-claim in
+    let fits : FitsSigned w64 c.args.claimed = c.ranges.claimed in
+    let claim_is : claim.result ≡ claim_of c.args.has_claim c.args.claimed =
+    claim.ensures ∙ ap (λ (z : ℤ). claim_of c.args.has_claim z) (to_z-of_z w64 c.args.claimed fits) in (
+      λ known claims. subst (λ (b : Option Certificate). ChecksTexts (given_text b three) (claim_of c.args.has_claim c.args.claimed) one two made.0 made.1.items)
+          by.ensures
+          (subst (λ (k : Option ℤ). ChecksTexts (given_text by.result three) k one two made.0 made.1.items) claim_is c.checked.ensures),
+      λ many. absurd (omega (arith, low, many)),
+      λ many. absurd (omega (arith, few, many)),
+    )

@@ -1,0 +1,5 @@
+use Rattle.tsp_c.specs.Numbers.{IsFilled, row_cost}
+use Rattle.tsp_c.proofs.weights.put_rows.Given as goal
+
+abbrev pub invariant-places : goal.invariant-places
+invariant-places l = IsFilled l.k (row_cost l.first_row l.instance) l.fn.out l.out

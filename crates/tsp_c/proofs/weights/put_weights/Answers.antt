@@ -1,0 +1,10 @@
+use Rattle.std.proofs.Common.{◌∙◌, rules, FitsSigned, w64}
+use Rattle.std.proofs.lemmas.Int.{to_z-of_z}
+use Rattle.tsp_c.specs.Numbers.{pair_cost}
+use Rattle.tsp_c.proofs.weights.put_weights.Goals as goal
+
+pub pairs-preserved : goal.pairs-preserved
+pairs-preserved c =
+    let fits : FitsSigned w64 c.cost.result = search rules in
+    c.put.ensures (pair_cost c.args.pairs.now c.args.instance.now) c.args.out.now
+    (to_z-of_z w64 c.cost.result fits ∙ c.cost.ensures.value) c.pairs.invariant

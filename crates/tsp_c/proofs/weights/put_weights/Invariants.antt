@@ -1,0 +1,5 @@
+use Rattle.tsp_c.specs.Numbers.{IsFilled, pair_cost}
+use Rattle.tsp_c.proofs.weights.put_weights.Given as goal
+
+abbrev pub invariant-pairs : goal.invariant-pairs
+invariant-pairs l = IsFilled l.k (pair_cost l.pairs l.instance) l.fn.out l.out

@@ -1,0 +1,63 @@
+-- How a call on texts ends: its status, and the text that goes to the caller's buffer.
+use Rattle.std.specs.Prelude.{◌≡◌, ◌⊎◌, ℕ, zero, suc, ◌≤◌, ◌<◌, Bool, true, List, [], ◌∷◌, ◌++◌, length, drop, Option, None, Some, Result, Ok, Err, is_ok}
+use Rattle.tsp_stream.specs.declared.output.WriteFault.TheVariants as write_faults
+use Rattle.tsp_text.specs.declared.fault.ReadFault.TheVariants as read_faults
+use Rattle.tsp_judge.specs.declared.bound.Bounded.{Bounded}
+use Rattle.tsp_judge.specs.declared.fault.RunFault.{RunFault}
+use Rattle.tsp_judge.specs.declared.fault.RunFault.TheVariants.{File, Write}
+use Rattle.tsp_judge.specs.Status.{status_of, status_of_fault}
+
+-- ---- the caller's buffer
+
+-- The text's length is written. Where the text fits it is the front of the buffer, and the answer is its status; else the
+-- buffer is as it was, and the answer is 6.
+abbrev pub IsPlaced : List ℕ → ℕ → List ℕ → List ℕ → ℕ → ℕ → Type 0
+IsPlaced text status old new written answer = (written ≡ length text)
+    × (length text ≤ length old → (new ≡ text ++ drop (length text) old) × (answer ≡ status))
+    × (length old < length text → (new ≡ old) × (answer ≡ 6))
+
+-- a text with its status, of which P holds, is placed
+abbrev pub PlacesText : (ℕ → List ℕ → Type 0) → List ℕ → List ℕ → ℕ → ℕ → Type 0
+PlacesText P old new written answer = (status : ℕ) × (text : List ℕ) × P status text × IsPlaced text status old new written answer
+
+-- ---- numbers for what has a name
+
+-- the one with a number, counted from 1
+abbrev pub nth : {X : Type 0} → ℕ → List X → Option X
+nth number [] = None
+nth zero (x ∷ xs) = None
+nth (suc zero) (x ∷ xs) = Some x
+nth (suc (suc number)) (x ∷ xs) = nth (suc number) xs
+
+-- ---- how a run ends
+
+-- what is done is no no
+abbrev pub done : Result (Unit {0}) RunFault → Result Bool RunFault
+done (Ok is) = Ok true
+done (Err fault) = Err fault
+
+-- whether there is no reason against the files, where they were read
+abbrev pub has_bound : Result Bounded RunFault → Result Bool RunFault
+has_bound (Ok bounded) = Ok (is_ok bounded.found)
+has_bound (Err fault) = Err fault
+
+-- Texts in memory have no device that fails: a read or a write of them that fails is out of memory.
+abbrev pub without_devices : RunFault → RunFault
+without_devices (File file read_faults.Device) = File file read_faults.OutOfMemory
+without_devices (Write write_faults.Device) = Write write_faults.OutOfMemory
+without_devices fault = fault
+
+-- A run that has an answer ends with its status, and with what it wrote. One that has none ends with the status of its fault.
+abbrev pub EndsOnTexts : Result Bool RunFault → List ℕ → ℕ → List ℕ → Type 0
+EndsOnTexts (Ok answer) written status text = (status ≡ status_of (Ok answer)) × (text ≡ written)
+EndsOnTexts (Err fault) written status text = (status ≡ status_of_fault (without_devices fault)) ⊎ (status ≡ 3)
+
+-- ---- what a status says
+
+-- 0 comes with a text of which Yes holds, 1 with one of which No holds, 2 comes where Faulty holds of some fault, and 3 is out of
+-- memory.
+pub record EndsWithText (Yes No : List ℕ → Type 0) (Faulty : RunFault → Type 0) (status : ℕ) (text : List ℕ) : Type 0 where
+  pub most : status ≤ 3
+  pub yes : status ≡ 0 → Yes text
+  pub no : status ≡ 1 → No text
+  pub faulty : status ≡ 2 → (fault : RunFault) × Faulty fault

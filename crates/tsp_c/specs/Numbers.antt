@@ -1,0 +1,180 @@
+-- What the calls on numbers answer. Each number that they fill in is the one that the definitions give.
+use Rattle.std.specs.Prelude.{◌≡◌, ◌⊎◌, ℕ, zero, suc, ◌+◌, ◌-◌, ◌*◌, ◌/◌, ◌%◌, ◌≤◌, ◌<◌, ◌==◌, min, cond, List, [], ◌∷◌, length, slice_index_or, Option, None, Some, Result, Ok, Err, IsTrue, unwrap_or, ℤ, pos, negsuc}
+use Rattle.std.specs.List.{All}
+use Rattle.tsp_distance.specs.declared.decimal.Point.{Point}
+use Rattle.tsp_distance.specs.Distances.{IsInSpace}
+use Rattle.tsp_format.specs.declared.kinds.WeightKind.{WeightKind}
+use Rattle.tsp_format.specs.declared.kinds.WeightKind.TheVariants.{Euc2d, Ceil2d, Man2d, Max2d, Att, Euc3d, Man3d, Max3d}
+use Rattle.tsp_format.specs.Cells.{IsNode}
+use Rattle.tsp_format.specs.Limits.{most_tour_nodes}
+use Rattle.tsp_draft.specs.Fields.{Fields}
+use Rattle.tsp_draft.specs.Rules.{is_instance}
+use Rattle.tsp_file.specs.Cost.{cost, distance, point_of}
+use Rattle.tsp_text.specs.Text.{fault, Spells}
+use Rattle.tsp_read.specs.Reads.{Reads}
+use Rattle.tsp_theory.specs.Length.{length_of}
+use Rattle.tsp_c.specs.Ended.{nth}
+use Rattle.tsp_text.specs.declared.fault.ReadFault.{ReadFault}
+use Rattle.tsp_c.specs.Texts.{IsOtherText}
+
+-- ---- a buffer of numbers
+
+-- The first numbers of the buffer are these, in order, and the others are as they were.
+pub record IsFilled (count : ℕ) (number : ℕ → ℤ) (old new : List ℤ) : Type 0 where
+  pub size : length new ≡ length old
+  pub filled : (k : ℕ) → k < count → slice_index_or new k (pos 0) ≡ number k
+  pub others : (k : ℕ) → count ≤ k → slice_index_or new k (pos 0) ≡ slice_index_or old k (pos 0)
+
+-- ---- an instance in memory
+
+-- the text has a first fault
+abbrev pub HasSomeFault : List ℕ → Type 0
+HasSomeFault text = (found : ReadFault) × (fault text ≡ Some found)
+
+-- 2 is the status of a text with this first fault; 3 is out of memory
+abbrev pub SaysFault : ReadFault → ℕ → Type 0
+SaysFault found status = (text : List ℕ) → Reads text (Err found) → ((status ≡ 2) × HasSomeFault text) ⊎ (status ≡ 3)
+
+abbrev pub IsInstanceText : List ℕ → Fields → Type 0
+IsInstanceText text instance = Spells text instance × IsTrue (is_instance instance.kind)
+
+abbrev pub node_count : Fields → ℕ
+node_count instance = unwrap_or instance.dimension 0
+
+-- the instance of a text; or the status 2, of a text that is none, or 3, out of memory
+abbrev pub FindsInstance : List ℕ → Result Fields ℕ → Type 0
+FindsInstance text (Ok instance) = IsInstanceText text instance
+FindsInstance text (Err status) = ((status ≡ 2) × (HasSomeFault text ⊎ IsOtherText text)) ⊎ (status ≡ 3)
+
+-- how many nodes the instance of a text has; 0 where the text is none, or memory ran out
+abbrev pub CountsNodes : List ℕ → ℕ → Type 0
+CountsNodes text result = (result ≡ 0) ⊎ ((instance : Fields) × IsInstanceText text instance × (instance.dimension ≡ Some result))
+
+-- How a call ends that is asked for numbers of an instance: 0, and the buffer is filled; 4, what is asked for isn't there; 6, the
+-- buffer has too few places. But for 0 the buffer is as it was.
+abbrev pub EndsBuffer : Type 0 → ℕ → ℕ → (ℕ → ℤ) → List ℤ → List ℤ → ℕ → Type 0
+EndsBuffer Asked least count number old new status =
+    ((status ≡ 0) × Asked × (least ≤ length old) × IsFilled count number old new)
+    ⊎ ((status ≡ 4) × (new ≡ old) × ¬ Asked)
+    ⊎ ((status ≡ 6) × (new ≡ old) × Asked × (length old < least))
+
+-- The text is an instance, of which P holds; or 2, it is none; or 3, out of memory. In both of these the buffer is as it was.
+abbrev pub OfInstance : List ℕ → (Fields → Type 0) → List ℤ → List ℤ → ℕ → Type 0
+OfInstance text P old new status = ((instance : Fields) × IsInstanceText text instance × P instance)
+    ⊎ ((status ≡ 2) × (new ≡ old) × (HasSomeFault text ⊎ IsOtherText text))
+    ⊎ ((status ≡ 3) × (new ≡ old))
+
+-- ---- costs of pairs
+
+-- the numbers are pairs of nodes up to so many
+abbrev pub ArePairs : List ℕ → ℕ → Type 0
+ArePairs pairs nodes = (length pairs ≡ 2 * (length pairs / 2)) × All (IsNode nodes) pairs
+
+abbrev pub pair_count : List ℕ → ℕ
+pair_count pairs = length pairs / 2
+
+-- the cost from the first node of a pair to its second
+abbrev pub pair_cost : List ℕ → Fields → ℕ → ℤ
+pair_cost pairs instance k = cost instance (slice_index_or pairs (2 * k) 0) (slice_index_or pairs (2 * k + 1) 0)
+
+abbrev pub EndsWeights : Fields → List ℕ → List ℤ → List ℤ → ℕ → Type 0
+EndsWeights instance pairs old new status =
+    EndsBuffer (ArePairs pairs (node_count instance)) (pair_count pairs) (pair_count pairs) (pair_cost pairs instance) old new status
+
+abbrev pub FillsWeights : List ℕ → List ℕ → List ℤ → List ℤ → ℕ → Type 0
+FillsWeights text pairs old new status = OfInstance text (λ instance. EndsWeights instance pairs old new status) old new status
+
+-- ---- rows of the matrix
+
+-- as many whole rows as fit, from the first one on to the last one of the instance
+abbrev pub row_count : ℕ → ℕ → ℕ → ℕ
+row_count places nodes first = min (places / nodes) (nodes + 1 - first)
+
+-- the cost from a node of these rows to each, row by row
+abbrev pub row_cost : ℕ → Fields → ℕ → ℤ
+row_cost first instance k = cost instance (first + k / node_count instance) (k % node_count instance + 1)
+
+abbrev pub EndsMatrix : Fields → ℕ → List ℤ → List ℤ → ℕ → Type 0
+EndsMatrix instance first old new status = EndsBuffer (IsNode (node_count instance) first) (node_count instance)
+    (row_count (length old) (node_count instance) first * node_count instance) (row_cost first instance) old new status
+
+abbrev pub FillsMatrix : List ℕ → ℕ → List ℤ → List ℤ → ℕ → Type 0
+FillsMatrix text first old new status = OfInstance text (λ instance. EndsMatrix instance first old new status) old new status
+
+-- ---- lengths of lists of nodes
+
+abbrev pub onto_first_list : ℕ → List (List ℕ) → List (List ℕ)
+onto_first_list node [] = []
+onto_first_list node (list ∷ lists) = (node ∷ list) ∷ lists
+
+-- the lists of nodes, each of which a 0 ends
+abbrev pub lists_in : List ℕ → List (List ℕ)
+lists_in [] = []
+lists_in (node ∷ nodes) = cond (node == 0) ([] ∷ lists_in nodes) (onto_first_list node (lists_in nodes))
+
+-- they are few, of nodes up to this one, and each has its 0
+abbrev pub AreLists : List ℕ → ℕ → Type 0
+AreLists nodes count = (length nodes ≤ most_tour_nodes) × (slice_index_or nodes (length nodes - 1) 0 ≡ 0)
+    × All (λ node. node ≤ count) nodes
+
+abbrev pub list_count : List ℕ → ℕ
+list_count nodes = length (lists_in nodes)
+
+-- the length of a list
+abbrev pub list_length : List ℕ → Fields → ℕ → ℤ
+list_length nodes instance k = length_of (cost instance) (slice_index_or (lists_in nodes) k [])
+
+abbrev pub EndsLengths : Fields → List ℕ → List ℤ → List ℤ → ℕ → Type 0
+EndsLengths instance nodes old new status =
+    EndsBuffer (AreLists nodes (node_count instance)) (list_count nodes) (list_count nodes) (list_length nodes instance) old new status
+
+abbrev pub FillsLengths : List ℕ → List ℕ → List ℤ → List ℤ → ℕ → Type 0
+FillsLengths text nodes old new status = OfInstance text (λ instance. EndsLengths instance nodes old new status) old new status
+
+-- ---- coordinates of points
+
+-- 1 is NODE_COORD_SECTION, 2 DISPLAY_DATA_SECTION
+abbrev pub section_points : ℕ → Fields → Option (List Point)
+section_points (suc zero) file = file.coords
+section_points (suc (suc zero)) file = file.display
+section_points section file = None
+
+abbrev pub IsSection : ℕ → Type 0
+IsSection section = (1 ≤ section) × (section ≤ 2)
+
+-- x, y and z by 0, 1 and 2
+abbrev pub coordinate : ℕ → Point → ℤ
+coordinate zero point = point.x
+coordinate (suc zero) point = point.y
+coordinate (suc (suc axis)) point = point.z
+
+-- the three coordinates of each node, node by node
+abbrev pub point_number : List Point → ℕ → ℤ
+point_number points k = coordinate (k % 3) (point_of points (k / 3 + 1))
+
+-- how a call ends that is asked for these points; 1 where the file has none in the section
+abbrev pub EndsPoints : Option (List Point) → List ℤ → List ℤ → ℕ → Type 0
+EndsPoints None old new status = (status ≡ 1) × (new ≡ old)
+EndsPoints (Some points) old new status =
+    ((status ≡ 0) × (3 * length points ≤ length old) × IsFilled (3 * length points) (point_number points) old new)
+    ⊎ ((status ≡ 6) × (new ≡ old) × (length old < 3 * length points))
+
+abbrev pub FillsPoints : List ℕ → ℕ → List ℤ → List ℤ → ℕ → Type 0
+FillsPoints text section old new status =
+    (IsSection section × ((file : Fields) × Spells text file × EndsPoints (section_points section file) old new status))
+    ⊎ ((status ≡ 2) × (new ≡ old) × HasSomeFault text)
+    ⊎ ((status ≡ 3) × (new ≡ old))
+    ⊎ ((status ≡ 4) × (new ≡ old) × ¬ IsSection section)
+
+-- ---- distances
+
+-- the weight types that are distances, by their numbers
+abbrev pub distance_kinds : List WeightKind
+distance_kinds = Euc2d ∷ Ceil2d ∷ Man2d ∷ Max2d ∷ Att ∷ Euc3d ∷ Man3d ∷ Max3d ∷ []
+
+-- the distance of two points, whose coordinates are counts of 10^-9 of decimals; or -1, where there is none by this number, or a
+-- coordinate is no decimal
+abbrev pub GivesDistance : ℕ → Point → Point → ℤ → Type 0
+GivesDistance number a b result =
+    ((kind : WeightKind) × (nth number distance_kinds ≡ Some kind) × IsInSpace a × IsInSpace b × (result ≡ distance kind a b))
+    ⊎ ((result ≡ negsuc 0) × ((nth number distance_kinds ≡ None) ⊎ ¬ IsInSpace a ⊎ ¬ IsInSpace b))

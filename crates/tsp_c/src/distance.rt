@@ -1,0 +1,58 @@
+//! The distance of two points by the number of a weight type.
+
+ghost use Rattle.std.specs.Prelude.{◌≡◌, Some, option_map, SomeIff};
+ghost use Rattle.tsp_distance.specs.declared.decimal.Point.{Point};
+ghost use Rattle.tsp_distance.specs.Distances.{IsInSpace};
+ghost use Rattle.tsp_file.specs.Cost.{distance};
+ghost use Rattle.tsp_c.specs.Ended.{nth};
+ghost use Rattle.tsp_c.specs.Numbers.{GivesDistance, distance_kinds};
+
+use tsp_distance::{Decimal, Point, att, ceil_2d, euc_2d, euc_3d, man_2d, man_3d, max_2d, max_3d};
+
+/// There is no such distance.
+const NO_DISTANCE: i64 = -1;
+
+/// The point with these counts of 10^-9, or `None` where one is too large.
+fn point_of(x: i64, y: i64, z: i64) -> Option<Point>
+    ensures { let p : Point = record { x = x; y = y; z = z } in SomeIff result (IsInSpace p) p }
+{
+    let x = Decimal::of_count(i128::from(x))?;
+    let y = Decimal::of_count(i128::from(y))?;
+    let z = Decimal::of_count(i128::from(z))?;
+    Some(Point { x, y, z })
+}
+
+/// The distance of two points by a number, or -1.
+pub(crate) fn distance_of(number: u32, ax: i64, ay: i64, az: i64, bx: i64, by: i64, bz: i64) -> i64
+    ensures { let a : Point = record { x = ax; y = ay; z = az } in let b : Point = record { x = bx; y = by; z = bz } in
+        GivesDistance number a b result }
+{
+    let Some(a) = point_of(ax, ay, az) else {
+        return NO_DISTANCE;
+    };
+    let Some(b) = point_of(bx, by, bz) else {
+        return NO_DISTANCE;
+    };
+    match between(number, a, b) {
+        Some(distance) => distance,
+        None => NO_DISTANCE,
+    }
+}
+
+/// The distance by a number, where there is one.
+#[tactic(auto, unfolding(tsp_file::specs::Cost::distance))]
+fn between(number: u32, a: Point, b: Point) -> Option<i64>
+    ensures { result ≡ option_map (λ kind. distance kind a b) (nth number distance_kinds) }
+{
+    match number {
+        1 => Some(euc_2d(a, b)),
+        2 => Some(ceil_2d(a, b)),
+        3 => Some(man_2d(a, b)),
+        4 => Some(max_2d(a, b)),
+        5 => Some(att(a, b)),
+        6 => Some(euc_3d(a, b)),
+        7 => Some(man_3d(a, b)),
+        8 => Some(max_3d(a, b)),
+        _ => None,
+    }
+}

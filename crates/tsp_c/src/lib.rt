@@ -1,0 +1,217 @@
+//! The calls of Yokecairn for C, and for what speaks to C: over numbers and slices of bytes alone.
+//!
+//! No call has a state, keeps a pointer, or calls back. A call that gives a text answers a status as the
+//! program exits with it: 0 for a yes or for what is done, 1 for a no, 2 for a text with a fault, 3 out of
+//! memory, 4 for a number that is refused. The text goes to the front of the buffer `out`, and `written` is
+//! its length. Where it doesn't fit, the status is 6, the buffer is as it was, and `written` is the length
+//! that is needed.
+#![tactic(auto)]
+
+ghost use Rattle.tsp_distance.specs.declared.decimal.Point.{Point};
+ghost use Rattle.tsp_c.specs.Ended.{PlacesText, nth};
+ghost use Rattle.tsp_c.specs.Numbers.{CountsNodes, FillsLengths, FillsMatrix, FillsPoints, FillsWeights, GivesDistance};
+ghost use Rattle.tsp_c.specs.Texts.{BoundsBy, ChecksBy, ConvertsBy, ExplainsTexts, ShowsText, certificates};
+
+mod distance;
+mod ended;
+mod explain;
+mod fill;
+mod instance;
+mod lengths;
+mod place;
+mod points;
+mod refused;
+mod status;
+mod texts;
+mod weights;
+
+use crate::distance::distance_of;
+use crate::explain::explained;
+use crate::instance::node_count;
+use crate::lengths::fill_lengths;
+use crate::place::place;
+use crate::points::fill_points;
+use crate::refused::{bound_by, check_by, convert_by};
+use crate::texts::shown;
+use crate::weights::{fill_matrix, fill_weights};
+use std::alloc::Global;
+
+/// The version, as 10,000 times the first number, 100 times the second, and the third.
+const VERSION: u32 = 10100;
+
+/// Judges a solution of an instance: by 0 alone, by 1 with potentials, by 2 with branches. Where
+/// `has_claim` is 1, its length has to be the claimed one.
+#[unsafe(no_mangle)]
+pub extern "C" fn tsp_check(
+    alloc: Global,
+    instance: &[u8],
+    solution: &[u8],
+    certificate: &[u8],
+    by: u32,
+    claimed: i64,
+    has_claim: u32,
+    out: &mut [u8],
+    written: &mut usize,
+) -> u32
+    ensures { PlacesText (ChecksBy by has_claim claimed instance.now solution.now certificate.now)
+        out.old out.new written.new result }
+{
+    let (status, text) = check_by(
+        alloc,
+        instance,
+        solution,
+        certificate,
+        by,
+        claimed,
+        has_claim,
+    );
+    let answer = place(&text, status, out, written);
+    drop(text);
+    answer
+}
+
+/// Bounds the tours of an instance: by 1 with potentials, by 2 with branches.
+#[unsafe(no_mangle)]
+pub extern "C" fn tsp_bound(
+    alloc: Global,
+    instance: &[u8],
+    certificate: &[u8],
+    by: u32,
+    out: &mut [u8],
+    written: &mut usize,
+) -> u32
+    ensures { PlacesText (BoundsBy (nth by certificates) instance.now certificate.now) out.old out.new written.new result }
+{
+    let (status, text) = bound_by(alloc, instance, certificate, by);
+    let answer = place(&text, status, out, written);
+    drop(text);
+    answer
+}
+
+/// Shows what a file is.
+#[unsafe(no_mangle)]
+pub extern "C" fn tsp_show(alloc: Global, file: &[u8], out: &mut [u8], written: &mut usize) -> u32
+    ensures { PlacesText (ShowsText file.now) out.old out.new written.new result }
+{
+    let (status, text) = shown(alloc, file);
+    let answer = place(&text, status, out, written);
+    drop(text);
+    answer
+}
+
+/// Writes a file anew: by 0 in its own layout, by 1 to 9 in that of `Layout::ALL`.
+#[unsafe(no_mangle)]
+pub extern "C" fn tsp_convert(
+    alloc: Global,
+    file: &[u8],
+    layout: u32,
+    out: &mut [u8],
+    written: &mut usize,
+) -> u32
+    ensures { PlacesText (ConvertsBy layout file.now) out.old out.new written.new result }
+{
+    let (status, text) = convert_by(alloc, file, layout);
+    let answer = place(&text, status, out, written);
+    drop(text);
+    answer
+}
+
+/// Explains what a call on texts answers: 0 `tsp_show`, 1 `tsp_convert`, 2 `tsp_check`, 3 `tsp_bound`.
+/// `number` is the layout or the kind of certificate of the call. `names` has what the user calls the
+/// texts, one behind the other, and a byte 0 between them.
+#[unsafe(no_mangle)]
+pub extern "C" fn tsp_explain(
+    alloc: Global,
+    call: u32,
+    instance: &[u8],
+    solution: &[u8],
+    certificate: &[u8],
+    names: &[u8],
+    number: u32,
+    claimed: i64,
+    has_claim: u32,
+    out: &mut [u8],
+    written: &mut usize,
+) -> u32
+    ensures { PlacesText ExplainsTexts out.old out.new written.new result }
+{
+    let (status, text) = explained(
+        alloc,
+        call,
+        instance,
+        solution,
+        certificate,
+        names,
+        number,
+        claimed,
+        has_claim,
+    );
+    let answer = place(&text, status, out, written);
+    drop(text);
+    answer
+}
+
+/// How many nodes an instance has; 0 where the text is no instance, or memory ran out.
+#[unsafe(no_mangle)]
+pub extern "C" fn tsp_count(alloc: Global, instance: &[u8]) -> u32
+    ensures { CountsNodes instance.now result }
+{
+    node_count(alloc, instance)
+}
+
+/// Fills in the coordinates of each node, as counts of 10^-9: section 1 is NODE_COORD_SECTION, 2 is
+/// DISPLAY_DATA_SECTION.
+#[unsafe(no_mangle)]
+pub extern "C" fn tsp_points(alloc: Global, file: &[u8], section: u32, out: &mut [i64]) -> u32
+    ensures { FillsPoints file.now section out.old out.new result }
+{
+    fill_points(alloc, file, section, out)
+}
+
+/// Fills in the cost from the first node of each pair to its second.
+#[unsafe(no_mangle)]
+pub extern "C" fn tsp_weights(alloc: Global, instance: &[u8], pairs: &[u32], out: &mut [i64]) -> u32
+    ensures { FillsWeights instance.now pairs.now out.old out.new result }
+{
+    fill_weights(alloc, instance, pairs, out)
+}
+
+/// Fills in as many whole rows of the matrix of costs as fit, from the row of a node on.
+#[unsafe(no_mangle)]
+pub extern "C" fn tsp_matrix(alloc: Global, instance: &[u8], first_row: u32, out: &mut [i64]) -> u32
+    ensures { FillsMatrix instance.now first_row out.old out.new result }
+{
+    fill_matrix(alloc, instance, first_row, out)
+}
+
+/// Fills in the lengths of lists of nodes, each of which a 0 ends.
+#[unsafe(no_mangle)]
+pub extern "C" fn tsp_lengths(alloc: Global, instance: &[u8], nodes: &[u32], out: &mut [i64]) -> u32
+    ensures { FillsLengths instance.now nodes.now out.old out.new result }
+{
+    fill_lengths(alloc, instance, nodes, out)
+}
+
+/// The distance of two points, whose coordinates are counts of 10^-9; -1 where there is none. The kinds are
+/// 1 EUC_2D, 2 CEIL_2D, 3 MAN_2D, 4 MAX_2D, 5 ATT, 6 EUC_3D, 7 MAN_3D, 8 MAX_3D.
+#[unsafe(no_mangle)]
+pub extern "C" fn tsp_distance(
+    kind: u32,
+    ax: i64,
+    ay: i64,
+    az: i64,
+    bx: i64,
+    by: i64,
+    bz: i64,
+) -> i64
+    ensures { let a : Point = record { x = ax; y = ay; z = az } in let b : Point = record { x = bx; y = by; z = bz } in
+        GivesDistance kind a b result }
+{
+    distance_of(kind, ax, ay, az, bx, by, bz)
+}
+
+/// The version of the library.
+#[unsafe(no_mangle)]
+pub extern "C" fn tsp_version() -> u32 {
+    VERSION
+}

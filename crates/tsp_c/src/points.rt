@@ -1,0 +1,83 @@
+//! The coordinates of the points of a section.
+
+ghost use Rattle.std.specs.Prelude.{◌≡◌, ◌≤◌, ◌*◌, length, option_map};
+ghost use Rattle.tsp_draft.specs.Coords.{points_of};
+ghost use Rattle.tsp_c.specs.Numbers.{EndsPoints, FillsPoints, IsFilled, IsSection, coordinate, point_number, section_points};
+
+use crate::fill::put;
+use crate::instance::status_of_read;
+use crate::status::{DONE, NO, REFUSED, TOO_SMALL};
+use std::alloc::Global;
+use tsp_distance::Point;
+use tsp_draft::Coords;
+use tsp_file::File;
+use tsp_read::read_bytes;
+
+/// Fills in the coordinates of the points of a section of a text; the status.
+pub(crate) fn fill_points(alloc: Global, text: &[u8], section: u32, out: &mut [i64]) -> u32
+    ensures { FillsPoints text.now section out.old out.new result }
+{
+    if section < 1 || section > 2 {
+        return REFUSED;
+    }
+    match read_bytes(alloc, text) {
+        Err(fault) => status_of_read(fault),
+        Ok(file) => {
+            let status = points_of_file(&file, section, out);
+            drop(file);
+            status
+        }
+    }
+}
+
+/// The same of a file.
+fn points_of_file(file: &File, section: u32, out: &mut [i64]) -> u32
+    requires { IsSection section }
+    ensures { EndsPoints (section_points section file.now) out.old out.new result }
+{
+    match section_of(file, section) {
+        None => NO,
+        Some(points) => {
+            if out.len() / 3 < points.len() {
+                return TOO_SMALL;
+            }
+            put_points(points, out);
+            DONE
+        }
+    }
+}
+
+/// The points of a section.
+fn section_of(file: &File, section: u32) -> Option<&Coords>
+    requires { IsSection section }
+    ensures { option_map (λ points. points_of points.now) result ≡ section_points section file.now }
+{
+    match section {
+        1 => file.coords(),
+        _ => file.display(),
+    }
+}
+
+/// Puts coordinates to the front of a buffer that has a place for each.
+fn put_points(points: &Coords, out: &mut [i64])
+    requires room { 3 * length (points_of points.now) ≤ length out.old }
+    ensures { IsFilled (3 * length (points_of points.now)) (point_number (points_of points.now)) out.old out.new }
+{
+    'places: for k in 0..3 * points.len() {
+        let Some(point) = points.get(k / 3) else {
+            unreachable!();
+        };
+        put(out, k, coordinate(point, k % 3));
+    }
+}
+
+/// A coordinate of a point: x, y or z by 0, 1 or 2.
+fn coordinate(point: Point, axis: usize) -> i64
+    ensures { result ≡ coordinate axis point }
+{
+    match axis {
+        0 => point.x.nanos(),
+        1 => point.y.nanos(),
+        _ => point.z.nanos(),
+    }
+}

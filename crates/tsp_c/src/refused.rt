@@ -1,0 +1,97 @@
+//! The runs that a number picks, and the numbers that are refused.
+
+ghost use Rattle.std.specs.Prelude.{◌≡◌, ◌≤◌};
+ghost use Rattle.tsp_format.specs.Words.{layouts};
+ghost use Rattle.tsp_c.specs.Ended.{nth};
+ghost use Rattle.tsp_c.specs.Texts.{BoundsBy, ChecksBy, ConvertsBy, certificates, claim_of};
+
+use crate::texts::{bounded, checked, converted};
+use std::alloc::Global;
+use tsp_judge::{Certificate, Layout};
+
+/// No run has the number.
+pub(crate) const REFUSED: u8 = 4;
+
+/// The check by 0 alone, by 1 with potentials, by 2 with branches, and with a claimed length where
+/// `has_claim` is 1; with its status.
+pub(crate) fn check_by(
+    alloc: Global,
+    instance: &[u8],
+    solution: &[u8],
+    certificate: &[u8],
+    by: u32,
+    claimed: i64,
+    has_claim: u32,
+) -> (u8, Vec<u8>)
+    ensures { ChecksBy by has_claim claimed instance.now solution.now certificate.now result.0 result.1.items }
+{
+    if by > 2 {
+        return (REFUSED, Vec::new(alloc));
+    }
+    if has_claim > 1 {
+        return (REFUSED, Vec::new(alloc));
+    }
+    let by = certificate_of(by);
+    let claim = claim_of(has_claim, claimed);
+    checked(alloc, instance, solution, by, certificate, claim)
+}
+
+/// The bound by 1 with potentials, by 2 with branches, with its status.
+pub(crate) fn bound_by(alloc: Global, instance: &[u8], certificate: &[u8], by: u32) -> (u8, Vec<u8>)
+    ensures { BoundsBy (nth by certificates) instance.now certificate.now result.0 result.1.items }
+{
+    match certificate_of(by) {
+        None => (REFUSED, Vec::new(alloc)),
+        Some(by) => bounded(alloc, by, instance, certificate),
+    }
+}
+
+/// The certificate with a number, or `None` where it has none.
+pub(crate) fn certificate_of(number: u32) -> Option<Certificate>
+    ensures { result ≡ nth number certificates }
+{
+    match number {
+        1 => Some(Certificate::Potentials),
+        2 => Some(Certificate::Branches),
+        _ => None,
+    }
+}
+
+/// The length that is claimed, where one is.
+pub(crate) fn claim_of(has_claim: u32, claimed: i64) -> Option<i64>
+    ensures { result ≡ claim_of has_claim claimed }
+{
+    match has_claim {
+        0 => None,
+        _ => Some(claimed),
+    }
+}
+
+/// A text written anew in the layout with this number, with its status.
+pub(crate) fn convert_by(alloc: Global, file: &[u8], number: u32) -> (u8, Vec<u8>)
+    ensures { ConvertsBy number file.now result.0 result.1.items }
+{
+    if number > 9 {
+        return (REFUSED, Vec::new(alloc));
+    }
+    converted(alloc, file, layout_of(number))
+}
+
+/// The layout with a number, or `None` for 0.
+pub(crate) fn layout_of(number: u32) -> Option<Layout>
+    requires { number ≤ 9 }
+    ensures { result ≡ nth number layouts }
+{
+    match number {
+        1 => Some(Layout::FullMatrix),
+        2 => Some(Layout::UpperRow),
+        3 => Some(Layout::LowerRow),
+        4 => Some(Layout::UpperDiagRow),
+        5 => Some(Layout::LowerDiagRow),
+        6 => Some(Layout::UpperCol),
+        7 => Some(Layout::LowerCol),
+        8 => Some(Layout::UpperDiagCol),
+        9 => Some(Layout::LowerDiagCol),
+        _ => None,
+    }
+}

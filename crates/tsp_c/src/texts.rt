@@ -1,0 +1,116 @@
+//! The runs on texts in memory.
+
+ghost use Rattle.std.specs.Prelude.{◌≡◌};
+ghost use Rattle.tsp_judge.specs.Run.{is_yes, told};
+ghost use Rattle.tsp_c.specs.Ended.{done, has_bound};
+ghost use Rattle.tsp_c.specs.Texts.{BoundsTexts, ChecksTexts, ConvertsText, ShowsText, given_text};
+
+use crate::ended::ended;
+use std::alloc::Global;
+use tsp_judge::{
+    Bounded, Certificate, Judged, Layout, RunFault, Verdict, Watched, run, run_bound, run_convert,
+    run_show,
+};
+
+/// What is shown of a text, with its status.
+pub(crate) fn shown(alloc: Global, file: &[u8]) -> (u8, Vec<u8>)
+    ensures { ShowsText file.now result.0 result.1.items }
+{
+    let mut reader = Watched::new(file);
+    let mut report = Watched::new(Vec::new(alloc));
+    let answer = done(run_show(alloc, &mut reader, &mut report));
+    ended(answer, report)
+}
+
+/// A text written anew, with its status.
+pub(crate) fn converted(alloc: Global, file: &[u8], to: Option<Layout>) -> (u8, Vec<u8>)
+    ensures { ConvertsText to file.now result.0 result.1.items }
+{
+    let mut reader = Watched::new(file);
+    let mut report = Watched::new(Vec::new(alloc));
+    let answer = done(run_convert(alloc, &mut reader, to, &mut report));
+    ended(answer, report)
+}
+
+/// The check of two texts, with the certificate that a third one is, where one is asked for, and with
+/// the length that is claimed, where one is; with its status.
+pub(crate) fn checked(
+    alloc: Global,
+    instance: &[u8],
+    solution: &[u8],
+    by: Option<Certificate>,
+    certificate: &[u8],
+    claimed: Option<i64>,
+) -> (u8, Vec<u8>)
+    ensures { ChecksTexts (given_text by certificate.now) claimed instance.now solution.now result.0 result.1.items }
+{
+    let mut first = Watched::new(instance);
+    let mut second = Watched::new(solution);
+    let mut third = Watched::new(certificate);
+    let mut report = Watched::new(Vec::new(alloc));
+    let judged = run(
+        alloc,
+        &mut first,
+        &mut second,
+        by,
+        &mut third,
+        claimed,
+        &mut report,
+    );
+    ended(told(judged), report)
+}
+
+/// The bound of the tours of the instance that a text is, by the certificate that another one is; with
+/// its status.
+pub(crate) fn bounded(
+    alloc: Global,
+    by: Certificate,
+    instance: &[u8],
+    certificate: &[u8],
+) -> (u8, Vec<u8>)
+    ensures { BoundsTexts by instance.now certificate.now result.0 result.1.items }
+{
+    let mut first = Watched::new(instance);
+    let mut second = Watched::new(certificate);
+    let mut report = Watched::new(Vec::new(alloc));
+    let found = run_bound(alloc, &mut first, by, &mut second, &mut report);
+    ended(has_bound(found), report)
+}
+
+/// What is done is no no.
+fn done(ended: Result<(), RunFault>) -> Result<bool, RunFault>
+    ensures { result ≡ done ended }
+{
+    ended?;
+    Ok(true)
+}
+
+/// Whether the solution is accepted, where there is a verdict.
+fn told(ended: Result<Judged, RunFault>) -> Result<bool, RunFault>
+    ensures { result ≡ told ended }
+{
+    let judged = ended?;
+    let answer = is_yes(judged.verdict);
+    drop(judged);
+    Ok(answer)
+}
+
+/// Whether the solution is accepted.
+fn is_yes(verdict: Verdict) -> bool
+    ensures { result ≡ is_yes verdict }
+{
+    match verdict {
+        Verdict::Tour { .. } | Verdict::Routes { .. } => true,
+        Verdict::No(_) => false,
+    }
+}
+
+/// Whether there is no reason against the files, where they were read.
+fn has_bound(ended: Result<Bounded, RunFault>) -> Result<bool, RunFault>
+    ensures { result ≡ has_bound ended }
+{
+    let bounded = ended?;
+    let answer = bounded.found.is_ok();
+    drop(bounded);
+    Ok(answer)
+}

@@ -1,0 +1,110 @@
+//! Costs of pairs of nodes, and rows of the matrix.
+
+ghost use Rattle.std.specs.Prelude.{◌+◌, ◌≤◌, ◌*◌, ◌↔◌, IsTrue, length};
+ghost use Rattle.std.specs.List.{All};
+ghost use Rattle.tsp_format.specs.Cells.{IsNode};
+ghost use Rattle.tsp_c.specs.Numbers.{ArePairs, EndsWeights, EndsMatrix, FillsWeights, FillsMatrix, IsFilled, node_count, pair_count, pair_cost, row_cost};
+
+use crate::fill::put;
+use crate::instance::instance_of;
+use crate::status::{DONE, REFUSED, TOO_SMALL};
+use std::alloc::Global;
+use tsp_cost::{Costs, Instance};
+
+/// Fills in the costs of pairs of nodes of the instance of a text; the status.
+pub(crate) fn fill_weights(alloc: Global, text: &[u8], pairs: &[u32], out: &mut [i64]) -> u32
+    ensures { FillsWeights text.now pairs.now out.old out.new result }
+{
+    match instance_of(alloc, text) {
+        Err(status) => status,
+        Ok(instance) => {
+            let status = weights_of(&instance, pairs, out);
+            drop(instance);
+            status
+        }
+    }
+}
+
+/// The same of an instance.
+fn weights_of(instance: &Instance, pairs: &[u32], out: &mut [i64]) -> u32
+    ensures { EndsWeights instance.now pairs.now out.old out.new result }
+{
+    if !are_pairs(instance.count(), pairs) {
+        return REFUSED;
+    }
+    if out.len() < pairs.len() / 2 {
+        return TOO_SMALL;
+    }
+    put_weights(instance, pairs, out);
+    DONE
+}
+
+/// Whether numbers are pairs of nodes up to `count`.
+fn are_pairs(count: u32, pairs: &[u32]) -> bool
+    ensures { IsTrue result ↔ ArePairs pairs.now count }
+{
+    pairs.len() == 2 * (pairs.len() / 2) && are_nodes(count, pairs)
+}
+
+/// Whether numbers are nodes up to `count`.
+fn are_nodes(count: u32, nodes: &[u32]) -> bool
+    ensures { IsTrue result ↔ All (IsNode count) nodes.now }
+{
+    nodes.iter().all(|node| *node >= 1 && *node <= count)
+}
+
+/// Puts the costs of pairs to the front of a buffer that has a place for each.
+fn put_weights(instance: &Instance, pairs: &[u32], out: &mut [i64])
+    requires pairs { ArePairs pairs.now (node_count instance.now) }
+    requires room { pair_count pairs.now ≤ length out.old }
+    ensures { IsFilled (pair_count pairs.now) (pair_cost pairs.now instance.now) out.old out.new }
+{
+    'pairs: for k in 0..pairs.len() / 2 {
+        put(out, k, instance.cost(pairs[2 * k], pairs[2 * k + 1]));
+    }
+}
+
+/// Fills in rows of the matrix of the instance of a text; the status.
+pub(crate) fn fill_matrix(alloc: Global, text: &[u8], first_row: u32, out: &mut [i64]) -> u32
+    ensures { FillsMatrix text.now first_row out.old out.new result }
+{
+    match instance_of(alloc, text) {
+        Err(status) => status,
+        Ok(instance) => {
+            let status = rows_of(&instance, first_row, out);
+            drop(instance);
+            status
+        }
+    }
+}
+
+/// The same of an instance.
+fn rows_of(instance: &Instance, first_row: u32, out: &mut [i64]) -> u32
+    ensures { EndsMatrix instance.now first_row out.old out.new result }
+{
+    let count = instance.count();
+    if first_row < 1 || first_row > count {
+        return REFUSED;
+    }
+    if out.len() < count as usize {
+        return TOO_SMALL;
+    }
+    let rows = (out.len() / count as usize).min((count + 1 - first_row) as usize);
+    put_rows(instance, first_row, rows, out);
+    DONE
+}
+
+/// Puts rows of costs to the front of a buffer that has a place for each.
+fn put_rows(instance: &Instance, first_row: u32, rows: usize, out: &mut [i64])
+    requires first { 1 ≤ first_row }
+    requires last { first_row + rows ≤ node_count instance.now + 1 }
+    requires room { rows * node_count instance.now ≤ length out.old }
+    ensures { IsFilled (rows * node_count instance.now) (row_cost first_row instance.now) out.old out.new }
+{
+    let count = instance.count() as usize;
+    'places: for k in 0..rows * count {
+        let from = first_row as usize + k / count;
+        let to = k % count + 1;
+        put(out, k, instance.cost(from as u32, to as u32));
+    }
+}

@@ -1,0 +1,166 @@
+//! Why a solution is judged so, or why tours have no bound, from the files that were judged.
+
+ghost use Rattle.std.specs.Io.{StartsWith};
+
+use crate::claims::push_claim;
+use crate::refusal::{explain_reason, push_details};
+use crate::role::{Role, blamed};
+use crate::text::{append, end, push, push_lines};
+use std::alloc::{AllocError, Global};
+use tsp_cost::Instance;
+use tsp_file::File;
+use tsp_reason::{Reason, Verdict};
+
+/// What a user calls the files of a check, or of a bound.
+#[derive(Clone, Copy)]
+pub struct Names<'a> {
+    pub instance: &'a str,
+    pub solution: &'a str,
+    pub certificate: &'a str,
+}
+
+/// What the first file of a check is.
+const KINDS: &str =
+    "The first file of a check is of TYPE TSP, ATSP or CVRP, with --potentials or --branches of TYPE TSP or ATSP.\n\
+    The second file is the solution, of TYPE TOUR.";
+
+/// What the first file of a bound is.
+const BOUND_KINDS: &str =
+    "The first file of a bound is of TYPE TSP or ATSP. The certificate is the file of the option.";
+
+/// What it means that a certificate gives no bound.
+const NO_TOUR: &str =
+    "The instance has no tour: at each leaf of the tree its decisions and the fixed arcs leave some node no arc.";
+
+/// Appends what explains a no, and of a yes whether a comment of the solution claims another length.
+///
+/// # Errors
+///
+/// Out of memory; part of the explanation may be appended then.
+pub fn explain_verdict(
+    alloc: Global,
+    text: &mut Vec<u8>,
+    names: Names<'_>,
+    verdict: Verdict,
+    instance: &Instance,
+    solution: &File,
+    certificate: Option<&File>,
+) -> Result<(), AllocError>
+    ensures { StartsWith text.new.items text.old.items }
+{
+    let mut told = Vec::new(alloc);
+    let answer = match length_of(verdict) {
+        Ok(length) => push_claim(
+            alloc,
+            &mut told,
+            names.solution,
+            solution.comments(),
+            length,
+        ),
+        Err(reason) => {
+            let solution = Some(solution);
+            push_no(
+                alloc,
+                &mut told,
+                names,
+                reason,
+                instance,
+                solution,
+                certificate,
+            )
+        }
+    };
+    append(text, told, answer)
+}
+
+/// The length of a solution that is accepted, or the reason against it.
+fn length_of(verdict: Verdict) -> Result<i64, Reason> {
+    match verdict {
+        Verdict::Tour { length, bound: _ } => Ok(length),
+        Verdict::Routes {
+            length,
+            routes: _,
+            least: _,
+        } => Ok(length),
+        Verdict::No(reason) => Err(reason),
+    }
+}
+
+/// Appends what explains that there is no bound: the reason, or that the instance has no tour.
+///
+/// # Errors
+///
+/// Out of memory; part of the explanation may be appended then.
+pub fn explain_bound(
+    alloc: Global,
+    text: &mut Vec<u8>,
+    names: Names<'_>,
+    found: Result<Option<i128>, Reason>,
+    instance: &Instance,
+    certificate: &File,
+) -> Result<(), AllocError>
+    ensures { StartsWith text.new.items text.old.items }
+{
+    let mut told = Vec::new(alloc);
+    let answer = match found {
+        Ok(Some(_)) => Ok(()),
+        Ok(None) => push_lines(&mut told, NO_TOUR),
+        Err(reason) => push_no(
+            alloc,
+            &mut told,
+            names,
+            reason,
+            instance,
+            None,
+            Some(certificate),
+        ),
+    };
+    append(text, told, answer)
+}
+
+/// Appends what explains that files aren't judged, or don't bound tours, for the TYPE of the first one.
+/// `name` is what the user calls that file.
+///
+/// # Errors
+///
+/// Out of memory; part of the explanation may be appended then.
+pub fn explain_wrong_kind(
+    alloc: Global,
+    text: &mut Vec<u8>,
+    name: &str,
+    is_bound: bool,
+) -> Result<(), AllocError>
+    ensures { StartsWith text.new.items text.old.items }
+{
+    let mut told = Vec::new(alloc);
+    let kinds = if is_bound { BOUND_KINDS } else { KINDS };
+    let answer = push_wrong_kind(&mut told, name, kinds);
+    append(text, told, answer)
+}
+
+/// Appends that a file is of the wrong kind, and what the files are.
+fn push_wrong_kind(text: &mut Vec<u8>, name: &str, kinds: &str) -> Result<(), AllocError> {
+    push(text, name)?;
+    push(text, ": wrong kind")?;
+    end(text)?;
+    push_lines(text, kinds)
+}
+
+/// Appends the reason of a no, and what the files show of it.
+fn push_no(
+    alloc: Global,
+    text: &mut Vec<u8>,
+    names: Names<'_>,
+    reason: Reason,
+    instance: &Instance,
+    solution: Option<&File>,
+    certificate: Option<&File>,
+) -> Result<(), AllocError> {
+    let name = match blamed(reason) {
+        Role::Instance => names.instance,
+        Role::Solution => names.solution,
+        Role::Potentials | Role::Branches => names.certificate,
+    };
+    explain_reason(alloc, text, name, reason)?;
+    push_details(alloc, text, reason, instance, solution, certificate)
+}
