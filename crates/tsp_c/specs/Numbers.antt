@@ -38,8 +38,8 @@ SaysFault found status = (text : List ℕ) → Reads text (Err found) → ((stat
 abbrev pub IsInstanceText : List ℕ → Fields → Type 0
 IsInstanceText text instance = Spells text instance × IsTrue (is_instance instance.kind)
 
-abbrev pub node_count : Fields → ℕ
-node_count instance = unwrap_or instance.dimension 0
+abbrev pub instance_size : Fields → ℕ
+instance_size instance = unwrap_or instance.dimension 0
 
 -- the instance of a text; or the status 2, of a text that is none, or 3, out of memory
 abbrev pub FindsInstance : List ℕ → Result Fields ℕ → Type 0
@@ -79,7 +79,7 @@ pair_cost pairs instance k = cost instance (slice_index_or pairs (2 * k) 0) (sli
 
 abbrev pub EndsWeights : Fields → List ℕ → List ℤ → List ℤ → ℕ → Type 0
 EndsWeights instance pairs old new status =
-    EndsBuffer (ArePairs pairs (node_count instance)) (pair_count pairs) (pair_count pairs) (pair_cost pairs instance) old new status
+    EndsBuffer (ArePairs pairs (instance_size instance)) (pair_count pairs) (pair_count pairs) (pair_cost pairs instance) old new status
 
 abbrev pub FillsWeights : List ℕ → List ℕ → List ℤ → List ℤ → ℕ → Type 0
 FillsWeights text pairs old new status = OfInstance text (λ instance. EndsWeights instance pairs old new status) old new status
@@ -92,11 +92,11 @@ row_count places nodes first = min (places / nodes) (nodes + 1 - first)
 
 -- the cost from a node of these rows to each, row by row
 abbrev pub row_cost : ℕ → Fields → ℕ → ℤ
-row_cost first instance k = cost instance (first + k / node_count instance) (k % node_count instance + 1)
+row_cost first instance k = cost instance (first + k / instance_size instance) (k % instance_size instance + 1)
 
 abbrev pub EndsMatrix : Fields → ℕ → List ℤ → List ℤ → ℕ → Type 0
-EndsMatrix instance first old new status = EndsBuffer (IsNode (node_count instance) first) (node_count instance)
-    (row_count (length old) (node_count instance) first * node_count instance) (row_cost first instance) old new status
+EndsMatrix instance first old new status = EndsBuffer (IsNode (instance_size instance) first) (instance_size instance)
+    (row_count (length old) (instance_size instance) first * instance_size instance) (row_cost first instance) old new status
 
 abbrev pub FillsMatrix : List ℕ → ℕ → List ℤ → List ℤ → ℕ → Type 0
 FillsMatrix text first old new status = OfInstance text (λ instance. EndsMatrix instance first old new status) old new status
@@ -126,7 +126,7 @@ list_length nodes instance k = length_of (cost instance) (slice_index_or (lists_
 
 abbrev pub EndsLengths : Fields → List ℕ → List ℤ → List ℤ → ℕ → Type 0
 EndsLengths instance nodes old new status =
-    EndsBuffer (AreLists nodes (node_count instance)) (list_count nodes) (list_count nodes) (list_length nodes instance) old new status
+    EndsBuffer (AreLists nodes (instance_size instance)) (list_count nodes) (list_count nodes) (list_length nodes instance) old new status
 
 abbrev pub FillsLengths : List ℕ → List ℕ → List ℤ → List ℤ → ℕ → Type 0
 FillsLengths text nodes old new status = OfInstance text (λ instance. EndsLengths instance nodes old new status) old new status
