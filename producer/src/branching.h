@@ -1,8 +1,7 @@
 // Strong branching: candidates are tried by few dual iterations, and the best of them by more.
 // Source: D. Applegate, R. Bixby, V. Chvatal and W. Cook, The Traveling Salesman Problem (2006).
 #pragma once
-#include <array>
-#include <unordered_map>
+#include <map>
 
 #include "relaxation.h"
 
@@ -13,10 +12,21 @@ class Branching {
   Pair choose(Relaxation& relaxation, double target);
 
  private:
-  using Scored = std::vector<std::pair<double, int>>;  // the best score first
-  std::vector<int> candidates(const Relaxation& relaxation, double target) const;
-  Scored score(Relaxation& relaxation, const std::vector<int>& columns, int iterations, double gap) const;
+  struct Candidate {
+    int column;
+    int first;     // the value that is tried first
+    double score;  // where not all was tried, no less than it would be
+  };
+  // How a score is reckoned.
+  struct Trial {
+    int iterations;
+    double gap;
+    std::size_t wanted;  // as many of the best have a score that is exact
+  };
+  std::vector<Candidate> candidates(const Relaxation& relaxation, double target) const;
+  static void score(Relaxation& relaxation, std::vector<Candidate>& candidates, const Trial& trial);
 
   const Matrix& weights_;
-  std::unordered_map<int, double> history_;  // the score of a column when it was tried last
+  double widest_gap_ = 0;
+  std::map<Pair, double> history_;  // the score of a pair when it was tried last
 };
