@@ -6,8 +6,19 @@
 namespace {
 constexpr std::size_t kCandidates = 12, kFinalists = 4;
 constexpr int kFewIterations = 25, kManyIterations = 300;
+constexpr int kFreshChoices = 30;
 constexpr double kLeastPart = 1e-4, kMostPart = 1.2;  // of the gap, that a branch gains
 }  // namespace
+
+// A candidate with what it gained a short time ago.
+Branching::Candidate Branching::candidate_of(const Relaxation& relaxation, int column) const {
+  Candidate candidate{column};
+  const auto found = history_.find(relaxation.edge(column));
+  if (found != history_.end() && choices_ - found->second.when <= kFreshChoices) {
+    candidate.gains = found->second.gains;
+  }
+  return candidate;
+}
 
 // Columns near a half and with long edges, and some that were good before.
 std::vector<Branching::Candidate> Branching::candidates(const Relaxation& relaxation, double target) const {
@@ -25,14 +36,14 @@ std::vector<Branching::Candidate> Branching::candidates(const Relaxation& relaxa
   for (const auto& [score, column] : sorted) {
     const auto found = history_.find(relaxation.edge(column));
     if (candidates.size() < kCandidates) {
-      candidates.push_back({column, 0, 0});
+      candidates.push_back(candidate_of(relaxation, column));
     } else if (found != history_.end()) {
-      known.emplace_back(-found->second, column);
+      known.emplace_back(-found->second.score, column);
     }
   }
   std::sort(known.begin(), known.end());
   for (std::size_t k = 0; k < std::min(known.size(), kCandidates / 2); k++) {
-    candidates.push_back({known[k].second, 0, 0});
+    candidates.push_back(candidate_of(relaxation, known[k].second));
   }
   return candidates;
 }
@@ -44,7 +55,9 @@ void Branching::score(Relaxation& relaxation, std::vector<Candidate>& candidates
   std::vector<double> best;
   for (Candidate& candidate : candidates) {
     const auto part = [&](int value) {
-      return std::clamp(probe.gain(candidate.column, value) / trial.gap, kLeastPart, kMostPart);
+      double& gain = candidate.gains[value];
+      if (gain == kUntried) gain = probe.gain(candidate.column, value);
+      return std::clamp(gain / trial.gap, kLeastPart, kMostPart);
     };
     const double first = part(candidate.first);
     candidate.score = first * kMostPart;
@@ -65,13 +78,17 @@ Pair Branching::choose(Relaxation& relaxation, double target) {
   relaxation.purge(0);
   relaxation.solve();
   const double gap = std::max(target - relaxation.value(), 1e-6);
-  widest_gap_ = std::max(widest_gap_, gap);
-  relaxation.drop_edges(widest_gap_);
+  relaxation.drop_edges();
+  choices_++;
   std::vector<Candidate> tried = candidates(relaxation, target);
   score(relaxation, tried, {kFewIterations, gap, kFinalists});
-  for (const Candidate& candidate : tried) history_[relaxation.edge(candidate.column)] = candidate.score;
+  for (const Candidate& candidate : tried) {
+    const auto found = history_.emplace(relaxation.edge(candidate.column), Known{}).first;
+    if (found->second.gains != candidate.gains) found->second = {candidate.gains, candidate.score, choices_};
+  }
   tried.resize(std::min(tried.size(), kFinalists));
   if (tried.empty()) return {-1, -1};
+  for (Candidate& candidate : tried) candidate.gains = {kUntried, kUntried};
   score(relaxation, tried, {kManyIterations, gap, 1});
   return relaxation.edge(tried[0].column);
 }

@@ -21,7 +21,8 @@ Relaxation::Relaxation(const Matrix& weights, const CutPool& pool, const Tour& t
     }
   }
   const double above = static_cast<double>(length_of(weights, tour)) - static_cast<double>(least_) * nodes_;
-  unit_ = std::max(1.0, above / nodes_ / 1000);
+  average_ = above / nodes_;
+  unit_ = std::max(1.0, average_ / 1000);
   penalty_ = (20 * above + 4 * static_cast<double>(most - least_) + 1) / unit_;
   present_.assign(static_cast<std::size_t>(nodes_) * nodes_, 0);
   begin();
@@ -180,7 +181,7 @@ void Relaxation::drop_rows(const std::vector<char>& dropped) {
   for (std::size_t row = 0; row < cuts_.size(); row++) row_of_[cuts_[row]] = static_cast<int>(row);
 }
 
-void Relaxation::drop_edges(double reduced_cost) {
+void Relaxation::drop_edges() {
   const double* costs = program_.getReducedCost();
   std::vector<int> places;
   std::vector<Pair> edges;
@@ -189,7 +190,7 @@ void Relaxation::drop_edges(double reduced_cost) {
     const int place = column + kElastic;
     const bool free = program_.getColLower()[place] < 0.5 && program_.getColUpper()[place] > 0.5;
     const bool zero = program_.getColumnStatus(place) != ClpSimplex::basic && solution_[column] < 1e-9;
-    if (free && zero && costs[place] * unit_ > reduced_cost) {
+    if (free && zero && costs[place] * unit_ > average_ / 2) {
       places.push_back(place);
       present_[static_cast<std::size_t>(edges_[column].first) * nodes_ + edges_[column].second] = 0;
     } else {
@@ -209,6 +210,8 @@ void Relaxation::drop_edges(double reduced_cost) {
 Basis Relaxation::basis() const {
   Basis basis;
   basis.cuts = cuts_;
+  basis.rows.reserve(program_.numberRows());
+  basis.elastic.reserve(kElastic);
   for (int row = 0; row < program_.numberRows(); row++) basis.rows.push_back(program_.getRowStatus(row));
   for (int k = 0; k < kElastic; k++) basis.elastic.push_back(program_.getColumnStatus(k));
   for (int column = 0; column < columns(); column++) {

@@ -31,9 +31,9 @@ class Relaxation {
   void release(const Pair& pair);
   // Drops the slack rows that were slack in more solutions than this in a row.
   void purge(int age);
-  // Drops edges at 0 with a larger reduced cost, in the weights' own unit. Pricing brings back those that
-  // are needed.
-  void drop_edges(double reduced_cost);
+  // Drops edges at 0 whose reduced cost is more than half an average edge. Pricing brings back those that are
+  // needed.
+  void drop_edges();
   void solve();
   Basis basis() const;
   // Takes the cuts and the basis. No pair may be decided.
@@ -90,7 +90,7 @@ class Relaxation {
   const CutPool& pool_;
   int nodes_;
   Weight least_ = 0;
-  double unit_ = 1, penalty_ = 1;
+  double unit_ = 1, penalty_ = 1, average_ = 1;  // average_: of an edge of the tour
   ClpSimplex program_;
   std::vector<Pair> edges_;
   std::vector<std::vector<Place>> adjacent_;

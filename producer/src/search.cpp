@@ -105,6 +105,7 @@ bool Search::tighten(Numbers& numbers) {
   for (int round = 1;; round++) {
     relaxation_.solve();
     offer_tour();
+    if (root() && round % 6 == 0) relaxation_.drop_edges();
     show();
     values.push_back(relaxation_.value());
     if (made_.reach(relaxation_, decisions_, target_, numbers)) return true;
@@ -120,6 +121,7 @@ bool Search::tighten(Numbers& numbers) {
 
 std::vector<Decision> Search::decisions_of(int place) const {
   std::vector<Decision> decisions;
+  decisions.reserve(instance_.fixed.size());
   for (const Pair& pair : instance_.fixed) decisions.push_back({pair, true});
   const std::size_t fixed = decisions.size();
   for (int k = place; cases_[k].parent >= 0; k = cases_[k].parent) decisions.push_back(cases_[k].decision);
