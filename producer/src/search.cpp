@@ -9,6 +9,7 @@ namespace {
 constexpr Weight kLongLength = 2000000;
 constexpr Weight kFineScale = 2520, kCoarseScale = 840;
 constexpr Weight kMostScaledWeight = 20000000000000;  // so that potentials stay within their limit
+constexpr double kDepthFirst = 0.5;                   // of the time
 constexpr int kRootClimbs = 400, kNodeClimbs = 100, kLevels = 2;
 }  // namespace
 
@@ -219,6 +220,18 @@ void Search::list_steps() {
   }
 }
 
+// The newest case for half of the time, since the pool has cuts from near it. Then that with the least bound,
+// so that the bound grows until the time is over.
+int Search::next_case() {
+  auto next = open_.begin();
+  if (!clock_.over(kDepthFirst)) {
+    next = std::min_element(open_.begin(), open_.end(), [](auto& a, auto& b) { return a.second < b.second; });
+  }
+  const int place = -next->second;
+  open_.erase(next);
+  return place;
+}
+
 void Search::run() {
   relaxation_.solve();
   while (!clock_.over() && separation_.add_subtours()) {
@@ -227,11 +240,7 @@ void Search::run() {
   }
   cases_.emplace_back();
   visit(0);
-  while (!open_.empty() && !clock_.over()) {
-    const int place = -open_.begin()->second;
-    open_.erase(open_.begin());
-    visit(place);
-  }
+  while (!open_.empty() && !clock_.over()) visit(next_case());
   list_steps();
   progress_.clear();
 }

@@ -1,6 +1,5 @@
-// Branch and cut: cuts and branches until each leaf reaches the target, or the time is over. The open case
-// with the least bound is next, so that the bound grows as long as there is time. A case that is left open
-// keeps the best numbers above it.
+// Branch and cut: cuts and branches until each leaf reaches the target, or the time is over. A case that is
+// left open keeps the best numbers above it.
 // Source: M. Padberg and G. Rinaldi, A branch-and-cut algorithm for the resolution of large-scale
 // symmetric traveling salesman problems, SIAM Review 33 (1991).
 #pragma once
@@ -62,6 +61,7 @@ class Search {
   void visit(int place);
   void improve(Case& here);
   void branch(int place, const Pair& pair);
+  int next_case();
   void list_steps();
   void add_leaf(const Case& leaf, const std::vector<Decision>& decisions);
   void offer_tour();
