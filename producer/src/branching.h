@@ -1,8 +1,8 @@
-// Strong branching: candidates are tried by few dual iterations, and the best of them by more.
+// Strong branching: candidates are tried by few dual iterations, and the best of them by more. What a pair
+// gained when it was tried a short time ago isn't tried again.
 // Source: D. Applegate, R. Bixby, V. Chvatal and W. Cook, The Traveling Salesman Problem (2006).
 #pragma once
-#include <array>
-#include <unordered_map>
+#include <map>
 
 #include "relaxation.h"
 
@@ -13,10 +13,29 @@ class Branching {
   Pair choose(Relaxation& relaxation, double target);
 
  private:
-  using Scored = std::vector<std::pair<double, int>>;  // the best score first
-  std::vector<int> candidates(const Relaxation& relaxation, double target) const;
-  Scored score(Relaxation& relaxation, const std::vector<int>& columns, int iterations, double gap) const;
+  static constexpr double kUntried = -1;
+  struct Candidate {
+    int column;
+    std::array<double, 2> gains{kUntried, kUntried};  // of the values 0 and 1
+    int first = 0;                                    // the value that is tried first
+    double score = 0;                                 // where not all was tried, no less than it would be
+  };
+  // How a score is reckoned.
+  struct Trial {
+    int iterations;
+    double gap;
+    std::size_t wanted;  // as many of the best have a score that is exact
+  };
+  struct Known {
+    std::array<double, 2> gains;
+    double score;
+    int when;  // the number of the choice
+  };
+  std::vector<Candidate> candidates(const Relaxation& relaxation, double target) const;
+  Candidate candidate_of(const Relaxation& relaxation, int column) const;
+  static void score(Relaxation& relaxation, std::vector<Candidate>& candidates, const Trial& trial);
 
   const Matrix& weights_;
-  std::unordered_map<int, double> history_;  // the score of a column when it was tried last
+  int choices_ = 0;
+  std::map<Pair, Known> history_;
 };

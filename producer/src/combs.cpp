@@ -63,74 +63,80 @@ CombSearch::CombSearch(const Graph& graph, const CutPool& pool, const Runs& runs
 }
 
 // The violation of the best comb with this handle and runs as teeth, which is kept where it is enough.
-double CombSearch::with_runs() {
+double CombSearch::with_runs(double enough) {
   const int size = static_cast<int>(handle_.nodes().size());
   if (size < 2 || size > count_ - 3) return kNoComb;
-  const auto known = seen_.find(handle_.hash());
-  if (known != seen_.end()) return known->second;
-  const double violation = best_runs();
-  seen_[handle_.hash()] = violation;
+  if (const double* known = seen_.find(handle_.hash())) return *known;
+  const double violation = best_runs(enough);
+  seen_.put(handle_.hash(), violation);
   return violation;
 }
 
-// The runs over the handle's ends along the tour. False where no choice of them can do.
-bool CombSearch::list_intervals(double& most) {
-  std::vector<int> ends;
-  most = 1 - handle_.crossings();
+// Lists the places where the tour goes into the handle or out of it. Returns a violation that none is above.
+double CombSearch::list_ends() {
+  ends_.clear();
+  double most = 1 - handle_.crossings();
   for (const int v : handle_.nodes()) {
     const int after = runs_.place[v], before = after == 0 ? count_ - 1 : after - 1;
     const int next = after + 1 == count_ ? 0 : after + 1;
-    if (!handle_.has(runs_.tour[next])) ends.push_back(after), most += runs_.best_gain(after);
-    if (!handle_.has(runs_.tour[before])) ends.push_back(before), most += runs_.best_gain(before);
+    if (!handle_.has(runs_.tour[next])) ends_.push_back(after), most += runs_.best_gain(after);
+    if (!handle_.has(runs_.tour[before])) ends_.push_back(before), most += runs_.best_gain(before);
   }
-  if (most < -1) return false;
-  std::sort(ends.begin(), ends.end());
+  return most;
+}
+
+// The runs over the handle's ends.
+void CombSearch::list_intervals() {
+  std::sort(ends_.begin(), ends_.end());
   int widest = -1, base = 0;  // the places count from the middle of the widest gap
-  for (std::size_t k = 0; k < ends.size(); k++) {
-    const int gap = k + 1 < ends.size() ? ends[k + 1] - ends[k] : ends[0] + count_ - ends[k];
-    if (gap > widest) widest = gap, base = (ends[k] + gap / 2 + 1) % count_;
+  for (std::size_t k = 0; k < ends_.size(); k++) {
+    const int gap = k + 1 < ends_.size() ? ends_[k + 1] - ends_[k] : ends_[0] + count_ - ends_[k];
+    if (gap > widest) widest = gap, base = (ends_[k] + gap / 2 + 1) % count_;
   }
   intervals_.clear();
-  for (const int end : ends) {
+  for (const int end : ends_) {
     for (const Run& run : runs_.over(end)) {
-      const int left = (run.left - base + count_) % count_, right = (run.right - base + count_) % count_;
-      if (left < right) intervals_.push_back({left, right, run.gain - 1e-6 * (right - left), run});
+      const int left = run.left < base ? run.left - base + count_ : run.left - base;
+      const int right = run.right < base ? run.right - base + count_ : run.right - base;
+      if (left < right) intervals_.push_back({left, right, run.gain - 1e-6 * (right - left), &run});
     }
   }
   std::sort(intervals_.begin(), intervals_.end(),
             [](const Interval& a, const Interval& b) { return a.right < b.right; });
-  return !intervals_.empty();
 }
 
 // The best odd number of disjoint intervals.
-double CombSearch::best_runs() {
-  double most = 0;
-  if (!list_intervals(most)) return most;
-  const int count = static_cast<int>(intervals_.size());
-  std::vector<std::array<double, 2>> best(count + 1, {0, -99});  // of the first ones, by parity
-  std::vector<std::array<char, 2>> taken(count + 1, {0, 0});
-  std::vector<int> before(count + 1, 0);
-  for (int k = 1; k <= count; k++) {
+double CombSearch::best_runs(double enough) {
+  const double most = list_ends();
+  if (most < -1 || most <= std::min(enough, least_)) return most;
+  list_intervals();
+  if (intervals_.empty()) return most;
+  const std::size_t count = intervals_.size();
+  choices_.resize(count + 1);
+  choices_[0] = {{0, -99}, {false, false}, 0};
+  for (std::size_t k = 1; k <= count; k++) {
     const Interval& interval = intervals_[k - 1];
-    const auto earlier = std::lower_bound(intervals_.begin(), intervals_.begin() + k - 1, interval.left,
-                                          [](const Interval& a, int left) { return a.right < left; });
-    before[k] = static_cast<int>(earlier - intervals_.begin());
+    const auto earlier =
+        std::lower_bound(intervals_.begin(), intervals_.begin() + static_cast<std::ptrdiff_t>(k) - 1,
+                         interval.left, [](const Interval& a, int left) { return a.right < left; });
+    Choice& choice = choices_[k];
+    choice.before = static_cast<int>(earlier - intervals_.begin());
     for (int parity = 0; parity < 2; parity++) {
-      const double with = best[before[k]][1 - parity] + interval.gain;
-      taken[k][parity] = with > best[k - 1][parity] ? 1 : 0;
-      best[k][parity] = std::max(with, best[k - 1][parity]);
+      const double with = choices_[choice.before].best[1 - parity] + interval.gain;
+      choice.taken[parity] = with > choices_[k - 1].best[parity];
+      choice.best[parity] = std::max(with, choices_[k - 1].best[parity]);
     }
   }
-  const double violation = best[count][1] + 1 - handle_.crossings();
+  const double violation = choices_[count].best[1] + 1 - handle_.crossings();
   if (violation <= least_) return violation;
   std::vector<int> chosen;
-  for (int k = count, parity = 1; k > 0;) {
-    if (!taken[k][parity]) {
+  for (int k = static_cast<int>(count), parity = 1; k > 0;) {
+    if (!choices_[k].taken[parity]) {
       k--;
       continue;
     }
     chosen.push_back(k - 1);
-    k = before[k];
+    k = choices_[k].before;
     parity = 1 - parity;
   }
   if (chosen.size() < 3) return std::min(violation, 0.0);
@@ -140,7 +146,7 @@ double CombSearch::best_runs() {
 
 void CombSearch::keep(double violation, const std::vector<int>& chosen) {
   FoundComb comb{violation, {handle_.nodes()}};
-  for (const int k : chosen) comb.sets.push_back(runs_.nodes_of(intervals_[k].run));
+  for (const int k : chosen) comb.sets.push_back(runs_.nodes_of(*intervals_[k].run));
   found_.push_back(std::move(comb));
 }
 
@@ -195,9 +201,9 @@ double CombSearch::with_edges() {
 void CombSearch::seed(const NodeSet& set) {
   if (set.size() < 2 || static_cast<int>(set.size()) > count_ / 2 + 1) return;
   handle_.set(set);
-  if (seen_.count(handle_.hash()) > 0) return;
+  if (seen_.has(handle_.hash())) return;
   const double edges = with_edges();
-  seeds_.emplace_back(std::max(edges, with_runs()), set);
+  seeds_.emplace_back(std::max(edges, with_runs(kNoComb)), set);
 }
 
 // A part of the fractional edges without its nodes of degree 1.
@@ -241,8 +247,8 @@ void CombSearch::grow(int start, bool by_chance) {
       back_[edge.to] += edge.value;
       touched.push_back(edge.to);
     }
-    if (set.size() > 1 && seen_.count(handle_.hash()) == 0) {
-      const double runs = with_runs();
+    if (set.size() > 1 && !seen_.has(handle_.hash())) {
+      const double runs = with_runs(kNoComb);
       const double violation = std::max(runs, with_edges());
       if (violation > best) best = violation, best_set = set;
     }
@@ -265,8 +271,8 @@ void CombSearch::flip_path(int node, bool inside) {
   }
 }
 
-// The best handle that differs by a node, or by a path of whole edges.
-CombSearch::Step CombSearch::best_step() {
+// The nodes at edges of the solution that leave the handle.
+std::vector<int> CombSearch::ends_of_handle() {
   std::vector<int> nodes;
   for (const int v : handle_.nodes()) {
     for (const Edge& edge : graph_[v]) {
@@ -276,31 +282,42 @@ CombSearch::Step CombSearch::best_step() {
       }
     }
   }
+  for (const int v : nodes) used_[v] = 0;
+  return nodes;
+}
+
+void CombSearch::look(int node, bool path, Step& best) {
+  const double violation = with_runs(best.violation);
+  if (violation > best.violation) best = {violation, node, path};
+}
+
+// The best handle that is new and differs by a node, or by a path of whole edges.
+CombSearch::Step CombSearch::best_step() {
+  const std::vector<int> nodes = ends_of_handle();
   Step best;
-  const auto look = [&](int node, bool path) {
-    if (seen_.count(handle_.hash()) > 0) return;
-    const double violation = with_runs();
-    if (violation > best.violation) best = {violation, node, path};
-  };
   for (const int v : nodes) {
-    used_[v] = 0;
+    if (seen_.has(handle_.hash() + handle_.hash_change(v))) continue;
     handle_.flip(v);
-    look(v, false);
+    look(v, false, best);
     handle_.flip(v);
   }
-  std::vector<int> tried;
+  std::vector<int> tried, flipped;
   for (const int v : nodes) {
     const NodeSet& path = paths_[path_of_[v]];
     if (path.size() < 2 || path.size() > kLongestPath) continue;
     if (std::find(tried.begin(), tried.end(), path_of_[v]) != tried.end()) continue;
     tried.push_back(path_of_[v]);
-    std::vector<int> flipped;
+    flipped.clear();
     const bool inside = !handle_.has(v);
+    std::uint64_t hash = handle_.hash();
     for (const int u : path) {
-      if (handle_.has(u) != inside) flipped.push_back(u);
+      if (handle_.has(u) == inside) continue;
+      flipped.push_back(u);
+      hash += handle_.hash_change(u);
     }
+    if (seen_.has(hash)) continue;
     for (const int u : flipped) handle_.flip(u);
-    look(v, true);
+    look(v, true, best);
     for (const int u : flipped) handle_.flip(u);
   }
   return best;
@@ -308,7 +325,7 @@ CombSearch::Step CombSearch::best_step() {
 
 void CombSearch::climb(const NodeSet& start) {
   handle_.set(start);
-  double best = with_runs();
+  double best = with_runs(kNoComb);
   int patience = kPatience;
   for (int k = 0; k < kMostSteps && patience > 0 && handle_.nodes().size() < kLargestHandle; k++) {
     const Step step = best_step();

@@ -5,9 +5,9 @@
 // Sources: M. Padberg and S. Hong (1980); D. Applegate, R. Bixby, V. Chvatal and W. Cook (2006).
 #pragma once
 #include <cstdint>
-#include <unordered_map>
 
 #include "cut_pool.h"
+#include "handle_table.h"
 #include "random.h"
 #include "runs.h"
 
@@ -28,6 +28,10 @@ class Handle {
   const NodeSet& nodes() const { return nodes_; }
   double crossings() const { return crossings_; }
   std::uint64_t hash() const { return hash_; }
+  // How the hash changes where a node is flipped.
+  std::uint64_t hash_change(int node) const {
+    return has(node) ? ~pool_.key_of(node) + 1 : pool_.key_of(node);
+  }
 
  private:
   const Graph& graph_;
@@ -50,7 +54,13 @@ class CombSearch {
   struct Interval {
     int left, right;  // places from the base on
     double gain;
-    Run run;
+    const Run* run;
+  };
+  // The best of the first intervals, by the parity of their number.
+  struct Choice {
+    double best[2];
+    bool taken[2];
+    int before;  // as many intervals end before the last one begins
   };
   struct Spoke {
     double value;
@@ -61,11 +71,13 @@ class CombSearch {
     int node = -1;
     bool path = false;
   };
-  double with_runs();
-  double best_runs();
+  // The violation, or an upper bound of it that is at most enough.
+  double with_runs(double enough);
+  double best_runs(double enough);
   double with_edges();
   std::vector<Spoke> choose_spokes(double& gain);
-  bool list_intervals(double& most);
+  double list_ends();
+  void list_intervals();
   void keep(double violation, const std::vector<int>& chosen);
   void seed(const NodeSet& set);
   void seed_parts();
@@ -73,6 +85,8 @@ class CombSearch {
   void grow(int start, bool by_chance);
   void climb(const NodeSet& start);
   Step best_step();
+  void look(int node, bool path, Step& best);
+  std::vector<int> ends_of_handle();
   void flip_path(int node, bool inside);
   bool fractional(int node) const;
 
@@ -84,10 +98,12 @@ class CombSearch {
   Handle handle_;
   std::vector<NodeSet> paths_;  // of whole edges
   std::vector<int> path_of_;
-  std::unordered_map<std::uint64_t, double> seen_;  // handles by their hash
+  HandleTable seen_;
   std::vector<std::pair<double, NodeSet>> seeds_;
   std::vector<FoundComb> found_;
+  std::vector<int> ends_;
   std::vector<Interval> intervals_;
+  std::vector<Choice> choices_;
   std::vector<char> used_;
   std::vector<double> back_;
 };

@@ -7,7 +7,8 @@
 
 namespace {
 constexpr Weight kLargestGrid = 1000000;
-constexpr int kTrials = 60;  // of exact bounds for a leaf that is made like the last
+constexpr int kTrials = 60;  // of bounds for a leaf that is made like the last
+constexpr int kChecks = 3;   // of what they made
 constexpr double kSurplus = 0.005;
 
 Weight rounded(double number, Weight grid) {
@@ -57,15 +58,10 @@ bool Leaves::step(Numbers& numbers, double length_times_square) const {
   for (auto [i, j] : tree) degree[i]++, degree[j]++;
   double square = 0;
   for (const int d : degree) square += static_cast<double>(d) * d;
-  std::vector<char> mark(degree.size(), 0);
+  const std::map<int, int> crossings = bound_.crossings();
   std::map<int, int> lacking;
   for (const auto& [cut, multiplier] : numbers.multipliers) {
-    int lack = pool_[cut].crossings();
-    for (const NodeSet& set : pool_[cut].sets) {
-      for (const int v : set) mark[v] = 1;
-      for (auto [i, j] : tree) lack -= mark[i] != mark[j] ? 1 : 0;
-      for (const int v : set) mark[v] = 0;
-    }
+    const int lack = pool_[cut].crossings() - crossings.at(cut);
     lacking[cut] = lack;
     square += static_cast<double>(lack) * lack;
   }
@@ -80,16 +76,14 @@ bool Leaves::step(Numbers& numbers, double length_times_square) const {
 }
 
 bool Leaves::ascend(Numbers& numbers, const std::vector<Decision>& decisions, Weight target, int tries) {
-  Numbers now = numbers;
-  Value best = ExactBound::nothing();
+  const Value least = goal(target);
   double shrink = 1;
   for (int k = 0; k < tries; k++, shrink *= 0.97) {
-    const Value value = bound_.value(now, decisions);
-    if (value > best) best = value, numbers = now;
-    if (best >= goal(target)) return true;
-    const double missing =
-        static_cast<double>(goal(target) - value) + static_cast<double>(bound_.scale()) / 2;
-    if (value == ExactBound::nothing() || !step(now, missing * shrink)) return false;
+    Value value = bound_.likely_value(numbers, decisions);
+    if (value >= least) value = bound_.value(numbers, decisions);
+    if (value >= least) return true;
+    const double missing = static_cast<double>(least - value) + static_cast<double>(bound_.scale()) / 2;
+    if (value == ExactBound::nothing() || !step(numbers, missing * shrink)) return false;
   }
   return false;
 }
@@ -106,7 +100,7 @@ bool Leaves::reach(const Relaxation& relaxation, const std::vector<Decision>& de
   }
   for (; grid > 1; grid /= 10) {
     numbers = extract(relaxation, grid);
-    if (bound_.value(numbers, decisions) >= goal(target)) return true;
+    if (bound_.reaches(numbers, decisions, goal(target))) return true;
   }
   numbers = extract(relaxation, 1);
   return ascend(numbers, decisions, target, surplus > 0.02 ? 20 : 60);
@@ -149,14 +143,15 @@ std::vector<int> Leaves::differing_places(const Numbers& numbers) const {
   return sorted;
 }
 
-// Gives these places the numbers of the last leaf where the goal is still reached, else halves of them.
+// Gives these places the numbers of the last leaf where the goal seems to be reached still, else halves of
+// them.
 void Leaves::keep_last(Numbers& numbers, const std::vector<int>& places, std::size_t from, std::size_t to,
                        const std::vector<Decision>& decisions, Value goal, int& budget) {
   if (from >= to || budget <= 0) return;
   Numbers trial = numbers;
   for (std::size_t k = from; k < to; k++) put(trial, places[k], at(last_, places[k]));
   budget--;
-  if (bound_.value(trial, decisions) >= goal) {
+  if (bound_.likely_value(trial, decisions) >= goal) {
     numbers = std::move(trial);
   } else if (to - from > 4) {
     const std::size_t middle = (from + to) / 2;
@@ -167,9 +162,14 @@ void Leaves::keep_last(Numbers& numbers, const std::vector<int>& places, std::si
 
 Numbers Leaves::near_last(Numbers numbers, const std::vector<Decision>& decisions, Weight target) {
   if (last_.potentials.empty()) return numbers;
-  if (bound_.value(last_, decisions) >= goal(target)) return last_;
-  int budget = kTrials;
+  const Value least = goal(target);
+  if (bound_.reaches(last_, decisions, least)) return last_;
   const std::vector<int> places = differing_places(numbers);
-  keep_last(numbers, places, 0, places.size(), decisions, goal(target), budget);
+  for (int k = 0; k < kChecks; k++) {
+    Numbers near = numbers;
+    int budget = kTrials;
+    keep_last(near, places, 0, places.size(), decisions, least, budget);
+    if (bound_.value(near, decisions) >= least) return near;
+  }
   return numbers;
 }

@@ -21,7 +21,8 @@ Relaxation::Relaxation(const Matrix& weights, const CutPool& pool, const Tour& t
     }
   }
   const double above = static_cast<double>(length_of(weights, tour)) - static_cast<double>(least_) * nodes_;
-  unit_ = std::max(1.0, above / nodes_ / 1000);
+  average_ = above / nodes_;
+  unit_ = std::max(1.0, average_ / 1000);
   penalty_ = (20 * above + 4 * static_cast<double>(most - least_) + 1) / unit_;
   present_.assign(static_cast<std::size_t>(nodes_) * nodes_, 0);
   begin();
@@ -64,6 +65,9 @@ void Relaxation::add_edges(const std::vector<Pair>& edges) {
   std::vector<CoinBigIndex> starts{0};
   std::vector<int> rows;
   std::vector<double> elements, objective;
+  const bool any =
+      std::any_of(edges.begin(), edges.end(), [&](const Pair& edge) { return column_of(edge) < 0; });
+  if (!any) return;
   const std::vector<std::vector<Pair>> sets = memberships();
   std::vector<Pair> common;
   for (const Pair& edge : edges) {
@@ -131,11 +135,17 @@ void Relaxation::add_cuts(const std::vector<int>& cuts) {
                    elements.data());
 }
 
+// The column of an edge, or -1.
+int Relaxation::column_of(const Pair& pair) const {
+  for (const Place& place : adjacent_[pair.first]) {
+    if (place.node == pair.second) return place.column;
+  }
+  return -1;
+}
+
 void Relaxation::set_bounds(const Pair& pair, double low, double high) {
   add_edges({pair});
-  for (const Place& place : adjacent_[pair.first]) {
-    if (place.node == pair.second) program_.setColumnBounds(place.column + kElastic, low, high);
-  }
+  program_.setColumnBounds(column_of(pair) + kElastic, low, high);
 }
 
 void Relaxation::decide(const Decision& decision) {
@@ -146,21 +156,99 @@ void Relaxation::decide(const Decision& decision) {
 void Relaxation::release(const Pair& pair) { set_bounds(pair, 0, 1); }
 
 void Relaxation::purge(int age) {
-  std::vector<int> dropped, cuts, ages;
+  std::vector<char> dropped(cuts_.size(), 0);
   for (std::size_t row = 0; row < cuts_.size(); row++) {
     const int place = nodes_ + static_cast<int>(row);
-    if (ages_[row] > age && program_.getRowStatus(place) == ClpSimplex::basic) {
-      dropped.push_back(place);
+    dropped[row] = ages_[row] > age && program_.getRowStatus(place) == ClpSimplex::basic ? 1 : 0;
+  }
+  drop_rows(dropped);
+  read_duals();
+}
+
+void Relaxation::drop_rows(const std::vector<char>& dropped) {
+  std::vector<int> places, cuts, ages;
+  for (std::size_t row = 0; row < cuts_.size(); row++) {
+    if (dropped[row]) {
+      places.push_back(nodes_ + static_cast<int>(row));
     } else {
       cuts.push_back(cuts_[row]), ages.push_back(ages_[row]);
     }
   }
-  if (dropped.empty()) return;
-  program_.deleteRows(static_cast<int>(dropped.size()), dropped.data());
+  if (places.empty()) return;
+  program_.deleteRows(static_cast<int>(places.size()), places.data());
   cuts_ = cuts, ages_ = ages;
   row_of_.clear();
   for (std::size_t row = 0; row < cuts_.size(); row++) row_of_[cuts_[row]] = static_cast<int>(row);
-  read_duals();
+}
+
+void Relaxation::drop_edges() {
+  const double* costs = program_.getReducedCost();
+  std::vector<int> places;
+  std::vector<Pair> edges;
+  std::vector<double> solution;
+  for (int column = 0; column < columns(); column++) {
+    const int place = column + kElastic;
+    const bool free = program_.getColLower()[place] < 0.5 && program_.getColUpper()[place] > 0.5;
+    const bool zero = program_.getColumnStatus(place) != ClpSimplex::basic && solution_[column] < 1e-9;
+    if (free && zero && costs[place] * unit_ > average_ / 2) {
+      places.push_back(place);
+      present_[static_cast<std::size_t>(edges_[column].first) * nodes_ + edges_[column].second] = 0;
+    } else {
+      edges.push_back(edges_[column]), solution.push_back(solution_[column]);
+    }
+  }
+  if (places.empty()) return;
+  program_.deleteColumns(static_cast<int>(places.size()), places.data());
+  edges_ = edges, solution_ = solution;
+  for (std::vector<Place>& adjacent : adjacent_) adjacent.clear();
+  for (int column = 0; column < columns(); column++) {
+    const auto [i, j] = edges_[column];
+    adjacent_[i].push_back({j, column}), adjacent_[j].push_back({i, column});
+  }
+}
+
+Basis Relaxation::basis() const {
+  Basis basis;
+  basis.cuts = cuts_;
+  basis.rows.reserve(program_.numberRows());
+  basis.elastic.reserve(kElastic);
+  for (int row = 0; row < program_.numberRows(); row++) basis.rows.push_back(program_.getRowStatus(row));
+  for (int k = 0; k < kElastic; k++) basis.elastic.push_back(program_.getColumnStatus(k));
+  for (int column = 0; column < columns(); column++) {
+    const ClpSimplex::Status status = program_.getColumnStatus(column + kElastic);
+    if (status == ClpSimplex::basic) {
+      basis.basic.push_back(edges_[column]);
+    } else if (solution_[column] > 0.5) {
+      basis.at_one.push_back(edges_[column]);
+    }
+  }
+  return basis;
+}
+
+void Relaxation::restore(const Basis& basis) {
+  add_edges(basis.basic);
+  add_edges(basis.at_one);
+  std::vector<char> dropped(cuts_.size(), 1);
+  for (const int cut : basis.cuts) {
+    if (has(cut)) dropped[row_of_[cut]] = 0;
+  }
+  drop_rows(dropped);
+  add_cuts(basis.cuts);
+  for (int k = 0; k < kElastic; k++) program_.setColumnStatus(k, basis.elastic[k]);
+  for (int column = 0; column < columns(); column++) {
+    program_.setColumnStatus(column + kElastic, ClpSimplex::atLowerBound);
+  }
+  for (const Pair& edge : basis.basic)
+    program_.setColumnStatus(column_of(edge) + kElastic, ClpSimplex::basic);
+  for (const Pair& edge : basis.at_one) {
+    program_.setColumnStatus(column_of(edge) + kElastic, ClpSimplex::atUpperBound);
+  }
+  for (int v = 0; v < nodes_; v++) program_.setRowStatus(v, basis.rows[v]);
+  for (std::size_t k = 0; k < basis.cuts.size(); k++) {
+    const int row = row_of_[basis.cuts[k]];
+    program_.setRowStatus(nodes_ + row, basis.rows[static_cast<std::size_t>(nodes_) + k]);
+    ages_[row] = 0;
+  }
 }
 
 void Relaxation::optimize() {
@@ -246,30 +334,29 @@ void Relaxation::solve() {
   read_solution();
 }
 
-std::vector<std::array<double, 2>> Relaxation::try_branches(const std::vector<int>& tried, int iterations) {
-  const int rows = program_.numberRows(), all = program_.numberColumns();
-  const std::vector<unsigned char> status(program_.statusArray(), program_.statusArray() + rows + all);
-  double* const places[] = {program_.primalColumnSolution(), program_.primalRowSolution(),
-                            program_.dualColumnSolution(), program_.dualRowSolution()};
-  const int sizes[] = {all, rows, all, rows};
-  std::vector<std::vector<double>> saved;
-  for (int k = 0; k < 4; k++) saved.emplace_back(places[k], places[k] + sizes[k]);
-  std::vector<std::array<double, 2>> gains;
-  program_.setMaximumIterations(iterations);
-  for (const int column : tried) {
-    std::array<double, 2> gain{};
-    for (int side = 0; side < 2; side++) {
-      program_.setColumnBounds(column + kElastic, side, side);
-      program_.dual(0);
-      gain[side] = std::max(0.0, program_.objectiveValue() * unit_ + offset() - value_);
-      program_.setColumnBounds(column + kElastic, 0, 1);
-      std::copy(status.begin(), status.end(), program_.statusArray());
-      double* const now[] = {program_.primalColumnSolution(), program_.primalRowSolution(),
-                             program_.dualColumnSolution(), program_.dualRowSolution()};
-      for (int k = 0; k < 4; k++) std::copy(saved[k].begin(), saved[k].end(), now[k]);
-    }
-    gains.push_back(gain);
+std::array<double*, 4> Relaxation::Probe::places() const {
+  return {program_.primalColumnSolution(), program_.primalRowSolution(), program_.dualColumnSolution(),
+          program_.dualRowSolution()};
+}
+
+Relaxation::Probe::Probe(Relaxation& relaxation, int iterations)
+    : relaxation_(relaxation), program_(relaxation.program_) {
+  const int rows = program_.numberRows(), columns = program_.numberColumns();
+  status_.assign(program_.statusArray(), program_.statusArray() + rows + columns);
+  for (std::size_t k = 0; k < places().size(); k++) {
+    saved_.emplace_back(places()[k], places()[k] + (k % 2 == 0 ? columns : rows));
   }
-  program_.setMaximumIterations(INT_MAX);
-  return gains;
+  program_.setMaximumIterations(iterations);
+}
+
+Relaxation::Probe::~Probe() { program_.setMaximumIterations(INT_MAX); }
+
+double Relaxation::Probe::gain(int column, int value) {
+  program_.setColumnBounds(column + kElastic, value, value);
+  program_.dual(0);
+  const double reached = program_.objectiveValue() * relaxation_.unit_ + relaxation_.offset();
+  program_.setColumnBounds(column + kElastic, 0, 1);
+  std::copy(status_.begin(), status_.end(), program_.statusArray());
+  for (std::size_t k = 0; k < saved_.size(); k++) std::copy(saved_[k].begin(), saved_[k].end(), places()[k]);
+  return std::max(0.0, reached - relaxation_.value());
 }

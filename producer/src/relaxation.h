@@ -15,6 +15,13 @@ struct Decision {
   bool used;
 };
 
+// Where a solution began from: the cuts, and the basis.
+struct Basis {
+  std::vector<int> cuts;
+  std::vector<ClpSimplex::Status> rows, elastic;  // the rows of the degrees, then those of the cuts
+  std::vector<Pair> basic, at_one;
+};
+
 class Relaxation {
  public:
   Relaxation(const Matrix& weights, const CutPool& pool, const Tour& tour);
@@ -24,7 +31,13 @@ class Relaxation {
   void release(const Pair& pair);
   // Drops the slack rows that were slack in more solutions than this in a row.
   void purge(int age);
+  // Drops edges at 0 whose reduced cost is more than half an average edge. Pricing brings back those that are
+  // needed.
+  void drop_edges();
   void solve();
+  Basis basis() const;
+  // Takes the cuts and the basis. No pair may be decided.
+  void restore(const Basis& basis);
 
   double value() const { return value_; }
   const Graph& support() const { return support_; }
@@ -37,8 +50,24 @@ class Relaxation {
   int columns() const { return static_cast<int>(edges_.size()); }
   const Pair& edge(int column) const { return edges_[column]; }
   double solution(int column) const { return solution_[column]; }
-  // What each direction of a branch on a column brings, by at most this many dual iterations.
-  std::vector<std::array<double, 2>> try_branches(const std::vector<int>& columns, int iterations);
+
+  // Tries bounds of single edges from the solution at hand, which is there again afterwards.
+  class Probe {
+   public:
+    Probe(Relaxation& relaxation, int iterations);
+    ~Probe();
+    Probe(const Probe&) = delete;
+    Probe& operator=(const Probe&) = delete;
+    // What the value gains, by at most as many dual iterations, where an edge has the value 0 or 1.
+    double gain(int column, int value);
+
+   private:
+    std::array<double*, 4> places() const;
+    Relaxation& relaxation_;
+    ClpSimplex& program_;
+    std::vector<unsigned char> status_;
+    std::vector<std::vector<double>> saved_;
+  };
 
  private:
   // The program takes the weights less the least one. A tour has as many edges as nodes.
@@ -51,6 +80,8 @@ class Relaxation {
   int price();
   void read_duals();
   void read_solution();
+  void drop_rows(const std::vector<char>& dropped);
+  int column_of(const Pair& pair) const;
   void set_bounds(const Pair& pair, double low, double high);
   std::vector<std::vector<Pair>> memberships() const;
   std::vector<Pair> missing_edges(const std::vector<std::vector<std::pair<int, double>>>& sets) const;
@@ -59,7 +90,7 @@ class Relaxation {
   const CutPool& pool_;
   int nodes_;
   Weight least_ = 0;
-  double unit_ = 1, penalty_ = 1;
+  double unit_ = 1, penalty_ = 1, average_ = 1;  // average_: of an edge of the tour
   ClpSimplex program_;
   std::vector<Pair> edges_;
   std::vector<std::vector<Place>> adjacent_;

@@ -9,6 +9,7 @@ namespace {
 constexpr Weight kLongLength = 2000000;
 constexpr Weight kFineScale = 2520, kCoarseScale = 840;
 constexpr Weight kMostScaledWeight = 20000000000000;  // so that potentials stay within their limit
+constexpr double kDepthFirst = 0.5;                   // of the time
 constexpr int kRootClimbs = 400, kNodeClimbs = 100, kLevels = 2;
 }  // namespace
 
@@ -29,7 +30,6 @@ Search::Search(const Instance& instance, const Start& start, const Clock& clock,
       tour_(start.tour),
       length_(length_of(instance.weights, start.tour)),
       target_(start.upper ? std::min(*start.upper, length_) : length_),
-      upper_(start.upper),
       pool_(instance.nodes()),
       relaxation_(instance.weights, pool_, start.tour),
       separation_(with_fixed_lowered(instance.weights, instance.fixed), pool_, relaxation_, start.seed),
@@ -45,6 +45,7 @@ Search::Search(const Instance& instance, const Start& start, const Clock& clock,
   }
   for (const Pair& edge : edges_of(tour_)) edges.push_back(edge);
   relaxation_.add_edges(edges);
+  bound_.add_likely(edges);
   for (const Pair& pair : instance.fixed) {
     decisions_.push_back({pair, true});
     relaxation_.decide(decisions_.back());
@@ -75,13 +76,14 @@ void Search::offer_tour() {
 }
 
 void Search::show() {
-  Value least = least_;
-  for (const Value value : open_) least = std::min(least, value);
-  const Weight bound = open_.empty() ? static_cast<Weight>(relaxation_.value()) : bound_.bound_of(least);
+  const Value least = open_.empty() ? here_ : std::min(here_, open_.begin()->first);
+  const bool known = cases_.size() > 1;
+  const Weight reached = known ? bound_.bound_of(least) : static_cast<Weight>(relaxation_.value());
+  const Weight bound = std::min(reached, target_);
   progress_.show("seconds " + std::to_string(static_cast<int>(Clock::now())) + " length " +
-                 std::to_string(length_) + " bound " + std::to_string(std::min(bound, target_)) + " gap " +
-                 std::to_string(length_ - std::min(bound, target_)) + " leaves " + std::to_string(leaves_) +
-                 " open " + std::to_string(open_.size()));
+                 std::to_string(length_) + " bound " + std::to_string(bound) + " gap " +
+                 std::to_string(length_ - bound) + " leaves " + std::to_string(leaves_) + " open " +
+                 std::to_string(open_.size()));
 }
 
 bool Search::stalled(const std::vector<double>& values, double gap) const {
@@ -104,6 +106,7 @@ bool Search::tighten(Numbers& numbers) {
   for (int round = 1;; round++) {
     relaxation_.solve();
     offer_tour();
+    if (root() && round % 6 == 0) relaxation_.drop_edges();
     show();
     values.push_back(relaxation_.value());
     if (made_.reach(relaxation_, decisions_, target_, numbers)) return true;
@@ -117,51 +120,116 @@ bool Search::tighten(Numbers& numbers) {
   }
 }
 
-void Search::end_leaf(const Numbers& numbers, Value value) {
-  steps_.push_back({Pair(-1, -1), numbers});
-  made_.set_last(numbers);
-  least_ = std::min(least_, value);
-  leaves_++;
+std::vector<Decision> Search::decisions_of(int place) const {
+  std::vector<Decision> decisions;
+  decisions.reserve(instance_.fixed.size());
+  for (const Pair& pair : instance_.fixed) decisions.push_back({pair, true});
+  const std::size_t fixed = decisions.size();
+  for (int k = place; cases_[k].parent >= 0; k = cases_[k].parent) decisions.push_back(cases_[k].decision);
+  std::reverse(decisions.begin() + static_cast<std::ptrdiff_t>(fixed), decisions.end());
+  return decisions;
 }
 
-void Search::branch(const Pair& pair, const Best& best) {
-  steps_.push_back({pair, {}});
-  open_.push_back(best.value);
-  for (const bool used : {true, false}) {
-    if (!used) open_.pop_back();
-    decisions_.push_back({pair, used});
-    relaxation_.decide(decisions_.back());
-    explore(best);
-    relaxation_.release(pair);
-    decisions_.pop_back();
+// Brings the relaxation to a case.
+void Search::enter(int place) {
+  for (const Decision& decision : decisions_) relaxation_.release(decision.pair);
+  const std::shared_ptr<const Basis>& basis = cases_[place].basis;
+  if (basis && basis != basis_) relaxation_.restore(*basis);
+  basis_ = nullptr;
+  decisions_ = decisions_of(place);
+  for (const Decision& decision : decisions_) relaxation_.decide(decision);
+}
+
+// Takes the numbers of the last solution where they are better than those from above.
+void Search::improve(Case& here) {
+  Numbers numbers = made_.extract(relaxation_, 1);
+  const Value value = bound_.value(numbers, decisions_);
+  if (!here.numbers.potentials.empty()) {
+    here.value = std::max(here.value, bound_.value(here.numbers, decisions_));
+    if (here.value >= value) return;
   }
+  here.numbers = std::move(numbers);
+  here.value = value;
 }
 
-// Explores all tours under the decisions. Numbers from above give at least their value here too.
-void Search::explore(const Best& above) {
+// A case's numbers hold for the cases of its branch too.
+void Search::branch(int place, const Pair& pair) {
+  basis_ = std::make_shared<const Basis>(relaxation_.basis());
+  cases_[place].branch = pair;
+  for (const bool used : {false, true}) {
+    const int next = static_cast<int>(cases_.size());
+    Case below;
+    below.parent = place;
+    below.decision = {pair, used};
+    below.basis = basis_;
+    below.numbers = cases_[place].numbers;
+    below.value = cases_[place].value;
+    cases_.push_back(std::move(below));
+    (used ? cases_[place].used : cases_[place].unused) = next;
+    open_.emplace(cases_[next].value, -next);
+  }
+  cases_[place].numbers = {};
+  cases_[place].basis = nullptr;
+}
+
+void Search::visit(int place) {
+  here_ = cases_[place].value;
+  if (here_ >= made_.goal(target_)) {  // a shorter tour was found meanwhile
+    cases_[place].done = true;
+    return;
+  }
+  enter(place);
   Numbers numbers;
-  if (!above.numbers.potentials.empty() && clock_.over()) {
-    end_leaf(above.numbers, bound_.value(above.numbers, decisions_));
-    return;
-  }
   if (tighten(numbers)) {
-    numbers = made_.near_last(numbers, decisions_, target_);
-    end_leaf(numbers, bound_.value(numbers, decisions_));
+    cases_[place].numbers = std::move(numbers);
+    cases_[place].done = true;
+    leaves_++;
     return;
   }
-  Best best{made_.extract(relaxation_, 1), 0};
-  best.value = bound_.value(best.numbers, decisions_);
-  if (!above.numbers.potentials.empty()) {
-    const Value kept = bound_.value(above.numbers, decisions_);
-    if (kept >= best.value) best = {above.numbers, kept};
+  improve(cases_[place]);
+  if (clock_.over()) return;
+  const Pair pair = branching_.choose(relaxation_, static_cast<double>(target_));
+  if (pair.first >= 0) branch(place, pair);
+}
+
+// A leaf that is done gets numbers near those of the leaf before, which makes a short file.
+void Search::add_leaf(const Case& leaf, const std::vector<Decision>& decisions) {
+  const bool time = !clock_.over(1.05);
+  const Numbers numbers =
+      leaf.done && time ? made_.near_last(leaf.numbers, decisions, target_) : leaf.numbers;
+  least_ = std::min(least_, bound_.value(numbers, decisions));
+  made_.set_last(numbers);
+  steps_.push_back({Pair(-1, -1), numbers});
+}
+
+// The tree from the root on, a branch before its cases.
+void Search::list_steps() {
+  leaves_ = 0;
+  std::vector<int> rest{0};
+  while (!rest.empty()) {
+    const int place = rest.back();
+    const Case& here = cases_[place];
+    rest.pop_back();
+    if (here.branch.first < 0) {
+      add_leaf(here, decisions_of(place));
+      leaves_++;
+      continue;
+    }
+    steps_.push_back({here.branch, {}});
+    rest.push_back(here.unused), rest.push_back(here.used);
   }
-  const Pair pair =
-      clock_.over() ? Pair(-1, -1) : branching_.choose(relaxation_, static_cast<double>(target_));
-  if (pair.first < 0) {
-    end_leaf(best.numbers, best.value);
-  } else {
-    branch(pair, best);
+}
+
+// The newest case for half of the time, since the pool has cuts from near it. Then that with the least bound,
+// so that the bound grows until the time is over.
+int Search::next_case() {
+  auto next = open_.begin();
+  if (!clock_.over(kDepthFirst)) {
+    next = std::min_element(open_.begin(), open_.end(), [](auto& a, auto& b) { return a.second < b.second; });
   }
+  const int place = -next->second;
+  open_.erase(next);
+  return place;
 }
 
 void Search::run() {
@@ -170,6 +238,9 @@ void Search::run() {
     relaxation_.solve();
     show();
   }
-  explore({});
+  cases_.emplace_back();
+  visit(0);
+  while (!open_.empty() && !clock_.over()) visit(next_case());
+  list_steps();
   progress_.clear();
 }

@@ -1,9 +1,11 @@
-// Branch and cut: cuts and branches until each leaf reaches the target, or the time is over. A leaf
-// that is cut off keeps the best numbers above it, so the bound is never below the root's.
+// Branch and cut: cuts and branches until each leaf reaches the target, or the time is over. A case that is
+// left open keeps the best numbers above it.
 // Source: M. Padberg and G. Rinaldi, A branch-and-cut algorithm for the resolution of large-scale
 // symmetric traveling salesman problems, SIAM Review 33 (1991).
 #pragma once
+#include <memory>
 #include <optional>
+#include <set>
 
 #include "branching.h"
 #include "clock.h"
@@ -40,16 +42,28 @@ class Search {
   int leaves() const { return leaves_; }
 
  private:
-  struct Best {
-    Numbers numbers;
+  // A case: what is decided from the root on to here, and the best numbers for it.
+  struct Case {
+    int parent = -1;
+    Decision decision{{-1, -1}, false};    // that leads here from the parent
+    std::shared_ptr<const Basis> basis{};  // of the parent's last solution
+    Numbers numbers{};
     Value value = ExactBound::nothing();
+    bool done = false;  // its numbers reach the target
+    Pair branch{-1, -1};
+    int used = -1, unused = -1;  // the cases of the branch
   };
   bool tighten(Numbers& numbers);
   bool add_cuts(int level, int round);
   bool stalled(const std::vector<double>& values, double gap) const;
-  void explore(const Best& above);
-  void branch(const Pair& pair, const Best& best);
-  void end_leaf(const Numbers& numbers, Value value);
+  std::vector<Decision> decisions_of(int place) const;
+  void enter(int place);
+  void visit(int place);
+  void improve(Case& here);
+  void branch(int place, const Pair& pair);
+  int next_case();
+  void list_steps();
+  void add_leaf(const Case& leaf, const std::vector<Decision>& decisions);
   void offer_tour();
   void show();
   bool root() const { return decisions_.size() == instance_.fixed.size(); }
@@ -60,7 +74,6 @@ class Search {
   Progress& progress_;
   Tour tour_;
   Weight length_, target_;
-  std::optional<Weight> upper_;
   CutPool pool_;
   Relaxation relaxation_;
   Separation separation_;
@@ -68,8 +81,11 @@ class Search {
   Leaves made_;
   Branching branching_;
   std::vector<Decision> decisions_;
+  std::shared_ptr<const Basis> basis_;  // that the relaxation is at, where it is known
+  std::vector<Case> cases_;
+  std::set<std::pair<Value, int>> open_;  // cases by value, and of the same value the newest first
+  Value here_ = -ExactBound::nothing();   // that of the case at hand
   std::vector<TreeStep> steps_;
-  std::vector<Value> open_;  // of the subtrees that are still to do
   Value least_;
   int leaves_ = 0;
 };

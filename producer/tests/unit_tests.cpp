@@ -1,10 +1,13 @@
 // Tests of single parts, against results worked out by hand or by trying all cases.
 #include <algorithm>
+#include <cmath>
 #include <cstdio>
+#include <map>
 
 #include "combs.h"
 #include "eax.h"
 #include "exact_bound.h"
+#include "handle_table.h"
 #include "instance.h"
 #include "local_search.h"
 #include "subtours.h"
@@ -143,6 +146,21 @@ void test_bounds() {
     const Value with = bound.value(numbers, {{{2, 4}, true}}),
                 without = bound.value(numbers, {{{2, 4}, false}});
     need(with >= all && without >= all && std::min(with, without) == all, "decisions lower a bound");
+    const std::vector<Decision> none, decided{{{2, 4}, true}};
+    ExactBound few(weights, pool, 10);
+    few.add_likely({{0, 1}, {1, 2}, {2, 3}, {3, 4}, {4, 5}, {5, 6}, {0, 6}});
+    need(few.likely_value(numbers, none) >= all, "likely edges give less than all edges");
+    need(few.reaches(numbers, none, all) && !few.reaches(numbers, none, all + 1), "a goal is reached or not");
+    need(few.value(numbers, none) == all && few.likely_value(numbers, none) == all, "the tree's edges join");
+    few.value(numbers, decided);
+    need(few.likely_value(numbers, decided) == with, "the same under decisions");
+    int crossed = 0;
+    for (const auto& [i, j] : few.tree()) {
+      for (const NodeSet& set : pool[comb].sets) {
+        crossed += std::count(set.begin(), set.end(), i) != std::count(set.begin(), set.end(), j) ? 1 : 0;
+      }
+    }
+    need(few.crossings().at(comb) == crossed, "the crossings of the tree");
     numbers.multipliers[comb] = -1;
     need(bound.value(numbers, {}) == ExactBound::nothing(), "a multiplier below 0");
   }
@@ -151,6 +169,76 @@ void test_bounds() {
   ExactBound bound(weights, pool, 10);
   need(bound.bound_of(21) == 3 && bound.bound_of(20) == 2, "bounds are rounded up");
   need(bound.bound_of(-21) == -2 && bound.bound_of(-20) == -2, "bounds below 0 too");
+}
+
+void test_handle_table() {
+  HandleTable table;
+  std::map<std::uint64_t, double> same;
+  Random random(4);
+  for (int k = 0; k < 20000; k++) {
+    const std::uint64_t hash = random.below(30000) * 0x9E3779B97F4A7C15ull + 1;
+    const double violation = random.unit();
+    need(table.has(hash) == (same.count(hash) > 0), "a handle is known where it was put");
+    table.put(hash, violation);
+    same[hash] = violation;
+  }
+  for (const auto& [hash, violation] : same) {
+    need(table.find(hash) != nullptr && *table.find(hash) == violation, "the violation that was put last");
+  }
+}
+
+// Points whose solution has fractional edges, from which bounds are tried, and which is found again.
+void test_relaxation() {
+  Random random(6);
+  Matrix weights(30);
+  std::vector<Pair> points;
+  for (int v = 0; v < 30; v++) points.emplace_back(random.below(1000), random.below(1000));
+  for (int i = 0; i < 30; i++) {
+    for (int j = 0; j < i; j++) {
+      weights.set(
+          i, j,
+          std::lround(std::hypot(points[i].first - points[j].first, points[i].second - points[j].second)));
+    }
+  }
+  Tour tour(30);
+  for (int v = 0; v < 30; v++) tour[v] = v;
+  CutPool pool(30);
+  Relaxation relaxation(weights, pool, tour);
+  relaxation.add_edges(edges_of(tour));
+  relaxation.solve();
+  for (int round = 0; round < 3; round++) {
+    std::vector<int> cuts;
+    for (const NodeSet& set : crossed_too_little(relaxation.support(), 0.01))
+      cuts.push_back(pool.add_subtour(set));
+    relaxation.add_cuts(cuts);
+    relaxation.solve();
+  }
+  const double value = relaxation.value();
+  const Basis basis = relaxation.basis();
+  const auto same = [&] { return std::abs(relaxation.value() - value) < 1e-6 * value; };
+  const int columns = relaxation.columns();
+  relaxation.drop_edges();
+  need(relaxation.columns() < columns, "edges are dropped");
+  relaxation.solve();
+  need(same(), "the value without the dropped edges");
+  for (int column = 0; column < relaxation.columns(); column += 5) {
+    const Pair pair = relaxation.edge(column);
+    for (const bool used : {true, false}) {
+      double gain = 0;
+      {
+        Relaxation::Probe probe(relaxation, 1000);
+        gain = probe.gain(column, used ? 1 : 0);
+      }
+      relaxation.decide({pair, used});
+      relaxation.solve();
+      need(relaxation.value() >= value - 1e-6 * value, "a decision lowers the value");
+      need(relaxation.value() <= value + gain + 1e-6 * value, "a bound that is tried gains less");
+      relaxation.release(pair);
+      relaxation.restore(basis);
+      relaxation.solve();
+      need(same() && relaxation.edge(column) == pair, "the value after a return to a basis");
+    }
+  }
 }
 }  // namespace
 
@@ -161,6 +249,8 @@ int main() {
   test_subtours();
   test_combs();
   test_bounds();
+  test_handle_table();
+  test_relaxation();
   if (failures == 0) std::printf("all parts passed\n");
   return failures == 0 ? 0 : 1;
 }

@@ -1,0 +1,45 @@
+// The violations of the handles that were looked at, by the hash of a handle. Millions are looked up,
+// so the cells lie in one array, with open addressing.
+#pragma once
+#include <cstddef>
+#include <cstdint>
+#include <vector>
+
+class HandleTable {
+ public:
+  // The violation, or nullptr.
+  const double* find(std::uint64_t hash) const {
+    const Cell& cell = cells_[place_of(hash)];
+    return cell.used ? &cell.violation : nullptr;
+  }
+  bool has(std::uint64_t hash) const { return cells_[place_of(hash)].used; }
+  void put(std::uint64_t hash, double violation) {
+    Cell& cell = cells_[place_of(hash)];
+    const bool fresh = !cell.used;
+    cell = {hash, violation, true};
+    if (fresh && 2 * ++count_ > cells_.size()) grow();
+  }
+
+ private:
+  struct Cell {
+    std::uint64_t hash = 0;
+    double violation = 0;
+    bool used = false;
+  };
+  // The cell of the hash, or the free cell where it belongs. The number of cells is a power of 2.
+  std::size_t place_of(std::uint64_t hash) const {
+    std::size_t place = (hash ^ (hash >> 32)) & (cells_.size() - 1);
+    while (cells_[place].used && cells_[place].hash != hash) place = (place + 1) & (cells_.size() - 1);
+    return place;
+  }
+  void grow() {
+    std::vector<Cell> cells(2 * cells_.size());
+    cells.swap(cells_);
+    for (const Cell& cell : cells) {
+      if (cell.used) cells_[place_of(cell.hash)] = cell;
+    }
+  }
+
+  std::vector<Cell> cells_ = std::vector<Cell>(4096);
+  std::size_t count_ = 0;
+};
