@@ -1,5 +1,5 @@
 -- From runs on readers to what is said of the texts that they read.
-use Rattle.std.proofs.Common.{◌≡◌, ℕ, List, [], Bool, true, false, Result, Ok, Err, inl, inr, refl, sym, subst, arith}
+use Rattle.std.proofs.Common.{◌≡◌, ℕ, List, [], Bool, true, false, Result, Ok, Err, inl, inr, refl, sym, ap, subst, ◌∙◌, arith}
 use Rattle.std.specs.Prelude.{◌⊎◌, Option, None, Some, IfSome, ℤ, is_ok}
 use Rattle.std.specs.Io.KnownBytes.{Appends}
 use Rattle.std.proofs.lemmas.Bool.{false≢true}
@@ -27,7 +27,7 @@ use Rattle.tsp_judge.specs.Yes.{IsATourYes, IsARoutesYes, IsAYes, SaysYes, IsChe
 use Rattle.tsp_judge.specs.BoundRun.{BoundsFiles, EndsUnbounded, SaysBound, IsBoundRunOf}
 use Rattle.tsp_judge.specs.ShowRun.{IsShowRun}
 use Rattle.tsp_judge.specs.ConvertRun.{IsConvertRun}
-use Rattle.tsp_c.specs.Ended.{without_devices, done, has_bound, EndsOnTexts}
+use Rattle.tsp_c.specs.Ended.{without_devices, done, has_bound, fault_line, EndsOnTexts}
 use Rattle.tsp_c.specs.Texts.{IsFileText, ShowsText, ConvertsText, given_text, SpellsGiven}
 use Rattle.tsp_c.specs.Texts.{IsTourAccepted, AreRoutesAccepted, IsAYesOfTexts, IsAccepted, IsRejected, IsUnchecked, ChecksTexts}
 use Rattle.tsp_c.specs.Texts.{IsABoundOfTexts, IsNoTourOfTexts, IsUnbounded, BoundsTexts}
@@ -71,13 +71,13 @@ pub shows : (turn : Turn) (sink : Sink) (ended : Result (Unit {0}) RunFault) (on
 shows turn sink (Ok is) one written status text run known collects e =
     yes_ends written status text (run.0, spelled turn one run.0 known run.1, printed_is sink written _ collects run.2) e
 shows turn sink (Err (File file found)) one written status text run known collects e =
-    fault_ends (File file found) written status text (λ refused is. absurd cc) (λ two. (run.0, stopped turn one file found known run.1 two)) e
+    fault_ends (File file found) written status text (λ refused is line. absurd cc) (λ two. (run.0, stopped turn one file found known run.1 two)) e
 shows turn sink (Err WrongKind) one written status text run known collects e = absurd run
 shows turn sink (Err OutOfMemory) one written status text run known collects e = absurd run
 shows turn sink (Err (Relayout refused)) one written status text run known collects e = absurd run
 shows turn sink (Err (Write write_faults.OutOfMemory)) one written status text run known collects e = absurd run
 shows turn sink (Err (Write write_faults.Device)) one written status text run known collects e =
-    fault_ends (Write write_faults.Device) written status text (λ refused is. absurd cc)
+    fault_ends (Write write_faults.Device) written status text (λ refused is line. absurd cc)
     (λ two. let n : 3 ≡ 2 = two in absurd (omega arith)) e
 
 pub converts : (to : Option Layout) (turn : Turn) (sink : Sink) (ended : Result (Unit {0}) RunFault) (one written : List ℕ) (status : ℕ)
@@ -94,12 +94,12 @@ converts to turn sink (Ok is) one written status text known collects run e =
       printed_is sink written _ collects run.2,
     ) e
 converts to turn sink (Err (File file found)) one written status text known collects run e =
-    fault_ends (File file found) written status text (λ refused is. absurd cc) (λ two. (run.0, stopped turn one file found known run.1 two)) e
+    fault_ends (File file found) written status text (λ refused is line. absurd cc) (λ two. (run.0, stopped turn one file found known run.1 two)) e
 converts to turn sink (Err WrongKind) one written status text known collects run e = absurd run
 converts to turn sink (Err OutOfMemory) one written status text known collects run e = absurd run
 converts to turn sink (Err (Relayout refused)) one written status text known collects run e =
     fault_ends (Relayout refused) written status text
-    (λ other is. (run.0, refused, spelled turn one run.0 known run.1, run.2))
+    (λ other is line. (run.0, refused, spelled turn one run.0 known run.1, run.2, line ∙ ap fault_line (sym is)))
     (λ two. absurd (not_two refused two)) e
   where
     not_two : (refused : RelayoutFault) → status_of_fault (without_devices (Relayout refused)) ≡ 2 → ⊥
@@ -109,7 +109,7 @@ converts to turn sink (Err (Relayout refused)) one written status text known col
     not_two (relayout_faults.DiagonalLost i) two = let n : 1 ≡ 2 = two in omega arith
 converts to turn sink (Err (Write write_faults.OutOfMemory)) one written status text known collects run e = absurd run
 converts to turn sink (Err (Write write_faults.Device)) one written status text known collects run e =
-    fault_ends (Write write_faults.Device) written status text (λ refused is. absurd cc)
+    fault_ends (Write write_faults.Device) written status text (λ refused is line. absurd cc)
     (λ two. let n : 3 ≡ 2 = two in absurd (omega arith)) e
 
 -- ---- the check of texts
@@ -280,7 +280,7 @@ checks by claimed first second third sink (Ok false) one two three written statu
     (rejected by claimed first second third sink one two three written run.0 run.1 run.2 run.3 reads collects run.4 run.5 run.6) e
 checks by claimed first second third sink (Err fault) one two three written status text reads collects check e =
     fault_ends fault written status text
-    (λ refused is. absurd (no_relayout by claimed first second third sink fault refused is check.0))
+    (λ refused is line. absurd (no_relayout by claimed first second third sink fault refused is check.0))
     (λ s. unchecked by claimed first second third sink one two three fault reads check.0 s) e
 
 -- ---- a bound
@@ -366,5 +366,5 @@ bounds by first second sink (Ok bounded) one two written status text reads colle
     let is = run.0 in bound_found by first second sink one two written status text bounded.instance bounded.certificate bounded.found
     reads collects is.0 is.1 is.2 (λ bound found. run.1 bounded bound refl found) e
 bounds by first second sink (Err fault) one two written status text reads collects run e = fault_ends fault written status text
-    (λ refused is. absurd (not_relaid by first second sink fault refused is run.0))
+    (λ refused is line. absurd (not_relaid by first second sink fault refused is run.0))
     (λ s. unbounded by first second sink one two fault reads run.0 s) e

@@ -5,6 +5,7 @@ use Rattle.tsp_text.specs.declared.fault.ReadFault.TheVariants as read_faults
 use Rattle.tsp_judge.specs.declared.bound.Bounded.{Bounded}
 use Rattle.tsp_judge.specs.declared.fault.RunFault.{RunFault}
 use Rattle.tsp_judge.specs.declared.fault.RunFault.TheVariants.{File, Write}
+use Rattle.tsp_judge.specs.FaultText.{run_fault_text}
 use Rattle.tsp_judge.specs.Status.{status_of, status_of_fault}
 
 -- ---- the caller's buffer
@@ -47,17 +48,25 @@ without_devices (File file read_faults.Device) = File file read_faults.OutOfMemo
 without_devices (Write write_faults.Device) = Write write_faults.OutOfMemory
 without_devices fault = fault
 
--- A run that has an answer ends with its status, and with what it wrote. One that has none ends with the status of its fault.
+-- the line of a fault
+abbrev pub fault_line : RunFault → List ℕ
+fault_line fault = run_fault_text fault ++ 10 ∷ []
+
+-- A run that has an answer ends with its status, and with what it wrote. One that has none ends with the status and the line of
+-- its fault, or with nothing, where there is no memory for the line.
 abbrev pub EndsOnTexts : Result Bool RunFault → List ℕ → ℕ → List ℕ → Type 0
 EndsOnTexts (Ok answer) written status text = (status ≡ status_of (Ok answer)) × (text ≡ written)
-EndsOnTexts (Err fault) written status text = (status ≡ status_of_fault (without_devices fault)) ⊎ (status ≡ 3)
+EndsOnTexts (Err fault) written status text =
+    ((status ≡ status_of_fault (without_devices fault)) × (text ≡ fault_line (without_devices fault)))
+    ⊎ ((status ≡ 3) × (text ≡ []))
 
 -- ---- what a status says
 
--- 0 comes with a text of which Yes holds, 1 with one of which No holds, 2 comes where Faulty holds of some fault, and 3 is out of
--- memory.
+-- 0 comes with a text of which Yes holds, 1 with one of which No holds, 2 with the line of a fault of which Faulty holds, and 3
+-- with the line of a fault, or with nothing.
 pub record EndsWithText (Yes No : List ℕ → Type 0) (Faulty : RunFault → Type 0) (status : ℕ) (text : List ℕ) : Type 0 where
   pub most : status ≤ 3
   pub yes : status ≡ 0 → Yes text
   pub no : status ≡ 1 → No text
-  pub faulty : status ≡ 2 → (fault : RunFault) × Faulty fault
+  pub faulty : status ≡ 2 → (fault : RunFault) × Faulty fault × (text ≡ fault_line fault)
+  pub memory : status ≡ 3 → (text ≡ []) ⊎ ((fault : RunFault) × (text ≡ fault_line fault))

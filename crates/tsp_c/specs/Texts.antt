@@ -24,8 +24,8 @@ use Rattle.tsp_report.specs.Report.{report_of, bound_report_of}
 use Rattle.tsp_report.specs.Show.{shown}
 use Rattle.tsp_judge.specs.ConvertRun.{Becomes}
 use Rattle.tsp_judge.specs.declared.fault.RunFault.{RunFault}
-use Rattle.tsp_judge.specs.declared.fault.RunFault.TheVariants.{File, WrongKind}
-use Rattle.tsp_c.specs.Ended.{EndsWithText, nth}
+use Rattle.tsp_judge.specs.declared.fault.RunFault.TheVariants.{File, WrongKind, Relayout}
+use Rattle.tsp_c.specs.Ended.{EndsWithText, fault_line, nth}
 
 -- ---- a number that is refused
 
@@ -59,7 +59,8 @@ ShowsText one status text = EndsWithText
 abbrev pub ConvertsText : Option Layout → List ℕ → ℕ → List ℕ → Type 0
 ConvertsText to one status text = EndsWithText
     (λ out. (old : Fields) × (new : Fields) × Spells one old × Becomes to old (Ok new) × (fault_of new ≡ None) × (out ≡ text_of new))
-    (λ out. (old : Fields) × (refused : RelayoutFault) × Spells one old × Becomes to old (Err refused))
+    (λ out. (old : Fields) × (refused : RelayoutFault) × Spells one old × Becomes to old (Err refused)
+    × (out ≡ fault_line (Relayout refused)))
     (IsFaultyText 1 one) status text
 
 -- by the layout with a number, counted from 1; 0 leaves a file in its own, and numbers above 9 are refused
