@@ -66,7 +66,7 @@ OfInstance text P old new status = ((instance : Fields) × IsInstanceText text i
 
 -- ---- costs of pairs
 
--- the numbers are pairs of nodes up to so many
+-- the numbers are pairs of nodes, from 1 to this one
 abbrev pub ArePairs : List ℕ → ℕ → Type 0
 ArePairs pairs nodes = (length pairs ≡ 2 * (length pairs / 2)) × All (IsNode nodes) pairs
 
