@@ -1,3 +1,4 @@
 mod Trees
 pub mod Mapped
 pub mod ValidFields
+mod Ranges

@@ -15,6 +15,7 @@ mod draft;
 mod examples;
 mod fault;
 mod laws;
+mod range;
 mod rules;
 mod table;
 mod validity;

@@ -11,6 +11,7 @@ ghost use Rattle.tsp_draft.specs.Validity.{if_there, with_dimension, is_by_node,
 
 use crate::coords::Coords;
 use crate::draft::Draft;
+use crate::range::{are_from_to, is_from_to};
 use crate::validity;
 use tsp_format::{
     Field, MOST_COMMENTS, MOST_NODES, MOST_OTHERS, Shape, TreeStep, ValueShape, Word,
@@ -122,7 +123,7 @@ fn is_number(number: Option<i64>, low: i64, high: i64) -> bool
 {
     match number {
         None => true,
-        Some(number) => validity::is_from_to(number, low, high),
+        Some(number) => is_from_to(number, low, high),
     }
 }
 
@@ -167,7 +168,7 @@ fn are_numbers(dimension: Option<u32>, numbers: Option<&[i64]>, low: i64, high: 
         (None, _) => true,
         (Some(_), None) => false,
         (Some(numbers), Some(nodes)) => {
-            numbers.len() == nodes as usize && validity::are_from_to(numbers, low, high)
+            numbers.len() == nodes as usize && are_from_to(numbers, low, high)
         }
     }
 }

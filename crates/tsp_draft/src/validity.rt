@@ -9,9 +9,10 @@ ghost use Rattle.tsp_distance.specs.Distances.{on_plane};
 ghost use Rattle.tsp_format.specs.Steps.{step_of, steps_of, are_whole, branch_count, change_count};
 ghost use Rattle.tsp_draft.specs.Coords.{points_of};
 ghost use Rattle.tsp_draft.specs.Fields.{combs_of};
-ghost use Rattle.tsp_draft.specs.Validity.{is_kept, is_unknown_keyword, is_other, is_from_to, is_within, is_node, is_third, is_point, is_demand, are_depots, is_node_pair, are_fixed, is_triple, are_triples, are_weights, is_tour, is_set, is_comb, are_combs, is_change, is_step, are_steps};
+ghost use Rattle.tsp_draft.specs.Validity.{is_kept, is_unknown_keyword, is_other, is_within, is_node, is_third, is_point, is_demand, are_depots, is_node_pair, are_fixed, is_triple, are_triples, are_weights, is_tour, is_set, is_comb, are_combs, is_change, is_step, are_steps};
 
 use crate::coords::Coords;
+use crate::range::{are_from_to, is_from_to};
 use tsp_distance::{Decimal, InSpace, PlanePoint, Point};
 use tsp_format::{
     Field, Keyword, MOST_BRANCHES, MOST_CHANGES, MOST_COMB_NODES, MOST_COMBS, MOST_COORDINATE,
@@ -86,22 +87,6 @@ pub(crate) fn are_other_lines(lines: &[(Vec<u8>, Vec<u8>)]) -> bool
     ensures { result ≡ list_all (λ line. is_other (line.0.items, line.1.items)) lines.now }
 {
     lines.iter().all(|line| is_other(&line.0, &line.1))
-}
-
-/// Whether a number is from low to high.
-pub(crate) fn is_from_to(number: i64, low: i64, high: i64) -> bool
-    ensures { result ≡ is_from_to low high number }
-{
-    low <= number && number <= high
-}
-
-/// Whether every number is from low to high.
-pub(crate) fn are_from_to(numbers: &[i64], low: i64, high: i64) -> bool
-    ensures { result ≡ list_all (is_from_to low high) numbers.now }
-{
-    numbers
-        .iter()
-        .all(|number| low <= *number && *number <= high)
 }
 
 /// Whether a coordinate is of a size of at most 10^9.
