@@ -13,7 +13,7 @@ use Rattle.tsp_format.specs.Steps as listed
 use Rattle.tsp_format.specs.Steps.{step_of, steps_of}
 use Rattle.tsp_branch.specs.Decisions.{Decision, is_same, DecideOnce}
 use Rattle.tsp_branch.specs.Cases.{decide, leaves_of, cases_of, later_cases, open_cases, next_stack}
-use Rattle.tsp_branch.specs.Decided.{stack_of}
+use Rattle.tsp_branch.specs.states.Decided.{stack_of}
 use Rattle.tsp_branch.specs.Listed.{all_grown, steps_from, no_numbers_of}
 use Rattle.tsp_branch.specs.Twice.{is_decided, IsFirstTwice, AreBranchesJudged}
 use Rattle.tsp_branch.proofs.Cases.{stacks_hold_cases}

@@ -9,15 +9,15 @@ use Rattle.std.proofs.lemmas.List.Elements.{recursion_from_All, All-from_recursi
 use Rattle.tsp_theory.specs.Numbers.{IsFromTo, total}
 use Rattle.tsp_theory.specs.Adjusted.{is_same_pair, adjusted}
 use Rattle.tsp_branch.specs.Families.{IsFamily}
-use Rattle.tsp_branch.specs.Decisions.{Decision, on_taken, on_avoided}
+use Rattle.tsp_branch.specs.Decisions.{Decision, on_taken, on_avoided, decided_number}
 use Rattle.tsp_theory.specs.NodeBound.{weight_between}
 use Rattle.tsp_branch.specs.Combs.{Comb}
 use Rattle.tsp_branch.specs.LeafBound.{combed, least_of, leaf_weight}
 use Rattle.tsp_branch.specs.Rows.{HasNoLink, IsRowBound}
 use Rattle.tsp_branch.specs.Certificate.{multiplied, IsFoundAt}
-use Rattle.tsp_branch.specs.Combed.{plain, AreSmallMultipliers, AreFewCrossings, set_weight}
+use Rattle.tsp_branch.specs.states.Combed.{plain, AreSmallMultipliers, AreFewCrossings, set_weight}
 use Rattle.tsp_branch.specs.CombsOfSets.{combs_of_sets}
-use Rattle.tsp_branch.specs.Decided.{decided_number, case_of, stack_of, decided, decided_twice}
+use Rattle.tsp_branch.specs.states.Decided.{case_of, stack_of, decided, decided_twice}
 use Rattle.tsp_branch.specs.Judged.{AreGoodNumbers, as_leaf_numbers}
 use Rattle.tsp_branch.proofs.Changes.{changes_are}
 use Rattle.tsp_branch.proofs.CombSizes.{combs_crossed_few}

@@ -7,7 +7,7 @@ use Rattle.std.proofs.lemmas.Int.{ints, int_wrap_fits, int_wrap-add_left, fits_s
 use Rattle.tsp_theory.specs.Numbers.{IsFromTo}
 use Rattle.tsp_theory.specs.Adjusted.{is_same_pair}
 use Rattle.tsp_theory.proofs.Sizes.{size_of}
-use Rattle.tsp_branch.specs.Decided.{decided, change_of, changes, IsChanged}
+use Rattle.tsp_branch.specs.states.Decided.{decided, change_of, changes, IsChanged}
 
 pub changes_are : (decisions : List (ℕ × ℕ × Bool)) (w : ℕ → ℕ → ℤ) (i j : ℕ) → decided decisions w i j ≡ w i j +ℤ changes decisions i j
 changes_are [] w i j = omega (arith, ints)

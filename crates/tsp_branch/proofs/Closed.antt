@@ -6,8 +6,8 @@ use Rattle.std.proofs.lemmas.Bool.{cases_eq}
 use Rattle.std.proofs.lemmas.List.{get_or_default}
 use Rattle.std.proofs.lemmas.List.Elements.{recursion_from_All, All-from_recursion}
 use Rattle.tsp_branch.specs.Decisions.{Decision}
-use Rattle.tsp_branch.specs.Decided.{decision_of, case_of}
-use Rattle.tsp_branch.specs.Closed.{IsShut}
+use Rattle.tsp_branch.specs.states.Decided.{decision_of, case_of}
+use Rattle.tsp_branch.specs.states.Closed.{IsShut}
 
 -- the first ones of a list
 abbrev pub AllBelow : {X : Type 0} → (X → Type 0) → List X → ℕ → Type 0

@@ -8,8 +8,8 @@ use Rattle.std.proofs.lemmas.List.{take-append-drop, get_or-drop, length-drop}
 use Rattle.std.proofs.lemmas.List.Elements.{All-head, All-tail, All-take, All-from_recursion, recursion_from_All}
 use Rattle.tsp_branch.specs.Families.{IsFamily}
 use Rattle.tsp_format.specs.Cells.{IsNode}
-use Rattle.tsp_branch.specs.Sets.{AreSetsOf}
-use Rattle.tsp_branch.specs.Combed.{plain}
+use Rattle.tsp_branch.specs.states.Sets.{AreSetsOf}
+use Rattle.tsp_branch.specs.states.Combed.{plain}
 use Rattle.tsp_branch.specs.CombsOfSets.{of_comb, combs_from, combs_of_sets}
 use Rattle.tsp_branch.specs.GoodCombs.{HasEachOnce, IsGoodComb, IsFirstBadComb, AreCombsJudged, AreInOrder, lists_of}
 

@@ -16,7 +16,7 @@ use Rattle.tsp_branch.specs.Combs.{Comb, AreApart, crossings}
 use Rattle.tsp_branch.specs.Families.{IsFamily}
 use Rattle.tsp_branch.specs.LeafBound.{crossings_of}
 use Rattle.tsp_branch.specs.Certificate.{multiplied}
-use Rattle.tsp_branch.specs.Combed.{most_crossed, most_combed}
+use Rattle.tsp_branch.specs.states.Combed.{most_crossed, most_combed}
 use Rattle.tsp_branch.proofs.Combs.{Apart, apart_from_pairs}
 use Rattle.tsp_branch.proofs.LeafBounds.{product_below}
 

@@ -4,8 +4,8 @@ use Rattle.std.specs.Prelude.{ℤ, pos, ◌+ℤ◌, ◌*ℤ◌, if◌then◌else
 use Rattle.std.specs.Global.{Vec}
 use Rattle.std.proofs.lemmas.Int.{ints}
 use Rattle.std.proofs.lemmas.List.{get_or-map}
-use Rattle.tsp_branch.specs.Sets.{added}
-use Rattle.tsp_branch.specs.Combed.{plain, multiplier_of, twice_in, inside_both}
+use Rattle.tsp_branch.specs.states.Sets.{added}
+use Rattle.tsp_branch.specs.states.Combed.{plain, multiplier_of, twice_in, inside_both}
 
 none_if : (b : Bool) → (if b then pos 0 else pos 0) ≡ pos 0
 none_if true = refl

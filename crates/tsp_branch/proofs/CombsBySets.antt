@@ -11,8 +11,8 @@ use Rattle.tsp_theory.specs.Tree.{crossing}
 use Rattle.tsp_branch.specs.Combs.{has, crossings}
 use Rattle.tsp_branch.specs.LeafBound.{crossings_of}
 use Rattle.tsp_branch.specs.Certificate.{multiplied}
-use Rattle.tsp_branch.specs.Combed.{multiplier_of}
-use Rattle.tsp_branch.specs.CombsOfSets.{comb_with, of_comb, combs_from, SetsTellCombs, SetsGiveLeaves}
+use Rattle.tsp_branch.specs.states.Combed.{multiplier_of, SetsTellCombs, SetsGiveLeaves}
+use Rattle.tsp_branch.specs.CombsOfSets.{comb_with, of_comb, combs_from}
 
 abbrev crossed : List (List ℕ) → ℕ → ℕ → ℤ
 crossed sets i j = sum_int_by (λ set. crossing (has set) i j) sets

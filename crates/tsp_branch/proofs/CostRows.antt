@@ -4,7 +4,7 @@ use Rattle.std.specs.Prelude.{◌⊎◌, ℤ, slice_index_or as get_or}
 use Rattle.std.specs.Global.{Vec}
 use Rattle.std.proofs.lemmas.List.{length-append, get_or_append_left}
 use Rattle.std.proofs.Math.Seq.{get_or-append_seam}
-use Rattle.tsp_branch.specs.Tabled.{IsKeptRow, AreCostRows}
+use Rattle.tsp_branch.specs.states.Tabled.{IsKeptRow, AreCostRows}
 
 -- a place below one more is below, or the last one
 last_or_below : (k n : ℕ) → k < n + 1 → (k < n) ⊎ (k ≡ n)

@@ -9,8 +9,8 @@ use Rattle.std.proofs.lemmas.List.Elements.{recursion_from_All}
 use Rattle.tsp_theory.specs.Numbers.{IsFromTo}
 use Rattle.tsp_theory.specs.Length.{sum_int_by}
 use Rattle.tsp_theory.specs.Adjusted.{is_same_pair}
-use Rattle.tsp_branch.specs.Decisions.{Decision, DecideOnce}
-use Rattle.tsp_branch.specs.Decided.{decided_number, case_of, stack_of, signed, change_of, changes, AreFewChanges}
+use Rattle.tsp_branch.specs.Decisions.{Decision, DecideOnce, decided_number}
+use Rattle.tsp_branch.specs.states.Decided.{case_of, stack_of, signed, change_of, changes, AreFewChanges}
 
 -- two pairs that are both on two nodes
 abbrev Same : ℕ × ℕ → ℕ → ℕ → Type 0

@@ -10,9 +10,9 @@ use Rattle.std.proofs.lemmas.List.{map-append, take_all, take_more}
 use Rattle.std.proofs.lemmas.List.Folds.{list_any-append}
 use Rattle.tsp_branch.specs.Decisions.{Decision, is_same, DecideOnce}
 use Rattle.tsp_branch.specs.Cases.{decide, next_stack}
-use Rattle.tsp_branch.specs.Decided.{decision_of, case_of, stack_of, IsNextStack}
+use Rattle.tsp_branch.specs.states.Decided.{decision_of, case_of, stack_of, IsNextStack}
 use Rattle.tsp_branch.specs.Twice.{is_decided}
-use Rattle.tsp_branch.specs.PairSets.{pair_cmp, key_of, HasDecided, HasStack}
+use Rattle.tsp_branch.specs.states.PairSets.{pair_cmp, key_of, HasDecided, HasStack}
 use Rattle.tsp_branch.proofs.NextCases.{stack_more, dropped, turned}
 use Rattle.tsp_branch.proofs.PairKeys.{cond_or, from_same, key_at}
 

@@ -13,10 +13,11 @@ use Rattle.tsp_theory.specs.Numbers.{IsFromTo, total}
 use Rattle.tsp_theory.specs.Adjusted.{triples_total}
 use Rattle.tsp_theory.proofs.Sizes.{size_of}
 use Rattle.tsp_branch.specs.Families.{least_crossings_of}
-use Rattle.tsp_branch.specs.Decisions.{Decision, on_taken}
-use Rattle.tsp_branch.specs.Combed.{plain, most_multiplied}
+use Rattle.tsp_branch.specs.Decisions.{Decision, on_taken, decided_number}
+use Rattle.tsp_branch.specs.states.Combed.{plain}
+use Rattle.tsp_branch.specs.Judged.{most_multiplied}
 use Rattle.tsp_branch.specs.CombsOfSets.{least_with}
-use Rattle.tsp_branch.specs.Decided.{decided_number, decision_of, case_of, stack_of}
+use Rattle.tsp_branch.specs.states.Decided.{decision_of, case_of, stack_of}
 use Rattle.tsp_branch.proofs.LeafBounds.{product_below}
 
 -- ---- sums of numbers

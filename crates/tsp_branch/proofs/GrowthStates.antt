@@ -10,7 +10,7 @@ use Rattle.tsp_theory.proofs.Exchange.{and_node_self, and_node_old}
 use Rattle.tsp_theory.proofs.Steps.{grows_more, grown_by_more}
 use Rattle.tsp_theory.proofs.Weights.{weight_added}
 use Rattle.tsp_theory.proofs.Nearest.{most_64}
-use Rattle.tsp_branch.specs.Outside.{IsGrownWeight, AreFromThree, IsLower, AreLower, AreInner, IsLeastPlace}
+use Rattle.tsp_branch.specs.states.Outside.{IsGrownWeight, AreFromThree, IsLower, AreLower, AreInner, IsLeastPlace}
 use Rattle.tsp_branch.proofs.Outside.{moved_from, removed_at, removed_length, moved_others, moved_differ, moved_all}
 
 -- the part that is grown from node 2 by these pairs

@@ -16,17 +16,16 @@ use Rattle.tsp_branch.specs.declared.steps.Judged.{Judged}
 use Rattle.tsp_branch.specs.declared.steps.Judged.TheVariants as judged
 use Rattle.tsp_branch.specs.Combs.{Comb}
 use Rattle.tsp_branch.specs.Families.{IsFamily}
-use Rattle.tsp_branch.specs.Decisions.{Decision, DecideOnce}
+use Rattle.tsp_branch.specs.Decisions.{Decision, DecideOnce, decided_number}
 use Rattle.tsp_branch.specs.declared.steps.JudgedLeaf.{JudgedLeaf}
 use Rattle.tsp_branch.specs.declared.steps.JudgedLeaf.TheVariants as leaves
 use Rattle.tsp_branch.specs.Cases.{LeafNumbers, are_trees, leaves_of, next_stack}
 use Rattle.tsp_branch.specs.Certificate.{IsCertificate, IsLeastFound, AreCostsFor, CertificatesBoundCycles}
-use Rattle.tsp_branch.specs.Combed.{most_multiplied}
-use Rattle.tsp_branch.specs.Decided.{decided_number, stack_of}
-use Rattle.tsp_branch.specs.Judged.{AreGoodNumbers, as_leaf_numbers}
+use Rattle.tsp_branch.specs.states.Decided.{stack_of}
+use Rattle.tsp_branch.specs.Judged.{AreGoodNumbers, as_leaf_numbers, most_multiplied}
 use Rattle.tsp_branch.specs.Listed.{all_grown, split_at, steps_from, no_numbers_of, listed_steps, IsStepOf, AreSteps, AreGoodLeaves, IsFirstBadLeaf, IsJudged, BoundsCycles, IsLowest}
 use Rattle.tsp_branch.specs.Twice.{AreBranchesJudged}
-use Rattle.tsp_branch.specs.Rooms.{AreSmall, IsJudgedLeaf, IsSizedLeaf}
+use Rattle.tsp_branch.specs.states.Rooms.{AreSmall, IsJudgedLeaf, IsSizedLeaf}
 use Rattle.tsp_branch.proofs.CaseWeights.{small_multipliers}
 use Rattle.tsp_branch.proofs.OnePass.{first_bad_by_place}
 use Rattle.tsp_branch.proofs.Passes.{IsAtStep, at_leaf, at_last}

@@ -5,8 +5,8 @@ use Rattle.std.specs.Int.{w64, int_wrap}
 use Rattle.std.specs.Global.{Vec}
 use Rattle.std.proofs.lemmas.Bool.{cases_Bool}
 use Rattle.std.proofs.lemmas.Int.{ints, int_wrap_fits, SFits-int_wrap}
-use Rattle.tsp_branch.specs.Sets.{IsMoved, added}
-use Rattle.tsp_branch.specs.Combed.{plain, multipliers_at}
+use Rattle.tsp_branch.specs.states.Sets.{IsMoved, added}
+use Rattle.tsp_branch.specs.states.Combed.{plain, multipliers_at}
 
 pub added_less : (number : ℤ) (nodes : List ℕ) (x : ℕ) → added (neg_ℤ number) nodes x ≡ neg_ℤ (added number nodes x)
 added_less number [] x = refl

@@ -8,7 +8,7 @@ use Rattle.std.proofs.lemmas.Grind.{take-set_at}
 use Rattle.std.proofs.lemmas.List.{map-append, reverse-append, take_more, get_or-take, length-take-le}
 use Rattle.std.proofs.lemmas.List.Elements.{All-set, All-take}
 use Rattle.tsp_branch.specs.Cases.{next_stack}
-use Rattle.tsp_branch.specs.Decided.{IsDecision, decision_of, case_of, stack_of}
+use Rattle.tsp_branch.specs.states.Decided.{IsDecision, decision_of, case_of, stack_of}
 
 pub stack_more : (xs : List (ℕ × ℕ × Bool)) (d : ℕ × ℕ × Bool) → stack_of (xs ++ d ∷ []) ≡ decision_of d ∷ stack_of xs
 stack_more xs d = ap reverse (map-append decision_of xs (d ∷ [])) ∙ reverse-append (case_of xs) (decision_of d ∷ [])

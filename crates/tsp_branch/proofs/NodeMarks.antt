@@ -8,7 +8,7 @@ use Rattle.std.proofs.lemmas.List.Folds.{Any-from_list_any, list_any_at, list_an
 use Rattle.std.proofs.lemmas.List.Quantifiers.{all_pairs_push}
 use Rattle.tsp_branch.specs.Combs.{has}
 use Rattle.tsp_branch.specs.GoodCombs.{HasEachOnce}
-use Rattle.tsp_branch.specs.Marked.{is_marked, AreNew, AddsNoOther}
+use Rattle.tsp_branch.specs.states.Marked.{is_marked, AreNew, AddsNoOther}
 
 or_true : (b : Bool) → (b || true) ≡ true
 or_true true = refl

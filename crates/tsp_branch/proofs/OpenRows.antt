@@ -9,9 +9,9 @@ use Rattle.std.proofs.lemmas.List.Sorted.{IsPermutation-reverse, IsPermutation-s
 use Rattle.tsp_format.specs.Cells.{IsNode}
 use Rattle.tsp_theory.specs.Growth.{least_at}
 use Rattle.tsp_branch.specs.Decisions.{Decision}
-use Rattle.tsp_branch.specs.Decided.{IsDecision, case_of, stack_of}
+use Rattle.tsp_branch.specs.states.Decided.{IsDecision, case_of, stack_of}
 use Rattle.tsp_branch.specs.Rows.{Allows, IsAllowed, IsLeastFrom}
-use Rattle.tsp_branch.specs.Closed.{closed, IsShut, decisions_of, IsOpenRow}
+use Rattle.tsp_branch.specs.states.Closed.{closed, IsShut, decisions_of, IsOpenRow}
 
 -- ---- the decisions of a case
 

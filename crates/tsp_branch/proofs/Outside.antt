@@ -9,7 +9,7 @@ use Rattle.std.proofs.lemmas.Int.{ints}
 use Rattle.std.proofs.lemmas.List.{get_or-set_same, get_or-set_other, get_or-take, get_or_default, get_or_append_left, length-take-le, length-set}
 use Rattle.tsp_theory.specs.Growth.{least_at}
 use Rattle.tsp_theory.proofs.Nearest.{most_64}
-use Rattle.tsp_branch.specs.Outside.{IsLower, IsLeastPlace}
+use Rattle.tsp_branch.specs.states.Outside.{IsLower, IsLeastPlace}
 
 -- ---- the nodes from 3 on, one more
 

@@ -13,8 +13,8 @@ use Rattle.tsp_format.specs.Cells.{IsNode}
 use Rattle.tsp_theory.specs.Length.{sum_int_by}
 use Rattle.tsp_theory.specs.Growth.{least_at}
 use Rattle.tsp_branch.specs.Combs.{has}
-use Rattle.tsp_branch.specs.Sets.{IsMoved, added, times, sets_with}
-use Rattle.tsp_branch.specs.Combed.{plain, multiplier_of, set_crossings, multipliers_at, twice_in, inside_both}
+use Rattle.tsp_branch.specs.states.Sets.{IsMoved, added, times, sets_with}
+use Rattle.tsp_branch.specs.states.Combed.{plain, multiplier_of, set_crossings, multipliers_at, twice_in, inside_both}
 
 -- different nodes, by recursion
 abbrev Differ : List ℕ → Type 0

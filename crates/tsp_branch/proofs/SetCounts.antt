@@ -10,7 +10,7 @@ use Rattle.tsp_branch.specs.Combs.{has}
 use Rattle.tsp_branch.specs.Families.{least_crossings_of}
 use Rattle.tsp_branch.specs.LeafBound.{least_of}
 use Rattle.tsp_branch.specs.Certificate.{multiplied}
-use Rattle.tsp_branch.specs.Combed.{plain}
+use Rattle.tsp_branch.specs.states.Combed.{plain}
 use Rattle.tsp_branch.specs.CombsOfSets.{comb_with, of_comb, combs_from, combs_of_sets, AreSetCounts, least_with}
 
 -- ---- set by set

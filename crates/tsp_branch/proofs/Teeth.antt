@@ -14,7 +14,7 @@ use Rattle.tsp_format.specs.Cells.{IsNode}
 use Rattle.tsp_branch.specs.Combs.{IsTooth, AreApart, IsComb, has, comb_of}
 use Rattle.tsp_branch.specs.Families.{IsLoneSet, IsFamily}
 use Rattle.tsp_branch.specs.GoodCombs.{HasEachOnce, IsGoodComb, IsToothCount, lists_of}
-use Rattle.tsp_branch.specs.Marked.{AreNew, AreTeeth}
+use Rattle.tsp_branch.specs.states.Marked.{AreNew, AreTeeth}
 
 -- ---- one tooth
 

@@ -1,12 +1,7 @@
 -- Combs as code has them: by their sets, of which each has the number of its comb, from 0 on, and the first one is the handle.
 use Rattle.std.specs.Prelude.{◌≡◌, ℕ, zero, suc, ◌==◌, ◌<◌, ◌-◌, false, if◌then◌else◌, List, [], ◌∷◌, length, slice_index_or, ℤ, pos, ◌+ℤ◌, ◌*ℤ◌}
-use Rattle.std.specs.List.{All}
-use Rattle.tsp_theory.specs.Adjusted.{adjusted}
 use Rattle.tsp_branch.specs.Combs.{Comb, comb_of}
 use Rattle.tsp_branch.specs.Families.{least_crossings_of}
-use Rattle.tsp_branch.specs.LeafBound.{crossings_of, leaf_weight}
-use Rattle.tsp_branch.specs.Certificate.{multiplied}
-use Rattle.tsp_branch.specs.Combed.{set_crossings, set_weight}
 
 abbrev pub comb_with : List (List ℕ) → Comb
 comb_with [] = record { handle = λ node. false; teeth = [] }
@@ -36,15 +31,3 @@ least_with [] multipliers = pos 0
 least_with (count ∷ counts) [] = pos 0
 least_with (count ∷ counts) (multiplier ∷ multipliers) =
     (multiplier *ℤ pos (least_crossings_of (count - 1))) +ℤ least_with counts multipliers
-
--- The crossings of the sets are those of the combs.
-abbrev pub SetsTellCombs : Type 0
-SetsTellCombs = (multipliers : List ℤ) (sets : List (ℕ × List ℕ)) (i j : ℕ) → All (λ set. set.0 < length multipliers) sets
-    → crossings_of (multiplied (combs_of_sets (length multipliers) sets) multipliers) i j ≡ set_crossings multipliers sets i j
-
--- So the weights by sets are, under taken and avoided pairs, those of a leaf.
-abbrev pub SetsGiveLeaves : Type 0
-SetsGiveLeaves = (scale : ℤ) (potentials multipliers : List ℤ) (taken avoided : List (ℕ × ℕ × ℤ)) (sets : List (ℕ × List ℕ))
-    (cost : ℕ → ℕ → ℤ) (i j : ℕ) → All (λ set. set.0 < length multipliers) sets
-    → adjusted taken avoided (set_weight scale potentials multipliers sets cost) i j
-    ≡ leaf_weight scale potentials taken avoided (multiplied (combs_of_sets (length multipliers) sets) multipliers) cost i j

@@ -1,5 +1,5 @@
 -- Decisions: pairs that a cycle uses, and pairs that it doesn't.
-use Rattle.std.specs.Prelude.{ℕ, ◌≤◌, ◌≡◌, ◌==◌, ◌&&◌, Bool, true, false, if◌then◌else◌, List, [], ◌∷◌, length, map, ℤ, ◌≤ℤ◌}
+use Rattle.std.specs.Prelude.{ℕ, ◌≤◌, ◌≡◌, ◌==◌, ◌&&◌, Bool, true, false, if◌then◌else◌, List, [], ◌∷◌, length, map, ℤ, pos, ◌≤ℤ◌}
 use Rattle.std.specs.List.{All, AllPairs}
 use Rattle.tsp_theory.specs.Costs.{IsSymmetric}
 use Rattle.tsp_theory.specs.Cycle.{IsCycle}
@@ -53,6 +53,10 @@ abbrev pub on_avoided : ℤ → List Decision → List (ℕ × ℕ × ℤ)
 on_avoided number [] = []
 on_avoided number (decision ∷ decisions) =
     if decision.taken then on_avoided number decisions else (on_pair number decision ∷ on_avoided number decisions)
+
+-- the number on each decided pair
+abbrev pub decided_number : ℤ
+decided_number = pos 4000000000000000000
 
 -- ---- the theorems, which are those of tsp_theory
 

@@ -3,7 +3,10 @@ use Rattle.std.specs.Prelude.{◌≡◌, ℕ, List, length, ℤ, pos, ◌≤ℤ�
 use Rattle.std.specs.List.{All}
 use Rattle.tsp_theory.specs.Numbers.{ArePotentials, total}
 use Rattle.tsp_branch.specs.Cases.{LeafNumbers}
-use Rattle.tsp_branch.specs.Combed.{most_multiplied}
+
+-- what the multipliers of all combs of a leaf sum to at most
+abbrev pub most_multiplied : ℕ
+most_multiplied = 300000000000000000
 
 -- as many potentials as nodes, none too large; as many multipliers as combs, none negative, which don't sum to too much
 pub record AreGoodNumbers (n combs : ℕ) (numbers : LeafNumbers) : Type 0 where

@@ -1,3 +1,4 @@
+pub mod states
 pub mod Cases
 pub mod Certificate
 pub mod Combs
@@ -6,22 +7,13 @@ pub mod Examples
 pub mod LeafBound
 pub mod NumberExamples
 pub mod Weighed
-pub mod Decided
-pub mod Sets
-pub mod Combed
 pub mod CombsOfSets
 pub mod Judged
 pub mod GoodCombs
-pub mod Tabled
 pub mod Twice
-pub mod PairSets
-pub mod Marked
-pub mod Outside
 pub mod Listed
 pub mod BranchVerdicts
 pub mod VerdictExamples
-pub mod Rooms
 pub mod Rows
 pub mod Families
 pub mod RowLeaves
-pub mod Closed

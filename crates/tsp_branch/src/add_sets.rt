@@ -4,8 +4,8 @@ ghost use Rattle.std.specs.Prelude.{◌≡◌, ◌<◌, ◌+ℤ◌, ℕ, length}
 ghost use Rattle.std.specs.Int.{w64, int_wrap};
 ghost use Rattle.std.specs.List.{All};
 ghost use Rattle.tsp_theory.specs.Growth.{least_at};
-ghost use Rattle.tsp_branch.specs.Sets.{IsMoved, added};
-ghost use Rattle.tsp_branch.specs.Combed.{plain, AreSmallMultipliers, AreMultipliedSets, inside_both};
+ghost use Rattle.tsp_branch.specs.states.Sets.{IsMoved, added};
+ghost use Rattle.tsp_branch.specs.states.Combed.{plain, AreSmallMultipliers, AreMultipliedSets, inside_both};
 
 use crate::sets::add_to_nodes;
 

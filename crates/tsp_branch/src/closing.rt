@@ -3,9 +3,9 @@
 ghost use Rattle.std.specs.Prelude.{◌≡◌, ◌≢◌, ◌<◌, ℕ, length};
 ghost use Rattle.std.specs.List.{All};
 ghost use Rattle.tsp_theory.specs.Growth.{least_at};
-ghost use Rattle.tsp_branch.specs.Decided.{decision_of, case_of};
+ghost use Rattle.tsp_branch.specs.states.Decided.{decision_of, case_of};
 ghost use Rattle.tsp_branch.specs.Rows.{Allows};
-ghost use Rattle.tsp_branch.specs.Closed.{closed, IsShut};
+ghost use Rattle.tsp_branch.specs.states.Closed.{closed, IsShut};
 
 /// The weight that means no link: all weights are below it.
 pub(crate) const CLOSED: i64 = i64::MAX;

@@ -5,8 +5,8 @@ ghost use Rattle.std.specs.Int.{w64, int_wrap};
 ghost use Rattle.tsp_format.specs.Cells.{IsNode};
 ghost use Rattle.tsp_theory.specs.Numbers.{IsFromTo, IsScale, ArePotentials, entry};
 ghost use Rattle.tsp_theory.specs.Growth.{least_at};
-ghost use Rattle.tsp_branch.specs.Sets.{IsMoved, IsSetTable, AreSetsOf};
-ghost use Rattle.tsp_branch.specs.Combed.{plain, AreSmallMultipliers, AreMultipliedSets, multipliers_at, AreFewCrossings, set_weight};
+ghost use Rattle.tsp_branch.specs.states.Sets.{IsMoved, IsSetTable, AreSetsOf};
+ghost use Rattle.tsp_branch.specs.states.Combed.{plain, AreSmallMultipliers, AreMultipliedSets, multipliers_at, AreFewCrossings, set_weight};
 
 use crate::add_sets::add_sets;
 use crate::growth::weight_in;
@@ -50,8 +50,8 @@ impl<'a, C: Costs> CombedWeights<'a, C> {
     ghost use Rattle.tsp_theory.specs.Growth.{least_at};
     ghost use Rattle.tsp_theory.specs.NodeBound.{weight_between};
     ghost use Rattle.tsp_theory.specs.NodeBound.{most_between};
-    ghost use Rattle.tsp_branch.specs.Sets.{IsMoved, IsSetTable, AreSetsOf};
-    ghost use Rattle.tsp_branch.specs.Combed.{plain, AreSmallMultipliers, AreMultipliedSets, multipliers_at, AreFewCrossings, most_combed, set_weight};
+    ghost use Rattle.tsp_branch.specs.states.Sets.{IsMoved, IsSetTable, AreSetsOf};
+    ghost use Rattle.tsp_branch.specs.states.Combed.{plain, AreSmallMultipliers, AreMultipliedSets, multipliers_at, AreFewCrossings, most_combed, set_weight};
 
     /// The weights of these costs, potentials and sets.
     ///
@@ -139,7 +139,7 @@ impl<'a, C: Costs> CombedWeights<'a, C> {
 }
 
 impl<C: Costs> Weights for CombedWeights<'_, C> {
-    ghost use Rattle.tsp_branch.specs.Combed.{plain, set_weight};
+    ghost use Rattle.tsp_branch.specs.states.Combed.{plain, set_weight};
 
     ghost nodes = { λ w. C.nodes w.costs.now };
 

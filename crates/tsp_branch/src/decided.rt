@@ -4,8 +4,8 @@ ghost use Rattle.std.specs.Prelude.{◌≡◌, ◌<◌, ◌≢◌, ◌+ℤ◌, �
 ghost use Rattle.std.specs.Int.{w64, int_wrap};
 ghost use Rattle.std.specs.List.{All};
 ghost use Rattle.tsp_theory.specs.Growth.{least_at};
-ghost use Rattle.tsp_branch.specs.Sets.{IsMoved};
-ghost use Rattle.tsp_branch.specs.Decided.{IsDecision, IsChanged, AreFewChanges, changes};
+ghost use Rattle.tsp_branch.specs.states.Sets.{IsMoved};
+ghost use Rattle.tsp_branch.specs.states.Decided.{IsDecision, IsChanged, AreFewChanges, changes};
 
 use crate::combed::CombedWeights;
 use crate::growth::weight_in;
@@ -32,8 +32,8 @@ pub struct DecidedWeights<'a, C: Costs> {
 impl<'a, C: Costs> DecidedWeights<'a, C> {
     ghost use Rattle.std.specs.Prelude.{◌≡◌, ℕ};
     ghost use Rattle.std.specs.List.{All};
-    ghost use Rattle.tsp_branch.specs.Combed.{plain, set_weight};
-    ghost use Rattle.tsp_branch.specs.Decided.{IsDecision, AreFewChanges, decided_twice};
+    ghost use Rattle.tsp_branch.specs.states.Combed.{plain, set_weight};
+    ghost use Rattle.tsp_branch.specs.states.Decided.{IsDecision, AreFewChanges, decided_twice};
 
     /// The weights under decisions: two nodes, and whether a cycle is to use them as neighbours.
     ///
@@ -64,8 +64,8 @@ impl<'a, C: Costs> DecidedWeights<'a, C> {
 }
 
 impl<C: Costs> Weights for DecidedWeights<'_, C> {
-    ghost use Rattle.tsp_branch.specs.Combed.{plain, set_weight};
-    ghost use Rattle.tsp_branch.specs.Decided.{decided_twice};
+    ghost use Rattle.tsp_branch.specs.states.Combed.{plain, set_weight};
+    ghost use Rattle.tsp_branch.specs.states.Decided.{decided_twice};
 
     ghost nodes = { λ w. C.nodes w.combed.now.costs.now };
 

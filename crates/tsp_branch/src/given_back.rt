@@ -4,13 +4,13 @@ ghost use Rattle.std.specs.Prelude.{◌≡◌, ◌≤◌, ◌<◌, ◌^◌, ◌-
 ghost use Rattle.std.specs.List.{All};
 ghost use Rattle.tsp_theory.specs.Numbers.{IsFromTo, total};
 ghost use Rattle.tsp_theory.specs.Adjusted.{triples_total};
-ghost use Rattle.tsp_branch.specs.Decisions.{on_taken};
+ghost use Rattle.tsp_branch.specs.Decisions.{on_taken, decided_number};
 ghost use Rattle.tsp_branch.specs.Certificate.{multiplied};
 ghost use Rattle.tsp_branch.specs.Families.{least_crossings_of};
 ghost use Rattle.tsp_branch.specs.LeafBound.{least_of};
-ghost use Rattle.tsp_branch.specs.Combed.{most_multiplied};
+ghost use Rattle.tsp_branch.specs.Judged.{most_multiplied};
 ghost use Rattle.tsp_branch.specs.CombsOfSets.{combs_of_sets, AreSetCounts, least_with};
-ghost use Rattle.tsp_branch.specs.Decided.{decided_number, case_of, stack_of};
+ghost use Rattle.tsp_branch.specs.states.Decided.{case_of, stack_of};
 
 use crate::decided::DECIDED;
 

@@ -5,7 +5,7 @@ ghost use Rattle.tsp_format.specs.Cells.{IsNode};
 ghost use Rattle.tsp_format.specs.Limits.{most_nodes};
 ghost use Rattle.tsp_theory.specs.Numbers.{IsFromTo};
 ghost use Rattle.tsp_theory.specs.Growth.{least_at};
-ghost use Rattle.tsp_branch.specs.Outside.{IsGrownWeight, AreFromThree, IsLower, AreLower, AreInner, IsLeastPlace};
+ghost use Rattle.tsp_branch.specs.states.Outside.{IsGrownWeight, AreFromThree, IsLower, AreLower, AreInner, IsLeastPlace};
 
 use crate::weights::Weights;
 use std::alloc::{AllocError, Global};

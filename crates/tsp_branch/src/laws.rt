@@ -9,7 +9,7 @@ ghost use Rattle.tsp_branch.specs.Rows.{LinksAreAllowed, NoLinkNoCycle, SumsAreB
 ghost use Rattle.tsp_branch.specs.Families.{CyclesCrossFamilies};
 ghost use Rattle.tsp_branch.specs.RowLeaves.{RowLeafBoundsBoundCycles};
 ghost use Rattle.tsp_branch.specs.Certificate.{CertificatesBoundCycles, CertificatesBoundTours, NoBoundNoTour, CertificateBoundsAreUnique};
-ghost use Rattle.tsp_branch.specs.CombsOfSets.{SetsTellCombs, SetsGiveLeaves};
+ghost use Rattle.tsp_branch.specs.states.Combed.{SetsTellCombs, SetsGiveLeaves};
 
 use tsp_theory::{
     adjusted_bounds_bound_cycles, cycles_are_permutations, cycles_have_no_loops, lengths_add_up,

@@ -2,7 +2,7 @@
 
 ghost use Rattle.std.specs.Prelude.{◌≡◌, ◌≤◌, ◌<◌, ◌↔◌, ℕ, Bool, IsTrue, length, true, false};
 ghost use Rattle.std.specs.List.{All, Any};
-ghost use Rattle.tsp_branch.specs.Marked.{is_marked, AreNew, AreMarked, AddsNoOther};
+ghost use Rattle.tsp_branch.specs.states.Marked.{is_marked, AreNew, AreMarked, AddsNoOther};
 
 /// Marks nodes. `false` where one has the mark or appears twice: the nodes before it are marked
 /// then.

@@ -6,8 +6,8 @@ ghost use Rattle.std.specs.List.{All};
 ghost use Rattle.tsp_format.specs.Cells.{IsNode};
 ghost use Rattle.tsp_theory.specs.Numbers.{entry};
 ghost use Rattle.tsp_theory.specs.Growth.{least_at};
-ghost use Rattle.tsp_branch.specs.Sets.{IsMoved, AreSetsOf};
-ghost use Rattle.tsp_branch.specs.Combed.{plain, AreSmallMultipliers, multipliers_at};
+ghost use Rattle.tsp_branch.specs.states.Sets.{IsMoved, AreSetsOf};
+ghost use Rattle.tsp_branch.specs.states.Combed.{plain, AreSmallMultipliers, multipliers_at};
 
 use crate::add_sets::add_where_any;
 

@@ -15,7 +15,7 @@ pub(crate) struct Room {
 impl Room {
     ghost use Rattle.std.specs.Prelude.{◌≡◌, ◌<◌, ◌^◌, IfOk};
     ghost use Rattle.tsp_branch.specs.Listed.{no_numbers_of};
-    ghost use Rattle.tsp_branch.specs.Rooms.{IsRoom};
+    ghost use Rattle.tsp_branch.specs.states.Rooms.{IsRoom};
 
     /// Memory for this many nodes and combs, where all numbers are 0.
     ///

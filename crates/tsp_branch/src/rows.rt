@@ -6,9 +6,9 @@ ghost use Rattle.tsp_format.specs.Cells.{IsNode};
 ghost use Rattle.tsp_format.specs.Limits.{most_nodes};
 ghost use Rattle.tsp_theory.specs.Numbers.{IsFromTo, IsScale, IsBoundSized, IsSumSized};
 ghost use Rattle.tsp_theory.specs.Growth.{least_at};
-ghost use Rattle.tsp_branch.specs.Decided.{IsDecision};
+ghost use Rattle.tsp_branch.specs.states.Decided.{IsDecision};
 ghost use Rattle.tsp_branch.specs.Rows.{IsAllowed, HasNoLink, IsLeastFrom, IsSumOfLeast, IsRowBound};
-ghost use Rattle.tsp_branch.specs.Closed.{closed, decisions_of, IsOpenRow};
+ghost use Rattle.tsp_branch.specs.states.Closed.{closed, decisions_of, IsOpenRow};
 
 use crate::closing::{CLOSED, close_all, shut};
 use crate::leaf::rounded_up;

@@ -4,10 +4,10 @@ ghost use Rattle.std.specs.Prelude.{◌≡◌, ◌≢◌, ◌≤◌, ◌<◌, �
 ghost use Rattle.std.specs.List.{All, AllPairs};
 ghost use Rattle.tsp_theory.specs.Costs.{IsSymmetric};
 ghost use Rattle.tsp_theory.specs.Numbers.{IsScale};
-ghost use Rattle.tsp_branch.specs.Sets.{IsSetTable, AreSetsOf};
-ghost use Rattle.tsp_branch.specs.Combed.{plain};
+ghost use Rattle.tsp_branch.specs.states.Sets.{IsSetTable, AreSetsOf};
+ghost use Rattle.tsp_branch.specs.states.Combed.{plain};
 ghost use Rattle.tsp_branch.specs.CombsOfSets.{AreSetCounts};
-ghost use Rattle.tsp_branch.specs.Decided.{IsDecision};
+ghost use Rattle.tsp_branch.specs.states.Decided.{IsDecision};
 
 use crate::combed::CombedWeights;
 use crate::decided::DecidedWeights;
@@ -52,11 +52,11 @@ impl<C: Costs> Setting<'_, C> {
     ghost use Rattle.std.specs.List.{All};
     ghost use Rattle.tsp_theory.specs.Numbers.{IsBoundSized};
     ghost use Rattle.tsp_branch.specs.Families.{IsFamily};
-    ghost use Rattle.tsp_branch.specs.Decisions.{DecideOnce};
+    ghost use Rattle.tsp_branch.specs.Decisions.{DecideOnce, decided_number};
     ghost use Rattle.tsp_branch.specs.Certificate.{IsFoundAt};
-    ghost use Rattle.tsp_branch.specs.Combed.{plain};
+    ghost use Rattle.tsp_branch.specs.states.Combed.{plain};
     ghost use Rattle.tsp_branch.specs.CombsOfSets.{combs_of_sets};
-    ghost use Rattle.tsp_branch.specs.Decided.{decided_number, IsDecision, case_of, stack_of};
+    ghost use Rattle.tsp_branch.specs.states.Decided.{IsDecision, case_of, stack_of};
     ghost use Rattle.tsp_branch.specs.Judged.{AreGoodNumbers, as_leaf_numbers};
 
     /// The bound of the leaf with these numbers and decisions; `None` where it has none, since some

@@ -3,7 +3,7 @@
 ghost use Rattle.std.specs.Prelude.{◌≡◌, ◌≤◌, ◌+◌, ℕ, Bool, true, take, length, slice_index_or};
 ghost use Rattle.std.specs.List.{All};
 ghost use Rattle.tsp_branch.specs.Cases.{next_stack};
-ghost use Rattle.tsp_branch.specs.Decided.{IsDecision, IsNextStack, stack_of};
+ghost use Rattle.tsp_branch.specs.states.Decided.{IsDecision, IsNextStack, stack_of};
 
 /// Leaves a leaf for the next open case: the decisions after the last taken pair are dropped, and
 /// that pair is avoided. Where no pair is taken no case is open: all is dropped, and the result is

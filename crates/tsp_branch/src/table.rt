@@ -3,7 +3,7 @@
 ghost use Rattle.std.specs.Prelude.{◌≡◌, ◌≤◌, IfOk};
 ghost use Rattle.tsp_format.specs.Cells.{IsNode};
 ghost use Rattle.tsp_format.specs.Limits.{most_nodes};
-ghost use Rattle.tsp_branch.specs.Tabled.{IsKeptRow, AreCostRows};
+ghost use Rattle.tsp_branch.specs.states.Tabled.{IsKeptRow, AreCostRows};
 
 use std::alloc::{AllocError, Global};
 use tsp_theory::{Costs, Symmetric};

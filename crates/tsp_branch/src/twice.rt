@@ -3,8 +3,8 @@
 ghost use Rattle.std.specs.Prelude.{◌≡◌, ◌++◌, List, true, IfOk};
 ghost use Rattle.tsp_format.specs.Steps.{steps_of};
 ghost use Rattle.tsp_branch.specs.Decisions.{Decision, DecideOnce};
-ghost use Rattle.tsp_branch.specs.Decided.{IsNextStack, case_of, stack_of};
-ghost use Rattle.tsp_branch.specs.PairSets.{key_of, HasDecided, HasStack};
+ghost use Rattle.tsp_branch.specs.states.Decided.{IsNextStack, case_of, stack_of};
+ghost use Rattle.tsp_branch.specs.states.PairSets.{key_of, HasDecided, HasStack};
 ghost use Rattle.tsp_branch.specs.Twice.{AreBranchesJudged};
 
 use crate::stack::next_case;

@@ -4,13 +4,14 @@ use Rattle.std.specs.Prelude.{ℤ, nat_le, nat_lt, is_some, unwrap_or, not, ◌&
 use Rattle.std.specs.Option.{option_map_or}
 use Rattle.std.specs.List.{find}
 use Rattle.std.proofs.lemmas.Bool.{and_parts, leb-true}
+use Rattle.tsp_distance.specs.declared.decimal.Point.{Point}
 use Rattle.tsp_format.specs.declared.field.Field.{Field}
 use Rattle.tsp_format.specs.declared.field.Field.TheVariants.{DimensionKey}
 use Rattle.tsp_format.specs.declared.keyword.Keyword.TheVariants.{Known}
 use Rattle.tsp_format.specs.Limits.{most_nodes, most_line_bytes, most_matrix_nodes}
 use Rattle.tsp_format.specs.Steps.{Step}
 use Rattle.tsp_format.specs.Words.{fields_in_order}
-use Rattle.tsp_draft.specs.Fields.{Fields, fields_of, stands_in, with_numbers, spatial}
+use Rattle.tsp_draft.specs.Fields.{Fields, fields_of, stands_in, with_numbers, with_points, spatial}
 use Rattle.tsp_draft.specs.Validity.{if_there, is_node}
 use Rattle.tsp_text.specs.declared.fault.LineFault.{LineFault}
 use Rattle.tsp_text.specs.declared.fault.LineFault.TheVariants as row
@@ -19,11 +20,12 @@ use Rattle.tsp_format.specs.declared.field.Shape.TheVariants.{Numbers, Pairs, Tr
 use Rattle.tsp_section.specs.declared.part.Part.{Part}
 use Rattle.tsp_section.specs.declared.part.Part.TheVariants as parts
 use Rattle.tsp_section.specs.declared.parts.numbers.NumberList.{NumberList}
+use Rattle.tsp_section.specs.declared.parts.points.PointList.{PointList}
 use Rattle.tsp_section.specs.declared.parts.fixed.FixedList.{FixedList}
 use Rattle.tsp_section.specs.declared.parts.triples.TripleList.{TripleList}
 use Rattle.tsp_section.specs.declared.parts.combs.CombList.{CombList}
 use Rattle.tsp_section.specs.declared.parts.tree.TreeList.{TreeList}
-use Rattle.tsp_text.specs.Groups.{numbers_by_node, place_of_number}
+use Rattle.tsp_text.specs.Groups.{numbers_by_node, place_of_number, coords_by_node}
 use Rattle.tsp_text.specs.Lists.{fixed_in, place_of_fixed, fixed_triples_in, place_of_triple}
 use Rattle.tsp_text.specs.Combs.{whole_combs, place_of_comb}
 use Rattle.tsp_text.specs.Tree.{whole_steps, place_of_step}
@@ -36,8 +38,9 @@ use Rattle.tsp_text.specs.Values.{dimension_of, spatial_after}
 use Rattle.tsp_text.specs.Sections.{place_by, place_in, dimension_in}
 use Rattle.tsp_text.specs.Rows.{row_of, when, first_row}
 use Rattle.tsp_section.specs.states.CutLine.{MayOpen}
+use Rattle.tsp_section.specs.states.Parts.{are_in_space}
 use Rattle.tsp_text.specs.Opening.{needs_nodes, is_matrix, opening_rows}
-use Rattle.tsp_section.specs.states.Held.{HoldsNumbers, HoldsFixed, HoldsTriples, HoldsCombs, HoldsTree, shape_by, HoldsPart, HoldsShape}
+use Rattle.tsp_section.specs.states.Held.{HoldsNumbers, HoldsPoints, HoldsFixed, HoldsTriples, HoldsCombs, HoldsTree, shape_of_points, shape_by, HoldsPart, HoldsShape}
 use Rattle.tsp_text.specs.Spells.{wants_more, is_incomplete, sections_in_order, first_incomplete}
 use Rattle.tsp_read.specs.declared.state.reading.OpenSection.{OpenSection}
 use Rattle.tsp_read.specs.declared.state.reading.Reading.{Reading}
@@ -169,6 +172,11 @@ closes old new section more there stored first none earlier h =
 
 -- ---- what a part has goes into its field
 
+with_coords : (in_space : Bool) (field : Field) (n : ℕ) (words : List (List ℕ)) (fields : Fields)
+    → with_points field (coords_by_node in_space n words) fields ≡ with_words (shape_of_points in_space) field n words fields
+with_coords false field n words fields = refl
+with_coords true field n words fields = refl
+
 stored_as : (section : OpenSection) (shape : Shape) (old new : Fields) (more in_space : Bool) (n : ℕ) (words : List (List ℕ))
     → shape_of in_space section.field ≡ Some shape
     → new ≡ with_words shape section.field n words old → more ≡ wants_more (place_by shape n words)
@@ -188,6 +196,18 @@ numbers_stored section part numbers more old new is put finished in_space n word
     let got = finished part.low part.high n words (subst (λ (p : Part). HoldsPart p n words) is h.1) in
     stored_as section (Numbers part.low part.high) old new more in_space n words (h.0 ∙ ap (λ p. Some (shape_by p)) is)
     (put ∙ ap (λ xs. with_numbers section.field xs old) got.0) got.1
+
+pub points_stored : (section : OpenSection) (part : PointList) (points : List Point) (more : Bool) (old new : Fields) → section.part ≡ parts.Points part
+    → new ≡ with_points section.field points old
+    → ((in_space : Bool) (n : ℕ) (words : List (List ℕ)) → HoldsPoints part in_space n words
+    → (points ≡ coords_by_node in_space n words) × (more ≡ wants_more (place_by (shape_of_points in_space) n words)))
+    → (in_space : Bool) (n : ℕ) (words : List (List ℕ)) → HoldsSection in_space section n words
+    → (new ≡ with_section in_space section.field n words old) × (more ≡ wants_more (place_in in_space section.field n words))
+points_stored section part points more old new is put finished in_space n words h =
+    let kind = are_in_space part.entries in
+    let got = finished kind n words (subst (λ (p : Part). HoldsPart p n words) is h.1) in
+    stored_as section (shape_of_points kind) old new more in_space n words (h.0 ∙ ap (λ p. Some (shape_by p)) is)
+    (put ∙ ap (λ xs. with_points section.field xs old) got.0 ∙ with_coords kind section.field n words old) got.1
 
 pub pairs_stored : (section : OpenSection) (part : FixedList) (pairs : List (ℕ × ℕ)) (more : Bool) (old new : Fields) → section.part ≡ parts.Pairs part
     → new ≡ record old { fixed = Some pairs }

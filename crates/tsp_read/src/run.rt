@@ -257,7 +257,6 @@ fn take_part<'a>(part: &mut Part, alloc: Global, count: Count, text: &'a [u8]) -
         Part::Weights(list) => take_weights(list, alloc, count, text),
         Part::Tours(list) => take_all(list, count, text),
         Part::Points(list) => take_all(list, count, text),
-        Part::SpacePoints(list) => take_all(list, count, text),
         _ => (count, text),
     }
 }

@@ -1,5 +1,5 @@
+pub mod states
 pub mod Ending
 pub mod Engines
 pub mod Run
-pub mod Source
 pub mod Waiting

@@ -5,6 +5,7 @@ pub mod NodeGroups
 pub mod NumberSteps
 pub mod PointSteps
 pub mod SpacePointSteps
+pub mod CoordSteps
 pub mod TripleSteps
 pub mod Pieces
 pub mod TourSteps

@@ -1,14 +1,15 @@
 -- The part of a section answers what its own list answers.
-use Rattle.std.proofs.Common.{◌≡◌, ℕ, ℤ, List, [], ◌∷◌, ◌++◌, sym, ap, subst, ◌∙◌, Result, Ok, Err, IfErr}
+use Rattle.std.proofs.Common.{◌≡◌, ℕ, ℤ, Bool, List, [], ◌∷◌, ◌++◌, sym, ap, subst, ◌∙◌, Result, Ok, Err, IfErr}
 use Rattle.tsp_section.specs.declared.fault.StepFault.{StepFault}
 use Rattle.tsp_section.specs.declared.part.Part.{Part}
 use Rattle.tsp_section.specs.declared.part.Part.TheVariants as parts
 use Rattle.tsp_section.specs.declared.parts.numbers.NumberList.{NumberList}
+use Rattle.tsp_section.specs.declared.parts.points.PointList.{PointList}
 use Rattle.tsp_format.specs.declared.field.Shape.TheVariants.{Numbers}
 use Rattle.tsp_text.specs.Groups.{place_of_number}
 use Rattle.tsp_text.specs.Sections.{place_by}
-use Rattle.tsp_section.specs.states.Parts.{Takes}
-use Rattle.tsp_section.specs.states.Held.{HoldsNumbers, shape_by, HoldsPart, HoldsShape}
+use Rattle.tsp_section.specs.states.Parts.{Takes, are_in_space}
+use Rattle.tsp_section.specs.states.Held.{HoldsNumbers, HoldsPoints, shape_of_points, shape_by, HoldsPart, HoldsShape}
 use Rattle.tsp_section.proofs.Taken.{takes_also}
 
 -- how a part takes a word
@@ -54,3 +55,22 @@ numbers old part after n words word r is step h =
     (HoldsNumbers after part.low part.high n (words ++ word ∷ []))
     (HoldsShape (Numbers part.low part.high) (parts.Numbers after) n (words ++ word ∷ [])) r
     (kept_range part.low part.high after n (words ++ word ∷ [])) (step part.low part.high n words (subst P is h)))
+
+-- a list of points keeps their kind
+kept_kind : (in_space : Bool) (after : PointList) (n : ℕ) (words : List (List ℕ)) → HoldsPoints after in_space n words
+    → HoldsShape (shape_of_points in_space) (parts.Points after) n words
+kept_kind in_space after n words h =
+    (ap shape_of_points h.kind, subst (λ b. HoldsPoints after b n words) (sym h.kind) h)
+
+pub points : (old : Part) (part after : PointList) (n : ℕ) (words : List (List ℕ)) (word : List ℕ) (r : Result (Unit {0}) StepFault)
+    → old ≡ parts.Points part
+    → ((in_space : Bool) (n : ℕ) (words : List (List ℕ)) → HoldsPoints part in_space n words
+    → Takes n (place_by (shape_of_points in_space) n words) word (HoldsPoints after in_space n (words ++ word ∷ [])) r)
+    → HoldsPart old n words → PartTakes old (parts.Points after) n words word r
+points old part after n words word r is step h =
+    let P : Part → Type 0 = λ p. HoldsPart p n words in
+    let Q : Part → Type 0 = λ p. PartTakes p (parts.Points after) n words word r in
+    let kind : Bool = are_in_space part.entries in
+    subst Q (sym is) (takes_also n (place_by (shape_of_points kind) n words) word (HoldsPoints after kind n (words ++ word ∷ []))
+    (HoldsShape (shape_of_points kind) (parts.Points after) n (words ++ word ∷ [])) r
+    (kept_kind kind after n (words ++ word ∷ [])) (step kind n words (subst P is h)))

@@ -25,7 +25,6 @@ pub use parts::depots::DepotList;
 pub use parts::fixed::FixedList;
 pub use parts::numbers::NumberList;
 pub use parts::points::PointList;
-pub use parts::space_points::SpacePointList;
 pub use parts::tours::TourList;
 pub use parts::tree::TreeList;
 pub use parts::triples::TripleList;

@@ -8,7 +8,6 @@ use crate::parts::depots::DepotList;
 use crate::parts::fixed::FixedList;
 use crate::parts::numbers::NumberList;
 use crate::parts::points::PointList;
-use crate::parts::space_points::SpacePointList;
 use crate::parts::tours::TourList;
 use crate::parts::tree::TreeList;
 use crate::parts::triples::TripleList;
@@ -21,7 +20,6 @@ use tsp_format::{MOST_MATRIX_NODES, MOST_NODES, Shape};
 pub enum Part {
     Numbers(NumberList),
     Points(PointList),
-    SpacePoints(SpacePointList),
     Depots(DepotList),
     Pairs(FixedList),
     Weights(WeightList),
@@ -49,8 +47,8 @@ impl Part {
     {
         Ok(match shape {
             Shape::Numbers { low, high } => Part::Numbers(NumberList::open(alloc, n, low, high)?),
-            Shape::Points => Part::Points(PointList::open(alloc, n)?),
-            Shape::SpacePoints => Part::SpacePoints(SpacePointList::open(alloc, n)?),
+            Shape::Points => Part::Points(PointList::open(alloc, n, false)?),
+            Shape::SpacePoints => Part::Points(PointList::open(alloc, n, true)?),
             Shape::Depots => Part::Depots(DepotList::open(alloc, n)),
             Shape::Pairs => Part::Pairs(FixedList::open(alloc, n)),
             Shape::Weights => Part::Weights(WeightList::open(alloc, n)),
@@ -79,7 +77,6 @@ impl Part {
         match self {
             Part::Numbers(part) => part.push(word),
             Part::Points(part) => part.push(word),
-            Part::SpacePoints(part) => part.push(word),
             Part::Depots(part) => part.push(word),
             Part::Pairs(part) => part.push(word),
             Part::Weights(part) => part.push(word),

@@ -6,7 +6,6 @@ pub(crate) mod fixed;
 pub(crate) mod nodes;
 pub(crate) mod numbers;
 pub(crate) mod points;
-pub(crate) mod space_points;
 pub(crate) mod tours;
 pub(crate) mod tree;
 pub(crate) mod triples;

@@ -9,7 +9,6 @@ ghost use Rattle.tsp_section.specs.states.Parts.{IsNodeOf};
 ghost use Rattle.tsp_section.specs.states.Run.{in_group, groups_left, marks_of, TakesRead, KeepsWords};
 
 use crate::parts::points::PointList;
-use crate::parts::space_points::SpacePointList;
 use crate::parts::tours::TourList;
 use crate::parts::weights::Gathered;
 use tsp_distance::Decimal;
@@ -84,25 +83,6 @@ impl RunList for TourList {
 
 impl RunList for PointList {
     ghost part = { λ list. parts.Points list };
-
-    #[inline(always)]
-    fn awaits_coordinate(&self) -> bool {
-        self.wants_coordinate()
-    }
-
-    #[inline(always)]
-    fn take_whole(&mut self, number: i64) -> bool {
-        self.push_read(number)
-    }
-
-    #[inline(always)]
-    fn take_coordinate(&mut self, coordinate: Decimal) -> bool {
-        self.push_coordinate(coordinate)
-    }
-}
-
-impl RunList for SpacePointList {
-    ghost part = { λ list. parts.SpacePoints list };
 
     #[inline(always)]
     fn awaits_coordinate(&self) -> bool {

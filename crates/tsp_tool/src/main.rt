@@ -6,7 +6,7 @@
 
 mod build;
 
-ghost use Rattle.tsp_run.specs.Source.{IsSourceOf};
+ghost use Rattle.tsp_run.specs.states.Source.{IsSourceOf};
 
 use crate::build::BUILD;
 use std::fs::File;

@@ -10,9 +10,9 @@ use Rattle.std.proofs.lemmas.List.Folds.{list_any-append}
 use Rattle.std.proofs.lemmas.List.Kept.{AllPairs-cons}
 use Rattle.tsp_draft.specs.Valid.{IsPairOf}
 use Rattle.tsp_theory.specs.Tour.{Uses}
-use Rattle.tsp_branch.specs.Decided.{IsDecision, case_of}
+use Rattle.tsp_branch.specs.states.Decided.{IsDecision, case_of}
 use Rattle.tsp_branch.specs.Decisions.{Decision, KeepsAll, KeepsDecision, DecideOnce, take_pairs, is_same}
-use Rattle.tsp_branch.specs.PairSets.{key_of, pair_cmp, HasKeys}
+use Rattle.tsp_branch.specs.states.PairSets.{key_of, pair_cmp, HasKeys}
 use Rattle.tsp_verdict.specs.Tree.{each_once}
 use Rattle.tsp_branch.proofs.PairKeys.{turned_same}
 

@@ -11,8 +11,8 @@ use Rattle.std.proofs.lemmas.List.Sums.{sum_by-cons}
 use Rattle.tsp_format.specs.Cells.{IsNode}
 use Rattle.tsp_draft.specs.Fields.{combs_of as lists_of_combs}
 use Rattle.tsp_draft.specs.Valid.{IsSetOf, AreSets}
-use Rattle.tsp_branch.specs.Sets.{AreSetsOf}
-use Rattle.tsp_branch.specs.Combed.{plain}
+use Rattle.tsp_branch.specs.states.Sets.{AreSetsOf}
+use Rattle.tsp_branch.specs.states.Combed.{plain}
 use Rattle.tsp_branch.specs.CombsOfSets.{comb_with, of_comb, combs_from, combs_of_sets}
 use Rattle.tsp_branch.specs.GoodCombs.{AreInOrder}
 use Rattle.tsp_file.specs.Typed.{AreSomeSets}

@@ -12,7 +12,7 @@ use Rattle.tsp_theory.specs.Adjusted.{pair_of, is_same_pair}
 use Rattle.tsp_branch.specs.Decisions.{is_same}
 use Rattle.tsp_branch.proofs.PairKeys.{straight, crossed, same_keys, key_at, cond_or, same_turn}
 use Rattle.tsp_verdict.specs.Multiplied.{IsListed, pair_at, IsUnlisted, IsPairRepeated}
-use Rattle.tsp_branch.specs.PairSets.{undirected, pair_cmp, HasPairs, key_of, HasKeys}
+use Rattle.tsp_branch.specs.states.PairSets.{undirected, pair_cmp, HasPairs, key_of, HasKeys}
 use Rattle.tsp_verdict.specs.Places.{IsFirstPlace}
 
 -- ---- a set that looks at no direction

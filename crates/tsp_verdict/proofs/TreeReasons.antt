@@ -22,8 +22,7 @@ use Rattle.tsp_branch.specs.Cases.{decide}
 use Rattle.tsp_branch.specs.Certificate.{IsCertificate, IsCertificateBound, AreCostsFor, BoundsIfAny, CertificatesBoundCycles}
 use Rattle.tsp_branch.specs.Combs.{Comb}
 use Rattle.tsp_branch.specs.CombsOfSets.{of_comb}
-use Rattle.tsp_branch.specs.Decided.{decided_number}
-use Rattle.tsp_branch.specs.Decisions.{Decision, KeepsAll, take_pairs}
+use Rattle.tsp_branch.specs.Decisions.{Decision, KeepsAll, take_pairs, decided_number}
 use Rattle.tsp_branch.specs.GoodCombs.{IsGoodComb, IsFirstBadComb}
 use Rattle.tsp_branch.specs.Listed.{leaf_changes, IsFirstBadLeaf}
 use Rattle.tsp_branch.specs.Twice.{divided, IsFirstTwice}

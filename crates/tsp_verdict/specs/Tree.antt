@@ -9,8 +9,7 @@ use Rattle.tsp_branch.specs.Combs.{Comb}
 use Rattle.tsp_branch.specs.CombsOfSets.{comb_with}
 use Rattle.tsp_branch.specs.Cases.{CaseStep}
 use Rattle.tsp_branch.specs.Certificate.{IsCertificate, IsCertificateBound}
-use Rattle.tsp_branch.specs.Decided.{decided_number}
-use Rattle.tsp_branch.specs.Decisions.{Decision, take_pairs, is_same}
+use Rattle.tsp_branch.specs.Decisions.{Decision, take_pairs, is_same, decided_number}
 use Rattle.tsp_branch.specs.GoodCombs.{IsGoodComb}
 use Rattle.tsp_branch.specs.Listed.{listed_steps, IsFirstBadLeaf}
 use Rattle.tsp_branch.specs.Twice.{IsFirstTwice}

@@ -1,9 +1,9 @@
 //! The fixed pairs of an instance as decisions.
 
 ghost use Rattle.std.specs.Prelude.{◌≡◌, ◌≤◌, length, IfOk};
-ghost use Rattle.tsp_branch.specs.Decided.{case_of};
+ghost use Rattle.tsp_branch.specs.states.Decided.{case_of};
 ghost use Rattle.tsp_branch.specs.Decisions.{take_pairs};
-ghost use Rattle.tsp_branch.specs.PairSets.{key_of};
+ghost use Rattle.tsp_branch.specs.states.PairSets.{key_of};
 ghost use Rattle.tsp_verdict.specs.Tree.{each_once};
 
 use crate::multiplied::undirected;

@@ -4,7 +4,7 @@ ghost use Rattle.std.specs.Prelude.{◌≡◌, ◌^◌, ◌<◌, ℕ, List, fals
 ghost use Rattle.std.specs.List.{AllPairs};
 ghost use Rattle.tsp_theory.specs.Adjusted.{pair_of, is_same_pair};
 ghost use Rattle.tsp_verdict.specs.Multiplied.{AreListed, IsUnlisted, IsPairRepeated};
-ghost use Rattle.tsp_branch.specs.PairSets.{undirected, HasPairs};
+ghost use Rattle.tsp_branch.specs.states.PairSets.{undirected, HasPairs};
 ghost use Rattle.tsp_verdict.specs.Places.{IsFirstPlace};
 
 use std::alloc::{AllocError, Global};

@@ -3,7 +3,7 @@
 ghost use Rattle.std.specs.Prelude.{◌≡◌, ◌<◌, ◌^◌, ◌++◌, ℕ, List, map, length, IfOk};
 ghost use Rattle.std.specs.List.{sum_by};
 ghost use Rattle.tsp_draft.specs.Fields.{combs_of};
-ghost use Rattle.tsp_branch.specs.Combed.{plain};
+ghost use Rattle.tsp_branch.specs.states.Combed.{plain};
 ghost use Rattle.tsp_verdict.specs.states.Numbered.{numbered_from, with_number};
 
 use std::alloc::{AllocError, Global};

@@ -37,11 +37,6 @@ pub(crate) fn store(
             draft.set_points(field, points);
             Ok(wants_more)
         }
-        Part::SpacePoints(part) => {
-            let (points, wants_more) = part.finish();
-            draft.set_points(field, points);
-            Ok(wants_more)
-        }
         Part::Depots(part) => {
             draft.depots = Some(part.finish());
             Ok(false)

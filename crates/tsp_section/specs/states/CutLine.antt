@@ -1,5 +1,5 @@
 -- A word line that is cut into its parts, and the rows of its value alone.
-use Rattle.std.specs.Prelude.{◌≡◌, ℕ, ℤ, Bool, true, false, not, ◌&&◌, List, [], ◌∷◌, Option, None, Some, is_none, is_some, unwrap_or, Result, Ok, Err, ◌≤ℤ◌, length, ◌++◌, nat_le}
+use Rattle.std.specs.Prelude.{◌≡◌, ℕ, ℤ, Bool, true, false, not, List, [], ◌∷◌, Option, None, Some, is_none, is_some, unwrap_or, Result, Ok, Err, ◌≤ℤ◌, length, ◌++◌, nat_le}
 use Rattle.std.specs.Option.{option_map}
 use Rattle.std.specs.Result.{result_err}
 use Rattle.tsp_number.specs.Reading.{whole_of}

@@ -1,9 +1,7 @@
 -- What each section's part holds, by the part itself, and what it finishes with.
-use Rattle.std.specs.Prelude.{◌≡◌, ℕ, ◌+◌, ◌≤◌, ℤ, List, length, map}
-use Rattle.tsp_distance.specs.Distances.{on_plane}
+use Rattle.std.specs.Prelude.{◌≡◌, ℕ, ◌+◌, ◌≤◌, ℤ, Bool, cond, List, length, map}
 use Rattle.tsp_section.specs.declared.parts.numbers.NumberList.{NumberList}
 use Rattle.tsp_section.specs.declared.parts.points.PointList.{PointList}
-use Rattle.tsp_section.specs.declared.parts.space_points.SpacePointList.{SpacePointList}
 use Rattle.tsp_section.specs.declared.parts.depots.DepotList.{DepotList}
 use Rattle.tsp_section.specs.declared.parts.fixed.FixedList.{FixedList}
 use Rattle.tsp_section.specs.declared.parts.triples.TripleList.{TripleList}
@@ -13,6 +11,7 @@ use Rattle.tsp_section.specs.declared.parts.combs.CombList.{CombList}
 use Rattle.tsp_section.specs.declared.parts.tree.TreeList.{TreeList}
 use Rattle.tsp_format.specs.Limits.{most_combs}
 use Rattle.tsp_format.specs.Steps.{steps_of}
+use Rattle.tsp_draft.specs.Coords.{points_of}
 use Rattle.tsp_draft.specs.Fields.{combs_of}
 use Rattle.tsp_text.specs.Combs.{CombsSoFar, combs_after}
 use Rattle.tsp_text.specs.Tree.{TreeSoFar, tree_after}
@@ -20,7 +19,7 @@ use Rattle.tsp_section.specs.declared.part.Part.{Part}
 use Rattle.tsp_section.specs.declared.part.Part.TheVariants as parts
 use Rattle.tsp_format.specs.declared.field.Shape.{Shape}
 use Rattle.tsp_format.specs.declared.field.Shape.TheVariants.{Numbers, Points, SpacePoints, Depots, Pairs, Weights, Tours, Triples, Combs, Steps}
-use Rattle.tsp_section.specs.states.Parts.{NumbersHold, PointsHold, SpacePointsHold, DepotsHold, PairsHold, TriplesHold, WeightsHold, ToursHold, EndsRun}
+use Rattle.tsp_section.specs.states.Parts.{NumbersHold, CoordsHold, are_in_space, DepotsHold, PairsHold, TriplesHold, WeightsHold, ToursHold, EndsRun}
 
 -- its numbers are of this range
 pub record HoldsNumbers (part : NumberList) (low high : ℤ) (n : ℕ) (words : List (List ℕ)) : Type 0 where
@@ -28,12 +27,10 @@ pub record HoldsNumbers (part : NumberList) (low high : ℤ) (n : ℕ) (words : 
   pub to : part.high ≡ high
   pub read : NumbersHold part.seen.items part.entries.items part.left part.begun low high n words
 
-abbrev pub HoldsPoints : PointList → ℕ → List (List ℕ) → Type 0
-HoldsPoints part n words =
-    PointsHold part.seen.items (map (λ point. on_plane point.x point.y) part.entries.items) part.left part.begun part.x n words
-
-abbrev pub HoldsSpacePoints : SpacePointList → ℕ → List (List ℕ) → Type 0
-HoldsSpacePoints part n words = SpacePointsHold part.seen.items part.entries.items part.left part.begun part.x part.y n words
+-- its points are in space, or they are of the plane
+pub record HoldsPoints (part : PointList) (in_space : Bool) (n : ℕ) (words : List (List ℕ)) : Type 0 where
+  pub kind : are_in_space part.entries ≡ in_space
+  pub read : CoordsHold in_space part.seen.items (points_of part.entries) part.left part.begun part.x part.y n words
 
 pub record HoldsDepots (part : DepotList) (n : ℕ) (words : List (List ℕ)) : Type 0 where
   pub nodes : part.n ≡ n
@@ -90,10 +87,12 @@ pub record HoldsTree (part : TreeList) (n : ℕ) (words : List (List ℕ)) : Typ
 
 -- ---- the part of a section, whichever its shape
 
+abbrev pub shape_of_points : Bool → Shape
+shape_of_points in_space = cond in_space SpacePoints Points
+
 abbrev pub shape_by : Part → Shape
 shape_by (parts.Numbers list) = Numbers list.low list.high
-shape_by (parts.Points list) = Points
-shape_by (parts.SpacePoints list) = SpacePoints
+shape_by (parts.Points list) = shape_of_points (are_in_space list.entries)
 shape_by (parts.Depots list) = Depots
 shape_by (parts.Pairs list) = Pairs
 shape_by (parts.Weights list) = Weights
@@ -105,8 +104,7 @@ shape_by (parts.Steps list) = Steps
 -- the part holds these words of its section
 abbrev pub HoldsPart : Part → ℕ → List (List ℕ) → Type 0
 HoldsPart (parts.Numbers list) n words = HoldsNumbers list list.low list.high n words
-HoldsPart (parts.Points list) n words = HoldsPoints list n words
-HoldsPart (parts.SpacePoints list) n words = HoldsSpacePoints list n words
+HoldsPart (parts.Points list) n words = HoldsPoints list (are_in_space list.entries) n words
 HoldsPart (parts.Depots list) n words = HoldsDepots list n words
 HoldsPart (parts.Pairs list) n words = HoldsFixed list n words
 HoldsPart (parts.Weights list) n words = HoldsWeights list n words

@@ -4,6 +4,8 @@ use Rattle.std.specs.List.{filter, slice_split, list_any}
 use Rattle.tsp_distance.specs.declared.decimal.Point.{Point}
 use Rattle.tsp_number.specs.declared.fault.NumberFault.{NumberFault}
 use Rattle.tsp_number.specs.Reading.{decimal_of}
+use Rattle.tsp_draft.specs.declared.coords.Coords.{Coords}
+use Rattle.tsp_draft.specs.declared.coords.Coords.TheVariants.{Plane, Space}
 use Rattle.tsp_draft.specs.Coords.{origin}
 use Rattle.tsp_text.specs.declared.fault.LineFault.{LineFault}
 use Rattle.tsp_text.specs.declared.fault.LineFault.TheVariants as row
@@ -112,6 +114,16 @@ pub record SpacePointsHold (seen : List Bool) (entries : List Point) (left : ℕ
   pub cut : 0 < left → BeginsSpacePoint n begun x y (begun_four words)
   pub open_ended : 0 < left → length words < 4 * n
   pub full : left ≡ 0 → 4 * n ≤ length words
+
+-- groups of points in space, or of points of the plane, which have no third coordinate
+abbrev pub CoordsHold : Bool → List Bool → List Point → ℕ → Option ℕ → Option ℤ → Option ℤ → ℕ → List (List ℕ) → Type 0
+CoordsHold false seen entries left begun x y n words = PointsHold seen entries left begun x n words
+CoordsHold true seen entries left begun x y n words = SpacePointsHold seen entries left begun x y n words
+
+-- whether a list has points in space
+abbrev pub are_in_space : Coords → Bool
+are_in_space (Plane points) = false
+are_in_space (Space points) = true
 
 -- ---- lists that -1 ends
 

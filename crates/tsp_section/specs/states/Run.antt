@@ -18,16 +18,13 @@ KeepsWords old new = (n : ℕ) (words : List (List ℕ)) → HoldsPart old n wor
 -- a group of a point has begun in it, so that its next word is a coordinate
 abbrev pub in_group : Part → Bool
 in_group (parts.Points list) = is_some list.begun
-in_group (parts.SpacePoints list) = is_some list.begun
 in_group part = false
 
 -- how many groups of points are still to come, and whether a node has one; a part of another shape has none to come
 abbrev pub groups_left : Part → ℕ
 groups_left (parts.Points list) = list.left
-groups_left (parts.SpacePoints list) = list.left
 groups_left part = 0
 
 abbrev pub marks_of : Part → List Bool
 marks_of (parts.Points list) = list.seen.items
-marks_of (parts.SpacePoints list) = list.seen.items
 marks_of part = []

@@ -1,55 +1,81 @@
-//! By-node sections with a point of the plane for each node.
+//! By-node sections with a point for each node: of the plane, or in space.
 
-ghost use Rattle.std.specs.Prelude.{◌≡◌, ◌<◌, ◌≤◌, ◌^◌, None, Some, Ok, [], ℕ, List, length, ◌∷◌, ◌++◌, vec_len, IfOk, IfErr, Err, ◌≢◌, is_some, true, false, ◌-◌, pos, slice_index_or};
+ghost use Rattle.std.specs.Prelude.{◌≡◌, ◌<◌, ◌≤◌, ◌^◌, None, Some, Ok, [], ℕ, List, length, ◌∷◌, ◌++◌, vec_len, IfOk, IfErr, Err, ◌≢◌, is_some, true, false, ◌-◌, pos, slice_index_or, replicate, Bool};
 ghost use Rattle.std.specs.Option.{ForSome};
-ghost use Rattle.tsp_draft.specs.Coords.{points_of};
+ghost use Rattle.tsp_draft.specs.Coords.{points_of, origin};
+ghost use Rattle.tsp_section.specs.states.Parts.{are_in_space};
 
 use crate::fault::StepFault;
 use crate::parts::nodes::{is_minus_one, new_node, unmarked_node};
 use std::alloc::{AllocError, Global};
-use tsp_distance::{Decimal, PlanePoint};
+use tsp_distance::{Decimal, PlanePoint, Point};
 use tsp_draft::Coords;
 use tsp_number::parse_decimal;
 use tsp_text::LineFault;
 
-/// What was read of a section of groups of a node and its two coordinates.
+/// What was read of a section of groups of a node and its coordinates, two or three by the kind of
+/// the points.
 #[derive(Drop)]
 pub struct PointList {
     seen: Vec<bool>,
-    entries: Vec<PlanePoint>,
+    entries: Coords,
     left: u32,
     begun: Option<u32>,
     x: Option<Decimal>,
-    ghost same: { vec_len entries ≡ vec_len seen },
+    y: Option<Decimal>,
+    ghost same: { length (points_of entries) ≡ vec_len seen },
     ghost narrow: { vec_len seen < 2 ^ 32 },
     ghost within: { ForSome begun (λ k. (1 ≤ k) × (k ≤ vec_len seen)) },
+}
+
+/// The points of `n` nodes, each with coordinates 0.
+///
+/// # Errors
+///
+/// Memory was refused.
+fn at_origin(alloc: Global, n: u32, in_space: bool) -> Result<Coords, AllocError>
+    ensures { IfOk result (λ coords. (are_in_space coords ≡ in_space)
+        × (points_of coords ≡ replicate n origin)) }
+{
+    let zero = Decimal::of_nanos(0);
+    if in_space {
+        let point = Point {
+            x: zero,
+            y: zero,
+            z: zero,
+        };
+        return Ok(Coords::Space(vec![in alloc; point; n as usize]?));
+    }
+    let point = PlanePoint { x: zero, y: zero };
+    Ok(Coords::Plane(vec![in alloc; point; n as usize]?))
 }
 
 impl PointList {
     ghost use Rattle.tsp_section.specs.declared.fault.StepFault.TheVariants.{Memory};
     ghost use Rattle.tsp_number.specs.Reading.{decimal_of};
     ghost use Rattle.tsp_text.specs.Numbers.{IsWhole};
-    ghost use Rattle.tsp_text.specs.Groups.{place_of_point, points_by_node};
+    ghost use Rattle.tsp_text.specs.Groups.{coords_by_node};
+    ghost use Rattle.tsp_text.specs.Sections.{place_by};
     ghost use Rattle.tsp_text.specs.Spells.{wants_more};
     ghost use Rattle.tsp_section.specs.states.Parts.{Takes, IsNodeOf};
     ghost use Rattle.tsp_text.specs.Rows.{word_fault};
-    ghost use Rattle.tsp_section.specs.states.Held.{HoldsPoints};
+    ghost use Rattle.tsp_section.specs.states.Held.{shape_of_points, HoldsPoints};
 
-    /// The section with no words so far, in a file of `n` nodes.
+    /// The section with no words so far, in a file of `n` nodes, of points of the plane or in space.
     ///
     /// # Errors
     ///
     /// Memory was refused.
-    pub fn open(alloc: Global, n: u32) -> Result<PointList, AllocError>
-        ensures { IfOk result (λ part. HoldsPoints part n []) }
+    pub fn open(alloc: Global, n: u32, in_space: bool) -> Result<PointList, AllocError>
+        ensures { IfOk result (λ part. HoldsPoints part in_space n []) }
     {
-        let zero = Decimal::of_nanos(0);
         Ok(PointList {
             seen: vec![in alloc; false; n as usize]?,
-            entries: vec![in alloc; PlanePoint { x: zero, y: zero }; n as usize]?,
+            entries: at_origin(alloc, n, in_space)?,
             left: n,
             begun: None,
             x: None,
+            y: None,
         })
     }
 
@@ -61,11 +87,11 @@ impl PointList {
     /// (`RepeatedNode`), or every node has one (`Surplus`). The list has the words from before then.
     /// No memory is taken.
     pub fn push(&mut self, word: &[u8]) -> Result<(), StepFault>
-        ensures takes { (n : ℕ) (words : List (List ℕ)) → HoldsPoints self.old n words
-            → Takes n (place_of_point n words) word.now
-            (HoldsPoints self.new n (words ++ word.now ∷ [])) result }
-        ensures kept { IfErr result (λ _. (n : ℕ) (words : List (List ℕ))
-            → HoldsPoints self.old n words → HoldsPoints self.new n words) }
+        ensures takes { (in_space : Bool) (n : ℕ) (words : List (List ℕ)) → HoldsPoints self.old in_space n words
+            → Takes n (place_by (shape_of_points in_space) n words) word.now
+            (HoldsPoints self.new in_space n (words ++ word.now ∷ [])) result }
+        ensures kept { IfErr result (λ _. (in_space : Bool) (n : ℕ) (words : List (List ℕ))
+            → HoldsPoints self.old in_space n words → HoldsPoints self.new in_space n words) }
         ensures memory { result ≢ Err Memory }
     {
         if self.left == 0 {
@@ -97,21 +123,37 @@ impl PointList {
     fn put(&mut self, node: u32, coordinate: Decimal)
         requires to_come { 0 < self.old.left }
         requires begun { self.old.begun ≡ Some node }
-        ensures { (n : ℕ) (words : List (List ℕ)) (word : List ℕ) → HoldsPoints self.old n words
+        ensures { (in_space : Bool) (n : ℕ) (words : List (List ℕ)) (word : List ℕ) → HoldsPoints self.old in_space n words
             → decimal_of word ≡ Ok coordinate
-            → (word_fault n (place_of_point n words) word ≡ None)
-            × HoldsPoints self.new n (words ++ word ∷ []) }
+            → (word_fault n (place_by (shape_of_points in_space) n words) word ≡ None)
+            × HoldsPoints self.new in_space n (words ++ word ∷ []) }
     {
-        match self.x {
-            None => self.x = Some(coordinate),
-            Some(x) => {
-                self.seen[node as usize - 1] = true;
-                self.entries[node as usize - 1] = PlanePoint { x, y: coordinate };
-                self.left -= 1;
-                self.begun = None;
-                self.x = None;
+        let Some(x) = self.x else {
+            self.x = Some(coordinate);
+            return;
+        };
+        let y = self.y;
+        match &mut self.entries {
+            Coords::Plane(points) => {
+                points[node as usize - 1] = PlanePoint { x, y: coordinate };
+            }
+            Coords::Space(points) => {
+                let Some(y) = y else {
+                    self.y = Some(coordinate);
+                    return;
+                };
+                points[node as usize - 1] = Point {
+                    x,
+                    y,
+                    z: coordinate,
+                };
             }
         }
+        self.seen[node as usize - 1] = true;
+        self.left -= 1;
+        self.begun = None;
+        self.x = None;
+        self.y = None;
     }
 
     /// Whether a group has begun, so that the next word is a coordinate.
@@ -126,12 +168,12 @@ impl PointList {
     /// whether it was taken.
     #[inline(always)]
     pub fn push_read(&mut self, number: i64) -> bool
-        ensures taken { result ≡ true → (n : ℕ) (words : List (List ℕ)) (word : List ℕ)
-            → IsWhole word number → HoldsPoints self.old n words
-            → Takes n (place_of_point n words) word
-            (HoldsPoints self.new n (words ++ word ∷ [])) (Ok tt) }
-        ensures kept { result ≡ false → (n : ℕ) (words : List (List ℕ))
-            → HoldsPoints self.old n words → HoldsPoints self.new n words }
+        ensures taken { result ≡ true → (in_space : Bool) (n : ℕ) (words : List (List ℕ)) (word : List ℕ)
+            → IsWhole word number → HoldsPoints self.old in_space n words
+            → Takes n (place_by (shape_of_points in_space) n words) word
+            (HoldsPoints self.new in_space n (words ++ word ∷ [])) (Ok tt) }
+        ensures kept { result ≡ false → (in_space : Bool) (n : ℕ) (words : List (List ℕ))
+            → HoldsPoints self.old in_space n words → HoldsPoints self.new in_space n words }
         ensures refused { result ≡ false → 0 < self.old.left → self.old.begun ≡ None → (k : ℕ) → number ≡ pos k
             → IsNodeOf (length self.old.seen.items) k
             → slice_index_or self.old.seen.items (k - 1) false ≡ true }
@@ -152,12 +194,12 @@ impl PointList {
     /// it was taken.
     #[inline(always)]
     pub fn push_coordinate(&mut self, coordinate: Decimal) -> bool
-        ensures taken { result ≡ true → (n : ℕ) (words : List (List ℕ)) (word : List ℕ)
-            → decimal_of word ≡ Ok coordinate → HoldsPoints self.old n words
-            → Takes n (place_of_point n words) word
-            (HoldsPoints self.new n (words ++ word ∷ [])) (Ok tt) }
-        ensures kept { result ≡ false → (n : ℕ) (words : List (List ℕ))
-            → HoldsPoints self.old n words → HoldsPoints self.new n words }
+        ensures taken { result ≡ true → (in_space : Bool) (n : ℕ) (words : List (List ℕ)) (word : List ℕ)
+            → decimal_of word ≡ Ok coordinate → HoldsPoints self.old in_space n words
+            → Takes n (place_by (shape_of_points in_space) n words) word
+            (HoldsPoints self.new in_space n (words ++ word ∷ [])) (Ok tt) }
+        ensures kept { result ≡ false → (in_space : Bool) (n : ℕ) (words : List (List ℕ))
+            → HoldsPoints self.old in_space n words → HoldsPoints self.new in_space n words }
         ensures refused { result ≡ false → 0 < self.old.left → self.old.begun ≡ None }
     {
         match self.begun {
@@ -171,11 +213,11 @@ impl PointList {
 
     /// The list by node, and whether a group is still to come.
     pub fn finish(self) -> (Coords, bool)
-        ensures { (n : ℕ) (words : List (List ℕ)) → HoldsPoints self n words
-            → (points_of result.0 ≡ points_by_node n words)
-            × (result.1 ≡ wants_more (place_of_point n words)) }
+        ensures { (in_space : Bool) (n : ℕ) (words : List (List ℕ)) → HoldsPoints self in_space n words
+            → (points_of result.0 ≡ coords_by_node in_space n words)
+            × (result.1 ≡ wants_more (place_by (shape_of_points in_space) n words)) }
     {
         let wants_more = self.left > 0;
-        (Coords::Plane(self.entries), wants_more)
+        (self.entries, wants_more)
     }
 }

@@ -1,7 +1,7 @@
 use Rattle.std.proofs.Common.{ℕ, ℤ, drop}
 use Rattle.tsp_theory.specs.Growth.{least_at}
-use Rattle.tsp_branch.specs.Sets.{IsMoved}
-use Rattle.tsp_branch.specs.Combed.{plain, inside_both}
+use Rattle.tsp_branch.specs.states.Sets.{IsMoved}
+use Rattle.tsp_branch.specs.states.Combed.{plain, inside_both}
 use Rattle.tsp_branch.proofs.add_sets.add_sets.Given as goal
 
 abbrev pub invariant-numbers : goal.invariant-numbers

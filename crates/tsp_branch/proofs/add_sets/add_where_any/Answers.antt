@@ -2,7 +2,7 @@ use Rattle.std.proofs.Common.{◌≡◌, ℤ, inl, refl, ap, sym, rules, ◌∙�
 use Rattle.std.specs.Int.{w64}
 use Rattle.std.specs.Prelude.{pos}
 use Rattle.std.proofs.lemmas.Int.{to_z-of_z}
-use Rattle.tsp_branch.specs.Sets.{added}
+use Rattle.tsp_branch.specs.states.Sets.{added}
 use Rattle.tsp_branch.proofs.CombedRows.{added_none}
 use Rattle.tsp_branch.proofs.add_sets.add_where_any.Goals as goal
 

@@ -3,9 +3,9 @@ use Rattle.std.specs.Int.{w64}
 use Rattle.std.proofs.lemmas.Int.{to_z-of_z}
 use Rattle.std.proofs.lemmas.Result.{IfOk-weaker}
 use Rattle.tsp_format.specs.Steps.{steps_of}
-use Rattle.tsp_branch.specs.Combed.{plain}
+use Rattle.tsp_branch.specs.states.Combed.{plain}
 use Rattle.tsp_branch.specs.CombsOfSets.{combs_of_sets}
-use Rattle.tsp_branch.specs.Decided.{case_of}
+use Rattle.tsp_branch.specs.states.Decided.{case_of}
 use Rattle.tsp_branch.specs.Listed.{IsJudged}
 use Rattle.tsp_branch.proofs.Judging.{cycles_of, costs_for}
 use Rattle.tsp_branch.proofs.branch.branch_bound.Goals as goal

@@ -1,12 +1,12 @@
 use Rattle.std.proofs.Common.{◌∙◌, ◌++◌, ℕ, ℤ, List, length, take, drop, Option, refl, ap, subst}
 use Rattle.std.specs.List.{All}
 use Rattle.tsp_format.specs.Cells.{IsNode}
-use Rattle.tsp_branch.specs.Combed.{plain}
+use Rattle.tsp_branch.specs.states.Combed.{plain}
 use Rattle.tsp_branch.specs.CombsOfSets.{combs_of_sets}
 use Rattle.tsp_branch.specs.Cases.{LeafNumbers}
 use Rattle.tsp_branch.specs.Certificate.{IsFoundAt}
-use Rattle.tsp_branch.specs.Decisions.{Decision}
-use Rattle.tsp_branch.specs.Decided.{decided_number, case_of, stack_of}
+use Rattle.tsp_branch.specs.Decisions.{Decision, decided_number}
+use Rattle.tsp_branch.specs.states.Decided.{case_of, stack_of}
 use Rattle.tsp_branch.specs.Listed.{all_grown}
 use Rattle.tsp_branch.proofs.Judging.{written, good_read, judged_leaf}
 use Rattle.tsp_branch.proofs.branch.judge_leaf.Goals as goal

@@ -6,13 +6,13 @@ use Rattle.tsp_format.specs.declared.steps.TreeStep.{TreeStep}
 use Rattle.tsp_format.specs.declared.steps.TreeStep.TheVariants as code
 use Rattle.tsp_format.specs.Steps as listed
 use Rattle.tsp_format.specs.Steps.{steps_of}
-use Rattle.tsp_branch.specs.Combed.{plain}
+use Rattle.tsp_branch.specs.states.Combed.{plain}
 use Rattle.tsp_branch.specs.CombsOfSets.{combs_of_sets}
 use Rattle.tsp_branch.specs.Cases.{LeafNumbers}
 use Rattle.tsp_branch.specs.Certificate.{IsFoundAt}
-use Rattle.tsp_branch.specs.Decisions.{Decision, DecideOnce}
-use Rattle.tsp_branch.specs.Decided.{decided_number, IsDecision, case_of, stack_of}
-use Rattle.tsp_branch.specs.Rooms.{IsJudgedLeaf}
+use Rattle.tsp_branch.specs.Decisions.{Decision, DecideOnce, decided_number}
+use Rattle.tsp_branch.specs.states.Decided.{IsDecision, case_of, stack_of}
+use Rattle.tsp_branch.specs.states.Rooms.{IsJudgedLeaf}
 use Rattle.tsp_branch.proofs.Passes.{IsAtStep, at_branch}
 use Rattle.tsp_branch.proofs.Judging.{own_step, at_next, bad_here, last_found, more_found, once_here, low_sized}
 use Rattle.tsp_branch.proofs.branch.judge_leaves.Goals as goal

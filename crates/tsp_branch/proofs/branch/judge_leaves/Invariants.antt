@@ -3,11 +3,12 @@ use Rattle.std.specs.Prelude.{IfSome}
 use Rattle.std.specs.List.{All}
 use Rattle.tsp_format.specs.Steps.{steps_of}
 use Rattle.tsp_theory.specs.Numbers.{IsBoundSized}
-use Rattle.tsp_branch.specs.Combed.{plain}
+use Rattle.tsp_branch.specs.states.Combed.{plain}
 use Rattle.tsp_branch.specs.CombsOfSets.{combs_of_sets}
 use Rattle.tsp_branch.specs.Certificate.{IsFoundAt}
-use Rattle.tsp_branch.specs.Decided.{decided_number, IsDecision, case_of}
-use Rattle.tsp_branch.specs.Rooms.{IsRoom, AreSmall}
+use Rattle.tsp_branch.specs.states.Decided.{IsDecision, case_of}
+use Rattle.tsp_branch.specs.Decisions.{decided_number}
+use Rattle.tsp_branch.specs.states.Rooms.{IsRoom, AreSmall}
 use Rattle.tsp_branch.proofs.Passes.{IsAtStep}
 use Rattle.tsp_branch.proofs.branch.judge_leaves.Given as goal
 

@@ -1,7 +1,7 @@
 use Rattle.std.proofs.Common.{ℕ, Bool, List, arith}
 use Rattle.std.specs.List.{All}
 use Rattle.tsp_theory.specs.Growth.{least_at}
-use Rattle.tsp_branch.specs.Decided.{decision_of, case_of}
+use Rattle.tsp_branch.specs.states.Decided.{decision_of, case_of}
 use Rattle.tsp_branch.specs.Rows.{Allows}
 use Rattle.tsp_branch.proofs.Closed.{shut_none, shut_more, shut_same, of_case}
 use Rattle.tsp_branch.proofs.closing.close_all.Goals as goal

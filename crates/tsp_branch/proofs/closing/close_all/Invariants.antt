@@ -1,8 +1,8 @@
 use Rattle.std.proofs.Common.{◌<◌, ℕ, length}
 use Rattle.tsp_theory.specs.Growth.{least_at}
-use Rattle.tsp_branch.specs.Decided.{decision_of}
+use Rattle.tsp_branch.specs.states.Decided.{decision_of}
 use Rattle.tsp_branch.specs.Rows.{Allows}
-use Rattle.tsp_branch.specs.Closed.{IsShut}
+use Rattle.tsp_branch.specs.states.Closed.{IsShut}
 use Rattle.tsp_branch.proofs.Closed.{AllBelow}
 use Rattle.tsp_branch.proofs.closing.close_all.Given as goal
 

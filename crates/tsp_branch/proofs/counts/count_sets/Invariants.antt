@@ -1,5 +1,5 @@
 use Rattle.std.proofs.Common.{◌≡◌, ◌+◌, ◌<◌, ℕ, drop, length, get_or}
-use Rattle.tsp_branch.specs.Combed.{plain}
+use Rattle.tsp_branch.specs.states.Combed.{plain}
 use Rattle.tsp_branch.specs.CombsOfSets.{of_comb}
 use Rattle.tsp_branch.proofs.counts.count_sets.Given as goal
 

@@ -1,7 +1,7 @@
 use Rattle.std.proofs.Common.{◌≤◌, ℕ, List, Bool, false, length, refl, ap, inl, arith}
 use Rattle.std.proofs.lemmas.List.{drop_all}
 use Rattle.tsp_theory.specs.Growth.{least_at}
-use Rattle.tsp_branch.specs.Decided.{changes}
+use Rattle.tsp_branch.specs.states.Decided.{changes}
 use Rattle.tsp_branch.proofs.Changes.{changes_left}
 use Rattle.tsp_branch.proofs.SetSums.{moved_on}
 use Rattle.tsp_branch.proofs.decided.change_row.Goals as goal

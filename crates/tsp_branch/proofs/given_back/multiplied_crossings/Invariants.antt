@@ -1,7 +1,7 @@
 use Rattle.std.proofs.Common.{◌≡◌, ◌*◌, ◌^◌, drop}
 use Rattle.std.specs.Prelude.{pos, ◌+ℤ◌, ◌*ℤ◌, ◌≤ℤ◌}
 use Rattle.tsp_theory.specs.Numbers.{total}
-use Rattle.tsp_branch.specs.Combed.{most_multiplied}
+use Rattle.tsp_branch.specs.Judged.{most_multiplied}
 use Rattle.tsp_branch.specs.CombsOfSets.{least_with}
 use Rattle.tsp_branch.proofs.given_back.multiplied_crossings.Given as goal
 

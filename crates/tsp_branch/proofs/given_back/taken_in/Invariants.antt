@@ -2,8 +2,8 @@ use Rattle.std.proofs.Common.{◌≡◌, ◌*◌, drop}
 use Rattle.std.specs.Prelude.{pos, ◌+ℤ◌}
 use Rattle.tsp_theory.specs.Numbers.{IsFromTo}
 use Rattle.tsp_theory.specs.Adjusted.{triples_total}
-use Rattle.tsp_branch.specs.Decisions.{on_taken}
-use Rattle.tsp_branch.specs.Decided.{decided_number, case_of}
+use Rattle.tsp_branch.specs.Decisions.{on_taken, decided_number}
+use Rattle.tsp_branch.specs.states.Decided.{case_of}
 use Rattle.tsp_branch.proofs.given_back.taken_in.Given as goal
 
 abbrev pub invariant-decisions : goal.invariant-decisions

@@ -1,6 +1,6 @@
 use Rattle.std.proofs.Common.{◌∙◌, ℕ, Bool, refl, false}
 use Rattle.std.proofs.lemmas.Bool.{both_ways, iff_false}
-use Rattle.tsp_branch.specs.Marked.{is_marked}
+use Rattle.tsp_branch.specs.states.Marked.{is_marked}
 use Rattle.tsp_branch.proofs.Teeth.{nodes_here, teeth_on, tooth_here}
 use Rattle.tsp_branch.proofs.good_combs.are_teeth.Goals as goal
 

@@ -4,11 +4,11 @@ use Rattle.std.specs.List.{All}
 use Rattle.std.proofs.lemmas.Bool.{iff_false}
 use Rattle.std.proofs.lemmas.List.Elements.{All-drop}
 use Rattle.tsp_format.specs.Cells.{IsNode}
-use Rattle.tsp_branch.specs.Sets.{AreSetsOf}
-use Rattle.tsp_branch.specs.Combed.{plain}
+use Rattle.tsp_branch.specs.states.Sets.{AreSetsOf}
+use Rattle.tsp_branch.specs.states.Combed.{plain}
 use Rattle.tsp_branch.specs.CombsOfSets.{of_comb}
 use Rattle.tsp_branch.specs.GoodCombs.{IsGoodComb, AreInOrder}
-use Rattle.tsp_branch.specs.Marked.{AreUnmarked}
+use Rattle.tsp_branch.specs.states.Marked.{AreUnmarked}
 use Rattle.tsp_branch.proofs.Judging.{written}
 use Rattle.tsp_branch.proofs.CombRuns.{later_left, later_sets, all_good, first_found, in_order_left, own_judged, good_more}
 use Rattle.tsp_branch.proofs.good_combs.first_bad_comb.Goals as goal

@@ -1,5 +1,5 @@
 use Rattle.std.proofs.Common.{length, rules}
-use Rattle.tsp_branch.specs.Marked.{is_marked}
+use Rattle.tsp_branch.specs.states.Marked.{is_marked}
 use Rattle.tsp_branch.proofs.Teeth.{lone_by_marks, lone_left_out}
 use Rattle.tsp_branch.proofs.good_combs.is_lone_set.Goals as goal
 

@@ -1,5 +1,5 @@
 use Rattle.std.proofs.lemmas.Bool.{both_ways, iff_false}
-use Rattle.tsp_branch.specs.Marked.{is_marked}
+use Rattle.tsp_branch.specs.states.Marked.{is_marked}
 use Rattle.tsp_branch.proofs.Teeth.{tooth_found, tooth_inside, tooth_outside}
 use Rattle.tsp_branch.proofs.good_combs.is_tooth.Goals as goal
 

@@ -8,7 +8,7 @@ use Rattle.tsp_theory.specs.Growth.{least_at}
 use Rattle.tsp_theory.proofs.Nearest.{most_64}
 use Rattle.tsp_theory.proofs.Steps.{written_back}
 use Rattle.tsp_theory.proofs.Weights.{sum_more, sum_computed}
-use Rattle.tsp_branch.specs.Outside.{AreFromThree, AreLower, IsLeastPlace}
+use Rattle.tsp_branch.specs.states.Outside.{AreFromThree, AreLower, IsLeastPlace}
 use Rattle.tsp_branch.proofs.Outside.{removed_length}
 use Rattle.tsp_branch.proofs.GrowthStates.{state_start, state_more}
 use Rattle.tsp_branch.proofs.growth.grow.Goals as goal

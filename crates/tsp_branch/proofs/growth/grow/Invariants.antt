@@ -1,7 +1,7 @@
 use Rattle.std.proofs.Common.{◌≡◌, ◌-◌, ◌*◌, ◌^◌, length, MatchOption}
 use Rattle.std.specs.Prelude.{pos, neg_ℤ}
 use Rattle.tsp_theory.specs.Numbers.{IsFromTo}
-use Rattle.tsp_branch.specs.Outside.{IsLeastPlace}
+use Rattle.tsp_branch.specs.states.Outside.{IsLeastPlace}
 use Rattle.tsp_branch.proofs.GrowthStates.{IsState}
 use Rattle.tsp_branch.proofs.growth.grow.Given as goal
 

@@ -1,5 +1,5 @@
 use Rattle.std.proofs.Common.{◌≡◌, ◌<◌, ℕ, get_or}
-use Rattle.tsp_branch.specs.Marked.{is_marked}
+use Rattle.tsp_branch.specs.states.Marked.{is_marked}
 use Rattle.tsp_branch.proofs.marks.has_node.Given as goal
 
 abbrev pub invariant-nodes : goal.invariant-nodes

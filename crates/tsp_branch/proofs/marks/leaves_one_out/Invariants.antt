@@ -1,5 +1,5 @@
 use Rattle.std.proofs.Common.{◌≡◌, ◌≤◌, ◌<◌, ℕ, true}
-use Rattle.tsp_branch.specs.Marked.{is_marked}
+use Rattle.tsp_branch.specs.states.Marked.{is_marked}
 use Rattle.tsp_branch.proofs.marks.leaves_one_out.Given as goal
 
 abbrev pub invariant-places : goal.invariant-places

@@ -1,6 +1,6 @@
 use Rattle.std.proofs.Common.{◌≡◌, ◌||◌, ℕ, length, take}
 use Rattle.tsp_branch.specs.Combs.{has}
-use Rattle.tsp_branch.specs.Marked.{is_marked, AreNew, AddsNoOther}
+use Rattle.tsp_branch.specs.states.Marked.{is_marked, AreNew, AddsNoOther}
 use Rattle.tsp_branch.proofs.marks.mark_nodes.Given as goal
 
 abbrev pub invariant-nodes : goal.invariant-nodes

@@ -5,8 +5,8 @@ use Rattle.std.specs.Global.{Vec}
 use Rattle.std.proofs.lemmas.Int.{ints}
 use Rattle.std.proofs.lemmas.List.{drop_all}
 use Rattle.tsp_theory.specs.Growth.{least_at}
-use Rattle.tsp_branch.specs.Sets.{IsMoved, added}
-use Rattle.tsp_branch.specs.Combed.{plain, multipliers_at}
+use Rattle.tsp_branch.specs.states.Sets.{IsMoved, added}
+use Rattle.tsp_branch.specs.states.Combed.{plain, multipliers_at}
 use Rattle.tsp_branch.proofs.SetSums.{moved_on}
 use Rattle.tsp_branch.proofs.MovedSums.{added_less, multipliers_left}
 use Rattle.tsp_branch.proofs.moved.take_multipliers.Goals as goal

@@ -2,7 +2,7 @@ use Rattle.std.proofs.Common.{◌≡◌, ◌+◌, ◌∙◌, length, inl, inr, a
 use Rattle.std.specs.Int.{w64}
 use Rattle.std.proofs.lemmas.Int.{ints, to_z-of_z}
 use Rattle.tsp_branch.specs.Rows.{IsLeastFrom}
-use Rattle.tsp_branch.specs.Closed.{closed, decisions_of, IsOpenRow}
+use Rattle.tsp_branch.specs.states.Closed.{closed, decisions_of, IsOpenRow}
 use Rattle.tsp_branch.proofs.OpenRows.{none_allowed, least_allowed}
 use Rattle.tsp_branch.proofs.rows.least_from.Goals as goal
 

@@ -2,7 +2,7 @@ use Rattle.std.proofs.Common.{◌+◌, ◌≤◌, ◌∙◌, ℤ, arith, rules, 
 use Rattle.std.specs.Int.{w64, w128}
 use Rattle.std.proofs.lemmas.Int.{ints, to_z-of_z}
 use Rattle.tsp_format.specs.Limits.{most_nodes}
-use Rattle.tsp_branch.specs.Closed.{decisions_of}
+use Rattle.tsp_branch.specs.states.Closed.{decisions_of}
 use Rattle.tsp_branch.proofs.Sums.{sum_none, sum_more, size_more, sum_computed}
 use Rattle.tsp_branch.proofs.rows.sum_of_least.Goals as goal
 

@@ -1,6 +1,6 @@
 use Rattle.tsp_theory.specs.Numbers.{IsSumSized}
 use Rattle.tsp_branch.specs.Rows.{IsSumOfLeast}
-use Rattle.tsp_branch.specs.Closed.{decisions_of}
+use Rattle.tsp_branch.specs.states.Closed.{decisions_of}
 use Rattle.tsp_branch.proofs.rows.sum_of_least.Given as goal
 
 abbrev pub invariant-nodes : goal.invariant-nodes

@@ -1,6 +1,6 @@
 use Rattle.std.proofs.Common.{ℕ, ℤ, drop}
 use Rattle.tsp_theory.specs.Growth.{least_at}
-use Rattle.tsp_branch.specs.Sets.{IsMoved, added}
+use Rattle.tsp_branch.specs.states.Sets.{IsMoved, added}
 use Rattle.tsp_branch.proofs.sets.add_to_nodes.Given as goal
 
 abbrev pub invariant-nodes : goal.invariant-nodes

@@ -1,7 +1,7 @@
 use Rattle.std.proofs.Common.{◌≤◌, ◌<◌, ℕ, List, ◌++◌, length, get_or, refl, ap, sym, subst, ◌∙◌, arith}
 use Rattle.std.proofs.Math.ListN.{length-set}
 use Rattle.std.proofs.lemmas.List.{drop_all, append-nil}
-use Rattle.tsp_branch.specs.Sets.{times}
+use Rattle.tsp_branch.specs.states.Sets.{times}
 use Rattle.tsp_branch.proofs.SetSums.{listed_more}
 use Rattle.tsp_branch.proofs.sets.place_set.Goals as goal
 

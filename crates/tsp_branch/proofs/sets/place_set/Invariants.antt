@@ -1,6 +1,6 @@
 use Rattle.std.proofs.Common.{◌≡◌, ◌<◌, ℕ, ◌++◌, drop, length, get_or}
 use Rattle.std.specs.Global.{Vec}
-use Rattle.tsp_branch.specs.Sets.{times}
+use Rattle.tsp_branch.specs.states.Sets.{times}
 use Rattle.tsp_branch.proofs.sets.place_set.Given as goal
 
 abbrev pub invariant-nodes : goal.invariant-nodes

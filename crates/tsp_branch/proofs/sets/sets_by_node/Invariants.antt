@@ -1,6 +1,6 @@
 use Rattle.std.proofs.Common.{◌≡◌, ◌≤◌, ◌+◌, ℕ, ◌++◌, drop, length, get_or}
 use Rattle.std.specs.Global.{Vec}
-use Rattle.tsp_branch.specs.Sets.{sets_with}
+use Rattle.tsp_branch.specs.states.Sets.{sets_with}
 use Rattle.tsp_branch.proofs.sets.sets_by_node.Given as goal
 
 abbrev pub invariant-sets : goal.invariant-sets

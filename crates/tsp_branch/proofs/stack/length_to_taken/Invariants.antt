@@ -1,6 +1,6 @@
 use Rattle.std.proofs.Common.{◌≡◌, ◌≤◌, take, length}
 use Rattle.tsp_branch.specs.Cases.{next_stack}
-use Rattle.tsp_branch.specs.Decided.{stack_of}
+use Rattle.tsp_branch.specs.states.Decided.{stack_of}
 use Rattle.tsp_branch.proofs.stack.length_to_taken.Given as goal
 
 abbrev pub invariant-kept : goal.invariant-kept

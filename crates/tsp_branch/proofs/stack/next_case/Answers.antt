@@ -1,6 +1,6 @@
 use Rattle.std.proofs.Common.{◌≡◌, ◌≤◌, ℕ, Bool, List, true, take, length, get_or, ◌+◌, ◌-◌, subst}
 use Rattle.tsp_branch.specs.Cases.{next_stack}
-use Rattle.tsp_branch.specs.Decided.{stack_of}
+use Rattle.tsp_branch.specs.states.Decided.{stack_of}
 use Rattle.tsp_branch.proofs.NextCases.{next_by_code, next_few, next_pairs}
 use Rattle.tsp_branch.proofs.stack.next_case.Goals as goal
 

@@ -1,4 +1,4 @@
-use Rattle.tsp_branch.specs.Tabled.{AreCostRows}
+use Rattle.tsp_branch.specs.states.Tabled.{AreCostRows}
 use Rattle.tsp_branch.proofs.table.cost_rows.Given as goal
 
 abbrev pub invariant-rows : goal.invariant-rows

@@ -4,7 +4,7 @@ use Rattle.tsp_format.specs.declared.steps.TreeStep.TheVariants as code
 use Rattle.tsp_format.specs.Steps as listed
 use Rattle.tsp_format.specs.Steps.{steps_of}
 use Rattle.tsp_branch.specs.Decisions.{Decision}
-use Rattle.tsp_branch.specs.Decided.{case_of, stack_of}
+use Rattle.tsp_branch.specs.states.Decided.{case_of, stack_of}
 use Rattle.tsp_branch.proofs.BranchesOnce.{once_next, once_pushed, twice_found, once_at_leaf, once_at_last, once_at_end}
 use Rattle.tsp_branch.proofs.DecidedSets.{decided_by_set, pushed_decided}
 use Rattle.tsp_branch.proofs.twice.first_twice.Goals as goal

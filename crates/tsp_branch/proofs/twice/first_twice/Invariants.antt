@@ -1,7 +1,7 @@
 use Rattle.std.proofs.Common.{◌≤◌, ◌++◌, drop}
 use Rattle.tsp_format.specs.Steps.{steps_of}
-use Rattle.tsp_branch.specs.Decided.{case_of, stack_of}
-use Rattle.tsp_branch.specs.PairSets.{HasDecided}
+use Rattle.tsp_branch.specs.states.Decided.{case_of, stack_of}
+use Rattle.tsp_branch.specs.states.PairSets.{HasDecided}
 use Rattle.tsp_branch.proofs.BranchesOnce.{IsOnceSoFar}
 use Rattle.tsp_branch.proofs.twice.first_twice.Given as goal
 

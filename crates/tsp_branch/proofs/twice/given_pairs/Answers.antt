@@ -1,6 +1,6 @@
 use Rattle.std.proofs.Common.{true, false, arith, subst}
 use Rattle.std.specs.BTreeSet.{Updates}
-use Rattle.tsp_branch.specs.PairSets.{pair_cmp}
+use Rattle.tsp_branch.specs.states.PairSets.{pair_cmp}
 use Rattle.tsp_branch.proofs.DecidedSets.{decided_none, given_more, given_all}
 use Rattle.tsp_branch.proofs.twice.given_pairs.Goals as goal
 

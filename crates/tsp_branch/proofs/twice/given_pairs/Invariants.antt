@@ -1,6 +1,6 @@
 use Rattle.std.proofs.Common.{take}
-use Rattle.tsp_branch.specs.Decided.{case_of}
-use Rattle.tsp_branch.specs.PairSets.{HasDecided}
+use Rattle.tsp_branch.specs.states.Decided.{case_of}
+use Rattle.tsp_branch.specs.states.PairSets.{HasDecided}
 use Rattle.tsp_branch.proofs.twice.given_pairs.Given as goal
 
 abbrev pub invariant-given : goal.invariant-given

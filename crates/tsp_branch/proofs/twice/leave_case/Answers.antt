@@ -1,6 +1,6 @@
 use Rattle.std.proofs.Common.{ℕ, Bool, List, refl, sym, subst, arith}
-use Rattle.tsp_branch.specs.Decided.{IsNextStack}
-use Rattle.tsp_branch.specs.PairSets.{HasStack}
+use Rattle.tsp_branch.specs.states.Decided.{IsNextStack}
+use Rattle.tsp_branch.specs.states.PairSets.{HasStack}
 use Rattle.tsp_branch.proofs.DecidedSets.{kept_all, kept_less, kept_turned, kept_none}
 use Rattle.tsp_branch.proofs.twice.leave_case.Goals as goal
 

@@ -2,10 +2,10 @@ use Rattle.std.proofs.Common.{None, ℕ, ℤ, subst, rules, FitsSigned}
 use Rattle.std.specs.Int.{w64}
 use Rattle.std.proofs.lemmas.Int.{to_z-of_z}
 use Rattle.tsp_format.specs.Steps.{steps_of}
-use Rattle.tsp_branch.specs.Combed.{plain}
+use Rattle.tsp_branch.specs.states.Combed.{plain}
 use Rattle.tsp_branch.specs.CombsOfSets.{combs_of_sets}
 use Rattle.tsp_branch.specs.GoodCombs.{AreCombsJudged}
-use Rattle.tsp_branch.specs.Decided.{case_of}
+use Rattle.tsp_branch.specs.states.Decided.{case_of}
 use Rattle.tsp_branch.specs.Listed.{IsJudged, BoundsCycles}
 use Rattle.tsp_branch.specs.Twice.{AreBranchesJudged}
 use Rattle.tsp_branch.specs.declared.steps.Judged.TheVariants as judged

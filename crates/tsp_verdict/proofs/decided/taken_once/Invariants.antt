@@ -1,5 +1,5 @@
 use Rattle.std.proofs.Common.{take}
-use Rattle.tsp_branch.specs.PairSets.{HasKeys}
+use Rattle.tsp_branch.specs.states.PairSets.{HasKeys}
 use Rattle.tsp_verdict.proofs.GivenPairs.{IsTakenSoFar}
 use Rattle.tsp_verdict.proofs.decided.taken_once.Given as goal
 

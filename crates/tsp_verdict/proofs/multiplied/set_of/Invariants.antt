@@ -1,5 +1,5 @@
 use Rattle.std.proofs.Common.{take}
-use Rattle.tsp_branch.specs.PairSets.{HasPairs}
+use Rattle.tsp_branch.specs.states.PairSets.{HasPairs}
 use Rattle.tsp_verdict.proofs.multiplied.set_of.Given as goal
 
 abbrev pub invariant-pairs : goal.invariant-pairs

@@ -11,10 +11,10 @@ use Rattle.tsp_draft.specs.Valid.{IsPairOf}
 use Rattle.tsp_theory.specs.Numbers.{IsScale}
 use Rattle.tsp_branch.specs.declared.steps.BranchVerdict.TheVariants as found
 use Rattle.tsp_branch.specs.BranchVerdicts.{IsBranchVerdict, IsSizedVerdict}
-use Rattle.tsp_branch.specs.Combed.{plain}
-use Rattle.tsp_branch.specs.Decided.{case_of}
+use Rattle.tsp_branch.specs.states.Combed.{plain}
+use Rattle.tsp_branch.specs.states.Decided.{case_of}
 use Rattle.tsp_branch.specs.Listed.{IsStepOf}
-use Rattle.tsp_branch.specs.Sets.{AreSetsOf}
+use Rattle.tsp_branch.specs.states.Sets.{AreSetsOf}
 use Rattle.tsp_verdict.specs.Solution.{nodes_of}
 use Rattle.tsp_verdict.proofs.FilesHold.{steps_hold, steps_few}
 use Rattle.tsp_verdict.proofs.HeldNumbers.{steps_are}

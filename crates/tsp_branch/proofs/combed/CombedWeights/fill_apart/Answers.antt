@@ -7,7 +7,7 @@ use Rattle.tsp_theory.specs.Numbers.{IsFromTo, entry}
 use Rattle.tsp_theory.specs.Growth.{least_at}
 use Rattle.tsp_theory.proofs.Weights.{between_size}
 use Rattle.tsp_theory.proofs.Sizes.{same_scale, scaled_size}
-use Rattle.tsp_branch.specs.Combed.{plain, multipliers_at}
+use Rattle.tsp_branch.specs.states.Combed.{plain, multipliers_at}
 use Rattle.tsp_branch.proofs.SetAlgebra.{apart_is}
 use Rattle.tsp_branch.proofs.combed.CombedWeights.fill_apart.Goals as goal
 

@@ -8,8 +8,8 @@ use Rattle.tsp_format.specs.Cells.{IsNode}
 use Rattle.tsp_theory.specs.Numbers.{IsFromTo}
 use Rattle.tsp_theory.specs.NodeBound.{weight_between}
 use Rattle.tsp_theory.specs.Growth.{least_at}
-use Rattle.tsp_branch.specs.Sets.{IsMoved, sets_with}
-use Rattle.tsp_branch.specs.Combed.{plain, multipliers_at, inside_both, set_crossings, most_combed, set_weight}
+use Rattle.tsp_branch.specs.states.Sets.{IsMoved, sets_with}
+use Rattle.tsp_branch.specs.states.Combed.{plain, multipliers_at, inside_both, set_crossings, most_combed, set_weight}
 use Rattle.tsp_branch.proofs.CombSizes.{combed_size, combed_fits}
 use Rattle.tsp_branch.proofs.SetSums.{moved_on}
 use Rattle.tsp_branch.proofs.CombedRows.{plain_at}

@@ -5,8 +5,8 @@ use Rattle.tsp_theory.specs.Numbers.{IsFromTo}
 use Rattle.tsp_format.specs.Cells.{IsNode}
 use Rattle.tsp_theory.specs.Growth.{least_at}
 use Rattle.tsp_theory.proofs.Nearest.{most_64}
-use Rattle.tsp_branch.specs.Combed.{plain, set_weight}
-use Rattle.tsp_branch.specs.Decided.{decided, decided_twice, changes}
+use Rattle.tsp_branch.specs.states.Combed.{plain, set_weight}
+use Rattle.tsp_branch.specs.states.Decided.{decided, decided_twice, changes}
 use Rattle.tsp_branch.proofs.Changes.{changes_are, within}
 use Rattle.tsp_branch.proofs.SetSums.{moved_on}
 use Rattle.tsp_branch.proofs.SetAlgebra.{moved_to}

@@ -9,12 +9,12 @@ use Rattle.tsp_theory.specs.NodeBound.{weight_between}
 use Rattle.tsp_theory.proofs.Sizes.{same_scale}
 use Rattle.tsp_branch.specs.Combs.{Comb}
 use Rattle.tsp_branch.specs.Families.{IsFamily}
-use Rattle.tsp_branch.specs.Decisions.{Decision}
+use Rattle.tsp_branch.specs.Decisions.{Decision, decided_number}
 use Rattle.tsp_branch.specs.LeafBound.{combed, least_of}
 use Rattle.tsp_branch.specs.Certificate.{multiplied}
-use Rattle.tsp_branch.specs.Combed.{plain, set_weight}
+use Rattle.tsp_branch.specs.states.Combed.{plain, set_weight}
 use Rattle.tsp_branch.specs.CombsOfSets.{combs_of_sets, AreSetCounts}
-use Rattle.tsp_branch.specs.Decided.{decided_number, case_of, stack_of}
+use Rattle.tsp_branch.specs.states.Decided.{case_of, stack_of}
 use Rattle.tsp_branch.proofs.CaseWeights.{small_multipliers, few_crossings, sets_below_count, row_weight, found_by_rows}
 use Rattle.tsp_branch.proofs.setting.Setting.bound_by_rows.Goals as goal
 

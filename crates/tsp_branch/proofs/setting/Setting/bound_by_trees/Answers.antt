@@ -7,13 +7,13 @@ use Rattle.std.proofs.lemmas.Result.{IfOk-weaker}
 use Rattle.tsp_theory.proofs.Sizes.{same_scale}
 use Rattle.tsp_branch.specs.Combs.{Comb}
 use Rattle.tsp_branch.specs.Families.{IsFamily}
-use Rattle.tsp_branch.specs.Decisions.{Decision, on_taken, on_avoided}
+use Rattle.tsp_branch.specs.Decisions.{Decision, on_taken, on_avoided, decided_number}
 use Rattle.tsp_branch.specs.LeafBound.{IsLeafBound}
 use Rattle.tsp_branch.specs.Certificate.{multiplied}
 use Rattle.tsp_branch.specs.Weighed.{BoundsEachLeaf, given_back_of}
-use Rattle.tsp_branch.specs.Combed.{plain, set_weight}
+use Rattle.tsp_branch.specs.states.Combed.{plain, set_weight}
 use Rattle.tsp_branch.specs.CombsOfSets.{combs_of_sets, AreSetCounts}
-use Rattle.tsp_branch.specs.Decided.{decided_number, case_of, stack_of, decided_twice}
+use Rattle.tsp_branch.specs.states.Decided.{case_of, stack_of, decided_twice}
 use Rattle.tsp_branch.proofs.LeafBounds.{leaf_even}
 use Rattle.tsp_branch.proofs.DecidedOnce.{few_changes}
 use Rattle.tsp_branch.proofs.CaseWeights.{case_weight, small_multipliers, few_crossings, sets_below_count, back_of}

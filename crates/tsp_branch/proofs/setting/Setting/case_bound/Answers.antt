@@ -1,6 +1,6 @@
 use Rattle.std.proofs.Common.{◌++◌, Bool, subst}
 use Rattle.tsp_branch.specs.Decisions.{DecideOnce}
-use Rattle.tsp_branch.specs.Decided.{case_of, stack_of}
+use Rattle.tsp_branch.specs.states.Decided.{case_of, stack_of}
 use Rattle.tsp_branch.proofs.setting.Setting.case_bound.Goals as goal
 
 pub bound_by_trees-requires-clause-once : goal.bound_by_trees-requires-clause-once

@@ -1,5 +1,6 @@
 use Rattle.std.proofs.Common.{refl}
 use Rattle.tsp_format.specs.Steps.{steps_of}
+use Rattle.tsp_draft.specs.Coords.{points_of}
 use Rattle.tsp_draft.specs.Fields.{combs_of, fields_of}
 use Rattle.tsp_read.proofs.SectionSteps as steps
 use Rattle.tsp_read.proofs.state.store.store.Goals as goal
@@ -8,6 +9,11 @@ pub returns-in-Numbers-clause-stored : goal.returns-in-Numbers-clause-stored
 returns-in-Numbers-clause-stored c =
     steps.numbers_stored c.args.section c.in-Numbers.part c.finish-numbers.result.0.items c.finish-numbers.result.1 (fields_of c.args.draft.now)
     (fields_of c.set_numbers.new.self) c.in-Numbers.is c.set_numbers.ensures c.finish-numbers.ensures
+
+pub returns-in-Points-clause-stored : goal.returns-in-Points-clause-stored
+returns-in-Points-clause-stored c =
+    steps.points_stored c.args.section c.in-Points.part (points_of c.finish-points.result.0) c.finish-points.result.1 (fields_of c.args.draft.now)
+    (fields_of c.set_points.new.self) c.in-Points.is c.set_points.ensures c.finish-points.ensures
 
 pub returns-in-Pairs-clause-stored : goal.returns-in-Pairs-clause-stored
 returns-in-Pairs-clause-stored c =

@@ -2,7 +2,7 @@
 use Rattle.std.proofs.Common.{refl, sym, subst}
 use Rattle.tsp_run.specs.declared.source.Source.{Source}
 use Rattle.tsp_run.specs.declared.source.Source.TheVariants.{Input, Opened}
-use Rattle.tsp_run.specs.Source.{IsAsked}
+use Rattle.tsp_run.specs.states.Source.{IsAsked}
 use Rattle.tsp_run.proofs.source.Source.ask.Goals as goal
 
 pub returns-in-Input : goal.returns-in-Input

@@ -8,6 +8,11 @@ returns-in-Numbers-clause-takes c = λ n words h.
     steps.numbers c.args.self.now c.in-Numbers.part c.push.new.self n words c.args.word.now
     c.push.result c.in-Numbers.is c.push.ensures.takes h
 
+pub returns-in-Points-clause-takes : goal.returns-in-Points-clause-takes
+returns-in-Points-clause-takes c = λ n words h.
+    steps.points c.args.self.now c.in-Points.part c.push-in-Points.new.self n words c.args.word.now
+    c.push-in-Points.result c.in-Points.is (λ in_space m ws. c.push-in-Points.ensures.takes in_space m ws) h
+
 pub returns-in-Pairs-clause-takes : goal.returns-in-Pairs-clause-takes
 returns-in-Pairs-clause-takes c = λ n words h.
     steps.as_list c.args.self.now (parts.Pairs c.in-Pairs.part) (parts.Pairs c.push-in-Pairs.new.self) n words

@@ -1,7 +1,9 @@
-use Rattle.std.proofs.Common.{refl}
+use Rattle.std.proofs.Common.{Ok, refl}
+use Rattle.tsp_section.specs.declared.part.Part.TheVariants as parts
+use Rattle.tsp_section.proofs.PartSteps as steps
 use Rattle.tsp_section.proofs.run.PointListRunList.take_coordinate.Goals as goal
 
 pub returns-clause-taken : goal.returns-clause-taken
 returns-clause-taken c = λ taken word read n words h.
-    let next = c.push_coordinate.ensures.taken taken n words word read h in
-    (next.0, (refl, next.1))
+    steps.points (parts.Points c.args.self.now) c.args.self.now c.push_coordinate.new.self n words word (Ok tt) refl
+    (λ in_space m ws held. c.push_coordinate.ensures.taken taken in_space m ws word read held) h

@@ -1,9 +1,11 @@
-use Rattle.std.proofs.Common.{refl, rules, FitsSigned, w64}
+use Rattle.std.proofs.Common.{Ok, refl, rules, FitsSigned, w64}
 use Rattle.std.proofs.lemmas.Int.{to_z-of_z}
+use Rattle.tsp_section.specs.declared.part.Part.TheVariants as parts
+use Rattle.tsp_section.proofs.PartSteps as steps
 use Rattle.tsp_section.proofs.run.PointListRunList.take_whole.Goals as goal
 
 pub returns-clause-taken : goal.returns-clause-taken
 returns-clause-taken c = λ taken word read n words h.
     let fits : FitsSigned w64 c.args.number = search rules in
-    let next = c.push_read.ensures.taken taken n words word (rw (to_z-of_z w64 c.args.number fits) read) h in
-    (next.0, (refl, next.1))
+    steps.points (parts.Points c.args.self.now) c.args.self.now c.push_read.new.self n words word (Ok tt) refl
+    (λ in_space m ws held. c.push_read.ensures.taken taken in_space m ws word (rw (to_z-of_z w64 c.args.number fits) read) held) h

@@ -1,8 +1,8 @@
-use Rattle.tsp_section.proofs.PointSteps.{plane_points}
-use Rattle.tsp_section.proofs.PointSteps.{points_finish, points_to_come}
+use Rattle.tsp_draft.specs.Coords.{points_of}
+use Rattle.tsp_section.proofs.CoordSteps.{all_taken}
 use Rattle.tsp_section.proofs.parts.points.PointList.finish.Goals as goal
 
 pub returns : goal.returns
-returns c = λ n words h.
+returns c = λ in_space n words h.
     let s = c.args.self in
-    (points_finish s.seen.items (plane_points s.entries.items) s.left s.begun s.x n words h, points_to_come s.seen.items (plane_points s.entries.items) s.left s.begun s.x n words h)
+    all_taken in_space s.seen.items (points_of s.entries) s.left s.begun s.x s.y n words h.read

@@ -1,19 +1,10 @@
-use Rattle.std.proofs.Common.{◌≡◌, map, ap, ◌∙◌}
-use Rattle.std.specs.Prelude.{replicate}
-use Rattle.tsp_distance.specs.declared.decimal.PlanePoint.{PlanePoint}
-use Rattle.tsp_distance.specs.declared.decimal.Point.{Point}
-use Rattle.tsp_distance.specs.Distances.{on_plane}
-use Rattle.tsp_draft.specs.Coords.{origin}
-use Rattle.tsp_draft.proofs.Mapped.{map_replicate}
-use Rattle.tsp_section.proofs.PointSteps.{none_so_far}
+use Rattle.tsp_draft.specs.Coords.{points_of}
+use Rattle.tsp_section.proofs.CoordSteps.{none_so_far}
 use Rattle.tsp_section.proofs.parts.points.PointList.open.Goals as goal
 
 pub returns : goal.returns
-returns c =
-    let place : PlanePoint → Point = λ point. on_plane point.x point.y in
-    let items = c.in_ok-vec-2.ensures.items_if_clones_equal (λ y h. h) in
-    let points : map place c.in_ok-vec-2.field-0.items ≡ replicate c.args.n origin =
-    ap (map place) items ∙ map_replicate place c.args.n (record { x = c.of_nanos-zero.result; y = c.of_nanos-zero.result })
-    ∙ ap (λ zero. replicate c.args.n (on_plane zero zero)) c.of_nanos-zero.ensures in
-    none_so_far c.in_ok-vec.field-0.items (map place c.in_ok-vec-2.field-0.items) c.args.n
-    (c.in_ok-vec.ensures.items_if_clones_equal (λ y h. h)) points
+returns c = record {
+  kind = c.in_ok-at_origin.ensures.0;
+  read = none_so_far c.args.in_space c.in_ok-vec.field-0.items (points_of c.in_ok-at_origin.field-0) c.args.n
+      (c.in_ok-vec.ensures.items_if_clones_equal (λ y h. h)) c.in_ok-at_origin.ensures.1;
+}

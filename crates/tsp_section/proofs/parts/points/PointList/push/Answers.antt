@@ -1,36 +1,41 @@
 use Rattle.std.proofs.Common.{◌∙◌, sym, subst, Err, arith}
-use Rattle.tsp_section.proofs.PointSteps.{plane_points}
+use Rattle.tsp_draft.specs.Coords.{points_of}
 use Rattle.tsp_section.specs.states.Parts.{IsNewNode}
-use Rattle.tsp_section.proofs.PointSteps.{points_ended, points_surplus, point_node_faulty, point_bad, point_node}
+use Rattle.tsp_section.proofs.CoordSteps.{end_taken, one_too_many, node_faulty, coordinate_bad, node_taken}
 use Rattle.tsp_section.proofs.parts.points.PointList.push.Goals as goal
 
 pub returns-then-is_minus_one-clause-takes : goal.returns-then-is_minus_one-clause-takes
-returns-then-is_minus_one-clause-takes c = λ n words h.
+returns-then-is_minus_one-clause-takes c = λ in_space n words h.
     let s = c.args.self.now in
-    points_ended s.seen.items (plane_points s.entries.items) s.left s.begun s.x n words c.args.word.now c.if-self-eq0.true (sym c.is_minus_one.ensures ∙ c.if-is_minus_one.true) h
+    let next = end_taken in_space s.seen.items (points_of s.entries) s.left s.begun s.x s.y n words c.args.word.now c.if-self-eq0.true
+    (sym c.is_minus_one.ensures ∙ c.if-is_minus_one.true) h.read in
+    (next.0, record { kind = h.kind; read = next.1 })
 
 pub returns-then-self-eq0-clause-takes : goal.returns-then-self-eq0-clause-takes
-returns-then-self-eq0-clause-takes c = λ n words h.
+returns-then-self-eq0-clause-takes c = λ in_space n words h.
     let s = c.args.self.now in
-    points_surplus s.seen.items (plane_points s.entries.items) s.left s.begun s.x n words c.args.word.now c.if-self-eq0.true (sym c.is_minus_one.ensures ∙ c.if-is_minus_one.false) h
+    one_too_many in_space s.seen.items (points_of s.entries) s.left s.begun s.x s.y n words c.args.word.now c.if-self-eq0.true
+    (sym c.is_minus_one.ensures ∙ c.if-is_minus_one.false) h.read
 
 pub returns-in-Ok-clause-takes : goal.returns-in-Ok-clause-takes
-returns-in-Ok-clause-takes c = λ n words h.
+returns-in-Ok-clause-takes c = λ in_space n words h.
     let s = c.args.self.now in
     let new = rw c.as_slice.ensures.value at c.in-Ok.ensures in
-    point_node s.seen.items (plane_points s.entries.items) s.left s.begun s.x n words c.args.word.now c.in-Ok.node (omega arith) c.in-None.is new h
+    let next = node_taken in_space s.seen.items (points_of s.entries) s.left s.begun s.x s.y n words c.args.word.now c.in-Ok.node (omega arith) c.in-None.is new h.read in
+    (next.0, record { kind = h.kind; read = next.1 })
 
 pub returns-in-Err-clause-takes : goal.returns-in-Err-clause-takes
-returns-in-Err-clause-takes c = λ n words h.
+returns-in-Err-clause-takes c = λ in_space n words h.
     let s = c.args.self.now in
     let new = subst (λ seen. IsNewNode seen c.args.word.now (Err c.in-Err.fault)) c.as_slice.ensures.value c.in-Err.ensures in
-    point_node_faulty s.seen.items (plane_points s.entries.items) s.left s.begun s.x n words c.args.word.now c.in-Err.fault (omega arith) c.in-None.is new h
+    node_faulty in_space s.seen.items (points_of s.entries) s.left s.begun s.x s.y n words c.args.word.now c.in-Err.fault (omega arith) c.in-None.is new h.read
 
 pub returns-in-Ok-parse_decimal-clause-takes : goal.returns-in-Ok-parse_decimal-clause-takes
-returns-in-Ok-parse_decimal-clause-takes c = λ n words h. c.put.ensures n words c.args.word.now h (sym c.parse_decimal.ensures.computed ∙ c.in-Ok-parse_decimal.is)
+returns-in-Ok-parse_decimal-clause-takes c = λ in_space n words h.
+    c.put.ensures in_space n words c.args.word.now h (sym c.parse_decimal.ensures.computed ∙ c.in-Ok-parse_decimal.is)
 
 pub returns-in-Err-parse_decimal-clause-takes : goal.returns-in-Err-parse_decimal-clause-takes
-returns-in-Err-parse_decimal-clause-takes c = λ n words h.
+returns-in-Err-parse_decimal-clause-takes c = λ in_space n words h.
     let s = c.args.self.now in
-    point_bad s.seen.items (plane_points s.entries.items) s.left s.begun s.x n words c.args.word.now c.in-Some.node c.in-Err-parse_decimal.fault (omega arith)
-    c.in-Some.is (sym c.parse_decimal.ensures.computed ∙ c.in-Err-parse_decimal.is) h
+    coordinate_bad in_space s.seen.items (points_of s.entries) s.left s.begun s.x s.y n words c.args.word.now c.in-Some.node c.in-Err-parse_decimal.fault (omega arith)
+    c.in-Some.is (sym c.parse_decimal.ensures.computed ∙ c.in-Err-parse_decimal.is) h.read

@@ -1,4 +1,4 @@
 use Rattle.tsp_section.proofs.parts.points.PointList.push_coordinate.Goals as goal
 
 pub returns-in-Some-clause-taken : goal.returns-in-Some-clause-taken
-returns-in-Some-clause-taken c = λ taken n words word read h. c.put.ensures n words word h read
+returns-in-Some-clause-taken c = λ taken in_space n words word read h. c.put.ensures in_space n words word h read

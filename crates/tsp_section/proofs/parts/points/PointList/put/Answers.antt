@@ -1,44 +1,47 @@
-use Rattle.std.proofs.Common.{◌-◌, arith}
+use Rattle.std.proofs.Common.{◌-◌, ◌∙◌, sym, ap}
 use Rattle.std.proofs.lemmas.List.{map-set}
 use Rattle.tsp_distance.specs.declared.decimal.PlanePoint.{PlanePoint}
 use Rattle.tsp_distance.specs.declared.decimal.Point.{Point}
 use Rattle.tsp_distance.specs.Distances.{on_plane}
-use Rattle.tsp_section.proofs.PointSteps.{plane_points, point_middle, point_more}
+use Rattle.tsp_draft.specs.Coords.{points_of}
+use Rattle.tsp_section.specs.states.Parts.{are_in_space}
+use Rattle.tsp_section.proofs.PointSteps.{plane_points}
+use Rattle.tsp_section.proofs.CoordSteps.{first_taken, plane_taken, second_taken, third_taken}
 use Rattle.tsp_section.proofs.parts.points.PointList.put.Goals as goal
+use Rattle.tsp_section.proofs.parts.points.PointList.put.Goals.{in-Plane, in-Space+in-Some-y}
 
-pub invariant_of-self : goal.invariant_of-self
-invariant_of-self c = record { same = c.args.self.now.same; narrow = c.args.self.now.narrow; within = c.args.self.now.within }
-
-pub overflow_sub-node : goal.overflow_sub-node
-overflow_sub-node c = (c.args.self.now.within c.args.node c.requires.begun).0
-
-pub index_mut-requires : goal.index_mut-requires
-index_mut-requires c =
-    let place = c.args.self.now.within c.args.node c.requires.begun in
-    omega (arith, place.0, place.1)
-
-pub overflow_sub-node-in-Some : goal.overflow_sub-node-in-Some
-overflow_sub-node-in-Some c = (c.args.self.now.within c.args.node c.requires.begun).0
-
-pub index_mut-requires-in-Some : goal.index_mut-requires-in-Some
-index_mut-requires-in-Some c =
-    let place = c.args.self.now.within c.args.node c.requires.begun in
-    omega (arith, c.args.self.now.same, place.0, place.1)
-
-pub overflow_sub-self : goal.overflow_sub-self
-overflow_sub-self c = c.requires.to_come
-
-pub invariant_of-self-in-Some : goal.invariant_of-self-in-Some
-invariant_of-self-in-Some c = record { same = c.args.self.now.same; narrow = c.args.self.now.narrow; within = λ x e. cc }
-
-pub returns-in-None : goal.returns-in-None
-returns-in-None c = λ n words word h read.
+pub returns-in_default : goal.returns-in_default
+returns-in_default c = λ in_space n words word h read.
     let s = c.args.self.now in
-    point_middle s.seen.items (plane_points s.entries.items) s.left s.begun s.x n words word c.args.node c.args.coordinate c.requires.to_come c.requires.begun c.in-None.is read h
+    let next = first_taken in_space s.seen.items (points_of s.entries) s.left s.begun s.x s.y n words word c.args.node c.args.coordinate
+    c.requires.to_come c.requires.begun c.in_default.is read h.read in
+    (next.0, record { kind = h.kind; read = next.1 })
 
-pub returns-in-Some : goal.returns-in-Some
-returns-in-Some c = λ n words word h read.
+pub returns-in_default-y : goal.returns-in_default-y
+returns-in_default-y c = λ in_space n words word h read.
     let s = c.args.self.now in
-    let place : PlanePoint → Point = λ point. on_plane point.x point.y in
-    rw (map-set place s.entries.items (c.args.node - 1) (record { x = c.in-Some.x; y = c.args.coordinate }))
-    (point_more s.seen.items (plane_points s.entries.items) s.left s.begun s.x n words word c.args.node c.in-Some.x c.args.coordinate c.requires.to_come c.requires.begun c.in-Some.is read h)
+    let kind = sym (ap are_in_space c.in-Space.is) ∙ h.kind in
+    let held = rw c.in-Space.is at h.read in
+    let next = second_taken in_space s.seen.items c.in-Space.points.items s.left s.begun s.x s.y n words word c.args.node c.in-Some.x c.args.coordinate kind
+    c.requires.to_come c.requires.begun c.in-Some.is c.in_default-y.is read held in
+    (next.0, record { kind = kind; read = next.1 })
+
+pub returns : goal.returns
+returns c = λ in_space n words word h read.
+    let s = c.args.self.now in
+    elim c.match-self-2.branch [
+      | in-Plane u ↦
+          let kind = sym (ap are_in_space u.in-Plane.is) ∙ h.kind in
+          let held = rw u.in-Plane.is at h.read in
+          let place : PlanePoint → Point = λ point. on_plane point.x point.y in
+          let next = plane_taken in_space s.seen.items (plane_points u.in-Plane.points.items) s.left s.begun s.x s.y n words word c.args.node c.in-Some.x
+          c.args.coordinate kind c.requires.to_come c.requires.begun c.in-Some.is read held in
+          let set = map-set place u.in-Plane.points.items (c.args.node - 1) (record { x = c.in-Some.x; y = c.args.coordinate }) in
+          (next.0, record { kind = rw u.self-is kind; read = rw (u.self-is, set) next.1 })
+      | in-Space+in-Some-y u ↦
+          let kind = sym (ap are_in_space u.in-Space.is) ∙ h.kind in
+          let held = rw u.in-Space.is at h.read in
+          let next = third_taken in_space s.seen.items u.in-Space.points.items s.left s.begun s.x s.y n words word c.args.node c.in-Some.x u.in-Some-y.y
+          c.args.coordinate kind c.requires.to_come c.requires.begun c.in-Some.is u.in-Some-y.is read held in
+          (next.0, record { kind = rw u.self-is kind; read = rw u.self-is next.1 })
+    ]

@@ -1,21 +1,22 @@
 -- Weights under combs as code finds them: by the sets of the combs, each with the multiplier of its comb.
-use Rattle.std.specs.Prelude.{◌≢◌, ℕ, ◌*◌, ◌<◌, List, [], map, length, slice_index_or, ℤ, pos, ◌-ℤ◌, ◌*ℤ◌}
+use Rattle.std.specs.Prelude.{◌≡◌, ◌≢◌, ℕ, ◌*◌, ◌<◌, List, [], map, length, slice_index_or, ℤ, pos, ◌-ℤ◌, ◌*ℤ◌}
 use Rattle.std.specs.Global.{Vec}
 use Rattle.std.specs.List.{All, AllPairs}
 use Rattle.tsp_theory.specs.Length.{sum_int_by}
 use Rattle.tsp_theory.specs.Numbers.{IsFromTo}
 use Rattle.tsp_theory.specs.NodeBound.{weight_between}
 use Rattle.tsp_theory.specs.Tree.{crossing}
+use Rattle.tsp_theory.specs.Adjusted.{adjusted}
 use Rattle.tsp_branch.specs.Combs.{has}
-use Rattle.tsp_branch.specs.Sets.{added}
+use Rattle.tsp_branch.specs.LeafBound.{crossings_of, leaf_weight}
+use Rattle.tsp_branch.specs.Certificate.{multiplied}
+use Rattle.tsp_branch.specs.CombsOfSets.{combs_of_sets}
+use Rattle.tsp_branch.specs.Judged.{most_multiplied}
+use Rattle.tsp_branch.specs.states.Sets.{added}
 
 -- the number of a set's comb, and its nodes
 abbrev pub plain : List (ℕ × Vec ℕ) → List (ℕ × List ℕ)
 plain sets = map (λ set. (set.0, set.1.items)) sets
-
--- what the multipliers of all combs of a leaf sum to at most
-abbrev pub most_multiplied : ℕ
-most_multiplied = 300000000000000000
 
 abbrev pub AreSmallMultipliers : List ℤ → Type 0
 AreSmallMultipliers multipliers = All (IsFromTo (pos 0) (pos most_multiplied)) multipliers
@@ -59,3 +60,15 @@ AreFewCrossings multipliers sets = (i j : ℕ) → IsFromTo (pos 0) (pos most_cr
 
 abbrev pub most_combed : ℕ
 most_combed = 2000000000000000000
+
+-- The crossings of the sets are those of the combs.
+abbrev pub SetsTellCombs : Type 0
+SetsTellCombs = (multipliers : List ℤ) (sets : List (ℕ × List ℕ)) (i j : ℕ) → All (λ set. set.0 < length multipliers) sets
+    → crossings_of (multiplied (combs_of_sets (length multipliers) sets) multipliers) i j ≡ set_crossings multipliers sets i j
+
+-- So the weights by sets are, under taken and avoided pairs, those of a leaf.
+abbrev pub SetsGiveLeaves : Type 0
+SetsGiveLeaves = (scale : ℤ) (potentials multipliers : List ℤ) (taken avoided : List (ℕ × ℕ × ℤ)) (sets : List (ℕ × List ℕ))
+    (cost : ℕ → ℕ → ℤ) (i j : ℕ) → All (λ set. set.0 < length multipliers) sets
+    → adjusted taken avoided (set_weight scale potentials multipliers sets cost) i j
+    ≡ leaf_weight scale potentials taken avoided (multiplied (combs_of_sets (length multipliers) sets) multipliers) cost i j

@@ -5,12 +5,8 @@ use Rattle.tsp_format.specs.Cells.{IsNode}
 use Rattle.tsp_theory.specs.Length.{sum_int_by}
 use Rattle.tsp_theory.specs.Numbers.{IsFromTo}
 use Rattle.tsp_theory.specs.Adjusted.{is_same_pair, adjusted}
-use Rattle.tsp_branch.specs.Decisions.{Decision, on_taken, on_avoided}
+use Rattle.tsp_branch.specs.Decisions.{Decision, on_taken, on_avoided, decided_number}
 use Rattle.tsp_branch.specs.Cases.{next_stack}
-
--- the number on each decided pair
-abbrev pub decided_number : ℤ
-decided_number = pos 4000000000000000000
 
 abbrev pub decision_of : ℕ × ℕ × Bool → Decision
 decision_of (i, j, taken) = record { pair = (i, j); taken = taken }

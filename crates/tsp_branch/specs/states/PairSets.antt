@@ -6,7 +6,7 @@ use Rattle.std.specs.Ordering.{nat_cmp, ordering_then}
 use Rattle.std.specs.declared.cmp.Ordering.{Ordering}
 use Rattle.tsp_theory.specs.Adjusted.{is_same_pair}
 use Rattle.tsp_branch.specs.Decisions.{Decision, is_same, DecideOnce}
-use Rattle.tsp_branch.specs.Decided.{stack_of}
+use Rattle.tsp_branch.specs.states.Decided.{stack_of}
 use Rattle.tsp_branch.specs.Twice.{is_decided}
 
 -- the same for both directions of a pair

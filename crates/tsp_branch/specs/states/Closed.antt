@@ -3,7 +3,7 @@ use Rattle.std.specs.Prelude.{◌≡◌, ℕ, Bool, List, ◌++◌, ◌⊎◌, �
 use Rattle.tsp_format.specs.Cells.{IsNode}
 use Rattle.tsp_theory.specs.Growth.{least_at}
 use Rattle.tsp_branch.specs.Decisions.{Decision}
-use Rattle.tsp_branch.specs.Decided.{case_of, stack_of}
+use Rattle.tsp_branch.specs.states.Decided.{case_of, stack_of}
 use Rattle.tsp_branch.specs.Rows.{IsAllowed}
 
 -- the weight that means no link: the largest number of 64 bits, below which all weights are
