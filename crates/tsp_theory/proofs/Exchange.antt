@@ -1,10 +1,13 @@
 -- The exchange: a list that crosses each cut has a pair that a growth can replace.
-use Rattle.std.proofs.Common.{◌≡◌, ℕ, suc, zero, Bool, true, false, not, ◌||◌, ◌==◌, cond, List, [], ◌∷◌, length, ℤ, ◌+ℤ◌, ◌≤ℤ◌, ◌⊎◌, inl, inr, refl, arith, ap, sym, ◌∙◌, subst}
-use Rattle.std.proofs.lemmas.Bool.{cases_Bool, false≢true, or_left, or_right, or_cases, both_ways, false_from_ne_true, not-true, not-false, eqb-true, eq-eqb}
-use Rattle.std.proofs.lemmas.Int.{ints}
-use Rattle.std.specs.List.{AllByRecursion, list_any}
-use Rattle.tsp_theory.specs.Tree.{crosses, weight_of}
-use Rattle.tsp_theory.specs.Growth.{and_node, IsLeastLeaving, Grows}
+use Rattle.std.proofs.Common.{◌≡◌, ℕ, suc, zero, ◌≤◌, Bool, true, false, not, ◌||◌, ◌==◌, cond, List, [], ◌∷◌, length, get_or, ℤ, ◌≤ℤ◌, ◌⊎◌, inl, inr, refl, arith, ap, sym, ◌∙◌, subst}
+use Rattle.std.proofs.lemmas.Bool.{cases_Bool, or_left, or_right, or_cases, or_parts, both_ways, false_from_ne_true, true_from_ne_false, not-true, not-false, eqb-true, eq-eqb}
+use Rattle.std.proofs.lemmas.List.Folds.{Any-from_list_any}
+use Rattle.std.proofs.lemmas.List.Sorted.{IsPermutation-trans, IsPermutation-cons, IsPermutation-middle, IsPermutation-remove, list_any-IsPermutation, sum_by-IsPermutation, length_permutation}
+use Rattle.std.proofs.lemmas.List.Sums.{sum_by-cons, get_or-le-sum_by}
+use Rattle.std.specs.List.{list_any, sum_by, remove}
+use Rattle.std.specs.List.Sorted.{IsPermutation}
+use Rattle.tsp_theory.specs.Tree.{crosses}
+use Rattle.tsp_theory.specs.Growth.{and_node, IsLeastLeaving}
 
 -- some pair crosses
 abbrev pub IsCrossed : List (ℕ × ℕ) → (ℕ → Bool) → Type 0
@@ -17,40 +20,37 @@ Within small large = (x : ℕ) → small x ≡ true → large x ≡ true
 abbrev pub Joins : (ℕ → Type 0) → (ℕ → Bool) → List (ℕ × ℕ) → Type 0
 Joins Node grown xs = (part : ℕ → Bool) (outside : ℕ) → Node outside → part outside ≡ false → Within grown part → IsCrossed xs part
 
--- ys is f and the rest, in some order
-pub record Takes (P : ℕ × ℕ → Type 0) (w : ℕ → ℕ → ℤ) (ys : List (ℕ × ℕ)) (f : ℕ × ℕ) (rest : List (ℕ × ℕ)) : Type 0 where
-  pub count : length ys ≡ suc (length rest)
-  pub weighs : weight_of w ys ≡ w f.0 f.1 +ℤ weight_of w rest
-  pub any : (test : ℕ × ℕ → Bool) → list_any test ys ≡ (test f || list_any test rest)
-  pub all : AllByRecursion P ys → P f × AllByRecursion P rest
-
-or_swap : (a b c : Bool) → (a || (b || c)) ≡ (b || (a || c))
-or_swap true true c = refl
-or_swap true false c = refl
-or_swap false b c = refl
-
-pub takes_first : (P : ℕ × ℕ → Type 0) (w : ℕ → ℕ → ℤ) (y : ℕ × ℕ) (ys : List (ℕ × ℕ)) → Takes P w (y ∷ ys) y ys
-takes_first P w y ys = record { count = refl; weighs = refl; any = λ test. refl; all = λ h. h }
+-- where some pair passes a test, one that passes can be taken
+pub find : (test : ℕ × ℕ → Bool) (ys : List (ℕ × ℕ)) → list_any test ys ≡ true → (f : ℕ × ℕ) × (rest : List (ℕ × ℕ)) × (test f ≡ true) × IsPermutation ys (f ∷ rest)
+find test ys h = let found = Any-from_list_any test ys h in (found.1, remove ys found.0, found.4, IsPermutation-remove ys found.0 found.1 found.2 (sym found.3))
 
 -- a pair taken from the rest is taken from all, and the first one taken is put back
-pub takes_later : (P : ℕ × ℕ → Type 0) (w : ℕ → ℕ → ℤ) (ys : List (ℕ × ℕ)) (e : ℕ × ℕ) (rest : List (ℕ × ℕ)) (f : ℕ × ℕ) (last : List (ℕ × ℕ))
-    → Takes P w ys e rest → Takes P w rest f last → Takes P w ys f (e ∷ last)
-takes_later P w ys e rest f last t s = record {
-  count = t.count ∙ ap suc s.count;
-  weighs = omega (arith, ints, t.weighs, s.weighs);
-  any = λ test. t.any test ∙ (ap (λ b. test e || b) (s.any test) ∙ or_swap (test e) (test f) (list_any test last));
-  all = λ h. let p = t.all h in let q = s.all p.1 in (q.0, (p.0, q.1));
-}
+takes_later : (ys : List (ℕ × ℕ)) (e : ℕ × ℕ) (rest : List (ℕ × ℕ)) (f : ℕ × ℕ) (last : List (ℕ × ℕ)) → IsPermutation ys (e ∷ rest) → IsPermutation rest (f ∷ last) → IsPermutation ys (f ∷ e ∷ last)
+takes_later ys e rest f last takes more = IsPermutation-trans _ _ _ takes (IsPermutation-trans _ _ _ (IsPermutation-cons e _ _ more) (IsPermutation-middle (e ∷ []) f last))
 
--- where some pair passes a test, one that passes can be taken
-pub find : (P : ℕ × ℕ → Type 0) (w : ℕ → ℕ → ℤ) (test : ℕ × ℕ → Bool) (ys : List (ℕ × ℕ)) → list_any test ys ≡ true → (f : ℕ × ℕ) × (rest : List (ℕ × ℕ)) × (test f ≡ true) × Takes P w ys f rest
-find P w test [] h = absurd (false≢true h)
-find P w test (y ∷ ys) h = elim (cases_Bool (test y)) [
-  | inl t ↦ (y, ys, t, takes_first P w y ys)
-  | inr t ↦
-      let r = find P w test ys (sym (ap (λ b. b || list_any test ys) t) ∙ h) in
-      (r.0, y ∷ r.1, r.2, takes_later P w (y ∷ ys) y ys r.0 r.1 (takes_first P w y ys) r.3)
-]
+-- ---- one pair fewer in both
+
+abbrev as_one : Bool → ℕ
+as_one b = cond b 1 0
+
+some_passes : (test : ℕ × ℕ → Bool) (xs : List (ℕ × ℕ)) → list_any test xs ≡ true → 1 ≤ sum_by (λ x. as_one (test x)) xs
+some_passes test xs h =
+    let found = Any-from_list_any test xs h in
+    let one : as_one (test (get_or xs found.0 found.1)) ≡ 1 = ap as_one (ap test found.3 ∙ found.4) in
+    omega (arith, one, get_or-le-sum_by (λ x. as_one (test x)) xs found.0 found.1 found.2)
+
+none_passes : (test : ℕ × ℕ → Bool) (xs : List (ℕ × ℕ)) → list_any test xs ≡ false → sum_by (λ x. as_one (test x)) xs ≡ 0
+none_passes test [] h = refl
+none_passes test (x ∷ xs) h =
+    let parts = or_parts (test x) (list_any test xs) h in
+    let none : as_one (test x) ≡ 0 = ap as_one parts.0 in
+    omega (arith, none, none_passes test xs parts.1, sum_by-cons (λ x. as_one (test x)) x xs)
+
+-- what is left of a list, whichever way the same pair was taken, passes the same tests
+pub left_passes : (test : ℕ × ℕ → Bool) (f : ℕ × ℕ) (rest last : List (ℕ × ℕ)) → IsPermutation (f ∷ rest) (f ∷ last) → list_any test rest ≡ true → list_any test last ≡ true
+left_passes test f rest last same h = true_from_ne_false (list_any test last) (λ none.
+    let count : ℕ × ℕ → ℕ = λ x. as_one (test x) in
+    omega (arith, some_passes test rest h, none_passes test last none, sum_by-cons count f rest, sum_by-cons count f last, sum_by-IsPermutation count (f ∷ rest) (f ∷ last) same))
 
 -- ---- the ends of a pair that crosses
 
@@ -106,29 +106,29 @@ abbrev pub JoinsBoth : (ℕ → Type 0) → (ℕ → Bool) → (ℕ → Bool) �
 JoinsBoth Node grown held xs = (part : ℕ → Bool) (outside : ℕ) → Node outside → part outside ≡ false → Within grown part → Within held part → IsCrossed xs part
 
 -- what a taken pair does not cross the rest crosses
-rest_crosses : (P : ℕ × ℕ → Type 0) (w : ℕ → ℕ → ℤ) (ys : List (ℕ × ℕ)) (f : ℕ × ℕ) (rest : List (ℕ × ℕ)) (part : ℕ → Bool) → Takes P w ys f rest
+rest_crosses : (ys : List (ℕ × ℕ)) (f : ℕ × ℕ) (rest : List (ℕ × ℕ)) (part : ℕ → Bool) → IsPermutation ys (f ∷ rest)
     → IsCrossed ys part → crosses part f ≡ false → IsCrossed rest part
-rest_crosses P w ys f rest part t h n = sym (ap (λ b. b || list_any (crosses part) rest) n) ∙ (sym (t.any (crosses part)) ∙ h)
+rest_crosses ys f rest part t h n = sym (ap (λ b. b || list_any (crosses part) rest) n) ∙ (sym (list_any-IsPermutation (crosses part) ys (f ∷ rest) t) ∙ h)
 
 -- a pair that leaves the grown part, and without which the list joins both parts
-pub record Exchanged (P : ℕ × ℕ → Type 0) (Node : ℕ → Type 0) (w : ℕ → ℕ → ℤ) (grown : ℕ → Bool) (held : ℕ → Bool) (ys : List (ℕ × ℕ)) : Type 0 where
+pub record Exchanged (Node : ℕ → Type 0) (grown : ℕ → Bool) (held : ℕ → Bool) (ys : List (ℕ × ℕ)) : Type 0 where
   pub pair : ℕ × ℕ
   pub rest : List (ℕ × ℕ)
-  pub takes : Takes P w ys pair rest
+  pub takes : IsPermutation ys (pair ∷ rest)
   pub leaves : crosses grown pair ≡ true
   pub joins : JoinsBoth Node grown held rest
 
 -- the pair that leaves the held nodes ends in the grown part
-exchange_now : (P : ℕ × ℕ → Type 0) (Node : ℕ → Type 0) (w : ℕ → ℕ → ℤ) (grown held : ℕ → Bool) (ys : List (ℕ × ℕ)) (e : ℕ × ℕ) (rest : List (ℕ × ℕ)) (a b : ℕ)
-    → Apart grown held → JoinsAsOne Node grown held ys → Takes P w ys e rest → held a ≡ true → ((other : ℕ → Bool) → crosses other e ≡ crosses other (a, b))
-    → grown b ≡ true → Exchanged P Node w grown held ys
-exchange_now P Node w grown held ys e rest a b apart joins takes in_held alike in_grown = record {
+exchange_now : (Node : ℕ → Type 0) (grown held : ℕ → Bool) (ys : List (ℕ × ℕ)) (e : ℕ × ℕ) (rest : List (ℕ × ℕ)) (a b : ℕ)
+    → Apart grown held → JoinsAsOne Node grown held ys → IsPermutation ys (e ∷ rest) → held a ≡ true → ((other : ℕ → Bool) → crosses other e ≡ crosses other (a, b))
+    → grown b ≡ true → Exchanged Node grown held ys
+exchange_now Node grown held ys e rest a b apart joins takes in_held alike in_grown = record {
   pair = e;
   rest = rest;
   takes = takes;
   leaves = alike grown ∙ (crosses_turned grown a b ∙ crosses_out grown b a in_grown (false_from_ne_true (grown a) (λ h. both_ways (held a) (apart a h) in_held)));
   joins = λ part outside node out holds_grown holds_held.
-      rest_crosses P w ys e rest part takes (joins part outside node out holds_grown (inl holds_held))
+      rest_crosses ys e rest part takes (joins part outside node out holds_grown (inl holds_held))
       (alike part ∙ crosses_both part a b (holds_held a in_held) (holds_grown b in_grown));
 }
 
@@ -150,13 +150,13 @@ apart_more grown held b apart free = λ x h. false_from_ne_true (and_node held b
     both_ways (grown x) (and_node_all held b (λ y. grown y ≡ false) free (λ y k. false_from_ne_true (grown y) (λ g. both_ways (held y) (apart y g) k)) x t) h)
 
 -- the pair that leaves the held nodes does not end in the grown part: it is left aside, and its end is held from now on
-exchange_later : (P : ℕ × ℕ → Type 0) (Node : ℕ → Type 0) (w : ℕ → ℕ → ℤ) (grown held : ℕ → Bool) (ys : List (ℕ × ℕ)) (e : ℕ × ℕ) (rest : List (ℕ × ℕ))
-    (a b : ℕ) → Takes P w ys e rest → held a ≡ true → ((other : ℕ → Bool) → crosses other e ≡ crosses other (a, b))
-    → Exchanged P Node w grown (and_node held b) rest → Exchanged P Node w grown held ys
-exchange_later P Node w grown held ys e rest a b takes in_held alike x = record {
+exchange_later : (Node : ℕ → Type 0) (grown held : ℕ → Bool) (ys : List (ℕ × ℕ)) (e : ℕ × ℕ) (rest : List (ℕ × ℕ))
+    (a b : ℕ) → IsPermutation ys (e ∷ rest) → held a ≡ true → ((other : ℕ → Bool) → crosses other e ≡ crosses other (a, b))
+    → Exchanged Node grown (and_node held b) rest → Exchanged Node grown held ys
+exchange_later Node grown held ys e rest a b takes in_held alike x = record {
   pair = x.pair;
   rest = e ∷ x.rest;
-  takes = takes_later P w ys e rest x.pair x.rest takes x.takes;
+  takes = takes_later ys e rest x.pair x.rest takes x.takes;
   leaves = x.leaves;
   joins = λ part outside node out holds_grown holds_held. elim (cases_Bool (part b)) [
     | inl t ↦ or_right (crosses part e) (list_any (crosses part) x.rest) (x.joins part outside node out holds_grown (and_node_all held b (λ y. part y ≡ true) t holds_held))
@@ -165,45 +165,45 @@ exchange_later P Node w grown held ys e rest a b takes in_held alike x = record 
 }
 
 -- without a pair between two held nodes the list still joins the held nodes as one
-joins_rest : (P : ℕ × ℕ → Type 0) (Node : ℕ → Type 0) (w : ℕ → ℕ → ℤ) (grown held : ℕ → Bool) (ys : List (ℕ × ℕ)) (e : ℕ × ℕ) (rest : List (ℕ × ℕ)) (a b : ℕ)
-    → JoinsAsOne Node grown held ys → Takes P w ys e rest → held a ≡ true → ((other : ℕ → Bool) → crosses other e ≡ crosses other (a, b))
+joins_rest : (Node : ℕ → Type 0) (grown held : ℕ → Bool) (ys : List (ℕ × ℕ)) (e : ℕ × ℕ) (rest : List (ℕ × ℕ)) (a b : ℕ)
+    → JoinsAsOne Node grown held ys → IsPermutation ys (e ∷ rest) → held a ≡ true → ((other : ℕ → Bool) → crosses other e ≡ crosses other (a, b))
     → JoinsAsOne Node grown (and_node held b) rest
-joins_rest P Node w grown held ys e rest a b joins takes in_held alike = λ part outside node out holds_grown one. elim one [
-  | inl all ↦ rest_crosses P w ys e rest part takes
+joins_rest Node grown held ys e rest a b joins takes in_held alike = λ part outside node out holds_grown one. elim one [
+  | inl all ↦ rest_crosses ys e rest part takes
       (joins part outside node out holds_grown (inl (λ x h. all x (and_node_old held b x h))))
       (alike part ∙ crosses_both part a b (all a (and_node_old held b a in_held)) (all b (and_node_self held b)))
-  | inr none ↦ rest_crosses P w ys e rest part takes
+  | inr none ↦ rest_crosses ys e rest part takes
       (joins part outside node out holds_grown (inr (λ x h. none x (and_node_old held b x h))))
       (alike part ∙ crosses_neither part a b (none a (and_node_old held b a in_held)) (none b (and_node_self held b)))
 ]
 
-pub exchange : (P : ℕ × ℕ → Type 0) (Node : ℕ → Type 0) (w : ℕ → ℕ → ℤ) (grown : ℕ → Bool) (v : ℕ) → Node v → (count : ℕ) (held : ℕ → Bool) (ys : List (ℕ × ℕ))
-    → length ys ≡ count → held v ≡ true → Apart grown held → JoinsAsOne Node grown held ys → Exchanged P Node w grown held ys
-exchange P Node w grown v node zero held ys size in_held apart joins =
-    let r = find P w (crosses (λ x. not (held x))) ys (joins (λ x. not (held x)) v node (ap not in_held) (λ x h. ap not (apart x h)) (inr (λ x h. ap not h))) in
-    absurd (omega (arith, r.3.count))
-exchange P Node w grown v node (suc count) held ys size in_held apart joins =
+pub exchange : (Node : ℕ → Type 0) (grown : ℕ → Bool) (v : ℕ) → Node v → (count : ℕ) (held : ℕ → Bool) (ys : List (ℕ × ℕ))
+    → length ys ≡ count → held v ≡ true → Apart grown held → JoinsAsOne Node grown held ys → Exchanged Node grown held ys
+exchange Node grown v node zero held ys size in_held apart joins =
+    let r = find (crosses (λ x. not (held x))) ys (joins (λ x. not (held x)) v node (ap not in_held) (λ x h. ap not (apart x h)) (inr (λ x h. ap not h))) in
+    absurd (omega (arith, length_permutation ys (r.0 ∷ r.1) r.3))
+exchange Node grown v node (suc count) held ys size in_held apart joins =
     let crossed = joins (λ x. not (held x)) v node (ap not in_held) (λ x h. ap not (apart x h)) (inr (λ x h. ap not h)) in
-    let r = find P w (crosses (λ x. not (held x))) ys crossed in
+    let r = find (crosses (λ x. not (held x))) ys crossed in
     let e = ends (λ x. not (held x)) r.0 r.2 in
     let free : held e.inside ≡ false = not-true (held e.inside) e.held in
     let taken : held e.outside ≡ true = not-false (held e.outside) e.free in
     let alike : (other : ℕ → Bool) → crosses other r.0 ≡ crosses other (e.outside, e.inside) = λ other. e.alike other ∙ crosses_turned other e.inside e.outside in
     elim (cases_Bool (grown e.inside)) [
-      | inl g ↦ exchange_now P Node w grown held ys r.0 r.1 e.outside e.inside apart joins r.3 taken alike g
-      | inr g ↦ exchange_later P Node w grown held ys r.0 r.1 e.outside e.inside r.3 taken alike
-          (exchange P Node w grown v node count (and_node held e.inside) r.1 (omega (arith, r.3.count)) (and_node_old held e.inside v in_held)
+      | inl g ↦ exchange_now Node grown held ys r.0 r.1 e.outside e.inside apart joins r.3 taken alike g
+      | inr g ↦ exchange_later Node grown held ys r.0 r.1 e.outside e.inside r.3 taken alike
+          (exchange Node grown v node count (and_node held e.inside) r.1 (omega (arith, length_permutation ys (r.0 ∷ r.1) r.3)) (and_node_old held e.inside v in_held)
           (apart_more grown held e.inside apart g)
-          (joins_rest P Node w grown held ys r.0 r.1 e.outside e.inside joins r.3 taken alike))
+          (joins_rest Node grown held ys r.0 r.1 e.outside e.inside joins r.3 taken alike))
     ]
 
--- ---- the growth
+-- ---- a pair more
 
 -- a list that joins the grown part has a pair that leaves it, and without that pair it joins the part with v
-pub exchange_node : (P : ℕ × ℕ → Type 0) (Node : ℕ → Type 0) (w : ℕ → ℕ → ℤ) (grown : ℕ → Bool) (v : ℕ) (ys : List (ℕ × ℕ)) → Node v → grown v ≡ false
-    → Joins Node grown ys → (f : ℕ × ℕ) × (rest : List (ℕ × ℕ)) × Takes P w ys f rest × (crosses grown f ≡ true) × Joins Node (and_node grown v) rest
-exchange_node P Node w grown v ys node free joins =
-    let x = exchange P Node w grown v node (length ys) (λ y. y == v) ys refl (eq-eqb v v refl)
+pub exchange_node : (Node : ℕ → Type 0) (grown : ℕ → Bool) (v : ℕ) (ys : List (ℕ × ℕ)) → Node v → grown v ≡ false
+    → Joins Node grown ys → (f : ℕ × ℕ) × (rest : List (ℕ × ℕ)) × IsPermutation ys (f ∷ rest) × (crosses grown f ≡ true) × Joins Node (and_node grown v) rest
+exchange_node Node grown v ys node free joins =
+    let x = exchange Node grown v node (length ys) (λ y. y == v) ys refl (eq-eqb v v refl)
     (λ y h. false_from_ne_true (y == v) (λ e. both_ways (grown y) (subst (λ z. grown z ≡ false) (sym (eqb-true y v e)) free) h))
     (λ part outside at out holds one. joins part outside at out holds) in (
       x.pair,
@@ -232,15 +232,3 @@ least_below Node w grown e f symmetric least of h = elim (cases_Bool (grown f.0)
     | inr q ↦ absurd (both_ways (crosses grown f) (crosses_neither grown f.0 f.1 p q) h)
   ]
 ]
-
--- A growth weighs no more than a list of as many pairs that crosses each cut which leaves the start on one side.
-pub growth_least : (Node : ℕ → Type 0) (w : ℕ → ℕ → ℤ) → ((a b : ℕ) → w a b ≡ w b a) → (added : List (ℕ × ℕ)) (grown : ℕ → Bool) (xs : List (ℕ × ℕ))
-    → Grows Node w grown added → length xs ≡ length added → AllByRecursion (IsPairOf Node) xs → Joins Node grown xs → weight_of w added ≤ℤ weight_of w xs
-growth_least Node w symmetric [] grown [] grows size of joins = omega (arith, ints)
-growth_least Node w symmetric [] grown (x ∷ xs) grows size of joins = absurd (omega (arith, size))
-growth_least Node w symmetric (e ∷ es) grown xs grows size of joins =
-    let x = exchange_node (IsPairOf Node) Node w grown e.1 xs grows.0.node grows.0.to joins in
-    let parts = x.2.all of in
-    let first : w e.0 e.1 ≤ℤ w x.0.0 x.0.1 = least_below Node w grown e x.0 symmetric grows.0 parts.0 x.3 in
-    let later : weight_of w es ≤ℤ weight_of w x.1 = growth_least Node w symmetric es (and_node grown e.1) x.1 grows.1 (omega (arith, size, x.2.count)) parts.1 x.4 in
-    omega (arith, ints, first, later, x.2.weighs)
