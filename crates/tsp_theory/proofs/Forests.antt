@@ -1,60 +1,15 @@
--- Lists of least joins: one more of them, the parts that they join, and the growths among them.
-use Rattle.std.proofs.Common.{◌≡◌, ℕ, ◌==◌, ◌+◌, ◌≤◌, Bool, true, false, not, ◌||◌, cond, List, [], ◌∷◌, ◌++◌, length, length-append, append_assoc, append-nil, ℤ, inl, inr, refl, arith, sym, ◌∙◌, subst}
-use Rattle.std.specs.List.{All}
-use Rattle.std.proofs.lemmas.Bool.{or_left, or_right, or_cases, eqb-true, eq-eqb}
-use Rattle.std.proofs.lemmas.List.{get_or_append_left, get_or-append-add}
-use Rattle.std.proofs.lemmas.List.Elements.{All-nil, All-append, All-push, All-weaker}
-use Rattle.tsp_theory.specs.Tree.{crosses, IsInner}
+-- The cut property: least joins, as many as a tree has, join all nodes and weigh no more than any pairs that do. Growths are such.
+use Rattle.std.proofs.Common.{◌≡◌, ℕ, zero, suc, ◌+◌, ◌≤◌, ◌==◌, Bool, true, false, List, [], ◌∷◌, ◌++◌, length, append_assoc, append-nil, ℤ, ◌+ℤ◌, ◌≤ℤ◌, inl, inr, refl, arith, ap, sym, ◌∙◌, subst}
+use Rattle.std.proofs.lemmas.Bool.{cases_eq, both_ways, true_from_ne_false, eqb-true}
+use Rattle.std.proofs.lemmas.Int.{ints}
+use Rattle.std.proofs.lemmas.List.Elements.{All-nil, All-cons, All-head, All-tail, All-push, All-weaker}
+use Rattle.std.proofs.lemmas.List.Sorted.{All-permutation, length_permutation}
+use Rattle.std.specs.List.{All, list_any}
+use Rattle.tsp_theory.specs.Tree.{crosses, weight_of, IsInner}
 use Rattle.tsp_theory.specs.Growth.{and_node, Grows, IsWholeGrowth}
-use Rattle.tsp_theory.specs.Forest.{IsUncrossed, IsJoined, IsLeastJoin, AreLeastJoins, IsWholeForest}
-use Rattle.tsp_theory.proofs.Exchange.{and_node_all, and_node_self, and_node_old, crosses_both}
-
--- ---- parts that no pair leaves
-
-pub uncrossed_append : (part : ℕ → Bool) (xs ys : List (ℕ × ℕ)) → IsUncrossed part xs → IsUncrossed part ys → IsUncrossed part (xs ++ ys)
-uncrossed_append part xs ys = All-append (λ pair. crosses part pair ≡ false) xs ys
-
-pub uncrossed_more : (part : ℕ → Bool) (pairs : List (ℕ × ℕ)) (pair : ℕ × ℕ) → IsUncrossed part pairs → crosses part pair ≡ false → IsUncrossed part (pairs ++ pair ∷ [])
-uncrossed_more part pairs pair = All-push (λ pair. crosses part pair ≡ false) pairs pair
-
-pub uncrossed_left : (part : ℕ → Bool) (xs ys : List (ℕ × ℕ)) → IsUncrossed part (xs ++ ys) → IsUncrossed part xs
-uncrossed_left part xs ys h k d low = subst (λ pair. crosses part pair ≡ false) (get_or_append_left xs ys d k low) (h k d (omega (arith, length-append xs ys, low)))
-
-pub uncrossed_right : (part : ℕ → Bool) (xs ys : List (ℕ × ℕ)) → IsUncrossed part (xs ++ ys) → IsUncrossed part ys
-uncrossed_right part xs ys h k d low = subst (λ pair. crosses part pair ≡ false) (get_or-append-add xs ys k d) (h (length xs + k) d (omega (arith, length-append xs ys, low)))
-
-pub uncrossed_last : (part : ℕ → Bool) (pairs : List (ℕ × ℕ)) (pair : ℕ × ℕ) → IsUncrossed part (pairs ++ pair ∷ []) → crosses part pair ≡ false
-uncrossed_last part pairs pair h = uncrossed_right part pairs (pair ∷ []) h 0 pair (omega arith)
-
--- the ends of a pair that doesn't leave the part
-pub same_side : (part : ℕ → Bool) (pair : ℕ × ℕ) → crosses part pair ≡ false → part pair.0 ≡ part pair.1
-same_side part pair = same (part pair.0) (part pair.1)
-  where
-    same : (x y : Bool) → cond x (not y) y ≡ false → x ≡ y
-    same true true h = refl
-    same true false h = h
-    same false y h = sym h
-
--- ---- parts that the pairs join
-
-pub joined_more : (Node : ℕ → Type 0) (part : ℕ → Bool) (xs ys : List (ℕ × ℕ)) → IsJoined Node part xs → IsJoined Node part (xs ++ ys)
-joined_more Node part xs ys joined = λ other free. joined other (uncrossed_left other xs ys free)
-
--- a node alone
-pub joined_alone : (Node : ℕ → Type 0) (node : ℕ) (pairs : List (ℕ × ℕ)) → IsJoined Node (λ x. x == node) pairs
-joined_alone Node node pairs = λ other free x y in_x in_y h k. subst (λ z. other x ≡ other z) (sym (eqb-true y node k)) (subst (λ z. other z ≡ other node) (sym (eqb-true x node h)) refl)
-
--- two parts, by a pair between them
-pub joined_both : (Node : ℕ → Type 0) (one two : ℕ → Bool) (pairs : List (ℕ × ℕ)) (pair : ℕ × ℕ) → IsJoined Node one pairs → IsJoined Node two pairs
-    → Node pair.0 → Node pair.1 → one pair.0 ≡ true → two pair.1 ≡ true → IsJoined Node (λ x. one x || two x) (pairs ++ pair ∷ [])
-joined_both Node one two pairs pair joined_one joined_two from to in_one in_two = λ other free x y in_x in_y h k.
-    let earlier = uncrossed_left other pairs (pair ∷ []) free in
-    let across : other pair.0 ≡ other pair.1 = same_side other pair (uncrossed_last other pairs pair free) in
-    let side : (z : ℕ) → Node z → (one z || two z) ≡ true → other z ≡ other pair.0 = λ z in_z held. elim (or_cases (one z) (two z) held) [
-      | inl here ↦ joined_one other earlier z pair.0 in_z from here in_one
-      | inr there ↦ joined_two other earlier z pair.1 in_z to there in_two ∙ sym across
-    ] in
-    side x in_x h ∙ sym (side y in_y k)
+use Rattle.tsp_theory.specs.Forest.{IsUncrossed, IsLeastJoin, AreLeastJoins, IsWholeForest}
+use Rattle.tsp_theory.proofs.Exchange.{IsCrossed, IsPairOf, JoinsBeside, and_node_all, and_node_self, and_node_old, crosses_both, same_side, uncrossed_from, exchange, least_below}
+use Rattle.tsp_theory.proofs.Sums.{sum_int_by-IsPermutation}
 
 -- ---- lists of least joins
 
@@ -72,51 +27,86 @@ joins_more Node w earlier added pair joins join = joins_append Node w earlier ad
 
 -- ---- a growth is one
 
--- the part grown so far, of which the pairs so far lead to no other node
-record IsGrownPart (Node : ℕ → Type 0) (grown : ℕ → Bool) (earlier : List (ℕ × ℕ)) : Type 0 where
-  pub within : All (λ pair. (grown pair.0 ≡ true) × (grown pair.1 ≡ true)) earlier
-  pub joined : IsJoined Node grown earlier
-  pub nodes : (x : ℕ) → grown x ≡ true → Node x
-
-grown_joins : (Node : ℕ → Type 0) (w : ℕ → ℕ → ℤ) (added : List (ℕ × ℕ)) (grown : ℕ → Bool) (earlier : List (ℕ × ℕ)) → IsGrownPart Node grown earlier
-    → Grows Node w grown added → AreLeastJoins Node w earlier added
-grown_joins Node w [] grown earlier so_far grows = tt
-grown_joins Node w (e ∷ es) grown earlier so_far grows =
-    let least = grows.0 in
-    let from = so_far.nodes e.0 least.from in
-    let both : (x : ℕ) → and_node grown e.1 x ≡ true → (grown x || (x == e.1)) ≡ true = λ x h. elim (or_cases (x == e.1) (grown x) h) [
-      | inl same ↦ or_right (grown x) (x == e.1) same
-      | inr held ↦ or_left (grown x) (x == e.1) held
-    ] in
-    let joined = joined_both Node grown (λ x. x == e.1) earlier e so_far.joined (joined_alone Node e.1 earlier) from least.node least.from (eq-eqb e.1 e.1 refl) in (
+grown_joins : (Node : ℕ → Type 0) (w : ℕ → ℕ → ℤ) (added : List (ℕ × ℕ)) (grown : ℕ → Bool) (earlier : List (ℕ × ℕ)) → ((x : ℕ) → grown x ≡ true → Node x)
+    → All (λ pair. (grown pair.0 ≡ true) × (grown pair.1 ≡ true)) earlier → Grows Node w grown added → AreLeastJoins Node w earlier added
+grown_joins Node w [] grown earlier nodes within grows = tt
+grown_joins Node w (e ∷ es) grown earlier nodes within grows =
+    let more : ℕ → Bool = and_node grown e.1 in (
       record {
         part = grown;
         uncrossed = All-weaker (λ pair. (grown pair.0 ≡ true) × (grown pair.1 ≡ true)) (λ pair. crosses grown pair ≡ false)
-            (λ pair ends. crosses_both grown pair.0 pair.1 ends.0 ends.1) earlier so_far.within;
-        joined = so_far.joined;
-        from = from;
-        leaving = least;
+            (λ pair ends. crosses_both grown pair.0 pair.1 ends.0 ends.1) earlier within;
+        from = nodes e.0 grows.0.from;
+        leaving = grows.0;
       },
-      grown_joins Node w es (and_node grown e.1) (earlier ++ e ∷ []) (record {
-        within = All-push (λ pair. (and_node grown e.1 pair.0 ≡ true) × (and_node grown e.1 pair.1 ≡ true)) earlier e
-            (All-weaker (λ pair. (grown pair.0 ≡ true) × (grown pair.1 ≡ true)) (λ pair. (and_node grown e.1 pair.0 ≡ true) × (and_node grown e.1 pair.1 ≡ true))
-            (λ pair ends. (and_node_old grown e.1 pair.0 ends.0, and_node_old grown e.1 pair.1 ends.1)) earlier so_far.within)
-            (and_node_old grown e.1 e.0 least.from, and_node_self grown e.1);
-        joined = λ other free x y in_x in_y h k. joined other free x y in_x in_y (both x h) (both y k);
-        nodes = and_node_all grown e.1 Node least.node so_far.nodes;
-      }) grows.1,
+      grown_joins Node w es more (earlier ++ e ∷ []) (and_node_all grown e.1 Node grows.0.node nodes)
+          (All-push (λ pair. (more pair.0 ≡ true) × (more pair.1 ≡ true)) earlier e
+          (All-weaker (λ pair. (grown pair.0 ≡ true) × (grown pair.1 ≡ true)) (λ pair. (more pair.0 ≡ true) × (more pair.1 ≡ true))
+          (λ pair ends. (and_node_old grown e.1 pair.0 ends.0, and_node_old grown e.1 pair.1 ends.1)) earlier within)
+          (and_node_old grown e.1 e.0 grows.0.from, and_node_self grown e.1)) grows.1,
     )
 
 -- from a single node
 pub growth_joins : (Node : ℕ → Type 0) (w : ℕ → ℕ → ℤ) (start : ℕ) (added : List (ℕ × ℕ)) → Node start → Grows Node w (λ x. x == start) added → AreLeastJoins Node w [] added
-growth_joins Node w start added at_start = grown_joins Node w added (λ x. x == start) [] (record {
-  within = All-nil (λ pair. ((pair.0 == start) ≡ true) × ((pair.1 == start) ≡ true));
-  joined = joined_alone Node start [];
-  nodes = λ x h. subst Node (sym (eqb-true x start h)) at_start;
-})
+growth_joins Node w start added at_start =
+    grown_joins Node w added (λ x. x == start) [] (λ x h. subst Node (sym (eqb-true x start h)) at_start) (All-nil (λ pair. ((pair.0 == start) ≡ true) × ((pair.1 == start) ≡ true)))
 
 pub growth_is_forest : (n : ℕ) (w : ℕ → ℕ → ℤ) (added : List (ℕ × ℕ)) → 2 ≤ n → IsWholeGrowth n w added → IsWholeForest n w added
 growth_is_forest n w added some growth = record {
   joins = growth_joins (IsInner n) w 2 added (omega arith, some) growth.grows;
   count = growth.count;
 }
+
+-- ---- beside the earlier pairs least joins join all nodes where as many others do, and weigh no more than those
+
+joins_least : (Node : ℕ → Type 0) (w : ℕ → ℕ → ℤ) → ((a b : ℕ) → w a b ≡ w b a) → (added earlier xs : List (ℕ × ℕ)) → AreLeastJoins Node w earlier added
+    → length xs ≡ length added → All (IsPairOf Node) xs → JoinsBeside Node earlier xs → (weight_of w added ≤ℤ weight_of w xs) × JoinsBeside Node (earlier ++ added) []
+joins_least Node w symmetric [] earlier [] least size of joins = (omega (arith, ints), subst (λ pairs. JoinsBeside Node pairs []) (sym (append-nil earlier)) joins)
+joins_least Node w symmetric [] earlier (x ∷ xs) least size of joins = absurd (omega (arith, size))
+joins_least Node w symmetric (e ∷ es) earlier xs least size of joins =
+    let join = least.0 in
+    let x = exchange Node w earlier xs e join joins in
+    let all = All-permutation (IsPairOf Node) xs (x.pair ∷ x.rest) x.takes of in
+    let first : w e.0 e.1 ≤ℤ w x.pair.0 x.pair.1 = least_below Node w join.part e x.pair symmetric join.leaving (All-head (IsPairOf Node) x.pair x.rest all) x.leaves in
+    let later = joins_least Node w symmetric es (earlier ++ e ∷ []) x.rest least.1 (omega (arith, size, length_permutation xs (x.pair ∷ x.rest) x.takes))
+    (All-tail (IsPairOf Node) x.pair x.rest all) x.joins in
+    let weighs : weight_of w xs ≡ w x.pair.0 x.pair.1 +ℤ weight_of w x.rest = sum_int_by-IsPermutation (λ pair. w pair.0 pair.1) xs (x.pair ∷ x.rest) x.takes in
+    (omega (arith, ints, first, later.0, weighs), subst (λ pairs. JoinsBeside Node pairs []) (append_assoc earlier (e ∷ []) es) later.1)
+
+-- ---- over 2..n there is a tree
+
+-- node 2 with each of the next ones
+abbrev star_of : ℕ → List (ℕ × ℕ)
+star_of zero = []
+star_of (suc k) = (2, k + 3) ∷ star_of k
+
+star_length : (k : ℕ) → length (star_of k) ≡ k
+star_length zero = refl
+star_length (suc k) = ap suc (star_length k)
+
+star_nodes : (n k : ℕ) → 2 + k ≤ n → All (IsPairOf (IsInner n)) (star_of k)
+star_nodes n zero few = All-nil (IsPairOf (IsInner n))
+star_nodes n (suc k) few =
+    All-cons (IsPairOf (IsInner n)) (2, k + 3) (star_of k) ((omega arith, omega (arith, few)), (omega arith, omega (arith, few))) (star_nodes n k (omega (arith, few)))
+
+star_joins : (k : ℕ) (part : ℕ → Bool) → IsUncrossed part (star_of k) → (x : ℕ) → IsInner (2 + k) x → part x ≡ part 2
+star_joins zero part free x node = ap part (omega (arith, node.0, node.1))
+star_joins (suc k) part free x node = elim (cases_eq x (k + 3)) [
+  | inl same ↦ ap part same ∙ sym (same_side part (2, k + 3) (All-head (λ pair. crosses part pair ≡ false) (2, k + 3) (star_of k) free))
+  | inr other ↦ star_joins k part (All-tail (λ pair. crosses part pair ≡ false) (2, k + 3) (star_of k) free) x (node.0, omega (arith, node.1, other))
+]
+
+-- ---- so least joins as many as it has are one, and weigh no more than any other
+
+pub forest_joins : (n : ℕ) (w : ℕ → ℕ → ℤ) → ((a b : ℕ) → w a b ≡ w b a) → (added : List (ℕ × ℕ)) → IsWholeForest n w added
+    → (part : ℕ → Bool) (inside outside : ℕ) → IsInner n inside → IsInner n outside → part inside ≡ true → part outside ≡ false → IsCrossed added part
+forest_joins n w symmetric added forest = λ part inside outside in_node out_node in_part out_part.
+    let k = length added in
+    let star = joins_least (IsInner n) w symmetric added [] (star_of k) forest.joins (star_length k) (star_nodes n k (omega (arith, forest.count)))
+    (λ other free also x y in_x in_y. star_joins k other also x (in_x.0, omega (arith, in_x.1, forest.count)) ∙ sym (star_joins k other also y (in_y.0, omega (arith, in_y.1, forest.count)))) in
+    true_from_ne_false (list_any (crosses part) added) (λ none.
+    both_ways (part inside) (star.1 part (uncrossed_from part added none) (All-nil (λ pair. crosses part pair ≡ false)) inside outside in_node out_node ∙ out_part) in_part)
+
+pub forest_least : (n : ℕ) (w : ℕ → ℕ → ℤ) → ((a b : ℕ) → w a b ≡ w b a) → (added xs : List (ℕ × ℕ)) → IsWholeForest n w added → length xs ≡ length added
+    → All (IsPairOf (IsInner n)) xs → JoinsBeside (IsInner n) [] xs → weight_of w added ≤ℤ weight_of w xs
+forest_least n w symmetric added xs forest size of joins = (joins_least (IsInner n) w symmetric added [] xs forest.joins size of joins).0

@@ -1,7 +1,6 @@
 pub mod Adjustments
 pub mod CostLaws
 pub mod Crossings
-pub mod Cuts
 pub mod CycleLinks
 pub mod Cycles
 pub mod Division

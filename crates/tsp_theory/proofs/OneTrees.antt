@@ -8,9 +8,8 @@ use Rattle.std.specs.List.{AllByRecursion, list_any, filter}
 use Rattle.tsp_theory.specs.Tree.{crosses, weight_of, IsPair, is_at_one, inner_pairs, IsInner, IsOneTree, IsLeastOneTree}
 use Rattle.tsp_theory.specs.Growth.{ordered, AreNearest, IsWholeGrowth, tree_of}
 use Rattle.tsp_theory.specs.Forest.{AreLeastJoins, IsWholeForest}
-use Rattle.tsp_theory.proofs.Exchange.{IsCrossed, IsPairOf, crosses_turned}
-use Rattle.tsp_theory.proofs.Forests.{growth_is_forest}
-use Rattle.tsp_theory.proofs.Cuts.{forest_joins, forest_least}
+use Rattle.tsp_theory.proofs.Exchange.{IsCrossed, crossed_joins, IsPairOf, crosses_turned}
+use Rattle.tsp_theory.proofs.Forests.{growth_is_forest, forest_joins, forest_least}
 
 -- both ends are nodes, and they differ
 abbrev pub IsLink : (ℕ → Type 0) → ℕ × ℕ → Type 0
@@ -136,8 +135,7 @@ forest_tree_least n w symmetric first second added nearest forest es t =
     let near : (w 1 first +ℤ w 1 second) ≤ℤ (w 1 t.first +ℤ w 1 t.second) = nearest_least n w first second t.first t.second nearest (omega arith, spokes.0.2) (omega arith, spokes.1.0.2) t.differ in
     let size : length es ≡ 2 + length (inner_pairs es) = apart_length es ∙ ap (λ xs. length xs + length (inner_pairs es)) t.spokes in
     let rest : weight_of w added ≤ℤ weight_of w (inner_pairs es) = forest_least n w symmetric added (inner_pairs es) forest (omega (arith, size, t.count, forest.count))
-    (All-from_recursion (IsPairOf (IsInner n)) (inner_pairs es) (ends_inside n es range)) (λ part inside outside in_node out_node in_part out_part free.
-    t.joined part inside outside in_node out_node in_part out_part) in
+    (All-from_recursion (IsPairOf (IsInner n)) (inner_pairs es) (ends_inside n es range)) (crossed_joins (IsInner n) (inner_pairs es) t.joined) in
     let split : weight_of w es ≡ weight_of w ((1, t.first) ∷ (1, t.second) ∷ []) +ℤ weight_of w (inner_pairs es) = apart_weight w es
     ∙ ap (λ xs. weight_of w xs +ℤ weight_of w (inner_pairs es)) t.spokes in
     let same : weight_of w (map ordered added) ≡ weight_of w added = ordered_weight w symmetric added in
