@@ -1,16 +1,17 @@
--- Least 1-trees of four nodes in which node 3 joins node 2, and node 4 one of both.
-use Rattle.std.proofs.Common.{◌≡◌, ◌≢◌, ℕ, zero, suc, ◌==◌, true, false, List, [], ◌∷◌, rules, arith, refl}
+-- Least 1-trees of four nodes in which node 3 joins node 2, and node 4 one of both; and least pairs at a node.
+use Rattle.std.proofs.Common.{◌≡◌, ◌≢◌, ℕ, zero, suc, ◌==◌, true, false, List, [], ◌∷◌, rules, arith, refl, sym, subst}
 use Rattle.std.specs.Prelude.{ℤ, ◌≤ℤ◌}
-use Rattle.std.proofs.lemmas.Bool.{both_ways}
+use Rattle.std.proofs.lemmas.Bool.{both_ways, eq-eqb, eqb-true}
 use Rattle.tsp_theory.specs.Tree.{weight_of, IsInner, IsLeastOneTree}
 use Rattle.tsp_theory.specs.NodeBound.{weight_between, IsBoundOfPotentials, IsNodeBound}
 use Rattle.tsp_theory.specs.Growth.{and_node, IsLeastLeaving, grown_by, AreNearest, IsWholeGrowth, tree_of}
+use Rattle.tsp_theory.specs.Forest.{IsUncrossed, IsLeastJoin}
 use Rattle.tsp_theory.specs.Examples.{even_costs}
 use Rattle.tsp_theory.proofs.OneTrees.{least_from_growth}
 use Rattle.tsp_theory.proofs.Weights.{weight_even}
 
 -- the nodes 2, 3 and 4
-inner : (P : ℕ → Type 0) → P 2 → P 3 → P 4 → (x : ℕ) → IsInner 4 x → P x
+pub inner : (P : ℕ → Type 0) → P 2 → P 3 → P 4 → (x : ℕ) → IsInner 4 x → P x
 inner P two three four zero within = absurd (omega (arith, within.0))
 inner P two three four (suc zero) within = absurd (omega (arith, within.0))
 inner P two three four (suc (suc zero)) within = two
@@ -31,7 +32,7 @@ pub record GrowsSo (w : ℕ → ℕ → ℤ) (second p : ℕ) : Type 0 where
   pub from_two : w p 4 ≤ℤ w 2 4
   pub from_three : w p 4 ≤ℤ w 3 4
 
-nearest_so : (w : ℕ → ℕ → ℤ) (second p : ℕ) → GrowsSo w second p → AreNearest 4 w 2 second
+pub nearest_so : (w : ℕ → ℕ → ℤ) (second p : ℕ) → GrowsSo w second p → AreNearest 4 w 2 second
 nearest_so w second p so = record {
   first_in = (omega arith, omega arith);
   second_in = so.second_in;
@@ -75,6 +76,21 @@ grows_so w second p so = record {
 pub tree_so : (w : ℕ → ℕ → ℤ) (second p : ℕ) → ((a b : ℕ) → w a b ≡ w b a) → GrowsSo w second p → IsLeastOneTree 4 w (tree_of 2 second ((2, 3) ∷ (p, 4) ∷ []))
 tree_so w second p even so = least_from_growth 4 w 2 second ((2, 3) ∷ (p, 4) ∷ []) ((2, 3) ∷ (p, 4) ∷ []) (tree_of 2 second ((2, 3) ∷ (p, 4) ∷ []))
     (omega arith) even (nearest_so w second p so) (grows_so w second p so) refl refl
+
+-- a least pair at a node leaves the part of that node alone
+pub join_so : (w : ℕ → ℕ → ℤ) (earlier : List (ℕ × ℕ)) (v c : ℕ) → IsInner 4 v → IsInner 4 c → (c == v) ≡ false → IsUncrossed (λ x. x == v) earlier
+    → ((b : ℕ) → IsInner 4 b → (b == v) ≡ false → w v c ≤ℤ w v b) → IsLeastJoin (IsInner 4) w earlier (v, c)
+join_so w earlier v c in_v in_c differ free least = record {
+  part = λ x. x == v;
+  uncrossed = free;
+  from = in_v;
+  leaving = record {
+    from = eq-eqb v v refl;
+    to = differ;
+    node = in_c;
+    least = λ a b in_a in_b at out. subst (λ z. w v c ≤ℤ w z b) (sym (eqb-true a v at)) (least b in_b out);
+  };
+}
 
 pub costs_even : (costs : List ℤ) (i j : ℕ) → even_costs costs i j ≡ even_costs costs j i
 costs_even costs i j = search rules

@@ -4,6 +4,7 @@ pub mod Costs
 pub mod Cycle
 pub mod CycleExamples
 pub mod Examples
+pub mod Forest
 pub mod Growth
 pub mod Length
 pub mod NodeBound

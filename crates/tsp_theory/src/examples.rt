@@ -4,6 +4,8 @@
 ghost use Rattle.std.specs.Prelude.{◌≡◌, ℤ, [], ◌∷◌, pos, negsuc};
 ghost use Rattle.tsp_theory.specs.Numbers.{entry, total, IsLeastBound};
 ghost use Rattle.tsp_theory.specs.Tree.{IsOneTree, weight_of, IsLeastOneTree};
+ghost use Rattle.tsp_theory.specs.Growth.{tree_of};
+ghost use Rattle.tsp_theory.specs.Forest.{IsWholeForest};
 ghost use Rattle.tsp_theory.specs.NodeBound.{weight_between, IsNodeBound};
 ghost use Rattle.tsp_theory.specs.Adjusted.{adjusted, triples_total, UsesEach, UsesNone, IsAdjustedBoundOf};
 ghost use Rattle.tsp_theory.specs.Assignment.{AreGood, IsFirstBroken, IsDualBound};
@@ -52,6 +54,17 @@ pub fn examples_of_trees()
     ensures star_at_a_half { IsNodeBound 4 star (pos 2) one_on_two (pos 6) }
     ensures below_zero { IsNodeBound 4 star_below_zero (pos 2) zeros (negsuc 34) }
     ensures below_zero_at_a_half { IsNodeBound 4 star_below_zero (pos 2) one_on_two (negsuc 33) }
+{}
+
+/// What least joins of the nodes 2 to 4 of the rectangle are, whatever part each of them leaves.
+pub fn examples_of_forests()
+    ensures from_both_ends { IsWholeForest 4 rectangle ((4, 3) ∷ (2, 3) ∷ []) }
+    ensures least { IsLeastOneTree 4 rectangle (tree_of 2 4 ((4, 3) ∷ (2, 3) ∷ [])) }
+    ensures heavier { ¬ IsWholeForest 4 rectangle ((2, 4) ∷ (4, 3) ∷ []) }
+    ensures same_twice { ¬ IsWholeForest 4 rectangle ((4, 3) ∷ (3, 4) ∷ []) }
+    ensures from_node_1 { ¬ IsWholeForest 4 rectangle ((1, 2) ∷ (4, 3) ∷ []) }
+    ensures to_node_1 { ¬ IsWholeForest 4 rectangle ((2, 1) ∷ (4, 3) ∷ []) }
+    ensures one_missing { ¬ IsWholeForest 4 rectangle ((4, 3) ∷ []) }
 {}
 
 /// Weights with numbers on the diagonals of the rectangle, which cycles use them, and the bound.

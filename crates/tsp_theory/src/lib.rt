@@ -22,7 +22,8 @@ pub use costs::{Costs, Symmetric};
 pub use cycle_examples::examples_of_cycles;
 pub use cycle_laws::{cycles_are_permutations, cycles_have_no_loops, lengths_add_up};
 pub use examples::{
-    examples_of_duals, examples_of_multipliers, examples_of_numbers, examples_of_trees,
+    examples_of_duals, examples_of_forests, examples_of_multipliers, examples_of_numbers,
+    examples_of_trees,
 };
 pub use grouped::Grouped;
 pub use laws::{
