@@ -16,6 +16,7 @@ use crate::growth::{Grown, grow_on};
 use crate::heap::grow_by_heap;
 use crate::nodes::Nodes;
 use crate::numbering::places_in;
+use crate::placed::Placed;
 use crate::weights::Weights;
 use std::alloc::{AllocError, Global};
 use tsp_theory::{Costs, Grouped};
@@ -61,7 +62,11 @@ fn grown_part<C: Grouped>(alloc: Global, w: &Weights<C>) -> Result<Grown, AllocE
 }
 
 /// The same over an order of nodes.
-fn grown_over<C: Grouped>(alloc: Global, w: &Weights<C>, order: &[u32]) -> Result<Grown, AllocError>
+fn grown_over<'x, C: Grouped>(
+    alloc: Global,
+    w: &'x Weights<'x, C>,
+    order: &'x [u32],
+) -> Result<Grown, AllocError>
     requires few { length order.now ≤ most_nodes }
     ensures { IfOk result (λ grown. IsPartGrowth (C.nodes w.now.c.now)
         (weight_less w.now.p.now (triples_in w.now.m.now) (C.at w.now.c.now)) grown.pairs.items grown.weight) }
@@ -70,7 +75,8 @@ fn grown_over<C: Grouped>(alloc: Global, w: &Weights<C>, order: &[u32]) -> Resul
         return nothing(alloc, w.c);
     };
     let start = places[2];
-    let Some(mut nodes) = Nodes::new(alloc, w.c, *w.p, w.m, order, &places)? else {
+    let placed = Placed::new(w, order, &places);
+    let Some(mut nodes) = Nodes::new(alloc, placed)? else {
         return nothing(alloc, w.c);
     };
     let pairs = grow_by_heap(alloc, &mut nodes, start, most_steps(w.c.count()))?;
