@@ -1,66 +1,21 @@
--- The exchange: a list that crosses each cut has a pair that a growth can replace.
-use Rattle.std.proofs.Common.{◌≡◌, ℕ, suc, zero, Bool, true, false, not, ◌||◌, ◌==◌, cond, List, [], ◌∷◌, length, ℤ, ◌+ℤ◌, ◌≤ℤ◌, ◌⊎◌, inl, inr, refl, arith, ap, sym, ◌∙◌, subst}
-use Rattle.std.proofs.lemmas.Bool.{cases_Bool, false≢true, or_left, or_right, or_cases, both_ways, false_from_ne_true, not-true, not-false, eqb-true, eq-eqb}
-use Rattle.std.proofs.lemmas.Int.{ints}
-use Rattle.std.specs.List.{AllByRecursion, list_any}
-use Rattle.tsp_theory.specs.Tree.{crosses, weight_of}
-use Rattle.tsp_theory.specs.Growth.{and_node, IsLeastLeaving, Grows}
+-- The exchange: of pairs that join all nodes, one that leaves a part can be replaced by any other that leaves it.
+use Rattle.std.proofs.Common.{◌≡◌, ℕ, ◌+◌, Bool, true, false, not, ◌&&◌, ◌||◌, ◌==◌, cond, List, [], ◌∷◌, ◌++◌, length, length-append, get_or, ℤ, ◌≤ℤ◌, ◌⊎◌, inl, inr, refl, arith, ap, ap₂, sym, ◌∙◌, subst}
+use Rattle.std.proofs.lemmas.Bool.{cases_Bool, cases_eq, and_from, and_left, and_right, or_left, or_right, or_from, or_cases, or_parts, both_ways, false_from_ne_true, not-true, cond_both, eqb-true, eq-eqb, ne_eqb}
+use Rattle.std.proofs.lemmas.List.{get_or_append_left, get_or-append-add}
+use Rattle.std.proofs.lemmas.List.Elements.{All-nil, All-cons, All-head, All-tail, All-append, All-push, All-weaker}
+use Rattle.std.proofs.lemmas.List.Folds.{list_any_none}
+use Rattle.std.proofs.lemmas.List.Sorted.{IsPermutation-refl, IsPermutation-sym, IsPermutation-trans, IsPermutation-cons, IsPermutation-append_right, IsPermutation-middle, IsPermutation-filter_both, All-permutation}
+use Rattle.std.specs.List.{All, list_any, filter}
+use Rattle.std.specs.List.Sorted.{IsPermutation}
+use Rattle.tsp_theory.specs.Tree.{crosses}
+use Rattle.tsp_theory.specs.Growth.{and_node, IsLeastLeaving}
+use Rattle.tsp_theory.specs.Forest.{IsUncrossed, IsLeastJoin}
 
 -- some pair crosses
 abbrev pub IsCrossed : List (ℕ × ℕ) → (ℕ → Bool) → Type 0
 IsCrossed xs part = list_any (crosses part) xs ≡ true
 
-abbrev pub Within : (ℕ → Bool) → (ℕ → Bool) → Type 0
-Within small large = (x : ℕ) → small x ≡ true → large x ≡ true
-
--- each part that holds the grown one, and not every node, is crossed
-abbrev pub Joins : (ℕ → Type 0) → (ℕ → Bool) → List (ℕ × ℕ) → Type 0
-Joins Node grown xs = (part : ℕ → Bool) (outside : ℕ) → Node outside → part outside ≡ false → Within grown part → IsCrossed xs part
-
--- ys is f and the rest, in some order
-pub record Takes (P : ℕ × ℕ → Type 0) (w : ℕ → ℕ → ℤ) (ys : List (ℕ × ℕ)) (f : ℕ × ℕ) (rest : List (ℕ × ℕ)) : Type 0 where
-  pub count : length ys ≡ suc (length rest)
-  pub weighs : weight_of w ys ≡ w f.0 f.1 +ℤ weight_of w rest
-  pub any : (test : ℕ × ℕ → Bool) → list_any test ys ≡ (test f || list_any test rest)
-  pub all : AllByRecursion P ys → P f × AllByRecursion P rest
-
-or_swap : (a b c : Bool) → (a || (b || c)) ≡ (b || (a || c))
-or_swap true true c = refl
-or_swap true false c = refl
-or_swap false b c = refl
-
-pub takes_first : (P : ℕ × ℕ → Type 0) (w : ℕ → ℕ → ℤ) (y : ℕ × ℕ) (ys : List (ℕ × ℕ)) → Takes P w (y ∷ ys) y ys
-takes_first P w y ys = record { count = refl; weighs = refl; any = λ test. refl; all = λ h. h }
-
--- a pair taken from the rest is taken from all, and the first one taken is put back
-pub takes_later : (P : ℕ × ℕ → Type 0) (w : ℕ → ℕ → ℤ) (ys : List (ℕ × ℕ)) (e : ℕ × ℕ) (rest : List (ℕ × ℕ)) (f : ℕ × ℕ) (last : List (ℕ × ℕ))
-    → Takes P w ys e rest → Takes P w rest f last → Takes P w ys f (e ∷ last)
-takes_later P w ys e rest f last t s = record {
-  count = t.count ∙ ap suc s.count;
-  weighs = omega (arith, ints, t.weighs, s.weighs);
-  any = λ test. t.any test ∙ (ap (λ b. test e || b) (s.any test) ∙ or_swap (test e) (test f) (list_any test last));
-  all = λ h. let p = t.all h in let q = s.all p.1 in (q.0, (p.0, q.1));
-}
-
--- where some pair passes a test, one that passes can be taken
-pub find : (P : ℕ × ℕ → Type 0) (w : ℕ → ℕ → ℤ) (test : ℕ × ℕ → Bool) (ys : List (ℕ × ℕ)) → list_any test ys ≡ true → (f : ℕ × ℕ) × (rest : List (ℕ × ℕ)) × (test f ≡ true) × Takes P w ys f rest
-find P w test [] h = absurd (false≢true h)
-find P w test (y ∷ ys) h = elim (cases_Bool (test y)) [
-  | inl t ↦ (y, ys, t, takes_first P w y ys)
-  | inr t ↦
-      let r = find P w test ys (sym (ap (λ b. b || list_any test ys) t) ∙ h) in
-      (r.0, y ∷ r.1, r.2, takes_later P w (y ∷ ys) y ys r.0 r.1 (takes_first P w y ys) r.3)
-]
-
--- ---- the ends of a pair that crosses
-
--- a pair with its end inside first; it crosses each part alike
-pub record Ends (part : ℕ → Bool) (e : ℕ × ℕ) : Type 0 where
-  pub inside : ℕ
-  pub outside : ℕ
-  pub held : part inside ≡ true
-  pub free : part outside ≡ false
-  pub alike : (other : ℕ → Bool) → crosses other e ≡ crosses other (inside, outside)
+-- ---- the ends of a pair
 
 pub crosses_turned : (part : ℕ → Bool) (a b : ℕ) → crosses part (a, b) ≡ crosses part (b, a)
 crosses_turned part a b = turned (part a) (part b)
@@ -80,57 +35,31 @@ crosses_both part a b p q = rw (p, q) refl
 pub crosses_neither : (part : ℕ → Bool) (a b : ℕ) → part a ≡ false → part b ≡ false → crosses part (a, b) ≡ false
 crosses_neither part a b p q = rw (p, q) refl
 
-pub ends : (part : ℕ → Bool) (e : ℕ × ℕ) → crosses part e ≡ true → Ends part e
-ends part e h = elim (cases_Bool (part e.0)) [
-  | inl p ↦ elim (cases_Bool (part e.1)) [
-    | inl q ↦ absurd (both_ways (crosses part e) (crosses_both part e.0 e.1 p q) h)
-    | inr q ↦ record { inside = e.0; outside = e.1; held = p; free = q; alike = λ other. refl }
-  ]
-  | inr p ↦ elim (cases_Bool (part e.1)) [
-    | inl q ↦ record { inside = e.1; outside = e.0; held = q; free = p; alike = λ other. crosses_turned other e.0 e.1 }
-    | inr q ↦ absurd (both_ways (crosses part e) (crosses_neither part e.0 e.1 p q) h)
-  ]
-]
+-- both ends of a pair that doesn't cross are inside, or neither is
+pub same_side : (part : ℕ → Bool) (pair : ℕ × ℕ) → crosses part pair ≡ false → part pair.0 ≡ part pair.1
+same_side part pair = same (part pair.0) (part pair.1)
+  where
+    same : (x y : Bool) → cond x (not y) y ≡ false → x ≡ y
+    same true true h = refl
+    same true false h = h
+    same false y h = sym h
 
--- ---- the exchange
+pub crosses_not : (part : ℕ → Bool) (pair : ℕ × ℕ) → part pair.0 ≡ part pair.1 → crosses part pair ≡ false
+crosses_not part pair = none (part pair.0) (part pair.1)
+  where
+    none : (x y : Bool) → x ≡ y → cond x (not y) y ≡ false
+    none true y h = ap not (sym h)
+    none false y h = sym h
 
-abbrev pub Apart : (ℕ → Bool) → (ℕ → Bool) → Type 0
-Apart a b = (x : ℕ) → a x ≡ true → b x ≡ false
+other_side : (part : ℕ → Bool) (pair : ℕ × ℕ) → crosses part pair ≡ true → part pair.1 ≡ not (part pair.0)
+other_side part pair = other (part pair.0) (part pair.1)
+  where
+    other : (x y : Bool) → cond x (not y) y ≡ true → y ≡ not x
+    other true true h = sym h
+    other true false h = refl
+    other false y h = h
 
--- each part that holds the grown one, takes the held one whole or leaves it whole, and is not every node is crossed: as if the held nodes were one
-abbrev pub JoinsAsOne : (ℕ → Type 0) → (ℕ → Bool) → (ℕ → Bool) → List (ℕ × ℕ) → Type 0
-JoinsAsOne Node grown held xs = (part : ℕ → Bool) (outside : ℕ) → Node outside → part outside ≡ false → Within grown part → Within held part ⊎ Apart held part → IsCrossed xs part
-
--- each part that holds both, and is not every node, is crossed
-abbrev pub JoinsBoth : (ℕ → Type 0) → (ℕ → Bool) → (ℕ → Bool) → List (ℕ × ℕ) → Type 0
-JoinsBoth Node grown held xs = (part : ℕ → Bool) (outside : ℕ) → Node outside → part outside ≡ false → Within grown part → Within held part → IsCrossed xs part
-
--- what a taken pair does not cross the rest crosses
-rest_crosses : (P : ℕ × ℕ → Type 0) (w : ℕ → ℕ → ℤ) (ys : List (ℕ × ℕ)) (f : ℕ × ℕ) (rest : List (ℕ × ℕ)) (part : ℕ → Bool) → Takes P w ys f rest
-    → IsCrossed ys part → crosses part f ≡ false → IsCrossed rest part
-rest_crosses P w ys f rest part t h n = sym (ap (λ b. b || list_any (crosses part) rest) n) ∙ (sym (t.any (crosses part)) ∙ h)
-
--- a pair that leaves the grown part, and without which the list joins both parts
-pub record Exchanged (P : ℕ × ℕ → Type 0) (Node : ℕ → Type 0) (w : ℕ → ℕ → ℤ) (grown : ℕ → Bool) (held : ℕ → Bool) (ys : List (ℕ × ℕ)) : Type 0 where
-  pub pair : ℕ × ℕ
-  pub rest : List (ℕ × ℕ)
-  pub takes : Takes P w ys pair rest
-  pub leaves : crosses grown pair ≡ true
-  pub joins : JoinsBoth Node grown held rest
-
--- the pair that leaves the held nodes ends in the grown part
-exchange_now : (P : ℕ × ℕ → Type 0) (Node : ℕ → Type 0) (w : ℕ → ℕ → ℤ) (grown held : ℕ → Bool) (ys : List (ℕ × ℕ)) (e : ℕ × ℕ) (rest : List (ℕ × ℕ)) (a b : ℕ)
-    → Apart grown held → JoinsAsOne Node grown held ys → Takes P w ys e rest → held a ≡ true → ((other : ℕ → Bool) → crosses other e ≡ crosses other (a, b))
-    → grown b ≡ true → Exchanged P Node w grown held ys
-exchange_now P Node w grown held ys e rest a b apart joins takes in_held alike in_grown = record {
-  pair = e;
-  rest = rest;
-  takes = takes;
-  leaves = alike grown ∙ (crosses_turned grown a b ∙ crosses_out grown b a in_grown (false_from_ne_true (grown a) (λ h. both_ways (held a) (apart a h) in_held)));
-  joins = λ part outside node out holds_grown holds_held.
-      rest_crosses P w ys e rest part takes (joins part outside node out holds_grown (inl holds_held))
-      (alike part ∙ crosses_both part a b (holds_held a in_held) (holds_grown b in_grown));
-}
+-- ---- a part and one node more
 
 pub and_node_self : (part : ℕ → Bool) (v : ℕ) → and_node part v v ≡ true
 and_node_self part v = or_left (v == v) (part v) (eq-eqb v v refl)
@@ -145,75 +74,208 @@ and_node_all part v P at_v at_part x h = elim (or_cases (x == v) (part x) h) [
   | inr t ↦ at_part x t
 ]
 
-apart_more : (grown held : ℕ → Bool) (b : ℕ) → Apart grown held → grown b ≡ false → Apart grown (and_node held b)
-apart_more grown held b apart free = λ x h. false_from_ne_true (and_node held b x) (λ t.
-    both_ways (grown x) (and_node_all held b (λ y. grown y ≡ false) free (λ y k. false_from_ne_true (grown y) (λ g. both_ways (held y) (apart y g) k)) x t) h)
+-- ---- parts that no pair leaves
 
--- the pair that leaves the held nodes does not end in the grown part: it is left aside, and its end is held from now on
-exchange_later : (P : ℕ × ℕ → Type 0) (Node : ℕ → Type 0) (w : ℕ → ℕ → ℤ) (grown held : ℕ → Bool) (ys : List (ℕ × ℕ)) (e : ℕ × ℕ) (rest : List (ℕ × ℕ))
-    (a b : ℕ) → Takes P w ys e rest → held a ≡ true → ((other : ℕ → Bool) → crosses other e ≡ crosses other (a, b))
-    → Exchanged P Node w grown (and_node held b) rest → Exchanged P Node w grown held ys
-exchange_later P Node w grown held ys e rest a b takes in_held alike x = record {
-  pair = x.pair;
-  rest = e ∷ x.rest;
-  takes = takes_later P w ys e rest x.pair x.rest takes x.takes;
-  leaves = x.leaves;
-  joins = λ part outside node out holds_grown holds_held. elim (cases_Bool (part b)) [
-    | inl t ↦ or_right (crosses part e) (list_any (crosses part) x.rest) (x.joins part outside node out holds_grown (and_node_all held b (λ y. part y ≡ true) t holds_held))
-    | inr f ↦ or_left (crosses part e) (list_any (crosses part) x.rest) (alike part ∙ crosses_out part a b (holds_held a in_held) f)
-  ];
+pub uncrossed_more : (part : ℕ → Bool) (pairs : List (ℕ × ℕ)) (pair : ℕ × ℕ) → IsUncrossed part pairs → crosses part pair ≡ false → IsUncrossed part (pairs ++ pair ∷ [])
+uncrossed_more part pairs pair = All-push (λ pair. crosses part pair ≡ false) pairs pair
+
+pub uncrossed_left : (part : ℕ → Bool) (xs ys : List (ℕ × ℕ)) → IsUncrossed part (xs ++ ys) → IsUncrossed part xs
+uncrossed_left part xs ys h k d low = subst (λ pair. crosses part pair ≡ false) (get_or_append_left xs ys d k low) (h k d (omega (arith, length-append xs ys, low)))
+
+pub uncrossed_right : (part : ℕ → Bool) (xs ys : List (ℕ × ℕ)) → IsUncrossed part (xs ++ ys) → IsUncrossed part ys
+uncrossed_right part xs ys h k d low = subst (λ pair. crosses part pair ≡ false) (get_or-append-add xs ys k d) (h (length xs + k) d (omega (arith, length-append xs ys, low)))
+
+pub uncrossed_last : (part : ℕ → Bool) (pairs : List (ℕ × ℕ)) (pair : ℕ × ℕ) → IsUncrossed part (pairs ++ pair ∷ []) → crosses part pair ≡ false
+uncrossed_last part pairs pair h = uncrossed_right part pairs (pair ∷ []) h 0 pair (omega arith)
+
+pub uncrossed_from : (part : ℕ → Bool) (pairs : List (ℕ × ℕ)) → list_any (crosses part) pairs ≡ false → IsUncrossed part pairs
+uncrossed_from part [] none = All-nil (λ pair. crosses part pair ≡ false)
+uncrossed_from part (e ∷ es) none =
+    let parts = or_parts (crosses part e) (list_any (crosses part) es) none in
+    All-cons (λ pair. crosses part pair ≡ false) e es parts.0 (uncrossed_from part es parts.1)
+
+-- what two such parts have in common, all that they have, and what one of them has alone
+uncrossed_both : (of : Bool → Bool → Bool) (one two : ℕ → Bool) (pairs : List (ℕ × ℕ)) → IsUncrossed one pairs → IsUncrossed two pairs → IsUncrossed (λ v. of (one v) (two v)) pairs
+uncrossed_both of one two pairs free also = λ k d low.
+    let pair = get_or pairs k d in
+    crosses_not (λ v. of (one v) (two v)) pair (ap₂ of (same_side one pair (free k d low)) (same_side two pair (also k d low)))
+
+-- ---- two nodes are joined, or some part has one of them alone
+
+pub record IsCut (pairs : List (ℕ × ℕ)) (a b : ℕ) : Type 0 where
+  pub part : ℕ → Bool
+  pub free : IsUncrossed part pairs
+  pub inside : part a ≡ true
+  pub outside : part b ≡ false
+
+abbrev pub AreTied : List (ℕ × ℕ) → ℕ → ℕ → Type 0
+AreTied pairs a b = (part : ℕ → Bool) → IsUncrossed part pairs → part a ≡ part b
+
+cut_more : (pairs : List (ℕ × ℕ)) (e : ℕ × ℕ) (a b : ℕ) (part : ℕ → Bool) → IsUncrossed part pairs → crosses part e ≡ false → part a ≡ true → part b ≡ false → IsCut (e ∷ pairs) a b
+cut_more pairs e a b part free here inside outside = record {
+  part = part;
+  free = All-cons (λ pair. crosses part pair ≡ false) e pairs here free;
+  inside = inside;
+  outside = outside;
 }
 
--- without a pair between two held nodes the list still joins the held nodes as one
-joins_rest : (P : ℕ × ℕ → Type 0) (Node : ℕ → Type 0) (w : ℕ → ℕ → ℤ) (grown held : ℕ → Bool) (ys : List (ℕ × ℕ)) (e : ℕ × ℕ) (rest : List (ℕ × ℕ)) (a b : ℕ)
-    → JoinsAsOne Node grown held ys → Takes P w ys e rest → held a ≡ true → ((other : ℕ → Bool) → crosses other e ≡ crosses other (a, b))
-    → JoinsAsOne Node grown (and_node held b) rest
-joins_rest P Node w grown held ys e rest a b joins takes in_held alike = λ part outside node out holds_grown one. elim one [
-  | inl all ↦ rest_crosses P w ys e rest part takes
-      (joins part outside node out holds_grown (inl (λ x h. all x (and_node_old held b x h))))
-      (alike part ∙ crosses_both part a b (all a (and_node_old held b a in_held)) (all b (and_node_self held b)))
-  | inr none ↦ rest_crosses P w ys e rest part takes
-      (joins part outside node out holds_grown (inr (λ x h. none x (and_node_old held b x h))))
-      (alike part ∙ crosses_neither part a b (none a (and_node_old held b a in_held)) (none b (and_node_self held b)))
+-- a pair whose ends are x and y leaves the part
+leaving_cut : (pairs : List (ℕ × ℕ)) (e : ℕ × ℕ) (a b x y : ℕ) → ((part : ℕ → Bool) → crosses part e ≡ crosses part (x, y)) → (cut : IsCut pairs a b) → cut.part x ≡ true → cut.part y ≡ false
+    → IsCut pairs a x ⊎ AreTied pairs a x → IsCut pairs y b ⊎ AreTied pairs y b → IsCut (e ∷ pairs) a b ⊎ AreTied (e ∷ pairs) a b
+leaving_cut pairs e a b x y alike cut in_x out_y (inl first) other =
+    let part : ℕ → Bool = λ v. cut.part v && first.part v in
+    inl (cut_more pairs e a b part (uncrossed_both (λ p q. p && q) cut.part first.part pairs cut.free first.free)
+    (alike part ∙ crosses_neither part x y (and_right (cut.part x) (first.part x) first.outside) (and_left (cut.part y) (first.part y) out_y))
+    (and_from (cut.part a) (first.part a) cut.inside first.inside) (and_left (cut.part b) (first.part b) cut.outside))
+leaving_cut pairs e a b x y alike cut in_x out_y (inr tied) (inl second) =
+    let part : ℕ → Bool = λ v. cut.part v || second.part v in
+    inl (cut_more pairs e a b part (uncrossed_both (λ p q. p || q) cut.part second.part pairs cut.free second.free)
+    (alike part ∙ crosses_both part x y (or_left (cut.part x) (second.part x) in_x) (or_right (cut.part y) (second.part y) second.inside))
+    (or_left (cut.part a) (second.part a) cut.inside) (or_from (cut.part b) (second.part b) cut.outside second.outside))
+leaving_cut pairs e a b x y alike cut in_x out_y (inr tied) (inr also) = inr (λ part free.
+    let earlier = All-tail (λ pair. crosses part pair ≡ false) e pairs free in
+    tied part earlier ∙ (same_side part (x, y) (sym (alike part) ∙ All-head (λ pair. crosses part pair ≡ false) e pairs free) ∙ also part earlier))
+
+cut_or_tied : (pairs : List (ℕ × ℕ)) (a b : ℕ) → IsCut pairs a b ⊎ AreTied pairs a b
+cut_or_tied [] a b = elim (cases_eq b a) [
+  | inl same ↦ inr (λ part free. ap part (sym same))
+  | inr other ↦ inl (record { part = λ v. v == a; free = All-nil (λ pair. crosses (λ v. v == a) pair ≡ false); inside = eq-eqb a a refl; outside = ne_eqb b a other })
+]
+cut_or_tied (e ∷ es) a b = elim (cut_or_tied es a b) [
+  | inr tied ↦ inr (λ part free. tied part (All-tail (λ pair. crosses part pair ≡ false) e es free))
+  | inl cut ↦ elim (cases_Bool (crosses cut.part e)) [
+    | inr none ↦ inl (cut_more es e a b cut.part cut.free none cut.inside cut.outside)
+    | inl leaves ↦ elim (cases_Bool (cut.part e.0)) [
+      | inl here ↦ leaving_cut es e a b e.0 e.1 (λ part. refl) cut here (other_side cut.part e leaves ∙ ap not here) (cut_or_tied es a e.0) (cut_or_tied es e.1 b)
+      | inr none ↦ leaving_cut es e a b e.1 e.0 (λ part. crosses_turned part e.0 e.1) cut (other_side cut.part e leaves ∙ ap not none) none (cut_or_tied es a e.1) (cut_or_tied es e.0 b)
+    ]
+  ]
 ]
 
-pub exchange : (P : ℕ × ℕ → Type 0) (Node : ℕ → Type 0) (w : ℕ → ℕ → ℤ) (grown : ℕ → Bool) (v : ℕ) → Node v → (count : ℕ) (held : ℕ → Bool) (ys : List (ℕ × ℕ))
-    → length ys ≡ count → held v ≡ true → Apart grown held → JoinsAsOne Node grown held ys → Exchanged P Node w grown held ys
-exchange P Node w grown v node zero held ys size in_held apart joins =
-    let r = find P w (crosses (λ x. not (held x))) ys (joins (λ x. not (held x)) v node (ap not in_held) (λ x h. ap not (apart x h)) (inr (λ x h. ap not h))) in
-    absurd (omega (arith, r.3.count))
-exchange P Node w grown v node (suc count) held ys size in_held apart joins =
-    let crossed = joins (λ x. not (held x)) v node (ap not in_held) (λ x h. ap not (apart x h)) (inr (λ x h. ap not h)) in
-    let r = find P w (crosses (λ x. not (held x))) ys crossed in
-    let e = ends (λ x. not (held x)) r.0 r.2 in
-    let free : held e.inside ≡ false = not-true (held e.inside) e.held in
-    let taken : held e.outside ≡ true = not-false (held e.outside) e.free in
-    let alike : (other : ℕ → Bool) → crosses other r.0 ≡ crosses other (e.outside, e.inside) = λ other. e.alike other ∙ crosses_turned other e.inside e.outside in
-    elim (cases_Bool (grown e.inside)) [
-      | inl g ↦ exchange_now P Node w grown held ys r.0 r.1 e.outside e.inside apart joins r.3 taken alike g
-      | inr g ↦ exchange_later P Node w grown held ys r.0 r.1 e.outside e.inside r.3 taken alike
-          (exchange P Node w grown v node count (and_node held e.inside) r.1 (omega (arith, r.3.count)) (and_node_old held e.inside v in_held)
-          (apart_more grown held e.inside apart g)
-          (joins_rest P Node w grown held ys r.0 r.1 e.outside e.inside joins r.3 taken alike))
-    ]
+-- ---- the pair that ties two nodes
 
--- ---- the growth
+abbrev differ : Bool → Bool → Bool
+differ x y = cond x (not y) y
 
--- a list that joins the grown part has a pair that leaves it, and without that pair it joins the part with v
-pub exchange_node : (P : ℕ × ℕ → Type 0) (Node : ℕ → Type 0) (w : ℕ → ℕ → ℤ) (grown : ℕ → Bool) (v : ℕ) (ys : List (ℕ × ℕ)) → Node v → grown v ≡ false
-    → Joins Node grown ys → (f : ℕ × ℕ) × (rest : List (ℕ × ℕ)) × Takes P w ys f rest × (crosses grown f ≡ true) × Joins Node (and_node grown v) rest
-exchange_node P Node w grown v ys node free joins =
-    let x = exchange P Node w grown v node (length ys) (λ y. y == v) ys refl (eq-eqb v v refl)
-    (λ y h. false_from_ne_true (y == v) (λ e. both_ways (grown y) (subst (λ z. grown z ≡ false) (sym (eqb-true y v e)) free) h))
-    (λ part outside at out holds one. joins part outside at out holds) in (
-      x.pair,
-      x.rest,
-      x.takes,
-      x.leaves,
-      λ part outside at out holds.
-          x.joins part outside at out (λ y h. holds y (and_node_old grown v y h))
-          (λ y h. subst (λ z. part z ≡ true) (sym (eqb-true y v h)) (holds v (and_node_self grown v))),
-    )
+-- where a pair ties two nodes that a cut has apart, a part that has both or neither and that the earlier pairs don't leave isn't left by the pair
+tied_by : (a b : ℕ) (earlier : List (ℕ × ℕ)) (t : ℕ × ℕ) → IsCut earlier a b → AreTied (t ∷ earlier) a b → (part : ℕ → Bool) → IsUncrossed part earlier → part a ≡ part b
+    → crosses part t ≡ false
+tied_by a b earlier t cut tied part free same = false_from_ne_true (crosses part t) (λ leaves. elim (cases_Bool (crosses cut.part t)) [
+  | inr none ↦ both_ways (cut.part a) (tied cut.part (All-cons (λ pair. crosses cut.part pair ≡ false) t earlier none cut.free) ∙ cut.outside) cut.inside
+  | inl also ↦
+      let part_of : ℕ → Bool = λ v. differ (cut.part v) (part v) in
+      let level : part_of t.0 ≡ part_of t.1 = sym (ap₂ differ (other_side cut.part t also) (other_side part t leaves) ∙ both_turned (cut.part t.0) (part t.0)) in
+      let ends : part_of a ≡ part_of b = tied part_of (All-cons (λ pair. crosses part_of pair ≡ false) t earlier (crosses_not part_of t level) (uncrossed_both differ cut.part part earlier cut.free free)) in
+      not_itself (part a) (sym (ap (λ x. differ x (part a)) cut.inside) ∙ ends ∙ ap (λ x. differ x (part b)) cut.outside ∙ sym same)
+])
+  where
+    both_turned : (x y : Bool) → differ (not x) (not y) ≡ differ x y
+    both_turned true true = refl
+    both_turned true false = refl
+    both_turned false true = refl
+    both_turned false false = refl
+
+    not_itself : (x : Bool) → not x ≡ x → ⊥
+    not_itself true h = both_ways true (sym h) refl
+    not_itself false h = both_ways false refl (sym h)
+
+-- one of the later pairs, which a pair between the two nodes replaces
+pub record IsTie (a b : ℕ) (earlier later : List (ℕ × ℕ)) : Type 0 where
+  pub pair : ℕ × ℕ
+  pub rest : List (ℕ × ℕ)
+  pub takes : IsPermutation later (pair ∷ rest)
+  pub replaced : (part : ℕ → Bool) → IsUncrossed part earlier → IsUncrossed part rest → part a ≡ part b → crosses part pair ≡ false
+
+tie : (a b : ℕ) (earlier later : List (ℕ × ℕ)) → IsCut earlier a b → ((part : ℕ → Bool) → IsUncrossed part earlier → IsUncrossed part later → part a ≡ part b) → IsTie a b earlier later
+tie a b earlier [] cut joined = absurd (both_ways (cut.part a) (joined cut.part cut.free (All-nil (λ pair. crosses cut.part pair ≡ false)) ∙ cut.outside) cut.inside)
+tie a b earlier (t ∷ ts) cut joined = elim (cut_or_tied (t ∷ earlier) a b) [
+  | inr tied ↦ record {
+    pair = t;
+    rest = ts;
+    takes = IsPermutation-refl (t ∷ ts);
+    replaced = λ part free others same. tied_by a b earlier t cut tied part free same;
+  }
+  | inl still ↦
+      let x = tie a b (t ∷ earlier) ts still (λ part free others.
+      joined part (All-tail (λ pair. crosses part pair ≡ false) t earlier free)
+      (All-cons (λ pair. crosses part pair ≡ false) t ts (All-head (λ pair. crosses part pair ≡ false) t earlier free) others)) in
+      record {
+        pair = x.pair;
+        rest = t ∷ x.rest;
+        takes = IsPermutation-trans _ _ _ (IsPermutation-cons t _ _ x.takes) (IsPermutation-middle (t ∷ []) x.pair x.rest);
+        replaced = λ part free others same. x.replaced part
+            (All-cons (λ pair. crosses part pair ≡ false) t earlier (All-head (λ pair. crosses part pair ≡ false) t x.rest others) free)
+            (All-tail (λ pair. crosses part pair ≡ false) t x.rest others) same;
+      }
+]
+
+-- ---- the exchange
+
+-- with the earlier pairs these join all nodes: a part that none of them leaves has all nodes or none
+abbrev pub JoinsBeside : (ℕ → Type 0) → List (ℕ × ℕ) → List (ℕ × ℕ) → Type 0
+JoinsBeside Node earlier xs = (part : ℕ → Bool) → IsUncrossed part earlier → IsUncrossed part xs → (x y : ℕ) → Node x → Node y → part x ≡ part y
+
+pub crossed_joins : (Node : ℕ → Type 0) (xs : List (ℕ × ℕ))
+    → ((part : ℕ → Bool) (inside outside : ℕ) → Node inside → Node outside → part inside ≡ true → part outside ≡ false → IsCrossed xs part) → JoinsBeside Node [] xs
+crossed_joins Node xs crossed part free also x y in_x in_y = elim (cases_Bool (part x)) [
+  | inl t ↦ elim (cases_Bool (part y)) [
+    | inl u ↦ t ∙ sym u
+    | inr g ↦ absurd (both_ways (list_any (crosses part) xs) (list_any_none (crosses part) xs also) (crossed part x y in_x in_y t g))
+  ]
+  | inr f ↦ elim (cases_Bool (part y)) [
+    | inl u ↦ absurd (both_ways (list_any (crosses part) xs) (list_any_none (crosses part) xs also) (crossed part y x in_y in_x u f))
+    | inr g ↦ f ∙ sym g
+  ]
+]
+
+-- a pair that leaves the part, and without which the others join all nodes beside another pair that leaves it
+pub record IsExchange (Node : ℕ → Type 0) (part : ℕ → Bool) (earlier xs : List (ℕ × ℕ)) (e : ℕ × ℕ) : Type 0 where
+  pub pair : ℕ × ℕ
+  pub rest : List (ℕ × ℕ)
+  pub takes : IsPermutation xs (pair ∷ rest)
+  pub leaves : crosses part pair ≡ true
+  pub joins : JoinsBeside Node (earlier ++ e ∷ []) rest
+
+pub exchange : (Node : ℕ → Type 0) (w : ℕ → ℕ → ℤ) (earlier xs : List (ℕ × ℕ)) (e : ℕ × ℕ) (join : IsLeastJoin Node w earlier e) → JoinsBeside Node earlier xs
+    → IsExchange Node join.part earlier xs e
+exchange Node w earlier xs e join joins =
+    let leaving : ℕ × ℕ → Bool = crosses join.part in
+    let staying : ℕ × ℕ → Bool = λ pair. not (leaving pair) in
+    let stay = filter staying xs in
+    let leave = filter leaving xs in
+    let parted : IsPermutation xs (stay ++ leave) = IsPermutation-filter_both staying leaving (λ pair. twice (leaving pair)) xs in
+    let x = tie e.0 e.1 (earlier ++ stay) leave (record {
+      part = join.part;
+      free = All-append (λ pair. leaving pair ≡ false) earlier stay join.uncrossed (All-weaker (λ pair. staying pair ≡ true) (λ pair. leaving pair ≡ false) (λ pair. not-true (leaving pair)) stay (passing staying xs));
+      inside = join.leaving.from;
+      outside = join.leaving.to;
+    }) (λ part free others. joins part (uncrossed_left part earlier stay free)
+    (All-permutation (λ pair. crosses part pair ≡ false) (stay ++ leave) xs (IsPermutation-sym _ _ parted) (All-append (λ pair. crosses part pair ≡ false) stay leave (uncrossed_right part earlier stay free) others))
+    e.0 e.1 join.from join.leaving.node) in
+    let takes : IsPermutation xs (x.pair ∷ (stay ++ x.rest)) = IsPermutation-trans _ _ _ parted (IsPermutation-trans _ _ _ (IsPermutation-append_right stay _ _ x.takes) (IsPermutation-middle stay x.pair x.rest)) in
+    record {
+      pair = x.pair;
+      rest = stay ++ x.rest;
+      takes = takes;
+      leaves = All-head (λ pair. leaving pair ≡ true) x.pair x.rest (All-permutation (λ pair. leaving pair ≡ true) leave (x.pair ∷ x.rest) x.takes (passing leaving xs));
+      joins = λ part free others.
+          let before = uncrossed_left part earlier (e ∷ []) free in
+          let staying_free = uncrossed_left part stay x.rest others in
+          let same = same_side part e (uncrossed_last part earlier e free) in
+          let pair_free = x.replaced part (All-append (λ pair. crosses part pair ≡ false) earlier stay before staying_free) (uncrossed_right part stay x.rest others) same in
+          joins part before (All-permutation (λ pair. crosses part pair ≡ false) (x.pair ∷ (stay ++ x.rest)) xs (IsPermutation-sym _ _ takes)
+          (All-cons (λ pair. crosses part pair ≡ false) x.pair (stay ++ x.rest) pair_free others));
+    }
+  where
+    twice : (b : Bool) → b ≡ not (not b)
+    twice true = refl
+    twice false = refl
+
+    passing : (test : ℕ × ℕ → Bool) (pairs : List (ℕ × ℕ)) → All (λ pair. test pair ≡ true) (filter test pairs)
+    passing test [] = All-nil (λ pair. test pair ≡ true)
+    passing test (y ∷ ys) = cond_both (test y) (y ∷ filter test ys) (filter test ys) (All (λ pair. test pair ≡ true)) (λ t. All-cons (λ pair. test pair ≡ true) y (filter test ys) t (passing test ys)) (λ f. passing test ys)
+
+-- ---- the weight of a pair that leaves
 
 -- both ends of the pair are nodes
 abbrev pub IsPairOf : (ℕ → Type 0) → ℕ × ℕ → Type 0
@@ -232,15 +294,3 @@ least_below Node w grown e f symmetric least of h = elim (cases_Bool (grown f.0)
     | inr q ↦ absurd (both_ways (crosses grown f) (crosses_neither grown f.0 f.1 p q) h)
   ]
 ]
-
--- A growth weighs no more than a list of as many pairs that crosses each cut which leaves the start on one side.
-pub growth_least : (Node : ℕ → Type 0) (w : ℕ → ℕ → ℤ) → ((a b : ℕ) → w a b ≡ w b a) → (added : List (ℕ × ℕ)) (grown : ℕ → Bool) (xs : List (ℕ × ℕ))
-    → Grows Node w grown added → length xs ≡ length added → AllByRecursion (IsPairOf Node) xs → Joins Node grown xs → weight_of w added ≤ℤ weight_of w xs
-growth_least Node w symmetric [] grown [] grows size of joins = omega (arith, ints)
-growth_least Node w symmetric [] grown (x ∷ xs) grows size of joins = absurd (omega (arith, size))
-growth_least Node w symmetric (e ∷ es) grown xs grows size of joins =
-    let x = exchange_node (IsPairOf Node) Node w grown e.1 xs grows.0.node grows.0.to joins in
-    let parts = x.2.all of in
-    let first : w e.0 e.1 ≤ℤ w x.0.0 x.0.1 = least_below Node w grown e x.0 symmetric grows.0 parts.0 x.3 in
-    let later : weight_of w es ≤ℤ weight_of w x.1 = growth_least Node w symmetric es (and_node grown e.1) x.1 grows.1 (omega (arith, size, x.2.count)) parts.1 x.4 in
-    omega (arith, ints, first, later, x.2.weighs)

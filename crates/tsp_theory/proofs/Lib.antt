@@ -6,6 +6,7 @@ pub mod Cycles
 pub mod Division
 pub mod Duality
 pub mod Exchange
+pub mod Forests
 pub mod Lengths
 pub mod Nearest
 pub mod Neighbours

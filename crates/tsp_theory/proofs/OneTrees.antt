@@ -1,35 +1,27 @@
--- A growth with the two nearest nodes is a least 1-tree.
-use Rattle.std.proofs.Common.{◌≡◌, ◌≢◌, ℕ, suc, ◌+◌, ◌<◌, ◌≤◌, Bool, true, false, not, ◌||◌, ◌==◌, cond, List, [], ◌∷◌, length, map, ltb, ℤ, ◌+ℤ◌, ◌≤ℤ◌, inl, inr, refl, arith, ap, sym, ◌∙◌, subst}
-use Rattle.std.proofs.lemmas.Bool.{cases_Bool, cases_eq, or_left, or_right, both_ways, ne_eqb, eq-eqb, ltb-true, ltb-false, eqb-false, eqb-true, cond_both}
+-- Least joins with the two nearest nodes, and so a growth with them, are a least 1-tree.
+use Rattle.std.proofs.Common.{◌≡◌, ◌≢◌, ℕ, suc, ◌+◌, ◌<◌, ◌≤◌, Bool, true, false, not, ◌||◌, cond, List, [], ◌∷◌, ◌++◌, length, map, ltb, ℤ, ◌+ℤ◌, ◌≤ℤ◌, inl, inr, refl, arith, ap, sym, ◌∙◌, subst}
+use Rattle.std.proofs.lemmas.Bool.{cases_Bool, cases_eq, both_ways, ne_eqb, ltb-true, ltb-false, eqb-false, cond_both}
 use Rattle.std.proofs.lemmas.Int.{ints}
 use Rattle.std.proofs.lemmas.List.{length-map}
 use Rattle.std.proofs.lemmas.List.Elements.{recursion_from_All, All-from_recursion}
 use Rattle.std.specs.List.{AllByRecursion, list_any, filter}
 use Rattle.tsp_theory.specs.Tree.{crosses, weight_of, IsPair, is_at_one, inner_pairs, IsInner, IsOneTree, IsLeastOneTree}
-use Rattle.tsp_theory.specs.Growth.{and_node, Grows, grown_by, ordered, AreNearest, IsWholeGrowth, tree_of}
-use Rattle.tsp_theory.proofs.Exchange.{IsCrossed, Joins, IsPairOf, and_node_all, crosses_out, crosses_turned, growth_least}
-
--- ---- a growth that reaches each node joins them
-
-pub growth_joins : (Node : ℕ → Type 0) (w : ℕ → ℕ → ℤ) (added : List (ℕ × ℕ)) (grown : ℕ → Bool) → Grows Node w grown added
-    → ((v : ℕ) → Node v → grown_by grown added v ≡ true) → Joins Node grown added
-growth_joins Node w [] grown grows reached = λ part outside node out holds. absurd (both_ways (part outside) out (holds outside (reached outside node)))
-growth_joins Node w (e ∷ es) grown grows reached = λ part outside node out holds. elim (cases_Bool (part e.1)) [
-  | inl t ↦ or_right (crosses part e) (list_any (crosses part) es)
-      (growth_joins Node w es (and_node grown e.1) grows.1 reached part outside node out (and_node_all grown e.1 (λ y. part y ≡ true) t holds))
-  | inr f ↦ or_left (crosses part e) (list_any (crosses part) es) (crosses_out part e.0 e.1 (holds e.0 grows.0.from) f)
-]
+use Rattle.tsp_theory.specs.Growth.{ordered, AreNearest, IsWholeGrowth, tree_of}
+use Rattle.tsp_theory.specs.Forest.{AreLeastJoins, IsWholeForest}
+use Rattle.tsp_theory.proofs.Exchange.{IsCrossed, crossed_joins, IsPairOf, crosses_turned}
+use Rattle.tsp_theory.proofs.Forests.{growth_is_forest, forest_joins, forest_least}
 
 -- both ends are nodes, and they differ
 abbrev pub IsLink : (ℕ → Type 0) → ℕ × ℕ → Type 0
 IsLink Node e = Node e.0 × Node e.1 × (e.0 ≢ e.1)
 
-pub growth_links : (Node : ℕ → Type 0) (w : ℕ → ℕ → ℤ) (added : List (ℕ × ℕ)) (grown : ℕ → Bool) → ((x : ℕ) → grown x ≡ true → Node x) → Grows Node w grown added → AllByRecursion (IsLink Node) added
-growth_links Node w [] grown nodes grows = tt
-growth_links Node w (e ∷ es) grown nodes grows = (
-  (nodes e.0 grows.0.from, grows.0.node, λ same. both_ways (grown e.1) grows.0.to (subst (λ x. grown x ≡ true) same grows.0.from)),
-  growth_links Node w es (and_node grown e.1) (and_node_all grown e.1 Node grows.0.node nodes) grows.1,
-)
+joins_links : (Node : ℕ → Type 0) (w : ℕ → ℕ → ℤ) (added earlier : List (ℕ × ℕ)) → AreLeastJoins Node w earlier added → AllByRecursion (IsLink Node) added
+joins_links Node w [] earlier joins = tt
+joins_links Node w (e ∷ es) earlier joins =
+    let leaving = joins.0.leaving in (
+      (joins.0.from, leaving.node, λ same. both_ways (joins.0.part e.1) leaving.to (subst (λ x. joins.0.part x ≡ true) same leaving.from)),
+      joins_links Node w es (earlier ++ e ∷ []) joins.1,
+    )
 
 -- ---- the lower end first
 
@@ -82,7 +74,7 @@ kept_pairs : (P : ℕ × ℕ → Type 0) (test : ℕ × ℕ → Bool) (es : List
 kept_pairs P test [] h = tt
 kept_pairs P test (e ∷ es) h = cond_both (test e) (e ∷ filter test es) (filter test es) (AllByRecursion P) (λ t. (h.0, kept_pairs P test es h.1)) (λ f. kept_pairs P test es h.1)
 
--- ---- a growth with its spokes is a 1-tree
+-- ---- least joins with their spokes are a 1-tree
 
 none_at_one : (es : List (ℕ × ℕ)) → AllByRecursion (λ e. is_at_one e ≡ false) es → (filter is_at_one es ≡ []) × (inner_pairs es ≡ es)
 none_at_one [] h = (refl, refl)
@@ -97,33 +89,6 @@ ordered_pairs n (e ∷ es) h =
       (ordered_both e (IsPair n) (λ k. (omega arith, k, omega arith)) (λ k. (omega arith, omega arith, omega arith)), later.0),
       (ordered_both e (λ p. is_at_one p ≡ false) (λ k. ne_eqb e.0 1 (λ s. omega arith)) (λ k. ne_eqb e.1 1 (λ s. omega arith)), later.1),
     )
-
--- what crosses a part crosses what is left of it
-crosses_rest : (part : ℕ → Bool) (es : List (ℕ × ℕ)) → list_any (crosses (λ x. not (part x))) es ≡ list_any (crosses part) es
-crosses_rest part [] = refl
-crosses_rest part (e ∷ es) = ap (λ b. b || list_any (crosses (λ x. not (part x))) es) (turned (part e.0) (part e.1)) ∙ ap (λ b. crosses part e || b) (crosses_rest part es)
-  where
-    turned : (x y : Bool) → cond (not x) (not (not y)) (not y) ≡ cond x (not y) y
-    turned true true = refl
-    turned true false = refl
-    turned false true = refl
-    turned false false = refl
-
--- a list that joins one start crosses each part that is neither empty nor all
-joins_parts : (Node : ℕ → Type 0) (start : ℕ) (xs : List (ℕ × ℕ)) → Joins Node (λ x. x == start) xs → (part : ℕ → Bool) (inside outside : ℕ) → Node inside
-    → Node outside → part inside ≡ true → part outside ≡ false → IsCrossed xs part
-joins_parts Node start xs joins part inside outside in_node out_node in_part out_part = elim (cases_Bool (part start)) [
-  | inl t ↦ joins part outside out_node out_part (λ x h. subst (λ z. part z ≡ true) (sym (eqb-true x start h)) t)
-  | inr f ↦ sym (crosses_rest part xs) ∙ joins (λ x. not (part x)) inside in_node (ap not in_part) (λ x h. subst (λ z. not (part z) ≡ true) (sym (eqb-true x start h)) (ap not f))
-]
-
--- the growth of a whole tree from one start, and the two nearest nodes
-pub record IsGrown (n : ℕ) (w : ℕ → ℕ → ℤ) (start first second : ℕ) (added : List (ℕ × ℕ)) : Type 0 where
-  pub start_in : IsInner n start
-  pub nearest : AreNearest n w first second
-  pub grows : Grows (IsInner n) w (λ x. x == start) added
-  pub reached : (v : ℕ) → IsInner n v → grown_by (λ x. x == start) added v ≡ true
-  pub count : 2 + length added ≡ n
 
 -- two spokes and as many links as a tree has, which cross each part
 pub one_tree_of : (n first second : ℕ) (added : List (ℕ × ℕ)) → IsInner n first → IsInner n second → first ≢ second → AllByRecursion (IsLink (IsInner n)) added
@@ -143,12 +108,10 @@ one_tree_of n first second added one two differ links joined count =
           ap (list_any (crosses part)) none.1 ∙ (ordered_crossed part added ∙ joined part inside outside in_node out_node in_part out_part);
     }
 
-pub grown_one_tree : (n : ℕ) (w : ℕ → ℕ → ℤ) (start first second : ℕ) (added : List (ℕ × ℕ)) → IsGrown n w start first second added → IsOneTree n (tree_of first second added)
-grown_one_tree n w start first second added g =
-    one_tree_of n first second added g.nearest.first_in g.nearest.second_in g.nearest.differ
-    (growth_links (IsInner n) w added (λ x. x == start) (λ x h. subst (IsInner n) (sym (eqb-true x start h)) g.start_in) g.grows)
-    (joins_parts (IsInner n) start added (growth_joins (IsInner n) w added (λ x. x == start) g.grows g.reached))
-    g.count
+pub forest_one_tree : (n : ℕ) (w : ℕ → ℕ → ℤ) → ((a b : ℕ) → w a b ≡ w b a) → (first second : ℕ) (added : List (ℕ × ℕ)) → AreNearest n w first second
+    → IsWholeForest n w added → IsOneTree n (tree_of first second added)
+forest_one_tree n w symmetric first second added near forest =
+    one_tree_of n first second added near.first_in near.second_in near.differ (joins_links (IsInner n) w added [] forest.joins) (forest_joins n w symmetric added forest) forest.count
 
 -- ---- and none weighs less
 
@@ -164,37 +127,30 @@ nearest_least n w first second a b near in_a in_b differ = elim (cases_eq a firs
       omega (arith, ints, one, two)
 ]
 
-pub grown_least : (n : ℕ) (w : ℕ → ℕ → ℤ) → ((a b : ℕ) → w a b ≡ w b a) → (start first second : ℕ) (added : List (ℕ × ℕ)) → IsGrown n w start first second added
-    → (es : List (ℕ × ℕ)) → IsOneTree n es → weight_of w (tree_of first second added) ≤ℤ weight_of w es
-grown_least n w symmetric start first second added g es t =
+pub forest_tree_least : (n : ℕ) (w : ℕ → ℕ → ℤ) → ((a b : ℕ) → w a b ≡ w b a) → (first second : ℕ) (added : List (ℕ × ℕ)) → AreNearest n w first second
+    → IsWholeForest n w added → (es : List (ℕ × ℕ)) → IsOneTree n es → weight_of w (tree_of first second added) ≤ℤ weight_of w es
+forest_tree_least n w symmetric first second added nearest forest es t =
     let range = recursion_from_All (IsPair n) es t.range in
     let spokes = subst (AllByRecursion (IsPair n)) t.spokes (kept_pairs (IsPair n) is_at_one es range) in
-    let near : (w 1 first +ℤ w 1 second) ≤ℤ (w 1 t.first +ℤ w 1 t.second) = nearest_least n w first second t.first t.second g.nearest (omega arith, spokes.0.2) (omega arith, spokes.1.0.2) t.differ in
+    let near : (w 1 first +ℤ w 1 second) ≤ℤ (w 1 t.first +ℤ w 1 t.second) = nearest_least n w first second t.first t.second nearest (omega arith, spokes.0.2) (omega arith, spokes.1.0.2) t.differ in
     let size : length es ≡ 2 + length (inner_pairs es) = apart_length es ∙ ap (λ xs. length xs + length (inner_pairs es)) t.spokes in
-    let rest : weight_of w added ≤ℤ weight_of w (inner_pairs es) =
-    growth_least (IsInner n) w symmetric added (λ x. x == start) (inner_pairs es) g.grows (omega (arith, size, t.count, g.count)) (ends_inside n es range)
-    (λ part outside node out holds. t.joined part start outside g.start_in node (holds start (eq-eqb start start refl)) out) in
+    let rest : weight_of w added ≤ℤ weight_of w (inner_pairs es) = forest_least n w symmetric added (inner_pairs es) forest (omega (arith, size, t.count, forest.count))
+    (All-from_recursion (IsPairOf (IsInner n)) (inner_pairs es) (ends_inside n es range)) (crossed_joins (IsInner n) (inner_pairs es) t.joined) in
     let split : weight_of w es ≡ weight_of w ((1, t.first) ∷ (1, t.second) ∷ []) +ℤ weight_of w (inner_pairs es) = apart_weight w es
     ∙ ap (λ xs. weight_of w xs +ℤ weight_of w (inner_pairs es)) t.spokes in
     let same : weight_of w (map ordered added) ≡ weight_of w added = ordered_weight w symmetric added in
     omega (arith, ints, near, rest, split, same)
 
-pub grown_least_one_tree : (n : ℕ) (w : ℕ → ℕ → ℤ) → ((a b : ℕ) → w a b ≡ w b a) → (start first second : ℕ) (added : List (ℕ × ℕ))
-    → IsGrown n w start first second added → IsLeastOneTree n w (tree_of first second added)
-grown_least_one_tree n w symmetric start first second added g = record {
-  tree = grown_one_tree n w start first second added g;
-  least = grown_least n w symmetric start first second added g;
-}
-
 -- ---- as the functions find them
+
+pub least_from_forest : (n : ℕ) (w : ℕ → ℕ → ℤ) (first second : ℕ) (added seen pairs : List (ℕ × ℕ)) → 3 ≤ n → ((a b : ℕ) → w a b ≡ w b a)
+    → AreNearest n w first second → IsWholeForest n w added → seen ≡ added → pairs ≡ tree_of first second seen → IsLeastOneTree n w pairs
+least_from_forest n w first second added seen pairs some symmetric nearest forest same is = subst (IsLeastOneTree n w) (sym (is ∙ ap (tree_of first second) same)) (record {
+  tree = forest_one_tree n w symmetric first second added nearest forest;
+  least = forest_tree_least n w symmetric first second added nearest forest;
+})
 
 pub least_from_growth : (n : ℕ) (w : ℕ → ℕ → ℤ) (first second : ℕ) (added seen pairs : List (ℕ × ℕ)) → 3 ≤ n → ((a b : ℕ) → w a b ≡ w b a)
     → AreNearest n w first second → IsWholeGrowth n w added → seen ≡ added → pairs ≡ tree_of first second seen → IsLeastOneTree n w pairs
-least_from_growth n w first second added seen pairs some symmetric nearest g same is = subst (IsLeastOneTree n w) (sym (is ∙ ap (tree_of first second) same))
-    (grown_least_one_tree n w symmetric 2 first second added (record {
-      start_in = (omega arith, omega arith);
-      nearest = nearest;
-      grows = g.grows;
-      reached = g.reached;
-      count = g.count;
-    }))
+least_from_growth n w first second added seen pairs some symmetric nearest growth =
+    least_from_forest n w first second added seen pairs some symmetric nearest (growth_is_forest n w added (omega (arith, some)) growth)

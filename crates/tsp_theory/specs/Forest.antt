@@ -1,7 +1,7 @@
--- Trees over the nodes 2..n that are put together by least pairs: each pair is a least one that leaves a component of
--- the pairs before it. R. C. Prim's growth is the case where the component is the grown one, O. Boruvka's rounds (1926)
--- the case where it is any. Source: R. E. Tarjan, Data structures and network algorithms, 1983, chapter 6.
-use Rattle.std.specs.Prelude.{◌≡◌, ℕ, ◌+◌, Bool, true, false, List, [], ◌∷◌, ◌++◌, length, ℤ}
+-- Trees over the nodes 2..n that are put together by least pairs: each pair is a least one that leaves a part which no
+-- earlier pair leaves. In R. C. Prim's growth the part is the grown one, in O. Boruvka's rounds (1926) any component of the
+-- earlier pairs. Source: R. E. Tarjan, Data structures and network algorithms, 1983, chapter 6: the blue rule.
+use Rattle.std.specs.Prelude.{◌≡◌, ℕ, ◌+◌, Bool, false, List, [], ◌∷◌, ◌++◌, length, ℤ}
 use Rattle.std.specs.List.{All}
 use Rattle.tsp_theory.specs.Growth.{IsLeastLeaving}
 use Rattle.tsp_theory.specs.Tree.{IsInner, crosses}
@@ -10,16 +10,10 @@ use Rattle.tsp_theory.specs.Tree.{IsInner, crosses}
 abbrev pub IsUncrossed : (ℕ → Bool) → List (ℕ × ℕ) → Type 0
 IsUncrossed part pairs = All (λ pair. crosses part pair ≡ false) pairs
 
--- the nodes of the part are joined: each part that no pair leaves has all of them or none
-abbrev pub IsJoined : (ℕ → Type 0) → (ℕ → Bool) → List (ℕ × ℕ) → Type 0
-IsJoined Node part pairs = (other : ℕ → Bool) → IsUncrossed other pairs → (x y : ℕ) → Node x → Node y
-    → part x ≡ true → part y ≡ true → other x ≡ other y
-
--- a least pair that leaves a component of the pairs before it
+-- a least pair that leaves a part which no earlier pair leaves
 pub record IsLeastJoin (Node : ℕ → Type 0) (w : ℕ → ℕ → ℤ) (earlier : List (ℕ × ℕ)) (pair : ℕ × ℕ) : Type 0 where
   pub part : ℕ → Bool
   pub uncrossed : IsUncrossed part earlier
-  pub joined : IsJoined Node part earlier
   pub from : Node pair.0
   pub leaving : IsLeastLeaving Node w part pair
 
