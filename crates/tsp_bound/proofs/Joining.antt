@@ -5,8 +5,8 @@ use Rattle.std.proofs.lemmas.Bool.{cases_eq, false≢true, eqb-true, eq-eqb, ne_
 use Rattle.std.proofs.lemmas.List.{get_or-set_same, get_or-set_other}
 use Rattle.std.proofs.lemmas.List.Elements.{All-nil, All-push, All-weaker}
 use Rattle.tsp_theory.specs.Tree.{crosses}
-use Rattle.tsp_theory.specs.Forest.{IsUncrossed, AreLeastJoins, IsLeastJoin}
-use Rattle.tsp_theory.proofs.Forests.{uncrossed_left, uncrossed_last, same_side, joins_more}
+use Rattle.tsp_theory.specs.Forest.{AreLeastJoins}
+use Rattle.tsp_theory.proofs.Forests.{joins_more}
 use Rattle.tsp_bound.specs.declared.outside.Link.{Link}
 use Rattle.tsp_bound.specs.Heap.{IsBelow}
 use Rattle.tsp_bound.specs.Components.{IsForest, IsLeastOf, label_at}
@@ -21,16 +21,12 @@ pub record IsJoining (n : ℕ) (w : ℕ → ℕ → ℤ) (label new : ℕ → �
   pub joins : AreLeastJoins (IsBelow n) w [] added
   pub ends : All (λ pair. (pair.0 < n) × (pair.1 < n)) added
   pub within : All (IsWithin label new met) added
-  pub joined : (part : ℕ → Bool) → IsUncrossed part added
-      → (x y : ℕ) → x < n → y < n → new (label x) ≡ new (label y) → part x ≡ part y
 
-pub joining_start : (n : ℕ) (w : ℕ → ℕ → ℤ) (label new : ℕ → ℕ) (met : ℕ → Bool) (added : List (ℕ × ℕ)) → IsForest n w label added
-    → ((x : ℕ) → x < n → label x < n) → ((c : ℕ) → c < n → new c ≡ c) → IsJoining n w label new met added
-joining_start n w label new met added forest low own = record {
+pub joining_start : (n : ℕ) (w : ℕ → ℕ → ℤ) (label new : ℕ → ℕ) (met : ℕ → Bool) (added : List (ℕ × ℕ)) → IsForest n w label added → IsJoining n w label new met added
+joining_start n w label new met added forest = record {
   joins = forest.joins;
   ends = forest.ends;
   within = All-weaker (λ pair. label pair.0 ≡ label pair.1) (IsWithin label new met) (λ pair same. inl same) added forest.within;
-  joined = λ part free x y x_in y_in same. forest.joined part free x y x_in y_in (sym (own (label x) (low x x_in)) ∙ (same ∙ own (label y) (low y y_in)));
 }
 
 pub joining_end : (n : ℕ) (w : ℕ → ℕ → ℤ) (label new : ℕ → ℕ) (met : ℕ → Bool) (added : List (ℕ × ℕ)) → IsJoining n w label new met added
@@ -42,7 +38,6 @@ joining_end n w label new met added h = record {
     | inl same ↦ ap new same
     | inr both ↦ both.2
   ]) added h.within;
-  joined = h.joined;
 }
 
 -- two ends on one side don't leave the part
@@ -75,7 +70,6 @@ joining_more n w label old new before met added c link h least free kept met_c m
       joins = joins_more (IsBelow n) w [] added pair h.joins (record {
         part = λ x. label x == c;
         uncrossed = All-weaker (IsWithin label old before) (λ p. crosses (λ x. label x == c) p ≡ false) (λ p within. not_left label old before c p free within) added h.within;
-        joined = λ part uncrossed x y x_in y_in x_part y_part. h.joined part uncrossed x y x_in y_in (ap old (eqb-true (label x) c x_part ∙ sym (eqb-true (label y) c y_part)));
         from = l.from_in;
         leaving = record {
           from = eq-eqb (label link.from) c l.from_is;
@@ -94,32 +88,14 @@ joining_more n w label old new before met added c link h least free kept met_c m
                 inr (kept (label p.0) both.0, kept (label p.1) both.1, apart (label p.0) both.0 ∙ (both.2 ∙ sym (apart (label p.1) both.1)))
           ]) added h.within)
           (inr (ap met l.from_is ∙ met_c, met_to, ap new l.from_is ∙ (taken ∙ sym (other (label link.to) l.to_out))));
-      joined = λ part uncrossed x y x_in y_in same.
-          let earlier = uncrossed_left part added (pair ∷ []) uncrossed in
-          let across : part link.from ≡ part link.to = same_side part pair (uncrossed_last part added pair uncrossed) in
-          let own : (z : ℕ) → z < n → label z ≡ c → part z ≡ part link.to = λ z z_in z_is.
-          h.joined part earlier z link.from z_in l.from_in (ap old (z_is ∙ sym l.from_is)) ∙ across in
-          elim (cases_eq (label x) c) [
-            | inl x_is ↦ elim (cases_eq (label y) c) [
-              | inl y_is ↦ own x x_in x_is ∙ sym (own y y_in y_is)
-              | inr y_not ↦ own x x_in x_is ∙ h.joined part earlier link.to y l.to_in y_in
-                  (sym taken ∙ (ap new (sym x_is) ∙ (same ∙ other (label y) y_not)))
-            ]
-            | inr x_not ↦ elim (cases_eq (label y) c) [
-              | inl y_is ↦ h.joined part earlier x link.to x_in l.to_in
-                  (sym (other (label x) x_not) ∙ (same ∙ (ap new y_is ∙ taken))) ∙ sym (own y y_in y_is)
-              | inr y_not ↦ h.joined part earlier x y x_in y_in (sym (other (label x) x_not) ∙ (same ∙ other (label y) y_not))
-            ]
-          ];
     }
 
--- each node alone
-pub forest_start : (n : ℕ) (w : ℕ → ℕ → ℤ) (label : ℕ → ℕ) → ((x : ℕ) → x < n → label x ≡ x) → IsForest n w label []
-forest_start n w label own = record {
+-- no pair yet
+pub forest_start : (n : ℕ) (w : ℕ → ℕ → ℤ) (label : ℕ → ℕ) → IsForest n w label []
+forest_start n w label = record {
   joins = tt;
   ends = All-nil (λ pair. (pair.0 < n) × (pair.1 < n));
   within = All-nil (λ pair. label pair.0 ≡ label pair.1);
-  joined = λ part free x y x_in y_in same. ap part (sym (own x x_in) ∙ (same ∙ own y y_in));
 }
 
 -- the same labels by another name
@@ -131,17 +107,18 @@ forest_relabelled n w label other added same h = record {
   within = λ k d low.
       let ends = h.ends k d low in
       same (get_or added k d).0 ends.0 ∙ (h.within k d low ∙ sym (same (get_or added k d).1 ends.1));
-  joined = λ part free x y x_in y_in e. h.joined part free x y x_in y_in (sym (same x x_in) ∙ (e ∙ same y y_in));
 }
 
--- ---- the lists as the code shows them
+-- ---- as the code shows them
 
-pub met_kept : (met : List Bool) (c d x : ℕ) → c < length met → d < length met → get_or met x false ≡ true → get_or (set (set met c true) d true) x false ≡ true
-met_kept met c d x c_in d_in h = set_kept (set met c true) d x (set_kept met c x h)
-  where
-    set_kept : (marks : List Bool) (i x : ℕ) → get_or marks x false ≡ true → get_or (set marks i true) x false ≡ true
-    set_kept [] i x h = absurd (false≢true h)
-    set_kept (b ∷ bs) zero zero h = refl
-    set_kept (b ∷ bs) zero (suc x) h = h
-    set_kept (b ∷ bs) (suc i) zero h = h
-    set_kept (b ∷ bs) (suc i) (suc x) h = set_kept bs i x h
+pub set_kept : (marks : List Bool) (i x : ℕ) → get_or marks x false ≡ true → get_or (set marks i true) x false ≡ true
+set_kept [] i x h = absurd (false≢true h)
+set_kept (b ∷ bs) zero zero h = refl
+set_kept (b ∷ bs) zero (suc x) h = h
+set_kept (b ∷ bs) (suc i) zero h = h
+set_kept (b ∷ bs) (suc i) (suc x) h = set_kept bs i x h
+
+pub forest_seen : (m n : ℕ) (v w : ℕ → ℕ → ℤ) (label other : ℕ → ℕ) (added : List (ℕ × ℕ)) → m ≡ n → v ≡ w → ((x : ℕ) → x < m → other x ≡ label x)
+    → IsForest m v label added → IsForest n w other added
+forest_seen m n v w label other added p q same h = subst (λ (k : ℕ). IsForest k w other added) p
+    (subst (λ (u : ℕ → ℕ → ℤ). IsForest m u other added) q (forest_relabelled m v label other added same h))

@@ -57,6 +57,11 @@ kept_relabelled n w label new other known same h = record {
       };
 }
 
+pub kept_seen : (m n : ℕ) (v w : ℕ → ℕ → ℤ) (label new other : ℕ → ℕ) (known : List Link) → m ≡ n → v ≡ w → ((x : ℕ) → x < m → other x ≡ new (label x))
+    → AreKept m v label known → AreKept n w other known
+kept_seen m n v w label new other known p q same h = subst (λ (k : ℕ). AreKept k w other known) p
+    (subst (λ (u : ℕ → ℕ → ℤ). AreKept m u other known) q (kept_relabelled m v label new other known same h))
+
 pub kept_set : (n : ℕ) (w : ℕ → ℕ → ℤ) (label : ℕ → ℕ) (known : List Link) (x : ℕ) (link : Link) → x < n → AreKept n w label known → IsKept n w label x link
     → AreKept n w label (set known x link)
 kept_set n w label known x link x_in h own = record {

@@ -5,7 +5,9 @@ use Rattle.tsp_bound.specs.declared.area.Area.{Area}
 use Rattle.tsp_bound.specs.declared.outside.Link.{Link}
 use Rattle.tsp_bound.specs.Boxes.{AreHeld, box_at}
 use Rattle.tsp_bound.specs.Heap.{IsBelow}
-use Rattle.tsp_theory.specs.Forest.{IsUncrossed, AreLeastJoins}
+use Rattle.tsp_theory.specs.Forest.{AreLeastJoins, IsWholeForest}
+use Rattle.tsp_theory.specs.Numbers.{IsSumSized}
+use Rattle.tsp_theory.specs.Tree.{weight_of}
 
 abbrev pub label_at : List ℕ → ℕ → ℕ
 label_at labels x = slice_index_or labels x 0
@@ -78,16 +80,20 @@ pub record IsOffered (old : Option Link) (link new : Link) : Type 0 where
 
 -- ---- the forest
 
--- least joins so far: the two ends of each pair have the same label, and each component is joined by its pairs
+-- least joins so far, the two ends of each with the same label
 pub record IsForest (n : ℕ) (w : ℕ → ℕ → ℤ) (label : ℕ → ℕ) (added : List (ℕ × ℕ)) : Type 0 where
   pub joins : AreLeastJoins (IsBelow n) w [] added
   pub ends : All (λ pair. (pair.0 < n) × (pair.1 < n)) added
   pub within : All (λ pair. label pair.0 ≡ label pair.1) added
-  pub joined : (part : ℕ → Bool) → IsUncrossed part added
-      → (x y : ℕ) → x < n → y < n → label x ≡ label y → part x ≡ part y
 
 -- as many as a tree over the places has
 pub record IsSpanning (n : ℕ) (w : ℕ → ℕ → ℤ) (added : List (ℕ × ℕ)) : Type 0 where
   pub joins : AreLeastJoins (IsBelow n) w [] added
   pub ends : All (λ pair. (pair.0 < n) × (pair.1 < n)) added
   pub count : length added + 1 ≡ n
+
+-- least joins over 2..n, as many as a tree has, and the sum of their weights
+pub record IsWeighedForest (n : ℕ) (w : ℕ → ℕ → ℤ) (added : List (ℕ × ℕ)) (sum : ℤ) : Type 0 where
+  pub whole : IsWholeForest n w added
+  pub weight : sum ≡ weight_of w added
+  pub size : IsSumSized (length added) sum

@@ -27,8 +27,8 @@ pub(crate) struct Labelled<'a, C: Grouped> {
     ghost as_many_tags: { length tags.items ≡ 2 * length placed.order.now },
     ghost tagged: { AreTags labels.items tags.items },
     ghost boxes: { length areas.items ≡ 2 * length placed.order.now },
-    ghost held: { AreHeld (HoldsNode (C.place placed.w.now.c.now) (numbers_of placed.w.now.p.now))
-        placed.order.now (λ _. true) (area_at areas.items) } by { AreHeld-prop (C.place placed.w.now.c.now) (numbers_of placed.w.now.p.now) placed.order.now (λ _. true) (area_at areas.items) },
+    ghost held: { AreHeld (HoldsNode (C.place placed.c.now) (numbers_of placed.p))
+        placed.order.now (λ _. true) (area_at areas.items) } by { AreHeld-prop (C.place placed.c.now) (numbers_of placed.p) placed.order.now (λ _. true) (area_at areas.items) },
 }
 
 /// The labels 0..count.
@@ -70,11 +70,14 @@ impl<'a, C: Grouped> Labelled<'a, C> {
         alloc: Global,
         placed: Placed<'a, C>,
     ) -> Result<Option<Labelled<'a, C>>, AllocError>
-        ensures placed { IfOk result (λ made. IfSome made (λ labelled. labelled.placed ≡ placed.entry)) }
+        ensures order { IfOk result (λ made. IfSome made (λ labelled. labelled.placed.order.now ≡ placed.entry.order.now)) }
+        ensures costs { IfOk result (λ made. IfSome made (λ labelled. labelled.placed.c.now ≡ placed.entry.c.now)) }
+        ensures potentials { IfOk result (λ made. IfSome made (λ labelled. labelled.placed.p ≡ placed.entry.p)) }
+        ensures multipliers { IfOk result (λ made. IfSome made (λ labelled. labelled.placed.m.now ≡ placed.entry.m.now)) }
         ensures own { IfOk result (λ made. IfSome made (λ labelled. (x : ℕ) → x < length placed.entry.order.now
             → label_at labelled.labels.items x ≡ x)) }
     {
-        let Some(areas) = boxes_of(alloc, placed.w.c, placed.w.p, placed.order)? else {
+        let Some(areas) = boxes_of(alloc, placed.c, &placed.p, placed.order)? else {
             return Ok(None);
         };
         let count = placed.order.len();
@@ -130,8 +133,8 @@ impl<C: Grouped> Components for Labelled<'_, C> {
 
     ghost count_of = { λ s. length s.placed.order.now };
 
-    ghost weight_of = { λ s i j. weight_less s.placed.w.now.p.now (triples_in s.placed.w.now.m.now)
-        (C.at s.placed.w.now.c.now) (node_of s.placed.order.now i) (node_of s.placed.order.now j) };
+    ghost weight_of = { λ s i j. weight_less s.placed.p (triples_in s.placed.m.now)
+        (C.at s.placed.c.now) (node_of s.placed.order.now i) (node_of s.placed.order.now j) };
 
     ghost label_of = { λ s x. label_at s.labels.items x };
 

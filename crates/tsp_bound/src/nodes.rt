@@ -20,8 +20,8 @@ pub(crate) struct Nodes<'a, C: Grouped> {
     areas: Vec<Option<Area>>,
     ghost as_many: { length outside.items ≡ length placed.order.now },
     ghost boxes: { length areas.items ≡ 2 * length placed.order.now },
-    ghost held: { AreHeld (HoldsNode (C.place placed.w.now.c.now) (numbers_of placed.w.now.p.now))
-        placed.order.now (is_outside outside.items) (area_at areas.items) } by { AreHeld-prop (C.place placed.w.now.c.now) (numbers_of placed.w.now.p.now) placed.order.now (is_outside outside.items) (area_at areas.items) },
+    ghost held: { AreHeld (HoldsNode (C.place placed.c.now) (numbers_of placed.p))
+        placed.order.now (is_outside outside.items) (area_at areas.items) } by { AreHeld-prop (C.place placed.c.now) (numbers_of placed.p) placed.order.now (is_outside outside.items) (area_at areas.items) },
 }
 
 impl<'a, C: Grouped> Nodes<'a, C> {
@@ -36,11 +36,14 @@ impl<'a, C: Grouped> Nodes<'a, C> {
         alloc: Global,
         placed: Placed<'a, C>,
     ) -> Result<Option<Nodes<'a, C>>, AllocError>
-        ensures placed { IfOk result (λ made. IfSome made (λ nodes. nodes.placed ≡ placed.entry)) }
+        ensures order { IfOk result (λ made. IfSome made (λ nodes. nodes.placed.order.now ≡ placed.entry.order.now)) }
+        ensures costs { IfOk result (λ made. IfSome made (λ nodes. nodes.placed.c.now ≡ placed.entry.c.now)) }
+        ensures potentials { IfOk result (λ made. IfSome made (λ nodes. nodes.placed.p ≡ placed.entry.p)) }
+        ensures multipliers { IfOk result (λ made. IfSome made (λ nodes. nodes.placed.m.now ≡ placed.entry.m.now)) }
         ensures outside { IfOk result (λ made. IfSome made (λ nodes. (x : ℕ) → x < length placed.entry.order.now
             → is_outside nodes.outside.items x ≡ true)) }
     {
-        let Some(areas) = boxes_of(alloc, placed.w.c, placed.w.p, placed.order)? else {
+        let Some(areas) = boxes_of(alloc, placed.c, &placed.p, placed.order)? else {
             return Ok(None);
         };
         let outside = vec![in alloc; true; placed.order.len()]?;
@@ -78,8 +81,8 @@ impl<C: Grouped> Outside for Nodes<'_, C> {
 
     ghost count_of = { λ s. length s.placed.order.now };
 
-    ghost weight_of = { λ s i j. weight_less s.placed.w.now.p.now (triples_in s.placed.w.now.m.now)
-        (C.at s.placed.w.now.c.now) (node_of s.placed.order.now i) (node_of s.placed.order.now j) };
+    ghost weight_of = { λ s i j. weight_less s.placed.p (triples_in s.placed.m.now)
+        (C.at s.placed.c.now) (node_of s.placed.order.now i) (node_of s.placed.order.now j) };
 
     ghost outside_of = { λ s x. is_outside s.outside.items x };
 

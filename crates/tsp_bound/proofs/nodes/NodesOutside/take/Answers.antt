@@ -12,7 +12,7 @@ invariant_of-self g c =
     record {
       as_many = length-set s.outside.items c.args.node _ ∙ s.as_many;
       boxes = c.raise.ensures.len;
-      held = held_taken (HoldsNode (g.C.Grouped.place at.w.now.c.now) (numbers_of at.w.now.p.now)) at.order.now s.outside.items s.areas.items c.raise.new.areas.items
+      held = held_taken (HoldsNode (g.C.Grouped.place at.c.now) (numbers_of at.p)) at.order.now s.outside.items s.areas.items c.raise.new.areas.items
           (length at.order.now) c.args.node None refl s.boxes c.requires
-          (omega (arith, s.as_many, c.requires)) (c.raise.ensures.keeps (g.C.Grouped.place at.w.now.c.now) (numbers_of at.w.now.p.now)) s.held;
+          (omega (arith, s.as_many, c.requires)) (c.raise.ensures.keeps (g.C.Grouped.place at.c.now) (numbers_of at.p)) s.held;
     }

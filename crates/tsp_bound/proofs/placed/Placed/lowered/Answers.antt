@@ -23,9 +23,9 @@ overflow_sub-weight g c =
 pub lowerings-preserved : goal.lowerings-preserved
 lowerings-preserved g c =
     let s = c.args.self.now in
-    let n = g.C.Costs.nodes s.w.now.c.now in
-    let w = weight_under s.w.now.p.now (g.C.Costs.at s.w.now.c.now) in
-    let v = weight_less s.w.now.p.now (triples_in s.w.now.m.now) (g.C.Costs.at s.w.now.c.now) in
+    let n = g.C.Costs.nodes s.c.now in
+    let w = weight_under s.p (g.C.Costs.at s.c.now) in
+    let v = weight_less s.p (triples_in s.m.now) (g.C.Costs.at s.c.now) in
     let node : ℕ = node_of s.order.now c.args.from in
     let lowerings = c.at-lowering-items.result.now in
     let are = c.at-lowering-items.ensures.are in
@@ -45,9 +45,9 @@ lowerings-preserved g c =
           let better : to_z w64 (of_z w64 lower) ≤ℤ best.weight = less_seen (to_z w64 (of_z w64 lower)) best.weight best_fits u.if-weight-best.true in
           let back : to_z w64 (of_z w64 lower) ≡ lower = to_z-of_z w64 lower fits in
           let found = u.in-Some.ensures in
-          rw u.best-is (lowest_taken n (node_count s.w.now.m.now) w v lowerings s.order.now s.places.now (g.S.Seen.outside_of c.args.seen.now) node index c.args.unlowered best _ entry.0
+          rw u.best-is (lowest_taken n (node_count s.m.now) w v lowerings s.order.now s.places.now (g.S.Seen.outside_of c.args.seen.now) node index c.args.unlowered best _ entry.0
           entry.1 places are less c.lowerings-test.true is
-          (subst (λ (k : ℕ). IsInner k entry.0) s.w.now.over found.0) found.1 found.2 (back ∙ value) (subst (FitsSigned w64) (sym back) fits) better c.lowerings.invariant)
+          (subst (λ (k : ℕ). IsInner k entry.0) s.over found.0) found.1 found.2 (back ∙ value) (subst (FitsSigned w64) (sym back) fits) better c.lowerings.invariant)
       | in-Some+else-weight-best u ↦
           let lower : ℤ = to_z w64 (of_z w64 u.weight.result) -ℤ to_z w64 (of_z w64 entry.1) in
           let fits = lower_fits u.weight.result entry.1 u.weight.ensures.size own.1 in
@@ -57,18 +57,18 @@ lowerings-preserved g c =
           rw u.best-is (lowest_kept n w v lowerings s.order.now s.places.now (g.S.Seen.outside_of c.args.seen.now) node index c.args.unlowered best entry.0 entry.1 is (λ in_x out_x. below) c.lowerings.invariant)
       | in_default u ↦
           rw u.best-is (lowest_kept n w v lowerings s.order.now s.places.now (g.S.Seen.outside_of c.args.seen.now) node index c.args.unlowered best entry.0 entry.1 is
-          (λ in_x out_x. absurd (false≢true (sym (u.in_default.ensures (subst (λ (k : ℕ). IsInner k entry.0) (sym s.w.now.over) in_x)) ∙ out_x))) c.lowerings.invariant)
+          (λ in_x out_x. absurd (false≢true (sym (u.in_default.ensures (subst (λ (k : ℕ). IsInner k entry.0) (sym s.over) in_x)) ∙ out_x))) c.lowerings.invariant)
     ]
 
 pub returns : goal.returns
 returns g c =
     let s = c.args.self.now in
-    let n = g.C.Costs.nodes s.w.now.c.now in
-    let w = weight_under s.w.now.p.now (g.C.Costs.at s.w.now.c.now) in
-    let v = weight_less s.w.now.p.now (triples_in s.w.now.m.now) (g.C.Costs.at s.w.now.c.now) in
+    let n = g.C.Costs.nodes s.c.now in
+    let w = weight_under s.p (g.C.Costs.at s.c.now) in
+    let v = weight_less s.p (triples_in s.m.now) (g.C.Costs.at s.c.now) in
     let node : ℕ = node_of s.order.now c.args.from in
     let lowerings = c.at-lowering-items.result.now in
     let less : AreLess w v lowerings node = record { less = λ x. let sum = c.at-lowering-items.ensures.sums x in omega (arith, ints, sum) } in
     let places : ArePlaces n s.order.now s.places.now = record { inner = s.inner; placed = s.placed; back = s.back; there = s.there } in
-    lowest_end n (node_count s.w.now.m.now) w v lowerings s.order.now s.places.now (g.S.Seen.outside_of c.args.seen.now) node c.lowerings.lowering-index c.args.unlowered c.lowerings.best (omega arith) places
+    lowest_end n (node_count s.m.now) w v lowerings s.order.now s.places.now (g.S.Seen.outside_of c.args.seen.now) node c.lowerings.lowering-index c.args.unlowered c.lowerings.best (omega arith) places
     c.at-lowering-items.ensures.are less c.requires.best c.lowerings.invariant

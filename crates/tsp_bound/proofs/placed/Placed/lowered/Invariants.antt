@@ -6,5 +6,5 @@ use Rattle.tsp_bound.proofs.placed.Placed.lowered.Given as goal
 abbrev pub invariant-lowerings : goal.invariant-lowerings
 invariant-lowerings g l =
     let s = l.self in
-    IsLowest (g.C.Costs.nodes s.w.now.c.now) (weight_under s.w.now.p.now (g.C.Costs.at s.w.now.c.now)) (weight_less s.w.now.p.now (triples_in s.w.now.m.now) (g.C.Costs.at s.w.now.c.now)) l.lowering-items
+    IsLowest (g.C.Costs.nodes s.c.now) (weight_under s.p (g.C.Costs.at s.c.now)) (weight_less s.p (triples_in s.m.now) (g.C.Costs.at s.c.now)) l.lowering-items
     s.order.now s.places.now (g.S.Seen.outside_of l.seen) l.node l.lowering-index l.fn.unlowered l.best

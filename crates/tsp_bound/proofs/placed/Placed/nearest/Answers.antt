@@ -10,14 +10,14 @@ use Rattle.tsp_bound.proofs.placed.Placed.nearest.Goals as goal
 pub lowered-best-requires-clause-best : goal.lowered-best-requires-clause-best
 lowered-best-requires-clause-best g c =
     let s = c.args.self.now in
-    let w = weight_under s.w.now.p.now (g.C.Costs.at s.w.now.c.now) in
+    let w = weight_under s.p (g.C.Costs.at s.c.now) in
     searched_best w s.order.now (g.S.Seen.outside_of c.args.seen.now) (node_of s.order.now c.args.from) c.nearest_from-unlowered.result c.nearest_from-unlowered.ensures
 
 pub returns : goal.returns
 returns g c =
     let s = c.args.self.now in
     let outside = g.S.Seen.outside_of c.args.seen.now in
-    let w = weight_less s.w.now.p.now (triples_in s.w.now.m.now) (g.C.Costs.at s.w.now.c.now) in
+    let w = weight_less s.p (triples_in s.m.now) (g.C.Costs.at s.c.now) in
     let best = c.lowered-best.result in
     let fits : SFits w64 c.lowered-best.result.weight = search rules in
     let other : c.lowered-best.result.weight ≢ pos 9223372036854775807 = λ e. c.if-best-eq9223372036854775807.false (ap (of_z w64) e) in
