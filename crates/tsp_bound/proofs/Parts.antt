@@ -52,7 +52,7 @@ forest_of order places last w pairs named sum count num spanning named_is sum_is
   whole = subst (IsWholeForest last w) (sym named_is) (record {
     joins = joins_rename (length order) last (node_of order) (λ x. slice_index_or places x 0) w (λ i j. w (node_of order i) (node_of order j)) pairs num (λ i j i_in j_in. refl)
         spanning.ends spanning.joins;
-    count = omega (arith, length-map (on_both (node_of order)) pairs, spanning.count, count);
+    count = omega (arith, length-map pairs (on_both (node_of order)), spanning.count, count);
   });
   weight = sum_is;
   size = size;
@@ -108,3 +108,7 @@ part_of order places last start w pairs named sum some num is grows named_is sum
 pub if_ok_all : {X Y : Type 0} (r : Result X Y) (P Q R S : X → Type 0) → ((x : X) → P x → Q x → R x → S x) → IfOk r P → IfOk r Q → IfOk r R → IfOk r S
 if_ok_all (Ok x) P Q R S all p q r = all x p q r
 if_ok_all (Err e) P Q R S all p q r = tt
+
+pub if_ok_more : {X Y : Type 0} (r : Result X Y) (P Q : X → Type 0) → ((x : X) → P x → Q x) → IfOk r P → IfOk r Q
+if_ok_more (Ok x) P Q more p = more x p
+if_ok_more (Err e) P Q more p = tt

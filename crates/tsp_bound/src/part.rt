@@ -59,7 +59,8 @@ pub(crate) fn grow<C: Grouped>(alloc: Global, w: &Weights<C>) -> Result<Grown, A
 ///
 /// Out of memory.
 fn inner_order<C: Grouped>(alloc: Global, c: &C) -> Result<Option<Vec<u32>>, AllocError>
-    ensures { IfOk result (λ found. IfSome found (λ order. length order.items + 1 ≡ C.nodes c.now)) }
+    ensures count { IfOk result (λ found. IfSome found (λ order. length order.items + 1 ≡ C.nodes c.now)) }
+    ensures few { IfOk result (λ found. IfSome found (λ order. length order.items ≤ most_nodes)) }
 {
     let mut order = c.order(alloc)?;
     order.retain(|node| *node != 1);
