@@ -1,5 +1,7 @@
 pub mod Boxed
 pub mod HeapSteps
+pub mod Joining
+pub mod Known
 pub mod Lowered
 pub mod Lowest
 pub mod Marks

@@ -7,8 +7,8 @@ use Rattle.std.proofs.lemmas.Bool.{cases_eq}
 use Rattle.std.proofs.lemmas.Int.{ints}
 use Rattle.std.proofs.lemmas.List.Elements.{recursion_from_All}
 use Rattle.tsp_format.specs.Limits.{most_multiplier}
-use Rattle.tsp_bound.specs.declared.boxes.Best.{Best}
-use Rattle.tsp_bound.specs.Boxes.{node_of, is_outside, IsFound, IsBest, IsSearched, no_best}
+use Rattle.tsp_bound.specs.declared.nearest.Best.{Best}
+use Rattle.tsp_bound.specs.Boxes.{node_of, IsFound, IsBest, IsSearched, no_best}
 use Rattle.tsp_bound.specs.ByNode.{lowered_by, AreLowerings}
 use Rattle.tsp_theory.specs.Numbers.{IsFromTo}
 use Rattle.tsp_theory.specs.Tree.{IsInner}
@@ -16,7 +16,7 @@ use Rattle.tsp_bound.proofs.Lowered.{AreLess, none_lowered, one_lowered, lowered
 use Rattle.tsp_bound.proofs.Trees.{searched_all}
 
 -- what the search of all boxes says
-pub searched_best : (w : ℕ → ℕ → ℤ) (order : List ℕ) (outside : List Bool) (from : ℕ) (best : Best) → IsSearched w order outside from 1 no_best best → IsBest w order outside from best
+pub searched_best : (w : ℕ → ℕ → ℤ) (order : List ℕ) (outside : ℕ → Bool) (from : ℕ) (best : Best) → IsSearched w order outside from 1 no_best best → IsBest w order outside from best
 searched_best w order outside from best all = record {
   least = searched_all w order outside from no_best best all;
   found = all.found;
@@ -30,14 +30,14 @@ pub record ArePlaces (n : ℕ) (order places : List ℕ) : Type 0 where
   pub there : (x : ℕ) → IsInner n x → node_of order (slice_index_or places x 0) ≡ x
 
 -- after this many of the lowerings
-pub record IsLowest (n : ℕ) (w v : ℕ → ℕ → ℤ) (lowerings : List (ℕ × ℤ)) (order places : List ℕ) (outside : List Bool) (from count : ℕ) (old best : Best) : Type 0 where
+pub record IsLowest (n : ℕ) (w v : ℕ → ℕ → ℤ) (lowerings : List (ℕ × ℤ)) (order places : List ℕ) (outside : ℕ → Bool) (from count : ℕ) (old best : Best) : Type 0 where
   pub fits : FitsSigned w64 best.weight
   pub kept : best.weight ≤ℤ old.weight
-  pub seen : (k x : ℕ) (number : ℤ) → k < count → get_or lowerings k (x, number) ≡ (x, number) → IsInner n x → is_outside outside (slice_index_or places x 0) ≡ true
+  pub seen : (k x : ℕ) (number : ℤ) → k < count → get_or lowerings k (x, number) ≡ (x, number) → IsInner n x → outside (slice_index_or places x 0) ≡ true
       → best.weight ≤ℤ (w from x -ℤ number)
   pub found : (best ≡ old) ⊎ IsFound v order outside from best
 
-pub lowest_start : (n : ℕ) (w v : ℕ → ℕ → ℤ) (lowerings : List (ℕ × ℤ)) (order places : List ℕ) (outside : List Bool) (from : ℕ) (old : Best)
+pub lowest_start : (n : ℕ) (w v : ℕ → ℕ → ℤ) (lowerings : List (ℕ × ℤ)) (order places : List ℕ) (outside : ℕ → Bool) (from : ℕ) (old : Best)
     → FitsSigned w64 old.weight → IsLowest n w v lowerings order places outside from 0 old old
 lowest_start n w v lowerings order places outside from old fits = record {
   fits = fits;
@@ -47,8 +47,8 @@ lowest_start n w v lowerings order places outside from old fits = record {
 }
 
 -- one more, of a node that isn't better
-pub lowest_kept : (n : ℕ) (w v : ℕ → ℕ → ℤ) (lowerings : List (ℕ × ℤ)) (order places : List ℕ) (outside : List Bool) (from count : ℕ) (old best : Best) (node : ℕ) (number : ℤ)
-    → ((d : ℕ × ℤ) → get_or lowerings count d ≡ (node, number)) → (IsInner n node → is_outside outside (slice_index_or places node 0) ≡ true → best.weight ≤ℤ (w from node -ℤ number))
+pub lowest_kept : (n : ℕ) (w v : ℕ → ℕ → ℤ) (lowerings : List (ℕ × ℤ)) (order places : List ℕ) (outside : ℕ → Bool) (from count : ℕ) (old best : Best) (node : ℕ) (number : ℤ)
+    → ((d : ℕ × ℤ) → get_or lowerings count d ≡ (node, number)) → (IsInner n node → outside (slice_index_or places node 0) ≡ true → best.weight ≤ℤ (w from node -ℤ number))
     → IsLowest n w v lowerings order places outside from count old best → IsLowest n w v lowerings order places outside from (count + 1) old best
 lowest_kept n w v lowerings order places outside from count old best node number entry own h = record {
   fits = h.fits;
@@ -58,7 +58,7 @@ lowest_kept n w v lowerings order places outside from count old best node number
         let same : (node, number) ≡ (x, other) = sym (entry (x, other)) ∙ (ap (λ (i : ℕ). get_or lowerings i (x, other)) (sym here) ∙ is) in
         let at_node : node ≡ x = ap (λ (e : ℕ × ℤ). e.0) same in
         let at_number : number ≡ other = ap (λ (e : ℕ × ℤ). e.1) same in
-        let below : best.weight ≤ℤ (w from node -ℤ number) = own (subst (IsInner n) (sym at_node) inner) (ap (λ (y : ℕ). is_outside outside (slice_index_or places y 0)) at_node ∙ out) in
+        let below : best.weight ≤ℤ (w from node -ℤ number) = own (subst (IsInner n) (sym at_node) inner) (ap (λ (y : ℕ). outside (slice_index_or places y 0)) at_node ∙ out) in
         subst (λ (z : ℤ). best.weight ≤ℤ (w from x -ℤ z)) at_number (subst (λ (y : ℕ). best.weight ≤ℤ (w from y -ℤ number)) at_node below)
     | inr apart ↦ h.seen k x other (omega (arith, low, apart)) is inner out
   ];
@@ -66,9 +66,9 @@ lowest_kept n w v lowerings order places outside from count old best node number
 }
 
 -- one more, of a node that is
-pub lowest_taken : (n m : ℕ) (w v : ℕ → ℕ → ℤ) (lowerings : List (ℕ × ℤ)) (order places : List ℕ) (outside : List Bool) (from count : ℕ) (old best new : Best) (node : ℕ) (number : ℤ)
+pub lowest_taken : (n m : ℕ) (w v : ℕ → ℕ → ℤ) (lowerings : List (ℕ × ℤ)) (order places : List ℕ) (outside : ℕ → Bool) (from count : ℕ) (old best new : Best) (node : ℕ) (number : ℤ)
     → ArePlaces n order places → AreLowerings m lowerings → AreLess w v lowerings from → count < length lowerings → ((d : ℕ × ℤ) → get_or lowerings count d ≡ (node, number))
-    → IsInner n node → new.place ≡ slice_index_or places node 0 → is_outside outside new.place ≡ true → new.weight ≡ w from node -ℤ number → FitsSigned w64 new.weight → new.weight ≤ℤ best.weight
+    → IsInner n node → new.place ≡ slice_index_or places node 0 → outside new.place ≡ true → new.weight ≡ w from node -ℤ number → FitsSigned w64 new.weight → new.weight ≤ℤ best.weight
     → IsLowest n w v lowerings order places outside from count old best → IsLowest n w v lowerings order places outside from (count + 1) old new
 lowest_taken n m w v lowerings order places outside from count old best new node number are lower less long entry inner place out weight fits better h =
     let before : IsLowest n w v lowerings order places outside from count old new = record {
@@ -100,9 +100,9 @@ lowering_of (l ∷ ls) x = elim (cases_eq l.0 x) [
   ]
 ]
 
-lowest_least : (n m : ℕ) (w v : ℕ → ℕ → ℤ) (lowerings : List (ℕ × ℤ)) (order places : List ℕ) (outside : List Bool) (from : ℕ) (old best : Best)
+lowest_least : (n m : ℕ) (w v : ℕ → ℕ → ℤ) (lowerings : List (ℕ × ℤ)) (order places : List ℕ) (outside : ℕ → Bool) (from : ℕ) (old best : Best)
     → ArePlaces n order places → AreLowerings m lowerings → AreLess w v lowerings from → IsBest w order outside from old
-    → IsLowest n w v lowerings order places outside from (length lowerings) old best → (j : ℕ) → j < length order → is_outside outside j ≡ true → best.weight ≤ℤ v from (node_of order j)
+    → IsLowest n w v lowerings order places outside from (length lowerings) old best → (j : ℕ) → j < length order → outside j ≡ true → best.weight ≤ℤ v from (node_of order j)
 lowest_least n m w v lowerings order places outside from old best are lower less first h j j_in out =
     let x : ℕ = node_of order j in
     let own : v from x ≡ w from x -ℤ lowered_by lowerings x = less.less x in
@@ -113,12 +113,12 @@ lowest_least n m w v lowerings order places outside from old best are lower less
           let kept = h.kept in
           omega (arith, ints, nothing, below, own, kept)
       | inr found ↦
-          let below : best.weight ≤ℤ (w from x -ℤ found.1) = h.seen found.0 x found.1 found.2 found.3 (are.inner j j_in) (ap (is_outside outside) (are.back j j_in) ∙ out) in
+          let below : best.weight ≤ℤ (w from x -ℤ found.1) = h.seen found.0 x found.1 found.2 found.3 (are.inner j j_in) (ap outside (are.back j j_in) ∙ out) in
           let one = one_lowered lowerings x found.0 found.1 lower.once found.2 found.3 in
           omega (arith, ints, below, own, one)
     ]
 
-pub lowest_end : (n m : ℕ) (w v : ℕ → ℕ → ℤ) (lowerings : List (ℕ × ℤ)) (order places : List ℕ) (outside : List Bool) (from count : ℕ) (old best : Best) → count ≡ length lowerings
+pub lowest_end : (n m : ℕ) (w v : ℕ → ℕ → ℤ) (lowerings : List (ℕ × ℤ)) (order places : List ℕ) (outside : ℕ → Bool) (from count : ℕ) (old best : Best) → count ≡ length lowerings
     → ArePlaces n order places → AreLowerings m lowerings → AreLess w v lowerings from → IsBest w order outside from old
     → IsLowest n w v lowerings order places outside from count old best → IsBest v order outside from best
 lowest_end n m w v lowerings order places outside from count old best all are lower less first h =

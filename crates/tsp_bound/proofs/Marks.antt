@@ -56,33 +56,3 @@ ends_in n w (e ∷ es) grown inner g = All-cons (λ pair. (pair.0 < n) × (pair.
 pub ends_below : (n start : ℕ) (w : ℕ → ℕ → ℤ) (added : List (ℕ × ℕ)) → start < n → Grows (IsBelow n) w (λ x. x == start) added
     → All (λ pair. (pair.0 < n) × (pair.1 < n)) added
 ends_below n start w added start_in g = ends_in n w added (λ x. x == start) (λ x h. omega (arith, eqb-true x start h, start_in)) g
-
--- ---- a growth with as many pairs as a tree has is whole
-
--- the first two are none, so two fewer than all are inside
-few_inner : (inside : List Bool) → 2 ≤ length inside → is_inside inside 0 ≡ false → is_inside inside 1 ≡ false → insiders inside + 2 ≤ length inside
-few_inner [] some none one = absurd (omega arith)
-few_inner (a ∷ []) some none one = absurd (omega arith)
-few_inner (true ∷ b ∷ inside) some none one = absurd (false≢true (sym none))
-few_inner (false ∷ true ∷ inside) some none one = absurd (false≢true (sym one))
-few_inner (false ∷ false ∷ inside) some none one = omega (arith, insiders_few inside, sum_by-cons one_if false (false ∷ inside), sum_by-cons one_if false inside)
-
-all_inner : (inside : List Bool) (x : ℕ) → is_inside inside 0 ≡ false → is_inside inside 1 ≡ false → insiders inside + 2 ≡ length inside → 2 ≤ x → x < length inside → is_inside inside x ≡ true
-all_inner inside x none one count low high = true_from_ne_false (is_inside inside x) (λ free.
-    let zero_kept : is_inside (set inside x true) 0 ≡ false = get_or-set_other inside x 0 true false (λ e. omega (arith, e, low)) ∙ none in
-    let one_kept : is_inside (set inside x true) 1 ≡ false = get_or-set_other inside x 1 true false (λ e. omega (arith, e, low)) ∙ one in
-    let size : length (set inside x true) ≡ length inside = length-set inside x true in
-    absurd (omega (arith, few_inner (set inside x true) (omega (arith, size, low, high)) zero_kept one_kept, insiders_more inside x high free, size, count)))
-
-pub whole_growth : (n : ℕ) (w : ℕ → ℕ → ℤ) (added : List (ℕ × ℕ)) → 3 ≤ n → Grows (IsInner n) w (λ x. x == 2) added → 2 + length added ≡ n → IsWholeGrowth n w added
-whole_growth n w added some g count =
-    let all = marks_from (IsInner n) (n + 1) 2 w added (λ x h. omega (arith, h)) (omega (arith, some)) g in
-    let nodes : (x : ℕ) → is_inside all.0 x ≡ true → IsInner n x = λ x h.
-    grown_by_nodes (IsInner n) w added (λ y. y == 2) g (λ y k. let e = eqb-true y 2 k in (omega (arith, e), omega (arith, e, some))) x (sym (all.1.marks x) ∙ h) in
-    let none : is_inside all.0 0 ≡ false = false_from_ne_true (is_inside all.0 0) (λ h. let inner = nodes 0 h in absurd (omega (arith, inner.0))) in
-    let one : is_inside all.0 1 ≡ false = false_from_ne_true (is_inside all.0 1) (λ h. let inner = nodes 1 h in absurd (omega (arith, inner.0))) in
-    record {
-      grows = g;
-      reached = λ x h. sym (all.1.marks x) ∙ all_inner all.0 x none one (omega (arith, all.1.count_is, all.1.len, count)) h.0 (omega (arith, h.1, all.1.len));
-      count = count;
-    }

@@ -2,13 +2,12 @@
 use Rattle.std.proofs.Common.{◌≡◌, ℕ, ◌+◌, ◌*◌, ◌^◌, ◌<◌, ◌≤◌, ◌==◌, List, [], ◌∷◌, ◌++◌, map, take, length, get_or, ℤ, refl, arith, ap, sym, ◌∙◌, subst, Result, Ok, Err, IfOk}
 use Rattle.std.specs.Prelude.{pos, neg_ℤ, ◌-ℤ◌, slice_index_or}
 use Rattle.std.proofs.lemmas.Int.{ints}
-use Rattle.std.proofs.lemmas.List.{take_more, map-append}
+use Rattle.std.proofs.lemmas.List.{take_more, map-append, length-map}
 use Rattle.tsp_format.specs.Limits.{most_nodes}
 use Rattle.tsp_format.specs.Cells.{IsNode}
 use Rattle.tsp_bound.specs.declared.potentials.Potentials.{Potentials}
 use Rattle.tsp_bound.specs.declared.by_node.ByNode.{ByNode}
 use Rattle.tsp_theory.specs.Adjusted.{numbers_on, adjusted}
-use Rattle.tsp_bound.specs.ByNode.{lowered_by}
 use Rattle.tsp_bound.specs.Multipliers.{triples_in, weight_less}
 use Rattle.tsp_bound.specs.Boxes.{node_of}
 use Rattle.tsp_theory.specs.Growth.{Grows, IsPartGrowth}
@@ -16,8 +15,9 @@ use Rattle.tsp_bound.specs.Heap.{IsBelow}
 use Rattle.tsp_bound.specs.Numbering.{IsNumbering, on_both}
 use Rattle.tsp_theory.specs.Numbers.{IsFromTo, IsSumSized}
 use Rattle.tsp_theory.specs.Tree.{IsInner, weight_of}
-use Rattle.tsp_theory.proofs.Adjustments.{numbers_turned}
-use Rattle.tsp_bound.proofs.Renaming.{growths_rename}
+use Rattle.tsp_theory.specs.Forest.{IsWholeForest}
+use Rattle.tsp_bound.specs.Components.{IsSpanning, IsWeighedForest}
+use Rattle.tsp_bound.proofs.Renaming.{growths_rename, joins_rename}
 
 pub map_more : (f : ℕ × ℕ → ℕ × ℕ) (xs : List (ℕ × ℕ)) (i : ℕ) (d : ℕ × ℕ) → i < length xs → map f (take (i + 1) xs) ≡ map f (take i xs) ++ f (get_or xs i d) ∷ []
 map_more f xs i d low = ap (map f) (take_more xs i d low) ∙ map-append f (take i xs) (get_or xs i d ∷ [])
@@ -39,11 +39,30 @@ over_nodes order places last start w v pairs some num is same grows =
 
 -- ---- the weight of a pair, less its multiplier
 
-pub less_value : (triples : List (ℕ × ℕ × ℤ)) (lowerings : List (ℕ × ℤ)) (w : ℕ → ℕ → ℤ) (from to : ℕ) (weight number : ℤ) → weight ≡ w from to → number ≡ lowered_by lowerings from
-    → lowered_by lowerings from ≡ numbers_on triples to from → weight -ℤ number ≡ adjusted triples [] w from to
-less_value triples lowerings w from to weight number weight_is number_is sums =
-    let turned = numbers_turned triples to from in
-    omega (arith, ints, weight_is, number_is, sums, turned)
+pub less_value : (triples : List (ℕ × ℕ × ℤ)) (w : ℕ → ℕ → ℤ) (from to : ℕ) (weight number : ℤ) → weight ≡ w from to → number ≡ numbers_on triples from to
+    → weight -ℤ number ≡ adjusted triples [] w from to
+less_value triples w from to weight number weight_is number_is = omega (arith, ints, weight_is, number_is)
+
+-- the pairs of rounds over the places, by their nodes
+pub forest_of : (order places : List ℕ) (last : ℕ) (w : ℕ → ℕ → ℤ) (pairs named : List (ℕ × ℕ)) (sum : ℤ) → length order + 1 ≡ last
+    → IsNumbering (length order) (IsInner last) (node_of order) (λ x. slice_index_or places x 0)
+    → IsSpanning (length order) (λ i j. w (node_of order i) (node_of order j)) pairs
+    → named ≡ map (on_both (node_of order)) pairs → sum ≡ weight_of w named → IsSumSized (length named) sum → IsWeighedForest last w named sum
+forest_of order places last w pairs named sum count num spanning named_is sum_is size = record {
+  whole = subst (IsWholeForest last w) (sym named_is) (record {
+    joins = joins_rename (length order) last (node_of order) (λ x. slice_index_or places x 0) w (λ i j. w (node_of order i) (node_of order j)) pairs num (λ i j i_in j_in. refl)
+        spanning.ends spanning.joins;
+    count = omega (arith, length-map pairs (on_both (node_of order)), spanning.count, count);
+  });
+  weight = sum_is;
+  size = size;
+}
+
+pub spanning_seen : (order seen : List ℕ) (w shown : ℕ → ℕ → ℤ) (pairs : List (ℕ × ℕ)) → seen ≡ order → shown ≡ w
+    → IsSpanning (length seen) (λ i j. shown (node_of seen i) (node_of seen j)) pairs → IsSpanning (length order) (λ i j. w (node_of order i) (node_of order j)) pairs
+spanning_seen order seen w shown pairs same_order same_weights g =
+    subst (λ (os : List ℕ). IsSpanning (length os) (λ i j. w (node_of os i) (node_of os j)) pairs) same_order
+    (subst (λ (k : ℕ → ℕ → ℤ). IsSpanning (length seen) (λ i j. k (node_of seen i) (node_of seen j)) pairs) same_weights g)
 
 -- ---- no pair, and as many as a tree has
 
@@ -89,3 +108,7 @@ part_of order places last start w pairs named sum some num is grows named_is sum
 pub if_ok_all : {X Y : Type 0} (r : Result X Y) (P Q R S : X → Type 0) → ((x : X) → P x → Q x → R x → S x) → IfOk r P → IfOk r Q → IfOk r R → IfOk r S
 if_ok_all (Ok x) P Q R S all p q r = all x p q r
 if_ok_all (Err e) P Q R S all p q r = tt
+
+pub if_ok_more : {X Y : Type 0} (r : Result X Y) (P Q : X → Type 0) → ((x : X) → P x → Q x) → IfOk r P → IfOk r Q
+if_ok_more (Ok x) P Q more p = more x p
+if_ok_more (Err e) P Q more p = tt

@@ -1,12 +1,12 @@
 -- The tree of boxes: what a write keeps, and what a search of halves is.
-use Rattle.std.proofs.Common.{◌≡◌, ◌≢◌, ℕ, zero, suc, ◌+◌, ◌*◌, ◌/◌, ◌<◌, ◌≤◌, Bool, true, false, List, [], ◌∷◌, length, Option, ℤ, pos, ◌≤ℤ◌, ◌⊎◌, inl, inr, refl, arith, ap, sym, ◌∙◌, subst}
+use Rattle.std.proofs.Common.{◌≡◌, ◌≢◌, ℕ, zero, suc, ◌+◌, ◌*◌, ◌/◌, ◌<◌, ◌≤◌, Bool, true, false, List, [], ◌∷◌, length, Option, None, ℤ, pos, ◌≤ℤ◌, ◌⊎◌, inl, inr, refl, arith, ap, sym, ◌∙◌, subst}
 use Rattle.std.proofs.Math.ListN.{set}
 use Rattle.std.proofs.lemmas.Bool.{cases_eq, false≢true}
 use Rattle.std.proofs.lemmas.List.{get_or-set_same, get_or-set_other}
 use Rattle.std.proofs.lemmas.Int.{ints}
 use Rattle.tsp_bound.specs.declared.area.Area.{Area}
-use Rattle.tsp_bound.specs.declared.boxes.Best.{Best}
-use Rattle.tsp_bound.specs.Boxes.{up, node_of, is_outside, area_at, AreHeldFrom, AreHeld, IsRefit, KeepsHeld, IsKnown, IsBelowAll, IsFound, IsBest, IsSearched, no_best}
+use Rattle.tsp_bound.specs.declared.nearest.Best.{Best}
+use Rattle.tsp_bound.specs.Boxes.{up, node_of, is_outside, box_at, area_at, AreHeldFrom, AreHeld, IsRefit, KeepsHeld, IsKnown, IsBelowAll, IsFound, IsBest, IsSearched, no_best}
 use Rattle.tsp_bound.specs.Heap.{IsNearest}
 
 -- ---- numbers of boxes
@@ -45,61 +45,61 @@ reach x some = reach_within x x (omega arith) some
 -- ---- writes to boxes
 
 -- a box that holds what its halves hold
-pub held_refit : (In : Option Area → ℕ → Type 0) (low new_low : ℕ) (places : List ℕ) (outside : List Bool) (old : List (Option Area)) (v : ℕ) (area : Option Area) → length old ≡ 2 * length places
+pub held_refit : {A : Type 0} (none : A) (In : A → ℕ → Type 0) (low new_low : ℕ) (places : List ℕ) (outside : ℕ → Bool) (old : List A) (v : ℕ) (area : A) → length old ≡ 2 * length places
     → v < length places → low ≤ 2 * v → ((m : ℕ) → new_low ≤ m → m ≢ v → low ≤ m)
-    → ((p : ℕ) → In (area_at old (2 * v)) p → In area p) → ((p : ℕ) → In (area_at old (2 * v + 1)) p → In area p)
-    → AreHeldFrom In low places outside old → AreHeldFrom In new_low places outside (set old v area)
-held_refit In low new_low places outside old v area len v_in twice step left right held j zero j_in out from =
+    → ((p : ℕ) → In (box_at none old (2 * v)) p → In area p) → ((p : ℕ) → In (box_at none old (2 * v + 1)) p → In area p)
+    → AreHeldFrom In low places outside (box_at none old) → AreHeldFrom In new_low places outside (box_at none (set old v area))
+held_refit {A = A} none In low new_low places outside old v area len v_in twice step left right held j zero j_in out from =
     let other : length places + j ≢ v = λ e. omega (arith, e, v_in) in
-    subst (λ (a : Option Area). In a (node_of places j)) (sym (get_or-set_other old v (length places + j) area _ other)) (held j zero j_in out (step (length places + j) from other))
-held_refit In low new_low places outside old v area len v_in twice step left right held j (suc h) j_in out from = elim (cases_eq (up (suc h) (length places + j)) v) [
+    subst (λ (a : A). In a (node_of places j)) (sym (get_or-set_other old v (length places + j) area _ other)) (held j zero j_in out (step (length places + j) from other))
+held_refit {A = A} none In low new_low places outside old v area len v_in twice step left right held j (suc h) j_in out from = elim (cases_eq (up (suc h) (length places + j)) v) [
   | inl same ↦
-      let is : area_at (set old v area) (up (suc h) (length places + j)) ≡ area = ap (area_at (set old v area)) same ∙ get_or-set_same old v area _ (omega (arith, len, v_in)) in
-      subst (λ (a : Option Area). In a (node_of places j)) (sym is) (elim (half_cases (up h (length places + j)) v same) [
-        | inl even ↦ left (node_of places j) (subst (λ (k : ℕ). In (area_at old k) (node_of places j)) even (held j h j_in out (omega (arith, even, twice))))
-        | inr odd ↦ right (node_of places j) (subst (λ (k : ℕ). In (area_at old k) (node_of places j)) odd (held j h j_in out (omega (arith, odd, twice))))
+      let is : box_at none (set old v area) (up (suc h) (length places + j)) ≡ area = ap (box_at none (set old v area)) same ∙ get_or-set_same old v area _ (omega (arith, len, v_in)) in
+      subst (λ (a : A). In a (node_of places j)) (sym is) (elim (half_cases (up h (length places + j)) v same) [
+        | inl even ↦ left (node_of places j) (subst (λ (k : ℕ). In (box_at none old k) (node_of places j)) even (held j h j_in out (omega (arith, even, twice))))
+        | inr odd ↦ right (node_of places j) (subst (λ (k : ℕ). In (box_at none old k) (node_of places j)) odd (held j h j_in out (omega (arith, odd, twice))))
       ])
-  | inr other ↦ subst (λ (a : Option Area). In a (node_of places j)) (sym (get_or-set_other old v (up (suc h) (length places + j)) area _ other))
+  | inr other ↦ subst (λ (a : A). In a (node_of places j)) (sym (get_or-set_other old v (up (suc h) (length places + j)) area _ other))
       (held j (suc h) j_in out (step (up (suc h) (length places + j)) from other))
 ]
 
-pub refit_keeps : (In : Option Area → ℕ → Type 0) (places : List ℕ) (outside : List Bool) (old new : List (Option Area)) (v : ℕ) → length old ≡ 2 * length places → 1 ≤ v → v < length places
-    → IsRefit In old new v → AreHeld In places outside old → AreHeld In places outside new
-refit_keeps In places outside old new v len some v_in r held = subst (λ (areas : List (Option Area)). AreHeld In places outside areas) (sym r.is)
-    (held_refit In 1 1 places outside old v r.area len v_in (omega (arith, some)) (λ m from other. from) r.left r.right held)
+pub refit_keeps : {A : Type 0} (none : A) (In : A → ℕ → Type 0) (places : List ℕ) (outside : ℕ → Bool) (old new : List A) (v : ℕ) → length old ≡ 2 * length places → 1 ≤ v → v < length places
+    → IsRefit none In old new v → AreHeld In places outside (box_at none old) → AreHeld In places outside (box_at none new)
+refit_keeps {A = A} none In places outside old new v len some v_in r held = subst (λ (areas : List A). AreHeld In places outside (box_at none areas)) (sym r.is)
+    (held_refit none In 1 1 places outside old v r.box len v_in (omega (arith, some)) (λ m from other. from) r.left r.right held)
 
 -- fitted from the last box on
-pub refit_more : (In : Option Area → ℕ → Type 0) (places : List ℕ) (outside : List Bool) (old new : List (Option Area)) (v : ℕ) → length old ≡ 2 * length places → 1 ≤ v → v < length places
-    → IsRefit In old new v → AreHeldFrom In (v + 1) places outside old → AreHeldFrom In v places outside new
-refit_more In places outside old new v len some v_in r held = subst (λ (areas : List (Option Area)). AreHeldFrom In v places outside areas) (sym r.is)
-    (held_refit In (v + 1) v places outside old v r.area len v_in (omega (arith, some)) (λ m from other. omega (arith, from, other)) r.left r.right held)
+pub refit_more : {A : Type 0} (none : A) (In : A → ℕ → Type 0) (places : List ℕ) (outside : ℕ → Bool) (old new : List A) (v : ℕ) → length old ≡ 2 * length places → 1 ≤ v → v < length places
+    → IsRefit none In old new v → AreHeldFrom In (v + 1) places outside (box_at none old) → AreHeldFrom In v places outside (box_at none new)
+refit_more {A = A} none In places outside old new v len some v_in r held = subst (λ (areas : List A). AreHeldFrom In v places outside (box_at none areas)) (sym r.is)
+    (held_refit none In (v + 1) v places outside old v r.box len v_in (omega (arith, some)) (λ m from other. omega (arith, from, other)) r.left r.right held)
 
 leaf_is : (places : List ℕ) (node j h : ℕ) → j < length places → up h (length places + j) ≡ length places + node → j ≡ node
 leaf_is places node j zero j_in same = omega (arith, same)
 leaf_is places node j (suc h) j_in same = absurd (omega (arith, up_inner (length places) h (length places + j) (omega (arith, j_in)), same))
 
 -- a leaf that holds its place, where that is outside
-pub held_leaf : (In : Option Area → ℕ → Type 0) (places : List ℕ) (outside : List Bool) (old : List (Option Area)) (node : ℕ) (area : Option Area) → length old ≡ 2 * length places
-    → node < length places → (is_outside outside node ≡ true → In area (node_of places node))
-    → AreHeld In places outside old → AreHeld In places outside (set old (length places + node) area)
-held_leaf In places outside old node area len node_in own held j h j_in out from = elim (cases_eq (up h (length places + j)) (length places + node)) [
+pub held_leaf : {A : Type 0} (none : A) (In : A → ℕ → Type 0) (places : List ℕ) (outside : ℕ → Bool) (old : List A) (node : ℕ) (area : A) → length old ≡ 2 * length places
+    → node < length places → (outside node ≡ true → In area (node_of places node))
+    → AreHeld In places outside (box_at none old) → AreHeld In places outside (box_at none (set old (length places + node) area))
+held_leaf {A = A} none In places outside old node area len node_in own held j h j_in out from = elim (cases_eq (up h (length places + j)) (length places + node)) [
   | inl same ↦
       let mine : j ≡ node = leaf_is places node j h j_in same in
-      let is : area_at (set old (length places + node) area) (up h (length places + j)) ≡ area = ap (area_at (set old (length places + node) area)) same
+      let is : box_at none (set old (length places + node) area) (up h (length places + j)) ≡ area = ap (box_at none (set old (length places + node) area)) same
       ∙ get_or-set_same old (length places + node) area _ (omega (arith, len, node_in)) in
-      subst (λ (a : Option Area). In a (node_of places j)) (sym is) (subst (λ (k : ℕ). In area (node_of places k)) (sym mine) (own (subst (λ (k : ℕ). is_outside outside k ≡ true) mine out)))
-  | inr other ↦ subst (λ (a : Option Area). In a (node_of places j)) (sym (get_or-set_other old (length places + node) (up h (length places + j)) area _ other)) (held j h j_in out from)
+      subst (λ (a : A). In a (node_of places j)) (sym is) (subst (λ (k : ℕ). In area (node_of places k)) (sym mine) (own (subst (λ (k : ℕ). outside k ≡ true) mine out)))
+  | inr other ↦ subst (λ (a : A). In a (node_of places j)) (sym (get_or-set_other old (length places + node) (up h (length places + j)) area _ other)) (held j h j_in out from)
 ]
 
 -- a leaf more
-pub leaf_more : (In : Option Area → ℕ → Type 0) (places : List ℕ) (old : List (Option Area)) (node : ℕ) (area : Option Area) → length old ≡ 2 * length places
+pub leaf_more : {A : Type 0} (none : A) (In : A → ℕ → Type 0) (places : List ℕ) (old : List A) (node : ℕ) (area : A) → length old ≡ 2 * length places
     → node < length places → In area (node_of places node)
-    → ((j : ℕ) → j < node → In (area_at old (length places + j)) (node_of places j))
-    → (j : ℕ) → j < node + 1 → In (area_at (set old (length places + node) area) (length places + j)) (node_of places j)
-leaf_more In places old node area len node_in own done j j_in = elim (cases_eq j node) [
-  | inl same ↦ subst (λ (k : ℕ). In (area_at (set old (length places + node) area) (length places + k)) (node_of places k)) (sym same)
-      (subst (λ (a : Option Area). In a (node_of places node)) (sym (get_or-set_same old (length places + node) area _ (omega (arith, len, node_in)))) own)
-  | inr other ↦ subst (λ (a : Option Area). In a (node_of places j))
+    → ((j : ℕ) → j < node → In (box_at none old (length places + j)) (node_of places j))
+    → (j : ℕ) → j < node + 1 → In (box_at none (set old (length places + node) area) (length places + j)) (node_of places j)
+leaf_more {A = A} none In places old node area len node_in own done j j_in = elim (cases_eq j node) [
+  | inl same ↦ subst (λ (k : ℕ). In (box_at none (set old (length places + node) area) (length places + k)) (node_of places k)) (sym same)
+      (subst (λ (a : A). In a (node_of places node)) (sym (get_or-set_same old (length places + node) area _ (omega (arith, len, node_in)))) own)
+  | inr other ↦ subst (λ (a : A). In a (node_of places j))
       (sym (get_or-set_other old (length places + node) (length places + j) area _ (λ e. other (omega (arith, e))))) (done j (omega (arith, other, j_in)))
 ]
 
@@ -111,21 +111,21 @@ outside_before (b ∷ bs) (suc node) zero h = h
 outside_before (b ∷ bs) (suc node) (suc j) h = outside_before bs node j h
 
 -- the leaves alone
-pub held_leaves : (In : Option Area → ℕ → Type 0) (places : List ℕ) (outside : List Bool) (areas : List (Option Area))
-    → ((j : ℕ) → j < length places → In (area_at areas (length places + j)) (node_of places j)) → AreHeldFrom In (length places) places outside areas
-held_leaves In places outside areas leaves j zero j_in out from = leaves j j_in
-held_leaves In places outside areas leaves j (suc h) j_in out from = absurd (omega (arith, from, up_inner (length places) h (length places + j) (omega (arith, j_in))))
+pub held_leaves : {A : Type 0} (none : A) (In : A → ℕ → Type 0) (places : List ℕ) (outside : ℕ → Bool) (areas : List A)
+    → ((j : ℕ) → j < length places → In (box_at none areas (length places + j)) (node_of places j)) → AreHeldFrom In (length places) places outside (box_at none areas)
+held_leaves none In places outside areas leaves j zero j_in out from = leaves j j_in
+held_leaves none In places outside areas leaves j (suc h) j_in out from = absurd (omega (arith, from, up_inner (length places) h (length places + j) (omega (arith, j_in))))
 
 -- fewer places outside
-pub held_fewer : (In : Option Area → ℕ → Type 0) (places : List ℕ) (outside : List Bool) (areas : List (Option Area)) (node : ℕ)
-    → AreHeld In places outside areas → AreHeld In places (set outside node false) areas
-held_fewer In places outside areas node held j h j_in out from = held j h j_in (outside_before outside node j out) from
+pub held_fewer : (In : Option Area → ℕ → Type 0) (places : List ℕ) (outside : List Bool) (area : ℕ → Option Area) (node : ℕ)
+    → AreHeld In places (is_outside outside) area → AreHeld In places (is_outside (set outside node false)) area
+held_fewer In places outside area node held j h j_in out from = held j h j_in (outside_before outside node j out) from
 
 -- ---- the search
 
 -- a box that is no better than the best so far, or a leaf whose place is none that is outside and better
-pub searched_none : (w : ℕ → ℕ → ℤ) (places : List ℕ) (outside : List Bool) (from : ℕ) (v : ℕ) (best : Best)
-    → ((j h : ℕ) → j < length places → is_outside outside j ≡ true → up h (length places + j) ≡ v → best.weight ≤ℤ w from (node_of places j))
+pub searched_none : (w : ℕ → ℕ → ℤ) (places : List ℕ) (outside : ℕ → Bool) (from : ℕ) (v : ℕ) (best : Best)
+    → ((j h : ℕ) → j < length places → outside j ≡ true → up h (length places + j) ≡ v → best.weight ≤ℤ w from (node_of places j))
     → IsSearched w places outside from v best best
 searched_none w places outside from v best below = record {
   kept = omega (arith, ints);
@@ -134,15 +134,15 @@ searched_none w places outside from v best below = record {
 }
 
 -- a box that is left alone
-pub searched_alone : (In : Option Area → ℕ → Type 0) (IsOne : ℕ → Type 0) (w : ℕ → ℕ → ℤ) (places : List ℕ) (outside : List Bool) (areas : List (Option Area)) (from : ℕ) (v : ℕ) (best : Best)
-    (bound : ℤ) → 1 ≤ v → AreHeld In places outside areas → ((j : ℕ) → j < length places → IsOne (node_of places j)) → IsBelowAll IsOne (In (area_at areas v)) (w from) bound
+pub searched_alone : (In : Option Area → ℕ → Type 0) (IsOne : ℕ → Type 0) (w : ℕ → ℕ → ℤ) (places : List ℕ) (outside : ℕ → Bool) (area : ℕ → Option Area) (from : ℕ) (v : ℕ) (best : Best)
+    (bound : ℤ) → 1 ≤ v → AreHeld In places outside area → ((j : ℕ) → j < length places → IsOne (node_of places j)) → IsBelowAll IsOne (In (area v)) (w from) bound
     → IsKnown bound → best.weight ≤ℤ bound → IsSearched w places outside from v best best
-searched_alone In IsOne w places outside areas from v best bound some held ones bounds known worse = searched_none w places outside from v best (λ j h j_in out above.
-    let in_box = subst (λ (k : ℕ). In (area_at areas k) (node_of places j)) above (held j h j_in out (omega (arith, some, above))) in
+searched_alone In IsOne w places outside area from v best bound some held ones bounds known worse = searched_none w places outside from v best (λ j h j_in out above.
+    let in_box = subst (λ (k : ℕ). In (area k) (node_of places j)) above (held j h j_in out (omega (arith, some, above))) in
     let first = bounds known (node_of places j) (ones j j_in) in_box in
     omega (arith, ints, first, worse))
 
-found_after : (w : ℕ → ℕ → ℤ) (places : List ℕ) (outside : List Bool) (from : ℕ) (u v : ℕ) (old half new : Best)
+found_after : (w : ℕ → ℕ → ℤ) (places : List ℕ) (outside : ℕ → Bool) (from : ℕ) (u v : ℕ) (old half new : Best)
     → IsSearched w places outside from u old half → IsSearched w places outside from v half new → (new ≡ old) ⊎ IsFound w places outside from new
 found_after w places outside from u v old half new first second = elim second.found [
   | inl same ↦ elim first.found [
@@ -153,16 +153,16 @@ found_after w places outside from u v old half new first second = elim second.fo
 ]
 
 -- a leaf: its place is the only one below it
-pub leaf_below : (w : ℕ → ℕ → ℤ) (places : List ℕ) (outside : List Bool) (from : ℕ) (node : ℕ) (weight : ℤ)
-    → (is_outside outside node ≡ true → weight ≤ℤ w from (node_of places node))
-    → (j h : ℕ) → j < length places → is_outside outside j ≡ true → up h (length places + j) ≡ length places + node → weight ≤ℤ w from (node_of places j)
+pub leaf_below : (w : ℕ → ℕ → ℤ) (places : List ℕ) (outside : ℕ → Bool) (from : ℕ) (node : ℕ) (weight : ℤ)
+    → (outside node ≡ true → weight ≤ℤ w from (node_of places node))
+    → (j h : ℕ) → j < length places → outside j ≡ true → up h (length places + j) ≡ length places + node → weight ≤ℤ w from (node_of places j)
 leaf_below w places outside from node weight own j h j_in out above =
     let mine : j ≡ node = leaf_is places node j h j_in above in
-    subst (λ (k : ℕ). weight ≤ℤ w from (node_of places k)) (sym mine) (own (subst (λ (k : ℕ). is_outside outside k ≡ true) mine out))
+    subst (λ (k : ℕ). weight ≤ℤ w from (node_of places k)) (sym mine) (own (subst (λ (k : ℕ). outside k ≡ true) mine out))
 
-both_below : (w : ℕ → ℕ → ℤ) (places : List ℕ) (outside : List Bool) (from : ℕ) (v near far : ℕ) (old half new : Best) → v < length places
+both_below : (w : ℕ → ℕ → ℤ) (places : List ℕ) (outside : ℕ → Bool) (from : ℕ) (v near far : ℕ) (old half new : Best) → v < length places
     → near / 2 ≡ v → far / 2 ≡ v → near ≢ far → IsSearched w places outside from near old half → IsSearched w places outside from far half new
-    → (j h : ℕ) → j < length places → is_outside outside j ≡ true → up h (length places + j) ≡ v → new.weight ≤ℤ w from (node_of places j)
+    → (j h : ℕ) → j < length places → outside j ≡ true → up h (length places + j) ≡ v → new.weight ≤ℤ w from (node_of places j)
 both_below w places outside from v near far old half new inner is its different first second j zero j_in out above = absurd (omega (arith, inner, above))
 both_below w places outside from v near far old half new inner is its different first second j (suc h) j_in out above = elim (cases_eq (up h (length places + j)) near) [
   | inl mine ↦ let a = first.below j h j_in out mine in let b = second.kept in omega (arith, ints, a, b)
@@ -170,7 +170,7 @@ both_below w places outside from v near far old half new inner is its different 
 ]
 
 -- one half of a box and then the other
-pub searched_both : (w : ℕ → ℕ → ℤ) (places : List ℕ) (outside : List Bool) (from : ℕ) (v near far : ℕ) (old half new : Best) → v < length places
+pub searched_both : (w : ℕ → ℕ → ℤ) (places : List ℕ) (outside : ℕ → Bool) (from : ℕ) (v near far : ℕ) (old half new : Best) → v < length places
     → near / 2 ≡ v → far / 2 ≡ v → near ≢ far → IsSearched w places outside from near old half → IsSearched w places outside from far half new → IsSearched w places outside from v old new
 searched_both w places outside from v near far old half new inner is its different first second = record {
   kept = let a = first.kept in let b = second.kept in omega (arith, ints, a, b);
@@ -179,7 +179,7 @@ searched_both w places outside from v near far old half new inner is its differe
 }
 
 -- a search that begins with the best of an earlier one
-pub searched_after : (w : ℕ → ℕ → ℤ) (places : List ℕ) (outside : List Bool) (from : ℕ) (u v : ℕ) (old half new : Best)
+pub searched_after : (w : ℕ → ℕ → ℤ) (places : List ℕ) (outside : ℕ → Bool) (from : ℕ) (u v : ℕ) (old half new : Best)
     → IsSearched w places outside from u old half → IsSearched w places outside from v half new → IsSearched w places outside from v old new
 searched_after w places outside from u v old half new first second = record {
   kept = let a = first.kept in let b = second.kept in omega (arith, ints, a, b);
@@ -188,29 +188,24 @@ searched_after w places outside from u v old half new first second = record {
 }
 
 -- what the search of the box 1 says of each place outside
-pub searched_all : (w : ℕ → ℕ → ℤ) (places : List ℕ) (outside : List Bool) (from : ℕ) (old new : Best) → IsSearched w places outside from 1 old new
-    → (j : ℕ) → j < length places → is_outside outside j ≡ true → new.weight ≤ℤ w from (node_of places j)
+pub searched_all : (w : ℕ → ℕ → ℤ) (places : List ℕ) (outside : ℕ → Bool) (from : ℕ) (old new : Best) → IsSearched w places outside from 1 old new
+    → (j : ℕ) → j < length places → outside j ≡ true → new.weight ≤ℤ w from (node_of places j)
 searched_all w places outside from old new all j j_in out =
     let top = reach (length places + j) (omega arith) in
     all.below j top.0 j_in out top.1
 
 -- ---- the search of all, as the trait has it
 
-pub found_some : (w : ℕ → ℕ → ℤ) (places : List ℕ) (outside : List Bool) (from : ℕ) (best : Best) → IsBest w places outside from best
+pub found_some : (w : ℕ → ℕ → ℤ) (places : List ℕ) (outside : ℕ → Bool) (from : ℕ) (best : Best) → IsBest w places outside from best
     → best.weight ≢ pos 9223372036854775807 → IsFound w places outside from best
 found_some w places outside from best all other = elim all.found [
   | inl same ↦ absurd (other (ap (λ (b : Best). b.weight) same))
   | inr found ↦ found
 ]
 
-pub searched_seen : (w : ℕ → ℕ → ℤ) (places seen : List ℕ) (outside marks : List Bool) (from : ℕ) (best : Best) → seen ≡ places → marks ≡ outside
-    → IsSearched w seen marks (node_of seen from) 1 no_best best → IsSearched w places outside (node_of places from) 1 no_best best
-searched_seen w places seen outside marks from best p q h = subst (λ (os : List Bool). IsSearched w places os (node_of places from) 1 no_best best) q
-    (subst (λ (ps : List ℕ). IsSearched w ps marks (node_of ps from) 1 no_best best) p h)
-
-pub nearest_is : (w : ℕ → ℕ → ℤ) (places : List ℕ) (outside : List Bool) (from : ℕ) (best : Best) (weight : ℤ) → IsBest w places outside (node_of places from) best
+pub nearest_is : (w : ℕ → ℕ → ℤ) (places : List ℕ) (outside : ℕ → Bool) (from : ℕ) (best : Best) (weight : ℤ) → IsBest w places outside (node_of places from) best
     → IsFound w places outside (node_of places from) best → weight ≡ best.weight
-    → IsNearest (length places) (λ i j. w (node_of places i) (node_of places j)) (is_outside outside) from (record { weight = weight; from = from; to = best.place })
+    → IsNearest (length places) (λ i j. w (node_of places i) (node_of places j)) outside from (record { weight = weight; from = from; to = best.place })
 nearest_is w places outside from best weight all found is = record {
   from_is = refl;
   to_in = found.node_in;
@@ -223,8 +218,8 @@ nearest_is w places outside from best weight all found is = record {
 pub held_taken : (In : Option Area → ℕ → Type 0) (places : List ℕ) (outside : List Bool) (old new : List (Option Area)) (count node : ℕ) (area : Option Area)
     → count ≡ length places → length old ≡ 2 * length places
     → node < length places → node < length outside → KeepsHeld In count (set old (count + node) area) new
-    → AreHeld In places outside old → AreHeld In places (set outside node false) new
-held_taken In places outside old new count node area is len node_in in_marks keeps held = keeps places (set outside node false) (sym is)
-    (subst (λ (k : ℕ). AreHeld In places (set outside node false) (set old (k + node) area)) (sym is)
-    (held_leaf In places (set outside node false) old node area len node_in (λ out. absurd (false≢true (sym (get_or-set_same outside node false false in_marks) ∙ out)))
-    (held_fewer In places outside old node held)))
+    → AreHeld In places (is_outside outside) (area_at old) → AreHeld In places (is_outside (set outside node false)) (area_at new)
+held_taken In places outside old new count node area is len node_in in_marks keeps held = keeps places (is_outside (set outside node false)) (sym is)
+    (subst (λ (k : ℕ). AreHeld In places (is_outside (set outside node false)) (area_at (set old (k + node) area))) (sym is)
+    (held_leaf None In places (is_outside (set outside node false)) old node area len node_in (λ out. absurd (false≢true (sym (get_or-set_same outside node false false in_marks) ∙ out)))
+    (held_fewer In places outside (area_at old) node held)))

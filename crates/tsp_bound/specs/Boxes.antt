@@ -6,7 +6,7 @@ use Rattle.tsp_distance.specs.declared.decimal.Point.{Point}
 use Rattle.tsp_theory.specs.Regions.{IsIn}
 use Rattle.tsp_theory.specs.Numbers.{entry}
 use Rattle.tsp_bound.specs.declared.area.Area.{Area}
-use Rattle.tsp_bound.specs.declared.boxes.Best.{Best}
+use Rattle.tsp_bound.specs.declared.nearest.Best.{Best}
 
 -- the node's place lies in the box, and its potential is no less than the box's least
 abbrev pub HoldsNode : (ℕ → Point) → List ℤ → Option Area → ℕ → Type 0
@@ -25,30 +25,34 @@ node_of order j = slice_index_or order j 0
 abbrev pub is_outside : List Bool → ℕ → Bool
 is_outside outside j = slice_index_or outside j false
 
+-- what a list has for the box v
+abbrev pub box_at : {A : Type 0} → A → List A → ℕ → A
+box_at none boxes v = slice_index_or boxes v none
+
 abbrev pub area_at : List (Option Area) → ℕ → Option Area
 area_at areas v = slice_index_or areas v None
 
 -- each node outside is in each box from `low` on that is above its leaf, which is the box length order + j
-abbrev pub AreHeldFrom : (Option Area → ℕ → Type 0) → ℕ → List ℕ → List Bool → List (Option Area) → Type 0
-AreHeldFrom In low order outside areas = (j h : ℕ) → j < length order → is_outside outside j ≡ true
+abbrev pub AreHeldFrom : {A : Type 0} → (A → ℕ → Type 0) → ℕ → List ℕ → (ℕ → Bool) → (ℕ → A) → Type 0
+AreHeldFrom In low order outside box = (j h : ℕ) → j < length order → outside j ≡ true
     → low ≤ up h (length order + j)
-    → In (area_at areas (up h (length order + j))) (node_of order j)
+    → In (box (up h (length order + j))) (node_of order j)
 
 -- in each box but 0, which is none
-abbrev pub AreHeld : (Option Area → ℕ → Type 0) → List ℕ → List Bool → List (Option Area) → Type 0
-AreHeld In order outside areas = AreHeldFrom In 1 order outside areas
+abbrev pub AreHeld : {A : Type 0} → (A → ℕ → Type 0) → List ℕ → (ℕ → Bool) → (ℕ → A) → Type 0
+AreHeld In order outside box = AreHeldFrom In 1 order outside box
 
 -- the box v is put in anew, and holds what its halves hold
-pub record IsRefit (In : Option Area → ℕ → Type 0) (old new : List (Option Area)) (v : ℕ) : Type 0 where
-  pub area : Option Area
-  pub is : new ≡ slice_set old v area
-  pub left : (p : ℕ) → In (area_at old (2 * v)) p → In area p
-  pub right : (p : ℕ) → In (area_at old (2 * v + 1)) p → In area p
+pub record IsRefit {A : Type 0} (none : A) (In : A → ℕ → Type 0) (old new : List A) (v : ℕ) : Type 0 where
+  pub box : A
+  pub is : new ≡ slice_set old v box
+  pub left : (p : ℕ) → In (box_at none old (2 * v)) p → In box p
+  pub right : (p : ℕ) → In (box_at none old (2 * v + 1)) p → In box p
 
 -- where the old boxes hold the nodes outside, so do the new ones
 abbrev pub KeepsHeld : (Option Area → ℕ → Type 0) → ℕ → List (Option Area) → List (Option Area) → Type 0
-KeepsHeld In n old new = (order : List ℕ) (outside : List Bool) → length order ≡ n → AreHeld In order outside old
-    → AreHeld In order outside new
+KeepsHeld In n old new = (order : List ℕ) (outside : ℕ → Bool) → length order ≡ n
+    → AreHeld In order outside (area_at old) → AreHeld In order outside (area_at new)
 
 -- the least number of 64 bits says nothing
 abbrev pub IsKnown : ℤ → Type 0
@@ -59,9 +63,9 @@ abbrev pub IsBelowAll : (ℕ → Type 0) → (ℕ → Type 0) → (ℕ → ℤ) 
 IsBelowAll IsOne In weight bound = IsKnown bound → (node : ℕ) → IsOne node → In node → bound ≤ℤ weight node
 
 -- a place whose node is outside, and the weight to it
-pub record IsFound (w : ℕ → ℕ → ℤ) (order : List ℕ) (outside : List Bool) (from : ℕ) (best : Best) : Type 0 where
+pub record IsFound (w : ℕ → ℕ → ℤ) (order : List ℕ) (outside : ℕ → Bool) (from : ℕ) (best : Best) : Type 0 where
   pub node_in : best.place < length order
-  pub out : is_outside outside best.place ≡ true
+  pub out : outside best.place ≡ true
   pub weight_is : best.weight ≡ w from (node_of order best.place)
 
 -- before the search
@@ -69,14 +73,15 @@ abbrev pub no_best : Best
 no_best = record { weight = pos 9223372036854775807; place = 0 }
 
 -- no node outside is better, and it is one, where there is one
-pub record IsBest (w : ℕ → ℕ → ℤ) (order : List ℕ) (outside : List Bool) (from : ℕ) (best : Best) : Type 0 where
-  pub least : (j : ℕ) → j < length order → is_outside outside j ≡ true → best.weight ≤ℤ w from (node_of order j)
+pub record IsBest (w : ℕ → ℕ → ℤ) (order : List ℕ) (outside : ℕ → Bool) (from : ℕ) (best : Best) : Type 0 where
+  pub least : (j : ℕ) → j < length order → outside j ≡ true → best.weight ≤ℤ w from (node_of order j)
   pub found : (best ≡ no_best) ⊎ IsFound w order outside from best
 
 -- the search of the box v: the new best is no worse than the old one and than each node outside below v
-pub record IsSearched (w : ℕ → ℕ → ℤ) (order : List ℕ) (outside : List Bool) (from : ℕ) (v : ℕ) (old new : Best) : Type 0 where
+pub record IsSearched (w : ℕ → ℕ → ℤ) (order : List ℕ) (outside : ℕ → Bool) (from : ℕ) (v : ℕ) (old new : Best)
+    : Type 0 where
   pub kept : new.weight ≤ℤ old.weight
-  pub below : (j h : ℕ) → j < length order → is_outside outside j ≡ true → up h (length order + j) ≡ v
+  pub below : (j h : ℕ) → j < length order → outside j ≡ true → up h (length order + j) ≡ v
       → new.weight ≤ℤ w from (node_of order j)
   pub found : (new ≡ old) ⊎ IsFound w order outside from new
 
@@ -87,8 +92,8 @@ pub HoldsNode-prop : (place : ℕ → Point) (numbers : List ℤ) (area : Option
 HoldsNode-prop place numbers None node = ⊥_prop
 HoldsNode-prop place numbers (Some area) node = Prim.hlevel logic.props
 
-pub AreHeld-prop : (place : ℕ → Point) (numbers : List ℤ) (order : List ℕ) (outside : List Bool) (areas : List (Option Area))
-    → IsProp (AreHeld (HoldsNode place numbers) order outside areas)
-AreHeld-prop place numbers order outside areas =
+pub AreHeld-prop : (place : ℕ → Point) (numbers : List ℤ) (order : List ℕ) (outside : ℕ → Bool) (area : ℕ → Option Area)
+    → IsProp (AreHeld (HoldsNode place numbers) order outside area)
+AreHeld-prop place numbers order outside area =
     Π_prop λ j. Π_prop λ h. Π_prop λ _. Π_prop λ _. Π_prop λ _.
-    HoldsNode-prop place numbers (area_at areas (up h (length order + j))) (node_of order j)
+    HoldsNode-prop place numbers (area (up h (length order + j))) (node_of order j)

@@ -1,5 +1,6 @@
 pub mod Boxes
 pub mod ByNode
+pub mod Components
 pub mod Duals
 pub mod Heap
 pub mod Multipliers

@@ -59,6 +59,21 @@ impl<'a> ByNode<'a> {
     {
         self.lists[node as usize].as_slice()
     }
+
+    /// What the multiplier of a pair lowers its weight by, by the shorter list of its two nodes.
+    pub(crate) fn between(&self, i: u32, j: u32) -> i64
+        requires from { IsNode (node_count self.now) i }
+        requires to { IsNode (node_count self.now) j }
+        ensures value { result ≡ numbers_on (triples_in self.now) i j }
+        ensures size { IsFromTo (pos 0) (pos most_multiplier) result }
+    {
+        let (first, second) = (self.at(i), self.at(j));
+        if first.len() <= second.len() {
+            lowered_by(first, j)
+        } else {
+            lowered_by(second, i)
+        }
+    }
 }
 
 /// What a list lowers the weight to a node by.

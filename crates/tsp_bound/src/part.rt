@@ -1,33 +1,41 @@
-//! The growth of a tree over the nodes 2..n: a part by boxes and a heap, and the rest densely.
+//! A least tree over the nodes 2..n: by boxes and a heap, by boxes in rounds, or pair by pair.
 
-ghost use Rattle.std.specs.Prelude.{◌≡◌, ◌≤◌, ◌<◌, ◌*◌, ◌^◌, ℕ, ℤ, length, map, pos, neg_ℤ, IfOk};
+ghost use Rattle.std.specs.Prelude.{◌≡◌, ◌≤◌, ◌<◌, ◌+◌, ◌*◌, ◌^◌, ℕ, ℤ, length, map, pos, neg_ℤ, IfOk, IfSome};
 ghost use Rattle.std.specs.List.{All};
 ghost use Rattle.tsp_format.specs.Cells.{IsNode};
 ghost use Rattle.tsp_format.specs.Limits.{most_nodes};
 ghost use Rattle.tsp_bound.specs.Boxes.{node_of};
-ghost use Rattle.tsp_theory.specs.Growth.{IsWholeGrowth, IsPartGrowth};
+ghost use Rattle.tsp_bound.specs.Components.{IsWeighedForest};
+ghost use Rattle.tsp_theory.specs.Growth.{IsPartGrowth};
+ghost use Rattle.tsp_theory.specs.Forest.{IsWholeForest};
 ghost use Rattle.tsp_bound.specs.Multipliers.{triples_in, weight_less};
 ghost use Rattle.tsp_bound.specs.Numbering.{on_both};
 ghost use Rattle.tsp_theory.specs.Numbers.{IsFromTo, IsSumSized};
 ghost use Rattle.tsp_theory.specs.Tree.{weight_of};
 
-use crate::by_node::lowered_by;
 use crate::growth::{Grown, grow_on};
 use crate::heap::grow_by_heap;
+use crate::labelled::Labelled;
 use crate::nodes::Nodes;
 use crate::numbering::places_in;
+use crate::placed::Placed;
+use crate::rounds::grow_by_rounds;
 use crate::weights::Weights;
 use std::alloc::{AllocError, Global};
 use tsp_theory::{Costs, Grouped};
 
-/// Grows a tree over the nodes 2..n from node 2: each pair leads from a node inside to one
-/// outside, and no such pair weighs less.
+/// A least tree over the nodes 2..n: each pair leads from one component of the pairs before it to
+/// another, and no such pair weighs less.
+///
+/// It grows from node 2 by a heap first, which takes the fewest steps where each node has few near
+/// ones. Where that takes too many, all nodes are joined in rounds; and where that does, the growth
+/// from node 2 goes on pair by pair.
 ///
 /// # Errors
 ///
 /// Out of memory.
 pub(crate) fn grow<C: Grouped>(alloc: Global, w: &Weights<C>) -> Result<Grown, AllocError>
-    ensures whole { IfOk result (λ grown. IsWholeGrowth (C.nodes w.now.c.now)
+    ensures whole { IfOk result (λ grown. IsWholeForest (C.nodes w.now.c.now)
         (weight_less w.now.p.now (triples_in w.now.m.now) (C.at w.now.c.now)) grown.pairs.items) }
     ensures weight { IfOk result (λ grown. grown.weight
         ≡ weight_of (weight_less w.now.p.now (triples_in w.now.m.now) (C.at w.now.c.now)) grown.pairs.items) }
@@ -38,7 +46,29 @@ pub(crate) fn grow<C: Grouped>(alloc: Global, w: &Weights<C>) -> Result<Grown, A
     if part.pairs.len() + 2 == w.c.count() as usize {
         return Ok(part);
     }
+    if let Some(grown) = joined(alloc, w)? {
+        return Ok(grown);
+    }
     grow_on(alloc, w, part)
+}
+
+/// The nodes 2..n in an order in which near ones are near each other; none where it isn't one of
+/// all the nodes.
+///
+/// # Errors
+///
+/// Out of memory.
+fn inner_order<C: Grouped>(alloc: Global, c: &C) -> Result<Option<Vec<u32>>, AllocError>
+    ensures count { IfOk result (λ found. IfSome found (λ order. length order.items + 1 ≡ C.nodes c.now)) }
+    ensures few { IfOk result (λ found. IfSome found (λ order. length order.items ≤ most_nodes)) }
+{
+    let mut order = c.order(alloc)?;
+    order.retain(|node| *node != 1);
+    if order.len() + 1 == c.count() as usize {
+        Ok(Some(order))
+    } else {
+        Ok(None)
+    }
 }
 
 /// The part of a growth from node 2 that the boxes of the nodes and a heap give, and its weight.
@@ -52,11 +82,9 @@ fn grown_part<C: Grouped>(alloc: Global, w: &Weights<C>) -> Result<Grown, AllocE
     ensures { IfOk result (λ grown. IsPartGrowth (C.nodes w.now.c.now)
         (weight_less w.now.p.now (triples_in w.now.m.now) (C.at w.now.c.now)) grown.pairs.items grown.weight) }
 {
-    let mut order = w.c.order(alloc)?;
-    order.retain(|node| *node != 1);
-    if order.len() + 1 != w.c.count() as usize {
+    let Some(order) = inner_order(alloc, w.c)? else {
         return nothing(alloc, w.c);
-    }
+    };
     grown_over(alloc, w, &order)
 }
 
@@ -70,11 +98,52 @@ fn grown_over<C: Grouped>(alloc: Global, w: &Weights<C>, order: &[u32]) -> Resul
         return nothing(alloc, w.c);
     };
     let start = places[2];
-    let Some(mut nodes) = Nodes::new(alloc, w.c, *w.p, w.m, order, &places)? else {
+    let placed = Placed::new(w.c, *w.p, w.m, order, &places);
+    let Some(mut nodes) = Nodes::new(alloc, placed)? else {
         return nothing(alloc, w.c);
     };
-    let pairs = grow_by_heap(alloc, &mut nodes, start, most_steps(w.c.count()))?;
+    let pairs = grow_by_heap(alloc, &mut nodes, start, most_heap_steps(w.c.count()))?;
     weighed(alloc, w, order, &pairs)
+}
+
+/// A least tree by rounds over the boxes of the nodes, and its weight; none where a node has no
+/// place, the order isn't one of all the nodes, or it would take too many steps.
+///
+/// # Errors
+///
+/// Out of memory.
+fn joined<C: Grouped>(alloc: Global, w: &Weights<C>) -> Result<Option<Grown>, AllocError>
+    ensures { IfOk result (λ found. IfSome found (λ grown. IsWeighedForest (C.nodes w.now.c.now)
+        (weight_less w.now.p.now (triples_in w.now.m.now) (C.at w.now.c.now)) grown.pairs.items grown.weight)) }
+{
+    let Some(order) = inner_order(alloc, w.c)? else {
+        return Ok(None);
+    };
+    joined_over(alloc, w, &order)
+}
+
+/// The same over an order of nodes.
+fn joined_over<C: Grouped>(
+    alloc: Global,
+    w: &Weights<C>,
+    order: &[u32],
+) -> Result<Option<Grown>, AllocError>
+    requires count { length order.now + 1 ≡ C.nodes w.now.c.now }
+    ensures { IfOk result (λ found. IfSome found (λ grown. IsWeighedForest (C.nodes w.now.c.now)
+        (weight_less w.now.p.now (triples_in w.now.m.now) (C.at w.now.c.now)) grown.pairs.items grown.weight)) }
+{
+    let Some(places) = places_in(alloc, order, w.c.count())? else {
+        return Ok(None);
+    };
+    let placed = Placed::new(w.c, *w.p, w.m, order, &places);
+    let Some(mut nodes) = Labelled::new(alloc, placed)? else {
+        return Ok(None);
+    };
+    let Some(pairs) = grow_by_rounds(alloc, &mut nodes, most_round_steps(w.c.count()))? else {
+        return Ok(None);
+    };
+    let grown = weighed(alloc, w, order, &pairs)?;
+    Ok(Some(grown))
 }
 
 /// No pair yet, with capacity for those of a tree: a part of any growth.
@@ -90,11 +159,16 @@ fn nothing<C: Costs>(alloc: Global, c: &C) -> Result<Grown, AllocError>
     Ok(Grown { pairs, weight: 0 })
 }
 
-/// How many boxes a growth over this many nodes may look at before it goes on the dense way: a part
-/// of the work that the dense way takes, and about as much for a thousand nodes.
-fn most_steps(count: u32) -> u64 {
+/// How many boxes a growth by a heap over this many nodes may look at.
+fn most_heap_steps(count: u32) -> u64 {
+    600 * u64::from(count)
+}
+
+/// How many boxes the rounds over this many nodes may look at: a part of the work that the growth
+/// pair by pair takes, and about as much for some thousand nodes.
+fn most_round_steps(count: u32) -> u64 {
     let nodes = u64::from(count);
-    (nodes * nodes / 25).max(300 * nodes)
+    (nodes * nodes / 8).max(600 * nodes)
 }
 
 /// The pairs of the nodes at pairs of places, and the sum of their weights.
@@ -122,8 +196,7 @@ fn weighed<C: Costs>(
         let from = order[pair.0 as usize];
         let to = order[pair.1 as usize];
         named.push((from, to))?;
-        // A node is at most once a pair's second one, so that no list is gone over twice.
-        let number = lowered_by(w.m.at(to), from);
+        let number = w.m.between(from, to);
         weight += i128::from(w.p.weight(w.c, from, to) - number);
     }
     Ok(Grown {

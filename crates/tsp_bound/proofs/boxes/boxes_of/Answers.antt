@@ -1,8 +1,8 @@
-use Rattle.std.proofs.Common.{◌≡◌, ◌-◌, ◌+◌, ℕ, Option, Some, length, arith, subst, ◌∙◌}
+use Rattle.std.proofs.Common.{◌≡◌, ◌-◌, ◌+◌, ℕ, Option, None, Some, length, arith, subst, ◌∙◌}
 use Rattle.std.proofs.Math.ListN.{length-set}
 use Rattle.tsp_bound.specs.Potentials.{numbers_of}
 use Rattle.tsp_bound.specs.declared.area.Area.{Area}
-use Rattle.tsp_bound.specs.Boxes.{HoldsNode, AreHeldFrom}
+use Rattle.tsp_bound.specs.Boxes.{HoldsNode, AreHeldFrom, area_at}
 use Rattle.tsp_bound.proofs.Trees.{leaf_more, held_leaves, refit_more}
 use Rattle.tsp_bound.proofs.boxes.boxes_of.Goals as goal
 
@@ -11,7 +11,7 @@ leaves-preserved g c =
     let In : Option Area → ℕ → Type 0 = HoldsNode (g.C.Grouped.place c.args.c.now) (numbers_of c.args.p.now) in
     record {
       len = length-set c.leaves.areas.items (length c.args.order.now + c.leaves.place) (Some c.in-Some.area) ∙ c.leaves.invariant.len;
-      done = leaf_more In c.args.order.now c.leaves.areas.items c.leaves.place (Some c.in-Some.area) c.leaves.invariant.len c.leaves-test.true c.in-Some.ensures c.leaves.invariant.done;
+      done = leaf_more None In c.args.order.now c.leaves.areas.items c.leaves.place (Some c.in-Some.area) c.leaves.invariant.len c.leaves-test.true c.in-Some.ensures c.leaves.invariant.done;
     }
 
 pub halves-init : goal.halves-init
@@ -21,7 +21,7 @@ halves-init g c =
     record {
       len = c.leaves.invariant.len;
       high = omega arith;
-      held = λ outside. held_leaves In c.args.order.now outside c.leaves.areas.items (λ j h. c.leaves.invariant.done j (omega (arith, h, all)));
+      held = λ outside. held_leaves None In c.args.order.now outside c.leaves.areas.items (λ j h. c.leaves.invariant.done j (omega (arith, h, all)));
     }
 
 pub halves-preserved : goal.halves-preserved
@@ -32,7 +32,10 @@ halves-preserved g c =
     record {
       len = c.refit.ensures.len;
       high = omega arith;
-      held = λ outside. refit_more In c.args.order.now outside c.halves.areas.items c.refit.new.areas.items v c.halves.invariant.len (omega arith) (omega arith)
+      held = λ outside. refit_more None In c.args.order.now outside c.halves.areas.items c.refit.new.areas.items v c.halves.invariant.len (omega arith) (omega arith)
           (c.refit.ensures.refit (g.C.Grouped.place c.args.c.now) (numbers_of c.args.p.now))
-          (subst (λ (k : ℕ). AreHeldFrom In k c.args.order.now outside c.halves.areas.items) next (c.halves.invariant.held outside));
+          (subst (λ (k : ℕ). AreHeldFrom In k c.args.order.now outside (area_at c.halves.areas.items)) next (c.halves.invariant.held outside));
     }
+
+pub returns-clause-held : goal.returns-clause-held
+returns-clause-held g c = λ outside j h j_in out low. c.halves.invariant.held outside j h j_in out (omega (arith, low, c.halves-test.false))

@@ -1,4 +1,4 @@
-use Rattle.std.proofs.Common.{◌≡◌, ◌≤◌, ◌<◌, ◌+◌, ◌*◌, ℕ, Bool, List, length}
+use Rattle.std.proofs.Common.{◌≡◌, ◌≤◌, ◌<◌, ◌+◌, ◌*◌, ℕ, Bool, length}
 use Rattle.tsp_bound.specs.Potentials.{numbers_of}
 use Rattle.tsp_bound.specs.Boxes.{HoldsNode, AreHeldFrom, area_at, node_of}
 use Rattle.tsp_bound.proofs.boxes.boxes_of.Given as goal
@@ -13,7 +13,7 @@ abbrev pub invariant-halves : goal.invariant-halves
 invariant-halves g l = record {
   len : length l.areas.items ≡ 2 * length l.order;
   high : l.v ≤ length l.order;
-  held : (outside : List Bool) → AreHeldFrom (HoldsNode (g.C.Grouped.place l.c) (numbers_of l.p)) l.v l.order outside l.areas.items;
+  held : (outside : ℕ → Bool) → AreHeldFrom (HoldsNode (g.C.Grouped.place l.c) (numbers_of l.p)) l.v l.order outside (area_at l.areas.items);
 }
 
 abbrev pub decreases-halves : goal.decreases-halves

@@ -10,7 +10,7 @@ returns-clause-refit c = λ place numbers.
     let right : c.index-2.result.now ≡ area_at c.args.areas.now.items (2 * c.args.v + 1) =
     get_or_read c.args.areas.now.items (2 * c.args.v + 1) c.index-2.result.now (omega arith) c.index-2.ensures _ in
     record {
-      area = c.joined-area.result;
+      box = c.joined-area.result;
       is = refl;
       left = λ p h. c.joined-area.ensures.left place numbers p (subst (λ (a : Option Area). HoldsNode place numbers a p) (sym left) h);
       right = λ p h. c.joined-area.ensures.right place numbers p (subst (λ (a : Option Area). HoldsNode place numbers a p) (sym right) h);

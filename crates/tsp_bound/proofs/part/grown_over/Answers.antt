@@ -18,7 +18,7 @@ pub weighed-requires-clause-places : goal.weighed-requires-clause-places
 weighed-requires-clause-places g c =
     let order : List ℕ = c.args.order.now in
     let places : List ℕ = c.in-Some.places.items in
-    let nodes = c.in-Some-2.nodes in
+    let nodes = c.in-Some-2.nodes.placed in
     let num = rw c.in-Some.is at c.in_ok-places.ensures.numbering in
     let long = rw c.in-Some.is at c.in_ok-places.ensures.len in
     let start = c.index-start.result.now in
@@ -26,18 +26,18 @@ weighed-requires-clause-places g c =
     let below : start < length order = subst (λ (k : ℕ). k < length order) (sym read) (start_in order places c.count.result (omega (arith, c.count.ensures.value, c.args.w.now.some)) num) in
     let w = weight_less c.args.w.now.p.now (triples_in c.args.w.now.m.now) (g.C.Costs.at c.args.w.now.c.now) in
     let v : ℕ → ℕ → ℤ = λ i j. w (node_of order i) (node_of order j) in
-    let same_order : nodes.order.now ≡ order = rw c.in-Some-2.is at c.in_ok-nodes.ensures.order in
+    let same_order : nodes.order.now ≡ order = (rw c.in-Some-2.is at c.in_ok-nodes.ensures.order) ∙ c.new-placed.ensures.order in
     let grows : Grows (IsBelow (length order)) v (λ x. x == start) c.in_ok-pairs.pairs.items =
     growth_seen order nodes.order.now w (weight_less nodes.p (triples_in nodes.m.now) (g.C.Costs.at nodes.c.now)) start c.in_ok-pairs.pairs.items same_order
-    (weights_seen c.args.w.now.p.now nodes.p c.args.w.now.m.now nodes.m.now (g.C.Costs.at c.args.w.now.c.now) (g.C.Costs.at nodes.c.now) (rw c.in-Some-2.is at c.in_ok-nodes.ensures.potentials)
-    (rw c.in-Some-2.is at c.in_ok-nodes.ensures.multipliers) (ap (g.C.Costs.at) (rw c.in-Some-2.is at c.in_ok-nodes.ensures.costs))) c.in_ok-pairs.ensures.growth.grows in
+    (weights_seen c.args.w.now.p.now nodes.p c.args.w.now.m.now nodes.m.now (g.C.Costs.at c.args.w.now.c.now) (g.C.Costs.at nodes.c.now) ((rw c.in-Some-2.is at c.in_ok-nodes.ensures.potentials) ∙ c.new-placed.ensures.potentials)
+    ((rw c.in-Some-2.is at c.in_ok-nodes.ensures.multipliers) ∙ c.new-placed.ensures.multipliers) (ap (g.C.Costs.at) ((rw c.in-Some-2.is at c.in_ok-nodes.ensures.costs) ∙ c.new-placed.ensures.costs))) c.in_ok-pairs.ensures.growth.grows in
     subst (All (λ (pair : ℕ × ℕ). (pair.0 < length order) × (pair.1 < length order))) (sym c.deref-2.ensures.value) (ends_below (length order) start v c.in_ok-pairs.pairs.items below grows)
 
 pub weighed-requires-clause-few : goal.weighed-requires-clause-few
 weighed-requires-clause-few g c =
     let order : List ℕ = c.args.order.now in
     let places : List ℕ = c.in-Some.places.items in
-    let nodes = c.in-Some-2.nodes in
+    let nodes = c.in-Some-2.nodes.placed in
     let num = rw c.in-Some.is at c.in_ok-places.ensures.numbering in
     let long = rw c.in-Some.is at c.in_ok-places.ensures.len in
     let start = c.index-start.result.now in
@@ -45,18 +45,18 @@ weighed-requires-clause-few g c =
     let below : start < length order = subst (λ (k : ℕ). k < length order) (sym read) (start_in order places c.count.result (omega (arith, c.count.ensures.value, c.args.w.now.some)) num) in
     let w = weight_less c.args.w.now.p.now (triples_in c.args.w.now.m.now) (g.C.Costs.at c.args.w.now.c.now) in
     let v : ℕ → ℕ → ℤ = λ i j. w (node_of order i) (node_of order j) in
-    let same_order : nodes.order.now ≡ order = rw c.in-Some-2.is at c.in_ok-nodes.ensures.order in
+    let same_order : nodes.order.now ≡ order = (rw c.in-Some-2.is at c.in_ok-nodes.ensures.order) ∙ c.new-placed.ensures.order in
     let grows : Grows (IsBelow (length order)) v (λ x. x == start) c.in_ok-pairs.pairs.items =
     growth_seen order nodes.order.now w (weight_less nodes.p (triples_in nodes.m.now) (g.C.Costs.at nodes.c.now)) start c.in_ok-pairs.pairs.items same_order
-    (weights_seen c.args.w.now.p.now nodes.p c.args.w.now.m.now nodes.m.now (g.C.Costs.at c.args.w.now.c.now) (g.C.Costs.at nodes.c.now) (rw c.in-Some-2.is at c.in_ok-nodes.ensures.potentials)
-    (rw c.in-Some-2.is at c.in_ok-nodes.ensures.multipliers) (ap (g.C.Costs.at) (rw c.in-Some-2.is at c.in_ok-nodes.ensures.costs))) c.in_ok-pairs.ensures.growth.grows in
+    (weights_seen c.args.w.now.p.now nodes.p c.args.w.now.m.now nodes.m.now (g.C.Costs.at c.args.w.now.c.now) (g.C.Costs.at nodes.c.now) ((rw c.in-Some-2.is at c.in_ok-nodes.ensures.potentials) ∙ c.new-placed.ensures.potentials)
+    ((rw c.in-Some-2.is at c.in_ok-nodes.ensures.multipliers) ∙ c.new-placed.ensures.multipliers) (ap (g.C.Costs.at) ((rw c.in-Some-2.is at c.in_ok-nodes.ensures.costs) ∙ c.new-placed.ensures.costs))) c.in_ok-pairs.ensures.growth.grows in
     omega (arith, ap length c.deref-2.ensures.value, few_pairs (length order) start v c.in_ok-pairs.pairs.items below grows, c.requires.few)
 
 pub returns : goal.returns
 returns g c =
     let order : List ℕ = c.args.order.now in
     let places : List ℕ = c.in-Some.places.items in
-    let nodes = c.in-Some-2.nodes in
+    let nodes = c.in-Some-2.nodes.placed in
     let num = rw c.in-Some.is at c.in_ok-places.ensures.numbering in
     let long = rw c.in-Some.is at c.in_ok-places.ensures.len in
     let start = c.index-start.result.now in
@@ -64,11 +64,11 @@ returns g c =
     let below : start < length order = subst (λ (k : ℕ). k < length order) (sym read) (start_in order places c.count.result (omega (arith, c.count.ensures.value, c.args.w.now.some)) num) in
     let w = weight_less c.args.w.now.p.now (triples_in c.args.w.now.m.now) (g.C.Costs.at c.args.w.now.c.now) in
     let v : ℕ → ℕ → ℤ = λ i j. w (node_of order i) (node_of order j) in
-    let same_order : nodes.order.now ≡ order = rw c.in-Some-2.is at c.in_ok-nodes.ensures.order in
+    let same_order : nodes.order.now ≡ order = (rw c.in-Some-2.is at c.in_ok-nodes.ensures.order) ∙ c.new-placed.ensures.order in
     let grows : Grows (IsBelow (length order)) v (λ x. x == start) c.in_ok-pairs.pairs.items =
     growth_seen order nodes.order.now w (weight_less nodes.p (triples_in nodes.m.now) (g.C.Costs.at nodes.c.now)) start c.in_ok-pairs.pairs.items same_order
-    (weights_seen c.args.w.now.p.now nodes.p c.args.w.now.m.now nodes.m.now (g.C.Costs.at c.args.w.now.c.now) (g.C.Costs.at nodes.c.now) (rw c.in-Some-2.is at c.in_ok-nodes.ensures.potentials)
-    (rw c.in-Some-2.is at c.in_ok-nodes.ensures.multipliers) (ap (g.C.Costs.at) (rw c.in-Some-2.is at c.in_ok-nodes.ensures.costs))) c.in_ok-pairs.ensures.growth.grows in
+    (weights_seen c.args.w.now.p.now nodes.p c.args.w.now.m.now nodes.m.now (g.C.Costs.at c.args.w.now.c.now) (g.C.Costs.at nodes.c.now) ((rw c.in-Some-2.is at c.in_ok-nodes.ensures.potentials) ∙ c.new-placed.ensures.potentials)
+    ((rw c.in-Some-2.is at c.in_ok-nodes.ensures.multipliers) ∙ c.new-placed.ensures.multipliers) (ap (g.C.Costs.at) ((rw c.in-Some-2.is at c.in_ok-nodes.ensures.costs) ∙ c.new-placed.ensures.costs))) c.in_ok-pairs.ensures.growth.grows in
     let n = g.C.Costs.nodes c.args.w.now.c.now in
     if_ok_all c.weighed.result (λ (grown : Grown). grown.pairs.items ≡ map (on_both (node_of order)) c.deref-2.result.now) (λ (grown : Grown). grown.weight ≡ weight_of w grown.pairs.items)
     (λ (grown : Grown). IsSumSized (length grown.pairs.items) grown.weight) (λ (grown : Grown). IsPartGrowth n w grown.pairs.items grown.weight)

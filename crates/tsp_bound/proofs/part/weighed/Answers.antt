@@ -21,11 +21,11 @@ pairs-preserved g c =
     let pushed : c.push.new.self.items ≡ named ++ f pair ∷ [] = c.in_ok-push.ensures.items in
     let longer : length c.push.new.self.items ≡ length named + 1 = ap length pushed ∙ length-append named (f pair ∷ []) in
     let few : length named ≤ most_nodes = omega (arith, c.pairs.invariant.count, c.pairs-test.true, c.requires.few) in
-    let here : ℤ = to_z w64 (of_z w64 c.weight.result) -ℤ to_z w64 (of_z w64 c.lowered_by-number.result) in
-    let fits = lower_fits c.weight.result c.lowered_by-number.result c.weight.ensures.size c.lowered_by-number.ensures.size in
-    let own : here ≡ w (f pair).0 (f pair).1 = lower_is c.weight.result c.lowered_by-number.result c.weight.ensures.size c.lowered_by-number.ensures.size
-    ∙ less_value (triples_in c.args.w.now.m.now) c.at.result.now raw (f pair).0 (f pair).1 c.weight.result c.lowered_by-number.result c.weight.ensures.value
-    c.lowered_by-number.ensures.value (c.at.ensures.sums (f pair).0) in
+    let here : ℤ = to_z w64 (of_z w64 c.weight.result) -ℤ to_z w64 (of_z w64 c.between-number.result) in
+    let fits = lower_fits c.weight.result c.between-number.result c.weight.ensures.size c.between-number.ensures.size in
+    let own : here ≡ w (f pair).0 (f pair).1 = lower_is c.weight.result c.between-number.result c.weight.ensures.size c.between-number.ensures.size
+    ∙ less_value (triples_in c.args.w.now.m.now) raw (f pair).0 (f pair).1 c.weight.result c.between-number.result c.weight.ensures.value
+    c.between-number.ensures.value in
     let sum : ℤ = to_z w128 c.pairs.weight-bits in
     let computed = sum_computed sum here c.from-weight.result (length named) few c.pairs.invariant.size fits c.from-weight.ensures in
     record {
@@ -41,17 +41,17 @@ bounds-order-pair g c = (c.requires.places c.pairs.pair-index (0, 0) c.pairs-tes
 pub bounds-order-pair-in-pairs : goal.bounds-order-pair-in-pairs
 bounds-order-pair-in-pairs g c = (c.requires.places c.pairs.pair-index (0, 0) c.pairs-test.true).1
 
-pub at-requires : goal.at-requires
-at-requires g c =
+pub between-number-requires-clause-from : goal.between-number-requires-clause-from
+between-number-requires-clause-from g c =
+    let pair : ℕ × ℕ = get_or c.args.pairs.now c.pairs.pair-index (0, 0) in
+    let own = c.requires.nodes pair.0 (c.requires.places c.pairs.pair-index (0, 0) c.pairs-test.true).0 in
+    (own.0, omega (arith, own.1, c.args.w.now.over))
+
+pub between-number-requires-clause-to : goal.between-number-requires-clause-to
+between-number-requires-clause-to g c =
     let pair : ℕ × ℕ = get_or c.args.pairs.now c.pairs.pair-index (0, 0) in
     let own = c.requires.nodes pair.1 (c.requires.places c.pairs.pair-index (0, 0) c.pairs-test.true).1 in
     (own.0, omega (arith, own.1, c.args.w.now.over))
-
-pub lowered_by-number-requires-clause-once : goal.lowered_by-number-requires-clause-once
-lowered_by-number-requires-clause-once g c = c.at.ensures.are.once
-
-pub lowered_by-number-requires-clause-each : goal.lowered_by-number-requires-clause-each
-lowered_by-number-requires-clause-each g c = λ k d below. (c.at.ensures.are.each k d below).1
 
 pub weight-requires-clause-from : goal.weight-requires-clause-from
 weight-requires-clause-from g c =
@@ -64,11 +64,11 @@ weight-requires-clause-to g c =
     c.requires.nodes pair.1 (c.requires.places c.pairs.pair-index (0, 0) c.pairs-test.true).1
 
 pub overflow_sub-weight : goal.overflow_sub-weight
-overflow_sub-weight g c = lower_fits c.weight.result c.lowered_by-number.result c.weight.ensures.size c.lowered_by-number.ensures.size
+overflow_sub-weight g c = lower_fits c.weight.result c.between-number.result c.weight.ensures.size c.between-number.ensures.size
 
 pub overflow_add-weight : goal.overflow_add-weight
 overflow_add-weight g c =
     let few : length c.pairs.named.items ≤ most_nodes = omega (arith, c.pairs.invariant.count, c.pairs-test.true, c.requires.few) in
-    let here : ℤ = to_z w64 (of_z w64 c.weight.result) -ℤ to_z w64 (of_z w64 c.lowered_by-number.result) in
-    let fits = lower_fits c.weight.result c.lowered_by-number.result c.weight.ensures.size c.lowered_by-number.ensures.size in
+    let here : ℤ = to_z w64 (of_z w64 c.weight.result) -ℤ to_z w64 (of_z w64 c.between-number.result) in
+    let fits = lower_fits c.weight.result c.between-number.result c.weight.ensures.size c.between-number.ensures.size in
     sum_fits (to_z w128 c.pairs.weight-bits) here c.from-weight.result (length c.pairs.named.items) few c.pairs.invariant.size fits c.from-weight.ensures

@@ -6,7 +6,7 @@ use Rattle.tsp_theory.specs.Growth.{tree_of}
 use Rattle.tsp_bound.specs.Potentials.{weight_under}
 use Rattle.tsp_bound.specs.Multipliers.{triples_in, weight_less}
 use Rattle.tsp_theory.proofs.Adjustments.{adjusted_even}
-use Rattle.tsp_theory.proofs.OneTrees.{least_from_growth}
+use Rattle.tsp_theory.proofs.OneTrees.{least_from_forest}
 use Rattle.tsp_theory.proofs.Weights.{weight_even, tree_fits, tree_size, tree_computed, weight_of_tree}
 use Rattle.tsp_bound.proofs.tree.least_edges.Goals as goal
 
@@ -31,7 +31,7 @@ returns g c =
     let sums : (two.first.weight +ℤ two.second.weight) +ℤ grown.weight ≡ (w 1 two.first.node +ℤ w 1 two.second.node) +ℤ weight_of w grown.pairs.items =
     ap₂ (λ a b. a +ℤ b) (ap₂ (λ a b. a +ℤ b) two.ensures.first two.ensures.second) c.in_ok-grown.ensures.weight in
     record {
-      least = least_from_growth n w two.first.node two.second.node grown.pairs.items c.deref.result.now c.in_ok-edges.edges.items c.requires.some even
+      least = least_from_forest n w two.first.node two.second.node grown.pairs.items c.deref.result.now c.in_ok-edges.edges.items c.requires.some even
           two.ensures.nearest c.in_ok-grown.ensures.whole c.deref.ensures.value c.in_ok-edges.ensures;
       weight = computed ∙ sums ∙ sym (weight_of_tree w even two.first.node two.second.node grown.pairs.items) ∙ ap (weight_of w) (sym edges);
       size = rw computed (tree_size two.first.weight two.second.weight grown.weight first second c.in_ok-grown.ensures.size);

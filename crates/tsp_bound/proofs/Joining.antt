@@ -1,0 +1,124 @@
+-- The joins of a round: what each one keeps.
+use Rattle.std.proofs.Common.{◌≡◌, ◌≢◌, ℕ, zero, suc, ◌<◌, ◌==◌, Bool, true, false, not, cond, List, [], ◌∷◌, ◌++◌, ℤ, ◌≤ℤ◌, ◌⊎◌, inl, inr, refl, ap, sym, ◌∙◌, subst, get_or, set, length}
+use Rattle.std.specs.List.{All}
+use Rattle.std.proofs.lemmas.Bool.{cases_eq, false≢true, eqb-true, eq-eqb, ne_eqb}
+use Rattle.std.proofs.lemmas.List.{get_or-set_same, get_or-set_other}
+use Rattle.std.proofs.lemmas.List.Elements.{All-nil, All-push, All-weaker}
+use Rattle.tsp_theory.specs.Tree.{crosses}
+use Rattle.tsp_theory.specs.Forest.{AreLeastJoins}
+use Rattle.tsp_theory.proofs.Forests.{joins_more}
+use Rattle.tsp_bound.specs.declared.outside.Link.{Link}
+use Rattle.tsp_bound.specs.Heap.{IsBelow}
+use Rattle.tsp_bound.specs.Components.{IsForest, IsLeastOf, label_at}
+
+-- within a round: the two ends of a pair have one label, or labels that are met and become one
+abbrev pub IsWithin : (ℕ → ℕ) → (ℕ → ℕ) → (ℕ → Bool) → ℕ × ℕ → Type 0
+IsWithin label new met pair = (label pair.0 ≡ label pair.1)
+    ⊎ ((met (label pair.0) ≡ true) × (met (label pair.1) ≡ true) × (new (label pair.0) ≡ new (label pair.1)))
+
+-- what the joins so far have made of the forest
+pub record IsJoining (n : ℕ) (w : ℕ → ℕ → ℤ) (label new : ℕ → ℕ) (met : ℕ → Bool) (added : List (ℕ × ℕ)) : Type 0 where
+  pub joins : AreLeastJoins (IsBelow n) w [] added
+  pub ends : All (λ pair. (pair.0 < n) × (pair.1 < n)) added
+  pub within : All (IsWithin label new met) added
+
+pub joining_start : (n : ℕ) (w : ℕ → ℕ → ℤ) (label new : ℕ → ℕ) (met : ℕ → Bool) (added : List (ℕ × ℕ)) → IsForest n w label added → IsJoining n w label new met added
+joining_start n w label new met added forest = record {
+  joins = forest.joins;
+  ends = forest.ends;
+  within = All-weaker (λ pair. label pair.0 ≡ label pair.1) (IsWithin label new met) (λ pair same. inl same) added forest.within;
+}
+
+pub joining_end : (n : ℕ) (w : ℕ → ℕ → ℤ) (label new : ℕ → ℕ) (met : ℕ → Bool) (added : List (ℕ × ℕ)) → IsJoining n w label new met added
+    → IsForest n w (λ x. new (label x)) added
+joining_end n w label new met added h = record {
+  joins = h.joins;
+  ends = h.ends;
+  within = All-weaker (IsWithin label new met) (λ pair. new (label pair.0) ≡ new (label pair.1)) (λ pair within. elim within [
+    | inl same ↦ ap new same
+    | inr both ↦ both.2
+  ]) added h.within;
+}
+
+-- two ends on one side don't leave the part
+one_side : (x y : Bool) → x ≡ y → cond x (not y) y ≡ false
+one_side true true same = refl
+one_side true false same = absurd (false≢true (sym same))
+one_side false true same = absurd (false≢true same)
+one_side false false same = refl
+
+-- a component that isn't met is still one
+not_left : (label new : ℕ → ℕ) (met : ℕ → Bool) (c : ℕ) (pair : ℕ × ℕ) → met c ≡ false → IsWithin label new met pair
+    → crosses (λ x. label x == c) pair ≡ false
+not_left label new met c pair free within = one_side (label pair.0 == c) (label pair.1 == c) (elim within [
+  | inl same ↦ ap (λ (l : ℕ). l == c) same
+  | inr both ↦
+      let apart : (l : ℕ) → met l ≡ true → (l == c) ≡ false = λ l h. ne_eqb l c (λ e. false≢true (sym free ∙ (ap met (sym e) ∙ h))) in
+      apart (label pair.0) both.0 ∙ sym (apart (label pair.1) both.1)
+])
+
+-- one join more, of a component that isn't met
+pub joining_more : (n : ℕ) (w : ℕ → ℕ → ℤ) (label old new : ℕ → ℕ) (before met : ℕ → Bool) (added : List (ℕ × ℕ)) (c : ℕ) (link : Link)
+    → IsJoining n w label old before added → IsLeastOf n w label c link → before c ≡ false
+    → ((l : ℕ) → before l ≡ true → met l ≡ true) → met c ≡ true → met (label link.to) ≡ true
+    → ((l : ℕ) → l ≢ c → new l ≡ old l) → new c ≡ old (label link.to)
+    → IsJoining n w label new met (added ++ (link.from, link.to) ∷ [])
+joining_more n w label old new before met added c link h least free kept met_c met_to other taken =
+    let pair : ℕ × ℕ = (link.from, link.to) in
+    let l = least.leaving in
+    record {
+      joins = joins_more (IsBelow n) w [] added pair h.joins (record {
+        part = λ x. label x == c;
+        uncrossed = All-weaker (IsWithin label old before) (λ p. crosses (λ x. label x == c) p ≡ false) (λ p within. not_left label old before c p free within) added h.within;
+        from = l.from_in;
+        leaving = record {
+          from = eq-eqb (label link.from) c l.from_is;
+          to = ne_eqb (label link.to) c l.to_out;
+          node = l.to_in;
+          least = λ a b a_in b_in a_part b_out. subst (λ (z : ℤ). z ≤ℤ w a b) l.weight_is
+              (least.least a b a_in b_in (eqb-true (label a) c a_part) (λ same. false≢true (sym b_out ∙ eq-eqb (label b) c same)));
+        };
+      });
+      ends = All-push (λ p. (p.0 < n) × (p.1 < n)) added pair h.ends (l.from_in, l.to_in);
+      within = All-push (IsWithin label new met) added pair
+          (All-weaker (IsWithin label old before) (IsWithin label new met) (λ p within. elim within [
+            | inl same ↦ inl same
+            | inr both ↦
+                let apart : (k : ℕ) → before k ≡ true → new k ≡ old k = λ k m. other k (λ e. false≢true (sym free ∙ (ap before (sym e) ∙ m))) in
+                inr (kept (label p.0) both.0, kept (label p.1) both.1, apart (label p.0) both.0 ∙ (both.2 ∙ sym (apart (label p.1) both.1)))
+          ]) added h.within)
+          (inr (ap met l.from_is ∙ met_c, met_to, ap new l.from_is ∙ (taken ∙ sym (other (label link.to) l.to_out))));
+    }
+
+-- no pair yet
+pub forest_start : (n : ℕ) (w : ℕ → ℕ → ℤ) (label : ℕ → ℕ) → IsForest n w label []
+forest_start n w label = record {
+  joins = tt;
+  ends = All-nil (λ pair. (pair.0 < n) × (pair.1 < n));
+  within = All-nil (λ pair. label pair.0 ≡ label pair.1);
+}
+
+-- the same labels by another name
+pub forest_relabelled : (n : ℕ) (w : ℕ → ℕ → ℤ) (label other : ℕ → ℕ) (added : List (ℕ × ℕ)) → ((x : ℕ) → x < n → other x ≡ label x)
+    → IsForest n w label added → IsForest n w other added
+forest_relabelled n w label other added same h = record {
+  joins = h.joins;
+  ends = h.ends;
+  within = λ k d low.
+      let ends = h.ends k d low in
+      same (get_or added k d).0 ends.0 ∙ (h.within k d low ∙ sym (same (get_or added k d).1 ends.1));
+}
+
+-- ---- as the code shows them
+
+pub set_kept : (marks : List Bool) (i x : ℕ) → get_or marks x false ≡ true → get_or (set marks i true) x false ≡ true
+set_kept [] i x h = absurd (false≢true h)
+set_kept (b ∷ bs) zero zero h = refl
+set_kept (b ∷ bs) zero (suc x) h = h
+set_kept (b ∷ bs) (suc i) zero h = h
+set_kept (b ∷ bs) (suc i) (suc x) h = set_kept bs i x h
+
+pub forest_seen : (m n : ℕ) (v w : ℕ → ℕ → ℤ) (label other : ℕ → ℕ) (added : List (ℕ × ℕ)) → m ≡ n → v ≡ w → ((x : ℕ) → x < m → other x ≡ label x)
+    → IsForest m v label added → IsForest n w other added
+forest_seen m n v w label other added p q same h = subst (λ (k : ℕ). IsForest k w other added) p
+    (subst (λ (u : ℕ → ℕ → ℤ). IsForest m u other added) q (forest_relabelled m v label other added same h))

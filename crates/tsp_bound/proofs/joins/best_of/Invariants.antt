@@ -1,0 +1,5 @@
+use Rattle.tsp_bound.specs.Components.{AreLeaving}
+use Rattle.tsp_bound.proofs.joins.best_of.Given as goal
+
+abbrev pub invariant-nodes : goal.invariant-nodes
+invariant-nodes g l = AreLeaving (g.P.Components.count_of l.nodes) (g.P.Components.weight_of l.nodes) (g.P.Components.label_of l.nodes) l.best.items

@@ -1,0 +1,17 @@
+use Rattle.std.proofs.Common.{◌≡◌, ◌<◌, ℕ, Bool, true, false, length}
+use Rattle.tsp_bound.specs.Boxes.{box_at}
+use Rattle.tsp_bound.specs.Components.{label_at}
+use Rattle.tsp_bound.proofs.Joining.{IsJoining}
+use Rattle.tsp_bound.proofs.joins.join.Given as goal
+
+abbrev pub invariant-components : goal.invariant-components
+invariant-components g l =
+    let n = g.P.Components.count_of l.nodes in
+    let w = g.P.Components.weight_of l.nodes in
+    let label = g.P.Components.label_of l.nodes in
+    record {
+      len : length l.labels.items ≡ n;
+      met_len : length l.met.items ≡ n;
+      low : (c : ℕ) → c < n → label_at l.labels.items c < n;
+      joining : IsJoining n w label (label_at l.labels.items) (box_at false l.met.items) l.added.items;
+    }

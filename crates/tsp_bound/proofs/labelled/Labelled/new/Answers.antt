@@ -1,0 +1,17 @@
+use Rattle.std.proofs.Common.{◌≡◌, ◌<◌, ◌∙◌, ℕ, true, length, arith, sym, subst}
+use Rattle.tsp_bound.specs.Components.{label_at, AreTags}
+use Rattle.tsp_bound.proofs.labelled.Labelled.new.Goals as goal
+
+pub invariant_of-result : goal.invariant_of-result
+invariant_of-result g c =
+    let order = c.args.placed.order.now in
+    let labels = c.in_ok-labels.labels.items in
+    let len : length labels ≡ length order = omega (arith, c.in_ok-labels.ensures.len) in
+    record {
+      as_many = len;
+      low = λ x x_in. subst (λ (k : ℕ). k < length order) (sym (c.in_ok-labels.ensures.own x (omega (arith, x_in)))) x_in;
+      as_many_tags = omega (arith, c.tag_boxes.ensures.len, c.deref.ensures.value, len);
+      tagged = subst (λ ls. AreTags ls c.tag_boxes.new.tags.items) c.deref.ensures.value c.tag_boxes.ensures.tags;
+      boxes = rw c.in-Some.is at c.in_ok-areas.ensures.len;
+      held = (rw c.in-Some.is at c.in_ok-areas.ensures.held) (λ _. true);
+    }

@@ -1,0 +1,9 @@
+use Rattle.std.proofs.Common.{◌≡◌, ◌<◌, ℕ, length}
+use Rattle.tsp_bound.specs.Components.{label_at}
+use Rattle.tsp_bound.proofs.labelled.own_labels.Given as goal
+
+abbrev pub invariant-labels : goal.invariant-labels
+invariant-labels l = record {
+  len : length l.labels.items ≡ l.label;
+  own : (x : ℕ) → x < l.label → label_at l.labels.items x ≡ x;
+}

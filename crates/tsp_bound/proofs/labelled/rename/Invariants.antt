@@ -1,0 +1,10 @@
+use Rattle.std.proofs.Common.{◌≡◌, ◌≤◌, ◌<◌, ℕ, length}
+use Rattle.tsp_bound.specs.Components.{label_at}
+use Rattle.tsp_bound.proofs.labelled.rename.Given as goal
+
+abbrev pub invariant-labels : goal.invariant-labels
+invariant-labels l = record {
+  len : length l.labels ≡ length l.fn.labels;
+  done : (x : ℕ) → x < l.i → label_at l.labels x ≡ label_at l.list (label_at l.fn.labels x);
+  rest : (x : ℕ) → l.i ≤ x → label_at l.labels x ≡ label_at l.fn.labels x;
+}

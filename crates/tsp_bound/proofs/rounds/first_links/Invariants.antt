@@ -1,0 +1,15 @@
+use Rattle.std.proofs.Common.{◌≡◌, ◌<◌, ℕ, length}
+use Rattle.std.specs.Prelude.{slice_index_or}
+use Rattle.tsp_bound.specs.declared.outside.Link.{Link}
+use Rattle.tsp_bound.specs.Components.{IsKept}
+use Rattle.tsp_bound.proofs.rounds.first_links.Given as goal
+
+abbrev pub invariant-nodes : goal.invariant-nodes
+invariant-nodes g l =
+    let n = g.P.Components.count_of l.nodes in
+    let w = g.P.Components.weight_of l.nodes in
+    let label = g.P.Components.label_of l.nodes in
+    record {
+      len : length l.known.items ≡ l.node;
+      each : (x : ℕ) (d : Link) → x < l.node → IsKept n w label x (slice_index_or l.known.items x d);
+    }

@@ -1,0 +1,15 @@
+use Rattle.std.proofs.Common.{◌≡◌}
+use Rattle.tsp_bound.specs.Components.{AreKept, IsForest}
+use Rattle.tsp_bound.proofs.rounds.grow_by_rounds.Given as goal
+
+abbrev pub invariant-rounds : goal.invariant-rounds
+invariant-rounds g l =
+    let n = g.P.Components.count_of l.fn.nodes in
+    let w = g.P.Components.weight_of l.fn.nodes in
+    let label = g.P.Components.label_of l.nodes in
+    record {
+      same_count : g.P.Components.count_of l.nodes ≡ n;
+      same_weights : g.P.Components.weight_of l.nodes ≡ w;
+      known : AreKept n w label l.known.items;
+      forest : IsForest n w label l.added.items;
+    }

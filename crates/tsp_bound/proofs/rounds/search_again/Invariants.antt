@@ -1,0 +1,14 @@
+use Rattle.tsp_bound.specs.Components.{AreKept, AreLeaving}
+use Rattle.tsp_bound.proofs.Known.{AreReached}
+use Rattle.tsp_bound.proofs.rounds.search_again.Given as goal
+
+abbrev pub invariant-nodes : goal.invariant-nodes
+invariant-nodes g l =
+    let n = g.P.Components.count_of l.nodes in
+    let w = g.P.Components.weight_of l.nodes in
+    let label = g.P.Components.label_of l.nodes in
+    record {
+      known : AreKept n w label l.known.items;
+      best : AreLeaving n w label l.best.items;
+      reached : AreReached label l.best.items l.known.items l.node;
+    }

@@ -1,0 +1,20 @@
+use Rattle.std.proofs.Common.{◌≡◌, ◌≤◌, ◌<◌, ◌*◌, ◌+◌, ℕ, Bool, true, length}
+use Rattle.tsp_bound.specs.Boxes.{AreHeldFrom, box_at}
+use Rattle.tsp_bound.specs.Components.{IsTagOf, label_at}
+use Rattle.tsp_bound.proofs.tags.tag_boxes.Given as goal
+
+abbrev pub invariant-leaves : goal.invariant-leaves
+invariant-leaves l = record {
+  len : length l.tags.items ≡ 2 * length l.labels;
+  done : (j : ℕ) → j < l.place → IsTagOf (box_at 0 l.tags.items (length l.labels + j)) (label_at l.labels j);
+}
+
+abbrev pub invariant-halves : goal.invariant-halves
+invariant-halves l = record {
+  len : length l.tags.items ≡ 2 * length l.labels;
+  high : l.v ≤ length l.labels;
+  held : AreHeldFrom IsTagOf l.v l.labels (λ _. true) (box_at 0 l.tags.items);
+}
+
+abbrev pub decreases-halves : goal.decreases-halves
+decreases-halves l = l.v

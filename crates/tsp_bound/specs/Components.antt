@@ -1,0 +1,99 @@
+-- The components of a forest over places 0..n-1, each with a label, and the links between them.
+use Rattle.std.specs.Prelude.{◌≡◌, ◌≢◌, ℕ, ◌+◌, ◌==◌, ◌<◌, Bool, true, not, if◌then◌else◌, List, [], length, slice_index_or, Option, None, Some, ℤ, ◌≤ℤ◌, IfSome, ◌⊎◌}
+use Rattle.std.specs.List.{All}
+use Rattle.tsp_bound.specs.declared.area.Area.{Area}
+use Rattle.tsp_bound.specs.declared.outside.Link.{Link}
+use Rattle.tsp_bound.specs.Boxes.{AreHeld, box_at}
+use Rattle.tsp_bound.specs.Heap.{IsBelow}
+use Rattle.tsp_theory.specs.Forest.{AreLeastJoins, IsWholeForest}
+use Rattle.tsp_theory.specs.Numbers.{IsSumSized}
+use Rattle.tsp_theory.specs.Tree.{weight_of}
+
+abbrev pub label_at : List ℕ → ℕ → ℕ
+label_at labels x = slice_index_or labels x 0
+
+-- in another component than the nodes of label `own`
+abbrev pub is_apart : (ℕ → ℕ) → ℕ → ℕ → Bool
+is_apart label own x = not (label x == own)
+
+-- ---- tags of boxes
+
+-- the tag of a box with nodes of several labels
+abbrev pub mixed : ℕ
+mixed = 4294967295
+
+-- a tag, if it isn't the mixed one, is the label of each node in the box
+abbrev pub IsTagOf : ℕ → ℕ → Type 0
+IsTagOf tag label = tag ≢ mixed → tag ≡ label
+
+abbrev pub AreTags : List ℕ → List ℕ → Type 0
+AreTags labels tags = AreHeld IsTagOf labels (λ _. true) (box_at 0 tags)
+
+-- the boxes as the component of label `own` sees them: those of its own nodes alone are none
+abbrev pub seen_area : List ℕ → (ℕ → Option Area) → ℕ → ℕ → Option Area
+seen_area tags area own v = if box_at 0 tags v == own then None else area v
+
+-- ---- links
+
+-- a link from the node x, with its own weight, and no pair of x that leaves its component weighs less
+pub record IsKept (n : ℕ) (w : ℕ → ℕ → ℤ) (label : ℕ → ℕ) (x : ℕ) (link : Link) : Type 0 where
+  pub from_is : link.from ≡ x
+  pub to_in : link.to < n
+  pub weight_is : link.weight ≡ w x link.to
+  pub least : (y : ℕ) → y < n → label y ≢ label x → link.weight ≤ℤ w x y
+
+-- one of each node
+pub record AreKept (n : ℕ) (w : ℕ → ℕ → ℤ) (label : ℕ → ℕ) (known : List Link) : Type 0 where
+  pub len : length known ≡ n
+  pub each : (x : ℕ) (d : Link) → x < n → IsKept n w label x (slice_index_or known x d)
+
+-- a link that leaves the component of label c
+pub record IsLeaving (n : ℕ) (w : ℕ → ℕ → ℤ) (label : ℕ → ℕ) (c : ℕ) (link : Link) : Type 0 where
+  pub from_in : link.from < n
+  pub from_is : label link.from ≡ c
+  pub to_in : link.to < n
+  pub to_out : label link.to ≢ c
+  pub weight_is : link.weight ≡ w link.from link.to
+
+-- and no pair that leaves it weighs less
+pub record IsLeastOf (n : ℕ) (w : ℕ → ℕ → ℤ) (label : ℕ → ℕ) (c : ℕ) (link : Link) : Type 0 where
+  pub leaving : IsLeaving n w label c link
+  pub least : (x y : ℕ) → x < n → y < n → label x ≡ c → label y ≢ c → link.weight ≤ℤ w x y
+
+abbrev pub link_of : List (Option Link) → ℕ → Option Link
+link_of best c = slice_index_or best c None
+
+-- those that are there, by label
+pub record AreLeaving (n : ℕ) (w : ℕ → ℕ → ℤ) (label : ℕ → ℕ) (best : List (Option Link)) : Type 0 where
+  pub len : length best ≡ n
+  pub each : (c : ℕ) → c < n → IfSome (link_of best c) (IsLeaving n w label c)
+
+pub record AreLeast (n : ℕ) (w : ℕ → ℕ → ℤ) (label : ℕ → ℕ) (best : List (Option Link)) : Type 0 where
+  pub len : length best ≡ n
+  pub each : (c : ℕ) → c < n → IfSome (link_of best c) (IsLeastOf n w label c)
+
+-- a link, or the old one, that is no heavier than either
+pub record IsOffered (old : Option Link) (link new : Link) : Type 0 where
+  pub no_worse : new.weight ≤ℤ link.weight
+  pub kept : IfSome old (λ was. new.weight ≤ℤ was.weight)
+  pub one : (new ≡ link) ⊎ (old ≡ Some new)
+
+-- ---- the forest
+
+-- least joins so far, the two ends of each with the same label
+pub record IsForest (n : ℕ) (w : ℕ → ℕ → ℤ) (label : ℕ → ℕ) (added : List (ℕ × ℕ)) : Type 0 where
+  pub joins : AreLeastJoins (IsBelow n) w [] added
+  pub ends : All (λ pair. (pair.0 < n) × (pair.1 < n)) added
+  pub within : All (λ pair. label pair.0 ≡ label pair.1) added
+
+-- as many as a tree over the places has
+pub record IsSpanning (n : ℕ) (w : ℕ → ℕ → ℤ) (added : List (ℕ × ℕ)) : Type 0 where
+  pub joins : AreLeastJoins (IsBelow n) w [] added
+  pub ends : All (λ pair. (pair.0 < n) × (pair.1 < n)) added
+  pub count : length added + 1 ≡ n
+
+-- least joins over 2..n, as many as a tree has, and the sum of their weights
+pub record IsWeighedForest (n : ℕ) (w : ℕ → ℕ → ℤ) (added : List (ℕ × ℕ)) (sum : ℤ) : Type 0 where
+  pub whole : IsWholeForest n w added
+  pub weight : sum ≡ weight_of w added
+  pub size : IsSumSized (length added) sum

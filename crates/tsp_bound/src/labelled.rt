@@ -1,0 +1,164 @@
+//! Nodes in an order, each with the label of its component.
+
+ghost use Rattle.std.specs.Prelude.{◌≡◌, ◌<◌, ◌*◌, ℕ, true, length, IfOk};
+ghost use Rattle.tsp_bound.specs.Potentials.{numbers_of};
+ghost use Rattle.tsp_bound.specs.Boxes.{HoldsNode, AreHeld, AreHeld-prop, area_at, node_of};
+ghost use Rattle.tsp_bound.specs.Components.{AreTags, is_apart, label_at, seen_area};
+
+use crate::area::Area;
+use crate::boxes::boxes_of;
+use crate::components::Components;
+use crate::outside::Link;
+use crate::placed::Placed;
+use crate::seen::Seen;
+use crate::tags::tag_boxes;
+use std::alloc::{AllocError, Global};
+use tsp_theory::Grouped;
+
+/// Nodes in an order with labels, and the tree of boxes over all of them with its tags.
+#[derive(Drop)]
+pub(crate) struct Labelled<'a, C: Grouped> {
+    placed: Placed<'a, C>,
+    labels: Vec<u32>,
+    tags: Vec<u32>,
+    areas: Vec<Option<Area>>,
+    ghost as_many: { length labels.items ≡ length placed.order.now },
+    ghost low: { (x : ℕ) → x < length placed.order.now → label_at labels.items x < length placed.order.now },
+    ghost as_many_tags: { length tags.items ≡ 2 * length placed.order.now },
+    ghost tagged: { AreTags labels.items tags.items },
+    ghost boxes: { length areas.items ≡ 2 * length placed.order.now },
+    ghost held: { AreHeld (HoldsNode (C.place placed.c.now) (numbers_of placed.p))
+        placed.order.now (λ _. true) (area_at areas.items) } by { AreHeld-prop (C.place placed.c.now) (numbers_of placed.p) placed.order.now (λ _. true) (area_at areas.items) },
+}
+
+/// The labels 0..count.
+///
+/// # Errors
+///
+/// Out of memory.
+pub(crate) fn own_labels(alloc: Global, count: u32) -> Result<Vec<u32>, AllocError>
+    ensures len { IfOk result (λ labels. length labels.items ≡ count) }
+    ensures own { IfOk result (λ labels. (x : ℕ) → x < count → label_at labels.items x ≡ x) }
+{
+    let mut labels = Vec::with_capacity(alloc, count as usize)?;
+    'labels: for label in 0..count {
+        labels.push(label)?;
+    }
+    Ok(labels)
+}
+
+/// Gives each label its entry in a list.
+fn rename(labels: &mut [u32], list: &[u32])
+    requires low { (x : ℕ) → x < length labels.old → label_at labels.old x < length list.now }
+    ensures len { length labels.new ≡ length labels.old }
+    ensures renamed { (x : ℕ) → x < length labels.old → label_at labels.new x ≡ label_at list.now (label_at labels.old x) }
+{
+    'labels: for i in 0..labels.len() {
+        labels[i] = list[labels[i] as usize];
+    }
+}
+
+impl<'a, C: Grouped> Labelled<'a, C> {
+    ghost use Rattle.std.specs.Prelude.{IfSome};
+
+    /// Nodes that are each a component of its own; none where the costs have no place for one.
+    ///
+    /// # Errors
+    ///
+    /// Out of memory.
+    pub(crate) fn new(
+        alloc: Global,
+        placed: Placed<'a, C>,
+    ) -> Result<Option<Labelled<'a, C>>, AllocError>
+        ensures order { IfOk result (λ made. IfSome made (λ labelled. labelled.placed.order.now ≡ placed.entry.order.now)) }
+        ensures costs { IfOk result (λ made. IfSome made (λ labelled. labelled.placed.c.now ≡ placed.entry.c.now)) }
+        ensures potentials { IfOk result (λ made. IfSome made (λ labelled. labelled.placed.p ≡ placed.entry.p)) }
+        ensures multipliers { IfOk result (λ made. IfSome made (λ labelled. labelled.placed.m.now ≡ placed.entry.m.now)) }
+        ensures own { IfOk result (λ made. IfSome made (λ labelled. (x : ℕ) → x < length placed.entry.order.now
+            → label_at labelled.labels.items x ≡ x)) }
+    {
+        let Some(areas) = boxes_of(alloc, placed.c, &placed.p, placed.order)? else {
+            return Ok(None);
+        };
+        let count = placed.order.len();
+        let labels = own_labels(alloc, count as u32)?;
+        let mut tags = vec![in alloc; 0; 2 * count]?;
+        tag_boxes(&labels, &mut tags);
+        Ok(Some(Labelled {
+            placed,
+            labels,
+            tags,
+            areas,
+        }))
+    }
+}
+
+/// The boxes as one component sees them.
+#[derive(Drop)]
+struct Apart<'a> {
+    labels: &'a [u32],
+    tags: &'a [u32],
+    areas: &'a [Option<Area>],
+    own: u32,
+    ghost as_many_tags: { length tags.now ≡ 2 * length labels.now },
+    ghost boxes: { length areas.now ≡ 2 * length labels.now },
+}
+
+impl Seen for Apart<'_> {
+    ghost count_of = { λ s. length s.labels.now };
+
+    ghost outside_of = { λ s x. is_apart (label_at s.labels.now) s.own x };
+
+    ghost area_of = { λ s v. seen_area s.tags.now (area_at s.areas.now) s.own v };
+
+    #[inline]
+    fn is_outside(&self, place: usize) -> bool {
+        self.labels[place] != self.own
+    }
+
+    #[inline]
+    fn area(&self, v: usize) -> Option<&Area> {
+        if self.tags[v] == self.own {
+            return None;
+        }
+        match &self.areas[v] {
+            None => None,
+            Some(area) => Some(area),
+        }
+    }
+}
+
+impl<C: Grouped> Components for Labelled<'_, C> {
+    ghost use Rattle.tsp_bound.specs.Multipliers.{triples_in, weight_less};
+
+    ghost count_of = { λ s. length s.placed.order.now };
+
+    ghost weight_of = { λ s i j. weight_less s.placed.p (triples_in s.placed.m.now)
+        (C.at s.placed.c.now) (node_of s.placed.order.now i) (node_of s.placed.order.now j) };
+
+    ghost label_of = { λ s x. label_at s.labels.items x };
+
+    fn count(&self) -> u32 {
+        self.placed.order.len() as u32
+    }
+
+    #[inline]
+    fn label(&self, node: u32) -> u32 {
+        self.labels[node as usize]
+    }
+
+    fn nearest(&self, from: u32, near: u32, steps: &mut u64) -> Option<Link> {
+        let apart = Apart {
+            labels: &self.labels,
+            tags: &self.tags,
+            areas: &self.areas,
+            own: self.labels[from as usize],
+        };
+        self.placed.nearest(&apart, from, near, steps)
+    }
+
+    fn relabel(&mut self, labels: &[u32]) {
+        rename(&mut self.labels, labels);
+        tag_boxes(&self.labels, &mut self.tags);
+    }
+}

@@ -1,0 +1,111 @@
+//! The growth of a forest into a tree, by rounds in which each component adds its least link.
+
+ghost use Rattle.std.specs.Prelude.{◌≡◌, ◌<◌, ◌+◌, ℕ, true, length, IfOk, IfSome};
+ghost use Rattle.std.specs.Bool.{OnTrue};
+ghost use Rattle.tsp_bound.specs.Components.{AreKept, AreLeast, AreLeaving, IsSpanning};
+
+use crate::components::Components;
+use crate::joins::{best_of, better, is_better, join};
+use crate::outside::Link;
+use std::alloc::{AllocError, Global};
+
+/// As many rounds as any tree takes: in each one at least half of the components vanish.
+const MOST_ROUNDS: u32 = 32;
+
+/// Joins all nodes by pairs, for about as many steps of search as the budget allows. Each pair
+/// leads from a component of the pairs before it to another one, and no such pair weighs less. None
+/// where the budget is exhausted.
+///
+/// Each node has a link that weighs no more than any pair from it to another component: its least
+/// one, as of when it was searched for. It is searched for again only where it no longer leads to
+/// another component and weighs less than the best link of its own.
+///
+/// # Errors
+///
+/// Out of memory.
+pub(crate) fn grow_by_rounds<P: Components>(
+    alloc: Global,
+    nodes: &mut P,
+    most_steps: u64,
+) -> Result<Option<Vec<(u32, u32)>>, AllocError>
+    requires own { (x : ℕ) → x < P.count_of nodes.old → P.label_of nodes.old x ≡ x }
+    ensures { IfOk result (λ grown. IfSome grown (λ added.
+        IsSpanning (P.count_of nodes.old) (P.weight_of nodes.old) added.items)) }
+{
+    let count = nodes.count() as usize;
+    let mut added = Vec::new(alloc);
+    let mut steps = 0;
+    let Some(mut known) = first_links(alloc, nodes, most_steps, &mut steps)? else {
+        return Ok(None);
+    };
+    'rounds: for _ in 0..MOST_ROUNDS {
+        if added.len() + 1 == count {
+            return Ok(Some(added));
+        }
+        let mut best = best_of(alloc, nodes, &known)?;
+        if !search_again(nodes, &mut known, &mut best, most_steps, &mut steps) {
+            break;
+        }
+        let labels = join(alloc, nodes, &best, &mut added)?;
+        nodes.relabel(&labels);
+    }
+    Ok(None)
+}
+
+/// The least link of each node to another component; none where the budget is exhausted.
+///
+/// # Errors
+///
+/// Out of memory.
+fn first_links<P: Components>(
+    alloc: Global,
+    nodes: &P,
+    most_steps: u64,
+    steps: &mut u64,
+) -> Result<Option<Vec<Link>>, AllocError>
+    ensures { IfOk result (λ found. IfSome found (λ known.
+        AreKept (P.count_of nodes.now) (P.weight_of nodes.now) (P.label_of nodes.now) known.items)) }
+{
+    let mut known = Vec::with_capacity(alloc, nodes.count() as usize)?;
+    'nodes: for node in 0..nodes.count() {
+        let Some(link) = nodes.nearest(node, node, steps) else {
+            return Ok(None);
+        };
+        if *steps > most_steps {
+            return Ok(None);
+        }
+        known.push(link)?;
+    }
+    Ok(Some(known))
+}
+
+/// Searches for the links again that are better than the best of their components, and takes what
+/// it finds into account. False where the budget is exhausted.
+fn search_again<P: Components>(
+    nodes: &P,
+    known: &mut Vec<Link>,
+    best: &mut Vec<Option<Link>>,
+    most_steps: u64,
+    steps: &mut u64,
+) -> bool
+    requires known { AreKept (P.count_of nodes.now) (P.weight_of nodes.now) (P.label_of nodes.now) known.old.items }
+    requires best { AreLeaving (P.count_of nodes.now) (P.weight_of nodes.now) (P.label_of nodes.now) best.old.items }
+    ensures known { AreKept (P.count_of nodes.now) (P.weight_of nodes.now) (P.label_of nodes.now) known.new.items }
+    ensures best { OnTrue result
+        (AreLeast (P.count_of nodes.now) (P.weight_of nodes.now) (P.label_of nodes.now) best.new.items) }
+{
+    'nodes: for node in 0..nodes.count() {
+        let label = nodes.label(node) as usize;
+        if is_better(known[node as usize], best[label]) {
+            let Some(link) = nodes.nearest(node, node, steps) else {
+                return false;
+            };
+            if *steps > most_steps {
+                return false;
+            }
+            known[node as usize] = link;
+            best[label] = Some(better(best[label], link));
+        }
+    }
+    true
+}
