@@ -1,6 +1,7 @@
-/* The heap of the WebAssembly module. Blocks have sizes of powers of two, each with its class in the 16
- * bytes before it. A block that is freed goes to the list of its class, and a new one is taken from there, or
- * from the end of the memory, which grows. So a block is aligned to 16 bytes, as the code asks. */
+/* The heap of the WebAssembly module. Blocks have sizes of powers of two, each with its class in its first 16
+ * bytes. A block that is freed goes to the list of its class, and a new one is taken from there, or from the
+ * end of the memory, which grows. Where it can't grow, a larger free block is halved. Blocks aren't joined again:
+ * the page takes a new memory for each job. What is given out is aligned to 16 bytes, as the code asks. */
 #include "heap.h"
 
 enum { PAGE = 65536, LEAST = 5, CLASSES = 40 };
@@ -12,8 +13,8 @@ struct block {
 
 extern u8 __heap_base;
 
-static u64 top;                   /* where the memory that was never used begins; 0 before the first block */
-static void *free_blocks[CLASSES]; /* the first free block of each class, which has the address of the next */
+static u64 top;                            /* where the unused memory begins; 0 before the first block */
+static struct block *free_blocks[CLASSES]; /* the first of each class, which has the address of the next */
 
 static u64 memory_bytes(void) {
     return __builtin_wasm_memory_size(0) * PAGE;
@@ -34,16 +35,46 @@ static struct block *fresh(u64 bytes) {
     return block;
 }
 
+/* The first free block of a class, without which its list goes on; 0 where there is none. */
+static struct block *listed(u64 class) {
+    struct block *block = free_blocks[class];
+    if (block)
+        free_blocks[class] = *(struct block **)(block + 1);
+    return block;
+}
+
+static void list(struct block *block, u64 class) {
+    *(struct block **)(block + 1) = free_blocks[class];
+    free_blocks[class] = block;
+}
+
+/* A part of a larger free block, of which the rest is listed; 0 where there is none. */
+static struct block *halved(u64 class) {
+    u64 larger = class + 1;
+    while (larger < CLASSES && !free_blocks[larger])
+        larger++;
+    if (larger >= CLASSES)
+        return 0;
+    struct block *block = listed(larger);
+    while (larger > class) {
+        larger--;
+        list((struct block *)((u8 *)block + ((u64)1 << larger)), larger);
+    }
+    return block;
+}
+
 void *heap_take(u64 bytes) {
     u64 class = LEAST;
     while (class < CLASSES && ((u64)1 << class) - sizeof(struct block) < bytes)
         class++;
     if (class == CLASSES)
         return 0;
-    struct block *block = free_blocks[class];
-    if (block)
-        free_blocks[class] = *(void **)(block + 1);
-    else if (!(block = fresh((u64)1 << class)))
+    struct block *block = listed(class);
+    if (!block)
+        block = fresh((u64)1 << class);
+    if (!block)
+        block = halved(class);
+    if (!block)
         return 0;
     block->class = class;
     return block + 1;
@@ -51,8 +82,7 @@ void *heap_take(u64 bytes) {
 
 void heap_free(void *place) {
     struct block *block = (struct block *)place - 1;
-    *(void **)place = free_blocks[block->class];
-    free_blocks[block->class] = block;
+    list(block, block->class);
 }
 
 void *heap_resize(void *place, u64 bytes) {

@@ -82,14 +82,13 @@ export class Library {
     }
 
     /**
-     * The library of a module.
+     * The library of a module, with a memory of its own.
      *
-     * @param {BufferSource} bytes of the module
+     * @param {WebAssembly.Module} module
      * @returns {Promise<Library>}
      */
-    static async of(bytes) {
-        const { instance } = await WebAssembly.instantiate(bytes, {});
-        return new Library(instance.exports);
+    static async of(module) {
+        return new Library((await WebAssembly.instantiate(module, {})).exports);
     }
 
     /** @returns {string} the version, as 1.2.3 */

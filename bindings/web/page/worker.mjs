@@ -3,16 +3,17 @@
 import { Library } from "./library.mjs";
 import { run } from "./run.mjs";
 
-/** @type {Promise<Library> | null} */
-let library = null;
+/** @type {Promise<WebAssembly.Module> | null} */
+let module = null;
 
 addEventListener("message", async ({ data }) => {
     try {
-        if (library === null) {
-            library = Library.of(data);
-            postMessage({ version: (await library).version() });
+        if (module === null) {
+            module = WebAssembly.compile(data);
+            postMessage({ version: (await Library.of(await module)).version() });
         } else {
-            postMessage({ outcome: run(await library, data) });
+            // (a new memory for each job)
+            postMessage({ outcome: run(await Library.of(await module), data) });
         }
     } catch (error) {
         postMessage({ failed: String(error) });

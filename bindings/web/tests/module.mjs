@@ -21,6 +21,6 @@ export function moduleOf(page) {
  * @param {string} page its path
  * @returns {Promise<Library>}
  */
-export function libraryOf(page) {
-    return Library.of(moduleOf(page));
+export async function libraryOf(page) {
+    return Library.of(await WebAssembly.compile(moduleOf(page)));
 }

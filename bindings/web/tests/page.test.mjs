@@ -39,7 +39,7 @@ test("what a verdict means", () => {
     assert.equal(word("routes 2\nleast 2\nlength 9\nyes"), "Yes");
     assert.equal(word("no TourLength"), "No");
     const { meaning } = verdictOf(reportOf("type TSP\nnodes 8\nlength 300\nbound 299\ngap 1\nyes\n"));
-    assert.match(meaning, /not? more than 1 shorter, which is 0\.34 %/i, "a share is rounded up");
+    assert.match(meaning, /No tour is more than 1 shorter, which is 0\.34 %\.$/, "a share is rounded up");
 });
 
 test("sections of a canonical text", () => {
