@@ -178,7 +178,7 @@ function show(answered) {
     const { status, text, report, explanation, command, scene } = answered;
     const unknown = report?.notJudged.join(", ") ?? "";
     tell(...headlineOf(answered));
-    fill("explanation", explanation);
+    fill("explanation", explanation.replace(/^  /gm, "").trimEnd());
     fill("not-judged", unknown && `Not judged: ${unknown}. The verdict says nothing about these lines.`);
     find("details").hidden = false;
     find("report").textContent = text;
@@ -186,6 +186,7 @@ function show(answered) {
     find("no-drawing").hidden = scene !== null || given.instance === null || status !== Status.YES;
     outcome = answered;
     draw();
+    find("verdict").scrollIntoView({ block: "nearest" });
 }
 
 /**
@@ -224,7 +225,7 @@ function draw() {
     drawn = find("result").clientWidth;
     if (outcome?.scene) {
         fillPicture("map", pictureOf(outcome.scene, drawn, kindOf(outcome.report)));
-        find("legend").textContent = legendOf(outcome.scene, outcome.hasTour, outcome.report);
+        find("legend").textContent = legendOf(outcome.scene, outcome.report);
         find("figure").hidden = false;
     }
     const bar = outcome?.report ? barOf(outcome.report, drawn) : null;
@@ -250,15 +251,14 @@ function kindOf(report) {
  * What the drawing shows, in words.
  *
  * @param {import("./scene.mjs").Scene} scene
- * @param {boolean} hasTour
  * @param {import("./report.mjs").Report | null} report
  * @returns {string}
  */
-function legendOf(scene, hasTour, report) {
-    const nodes = scene.points.length / 2;
-    const { marks, missing, fixed, depot, note } = scene;
+function legendOf(scene, report) {
+    const { points, tours, marks, missing, fixed, depot, note } = scene;
+    const walks = tours.length === 1 ? " and the tour" : ` and ${tours.length} tours or routes`;
     return [
-        `${nodes.toLocaleString("en")} nodes${hasTour ? " and the tour" : ""}.`,
+        `${(points.length / 2).toLocaleString("en")} nodes${tours.length ? walks : ""}.`,
         depot === null ? "" : "The square is the depot.",
         fixed.length ? "Thick lines are fixed edges." : "",
         marks.nodes.length || marks.route ? `Red marks the place of ${report?.reason}.` : "",

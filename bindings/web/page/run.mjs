@@ -24,7 +24,6 @@ import { sceneOf } from "./scene.mjs";
  * @property {string} explanation
  * @property {import("./report.mjs").Report | null} report of a check or a bound
  * @property {import("./scene.mjs").Scene | null} scene
- * @property {boolean} hasTour whether there is a solution to draw
  */
 
 const NOTHING = new Uint8Array();
@@ -67,7 +66,6 @@ export function run(library, job) {
         explanation: new TextDecoder().decode(explanationOf(library, job, verb)),
         report,
         scene: job.instance ? sceneOf(library, job.instance.bytes, solution, report) : null,
-        hasTour: solution !== null,
     };
 }
 
