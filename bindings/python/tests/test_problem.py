@@ -217,6 +217,10 @@ class RoundTrips(unittest.TestCase):
                     problem.write(file)
                 with open(path, "r" + mode) as file:
                     self.assertEqual(yokecairn.read(file), problem)
+            self.assertEqual(yokecairn.Problem.load(path), problem)
+            with open(path) as file:
+                self.assertEqual(yokecairn.Problem.read(file), problem)
+            self.assertEqual(yokecairn.Problem.parse(EVERY_KEYWORD), problem)
         text, data = io.StringIO(), io.BytesIO()
         problem.write(text)
         problem.write(data)

@@ -104,6 +104,21 @@ class Problem:
         self._fill(canonical(_canonical.text_of_fields(fields, others)), floats)
 
     @classmethod
+    def parse(cls, text: Union[str, bytes], *, floats: bool = False) -> "Problem":
+        """The same as the function `parse`."""
+        return parse(text, floats=floats)
+
+    @classmethod
+    def read(cls, file: IO[Any], *, floats: bool = False) -> "Problem":
+        """The same as the function `read`."""
+        return read(file, floats=floats)
+
+    @classmethod
+    def load(cls, path: Path, *, floats: bool = False) -> "Problem":
+        """The same as the function `load`."""
+        return load(path, floats=floats)
+
+    @classmethod
     def _of(cls, text: bytes, floats: bool) -> "Problem":
         """The file with this canonical text."""
         problem = cls.__new__(cls)

@@ -1,0 +1,19 @@
+/* What the module's heap offers: to heap.ll, which the proved code calls, and to the page, which puts texts
+ * into the memory before a call. */
+#ifndef HEAP_H
+#define HEAP_H
+
+typedef unsigned char u8;
+typedef unsigned long u64;
+
+/* Memory for so many bytes, aligned to 16; 0 where there is none. */
+__attribute__((export_name("heap_take"))) void *heap_take(u64 bytes);
+
+/* Gives a block back. */
+__attribute__((export_name("heap_free"))) void heap_free(void *place);
+
+/* A block of another size with the same bytes, as far as both have them; 0 where there is no memory, and
+ * then the block is as it was. */
+void *heap_resize(void *place, u64 bytes);
+
+#endif

@@ -1,0 +1,34 @@
+; The three calls by which the proved code takes memory, over heap.c. Two of them return a pair: 1 and the
+; address, or 0 where there is no memory. C has no such result, so this is in LLVM's language.
+target datalayout = "e-m:e-p:64:64-p10:8:8-p20:8:8-i64:64-i128:128-n32:64-S128-ni:1:10:20"
+target triple = "wasm64-unknown-unknown"
+
+declare ptr @heap_take(i64)
+declare ptr @heap_resize(ptr, i64)
+declare void @heap_free(ptr)
+
+define internal { i64, i64 } @pair(ptr %place) {
+  %address = ptrtoint ptr %place to i64
+  %found = icmp ne i64 %address, 0
+  %one = zext i1 %found to i64
+  %half = insertvalue { i64, i64 } poison, i64 %one, 0
+  %whole = insertvalue { i64, i64 } %half, i64 %address, 1
+  ret { i64, i64 } %whole
+}
+
+define { i64, i64 } @rattle_alloc(i64 %bytes, i64 %align) {
+  %place = call ptr @heap_take(i64 %bytes)
+  %pair = call { i64, i64 } @pair(ptr %place)
+  ret { i64, i64 } %pair
+}
+
+define { i64, i64 } @rattle_realloc(ptr %old, i64 %had, i64 %bytes, i64 %align) {
+  %place = call ptr @heap_resize(ptr %old, i64 %bytes)
+  %pair = call { i64, i64 } @pair(ptr %place)
+  ret { i64, i64 } %pair
+}
+
+define void @rattle_dealloc(ptr %place) {
+  call void @heap_free(ptr %place)
+  ret void
+}

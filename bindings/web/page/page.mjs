@@ -1,0 +1,346 @@
+// The page: files come in, a worker judges them, and what it answers is shown.
+
+import { By, Status } from "./library.mjs";
+import { barOf, pictureOf } from "./picture.mjs";
+import { verdictOf } from "./report.mjs";
+import { roleOf } from "./roles.mjs";
+import { verbOf } from "./run.mjs";
+
+const SVG = "http://www.w3.org/2000/svg";
+const SLOTS = /** @type {const} */ (["instance", "solution", "certificate"]);
+const LEAST_LENGTH = -(2n ** 63n);
+const MOST_LENGTH = 2n ** 63n - 1n;
+
+/** @param {string} id */
+const find = (id) => /** @type {HTMLElement} */ (document.getElementById(id));
+
+/** The files that are given, and the rest of the next job. */
+const given = { instance: null, solution: null, certificate: null };
+
+/** @type {Worker | null} */
+let worker = null;
+
+/** @type {import("./run.mjs").Outcome | null} what is shown */
+let outcome = null;
+
+/** How wide it was drawn. */
+let drawn = 0;
+
+// ---- the worker
+
+/** The bytes of the module, which the page has as text. */
+function moduleBytes() {
+    return Uint8Array.from(atob(find("module").textContent.trim()), (letter) => letter.charCodeAt(0));
+}
+
+/** Begins a worker, which first says which version it is. */
+function begin() {
+    const code = new Blob([find("worker").textContent], { type: "text/javascript" });
+    worker = new Worker(URL.createObjectURL(code));
+    worker.addEventListener("message", ({ data }) => hear(data));
+    worker.addEventListener("error", (event) => hear({ failed: event.message }));
+    worker.postMessage(moduleBytes());
+}
+
+/** Ends what is judged now, if anything is. */
+function stop() {
+    if (document.body.classList.contains("busy")) {
+        worker?.terminate();
+        begin();
+        document.body.classList.remove("busy");
+        find("stop").hidden = true;
+    }
+}
+
+/** @param {{ version?: string, outcome?: import("./run.mjs").Outcome, failed?: string }} message of the worker */
+function hear(message) {
+    if (message.version !== undefined) {
+        find("version").textContent = message.version;
+        return;
+    }
+    document.body.classList.remove("busy");
+    find("stop").hidden = true;
+    if (message.outcome) {
+        show(message.outcome);
+    } else {
+        worker?.terminate();
+        begin();
+        tell("fault", "Not judged", `The browser stopped the check: ${message.failed}. The program tsp needs less memory.`);
+    }
+}
+
+// ---- files
+
+/**
+ * Puts a file to its place.
+ *
+ * @param {import("./roles.mjs").Slot} slot
+ * @param {import("./run.mjs").Given | null} file
+ * @param {number} [by]
+ */
+function put(slot, file, by) {
+    given[slot] = file;
+    find(`${slot}-name`).textContent = file ? `${file.name}, ${file.bytes.length.toLocaleString("en")} bytes` : "none";
+    find(`${slot}-remove`).hidden = file === null;
+    if (by !== undefined) {
+        /** @type {HTMLInputElement} */ (find(by === By.BRANCHES ? "by-branches" : "by-potentials")).checked = true;
+    }
+}
+
+/**
+ * Takes files: to a place, or each to where it belongs.
+ *
+ * @param {Iterable<File>} files
+ * @param {import("./roles.mjs").Slot | null} slot
+ */
+async function take(files, slot) {
+    try {
+        for (const file of files) {
+            const bytes = new Uint8Array(await file.arrayBuffer());
+            const role = roleOf(file.name, bytes);
+            put(slot ?? role.slot, { name: file.name, bytes }, role.by);
+        }
+    } catch (error) {
+        tell("fault", "Not read", `The browser can't read the file: ${error}`);
+        return;
+    }
+    judge();
+}
+
+/** @param {string} name of an example */
+function takeExample(name) {
+    const example = JSON.parse(find("examples").textContent)[name];
+    SLOTS.forEach((slot) => put(slot, null));
+    for (const [file, text] of Object.entries(example.files)) {
+        const bytes = new TextEncoder().encode(text);
+        const role = roleOf(file, bytes);
+        put(role.slot, { name: file, bytes }, role.by);
+    }
+    /** @type {HTMLInputElement} */ (find("claimed")).value = "";
+    judge();
+}
+
+// ---- the job
+
+/** The claimed length; null where none is claimed, undefined where it is no length. */
+function claimed() {
+    const words = /** @type {HTMLInputElement} */ (find("claimed")).value.trim();
+    if (words === "") {
+        return null;
+    }
+    const number = /^[+-]?\d{1,30}$/.test(words) ? BigInt(words.replace("+", "")) : null;
+    return number !== null && number >= LEAST_LENGTH && number <= MOST_LENGTH ? number : undefined;
+}
+
+/** Has the files judged, where they are enough. */
+function judge() {
+    stop();
+    const length = claimed();
+    find("claimed").setAttribute("aria-invalid", String(length === undefined));
+    find("claimed-fault").hidden = length !== undefined;
+    const isBranches = /** @type {HTMLInputElement} */ (find("by-branches")).checked;
+    const job = { ...given, by: isBranches ? By.BRANCHES : By.POTENTIALS, claimed: length };
+    if (length === undefined) {
+        return;
+    }
+    if (verbOf(job) === null) {
+        const isEmpty = SLOTS.every((slot) => given[slot] === null);
+        tell("none", isEmpty ? "" : "No instance", isEmpty ? "" : "Choose the instance too.");
+        return;
+    }
+    document.body.classList.add("busy");
+    find("stop").hidden = false;
+    tell("none", "Checking …", "");
+    worker?.postMessage(job);
+}
+
+// ---- what is shown
+
+/**
+ * Shows a verdict in place of an outcome.
+ *
+ * @param {string} kind yes, no, fault or none
+ * @param {string} word
+ * @param {string} meaning
+ */
+function tell(kind, word, meaning) {
+    outcome = null;
+    find("verdict").className = kind;
+    find("verdict").textContent = word;
+    find("meaning").textContent = meaning;
+    for (const id of ["explanation", "not-judged", "no-drawing", "details", "figure", "bar"]) {
+        find(id).setAttribute("hidden", "");
+    }
+}
+
+/** @param {import("./run.mjs").Outcome} answered */
+function show(answered) {
+    const { status, text, report, explanation, command, scene } = answered;
+    const unknown = report?.notJudged.join(", ") ?? "";
+    tell(...headlineOf(answered));
+    fill("explanation", explanation.replace(/^  /gm, "").trimEnd());
+    fill("not-judged", unknown && `Not judged: ${unknown}. The verdict says nothing about these lines.`);
+    find("details").hidden = false;
+    find("report").textContent = text;
+    find("command").textContent = command;
+    find("no-drawing").hidden = scene !== null || given.instance === null || status !== Status.YES;
+    outcome = answered;
+    draw();
+    find("verdict").scrollIntoView({ block: "nearest" });
+}
+
+/**
+ * The kind of an outcome, its verdict in large letters, and what it means.
+ *
+ * @param {import("./run.mjs").Outcome} outcome
+ * @returns {[string, string, string]}
+ */
+function headlineOf({ status, report, text }) {
+    if (report) {
+        const { word, meaning } = verdictOf(report);
+        return [kindOf(report), word, meaning];
+    }
+    if (status === Status.OUT_OF_MEMORY) {
+        return ["fault", "Out of memory", "The browser has no memory for it. Use the program tsp."];
+    }
+    if (status === Status.FAULT) {
+        return ["fault", "Fault", text.trim()];
+    }
+    return ["none", "A valid file", "Give an instance with a tour, or with a certificate, to have them judged."];
+}
+
+/**
+ * Shows a text, where there is one.
+ *
+ * @param {string} id
+ * @param {string} text
+ */
+function fill(id, text) {
+    find(id).textContent = text;
+    find(id).hidden = text === "";
+}
+
+/** Draws the outcome, where there is one, as wide as the page lets it. */
+function draw() {
+    drawn = find("result").clientWidth;
+    if (outcome?.scene) {
+        fillPicture("map", pictureOf(outcome.scene, drawn, kindOf(outcome.report)));
+        find("legend").textContent = legendOf(outcome.scene, outcome.report);
+        find("figure").hidden = false;
+    }
+    const bar = outcome?.report ? barOf(outcome.report, drawn) : null;
+    if (bar) {
+        fillPicture("bar", bar);
+    }
+}
+
+/**
+ * How a tour is drawn.
+ *
+ * @param {import("./report.mjs").Report | null} report
+ * @returns {string}
+ */
+function kindOf(report) {
+    if (report === null) {
+        return "plain";
+    }
+    return report.yes ? "yes" : "no";
+}
+
+/**
+ * What the drawing shows, in words.
+ *
+ * @param {import("./scene.mjs").Scene} scene
+ * @param {import("./report.mjs").Report | null} report
+ * @returns {string}
+ */
+function legendOf(scene, report) {
+    const { points, tours, marks, missing, fixed, depot, note } = scene;
+    const walks = tours.length === 1 ? " and the tour" : ` and ${tours.length} tours or routes`;
+    return [
+        `${(points.length / 2).toLocaleString("en")} nodes${tours.length ? walks : ""}.`,
+        depot === null ? "" : "The square is the depot.",
+        fixed.length ? "Thick lines are fixed edges." : "",
+        marks.nodes.length || marks.route ? `Red marks the place of ${report?.reason}.` : "",
+        missing.length ? "Red points are in no tour." : "",
+        note,
+    ].join(" ");
+}
+
+/**
+ * Puts a picture into an element of SVG.
+ *
+ * @param {string} id
+ * @param {import("./picture.mjs").Picture} picture
+ */
+function fillPicture(id, { width, height, shapes }) {
+    const svg = find(id);
+    svg.setAttribute("viewBox", `0 0 ${width} ${height}`);
+    svg.setAttribute("width", String(width));
+    svg.setAttribute("height", String(height));
+    svg.replaceChildren(...shapes.map(elementOf));
+    svg.removeAttribute("hidden");
+}
+
+/** @param {import("./picture.mjs").Shape} shape */
+function elementOf({ name, attributes, text }) {
+    const element = document.createElementNS(SVG, name);
+    for (const [word, value] of Object.entries(attributes)) {
+        element.setAttribute(word, String(value));
+    }
+    element.textContent = text ?? "";
+    return element;
+}
+
+// ---- events
+
+for (const slot of SLOTS) {
+    const input = /** @type {HTMLInputElement} */ (find(slot));
+    input.addEventListener("change", async () => {
+        await take(input.files ?? [], slot);
+        input.value = "";
+    });
+    find(`${slot}-remove`).addEventListener("click", () => {
+        put(slot, null);
+        judge();
+        input.focus();
+    });
+    find(`${slot}-slot`).addEventListener("drop", (event) => {
+        event.preventDefault();
+        event.stopPropagation();
+        document.body.classList.remove("over");
+        take(event.dataTransfer?.files ?? [], (event.dataTransfer?.files.length ?? 0) > 1 ? null : slot);
+    });
+}
+const all = /** @type {HTMLInputElement} */ (find("all"));
+all.addEventListener("change", async () => {
+    await take(all.files ?? [], null);
+    all.value = "";
+});
+document.addEventListener("dragover", (event) => {
+    event.preventDefault();
+    document.body.classList.add("over");
+});
+document.addEventListener("dragleave", () => document.body.classList.remove("over"));
+document.addEventListener("drop", (event) => {
+    event.preventDefault();
+    document.body.classList.remove("over");
+    take(event.dataTransfer?.files ?? [], null);
+});
+for (const id of ["by-potentials", "by-branches", "claimed"]) {
+    find(id).addEventListener("change", judge);
+}
+for (const button of document.querySelectorAll("button[data-example]")) {
+    button.addEventListener("click", () => takeExample(/** @type {HTMLElement} */ (button).dataset.example ?? ""));
+}
+find("stop").addEventListener("click", () => {
+    stop();
+    tell("none", "Stopped", "");
+});
+find("files").addEventListener("submit", (event) => event.preventDefault());
+new ResizeObserver(() => find("result").clientWidth !== drawn && draw()).observe(find("result"));
+
+begin();
+if (location.hash.length > 1) {
+    takeExample(location.hash.slice(1));
+}

@@ -1,0 +1,233 @@
+// The drawing of a scene, as shapes of SVG.
+
+/**
+ * @typedef {object} Shape
+ * @property {string} name of the element
+ * @property {Record<string, string | number>} attributes
+ * @property {string} [text]
+ *
+ * @typedef {object} Picture
+ * @property {number} width
+ * @property {number} height
+ * @property {Shape[]} shapes
+ *
+ * @typedef {(node: number) => [number, number]} Place where a node is drawn
+ */
+
+/** The nodes of larger instances have no numbers beside them. */
+const MOST_LABELS = 60;
+
+/** So many colours routes have. */
+const COLOURS = 6;
+
+/** What is left free at each side. */
+const MARGIN = 24;
+
+/**
+ * The drawing of a scene.
+ *
+ * @param {import("./scene.mjs").Scene} scene
+ * @param {number} width
+ * @param {string} kind yes or no
+ * @returns {Picture}
+ */
+export function pictureOf(scene, width, kind) {
+    const nodes = scene.points.length / 2;
+    const { place, height } = layOut(scene.points, width);
+    const all = Array.from({ length: nodes }, (_, at) => at + 1);
+    const shapes = [
+        ...scene.tours.map((tour, at) => tourShape(tour, place, tourClass(scene, at, kind))),
+        ...scene.fixed.map((pair) => lineShape(pair, place, "fixed")),
+        path(all.map((node) => dot(node, place)).join(""), `nodes ${sizeOf(nodes)}`),
+        path(scene.missing.map((node) => dot(node, place)).join(""), `missing ${sizeOf(nodes)}`),
+        ...depotShapes(scene.depot, place),
+        ...markShapes(scene, place, nodes),
+        ...(nodes > MOST_LABELS ? [] : all.map((node) => labelShape(node, place, "label"))),
+    ];
+    return { width, height, shapes };
+}
+
+/**
+ * Where nodes are drawn: as large as fits, with y upwards.
+ *
+ * @param {Float64Array} points
+ * @param {number} width
+ * @returns {{ place: Place, height: number }}
+ */
+function layOut(points, width) {
+    const [left, right] = rangeOf(points, 0);
+    const [low, high] = rangeOf(points, 1);
+    const most = Math.min(Math.max(0.75 * width, 260), 640);
+    const inside = width - 2 * MARGIN;
+    const scale = Math.min(inside / (right - left || 1), (most - 2 * MARGIN) / (high - low || 1));
+    const height = Math.ceil((high - low) * scale + 2 * MARGIN);
+    const start = (width - (right - left) * scale) / 2;
+    const place = (node) => [
+        round(start + (points[2 * node - 2] - left) * scale),
+        round(height - MARGIN - (points[2 * node - 1] - low) * scale),
+    ];
+    return { place: /** @type {Place} */ (place), height };
+}
+
+/**
+ * The least and the largest coordinate.
+ *
+ * @param {Float64Array} points
+ * @param {number} first 0 for x, 1 for y
+ * @returns {[number, number]}
+ */
+function rangeOf(points, first) {
+    let [least, largest] = [Infinity, -Infinity];
+    for (let at = first; at < points.length; at += 2) {
+        least = Math.min(least, points[at]);
+        largest = Math.max(largest, points[at]);
+    }
+    return [least, largest];
+}
+
+/**
+ * @param {number} number
+ * @returns {number} to a tenth
+ */
+function round(number) {
+    return Math.round(10 * number) / 10;
+}
+
+/**
+ * How large the nodes are drawn.
+ *
+ * @param {number} nodes
+ * @returns {string}
+ */
+function sizeOf(nodes) {
+    if (nodes <= 200) {
+        return "large";
+    }
+    return nodes <= 5000 ? "middle" : "small";
+}
+
+/**
+ * @param {string} d
+ * @param {string} words the classes
+ * @returns {Shape}
+ */
+function path(d, words) {
+    return { name: "path", attributes: { d, class: words } };
+}
+
+/**
+ * A point: a line without length, whose round ends are drawn.
+ *
+ * @param {number} node
+ * @param {Place} place
+ * @returns {string}
+ */
+function dot(node, place) {
+    return `M${place(node).join(" ")}h0`;
+}
+
+/**
+ * @param {number[]} tour
+ * @param {Place} place
+ * @param {string} words
+ * @returns {Shape}
+ */
+function tourShape(tour, place, words) {
+    return path(tour.length === 0 ? "" : `M${tour.map((node) => place(node).join(" ")).join("L")}Z`, words);
+}
+
+/**
+ * @param {import("./scene.mjs").Scene} scene
+ * @param {number} at the number of the tour, from 0
+ * @param {string} kind
+ * @returns {string}
+ */
+function tourClass(scene, at, kind) {
+    const colour = scene.depot === null ? kind : `route-${at % COLOURS}`;
+    return `tour ${colour}${scene.marks.route === at + 1 ? " marked" : ""}`;
+}
+
+/**
+ * @param {import("./scene.mjs").Pair} pair
+ * @param {Place} place
+ * @param {string} words
+ * @returns {Shape}
+ */
+function lineShape([first, second], place, words) {
+    return path(`M${place(first).join(" ")}L${place(second).join(" ")}`, words);
+}
+
+/**
+ * @param {number} node
+ * @param {Place} place
+ * @param {string} words
+ * @returns {Shape}
+ */
+function labelShape(node, place, words) {
+    const [x, y] = place(node);
+    return { name: "text", attributes: { x: round(x + 7), y: round(y - 7), class: words }, text: String(node) };
+}
+
+/**
+ * The depot: a square.
+ *
+ * @param {number | null} depot
+ * @param {Place} place
+ * @returns {Shape[]}
+ */
+function depotShapes(depot, place) {
+    if (depot === null) {
+        return [];
+    }
+    const [x, y] = place(depot);
+    return [{ name: "rect", attributes: { x: x - 7, y: y - 7, width: 14, height: 14, class: "depot" } }];
+}
+
+/**
+ * Rings around the nodes that a reason is about, and a line between those of a pair.
+ *
+ * @param {import("./scene.mjs").Scene} scene
+ * @param {Place} place
+ * @param {number} nodes
+ * @returns {Shape[]}
+ */
+function markShapes({ marks }, place, nodes) {
+    const drawn = marks.nodes.filter((node) => node >= 1 && node <= nodes);
+    const rings = drawn.map((node) => {
+        const [cx, cy] = place(node);
+        return { name: "circle", attributes: { cx, cy, r: 12, class: "mark" } };
+    });
+    const labels = nodes > MOST_LABELS ? drawn.map((node) => labelShape(node, place, "label")) : [];
+    return [...(marks.pair ? [lineShape(marks.pair, place, "mark")] : []), ...rings, ...labels];
+}
+
+/**
+ * A bar of the length, in which bound and gap have their shares; null without a bound.
+ *
+ * @param {import("./report.mjs").Report} report
+ * @param {number} width
+ * @returns {Picture | null}
+ */
+export function barOf({ length, bound, gap, optimal }, width) {
+    if (length === null || bound === null || length <= 0n || bound < 0n || bound > length) {
+        return null;
+    }
+    const share = Number((bound * 1_000_000n) / length) / 1_000_000;
+    const cut = optimal ? width : Math.min(round(width * share), width - 4);
+    const bar = (x, across, words) => ({ name: "rect", attributes: { x, y: 0, width: across, height: 12, class: words } });
+    const text = (x, anchor, words) => ({
+        name: "text",
+        attributes: { x, y: 30, "text-anchor": anchor, class: "scale" },
+        text: words,
+    });
+    return {
+        width,
+        height: 36,
+        shapes: [
+            bar(0, cut, "bound"),
+            ...(optimal ? [] : [bar(cut, round(width - cut), "gap")]),
+            text(0, "start", `bound ${bound}`),
+            text(width, "end", optimal ? `length ${length}: optimal` : `length ${length}: gap ${gap}`),
+        ],
+    };
+}

@@ -1,0 +1,38 @@
+// What a file is for, as its beginning and its name say. It only fills in the page: what a file is, the
+// library judges.
+
+import { By } from "./library.mjs";
+
+/** The line with the TYPE is looked for in so many bytes. */
+const LOOKED_AT = 65536;
+
+/** @type {Record<string, { slot: Slot, by?: number }>} */
+const OF_TYPES = {
+    TSP: { slot: "instance" },
+    ATSP: { slot: "instance" },
+    CVRP: { slot: "instance" },
+    TOUR: { slot: "solution" },
+    POTENTIALS: { slot: "certificate", by: By.POTENTIALS },
+    BRANCHES: { slot: "certificate", by: By.BRANCHES },
+};
+
+/** @type {Record<string, string>} */
+const OF_ENDS = { tour: "TOUR", sol: "TOUR", potentials: "POTENTIALS", pi: "POTENTIALS", branches: "BRANCHES" };
+
+/**
+ * @typedef {"instance" | "solution" | "certificate"} Slot
+ */
+
+/**
+ * What a file is for, and for a certificate how it gives a bound.
+ *
+ * @param {string} name
+ * @param {Uint8Array} bytes
+ * @returns {{ slot: Slot, by?: number }}
+ */
+export function roleOf(name, bytes) {
+    const start = new TextDecoder().decode(bytes.subarray(0, LOOKED_AT));
+    const type = /^[ \t]*TYPE[ \t]*:[ \t]*(\w+)/m.exec(start)?.[1] ?? "";
+    const end = name.slice(name.lastIndexOf(".") + 1).toLowerCase();
+    return OF_TYPES[type] ?? OF_TYPES[OF_ENDS[end] ?? "TSP"];
+}

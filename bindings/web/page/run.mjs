@@ -1,0 +1,155 @@
+// What is done with the files that are given: the verb of the program that they ask for.
+
+import { By, Call, Status } from "./library.mjs";
+import { reportOf } from "./report.mjs";
+import { sceneOf } from "./scene.mjs";
+
+/**
+ * @typedef {object} Given
+ * @property {string} name of the file
+ * @property {Uint8Array} bytes
+ *
+ * @typedef {object} Job
+ * @property {Given | null} instance
+ * @property {Given | null} solution
+ * @property {Given | null} certificate
+ * @property {number} by how the certificate gives a bound
+ * @property {bigint | null} claimed the length that the solution is said to have
+ *
+ * @typedef {object} Outcome
+ * @property {string} command the same call of the program
+ * @property {number} status
+ * @property {Uint8Array} bytes the report, what is shown of the file, or the line of a fault
+ * @property {string} text the same as a text
+ * @property {string} explanation
+ * @property {import("./report.mjs").Report | null} report of a check or a bound
+ * @property {import("./scene.mjs").Scene | null} scene
+ */
+
+const NOTHING = new Uint8Array();
+
+/**
+ * The verb that these files ask for; null where they ask for none.
+ *
+ * @param {Job} job
+ * @returns {"check" | "bound" | "show" | null}
+ */
+export function verbOf({ instance, solution, certificate }) {
+    if (instance && solution) {
+        return "check";
+    }
+    if (instance && certificate) {
+        return "bound";
+    }
+    return [instance, solution, certificate].filter(Boolean).length === 1 ? "show" : null;
+}
+
+/**
+ * Does what the files ask for.
+ *
+ * @param {import("./library.mjs").Library} library
+ * @param {Job} job whose verb isn't null
+ * @returns {Outcome}
+ */
+export function run(library, job) {
+    const verb = verbOf(job);
+    const { status, bytes } = answerOf(library, job, verb);
+    const text = new TextDecoder().decode(bytes);
+    const isJudged = verb !== "show" && (status === Status.YES || status === Status.NO);
+    const report = isJudged ? reportOf(text) : null;
+    const solution = job.solution?.bytes ?? null;
+    return {
+        command: commandOf(job, verb),
+        status,
+        bytes,
+        text,
+        explanation: new TextDecoder().decode(explanationOf(library, job, verb)),
+        report,
+        scene: job.instance ? sceneOf(library, job.instance.bytes, solution, report) : null,
+    };
+}
+
+/**
+ * @param {import("./library.mjs").Library} library
+ * @param {Job} job
+ * @param {string | null} verb
+ * @returns {import("./library.mjs").Answer}
+ */
+function answerOf(library, job, verb) {
+    const [instance, solution, certificate] = textsOf(job);
+    if (verb === "check") {
+        return library.check(instance, solution, certificate, byOf(job), job.claimed);
+    }
+    if (verb === "bound") {
+        return library.bound(instance, certificate, byOf(job));
+    }
+    return library.show(oneOf(job).bytes);
+}
+
+/**
+ * @param {import("./library.mjs").Library} library
+ * @param {Job} job
+ * @param {string | null} verb
+ * @returns {Uint8Array}
+ */
+function explanationOf(library, job, verb) {
+    const names = [job.instance, job.solution, job.certificate].map((given) => given?.name ?? "");
+    if (verb === "show") {
+        const one = oneOf(job);
+        return library.explain(Call.SHOW, [one.bytes, NOTHING, NOTHING], [one.name, "", ""], 0, null).bytes;
+    }
+    const call = verb === "check" ? Call.CHECK : Call.BOUND;
+    return library.explain(call, textsOf(job), names, byOf(job), job.claimed).bytes;
+}
+
+/**
+ * The call of the program that does the same.
+ *
+ * @param {Job} job
+ * @param {string | null} verb
+ * @returns {string}
+ */
+function commandOf(job, verb) {
+    const words = [job.instance, job.solution].filter((given) => given !== null).map((given) => quoted(given.name));
+    if (job.certificate && verb !== "show") {
+        words.push(job.by === By.BRANCHES ? "--branches" : "--potentials", quoted(job.certificate.name));
+    }
+    if (job.claimed !== null && verb === "check") {
+        words.push(`--length=${job.claimed}`);
+    }
+    return ["tsp", verb, ...(verb === "show" ? [quoted(oneOf(job).name)] : words)].join(" ");
+}
+
+/**
+ * @param {Job} job
+ * @returns {Uint8Array[]} the texts of the instance, the solution and the certificate
+ */
+function textsOf(job) {
+    return [job.instance, job.solution, job.certificate].map((given) => given?.bytes ?? NOTHING);
+}
+
+/**
+ * @param {Job} job
+ * @returns {number} how the job gets its bound
+ */
+function byOf(job) {
+    return job.certificate ? job.by : By.NOTHING;
+}
+
+/**
+ * @param {Job} job
+ * @returns {Given} the first file that is given
+ */
+function oneOf(job) {
+    return job.instance ?? job.solution ?? /** @type {Given} */ (job.certificate);
+}
+
+/**
+ * A word of a command line.
+ *
+ * @param {string} word
+ * @returns {string}
+ */
+function quoted(word) {
+    return /^[\w.\/+-]+$/.test(word) ? word : `'${word.replaceAll("'", "'\\''")}'`;
+}

@@ -1,0 +1,21 @@
+// Runs jobs outside of the page's own thread. The first message is the module, each later one a job.
+
+import { Library } from "./library.mjs";
+import { run } from "./run.mjs";
+
+/** @type {Promise<WebAssembly.Module> | null} */
+let module = null;
+
+addEventListener("message", async ({ data }) => {
+    try {
+        if (module === null) {
+            module = WebAssembly.compile(data);
+            postMessage({ version: (await Library.of(await module)).version() });
+        } else {
+            // (a new memory for each job)
+            postMessage({ outcome: run(await Library.of(await module), data) });
+        }
+    } catch (error) {
+        postMessage({ failed: String(error) });
+    }
+});

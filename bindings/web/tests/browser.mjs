@@ -1,0 +1,254 @@
+// Opens a built page in Chromium: node browser.mjs PAGE [FOLDER]
+//
+// Each example has to end in its verdict, and files that are chosen too. Nothing may be said on the console, and
+// the page may ask for nothing but itself. FOLDER gets pictures. The last line is 'N passed, M failed'.
+
+import assert from "node:assert/strict";
+import { spawn } from "node:child_process";
+import { mkdtempSync, rmSync, writeFileSync } from "node:fs";
+import { tmpdir } from "node:os";
+import { join, resolve } from "node:path";
+import { fileURLToPath, pathToFileURL } from "node:url";
+
+const [page, pictures] = process.argv.slice(2).map((path) => resolve(path));
+const EXAMPLES = fileURLToPath(new URL("../../../examples/", import.meta.url));
+const WIDE = { width: 1100, height: 900, deviceScaleFactor: 1, mobile: false };
+const PHONE = { width: 390, height: 844, deviceScaleFactor: 2, mobile: true };
+const SECONDS = 30;
+
+/** A browser, to which it speaks over a pipe by the DevTools protocol. */
+class Browser {
+    /** @param {string} profile */
+    constructor(profile) {
+        const words = ["--headless=new", "--no-sandbox", "--disable-gpu", "--remote-debugging-pipe"];
+        const stdio = ["ignore", "ignore", "ignore", "pipe", "pipe"];
+        this.process = spawn("chromium", [...words, `--user-data-dir=${profile}`, "about:blank"], { stdio });
+        this.answers = new Map();
+        this.events = [];
+        this.count = 0;
+        this.session = undefined;
+        let left = "";
+        this.process.stdio[4].on("data", (bytes) => {
+            const parts = (left + bytes).split("\0");
+            left = parts.pop() ?? "";
+            parts.forEach((part) => this.hear(JSON.parse(part)));
+        });
+    }
+
+    /** @param {object} message */
+    hear(message) {
+        if (message.id === undefined) {
+            this.events.push(message);
+            return;
+        }
+        const { found, failed } = this.answers.get(message.id);
+        this.answers.delete(message.id);
+        message.error ? failed(new Error(message.error.message)) : found(message.result);
+    }
+
+    /**
+     * The result of a command.
+     *
+     * @param {string} method
+     * @param {object} [params]
+     * @returns {Promise<any>}
+     */
+    ask(method, params = {}) {
+        const id = ++this.count;
+        const message = { id, method, params, sessionId: this.session };
+        this.process.stdio[3].write(`${JSON.stringify(message)}\0`);
+        return new Promise((found, failed) => this.answers.set(id, { found, failed }));
+    }
+
+    /** Takes the page that is open. */
+    async attach() {
+        const { targetInfos } = await this.ask("Target.getTargets");
+        const { targetId } = targetInfos.find(({ type }) => type === "page");
+        this.session = (await this.ask("Target.attachToTarget", { targetId, flatten: true })).sessionId;
+        for (const domain of ["Page", "Runtime", "Log", "Network", "DOM"]) {
+            await this.ask(`${domain}.enable`);
+        }
+    }
+
+    /**
+     * The value of an expression.
+     *
+     * @param {string} expression
+     */
+    async value(expression) {
+        const { result } = await this.ask("Runtime.evaluate", { expression, returnByValue: true, awaitPromise: true });
+        return result.value;
+    }
+
+    /**
+     * Waits until an expression is true.
+     *
+     * @param {string} expression
+     */
+    async until(expression) {
+        for (let tries = 0; tries < 20 * SECONDS; tries++) {
+            if (await this.value(expression)) {
+                return;
+            }
+            await new Promise((done) => setTimeout(done, 50));
+        }
+        throw new Error(`never: ${expression}`);
+    }
+
+    /**
+     * Opens the page anew, with an example or without one.
+     *
+     * @param {string} name
+     */
+    async open(name) {
+        await this.ask("Page.navigate", { url: "about:blank" });
+        await this.ask("Page.navigate", { url: `${pathToFileURL(page)}${name && "#"}${name}` });
+        await this.until(`/^\\d/.test(document.getElementById("version")?.textContent)`);
+    }
+
+    /** The verdict, once there is one. */
+    async verdict() {
+        await this.until(`!document.body.classList.contains("busy") && document.getElementById("verdict").textContent !== ""`);
+        return this.value(`document.getElementById("verdict").textContent`);
+    }
+
+    /**
+     * Gives files to an input.
+     *
+     * @param {string} id
+     * @param {string[]} names
+     */
+    async choose(id, names) {
+        const { root } = await this.ask("DOM.getDocument");
+        const { nodeId } = await this.ask("DOM.querySelector", { nodeId: root.nodeId, selector: `#${id}` });
+        await this.ask("DOM.setFileInputFiles", { nodeId, files: names.map((name) => join(EXAMPLES, name)) });
+    }
+
+    /**
+     * A picture of the whole page.
+     *
+     * @param {string} title
+     */
+    async picture(title) {
+        const { cssContentSize } = await this.ask("Page.getLayoutMetrics");
+        const clip = { x: 0, y: 0, width: cssContentSize.width, height: cssContentSize.height, scale: 1 };
+        const { data } = await this.ask("Page.captureScreenshot", { clip, captureBeyondViewport: true });
+        writeFileSync(join(pictures, `${title}.png`), Buffer.from(data, "base64"));
+    }
+
+    /**
+     * @param {object} metrics of the window
+     * @param {"light" | "dark"} scheme
+     */
+    async dress(metrics, scheme) {
+        await this.ask("Emulation.setDeviceMetricsOverride", metrics);
+        await this.ask("Emulation.setEmulatedMedia", { features: [{ name: "prefers-color-scheme", value: scheme }] });
+    }
+}
+
+/** The tests: a name, and what is done. */
+const TESTS = {
+    "the examples end in their verdicts": async (browser) => {
+        const wanted = { orchard: "Yes: optimal", harbour: /^Yes: gap \d+$/, twice: "No", dairy: "Yes", zero: "Fault" };
+        for (const [name, verdict] of Object.entries(wanted)) {
+            await browser.open(name);
+            const found = await browser.verdict();
+            assert.match(found, verdict instanceof RegExp ? verdict : new RegExp(`^${verdict}$`));
+        }
+    },
+    "files that are chosen at once find their places": async (browser) => {
+        await browser.open("");
+        await browser.choose("all", ["valleys.branches", "valleys.tour", "valleys.tsp"]);
+        await browser.until(`document.getElementById("verdict").textContent === "Yes: optimal"`);
+        assert.match(await browser.value(`document.getElementById("command").textContent`), /--branches valleys\.branches$/);
+        assert.equal(await browser.value(`document.getElementById("no-drawing").hidden`), false);
+    },
+    "files that are chosen one by one are judged as far as they go": async (browser) => {
+        await browser.open("");
+        await browser.choose("instance", ["harbour.tsp"]);
+        await browser.until(`document.getElementById("verdict").textContent === "A valid file"`);
+        await browser.choose("certificate", ["harbour.potentials"]);
+        await browser.until(`document.getElementById("verdict").textContent === "Yes: a bound"`);
+        await browser.choose("solution", ["harbour.tour"]);
+        await browser.until(`document.getElementById("verdict").textContent === "Yes: optimal"`);
+        await browser.value(`document.getElementById("claimed").value = "225"; document.getElementById("claimed").dispatchEvent(new Event("change"))`);
+        await browser.until(`document.getElementById("meaning").textContent === "The reason is LengthClaimed 226."`);
+        await browser.value(`document.getElementById("instance-remove").click()`);
+        assert.equal(await browser.value(`document.getElementById("verdict").textContent`), "No instance");
+        assert.equal(await browser.value(`document.getElementById("figure").hidden`), true);
+    },
+    "the policy refuses connections": async (browser) => {
+        await browser.open("");
+        assert.equal(await browser.value(`fetch("http://127.0.0.1:9/").then(() => "sent", (error) => error.name)`), "TypeError");
+        const told = browser.events.filter(({ method, params }) => method === "Log.entryAdded" && /Content Security Policy/.test(params.entry.text));
+        assert.ok(told.length > 0, "the policy is named on the console");
+        browser.events = browser.events.filter((event) => !told.includes(event) && !/127\.0\.0\.1/.test(JSON.stringify(event)));
+    },
+    "all inputs have labels, and the page fits a phone": async (browser) => {
+        await browser.dress(PHONE, "light");
+        await browser.open("orchard");
+        await browser.verdict();
+        assert.equal(await browser.value(`[...document.querySelectorAll("input")].filter((it) => !it.labels.length).length`), 0);
+        const over = "document.documentElement.scrollWidth - document.documentElement.clientWidth";
+        assert.equal(await browser.value(over), 0);
+        await browser.dress(WIDE, "light");
+    },
+    "100,000 nodes are drawn": async (browser) => {
+        await browser.open("");
+        const lines = Array.from({ length: 100000 }, (_, at) => `${at + 1} ${(at * 7919) % 99991} ${(at * 104729) % 99989}`);
+        const instance = `TYPE : TSP\\nDIMENSION : 100000\\nEDGE_WEIGHT_TYPE : EUC_2D\\nNODE_COORD_SECTION\\n${lines.join("\\n")}\\nEOF\\n`;
+        await browser.value(`(() => { const all = new DataTransfer(); all.items.add(new File(["${instance}"], "large.tsp"));
+            document.dispatchEvent(new DragEvent("drop", { dataTransfer: all })); })()`);
+        await browser.until(`document.getElementById("verdict").textContent === "A valid file"`);
+        assert.match(await browser.value(`document.getElementById("legend").textContent`), /^100,000 nodes/);
+    },
+    "nothing is said on the console, and nothing is asked for": async (browser) => {
+        const told = browser.events.filter(({ method }) => /^(Log\.entryAdded|Runtime\.(consoleAPICalled|exceptionThrown))$/.test(method));
+        assert.deepEqual(told.map(({ params }) => JSON.stringify(params)), []);
+        const asked = browser.events.filter(({ method }) => method === "Network.requestWillBeSent").map(({ params }) => params.request.url);
+        const foreign = asked.filter((url) => !url.startsWith(String(pathToFileURL(page))) && !/^(blob:|data:|about:)/.test(url));
+        assert.deepEqual(foreign, []);
+    },
+};
+
+/** Pictures: an example, the window, and the colours. */
+const PICTURES = {
+    wide: ["orchard", WIDE, "light"],
+    dark: ["harbour", WIDE, "dark"],
+    phone: ["twice", PHONE, "light"],
+    "phone-dark": ["orchard", PHONE, "dark"],
+    routes: ["dairy", WIDE, "light"],
+    fault: ["zero", WIDE, "light"],
+    empty: ["", WIDE, "light"],
+};
+
+const profile = mkdtempSync(join(tmpdir(), "tsp-page-"));
+const browser = new Browser(profile);
+let [passed, failed] = [0, 0];
+try {
+    await browser.attach();
+    await browser.dress(WIDE, "light");
+    for (const [name, run] of Object.entries(TESTS)) {
+        try {
+            await run(browser);
+            passed += 1;
+        } catch (error) {
+            failed += 1;
+            console.log(`bindings/web/tests: failed: ${name}: ${error.message}`);
+        }
+    }
+    for (const [title, [example, metrics, scheme]] of Object.entries(pictures ? PICTURES : {})) {
+        await browser.dress(metrics, scheme);
+        await browser.open(example);
+        if (example) {
+            await browser.verdict();
+        }
+        await browser.picture(title);
+    }
+} finally {
+    browser.process.kill();
+    await new Promise((done) => browser.process.on("exit", done));
+    rmSync(profile, { recursive: true, force: true, maxRetries: 5 });
+}
+console.log(`${passed} passed, ${failed} failed`);
+process.exit(failed === 0 && passed > 0 ? 0 : 1);

@@ -1,0 +1,168 @@
+// The parts of the page, and the library in it: PAGE=PATH node --test page.test.mjs
+
+import assert from "node:assert/strict";
+import { readFileSync } from "node:fs";
+import { test } from "node:test";
+
+import { By, Section, Status } from "../page/library.mjs";
+import { barOf, pictureOf } from "../page/picture.mjs";
+import { reportOf, verdictOf } from "../page/report.mjs";
+import { roleOf } from "../page/roles.mjs";
+import { run, verbOf } from "../page/run.mjs";
+import { marksOf, missingOf, rowsOf, toursOf } from "../page/scene.mjs";
+import { libraryOf } from "./module.mjs";
+
+const PAGE = process.env.PAGE ?? "";
+const EXAMPLES = new URL("../../../examples/", import.meta.url);
+const bytesOf = (text) => new TextEncoder().encode(text);
+const example = (name) => ({ name, bytes: new Uint8Array(readFileSync(new URL(name, EXAMPLES))) });
+const text = (words) => ({ name: "text", bytes: bytesOf(words) });
+const alone = { instance: null, solution: null, certificate: null, by: By.POTENTIALS, claimed: null };
+const HARBOUR = { ...alone, instance: example("harbour.tsp"), solution: example("harbour.tour") };
+
+test("a report as values", () => {
+    const report = reportOf("type TSP\nnodes 8\nnot judged DISTANCE\nlength 226\nbound 220\ngap 6\nyes\n");
+    assert.deepEqual([report.yes, report.length, report.bound, report.gap], [true, 226n, 220n, 6n]);
+    assert.deepEqual([report.optimal, report.noTour, report.routes], [false, false, null]);
+    assert.deepEqual(report.notJudged, ["DISTANCE"]);
+    const refused = reportOf("type TSP\nnodes 3\nno NotSymmetric 1 2\n");
+    assert.deepEqual([refused.yes, refused.reason, refused.numbers], [false, "NotSymmetric", [1, 2]]);
+});
+
+test("what a verdict means", () => {
+    const word = (lines) => verdictOf(reportOf(`type TSP\nnodes 8\n${lines}\n`)).word;
+    assert.equal(word("length 5\nyes"), "Yes: a tour");
+    assert.equal(word("length 5\nbound 5\noptimal\nyes"), "Yes: optimal");
+    assert.equal(word("length 5\nbound -1\ngap 6\nyes"), "Yes: gap 6");
+    assert.equal(word("bound 5\nyes"), "Yes: a bound");
+    assert.equal(word("bound none\nyes"), "Yes: no tour");
+    assert.equal(word("routes 2\nleast 2\nlength 9\nyes"), "Yes");
+    assert.equal(word("no TourLength"), "No");
+    const { meaning } = verdictOf(reportOf("type TSP\nnodes 8\nlength 300\nbound 299\ngap 1\nyes\n"));
+    assert.match(meaning, /No tour is more than 1 shorter, which is 0\.34 %\.$/, "a share is rounded up");
+});
+
+test("sections of a canonical text", () => {
+    const canonical = "COMMENT : TOUR_SECTION\nTYPE : TOUR\nTOUR_SECTION\n1\n2\n-1\n3\n-1\nEOF\n";
+    assert.deepEqual(toursOf(canonical), [[1, 2], [3]]);
+    assert.deepEqual(rowsOf("TYPE : TSP\nFIXED_EDGES_SECTION\n1 3\n-1\nEOF\n", "FIXED_EDGES_SECTION"), [[1, 3], [-1]]);
+    assert.deepEqual(rowsOf("TYPE : TSP\nEOF\n", "FIXED_EDGES_SECTION"), []);
+});
+
+test("what a reason is about", () => {
+    const marks = (line) => marksOf(reportOf(`type TSP\nnodes 4\nno ${line}\n`), [[1, 3], [3, 4]], [[2, 4]]);
+    assert.deepEqual(marks("RepeatedNode 3").nodes, [3]);
+    assert.deepEqual(marks("Unserved 2").nodes, [2]);
+    assert.deepEqual(marks("FixedEdgeUnused 1").pair, [2, 4]);
+    assert.deepEqual(marks("NotSymmetric 1 2").pair, [1, 2]);
+    assert.equal(marks("Overload 2").route, 2);
+    assert.deepEqual(marks("TourLength"), { nodes: [], pair: null, route: null });
+    assert.deepEqual(missingOf(5, [[1, 3], [3, 4]], null), [2, 5]);
+    assert.deepEqual(missingOf(5, [[3, 4]], 1), [2, 5]);
+    assert.deepEqual(missingOf(5, [], null), [], "without a tour no node is missing");
+});
+
+test("what a file is for", () => {
+    assert.equal(roleOf("x", bytesOf("NAME : a\n TYPE: ATSP\n")).slot, "instance");
+    assert.equal(roleOf("x", bytesOf("TYPE : TOUR\n")).slot, "solution");
+    assert.deepEqual(roleOf("x", bytesOf("TYPE : BRANCHES\n")), { slot: "certificate", by: By.BRANCHES });
+    assert.deepEqual(roleOf("a.potentials", bytesOf("")), { slot: "certificate", by: By.POTENTIALS });
+    assert.equal(roleOf("a.tour", bytesOf("")).slot, "solution");
+    assert.equal(roleOf("a", bytesOf("")).slot, "instance");
+});
+
+test("which verb the files ask for", () => {
+    assert.equal(verbOf(alone), null);
+    assert.equal(verbOf(HARBOUR), "check");
+    assert.equal(verbOf({ ...HARBOUR, solution: null }), "show");
+    assert.equal(verbOf({ ...HARBOUR, solution: null, certificate: HARBOUR.solution }), "bound");
+    assert.equal(verbOf({ ...HARBOUR, instance: null, certificate: HARBOUR.solution }), null);
+});
+
+test("a bar of length, bound and gap", () => {
+    const bar = (lines) => barOf(reportOf(`type TSP\nnodes 3\n${lines}\nyes\n`), 100);
+    assert.deepEqual(bar("length 10\nbound 9\ngap 1").shapes.slice(0, 2).map((it) => it.attributes.width), [90, 10]);
+    assert.equal(bar("length 10\nbound 10\noptimal").shapes[0].attributes.width, 100);
+    assert.equal(bar("length 10"), null);
+    assert.equal(bar("length 10\nbound -1\ngap 11"), null);
+});
+
+test("a check, from files to the drawing", async () => {
+    const library = await libraryOf(PAGE);
+    const certificate = example("harbour-zero.potentials");
+    const outcome = run(library, { ...HARBOUR, certificate, claimed: 226n });
+    assert.equal(outcome.command, "tsp check harbour.tsp harbour.tour --potentials harbour-zero.potentials --length=226");
+    assert.equal(outcome.status, Status.YES);
+    assert.equal(outcome.report.length, 226n);
+    assert.ok(outcome.report.gap > 0n);
+    const { scene } = outcome;
+    assert.deepEqual(scene.tours, [[1, 2, 3, 4, 8, 5, 6, 7]]);
+    assert.deepEqual([...scene.points.slice(0, 4)], [12.5, 40, 30, 71.25]);
+    assert.deepEqual([scene.fixed, scene.depot, scene.missing], [[], null, []]);
+    const { shapes, width, height } = pictureOf(scene, 600, "yes");
+    const numbers = shapes.flatMap(({ attributes: { d = "" } }) => [...d.matchAll(/[ML](\S+) ([^MLZh]+)/g)]);
+    assert.equal(numbers.length, 16, "each node is drawn, and is in the tour");
+    assert.ok(numbers.every(([, x, y]) => x >= 0 && x <= width && y >= 0 && y <= height));
+});
+
+test("a refused tour has its place marked", async () => {
+    const library = await libraryOf(PAGE);
+    const solution = text("TYPE : TOUR\nTOUR_SECTION\n1 2 3 4 8 3 6 7 -1\nEOF\n");
+    const { status, report, scene, explanation } = run(library, { ...HARBOUR, solution });
+    assert.deepEqual([status, report.reason, report.numbers], [Status.NO, "RepeatedNode", [6]]);
+    assert.deepEqual([scene.marks.nodes, scene.missing], [[3], [5]]);
+    assert.match(explanation, /Place 6 is node 3, which is also at place 3/);
+});
+
+test("a faulty tour is explained, and the instance drawn", async () => {
+    const library = await libraryOf(PAGE);
+    const solution = text("TYPE : TOUR\nTOUR_SECTION\n0 1 -1\nEOF\n");
+    const { status, text: line, report, scene, explanation } = run(library, { ...HARBOUR, solution });
+    assert.deepEqual([status, line, report], [Status.FAULT, "file 2: line 3 word 1: Number OutOfRange\n", null]);
+    assert.equal(scene.points.length, 16);
+    assert.match(explanation, /^text:3: word 1/);
+});
+
+test("routes begin at the depot, and fixed edges are drawn", async () => {
+    const library = await libraryOf(PAGE);
+    const solution = text("TYPE : TOUR\nTOUR_SECTION\n5 6 4 7 -1 2 8 3 -1\nEOF\n");
+    const { scene, report } = run(library, { ...alone, instance: example("dairy.vrp"), solution });
+    assert.deepEqual([report.routes, scene.depot], [2, 1]);
+    assert.deepEqual(scene.tours, [[1, 5, 6, 4, 7], [1, 2, 8, 3]]);
+    const fixed = run(library, { ...alone, instance: example("rectangle-fixed.tsp") });
+    assert.deepEqual([fixed.text.split("\n")[1], fixed.scene.fixed], ["type TSP", [[1, 3]]]);
+});
+
+test("a matrix has no drawing", async () => {
+    const library = await libraryOf(PAGE);
+    assert.equal(run(library, { ...alone, instance: example("three-node.atsp") }).scene, null);
+});
+
+test("out of memory is an answer, and what was taken is given back", async () => {
+    const library = await libraryOf(PAGE);
+    assert.equal(library.points(HARBOUR.instance.bytes, Section.COORDS, 1e9), null);
+    const taken = [];
+    for (let size = 2n ** 31n; size >= 16n; ) {
+        const address = library.exports.heap_take(size - 16n);
+        if (address === 0n) {
+            size /= 2n;
+        } else {
+            taken.push(address);
+        }
+    }
+    assert.equal(run(library, HARBOUR).status, Status.OUT_OF_MEMORY);
+    taken.forEach((address) => library.exports.heap_free(address));
+    assert.equal(run(library, HARBOUR).status, Status.YES);
+});
+
+test("checks again and again take no more memory", async () => {
+    const library = await libraryOf(PAGE);
+    const job = { ...alone, instance: example("orchard.tsp"), solution: example("orchard.tour") };
+    const certified = { ...job, certificate: example("orchard.branches"), by: By.BRANCHES };
+    assert.ok(run(library, certified).report.optimal);
+    const bytes = library.exports.memory.buffer.byteLength;
+    for (let turn = 0; turn < 20; turn++) {
+        run(library, certified);
+    }
+    assert.equal(library.exports.memory.buffer.byteLength, bytes);
+});

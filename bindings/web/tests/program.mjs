@@ -1,0 +1,135 @@
+// The program's verbs over the module of a built page: node program.mjs PAGE
+//
+// Each line of standard input is a run, {"words": [..], "folder": PATH}, and for each one line is written,
+// {"status": N, "out": TEXT, "err": TEXT}, with texts in base64.
+
+import { existsSync, readFileSync } from "node:fs";
+import { join } from "node:path";
+import { createInterface } from "node:readline";
+
+import { By, Status } from "../page/library.mjs";
+import { run } from "../page/run.mjs";
+import { libraryOf } from "./module.mjs";
+
+const LAYOUTS = [
+    "FULL_MATRIX",
+    "UPPER_ROW",
+    "LOWER_ROW",
+    "UPPER_DIAG_ROW",
+    "LOWER_DIAG_ROW",
+    "UPPER_COL",
+    "LOWER_COL",
+    "UPPER_DIAG_COL",
+    "LOWER_DIAG_COL",
+];
+const REFUSED = 4;
+const NOTHING = Buffer.alloc(0);
+
+/**
+ * The options and paths of a command line: `--name value`, or `--name=value`.
+ *
+ * @param {string[]} words
+ * @returns {{ options: Map<string, string>, paths: string[] }}
+ */
+function sorted(words) {
+    const options = new Map();
+    const paths = [];
+    for (let at = 0; at < words.length; at++) {
+        const [, name, value] = /^--([a-z]+)(?:=(.*))?$/s.exec(words[at]) ?? [];
+        if (!name) {
+            paths.push(words[at]);
+        } else if (value !== undefined || name === "explain") {
+            options.set(name, value ?? "");
+        } else {
+            options.set(name, words[++at]);
+        }
+    }
+    return { options, paths };
+}
+
+/**
+ * The whole number of 64 bits that a word means; null where it means none.
+ *
+ * @param {string} word
+ * @returns {bigint | null}
+ */
+function lengthOf(word) {
+    const [, sign, whole, part = "", power = "0"] = /^([+-]?)(\d*)(?:\.(\d*))?(?:[eE]([+-]?\d+))?$/.exec(word) ?? [];
+    if (sign === undefined || whole + part === "" || word.length > 64) {
+        return null;
+    }
+    const digits = (whole + part).replace(/^0+/, "");
+    const zeros = Number(power) - part.length;
+    if (digits === "") {
+        return 0n;
+    }
+    if (zeros > 30 || zeros < -64 || !/^0*$/.test(digits.slice(zeros < 0 ? zeros : digits.length))) {
+        return null;
+    }
+    const size = zeros < 0 ? BigInt(digits.slice(0, zeros) || "0") : BigInt(digits) * 10n ** BigInt(zeros);
+    const number = sign === "-" ? -size : size;
+    return BigInt.asIntN(64, number) === number ? number : null;
+}
+
+/**
+ * @param {import("../page/library.mjs").Library} library
+ * @param {string[]} words
+ * @param {string} folder
+ */
+function called(library, words, folder) {
+    const [verb, ...rest] = words;
+    const { options, paths } = sorted(rest);
+    const given = (path) => (path === undefined ? null : { name: path, bytes: readFileSync(join(folder, path)) });
+    if (verb === "convert") {
+        return converted(library, given(paths[0]), options.get("layout"));
+    }
+    const claimed = options.has("length") ? lengthOf(options.get("length") ?? "") : null;
+    if (options.has("length") && claimed === null) {
+        return { status: REFUSED, out: NOTHING, err: Buffer.from("not a length\n") };
+    }
+    const by = options.has("branches") ? By.BRANCHES : By.POTENTIALS;
+    const certificate = given(options.get("branches") ?? options.get("potentials"));
+    const job = { instance: given(paths[0]), solution: given(paths[1]), certificate, by, claimed };
+    return judged(library, job, options.has("explain"));
+}
+
+/**
+ * @param {import("../page/library.mjs").Library} library
+ * @param {import("../page/run.mjs").Job} job
+ * @param {boolean} explains
+ */
+function judged(library, job, explains) {
+    const { status, bytes, explanation } = run(library, job);
+    const isReport = status === Status.YES || status === Status.NO;
+    const told = explains ? Buffer.from(explanation) : NOTHING;
+    return isReport
+        ? { status, out: bytes, err: told }
+        : { status, out: NOTHING, err: Buffer.concat([bytes, told]) };
+}
+
+/**
+ * @param {import("../page/library.mjs").Library} library
+ * @param {import("../page/run.mjs").Given} file
+ * @param {string | undefined} layout
+ */
+function converted(library, file, layout) {
+    const number = layout === undefined ? 0 : LAYOUTS.indexOf(layout) + 1;
+    if (layout !== undefined && number === 0) {
+        return { status: REFUSED, out: NOTHING, err: Buffer.from("unknown layout\n") };
+    }
+    const { status, bytes } = library.convert(file.bytes, number);
+    return status === Status.YES ? { status, out: bytes, err: NOTHING } : { status, out: NOTHING, err: bytes };
+}
+
+const page = process.argv[2];
+if (!page || !existsSync(page)) {
+    process.stderr.write("usage: node program.mjs PAGE\n");
+    process.exit(4);
+}
+const library = await libraryOf(page);
+for await (const line of createInterface({ input: process.stdin })) {
+    const { words, folder } = JSON.parse(line);
+    const { status, out, err } = called(library, words, folder);
+    const [first, second] = [out, err].map((bytes) => Buffer.from(bytes).toString("base64"));
+    process.stdout.write(`${JSON.stringify({ status, out: first, err: second })}\n`);
+}
