@@ -7,8 +7,8 @@ use Rattle.std.proofs.lemmas.List.Elements.{All-nil, All-push, All-weaker}
 use Rattle.tsp_theory.specs.Tree.{crosses}
 use Rattle.tsp_theory.specs.Forest.{AreLeastJoins}
 use Rattle.tsp_theory.proofs.Forests.{joins_more}
-use Rattle.tsp_bound.specs.declared.outside.Link.{Link}
-use Rattle.tsp_bound.specs.Heap.{IsBelow}
+use Rattle.tsp_bound.specs.declared.link.Link.{Link}
+use Rattle.tsp_bound.specs.Components.{IsBelow}
 use Rattle.tsp_bound.specs.Components.{IsForest, IsLeastOf, label_at}
 
 -- within a round: the two ends of a pair have one label, or labels that are met and become one

@@ -5,8 +5,8 @@ use Rattle.std.proofs.Math.ListN.{length-set}
 use Rattle.std.proofs.lemmas.Bool.{cases_eq, false≢true, eqb-true, eq-eqb, ne_eqb}
 use Rattle.std.proofs.lemmas.Int.{ints}
 use Rattle.std.proofs.lemmas.List.{get_or-set_same, get_or-set_other}
-use Rattle.tsp_bound.specs.declared.outside.Link.{Link}
-use Rattle.tsp_bound.specs.Heap.{IsNearest}
+use Rattle.tsp_bound.specs.declared.link.Link.{Link}
+use Rattle.tsp_bound.specs.Components.{IsNearest}
 use Rattle.tsp_bound.specs.Components.{is_apart, IsKept, AreKept, IsLeaving, IsLeastOf, link_of, AreLeaving, AreLeast, IsOffered}
 
 -- ---- the link of one node
@@ -74,6 +74,12 @@ kept_set n w label known x link x_in h own = record {
 }
 
 -- ---- the best link of one component
+
+-- the node that it leads to, or the one itself
+pub end_in : (n : ℕ) (w : ℕ → ℕ → ℤ) (label : ℕ → ℕ) (c node near : ℕ) (best : Option Link) → node < n → IfSome best (IsLeaving n w label c)
+    → MatchOption best (near ≡ node) (λ link. near ≡ link.to) → near < n
+end_in n w label c node near None node_in leaving is = subst (λ (k : ℕ). k < n) (sym is) node_in
+end_in n w label c node near (Some link) node_in leaving is = subst (λ (k : ℕ). k < n) (sym is) leaving.to_in
 
 pub leaving_offered : (n : ℕ) (w : ℕ → ℕ → ℤ) (label : ℕ → ℕ) (best : List (Option Link)) (c : ℕ) (link new : Link) → c < n → AreLeaving n w label best
     → IsLeaving n w label c link → IsOffered (link_of best c) link new → AreLeaving n w label (set best c (Some new))

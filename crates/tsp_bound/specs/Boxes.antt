@@ -22,9 +22,6 @@ up (suc h) v = up h v / 2
 abbrev pub node_of : List ℕ → ℕ → ℕ
 node_of order j = slice_index_or order j 0
 
-abbrev pub is_outside : List Bool → ℕ → Bool
-is_outside outside j = slice_index_or outside j false
-
 -- what a list has for the box v
 abbrev pub box_at : {A : Type 0} → A → List A → ℕ → A
 box_at none boxes v = slice_index_or boxes v none
@@ -48,11 +45,6 @@ pub record IsRefit {A : Type 0} (none : A) (In : A → ℕ → Type 0) (old new 
   pub is : new ≡ slice_set old v box
   pub left : (p : ℕ) → In (box_at none old (2 * v)) p → In box p
   pub right : (p : ℕ) → In (box_at none old (2 * v + 1)) p → In box p
-
--- where the old boxes hold the nodes outside, so do the new ones
-abbrev pub KeepsHeld : (Option Area → ℕ → Type 0) → ℕ → List (Option Area) → List (Option Area) → Type 0
-KeepsHeld In n old new = (order : List ℕ) (outside : ℕ → Bool) → length order ≡ n
-    → AreHeld In order outside (area_at old) → AreHeld In order outside (area_at new)
 
 -- the least number of 64 bits says nothing
 abbrev pub IsKnown : ℤ → Type 0

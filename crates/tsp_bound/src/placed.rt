@@ -10,7 +10,7 @@ ghost use Rattle.tsp_bound.specs.Potentials.{numbers_of};
 
 use crate::by_node::ByNode;
 use crate::nearest::{Best, nearest_from};
-use crate::outside::Link;
+use crate::link::Link;
 use crate::potentials::Potentials;
 use crate::seen::Seen;
 use tsp_theory::Grouped;
@@ -37,7 +37,7 @@ pub(crate) struct Placed<'a, C: Grouped> {
 impl<'a, C: Grouped> Placed<'a, C> {
     ghost use Rattle.std.specs.Prelude.{true, false, IfSome, MatchOption};
     ghost use Rattle.tsp_bound.specs.Boxes.{HoldsNode, AreHeld, IsBest};
-    ghost use Rattle.tsp_bound.specs.Heap.{IsNearest};
+    ghost use Rattle.tsp_bound.specs.Components.{IsNearest};
     ghost use Rattle.tsp_bound.specs.Multipliers.{triples_in, weight_less};
     ghost use Rattle.tsp_bound.specs.Potentials.{weight_under};
 
