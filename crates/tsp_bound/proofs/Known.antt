@@ -1,8 +1,8 @@
 -- The links that are known of nodes, and the best ones of components.
-use Rattle.std.proofs.Common.{◌≡◌, ◌≢◌, ℕ, ◌+◌, ◌<◌, ◌==◌, Bool, true, false, not, List, Option, None, Some, ℤ, ◌≤ℤ◌, ◌⊎◌, inl, inr, refl, arith, ap, sym, ◌∙◌, subst, get_or, set, length, IfSome}
-use Rattle.std.specs.Prelude.{MatchOption, ⊤}
+use Rattle.std.proofs.Common.{◌≡◌, ◌≢◌, ℕ, ◌+◌, ◌<◌, ◌==◌, true, not, List, Option, None, Some, ℤ, ◌≤ℤ◌, inl, inr, arith, ap, sym, ◌∙◌, subst, get_or, set, length, IfSome}
+use Rattle.std.specs.Prelude.{MatchOption}
 use Rattle.std.proofs.Math.ListN.{length-set}
-use Rattle.std.proofs.lemmas.Bool.{cases_eq, false≢true, eqb-true, eq-eqb, ne_eqb}
+use Rattle.std.proofs.lemmas.Bool.{cases_eq, false≢true, eq-eqb, ne_eqb}
 use Rattle.std.proofs.lemmas.Int.{ints}
 use Rattle.std.proofs.lemmas.List.{get_or-set_same, get_or-set_other}
 use Rattle.tsp_bound.specs.declared.link.Link.{Link}
@@ -141,7 +141,7 @@ least_of : (n : ℕ) (w : ℕ → ℕ → ℤ) (label : ℕ → ℕ) (c : ℕ) (
     → ((x y : ℕ) → x < n → y < n → label x ≡ c → label y ≢ c → MatchOption o ⊥ (λ link. link.weight ≤ℤ w x y))
     → IfSome o (IsLeastOf n w label c)
 least_of n w label c None leaving least = tt
-least_of n w label c (Some link) leaving least = record { leaving = leaving; least = least; }
+least_of n w label c (Some link) leaving least = record { leaving = leaving; least = least }
 
 below_all : (o : Option Link) (a b : ℤ) → IsReached o a → a ≤ℤ b → IsReached o b
 below_all None a b h k = h

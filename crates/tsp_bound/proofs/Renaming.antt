@@ -1,10 +1,9 @@
 -- Least joins over places are least joins over nodes.
-use Rattle.std.proofs.Common.{◌≡◌, ℕ, ◌<◌, ◌==◌, ◌||◌, not, Bool, true, false, List, [], ◌∷◌, ◌++◌, get_or, map, ℤ, ◌≤ℤ◌, inl, inr, ap, ap₂, sym, ◌∙◌, subst}
+use Rattle.std.proofs.Common.{◌≡◌, ℕ, ◌<◌, not, Bool, false, List, [], ◌∷◌, ◌++◌, get_or, map, ℤ, ◌≤ℤ◌, ap, ap₂, ◌∙◌, subst}
 use Rattle.std.specs.Prelude.{if◌then◌else◌}
 use Rattle.std.specs.List.{All, AllByRecursion}
 use Rattle.std.proofs.lemmas.List.{map-append}
 use Rattle.std.proofs.lemmas.List.Elements.{All-map, All-nil, All-push, recursion_from_All}
-use Rattle.std.proofs.lemmas.Bool.{cases_eq, ne_eqb, eq-eqb, eqb-true, or_cases}
 use Rattle.tsp_theory.specs.Tree.{IsInner, crosses}
 use Rattle.tsp_theory.specs.Forest.{IsLeastJoin, AreLeastJoins}
 use Rattle.tsp_bound.specs.Components.{IsBelow}

@@ -1,12 +1,12 @@
 -- The tree of boxes: what a write keeps, and what a search of halves is.
-use Rattle.std.proofs.Common.{◌≡◌, ◌≢◌, ℕ, zero, suc, ◌+◌, ◌*◌, ◌/◌, ◌<◌, ◌≤◌, Bool, true, false, List, [], ◌∷◌, length, Option, None, ℤ, pos, ◌≤ℤ◌, ◌⊎◌, inl, inr, refl, arith, ap, sym, ◌∙◌, subst}
+use Rattle.std.proofs.Common.{◌≡◌, ◌≢◌, ℕ, zero, suc, ◌+◌, ◌*◌, ◌/◌, ◌<◌, ◌≤◌, Bool, true, List, length, Option, ℤ, pos, ◌≤ℤ◌, ◌⊎◌, inl, inr, refl, arith, ap, sym, ◌∙◌, subst}
 use Rattle.std.proofs.Math.ListN.{set}
-use Rattle.std.proofs.lemmas.Bool.{cases_eq, false≢true}
+use Rattle.std.proofs.lemmas.Bool.{cases_eq}
 use Rattle.std.proofs.lemmas.List.{get_or-set_same, get_or-set_other}
 use Rattle.std.proofs.lemmas.Int.{ints}
 use Rattle.tsp_bound.specs.declared.area.Area.{Area}
 use Rattle.tsp_bound.specs.declared.nearest.Best.{Best}
-use Rattle.tsp_bound.specs.Boxes.{up, node_of, box_at, AreHeldFrom, AreHeld, IsRefit, IsKnown, IsBelowAll, IsFound, IsBest, IsSearched, no_best}
+use Rattle.tsp_bound.specs.Boxes.{up, node_of, box_at, AreHeldFrom, AreHeld, IsRefit, IsKnown, IsBelowAll, IsFound, IsBest, IsSearched}
 use Rattle.tsp_bound.specs.Components.{IsNearest}
 
 -- ---- numbers of boxes

@@ -1,5 +1,5 @@
 -- A tree of boxes over nodes in an order, its leaves one node each, and what a search of it finds.
-use Rattle.std.specs.Prelude.{◌≡◌, ℕ, zero, suc, ◌+◌, ◌*◌, ◌/◌, ◌<◌, ◌≤◌, Bool, true, false, List, Option, None, Some, length, slice_index_or, slice_set, ℤ, pos, neg_ℤ, ◌≤ℤ◌, ◌<ℤ◌, ◌⊎◌}
+use Rattle.std.specs.Prelude.{◌≡◌, ℕ, zero, suc, ◌+◌, ◌*◌, ◌/◌, ◌<◌, ◌≤◌, Bool, true, List, Option, None, Some, length, slice_index_or, slice_set, ℤ, pos, neg_ℤ, ◌≤ℤ◌, ◌<ℤ◌, ◌⊎◌}
 use denote.Struct.Props as logic
 use mathlib.Core.HLevel.{Π_prop, ⊥_prop}
 use Rattle.tsp_distance.specs.declared.decimal.Point.{Point}

@@ -38,13 +38,7 @@ pub(crate) fn better(best: Option<Link>, link: Link) -> Link
 {
     match best {
         None => link,
-        Some(old) => {
-            if link.weight < old.weight {
-                link
-            } else {
-                old
-            }
-        }
+        Some(old) => { if link.weight < old.weight { link } else { old } }
     }
 }
 
