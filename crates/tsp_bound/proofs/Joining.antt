@@ -1,15 +1,14 @@
 -- The joins of a round: what each one keeps.
-use Rattle.std.proofs.Common.{◌≡◌, ◌≢◌, ℕ, zero, suc, ◌<◌, ◌==◌, Bool, true, false, not, cond, List, [], ◌∷◌, ◌++◌, ℤ, ◌≤ℤ◌, ◌⊎◌, inl, inr, refl, ap, sym, ◌∙◌, subst, get_or, set, length}
+use Rattle.std.proofs.Common.{◌≡◌, ◌≢◌, ℕ, zero, suc, ◌<◌, ◌==◌, Bool, true, false, not, cond, List, [], ◌∷◌, ◌++◌, ℤ, ◌≤ℤ◌, ◌⊎◌, inl, inr, refl, ap, sym, ◌∙◌, subst, get_or, set}
 use Rattle.std.specs.List.{All}
-use Rattle.std.proofs.lemmas.Bool.{cases_eq, false≢true, eqb-true, eq-eqb, ne_eqb}
-use Rattle.std.proofs.lemmas.List.{get_or-set_same, get_or-set_other}
+use Rattle.std.proofs.lemmas.Bool.{false≢true, eqb-true, eq-eqb, ne_eqb}
 use Rattle.std.proofs.lemmas.List.Elements.{All-nil, All-push, All-weaker}
 use Rattle.tsp_theory.specs.Tree.{crosses}
 use Rattle.tsp_theory.specs.Forest.{AreLeastJoins}
 use Rattle.tsp_theory.proofs.Forests.{joins_more}
-use Rattle.tsp_bound.specs.declared.outside.Link.{Link}
-use Rattle.tsp_bound.specs.Heap.{IsBelow}
-use Rattle.tsp_bound.specs.Components.{IsForest, IsLeastOf, label_at}
+use Rattle.tsp_bound.specs.declared.link.Link.{Link}
+use Rattle.tsp_bound.specs.Components.{IsBelow}
+use Rattle.tsp_bound.specs.Components.{IsForest, IsLeastOf}
 
 -- within a round: the two ends of a pair have one label, or labels that are met and become one
 abbrev pub IsWithin : (ℕ → ℕ) → (ℕ → ℕ) → (ℕ → Bool) → ℕ × ℕ → Type 0

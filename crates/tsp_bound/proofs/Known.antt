@@ -1,12 +1,12 @@
 -- The links that are known of nodes, and the best ones of components.
-use Rattle.std.proofs.Common.{◌≡◌, ◌≢◌, ℕ, ◌+◌, ◌<◌, ◌==◌, Bool, true, false, not, List, Option, None, Some, ℤ, ◌≤ℤ◌, ◌⊎◌, inl, inr, refl, arith, ap, sym, ◌∙◌, subst, get_or, set, length, IfSome}
-use Rattle.std.specs.Prelude.{MatchOption, ⊤}
+use Rattle.std.proofs.Common.{◌≡◌, ◌≢◌, ℕ, ◌+◌, ◌<◌, ◌==◌, true, not, List, Option, None, Some, ℤ, ◌≤ℤ◌, inl, inr, arith, ap, sym, ◌∙◌, subst, get_or, set, length, IfSome}
+use Rattle.std.specs.Prelude.{MatchOption}
 use Rattle.std.proofs.Math.ListN.{length-set}
-use Rattle.std.proofs.lemmas.Bool.{cases_eq, false≢true, eqb-true, eq-eqb, ne_eqb}
+use Rattle.std.proofs.lemmas.Bool.{cases_eq, false≢true, eq-eqb, ne_eqb}
 use Rattle.std.proofs.lemmas.Int.{ints}
 use Rattle.std.proofs.lemmas.List.{get_or-set_same, get_or-set_other}
-use Rattle.tsp_bound.specs.declared.outside.Link.{Link}
-use Rattle.tsp_bound.specs.Heap.{IsNearest}
+use Rattle.tsp_bound.specs.declared.link.Link.{Link}
+use Rattle.tsp_bound.specs.Components.{IsNearest}
 use Rattle.tsp_bound.specs.Components.{is_apart, IsKept, AreKept, IsLeaving, IsLeastOf, link_of, AreLeaving, AreLeast, IsOffered}
 
 -- ---- the link of one node
@@ -75,6 +75,12 @@ kept_set n w label known x link x_in h own = record {
 
 -- ---- the best link of one component
 
+-- the node that it leads to, or the one itself
+pub end_in : (n : ℕ) (w : ℕ → ℕ → ℤ) (label : ℕ → ℕ) (c node near : ℕ) (best : Option Link) → node < n → IfSome best (IsLeaving n w label c)
+    → MatchOption best (near ≡ node) (λ link. near ≡ link.to) → near < n
+end_in n w label c node near None node_in leaving is = subst (λ (k : ℕ). k < n) (sym is) node_in
+end_in n w label c node near (Some link) node_in leaving is = subst (λ (k : ℕ). k < n) (sym is) leaving.to_in
+
 pub leaving_offered : (n : ℕ) (w : ℕ → ℕ → ℤ) (label : ℕ → ℕ) (best : List (Option Link)) (c : ℕ) (link new : Link) → c < n → AreLeaving n w label best
     → IsLeaving n w label c link → IsOffered (link_of best c) link new → AreLeaving n w label (set best c (Some new))
 leaving_offered n w label best c link new c_in h own offered =
@@ -135,7 +141,7 @@ least_of : (n : ℕ) (w : ℕ → ℕ → ℤ) (label : ℕ → ℕ) (c : ℕ) (
     → ((x y : ℕ) → x < n → y < n → label x ≡ c → label y ≢ c → MatchOption o ⊥ (λ link. link.weight ≤ℤ w x y))
     → IfSome o (IsLeastOf n w label c)
 least_of n w label c None leaving least = tt
-least_of n w label c (Some link) leaving least = record { leaving = leaving; least = least; }
+least_of n w label c (Some link) leaving least = record { leaving = leaving; least = least }
 
 below_all : (o : Option Link) (a b : ℤ) → IsReached o a → a ≤ℤ b → IsReached o b
 below_all None a b h k = h

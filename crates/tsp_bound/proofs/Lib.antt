@@ -1,10 +1,8 @@
 pub mod Boxed
-pub mod HeapSteps
 pub mod Joining
 pub mod Known
 pub mod Lowered
 pub mod Lowest
-pub mod Marks
 pub mod Parts
 pub mod Passed
 pub mod Renaming

@@ -1,60 +1,13 @@
--- A growth over places is one over nodes.
-use Rattle.std.proofs.Common.{◌≡◌, ℕ, ◌<◌, ◌==◌, ◌||◌, not, Bool, true, false, List, [], ◌∷◌, ◌++◌, get_or, map, ℤ, ◌≤ℤ◌, inl, inr, ap, ap₂, sym, ◌∙◌, subst}
+-- Least joins over places are least joins over nodes.
+use Rattle.std.proofs.Common.{◌≡◌, ℕ, ◌<◌, not, Bool, false, List, [], ◌∷◌, ◌++◌, get_or, map, ℤ, ◌≤ℤ◌, ap, ap₂, ◌∙◌, subst}
 use Rattle.std.specs.Prelude.{if◌then◌else◌}
 use Rattle.std.specs.List.{All, AllByRecursion}
 use Rattle.std.proofs.lemmas.List.{map-append}
 use Rattle.std.proofs.lemmas.List.Elements.{All-map, All-nil, All-push, recursion_from_All}
-use Rattle.std.proofs.lemmas.Bool.{cases_eq, ne_eqb, eq-eqb, eqb-true, or_cases}
 use Rattle.tsp_theory.specs.Tree.{IsInner, crosses}
 use Rattle.tsp_theory.specs.Forest.{IsLeastJoin, AreLeastJoins}
-use Rattle.tsp_theory.specs.Growth.{and_node, IsLeastLeaving, Grows}
-use Rattle.tsp_bound.specs.Heap.{IsBelow}
-use Rattle.tsp_bound.specs.Numbering.{IsNumbering, on_both, GrowthsRename}
-
-same_test : (n : ℕ) (Node : ℕ → Type 0) (node place : ℕ → ℕ) (i v : ℕ) → IsNumbering n Node node place → i < n → v < n → (node i == node v) ≡ (i == v)
-same_test n Node node place i v num i_in v_in = elim (cases_eq i v) [
-  | inl same ↦ eq-eqb (node i) (node v) (ap node same) ∙ sym (eq-eqb i v same)
-  | inr other ↦ ne_eqb (node i) (node v) (λ e. other (sym (num.back i i_in) ∙ (ap place e ∙ num.back v v_in))) ∙ sym (ne_eqb i v other)
-]
-
-renamed : (n : ℕ) (Node : ℕ → Type 0) (node place : ℕ → ℕ) (w v : ℕ → ℕ → ℤ) (pairs : List (ℕ × ℕ)) (over under : ℕ → Bool)
-    → IsNumbering n Node node place → ((i j : ℕ) → i < n → j < n → v i j ≡ w (node i) (node j))
-    → ((i : ℕ) → i < n → over (node i) ≡ under i) → ((i : ℕ) → under i ≡ true → i < n)
-    → Grows (IsBelow n) v under pairs → Grows Node w over (map (on_both node) pairs)
-renamed n Node node place w v [] over under num same marks inner g = tt
-renamed n Node node place w v (pair ∷ pairs) over under num same marks inner g =
-    let from_in : pair.0 < n = inner pair.0 g.0.from in
-    let to_in : pair.1 < n = g.0.node in
-    let least : IsLeastLeaving Node w over (on_both node pair) = record {
-      from = marks pair.0 from_in ∙ g.0.from;
-      to = marks pair.1 to_in ∙ g.0.to;
-      node = num.node_in pair.1 to_in;
-      least = λ a b a_in b_in a_over b_out.
-          let pa = num.place_in a a_in in
-          let pb = num.place_in b b_in in
-          let a_under = sym (marks (place a) pa) ∙ (ap over (num.there a a_in) ∙ a_over) in
-          let b_under = sym (marks (place b) pb) ∙ (ap over (num.there b b_in) ∙ b_out) in
-          let below = g.0.least (place a) (place b) pa pb a_under b_under in
-          let other : v (place a) (place b) ≡ w a b = same (place a) (place b) pa pb ∙ (ap (λ (x : ℕ). w x (node (place b))) (num.there a a_in) ∙ ap (w a) (num.there b b_in)) in
-          subst (λ (z : ℤ). z ≤ℤ w a b) (same pair.0 pair.1 from_in to_in) (subst (λ (z : ℤ). v pair.0 pair.1 ≤ℤ z) other below);
-    } in (
-      least,
-      renamed n Node node place w v pairs (and_node over (node pair.1)) (and_node under pair.1) num same
-          (λ i i_in. ap (λ (b : Bool). b || over (node i)) (same_test n Node node place i pair.1 num i_in to_in) ∙ ap (λ (b : Bool). (i == pair.1) || b) (marks i i_in))
-          (λ i h. elim (or_cases (i == pair.1) (under i) h) [
-            | inl here ↦ subst (λ (k : ℕ). k < n) (sym (eqb-true i pair.1 here)) to_in
-            | inr was ↦ inner i was
-          ])
-          g.1,
-    )
-
-pub growths_rename : GrowthsRename
-growths_rename n last node place w v start pairs num start_in same g =
-    renamed n (IsInner last) node place w v pairs (λ x. x == node start) (λ x. x == start) num same
-    (λ i i_in. same_test n (IsInner last) node place i start num i_in start_in)
-    (λ i h. subst (λ (k : ℕ). k < n) (sym (eqb-true i start h)) start_in) g
-
--- ---- so are least joins
+use Rattle.tsp_bound.specs.Components.{IsBelow}
+use Rattle.tsp_bound.specs.Numbering.{IsNumbering, on_both}
 
 joins_renamed : (n : ℕ) (Node : ℕ → Type 0) (node place : ℕ → ℕ) (w v : ℕ → ℕ → ℤ) (earlier pairs : List (ℕ × ℕ))
     → IsNumbering n Node node place → ((i j : ℕ) → i < n → j < n → v i j ≡ w (node i) (node j))

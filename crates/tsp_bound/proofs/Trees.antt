@@ -1,13 +1,13 @@
 -- The tree of boxes: what a write keeps, and what a search of halves is.
-use Rattle.std.proofs.Common.{◌≡◌, ◌≢◌, ℕ, zero, suc, ◌+◌, ◌*◌, ◌/◌, ◌<◌, ◌≤◌, Bool, true, false, List, [], ◌∷◌, length, Option, None, ℤ, pos, ◌≤ℤ◌, ◌⊎◌, inl, inr, refl, arith, ap, sym, ◌∙◌, subst}
+use Rattle.std.proofs.Common.{◌≡◌, ◌≢◌, ℕ, zero, suc, ◌+◌, ◌*◌, ◌/◌, ◌<◌, ◌≤◌, Bool, true, List, length, Option, ℤ, pos, ◌≤ℤ◌, ◌⊎◌, inl, inr, refl, arith, ap, sym, ◌∙◌, subst}
 use Rattle.std.proofs.Math.ListN.{set}
-use Rattle.std.proofs.lemmas.Bool.{cases_eq, false≢true}
+use Rattle.std.proofs.lemmas.Bool.{cases_eq}
 use Rattle.std.proofs.lemmas.List.{get_or-set_same, get_or-set_other}
 use Rattle.std.proofs.lemmas.Int.{ints}
 use Rattle.tsp_bound.specs.declared.area.Area.{Area}
 use Rattle.tsp_bound.specs.declared.nearest.Best.{Best}
-use Rattle.tsp_bound.specs.Boxes.{up, node_of, is_outside, box_at, area_at, AreHeldFrom, AreHeld, IsRefit, KeepsHeld, IsKnown, IsBelowAll, IsFound, IsBest, IsSearched, no_best}
-use Rattle.tsp_bound.specs.Heap.{IsNearest}
+use Rattle.tsp_bound.specs.Boxes.{up, node_of, box_at, AreHeldFrom, AreHeld, IsRefit, IsKnown, IsBelowAll, IsFound, IsBest, IsSearched}
+use Rattle.tsp_bound.specs.Components.{IsNearest}
 
 -- ---- numbers of boxes
 
@@ -63,11 +63,6 @@ held_refit {A = A} none In low new_low places outside old v area len v_in twice 
       (held j (suc h) j_in out (step (up (suc h) (length places + j)) from other))
 ]
 
-pub refit_keeps : {A : Type 0} (none : A) (In : A → ℕ → Type 0) (places : List ℕ) (outside : ℕ → Bool) (old new : List A) (v : ℕ) → length old ≡ 2 * length places → 1 ≤ v → v < length places
-    → IsRefit none In old new v → AreHeld In places outside (box_at none old) → AreHeld In places outside (box_at none new)
-refit_keeps {A = A} none In places outside old new v len some v_in r held = subst (λ (areas : List A). AreHeld In places outside (box_at none areas)) (sym r.is)
-    (held_refit none In 1 1 places outside old v r.box len v_in (omega (arith, some)) (λ m from other. from) r.left r.right held)
-
 -- fitted from the last box on
 pub refit_more : {A : Type 0} (none : A) (In : A → ℕ → Type 0) (places : List ℕ) (outside : ℕ → Bool) (old new : List A) (v : ℕ) → length old ≡ 2 * length places → 1 ≤ v → v < length places
     → IsRefit none In old new v → AreHeldFrom In (v + 1) places outside (box_at none old) → AreHeldFrom In v places outside (box_at none new)
@@ -77,19 +72,6 @@ refit_more {A = A} none In places outside old new v len some v_in r held = subst
 leaf_is : (places : List ℕ) (node j h : ℕ) → j < length places → up h (length places + j) ≡ length places + node → j ≡ node
 leaf_is places node j zero j_in same = omega (arith, same)
 leaf_is places node j (suc h) j_in same = absurd (omega (arith, up_inner (length places) h (length places + j) (omega (arith, j_in)), same))
-
--- a leaf that holds its place, where that is outside
-pub held_leaf : {A : Type 0} (none : A) (In : A → ℕ → Type 0) (places : List ℕ) (outside : ℕ → Bool) (old : List A) (node : ℕ) (area : A) → length old ≡ 2 * length places
-    → node < length places → (outside node ≡ true → In area (node_of places node))
-    → AreHeld In places outside (box_at none old) → AreHeld In places outside (box_at none (set old (length places + node) area))
-held_leaf {A = A} none In places outside old node area len node_in own held j h j_in out from = elim (cases_eq (up h (length places + j)) (length places + node)) [
-  | inl same ↦
-      let mine : j ≡ node = leaf_is places node j h j_in same in
-      let is : box_at none (set old (length places + node) area) (up h (length places + j)) ≡ area = ap (box_at none (set old (length places + node) area)) same
-      ∙ get_or-set_same old (length places + node) area _ (omega (arith, len, node_in)) in
-      subst (λ (a : A). In a (node_of places j)) (sym is) (subst (λ (k : ℕ). In area (node_of places k)) (sym mine) (own (subst (λ (k : ℕ). outside k ≡ true) mine out)))
-  | inr other ↦ subst (λ (a : A). In a (node_of places j)) (sym (get_or-set_other old (length places + node) (up h (length places + j)) area _ other)) (held j h j_in out from)
-]
 
 -- a leaf more
 pub leaf_more : {A : Type 0} (none : A) (In : A → ℕ → Type 0) (places : List ℕ) (old : List A) (node : ℕ) (area : A) → length old ≡ 2 * length places
@@ -103,23 +85,11 @@ leaf_more {A = A} none In places old node area len node_in own done j j_in = eli
       (sym (get_or-set_other old (length places + node) (length places + j) area _ (λ e. other (omega (arith, e))))) (done j (omega (arith, other, j_in)))
 ]
 
-outside_before : (outside : List Bool) (node j : ℕ) → is_outside (set outside node false) j ≡ true → is_outside outside j ≡ true
-outside_before [] node j h = absurd (false≢true h)
-outside_before (b ∷ bs) zero zero h = absurd (false≢true h)
-outside_before (b ∷ bs) zero (suc j) h = h
-outside_before (b ∷ bs) (suc node) zero h = h
-outside_before (b ∷ bs) (suc node) (suc j) h = outside_before bs node j h
-
 -- the leaves alone
 pub held_leaves : {A : Type 0} (none : A) (In : A → ℕ → Type 0) (places : List ℕ) (outside : ℕ → Bool) (areas : List A)
     → ((j : ℕ) → j < length places → In (box_at none areas (length places + j)) (node_of places j)) → AreHeldFrom In (length places) places outside (box_at none areas)
 held_leaves none In places outside areas leaves j zero j_in out from = leaves j j_in
 held_leaves none In places outside areas leaves j (suc h) j_in out from = absurd (omega (arith, from, up_inner (length places) h (length places + j) (omega (arith, j_in))))
-
--- fewer places outside
-pub held_fewer : (In : Option Area → ℕ → Type 0) (places : List ℕ) (outside : List Bool) (area : ℕ → Option Area) (node : ℕ)
-    → AreHeld In places (is_outside outside) area → AreHeld In places (is_outside (set outside node false)) area
-held_fewer In places outside area node held j h j_in out from = held j h j_in (outside_before outside node j out) from
 
 -- ---- the search
 
@@ -213,13 +183,3 @@ nearest_is w places outside from best weight all found is = record {
   weight_is = is ∙ found.weight_is;
   least = λ x x_in out. subst (λ (z : ℤ). z ≤ℤ w (node_of places from) (node_of places x)) (sym is) (all.least x x_in out);
 }
-
--- once a node is taken in
-pub held_taken : (In : Option Area → ℕ → Type 0) (places : List ℕ) (outside : List Bool) (old new : List (Option Area)) (count node : ℕ) (area : Option Area)
-    → count ≡ length places → length old ≡ 2 * length places
-    → node < length places → node < length outside → KeepsHeld In count (set old (count + node) area) new
-    → AreHeld In places (is_outside outside) (area_at old) → AreHeld In places (is_outside (set outside node false)) (area_at new)
-held_taken In places outside old new count node area is len node_in in_marks keeps held = keeps places (is_outside (set outside node false)) (sym is)
-    (subst (λ (k : ℕ). AreHeld In places (is_outside (set outside node false)) (area_at (set old (k + node) area))) (sym is)
-    (held_leaf None In places (is_outside (set outside node false)) old node area len node_in (λ out. absurd (false≢true (sym (get_or-set_same outside node false false in_marks) ∙ out)))
-    (held_fewer In places outside (area_at old) node held)))

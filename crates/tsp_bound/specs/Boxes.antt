@@ -1,5 +1,5 @@
 -- A tree of boxes over nodes in an order, its leaves one node each, and what a search of it finds.
-use Rattle.std.specs.Prelude.{◌≡◌, ℕ, zero, suc, ◌+◌, ◌*◌, ◌/◌, ◌<◌, ◌≤◌, Bool, true, false, List, Option, None, Some, length, slice_index_or, slice_set, ℤ, pos, neg_ℤ, ◌≤ℤ◌, ◌<ℤ◌, ◌⊎◌}
+use Rattle.std.specs.Prelude.{◌≡◌, ℕ, zero, suc, ◌+◌, ◌*◌, ◌/◌, ◌<◌, ◌≤◌, Bool, true, List, Option, None, Some, length, slice_index_or, slice_set, ℤ, pos, neg_ℤ, ◌≤ℤ◌, ◌<ℤ◌, ◌⊎◌}
 use denote.Struct.Props as logic
 use mathlib.Core.HLevel.{Π_prop, ⊥_prop}
 use Rattle.tsp_distance.specs.declared.decimal.Point.{Point}
@@ -21,9 +21,6 @@ up (suc h) v = up h v / 2
 -- the node at a place of the order
 abbrev pub node_of : List ℕ → ℕ → ℕ
 node_of order j = slice_index_or order j 0
-
-abbrev pub is_outside : List Bool → ℕ → Bool
-is_outside outside j = slice_index_or outside j false
 
 -- what a list has for the box v
 abbrev pub box_at : {A : Type 0} → A → List A → ℕ → A
@@ -48,11 +45,6 @@ pub record IsRefit {A : Type 0} (none : A) (In : A → ℕ → Type 0) (old new 
   pub is : new ≡ slice_set old v box
   pub left : (p : ℕ) → In (box_at none old (2 * v)) p → In box p
   pub right : (p : ℕ) → In (box_at none old (2 * v + 1)) p → In box p
-
--- where the old boxes hold the nodes outside, so do the new ones
-abbrev pub KeepsHeld : (Option Area → ℕ → Type 0) → ℕ → List (Option Area) → List (Option Area) → Type 0
-KeepsHeld In n old new = (order : List ℕ) (outside : ℕ → Bool) → length order ≡ n
-    → AreHeld In order outside (area_at old) → AreHeld In order outside (area_at new)
 
 -- the least number of 64 bits says nothing
 abbrev pub IsKnown : ℤ → Type 0

@@ -1,13 +1,16 @@
 -- The components of a forest over places 0..n-1, each with a label, and the links between them.
-use Rattle.std.specs.Prelude.{◌≡◌, ◌≢◌, ℕ, ◌+◌, ◌==◌, ◌<◌, Bool, true, not, if◌then◌else◌, List, [], length, slice_index_or, Option, None, Some, ℤ, ◌≤ℤ◌, IfSome, ◌⊎◌}
+use Rattle.std.specs.Prelude.{◌≡◌, ◌≢◌, ℕ, ◌+◌, ◌*◌, ◌^◌, ◌==◌, ◌<◌, Bool, true, not, if◌then◌else◌, List, [], length, slice_index_or, Option, None, Some, ℤ, pos, neg_ℤ, ◌≤ℤ◌, IfSome, ◌⊎◌}
 use Rattle.std.specs.List.{All}
 use Rattle.tsp_bound.specs.declared.area.Area.{Area}
-use Rattle.tsp_bound.specs.declared.outside.Link.{Link}
+use Rattle.tsp_bound.specs.declared.link.Link.{Link}
 use Rattle.tsp_bound.specs.Boxes.{AreHeld, box_at}
-use Rattle.tsp_bound.specs.Heap.{IsBelow}
 use Rattle.tsp_theory.specs.Forest.{AreLeastJoins, IsWholeForest}
-use Rattle.tsp_theory.specs.Numbers.{IsSumSized}
+use Rattle.tsp_format.specs.Limits.{most_nodes}
+use Rattle.tsp_theory.specs.Numbers.{IsFromTo}
 use Rattle.tsp_theory.specs.Tree.{weight_of}
+
+abbrev pub IsBelow : ℕ → ℕ → Type 0
+IsBelow n x = x < n
 
 abbrev pub label_at : List ℕ → ℕ → ℕ
 label_at labels x = slice_index_or labels x 0
@@ -34,6 +37,14 @@ abbrev pub seen_area : List ℕ → (ℕ → Option Area) → ℕ → ℕ → Op
 seen_area tags area own v = if box_at 0 tags v == own then None else area v
 
 -- ---- links
+
+-- a link to a node outside, and none from the same node weighs less
+pub record IsNearest (n : ℕ) (w : ℕ → ℕ → ℤ) (outside : ℕ → Bool) (from : ℕ) (link : Link) : Type 0 where
+  pub from_is : link.from ≡ from
+  pub to_in : link.to < n
+  pub to_out : outside link.to ≡ true
+  pub weight_is : link.weight ≡ w from link.to
+  pub least : (x : ℕ) → x < n → outside x ≡ true → link.weight ≤ℤ w from x
 
 -- a link from the node x, with its own weight, and no pair of x that leaves its component weighs less
 pub record IsKept (n : ℕ) (w : ℕ → ℕ → ℤ) (label : ℕ → ℕ) (x : ℕ) (link : Link) : Type 0 where
@@ -96,4 +107,4 @@ pub record IsSpanning (n : ℕ) (w : ℕ → ℕ → ℤ) (added : List (ℕ × 
 pub record IsWeighedForest (n : ℕ) (w : ℕ → ℕ → ℤ) (added : List (ℕ × ℕ)) (sum : ℤ) : Type 0 where
   pub whole : IsWholeForest n w added
   pub weight : sum ≡ weight_of w added
-  pub size : IsSumSized (length added) sum
+  pub size : IsFromTo (neg_ℤ (pos (most_nodes * 2 ^ 63))) (pos (most_nodes * 2 ^ 63)) sum

@@ -4,7 +4,7 @@ ghost use Rattle.std.specs.Prelude.{◌≡◌, ◌⊎◌, ◌≤◌, ◌<◌, �
 ghost use Rattle.tsp_distance.specs.declared.decimal.Point.{Point};
 ghost use Rattle.tsp_format.specs.Cells.{IsNode};
 ghost use Rattle.tsp_bound.specs.Potentials.{numbers_of};
-ghost use Rattle.tsp_bound.specs.Boxes.{HoldsNode, AreHeld, IsRefit, KeepsHeld, node_of, area_at};
+ghost use Rattle.tsp_bound.specs.Boxes.{HoldsNode, AreHeld, IsRefit, node_of, area_at};
 
 use crate::area::Area;
 use crate::potentials::Potentials;
@@ -52,21 +52,6 @@ fn refit(areas: &mut Vec<Option<Area>>, count: usize, v: usize)
 {
     let area = joined(&areas[2 * v], &areas[2 * v + 1]);
     areas[v] = area;
-}
-
-/// Fits the boxes above a leaf.
-pub(crate) fn raise(areas: &mut Vec<Option<Area>>, count: usize, leaf: usize)
-    requires high { leaf < 2 * count }
-    requires len { length areas.old.items ≡ 2 * count }
-    ensures len { length areas.new.items ≡ 2 * count }
-    ensures keeps { (place : ℕ → Point) (numbers : List ℤ)
-        → KeepsHeld (HoldsNode place numbers) count areas.old.items areas.new.items }
-{
-    let mut v = leaf / 2;
-    'raise: while v > 0 {
-        refit(areas, count, v);
-        v /= 2;
-    }
 }
 
 /// The box of a node alone, where it has a place.

@@ -2,9 +2,9 @@
 
 ghost use Rattle.std.specs.Prelude.{◌≡◌, ◌<◌, ℕ, ℤ, length, IfSome};
 ghost use Rattle.tsp_bound.specs.Components.{is_apart, label_at};
-ghost use Rattle.tsp_bound.specs.Heap.{IsNearest};
+ghost use Rattle.tsp_bound.specs.Components.{IsNearest};
 
-use crate::outside::Link;
+use crate::link::Link;
 
 /// Nodes 0..count, each with the label of its component, and the weights between them.
 pub(crate) trait Components {

@@ -6,7 +6,7 @@ ghost use Rattle.tsp_bound.specs.Components.{AreKept, AreLeast, AreLeaving, IsOf
 
 use crate::components::Components;
 use crate::labelled::own_labels;
-use crate::outside::Link;
+use crate::link::Link;
 use std::alloc::{AllocError, Global};
 
 /// Whether a link weighs less than the best one, if there is one.
@@ -20,6 +20,17 @@ pub(crate) fn is_better(link: Link, best: Option<Link>) -> bool
     }
 }
 
+/// The node that the best link leads to, if there is one, else `node`.
+#[inline]
+pub(crate) fn end_of(best: Option<Link>, node: u32) -> u32
+    ensures { MatchOption best (result ≡ node) (λ link. result ≡ link.to) }
+{
+    match best {
+        None => node,
+        Some(link) => link.to,
+    }
+}
+
 /// The lighter one of a link and the best one, if there is one.
 #[inline]
 pub(crate) fn better(best: Option<Link>, link: Link) -> Link
@@ -27,13 +38,7 @@ pub(crate) fn better(best: Option<Link>, link: Link) -> Link
 {
     match best {
         None => link,
-        Some(old) => {
-            if link.weight < old.weight {
-                link
-            } else {
-                old
-            }
-        }
+        Some(old) => { if link.weight < old.weight { link } else { old } }
     }
 }
 

@@ -8,7 +8,7 @@ ghost use Rattle.tsp_bound.specs.Components.{AreTags, is_apart, label_at, seen_a
 use crate::area::Area;
 use crate::boxes::boxes_of;
 use crate::components::Components;
-use crate::outside::Link;
+use crate::link::Link;
 use crate::placed::Placed;
 use crate::seen::Seen;
 use crate::tags::tag_boxes;

@@ -1,4 +1,4 @@
-//! A least tree over the nodes 2..n: by boxes and a heap, by boxes in rounds, or pair by pair.
+//! A least tree over the nodes 2..n: by boxes in rounds, or pair by pair.
 
 ghost use Rattle.std.specs.Prelude.{◌≡◌, ◌≤◌, ◌<◌, ◌+◌, ◌*◌, ◌^◌, ℕ, ℤ, length, map, pos, neg_ℤ, IfOk, IfSome};
 ghost use Rattle.std.specs.List.{All};
@@ -14,9 +14,7 @@ ghost use Rattle.tsp_theory.specs.Numbers.{IsFromTo, IsSumSized};
 ghost use Rattle.tsp_theory.specs.Tree.{weight_of};
 
 use crate::growth::{Grown, grow_on};
-use crate::heap::grow_by_heap;
 use crate::labelled::Labelled;
-use crate::nodes::Nodes;
 use crate::numbering::places_in;
 use crate::placed::Placed;
 use crate::rounds::grow_by_rounds;
@@ -24,12 +22,11 @@ use crate::weights::Weights;
 use std::alloc::{AllocError, Global};
 use tsp_theory::{Costs, Grouped};
 
-/// A least tree over the nodes 2..n: each pair leads from one component of the pairs before it to
-/// another, and no such pair weighs less.
+/// A least tree over the nodes 2..n: each pair leads from a part that no earlier pair leaves to a
+/// node outside it, and no such pair weighs less.
 ///
-/// It grows from node 2 by a heap first, which takes the fewest steps where each node has few near
-/// ones. Where that takes too many, all nodes are joined in rounds; and where that does, the growth
-/// from node 2 goes on pair by pair.
+/// All nodes are joined in rounds. Where that takes too many steps, a tree grows from node 2 pair by
+/// pair.
 ///
 /// # Errors
 ///
@@ -42,14 +39,11 @@ pub(crate) fn grow<C: Grouped>(alloc: Global, w: &Weights<C>) -> Result<Grown, A
     ensures size { IfOk result (λ grown. IsFromTo (neg_ℤ (pos (most_nodes * 2 ^ 63)))
         (pos (most_nodes * 2 ^ 63)) grown.weight) }
 {
-    let part = grown_part(alloc, w)?;
-    if part.pairs.len() + 2 == w.c.count() as usize {
-        return Ok(part);
-    }
     if let Some(grown) = joined(alloc, w)? {
         return Ok(grown);
     }
-    grow_on(alloc, w, part)
+    let none = nothing(alloc, w.c)?;
+    grow_on(alloc, w, none)
 }
 
 /// The nodes 2..n in an order in which near ones are near each other; none where it isn't one of
@@ -59,8 +53,7 @@ pub(crate) fn grow<C: Grouped>(alloc: Global, w: &Weights<C>) -> Result<Grown, A
 ///
 /// Out of memory.
 fn inner_order<C: Grouped>(alloc: Global, c: &C) -> Result<Option<Vec<u32>>, AllocError>
-    ensures count { IfOk result (λ found. IfSome found (λ order. length order.items + 1 ≡ C.nodes c.now)) }
-    ensures few { IfOk result (λ found. IfSome found (λ order. length order.items ≤ most_nodes)) }
+    ensures { IfOk result (λ found. IfSome found (λ order. length order.items + 1 ≡ C.nodes c.now)) }
 {
     let mut order = c.order(alloc)?;
     order.retain(|node| *node != 1);
@@ -69,41 +62,6 @@ fn inner_order<C: Grouped>(alloc: Global, c: &C) -> Result<Option<Vec<u32>>, All
     } else {
         Ok(None)
     }
-}
-
-/// The part of a growth from node 2 that the boxes of the nodes and a heap give, and its weight.
-///
-/// It is empty where a node has no place, or the order isn't one of all the nodes.
-///
-/// # Errors
-///
-/// Out of memory.
-fn grown_part<C: Grouped>(alloc: Global, w: &Weights<C>) -> Result<Grown, AllocError>
-    ensures { IfOk result (λ grown. IsPartGrowth (C.nodes w.now.c.now)
-        (weight_less w.now.p.now (triples_in w.now.m.now) (C.at w.now.c.now)) grown.pairs.items grown.weight) }
-{
-    let Some(order) = inner_order(alloc, w.c)? else {
-        return nothing(alloc, w.c);
-    };
-    grown_over(alloc, w, &order)
-}
-
-/// The same over an order of nodes.
-fn grown_over<C: Grouped>(alloc: Global, w: &Weights<C>, order: &[u32]) -> Result<Grown, AllocError>
-    requires few { length order.now ≤ most_nodes }
-    ensures { IfOk result (λ grown. IsPartGrowth (C.nodes w.now.c.now)
-        (weight_less w.now.p.now (triples_in w.now.m.now) (C.at w.now.c.now)) grown.pairs.items grown.weight) }
-{
-    let Some(places) = places_in(alloc, order, w.c.count())? else {
-        return nothing(alloc, w.c);
-    };
-    let start = places[2];
-    let placed = Placed::new(w.c, *w.p, w.m, order, &places);
-    let Some(mut nodes) = Nodes::new(alloc, placed)? else {
-        return nothing(alloc, w.c);
-    };
-    let pairs = grow_by_heap(alloc, &mut nodes, start, most_heap_steps(w.c.count()))?;
-    weighed(alloc, w, order, &pairs)
 }
 
 /// A least tree by rounds over the boxes of the nodes, and its weight; none where a node has no
@@ -139,7 +97,7 @@ fn joined_over<C: Grouped>(
     let Some(mut nodes) = Labelled::new(alloc, placed)? else {
         return Ok(None);
     };
-    let Some(pairs) = grow_by_rounds(alloc, &mut nodes, most_round_steps(w.c.count()))? else {
+    let Some(pairs) = grow_by_rounds(alloc, &mut nodes, most_steps(w.c.count()))? else {
         return Ok(None);
     };
     let grown = weighed(alloc, w, order, &pairs)?;
@@ -159,14 +117,9 @@ fn nothing<C: Costs>(alloc: Global, c: &C) -> Result<Grown, AllocError>
     Ok(Grown { pairs, weight: 0 })
 }
 
-/// How many boxes a growth by a heap over this many nodes may look at.
-fn most_heap_steps(count: u32) -> u64 {
-    600 * u64::from(count)
-}
-
 /// How many boxes the rounds over this many nodes may look at: a part of the work that the growth
 /// pair by pair takes, and about as much for some thousand nodes.
-fn most_round_steps(count: u32) -> u64 {
+fn most_steps(count: u32) -> u64 {
     let nodes = u64::from(count);
     (nodes * nodes / 8).max(600 * nodes)
 }

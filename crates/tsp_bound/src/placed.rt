@@ -9,8 +9,8 @@ ghost use Rattle.tsp_bound.specs.Numbering.{IsNumbering};
 ghost use Rattle.tsp_bound.specs.Potentials.{numbers_of};
 
 use crate::by_node::ByNode;
+use crate::link::Link;
 use crate::nearest::{Best, nearest_from};
-use crate::outside::Link;
 use crate::potentials::Potentials;
 use crate::seen::Seen;
 use tsp_theory::Grouped;
@@ -37,7 +37,7 @@ pub(crate) struct Placed<'a, C: Grouped> {
 impl<'a, C: Grouped> Placed<'a, C> {
     ghost use Rattle.std.specs.Prelude.{true, false, IfSome, MatchOption};
     ghost use Rattle.tsp_bound.specs.Boxes.{HoldsNode, AreHeld, IsBest};
-    ghost use Rattle.tsp_bound.specs.Heap.{IsNearest};
+    ghost use Rattle.tsp_bound.specs.Components.{IsNearest};
     ghost use Rattle.tsp_bound.specs.Multipliers.{triples_in, weight_less};
     ghost use Rattle.tsp_bound.specs.Potentials.{weight_under};
 
@@ -85,7 +85,7 @@ impl<'a, C: Grouped> Placed<'a, C> {
             self.now.order.now (S.outside_of seen.now) (S.area_of seen.now) }
         ensures { IfSome result (λ link. IsNearest (length self.now.order.now)
             (λ i j. weight_less self.now.p (triples_in self.now.m.now) (C.at self.now.c.now)
-                (node_of self.now.order.now i) (node_of self.now.order.now j))
+            (node_of self.now.order.now i) (node_of self.now.order.now j))
             (S.outside_of seen.now) from link) }
     {
         let unlowered = nearest_from(

@@ -5,8 +5,8 @@ ghost use Rattle.std.specs.Bool.{OnTrue};
 ghost use Rattle.tsp_bound.specs.Components.{AreKept, AreLeast, AreLeaving, IsSpanning};
 
 use crate::components::Components;
-use crate::joins::{best_of, better, is_better, join};
-use crate::outside::Link;
+use crate::joins::{best_of, better, end_of, is_better, join};
+use crate::link::Link;
 use std::alloc::{AllocError, Global};
 
 /// As many rounds as any tree takes: in each one at least half of the components vanish.
@@ -67,13 +67,15 @@ fn first_links<P: Components>(
         AreKept (P.count_of nodes.now) (P.weight_of nodes.now) (P.label_of nodes.now) known.items)) }
 {
     let mut known = Vec::with_capacity(alloc, nodes.count() as usize)?;
+    let mut near = 0;
     'nodes: for node in 0..nodes.count() {
-        let Some(link) = nodes.nearest(node, node, steps) else {
+        let Some(link) = nodes.nearest(node, near, steps) else {
             return Ok(None);
         };
         if *steps > most_steps {
             return Ok(None);
         }
+        near = link.to;
         known.push(link)?;
     }
     Ok(Some(known))
@@ -97,7 +99,8 @@ fn search_again<P: Components>(
     'nodes: for node in 0..nodes.count() {
         let label = nodes.label(node) as usize;
         if is_better(known[node as usize], best[label]) {
-            let Some(link) = nodes.nearest(node, node, steps) else {
+            let near = end_of(best[label], node);
+            let Some(link) = nodes.nearest(node, near, steps) else {
                 return false;
             };
             if *steps > most_steps {

@@ -1,4 +1,4 @@
-use Rattle.std.proofs.Common.{◌≡◌, ◌<◌, ℕ, Bool, true, false, length}
+use Rattle.std.proofs.Common.{◌≡◌, ◌<◌, ℕ, false, length}
 use Rattle.tsp_bound.specs.Boxes.{box_at}
 use Rattle.tsp_bound.specs.Components.{label_at}
 use Rattle.tsp_bound.proofs.Joining.{IsJoining}

@@ -1,24 +1,11 @@
-use Rattle.std.proofs.Common.{◌≡◌, ◌+◌, length, arith}
-use Rattle.tsp_theory.proofs.Forests.{growth_joins, growth_is_forest}
+use Rattle.std.proofs.Common.{arith}
+use Rattle.tsp_theory.proofs.Forests.{growth_is_forest}
 use Rattle.tsp_theory.specs.Forest.{IsWholeForest}
 use Rattle.tsp_theory.specs.Growth.{IsWholeGrowth}
-use Rattle.tsp_theory.specs.Tree.{IsInner}
 use Rattle.tsp_bound.specs.Multipliers.{triples_in, weight_less}
 use Rattle.tsp_bound.specs.declared.growth.Grown.{Grown}
 use Rattle.tsp_bound.proofs.Parts.{if_ok_more}
 use Rattle.tsp_bound.proofs.part.grow.Goals as goal
-
-pub returns-then-len-count-clause-whole : goal.returns-then-len-count-clause-whole
-returns-then-len-count-clause-whole g c =
-    let n = g.C.Costs.nodes c.args.w.now.c.now in
-    let w = weight_less c.args.w.now.p.now (triples_in c.args.w.now.m.now) (g.C.Costs.at c.args.w.now.c.now) in
-    let pairs = c.in_ok-part.part.pairs.items in
-    let count : 2 + length pairs ≡ n = omega (arith, c.if-len-count.true, c.count.ensures.value) in
-    let some = c.args.w.now.some in
-    record {
-      joins = growth_joins (IsInner n) w 2 pairs (omega arith, omega (arith, some)) c.in_ok-part.ensures.grows;
-      count = count;
-    }
 
 pub returns-clause-whole : goal.returns-clause-whole
 returns-clause-whole g c =

@@ -25,5 +25,5 @@ returns g c =
     let last : ℕ = c.count.result in
     let grown = c.in_ok-grown.grown in
     subst (λ (k : ℕ). IsWeighedForest k w grown.pairs.items grown.weight) c.count.ensures.value
-    (forest_of order places last w pairs grown.pairs.items grown.weight (omega (arith, c.requires.count, c.count.ensures.value)) num spanning
+    (forest_of order places last w pairs grown.pairs.items grown.weight (omega (arith, c.requires.count, c.count.ensures.value)) num spanning c.count.ensures.most
     (c.in_ok-grown.ensures.pairs ∙ ap (map (on_both (node_of order))) c.deref-2.ensures.value) c.in_ok-grown.ensures.weight c.in_ok-grown.ensures.size)

@@ -1,6 +1,6 @@
 use Rattle.std.proofs.Common.{◌≡◌, ◌<◌, ℕ, length}
 use Rattle.std.specs.Prelude.{slice_index_or}
-use Rattle.tsp_bound.specs.declared.outside.Link.{Link}
+use Rattle.tsp_bound.specs.declared.link.Link.{Link}
 use Rattle.tsp_bound.specs.Components.{IsKept}
 use Rattle.tsp_bound.proofs.rounds.first_links.Given as goal
 
@@ -10,6 +10,7 @@ invariant-nodes g l =
     let w = g.P.Components.weight_of l.nodes in
     let label = g.P.Components.label_of l.nodes in
     record {
+      near_in : l.node < n → l.near < n;
       len : length l.known.items ≡ l.node;
       each : (x : ℕ) (d : Link) → x < l.node → IsKept n w label x (slice_index_or l.known.items x d);
     }

@@ -1,4 +1,4 @@
-use Rattle.std.proofs.Common.{◌≡◌, ◌≤◌, ◌<◌, ◌*◌, ◌+◌, ℕ, Bool, true, length}
+use Rattle.std.proofs.Common.{◌≡◌, ◌≤◌, ◌<◌, ◌*◌, ◌+◌, ℕ, true, length}
 use Rattle.tsp_bound.specs.Boxes.{AreHeldFrom, box_at}
 use Rattle.tsp_bound.specs.Components.{IsTagOf, label_at}
 use Rattle.tsp_bound.proofs.tags.tag_boxes.Given as goal

@@ -1,4 +1,4 @@
-use Rattle.std.proofs.Common.{◌≢◌, refl, pos, rules, ap, w64, to_z, of_z, SFits}
+use Rattle.std.proofs.Common.{◌≢◌, pos, rules, ap, w64, to_z, of_z, SFits}
 use Rattle.std.proofs.lemmas.Int.{to_z-of_z}
 use Rattle.tsp_bound.specs.Multipliers.{triples_in, weight_less}
 use Rattle.tsp_bound.specs.Potentials.{weight_under}

@@ -1,0 +1,12 @@
+//! Links between places.
+
+/// A link from a node to another one, with its weight.
+#[derive(Clone, Copy)]
+pub(crate) struct Link {
+    /// The weight between the two.
+    pub(crate) weight: i64,
+    /// The node that it was searched for from.
+    pub(crate) from: u32,
+    /// The other node.
+    pub(crate) to: u32,
+}
