@@ -79,7 +79,8 @@ pair_cost pairs instance k = cost instance (slice_index_or pairs (2 * k) 0) (sli
 
 abbrev pub EndsWeights : Fields → List ℕ → List ℤ → List ℤ → ℕ → Type 0
 EndsWeights instance pairs old new status =
-    EndsBuffer (ArePairs pairs (instance_size instance)) (pair_count pairs) (pair_count pairs) (pair_cost pairs instance) old new status
+    EndsBuffer (ArePairs pairs (instance_size instance)) (pair_count pairs) (pair_count pairs) (pair_cost pairs instance)
+    old new status
 
 abbrev pub FillsWeights : List ℕ → List ℕ → List ℤ → List ℤ → ℕ → Type 0
 FillsWeights text pairs old new status = OfInstance text (λ instance. EndsWeights instance pairs old new status) old new status
@@ -126,7 +127,8 @@ list_length nodes instance k = length_of (cost instance) (slice_index_or (lists_
 
 abbrev pub EndsLengths : Fields → List ℕ → List ℤ → List ℤ → ℕ → Type 0
 EndsLengths instance nodes old new status =
-    EndsBuffer (AreLists nodes (instance_size instance)) (list_count nodes) (list_count nodes) (list_length nodes instance) old new status
+    EndsBuffer (AreLists nodes (instance_size instance)) (list_count nodes) (list_count nodes) (list_length nodes instance)
+    old new status
 
 abbrev pub FillsLengths : List ℕ → List ℕ → List ℤ → List ℤ → ℕ → Type 0
 FillsLengths text nodes old new status = OfInstance text (λ instance. EndsLengths instance nodes old new status) old new status

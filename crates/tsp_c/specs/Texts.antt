@@ -58,7 +58,8 @@ ShowsText one status text = EndsWithText
 -- 1 where the weights can't go into the layout
 abbrev pub ConvertsText : Option Layout → List ℕ → ℕ → List ℕ → Type 0
 ConvertsText to one status text = EndsWithText
-    (λ out. (old : Fields) × (new : Fields) × Spells one old × Becomes to old (Ok new) × (fault_of new ≡ None) × (out ≡ text_of new))
+    (λ out. (old : Fields) × (new : Fields) × Spells one old × Becomes to old (Ok new) × (fault_of new ≡ None)
+    × (out ≡ text_of new))
     (λ out. (old : Fields) × (refused : RelayoutFault) × Spells one old × Becomes to old (Err refused)
     × (out ≡ fault_line (Relayout refused)))
     (IsFaultyText 1 one) status text

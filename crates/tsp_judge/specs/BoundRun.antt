@@ -20,13 +20,15 @@ use Rattle.tsp_report.specs.Report.{bound_report_of}
 -- certificate, nor out of memory: then no reason applies to the instance, nor one to the certificate that is found without
 -- memory. Where the writer fails a prefix of the report was written.
 abbrev pub BoundsFiles : Certificate → Fields → Fields → Sink → Result (Result (Option ℤ) Reason) RunFault → Type 0
-BoundsFiles by instance certificate sink (Ok found) = IsTrue (is_bounded by instance.kind) × IsBoundVerdict by instance certificate found
+BoundsFiles by instance certificate sink (Ok found) = IsTrue (is_bounded by instance.kind)
+    × IsBoundVerdict by instance certificate found
     × HasWritten sink (bound_report_of instance found)
 BoundsFiles by instance certificate sink (Err WrongKind) = (is_bounded by instance.kind ≡ false) × IsUnwritten sink
 BoundsFiles by instance certificate sink (Err OutOfMemory) = IsTrue (is_bounded by instance.kind) × NoneAgainstInstance instance
     × NoneWithoutMemory by instance certificate × IsUnwritten sink
 BoundsFiles by instance certificate sink (Err (Write write_faults.Device)) = IsTrue (is_bounded by instance.kind)
-    × ((found : Result (Option ℤ) Reason) × IsBoundVerdict by instance certificate found × HasStopped sink (bound_report_of instance found))
+    × ((found : Result (Option ℤ) Reason) × IsBoundVerdict by instance certificate found
+    × HasStopped sink (bound_report_of instance found))
 BoundsFiles by instance certificate sink (Err (Write write_faults.OutOfMemory)) = ⊥
 BoundsFiles by instance certificate sink (Err (File file fault)) = ⊥
 BoundsFiles by instance certificate sink (Err (Relayout fault)) = ⊥
@@ -74,4 +76,5 @@ SaysBound by first second sink None = IsNoTourYes by first second sink
 -- what the run does, and what its line `yes` means
 abbrev pub IsBoundRunOf : Certificate → Turn → Turn → Sink → Result Bounded RunFault → Type 0
 IsBoundRunOf by first second sink result = IsBoundRun by first second sink result
-    × ((bounded : Bounded) (bound : Option ℤ) → result ≡ Ok bounded → bounded.found ≡ Ok bound → SaysBound by first second sink bound)
+    × ((bounded : Bounded) (bound : Option ℤ) → result ≡ Ok bounded → bounded.found ≡ Ok bound
+    → SaysBound by first second sink bound)

@@ -58,7 +58,8 @@ ReadsGiven None (Err fault) = ⊥
 ReadsGiven (Some given) (Err fault) = ReadsFile 3 given.1 (Err fault)
 
 -- these are the files
-pub record AreRead (given : Given) (first second : Turn) (instance solution : Fields) (certificate : Option (Certificate × Fields)) : Type 0 where
+pub record AreRead (given : Given) (first second : Turn) (instance solution : Fields)
+    (certificate : Option (Certificate × Fields)) : Type 0 where
   pub first_file : IsFile first instance
   pub second_file : IsFile second solution
   pub third_file : IsFileIn given certificate
@@ -67,7 +68,8 @@ pub record AreRead (given : Given) (first second : Turn) (instance solution : Fi
 abbrev pub IsFaultOfRun : Given → Turn → Turn → ℕ → ReadFault → Type 0
 IsFaultOfRun given first second file fault = ((file ≡ 1) × StopsAt fault first × IsUnread second × IsUnreadIn given)
     ⊎ ((file ≡ 2) × IsSomeFile first × StopsAt fault second × IsUnreadIn given)
-    ⊎ ((third : Certificate × Turn) × (given ≡ Some third) × (file ≡ 3) × IsSomeFile first × IsSomeFile second × StopsAt fault third.1)
+    ⊎ ((third : Certificate × Turn) × (given ≡ Some third) × (file ≡ 3) × IsSomeFile first × IsSomeFile second
+    × StopsAt fault third.1)
 
 -- ---- the verdict
 
@@ -82,11 +84,14 @@ is_yes (No reason) = false
 abbrev pub JudgesFiles : Option (Certificate × Fields) → Option ℤ → Fields → Fields → Sink → Result Verdict RunFault → Type 0
 JudgesFiles certificate claimed instance solution sink (Ok verdict) = IsTrue (is_judged certificate instance.kind)
     × IsVerdictWith certificate claimed instance solution verdict × HasWritten sink (report_of instance verdict)
-JudgesFiles certificate claimed instance solution sink (Err WrongKind) = (is_judged certificate instance.kind ≡ false) × IsUnwritten sink
+JudgesFiles certificate claimed instance solution sink (Err WrongKind) = (is_judged certificate instance.kind ≡ false)
+    × IsUnwritten sink
 JudgesFiles certificate claimed instance solution sink (Err OutOfMemory) = IsTrue (is_judged certificate instance.kind)
     × NoneBeforeRepeatsOn instance solution × IsUnwritten sink
-JudgesFiles certificate claimed instance solution sink (Err (Write write_faults.Device)) = IsTrue (is_judged certificate instance.kind)
-    × ((verdict : Verdict) × IsVerdictWith certificate claimed instance solution verdict × HasStopped sink (report_of instance verdict))
+JudgesFiles certificate claimed instance solution sink (Err (Write write_faults.Device)) =
+    IsTrue (is_judged certificate instance.kind)
+    × ((verdict : Verdict) × IsVerdictWith certificate claimed instance solution verdict
+    × HasStopped sink (report_of instance verdict))
 JudgesFiles certificate claimed instance solution sink (Err (Write write_faults.OutOfMemory)) = ⊥
 JudgesFiles certificate claimed instance solution sink (Err (File file fault)) = ⊥
 JudgesFiles certificate claimed instance solution sink (Err (Relayout fault)) = ⊥
@@ -109,7 +114,8 @@ IsRun given claimed first second sink (Err fault) = EndsWithout given claimed fi
 
 -- The result of a check: whether the solution is accepted.
 abbrev pub IsCheckAnswer : Given → Option ℤ → Turn → Turn → Sink → Result Bool RunFault → Type 0
-IsCheckAnswer given claimed first second sink (Ok answer) = (instance solution : Fields) × (certificate : Option (Certificate × Fields))
+IsCheckAnswer given claimed first second sink (Ok answer) = (instance solution : Fields)
+    × (certificate : Option (Certificate × Fields))
     × (verdict : Verdict) × AreRead given first second instance solution certificate
     × JudgesFiles certificate claimed instance solution sink (Ok verdict) × (answer ≡ is_yes verdict)
 IsCheckAnswer given claimed first second sink (Err fault) = EndsWithout given claimed first second sink fault

@@ -30,7 +30,8 @@ abbrev pub AreFresh : {F : Type 0} → (Place → F → Type 0) → Task Place �
 AreFresh opens (Show a) (Show x) = IsFresh opens a x
 AreFresh opens (Convert a to) (Convert x same) = IsFresh opens a x × (same ≡ to)
 AreFresh opens (Check a b claimed) (Check x y same) = IsFresh opens a x × IsFresh opens b y × (same ≡ claimed)
-AreFresh opens (CheckBy by a b c claimed) (CheckBy kept x y z same) = (kept ≡ by) × IsFresh opens a x × IsFresh opens b y × IsFresh opens c z × (same ≡ claimed)
+AreFresh opens (CheckBy by a b c claimed) (CheckBy kept x y z same) = (kept ≡ by) × IsFresh opens a x × IsFresh opens b y
+    × IsFresh opens c z × (same ≡ claimed)
 AreFresh opens (Bound by a c) (Bound kept x z) = (kept ≡ by) × IsFresh opens a x × IsFresh opens c z
 AreFresh opens _ _ = ⊥
 
@@ -56,7 +57,8 @@ abbrev pub Ends : {F : Type 0} → (F → Option (List ℕ)) → (Place → F �
     → Ending → Type 0
 Ends remaining opens on_terminal build words sink explained (NoJob fault) = GivesJob (drop 1 words) (Err fault)
     × (AsksVersion fault → ⊥) × IsUnwritten sink × (explained ≡ false)
-Ends remaining opens on_terminal build words sink explained (Version told) = (fault : JobFault) × GivesJob (drop 1 words) (Err fault)
+Ends remaining opens on_terminal build words sink explained (Version told) = (fault : JobFault)
+    × GivesJob (drop 1 words) (Err fault)
     × AsksVersion fault × (told.now ≡ build) × IsUnwritten sink × (explained ≡ false)
 Ends remaining opens on_terminal build words sink explained (NoTask fault) = (job : Job) × GivesJob (drop 1 words) (Ok job)
     × EndsWith remaining opens job sink (NoTask fault) × (explained ≡ (job.explain || on_terminal))

@@ -15,7 +15,8 @@ use Rattle.tsp_verdict.specs.Solution.{nodes_of}
 -- When a reason applies to an instance, whatever the tour: the two that are judged of a tour too. No other reason does.
 abbrev pub StandsAgainstInstance : Fields → Reason → Type 0
 StandsAgainstInstance inst TooFewNodes = nodes_of inst < 3
-StandsAgainstInstance inst (NotSymmetric i j) = (inst.kind ≡ Some kinds.Tsp) × IsFirstAsymmetric (nodes_of inst) (cost inst) (i, j)
+StandsAgainstInstance inst (NotSymmetric i j) = (inst.kind ≡ Some kinds.Tsp)
+    × IsFirstAsymmetric (nodes_of inst) (cost inst) (i, j)
 StandsAgainstInstance inst reason = ⊥
 
 abbrev pub NoneAgainstInstance : Fields → Type 0

@@ -20,7 +20,8 @@ use Rattle.tsp_verdict.specs.Solution.{nodes_of, fixed_of, tours_of, visited}
 abbrev pub StandsAgainstTour : Fields → Fields → Reason → Type 0
 StandsAgainstTour inst sol NotASolution = is_tours sol.kind ≡ false
 StandsAgainstTour inst sol TooFewNodes = nodes_of inst < 3
-StandsAgainstTour inst sol (NotSymmetric i j) = (inst.kind ≡ Some kinds.Tsp) × IsFirstAsymmetric (nodes_of inst) (cost inst) (i, j)
+StandsAgainstTour inst sol (NotSymmetric i j) = (inst.kind ≡ Some kinds.Tsp)
+    × IsFirstAsymmetric (nodes_of inst) (cost inst) (i, j)
 StandsAgainstTour inst sol Dimension = (n : ℕ) × (sol.dimension ≡ Some n) × (n ≢ nodes_of inst)
 StandsAgainstTour inst sol TourCount = length (tours_of sol) ≢ 1
 StandsAgainstTour inst sol TourLength = length (visited sol) ≢ nodes_of inst
