@@ -294,52 +294,72 @@ function elementOf({ name, attributes, text }) {
 
 // ---- events
 
-for (const slot of SLOTS) {
+/** @param {import("./roles.mjs").Slot} slot whose button, input and place are listened to */
+function listenTo(slot) {
     const input = /** @type {HTMLInputElement} */ (find(slot));
-    input.addEventListener("change", async () => {
-        await take(input.files ?? [], slot);
-        input.value = "";
-    });
+    listenToInput(input, slot);
     find(`${slot}-remove`).addEventListener("click", () => {
         put(slot, null);
         judge();
         input.focus();
     });
-    find(`${slot}-slot`).addEventListener("drop", (event) => {
+    listenToDrops(find(`${slot}-slot`), slot);
+}
+
+/**
+ * Takes the files that are chosen. The same file may be chosen again.
+ *
+ * @param {HTMLInputElement} input
+ * @param {import("./roles.mjs").Slot | null} slot
+ */
+function listenToInput(input, slot) {
+    input.addEventListener("change", async () => {
+        await take(input.files ?? [], slot);
+        input.value = "";
+    });
+}
+
+/**
+ * Takes the files that are dropped; several ones each to where it belongs.
+ *
+ * @param {EventTarget} target
+ * @param {import("./roles.mjs").Slot | null} slot
+ */
+function listenToDrops(target, slot) {
+    target.addEventListener("drop", (event) => {
+        const files = /** @type {DragEvent} */ (event).dataTransfer?.files ?? [];
         event.preventDefault();
         event.stopPropagation();
         document.body.classList.remove("over");
-        take(event.dataTransfer?.files ?? [], (event.dataTransfer?.files.length ?? 0) > 1 ? null : slot);
+        take(files, files.length > 1 ? null : slot);
     });
 }
-const all = /** @type {HTMLInputElement} */ (find("all"));
-all.addEventListener("change", async () => {
-    await take(all.files ?? [], null);
-    all.value = "";
-});
-document.addEventListener("dragover", (event) => {
-    event.preventDefault();
-    document.body.classList.add("over");
-});
-document.addEventListener("dragleave", () => document.body.classList.remove("over"));
-document.addEventListener("drop", (event) => {
-    event.preventDefault();
-    document.body.classList.remove("over");
-    take(event.dataTransfer?.files ?? [], null);
-});
-for (const id of ["by-potentials", "by-branches", "claimed"]) {
-    find(id).addEventListener("change", judge);
-}
-for (const button of document.querySelectorAll("button[data-example]")) {
-    button.addEventListener("click", () => takeExample(/** @type {HTMLElement} */ (button).dataset.example ?? ""));
-}
-find("stop").addEventListener("click", () => {
-    stop();
-    tell("none", "Stopped", "");
-});
-find("files").addEventListener("submit", (event) => event.preventDefault());
-new ResizeObserver(() => find("result").clientWidth !== drawn && draw()).observe(find("result"));
 
+/** Listens to all that isn't of one place. */
+function listenToPage() {
+    listenToInput(/** @type {HTMLInputElement} */ (find("all")), null);
+    listenToDrops(document, null);
+    document.addEventListener("dragover", (event) => {
+        event.preventDefault();
+        document.body.classList.add("over");
+    });
+    document.addEventListener("dragleave", () => document.body.classList.remove("over"));
+    for (const id of ["by-potentials", "by-branches", "claimed"]) {
+        find(id).addEventListener("change", judge);
+    }
+    for (const button of document.querySelectorAll("button[data-example]")) {
+        button.addEventListener("click", () => takeExample(/** @type {HTMLElement} */ (button).dataset.example ?? ""));
+    }
+    find("stop").addEventListener("click", () => {
+        stop();
+        tell("none", "Stopped", "");
+    });
+    find("files").addEventListener("submit", (event) => event.preventDefault());
+    new ResizeObserver(() => find("result").clientWidth !== drawn && draw()).observe(find("result"));
+}
+
+SLOTS.forEach(listenTo);
+listenToPage();
 begin();
 if (location.hash.length > 1) {
     takeExample(location.hash.slice(1));

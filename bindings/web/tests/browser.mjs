@@ -246,9 +246,11 @@ try {
         await browser.picture(title);
     }
 } finally {
-    browser.process.kill();
-    await new Promise((done) => browser.process.on("exit", done));
-    rmSync(profile, { recursive: true, force: true, maxRetries: 5 });
+    browser.session = undefined;
+    const ended = new Promise((done) => browser.process.on("exit", done));
+    await browser.ask("Browser.close");
+    await ended;
+    rmSync(profile, { recursive: true, force: true, maxRetries: 10, retryDelay: 200 });
 }
 console.log(`${passed} passed, ${failed} failed`);
 process.exit(failed === 0 && passed > 0 ? 0 : 1);
