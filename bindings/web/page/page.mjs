@@ -42,13 +42,18 @@ function begin() {
     worker.postMessage(moduleBytes());
 }
 
+/** Shows that nothing is judged now. */
+function rest() {
+    document.body.classList.remove("busy");
+    find("stop").hidden = true;
+}
+
 /** Ends what is judged now, if anything is. */
 function stop() {
     if (document.body.classList.contains("busy")) {
         worker?.terminate();
+        rest();
         begin();
-        document.body.classList.remove("busy");
-        find("stop").hidden = true;
     }
 }
 
@@ -58,14 +63,13 @@ function hear(message) {
         find("version").textContent = message.version;
         return;
     }
-    document.body.classList.remove("busy");
-    find("stop").hidden = true;
     if (message.outcome) {
+        rest();
         show(message.outcome);
     } else {
-        worker?.terminate();
-        begin();
-        tell("fault", "Not judged", `The browser stopped the check: ${message.failed}. The program tsp needs less memory.`);
+        // (a worker that fails without a job would fail again)
+        stop();
+        tell("fault", "Not judged", `The browser can't do it: ${message.failed}. Use the program tsp.`);
     }
 }
 

@@ -193,6 +193,14 @@ const TESTS = {
         assert.equal(await browser.value(over), 0);
         await browser.dress(WIDE, "light");
     },
+    "a worker that fails is told once": async (browser) => {
+        await browser.open("");
+        await browser.value(`document.getElementById("module").textContent = "AAAA"`);
+        await browser.value(`document.body.classList.add("busy"); document.getElementById("stop").click()`);
+        await browser.until(`document.getElementById("verdict").textContent === "Not judged"`);
+        await browser.value(`document.querySelector("button[data-example=harbour]").click()`);
+        assert.equal(await browser.verdict(), "Not judged");
+    },
     "100,000 nodes are drawn": async (browser) => {
         await browser.open("");
         const lines = Array.from({ length: 100000 }, (_, at) => `${at + 1} ${(at * 7919) % 99991} ${(at * 104729) % 99989}`);
