@@ -14,7 +14,7 @@ const MOST_LENGTH = 2n ** 63n - 1n;
 /** @param {string} id */
 const find = (id) => /** @type {HTMLElement} */ (document.getElementById(id));
 
-/** The files that are given, and the rest of the next job. */
+/** @type {Record<import("./roles.mjs").Slot, import("./run.mjs").Given | null>} the files that are given */
 const given = { instance: null, solution: null, certificate: null };
 
 /** @type {Worker | null} */
@@ -28,14 +28,24 @@ let drawn = 0;
 
 // ---- the worker
 
+/**
+ * A text that the page has inside.
+ *
+ * @param {string} id
+ * @returns {string}
+ */
+function inside(id) {
+    return find(id).textContent ?? "";
+}
+
 /** The bytes of the module, which the page has as text. */
 function moduleBytes() {
-    return Uint8Array.from(atob(find("module").textContent.trim()), (letter) => letter.charCodeAt(0));
+    return Uint8Array.from(atob(inside("module")), (letter) => letter.charCodeAt(0));
 }
 
 /** Begins a worker, which first says which version it is. */
 function begin() {
-    const code = new Blob([find("worker").textContent], { type: "text/javascript" });
+    const code = new Blob([inside("worker")], { type: "text/javascript" });
     worker = new Worker(URL.createObjectURL(code));
     worker.addEventListener("message", ({ data }) => hear(data));
     worker.addEventListener("error", (event) => hear({ failed: event.message }));
@@ -113,7 +123,7 @@ async function take(files, slot) {
 
 /** @param {string} name of an example */
 function takeExample(name) {
-    const example = JSON.parse(find("examples").textContent)[name];
+    const example = JSON.parse(inside("examples"))[name];
     SLOTS.forEach((slot) => put(slot, null));
     for (const [file, text] of Object.entries(example.files)) {
         const bytes = new TextEncoder().encode(text);
@@ -143,10 +153,10 @@ function judge() {
     find("claimed").setAttribute("aria-invalid", String(length === undefined));
     find("claimed-fault").hidden = length !== undefined;
     const isBranches = /** @type {HTMLInputElement} */ (find("by-branches")).checked;
-    const job = { ...given, by: isBranches ? By.BRANCHES : By.POTENTIALS, claimed: length };
     if (length === undefined) {
         return;
     }
+    const job = { ...given, by: isBranches ? By.BRANCHES : By.POTENTIALS, claimed: length };
     if (verbOf(job) === null) {
         const isEmpty = SLOTS.every((slot) => given[slot] === null);
         tell("none", isEmpty ? "" : "No instance", isEmpty ? "" : "Choose the instance too.");
