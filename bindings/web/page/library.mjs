@@ -20,6 +20,10 @@ const REPORT = 4096;
 const WORD = 8;
 
 /**
+ * The exports of the module: its memory, the calls of tsp.h, heap_take and heap_free.
+ *
+ * @typedef {any} Exports
+ *
  * What a call of a text answers.
  *
  * @typedef {object} Answer
@@ -32,7 +36,7 @@ class OutOfMemory extends Error {}
 
 /** Blocks of the module's memory, which are given back together. */
 class Blocks {
-    /** @param {WebAssembly.Exports} exports */
+    /** @param {Exports} exports */
     constructor(exports) {
         this.exports = exports;
         /** @type {bigint[]} */
@@ -76,7 +80,7 @@ class Blocks {
 
 /** The library. Its calls may not be made at once from two threads. */
 export class Library {
-    /** @param {WebAssembly.Exports} exports */
+    /** @param {Exports} exports */
     constructor(exports) {
         this.exports = exports;
     }
@@ -187,8 +191,11 @@ export class Library {
         const none = { status: Status.OUT_OF_MEMORY, bytes: new Uint8Array() };
         return this.#within((blocks) => {
             const slices = texts.flatMap((text) => blocks.put(text));
-            const answer = this.#written(slices, REPORT, call);
-            return typeof answer === "number" ? this.#written(slices, answer, call) : answer;
+            let answer = this.#written(slices, REPORT, call);
+            while (typeof answer === "number") {
+                answer = this.#written(slices, answer, call);
+            }
+            return answer;
         }, none);
     }
 

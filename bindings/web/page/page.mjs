@@ -14,7 +14,7 @@ const MOST_LENGTH = 2n ** 63n - 1n;
 /** @param {string} id */
 const find = (id) => /** @type {HTMLElement} */ (document.getElementById(id));
 
-/** The files that are given, and the rest of the next job. */
+/** @type {Record<import("./roles.mjs").Slot, import("./run.mjs").Given | null>} the files that are given */
 const given = { instance: null, solution: null, certificate: null };
 
 /** @type {Worker | null} */
@@ -28,27 +28,42 @@ let drawn = 0;
 
 // ---- the worker
 
+/**
+ * A text that the page has inside.
+ *
+ * @param {string} id
+ * @returns {string}
+ */
+function inside(id) {
+    return find(id).textContent ?? "";
+}
+
 /** The bytes of the module, which the page has as text. */
 function moduleBytes() {
-    return Uint8Array.from(atob(find("module").textContent.trim()), (letter) => letter.charCodeAt(0));
+    return Uint8Array.from(atob(inside("module")), (letter) => letter.charCodeAt(0));
 }
 
 /** Begins a worker, which first says which version it is. */
 function begin() {
-    const code = new Blob([find("worker").textContent], { type: "text/javascript" });
+    const code = new Blob([inside("worker")], { type: "text/javascript" });
     worker = new Worker(URL.createObjectURL(code));
     worker.addEventListener("message", ({ data }) => hear(data));
     worker.addEventListener("error", (event) => hear({ failed: event.message }));
     worker.postMessage(moduleBytes());
 }
 
+/** Shows that nothing is judged now. */
+function rest() {
+    document.body.classList.remove("busy");
+    find("stop").hidden = true;
+}
+
 /** Ends what is judged now, if anything is. */
 function stop() {
     if (document.body.classList.contains("busy")) {
         worker?.terminate();
+        rest();
         begin();
-        document.body.classList.remove("busy");
-        find("stop").hidden = true;
     }
 }
 
@@ -58,14 +73,13 @@ function hear(message) {
         find("version").textContent = message.version;
         return;
     }
-    document.body.classList.remove("busy");
-    find("stop").hidden = true;
     if (message.outcome) {
+        rest();
         show(message.outcome);
     } else {
-        worker?.terminate();
-        begin();
-        tell("fault", "Not judged", `The browser stopped the check: ${message.failed}. The program tsp needs less memory.`);
+        // (a worker that fails without a job would fail again)
+        stop();
+        tell("fault", "Not judged", `The browser can't do it: ${message.failed}. Use the program tsp.`);
     }
 }
 
@@ -109,7 +123,7 @@ async function take(files, slot) {
 
 /** @param {string} name of an example */
 function takeExample(name) {
-    const example = JSON.parse(find("examples").textContent)[name];
+    const example = JSON.parse(inside("examples"))[name];
     SLOTS.forEach((slot) => put(slot, null));
     for (const [file, text] of Object.entries(example.files)) {
         const bytes = new TextEncoder().encode(text);
@@ -139,10 +153,10 @@ function judge() {
     find("claimed").setAttribute("aria-invalid", String(length === undefined));
     find("claimed-fault").hidden = length !== undefined;
     const isBranches = /** @type {HTMLInputElement} */ (find("by-branches")).checked;
-    const job = { ...given, by: isBranches ? By.BRANCHES : By.POTENTIALS, claimed: length };
     if (length === undefined) {
         return;
     }
+    const job = { ...given, by: isBranches ? By.BRANCHES : By.POTENTIALS, claimed: length };
     if (verbOf(job) === null) {
         const isEmpty = SLOTS.every((slot) => given[slot] === null);
         tell("none", isEmpty ? "" : "No instance", isEmpty ? "" : "Choose the instance too.");

@@ -62,11 +62,12 @@ function layOut(points, width) {
     const scale = Math.min(inside / (right - left || 1), (most - 2 * MARGIN) / (high - low || 1));
     const height = Math.ceil((high - low) * scale + 2 * MARGIN);
     const start = (width - (right - left) * scale) / 2;
+    /** @type {Place} */
     const place = (node) => [
         round(start + (points[2 * node - 2] - left) * scale),
         round(height - MARGIN - (points[2 * node - 1] - low) * scale),
     ];
-    return { place: /** @type {Place} */ (place), height };
+    return { place, height };
 }
 
 /**
@@ -214,20 +215,35 @@ export function barOf({ length, bound, gap, optimal }, width) {
     }
     const share = Number((bound * 1_000_000n) / length) / 1_000_000;
     const cut = optimal ? width : Math.min(round(width * share), width - 4);
-    const bar = (x, across, words) => ({ name: "rect", attributes: { x, y: 0, width: across, height: 12, class: words } });
-    const text = (x, anchor, words) => ({
-        name: "text",
-        attributes: { x, y: 30, "text-anchor": anchor, class: "scale" },
-        text: words,
-    });
-    return {
-        width,
-        height: 36,
-        shapes: [
-            bar(0, cut, "bound"),
-            ...(optimal ? [] : [bar(cut, round(width - cut), "gap")]),
-            text(0, "start", `bound ${bound}`),
-            text(width, "end", optimal ? `length ${length}: optimal` : `length ${length}: gap ${gap}`),
-        ],
-    };
+    const shapes = [
+        part(0, cut, "bound"),
+        ...(optimal ? [] : [part(cut, round(width - cut), "gap")]),
+        below(0, "start", `bound ${bound}`),
+        below(width, "end", optimal ? `length ${length}: optimal` : `length ${length}: gap ${gap}`),
+    ];
+    return { width, height: 36, shapes };
+}
+
+/**
+ * A part of the bar.
+ *
+ * @param {number} x
+ * @param {number} width
+ * @param {string} words
+ * @returns {Shape}
+ */
+function part(x, width, words) {
+    return { name: "rect", attributes: { x, y: 0, width, height: 12, class: words } };
+}
+
+/**
+ * A text below the bar.
+ *
+ * @param {number} x
+ * @param {string} anchor
+ * @param {string} text
+ * @returns {Shape}
+ */
+function below(x, anchor, text) {
+    return { name: "text", attributes: { x, y: 30, "text-anchor": anchor, class: "scale" }, text };
 }

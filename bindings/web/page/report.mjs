@@ -23,18 +23,20 @@
  */
 export function reportOf(text) {
     const lines = text.split("\n").slice(0, -1);
-    const after = (word) => lines.find((line) => line.startsWith(`${word} `))?.slice(word.length + 1) ?? null;
-    const number = (word) => (/^-?\d+$/.test(after(word) ?? "") ? BigInt(after(word)) : null);
+    /** @param {string} word what follows it in its line; empty where no line begins with it */
+    const after = (word) => lines.find((line) => line.startsWith(`${word} `))?.slice(word.length + 1) ?? "";
+    /** @param {string} word */
+    const number = (word) => (/^-?\d+$/.test(after(word)) ? BigInt(after(word)) : null);
     const [verdict, reason = "", ...numbers] = (lines.at(-1) ?? "").split(" ");
     return {
         yes: verdict === "yes",
-        type: after("type") ?? "",
+        type: after("type"),
         length: number("length"),
         bound: number("bound"),
         gap: number("gap"),
         optimal: lines.includes("optimal"),
         noTour: lines.includes("bound none"),
-        routes: after("routes") === null ? null : Number(after("routes")),
+        routes: after("routes") === "" ? null : Number(after("routes")),
         reason,
         numbers: numbers.map(Number),
         notJudged: lines.filter((line) => line.startsWith("not judged ")).map((line) => line.slice(11)),
@@ -56,7 +58,8 @@ export function verdictOf(report) {
         return { word: "Yes: no tour", meaning: "The instance has no tour: its fixed arcs leave none." };
     }
     if (routes !== null) {
-        return { word: "Yes", meaning: `These ${routes} routes serve every customer once, within capacity. Their length is ${length}.` };
+        const meaning = `These ${routes} routes serve every customer once, within capacity. Their length is ${length}.`;
+        return { word: "Yes", meaning };
     }
     if (length === null) {
         return { word: "Yes: a bound", meaning: `Every tour is at least ${bound} long.` };

@@ -110,7 +110,7 @@ function explanationOf(library, job, verb) {
  * @returns {string}
  */
 function commandOf(job, verb) {
-    const words = [job.instance, job.solution].filter((given) => given !== null).map((given) => quoted(given.name));
+    const words = [job.instance, job.solution].flatMap((given) => (given ? [quoted(given.name)] : []));
     if (job.certificate && verb !== "show") {
         words.push(job.by === By.BRANCHES ? "--branches" : "--potentials", quoted(job.certificate.name));
     }
