@@ -259,10 +259,10 @@ void Search::list_steps() {
 
 bool ends_in_time(double done, double begun, double used) {
   const double spent = used - begun;
-  return spent < kTrial || done * (1 - begun) > spent * (1 + used) / 2;
+  return spent < kTrial || done * (1 - begun) * (5 - 4 * used) > spent;
 }
 
-// The newest case where the tree is likely to end in time, since the pool has cuts from near it. Else that
+// The newest case where the tree may end in time, since the pool has cuts from near it. Else that
 // with the least bound, so that the bound grows until the time is over.
 int Search::next_case() {
   auto next = open_.begin();

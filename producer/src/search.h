@@ -30,8 +30,8 @@ struct TreeStep {
   bool is_leaf() const { return branch.first < 0; }
 };
 
-// Whether a tree is likely to end in time: this part of it is done, and took the time from begun to used. The
-// nearer the end, the surer it has to be.
+// Whether a tree may end in time: this part of it is done, which took the time from begun to used. The guess
+// is a rough one, so the tree may seem too large by a factor that falls from 5 to 1.
 bool ends_in_time(double done, double begun, double used);
 
 class Search {

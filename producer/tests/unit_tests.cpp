@@ -106,9 +106,9 @@ void test_potentials() {
 void test_end_of_tree() {
   need(ends_in_time(0, 0, 0), "there is no limit");
   need(ends_in_time(0, 0.2, 0.29), "it is too early for a guess");
-  need(ends_in_time(0.3, 0.2, 0.4), "a third is done after a quarter of its time");
-  need(!ends_in_time(0.1, 0.2, 0.4), "a tenth is done after a quarter of its time");
-  need(!ends_in_time(0.8, 0.2, 0.95), "it has to be surer near the end");
+  need(ends_in_time(0.1, 0.2, 0.4), "a tenth is done after a quarter of its time");
+  need(!ends_in_time(0.05, 0.2, 0.4), "a twentieth is done after a quarter of its time");
+  need(!ends_in_time(0.6, 0, 0.95), "it has to be surer near the end");
 }
 
 void test_subtours() {
