@@ -89,8 +89,8 @@ void Search::take_tour(const Tour& tour) {
 // in a shortest tour. The tour at hand isn't in the population, which would take after it.
 void Search::look_for_tour() {
   const int nodes = instance_.nodes();
-  std::vector<Weight> potentials;
-  for (int v = 0; v < nodes; v++) potentials.push_back(std::llround(relaxation_.node_dual(v)));
+  std::vector<Weight> potentials(nodes);
+  for (int v = 0; v < nodes; v++) potentials[v] = std::llround(relaxation_.node_dual(v));
   const Matrix costs = with_potentials(costs_, potentials);
   Eax eax(costs, instance_.fixed, kPopulation, seed_ + 1);
   take_tour(eax.run([&] { return clock_.over(kPartForTours); }, [&](Weight) { show(); }));

@@ -93,8 +93,8 @@ void test_fixed_paths() {
 void test_potentials() {
   Random random(3);
   const Matrix weights = random_matrix(9, random);
-  std::vector<Weight> potentials;
-  for (int v = 0; v < 9; v++) potentials.push_back(random.below(500) - 250);
+  std::vector<Weight> potentials(9);
+  for (Weight& potential : potentials) potential = random.below(500) - 250;
   const Weight all = std::accumulate(potentials.begin(), potentials.end(), Weight{0});
   const Matrix costs = with_potentials(weights, potentials);
   for (const Tour& tour : {Tour{0, 1, 2, 3, 4, 5, 6, 7, 8}, Tour{3, 8, 1, 0, 6, 2, 7, 5, 4}}) {
@@ -214,8 +214,8 @@ void test_handle_table() {
 void test_relaxation() {
   Random random(6);
   Matrix weights(30);
-  std::vector<Pair> points;
-  for (int v = 0; v < 30; v++) points.emplace_back(random.below(1000), random.below(1000));
+  std::vector<Pair> points(30);
+  for (auto& [x, y] : points) x = random.below(1000), y = random.below(1000);
   for (int i = 0; i < 30; i++) {
     for (int j = 0; j < i; j++) {
       weights.set(
