@@ -12,7 +12,8 @@ constexpr Weight kFineScale = 2520, kCoarseScale = 840;
 constexpr Weight kMostScaledWeight = 20000000000000;  // so that potentials stay within their limit
 constexpr int kPopulation = 150;                      // of the second search for a tour
 constexpr double kPartForTours = 0.5;                 // of the time, at most
-constexpr double kTrial = 0.1;                        // of the time, before the size of the tree is guessed
+constexpr double kPartForTree = 0.95;  // of the time; the rest is for short numbers of the leaves
+constexpr double kTrial = 0.1;         // of the time, before the size of the tree is guessed
 constexpr int kRootClimbs = 400, kNodeClimbs = 100, kLevels = 2;
 }  // namespace
 
@@ -231,7 +232,7 @@ void Search::visit(int place) {
 
 // A leaf that is done gets numbers near those of the leaf before, which makes a short file.
 void Search::add_leaf(const Case& leaf, const std::vector<Decision>& decisions) {
-  const bool time = !clock_.over(1.05);
+  const bool time = !clock_.over();
   const Numbers numbers =
       leaf.done && time ? made_.near_last(leaf.numbers, decisions, target_) : leaf.numbers;
   least_ = std::min(least_, bound_.value(numbers, decisions));
@@ -283,7 +284,7 @@ void Search::run() {
   cases_.emplace_back();
   visit(0);
   begun_ = clock_.used();
-  while (!open_.empty() && !clock_.over()) visit(next_case());
+  while (!open_.empty() && !clock_.over(kPartForTree)) visit(next_case());
   list_steps();
   progress_.clear();
 }
