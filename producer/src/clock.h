@@ -12,7 +12,9 @@ class Clock {
   static bool interrupted();
   static void catch_interrupts();
   // Whether this part of the time is over, or an interrupt came.
-  bool over(double part = 1) const { return interrupted() || (seconds_ > 0 && now() > part * seconds_); }
+  bool over(double part = 1) const { return interrupted() || used() > part; }
+  // The part of the time that is used, 0 where there is no limit.
+  double used() const { return seconds_ > 0 ? now() / seconds_ : 0; }
 
  private:
   double seconds_;

@@ -116,6 +116,13 @@ Matrix with_fixed_lowered(const Matrix& weights, const std::vector<Pair>& fixed)
   return costs;
 }
 
+Matrix with_potentials(Matrix costs, const std::vector<Weight>& potentials) {
+  for (int i = 0; i < costs.nodes(); i++) {
+    for (int j = 0; j < i; j++) costs.set(i, j, costs(i, j) - potentials[i] - potentials[j]);
+  }
+  return costs;
+}
+
 std::vector<std::vector<int>> paths_of(const std::vector<Pair>& fixed, int nodes) {
   std::vector<std::vector<int>> beside(nodes), paths;
   for (auto [i, j] : fixed) {

@@ -12,7 +12,7 @@
 #include "writing.h"
 
 namespace {
-constexpr int kPopulation = 300;
+constexpr int kPopulation = 200;
 constexpr int kSmallPopulation = 30;   // where a tour was named
 constexpr double kPartForTours = 0.4;  // of the time
 constexpr int kFewNodes = 8;
@@ -32,6 +32,7 @@ Start find_tours(const Instance& instance, const Options& options, const Clock& 
   Start start;
   start.seed = options.seed;
   start.upper = options.upper;
+  start.named = !options.tour.empty();
   const Matrix costs = with_fixed_lowered(instance.weights, instance.fixed);
   paths_of(instance.fixed, instance.nodes());
   if (instance.nodes() <= kFewNodes) {

@@ -1,6 +1,7 @@
 #include "search.h"
 
 #include <algorithm>
+#include <cmath>
 #include <cstdlib>
 
 #include "eax.h"
@@ -9,7 +10,10 @@ namespace {
 constexpr Weight kLongLength = 2000000;
 constexpr Weight kFineScale = 2520, kCoarseScale = 840;
 constexpr Weight kMostScaledWeight = 20000000000000;  // so that potentials stay within their limit
-constexpr double kDepthFirst = 0.5;                   // of the time
+constexpr int kPopulation = 150;                      // of the second search for a tour
+constexpr double kPartForTours = 0.5;                 // of the time, at most
+constexpr double kPartForTree = 0.95;  // of the time; the rest is for short numbers of the leaves
+constexpr double kTrial = 0.1;         // of the time, before the size of the tree is guessed
 constexpr int kRootClimbs = 400, kNodeClimbs = 100, kLevels = 2;
 }  // namespace
 
@@ -25,6 +29,9 @@ Weight Search::scale_for(const Matrix& weights, Weight length) {
 
 Search::Search(const Instance& instance, const Start& start, const Clock& clock, Progress& progress)
     : instance_(instance),
+      costs_(with_fixed_lowered(instance.weights, instance.fixed)),
+      seed_(start.seed),
+      named_(start.named),
       clock_(clock),
       progress_(progress),
       tour_(start.tour),
@@ -32,7 +39,7 @@ Search::Search(const Instance& instance, const Start& start, const Clock& clock,
       target_(start.upper ? std::min(*start.upper, length_) : length_),
       pool_(instance.nodes()),
       relaxation_(instance.weights, pool_, start.tour),
-      separation_(with_fixed_lowered(instance.weights, instance.fixed), pool_, relaxation_, start.seed),
+      separation_(costs_, pool_, relaxation_, start.seed),
       bound_(instance.weights, pool_, scale_for(instance.weights, length_)),
       made_(bound_, pool_),
       branching_(instance.weights),
@@ -67,12 +74,27 @@ void Search::offer_tour() {
     }
     if (next >= 0) seen[next] = 1, tour.push_back(next);
   }
+  if (tour.size() == support.size()) take_tour(tour);
+}
+
+void Search::take_tour(const Tour& tour) {
   const Weight length = length_of(instance_.weights, tour);
-  if (tour.size() != support.size() || length >= length_ || !uses(tour, instance_.fixed)) return;
+  if (length >= length_ || !uses(tour, instance_.fixed)) return;
   tour_ = tour;
   length_ = length;
   target_ = std::min(target_, length);
   separation_.set_best(tour_);
+}
+
+// Looks once more, by the weights less the duals: the nodes that are near by these are more often neighbours
+// in a shortest tour. The tour at hand isn't in the population, which would take after it.
+void Search::look_for_tour() {
+  const int nodes = instance_.nodes();
+  std::vector<Weight> potentials(nodes);
+  for (int v = 0; v < nodes; v++) potentials[v] = std::llround(relaxation_.node_dual(v));
+  const Matrix costs = with_potentials(costs_, potentials);
+  Eax eax(costs, instance_.fixed, kPopulation, seed_ + 1);
+  take_tour(eax.run([&] { return clock_.over(kPartForTours); }, [&](Weight) { show(); }));
 }
 
 void Search::show() {
@@ -118,6 +140,15 @@ bool Search::tighten(Numbers& numbers) {
     if (stall) values.clear();
     if (stall && !add_cuts(level, round) && level == kLevels) return false;
   }
+}
+
+// The same, and at the root one more search for a tour where a gap is left.
+bool Search::settle(Numbers& numbers) {
+  if (tighten(numbers)) return true;
+  if (!root() || named_ || clock_.over()) return false;
+  const Weight before = length_;
+  look_for_tour();
+  return length_ < before && tighten(numbers);
 }
 
 std::vector<Decision> Search::decisions_of(int place) const {
@@ -172,18 +203,25 @@ void Search::branch(int place, const Pair& pair) {
   cases_[place].basis = nullptr;
 }
 
+void Search::finish(int place) {
+  cases_[place].done = true;
+  leaves_++;
+  int depth = 0;
+  for (int k = place; cases_[k].parent >= 0; k = cases_[k].parent) depth++;
+  done_ += std::ldexp(1.0, -depth);
+}
+
 void Search::visit(int place) {
   here_ = cases_[place].value;
   if (here_ >= made_.goal(target_)) {  // a shorter tour was found meanwhile
-    cases_[place].done = true;
+    finish(place);
     return;
   }
   enter(place);
   Numbers numbers;
-  if (tighten(numbers)) {
+  if (settle(numbers)) {
     cases_[place].numbers = std::move(numbers);
-    cases_[place].done = true;
-    leaves_++;
+    finish(place);
     return;
   }
   improve(cases_[place]);
@@ -194,7 +232,7 @@ void Search::visit(int place) {
 
 // A leaf that is done gets numbers near those of the leaf before, which makes a short file.
 void Search::add_leaf(const Case& leaf, const std::vector<Decision>& decisions) {
-  const bool time = !clock_.over(1.05);
+  const bool time = !clock_.over();
   const Numbers numbers =
       leaf.done && time ? made_.near_last(leaf.numbers, decisions, target_) : leaf.numbers;
   least_ = std::min(least_, bound_.value(numbers, decisions));
@@ -220,11 +258,16 @@ void Search::list_steps() {
   }
 }
 
-// The newest case for half of the time, since the pool has cuts from near it. Then that with the least bound,
-// so that the bound grows until the time is over.
+bool ends_in_time(double done, double begun, double used) {
+  const double spent = used - begun;
+  return spent < kTrial || done * (1 - begun) * (5 - 4 * used) > spent;
+}
+
+// The newest case where the tree may end in time, since the pool has cuts from near it. Else that
+// with the least bound, so that the bound grows until the time is over.
 int Search::next_case() {
   auto next = open_.begin();
-  if (!clock_.over(kDepthFirst)) {
+  if (ends_in_time(done_, begun_, clock_.used())) {
     next = std::min_element(open_.begin(), open_.end(), [](auto& a, auto& b) { return a.second < b.second; });
   }
   const int place = -next->second;
@@ -240,7 +283,8 @@ void Search::run() {
   }
   cases_.emplace_back();
   visit(0);
-  while (!open_.empty() && !clock_.over()) visit(next_case());
+  begun_ = clock_.used();
+  while (!open_.empty() && !clock_.over(kPartForTree)) visit(next_case());
   list_steps();
   progress_.clear();
 }

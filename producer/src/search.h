@@ -20,6 +20,7 @@ struct Start {
   std::vector<Pair> edges;    // likely edges
   std::optional<Weight> upper;
   std::uint64_t seed = 1;
+  bool named = false;  // the tour was named, so that none is looked for again
 };
 
 // A branch, or a leaf with its numbers.
@@ -28,6 +29,10 @@ struct TreeStep {
   Numbers numbers;
   bool is_leaf() const { return branch.first < 0; }
 };
+
+// Whether a tree may end in time: this part of it is done, which took the time from begun to used. The guess
+// is a rough one, so the tree may seem too large by a factor that falls from 5 to 1.
+bool ends_in_time(double done, double begun, double used);
 
 class Search {
  public:
@@ -54,6 +59,7 @@ class Search {
     int used = -1, unused = -1;  // the cases of the branch
   };
   bool tighten(Numbers& numbers);
+  bool settle(Numbers& numbers);
   bool add_cuts(int level, int round);
   bool stalled(const std::vector<double>& values, double gap) const;
   std::vector<Decision> decisions_of(int place) const;
@@ -61,15 +67,21 @@ class Search {
   void visit(int place);
   void improve(Case& here);
   void branch(int place, const Pair& pair);
+  void finish(int place);
   int next_case();
   void list_steps();
   void add_leaf(const Case& leaf, const std::vector<Decision>& decisions);
   void offer_tour();
+  void take_tour(const Tour& tour);
+  void look_for_tour();
   void show();
   bool root() const { return decisions_.size() == instance_.fixed.size(); }
   static Weight scale_for(const Matrix& weights, Weight length);
 
   const Instance& instance_;
+  const Matrix costs_;  // the weights, those of fixed pairs lowered
+  const std::uint64_t seed_;
+  const bool named_;
   const Clock& clock_;
   Progress& progress_;
   Tour tour_;
@@ -88,4 +100,6 @@ class Search {
   std::vector<TreeStep> steps_;
   Value least_;
   int leaves_ = 0;
+  double begun_ = 0;  // the part of the time before the tree
+  double done_ = 0;   // the part of the tree that is done, where both cases of a branch are one half
 };

@@ -3,6 +3,7 @@
 #include <cmath>
 #include <cstdio>
 #include <map>
+#include <numeric>
 
 #include "combs.h"
 #include "eax.h"
@@ -10,6 +11,7 @@
 #include "handle_table.h"
 #include "instance.h"
 #include "local_search.h"
+#include "search.h"
 #include "subtours.h"
 #include "tsp_program.h"
 
@@ -88,6 +90,27 @@ void test_fixed_paths() {
 }
 
 // A graph of two triangles with a path of weak edges between them.
+void test_potentials() {
+  Random random(3);
+  const Matrix weights = random_matrix(9, random);
+  std::vector<Weight> potentials(9);
+  for (Weight& potential : potentials) potential = random.below(500) - 250;
+  const Weight all = std::accumulate(potentials.begin(), potentials.end(), Weight{0});
+  const Matrix costs = with_potentials(weights, potentials);
+  for (const Tour& tour : {Tour{0, 1, 2, 3, 4, 5, 6, 7, 8}, Tour{3, 8, 1, 0, 6, 2, 7, 5, 4}}) {
+    need(length_of(costs, tour) == length_of(weights, tour) - 2 * all, "each length changes alike");
+  }
+}
+
+// Of the time 0.2 is used before the tree.
+void test_end_of_tree() {
+  need(ends_in_time(0, 0, 0), "there is no limit");
+  need(ends_in_time(0, 0.2, 0.29), "it is too early for a guess");
+  need(ends_in_time(0.1, 0.2, 0.4), "a tenth is done after a quarter of its time");
+  need(!ends_in_time(0.05, 0.2, 0.4), "a twentieth is done after a quarter of its time");
+  need(!ends_in_time(0.6, 0, 0.95), "it has to be surer near the end");
+}
+
 void test_subtours() {
   Graph graph(6);
   const auto join = [&](int i, int j, double value) {
@@ -191,8 +214,8 @@ void test_handle_table() {
 void test_relaxation() {
   Random random(6);
   Matrix weights(30);
-  std::vector<Pair> points;
-  for (int v = 0; v < 30; v++) points.emplace_back(random.below(1000), random.below(1000));
+  std::vector<Pair> points(30);
+  for (auto& [x, y] : points) x = random.below(1000), y = random.below(1000);
   for (int i = 0; i < 30; i++) {
     for (int j = 0; j < i; j++) {
       weights.set(
@@ -246,6 +269,8 @@ int main() {
   test_numbers();
   test_tours();
   test_fixed_paths();
+  test_potentials();
+  test_end_of_tree();
   test_subtours();
   test_combs();
   test_bounds();
