@@ -41,8 +41,8 @@ pub struct OneTree {
 /// A 1-tree is a tree over the nodes 2..n and two different edges at node 1. Which of several least
 /// ones is returned, and the order of its edges, is free. With no multipliers the bound is that of
 /// the potentials alone, and no cycle is shorter. Source: M. Held and R. M. Karp, The
-/// traveling-salesman problem and minimum spanning trees, 1970; the tree is grown as R. C. Prim's,
-/// 1957.
+/// traveling-salesman problem and minimum spanning trees, 1970; the tree is joined in rounds as
+/// O. Boruvka's, 1926, or grown as R. C. Prim's, 1957.
 ///
 /// # Requires
 ///
