@@ -121,7 +121,7 @@ fn nothing<C: Costs>(alloc: Global, c: &C) -> Result<Grown, AllocError>
 /// pair by pair takes, and about as much for some thousand nodes.
 fn most_steps(count: u32) -> u64 {
     let nodes = u64::from(count);
-    (nodes * nodes / 8).max(600 * nodes)
+    (nodes * nodes / 4).max(600 * nodes)
 }
 
 /// The pairs of the nodes at pairs of places, and the sum of their weights.
