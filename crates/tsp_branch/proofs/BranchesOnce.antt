@@ -1,6 +1,5 @@
 -- One pass over the steps that finds the first branch on a pair decided above it.
-use Rattle.std.proofs.Common.{◌≡◌, ◌∙◌, ℕ, suc, ◌+◌, ◌<◌, ◌≤◌, Bool, true, false, List, [], ◌∷◌, ◌++◌, drop, length, get_or, ℤ}
-use Rattle.std.proofs.Common.{inl, inr, refl, ap, sym, subst, add-one}
+use Rattle.std.proofs.Common.{◌≡◌, ◌∙◌, ℕ, suc, ◌+◌, ◌<◌, ◌≤◌, Bool, true, false, List, [], ◌∷◌, ◌++◌, drop, length, get_or, ℤ, inl, inr, refl, ap, sym, subst, add-one}
 use Rattle.std.specs.Prelude.{None, Some}
 use Rattle.std.specs.List.{All, AllByRecursion}
 use Rattle.std.proofs.lemmas.Bool.{both_ways, cases_Bool}
@@ -10,8 +9,9 @@ use Rattle.std.proofs.lemmas.List.Folds.{list_any_at}
 use Rattle.std.proofs.lemmas.List.Kept.{AllPairs-cons}
 use Rattle.tsp_format.specs.declared.steps.TreeStep.{TreeStep}
 use Rattle.tsp_format.specs.Steps as listed
-use Rattle.tsp_format.specs.Steps.{step_of, steps_of}
-use Rattle.tsp_branch.specs.Decisions.{Decision, is_same, DecideOnce}
+use Rattle.tsp_format.specs.states.TreeSteps.{step_of, steps_of}
+use Rattle.tsp_branch.specs.declared.decision.Decision.{Decision}
+use Rattle.tsp_branch.specs.Decisions.{is_same, DecideOnce}
 use Rattle.tsp_branch.specs.Cases.{decide, leaves_of, cases_of, later_cases, open_cases, next_stack}
 use Rattle.tsp_branch.specs.states.Decided.{stack_of}
 use Rattle.tsp_branch.specs.Listed.{all_grown, steps_from, no_numbers_of}
@@ -83,14 +83,14 @@ pub twice_here : (directed : Bool) (given : List Decision) (all : List listed.St
     → IsOnceSoFar directed given all stack branch (listed.Branch a b ∷ steps) → is_decided directed (stack ++ given) (a, b) ≡ true → IsFirstTwiceFrom directed 0 (given ∷ []) all (suc branch)
 twice_here directed given all stack branch a b steps h is = h.twice (suc branch) (inl (refl, is))
 
-pub once_pushed : (directed : Bool) (given : List Decision) (all : List listed.Step) (items pushed : List (ℕ × ℕ × Bool)) (branch a b : ℕ) (steps : List listed.Step)
+pub once_pushed : (directed : Bool) (given : List Decision) (all : List listed.Step) (items pushed : List Decision) (branch a b : ℕ) (steps : List listed.Step)
     → IsOnceSoFar directed given all (stack_of items) branch (listed.Branch a b ∷ steps) → is_decided directed (stack_of items ++ given) (a, b) ≡ false
-    → pushed ≡ items ++ (a, b, true) ∷ [] → IsOnceSoFar directed given all (stack_of pushed) (branch + 1) steps
+    → pushed ≡ items ++ decide (a, b) true [] → IsOnceSoFar directed given all (stack_of pushed) (branch + 1) steps
 once_pushed directed given all items pushed branch a b steps h none more =
-    subst (λ (st : List Decision). IsOnceSoFar directed given all st (branch + 1) steps) (sym (stack_more items (a, b, true)) ∙ ap stack_of (sym more))
+    subst (λ (st : List Decision). IsOnceSoFar directed given all st (branch + 1) steps) (sym (stack_more items (record { pair = (a, b); taken = true })) ∙ ap stack_of (sym more))
     (subst (λ (k : ℕ). IsOnceSoFar directed given all (decide (a, b) true (stack_of items)) k steps) (sym (add-one branch)) (once_at_branch directed given all (stack_of items) branch a b steps h none))
 
-pub twice_found : (directed : Bool) (given : List Decision) (all : List listed.Step) (items : List (ℕ × ℕ × Bool)) (branch a b : ℕ) (steps : List listed.Step)
+pub twice_found : (directed : Bool) (given : List Decision) (all : List listed.Step) (items : List Decision) (branch a b : ℕ) (steps : List listed.Step)
     → IsOnceSoFar directed given all (stack_of items) branch (listed.Branch a b ∷ steps) → is_decided directed (stack_of items ++ given) (a, b) ≡ true
     → IsFirstTwice directed given all (branch + 1)
 twice_found directed given all items branch a b steps h is =

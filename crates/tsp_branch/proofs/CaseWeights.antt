@@ -1,64 +1,46 @@
 -- The weights of code at a leaf are those of its case.
-use Rattle.std.proofs.Common.{◌≡◌, ◌≢◌, ℕ, ◌<◌, Bool, List, [], ◌∷◌, ◌++◌, length, Option, None, Some, true, ℤ, ◌≤ℤ◌, ◌∙◌, inl, inr, ap, sym, subst, arith}
+use Rattle.std.proofs.Common.{◌≡◌, ◌≢◌, ℕ, ◌<◌, List, [], ◌∷◌, ◌++◌, length, Option, None, Some, true, ℤ, ◌≤ℤ◌, ◌∙◌, ap, sym, subst, arith}
 use Rattle.std.specs.Prelude.{pos, ◌+ℤ◌, ◌-ℤ◌, ◌*ℤ◌, MatchOption}
 use Rattle.std.specs.List.{All, AllPairs, AllByRecursion}
-use Rattle.std.specs.Global.{Vec}
-use Rattle.std.proofs.lemmas.Bool.{cases_Bool}
 use Rattle.std.proofs.lemmas.Int.{ints}
 use Rattle.std.proofs.lemmas.List.Elements.{recursion_from_All, All-from_recursion}
 use Rattle.tsp_theory.specs.Numbers.{IsFromTo, total}
-use Rattle.tsp_theory.specs.Adjusted.{is_same_pair, adjusted}
 use Rattle.tsp_branch.specs.Families.{IsFamily}
-use Rattle.tsp_branch.specs.Decisions.{Decision, on_taken, on_avoided, decided_number}
+use Rattle.tsp_branch.specs.declared.decision.Decision.{Decision}
+use Rattle.tsp_branch.specs.Decisions.{on_taken, on_avoided, decided_number}
 use Rattle.tsp_theory.specs.NodeBound.{weight_between}
 use Rattle.tsp_branch.specs.Combs.{Comb}
 use Rattle.tsp_branch.specs.LeafBound.{combed, least_of, leaf_weight}
 use Rattle.tsp_branch.specs.Rows.{HasNoLink, IsRowBound}
 use Rattle.tsp_branch.specs.Certificate.{multiplied, IsFoundAt}
 use Rattle.tsp_branch.specs.states.Combed.{plain, AreSmallMultipliers, AreFewCrossings, set_weight}
-use Rattle.tsp_branch.specs.CombsOfSets.{combs_of_sets}
-use Rattle.tsp_branch.specs.states.Decided.{case_of, stack_of, decided, decided_twice}
+use Rattle.tsp_branch.specs.CombsOfSets.{NumberedSet, combs_of_sets}
+use Rattle.tsp_branch.specs.states.Decided.{stack_of, decided, decided_twice}
 use Rattle.tsp_branch.specs.Judged.{AreGoodNumbers, as_leaf_numbers}
+use Rattle.tsp_branch.specs.declared.comb_set.CombSet.{CombSet}
 use Rattle.tsp_branch.proofs.Changes.{changes_are}
 use Rattle.tsp_branch.proofs.CombSizes.{combs_crossed_few}
 use Rattle.tsp_branch.proofs.CombsBySets.{sets_tell_combs, sets_give_leaves}
 use Rattle.tsp_branch.proofs.GivenBack.{below_from_sets}
 use Rattle.tsp_branch.proofs.RowLeaves.{agreed_rows}
-use Rattle.tsp_branch.proofs.DecidedOnce.{changes_by, changes_told, changes_both, changes_turned}
-
-changed_by : (ds : List Decision) (w : ℕ → ℕ → ℤ) (i j : ℕ) → adjusted (on_taken decided_number ds) (on_avoided decided_number ds) w i j ≡ w i j +ℤ changes_by ds i j
-changed_by [] w i j = omega (arith, ints)
-changed_by (d ∷ ds) w i j =
-    let rest = changed_by ds w i j in
-    elim (cases_Bool d.taken) [
-      | inl t ↦ elim (cases_Bool (is_same_pair d.pair (i, j))) [
-        | inl same ↦ rw (t, same) (omega (arith, ints, rest))
-        | inr other ↦ rw (t, other) (omega (arith, ints, rest))
-      ]
-      | inr f ↦ elim (cases_Bool (is_same_pair d.pair (i, j))) [
-        | inl same ↦ rw (f, same) (omega (arith, ints, rest))
-        | inr other ↦ rw (f, other) (omega (arith, ints, rest))
-      ]
-    ]
+use Rattle.tsp_branch.proofs.DecidedOnce.{changes_both, changes_turned}
 
 -- weights that are those by sets, under the decisions of code, are those of the leaf
-pub case_weight : (w : ℕ → ℕ → ℤ) (scale : ℤ) (potentials multipliers : List ℤ) (sets : List (ℕ × List ℕ)) (given stack : List (ℕ × ℕ × Bool)) (cost : ℕ → ℕ → ℤ) (i j : ℕ)
-    → All (λ set. set.0 < length multipliers) sets → w i j ≡ set_weight scale potentials multipliers sets cost i j
+pub case_weight : (w : ℕ → ℕ → ℤ) (scale : ℤ) (potentials multipliers : List ℤ) (sets : List NumberedSet) (given stack : List Decision) (cost : ℕ → ℕ → ℤ) (i j : ℕ)
+    → All (λ set. set.comb < length multipliers) sets → w i j ≡ set_weight scale potentials multipliers sets cost i j
     → decided_twice given stack w i j
-    ≡ leaf_weight scale potentials (on_taken decided_number (stack_of stack ++ case_of given)) (on_avoided decided_number (stack_of stack ++ case_of given))
+    ≡ leaf_weight scale potentials (on_taken decided_number (stack_of stack ++ given)) (on_avoided decided_number (stack_of stack ++ given))
     (multiplied (combs_of_sets (length multipliers) sets) multipliers) cost i j
 case_weight w scale potentials multipliers sets given stack cost i j below is =
-    let case : List Decision = stack_of stack ++ case_of given in
+    let case : List Decision = stack_of stack ++ given in
     let v : ℕ → ℕ → ℤ = set_weight scale potentials multipliers sets cost in
     let leaf = sets_give_leaves scale potentials multipliers (on_taken decided_number case) (on_avoided decided_number case) sets cost i j below in
-    let by = changed_by case v i j in
-    let both = changes_both (stack_of stack) (case_of given) i j in
-    let turned = changes_turned (case_of stack) i j in
-    let one = changes_told stack i j in
-    let two = changes_told given i j in
+    let by = changes_are case v i j in
+    let both = changes_both (stack_of stack) given i j in
+    let turned = changes_turned stack i j in
     let own = changes_are stack (decided given w) i j in
     let first = changes_are given w i j in
-    omega (arith, ints, leaf, by, both, turned, one, two, own, first, is)
+    omega (arith, ints, leaf, by, both, turned, own, first, is)
 
 -- ---- good numbers
 
@@ -79,9 +61,9 @@ small_multipliers n combs potentials ms good =
     let own = All-from_recursion (λ m. IsFromTo (pos 0) (total ms) m) ms each k default lt in
     (own.0, let most = own.1 in let sum = good.sum in omega (arith, ints, most, sum))
 
-pub few_crossings : (n combs : ℕ) (potentials multipliers : List ℤ) (sets : List (ℕ × List ℕ)) → AreGoodNumbers n combs (as_leaf_numbers potentials multipliers) → All (IsFamily n)
+pub few_crossings : (n combs : ℕ) (potentials multipliers : List ℤ) (sets : List NumberedSet) → AreGoodNumbers n combs (as_leaf_numbers potentials multipliers) → All (IsFamily n)
     (combs_of_sets (length multipliers) sets)
-    → All (λ set. set.0 < length multipliers) sets → AreFewCrossings multipliers sets
+    → All (λ set. set.comb < length multipliers) sets → AreFewCrossings multipliers sets
 few_crossings n combs potentials ms sets good are below = λ i j.
     let few = combs_crossed_few n (combs_of_sets (length ms) sets) ms i j (recursion_from_All (IsFamily n) (combs_of_sets (length ms) sets) are) (recursion_from_All (λ m. pos 0 ≤ℤ m) ms good.signs) in
     let same = sets_tell_combs ms sets i j below in
@@ -90,15 +72,15 @@ few_crossings n combs potentials ms sets good are below = λ i j.
 
 -- ---- the sets as code has them
 
-pub sets_below_count : (count combs : ℕ) (sets : List (ℕ × Vec ℕ)) → combs ≡ count → All (λ set. (set.0 < count) × AllPairs (λ a b. a ≢ b) set.1.items) sets → All (λ set. set.0 < combs) (plain sets)
+pub sets_below_count : (count combs : ℕ) (sets : List CombSet) → combs ≡ count → All (λ set. (set.comb < count) × AllPairs (λ a b. a ≢ b) set.nodes.items) sets → All (λ set. set.comb < combs) (plain sets)
 sets_below_count count combs sets same h =
-    All-from_recursion (λ set. set.0 < combs) (plain sets) (below_from_sets combs sets (λ k default lt. let own = (h k default lt).0 in omega (arith, own, same)))
+    All-from_recursion (λ set. set.comb < combs) (plain sets) (below_from_sets combs sets (λ k default lt. let own = (h k default lt).0 in omega (arith, own, same)))
 
 -- ---- the least links from each node
 
 -- weights that are those by sets are those of a leaf by rows
-pub row_weight : (combs : ℕ) (scale : ℤ) (potentials multipliers : List ℤ) (sets : List (ℕ × List ℕ)) (cost : ℕ → ℕ → ℤ) (i j : ℕ) → length multipliers ≡ combs
-    → All (λ set. set.0 < length multipliers) sets
+pub row_weight : (combs : ℕ) (scale : ℤ) (potentials multipliers : List ℤ) (sets : List NumberedSet) (cost : ℕ → ℕ → ℤ) (i j : ℕ) → length multipliers ≡ combs
+    → All (λ set. set.comb < length multipliers) sets
     → set_weight scale potentials multipliers sets cost i j ≡ combed (multiplied (combs_of_sets combs sets) multipliers) (weight_between scale potentials cost) i j
 row_weight combs scale ps ms sets cost i j same below =
     ap (λ (z : ℤ). weight_between scale ps cost i j -ℤ z) (sym (sets_tell_combs ms sets i j below))

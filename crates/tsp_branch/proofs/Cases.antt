@@ -9,9 +9,9 @@ use Rattle.tsp_theory.specs.Cycle.{IsCycle, links, Follows}
 use Rattle.tsp_theory.specs.Tour.{Uses}
 use Rattle.tsp_theory.specs.Length.{length_of}
 use Rattle.tsp_theory.proofs.Neighbours.{neighbours_or_not}
-use Rattle.tsp_branch.specs.Decisions.{Decision, KeepsDecision}
-use Rattle.tsp_branch.specs.Cases.{CaseStep, Branch, Leaf, are_trees, decide, leaves_of, cases_of}
-use Rattle.tsp_branch.specs.Cases.{KeepsOne, CyclesKeepLeaves, BoundsCase, HasNoCycle, BoundsButOpen, CasesBoundCycles, CasesHaveNoCycle, StacksHoldCases}
+use Rattle.tsp_branch.specs.declared.decision.Decision.{Decision}
+use Rattle.tsp_branch.specs.Decisions.{KeepsDecision}
+use Rattle.tsp_branch.specs.Cases.{CaseStep, Branch, Leaf, are_trees, decide, leaves_of, cases_of, KeepsOne, CyclesKeepLeaves, BoundsCase, HasNoCycle, BoundsButOpen, CasesBoundCycles, CasesHaveNoCycle, StacksHoldCases}
 
 -- ---- whether a pair is used
 

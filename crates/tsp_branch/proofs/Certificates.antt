@@ -7,7 +7,8 @@ use Rattle.std.proofs.lemmas.List.Elements.{recursion_from_All, All-from_recursi
 use Rattle.tsp_theory.specs.Numbers.{IsScale}
 use Rattle.tsp_branch.specs.Combs.{Comb}
 use Rattle.tsp_branch.specs.Families.{IsFamily}
-use Rattle.tsp_branch.specs.Decisions.{Decision, take_pairs, on_taken, on_avoided}
+use Rattle.tsp_branch.specs.declared.decision.Decision.{Decision}
+use Rattle.tsp_branch.specs.Decisions.{take_pairs, on_taken, on_avoided}
 use Rattle.tsp_branch.specs.LeafBound.{AreMultiplied, IsLeafBound, LeafBoundsBoundCycles}
 use Rattle.tsp_branch.specs.RowLeaves.{RowLeafBoundsBoundCycles}
 use Rattle.tsp_branch.specs.Rows.{NoLinkNoCycle}

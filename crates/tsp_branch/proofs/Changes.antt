@@ -1,5 +1,5 @@
 -- What decisions do to weights, and to the values of a row that they change one after the other.
-use Rattle.std.proofs.Common.{◌≡◌, ℕ, ◌+◌, ◌<◌, Bool, true, false, List, [], ◌∷◌, drop, length, inl, inr, refl, ap, sym, subst, ◌∙◌, arith, drop-cons, add-one}
+use Rattle.std.proofs.Common.{◌≡◌, ℕ, ◌+◌, ◌<◌, List, [], ◌∷◌, drop, length, inl, inr, refl, ap, sym, subst, ◌∙◌, arith, drop-cons, add-one}
 use Rattle.std.specs.Int.{w64, int_wrap}
 use Rattle.std.specs.Prelude.{ℤ, pos, neg_ℤ, ◌+ℤ◌, ◌⊎◌, FitsSigned, slice_index_or}
 use Rattle.std.proofs.lemmas.Bool.{cases_Bool}
@@ -7,21 +7,22 @@ use Rattle.std.proofs.lemmas.Int.{ints, int_wrap_fits, int_wrap-add_left, fits_s
 use Rattle.tsp_theory.specs.Numbers.{IsFromTo}
 use Rattle.tsp_theory.specs.Adjusted.{is_same_pair}
 use Rattle.tsp_theory.proofs.Sizes.{size_of}
+use Rattle.tsp_branch.specs.declared.decision.Decision.{Decision}
 use Rattle.tsp_branch.specs.states.Decided.{decided, change_of, changes, IsChanged}
 
-pub changes_are : (decisions : List (ℕ × ℕ × Bool)) (w : ℕ → ℕ → ℤ) (i j : ℕ) → decided decisions w i j ≡ w i j +ℤ changes decisions i j
+pub changes_are : (decisions : List Decision) (w : ℕ → ℕ → ℤ) (i j : ℕ) → decided decisions w i j ≡ w i j +ℤ changes decisions i j
 changes_are [] w i j = omega (arith, ints)
-changes_are ((a, b, true) ∷ decisions) w i j =
+changes_are (decision ∷ decisions) w i j =
     let rest = changes_are decisions w i j in
-    elim (cases_Bool (is_same_pair (a, b) (i, j))) [
-      | inl same ↦ rw same (omega (arith, ints, rest))
-      | inr other ↦ rw other (omega (arith, ints, rest))
-    ]
-changes_are ((a, b, false) ∷ decisions) w i j =
-    let rest = changes_are decisions w i j in
-    elim (cases_Bool (is_same_pair (a, b) (i, j))) [
-      | inl same ↦ rw same (omega (arith, ints, rest))
-      | inr other ↦ rw other (omega (arith, ints, rest))
+    elim (cases_Bool decision.taken) [
+      | inl taken ↦ elim (cases_Bool (is_same_pair decision.pair (i, j))) [
+        | inl same ↦ rw (taken, same) (omega (arith, ints, rest))
+        | inr other ↦ rw (taken, other) (omega (arith, ints, rest))
+      ]
+      | inr avoided ↦ elim (cases_Bool (is_same_pair decision.pair (i, j))) [
+        | inl same ↦ rw (avoided, same) (omega (arith, ints, rest))
+        | inr other ↦ rw (avoided, other) (omega (arith, ints, rest))
+      ]
     ]
 
 -- a value that with what is left to add comes to a sum: as it is, or as what is left of it in 64 bits
@@ -41,7 +42,7 @@ arrived sum left value none fits way =
       | inr is ↦ is ∙ ap (int_wrap w64) same ∙ int_wrap_fits w64 sum fits
     ]
 
-pub changed : (decision : ℕ × ℕ × Bool) (i j : ℕ) (sum left rest old new : ℤ) → left ≡ change_of decision i j +ℤ rest → IsOnTheWay sum left old → IsChanged decision i j old new → IsOnTheWay
+pub changed : (decision : Decision) (i j : ℕ) (sum left rest old new : ℤ) → left ≡ change_of decision i j +ℤ rest → IsOnTheWay sum left old → IsChanged decision i j old new → IsOnTheWay
     sum rest new
 changed decision i j sum left rest old new is way (inl kept) = record {
   whole = way.whole;
@@ -57,7 +58,7 @@ changed decision i j sum left rest old new is way (inr wrapped) = record {
   ]));
 }
 
-pub changes_left : (decisions : List (ℕ × ℕ × Bool)) (index i j : ℕ) (default : ℕ × ℕ × Bool) → index < length decisions
+pub changes_left : (decisions : List Decision) (index i j : ℕ) (default : Decision) → index < length decisions
     → changes (drop index decisions) i j ≡ change_of (slice_index_or decisions index default) i j +ℤ changes (drop (index + 1) decisions) i j
 changes_left decisions index i j default inside = ap (λ ds. changes ds i j) (drop-cons decisions index default inside) ∙ rw (add-one index)
 

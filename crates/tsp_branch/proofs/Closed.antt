@@ -1,12 +1,8 @@
 -- Values that decisions close one after the other.
-use Rattle.std.proofs.Common.{ℕ, ◌+◌, ◌<◌, Bool, List, [], ◌∷◌, get_or, length, inl, inr, refl, ◌∙◌, arith}
-use Rattle.std.specs.Prelude.{ℤ, ◌↔◌}
-use Rattle.std.specs.List.{All, AllByRecursion}
+use Rattle.std.proofs.Common.{ℕ, ◌+◌, ◌<◌, List, get_or, length, inl, inr, refl, ◌∙◌, arith}
+use Rattle.std.specs.Prelude.{ℤ}
 use Rattle.std.proofs.lemmas.Bool.{cases_eq}
 use Rattle.std.proofs.lemmas.List.{get_or_default}
-use Rattle.std.proofs.lemmas.List.Elements.{recursion_from_All, All-from_recursion}
-use Rattle.tsp_branch.specs.Decisions.{Decision}
-use Rattle.tsp_branch.specs.states.Decided.{decision_of, case_of}
 use Rattle.tsp_branch.specs.states.Closed.{IsShut}
 
 -- the first ones of a list
@@ -37,15 +33,3 @@ shut_more P xs i d a b c inside (inr one) (inr two) = inr (λ all. two.0 (all i 
 pub shut_same : (A B : Type 0) (a b : ℤ) → (A → B) → (B → A) → IsShut A a b → IsShut B a b
 shut_same A B a b to from (inl one) = inl (to one.0, one.1)
 shut_same A B a b to from (inr one) = inr (λ h. one.0 (from h), one.1)
-
--- ---- decisions as code has them
-
-mapped : (P : Decision → Type 0) (ds : List (ℕ × ℕ × Bool)) → AllByRecursion (λ d. P (decision_of d)) ds ↔ AllByRecursion P (case_of ds)
-mapped P [] = (λ h. h, λ h. h)
-mapped P (d ∷ ds) = let rest = mapped P ds in (λ h. (h.0, rest.0 h.1), λ h. (h.0, rest.1 h.1))
-
-pub of_case : (P : Decision → Type 0) (ds : List (ℕ × ℕ × Bool)) → All (λ d. P (decision_of d)) ds ↔ All P (case_of ds)
-of_case P ds = (
-  λ h. All-from_recursion P (case_of ds) ((mapped P ds).0 (recursion_from_All (λ d. P (decision_of d)) ds h)),
-  λ h. All-from_recursion (λ d. P (decision_of d)) ds ((mapped P ds).1 (recursion_from_All P (case_of ds) h)),
-)

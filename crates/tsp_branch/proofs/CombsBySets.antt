@@ -12,7 +12,7 @@ use Rattle.tsp_branch.specs.Combs.{has, crossings}
 use Rattle.tsp_branch.specs.LeafBound.{crossings_of}
 use Rattle.tsp_branch.specs.Certificate.{multiplied}
 use Rattle.tsp_branch.specs.states.Combed.{multiplier_of, SetsTellCombs, SetsGiveLeaves}
-use Rattle.tsp_branch.specs.CombsOfSets.{comb_with, of_comb, combs_from}
+use Rattle.tsp_branch.specs.CombsOfSets.{NumberedSet, comb_with, of_comb, combs_from}
 
 abbrev crossed : List (List ℕ) → ℕ → ℕ → ℤ
 crossed sets i j = sum_int_by (λ set. crossing (has set) i j) sets
@@ -53,7 +53,7 @@ over_sum (negsuc m) a b = neg_over_sum m a b
 
 -- ---- comb by comb, of any number for each set
 
-abbrev pub by_comb : (List ℕ → ℤ) → ℕ → List ℤ → List (ℕ × List ℕ) → ℤ
+abbrev pub by_comb : (List ℕ → ℤ) → ℕ → List ℤ → List NumberedSet → ℤ
 by_comb g first [] sets = pos 0
 by_comb g first (m ∷ ms) sets = (m *ℤ sum_int_by g (of_comb first sets)) +ℤ by_comb g (suc first) ms sets
 
@@ -62,33 +62,33 @@ none_summed g first [] = refl
 none_summed g first (m ∷ ms) = let rest = none_summed g (suc first) ms in let none = *ℤ-zero m in omega (arith, ints, rest, none)
 
 -- a set of an earlier comb
-passed : (g : List ℕ → ℤ) (first : ℕ) (ms : List ℤ) (set : ℕ × List ℕ) (sets : List (ℕ × List ℕ)) → set.0 < first → by_comb g first ms (set ∷ sets) ≡ by_comb g first ms sets
+passed : (g : List ℕ → ℤ) (first : ℕ) (ms : List ℤ) (set : NumberedSet) (sets : List NumberedSet) → set.comb < first → by_comb g first ms (set ∷ sets) ≡ by_comb g first ms sets
 passed g first [] set sets h = refl
-passed g first (m ∷ ms) set sets h = rw (ne_eqb set.0 first (λ e. omega (arith, e, h))) (ap (λ z. (m *ℤ sum_int_by g (of_comb first sets)) +ℤ z) (passed g (suc first) ms set sets (omega (arith, h))))
+passed g first (m ∷ ms) set sets h = rw (ne_eqb set.comb first (λ e. omega (arith, e, h))) (ap (λ z. (m *ℤ sum_int_by g (of_comb first sets)) +ℤ z) (passed g (suc first) ms set sets (omega (arith, h))))
 
-one_set : (g : List ℕ → ℤ) (first k : ℕ) (ms : List ℤ) (set : ℕ × List ℕ) (sets : List (ℕ × List ℕ)) → set.0 ≡ first + k → k < length ms
-    → by_comb g first ms (set ∷ sets) ≡ (get_or ms k (pos 0) *ℤ g set.1) +ℤ by_comb g first ms sets
+one_set : (g : List ℕ → ℤ) (first k : ℕ) (ms : List ℤ) (set : NumberedSet) (sets : List NumberedSet) → set.comb ≡ first + k → k < length ms
+    → by_comb g first ms (set ∷ sets) ≡ (get_or ms k (pos 0) *ℤ g set.nodes) +ℤ by_comb g first ms sets
 one_set g first k [] set sets is lt = absurd (omega (arith, lt))
-one_set g first zero (m ∷ ms) set sets is lt = rw (eq-eqb set.0 first (omega (arith, is)))
+one_set g first zero (m ∷ ms) set sets is lt = rw (eq-eqb set.comb first (omega (arith, is)))
     (let later = passed g (suc first) ms set sets (omega (arith, is)) in
-    let both = over_sum m (g set.1) (sum_int_by g (of_comb first sets)) in
+    let both = over_sum m (g set.nodes) (sum_int_by g (of_comb first sets)) in
     omega (arith, ints, later, both))
-one_set g first (suc k) (m ∷ ms) set sets is lt = rw (ne_eqb set.0 first (λ e. omega (arith, e, is)))
+one_set g first (suc k) (m ∷ ms) set sets is lt = rw (ne_eqb set.comb first (λ e. omega (arith, e, is)))
     (let later = one_set g (suc first) k ms set sets (omega (arith, is)) (omega (arith, lt)) in
     omega (arith, ints, later))
 
-pub all_summed : (g : List ℕ → ℤ) (ms : List ℤ) (sets : List (ℕ × List ℕ)) → AllByRecursion (λ set. set.0 < length ms) sets
-    → by_comb g 0 ms sets ≡ sum_int_by (λ set. multiplier_of ms set *ℤ g set.1) sets
+pub all_summed : (g : List ℕ → ℤ) (ms : List ℤ) (sets : List NumberedSet) → AllByRecursion (λ set. set.comb < length ms) sets
+    → by_comb g 0 ms sets ≡ sum_int_by (λ set. multiplier_of ms set *ℤ g set.nodes) sets
 all_summed g ms [] h = none_summed g 0 ms
-all_summed g ms (set ∷ sets) h = one_set g 0 set.0 ms set sets (omega arith) h.0 ∙ ap (λ z. (get_or ms set.0 (pos 0) *ℤ g set.1) +ℤ z) (all_summed g ms sets h.1)
+all_summed g ms (set ∷ sets) h = one_set g 0 set.comb ms set sets (omega arith) h.0 ∙ ap (λ z. (get_or ms set.comb (pos 0) *ℤ g set.nodes) +ℤ z) (all_summed g ms sets h.1)
 
-combs_crossed : (first : ℕ) (ms : List ℤ) (sets : List (ℕ × List ℕ)) (i j : ℕ) → crossings_of (multiplied (combs_from first (length ms) sets) ms) i j ≡ by_comb
+combs_crossed : (first : ℕ) (ms : List ℤ) (sets : List NumberedSet) (i j : ℕ) → crossings_of (multiplied (combs_from first (length ms) sets) ms) i j ≡ by_comb
     (λ set. crossing (has set) i j) first ms sets
 combs_crossed first [] sets i j = refl
 combs_crossed first (m ∷ ms) sets i j = ap₂ (λ a b. (m *ℤ a) +ℤ b) (comb_crossed (of_comb first sets) i j) (combs_crossed (suc first) ms sets i j)
 
 pub sets_tell_combs : SetsTellCombs
-sets_tell_combs ms sets i j h = combs_crossed 0 ms sets i j ∙ all_summed (λ set. crossing (has set) i j) ms sets (recursion_from_All (λ set. set.0 < length ms) sets h)
+sets_tell_combs ms sets i j h = combs_crossed 0 ms sets i j ∙ all_summed (λ set. crossing (has set) i j) ms sets (recursion_from_All (λ set. set.comb < length ms) sets h)
 
 pub sets_give_leaves : SetsGiveLeaves
 sets_give_leaves scale potentials ms taken avoided sets cost i j h = let same = sets_tell_combs ms sets i j h in omega (arith, ints, same)

@@ -1,16 +1,16 @@
 -- Where no two decisions are on the same nodes, a weight changes by no more than one decision does.
-use Rattle.std.proofs.Common.{◌≡◌, ◌∙◌, ℕ, zero, suc, ◌==◌, ◌&&◌, ◌||◌, Bool, true, false, List, [], ◌∷◌, ◌++◌, ℤ, ◌⊎◌, inl, inr, refl, ap, sym, arith}
-use Rattle.std.specs.Prelude.{pos, neg_ℤ, ◌+ℤ◌, if◌then◌else◌, reverse}
+use Rattle.std.proofs.Common.{◌≡◌, ◌∙◌, ℕ, zero, suc, ◌==◌, ◌&&◌, ◌||◌, Bool, true, false, List, [], ◌∷◌, ◌++◌, ◌⊎◌, inl, inr, refl, ap, sym, arith}
+use Rattle.std.specs.Prelude.{pos, neg_ℤ, ◌+ℤ◌, reverse}
 use Rattle.std.specs.List.{AllByRecursion}
 use Rattle.std.proofs.lemmas.Bool.{cases_Bool, both_ways, or_cases, and_parts, eqb-true, eq-eqb}
 use Rattle.std.proofs.lemmas.Int.{ints}
 use Rattle.std.proofs.lemmas.List.{reverse-append}
 use Rattle.std.proofs.lemmas.List.Elements.{recursion_from_All}
 use Rattle.tsp_theory.specs.Numbers.{IsFromTo}
-use Rattle.tsp_theory.specs.Length.{sum_int_by}
 use Rattle.tsp_theory.specs.Adjusted.{is_same_pair}
-use Rattle.tsp_branch.specs.Decisions.{Decision, DecideOnce, decided_number}
-use Rattle.tsp_branch.specs.states.Decided.{case_of, stack_of, signed, change_of, changes, AreFewChanges}
+use Rattle.tsp_branch.specs.declared.decision.Decision.{Decision}
+use Rattle.tsp_branch.specs.Decisions.{DecideOnce, decided_number}
+use Rattle.tsp_branch.specs.states.Decided.{stack_of, signed, changes, AreFewChanges}
 
 -- two pairs that are both on two nodes
 abbrev Same : ℕ × ℕ → ℕ → ℕ → Type 0
@@ -34,24 +34,14 @@ both_on p q i j (inr a) (inl b) = rw (eq-eqb p.1 q.0 (a.0 ∙ sym b.0), eq-eqb p
 
 -- ---- what decisions change, in any order
 
-abbrev pub change_by : Decision → ℕ → ℕ → ℤ
-change_by d i j = if is_same_pair d.pair (i, j) then signed d.taken else pos 0
-
-abbrev pub changes_by : List Decision → ℕ → ℕ → ℤ
-changes_by ds i j = sum_int_by (λ d. change_by d i j) ds
-
-pub changes_told : (ds : List (ℕ × ℕ × Bool)) (i j : ℕ) → changes ds i j ≡ changes_by (case_of ds) i j
-changes_told [] i j = refl
-changes_told (d ∷ ds) i j = ap (λ z. change_of d i j +ℤ z) (changes_told ds i j)
-
-pub changes_both : (ds es : List Decision) (i j : ℕ) → changes_by (ds ++ es) i j ≡ changes_by ds i j +ℤ changes_by es i j
+pub changes_both : (ds es : List Decision) (i j : ℕ) → changes (ds ++ es) i j ≡ changes ds i j +ℤ changes es i j
 changes_both [] es i j = omega (arith, ints)
 changes_both (d ∷ ds) es i j = let rest = changes_both ds es i j in omega (arith, ints, rest)
 
-pub changes_turned : (ds : List Decision) (i j : ℕ) → changes_by (reverse ds) i j ≡ changes_by ds i j
+pub changes_turned : (ds : List Decision) (i j : ℕ) → changes (reverse ds) i j ≡ changes ds i j
 changes_turned [] i j = refl
 changes_turned (d ∷ ds) i j =
-    let split = ap (λ es. changes_by es i j) (reverse-append (d ∷ []) ds) in
+    let split = ap (λ es. changes es i j) (reverse-append (d ∷ []) ds) in
     let both = changes_both (reverse ds) (d ∷ []) i j in
     let rest = changes_turned ds i j in
     omega (arith, ints, split, both, rest)
@@ -69,7 +59,7 @@ apart (d ∷ ds) h = (
   apart ds (λ i j e below lt. h (suc i) (suc j) e (omega arith) (omega arith)),
 )
 
-none_else : (d : Decision) (ds : List Decision) (i j : ℕ) → is_same_pair d.pair (i, j) ≡ true → AllByRecursion (λ e. is_same_pair d.pair e.pair ≡ false) ds → changes_by ds i j ≡ pos 0
+none_else : (d : Decision) (ds : List Decision) (i j : ℕ) → is_same_pair d.pair (i, j) ≡ true → AllByRecursion (λ e. is_same_pair d.pair e.pair ≡ false) ds → changes ds i j ≡ pos 0
 none_else d [] i j h k = refl
 none_else d (e ∷ es) i j h k =
     let rest = none_else d es i j h k.1 in
@@ -82,7 +72,7 @@ signed_size : (taken : Bool) → IsFromTo (neg_ℤ decided_number) decided_numbe
 signed_size true = (omega (arith, ints), omega (arith, ints))
 signed_size false = (omega (arith, ints), omega (arith, ints))
 
-changed_once : (ds : List Decision) (i j : ℕ) → Apart ds → IsFromTo (neg_ℤ decided_number) decided_number (changes_by ds i j)
+changed_once : (ds : List Decision) (i j : ℕ) → Apart ds → IsFromTo (neg_ℤ decided_number) decided_number (changes ds i j)
 changed_once [] i j h = (omega (arith, ints), omega (arith, ints))
 changed_once (d ∷ ds) i j h = elim (cases_Bool (is_same_pair d.pair (i, j))) [
   | inl same ↦
@@ -94,11 +84,9 @@ changed_once (d ∷ ds) i j h = elim (cases_Bool (is_same_pair d.pair (i, j))) [
       rw other (omega (arith, ints, rest.0), omega (arith, ints, rest.1))
 ]
 
-pub few_changes : (given stack : List (ℕ × ℕ × Bool)) → DecideOnce false (stack_of stack ++ case_of given) → AreFewChanges given stack
+pub few_changes : (given stack : List Decision) → DecideOnce false (stack_of stack ++ given) → AreFewChanges given stack
 few_changes given stack once i j =
-    let all = changed_once (stack_of stack ++ case_of given) i j (apart (stack_of stack ++ case_of given) once) in
-    let split = changes_both (stack_of stack) (case_of given) i j in
-    let turned = changes_turned (case_of stack) i j in
-    let one = changes_told stack i j in
-    let two = changes_told given i j in
-    (omega (arith, ints, all.0, split, turned, one, two), omega (arith, ints, all.1, split, turned, one, two))
+    let all = changed_once (stack_of stack ++ given) i j (apart (stack_of stack ++ given) once) in
+    let split = changes_both (stack_of stack) given i j in
+    let turned = changes_turned stack i j in
+    (omega (arith, ints, all.0, split, turned), omega (arith, ints, all.1, split, turned))

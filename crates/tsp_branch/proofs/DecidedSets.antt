@@ -6,11 +6,12 @@ use Rattle.std.specs.BTreeMap.{is_at}
 use Rattle.std.specs.List.{list_any}
 use Rattle.std.proofs.Math.Path.{fun_ext}
 use Rattle.std.proofs.lemmas.Bool.{and_parts, eqb-true}
-use Rattle.std.proofs.lemmas.List.{map-append, take_all, take_more}
+use Rattle.std.proofs.lemmas.List.{take_all, take_more}
 use Rattle.std.proofs.lemmas.List.Folds.{list_any-append}
-use Rattle.tsp_branch.specs.Decisions.{Decision, is_same, DecideOnce}
+use Rattle.tsp_branch.specs.declared.decision.Decision.{Decision}
+use Rattle.tsp_branch.specs.Decisions.{is_same, DecideOnce}
 use Rattle.tsp_branch.specs.Cases.{decide, next_stack}
-use Rattle.tsp_branch.specs.states.Decided.{decision_of, case_of, stack_of, IsNextStack}
+use Rattle.tsp_branch.specs.states.Decided.{stack_of, IsNextStack}
 use Rattle.tsp_branch.specs.Twice.{is_decided}
 use Rattle.tsp_branch.specs.states.PairSets.{pair_cmp, key_of, HasDecided, HasStack}
 use Rattle.tsp_branch.proofs.NextCases.{stack_more, dropped, turned}
@@ -45,18 +46,17 @@ decided_more directed old new case pair taken updates has = λ other.
     either false false = refl
 
 -- given decisions, one after the other
-pub given_more : (directed : Bool) (old new : BTreeSet (ℕ × ℕ)) (given : List (ℕ × ℕ × Bool)) (index : ℕ) (default : ℕ × ℕ × Bool) → index < length given
-    → Updates pair_cmp old new (key_of directed ((get_or given index default).0, (get_or given index default).1)) true
-    → HasDecided directed old (case_of (take index given)) → HasDecided directed new (case_of (take (index + 1) given))
+pub given_more : (directed : Bool) (old new : BTreeSet (ℕ × ℕ)) (given : List Decision) (index : ℕ) (default : Decision) → index < length given
+    → Updates pair_cmp old new (key_of directed (get_or given index default).pair) true
+    → HasDecided directed old (take index given) → HasDecided directed new (take (index + 1) given)
 given_more directed old new given index default lt updates has = λ other.
-    let last : ℕ × ℕ × Bool = get_or given index default in
-    decided_more directed old new (case_of (take index given)) (last.0, last.1) last.2 updates has other
-    ∙ sym (decided_last directed (case_of (take index given)) (decision_of last) other)
-    ∙ ap (λ (ds : List Decision). is_decided directed ds other) (sym (map-append decision_of (take index given) (last ∷ [])))
-    ∙ ap (λ (ds : List (ℕ × ℕ × Bool)). is_decided directed (case_of ds) other) (sym (take_more given index default lt))
+    let last : Decision = get_or given index default in
+    decided_more directed old new (take index given) last.pair last.taken updates has other
+    ∙ sym (decided_last directed (take index given) last other)
+    ∙ ap (λ (ds : List Decision). is_decided directed ds other) (sym (take_more given index default lt))
 
-pub given_all : (directed : Bool) (set : BTreeSet (ℕ × ℕ)) (given : List (ℕ × ℕ × Bool)) (index : ℕ) → length given ≤ index → HasDecided directed set (case_of (take index given)) → HasDecided directed set (case_of given)
-given_all directed set given index past has = subst (λ (ds : List (ℕ × ℕ × Bool)). HasDecided directed set (case_of ds)) (take_all index given past) has
+pub given_all : (directed : Bool) (set : BTreeSet (ℕ × ℕ)) (given : List Decision) (index : ℕ) → length given ≤ index → HasDecided directed set (take index given) → HasDecided directed set given
+given_all directed set given index past has = subst (λ (ds : List Decision). HasDecided directed set ds) (take_all index given past) has
 
 -- ---- one decision less
 
@@ -97,16 +97,16 @@ decided_less directed old new case first once updates has = λ other.
 
 -- ---- the stack of a pass
 
-pub stack_less : (directed : Bool) (old new : BTreeSet (ℕ × ℕ)) (stack : List (ℕ × ℕ × Bool)) (given : List Decision) (kept : ℕ) (last default : ℕ × ℕ × Bool) → kept < length stack
-    → last ≡ get_or stack kept default → Updates pair_cmp old new (key_of directed (last.0, last.1)) false → HasStack directed old (take (kept + 1) stack) given → HasStack directed new (take kept stack) given
+pub stack_less : (directed : Bool) (old new : BTreeSet (ℕ × ℕ)) (stack : List Decision) (given : List Decision) (kept : ℕ) (last default : Decision) → kept < length stack
+    → last ≡ get_or stack kept default → Updates pair_cmp old new (key_of directed last.pair) false → HasStack directed old (take (kept + 1) stack) given → HasStack directed new (take kept stack) given
 stack_less directed old new stack given kept last default lt is updates h =
-    let more : stack_of (take (kept + 1) stack) ≡ decision_of last ∷ stack_of (take kept stack) =
-    ap stack_of (take_more stack kept default lt) ∙ stack_more (take kept stack) (get_or stack kept default) ∙ ap (λ (d : ℕ × ℕ × Bool). decision_of d ∷ stack_of (take kept stack)) (sym is) in
-    let once : DecideOnce directed (decision_of last ∷ stack_of (take kept stack) ++ given) = subst (λ (ds : List Decision). DecideOnce directed (ds ++ given)) more h.once in
-    let has : HasDecided directed old (decision_of last ∷ stack_of (take kept stack) ++ given) = subst (λ (ds : List Decision). HasDecided directed old (ds ++ given)) more h.has in
+    let more : stack_of (take (kept + 1) stack) ≡ last ∷ stack_of (take kept stack) =
+    ap stack_of (take_more stack kept default lt) ∙ stack_more (take kept stack) (get_or stack kept default) ∙ ap (λ (d : Decision). d ∷ stack_of (take kept stack)) (sym is) in
+    let once : DecideOnce directed (last ∷ stack_of (take kept stack) ++ given) = subst (λ (ds : List Decision). DecideOnce directed (ds ++ given)) more h.once in
+    let has : HasDecided directed old (last ∷ stack_of (take kept stack) ++ given) = subst (λ (ds : List Decision). HasDecided directed old (ds ++ given)) more h.has in
     record {
-      once = once_rest directed (stack_of (take kept stack) ++ given) (decision_of last) once;
-      has = decided_less directed old new (stack_of (take kept stack) ++ given) (decision_of last) once updates has;
+      once = once_rest directed (stack_of (take kept stack) ++ given) last once;
+      has = decided_less directed old new (stack_of (take kept stack) ++ given) last once updates has;
     }
 
 some_same : {X : Type 0} (x y : X) (a : Option X) → a ≡ Some x → a ≡ Some y → x ≡ y
@@ -116,20 +116,20 @@ some_same x y a first second = let e : Some x ≡ Some y = sym first ∙ second 
 turned_same_pair : (directed : Bool) (case : List Decision) (pair other : ℕ × ℕ) (a b : Bool) → is_decided directed (decide pair a case) other ≡ is_decided directed (decide pair b case) other
 turned_same_pair directed case pair other a b = refl
 
-pub stack_turned : (directed : Bool) (set : BTreeSet (ℕ × ℕ)) (stack new : List (ℕ × ℕ × Bool)) (given : List Decision) (kept : ℕ) (last default : ℕ × ℕ × Bool) → kept < length stack
-    → last ≡ get_or stack kept default → last.2 ≡ true → next_stack (stack_of stack) ≡ next_stack (stack_of (take (kept + 1) stack)) → next_stack (stack_of stack) ≡ Some (stack_of new)
+pub stack_turned : (directed : Bool) (set : BTreeSet (ℕ × ℕ)) (stack new : List Decision) (given : List Decision) (kept : ℕ) (last default : Decision) → kept < length stack
+    → last ≡ get_or stack kept default → last.taken ≡ true → next_stack (stack_of stack) ≡ next_stack (stack_of (take (kept + 1) stack)) → next_stack (stack_of stack) ≡ Some (stack_of new)
     → HasStack directed set (take (kept + 1) stack) given → HasDecided directed set (stack_of new ++ given)
 stack_turned directed set stack new given kept last default lt is taken same next h =
-    let own : (get_or stack kept default).2 ≡ true = ap (λ (d : ℕ × ℕ × Bool). d.2) (sym is) ∙ taken in
-    let pair : ℕ × ℕ = ((get_or stack kept default).0, (get_or stack kept default).1) in
-    let new_is : stack_of new ≡ stack_of (take kept stack ++ (pair.0, pair.1, false) ∷ []) =
+    let own : (get_or stack kept default).taken ≡ true = ap (λ (d : Decision). d.taken) (sym is) ∙ taken in
+    let pair : ℕ × ℕ = (get_or stack kept default).pair in
+    let new_is : stack_of new ≡ stack_of (take kept stack ++ decide pair false []) =
     some_same (stack_of new) _ (next_stack (stack_of stack)) next (same ∙ turned stack kept default lt own) in
-    let more : stack_of (take (kept + 1) stack) ≡ decision_of (get_or stack kept default) ∷ stack_of (take kept stack) =
+    let more : stack_of (take (kept + 1) stack) ≡ (get_or stack kept default) ∷ stack_of (take kept stack) =
     ap stack_of (take_more stack kept default lt) ∙ stack_more (take kept stack) (get_or stack kept default) in
     λ other.
     h.has other
     ∙ ap (λ (ds : List Decision). is_decided directed (ds ++ given) other) more
-    ∙ ap (λ (ds : List Decision). is_decided directed (ds ++ given) other) (sym (stack_more (take kept stack) (pair.0, pair.1, false)))
+    ∙ ap (λ (ds : List Decision). is_decided directed (ds ++ given) other) (sym (stack_more (take kept stack) (record { pair = pair; taken = false })))
     ∙ ap (λ (ds : List Decision). is_decided directed (ds ++ given) other) (sym new_is)
 
 -- ---- what a set says of a pair
@@ -146,37 +146,37 @@ decided_by_set directed set case pair key is_new has is added =
     sym (not_not is_new (contains pair_cmp set key) added) ∙ ap (contains pair_cmp set) is ∙ has pair
 
 -- a branch's pair more on the stack
-pub pushed_decided : (directed : Bool) (old new : BTreeSet (ℕ × ℕ)) (stack pushed : List (ℕ × ℕ × Bool)) (given : List Decision) (pair key : ℕ × ℕ) → key ≡ key_of directed pair
-    → Updates pair_cmp old new key true → pushed ≡ stack ++ (pair.0, pair.1, true) ∷ [] → HasDecided directed old (stack_of stack ++ given) → HasDecided directed new (stack_of pushed ++ given)
+pub pushed_decided : (directed : Bool) (old new : BTreeSet (ℕ × ℕ)) (stack pushed : List Decision) (given : List Decision) (pair key : ℕ × ℕ) → key ≡ key_of directed pair
+    → Updates pair_cmp old new key true → pushed ≡ stack ++ decide pair true [] → HasDecided directed old (stack_of stack ++ given) → HasDecided directed new (stack_of pushed ++ given)
 pushed_decided directed old new stack pushed given pair key is updates more has =
-    subst (λ (ds : List Decision). HasDecided directed new (ds ++ given)) (sym (stack_more stack (pair.0, pair.1, true)) ∙ ap stack_of (sym more))
+    subst (λ (ds : List Decision). HasDecided directed new (ds ++ given)) (sym (stack_more stack (record { pair = pair; taken = true })) ∙ ap stack_of (sym more))
     (decided_more directed old new (stack_of stack ++ given) pair true (subst (λ (k : ℕ × ℕ). Updates pair_cmp old new k true) is updates) has)
 
 -- ---- from the last decision down to the last one that takes its pair
 
 -- up to `kept` the stack has the same next case, and the set what that part decides
-pub record IsKept (directed : Bool) (first now : BTreeSet (ℕ × ℕ)) (stack : List (ℕ × ℕ × Bool)) (kept : ℕ) : Type 0 where
+pub record IsKept (directed : Bool) (first now : BTreeSet (ℕ × ℕ)) (stack : List Decision) (kept : ℕ) : Type 0 where
   pub most : kept ≤ length stack
   pub same : next_stack (stack_of stack) ≡ next_stack (stack_of (take kept stack))
   pub set : (given : List Decision) → HasStack directed first stack given → HasStack directed now (take kept stack) given
 
-pub kept_all : (directed : Bool) (set : BTreeSet (ℕ × ℕ)) (stack : List (ℕ × ℕ × Bool)) (kept : ℕ) → kept ≡ length stack → IsKept directed set set stack kept
+pub kept_all : (directed : Bool) (set : BTreeSet (ℕ × ℕ)) (stack : List Decision) (kept : ℕ) → kept ≡ length stack → IsKept directed set set stack kept
 kept_all directed set stack kept is =
     let whole : take kept stack ≡ stack = take_all kept stack (omega (arith, is)) in
     record {
       most = omega (arith, is);
-      same = ap (λ (xs : List (ℕ × ℕ × Bool)). next_stack (stack_of xs)) (sym whole);
-      set = λ given h. subst (λ (xs : List (ℕ × ℕ × Bool)). HasStack directed set xs given) (sym whole) h;
+      same = ap (λ (xs : List Decision). next_stack (stack_of xs)) (sym whole);
+      set = λ given h. subst (λ (xs : List Decision). HasStack directed set xs given) (sym whole) h;
     }
 
-pub kept_less : (directed : Bool) (first old new : BTreeSet (ℕ × ℕ)) (stack : List (ℕ × ℕ × Bool)) (kept : ℕ) (last : ℕ × ℕ × Bool) (key : ℕ × ℕ) → 0 < kept
-    → last ≡ get_or stack (kept - 1) last → last.2 ≡ false → key ≡ key_of directed (last.0, last.1) → Updates pair_cmp old new key false → IsKept directed first old stack kept
+pub kept_less : (directed : Bool) (first old new : BTreeSet (ℕ × ℕ)) (stack : List Decision) (kept : ℕ) (last : Decision) (key : ℕ × ℕ) → 0 < kept
+    → last ≡ get_or stack (kept - 1) last → last.taken ≡ false → key ≡ key_of directed last.pair → Updates pair_cmp old new key false → IsKept directed first old stack kept
     → IsKept directed first new stack (kept - 1)
 kept_less directed first old new stack kept last key some is avoided key_is updates h =
     let k : ℕ = kept - 1 in
     let one : kept ≡ k + 1 = omega (arith, some) in
     let lt : k < length stack = omega (arith, some, h.most) in
-    let own : (get_or stack k last).2 ≡ false = ap (λ (d : ℕ × ℕ × Bool). d.2) (sym is) ∙ avoided in
+    let own : (get_or stack k last).taken ≡ false = ap (λ (d : Decision). d.taken) (sym is) ∙ avoided in
     record {
       most = omega (arith, h.most);
       same = h.same ∙ ap (λ (n : ℕ). next_stack (stack_of (take n stack))) one ∙ dropped stack k last lt own;
@@ -184,8 +184,8 @@ kept_less directed first old new stack kept last key some is avoided key_is upda
           (subst (λ (n : ℕ). HasStack directed old (take n stack) given) one (h.set given whole));
     }
 
-pub kept_turned : (directed : Bool) (first now : BTreeSet (ℕ × ℕ)) (stack new : List (ℕ × ℕ × Bool)) (kept : ℕ) (last : ℕ × ℕ × Bool) (result : Bool) → 0 < kept
-    → last ≡ get_or stack (kept - 1) last → last.2 ≡ true → IsKept directed first now stack kept → IsNextStack stack result new → result ≡ true
+pub kept_turned : (directed : Bool) (first now : BTreeSet (ℕ × ℕ)) (stack new : List Decision) (kept : ℕ) (last : Decision) (result : Bool) → 0 < kept
+    → last ≡ get_or stack (kept - 1) last → last.taken ≡ true → IsKept directed first now stack kept → IsNextStack stack result new → result ≡ true
     → (given : List Decision) → HasStack directed first stack given → HasDecided directed now (stack_of new ++ given)
 kept_turned directed first now stack new kept last result some is taken h next found given whole =
     let k : ℕ = kept - 1 in
@@ -194,7 +194,7 @@ kept_turned directed first now stack new kept last result some is taken h next f
     stack_turned directed now stack new given k last last lt is taken (h.same ∙ ap (λ (n : ℕ). next_stack (stack_of (take n stack))) one)
     (subst (λ (b : Bool). IsNextStack stack b new) found next) (subst (λ (n : ℕ). HasStack directed now (take n stack) given) one (h.set given whole))
 
-pub kept_none : (directed : Bool) (first now : BTreeSet (ℕ × ℕ)) (stack new : List (ℕ × ℕ × Bool)) (kept : ℕ) (result : Bool) → kept ≡ 0 → IsKept directed first now stack kept → IsNextStack stack result new
+pub kept_none : (directed : Bool) (first now : BTreeSet (ℕ × ℕ)) (stack new : List Decision) (kept : ℕ) (result : Bool) → kept ≡ 0 → IsKept directed first now stack kept → IsNextStack stack result new
     → result ≡ true → (given : List Decision) → HasStack directed first stack given → HasDecided directed now (stack_of new ++ given)
 kept_none directed first now stack new kept result none h next found given whole =
     let nothing : next_stack (stack_of stack) ≡ None = h.same ∙ ap (λ (n : ℕ). next_stack (stack_of (take n stack))) none in

@@ -6,7 +6,8 @@ use Rattle.std.proofs.lemmas.List.Elements.{recursion_from_All, All-from_recursi
 use Rattle.tsp_theory.specs.Cycle.{AreNeighbours}
 use Rattle.tsp_theory.specs.Tour.{Uses}
 use Rattle.tsp_theory.specs.Adjusted.{pair_of, UsesEach, UsesNone, AdjustedBoundsBoundCycles}
-use Rattle.tsp_branch.specs.Decisions.{Decision, KeepsPair, KeepsDecision, KeepsAll, take_pairs, on_taken, on_avoided, DecidedBoundsBoundCycles, FixedBoundsBoundTours}
+use Rattle.tsp_branch.specs.declared.decision.Decision.{Decision}
+use Rattle.tsp_branch.specs.Decisions.{KeepsPair, KeepsDecision, KeepsAll, take_pairs, on_taken, on_avoided, DecidedBoundsBoundCycles, FixedBoundsBoundTours}
 
 pub takes_each : (nodes : List ℕ) (number : ℤ) (decisions : List Decision) → KeepsAll false nodes decisions → UsesEach (on_taken number decisions) nodes
 takes_each nodes number decisions keeps = All-from_recursion Used (on_taken number decisions) (each decisions (recursion_from_All (KeepsDecision false nodes) decisions keeps))

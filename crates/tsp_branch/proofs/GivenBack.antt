@@ -1,7 +1,6 @@
 -- What a leaf gives back, in the order in which code sums it.
-use Rattle.std.proofs.Common.{◌≡◌, ◌∙◌, ℕ, suc, ◌+◌, ◌*◌, ◌-◌, ◌<◌, ◌^◌, Bool, List, [], ◌∷◌, ◌++◌, drop, length, get_or, ℤ, ◌≤ℤ◌, FitsSigned, inl, inr, refl, ap, arith, to_z, of_z, drop-cons, add-one}
+use Rattle.std.proofs.Common.{◌≡◌, ◌∙◌, ℕ, suc, ◌+◌, ◌*◌, ◌-◌, ◌<◌, ◌^◌, List, [], ◌∷◌, ◌++◌, drop, length, get_or, ℤ, ◌≤ℤ◌, FitsSigned, inl, inr, refl, ap, arith, to_z, of_z, drop-cons, add-one}
 use Rattle.std.specs.Prelude.{pos, negsuc, neg_ℤ, ◌+ℤ◌, ◌-ℤ◌, ◌*ℤ◌, if◌then◌else◌, reverse}
-use Rattle.std.specs.Global.{Vec}
 use Rattle.std.specs.Int.{w64, w128}
 use Rattle.std.specs.List.{All, AllByRecursion}
 use Rattle.std.proofs.Math.IntN.{*ℤ-zero}
@@ -13,11 +12,13 @@ use Rattle.tsp_theory.specs.Numbers.{IsFromTo, total}
 use Rattle.tsp_theory.specs.Adjusted.{triples_total}
 use Rattle.tsp_theory.proofs.Sizes.{size_of}
 use Rattle.tsp_branch.specs.Families.{least_crossings_of}
-use Rattle.tsp_branch.specs.Decisions.{Decision, on_taken, decided_number}
+use Rattle.tsp_branch.specs.declared.decision.Decision.{Decision}
+use Rattle.tsp_branch.specs.Decisions.{on_taken, decided_number}
 use Rattle.tsp_branch.specs.states.Combed.{plain}
 use Rattle.tsp_branch.specs.Judged.{most_multiplied}
 use Rattle.tsp_branch.specs.CombsOfSets.{least_with}
-use Rattle.tsp_branch.specs.states.Decided.{decision_of, case_of, stack_of}
+use Rattle.tsp_branch.specs.states.Decided.{stack_of}
+use Rattle.tsp_branch.specs.declared.comb_set.CombSet.{CombSet}
 use Rattle.tsp_branch.proofs.LeafBounds.{product_below}
 
 -- ---- sums of numbers
@@ -53,30 +54,30 @@ taken_turned (d ∷ ds) =
     let rest = taken_turned ds in
     omega (arith, ints, split, both, first, rest)
 
-pub taken_in_all : (given stack : List (ℕ × ℕ × Bool))
-    → triples_total (on_taken decided_number (stack_of stack ++ case_of given)) ≡ triples_total (on_taken decided_number (case_of given)) +ℤ triples_total (on_taken decided_number (case_of stack))
+pub taken_in_all : (given stack : List Decision)
+    → triples_total (on_taken decided_number (stack_of stack ++ given)) ≡ triples_total (on_taken decided_number given) +ℤ triples_total (on_taken decided_number stack)
 taken_in_all given stack =
-    let both = taken_both (stack_of stack) (case_of given) in
-    let turned = taken_turned (case_of stack) in
+    let both = taken_both (stack_of stack) given in
+    let turned = taken_turned stack in
     omega (arith, ints, both, turned)
 
-pub taken_left : (ds : List (ℕ × ℕ × Bool)) (index : ℕ) (default : ℕ × ℕ × Bool) → index < length ds
-    → triples_total (on_taken decided_number (case_of (drop index ds)))
-    ≡ (if (get_or ds index default).2 then decided_number else pos 0) +ℤ triples_total (on_taken decided_number (case_of (drop (index + 1) ds)))
+pub taken_left : (ds : List Decision) (index : ℕ) (default : Decision) → index < length ds
+    → triples_total (on_taken decided_number (drop index ds))
+    ≡ (if (get_or ds index default).taken then decided_number else pos 0) +ℤ triples_total (on_taken decided_number (drop (index + 1) ds))
 taken_left ds index default lt =
-    let d : ℕ × ℕ × Bool = get_or ds index default in
-    let rest : List Decision = case_of (drop (index + 1) ds) in
-    let split : triples_total (on_taken decided_number (case_of (drop index ds))) ≡ triples_total (on_taken decided_number (decision_of d ∷ rest)) =
-    ap (λ es. triples_total (on_taken decided_number (case_of es))) (drop-cons ds index default lt) ∙ rw (add-one index) refl in
-    split ∙ (elim (cases_Bool d.2) [
+    let d : Decision = get_or ds index default in
+    let rest : List Decision = (drop (index + 1) ds) in
+    let split : triples_total (on_taken decided_number (drop index ds)) ≡ triples_total (on_taken decided_number (d ∷ rest)) =
+    ap (λ es. triples_total (on_taken decided_number es)) (drop-cons ds index default lt) ∙ rw (add-one index) refl in
+    split ∙ (elim (cases_Bool d.taken) [
       | inl t ↦ rw t refl
       | inr f ↦ rw f (omega (arith, ints))
     ])
 
-pub below_from_sets : (k : ℕ) (sets : List (ℕ × Vec ℕ)) → All (λ set. set.0 < k) sets → AllByRecursion (λ set. set.0 < k) (plain sets)
-below_from_sets k sets h = by sets (recursion_from_All (λ set. set.0 < k) sets h)
+pub below_from_sets : (k : ℕ) (sets : List CombSet) → All (λ set. set.comb < k) sets → AllByRecursion (λ set. set.comb < k) (plain sets)
+below_from_sets k sets h = by sets (recursion_from_All (λ set. set.comb < k) sets h)
   where
-    by : (sets : List (ℕ × Vec ℕ)) → AllByRecursion (λ set. set.0 < k) sets → AllByRecursion (λ set. set.0 < k) (plain sets)
+    by : (sets : List CombSet) → AllByRecursion (λ set. set.comb < k) sets → AllByRecursion (λ set. set.comb < k) (plain sets)
     by [] h = tt
     by (set ∷ sets) h = (h.0, by sets h.1)
 

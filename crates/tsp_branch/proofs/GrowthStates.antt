@@ -5,7 +5,8 @@ use Rattle.std.specs.List.{swap_remove}
 use Rattle.std.proofs.lemmas.Bool.{cases_Bool, or_parts, or_cases, ne_eqb, eqb-true, eqb-false}
 use Rattle.std.proofs.lemmas.Int.{ints}
 use Rattle.tsp_theory.specs.Tree.{IsInner, weight_of}
-use Rattle.tsp_theory.specs.Growth.{and_node, IsLeastLeaving, Grows, grown_by, least_at}
+use Rattle.tsp_theory.specs.Growth.{and_node, IsLeastLeaving, Grows, grown_by}
+use Rattle.tsp_theory.specs.states.Nearest.{least_at}
 use Rattle.tsp_theory.proofs.Exchange.{and_node_self, and_node_old}
 use Rattle.tsp_theory.proofs.Steps.{grows_more, grown_by_more}
 use Rattle.tsp_theory.proofs.Weights.{weight_added}

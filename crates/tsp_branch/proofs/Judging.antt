@@ -9,14 +9,16 @@ use Rattle.tsp_format.specs.Cells.{IsNode}
 use Rattle.tsp_format.specs.Limits.{most_potential}
 use Rattle.tsp_format.specs.declared.steps.TreeStep.{TreeStep}
 use Rattle.tsp_format.specs.Steps as listed
-use Rattle.tsp_format.specs.Steps.{step_of, steps_of, are_whole}
+use Rattle.tsp_format.specs.states.TreeSteps.{step_of, steps_of}
+use Rattle.tsp_format.specs.Steps.{are_whole}
 use Rattle.tsp_theory.specs.Costs.{IsSymmetric}
 use Rattle.tsp_theory.specs.Numbers.{IsFromTo, IsScale, IsBoundSized}
 use Rattle.tsp_branch.specs.declared.steps.Judged.{Judged}
 use Rattle.tsp_branch.specs.declared.steps.Judged.TheVariants as judged
 use Rattle.tsp_branch.specs.Combs.{Comb}
 use Rattle.tsp_branch.specs.Families.{IsFamily}
-use Rattle.tsp_branch.specs.Decisions.{Decision, DecideOnce, decided_number}
+use Rattle.tsp_branch.specs.declared.decision.Decision.{Decision}
+use Rattle.tsp_branch.specs.Decisions.{DecideOnce, decided_number}
 use Rattle.tsp_branch.specs.declared.steps.JudgedLeaf.{JudgedLeaf}
 use Rattle.tsp_branch.specs.declared.steps.JudgedLeaf.TheVariants as leaves
 use Rattle.tsp_branch.specs.Cases.{LeafNumbers, are_trees, leaves_of, next_stack}
@@ -100,7 +102,7 @@ own_step n steps index step other each lt is same =
     (subst (IsStepOf n) (get_or-map step_of steps index step (step_of step) lt) (each index (step_of step) (subst (λ (k : ℕ). index < k) (sym (length-map steps step_of)) lt)))
 
 module _ (Found : List Decision × LeafNumbers → Option ℤ → Type 0) (directed : Bool) (n count : ℕ) (given : List Decision) where
-  pub at_next : (all : List TreeStep) (numbers : List ℤ) (stack : List (ℕ × ℕ × Bool)) (lowest : Option ℤ)
+  pub at_next : (all : List TreeStep) (numbers : List ℤ) (stack : List Decision) (lowest : Option ℤ)
       (leaf index : ℕ) (step other : TreeStep) → index < length all → step ≡ get_or all index step → step ≡ other
       → IsAtStep Found directed n count given (steps_of all) numbers stack lowest leaf (steps_of (drop index all))
       → IsAtStep Found directed n count given (steps_of all) numbers stack lowest leaf (step_of other ∷ steps_of (drop (index + 1) all))
@@ -109,19 +111,19 @@ module _ (Found : List Decision × LeafNumbers → Option ℤ → Type 0) (direc
       (left_at all index step lt is ∙ ap (λ (s : TreeStep). s ∷ drop (index + 1) all) same) at
 
 module _ (Found : List Decision × LeafNumbers → Option ℤ → Type 0) (directed : Bool) (n count : ℕ) (given : List Decision) (all : List listed.Step) where
-  abbrev pub AtNext : List ℤ → List (ℕ × ℕ × Bool) → Option ℤ → ℕ → List listed.Step → Type 0
+  abbrev pub AtNext : List ℤ → List Decision → Option ℤ → ℕ → List listed.Step → Type 0
   AtNext numbers stack lowest leaf steps = IsAtStep Found directed n count given all numbers stack lowest leaf steps
 
-  abbrev JudgedAs : List ℤ → List (ℕ × ℕ × Bool) → List (ℕ × ℤ) → List ℤ → JudgedLeaf → Type 0
+  abbrev JudgedAs : List ℤ → List Decision → List (ℕ × ℤ) → List ℤ → JudgedLeaf → Type 0
   JudgedAs numbers stack changes new found = IsJudgedLeaf Found n count (stack_of stack ++ given) numbers changes new found
 
-  pub bad_here : (numbers : List ℤ) (stack : List (ℕ × ℕ × Bool)) (lowest : Option ℤ) (leaf : ℕ) (changes : List (ℕ × ℤ)) (rest : List listed.Step) (new : List ℤ) (found : JudgedLeaf)
+  pub bad_here : (numbers : List ℤ) (stack : List Decision) (lowest : Option ℤ) (leaf : ℕ) (changes : List (ℕ × ℤ)) (rest : List listed.Step) (new : List ℤ) (found : JudgedLeaf)
       → AtNext numbers stack lowest leaf (listed.Leaf changes ∷ rest) → JudgedAs numbers stack changes new found → found ≡ leaves.Bad
       → IsFirstBadLeaf n count all (leaf + 1)
   bad_here numbers stack lowest leaf changes rest new found at judged none =
       first_bad_by_place n count all (leaf + 1) (at.bad (leaf + 1) (inl (add-one leaf, subst (JudgedAs numbers stack changes new) none judged)))
 
-  pub last_found : (families : List Comb) (numbers : List ℤ) (stack : List (ℕ × ℕ × Bool)) (lowest : Option ℤ) (leaf : ℕ) (changes : List (ℕ × ℤ)) (rest : List listed.Step) (new : List ℤ)
+  pub last_found : (families : List Comb) (numbers : List ℤ) (stack : List Decision) (lowest : Option ℤ) (leaf : ℕ) (changes : List (ℕ × ℤ)) (rest : List listed.Step) (new : List ℤ)
       (found : JudgedLeaf) (own lower : Option ℤ)
       → AtNext numbers stack lowest leaf (listed.Leaf changes ∷ rest) → All (IsFamily n) families → are_trees 1 (listed_steps n count all) ≡ true
       → JudgedAs numbers stack changes new found → found ≡ leaves.Found own → IsLowest lowest own lower → next_stack (stack_of stack) ≡ None
@@ -131,7 +133,7 @@ module _ (Found : List Decision × LeafNumbers → Option ℤ → Type 0) (direc
       let is = subst (JudgedAs numbers stack changes new) some judged in
       at_last Found directed n count given all families numbers stack lowest leaf changes rest own lower at are whole is.0 is.3 low turned
 
-  pub more_found : (numbers : List ℤ) (stack : List (ℕ × ℕ × Bool)) (lowest : Option ℤ) (leaf : ℕ) (changes : List (ℕ × ℤ)) (rest : List listed.Step) (new : List ℤ) (next : List (ℕ × ℕ × Bool))
+  pub more_found : (numbers : List ℤ) (stack : List Decision) (lowest : Option ℤ) (leaf : ℕ) (changes : List (ℕ × ℤ)) (rest : List listed.Step) (new : List ℤ) (next : List Decision)
       (found : JudgedLeaf) (own lower : Option ℤ) → AtNext numbers stack lowest leaf (listed.Leaf changes ∷ rest)
       → JudgedAs numbers stack changes new found → found ≡ leaves.Found own → IsLowest lowest own lower → next_stack (stack_of stack) ≡ Some (stack_of next)
       → AtNext new next lower (leaf + 1) rest × AreSmall new
@@ -144,7 +146,7 @@ module _ (Found : List Decision × LeafNumbers → Option ℤ → Type 0) (direc
       )
 
   -- the case of a leaf decides each pair once
-  pub once_here : (numbers : List ℤ) (stack : List (ℕ × ℕ × Bool)) (lowest : Option ℤ) (leaf : ℕ) (changes : List (ℕ × ℤ)) (rest : List listed.Step)
+  pub once_here : (numbers : List ℤ) (stack : List Decision) (lowest : Option ℤ) (leaf : ℕ) (changes : List (ℕ × ℤ)) (rest : List listed.Step)
       → AtNext numbers stack lowest leaf (listed.Leaf changes ∷ rest) → DecideOnce directed (stack_of stack ++ given)
   once_here numbers stack lowest leaf changes rest at = at.once.0
 

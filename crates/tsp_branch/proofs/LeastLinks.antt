@@ -10,7 +10,7 @@ use Rattle.tsp_theory.specs.Length.{sum_int_by}
 use Rattle.tsp_theory.proofs.Sums.{sum_int_by-le}
 use Rattle.tsp_theory.proofs.CostLaws.{Laws}
 use Rattle.tsp_theory.proofs.Cycles.{has_node}
-use Rattle.tsp_branch.specs.Decisions.{Decision}
+use Rattle.tsp_branch.specs.declared.decision.Decision.{Decision}
 use Rattle.tsp_branch.specs.Rows.{IsLeastFrom, IsSumOfLeast, IsRowBound, LinksAreAllowed, NoLinkNoCycle, SumsAreBelowCycles}
 use Rattle.tsp_branch.proofs.Links.{has_link}
 

@@ -2,11 +2,11 @@
 use Rattle.std.proofs.Common.{◌≡◌, ℕ, ◌+◌, ◌<◌, ◌==◌, List, [], ◌∷◌, drop, length, get_or, inl, inr, refl, ap, ◌∙◌, arith, drop-cons, add-one}
 use Rattle.std.specs.Prelude.{ℤ, pos, neg_ℤ, ◌+ℤ◌}
 use Rattle.std.specs.Int.{w64, int_wrap}
-use Rattle.std.specs.Global.{Vec}
 use Rattle.std.proofs.lemmas.Bool.{cases_Bool}
 use Rattle.std.proofs.lemmas.Int.{ints, int_wrap_fits, SFits-int_wrap}
 use Rattle.tsp_branch.specs.states.Sets.{IsMoved, added}
 use Rattle.tsp_branch.specs.states.Combed.{plain, multipliers_at}
+use Rattle.tsp_branch.specs.declared.comb_set.CombSet.{CombSet}
 
 pub added_less : (number : ℤ) (nodes : List ℕ) (x : ℕ) → added (neg_ℤ number) nodes x ≡ neg_ℤ (added number nodes x)
 added_less number [] x = refl
@@ -17,9 +17,9 @@ added_less number (node ∷ nodes) x =
       | inr other ↦ rw other (omega (arith, ints, rest))
     ]
 
-pub multipliers_left : (multipliers : List ℤ) (sets : List (ℕ × Vec ℕ)) (index x : ℕ) (default : ℕ × Vec ℕ) → index < length sets
+pub multipliers_left : (multipliers : List ℤ) (sets : List CombSet) (index x : ℕ) (default : CombSet) → index < length sets
     → neg_ℤ (multipliers_at multipliers (plain (drop index sets)) x)
-    ≡ neg_ℤ (added (get_or multipliers (get_or sets index default).0 (pos 0)) (get_or sets index default).1.items x) +ℤ neg_ℤ (multipliers_at multipliers (plain (drop (index + 1) sets)) x)
+    ≡ neg_ℤ (added (get_or multipliers (get_or sets index default).comb (pos 0)) (get_or sets index default).nodes.items x) +ℤ neg_ℤ (multipliers_at multipliers (plain (drop (index + 1) sets)) x)
 multipliers_left multipliers sets index x default lt =
     let all = ap (λ ss. multipliers_at multipliers (plain ss) x) (drop-cons sets index default lt) in
     rw (add-one index) (omega (arith, ints, all))

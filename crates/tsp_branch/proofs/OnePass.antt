@@ -2,7 +2,7 @@
 use Rattle.std.proofs.Common.{◌≡◌, ℕ, zero, suc, ◌+◌, ◌-◌, ◌<◌, Bool, true, false, List, [], ◌∷◌, get_or, take, length, ℤ, inl, inr, subst, arith}
 use Rattle.std.specs.Prelude.{◌⊎◌}
 use Rattle.tsp_format.specs.Steps as listed
-use Rattle.tsp_branch.specs.Decisions.{Decision}
+use Rattle.tsp_branch.specs.declared.decision.Decision.{Decision}
 use Rattle.tsp_branch.specs.Cases.{decide}
 use Rattle.tsp_branch.specs.Listed.{all_grown, no_numbers_of, leaf_changes, after_leaves, IsGoodLeaf, AreGoodLeaves, IsFirstBadLeaf}
 use Rattle.tsp_branch.specs.Twice.{is_decided, Divided, divided, IsFirstTwice}

@@ -1,5 +1,5 @@
 -- Rows in which all decisions of a case have closed what they don't allow, and their least numbers.
-use Rattle.std.proofs.Common.{◌≡◌, ◌≢◌, ℕ, ◌+◌, ◌<◌, Bool, List, reverse, get_or, inl, inr, sym, ◌∙◌, subst, arith}
+use Rattle.std.proofs.Common.{◌≡◌, ◌≢◌, ℕ, ◌+◌, ◌<◌, List, reverse, get_or, inl, inr, sym, ◌∙◌, subst, arith}
 use Rattle.std.specs.Prelude.{ℤ, ◌↔◌, ◌≤ℤ◌, ◌<ℤ◌}
 use Rattle.std.specs.List.{All, Contains}
 use Rattle.std.proofs.lemmas.Bool.{cases_eq}
@@ -7,9 +7,9 @@ use Rattle.std.proofs.lemmas.Int.{ints}
 use Rattle.std.proofs.lemmas.List.Elements.{All-append, All-contains, Contains-get_or, Contains-append_left, Contains-append_right}
 use Rattle.std.proofs.lemmas.List.Sorted.{IsPermutation-reverse, IsPermutation-sym, Contains-permutation}
 use Rattle.tsp_format.specs.Cells.{IsNode}
-use Rattle.tsp_theory.specs.Growth.{least_at}
-use Rattle.tsp_branch.specs.Decisions.{Decision}
-use Rattle.tsp_branch.specs.states.Decided.{IsDecision, case_of, stack_of}
+use Rattle.tsp_theory.specs.states.Nearest.{least_at}
+use Rattle.tsp_branch.specs.declared.decision.Decision.{Decision}
+use Rattle.tsp_branch.specs.states.Decided.{IsDecision, stack_of}
 use Rattle.tsp_branch.specs.Rows.{Allows, IsAllowed, IsLeastFrom}
 use Rattle.tsp_branch.specs.states.Closed.{closed, IsShut, decisions_of, IsOpenRow}
 
@@ -24,16 +24,16 @@ turned P xs all = all_within P (reverse xs) xs (λ x c. Contains-permutation (re
 turned_back : (P : Decision → Type 0) (xs : List Decision) → All P (reverse xs) → All P xs
 turned_back P xs all = all_within P xs (reverse xs) (λ x c. Contains-permutation xs (reverse xs) x (IsPermutation-reverse xs) c) all
 
-both_parts : (P : Decision → Type 0) (given stack : List (ℕ × ℕ × Bool)) → (All P (case_of given) × All P (case_of stack)) ↔ All P (decisions_of given stack)
+both_parts : (P : Decision → Type 0) (given stack : List Decision) → (All P given × All P stack) ↔ All P (decisions_of given stack)
 both_parts P given stack = (
-  λ h. All-append P (stack_of stack) (case_of given) (turned P (case_of stack) h.1) h.0,
+  λ h. All-append P (stack_of stack) given (turned P stack h.1) h.0,
   λ all. (
-    all_within P (case_of given) (decisions_of given stack) (λ x c. Contains-append_right (stack_of stack) (case_of given) x c) all,
-    turned_back P (case_of stack) (all_within P (stack_of stack) (decisions_of given stack) (λ x c. Contains-append_left (stack_of stack) (case_of given) x c) all),
+    all_within P given (decisions_of given stack) (λ x c. Contains-append_right (stack_of stack) given x c) all,
+    turned_back P stack (all_within P (stack_of stack) (decisions_of given stack) (λ x c. Contains-append_left (stack_of stack) given x c) all),
   ),
 )
 
-pub ends_inside : (n long : ℕ) (decisions : List (ℕ × ℕ × Bool)) → long ≡ n + 1 → All (IsDecision n) decisions → All (λ decision. decision.1 < long) decisions
+pub ends_inside : (n long : ℕ) (decisions : List Decision) → long ≡ n + 1 → All (IsDecision n) decisions → All (λ decision. decision.pair.1 < long) decisions
 ends_inside n long decisions is all = λ k d lt. let node = (all k d lt).1 in omega (arith, is, node.1)
 
 -- ---- one value
@@ -52,18 +52,18 @@ allowed_if A B a c (inl one) to from = inl (to one.0, one.1)
 allowed_if A B a c (inr one) to from = inr (λ h. one.0 (from h), one.1)
 
 -- the node itself, the given decisions, and those on the stack
-pub opened : (n : ℕ) (w : ℕ → ℕ → ℤ) (given stack : List (ℕ × ℕ × Bool)) (from long : ℕ) (old own mid new : List ℤ) → n < long → ((x : ℕ) → IsNode n x → least_at old x ≡ w from x)
+pub opened : (n : ℕ) (w : ℕ → ℕ → ℤ) (given stack : List Decision) (from long : ℕ) (old own mid new : List ℤ) → n < long → ((x : ℕ) → IsNode n x → least_at old x ≡ w from x)
     → least_at own from ≡ closed → ((x : ℕ) → x ≢ from → least_at own x ≡ least_at old x)
-    → ((x : ℕ) → x < long → IsShut (All (Allows from x) (case_of given)) (least_at own x) (least_at mid x))
-    → ((x : ℕ) → x < long → IsShut (All (Allows from x) (case_of stack)) (least_at mid x) (least_at new x)) → IsOpenRow n w (decisions_of given stack) from new
+    → ((x : ℕ) → x < long → IsShut (All (Allows from x) given) (least_at own x) (least_at mid x))
+    → ((x : ℕ) → x < long → IsShut (All (Allows from x) stack) (least_at mid x) (least_at new x)) → IsOpenRow n w (decisions_of given stack) from new
 opened n w given stack from long old own mid new room read here others first second = λ x node.
     let inside : x < long = omega (arith, node.1, room) in
-    let both = two_turns (All (Allows from x) (case_of given)) (All (Allows from x) (case_of stack)) (least_at own x) (least_at mid x) (least_at new x) (first x inside) (second x inside) in
+    let both = two_turns (All (Allows from x) given) (All (Allows from x) stack) (least_at own x) (least_at mid x) (least_at new x) (first x inside) (second x inside) in
     let parts = both_parts (Allows from x) given stack in
     elim (cases_eq x from) [
       | inl same ↦ inr (λ h. h.other (sym same), stays_closed _ (least_at own x) (least_at new x) both (subst (λ (y : ℕ). least_at own y ≡ closed) (sym same) here))
-      | inr other ↦ allowed_if (All (Allows from x) (case_of given) × All (Allows from x) (case_of stack)) (IsAllowed n (decisions_of given stack) from x) (w from x) (least_at new x)
-          (subst (λ (z : ℤ). IsShut (All (Allows from x) (case_of given) × All (Allows from x) (case_of stack)) z (least_at new x)) (others x other ∙ read x node) both)
+      | inr other ↦ allowed_if (All (Allows from x) given × All (Allows from x) stack) (IsAllowed n (decisions_of given stack) from x) (w from x) (least_at new x)
+          (subst (λ (z : ℤ). IsShut (All (Allows from x) given × All (Allows from x) stack) z (least_at new x)) (others x other ∙ read x node) both)
           (λ h. record { node = node; other = λ same. other (sym same); each = parts.0 h }) (λ h. parts.1 h.each)
     ]
 

@@ -7,7 +7,7 @@ use Rattle.std.proofs.Math.Seq.{get_or-append_seam}
 use Rattle.std.proofs.lemmas.Bool.{cases_eq, eq-eqb, ne_eqb}
 use Rattle.std.proofs.lemmas.Int.{ints}
 use Rattle.std.proofs.lemmas.List.{get_or-set_same, get_or-set_other, get_or-take, get_or_default, get_or_append_left, length-take-le, length-set}
-use Rattle.tsp_theory.specs.Growth.{least_at}
+use Rattle.tsp_theory.specs.states.Nearest.{least_at}
 use Rattle.tsp_theory.proofs.Nearest.{most_64}
 use Rattle.tsp_branch.specs.states.Outside.{IsLower, IsLeastPlace}
 

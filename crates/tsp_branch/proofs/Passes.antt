@@ -8,7 +8,8 @@ use Rattle.std.proofs.lemmas.List.Elements.{recursion_from_All, All-from_recursi
 use Rattle.tsp_format.specs.Steps as listed
 use Rattle.tsp_branch.specs.Combs.{Comb}
 use Rattle.tsp_branch.specs.Families.{IsFamily}
-use Rattle.tsp_branch.specs.Decisions.{Decision, DecideOnce}
+use Rattle.tsp_branch.specs.declared.decision.Decision.{Decision}
+use Rattle.tsp_branch.specs.Decisions.{DecideOnce}
 use Rattle.tsp_branch.specs.Cases.{LeafNumbers, are_trees, decide, leaves_of, cases_of, later_cases, open_cases, next_stack}
 use Rattle.tsp_branch.specs.Certificate.{AreLeafNumbers, IsCertificate, IsAbove, IsLeastFound}
 use Rattle.tsp_branch.specs.states.Decided.{stack_of}
@@ -94,7 +95,7 @@ module _ (Found : List Decision × LeafNumbers → Option ℤ → Type 0) where
 
 -- ---- at a step
 
-abbrev open_leaves : ℕ → List ℤ → List Decision → List (ℕ × ℕ × Bool) → List listed.Step → List (List Decision × LeafNumbers)
+abbrev open_leaves : ℕ → List ℤ → List Decision → List Decision → List listed.Step → List (List Decision × LeafNumbers)
 open_leaves n numbers given stack steps = leaves_of (open_cases given (Some (stack_of stack))) (steps_from n numbers steps)
 
 none_left : (n count : ℕ) (numbers : List ℤ) (steps : List listed.Step) → are_trees 0 (steps_from n numbers steps) ≡ true → AreGoodFrom n count numbers steps
@@ -115,7 +116,7 @@ leaf_numbers n count numbers (listed.Leaf changes ∷ steps) (case ∷ cases) go
 
 -- what is left to do from a step on, and that it settles the whole
 pub record IsAtStep (Found : List Decision × LeafNumbers → Option ℤ → Type 0) (directed : Bool) (n count : ℕ) (given : List Decision) (all : List listed.Step) (numbers : List ℤ)
-    (stack : List (ℕ × ℕ × Bool)) (lowest : Option ℤ) (leaf : ℕ) (steps : List listed.Step) : Type 0 where
+    (stack : List Decision) (lowest : Option ℤ) (leaf : ℕ) (steps : List listed.Step) : Type 0 where
   pub least : (final : Option ℤ) → ComesTo Found lowest (open_leaves n numbers given stack steps) final → ComesTo Found None (leaves_of (given ∷ []) (listed_steps n count all)) final
   pub whole : are_trees (length (open_cases given (Some (stack_of stack)))) (steps_from n numbers steps) ≡ true
   pub good : AreGoodFrom n count numbers steps → AreGoodFrom n count (no_numbers_of n count) all
@@ -133,11 +134,11 @@ module _ (Found : List Decision × LeafNumbers → Option ℤ → Type 0) (direc
     once = recursion_from_All (DecideOnce directed) (cases_of (leaves_of (given ∷ []) (listed_steps n count all))) once;
   }
 
-  pub at_branch : (numbers : List ℤ) (stack : List (ℕ × ℕ × Bool)) (lowest : Option ℤ) (leaf a b : ℕ) (steps : List listed.Step)
+  pub at_branch : (numbers : List ℤ) (stack : List Decision) (lowest : Option ℤ) (leaf a b : ℕ) (steps : List listed.Step)
       → IsAtStep Found directed n count given all numbers stack lowest leaf (listed.Branch a b ∷ steps)
-      → IsAtStep Found directed n count given all numbers (stack ++ (a, b, true) ∷ []) lowest leaf steps
+      → IsAtStep Found directed n count given all numbers (stack ++ decide (a, b) true []) lowest leaf steps
   at_branch numbers stack lowest leaf a b steps h =
-      let same = sym (stack_more stack (a, b, true)) in
+      let same = sym (stack_more stack (record { pair = (a, b); taken = true })) in
       record {
         least = λ final. subst (λ (st : List Decision). ComesTo Found lowest (leaves_of (open_cases given (Some st)) (steps_from n numbers steps)) final
             → ComesTo Found None (leaves_of (given ∷ []) (listed_steps n count all)) final) same (h.least final);
@@ -147,7 +148,7 @@ module _ (Found : List Decision × LeafNumbers → Option ℤ → Type 0) (direc
         once = subst (λ (st : List Decision). AllByRecursion (DecideOnce directed) (cases_of (leaves_of (open_cases given (Some st)) (steps_from n numbers steps)))) same h.once;
       }
 
-  pub at_leaf : (numbers : List ℤ) (stack : List (ℕ × ℕ × Bool)) (lowest : Option ℤ) (leaf : ℕ) (changes : List (ℕ × ℤ)) (steps : List listed.Step) (next : List (ℕ × ℕ × Bool)) (own lower : Option ℤ)
+  pub at_leaf : (numbers : List ℤ) (stack : List Decision) (lowest : Option ℤ) (leaf : ℕ) (changes : List (ℕ × ℤ)) (steps : List listed.Step) (next : List Decision) (own lower : Option ℤ)
       → IsAtStep Found directed n count given all numbers stack lowest leaf (listed.Leaf changes ∷ steps)
       → IsGoodLeaf n count numbers changes → Found (stack_of stack ++ given, split_at n (all_grown changes numbers)) own → IsLowest lowest own lower
       → next_stack (stack_of stack) ≡ Some (stack_of next) → IsAtStep Found directed n count given all (all_grown changes numbers) next lower (suc leaf) steps
@@ -164,7 +165,7 @@ module _ (Found : List Decision × LeafNumbers → Option ℤ → Type 0) (direc
         once = subst (λ (cs : List (List Decision)). AllByRecursion (DecideOnce directed) (cases_of (leaves_of cs (steps_from n ns steps)))) later_are h.once.1;
       }
 
-  pub at_last : (families : List Comb) (numbers : List ℤ) (stack : List (ℕ × ℕ × Bool)) (lowest : Option ℤ) (leaf : ℕ) (changes : List (ℕ × ℤ)) (steps : List listed.Step) (own lower : Option ℤ)
+  pub at_last : (families : List Comb) (numbers : List ℤ) (stack : List Decision) (lowest : Option ℤ) (leaf : ℕ) (changes : List (ℕ × ℤ)) (steps : List listed.Step) (own lower : Option ℤ)
       → IsAtStep Found directed n count given all numbers stack lowest leaf (listed.Leaf changes ∷ steps)
       → All (IsFamily n) families → are_trees 1 (listed_steps n count all) ≡ true
       → IsGoodLeaf n count numbers changes → Found (stack_of stack ++ given, split_at n (all_grown changes numbers)) own → IsLowest lowest own lower

@@ -17,7 +17,7 @@ use Rattle.tsp_theory.proofs.Adjustments.{difference}
 use Rattle.tsp_theory.proofs.Duality.{scaled_length}
 use Rattle.tsp_branch.specs.Families.{IsFamily, CyclesCrossFamilies}
 use Rattle.tsp_branch.specs.LeafBound.{combed, crossings_of}
-use Rattle.tsp_branch.specs.Decisions.{Decision}
+use Rattle.tsp_branch.specs.declared.decision.Decision.{Decision}
 use Rattle.tsp_branch.specs.Rows.{IsLeastFrom, HasNoLink, IsSumOfLeast, IsRowBound, SumsAreBelowCycles}
 use Rattle.tsp_branch.specs.RowLeaves.{RowLeafBoundsBoundCycles}
 use Rattle.tsp_branch.proofs.LeafBounds.{combs_of_cycle}

@@ -1,7 +1,6 @@
 -- What the rows of code come to: each set takes its multiplier off the two nodes, and gives it back twice where it has both.
 use Rattle.std.proofs.Common.{◌≡◌, ◌≢◌, ℕ, zero, suc, ◌+◌, ◌<◌, ◌≤◌, ◌==◌, FitsSigned, Bool, true, false, not, List, [], ◌∷◌, ◌++◌, length, get_or, inl, inr, refl, ap, sym, subst, ◌∙◌, arith}
 use Rattle.std.specs.Prelude.{ℤ, pos, neg_ℤ, ◌+ℤ◌, ◌*ℤ◌, ◌||◌, if◌then◌else◌}
-use Rattle.std.specs.Global.{Vec}
 use Rattle.std.specs.List.{AllPairs, AllByRecursion}
 use Rattle.std.proofs.lemmas.Bool.{cases_Bool, cases_eq, both_ways, eq-eqb, ne_eqb}
 use Rattle.std.specs.Int.{w64, int_wrap}
@@ -11,10 +10,12 @@ use Rattle.std.proofs.Math.ListN.{set}
 use Rattle.std.proofs.lemmas.List.{get_or-set_same, get_or-set_other}
 use Rattle.tsp_format.specs.Cells.{IsNode}
 use Rattle.tsp_theory.specs.Length.{sum_int_by}
-use Rattle.tsp_theory.specs.Growth.{least_at}
+use Rattle.tsp_theory.specs.states.Nearest.{least_at}
 use Rattle.tsp_branch.specs.Combs.{has}
 use Rattle.tsp_branch.specs.states.Sets.{IsMoved, added, times, sets_with}
-use Rattle.tsp_branch.specs.states.Combed.{plain, multiplier_of, set_crossings, multipliers_at, twice_in, inside_both}
+use Rattle.tsp_branch.specs.states.Combed.{no_set, as_numbered, plain, multiplier_of, set_crossings, multipliers_at, twice_in, inside_both}
+use Rattle.tsp_branch.specs.CombsOfSets.{NumberedSet}
+use Rattle.tsp_branch.specs.declared.comb_set.CombSet.{CombSet}
 
 -- different nodes, by recursion
 abbrev Differ : List ℕ → Type 0
@@ -73,28 +74,28 @@ one_set false true m = omega (arith, ints)
 one_set false false m = omega (arith, ints)
 
 -- the list has the sets at these numbers, from a first one on
-abbrev pub AreFrom : List (ℕ × List ℕ) → ℕ → List (ℕ × Vec ℕ) → Type 0
-AreFrom all first sets = (k : ℕ) (set : ℕ × Vec ℕ) → k < length sets → set ≡ get_or sets k set → get_or all (first + k) (0, []) ≡ (set.0, set.1.items)
+abbrev pub AreFrom : List NumberedSet → ℕ → List CombSet → Type 0
+AreFrom all first sets = (k : ℕ) (set : CombSet) → k < length sets → set ≡ get_or sets k set → get_or all (first + k) no_set ≡ (as_numbered set)
 
-pub sets_come_to : (multipliers : List ℤ) (all : List (ℕ × List ℕ)) (first : ℕ) (sets : List (ℕ × Vec ℕ)) (i x : ℕ) → AreFrom all first sets → AllByRecursion
-    (λ set. (set.0 < length multipliers) × AllPairs (λ a b. a ≢ b) set.1.items) sets
+pub sets_come_to : (multipliers : List ℤ) (all : List NumberedSet) (first : ℕ) (sets : List CombSet) (i x : ℕ) → AreFrom all first sets → AllByRecursion
+    (λ set. (set.comb < length multipliers) × AllPairs (λ a b. a ≢ b) set.nodes.items) sets
     → (neg_ℤ (multipliers_at multipliers (plain sets) i) +ℤ neg_ℤ (multipliers_at multipliers (plain sets) x)) +ℤ inside_both multipliers all (sets_with first sets i) x
     ≡ neg_ℤ (set_crossings multipliers (plain sets) i x)
 sets_come_to multipliers all first [] i x are once = omega (arith, ints)
 sets_come_to multipliers all first (set ∷ sets) i x are once =
-    let m : ℤ = get_or multipliers set.0 (pos 0) in
-    let nodes : List ℕ = set.1.items in
+    let m : ℤ = get_or multipliers set.comb (pos 0) in
+    let nodes : List ℕ = set.nodes.items in
     let apart : Differ nodes = differ nodes once.0.1 in
-    let here : get_or all first (0, []) ≡ (set.0, nodes) = ap (λ k. get_or all k (0, [])) (omega arith) ∙ are 0 set (omega arith) refl in
+    let here : get_or all first no_set ≡ as_numbered set = ap (λ k. get_or all k no_set) (omega arith) ∙ are 0 set (omega arith) refl in
     let g : ℕ → ℤ = λ number. twice_in multipliers all number x in
-    let own : g first ≡ (if has nodes x then (pos 2 *ℤ m) else pos 0) = ap (λ (s : ℕ × List ℕ). added (pos 2 *ℤ multiplier_of multipliers s) s.1 x) here ∙ added_once (pos 2 *ℤ m) nodes x apart in
+    let own : g first ≡ (if has nodes x then (pos 2 *ℤ m) else pos 0) = ap (λ (s : NumberedSet). added (pos 2 *ℤ multiplier_of multipliers s) s.nodes x) here ∙ added_once (pos 2 *ℤ m) nodes x apart in
     let gained : sum_int_by g (times first nodes i) ≡ (if has nodes i then (if has nodes x then (pos 2 *ℤ m) else pos 0) else pos 0) =
     ap (sum_int_by g) (times_once first nodes i apart) ∙ one_or_none (has nodes i) first g (if has nodes x then (pos 2 *ℤ m) else pos 0) own in
     let split = both_sums g (times first nodes i) (sets_with (suc first) sets i) in
     let at_i = added_once m nodes i apart in
     let at_x = added_once m nodes x apart in
     let set_is = one_set (has nodes i) (has nodes x) m in
-    let rest = sets_come_to multipliers all (suc first) sets i x (λ k s lt is. ap (λ n. get_or all n (0, [])) (omega arith) ∙ are (suc k) s (omega (arith, lt)) is) once.1 in
+    let rest = sets_come_to multipliers all (suc first) sets i x (λ k s lt is. ap (λ n. get_or all n no_set) (omega arith) ∙ are (suc k) s (omega (arith, lt)) is) once.1 in
     put_together _ _ _ _ _ _ _ _ _ _ _ _ at_i at_x gained split set_is rest
   where
     one_or_none : (p : Bool) (number : ℕ) (g : ℕ → ℤ) (z : ℤ) → g number ≡ z → sum_int_by g (if p then (number ∷ []) else []) ≡ (if p then z else pos 0)
@@ -119,10 +120,10 @@ times_below bound number (node ∷ nodes) x h = elim (cases_Bool (node == x)) [
   | inr other ↦ rw other (times_below bound number nodes x h)
 ]
 
-pub sets_below : (bound first : ℕ) (sets : List (ℕ × Vec ℕ)) (x : ℕ) → first + length sets ≤ bound → AllByRecursion (λ n. n < bound) (sets_with first sets x)
+pub sets_below : (bound first : ℕ) (sets : List CombSet) (x : ℕ) → first + length sets ≤ bound → AllByRecursion (λ n. n < bound) (sets_with first sets x)
 sets_below bound first [] x h = tt
 sets_below bound first (set ∷ sets) x h =
-    both_all (λ n. n < bound) (times first set.1.items x) (sets_with (suc first) sets x) (times_below bound first set.1.items x (omega (arith, h)))
+    both_all (λ n. n < bound) (times first set.nodes.items x) (sets_with (suc first) sets x) (times_below bound first set.nodes.items x (omega (arith, h)))
     (sets_below bound (suc first) sets x (omega (arith, h)))
 
 -- ---- sums in 64 bits

@@ -7,8 +7,9 @@ use Rattle.std.proofs.Math.ListN.{set}
 use Rattle.std.proofs.lemmas.Bool.{cases_eq, eq-eqb, ne_eqb}
 use Rattle.std.proofs.lemmas.Int.{ints, int_wrap-add_left}
 use Rattle.std.proofs.lemmas.List.{append_assoc, get_or-set_same, get_or-set_other}
-use Rattle.tsp_theory.specs.Growth.{least_at}
+use Rattle.tsp_theory.specs.states.Nearest.{least_at}
 use Rattle.tsp_branch.specs.states.Sets.{IsMoved, added, times, sets_with}
+use Rattle.tsp_branch.specs.declared.comb_set.CombSet.{CombSet}
 
 pub moved_on : (a b old between new : ℤ) → IsMoved a old between → IsMoved b between new → IsMoved (a +ℤ b) old new
 moved_on a b old between new (inl same) (inl kept) = inl (kept.0 ∙ same.0, let one = same.1 in let two = kept.1 in omega (arith, ints, one, two))
@@ -58,11 +59,11 @@ listed_more number nodes index node lists slot new x a all lt node_is inside slo
     ]
 
 -- a set more
-pub set_listed : (number : ℕ) (sets : List (ℕ × Vec ℕ)) (x : ℕ) (own : ℕ × Vec ℕ) (old new all : List ℕ) → number < length sets → own ≡ get_or sets number own → new ≡ old ++ times number own.1.items x
+pub set_listed : (number : ℕ) (sets : List CombSet) (x : ℕ) (own : CombSet) (old new all : List ℕ) → number < length sets → own ≡ get_or sets number own → new ≡ old ++ times number own.nodes.items x
     → old ++ sets_with number (drop number sets) x ≡ all → new ++ sets_with (number + 1) (drop (number + 1) sets) x ≡ all
 set_listed number sets x own old new all lt own_is new_is said =
     let rest : List ℕ = sets_with (number + 1) (drop (number + 1) sets) x in
-    let left : sets_with number (drop number sets) x ≡ times number own.1.items x ++ rest =
+    let left : sets_with number (drop number sets) x ≡ times number own.nodes.items x ++ rest =
     ap (λ ss. sets_with number ss x) (drop-cons sets number own lt)
-    ∙ rw (add-one number) (ap (λ (s : ℕ × Vec ℕ). times number s.1.items x ++ sets_with (suc number) (drop (suc number) sets) x) (sym own_is)) in
-    ap (λ ys. ys ++ rest) new_is ∙ append_assoc old (times number own.1.items x) rest ∙ ap (λ ys. old ++ ys) (sym left) ∙ said
+    ∙ rw (add-one number) (ap (λ (s : CombSet). times number s.nodes.items x ++ sets_with (suc number) (drop (suc number) sets) x) (sym own_is)) in
+    ap (λ ys. ys ++ rest) new_is ∙ append_assoc old (times number own.nodes.items x) rest ∙ ap (λ ys. old ++ ys) (sym left) ∙ said

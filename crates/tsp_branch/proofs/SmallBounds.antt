@@ -14,7 +14,7 @@ use Rattle.tsp_theory.specs.Tree.{weight_of}
 use Rattle.tsp_theory.specs.Growth.{tree_of}
 use Rattle.tsp_branch.specs.Combs.{Comb, has, AreApart, IsComb, IsTooth}
 use Rattle.tsp_branch.specs.LeafBound.{leaf_weight, IsLeafBoundOf, IsLeafBound}
-use Rattle.tsp_branch.specs.Decisions.{Decision}
+use Rattle.tsp_branch.specs.declared.decision.Decision.{Decision}
 use Rattle.tsp_branch.specs.Cases.{LeafNumbers, Branch, Leaf}
 use Rattle.tsp_branch.specs.Families.{IsFamily}
 use Rattle.tsp_branch.specs.Certificate.{multiplied, AreLeafNumbers, IsFoundAt, IsAbove}

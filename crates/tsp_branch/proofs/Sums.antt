@@ -9,7 +9,7 @@ use Rattle.tsp_format.specs.Cells.{nodes_to}
 use Rattle.tsp_format.specs.Limits.{most_nodes}
 use Rattle.tsp_theory.specs.Length.{sum_int_by}
 use Rattle.tsp_theory.specs.Numbers.{IsFromTo, IsSumSized}
-use Rattle.tsp_branch.specs.Decisions.{Decision}
+use Rattle.tsp_branch.specs.declared.decision.Decision.{Decision}
 use Rattle.tsp_branch.specs.Rows.{IsLeastFrom, IsSumOfLeast}
 
 -- one number more at the end of a run

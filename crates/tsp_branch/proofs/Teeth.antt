@@ -1,8 +1,6 @@
 -- Teeth of a handle, set by set, and that they are those of a comb.
-use Rattle.std.proofs.Common.{◌≡◌, ◌∙◌, ℕ, zero, suc, ◌+◌, ◌*◌, ◌<◌, ◌≤◌, ◌==◌, ◌||◌, Bool, true, false, List, [], ◌∷◌, map, drop, length, get_or}
-use Rattle.std.proofs.Common.{inl, inr, refl, ap, sym, subst, arith, drop-cons, add-one}
+use Rattle.std.proofs.Common.{◌≡◌, ◌∙◌, ℕ, zero, suc, ◌+◌, ◌*◌, ◌<◌, ◌≤◌, ◌==◌, ◌||◌, Bool, true, false, List, [], ◌∷◌, map, drop, length, get_or, inl, inr, refl, ap, sym, subst, arith, drop-cons, add-one}
 use Rattle.std.specs.Prelude.{◌↔◌}
-use Rattle.std.specs.Global.{Vec}
 use Rattle.std.specs.List.{All, Any, AllPairs, AllByRecursion}
 use Rattle.std.proofs.Math.Path.{fun_ext}
 use Rattle.std.proofs.lemmas.Bool.{both_ways, cases_Bool, eqb-true, eq-eqb, or_parts, or_from}
@@ -15,6 +13,7 @@ use Rattle.tsp_branch.specs.Combs.{IsTooth, AreApart, IsComb, has, comb_of}
 use Rattle.tsp_branch.specs.Families.{IsLoneSet, IsFamily}
 use Rattle.tsp_branch.specs.GoodCombs.{HasEachOnce, IsGoodComb, IsToothCount, lists_of}
 use Rattle.tsp_branch.specs.states.Marked.{AreNew, AreTeeth}
+use Rattle.tsp_branch.specs.declared.comb_set.CombSet.{CombSet}
 
 -- ---- one tooth
 
@@ -56,10 +55,10 @@ tooth_outside n handle nodes is = any_had (λ node. handle node ≡ false) nodes
 
 -- ---- tooth by tooth
 
-pub sets_left : (sets : List (ℕ × Vec ℕ)) (index : ℕ) (set : ℕ × Vec ℕ) → index < length sets → set ≡ get_or sets index set
-    → lists_of (drop index sets) ≡ set.1.items ∷ lists_of (drop (index + 1) sets)
+pub sets_left : (sets : List CombSet) (index : ℕ) (set : CombSet) → index < length sets → set ≡ get_or sets index set
+    → lists_of (drop index sets) ≡ set.nodes.items ∷ lists_of (drop (index + 1) sets)
 sets_left sets index set lt is = ap lists_of (drop-cons sets index set lt ∙ ap (λ (k : ℕ). get_or sets index set ∷ drop k sets) (sym (add-one index)))
-    ∙ ap (λ (s : ℕ × Vec ℕ). s.1.items ∷ lists_of (drop (index + 1) sets)) (sym is)
+    ∙ ap (λ (s : CombSet). s.nodes.items ∷ lists_of (drop (index + 1) sets)) (sym is)
 
 pub next_teeth : (n : ℕ) (handle used new : ℕ → Bool) (tooth : List ℕ) (teeth : List (List ℕ)) → AreNew used tooth → IsTooth n handle (has tooth)
     → ((x : ℕ) → new x ≡ (used x || has tooth x)) → AreTeeth n handle new teeth ↔ AreTeeth n handle used (tooth ∷ teeth)
@@ -70,13 +69,13 @@ next_teeth n handle used new tooth teeth fresh is more =
     )
 
 -- at the tooth that is next
-module _ (n : ℕ) (handle used start : ℕ → Bool) (teeth : List (ℕ × Vec ℕ)) (index : ℕ) (tooth : ℕ × Vec ℕ) (nodes : List ℕ)
-    (lt : index < length teeth) (is : tooth ≡ get_or teeth index tooth) (read : nodes ≡ tooth.1.items) where
+module _ (n : ℕ) (handle used start : ℕ → Bool) (teeth : List CombSet) (index : ℕ) (tooth : CombSet) (nodes : List ℕ)
+    (lt : index < length teeth) (is : tooth ≡ get_or teeth index tooth) (read : nodes ≡ tooth.nodes.items) where
   left : lists_of (drop index teeth) ≡ nodes ∷ lists_of (drop (index + 1) teeth)
   left = sets_left teeth index tooth lt is ∙ ap (λ (ns : List ℕ). ns ∷ lists_of (drop (index + 1) teeth)) (sym read)
 
-  pub nodes_here : All (λ set. All (IsNode n) set.1.items) teeth → All (IsNode n) nodes
-  nodes_here are = subst (All (IsNode n)) (sym read) (subst (λ (set : ℕ × Vec ℕ). All (IsNode n) set.1.items) (sym is) (are index tooth lt))
+  pub nodes_here : All (λ set. All (IsNode n) set.nodes.items) teeth → All (IsNode n) nodes
+  nodes_here are = subst (All (IsNode n)) (sym read) (subst (λ (set : CombSet). All (IsNode n) set.nodes.items) (sym is) (are index tooth lt))
 
   pub teeth_on : (new : ℕ → Bool) → AreTeeth n handle used (lists_of (drop index teeth)) ↔ AreTeeth n handle start (lists_of teeth) → AreNew used nodes → IsTooth n handle (has nodes)
       → ((x : ℕ) → new x ≡ (used x || has nodes x)) → AreTeeth n handle new (lists_of (drop (index + 1) teeth)) ↔ AreTeeth n handle start (lists_of teeth)
@@ -195,26 +194,26 @@ comb_teeth n used marked handle teeth some none same h = teeth_apart n marked us
 }))
 
 -- by its sets
-module _ (n : ℕ) (sets : List (ℕ × Vec ℕ)) (handle : ℕ × Vec ℕ) (teeth : List (ℕ × Vec ℕ)) (nodes : List ℕ) (same : sets ≡ handle ∷ teeth) (read : nodes ≡ handle.1.items) where
+module _ (n : ℕ) (sets : List CombSet) (handle : CombSet) (teeth : List CombSet) (nodes : List ℕ) (same : sets ≡ handle ∷ teeth) (read : nodes ≡ handle.nodes.items) where
   told : lists_of sets ≡ nodes ∷ lists_of teeth
   told = ap lists_of same ∙ ap (λ (ns : List ℕ). ns ∷ lists_of teeth) (sym read)
 
-  both : (P : ℕ → Type 0) → All (λ set. All P set.1.items) sets → All (λ set. All P set.1.items) (handle ∷ teeth)
-  both P h = subst (All (λ (set : ℕ × Vec ℕ). All P set.1.items)) same h
+  both : (P : ℕ → Type 0) → All (λ set. All P set.nodes.items) sets → All (λ set. All P set.nodes.items) (handle ∷ teeth)
+  both P h = subst (All (λ (set : CombSet). All P set.nodes.items)) same h
 
-  pub rest_all : (P : ℕ → Type 0) → All (λ set. All P set.1.items) sets → All (λ set. All P set.1.items) teeth
-  rest_all P h = All-tail (λ (set : ℕ × Vec ℕ). All P set.1.items) handle teeth (both P h)
+  pub rest_all : (P : ℕ → Type 0) → All (λ set. All P set.nodes.items) sets → All (λ set. All P set.nodes.items) teeth
+  rest_all P h = All-tail (λ (set : CombSet). All P set.nodes.items) handle teeth (both P h)
 
-  pub first_all : (P : ℕ → Type 0) → All (λ set. All P set.1.items) sets → All P nodes
-  first_all P h = subst (All P) (sym read) (All-head (λ (set : ℕ × Vec ℕ). All P set.1.items) handle teeth (both P h))
+  pub first_all : (P : ℕ → Type 0) → All (λ set. All P set.nodes.items) sets → All P nodes
+  first_all P h = subst (All P) (sym read) (All-head (λ (set : CombSet). All P set.nodes.items) handle teeth (both P h))
 
   long_teeth : 1 ≤ length teeth → 1 ≤ length (lists_of teeth)
-  long_teeth some = omega (arith, some, length-map teeth (λ set. set.1.items))
+  long_teeth some = omega (arith, some, length-map teeth (λ set. set.nodes.items))
 
   pub counted : 1 ≤ length teeth → IsGoodComb n (lists_of sets) → IsToothCount (length teeth)
   counted some h =
       let comb = comb_of_family n nodes (lists_of teeth) (long_teeth some) (subst (IsGoodComb n) told h).family in
-      (comb.half, comb.some, sym (length-map (lists_of teeth) has ∙ length-map teeth (λ set. set.1.items)) ∙ comb.odd)
+      (comb.half, comb.some, sym (length-map (lists_of teeth) has ∙ length-map teeth (λ set. set.nodes.items)) ∙ comb.odd)
 
   pub handle_new : (old : ℕ → Bool) → ((x : ℕ) → old x ≡ false) → IsGoodComb n (lists_of sets) → AreNew old nodes
   handle_new old none h = record {
@@ -228,7 +227,7 @@ module _ (n : ℕ) (sets : List (ℕ × Vec ℕ)) (handle : ℕ × Vec ℕ) (tee
 
     pub comb_found : IsToothCount (length teeth) → AreNew old nodes → AreTeeth n marked used (lists_of teeth) → IsGoodComb n (lists_of sets)
     comb_found count new h =
-        let long : length (lists_of teeth) ≡ length teeth = length-map teeth (λ set. set.1.items) in
+        let long : length (lists_of teeth) ≡ length teeth = length-map teeth (λ set. set.nodes.items) in
         subst (IsGoodComb n) (sym told) (good_comb n count.0 used marked nodes (lists_of teeth) (long ∙ count.2) count.1 new.once own h)
 
     pub teeth_found : 1 ≤ length teeth → ((x : ℕ) → used x ≡ false) → IsGoodComb n (lists_of sets) → AreTeeth n marked used (lists_of teeth)
@@ -241,7 +240,7 @@ module _ (n : ℕ) (sets : List (ℕ × Vec ℕ)) (handle : ℕ × Vec ℕ) (tee
     -- without teeth
     module _ (none_left : teeth ≡ []) where
       alone : lists_of sets ≡ nodes ∷ []
-      alone = told ∙ ap (λ (ts : List (ℕ × Vec ℕ)). nodes ∷ lists_of ts) none_left
+      alone = told ∙ ap (λ (ts : List CombSet). nodes ∷ lists_of ts) none_left
 
       pub lone_found : AreNew old nodes → IsLoneSet n (comb_of nodes []) → IsGoodComb n (lists_of sets)
       lone_found new lone = subst (IsGoodComb n) (sym alone) (record { family = inl lone; once = All-cons HasEachOnce nodes [] new.once (All-nil HasEachOnce) })
@@ -249,7 +248,7 @@ module _ (n : ℕ) (sets : List (ℕ × Vec ℕ)) (handle : ℕ × Vec ℕ) (tee
       pub lone_in : IsGoodComb n (lists_of sets) → IsLoneSet n (comb_of nodes [])
       lone_in h = lone_of_family n nodes (subst (IsGoodComb n) alone h).family
 
-pub no_sets : (sets : List (ℕ × Vec ℕ)) → length sets ≡ 0 → sets ≡ []
+pub no_sets : (sets : List CombSet) → length sets ≡ 0 → sets ≡ []
 no_sets [] none = refl
 no_sets (set ∷ sets) none = absurd (omega (arith, none))
 

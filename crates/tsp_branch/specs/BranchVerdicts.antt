@@ -7,14 +7,14 @@ use Rattle.tsp_branch.specs.declared.steps.Judged.TheVariants as judged
 use Rattle.tsp_branch.specs.declared.steps.BranchVerdict.{BranchVerdict}
 use Rattle.tsp_branch.specs.declared.steps.BranchVerdict.TheVariants as verdict
 use Rattle.tsp_branch.specs.Certificate.{BoundsIfAny}
-use Rattle.tsp_branch.specs.CombsOfSets.{combs_of_sets}
-use Rattle.tsp_branch.specs.Decisions.{Decision}
+use Rattle.tsp_branch.specs.CombsOfSets.{NumberedSet, combs_of_sets}
+use Rattle.tsp_branch.specs.declared.decision.Decision.{Decision}
 use Rattle.tsp_branch.specs.GoodCombs.{AreCombsJudged}
 use Rattle.tsp_branch.specs.Listed.{IsJudged}
 use Rattle.tsp_branch.specs.Twice.{AreBranchesJudged}
 
 -- the judgement on the leaves, where the sets are those of families and no branch comes twice
-pub record AreLeavesJudged (directed : Bool) (n : ℕ) (cost : ℕ → ℕ → ℤ) (scale : ℤ) (combs : ℕ) (sets : List (ℕ × List ℕ))
+pub record AreLeavesJudged (directed : Bool) (n : ℕ) (cost : ℕ → ℕ → ℤ) (scale : ℤ) (combs : ℕ) (sets : List NumberedSet)
     (given : List Decision) (steps : List listed.Step) (found : Judged) : Type 0 where
   pub are_combs : AreCombsJudged n combs sets None
   pub are_once : AreBranchesJudged directed given steps None
@@ -22,7 +22,7 @@ pub record AreLeavesJudged (directed : Bool) (n : ℕ) (cost : ℕ → ℕ → �
 
 -- the first bad family; where all are good, the first branch that comes twice; where none does, the first bad leaf; and where all
 -- leaves are good, the bound
-abbrev pub IsBranchVerdict : Bool → ℕ → (ℕ → ℕ → ℤ) → ℤ → ℕ → List (ℕ × List ℕ) → List Decision → List listed.Step → BranchVerdict
+abbrev pub IsBranchVerdict : Bool → ℕ → (ℕ → ℕ → ℤ) → ℤ → ℕ → List NumberedSet → List Decision → List listed.Step → BranchVerdict
     → Type 0
 IsBranchVerdict directed n cost scale combs sets given steps (verdict.Bound found) =
     AreLeavesJudged directed n cost scale combs sets given steps (judged.Bound found)

@@ -8,7 +8,8 @@ use Rattle.tsp_theory.specs.Tour.{IsTour}
 use Rattle.tsp_theory.specs.Numbers.{IsScale}
 use Rattle.tsp_branch.specs.Combs.{Comb}
 use Rattle.tsp_branch.specs.Families.{IsFamily}
-use Rattle.tsp_branch.specs.Decisions.{Decision, take_pairs, on_taken, on_avoided}
+use Rattle.tsp_branch.specs.declared.decision.Decision.{Decision}
+use Rattle.tsp_branch.specs.Decisions.{take_pairs, on_taken, on_avoided}
 use Rattle.tsp_branch.specs.LeafBound.{IsLeafBound}
 use Rattle.tsp_branch.specs.Rows.{HasNoLink}
 use Rattle.tsp_branch.specs.RowLeaves.{IsRowLeafBound}

@@ -7,11 +7,7 @@ use Rattle.tsp_theory.specs.Length.{length_of}
 use Rattle.tsp_theory.specs.Tour.{IsTour, Uses}
 use Rattle.tsp_theory.specs.Numbers.{IsScale}
 use Rattle.tsp_theory.specs.Adjusted.{pair_of, is_same_pair, IsAdjustedBound}
-
--- two nodes, and whether a cycle is to use them as neighbours
-pub record Decision : Type 0 where
-  pub pair : ℕ × ℕ
-  pub taken : Bool
+use Rattle.tsp_branch.specs.declared.decision.Decision.{Decision}
 
 -- directed: from the first node to the second; else in either direction
 abbrev pub KeepsPair : Bool → List ℕ → Bool → ℕ × ℕ → Type 0

@@ -2,7 +2,8 @@
 use Rattle.std.specs.Prelude.{◌≡◌, ℕ, ◌-◌, true, false, List, [], ◌∷◌, Some, replicate, min, max, slice_index, slice_index_or, ℤ, pos}
 use Rattle.tsp_theory.specs.Length.{length_of}
 use Rattle.tsp_branch.specs.Combs.{Comb, comb_of, crossings}
-use Rattle.tsp_branch.specs.Decisions.{Decision, on_taken, on_avoided}
+use Rattle.tsp_branch.specs.declared.decision.Decision.{Decision}
+use Rattle.tsp_branch.specs.Decisions.{on_taken, on_avoided}
 use Rattle.tsp_branch.specs.LeafBound.{leaf_weight}
 use Rattle.tsp_branch.specs.Cases.{LeafNumbers, CaseStep, Leaf, are_trees, leaves_of, cases_of}
 use Rattle.tsp_branch.specs.Certificate.{multiplied, IsCertificate, IsCertificateBound}

@@ -1,9 +1,9 @@
 -- Which comb is bad: families are given by sets of nodes, and these need not be those of a lone set or a comb.
 use Rattle.std.specs.Prelude.{◌≡◌, ◌≢◌, ℕ, ◌+◌, ◌*◌, ◌≤◌, ◌<◌, List, map, Option, None, Some}
-use Rattle.std.specs.Global.{Vec}
 use Rattle.std.specs.List.{All, AllPairs}
 use Rattle.tsp_branch.specs.Families.{IsFamily}
-use Rattle.tsp_branch.specs.CombsOfSets.{comb_with, of_comb, combs_of_sets}
+use Rattle.tsp_branch.specs.CombsOfSets.{NumberedSet, comb_with, of_comb, combs_of_sets}
+use Rattle.tsp_branch.specs.declared.comb_set.CombSet.{CombSet}
 
 -- no node is twice in a set
 abbrev pub HasEachOnce : List ℕ → Type 0
@@ -19,22 +19,22 @@ abbrev pub IsToothCount : ℕ → Type 0
 IsToothCount count = (half : ℕ) × (1 ≤ half) × (count ≡ 2 * half + 1)
 
 -- the first comb that isn't good, counted from 1
-pub record IsFirstBadComb (n combs : ℕ) (sets : List (ℕ × List ℕ)) (first : ℕ) : Type 0 where
+pub record IsFirstBadComb (n combs : ℕ) (sets : List NumberedSet) (first : ℕ) : Type 0 where
   pub least : 1 ≤ first
   pub most : first ≤ combs
   pub before : (comb : ℕ) → comb + 1 < first → IsGoodComb n (of_comb comb sets)
   pub bad : (comb : ℕ) → comb + 1 ≡ first → IsGoodComb n (of_comb comb sets) → ⊥
 
 -- Where none is bad, the sets are those of families, each with its nodes once; else the first bad one is reported.
-abbrev pub AreCombsJudged : ℕ → ℕ → List (ℕ × List ℕ) → Option ℕ → Type 0
+abbrev pub AreCombsJudged : ℕ → ℕ → List NumberedSet → Option ℕ → Type 0
 AreCombsJudged n combs sets None = ((comb : ℕ) → comb < combs → IsGoodComb n (of_comb comb sets))
-    × All (IsFamily n) (combs_of_sets combs sets) × All (λ set. HasEachOnce set.1) sets
+    × All (IsFamily n) (combs_of_sets combs sets) × All (λ set. HasEachOnce set.nodes) sets
 AreCombsJudged n combs sets (Some first) = IsFirstBadComb n combs sets first
 
 -- the sets are listed comb by comb
-abbrev pub AreInOrder : List (ℕ × Vec ℕ) → Type 0
-AreInOrder sets = AllPairs (λ set later. set.0 ≤ later.0) sets
+abbrev pub AreInOrder : List CombSet → Type 0
+AreInOrder sets = AllPairs (λ set later. set.comb ≤ later.comb) sets
 
 -- the nodes of sets
-abbrev pub lists_of : List (ℕ × Vec ℕ) → List (List ℕ)
-lists_of sets = map (λ set. set.1.items) sets
+abbrev pub lists_of : List CombSet → List (List ℕ)
+lists_of sets = map (λ set. set.nodes.items) sets

@@ -7,7 +7,8 @@ use Rattle.tsp_theory.specs.Numbers.{entry, IsBoundSized}
 use Rattle.tsp_branch.specs.declared.steps.Judged.{Judged}
 use Rattle.tsp_branch.specs.declared.steps.Judged.TheVariants as judged
 use Rattle.tsp_branch.specs.Combs.{Comb}
-use Rattle.tsp_branch.specs.Decisions.{Decision, DecideOnce, decided_number}
+use Rattle.tsp_branch.specs.declared.decision.Decision.{Decision}
+use Rattle.tsp_branch.specs.Decisions.{DecideOnce, decided_number}
 use Rattle.tsp_branch.specs.Cases.{LeafNumbers, CaseStep, Branch, Leaf, are_trees, leaves_of, cases_of}
 use Rattle.tsp_branch.specs.Certificate.{IsCertificate, IsCertificateBound, BoundsIfAny}
 use Rattle.tsp_branch.specs.Judged.{AreGoodNumbers}

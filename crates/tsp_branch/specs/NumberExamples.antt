@@ -1,6 +1,6 @@
 -- The numbers of two leaves, on which the definitions are evaluated. There are three nodes and a comb, whose number is the
 -- fourth.
-use Rattle.std.specs.Prelude.{ℕ, List, [], ◌∷◌, ℤ, pos, negsuc}
+use Rattle.std.specs.Prelude.{List, [], ◌∷◌, ℤ, pos, negsuc}
 use Rattle.tsp_format.specs.Steps as listed
 use Rattle.tsp_branch.specs.Cases.{LeafNumbers, CaseStep, Branch, Leaf}
 use Rattle.tsp_branch.specs.Judged.{as_leaf_numbers}

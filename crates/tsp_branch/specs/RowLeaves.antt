@@ -4,7 +4,7 @@ use Rattle.std.specs.Prelude.{◌≡◌, ℕ, ◌≤◌, true, List, length, ℤ
 use Rattle.tsp_theory.specs.Numbers.{IsScale, total}
 use Rattle.tsp_theory.specs.NodeBound.{weight_between}
 use Rattle.tsp_branch.specs.Combs.{Comb}
-use Rattle.tsp_branch.specs.Decisions.{Decision}
+use Rattle.tsp_branch.specs.declared.decision.Decision.{Decision}
 use Rattle.tsp_branch.specs.LeafBound.{AreMultiplied, combed, least_of}
 use Rattle.tsp_branch.specs.Cases.{BoundsCase}
 use Rattle.tsp_branch.specs.Rows.{IsRowBound}

@@ -5,7 +5,8 @@ use Rattle.tsp_format.specs.Cells.{IsNode, nodes_to}
 use Rattle.tsp_theory.specs.Cycle.{IsCycle, Follows}
 use Rattle.tsp_theory.specs.Length.{sum_int_by, length_of}
 use Rattle.tsp_theory.specs.Numbers.{IsLeastBound}
-use Rattle.tsp_branch.specs.Decisions.{Decision, KeepsAll}
+use Rattle.tsp_branch.specs.declared.decision.Decision.{Decision}
+use Rattle.tsp_branch.specs.Decisions.{KeepsAll}
 use Rattle.tsp_branch.specs.Cases.{HasNoCycle}
 
 -- a pair allows a link: a taken pair, if the link starts at its first node exactly where it ends at its second one; an avoided

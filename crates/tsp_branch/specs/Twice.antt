@@ -2,7 +2,8 @@
 use Rattle.std.specs.Prelude.{◌≡◌, ℕ, ◌-◌, ◌<◌, ◌≤◌, Bool, true, false, List, [], ◌∷◌, length, slice_index_or, Option, None, Some}
 use Rattle.std.specs.List.{All, list_any}
 use Rattle.tsp_format.specs.Steps as listed
-use Rattle.tsp_branch.specs.Decisions.{Decision, is_same, DecideOnce}
+use Rattle.tsp_branch.specs.declared.decision.Decision.{Decision}
+use Rattle.tsp_branch.specs.Decisions.{is_same, DecideOnce}
 use Rattle.tsp_branch.specs.Cases.{decide, leaves_of, cases_of}
 use Rattle.tsp_branch.specs.Listed.{listed_steps}
 

@@ -1,7 +1,7 @@
 -- Small combs that are bad, and small trees with a branch that comes twice.
 use Rattle.std.specs.Prelude.{ℕ, Bool, List, [], ◌∷◌, ℤ}
 use Rattle.tsp_format.specs.Steps as listed
-use Rattle.tsp_branch.specs.Decisions.{Decision}
+use Rattle.tsp_branch.specs.declared.decision.Decision.{Decision}
 use Rattle.tsp_branch.specs.GoodCombs.{IsGoodComb}
 use Rattle.tsp_branch.specs.Twice.{IsFirstTwice}
 

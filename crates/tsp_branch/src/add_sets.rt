@@ -3,21 +3,17 @@
 ghost use Rattle.std.specs.Prelude.{◌≡◌, ◌<◌, ◌+ℤ◌, ℕ, length};
 ghost use Rattle.std.specs.Int.{w64, int_wrap};
 ghost use Rattle.std.specs.List.{All};
-ghost use Rattle.tsp_theory.specs.Growth.{least_at};
+ghost use Rattle.tsp_theory.specs.states.Nearest.{least_at};
 ghost use Rattle.tsp_branch.specs.states.Sets.{IsMoved, added};
 ghost use Rattle.tsp_branch.specs.states.Combed.{plain, AreSmallMultipliers, AreMultipliedSets, inside_both};
 
+use crate::comb_set::CombSet;
 use crate::sets::add_to_nodes;
 
 /// Adds to a row, at each node of the sets with these numbers, the set's multiplier twice.
-pub(crate) fn add_sets(
-    row: &mut [i64],
-    numbers: &[u32],
-    sets: &[(u32, Vec<u32>)],
-    multipliers: &[i64],
-)
+pub(crate) fn add_sets(row: &mut [i64], numbers: &[u32], sets: &[CombSet], multipliers: &[i64])
     requires numbers { All (λ number. number < length sets.now) numbers.now }
-    requires nodes { All (λ set. All (λ node. node < length row.old) set.1.items) sets.now }
+    requires nodes { All (λ set. All (λ node. node < length row.old) set.nodes.items) sets.now }
     requires sets { AreMultipliedSets multipliers.now sets.now }
     requires small { AreSmallMultipliers multipliers.now }
     ensures { (x : ℕ) → IsMoved (inside_both multipliers.now (plain sets.now) numbers.now x)
@@ -25,7 +21,7 @@ pub(crate) fn add_sets(
 {
     'numbers: for number in numbers {
         let set = &sets[*number as usize];
-        add_where_any(row, &set.1, 2 * multipliers[set.0 as usize]);
+        add_where_any(row, &set.nodes, 2 * multipliers[set.comb as usize]);
     }
 }
 

@@ -2,7 +2,7 @@
 
 ghost use Rattle.std.specs.Prelude.{◌≡◌, ◌≢◌, ◌≤◌, ◌<◌, ◌^◌, ◌++◌, false, length, IfOk};
 ghost use Rattle.std.specs.List.{All, AllPairs};
-ghost use Rattle.tsp_format.specs.Steps.{steps_of};
+ghost use Rattle.tsp_format.specs.states.TreeSteps.{steps_of};
 ghost use Rattle.tsp_theory.specs.Costs.{IsSymmetric};
 ghost use Rattle.tsp_theory.specs.Numbers.{IsScale};
 ghost use Rattle.tsp_branch.specs.Families.{IsFamily};
@@ -11,11 +11,13 @@ ghost use Rattle.tsp_branch.specs.states.Sets.{AreSetsOf};
 ghost use Rattle.tsp_branch.specs.states.Combed.{plain};
 ghost use Rattle.tsp_branch.specs.CombsOfSets.{combs_of_sets};
 ghost use Rattle.tsp_branch.specs.Certificate.{IsFoundAt};
-ghost use Rattle.tsp_branch.specs.states.Decided.{IsDecision, case_of, stack_of};
+ghost use Rattle.tsp_branch.specs.states.Decided.{IsDecision, stack_of};
 ghost use Rattle.tsp_branch.specs.Listed.{no_numbers_of, listed_steps, AreSteps, IsJudged, BoundsCycles, IsJudgedSized, IsLowest};
 ghost use Rattle.tsp_branch.specs.states.Rooms.{IsRoom, AreSmall, IsJudgedLeaf, IsSizedLeaf};
 
+use crate::comb_set::CombSet;
 use crate::counts::set_counts;
+use crate::decision::Decision;
 use crate::judge::judge;
 use crate::laws::certificates_bound_cycles;
 use crate::numbers::add_differences;
@@ -55,8 +57,8 @@ pub fn branch_bound<C: Costs>(
     directed: bool,
     scale: i64,
     combs: usize,
-    sets: &[(u32, Vec<u32>)],
-    given: &[(u32, u32, bool)],
+    sets: &[CombSet],
+    given: &[Decision],
     steps: &[TreeStep],
 ) -> Result<Judged, AllocError>
     requires some { 3 ≤ C.nodes costs.now }
@@ -67,14 +69,14 @@ pub fn branch_bound<C: Costs>(
     requires few_given { length given.now < 2 ^ 32 }
     requires few_steps { length steps.now < 2 ^ 32 }
     requires nodes { AreSetsOf (C.nodes costs.now) sets.now }
-    requires of_combs { All (λ set. (set.0 < combs) × AllPairs (λ a b. a ≢ b) set.1.items) sets.now }
+    requires of_combs { All (λ set. (set.comb < combs) × AllPairs (λ a b. a ≢ b) set.nodes.items) sets.now }
     requires are_families { All (IsFamily (C.nodes costs.now)) (combs_of_sets combs (plain sets.now)) }
     requires given_are { All (IsDecision (C.nodes costs.now)) given.now }
-    requires steps { AreSteps directed (C.nodes costs.now) (case_of given.now) (steps_of steps.now)
+    requires steps { AreSteps directed (C.nodes costs.now) given.now (steps_of steps.now)
         (listed_steps (C.nodes costs.now) combs (steps_of steps.now)) }
     ensures judged { IfOk result (IsJudged directed (C.nodes costs.now) (C.at costs.now) scale
-        (combs_of_sets combs (plain sets.now)) combs (case_of given.now) (steps_of steps.now)) }
-    ensures cycles { IfOk result (BoundsCycles directed (C.nodes costs.now) (C.at costs.now) (case_of given.now)) }
+        (combs_of_sets combs (plain sets.now)) combs given.now (steps_of steps.now)) }
+    ensures cycles { IfOk result (BoundsCycles directed (C.nodes costs.now) (C.at costs.now) given.now) }
     ensures size { IfOk result IsJudgedSized }
 {
     certificates_bound_cycles();
@@ -109,21 +111,24 @@ fn judge_leaves<C: Costs>(
     requires few_steps { length steps.now < 2 ^ 32 }
     requires are_families { All (IsFamily (C.nodes setting.now.costs.now))
         (combs_of_sets setting.now.combs (plain setting.now.sets.now)) }
-    requires steps { AreSteps setting.now.directed (C.nodes setting.now.costs.now) (case_of setting.now.given.now)
+    requires steps { AreSteps setting.now.directed (C.nodes setting.now.costs.now) setting.now.given.now
         (steps_of steps.now) (listed_steps (C.nodes setting.now.costs.now) setting.now.combs (steps_of steps.now)) }
     requires room { IsRoom (C.nodes setting.now.costs.now) setting.now.combs room }
     requires start { room.numbers.items ≡ no_numbers_of (C.nodes setting.now.costs.now) setting.now.combs }
     ensures judged { IfOk result (IsJudged setting.now.directed (C.nodes setting.now.costs.now) (C.at setting.now.costs.now)
         setting.now.scale (combs_of_sets setting.now.combs (plain setting.now.sets.now)) setting.now.combs
-        (case_of setting.now.given.now) (steps_of steps.now)) }
+        setting.now.given.now (steps_of steps.now)) }
     ensures size { IfOk result IsJudgedSized }
 {
-    let mut stack: Vec<(u32, u32, bool)> = Vec::new(alloc);
+    let mut stack: Vec<Decision> = Vec::new(alloc);
     let mut lowest = None;
     let mut leaf = 0;
     'steps: for step in steps {
         match step {
-            TreeStep::Branch(first, second) => stack.push((*first, *second, true))?,
+            TreeStep::Branch(first, second) => stack.push(Decision {
+                pair: (*first, *second),
+                taken: true,
+            })?,
             TreeStep::Leaf(changes) => {
                 leaf += 1;
                 let judged = judge_leaf(alloc, setting, changes, &stack, &mut room)?;
@@ -149,7 +154,7 @@ fn judge_leaf<C: Costs>(
     alloc: Global,
     setting: &Setting<C>,
     changes: &[(u32, i64)],
-    decisions: &[(u32, u32, bool)],
+    decisions: &[Decision],
     room: &mut Room,
 ) -> Result<JudgedLeaf, AllocError>
     requires are_families { All (IsFamily (C.nodes setting.now.costs.now))
@@ -157,13 +162,13 @@ fn judge_leaf<C: Costs>(
     requires few_changes { length changes.now < 2 ^ 32 }
     requires few_decisions { length decisions.now < 2 ^ 32 }
     requires pairs { All (IsDecision (C.nodes setting.now.costs.now)) decisions.now }
-    requires once { DecideOnce setting.now.directed (stack_of decisions.now ++ case_of setting.now.given.now) }
+    requires once { DecideOnce setting.now.directed (stack_of decisions.now ++ setting.now.given.now) }
     requires room { IsRoom (C.nodes setting.now.costs.now) setting.now.combs room.old }
     requires small { AreSmall room.old.numbers.items }
     ensures judged { IfOk result (IsJudgedLeaf (IsFoundAt setting.now.directed (C.nodes setting.now.costs.now)
         (C.at setting.now.costs.now) setting.now.scale decided_number
         (combs_of_sets setting.now.combs (plain setting.now.sets.now))) (C.nodes setting.now.costs.now) setting.now.combs
-        (stack_of decisions.now ++ case_of setting.now.given.now) room.old.numbers.items changes.now
+        (stack_of decisions.now ++ setting.now.given.now) room.old.numbers.items changes.now
         room.new.numbers.items) }
     ensures room { IfOk result (λ own. IsRoom (C.nodes setting.now.costs.now) setting.now.combs room.new) }
     ensures size { IfOk result IsSizedLeaf }

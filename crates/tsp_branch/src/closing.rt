@@ -2,19 +2,20 @@
 
 ghost use Rattle.std.specs.Prelude.{◌≡◌, ◌≢◌, ◌<◌, ℕ, length};
 ghost use Rattle.std.specs.List.{All};
-ghost use Rattle.tsp_theory.specs.Growth.{least_at};
-ghost use Rattle.tsp_branch.specs.states.Decided.{decision_of, case_of};
+ghost use Rattle.tsp_theory.specs.states.Nearest.{least_at};
 ghost use Rattle.tsp_branch.specs.Rows.{Allows};
 ghost use Rattle.tsp_branch.specs.states.Closed.{closed, IsShut};
+
+use crate::decision::Decision;
 
 /// The weight that means no link: all weights are below it.
 pub(crate) const CLOSED: i64 = i64::MAX;
 
 /// Closes in the row of a node what some decision doesn't allow.
-pub(crate) fn close_all(row: &mut [i64], decisions: &[(u32, u32, bool)], from: u32)
-    requires { All (λ decision. decision.1 < length row.old) decisions.now }
+pub(crate) fn close_all(row: &mut [i64], decisions: &[Decision], from: u32)
+    requires { All (λ decision. decision.pair.1 < length row.old) decisions.now }
     ensures { (x : ℕ) → x < length row.old
-        → IsShut (All (Allows from x) (case_of decisions.now)) (least_at row.old x) (least_at row.new x) }
+        → IsShut (All (Allows from x) decisions.now) (least_at row.old x) (least_at row.new x) }
 {
     'decisions: for decision in decisions {
         close(row, *decision, from);
@@ -24,19 +25,20 @@ pub(crate) fn close_all(row: &mut [i64], decisions: &[(u32, u32, bool)], from: u
 /// Closes in the row of a node what a decision doesn't allow: where the pair is taken and starts
 /// at the node, all other links, and where it starts elsewhere, the link to its second node; where
 /// it is avoided and starts at the node, that link.
-fn close(row: &mut [i64], decision: (u32, u32, bool), from: u32)
-    requires { decision.1 < length row.old }
+fn close(row: &mut [i64], decision: Decision, from: u32)
+    requires { decision.pair.1 < length row.old }
     ensures { (x : ℕ) → x < length row.old
-        → IsShut (Allows from x (decision_of decision)) (least_at row.old x) (least_at row.new x) }
+        → IsShut (Allows from x decision) (least_at row.old x) (least_at row.new x) }
 {
-    if !decision.2 {
-        if decision.0 == from {
-            shut(row, decision.1);
+    let (first, second) = decision.pair;
+    if !decision.taken {
+        if first == from {
+            shut(row, second);
         }
-    } else if decision.0 == from {
-        shut_others(row, decision.1);
+    } else if first == from {
+        shut_others(row, second);
     } else {
-        shut(row, decision.1);
+        shut(row, second);
     }
 }
 

@@ -4,11 +4,12 @@ ghost use Rattle.std.specs.Prelude.{◌≡◌, ◌+◌, ◌+ℤ◌, ℕ, length,
 ghost use Rattle.std.specs.Int.{w64, int_wrap};
 ghost use Rattle.tsp_format.specs.Cells.{IsNode};
 ghost use Rattle.tsp_theory.specs.Numbers.{IsFromTo, IsScale, ArePotentials, entry};
-ghost use Rattle.tsp_theory.specs.Growth.{least_at};
+ghost use Rattle.tsp_theory.specs.states.Nearest.{least_at};
 ghost use Rattle.tsp_branch.specs.states.Sets.{IsMoved, IsSetTable, AreSetsOf};
 ghost use Rattle.tsp_branch.specs.states.Combed.{plain, AreSmallMultipliers, AreMultipliedSets, multipliers_at, AreFewCrossings, set_weight};
 
 use crate::add_sets::add_sets;
+use crate::comb_set::CombSet;
 use crate::growth::weight_in;
 use crate::scaled::scale_row;
 use crate::weights::Weights;
@@ -25,7 +26,7 @@ pub struct CombedWeights<'a, C: Costs> {
     scale: i64,
     potentials: &'a [i64],
     multipliers: &'a [i64],
-    sets: &'a [(u32, Vec<u32>)],
+    sets: &'a [CombSet],
     by_node: &'a [Vec<u32>],
     moved: &'a [i64],
     ghost scaled: { IsScale scale },
@@ -47,9 +48,8 @@ impl<'a, C: Costs> CombedWeights<'a, C> {
     ghost use Rattle.std.specs.Int.{w64, int_wrap};
     ghost use Rattle.tsp_format.specs.Cells.{IsNode};
     ghost use Rattle.tsp_theory.specs.Numbers.{IsFromTo, IsScale, ArePotentials, entry};
-    ghost use Rattle.tsp_theory.specs.Growth.{least_at};
-    ghost use Rattle.tsp_theory.specs.NodeBound.{weight_between};
-    ghost use Rattle.tsp_theory.specs.NodeBound.{most_between};
+    ghost use Rattle.tsp_theory.specs.states.Nearest.{least_at};
+    ghost use Rattle.tsp_theory.specs.NodeBound.{weight_between, most_between};
     ghost use Rattle.tsp_branch.specs.states.Sets.{IsMoved, IsSetTable, AreSetsOf};
     ghost use Rattle.tsp_branch.specs.states.Combed.{plain, AreSmallMultipliers, AreMultipliedSets, multipliers_at, AreFewCrossings, most_combed, set_weight};
 
@@ -69,7 +69,7 @@ impl<'a, C: Costs> CombedWeights<'a, C> {
         scale: i64,
         potentials: &'a [i64],
         multipliers: &'a [i64],
-        sets: &'a [(u32, Vec<u32>)],
+        sets: &'a [CombSet],
         by_node: &'a [Vec<u32>],
         moved: &'a [i64],
     ) -> CombedWeights<'a, C>

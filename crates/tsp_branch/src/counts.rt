@@ -5,6 +5,7 @@ ghost use Rattle.std.specs.List.{All};
 ghost use Rattle.tsp_branch.specs.states.Combed.{plain};
 ghost use Rattle.tsp_branch.specs.CombsOfSets.{AreSetCounts};
 
+use crate::comb_set::CombSet;
 use std::alloc::{AllocError, Global};
 
 /// How many sets each family has.
@@ -15,11 +16,11 @@ use std::alloc::{AllocError, Global};
 pub(crate) fn set_counts(
     alloc: Global,
     combs: usize,
-    sets: &[(u32, Vec<u32>)],
+    sets: &[CombSet],
 ) -> Result<Vec<u32>, AllocError>
     requires few_combs { combs < 2 ^ 32 }
     requires few_sets { length sets.now < 2 ^ 32 }
-    requires of_combs { All (λ set. set.0 < combs) sets.now }
+    requires of_combs { All (λ set. set.comb < combs) sets.now }
     ensures { IfOk result (λ counts. AreSetCounts combs (plain sets.now) counts.items) }
 {
     let mut counts = vec![in alloc; 0; combs]?;
@@ -28,13 +29,13 @@ pub(crate) fn set_counts(
 }
 
 /// Counts each set at the place of its family.
-fn count_sets(counts: &mut [u32], sets: &[(u32, Vec<u32>)])
+fn count_sets(counts: &mut [u32], sets: &[CombSet])
     requires few { length sets.now < 2 ^ 32 }
     requires none { AreSetCounts (length counts.old) [] counts.old }
-    requires of_combs { All (λ set. set.0 < length counts.old) sets.now }
+    requires of_combs { All (λ set. set.comb < length counts.old) sets.now }
     ensures { AreSetCounts (length counts.old) (plain sets.now) counts.new }
 {
     'sets: for number in 0..sets.len() {
-        counts[sets[number].0 as usize] += 1;
+        counts[sets[number].comb as usize] += 1;
     }
 }

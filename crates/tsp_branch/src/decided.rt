@@ -3,11 +3,12 @@
 ghost use Rattle.std.specs.Prelude.{◌≡◌, ◌<◌, ◌≢◌, ◌+ℤ◌, ℕ, length};
 ghost use Rattle.std.specs.Int.{w64, int_wrap};
 ghost use Rattle.std.specs.List.{All};
-ghost use Rattle.tsp_theory.specs.Growth.{least_at};
+ghost use Rattle.tsp_theory.specs.states.Nearest.{least_at};
 ghost use Rattle.tsp_branch.specs.states.Sets.{IsMoved};
 ghost use Rattle.tsp_branch.specs.states.Decided.{IsDecision, IsChanged, AreFewChanges, changes};
 
 use crate::combed::CombedWeights;
+use crate::decision::Decision;
 use crate::growth::weight_in;
 use crate::weights::Weights;
 use tsp_theory::Costs;
@@ -22,8 +23,8 @@ pub(crate) const DECIDED: i64 = 4_000_000_000_000_000_000;
 #[derive(Drop)]
 pub struct DecidedWeights<'a, C: Costs> {
     combed: &'a CombedWeights<'a, C>,
-    given: &'a [(u32, u32, bool)],
-    decisions: &'a [(u32, u32, bool)],
+    given: &'a [Decision],
+    decisions: &'a [Decision],
     ghost given_are: { All (IsDecision (C.nodes combed.now.costs.now)) given.now },
     ghost pairs: { All (IsDecision (C.nodes combed.now.costs.now)) decisions.now },
     ghost once: { AreFewChanges given.now decisions.now },
@@ -35,15 +36,15 @@ impl<'a, C: Costs> DecidedWeights<'a, C> {
     ghost use Rattle.tsp_branch.specs.states.Combed.{plain, set_weight};
     ghost use Rattle.tsp_branch.specs.states.Decided.{IsDecision, AreFewChanges, decided_twice};
 
-    /// The weights under decisions: two nodes, and whether a cycle is to use them as neighbours.
+    /// The weights under decisions.
     ///
     /// # Requires
     ///
     /// Pairs of different nodes, no two of which are the same pair.
     pub fn of(
         combed: &'a CombedWeights<'a, C>,
-        given: &'a [(u32, u32, bool)],
-        decisions: &'a [(u32, u32, bool)],
+        given: &'a [Decision],
+        decisions: &'a [Decision],
     ) -> DecidedWeights<'a, C>
         requires given_are { All (IsDecision (C.nodes combed.now.costs.now)) given.now }
         requires pairs { All (IsDecision (C.nodes combed.now.costs.now)) decisions.now }
@@ -86,9 +87,9 @@ impl<C: Costs> Weights for DecidedWeights<'_, C> {
 }
 
 /// Changes the row of a node by decisions.
-fn change_row(row: &mut [i64], decisions: &[(u32, u32, bool)], from: u32)
-    requires { All (λ decision. (decision.0 < length row.old) × (decision.1 < length row.old)
-        × (decision.0 ≢ decision.1)) decisions.now }
+fn change_row(row: &mut [i64], decisions: &[Decision], from: u32)
+    requires { All (λ decision. (decision.pair.0 < length row.old) × (decision.pair.1 < length row.old)
+        × (decision.pair.0 ≢ decision.pair.1)) decisions.now }
     ensures { (x : ℕ) → IsMoved (changes decisions.now from x) (least_at row.old x) (least_at row.new x) }
 {
     'decisions: for decision in decisions {
@@ -100,17 +101,18 @@ fn change_row(row: &mut [i64], decisions: &[(u32, u32, bool)], from: u32)
 ///
 /// What two decisions on one pair come to may go past 64 bits on the way, so sums are taken in
 /// their remainders.
-fn change(row: &mut [i64], decision: (u32, u32, bool), from: u32)
-    requires first { decision.0 < length row.old }
-    requires second { decision.1 < length row.old }
-    requires differ { decision.0 ≢ decision.1 }
+fn change(row: &mut [i64], decision: Decision, from: u32)
+    requires first { decision.pair.0 < length row.old }
+    requires second { decision.pair.1 < length row.old }
+    requires differ { decision.pair.0 ≢ decision.pair.1 }
     ensures { (x : ℕ) → IsChanged decision from x (least_at row.old x) (least_at row.new x) }
 {
-    let number = if decision.2 { -DECIDED } else { DECIDED };
-    if decision.0 == from {
-        add_at(row, decision.1, number);
-    } else if decision.1 == from {
-        add_at(row, decision.0, number);
+    let (first, second) = decision.pair;
+    let number = if decision.taken { -DECIDED } else { DECIDED };
+    if first == from {
+        add_at(row, second, number);
+    } else if second == from {
+        add_at(row, first, number);
     }
 }
 

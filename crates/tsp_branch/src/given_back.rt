@@ -1,6 +1,6 @@
 //! What a leaf gives back.
 
-ghost use Rattle.std.specs.Prelude.{◌≡◌, ◌≤◌, ◌<◌, ◌^◌, ◌-◌, ◌++◌, ℕ, List, length, pos, neg_ℤ, ◌-ℤ◌, ◌*ℤ◌, ◌≤ℤ◌};
+ghost use Rattle.std.specs.Prelude.{◌≡◌, ◌≤◌, ◌<◌, ◌^◌, ◌-◌, ◌++◌, List, length, pos, neg_ℤ, ◌-ℤ◌, ◌*ℤ◌, ◌≤ℤ◌};
 ghost use Rattle.std.specs.List.{All};
 ghost use Rattle.tsp_theory.specs.Numbers.{IsFromTo, total};
 ghost use Rattle.tsp_theory.specs.Adjusted.{triples_total};
@@ -9,10 +9,11 @@ ghost use Rattle.tsp_branch.specs.Certificate.{multiplied};
 ghost use Rattle.tsp_branch.specs.Families.{least_crossings_of};
 ghost use Rattle.tsp_branch.specs.LeafBound.{least_of};
 ghost use Rattle.tsp_branch.specs.Judged.{most_multiplied};
-ghost use Rattle.tsp_branch.specs.CombsOfSets.{combs_of_sets, AreSetCounts, least_with};
-ghost use Rattle.tsp_branch.specs.states.Decided.{case_of, stack_of};
+ghost use Rattle.tsp_branch.specs.CombsOfSets.{NumberedSet, combs_of_sets, AreSetCounts, least_with};
+ghost use Rattle.tsp_branch.specs.states.Decided.{stack_of};
 
 use crate::decided::DECIDED;
+use crate::decision::Decision;
 
 /// The least crossings of a leaf's families, each times its multiplier, less each potential twice:
 /// at most 2^98 in size.
@@ -27,7 +28,7 @@ pub(crate) fn given_back(potentials: &[i64], multipliers: &[i64], counts: &[u32]
     requires as_many { length counts.now ≡ length multipliers.now }
     requires signs { All (λ multiplier. pos 0 ≤ℤ multiplier) multipliers.now }
     requires sum { total multipliers.now ≤ℤ pos most_multiplied }
-    ensures value { (sets : List (ℕ × List ℕ)) → AreSetCounts (length multipliers.now) sets counts.now
+    ensures value { (sets : List NumberedSet) → AreSetCounts (length multipliers.now) sets counts.now
         → result ≡ least_of (multiplied (combs_of_sets (length multipliers.now) sets) multipliers.now)
         -ℤ (pos 2 *ℤ total potentials.now) }
     ensures size { IsFromTo (neg_ℤ (pos (2 ^ 98))) (pos (2 ^ 98)) result }
@@ -76,24 +77,24 @@ pub(crate) fn total(numbers: &[i64]) -> i128
 }
 
 /// The numbers of a leaf's taken pairs, of those that are given for all leaves too.
-pub(crate) fn taken_back(given: &[(u32, u32, bool)], decisions: &[(u32, u32, bool)]) -> i128
+pub(crate) fn taken_back(given: &[Decision], decisions: &[Decision]) -> i128
     requires few_given { length given.now < 2 ^ 32 }
     requires few_decisions { length decisions.now < 2 ^ 32 }
-    ensures value { result ≡ triples_total (on_taken decided_number (stack_of decisions.now ++ case_of given.now)) }
+    ensures value { result ≡ triples_total (on_taken decided_number (stack_of decisions.now ++ given.now)) }
     ensures size { IsFromTo (pos 0) (pos (2 ^ 95)) result }
 {
     taken_in(given) + taken_in(decisions)
 }
 
 /// The sum of the numbers of the taken pairs.
-fn taken_in(decisions: &[(u32, u32, bool)]) -> i128
+fn taken_in(decisions: &[Decision]) -> i128
     requires { length decisions.now < 2 ^ 32 }
-    ensures value { result ≡ triples_total (on_taken decided_number (case_of decisions.now)) }
+    ensures value { result ≡ triples_total (on_taken decided_number decisions.now) }
     ensures size { IsFromTo (pos 0) (pos (2 ^ 94)) result }
 {
     let mut sum = 0;
     'decisions: for decision in decisions {
-        if decision.2 {
+        if decision.taken {
             sum += i128::from(DECIDED);
         }
     }

@@ -1,7 +1,6 @@
 //! Which comb is bad.
 
 ghost use Rattle.std.specs.Prelude.{◌≡◌, ◌≤◌, ◌<◌, ◌-◌, ◌+◌, ◌^◌, ◌↔◌, ◌≢◌, ℕ, IsTrue, [], length, take, true, IfOk, slice_index_or};
-ghost use Rattle.std.specs.Global.{Vec};
 ghost use Rattle.std.specs.List.{All};
 ghost use Rattle.tsp_format.specs.Cells.{IsNode};
 ghost use Rattle.tsp_branch.specs.Combs.{IsTooth, has, comb_of};
@@ -10,7 +9,9 @@ ghost use Rattle.tsp_branch.specs.states.Sets.{AreSetsOf};
 ghost use Rattle.tsp_branch.specs.states.Combed.{plain};
 ghost use Rattle.tsp_branch.specs.GoodCombs.{IsGoodComb, IsToothCount, AreCombsJudged, AreInOrder, lists_of};
 ghost use Rattle.tsp_branch.specs.states.Marked.{is_marked, AreUnmarked, HavePlaces, AddsNoOther, AreTeeth};
+ghost use Rattle.tsp_branch.specs.declared.comb_set.CombSet.{CombSet};
 
+use crate::comb_set::CombSet;
 use crate::marks::{has_node, leaves_one_out, mark_nodes};
 use std::alloc::{AllocError, Global};
 
@@ -33,12 +34,12 @@ pub fn first_bad_comb(
     alloc: Global,
     nodes: u32,
     combs: usize,
-    sets: &[(u32, Vec<u32>)],
+    sets: &[CombSet],
 ) -> Result<Option<usize>, AllocError>
     requires few_nodes { nodes < 2 ^ 32 - 1 }
     requires few_combs { combs < 2 ^ 32 }
     requires nodes { AreSetsOf nodes sets.now }
-    requires of_combs { All (λ set. set.0 < combs) sets.now }
+    requires of_combs { All (λ set. set.comb < combs) sets.now }
     requires in_order { AreInOrder sets.now }
     ensures { IfOk result (AreCombsJudged nodes combs (plain sets.now)) }
 {
@@ -57,13 +58,13 @@ pub fn first_bad_comb(
 }
 
 /// How many sets at the front have the number of a comb.
-fn count_of(sets: &[(u32, Vec<u32>)], comb: u32) -> usize
+fn count_of(sets: &[CombSet], comb: u32) -> usize
     ensures most { result ≤ length sets.now }
-    ensures own { All (λ set. set.0 ≡ comb) (take result sets.now) }
-    ensures next { (default : ℕ × Vec ℕ) → result < length sets.now → (slice_index_or sets.now result default).0 ≢ comb }
+    ensures own { All (λ set. set.comb ≡ comb) (take result sets.now) }
+    ensures next { (default : CombSet) → result < length sets.now → (slice_index_or sets.now result default).comb ≢ comb }
 {
     let mut count = 0;
-    'count: while count < sets.len() && sets[count].0 == comb {
+    'count: while count < sets.len() && sets[count].comb == comb {
         count += 1;
     }
     count
@@ -73,7 +74,7 @@ fn count_of(sets: &[(u32, Vec<u32>)], comb: u32) -> usize
 ///
 /// The nodes of the handle get a mark, and so do those of the teeth in marks of their own: a mark
 /// that no node has before.
-fn is_comb(handles: &mut [u32], used: &mut [u32], mark: u32, sets: &[(u32, Vec<u32>)]) -> bool
+fn is_comb(handles: &mut [u32], used: &mut [u32], mark: u32, sets: &[CombSet]) -> bool
     requires handle_places { HavePlaces handles.old sets.now }
     requires tooth_places { HavePlaces used.old sets.now }
     requires fresh_handle { AreUnmarked handles.old mark }
@@ -87,11 +88,11 @@ fn is_comb(handles: &mut [u32], used: &mut [u32], mark: u32, sets: &[(u32, Vec<u
     let Some((handle, teeth)) = sets.split_first() else {
         return false;
     };
-    if !mark_nodes(handles, mark, &handle.1) {
+    if !mark_nodes(handles, mark, &handle.nodes) {
         return false;
     }
     if teeth.is_empty() {
-        return is_lone_set(handles, mark, &handle.1);
+        return is_lone_set(handles, mark, &handle.nodes);
     }
     if !is_tooth_count(teeth.len()) {
         return false;
@@ -118,7 +119,7 @@ fn is_tooth_count(count: usize) -> bool
 
 /// Whether sets are teeth of the handle whose nodes have the mark, and all their nodes different
 /// and without the mark. They get it.
-fn are_teeth(handles: &[u32], used: &mut [u32], mark: u32, teeth: &[(u32, Vec<u32>)]) -> bool
+fn are_teeth(handles: &[u32], used: &mut [u32], mark: u32, teeth: &[CombSet]) -> bool
     requires handle_places { HavePlaces handles.now teeth.now }
     requires tooth_places { HavePlaces used.old teeth.now }
     ensures teeth { (n : ℕ) → AreSetsOf n teeth.now → (IsTrue result
@@ -127,7 +128,7 @@ fn are_teeth(handles: &[u32], used: &mut [u32], mark: u32, teeth: &[(u32, Vec<u3
     ensures length { length used.new ≡ length used.old }
 {
     'teeth: for tooth in teeth {
-        let nodes: &[u32] = &tooth.1;
+        let nodes: &[u32] = &tooth.nodes;
         if !mark_nodes(used, mark, nodes) {
             return false;
         }

@@ -4,7 +4,7 @@ ghost use Rattle.std.specs.Prelude.{◌≡◌, ◌≤◌, ◌<◌, ◌+◌, ◌*
 ghost use Rattle.tsp_format.specs.Cells.{IsNode};
 ghost use Rattle.tsp_format.specs.Limits.{most_nodes};
 ghost use Rattle.tsp_theory.specs.Numbers.{IsFromTo};
-ghost use Rattle.tsp_theory.specs.Growth.{least_at};
+ghost use Rattle.tsp_theory.specs.states.Nearest.{least_at};
 ghost use Rattle.tsp_branch.specs.states.Outside.{IsGrownWeight, AreFromThree, IsLower, AreLower, AreInner, IsLeastPlace};
 
 use crate::weights::Weights;

@@ -2,7 +2,8 @@
 
 ghost use Rattle.std.specs.Prelude.{ℕ, ℤ, List, [], ◌∷◌, ◌≤ℤ◌, Bool, true, false};
 ghost use Rattle.tsp_branch.specs.Combs.{CyclesCrossCombs, NumbersTellCombs, NumbersTellLists};
-ghost use Rattle.tsp_branch.specs.Decisions.{Decision, DecidedBoundsBoundCycles, FixedBoundsBoundTours};
+ghost use Rattle.tsp_branch.specs.declared.decision.Decision.{Decision};
+ghost use Rattle.tsp_branch.specs.Decisions.{DecidedBoundsBoundCycles, FixedBoundsBoundTours};
 ghost use Rattle.tsp_branch.specs.LeafBound.{LeafBoundsBoundCycles, UncombedBoundsAreAdjustedBounds};
 ghost use Rattle.tsp_branch.specs.Cases.{decide, BoundsCase, HasNoCycle, BoundsButOpen, CyclesKeepLeaves, CasesBoundCycles, CasesHaveNoCycle, StacksBegin, StacksBranch, StacksHoldCases};
 ghost use Rattle.tsp_branch.specs.Rows.{LinksAreAllowed, NoLinkNoCycle, SumsAreBelowCycles};

@@ -12,9 +12,11 @@
 mod add_sets;
 mod branch;
 mod closing;
+mod comb_set;
 mod combed;
 mod counts;
 mod decided;
+mod decision;
 mod examples;
 mod given_back;
 mod good_combs;
@@ -26,6 +28,7 @@ mod marks;
 mod moved;
 mod number_examples;
 mod numbers;
+mod pairs;
 mod room;
 mod rows;
 mod scaled;
@@ -41,8 +44,10 @@ mod verdict;
 mod weights;
 
 pub use branch::branch_bound;
+pub use comb_set::CombSet;
 pub use combed::CombedWeights;
 pub use decided::DecidedWeights;
+pub use decision::Decision;
 pub use examples::{
     examples_of_bounds, examples_of_crossings, examples_of_trees, examples_of_verdicts,
     examples_of_weights,
@@ -57,6 +62,7 @@ pub use laws::{
 };
 pub use leaf::leaf_bound;
 pub use number_examples::{examples_of_differences, examples_of_good_numbers};
+pub use pairs::key_of;
 pub use rows::row_bound;
 pub use stack::next_case;
 pub use steps::{BranchVerdict, Judged};

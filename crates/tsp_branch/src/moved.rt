@@ -5,23 +5,19 @@ ghost use Rattle.std.specs.Int.{w64, int_wrap};
 ghost use Rattle.std.specs.List.{All};
 ghost use Rattle.tsp_format.specs.Cells.{IsNode};
 ghost use Rattle.tsp_theory.specs.Numbers.{entry};
-ghost use Rattle.tsp_theory.specs.Growth.{least_at};
+ghost use Rattle.tsp_theory.specs.states.Nearest.{least_at};
 ghost use Rattle.tsp_branch.specs.states.Sets.{IsMoved, AreSetsOf};
 ghost use Rattle.tsp_branch.specs.states.Combed.{plain, AreSmallMultipliers, multipliers_at};
 
 use crate::add_sets::add_where_any;
+use crate::comb_set::CombSet;
 
 /// Writes at the place of each node what is left in 64 bits of its potential less the multipliers
 /// of the sets that have it.
-pub(crate) fn fill_moved(
-    row: &mut [i64],
-    potentials: &[i64],
-    sets: &[(u32, Vec<u32>)],
-    multipliers: &[i64],
-)
+pub(crate) fn fill_moved(row: &mut [i64], potentials: &[i64], sets: &[CombSet], multipliers: &[i64])
     requires room { length row.old ≡ length potentials.now + 1 }
     requires nodes { AreSetsOf (length potentials.now) sets.now }
-    requires combs { All (λ set. set.0 < length multipliers.now) sets.now }
+    requires combs { All (λ set. set.comb < length multipliers.now) sets.now }
     requires small { AreSmallMultipliers multipliers.now }
     ensures { (x : ℕ) → IsNode (length potentials.now) x → int_wrap w64 (least_at row.new x)
         ≡ int_wrap w64 (entry potentials.now x +ℤ neg_ℤ (multipliers_at multipliers.now (plain sets.now) x)) }
@@ -41,15 +37,15 @@ fn place_potentials(row: &mut [i64], potentials: &[i64])
 }
 
 /// Takes off each node of a set the multiplier of the set's comb.
-fn take_multipliers(row: &mut [i64], sets: &[(u32, Vec<u32>)], multipliers: &[i64])
-    requires nodes { All (λ set. All (λ node. node < length row.old) set.1.items) sets.now }
-    requires combs { All (λ set. set.0 < length multipliers.now) sets.now }
+fn take_multipliers(row: &mut [i64], sets: &[CombSet], multipliers: &[i64])
+    requires nodes { All (λ set. All (λ node. node < length row.old) set.nodes.items) sets.now }
+    requires combs { All (λ set. set.comb < length multipliers.now) sets.now }
     requires small { AreSmallMultipliers multipliers.now }
     ensures { (x : ℕ) → IsMoved (neg_ℤ (multipliers_at multipliers.now (plain sets.now) x))
         (least_at row.old x) (least_at row.new x) }
 {
     'sets: for number in 0..sets.len() {
         let set = &sets[number];
-        add_where_any(row, &set.1, -multipliers[set.0 as usize]);
+        add_where_any(row, &set.nodes, -multipliers[set.comb as usize]);
     }
 }

@@ -5,12 +5,13 @@ ghost use Rattle.std.specs.List.{All};
 ghost use Rattle.tsp_format.specs.Cells.{IsNode};
 ghost use Rattle.tsp_format.specs.Limits.{most_nodes};
 ghost use Rattle.tsp_theory.specs.Numbers.{IsFromTo, IsScale, IsBoundSized, IsSumSized};
-ghost use Rattle.tsp_theory.specs.Growth.{least_at};
+ghost use Rattle.tsp_theory.specs.states.Nearest.{least_at};
 ghost use Rattle.tsp_branch.specs.states.Decided.{IsDecision};
 ghost use Rattle.tsp_branch.specs.Rows.{IsAllowed, HasNoLink, IsLeastFrom, IsSumOfLeast, IsRowBound};
 ghost use Rattle.tsp_branch.specs.states.Closed.{closed, decisions_of, IsOpenRow};
 
 use crate::closing::{CLOSED, close_all, shut};
+use crate::decision::Decision;
 use crate::leaf::rounded_up;
 use crate::weights::Weights;
 
@@ -24,8 +25,8 @@ use crate::weights::Weights;
 /// there are nodes, which is overwritten.
 pub fn row_bound<W: Weights>(
     w: &W,
-    given: &[(u32, u32, bool)],
-    decisions: &[(u32, u32, bool)],
+    given: &[Decision],
+    decisions: &[Decision],
     row: &mut [i64],
     scale: i64,
     given_back: i128,
@@ -46,8 +47,8 @@ pub fn row_bound<W: Weights>(
 /// The sum of the least weights of the allowed links from each node.
 fn sum_of_least<W: Weights>(
     w: &W,
-    given: &[(u32, u32, bool)],
-    decisions: &[(u32, u32, bool)],
+    given: &[Decision],
+    decisions: &[Decision],
     row: &mut [i64],
 ) -> Option<i128>
     requires given_are { All (IsDecision (W.nodes w.now)) given.now }
@@ -70,8 +71,8 @@ fn sum_of_least<W: Weights>(
 /// The least weight of the allowed links from a node; `None` where no link is allowed.
 fn least_from<W: Weights>(
     w: &W,
-    given: &[(u32, u32, bool)],
-    decisions: &[(u32, u32, bool)],
+    given: &[Decision],
+    decisions: &[Decision],
     from: u32,
     row: &mut [i64],
 ) -> Option<i64>
@@ -93,9 +94,9 @@ fn least_from<W: Weights>(
 }
 
 /// Closes in the row of a node the place of the node itself, and what some decision doesn't allow.
-fn close_row(row: &mut [i64], given: &[(u32, u32, bool)], decisions: &[(u32, u32, bool)], from: u32)
-    requires given_are { All (λ decision. decision.1 < length row.old) given.now }
-    requires pairs { All (λ decision. decision.1 < length row.old) decisions.now }
+fn close_row(row: &mut [i64], given: &[Decision], decisions: &[Decision], from: u32)
+    requires given_are { All (λ decision. decision.pair.1 < length row.old) given.now }
+    requires pairs { All (λ decision. decision.pair.1 < length row.old) decisions.now }
     requires from { from < length row.old }
     ensures { (n : ℕ) (w : ℕ → ℕ → ℤ) → n < length row.old
         → ((x : ℕ) → IsNode n x → least_at row.old x ≡ w from x)

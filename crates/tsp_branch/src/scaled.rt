@@ -4,7 +4,7 @@ ghost use Rattle.std.specs.Prelude.{◌≡◌, ◌≤◌, ◌<◌, ℕ, length, 
 ghost use Rattle.std.specs.Int.{w64, int_wrap};
 ghost use Rattle.tsp_format.specs.Limits.{most_weight};
 ghost use Rattle.tsp_theory.specs.Numbers.{IsFromTo, IsScale};
-ghost use Rattle.tsp_theory.specs.Growth.{least_at};
+ghost use Rattle.tsp_theory.specs.states.Nearest.{least_at};
 
 use crate::add_sets::sum_left;
 

@@ -2,9 +2,10 @@
 
 ghost use Rattle.std.specs.Prelude.{◌<◌, ◌-◌, ◌^◌, ℕ, [], length, IfOk};
 ghost use Rattle.std.specs.List.{All};
-ghost use Rattle.tsp_theory.specs.Growth.{least_at};
+ghost use Rattle.tsp_theory.specs.states.Nearest.{least_at};
 ghost use Rattle.tsp_branch.specs.states.Sets.{IsMoved, added, times, AreLengthened, IsSetTable, AreSetsOf};
 
+use crate::comb_set::CombSet;
 use crate::decided::add_at;
 use std::alloc::{AllocError, Global};
 
@@ -28,7 +29,7 @@ pub(crate) fn add_to_nodes(row: &mut [i64], nodes: &[u32], number: i64)
 pub(crate) fn sets_by_node(
     alloc: Global,
     count: u32,
-    sets: &[(u32, Vec<u32>)],
+    sets: &[CombSet],
 ) -> Result<Vec<Vec<u32>>, AllocError>
     requires few { count < 2 ^ 32 - 1 }
     requires fewer { length sets.now < 2 ^ 32 }
@@ -37,7 +38,7 @@ pub(crate) fn sets_by_node(
 {
     let mut lists = empty_lists(alloc, count)?;
     'sets: for number in 0..sets.len() {
-        place_set(&mut lists, number as u32, &sets[number].1)?;
+        place_set(&mut lists, number as u32, &sets[number].nodes)?;
     }
     Ok(lists)
 }

@@ -9,8 +9,10 @@ ghost use Rattle.tsp_branch.specs.states.Combed.{plain};
 ghost use Rattle.tsp_branch.specs.CombsOfSets.{AreSetCounts};
 ghost use Rattle.tsp_branch.specs.states.Decided.{IsDecision};
 
+use crate::comb_set::CombSet;
 use crate::combed::CombedWeights;
 use crate::decided::DecidedWeights;
+use crate::decision::Decision;
 use crate::given_back::{given_back, taken_back};
 use crate::leaf::leaf_bound;
 use crate::moved::fill_moved;
@@ -30,10 +32,10 @@ pub(crate) struct Setting<'a, C: Costs> {
     pub(crate) directed: bool,
     pub(crate) scale: i64,
     pub(crate) combs: usize,
-    pub(crate) sets: &'a [(u32, Vec<u32>)],
+    pub(crate) sets: &'a [CombSet],
     pub(crate) by_node: &'a [Vec<u32>],
     pub(crate) counts: &'a [u32],
-    pub(crate) given: &'a [(u32, u32, bool)],
+    pub(crate) given: &'a [Decision],
     ghost some: { 3 ≤ C.nodes costs.now },
     ghost even: { directed ≡ false → IsSymmetric (C.at costs.now) },
     ghost scaled: { IsScale scale },
@@ -41,7 +43,7 @@ pub(crate) struct Setting<'a, C: Costs> {
     ghost few_sets: { length sets.now < 2 ^ 32 },
     ghost few_given: { length given.now < 2 ^ 32 },
     ghost nodes: { AreSetsOf (C.nodes costs.now) sets.now },
-    ghost of_combs: { All (λ set. (set.0 < combs) × AllPairs (λ a b. a ≢ b) set.1.items) sets.now },
+    ghost of_combs: { All (λ set. (set.comb < combs) × AllPairs (λ a b. a ≢ b) set.nodes.items) sets.now },
     ghost table: { IsSetTable (C.nodes costs.now) sets.now by_node.now },
     ghost counted: { AreSetCounts combs (plain sets.now) counts.now },
     ghost given_are: { All (IsDecision (C.nodes costs.now)) given.now },
@@ -56,7 +58,7 @@ impl<C: Costs> Setting<'_, C> {
     ghost use Rattle.tsp_branch.specs.Certificate.{IsFoundAt};
     ghost use Rattle.tsp_branch.specs.states.Combed.{plain};
     ghost use Rattle.tsp_branch.specs.CombsOfSets.{combs_of_sets};
-    ghost use Rattle.tsp_branch.specs.states.Decided.{IsDecision, case_of, stack_of};
+    ghost use Rattle.tsp_branch.specs.states.Decided.{IsDecision, stack_of};
     ghost use Rattle.tsp_branch.specs.Judged.{AreGoodNumbers, as_leaf_numbers};
 
     /// The bound of the leaf with these numbers and decisions; `None` where it has none, since some
@@ -74,7 +76,7 @@ impl<C: Costs> Setting<'_, C> {
         alloc: Global,
         potentials: &[i64],
         multipliers: &[i64],
-        decisions: &[(u32, u32, bool)],
+        decisions: &[Decision],
         row: &mut [i64],
         moved: &mut [i64],
     ) -> Result<Option<i128>, AllocError>
@@ -83,13 +85,13 @@ impl<C: Costs> Setting<'_, C> {
         requires numbers { AreGoodNumbers (C.nodes self.now.costs.now) self.now.combs
             (as_leaf_numbers potentials.now multipliers.now) }
         requires pairs { All (IsDecision (C.nodes self.now.costs.now)) decisions.now }
-        requires once { DecideOnce self.now.directed (stack_of decisions.now ++ case_of self.now.given.now) }
+        requires once { DecideOnce self.now.directed (stack_of decisions.now ++ self.now.given.now) }
         requires few { length decisions.now < 2 ^ 32 }
         requires row { length row.old ≡ C.nodes self.now.costs.now + 1 }
         requires moved { length moved.old ≡ C.nodes self.now.costs.now + 1 }
         ensures bound { IfOk result (IsFoundAt self.now.directed (C.nodes self.now.costs.now) (C.at self.now.costs.now)
             self.now.scale decided_number (combs_of_sets self.now.combs (plain self.now.sets.now))
-            (stack_of decisions.now ++ case_of self.now.given.now, as_leaf_numbers potentials.now multipliers.now)) }
+            (stack_of decisions.now ++ self.now.given.now, as_leaf_numbers potentials.now multipliers.now)) }
         ensures size { IfOk result (λ bound. IfSome bound IsBoundSized) }
     {
         if self.directed {
@@ -109,7 +111,7 @@ impl<C: Costs> Setting<'_, C> {
         alloc: Global,
         potentials: &[i64],
         multipliers: &[i64],
-        decisions: &[(u32, u32, bool)],
+        decisions: &[Decision],
         row: &mut [i64],
         moved: &mut [i64],
     ) -> Result<i128, AllocError>
@@ -119,13 +121,13 @@ impl<C: Costs> Setting<'_, C> {
         requires numbers { AreGoodNumbers (C.nodes self.now.costs.now) self.now.combs
             (as_leaf_numbers potentials.now multipliers.now) }
         requires pairs { All (IsDecision (C.nodes self.now.costs.now)) decisions.now }
-        requires once { DecideOnce false (stack_of decisions.now ++ case_of self.now.given.now) }
+        requires once { DecideOnce false (stack_of decisions.now ++ self.now.given.now) }
         requires few { length decisions.now < 2 ^ 32 }
         requires row { length row.old ≡ C.nodes self.now.costs.now + 1 }
         requires moved { length moved.old ≡ C.nodes self.now.costs.now + 1 }
         ensures bound { IfOk result (λ bound. IsFoundAt false (C.nodes self.now.costs.now) (C.at self.now.costs.now)
             self.now.scale decided_number (combs_of_sets self.now.combs (plain self.now.sets.now))
-            (stack_of decisions.now ++ case_of self.now.given.now, as_leaf_numbers potentials.now multipliers.now)
+            (stack_of decisions.now ++ self.now.given.now, as_leaf_numbers potentials.now multipliers.now)
             (Some bound)) }
         ensures size { IfOk result (λ bound. IsBoundSized bound) }
     {
@@ -153,7 +155,7 @@ impl<C: Costs> Setting<'_, C> {
         &self,
         potentials: &[i64],
         multipliers: &[i64],
-        decisions: &[(u32, u32, bool)],
+        decisions: &[Decision],
         row: &mut [i64],
         moved: &mut [i64],
     ) -> Option<i128>
@@ -166,7 +168,7 @@ impl<C: Costs> Setting<'_, C> {
         requires moved { length moved.old ≡ C.nodes self.now.costs.now + 1 }
         ensures bound { IsFoundAt true (C.nodes self.now.costs.now) (C.at self.now.costs.now)
             self.now.scale decided_number (combs_of_sets self.now.combs (plain self.now.sets.now))
-            (stack_of decisions.now ++ case_of self.now.given.now, as_leaf_numbers potentials.now multipliers.now)
+            (stack_of decisions.now ++ self.now.given.now, as_leaf_numbers potentials.now multipliers.now)
             result }
         ensures size { IfSome result IsBoundSized }
     {

@@ -2,7 +2,8 @@
 
 ghost use Rattle.std.specs.Prelude.{◌≡◌, ◌≤◌, ◌<◌, ◌+◌, ◌-◌, ◌^◌, length};
 ghost use Rattle.tsp_format.specs.Limits.{most_nodes};
-ghost use Rattle.tsp_theory.specs.Growth.{AreNearest, least_at};
+ghost use Rattle.tsp_theory.specs.Growth.{AreNearest};
+ghost use Rattle.tsp_theory.specs.states.Nearest.{least_at};
 
 use crate::growth::weight_in;
 use crate::weights::Weights;

@@ -2,18 +2,21 @@
 
 ghost use Rattle.std.specs.Prelude.{◌≡◌, ◌≤◌, ◌<◌, ◌^◌, length, true, false, IfOk};
 ghost use Rattle.std.specs.List.{All};
-ghost use Rattle.tsp_format.specs.Steps.{steps_of, are_whole};
+ghost use Rattle.tsp_format.specs.states.TreeSteps.{steps_of};
+ghost use Rattle.tsp_format.specs.Steps.{are_whole};
 ghost use Rattle.tsp_theory.specs.Costs.{IsSymmetric};
 ghost use Rattle.tsp_theory.specs.Numbers.{IsScale};
 ghost use Rattle.tsp_branch.specs.Decisions.{DecideOnce};
 ghost use Rattle.tsp_branch.specs.states.Sets.{AreSetsOf};
 ghost use Rattle.tsp_branch.specs.states.Combed.{plain};
-ghost use Rattle.tsp_branch.specs.states.Decided.{IsDecision, case_of};
+ghost use Rattle.tsp_branch.specs.states.Decided.{IsDecision};
 ghost use Rattle.tsp_branch.specs.Listed.{IsStepOf};
 ghost use Rattle.tsp_branch.specs.GoodCombs.{AreInOrder};
 ghost use Rattle.tsp_branch.specs.BranchVerdicts.{IsBranchVerdict, VerdictBoundsCycles, IsSizedVerdict};
 
 use crate::branch::branch_bound;
+use crate::comb_set::CombSet;
+use crate::decision::Decision;
 use crate::good_combs::first_bad_comb;
 use crate::steps::{BranchVerdict, Judged};
 use crate::twice::first_twice;
@@ -47,8 +50,8 @@ pub fn judge_branches<C: Costs>(
     directed: bool,
     scale: i64,
     combs: usize,
-    sets: &[(u32, Vec<u32>)],
-    given: &[(u32, u32, bool)],
+    sets: &[CombSet],
+    given: &[Decision],
     steps: &[TreeStep],
 ) -> Result<BranchVerdict, AllocError>
     requires some { 3 ≤ C.nodes costs.now }
@@ -59,15 +62,15 @@ pub fn judge_branches<C: Costs>(
     requires few_given { length given.now < 2 ^ 32 }
     requires few_steps { length steps.now < 2 ^ 32 }
     requires nodes { AreSetsOf (C.nodes costs.now) sets.now }
-    requires of_combs { All (λ set. set.0 < combs) sets.now }
+    requires of_combs { All (λ set. set.comb < combs) sets.now }
     requires in_order { AreInOrder sets.now }
     requires given_are { All (IsDecision (C.nodes costs.now)) given.now }
-    requires given_once { DecideOnce directed (case_of given.now) }
+    requires given_once { DecideOnce directed given.now }
     requires steps { All (IsStepOf (C.nodes costs.now)) (steps_of steps.now) }
     requires whole { are_whole 1 (steps_of steps.now) ≡ true }
     ensures verdict { IfOk result (IsBranchVerdict directed (C.nodes costs.now) (C.at costs.now) scale combs (plain sets.now)
-        (case_of given.now) (steps_of steps.now)) }
-    ensures cycles { IfOk result (VerdictBoundsCycles directed (C.nodes costs.now) (C.at costs.now) (case_of given.now)) }
+        given.now (steps_of steps.now)) }
+    ensures cycles { IfOk result (VerdictBoundsCycles directed (C.nodes costs.now) (C.at costs.now) given.now) }
     ensures size { IfOk result IsSizedVerdict }
 {
     if let Some(comb) = first_bad_comb(alloc, costs.count(), combs, sets)? {

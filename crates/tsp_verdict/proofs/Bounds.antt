@@ -12,7 +12,7 @@ use Rattle.tsp_verdict.specs.states.Costs.{AreTourCosts}
 use Rattle.tsp_verdict.specs.Bounded.{StandsAgainstInstance, NoneAgainstInstance, StandsAgainstBounded, IsBoundVerdict}
 use Rattle.tsp_verdict.specs.Certified.{StandsAgainstCertificate, FindsBoundIfAny, NoneWithoutMemory}
 use Rattle.tsp_verdict.specs.Reasons.{rank_of, IsFirstReason}
-use Rattle.tsp_verdict.specs.Solution.{nodes_of}
+use Rattle.tsp_file.specs.Meant.{nodes_of}
 use Rattle.tsp_verdict.proofs.Certificates.{certificate_rank, symmetric_tsp}
 
 instance_rank : (inst : Fields) (reason : Reason) → StandsAgainstInstance inst reason → rank_of reason < 16

@@ -9,7 +9,7 @@ use Rattle.tsp_theory.specs.Costs.{IsSymmetric}
 use Rattle.tsp_theory.specs.Length.{length_of}
 use Rattle.tsp_theory.specs.Tour.{Uses}
 use Rattle.tsp_cost.specs.Tours.{is_directed}
-use Rattle.tsp_cost.specs.Views.{HasCosts}
+use Rattle.tsp_cost.specs.states.Views.{HasCosts}
 use Rattle.tsp_theory.specs.Cycle.{IsCycle, AreNeighbours}
 use Rattle.tsp_format.specs.declared.kinds.Kind.TheVariants as kinds
 use Rattle.tsp_theory.specs.Numbers.{IsScale, entry, IsBoundSized}
@@ -19,8 +19,8 @@ use Rattle.tsp_theory.specs.Adjusted.{pair_of, numbers_on, adjusted, UsesEach, I
 use Rattle.tsp_theory.specs.Assignment.{AreGood, IsFirstBroken, IsDualBound, DualsBoundCycles}
 use Rattle.tsp_reason.specs.declared.verdict.Reason.TheVariants.{DualInfeasible}
 use Rattle.tsp_verdict.specs.Multiplied.{AreListed}
-use Rattle.tsp_verdict.specs.Solution.{nodes_of, fixed_of}
-use Rattle.tsp_verdict.specs.Certificate.{scale_in, potentials_in, rows_in, columns_in, multipliers_in, StandsAgainstPotentials}
+use Rattle.tsp_file.specs.Meant.{nodes_of, fixed_of, scale_in, potentials_in, rows_in, columns_in, multipliers_in}
+use Rattle.tsp_verdict.specs.Certificate.{StandsAgainstPotentials}
 use Rattle.tsp_verdict.specs.Certified.{IsBoundBy, IsCertified}
 use Rattle.tsp_reason.specs.declared.certificate.Certificate.TheVariants.{Potentials}
 

@@ -15,11 +15,11 @@ use Rattle.tsp_reason.specs.declared.verdict.Reason.TheVariants.{TooFewNodes, No
 use Rattle.tsp_verdict.specs.Multiplied.{AreListed, IsUnlisted, IsPairRepeated, pair_at}
 use Rattle.tsp_verdict.specs.Places.{IsFirstPlace}
 use Rattle.tsp_verdict.specs.Reasons.{rank_of, NoneBefore, IsFirstReason}
-use Rattle.tsp_verdict.specs.Solution.{nodes_of, fixed_of}
+use Rattle.tsp_file.specs.Meant.{nodes_of, fixed_of, scale_in, rows_in, columns_in, multipliers_in}
 use Rattle.tsp_verdict.specs.Tours.{IsFirstAgainstTour, StandsAgainstTour}
 use Rattle.tsp_file.specs.Cost.{cost}
 use Rattle.tsp_theory.specs.Assignment.{IsFirstBroken}
-use Rattle.tsp_verdict.specs.Certificate.{has_wanted, scale_in, rows_in, columns_in, multipliers_in, StandsAgainstPotentials, IsBoundByDuals}
+use Rattle.tsp_verdict.specs.Certificate.{has_wanted, StandsAgainstPotentials, IsBoundByDuals}
 use Rattle.tsp_verdict.specs.Certified.{is_bounded, IsBoundBy, IsCertified, StandsAgainstCertificate, NoneWithoutMemory, StandsAgainstCertified, IsFirstAgainstCertified}
 use Rattle.tsp_verdict.specs.Tree.{IsBoundByTree}
 use Rattle.tsp_verdict.specs.declared.tour.TourCosts.{TourCosts}

@@ -10,11 +10,14 @@ use Rattle.std.proofs.lemmas.List.Sums.{sum_by-cons}
 use Rattle.tsp_format.specs.Cells.{IsNode}
 use Rattle.tsp_format.specs.Limits.{most_nodes, most_tour_nodes, most_changes}
 use Rattle.tsp_format.specs.declared.steps.TreeStep.{TreeStep}
-use Rattle.tsp_format.specs.Steps.{Step, Branch, Leaf, step_of, steps_of, are_whole, branch_count, leaf_count, change_count}
+use Rattle.tsp_format.specs.Steps.{Step, Branch, Leaf, are_whole, branch_count, leaf_count, change_count}
+use Rattle.tsp_format.specs.states.TreeSteps.{step_of, steps_of}
 use Rattle.tsp_draft.specs.Fields.{Fields}
 use Rattle.tsp_draft.specs.Valid.{AreTours, AreDepots, IsNodeList, IsStep, AreTreeSteps}
 use Rattle.tsp_branch.specs.Listed.{IsStepOf}
-use Rattle.tsp_verdict.specs.Solution.{nodes_of, tours_of, visited, nodes_in}
+use Rattle.tsp_file.specs.Meant.{nodes_of, tours_of}
+use Rattle.tsp_verdict.specs.Solution.{visited}
+use Rattle.tsp_verdict.specs.states.Routes.{nodes_in}
 use Rattle.tsp_verdict.proofs.Pieces.{nodes_in_is}
 
 in_both : (P : ℕ → Type 0) (xs ys : List ℕ) → AllByRecursion P xs → AllByRecursion P ys → AllByRecursion P (xs ++ ys)

@@ -7,7 +7,7 @@ use Rattle.tsp_draft.specs.Fields.{Fields}
 use Rattle.tsp_draft.specs.Valid.{IsPairOf, AreFixed}
 use Rattle.tsp_theory.specs.Tour.{Uses}
 use Rattle.tsp_verdict.specs.states.Next.{AreNext}
-use Rattle.tsp_verdict.specs.Solution.{nodes_of}
+use Rattle.tsp_file.specs.Meant.{nodes_of}
 
 pub uses_next : (directed : Bool) (cycle next : List ℕ) (pair : ℕ × ℕ) → AreNext cycle next → 1 ≤ pair.1 → get_or next pair.0 0 ≡ pair.1 → Uses directed cycle pair
 uses_next true cycle next pair m some e = m.only pair.0 pair.1 some e

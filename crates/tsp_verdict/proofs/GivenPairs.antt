@@ -4,14 +4,15 @@ use Rattle.std.specs.Prelude.{if◌then◌else◌, cond, filter}
 use Rattle.std.specs.BTreeSet.{BTreeSet, contains}
 use Rattle.std.specs.List.{All, AllByRecursion, list_any}
 use Rattle.std.proofs.lemmas.Bool.{cases_Bool}
-use Rattle.std.proofs.lemmas.List.{append_assoc, drop_all, append-nil, length-map, map-append, take_more}
+use Rattle.std.proofs.lemmas.List.{append_assoc, drop_all, append-nil, length-map, take_more}
 use Rattle.std.proofs.lemmas.List.Elements.{All-from_recursion, recursion_from_All}
 use Rattle.std.proofs.lemmas.List.Folds.{list_any-append}
 use Rattle.std.proofs.lemmas.List.Kept.{AllPairs-cons}
 use Rattle.tsp_draft.specs.Valid.{IsPairOf}
 use Rattle.tsp_theory.specs.Tour.{Uses}
-use Rattle.tsp_branch.specs.states.Decided.{IsDecision, case_of}
-use Rattle.tsp_branch.specs.Decisions.{Decision, KeepsAll, KeepsDecision, DecideOnce, take_pairs, is_same}
+use Rattle.tsp_branch.specs.states.Decided.{IsDecision}
+use Rattle.tsp_branch.specs.declared.decision.Decision.{Decision}
+use Rattle.tsp_branch.specs.Decisions.{KeepsAll, KeepsDecision, DecideOnce, take_pairs, is_same}
 use Rattle.tsp_branch.specs.states.PairSets.{key_of, pair_cmp, HasKeys}
 use Rattle.tsp_verdict.specs.Tree.{each_once}
 use Rattle.tsp_branch.proofs.PairKeys.{turned_same}
@@ -71,7 +72,7 @@ all_new directed (x ∷ xs) = ap (λ (ys : List (ℕ × ℕ)). x ∷ ys) (all_ne
 pub once_all : (directed : Bool) (pairs : List (ℕ × ℕ)) → each_once_after directed [] pairs ≡ each_once directed pairs
 once_all directed pairs = once_after directed [] pairs ∙ all_new directed (each_once directed pairs)
 
-after_none : (directed : Bool) (given : List (ℕ × ℕ × Bool)) (pairs : List (ℕ × ℕ)) → case_of given ≡ take_pairs (each_once directed pairs) → case_of given ≡ take_pairs (each_once_after directed [] pairs)
+after_none : (directed : Bool) (given : List Decision) (pairs : List (ℕ × ℕ)) → given ≡ take_pairs (each_once directed pairs) → given ≡ take_pairs (each_once_after directed [] pairs)
 after_none directed given pairs are = are ∙ ap take_pairs (sym (once_all directed pairs))
 
 -- ---- what holds of all pairs
@@ -147,14 +148,14 @@ once_taken directed earlier (pair ∷ pairs) = elim (cases_Bool (list_any (is_sa
 
 -- ---- the same of decisions as code has them
 
-pub given_once : (directed : Bool) (given : List (ℕ × ℕ × Bool)) (pairs : List (ℕ × ℕ)) → case_of given ≡ take_pairs (each_once directed pairs) → DecideOnce directed (case_of given)
+pub given_once : (directed : Bool) (given : List Decision) (pairs : List (ℕ × ℕ)) → given ≡ take_pairs (each_once directed pairs) → DecideOnce directed given
 given_once directed given pairs are = subst (DecideOnce directed) (sym (after_none directed given pairs are)) (once_taken directed [] pairs)
 
-decisions_of : (n : ℕ) (given : List (ℕ × ℕ × Bool)) → AllByRecursion (λ (decision : Decision). IsPairOf n decision.pair) (case_of given) → AllByRecursion (IsDecision n) given
+decisions_of : (n : ℕ) (given : List Decision) → AllByRecursion (λ (decision : Decision). IsPairOf n decision.pair) given → AllByRecursion (IsDecision n) given
 decisions_of n [] h = tt
 decisions_of n (decision ∷ given) h = (h.0, decisions_of n given h.1)
 
-pub given_are : (directed : Bool) (n : ℕ) (given : List (ℕ × ℕ × Bool)) (pairs : List (ℕ × ℕ)) → case_of given ≡ take_pairs (each_once directed pairs) → All (IsPairOf n) pairs → All (IsDecision n) given
+pub given_are : (directed : Bool) (n : ℕ) (given : List Decision) (pairs : List (ℕ × ℕ)) → given ≡ take_pairs (each_once directed pairs) → All (IsPairOf n) pairs → All (IsDecision n) given
 given_are directed n given pairs are of_nodes = All-from_recursion (IsDecision n) given
     (decisions_of n given (subst (AllByRecursion (λ (decision : Decision). IsPairOf n decision.pair)) (sym (after_none directed given pairs are))
     (taken_hold (IsPairOf n) (each_once_after directed [] pairs) (each_holds directed (IsPairOf n) [] pairs (recursion_from_All (IsPairOf n) pairs of_nodes)))))
@@ -166,20 +167,17 @@ once_count directed earlier (pair ∷ pairs) = elim (cases_Bool (list_any (is_sa
   | inr fresh ↦ rw fresh (let less = once_count directed (earlier ++ pair ∷ []) pairs in omega (arith, less))
 ]
 
-pub given_few : (directed : Bool) (most : ℕ) (given : List (ℕ × ℕ × Bool)) (pairs : List (ℕ × ℕ)) → case_of given ≡ take_pairs (each_once directed pairs) → length pairs ≤ most → length given ≤ most
-given_few directed most given pairs are few = omega (arith, few, given_length, ap length (after_none directed given pairs are), taken_length (each_once_after directed [] pairs), once_count directed [] pairs)
+pub given_few : (directed : Bool) (most : ℕ) (given : List Decision) (pairs : List (ℕ × ℕ)) → given ≡ take_pairs (each_once directed pairs) → length pairs ≤ most → length given ≤ most
+given_few directed most given pairs are few = omega (arith, few, ap length (after_none directed given pairs are), taken_length (each_once_after directed [] pairs), once_count directed [] pairs)
   where
-    given_length : length (case_of given) ≡ length given
-    given_length = length-map given _
-
     taken_length : (xs : List (ℕ × ℕ)) → length (take_pairs xs) ≡ length xs
     taken_length xs = length-map xs _
 
 -- ---- one pass over the pairs
 
 -- the taken pairs, and the pairs left to take, are all
-abbrev pub IsTakenSoFar : Bool → List (ℕ × ℕ) → List (ℕ × ℕ × Bool) → ℕ → Type 0
-IsTakenSoFar directed pairs taken index = case_of taken ++ take_pairs (each_once_after directed (take index pairs) (drop index pairs)) ≡ take_pairs (each_once_after directed [] pairs)
+abbrev pub IsTakenSoFar : Bool → List (ℕ × ℕ) → List Decision → ℕ → Type 0
+IsTakenSoFar directed pairs taken index = taken ++ take_pairs (each_once_after directed (take index pairs) (drop index pairs)) ≡ take_pairs (each_once_after directed [] pairs)
 
 pub taken_at_start : (directed : Bool) (pairs : List (ℕ × ℕ)) → IsTakenSoFar directed pairs [] 0
 taken_at_start directed pairs = refl
@@ -194,28 +192,27 @@ next_left directed pairs index lt =
     else (pair ∷ each_once_after directed earlier (drop (index + 1) pairs))) (sym (take_more pairs index (0, 0) lt))
 
 -- the set has an earlier pair that is the next one; it has none
-pub taken_known : (directed : Bool) (pairs : List (ℕ × ℕ)) (taken : List (ℕ × ℕ × Bool)) (index : ℕ) (seen : BTreeSet (ℕ × ℕ)) → index < length pairs → HasKeys directed seen (take index pairs)
+pub taken_known : (directed : Bool) (pairs : List (ℕ × ℕ)) (taken : List Decision) (index : ℕ) (seen : BTreeSet (ℕ × ℕ)) → index < length pairs → HasKeys directed seen (take index pairs)
     → contains pair_cmp seen (key_of directed (get_or pairs index (0, 0))) ≡ true → IsTakenSoFar directed pairs taken index → IsTakenSoFar directed pairs taken (index + 1)
 taken_known directed pairs taken index seen lt has there so_far =
     let pair : ℕ × ℕ = get_or pairs index (0, 0) in
     let known : list_any (is_same directed pair) (take index pairs) ≡ true = sym (has pair) ∙ there in
     let left : each_once_after directed (take index pairs) (drop index pairs) ≡ each_once_after directed (take (index + 1) pairs) (drop (index + 1) pairs) = next_left directed pairs index lt ∙ rw known refl in
-    ap (λ (xs : List (ℕ × ℕ)). case_of taken ++ take_pairs xs) (sym left) ∙ so_far
+    ap (λ (xs : List (ℕ × ℕ)). taken ++ take_pairs xs) (sym left) ∙ so_far
 
-pub taken_new : (directed : Bool) (pairs : List (ℕ × ℕ)) (taken pushed : List (ℕ × ℕ × Bool)) (index : ℕ) (seen : BTreeSet (ℕ × ℕ)) → index < length pairs → HasKeys directed seen (take index pairs)
+pub taken_new : (directed : Bool) (pairs : List (ℕ × ℕ)) (taken pushed : List Decision) (index : ℕ) (seen : BTreeSet (ℕ × ℕ)) → index < length pairs → HasKeys directed seen (take index pairs)
     → contains pair_cmp seen (key_of directed (get_or pairs index (0, 0))) ≡ false
-    → pushed ≡ taken ++ ((get_or pairs index (0, 0)).0, (get_or pairs index (0, 0)).1, true) ∷ [] → IsTakenSoFar directed pairs taken index → IsTakenSoFar directed pairs pushed (index + 1)
+    → pushed ≡ taken ++ take_pairs (get_or pairs index (0, 0) ∷ []) → IsTakenSoFar directed pairs taken index → IsTakenSoFar directed pairs pushed (index + 1)
 taken_new directed pairs taken pushed index seen lt has lacks more so_far =
     let pair : ℕ × ℕ = get_or pairs index (0, 0) in
     let fresh : list_any (is_same directed pair) (take index pairs) ≡ false = sym (has pair) ∙ lacks in
     let rest : List (ℕ × ℕ) = each_once_after directed (take (index + 1) pairs) (drop (index + 1) pairs) in
     let left : each_once_after directed (take index pairs) (drop index pairs) ≡ pair ∷ rest = next_left directed pairs index lt ∙ rw fresh refl in
-    ap (λ (ds : List (ℕ × ℕ × Bool)). case_of ds ++ take_pairs rest) more
-    ∙ ap (λ (ds : List Decision). ds ++ take_pairs rest) (map-append _ taken ((pair.0, pair.1, true) ∷ []))
-    ∙ append_assoc (case_of taken) (take_pairs (pair ∷ [])) (take_pairs rest)
-    ∙ ap (λ (xs : List (ℕ × ℕ)). case_of taken ++ take_pairs xs) (sym left) ∙ so_far
+    ap (λ (ds : List Decision). ds ++ take_pairs rest) more
+    ∙ append_assoc taken (take_pairs (pair ∷ [])) (take_pairs rest)
+    ∙ ap (λ (xs : List (ℕ × ℕ)). taken ++ take_pairs xs) (sym left) ∙ so_far
 
-pub taken_all : (directed : Bool) (pairs : List (ℕ × ℕ)) (taken : List (ℕ × ℕ × Bool)) (index : ℕ) → length pairs ≤ index → IsTakenSoFar directed pairs taken index → case_of taken ≡ take_pairs (each_once directed pairs)
+pub taken_all : (directed : Bool) (pairs : List (ℕ × ℕ)) (taken : List Decision) (index : ℕ) → length pairs ≤ index → IsTakenSoFar directed pairs taken index → taken ≡ take_pairs (each_once directed pairs)
 taken_all directed pairs taken index past so_far =
     let none : drop index pairs ≡ [] = drop_all index pairs past in
-    sym (append-nil (case_of taken)) ∙ ap (λ (xs : List (ℕ × ℕ)). case_of taken ++ take_pairs (each_once_after directed (take index pairs) xs)) (sym none) ∙ so_far ∙ ap take_pairs (once_all directed pairs)
+    sym (append-nil taken) ∙ ap (λ (xs : List (ℕ × ℕ)). taken ++ take_pairs (each_once_after directed (take index pairs) xs)) (sym none) ∙ so_far ∙ ap take_pairs (once_all directed pairs)

@@ -6,10 +6,7 @@ use Rattle.tsp_format.specs.Cells.{IsNode}
 use Rattle.tsp_draft.specs.Fields.{Fields}
 use Rattle.tsp_file.specs.Typed.{AreMultipliersIn, HoldsRouting, HoldsNodeNumbers, HoldsDuals, HoldsCases}
 use Rattle.tsp_theory.specs.Numbers.{AreDuals, AreNodePotentials, AreMultipliers}
-use Rattle.tsp_verdict.specs.Certificate.{potentials_in}
-use Rattle.tsp_verdict.specs.Plan.{depots_of, demands_of, capacity_of}
-use Rattle.tsp_verdict.specs.Solution.{nodes_of}
-use Rattle.tsp_verdict.specs.Tree.{steps_in}
+use Rattle.tsp_file.specs.Meant.{potentials_in, depots_of, demands_of, capacity_of, nodes_of, steps_in}
 use Rattle.tsp_format.specs.Steps.{Step}
 use Rattle.tsp_verdict.proofs.CarriedBounds.{AreOf}
 

@@ -9,22 +9,23 @@ use Rattle.std.proofs.lemmas.List.Elements.{All-append, All-map, All-head, All-t
 use Rattle.std.proofs.lemmas.List.Kept.{AllPairs-cons}
 use Rattle.std.proofs.lemmas.List.Sums.{sum_by-cons}
 use Rattle.tsp_format.specs.Cells.{IsNode}
-use Rattle.tsp_draft.specs.Fields.{combs_of as lists_of_combs}
+use Rattle.tsp_draft.specs.states.Drafts.{combs_of as lists_of_combs}
 use Rattle.tsp_draft.specs.Valid.{IsSetOf, AreSets}
 use Rattle.tsp_branch.specs.states.Sets.{AreSetsOf}
-use Rattle.tsp_branch.specs.states.Combed.{plain}
-use Rattle.tsp_branch.specs.CombsOfSets.{comb_with, of_comb, combs_from, combs_of_sets}
+use Rattle.tsp_branch.specs.states.Combed.{as_numbered, plain}
+use Rattle.tsp_branch.specs.CombsOfSets.{NumberedSet, numbered_set, comb_with, of_comb, combs_from, combs_of_sets}
 use Rattle.tsp_branch.specs.GoodCombs.{AreInOrder}
 use Rattle.tsp_file.specs.Typed.{AreSomeSets}
 use Rattle.tsp_verdict.specs.states.Numbered.{with_number, numbered_from}
+use Rattle.tsp_branch.specs.declared.comb_set.CombSet.{CombSet}
 
 -- ---- the sets of one comb
 
-of_append : (k : ℕ) (xs ys : List (ℕ × List ℕ)) → of_comb k (xs ++ ys) ≡ of_comb k xs ++ of_comb k ys
+of_append : (k : ℕ) (xs ys : List NumberedSet) → of_comb k (xs ++ ys) ≡ of_comb k xs ++ of_comb k ys
 of_append k [] ys = refl
-of_append k (x ∷ xs) ys = elim (cases_eq x.0 k) [
-  | inl same ↦ rw (eq-eqb x.0 k same) (ap (λ (zs : List (List ℕ)). x.1 ∷ zs) (of_append k xs ys))
-  | inr other ↦ rw (ne_eqb x.0 k other) (of_append k xs ys)
+of_append k (x ∷ xs) ys = elim (cases_eq x.comb k) [
+  | inl same ↦ rw (eq-eqb x.comb k same) (ap (λ (zs : List (List ℕ)). x.nodes ∷ zs) (of_append k xs ys))
+  | inr other ↦ rw (ne_eqb x.comb k other) (of_append k xs ys)
 ]
 
 of_own : (k : ℕ) (sets : List (List ℕ)) → of_comb k (with_number k sets) ≡ sets
@@ -52,7 +53,7 @@ own_sets first (suc j) k (comb ∷ combs) at =
     of_append k (with_number first comb) (numbered_from (suc first) combs)
     ∙ ap₂ (λ (a b : List (List ℕ)). a ++ b) (of_other k first (λ e. omega (arith, e, at)) comb) (own_sets (suc first) j k combs (omega (arith, at)))
 
-told_from : (first : ℕ) (sets : List (ℕ × List ℕ)) (combs : List (List (List ℕ))) → ((j k : ℕ) → j < length combs → first + j ≡ k → of_comb k sets ≡ get_or combs j [])
+told_from : (first : ℕ) (sets : List NumberedSet) (combs : List (List (List ℕ))) → ((j k : ℕ) → j < length combs → first + j ≡ k → of_comb k sets ≡ get_or combs j [])
     → combs_from first (length combs) sets ≡ map comb_with combs
 told_from first sets [] h = refl
 told_from first sets (comb ∷ combs) h = ap₂ (λ a b. comb_with a ∷ b) (h 0 first (omega arith) (omega arith))
@@ -64,43 +65,43 @@ combs_told combs = told_from 0 (numbered_from 0 combs) combs (λ j k lt at. own_
 
 -- ---- all sets
 
-with_all : (P : ℕ × List ℕ → Type 0) (first : ℕ) (sets : List (List ℕ)) → All (λ set. P (first, set)) sets → All P (with_number first sets)
-with_all P first sets h = All-map P (λ (set : List ℕ). (first, set)) sets h
+with_all : (P : NumberedSet → Type 0) (first : ℕ) (sets : List (List ℕ)) → All (λ set. P (numbered_set first set)) sets → All P (with_number first sets)
+with_all P first sets h = All-map P (numbered_set first) sets h
 
-pub all_nodes : (n first : ℕ) (combs : List (List (List ℕ))) → All (AreSets n) combs → All (λ set. All (IsNode n) set.1) (numbered_from first combs)
+pub all_nodes : (n first : ℕ) (combs : List (List (List ℕ))) → All (AreSets n) combs → All (λ set. All (IsNode n) set.nodes) (numbered_from first combs)
 all_nodes n first [] are = λ k d lt. absurd (omega (arith, lt))
 all_nodes n first (comb ∷ combs) are =
     let own : AreSets n comb = All-head (AreSets n) comb combs are in
-    All-append (λ (set : ℕ × List ℕ). All (IsNode n) set.1) (with_number first comb) (numbered_from (suc first) combs)
-    (with_all (λ (set : ℕ × List ℕ). All (IsNode n) set.1) first comb (All-weaker (IsSetOf n) (All (IsNode n)) (λ set is. is.1) comb own.1))
+    All-append (λ (set : NumberedSet). All (IsNode n) set.nodes) (with_number first comb) (numbered_from (suc first) combs)
+    (with_all (λ (set : NumberedSet). All (IsNode n) set.nodes) first comb (All-weaker (IsSetOf n) (All (IsNode n)) (λ set is. is.1) comb own.1))
     (all_nodes n (suc first) combs (All-tail (AreSets n) comb combs are))
 
-all_from : (first : ℕ) (combs : List (List (List ℕ))) → All (λ set. first ≤ set.0) (numbered_from first combs)
+all_from : (first : ℕ) (combs : List (List (List ℕ))) → All (λ set. first ≤ set.comb) (numbered_from first combs)
 all_from first [] = λ k d lt. absurd (omega (arith, lt))
-all_from first (comb ∷ combs) = All-append (λ (set : ℕ × List ℕ). first ≤ set.0) (with_number first comb) (numbered_from (suc first) combs)
-    (with_all (λ (set : ℕ × List ℕ). first ≤ set.0) first comb (λ k d lt. omega arith))
-    (All-weaker (λ (set : ℕ × List ℕ). suc first ≤ set.0) (λ (set : ℕ × List ℕ). first ≤ set.0) (λ set le. omega (arith, le)) (numbered_from (suc first) combs) (all_from (suc first) combs))
+all_from first (comb ∷ combs) = All-append (λ (set : NumberedSet). first ≤ set.comb) (with_number first comb) (numbered_from (suc first) combs)
+    (with_all (λ (set : NumberedSet). first ≤ set.comb) first comb (λ k d lt. omega arith))
+    (All-weaker (λ (set : NumberedSet). suc first ≤ set.comb) (λ (set : NumberedSet). first ≤ set.comb) (λ set le. omega (arith, le)) (numbered_from (suc first) combs) (all_from (suc first) combs))
 
-pub all_within : (first : ℕ) (combs : List (List (List ℕ))) → All (λ set. set.0 < first + length combs) (numbered_from first combs)
+pub all_within : (first : ℕ) (combs : List (List (List ℕ))) → All (λ set. set.comb < first + length combs) (numbered_from first combs)
 all_within first [] = λ k d lt. absurd (omega (arith, lt))
-all_within first (comb ∷ combs) = All-append (λ (set : ℕ × List ℕ). set.0 < first + suc (length combs)) (with_number first comb) (numbered_from (suc first) combs)
-    (with_all (λ (set : ℕ × List ℕ). set.0 < first + suc (length combs)) first comb (λ k d lt. omega arith))
-    (All-weaker (λ (set : ℕ × List ℕ). set.0 < suc first + length combs) (λ (set : ℕ × List ℕ). set.0 < first + suc (length combs)) (λ set lt. omega (arith, lt)) (numbered_from (suc first) combs)
+all_within first (comb ∷ combs) = All-append (λ (set : NumberedSet). set.comb < first + suc (length combs)) (with_number first comb) (numbered_from (suc first) combs)
+    (with_all (λ (set : NumberedSet). set.comb < first + suc (length combs)) first comb (λ k d lt. omega arith))
+    (All-weaker (λ (set : NumberedSet). set.comb < suc first + length combs) (λ (set : NumberedSet). set.comb < first + suc (length combs)) (λ set lt. omega (arith, lt)) (numbered_from (suc first) combs)
     (all_within (suc first) combs))
 
-abbrev pub Before : ℕ × List ℕ → ℕ × List ℕ → Type 0
-Before set later = set.0 ≤ later.0
+abbrev pub Before : NumberedSet → NumberedSet → Type 0
+Before set later = set.comb ≤ later.comb
 
-order_with : (first : ℕ) (sets : List (List ℕ)) (rest : List (ℕ × List ℕ)) → All (λ set. first ≤ set.0) rest → AllPairs Before rest → AllPairs Before (with_number first sets ++ rest)
+order_with : (first : ℕ) (sets : List (List ℕ)) (rest : List NumberedSet) → All (λ set. first ≤ set.comb) rest → AllPairs Before rest → AllPairs Before (with_number first sets ++ rest)
 order_with first [] rest later order = order
-order_with first (set ∷ sets) rest later order = AllPairs-cons Before (first, set) (with_number first sets ++ rest)
-    (All-append (Before (first, set)) (with_number first sets) rest (with_all (Before (first, set)) first sets (λ k d lt. omega arith)) later)
+order_with first (set ∷ sets) rest later order = AllPairs-cons Before (numbered_set first set) (with_number first sets ++ rest)
+    (All-append (Before (numbered_set first set)) (with_number first sets) rest (with_all (Before (numbered_set first set)) first sets (λ k d lt. omega arith)) later)
     (order_with first sets rest later order)
 
 pub all_in_order : (first : ℕ) (combs : List (List (List ℕ))) → AllPairs Before (numbered_from first combs)
 all_in_order first [] = λ i j d before inside. absurd (omega (arith, inside))
 all_in_order first (comb ∷ combs) = order_with first comb (numbered_from (suc first) combs)
-    (All-weaker (λ (set : ℕ × List ℕ). suc first ≤ set.0) (λ (set : ℕ × List ℕ). first ≤ set.0) (λ set le. omega (arith, le)) (numbered_from (suc first) combs) (all_from (suc first) combs))
+    (All-weaker (λ (set : NumberedSet). suc first ≤ set.comb) (λ (set : NumberedSet). first ≤ set.comb) (λ set le. omega (arith, le)) (numbered_from (suc first) combs) (all_from (suc first) combs))
     (all_in_order (suc first) combs)
 
 -- ---- how many
@@ -108,7 +109,7 @@ all_in_order first (comb ∷ combs) = order_with first comb (numbered_from (suc 
 set_count : (first : ℕ) (combs : List (List (List ℕ))) → length (numbered_from first combs) ≡ sum_by length combs
 set_count first [] = refl
 set_count first (comb ∷ combs) = length-append (with_number first comb) (numbered_from (suc first) combs)
-    ∙ ap₂ (λ (a b : ℕ). a + b) (length-map comb (λ (set : List ℕ). (first, set))) (set_count (suc first) combs)
+    ∙ ap₂ (λ (a b : ℕ). a + b) (length-map comb (numbered_set first)) (set_count (suc first) combs)
     ∙ sym (sum_by-cons length comb combs)
 
 set_nodes : (n : ℕ) (sets : List (List ℕ)) → AllByRecursion (IsSetOf n) sets → length sets ≤ sum_by length sets
@@ -122,30 +123,30 @@ comb_nodes n (comb ∷ combs) are =
 
 -- ---- the same of sets as code has them
 
-from_plain : (P : ℕ × List ℕ → Type 0) (sets : List (ℕ × Vec ℕ)) → AllByRecursion P (plain sets) → AllByRecursion (λ set. P (set.0, set.1.items)) sets
+from_plain : (P : NumberedSet → Type 0) (sets : List CombSet) → AllByRecursion P (plain sets) → AllByRecursion (λ set. P (as_numbered set)) sets
 from_plain P [] h = tt
 from_plain P (set ∷ sets) h = (h.0, from_plain P sets h.1)
 
-all_plain : (P : ℕ × List ℕ → Type 0) (sets : List (ℕ × Vec ℕ)) (told : List (ℕ × List ℕ)) → plain sets ≡ told → All P told → All (λ set. P (set.0, set.1.items)) sets
-all_plain P sets told are h = All-from_recursion (λ (set : ℕ × Vec ℕ). P (set.0, set.1.items)) sets (from_plain P sets (recursion_from_All P (plain sets) (subst (All P) (sym are) h)))
+all_plain : (P : NumberedSet → Type 0) (sets : List CombSet) (told : List NumberedSet) → plain sets ≡ told → All P told → All (λ set. P (as_numbered set)) sets
+all_plain P sets told are h = All-from_recursion (λ (set : CombSet). P (as_numbered set)) sets (from_plain P sets (recursion_from_All P (plain sets) (subst (All P) (sym are) h)))
 
-pub sets_of_nodes : (n : ℕ) (sets : List (ℕ × Vec ℕ)) (combs : List (List (List ℕ))) → plain sets ≡ numbered_from 0 combs → AreSomeSets n combs → AreSetsOf n sets
-sets_of_nodes n sets combs are some = all_plain (λ (set : ℕ × List ℕ). All (IsNode n) set.1) sets (numbered_from 0 combs) are (all_nodes n 0 combs some.sets)
+pub sets_of_nodes : (n : ℕ) (sets : List CombSet) (combs : List (List (List ℕ))) → plain sets ≡ numbered_from 0 combs → AreSomeSets n combs → AreSetsOf n sets
+sets_of_nodes n sets combs are some = all_plain (λ (set : NumberedSet). All (IsNode n) set.nodes) sets (numbered_from 0 combs) are (all_nodes n 0 combs some.sets)
 
-pub sets_of_combs : (sets : List (ℕ × Vec ℕ)) (combs : List (List (List ℕ))) → plain sets ≡ numbered_from 0 combs → All (λ set. set.0 < length combs) sets
-sets_of_combs sets combs are = all_plain (λ (set : ℕ × List ℕ). set.0 < length combs) sets (numbered_from 0 combs) are
-    (All-weaker (λ (set : ℕ × List ℕ). set.0 < 0 + length combs) (λ (set : ℕ × List ℕ). set.0 < length combs) (λ set lt. omega (arith, lt)) (numbered_from 0 combs) (all_within 0 combs))
+pub sets_of_combs : (sets : List CombSet) (combs : List (List (List ℕ))) → plain sets ≡ numbered_from 0 combs → All (λ set. set.comb < length combs) sets
+sets_of_combs sets combs are = all_plain (λ (set : NumberedSet). set.comb < length combs) sets (numbered_from 0 combs) are
+    (All-weaker (λ (set : NumberedSet). set.comb < 0 + length combs) (λ (set : NumberedSet). set.comb < length combs) (λ set lt. omega (arith, lt)) (numbered_from 0 combs) (all_within 0 combs))
 
-pub sets_in_order : (sets : List (ℕ × Vec ℕ)) (combs : List (List (List ℕ))) → plain sets ≡ numbered_from 0 combs → AreInOrder sets
+pub sets_in_order : (sets : List CombSet) (combs : List (List (List ℕ))) → plain sets ≡ numbered_from 0 combs → AreInOrder sets
 sets_in_order sets combs are i j d before inside =
-    let flat : ℕ × Vec ℕ → ℕ × List ℕ = λ set. (set.0, set.1.items) in
+    let flat : CombSet → NumberedSet = as_numbered in
     let order : AllPairs Before (plain sets) = subst (AllPairs Before) (sym are) (all_in_order 0 combs) in
-    subst₂ (λ (a b : ℕ × List ℕ). a.0 ≤ b.0) (get_or-map flat sets i d (flat d) (omega (arith, before, inside))) (get_or-map flat sets j d (flat d) inside)
+    subst₂ (λ (a b : NumberedSet). a.comb ≤ b.comb) (get_or-map flat sets i d (flat d) (omega (arith, before, inside))) (get_or-map flat sets j d (flat d) inside)
     (order i j (flat d) before (subst (λ (m : ℕ). j < m) (sym (length-map sets flat)) inside))
 
-pub sets_few : (n : ℕ) (sets : List (ℕ × Vec ℕ)) (combs : List (List (List ℕ))) → plain sets ≡ numbered_from 0 combs → AreSomeSets n combs → length sets < 2 ^ 32
+pub sets_few : (n : ℕ) (sets : List CombSet) (combs : List (List (List ℕ))) → plain sets ≡ numbered_from 0 combs → AreSomeSets n combs → length sets < 2 ^ 32
 sets_few n sets combs are some =
-    let flat : ℕ × Vec ℕ → ℕ × List ℕ = λ set. (set.0, set.1.items) in
+    let flat : CombSet → NumberedSet = as_numbered in
     omega (arith, length-map sets flat, ap length are, set_count 0 combs, comb_nodes n combs (recursion_from_All (AreSets n) combs some.sets), some.few_nodes)
 
 -- ---- one pass over the sets of a comb, and one over the combs
@@ -154,51 +155,51 @@ abbrev lists : List (Vec ℕ) → List (List ℕ)
 lists comb = map (λ set. set.items) comb
 
 -- the additions so far
-abbrev pub IsAdded : ℕ → List (Vec ℕ) → List (ℕ × Vec ℕ) → List (ℕ × Vec ℕ) → Type 0
+abbrev pub IsAdded : ℕ → List (Vec ℕ) → List CombSet → List CombSet → Type 0
 IsAdded number comb old new = plain new ≡ plain old ++ with_number number (map (λ set. set.items) comb)
 
-pub added_none : (number : ℕ) (old : List (ℕ × Vec ℕ)) → IsAdded number [] old old
+pub added_none : (number : ℕ) (old : List CombSet) → IsAdded number [] old old
 added_none number old = sym (append-nil (plain old))
 
-pub added_more : (number index : ℕ) (comb : List (Vec ℕ)) (old sets pushed : List (ℕ × Vec ℕ)) (set nodes : Vec ℕ) → index < length comb → set ≡ get_or comb index set → nodes.items ≡ set.items
-    → pushed ≡ sets ++ (number, nodes) ∷ [] → IsAdded number (take index comb) old sets → IsAdded number (take (index + 1) comb) old pushed
+pub added_more : (number index : ℕ) (comb : List (Vec ℕ)) (old sets pushed : List CombSet) (set nodes : Vec ℕ) → index < length comb → set ≡ get_or comb index set → nodes.items ≡ set.items
+    → pushed ≡ sets ++ record { comb = number; nodes = nodes } ∷ [] → IsAdded number (take index comb) old sets → IsAdded number (take (index + 1) comb) old pushed
 added_more number index comb old sets pushed set nodes lt is same more so_far =
-    let one : List (ℕ × List ℕ) = (number, set.items) ∷ [] in
-    let flat : ℕ × Vec ℕ → ℕ × List ℕ = λ s. (s.0, s.1.items) in
+    let one : List NumberedSet = numbered_set number set.items ∷ [] in
+    let flat : CombSet → NumberedSet = as_numbered in
     let of_set : Vec ℕ → List ℕ = λ s. s.items in
     let item : set.items ≡ (get_or comb index set).items = ap of_set is in
     let longer : with_number number (lists (take (index + 1) comb)) ≡ with_number number (lists (take index comb)) ++ one =
     ap (λ (cs : List (Vec ℕ)). with_number number (lists cs)) (take_more comb index set lt)
     ∙ ap (with_number number) (map-append of_set (take index comb) (get_or comb index set ∷ []))
-    ∙ map-append (λ (s : List ℕ). (number, s)) (lists (take index comb)) ((get_or comb index set).items ∷ [])
-    ∙ ap (λ (s : List ℕ). with_number number (lists (take index comb)) ++ (number, s) ∷ []) (sym item) in
-    ap plain more ∙ map-append flat sets ((number, nodes) ∷ []) ∙ ap (λ (s : List ℕ). plain sets ++ (number, s) ∷ []) same
-    ∙ ap (λ (ss : List (ℕ × List ℕ)). ss ++ one) so_far
+    ∙ map-append (numbered_set number) (lists (take index comb)) ((get_or comb index set).items ∷ [])
+    ∙ ap (λ (s : List ℕ). with_number number (lists (take index comb)) ++ numbered_set number s ∷ []) (sym item) in
+    ap plain more ∙ map-append flat sets (record { comb = number; nodes = nodes } ∷ []) ∙ ap (λ (s : List ℕ). plain sets ++ numbered_set number s ∷ []) same
+    ∙ ap (λ (ss : List NumberedSet). ss ++ one) so_far
     ∙ append_assoc (plain old) (with_number number (lists (take index comb))) one
-    ∙ ap (λ (ss : List (ℕ × List ℕ)). plain old ++ ss) (sym longer)
+    ∙ ap (λ (ss : List NumberedSet). plain old ++ ss) (sym longer)
 
-pub added_all : (number index : ℕ) (comb : List (Vec ℕ)) (old new : List (ℕ × Vec ℕ)) → length comb ≤ index → IsAdded number (take index comb) old new → IsAdded number comb old new
+pub added_all : (number index : ℕ) (comb : List (Vec ℕ)) (old new : List CombSet) → length comb ≤ index → IsAdded number (take index comb) old new → IsAdded number comb old new
 added_all number index comb old new past so_far = subst (λ (cs : List (Vec ℕ)). IsAdded number cs old new) (take_all index comb past) so_far
 
 -- the sets so far, and those that the rest gives, are all
-abbrev pub IsNumbered : List (Vec (Vec ℕ)) → List (ℕ × Vec ℕ) → ℕ → List (Vec (Vec ℕ)) → Type 0
+abbrev pub IsNumbered : List (Vec (Vec ℕ)) → List CombSet → ℕ → List (Vec (Vec ℕ)) → Type 0
 IsNumbered all sets number rest = plain sets ++ numbered_from number (lists_of_combs rest) ≡ numbered_from 0 (lists_of_combs all)
 
-pub numbered_more : (all : List (Vec (Vec ℕ))) (sets pushed : List (ℕ × Vec ℕ)) (number index : ℕ) (comb : Vec (Vec ℕ)) (own : List (Vec ℕ)) → index < length all → comb ≡ get_or all index comb
+pub numbered_more : (all : List (Vec (Vec ℕ))) (sets pushed : List CombSet) (number index : ℕ) (comb : Vec (Vec ℕ)) (own : List (Vec ℕ)) → index < length all → comb ≡ get_or all index comb
     → own ≡ comb.items → IsAdded number own sets pushed → IsNumbered all sets number (drop index all) → IsNumbered all pushed (number + 1) (drop (index + 1) all)
 numbered_more all sets pushed number index comb own lt is read added so_far =
     let left : drop index all ≡ comb ∷ drop (index + 1) all =
     drop-cons all index comb lt ∙ ap (λ (k : ℕ). get_or all index comb ∷ drop k all) (sym (add-one index)) ∙ ap (λ (c : Vec (Vec ℕ)). c ∷ drop (index + 1) all) (sym is) in
-    let next : List (ℕ × List ℕ) = numbered_from (suc number) (lists_of_combs (drop (index + 1) all)) in
-    let here : List (ℕ × List ℕ) = with_number number (lists comb.items) in
+    let next : List NumberedSet = numbered_from (suc number) (lists_of_combs (drop (index + 1) all)) in
+    let here : List NumberedSet = with_number number (lists comb.items) in
     let step : number + 1 ≡ suc number = add-one number in
     ap (λ (k : ℕ). plain pushed ++ numbered_from k (lists_of_combs (drop (index + 1) all))) step
-    ∙ ap (λ (ss : List (ℕ × List ℕ)). ss ++ next) (added ∙ ap (λ (cs : List (Vec ℕ)). plain sets ++ with_number number (lists cs)) read)
+    ∙ ap (λ (ss : List NumberedSet). ss ++ next) (added ∙ ap (λ (cs : List (Vec ℕ)). plain sets ++ with_number number (lists cs)) read)
     ∙ append_assoc (plain sets) here next
     ∙ ap (λ (cs : List (Vec (Vec ℕ))). plain sets ++ numbered_from number (lists_of_combs cs)) (sym left)
     ∙ so_far
 
-pub numbered_all : (all : List (Vec (Vec ℕ))) (sets : List (ℕ × Vec ℕ)) (number index : ℕ) → length all ≤ index → IsNumbered all sets number (drop index all)
+pub numbered_all : (all : List (Vec (Vec ℕ))) (sets : List CombSet) (number index : ℕ) → length all ≤ index → IsNumbered all sets number (drop index all)
     → plain sets ≡ numbered_from 0 (lists_of_combs all)
 numbered_all all sets number index past so_far =
     sym (append-nil (plain sets)) ∙ ap (λ (cs : List (Vec (Vec ℕ))). plain sets ++ numbered_from number (lists_of_combs cs)) (sym (drop_all index all past)) ∙ so_far

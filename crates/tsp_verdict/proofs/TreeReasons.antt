@@ -9,7 +9,7 @@ use Rattle.tsp_format.specs.declared.kinds.Kind.{Kind}
 use Rattle.tsp_format.specs.declared.kinds.Kind.TheVariants as kinds
 use Rattle.tsp_format.specs.Steps as listed
 use Rattle.tsp_draft.specs.Fields.{Fields}
-use Rattle.tsp_draft.specs.Fields.{combs_of as lists_of_combs}
+use Rattle.tsp_draft.specs.states.Drafts.{combs_of as lists_of_combs}
 use Rattle.tsp_draft.specs.Rules.{is_tree}
 use Rattle.tsp_file.specs.Cost.{cost}
 use Rattle.tsp_theory.specs.Costs.{IsSymmetric}
@@ -21,20 +21,20 @@ use Rattle.tsp_branch.specs.BranchVerdicts.{IsBranchVerdict}
 use Rattle.tsp_branch.specs.Cases.{decide}
 use Rattle.tsp_branch.specs.Certificate.{IsCertificate, IsCertificateBound, AreCostsFor, BoundsIfAny, CertificatesBoundCycles}
 use Rattle.tsp_branch.specs.Combs.{Comb}
-use Rattle.tsp_branch.specs.CombsOfSets.{of_comb}
-use Rattle.tsp_branch.specs.Decisions.{Decision, KeepsAll, take_pairs, decided_number}
+use Rattle.tsp_branch.specs.CombsOfSets.{NumberedSet, of_comb}
+use Rattle.tsp_branch.specs.declared.decision.Decision.{Decision}
+use Rattle.tsp_branch.specs.Decisions.{KeepsAll, take_pairs, decided_number}
 use Rattle.tsp_branch.specs.GoodCombs.{IsGoodComb, IsFirstBadComb}
 use Rattle.tsp_branch.specs.Listed.{leaf_changes, IsFirstBadLeaf}
 use Rattle.tsp_branch.specs.Twice.{divided, IsFirstTwice}
 use Rattle.tsp_reason.specs.declared.verdict.Reason.{Reason}
 use Rattle.tsp_reason.specs.declared.verdict.Reason.TheVariants.{NotBranches, BranchesDimension, BadComb, BranchTwice, BadLeaf}
-use Rattle.tsp_verdict.specs.Certificate.{scale_in}
+use Rattle.tsp_file.specs.Meant.{scale_in, nodes_of, fixed_of, combs_in, steps_in}
 use Rattle.tsp_verdict.specs.states.Numbered.{numbered_from}
 use Rattle.tsp_verdict.specs.Places.{IsFirstPlace}
 use Rattle.tsp_verdict.specs.Reasons.{NoneBefore, IsFirstReason}
-use Rattle.tsp_verdict.specs.Solution.{nodes_of, fixed_of}
 use Rattle.tsp_verdict.specs.states.Costs.{IsSymmetricTsp}
-use Rattle.tsp_verdict.specs.Tree.{combs_in, steps_in, each_once, given_in, tree_in, told_combs, IsBadComb, StandsAgainstTree, IsBoundByTree, HasNoBoundByTree}
+use Rattle.tsp_verdict.specs.Tree.{each_once, given_in, tree_in, told_combs, IsBadComb, StandsAgainstTree, IsBoundByTree, HasNoBoundByTree}
 use Rattle.tsp_verdict.specs.Certified.{IsBoundBy, IsCertified, HasNoTour, NoneWithoutMemory}
 use Rattle.tsp_reason.specs.declared.certificate.Certificate.TheVariants.{Branches}
 use Rattle.tsp_verdict.proofs.CarriedBounds.{Same}
@@ -74,7 +74,7 @@ abbrev pub IsTold : Fields → Fields → (ℕ → ℕ → ℤ) → BranchVerdic
 IsTold inst tree costs verdict = IsBranchVerdict (is_directed inst.kind) (nodes_of inst) costs (scale_in tree) (length (combs_in tree)) (numbered_from 0 (combs_in tree)) (given_in inst) (steps_in tree) verdict
 
 -- the values that the code passes are those of the files
-pub record AreOf (inst tree : Fields) (directed : Bool) (n : ℕ) (scale : ℤ) (count : ℕ) (sets : List (ℕ × List ℕ)) (given : List Decision) (steps : List listed.Step) : Type 0 where
+pub record AreOf (inst tree : Fields) (directed : Bool) (n : ℕ) (scale : ℤ) (count : ℕ) (sets : List NumberedSet) (given : List Decision) (steps : List listed.Step) : Type 0 where
   pub directed_is : directed ≡ is_directed inst.kind
   pub nodes_are : n ≡ nodes_of inst
   pub scale_is : scale ≡ scale_in tree
@@ -83,7 +83,7 @@ pub record AreOf (inst tree : Fields) (directed : Bool) (n : ℕ) (scale : ℤ) 
   pub given_is : given ≡ given_in inst
   pub steps_are : steps ≡ steps_in tree
 
-pub are_of : (inst tree : Fields) (directed : Bool) (n : ℕ) (scale : ℤ) (combs : List (Vec (Vec ℕ))) (sets : List (ℕ × List ℕ)) (fixed : List (ℕ × ℕ)) (given : List Decision) (steps : List listed.Step)
+pub are_of : (inst tree : Fields) (directed : Bool) (n : ℕ) (scale : ℤ) (combs : List (Vec (Vec ℕ))) (sets : List NumberedSet) (fixed : List (ℕ × ℕ)) (given : List Decision) (steps : List listed.Step)
     → directed ≡ is_directed inst.kind → inst.dimension ≡ Some n → scale ≡ scale_in tree → lists_of_combs combs ≡ combs_in tree → sets ≡ numbered_from 0 (lists_of_combs combs) → fixed ≡ fixed_of inst
     → given ≡ take_pairs (each_once directed fixed) → steps ≡ steps_in tree → AreOf inst tree directed n scale (length combs) sets given steps
 are_of inst tree directed n scale combs sets fixed given steps directed_is count scale_is combs_are sets_are fixed_are given_is steps_are = record {
@@ -96,14 +96,14 @@ are_of inst tree directed n scale combs sets fixed given steps directed_is count
   steps_are = steps_are;
 }
 
-pub told : (inst tree : Fields) (directed : Bool) (n : ℕ) (costs : ℕ → ℕ → ℤ) (scale : ℤ) (count : ℕ) (sets : List (ℕ × List ℕ)) (given : List Decision) (steps : List listed.Step) (verdict : BranchVerdict)
+pub told : (inst tree : Fields) (directed : Bool) (n : ℕ) (costs : ℕ → ℕ → ℤ) (scale : ℤ) (count : ℕ) (sets : List NumberedSet) (given : List Decision) (steps : List listed.Step) (verdict : BranchVerdict)
     → AreOf inst tree directed n scale count sets given steps → IsBranchVerdict directed n costs scale count sets given steps verdict → IsTold inst tree costs verdict
 told inst tree directed n costs scale count sets given steps verdict are h =
     let to : Bool = is_directed inst.kind in
     subst (λ (m : ℕ). IsBranchVerdict to m costs (scale_in tree) (length (combs_in tree)) (numbered_from 0 (combs_in tree)) (given_in inst) (steps_in tree) verdict) are.nodes_are
     (subst (λ (z : ℤ). IsBranchVerdict to n costs z (length (combs_in tree)) (numbered_from 0 (combs_in tree)) (given_in inst) (steps_in tree) verdict) are.scale_is
     (subst (λ (m : ℕ). IsBranchVerdict to n costs scale m (numbered_from 0 (combs_in tree)) (given_in inst) (steps_in tree) verdict) are.count_is
-    (subst (λ (ss : List (ℕ × List ℕ)). IsBranchVerdict to n costs scale count ss (given_in inst) (steps_in tree) verdict) are.sets_are
+    (subst (λ (ss : List NumberedSet). IsBranchVerdict to n costs scale count ss (given_in inst) (steps_in tree) verdict) are.sets_are
     (subst (λ (ds : List Decision). IsBranchVerdict to n costs scale count sets ds (steps_in tree) verdict) are.given_is
     (subst (λ (ss : List listed.Step). IsBranchVerdict to n costs scale count sets given ss verdict) are.steps_are
     (subst (λ (d : Bool). IsBranchVerdict d n costs scale count sets given steps verdict) are.directed_is h))))))

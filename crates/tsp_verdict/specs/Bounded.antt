@@ -10,7 +10,7 @@ use Rattle.tsp_reason.specs.declared.verdict.Reason.{Reason}
 use Rattle.tsp_reason.specs.declared.verdict.Reason.TheVariants.{TooFewNodes, NotSymmetric}
 use Rattle.tsp_verdict.specs.Certified.{StandsAgainstCertificate, IsCertified, HasNoBound, HasNoTour}
 use Rattle.tsp_verdict.specs.Reasons.{IsFirstReason}
-use Rattle.tsp_verdict.specs.Solution.{nodes_of}
+use Rattle.tsp_file.specs.Meant.{nodes_of}
 
 -- When a reason applies to an instance, whatever the tour: the two that are judged of a tour too. No other reason does.
 abbrev pub StandsAgainstInstance : Fields → Reason → Type 0

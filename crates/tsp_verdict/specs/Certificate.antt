@@ -1,9 +1,10 @@
 -- A certificate by potentials: its file, when a reason applies to it, and the bound that it gives.
-use Rattle.std.specs.Prelude.{◌≡◌, ◌≢◌, ℕ, Bool, false, ◌&&◌, List, [], Option, None, Some, is_some, unwrap_or, ℤ, pos}
+use Rattle.std.specs.Prelude.{◌≡◌, ◌≢◌, Bool, false, ◌&&◌, [], Option, None, Some, is_some, ℤ}
 use Rattle.tsp_format.specs.declared.kinds.Kind.{Kind}
 use Rattle.tsp_format.specs.declared.kinds.Kind.TheVariants as kinds
 use Rattle.tsp_draft.specs.Fields.{Fields}
 use Rattle.tsp_draft.specs.Rules.{is_certificate}
+use Rattle.tsp_file.specs.Meant.{nodes_of, fixed_of, scale_in, potentials_in, rows_in, columns_in, multipliers_in}
 use Rattle.tsp_file.specs.Cost.{cost}
 use Rattle.tsp_theory.specs.Assignment.{AreGood, IsFirstBroken, IsDualBound}
 use Rattle.tsp_theory.specs.Adjusted.{IsAdjustedBound}
@@ -11,26 +12,8 @@ use Rattle.tsp_reason.specs.declared.verdict.Reason.{Reason}
 use Rattle.tsp_reason.specs.declared.verdict.Reason.TheVariants.{NotPotentials, PotentialsDimension, PotentialsKind, MultiplierNotFixed, MultiplierRepeated, DualInfeasible}
 use Rattle.tsp_verdict.specs.Multiplied.{IsUnlisted, IsPairRepeated}
 use Rattle.tsp_verdict.specs.Places.{IsFirstPlace}
-use Rattle.tsp_verdict.specs.Solution.{nodes_of, fixed_of}
 
 -- ---- what is read of it
-
--- SCALE; 1 is meant where it is missing
-abbrev pub scale_in : Fields → ℤ
-scale_in f = unwrap_or f.scale (pos 1)
-
-abbrev pub potentials_in : Fields → List ℤ
-potentials_in f = unwrap_or f.node_potentials []
-
-abbrev pub rows_in : Fields → List ℤ
-rows_in f = unwrap_or f.row_potentials []
-
-abbrev pub columns_in : Fields → List ℤ
-columns_in f = unwrap_or f.column_potentials []
-
--- its multipliers of fixed pairs
-abbrev pub multipliers_in : Fields → List (ℕ × ℕ × ℤ)
-multipliers_in f = unwrap_or f.fixed_potentials []
 
 -- a TSP wants potentials of nodes, an ATSP those of rows and of columns
 abbrev pub has_wanted : Option Kind → Fields → Bool

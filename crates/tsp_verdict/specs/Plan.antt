@@ -1,10 +1,11 @@
 -- Plans of routes. Source: TSPLIB 95 (G. Reinelt), capacitated vehicle routing: CAPACITY, DEMAND_SECTION, DEPOT_SECTION.
-use Rattle.std.specs.Prelude.{◌≢◌, ℕ, ◌-◌, ◌≤◌, List, [], ◌∷◌, slice_index, slice_index_or, unwrap_or, ℤ, pos, ◌*ℤ◌, ◌≤ℤ◌}
+use Rattle.std.specs.Prelude.{◌≢◌, ℕ, ◌-◌, ◌≤◌, List, ◌∷◌, slice_index, slice_index_or, ℤ, pos, ◌*ℤ◌, ◌≤ℤ◌}
 use Rattle.std.specs.List.{All, AllPairs, Contains, concat}
 use Rattle.tsp_format.specs.Cells.{IsNode, nodes_to}
 use Rattle.tsp_draft.specs.Fields.{Fields}
 use Rattle.tsp_theory.specs.Length.{sum_int_by, length_of}
-use Rattle.tsp_verdict.specs.Solution.{nodes_of, visited}
+use Rattle.tsp_file.specs.Meant.{nodes_of, depots_of, demands_of, capacity_of}
+use Rattle.tsp_verdict.specs.Solution.{visited}
 
 -- the demand of a node
 abbrev pub demand_of : List ℤ → ℕ → ℤ
@@ -36,18 +37,9 @@ pub record IsLeast (total capacity : ℤ) (least : ℕ) : Type 0 where
 
 -- ---- of an instance
 
-abbrev pub depots_of : Fields → List ℕ
-depots_of f = unwrap_or f.depots []
-
 -- the depot of an instance that lists one
 abbrev pub depot_of : Fields → ℕ
 depot_of f = slice_index (depots_of f) 0
-
-abbrev pub demands_of : Fields → List ℤ
-demands_of f = unwrap_or f.demands []
-
-abbrev pub capacity_of : Fields → ℤ
-capacity_of f = unwrap_or f.capacity (pos 0)
 
 -- the sum of all demands
 abbrev pub total_of : Fields → ℤ

@@ -1,32 +1,25 @@
 -- A certificate by branching: a file of branches, when a reason applies to it, and the bound that it gives.
-use Rattle.std.specs.Prelude.{◌≡◌, ◌≢◌, ℕ, ◌-◌, Bool, false, not, List, [], ◌∷◌, length, map, filter, slice_index_or, unwrap_or, None, Some, ℤ}
+use Rattle.std.specs.Prelude.{◌≡◌, ◌≢◌, ℕ, ◌-◌, Bool, false, not, List, [], ◌∷◌, length, map, filter, slice_index_or, None, Some, ℤ}
 use Rattle.tsp_format.specs.Steps as listed
 use Rattle.tsp_draft.specs.Fields.{Fields}
 use Rattle.tsp_draft.specs.Rules.{is_tree}
+use Rattle.tsp_file.specs.Meant.{nodes_of, fixed_of, scale_in, combs_in, steps_in}
 use Rattle.tsp_file.specs.Cost.{cost}
 use Rattle.tsp_cost.specs.Tours.{is_directed}
 use Rattle.tsp_branch.specs.Combs.{Comb}
 use Rattle.tsp_branch.specs.CombsOfSets.{comb_with}
 use Rattle.tsp_branch.specs.Cases.{CaseStep}
 use Rattle.tsp_branch.specs.Certificate.{IsCertificate, IsCertificateBound}
-use Rattle.tsp_branch.specs.Decisions.{Decision, take_pairs, is_same, decided_number}
+use Rattle.tsp_branch.specs.declared.decision.Decision.{Decision}
+use Rattle.tsp_branch.specs.Decisions.{take_pairs, is_same, decided_number}
 use Rattle.tsp_branch.specs.GoodCombs.{IsGoodComb}
 use Rattle.tsp_branch.specs.Listed.{listed_steps, IsFirstBadLeaf}
 use Rattle.tsp_branch.specs.Twice.{IsFirstTwice}
 use Rattle.tsp_reason.specs.declared.verdict.Reason.{Reason}
 use Rattle.tsp_reason.specs.declared.verdict.Reason.TheVariants.{NotBranches, BranchesDimension, BadComb, BranchTwice, BadLeaf}
-use Rattle.tsp_verdict.specs.Certificate.{scale_in}
 use Rattle.tsp_verdict.specs.Places.{IsFirstPlace}
-use Rattle.tsp_verdict.specs.Solution.{nodes_of, fixed_of}
 
 -- ---- what is read of it, and of the instance
-
--- its families, each as its sets, the handle first
-abbrev pub combs_in : Fields → List (List (List ℕ))
-combs_in f = unwrap_or f.combs []
-
-abbrev pub steps_in : Fields → List listed.Step
-steps_in f = unwrap_or f.branches []
 
 -- pairs, each once: without the later ones that are the same; undirected: in either direction
 abbrev pub each_once : Bool → List (ℕ × ℕ) → List (ℕ × ℕ)

@@ -3,3 +3,4 @@ pub mod Marks
 pub mod Next
 pub mod Numbered
 pub mod Sums
+pub mod Routes

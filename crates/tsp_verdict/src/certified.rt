@@ -5,7 +5,7 @@ ghost use Rattle.tsp_format.specs.declared.kinds.Kind.TheVariants as kinds;
 ghost use Rattle.tsp_draft.specs.Fields.{Fields};
 ghost use Rattle.tsp_reason.specs.declared.certificate.Certificate.{Certificate};
 ghost use Rattle.tsp_reason.specs.declared.certificate.Certificate.TheVariants as certificates;
-ghost use Rattle.tsp_verdict.specs.Solution.{nodes_of};
+ghost use Rattle.tsp_file.specs.Meant.{nodes_of};
 ghost use Rattle.tsp_verdict.specs.Tours.{NoneOfTourBeforeRepeats};
 ghost use Rattle.tsp_verdict.specs.states.Costs.{AreTourCosts, IsSymmetricTsp};
 ghost use Rattle.tsp_verdict.specs.Certified.{is_bounded, FindsBound, FindsBoundIfAny, NoneWithoutMemory, IsCertifiedVerdict};

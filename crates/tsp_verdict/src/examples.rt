@@ -16,9 +16,8 @@ ghost use Rattle.tsp_verdict.specs.Plan.{IsPlanOf, IsLeast, plan_length, total_o
 ghost use Rattle.tsp_verdict.specs.Tours.{StandsAgainstTour, NoneOfTourBeforeRepeats};
 ghost use Rattle.tsp_verdict.specs.Routes.{StandsAgainstRoutes, NoneOfRoutesBeforeRepeats};
 ghost use Rattle.tsp_verdict.specs.Certificate.{StandsAgainstPotentials};
-ghost use Rattle.tsp_verdict.specs.Certificate.{scale_in};
-ghost use Rattle.tsp_verdict.specs.Tree.{StandsAgainstTree};
-ghost use Rattle.tsp_verdict.specs.Tree.{given_in};
+ghost use Rattle.tsp_file.specs.Meant.{scale_in};
+ghost use Rattle.tsp_verdict.specs.Tree.{StandsAgainstTree, given_in};
 ghost use Rattle.tsp_verdict.specs.Examples.{of_nodes, of_rows, of_both, multiplying, nodes, vehicles, carrying, solution, sized, lone, both, two, three, four, branching, two_leaves, three_leaves, two_teeth, Before};
 
 /// The order in which reasons against a tour, and then against its certificate, are judged: each

@@ -6,8 +6,9 @@ ghost use Rattle.tsp_format.specs.declared.kinds.Kind.TheVariants as kinds;
 ghost use Rattle.tsp_format.specs.Cells.{IsNode};
 ghost use Rattle.tsp_format.specs.Limits.{most_fixed, most_capacity, most_tour_nodes};
 ghost use Rattle.tsp_draft.specs.Valid.{IsPairOf, IsDemand, IsFromTo};
-ghost use Rattle.tsp_verdict.specs.Plan.{depots_of, demands_of, capacity_of};
-ghost use Rattle.tsp_verdict.specs.Solution.{nodes_of, fixed_of, tours_of, visited, nodes_in};
+ghost use Rattle.tsp_file.specs.Meant.{depots_of, demands_of, capacity_of, nodes_of, fixed_of, tours_of};
+ghost use Rattle.tsp_verdict.specs.Solution.{visited};
+ghost use Rattle.tsp_verdict.specs.states.Routes.{nodes_in};
 
 use tsp_cost::Instance;
 use tsp_draft::valid_fields_are_in_range;

@@ -85,7 +85,7 @@ fn first_outside(set: &BTreeSet<(u32, u32)>, triples: &[(u32, u32, i64)]) -> Opt
 }
 
 /// A pair with its smaller node first.
-pub(crate) fn undirected(pair: (u32, u32)) -> (u32, u32)
+fn undirected(pair: (u32, u32)) -> (u32, u32)
     ensures { result ≡ undirected pair }
 {
     if pair.0 <= pair.1 {

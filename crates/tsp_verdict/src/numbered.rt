@@ -1,12 +1,12 @@
 //! The sets of combs in one list, each with the number of its comb.
 
-ghost use Rattle.std.specs.Prelude.{◌≡◌, ◌<◌, ◌^◌, ◌++◌, ℕ, List, map, length, IfOk};
-ghost use Rattle.std.specs.List.{sum_by};
-ghost use Rattle.tsp_draft.specs.Fields.{combs_of};
+ghost use Rattle.std.specs.Prelude.{◌≡◌, ◌<◌, ◌^◌, ◌++◌, map, length, IfOk};
+ghost use Rattle.tsp_draft.specs.states.Drafts.{combs_of};
 ghost use Rattle.tsp_branch.specs.states.Combed.{plain};
 ghost use Rattle.tsp_verdict.specs.states.Numbered.{numbered_from, with_number};
 
 use std::alloc::{AllocError, Global};
+use tsp_branch::CombSet;
 
 /// The sets of combs, comb by comb, each with the number of its comb from 0 on.
 ///
@@ -16,7 +16,7 @@ use std::alloc::{AllocError, Global};
 pub(crate) fn numbered_sets(
     alloc: Global,
     combs: &[Vec<Vec<u32>>],
-) -> Result<Vec<(u32, Vec<u32>)>, AllocError>
+) -> Result<Vec<CombSet>, AllocError>
     requires { length combs.now < 2 ^ 32 }
     ensures { IfOk result (λ sets. plain sets.items ≡ numbered_from 0 (combs_of combs.now)) }
 {
@@ -36,7 +36,7 @@ pub(crate) fn numbered_sets(
 /// Out of memory.
 fn add_sets(
     alloc: Global,
-    sets: &mut Vec<(u32, Vec<u32>)>,
+    sets: &mut Vec<CombSet>,
     number: u32,
     comb: &[Vec<u32>],
 ) -> Result<(), AllocError>
@@ -45,7 +45,10 @@ fn add_sets(
 {
     'sets: for set in comb {
         let nodes = set.to_vec(alloc)?;
-        sets.push((number, nodes))?;
+        sets.push(CombSet {
+            comb: number,
+            nodes,
+        })?;
     }
     Ok(())
 }

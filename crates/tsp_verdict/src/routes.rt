@@ -4,11 +4,11 @@ ghost use Rattle.std.specs.Prelude.{◌≡◌, length, pos, Some, MatchOption, M
 ghost use Rattle.std.specs.List.{All};
 ghost use Rattle.tsp_format.specs.declared.kinds.Kind.TheVariants as kinds;
 ghost use Rattle.tsp_format.specs.Cells.{IsNode};
-ghost use Rattle.tsp_verdict.specs.Plan.{demand_of, depot_of, demands_of, depots_of, AreCustomers};
+ghost use Rattle.tsp_verdict.specs.Plan.{demand_of, depot_of, AreCustomers};
+ghost use Rattle.tsp_file.specs.Meant.{demands_of, depots_of, nodes_of};
 ghost use Rattle.tsp_verdict.specs.Routes.{NoneOfRoutesUpTo, NoneOfRoutesBeforePlaces, IsFirstAgainstRoutes, IsRoutesVerdict, NoneOfRoutesBeforeRepeats};
 ghost use Rattle.tsp_reason.specs.declared.verdict.Reason.TheVariants.{DepotCount};
 ghost use Rattle.tsp_verdict.specs.Reasons.{rank_of};
-ghost use Rattle.tsp_verdict.specs.Solution.{nodes_of};
 
 use crate::files::{fixed_pairs, routing, solution_tours};
 use crate::lengths::plan_length;

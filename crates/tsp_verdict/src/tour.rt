@@ -1,12 +1,12 @@
 //! The verdict on a tour.
 
-ghost use Rattle.std.specs.Prelude.{◌≡◌, ◌⊎◌, ◌<◌, ◌≤◌, [], ◌∷◌, length, Some, MatchOption, MatchResult};
+ghost use Rattle.std.specs.Prelude.{◌≡◌, ◌⊎◌, ◌<◌, ◌≤◌, [], ◌∷◌, length, Some, MatchResult};
 ghost use Rattle.std.specs.List.{All};
 ghost use Rattle.tsp_format.specs.declared.kinds.Kind.TheVariants as kinds;
 ghost use Rattle.tsp_cost.specs.Tours.{is_directed};
 ghost use Rattle.tsp_reason.specs.declared.verdict.Reason.TheVariants.{TourCount};
 ghost use Rattle.tsp_verdict.specs.Reasons.{rank_of};
-ghost use Rattle.tsp_verdict.specs.Solution.{nodes_of, tours_of};
+ghost use Rattle.tsp_file.specs.Meant.{nodes_of, tours_of};
 ghost use Rattle.tsp_verdict.specs.Tours.{NoneOfTourUpTo, NoneOfTourBeforeNodes, IsFirstAgainstTour, IsTourVerdict, NoneOfTourBeforeRepeats};
 ghost use Rattle.tsp_file.specs.Cost.{cost};
 ghost use Rattle.tsp_theory.specs.Costs.{IsFirstAsymmetric};

@@ -2,13 +2,13 @@
 
 ghost use Rattle.std.specs.Prelude.{◌≡◌, ◌⊎◌, ◌≤◌, true, Some, IfOk, IsErr, MatchResult};
 ghost use Rattle.tsp_format.specs.declared.kinds.Kind.TheVariants as kinds;
-ghost use Rattle.tsp_format.specs.Steps.{steps_of};
-ghost use Rattle.tsp_draft.specs.Fields.{combs_of};
+ghost use Rattle.tsp_format.specs.states.TreeSteps.{steps_of};
+ghost use Rattle.tsp_draft.specs.states.Drafts.{combs_of};
 ghost use Rattle.tsp_draft.specs.Rules.{is_tree};
 ghost use Rattle.tsp_file.specs.Typed.{HoldsCases};
-ghost use Rattle.tsp_cost.specs.Views.{HasCosts};
+ghost use Rattle.tsp_cost.specs.states.Views.{HasCosts};
 ghost use Rattle.tsp_verdict.specs.Reasons.{IsFirstReason};
-ghost use Rattle.tsp_verdict.specs.Solution.{nodes_of};
+ghost use Rattle.tsp_file.specs.Meant.{nodes_of};
 ghost use Rattle.tsp_verdict.specs.states.Costs.{IsSymmetricTsp};
 ghost use Rattle.tsp_verdict.specs.Tree.{StandsAgainstTree};
 ghost use Rattle.tsp_reason.specs.declared.certificate.Certificate.TheVariants as certificates;

@@ -1,6 +1,5 @@
 -- Weights under combs as code finds them: by the sets of the combs, each with the multiplier of its comb.
 use Rattle.std.specs.Prelude.{◌≡◌, ◌≢◌, ℕ, ◌*◌, ◌<◌, List, [], map, length, slice_index_or, ℤ, pos, ◌-ℤ◌, ◌*ℤ◌}
-use Rattle.std.specs.Global.{Vec}
 use Rattle.std.specs.List.{All, AllPairs}
 use Rattle.tsp_theory.specs.Length.{sum_int_by}
 use Rattle.tsp_theory.specs.Numbers.{IsFromTo}
@@ -10,43 +9,51 @@ use Rattle.tsp_theory.specs.Adjusted.{adjusted}
 use Rattle.tsp_branch.specs.Combs.{has}
 use Rattle.tsp_branch.specs.LeafBound.{crossings_of, leaf_weight}
 use Rattle.tsp_branch.specs.Certificate.{multiplied}
-use Rattle.tsp_branch.specs.CombsOfSets.{combs_of_sets}
+use Rattle.tsp_branch.specs.CombsOfSets.{NumberedSet, combs_of_sets}
 use Rattle.tsp_branch.specs.Judged.{most_multiplied}
 use Rattle.tsp_branch.specs.states.Sets.{added}
+use Rattle.tsp_branch.specs.declared.comb_set.CombSet.{CombSet}
 
--- the number of a set's comb, and its nodes
-abbrev pub plain : List (ℕ × Vec ℕ) → List (ℕ × List ℕ)
-plain sets = map (λ set. (set.0, set.1.items)) sets
+-- sets as the definitions have them
+abbrev pub as_numbered : CombSet → NumberedSet
+as_numbered set = record { comb = set.comb; nodes = set.nodes.items }
+
+abbrev pub plain : List CombSet → List NumberedSet
+plain sets = map as_numbered sets
 
 abbrev pub AreSmallMultipliers : List ℤ → Type 0
 AreSmallMultipliers multipliers = All (IsFromTo (pos 0) (pos most_multiplied)) multipliers
 
 -- the multiplier of a set's comb
-abbrev pub multiplier_of : List ℤ → ℕ × List ℕ → ℤ
-multiplier_of multipliers set = slice_index_or multipliers set.0 (pos 0)
+abbrev pub multiplier_of : List ℤ → NumberedSet → ℤ
+multiplier_of multipliers set = slice_index_or multipliers set.comb (pos 0)
 
 -- each set has the number of a comb that has a multiplier, and each of its nodes once
-abbrev pub AreMultipliedSets : List ℤ → List (ℕ × Vec ℕ) → Type 0
-AreMultipliedSets multipliers sets = All (λ set. (set.0 < length multipliers) × AllPairs (λ a b. a ≢ b) set.1.items) sets
+abbrev pub AreMultipliedSets : List ℤ → List CombSet → Type 0
+AreMultipliedSets multipliers sets = All (λ set. (set.comb < length multipliers) × AllPairs (λ a b. a ≢ b) set.nodes.items) sets
 
 -- the sets that have one of two nodes and not the other, each as often as its multiplier says
-abbrev pub set_crossings : List ℤ → List (ℕ × List ℕ) → ℕ → ℕ → ℤ
-set_crossings multipliers sets i j = sum_int_by (λ set. multiplier_of multipliers set *ℤ crossing (has set.1) i j) sets
+abbrev pub set_crossings : List ℤ → List NumberedSet → ℕ → ℕ → ℤ
+set_crossings multipliers sets i j = sum_int_by (λ set. multiplier_of multipliers set *ℤ crossing (has set.nodes) i j) sets
 
 -- the multipliers of the sets that have a node
-abbrev pub multipliers_at : List ℤ → List (ℕ × List ℕ) → ℕ → ℤ
-multipliers_at multipliers sets x = sum_int_by (λ set. added (multiplier_of multipliers set) set.1 x) sets
+abbrev pub multipliers_at : List ℤ → List NumberedSet → ℕ → ℤ
+multipliers_at multipliers sets x = sum_int_by (λ set. added (multiplier_of multipliers set) set.nodes x) sets
+
+-- where there is no set of a number
+abbrev pub no_set : NumberedSet
+no_set = record { comb = 0; nodes = [] }
 
 -- of the sets with these numbers those that have a node, each with its multiplier twice
-abbrev pub twice_in : List ℤ → List (ℕ × List ℕ) → ℕ → ℕ → ℤ
+abbrev pub twice_in : List ℤ → List NumberedSet → ℕ → ℕ → ℤ
 twice_in multipliers sets number x =
-    added (pos 2 *ℤ multiplier_of multipliers (slice_index_or sets number (0, []))) (slice_index_or sets number (0, [])).1 x
+    added (pos 2 *ℤ multiplier_of multipliers (slice_index_or sets number no_set)) (slice_index_or sets number no_set).nodes x
 
-abbrev pub inside_both : List ℤ → List (ℕ × List ℕ) → List ℕ → ℕ → ℤ
+abbrev pub inside_both : List ℤ → List NumberedSet → List ℕ → ℕ → ℤ
 inside_both multipliers sets numbers x = sum_int_by (λ number. twice_in multipliers sets number x) numbers
 
 -- the weight between two nodes: by the cost at the scale and both potentials, less the crossings
-abbrev pub set_weight : ℤ → List ℤ → List ℤ → List (ℕ × List ℕ) → (ℕ → ℕ → ℤ) → ℕ → ℕ → ℤ
+abbrev pub set_weight : ℤ → List ℤ → List ℤ → List NumberedSet → (ℕ → ℕ → ℤ) → ℕ → ℕ → ℤ
 set_weight scale potentials multipliers sets cost i j =
     weight_between scale potentials cost i j -ℤ set_crossings multipliers sets i j
 
@@ -55,7 +62,7 @@ set_weight scale potentials multipliers sets cost i j =
 abbrev pub most_crossed : ℕ
 most_crossed = 3 * most_multiplied
 
-abbrev pub AreFewCrossings : List ℤ → List (ℕ × List ℕ) → Type 0
+abbrev pub AreFewCrossings : List ℤ → List NumberedSet → Type 0
 AreFewCrossings multipliers sets = (i j : ℕ) → IsFromTo (pos 0) (pos most_crossed) (set_crossings multipliers sets i j)
 
 abbrev pub most_combed : ℕ
@@ -63,12 +70,12 @@ most_combed = 2000000000000000000
 
 -- The crossings of the sets are those of the combs.
 abbrev pub SetsTellCombs : Type 0
-SetsTellCombs = (multipliers : List ℤ) (sets : List (ℕ × List ℕ)) (i j : ℕ) → All (λ set. set.0 < length multipliers) sets
+SetsTellCombs = (multipliers : List ℤ) (sets : List NumberedSet) (i j : ℕ) → All (λ set. set.comb < length multipliers) sets
     → crossings_of (multiplied (combs_of_sets (length multipliers) sets) multipliers) i j ≡ set_crossings multipliers sets i j
 
 -- So the weights by sets are, under taken and avoided pairs, those of a leaf.
 abbrev pub SetsGiveLeaves : Type 0
-SetsGiveLeaves = (scale : ℤ) (potentials multipliers : List ℤ) (taken avoided : List (ℕ × ℕ × ℤ)) (sets : List (ℕ × List ℕ))
-    (cost : ℕ → ℕ → ℤ) (i j : ℕ) → All (λ set. set.0 < length multipliers) sets
+SetsGiveLeaves = (scale : ℤ) (potentials multipliers : List ℤ) (taken avoided : List (ℕ × ℕ × ℤ)) (sets : List NumberedSet)
+    (cost : ℕ → ℕ → ℤ) (i j : ℕ) → All (λ set. set.comb < length multipliers) sets
     → adjusted taken avoided (set_weight scale potentials multipliers sets cost) i j
     ≡ leaf_weight scale potentials taken avoided (multiplied (combs_of_sets (length multipliers) sets) multipliers) cost i j

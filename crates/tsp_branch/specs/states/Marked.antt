@@ -1,9 +1,9 @@
 -- Nodes of sets as code finds out that no two of them are the same: each gets a mark, by which it is known again.
 use Rattle.std.specs.Prelude.{◌≡◌, ◌≢◌, ℕ, ◌==◌, ◌||◌, ◌<◌, length, Bool, false, List, [], ◌∷◌, slice_index}
-use Rattle.std.specs.Global.{Vec}
 use Rattle.std.specs.List.{All}
 use Rattle.tsp_branch.specs.Combs.{has, IsTooth}
 use Rattle.tsp_branch.specs.GoodCombs.{HasEachOnce}
+use Rattle.tsp_branch.specs.declared.comb_set.CombSet.{CombSet}
 
 -- whether a node has a mark
 abbrev pub is_marked : List ℕ → ℕ → ℕ → Bool
@@ -13,8 +13,8 @@ abbrev pub AreUnmarked : List ℕ → ℕ → Type 0
 AreUnmarked marks mark = (node : ℕ) → is_marked marks mark node ≡ false
 
 -- marks that have a place for each node of sets
-abbrev pub HavePlaces : List ℕ → List (ℕ × Vec ℕ) → Type 0
-HavePlaces marks sets = All (λ set. All (λ node. node < length marks) set.1.items) sets
+abbrev pub HavePlaces : List ℕ → List CombSet → Type 0
+HavePlaces marks sets = All (λ set. All (λ node. node < length marks) set.nodes.items) sets
 
 -- nodes of which none is used, and none appears twice
 pub record AreNew (used : ℕ → Bool) (nodes : List ℕ) : Type 0 where

@@ -1,7 +1,8 @@
 -- A growth of which the nodes outside are listed, in any order, each with the least weight between it and a node inside.
 use Rattle.std.specs.Prelude.{◌≡◌, ℕ, ◌<◌, ◌+◌, List, length, slice_index, ◌⊎◌, ℤ, ◌≤ℤ◌, ◌<ℤ◌}
 use Rattle.tsp_theory.specs.Tree.{IsInner, weight_of}
-use Rattle.tsp_theory.specs.Growth.{IsWholeGrowth, least_at}
+use Rattle.tsp_theory.specs.Growth.{IsWholeGrowth}
+use Rattle.tsp_theory.specs.states.Nearest.{least_at}
 
 -- what a growth from node 2 that reaches all of 2..n weighs
 pub record IsGrownWeight (n : ℕ) (w : ℕ → ℕ → ℤ) (weight : ℤ) : Type 0 where

@@ -5,7 +5,8 @@ use Rattle.std.specs.List.{list_any}
 use Rattle.std.specs.Ordering.{nat_cmp, ordering_then}
 use Rattle.std.specs.declared.cmp.Ordering.{Ordering}
 use Rattle.tsp_theory.specs.Adjusted.{is_same_pair}
-use Rattle.tsp_branch.specs.Decisions.{Decision, is_same, DecideOnce}
+use Rattle.tsp_branch.specs.declared.decision.Decision.{Decision}
+use Rattle.tsp_branch.specs.Decisions.{is_same, DecideOnce}
 use Rattle.tsp_branch.specs.states.Decided.{stack_of}
 use Rattle.tsp_branch.specs.Twice.{is_decided}
 
@@ -36,6 +37,6 @@ abbrev pub HasDecided : Bool → BTreeSet (ℕ × ℕ) → List Decision → Typ
 HasDecided directed set case = (pair : ℕ × ℕ) → contains pair_cmp set (key_of directed pair) ≡ is_decided directed case pair
 
 -- those of a stack and the given ones, which decide each pair once
-pub record HasStack (directed : Bool) (set : BTreeSet (ℕ × ℕ)) (stack : List (ℕ × ℕ × Bool)) (given : List Decision) : Type 0 where
+pub record HasStack (directed : Bool) (set : BTreeSet (ℕ × ℕ)) (stack : List Decision) (given : List Decision) : Type 0 where
   pub once : DecideOnce directed (stack_of stack ++ given)
   pub has : HasDecided directed set (stack_of stack ++ given)

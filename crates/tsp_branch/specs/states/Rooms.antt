@@ -5,7 +5,7 @@ use Rattle.tsp_theory.specs.Numbers.{IsFromTo, IsBoundSized}
 use Rattle.tsp_branch.specs.declared.room.Room.{Room}
 use Rattle.tsp_branch.specs.declared.steps.JudgedLeaf.{JudgedLeaf}
 use Rattle.tsp_branch.specs.declared.steps.JudgedLeaf.TheVariants as leaves
-use Rattle.tsp_branch.specs.Decisions.{Decision}
+use Rattle.tsp_branch.specs.declared.decision.Decision.{Decision}
 use Rattle.tsp_branch.specs.Cases.{LeafNumbers}
 use Rattle.tsp_branch.specs.Listed.{all_grown, split_at, IsGoodLeaf}
 

@@ -5,6 +5,7 @@ use Rattle.std.specs.Global.{Vec}
 use Rattle.std.specs.List.{All}
 use Rattle.tsp_format.specs.Cells.{IsNode}
 use Rattle.tsp_theory.specs.Length.{sum_int_by}
+use Rattle.tsp_branch.specs.declared.comb_set.CombSet.{CombSet}
 
 -- a value as it was, where nothing is added; else what is left of the sum in 64 bits
 abbrev pub IsMoved : ℤ → ℤ → ℤ → Type 0
@@ -20,9 +21,9 @@ times number [] x = []
 times number (node ∷ nodes) x = if node == x then (number ∷ times number nodes x) else times number nodes x
 
 -- the numbers of the sets that have a node, from a first number on
-abbrev pub sets_with : ℕ → List (ℕ × Vec ℕ) → ℕ → List ℕ
+abbrev pub sets_with : ℕ → List CombSet → ℕ → List ℕ
 sets_with number [] x = []
-sets_with number (set ∷ sets) x = times number set.1.items x ++ sets_with (suc number) sets x
+sets_with number (set ∷ sets) x = times number set.nodes.items x ++ sets_with (suc number) sets x
 
 -- lists to which such numbers were added
 abbrev pub AreLengthened : (ℕ → List ℕ) → List (Vec ℕ) → List (Vec ℕ) → Type 0
@@ -30,10 +31,10 @@ AreLengthened more old new = (length new ≡ length old)
     × ((x : ℕ) (a b : Vec ℕ) → x < length old → (slice_index_or new x a).items ≡ (slice_index_or old x b).items ++ more x)
 
 -- of each of 0..n the numbers of the sets that have it
-pub record IsSetTable (n : ℕ) (sets : List (ℕ × Vec ℕ)) (lists : List (Vec ℕ)) : Type 0 where
+pub record IsSetTable (n : ℕ) (sets : List CombSet) (lists : List (Vec ℕ)) : Type 0 where
   pub count : length lists ≡ n + 1
   pub said : (x : ℕ) (default : Vec ℕ) → x ≤ n → (slice_index_or lists x default).items ≡ sets_with 0 sets x
 
 -- sets of nodes of 1..n
-abbrev pub AreSetsOf : ℕ → List (ℕ × Vec ℕ) → Type 0
-AreSetsOf n sets = All (λ set. All (IsNode n) set.1.items) sets
+abbrev pub AreSetsOf : ℕ → List CombSet → Type 0
+AreSetsOf n sets = All (λ set. All (IsNode n) set.nodes.items) sets

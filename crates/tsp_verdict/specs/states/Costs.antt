@@ -4,7 +4,7 @@ use Rattle.tsp_format.specs.declared.kinds.Kind.TheVariants as kinds
 use Rattle.tsp_draft.specs.Fields.{Fields}
 use Rattle.tsp_file.specs.Cost.{cost}
 use Rattle.tsp_theory.specs.Costs.{IsSymmetric}
-use Rattle.tsp_cost.specs.Views.{Shows, ShowsEven}
+use Rattle.tsp_cost.specs.states.Views.{Shows, ShowsEven}
 use Rattle.tsp_reason.specs.declared.verdict.Reason.{Reason}
 use Rattle.tsp_reason.specs.declared.verdict.Verdict.TheVariants as verdicts
 use Rattle.tsp_verdict.specs.declared.tour.TourCosts.{TourCosts}

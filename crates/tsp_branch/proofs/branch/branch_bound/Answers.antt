@@ -2,10 +2,9 @@ use Rattle.std.proofs.Common.{ℕ, ℤ, subst, rules, FitsSigned}
 use Rattle.std.specs.Int.{w64}
 use Rattle.std.proofs.lemmas.Int.{to_z-of_z}
 use Rattle.std.proofs.lemmas.Result.{IfOk-weaker}
-use Rattle.tsp_format.specs.Steps.{steps_of}
+use Rattle.tsp_format.specs.states.TreeSteps.{steps_of}
 use Rattle.tsp_branch.specs.states.Combed.{plain}
 use Rattle.tsp_branch.specs.CombsOfSets.{combs_of_sets}
-use Rattle.tsp_branch.specs.states.Decided.{case_of}
 use Rattle.tsp_branch.specs.Listed.{IsJudged}
 use Rattle.tsp_branch.proofs.Judging.{cycles_of, costs_for}
 use Rattle.tsp_branch.proofs.branch.branch_bound.Goals as goal
@@ -16,7 +15,7 @@ returns-clause-cycles g c =
     let n : ℕ = g.C.Costs.nodes costs in
     let cost = g.C.Costs.at costs in
     let combs = combs_of_sets c.args.combs (plain c.args.sets.now) in
-    let given = case_of c.args.given.now in
+    let given = c.args.given.now in
     let fits : FitsSigned w64 c.args.scale = search rules in
     IfOk-weaker c.judge_leaves.result _ _ (λ found is.
     cycles_of c.certificates_bound_cycles.ensures.cycles c.args.directed n cost c.args.scale combs c.args.combs given (steps_of c.args.steps.now) found

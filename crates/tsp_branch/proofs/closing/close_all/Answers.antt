@@ -1,22 +1,21 @@
-use Rattle.std.proofs.Common.{ℕ, Bool, List, arith}
+use Rattle.std.proofs.Common.{List, arith}
 use Rattle.std.specs.List.{All}
-use Rattle.tsp_theory.specs.Growth.{least_at}
-use Rattle.tsp_branch.specs.states.Decided.{decision_of, case_of}
+use Rattle.tsp_theory.specs.states.Nearest.{least_at}
+use Rattle.tsp_branch.specs.declared.decision.Decision.{Decision}
 use Rattle.tsp_branch.specs.Rows.{Allows}
-use Rattle.tsp_branch.proofs.Closed.{shut_none, shut_more, shut_same, of_case}
+use Rattle.tsp_branch.proofs.Closed.{shut_none, shut_more, shut_same}
 use Rattle.tsp_branch.proofs.closing.close_all.Goals as goal
 
 pub decisions-init : goal.decisions-init
-decisions-init c = λ x lt. shut_none (λ decision. Allows c.args.from x (decision_of decision)) c.args.decisions.now (least_at c.args.row.now x)
+decisions-init c = λ x lt. shut_none (Allows c.args.from x) c.args.decisions.now (least_at c.args.row.now x)
 
 pub decisions-preserved : goal.decisions-preserved
 decisions-preserved c = λ x lt.
-    let ds : List (ℕ × ℕ × Bool) = c.args.decisions.now in
-    shut_more (λ decision. Allows c.args.from x (decision_of decision)) ds c.decisions.decision-index _ _ _ _ c.decisions-test.true (c.decisions.invariant x lt) (c.close.ensures x (omega (arith, lt, c.decisions.auto.row)))
+    let ds : List Decision = c.args.decisions.now in
+    shut_more (Allows c.args.from x) ds c.decisions.decision-index _ _ _ _ c.decisions-test.true (c.decisions.invariant x lt) (c.close.ensures x (omega (arith, lt, c.decisions.auto.row)))
 
 pub returns : goal.returns
 returns c = λ x lt.
-    let ds : List (ℕ × ℕ × Bool) = c.args.decisions.now in
-    let allows = of_case (Allows c.args.from x) ds in
-    shut_same _ (All (Allows c.args.from x) (case_of ds)) _ _ (λ h. allows.0 (λ k d below. h k d (omega (arith, below, c.decisions-test.false))))
-    (λ h k d below. allows.1 h k d (omega (arith, below, c.decisions.auto.decision-index-end))) (c.decisions.invariant x lt)
+    let ds : List Decision = c.args.decisions.now in
+    shut_same _ (All (Allows c.args.from x) ds) _ _ (λ h k d below. h k d (omega (arith, below, c.decisions-test.false)))
+    (λ h k d below. h k d (omega (arith, below, c.decisions.auto.decision-index-end))) (c.decisions.invariant x lt)

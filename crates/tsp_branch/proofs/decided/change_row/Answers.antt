@@ -1,6 +1,7 @@
-use Rattle.std.proofs.Common.{◌≤◌, ℕ, List, Bool, false, length, refl, ap, inl, arith}
+use Rattle.std.proofs.Common.{◌≤◌, List, false, length, refl, ap, inl, arith}
 use Rattle.std.proofs.lemmas.List.{drop_all}
-use Rattle.tsp_theory.specs.Growth.{least_at}
+use Rattle.tsp_theory.specs.states.Nearest.{least_at}
+use Rattle.tsp_branch.specs.declared.decision.Decision.{Decision}
 use Rattle.tsp_branch.specs.states.Decided.{changes}
 use Rattle.tsp_branch.proofs.Changes.{changes_left}
 use Rattle.tsp_branch.proofs.SetSums.{moved_on}
@@ -8,11 +9,11 @@ use Rattle.tsp_branch.proofs.decided.change_row.Goals as goal
 
 pub decisions-preserved : goal.decisions-preserved
 decisions-preserved c = λ x last rest.
-    let ds : List (ℕ × ℕ × Bool) = c.args.decisions.now in
-    c.decisions.invariant x last (rw (changes_left ds c.decisions.decision-index c.args.from x (0, 0, false) c.decisions-test.true) (moved_on _ _ _ _ _ (c.change.ensures x) rest))
+    let ds : List Decision = c.args.decisions.now in
+    c.decisions.invariant x last (rw (changes_left ds c.decisions.decision-index c.args.from x (record { pair = (0, 0); taken = false }) c.decisions-test.true) (moved_on _ _ _ _ _ (c.change.ensures x) rest))
 
 pub returns : goal.returns
 returns c = λ x.
-    let ds : List (ℕ × ℕ × Bool) = c.args.decisions.now in
+    let ds : List Decision = c.args.decisions.now in
     let past : length ds ≤ c.decisions.decision-index = omega (arith, c.decisions-test.false) in
     c.decisions.invariant x (least_at c.decisions.row x) (inl (refl, ap (λ zs. changes zs c.args.from x) (drop_all c.decisions.decision-index ds past)))

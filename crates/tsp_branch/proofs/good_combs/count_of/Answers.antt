@@ -5,6 +5,6 @@ use Rattle.tsp_branch.proofs.good_combs.count_of.Goals as goal
 pub count-preserved : goal.count-preserved
 count-preserved c = record {
   most = omega (arith, c.count-test.true);
-  own = All-more (λ set. set.0 ≡ c.args.comb) c.args.sets.now c.count.count c.index-sets-count.result c.count-test.true c.count.invariant.own
+  own = All-more (λ set. set.comb ≡ c.args.comb) c.args.sets.now c.count.count c.index-sets-count.result c.count-test.true c.count.invariant.own
       c.if-sets-count.true;
 }

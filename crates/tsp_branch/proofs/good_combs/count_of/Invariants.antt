@@ -5,7 +5,7 @@ use Rattle.tsp_branch.proofs.good_combs.count_of.Given as goal
 abbrev pub invariant-count : goal.invariant-count
 invariant-count l = record {
   most : l.count ≤ length l.sets;
-  own : All (λ set. set.0 ≡ l.comb) (take l.count l.sets);
+  own : All (λ set. set.comb ≡ l.comb) (take l.count l.sets);
 }
 
 abbrev pub decreases-count : goal.decreases-count

@@ -1,5 +1,4 @@
 use Rattle.std.proofs.Common.{◌≡◌, ◌∙◌, ◌+◌, ◌<◌, ◌≤◌, ℕ, List, length, ap, sym, subst, arith}
-use Rattle.std.specs.Global.{Vec}
 use Rattle.std.specs.List.{All}
 use Rattle.std.proofs.lemmas.Bool.{iff_false}
 use Rattle.std.proofs.lemmas.List.Elements.{All-drop}
@@ -9,6 +8,7 @@ use Rattle.tsp_branch.specs.states.Combed.{plain}
 use Rattle.tsp_branch.specs.CombsOfSets.{of_comb}
 use Rattle.tsp_branch.specs.GoodCombs.{IsGoodComb, AreInOrder}
 use Rattle.tsp_branch.specs.states.Marked.{AreUnmarked}
+use Rattle.tsp_branch.specs.declared.comb_set.CombSet.{CombSet}
 use Rattle.tsp_branch.proofs.Judging.{written}
 use Rattle.tsp_branch.proofs.CombRuns.{later_left, later_sets, all_good, first_found, in_order_left, own_judged, good_more}
 use Rattle.tsp_branch.proofs.good_combs.first_bad_comb.Goals as goal
@@ -16,7 +16,7 @@ use Rattle.tsp_branch.proofs.good_combs.first_bad_comb.Goals as goal
 pub returns-then-not-is_comb : goal.returns-then-not-is_comb
 returns-then-not-is_comb c =
     let h = c.combs.invariant in
-    let rest : List (ℕ × Vec ℕ) = c.combs.rest.now in
+    let rest : List CombSet = c.combs.rest.now in
     let lt : c.combs.comb < c.args.combs = omega (arith, c.combs-test.true) in
     let own = own_judged c.args.nodes c.combs.comb c.count_of.result rest c.args.sets.now c.split_at.result.0.now h.in_order h.later c.count_of.ensures.own c.count_of.ensures.next
     h.same h.nodes_of c.split_at.ensures.front in
@@ -29,7 +29,7 @@ combs-preserved c =
     let n : ℕ = c.args.nodes in
     let comb : ℕ = c.combs.comb in
     let count : ℕ = c.count_of.result in
-    let rest : List (ℕ × Vec ℕ) = c.combs.rest.now in
+    let rest : List CombSet = c.combs.rest.now in
     let own = own_judged n comb count rest c.args.sets.now c.split_at.result.0.now h.in_order h.later c.count_of.ensures.own c.count_of.ensures.next h.same h.nodes_of c.split_at.ensures.front in
     let left = c.split_at.ensures.back in
     let handles = written c.combs.handles.len c.is_comb.new.handles _ (c.is_comb.ensures.handle_length ∙ c.deref_mut.ensures.len) in
@@ -41,10 +41,10 @@ combs-preserved c =
           (subst (λ (xs : List ℕ). AreUnmarked xs mark) (sym c.deref_mut.ensures.value) (h.handles_fresh mark (omega (arith, more)))));
       teeth_fresh = λ mark more. subst (λ (xs : List ℕ). AreUnmarked xs mark) (sym teeth) (c.is_comb.ensures.tooth_others mark (λ e. omega (arith, e, more))
           (subst (λ (xs : List ℕ). AreUnmarked xs mark) (sym c.deref_mut-in-combs.ensures.value) (h.teeth_fresh mark (omega (arith, more)))));
-      nodes_of = subst (AreSetsOf n) (sym left) (All-drop (λ (set : ℕ × Vec ℕ). All (IsNode n) set.1.items) count rest h.nodes_of);
+      nodes_of = subst (AreSetsOf n) (sym left) (All-drop (λ (set : CombSet). All (IsNode n) set.nodes.items) count rest h.nodes_of);
       in_order = subst AreInOrder (sym left) (in_order_left rest count h.in_order);
-      later = subst (All (λ (set : ℕ × Vec ℕ). comb + 1 ≤ set.0)) (sym left) (later_left comb count rest h.in_order h.later c.count_of.ensures.own c.count_of.ensures.next);
-      same = λ other more. subst (λ (ss : List (ℕ × Vec ℕ)). of_comb other (plain ss) ≡ of_comb other (plain c.args.sets.now)) (sym left)
+      later = subst (All (λ (set : CombSet). comb + 1 ≤ set.comb)) (sym left) (later_left comb count rest h.in_order h.later c.count_of.ensures.own c.count_of.ensures.next);
+      same = λ other more. subst (λ (ss : List CombSet). of_comb other (plain ss) ≡ of_comb other (plain c.args.sets.now)) (sym left)
           (later_sets comb count rest h.in_order h.later c.count_of.ensures.own c.count_of.ensures.next other more ∙ h.same other (omega (arith, more)));
       good = good_more n comb (plain c.args.sets.now) h.good (subst (IsGoodComb n) own.1 ((c.is_comb.ensures.comb n (ap length c.deref_mut.ensures.value ∙ h.handles_long) own.0).0 c.if-not-is_comb.false));
     }

@@ -15,7 +15,7 @@ invariant-combs l = record {
   teeth_fresh : (mark : ℕ) → l.comb < mark → AreUnmarked l.teeth.items mark;
   nodes_of : AreSetsOf l.nodes l.rest;
   in_order : AreInOrder l.rest;
-  later : All (λ set. l.comb ≤ set.0) l.rest;
+  later : All (λ set. l.comb ≤ set.comb) l.rest;
   same : (comb : ℕ) → l.comb ≤ comb → of_comb comb (plain l.rest) ≡ of_comb comb (plain l.sets);
   good : (comb : ℕ) → comb < l.comb → IsGoodComb l.nodes (of_comb comb (plain l.sets));
 }

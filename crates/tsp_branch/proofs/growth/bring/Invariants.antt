@@ -1,4 +1,4 @@
-use Rattle.tsp_theory.specs.Growth.{least_at}
+use Rattle.tsp_theory.specs.states.Nearest.{least_at}
 use Rattle.tsp_branch.proofs.Outside.{IsPassed, FindsLeast}
 use Rattle.tsp_branch.proofs.growth.bring.Given as goal
 

@@ -1,6 +1,6 @@
 use Rattle.std.proofs.Common.{◌≡◌, ◌≤◌, ◌+◌, ℕ, length}
 use Rattle.tsp_theory.specs.Numbers.{entry}
-use Rattle.tsp_theory.specs.Growth.{least_at}
+use Rattle.tsp_theory.specs.states.Nearest.{least_at}
 use Rattle.tsp_branch.proofs.moved.place_potentials.Given as goal
 
 abbrev pub invariant-nodes : goal.invariant-nodes

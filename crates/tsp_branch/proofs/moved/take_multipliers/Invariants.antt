@@ -1,6 +1,6 @@
 use Rattle.std.proofs.Common.{ℕ, ℤ, drop}
 use Rattle.std.specs.Prelude.{neg_ℤ}
-use Rattle.tsp_theory.specs.Growth.{least_at}
+use Rattle.tsp_theory.specs.states.Nearest.{least_at}
 use Rattle.tsp_branch.specs.states.Sets.{IsMoved}
 use Rattle.tsp_branch.specs.states.Combed.{plain, multipliers_at}
 use Rattle.tsp_branch.proofs.moved.take_multipliers.Given as goal

@@ -1,6 +1,6 @@
 use Rattle.std.proofs.Common.{◌≡◌, ◌≤◌, ◌<◌, ℕ}
 use Rattle.std.specs.Prelude.{◌⊎◌, ◌≤ℤ◌}
-use Rattle.tsp_theory.specs.Growth.{least_at}
+use Rattle.tsp_theory.specs.states.Nearest.{least_at}
 use Rattle.tsp_branch.specs.states.Closed.{closed}
 use Rattle.tsp_branch.proofs.rows.least_in.Given as goal
 

@@ -1,6 +1,7 @@
 use Rattle.std.proofs.Common.{◌≡◌, ◌∙◌, ◌-◌, ℕ, List, length, subst, arith}
 use Rattle.std.specs.Prelude.{ℤ}
-use Rattle.tsp_theory.specs.Growth.{AreNearest, least_at}
+use Rattle.tsp_theory.specs.Growth.{AreNearest}
+use Rattle.tsp_theory.specs.states.Nearest.{least_at}
 use Rattle.tsp_theory.proofs.TwoNearest.{nearest_by_row}
 use Rattle.tsp_theory.specs.Tree.{IsInner}
 use Rattle.tsp_branch.proofs.spokes.two_spokes.Goals as goal

@@ -1,10 +1,10 @@
-use Rattle.std.proofs.Common.{◌∙◌, ◌+◌, ◌++◌, not, true, List, drop, arith, ap, refl, sym}
+use Rattle.std.proofs.Common.{◌∙◌, ◌+◌, ◌++◌, not, List, drop, arith, ap, refl, sym}
 use Rattle.tsp_format.specs.declared.steps.TreeStep.{TreeStep}
 use Rattle.tsp_format.specs.declared.steps.TreeStep.TheVariants as code
 use Rattle.tsp_format.specs.Steps as listed
-use Rattle.tsp_format.specs.Steps.{steps_of}
-use Rattle.tsp_branch.specs.Decisions.{Decision}
-use Rattle.tsp_branch.specs.states.Decided.{case_of, stack_of}
+use Rattle.tsp_format.specs.states.TreeSteps.{steps_of}
+use Rattle.tsp_branch.specs.declared.decision.Decision.{Decision}
+use Rattle.tsp_branch.specs.states.Decided.{stack_of}
 use Rattle.tsp_branch.proofs.BranchesOnce.{once_next, once_pushed, twice_found, once_at_leaf, once_at_last, once_at_end}
 use Rattle.tsp_branch.proofs.DecidedSets.{decided_by_set, pushed_decided}
 use Rattle.tsp_branch.proofs.twice.first_twice.Goals as goal
@@ -12,7 +12,7 @@ use Rattle.tsp_branch.proofs.twice.first_twice.Goals.{in-Branch+in_ok-is_new-in-
 
 pub returns-then-not-is_new : goal.returns-then-not-is_new
 returns-then-not-is_new c =
-    let given : List Decision = case_of c.args.given.now in
+    let given : List Decision = c.args.given.now in
     let all : List TreeStep = c.args.steps.now in
     let told : List listed.Step = steps_of all in
     let st = c.steps in
@@ -25,7 +25,7 @@ returns-then-not-is_new c =
 
 pub returns-then-not-leave_case : goal.returns-then-not-leave_case
 returns-then-not-leave_case c =
-    let given : List Decision = case_of c.args.given.now in
+    let given : List Decision = c.args.given.now in
     let all : List TreeStep = c.args.steps.now in
     let told : List listed.Step = steps_of all in
     let st = c.steps in
@@ -35,7 +35,7 @@ returns-then-not-leave_case c =
 
 pub steps-preserved : goal.steps-preserved
 steps-preserved c =
-    let given : List Decision = case_of c.args.given.now in
+    let given : List Decision = c.args.given.now in
     let all : List TreeStep = c.args.steps.now in
     let told : List listed.Step = steps_of all in
     let st = c.steps in
@@ -64,4 +64,4 @@ steps-preserved c =
     ]
 
 pub returns : goal.returns
-returns c = once_at_end c.args.directed (case_of c.args.given.now) c.args.steps.now (stack_of c.steps.stack.items) c.steps.count c.steps.step-index c.steps.invariant.so_far (omega (arith, c.steps-test.false))
+returns c = once_at_end c.args.directed c.args.given.now c.args.steps.now (stack_of c.steps.stack.items) c.steps.count c.steps.step-index c.steps.invariant.so_far (omega (arith, c.steps-test.false))

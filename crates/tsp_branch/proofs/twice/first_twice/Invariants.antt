@@ -1,13 +1,13 @@
 use Rattle.std.proofs.Common.{◌≤◌, ◌++◌, drop}
-use Rattle.tsp_format.specs.Steps.{steps_of}
-use Rattle.tsp_branch.specs.states.Decided.{case_of, stack_of}
+use Rattle.tsp_format.specs.states.TreeSteps.{steps_of}
+use Rattle.tsp_branch.specs.states.Decided.{stack_of}
 use Rattle.tsp_branch.specs.states.PairSets.{HasDecided}
 use Rattle.tsp_branch.proofs.BranchesOnce.{IsOnceSoFar}
 use Rattle.tsp_branch.proofs.twice.first_twice.Given as goal
 
 abbrev pub invariant-steps : goal.invariant-steps
 invariant-steps l = record {
-  so_far : IsOnceSoFar l.directed (case_of l.given) (steps_of l.steps) (stack_of l.stack.items) l.count (steps_of (drop l.step-index l.steps));
-  has : HasDecided l.directed l.decided (stack_of l.stack.items ++ case_of l.given);
+  so_far : IsOnceSoFar l.directed l.given (steps_of l.steps) (stack_of l.stack.items) l.count (steps_of (drop l.step-index l.steps));
+  has : HasDecided l.directed l.decided (stack_of l.stack.items ++ l.given);
   few : l.count ≤ l.step-index;
 }

@@ -1,7 +1,6 @@
 use Rattle.std.proofs.Common.{take}
-use Rattle.tsp_branch.specs.states.Decided.{case_of}
 use Rattle.tsp_branch.specs.states.PairSets.{HasDecided}
 use Rattle.tsp_branch.proofs.twice.given_pairs.Given as goal
 
 abbrev pub invariant-given : goal.invariant-given
-invariant-given l = HasDecided l.directed l.decided (case_of (take l.decision-index l.given))
+invariant-given l = HasDecided l.directed l.decided (take l.decision-index l.given)

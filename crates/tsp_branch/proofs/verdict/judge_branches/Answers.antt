@@ -1,11 +1,10 @@
 use Rattle.std.proofs.Common.{None, ℕ, ℤ, subst, rules, FitsSigned}
 use Rattle.std.specs.Int.{w64}
 use Rattle.std.proofs.lemmas.Int.{to_z-of_z}
-use Rattle.tsp_format.specs.Steps.{steps_of}
+use Rattle.tsp_format.specs.states.TreeSteps.{steps_of}
 use Rattle.tsp_branch.specs.states.Combed.{plain}
 use Rattle.tsp_branch.specs.CombsOfSets.{combs_of_sets}
 use Rattle.tsp_branch.specs.GoodCombs.{AreCombsJudged}
-use Rattle.tsp_branch.specs.states.Decided.{case_of}
 use Rattle.tsp_branch.specs.Listed.{IsJudged, BoundsCycles}
 use Rattle.tsp_branch.specs.Twice.{AreBranchesJudged}
 use Rattle.tsp_branch.specs.declared.steps.Judged.TheVariants as judged
@@ -18,7 +17,7 @@ branch_bound-requires-clause-of_combs g c = sets_judged c.count.result c.args.co
 
 pub branch_bound-requires-clause-steps : goal.branch_bound-requires-clause-steps
 branch_bound-requires-clause-steps g c =
-    steps_judged c.args.directed (g.C.Costs.nodes c.args.costs.now) c.args.combs (case_of c.args.given.now) (steps_of c.args.steps.now) c.in_ok-branch.field-0 c.requires.steps c.requires.whole
+    steps_judged c.args.directed (g.C.Costs.nodes c.args.costs.now) c.args.combs c.args.given.now (steps_of c.args.steps.now) c.in_ok-branch.field-0 c.requires.steps c.requires.whole
     c.in_ok-branch.ensures c.in_default-2.is
 
 pub returns-in-Bound-clause-verdict : goal.returns-in-Bound-clause-verdict
@@ -26,7 +25,7 @@ returns-in-Bound-clause-verdict g c =
     let n : ℕ = g.C.Costs.nodes c.args.costs.now in
     let sets = plain c.args.sets.now in
     let steps = steps_of c.args.steps.now in
-    let given = case_of c.args.given.now in
+    let given = c.args.given.now in
     let combs = combs_of_sets c.args.combs sets in
     let scaled : FitsSigned w64 c.args.scale = search rules in
     let found = subst (IsJudged c.args.directed n (g.C.Costs.at c.args.costs.now) _ combs c.args.combs given steps) c.in-Bound.is c.in_ok-bound.ensures.judged in
@@ -41,4 +40,4 @@ pub returns-in-Bound-clause-cycles : goal.returns-in-Bound-clause-cycles
 returns-in-Bound-clause-cycles g c =
     let n : ℕ = g.C.Costs.nodes c.args.costs.now in
     let cost = g.C.Costs.at c.args.costs.now in
-    subst (BoundsCycles c.args.directed n cost (case_of c.args.given.now)) c.in-Bound.is c.in_ok-bound.ensures.cycles
+    subst (BoundsCycles c.args.directed n cost c.args.given.now) c.in-Bound.is c.in_ok-bound.ensures.cycles

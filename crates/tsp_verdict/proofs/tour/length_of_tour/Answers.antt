@@ -7,7 +7,7 @@ use Rattle.tsp_draft.specs.Fields.{Fields}
 use Rattle.tsp_cost.specs.Tours.{is_directed}
 use Rattle.tsp_theory.specs.Cycle.{IsCycle}
 use Rattle.tsp_verdict.specs.states.Next.{AreNext}
-use Rattle.tsp_verdict.specs.Solution.{nodes_of}
+use Rattle.tsp_file.specs.Meant.{nodes_of}
 use Rattle.tsp_verdict.specs.Tours.{NoneOfTourUpTo, NoneOfTourBeforeRepeats}
 use Rattle.tsp_verdict.proofs.TourVerdicts.{is_cycle, larger_first, none_up_to_repeats, repeated_first, none_up_to_fixed, unused_first, is_yes}
 use Rattle.tsp_verdict.proofs.tour.length_of_tour.Goals as goal

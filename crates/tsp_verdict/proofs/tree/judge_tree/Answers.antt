@@ -5,17 +5,16 @@ use Rattle.std.specs.List.{All}
 use Rattle.std.proofs.lemmas.Int.{to_z-of_z}
 use Rattle.std.proofs.lemmas.List.{length-map}
 use Rattle.tsp_format.specs.Limits.{most_fixed}
-use Rattle.tsp_format.specs.Steps.{step_of, steps_of}
-use Rattle.tsp_draft.specs.Fields.{combs_of}
+use Rattle.tsp_format.specs.states.TreeSteps.{step_of, steps_of}
+use Rattle.tsp_draft.specs.states.Drafts.{combs_of}
 use Rattle.tsp_draft.specs.Valid.{IsPairOf}
 use Rattle.tsp_theory.specs.Numbers.{IsScale}
 use Rattle.tsp_branch.specs.declared.steps.BranchVerdict.TheVariants as found
 use Rattle.tsp_branch.specs.BranchVerdicts.{IsBranchVerdict, IsSizedVerdict}
 use Rattle.tsp_branch.specs.states.Combed.{plain}
-use Rattle.tsp_branch.specs.states.Decided.{case_of}
 use Rattle.tsp_branch.specs.Listed.{IsStepOf}
 use Rattle.tsp_branch.specs.states.Sets.{AreSetsOf}
-use Rattle.tsp_verdict.specs.Solution.{nodes_of}
+use Rattle.tsp_file.specs.Meant.{nodes_of}
 use Rattle.tsp_verdict.proofs.FilesHold.{steps_hold, steps_few}
 use Rattle.tsp_verdict.proofs.HeldNumbers.{steps_are}
 use Rattle.tsp_verdict.proofs.GivenPairs.{given_once, given_are, given_few}
@@ -29,7 +28,7 @@ judge_branches-requires-clause-few_sets g c = sets_few (nodes_of c.args.branches
 
 pub judge_branches-requires-clause-few_given : goal.judge_branches-requires-clause-few_given
 judge_branches-requires-clause-few_given g c =
-    let few = given_few c.is_directed-directed.result most_fixed c.deref-2.result.now c.fixed_pairs.result.now (ap case_of c.deref-2.ensures.value ∙ c.in_ok-given.ensures) c.fixed_pairs.ensures.few in
+    let few = given_few c.is_directed-directed.result most_fixed c.deref-2.result.now c.fixed_pairs.result.now (c.deref-2.ensures.value ∙ c.in_ok-given.ensures) c.fixed_pairs.ensures.few in
     omega (arith, few)
 
 pub judge_branches-requires-clause-nodes : goal.judge_branches-requires-clause-nodes
@@ -60,11 +59,11 @@ pub judge_branches-requires-clause-given_are : goal.judge_branches-requires-clau
 judge_branches-requires-clause-given_are g c =
     let same : nodes_of c.args.instance.now ≡ g.C.Costs.nodes c.args.costs.now = ap (λ (d : Option ℕ). unwrap_or d 0) c.requires.keeps.count in
     let n : ℕ = g.C.Costs.nodes c.args.costs.now in
-    given_are c.is_directed-directed.result n c.deref-2.result.now c.fixed_pairs.result.now (ap case_of c.deref-2.ensures.value ∙ c.in_ok-given.ensures)
+    given_are c.is_directed-directed.result n c.deref-2.result.now c.fixed_pairs.result.now (c.deref-2.ensures.value ∙ c.in_ok-given.ensures)
     (subst (λ (m : ℕ). All (IsPairOf m) c.fixed_pairs.result.now) same c.fixed_pairs.ensures.range)
 
 pub judge_branches-requires-clause-given_once : goal.judge_branches-requires-clause-given_once
-judge_branches-requires-clause-given_once g c = given_once c.is_directed-directed.result c.deref-2.result.now c.fixed_pairs.result.now (ap case_of c.deref-2.ensures.value ∙ c.in_ok-given.ensures)
+judge_branches-requires-clause-given_once g c = given_once c.is_directed-directed.result c.deref-2.result.now c.fixed_pairs.result.now (c.deref-2.ensures.value ∙ c.in_ok-given.ensures)
 
 pub judge_branches-requires-clause-even : goal.judge_branches-requires-clause-even
 judge_branches-requires-clause-even g c =
@@ -80,12 +79,12 @@ returns-in-Bound-Some g c =
     let costs = g.C.Costs.at c.args.costs.now in
     let combs = c.args.tree.now.combs.now in
     let sets = plain c.deref.result.now in
-    let given = case_of c.deref-2.result.now in
+    let given = c.deref-2.result.now in
     let steps = steps_of c.args.tree.now.steps.now in
     let scaled : FitsSigned w64 c.args.tree.now.scale = search rules in
     let are = are_of inst tree c.is_directed-directed.result n (to_z w64 (of_z w64 c.args.tree.now.scale)) combs sets c.fixed_pairs.result.now given steps (directed_is c.is_directed-directed.result inst c.kind.result c.is_directed-directed.ensures c.kind.ensures.value) c.requires.keeps.count
     (to_z-of_z w64 c.args.tree.now.scale scaled ∙ c.requires.held.scale_is) c.requires.held.combs_are
-    (ap plain c.deref.ensures.value ∙ c.in_ok-sets.ensures) c.fixed_pairs.ensures.value (ap case_of c.deref-2.ensures.value ∙ c.in_ok-given.ensures) (steps_are tree _ _ _ c.requires.held) in
+    (ap plain c.deref.ensures.value ∙ c.in_ok-sets.ensures) c.fixed_pairs.ensures.value (c.deref-2.ensures.value ∙ c.in_ok-given.ensures) (steps_are tree _ _ _ c.requires.held) in
     let bound = c.in-Bound-Some.bound in
     let is = subst (IsBranchVerdict c.is_directed-directed.result n costs (to_z w64 (of_z w64 c.args.tree.now.scale)) (length combs) sets given steps) whole c.in_ok-bound.ensures.verdict in
     let fits : FitsSigned w128 bound = search rules in
@@ -106,12 +105,12 @@ returns-in-Bound-None g c =
     let costs = g.C.Costs.at c.args.costs.now in
     let combs = c.args.tree.now.combs.now in
     let sets = plain c.deref.result.now in
-    let given = case_of c.deref-2.result.now in
+    let given = c.deref-2.result.now in
     let steps = steps_of c.args.tree.now.steps.now in
     let scaled : FitsSigned w64 c.args.tree.now.scale = search rules in
     let are = are_of inst tree c.is_directed-directed.result n (to_z w64 (of_z w64 c.args.tree.now.scale)) combs sets c.fixed_pairs.result.now given steps (directed_is c.is_directed-directed.result inst c.kind.result c.is_directed-directed.ensures c.kind.ensures.value) c.requires.keeps.count
     (to_z-of_z w64 c.args.tree.now.scale scaled ∙ c.requires.held.scale_is) c.requires.held.combs_are
-    (ap plain c.deref.ensures.value ∙ c.in_ok-sets.ensures) c.fixed_pairs.ensures.value (ap case_of c.deref-2.ensures.value ∙ c.in_ok-given.ensures) (steps_are tree _ _ _ c.requires.held) in
+    (ap plain c.deref.ensures.value ∙ c.in_ok-sets.ensures) c.fixed_pairs.ensures.value (c.deref-2.ensures.value ∙ c.in_ok-given.ensures) (steps_are tree _ _ _ c.requires.held) in
     let is = subst (IsBranchVerdict c.is_directed-directed.result n costs (to_z w64 (of_z w64 c.args.tree.now.scale)) (length combs) sets given steps) whole c.in_ok-bound.ensures.verdict in
     let all_told = told inst tree c.is_directed-directed.result n costs _ (length combs) sets given steps (found.Bound None) are is in
     let gone = no_tour inst tree costs c.certificates_bound_cycles.ensures.cycles c.requires.kind c.requires.some c.requires.even
@@ -126,19 +125,19 @@ returns-in-BadComb g c =
     let costs = g.C.Costs.at c.args.costs.now in
     let combs = c.args.tree.now.combs.now in
     let sets = plain c.deref.result.now in
-    let given = case_of c.deref-2.result.now in
+    let given = c.deref-2.result.now in
     let steps = steps_of c.args.tree.now.steps.now in
     let scaled : FitsSigned w64 c.args.tree.now.scale = search rules in
     let are = are_of inst tree c.is_directed-directed.result n (to_z w64 (of_z w64 c.args.tree.now.scale)) combs sets c.fixed_pairs.result.now given steps (directed_is c.is_directed-directed.result inst c.kind.result c.is_directed-directed.ensures c.kind.ensures.value) c.requires.keeps.count
     (to_z-of_z w64 c.args.tree.now.scale scaled ∙ c.requires.held.scale_is) c.requires.held.combs_are
-    (ap plain c.deref.ensures.value ∙ c.in_ok-sets.ensures) c.fixed_pairs.ensures.value (ap case_of c.deref-2.ensures.value ∙ c.in_ok-given.ensures) (steps_are tree _ _ _ c.requires.held) in
+    (ap plain c.deref.ensures.value ∙ c.in_ok-sets.ensures) c.fixed_pairs.ensures.value (c.deref-2.ensures.value ∙ c.in_ok-given.ensures) (steps_are tree _ _ _ c.requires.held) in
     let is = subst (IsBranchVerdict c.is_directed-directed.result n costs (to_z w64 (of_z w64 c.args.tree.now.scale)) (length combs) sets given steps) c.in-BadComb.is c.in_ok-bound.ensures.verdict in
     comb_first inst tree costs c.in-BadComb.index c.requires.sort c.requires.count (told inst tree c.is_directed-directed.result n costs _ (length combs) sets given steps (found.BadComb c.in-BadComb.index) are is)
 
 pub overflow_cast-result-in-BranchTwice : goal.overflow_cast-result-in-BranchTwice
 overflow_cast-result-in-BranchTwice g c =
     let steps = steps_of c.args.tree.now.steps.now in
-    let given = case_of c.deref-2.result.now in
+    let given = c.deref-2.result.now in
     let is = subst (IsBranchVerdict c.is_directed-directed.result _ _ _ _ _ given steps) c.in-BranchTwice.is c.in_ok-bound.ensures.verdict in
     omega (arith, twice_within c.is_directed-directed.result given steps c.in-BranchTwice.index is.1, length-map c.args.tree.now.steps.now step_of, steps_few c.args.branches.now c.args.tree.now.steps.now c.requires.held.each_step)
 
@@ -150,12 +149,12 @@ returns-in-BranchTwice g c =
     let costs = g.C.Costs.at c.args.costs.now in
     let combs = c.args.tree.now.combs.now in
     let sets = plain c.deref.result.now in
-    let given = case_of c.deref-2.result.now in
+    let given = c.deref-2.result.now in
     let steps = steps_of c.args.tree.now.steps.now in
     let scaled : FitsSigned w64 c.args.tree.now.scale = search rules in
     let are = are_of inst tree c.is_directed-directed.result n (to_z w64 (of_z w64 c.args.tree.now.scale)) combs sets c.fixed_pairs.result.now given steps (directed_is c.is_directed-directed.result inst c.kind.result c.is_directed-directed.ensures c.kind.ensures.value) c.requires.keeps.count
     (to_z-of_z w64 c.args.tree.now.scale scaled ∙ c.requires.held.scale_is) c.requires.held.combs_are
-    (ap plain c.deref.ensures.value ∙ c.in_ok-sets.ensures) c.fixed_pairs.ensures.value (ap case_of c.deref-2.ensures.value ∙ c.in_ok-given.ensures) (steps_are tree _ _ _ c.requires.held) in
+    (ap plain c.deref.ensures.value ∙ c.in_ok-sets.ensures) c.fixed_pairs.ensures.value (c.deref-2.ensures.value ∙ c.in_ok-given.ensures) (steps_are tree _ _ _ c.requires.held) in
     let is = subst (IsBranchVerdict c.is_directed-directed.result n costs (to_z w64 (of_z w64 c.args.tree.now.scale)) (length combs) sets given steps) c.in-BranchTwice.is c.in_ok-bound.ensures.verdict in
     twice_first inst tree costs c.in-BranchTwice.index c.requires.sort c.requires.count
     (told inst tree c.is_directed-directed.result n costs _ (length combs) sets given steps (found.BranchTwice c.in-BranchTwice.index) are is)
@@ -176,11 +175,11 @@ returns g c =
     let costs = g.C.Costs.at c.args.costs.now in
     let combs = c.args.tree.now.combs.now in
     let sets = plain c.deref.result.now in
-    let given = case_of c.deref-2.result.now in
+    let given = c.deref-2.result.now in
     let steps = steps_of c.args.tree.now.steps.now in
     let scaled : FitsSigned w64 c.args.tree.now.scale = search rules in
     let are = are_of inst tree c.is_directed-directed.result n (to_z w64 (of_z w64 c.args.tree.now.scale)) combs sets c.fixed_pairs.result.now given steps (directed_is c.is_directed-directed.result inst c.kind.result c.is_directed-directed.ensures c.kind.ensures.value) c.requires.keeps.count
     (to_z-of_z w64 c.args.tree.now.scale scaled ∙ c.requires.held.scale_is) c.requires.held.combs_are
-    (ap plain c.deref.ensures.value ∙ c.in_ok-sets.ensures) c.fixed_pairs.ensures.value (ap case_of c.deref-2.ensures.value ∙ c.in_ok-given.ensures) (steps_are tree _ _ _ c.requires.held) in
+    (ap plain c.deref.ensures.value ∙ c.in_ok-sets.ensures) c.fixed_pairs.ensures.value (c.deref-2.ensures.value ∙ c.in_ok-given.ensures) (steps_are tree _ _ _ c.requires.held) in
     let is = subst (IsBranchVerdict c.is_directed-directed.result n costs (to_z w64 (of_z w64 c.args.tree.now.scale)) (length combs) sets given steps) c.in-BadLeaf.is c.in_ok-bound.ensures.verdict in
     leaf_first inst tree costs c.in-BadLeaf.index c.requires.sort c.requires.count (told inst tree c.is_directed-directed.result n costs _ (length combs) sets given steps (found.BadLeaf c.in-BadLeaf.index) are is)

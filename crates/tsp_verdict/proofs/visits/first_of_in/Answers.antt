@@ -1,6 +1,6 @@
 use Rattle.std.proofs.Common.{◌≡◌, ◌≢◌, ℕ, List, arith}
 use Rattle.tsp_verdict.specs.states.Marks.{StandsAfter}
-use Rattle.tsp_verdict.specs.Solution.{nodes_in}
+use Rattle.tsp_verdict.specs.states.Routes.{nodes_in}
 use Rattle.tsp_verdict.proofs.Pieces.{stands_here, count_here, first_after, all_more}
 use Rattle.tsp_verdict.proofs.visits.first_of_in.Goals as goal
 

@@ -1,11 +1,12 @@
-use Rattle.std.proofs.Common.{◌≡◌, ℕ, ℤ, List, Bool, arith, sym, subst}
+use Rattle.std.proofs.Common.{◌≡◌, ℕ, ℤ, List, arith, sym, subst}
 use Rattle.std.specs.Prelude.{◌+ℤ◌, pos, neg_ℤ, ◌<ℤ◌}
 use Rattle.std.proofs.lemmas.Int.{ints}
 use Rattle.tsp_theory.specs.Numbers.{IsFromTo}
 use Rattle.tsp_format.specs.Cells.{IsNode}
-use Rattle.tsp_theory.specs.Growth.{least_at}
+use Rattle.tsp_theory.specs.states.Nearest.{least_at}
 use Rattle.tsp_theory.proofs.Nearest.{most_64}
 use Rattle.tsp_branch.specs.states.Combed.{plain, set_weight}
+use Rattle.tsp_branch.specs.declared.decision.Decision.{Decision}
 use Rattle.tsp_branch.specs.states.Decided.{decided, decided_twice, changes}
 use Rattle.tsp_branch.proofs.Changes.{changes_are, within}
 use Rattle.tsp_branch.proofs.SetSums.{moved_on}
@@ -19,8 +20,8 @@ returns g c =
     let n = g.C.Costs.nodes q.costs.now in
     let from : ℕ = c.args.from in
     let w : ℕ → ℕ → ℤ = set_weight q.scale q.potentials.now q.multipliers.now (plain q.sets.now) (g.C.Costs.at q.costs.now) in
-    let given : List (ℕ × ℕ × Bool) = p.given.now in
-    let ds : List (ℕ × ℕ × Bool) = p.decisions.now in
+    let given : List Decision = p.given.now in
+    let ds : List Decision = p.decisions.now in
     let row : List ℤ = c.change_row-2.new.row in
     let first : ℕ → ℤ = λ x. least_at c.fill_combed.new.row x in
     let sum_is : (x : ℕ) → IsNode n x → decided_twice given ds w from x ≡ first x +ℤ (changes given from x +ℤ changes ds from x) = λ x h.

@@ -1,7 +1,6 @@
 use Rattle.std.proofs.Common.{◌≡◌, ◌∙◌, ◌++◌, ℕ, ℤ, List, length, ap, sym, subst, rules, FitsSigned, to_z, of_z}
 use Rattle.std.specs.Prelude.{pos, ◌-ℤ◌, ◌*ℤ◌}
 use Rattle.std.specs.Int.{w128}
-use Rattle.std.specs.Global.{Vec}
 use Rattle.std.specs.List.{All}
 use Rattle.std.proofs.lemmas.Int.{to_z-of_z}
 use Rattle.tsp_theory.specs.Numbers.{total}
@@ -9,12 +8,14 @@ use Rattle.tsp_theory.specs.NodeBound.{weight_between}
 use Rattle.tsp_theory.proofs.Sizes.{same_scale}
 use Rattle.tsp_branch.specs.Combs.{Comb}
 use Rattle.tsp_branch.specs.Families.{IsFamily}
-use Rattle.tsp_branch.specs.Decisions.{Decision, decided_number}
+use Rattle.tsp_branch.specs.declared.decision.Decision.{Decision}
+use Rattle.tsp_branch.specs.Decisions.{decided_number}
 use Rattle.tsp_branch.specs.LeafBound.{combed, least_of}
 use Rattle.tsp_branch.specs.Certificate.{multiplied}
 use Rattle.tsp_branch.specs.states.Combed.{plain, set_weight}
 use Rattle.tsp_branch.specs.CombsOfSets.{combs_of_sets, AreSetCounts}
-use Rattle.tsp_branch.specs.states.Decided.{case_of, stack_of}
+use Rattle.tsp_branch.specs.states.Decided.{stack_of}
+use Rattle.tsp_branch.specs.declared.comb_set.CombSet.{CombSet}
 use Rattle.tsp_branch.proofs.CaseWeights.{small_multipliers, few_crossings, sets_below_count, row_weight, found_by_rows}
 use Rattle.tsp_branch.proofs.setting.Setting.bound_by_rows.Goals as goal
 
@@ -28,7 +29,7 @@ pub of-combed-requires-clause-crossed : goal.of-combed-requires-clause-crossed
 of-combed-requires-clause-crossed g c =
     let p = c.args.self.now in
     let n = g.C.Costs.nodes p.costs.now in
-    let sets : List (ℕ × Vec ℕ) = p.sets.now in
+    let sets : List CombSet = p.sets.now in
     let ms : List ℤ = c.args.multipliers.now in
     let good = c.requires.numbers in
     few_crossings n p.combs c.args.potentials.now ms (plain sets) good (subst (λ (k : ℕ). All (IsFamily n) (combs_of_sets k (plain sets))) (sym good.each_comb) c.requires.are_families)
@@ -39,10 +40,10 @@ returns-clause-bound g c =
     let p = c.args.self.now in
     let n : ℕ = g.C.Costs.nodes p.costs.now in
     let cost = g.C.Costs.at p.costs.now in
-    let sets : List (ℕ × Vec ℕ) = p.sets.now in
+    let sets : List CombSet = p.sets.now in
     let ps : List ℤ = c.args.potentials.now in
     let ms : List ℤ = c.args.multipliers.now in
-    let case : List Decision = stack_of c.args.decisions.now ++ case_of p.given.now in
+    let case : List Decision = stack_of c.args.decisions.now ++ p.given.now in
     let good = c.requires.numbers in
     let families : List (Comb × ℤ) = multiplied (combs_of_sets p.combs (plain sets)) ms in
     let q = c.of-combed.result in

@@ -1,19 +1,20 @@
-use Rattle.std.proofs.Common.{◌≡◌, ◌∙◌, ◌++◌, ℕ, ℤ, List, Bool, length, ap, sym, subst, to_z, of_z}
+use Rattle.std.proofs.Common.{◌≡◌, ◌∙◌, ◌++◌, ℕ, ℤ, List, length, ap, sym, subst, to_z, of_z}
 use Rattle.std.specs.Prelude.{◌+ℤ◌}
 use Rattle.std.specs.Int.{w128}
-use Rattle.std.specs.Global.{Vec}
 use Rattle.std.specs.List.{All}
 use Rattle.std.proofs.lemmas.Result.{IfOk-weaker}
 use Rattle.tsp_theory.proofs.Sizes.{same_scale}
 use Rattle.tsp_branch.specs.Combs.{Comb}
 use Rattle.tsp_branch.specs.Families.{IsFamily}
-use Rattle.tsp_branch.specs.Decisions.{Decision, on_taken, on_avoided, decided_number}
+use Rattle.tsp_branch.specs.declared.decision.Decision.{Decision}
+use Rattle.tsp_branch.specs.Decisions.{on_taken, on_avoided, decided_number}
 use Rattle.tsp_branch.specs.LeafBound.{IsLeafBound}
 use Rattle.tsp_branch.specs.Certificate.{multiplied}
 use Rattle.tsp_branch.specs.Weighed.{BoundsEachLeaf, given_back_of}
 use Rattle.tsp_branch.specs.states.Combed.{plain, set_weight}
 use Rattle.tsp_branch.specs.CombsOfSets.{combs_of_sets, AreSetCounts}
-use Rattle.tsp_branch.specs.states.Decided.{case_of, stack_of, decided_twice}
+use Rattle.tsp_branch.specs.states.Decided.{stack_of, decided_twice}
+use Rattle.tsp_branch.specs.declared.comb_set.CombSet.{CombSet}
 use Rattle.tsp_branch.proofs.LeafBounds.{leaf_even}
 use Rattle.tsp_branch.proofs.DecidedOnce.{few_changes}
 use Rattle.tsp_branch.proofs.CaseWeights.{case_weight, small_multipliers, few_crossings, sets_below_count, back_of}
@@ -30,7 +31,7 @@ pub of-combed-requires-clause-crossed : goal.of-combed-requires-clause-crossed
 of-combed-requires-clause-crossed g c =
     let p = c.args.self.now in
     let n = g.C.Costs.nodes p.costs.now in
-    let sets : List (ℕ × Vec ℕ) = p.sets.now in
+    let sets : List CombSet = p.sets.now in
     let ms : List ℤ = c.args.multipliers.now in
     let good = c.requires.numbers in
     few_crossings n p.combs c.args.potentials.now ms (plain sets) good (subst (λ (k : ℕ). All (IsFamily n) (combs_of_sets k (plain sets))) (sym good.each_comb) c.requires.are_families)
@@ -43,12 +44,12 @@ pub leaf_bound-requires-clause-even : goal.leaf_bound-requires-clause-even
 leaf_bound-requires-clause-even g c =
     let p = c.args.self.now in
     let cost = g.C.Costs.at p.costs.now in
-    let sets : List (ℕ × Vec ℕ) = p.sets.now in
+    let sets : List CombSet = p.sets.now in
     let ps : List ℤ = c.args.potentials.now in
     let ms : List ℤ = c.args.multipliers.now in
-    let given : List (ℕ × ℕ × Bool) = p.given.now in
-    let ds : List (ℕ × ℕ × Bool) = c.args.decisions.now in
-    let case : List Decision = stack_of ds ++ case_of given in
+    let given : List Decision = p.given.now in
+    let ds : List Decision = c.args.decisions.now in
+    let case : List Decision = stack_of ds ++ given in
     let q = c.of-combed.result in
     let w : ℕ → ℕ → ℤ = set_weight q.scale q.potentials.now q.multipliers.now (plain q.sets.now) (g.C.Costs.at q.costs.now) in
     let below = sets_below_count p.combs (length ms) sets c.requires.numbers.each_comb p.of_combs in
@@ -62,12 +63,12 @@ returns-clause-bound g c =
     let p = c.args.self.now in
     let n : ℕ = g.C.Costs.nodes p.costs.now in
     let cost = g.C.Costs.at p.costs.now in
-    let sets : List (ℕ × Vec ℕ) = p.sets.now in
+    let sets : List CombSet = p.sets.now in
     let ps : List ℤ = c.args.potentials.now in
     let ms : List ℤ = c.args.multipliers.now in
-    let given : List (ℕ × ℕ × Bool) = p.given.now in
-    let ds : List (ℕ × ℕ × Bool) = c.args.decisions.now in
-    let case : List Decision = stack_of ds ++ case_of given in
+    let given : List Decision = p.given.now in
+    let ds : List Decision = c.args.decisions.now in
+    let case : List Decision = stack_of ds ++ given in
     let q = c.of-combed.result in
     let w : ℕ → ℕ → ℤ = set_weight q.scale q.potentials.now q.multipliers.now (plain q.sets.now) (g.C.Costs.at q.costs.now) in
     let below = sets_below_count p.combs (length ms) sets c.requires.numbers.each_comb p.of_combs in
