@@ -2,7 +2,7 @@
 use Rattle.std.proofs.Common.{◌≡◌, true, false, ℤ, pos, negsuc, ◌+ℤ◌, ◌*ℤ◌, ◌≤ℤ◌, w64, to_z, of_z, SFits, subst, arith}
 use Rattle.std.specs.Int.Signed.{lt_z, le_z}
 use Rattle.std.proofs.lemmas.Int.{ints, to_z-of_z}
-use Rattle.tsp_bound.specs.Boxes.{IsKnown}
+use Rattle.tsp_bound.specs.states.Boxes.{IsKnown}
 use Rattle.tsp_theory.specs.Numbers.{IsScale}
 use Rattle.tsp_theory.proofs.Division.{scaled_up}
 

@@ -7,8 +7,7 @@ use Rattle.tsp_theory.specs.Tree.{crosses}
 use Rattle.tsp_theory.specs.Forest.{AreLeastJoins}
 use Rattle.tsp_theory.proofs.Forests.{joins_more}
 use Rattle.tsp_bound.specs.declared.link.Link.{Link}
-use Rattle.tsp_bound.specs.Components.{IsBelow}
-use Rattle.tsp_bound.specs.Components.{IsForest, IsLeastOf}
+use Rattle.tsp_bound.specs.states.Components.{IsBelow, IsForest, IsLeastOf}
 
 -- within a round: the two ends of a pair have one label, or labels that are met and become one
 abbrev pub IsWithin : (ℕ → ℕ) → (ℕ → ℕ) → (ℕ → Bool) → ℕ × ℕ → Type 0

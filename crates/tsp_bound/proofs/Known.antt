@@ -6,8 +6,7 @@ use Rattle.std.proofs.lemmas.Bool.{cases_eq, false≢true, eq-eqb, ne_eqb}
 use Rattle.std.proofs.lemmas.Int.{ints}
 use Rattle.std.proofs.lemmas.List.{get_or-set_same, get_or-set_other}
 use Rattle.tsp_bound.specs.declared.link.Link.{Link}
-use Rattle.tsp_bound.specs.Components.{IsNearest}
-use Rattle.tsp_bound.specs.Components.{is_apart, IsKept, AreKept, IsLeaving, IsLeastOf, link_of, AreLeaving, AreLeast, IsOffered}
+use Rattle.tsp_bound.specs.states.Components.{IsNearest, is_apart, IsKept, AreKept, IsLeaving, IsLeastOf, link_of, AreLeaving, AreLeast, IsOffered}
 
 -- ---- the link of one node
 

@@ -8,8 +8,8 @@ use Rattle.std.proofs.lemmas.List.Elements.{recursion_from_All}
 use Rattle.tsp_format.specs.Limits.{most_multiplier}
 use Rattle.tsp_theory.specs.Numbers.{IsFromTo}
 use Rattle.tsp_theory.specs.Tree.{IsInner}
-use Rattle.tsp_bound.specs.ByNode.{lowered_by, AreLowerings}
-use Rattle.tsp_theory.specs.Growth.{is_inside, least_at, IsNearer, AreNearer, IsLowered, AreLowered}
+use Rattle.tsp_bound.specs.states.ByNode.{lowered_by, AreLowerings}
+use Rattle.tsp_theory.specs.states.Nearest.{is_inside, least_at, IsNearer, AreNearer, IsLowered, AreLowered}
 use Rattle.tsp_theory.proofs.Nearest.{IsTaken, most_64}
 
 -- ---- what a node's weight is lowered by

@@ -8,8 +8,8 @@ use Rattle.std.proofs.lemmas.Int.{ints}
 use Rattle.std.proofs.lemmas.List.Elements.{recursion_from_All}
 use Rattle.tsp_format.specs.Limits.{most_multiplier}
 use Rattle.tsp_bound.specs.declared.nearest.Best.{Best}
-use Rattle.tsp_bound.specs.Boxes.{node_of, IsFound, IsBest, IsSearched, no_best}
-use Rattle.tsp_bound.specs.ByNode.{lowered_by, AreLowerings}
+use Rattle.tsp_bound.specs.states.Boxes.{node_of, IsFound, IsBest, IsSearched, no_best}
+use Rattle.tsp_bound.specs.states.ByNode.{lowered_by, AreLowerings}
 use Rattle.tsp_theory.specs.Numbers.{IsFromTo}
 use Rattle.tsp_theory.specs.Tree.{IsInner}
 use Rattle.tsp_bound.proofs.Lowered.{AreLess, none_lowered, one_lowered, lowered_positive}

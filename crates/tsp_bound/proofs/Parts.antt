@@ -8,14 +8,13 @@ use Rattle.tsp_format.specs.Cells.{IsNode}
 use Rattle.tsp_bound.specs.declared.potentials.Potentials.{Potentials}
 use Rattle.tsp_bound.specs.declared.by_node.ByNode.{ByNode}
 use Rattle.tsp_theory.specs.Adjusted.{numbers_on, adjusted}
-use Rattle.tsp_bound.specs.Multipliers.{triples_in, weight_less}
-use Rattle.tsp_bound.specs.Boxes.{node_of}
-use Rattle.tsp_theory.specs.Growth.{IsPartGrowth}
-use Rattle.tsp_bound.specs.Numbering.{IsNumbering, on_both}
+use Rattle.tsp_bound.specs.states.Multipliers.{triples_in, weight_less}
+use Rattle.tsp_bound.specs.states.Boxes.{node_of}
+use Rattle.tsp_bound.specs.states.Numbering.{IsNumbering, on_both}
 use Rattle.tsp_theory.specs.Numbers.{IsFromTo, IsSumSized}
 use Rattle.tsp_theory.specs.Tree.{IsInner, weight_of}
 use Rattle.tsp_theory.specs.Forest.{IsWholeForest}
-use Rattle.tsp_bound.specs.Components.{IsSpanning, IsWeighedForest}
+use Rattle.tsp_bound.specs.states.Components.{IsSpanning, IsWeighedForest}
 use Rattle.tsp_bound.proofs.Renaming.{joins_rename}
 
 pub map_more : (f : ℕ × ℕ → ℕ × ℕ) (xs : List (ℕ × ℕ)) (i : ℕ) (d : ℕ × ℕ) → i < length xs → map f (take (i + 1) xs) ≡ map f (take i xs) ++ f (get_or xs i d) ∷ []
@@ -53,15 +52,6 @@ pub spanning_seen : (order seen : List ℕ) (w shown : ℕ → ℕ → ℤ) (pai
 spanning_seen order seen w shown pairs same_order same_weights g =
     subst (λ (os : List ℕ). IsSpanning (length os) (λ i j. w (node_of os i) (node_of os j)) pairs) same_order
     (subst (λ (k : ℕ → ℕ → ℤ). IsSpanning (length seen) (λ i j. k (node_of seen i) (node_of seen j)) pairs) same_weights g)
-
--- ---- no pair, and as many as a tree has
-
-pub empty_part : (pairs : List (ℕ × ℕ)) (sum : ℤ) → pairs ≡ [] → sum ≡ pos 0 → (n : ℕ) (w : ℕ → ℕ → ℤ) → IsPartGrowth n w pairs sum
-empty_part pairs sum none zero n w = rw (none, zero) (record {
-  grows = tt;
-  weight = refl;
-  size = (omega (arith, ints), omega (arith, ints));
-})
 
 -- ---- as the code shows them
 

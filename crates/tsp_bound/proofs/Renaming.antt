@@ -6,8 +6,8 @@ use Rattle.std.proofs.lemmas.List.{map-append}
 use Rattle.std.proofs.lemmas.List.Elements.{All-map, All-nil, All-push, recursion_from_All}
 use Rattle.tsp_theory.specs.Tree.{IsInner, crosses}
 use Rattle.tsp_theory.specs.Forest.{IsLeastJoin, AreLeastJoins}
-use Rattle.tsp_bound.specs.Components.{IsBelow}
-use Rattle.tsp_bound.specs.Numbering.{IsNumbering, on_both}
+use Rattle.tsp_bound.specs.states.Components.{IsBelow}
+use Rattle.tsp_bound.specs.states.Numbering.{IsNumbering, on_both}
 
 joins_renamed : (n : ℕ) (Node : ℕ → Type 0) (node place : ℕ → ℕ) (w v : ℕ → ℕ → ℤ) (earlier pairs : List (ℕ × ℕ))
     → IsNumbering n Node node place → ((i j : ℕ) → i < n → j < n → v i j ≡ w (node i) (node j))

@@ -12,7 +12,7 @@ use Rattle.tsp_format.specs.Cells.{IsNode}
 use Rattle.tsp_format.specs.Limits.{most_multiplier}
 use Rattle.tsp_theory.specs.Numbers.{IsFromTo, IsMultiplier}
 use Rattle.tsp_theory.specs.Adjusted.{pair_of, is_same_pair, number_on, numbers_on, AreOnPairs}
-use Rattle.tsp_bound.specs.ByNode.{said_of, all_said_of, IsTable, lowered_by, AreLowerings}
+use Rattle.tsp_bound.specs.states.ByNode.{said_of, all_said_of, IsTable, lowered_by, AreLowerings}
 
 -- ---- the numbers of a node's pairs add up to those on its pairs
 

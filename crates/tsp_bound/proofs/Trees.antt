@@ -6,8 +6,8 @@ use Rattle.std.proofs.lemmas.List.{get_or-set_same, get_or-set_other}
 use Rattle.std.proofs.lemmas.Int.{ints}
 use Rattle.tsp_bound.specs.declared.area.Area.{Area}
 use Rattle.tsp_bound.specs.declared.nearest.Best.{Best}
-use Rattle.tsp_bound.specs.Boxes.{up, node_of, box_at, AreHeldFrom, AreHeld, IsRefit, IsKnown, IsBelowAll, IsFound, IsBest, IsSearched}
-use Rattle.tsp_bound.specs.Components.{IsNearest}
+use Rattle.tsp_bound.specs.states.Boxes.{up, node_of, box_at, AreHeldFrom, AreHeld, IsRefit, IsKnown, IsBelowAll, IsFound, IsBest, IsSearched}
+use Rattle.tsp_bound.specs.states.Components.{IsNearest}
 
 -- ---- numbers of boxes
 

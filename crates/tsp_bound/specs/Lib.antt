@@ -1,7 +1,1 @@
-pub mod Boxes
-pub mod ByNode
-pub mod Components
-pub mod Duals
-pub mod Multipliers
-pub mod Numbering
-pub mod Potentials
+pub mod states

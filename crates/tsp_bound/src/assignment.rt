@@ -6,7 +6,7 @@ ghost use Rattle.tsp_theory.specs.Cycle.{IsCycle};
 ghost use Rattle.tsp_theory.specs.Length.{length_of};
 ghost use Rattle.tsp_theory.specs.Numbers.{IsBoundSized, entry};
 ghost use Rattle.tsp_theory.specs.Assignment.{AreGood, IsFirstBroken, IsDualBound};
-ghost use Rattle.tsp_bound.specs.Duals.{dual_scale, rows_of, columns_of, dual_of, scaled};
+ghost use Rattle.tsp_bound.specs.states.Duals.{dual_scale, rows_of, columns_of, dual_of, scaled};
 
 use crate::duals::Duals;
 use crate::numbers::{least_bound, total};

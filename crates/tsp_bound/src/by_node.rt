@@ -5,7 +5,7 @@ ghost use Rattle.std.specs.List.{All, AllPairs};
 ghost use Rattle.tsp_format.specs.Limits.{most_multiplier};
 ghost use Rattle.tsp_theory.specs.Numbers.{IsFromTo, IsMultiplier, AreMultipliers};
 ghost use Rattle.tsp_theory.specs.Adjusted.{AreOnPairs};
-ghost use Rattle.tsp_bound.specs.ByNode.{IsTable, lowered_by};
+ghost use Rattle.tsp_bound.specs.states.ByNode.{IsTable, lowered_by};
 
 use crate::multipliers::Multipliers;
 use std::alloc::{AllocError, Global};
@@ -25,8 +25,8 @@ impl<'a> ByNode<'a> {
     ghost use Rattle.std.specs.Prelude.{ℕ};
     ghost use Rattle.tsp_format.specs.Cells.{IsNode};
     ghost use Rattle.tsp_theory.specs.Adjusted.{numbers_on};
-    ghost use Rattle.tsp_bound.specs.ByNode.{AreLowerings};
-    ghost use Rattle.tsp_bound.specs.Multipliers.{triples_of, triples_in, node_count};
+    ghost use Rattle.tsp_bound.specs.states.ByNode.{AreLowerings};
+    ghost use Rattle.tsp_bound.specs.states.Multipliers.{triples_of, triples_in, node_count};
 
     /// The multipliers of different pairs of the nodes 1 to `nodes`, by node.
     ///

@@ -1,8 +1,7 @@
 //! The components of a forest, and the search for the nearest place in another component.
 
 ghost use Rattle.std.specs.Prelude.{◌≡◌, ◌<◌, ℕ, ℤ, length, IfSome};
-ghost use Rattle.tsp_bound.specs.Components.{is_apart, label_at};
-ghost use Rattle.tsp_bound.specs.Components.{IsNearest};
+ghost use Rattle.tsp_bound.specs.states.Components.{is_apart, label_at, IsNearest};
 
 use crate::link::Link;
 

@@ -15,7 +15,7 @@ pub struct Duals<'a> {
 
 impl<'a> Duals<'a> {
     ghost use Rattle.std.specs.Prelude.{◌≡◌, MatchOption};
-    ghost use Rattle.tsp_bound.specs.Duals.{dual_scale, rows_of, columns_of};
+    ghost use Rattle.tsp_bound.specs.states.Duals.{dual_scale, rows_of, columns_of};
 
     /// The duals of these numbers of rows and of columns, each a count of 1 / scale.
     ///

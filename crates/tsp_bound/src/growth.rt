@@ -5,10 +5,11 @@ ghost use Rattle.tsp_format.specs.Cells.{IsNode};
 ghost use Rattle.tsp_format.specs.Limits.{most_nodes};
 ghost use Rattle.tsp_theory.specs.Numbers.{IsFromTo};
 ghost use Rattle.tsp_theory.specs.Tree.{IsInner, weight_of};
-ghost use Rattle.tsp_bound.specs.ByNode.{AreLowerings};
-ghost use Rattle.tsp_theory.specs.Growth.{is_inside, IsWholeGrowth, AllInside, IsNearestOutside, IsNearer, AreNearer, AreLowered, IsPartGrowth};
-ghost use Rattle.tsp_bound.specs.Potentials.{weight_under};
-ghost use Rattle.tsp_bound.specs.Multipliers.{triples_in, weight_less};
+ghost use Rattle.tsp_bound.specs.states.ByNode.{AreLowerings};
+ghost use Rattle.tsp_theory.specs.states.Nearest.{is_inside, AllInside, IsNearestOutside, IsNearer, AreNearer, AreLowered};
+ghost use Rattle.tsp_theory.specs.Growth.{IsWholeGrowth};
+ghost use Rattle.tsp_bound.specs.states.Potentials.{weight_under};
+ghost use Rattle.tsp_bound.specs.states.Multipliers.{triples_in, weight_less};
 
 use crate::weights::Weights;
 use std::alloc::{AllocError, Global};
@@ -21,22 +22,18 @@ pub(crate) struct Grown {
     pub(crate) weight: i128,
 }
 
-/// Goes on with a growth from node 2, over all the nodes that it hasn't reached.
+/// Grows a tree over the nodes 2..n from node 2, by a least pair that leaves it each time.
 ///
-/// Of each node outside it keeps the nearest node inside and the weight between the two, first
-/// over the part that is there, so that each cost is asked for once, and once more for each
-/// multiplier.
+/// Of each node outside it keeps the nearest node inside and the weight between the two, so that
+/// each cost is asked for once, and once more for each multiplier.
 ///
 /// # Errors
 ///
 /// Out of memory.
-pub(crate) fn grow_on<C: Costs>(
+pub(crate) fn grow_pair_by_pair<C: Costs>(
     alloc: Global,
     w: &Weights<C>,
-    grown: Grown,
 ) -> Result<Grown, AllocError>
-    requires part { IsPartGrowth (C.nodes w.now.c.now) (weight_less w.now.p.now (triples_in w.now.m.now) (C.at w.now.c.now))
-        grown.pairs.items grown.weight }
     ensures whole { IfOk result (λ grown. IsWholeGrowth (C.nodes w.now.c.now)
         (weight_less w.now.p.now (triples_in w.now.m.now) (C.at w.now.c.now)) grown.pairs.items) }
     ensures weight { IfOk result (λ grown. grown.weight
@@ -49,16 +46,10 @@ pub(crate) fn grow_on<C: Costs>(
     let mut near: Vec<u32> = vec![in alloc; 2; size]?;
     // Every weight is below the one that means none.
     let mut least = vec![in alloc; i64::MAX; size]?;
+    let mut pairs = Vec::with_capacity(alloc, size)?;
+    let mut weight: i128 = 0;
     inside[2] = true;
     let mut nearest = reach(w, &inside, &mut near, &mut least, 2);
-    'again: for pair in &grown.pairs {
-        inside[pair.1 as usize] = true;
-        nearest = reach(w, &inside, &mut near, &mut least, pair.1);
-    }
-    let Grown {
-        mut pairs,
-        mut weight,
-    } = grown;
     'grow: while let Some(next) = nearest {
         inside[next as usize] = true;
         pairs.push((near[next as usize], next))?;

@@ -1,8 +1,7 @@
 //! The best links of components, and the joins along them.
 
 ghost use Rattle.std.specs.Prelude.{◌≡◌, ◌<◌, ℕ, false, length, IfOk, MatchOption, ◌≤ℤ◌};
-ghost use Rattle.std.specs.Bool.{OnTrue};
-ghost use Rattle.tsp_bound.specs.Components.{AreKept, AreLeast, AreLeaving, IsOffered, IsForest, label_at};
+ghost use Rattle.tsp_bound.specs.states.Components.{AreKept, AreLeast, AreLeaving, IsOffered, IsForest, label_at};
 
 use crate::components::Components;
 use crate::labelled::own_labels;

@@ -1,9 +1,9 @@
 //! Nodes in an order, each with the label of its component.
 
 ghost use Rattle.std.specs.Prelude.{◌≡◌, ◌<◌, ◌*◌, ℕ, true, length, IfOk};
-ghost use Rattle.tsp_bound.specs.Potentials.{numbers_of};
-ghost use Rattle.tsp_bound.specs.Boxes.{HoldsNode, AreHeld, AreHeld-prop, area_at, node_of};
-ghost use Rattle.tsp_bound.specs.Components.{AreTags, is_apart, label_at, seen_area};
+ghost use Rattle.tsp_bound.specs.states.Potentials.{numbers_of};
+ghost use Rattle.tsp_bound.specs.states.Boxes.{HoldsNode, AreHeld, AreHeld-prop, area_at, node_of};
+ghost use Rattle.tsp_bound.specs.states.Components.{AreTags, is_apart, label_at, seen_area};
 
 use crate::area::Area;
 use crate::boxes::boxes_of;
@@ -61,7 +61,7 @@ fn rename(labels: &mut [u32], list: &[u32])
 impl<'a, C: Grouped> Labelled<'a, C> {
     ghost use Rattle.std.specs.Prelude.{IfSome};
 
-    /// Nodes that are each a component of its own; none where the costs have no place for one.
+    /// Nodes that are a component each; none where the costs have no place for one.
     ///
     /// # Errors
     ///
@@ -129,7 +129,7 @@ impl Seen for Apart<'_> {
 }
 
 impl<C: Grouped> Components for Labelled<'_, C> {
-    ghost use Rattle.tsp_bound.specs.Multipliers.{triples_in, weight_less};
+    ghost use Rattle.tsp_bound.specs.states.Multipliers.{triples_in, weight_less};
 
     ghost count_of = { λ s. length s.placed.order.now };
 

@@ -15,7 +15,7 @@ pub struct Multipliers<'a> {
 
 impl<'a> Multipliers<'a> {
     ghost use Rattle.std.specs.Prelude.{◌≡◌, MatchOption};
-    ghost use Rattle.tsp_bound.specs.Multipliers.{triples_of};
+    ghost use Rattle.tsp_bound.specs.states.Multipliers.{triples_of};
 
     /// The multipliers of these triples, each number a count of 1 / scale.
     ///

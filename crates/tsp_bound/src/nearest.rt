@@ -5,8 +5,8 @@ ghost use Rattle.std.specs.Bool.{OnTrue};
 ghost use Rattle.tsp_format.specs.Cells.{IsNode};
 ghost use Rattle.tsp_format.specs.Limits.{most_scale, most_weight, most_potential};
 ghost use Rattle.tsp_theory.specs.Numbers.{IsFromTo, IsScale, entry};
-ghost use Rattle.tsp_bound.specs.Potentials.{scale_of, numbers_of, weight_under};
-ghost use Rattle.tsp_bound.specs.Boxes.{HoldsNode, AreHeld, IsKnown, IsBelowAll, IsSearched, no_best, node_of};
+ghost use Rattle.tsp_bound.specs.states.Potentials.{scale_of, numbers_of, weight_under};
+ghost use Rattle.tsp_bound.specs.states.Boxes.{HoldsNode, AreHeld, IsKnown, IsBelowAll, IsSearched, no_best, node_of};
 
 use crate::potentials::Potentials;
 use crate::seen::Seen;

@@ -1,8 +1,8 @@
 //! Places in a list, each of which means a node.
 
-ghost use Rattle.std.specs.Prelude.{◌≡◌, ◌<◌, ◌+◌, ◌^◌, ℕ, length, slice_index_or, IfOk, IfSome};
+ghost use Rattle.std.specs.Prelude.{◌≡◌, ◌<◌, ◌+◌, ◌^◌, length, slice_index_or, IfOk, IfSome};
 ghost use Rattle.tsp_theory.specs.Tree.{IsInner};
-ghost use Rattle.tsp_bound.specs.Numbering.{IsNumbering};
+ghost use Rattle.tsp_bound.specs.states.Numbering.{IsNumbering};
 
 use std::alloc::{AllocError, Global};
 

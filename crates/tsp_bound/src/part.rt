@@ -1,19 +1,18 @@
 //! A least tree over the nodes 2..n: by boxes in rounds, or pair by pair.
 
-ghost use Rattle.std.specs.Prelude.{◌≡◌, ◌≤◌, ◌<◌, ◌+◌, ◌*◌, ◌^◌, ℕ, ℤ, length, map, pos, neg_ℤ, IfOk, IfSome};
+ghost use Rattle.std.specs.Prelude.{◌≡◌, ◌≤◌, ◌<◌, ◌+◌, ◌*◌, ◌^◌, ℕ, length, map, pos, neg_ℤ, IfOk, IfSome};
 ghost use Rattle.std.specs.List.{All};
 ghost use Rattle.tsp_format.specs.Cells.{IsNode};
 ghost use Rattle.tsp_format.specs.Limits.{most_nodes};
-ghost use Rattle.tsp_bound.specs.Boxes.{node_of};
-ghost use Rattle.tsp_bound.specs.Components.{IsWeighedForest};
-ghost use Rattle.tsp_theory.specs.Growth.{IsPartGrowth};
+ghost use Rattle.tsp_bound.specs.states.Boxes.{node_of};
+ghost use Rattle.tsp_bound.specs.states.Components.{IsWeighedForest};
 ghost use Rattle.tsp_theory.specs.Forest.{IsWholeForest};
-ghost use Rattle.tsp_bound.specs.Multipliers.{triples_in, weight_less};
-ghost use Rattle.tsp_bound.specs.Numbering.{on_both};
+ghost use Rattle.tsp_bound.specs.states.Multipliers.{triples_in, weight_less};
+ghost use Rattle.tsp_bound.specs.states.Numbering.{on_both};
 ghost use Rattle.tsp_theory.specs.Numbers.{IsFromTo, IsSumSized};
 ghost use Rattle.tsp_theory.specs.Tree.{weight_of};
 
-use crate::growth::{Grown, grow_on};
+use crate::growth::{Grown, grow_pair_by_pair};
 use crate::labelled::Labelled;
 use crate::numbering::places_in;
 use crate::placed::Placed;
@@ -42,8 +41,7 @@ pub(crate) fn grow<C: Grouped>(alloc: Global, w: &Weights<C>) -> Result<Grown, A
     if let Some(grown) = joined(alloc, w)? {
         return Ok(grown);
     }
-    let none = nothing(alloc, w.c)?;
-    grow_on(alloc, w, none)
+    grow_pair_by_pair(alloc, w)
 }
 
 /// The nodes 2..n in an order in which near ones are near each other; none where it isn't one of
@@ -102,19 +100,6 @@ fn joined_over<C: Grouped>(
     };
     let grown = weighed(alloc, w, order, &pairs)?;
     Ok(Some(grown))
-}
-
-/// No pair yet, with capacity for those of a tree: a part of any growth.
-///
-/// # Errors
-///
-/// Out of memory.
-fn nothing<C: Costs>(alloc: Global, c: &C) -> Result<Grown, AllocError>
-    ensures { IfOk result (λ grown. (n : ℕ) (w : ℕ → ℕ → ℤ)
-        → IsPartGrowth n w grown.pairs.items grown.weight) }
-{
-    let pairs = Vec::with_capacity(alloc, c.count() as usize + 1)?;
-    Ok(Grown { pairs, weight: 0 })
 }
 
 /// How many boxes the rounds over this many nodes may look at: a part of the work that the growth

@@ -3,10 +3,10 @@
 ghost use Rattle.std.specs.Prelude.{◌≡◌, ◌<◌, ◌+◌, ◌^◌, ℕ, length, slice_index_or};
 ghost use Rattle.tsp_format.specs.Cells.{IsNode};
 ghost use Rattle.tsp_theory.specs.Tree.{IsInner};
-ghost use Rattle.tsp_bound.specs.Boxes.{node_of};
-ghost use Rattle.tsp_bound.specs.Multipliers.{node_count};
-ghost use Rattle.tsp_bound.specs.Numbering.{IsNumbering};
-ghost use Rattle.tsp_bound.specs.Potentials.{numbers_of};
+ghost use Rattle.tsp_bound.specs.states.Boxes.{node_of};
+ghost use Rattle.tsp_bound.specs.states.Multipliers.{node_count};
+ghost use Rattle.tsp_bound.specs.states.Numbering.{IsNumbering};
+ghost use Rattle.tsp_bound.specs.states.Potentials.{numbers_of};
 
 use crate::by_node::ByNode;
 use crate::link::Link;
@@ -36,10 +36,10 @@ pub(crate) struct Placed<'a, C: Grouped> {
 
 impl<'a, C: Grouped> Placed<'a, C> {
     ghost use Rattle.std.specs.Prelude.{true, false, IfSome, MatchOption};
-    ghost use Rattle.tsp_bound.specs.Boxes.{HoldsNode, AreHeld, IsBest};
-    ghost use Rattle.tsp_bound.specs.Components.{IsNearest};
-    ghost use Rattle.tsp_bound.specs.Multipliers.{triples_in, weight_less};
-    ghost use Rattle.tsp_bound.specs.Potentials.{weight_under};
+    ghost use Rattle.tsp_bound.specs.states.Boxes.{HoldsNode, AreHeld, IsBest};
+    ghost use Rattle.tsp_bound.specs.states.Components.{IsNearest};
+    ghost use Rattle.tsp_bound.specs.states.Multipliers.{triples_in, weight_less};
+    ghost use Rattle.tsp_bound.specs.states.Potentials.{weight_under};
 
     /// The nodes of an order, with the place of each.
     pub(crate) fn new(

@@ -18,7 +18,7 @@ impl<'a> Potentials<'a> {
     ghost use Rattle.std.specs.Prelude.{◌≡◌, length, pos, neg_ℤ, MatchOption};
     ghost use Rattle.tsp_format.specs.Cells.{IsNode};
     ghost use Rattle.tsp_theory.specs.Numbers.{IsFromTo, entry};
-    ghost use Rattle.tsp_bound.specs.Potentials.{scale_of, numbers_of, weight_under};
+    ghost use Rattle.tsp_bound.specs.states.Potentials.{scale_of, numbers_of, weight_under};
     ghost use Rattle.tsp_theory.specs.NodeBound.{most_between};
 
     /// The potentials of these numbers, each a count of 1 / scale.

@@ -1,8 +1,8 @@
 //! The growth of a forest into a tree, by rounds in which each component adds its least link.
 
-ghost use Rattle.std.specs.Prelude.{◌≡◌, ◌<◌, ◌+◌, ℕ, true, length, IfOk, IfSome};
+ghost use Rattle.std.specs.Prelude.{◌≡◌, ◌<◌, ◌+◌, ℕ, true, IfOk, IfSome};
 ghost use Rattle.std.specs.Bool.{OnTrue};
-ghost use Rattle.tsp_bound.specs.Components.{AreKept, AreLeast, AreLeaving, IsSpanning};
+ghost use Rattle.tsp_bound.specs.states.Components.{AreKept, AreLeast, AreLeaving, IsSpanning};
 
 use crate::components::Components;
 use crate::joins::{best_of, better, end_of, is_better, join};
@@ -18,7 +18,7 @@ const MOST_ROUNDS: u32 = 32;
 ///
 /// Each node has a link that weighs no more than any pair from it to another component: its least
 /// one, as of when it was searched for. It is searched for again only where it no longer leads to
-/// another component and weighs less than the best link of its own.
+/// another component and weighs less than the best link of its component.
 ///
 /// # Errors
 ///

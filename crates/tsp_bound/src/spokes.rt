@@ -1,9 +1,9 @@
 //! The two pairs at node 1.
 
 ghost use Rattle.std.specs.Prelude.{◌≡◌, ◌≤◌, ◌<◌, ◌-◌, ◌^◌, length, IfOk};
-ghost use Rattle.tsp_theory.specs.Tree.{IsInner};
-ghost use Rattle.tsp_theory.specs.Growth.{AreNearest, least_at};
-ghost use Rattle.tsp_bound.specs.Multipliers.{triples_in, weight_less};
+ghost use Rattle.tsp_theory.specs.Growth.{AreNearest};
+ghost use Rattle.tsp_theory.specs.states.Nearest.{least_at};
+ghost use Rattle.tsp_bound.specs.states.Multipliers.{triples_in, weight_less};
 
 use crate::growth::reach;
 use crate::weights::Weights;

@@ -1,8 +1,8 @@
 //! Tags of boxes: the label of all nodes in a box, where they have the same.
 
 ghost use Rattle.std.specs.Prelude.{◌≡◌, ◌≤◌, ◌<◌, ◌*◌, ◌^◌, ℕ, length};
-ghost use Rattle.tsp_bound.specs.Boxes.{IsRefit};
-ghost use Rattle.tsp_bound.specs.Components.{AreTags, IsTagOf};
+ghost use Rattle.tsp_bound.specs.states.Boxes.{IsRefit};
+ghost use Rattle.tsp_bound.specs.states.Components.{AreTags, IsTagOf};
 
 /// The tag of a box with nodes of several labels. It is no label: there are fewer nodes.
 const MIXED: u32 = u32::MAX;

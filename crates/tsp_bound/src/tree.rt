@@ -8,8 +8,8 @@ ghost use Rattle.tsp_theory.specs.Numbers.{IsFromTo, IsBoundSized};
 ghost use Rattle.tsp_theory.specs.Tree.{IsOneTree, IsLeastOneTree, weight_of};
 ghost use Rattle.tsp_theory.specs.Growth.{tree_of};
 ghost use Rattle.tsp_theory.specs.Adjusted.{AreOnPairs, UsesEach, IsAdjustedBoundOf, IsAdjustedBound};
-ghost use Rattle.tsp_bound.specs.Potentials.{scale_of, numbers_of};
-ghost use Rattle.tsp_bound.specs.Multipliers.{triples_of, triples_in, node_count, weight_less};
+ghost use Rattle.tsp_bound.specs.states.Potentials.{scale_of, numbers_of};
+ghost use Rattle.tsp_bound.specs.states.Multipliers.{triples_of, triples_in, node_count, weight_less};
 
 use crate::by_node::ByNode;
 use crate::multipliers::Multipliers;

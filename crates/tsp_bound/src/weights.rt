@@ -1,8 +1,8 @@
 //! What gives the weights between nodes.
 
 ghost use Rattle.std.specs.Prelude.{◌≡◌, ◌≤◌, length};
-ghost use Rattle.tsp_bound.specs.Multipliers.{node_count};
-ghost use Rattle.tsp_bound.specs.Potentials.{numbers_of};
+ghost use Rattle.tsp_bound.specs.states.Multipliers.{node_count};
+ghost use Rattle.tsp_bound.specs.states.Potentials.{numbers_of};
 
 use crate::by_node::ByNode;
 use crate::potentials::Potentials;

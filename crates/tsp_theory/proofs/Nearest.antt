@@ -7,7 +7,7 @@ use Rattle.std.proofs.lemmas.List.{get_or-set_same, get_or-set_other}
 use Rattle.std.proofs.lemmas.Bool.{cases_eq, both_ways}
 use Rattle.std.proofs.lemmas.Int.{ints, to_z-of_z}
 use Rattle.tsp_theory.specs.Tree.{IsInner}
-use Rattle.tsp_theory.specs.Growth.{is_inside, least_at, IsNearer, AllInside, IsNearestOutside}
+use Rattle.tsp_theory.specs.states.Nearest.{is_inside, least_at, IsNearer, AllInside, IsNearestOutside}
 
 abbrev pub most_64 : ℤ
 most_64 = pos 9223372036854775807

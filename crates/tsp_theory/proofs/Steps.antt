@@ -10,7 +10,8 @@ use Rattle.std.proofs.lemmas.List.Sums.{sum_by-set, sum_by-cons}
 use Rattle.std.proofs.lemmas.Int.{ints}
 use Rattle.tsp_theory.specs.Tree.{IsInner}
 use Rattle.tsp_theory.proofs.Exchange.{and_node_all, and_node_self, and_node_old}
-use Rattle.tsp_theory.specs.Growth.{and_node, IsLeastLeaving, Grows, grown_by, is_inside, least_at, AllInside, IsNearestOutside, IsNearer, AreNearer, IsWholeGrowth}
+use Rattle.tsp_theory.specs.Growth.{and_node, IsLeastLeaving, Grows, grown_by, IsWholeGrowth}
+use Rattle.tsp_theory.specs.states.Nearest.{is_inside, least_at, AllInside, IsNearestOutside, IsNearer, AreNearer}
 
 -- how many are inside
 abbrev pub insiders : List Bool → ℕ
@@ -44,13 +45,6 @@ pub grown_by_nodes : (Node : ℕ → Type 0) (w : ℕ → ℕ → ℤ) (added : 
     → ((x : ℕ) → grown x ≡ true → Node x) → (x : ℕ) → grown_by grown added x ≡ true → Node x
 grown_by_nodes Node w [] grown g nodes = nodes
 grown_by_nodes Node w (e ∷ es) grown g nodes = grown_by_nodes Node w es (and_node grown e.1) g.1 (and_node_all grown e.1 Node g.0.node nodes)
-
--- the pair at a place of a growth leaves the part grown before it
-pub grows_at : (Node : ℕ → Type 0) (w : ℕ → ℕ → ℤ) (pairs : List (ℕ × ℕ)) (grown : ℕ → Bool) (i : ℕ) (d : ℕ × ℕ) → i < length pairs → Grows Node w grown pairs
-    → IsLeastLeaving Node w (grown_by grown (take i pairs)) (get_or pairs i d)
-grows_at Node w [] grown i d low g = absurd (omega (arith, low))
-grows_at Node w (e ∷ es) grown zero d low g = g.0
-grows_at Node w (e ∷ es) grown (suc i) d low g = grows_at Node w es (and_node grown e.1) i d (omega (arith, low)) g.1
 
 -- ---- a mark more
 
@@ -289,24 +283,6 @@ state_after n w inside seen near near_was near_after least least_was least_after
     subst (λ (xs : List ℤ). IsState n w (set inside v true) (take near_len (near_after ++ drop (length near_after) near)) xs pushed) (sym least_back)
     (subst (λ (xs : List ℕ). IsState n w (set inside v true) xs least_after pushed) (sym near_back)
     (subst (IsState n w (set inside v true) near_after least_after) (ap (λ y. added ++ (y, v) ∷ []) (sym u_is) ∙ sym push) more))
-
-pub state_after_by : (n : ℕ) (w : ℕ → ℕ → ℤ) (inside seen : List Bool) (near near_was near_after : List ℕ) (least least_was least_after : List ℤ)
-    (added pushed : List (ℕ × ℕ)) (v u near_len least_len : ℕ) → IsState n w inside near least added → IsInner n v → is_inside inside v ≡ false
-    → IsLeastLeaving (IsInner n) w (grown_by (λ x. x == 2) added) (u, v)
-    → seen ≡ set inside v true → near_was ≡ near → least_was ≡ least → length near_after ≡ length near_was → length least_after ≡ length least_was → near_len ≡ length near → least_len ≡ length least
-    → AreNearer n w seen v near_was least_was near_after least_after → pushed ≡ added ++ (u, v) ∷ []
-    → IsState n w (set inside v true) (take near_len (near_after ++ drop (length near_after) near)) (take least_len (least_after ++ drop (length least_after) least)) pushed
-state_after_by n w inside seen near near_was near_after least least_was least_after added pushed v u near_len least_len s inner outside leaving seen_is
-    near_same least_same near_kept least_kept near_len_is least_len_is nearer push =
-    let own = subst (λ (xs : List ℤ). AreNearer n w (set inside v true) v near xs near_after least_after) least_same
-    (subst (λ (xs : List ℕ). AreNearer n w (set inside v true) v xs least_was near_after least_after) near_same
-    (subst (λ (xs : List Bool). AreNearer n w xs v near_was least_was near_after least_after) seen_is nearer)) in
-    let more = state_more_by n w inside near near_after least least_after added u v s inner outside leaving (near_kept ∙ ap length near_same) (least_kept ∙ ap length least_same) own in
-    let near_back = written_back near near_after near_len (near_len_is ∙ sym (near_kept ∙ ap length near_same)) in
-    let least_back = written_back least least_after least_len (least_len_is ∙ sym (least_kept ∙ ap length least_same)) in
-    subst (λ (xs : List ℤ). IsState n w (set inside v true) (take near_len (near_after ++ drop (length near_after) near)) xs pushed) (sym least_back)
-    (subst (λ (xs : List ℕ). IsState n w (set inside v true) xs least_after pushed) (sym near_back)
-    (subst (IsState n w (set inside v true) near_after least_after) (sym push) more))
 
 -- what the pass found
 pub nearest_after : (n : ℕ) (inside seen : List Bool) (least least_was least_after : List ℤ) (least_len : ℕ) (nearest : Option ℕ) → seen ≡ inside

@@ -5,7 +5,8 @@ use Rattle.std.specs.Int.{w64}
 use Rattle.std.proofs.lemmas.Bool.{cases_eq}
 use Rattle.std.proofs.lemmas.Int.{ints, to_z-of_z}
 use Rattle.tsp_theory.specs.Tree.{IsInner}
-use Rattle.tsp_theory.specs.Growth.{AreNearest, least_at}
+use Rattle.tsp_theory.specs.Growth.{AreNearest}
+use Rattle.tsp_theory.specs.states.Nearest.{least_at}
 
 -- the two nearest ones of the nodes before this one, and their weights
 pub record AreNearestBefore (n : ℕ) (w : ℕ → ℕ → ℤ) (node first : ℕ) (first_weight : ℤ) (second : ℕ) (second_weight : ℤ) : Type 0 where

@@ -9,9 +9,9 @@ use Rattle.tsp_format.specs.Limits.{most_nodes, most_scale, most_weight, most_po
 use Rattle.tsp_theory.specs.Costs.{IsSymmetric}
 use Rattle.tsp_theory.specs.Numbers.{IsFromTo, IsScale, IsLeastBound, entry}
 use Rattle.tsp_theory.specs.Tree.{weight_of}
-use Rattle.tsp_theory.specs.NodeBound.{weight_between}
-use Rattle.tsp_theory.specs.NodeBound.{most_between}
-use Rattle.tsp_theory.specs.Growth.{IsNearestOutside, tree_of}
+use Rattle.tsp_theory.specs.NodeBound.{weight_between, most_between}
+use Rattle.tsp_theory.specs.states.Nearest.{IsNearestOutside}
+use Rattle.tsp_theory.specs.Growth.{tree_of}
 use Rattle.tsp_theory.proofs.Sizes.{same_scale, size_of}
 use Rattle.tsp_theory.proofs.OneTrees.{ordered_weight}
 use Rattle.tsp_theory.proofs.Steps.{IsState}

@@ -1,3 +1,4 @@
+pub mod states
 pub mod Adjusted
 pub mod Assignment
 pub mod Costs

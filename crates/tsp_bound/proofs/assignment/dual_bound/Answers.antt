@@ -6,7 +6,7 @@ use Rattle.tsp_format.specs.Limits.{most_nodes, most_potential}
 use Rattle.tsp_theory.specs.Numbers.{IsFromTo, total}
 use Rattle.tsp_theory.specs.Assignment.{AreGood, IsDualBound}
 use Rattle.tsp_theory.proofs.Sizes.{size_of, bound_of_sums}
-use Rattle.tsp_bound.specs.Duals.{dual_of, scaled}
+use Rattle.tsp_bound.specs.states.Duals.{dual_of, scaled}
 use Rattle.tsp_bound.proofs.Passed.{rows_passed}
 use Rattle.tsp_bound.proofs.assignment.dual_bound.Goals as goal
 

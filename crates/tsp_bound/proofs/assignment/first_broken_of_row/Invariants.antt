@@ -1,6 +1,6 @@
 use Rattle.std.proofs.Common.{◌≢◌, ℕ, ◌<◌, ◌≤◌}
 use Rattle.std.specs.Prelude.{◌≤ℤ◌}
-use Rattle.tsp_bound.specs.Duals.{dual_of, scaled}
+use Rattle.tsp_bound.specs.states.Duals.{dual_of, scaled}
 use Rattle.tsp_bound.proofs.assignment.first_broken_of_row.Given as goal
 
 abbrev pub invariant-columns : goal.invariant-columns

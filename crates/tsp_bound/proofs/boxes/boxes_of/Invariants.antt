@@ -1,6 +1,6 @@
 use Rattle.std.proofs.Common.{◌≡◌, ◌≤◌, ◌<◌, ◌+◌, ◌*◌, ℕ, Bool, length}
-use Rattle.tsp_bound.specs.Potentials.{numbers_of}
-use Rattle.tsp_bound.specs.Boxes.{HoldsNode, AreHeldFrom, area_at, node_of}
+use Rattle.tsp_bound.specs.states.Potentials.{numbers_of}
+use Rattle.tsp_bound.specs.states.Boxes.{HoldsNode, AreHeldFrom, area_at, node_of}
 use Rattle.tsp_bound.proofs.boxes.boxes_of.Given as goal
 
 abbrev pub invariant-leaves : goal.invariant-leaves

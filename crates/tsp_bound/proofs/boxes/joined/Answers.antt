@@ -1,7 +1,7 @@
 use Rattle.std.proofs.Common.{rules, Option, Some, arith, w64, FitsSigned, subst}
 use Rattle.std.proofs.lemmas.Int.{ints, to_z-of_z}
 use Rattle.tsp_bound.specs.declared.area.Area.{Area}
-use Rattle.tsp_bound.specs.Boxes.{HoldsNode}
+use Rattle.tsp_bound.specs.states.Boxes.{HoldsNode}
 use Rattle.tsp_bound.proofs.boxes.joined.Goals as goal
 
 pub returns-in-Some-second-clause-left : goal.returns-in-Some-second-clause-left

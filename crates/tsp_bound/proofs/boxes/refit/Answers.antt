@@ -1,7 +1,7 @@
 use Rattle.std.proofs.Common.{◌≡◌, ◌*◌, ◌+◌, Option, arith, sym, subst, refl}
 use Rattle.std.proofs.lemmas.List.{get_or_read}
 use Rattle.tsp_bound.specs.declared.area.Area.{Area}
-use Rattle.tsp_bound.specs.Boxes.{HoldsNode, area_at}
+use Rattle.tsp_bound.specs.states.Boxes.{HoldsNode, area_at}
 use Rattle.tsp_bound.proofs.boxes.refit.Goals as goal
 
 pub returns-clause-refit : goal.returns-clause-refit

@@ -1,5 +1,5 @@
 use Rattle.std.proofs.Common.{take}
-use Rattle.tsp_bound.specs.ByNode.{IsTable}
+use Rattle.tsp_bound.specs.states.ByNode.{IsTable}
 use Rattle.tsp_bound.proofs.by_node.lists_of.Given as goal
 
 abbrev pub invariant-triples : goal.invariant-triples

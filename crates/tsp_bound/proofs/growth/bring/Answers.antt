@@ -3,7 +3,7 @@ use Rattle.std.specs.Int.{w64}
 use Rattle.std.specs.Prelude.{◌≤ℤ◌, ◌<ℤ◌}
 use Rattle.std.proofs.lemmas.Int.{ints}
 use Rattle.tsp_theory.specs.Tree.{IsInner}
-use Rattle.tsp_bound.specs.Potentials.{weight_under}
+use Rattle.tsp_bound.specs.states.Potentials.{weight_under}
 use Rattle.tsp_theory.proofs.Nearest.{brought_inside, brought_nearer, brought_farther, nearest_found, taken_by_set, kept_is, most_64}
 use Rattle.tsp_bound.proofs.growth.bring.Goals as goal
 use Rattle.tsp_bound.proofs.growth.bring.Goals.{then-not-inside-place+then-kept-best, then-not-inside-place+else-kept-best, else-not-inside-place}

@@ -1,4 +1,4 @@
-use Rattle.tsp_bound.specs.Potentials.{weight_under}
+use Rattle.tsp_bound.specs.states.Potentials.{weight_under}
 use Rattle.tsp_theory.proofs.Nearest.{IsBrought}
 use Rattle.tsp_bound.proofs.growth.bring.Given as goal
 

@@ -2,7 +2,7 @@ use Rattle.std.proofs.Common.{◌≡◌, ◌<◌, ℕ, length, arith, ap, inl, r
 use Rattle.std.specs.Prelude.{ℤ, pos, ◌-ℤ◌, slice_index_or}
 use Rattle.std.specs.Int.{w64}
 use Rattle.std.proofs.lemmas.List.{get_or_default}
-use Rattle.tsp_bound.specs.Potentials.{weight_under}
+use Rattle.tsp_bound.specs.states.Potentials.{weight_under}
 use Rattle.tsp_theory.proofs.Nearest.{taken_by_set}
 use Rattle.tsp_bound.proofs.Lowered.{lowered_inside, lowered_outside, all_lowered}
 use Rattle.tsp_theory.proofs.Weights.{lower_fits, lower_is}

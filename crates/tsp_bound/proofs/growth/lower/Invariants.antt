@@ -1,4 +1,4 @@
-use Rattle.tsp_bound.specs.Potentials.{weight_under}
+use Rattle.tsp_bound.specs.states.Potentials.{weight_under}
 use Rattle.tsp_bound.proofs.Lowered.{AreLoweredBy}
 use Rattle.tsp_bound.proofs.growth.lower.Given as goal
 

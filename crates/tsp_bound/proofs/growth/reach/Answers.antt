@@ -1,8 +1,8 @@
 use Rattle.std.proofs.Common.{arith}
 use Rattle.std.proofs.lemmas.Int.{ints}
-use Rattle.tsp_bound.specs.Potentials.{weight_under}
-use Rattle.tsp_bound.specs.ByNode.{AreLowerings}
-use Rattle.tsp_bound.specs.Multipliers.{triples_in, weight_less}
+use Rattle.tsp_bound.specs.states.Potentials.{weight_under}
+use Rattle.tsp_bound.specs.states.ByNode.{AreLowerings}
+use Rattle.tsp_bound.specs.states.Multipliers.{triples_in, weight_less}
 use Rattle.tsp_bound.proofs.Lowered.{AreLess, reached_nearer, reached_small}
 use Rattle.tsp_bound.proofs.growth.reach.Goals as goal
 

@@ -1,4 +1,4 @@
-use Rattle.tsp_bound.specs.Components.{AreLeaving}
+use Rattle.tsp_bound.specs.states.Components.{AreLeaving}
 use Rattle.tsp_bound.proofs.joins.best_of.Given as goal
 
 abbrev pub invariant-nodes : goal.invariant-nodes

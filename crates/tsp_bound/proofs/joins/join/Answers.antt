@@ -3,8 +3,8 @@ use Rattle.std.proofs.Math.ListN.{length-set}
 use Rattle.std.proofs.lemmas.List.{get_or_read, get_or-set_same, get_or-set_other}
 use Rattle.std.proofs.lemmas.Bool.{cases_eq}
 use Rattle.tsp_bound.specs.declared.link.Link.{Link}
-use Rattle.tsp_bound.specs.Boxes.{box_at}
-use Rattle.tsp_bound.specs.Components.{label_at, IsLeastOf}
+use Rattle.tsp_bound.specs.states.Boxes.{box_at}
+use Rattle.tsp_bound.specs.states.Components.{label_at, IsLeastOf}
 use Rattle.tsp_bound.proofs.Joining.{IsJoining, joining_start, joining_more, set_kept}
 use Rattle.tsp_bound.proofs.joins.join.Goals as goal
 use Rattle.tsp_bound.proofs.joins.join.Goals.{in-Some+in_ok-push, in_default}

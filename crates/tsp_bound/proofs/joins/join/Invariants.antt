@@ -1,6 +1,6 @@
 use Rattle.std.proofs.Common.{◌≡◌, ◌<◌, ℕ, false, length}
-use Rattle.tsp_bound.specs.Boxes.{box_at}
-use Rattle.tsp_bound.specs.Components.{label_at}
+use Rattle.tsp_bound.specs.states.Boxes.{box_at}
+use Rattle.tsp_bound.specs.states.Components.{label_at}
 use Rattle.tsp_bound.proofs.Joining.{IsJoining}
 use Rattle.tsp_bound.proofs.joins.join.Given as goal
 

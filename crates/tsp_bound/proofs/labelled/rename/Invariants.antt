@@ -1,5 +1,5 @@
 use Rattle.std.proofs.Common.{◌≡◌, ◌≤◌, ◌<◌, ℕ, length}
-use Rattle.tsp_bound.specs.Components.{label_at}
+use Rattle.tsp_bound.specs.states.Components.{label_at}
 use Rattle.tsp_bound.proofs.labelled.rename.Given as goal
 
 abbrev pub invariant-labels : goal.invariant-labels

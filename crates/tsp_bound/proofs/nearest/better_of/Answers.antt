@@ -1,8 +1,8 @@
 use Rattle.std.proofs.Common.{◌≡◌, ◌≤ℤ◌, ◌+◌, ℤ, length, arith, rules, sym, ◌∙◌, subst, inr, w64, to_z, of_z, SFits}
 use Rattle.std.proofs.lemmas.Int.{ints, to_z-of_z}
 use Rattle.std.proofs.lemmas.Bool.{false≢true}
-use Rattle.tsp_bound.specs.Potentials.{weight_under}
-use Rattle.tsp_bound.specs.Boxes.{node_of}
+use Rattle.tsp_bound.specs.states.Potentials.{weight_under}
+use Rattle.tsp_bound.specs.states.Boxes.{node_of}
 use Rattle.tsp_bound.proofs.Boxed.{less_seen, not_less_seen}
 use Rattle.tsp_bound.proofs.Trees.{searched_none, leaf_below}
 use Rattle.tsp_bound.proofs.nearest.better_of.Goals as goal

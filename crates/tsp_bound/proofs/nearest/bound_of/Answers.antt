@@ -2,9 +2,9 @@ use Rattle.std.proofs.Common.{Option, Some, ◌≡◌, ◌≤ℤ◌, rules, sym,
 use Rattle.tsp_format.specs.Limits.{most_weight, most_potential}
 use Rattle.tsp_theory.specs.Numbers.{entry}
 use Rattle.tsp_theory.proofs.Sizes.{same_64}
-use Rattle.tsp_bound.specs.Potentials.{scale_of, numbers_of}
+use Rattle.tsp_bound.specs.states.Potentials.{scale_of, numbers_of}
 use Rattle.tsp_bound.specs.declared.area.Area.{Area}
-use Rattle.tsp_bound.specs.Boxes.{HoldsNode}
+use Rattle.tsp_bound.specs.states.Boxes.{HoldsNode}
 use Rattle.tsp_bound.proofs.Boxed.{weight_above, chained_64}
 use Rattle.tsp_bound.proofs.nearest.bound_of.Goals as goal
 

@@ -1,8 +1,8 @@
 use Rattle.std.proofs.Common.{ℕ, ◌≡◌, ◌≢◌, ◌/◌, Option, arith, rules, w64, SFits}
 use Rattle.tsp_format.specs.Cells.{IsNode}
-use Rattle.tsp_bound.specs.Potentials.{numbers_of, weight_under}
+use Rattle.tsp_bound.specs.states.Potentials.{numbers_of, weight_under}
 use Rattle.tsp_bound.specs.declared.area.Area.{Area}
-use Rattle.tsp_bound.specs.Boxes.{HoldsNode, IsSearched, no_best, node_of}
+use Rattle.tsp_bound.specs.states.Boxes.{HoldsNode, IsSearched, no_best, node_of}
 use Rattle.tsp_bound.proofs.Boxed.{known_64}
 use Rattle.tsp_bound.proofs.Trees.{searched_alone, searched_both}
 use Rattle.tsp_bound.proofs.nearest.nearest_from.Goals as goal

@@ -1,6 +1,6 @@
 use Rattle.std.proofs.Common.{◌≤◌, ◌<◌, ◌*◌, length}
-use Rattle.tsp_bound.specs.Potentials.{weight_under}
-use Rattle.tsp_bound.specs.Boxes.{IsSearched, no_best}
+use Rattle.tsp_bound.specs.states.Potentials.{weight_under}
+use Rattle.tsp_bound.specs.states.Boxes.{IsSearched, no_best}
 use Rattle.tsp_bound.proofs.nearest.nearest_from.Given as goal
 
 abbrev pub invariant-climb : goal.invariant-climb

@@ -1,8 +1,8 @@
 use Rattle.std.proofs.Common.{◌≡◌, ◌∙◌, ℕ, List, length, map, arith, ap, subst}
-use Rattle.tsp_bound.specs.Boxes.{node_of}
-use Rattle.tsp_bound.specs.Components.{IsSpanning, IsWeighedForest}
-use Rattle.tsp_bound.specs.Multipliers.{triples_in, weight_less}
-use Rattle.tsp_bound.specs.Numbering.{on_both}
+use Rattle.tsp_bound.specs.states.Boxes.{node_of}
+use Rattle.tsp_bound.specs.states.Components.{IsSpanning, IsWeighedForest}
+use Rattle.tsp_bound.specs.states.Multipliers.{triples_in, weight_less}
+use Rattle.tsp_bound.specs.states.Numbering.{on_both}
 use Rattle.tsp_bound.proofs.Parts.{weights_seen, spanning_seen, forest_of}
 use Rattle.tsp_bound.proofs.part.joined_over.Goals as goal
 

@@ -2,10 +2,10 @@ use Rattle.std.proofs.Common.{◌≡◌, ◌≤◌, ◌+◌, ◌++◌, ◌∷◌
 use Rattle.std.specs.Prelude.{ℤ, ◌+ℤ◌, ◌-ℤ◌}
 use Rattle.std.specs.Int.{w64, w128}
 use Rattle.tsp_format.specs.Limits.{most_nodes}
-use Rattle.tsp_bound.specs.Boxes.{node_of}
-use Rattle.tsp_bound.specs.Numbering.{on_both}
-use Rattle.tsp_bound.specs.Multipliers.{triples_in, weight_less}
-use Rattle.tsp_bound.specs.Potentials.{weight_under}
+use Rattle.tsp_bound.specs.states.Boxes.{node_of}
+use Rattle.tsp_bound.specs.states.Numbering.{on_both}
+use Rattle.tsp_bound.specs.states.Multipliers.{triples_in, weight_less}
+use Rattle.tsp_bound.specs.states.Potentials.{weight_under}
 use Rattle.tsp_theory.specs.Tree.{weight_of}
 use Rattle.tsp_bound.proofs.Parts.{map_more, less_value}
 use Rattle.tsp_theory.proofs.Weights.{lower_fits, lower_is, sum_more, sum_fits, sum_computed, weight_added}

@@ -1,7 +1,7 @@
 use Rattle.std.proofs.Common.{◌≡◌, ◌<◌, ℕ, length}
 use Rattle.std.specs.Prelude.{slice_index_or}
 use Rattle.tsp_bound.specs.declared.link.Link.{Link}
-use Rattle.tsp_bound.specs.Components.{IsKept}
+use Rattle.tsp_bound.specs.states.Components.{IsKept}
 use Rattle.tsp_bound.proofs.rounds.first_links.Given as goal
 
 abbrev pub invariant-nodes : goal.invariant-nodes

@@ -1,5 +1,5 @@
 use Rattle.std.proofs.Common.{◌≡◌}
-use Rattle.tsp_bound.specs.Components.{AreKept, IsForest}
+use Rattle.tsp_bound.specs.states.Components.{AreKept, IsForest}
 use Rattle.tsp_bound.proofs.rounds.grow_by_rounds.Given as goal
 
 abbrev pub invariant-rounds : goal.invariant-rounds

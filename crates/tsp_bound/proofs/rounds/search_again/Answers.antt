@@ -1,7 +1,7 @@
 use Rattle.std.proofs.Common.{◌≡◌, ◌<◌, ◌+◌, ℕ, pos, Option, None, Some, IfSome, set, arith, sym, subst}
 use Rattle.std.proofs.lemmas.List.{get_or_read}
 use Rattle.tsp_bound.specs.declared.link.Link.{Link}
-use Rattle.tsp_bound.specs.Components.{AreLeaving, IsLeaving, IsOffered, link_of}
+use Rattle.tsp_bound.specs.states.Components.{AreLeaving, IsLeaving, IsOffered, link_of}
 use Rattle.tsp_bound.proofs.Known.{IsReached, AreReached, kept_found, leaving_found, kept_set, leaving_offered, reached_more, reached_again, reached_all, end_in}
 use Rattle.tsp_bound.proofs.rounds.search_again.Goals as goal
 use Rattle.tsp_bound.proofs.rounds.search_again.Goals.{then-is_better+in-Some+else-steps-most_steps, else-is_better}

@@ -1,4 +1,4 @@
-use Rattle.tsp_bound.specs.Components.{AreKept, AreLeaving}
+use Rattle.tsp_bound.specs.states.Components.{AreKept, AreLeaving}
 use Rattle.tsp_bound.proofs.Known.{AreReached}
 use Rattle.tsp_bound.proofs.rounds.search_again.Given as goal
 

@@ -1,5 +1,5 @@
 use Rattle.std.proofs.Common.{◌-◌, length}
-use Rattle.tsp_theory.specs.Growth.{least_at}
+use Rattle.tsp_theory.specs.states.Nearest.{least_at}
 use Rattle.tsp_theory.proofs.TwoNearest.{AreNearestBefore}
 use Rattle.tsp_bound.proofs.spokes.nearest_two.Given as goal
 

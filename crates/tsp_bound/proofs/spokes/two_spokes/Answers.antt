@@ -1,8 +1,9 @@
 use Rattle.std.proofs.Common.{◌≡◌, ◌+◌, ◌-◌, ◌<◌, ℕ, List, false, length, replicate, sym, ap, subst, ◌∙◌, arith}
 use Rattle.std.specs.Prelude.{ℤ}
 use Rattle.tsp_theory.specs.Tree.{IsInner}
-use Rattle.tsp_theory.specs.Growth.{AreNearest, least_at}
-use Rattle.tsp_bound.specs.Multipliers.{triples_in, weight_less}
+use Rattle.tsp_theory.specs.Growth.{AreNearest}
+use Rattle.tsp_theory.specs.states.Nearest.{least_at}
+use Rattle.tsp_bound.specs.states.Multipliers.{triples_in, weight_less}
 use Rattle.tsp_theory.proofs.Nearest.{most_64}
 use Rattle.tsp_theory.proofs.Steps.{written_back, row_reached}
 use Rattle.tsp_theory.proofs.TwoNearest.{nearest_by_row}

@@ -1,7 +1,7 @@
 use Rattle.std.proofs.Common.{◌≡◌, ◌*◌, ◌+◌, ℕ, arith, sym, subst, refl}
 use Rattle.std.proofs.lemmas.List.{get_or_read}
-use Rattle.tsp_bound.specs.Boxes.{box_at}
-use Rattle.tsp_bound.specs.Components.{IsTagOf}
+use Rattle.tsp_bound.specs.states.Boxes.{box_at}
+use Rattle.tsp_bound.specs.states.Components.{IsTagOf}
 use Rattle.tsp_bound.proofs.tags.retag.Goals as goal
 
 pub returns-clause-refit : goal.returns-clause-refit

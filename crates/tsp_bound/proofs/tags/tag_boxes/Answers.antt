@@ -1,7 +1,7 @@
 use Rattle.std.proofs.Common.{◌≡◌, ◌-◌, ◌+◌, ℕ, true, get_or, length, arith, subst, ◌∙◌}
 use Rattle.std.proofs.Math.ListN.{length-set}
-use Rattle.tsp_bound.specs.Boxes.{AreHeldFrom, box_at}
-use Rattle.tsp_bound.specs.Components.{IsTagOf}
+use Rattle.tsp_bound.specs.states.Boxes.{AreHeldFrom, box_at}
+use Rattle.tsp_bound.specs.states.Components.{IsTagOf}
 use Rattle.tsp_bound.proofs.Trees.{leaf_more, held_leaves, refit_more}
 use Rattle.tsp_bound.proofs.tags.tag_boxes.Goals as goal
 

@@ -1,6 +1,6 @@
 use Rattle.std.proofs.Common.{◌≡◌, ◌≤◌, ◌<◌, ◌*◌, ◌+◌, ℕ, true, length}
-use Rattle.tsp_bound.specs.Boxes.{AreHeldFrom, box_at}
-use Rattle.tsp_bound.specs.Components.{IsTagOf, label_at}
+use Rattle.tsp_bound.specs.states.Boxes.{AreHeldFrom, box_at}
+use Rattle.tsp_bound.specs.states.Components.{IsTagOf, label_at}
 use Rattle.tsp_bound.proofs.tags.tag_boxes.Given as goal
 
 abbrev pub invariant-leaves : goal.invariant-leaves

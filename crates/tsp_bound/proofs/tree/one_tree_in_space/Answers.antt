@@ -5,7 +5,7 @@ use Rattle.std.proofs.lemmas.Int.{to_z-of_z}
 use Rattle.tsp_theory.specs.Numbers.{total}
 use Rattle.tsp_theory.specs.Tree.{weight_of, IsLeastOneTree}
 use Rattle.tsp_theory.specs.Adjusted.{triples_total, IsAdjustedBoundOf, IsAdjustedBound}
-use Rattle.tsp_bound.specs.Multipliers.{weight_less}
+use Rattle.tsp_bound.specs.states.Multipliers.{weight_less}
 use Rattle.tsp_theory.proofs.Weights.{sum_of_bound, bound_of_weight, tree_same}
 use Rattle.tsp_bound.proofs.tree.one_tree_in_space.Goals as goal
 

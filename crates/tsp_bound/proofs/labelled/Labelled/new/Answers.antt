@@ -1,5 +1,5 @@
 use Rattle.std.proofs.Common.{◌≡◌, ◌<◌, ℕ, true, length, arith, sym, subst}
-use Rattle.tsp_bound.specs.Components.{AreTags}
+use Rattle.tsp_bound.specs.states.Components.{AreTags}
 use Rattle.tsp_bound.proofs.labelled.Labelled.new.Goals as goal
 
 pub invariant_of-result : goal.invariant_of-result

@@ -3,9 +3,9 @@ use Rattle.std.specs.Prelude.{pos, ◌-ℤ◌, slice_index_or}
 use Rattle.std.proofs.lemmas.Bool.{false≢true}
 use Rattle.std.proofs.lemmas.Int.{ints, to_z-of_z}
 use Rattle.std.proofs.lemmas.List.{get_or_default}
-use Rattle.tsp_bound.specs.Boxes.{node_of}
-use Rattle.tsp_bound.specs.Multipliers.{triples_in, node_count, weight_less}
-use Rattle.tsp_bound.specs.Potentials.{weight_under}
+use Rattle.tsp_bound.specs.states.Boxes.{node_of}
+use Rattle.tsp_bound.specs.states.Multipliers.{triples_in, node_count, weight_less}
+use Rattle.tsp_bound.specs.states.Potentials.{weight_under}
 use Rattle.tsp_theory.specs.Tree.{IsInner}
 use Rattle.tsp_bound.proofs.Boxed.{less_seen, not_less_seen}
 use Rattle.tsp_bound.proofs.Lowered.{AreLess}

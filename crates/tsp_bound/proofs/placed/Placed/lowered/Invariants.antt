@@ -1,5 +1,5 @@
-use Rattle.tsp_bound.specs.Multipliers.{triples_in, weight_less}
-use Rattle.tsp_bound.specs.Potentials.{weight_under}
+use Rattle.tsp_bound.specs.states.Multipliers.{triples_in, weight_less}
+use Rattle.tsp_bound.specs.states.Potentials.{weight_under}
 use Rattle.tsp_bound.proofs.Lowest.{IsLowest}
 use Rattle.tsp_bound.proofs.placed.Placed.lowered.Given as goal
 

@@ -1,8 +1,8 @@
 use Rattle.std.proofs.Common.{◌≢◌, pos, rules, ap, w64, to_z, of_z, SFits}
 use Rattle.std.proofs.lemmas.Int.{to_z-of_z}
-use Rattle.tsp_bound.specs.Multipliers.{triples_in, weight_less}
-use Rattle.tsp_bound.specs.Potentials.{weight_under}
-use Rattle.tsp_bound.specs.Boxes.{node_of}
+use Rattle.tsp_bound.specs.states.Multipliers.{triples_in, weight_less}
+use Rattle.tsp_bound.specs.states.Potentials.{weight_under}
+use Rattle.tsp_bound.specs.states.Boxes.{node_of}
 use Rattle.tsp_bound.proofs.Lowest.{searched_best}
 use Rattle.tsp_bound.proofs.Trees.{found_some, nearest_is}
 use Rattle.tsp_bound.proofs.placed.Placed.nearest.Goals as goal

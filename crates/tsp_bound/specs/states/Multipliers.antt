@@ -3,7 +3,7 @@ use Rattle.std.specs.Prelude.{ℕ, List, [], ℤ}
 use Rattle.tsp_bound.specs.declared.by_node.ByNode.{ByNode}
 use Rattle.tsp_bound.specs.declared.multipliers.Multipliers.{Multipliers}
 use Rattle.tsp_bound.specs.declared.potentials.Potentials.{Potentials}
-use Rattle.tsp_bound.specs.Potentials.{weight_under}
+use Rattle.tsp_bound.specs.states.Potentials.{weight_under}
 use Rattle.tsp_theory.specs.Adjusted.{adjusted}
 
 abbrev pub triples_of : Multipliers → List (ℕ × ℕ × ℤ)

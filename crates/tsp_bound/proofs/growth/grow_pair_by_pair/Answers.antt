@@ -1,22 +1,18 @@
-use Rattle.std.proofs.Common.{ℕ, List, take, get_or, ◌==◌, ◌≡◌, ◌+◌, ◌++◌, ◌∷◌, [], true, false, replicate, length, length-append, ap, rules, sym, subst, ◌∙◌, ◌≤◌, arith, MatchOption, FitsSigned, to_z}
+use Rattle.std.proofs.Common.{◌==◌, ◌≡◌, ◌+◌, ◌++◌, ◌∷◌, [], true, false, replicate, length, length-append, ap, rules, sym, subst, ◌∙◌, ◌≤◌, arith, MatchOption, FitsSigned, to_z}
 use Rattle.std.specs.Prelude.{ℤ, ◌+ℤ◌, slice_set}
 use Rattle.std.specs.Int.{w64, w128}
-use Rattle.std.proofs.lemmas.Int.{to_z-of_z}
 use Rattle.std.proofs.lemmas.Int.{ints}
 use Rattle.std.proofs.Math.ListN.{length-set}
-use Rattle.std.proofs.lemmas.List.{take_more, take_all}
 use Rattle.tsp_format.specs.Limits.{most_nodes}
-use Rattle.tsp_theory.specs.Numbers.{IsSumSized}
-use Rattle.tsp_theory.specs.Growth.{AllInside, IsNearestOutside, Grows, is_inside}
-use Rattle.tsp_theory.specs.Tree.{IsInner}
-use Rattle.tsp_bound.specs.Multipliers.{triples_in, weight_less}
+use Rattle.tsp_theory.specs.states.Nearest.{AllInside, IsNearestOutside}
+use Rattle.tsp_bound.specs.states.Multipliers.{triples_in, weight_less}
 use Rattle.tsp_theory.proofs.Nearest.{most_64}
-use Rattle.tsp_theory.proofs.Steps.{start_after, state_after, state_after_by, state_end, room_more, nearest_after, grows_at, IsState}
+use Rattle.tsp_theory.proofs.Steps.{start_after, state_after, state_end, room_more, nearest_after}
 use Rattle.tsp_theory.proofs.Weights.{sum_more, sum_fits, sum_computed, sum_pushed}
-use Rattle.tsp_bound.proofs.growth.grow_on.Goals as goal
+use Rattle.tsp_bound.proofs.growth.grow_pair_by_pair.Goals as goal
 
-pub again-init : goal.again-init
-again-init g c =
+pub grow-init : goal.grow-init
+grow-init g c =
     let n = g.C.Costs.nodes c.args.w.now.c.now in
     let w = weight_less c.args.w.now.p.now (triples_in c.args.w.now.m.now) (g.C.Costs.at c.args.w.now.c.now) in
     let size : c.count.result + 1 ≡ n + 1 = ap (λ k. k + 1) c.count.ensures.value in
@@ -26,7 +22,7 @@ again-init g c =
     let least_len : c.in_ok-least.least.len ≡ length c.in_ok-least.least.items = omega arith in
     let near_size : length c.in_ok-near.near.items ≡ c.count.result + 1 = sym near_len ∙ c.in_ok-near.ensures.len in
     let reached = c.reach-nearest.ensures in
-    record {
+    rw c.in_ok-pairs.ensures.items (record {
       state = start_after n w (c.count.result + 1) c.in_ok-inside.inside.items c.deref.result.now c.in_ok-near.near.items c.deref_mut.result.now
           c.reach-nearest.new.near c.in_ok-least.least.items c.deref_mut-2.result.now c.reach-nearest.new.least
           c.in_ok-near.near.len c.in_ok-least.least.len most_64 c.args.w.now.some size inside least c.deref.ensures.value c.deref_mut.ensures.value c.deref_mut-2.ensures.value near_size
@@ -34,65 +30,9 @@ again-init g c =
       nearest = nearest_after n (slice_set c.in_ok-inside.inside.items 2 true) c.deref.result.now c.in_ok-least.least.items c.deref_mut-2.result.now
           c.reach-nearest.new.least c.in_ok-least.least.len c.reach-nearest.result
           c.deref.ensures.value c.deref_mut-2.ensures.value c.reach-nearest.auto.least least_len reached.nearest;
-    }
-
-pub index_mut-requires-in-again : goal.index_mut-requires-in-again
-index_mut-requires-in-again g c =
-    let n = g.C.Costs.nodes c.args.w.now.c.now in
-    let w = weight_less c.args.w.now.p.now (triples_in c.args.w.now.m.now) (g.C.Costs.at c.args.w.now.c.now) in
-    let pairs : List (ℕ × ℕ) = c.deref-pair-items.result.now in
-    let grows : Grows (IsInner n) w (λ x. x == 2) pairs = subst (λ (ps : List (ℕ × ℕ)). Grows (IsInner n) w (λ x. x == 2) ps) (sym c.deref-pair-items.ensures.value) c.requires.part.grows in
-    let leaving = grows_at (IsInner n) w pairs (λ x. x == 2) c.again.pair-index (0, 0) c.again-test.true grows in
-    let long : c.again.inside.len ≡ length c.again.inside.items = omega arith in
-    omega (arith, leaving.node, c.again.invariant.state.inside_len, long)
-
-pub reach-nearest-requires-in-again-clause-next_in : goal.reach-nearest-requires-in-again-clause-next_in
-reach-nearest-requires-in-again-clause-next_in g c =
-    let n = g.C.Costs.nodes c.args.w.now.c.now in
-    let w = weight_less c.args.w.now.p.now (triples_in c.args.w.now.m.now) (g.C.Costs.at c.args.w.now.c.now) in
-    let pairs : List (ℕ × ℕ) = c.deref-pair-items.result.now in
-    let grows : Grows (IsInner n) w (λ x. x == 2) pairs = subst (λ (ps : List (ℕ × ℕ)). Grows (IsInner n) w (λ x. x == 2) ps) (sym c.deref-pair-items.ensures.value) c.requires.part.grows in
-    let leaving = grows_at (IsInner n) w pairs (λ x. x == 2) c.again.pair-index (0, 0) c.again-test.true grows in
-    (omega (arith, leaving.node), leaving.node.1)
-
-pub again-preserved : goal.again-preserved
-again-preserved g c =
-    let n = g.C.Costs.nodes c.args.w.now.c.now in
-    let w = weight_less c.args.w.now.p.now (triples_in c.args.w.now.m.now) (g.C.Costs.at c.args.w.now.c.now) in
-    let pairs : List (ℕ × ℕ) = c.deref-pair-items.result.now in
-    let i = c.again.pair-index in
-    let pair : ℕ × ℕ = get_or pairs i (0, 0) in
-    let grows : Grows (IsInner n) w (λ x. x == 2) pairs = subst (λ (ps : List (ℕ × ℕ)). Grows (IsInner n) w (λ x. x == 2) ps) (sym c.deref-pair-items.ensures.value) c.requires.part.grows in
-    let leaving = grows_at (IsInner n) w pairs (λ x. x == 2) i (0, 0) c.again-test.true grows in
-    let outside : is_inside c.again.inside.items pair.1 ≡ false = c.again.invariant.state.reached pair.1 ∙ leaving.to in
-    let near_len : c.again.near.len ≡ length c.again.near.items = omega arith in
-    let least_len : c.again.least.len ≡ length c.again.least.items = omega arith in
-    let reached = c.reach-nearest-in-again.ensures in
-    record {
-      state = state_after_by n w c.again.inside.items c.deref-in-again.result.now c.again.near.items c.deref_mut-in-again.result.now
-          c.reach-nearest-in-again.new.near c.again.least.items c.deref_mut-in-again-2.result.now c.reach-nearest-in-again.new.least
-          (take i pairs) (take (i + 1) pairs) pair.1 pair.0 c.again.near.len c.again.least.len c.again.invariant.state leaving.node outside leaving
-          c.deref-in-again.ensures.value c.deref_mut-in-again.ensures.value c.deref_mut-in-again-2.ensures.value c.reach-nearest-in-again.auto.near
-          c.reach-nearest-in-again.auto.least near_len least_len reached.nearer (take_more pairs i (0, 0) c.again-test.true);
-      nearest = nearest_after n (slice_set c.again.inside.items pair.1 true) c.deref-in-again.result.now c.again.least.items c.deref_mut-in-again-2.result.now
-          c.reach-nearest-in-again.new.least c.again.least.len c.reach-nearest-in-again.result
-          c.deref-in-again.ensures.value c.deref_mut-in-again-2.ensures.value c.reach-nearest-in-again.auto.least least_len reached.nearest;
-    }
-
-pub grow-init : goal.grow-init
-grow-init g c =
-    let n = g.C.Costs.nodes c.args.w.now.c.now in
-    let w = weight_less c.args.w.now.p.now (triples_in c.args.w.now.m.now) (g.C.Costs.at c.args.w.now.c.now) in
-    let all : take c.again.pair-index c.deref-pair-items.result.now ≡ c.args.grown.pairs.items =
-    take_all c.again.pair-index c.deref-pair-items.result.now (omega arith) ∙ c.deref-pair-items.ensures.value in
-    let fits : FitsSigned w128 c.args.grown.weight = search rules in
-    let back = to_z-of_z w128 c.args.grown.weight fits in
-    record {
-      state = subst (λ (ps : List (ℕ × ℕ)). IsState n w c.again.inside.items c.again.near.items c.again.least.items ps) all c.again.invariant.state;
-      nearest = c.again.invariant.nearest;
-      sum = back ∙ c.requires.part.weight;
-      size = subst (IsSumSized (length c.args.grown.pairs.items)) (sym back) c.requires.part.size;
-    }
+      sum = omega (arith, ints);
+      size = (omega (arith, ints), omega (arith, ints));
+    })
 
 pub grow-smaller : goal.grow-smaller
 grow-smaller g c =
@@ -175,17 +115,6 @@ reach-nearest-requires g c =
       least_len = ap length c.deref_mut-2.ensures.value ∙ sym least_len ∙ c.in_ok-least.ensures.len ∙ size;
       next_in = (omega arith, omega (arith, c.args.w.now.some));
     }
-
-pub reach-nearest-requires-in-again-clause-inside_len : goal.reach-nearest-requires-in-again-clause-inside_len
-reach-nearest-requires-in-again-clause-inside_len g c =
-    let pair : ℕ × ℕ = get_or c.deref-pair-items.result.now c.again.pair-index (0, 0) in
-    ap length c.deref-in-again.ensures.value ∙ length-set c.again.inside.items pair.1 true ∙ c.again.invariant.state.inside_len
-
-pub reach-nearest-requires-in-again-clause-near_len : goal.reach-nearest-requires-in-again-clause-near_len
-reach-nearest-requires-in-again-clause-near_len g c = ap length c.deref_mut-in-again.ensures.value ∙ c.again.invariant.state.near_len
-
-pub reach-nearest-requires-in-again-clause-least_len : goal.reach-nearest-requires-in-again-clause-least_len
-reach-nearest-requires-in-again-clause-least_len g c = ap length c.deref_mut-in-again-2.ensures.value ∙ c.again.invariant.state.least_len
 
 pub reach-nearest-requires-in-Some-clause-inside_len : goal.reach-nearest-requires-in-Some-clause-inside_len
 reach-nearest-requires-in-Some-clause-inside_len g c =

@@ -3,7 +3,7 @@ use Rattle.std.specs.Prelude.{◌≡◌, ◌≢◌, ℕ, ◌+◌, ◌*◌, ◌^�
 use Rattle.std.specs.List.{All}
 use Rattle.tsp_bound.specs.declared.area.Area.{Area}
 use Rattle.tsp_bound.specs.declared.link.Link.{Link}
-use Rattle.tsp_bound.specs.Boxes.{AreHeld, box_at}
+use Rattle.tsp_bound.specs.states.Boxes.{AreHeld, box_at}
 use Rattle.tsp_theory.specs.Forest.{AreLeastJoins, IsWholeForest}
 use Rattle.tsp_format.specs.Limits.{most_nodes}
 use Rattle.tsp_theory.specs.Numbers.{IsFromTo}

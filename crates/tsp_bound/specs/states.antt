@@ -1,0 +1,7 @@
+pub mod Boxes
+pub mod ByNode
+pub mod Components
+pub mod Duals
+pub mod Multipliers
+pub mod Numbering
+pub mod Potentials
