@@ -1,5 +1,5 @@
 -- What the calls on numbers answer. Each number that they fill in is the one that the definitions give.
-use Rattle.std.specs.Prelude.{◌≡◌, ◌⊎◌, ℕ, zero, suc, ◌+◌, ◌-◌, ◌*◌, ◌/◌, ◌%◌, ◌≤◌, ◌<◌, ◌==◌, min, cond, List, [], ◌∷◌, length, slice_index_or, Option, None, Some, Result, Ok, Err, IsTrue, unwrap_or, ℤ, pos, negsuc}
+use Rattle.std.specs.Prelude.{◌≡◌, ◌⊎◌, ℕ, zero, suc, ◌+◌, ◌-◌, ◌*◌, ◌/◌, ◌%◌, ◌≤◌, ◌<◌, ◌==◌, min, cond, List, [], ◌∷◌, length, slice_index_or, Option, None, Some, Result, Ok, Err, IsTrue, ℤ, pos, negsuc}
 use Rattle.std.specs.List.{All}
 use Rattle.tsp_distance.specs.declared.decimal.Point.{Point}
 use Rattle.tsp_distance.specs.Distances.{IsInSpace}
@@ -9,6 +9,7 @@ use Rattle.tsp_format.specs.Cells.{IsNode}
 use Rattle.tsp_format.specs.Limits.{most_tour_nodes}
 use Rattle.tsp_draft.specs.Fields.{Fields}
 use Rattle.tsp_draft.specs.Rules.{is_instance}
+use Rattle.tsp_file.specs.Meant.{nodes_of}
 use Rattle.tsp_file.specs.Cost.{cost, distance, point_of}
 use Rattle.tsp_text.specs.Text.{fault, Spells}
 use Rattle.tsp_read.specs.Reads.{Reads}
@@ -37,9 +38,6 @@ SaysFault found status = (text : List ℕ) → Reads text (Err found) → ((stat
 
 abbrev pub IsInstanceText : List ℕ → Fields → Type 0
 IsInstanceText text instance = Spells text instance × IsTrue (is_instance instance.kind)
-
-abbrev pub instance_size : Fields → ℕ
-instance_size instance = unwrap_or instance.dimension 0
 
 -- the instance of a text; or the status 2, of a text that is none, or 3, out of memory
 abbrev pub FindsInstance : List ℕ → Result Fields ℕ → Type 0
@@ -79,7 +77,7 @@ pair_cost pairs instance k = cost instance (slice_index_or pairs (2 * k) 0) (sli
 
 abbrev pub EndsWeights : Fields → List ℕ → List ℤ → List ℤ → ℕ → Type 0
 EndsWeights instance pairs old new status =
-    EndsBuffer (ArePairs pairs (instance_size instance)) (pair_count pairs) (pair_count pairs) (pair_cost pairs instance)
+    EndsBuffer (ArePairs pairs (nodes_of instance)) (pair_count pairs) (pair_count pairs) (pair_cost pairs instance)
     old new status
 
 abbrev pub FillsWeights : List ℕ → List ℕ → List ℤ → List ℤ → ℕ → Type 0
@@ -93,11 +91,11 @@ row_count places nodes first = min (places / nodes) (nodes + 1 - first)
 
 -- the cost from a node of these rows to each, row by row
 abbrev pub row_cost : ℕ → Fields → ℕ → ℤ
-row_cost first instance k = cost instance (first + k / instance_size instance) (k % instance_size instance + 1)
+row_cost first instance k = cost instance (first + k / nodes_of instance) (k % nodes_of instance + 1)
 
 abbrev pub EndsMatrix : Fields → ℕ → List ℤ → List ℤ → ℕ → Type 0
-EndsMatrix instance first old new status = EndsBuffer (IsNode (instance_size instance) first) (instance_size instance)
-    (row_count (length old) (instance_size instance) first * instance_size instance) (row_cost first instance) old new status
+EndsMatrix instance first old new status = EndsBuffer (IsNode (nodes_of instance) first) (nodes_of instance)
+    (row_count (length old) (nodes_of instance) first * nodes_of instance) (row_cost first instance) old new status
 
 abbrev pub FillsMatrix : List ℕ → ℕ → List ℤ → List ℤ → ℕ → Type 0
 FillsMatrix text first old new status = OfInstance text (λ instance. EndsMatrix instance first old new status) old new status
@@ -127,7 +125,7 @@ list_length nodes instance k = length_of (cost instance) (slice_index_or (lists_
 
 abbrev pub EndsLengths : Fields → List ℕ → List ℤ → List ℤ → ℕ → Type 0
 EndsLengths instance nodes old new status =
-    EndsBuffer (AreLists nodes (instance_size instance)) (list_count nodes) (list_count nodes) (list_length nodes instance)
+    EndsBuffer (AreLists nodes (nodes_of instance)) (list_count nodes) (list_count nodes) (list_length nodes instance)
     old new status
 
 abbrev pub FillsLengths : List ℕ → List ℕ → List ℤ → List ℤ → ℕ → Type 0

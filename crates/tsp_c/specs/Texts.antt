@@ -19,7 +19,7 @@ use Rattle.tsp_verdict.specs.Bounded.{IsBoundVerdict}
 use Rattle.tsp_verdict.specs.Certified.{kind_of, is_bounded, IsBoundOf, BoundsTours, HasNoTour}
 use Rattle.tsp_verdict.specs.Judged.{is_judged, IsAsClaimed, IsVerdictWith}
 use Rattle.tsp_verdict.specs.Plan.{IsPlanOf, plan_length, depot_of}
-use Rattle.tsp_verdict.specs.Solution.{tours_of}
+use Rattle.tsp_file.specs.Meant.{tours_of}
 use Rattle.tsp_report.specs.Report.{report_of, bound_report_of}
 use Rattle.tsp_report.specs.Show.{shown}
 use Rattle.tsp_judge.specs.ConvertRun.{Becomes}

@@ -1,7 +1,7 @@
 //! How a run on texts ends.
 
 ghost use Rattle.std.specs.Prelude.{◌≡◌};
-ghost use Rattle.tsp_stream.specs.Watched.{watched};
+ghost use Rattle.tsp_stream.specs.states.Watched.{watched};
 ghost use Rattle.tsp_c.specs.Ended.{EndsOnTexts, without_devices};
 
 use std::io::Write;

@@ -2,7 +2,8 @@
 
 ghost use Rattle.std.specs.Prelude.{◌≡◌, ◌≤◌, ◌-◌, ◌==◌, ◌↔◌, IsTrue, length, slice_index};
 ghost use Rattle.std.specs.List.{All, count_by, position};
-ghost use Rattle.tsp_c.specs.Numbers.{AreLists, EndsLengths, FillsLengths, IsFilled, list_count, list_length, instance_size};
+ghost use Rattle.tsp_c.specs.Numbers.{AreLists, EndsLengths, FillsLengths, IsFilled, list_count, list_length};
+ghost use Rattle.tsp_file.specs.Meant.{nodes_of};
 
 use crate::fill::put;
 use crate::instance::instance_of;
@@ -72,7 +73,7 @@ fn count_of(nodes: &[u32]) -> usize
 
 /// Puts the lengths of lists to the front of a buffer that has a place for each.
 fn put_lengths(instance: &Instance, nodes: &[u32], out: &mut [i64])
-    requires lists { AreLists nodes.now (instance_size instance.now) }
+    requires lists { AreLists nodes.now (nodes_of instance.now) }
     requires room { list_count nodes.now ≤ length out.old }
     ensures { IsFilled (list_count nodes.now) (list_length nodes.now instance.now) out.old out.new }
 {

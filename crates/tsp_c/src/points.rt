@@ -1,7 +1,7 @@
 //! The coordinates of the points of a section.
 
 ghost use Rattle.std.specs.Prelude.{◌≡◌, ◌≤◌, ◌*◌, length, option_map};
-ghost use Rattle.tsp_draft.specs.Coords.{points_of};
+ghost use Rattle.tsp_draft.specs.states.Drafts.{points_of};
 ghost use Rattle.tsp_c.specs.Numbers.{EndsPoints, FillsPoints, IsFilled, IsSection, coordinate, point_number, section_points};
 
 use crate::fill::put;

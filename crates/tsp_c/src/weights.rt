@@ -3,7 +3,8 @@
 ghost use Rattle.std.specs.Prelude.{◌+◌, ◌≤◌, ◌*◌, ◌↔◌, IsTrue, length};
 ghost use Rattle.std.specs.List.{All};
 ghost use Rattle.tsp_format.specs.Cells.{IsNode};
-ghost use Rattle.tsp_c.specs.Numbers.{ArePairs, EndsWeights, EndsMatrix, FillsWeights, FillsMatrix, IsFilled, instance_size, pair_count, pair_cost, row_cost};
+ghost use Rattle.tsp_c.specs.Numbers.{ArePairs, EndsWeights, EndsMatrix, FillsWeights, FillsMatrix, IsFilled, pair_count, pair_cost, row_cost};
+ghost use Rattle.tsp_file.specs.Meant.{nodes_of};
 
 use crate::fill::put;
 use crate::instance::instance_of;
@@ -55,7 +56,7 @@ fn are_nodes(count: u32, nodes: &[u32]) -> bool
 
 /// Puts the costs of pairs to the front of a buffer that has a place for each.
 fn put_weights(instance: &Instance, pairs: &[u32], out: &mut [i64])
-    requires pairs { ArePairs pairs.now (instance_size instance.now) }
+    requires pairs { ArePairs pairs.now (nodes_of instance.now) }
     requires room { pair_count pairs.now ≤ length out.old }
     ensures { IsFilled (pair_count pairs.now) (pair_cost pairs.now instance.now) out.old out.new }
 {
@@ -97,9 +98,9 @@ fn rows_of(instance: &Instance, first_row: u32, out: &mut [i64]) -> u32
 /// Puts rows of costs to the front of a buffer that has a place for each.
 fn put_rows(instance: &Instance, first_row: u32, rows: usize, out: &mut [i64])
     requires first { 1 ≤ first_row }
-    requires last { first_row + rows ≤ instance_size instance.now + 1 }
-    requires room { rows * instance_size instance.now ≤ length out.old }
-    ensures { IsFilled (rows * instance_size instance.now) (row_cost first_row instance.now) out.old out.new }
+    requires last { first_row + rows ≤ nodes_of instance.now + 1 }
+    requires room { rows * nodes_of instance.now ≤ length out.old }
+    ensures { IsFilled (rows * nodes_of instance.now) (row_cost first_row instance.now) out.old out.new }
 {
     let count = instance.count() as usize;
     'places: for k in 0..rows * count {

@@ -1,3 +1,3 @@
+pub mod states
 pub mod Examples
 pub mod Tours
-pub mod Views

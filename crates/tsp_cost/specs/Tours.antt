@@ -1,8 +1,9 @@
 -- The tours of an instance: cycles that use every fixed pair. Source: TSPLIB 95 (G. Reinelt), FIXED_EDGES_SECTION.
-use Rattle.std.specs.Prelude.{ℕ, Bool, true, false, List, [], Option, None, Some, unwrap_or}
+use Rattle.std.specs.Prelude.{ℕ, Bool, true, false, List, Option, None, Some}
 use Rattle.tsp_format.specs.declared.kinds.Kind.{Kind}
 use Rattle.tsp_format.specs.declared.kinds.Kind.TheVariants.{Tsp, Atsp, Cvrp, Tour, Potentials, Branches}
 use Rattle.tsp_draft.specs.Fields.{Fields}
+use Rattle.tsp_file.specs.Meant.{nodes_of, fixed_of}
 use Rattle.tsp_theory.specs.Tour.{IsTour}
 
 -- whether pairs have a direction
@@ -17,4 +18,4 @@ is_directed None = false
 
 -- a tour of an instance
 abbrev pub IsTourOf : Fields → List ℕ → Type 0
-IsTourOf f nodes = IsTour (is_directed f.kind) (unwrap_or f.dimension 0) (unwrap_or f.fixed []) nodes
+IsTourOf f nodes = IsTour (is_directed f.kind) (nodes_of f) (fixed_of f) nodes

@@ -3,7 +3,7 @@
 ghost use Rattle.std.specs.Prelude.{unwrap_or, MatchResult};
 ghost use Rattle.tsp_file.specs.Cost.{cost};
 ghost use Rattle.tsp_theory.specs.Costs.{IsSymmetric, IsFirstAsymmetric, FindsAsymmetric};
-ghost use Rattle.tsp_cost.specs.Views.{ShowsEven};
+ghost use Rattle.tsp_cost.specs.states.Views.{ShowsEven};
 
 use crate::fault::CostFault;
 use crate::matrix::Matrix;
@@ -41,7 +41,7 @@ impl Instance {
     ghost use Rattle.tsp_cost.specs.declared.fault.CostFault.TheVariants.{NotInstance};
     ghost use Rattle.tsp_file.specs.Listed.{ListsWeights};
     ghost use Rattle.tsp_file.specs.Relayout.{HasListedWeights};
-    ghost use Rattle.tsp_cost.specs.Views.{Shows};
+    ghost use Rattle.tsp_cost.specs.states.Views.{Shows};
 
     /// The instance that a file is, or why it is none, and the file itself, unchanged.
     ///

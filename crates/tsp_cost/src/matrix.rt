@@ -34,7 +34,7 @@ pub struct EvenMatrix<'a> {
 impl<'a> Matrix<'a> {
     ghost use Rattle.std.specs.Prelude.{ℕ, MatchResult};
     ghost use Rattle.tsp_theory.specs.Costs.{IsFirstAsymmetric, FindsAsymmetric};
-    ghost use Rattle.tsp_cost.specs.Views.{matrix_nodes, matrix_cost, even_nodes, even_cost};
+    ghost use Rattle.tsp_cost.specs.states.Views.{matrix_nodes, matrix_cost, even_nodes, even_cost};
 
     /// The costs over this many nodes that these weights list.
     pub(crate) fn of(nodes: u32, weights: &'a [i64]) -> Matrix<'a>
@@ -75,7 +75,7 @@ impl<'a> Matrix<'a> {
 }
 
 impl Costs for Matrix<'_> {
-    ghost use Rattle.tsp_cost.specs.Views.{matrix_nodes, matrix_cost};
+    ghost use Rattle.tsp_cost.specs.states.Views.{matrix_nodes, matrix_cost};
 
     ghost nodes = { matrix_nodes };
 
@@ -93,7 +93,7 @@ impl Costs for Matrix<'_> {
 }
 
 impl Costs for EvenMatrix<'_> {
-    ghost use Rattle.tsp_cost.specs.Views.{even_nodes, even_cost};
+    ghost use Rattle.tsp_cost.specs.states.Views.{even_nodes, even_cost};
 
     ghost nodes = { even_nodes };
 

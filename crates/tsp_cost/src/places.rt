@@ -12,7 +12,7 @@ use tsp_distance::{InSpace, Point, monotone_laws};
 use tsp_theory::{Grouped, Region};
 
 impl<P: InSpace> Points<'_, P> {
-    ghost use Rattle.tsp_cost.specs.Views.{points_nodes, points_place};
+    ghost use Rattle.tsp_cost.specs.states.Views.{points_nodes, points_place};
 
     /// The point of a node.
     #[inline]
@@ -25,7 +25,7 @@ impl<P: InSpace> Points<'_, P> {
 }
 
 impl<P: InSpace> Grouped for Points<'_, P> {
-    ghost use Rattle.tsp_cost.specs.Views.{points_place};
+    ghost use Rattle.tsp_cost.specs.states.Views.{points_place};
 
     ghost place = { points_place P.place };
 

@@ -28,7 +28,7 @@ pub struct Points<'a, P> {
 }
 
 impl<'a, P: InSpace> Points<'a, P> {
-    ghost use Rattle.tsp_cost.specs.Views.{points_nodes, points_cost};
+    ghost use Rattle.tsp_cost.specs.states.Views.{points_nodes, points_cost};
 
     /// The costs by a distance, over points of which there is one for each node.
     pub(crate) fn of(kind: WeightKind, points: &'a [P]) -> Points<'a, P>
@@ -59,7 +59,7 @@ impl<P> Clone for Points<'_, P> {
 impl<P> Copy for Points<'_, P> {}
 
 impl<P: InSpace> Costs for Points<'_, P> {
-    ghost use Rattle.tsp_cost.specs.Views.{points_nodes, points_cost};
+    ghost use Rattle.tsp_cost.specs.states.Views.{points_nodes, points_cost};
 
     ghost nodes = { points_nodes };
 

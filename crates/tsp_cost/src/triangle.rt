@@ -34,7 +34,7 @@ pub struct Triangle<'a> {
 
 impl<'a> Triangle<'a> {
     ghost use Rattle.std.specs.Prelude.{ℕ};
-    ghost use Rattle.tsp_cost.specs.Views.{triangle_nodes, triangle_cost};
+    ghost use Rattle.tsp_cost.specs.states.Views.{triangle_nodes, triangle_cost};
 
     /// The costs over this many nodes that these weights list in a layout.
     pub(crate) fn of(layout: Layout, nodes: u32, weights: &'a [i64]) -> Triangle<'a>
@@ -74,7 +74,7 @@ impl<'a> Triangle<'a> {
 }
 
 impl Costs for Triangle<'_> {
-    ghost use Rattle.tsp_cost.specs.Views.{triangle_nodes, triangle_cost};
+    ghost use Rattle.tsp_cost.specs.states.Views.{triangle_nodes, triangle_cost};
 
     ghost nodes = { triangle_nodes };
 

@@ -11,7 +11,7 @@ use Rattle.tsp_distance.specs.Decimal.{unit}
 use Rattle.tsp_distance.specs.Distances.{squared, across, along, above, square_apart, square_apart_in_space, IsEuc2d, IsEuc3d, IsCeil2d, IsAtt}
 use Rattle.tsp_distance.specs.declared.root.Rounding.{Rounding}
 use Rattle.tsp_distance.specs.declared.root.Rounding.TheVariants.{Nearest, Up, TenthUp}
-use Rattle.tsp_distance.specs.Rounding.{Covers, IsLeastCover}
+use Rattle.tsp_distance.specs.states.Rounding.{Covers, IsLeastCover}
 
 -- a whole number below k has a square of at most that of the one before k
 pub squared-below : (j k : ℕ) → j < k → squared (j * unit) ≤ squared ((k - 1) * unit)

@@ -1,5 +1,5 @@
+pub mod states
 pub mod Decimal
 pub mod Distances
 pub mod Monotone
-pub mod Rounding
 pub mod Examples

@@ -2,9 +2,8 @@
 
 ghost use Rattle.std.specs.Prelude.{◌≡◌, pos, ◌≤ℤ◌, ◌<◌, ◌≤◌, ◌-ℤ◌, ◌+◌, ◌-◌, ◌*◌, ◌^◌, unsigned_abs};
 ghost use Rattle.tsp_distance.specs.Decimal.{unit};
-ghost use Rattle.tsp_distance.specs.Distances.{IsEuc2d, IsCeil2d, IsMan2d, IsMax2d, IsAtt};
-ghost use Rattle.tsp_distance.specs.Distances.{square_apart, euc_2d_of, ceil_2d_of, man_2d_of, max_2d_of, att_of};
-ghost use Rattle.tsp_distance.specs.Rounding.{IsLeastCover};
+ghost use Rattle.tsp_distance.specs.Distances.{IsEuc2d, IsCeil2d, IsMan2d, IsMax2d, IsAtt, square_apart, euc_2d_of, ceil_2d_of, man_2d_of, max_2d_of, att_of};
+ghost use Rattle.tsp_distance.specs.states.Rounding.{IsLeastCover};
 
 use crate::decimal::{Decimal, Point, UNIT};
 use crate::root::{Rounding, rounded_root};

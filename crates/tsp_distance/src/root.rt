@@ -4,7 +4,7 @@ ghost use Rattle.std.specs.Prelude.{◌≡◌, ◌+◌, ◌-◌, ◌*◌, ◌<�
 ghost use Rattle.std.specs.Bool.{OnTrue};
 ghost use Rattle.tsp_distance.specs.Distances.{squared};
 ghost use Rattle.tsp_distance.specs.declared.root.Rounding.TheVariants.{Nearest};
-ghost use Rattle.tsp_distance.specs.Rounding.{Covers, IsLeastCover, estimate_limit};
+ghost use Rattle.tsp_distance.specs.states.Rounding.{Covers, IsLeastCover, estimate_limit};
 
 use crate::decimal::UNIT;
 use std::num;

@@ -6,11 +6,11 @@ use Rattle.std.specs.List.{fold, list_all, sum_by}
 use Rattle.std.proofs.lemmas.Bool.{le-leb}
 use Rattle.std.proofs.lemmas.List.{length-map}
 use Rattle.tsp_format.specs.declared.steps.TreeStep.{TreeStep}
-use Rattle.tsp_format.specs.Steps.{step_of, steps_of, are_whole}
+use Rattle.tsp_format.specs.states.TreeSteps.{step_of, steps_of}
+use Rattle.tsp_format.specs.Steps.{are_whole, branch_count, change_count}
 use Rattle.std.proofs.lemmas.List.Folds.{list_all-map}
 use Rattle.tsp_format.specs.Limits.{most_tour_nodes, most_combs, most_comb_nodes, most_branches, most_changes}
-use Rattle.tsp_format.specs.Steps.{branch_count, change_count}
-use Rattle.tsp_draft.specs.Fields.{combs_of}
+use Rattle.tsp_draft.specs.states.Drafts.{combs_of}
 use Rattle.tsp_draft.specs.Validity.{is_tour, are_tours, is_set, is_comb, are_combs, is_step, are_steps}
 
 pub mapped_all : {X Y : Type 0} (h : Y → X) (p : X → Bool) (ys : List Y) (r : Bool) (most count : ℕ) → r ≡ list_all (λ y. p (h y)) ys → count ≤ most → count ≡ length ys

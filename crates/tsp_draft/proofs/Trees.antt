@@ -5,7 +5,8 @@ use Rattle.std.specs.Global.{Vec}
 use Rattle.std.proofs.lemmas.List.{at_drop_more}
 use Rattle.tsp_format.specs.declared.steps.TreeStep.{TreeStep}
 use Rattle.tsp_format.specs.declared.steps.TreeStep.TheVariants as listed
-use Rattle.tsp_format.specs.Steps.{steps_of, are_whole}
+use Rattle.tsp_format.specs.states.TreeSteps.{steps_of}
+use Rattle.tsp_format.specs.Steps.{are_whole}
 
 -- where some tree is still to come, one more is after a branch
 pub after_branch : (steps : List TreeStep) (i : ℕ) (d : TreeStep) (left first second : ℕ) → i < length steps

@@ -1,19 +1,16 @@
 -- What a file holds, as lists.
-use Rattle.std.specs.Prelude.{ℕ, Bool, true, List, [], map, Option, None, Some, ℤ, pos, nat_abs, is_some}
+use Rattle.std.specs.Prelude.{ℕ, Bool, true, List, [], Option, None, Some, ℤ, pos, nat_abs, is_some}
 use Rattle.std.specs.Option.{option_map}
-use Rattle.std.specs.Global.{Vec}
 use Rattle.tsp_distance.specs.declared.decimal.Point.{Point}
 use Rattle.tsp_format.specs.declared.field.Field.{Field}
 use Rattle.tsp_format.specs.declared.field.Field.TheVariants.{NameKey, TypeKey, CommentKey, OtherKey, DimensionKey, CapacityKey, ScaleKey, EdgeWeightTypeKey, EdgeWeightFormatKey, NodeCoordTypeKey, DisplayDataTypeKey, NodeCoordPart, DisplayDataPart, DemandPart, DepotPart, FixedEdgesPart, EdgeWeightPart, TourPart, NodePotentialPart, RowPotentialPart, ColumnPotentialPart, FixedEdgePotentialPart, CombPart, BranchPart}
-use Rattle.tsp_draft.specs.declared.draft.Draft.{Draft}
-use Rattle.tsp_draft.specs.Coords.{points_of}
 use Rattle.tsp_format.specs.declared.kinds.Kind.{Kind}
 use Rattle.tsp_format.specs.Space.{is_spatial}
 use Rattle.tsp_format.specs.declared.kinds.WeightKind.{WeightKind}
 use Rattle.tsp_format.specs.declared.kinds.WeightFormat.{WeightFormat}
 use Rattle.tsp_format.specs.declared.kinds.CoordKind.{CoordKind}
 use Rattle.tsp_format.specs.declared.kinds.DisplayKind.{DisplayKind}
-use Rattle.tsp_format.specs.Steps.{Step, steps_of}
+use Rattle.tsp_format.specs.Steps.{Step}
 
 -- the fields in canonical order
 pub record Fields : Type 0 where
@@ -69,39 +66,6 @@ blank_fields = record {
   fixed_potentials = None;
   combs = None;
   branches = None;
-}
-
--- combs, each as its sets
-abbrev pub combs_of : List (Vec (Vec ℕ)) → List (List (List ℕ))
-combs_of combs = map (λ comb. map (λ set. set.items) comb.items) combs
-
--- what a draft holds
-abbrev pub fields_of : Draft → Fields
-fields_of d = record {
-  name = option_map (λ v. v.items) d.name;
-  kind = d.kind;
-  comments = map (λ v. v.items) d.comments.items;
-  others = map (λ p. (p.0.items, p.1.items)) d.others.items;
-  dimension = d.dimension;
-  capacity = d.capacity;
-  scale = d.scale;
-  weight_kind = d.weight_kind;
-  weight_format = d.weight_format;
-  coord_kind = d.coord_kind;
-  display_kind = d.display_kind;
-  coords = option_map points_of d.coords;
-  display = option_map points_of d.display;
-  demands = option_map (λ v. v.items) d.demands;
-  depots = option_map (λ v. v.items) d.depots;
-  fixed = option_map (λ v. v.items) d.fixed;
-  weights = option_map (λ v. v.items) d.weights;
-  tours = option_map (λ v. map (λ t. t.items) v.items) d.tours;
-  node_potentials = option_map (λ v. v.items) d.node_potentials;
-  row_potentials = option_map (λ v. v.items) d.row_potentials;
-  column_potentials = option_map (λ v. v.items) d.column_potentials;
-  fixed_potentials = option_map (λ v. v.items) d.fixed_potentials;
-  combs = option_map (λ v. combs_of v.items) d.combs;
-  branches = option_map (λ v. steps_of v.items) d.branches;
 }
 
 -- its nodes have three coordinates each

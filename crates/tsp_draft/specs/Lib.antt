@@ -1,3 +1,4 @@
+pub mod states
 pub mod Coords
 pub mod FaultText
 pub mod Fields

@@ -1,7 +1,8 @@
 //! The points of a section, each list in the memory that its points need.
 
 ghost use Rattle.std.specs.Prelude.{◌≡◌, length, slice_index_or, ◌<◌, SomeIff};
-ghost use Rattle.tsp_draft.specs.Coords.{points_of, origin};
+ghost use Rattle.tsp_draft.specs.states.Drafts.{points_of};
+ghost use Rattle.tsp_draft.specs.Coords.{origin};
 
 use tsp_distance::{InSpace, PlanePoint, Point};
 

@@ -95,10 +95,9 @@ impl Drop for Draft {
 impl Draft {
     ghost use Rattle.std.specs.Prelude.{◌≡◌};
     ghost use Rattle.std.specs.Option.{option_map};
-    ghost use Rattle.tsp_draft.specs.Coords.{points_of};
+    ghost use Rattle.tsp_draft.specs.states.Drafts.{points_of, fields_of};
     ghost use Rattle.tsp_format.specs.Shapes.{value_shape_of, IsNumberOf};
-    ghost use Rattle.tsp_draft.specs.Fields.{fields_of, blank_fields, spatial, stands_in};
-    ghost use Rattle.tsp_draft.specs.Fields.{one_number_in, with_one_number, numbers_in, with_numbers, points_in, with_points};
+    ghost use Rattle.tsp_draft.specs.Fields.{blank_fields, spatial, stands_in, one_number_in, with_one_number, numbers_in, with_numbers, points_in, with_points};
 
     /// A draft with no field set: each is `None` or an empty list. No memory is taken.
     pub fn new(alloc: Global) -> Draft

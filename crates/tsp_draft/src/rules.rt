@@ -1,7 +1,7 @@
 //! The rules over several fields of a file, judged over its present fields.
 
 ghost use Rattle.std.specs.Prelude.{◌≡◌, None};
-ghost use Rattle.tsp_draft.specs.Fields.{fields_of};
+ghost use Rattle.tsp_draft.specs.states.Drafts.{fields_of};
 ghost use Rattle.tsp_draft.specs.Validity.{first_failing};
 ghost use Rattle.tsp_draft.specs.Rules.{standing_of, is_instance, is_routing, is_tours, is_certificate, lists_weights, has_distances, has_row_or_column, has_node_or_multiplier, is_tree, is_asked, is_there, asked_in_order, has_wrong_format, has_wrong_count, end_fault};
 

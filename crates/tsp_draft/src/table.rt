@@ -4,9 +4,8 @@ ghost use Rattle.std.specs.Prelude.{◌≡◌, ℕ, Bool, List, Some, MatchResul
 ghost use Rattle.std.specs.Option.{option_map};
 ghost use Rattle.tsp_format.specs.Limits.{most_nodes};
 ghost use Rattle.tsp_format.specs.Words.{field_word};
-ghost use Rattle.tsp_draft.specs.Coords.{points_of};
-ghost use Rattle.tsp_format.specs.Steps.{steps_of};
-ghost use Rattle.tsp_draft.specs.Fields.{fields_of, combs_of};
+ghost use Rattle.tsp_draft.specs.states.Drafts.{points_of, fields_of, combs_of};
+ghost use Rattle.tsp_format.specs.states.TreeSteps.{steps_of};
 ghost use Rattle.tsp_draft.specs.Validity.{if_there, with_dimension, is_by_node, is_kept, is_node, is_from_to, is_point, are_comments, are_others, are_depots, are_fixed, are_triples, are_weights, are_tours, are_combs, are_steps, section_fits, value_fits, fits, first_failing, bad_field};
 
 use crate::coords::Coords;

@@ -17,8 +17,9 @@ use Rattle.tsp_draft.specs.Valid.{IsWithin}
 use Rattle.tsp_draft.specs.Rules.{fault_of}
 use Rattle.tsp_file.specs.Cost.{listed_cost, cost}
 use Rattle.tsp_file.specs.Listed.{ListsWeights}
-use Rattle.tsp_file.specs.Relayout.{HoldsPairs, CanGo, file_nodes, with_weights, costs_in}
-use Rattle.tsp_file.specs.Halves.{line_start_of}
+use Rattle.tsp_file.specs.Relayout.{HoldsPairs, CanGo, with_weights, costs_in}
+use Rattle.tsp_file.specs.Meant.{nodes_of}
+use Rattle.tsp_file.specs.states.Halves.{line_start_of}
 use Rattle.tsp_file.proofs.Listed.{cost_of_cell, turned}
 use Rattle.tsp_file.proofs.Relaid.{line_more, lines_all, cost_within, all_within, of_file}
 use Rattle.tsp_file.proofs.WithWeights.{stays_valid}
@@ -128,9 +129,9 @@ row_within n line full high filled =
 
 -- a file whose weights were put into another layout
 pub laid_of : (f : Fields) (from to : Layout) (n : ℕ) (old new : List ℤ) → fault_of f ≡ None → CanGo f to → ListsWeights f from n old → new ≡ costs_in to n (listed_cost from n old)
-    → (fault_of (with_weights f to new) ≡ None) × (new ≡ costs_in to (file_nodes f) (cost f))
+    → (fault_of (with_weights f to new) ≡ None) × (new ≡ costs_in to (nodes_of f) (cost f))
 laid_of f from to n old new valid can held value =
-    let f_value : new ≡ costs_in to (file_nodes f) (cost f) = of_file (λ k c. new ≡ costs_in to k c) f from n old can.listed.0 held value in
+    let f_value : new ≡ costs_in to (nodes_of f) (cost f) = of_file (λ k c. new ≡ costs_in to k c) f from n old can.listed.0 held value in
     let sizes : All (IsWithin most_weight) new = subst (All (IsWithin most_weight)) (sym value) (all_within to n (listed_cost from n old) (cost_within from n old held.sizes)) in
-    let count : length new ≡ length (cells to (file_nodes f)) = ap length f_value ∙ length-map (cells to (file_nodes f)) (λ cell. cost f cell.0 cell.1) in
+    let count : length new ≡ length (cells to (nodes_of f)) = ap length f_value ∙ length-map (cells to (nodes_of f)) (λ cell. cost f cell.0 cell.1) in
     (stays_valid f to new valid can.listed.1 count sizes, f_value)

@@ -5,7 +5,7 @@ use Rattle.std.specs.List.{range_with_len}
 use Rattle.std.proofs.lemmas.List.{take_min, drop_min}
 use Rattle.tsp_format.specs.Cells.{nodes_to}
 use Rattle.tsp_file.specs.Text.{weight_line, matrix_lines}
-use Rattle.tsp_stream.specs.Way.{Way, Carried}
+use Rattle.tsp_stream.specs.states.Way.{Way, Carried}
 use Rattle.tsp_stream.proofs.Carrying.{carried_then, carried_none, carried_failed}
 
 -- a prefix of the whole was carried, and this rest is still to come

@@ -23,9 +23,10 @@ use Rattle.tsp_format.specs.declared.kinds.WeightFormat.{WeightFormat}
 use Rattle.tsp_format.specs.declared.kinds.WeightFormat.TheVariants.{Listed}
 use Rattle.tsp_draft.specs.Fields.{Fields}
 use Rattle.tsp_draft.specs.Valid.{IsWithin}
-use Rattle.tsp_file.specs.Cost.{listed_cost, layout_of, cost_by, cost}
+use Rattle.tsp_file.specs.Cost.{listed_cost, cost_by, cost}
+use Rattle.tsp_file.specs.Meant.{layout_of, nodes_of}
 use Rattle.tsp_file.specs.Listed.{ListsWeights}
-use Rattle.tsp_file.specs.Relayout.{HoldsPairs, HoldsDiagonal, lists_diagonal, HasListedWeights, file_nodes, with_weights, costs_in, CanGo, IsRelaid}
+use Rattle.tsp_file.specs.Relayout.{HoldsPairs, HoldsDiagonal, lists_diagonal, HasListedWeights, with_weights, costs_in, CanGo, IsRelaid}
 use Rattle.tsp_file.proofs.Listed.{cost_of_listed, cost_of_cell, cost_mirrored, cost_unlisted, unlisted_has_no_place, outside_has_no_place, nodes_or_not, diagonal_unlisted, triangle_even, turned}
 
 -- ---- loops over cells and lines
@@ -205,19 +206,19 @@ own_diagonal layout n weights = by_diagonal (lists_diagonal layout) refl
 
 -- what holds of the weights of a file holds of its nodes and costs
 pub of_file : (P : ℕ → (ℕ → ℕ → ℤ) → Type 0) (f : Fields) (layout : Layout) (n : ℕ) (weights : List ℤ) → f.weight_kind ≡ Some Explicit
-    → ListsWeights f layout n weights → P n (listed_cost layout n weights) → P (file_nodes f) (cost f)
+    → ListsWeights f layout n weights → P n (listed_cost layout n weights) → P (nodes_of f) (cost f)
 of_file P f layout n weights explicit held holds =
-    let nodes : n ≡ file_nodes f = sym (ap (λ o. unwrap_or o 0) held.dimension) in
+    let nodes : n ≡ nodes_of f = sym (ap (λ o. unwrap_or o 0) held.dimension) in
     let costs : listed_cost layout n weights ≡ cost f = λ t i j. cost_of_listed f layout n weights explicit held i j t in
     subst (λ k. P k (cost f)) nodes (subst (λ c. P n c) costs holds)
 
 -- and the other way round
 pub of_weights : (P : ℕ → (ℕ → ℕ → ℤ) → Type 0) (f : Fields) (layout : Layout) (n : ℕ) (weights : List ℤ) → f.weight_kind ≡ Some Explicit
-    → ListsWeights f layout n weights → P (file_nodes f) (cost f) → P n (listed_cost layout n weights)
+    → ListsWeights f layout n weights → P (nodes_of f) (cost f) → P n (listed_cost layout n weights)
 of_weights P f layout n weights explicit held holds =
-    let nodes : file_nodes f ≡ n = ap (λ o. unwrap_or o 0) held.dimension in
+    let nodes : nodes_of f ≡ n = ap (λ o. unwrap_or o 0) held.dimension in
     let costs : cost f ≡ listed_cost layout n weights = λ t i j. sym (cost_of_listed f layout n weights explicit held i j) t in
-    subst (λ k. P k (listed_cost layout n weights)) nodes (subst (λ c. P (file_nodes f) c) costs holds)
+    subst (λ k. P k (listed_cost layout n weights)) nodes (subst (λ c. P (nodes_of f) c) costs holds)
 
 pub has_weights : (f : Fields) (layout : Layout) (n : ℕ) (weights : List ℤ) → f.weight_kind ≡ Some Explicit → ListsWeights f layout n weights → HasListedWeights f
 has_weights f layout n weights explicit held = (explicit, ap is_some held.weights_are)
@@ -236,31 +237,31 @@ can_go f layout n weights to explicit held pairs diagonal = record {
 
 -- a file's own layout
 pub own_layout : (f : Fields) (layout : Layout) (n : ℕ) (weights : List ℤ) (to : Layout) → f.weight_kind ≡ Some Explicit → ListsWeights f layout n weights → layout ≡ to
-    → CanGo f to × ((f.weight_format ≡ Some (Listed to)) × (f.weights ≡ Some (costs_in to (file_nodes f) (cost f))))
+    → CanGo f to × ((f.weight_format ≡ Some (Listed to)) × (f.weights ≡ Some (costs_in to (nodes_of f) (cost f))))
 own_layout f layout n weights to explicit held same =
     let stand : f.weights ≡ Some (costs_in layout n (listed_cost layout n weights)) = held.weights_are ∙ ap Some (sym (own_costs layout n weights held.filled)) in
-    subst (λ own. CanGo f own × ((f.weight_format ≡ Some (Listed own)) × (f.weights ≡ Some (costs_in own (file_nodes f) (cost f))))) same (
+    subst (λ own. CanGo f own × ((f.weight_format ≡ Some (Listed own)) × (f.weights ≡ Some (costs_in own (nodes_of f) (cost f))))) same (
       can_go f layout n weights layout explicit held (own_pairs layout n weights) (own_diagonal layout n weights),
       (held.format, of_file (λ k c. f.weights ≡ Some (costs_in layout k c)) f layout n weights explicit held stand),
     )
 
 -- ---- the file with the new weights
 
-explicit_cost : (f : Fields) (i j : ℕ) → f.weight_kind ≡ Some Explicit → cost f i j ≡ listed_cost (layout_of f.weight_format) (file_nodes f) (unwrap_or f.weights []) i j
+explicit_cost : (f : Fields) (i j : ℕ) → f.weight_kind ≡ Some Explicit → cost f i j ≡ listed_cost (layout_of f.weight_format) (nodes_of f) (unwrap_or f.weights []) i j
 unfolding cost
 explicit_cost f i j explicit = ap (λ k. cost_by k f i j) explicit
 
-pub relaid : (f : Fields) (to : Layout) (new : Fields) → CanGo f to → new ≡ with_weights f to (costs_in to (file_nodes f) (cost f)) → IsRelaid f to new
+pub relaid : (f : Fields) (to : Layout) (new : Fields) → CanGo f to → new ≡ with_weights f to (costs_in to (nodes_of f) (cost f)) → IsRelaid f to new
 relaid f to new can fields = record {
   can_go = can;
   fields = fields;
   costs = λ i j. ap (λ g. cost g i j) fields
-      ∙ explicit_cost (with_weights f to (costs_in to (file_nodes f) (cost f))) i j can.listed.0
-      ∙ costs_kept to (file_nodes f) (cost f) (λ a b out. explicit_cost f a b can.listed.0
-      ∙ cost_outside (layout_of f.weight_format) (file_nodes f) (unwrap_or f.weights []) a b out) can.pairs can.diagonal i j;
+      ∙ explicit_cost (with_weights f to (costs_in to (nodes_of f) (cost f))) i j can.listed.0
+      ∙ costs_kept to (nodes_of f) (cost f) (λ a b out. explicit_cost f a b can.listed.0
+      ∙ cost_outside (layout_of f.weight_format) (nodes_of f) (unwrap_or f.weights []) a b out) can.pairs can.diagonal i j;
 }
 
-pub already : (f : Fields) (to : Layout) → CanGo f to → f.weight_format ≡ Some (Listed to) → f.weights ≡ Some (costs_in to (file_nodes f) (cost f)) → IsRelaid f to f
+pub already : (f : Fields) (to : Layout) → CanGo f to → f.weight_format ≡ Some (Listed to) → f.weights ≡ Some (costs_in to (nodes_of f) (cost f)) → IsRelaid f to f
 already f to can format stand = relaid f to f can
     (ap (λ (o : Option WeightFormat). record f { weight_format = o }) format
     ∙ ap (λ (o : Option (List ℤ)). record f { weight_format = Some (Listed to); weights = o }) stand)

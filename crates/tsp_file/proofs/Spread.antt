@@ -15,9 +15,9 @@ use Rattle.tsp_format.proofs.Counts.{line_counted, cells_counted}
 use Rattle.tsp_format.proofs.Places.{placed, place_from, stands_at, line_at}
 use Rattle.tsp_file.specs.Cost.{listed_cost}
 use Rattle.tsp_file.specs.Relayout.{costs_in}
-use Rattle.tsp_file.specs.Side.{first_own, past_own}
-use Rattle.tsp_file.specs.Halves.{places_before, line_start_of}
-use Rattle.tsp_file.specs.Whole.{goes_above, is_on_side, HasCost, HasSide, KeepsCosts, HasLines, Fills}
+use Rattle.tsp_file.specs.states.Side.{first_own, past_own}
+use Rattle.tsp_file.specs.states.Halves.{places_before, line_start_of}
+use Rattle.tsp_file.specs.states.Whole.{goes_above, is_on_side, HasCost, HasSide, KeepsCosts, HasLines, Fills}
 use Rattle.tsp_file.proofs.Listed.{turned, nodes_or_not, diagonal_unlisted, cost_unlisted}
 use Rattle.tsp_file.proofs.Relaid.{line_more, lines_all, own_costs, no_cell, outside}
 

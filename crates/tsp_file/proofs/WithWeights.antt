@@ -23,7 +23,8 @@ use Rattle.tsp_draft.specs.Fields.{Fields, spatial}
 use Rattle.tsp_draft.specs.Validity.{is_within, with_dimension, are_weights, fits, first_failing, bad_field}
 use Rattle.tsp_draft.specs.Rules.{standing_of, is_there, asked_in_order, is_count, has_wrong_format, has_wrong_count, end_fault, format_or_count, fault_of}
 use Rattle.tsp_draft.specs.Valid.{IsWithin, AreWeights}
-use Rattle.tsp_file.specs.Relayout.{file_nodes, with_weights}
+use Rattle.tsp_file.specs.Meant.{nodes_of}
+use Rattle.tsp_file.specs.Relayout.{with_weights}
 use Rattle.tsp_draft.proofs.ValidFields.{in_range, each_fits, nodes_fit, no_field_missing, format_and_count, and_true}
 
 -- ---- no more cells than pairs
@@ -127,10 +128,10 @@ pub some_is : {A : Type 0} (o : Option A) → IsSome o → (x : A) × (o ≡ Som
 some_is None there = absurd (false≢true there)
 some_is (Some x) there = (x, refl)
 
-pub stays_valid : (f : Fields) (to : Layout) (weights : List ℤ) → fault_of f ≡ None → IsSome f.weights → length weights ≡ length (cells to (file_nodes f)) → All (IsWithin most_weight) weights
+pub stays_valid : (f : Fields) (to : Layout) (weights : List ℤ) → fault_of f ≡ None → IsSome f.weights → length weights ≡ length (cells to (nodes_of f)) → All (IsWithin most_weight) weights
     → fault_of (with_weights f to weights) ≡ None
 stays_valid f to weights valid there filled sizes =
     let old = some_is f.weights there in
     let held = (in_range f valid).weights old.0 old.1 in
-    let nodes : file_nodes f ≡ held.n = ap (λ o. unwrap_or o 0) held.dimension in
+    let nodes : nodes_of f ≡ held.n = ap (λ o. unwrap_or o 0) held.dimension in
     still_valid f to old.0 weights valid old.1 held (filled ∙ ap (λ n. length (cells to n)) nodes) sizes

@@ -1,18 +1,16 @@
 -- The cost from one node of an instance to another.
 -- Source: TSPLIB 95 (G. Reinelt), EDGE_WEIGHT_TYPE, EDGE_WEIGHT_FORMAT and the distance functions.
-use Rattle.std.specs.Prelude.{ℕ, ◌-◌, List, [], Option, None, Some, unwrap_or, slice_index_or, ℤ, pos}
+use Rattle.std.specs.Prelude.{ℕ, ◌-◌, List, Option, None, Some, unwrap_or, slice_index_or, ℤ, pos}
 use Rattle.std.specs.Option.{option_map, option_or}
 use Rattle.tsp_distance.specs.declared.decimal.Point.{Point}
 use Rattle.tsp_distance.specs.Distances.{euc_2d_of, ceil_2d_of, man_2d_of, max_2d_of, att_of, euc_3d_of, man_3d_of, max_3d_of}
 use Rattle.tsp_format.specs.declared.layout.Layout.{Layout}
-use Rattle.tsp_format.specs.declared.layout.Layout.TheVariants.{FullMatrix}
 use Rattle.tsp_format.specs.declared.kinds.WeightKind.{WeightKind}
 use Rattle.tsp_format.specs.declared.kinds.WeightKind.TheVariants.{Explicit, Euc2d, Ceil2d, Man2d, Max2d, Att, Euc3d, Man3d, Max3d}
-use Rattle.tsp_format.specs.declared.kinds.WeightFormat.{WeightFormat}
-use Rattle.tsp_format.specs.declared.kinds.WeightFormat.TheVariants.{ByFunction, Listed}
 use Rattle.tsp_format.specs.Place.{place_of}
 use Rattle.tsp_draft.specs.Coords.{origin}
 use Rattle.tsp_draft.specs.Fields.{Fields}
+use Rattle.tsp_file.specs.Meant.{nodes_of, listed_weights, layout_of, coords_in}
 
 -- ---- weights that are listed
 
@@ -46,16 +44,10 @@ distance Explicit a b = pos 0
 
 -- ---- costs
 
--- the layout of the weights; a valid instance whose weights are listed has one
-abbrev pub layout_of : Option WeightFormat → Layout
-layout_of (Some (Listed layout)) = layout
-layout_of (Some ByFunction) = FullMatrix
-layout_of None = FullMatrix
-
 -- by the weight type, from the weights or from the coordinates of the two nodes
 abbrev pub cost_by : Option WeightKind → Fields → ℕ → ℕ → ℤ
-cost_by (Some Explicit) f i j = listed_cost (layout_of f.weight_format) (unwrap_or f.dimension 0) (unwrap_or f.weights []) i j
-cost_by (Some kind) f i j = distance kind (point_of (unwrap_or f.coords []) i) (point_of (unwrap_or f.coords []) j)
+cost_by (Some Explicit) f i j = listed_cost (layout_of f.weight_format) (nodes_of f) (listed_weights f) i j
+cost_by (Some kind) f i j = distance kind (point_of (coords_in f) i) (point_of (coords_in f) j)
 cost_by None f i j = pos 0
 
 -- the cost from i to j

@@ -1,14 +1,11 @@
+pub mod states
+pub mod Meant
 pub mod Cost
 pub mod ByInequalities
 pub mod FaultText
-pub mod Halves
 pub mod Listed
 pub mod Relayout
-pub mod Side
 pub mod Typed
-pub mod Way
-pub mod Weights
 pub mod Examples
-pub mod Whole
 pub mod Text
 pub mod TextExamples

@@ -1,6 +1,6 @@
 -- What becomes of a file whose weights are put into another layout, and which costs a layout can hold.
 -- Source: TSPLIB 95 (G. Reinelt), the values of EDGE_WEIGHT_FORMAT.
-use Rattle.std.specs.Prelude.{◌≡◌, ◌≢◌, ℕ, ◌<◌, ◌⊎◌, Bool, false, List, map, Some, IsSome, IsTrue, unwrap_or, Result, Ok, Err, ℤ, pos}
+use Rattle.std.specs.Prelude.{◌≡◌, ◌≢◌, ℕ, ◌<◌, ◌⊎◌, Bool, false, List, map, Some, IsSome, IsTrue, Result, Ok, Err, ℤ, pos}
 use Rattle.tsp_format.specs.declared.layout.Layout.{Layout}
 use Rattle.tsp_format.specs.declared.layout.Layout.TheVariants.{FullMatrix}
 use Rattle.tsp_format.specs.declared.kinds.WeightKind.TheVariants.{Explicit}
@@ -10,6 +10,7 @@ use Rattle.tsp_format.specs.Symmetry.{IsSymmetric, IsFirstAsymmetric}
 use Rattle.tsp_file.specs.declared.fault.RelayoutFault.{RelayoutFault}
 use Rattle.tsp_file.specs.declared.fault.RelayoutFault.TheVariants.{NotExplicit, NotSymmetric, DiagonalLost, OutOfMemory}
 use Rattle.tsp_draft.specs.Fields.{Fields}
+use Rattle.tsp_file.specs.Meant.{nodes_of}
 use Rattle.tsp_file.specs.Cost.{cost}
 
 -- ---- which costs a layout can hold
@@ -38,9 +39,6 @@ pub record IsFirstOnDiagonal (n : ℕ) (cost : ℕ → ℕ → ℤ) (i : ℕ) : 
 abbrev pub HasListedWeights : Fields → Type 0
 HasListedWeights f = (f.weight_kind ≡ Some Explicit) × IsSome f.weights
 
-abbrev pub file_nodes : Fields → ℕ
-file_nodes f = unwrap_or f.dimension 0
-
 -- the same fields but for these weights, in this layout
 abbrev pub with_weights : Fields → Layout → List ℤ → Fields
 with_weights f to weights = record f { weight_format = Some (Listed to); weights = Some weights }
@@ -58,15 +56,15 @@ pub record CanGo (f : Fields) (to : Layout) : Type 0 where
 -- Only the format and the weights are others, and every cost is as before, those from a node to itself too.
 pub record IsRelaid (old : Fields) (to : Layout) (new : Fields) : Type 0 where
   pub can_go : CanGo old to
-  pub fields : new ≡ with_weights old to (costs_in to (file_nodes old) (cost old))
+  pub fields : new ≡ with_weights old to (costs_in to (nodes_of old) (cost old))
   pub costs : (i j : ℕ) → cost new i j ≡ cost old i j
 
 -- Why it isn't done: the first of these that holds. Of memory there can't be a want where the layout is that of the file.
 abbrev pub IsRefused : Fields → Layout → RelayoutFault → Type 0
 IsRefused f to NotExplicit = ¬ HasListedWeights f
-IsRefused f to (NotSymmetric i j) = HasListedWeights f × (to ≢ FullMatrix) × IsFirstAsymmetric (file_nodes f) (cost f) (i, j)
+IsRefused f to (NotSymmetric i j) = HasListedWeights f × (to ≢ FullMatrix) × IsFirstAsymmetric (nodes_of f) (cost f) (i, j)
 IsRefused f to (DiagonalLost i) = HasListedWeights f × HoldsPairs to (cost f)
-    × (lists_diagonal to ≡ false) × IsFirstOnDiagonal (file_nodes f) (cost f) i
+    × (lists_diagonal to ≡ false) × IsFirstOnDiagonal (nodes_of f) (cost f) i
 IsRefused f to OutOfMemory = CanGo f to × (f.weight_format ≢ Some (Listed to))
 
 -- the file in the new layout, or why not and the same file

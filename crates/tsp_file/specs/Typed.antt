@@ -1,12 +1,12 @@
 -- What files of some TYPEs hold, with no field that may be missing, and the ranges of what they hold.
-use Rattle.std.specs.Prelude.{◌≡◌, ℕ, ◌≤◌, List, [], length, Some, unwrap_or, ℤ, pos}
+use Rattle.std.specs.Prelude.{◌≡◌, ℕ, ◌≤◌, List, length, Some, ℤ, pos}
 use Rattle.std.specs.List.{All, sum_by}
 use Rattle.tsp_format.specs.declared.kinds.Kind.TheVariants as kinds
 use Rattle.tsp_format.specs.Limits.{most_capacity, most_scale, most_potential, most_multipliers, most_combs, most_comb_nodes}
 use Rattle.tsp_format.specs.Steps.{Step}
 use Rattle.tsp_draft.specs.Fields.{Fields}
 use Rattle.tsp_draft.specs.Valid.{IsFromTo, IsWithin, IsByNode, IsDemand, IsTripleOf, AreDepots, AreSets, AreTreeSteps}
-use Rattle.tsp_file.specs.Relayout.{file_nodes}
+use Rattle.tsp_file.specs.Meant.{scale_in, multipliers_in, combs_in, nodes_of}
 
 -- a routing problem, beside its costs
 pub record HoldsRouting (f : Fields) (capacity : ℤ) (demands : List ℤ) (depots : List ℕ) : Type 0 where
@@ -21,14 +21,14 @@ pub record HoldsRouting (f : Fields) (capacity : ℤ) (demands : List ℤ) (depo
 -- multipliers, each of two different nodes of the file
 pub record AreMultipliersIn (f : Fields) (multipliers : List (ℕ × ℕ × ℤ)) : Type 0 where
   pub few : length multipliers ≤ most_multipliers
-  pub each : All (IsTripleOf (file_nodes f)) multipliers
+  pub each : All (IsTripleOf (nodes_of f)) multipliers
 
 -- potentials of nodes, with multipliers, which are none where no section lists them; 1 is meant where SCALE is missing
 pub record HoldsNodeNumbers (f : Fields) (scale : ℤ) (numbers : List ℤ) (multipliers : List (ℕ × ℕ × ℤ)) : Type 0 where
   pub kind : f.kind ≡ Some kinds.Potentials
-  pub scale_is : scale ≡ unwrap_or f.scale (pos 1)
+  pub scale_is : scale ≡ scale_in f
   pub numbers_are : f.node_potentials ≡ Some numbers
-  pub multipliers_are : multipliers ≡ unwrap_or f.fixed_potentials []
+  pub multipliers_are : multipliers ≡ multipliers_in f
   pub scaled : IsFromTo (pos 1) (pos most_scale) scale
   pub each_number : IsByNode (IsWithin most_potential) f numbers
   pub each_multiplier : AreMultipliersIn f multipliers
@@ -36,7 +36,7 @@ pub record HoldsNodeNumbers (f : Fields) (scale : ℤ) (numbers : List ℤ) (mul
 -- potentials of rows and of columns
 pub record HoldsDuals (f : Fields) (scale : ℤ) (rows columns : List ℤ) : Type 0 where
   pub kind : f.kind ≡ Some kinds.Potentials
-  pub scale_is : scale ≡ unwrap_or f.scale (pos 1)
+  pub scale_is : scale ≡ scale_in f
   pub rows_are : f.row_potentials ≡ Some rows
   pub columns_are : f.column_potentials ≡ Some columns
   pub scaled : IsFromTo (pos 1) (pos most_scale) scale
@@ -52,9 +52,9 @@ pub record AreSomeSets (n : ℕ) (combs : List (List (List ℕ))) : Type 0 where
 -- a tree of cases, with combs, which are none where no section lists them
 pub record HoldsCases (f : Fields) (scale : ℤ) (combs : List (List (List ℕ))) (steps : List Step) : Type 0 where
   pub kind : f.kind ≡ Some kinds.Branches
-  pub scale_is : scale ≡ unwrap_or f.scale (pos 1)
-  pub combs_are : combs ≡ unwrap_or f.combs []
+  pub scale_is : scale ≡ scale_in f
+  pub combs_are : combs ≡ combs_in f
   pub steps_are : f.branches ≡ Some steps
   pub scaled : IsFromTo (pos 1) (pos most_scale) scale
-  pub each_comb : AreSomeSets (file_nodes f) combs
+  pub each_comb : AreSomeSets (nodes_of f) combs
   pub each_step : AreTreeSteps f steps

@@ -24,7 +24,8 @@ impl Drop for File {
 
 impl Model for File {
     ghost use Rattle.std.specs.Prelude.{◌≡◌, None};
-    ghost use Rattle.tsp_draft.specs.Fields.{Fields, fields_of};
+    ghost use Rattle.tsp_draft.specs.Fields.{Fields};
+    ghost use Rattle.tsp_draft.specs.states.Drafts.{fields_of};
     ghost use Rattle.tsp_draft.specs.Rules.{fault_of};
 
     ghost Value = { Fields };
@@ -40,15 +41,15 @@ impl File {
     ghost use Rattle.std.specs.Option.{option_map};
     ghost use Rattle.tsp_format.specs.Cells.{cells};
     ghost use Rattle.tsp_format.specs.Limits.{most_weight};
-    ghost use Rattle.tsp_draft.specs.Coords.{points_of};
+    ghost use Rattle.tsp_draft.specs.states.Drafts.{points_of, fields_of, combs_of};
     ghost use Rattle.tsp_draft.specs.Valid.{IsWithin};
     ghost use Rattle.tsp_format.specs.declared.layout.Layout.TheVariants.{FullMatrix};
     ghost use Rattle.tsp_format.specs.declared.kinds.WeightFormat.TheVariants.{Listed};
     ghost use Rattle.tsp_file.specs.Cost.{cost};
-    ghost use Rattle.tsp_file.specs.Way.{HasHalf};
-    ghost use Rattle.tsp_file.specs.Relayout.{CanGo, file_nodes, with_weights, costs_in};
-    ghost use Rattle.tsp_format.specs.Steps.{steps_of};
-    ghost use Rattle.tsp_draft.specs.Fields.{fields_of, combs_of};
+    ghost use Rattle.tsp_file.specs.states.Way.{HasHalf};
+    ghost use Rattle.tsp_file.specs.Relayout.{CanGo, with_weights, costs_in};
+    ghost use Rattle.tsp_file.specs.Meant.{nodes_of};
+    ghost use Rattle.tsp_format.specs.states.TreeSteps.{steps_of};
     ghost use Rattle.tsp_draft.specs.Rules.{fault_of};
 
     /// The fields of this file, as a draft that has no fault.
@@ -86,7 +87,7 @@ impl File {
     /// As many weights as the layout has cells, and a file that has weights.
     pub(crate) fn with_weights(self, layout: Layout, weights: Vec<i64>) -> File
         requires stand { IsSome self.weights }
-        requires count { length weights.items ≡ length (cells layout (file_nodes self)) }
+        requires count { length weights.items ≡ length (cells layout (nodes_of self)) }
         requires sizes { All (IsWithin most_weight) weights.items }
         ensures { result ≡ with_weights self layout weights.items }
     {
@@ -102,7 +103,7 @@ impl File {
     pub(crate) fn with_half(self, to: Layout) -> File
         requires full { self.weight_format ≡ Some (Listed FullMatrix) }
         requires can_go { CanGo self to }
-        ensures { result ≡ with_weights self to (costs_in to (file_nodes self) (cost self)) }
+        ensures { result ≡ with_weights self to (costs_in to (nodes_of self) (cost self)) }
     {
         let File { mut draft } = self;
         let Some(nodes) = draft.dimension else {
@@ -123,7 +124,7 @@ impl File {
         requires half { HasHalf self }
         requires can_go { CanGo self FullMatrix }
         ensures { MatchResult result
-            (λ file. file ≡ with_weights self FullMatrix (costs_in FullMatrix (file_nodes self) (cost self)))
+            (λ file. file ≡ with_weights self FullMatrix (costs_in FullMatrix (nodes_of self) (cost self)))
             (λ back. back ≡ self) }
     {
         let File { mut draft } = self;

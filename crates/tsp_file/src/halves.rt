@@ -6,7 +6,7 @@ ghost use Rattle.tsp_format.specs.Cells.{IsNode, cells, line_len_of};
 ghost use Rattle.tsp_format.specs.Limits.{most_matrix_nodes};
 ghost use Rattle.tsp_file.specs.Cost.{listed_cost};
 ghost use Rattle.tsp_file.specs.Relayout.{HoldsPairs, costs_in};
-ghost use Rattle.tsp_file.specs.Halves.{line_start_of};
+ghost use Rattle.tsp_file.specs.states.Halves.{line_start_of};
 
 use tsp_format::Layout;
 

@@ -2,7 +2,7 @@
 
 ghost use Rattle.std.specs.Prelude.{MatchResult};
 ghost use Rattle.tsp_file.specs.Relayout.{CanGo, IsRefused, IsRelayout};
-ghost use Rattle.tsp_file.specs.Way.{LeadsTo};
+ghost use Rattle.tsp_file.specs.states.Way.{LeadsTo};
 
 use crate::fault::RelayoutFault;
 use crate::file::File;

@@ -54,11 +54,12 @@ impl File {
     ghost use Rattle.tsp_format.specs.declared.kinds.Kind.TheVariants as kinds;
     ghost use Rattle.tsp_format.specs.declared.kinds.WeightKind.TheVariants.{Explicit};
     ghost use Rattle.tsp_format.specs.Limits.{most_scale};
-    ghost use Rattle.tsp_format.specs.Steps.{steps_of};
-    ghost use Rattle.tsp_draft.specs.Fields.{combs_of};
+    ghost use Rattle.tsp_format.specs.states.TreeSteps.{steps_of};
+    ghost use Rattle.tsp_draft.specs.states.Drafts.{combs_of};
     ghost use Rattle.tsp_draft.specs.Valid.{IsFromTo, AreTours};
     ghost use Rattle.tsp_file.specs.Listed.{ListsWeights};
-    ghost use Rattle.tsp_file.specs.Relayout.{HasListedWeights, file_nodes};
+    ghost use Rattle.tsp_file.specs.Relayout.{HasListedWeights};
+    ghost use Rattle.tsp_file.specs.Meant.{nodes_of};
     ghost use Rattle.tsp_file.specs.Typed.{HoldsRouting, HoldsNodeNumbers, HoldsDuals, HoldsCases, AreMultipliersIn, AreSomeSets};
 
     /// The weights of this file with their layout; none where its weights aren't listed.
@@ -203,7 +204,7 @@ impl File {
     /// The combs, none where no section lists them.
     fn combs_or_none(&self) -> &[Vec<Vec<u32>>]
         ensures value { combs_of result.now ≡ unwrap_or self.now.combs [] }
-        ensures are { AreSomeSets (file_nodes self.now) (combs_of result.now) }
+        ensures are { AreSomeSets (nodes_of self.now) (combs_of result.now) }
     {
         let _valid = self.fields();
         valid_fields_are_in_range();

@@ -7,7 +7,7 @@ ghost use Rattle.tsp_format.specs.Symmetry.{IsSymmetric};
 ghost use Rattle.tsp_format.specs.Limits.{most_matrix_nodes};
 ghost use Rattle.tsp_file.specs.Cost.{listed_cost};
 ghost use Rattle.tsp_file.specs.Relayout.{costs_in};
-ghost use Rattle.tsp_file.specs.Whole.{goes_above, is_on_side, HasCost, HasLines, HasSide, Fills};
+ghost use Rattle.tsp_file.specs.states.Whole.{goes_above, is_on_side, HasCost, HasLines, HasSide, Fills};
 
 use crate::halves::line_start;
 use std::alloc::AllocError;

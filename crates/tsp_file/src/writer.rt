@@ -2,9 +2,10 @@
 
 ghost use Rattle.std.specs.Prelude.{◌≡◌};
 ghost use Rattle.std.specs.List.{flat_map};
-ghost use Rattle.tsp_draft.specs.Fields.{fields_of};
-ghost use Rattle.tsp_stream.specs.Sink.{sink_of, Writes};
-ghost use Rattle.tsp_stream.specs.Way.{Puts};
+ghost use Rattle.tsp_draft.specs.states.Drafts.{fields_of};
+ghost use Rattle.tsp_stream.specs.states.Watched.{sink_of};
+ghost use Rattle.tsp_stream.specs.Sink.{Writes};
+ghost use Rattle.tsp_stream.specs.states.Way.{Puts};
 ghost use Rattle.tsp_file.specs.Text.{text_of, text_of_field, text_of_section, text_of_value};
 
 mod keywords;

@@ -1,3 +1,4 @@
+pub mod states
 pub mod Bytes
 pub mod Cells
 pub mod Symmetry

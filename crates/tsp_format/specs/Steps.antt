@@ -1,21 +1,12 @@
 -- The steps of a tree of cases, as lists. Trees of cases are this project's own: a branch divides the first open case by a pair
 -- of nodes, and a leaf closes it by numbers.
-use Rattle.std.specs.Prelude.{ℕ, zero, suc, ◌+◌, Bool, true, false, List, [], ◌∷◌, length, map, ℤ}
-use Rattle.tsp_format.specs.declared.steps.TreeStep.{TreeStep}
-use Rattle.tsp_format.specs.declared.steps.TreeStep.TheVariants as listed
+use Rattle.std.specs.Prelude.{ℕ, zero, suc, ◌+◌, Bool, true, false, List, [], ◌∷◌, length, ℤ}
 
 pub data Step : Type 0 where
   -- a pair of nodes
   Branch : (first second : ℕ) → Step
   -- each number that changes since the leaf before: its index, and its difference
   Leaf : (changes : List (ℕ × ℤ)) → Step
-
-abbrev pub step_of : TreeStep → Step
-step_of (listed.Branch first second) = Branch first second
-step_of (listed.Leaf changes) = Leaf changes.items
-
-abbrev pub steps_of : List TreeStep → List Step
-steps_of steps = map step_of steps
 
 -- whether steps are this number of whole trees, one after the other: a leaf is a tree, and so is a branch with the two trees
 -- after it

@@ -1,7 +1,7 @@
 pub use Rattle.tsp_read.specs.Reads
 pub use Rattle.tsp_stream.specs.Sink
 pub use Rattle.tsp_stream.specs.Turn
-pub use Rattle.tsp_stream.specs.Watched
+pub use Rattle.tsp_stream.specs.states.Watched
 pub use Rattle.tsp_format.specs.Layout
 pub mod BoundRun
 pub mod ConvertRun

@@ -13,7 +13,7 @@ use Rattle.tsp_reason.specs.declared.verdict.Verdict.TheVariants.{Tour, Routes}
 use Rattle.tsp_verdict.specs.Certified.{kind_of, IsBoundOf, BoundsTours}
 use Rattle.tsp_verdict.specs.Judged.{IsAsClaimed}
 use Rattle.tsp_verdict.specs.Plan.{IsPlanOf, plan_length, depot_of}
-use Rattle.tsp_verdict.specs.Solution.{tours_of}
+use Rattle.tsp_file.specs.Meant.{tours_of}
 use Rattle.tsp_judge.specs.declared.fault.RunFault.{RunFault}
 use Rattle.tsp_judge.specs.declared.judging.Judged.{Judged}
 use Rattle.tsp_report.specs.Report.{report_of}

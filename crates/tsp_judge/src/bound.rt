@@ -1,7 +1,7 @@
 //! A bound on the tours of an instance, without a solution, from the bytes read to the bytes written.
 
-ghost use Rattle.tsp_stream.specs.Sink.{sink_of};
-ghost use Rattle.tsp_stream.specs.Turn.{Turn, turn_of, TakesAtMost};
+ghost use Rattle.tsp_stream.specs.states.Watched.{sink_of, turn_of};
+ghost use Rattle.tsp_stream.specs.Turn.{Turn, TakesAtMost};
 ghost use Rattle.tsp_read.specs.Reads.{IsFile, most_taken};
 ghost use Rattle.tsp_judge.specs.BoundRun.{BoundsFiles, IsBoundRun, IsBoundRunOf};
 

@@ -1,8 +1,8 @@
 //! The checks of an instance and a solution: without a certificate, with potentials, and with a tree of
 //! cases.
 
-ghost use Rattle.tsp_stream.specs.Sink.{sink_of};
-ghost use Rattle.tsp_stream.specs.Turn.{turn_of, TakesAtMost};
+ghost use Rattle.tsp_stream.specs.states.Watched.{sink_of, turn_of};
+ghost use Rattle.tsp_stream.specs.Turn.{TakesAtMost};
 ghost use Rattle.tsp_read.specs.Reads.{most_taken};
 ghost use Rattle.tsp_reason.specs.declared.certificate.Certificate.TheVariants as certificates;
 ghost use Rattle.tsp_judge.specs.Yes.{IsCheck, IsCheckBy};

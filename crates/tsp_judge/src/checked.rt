@@ -1,8 +1,8 @@
 //! A check, from the bytes read to the bytes written: the files are read, then judged.
 
 ghost use Rattle.std.specs.Prelude.{◌≡◌, None};
-ghost use Rattle.tsp_stream.specs.Sink.{sink_of};
-ghost use Rattle.tsp_stream.specs.Turn.{Turn, turn_of, IsUnread, TakesAtMost};
+ghost use Rattle.tsp_stream.specs.states.Watched.{sink_of, turn_of};
+ghost use Rattle.tsp_stream.specs.Turn.{Turn, IsUnread, TakesAtMost};
 ghost use Rattle.tsp_read.specs.Reads.{IsFile, most_taken};
 ghost use Rattle.tsp_judge.specs.Run.{Given, given_by, IsFileIn, ReadsGiven, IsRun};
 ghost use Rattle.tsp_judge.specs.Yes.{IsRunOf};

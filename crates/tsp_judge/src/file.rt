@@ -1,6 +1,7 @@
 //! Reading a file of a run.
 
-ghost use Rattle.tsp_stream.specs.Turn.{turn_of, TakesAtMost};
+ghost use Rattle.tsp_stream.specs.states.Watched.{turn_of};
+ghost use Rattle.tsp_stream.specs.Turn.{TakesAtMost};
 ghost use Rattle.tsp_read.specs.Reads.{most_taken};
 ghost use Rattle.tsp_judge.specs.Run.{ReadsFile};
 

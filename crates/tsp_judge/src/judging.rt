@@ -1,7 +1,7 @@
 //! The files of a run, and the verdict on them.
 
 ghost use Rattle.std.specs.Prelude.{◌≡◌, option_map};
-ghost use Rattle.tsp_stream.specs.Sink.{sink_of};
+ghost use Rattle.tsp_stream.specs.states.Watched.{sink_of};
 ghost use Rattle.tsp_verdict.specs.Judged.{is_judged};
 ghost use Rattle.tsp_judge.specs.Run.{is_yes, told, JudgesFiles};
 

@@ -1,7 +1,7 @@
 //! Showing a file, from the bytes read to the bytes written.
 
-ghost use Rattle.tsp_stream.specs.Sink.{sink_of};
-ghost use Rattle.tsp_stream.specs.Turn.{turn_of, TakesAtMost};
+ghost use Rattle.tsp_stream.specs.states.Watched.{sink_of, turn_of};
+ghost use Rattle.tsp_stream.specs.Turn.{TakesAtMost};
 ghost use Rattle.tsp_read.specs.Reads.{most_taken};
 ghost use Rattle.tsp_judge.specs.ShowRun.{IsShowRun};
 

@@ -5,8 +5,8 @@ use Rattle.std.proofs.lemmas.Int.{ints}
 use Rattle.tsp_number.specs.declared.scan.Written.{Written}
 use Rattle.tsp_distance.specs.Decimal.{unit, most_count}
 use Rattle.tsp_number.specs.NumberWord.{Numeral, IsNumberWord, StandsFor, IsShifted, with_sign, mantissa, digits_of, places}
-use Rattle.tsp_number.specs.Scan.{numeral_in, saturated}
-use Rattle.tsp_number.specs.Written.{KeepsNumeral, HoldsWord, IsShiftedSize, ShiftsTo}
+use Rattle.tsp_number.specs.Scan.{numeral_in}
+use Rattle.tsp_number.specs.states.Written.{saturated, KeepsNumeral, HoldsWord, IsShiftedSize, ShiftsTo}
 use Rattle.tsp_number.proofs.Grammar.{spells_in, found}
 use Rattle.tsp_number.proofs.Scaling.{pow_above_zero}
 

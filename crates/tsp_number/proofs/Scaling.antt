@@ -12,8 +12,8 @@ use Rattle.std.proofs.lemmas.Nat.{div-add-mod', same_from_place}
 use Rattle.std.specs.Char.{digit_value, is_ascii_digit}
 use Rattle.std.specs.List.{list_all}
 use Rattle.std.specs.Str.Parse.{AllDigits, digits_value, digits_value_after}
-use Rattle.tsp_number.specs.Scan.{front_digits, saturated, clamped}
-use Rattle.tsp_number.specs.Written.{DropsZeros, ShiftsTo, KeepsNumeral}
+use Rattle.tsp_number.specs.Scan.{front_digits}
+use Rattle.tsp_number.specs.states.Written.{saturated, clamped, DropsZeros, ShiftsTo, KeepsNumeral}
 use Rattle.tsp_number.specs.NumberWord.{Numeral, digits_of}
 use Rattle.tsp_number.specs.declared.scan.Written.{Written}
 use Rattle.tsp_number.proofs.Scanning.{digits_value_after-append}

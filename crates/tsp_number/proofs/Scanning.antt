@@ -6,9 +6,9 @@ use Rattle.std.specs.Option.{option_map}
 use Rattle.std.specs.Char.{digit_value, is_ascii_digit}
 use Rattle.std.specs.Str.Parse.{AllDigits, digits_value, digits_value_after}
 use Rattle.tsp_number.specs.declared.scan.Written.{Written}
-use Rattle.tsp_number.specs.Scan.{has_minus, after_sign, after_point, past_point, front_digits, after_digits, whole_in, fraction_in, past_mantissa, exponent_in, numeral_with, saturated, clamped}
+use Rattle.tsp_number.specs.Scan.{has_minus, after_sign, after_point, past_point, front_digits, after_digits, whole_in, fraction_in, past_mantissa, exponent_in, numeral_with}
+use Rattle.tsp_number.specs.states.Written.{saturated, clamped, HoldsWord}
 use Rattle.tsp_number.specs.NumberWord.{plus, minus, point}
-use Rattle.tsp_number.specs.Written.{HoldsWord}
 
 -- the first `end` bytes are digits, and what is left gives the rest of the digits and of their value
 pub record HasRead (bytes : List ℕ) (before end value : ℕ) : Type 0 where

@@ -12,7 +12,7 @@ use Rattle.tsp_distance.specs.Decimal.{unit, most_count}
 use Rattle.tsp_number.specs.NumberWord.{Numeral, IsNumberWord, StandsFor, IsShort, with_sign, digits_of, places, ReadsDecimal, ReadsWhole}
 use Rattle.tsp_number.specs.Reading.{shifted_size, number_in, decimal_within, decimal_from, decimal_of, whole_within, whole_from, whole_of}
 use Rattle.tsp_number.specs.Scan.{numeral_in}
-use Rattle.tsp_number.specs.Written.{IsShiftedSize}
+use Rattle.tsp_number.specs.states.Written.{IsShiftedSize}
 use Rattle.tsp_number.proofs.Grammar.{spells_in, found}
 use Rattle.tsp_number.proofs.Reading.{bad_number, stands_by, size_by, signed-mul, divided, unit_up, unit_down, unit_places}
 use Rattle.tsp_number.proofs.Scaling.{pow_above_zero}

@@ -1,5 +1,5 @@
 -- How the parts of a number word are found from the left. That these are the grammar's parts is proved.
-use Rattle.std.specs.Prelude.{ℕ, ◌+◌, ◌-◌, ◌^◌, Bool, false, List, [], ◌∷◌, length, ◌==◌, ◌&&◌, ◌||◌, nat_lt, min, Option, Some, None, if◌then◌else◌, ℤ, pos, negsuc}
+use Rattle.std.specs.Prelude.{ℕ, ◌+◌, Bool, false, List, [], ◌∷◌, length, ◌==◌, ◌&&◌, ◌||◌, nat_lt, Option, Some, None, if◌then◌else◌, ℤ, pos}
 use Rattle.std.specs.Option.{option_map}
 use Rattle.std.specs.Char.{is_ascii_digit}
 use Rattle.std.specs.Str.Parse.{digits_value}
@@ -63,12 +63,3 @@ numeral_in word =
     if nat_lt 0 (length (whole_in word) + length (fraction_in word))
     then option_map (numeral_with word) (exponent_in (past_mantissa word))
     else None
-
--- the number, or the largest of 64 bits where that is less
-abbrev pub saturated : ℕ → ℕ
-saturated n = min n (2 ^ 64 - 1)
-
--- an exponent, or the one of size 10,000 with its sign where that is smaller in size
-abbrev pub clamped : ℤ → ℤ
-clamped (pos n) = pos (min n 10000)
-clamped (negsuc n) = negsuc (min n 9999)

@@ -11,7 +11,8 @@ use Rattle.tsp_format.specs.declared.keyword.Keyword.TheVariants.{Known}
 use Rattle.tsp_format.specs.Limits.{most_nodes, most_line_bytes, most_matrix_nodes}
 use Rattle.tsp_format.specs.Steps.{Step}
 use Rattle.tsp_format.specs.Words.{fields_in_order}
-use Rattle.tsp_draft.specs.Fields.{Fields, fields_of, stands_in, with_numbers, with_points, spatial}
+use Rattle.tsp_draft.specs.Fields.{Fields, stands_in, with_numbers, with_points, spatial}
+use Rattle.tsp_draft.specs.states.Drafts.{fields_of}
 use Rattle.tsp_draft.specs.Validity.{if_there, is_node}
 use Rattle.tsp_text.specs.declared.fault.LineFault.{LineFault}
 use Rattle.tsp_text.specs.declared.fault.LineFault.TheVariants as row

@@ -1,8 +1,7 @@
 //! A reader, read in pieces.
 
 ghost use Rattle.std.specs.Prelude.{◌≡◌, [], false};
-ghost use Rattle.tsp_stream.specs.Turn.{turn_of};
-ghost use Rattle.tsp_stream.specs.Watched.{has_failed};
+ghost use Rattle.tsp_stream.specs.states.Watched.{turn_of, has_failed};
 ghost use Rattle.tsp_read.specs.Feed.{HasTaken};
 ghost use Rattle.tsp_read.specs.Timely.{FeedsAll};
 

@@ -1,5 +1,5 @@
 -- The report of a check, line by line. Each line ends with byte 10, and one blank is between words.
-use Rattle.std.specs.Prelude.{ℕ, List, ◌++◌, map, codes, decimal, cond, ℤ, pos, ◌-ℤ◌, Option, None, Some, Result, Ok, Err, unwrap_or, [], IfSome, unsigned_abs, ◌≤◌, ◌^◌}
+use Rattle.std.specs.Prelude.{ℕ, List, ◌++◌, map, codes, decimal, cond, ℤ, pos, ◌-ℤ◌, Option, None, Some, Result, Ok, Err, [], IfSome, unsigned_abs, ◌≤◌, ◌^◌}
 use Rattle.std.specs.List.{concat}
 use Rattle.std.specs.Option.{option_map_or}
 use Rattle.std.specs.Ordering.{int_eq}
@@ -7,6 +7,7 @@ use Rattle.std.specs.Fmt.{signed_decimal}
 use Rattle.tsp_format.specs.declared.kinds.Kind.{Kind}
 use Rattle.tsp_format.specs.Words.{kind_word}
 use Rattle.tsp_draft.specs.Fields.{Fields}
+use Rattle.tsp_file.specs.Meant.{nodes_of}
 use Rattle.tsp_reason.specs.declared.verdict.Reason.{Reason}
 use Rattle.tsp_reason.specs.declared.verdict.Reason.TheVariants.{NotASolution, TooFewNodes, NotSymmetric, Dimension, TourCount, TourLength, NodeOutOfRange, RepeatedNode, FixedEdgeUnused, NotPotentials, PotentialsDimension, PotentialsKind, MultiplierNotFixed, MultiplierRepeated, DualInfeasible, DepotCount, DepotDemand, FixedEdgesInRoutes, DepotInRoute, Unserved, Overload, NotBranches, BranchesDimension, BadComb, BranchTwice, BadLeaf, LengthClaimed}
 use Rattle.tsp_reason.specs.declared.verdict.Verdict.{Verdict}
@@ -25,7 +26,7 @@ abbrev pub nodes_line : ℕ → List ℕ
 nodes_line n = codes "nodes " ++ decimal n ++ codes "\n"
 
 abbrev pub instance_lines : Fields → List ℕ
-instance_lines f = type_line f.kind ++ nodes_line (unwrap_or f.dimension 0) ++ not_judged f.others
+instance_lines f = type_line f.kind ++ nodes_line (nodes_of f) ++ not_judged f.others
 
 -- ---- the verdict
 

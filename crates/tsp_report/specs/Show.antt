@@ -1,5 +1,5 @@
 -- The lines of `show` for a file. Each line ends with byte 10, and one blank is between words.
-use Rattle.std.specs.Prelude.{ℕ, List, [], ◌∷◌, ◌++◌, length, codes, decimal, cond, ℤ, pos, Option, None, Some, unwrap_or}
+use Rattle.std.specs.Prelude.{ℕ, List, [], ◌∷◌, ◌++◌, length, codes, decimal, cond, ℤ, Option, None, Some}
 use Rattle.std.specs.List.{flat_map, enumerate_from}
 use Rattle.std.specs.Option.{option_map_or}
 use Rattle.std.specs.Fmt.{signed_decimal}
@@ -12,6 +12,7 @@ use Rattle.tsp_format.specs.Cells.{nodes_to}
 use Rattle.tsp_format.specs.Steps.{Step, leaf_count}
 use Rattle.tsp_draft.specs.Fields.{Fields}
 use Rattle.tsp_draft.specs.Rules.{is_explicit}
+use Rattle.tsp_file.specs.Meant.{nodes_of, meant_scale, steps_in, tours_of}
 use Rattle.tsp_file.specs.Cost.{cost}
 use Rattle.tsp_theory.specs.Length.{length_of}
 use Rattle.tsp_report.specs.Report.{type_line, nodes_line, not_judged}
@@ -39,7 +40,7 @@ weights_line kind format = codes "weights " ++ option_map_or weight_kind_word ki
 
 -- the length of the list of all nodes in their order, 1, 2, .., n
 abbrev pub canonical_of : Fields → ℤ
-canonical_of f = length_of (cost f) (nodes_to (unwrap_or f.dimension 0))
+canonical_of f = length_of (cost f) (nodes_to (nodes_of f))
 
 abbrev pub canonical_line : ℤ → List ℕ
 canonical_line canonical = codes "canonical " ++ signed_decimal canonical ++ codes "\n"
@@ -64,7 +65,7 @@ tour_lines tours = codes "tours " ++ decimal (length tours) ++ codes "\n" ++ fla
 
 -- the scale, which is 1 where SCALE is missing
 abbrev pub scale_line : Option ℤ → List ℕ
-scale_line scale = codes "scale " ++ signed_decimal (unwrap_or scale (pos 1)) ++ codes "\n"
+scale_line scale = codes "scale " ++ signed_decimal (meant_scale scale) ++ codes "\n"
 
 -- how many combs there are, where a section lists them
 abbrev pub combs_line : Option (List (List (List ℕ))) → List ℕ
@@ -76,7 +77,7 @@ abbrev pub leaves_line : List Step → List ℕ
 leaves_line steps = codes "leaves " ++ decimal (leaf_count steps) ++ codes "\n"
 
 abbrev pub tree_lines : Fields → List ℕ
-tree_lines f = scale_line f.scale ++ (combs_line f.combs ++ leaves_line (unwrap_or f.branches []))
+tree_lines f = scale_line f.scale ++ (combs_line f.combs ++ leaves_line (steps_in f))
 
 -- ---- the whole
 
@@ -84,7 +85,7 @@ abbrev pub lines_by_type : Option Kind → Fields → List ℕ
 lines_by_type (Some Tsp) f = cost_lines f
 lines_by_type (Some Atsp) f = cost_lines f
 lines_by_type (Some Cvrp) f = cost_lines f
-lines_by_type (Some Tour) f = tour_lines (unwrap_or f.tours [])
+lines_by_type (Some Tour) f = tour_lines (tours_of f)
 lines_by_type (Some Potentials) f = scale_line f.scale
 lines_by_type (Some Branches) f = tree_lines f
 lines_by_type None f = []

@@ -1,7 +1,8 @@
 //! The text of a report on a bound without a solution, and its way to a writer.
 
-ghost use Rattle.tsp_stream.specs.Sink.{sink_of, Writes};
-ghost use Rattle.tsp_stream.specs.Way.{Puts};
+ghost use Rattle.tsp_stream.specs.states.Watched.{sink_of};
+ghost use Rattle.tsp_stream.specs.Sink.{Writes};
+ghost use Rattle.tsp_stream.specs.states.Way.{Puts};
 ghost use Rattle.tsp_report.specs.Report.{bound_report_of, bound_found_lines, bound_alone_lines};
 
 use crate::report::{put_instance, put_named, put_no};

@@ -1,7 +1,8 @@
 //! How many leaves a tree of cases has.
 
 ghost use Rattle.std.specs.Prelude.{◌≡◌};
-ghost use Rattle.tsp_format.specs.Steps.{leaf_count, steps_of};
+ghost use Rattle.tsp_format.specs.Steps.{leaf_count};
+ghost use Rattle.tsp_format.specs.states.TreeSteps.{steps_of};
 
 use tsp_format::TreeStep;
 

@@ -3,11 +3,12 @@
 ghost use Rattle.std.specs.Prelude.{◌≡◌, ◌++◌, [], map, false};
 ghost use Rattle.std.specs.List.{flat_map, enumerate_from};
 ghost use Rattle.std.specs.Option.{option_map, option_map_or};
-ghost use Rattle.tsp_format.specs.Steps.{steps_of};
-ghost use Rattle.tsp_draft.specs.Fields.{combs_of};
+ghost use Rattle.tsp_format.specs.states.TreeSteps.{steps_of};
+ghost use Rattle.tsp_draft.specs.states.Drafts.{combs_of};
 ghost use Rattle.tsp_draft.specs.Rules.{is_instance};
-ghost use Rattle.tsp_stream.specs.Sink.{sink_of, Writes};
-ghost use Rattle.tsp_stream.specs.Way.{Puts};
+ghost use Rattle.tsp_stream.specs.states.Watched.{sink_of};
+ghost use Rattle.tsp_stream.specs.Sink.{Writes};
+ghost use Rattle.tsp_stream.specs.states.Way.{Puts};
 ghost use Rattle.tsp_report.specs.Report.{nodes_line, not_judged};
 ghost use Rattle.tsp_report.specs.Show.{shown, head_lines, name_line, lines_by_type, cost_lines, weights_line, layout_part, canonical_line, fixed_line, tour_lines, tour_line, scale_line, combs_line, leaves_line, tree_lines};
 

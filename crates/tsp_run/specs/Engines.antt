@@ -1,7 +1,8 @@
 -- A task done on its files: what that does to their readers and to the writer, and what it comes to.
 use Rattle.std.specs.Prelude.{◌≡◌, ℕ, Bool, true, List, Option, None, Some, Result, Ok, Err, is_ok}
 use Rattle.tsp_judge.specs.declared.Watched.{Watched}
-use Rattle.tsp_judge.specs.Turn.{turn_of, TakesAtMost}
+use Rattle.tsp_judge.specs.Watched.{turn_of}
+use Rattle.tsp_judge.specs.Turn.{TakesAtMost}
 use Rattle.tsp_judge.specs.Sink.{Sink}
 use Rattle.tsp_judge.specs.Reads.{most_taken}
 use Rattle.tsp_judge.specs.declared.fault.RunFault.{RunFault}

@@ -1,7 +1,7 @@
 //! A task done, by the call of its verb.
 
 ghost use Rattle.std.specs.Prelude.{◌≡◌};
-ghost use Rattle.tsp_judge.specs.Sink.{sink_of};
+ghost use Rattle.tsp_judge.specs.Watched.{sink_of};
 ghost use Rattle.tsp_run.specs.Engines.{IsDone, is_accepted, counts, judges, bounds};
 
 use std::alloc::Global;

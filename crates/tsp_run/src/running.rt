@@ -3,7 +3,7 @@
 ghost use Rattle.std.specs.Prelude.{◌≡◌, IfOk, OnOk, drop, map};
 ghost use Rattle.std.specs.IoError.{error_kind};
 ghost use Rattle.std.specs.String.{string_bytes};
-ghost use Rattle.tsp_judge.specs.Sink.{sink_of};
+ghost use Rattle.tsp_judge.specs.Watched.{sink_of};
 ghost use Rattle.tsp_run.specs.Ending.{status_of_ending, Tells, TellsAll};
 ghost use Rattle.tsp_run.specs.Run.{AreFresh, IsFresh, Ends, EndsWith, HasNoWords, Runs, RunsJob};
 

@@ -1,6 +1,4 @@
+pub mod states
 pub mod FaultText
-pub mod Script
 pub mod Sink
 pub mod Turn
-pub mod Watched
-pub mod Way

@@ -3,8 +3,6 @@ use Rattle.std.specs.Prelude.{◌≡◌, ℕ, Bool, true, false, List, take, Opt
 use Rattle.std.specs.Io.KnownBytes.{Keeps, Appends}
 use Rattle.tsp_stream.specs.declared.output.WriteFault.{WriteFault}
 use Rattle.tsp_stream.specs.declared.output.WriteFault.TheVariants as write_faults
-use Rattle.tsp_stream.specs.declared.watched.Watched.{Watched}
-use Rattle.tsp_stream.specs.Watched.{watched, has_failed}
 
 -- What a writer holds before the call and after it, where it is known, and whether it had failed and has failed.
 pub record Sink : Type 0 where
@@ -12,15 +10,6 @@ pub record Sink : Type 0 where
   pub holds : Option (List ℕ)
   pub had_failed : Bool
   pub failed : Bool
-
--- the same of a watched writer
-abbrev pub sink_of : {W : Type 0} → (W → Option (List ℕ)) → Watched W → Watched W → Sink
-sink_of contents old new = record {
-  held = contents (watched old);
-  holds = contents (watched new);
-  had_failed = has_failed old;
-  failed = has_failed new;
-}
 
 -- nothing was written
 abbrev pub IsUnwritten : Sink → Type 0

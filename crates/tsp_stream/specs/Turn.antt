@@ -1,8 +1,6 @@
 -- What a call does to the reader that it is given.
 use Rattle.std.specs.Prelude.{◌≡◌, ℕ, ◌≤◌, Bool, true, false, List, length, Option, IfSome}
 use Rattle.std.specs.Io.KnownBytes.{Keeps, Consumes}
-use Rattle.tsp_stream.specs.declared.watched.Watched.{Watched}
-use Rattle.tsp_stream.specs.Watched.{watched, has_failed}
 
 -- A reader's turn: the bytes that it had left before the call and after it, where they are known, the bytes that it delivered,
 -- and whether it had failed before the call and has failed after it.
@@ -12,16 +10,6 @@ pub record Turn : Type 0 where
   pub given : List ℕ
   pub had_failed : Bool
   pub failed : Bool
-
--- the turn of a watched reader, by what it was before the call and is after it
-abbrev pub turn_of : {R : Type 0} → (R → Option (List ℕ)) → Watched R → Watched R → List ℕ → Turn
-turn_of remaining old new given = record {
-  known = remaining (watched old);
-  left = remaining (watched new);
-  given = given;
-  had_failed = has_failed old;
-  failed = has_failed new;
-}
 
 -- the reader delivered these bytes
 abbrev pub Gave : Turn → Type 0

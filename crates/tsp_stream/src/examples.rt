@@ -5,7 +5,7 @@ ghost use Rattle.std.specs.Prelude.{◌≡◌, ℕ, true, false, [], ◌∷◌, 
 ghost use Rattle.std.specs.declared.io.Error.{Error};
 ghost use Rattle.tsp_stream.specs.declared.output.WriteFault.TheVariants as faults;
 ghost use Rattle.tsp_stream.specs.FaultText.{write_fault_text};
-ghost use Rattle.tsp_stream.specs.Watched.{write_fails};
+ghost use Rattle.tsp_stream.specs.states.Watched.{write_fails};
 
 /// Which writes fail: those that answer an error, also of an empty text, and those that take no byte of
 /// a text that has some. A part that is taken is no failure, and neither is no byte of no text.

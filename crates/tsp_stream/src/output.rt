@@ -3,8 +3,8 @@
 ghost use Rattle.std.specs.Prelude.{◌≡◌, ◌≤◌, ◌<◌, List, Result, ℕ, true, false, length, take};
 ghost use Rattle.std.specs.Io.KnownBytes.{Appends};
 ghost use Rattle.std.specs.declared.io.Error.{Error};
-ghost use Rattle.tsp_stream.specs.Watched.{watched, has_failed, error_of, KeepsError};
-ghost use Rattle.tsp_stream.specs.Sink.{sink_of, HasWritten, HasStopped, Writes};
+ghost use Rattle.tsp_stream.specs.states.Watched.{watched, has_failed, error_of, KeepsError, sink_of};
+ghost use Rattle.tsp_stream.specs.Sink.{HasWritten, HasStopped, Writes};
 
 use crate::asked::Takes;
 use crate::watched::Watched;

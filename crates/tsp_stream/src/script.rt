@@ -3,8 +3,8 @@
 //! answer as it is.
 
 ghost use Rattle.std.specs.Prelude.{◌≡◌, is_err, ◌||◌};
-ghost use Rattle.tsp_stream.specs.Watched.{watched, has_failed};
-ghost use Rattle.tsp_stream.specs.Script.{answers_of, AnswersNext};
+ghost use Rattle.tsp_stream.specs.states.Watched.{watched, has_failed};
+ghost use Rattle.tsp_stream.specs.states.Script.{answers_of, AnswersNext};
 
 use crate::watched::Watched;
 use std::io;

@@ -4,7 +4,7 @@ ghost use Rattle.std.specs.Prelude.{◌≡◌, Bool, false, is_err, ◌||◌, No
 ghost use Rattle.std.specs.Option.{option_map};
 ghost use Rattle.std.specs.Io.{ReadsAtMost, WritesAtMost};
 ghost use Rattle.std.specs.Io.KnownBytes.{ReadConsumes, WriteAppends, Keeps};
-ghost use Rattle.tsp_stream.specs.Watched.{watched, has_failed, error_of, write_fails, Calls};
+ghost use Rattle.tsp_stream.specs.states.Watched.{watched, has_failed, error_of, write_fails, Calls};
 
 use crate::asked::{Gives, Takes};
 use std::io;

@@ -6,7 +6,7 @@ ghost use Rattle.std.specs.Fmt.{signed_decimal};
 ghost use Rattle.std.specs.Option.{option_map};
 ghost use Rattle.tsp_format.specs.Cells.{nodes_to, cells_of_line};
 ghost use Rattle.tsp_file.specs.Text.{weight_line, matrix_lines, line_lens, section_text, optional};
-ghost use Rattle.tsp_stream.specs.Way.{Puts};
+ghost use Rattle.tsp_stream.specs.states.Way.{Puts};
 
 use crate::writer::sections::put_opening;
 use std::io::Write;

@@ -6,9 +6,9 @@ ghost use Rattle.std.specs.Fmt.{decimal, signed_decimal};
 ghost use Rattle.std.specs.Option.{option_map};
 ghost use Rattle.tsp_number.specs.Spelling.{spelling};
 ghost use Rattle.tsp_format.specs.Words.{field_word};
-ghost use Rattle.tsp_draft.specs.Coords.{points_of};
+ghost use Rattle.tsp_draft.specs.states.Drafts.{points_of};
 ghost use Rattle.tsp_file.specs.Text.{line_end, number_line, section_text, lines_by_node, node_list, pair_list, triple_list, point_numbers, whole_number, optional};
-ghost use Rattle.tsp_stream.specs.Way.{Puts};
+ghost use Rattle.tsp_stream.specs.states.Way.{Puts};
 
 use std::io::Write;
 use tsp_distance::{Decimal, InSpace, Point};

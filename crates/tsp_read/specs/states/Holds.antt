@@ -3,7 +3,8 @@ use Rattle.std.specs.Prelude.{◌≡◌, Bool, false, not, ◌&&◌, List, [], �
 use Rattle.std.specs.List.{find}
 use Rattle.tsp_format.specs.declared.field.Field.{Field}
 use Rattle.tsp_format.specs.declared.field.Field.TheVariants.{NameKey, TypeKey, DimensionKey, CapacityKey, ScaleKey, EdgeWeightTypeKey, EdgeWeightFormatKey, NodeCoordTypeKey, DisplayDataTypeKey}
-use Rattle.tsp_draft.specs.Fields.{Fields, fields_of}
+use Rattle.tsp_draft.specs.Fields.{Fields}
+use Rattle.tsp_draft.specs.states.Drafts.{fields_of}
 use Rattle.tsp_section.specs.declared.fault.StepFault.{StepFault}
 use Rattle.tsp_section.specs.declared.fault.StepFault.TheVariants as steps
 use Rattle.tsp_read.specs.declared.state.reading.OpenSection.{OpenSection}

@@ -6,7 +6,7 @@ ghost use Rattle.tsp_text.specs.Items.{Item};
 ghost use Rattle.tsp_read.specs.states.Holds.{Holds};
 ghost use Rattle.tsp_text.specs.Cuts.{AreCut};
 ghost use Rattle.tsp_read.specs.Reads.{Completes};
-ghost use Rattle.tsp_draft.specs.Fields.{fields_of};
+ghost use Rattle.tsp_draft.specs.states.Drafts.{fields_of};
 ghost use Rattle.tsp_read.specs.states.Finishes.{FileOf};
 
 use crate::state::reading::Reading;

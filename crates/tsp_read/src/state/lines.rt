@@ -12,7 +12,8 @@ impl Reading {
     ghost use Rattle.std.specs.Prelude.{◌≡◌, ◌&&◌, not, is_some, Some, None, List};
     ghost use Rattle.tsp_format.specs.declared.field.ValueShape.TheVariants.{Number, Word};
     ghost use Rattle.tsp_format.specs.Shapes.{shape_of, value_shape_of};
-    ghost use Rattle.tsp_draft.specs.Fields.{fields_of, spatial};
+    ghost use Rattle.tsp_draft.specs.states.Drafts.{fields_of};
+    ghost use Rattle.tsp_draft.specs.Fields.{spatial};
     ghost use Rattle.tsp_text.specs.Lines.{first_word};
     ghost use Rattle.tsp_text.specs.Values.{says_space};
     ghost use Rattle.tsp_text.specs.Items.{Item};

@@ -2,7 +2,8 @@
 
 ghost use Rattle.std.specs.Prelude.{◌≡◌, Some};
 ghost use Rattle.tsp_format.specs.Shapes.{shape_of};
-ghost use Rattle.tsp_draft.specs.Fields.{fields_of, spatial};
+ghost use Rattle.tsp_draft.specs.states.Drafts.{fields_of};
+ghost use Rattle.tsp_draft.specs.Fields.{spatial};
 ghost use Rattle.tsp_section.specs.states.CutLine.{seen};
 ghost use Rattle.tsp_read.specs.states.Holds.{LineAnswers};
 

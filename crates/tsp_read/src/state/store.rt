@@ -1,7 +1,7 @@
 //! What a section has read goes into its field of the draft.
 
 ghost use Rattle.std.specs.Prelude.{◌≡◌, ℕ, Bool, List, IfOk, IfErr};
-ghost use Rattle.tsp_draft.specs.Fields.{fields_of};
+ghost use Rattle.tsp_draft.specs.states.Drafts.{fields_of};
 ghost use Rattle.tsp_section.specs.declared.fault.StepFault.TheVariants.{Memory};
 ghost use Rattle.tsp_text.specs.Sections.{place_in};
 ghost use Rattle.tsp_text.specs.Spells.{wants_more};

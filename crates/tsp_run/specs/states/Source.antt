@@ -4,7 +4,7 @@ use Rattle.std.specs.IoError.{error_kind, raw_os_error}
 use Rattle.std.specs.declared.io.Error.{Error}
 use denote.Ref.{MutBor}
 use denote.Param.Members.{Once}
-use Rattle.tsp_stream.specs.Watched.{Calls}
+use Rattle.tsp_stream.specs.states.Watched.{Calls}
 use Rattle.tsp_cli.specs.declared.task.Place.{Place}
 use Rattle.tsp_cli.specs.declared.task.Place.TheVariants as places
 use Rattle.tsp_run.specs.declared.source.Source.{Source}

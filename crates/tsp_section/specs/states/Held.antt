@@ -10,9 +10,8 @@ use Rattle.tsp_section.specs.declared.parts.tours.TourList.{TourList}
 use Rattle.tsp_section.specs.declared.parts.combs.CombList.{CombList}
 use Rattle.tsp_section.specs.declared.parts.tree.TreeList.{TreeList}
 use Rattle.tsp_format.specs.Limits.{most_combs}
-use Rattle.tsp_format.specs.Steps.{steps_of}
-use Rattle.tsp_draft.specs.Coords.{points_of}
-use Rattle.tsp_draft.specs.Fields.{combs_of}
+use Rattle.tsp_format.specs.states.TreeSteps.{steps_of}
+use Rattle.tsp_draft.specs.states.Drafts.{points_of, combs_of}
 use Rattle.tsp_text.specs.Combs.{CombsSoFar, combs_after}
 use Rattle.tsp_text.specs.Tree.{TreeSoFar, tree_after}
 use Rattle.tsp_section.specs.declared.part.Part.{Part}

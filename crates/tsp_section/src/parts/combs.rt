@@ -23,7 +23,7 @@ pub struct CombList {
 
 impl CombList {
     ghost use Rattle.tsp_section.specs.declared.fault.StepFault.TheVariants.{Memory};
-    ghost use Rattle.tsp_draft.specs.Fields.{combs_of};
+    ghost use Rattle.tsp_draft.specs.states.Drafts.{combs_of};
     ghost use Rattle.tsp_text.specs.Combs.{whole_combs, with_set, with_comb, with_end, has_begun_comb, place_of_comb};
     ghost use Rattle.tsp_text.specs.Rows.{is_past_combs};
     ghost use Rattle.tsp_text.specs.Spells.{wants_more};

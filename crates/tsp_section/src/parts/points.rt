@@ -2,7 +2,8 @@
 
 ghost use Rattle.std.specs.Prelude.{◌≡◌, ◌<◌, ◌≤◌, ◌^◌, None, Some, Ok, [], ℕ, List, length, ◌∷◌, ◌++◌, vec_len, IfOk, IfErr, Err, ◌≢◌, is_some, true, false, ◌-◌, pos, slice_index_or, replicate, Bool};
 ghost use Rattle.std.specs.Option.{ForSome};
-ghost use Rattle.tsp_draft.specs.Coords.{points_of, origin};
+ghost use Rattle.tsp_draft.specs.states.Drafts.{points_of};
+ghost use Rattle.tsp_draft.specs.Coords.{origin};
 ghost use Rattle.tsp_section.specs.states.Parts.{are_in_space};
 
 use crate::fault::StepFault;

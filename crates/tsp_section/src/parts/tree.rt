@@ -28,7 +28,7 @@ pub struct TreeList {
 
 impl TreeList {
     ghost use Rattle.tsp_section.specs.declared.fault.StepFault.TheVariants.{Memory};
-    ghost use Rattle.tsp_format.specs.Steps.{steps_of};
+    ghost use Rattle.tsp_format.specs.states.TreeSteps.{steps_of};
     ghost use Rattle.tsp_text.specs.Tree.{whole_steps, with_leaf, place_of_step};
     ghost use Rattle.tsp_text.specs.Spells.{wants_more};
     ghost use Rattle.tsp_section.specs.states.Parts.{Takes};

@@ -6,7 +6,8 @@ use Rattle.std.proofs.lemmas.List.Elements.{All-drop}
 use Rattle.tsp_format.specs.Cells.{IsNode}
 use Rattle.tsp_theory.specs.Length.{length_of}
 use Rattle.tsp_file.specs.Cost.{cost}
-use Rattle.tsp_c.specs.Numbers.{IsFilled, list_length, lists_in, instance_size}
+use Rattle.tsp_c.specs.Numbers.{IsFilled, list_length, lists_in}
+use Rattle.tsp_file.specs.Meant.{nodes_of}
 use Rattle.tsp_c.proofs.Lists.{end_found, end_missing, lists_none, next_list, nodes_before}
 use Rattle.tsp_c.proofs.lengths.put_lengths.Goals as goal
 
@@ -14,9 +15,9 @@ pub tour_length-requires-clause-range : goal.tour_length-requires-clause-range
 tour_length-requires-clause-range c =
     let rest = c.lists.rest.now in
     let found = end_found rest c.in-Some.end c.in-Some.ensures in
-    subst (λ (list : List ℕ). All (IsNode (instance_size c.args.instance.now)) list)
+    subst (λ (list : List ℕ). All (IsNode (nodes_of c.args.instance.now)) list)
     (sym (c.split_at.ensures.front ∙ ap (λ (k : ℕ). take k rest) found.0))
-    (nodes_before (instance_size c.args.instance.now) rest c.lists.invariant.range found.1)
+    (nodes_before (nodes_of c.args.instance.now) rest c.lists.invariant.range found.1)
 
 pub put-requires : goal.put-requires
 put-requires c =
@@ -47,7 +48,7 @@ lists-preserved c =
       left = next.1 ∙ ap lists_in (sym after);
       within = omega (arith, below);
       few = rw after (omega (arith, few, size));
-      range = rw after (All-drop (λ node. node ≤ instance_size c.args.instance.now) (end + 1) rest c.lists.invariant.range);
+      range = rw after (All-drop (λ node. node ≤ nodes_of c.args.instance.now) (end + 1) rest c.lists.invariant.range);
       filled = c.put.ensures (list_length nodes c.args.instance.now) c.args.out.now
           (to_z-of_z w64 c.tour_length.result fits ∙ number) c.lists.invariant.filled;
     }

@@ -1,6 +1,7 @@
 use Rattle.std.proofs.Common.{◌≡◌, ◌≤◌, length, drop}
 use Rattle.std.specs.List.{All}
-use Rattle.tsp_c.specs.Numbers.{IsFilled, list_length, lists_in, instance_size}
+use Rattle.tsp_c.specs.Numbers.{IsFilled, list_length, lists_in}
+use Rattle.tsp_file.specs.Meant.{nodes_of}
 use Rattle.tsp_c.proofs.lengths.put_lengths.Given as goal
 
 abbrev pub invariant-lists : goal.invariant-lists
@@ -8,7 +9,7 @@ invariant-lists l = record {
   left : drop l.place (lists_in l.nodes) ≡ lists_in l.rest;
   within : l.place ≤ length (lists_in l.nodes);
   few : length l.rest ≤ length l.nodes;
-  range : All (λ node. node ≤ instance_size l.instance) l.rest;
+  range : All (λ node. node ≤ nodes_of l.instance) l.rest;
   filled : IsFilled l.place (list_length l.nodes l.instance) l.fn.out l.out;
 }
 

@@ -1,7 +1,8 @@
 use Rattle.std.proofs.Common.{◌≡◌, ℕ, ◌+◌, ◌-◌, ◌/◌, ◌%◌, ◌∙◌, ap, arith, rules, FitsSigned, w64}
 use Rattle.std.specs.Prelude.{slice_index_or}
 use Rattle.std.proofs.lemmas.Int.{to_z-of_z}
-use Rattle.tsp_draft.specs.Coords.{points_of, origin}
+use Rattle.tsp_draft.specs.states.Drafts.{points_of}
+use Rattle.tsp_draft.specs.Coords.{origin}
 use Rattle.tsp_c.specs.Numbers.{point_number, coordinate}
 use Rattle.tsp_c.proofs.points.put_points.Goals as goal
 

@@ -1,7 +1,8 @@
 use Rattle.std.proofs.Common.{◌∙◌, ap, refl}
 use Rattle.std.specs.Prelude.{Some}
-use Rattle.tsp_stream.specs.Turn.{Turn, turn_of}
-use Rattle.tsp_stream.specs.Sink.{Sink, sink_of}
+use Rattle.tsp_stream.specs.Turn.{Turn}
+use Rattle.tsp_stream.specs.states.Watched.{turn_of, sink_of}
+use Rattle.tsp_stream.specs.Sink.{Sink}
 use Rattle.tsp_c.proofs.OnTexts.{shows}
 use Rattle.tsp_c.proofs.texts.shown.Goals as goal
 

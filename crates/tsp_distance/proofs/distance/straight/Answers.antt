@@ -1,7 +1,7 @@
 use Rattle.std.proofs.Common.{arith, ◌≡◌, ℕ, unsigned_abs, to_z, of_z, w64, subst, sym}
 use Rattle.std.proofs.lemmas.Int.{ints}
 use Rattle.tsp_distance.specs.Distances.{square_apart}
-use Rattle.tsp_distance.specs.Rounding.{IsLeastCover}
+use Rattle.tsp_distance.specs.states.Rounding.{IsLeastCover}
 use Rattle.tsp_distance.proofs.Roots.{apart_is, way_is, apart-most}
 use Rattle.tsp_distance.proofs.distance.straight.Goals as goal
 

@@ -1,5 +1,5 @@
 use Rattle.std.proofs.Common.{◌-◌, ◌<◌, ◌≤◌}
-use Rattle.tsp_distance.specs.Rounding.{Covers}
+use Rattle.tsp_distance.specs.states.Rounding.{Covers}
 use Rattle.tsp_distance.proofs.root.exact_root.Given as goal
 
 -- the least number that covers the square lies from `low` to `high`

@@ -1,5 +1,5 @@
 use Rattle.std.proofs.Common.{◌≡◌, drop}
-use Rattle.tsp_draft.specs.Fields.{fields_of}
+use Rattle.tsp_draft.specs.states.Drafts.{fields_of}
 use Rattle.tsp_draft.specs.Validity.{first_failing}
 use Rattle.tsp_draft.specs.Rules.{standing_of, is_there}
 use Rattle.tsp_draft.proofs.rules.first_missing.Given as goal

@@ -1,5 +1,5 @@
 use Rattle.std.proofs.Common.{◌≡◌, drop}
-use Rattle.tsp_draft.specs.Fields.{fields_of}
+use Rattle.tsp_draft.specs.states.Drafts.{fields_of}
 use Rattle.tsp_draft.specs.Validity.{fits, first_failing}
 use Rattle.tsp_draft.proofs.table.first_bad.Given as goal
 

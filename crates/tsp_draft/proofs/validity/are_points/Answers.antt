@@ -4,7 +4,7 @@ use Rattle.std.proofs.lemmas.List.Folds.{list_all-map}
 use Rattle.tsp_distance.specs.declared.decimal.PlanePoint.{PlanePoint}
 use Rattle.tsp_distance.specs.declared.decimal.Point.{Point}
 use Rattle.tsp_distance.specs.Distances.{on_plane}
-use Rattle.tsp_draft.specs.Coords.{points_of}
+use Rattle.tsp_draft.specs.states.Drafts.{points_of}
 use Rattle.tsp_draft.specs.Validity.{is_point}
 use Rattle.tsp_draft.proofs.validity.are_points.Goals as goal
 

@@ -1,7 +1,8 @@
 use Rattle.std.proofs.Common.{refl, sym, ◌∙◌}
 use Rattle.std.specs.Prelude.{nat_le, ◌&&◌}
 use Rattle.tsp_format.specs.Limits.{most_branches, most_changes}
-use Rattle.tsp_format.specs.Steps.{steps_of, are_whole, branch_count, change_count}
+use Rattle.tsp_format.specs.states.TreeSteps.{steps_of}
+use Rattle.tsp_format.specs.Steps.{are_whole, branch_count, change_count}
 use Rattle.tsp_draft.proofs.Mapped.{judged_steps}
 use Rattle.tsp_draft.proofs.validity.are_steps.Goals as goal
 use Rattle.tsp_draft.proofs.validity.are_steps.Goals.{then-is_each_step, else-is_each_step}

@@ -1,5 +1,6 @@
 use Rattle.std.proofs.Common.{◌≡◌, ◌+◌, ◌≤◌, drop}
-use Rattle.tsp_format.specs.Steps.{branch_count, steps_of}
+use Rattle.tsp_format.specs.Steps.{branch_count}
+use Rattle.tsp_format.specs.states.TreeSteps.{steps_of}
 use Rattle.tsp_draft.proofs.validity.have_few_branches.Given as goal
 
 abbrev pub invariant-steps : goal.invariant-steps

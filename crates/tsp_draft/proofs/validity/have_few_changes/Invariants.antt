@@ -1,5 +1,6 @@
 use Rattle.std.proofs.Common.{◌≡◌, ◌+◌, ◌≤◌, drop}
-use Rattle.tsp_format.specs.Steps.{change_count, steps_of}
+use Rattle.tsp_format.specs.Steps.{change_count}
+use Rattle.tsp_format.specs.states.TreeSteps.{steps_of}
 use Rattle.tsp_format.specs.Limits.{most_changes}
 use Rattle.tsp_draft.proofs.validity.have_few_changes.Given as goal
 

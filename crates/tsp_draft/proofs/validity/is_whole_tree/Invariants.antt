@@ -1,5 +1,6 @@
 use Rattle.std.proofs.Common.{◌≡◌, ◌+◌, ◌≤◌, drop}
-use Rattle.tsp_format.specs.Steps.{are_whole, steps_of}
+use Rattle.tsp_format.specs.Steps.{are_whole}
+use Rattle.tsp_format.specs.states.TreeSteps.{steps_of}
 use Rattle.tsp_draft.proofs.validity.is_whole_tree.Given as goal
 
 abbrev pub invariant-steps : goal.invariant-steps

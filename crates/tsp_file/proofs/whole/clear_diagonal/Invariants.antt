@@ -1,6 +1,6 @@
 use Rattle.std.proofs.Common.{◌≡◌, ◌<◌, ◌*◌, ℕ, length}
 use Rattle.std.specs.Prelude.{ℤ, pos}
-use Rattle.tsp_file.specs.Whole.{Fills}
+use Rattle.tsp_file.specs.states.Whole.{Fills}
 use Rattle.tsp_file.proofs.whole.clear_diagonal.Given as goal
 
 abbrev pub invariant-nodes : goal.invariant-nodes

@@ -1,7 +1,7 @@
 use Rattle.std.proofs.Common.{◌≡◌, ◌<◌, ◌≤◌, ◌*◌, ℕ, length}
 use Rattle.std.specs.Prelude.{ℤ}
 use Rattle.tsp_format.specs.Symmetry.{IsSymmetric}
-use Rattle.tsp_file.specs.Whole.{HasSide, Fills}
+use Rattle.tsp_file.specs.states.Whole.{HasSide, Fills}
 use Rattle.tsp_file.proofs.whole.fill_in_band.Given as goal
 
 abbrev pub invariant-columns : goal.invariant-columns

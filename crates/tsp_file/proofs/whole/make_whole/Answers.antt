@@ -3,7 +3,7 @@ use Rattle.std.proofs.Math.Seq.{take-append_seam}
 use Rattle.std.proofs.lemmas.List.{take_all}
 use Rattle.tsp_format.proofs.Counts.{cells_counted}
 use Rattle.tsp_file.specs.Cost.{listed_cost}
-use Rattle.tsp_file.specs.Whole.{HasSide}
+use Rattle.tsp_file.specs.states.Whole.{HasSide}
 use Rattle.tsp_file.proofs.Relaid.{triangle_holds}
 use Rattle.tsp_file.proofs.WithWeights.{few_cells}
 use Rattle.tsp_file.proofs.Spread.{whole_is}

@@ -1,7 +1,7 @@
 use Rattle.std.proofs.Common.{arith}
-use Rattle.tsp_draft.specs.Fields.{fields_of}
+use Rattle.tsp_draft.specs.states.Drafts.{fields_of}
 use Rattle.tsp_file.specs.Text.{text_of_field}
-use Rattle.tsp_stream.specs.Way.{way_of}
+use Rattle.tsp_stream.specs.states.Way.{way_of}
 use Rattle.tsp_stream.proofs.Carrying.{carried_all, carried_none, carried_next_or}
 use Rattle.tsp_file.proofs.writer.put_fields.Goals as goal
 

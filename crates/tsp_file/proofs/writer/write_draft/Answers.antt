@@ -2,9 +2,9 @@ use Rattle.std.proofs.Common.{[], ◌∙◌, sym}
 use Rattle.std.specs.Prelude.{codes}
 use Rattle.std.specs.List.{flat_map}
 use Rattle.tsp_format.specs.Words.{fields_in_order}
-use Rattle.tsp_draft.specs.Fields.{fields_of}
+use Rattle.tsp_draft.specs.states.Drafts.{fields_of}
 use Rattle.tsp_file.specs.Text.{text_of_field, text_of}
-use Rattle.tsp_stream.specs.Way.{way_of}
+use Rattle.tsp_stream.specs.states.Way.{way_of}
 use Rattle.tsp_stream.proofs.Carrying.{carried_then, text_stopped, text_written}
 use Rattle.tsp_file.proofs.writer.write_draft.Goals as goal
 

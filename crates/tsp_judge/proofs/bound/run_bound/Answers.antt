@@ -1,6 +1,6 @@
 use Rattle.std.proofs.Common.{◌≡◌, Err, [], refl}
 use Rattle.std.proofs.KnownBytes.{Keeps-refl}
-use Rattle.tsp_stream.specs.Turn.{turn_of}
+use Rattle.tsp_stream.specs.states.Watched.{turn_of}
 use Rattle.tsp_judge.proofs.HandedOn.{handed_on}
 use Rattle.tsp_judge.proofs.Runs.{none_taken}
 use Rattle.tsp_judge.proofs.Bounding.{bound_first_stops, bound_second_stops, bound_run_of, bound_fault_of}

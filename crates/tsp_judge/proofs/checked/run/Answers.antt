@@ -1,6 +1,6 @@
 use Rattle.std.proofs.Common.{◌≡◌, Err, [], refl}
 use Rattle.std.proofs.KnownBytes.{Keeps-refl}
-use Rattle.tsp_stream.specs.Turn.{turn_of}
+use Rattle.tsp_stream.specs.states.Watched.{turn_of}
 use Rattle.tsp_judge.proofs.HandedOn.{handed_on}
 use Rattle.tsp_judge.proofs.Runs.{none_taken, unread_in, first_stops, second_stops, third_stops}
 use Rattle.tsp_judge.proofs.Yeses.{run_of, fault_of_run}

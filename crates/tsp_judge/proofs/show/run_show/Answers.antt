@@ -1,7 +1,6 @@
 use Rattle.std.proofs.Common.{◌≡◌, Err, refl}
 use Rattle.std.proofs.KnownBytes.{Keeps-refl}
-use Rattle.tsp_stream.specs.Turn.{turn_of}
-use Rattle.tsp_stream.specs.Sink.{sink_of}
+use Rattle.tsp_stream.specs.states.Watched.{turn_of, sink_of}
 use Rattle.tsp_judge.proofs.HandedOn.{handed_on}
 use Rattle.tsp_judge.proofs.Shows.{show_stopped, show_stops}
 use Rattle.tsp_judge.proofs.show.run_show.Goals as goal

@@ -1,8 +1,7 @@
 use Rattle.std.proofs.Common.{◌≡◌, Err, refl, sym, ap, subst, ◌∙◌, ◌||◌, arith, take, inl, inr, true, false, ℕ}
 use Rattle.std.specs.Io.KnownBytes.{Consumes}
 use Rattle.std.proofs.lemmas.Bool.{true≢false}
-use Rattle.tsp_stream.specs.Turn.{turn_of}
-use Rattle.tsp_stream.specs.Watched.{watched}
+use Rattle.tsp_stream.specs.states.Watched.{turn_of, watched}
 use Rattle.tsp_read.proofs.PieceSteps.{gathered_start, gathered_more, gathered_none, gathered_kept, piece_stops, fed_from, not_going}
 use Rattle.tsp_read.proofs.HandedOn.{handed_on}
 use Rattle.tsp_read.proofs.input.feed_all.Goals as goal

@@ -1,6 +1,6 @@
 use Rattle.std.proofs.Common.{◌≡◌, ◌+◌, ◌-◌, ◌≤◌, false}
 use Rattle.tsp_format.specs.Limits.{most_file_bytes}
-use Rattle.tsp_stream.specs.Watched.{watched, has_failed}
+use Rattle.tsp_stream.specs.states.Watched.{watched, has_failed}
 use Rattle.tsp_read.specs.Reads.{most_taken}
 use Rattle.tsp_read.proofs.PieceSteps.{Gathered}
 use Rattle.tsp_read.proofs.input.feed_all.Given as goal

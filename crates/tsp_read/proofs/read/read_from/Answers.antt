@@ -1,4 +1,4 @@
-use Rattle.tsp_stream.specs.Turn.{turn_of}
+use Rattle.tsp_stream.specs.states.Watched.{turn_of}
 use Rattle.tsp_read.proofs.InTime.{in_time, answer_of}
 use Rattle.tsp_read.proofs.read.read_from.Goals as goal
 

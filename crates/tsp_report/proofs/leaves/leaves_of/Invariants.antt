@@ -1,5 +1,6 @@
 use Rattle.std.proofs.Common.{◌≡◌, ◌+◌, ◌≤◌, drop}
-use Rattle.tsp_format.specs.Steps.{leaf_count, steps_of}
+use Rattle.tsp_format.specs.Steps.{leaf_count}
+use Rattle.tsp_format.specs.states.TreeSteps.{steps_of}
 use Rattle.tsp_report.proofs.leaves.leaves_of.Given as goal
 
 abbrev pub invariant-steps : goal.invariant-steps

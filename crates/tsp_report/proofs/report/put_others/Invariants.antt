@@ -1,6 +1,6 @@
 use Rattle.std.proofs.Common.{take}
 use Rattle.std.specs.List.{flat_map}
-use Rattle.tsp_stream.specs.Way.{way_of, Carried}
+use Rattle.tsp_stream.specs.states.Way.{way_of, Carried}
 use Rattle.tsp_report.proofs.Texts.{unknown_line}
 use Rattle.tsp_report.proofs.report.put_others.Given as goal
 

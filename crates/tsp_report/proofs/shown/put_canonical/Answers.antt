@@ -1,6 +1,6 @@
 use Rattle.std.proofs.Common.{◌++◌, rules}
 use Rattle.std.specs.Prelude.{codes, FitsSigned}
-use Rattle.tsp_stream.specs.Way.{way_of}
+use Rattle.tsp_stream.specs.states.Way.{way_of}
 use Rattle.tsp_stream.proofs.Carrying.{carried_then}
 use Rattle.std.specs.Fmt.{signed_decimal}
 use Rattle.std.specs.Int.{w64}

@@ -1,12 +1,10 @@
-use Rattle.std.proofs.Common.{◌++◌}
+use Rattle.std.proofs.Common.{◌++◌, length, ℕ, subst, sym, map}
 use Rattle.std.specs.Prelude.{codes}
-use Rattle.tsp_stream.specs.Way.{Carried, way_of}
-use Rattle.tsp_stream.proofs.Carrying.{carried_then}
+use Rattle.tsp_stream.specs.states.Way.{Carried, way_of}
+use Rattle.tsp_stream.proofs.Carrying.{carried_then, carried_none}
 use Rattle.std.specs.Fmt.{decimal}
-use Rattle.std.proofs.Common.{length, ℕ, subst, sym, map}
 use Rattle.std.proofs.lemmas.List.{length-map}
-use Rattle.tsp_draft.specs.Fields.{combs_of}
-use Rattle.tsp_stream.proofs.Carrying.{carried_none}
+use Rattle.tsp_draft.specs.states.Drafts.{combs_of}
 use Rattle.tsp_report.proofs.shown.put_combs.Goals as goal
 
 pub returns-in-Some : goal.returns-in-Some

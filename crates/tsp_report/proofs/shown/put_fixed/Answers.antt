@@ -1,10 +1,8 @@
-use Rattle.std.proofs.Common.{◌++◌}
+use Rattle.std.proofs.Common.{◌++◌, length}
 use Rattle.std.specs.Prelude.{codes}
-use Rattle.tsp_stream.specs.Way.{way_of}
-use Rattle.tsp_stream.proofs.Carrying.{carried_then}
+use Rattle.tsp_stream.specs.states.Way.{way_of}
+use Rattle.tsp_stream.proofs.Carrying.{carried_then, carried_none}
 use Rattle.std.specs.Fmt.{decimal}
-use Rattle.std.proofs.Common.{length}
-use Rattle.tsp_stream.proofs.Carrying.{carried_none}
 use Rattle.tsp_report.proofs.shown.put_fixed.Goals as goal
 
 pub returns-in-Some : goal.returns-in-Some

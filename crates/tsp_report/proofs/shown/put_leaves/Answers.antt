@@ -1,9 +1,10 @@
 use Rattle.std.proofs.Common.{◌++◌}
 use Rattle.std.specs.Prelude.{codes}
-use Rattle.tsp_stream.specs.Way.{way_of}
+use Rattle.tsp_stream.specs.states.Way.{way_of}
 use Rattle.tsp_stream.proofs.Carrying.{carried_then}
 use Rattle.std.specs.Fmt.{decimal}
-use Rattle.tsp_format.specs.Steps.{leaf_count, steps_of}
+use Rattle.tsp_format.specs.Steps.{leaf_count}
+use Rattle.tsp_format.specs.states.TreeSteps.{steps_of}
 use Rattle.tsp_report.proofs.shown.put_leaves.Goals as goal
 
 pub returns : goal.returns

@@ -1,9 +1,8 @@
 use Rattle.std.proofs.Common.{◌++◌, rules}
-use Rattle.std.specs.Prelude.{codes, FitsSigned}
-use Rattle.tsp_stream.specs.Way.{way_of}
+use Rattle.std.specs.Prelude.{codes, FitsSigned, unwrap_or, pos}
+use Rattle.tsp_stream.specs.states.Way.{way_of}
 use Rattle.tsp_stream.proofs.Carrying.{carried_then}
 use Rattle.std.specs.Fmt.{signed_decimal}
-use Rattle.std.specs.Prelude.{unwrap_or, pos}
 use Rattle.std.specs.Int.{w64}
 use Rattle.std.proofs.lemmas.Int.{to_z-of_z}
 use Rattle.tsp_report.proofs.shown.put_scale.Goals as goal

@@ -1,8 +1,9 @@
 use Rattle.std.proofs.Common.{◌≡◌, ◌++◌, subst, Option, ℕ, List, [], rules}
 use Rattle.std.specs.Prelude.{unwrap_or, ℤ}
-use Rattle.tsp_stream.specs.Way.{Carried, way_of}
+use Rattle.tsp_stream.specs.states.Way.{Carried, way_of}
 use Rattle.tsp_stream.proofs.Carrying.{carried_then}
-use Rattle.tsp_format.specs.Steps.{Step, steps_of}
+use Rattle.tsp_format.specs.Steps.{Step}
+use Rattle.tsp_format.specs.states.TreeSteps.{steps_of}
 use Rattle.tsp_report.specs.Show.{scale_line, combs_line, leaves_line}
 use Rattle.tsp_report.proofs.shown.put_tree.Goals as goal
 

@@ -1,5 +1,5 @@
 use Rattle.std.proofs.Common.{sym, subst}
-use Rattle.tsp_judge.specs.Sink.{sink_of}
+use Rattle.tsp_judge.specs.Watched.{sink_of}
 use Rattle.tsp_run.specs.Engines.{IsDone}
 use Rattle.tsp_cli.specs.declared.task.Task.TheVariants.{Check, CheckBy, Bound}
 use Rattle.tsp_run.proofs.engines.perform.Goals as goal

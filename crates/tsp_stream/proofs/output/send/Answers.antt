@@ -1,6 +1,6 @@
 use Rattle.std.proofs.Common.{[], refl, ◌∙◌, arith}
 use Rattle.std.proofs.KnownBytes.{Appends-nil}
-use Rattle.tsp_stream.specs.Watched.{watched}
+use Rattle.tsp_stream.specs.states.Watched.{watched}
 use Rattle.tsp_stream.proofs.Sinks.{sent_more, sent_front, sent_all, some_left}
 use Rattle.tsp_stream.proofs.output.send.Goals as goal
 

@@ -1,5 +1,5 @@
 use Rattle.std.proofs.Common.{◌≡◌, false, length}
-use Rattle.tsp_stream.specs.Watched.{watched, has_failed}
+use Rattle.tsp_stream.specs.states.Watched.{watched, has_failed}
 use Rattle.tsp_stream.proofs.Sinks.{Sent}
 use Rattle.tsp_stream.proofs.output.send.Given as goal
 

@@ -1,6 +1,6 @@
 use Rattle.std.proofs.Common.{◌≡◌, List, ℕ, [], ◌++◌, ◌∙◌, sym, refl, ap, true, false, Result, Ok, Err, append-nil}
 use Rattle.std.specs.Prelude.{OnOk, OnErr, is_ok, is_err}
-use Rattle.tsp_stream.specs.Way.{way_of}
+use Rattle.tsp_stream.specs.states.Way.{way_of}
 use Rattle.tsp_stream.proofs.Carrying.{carried_sent, carried_waits, carried_then}
 use Rattle.tsp_stream.proofs.piece.put.Goals as goal
 

@@ -2,7 +2,7 @@ use Rattle.std.proofs.Common.{rules, ◌≤ℤ◌, w64, FitsSigned, to_z, of_z, 
 use Rattle.std.proofs.lemmas.Int.{to_z-of_z}
 use Rattle.tsp_distance.specs.declared.decimal.Point.{Point}
 use Rattle.tsp_file.specs.Cost.{distance}
-use Rattle.tsp_cost.specs.Views.{points_place}
+use Rattle.tsp_cost.specs.states.Views.{points_place}
 use Rattle.tsp_cost.proofs.Growing.{distance_grows}
 use Rattle.tsp_cost.proofs.places.PointsGrouped.cost_to.Goals as goal
 

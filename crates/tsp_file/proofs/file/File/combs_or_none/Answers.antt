@@ -1,5 +1,5 @@
 use Rattle.std.proofs.Common.{sym}
-use Rattle.tsp_draft.specs.Fields.{combs_of}
+use Rattle.tsp_draft.specs.states.Drafts.{combs_of}
 use Rattle.tsp_file.proofs.TypedFields.{combs_hold}
 use Rattle.tsp_file.proofs.file.File.combs_or_none.Goals as goal
 

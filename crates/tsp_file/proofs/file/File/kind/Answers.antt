@@ -1,4 +1,4 @@
-use Rattle.tsp_draft.specs.Fields.{fields_of}
+use Rattle.tsp_draft.specs.states.Drafts.{fields_of}
 use Rattle.tsp_file.proofs.Types.{has_kind}
 use Rattle.tsp_file.proofs.file.File.kind.Goals as goal
 

@@ -1,8 +1,9 @@
 use Rattle.std.proofs.Common.{subst, ap, sym, ◌∙◌}
 use Rattle.tsp_draft.specs.Fields.{Fields}
 use Rattle.tsp_file.specs.Cost.{cost}
-use Rattle.tsp_file.specs.Relayout.{file_nodes, with_weights, costs_in}
-use Rattle.tsp_file.specs.Way.{LeadsTo}
+use Rattle.tsp_file.specs.Meant.{nodes_of}
+use Rattle.tsp_file.specs.Relayout.{with_weights, costs_in}
+use Rattle.tsp_file.specs.states.Way.{LeadsTo}
 use Rattle.tsp_file.proofs.Relaid.{relaid, already}
 use Rattle.tsp_file.proofs.file.File.relayout.Goals as goal
 
@@ -26,4 +27,4 @@ returns-in-Ok c =
     let f : Fields = c.args.self in
     let across = subst (LeadsTo f c.args.to) c.in-Ok-Across.field-0-is c.in-Ok-Across.ensures.1 in
     relaid f c.args.to c.in-Ok.file c.in-Ok-Across.ensures.0
-    (c.in-Ok.ensures ∙ ap (λ layout. with_weights f layout (costs_in layout (file_nodes f) (cost f))) (sym across.0))
+    (c.in-Ok.ensures ∙ ap (λ layout. with_weights f layout (costs_in layout (nodes_of f) (cost f))) (sym across.0))

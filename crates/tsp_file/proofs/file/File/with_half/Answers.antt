@@ -4,11 +4,13 @@ use Rattle.std.specs.Option.{option_map}
 use Rattle.tsp_format.specs.declared.layout.Layout.{Layout}
 use Rattle.tsp_format.specs.declared.layout.Layout.TheVariants.{FullMatrix}
 use Rattle.tsp_format.specs.declared.kinds.WeightFormat.TheVariants.{Listed}
-use Rattle.tsp_draft.specs.Fields.{Fields, fields_of}
+use Rattle.tsp_draft.specs.Fields.{Fields}
+use Rattle.tsp_draft.specs.states.Drafts.{fields_of}
 use Rattle.tsp_draft.specs.Rules.{fault_of}
 use Rattle.tsp_file.specs.Cost.{cost}
 use Rattle.tsp_file.specs.Listed.{ListsWeights}
-use Rattle.tsp_file.specs.Relayout.{HoldsPairs, CanGo, file_nodes, with_weights, costs_in}
+use Rattle.tsp_file.specs.Relayout.{HoldsPairs, CanGo, with_weights, costs_in}
+use Rattle.tsp_file.specs.Meant.{nodes_of}
 use Rattle.tsp_draft.proofs.ValidFields.{in_range}
 use Rattle.tsp_file.proofs.WithWeights.{some_is}
 use Rattle.tsp_file.proofs.Listed.{lists}
@@ -67,4 +69,4 @@ returns c =
     let stand = ap (option_map (λ w. w.items)) (sym (c.take.ensures.value) ∙ c.in-Some-take.is) in
     let value = (laid_of f FullMatrix c.args.to c.in-Some.nodes c.in-Some-take.weights.items c.keep_half.new.weights.items c.self.invariant can
     (held f c.args.self c.in-Some.nodes c.in-Some-take.weights.items c.self.view_is c.self.invariant c.requires.full c.in-Some.is stand) c.keep_half.ensures).1 in
-    ap (with_weights f c.args.to) value ∙ ap (λ (g : Fields). with_weights g c.args.to (costs_in c.args.to (file_nodes g) (cost g))) c.self.view_is
+    ap (with_weights f c.args.to) value ∙ ap (λ (g : Fields). with_weights g c.args.to (costs_in c.args.to (nodes_of g) (cost g))) c.self.view_is

@@ -4,11 +4,12 @@ use Rattle.std.specs.Option.{option_map}
 use Rattle.std.specs.Result.{is_err}
 use Rattle.tsp_format.specs.declared.layout.Layout.TheVariants.{FullMatrix}
 use Rattle.tsp_format.specs.declared.kinds.WeightFormat.TheVariants.{Listed}
-use Rattle.tsp_draft.specs.Fields.{Fields, fields_of}
+use Rattle.tsp_draft.specs.Fields.{Fields}
+use Rattle.tsp_draft.specs.states.Drafts.{fields_of}
 use Rattle.tsp_file.specs.Cost.{cost}
-use Rattle.tsp_file.specs.Relayout.{CanGo, file_nodes, with_weights, costs_in}
+use Rattle.tsp_file.specs.Relayout.{CanGo, with_weights, costs_in}
+use Rattle.tsp_file.specs.Meant.{nodes_of}
 use Rattle.tsp_draft.proofs.ValidFields.{in_range}
-use Rattle.tsp_file.proofs.WithWeights.{some_is}
 use Rattle.tsp_file.proofs.Listed.{lists}
 use Rattle.tsp_file.proofs.Fronts.{laid_of}
 use Rattle.tsp_file.proofs.file.File.with_whole.Goals as goal
@@ -55,4 +56,4 @@ returns c =
     let value = made c.make_whole.result _ (sym c.is_err.ensures.value ∙ c.if-is_err.false) c.make_whole.ensures.ok in
     let laid = (laid_of f c.in-Some-Listed.from FullMatrix c.in-Some.nodes c.in-Some-take.weights.items c.make_whole.new.weights.items c.self.invariant
     (can_go f c.args.self c.self.view_is c.requires.can_go) held value).1 in
-    ap (with_weights f FullMatrix) laid ∙ ap (λ (g : Fields). with_weights g FullMatrix (costs_in FullMatrix (file_nodes g) (cost g))) c.self.view_is
+    ap (with_weights f FullMatrix) laid ∙ ap (λ (g : Fields). with_weights g FullMatrix (costs_in FullMatrix (nodes_of g) (cost g))) c.self.view_is

@@ -1,5 +1,5 @@
 use Rattle.std.proofs.Common.{◌≡◌, ℕ, ◌<◌, ◌≤◌, ◌+◌}
-use Rattle.tsp_file.specs.Weights.{costs_of}
+use Rattle.tsp_file.specs.states.Weights.{costs_of}
 use Rattle.tsp_file.proofs.weights.ListedWeights.is_symmetric_block.Given as goal
 
 abbrev pub invariant-rows : goal.invariant-rows

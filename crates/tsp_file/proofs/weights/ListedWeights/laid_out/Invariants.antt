@@ -1,7 +1,7 @@
 use Rattle.std.proofs.Common.{◌≡◌, ◌-◌, map, take}
 use Rattle.std.specs.List.{flat_map}
 use Rattle.tsp_format.specs.Cells.{nodes_to, cells_of_line}
-use Rattle.tsp_file.specs.Weights.{costs_of}
+use Rattle.tsp_file.specs.states.Weights.{costs_of}
 use Rattle.tsp_file.proofs.weights.ListedWeights.laid_out.Given as goal
 
 -- the costs of the lines before this one

@@ -4,7 +4,7 @@ use Rattle.std.proofs.lemmas.List.{take_all}
 use Rattle.tsp_format.specs.Cells.{cells_of_line}
 use Rattle.tsp_format.specs.Limits.{most_weight}
 use Rattle.tsp_draft.specs.Valid.{IsWithin}
-use Rattle.tsp_file.specs.Weights.{costs_of}
+use Rattle.tsp_file.specs.states.Weights.{costs_of}
 use Rattle.tsp_file.proofs.Listed.{weight_read}
 use Rattle.tsp_file.proofs.Relaid.{cell_more, cost_within}
 use Rattle.tsp_file.proofs.weights.ListedWeights.lay_line.Goals as goal

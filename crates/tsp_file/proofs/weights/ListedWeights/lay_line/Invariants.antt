@@ -1,6 +1,6 @@
 use Rattle.std.proofs.Common.{◌≡◌, ◌++◌, map, take}
 use Rattle.tsp_format.specs.Cells.{cells_of_line}
-use Rattle.tsp_file.specs.Weights.{costs_of}
+use Rattle.tsp_file.specs.states.Weights.{costs_of}
 use Rattle.tsp_file.proofs.weights.ListedWeights.lay_line.Given as goal
 
 -- the costs of the cells before this one, after what was there

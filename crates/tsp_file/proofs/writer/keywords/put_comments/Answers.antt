@@ -1,7 +1,7 @@
 use Rattle.std.proofs.Common.{arith}
 use Rattle.tsp_format.specs.declared.field.Field.TheVariants.{CommentKey}
 use Rattle.tsp_file.specs.Text.{keyword_line}
-use Rattle.tsp_stream.specs.Way.{way_of}
+use Rattle.tsp_stream.specs.states.Way.{way_of}
 use Rattle.tsp_stream.proofs.Carrying.{carried_mapped, carried_none, carried_next}
 use Rattle.tsp_file.proofs.writer.keywords.put_comments.Goals as goal
 

@@ -1,6 +1,6 @@
 use Rattle.std.proofs.Common.{arith}
 use Rattle.tsp_file.specs.Text.{other_line, value_line}
-use Rattle.tsp_stream.specs.Way.{way_of}
+use Rattle.tsp_stream.specs.states.Way.{way_of}
 use Rattle.tsp_stream.proofs.Carrying.{carried_mapped, carried_none, carried_next}
 use Rattle.tsp_file.proofs.writer.keywords.put_others.Goals as goal
 

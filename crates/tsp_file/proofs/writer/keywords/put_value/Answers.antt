@@ -1,6 +1,6 @@
 use Rattle.std.proofs.Common.{[], ◌∷◌, ◌++◌, sym, ◌∙◌}
 use Rattle.std.specs.Prelude.{codes}
-use Rattle.tsp_stream.specs.Way.{Carried, way_of}
+use Rattle.tsp_stream.specs.states.Way.{Carried, way_of}
 use Rattle.tsp_stream.proofs.Carrying.{carried_none, carried_then}
 use Rattle.tsp_file.proofs.Lines.{no_value, some_value}
 use Rattle.tsp_file.specs.Text.{blank_before, line_end}

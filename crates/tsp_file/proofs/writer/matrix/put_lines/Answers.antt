@@ -1,7 +1,7 @@
 use Rattle.std.proofs.Common.{◌≡◌, ◌∙◌, sym, length, map, min, arith}
 use Rattle.tsp_format.specs.Cells.{nodes_to, cells_of_line}
 use Rattle.tsp_file.specs.Text.{matrix_lines}
-use Rattle.tsp_stream.specs.Way.{way_of}
+use Rattle.tsp_stream.specs.states.Way.{way_of}
 use Rattle.tsp_file.proofs.Matrices.{comes_begins, comes_next, comes_last, comes_failed}
 use Rattle.tsp_file.proofs.writer.matrix.put_lines.Goals as goal
 

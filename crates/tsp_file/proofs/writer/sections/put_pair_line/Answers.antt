@@ -1,5 +1,5 @@
 use Rattle.std.specs.Fmt.{decimal}
-use Rattle.tsp_stream.specs.Way.{way_of}
+use Rattle.tsp_stream.specs.states.Way.{way_of}
 use Rattle.tsp_file.proofs.Lines.{two_numbers}
 use Rattle.tsp_file.proofs.writer.sections.put_pair_line.Goals as goal
 

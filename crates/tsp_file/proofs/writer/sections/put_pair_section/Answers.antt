@@ -1,5 +1,5 @@
 use Rattle.tsp_file.specs.Text.{pair_list}
-use Rattle.tsp_stream.specs.Way.{way_of}
+use Rattle.tsp_stream.specs.states.Way.{way_of}
 use Rattle.tsp_stream.proofs.Carrying.{carried_none}
 use Rattle.tsp_file.proofs.Lines.{opened}
 use Rattle.tsp_file.proofs.writer.sections.put_pair_section.Goals as goal

@@ -1,7 +1,7 @@
 use Rattle.std.proofs.Common.{take}
 use Rattle.std.specs.List.{flat_map}
 use Rattle.tsp_file.specs.Text.{node_list}
-use Rattle.tsp_stream.specs.Way.{way_of, Carried}
+use Rattle.tsp_stream.specs.states.Way.{way_of, Carried}
 use Rattle.tsp_file.proofs.writer.sections.put_tours.Given as goal
 
 abbrev pub invariant-tours : goal.invariant-tours

@@ -2,7 +2,7 @@ use Rattle.std.proofs.Common.{[], ◌∷◌, ℕ, ℤ, take}
 use Rattle.std.specs.List.{flat_map}
 use Rattle.std.specs.Fmt.{decimal, signed_decimal}
 use Rattle.tsp_file.specs.Text.{number_line}
-use Rattle.tsp_stream.specs.Way.{way_of, Carried}
+use Rattle.tsp_stream.specs.states.Way.{way_of, Carried}
 use Rattle.tsp_file.proofs.writer.sections.put_triples.Given as goal
 
 abbrev pub invariant-triples : goal.invariant-triples

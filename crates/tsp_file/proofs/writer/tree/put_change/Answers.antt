@@ -1,6 +1,6 @@
 use Rattle.std.proofs.Common.{[], ◌++◌, rules}
 use Rattle.std.specs.Fmt.{decimal, signed_decimal}
-use Rattle.tsp_stream.specs.Way.{way_of}
+use Rattle.tsp_stream.specs.states.Way.{way_of}
 use Rattle.tsp_stream.proofs.Carrying.{carried_none, carried_then}
 use Rattle.tsp_file.specs.Text.{before_blank}
 use Rattle.std.specs.Int.{w64}

@@ -1,7 +1,7 @@
 use Rattle.std.proofs.Common.{take, ℕ, ℤ}
 use Rattle.std.specs.List.{flat_map}
 use Rattle.tsp_file.specs.Text.{before_blank, change_words}
-use Rattle.tsp_stream.specs.Way.{way_of, Carried}
+use Rattle.tsp_stream.specs.states.Way.{way_of, Carried}
 use Rattle.tsp_file.proofs.writer.tree.put_changes.Given as goal
 
 abbrev pub invariant-changes : goal.invariant-changes

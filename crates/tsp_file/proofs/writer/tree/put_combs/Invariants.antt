@@ -1,7 +1,7 @@
 use Rattle.std.proofs.Common.{take, map}
 use Rattle.std.specs.List.{flat_map}
 use Rattle.tsp_file.specs.Text.{comb_lines}
-use Rattle.tsp_stream.specs.Way.{way_of, Carried}
+use Rattle.tsp_stream.specs.states.Way.{way_of, Carried}
 use Rattle.tsp_file.proofs.writer.tree.put_combs.Given as goal
 
 abbrev pub invariant-combs : goal.invariant-combs

@@ -1,7 +1,7 @@
 use Rattle.std.proofs.Common.{arith}
-use Rattle.tsp_format.specs.Steps.{step_of}
+use Rattle.tsp_format.specs.states.TreeSteps.{step_of}
 use Rattle.tsp_file.specs.Text.{step_line}
-use Rattle.tsp_stream.specs.Way.{way_of}
+use Rattle.tsp_stream.specs.states.Way.{way_of}
 use Rattle.tsp_stream.proofs.Carrying.{carried_mapped, carried_none, carried_next}
 use Rattle.tsp_file.proofs.writer.tree.put_steps.Goals as goal
 

@@ -1,7 +1,6 @@
 use Rattle.std.proofs.Common.{refl}
-use Rattle.tsp_format.specs.Steps.{steps_of}
-use Rattle.tsp_draft.specs.Coords.{points_of}
-use Rattle.tsp_draft.specs.Fields.{combs_of, fields_of}
+use Rattle.tsp_format.specs.states.TreeSteps.{steps_of}
+use Rattle.tsp_draft.specs.states.Drafts.{points_of, combs_of, fields_of}
 use Rattle.tsp_read.proofs.SectionSteps as steps
 use Rattle.tsp_read.proofs.state.store.store.Goals as goal
 

@@ -1,6 +1,6 @@
 use Rattle.std.proofs.Common.{Option, subst}
 use Rattle.tsp_draft.specs.declared.draft.Draft.{Draft}
-use Rattle.tsp_draft.specs.Fields.{fields_of}
+use Rattle.tsp_draft.specs.states.Drafts.{fields_of}
 use Rattle.tsp_format.specs.declared.field.Field.{Field}
 use Rattle.tsp_read.specs.states.Finishes.{FileOf}
 use Rattle.tsp_read.proofs.FinishSteps.{finish_answer}

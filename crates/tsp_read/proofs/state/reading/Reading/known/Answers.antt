@@ -1,7 +1,8 @@
 use Rattle.std.proofs.Common.{refl, sym, ap, ◌∙◌, map, Some}
 use Rattle.std.specs.Option.{option_map}
 use Rattle.tsp_format.specs.declared.field.ValueShape.{ValueShape}
-use Rattle.tsp_draft.specs.Fields.{fields_of, spatial}
+use Rattle.tsp_draft.specs.states.Drafts.{fields_of}
+use Rattle.tsp_draft.specs.Fields.{spatial}
 use Rattle.tsp_section.specs.states.CutLine.{seen}
 use Rattle.tsp_read.proofs.KeywordCases.{kept_is_name, each_is_comment, unnamed}
 use Rattle.tsp_read.proofs.TextSteps as texts

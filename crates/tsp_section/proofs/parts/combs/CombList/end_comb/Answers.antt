@@ -1,6 +1,6 @@
 use Rattle.std.proofs.Common.{◌≡◌, ◌∙◌, ap, map, ◌∷◌, ◌++◌, [], refl}
 use Rattle.std.proofs.lemmas.List.{map_push}
-use Rattle.tsp_draft.specs.Fields.{combs_of}
+use Rattle.tsp_draft.specs.states.Drafts.{combs_of}
 use Rattle.tsp_section.proofs.parts.combs.CombList.end_comb.Goals as goal
 
 pub returns-in-Ok-clause-done : goal.returns-in-Ok-clause-done

@@ -1,4 +1,4 @@
-use Rattle.tsp_draft.specs.Coords.{points_of}
+use Rattle.tsp_draft.specs.states.Drafts.{points_of}
 use Rattle.tsp_section.proofs.CoordSteps.{all_taken}
 use Rattle.tsp_section.proofs.parts.points.PointList.finish.Goals as goal
 

@@ -1,4 +1,4 @@
-use Rattle.tsp_draft.specs.Coords.{points_of}
+use Rattle.tsp_draft.specs.states.Drafts.{points_of}
 use Rattle.tsp_section.proofs.CoordSteps.{none_so_far}
 use Rattle.tsp_section.proofs.parts.points.PointList.open.Goals as goal
 

@@ -1,5 +1,5 @@
 use Rattle.std.proofs.Common.{◌∙◌, sym, subst, Err, arith}
-use Rattle.tsp_draft.specs.Coords.{points_of}
+use Rattle.tsp_draft.specs.states.Drafts.{points_of}
 use Rattle.tsp_section.specs.states.Parts.{IsNewNode}
 use Rattle.tsp_section.proofs.CoordSteps.{end_taken, one_too_many, node_faulty, coordinate_bad, node_taken}
 use Rattle.tsp_section.proofs.parts.points.PointList.push.Goals as goal

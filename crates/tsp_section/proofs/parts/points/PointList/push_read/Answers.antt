@@ -1,6 +1,6 @@
 use Rattle.std.proofs.Common.{rules, arith, FitsSigned, w64}
 use Rattle.std.proofs.lemmas.Int.{to_z-of_z}
-use Rattle.tsp_draft.specs.Coords.{points_of}
+use Rattle.tsp_draft.specs.states.Drafts.{points_of}
 use Rattle.tsp_section.proofs.CoordSteps.{node_taken}
 use Rattle.tsp_section.proofs.parts.points.PointList.push_read.Goals as goal
 

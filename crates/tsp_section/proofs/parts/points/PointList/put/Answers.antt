@@ -3,7 +3,7 @@ use Rattle.std.proofs.lemmas.List.{map-set}
 use Rattle.tsp_distance.specs.declared.decimal.PlanePoint.{PlanePoint}
 use Rattle.tsp_distance.specs.declared.decimal.Point.{Point}
 use Rattle.tsp_distance.specs.Distances.{on_plane}
-use Rattle.tsp_draft.specs.Coords.{points_of}
+use Rattle.tsp_draft.specs.states.Drafts.{points_of}
 use Rattle.tsp_section.specs.states.Parts.{are_in_space}
 use Rattle.tsp_section.proofs.PointSteps.{plane_points}
 use Rattle.tsp_section.proofs.CoordSteps.{first_taken, plane_taken, second_taken, third_taken}

@@ -1,7 +1,8 @@
 use Rattle.std.proofs.Common.{◌≡◌, ◌∙◌, ap, ◌∷◌, ◌++◌, [], refl, arith}
 use Rattle.std.proofs.lemmas.List.{map_push}
 use Rattle.tsp_format.specs.declared.steps.TreeStep.TheVariants as tree
-use Rattle.tsp_format.specs.Steps.{Leaf, step_of, steps_of}
+use Rattle.tsp_format.specs.Steps.{Leaf}
+use Rattle.tsp_format.specs.states.TreeSteps.{step_of, steps_of}
 use Rattle.tsp_section.proofs.parts.tree.TreeList.end_leaf.Goals as goal
 
 pub returns-in-Ok-clause-done : goal.returns-in-Ok-clause-done

@@ -3,7 +3,7 @@ use Rattle.std.specs.Prelude.{◌≡◌, ℕ, Bool, false, List, ◌++◌, Optio
 use Rattle.std.specs.Io.KnownBytes.{Appends}
 use Rattle.arrayvec.specs.ArrayVec.{ArrayVec}
 use Rattle.tsp_stream.specs.declared.watched.Watched.{Watched}
-use Rattle.tsp_stream.specs.Watched.{watched, has_failed}
+use Rattle.tsp_stream.specs.states.Watched.{watched, has_failed}
 
 -- what the writer holds, where that is known, whether it has failed, and the piece that waits to be written
 pub record Way : Type 0 where

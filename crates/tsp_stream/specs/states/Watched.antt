@@ -5,6 +5,8 @@ use Rattle.std.specs.declared.io.Error.{Error}
 use Rattle.std.specs.declared.io.ErrorKind.TheVariants as kinds
 use denote.Ref.{MutBor}
 use denote.Param.Members.{Once}
+use Rattle.tsp_stream.specs.Sink.{Sink}
+use Rattle.tsp_stream.specs.Turn.{Turn}
 use Rattle.tsp_stream.specs.declared.watched.Watched.{Watched}
 
 -- the reader or writer inside
@@ -40,3 +42,24 @@ pub record Calls {F T B R : Type 0} (g : Once F (MutBor T × (MutBor B × Unit {
   pub second_left : MutBor B
   pub met : g.post f (first, (second, tt)) (r, (first_left, (second_left, tt)))
   pub leaves : (first_left.now ≡ x') × (second_left.now ≡ y')
+
+-- ---- what a call does to one
+
+-- the turn of a watched reader, by what it was before the call and is after it
+abbrev pub turn_of : {R : Type 0} → (R → Option (List ℕ)) → Watched R → Watched R → List ℕ → Turn
+turn_of remaining old new given = record {
+  known = remaining (watched old);
+  left = remaining (watched new);
+  given = given;
+  had_failed = has_failed old;
+  failed = has_failed new;
+}
+
+-- the same of a watched writer
+abbrev pub sink_of : {W : Type 0} → (W → Option (List ℕ)) → Watched W → Watched W → Sink
+sink_of contents old new = record {
+  held = contents (watched old);
+  holds = contents (watched new);
+  had_failed = has_failed old;
+  failed = has_failed new;
+}

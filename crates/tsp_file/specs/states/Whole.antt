@@ -4,7 +4,7 @@ use Rattle.tsp_format.specs.declared.layout.Layout.{Layout}
 use Rattle.tsp_format.specs.declared.layout.Layout.TheVariants.{FullMatrix, UpperRow, LowerRow, UpperDiagRow, LowerDiagRow, UpperCol, LowerCol, UpperDiagCol, LowerDiagCol}
 use Rattle.tsp_format.specs.Cells.{IsNode, cells_of_line, line_len_of}
 use Rattle.tsp_file.specs.Cost.{listed_cost}
-use Rattle.tsp_file.specs.Halves.{line_start_of}
+use Rattle.tsp_file.specs.states.Halves.{line_start_of}
 
 -- a line of the layout, or the row across the diagonal from it, lies above the diagonal
 abbrev pub goes_above : Layout → Bool

@@ -1,9 +1,18 @@
 -- What the code keeps of a number word, and what it makes of it.
-use Rattle.std.specs.Prelude.{◌≡◌, ◌≢◌, ℕ, ◌+◌, ◌*◌, ◌^◌, ◌≤◌, List, ◌++◌, length, Option, Some, None, ℤ, pos, negsuc}
+use Rattle.std.specs.Prelude.{◌≡◌, ◌≢◌, ℕ, ◌+◌, ◌*◌, ◌-◌, ◌^◌, ◌≤◌, min, List, ◌++◌, length, Option, Some, None, ℤ, pos, negsuc}
 use Rattle.std.specs.Str.Parse.{AllDigits}
 use Rattle.tsp_number.specs.declared.scan.Written.{Written}
 use Rattle.tsp_number.specs.NumberWord.{Numeral, digits_of}
-use Rattle.tsp_number.specs.Scan.{numeral_in, saturated, clamped}
+use Rattle.tsp_number.specs.Scan.{numeral_in}
+
+-- the number, or the largest of 64 bits where that is less
+abbrev pub saturated : ℕ → ℕ
+saturated n = min n (2 ^ 64 - 1)
+
+-- an exponent, or the one of size 10,000 with its sign where that is smaller in size
+abbrev pub clamped : ℤ → ℤ
+clamped (pos n) = pos (min n 10000)
+clamped (negsuc n) = negsuc (min n 9999)
 
 -- the parts are those of the numeral, which has at most 64 digits
 pub record KeepsNumeral (w : Written) (n : Numeral) : Type 0 where

@@ -10,7 +10,8 @@ use Rattle.tsp_file.specs.declared.way.Way.TheVariants.{Already, Within, Across,
 use Rattle.tsp_draft.specs.Fields.{Fields}
 use Rattle.tsp_draft.specs.Valid.{IsWithin}
 use Rattle.tsp_file.specs.Cost.{cost}
-use Rattle.tsp_file.specs.Relayout.{file_nodes, costs_in}
+use Rattle.tsp_file.specs.Meant.{nodes_of}
+use Rattle.tsp_file.specs.Relayout.{costs_in}
 
 -- the weights are half of a matrix
 abbrev pub HasHalf : Fields → Type 0
@@ -18,7 +19,7 @@ HasHalf f = (from : Layout) × (from ≢ FullMatrix) × (f.weight_format ≡ Som
 
 -- what is so of a file whose weights get into the layout in this way
 abbrev pub LeadsTo : Fields → Layout → Way → Type 0
-LeadsTo f to Already = (f.weight_format ≡ Some (Listed to)) × (f.weights ≡ Some (costs_in to (file_nodes f) (cost f)))
+LeadsTo f to Already = (f.weight_format ≡ Some (Listed to)) × (f.weights ≡ Some (costs_in to (nodes_of f) (cost f)))
 LeadsTo f to Within = f.weight_format ≡ Some (Listed FullMatrix)
 LeadsTo f to Across = (to ≡ FullMatrix) × HasHalf f
-LeadsTo f to (Anew weights) = (weights.items ≡ costs_in to (file_nodes f) (cost f)) × All (IsWithin most_weight) weights.items
+LeadsTo f to (Anew weights) = (weights.items ≡ costs_in to (nodes_of f) (cost f)) × All (IsWithin most_weight) weights.items

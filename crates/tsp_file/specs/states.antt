@@ -1,0 +1,5 @@
+pub mod Halves
+pub mod Side
+pub mod Way
+pub mod Weights
+pub mod Whole

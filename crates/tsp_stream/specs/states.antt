@@ -1,0 +1,3 @@
+pub mod Watched
+pub mod Way
+pub mod Script
