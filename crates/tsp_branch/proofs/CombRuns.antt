@@ -7,10 +7,10 @@ use Rattle.std.proofs.lemmas.List.{take-append-drop, get_or-drop, length-drop}
 use Rattle.std.proofs.lemmas.List.Elements.{All-head, All-tail, All-take, All-from_recursion, recursion_from_All}
 use Rattle.tsp_branch.specs.Families.{IsFamily}
 use Rattle.tsp_format.specs.Cells.{IsNode}
-use Rattle.tsp_branch.specs.states.Sets.{AreSetsOf}
+use Rattle.tsp_branch.specs.states.Sets.{AreSetsOf, AreInOrder, lists_of}
 use Rattle.tsp_branch.specs.states.Combed.{plain}
 use Rattle.tsp_branch.specs.CombsOfSets.{NumberedSet, of_comb, combs_from, combs_of_sets}
-use Rattle.tsp_branch.specs.GoodCombs.{HasEachOnce, IsGoodComb, IsFirstBadComb, AreCombsJudged, AreInOrder, lists_of}
+use Rattle.tsp_branch.specs.GoodCombs.{HasEachOnce, IsGoodComb, IsFirstBadComb, AreCombsJudged}
 use Rattle.tsp_branch.specs.declared.comb_set.CombSet.{CombSet}
 
 -- ---- a run at the front

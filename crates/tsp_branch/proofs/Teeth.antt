@@ -11,7 +11,8 @@ use Rattle.std.proofs.lemmas.List.Kept.{AllPairs-cons}
 use Rattle.tsp_format.specs.Cells.{IsNode}
 use Rattle.tsp_branch.specs.Combs.{IsTooth, AreApart, IsComb, has, comb_of}
 use Rattle.tsp_branch.specs.Families.{IsLoneSet, IsFamily}
-use Rattle.tsp_branch.specs.GoodCombs.{HasEachOnce, IsGoodComb, IsToothCount, lists_of}
+use Rattle.tsp_branch.specs.GoodCombs.{HasEachOnce, IsGoodComb, IsToothCount}
+use Rattle.tsp_branch.specs.states.Sets.{lists_of}
 use Rattle.tsp_branch.specs.states.Marked.{AreNew, AreTeeth}
 use Rattle.tsp_branch.specs.declared.comb_set.CombSet.{CombSet}
 

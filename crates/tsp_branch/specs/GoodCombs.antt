@@ -1,9 +1,8 @@
 -- Which comb is bad: families are given by sets of nodes, and these need not be those of a lone set or a comb.
-use Rattle.std.specs.Prelude.{◌≡◌, ◌≢◌, ℕ, ◌+◌, ◌*◌, ◌≤◌, ◌<◌, List, map, Option, None, Some}
+use Rattle.std.specs.Prelude.{◌≡◌, ◌≢◌, ℕ, ◌+◌, ◌*◌, ◌≤◌, ◌<◌, List, Option, None, Some}
 use Rattle.std.specs.List.{All, AllPairs}
 use Rattle.tsp_branch.specs.Families.{IsFamily}
 use Rattle.tsp_branch.specs.CombsOfSets.{NumberedSet, comb_with, of_comb, combs_of_sets}
-use Rattle.tsp_branch.specs.declared.comb_set.CombSet.{CombSet}
 
 -- no node is twice in a set
 abbrev pub HasEachOnce : List ℕ → Type 0
@@ -30,11 +29,3 @@ abbrev pub AreCombsJudged : ℕ → ℕ → List NumberedSet → Option ℕ → 
 AreCombsJudged n combs sets None = ((comb : ℕ) → comb < combs → IsGoodComb n (of_comb comb sets))
     × All (IsFamily n) (combs_of_sets combs sets) × All (λ set. HasEachOnce set.nodes) sets
 AreCombsJudged n combs sets (Some first) = IsFirstBadComb n combs sets first
-
--- the sets are listed comb by comb
-abbrev pub AreInOrder : List CombSet → Type 0
-AreInOrder sets = AllPairs (λ set later. set.comb ≤ later.comb) sets
-
--- the nodes of sets
-abbrev pub lists_of : List CombSet → List (List ℕ)
-lists_of sets = map (λ set. set.nodes.items) sets

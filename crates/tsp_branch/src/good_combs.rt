@@ -5,9 +5,9 @@ ghost use Rattle.std.specs.List.{All};
 ghost use Rattle.tsp_format.specs.Cells.{IsNode};
 ghost use Rattle.tsp_branch.specs.Combs.{IsTooth, has, comb_of};
 ghost use Rattle.tsp_branch.specs.Families.{IsLoneSet};
-ghost use Rattle.tsp_branch.specs.states.Sets.{AreSetsOf};
+ghost use Rattle.tsp_branch.specs.states.Sets.{AreSetsOf, AreInOrder, lists_of};
 ghost use Rattle.tsp_branch.specs.states.Combed.{plain};
-ghost use Rattle.tsp_branch.specs.GoodCombs.{IsGoodComb, IsToothCount, AreCombsJudged, AreInOrder, lists_of};
+ghost use Rattle.tsp_branch.specs.GoodCombs.{IsGoodComb, IsToothCount, AreCombsJudged};
 ghost use Rattle.tsp_branch.specs.states.Marked.{is_marked, AreUnmarked, HavePlaces, AddsNoOther, AreTeeth};
 ghost use Rattle.tsp_branch.specs.declared.comb_set.CombSet.{CombSet};
 

@@ -7,11 +7,10 @@ ghost use Rattle.tsp_format.specs.Steps.{are_whole};
 ghost use Rattle.tsp_theory.specs.Costs.{IsSymmetric};
 ghost use Rattle.tsp_theory.specs.Numbers.{IsScale};
 ghost use Rattle.tsp_branch.specs.Decisions.{DecideOnce};
-ghost use Rattle.tsp_branch.specs.states.Sets.{AreSetsOf};
+ghost use Rattle.tsp_branch.specs.states.Sets.{AreSetsOf, AreInOrder};
 ghost use Rattle.tsp_branch.specs.states.Combed.{plain};
 ghost use Rattle.tsp_branch.specs.states.Decided.{IsDecision};
 ghost use Rattle.tsp_branch.specs.Listed.{IsStepOf};
-ghost use Rattle.tsp_branch.specs.GoodCombs.{AreInOrder};
 ghost use Rattle.tsp_branch.specs.BranchVerdicts.{IsBranchVerdict, VerdictBoundsCycles, IsSizedVerdict};
 
 use crate::branch::branch_bound;

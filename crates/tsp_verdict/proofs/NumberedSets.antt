@@ -11,10 +11,9 @@ use Rattle.std.proofs.lemmas.List.Sums.{sum_by-cons}
 use Rattle.tsp_format.specs.Cells.{IsNode}
 use Rattle.tsp_draft.specs.states.Drafts.{combs_of as lists_of_combs}
 use Rattle.tsp_draft.specs.Valid.{IsSetOf, AreSets}
-use Rattle.tsp_branch.specs.states.Sets.{AreSetsOf}
+use Rattle.tsp_branch.specs.states.Sets.{AreSetsOf, AreInOrder}
 use Rattle.tsp_branch.specs.states.Combed.{as_numbered, plain}
 use Rattle.tsp_branch.specs.CombsOfSets.{NumberedSet, numbered_set, comb_with, of_comb, combs_from, combs_of_sets}
-use Rattle.tsp_branch.specs.GoodCombs.{AreInOrder}
 use Rattle.tsp_file.specs.Typed.{AreSomeSets}
 use Rattle.tsp_verdict.specs.states.Numbered.{with_number, numbered_from}
 use Rattle.tsp_branch.specs.declared.comb_set.CombSet.{CombSet}

@@ -4,11 +4,12 @@ ghost use Rattle.std.specs.Prelude.{◌≡◌, ◌^◌, ◌<◌, ℕ, List, fals
 ghost use Rattle.std.specs.List.{AllPairs};
 ghost use Rattle.tsp_theory.specs.Adjusted.{pair_of, is_same_pair};
 ghost use Rattle.tsp_verdict.specs.Multiplied.{AreListed, IsUnlisted, IsPairRepeated};
-ghost use Rattle.tsp_branch.specs.states.PairSets.{undirected, HasPairs};
+ghost use Rattle.tsp_branch.specs.states.PairSets.{HasPairs};
 ghost use Rattle.tsp_verdict.specs.Places.{IsFirstPlace};
 
 use std::alloc::{AllocError, Global};
 use std::collections::BTreeSet;
+use tsp_branch::key_of;
 
 /// The first triple, counted from 1, whose pair isn't among the fixed ones, in either direction.
 ///
@@ -47,7 +48,7 @@ pub(crate) fn first_repeated_pair(
     let mut index = 0;
     'triples: for triple in triples {
         index += 1;
-        let is_new = seen.insert(undirected((triple.0, triple.1)))?;
+        let is_new = seen.insert(key_of(false, (triple.0, triple.1)))?;
         if !is_new {
             return Ok(Some(index));
         }
@@ -61,7 +62,7 @@ fn set_of(alloc: Global, pairs: &[(u32, u32)]) -> Result<BTreeSet<(u32, u32)>, A
 {
     let mut set = BTreeSet::new(alloc);
     'pairs: for pair in pairs {
-        set.insert(undirected(*pair))?;
+        set.insert(key_of(false, *pair))?;
     }
     Ok(set)
 }
@@ -76,21 +77,10 @@ fn first_outside(set: &BTreeSet<(u32, u32)>, triples: &[(u32, u32, i64)]) -> Opt
     let mut index = 0;
     'triples: for triple in triples {
         index += 1;
-        let pair = undirected((triple.0, triple.1));
+        let pair = key_of(false, (triple.0, triple.1));
         if !set.contains(&pair) {
             return Some(index);
         }
     }
     None
-}
-
-/// A pair with its smaller node first.
-fn undirected(pair: (u32, u32)) -> (u32, u32)
-    ensures { result ≡ undirected pair }
-{
-    if pair.0 <= pair.1 {
-        pair
-    } else {
-        (pair.1, pair.0)
-    }
 }

@@ -3,10 +3,10 @@ use Rattle.std.specs.List.{All}
 use Rattle.std.proofs.lemmas.Bool.{iff_false}
 use Rattle.std.proofs.lemmas.List.Elements.{All-drop}
 use Rattle.tsp_format.specs.Cells.{IsNode}
-use Rattle.tsp_branch.specs.states.Sets.{AreSetsOf}
+use Rattle.tsp_branch.specs.states.Sets.{AreSetsOf, AreInOrder}
 use Rattle.tsp_branch.specs.states.Combed.{plain}
 use Rattle.tsp_branch.specs.CombsOfSets.{of_comb}
-use Rattle.tsp_branch.specs.GoodCombs.{IsGoodComb, AreInOrder}
+use Rattle.tsp_branch.specs.GoodCombs.{IsGoodComb}
 use Rattle.tsp_branch.specs.states.Marked.{AreUnmarked}
 use Rattle.tsp_branch.specs.declared.comb_set.CombSet.{CombSet}
 use Rattle.tsp_branch.proofs.Judging.{written}

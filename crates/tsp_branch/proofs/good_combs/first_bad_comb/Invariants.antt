@@ -1,9 +1,9 @@
 use Rattle.std.proofs.Common.{◌≡◌, ◌≤◌, ◌<◌, ◌+◌, ℕ, length}
 use Rattle.std.specs.List.{All}
-use Rattle.tsp_branch.specs.states.Sets.{AreSetsOf}
+use Rattle.tsp_branch.specs.states.Sets.{AreSetsOf, AreInOrder}
 use Rattle.tsp_branch.specs.states.Combed.{plain}
 use Rattle.tsp_branch.specs.CombsOfSets.{of_comb}
-use Rattle.tsp_branch.specs.GoodCombs.{IsGoodComb, AreInOrder}
+use Rattle.tsp_branch.specs.GoodCombs.{IsGoodComb}
 use Rattle.tsp_branch.specs.states.Marked.{AreUnmarked}
 use Rattle.tsp_branch.proofs.good_combs.first_bad_comb.Given as goal
 
