@@ -1,6 +1,6 @@
 //! The places of nodes: those of points, whose distances grow with the ways along the axes.
 
-ghost use Rattle.std.specs.Prelude.{◌≡◌, map};
+ghost use Rattle.std.specs.Prelude.{◌≡◌};
 ghost use Rattle.tsp_format.specs.Cells.{IsNode};
 
 use crate::curve::along_curve;

@@ -3,7 +3,7 @@
 ghost use Rattle.std.specs.Prelude.{◌≡◌, None};
 ghost use Rattle.tsp_draft.specs.states.Drafts.{fields_of};
 ghost use Rattle.tsp_draft.specs.Validity.{first_failing};
-ghost use Rattle.tsp_draft.specs.Rules.{standing_of, is_instance, is_routing, is_tours, is_certificate, lists_weights, has_distances, has_row_or_column, has_node_or_multiplier, is_tree, is_asked, is_there, asked_in_order, has_wrong_format, has_wrong_count, end_fault};
+ghost use Rattle.tsp_draft.specs.Rules.{standing_of, is_instance, is_routing, is_tours, is_certificate, lists_weights, has_distances, has_row_or_column, has_node_or_multiplier, is_tree, is_asked, is_there, has_wrong_format, has_wrong_count, end_fault};
 
 use crate::draft::Draft;
 use crate::fault::EndFault;

@@ -1,15 +1,15 @@
 //! When a value of a field is valid on its own.
 
-ghost use Rattle.std.specs.Prelude.{◌≡◌, ◌-◌, ◌==◌, ◌||◌, not, ◌&&◌, cond, Some, None, length, slice_index, nat_le, pos, map};
+ghost use Rattle.std.specs.Prelude.{◌≡◌, ◌-◌, ◌==◌, ◌||◌, not, ◌&&◌, cond, Some, None, length, slice_index, nat_le, map};
 ghost use Rattle.std.specs.List.{list_all, sum_by};
 ghost use Rattle.tsp_format.specs.Words.{field_word};
 ghost use Rattle.tsp_format.specs.Bytes.{is_blank, is_keyword_byte};
-ghost use Rattle.tsp_format.specs.Limits.{most_coordinate, most_potential, most_tour_nodes, most_comb_nodes, most_branches, most_changes};
+ghost use Rattle.tsp_format.specs.Limits.{most_coordinate, most_tour_nodes, most_comb_nodes, most_branches, most_changes};
 ghost use Rattle.tsp_distance.specs.Distances.{on_plane};
 ghost use Rattle.tsp_format.specs.states.TreeSteps.{step_of, steps_of};
 ghost use Rattle.tsp_format.specs.Steps.{are_whole, branch_count, change_count};
 ghost use Rattle.tsp_draft.specs.states.Drafts.{points_of, combs_of};
-ghost use Rattle.tsp_draft.specs.Validity.{is_kept, is_unknown_keyword, is_other, is_within, is_node, is_third, is_point, is_demand, are_depots, is_node_pair, are_fixed, is_triple, are_triples, are_weights, is_tour, is_set, is_comb, are_combs, is_change, is_step, are_steps};
+ghost use Rattle.tsp_draft.specs.Validity.{is_kept, is_unknown_keyword, is_other, is_within, is_node, is_third, is_point, are_depots, is_node_pair, are_fixed, is_triple, are_triples, are_weights, is_tour, is_set, is_comb, are_combs, is_change, is_step, are_steps};
 
 use crate::coords::Coords;
 use crate::range::{are_from_to, is_from_to};

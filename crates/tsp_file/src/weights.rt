@@ -50,14 +50,12 @@ pub struct ListedWeights<'a> {
 }
 
 impl<'a> ListedWeights<'a> {
-    ghost use Rattle.std.specs.Prelude.{ℕ, ◌<◌, ◌+◌, ◌*◌, ◌≢◌, ◌++◌, false, map, pos, ◌↔◌, IsTrue, MatchOption, IfOk, OnOk, ◌-◌, slice_index_or};
+    ghost use Rattle.std.specs.Prelude.{ℕ, ◌<◌, ◌+◌, ◌*◌, ◌≢◌, ◌++◌, false, map, pos, ◌↔◌, IsTrue, MatchOption, IfOk, OnOk, ◌-◌};
     ghost use Rattle.tsp_format.specs.Cells.{IsNode, cells_of_line};
     ghost use Rattle.tsp_format.specs.Symmetry.{IsFirstAsymmetric};
     ghost use Rattle.tsp_draft.specs.Fields.{Fields};
     ghost use Rattle.tsp_file.specs.Listed.{ListsWeights};
     ghost use Rattle.tsp_file.specs.Relayout.{HoldsPairs, HoldsDiagonal, lists_diagonal, IsFirstOnDiagonal, costs_in};
-    ghost use Rattle.std.specs.List.{range_with_len};
-    ghost use Rattle.tsp_file.specs.states.Side.{first_own, past_own};
     ghost use Rattle.tsp_file.specs.states.Weights.{costs_of};
 
     /// These weights over this many nodes in this layout.

@@ -1,6 +1,6 @@
 //! A full matrix of half of one, in the memory of the whole.
 
-ghost use Rattle.std.specs.Prelude.{◌≡◌, ◌≢◌, ◌≤◌, ◌<◌, ◌+◌, ◌*◌, Bool, ℕ, ℤ, List, length, take, true, ◌⊎◌, OnErr, OnOk};
+ghost use Rattle.std.specs.Prelude.{◌≡◌, ◌≢◌, ◌≤◌, ◌<◌, ◌+◌, ◌*◌, ℕ, ℤ, List, length, take, true, ◌⊎◌, OnErr, OnOk};
 ghost use Rattle.tsp_format.specs.declared.layout.Layout.TheVariants.{FullMatrix};
 ghost use Rattle.tsp_format.specs.Cells.{IsNode, cells};
 ghost use Rattle.tsp_format.specs.Symmetry.{IsSymmetric};

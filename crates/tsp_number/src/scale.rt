@@ -1,6 +1,6 @@
 //! The digits of a number word, shifted by its exponent.
 
-ghost use Rattle.std.specs.Prelude.{◌≡◌, ◌+◌, ◌*◌, ◌^◌, ◌<◌, ◌≤◌, ◌++◌, length, ℕ, ◌==◌, pos, ◌+ℤ◌, ◌-ℤ◌};
+ghost use Rattle.std.specs.Prelude.{◌≡◌, ◌+◌, ◌*◌, ◌^◌, ◌<◌, ◌≤◌, ◌++◌, length, ◌==◌, pos, ◌+ℤ◌, ◌-ℤ◌};
 ghost use Rattle.std.specs.List.{list_all};
 ghost use Rattle.std.specs.Str.Parse.{AllDigits, digits_value};
 ghost use Rattle.tsp_number.specs.NumberWord.{Numeral, digits_of, places as places_of};

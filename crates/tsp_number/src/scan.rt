@@ -1,6 +1,6 @@
 //! The parts of a number word, found from the left.
 
-ghost use Rattle.std.specs.Prelude.{◌≡◌, ◌+◌, ◌<◌, ◌≤◌, length, slice_index, MatchOption, ℕ, None, Some};
+ghost use Rattle.std.specs.Prelude.{◌≡◌, ◌+◌, ◌<◌, ◌≤◌, length, MatchOption, ℕ, None, Some};
 ghost use Rattle.std.specs.Option.{option_map};
 ghost use Rattle.std.specs.Str.Parse.{digits_value_after};
 ghost use Rattle.tsp_number.specs.Scan.{has_minus, after_sign, after_point, front_digits, after_digits, exponent_in, numeral_in};

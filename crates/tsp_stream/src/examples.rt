@@ -1,7 +1,7 @@
 //! Answers of a writer, on which the definition of a failed write is evaluated. No body is looked at
 //! here: a definition that is changed together with its code is refused by its examples.
 
-ghost use Rattle.std.specs.Prelude.{◌≡◌, ℕ, true, false, [], ◌∷◌, Result, Ok, Err, codes};
+ghost use Rattle.std.specs.Prelude.{◌≡◌, true, false, [], ◌∷◌, Ok, Err, codes};
 ghost use Rattle.std.specs.declared.io.Error.{Error};
 ghost use Rattle.tsp_stream.specs.declared.output.WriteFault.TheVariants as faults;
 ghost use Rattle.tsp_stream.specs.FaultText.{write_fault_text};

@@ -1,6 +1,6 @@
 //! The keyword lines of a file.
 
-ghost use Rattle.std.specs.Prelude.{ℕ, List, map};
+ghost use Rattle.std.specs.Prelude.{map};
 ghost use Rattle.std.specs.List.{flat_map};
 ghost use Rattle.std.specs.Option.{option_map};
 ghost use Rattle.tsp_file.specs.Text.{value_line, keyword_line, other_line, optional};

@@ -1,9 +1,9 @@
 //! The sections of a certificate by branching: combs, and the steps of a tree.
 
-ghost use Rattle.std.specs.Prelude.{◌≡◌, ℕ, [], map};
+ghost use Rattle.std.specs.Prelude.{◌≡◌, [], map};
 ghost use Rattle.std.specs.List.{flat_map};
 ghost use Rattle.std.specs.Option.{option_map};
-ghost use Rattle.tsp_format.specs.Steps.{Step, Leaf};
+ghost use Rattle.tsp_format.specs.Steps.{Leaf};
 ghost use Rattle.tsp_format.specs.states.TreeSteps.{step_of, steps_of};
 ghost use Rattle.tsp_draft.specs.states.Drafts.{combs_of};
 ghost use Rattle.tsp_stream.specs.states.Way.{Puts};
