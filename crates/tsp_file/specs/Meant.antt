@@ -17,20 +17,22 @@ meant_scale scale = unwrap_or scale (pos 1)
 abbrev pub scale_in : Fields → ℤ
 scale_in f = meant_scale f.scale
 
--- the fixed pairs: none
+-- the fixed pairs; there are none where no section lists them
 abbrev pub fixed_of : Fields → List (ℕ × ℕ)
 fixed_of f = unwrap_or f.fixed []
 
--- the multipliers of fixed pairs: none
+-- the multipliers of fixed pairs; none without their section
 abbrev pub multipliers_in : Fields → List (ℕ × ℕ × ℤ)
 multipliers_in f = unwrap_or f.fixed_potentials []
 
--- the families of a tree of cases, each as its sets, the handle first: none
+-- the families of a tree of cases, each as its sets, the handle first; none without their section
 abbrev pub combs_in : Fields → List (List (List ℕ))
 combs_in f = unwrap_or f.combs []
 
--- ---- fields that each valid file has whose TYPE asks for them (`HasInstance`, `HasRouting`, `HasPotentials`, `HasBranches`):
--- ---- what they are said to be in other files is looked at nowhere
+-- ---- fields that a valid file has where its TYPE asks for them (`HasInstance`, `HasRouting`, `HasPotentials`, `HasBranches`)
+
+-- A definition has a value for each file. No verdict rests on the one for a missing field: where a field is missing that a reason
+-- or a bound is about, an earlier reason applies, such as `NotASolution`, `PotentialsKind` or `NotBranches`.
 
 -- the number of nodes
 abbrev pub nodes_of : Fields → ℕ
