@@ -1,17 +1,21 @@
 -- A run that bounds the tours of an instance, put together from its parts.
-use Rattle.std.specs.Prelude.{ℤ}
-use Rattle.std.proofs.Common.{◌≡◌, Option, None, Some, Result, Ok, Err, subst, inl, inr}
+use Rattle.std.specs.Prelude.{ℤ, IsTrue}
+use Rattle.std.proofs.Common.{◌≡◌, Option, None, Some, Result, Ok, Err, refl, subst, inl, inr}
 use Rattle.tsp_stream.specs.Turn.{Turn, IsUnread}
 use Rattle.tsp_stream.specs.Sink.{Sink, IsUnwritten}
 use Rattle.tsp_draft.specs.Fields.{Fields}
 use Rattle.tsp_read.specs.Reads.{IsFile}
 use Rattle.tsp_reason.specs.declared.certificate.Certificate.{Certificate}
+use Rattle.tsp_verdict.specs.Bounded.{IsBoundVerdict}
+use Rattle.tsp_verdict.specs.Certified.{is_bounded}
+use Rattle.tsp_report.specs.Report.{bound_report_of}
 use Rattle.tsp_judge.specs.declared.bound.Bounded.{Bounded}
 use Rattle.tsp_judge.specs.declared.fault.RunFault.{RunFault}
 use Rattle.tsp_judge.specs.declared.fault.RunFault.TheVariants.{File, WrongKind, Write, OutOfMemory, Relayout}
-use Rattle.tsp_judge.specs.BoundRun.{BoundsFiles, EndsUnbounded, IsBoundRun, IsABoundYes, IsNoTourYes, SaysBound, IsBoundRunOf}
+use Rattle.tsp_judge.specs.BoundRun.{BoundsFiles, EndsUnbounded, IsBoundRun, SaysBound, IsBoundRunOf}
+use Rattle.tsp_judge.specs.Accepted.{IsBoundAccepted}
 use Rattle.tsp_judge.specs.Run.{ReadsFile}
-use Rattle.tsp_judge.proofs.Yeses.{of_type}
+use Rattle.tsp_judge.proofs.Yeses.{of_type, tours_bounded}
 
 pub bound_first_stops : (by : Certificate) (first second : Turn) (sink : Sink) (fault : RunFault) → ReadsFile 1 first (Err fault) → IsUnread second → IsUnwritten sink
     → EndsUnbounded by first second sink fault
@@ -39,35 +43,33 @@ ends_unbounded by first second instance certificate sink OutOfMemory one two bou
 ends_unbounded by first second instance certificate sink (Relayout fault) one two bounds = (instance, certificate, one, two, bounds)
 
 -- what an accepted bound says
-a_bound_yes : (by : Certificate) (first second : Turn) (sink : Sink) (instance certificate : Fields) (bound : ℤ) → IsFile first instance → IsFile second certificate
-    → BoundsFiles by instance certificate sink (Ok (Ok (Some bound))) → IsABoundYes by first second sink bound
-a_bound_yes by first second sink instance certificate bound one two b = record {
-  instance = instance;
-  certificate = certificate;
-  first_file = one;
-  second_file = two;
-  of_type = of_type by instance certificate (λ reason stands. b.1.0 reason (inr stands));
-  of_certificate = b.1.1.0;
-  printed = b.2;
-  below_tours = b.1.1.1;
+bound_accepted : (by : Certificate) (instance certificate : Fields) (bound : Option ℤ) → IsTrue (is_bounded by instance.kind)
+    → IsBoundVerdict by instance certificate (Ok bound) → IsBoundAccepted by instance certificate bound (bound_report_of instance (Ok bound))
+bound_accepted by instance certificate (Some bound) type v = record {
+  instance_type = tours_bounded by instance.kind type;
+  certificate_type = of_type by instance certificate (λ reason stands. v.0 reason (inr stands));
+  of_certificate = v.1.0;
+  printed = refl;
+  below_tours = v.1.1;
 }
-
-a_yes_of_no_tour : (by : Certificate) (first second : Turn) (sink : Sink) (instance certificate : Fields) → IsFile first instance → IsFile second certificate
-    → BoundsFiles by instance certificate sink (Ok (Ok None)) → IsNoTourYes by first second sink
-a_yes_of_no_tour by first second sink instance certificate one two b = record {
-  instance = instance;
-  certificate = certificate;
-  first_file = one;
-  second_file = two;
-  of_type = of_type by instance certificate (λ reason stands. b.1.0 reason (inr stands));
-  printed = b.2;
-  no_tour = b.1.2;
+bound_accepted by instance certificate None type v = record {
+  instance_type = tours_bounded by instance.kind type;
+  certificate_type = of_type by instance certificate (λ reason stands. v.0 reason (inr stands));
+  printed = refl;
+  no_tour = v.2;
 }
 
 either_yes : (by : Certificate) (first second : Turn) (sink : Sink) (instance certificate : Fields) (bound : Option ℤ) → IsFile first instance → IsFile second certificate
     → BoundsFiles by instance certificate sink (Ok (Ok bound)) → SaysBound by first second sink bound
-either_yes by first second sink instance certificate (Some bound) one two b = a_bound_yes by first second sink instance certificate bound one two b
-either_yes by first second sink instance certificate None one two b = a_yes_of_no_tour by first second sink instance certificate one two b
+either_yes by first second sink instance certificate bound one two b = record {
+  instance = instance;
+  certificate = certificate;
+  report = bound_report_of instance (Ok bound);
+  first_file = one;
+  second_file = two;
+  written = b.2;
+  meaning = bound_accepted by instance certificate bound b.0 b.1;
+}
 
 says_bound : (by : Certificate) (first second : Turn) (sink : Sink) (bounded : Bounded) (bound : Option ℤ) → IsBoundRun by first second sink (Ok bounded) → bounded.found ≡ Ok bound
     → SaysBound by first second sink bound

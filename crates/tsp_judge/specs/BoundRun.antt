@@ -1,5 +1,5 @@
 -- What bounding the tours of an instance, without a solution, does to its readers and its writer, and its result.
-use Rattle.std.specs.Prelude.{◌≡◌, ◌⊎◌, false, Option, None, Some, Result, Ok, Err, IsTrue, ℤ}
+use Rattle.std.specs.Prelude.{◌≡◌, ◌⊎◌, ℕ, false, List, Option, Result, Ok, Err, IsTrue, ℤ}
 use Rattle.tsp_stream.specs.declared.output.WriteFault.TheVariants as write_faults
 use Rattle.tsp_stream.specs.Turn.{Turn, IsUnread}
 use Rattle.tsp_stream.specs.Sink.{Sink, IsUnwritten, HasWritten, HasStopped}
@@ -8,10 +8,11 @@ use Rattle.tsp_read.specs.Reads.{IsFile, StopsAt}
 use Rattle.tsp_reason.specs.declared.certificate.Certificate.{Certificate}
 use Rattle.tsp_reason.specs.declared.verdict.Reason.{Reason}
 use Rattle.tsp_verdict.specs.Bounded.{NoneAgainstInstance, IsBoundVerdict}
-use Rattle.tsp_verdict.specs.Certified.{kind_of, is_bounded, NoneWithoutMemory, IsBoundOf, BoundsTours, HasNoTour}
+use Rattle.tsp_verdict.specs.Certified.{is_bounded, NoneWithoutMemory}
 use Rattle.tsp_judge.specs.declared.bound.Bounded.{Bounded}
 use Rattle.tsp_judge.specs.declared.fault.RunFault.{RunFault}
 use Rattle.tsp_judge.specs.declared.fault.RunFault.TheVariants.{File, WrongKind, Write, OutOfMemory, Relayout}
+use Rattle.tsp_judge.specs.Accepted.{IsBoundAccepted}
 use Rattle.tsp_judge.specs.Run.{IsSomeFile}
 use Rattle.tsp_report.specs.Report.{bound_report_of}
 
@@ -47,31 +48,15 @@ IsBoundRun by first second sink (Ok bounded) = IsFile first bounded.instance × 
     × BoundsFiles by bounded.instance bounded.certificate sink (Ok bounded.found)
 IsBoundRun by first second sink (Err fault) = EndsUnbounded by first second sink fault
 
--- With a bound the second file is of the certificate's TYPE, its bound is printed, and every tour of the instance is at least
--- as long as that.
-pub record IsABoundYes (by : Certificate) (first second : Turn) (sink : Sink) (bound : ℤ) : Type 0 where
+-- With `yes` the bytes that were read parse to these files, the whole report was written, and it means that the bound is one.
+pub record SaysBound (by : Certificate) (first second : Turn) (sink : Sink) (bound : Option ℤ) : Type 0 where
   pub instance : Fields
   pub certificate : Fields
+  pub report : List ℕ
   pub first_file : IsFile first instance
   pub second_file : IsFile second certificate
-  pub of_type : certificate.kind ≡ Some (kind_of by)
-  pub of_certificate : IsBoundOf by instance certificate bound
-  pub printed : HasWritten sink (bound_report_of instance (Ok (Some bound)))
-  pub below_tours : BoundsTours instance bound
-
--- With `bound none` the second file is of the certificate's TYPE, and the instance has no tour.
-pub record IsNoTourYes (by : Certificate) (first second : Turn) (sink : Sink) : Type 0 where
-  pub instance : Fields
-  pub certificate : Fields
-  pub first_file : IsFile first instance
-  pub second_file : IsFile second certificate
-  pub of_type : certificate.kind ≡ Some (kind_of by)
-  pub printed : HasWritten sink (bound_report_of instance (Ok None))
-  pub no_tour : HasNoTour instance
-
-abbrev pub SaysBound : Certificate → Turn → Turn → Sink → Option ℤ → Type 0
-SaysBound by first second sink (Some bound) = IsABoundYes by first second sink bound
-SaysBound by first second sink None = IsNoTourYes by first second sink
+  pub written : HasWritten sink report
+  pub meaning : IsBoundAccepted by instance certificate bound report
 
 -- what the run does, and what its line `yes` means
 abbrev pub IsBoundRunOf : Certificate → Turn → Turn → Sink → Result Bounded RunFault → Type 0
