@@ -1,6 +1,6 @@
 -- From runs on readers to what is said of the texts that they read.
 use Rattle.std.proofs.Common.{◌≡◌, ℕ, List, [], Bool, true, false, Result, Ok, Err, inl, inr, refl, sym, ap, subst, ◌∙◌, arith}
-use Rattle.std.specs.Prelude.{◌⊎◌, Option, None, Some, IfSome, ℤ, is_ok}
+use Rattle.std.specs.Prelude.{Option, None, Some, IfSome, ℤ}
 use Rattle.std.specs.Io.KnownBytes.{Appends}
 use Rattle.std.proofs.lemmas.Bool.{false≢true}
 use Rattle.tsp_format.specs.declared.layout.Layout.{Layout}
@@ -15,14 +15,16 @@ use Rattle.tsp_text.specs.declared.fault.ReadFault.TheVariants as read_faults
 use Rattle.tsp_text.specs.Text.{fault, Spells}
 use Rattle.tsp_read.specs.Reads.{IsFile, HasFault, StopsAt}
 use Rattle.tsp_reason.specs.declared.certificate.Certificate.{Certificate}
-use Rattle.tsp_reason.specs.declared.verdict.Reason.{Reason}
+use Rattle.tsp_reason.specs.declared.verdict.BoundVerdict.{BoundVerdict}
+use Rattle.tsp_reason.specs.declared.verdict.BoundVerdict.TheVariants as bounds
 use Rattle.tsp_reason.specs.declared.verdict.Verdict.{Verdict}
 use Rattle.tsp_reason.specs.declared.verdict.Verdict.TheVariants.{Tour, Routes, No}
+use Rattle.tsp_reason.specs.Verdicts.{is_yes, is_bound_yes}
 use Rattle.tsp_judge.specs.declared.bound.Bounded.{Bounded}
 use Rattle.tsp_judge.specs.declared.fault.RunFault.{RunFault}
 use Rattle.tsp_judge.specs.declared.fault.RunFault.TheVariants.{File, WrongKind, Write, OutOfMemory, Relayout}
 use Rattle.tsp_judge.specs.Status.{status_of_fault}
-use Rattle.tsp_judge.specs.Run.{given_by, IsSomeFile, IsFileIn, AreRead, JudgesFiles, EndsWithout, is_yes}
+use Rattle.tsp_judge.specs.Run.{given_by, IsSomeFile, IsFileIn, AreRead, JudgesFiles, EndsWithout}
 use Rattle.tsp_judge.specs.Accepted.{IsAccepted, IsBoundAccepted}
 use Rattle.tsp_judge.specs.Yes.{SaysYes, IsCheckOf}
 use Rattle.tsp_judge.specs.BoundRun.{BoundsFiles, EndsUnbounded, SaysBound, IsBoundRunOf}
@@ -235,26 +237,28 @@ pub record Reads2 (first second : Turn) (one two : List ℕ) : Type 0 where
   pub first_is : first.known ≡ Some one
   pub second_is : second.known ≡ Some two
 
-bound_says : (by : Certificate) (first second : Turn) (sink : Sink) (one two written : List ℕ) (bound : Option ℤ)
-    → Reads2 first second one two → Collects sink written → SaysBound by first second sink bound → IsBoundText by one two written
-bound_says by first second sink one two written bound reads collects says = record {
+bound_says : (by : Certificate) (first second : Turn) (sink : Sink) (one two written : List ℕ) (found : BoundVerdict)
+    → Reads2 first second one two → Collects sink written → SaysBound by first second sink found → IsBoundText by one two written
+bound_says by first second sink one two written found reads collects says = record {
   instance = says.instance;
   certificate = says.certificate;
-  bound = bound;
+  found = found;
   first_file = spelled first one says.instance reads.first_is says.first_file;
   second_file = spelled second two says.certificate reads.second_is says.second_file;
-  meaning = subst (IsBoundAccepted by says.instance says.certificate bound)
+  meaning = subst (IsBoundAccepted by says.instance says.certificate found)
       (sym (printed_is sink written says.report collects says.written)) says.meaning;
 }
 
 bound_found : (by : Certificate) (first second : Turn) (sink : Sink) (one two written : List ℕ) (status : ℕ) (text : List ℕ)
-    (instance certificate : Fields) (found : Result (Option ℤ) Reason) → Reads2 first second one two → Collects sink written
+    (instance certificate : Fields) (found : BoundVerdict) → Reads2 first second one two → Collects sink written
     → IsFile first instance → IsFile second certificate → BoundsFiles by instance certificate sink (Ok found)
-    → ((bound : Option ℤ) → found ≡ Ok bound → SaysBound by first second sink bound)
-    → EndsOnTexts (Ok (is_ok found)) written status text → BoundsTexts by one two status text
-bound_found by first second sink one two written status text instance certificate (Ok bound) reads collects first_file second_file judged says e =
-    yes_ends written status text (bound_says by first second sink one two written bound reads collects (says bound refl)) e
-bound_found by first second sink one two written status text instance certificate (Err reason) reads collects first_file second_file judged says e =
+    → (is_bound_yes found ≡ true → SaysBound by first second sink found)
+    → EndsOnTexts (Ok (is_bound_yes found)) written status text → BoundsTexts by one two status text
+bound_found by first second sink one two written status text instance certificate (bounds.Bound bound) reads collects first_file second_file judged says e =
+    yes_ends written status text (bound_says by first second sink one two written (bounds.Bound bound) reads collects (says refl)) e
+bound_found by first second sink one two written status text instance certificate bounds.NoTour reads collects first_file second_file judged says e =
+    yes_ends written status text (bound_says by first second sink one two written bounds.NoTour reads collects (says refl)) e
+bound_found by first second sink one two written status text instance certificate (bounds.No reason) reads collects first_file second_file judged says e =
     no_ends written status text (record {
       instance = instance;
       certificate = certificate;
@@ -292,12 +296,12 @@ not_relaid by first second sink fault refused is run = none (subst (λ (f : RunF
     none : EndsUnbounded by first second sink (Relayout refused) → ⊥
     none ended = ended.4
 
-pub bounds : (by : Certificate) (first second : Turn) (sink : Sink) (ended : Result Bounded RunFault) (one two written : List ℕ)
+pub bounds_texts : (by : Certificate) (first second : Turn) (sink : Sink) (ended : Result Bounded RunFault) (one two written : List ℕ)
     (status : ℕ) (text : List ℕ) → Reads2 first second one two → Collects sink written → IsBoundRunOf by first second sink ended
     → EndsOnTexts (has_bound ended) written status text → BoundsTexts by one two status text
-bounds by first second sink (Ok bounded) one two written status text reads collects run e =
+bounds_texts by first second sink (Ok bounded) one two written status text reads collects run e =
     let is = run.0 in bound_found by first second sink one two written status text bounded.instance bounded.certificate bounded.found
-    reads collects is.0 is.1 is.2 (λ bound found. run.1 bounded bound refl found) e
-bounds by first second sink (Err fault) one two written status text reads collects run e = fault_ends fault written status text
+    reads collects is.0 is.1 is.2 (λ yes. run.1 bounded refl yes) e
+bounds_texts by first second sink (Err fault) one two written status text reads collects run e = fault_ends fault written status text
     (λ refused is line. absurd (not_relaid by first second sink fault refused is run.0))
     (λ s. unbounded by first second sink one two fault reads run.0 s) e

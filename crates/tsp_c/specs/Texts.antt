@@ -9,6 +9,8 @@ use Rattle.tsp_file.specs.declared.fault.RelayoutFault.{RelayoutFault}
 use Rattle.tsp_text.specs.Text.{fault, Spells}
 use Rattle.tsp_reason.specs.declared.certificate.Certificate.{Certificate}
 use Rattle.tsp_reason.specs.declared.certificate.Certificate.TheVariants.{Potentials, Branches}
+use Rattle.tsp_reason.specs.declared.verdict.BoundVerdict.{BoundVerdict}
+use Rattle.tsp_reason.specs.declared.verdict.BoundVerdict.TheVariants as bounds
 use Rattle.tsp_reason.specs.declared.verdict.Reason.{Reason}
 use Rattle.tsp_reason.specs.declared.verdict.Verdict.TheVariants.{No}
 use Rattle.tsp_verdict.specs.Bounded.{IsBoundVerdict}
@@ -149,10 +151,10 @@ ChecksBy by has_claim claimed one two three status text =
 pub record IsBoundText (by : Certificate) (one two text : List ℕ) : Type 0 where
   pub instance : Fields
   pub certificate : Fields
-  pub bound : Option ℤ
+  pub found : BoundVerdict
   pub first_file : Spells one instance
   pub second_file : Spells two certificate
-  pub meaning : IsBoundAccepted by instance certificate bound text
+  pub meaning : IsBoundAccepted by instance certificate found text
 
 -- the first reason against the instance or the certificate is printed
 pub record IsBoundRejected (by : Certificate) (one two text : List ℕ) : Type 0 where
@@ -162,8 +164,8 @@ pub record IsBoundRejected (by : Certificate) (one two text : List ℕ) : Type 0
   pub second_file : Spells two certificate
   pub bounded : IsTrue (is_bounded by instance.kind)
   pub reason : Reason
-  pub judged : IsBoundVerdict by instance certificate (Err reason)
-  pub printed : text ≡ bound_report_of instance (Err reason)
+  pub judged : IsBoundVerdict by instance certificate (bounds.No reason)
+  pub printed : text ≡ bound_report_of instance (bounds.No reason)
 
 -- the first text, in order, that is no file decides, with its fault; or both are files, and tours of the first one's TYPE have no
 -- bound by the certificate

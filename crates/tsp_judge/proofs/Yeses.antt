@@ -1,7 +1,8 @@
 -- What an accepted check says, by its verdict.
-use Rattle.std.specs.Prelude.{ℤ, ◌⊎◌, ◌≤ℤ◌, IsTrue}
-use Rattle.std.proofs.Common.{◌≡◌, ℕ, List, Bool, true, false, Option, Some, None, Result, Ok, Err, refl, sym, ap, subst, ◌∙◌, inl, inr}
-use Rattle.std.proofs.lemmas.Bool.{false≢true}
+use Rattle.std.specs.Prelude.{ℤ, pos, ◌⊎◌, ◌≤ℤ◌, IsTrue, unwrap_or}
+use Rattle.std.proofs.Common.{◌≡◌, ◌≢◌, ℕ, ◌≤◌, ◌<◌, eqb, List, [], ◌∷◌, length, Bool, true, false, Option, Some, None, Result, Ok, Err, refl, sym, ap, subst, ◌∙◌, inl, inr, arith}
+use Rattle.std.proofs.lemmas.Bool.{false≢true, cases_lt}
+use Rattle.std.proofs.lemmas.Bool.Decides.{eqb_tells}
 use Rattle.tsp_format.specs.declared.kinds.Kind.{Kind}
 use Rattle.tsp_format.specs.declared.kinds.Kind.TheVariants as kinds
 use Rattle.tsp_stream.specs.Turn.{Turn}
@@ -9,12 +10,15 @@ use Rattle.tsp_stream.specs.Sink.{Sink}
 use Rattle.tsp_draft.specs.Fields.{Fields}
 use Rattle.tsp_draft.specs.Rules.{is_tours, is_certificate, is_tree}
 use Rattle.tsp_file.specs.Cost.{cost}
-use Rattle.tsp_file.specs.Meant.{tours_of}
+use Rattle.tsp_file.specs.Meant.{nodes_of, depots_of, tours_of}
 use Rattle.tsp_theory.specs.Length.{length_of}
+use Rattle.tsp_theory.specs.Routing.{RoutingProblem, IsPlan, IsCustomer, plan_length}
+use Rattle.tsp_cost.specs.ProblemLaws.{IsProblem}
+use Rattle.tsp_cost.specs.Tours.{depot_of, problem_of, routing_of}
 use Rattle.tsp_reason.specs.declared.certificate.Certificate.{Certificate}
 use Rattle.tsp_reason.specs.declared.certificate.Certificate.TheVariants.{Potentials, Branches}
 use Rattle.tsp_reason.specs.declared.verdict.Reason.{Reason}
-use Rattle.tsp_reason.specs.declared.verdict.Reason.TheVariants.{NotASolution, NotPotentials, NotBranches}
+use Rattle.tsp_reason.specs.declared.verdict.Reason.TheVariants.{NotASolution, TooFewNodes, DepotCount, NotPotentials, NotBranches}
 use Rattle.tsp_reason.specs.declared.verdict.Verdict.{Verdict}
 use Rattle.tsp_reason.specs.declared.verdict.Verdict.TheVariants as verdicts
 use Rattle.tsp_verdict.specs.Certified.{kind_of, is_bounded, StandsAgainstCertificate, IsCertifiedVerdict}
@@ -25,9 +29,11 @@ use Rattle.tsp_verdict.specs.Plan.{plan_length, depot_of}
 use Rattle.tsp_report.specs.Report.{report_of}
 use Rattle.tsp_judge.specs.declared.fault.RunFault.{RunFault}
 use Rattle.tsp_judge.specs.declared.judging.Judged.{Judged}
-use Rattle.tsp_judge.specs.Run.{Given, AreRead, is_yes, JudgesFiles, EndsWithout, IsRun, IsCheckAnswer, told}
+use Rattle.tsp_reason.specs.Verdicts.{is_yes}
+use Rattle.tsp_judge.specs.Run.{Given, EndsWithout, IsRun, told}
+use Rattle.tsp_judge.proofs.HandedOn.{one_value}
 use Rattle.tsp_judge.specs.Accepted.{IsTspOrAtsp, IsAcceptedTour, AreAcceptedRoutes, IsOptimalOrBounded, IsAccepted}
-use Rattle.tsp_judge.specs.Yes.{SaysYes, IsCheckOf, IsRunOf}
+use Rattle.tsp_judge.specs.Yes.{SaysYes, IsRunOf}
 
 -- ---- the TYPE of a file
 
@@ -87,79 +93,130 @@ routes_as_claimed : (certificate : Option (Certificate × Fields)) (claimed : Op
 routes_as_claimed certificate None instance solution length routes least v = (v, tt)
 routes_as_claimed certificate (Some claim) instance solution length routes least v = (v.0, v.1)
 
+-- a claimed length
+claim_is : (claimed : Option ℤ) (length measured : ℤ) → IsAsClaimed claimed length → length ≡ measured → (claim : ℤ) → claimed ≡ Some claim → claim ≡ measured
+claim_is None length measured claims same claim is = absurd cc
+claim_is (Some other) length measured claims same claim is = sym (ap (λ o. unwrap_or o (pos 0)) is) ∙ claims ∙ same
+
+-- tours that aren't none are a field of their file
+present : (o : Option (List (List ℕ))) (tours : List (List ℕ)) → unwrap_or o [] ≡ tours → (tours ≡ [] → ⊥) → o ≡ Some tours
+present None tours is some = absurd (some (sym is))
+present (Some held) tours is some = ap (λ ts. Some ts) is
+
+one_tour : (solution : Fields) (tour : List ℕ) → tours_of solution ≡ tour ∷ [] → solution.tours ≡ Some (tour ∷ [])
+one_tour solution tour only = present solution.tours (tour ∷ []) only (λ none. cc)
+
 -- ---- without a certificate
 
-an_accepted_tour : (claimed : Option ℤ) (instance solution : Fields) (length : ℤ) (bound : Option ℤ) → IsTspOrAtsp instance.kind
+an_accepted_tour : (claimed : Option ℤ) (instance solution : Fields) (length : ℤ) (bound : Option ℤ) → IsProblem instance → IsTspOrAtsp instance.kind
     → IsTourVerdict instance solution (verdicts.Tour length bound) → IsAsClaimed claimed length
     → IsAcceptedTour claimed instance solution (report_of instance (verdicts.Tour length bound))
-an_accepted_tour claimed instance solution length bound type v claims = record {
+an_accepted_tour claimed instance solution length bound problem type v claims = record {
   instance_type = type;
+  problem = problem_of instance;
+  of_instance = problem.of_tours type;
   solution_type = a_file_of_tours solution.kind (λ other. v.0 NotASolution other);
   tour = v.1.0;
-  only = v.1.1;
-  tour_of = v.1.2;
-  as_claimed = subst (IsAsClaimed claimed) v.1.3 claims;
+  only = one_tour solution v.1.0 v.1.1;
+  is_tour = v.1.2;
+  as_claimed = claim_is claimed length (length_of (cost instance) v.1.0) claims v.1.3;
   printed = ap (λ l. report_of instance (verdicts.Tour l bound)) v.1.3
       ∙ ap (λ o. report_of instance (verdicts.Tour (length_of (cost instance) v.1.0) o)) v.2;
 }
 
-accepted_routes : (claimed : Option ℤ) (instance solution : Fields) (length_is : ℤ) (count least : ℕ) → instance.kind ≡ Some kinds.Cvrp
+-- a plan serves some customer, so that the file lists routes
+served_by_none : (problem : RoutingProblem) → 2 ≤ problem.nodes → IsPlan problem [] → ⊥
+served_by_none problem some plan = by_depot (eqb_tells problem.depot 1)
+  where
+    none_served : (node : ℕ) → IsCustomer problem.nodes problem.depot node → ⊥
+    none_served node customer = let found = plan.served node customer in omega (arith, found.1)
+
+    by_depot : ((eqb problem.depot 1 ≡ true) × (problem.depot ≡ 1)) ⊎ ((eqb problem.depot 1 ≡ false) × (problem.depot ≢ 1)) → ⊥
+    by_depot (inl first) = none_served 2 ((omega arith, some), λ is. omega (arith, is, first.1))
+    by_depot (inr other) = none_served 1 ((omega arith, omega (arith, some)), λ is. other.1 (sym is))
+
+accepted_routes : (claimed : Option ℤ) (instance solution : Fields) (length_is : ℤ) (count least : ℕ) → IsProblem instance → instance.kind ≡ Some kinds.Cvrp
     → IsRoutesVerdict instance solution (verdicts.Routes length_is count least) → IsAsClaimed claimed length_is
     → AreAcceptedRoutes claimed instance solution (report_of instance (verdicts.Routes length_is count least))
-accepted_routes claimed instance solution length_is count least type v claims = record {
-  instance_type = type;
-  solution_type = a_file_of_tours solution.kind (λ other. v.0 NotASolution other);
-  plan_of = v.1.plan_of;
-  least = least;
-  least_is = v.1.least_is;
-  none_fewer = v.1.none_fewer;
-  as_claimed = subst (IsAsClaimed claimed) v.1.measured claims;
-  printed = ap (λ l. report_of instance (verdicts.Routes l count least)) v.1.measured
-      ∙ ap (λ c. report_of instance (verdicts.Routes (plan_length (cost instance) (depot_of instance) (tours_of solution)) c least)) v.1.counted;
-}
+accepted_routes claimed instance solution length_is count least problem type v claims =
+    let one_depot : length (depots_of instance) ≡ 1 = not_not (length (depots_of instance)) (λ other. v.0 DepotCount other) in
+    let some : 2 ≤ nodes_of instance = not_fewer (nodes_of instance) (λ few. v.0 TooFewNodes few) in
+    record {
+      instance_type = type;
+      problem = routing_of instance;
+      of_instance = problem.of_routes type one_depot;
+      solution_type = a_file_of_tours solution.kind (λ other. v.0 NotASolution other);
+      routes = tours_of solution;
+      all = present solution.tours (tours_of solution) refl
+          (λ none. served_by_none (routing_of instance) some (subst (IsPlan (routing_of instance)) none v.1.plan_of));
+      is_plan = v.1.plan_of;
+      least = least;
+      least_is = v.1.least_is;
+      none_fewer = v.1.none_fewer;
+      as_claimed = claim_is claimed length_is (plan_length (cost instance) (depot_of instance) (tours_of solution)) claims v.1.measured;
+      printed = ap (λ l. report_of instance (verdicts.Routes l count least)) v.1.measured
+          ∙ ap (λ c. report_of instance (verdicts.Routes (plan_length (cost instance) (depot_of instance) (tours_of solution)) c least)) v.1.counted;
+    }
+  where
+    not_not : (count : ℕ) → (count ≢ 1 → ⊥) → count ≡ 1
+    not_not count not = by_test (eqb_tells count 1)
+      where
+        by_test : ((eqb count 1 ≡ true) × (count ≡ 1)) ⊎ ((eqb count 1 ≡ false) × (count ≢ 1)) → count ≡ 1
+        by_test (inl is) = is.1
+        by_test (inr other) = absurd (not other.1)
 
-tour_by_type : (kind : Option Kind) (claimed : Option ℤ) (instance solution : Fields) (length : ℤ) (bound : Option ℤ) → kind ≡ instance.kind
+    not_fewer : (n : ℕ) → (n < 2 → ⊥) → 2 ≤ n
+    not_fewer n not = by_test (cases_lt n 2)
+      where
+        by_test : (n < 2) ⊎ (2 ≤ n) → 2 ≤ n
+        by_test (inl few) = absurd (not few)
+        by_test (inr some) = some
+
+tour_by_type : (kind : Option Kind) (claimed : Option ℤ) (instance solution : Fields) (length : ℤ) (bound : Option ℤ) → IsProblem instance → kind ≡ instance.kind
     → IsVerdictBy kind instance solution (verdicts.Tour length bound) → IsAsClaimed claimed length
     → IsAcceptedTour claimed instance solution (report_of instance (verdicts.Tour length bound))
-tour_by_type (Some kinds.Tsp) claimed instance solution length bound same v claims =
-    an_accepted_tour claimed instance solution length bound (inl (sym same)) v claims
-tour_by_type (Some kinds.Atsp) claimed instance solution length bound same v claims =
-    an_accepted_tour claimed instance solution length bound (inr (sym same)) v claims
-tour_by_type (Some kinds.Cvrp) claimed instance solution length bound same v claims = absurd v
-tour_by_type (Some kinds.Tour) claimed instance solution length bound same v claims = absurd v
-tour_by_type (Some kinds.Potentials) claimed instance solution length bound same v claims = absurd v
-tour_by_type (Some kinds.Branches) claimed instance solution length bound same v claims = absurd v
-tour_by_type None claimed instance solution length bound same v claims = absurd v
+tour_by_type (Some kinds.Tsp) claimed instance solution length bound problem same v claims =
+    an_accepted_tour claimed instance solution length bound problem (inl (sym same)) v claims
+tour_by_type (Some kinds.Atsp) claimed instance solution length bound problem same v claims =
+    an_accepted_tour claimed instance solution length bound problem (inr (sym same)) v claims
+tour_by_type (Some kinds.Cvrp) claimed instance solution length bound problem same v claims = absurd v
+tour_by_type (Some kinds.Tour) claimed instance solution length bound problem same v claims = absurd v
+tour_by_type (Some kinds.Potentials) claimed instance solution length bound problem same v claims = absurd v
+tour_by_type (Some kinds.Branches) claimed instance solution length bound problem same v claims = absurd v
+tour_by_type None claimed instance solution length bound problem same v claims = absurd v
 
-routes_by_type : (kind : Option Kind) (claimed : Option ℤ) (instance solution : Fields) (length : ℤ) (count least : ℕ) → kind ≡ instance.kind
+routes_by_type : (kind : Option Kind) (claimed : Option ℤ) (instance solution : Fields) (length : ℤ) (count least : ℕ) → IsProblem instance → kind ≡ instance.kind
     → IsVerdictBy kind instance solution (verdicts.Routes length count least) → IsAsClaimed claimed length
     → AreAcceptedRoutes claimed instance solution (report_of instance (verdicts.Routes length count least))
-routes_by_type (Some kinds.Tsp) claimed instance solution length count least same v claims = absurd v
-routes_by_type (Some kinds.Atsp) claimed instance solution length count least same v claims = absurd v
-routes_by_type (Some kinds.Cvrp) claimed instance solution length count least same v claims =
-    accepted_routes claimed instance solution length count least (sym same) v claims
-routes_by_type (Some kinds.Tour) claimed instance solution length count least same v claims = absurd v
-routes_by_type (Some kinds.Potentials) claimed instance solution length count least same v claims = absurd v
-routes_by_type (Some kinds.Branches) claimed instance solution length count least same v claims = absurd v
-routes_by_type None claimed instance solution length count least same v claims = absurd v
+routes_by_type (Some kinds.Tsp) claimed instance solution length count least problem same v claims = absurd v
+routes_by_type (Some kinds.Atsp) claimed instance solution length count least problem same v claims = absurd v
+routes_by_type (Some kinds.Cvrp) claimed instance solution length count least problem same v claims =
+    accepted_routes claimed instance solution length count least problem (sym same) v claims
+routes_by_type (Some kinds.Tour) claimed instance solution length count least problem same v claims = absurd v
+routes_by_type (Some kinds.Potentials) claimed instance solution length count least problem same v claims = absurd v
+routes_by_type (Some kinds.Branches) claimed instance solution length count least problem same v claims = absurd v
+routes_by_type None claimed instance solution length count least problem same v claims = absurd v
 
 -- ---- with a certificate
 
-bounded_tour : (by : Certificate) (claimed : Option ℤ) (instance solution certificate : Fields) (length : ℤ) (bound : Option ℤ)
+bounded_tour : (by : Certificate) (claimed : Option ℤ) (instance solution certificate : Fields) (length : ℤ) (bound : Option ℤ) → IsProblem instance
     → IsTrue (is_bounded by instance.kind) → IsCertifiedVerdict by instance solution certificate (verdicts.Tour length bound) → IsAsClaimed claimed length
     → IsOptimalOrBounded by claimed instance solution certificate (report_of instance (verdicts.Tour length bound))
-bounded_tour by claimed instance solution certificate length bound type v claims =
+bounded_tour by claimed instance solution certificate length bound problem type v claims =
     let b = v.1 in
+    let tours : IsTspOrAtsp instance.kind = tours_bounded by instance.kind type in
     record {
-      instance_type = tours_bounded by instance.kind type;
+      instance_type = tours;
+      problem = problem_of instance;
+      of_instance = problem.of_tours tours;
       solution_type = a_file_of_tours solution.kind (λ other. v.0 NotASolution (inl other));
       certificate_type = of_type by instance certificate (λ reason stands. v.0 reason (inr stands));
       tour = b.tour;
-      only = b.only;
-      tour_of = b.tour_of;
+      only = one_tour solution b.tour b.only;
+      is_tour = b.tour_of;
       bound = b.least;
       of_certificate = b.of_certificate;
-      as_claimed = subst (IsAsClaimed claimed) b.measured claims;
+      as_claimed = claim_is claimed length (length_of (cost instance) b.tour) claims b.measured;
       printed = ap (λ l. report_of instance (verdicts.Tour l bound)) b.measured
           ∙ ap (λ o. report_of instance (verdicts.Tour (length_of (cost instance) b.tour) o)) b.bound_is;
       below_tours = b.below_tours;
@@ -168,54 +225,45 @@ bounded_tour by claimed instance solution certificate length bound type v claims
 
 -- ---- either
 
-accepted : (certificate : Option (Certificate × Fields)) (claimed : Option ℤ) (instance solution : Fields) (verdict : Verdict)
+accepted : (certificate : Option (Certificate × Fields)) (claimed : Option ℤ) (instance solution : Fields) (verdict : Verdict) → IsProblem instance
     → IsTrue (is_judged certificate instance.kind) → IsVerdictWith certificate claimed instance solution verdict → true ≡ is_yes verdict
     → IsAccepted certificate claimed instance solution (report_of instance verdict)
-accepted None claimed instance solution (verdicts.Tour length bound) type v is =
+accepted None claimed instance solution (verdicts.Tour length bound) problem type v is =
     let c = tour_as_claimed None claimed instance solution length bound v in
-    inl (tour_by_type instance.kind claimed instance solution length bound refl c.0 c.1)
-accepted None claimed instance solution (verdicts.Routes length count least) type v is =
+    inl (tour_by_type instance.kind claimed instance solution length bound problem refl c.0 c.1)
+accepted None claimed instance solution (verdicts.Routes length count least) problem type v is =
     let c = routes_as_claimed None claimed instance solution length count least v in
-    inr (routes_by_type instance.kind claimed instance solution length count least refl c.0 c.1)
-accepted (Some given) claimed instance solution (verdicts.Tour length bound) type v is =
+    inr (routes_by_type instance.kind claimed instance solution length count least problem refl c.0 c.1)
+accepted (Some given) claimed instance solution (verdicts.Tour length bound) problem type v is =
     let c = tour_as_claimed (Some given) claimed instance solution length bound v in
-    bounded_tour given.0 claimed instance solution given.1 length bound type c.0 c.1
-accepted (Some given) claimed instance solution (verdicts.Routes length count least) type v is =
+    bounded_tour given.0 claimed instance solution given.1 length bound problem type c.0 c.1
+accepted (Some given) claimed instance solution (verdicts.Routes length count least) problem type v is =
     absurd (routes_as_claimed (Some given) claimed instance solution length count least v).0
-accepted certificate claimed instance solution (verdicts.No reason) type v is = absurd (false≢true (sym is))
+accepted certificate claimed instance solution (verdicts.No reason) problem type v is = absurd (false≢true (sym is))
 
-says_yes : (given : Given) (claimed : Option ℤ) (first second : Turn) (sink : Sink) (instance solution : Fields) (certificate : Option (Certificate × Fields)) (verdict : Verdict)
-    → AreRead given first second instance solution certificate → JudgesFiles certificate claimed instance solution sink (Ok verdict) → true ≡ is_yes verdict
-    → SaysYes given claimed first second sink
-says_yes given claimed first second sink instance solution certificate verdict read j is = record {
-  instance = instance;
-  solution = solution;
-  certificate = certificate;
-  report = report_of instance verdict;
-  read = read;
-  written = j.2;
-  meaning = accepted certificate claimed instance solution verdict j.0 j.1 is;
+says_yes : (given : Given) (claimed : Option ℤ) (first second : Turn) (sink : Sink) (judged : Judged) → IsProblem judged.instance
+    → IsRun given claimed first second sink (Ok judged) → true ≡ is_yes judged.verdict → SaysYes given claimed first second sink
+says_yes given claimed first second sink judged problem run is = record {
+  instance = judged.instance;
+  solution = judged.solution;
+  certificate = judged.certificate;
+  report = report_of judged.instance judged.verdict;
+  read = run.0;
+  written = run.1.2;
+  meaning = accepted judged.certificate claimed judged.instance judged.solution judged.verdict problem run.1.0 run.1.1 is;
 }
 
-with_yes : (given : Given) (claimed : Option ℤ) (first second : Turn) (sink : Sink) (result : Result Bool RunFault) → IsCheckAnswer given claimed first second sink result
-    → IsCheckOf given claimed first second sink result
-with_yes given claimed first second sink result answer = (
-  answer,
-  λ is.
-      let r : IsCheckAnswer given claimed first second sink (Ok true) = subst (IsCheckAnswer given claimed first second sink) is answer in
-      says_yes given claimed first second sink r.0 r.1 r.2 r.3 r.4 r.5 r.6,
+-- the whole contract of a run with a verdict, and of one without
+pub run_of : (given : Given) (claimed : Option ℤ) (first second : Turn) (sink : Sink) (judged : Judged) → IsProblem judged.instance
+    → IsRun given claimed first second sink (Ok judged) → IsRunOf given claimed first second sink (Ok judged)
+run_of given claimed first second sink judged problem run = (
+  run,
+  (
+    (judged.instance, judged.solution, judged.certificate, judged.verdict, run.0, run.1, refl),
+    λ is. says_yes given claimed first second sink judged problem run (sym (one_value (told (Ok judged)) _ _ refl is)),
+  ),
 )
-
-answer_of_run : (given : Given) (claimed : Option ℤ) (first second : Turn) (sink : Sink) (result : Result Judged RunFault) → IsRun given claimed first second sink result
-    → IsCheckAnswer given claimed first second sink (told result)
-answer_of_run given claimed first second sink (Ok judged) run = (judged.instance, judged.solution, judged.certificate, judged.verdict, run.0, run.1, refl)
-answer_of_run given claimed first second sink (Err fault) run = run
-
-pub run_of : (given : Given) (claimed : Option ℤ) (first second : Turn) (sink : Sink) (result : Result Judged RunFault) → IsRun given claimed first second sink result
-    → IsRunOf given claimed first second sink result
-run_of given claimed first second sink result run =
-    (run, with_yes given claimed first second sink (told result) (answer_of_run given claimed first second sink result run))
 
 pub fault_of_run : (given : Given) (claimed : Option ℤ) (first second : Turn) (sink : Sink) (fault : RunFault) → EndsWithout given claimed first second sink fault
     → IsRunOf given claimed first second sink (Err fault)
-fault_of_run given claimed first second sink fault ends = run_of given claimed first second sink (Err fault) ends
+fault_of_run given claimed first second sink fault ends = (ends, (ends, λ is. absurd cc))
