@@ -40,3 +40,4 @@ pub mod SetCounts
 pub mod Closed
 pub mod OpenRows
 pub mod Sums
+pub mod OpenCases

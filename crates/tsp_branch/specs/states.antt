@@ -7,3 +7,4 @@ pub mod Sets
 pub mod Combed
 pub mod Closed
 pub mod Decided
+pub mod OpenCases

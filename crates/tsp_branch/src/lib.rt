@@ -26,8 +26,10 @@ mod laws;
 mod leaf;
 mod marks;
 mod moved;
+mod node_decisions;
 mod number_examples;
 mod numbers;
+mod open_case;
 mod pairs;
 mod room;
 mod rows;
@@ -46,7 +48,6 @@ mod weights;
 pub use branch::branch_bound;
 pub use comb_set::CombSet;
 pub use combed::CombedWeights;
-pub use decided::DecidedWeights;
 pub use decision::Decision;
 pub use examples::{
     examples_of_bounds, examples_of_crossings, examples_of_trees, examples_of_verdicts,
@@ -63,7 +64,6 @@ pub use laws::{
 pub use leaf::leaf_bound;
 pub use number_examples::{examples_of_differences, examples_of_good_numbers};
 pub use pairs::key_of;
-pub use rows::row_bound;
 pub use stack::next_case;
 pub use steps::{BranchVerdict, Judged};
 pub use table::CostTable;
