@@ -16,12 +16,10 @@ pub mod CombsBySets
 pub mod CombSizes
 pub mod DecidedOnce
 pub mod MovedSums
-pub mod Outside
 pub mod OnePass
 pub mod PairKeys
 pub mod DecidedSets
 pub mod Passes
-pub mod GrowthStates
 pub mod Judging
 pub mod Grown
 pub mod CaseWeights

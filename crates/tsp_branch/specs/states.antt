@@ -1,6 +1,5 @@
 pub mod Rooms
 pub mod PairSets
-pub mod Outside
 pub mod Marked
 pub mod Tabled
 pub mod Sets

@@ -10,10 +10,9 @@ ghost use Rattle.tsp_branch.specs.states.OpenCases.{IsOpenCase, decisions_in};
 
 use crate::combed::CombedWeights;
 use crate::decision::Decision;
-use crate::growth::weight_in;
 use crate::open_case::OpenCase;
-use crate::weights::Weights;
 use tsp_theory::Costs;
+use tsp_tree::{Weights, weight_in};
 
 /// The number on each decided pair. It cancels in the bound: any number would be sound, and this
 /// one is far above all other parts of a weight and lets weights fit 64 bits.

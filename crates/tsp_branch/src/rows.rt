@@ -16,7 +16,7 @@ use crate::closing::{CLOSED, close_all, shut};
 use crate::decision::Decision;
 use crate::leaf::rounded_up;
 use crate::open_case::OpenCase;
-use crate::weights::Weights;
+use tsp_tree::Weights;
 
 /// The bound of a leaf whose weights are given by rows: the least whole number that at the scale is
 /// no less than the least weights from all nodes plus a sum. `None` where the decisions allow no

@@ -4,7 +4,7 @@ use Rattle.tsp_theory.specs.Growth.{AreNearest}
 use Rattle.tsp_theory.specs.states.Nearest.{least_at}
 use Rattle.tsp_theory.proofs.TwoNearest.{nearest_by_row}
 use Rattle.tsp_theory.specs.Tree.{IsInner}
-use Rattle.tsp_branch.proofs.spokes.two_spokes.Goals as goal
+use Rattle.tsp_tree.proofs.spokes.two_spokes.Goals as goal
 
 pub nearest_two-requires-clause-some : goal.nearest_two-requires-clause-some
 nearest_two-requires-clause-some g c = omega (arith, c.fill.auto.row, c.requires.room, c.requires.some)

@@ -1,9 +1,9 @@
 //! Least 1-trees under weights that are given by rows.
 
-ghost use Rattle.std.specs.Prelude.{◌≡◌, ◌≤◌, ◌+◌, ◌*◌, ◌^◌, ℕ, List, length, pos, neg_ℤ, IfOk};
+ghost use Rattle.std.specs.Prelude.{◌≡◌, ◌≤◌, ◌+◌, ◌*◌, ◌^◌, ℕ, length, pos, neg_ℤ, IfOk};
 ghost use Rattle.tsp_format.specs.Limits.{most_nodes};
 ghost use Rattle.tsp_theory.specs.Numbers.{IsFromTo};
-ghost use Rattle.tsp_branch.specs.Weighed.{IsLeastWeight};
+ghost use Rattle.tsp_tree.specs.Weighed.{IsLeastWeight};
 
 use crate::growth::grow;
 use crate::spokes::two_spokes;
@@ -36,5 +36,5 @@ pub fn least_weight<W: Weights>(alloc: Global, w: &W, row: &mut [i64]) -> Result
     let (first, second) = two_spokes(w, row);
     let grown = grow(alloc, w, row)?;
     let spokes = i128::from(first.weight) + i128::from(second.weight);
-    Ok(spokes + grown)
+    Ok(spokes + grown.weight)
 }

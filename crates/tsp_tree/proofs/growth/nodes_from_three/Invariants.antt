@@ -1,6 +1,6 @@
 use Rattle.std.proofs.Common.{◌≡◌, ◌+◌, length}
-use Rattle.tsp_branch.proofs.Outside.{AreCounted}
-use Rattle.tsp_branch.proofs.growth.nodes_from_three.Given as goal
+use Rattle.tsp_tree.proofs.Outside.{AreCounted}
+use Rattle.tsp_tree.proofs.growth.nodes_from_three.Given as goal
 
 abbrev pub invariant-nodes : goal.invariant-nodes
 invariant-nodes l = record {

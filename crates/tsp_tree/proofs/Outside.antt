@@ -7,9 +7,9 @@ use Rattle.std.proofs.Math.Seq.{get_or-append_seam}
 use Rattle.std.proofs.lemmas.Bool.{cases_eq, eq-eqb, ne_eqb}
 use Rattle.std.proofs.lemmas.Int.{ints}
 use Rattle.std.proofs.lemmas.List.{get_or-set_same, get_or-set_other, get_or-take, get_or_default, get_or_append_left, length-take-le, length-set}
-use Rattle.tsp_theory.specs.states.Nearest.{least_at}
+use Rattle.tsp_theory.specs.states.Nearest.{least_at, IsNearer}
 use Rattle.tsp_theory.proofs.Nearest.{most_64}
-use Rattle.tsp_branch.specs.states.Outside.{IsLower, IsLeastPlace}
+use Rattle.tsp_tree.specs.states.Outside.{IsLeastPlace}
 
 -- ---- the nodes from 3 on, one more
 
@@ -31,27 +31,36 @@ abbrev pub FindsLeast : ℕ → List ℤ → ℤ → Option ℕ → Type 0
 FindsLeast place least best None = (best ≡ most_64) × (place ≡ 0)
 FindsLeast place least best (Some v) = (v < place) × (best ≡ least_at least v) × ((k : ℕ) → k < place → best ≤ℤ least_at least k)
 
--- the places before this one have the lower weights, and the others are as they were
-pub record IsPassed (weight : ℕ → ℤ) (nodes : List ℕ) (place : ℕ) (old new : List ℤ) : Type 0 where
-  pub done : (k : ℕ) → k < place → k < length nodes → IsLower (weight (slice_index nodes k)) (least_at old k) (least_at new k)
+-- the places before this one have the nearer nodes, and the others are as they were
+pub record IsPassed (next : ℕ) (weight : ℕ → ℤ) (nodes : List ℕ) (place : ℕ) (old_near : List ℕ) (old : List ℤ) (near : List ℕ) (new : List ℤ) : Type 0 where
+  pub done : (k : ℕ) → k < place → k < length nodes → IsNearer (weight (slice_index nodes k)) next (slice_index old_near k) (least_at old k) (slice_index near k) (least_at new k)
+  pub near_rest : (k : ℕ) → place ≤ k → slice_index near k ≡ slice_index old_near k
   pub rest : (k : ℕ) → place ≤ k → least_at new k ≡ least_at old k
 
-pub passed_more : (weight : ℕ → ℤ) (nodes : List ℕ) (place : ℕ) (old new : List ℤ) (own : ℤ) → IsPassed weight nodes place old new → place < length new
-    → IsLower (weight (slice_index nodes place)) (least_at new place) own → IsPassed weight nodes (place + 1) old (set new place own)
-passed_more weight nodes place old new own p inside lower = record {
+pub passed_more : (next : ℕ) (weight : ℕ → ℤ) (nodes : List ℕ) (place : ℕ) (old_near : List ℕ) (old : List ℤ) (near : List ℕ) (new : List ℤ) (own_near : ℕ) (own : ℤ)
+    → IsPassed next weight nodes place old_near old near new → place < length near → place < length new
+    → IsNearer (weight (slice_index nodes place)) next (slice_index near place) (least_at new place) own_near own
+    → IsPassed next weight nodes (place + 1) old_near old (set near place own_near) (set new place own)
+passed_more next weight nodes place old_near old near new own_near own p near_in inside nearer = record {
   done = λ k below in_nodes. elim (cases_eq k place) [
-    | inl same ↦ subst (λ (i : ℕ). IsLower (weight (slice_index nodes i)) (least_at old i) (least_at (set new place own) i)) (sym same)
-        (subst (λ (z : ℤ). IsLower (weight (slice_index nodes place)) (least_at old place) z) (sym (get_or-set_same new place own (pos 0) inside))
-        (subst (λ (z : ℤ). IsLower (weight (slice_index nodes place)) z own) (p.rest place (omega arith)) lower))
-    | inr other ↦ subst (λ (z : ℤ). IsLower (weight (slice_index nodes k)) (least_at old k) z) (sym (get_or-set_other new place k own (pos 0) other))
-        (p.done k (omega (arith, below, other)) in_nodes)
+    | inl same ↦ subst (λ (i : ℕ). IsNearer (weight (slice_index nodes i)) next (slice_index old_near i) (least_at old i) (slice_index (set near place own_near) i) (least_at (set new place own) i)) (sym same)
+        (subst (λ (m : ℕ). IsNearer (weight (slice_index nodes place)) next (slice_index old_near place) (least_at old place) m (least_at (set new place own) place))
+        (sym (get_or-set_same near place own_near 0 near_in))
+        (subst (λ (z : ℤ). IsNearer (weight (slice_index nodes place)) next (slice_index old_near place) (least_at old place) own_near z) (sym (get_or-set_same new place own (pos 0) inside))
+        (subst (λ (z : ℤ). IsNearer (weight (slice_index nodes place)) next (slice_index old_near place) z own_near own) (p.rest place (omega arith))
+        (subst (λ (m : ℕ). IsNearer (weight (slice_index nodes place)) next m (least_at new place) own_near own) (p.near_rest place (omega arith)) nearer))))
+    | inr other ↦
+        subst (λ (m : ℕ). IsNearer (weight (slice_index nodes k)) next (slice_index old_near k) (least_at old k) m (least_at (set new place own) k)) (sym (get_or-set_other near place k own_near 0 other))
+        (subst (λ (z : ℤ). IsNearer (weight (slice_index nodes k)) next (slice_index old_near k) (least_at old k) (slice_index near k) z) (sym (get_or-set_other new place k own (pos 0) other))
+        (p.done k (omega (arith, below, other)) in_nodes))
   ];
+  near_rest = λ k past. get_or-set_other near place k own_near 0 (λ same. omega (arith, past, same)) ∙ p.near_rest k (omega (arith, past));
   rest = λ k past. get_or-set_other new place k own (pos 0) (λ same. omega (arith, past, same)) ∙ p.rest k (omega (arith, past));
 }
 
-pub lower_small : (weight old new : ℤ) → weight <ℤ most_64 → IsLower weight old new → new <ℤ most_64
-lower_small weight old new small (inl kept) = omega (arith, ints, small, kept.0, kept.1)
-lower_small weight old new small (inr taken) = omega (arith, ints, small, taken.0)
+pub nearer_small : (weight : ℤ) (next old_near : ℕ) (old : ℤ) (near : ℕ) (new : ℤ) → weight <ℤ most_64 → IsNearer weight next old_near old near new → new <ℤ most_64
+nearer_small weight next old_near old near new small (inl kept) = omega (arith, ints, small, kept.1, kept.2)
+nearer_small weight next old_near old near new small (inr taken) = omega (arith, ints, small, taken.1)
 
 -- where the own weight is lower than the best so far
 pub found_lower : (place : ℕ) (least : List ℤ) (best own : ℤ) (nearest : Option ℕ) → FindsLeast place least best nearest → place < length least → own <ℤ best

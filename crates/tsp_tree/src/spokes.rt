@@ -10,14 +10,14 @@ use crate::weights::Weights;
 
 /// A node of 2..n, and the weight between node 1 and it.
 #[derive(Clone, Copy)]
-pub(crate) struct Spoke {
-    pub(crate) node: u32,
-    pub(crate) weight: i64,
+pub struct Spoke {
+    pub node: u32,
+    pub weight: i64,
 }
 
 /// The two nodes of 2..n that are nearest to node 1, by its row; the row that is lent is written
 /// over.
-pub(crate) fn two_spokes<W: Weights>(w: &W, row: &mut [i64]) -> (Spoke, Spoke)
+pub fn two_spokes<W: Weights>(w: &W, row: &mut [i64]) -> (Spoke, Spoke)
     requires some { 3 ≤ W.nodes w.now }
     requires few { W.nodes w.now ≤ most_nodes }
     requires room { length row.old ≡ W.nodes w.now + 1 }
