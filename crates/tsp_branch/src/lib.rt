@@ -30,6 +30,7 @@ mod number_examples;
 mod numbers;
 mod pairs;
 mod room;
+mod row_examples;
 mod rows;
 mod scaled;
 mod sets;
@@ -63,6 +64,7 @@ pub use laws::{
 pub use leaf::leaf_bound;
 pub use number_examples::{examples_of_differences, examples_of_good_numbers};
 pub use pairs::key_of;
+pub use row_examples::{examples_of_arcs, examples_of_links, examples_of_rows};
 pub use rows::row_bound;
 pub use stack::next_case;
 pub use steps::{BranchVerdict, Judged};
