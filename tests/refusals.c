@@ -4,6 +4,7 @@
  *   REFUSE_CALL   the calls that are counted: memory, read, or write (to standard output alone)
  *   REFUSE_AT     which of them is refused, counted from 1; none where it is missing
  *   REFUSE_REST   all later ones are refused too, where it is 1
+ *   REFUSE_LEAST  the fewest bytes that a request for memory has to be counted
  *   REFUSE_BY     a refused read or write fails with EIO or EINTR, and else answers 0 bytes
  *   REFUSE_BYTES  the most bytes that one of these reads or writes takes; any number where missing
  *
@@ -47,9 +48,15 @@ static int is_refused(const char *call)
     return calls == at || (at > 0 && calls > at && says("REFUSE_REST", "1"));
 }
 
+/* Whether a request for so many bytes is refused. */
+static int is_refused_memory(size_t size)
+{
+    return size >= (size_t)number("REFUSE_LEAST") && is_refused("memory");
+}
+
 void *malloc(size_t size)
 {
-    if (!is_refused("memory"))
+    if (!is_refused_memory(size))
         return __libc_malloc(size);
     errno = ENOMEM;
     return NULL;
@@ -57,7 +64,7 @@ void *malloc(size_t size)
 
 void *realloc(void *block, size_t size)
 {
-    if (!is_refused("memory"))
+    if (!is_refused_memory(size))
         return __libc_realloc(block, size);
     errno = ENOMEM;
     return NULL;
