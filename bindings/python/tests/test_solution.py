@@ -51,6 +51,8 @@ class Forms(unittest.TestCase):
             self.tours("3 3\n0 1 5\n1 2 5\n1 2 5\n")
         with self.assertRaisesRegex(SolutionError, "nodes of Concorde are 0 to 2"):
             self.tours("3 3\n0 1 5\n1 2 5\n0 3 5\n")
+        with self.assertRaisesRegex(SolutionError, "says 3 edges of a tour, and 1 lines follow"):
+            self.tours("3 3\n0 1 5\n")
 
     def test_routes(self):
         self.assertEqual(self.tours("Route #1: 1 2\r\nroute 2 : 3\r\nCost : 3000\r\n"), [[2, 3], [4]])

@@ -83,6 +83,8 @@ def _lkh_routes(text: str, dimension: Optional[int]) -> _Found:
 def _edges(rows: Sequence[Sequence[int]]) -> _Found:
     """Concorde's edges of a tour, nodes from 0."""
     count = rows[0][0]
+    if len(rows) - 1 != count or not all(len(row) in (2, 3) for row in rows[1:]):
+        raise SolutionError(f"the first line says {count} edges of a tour, and {len(rows) - 1} lines follow")
     after: List[List[int]] = [[] for _ in range(count)]
     for row in rows[1:]:
         if max(row[:2]) >= count:
@@ -104,12 +106,6 @@ def _edges(rows: Sequence[Sequence[int]]) -> _Found:
     return _Found([[node + 1 for node in tour]])
 
 
-def _is_edges(rows: Sequence[Sequence[int]]) -> bool:
-    """Whether the first line says as many nodes as edges, and so many edges follow."""
-    first, *others = rows
-    return len(first) == 2 and first[0] == first[1] == len(others) and all(len(row) in (2, 3) for row in others)
-
-
 def _list(nodes: List[int], first: Optional[int]) -> _Found:
     """A list of nodes. It may repeat its first node at the end. With a node 0 it counts from 0."""
     if len(nodes) > 1 and nodes[0] == nodes[-1]:
@@ -124,8 +120,8 @@ def _of_numbers(rows: List[List[int]], dimension: Optional[int], first: Optional
     """What the lines of numbers of another program mean."""
     if not rows:
         raise SolutionError("there are no numbers")
-    if first is None and _is_edges(rows):
-        return _edges(rows)
+    if first is None and len(rows[0]) == 2 and rows[0][0] == rows[0][1]:
+        return _edges(rows)  # as many edges as nodes; a list has no node twice
     words = [number for row in rows for number in row]
     count, rest = words[0], words[1:]
     is_counted = len(rows[0]) == 1 and len(rest) == count and dimension in (None, count)

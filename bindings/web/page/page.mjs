@@ -171,7 +171,7 @@ function judge() {
     if (length === undefined) {
         return;
     }
-    const job = { ...given, by: isBranches ? By.BRANCHES : By.POTENTIALS, claimed: length, tours };
+    const job = { ...given, by: isBranches ? By.BRANCHES : By.POTENTIALS, claimed: length, tours, foreign: true };
     if (verbOf(job) === null) {
         const isEmpty = SLOTS.every((slot) => given[slot] === null);
         tell("none", isEmpty ? "" : "No instance", isEmpty ? "" : "Choose the instance too.");

@@ -17,6 +17,7 @@ import { NoSolution, converted } from "./solutions.mjs";
  * @property {number} by how the certificate gives a bound
  * @property {bigint | null} claimed the length that the solution is said to have
  * @property {Given[]} [tours] all solutions, where there are several
+ * @property {boolean} [foreign] whether a solution may have the form of another program
  *
  * @typedef {object} Row what comes of one of several solutions
  * @property {string} name
@@ -73,8 +74,8 @@ export function run(library, job) {
  * @param {Job} job
  * @returns {{ given: Given, form: string, from: string } | null}
  */
-function readOf(library, { instance, solution }) {
-    if (solution === null) {
+function readOf(library, { instance, solution, foreign }) {
+    if (solution === null || !foreign) {
         return null;
     }
     const shown = instance ? new TextDecoder().decode(library.show(instance.bytes).bytes) : "";

@@ -132,7 +132,10 @@ function listInJson(text) {
 function ofNumbers(all, nodes) {
     const rows = all.filter((row) => row.length > 0);
     const [first = [], ...others] = rows;
-    if (first.length === 2 && first[0] === first[1] && first[0] === others.length && others.every(({ length }) => length === 2 || length === 3)) {
+    if (first.length === 2 && first[0] === first[1]) {
+        if (others.length !== first[0] || others.some(({ length }) => length < 2 || length > 3)) {
+            throw new NoSolution(`The first line says ${first[0]} edges of a tour, and ${others.length} lines follow.`);
+        }
         return { tours: [cycleOf(others, first[0])], form: "edges of Concorde" };
     }
     const [count, ...rest] = rows.flat();

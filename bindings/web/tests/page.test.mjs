@@ -88,7 +88,7 @@ test("solutions of other programs", () => {
     assert.match(new TextDecoder().decode(converted(bytesOf("Route #1: 1\nCost : 3000\n"), 0).bytes), /^COMMENT : Cost 3000$/m);
     assert.equal(converted(HARBOUR.solution.bytes, 8), null, "a file of TSPLIB stays");
     assert.equal(converted(bytesOf(" \n"), 8), null);
-    for (const words of ["x", "1 -2", "1 2.5", "{}", "[1, true]", "Route #1: 0", "Route #1: 1\n2 3\n",
+    for (const words of ["x", "1 -2", "1 2.5", "{}", "[1, true]", "Route #1: 0", "Route #1: 1\n2 3\n", "3 3\n0 1 5\n",
         "6 6\n0 1 1\n1 2 1\n2 0 1\n3 4 1\n4 5 1\n5 3 1\n"]) {
         assert.throws(() => read(words), NoSolution, words);
     }
@@ -138,19 +138,19 @@ test("a check, from files to the drawing", async () => {
 
 test("a tour of Concorde is read by itself, and can be saved", async () => {
     const library = await libraryOf(PAGE);
-    const outcome = run(library, { ...HARBOUR, solution: { ...example("solvers/harbour.concorde.sol"), name: "harbour.sol" } });
+    const outcome = run(library, { ...HARBOUR, foreign: true, solution: { ...example("solvers/harbour.concorde.sol"), name: "harbour.sol" } });
     assert.deepEqual([outcome.status, outcome.report.length], [Status.YES, 226n]);
     assert.equal(outcome.command, "tsp check harbour.tsp harbour.tour");
     assert.equal(outcome.converted.form, "a tour of Concorde, whose nodes count from 0");
     assert.deepEqual(toursOf(new TextDecoder().decode(outcome.converted.given.bytes)), [[1, 2, 3, 4, 8, 5, 6, 7]]);
-    assert.equal(run(library, HARBOUR).converted, null);
+    assert.equal(run(library, { ...HARBOUR, foreign: true }).converted, null);
 });
 
 test("several tours are a table", async () => {
     const library = await libraryOf(PAGE);
     const bad = { ...text("1 2 3\n"), name: "bad" };
     const none = { ...text("TYPE : TOUR\n"), name: "none" };
-    const { rows } = run(library, { ...HARBOUR, tours: [HARBOUR.solution, bad, none] });
+    const { rows } = run(library, { ...HARBOUR, foreign: true, tours: [HARBOUR.solution, bad, none] });
     assert.deepEqual(rows.map(({ word, length }) => [word, length]),
         [["Yes: a tour", "226"], ["No: TourLength", ""], ["file 2: end: Missing TOUR_SECTION", ""]]);
     assert.deepEqual(run(library, HARBOUR).rows, []);
@@ -159,7 +159,7 @@ test("several tours are a table", async () => {
 test("rounded distances are told", async () => {
     const library = await libraryOf(PAGE);
     const instance = text("TYPE : TSP\nDIMENSION : 3\nEDGE_WEIGHT_TYPE : EUC_2D\nNODE_COORD_SECTION\n1 0 0\n2 0.1 0\n3 0 0.1\nEOF\n");
-    const { explanation } = run(library, { ...alone, instance, solution: text("1 2 3") });
+    const { explanation } = run(library, { ...alone, foreign: true, instance, solution: text("1 2 3") });
     assert.match(explanation, /every distance along the solution is 0 or 1/);
 });
 
