@@ -3,6 +3,7 @@
 #include <algorithm>
 #include <functional>
 
+namespace certify {
 namespace {
 constexpr std::size_t kCandidates = 12, kFinalists = 4;
 constexpr int kFewIterations = 25, kManyIterations = 300;
@@ -92,3 +93,4 @@ Pair Branching::choose(Relaxation& relaxation, double target) {
   score(relaxation, tried, {kManyIterations, gap, 1});
   return relaxation.edge(tried[0].column);
 }
+}  // namespace certify

@@ -6,6 +6,7 @@
 
 #include "relaxation.h"
 
+namespace certify {
 class Branching {
  public:
   explicit Branching(const Matrix& weights) : weights_(weights) {}
@@ -39,3 +40,4 @@ class Branching {
   int choices_ = 0;
   std::map<Pair, Known> history_;
 };
+}  // namespace certify

@@ -6,6 +6,7 @@
 #include <cstdio>
 #include <ctime>
 
+namespace certify {
 namespace {
 volatile std::sig_atomic_t interrupt_came = 0;
 
@@ -40,3 +41,4 @@ void Progress::clear() {
   if (terminal_ && shown_ >= 0) std::fprintf(stderr, "\r\033[K");
   shown_ = -1;
 }
+}  // namespace certify

@@ -2,6 +2,7 @@
 #pragma once
 #include <string>
 
+namespace certify {
 class Clock {
  public:
   // 0 seconds mean no limit.
@@ -32,3 +33,4 @@ class Progress {
   bool terminal_;
   double shown_ = -1;
 };
+}  // namespace certify

@@ -3,6 +3,7 @@
 #include <algorithm>
 #include <array>
 
+namespace certify {
 namespace {
 constexpr double kNoComb = -9;
 constexpr int kMostSteps = 30;
@@ -355,3 +356,4 @@ std::vector<FoundComb> CombSearch::find(const std::vector<NodeSet>& known, int c
   std::stable_sort(found_.begin(), found_.end(), [](auto& a, auto& b) { return a.violation > b.violation; });
   return std::move(found_);
 }
+}  // namespace certify

@@ -8,6 +8,7 @@
 #include "local_search.h"
 #include "tsp_program.h"
 
+namespace certify {
 namespace {
 constexpr int kChildren = 30;
 constexpr int kPatience = 30;
@@ -438,3 +439,4 @@ std::vector<Pair> Eax::edges() const {
   edges.erase(std::unique(edges.begin(), edges.end()), edges.end());
   return edges;
 }
+}  // namespace certify

@@ -4,6 +4,7 @@
 #include <limits>
 #include <numeric>
 
+namespace certify {
 namespace {
 constexpr Weight kMark = 4000000000000000000;  // on and off the weights of decided pairs
 constexpr Weight kMostPotential = 1000000000000000;
@@ -198,3 +199,4 @@ std::map<int, int> ExactBound::crossings() const {
   }
   return crossings;
 }
+}  // namespace certify

@@ -7,6 +7,7 @@
 
 #include "relaxation.h"
 
+namespace certify {
 __extension__ typedef __int128 Value;  // a bound times the scale
 
 // The numbers of a leaf.
@@ -63,3 +64,4 @@ class ExactBound {
   std::vector<std::pair<Weight, int>> sorted_;
   std::vector<int> roots_;
 };
+}  // namespace certify

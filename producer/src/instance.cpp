@@ -11,6 +11,7 @@
 
 #include "tsp_program.h"
 
+namespace certify {
 namespace {
 __extension__ typedef unsigned __int128 Wide;
 constexpr Weight kUnit = 1000000000;
@@ -160,3 +161,4 @@ Tour read_tour(const std::string& tsp, const std::string& path, const Instance& 
   if (!uses(tour, instance.fixed)) throw Refusal(path + ": the tour doesn't use all fixed edges");
   return tour;
 }
+}  // namespace certify

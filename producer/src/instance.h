@@ -8,6 +8,7 @@
 
 #include "tour.h"
 
+namespace certify {
 struct Instance {
   Matrix weights;
   std::vector<Pair> fixed;  // each once, the smaller node first
@@ -21,3 +22,4 @@ Tour read_tour(const std::string& tsp, const std::string& path, const Instance& 
 Weight distance_of(const std::string& kind, Weight x, Weight y, Weight z);
 // A decimal as a count of 10^-9.
 Weight count_of(const std::string& word);
+}  // namespace certify

@@ -5,6 +5,7 @@
 #include <cstdlib>
 #include <set>
 
+namespace certify {
 namespace {
 constexpr Weight kLargestGrid = 1000000;
 constexpr int kTrials = 60;  // of bounds for a leaf that is made like the last
@@ -173,3 +174,4 @@ Numbers Leaves::near_last(Numbers numbers, const std::vector<Decision>& decision
   }
   return numbers;
 }
+}  // namespace certify

@@ -4,6 +4,7 @@
 #pragma once
 #include "exact_bound.h"
 
+namespace certify {
 class Leaves {
  public:
   Leaves(ExactBound& bound, const CutPool& pool) : bound_(bound), pool_(pool) {}
@@ -32,3 +33,4 @@ class Leaves {
   Weight shift_ = 0;
   Numbers last_;
 };
+}  // namespace certify

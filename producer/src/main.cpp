@@ -11,6 +11,7 @@
 #include "tsp_program.h"
 #include "writing.h"
 
+namespace certify {
 namespace {
 constexpr int kPopulation = 200;
 constexpr int kSmallPopulation = 30;   // where a tour was named
@@ -88,15 +89,16 @@ int run(const Options& options) {
   return Clock::interrupted() ? 130 : 0;
 }
 }  // namespace
+}  // namespace certify
 
 int main(int count, char** words) {
   try {
-    const Options options = parse_options(count, words);
+    const certify::Options options = certify::parse_options(count, words);
     if (options.help) {
-      std::cout << kHelp;
+      std::cout << certify::kHelp;
       return 0;
     }
-    return run(options);
+    return certify::run(options);
   } catch (const std::bad_alloc&) {
     std::cerr << "tsp-certify: out of memory\n";
   } catch (const std::exception& fault) {

@@ -6,6 +6,7 @@
 
 #include "tsp_program.h"
 
+namespace certify {
 const char* const kHelp =
     "Makes a certificate of TYPE BRANCHES for a TSP, and a tour where none is named\n"
     "\n"
@@ -93,3 +94,4 @@ Options parse_options(int count, char** words) {
   check_options(options);
   return options;
 }
+}  // namespace certify

@@ -6,6 +6,7 @@
 
 #include "tour.h"
 
+namespace certify {
 struct Options {
   std::string instance, tour, certificate, tour_out, tsp;
   double seconds = 300;
@@ -17,3 +18,4 @@ struct Options {
 extern const char* const kHelp;
 // Throws Refusal where the words are wrong.
 Options parse_options(int count, char** words);
+}  // namespace certify

@@ -5,6 +5,7 @@
 #include <climits>
 #include <cmath>
 
+namespace certify {
 namespace {
 constexpr int kElastic = 3;  // the first columns
 constexpr double kTiny = 1e-6;
@@ -360,3 +361,4 @@ double Relaxation::Probe::gain(int column, int value) {
   for (std::size_t k = 0; k < saved_.size(); k++) std::copy(saved_[k].begin(), saved_[k].end(), places()[k]);
   return std::max(0.0, reached - relaxation_.value());
 }
+}  // namespace certify

@@ -9,6 +9,7 @@
 
 #include "cut_pool.h"
 
+namespace certify {
 // A pair of nodes that is used, or isn't.
 struct Decision {
   Pair pair;
@@ -101,3 +102,4 @@ class Relaxation {
   Graph support_;
   double value_ = 0;
 };
+}  // namespace certify

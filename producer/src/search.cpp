@@ -6,6 +6,7 @@
 
 #include "eax.h"
 
+namespace certify {
 namespace {
 constexpr Weight kLongLength = 2000000;
 constexpr Weight kFineScale = 2520, kCoarseScale = 840;
@@ -288,3 +289,4 @@ void Search::run() {
   list_steps();
   progress_.clear();
 }
+}  // namespace certify

@@ -13,6 +13,7 @@
 #include "leaves.h"
 #include "separation.h"
 
+namespace certify {
 // What the search begins with.
 struct Start {
   Tour tour;
@@ -103,3 +104,4 @@ class Search {
   double begun_ = 0;  // the part of the time before the tree
   double done_ = 0;   // the part of the tree that is done, where both cases of a branch are one half
 };
+}  // namespace certify

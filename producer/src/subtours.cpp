@@ -3,6 +3,7 @@
 #include <algorithm>
 #include <map>
 
+namespace certify {
 namespace {
 constexpr std::size_t kMostCuts = 60;
 
@@ -110,3 +111,4 @@ std::vector<NodeSet> crossed_too_little(const Graph& graph, double least_violati
   if (parts.size() > 1) return parts;
   return MinimumCuts(graph, least_violation).find();
 }
+}  // namespace certify

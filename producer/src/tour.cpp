@@ -3,6 +3,7 @@
 #include <algorithm>
 #include <set>
 
+namespace certify {
 Weight length_of(const Matrix& weights, const Tour& tour) {
   Weight sum = 0;
   for (auto [i, j] : edges_of(tour)) sum += weights(i, j);
@@ -41,3 +42,4 @@ Neighbours nearest(const Matrix& weights, int count) {
   }
   return lists;
 }
+}  // namespace certify

@@ -4,6 +4,7 @@
 #include <utility>
 #include <vector>
 
+namespace certify {
 using Weight = std::int64_t;
 using Tour = std::vector<int>;
 using NodeSet = std::vector<int>;
@@ -33,3 +34,4 @@ std::vector<Pair> edges_of(const Tour& tour);
 // Whether a tour uses all these pairs.
 bool uses(const Tour& tour, const std::vector<Pair>& pairs);
 Neighbours nearest(const Matrix& weights, int count);
+}  // namespace certify

@@ -7,8 +7,8 @@
 #include <filesystem>
 #include <sstream>
 
+namespace certify {
 namespace fs = std::filesystem;
-
 namespace {
 bool runnable(const fs::path& path) {
   std::error_code error;
@@ -72,3 +72,4 @@ std::string canonical_text(const std::string& tsp, const std::string& path,
   }
   return text;
 }
+}  // namespace certify

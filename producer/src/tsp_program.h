@@ -4,6 +4,7 @@
 #include <string>
 #include <vector>
 
+namespace certify {
 // What ends the run with one line on standard error.
 class Refusal : public std::runtime_error {
  public:
@@ -15,3 +16,4 @@ std::string find_tsp(const std::string& named);
 // The canonical text of a file, which `tsp convert` prints. Other words may follow the path.
 std::string canonical_text(const std::string& tsp, const std::string& path,
                            const std::vector<std::string>& words);
+}  // namespace certify

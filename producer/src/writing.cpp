@@ -8,6 +8,7 @@
 
 #include "tsp_program.h"
 
+namespace certify {
 namespace {
 void write_text(const std::string& path, const std::string& text) {
   std::ofstream file(path, std::ios::binary);
@@ -99,3 +100,4 @@ void write_tour(const std::string& path, const Tour& tour) {
   }
   write_text(path, text + "-1\nEOF\n");
 }
+}  // namespace certify

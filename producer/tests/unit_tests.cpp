@@ -15,6 +15,8 @@
 #include "subtours.h"
 #include "tsp_program.h"
 
+using namespace certify;
+
 namespace {
 int failures = 0;
 
