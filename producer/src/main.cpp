@@ -6,6 +6,7 @@
 #include <exception>
 #include <iostream>
 
+#include "arc_tours.h"
 #include "eax.h"
 #include "options.h"
 #include "tsp_program.h"
@@ -13,6 +14,7 @@
 
 namespace certify {
 namespace {
+constexpr int kArcRuns = 4, kArcPatience = 200;  // of the search for a tour of an ATSP
 constexpr int kPopulation = 200;
 constexpr int kSmallPopulation = 30;   // where a tour was named
 constexpr double kPartForTours = 0.4;  // of the time
@@ -34,6 +36,14 @@ Start find_tours(const Instance& instance, const Options& options, const Clock& 
   start.seed = options.seed;
   start.upper = options.upper;
   start.named = !options.tour.empty();
+  if (instance.directed) {
+    const auto late = [&] { return clock.over(kPartForTours); };
+    ArcTours found = find_arc_tours(instance, kArcRuns, kArcPatience, options.seed, late);
+    start.tour = std::move(found.best);
+    start.further = std::move(found.further);
+    start.edges = std::move(found.arcs);
+    return start;
+  }
   const Matrix costs = with_fixed_lowered(instance.weights, instance.fixed);
   paths_of(instance.fixed, instance.nodes());
   if (instance.nodes() <= kFewNodes) {
@@ -78,7 +88,7 @@ int run(const Options& options) {
   const Clock clock(options.seconds);
   Progress progress;
   Start start = find_tours(instance, options, clock, progress);
-  if (!uses(start.tour, instance.fixed)) throw Refusal("no tour uses all fixed edges");
+  if (!instance.allows(start.tour)) throw Refusal("no tour uses all fixed edges");
   const Weight length = given.empty() ? 0 : length_of(instance.weights, given);
   if (!given.empty() && length <= length_of(instance.weights, start.tour)) start.tour = given;
   Search search(instance, start, clock, progress);

@@ -9,7 +9,6 @@
 
 #include "branching.h"
 #include "clock.h"
-#include "instance.h"
 #include "leaves.h"
 #include "separation.h"
 
@@ -42,9 +41,9 @@ class Search {
   const std::vector<TreeStep>& steps() const { return steps_; }
   const Tour& tour() const { return tour_; }
   const CutPool& pool() const { return pool_; }
-  Weight scale() const { return bound_.scale(); }
+  Weight scale() const { return bound_->scale(); }
   // The least bound of the leaves, as reckoned here.
-  Weight bound() const { return bound_.bound_of(least_); }
+  Weight bound() const { return bound_->bound_of(least_); }
   int leaves() const { return leaves_; }
 
  private:
@@ -77,10 +76,9 @@ class Search {
   void look_for_tour();
   void show();
   bool root() const { return decisions_.size() == instance_.fixed.size(); }
-  static Weight scale_for(const Matrix& weights, Weight length);
 
   const Instance& instance_;
-  const Matrix costs_;  // the weights, those of fixed pairs lowered
+  const Matrix costs_;  // the weights, those of fixed pairs lowered; of an ATSP those of both directions
   const std::uint64_t seed_;
   const bool named_;
   const Clock& clock_;
@@ -90,7 +88,7 @@ class Search {
   CutPool pool_;
   Relaxation relaxation_;
   Separation separation_;
-  ExactBound bound_;
+  const std::unique_ptr<ExactBound> bound_;
   Leaves made_;
   Branching branching_;
   std::vector<Decision> decisions_;

@@ -13,6 +13,7 @@ import sys
 import tempfile
 import time
 from itertools import permutations
+from math import dist
 from pathlib import Path
 
 CERTIFY, TSP = (os.path.abspath(path) for path in sys.argv[2:4])
@@ -48,7 +49,7 @@ def need_optimal(instance, *words):
 
 
 def write(name, kind, lines):
-    text = ["TYPE : TSP", f"DIMENSION : {lines[0]}", f"EDGE_WEIGHT_TYPE : {kind}", *lines[1:], "EOF"]
+    text = [f"TYPE : {'ATSP' if name.endswith('.atsp') else 'TSP'}", f"DIMENSION : {lines[0]}", f"EDGE_WEIGHT_TYPE : {kind}", *lines[1:], "EOF"]
     Path(name).write_text("\n".join(map(str, text)) + "\n")
 
 
@@ -112,6 +113,58 @@ def matrix():
         need_optimal("a.tsp")
     write_matrix("a.tsp", "UPPER_ROW", 20, random.Random(1), 7, 7)
     need_optimal("a.tsp")
+
+
+def write_arcs(nodes, cost, *more):
+    """Writes a.atsp, and returns its matrix."""
+    matrix = [[cost(i, j) if i != j else 0 for j in range(nodes)] for i in range(nodes)]
+    lines = [" ".join(map(str, row)) for row in matrix]
+    write("a.atsp", "EXPLICIT", [nodes, "EDGE_WEIGHT_FORMAT : FULL_MATRIX", "EDGE_WEIGHT_SECTION", *lines, *more])
+    return matrix
+
+
+def atsp_small():
+    """Against all orders of the nodes, with and without fixed arcs."""
+    for nodes in range(3, 10):
+        chance = random.Random(nodes)
+        order = chance.sample(range(nodes), nodes)
+        for fixed in ([], list(zip(order, order[1:3])), list(zip(order, order[1:] + order[:1]))):
+            pairs = [f"{a + 1} {b + 1}" for a, b in fixed]
+            more = ["FIXED_EDGES_SECTION", *pairs, "-1"] if fixed else []
+            matrix = write_arcs(nodes, lambda i, j: chance.randint(-50, 50), *more)
+            tours = [(0, *rest) for rest in permutations(range(1, nodes))]
+            arcs = [[(tour[k - 1], tour[k]) for k in range(nodes)] for tour in tours]
+            least = min(sum(matrix[a][b] for a, b in tour) for tour in arcs if set(fixed) <= set(tour))
+            need(need_optimal("a.atsp") == least, f"{nodes} nodes, fixed {fixed}: another length than {least}")
+
+
+def atsp():
+    chance = random.Random(21)
+    for nodes, low, high in ((40, 1, 1000), (80, -(10**6), 10**6), (40, 0, 3), (30, 10**12 - 1000, 10**12), (25, 7, 7)):
+        write_arcs(nodes, lambda i, j, low=low, high=high: chance.randint(low, high))
+        need_optimal("a.atsp")
+    points = [(chance.randint(0, 1000), chance.randint(0, 1000)) for _ in range(50)]
+    write_arcs(50, lambda i, j: round(dist(points[i], points[j])) + chance.randint(0, 20))
+    need_optimal("a.atsp")
+    write_arcs(50, lambda i, j: abs(points[i][1] - points[j][0]), "FIXED_EDGES_SECTION", "1 2", "2 9", "40 30", "-1")
+    need_optimal("a.atsp")
+    write_points("points.atsp", "EUC_2D", 40, chance)  # the same both ways
+    need_optimal("points.atsp")
+
+
+def atsp_named_tour():
+    """A bad tour that is named is made shorter; a reversed one is another tour."""
+    chance = random.Random(22)
+    write_arcs(40, lambda i, j: chance.randint(1, 1000))
+    Path("bad.tour").write_text("TYPE : TOUR\nTOUR_SECTION\n" + "\n".join(map(str, range(1, 41))) + "\n-1\nEOF\n")
+    certify("a.atsp", "bad.tour", "-o", "out.branches", "--tour-out", "out.tour")
+    need("optimal" in judged("a.atsp"), "not optimal")
+    need(int(judged("a.atsp", "bad.tour")["gap"]) > 0, "no bound of the bad tour")
+    texts = []
+    for name in ("one", "two"):
+        certify("a.atsp", "-o", f"{name}.branches", "--tour-out", f"{name}.tour", "--seconds", "0", "--seed", "4")
+        texts.append((Path(f"{name}.branches").read_bytes(), Path(f"{name}.tour").read_bytes()))
+    need(texts[0] == texts[1], "the same seed gives other bytes")
 
 
 def random_points():
@@ -178,11 +231,15 @@ def bad_input():
     chance = random.Random(13)
     write_points("a.tsp", "EUC_2D", 12, chance)
     text = Path("a.tsp").read_text()
-    Path("rows.atsp").write_text(
+    rows = (
         "TYPE:ATSP\nDIMENSION:3\nEDGE_WEIGHT_TYPE:EXPLICIT\nEDGE_WEIGHT_FORMAT:FULL_MATRIX\n"
-        "EDGE_WEIGHT_SECTION\n0 1 2 3 0 4 5 6 0\nEOF\n"
+        "EDGE_WEIGHT_SECTION\n0 1 2 3 0 4 5 6 0\n"
     )
-    Path("odd.tsp").write_text(Path("rows.atsp").read_text().replace("ATSP", "TSP"))
+    Path("odd.tsp").write_text(rows.replace("ATSP", "TSP") + "EOF\n")
+    Path("back.atsp").write_text(rows + "FIXED_EDGES_SECTION\n1 2\n2 1\n-1\nEOF\n")
+    Path("one.atsp").write_text("TYPE:ATSP\nDIMENSION:1\n" + rows.partition("3\n")[2].replace("0 1 2 3 0 4 5 6 0", "0"))
+    Path("routes.vrp").write_text(text.replace(": TSP", ": CVRP").replace("EOF", "CAPACITY : 9\nDEMAND_SECTION\n")
+        + "".join(f"{v} {min(v - 1, 1)}\n" for v in range(1, 13)) + "DEPOT_SECTION\n1\n-1\nEOF\n")
     Path("cut.tsp").write_text(text[: len(text) // 2])
     Path("star.tsp").write_text(text.replace("EOF", "FIXED_EDGES_SECTION\n1 2\n1 3\n1 4\n-1\nEOF"))
     Path("ring.tsp").write_text(text.replace("EOF", "FIXED_EDGES_SECTION\n1 2\n2 3\n3 1\n-1\nEOF"))
@@ -191,7 +248,9 @@ def bad_input():
     out = ["-o", "out.branches"]
     both = [*out, "--tour-out", "out.tour"]
     faults = [
-        (["rows.atsp", *both], "ATSP"),
+        (["routes.vrp", *both], "TYPE CVRP"),
+        (["back.atsp", *both], "no tour uses all fixed edges"),
+        (["one.atsp", *both], "three nodes"),
         (["odd.tsp", *both], "symmetric"),
         (["cut.tsp", *both], "convert"),
         (["none.tsp", *both], "convert"),
@@ -228,7 +287,8 @@ def finding_tsp():
             os.remove(f"{place}/tsp")
 
 
-CASES = [weights, fixed, small, matrix, named_tour, upper, time_limit, same_bytes, interrupt, bad_input, finding_tsp]
+CASES = [weights, fixed, small, matrix, atsp_small, atsp, atsp_named_tour, named_tour, upper, time_limit, same_bytes,
+         interrupt, bad_input, finding_tsp]
 
 
 def main():
