@@ -52,7 +52,9 @@ Wide square_root(Wide square) {
   return root;
 }
 
-Matrix distances(const Fields& fields, int nodes) {
+// Takes the distances of points.
+void measure(const Fields& fields, Instance& instance) {
+  const int nodes = instance.nodes();
   const std::string& kind = first_of(fields, "EDGE_WEIGHT_TYPE");
   const bool deep = kind.find("_3D") != std::string::npos;
   const bool groups_of_four = deep || first_of(fields, "NODE_COORD_TYPE") == "THREED_COORDS";
@@ -63,14 +65,15 @@ Matrix distances(const Fields& fields, int nodes) {
     std::array<Weight, 3>& point = points.at(std::stoul(words[k]) - 1);
     for (std::size_t axis = 0; axis < (deep ? 3u : 2u); axis++) point[axis] = count_of(words[k + 1 + axis]);
   }
-  Matrix weights(nodes);
   for (int i = 0; i < nodes; i++) {
     for (int j = i + 1; j < nodes; j++) {
-      const auto &a = points[i], &b = points[j];
-      weights.set(i, j, distance_of(kind, a[0] - b[0], a[1] - b[1], a[2] - b[2]));
+      const auto& a = points[i];
+      const auto& b = points[j];
+      instance.weights.set(i, j, distance_of(kind, a[0] - b[0], a[1] - b[1], a[2] - b[2]));
     }
   }
-  return weights;
+  instance.rounded =
+      std::any_of(points.begin(), points.end(), [&](const auto& point) { return point != points[0]; });
 }
 
 Matrix full_matrix(const Fields& fields, int nodes) {
@@ -153,7 +156,7 @@ Instance read_instance(const std::string& tsp, const std::string& path) {
   Instance instance{Matrix(nodes), {}, directed};
   instance.fixed = fixed_pairs(fields, instance);
   if (first_of(fields, "EDGE_WEIGHT_TYPE") != "EXPLICIT") {
-    instance.weights = distances(fields, nodes);
+    measure(fields, instance);
     return instance;
   }
   fields = fields_of(canonical_text(tsp, path, {"--layout", "FULL_MATRIX"}));

@@ -15,6 +15,7 @@ struct Instance {
   Matrix weights;
   std::vector<Pair> fixed;  // each once; of a TSP the smaller node first
   bool directed = false;
+  bool rounded = false;  // the weights are rounded distances of points that aren't all the same
 
   int nodes() const { return weights.nodes(); }
   // The pairs of a tour, of a TSP each with the smaller node first.

@@ -120,6 +120,7 @@ void Search::take_tour(const Tour& tour) {
   length_ = length;
   target_ = std::min(target_, length);
   separation_.set_best(tour_);
+  log("tour");
 }
 
 // Looks once more, by the weights less the duals: the nodes that are near by these are more often neighbours
@@ -137,18 +138,16 @@ void Search::look_for_tour() {
   for (int v = 0; v < nodes; v++) potentials[v] = std::llround(relaxation_.leaving_dual(v));
   const Matrix costs = with_potentials(costs_, potentials);
   Eax eax(costs, instance_.fixed, kPopulation, seed_ + 1);
-  take_tour(eax.run([&] { return clock_.over(kPartForTours); }, [&](Weight) { show(); }));
+  take_tour(eax.run([&] { return clock_.over(kPartForTours); }, [&](Weight) { progress_.show(standing()); }));
 }
 
-void Search::show() {
+Standing Search::standing() const {
   const Value least = open_.empty() ? here_ : std::min(here_, open_.begin()->first);
   const bool known = cases_.size() > 1;
   const Weight reached = known ? bound_->bound_of(least) : static_cast<Weight>(relaxation_.value());
-  const Weight bound = std::min(reached, target_);
-  progress_.show("seconds " + std::to_string(static_cast<int>(Clock::now())) + " length " +
-                 std::to_string(length_) + " bound " + std::to_string(bound) + " gap " +
-                 std::to_string(length_ - bound) + " leaves " + std::to_string(leaves_) + " open " +
-                 std::to_string(open_.size()));
+  Standing standing{length_, std::min(reached, target_), leaves_, static_cast<int>(open_.size())};
+  for (const int cut : relaxation_.cuts()) (pool_[cut].comb ? standing.combs : standing.subtours)++;
+  return standing;
 }
 
 bool Search::stalled(const std::vector<double>& values, double gap) const {
@@ -172,7 +171,8 @@ bool Search::tighten(Numbers& numbers) {
     relaxation_.solve();
     offer_tour();
     if (root() && round % 6 == 0) relaxation_.drop_edges();
-    show();
+    progress_.show(standing());
+    if (root()) log("round");
     values.push_back(relaxation_.value());
     if (made_.reach(relaxation_, decisions_, target_, numbers)) return true;
     if (clock_.over()) return false;
@@ -252,6 +252,7 @@ void Search::finish(int place) {
   int depth = 0;
   for (int k = place; cases_[k].parent >= 0; k = cases_[k].parent) depth++;
   done_ += std::ldexp(1.0, -depth);
+  log("leaf");
 }
 
 void Search::visit(int place) {
@@ -271,6 +272,7 @@ void Search::visit(int place) {
   if (clock_.over()) return;
   const Pair pair = branching_.choose(relaxation_, static_cast<double>(target_));
   if (pair.first >= 0) branch(place, pair);
+  log("branch");
 }
 
 // A leaf that is done gets numbers near those of the leaf before, which makes a short file.
@@ -323,13 +325,14 @@ void Search::run() {
   relaxation_.solve();
   while (!clock_.over() && separation_.add_subtours()) {
     relaxation_.solve();
-    show();
+    progress_.show(standing());
   }
   cases_.emplace_back();
   visit(0);
   begun_ = clock_.used();
   while (!open_.empty() && !clock_.over(kPartForTree)) visit(next_case());
   list_steps();
+  log("end");
   progress_.clear();
 }
 }  // namespace certify

@@ -10,6 +10,7 @@
 #include "branching.h"
 #include "clock.h"
 #include "leaves.h"
+#include "progress.h"
 #include "separation.h"
 
 namespace certify {
@@ -74,7 +75,8 @@ class Search {
   void offer_tour();
   void take_tour(const Tour& tour);
   void look_for_tour();
-  void show();
+  Standing standing() const;
+  void log(std::string_view event) { progress_.log(event, standing()); }
   bool root() const { return decisions_.size() == instance_.fixed.size(); }
 
   const Instance& instance_;

@@ -4,6 +4,7 @@
 The proved program TSP judges each certificate. A wrong answer ends the case with status 1.
 """
 
+import json
 import os
 import random
 import shutil
@@ -216,15 +217,80 @@ def same_bytes():
     need(texts[0] == texts[1], "the same seed gives other bytes")
 
 
+def signalled(*signals):
+    """The status of a run that gets these signals, each so many seconds after the one before."""
+    words = [CERTIFY, "a.tsp", "-o", "out.branches", "--tour-out", "out.tour", "--seconds", "0", "--tsp", TSP]
+    Path("out.branches").unlink(missing_ok=True)
+    with subprocess.Popen(words, stderr=subprocess.PIPE) as process:
+        for wait, number in signals:
+            time.sleep(wait)
+            process.send_signal(number)
+        process.communicate(timeout=120)
+    return process.returncode
+
+
 def interrupt():
     write_points("a.tsp", "EUC_2D", 700, random.Random(12), side=10**6)
-    words = [CERTIFY, "a.tsp", "-o", "out.branches", "--tour-out", "out.tour", "--seconds", "0", "--tsp", TSP]
-    with subprocess.Popen(words, stderr=subprocess.PIPE) as process:
-        time.sleep(3)
-        process.send_signal(signal.SIGINT)
-        process.communicate(timeout=120)
-    need(process.returncode == 130, f"status {process.returncode} after SIGINT")
-    need("bound" in judged("a.tsp"), "no bound after SIGINT")
+    for signals, status in (
+        ([(3, signal.SIGINT)], 130),
+        ([(3, signal.SIGTERM)], 143),
+        ([(3, signal.SIGINT), (0.1, signal.SIGINT)], 130),  # as `timeout -s INT` does
+        ([(3, signal.SIGTERM), (0, signal.SIGINT)], None),  # either may come first
+    ):
+        found = signalled(*signals)
+        need(found in ((status,) if status else (130, 143)), f"status {found} after {signals}")
+        need("bound" in judged("a.tsp"), f"no bound after {signals}")
+
+
+def rounding():
+    """Points within a unit square have distances that are rounded away."""
+    chance = random.Random(23)
+    write_points("a.tsp", "EUC_2D", 12, chance, side=1, places=6)
+    said = certify("a.tsp", "-o", "out.branches", "--tour-out", "out.tour")
+    need("rounded to whole numbers" in said, f"nothing is said of the rounding: {said}")
+    for name, lines in (("b.tsp", 3 * ["5 5"]), ("c.tsp", ["0 0", "0 2", "2 0"])):
+        write(name, "EUC_2D", [3, "NODE_COORD_SECTION", *(f"{v} {line}" for v, line in enumerate(lines, 1))])
+        said = certify(name, "-o", "out.branches", "--tour-out", "out.tour")
+        need("rounded" not in said, f"{name}: the distances aren't rounded away: {said}")
+    write_matrix("d.tsp", "FULL_MATRIX", 9, chance, 0, 1)
+    need("rounded" not in certify("d.tsp", "-o", "out.branches", "--tour-out", "out.tour"), "a matrix isn't rounded")
+
+
+def overwriting():
+    """No file that is read is written, whatever its name, and no file is written twice."""
+    write_points("a.tsp", "EUC_2D", 12, random.Random(24))
+    need_optimal("a.tsp")
+    kept = Path("a.tsp").read_bytes(), Path("out.tour").read_bytes()
+    os.symlink("a.tsp", "soft")
+    os.link("a.tsp", "hard")
+    os.mkdir("here")
+    for words in (
+        ["a.tsp", "-o", "a.tsp", "--tour-out", "b.tour"],
+        ["a.tsp", "-o", "./here/../a.tsp", "--tour-out", "b.tour"],
+        ["a.tsp", "-o", "soft", "--tour-out", "b.tour"],
+        ["soft", "-o", "hard", "--tour-out", "b.tour"],
+        ["a.tsp", "-o", "b.branches", "--tour-out", "hard"],
+        ["a.tsp", "out.tour", "-o", "out.tour"],
+        ["a.tsp", "-o", "same", "--tour-out", "./same"],
+        ["a.tsp", "-o", "b.branches", "--tour-out", "b.tour", "--log", "soft"],
+    ):
+        need("overwritten" in certify(*words, status=2), f"{words}: a file would be overwritten")
+        need(kept == (Path("a.tsp").read_bytes(), Path("out.tour").read_bytes()), f"{words}: a file is changed")
+    certify("a.tsp", "out.tour", "-o", "again.branches", "--tour-out", "again.tour")
+    certify("a.tsp", "out.tour", "-o", "again.branches", "--tour-out", "again.tour")  # these may be written anew
+
+
+def log():
+    """Each line is of JSON, and no bound is above its length."""
+    write_points("a.tsp", "EUC_2D", 120, random.Random(11), side=10**6)
+    certify("a.tsp", "-o", "out.branches", "--tour-out", "out.tour", "--log", "out.log")
+    events = [json.loads(line) for line in Path("out.log").read_text().splitlines()]
+    last = events[-1]
+    need(last["event"] == "end" and last["gap"] == 0, f"the last event: {last}")
+    need(last["length"] == int(judged("a.tsp")["length"]), f"another length: {last}")
+    need(all(event["bound"] <= event["length"] and event["cuts"]["combs"] >= 0 for event in events), "a bound is above")
+    need([event["seconds"] for event in events] == sorted(event["seconds"] for event in events), "not in order")
+    certify("a.tsp", "-o", "out.branches", "--tour-out", "out.tour", "--log", "no/folder/log", status=2)
 
 
 def bad_input():
@@ -261,8 +327,11 @@ def bad_input():
         (["a.tsp", "a.tsp", *out], "TYPE TOUR"),
         (["a.tsp", *out], "--tour-out"),
         (["a.tsp"], "-o"),
-        ([], "instance"),
-        (["a.tsp", *both, "--seconds", "x"], "number"),
+        ([], "INSTANCE"),
+        (["a.tsp", *both, "--seconds", "x"], "--seconds"),
+        (["a.tsp", *both, "--seconds", "-1"], "--seconds"),
+        (["a.tsp", *both, "--seed", "1.5"], "--seed"),
+        (["a.tsp", "out.tour", "more", *out], "more"),
         (["a.tsp", *both, "--wrong"], "--wrong"),
         (["a.tsp", "-o", "no/folder/out", "--tour-out", "out.tour"], "no/folder/out"),
     ]
@@ -276,19 +345,34 @@ def finding_tsp():
     os.makedirs("above/here")
     shutil.copy(CERTIFY, "above/here")
     words = [os.path.abspath("above/here/tsp-certify"), "a.tsp", "-o", "out.branches", "--tour-out", "out.tour"]
+    def find(path, *more):
+        return subprocess.run([*words, *more], capture_output=True, text=True, env={"PATH": path}, timeout=100)
+
     for place, path in ((None, "/nowhere"), ("above", "/nowhere"), ("on-path", os.path.abspath("on-path"))):
         if place:
             os.makedirs(place, exist_ok=True)
             os.symlink(TSP, f"{place}/tsp")
-        done = subprocess.run(words, capture_output=True, text=True, env={"PATH": path}, timeout=100)
+        done = find(path)
         need(done.returncode == (0 if place else 2), f"tsp in {place}: {done.stderr}")
         need(place or "--tsp" in done.stderr, f"no word of a missing tsp: {done.stderr}")
         if place:
             os.remove(f"{place}/tsp")
+    os.symlink(TSP, "on-path/tsp")
+    os.symlink(TSP, "on-path/yokecairn")
+    os.symlink(TSP, "tsp")
+    for name in ("tsp", "yokecairn", "./tsp", os.path.abspath("tsp")):
+        need(find(os.path.abspath("on-path"), "--tsp", name).returncode == 0, f"--tsp {name} isn't found")
+    for name in ("tsp", "./none", "on-path"):  # without a slash a name is looked for on PATH alone
+        need(find("/nowhere", "--tsp", name).returncode == 2, f"--tsp {name} is found")
+    Path("on-path/tsp").unlink()
+    Path("on-path/tsp").write_text("#!/bin/sh\necho Task Spooler v1.0\n")
+    os.chmod("on-path/tsp", 0o755)
+    said = find(os.path.abspath("on-path")).stderr
+    need("task-spooler" in said, f"another program of this name is taken: {said}")
 
 
 CASES = [weights, fixed, small, matrix, atsp_small, atsp, atsp_named_tour, named_tour, upper, time_limit, same_bytes,
-         interrupt, bad_input, finding_tsp]
+         interrupt, rounding, overwriting, log, bad_input, finding_tsp]
 
 
 def main():
