@@ -199,7 +199,9 @@ std::vector<Decision> Search::decisions_of(int place) const {
   decisions.reserve(instance_.fixed.size());
   for (const Pair& pair : instance_.fixed) decisions.push_back({pair, true});
   const std::size_t fixed = decisions.size();
-  for (int k = place; cases_[k].parent >= 0; k = cases_[k].parent) decisions.push_back(cases_[k].decision);
+  for (auto origin = cases_[place].origin; origin; origin = cases_[origin->parent].origin) {
+    decisions.push_back(origin->decision);
+  }
   std::reverse(decisions.begin() + static_cast<std::ptrdiff_t>(fixed), decisions.end());
   return decisions;
 }
@@ -229,18 +231,16 @@ void Search::improve(Case& here) {
 // A case's numbers hold for the cases of its branch too.
 void Search::branch(int place, const Pair& pair) {
   basis_ = std::make_shared<const Basis>(relaxation_.basis());
-  cases_[place].branch = pair;
+  const int next = static_cast<int>(cases_.size());
+  cases_[place].branch = Branch{pair, next + 1, next};
   for (const bool used : {false, true}) {
-    const int next = static_cast<int>(cases_.size());
     Case below;
-    below.parent = place;
-    below.decision = {pair, used};
+    below.origin = Origin{place, {pair, used}};
     below.basis = basis_;
     below.numbers = cases_[place].numbers;
     below.value = cases_[place].value;
+    open_.emplace(below.value, -static_cast<int>(cases_.size()));
     cases_.push_back(std::move(below));
-    (used ? cases_[place].used : cases_[place].unused) = next;
-    open_.emplace(cases_[next].value, -next);
   }
   cases_[place].numbers = {};
   cases_[place].basis = nullptr;
@@ -250,7 +250,7 @@ void Search::finish(int place) {
   cases_[place].done = true;
   leaves_++;
   int depth = 0;
-  for (int k = place; cases_[k].parent >= 0; k = cases_[k].parent) depth++;
+  for (auto origin = cases_[place].origin; origin; origin = cases_[origin->parent].origin) depth++;
   done_ += std::ldexp(1.0, -depth);
   log("leaf");
 }
@@ -270,8 +270,7 @@ void Search::visit(int place) {
   }
   improve(cases_[place]);
   if (clock_.over()) return;
-  const Pair pair = branching_.choose(relaxation_, static_cast<double>(target_));
-  if (pair.first >= 0) branch(place, pair);
+  if (const auto pair = branching_.choose(relaxation_, static_cast<double>(target_))) branch(place, *pair);
   log("branch");
 }
 
@@ -282,7 +281,7 @@ void Search::add_leaf(const Case& leaf, const std::vector<Decision>& decisions) 
       leaf.done && time ? made_.near_last(leaf.numbers, decisions, target_) : leaf.numbers;
   least_ = std::min(least_, bound_->value(numbers, decisions));
   made_.set_last(numbers);
-  steps_.push_back({Pair(-1, -1), numbers});
+  steps_.emplace_back(numbers);
 }
 
 // The tree from the root on, a branch before its cases.
@@ -293,14 +292,14 @@ void Search::list_steps() {
     const int place = rest.back();
     const Case& here = cases_[place];
     rest.pop_back();
-    if (here.branch.first < 0) {
+    if (!here.branch) {
       add_leaf(here, decisions_of(place));
       leaves_++;
       continue;
     }
-    steps_.push_back({here.branch, {}});
-    rest.push_back(here.unused);
-    rest.push_back(here.used);
+    steps_.emplace_back(here.branch->pair);
+    rest.push_back(here.branch->unused);
+    rest.push_back(here.branch->used);
   }
 }
 

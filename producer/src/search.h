@@ -6,6 +6,7 @@
 #include <memory>
 #include <optional>
 #include <set>
+#include <variant>
 
 #include "branching.h"
 #include "clock.h"
@@ -24,12 +25,8 @@ struct Start {
   bool named = false;  // the tour was named, so that none is looked for again
 };
 
-// A branch, or a leaf with its numbers.
-struct TreeStep {
-  Pair branch{-1, -1};
-  Numbers numbers;
-  bool is_leaf() const { return branch.first < 0; }
-};
+// A branch on a pair, or a leaf with its numbers.
+using TreeStep = std::variant<Pair, Numbers>;
 
 // Whether a tree may end in time: this part of it is done, which took the time from begun to used. The guess
 // is a rough one, so the tree may seem too large by a factor that falls from 5 to 1.
@@ -48,16 +45,23 @@ class Search {
   int leaves() const { return leaves_; }
 
  private:
+  // What leads to a case from the one above.
+  struct Origin {
+    int parent;
+    Decision decision;
+  };
+  struct Branch {
+    Pair pair;
+    int used, unused;  // the cases below
+  };
   // A case: what is decided from the root on to here, and the best numbers for it.
   struct Case {
-    int parent = -1;
-    Decision decision{{-1, -1}, false};    // that leads here from the parent
+    std::optional<Origin> origin{};        // nothing at the root
     std::shared_ptr<const Basis> basis{};  // of the parent's last solution
     Numbers numbers{};
     Value value = ExactBound::nothing();
     bool done = false;  // its numbers reach the target
-    Pair branch{-1, -1};
-    int used = -1, unused = -1;  // the cases of the branch
+    std::optional<Branch> branch{};
   };
   bool tighten(Numbers& numbers);
   bool settle(Numbers& numbers);
