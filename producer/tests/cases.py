@@ -7,6 +7,7 @@ The proved program TSP judges each certificate. A wrong answer ends the case wit
 import json
 import os
 import random
+import re
 import shutil
 import signal
 import subprocess
@@ -371,8 +372,18 @@ def finding_tsp():
     need("task-spooler" in said, f"another program of this name is taken: {said}")
 
 
+def installing():
+    """The installed program runs, and its page names each option of its help."""
+    cmake, build = sys.argv[4:6]
+    subprocess.run([cmake, "--install", build, "--prefix", os.path.abspath("here")], check=True, capture_output=True)
+    helped = subprocess.run(["here/bin/tsp-certify", "--help"], capture_output=True, text=True, check=True).stdout
+    page = Path("here/share/man/man1/tsp-certify.1").read_text().replace("\\", "")
+    options = set(re.findall(r"(?<![-\w])--?[a-z][-a-z]*", helped))
+    need(len(options) >= 8 and all(option in page for option in options), f"not all on the page: {options}")
+
+
 CASES = [weights, fixed, small, matrix, atsp_small, atsp, atsp_named_tour, named_tour, upper, time_limit, same_bytes,
-         interrupt, rounding, overwriting, log, bad_input, finding_tsp]
+         interrupt, rounding, overwriting, log, bad_input, finding_tsp, installing]
 
 
 def main():
