@@ -26,7 +26,11 @@ _UNREADABLE = "  The file can't be opened, or a read of it failed."
 
 
 class Refused(Exception):
-    """The words are refused, or ask for help; with what is written to standard error."""
+    """The words are refused; with what is written to standard error."""
+
+
+class Asked(Exception):
+    """The words ask for help or the version; with that text, which goes to standard output with status 0."""
 
 
 class Unreadable(Exception):
@@ -53,7 +57,7 @@ class _Tell(argparse.Action):
     """Writes a text in place of doing anything else."""
 
     def __call__(self, parser: argparse.ArgumentParser, *_: Any) -> NoReturn:
-        raise Refused(parser.format_help() if self.dest == "help" else f"tsp {__version__}\n")
+        raise Asked(parser.format_help() if self.dest == "help" else f"tsp {__version__}\n")
 
 
 def _parser() -> argparse.ArgumentParser:
@@ -181,6 +185,8 @@ class Run:
                 given.file = "-"
             self.explains = getattr(given, "explain", False) or self.err.isatty()
             return self.perform(given)
+        except Asked as asked:
+            return self.tell(_library.DONE, str(asked).encode())
         except Refused as refused:
             self.say(str(refused).encode("utf-8", "surrogateescape"))
             return WORDS

@@ -29,6 +29,7 @@ mod placed;
 mod potentials;
 mod rounds;
 mod scaled;
+mod search;
 mod seen;
 mod spokes;
 mod tags;

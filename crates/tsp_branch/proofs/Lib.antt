@@ -16,12 +16,10 @@ pub mod CombsBySets
 pub mod CombSizes
 pub mod DecidedOnce
 pub mod MovedSums
-pub mod Outside
 pub mod OnePass
 pub mod PairKeys
 pub mod DecidedSets
 pub mod Passes
-pub mod GrowthStates
 pub mod Judging
 pub mod Grown
 pub mod CaseWeights
@@ -31,6 +29,7 @@ pub mod Teeth
 pub mod CombRuns
 pub mod BranchesOnce
 pub mod SmallVerdicts
+pub mod SmallRows
 pub mod CostRows
 pub mod Links
 pub mod LeastLinks
@@ -40,3 +39,4 @@ pub mod SetCounts
 pub mod Closed
 pub mod OpenRows
 pub mod Sums
+pub mod OpenCases

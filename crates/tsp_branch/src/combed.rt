@@ -10,10 +10,9 @@ ghost use Rattle.tsp_branch.specs.states.Combed.{plain, AreSmallMultipliers, Are
 
 use crate::add_sets::add_sets;
 use crate::comb_set::CombSet;
-use crate::growth::weight_in;
 use crate::scaled::scale_row;
-use crate::weights::Weights;
 use tsp_theory::Costs;
+use tsp_tree::{Weights, weight_in};
 
 /// Costs, a scale, potentials, and sets of nodes with the multipliers of their combs.
 ///
